@@ -1,0 +1,9 @@
+pub mod Digits
+pub mod Runs
+pub mod Compared
+pub mod Places
+pub mod Pieces
+pub mod Texts
+pub mod Blanks
+pub mod Clauses
+pub mod CutLaws

@@ -1,0 +1,136 @@
+-- Cuts of a line of ordered points, and the spans between two cuts.
+use Rattle.std.specs.Prelude.{◌≡◌, ℕ, Bool, true, false, ◌&&◌, not, List, [], ◌∷◌, ◌++◌, if◌then◌else◌, Option, Some, None, is_some}
+use Rattle.std.specs.declared.cmp.Ordering.{Ordering}
+use Rattle.std.specs.declared.cmp.Ordering.TheVariants.{Less, Equal, Greater}
+use Rattle.std.specs.Ordering.{ordering_then, on, nat_cmp, is_lt, is_le, is_gt}
+use Rattle.std.specs.List.{list_any, flat_map, fold}
+use Rattle.std.specs.Option.{option_to_list}
+use Rattle.semver_core.specs.declared.cuts.bound.Bound.{Bound}
+use Rattle.semver_core.specs.declared.cuts.bound.Bound.TheVariants.{Unbounded, Before, After}
+
+-- the side of a point on which a cut lies
+pub data Side : Type 0 where
+  Near : Side
+  Far : Side
+
+-- near sides come first
+abbrev pub side_index : Side → ℕ
+side_index Near = 0
+side_index Far = 1
+
+abbrev pub side_cmp : Side → Side → Ordering
+side_cmp = on side_index nat_cmp
+
+-- a place on the line: one of its ends, or just before (near) or just after (far) a point
+pub data Cut (V : Type 0) : Type 0 where
+  Start : Cut V
+  Beside : V → Side → Cut V
+  End : Cut V
+
+-- the order of the cuts along the line: by the point, and then by the side
+abbrev pub cut_cmp : {V : Type 0} → (V → V → Ordering) → Cut V → Cut V → Ordering
+cut_cmp R Start Start = Equal
+cut_cmp R Start (Beside w t) = Less
+cut_cmp R Start End = Less
+cut_cmp R (Beside v s) Start = Greater
+cut_cmp R (Beside v s) (Beside w t) = ordering_then (R v w) (side_cmp s t)
+cut_cmp R (Beside v s) End = Less
+cut_cmp R End Start = Greater
+cut_cmp R End (Beside w t) = Greater
+cut_cmp R End End = Equal
+
+-- the cut that a bound makes below an interval, and above it
+abbrev pub lower_cut : {V : Type 0} → Bound V → Cut V
+lower_cut Unbounded = Start
+lower_cut (Before v) = Beside v Near
+lower_cut (After v) = Beside v Far
+
+abbrev pub upper_cut : {V : Type 0} → Bound V → Cut V
+upper_cut Unbounded = End
+upper_cut (Before v) = Beside v Near
+upper_cut (After v) = Beside v Far
+
+-- whether the point lies past the cut: the cut is not above the place just before the point
+abbrev pub is_past : {V : Type 0} → (V → V → Ordering) → Cut V → V → Bool
+is_past R c v = is_le (cut_cmp R c (Beside v Near))
+
+-- bounds of one kind at equal points
+abbrev pub bound_eq : {V : Type 0} → (V → V → Bool) → Bound V → Bound V → Bool
+bound_eq E Unbounded Unbounded = true
+bound_eq E (Before v) (Before w) = E v w
+bound_eq E (After v) (After w) = E v w
+bound_eq E b c = false
+
+-- a lower and an upper bound
+pub record Span (V : Type 0) : Type 0 where
+  pub lower : Bound V
+  pub upper : Bound V
+
+-- whether the lower cut is below the upper one
+abbrev pub is_interval : {V : Type 0} → (V → V → Ordering) → Span V → Bool
+is_interval R s = is_lt (cut_cmp R (lower_cut s.lower) (upper_cut s.upper))
+
+-- the span, if it is an interval
+abbrev pub interval : {V : Type 0} → (V → V → Ordering) → Span V → Option (Span V)
+interval R s = if is_interval R s then Some s else None
+
+-- whether the point lies between the two cuts
+abbrev pub holds : {V : Type 0} → (V → V → Ordering) → Span V → V → Bool
+holds R s v = is_past R (lower_cut s.lower) v && not (is_past R (upper_cut s.upper) v)
+
+-- the lower bound that is further up, the second of equal ones
+abbrev pub greater_lower : {V : Type 0} → (V → V → Ordering) → Bound V → Bound V → Bound V
+greater_lower R b c = if is_gt (cut_cmp R (lower_cut b) (lower_cut c)) then b else c
+
+-- the upper bound that is further down, the first of equal ones
+abbrev pub lesser_upper : {V : Type 0} → (V → V → Ordering) → Bound V → Bound V → Bound V
+lesser_upper R b c = if is_gt (cut_cmp R (upper_cut b) (upper_cut c)) then c else b
+
+-- what two spans have in common
+abbrev pub meet : {V : Type 0} → (V → V → Ordering) → Span V → Span V → Option (Span V)
+meet R s t =
+    interval R (record { lower = greater_lower R s.lower t.lower; upper = lesser_upper R s.upper t.upper })
+
+-- what is left of s below t, and above t: t's bound is turned round, and so stands for the same cut
+abbrev pub left_below : {V : Type 0} → (V → V → Ordering) → Span V → Span V → Option (Span V)
+left_below R s t =
+    if is_lt (cut_cmp R (lower_cut s.lower) (lower_cut t.lower)) then Some (record { lower = s.lower; upper = t.lower }) else None
+
+abbrev pub left_above : {V : Type 0} → (V → V → Ordering) → Span V → Span V → Option (Span V)
+left_above R s t =
+    if is_lt (cut_cmp R (upper_cut t.upper) (upper_cut s.upper)) then Some (record { lower = t.upper; upper = s.upper }) else None
+
+-- the lower and the upper remainder of s, which is s alone where the two have nothing in common
+abbrev pub remainders : {V : Type 0} → (V → V → Ordering) → Span V → Span V → Option (Span V) × Option (Span V)
+remainders R s t = if is_some (meet R s t) then (left_below R s t, left_above R s t) else (Some s, None)
+
+-- whether there is a span that holds the point
+abbrev pub option_holds : {V : Type 0} → (V → V → Ordering) → Option (Span V) → V → Bool
+option_holds R None v = false
+option_holds R (Some s) v = holds R s v
+
+-- a list of spans holds a point where one of them does
+abbrev pub list_holds : {V : Type 0} → (V → V → Ordering) → List (Span V) → V → Bool
+list_holds R ss v = list_any (λ s. holds R s v) ss
+
+-- the same where there may be no list, which stands for the empty set
+abbrev pub option_list_holds : {V : Type 0} → (V → V → Ordering) → Option (List (Span V)) → V → Bool
+option_list_holds R None v = false
+option_list_holds R (Some ss) v = list_holds R ss v
+
+-- the list, if it is not empty
+abbrev pub if_any : {A : Type 0} → List A → Option (List A)
+if_any [] = None
+if_any (x ∷ xs) = Some (x ∷ xs)
+
+-- what the pairs of two lists have in common, the first list outside
+abbrev pub meets_of : {V : Type 0} → (V → V → Ordering) → List (Span V) → List (Span V) → List (Span V)
+meets_of R ss ts = flat_map (λ s. flat_map (λ t. option_to_list (meet R s t)) ts) ss
+
+-- the remainder of s as a list
+abbrev pub remainder : {V : Type 0} → (V → V → Ordering) → Span V → Span V → List (Span V)
+remainder R s t = option_to_list (remainders R s t).0 ++ option_to_list (remainders R s t).1
+
+-- each of ss with the remainders by ts taken one after another
+abbrev pub minus : {V : Type 0} → (V → V → Ordering) → List (Span V) → List (Span V) → List (Span V)
+minus R ss ts = fold (λ left t. flat_map (λ s. remainder R s t) left) ss ts

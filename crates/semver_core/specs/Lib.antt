@@ -1,0 +1,15 @@
+pub mod Characters
+pub mod Numbers
+pub mod Identifiers
+pub mod Versions
+pub mod Order
+pub mod Grammar
+pub mod Printed
+pub mod Views
+pub mod Reading
+pub mod Hashes
+pub mod OrderLaws
+pub mod VersionView
+pub mod ListView
+pub mod Parsing
+pub mod Cuts

@@ -1,0 +1,86 @@
+// The order of the cuts that two bounds make.
+ghost use Rattle.std.specs.Prelude.{◌≡◌};
+ghost use Rattle.std.specs.Ordering.{is_lt};
+ghost use Rattle.semver_core.specs.Cuts.{cut_cmp, lower_cut, upper_cut, is_past, greater_lower, lesser_upper};
+
+use crate::cuts::bound::Bound;
+use std::cmp::Ordering;
+
+/// The order of two lower cuts.
+pub(crate) fn lower_order<V: Ord>(a: &Bound<V>, b: &Bound<V>) -> Ordering
+    ensures { result ≡ cut_cmp V.cmp (lower_cut a.now) (lower_cut b.now) }
+{
+    match (a, b) {
+        (Bound::Unbounded, Bound::Unbounded) => Ordering::Equal,
+        (Bound::Unbounded, _) => Ordering::Less,
+        (_, Bound::Unbounded) => Ordering::Greater,
+        (Bound::Before(v), Bound::Before(w)) => v.cmp(w).then(Ordering::Equal),
+        (Bound::Before(v), Bound::After(w)) => v.cmp(w).then(Ordering::Less),
+        (Bound::After(v), Bound::Before(w)) => v.cmp(w).then(Ordering::Greater),
+        (Bound::After(v), Bound::After(w)) => v.cmp(w).then(Ordering::Equal),
+    }
+}
+
+/// The order of two upper cuts.
+pub(crate) fn upper_order<V: Ord>(a: &Bound<V>, b: &Bound<V>) -> Ordering
+    ensures { result ≡ cut_cmp V.cmp (upper_cut a.now) (upper_cut b.now) }
+{
+    match (a, b) {
+        (Bound::Unbounded, Bound::Unbounded) => Ordering::Equal,
+        (Bound::Unbounded, _) => Ordering::Greater,
+        (_, Bound::Unbounded) => Ordering::Less,
+        (Bound::Before(v), Bound::Before(w)) => v.cmp(w).then(Ordering::Equal),
+        (Bound::Before(v), Bound::After(w)) => v.cmp(w).then(Ordering::Less),
+        (Bound::After(v), Bound::Before(w)) => v.cmp(w).then(Ordering::Greater),
+        (Bound::After(v), Bound::After(w)) => v.cmp(w).then(Ordering::Equal),
+    }
+}
+
+/// Whether the cut of a lower bound is below that of an upper one.
+pub(crate) fn is_below<V: Ord>(lower: &Bound<V>, upper: &Bound<V>) -> bool
+    ensures { result ≡ is_lt (cut_cmp V.cmp (lower_cut lower.now) (upper_cut upper.now)) }
+{
+    match (lower, upper) {
+        (Bound::Unbounded, _) | (_, Bound::Unbounded) => true,
+        (Bound::Before(v), Bound::After(w)) => v.cmp(w).is_le(),
+        (Bound::Before(v), Bound::Before(w))
+        | (Bound::After(v), Bound::Before(w))
+        | (Bound::After(v), Bound::After(w)) => v.cmp(w).is_lt(),
+    }
+}
+
+/// Whether the point lies after the cut of the lower bound.
+pub(crate) fn is_past_lower<V: Ord>(lower: &Bound<V>, point: &V) -> bool
+    ensures { result ≡ is_past V.cmp (lower_cut lower.now) point.now }
+{
+    match lower {
+        Bound::Unbounded => true,
+        Bound::Before(v) => v.cmp(point).is_le(),
+        Bound::After(v) => v.cmp(point).is_lt(),
+    }
+}
+
+/// Whether the point lies after the cut of the upper bound.
+pub(crate) fn is_past_upper<V: Ord>(upper: &Bound<V>, point: &V) -> bool
+    ensures { result ≡ is_past V.cmp (upper_cut upper.now) point.now }
+{
+    match upper {
+        Bound::Unbounded => false,
+        Bound::Before(v) => v.cmp(point).is_le(),
+        Bound::After(v) => v.cmp(point).is_lt(),
+    }
+}
+
+/// The lower bound that is further up, the second of equal ones.
+pub(crate) fn greater_lower<'b, V: Ord>(a: &'b Bound<V>, b: &'b Bound<V>) -> &'b Bound<V>
+    ensures { result.now ≡ greater_lower V.cmp a.now b.now }
+{
+    if lower_order(a, b).is_gt() { a } else { b }
+}
+
+/// The upper bound that is further down, the first of equal ones.
+pub(crate) fn lesser_upper<'b, V: Ord>(a: &'b Bound<V>, b: &'b Bound<V>) -> &'b Bound<V>
+    ensures { result.now ≡ lesser_upper V.cmp a.now b.now }
+{
+    if upper_order(a, b).is_gt() { b } else { a }
+}

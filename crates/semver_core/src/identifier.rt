@@ -1,0 +1,85 @@
+// Identifiers: what they are, their order, equality and hash.
+
+ghost use Rattle.std.specs.Prelude.{◌≡◌, Some, refl};
+ghost use Rattle.std.specs.Cmp.{eq_by_cmp_equiv, on_equiv, on_per, on_po, on_total, partial_equiv_from_equiv, po};
+ghost use Rattle.std.specs.Ordering.{is_eq, eq_by_cmp};
+ghost use Rattle.semver_core.specs.Hashes.{id_writes};
+ghost use Rattle.semver_core.specs.Order.{id_cmp};
+ghost use Rattle.semver_core.specs.OrderLaws.{id_alike, id_total};
+ghost use Rattle.semver_core.specs.Views.{id_view};
+
+use std::cmp::Ordering;
+use std::hash::{Hash, Hasher};
+
+/// One identifier of a pre-release or of build metadata (SemVer 2.0.0, items 9 and 10).
+///
+/// Identifiers have the order of SemVer 2.0.0, item 11: numbers by value and below all texts, texts by their bytes.
+#[derive(Debug, Drop)]
+pub enum Identifier {
+    /// Digits alone, of a value below 2^64.
+    Numeric(u64),
+    /// Any other run of ASCII letters, digits and `-`. One that is made by hand may hold any text.
+    AlphaNumeric(String),
+}
+
+impl PartialEq for Identifier {
+    ghost eq = { λ a b. is_eq (id_cmp (id_view a) (id_view b)) };
+
+    ghost laws = { on_per id_view (partial_equiv_from_equiv (eq_by_cmp_equiv id_total)) };
+
+    fn eq(&self, other: &Identifier) -> bool {
+        self.cmp(other).is_eq()
+    }
+}
+
+impl Eq for Identifier {
+    ghost laws = { on_equiv id_view (eq_by_cmp_equiv id_total) };
+}
+
+impl PartialOrd for Identifier {
+    ghost partial_cmp = { λ a b. Some (id_cmp (id_view a) (id_view b)) };
+
+    ghost laws = { on_po id_view (po id_total (λ x y. refl)) };
+
+    fn partial_cmp(&self, other: &Identifier) -> Option<Ordering> {
+        Some(self.cmp(other))
+    }
+}
+
+impl Ord for Identifier {
+    ghost cmp = { λ a b. id_cmp (id_view a) (id_view b) };
+
+    ghost total = { on_total id_view id_total };
+
+    ghost matches_partial_cmp = { λ a b. refl };
+
+    ghost matches_eq = { λ a b. refl };
+
+    fn cmp(&self, other: &Identifier) -> Ordering {
+        match (self, other) {
+            (Identifier::Numeric(a), Identifier::Numeric(b)) => a.cmp(b),
+            (Identifier::Numeric(_), Identifier::AlphaNumeric(_)) => Ordering::Less,
+            (Identifier::AlphaNumeric(_), Identifier::Numeric(_)) => Ordering::Greater,
+            (Identifier::AlphaNumeric(a), Identifier::AlphaNumeric(b)) => a.cmp(b),
+        }
+    }
+}
+
+impl Hash for Identifier {
+    ghost hash_input = { λ a. id_writes (id_view a) };
+
+    ghost respects_eq = { λ a b e. id_alike (id_view a) (id_view b) e };
+
+    fn hash<H: Hasher>(&self, state: &mut H) {
+        match self {
+            Identifier::Numeric(value) => {
+                state.write_u8(0);
+                value.hash(state);
+            }
+            Identifier::AlphaNumeric(text) => {
+                state.write_u8(1);
+                text.hash(state);
+            }
+        }
+    }
+}

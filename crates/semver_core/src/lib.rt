@@ -1,0 +1,22 @@
+//! Versions as npm reads and orders them.
+#![tactic(auto)]
+
+ghost use Rattle.std.specs.Prelude.{◌≡◌};
+
+pub mod cuts;
+mod error;
+mod identifier;
+pub mod readers;
+mod version;
+
+pub use crate::error::{Failure, SemverError};
+pub use crate::identifier::Identifier;
+pub use crate::version::Version;
+
+pub mod scan;
+
+/// The greatest number that is read from a text. It is the crate's own limit, and not JavaScript's constant of that name.
+pub const MAX_SAFE_INTEGER: u64 = 900_719_925_474_099;
+
+/// The length of the longest text that `Version::parse` reads, in bytes.
+pub const MAX_LENGTH: usize = 256;

@@ -1,0 +1,240 @@
+//! The pieces that every reader of versions and ranges is made of.
+
+ghost use Rattle.std.specs.Prelude.{◌≡◌, ◌≤◌, ◌==◌, ◌+◌, ◌<◌, if◌then◌else◌, ℕ, List, length, drop, take, IfOk, IfSome, IfNone, OnErr, IsCharBoundary, Ok, None, Some, false, true};
+ghost use Rattle.std.specs.Char.{is_ascii_digit};
+ghost use Rattle.std.specs.List.{prefix_len, list_all};
+ghost use Rattle.semver_core.specs.Characters.{is_identifier_char, is_whitespace, begins, IsAfterBlank, IsPieceAt, NoPieceAt};
+ghost use Rattle.semver_core.specs.Identifiers as id;
+ghost use Rattle.semver_core.specs.Identifiers.{Id, identifier_of, is_run, goes_on, IsLongestIdentifiers};
+ghost use Rattle.semver_core.specs.Numbers.{IsWholeNumber};
+ghost use Rattle.semver_core.specs.Reading.{number_at, list_at};
+ghost use Rattle.semver_core.specs.Views.{id_view, ids_view, list_view};
+
+use crate::{Identifier, MAX_SAFE_INTEGER};
+use std::alloc::{AllocError, Global};
+
+fn is_whitespace(character: char) -> bool
+    ensures { result ≡ is_whitespace character }
+{
+    matches!(character, '\t'..='\r' | ' ' | '\u{A0}' | '\u{1680}' | '\u{2000}'..='\u{200A}')
+        || matches!(
+            character,
+            '\u{2028}' | '\u{2029}' | '\u{202F}' | '\u{205F}' | '\u{3000}' | '\u{FEFF}'
+        )
+}
+
+#[tactic(auto, using(crate::proofs::Blanks::passed_none, crate::proofs::Blanks::passed_more, crate::proofs::Blanks::passed_room, crate::proofs::Blanks::passed_stop, crate::proofs::Blanks::passed_end))]
+/// The place after the whitespace at a place.
+pub fn skip_whitespace(text: &str, at: usize) -> usize
+    requires { IsCharBoundary text.now at }
+    ensures { IsAfterBlank text.now at result }
+{
+    let mut end = at;
+    'spaces: for character in text[at..].chars() {
+        if !is_whitespace(character) {
+            return end;
+        }
+        end += character.len_utf8();
+    }
+    end
+}
+
+// What a run of digits gives that ended after `count` of them.
+fn ended(value: u64, at: usize, end: usize) -> Option<(u64, usize)>
+    requires { at ≤ end }
+    ensures { result ≡ (if end == at then None else Some (value, end)) }
+{
+    if end == at { None } else { Some((value, end)) }
+}
+
+/// The number at a place before which no digit stands, and the place after it.
+pub fn number(text: &str, at: usize) -> Option<(u64, usize)>
+    requires { at ≤ length text.now }
+    // What is found is a whole run of digits.
+    ensures found { IfSome result (λ found.
+        IsPieceAt (λ digits rest. IsWholeNumber MAX_SAFE_INTEGER digits rest found.0) text.now at found.1) }
+    // Nothing is found only where no number begins.
+    ensures none { IfNone result ((n : ℕ) → NoPieceAt (λ digits rest. IsWholeNumber MAX_SAFE_INTEGER digits rest n) text.now at) }
+    ensures place { IfSome result (λ found. found.1 ≤ length text.now) }
+{
+    read_number(text, at)
+}
+
+// The same as a function of the text.
+#[inline(always)]
+pub(crate) fn read_number(text: &str, at: usize) -> Option<(u64, usize)>
+    requires { at ≤ length text.now }
+    ensures exact { result ≡ number_at MAX_SAFE_INTEGER text.now at }
+    ensures place { IfSome result (λ found. found.1 ≤ length text.now) }
+{
+    digits(text.as_bytes(), at)
+}
+
+#[tactic(auto, using(crate::proofs::Digits::digits_step, crate::proofs::Digits::digits_over, crate::proofs::Digits::digits_stop, crate::proofs::Digits::digits_past, crate::proofs::Digits::digits_placed))]
+fn digits(bytes: &[u8], at: usize) -> Option<(u64, usize)>
+    requires { at ≤ length bytes.now }
+    ensures found { result ≡ number_at MAX_SAFE_INTEGER bytes.now at }
+    ensures place { IfSome result (λ found. found.1 ≤ length bytes.now) }
+{
+    let mut value = 0u64;
+    'digits: for end in at..bytes.len() {
+        let byte = bytes[end];
+        if !byte.is_ascii_digit() {
+            return ended(value, at, end);
+        }
+        value = value * 10 + u64::from(byte - b'0');
+        if value > MAX_SAFE_INTEGER {
+            return None;
+        }
+    }
+    ended(value, at, bytes.len())
+}
+
+fn is_identifier_char(byte: u8) -> bool
+    ensures { result ≡ is_identifier_char byte }
+{
+    byte.is_ascii_alphanumeric() || byte == b'-'
+}
+
+fn begins_identifier(text: &[u8]) -> bool
+    ensures { result ≡ begins is_identifier_char text.now }
+{
+    match text {
+        [byte, ..] => is_identifier_char(*byte),
+        [] => false,
+    }
+}
+
+// Whether an identifier list that ends before this text would go on with it.
+fn goes_on(text: &[u8]) -> bool
+    ensures { result ≡ goes_on text.now }
+{
+    match text {
+        [b'.', rest @ ..] => begins_identifier(rest),
+        [byte, ..] => is_identifier_char(*byte),
+        [] => false,
+    }
+}
+
+// Where the characters of identifiers that begin at a place end.
+fn run_end(bytes: &[u8], start: usize) -> usize
+    requires { start ≤ length bytes.now }
+    ensures { result ≡ start + prefix_len is_identifier_char (drop start bytes.now) }
+{
+    'run: for end in start..bytes.len() {
+        if !is_identifier_char(bytes[end]) {
+            return end;
+        }
+    }
+    bytes.len()
+}
+
+// The number that a run spells, where it is digits alone that fit.
+#[tactic(auto, using(crate::proofs::Runs::numeric_run, crate::proofs::Runs::other_run))]
+fn numeric_of(run: &str) -> Option<u64>
+    requires { is_run run.now ≡ true }
+    ensures some { IfSome result (λ n. identifier_of run.now ≡ id.Numeric n) }
+    ensures none { IfNone result (identifier_of run.now ≡ id.AlphaNumeric run.now) }
+{
+    if !is_numeric(run.as_bytes()) {
+        return None;
+    }
+    match run.parse::<u64>() {
+        Ok(value) => Some(value),
+        Err(_) => None,
+    }
+}
+
+// The identifier that a run spells.
+fn identifier(alloc: Global, run: &str) -> Result<Identifier, AllocError>
+    requires { is_run run.now ≡ true }
+    ensures { IfOk result (λ id. id_view id ≡ identifier_of run.now) }
+{
+    match numeric_of(run) {
+        Some(value) => Ok(Identifier::Numeric(value)),
+        None => Ok(Identifier::AlphaNumeric(String::from_str(alloc, run)?)),
+    }
+}
+
+fn is_numeric(run: &[u8]) -> bool
+    ensures { result ≡ list_all is_ascii_digit run.now }
+{
+    run.iter().all(|byte| byte.is_ascii_digit())
+}
+
+#[tactic(auto, using(crate::proofs::Runs::rest_from))]
+fn begins_at(text: &str, at: usize) -> bool
+    requires { at ≤ length text.now }
+    ensures { result ≡ begins is_identifier_char (drop at text.now) }
+{
+    begins_identifier(&text.as_bytes()[at..])
+}
+
+#[tactic(auto, using(crate::proofs::Runs::rest_from))]
+fn goes_on_at(text: &str, at: usize) -> bool
+    requires { at ≤ length text.now }
+    ensures { result ≡ goes_on (drop at text.now) }
+{
+    goes_on(&text.as_bytes()[at..])
+}
+
+// The run at a place.
+#[tactic(auto, using(crate::proofs::Runs::run_is_run, crate::proofs::Runs::run_boundary, crate::proofs::Runs::run_length))]
+fn run_at(text: &str, start: usize) -> &str
+    requires place { start ≤ length text.now }
+    requires here { begins is_identifier_char (drop start text.now) ≡ true }
+    ensures value { result.now ≡ take (prefix_len is_identifier_char (drop start text.now)) (drop start text.now) }
+    ensures run { is_run result.now ≡ true }
+    ensures len { length result.now ≡ prefix_len is_identifier_char (drop start text.now) }
+    ensures fits { start + length result.now ≤ length text.now }
+{
+    let end = run_end(text.as_bytes(), start);
+    &text[start..end]
+}
+
+/// The longest identifier list at a place, and the place after it. It takes no memory where none begins there.
+pub fn identifiers(
+    alloc: Global,
+    text: &str,
+    at: usize,
+) -> Result<Option<(Vec<Identifier>, usize)>, AllocError>
+    requires { at ≤ length text.now }
+    // What is found is the longest list there.
+    ensures found { IfOk result (λ found. IfSome found (λ list.
+        IsPieceAt (λ piece rest. IsLongestIdentifiers piece rest (ids_view list.0.items)) text.now at list.1)) }
+    // Nothing is found only where no list begins.
+    ensures none { IfOk result (λ found. IfNone found ((ids : List Id) →
+        NoPieceAt (λ piece rest. IsLongestIdentifiers piece rest ids) text.now at)) }
+    ensures place { IfOk result (λ found. IfSome found (λ list. list.1 ≤ length text.now)) }
+    // Memory is missing only where a list begins.
+    ensures memory { OnErr result (begins is_identifier_char (drop at text.now) ≡ true) }
+{
+    read_list(alloc, text, at)
+}
+
+// The same as a function of the text.
+pub(crate) fn read_list(
+    alloc: Global,
+    text: &str,
+    at: usize,
+) -> Result<Option<(Vec<Identifier>, usize)>, AllocError>
+    requires { at ≤ length text.now }
+    ensures place { IfOk result (λ found. IfSome found (λ list. list.1 ≤ length text.now)) }
+    ensures exact { IfOk result (λ found. list_view found ≡ list_at text.now at) }
+    ensures memory { OnErr result (begins is_identifier_char (drop at text.now) ≡ true) }
+{
+    if !begins_at(text, at) {
+        return Ok(None);
+    }
+    let mut list = Vec::new(alloc);
+    let mut start = at;
+    'runs: loop {
+        let run = run_at(text, start);
+        list.push(identifier(alloc, run)?)?;
+        let end = start + run.len();
+        if !goes_on_at(text, end) {
+            return Ok(Some((list, end)));
+        }
+        start = end + 1;
+    }
+}
