@@ -9,9 +9,11 @@ mod identifier;
 pub mod readers;
 mod version;
 
-pub use crate::error::{Failure, SemverError};
+pub use crate::error::{Failure, NegativeNumber, SemverError};
 pub use crate::identifier::Identifier;
 pub use crate::version::Version;
+pub use crate::version::accepts::Accepts;
+pub use crate::version::parts::VersionParts;
 
 pub mod scan;
 
