@@ -15,3 +15,4 @@ pub mod PartsView
 pub mod ListView
 pub mod Parsing
 pub mod Cuts
+pub mod Examples

@@ -6,6 +6,7 @@ ghost use Rattle.std.specs.Prelude.{◌≡◌};
 pub mod cuts;
 mod error;
 mod identifier;
+pub mod laws;
 pub mod readers;
 mod version;
 

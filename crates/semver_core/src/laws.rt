@@ -1,0 +1,8 @@
+//! Laws over the definitions alone. Each is the contract of a function that does nothing, or hardly anything, else; no
+//! caller needs this module.
+
+mod order;
+mod reading;
+
+pub use crate::laws::order::{identifiers_in_order, versions_in_order};
+pub use crate::laws::reading::{constants, one_reading};
