@@ -12,4 +12,5 @@ pub mod OrderLaws
 pub mod VersionView
 pub mod ListView
 pub mod Parsing
+pub mod Normal
 pub mod Cuts

@@ -6,6 +6,8 @@ ghost use Rattle.std.specs.Prelude.{◌≡◌};
 pub mod cuts;
 mod error;
 mod identifier;
+pub mod laws;
+mod print;
 pub mod readers;
 mod version;
 
