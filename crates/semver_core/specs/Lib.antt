@@ -14,5 +14,6 @@ pub mod Triples
 pub mod PartsView
 pub mod ListView
 pub mod Parsing
+pub mod Normal
 pub mod Cuts
 pub mod Examples

@@ -2,7 +2,9 @@
 //! caller needs this module.
 
 mod order;
+mod printing;
 mod reading;
 
 pub use crate::laws::order::{identifiers_in_order, versions_in_order};
+pub use crate::laws::printing::{printed_versions_come_back, reread};
 pub use crate::laws::reading::{constants, one_reading};

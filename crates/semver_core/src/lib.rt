@@ -7,6 +7,7 @@ pub mod cuts;
 mod error;
 mod identifier;
 pub mod laws;
+mod print;
 pub mod readers;
 mod version;
 
