@@ -126,7 +126,10 @@ pub(crate) fn front_of_numbers(text: &str) -> usize
 }
 
 #[tactic(auto, using(crate::proofs::Texts::found_some, crate::proofs::Texts::found_none, crate::proofs::Texts::loose_memory))]
-/// The version at the front of a text. Whatever follows it is ignored.
+/// The version at the front of a text of any length, read as `Version::parse` reads it; whatever follows it is ignored.
+///
+/// `None` where the text has none. The error is want of memory, which comes only where the version has a pre-release or build
+/// metadata.
 pub fn version_loose(alloc: Global, text: &str) -> Result<Option<Version>, AllocError>
     // What is read is a version of the text.
     ensures some { IfOk result (λ found. IfSome found (λ v. Reads MAX_SAFE_INTEGER text.now v)) }
