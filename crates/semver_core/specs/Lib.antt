@@ -17,3 +17,6 @@ pub mod Parsing
 pub mod Normal
 pub mod Cuts
 pub mod Examples
+pub mod Spaces
+pub mod SpaceLaws
+pub mod SpaceExamples
