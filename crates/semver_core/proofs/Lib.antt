@@ -7,3 +7,6 @@ pub mod Texts
 pub mod Blanks
 pub mod Clauses
 pub mod CutLaws
+pub mod LastNumber
+pub mod DifferenceLaws
+pub mod IncrementLaws

@@ -13,3 +13,11 @@ pub mod VersionView
 pub mod ListView
 pub mod Parsing
 pub mod Cuts
+pub mod Increment
+pub mod IncrementView
+pub mod IncrementSteps
+pub mod IncrementLeast
+pub mod IncrementRows
+pub mod Successors
+pub mod Difference
+pub mod DifferenceRows

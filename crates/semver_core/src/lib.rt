@@ -4,13 +4,17 @@
 ghost use Rattle.std.specs.Prelude.{◌≡◌};
 
 pub mod cuts;
+mod difference;
 mod error;
 mod identifier;
+mod increment;
 pub mod readers;
 mod version;
 
+pub use crate::difference::{ReleaseType, VersionDiff};
 pub use crate::error::{Failure, SemverError};
 pub use crate::identifier::Identifier;
+pub use crate::increment::{IdentifierBase, IncrementError};
 pub use crate::version::Version;
 
 pub mod scan;
