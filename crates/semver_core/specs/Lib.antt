@@ -10,6 +10,8 @@ pub mod Reading
 pub mod Hashes
 pub mod OrderLaws
 pub mod VersionView
+pub mod Triples
+pub mod PartsView
 pub mod ListView
 pub mod Parsing
 pub mod Cuts

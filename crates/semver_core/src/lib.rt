@@ -12,10 +12,12 @@ pub mod readers;
 mod version;
 
 pub use crate::difference::{ReleaseType, VersionDiff};
-pub use crate::error::{Failure, SemverError};
+pub use crate::error::{Failure, NegativeNumber, SemverError};
 pub use crate::identifier::Identifier;
 pub use crate::increment::{IdentifierBase, IncrementError};
 pub use crate::version::Version;
+pub use crate::version::accepts::Accepts;
+pub use crate::version::parts::VersionParts;
 
 pub mod scan;
 

@@ -11,6 +11,10 @@ ghost use Rattle.semver_core.specs.Versions.{VersionValue, IsVersion, IsId};
 ghost use Rattle.semver_core.specs.ListView.{list_ids};
 ghost use Rattle.semver_core.specs.Views.{ids_view, id_view};
 
+pub mod accepts;
+mod convert;
+pub mod parts;
+
 use crate::readers::version_loose;
 use crate::{Failure, Identifier, MAX_LENGTH, MAX_SAFE_INTEGER, SemverError};
 use std::alloc::Global;
