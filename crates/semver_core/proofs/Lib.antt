@@ -10,3 +10,6 @@ pub mod CutLaws
 pub mod LastNumber
 pub mod DifferenceLaws
 pub mod IncrementLaws
+pub mod Returns
+pub mod Prints
+pub mod Reread

@@ -14,6 +14,7 @@ pub mod Triples
 pub mod PartsView
 pub mod ListView
 pub mod Parsing
+pub mod Normal
 pub mod Cuts
 pub mod Increment
 pub mod IncrementView

@@ -8,6 +8,8 @@ mod difference;
 mod error;
 mod identifier;
 mod increment;
+pub mod laws;
+mod print;
 pub mod readers;
 mod version;
 

@@ -14,6 +14,7 @@ ghost use Rattle.semver_core.specs.Views.{id_view, ids_view};
 
 use crate::increment::{IdentifierBase, IncrementError, is_false, one_more, refused_argument};
 use crate::scan::is_identifier_char;
+use crate::version::parts::copy_items;
 use crate::{Failure, Identifier};
 use std::alloc::{AllocError, Global};
 use std::fmt::Write;
@@ -61,30 +62,6 @@ fn first_number(base: IdentifierBase) -> u64
     }
 }
 
-fn copy_identifier(alloc: Global, identifier: &Identifier) -> Result<Identifier, AllocError>
-    ensures { IfOk result (λ i. id_view i ≡ id_view identifier.now) }
-{
-    Ok(match identifier {
-        Identifier::Numeric(n) => Identifier::Numeric(*n),
-        Identifier::AlphaNumeric(text) => Identifier::AlphaNumeric(String::from_str(alloc, text)?),
-    })
-}
-
-// The identifiers once more.
-#[tactic(auto, using(crate::proofs::LastNumber::ids_view_one_more, crate::proofs::LastNumber::ids_view_whole))]
-pub(super) fn copy_identifiers(
-    alloc: Global,
-    identifiers: &[Identifier],
-) -> Result<Vec<Identifier>, AllocError>
-    ensures { IfOk result (λ v. ids_view v.items ≡ ids_view identifiers.now) }
-{
-    let mut copies = Vec::new(alloc);
-    'copies: for identifier in identifiers {
-        copies.push(copy_identifier(alloc, identifier)?)?;
-    }
-    Ok(copies)
-}
-
 // The place of the last number of a list, and that number.
 #[tactic(auto, using(crate::proofs::LastNumber::tracks_number, crate::proofs::LastNumber::tracks_text, crate::proofs::LastNumber::tracks_whole))]
 fn last_number(list: &[Identifier]) -> Option<(usize, u64)>
@@ -109,7 +86,7 @@ fn replaced(
     requires { place < length list.now }
     ensures { IfOk result (λ v. ids_view v.items ≡ set (ids_view list.now) place (id_view id)) }
 {
-    let mut copies = copy_identifiers(alloc, list)?;
+    let mut copies = copy_items(alloc, list)?;
     copies[place] = id;
     Ok(copies)
 }
@@ -142,7 +119,7 @@ fn number_alone(alloc: Global, n: u64) -> Result<Vec<Identifier>, AllocError>
 fn appended(alloc: Global, list: &[Identifier], n: u64) -> Result<Vec<Identifier>, AllocError>
     ensures { IfOk result (λ v. ids_view v.items ≡ ids_view list.now ++ Numeric n ∷ []) }
 {
-    let mut copies = copy_identifiers(alloc, list)?;
+    let mut copies = copy_items(alloc, list)?;
     copies.push(Identifier::Numeric(n))?;
     Ok(copies)
 }
@@ -190,10 +167,7 @@ fn push_part(text: &mut String, first: bool, id: &Identifier) -> Result<(), Allo
     if !first {
         text.push('.')?;
     }
-    match id {
-        Identifier::Numeric(n) => write!(text, "{n}"),
-        Identifier::AlphaNumeric(part) => text.push_str(part),
-    }
+    write!(text, "{id}")
 }
 
 // The list that an identifier begins.

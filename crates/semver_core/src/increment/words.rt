@@ -5,8 +5,9 @@ ghost use Rattle.semver_core.specs.Increment as spec;
 ghost use Rattle.semver_core.specs.IncrementView.{Answers};
 ghost use Rattle.semver_core.specs.ListView.{list_ids};
 
-use crate::increment::pre_release::{advance, copy_identifiers, identify};
+use crate::increment::pre_release::{advance, identify};
 use crate::increment::{IdentifierBase, IncrementError, one_more, refused_argument};
+use crate::version::parts::{copy_items, unless_empty};
 use crate::{Failure, Identifier, Version};
 use std::alloc::Global;
 
@@ -113,8 +114,8 @@ fn with_parts(
       build = version.now.build;
     })) result }
 {
-    let build = copy_identifiers(alloc, version.build())?;
-    Ok(Version::from_parts(major, minor, patch, pre_release, Some(build)))
+    let build = copy_items(alloc, version.build())?;
+    Ok(Version::from_parts(major, minor, patch, pre_release, unless_empty(build)))
 }
 
 fn release_of(alloc: Global, version: &Version) -> Result<Version, Failure<IncrementError>>
