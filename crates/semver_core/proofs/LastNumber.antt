@@ -180,12 +180,6 @@ pub value_run : {E : Type 0} (ds : List ℕ) (r : Result ℕ E) → ParsesUnsign
 value_run {E} ds (Ok n) h d some = sym (parse_digits numerals {E = E} 64 ds (Ok n) h d).1
 value_run {E} ds (Err e) h d some = not_less (digits_value 10 ds) (2 ^ 64) (λ small. parse_digits numerals {E = E} 64 ds (Err e) h d (some, small))
 
--- one more copy of an identifier
-pub ids_view_one_more : (xs copies : List Identifier) (i : ℕ) (x copy : Identifier) → i < length xs → x ≡ get_or xs i x → id_view copy ≡ id_view x
-    → ids_view copies ≡ ids_view (take i xs) → ids_view (copies ++ copy ∷ []) ≡ ids_view (take (i + 1) xs)
-ids_view_one_more xs copies i x copy lt at same before =
-    let text : take (i + 1) xs ≡ take i xs ++ x ∷ [] = take_more xs i x lt ∙ ap (λ y. take i xs ++ y ∷ []) (sym at) in
-    rw (text, ids_view_push (take i xs) x, ids_view_push copies copy, same, before) refl
-
-pub ids_view_whole : (xs : List Identifier) (i : ℕ) (copies : List Identifier) → length xs ≤ i → ids_view copies ≡ ids_view (take i xs) → ids_view copies ≡ ids_view xs
-ids_view_whole xs i copies le h = rw (take_all i xs le) at h
+-- a list with a last number goes on by raising it
+pub advance_raises : (list : List Id) (id : List ℕ) (base : IdentifierBase) (i n : ℕ) → IsLastNumber list i n → advance list id base ≡ raise_last list
+advance_raises list id base i n last = by_raise list id base (number_there list i n last)

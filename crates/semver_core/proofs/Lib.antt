@@ -13,3 +13,4 @@ pub mod IncrementLaws
 pub mod Returns
 pub mod Prints
 pub mod Reread
+pub mod IncrementClauses

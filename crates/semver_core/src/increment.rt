@@ -1,11 +1,12 @@
 // Increments: the next version by a word, as release tools ask for it.
 
-ghost use Rattle.std.specs.Prelude.{◌≡◌, IfOk, Ok, codes, nat_eq, if◌then◌else◌};
-ghost use Rattle.std.specs.List.{starts_with};
+ghost use Rattle.std.specs.Prelude.{◌≡◌, IfOk, codes, false};
 ghost use Rattle.std.specs.Option.{option_copied};
 ghost use Rattle.semver_core.specs.Increment as spec;
-ghost use Rattle.semver_core.specs.IncrementView.{Answers, fault_of};
+ghost use Rattle.semver_core.specs.IncrementLeast.{CanStep, HasNoIdentifier, IsAbove, IsLeastAnswer, IsLeastOrOverflow, IsNextMajor, IsNextMinor, IsNextPatch, IsOfNextMajor, IsOfNextMinor, IsOfNextPatch, IsPlain};
+ghost use Rattle.semver_core.specs.IncrementView.{Answers, IfAnswered, fault_of};
 ghost use Rattle.semver_core.specs.IncrementSteps.{RefusedWith};
+ghost use Rattle.semver_core.specs.Versions.{IsVersion};
 
 use crate::{Failure, Version};
 use crate::increment::words::by_word;
@@ -163,7 +164,8 @@ fn check(alloc: Global, id: &str, base: IdentifierBase) -> Result<(), Failure<In
     }
 }
 
-fn incremented(
+// The checks of a word that begins with `pre`, and then the word.
+fn by_checked_word(
     alloc: Global,
     version: &Version,
     word: &str,
@@ -178,8 +180,56 @@ fn incremented(
     by_word(alloc, version, word, id, base)
 }
 
+// No identifier is an empty one, and no base is `Value(0)`.
+fn increment(
+    alloc: Global,
+    version: &Version,
+    word: &str,
+    identifier: Option<&str>,
+    base: Option<IdentifierBase>,
+) -> Result<Version, Failure<IncrementError>>
+    ensures { Answers (λ x. x) (spec.answer_of_inc version.now word.now (option_copied identifier.entry) base) result }
+{
+    by_checked_word(alloc, version, word, identifier.unwrap_or(""), base.unwrap_or_default())
+}
+
+// A version's numbers and identifiers are those of 64 bits. No effect at run time.
+fn is_version(version: &Version)
+    ensures { IsVersion version.now }
+{
+    version.major();
+}
+
 impl Version {
-    /// The next version by a word, with the identifier and the base of its pre-release.
+    /// The next version by a word, as npm counts versions. This version is not changed.
+    ///
+    /// | word | the next version |
+    /// |---|---|
+    /// | `major` | the least release above with minor and patch 0: 2.0.0 after 1.2.3, and 1.0.0 after 1.0.0-1 |
+    /// | `minor` | the least release above with patch 0 in the same major |
+    /// | `patch` | the least release above in the same major and minor |
+    /// | `premajor`, `preminor`, `prepatch` | the first pre-release of the next major, minor or patch: 2.0.0-0 after 1.2.3 |
+    /// | `prerelease` | the next pre-release: 1.2.4-0 after 1.2.3, and 1.2.3-a.1 after 1.2.3-a.0 |
+    /// | `pre` | the next pre-release of the same three numbers, which for a release is below it |
+    /// | `release` | this pre-release's release |
+    ///
+    /// Build metadata is kept. The words that begin with `pre` and are in the table let the pre-release list go on, in
+    /// two steps. First the last number in it rises by one; a list without a number gets one at its end. Then, with an
+    /// identifier, a list that does not begin with it and a number is replaced by it and a number. A new number is 0,
+    /// or 1 for a base that is neither `False` nor `Value(0)`, and with `False` no number follows the identifier. An empty identifier is
+    /// none, and no base is `Value(0)`. An identifier with dots or of digits alone becomes one `AlphaNumeric`, so the
+    /// result may differ from its own printed text read again.
+    ///
+    /// It is refused, in this order,
+    /// - for a word that begins with `pre`, known or not: with `InvalidIncrementArgument` where there is no identifier
+    ///   and the base is `False`, and with `InvalidIdentifier` where the identifier is not non-empty runs of ASCII
+    ///   letters, digits and `-` joined by `.`;
+    /// - with `InvalidIncrementArgument` of a word that is not in the table;
+    /// - with `NotAPrerelease` where `release` is asked of a release;
+    /// - with `Overflow` where a number that is to rise is `u64::MAX`;
+    /// - with `InvalidIncrementArgument` where the base is `False` and the identifier is the whole list already.
+    ///
+    /// `Memory` may stand in place of any answer.
     pub fn inc(
         &self,
         alloc: Global,
@@ -187,8 +237,28 @@ impl Version {
         identifier: Option<&str>,
         base: Option<IdentifierBase>,
     ) -> Result<Version, Failure<IncrementError>>
-        ensures { Answers (λ x. x) (spec.incremented self.now word.now (spec.identifier_or_none (option_copied identifier.entry)) (spec.base_or_zero base)) result }
+        // It answers what the table says.
+        ensures value { Answers (λ x. x) (spec.answer_of_inc self.now word.now (option_copied identifier.entry) base) result }
+        // The least release above of its kind, or Overflow where no version is one.
+        ensures patch { word.now ≡ codes "patch" → IfAnswered (IsLeastOrOverflow (IsNextPatch self.now)) result }
+        ensures minor { word.now ≡ codes "minor" → IfAnswered (IsLeastOrOverflow (IsNextMinor self.now)) result }
+        ensures major { word.now ≡ codes "major" → IfAnswered (IsLeastOrOverflow (IsNextMajor self.now)) result }
+        // Without identifier and with base 0: the least version of the next major, minor or patch, or Overflow.
+        ensures premajor { word.now ≡ codes "premajor" → IsPlain (option_copied identifier.entry) base
+          → IfAnswered (IsLeastOrOverflow (IsOfNextMajor self.now)) result }
+        ensures preminor { word.now ≡ codes "preminor" → IsPlain (option_copied identifier.entry) base
+          → IfAnswered (IsLeastOrOverflow (IsOfNextMinor self.now)) result }
+        ensures prepatch { word.now ≡ codes "prepatch" → IsPlain (option_copied identifier.entry) base
+          → IfAnswered (IsLeastOrOverflow (IsOfNextPatch self.now)) result }
+        // And the least version above, where the patch can rise or the pre-release has no number.
+        ensures prerelease { word.now ≡ codes "prerelease" → IsPlain (option_copied identifier.entry) base → CanStep self.now
+          → IfAnswered (IsLeastAnswer (IsAbove self.now)) result }
+        // Without identifier it goes up, save `pre` on a release.
+        ensures above { HasNoIdentifier (option_copied identifier.entry) → (word.now ≡ codes "pre" → spec.is_release self.now ≡ false)
+          → IfOk result (IsAbove self.now) }
+        ensures build { IfOk result (λ next. next.build ≡ self.now.build) }
     {
-        incremented(alloc, self, word, identifier.unwrap_or(""), base.unwrap_or_default())
+        is_version(self);
+        increment(alloc, self, word, identifier, base)
     }
 }

@@ -1,6 +1,6 @@
 // The pre step: how the pre-release list goes on.
 
-ghost use Rattle.std.specs.Prelude.{◌≡◌, ◌∷◌, ◌++◌, [], ◌<◌, ◌==◌, ◌&&◌, IfOk, IfNone, IfSome, OnOk, length, string_bytes, Ok, Err, set, codes, true, if◌then◌else◌};
+ghost use Rattle.std.specs.Prelude.{◌≡◌, ◌∷◌, ◌++◌, [], ◌<◌, ◌==◌, IfOk, OnOk, length, string_bytes, set, true, if◌then◌else◌};
 ghost use Rattle.std.specs.List.{list_all};
 ghost use Rattle.std.specs.Str.{bytes_eq};
 ghost use Rattle.std.specs.Str.Parse.{digits_value};
@@ -20,6 +20,7 @@ use std::alloc::{AllocError, Global};
 use std::fmt::Write;
 
 // The first three steps: the last number rises, and a list without a number gets one.
+#[tactic(auto, using(crate::proofs::LastNumber::advance_raises))]
 pub(super) fn advance(
     alloc: Global,
     list: &[Identifier],
@@ -92,6 +93,7 @@ fn replaced(
 }
 
 // The list with its last number one more.
+#[tactic(auto, using(crate::proofs::LastNumber::raise_at))]
 fn raise_last(
     alloc: Global,
     list: &[Identifier],
