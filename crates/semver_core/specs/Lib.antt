@@ -24,3 +24,4 @@ pub mod IncrementRows
 pub mod Successors
 pub mod Difference
 pub mod DifferenceRows
+pub mod Examples
