@@ -34,7 +34,7 @@ by_plain_word : (P : Result VersionValue Fault → Type 0) (v : VersionValue) (n
     → word ≡ name → IsPlain id base → IfAnswered P r
 by_plain_word P v name word id base r p h e plain =
     let same : incremented v word (identifier_or_none id) (base_or_zero base) ≡ incremented v name [] (Value 0)
-        = λ i. incremented v (e i) (plain.0 i) (plain.1 i) in
+    = λ i. incremented v (e i) (plain.0 i) (plain.1 i) in
     told P (answer_of_inc v word id base) r (subst P (sym same) p) h
 
 module _ (v : VersionValue) (word : List ℕ) (id : Option (List ℕ)) (base : Option IdentifierBase) (r : Result VersionValue (Failure IncrementError))
@@ -65,7 +65,7 @@ pub above_clause : (v : VersionValue) (word : List ℕ) (id : Option (List ℕ))
     → HasNoIdentifier id → (word ≡ codes "pre" → is_release v ≡ false) → IfOk r (IsAbove v)
 above_clause v word id base (Ok w) h none can =
     let same : incremented v word (identifier_or_none id) (base_or_zero base) ≡ incremented v word [] (base_or_zero base)
-        = λ i. incremented v word (none i) (base_or_zero base) in
+    = λ i. incremented v word (none i) (base_or_zero base) in
     law.increment_above v w word (base_or_zero base) can (sym same ∙ h)
 above_clause v word id base (Err e) h none can = tt
 

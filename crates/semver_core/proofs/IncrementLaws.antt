@@ -108,22 +108,22 @@ patch_of : (a b c : ℕ) (pre build : List Id) (id : List ℕ) (base : Identifie
     → IsLeastOrOverflow (IsNextPatch (version a b c pre build)) (incremented (version a b c pre build) (codes "patch") id base)
 patch_of a b c [] build id base k =
     by_one (IsLeastOrOverflow (IsNextPatch (version a b c [] build))) c (λ n. Ok (version a b n [] build))
-        (λ e w good next. full c w.patch e (past w next) good.patch)
-        (λ other. record {
-            is_version = released a b (c + 1) build k.major k.minor (room c k.patch other) k.build;
-            inside = record { above = above_patch (version a b c [] build) (version a b (c + 1) [] build) refl refl (omega arith); release = refl; minor = refl; major = refl };
-            least = λ w good next. le_numbers (version a b (c + 1) [] build) w refl next.release
-                (omega (arith, next.major)) (omega (arith, next.minor)) (omega (arith, past w next));
-        })
+    (λ e w good next. full c w.patch e (past w next) good.patch)
+    (λ other. record {
+      is_version = released a b (c + 1) build k.major k.minor (room c k.patch other) k.build;
+      inside = record { above = above_patch (version a b c [] build) (version a b (c + 1) [] build) refl refl (omega arith); release = refl; minor = refl; major = refl };
+      least = λ w good next. le_numbers (version a b (c + 1) [] build) w refl next.release
+          (omega (arith, next.major)) (omega (arith, next.minor)) (omega (arith, past w next));
+    })
   where
     past : (w : VersionValue) → IsNextPatch (version a b c [] build) w → c < w.patch
     past w next = patch_past (version a b c [] build) w refl next.minor next.major (below_cases (version a b c [] build) w next.above)
 patch_of a b c (x ∷ xs) build id base k = record {
-    is_version = released a b c build k.major k.minor k.patch k.build;
-    inside = record { above = release_above a b c x xs build; release = refl; minor = refl; major = refl };
-    least = λ w good next. le_numbers (version a b c [] build) w refl next.release
-        (omega (arith, next.major)) (omega (arith, next.minor))
-        (patch_upto (version a b c (x ∷ xs) build) w next.minor next.major (below_cases (version a b c (x ∷ xs) build) w next.above));
+  is_version = released a b c build k.major k.minor k.patch k.build;
+  inside = record { above = release_above a b c x xs build; release = refl; minor = refl; major = refl };
+  least = λ w good next. le_numbers (version a b c [] build) w refl next.release
+      (omega (arith, next.major)) (omega (arith, next.minor))
+      (patch_upto (version a b c (x ∷ xs) build) w next.minor next.major (below_cases (version a b c (x ∷ xs) build) w next.above));
 }
 
 pub patch_least : (v : VersionValue) (id : List ℕ) (base : IdentifierBase) → IsVersion v
@@ -165,22 +165,25 @@ minor_of : (a b c : ℕ) (pre build : List Id) (id : List ℕ) (base : Identifie
     → IsLeastOrOverflow (IsNextMinor (version a b c pre build)) (incremented (version a b c pre build) (codes "minor") id base)
 minor_of a b c pre build id base k =
     by_if (IsLeastOrOverflow (IsNextMinor (version a b c pre build))) (c == 0 && not (is_empty pre)) (Ok (version a b c [] build)) (next_minor (version a b c pre build))
-        (λ h. let zero : c ≡ 0 = is_same c 0 (first_true (c == 0) (not (is_empty pre)) h) in record {
-            is_version = released a b c build k.major k.minor k.patch k.build;
-            inside = record {
-                above = above_pre (version a b c pre build) (version a b c [] build) refl refl refl (some_left pre (second_true (c == 0) (not (is_empty pre)) h));
-                release = refl; patch = zero; major = refl };
-            least = λ w good next. le_numbers (version a b c [] build) w refl next.release
-                (omega (arith, next.major)) (minor_upto (version a b c pre build) w next.major (below_cases (version a b c pre build) w next.above)) (omega (arith, zero));
-        })
-        (λ h. by_one (IsLeastOrOverflow (IsNextMinor (version a b c pre build))) b (λ n. Ok (version a n 0 [] build))
-            (λ e w good next. full b w.minor e (past h w next) good.minor)
-            (λ other. record {
-                is_version = released a (b + 1) 0 build k.major (room b k.minor other) (omega arith) k.build;
-                inside = record { above = above_minor (version a b c pre build) (version a (b + 1) 0 [] build) refl (omega arith); release = refl; patch = refl; major = refl };
-                least = λ w good next. le_numbers (version a (b + 1) 0 [] build) w refl next.release
-                    (omega (arith, next.major)) (omega (arith, past h w next)) (omega arith);
-            }))
+    (λ h. let zero : c ≡ 0 = is_same c 0 (first_true (c == 0) (not (is_empty pre)) h) in record {
+      is_version = released a b c build k.major k.minor k.patch k.build;
+      inside = record {
+        above = above_pre (version a b c pre build) (version a b c [] build) refl refl refl (some_left pre (second_true (c == 0) (not (is_empty pre)) h));
+        release = refl;
+        patch = zero;
+        major = refl;
+      };
+      least = λ w good next. le_numbers (version a b c [] build) w refl next.release
+          (omega (arith, next.major)) (minor_upto (version a b c pre build) w next.major (below_cases (version a b c pre build) w next.above)) (omega (arith, zero));
+    })
+    (λ h. by_one (IsLeastOrOverflow (IsNextMinor (version a b c pre build))) b (λ n. Ok (version a n 0 [] build))
+    (λ e w good next. full b w.minor e (past h w next) good.minor)
+    (λ other. record {
+      is_version = released a (b + 1) 0 build k.major (room b k.minor other) (omega arith) k.build;
+      inside = record { above = above_minor (version a b c pre build) (version a (b + 1) 0 [] build) refl (omega arith); release = refl; patch = refl; major = refl };
+      least = λ w good next. le_numbers (version a (b + 1) 0 [] build) w refl next.release
+          (omega (arith, next.major)) (omega (arith, past h w next)) (omega arith);
+    }))
   where
     past : (c == 0 && not (is_empty pre)) ≡ false → (w : VersionValue) → IsNextMinor (version a b c pre build) w → b < w.minor
     past h w next = minor_past (version a b c pre build) w next.major next.patch (none_left c pre h) (below_cases (version a b c pre build) w next.above)
@@ -193,25 +196,28 @@ major_of : (a b c : ℕ) (pre build : List Id) (id : List ℕ) (base : Identifie
     → IsLeastOrOverflow (IsNextMajor (version a b c pre build)) (incremented (version a b c pre build) (codes "major") id base)
 major_of a b c pre build id base k =
     by_if (IsLeastOrOverflow (IsNextMajor (version a b c pre build))) (b == 0 && (c == 0 && not (is_empty pre))) (Ok (version a b c [] build)) (next_major (version a b c pre build))
-        (λ h.
-            let rest = second_true (b == 0) (c == 0 && not (is_empty pre)) h in
-            let minor : b ≡ 0 = is_same b 0 (first_true (b == 0) (c == 0 && not (is_empty pre)) h) in
-            let patch : c ≡ 0 = is_same c 0 (first_true (c == 0) (not (is_empty pre)) rest) in record {
-            is_version = released a b c build k.major k.minor k.patch k.build;
-            inside = record {
-                above = above_pre (version a b c pre build) (version a b c [] build) refl refl refl (some_left pre (second_true (c == 0) (not (is_empty pre)) rest));
-                release = refl; patch = patch; minor = minor };
-            least = λ w good next. le_numbers (version a b c [] build) w refl next.release
-                (major_upto (version a b c pre build) w (below_cases (version a b c pre build) w next.above)) (omega (arith, minor)) (omega (arith, patch));
-        })
-        (λ h. by_one (IsLeastOrOverflow (IsNextMajor (version a b c pre build))) a (λ n. Ok (version n 0 0 [] build))
-            (λ e w good next. full a w.major e (past h w next) good.major)
-            (λ other. record {
-                is_version = released (a + 1) 0 0 build (room a k.major other) (omega arith) (omega arith) k.build;
-                inside = record { above = above_major (version a b c pre build) (version (a + 1) 0 0 [] build) (omega arith); release = refl; patch = refl; minor = refl };
-                least = λ w good next. le_numbers (version (a + 1) 0 0 [] build) w refl next.release
-                    (omega (arith, past h w next)) (omega arith) (omega arith);
-            }))
+    (λ h.
+    let rest = second_true (b == 0) (c == 0 && not (is_empty pre)) h in
+    let minor : b ≡ 0 = is_same b 0 (first_true (b == 0) (c == 0 && not (is_empty pre)) h) in
+    let patch : c ≡ 0 = is_same c 0 (first_true (c == 0) (not (is_empty pre)) rest) in record {
+      is_version = released a b c build k.major k.minor k.patch k.build;
+      inside = record {
+        above = above_pre (version a b c pre build) (version a b c [] build) refl refl refl (some_left pre (second_true (c == 0) (not (is_empty pre)) rest));
+        release = refl;
+        patch = patch;
+        minor = minor;
+      };
+      least = λ w good next. le_numbers (version a b c [] build) w refl next.release
+          (major_upto (version a b c pre build) w (below_cases (version a b c pre build) w next.above)) (omega (arith, minor)) (omega (arith, patch));
+    })
+    (λ h. by_one (IsLeastOrOverflow (IsNextMajor (version a b c pre build))) a (λ n. Ok (version n 0 0 [] build))
+    (λ e w good next. full a w.major e (past h w next) good.major)
+    (λ other. record {
+      is_version = released (a + 1) 0 0 build (room a k.major other) (omega arith) (omega arith) k.build;
+      inside = record { above = above_major (version a b c pre build) (version (a + 1) 0 0 [] build) (omega arith); release = refl; patch = refl; minor = refl };
+      least = λ w good next. le_numbers (version (a + 1) 0 0 [] build) w refl next.release
+          (omega (arith, past h w next)) (omega arith) (omega arith);
+    }))
   where
     past : (b == 0 && (c == 0 && not (is_empty pre))) ≡ false → (w : VersionValue) → IsNextMajor (version a b c pre build) w → a < w.major
     past h w next = major_past (version a b c pre build) w next.minor next.patch (none_left_2 b c pre h) (below_cases (version a b c pre build) w next.above)
@@ -228,27 +234,27 @@ pub premajor_least : (v : VersionValue) → IsVersion v → IsLeastOrOverflow (I
 premajor_least v k = by_one (λ r. IsLeastOrOverflow (λ w. w.major ≡ v.major + 1) (r >>= pre_step [] (Value 0))) v.major (λ n. Ok (version n 0 0 [] v.build))
     (λ e w good next. full v.major w.major e (omega (arith, next)) good.major)
     (λ other. record {
-        is_version = first_is (v.major + 1) 0 0 v.build (room v.major k.major other) (omega arith) (omega arith) k.build;
-        inside = refl;
-        least = λ w good next. upto_patch (version (v.major + 1) 0 0 (Numeric 0 ∷ []) v.build) w (omega (arith, next)) (omega arith) (omega arith) (zero_least w.pre_release);
+      is_version = first_is (v.major + 1) 0 0 v.build (room v.major k.major other) (omega arith) (omega arith) k.build;
+      inside = refl;
+      least = λ w good next. upto_patch (version (v.major + 1) 0 0 (Numeric 0 ∷ []) v.build) w (omega (arith, next)) (omega arith) (omega arith) (zero_least w.pre_release);
     })
 
 pub preminor_least : (v : VersionValue) → IsVersion v → IsLeastOrOverflow (IsOfNextMinor v) (incremented v (codes "preminor") [] (Value 0))
 preminor_least v k = by_one (λ r. IsLeastOrOverflow (λ w. (w.major ≡ v.major) × (w.minor ≡ v.minor + 1)) (r >>= pre_step [] (Value 0))) v.minor (λ n. Ok (version v.major n 0 [] v.build))
     (λ e w good next. full v.minor w.minor e (omega (arith, next.1)) good.minor)
     (λ other. record {
-        is_version = first_is v.major (v.minor + 1) 0 v.build k.major (room v.minor k.minor other) (omega arith) k.build;
-        inside = (refl, refl);
-        least = λ w good next. upto_patch (version v.major (v.minor + 1) 0 (Numeric 0 ∷ []) v.build) w (omega (arith, next.0)) (omega (arith, next.1)) (omega arith) (zero_least w.pre_release);
+      is_version = first_is v.major (v.minor + 1) 0 v.build k.major (room v.minor k.minor other) (omega arith) k.build;
+      inside = (refl, refl);
+      least = λ w good next. upto_patch (version v.major (v.minor + 1) 0 (Numeric 0 ∷ []) v.build) w (omega (arith, next.0)) (omega (arith, next.1)) (omega arith) (zero_least w.pre_release);
     })
 
 pub prepatch_least : (v : VersionValue) → IsVersion v → IsLeastOrOverflow (IsOfNextPatch v) (incremented v (codes "prepatch") [] (Value 0))
 prepatch_least v k = by_one (λ r. IsLeastOrOverflow (λ w. (w.major ≡ v.major) × (w.minor ≡ v.minor) × (w.patch ≡ v.patch + 1)) (r >>= pre_step [] (Value 0))) v.patch (λ n. Ok (version v.major v.minor n [] v.build))
     (λ e w good next. full v.patch w.patch e (omega (arith, next.2)) good.patch)
     (λ other. record {
-        is_version = first_is v.major v.minor (v.patch + 1) v.build k.major k.minor (room v.patch k.patch other) k.build;
-        inside = (refl, refl, refl);
-        least = λ w good next. upto_patch (version v.major v.minor (v.patch + 1) (Numeric 0 ∷ []) v.build) w (omega (arith, next.0)) (omega (arith, next.1)) (omega (arith, next.2)) (zero_least w.pre_release);
+      is_version = first_is v.major v.minor (v.patch + 1) v.build k.major k.minor (room v.patch k.patch other) k.build;
+      inside = (refl, refl, refl);
+      least = λ w good next. upto_patch (version v.major v.minor (v.patch + 1) (Numeric 0 ∷ []) v.build) w (omega (arith, next.0)) (omega (arith, next.1)) (omega (arith, next.2)) (zero_least w.pre_release);
     })
 
 -- what is above a release is not below the first pre-release of its next patch
@@ -275,18 +281,18 @@ prerelease_of : (a b c : ℕ) (pre build : List Id) → IsVersion (version a b c
     → IsLeastAnswer (IsAbove (version a b c pre build)) (incremented (version a b c pre build) (codes "prerelease") [] (Value 0))
 prerelease_of a b c [] build k (release_below h lt) =
     by_one (λ r. IsLeastAnswer (IsAbove (version a b c [] build)) (r >>= pre_step [] (Value 0))) c (λ n. Ok (version a b n [] build))
-        (λ e. omega (arith, e, lt))
-        (λ other. record {
-            is_version = first_is a b (c + 1) build k.major k.minor (room c k.patch other) k.build;
-            inside = above_patch (version a b c [] build) (version a b (c + 1) (Numeric 0 ∷ []) build) refl refl (omega arith);
-            least = λ w good next. after_release a b c build w (below_cases (version a b c [] build) w next);
-        })
+    (λ e. omega (arith, e, lt))
+    (λ other. record {
+      is_version = first_is a b (c + 1) build k.major k.minor (room c k.patch other) k.build;
+      inside = above_patch (version a b c [] build) (version a b (c + 1) (Numeric 0 ∷ []) build) refl refl (omega arith);
+      least = λ w good next. after_release a b c build w (below_cases (version a b c [] build) w next);
+    })
 prerelease_of a b c [] build k (no_number h none) = cc
 prerelease_of a b c (x ∷ xs) build k (release_below h lt) = cc
 prerelease_of a b c (x ∷ xs) build k (no_number h none) = rw none (record {
-    is_version = record { major = k.major; minor = k.minor; patch = k.patch; pre_release = All-push IsId (x ∷ xs) (Numeric 0) k.pre_release (omega arith); build = k.build };
-    inside = above_pre (version a b c (x ∷ xs) build) (version a b c (x ∷ (xs ++ Numeric 0 ∷ [])) build) refl refl refl (below_more (x ∷ xs) (Numeric 0) []);
-    least = λ w good next. after_pre a b c x xs build w (below_cases (version a b c (x ∷ xs) build) w next);
+  is_version = record { major = k.major; minor = k.minor; patch = k.patch; pre_release = All-push IsId (x ∷ xs) (Numeric 0) k.pre_release (omega arith); build = k.build };
+  inside = above_pre (version a b c (x ∷ xs) build) (version a b c (x ∷ (xs ++ Numeric 0 ∷ [])) build) refl refl refl (below_more (x ∷ xs) (Numeric 0) []);
+  least = λ w good next. after_pre a b c x xs build w (below_cases (version a b c (x ∷ xs) build) w next);
 })
 
 pub prerelease_least : (v : VersionValue) → IsVersion v → CanStep v → IsLeastAnswer (IsAbove v) (incremented v (codes "prerelease") [] (Value 0))
@@ -332,10 +338,10 @@ step_above : (a b c : ℕ) (x : Id) (xs build : List Id) (base : IdentifierBase)
     → Above (version a b c (x ∷ xs) build) (pre_step [] base (version a b c (x ∷ xs) build))
 step_above a b c x xs build base = by (advance (x ∷ xs) [] base)
     (pick (AboveList (x ∷ xs)) (has_numeric (x ∷ xs)) (raise_last (x ∷ xs)) _
-        (raise_above (x ∷ xs))
-        (λ k. pick (AboveList (x ∷ xs)) (is_false base && bytes_eq [] (list_text (x ∷ xs))) (Err (InvalidIncrementArgument (codes "identifier already exists"))) (Ok (x ∷ xs ++ Numeric (first_number base) ∷ []))
-            (λ m. tt)
-            (λ m. below_more (x ∷ xs) (Numeric (first_number base)) [])))
+    (raise_above (x ∷ xs))
+    (λ k. pick (AboveList (x ∷ xs)) (is_false base && bytes_eq [] (list_text (x ∷ xs))) (Err (InvalidIncrementArgument (codes "identifier already exists"))) (Ok (x ∷ xs ++ Numeric (first_number base) ∷ []))
+    (λ m. tt)
+    (λ m. below_more (x ∷ xs) (Numeric (first_number base)) [])))
   where
     by : (r : Result (List Id) Fault) → AboveList (x ∷ xs) r
         → Above (version a b c (x ∷ xs) build) (r >>= λ list. Ok (version a b c (identify [] base list) build))
@@ -384,19 +390,19 @@ by_word_above : (a b c : ℕ) (pre build : List Id) (base : IdentifierBase) (wor
     → Above (version a b c pre build) (by_word word [] base (version a b c pre build))
 by_word_above a b c pre build base word can =
     pick (Above (version a b c pre build)) (bytes_eq word (codes "major")) _ _ (λ h. pick (Above (version a b c pre build)) (b == 0 && (c == 0 && not (is_empty pre))) (Ok (version a b c [] build)) (next_major (version a b c pre build))
-        (λ t. to_release a b c pre build base (not_true (second_true (c == 0) (not (is_empty pre)) (second_true (b == 0) (c == 0 && not (is_empty pre)) t)))) (λ t. major_up a b c pre build base)) (λ h.
+    (λ t. to_release a b c pre build base (not_true (second_true (c == 0) (not (is_empty pre)) (second_true (b == 0) (c == 0 && not (is_empty pre)) t)))) (λ t. major_up a b c pre build base)) (λ h.
     pick (Above (version a b c pre build)) (bytes_eq word (codes "minor")) _ _ (λ h. pick (Above (version a b c pre build)) (c == 0 && not (is_empty pre)) (Ok (version a b c [] build)) (next_minor (version a b c pre build))
-        (λ t. to_release a b c pre build base (not_true (second_true (c == 0) (not (is_empty pre)) t))) (λ t. minor_up a b c pre build base)) (λ h.
+    (λ t. to_release a b c pre build base (not_true (second_true (c == 0) (not (is_empty pre)) t))) (λ t. minor_up a b c pre build base)) (λ h.
     pick (Above (version a b c pre build)) (bytes_eq word (codes "patch")) _ _ (λ h. pick (Above (version a b c pre build)) (is_empty pre) (next_patch (version a b c pre build)) (Ok (version a b c [] build))
-        (λ t. patch_up a b c pre build base) (λ t. to_release a b c pre build base t)) (λ h.
+    (λ t. patch_up a b c pre build base) (λ t. to_release a b c pre build base t)) (λ h.
     pick (Above (version a b c pre build)) (bytes_eq word (codes "premajor")) _ _ (λ h. premajor_up a b c pre build base) (λ h.
     pick (Above (version a b c pre build)) (bytes_eq word (codes "preminor")) _ _ (λ h. preminor_up a b c pre build base) (λ h.
     pick (Above (version a b c pre build)) (bytes_eq word (codes "prepatch")) _ _ (λ h. prepatch_up a b c pre build base) (λ h.
     pick (Above (version a b c pre build)) (bytes_eq word (codes "prerelease")) _ _ (λ h. pick (Above (version a b c pre build)) (is_empty pre) (next_patch (version a b c pre build) >>= pre_step [] base) (pre_step [] base (version a b c pre build))
-        (λ t. prepatch_up a b c pre build base) (λ t. step_up a b c pre build base t)) (λ h.
+    (λ t. prepatch_up a b c pre build base) (λ t. step_up a b c pre build base t)) (λ h.
     pick (Above (version a b c pre build)) (bytes_eq word (codes "pre")) _ _ (λ h. step_up a b c pre build base (can h)) (λ h.
     pick (Above (version a b c pre build)) (bytes_eq word (codes "release")) _ _ (λ h. pick (Above (version a b c pre build)) (is_empty pre) (Err (NotAPrerelease (version_text (version a b c pre build)))) (Ok (version a b c [] build))
-        (λ t. tt) (λ t. to_release a b c pre build base t)) (λ h. tt)))))))))
+    (λ t. tt) (λ t. to_release a b c pre build base t)) (λ h. tt)))))))))
   where
     not_true : not (is_empty pre) ≡ true → is_empty pre ≡ false
     not_true h = by (is_empty pre) h
@@ -409,8 +415,8 @@ pub increment_above : (v r : VersionValue) (word : List ℕ) (base : IdentifierB
     → incremented v word [] base ≡ Ok r → IsAbove v r
 increment_above v r word base can is = subst (Above v) is
     (pick (λ t. Above v (t >>= λ _. by_word word [] base v)) (starts_with nat_eq word (codes "pre")) (checked [] base) (Ok tt)
-        (λ h. pick (λ t. Above v (t >>= λ _. by_word word [] base v)) (is_false base) (Err (InvalidIncrementArgument (codes "identifier is empty"))) (Ok tt) (λ t. tt) (λ t. up))
-        (λ h. up))
+    (λ h. pick (λ t. Above v (t >>= λ _. by_word word [] base v)) (is_false base) (Err (InvalidIncrementArgument (codes "identifier is empty"))) (Ok tt) (λ t. tt) (λ t. up))
+    (λ h. up))
   where
     up : Above v (by_word word [] base v)
     up = by_word_above v.major v.minor v.patch v.pre_release v.build base word (λ h. can ((bytes_eq-Decides word (codes "pre")).0 h))
@@ -449,7 +455,7 @@ by_word_keeps v word id base =
     pick (Keeps v.build) (bytes_eq word (codes "preminor")) _ _ (λ h. then_keeps v.build id base (next_minor v) (minor_keeps v)) (λ h.
     pick (Keeps v.build) (bytes_eq word (codes "prepatch")) _ _ (λ h. then_keeps v.build id base (next_patch v) (patch_keeps v)) (λ h.
     pick (Keeps v.build) (bytes_eq word (codes "prerelease")) _ _ (λ h. pick (Keeps v.build) (is_release v) (next_patch v >>= pre_step id base) (pre_step id base v)
-        (λ t. then_keeps v.build id base (next_patch v) (patch_keeps v)) (λ t. step_keeps v id base)) (λ h.
+    (λ t. then_keeps v.build id base (next_patch v) (patch_keeps v)) (λ t. step_keeps v id base)) (λ h.
     pick (Keeps v.build) (bytes_eq word (codes "pre")) _ _ (λ h. step_keeps v id base) (λ h.
     pick (Keeps v.build) (bytes_eq word (codes "release")) _ _ (λ h. pick (Keeps v.build) (is_release v) (Err (NotAPrerelease (version_text v))) (Ok (release_of v)) (λ t. tt) (λ t. refl)) (λ h. tt)))))))))
 

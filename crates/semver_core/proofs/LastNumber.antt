@@ -34,9 +34,12 @@ no_more (Numeric n ∷ xs) text h = cc
 text_more : (xs : List Id) (last : Option (ℕ × ℕ)) (text : List ℕ) → Tracks xs last → Tracks (xs ++ AlphaNumeric text ∷ []) last
 text_more xs None text h = no_more xs text h
 text_more xs (Some p) text h = record {
-    front = h.front; back = h.back ++ AlphaNumeric text ∷ [];
-    divided = ap (λ l. l ++ AlphaNumeric text ∷ []) h.divided ∙ append_assoc h.front (Numeric p.1 ∷ h.back) (AlphaNumeric text ∷ []);
-    place = h.place; ended = no_more h.back text h.ended }
+  front = h.front;
+  back = h.back ++ AlphaNumeric text ∷ [];
+  divided = ap (λ l. l ++ AlphaNumeric text ∷ []) h.divided ∙ append_assoc h.front (Numeric p.1 ∷ h.back) (AlphaNumeric text ∷ []);
+  place = h.place;
+  ended = no_more h.back text h.ended;
+}
 
 number_more : (xs : List Id) (i n : ℕ) → i ≡ length xs → Tracks (xs ++ Numeric n ∷ []) (Some (i, n))
 number_more xs i n e = record { front = xs; back = []; divided = refl; place = e; ended = refl }

@@ -12,10 +12,10 @@ use Rattle.semver_core.specs.declared.difference.VersionDiff.TheVariants.{Major,
 abbrev pub difference_up : VersionValue → VersionValue → VersionDiff
 difference_up low high =
     if not (is_release low) && is_release high then
-        (if low.minor == 0 && low.patch == 0 then Major
-        else if not (high.patch == 0) then Patch
-        else if not (high.minor == 0) then Minor
-        else Major)
+    (if low.minor == 0 && low.patch == 0 then Major
+    else if not (high.patch == 0) then Patch
+    else if not (high.minor == 0) then Minor
+    else Major)
     else if not (low.major == high.major) then (if is_release high then Major else PreMajor)
     else if not (low.minor == high.minor) then (if is_release high then Minor else PreMinor)
     else if not (low.patch == high.patch) then (if is_release high then Patch else PrePatch)

@@ -75,11 +75,23 @@ fn difference_up(low: &Version, high: &Version) -> VersionDiff
         };
     }
     if low.major() != high.major() {
-        if to_release { VersionDiff::Major } else { VersionDiff::PreMajor }
+        if to_release {
+            VersionDiff::Major
+        } else {
+            VersionDiff::PreMajor
+        }
     } else if low.minor() != high.minor() {
-        if to_release { VersionDiff::Minor } else { VersionDiff::PreMinor }
+        if to_release {
+            VersionDiff::Minor
+        } else {
+            VersionDiff::PreMinor
+        }
     } else if low.patch() != high.patch() {
-        if to_release { VersionDiff::Patch } else { VersionDiff::PrePatch }
+        if to_release {
+            VersionDiff::Patch
+        } else {
+            VersionDiff::PrePatch
+        }
     } else {
         VersionDiff::PreRelease
     }
@@ -105,3 +117,6 @@ impl Version {
         }
     }
 }
+
+#[cfg(test)]
+mod tests;

@@ -8,8 +8,8 @@ ghost use Rattle.semver_core.specs.IncrementView.{Answers, IfAnswered, fault_of}
 ghost use Rattle.semver_core.specs.IncrementSteps.{RefusedWith};
 ghost use Rattle.semver_core.specs.Versions.{IsVersion};
 
-use crate::{Failure, Version};
 use crate::increment::words::by_word;
+use crate::{Failure, Version};
 use std::alloc::{AllocError, Global};
 use thiserror::Error;
 
@@ -190,7 +190,13 @@ fn increment(
 ) -> Result<Version, Failure<IncrementError>>
     ensures { Answers (λ x. x) (spec.answer_of_inc version.now word.now (option_copied identifier.entry) base) result }
 {
-    by_checked_word(alloc, version, word, identifier.unwrap_or(""), base.unwrap_or_default())
+    by_checked_word(
+        alloc,
+        version,
+        word,
+        identifier.unwrap_or(""),
+        base.unwrap_or_default(),
+    )
 }
 
 // A version's numbers and identifiers are those of 64 bits. No effect at run time.
@@ -245,20 +251,23 @@ impl Version {
         ensures major { word.now ≡ codes "major" → IfAnswered (IsLeastOrOverflow (IsNextMajor self.now)) result }
         // Without identifier and with base 0: the least version of the next major, minor or patch, or Overflow.
         ensures premajor { word.now ≡ codes "premajor" → IsPlain (option_copied identifier.entry) base
-          → IfAnswered (IsLeastOrOverflow (IsOfNextMajor self.now)) result }
+            → IfAnswered (IsLeastOrOverflow (IsOfNextMajor self.now)) result }
         ensures preminor { word.now ≡ codes "preminor" → IsPlain (option_copied identifier.entry) base
-          → IfAnswered (IsLeastOrOverflow (IsOfNextMinor self.now)) result }
+            → IfAnswered (IsLeastOrOverflow (IsOfNextMinor self.now)) result }
         ensures prepatch { word.now ≡ codes "prepatch" → IsPlain (option_copied identifier.entry) base
-          → IfAnswered (IsLeastOrOverflow (IsOfNextPatch self.now)) result }
+            → IfAnswered (IsLeastOrOverflow (IsOfNextPatch self.now)) result }
         // And the least version above, where the patch can rise or the pre-release has no number.
         ensures prerelease { word.now ≡ codes "prerelease" → IsPlain (option_copied identifier.entry) base → CanStep self.now
-          → IfAnswered (IsLeastAnswer (IsAbove self.now)) result }
+            → IfAnswered (IsLeastAnswer (IsAbove self.now)) result }
         // Without identifier it goes up, save `pre` on a release.
         ensures above { HasNoIdentifier (option_copied identifier.entry) → (word.now ≡ codes "pre" → spec.is_release self.now ≡ false)
-          → IfOk result (IsAbove self.now) }
+            → IfOk result (IsAbove self.now) }
         ensures build { IfOk result (λ next. next.build ≡ self.now.build) }
     {
         is_version(self);
         increment(alloc, self, word, identifier, base)
     }
 }
+
+#[cfg(test)]
+mod tests;

@@ -121,7 +121,14 @@ fn with_parts(
 fn release_of(alloc: Global, version: &Version) -> Result<Version, Failure<IncrementError>>
     ensures { Answers (λ x. x) (Ok (spec.release_of version.now)) result }
 {
-    with_parts(alloc, version, version.major(), version.minor(), version.patch(), None)
+    with_parts(
+        alloc,
+        version,
+        version.major(),
+        version.minor(),
+        version.patch(),
+        None,
+    )
 }
 
 fn next_major(alloc: Global, version: &Version) -> Result<Version, Failure<IncrementError>>
@@ -133,13 +140,27 @@ fn next_major(alloc: Global, version: &Version) -> Result<Version, Failure<Incre
 fn next_minor(alloc: Global, version: &Version) -> Result<Version, Failure<IncrementError>>
     ensures { Answers (λ x. x) (spec.next_minor version.now) result }
 {
-    with_parts(alloc, version, version.major(), one_more(version.minor())?, 0, None)
+    with_parts(
+        alloc,
+        version,
+        version.major(),
+        one_more(version.minor())?,
+        0,
+        None,
+    )
 }
 
 fn next_patch(alloc: Global, version: &Version) -> Result<Version, Failure<IncrementError>>
     ensures { Answers (λ x. x) (spec.next_patch version.now) result }
 {
-    with_parts(alloc, version, version.major(), version.minor(), one_more(version.patch())?, None)
+    with_parts(
+        alloc,
+        version,
+        version.major(),
+        version.minor(),
+        one_more(version.patch())?,
+        None,
+    )
 }
 
 fn pre_step(
@@ -152,5 +173,12 @@ fn pre_step(
 {
     let list = advance(alloc, version.pre_release(), id, base)?;
     let list = identify(alloc, id, base, list)?;
-    with_parts(alloc, version, version.major(), version.minor(), version.patch(), Some(list))
+    with_parts(
+        alloc,
+        version,
+        version.major(),
+        version.minor(),
+        version.patch(),
+        Some(list),
+    )
 }

@@ -13,7 +13,7 @@ pub returns-in_err-more : goal.returns-in_err-more
 returns-in_err-more c =
     let view : Vec Identifier Global → List Id = λ v. ids_view v.items in
     subst (λ a. Answers {A = List Id} {B = Vec Identifier Global} view a c.from_residual.result)
-        (sym (raise_at (ids_view c.args.list.now) c.args.place c.args.number c.requires.last)) (search rules)
+    (sym (raise_at (ids_view c.args.list.now) c.args.place c.args.number c.requires.last)) (search rules)
 
 pub returns : goal.returns
 returns c = raise_at (ids_view c.args.list.now) c.args.place c.args.number c.requires.last
