@@ -3,3 +3,4 @@ pub mod RangeView
 pub mod Accepts
 pub mod SameRange
 pub mod SameLaws
+pub mod Lists
