@@ -7,3 +7,9 @@ pub mod Texts
 pub mod Blanks
 pub mod Clauses
 pub mod CutLaws
+pub mod Returns
+pub mod Prints
+pub mod Reread
+pub mod Spaces
+pub mod SpaceLaw
+pub mod Trims

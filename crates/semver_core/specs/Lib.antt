@@ -14,4 +14,9 @@ pub mod Triples
 pub mod PartsView
 pub mod ListView
 pub mod Parsing
+pub mod Normal
 pub mod Cuts
+pub mod Examples
+pub mod Spaces
+pub mod SpaceLaws
+pub mod SpaceExamples

@@ -1,4 +1,6 @@
-//! Versions as npm reads and orders them.
+//! Versions as npm reads, orders and prints them, and intervals over any order.
+//!
+//! Calls that allocate are passed the allocator and answer want of memory beside their own answers.
 #![tactic(auto)]
 
 ghost use Rattle.std.specs.Prelude.{◌≡◌};
@@ -6,6 +8,8 @@ ghost use Rattle.std.specs.Prelude.{◌≡◌};
 pub mod cuts;
 mod error;
 mod identifier;
+pub mod laws;
+mod print;
 pub mod readers;
 mod version;
 
