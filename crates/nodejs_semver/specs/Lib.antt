@@ -1,0 +1,6 @@
+pub mod Normal
+pub mod RangeView
+pub mod Accepts
+pub mod SameRange
+pub mod SameLaws
+pub mod Lists
