@@ -1,0 +1,2 @@
+//! Ranges of versions as npm reads them.
+#![tactic(auto)]
