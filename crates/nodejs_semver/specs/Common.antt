@@ -11,6 +11,7 @@ use Rattle.nodejs_semver.specs.Partials.{Partial, components_of, ◌>>=◌}
 use Rattle.nodejs_semver.specs.Runs.{fits}
 use Rattle.nodejs_semver.specs.Table.{bounds_of}
 use Rattle.nodejs_semver.specs.Words.{at_least, above, equal, at_most, below, Word, hyphen, plain, compare, tilde, caret, or_equal}
+
 -- a whole text that is a partial with neither `v` nor whitespace in front, and with no build
 abbrev pub unbuilt : Partial → Option Partial
 unbuilt p = elim p.build [ [] ↦ Some p | b ∷ bs ↦ None ]

@@ -10,6 +10,7 @@ use Rattle.nodejs_semver.specs.Table.{table, release, lowest}
 use Rattle.nodejs_semver.specs.Runs.{runs_from}
 use Rattle.nodejs_semver.specs.Denotes.{denotes}
 use Rattle.nodejs_semver.specs.Common.{is_common}
+
 -- ``
 row-empty : denotes 900719925474099 (codes "") ≡ (record { lower = Unbounded; upper = Unbounded }) ∷ []
 unfolding table is_boundary number_of space_len after_spaces drop_end_spaces cut_bars partial_of longest_within word_at words_within from_boundary runs_from

@@ -7,4 +7,8 @@ pub mod Runs
 pub mod Denotes
 pub mod Written
 pub mod Common
+pub mod Fronts
+pub mod PartFronts
+pub mod Meets
+pub mod Readings
 pub mod Examples
