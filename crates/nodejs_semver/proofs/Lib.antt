@@ -10,3 +10,6 @@ pub mod PartSteps
 pub mod Sound
 pub mod SoundPartial
 pub mod BarLemmas
+pub mod RunLemmas
+pub mod RunsUnique
+pub mod MeetLemmas
