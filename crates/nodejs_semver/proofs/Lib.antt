@@ -13,3 +13,7 @@ pub mod BarLemmas
 pub mod RunLemmas
 pub mod RunsUnique
 pub mod MeetLemmas
+pub mod RunsDivide
+pub mod Holds
+pub mod BarsDivide
+pub mod NumberLaw

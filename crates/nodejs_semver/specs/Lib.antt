@@ -6,6 +6,7 @@ pub mod Table
 pub mod Runs
 pub mod Denotes
 pub mod Written
+pub mod RangeLaws
 pub mod Common
 pub mod Fronts
 pub mod PartFronts

@@ -9,7 +9,7 @@ abbrev pub begins_bar : List ℕ → Bool
 begins_bar [] = false
 begins_bar (b ∷ rest) = is_bar b
 
-abbrev onto_first : ℕ → List (List ℕ) → List (List ℕ)
+abbrev pub onto_first : ℕ → List (List ℕ) → List (List ℕ)
 onto_first b [] = (b ∷ []) ∷ []
 onto_first b (part ∷ parts) = (b ∷ part) ∷ parts
 

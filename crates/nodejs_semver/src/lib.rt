@@ -1,4 +1,5 @@
 //! Ranges of versions as npm reads them.
 #![tactic(auto)]
 
+pub mod laws;
 mod readers;
