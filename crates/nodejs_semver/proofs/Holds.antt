@@ -11,7 +11,7 @@ use Rattle.semver_core.specs.Versions.{VersionValue}
 use Rattle.nodejs_semver.specs.Denotes.{denotes, everything, part_bounds, part_intervals}
 use Rattle.nodejs_semver.specs.Parts.{parts}
 use Rattle.nodejs_semver.specs.Runs.{Run, interval_of, runs_of}
-use Rattle.nodejs_semver.specs.Spaces.{is_empty}
+use Rattle.semver_core.specs.Spaces.{is_empty}
 use Rattle.nodejs_semver.specs.Written.{part_writes, run_writes, writes}
 use Rattle.nodejs_semver.proofs.RunLemmas.{run-holds}
 

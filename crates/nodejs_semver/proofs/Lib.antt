@@ -3,7 +3,6 @@ pub mod GateLaws
 pub mod AlgebraLaws
 pub mod SpanLaws
 pub mod AlgebraClauses
-pub mod Spaces
 pub mod Numbers
 pub mod Lists
 pub mod Longest

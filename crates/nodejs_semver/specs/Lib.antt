@@ -1,10 +1,8 @@
-pub mod Normal
 pub mod RangeView
 pub mod Accepts
 pub mod SameRange
 pub mod SameLaws
 pub mod Lists
-pub mod Spaces
 pub mod Parts
 pub mod Partials
 pub mod Words
