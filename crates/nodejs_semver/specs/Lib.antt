@@ -1,0 +1,3 @@
+pub mod Interim
+pub mod Least
+pub mod Candidates

@@ -1,0 +1,4 @@
+// Ranges, and the questions that they answer.
+
+mod interim;
+mod neighbours;
