@@ -5,15 +5,16 @@ use Rattle.std.specs.declared.cmp.Ordering.TheVariants.{Less, Equal, Greater}
 use Rattle.std.specs.Ordering.{ordering_reverse, ordering_then, is_lt, is_le, is_gt, is_eq, on, then_cmp, nat_cmp}
 use Rattle.std.specs.Cmp.{IsTotalOrder, upto, on_total, then_total, nat_cmp_total, tied_itself}
 use Rattle.std.specs.Cmp.Lexicographic.{slice_cmp}
+use Rattle.std.specs.Bool.{◌==◌}
 use Rattle.std.proofs.lemmas.Bool.Decides.{nat_tests}
 use Rattle.semver_core.specs.Identifiers.{Id, Numeric, AlphaNumeric}
 use Rattle.semver_core.specs.Order.{id_cmp, pre_cmp, precedence}
 use Rattle.semver_core.specs.OrderLaws.{id_total}
 use Rattle.semver_core.specs.Versions.{VersionValue}
-use Rattle.nodejs_semver.specs.Interim.{triple_cmp, is_release, is_empty}
+use Rattle.nodejs_semver.specs.Accepts.{is_release, is_empty, same_triple}
 use Rattle.nodejs_semver.specs.Candidates.{zero, release_of, first_pre, next_pre, next_patch}
 
--- answers of two steps
+-- tests of answers
 pub then_not_gt : (r s : Ordering) → is_gt (ordering_then r s) ≡ false → is_gt r ≡ false
 then_not_gt Less s h = refl
 then_not_gt Equal s h = refl
@@ -65,6 +66,27 @@ is_eq_is Equal h = refl
 is_eq_is Greater h = cc
 
 -- the order by the three numbers
+abbrev pub triple_cmp : VersionValue → VersionValue → Ordering
+triple_cmp = then_cmp (on (λ v. v.major) nat_cmp) (then_cmp (on (λ v. v.minor) nat_cmp) (on (λ v. v.patch) nat_cmp))
+
+-- equal numbers are tied ones
+pub same_triple_is : (v w : VersionValue) → same_triple v w ≡ is_eq (triple_cmp v w)
+same_triple_is v w =
+    ap (λ q. q && ((v.minor == w.minor) && (v.patch == w.patch))) (eq_is v.major w.major)
+    ∙ ap (λ q. is_eq (nat_cmp v.major w.major) && (q && (v.patch == w.patch))) (eq_is v.minor w.minor)
+    ∙ ap (λ q. is_eq (nat_cmp v.major w.major) && (is_eq (nat_cmp v.minor w.minor) && q)) (eq_is v.patch w.patch)
+    ∙ steps (nat_cmp v.major w.major) (nat_cmp v.minor w.minor) (nat_cmp v.patch w.patch)
+  where
+    eq_is : (m n : ℕ) → (m == n) ≡ is_eq (nat_cmp m n)
+    eq_is m n = grind (arith, nat_tests)
+
+    steps : (a b c : Ordering) → (is_eq a && (is_eq b && is_eq c)) ≡ is_eq (ordering_then a (ordering_then b c))
+    steps Less b c = refl
+    steps Equal Less c = refl
+    steps Equal Equal c = refl
+    steps Equal Greater c = refl
+    steps Greater b c = refl
+
 pub triple_total : IsTotalOrder triple_cmp
 triple_total = then_total (on_total (λ (v : VersionValue). v.major) nat_cmp_total) (then_total (on_total (λ (v : VersionValue). v.minor) nat_cmp_total) (on_total (λ (v : VersionValue). v.patch) nat_cmp_total))
 

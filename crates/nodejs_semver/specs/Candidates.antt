@@ -8,7 +8,7 @@ use Rattle.semver_core.specs.Order.{precedence}
 use Rattle.semver_core.specs.Versions.{VersionValue}
 use Rattle.semver_core.specs.declared.cuts.bound.Bound.{Bound}
 use Rattle.semver_core.specs.declared.cuts.bound.Bound.TheVariants.{Unbounded, Before, After}
-use Rattle.nodejs_semver.specs.Interim.{is_release}
+use Rattle.nodejs_semver.specs.Accepts.{is_release}
 
 -- the versions without a build that come first somewhere
 abbrev pub zero : VersionValue

@@ -7,7 +7,7 @@ use Rattle.semver_core.specs.Order.{precedence}
 use Rattle.semver_core.specs.Versions.{VersionValue}
 use Rattle.semver_core.specs.declared.cuts.bound.Bound.{Bound}
 use Rattle.semver_core.specs.declared.cuts.bound.Bound.TheVariants.{Unbounded, Before, After}
-use Rattle.nodejs_semver.specs.Interim.{is_release, lets_in, accepts}
+use Rattle.nodejs_semver.specs.Accepts.{is_release, lets_in, accepts}
 
 -- v is in the set, and nothing in the set is below v
 pub record IsLeast (set : VersionValue → Bool) (v : VersionValue) : Type 0 where
@@ -21,7 +21,7 @@ IsLeastOf set (Some v) = IsLeast set v
 
 -- the first list accepts the version, and the second does not
 abbrev pub beyond : List (Span VersionValue) → List (Span VersionValue) → VersionValue → Bool
-beyond kept removed v = accepts kept v && not (accepts removed v)
+beyond kept removed v = accepts kept v false && not (accepts removed v false)
 
 -- the version with which the spans of this lower bound begin, with the bound's build: that of `>=w` itself; of `>w` the
 -- next patch of a release, and a pre-release with one more identifier, the number 0

@@ -1,3 +1,5 @@
-pub mod Interim
+pub mod Normal
+pub mod RangeView
+pub mod Accepts
 pub mod Least
 pub mod Candidates
