@@ -15,8 +15,8 @@ use Rattle.semver_core.specs.OrderLaws.{precedence_total}
 use Rattle.semver_core.specs.Versions.{VersionValue}
 use Rattle.nodejs_semver.specs.Accepts.{is_release, lets_in, accepts}
 use Rattle.nodejs_semver.specs.Least.{IsLeast, IsLeastOf, beyond, begins_with, build_by, build_in, least_build}
-use Rattle.nodejs_semver.specs.Candidates.{zero, bare, release_of, after_cut, release_after, firsts, span_marks, span_firsts, candidates, improves, better, least_of}
-use Rattle.nodejs_semver.proofs.Keys.{triple_cmp, triple_total, le_not_gt, lt_not_gt, not_gt_le}
+use Rattle.nodejs_semver.specs.Candidates.{zero, bare, release_of, after_cut, release_after, firsts, span_marks, span_firsts, candidates, improves, better, least_of, is_reached, next_pre, next_patch}
+use Rattle.nodejs_semver.proofs.Keys.{triple_cmp, triple_total, le_not_gt, lt_not_gt, not_gt_le, next_patch_above, next_pre_above, release_above}
 use Rattle.nodejs_semver.proofs.LeastPieces.{In, Each, candidate, Covers, Alike, accepts_alike, lets_in_alike}
 
 -- the answer is in the set
@@ -209,3 +209,44 @@ least_build_built ks v b =
 
 pub none_accepted : (ks : List (Span VersionValue)) → ((v : VersionValue) → beyond ks [] v ≡ false) → (v : VersionValue) → accepts ks v false ≡ false
 none_accepted ks f v = sym (beyond-none ks v) ∙ f v
+
+-- a version with another build improves alike
+pub improves_bare : (best : Option VersionValue) (w : VersionValue) (ks ls : List (Span VersionValue)) → (improves best (bare w) && beyond ks ls (bare w)) ≡ (improves best w && beyond ks ls w)
+improves_bare best w ks ls =
+    ap (λ q. q && beyond ks ls (bare w)) (by_best best)
+    ∙ ap (λ q. improves best w && (q && not (accepts ls (bare w) false))) (accepts_built ks w [])
+    ∙ ap (λ q. improves best w && (accepts ks w false && not q)) (accepts_built ls w [])
+  where
+    by_best : (best : Option VersionValue) → improves best (bare w) ≡ improves best w
+    by_best None = refl
+    by_best (Some b) = refl
+
+-- nothing from w on improves on a best that is not above w
+no_better : (set : VersionValue → Bool) (best : Option VersionValue) (w x : VersionValue) → is_reached best w ≡ true → is_gt (precedence w x) ≡ false → better set best x ≡ best
+no_better set None w x h k = cc
+no_better set (Some b) w x h k =
+    ap (λ q. if q && set x then Some x else Some b)
+    (ap is_lt (precedence_total.antisymm x b) ∙ flipped (precedence b x) (upto precedence_total b w x (le_not_gt (precedence b w) h) k))
+  where
+    flipped : (r : Ordering) → is_gt r ≡ false → is_lt (ordering_reverse r) ≡ false
+    flipped Less h = refl
+    flipped Equal h = refl
+    flipped Greater h = cc
+
+reached : (set : VersionValue → Bool) (best : Option VersionValue) (w : VersionValue) (s : Side) → is_reached best w ≡ true → fold (better set) best (firsts (Beside w s)) ≡ best
+reached set best w s h = by_kind (is_release w) s refl
+  where
+    two : (x y : VersionValue) → is_gt (precedence w x) ≡ false → is_gt (precedence w y) ≡ false → better set (better set best x) y ≡ best
+    two x y k l = ap (λ b. better set b y) (no_better set best w x h k) ∙ no_better set best w y h l
+
+    by_kind : (r : Bool) (s : Side) → is_release w ≡ r → fold (better set) best (if r then release_after w s ∷ [] else release_of w ∷ after_cut w s ∷ []) ≡ best
+    by_kind true Near k = no_better set best w (bare w) h (ap is_gt (tied_itself precedence_total w))
+    by_kind true Far k = no_better set best w (next_patch w) h (ap is_gt (next_patch_above w))
+    by_kind false Near k = two (release_of w) (bare w) (ap is_gt (release_above w k)) (ap is_gt (tied_itself precedence_total w))
+    by_kind false Far k = two (release_of w) (next_pre w) (ap is_gt (release_above w k)) (ap is_gt (next_pre_above w k))
+
+pub reached_near : (set : VersionValue → Bool) (best : Option VersionValue) (w : VersionValue) → is_reached best w ≡ true → fold (better set) best (firsts (Beside w Near)) ≡ best
+reached_near set best w h = reached set best w Near h
+
+pub reached_far : (set : VersionValue → Bool) (best : Option VersionValue) (w : VersionValue) → is_reached best w ≡ true → fold (better set) best (firsts (Beside w Far)) ≡ best
+reached_far set best w h = reached set best w Far h

@@ -1,7 +1,7 @@
 -- The versions among which the least ones are found. These words serve proofs and private contracts alone.
 use Rattle.std.specs.Prelude.{◌+◌, Bool, true, false, ◌&&◌, List, [], ◌∷◌, ◌++◌, if◌then◌else◌, Option, Some, None, fold, ⊤, ◌<◌, ◌^◌, ◌-◌}
 use Rattle.std.specs.List.{flat_map}
-use Rattle.std.specs.Ordering.{is_lt}
+use Rattle.std.specs.Ordering.{is_le, is_lt}
 use Rattle.semver_core.specs.Cuts.{Span, Cut, Side, Start, Beside, End, Near, Far}
 use Rattle.semver_core.specs.Identifiers.{Id, Numeric}
 use Rattle.semver_core.specs.Order.{precedence}
@@ -82,3 +82,8 @@ Raisable (After w) = w.patch < 2 ^ 64 - 1
 
 abbrev pub IsRaisable : Span VersionValue → Type 0
 IsRaisable s = Raisable s.lower × Raisable s.upper
+
+-- the best so far is not above x: nothing from x on improves on it
+abbrev pub is_reached : Option VersionValue → VersionValue → Bool
+is_reached None x = false
+is_reached (Some b) x = is_le (precedence b x)

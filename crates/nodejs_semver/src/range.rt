@@ -1,4 +1,5 @@
 // Ranges, and the questions that they answer.
 
 mod interim;
+mod least;
 mod neighbours;
