@@ -1,3 +1,4 @@
 pub mod Keys
 pub mod LeastPieces
 pub mod LeastOf
+pub mod BestOf
