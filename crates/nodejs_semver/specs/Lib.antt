@@ -1,7 +1,10 @@
 pub mod Normal
 pub mod RangeView
 pub mod Accepts
+pub mod SameRange
+pub mod SameLaws
 pub mod Least
 pub mod Candidates
 pub mod Best
 pub mod Choosing
+pub mod Outside

@@ -1,4 +1,11 @@
-//! Ranges of versions as npm reads and answers them.
+//! Ranges of versions as npm reads them.
 #![tactic(auto)]
 
+pub mod laws;
 mod range;
+
+pub use crate::range::{OutsideDirection, Range, RangeError};
+pub use semver_core::{
+    Accepts, Failure, Identifier, MAX_LENGTH, MAX_SAFE_INTEGER, NegativeNumber, SemverError,
+    Version, VersionParts, cuts,
+};

@@ -14,11 +14,48 @@ ghost use Rattle.std.specs.Option.{option_copied};
 ghost use Rattle.std.specs.Ordering.{is_le};
 ghost use Rattle.std.specs.Prelude.{All, IfOk, IfSome, Some, None, OnOk, [], false, find, fold, ◌&&◌, ◌++◌, ◌-◌, ◌<◌, ◌≡◌, ◌^◌};
 
-use crate::range::interim::{accepts, accepts_one, is_release};
-use crate::range::neighbours::{bare, first_pre, next_patch, next_pre, release_of, with_build};
+use crate::Range;
+use crate::range::gate::{accepts, accepts_one};
+use crate::range::neighbours::{
+    bare, first_pre, is_release, next_patch, next_pre, release_of, with_build,
+};
 use semver_core::cuts::{Bound, Interval};
-use semver_core::{Identifier, Version};
+use semver_core::Version;
 use std::alloc::{AllocError, Global};
+
+impl Range {
+    /// The least version that the range accepts by `satisfies`, or `None` exactly where it accepts no version at all, as
+    /// `>1.0.0 <1.0.1-0`. The error is want of memory.
+    ///
+    /// Where the answer comes from a lower bound it has that bound's build: from `>=v` it is v itself, from `>v` the next
+    /// patch where v is a release, and else v with one more identifier, the number 0. So `>1.2.3+b` gives 1.2.4+b. An answer
+    /// that an upper bound alone lets in, as 1.0.1-0 for `>1.0.0 <1.0.1-5`, or one of an interval without a lower bound, has
+    /// no build. Of equal answers it is the one of the first interval.
+    ///
+    /// The time is at most that of asking `satisfies` for four versions a bound.
+    #[tactic(auto, using(crate::proofs::Raised::raisable))]
+    pub fn min_version(&self, alloc: Global) -> Result<Option<Version>, AllocError>
+        ensures least { IfOk result (λ r. stated.IsLeastOf (λ v. accepts self.now v false) r) }
+        ensures build { IfOk result (λ r. IfSome r (λ v. v.build ≡ stated.least_build self.now v)) }
+    {
+        least_accepted(alloc, self.intervals())
+    }
+
+    /// The least version that this range accepts by `satisfies` and the other does not, without a build, or `None` exactly
+    /// where the other accepts every version that this one accepts. The error is want of memory.
+    ///
+    /// It is not the least version of the difference of the two: `>=1.2.3-a` beyond `>=1.0.0` is 1.2.3-a, which the second
+    /// range holds and does not let in.
+    ///
+    /// The time is at most that of asking both ranges for four versions a bound of either of them.
+    #[tactic(auto, using(crate::proofs::Raised::raisable))]
+    pub fn least_beyond(&self, alloc: Global, other: &Range) -> Result<Option<Version>, AllocError>
+        ensures least { IfOk result (λ r. stated.IsLeastOf (stated.beyond self.now other.now) r) }
+        ensures build { IfOk result (λ r. IfSome r (λ v. v.build ≡ [])) }
+    {
+        least_beyond(alloc, self.intervals(), other.intervals())
+    }
+}
 
 // Whether the version is below the best so far, and the first list accepts it and the second does not.
 fn improves(
@@ -186,7 +223,7 @@ fn best_candidate(
 }
 
 // The least version that the first list accepts and the second does not, without a build.
-pub(crate) fn least_beyond(
+fn least_beyond(
     alloc: Global,
     kept: &[Interval<Version>],
     removed: &[Interval<Version>],
@@ -266,7 +303,7 @@ fn with_least_build(
 }
 
 // The least version that the list accepts.
-pub(crate) fn min_version(
+fn least_accepted(
     alloc: Global,
     intervals: &[Interval<Version>],
 ) -> Result<Option<Version>, AllocError>

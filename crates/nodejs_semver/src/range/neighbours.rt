@@ -1,11 +1,19 @@
 // Versions beside another one.
 
 ghost use Rattle.std.specs.Prelude.{◌≡◌, ◌+◌, ◌-◌, ◌<◌, ◌^◌, ◌++◌, [], IfOk};
+ghost use Rattle.nodejs_semver.specs.Accepts.{is_release};
 ghost use Rattle.nodejs_semver.specs.Candidates as spec;
 ghost use Rattle.semver_core.specs.Views.{ids_view};
 
 use semver_core::{Identifier, Version};
 use std::alloc::{AllocError, Global};
+
+// Whether the version has no pre-release.
+pub(crate) fn is_release(version: &Version) -> bool
+    ensures { result ≡ is_release version.now }
+{
+    version.pre_release().is_empty()
+}
 
 // The release of the same three numbers.
 pub(crate) fn release_of(version: &Version) -> Version

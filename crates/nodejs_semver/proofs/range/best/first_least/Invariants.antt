@@ -5,4 +5,4 @@ use Rattle.nodejs_semver.specs.Choosing.{chosen, is_below}
 use Rattle.nodejs_semver.proofs.range.best.first_least.Given as goal
 
 abbrev pub invariant-loop-version : goal.invariant-loop-version
-invariant-loop-version l = option_copied l.best ≡ chosen is_below (λ v. accepts l.intervals v false) (take l.version-index l.versions)
+invariant-loop-version l = option_copied l.best ≡ chosen is_below (λ v. accepts l.range v false) (take l.version-index l.versions)

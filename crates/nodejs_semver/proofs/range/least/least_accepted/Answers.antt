@@ -3,7 +3,7 @@ use Rattle.semver_core.specs.Versions.{VersionValue}
 use Rattle.nodejs_semver.specs.Accepts.{accepts}
 use Rattle.nodejs_semver.specs.Least.{beyond, IsLeast, IsLeastOf, least_build}
 use Rattle.nodejs_semver.proofs.LeastOf.{least_accepted, least_build_built}
-use Rattle.nodejs_semver.proofs.range.least.min_version.Goals as goal
+use Rattle.nodejs_semver.proofs.range.least.least_accepted.Goals as goal
 
 pub returns-in_ok-built-in-Some-clause-least : goal.returns-in_ok-built-in-Some-clause-least
 returns-in_ok-built-in-Some-clause-least c =

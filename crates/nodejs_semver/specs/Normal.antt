@@ -1,0 +1,15 @@
+-- Statement: identifiers that their own texts spell.
+use Rattle.std.specs.Prelude.{◌&&◌, ◌^◌, not, nat_lt, ℕ, Bool, List}
+use Rattle.std.specs.Char.{is_ascii_digit}
+use Rattle.std.specs.List.{list_all}
+use Rattle.std.specs.Str.Parse.{digits_value}
+use Rattle.semver_core.specs.Identifiers.{Id, Numeric, AlphaNumeric, is_run}
+
+-- the text is digits alone of a value that fits 64 bits
+abbrev pub is_u64_text : List ℕ → Bool
+is_u64_text text = list_all is_ascii_digit text && nat_lt (digits_value 10 text) (2 ^ 64)
+
+-- an identifier that its own text spells: a number of 64 bits, or a run that is not such a number
+abbrev pub is_normal : Id → Bool
+is_normal (Numeric n) = nat_lt n (2 ^ 64)
+is_normal (AlphaNumeric text) = is_run text && not (is_u64_text text)
