@@ -1,5 +1,5 @@
 -- A version that a range does not hold lies outside it exactly where each cut says so.
-use Rattle.std.proofs.Common.{◌≡◌, refl, sym, ◌∙◌, ap, Bool, true, false, ◌&&◌, ◌||◌, not, List, [], ◌∷◌, ◌⊎◌, inl, inr}
+use Rattle.std.proofs.Common.{◌≡◌, refl, sym, ◌∙◌, ap, ℕ, ◌+◌, Bool, true, false, ◌&&◌, ◌||◌, not, List, [], ◌∷◌, ◌⊎◌, inl, inr}
 use Rattle.std.specs.declared.cmp.Ordering.{Ordering}
 use Rattle.std.specs.declared.cmp.Ordering.TheVariants.{Less, Equal, Greater}
 use Rattle.std.specs.Ordering.{is_lt, is_gt}
@@ -11,7 +11,10 @@ use Rattle.semver_core.specs.OrderLaws.{precedence_total}
 use Rattle.semver_core.specs.Versions.{VersionValue}
 use Rattle.semver_core.specs.declared.cuts.bound.Bound.{Bound}
 use Rattle.semver_core.specs.declared.cuts.bound.Bound.TheVariants.{Unbounded, Before, After}
-use Rattle.nodejs_semver.specs.Outside.{is_bounded, lies_below, lies_above, is_outside, HigherByCuts, LowerByCuts}
+use Rattle.nodejs_semver.specs.Outside.{is_bounded, lies_below, lies_above, is_outside, is_outside_by_cuts}
+use Rattle.nodejs_semver.specs.declared.range.outside.OutsideDirection.{OutsideDirection}
+use Rattle.nodejs_semver.specs.declared.range.outside.OutsideDirection.TheVariants.{Higher, Lower}
+use Rattle.nodejs_semver.specs.RangeView.{IsRange, is_range_span, is_range_bound}
 use Rattle.nodejs_semver.proofs.Keys.{lt_not_gt}
 
 and_left : (a b : Bool) → (a && b) ≡ true → a ≡ true
@@ -74,7 +77,7 @@ along held test other ok each (s ∷ ss) h =
     regroup false true false d = refl
     regroup false false c d = refl
 
-pub higher_by_cuts : HigherByCuts
+higher_by_cuts : (ss : List (Span VersionValue)) (v : VersionValue) → list_all (is_interval precedence) ss ≡ true → is_outside Higher true ss v ≡ is_outside_by_cuts Higher ss v
 higher_by_cuts ss v h =
     along (λ s. holds precedence s v && true) (λ s. lies_below s v) (λ s. is_past precedence (upper_cut s.upper) v) (is_interval precedence) each ss h
   where
@@ -83,7 +86,7 @@ higher_by_cuts ss v h =
         ap (λ q. not q && lies_below s v) (and_true (holds precedence s v))
         ∙ higher_one (is_past precedence (lower_cut s.lower) v) (is_past precedence (upper_cut s.upper) v) (is_bounded s.upper) (both_past s v e) (unbounded_above s.upper v)
 
-pub lower_by_cuts : LowerByCuts
+lower_by_cuts : (ss : List (Span VersionValue)) (v : VersionValue) → list_all (is_interval precedence) ss ≡ true → is_outside Lower true ss v ≡ is_outside_by_cuts Lower ss v
 lower_by_cuts ss v h =
     along (λ s. holds precedence s v && true) (λ s. lies_above s v) (λ s. not (is_past precedence (lower_cut s.lower) v)) (is_interval precedence) each ss h
   where
@@ -91,3 +94,14 @@ lower_by_cuts ss v h =
     each s e =
         ap (λ q. not q && lies_above s v) (and_true (holds precedence s v))
         ∙ lower_one (is_past precedence (lower_cut s.lower) v) (is_past precedence (upper_cut s.upper) v) (is_bounded s.lower) (is_bounded s.upper) (both_past s v e) (unbounded_below s.lower v) (unbounded_above s.upper v)
+
+-- a range is a list of intervals
+intervals : (limit : ℕ) (ss : List (Span VersionValue)) → list_all (is_range_span limit) ss ≡ true → list_all (is_interval precedence) ss ≡ true
+intervals limit [] h = refl
+intervals limit (s ∷ ss) h =
+    ap (λ q. q && list_all (is_interval precedence) ss) (and_left (is_interval precedence s) (is_range_bound limit s.lower && is_range_bound limit s.upper) (and_left (is_range_span limit s) (list_all (is_range_span limit) ss) h))
+    ∙ intervals limit ss (and_right (is_range_span limit s) (list_all (is_range_span limit) ss) h)
+
+pub by_cuts : (d : OutsideDirection) (limit : ℕ) (ss : List (Span VersionValue)) (v : VersionValue) → IsRange limit ss → is_outside d true ss v ≡ is_outside_by_cuts d ss v
+by_cuts Higher limit ss v h = higher_by_cuts ss v (intervals (limit + 1) ss h.each)
+by_cuts Lower limit ss v h = lower_by_cuts ss v (intervals (limit + 1) ss h.each)

@@ -1,7 +1,7 @@
 -- Statement: versions that lie outside a range, above or below it.
-use Rattle.std.specs.Prelude.{◌≡◌, ◌==◌, ℕ, Bool, true, false, ◌&&◌, ◌||◌, not, if◌then◌else◌, List, [], ◌∷◌, Result, Ok, Err}
+use Rattle.std.specs.Prelude.{◌==◌, ℕ, Bool, true, false, ◌&&◌, ◌||◌, not, if◌then◌else◌, List, [], ◌∷◌, Result, Ok, Err}
 use Rattle.std.specs.List.{list_all}
-use Rattle.semver_core.specs.Cuts.{Span, is_interval, is_past, lower_cut, upper_cut}
+use Rattle.semver_core.specs.Cuts.{Span, is_past, lower_cut, upper_cut}
 use Rattle.semver_core.specs.Order.{precedence}
 use Rattle.semver_core.specs.Versions.{VersionValue}
 use Rattle.semver_core.specs.declared.cuts.bound.Bound.{Bound}
@@ -40,12 +40,7 @@ direction_char Lower = 60
 abbrev pub direction_of : ℕ → Result OutsideDirection RangeError
 direction_of c = if c == 62 then Ok Higher else if c == 60 then Ok Lower else Err (InvalidOutsideDirection c)
 
--- where pre-releases are included, a version is above a list of intervals exactly where it lies past each upper cut, and
--- below it exactly where it lies before each lower cut
-abbrev pub HigherByCuts : Type 0
-HigherByCuts = (ss : List (Span VersionValue)) (v : VersionValue) → list_all (is_interval precedence) ss ≡ true
-    → is_outside Higher true ss v ≡ list_all (λ s. is_past precedence (upper_cut s.upper) v) ss
-
-abbrev pub LowerByCuts : Type 0
-LowerByCuts = (ss : List (Span VersionValue)) (v : VersionValue) → list_all (is_interval precedence) ss ≡ true
-    → is_outside Lower true ss v ≡ list_all (λ s. not (is_past precedence (lower_cut s.lower) v)) ss
+-- the version lies past each upper cut, or before each lower cut
+abbrev pub is_outside_by_cuts : OutsideDirection → List (Span VersionValue) → VersionValue → Bool
+is_outside_by_cuts Higher ss v = list_all (λ s. is_past precedence (upper_cut s.upper) v) ss
+is_outside_by_cuts Lower ss v = list_all (λ s. not (is_past precedence (lower_cut s.lower) v)) ss

@@ -28,11 +28,11 @@ use Rattle.semver_core.specs.declared.identifier.Identifier.{Identifier}
 digits_test : IsDigitsTest (λ ds. list_all is_ascii_digit ds ≡ true)
 digits_test = search rules
 
-numerals : IsNumeralModel (λ ds. list_all is_ascii_digit ds ≡ true) (digits_value 10)
+pub numerals : IsNumeralModel (λ ds. list_all is_ascii_digit ds ≡ true) (digits_value 10)
 numerals = numerals_by_value _ digits_test
 
 -- a run of digits is the number where it fits
-of_digits : (run : List ℕ) → list_all is_ascii_digit run ≡ true → digits_value 10 run < 2 ^ 64 → identifier_of run ≡ Numeric (digits_value 10 run)
+pub of_digits : (run : List ℕ) → list_all is_ascii_digit run ≡ true → digits_value 10 run < 2 ^ 64 → identifier_of run ≡ Numeric (digits_value 10 run)
 of_digits run d small =
     let fits : ltb (digits_value 10 run) (2 ^ 64) ≡ true = grind (arith, nat_tests) in
     rw (d, fits) refl

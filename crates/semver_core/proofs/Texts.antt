@@ -2,7 +2,7 @@
 use Rattle.std.proofs.Common.{◌≡◌, ◌==◌, ◌<◌, ◌+◌, ℕ, Bool, true, false, List, [], ◌∷◌, ◌++◌, length, drop, take, Option, Some, None, refl, sym, ap, ◌∙◌, subst, arith, inl, inr, eqb, cond, append_assoc, add-zero}
 use Rattle.std.proofs.lemmas.Bool.{cases_Bool, eqb-true}
 use Rattle.semver_core.specs.Characters.{begins, is_identifier_char, IsBlank}
-use Rattle.semver_core.specs.Grammar.{HasNoVersion, HasVersionWithIdentifiers, IsMark, IsPreRelease, IsBuild, Reads, begins_pre_release, begins_build}
+use Rattle.semver_core.specs.Grammar.{HasNoVersion, HasOneReading, HasVersionWithIdentifiers, IsMark, IsPreRelease, IsBuild, Reads, begins_pre_release, begins_build}
 use Rattle.semver_core.specs.Grammar.{dashed, bare, no_pre_release, plus, no_build, no_mark, small_mark, capital_mark}
 use borrow.Author.Tests.{eq-eqb}
 use Rattle.std.specs.Option.{IsSomeAnd, IfSome, IfNone}
@@ -277,7 +277,7 @@ digit_low c h = grind (arith, nat_tests)
 no_digit_white : (c : ℕ) → is_ascii_digit c ≡ true → is_whitespace c ≡ true → ⊥
 no_digit_white c h k = grind (arith, nat_tests)
 
-small_digit : (t : List ℕ) → begins is_ascii_digit t ≡ true → BeginsBlank t → ⊥
+pub small_digit : (t : List ℕ) → begins is_ascii_digit t ≡ true → BeginsBlank t → ⊥
 small_digit [] h b = cc
 small_digit (c ∷ rest) h b =
     let low : c < 128 = digit_low c h in
@@ -320,13 +320,13 @@ mark_is (c ∷ rest) = elim (cases_Bool (eqb c 118)) [
   ]
 ]
 
-digit_no_mark : (c : ℕ) → is_ascii_digit c ≡ true → (eqb c 118 || eqb c 86) ≡ true → ⊥
+pub digit_no_mark : (c : ℕ) → is_ascii_digit c ≡ true → (eqb c 118 || eqb c 86) ≡ true → ⊥
 digit_no_mark c h m = grind (arith, nat_tests)
 
 white_mark : (c : ℕ) → is_whitespace c ≡ true → (eqb c 118 || eqb c 86) ≡ true → ⊥
 white_mark c h m = grind (arith, nat_tests)
 
-no_mark_at : (c : ℕ) (t : List ℕ) → ((eqb c 118 || eqb c 86) ≡ true → ⊥) → mark_len (c ∷ t) ≡ 0
+pub no_mark_at : (c : ℕ) (t : List ℕ) → ((eqb c 118 || eqb c 86) ≡ true → ⊥) → mark_len (c ∷ t) ≡ 0
 no_mark_at c t never = elim (cases_Bool (eqb c 118 || eqb c 86)) [
   | inl mark ↦ absurd (never mark)
   | inr none ↦ rw none refl
@@ -352,7 +352,7 @@ past_mark text mark D no_mark e none = rw (e, none) refl
 past_mark text mark D small_mark e none = rw e refl
 past_mark text mark D capital_mark e none = rw e refl
 
-number_begins : (d r : List ℕ) → 0 < length d → list_all is_ascii_digit d ≡ true → begins is_ascii_digit (d ++ r) ≡ true
+pub number_begins : (d r : List ℕ) → 0 < length d → list_all is_ascii_digit d ≡ true → begins is_ascii_digit (d ++ r) ≡ true
 number_begins [] r some each = absurd (omega arith)
 number_begins (c ∷ d) r some each = first_so (is_ascii_digit c) (list_all is_ascii_digit d) each
 
@@ -366,7 +366,7 @@ loose_some limit text start v a e =
     version_sound limit text (take k text) (slice_range text k start) start v
     (sym (take-append-drop k text) ∙ ap (λ r. take k text ++ r) rest) (mark_is text) a.blank e
 
-loose_at : (limit : ℕ) (text : List ℕ) (start : ℕ) (v : VersionValue) → IsAfterBlank text (mark_len text) start → Reads limit text v → version_at limit text start ≡ Some v
+pub loose_at : (limit : ℕ) (text : List ℕ) (start : ℕ) (v : VersionValue) → IsAfterBlank text (mark_len text) start → Reads limit text v → version_at limit text start ≡ Some v
 loose_at limit text start v a r =
     let k = mark_len text in
     let D = r.major ++ 46 ∷ (r.minor ++ 46 ∷ (r.patch ++ (r.pre_release ++ (r.build ++ r.rest)))) in
@@ -400,3 +400,7 @@ found_some limit text start (Some v) a e = loose_some limit text start v a (sym 
 pub found_none : (limit : ℕ) (text : List ℕ) (start : ℕ) (found : Option VersionValue) → IsAfterBlank text (mark_len text) start → found ≡ version_at limit text start → IfNone found (HasNoVersion limit text)
 found_none limit text start None a e = loose_none limit text start a (sym e)
 found_none limit text start (Some v) a e = tt
+
+-- one version at most stands at the front of a text
+pub one_reading : (text : List ℕ) (start : ℕ) → IsAfterBlank text (mark_len text) start → HasOneReading text
+one_reading text start a = λ limit v w r s. some_inside v w (sym (loose_at limit text start v a r) ∙ loose_at limit text start w a s)

@@ -14,4 +14,17 @@ pub mod Triples
 pub mod PartsView
 pub mod ListView
 pub mod Parsing
+pub mod Normal
 pub mod Cuts
+pub mod Increment
+pub mod IncrementView
+pub mod IncrementSteps
+pub mod IncrementLeast
+pub mod IncrementRows
+pub mod Successors
+pub mod Difference
+pub mod DifferenceRows
+pub mod Examples
+pub mod Spaces
+pub mod SpaceLaws
+pub mod SpaceExamples

@@ -9,6 +9,8 @@ ghost use Rattle.semver_core.specs.Identifiers.{Id, identifier_of, is_run, goes_
 ghost use Rattle.semver_core.specs.Numbers.{IsWholeNumber};
 ghost use Rattle.semver_core.specs.Reading.{number_at, list_at};
 ghost use Rattle.semver_core.specs.Views.{id_view, ids_view, list_view};
+ghost use Rattle.semver_core.specs.Characters.{IsTrim};
+ghost use Rattle.semver_core.specs.Spaces.{drop_end_spaces};
 
 use crate::{Identifier, MAX_SAFE_INTEGER};
 use std::alloc::{AllocError, Global};
@@ -24,7 +26,10 @@ fn is_whitespace(character: char) -> bool
 }
 
 #[tactic(auto, using(crate::proofs::Blanks::passed_none, crate::proofs::Blanks::passed_more, crate::proofs::Blanks::passed_room, crate::proofs::Blanks::passed_stop, crate::proofs::Blanks::passed_end))]
-/// The place after the whitespace at a place.
+/// The place behind the whitespace that begins at a place, which is that place itself where none stands there.
+///
+/// Whitespace is tab to carriage return, the space, U+00A0, U+1680, U+2000 to U+200A, U+2028, U+2029, U+202F, U+205F,
+/// U+3000 and U+FEFF, as in node-semver. A place is a byte index on a character boundary.
 pub fn skip_whitespace(text: &str, at: usize) -> usize
     requires { IsCharBoundary text.now at }
     ensures { IsAfterBlank text.now at result }
@@ -39,6 +44,35 @@ pub fn skip_whitespace(text: &str, at: usize) -> usize
     end
 }
 
+/// The text without the whitespace at its front and at its end: a part of the text, empty where the text is whitespace
+/// alone.
+///
+/// Whitespace is what JavaScript's `trim` takes off: U+0009 to U+000D, U+0020, U+00A0, U+1680, U+2000 to U+200A,
+/// U+2028, U+2029, U+202F, U+205F, U+3000 and U+FEFF. U+0085, U+180E and U+200B are no whitespace.
+///
+/// `trim(" \u{FEFF}1.x || 2 ")` is `"1.x || 2"`.
+pub fn trim(text: &str) -> &str
+    ensures middle { IsTrim text.now result.now }
+{
+    let start = skip_whitespace(text, 0);
+    trim_end(&text[start..])
+}
+
+// The text without the whitespace at its end.
+fn trim_end(text: &str) -> &str
+    ensures { result.now ≡ drop_end_spaces text.now }
+{
+    let mut rest = text;
+    let mut before = text.chars();
+    'spaces: while let Some(character) = before.next_back() {
+        if !is_whitespace(character) {
+            return rest;
+        }
+        rest = before.as_str();
+    }
+    rest
+}
+
 // What a run of digits gives that ended after `count` of them.
 fn ended(value: u64, at: usize, end: usize) -> Option<(u64, usize)>
     requires { at ≤ end }
@@ -47,7 +81,10 @@ fn ended(value: u64, at: usize, end: usize) -> Option<(u64, usize)>
     if end == at { None } else { Some((value, end)) }
 }
 
-/// The number at a place before which no digit stands, and the place after it.
+/// The number at a place, and the place behind it: a whole run of ASCII digits, leading zeros allowed, of a value up to
+/// `MAX_SAFE_INTEGER`. A run of a greater value is no number and is not cut short.
+///
+/// The place is one before which no digit stands; at any other the run is what is left of it from there on.
 pub fn number(text: &str, at: usize) -> Option<(u64, usize)>
     requires { at ≤ length text.now }
     // What is found is a whole run of digits.
@@ -90,7 +127,7 @@ fn digits(bytes: &[u8], at: usize) -> Option<(u64, usize)>
     ended(value, at, bytes.len())
 }
 
-fn is_identifier_char(byte: u8) -> bool
+pub(crate) fn is_identifier_char(byte: u8) -> bool
     ensures { result ≡ is_identifier_char byte }
 {
     byte.is_ascii_alphanumeric() || byte == b'-'
@@ -192,7 +229,10 @@ fn run_at(text: &str, start: usize) -> &str
     &text[start..end]
 }
 
-/// The longest identifier list at a place, and the place after it. It takes no memory where none begins there.
+/// The identifier list at a place, read as long as possible, and the place behind it: runs of ASCII letters, digits and `-`,
+/// joined by dots. A dot that no such character follows does not belong to it.
+///
+/// `None` where no such character stands there, which takes no memory; the error is want of memory.
 pub fn identifiers(
     alloc: Global,
     text: &str,

@@ -1,8 +1,9 @@
-use Rattle.nodejs_semver.proofs.OutsideLaw as law
+use Rattle.std.proofs.Common.{◌∙◌, ap, Ok}
+use Rattle.semver_core.specs.declared.TheConstants.{MAX_SAFE_INTEGER}
+use Rattle.nodejs_semver.proofs.OutsideLaw.{by_cuts}
 use Rattle.nodejs_semver.proofs.laws.outside.outside_by_cuts.Goals as goal
 
-pub returns-clause-higher : goal.returns-clause-higher
-returns-clause-higher c = law.higher_by_cuts
-
-pub returns-clause-lower : goal.returns-clause-lower
-returns-clause-lower c = law.lower_by_cuts
+pub returns : goal.returns
+returns c =
+    c.outside.ensures
+    ∙ ap Ok (by_cuts c.args.direction MAX_SAFE_INTEGER c.args.range.now c.args.version.now c.intervals.ensures.valid)

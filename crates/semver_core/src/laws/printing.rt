@@ -1,0 +1,32 @@
+// Printed versions come back.
+
+ghost use Rattle.std.specs.Prelude.{◌≡◌, ◌≤◌, ⊤, IfOk, IfErr, length};
+ghost use Rattle.semver_core.specs.Normal.{IsReadable, VersionsComeBack};
+ghost use Rattle.semver_core.specs.Parsing.{MatchFailure};
+ghost use Rattle.semver_core.specs.Printed.{version_text};
+
+use crate::{Failure, MAX_LENGTH, MAX_SAFE_INTEGER, SemverError, Version};
+use std::alloc::Global;
+
+/// Printed versions come back: a text that is a printed version reads as that version, build included, and as no other.
+/// Its numbers are at most the limit, and each of its texts is a run of identifier characters that is not a number of
+/// 64 bits in digits. An `AlphaNumeric` that holds `12`, or a dot, does not come back.
+pub fn printed_versions_come_back(text: &str)
+    ensures { VersionsComeBack text.now }
+{
+    let _ = text;
+}
+
+/// A version that is printed and read again. The answer is the version itself, build included; it is wanting only where
+/// memory is.
+pub fn reread(alloc: Global, version: &Version) -> Result<Version, Failure<SemverError>>
+    requires readable { IsReadable MAX_SAFE_INTEGER version.now }
+    requires short { length (version_text version.now) ≤ MAX_LENGTH }
+    ensures same { IfOk result (λ again. again ≡ version.now) }
+    ensures never_refused { IfErr result (λ e. MatchFailure e ⊥ ⊤) }
+{
+    match version.to_string(alloc) {
+        Ok(text) => Version::parse(alloc, &text),
+        Err(error) => Err(Failure::Memory(error)),
+    }
+}
