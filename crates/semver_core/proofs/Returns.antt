@@ -1,11 +1,10 @@
 -- Serves proofs: a printed version reads as itself.
-use Rattle.std.proofs.Common.{zero, suc, drop, take, Some, refl, ◌≡◌, ◌&&◌, ◌<◌, ◌≤◌, ◌^◌, ◌+◌, ◌==◌, ℕ, Bool, true, false, ltb, List, [], ◌∷◌, ◌++◌, length, map, sym, ap, ◌∙◌, arith, rules, inl, inr, eqb, subst, append_assoc, append-nil}
+use Rattle.std.proofs.Common.{zero, suc, Some, refl, ◌≡◌, ◌<◌, ◌≤◌, ◌^◌, ◌==◌, ℕ, Bool, true, false, ltb, List, [], ◌∷◌, ◌++◌, length, map, sym, ap, ◌∙◌, arith, eqb, subst, append-nil}
 use Rattle.std.specs.Prelude.{not}
-use Rattle.std.proofs.lemmas.Bool.{cases_Bool, lt-ltb}
-use borrow.Author.Tests.{ltb-true, eq-eqb}
+use Rattle.std.proofs.lemmas.Bool.{lt-ltb}
+use borrow.Author.Tests.{ltb-true}
 use Rattle.std.proofs.lemmas.Bool.Decides.{nat_tests}
 use Rattle.std.proofs.lemmas.Fmt.{decimal_is_IsNumeral, digits_decimal, digits_value-decimal}
-use Rattle.std.proofs.lemmas.Str.Parse.{IsDigitsTest, IsNumeralModel, numerals_by_value}
 use Rattle.std.proofs.lemmas.List.Splits.{slice_split_none, slice_split_at}
 use Rattle.std.specs.Cmp.{first_so, second_so}
 use Rattle.std.specs.Fmt.{decimal}
@@ -13,15 +12,15 @@ use Rattle.std.specs.Char.{is_ascii_digit}
 use Rattle.std.specs.List.{list_all, join_with_byte, All}
 use Rattle.std.specs.Str.Parse.{digits_value}
 use Rattle.semver_core.specs.Characters.{begins, is_identifier_char, IsBlank}
-use Rattle.semver_core.specs.Identifiers.{Id, Numeric, AlphaNumeric, identifier_of, is_run, pieces, goes_on, IsIdentifiers, IsLongestIdentifiers}
-use Rattle.semver_core.specs.Numbers.{IsNumber, IsWholeNumber}
+use Rattle.semver_core.specs.Identifiers.{Id, Numeric, AlphaNumeric, identifier_of, is_run, pieces, goes_on, IsIdentifiers}
+use Rattle.semver_core.specs.Numbers.{IsNumber}
 use Rattle.semver_core.specs.Versions.{VersionValue}
-use Rattle.semver_core.specs.Grammar.{Reads, IsPreRelease, IsBuild, no_mark, dashed, no_pre_release, plus, no_build, begins_build, begins_pre_release}
+use Rattle.semver_core.specs.Grammar.{Reads, IsPreRelease, IsBuild, no_mark, dashed, no_pre_release, plus, no_build, begins_pre_release}
 use Rattle.semver_core.specs.Printed.{id_text, marked_list, version_text}
 use Rattle.semver_core.specs.Normal.{is_u64_text, is_normal, IsReadable, PrintedBack, VersionsComeBack}
 use Rattle.semver_core.specs.declared.TheConstants.{MAX_LENGTH}
 use Rattle.semver_core.specs.Parsing.{Parses}
-use Rattle.std.specs.Prelude.{IsUtf8, slice_range}
+use Rattle.std.specs.Prelude.{IsUtf8}
 use Rattle.std.proofs.lemmas.Str.{IsCharBoundary-start}
 use Rattle.semver_core.specs.Characters.{IsAfterBlank}
 use Rattle.semver_core.specs.Reading.{version_at, mark_len}

@@ -13,4 +13,5 @@ pub mod VersionView
 pub mod ListView
 pub mod Parsing
 pub mod Normal
+pub mod PrintedRows
 pub mod Cuts

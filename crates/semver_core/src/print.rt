@@ -52,3 +52,6 @@ impl fmt::Display for Version {
         write_list("+", self.build(), f)
     }
 }
+
+#[cfg(test)]
+mod tests;
