@@ -2,7 +2,7 @@
 use Rattle.std.proofs.Common.{◌≡◌, ◌==◌, ◌<◌, ◌+◌, ℕ, Bool, true, false, List, [], ◌∷◌, ◌++◌, length, drop, take, Option, Some, None, refl, sym, ap, ◌∙◌, subst, arith, inl, inr, eqb, cond, append_assoc, add-zero}
 use Rattle.std.proofs.lemmas.Bool.{cases_Bool, eqb-true}
 use Rattle.semver_core.specs.Characters.{begins, is_identifier_char, IsBlank}
-use Rattle.semver_core.specs.Grammar.{HasNoVersion, HasVersionWithIdentifiers, IsMark, IsPreRelease, IsBuild, Reads, begins_pre_release, begins_build}
+use Rattle.semver_core.specs.Grammar.{HasNoVersion, HasOneReading, HasVersionWithIdentifiers, IsMark, IsPreRelease, IsBuild, Reads, begins_pre_release, begins_build}
 use Rattle.semver_core.specs.Grammar.{dashed, bare, no_pre_release, plus, no_build, no_mark, small_mark, capital_mark}
 use borrow.Author.Tests.{eq-eqb}
 use Rattle.std.specs.Option.{IsSomeAnd, IfSome, IfNone}
@@ -400,3 +400,7 @@ found_some limit text start (Some v) a e = loose_some limit text start v a (sym 
 pub found_none : (limit : ℕ) (text : List ℕ) (start : ℕ) (found : Option VersionValue) → IsAfterBlank text (mark_len text) start → found ≡ version_at limit text start → IfNone found (HasNoVersion limit text)
 found_none limit text start None a e = loose_none limit text start a (sym e)
 found_none limit text start (Some v) a e = tt
+
+-- one version at most stands at the front of a text
+pub one_reading : (text : List ℕ) (start : ℕ) → IsAfterBlank text (mark_len text) start → HasOneReading text
+one_reading text start a = λ limit v w r s. some_inside v w (sym (loose_at limit text start v a r) ∙ loose_at limit text start w a s)

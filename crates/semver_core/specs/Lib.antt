@@ -10,8 +10,11 @@ pub mod Reading
 pub mod Hashes
 pub mod OrderLaws
 pub mod VersionView
+pub mod Triples
+pub mod PartsView
 pub mod ListView
 pub mod Parsing
 pub mod Normal
 pub mod PrintedRows
 pub mod Cuts
+pub mod Examples

@@ -8,6 +8,11 @@ use thiserror::Error;
 #[error("Invalid semantic version or range")]
 pub struct SemverError;
 
+/// A version has no negative numbers.
+#[derive(Clone, Copy, PartialEq, Eq, Debug, Error)]
+#[error("a number is negative")]
+pub struct NegativeNumber;
+
 /// Why a call that reads or computes gave no value: its input was refused, or memory was missing.
 #[derive(Debug, Drop)]
 pub enum Failure<E> {

@@ -1,6 +1,7 @@
 // Identifiers: what they are, their order, equality and hash.
 
-ghost use Rattle.std.specs.Prelude.{◌≡◌, Some, refl};
+ghost use Rattle.std.specs.Prelude.{◌≡◌, Some, refl, IfOk, OnErr};
+ghost use Rattle.semver_core.specs.Identifiers.{IsText};
 ghost use Rattle.std.specs.Cmp.{eq_by_cmp_equiv, on_equiv, on_per, on_po, on_total, partial_equiv_from_equiv, po};
 ghost use Rattle.std.specs.Ordering.{is_eq, eq_by_cmp};
 ghost use Rattle.semver_core.specs.Hashes.{id_writes};
@@ -8,6 +9,7 @@ ghost use Rattle.semver_core.specs.Order.{id_cmp};
 ghost use Rattle.semver_core.specs.OrderLaws.{id_alike, id_total};
 ghost use Rattle.semver_core.specs.Views.{id_view};
 
+use std::alloc::{AllocError, Global};
 use std::cmp::Ordering;
 use std::hash::{Hash, Hasher};
 
@@ -20,6 +22,19 @@ pub enum Identifier {
     Numeric(u64),
     /// Any other run of ASCII letters, digits and `-`. One that is made by hand may hold any text.
     AlphaNumeric(String),
+}
+
+impl Identifier {
+    /// The same identifier again. The error is want of memory, which a number takes none of.
+    pub fn copy(&self, alloc: Global) -> Result<Identifier, AllocError>
+        ensures whole { IfOk result (λ i. id_view i ≡ id_view self.now) }
+        ensures memory { OnErr result (IsText (id_view self.now)) }
+    {
+        match self {
+            Identifier::Numeric(number) => Ok(Identifier::Numeric(*number)),
+            Identifier::AlphaNumeric(text) => Ok(Identifier::AlphaNumeric(text.clone()?)),
+        }
+    }
 }
 
 impl PartialEq for Identifier {

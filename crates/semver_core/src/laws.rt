@@ -1,5 +1,10 @@
-//! Laws of the definitions, each the contract of a function.
+//! Laws over the definitions alone. Each is the contract of a function that does nothing, or hardly anything, else; no
+//! caller needs this module.
 
+mod order;
 mod printing;
+mod reading;
 
+pub use crate::laws::order::{identifiers_in_order, versions_in_order};
 pub use crate::laws::printing::{printed_versions_come_back, reread};
+pub use crate::laws::reading::{constants, one_reading};

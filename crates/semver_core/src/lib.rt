@@ -1,4 +1,6 @@
-//! Versions as npm reads and orders them.
+//! Versions as npm reads, orders and prints them, and intervals over any order.
+//!
+//! Calls that allocate are passed the allocator and answer want of memory beside their own answers.
 #![tactic(auto)]
 
 ghost use Rattle.std.specs.Prelude.{◌≡◌};
@@ -11,9 +13,11 @@ mod print;
 pub mod readers;
 mod version;
 
-pub use crate::error::{Failure, SemverError};
+pub use crate::error::{Failure, NegativeNumber, SemverError};
 pub use crate::identifier::Identifier;
 pub use crate::version::Version;
+pub use crate::version::accepts::Accepts;
+pub use crate::version::parts::VersionParts;
 
 pub mod scan;
 

@@ -2,4 +2,5 @@
 
 mod loose;
 
+pub(crate) use crate::readers::loose::front_of_numbers;
 pub use crate::readers::loose::version_loose;

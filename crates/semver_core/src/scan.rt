@@ -24,7 +24,10 @@ fn is_whitespace(character: char) -> bool
 }
 
 #[tactic(auto, using(crate::proofs::Blanks::passed_none, crate::proofs::Blanks::passed_more, crate::proofs::Blanks::passed_room, crate::proofs::Blanks::passed_stop, crate::proofs::Blanks::passed_end))]
-/// The place after the whitespace at a place.
+/// The place behind the whitespace that begins at a place, which is that place itself where none stands there.
+///
+/// Whitespace is tab to carriage return, the space, U+00A0, U+1680, U+2000 to U+200A, U+2028, U+2029, U+202F, U+205F,
+/// U+3000 and U+FEFF, as in node-semver. A place is a byte index on a character boundary.
 pub fn skip_whitespace(text: &str, at: usize) -> usize
     requires { IsCharBoundary text.now at }
     ensures { IsAfterBlank text.now at result }
@@ -47,7 +50,10 @@ fn ended(value: u64, at: usize, end: usize) -> Option<(u64, usize)>
     if end == at { None } else { Some((value, end)) }
 }
 
-/// The number at a place before which no digit stands, and the place after it.
+/// The number at a place, and the place behind it: a whole run of ASCII digits, leading zeros allowed, of a value up to
+/// `MAX_SAFE_INTEGER`. A run of a greater value is no number and is not cut short.
+///
+/// The place is one before which no digit stands; at any other the run is what is left of it from there on.
 pub fn number(text: &str, at: usize) -> Option<(u64, usize)>
     requires { at ≤ length text.now }
     // What is found is a whole run of digits.
@@ -192,7 +198,10 @@ fn run_at(text: &str, start: usize) -> &str
     &text[start..end]
 }
 
-/// The longest identifier list at a place, and the place after it. It takes no memory where none begins there.
+/// The identifier list at a place, read as long as possible, and the place behind it: runs of ASCII letters, digits and `-`,
+/// joined by dots. A dot that no such character follows does not belong to it.
+///
+/// `None` where no such character stands there, which takes no memory; the error is want of memory.
 pub fn identifiers(
     alloc: Global,
     text: &str,

@@ -1,24 +1,25 @@
-// Versions: five values, their order, equality and hash.
+// Versions: five values.
 
 ghost use Rattle.std.specs.Prelude.{◌≡◌, ◌↔◌, Some, refl, IsTrue, IfOk, IfErr, All, true, false, length, ◌<◌};
-ghost use Rattle.std.specs.Cmp.{eq_by_cmp_equiv, partial_equiv_from_equiv, po};
-ghost use Rattle.std.specs.Ordering.{is_eq};
-ghost use Rattle.semver_core.specs.Hashes.{version_writes};
-ghost use Rattle.semver_core.specs.Order.{precedence, pre_cmp};
-ghost use Rattle.semver_core.specs.OrderLaws.{precedence_total, version_alike};
 ghost use Rattle.semver_core.specs.Parsing.{Parses, IsRefused, NeedsMemory, MatchFailure};
 ghost use Rattle.semver_core.specs.Versions.{VersionValue, IsVersion, IsId};
 ghost use Rattle.semver_core.specs.ListView.{list_ids};
 ghost use Rattle.semver_core.specs.Views.{ids_view, id_view};
 
+pub mod accepts;
+mod convert;
+mod order;
+pub mod parts;
+
 use crate::readers::version_loose;
 use crate::{Failure, Identifier, MAX_LENGTH, MAX_SAFE_INTEGER, SemverError};
 use std::alloc::Global;
-use std::cmp::Ordering;
-use std::hash::{Hash, Hasher};
 use std::marker::Model;
 
-/// A version: major, minor and patch, a pre-release and build metadata.
+/// A version: three numbers, a pre-release and build metadata (SemVer 2.0.0).
+///
+/// Two versions are equal, and hash alike, where their numbers and pre-releases are: build metadata does not count.
+/// The numbers are of 64 bits; those that are read from a text are at most `MAX_SAFE_INTEGER`.
 #[derive(Debug, Drop)]
 pub struct Version {
     major: u64,
@@ -51,7 +52,14 @@ fn items(list: &Option<Vec<Identifier>>) -> &[Identifier]
 }
 
 impl Version {
-    /// Reads the version at the front of a text of at most 256 bytes. Whatever follows it is ignored.
+    /// Reads the version at the front of a text of at most `MAX_LENGTH` bytes.
+    ///
+    /// The version is `v` or `V` or nothing, whitespace or none, three numbers joined by dots, a pre-release (behind `-`, which
+    /// may be missing) and build metadata (behind `+`), as node-semver's loose grammar has it. Whatever follows is ignored:
+    /// `1.2.3.4` is read as `1.2.3`.
+    ///
+    /// `Refused` comes exactly where the text is longer or has no version at its front; `Memory` only where the version has a
+    /// pre-release or build metadata.
     pub fn parse(alloc: Global, text: &str) -> Result<Version, Failure<SemverError>>
         // What is read is a version of the text.
         ensures ok { IfOk result (λ v. Parses MAX_SAFE_INTEGER text.now v) }
@@ -95,7 +103,7 @@ impl Version {
         }
     }
 
-    /// The major number.
+    /// The first number, which is raised for incompatible changes.
     pub fn major(&self) -> u64
         ensures value { result ≡ self.now.major }
         ensures valid { IsVersion self.now }
@@ -103,6 +111,7 @@ impl Version {
         self.major
     }
 
+    /// The second number, which is raised for compatible additions.
     pub fn minor(&self) -> u64
         ensures value { result ≡ self.now.minor }
         ensures valid { IsVersion self.now }
@@ -110,6 +119,7 @@ impl Version {
         self.minor
     }
 
+    /// The third number, which is raised for compatible fixes.
     pub fn patch(&self) -> u64
         ensures value { result ≡ self.now.patch }
         ensures valid { IsVersion self.now }
@@ -117,7 +127,7 @@ impl Version {
         self.patch
     }
 
-    /// The identifiers of the pre-release.
+    /// The identifiers of the pre-release; none where the version is a release.
     pub fn pre_release(&self) -> &[Identifier]
         ensures value { ids_view result.now ≡ self.now.pre_release }
         ensures valid { IsVersion self.now }
@@ -125,6 +135,7 @@ impl Version {
         items(&self.pre_release)
     }
 
+    /// The identifiers of the build metadata, which no comparison looks at.
     pub fn build(&self) -> &[Identifier]
         ensures value { ids_view result.now ≡ self.now.build }
         ensures valid { IsVersion self.now }
@@ -132,79 +143,11 @@ impl Version {
         items(&self.build)
     }
 
-    /// Whether the version has a pre-release.
+    /// Whether the version is a pre-release: its list of pre-release identifiers is not empty.
     pub fn is_prerelease(&self) -> bool
         ensures { IsTrue result ↔ (0 < length self.now.pre_release) }
     {
         !self.pre_release().is_empty()
-    }
-}
-
-#[tactic(auto, using(crate::proofs::Compared::pre_view))]
-fn cmp_pre(a: &[Identifier], b: &[Identifier]) -> Ordering
-    ensures { result ≡ pre_cmp (ids_view a.now) (ids_view b.now) }
-{
-    match (a.is_empty(), b.is_empty()) {
-        (true, true) => Ordering::Equal,
-        (true, false) => Ordering::Greater,
-        (false, true) => Ordering::Less,
-        (false, false) => a.cmp(b),
-    }
-}
-
-impl PartialEq for Version {
-    ghost eq = { λ v w. is_eq (precedence v w) };
-
-    ghost laws = { partial_equiv_from_equiv (eq_by_cmp_equiv precedence_total) };
-
-    fn eq(&self, other: &Version) -> bool {
-        self.cmp(other).is_eq()
-    }
-}
-
-impl Eq for Version {
-    ghost laws = { eq_by_cmp_equiv precedence_total };
-}
-
-impl PartialOrd for Version {
-    ghost partial_cmp = { λ v w. Some (precedence v w) };
-
-    ghost laws = { po precedence_total (λ x y. refl) };
-
-    fn partial_cmp(&self, other: &Version) -> Option<Ordering> {
-        Some(self.cmp(other))
-    }
-}
-
-impl Ord for Version {
-    ghost cmp = { precedence };
-
-    ghost total = { precedence_total };
-
-    ghost matches_partial_cmp = { λ v w. refl };
-
-    ghost matches_eq = { λ v w. refl };
-
-    fn cmp(&self, other: &Version) -> Ordering {
-        self.major()
-            .cmp(&other.major())
-            .then(self.minor().cmp(&other.minor()))
-            .then(self.patch().cmp(&other.patch()))
-            .then(cmp_pre(self.pre_release(), other.pre_release()))
-    }
-}
-
-impl Hash for Version {
-    ghost hash_input = { version_writes };
-
-    ghost respects_eq = { version_alike };
-
-    #[tactic(auto, using(crate::proofs::Compared::writes_view))]
-    fn hash<H: Hasher>(&self, state: &mut H) {
-        self.major().hash(state);
-        self.minor().hash(state);
-        self.patch().hash(state);
-        self.pre_release().hash(state);
     }
 }
 

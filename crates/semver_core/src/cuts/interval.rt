@@ -10,7 +10,10 @@ use crate::cuts::order::{
 use std::alloc::{AllocError, Global};
 use std::marker::Model;
 
-/// The points between a lower and an upper bound, the first below the second.
+/// The points between a lower and an upper bound. The cut of the lower bound is below that of the upper one; that no point
+/// lies between them is no hindrance.
+///
+/// Intervals are equal, and hash alike, where both bounds are of the same kind and at equal points.
 #[derive(Drop)]
 #[derive_where(PartialEq, Eq)]
 #[derive_where(Hash; V)]
@@ -33,6 +36,7 @@ impl<V: Point> Model for Interval<V> {
 }
 
 impl<V: Point> Interval<V> {
+    /// The bound below the interval.
     pub fn lower(&self) -> &Bound<V>
         ensures value { result.now ≡ self.now.lower }
         ensures ordered { is_interval V.cmp self.now ≡ true }
@@ -40,12 +44,14 @@ impl<V: Point> Interval<V> {
         &self.lower
     }
 
+    /// The bound above the interval.
     pub fn upper(&self) -> &Bound<V>
         ensures { result.now ≡ self.now.upper }
     {
         &self.upper
     }
 
+    /// The whole interval again. The error is want of memory.
     pub fn copy(&self, alloc: Global) -> Result<Interval<V>, AllocError>
         ensures { IfOk result (λ i. i ≡ self.now) }
     {
@@ -54,7 +60,8 @@ impl<V: Point> Interval<V> {
         Ok(Interval { lower, upper })
     }
 
-    /// None exactly where the lower cut is not below the upper one.
+    /// The interval between two bounds, and `None` exactly where the cut of the lower one is not below that of the upper one.
+    /// The cut after v is below the cut before w exactly where `v < w`.
     pub fn new(lower: Bound<V>, upper: Bound<V>) -> Option<Interval<V>>
         ensures { result ≡ interval V.cmp (record { lower = lower; upper = upper }) }
     {
@@ -65,13 +72,14 @@ impl<V: Point> Interval<V> {
         }
     }
 
+    /// Whether the point lies between the two cuts.
     pub fn contains(&self, point: &V) -> bool
         ensures { result ≡ holds V.cmp self.now point.now }
     {
         is_past_lower(&self.lower, point) && !is_past_upper(&self.upper, point)
     }
 
-    /// Whether the other lies within, as cuts.
+    /// Whether the other interval lies within this one: its lower cut is not below, and its upper cut not above.
     pub fn covers(&self, other: &Interval<V>) -> bool
         ensures { result ≡ (is_le (cut_cmp V.cmp (lower_cut self.now.lower) (lower_cut other.now.lower)) && is_le (cut_cmp V.cmp (upper_cut other.now.upper) (upper_cut self.now.upper))) }
     {
@@ -79,6 +87,7 @@ impl<V: Point> Interval<V> {
             && upper_order(&other.upper, &self.upper).is_le()
     }
 
+    /// Whether the two have an interval in common, be there a point in it or not.
     pub fn meets(&self, other: &Interval<V>) -> bool
         ensures { result ≡ is_some (meet V.cmp self.now other.now) }
     {
@@ -88,7 +97,8 @@ impl<V: Point> Interval<V> {
         )
     }
 
-    /// What both hold. Of equal lower bounds the other's is kept, of equal upper bounds self's.
+    /// What both have in common: the greater lower bound and the lesser upper bound, if that is an interval. Of equal lower
+    /// bounds the other's is kept, of equal upper bounds self's. The error is want of memory.
     pub fn intersect(
         &self,
         alloc: Global,
@@ -113,7 +123,8 @@ impl<V: Point> Interval<V> {
         Ok(Some(Interval { lower, upper }))
     }
 
-    /// The remainders below and above the other: a copy of self, then None, where the two do not meet.
+    /// What is left of the interval below the other one, and above it. A new bound is the other's turned round, so `>=v`
+    /// leaves `<v`. Where the two do not meet, all is left: a copy of self, then `None`. The error is want of memory.
     pub fn subtract(
         &self,
         alloc: Global,

@@ -1,7 +1,7 @@
 //! The reader of version texts.
 
 ghost use Rattle.std.specs.Prelude.{◌≡◌, ◌==◌, ◌≤◌, ◌<◌, ◌+◌, length, drop, None, Some, Option, IfOk, IfSome, IfNone, IsSomeAnd, IsCharBoundary, OnErr};
-ghost use Rattle.semver_core.specs.Characters.{begins};
+ghost use Rattle.semver_core.specs.Characters.{begins, IsAfterBlank};
 ghost use Rattle.semver_core.specs.Grammar.{Reads, HasNoVersion, HasVersionWithIdentifiers};
 ghost use Rattle.semver_core.specs.ListView.{list_ids};
 ghost use Rattle.semver_core.specs.Reading.{past, triple_at, pre_release_at, build_at, version_at, mark_len};
@@ -117,8 +117,19 @@ fn after_mark(text: &str) -> usize
     mark_len(text.as_bytes())
 }
 
+// The place behind the mark and the whitespace at the front.
+#[inline(always)]
+pub(crate) fn front_of_numbers(text: &str) -> usize
+    ensures { IsAfterBlank text.now (mark_len text.now) result }
+{
+    scan::skip_whitespace(text, after_mark(text))
+}
+
 #[tactic(auto, using(crate::proofs::Texts::found_some, crate::proofs::Texts::found_none, crate::proofs::Texts::loose_memory))]
-/// The version at the front of a text. Whatever follows it is ignored.
+/// The version at the front of a text of any length, read as `Version::parse` reads it; whatever follows it is ignored.
+///
+/// `None` where the text has none. The error is want of memory, which comes only where the version has a pre-release or build
+/// metadata.
 pub fn version_loose(alloc: Global, text: &str) -> Result<Option<Version>, AllocError>
     // What is read is a version of the text.
     ensures some { IfOk result (λ found. IfSome found (λ v. Reads MAX_SAFE_INTEGER text.now v)) }
@@ -127,6 +138,5 @@ pub fn version_loose(alloc: Global, text: &str) -> Result<Option<Version>, Alloc
     // Memory is missing only where the text has a version with identifiers.
     ensures memory { OnErr result (HasVersionWithIdentifiers MAX_SAFE_INTEGER text.now) }
 {
-    let start = scan::skip_whitespace(text, after_mark(text));
-    version_from(alloc, text, start)
+    version_from(alloc, text, front_of_numbers(text))
 }
