@@ -1,0 +1,15 @@
+pub mod Spaces
+pub mod Numbers
+pub mod Lists
+pub mod Longest
+pub mod Boundaries
+pub mod Pieces
+pub mod Reaches
+pub mod Progress
+pub mod PartSteps
+pub mod Sound
+pub mod SoundPartial
+pub mod BarLemmas
+pub mod RunLemmas
+pub mod RunsUnique
+pub mod MeetLemmas

@@ -1,0 +1,14 @@
+pub mod Spaces
+pub mod Parts
+pub mod Partials
+pub mod Words
+pub mod Table
+pub mod Runs
+pub mod Denotes
+pub mod Written
+pub mod Common
+pub mod Fronts
+pub mod PartFronts
+pub mod Meets
+pub mod Readings
+pub mod Examples

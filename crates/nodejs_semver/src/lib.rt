@@ -1,0 +1,4 @@
+//! Ranges of versions as npm reads them.
+#![tactic(auto)]
+
+mod readers;
