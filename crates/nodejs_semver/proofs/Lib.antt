@@ -13,3 +13,4 @@ pub mod BarLemmas
 pub mod RunLemmas
 pub mod RunsUnique
 pub mod MeetLemmas
+pub mod ListLaws

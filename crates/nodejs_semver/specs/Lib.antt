@@ -12,3 +12,7 @@ pub mod PartFronts
 pub mod Meets
 pub mod Readings
 pub mod Examples
+pub mod RangeView
+pub mod Accepts
+pub mod SameRange
+pub mod SameLaws

@@ -1,4 +1,11 @@
 //! Ranges of versions as npm reads them.
 #![tactic(auto)]
 
+mod range;
 mod readers;
+
+pub use crate::range::Range;
+pub use semver_core::{
+    Accepts, Failure, Identifier, MAX_LENGTH, MAX_SAFE_INTEGER, NegativeNumber, SemverError,
+    Version, VersionParts, cuts,
+};
