@@ -14,3 +14,5 @@ pub mod RunLemmas
 pub mod RunsUnique
 pub mod MeetLemmas
 pub mod ListLaws
+pub mod PrintedVersions
+pub mod PrintedWords

@@ -16,3 +16,5 @@ pub mod RangeView
 pub mod Accepts
 pub mod SameRange
 pub mod SameLaws
+pub mod Printed
+pub mod ComesBack

@@ -78,7 +78,7 @@ chars_no_dot [] h k d lt = absurd (grind arith)
 chars_no_dot (c ∷ run) h zero d lt = not_dot c (first_so (is_identifier_char c) (list_all is_identifier_char run) h)
 chars_no_dot (c ∷ run) h (suc k) d lt = chars_no_dot run (second_so (is_identifier_char c) (list_all is_identifier_char run) h) k d (omega arith)
 
-run_chars : (run : List ℕ) → is_run run ≡ true → list_all is_identifier_char run ≡ true
+pub run_chars : (run : List ℕ) → is_run run ≡ true → list_all is_identifier_char run ≡ true
 run_chars run h = second_so (ltb 0 (length run)) (list_all is_identifier_char run) h
 
 -- runs joined by dots are cut at the dots into the same runs
@@ -89,11 +89,11 @@ pieces_joined run (next ∷ runs) h =
     slice_split_at (λ c. c == 46) run 46 (join_with_byte 46 (next ∷ runs)) one refl
     ∙ ap (λ l. run ∷ l) (pieces_joined next runs (second_so (is_run run) (list_all is_run (next ∷ runs)) h))
 
-ids_runs : (ids : List Id) → list_all is_normal ids ≡ true → list_all is_run (map id_text ids) ≡ true
+pub ids_runs : (ids : List Id) → list_all is_normal ids ≡ true → list_all is_run (map id_text ids) ≡ true
 ids_runs [] h = refl
 ids_runs (id ∷ ids) h = rw (id_run id (first_so (is_normal id) (list_all is_normal ids) h), ids_runs ids (second_so (is_normal id) (list_all is_normal ids) h)) refl
 
-ids_spelled : (ids : List Id) → list_all is_normal ids ≡ true → ids ≡ map identifier_of (map id_text ids)
+pub ids_spelled : (ids : List Id) → list_all is_normal ids ≡ true → ids ≡ map identifier_of (map id_text ids)
 ids_spelled [] h = refl
 ids_spelled (id ∷ ids) h =
     let one = id_spelled id (first_so (is_normal id) (list_all is_normal ids) h) in

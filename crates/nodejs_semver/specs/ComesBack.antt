@@ -1,0 +1,56 @@
+-- Statement: which ranges come back from their printed text, and what is read from it.
+use Rattle.std.specs.Prelude.{ℕ, ◌≡◌, ◌<◌, ◌^◌, Bool, true, false, List, [], ◌∷◌, map, length, if◌then◌else◌}
+use Rattle.std.specs.List.{AllByRecursion}
+use Rattle.semver_core.specs.Cuts.{Span, is_interval}
+use Rattle.semver_core.specs.Normal.{IsReadable}
+use Rattle.semver_core.specs.Order.{precedence}
+use Rattle.semver_core.specs.Versions.{VersionValue}
+use Rattle.semver_core.specs.declared.cuts.bound.Bound.{Bound}
+use Rattle.semver_core.specs.declared.cuts.bound.Bound.TheVariants.{Unbounded, Before, After}
+use Rattle.nodejs_semver.specs.Denotes.{denotes}
+use Rattle.nodejs_semver.specs.Printed.{range_text, ties}
+use Rattle.nodejs_semver.specs.SameRange.{range_eq}
+
+-- the version of the bound, if there is one, reads as itself
+abbrev pub IsReadableBound : ℕ → Bound VersionValue → Type 0
+IsReadableBound limit Unbounded = Unit {0}
+IsReadableBound limit (Before v) = IsReadable limit v
+IsReadableBound limit (After v) = IsReadable limit v
+
+-- the interval is not the one without bounds, which prints `*`
+abbrev pub has_bound : Bound VersionValue → Bound VersionValue → Bool
+has_bound Unbounded Unbounded = false
+has_bound lower upper = true
+
+abbrev pub is_bounded : Span VersionValue → Bool
+is_bounded s = has_bound s.lower s.upper
+
+-- an interval that is not `*` and whose versions are readable
+pub record IsPrintable (limit : ℕ) (s : Span VersionValue) : Type 0 where
+  pub proper : is_interval precedence s ≡ true
+  pub bounded : is_bounded s ≡ true
+  pub lower : IsReadableBound limit s.lower
+  pub upper : IsReadableBound limit s.upper
+
+-- the interval that is read from a printed one: where its ends tie, the printed version stands for both
+abbrev pub bounds_back : Bound VersionValue → Bound VersionValue → Span VersionValue
+bounds_back (Before v) (After w) = if ties v w then record { lower = Before v; upper = After v } else record { lower = Before v; upper = After w }
+bounds_back lower upper = record { lower = lower; upper = upper }
+
+abbrev pub read_back : Span VersionValue → Span VersionValue
+read_back s = bounds_back s.lower s.upper
+
+-- what a text reads as that is printed of one such interval or more, builds included
+abbrev pub ReadsBack : ℕ → List ℕ → Type 0
+ReadsBack limit text = (list : List (Span VersionValue)) → 0 < length list → AllByRecursion (IsPrintable limit) list → text ≡ range_text list
+    → denotes limit text ≡ map read_back list
+
+-- such a text reads as an equal range
+abbrev pub ReadsEqual : ℕ → List ℕ → Type 0
+ReadsEqual limit text = (list : List (Span VersionValue)) → 0 < length list → AllByRecursion (IsPrintable limit) list → text ≡ range_text list
+    → range_eq (denotes limit text) list ≡ true
+
+-- printed ranges come back, whatever the limit on numbers is
+pub record RangesComeBack (text : List ℕ) : Type 0 where
+  pub equal : (limit : ℕ) → limit < 2 ^ 64 → ReadsEqual limit text
+  pub builds : (limit : ℕ) → limit < 2 ^ 64 → ReadsBack limit text
