@@ -16,3 +16,6 @@ pub mod MeetLemmas
 pub mod ListLaws
 pub mod PrintedVersions
 pub mod PrintedWords
+pub mod PrintedBounds
+pub mod PrintedParts
+pub mod PrintedRanges
