@@ -19,3 +19,7 @@ pub mod PrintedWords
 pub mod PrintedBounds
 pub mod PrintedParts
 pub mod PrintedRanges
+pub mod GateLaws
+pub mod AlgebraLaws
+pub mod SpanLaws
+pub mod AlgebraClauses

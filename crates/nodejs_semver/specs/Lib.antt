@@ -18,3 +18,4 @@ pub mod SameRange
 pub mod SameLaws
 pub mod Printed
 pub mod ComesBack
+pub mod Lists

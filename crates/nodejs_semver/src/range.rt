@@ -6,7 +6,9 @@ ghost use Rattle.semver_core.specs.declared.TheConstants.{MAX_SAFE_INTEGER};
 ghost use Rattle.semver_core.specs.Cuts.{if_any};
 ghost use Rattle.nodejs_semver.specs.RangeView.{IsRange, is_range_span, any_version};
 
+mod algebra;
 mod gate;
+mod lists;
 mod same;
 
 use semver_core::Version;

@@ -10,3 +10,6 @@ pub mod CutLaws
 pub mod Returns
 pub mod Prints
 pub mod Reread
+pub mod Spaces
+pub mod SpaceLaw
+pub mod Trims

@@ -18,3 +18,6 @@ pub mod Normal
 pub mod PrintedRows
 pub mod Cuts
 pub mod Examples
+pub mod Spaces
+pub mod SpaceLaws
+pub mod SpaceExamples
