@@ -23,3 +23,4 @@ pub mod GateLaws
 pub mod AlgebraLaws
 pub mod SpanLaws
 pub mod AlgebraClauses
+pub mod PrintedSteps

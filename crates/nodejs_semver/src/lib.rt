@@ -1,6 +1,7 @@
 //! Ranges of versions as npm reads them.
 #![tactic(auto)]
 
+pub mod laws;
 mod range;
 mod readers;
 
