@@ -1,13 +1,22 @@
 -- The running intervals are those of the runs.
-use Rattle.std.proofs.Common.{◌≡◌, List, [], ◌∷◌, ◌++◌, refl, sym, ap, ◌∙◌, true, false, Bool, map, inl, inr, Some, None}
-use Rattle.std.specs.Prelude.{Option, if◌then◌else◌}
+use Rattle.std.proofs.Common.{◌≡◌, List, [], ◌∷◌, refl, sym, ap, ◌∙◌, true, false, map, inl, inr, Some, None}
+use Rattle.std.specs.Prelude.{Option}
 use Rattle.std.specs.Cmp.{IsTotalOrder}
 use Rattle.std.specs.declared.cmp.Ordering.{Ordering}
 use Rattle.std.proofs.lemmas.Bool.{cases_Bool}
-use Rattle.semver_core.specs.Cuts.{Span, greater_lower, is_interval, lesser_upper, meet}
+use Rattle.semver_core.specs.Cuts.{Span, is_interval, meet}
 use Rattle.nodejs_semver.specs.Runs.{Run, fits, longer, interval_of, runs_from, runs_of}
 use Rattle.nodejs_semver.specs.Meets.{joined, joined_from}
 use Rattle.nodejs_semver.proofs.RunLemmas.{longer-is}
+
+module _ {V : Type 0} (R : V → V → Ordering) where
+  pub runs-goes : (r : Run V) (i : Span V) (is : List (Span V)) → fits R (longer r i) ≡ true → runs_from R r (i ∷ is) ≡ runs_from R (longer r i) is
+  unfolding runs_from
+  runs-goes r i is h = rw (h, runs_from) refl
+
+  pub runs-stops : (r : Run V) (i : Span V) (is : List (Span V)) → fits R (longer r i) ≡ false → runs_from R r (i ∷ is) ≡ r ∷ runs_from R (record { first = i; others = [] }) is
+  unfolding runs_from
+  runs-stops r i is h = rw (h, runs_from) refl
 
 module _ {V : Type 0} {R : V → V → Ordering} (o : IsTotalOrder R) where
   -- a run with one word more is met by that word
@@ -21,14 +30,6 @@ module _ {V : Type 0} {R : V → V → Ordering} (o : IsTotalOrder R) where
   meets-stop r s h =
       let stops = sym (ap (λ (i : Span V). is_interval R i) (longer-is o r s)) ∙ h in
       rw stops refl
-
-  runs-goes : (r : Run V) (i : Span V) (is : List (Span V)) → fits R (longer r i) ≡ true → runs_from R r (i ∷ is) ≡ runs_from R (longer r i) is
-  unfolding runs_from
-  runs-goes r i is h = rw (h, runs_from) refl
-
-  runs-stops : (r : Run V) (i : Span V) (is : List (Span V)) → fits R (longer r i) ≡ false → runs_from R r (i ∷ is) ≡ r ∷ runs_from R (record { first = i; others = [] }) is
-  unfolding runs_from
-  runs-stops r i is h = rw (h, runs_from) refl
 
   pub joined-goes : (i j m : Span V) (is : List (Span V)) → meet R i j ≡ Some m → joined_from R i (j ∷ is) ≡ joined_from R m is
   unfolding joined_from
@@ -44,10 +45,10 @@ module _ {V : Type 0} {R : V → V → Ordering} (o : IsTotalOrder R) where
   runs_from-joined r (i ∷ is) =
       elim (cases_Bool (fits R (longer r i))) [
         | inl goes ↦
-            ap (λ (rs : List (Run V)). map (interval_of R) rs) (runs-goes r i is goes)
+            ap (λ (rs : List (Run V)). map (interval_of R) rs) (runs-goes R r i is goes)
             ∙ (runs_from-joined (longer r i) is ∙ sym (joined-goes (interval_of R r) i (interval_of R (longer r i)) is (meets-fit r i goes)))
         | inr stops ↦
-            ap (λ (rs : List (Run V)). map (interval_of R) rs) (runs-stops r i is stops)
+            ap (λ (rs : List (Run V)). map (interval_of R) rs) (runs-stops R r i is stops)
             ∙ (ap (λ (js : List (Span V)). interval_of R r ∷ js) (runs_from-joined (record { first = i; others = [] }) is)
             ∙ sym (joined-stops (interval_of R r) i is (meets-stop r i stops)))
       ]

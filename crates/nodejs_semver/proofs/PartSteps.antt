@@ -2,7 +2,7 @@
 use Rattle.std.proofs.Common.{◌≡◌, ℕ, ◌<◌, List, [], ◌∷◌, ◌++◌, length, sym, ap, ◌∙◌, arith, Some, None, append_assoc, refl}
 use Rattle.std.specs.Prelude.{Option, filter_map}
 use Rattle.std.specs.List.{cons_option}
-use Rattle.nodejs_semver.specs.Spaces.{drop_spaces, space_len}
+use Rattle.semver_core.specs.Spaces.{drop_spaces, space_len}
 use Rattle.semver_core.specs.Cuts.{Span}
 use Rattle.semver_core.specs.Versions.{VersionValue}
 use Rattle.nodejs_semver.specs.Words.{Word, word_at, words, words_within}

@@ -8,7 +8,7 @@ use Rattle.std.proofs.lemmas.Bool.{cases_Bool, eqb-true}
 use Rattle.std.proofs.lemmas.Bool.Decides.{nat_tests}
 use Rattle.std.proofs.lemmas.List.{take_at, drop_at}
 use Rattle.nodejs_semver.specs.Partials.{number_of, ◌>>=◌, is_dot, before_dot, after_dot, begins_digit, ends_digit, component_of, wildcard_of, is_wildcard}
-use Rattle.nodejs_semver.specs.Spaces.{is_empty}
+use Rattle.semver_core.specs.Spaces.{is_empty}
 use Rattle.nodejs_semver.specs.Fronts.{begins_wildcard, component_front}
 use Rattle.nodejs_semver.proofs.Lists.{and-left, and-right}
 

@@ -20,7 +20,7 @@ use Rattle.nodejs_semver.specs.ComesBack.{IsReadableBound, has_bound, IsPrintabl
 use Rattle.nodejs_semver.specs.Denotes.{part_intervals, denotes}
 use Rattle.nodejs_semver.specs.Parts.{cut_bars, parts}
 use Rattle.nodejs_semver.specs.Printed.{bounds_text, span_text, range_text, ties}
-use Rattle.nodejs_semver.specs.Spaces.{is_empty, drop_spaces, drop_end_spaces, trim, space_len}
+use Rattle.semver_core.specs.Spaces.{is_empty, drop_spaces, drop_end_spaces, trim, space_len}
 use Rattle.nodejs_semver.proofs.Lists.{and-left, and-right, and-both}
 use Rattle.nodejs_semver.proofs.PrintedVersions.{dark_stays}
 use Rattle.nodejs_semver.proofs.PrintedWords.{space_step}

@@ -12,7 +12,7 @@ use Rattle.semver_core.specs.Normal.{is_normal, IsReadable}
 use Rattle.semver_core.specs.Printed.{id_text, marked_list, version_text}
 use Rattle.semver_core.specs.Versions.{VersionValue}
 use Rattle.semver_core.proofs.Returns.{decimal_digits, decimal_value, decimal_some, joined_is}
-use Rattle.nodejs_semver.specs.Spaces.{drop_spaces, space_len, after_spaces}
+use Rattle.semver_core.specs.Spaces.{drop_spaces, space_len, after_spaces}
 use Rattle.nodejs_semver.specs.Partials.{Partial, longest_partial, begins_digit, drop_v, is_dot, number_of, ◌>>=◌}
 use Rattle.nodejs_semver.specs.Fronts.{begins_byte, Front, partial_front, component_front, dotted_front, pre_release_front, build_front, begins_identifier, run_on, list_len, list_of, minor_front, patch_front}
 use Rattle.nodejs_semver.proofs.Lists.{and-left, and-right, and-both, is_list, list_len-append, run_on-stop, is_list-begins, begins-append}

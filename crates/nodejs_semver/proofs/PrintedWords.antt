@@ -7,7 +7,7 @@ use Rattle.std.specs.Char.{is_ascii_digit}
 use Rattle.semver_core.specs.Normal.{IsReadable}
 use Rattle.semver_core.specs.Printed.{version_text}
 use Rattle.semver_core.specs.Versions.{VersionValue}
-use Rattle.nodejs_semver.specs.Spaces.{drop_spaces, space_len, after_spaces}
+use Rattle.semver_core.specs.Spaces.{drop_spaces, space_len, after_spaces}
 use Rattle.nodejs_semver.specs.Partials.{Partial, longest_partial, begins_digit, number_of, or_else, ◌>>=◌}
 use Rattle.nodejs_semver.specs.Fronts.{partial_front, component_front}
 use Rattle.nodejs_semver.specs.Words.{Word, plain, compare, Comparator, at_least, above, equal, at_most, below, Reading, comparator_at, signed, word_at, words, is_boundary, at_boundary, or_equal}

@@ -11,7 +11,7 @@ use Rattle.semver_core.specs.declared.cuts.bound.Bound.{Bound}
 use Rattle.semver_core.specs.declared.cuts.bound.Bound.TheVariants.{Unbounded, Before, After}
 use Rattle.semver_core.proofs.CutLaws.{cut_total, is_past-greater_lower, is_past-lesser_upper}
 use Rattle.nodejs_semver.specs.Runs.{Run, fits, greatest_lower, interval_of, least_upper, longer, run_items}
-use Rattle.nodejs_semver.specs.Written.{is_above, is_below, run_writes, word_writes}
+use Rattle.nodejs_semver.specs.Written.{is_above, is_below, run_writes}
 
 -- the greater and the lesser of two, by a test
 pick_same : {A : Type 0} (t : Bool) (x : A) → (if t then x else x) ≡ x

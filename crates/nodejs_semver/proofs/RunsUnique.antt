@@ -1,13 +1,14 @@
 -- A part has one division into runs, and it is the one that is made from the left.
-use Rattle.std.proofs.Common.{◌≡◌, List, [], ◌∷◌, ◌++◌, refl, sym, ap, ◌∙◌, inl, inr, true, false, Bool, append_assoc, append-nil, subst}
+use Rattle.std.proofs.Common.{◌≡◌, List, [], ◌∷◌, ◌++◌, refl, sym, ap, ◌∙◌, true, false, append_assoc, append-nil, subst}
 use Rattle.std.specs.Prelude.{flat_map}
-use Rattle.std.specs.List.{AllByRecursion, list_all}
+use Rattle.std.specs.List.{AllByRecursion}
 use Rattle.std.specs.Cmp.{IsTotalOrder}
 use Rattle.std.specs.declared.cmp.Ordering.{Ordering}
-use Rattle.std.proofs.lemmas.Bool.{cases_Bool}
-use Rattle.semver_core.specs.Cuts.{Span, is_interval}
+use Rattle.semver_core.specs.Cuts.{Span}
+use Rattle.semver_core.specs.Order.{precedence}
+use Rattle.semver_core.specs.OrderLaws.{precedence_total}
+use Rattle.semver_core.specs.Versions.{VersionValue}
 use Rattle.nodejs_semver.specs.Runs.{Run, fits, longer, run_items, AreLongest, AreRuns, runs_from, runs_of}
-use Rattle.nodejs_semver.proofs.Lists.{and-left, and-right}
 use Rattle.nodejs_semver.proofs.RunLemmas.{fits-shrinks}
 
 abbrev extended : {V : Type 0} → Run V → List (Span V) → Run V
@@ -67,3 +68,6 @@ module _ {V : Type 0} {R : V → V → Ordering} (o : IsTotalOrder R) where
       let start : runs_from R (single r.first) bounds ≡ r ∷ rest =
       from-here bounds (single r.first) r.others rest same.1 h.each.0 h.each.1 h.longest in
       sym (ap (λ (j : Span V). runs_from R (single j) bounds) (sym same.0) ∙ start)
+
+pub runs_are : (bounds : List (Span VersionValue)) (runs : List (Run VersionValue)) → AreRuns precedence bounds runs → runs ≡ runs_of precedence bounds
+runs_are bounds runs h = runs-unique precedence_total bounds runs h

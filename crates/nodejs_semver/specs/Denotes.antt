@@ -5,7 +5,7 @@ use Rattle.semver_core.specs.Cuts.{Span}
 use Rattle.semver_core.specs.declared.cuts.bound.Bound.TheVariants.{Unbounded}
 use Rattle.semver_core.specs.Order.{precedence}
 use Rattle.semver_core.specs.Versions.{VersionValue}
-use Rattle.nodejs_semver.specs.Spaces.{is_empty}
+use Rattle.semver_core.specs.Spaces.{is_empty}
 use Rattle.nodejs_semver.specs.Parts.{parts}
 use Rattle.nodejs_semver.specs.Runs.{interval_of, runs_of}
 use Rattle.nodejs_semver.specs.Table.{bounds_of}

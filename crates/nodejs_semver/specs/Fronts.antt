@@ -5,7 +5,7 @@ use Rattle.std.specs.Char.{is_ascii_digit}
 use Rattle.std.specs.List.{prefix_len}
 use Rattle.std.specs.Borrow.{Bor}
 use Rattle.nodejs_semver.specs.Partials.{number_of, ◌>>=◌, Partial, is_wildcard, drop_v}
-use Rattle.nodejs_semver.specs.Spaces.{drop_spaces}
+use Rattle.semver_core.specs.Spaces.{drop_spaces}
 use Rattle.semver_core.specs.Identifiers.{Id, identifier_of, goes_on, pieces}
 use Rattle.semver_core.specs.Characters.{is_identifier_char, begins}
 use Rattle.nodejs_semver.specs.Words.{after_byte}

@@ -1,6 +1,7 @@
-//! Laws over the definitions alone. Each is the contract of a function that does nothing, or hardly anything, else; no
-//! caller needs this module.
+//! Laws of the words that contracts speak in, each the contract of a function that does nothing.
 
 mod printing;
+mod texts;
 
 pub use crate::laws::printing::printed_ranges_come_back;
+pub use crate::laws::texts::{intervals_hold_what_is_written, numbers, parts, runs};

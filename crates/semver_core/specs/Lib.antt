@@ -17,6 +17,14 @@ pub mod Parsing
 pub mod Normal
 pub mod PrintedRows
 pub mod Cuts
+pub mod Increment
+pub mod IncrementView
+pub mod IncrementSteps
+pub mod IncrementLeast
+pub mod IncrementRows
+pub mod Successors
+pub mod Difference
+pub mod DifferenceRows
 pub mod Examples
 pub mod Spaces
 pub mod SpaceLaws

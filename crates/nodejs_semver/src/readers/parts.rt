@@ -2,7 +2,7 @@
 
 ghost use Rattle.std.specs.Prelude.{◌≡◌, IfOk, filter_map, map};
 ghost use Rattle.nodejs_semver.specs.Readings.{bounds_view};
-ghost use Rattle.nodejs_semver.specs.Spaces.{space_len};
+ghost use Rattle.semver_core.specs.Spaces.{space_len};
 ghost use Rattle.nodejs_semver.specs.Table.{table};
 ghost use Rattle.nodejs_semver.specs.Words as Spec;
 ghost use Rattle.semver_core.specs.declared.TheConstants.{MAX_SAFE_INTEGER};

@@ -3,7 +3,7 @@ use Rattle.std.specs.Prelude.{Option, filter_map}
 use Rattle.std.proofs.lemmas.List.{map-append}
 use Rattle.std.specs.Prelude.{Vec}
 use Rattle.std.specs.declared.alloc.Global.{Global}
-use Rattle.nodejs_semver.specs.Spaces.{drop_spaces, space_len}
+use Rattle.semver_core.specs.Spaces.{drop_spaces, space_len}
 use Rattle.semver_core.specs.Cuts.{Span}
 use Rattle.semver_core.specs.Versions.{VersionValue}
 use Rattle.nodejs_semver.specs.Words.{Word, word_at, words}

@@ -1,7 +1,7 @@
 use Rattle.std.proofs.Common.{◌≡◌, ◌++◌, length, map}
 use Rattle.std.specs.Prelude.{filter_map}
 use Rattle.nodejs_semver.specs.Readings.{bounds_view}
-use Rattle.nodejs_semver.specs.Spaces.{space_len}
+use Rattle.semver_core.specs.Spaces.{space_len}
 use Rattle.nodejs_semver.specs.Table.{table}
 use Rattle.nodejs_semver.specs.Words.{words}
 use Rattle.semver_core.specs.declared.TheConstants.{MAX_SAFE_INTEGER}
