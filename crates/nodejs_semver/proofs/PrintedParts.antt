@@ -16,7 +16,7 @@ use Rattle.semver_core.specs.Versions.{VersionValue}
 use Rattle.semver_core.specs.declared.cuts.bound.Bound.{Bound}
 use Rattle.semver_core.specs.declared.cuts.bound.Bound.TheVariants.{Unbounded, Before, After}
 use Rattle.semver_core.proofs.Returns.{decimal_digits, decimal_some, ids_runs, run_chars}
-use Rattle.nodejs_semver.specs.ComesBack.{IsReadableBound, has_bound, IsPrintable, read_back}
+use Rattle.nodejs_semver.specs.ComesBack.{has_bound, read_back}
 use Rattle.nodejs_semver.specs.Denotes.{part_intervals, denotes}
 use Rattle.nodejs_semver.specs.Parts.{cut_bars, parts}
 use Rattle.nodejs_semver.specs.Printed.{bounds_text, span_text, range_text, ties}
@@ -24,7 +24,7 @@ use Rattle.semver_core.specs.Spaces.{is_empty, drop_spaces, drop_end_spaces, tri
 use Rattle.nodejs_semver.proofs.Lists.{and-left, and-right, and-both}
 use Rattle.nodejs_semver.proofs.PrintedVersions.{dark_stays}
 use Rattle.nodejs_semver.proofs.PrintedWords.{space_step}
-use Rattle.nodejs_semver.proofs.PrintedBounds.{bounds_come_back}
+use Rattle.nodejs_semver.proofs.PrintedBounds.{IsReadableBound, IsPrintable, bounds_come_back}
 
 -- ---- the bytes of a printed version
 

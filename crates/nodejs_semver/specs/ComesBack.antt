@@ -1,21 +1,14 @@
 -- Statement: which ranges come back from their printed text, and what is read from it.
-use Rattle.std.specs.Prelude.{ℕ, ◌≡◌, ◌<◌, ◌^◌, Bool, true, false, List, [], ◌∷◌, map, length, if◌then◌else◌}
-use Rattle.std.specs.List.{AllByRecursion}
-use Rattle.semver_core.specs.Cuts.{Span, is_interval}
-use Rattle.semver_core.specs.Normal.{IsReadable}
-use Rattle.semver_core.specs.Order.{precedence}
+use Rattle.std.specs.Prelude.{ℕ, ◌≡◌, ◌<◌, ◌^◌, ◌&&◌, Bool, true, false, List, [], ◌∷◌, map, length, if◌then◌else◌}
+use Rattle.std.specs.List.{list_all}
+use Rattle.semver_core.specs.Cuts.{Span}
 use Rattle.semver_core.specs.Versions.{VersionValue}
 use Rattle.semver_core.specs.declared.cuts.bound.Bound.{Bound}
 use Rattle.semver_core.specs.declared.cuts.bound.Bound.TheVariants.{Unbounded, Before, After}
 use Rattle.nodejs_semver.specs.Denotes.{denotes}
 use Rattle.nodejs_semver.specs.Printed.{range_text, ties}
+use Rattle.nodejs_semver.specs.RangeView.{is_range_span}
 use Rattle.nodejs_semver.specs.SameRange.{range_eq}
-
--- the version of the bound, if there is one, reads as itself
-abbrev pub IsReadableBound : ℕ → Bound VersionValue → Type 0
-IsReadableBound limit Unbounded = Unit {0}
-IsReadableBound limit (Before v) = IsReadable limit v
-IsReadableBound limit (After v) = IsReadable limit v
 
 -- the interval is not the one without bounds, which prints `*`
 abbrev pub has_bound : Bound VersionValue → Bound VersionValue → Bool
@@ -25,12 +18,10 @@ has_bound lower upper = true
 abbrev pub is_bounded : Span VersionValue → Bool
 is_bounded s = has_bound s.lower s.upper
 
--- an interval that is not `*` and whose versions are readable
-pub record IsPrintable (limit : ℕ) (s : Span VersionValue) : Type 0 where
-  pub proper : is_interval precedence s ≡ true
-  pub bounded : is_bounded s ≡ true
-  pub lower : IsReadableBound limit s.lower
-  pub upper : IsReadableBound limit s.upper
+-- an interval that comes back: it is not `*`, and no number of its bounds is above the limit. The rest of `is_range_span`
+-- holds of every interval of a range.
+abbrev pub is_printable : ℕ → Span VersionValue → Bool
+is_printable limit s = is_bounded s && is_range_span limit s
 
 -- the interval that is read from a printed one: where its ends tie, the printed version stands for both
 abbrev pub bounds_back : Bound VersionValue → Bound VersionValue → Span VersionValue
@@ -42,12 +33,12 @@ read_back s = bounds_back s.lower s.upper
 
 -- what a text reads as that is printed of one such interval or more, builds included
 abbrev pub ReadsBack : ℕ → List ℕ → Type 0
-ReadsBack limit text = (list : List (Span VersionValue)) → 0 < length list → AllByRecursion (IsPrintable limit) list → text ≡ range_text list
+ReadsBack limit text = (list : List (Span VersionValue)) → 0 < length list → list_all (is_printable limit) list ≡ true → text ≡ range_text list
     → denotes limit text ≡ map read_back list
 
 -- such a text reads as an equal range
 abbrev pub ReadsEqual : ℕ → List ℕ → Type 0
-ReadsEqual limit text = (list : List (Span VersionValue)) → 0 < length list → AllByRecursion (IsPrintable limit) list → text ≡ range_text list
+ReadsEqual limit text = (list : List (Span VersionValue)) → 0 < length list → list_all (is_printable limit) list ≡ true → text ≡ range_text list
     → range_eq (denotes limit text) list ≡ true
 
 -- printed ranges come back, whatever the limit on numbers is
