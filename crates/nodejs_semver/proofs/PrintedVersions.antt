@@ -1,6 +1,6 @@
 -- For proofs. A printed version is the longest partial at its place.
-use Rattle.std.proofs.Common.{◌≡◌, ◌<◌, ◌≤◌, ◌^◌, ◌+◌, ◌==◌, ℕ, zero, suc, Bool, true, false, List, [], ◌∷◌, ◌++◌, length, map, take, drop, refl, sym, ap, ◌∙◌, arith, inl, inr, append_assoc, Some, None}
-use Rattle.std.specs.Prelude.{not, ◌&&◌, ◌||◌, Option, nat_lt}
+use Rattle.std.proofs.Common.{◌≡◌, ◌<◌, ◌≤◌, ◌^◌, ◌==◌, ℕ, Bool, true, false, List, [], ◌∷◌, ◌++◌, length, map, refl, sym, ap, ◌∙◌, arith, append_assoc, Some}
+use Rattle.std.specs.Prelude.{◌&&◌, ◌||◌, nat_lt}
 use Rattle.std.proofs.lemmas.Bool.Decides.{nat_tests}
 use Rattle.std.proofs.lemmas.List.{take_at, drop_at}
 use Rattle.std.specs.Fmt.{decimal}
@@ -13,9 +13,9 @@ use Rattle.semver_core.specs.Printed.{id_text, marked_list, version_text}
 use Rattle.semver_core.specs.Versions.{VersionValue}
 use Rattle.semver_core.proofs.Returns.{decimal_digits, decimal_value, decimal_some, joined_is}
 use Rattle.semver_core.specs.Spaces.{drop_spaces, space_len, after_spaces}
-use Rattle.nodejs_semver.specs.Partials.{Partial, longest_partial, begins_digit, drop_v, is_dot, number_of, ◌>>=◌}
-use Rattle.nodejs_semver.specs.Fronts.{begins_byte, Front, partial_front, component_front, dotted_front, pre_release_front, build_front, begins_identifier, run_on, list_len, list_of, minor_front, patch_front}
-use Rattle.nodejs_semver.proofs.Lists.{and-left, and-right, and-both, is_list, list_len-append, run_on-stop, is_list-begins, begins-append}
+use Rattle.nodejs_semver.specs.Partials.{Partial, longest_partial, begins_digit, drop_v, is_dot, number_of}
+use Rattle.nodejs_semver.specs.Fronts.{begins_byte, partial_front, component_front, dotted_front, pre_release_front, build_front, begins_identifier, list_len, list_of, patch_front}
+use Rattle.nodejs_semver.proofs.Lists.{and-left, is_list, list_len-append, run_on-stop, is_list-begins, begins-append}
 use Rattle.nodejs_semver.proofs.Numbers.{number_of-some}
 use Rattle.nodejs_semver.proofs.Pieces.{number-then}
 use Rattle.nodejs_semver.proofs.Longest.{longest_is_front}

@@ -1,6 +1,6 @@
 -- For proofs. The words of a printed interval.
 use Rattle.std.proofs.Common.{◌≡◌, ◌<◌, ◌^◌, ◌==◌, ℕ, Bool, true, false, List, [], ◌∷◌, ◌++◌, length, refl, sym, ap, ◌∙◌, arith, inl, inr, append_assoc, append-nil, Some, None}
-use Rattle.std.specs.Prelude.{◌||◌, Option}
+use Rattle.std.specs.Prelude.{◌||◌}
 use Rattle.std.proofs.lemmas.Bool.{cases_Bool, eqb-true}
 use Rattle.std.proofs.lemmas.Bool.Decides.{nat_tests}
 use Rattle.std.specs.Char.{is_ascii_digit}
@@ -8,9 +8,9 @@ use Rattle.semver_core.specs.Normal.{IsReadable}
 use Rattle.semver_core.specs.Printed.{version_text}
 use Rattle.semver_core.specs.Versions.{VersionValue}
 use Rattle.semver_core.specs.Spaces.{drop_spaces, space_len, after_spaces}
-use Rattle.nodejs_semver.specs.Partials.{Partial, longest_partial, begins_digit, number_of, or_else, ◌>>=◌}
+use Rattle.nodejs_semver.specs.Partials.{Partial, longest_partial, begins_digit, number_of}
 use Rattle.nodejs_semver.specs.Fronts.{partial_front, component_front}
-use Rattle.nodejs_semver.specs.Words.{Word, plain, compare, Comparator, at_least, above, equal, at_most, below, Reading, comparator_at, signed, word_at, words, is_boundary, at_boundary, or_equal}
+use Rattle.nodejs_semver.specs.Words.{Word, plain, compare, Comparator, at_least, above, equal, at_most, below, comparator_at, signed, word_at, words, is_boundary, or_equal}
 use Rattle.nodejs_semver.proofs.Progress.{words-step}
 use Rattle.nodejs_semver.proofs.PartSteps.{words-none}
 use Rattle.nodejs_semver.proofs.Longest.{longest_is_front}

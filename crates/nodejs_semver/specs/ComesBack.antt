@@ -1,5 +1,5 @@
 -- Statement: which ranges come back from their printed text, and what is read from it.
-use Rattle.std.specs.Prelude.{ℕ, ◌≡◌, ◌<◌, ◌^◌, ◌&&◌, Bool, true, false, List, [], ◌∷◌, map, length, if◌then◌else◌}
+use Rattle.std.specs.Prelude.{ℕ, ◌≡◌, ◌<◌, ◌^◌, ◌&&◌, Bool, true, false, List, map, length, if◌then◌else◌}
 use Rattle.std.specs.List.{list_all}
 use Rattle.semver_core.specs.Cuts.{Span}
 use Rattle.semver_core.specs.Versions.{VersionValue}

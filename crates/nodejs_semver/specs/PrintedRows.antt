@@ -1,5 +1,5 @@
 -- Worked rows, computed: how ranges print, and which of them come back.
-use Rattle.std.specs.Prelude.{ℕ, ◌≡◌, List, [], ◌∷◌, ◌++◌, refl, codes}
+use Rattle.std.specs.Prelude.{ℕ, ◌≡◌, List, [], ◌∷◌, refl, codes}
 use Rattle.std.specs.Fmt.{digits}
 use Rattle.semver_core.specs.Cuts.{Span}
 use Rattle.semver_core.specs.Identifiers.{Id, Numeric, AlphaNumeric}
