@@ -27,3 +27,9 @@ pub mod LeastOf
 pub mod Raised
 pub mod BestOf
 pub mod OutsideLaw
+pub mod PrintedVersions
+pub mod PrintedWords
+pub mod PrintedBounds
+pub mod PrintedParts
+pub mod PrintedRanges
+pub mod PrintedSteps

@@ -120,7 +120,7 @@ wildcard_front : (limit b : ℕ) (more : List ℕ) → is_wildcard b ≡ true �
 unfolding component_front
 wildcard_front limit b more h = rw h refl
 
-number-then : (limit : ℕ) (run more : List ℕ) (n : ℕ) → number_of limit run ≡ Some n → begins_digit more ≡ false
+pub number-then : (limit : ℕ) (run more : List ℕ) (n : ℕ) → number_of limit run ≡ Some n → begins_digit more ≡ false
     → component_front limit (run ++ more) ≡ Some (Some n, more)
 unfolding component_front
 number-then limit run more n h stop =

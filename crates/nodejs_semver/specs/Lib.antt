@@ -22,3 +22,6 @@ pub mod Candidates
 pub mod Best
 pub mod Choosing
 pub mod Outside
+pub mod Printed
+pub mod ComesBack
+pub mod PrintedRows

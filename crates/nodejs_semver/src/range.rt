@@ -13,10 +13,10 @@ mod least;
 mod lists;
 mod neighbours;
 mod outside;
+mod print;
 mod same;
 
 pub use crate::range::outside::{OutsideDirection, RangeError};
-
 use semver_core::Version;
 use semver_core::cuts::Interval;
 use std::alloc::{AllocError, Global};

@@ -117,6 +117,3 @@ impl Version {
         }
     }
 }
-
-#[cfg(test)]
-mod tests;

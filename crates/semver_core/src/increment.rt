@@ -268,6 +268,3 @@ impl Version {
         increment(alloc, self, word, identifier, base)
     }
 }
-
-#[cfg(test)]
-mod tests;
