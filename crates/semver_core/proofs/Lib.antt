@@ -13,4 +13,7 @@ pub mod IncrementLaws
 pub mod Returns
 pub mod Prints
 pub mod Reread
+pub mod Spaces
+pub mod SpaceLaw
+pub mod Trims
 pub mod IncrementClauses

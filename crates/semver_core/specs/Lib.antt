@@ -25,3 +25,6 @@ pub mod Successors
 pub mod Difference
 pub mod DifferenceRows
 pub mod Examples
+pub mod Spaces
+pub mod SpaceLaws
+pub mod SpaceExamples

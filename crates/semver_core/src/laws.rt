@@ -4,7 +4,9 @@
 mod order;
 mod printing;
 mod reading;
+mod whitespace;
 
 pub use crate::laws::order::{identifiers_in_order, versions_in_order};
 pub use crate::laws::printing::{printed_versions_come_back, reread};
 pub use crate::laws::reading::{constants, one_reading};
+pub use crate::laws::whitespace::whitespace_in_bytes;

@@ -9,6 +9,8 @@ ghost use Rattle.semver_core.specs.Identifiers.{Id, identifier_of, is_run, goes_
 ghost use Rattle.semver_core.specs.Numbers.{IsWholeNumber};
 ghost use Rattle.semver_core.specs.Reading.{number_at, list_at};
 ghost use Rattle.semver_core.specs.Views.{id_view, ids_view, list_view};
+ghost use Rattle.semver_core.specs.Characters.{IsTrim};
+ghost use Rattle.semver_core.specs.Spaces.{drop_end_spaces};
 
 use crate::{Identifier, MAX_SAFE_INTEGER};
 use std::alloc::{AllocError, Global};
@@ -40,6 +42,35 @@ pub fn skip_whitespace(text: &str, at: usize) -> usize
         end += character.len_utf8();
     }
     end
+}
+
+/// The text without the whitespace at its front and at its end: a part of the text, empty where the text is whitespace
+/// alone.
+///
+/// Whitespace is what JavaScript's `trim` takes off: U+0009 to U+000D, U+0020, U+00A0, U+1680, U+2000 to U+200A,
+/// U+2028, U+2029, U+202F, U+205F, U+3000 and U+FEFF. U+0085, U+180E and U+200B are no whitespace.
+///
+/// `trim(" \u{FEFF}1.x || 2 ")` is `"1.x || 2"`.
+pub fn trim(text: &str) -> &str
+    ensures middle { IsTrim text.now result.now }
+{
+    let start = skip_whitespace(text, 0);
+    trim_end(&text[start..])
+}
+
+// The text without the whitespace at its end.
+fn trim_end(text: &str) -> &str
+    ensures { result.now ≡ drop_end_spaces text.now }
+{
+    let mut rest = text;
+    let mut before = text.chars();
+    'spaces: while let Some(character) = before.next_back() {
+        if !is_whitespace(character) {
+            return rest;
+        }
+        rest = before.as_str();
+    }
+    rest
 }
 
 // What a run of digits gives that ended after `count` of them.

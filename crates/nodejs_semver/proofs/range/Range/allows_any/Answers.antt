@@ -1,0 +1,6 @@
+use Rattle.std.proofs.Common.{◌∙◌}
+use Rattle.nodejs_semver.proofs.AlgebraLaws.{meets_one-some}
+use Rattle.nodejs_semver.proofs.range.Range.allows_any.Goals as goal
+
+pub returns : goal.returns
+returns c = c.meets.ensures ∙ meets_one-some c.args.self.now c.args.other.now

@@ -1,0 +1,11 @@
+use Rattle.nodejs_semver.proofs.AlgebraClauses.{difference-set, difference-kept, difference-releases}
+use Rattle.nodejs_semver.proofs.range.Range.difference.Goals as goal
+
+pub returns-clause-set : goal.returns-clause-set
+returns-clause-set c = difference-set c.args.self.now c.args.other.now c.in_ok-left.left c.in_ok-left.ensures
+
+pub returns-clause-kept : goal.returns-clause-kept
+returns-clause-kept c = difference-kept c.args.self.now c.args.other.now c.in_ok-left.left c.in_ok-left.ensures
+
+pub returns-clause-releases : goal.returns-clause-releases
+returns-clause-releases c = difference-releases c.args.self.now c.args.other.now c.in_ok-left.left c.in_ok-left.ensures

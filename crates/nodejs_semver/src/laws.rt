@@ -1,0 +1,5 @@
+//! Laws of the words that contracts speak in, each the contract of a function that does nothing.
+
+mod texts;
+
+pub use crate::laws::texts::{intervals_hold_what_is_written, numbers, parts, runs};

@@ -1,0 +1,89 @@
+// Ranges: lists of intervals of versions.
+
+ghost use Rattle.std.specs.Prelude.{◌≡◌, ◌+◌, IfOk, true};
+ghost use Rattle.std.specs.List.{list_all};
+ghost use Rattle.semver_core.specs.declared.TheConstants.{MAX_SAFE_INTEGER};
+ghost use Rattle.semver_core.specs.Cuts.{if_any};
+ghost use Rattle.nodejs_semver.specs.RangeView.{IsRange, is_range_span, any_version};
+
+mod algebra;
+mod gate;
+mod lists;
+mod same;
+
+use semver_core::Version;
+use semver_core::cuts::Interval;
+use std::alloc::{AllocError, Global};
+use std::marker::Model;
+
+/// A range: the versions of one or more intervals. It is what a range text such as `^1.2 || >=3.0.0-rc` names.
+#[derive(Drop)]
+pub struct Range {
+    intervals: Vec<Interval<Version>>,
+}
+
+impl Model for Range {
+    ghost use Rattle.std.specs.Prelude.{List};
+    ghost use Rattle.semver_core.specs.Cuts.{Span};
+    ghost use Rattle.semver_core.specs.Versions.{VersionValue};
+    ghost use Rattle.semver_core.specs.declared.TheConstants.{MAX_SAFE_INTEGER};
+    ghost use Rattle.nodejs_semver.specs.RangeView.{IsRange};
+
+    ghost Value = { List (Span VersionValue) };
+
+    ghost view = { λ r. r.intervals.items };
+
+    ghost invariant = { λ r. IsRange MAX_SAFE_INTEGER r.intervals.items };
+}
+
+impl Range {
+    /// The range of all versions: one interval without bounds. The error is want of memory.
+    pub fn any(alloc: Global) -> Result<Range, AllocError>
+        ensures { IfOk result (λ r. r ≡ any_version) }
+    {
+        let mut intervals = Vec::new(alloc);
+        intervals.push(Interval::default())?;
+        Ok(Range { intervals })
+    }
+
+    /// The whole value again, builds included. The error is want of memory.
+    pub fn copy(&self, alloc: Global) -> Result<Range, AllocError>
+        ensures { IfOk result (λ r. r ≡ self.now) }
+    {
+        let intervals = copy_intervals(alloc, &self.intervals)?;
+        Ok(Range { intervals })
+    }
+
+    /// The intervals in order.
+    pub(crate) fn intervals(&self) -> &[Interval<Version>]
+        ensures value { result.now ≡ self.now }
+        ensures valid { IsRange MAX_SAFE_INTEGER self.now }
+    {
+        &self.intervals
+    }
+
+    /// The range of these intervals, or none where there is no interval.
+    pub(crate) fn from_intervals(intervals: Vec<Interval<Version>>) -> Option<Range>
+        requires { list_all (is_range_span (MAX_SAFE_INTEGER + 1)) intervals.items ≡ true }
+        ensures { result ≡ if_any intervals.items }
+    {
+        if intervals.is_empty() {
+            None
+        } else {
+            Some(Range { intervals })
+        }
+    }
+}
+
+fn copy_intervals(
+    alloc: Global,
+    intervals: &[Interval<Version>],
+) -> Result<Vec<Interval<Version>>, AllocError>
+    ensures { IfOk result (λ copy. copy.items ≡ intervals.now) }
+{
+    let mut copy = Vec::with_capacity(alloc, intervals.len())?;
+    for interval in intervals {
+        copy.push(interval.copy(alloc)?)?;
+    }
+    Ok(copy)
+}

@@ -1,0 +1,71 @@
+// Which versions a range accepts.
+
+ghost use Rattle.std.specs.Prelude.{◌≡◌, IsTrue, true, false};
+ghost use Rattle.semver_core.specs.Cuts.{list_holds};
+ghost use Rattle.semver_core.specs.Order.{precedence};
+ghost use Rattle.semver_core.specs.declared.TheConstants.{MAX_SAFE_INTEGER};
+ghost use Rattle.nodejs_semver.specs.Accepts.{accepts, lets_in, names};
+ghost use Rattle.nodejs_semver.specs.RangeView.{IsRange};
+
+use crate::Range;
+use semver_core::cuts::{Bound, Interval};
+use semver_core::{Accepts, Version};
+
+impl Range {
+    /// Whether the range accepts this version. A pre-release is accepted only where the interval that holds it has a
+    /// bound with a pre-release of the same three numbers: `>=1.2.3-a` accepts 1.2.3-b and 1.3.0, and not 1.3.0-b.
+    pub fn satisfies(&self, version: &Version) -> bool
+        ensures gate { result ≡ accepts self.now version.now false }
+        ensures valid { IsRange MAX_SAFE_INTEGER self.now }
+    {
+        self.is_accepted(version, false)
+    }
+
+    /// The same; with the flag, pre-releases are accepted like releases, so that the set of the range alone decides.
+    pub fn satisfies_with_prerelease(&self, version: &Version, include_prerelease: bool) -> bool
+        ensures gate { result ≡ accepts self.now version.now include_prerelease }
+        ensures set { IsTrue include_prerelease → result ≡ list_holds precedence self.now version.now }
+        ensures valid { IsRange MAX_SAFE_INTEGER self.now }
+    {
+        self.is_accepted(version, include_prerelease)
+    }
+
+    fn is_accepted(&self, version: &Version, include_prerelease: bool) -> bool
+        ensures gate { result ≡ accepts self.now version.now include_prerelease }
+        ensures valid { IsRange MAX_SAFE_INTEGER self.now }
+    {
+        self.intervals().iter().any(|interval| {
+            interval.contains(version) && (include_prerelease || lets_in(interval, version))
+        })
+    }
+}
+
+impl Accepts for Range {
+    ghost accepts = { accepts };
+
+    fn accepts(&self, version: &Version, include_prerelease: bool) -> bool {
+        self.satisfies_with_prerelease(version, include_prerelease)
+    }
+}
+
+// Whether the interval lets in the version, pre-releases not being included.
+fn lets_in(interval: &Interval<Version>, version: &Version) -> bool
+    ensures { result ≡ lets_in interval.now version.now }
+{
+    !version.is_prerelease() || names(interval.lower(), version) || names(interval.upper(), version)
+}
+
+// Whether the bound's version is a pre-release of the same three numbers.
+fn names(bound: &Bound<Version>, version: &Version) -> bool
+    ensures { result ≡ names bound.now version.now }
+{
+    match bound {
+        Bound::Unbounded => false,
+        Bound::Before(named) | Bound::After(named) => {
+            named.is_prerelease()
+                && named.major() == version.major()
+                && named.minor() == version.minor()
+                && named.patch() == version.patch()
+        }
+    }
+}

@@ -1,0 +1,33 @@
+// Equality and hash of ranges.
+
+ghost use Rattle.std.specs.Cmp.{partial_equiv_from_equiv};
+ghost use Rattle.nodejs_semver.specs.SameRange.{range_eq, range_writes};
+ghost use Rattle.nodejs_semver.specs.SameLaws.{range_equiv, range_alike};
+
+use crate::Range;
+use std::hash::{Hash, Hasher};
+
+impl PartialEq for Range {
+    ghost eq = { range_eq };
+
+    ghost laws = { partial_equiv_from_equiv range_equiv };
+
+    /// Whether both have as many intervals, and each equals the one in its place. Build metadata does not count.
+    fn eq(&self, other: &Range) -> bool {
+        self.intervals() == other.intervals()
+    }
+}
+
+impl Eq for Range {
+    ghost laws = { range_equiv };
+}
+
+impl Hash for Range {
+    ghost hash_input = { range_writes };
+
+    ghost respects_eq = { range_alike };
+
+    fn hash<H: Hasher>(&self, state: &mut H) {
+        self.intervals().hash(state);
+    }
+}

@@ -1,0 +1,13 @@
+// Whitespace as the bytes of a text spell it.
+
+ghost use Rattle.semver_core.specs.SpaceLaws.{FrontIsFirstCharacter, TrimIsMiddle, MiddleIsTrim, AfterBlankDropsSpaces, OneAfterBlank};
+
+/// Whitespace as the bytes of a text spell it is whitespace as its characters are; the trimmed text is the only trimmed
+/// middle, and the place behind whitespace is one.
+pub fn whitespace_in_bytes()
+    ensures front { FrontIsFirstCharacter }
+    ensures trimmed { TrimIsMiddle }
+    ensures only { MiddleIsTrim }
+    ensures behind { AfterBlankDropsSpaces }
+    ensures one_place { OneAfterBlank }
+{}
