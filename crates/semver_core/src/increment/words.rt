@@ -6,9 +6,7 @@ ghost use Rattle.semver_core.specs.IncrementView.{Answers};
 ghost use Rattle.semver_core.specs.ListView.{list_ids};
 
 use crate::increment::pre_release::{advance, identify};
-use crate::increment::{
-    IdentifierBase, IncrementError, is_release, one_more, refused_argument,
-};
+use crate::increment::{IdentifierBase, IncrementError, is_release, one_more, refused_argument};
 use crate::version::parts::{copy_items, unless_empty};
 use crate::{Failure, Identifier, Version};
 use std::alloc::Global;
