@@ -21,3 +21,9 @@ pub mod RunsDivide
 pub mod Holds
 pub mod BarsDivide
 pub mod NumberLaw
+pub mod Keys
+pub mod LeastPieces
+pub mod LeastOf
+pub mod Raised
+pub mod BestOf
+pub mod OutsideLaw

@@ -17,3 +17,8 @@ pub mod PartFronts
 pub mod Meets
 pub mod Readings
 pub mod Examples
+pub mod Least
+pub mod Candidates
+pub mod Best
+pub mod Choosing
+pub mod Outside

@@ -7,7 +7,7 @@ pub mod laws;
 mod range;
 mod readers;
 
-pub use crate::range::Range;
+pub use crate::range::{OutsideDirection, Range, RangeError};
 pub use semver_core::{
     Accepts, Failure, Identifier, IdentifierBase, IncrementError, MAX_LENGTH, MAX_SAFE_INTEGER,
     NegativeNumber, ReleaseType, SemverError, Version, VersionDiff, VersionParts, cuts,
