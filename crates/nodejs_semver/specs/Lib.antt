@@ -1,4 +1,3 @@
-pub mod Normal
 pub mod RangeView
 pub mod Accepts
 pub mod SameRange

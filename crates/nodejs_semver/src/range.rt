@@ -10,6 +10,8 @@ mod algebra;
 mod gate;
 mod lists;
 mod same;
+#[cfg(test)]
+mod tests;
 
 use semver_core::Version;
 use semver_core::cuts::Interval;
