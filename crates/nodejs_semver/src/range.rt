@@ -15,6 +15,8 @@ mod neighbours;
 mod outside;
 mod print;
 mod same;
+#[cfg(test)]
+mod tests;
 
 pub use crate::range::outside::{OutsideDirection, RangeError};
 use semver_core::Version;
