@@ -95,3 +95,6 @@ fn copy_intervals(
     }
     Ok(copy)
 }
+
+#[cfg(test)]
+mod question_tests;
