@@ -15,8 +15,6 @@ mod neighbours;
 mod outside;
 mod print;
 mod same;
-#[cfg(test)]
-mod tests;
 
 pub use crate::range::outside::{OutsideDirection, RangeError};
 use semver_core::Version;
@@ -95,6 +93,3 @@ fn copy_intervals(
     }
     Ok(copy)
 }
-
-#[cfg(test)]
-mod question_tests;
