@@ -5,6 +5,12 @@
 pub enum Command {
     /// `cmp;V;W`: how the version V stands to the version W.
     Cmp,
+    /// `ver;V`: the version V, printed.
+    Ver,
+    /// `diff;V;W`: the kind of difference between two versions.
+    Diff,
+    /// `inc;V;word`, `inc;V;word;identifier` and `inc;V;word;identifier;base`: the next version after V by a word.
+    Inc,
 }
 
 impl Command {
@@ -18,6 +24,9 @@ impl Command {
     {
         match word.as_bytes() {
             b"cmp" => Some(Command::Cmp),
+            b"ver" => Some(Command::Ver),
+            b"diff" => Some(Command::Diff),
+            b"inc" => Some(Command::Inc),
             _ => None,
         }
     }

@@ -5,6 +5,7 @@
 mod answer;
 mod command;
 mod fields;
+mod increments;
 mod run;
 #[cfg(test)]
 mod tests;
