@@ -10,7 +10,6 @@ pub mod Boundaries
 pub mod Pieces
 pub mod Reaches
 pub mod Progress
-pub mod PartSteps
 pub mod Sound
 pub mod SoundPartial
 pub mod BarLemmas
@@ -21,3 +20,5 @@ pub mod RunsDivide
 pub mod Holds
 pub mod BarsDivide
 pub mod NumberLaw
+pub mod Listed
+pub mod PartSteps
