@@ -22,3 +22,4 @@ pub mod BarsDivide
 pub mod NumberLaw
 pub mod Listed
 pub mod PartSteps
+pub mod Trimmed
