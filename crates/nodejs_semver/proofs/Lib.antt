@@ -23,3 +23,5 @@ pub mod NumberLaw
 pub mod Listed
 pub mod PartSteps
 pub mod Trimmed
+pub mod Bounded
+pub mod BoundedTable
