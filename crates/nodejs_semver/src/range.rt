@@ -9,6 +9,7 @@ ghost use Rattle.nodejs_semver.specs.RangeView.{IsRange, is_range_span, any_vers
 mod algebra;
 mod gate;
 mod lists;
+mod parse;
 mod same;
 
 use semver_core::Version;
