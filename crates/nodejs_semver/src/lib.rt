@@ -3,6 +3,7 @@
 //! Calls that allocate are passed the allocator and answer want of memory beside their own answers.
 #![tactic(auto)]
 
+pub mod json;
 pub mod laws;
 mod range;
 pub mod readers;
