@@ -14,6 +14,7 @@ mod lists;
 mod neighbours;
 mod outside;
 mod print;
+mod parse;
 mod same;
 
 pub use crate::range::outside::{OutsideDirection, RangeError};
