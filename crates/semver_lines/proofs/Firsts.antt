@@ -68,6 +68,11 @@ pub said : (P : List ℕ → Type 0) (result : Result ⊤ AllocError) (old word 
 said P (Ok done) old word new e empty p = subst P (sym (e ∙ ap (λ l. l ++ word) empty)) p
 said P (Err error) old word new e empty p = tt
 
+-- the same where a value was printed onto it
+pub printed : (P : List ℕ → Type 0) (result : Result ⊤ AllocError) (old word new : List ℕ) → OnOk result (new ≡ old ++ word) → old ≡ [] → P word → OnOk result (P new)
+printed P (Ok done) old word new e empty p = subst P (sym (e ∙ ap (λ l. l ++ word) empty)) p
+printed P (Err error) old word new e empty p = tt
+
 -- a list by its length
 pub nil_by_len : (xs : List ℕ) (n : ℕ) → n ≡ length xs → (n == 0) ≡ true → xs ≡ []
 nil_by_len [] n e h = refl

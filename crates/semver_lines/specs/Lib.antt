@@ -1,6 +1,7 @@
 pub mod Lines
 pub mod Words
 pub mod Replies
+pub mod Bases
 pub mod Commands
 pub mod Answers
 pub mod Runs

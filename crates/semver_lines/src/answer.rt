@@ -2,14 +2,38 @@
 
 ghost use Rattle.std.specs.Prelude.{◌≡◌, [], OnOk, OnErr, string_bytes};
 ghost use Rattle.semver_lines.specs.Answers.{IsAnswer, IsAnswerTo};
+ghost use Rattle.semver_lines.specs.Commands.{IsReply};
 ghost use Rattle.semver_lines.specs.Lines.{fields};
 ghost use Rattle.semver_lines.specs.Steps.{GrowsByAnswer};
 
 use crate::command::Command;
 use crate::fields::first;
-use crate::versions;
+use crate::{increments, ranges, versions};
 use std::alloc::{AllocError, Global};
 use std::str;
+
+// Appends the answer to a command, given the text behind its word.
+fn answer_command(
+    alloc: Global,
+    command: Command,
+    behind: &str,
+    answer: &mut String,
+) -> Result<(), AllocError>
+    requires { string_bytes answer.old ≡ [] }
+    ensures { OnOk result (IsReply command (fields behind.now) (string_bytes answer.new)) }
+{
+    match command {
+        Command::Cmp => versions::cmp(alloc, behind, answer),
+        Command::Ver => versions::ver(alloc, behind, answer),
+        Command::Diff => versions::diff(alloc, behind, answer),
+        Command::Inc => increments::inc(alloc, behind, answer),
+        Command::Range => ranges::range(alloc, behind, answer),
+        Command::And => ranges::and(alloc, behind, answer),
+        Command::Minus => ranges::minus(alloc, behind, answer),
+        Command::Least => ranges::least(alloc, behind, answer),
+        Command::Beyond => ranges::beyond(alloc, behind, answer),
+    }
+}
 
 // Appends the answer to a line that is a text.
 fn answer_text(alloc: Global, text: &str, answer: &mut String) -> Result<(), AllocError>
@@ -20,7 +44,7 @@ fn answer_text(alloc: Global, text: &str, answer: &mut String) -> Result<(), All
         return answer.push_str("bad line");
     };
     match Command::of(word) {
-        Some(Command::Cmp) => versions::cmp(alloc, behind, answer),
+        Some(command) => answer_command(alloc, command, behind, answer),
         None => answer.push_str("bad line"),
     }
 }

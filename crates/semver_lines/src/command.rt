@@ -5,6 +5,22 @@
 pub enum Command {
     /// `cmp;V;W`: how the version V stands to the version W.
     Cmp,
+    /// `ver;V`: the version V, printed.
+    Ver,
+    /// `diff;V;W`: the kind of difference between two versions.
+    Diff,
+    /// `inc;V;word`, `inc;V;word;identifier` and `inc;V;word;identifier;base`: the next version after V by a word.
+    Inc,
+    /// `range;R`: the range R, printed.
+    Range,
+    /// `and;R;S`: the intersection of two ranges, printed, or `none`.
+    And,
+    /// `minus;R;S`: the difference of two ranges, printed, or `none`.
+    Minus,
+    /// `least;R`: the least version that R accepts, or `none`.
+    Least,
+    /// `beyond;R;S`: the least version that R accepts and S does not, or `none`.
+    Beyond,
 }
 
 impl Command {
@@ -18,6 +34,14 @@ impl Command {
     {
         match word.as_bytes() {
             b"cmp" => Some(Command::Cmp),
+            b"ver" => Some(Command::Ver),
+            b"diff" => Some(Command::Diff),
+            b"inc" => Some(Command::Inc),
+            b"range" => Some(Command::Range),
+            b"and" => Some(Command::And),
+            b"minus" => Some(Command::Minus),
+            b"least" => Some(Command::Least),
+            b"beyond" => Some(Command::Beyond),
             _ => None,
         }
     }

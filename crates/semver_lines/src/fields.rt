@@ -11,14 +11,32 @@ pub fn first(text: &str) -> Option<(&str, &str)>
     text.split_once(';')
 }
 
+/// The field of a text that has just one.
+pub fn one(text: &str) -> Option<&str>
+    ensures some { IfSome result (λ field. fields text.now ≡ field.now ∷ []) }
+    ensures none { IfNone result (length (fields text.now) ≢ 1) }
+{
+    match first(text) {
+        Some(_) => None,
+        None => Some(text),
+    }
+}
+
 /// The two fields of a text that has just two.
 pub fn two(text: &str) -> Option<(&str, &str)>
     ensures some { IfSome result (λ both. fields text.now ≡ both.0.now ∷ both.1.now ∷ []) }
     ensures none { IfNone result (length (fields text.now) ≢ 2) }
 {
-    let (one, behind) = first(text)?;
-    match first(behind) {
-        Some(_) => None,
-        None => Some((one, behind)),
-    }
+    let (front, behind) = first(text)?;
+    Some((front, one(behind)?))
+}
+
+/// The three fields of a text that has just three.
+pub fn three(text: &str) -> Option<(&str, &str, &str)>
+    ensures some { IfSome result (λ all. fields text.now ≡ all.0.now ∷ all.1.now ∷ all.2.now ∷ []) }
+    ensures none { IfNone result (length (fields text.now) ≢ 3) }
+{
+    let (front, behind) = first(text)?;
+    let (second, third) = two(behind)?;
+    Some((front, second, third))
 }

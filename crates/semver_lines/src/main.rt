@@ -5,6 +5,8 @@
 mod answer;
 mod command;
 mod fields;
+mod increments;
+mod ranges;
 mod run;
 #[cfg(test)]
 mod tests;

@@ -6,17 +6,19 @@ ghost use Rattle.semver_lines.specs.declared.command.Command.{Command};
 ghost use Rattle.semver_core.specs.Parsing.{Parses, IsRefused};
 ghost use Rattle.semver_lines.specs.Commands.{IsReply};
 ghost use Rattle.semver_core.specs.Order.{precedence};
+ghost use Rattle.semver_core.specs.Printed.{version_text};
 ghost use Rattle.semver_lines.specs.Replies.{OnVersion};
 ghost use Rattle.semver_lines.specs.Lines.{fields};
-ghost use Rattle.semver_lines.specs.Words.{order_word};
+ghost use Rattle.semver_lines.specs.Words.{difference_word, order_word};
+ghost use Rattle.semver_core.specs.Difference.{difference};
 
-use crate::fields::two;
+use crate::fields::{one, two};
 use nodejs_semver::{Failure, MAX_SAFE_INTEGER, Version};
 use std::alloc::{AllocError, Global};
 use std::cmp::Ordering;
 
-// The version of a text, or `None` where it has none.
-fn version(alloc: Global, text: &str) -> Result<Option<Version>, AllocError>
+/// The version of a text, or `None` where it has none.
+pub fn version(alloc: Global, text: &str) -> Result<Option<Version>, AllocError>
     ensures some { IfOk result (λ found. IfSome found (λ v. Parses MAX_SAFE_INTEGER text.now v)) }
     ensures none { IfOk result (λ found. IfNone found (IsRefused MAX_SAFE_INTEGER text.now)) }
 {
@@ -59,4 +61,59 @@ pub fn cmp(alloc: Global, behind: &str, answer: &mut String) -> Result<(), Alloc
         return answer.push_str("bad line");
     };
     answer.push_str(comparison(alloc, first, second)?)
+}
+
+// Prints the version of a text.
+fn push_version(alloc: Global, text: &str, answer: &mut String) -> Result<(), AllocError>
+    requires { string_bytes answer.old ≡ [] }
+    ensures { OnOk result (OnVersion (λ v reply. reply ≡ version_text v) text.now (string_bytes answer.new)) }
+{
+    match version(alloc, text)? {
+        Some(v) => write!(answer, "{v}"),
+        None => answer.push_str("bad version"),
+    }
+}
+
+/// `ver;V`: the version, printed.
+pub fn ver(alloc: Global, behind: &str, answer: &mut String) -> Result<(), AllocError>
+    requires { string_bytes answer.old ≡ [] }
+    ensures { OnOk result (IsReply Command.Ver (fields behind.now) (string_bytes answer.new)) }
+{
+    match one(behind) {
+        Some(text) => push_version(alloc, text, answer),
+        None => answer.push_str("bad line"),
+    }
+}
+
+// Writes the kind of difference between two version texts.
+fn push_difference(
+    alloc: Global,
+    first: &str,
+    second: &str,
+    answer: &mut String,
+) -> Result<(), AllocError>
+    requires { string_bytes answer.old ≡ [] }
+    ensures { OnOk result (OnVersion (λ v. OnVersion (λ w reply. reply ≡ difference_word (difference v w)) second.now) first.now (string_bytes answer.new)) }
+{
+    let Some(v) = version(alloc, first)? else {
+        return answer.push_str("bad version");
+    };
+    let Some(w) = version(alloc, second)? else {
+        return answer.push_str("bad version");
+    };
+    match v.diff(&w) {
+        Some(kind) => write!(answer, "{kind}"),
+        None => answer.push_str("none"),
+    }
+}
+
+/// `diff;V;W`: the word of the kind of difference, or `none`.
+pub fn diff(alloc: Global, behind: &str, answer: &mut String) -> Result<(), AllocError>
+    requires { string_bytes answer.old ≡ [] }
+    ensures { OnOk result (IsReply Command.Diff (fields behind.now) (string_bytes answer.new)) }
+{
+    match two(behind) {
+        Some((first, second)) => push_difference(alloc, first, second, answer),
+        None => answer.push_str("bad line"),
+    }
 }

@@ -1,6 +1,6 @@
 // Ranges are read from their texts.
 
-ghost use Rattle.std.specs.Prelude.{◌≡◌, ⊤, [], IfErr, IfOk, true};
+ghost use Rattle.std.specs.Prelude.{◌≡◌, ◌<◌, ⊤, [], IfErr, IfOk, OnOk, length, true};
 ghost use Rattle.nodejs_semver.specs.Accepts.{accepts};
 ghost use Rattle.nodejs_semver.specs.Denotes.{denotes};
 ghost use Rattle.nodejs_semver.specs.Written.{writes};
@@ -24,6 +24,7 @@ impl Range {
     pub fn parse(alloc: Global, text: &str) -> Result<Range, Failure<SemverError>>
         // The intervals are those of the text, in order and with their builds.
         ensures ok { IfOk result (λ range. range ≡ denotes MAX_SAFE_INTEGER text.now) }
+        ensures some { OnOk result (0 < length (denotes MAX_SAFE_INTEGER text.now)) }
         // A text is refused only where it has none. The one other error is want of memory.
         ensures err { IfErr result (λ e. MatchFailure e (denotes MAX_SAFE_INTEGER text.now ≡ []) ⊤) }
         // With pre-releases included, the range accepts exactly the versions that the text writes.
