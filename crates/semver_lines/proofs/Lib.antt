@@ -3,3 +3,4 @@ pub mod CutLaws
 pub mod Told
 pub mod Taken
 pub mod Ends
+pub mod Several

@@ -7,3 +7,4 @@ pub mod Answers
 pub mod Runs
 pub mod Cuts
 pub mod Steps
+pub mod SeveralVersions

@@ -5,7 +5,9 @@ use Rattle.std.specs.declared.cmp.Ordering.TheVariants.{Less, Equal, Greater}
 use Rattle.semver_core.specs.Difference as difference
 use Rattle.semver_core.specs.Increment.{Fault, InvalidIdentifier, InvalidIncrementArgument, NotAPrerelease, Overflow}
 use Rattle.semver_core.specs.Printed.{version_text}
+use Rattle.semver_core.specs.Cuts.{Span}
 use Rattle.semver_core.specs.Versions.{VersionValue}
+use Rattle.nodejs_semver.specs.Printed.{range_text}
 use Rattle.semver_core.specs.declared.difference.VersionDiff.{VersionDiff}
 
 -- the line is no question
@@ -15,6 +17,19 @@ bad_line = codes "bad line"
 -- a text of the question is no version
 abbrev pub bad_version : List ℕ
 bad_version = codes "bad version"
+
+-- a text of the question is no range
+abbrev pub bad_range : List ℕ
+bad_range = codes "bad range"
+
+-- a version or a range, printed, where there is one
+abbrev pub version_or_none : Option VersionValue → List ℕ
+version_or_none None = codes "none"
+version_or_none (Some v) = version_text v
+
+abbrev pub range_or_none : Option (List (Span VersionValue)) → List ℕ
+range_or_none None = codes "none"
+range_or_none (Some ss) = range_text ss
 
 -- how the first of two stands to the second
 abbrev pub order_word : Ordering → List ℕ

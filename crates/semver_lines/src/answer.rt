@@ -8,7 +8,7 @@ ghost use Rattle.semver_lines.specs.Steps.{GrowsByAnswer};
 
 use crate::command::Command;
 use crate::fields::first;
-use crate::{increments, versions};
+use crate::{best, increments, ranges, versions};
 use std::alloc::{AllocError, Global};
 use std::str;
 
@@ -27,6 +27,13 @@ fn answer_command(
         Command::Ver => versions::ver(alloc, behind, answer),
         Command::Diff => versions::diff(alloc, behind, answer),
         Command::Inc => increments::inc(alloc, behind, answer),
+        Command::Range => ranges::range(alloc, behind, answer),
+        Command::And => ranges::and(alloc, behind, answer),
+        Command::Minus => ranges::minus(alloc, behind, answer),
+        Command::Least => ranges::least(alloc, behind, answer),
+        Command::Beyond => ranges::beyond(alloc, behind, answer),
+        Command::Max => best::max(alloc, behind, answer),
+        Command::Min => best::min(alloc, behind, answer),
     }
 }
 

@@ -11,6 +11,20 @@ pub enum Command {
     Diff,
     /// `inc;V;word`, `inc;V;word;identifier` and `inc;V;word;identifier;base`: the next version after V by a word.
     Inc,
+    /// `range;R`: the range R, printed.
+    Range,
+    /// `and;R;S`: the intersection of two ranges, printed, or `none`.
+    And,
+    /// `minus;R;S`: the difference of two ranges, printed, or `none`.
+    Minus,
+    /// `least;R`: the least version that R accepts, or `none`.
+    Least,
+    /// `beyond;R;S`: the least version that R accepts and S does not, or `none`.
+    Beyond,
+    /// `max;R;V;..`: the greatest of some versions that R accepts, or `none`.
+    Max,
+    /// `min;R;V;..`: the least of some versions that R accepts, or `none`.
+    Min,
 }
 
 impl Command {
@@ -27,6 +41,13 @@ impl Command {
             b"ver" => Some(Command::Ver),
             b"diff" => Some(Command::Diff),
             b"inc" => Some(Command::Inc),
+            b"range" => Some(Command::Range),
+            b"and" => Some(Command::And),
+            b"minus" => Some(Command::Minus),
+            b"least" => Some(Command::Least),
+            b"beyond" => Some(Command::Beyond),
+            b"max" => Some(Command::Max),
+            b"min" => Some(Command::Min),
             _ => None,
         }
     }

@@ -3,9 +3,11 @@
 #![tactic(auto)]
 
 mod answer;
+mod best;
 mod command;
 mod fields;
 mod increments;
+mod ranges;
 mod run;
 #[cfg(test)]
 mod tests;
