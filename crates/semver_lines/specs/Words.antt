@@ -22,6 +22,11 @@ bad_version = codes "bad version"
 abbrev pub bad_range : List ℕ
 bad_range = codes "bad range"
 
+-- whether it is so
+abbrev pub truth_word : Bool → List ℕ
+truth_word true = codes "true"
+truth_word false = codes "false"
+
 -- a version or a range, printed, where there is one
 abbrev pub version_or_none : Option VersionValue → List ℕ
 version_or_none None = codes "none"

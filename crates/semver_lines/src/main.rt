@@ -6,6 +6,7 @@ mod answer;
 mod command;
 mod fields;
 mod increments;
+mod questions;
 mod ranges;
 mod run;
 #[cfg(test)]
