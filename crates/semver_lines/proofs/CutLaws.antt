@@ -1,5 +1,5 @@
 -- Lines as they are cut from an input, part after part.
-use Rattle.std.proofs.Common.{◌≡◌, ◌==◌, ◌&&◌, ◌++◌, ◌∷◌, ◌∙◌, ℕ, Bool, true, false, not, List, [], if◌then◌else◌, refl, sym, ap, append_assoc, append-nil, eqb, inl, inr}
+use Rattle.std.proofs.Common.{◌≡◌, ◌==◌, ◌&&◌, ◌++◌, ◌∷◌, ◌∙◌, ℕ, true, false, not, List, [], if◌then◌else◌, refl, sym, ap, append_assoc, append-nil, eqb, inl, inr}
 use Rattle.std.proofs.lemmas.Bool.{cases_Bool, eqb-true, false≢true}
 use Rattle.std.proofs.lemmas.List.Folds.{list_all-append}
 use Rattle.std.specs.List.{flat_map}

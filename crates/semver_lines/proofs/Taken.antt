@@ -1,5 +1,5 @@
 -- How a chunk of the input is taken, line by line: `done` is what was taken of it, `rest` what was not.
-use Rattle.std.proofs.Common.{◌≡◌, ◌++◌, ◌∷◌, ◌∙◌, ℕ, true, List, [], Result, Ok, Err, OnOk, OnErr, is_ok, if◌then◌else◌, refl, sym, ap, subst, append_assoc, append-nil}
+use Rattle.std.proofs.Common.{◌≡◌, ◌++◌, ◌∷◌, ◌∙◌, ℕ, true, List, [], Result, Ok, Err, OnOk, OnErr, is_ok, if◌then◌else◌, sym, ap, subst, append_assoc, append-nil}
 use Rattle.std.specs.Prelude.{⊤}
 use Rattle.std.specs.declared.alloc.AllocError.{AllocError}
 use Rattle.semver_lines.specs.Cuts.{cut_lines, cut_rest}

@@ -1,5 +1,5 @@
 -- For proofs: what the steps of a run do.
-use Rattle.std.specs.Prelude.{◌≡◌, ◌<◌, ℕ, List, [], ◌∷◌, ◌++◌, length, Option, Result, Ok, Err, ⊤}
+use Rattle.std.specs.Prelude.{◌≡◌, ◌<◌, ℕ, List, ◌++◌, length, Option, Result, Ok, Err, ⊤}
 use Rattle.std.specs.Io.KnownBytes.{Appends, Consumes, Keeps}
 use Rattle.semver_lines.specs.Answers.{Answers, IsAnswer}
 use Rattle.semver_lines.specs.Cuts.{cut_lines, cut_rest}

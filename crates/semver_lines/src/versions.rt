@@ -98,10 +98,10 @@ fn push_difference(
     let Some(v) = version(alloc, first)? else {
         return answer.push_str("bad version");
     };
-    let Some(w) = version(alloc, second)? else {
+    let Some(other) = version(alloc, second)? else {
         return answer.push_str("bad version");
     };
-    match v.diff(&w) {
+    match v.diff(&other) {
         Some(kind) => write!(answer, "{kind}"),
         None => answer.push_str("none"),
     }

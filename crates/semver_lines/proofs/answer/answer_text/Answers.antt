@@ -1,7 +1,6 @@
-use Rattle.std.proofs.Common.{◌≡◌, ◌∷◌, ◌∙◌, ap, refl}
+use Rattle.std.proofs.Common.{◌∷◌, ◌∙◌, ap}
 use Rattle.std.proofs.lemmas.Result.{on_ok_weaker}
 use Rattle.semver_lines.specs.Answers.{replied, unknown, alone}
-use Rattle.semver_lines.specs.Commands.{word_of}
 use Rattle.semver_lines.specs.Lines.{fields}
 use Rattle.semver_lines.proofs.Firsts.{pushed}
 use Rattle.semver_lines.proofs.answer.answer_text.Goals as goal

@@ -1,4 +1,4 @@
-use Rattle.std.proofs.Common.{◌≡◌, ◌≢◌, ◌<◌, ◌==◌, ℕ, List, [], ◌∷◌, length, refl, arith}
+use Rattle.std.proofs.Common.{◌≢◌, ◌<◌, ◌==◌, ℕ, List, [], ◌∷◌, length, refl, arith}
 use Rattle.std.proofs.lemmas.List.Splits.{length-slice_split}
 use Rattle.semver_lines.specs.Commands.{IsReply}
 use Rattle.semver_lines.specs.Lines.{fields}

@@ -1,7 +1,7 @@
-use Rattle.std.proofs.Common.{◌≡◌, ◌==◌, Option, Some, None, cond, ltb, length, rules, tests}
+use Rattle.std.proofs.Common.{◌==◌, rules, tests}
 use Rattle.std.proofs.lemmas.Iterator.{YieldsList-from_slice}
 use Rattle.std.proofs.lemmas.Iterator.Search.{position_from_yields_List}
-use Rattle.semver_lines.proofs.Firsts.{feed_at, found_feed}
+use Rattle.semver_lines.proofs.Firsts.{found_feed}
 use Rattle.semver_lines.proofs.run.first_feed.Goals as goal
 
 pub returns-clause-line : goal.returns-clause-line

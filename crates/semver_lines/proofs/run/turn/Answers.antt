@@ -1,4 +1,4 @@
-use Rattle.std.proofs.Common.{sym, take}
+use Rattle.std.proofs.Common.{take}
 use Rattle.std.proofs.lemmas.Result.{err_from_is_err_and}
 use Rattle.semver_lines.proofs.Ends.{turn_torn}
 use Rattle.semver_lines.proofs.run.turn.Goals as goal
