@@ -1,5 +1,13 @@
+mod core_increments;
+mod core_ranges;
+mod core_versions;
+mod cuts;
+mod difference;
 mod ends;
 mod faults;
+mod json;
+mod printing;
+mod scan;
 
 use crate::run::run;
 use ends::{FailingReader, FailingWriter};
