@@ -3,3 +3,4 @@ pub mod Accepts
 pub mod SameRange
 pub mod SameLaws
 pub mod Lists
+pub mod RangeExamples
