@@ -1,10 +1,14 @@
-//! Ranges of versions as npm reads them.
+//! Versions and ranges as npm has them: which versions a range admits, which one is the best, and which number comes next.
+//!
+//! Calls that allocate are passed the allocator and answer want of memory beside their own answers.
 #![tactic(auto)]
 
+pub mod laws;
 mod range;
+mod readers;
 
-pub use crate::range::Range;
+pub use crate::range::{OutsideDirection, Range, RangeError};
 pub use semver_core::{
-    Accepts, Failure, Identifier, MAX_LENGTH, MAX_SAFE_INTEGER, NegativeNumber, SemverError,
-    Version, VersionParts, cuts,
+    Accepts, Failure, Identifier, IdentifierBase, IncrementError, MAX_LENGTH, MAX_SAFE_INTEGER,
+    NegativeNumber, ReleaseType, SemverError, Version, VersionDiff, VersionParts, cuts,
 };

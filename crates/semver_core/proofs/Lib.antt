@@ -7,9 +7,14 @@ pub mod Texts
 pub mod Blanks
 pub mod Clauses
 pub mod CutLaws
+pub mod LastNumber
+pub mod DifferenceLaws
+pub mod IncrementLaws
+pub mod NextLaws
 pub mod Returns
 pub mod Prints
 pub mod Reread
 pub mod Spaces
 pub mod SpaceLaw
 pub mod Trims
+pub mod IncrementClauses

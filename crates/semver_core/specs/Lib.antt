@@ -15,7 +15,17 @@ pub mod PartsView
 pub mod ListView
 pub mod Parsing
 pub mod Normal
+pub mod PrintedRows
 pub mod Cuts
+pub mod Increment
+pub mod IncrementView
+pub mod IncrementSteps
+pub mod IncrementLeast
+pub mod IncrementRows
+pub mod Successors
+pub mod NextVersions
+pub mod Difference
+pub mod DifferenceRows
 pub mod Examples
 pub mod Spaces
 pub mod SpaceLaws

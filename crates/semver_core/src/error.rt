@@ -21,3 +21,14 @@ pub enum Failure<E> {
     /// Memory was missing. The same call may succeed when there is more.
     Memory(AllocError),
 }
+
+impl<E> From<AllocError> for Failure<E> {
+    ghost use Rattle.semver_core.specs.declared.error.Failure.TheVariants.{Memory};
+    ghost use Rattle.std.specs.Prelude.{◌≡◌};
+
+    ghost from_gives = { λ error failure. failure ≡ Memory error };
+
+    fn from(error: AllocError) -> Failure<E> {
+        Failure::Memory(error)
+    }
+}

@@ -6,15 +6,19 @@
 ghost use Rattle.std.specs.Prelude.{◌≡◌};
 
 pub mod cuts;
+mod difference;
 mod error;
 mod identifier;
+mod increment;
 pub mod laws;
 mod print;
 pub mod readers;
 mod version;
 
+pub use crate::difference::{ReleaseType, VersionDiff};
 pub use crate::error::{Failure, NegativeNumber, SemverError};
 pub use crate::identifier::Identifier;
+pub use crate::increment::{IdentifierBase, IncrementError};
 pub use crate::version::Version;
 pub use crate::version::accepts::Accepts;
 pub use crate::version::parts::VersionParts;

@@ -127,7 +127,7 @@ fn digits(bytes: &[u8], at: usize) -> Option<(u64, usize)>
     ended(value, at, bytes.len())
 }
 
-fn is_identifier_char(byte: u8) -> bool
+pub(crate) fn is_identifier_char(byte: u8) -> bool
     ensures { result ≡ is_identifier_char byte }
 {
     byte.is_ascii_alphanumeric() || byte == b'-'

@@ -147,7 +147,7 @@ impl Point for Version {
 }
 
 // The list, or `None` where it is empty.
-fn unless_empty(list: Vec<Identifier>) -> Option<Vec<Identifier>>
+pub(crate) fn unless_empty(list: Vec<Identifier>) -> Option<Vec<Identifier>>
     ensures { list_ids result ≡ ids_view list.items }
 {
     if list.is_empty() { None } else { Some(list) }
@@ -164,7 +164,7 @@ fn or_empty(alloc: Global, list: Option<Vec<Identifier>>) -> Vec<Identifier>
 }
 
 // The identifiers again, with room for no more. It takes no memory where there are none.
-fn copy_items(alloc: Global, list: &[Identifier]) -> Result<Vec<Identifier>, AllocError>
+pub(crate) fn copy_items(alloc: Global, list: &[Identifier]) -> Result<Vec<Identifier>, AllocError>
     ensures whole { IfOk result (λ copy. ids_view copy.items ≡ ids_view list.now) }
     ensures memory { OnErr result (0 < length list.now) }
 {

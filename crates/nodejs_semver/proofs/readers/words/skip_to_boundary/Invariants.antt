@@ -1,0 +1,6 @@
+use Rattle.std.proofs.Common.{◌≡◌, drop}
+use Rattle.nodejs_semver.specs.Words.{from_boundary}
+use Rattle.nodejs_semver.proofs.readers.words.skip_to_boundary.Given as goal
+
+abbrev pub invariant-bytes : goal.invariant-bytes
+invariant-bytes l = from_boundary l.text ≡ from_boundary (drop l.at l.text)

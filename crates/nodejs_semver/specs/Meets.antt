@@ -1,0 +1,15 @@
+-- For proofs and private contracts. What the reader of a part computes: one interval after another.
+use Rattle.std.specs.Prelude.{List, [], ◌∷◌, Option, Some, None}
+use Rattle.std.specs.declared.cmp.Ordering.{Ordering}
+use Rattle.semver_core.specs.Cuts.{Span, meet}
+
+-- the running interval meets each next one, while that leaves an interval
+unfoldable pub joined_from : {V : Type 0} → (V → V → Ordering) → Span V → List (Span V) → List (Span V)
+joined_from R s [] = s ∷ []
+joined_from R s (t ∷ rest) = elim (meet R s t) [ Some m ↦ joined_from R m rest | None ↦ s ∷ joined_from R t rest ]
+
+-- the same where there may be none yet
+abbrev pub joined : {V : Type 0} → (V → V → Ordering) → Option (Span V) → List (Span V) → List (Span V)
+joined R None [] = []
+joined R None (t ∷ rest) = joined_from R t rest
+joined R (Some s) spans = joined_from R s spans

@@ -1,0 +1,60 @@
+-- Statement. The runs of a part: the division of its words that have bounds into intervals. The order of the points is a
+-- parameter.
+use Rattle.std.specs.Prelude.{◌≡◌, Bool, true, false, List, [], ◌∷◌, ◌++◌, flat_map}
+use Rattle.std.specs.List.{AllByRecursion}
+use Rattle.std.specs.declared.cmp.Ordering.{Ordering}
+use Rattle.semver_core.specs.Cuts.{Span, is_interval, greater_lower, lesser_upper}
+use Rattle.semver_core.specs.declared.cuts.bound.Bound.{Bound}
+
+-- the lower bound of the last span with the greatest lower cut
+abbrev pub greatest_lower : {V : Type 0} → (V → V → Ordering) → Span V → List (Span V) → Bound V
+greatest_lower R s [] = s.lower
+greatest_lower R s (t ∷ rest) = greater_lower R s.lower (greatest_lower R t rest)
+
+-- the upper bound of the first span with the least upper cut
+abbrev pub least_upper : {V : Type 0} → (V → V → Ordering) → Span V → List (Span V) → Bound V
+least_upper R s [] = s.upper
+least_upper R s (t ∷ rest) = lesser_upper R s.upper (least_upper R t rest)
+
+-- a run has one word or more; these are the bounds of its words
+pub record Run (V : Type 0) : Type 0 where
+  pub first : Span V
+  pub others : List (Span V)
+
+abbrev pub run_items : {V : Type 0} → Run V → List (Span V)
+run_items r = r.first ∷ r.others
+
+-- the interval of a run
+abbrev pub interval_of : {V : Type 0} → (V → V → Ordering) → Run V → Span V
+interval_of R r = record { lower = greatest_lower R r.first r.others; upper = least_upper R r.first r.others }
+
+-- whether the run's lower cut is below its upper cut
+abbrev pub fits : {V : Type 0} → (V → V → Ordering) → Run V → Bool
+fits R r = is_interval R (interval_of R r)
+
+-- a run with one word more
+abbrev pub longer : {V : Type 0} → Run V → Span V → Run V
+longer r s = record { first = r.first; others = r.others ++ s ∷ [] }
+
+-- no run can take the first word of the next one
+abbrev pub AreLongest : {V : Type 0} → (V → V → Ordering) → List (Run V) → Type 0
+AreLongest R [] = Unit {0}
+AreLongest R (r ∷ []) = Unit {0}
+AreLongest R (r ∷ s ∷ rest) = (fits R (longer r s.first) ≡ false) × AreLongest R (s ∷ rest)
+
+-- the division of a part's bounds into runs, of which there is one
+pub record AreRuns {V : Type 0} (R : V → V → Ordering) (bounds : List (Span V)) (runs : List (Run V)) : Type 0 where
+  pub whole : flat_map run_items runs ≡ bounds
+  pub each : AllByRecursion (λ r. fits R r ≡ true) runs
+  pub longest : AreLongest R runs
+
+-- the runs, the first one being under way
+unfoldable pub runs_from : {V : Type 0} → (V → V → Ordering) → Run V → List (Span V) → List (Run V)
+runs_from R r [] = r ∷ []
+runs_from R r (s ∷ rest) =
+    elim (fits R (longer r s)) [ true ↦ runs_from R (longer r s) rest | false ↦ r ∷ runs_from R (record { first = s; others = [] }) rest ]
+
+-- the same as a function of the bounds, each of which is an interval
+abbrev pub runs_of : {V : Type 0} → (V → V → Ordering) → List (Span V) → List (Run V)
+runs_of R [] = []
+runs_of R (s ∷ rest) = runs_from R (record { first = s; others = [] }) rest

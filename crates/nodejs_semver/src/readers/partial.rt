@@ -1,0 +1,204 @@
+// A partial: a version whose components may be absent or wildcards.
+
+ghost use Rattle.std.specs.Option.{ForSome};
+ghost use Rattle.std.specs.Prelude.{IfSome, ◌≡◌, ◌≤◌, ◌+◌, length, take, drop, true};
+ghost use Rattle.nodejs_semver.specs.Fronts as Spec;
+ghost use Rattle.nodejs_semver.specs.Fronts.{front_view};
+ghost use Rattle.semver_core.specs.Characters.{is_identifier_char};
+ghost use Rattle.semver_core.specs.Identifiers.{goes_on};
+ghost use Rattle.nodejs_semver.specs.Partials.{drop_v};
+ghost use Rattle.nodejs_semver.specs.Readings.{pair_view, partial_front_view, partial_pair_view};
+ghost use Rattle.semver_core.specs.declared.TheConstants.{MAX_SAFE_INTEGER};
+
+use crate::readers::syntax::Partial;
+use crate::readers::{number, spaces};
+use semver_core::MAX_SAFE_INTEGER;
+
+fn begins_wildcard(text: &[u8]) -> bool
+    ensures { result ≡ Spec.begins_wildcard text.now }
+{
+    matches!(text, [b'x' | b'X' | b'*', ..])
+}
+
+// A wildcard or a number.
+#[tactic(auto, unfolding(crate::specs::Fronts::component_front))]
+fn component_front(text: &[u8]) -> Option<(Option<u64>, &[u8])>
+    ensures value { front_view result ≡ Spec.component_front MAX_SAFE_INTEGER text.now }
+    ensures small { IfSome result (λ p. ForSome p.0 (λ n. n ≤ MAX_SAFE_INTEGER)) }
+{
+    if begins_wildcard(text) {
+        return Some((None, &text[1..]));
+    }
+    let (number, rest) = number::number_front(text)?;
+    Some((Some(number), rest))
+}
+
+// The same behind a dot.
+#[tactic(auto, unfolding(crate::specs::Fronts::dotted_front))]
+fn dotted_front(text: &[u8]) -> Option<(Option<u64>, &[u8])>
+    ensures value { front_view result ≡ Spec.dotted_front MAX_SAFE_INTEGER text.now }
+    ensures small { IfSome result (λ p. ForSome p.0 (λ n. n ≤ MAX_SAFE_INTEGER)) }
+{
+    match text {
+        [b'.', rest @ ..] => component_front(rest),
+        _ => None,
+    }
+}
+
+fn is_identifier_char(byte: u8) -> bool
+    ensures { result ≡ is_identifier_char byte }
+{
+    byte.is_ascii_alphanumeric() || byte == b'-'
+}
+
+fn begins_identifier(text: &[u8]) -> bool
+    ensures { result ≡ Spec.begins_identifier text.now }
+{
+    match text {
+        [byte, ..] => is_identifier_char(*byte),
+        [] => false,
+    }
+}
+
+// Whether identifiers joined by dots go on here.
+fn goes_on(text: &[u8]) -> bool
+    ensures { result ≡ goes_on text.now }
+{
+    match text {
+        [b'.', rest @ ..] => begins_identifier(rest),
+        [byte, ..] => is_identifier_char(*byte),
+        [] => false,
+    }
+}
+
+// How many bytes the identifiers at the front take.
+#[tactic(auto, unfolding(crate::specs::Fronts::list_len))]
+fn list_len(text: &[u8]) -> usize
+    ensures { result ≡ Spec.list_len text.now }
+{
+    if !begins_identifier(text) {
+        return 0;
+    }
+    'bytes: for at in 0..text.len() {
+        if !goes_on(&text[at..]) {
+            return at;
+        }
+    }
+    text.len()
+}
+
+// The identifiers at the front, and what stands behind them.
+#[tactic(auto, using(crate::proofs::Lists::list_len_fits))]
+fn split_list(text: &[u8]) -> (&[u8], &[u8])
+    ensures front { result.0.now ≡ take (Spec.list_len text.now) text.now }
+    ensures rest { result.1.now ≡ drop (Spec.list_len text.now) text.now }
+{
+    text.split_at(list_len(text))
+}
+
+// The text of the pre-release at the front, and what stands behind it.
+#[tactic(auto, unfolding(crate::specs::Fronts::pre_release_front))]
+fn pre_release_front(text: &[u8]) -> (&[u8], &[u8])
+    ensures { pair_view result ≡ Spec.pre_release_front text.now }
+{
+    match text {
+        [b'-', rest @ ..] => {
+            if begins_identifier(rest) {
+                split_list(rest)
+            } else {
+                (&text[..0], text)
+            }
+        }
+        _ => split_list(text),
+    }
+}
+
+// The same of the build.
+#[tactic(auto, unfolding(crate::specs::Fronts::build_front))]
+fn build_front(text: &[u8]) -> (&[u8], &[u8])
+    ensures { pair_view result ≡ Spec.build_front text.now }
+{
+    match text {
+        [b'+', rest @ ..] if begins_identifier(rest) => split_list(rest),
+        _ => (&text[..0], text),
+    }
+}
+
+// The partial at the front whose major and minor components were read.
+#[tactic(auto, unfolding(crate::specs::Fronts::list_of))]
+fn patch_front<'a>(
+    major: Option<u64>,
+    minor: Option<u64>,
+    text: &'a [u8],
+) -> (Partial<'a>, &'a [u8])
+    requires major_small { ForSome major (λ n. n ≤ MAX_SAFE_INTEGER) }
+    requires minor_small { ForSome minor (λ n. n ≤ MAX_SAFE_INTEGER) }
+    ensures { partial_pair_view result
+        ≡ Spec.patch_front major minor text.now (Spec.dotted_front MAX_SAFE_INTEGER text.now) }
+{
+    let Some((patch, rest)) = dotted_front(text) else {
+        return (
+            Partial {
+                major,
+                minor,
+                patch: None,
+                pre_release: &text[..0],
+                build: &text[..0],
+            },
+            text,
+        );
+    };
+    let (pre_release, rest) = pre_release_front(rest);
+    let (build, rest) = build_front(rest);
+    (
+        Partial {
+            major,
+            minor,
+            patch,
+            pre_release,
+            build,
+        },
+        rest,
+    )
+}
+
+// The partial at the front whose major component was read.
+#[tactic(auto, unfolding(crate::specs::Fronts::list_of))]
+fn minor_front(major: Option<u64>, text: &[u8]) -> (Partial<'_>, &[u8])
+    requires { ForSome major (λ n. n ≤ MAX_SAFE_INTEGER) }
+    ensures { partial_pair_view result
+        ≡ Spec.minor_front MAX_SAFE_INTEGER major text.now (Spec.dotted_front MAX_SAFE_INTEGER text.now) }
+{
+    match dotted_front(text) {
+        Some((minor, rest)) => patch_front(major, minor, rest),
+        None => (
+            Partial {
+                major,
+                minor: None,
+                patch: None,
+                pre_release: &text[..0],
+                build: &text[..0],
+            },
+            text,
+        ),
+    }
+}
+
+// The text behind an optional `v`.
+fn drop_v(text: &[u8]) -> &[u8]
+    ensures { result.now ≡ drop_v text.now }
+{
+    match text {
+        [b'v', rest @ ..] => rest,
+        _ => text,
+    }
+}
+
+// The partial at the front, component by component.
+#[tactic(auto, unfolding(crate::specs::Fronts::partial_front))]
+pub(crate) fn partial_front(text: &[u8]) -> Option<(Partial<'_>, &[u8])>
+    ensures { partial_front_view result ≡ Spec.partial_front MAX_SAFE_INTEGER text.now }
+{
+    let (major, rest) = component_front(spaces::skip_spaces(drop_v(text)))?;
+    Some(minor_front(major, rest))
+}

@@ -1,0 +1,57 @@
+// What a range text is made of.
+
+ghost use Rattle.std.specs.Option.{ForSome};
+ghost use Rattle.std.specs.Prelude.{◌≤◌};
+ghost use Rattle.semver_core.specs.declared.TheConstants.{MAX_SAFE_INTEGER};
+
+use semver_core::cuts::Bound;
+
+/// A partial as it was read. A component is None where it is absent or a wildcard; the identifiers stand
+/// as their text, joined by dots.
+#[derive(Clone, Copy)]
+pub(crate) struct Partial<'a> {
+    pub(crate) major: Option<u64>,
+    pub(crate) minor: Option<u64>,
+    pub(crate) patch: Option<u64>,
+    pub(crate) pre_release: &'a [u8],
+    pub(crate) build: &'a [u8],
+    ghost major_fits: { ForSome major (λ n. n ≤ MAX_SAFE_INTEGER) },
+    ghost minor_fits: { ForSome minor (λ n. n ≤ MAX_SAFE_INTEGER) },
+    ghost patch_fits: { ForSome patch (λ n. n ≤ MAX_SAFE_INTEGER) },
+}
+
+#[derive(Clone, Copy)]
+pub(crate) enum Comparator {
+    AtLeast,
+    Above,
+    Equal,
+    AtMost,
+    Below,
+}
+
+#[derive(Clone, Copy)]
+pub(crate) enum Word<'a> {
+    Hyphen(Partial<'a>, Partial<'a>),
+    Plain(Partial<'a>),
+    Compare(Comparator, Partial<'a>),
+    Tilde(bool, Partial<'a>),
+    Caret(Partial<'a>),
+    Malformed,
+}
+
+/// A version whose identifiers still stand as their text.
+#[derive(Clone, Copy)]
+pub(crate) struct BareVersion<'a> {
+    pub(crate) major: u64,
+    pub(crate) minor: u64,
+    pub(crate) patch: u64,
+    pub(crate) pre_release: &'a [u8],
+    pub(crate) build: &'a [u8],
+}
+
+/// What the table gives a word.
+#[derive(Drop)]
+pub(crate) struct Bounds<'a> {
+    pub(crate) lower: Bound<BareVersion<'a>>,
+    pub(crate) upper: Bound<BareVersion<'a>>,
+}

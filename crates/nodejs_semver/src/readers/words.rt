@@ -1,0 +1,173 @@
+// The words of a part.
+
+ghost use Rattle.std.specs.Prelude.{◌≡◌, ◌≤◌, ◌+◌, length, take, drop, true};
+ghost use Rattle.nodejs_semver.specs.Partials.{longest_partial};
+ghost use Rattle.nodejs_semver.specs.Readings.{comparator_front_view, partial_front_view, reading_view, rest_view, sign_view, word_pair_view, word_view};
+ghost use Rattle.nodejs_semver.specs.Words as Spec;
+ghost use Rattle.nodejs_semver.specs.Words.{is_boundary};
+ghost use Rattle.semver_core.specs.declared.TheConstants.{MAX_SAFE_INTEGER};
+
+use crate::readers::syntax::{Comparator, Partial, Word};
+use crate::readers::{partial, spaces};
+use semver_core::MAX_SAFE_INTEGER;
+
+// The longest partial at the front.
+#[tactic(auto, using(crate::proofs::Longest::longest_is_front))]
+fn longest_partial(text: &[u8]) -> Option<(Partial<'_>, &[u8])>
+    ensures { partial_front_view result ≡ longest_partial MAX_SAFE_INTEGER text.now }
+{
+    partial::partial_front(text)
+}
+
+// Whether a word may end here.
+#[tactic(auto, unfolding(crate::specs::Words::is_boundary))]
+fn is_boundary(text: &[u8]) -> bool
+    ensures { result ≡ is_boundary text.now }
+{
+    text.is_empty() || spaces::space_len(text) > 0
+}
+
+// A word, where what follows it begins at a boundary.
+fn at_boundary<'a>(word: Word<'a>, rest: &'a [u8]) -> Option<(Word<'a>, &'a [u8])>
+    ensures { reading_view result ≡ Spec.at_boundary (word_view word.entry) rest.now }
+{
+    if is_boundary(rest) {
+        Some((word, rest))
+    } else {
+        None
+    }
+}
+
+// What follows one whitespace character or more.
+fn after_some_space(text: &[u8]) -> Option<&[u8]>
+    ensures { rest_view result ≡ Spec.after_some_space text.now }
+{
+    if spaces::space_len(text) > 0 {
+        Some(spaces::skip_spaces(text))
+    } else {
+        None
+    }
+}
+
+// What follows a hyphen between two partials.
+fn after_hyphen(text: &[u8]) -> Option<&[u8]>
+    ensures { rest_view result ≡ Spec.after_byte 45 text.now }
+{
+    match text {
+        [b'-', rest @ ..] => Some(rest),
+        _ => None,
+    }
+}
+
+fn hyphen_front(text: &[u8]) -> Option<(Word<'_>, &[u8])>
+    ensures { reading_view result ≡ Spec.hyphen_at MAX_SAFE_INTEGER text.now }
+{
+    let (lower, rest) = longest_partial(text)?;
+    let sign = after_some_space(rest)?;
+    let gap = after_hyphen(sign)?;
+    let second = after_some_space(gap)?;
+    let (upper, rest) = longest_partial(second)?;
+    at_boundary(Word::Hyphen(lower, upper), rest)
+}
+
+fn plain_front(text: &[u8]) -> Option<(Word<'_>, &[u8])>
+    ensures { reading_view result ≡ Spec.plain_at MAX_SAFE_INTEGER text.now }
+{
+    let (partial, rest) = longest_partial(text)?;
+    at_boundary(Word::Plain(partial), rest)
+}
+
+// The comparator at the front, the longer one first.
+fn comparator_front(text: &[u8]) -> Option<(Comparator, &[u8])>
+    ensures { comparator_front_view result ≡ Spec.comparator_at text.now }
+{
+    match text {
+        [b'>', b'=', rest @ ..] => Some((Comparator::AtLeast, rest)),
+        [b'>', rest @ ..] => Some((Comparator::Above, rest)),
+        [b'<', b'=', rest @ ..] => Some((Comparator::AtMost, rest)),
+        [b'<', rest @ ..] => Some((Comparator::Below, rest)),
+        [b'=', rest @ ..] => Some((Comparator::Equal, rest)),
+        _ => None,
+    }
+}
+
+fn compare_front(text: &[u8]) -> Option<(Word<'_>, &[u8])>
+    ensures { reading_view result ≡ Spec.compare_at MAX_SAFE_INTEGER text.now }
+{
+    let (comparator, rest) = comparator_front(text)?;
+    let (partial, rest) = longest_partial(spaces::skip_spaces(rest))?;
+    at_boundary(Word::Compare(comparator, partial), rest)
+}
+
+// Whether `>` stands behind a tilde, and what stands behind it.
+fn tilde_sign(text: &[u8]) -> (bool, &[u8])
+    ensures { sign_view result ≡ Spec.tilde_sign text.now }
+{
+    match text {
+        [b'>', rest @ ..] => (true, rest),
+        _ => (false, text),
+    }
+}
+
+fn tilde_front(text: &[u8]) -> Option<(Word<'_>, &[u8])>
+    ensures { reading_view result ≡ Spec.tilde_at MAX_SAFE_INTEGER text.now }
+{
+    let [b'~', rest @ ..] = text else {
+        return None;
+    };
+    let (greater, rest) = tilde_sign(spaces::skip_spaces(rest));
+    let (partial, rest) = longest_partial(spaces::skip_spaces(rest))?;
+    at_boundary(Word::Tilde(greater, partial), rest)
+}
+
+fn caret_front(text: &[u8]) -> Option<(Word<'_>, &[u8])>
+    ensures { reading_view result ≡ Spec.caret_at MAX_SAFE_INTEGER text.now }
+{
+    let [b'^', rest @ ..] = text else {
+        return None;
+    };
+    let (partial, rest) = longest_partial(spaces::skip_spaces(rest))?;
+    at_boundary(Word::Caret(partial), rest)
+}
+
+// What stands from the first boundary on.
+fn skip_to_boundary(text: &[u8]) -> &[u8]
+    ensures { result.now ≡ Spec.from_boundary text.now }
+{
+    'bytes: for at in 0..text.len() {
+        if is_boundary(&text[at..]) {
+            return &text[at..];
+        }
+    }
+    &text[text.len()..]
+}
+
+// The first of the forms that stands at the front.
+fn form_front(text: &[u8]) -> Option<(Word<'_>, &[u8])>
+    ensures { reading_view result ≡ Spec.form_at MAX_SAFE_INTEGER text.now }
+{
+    if let Some(read) = hyphen_front(text) {
+        return Some(read);
+    }
+    if let Some(read) = plain_front(text) {
+        return Some(read);
+    }
+    if let Some(read) = compare_front(text) {
+        return Some(read);
+    }
+    if let Some(read) = tilde_front(text) {
+        return Some(read);
+    }
+    caret_front(text)
+}
+
+// The word at the front, and what follows it.
+#[tactic(auto, unfolding(crate::specs::Words::word_at))]
+pub(crate) fn word_front(text: &[u8]) -> (Word<'_>, &[u8])
+    ensures { word_pair_view result ≡ Spec.word_at MAX_SAFE_INTEGER text.now }
+{
+    match form_front(text) {
+        Some(read) => read,
+        None => (Word::Malformed, skip_to_boundary(text)),
+    }
+}

@@ -1,0 +1,26 @@
+-- What the steps of `inc` say to one another. It serves private contracts and proofs alone.
+use Rattle.std.specs.Prelude.{◌≡◌, ℕ, List, ◌∷◌, ◌++◌, length, Option, Some, None, ⊤, false}
+use Rattle.semver_core.specs.Identifiers.{Id, Numeric}
+use Rattle.semver_core.specs.Increment.{Fault, has_numeric}
+use Rattle.semver_core.specs.IncrementView.{fault_of}
+use Rattle.semver_core.specs.declared.error.Failure.{Failure}
+use Rattle.semver_core.specs.declared.error.Failure.TheVariants.{Refused, Memory}
+use Rattle.semver_core.specs.declared.increment.IncrementError.{IncrementError}
+
+-- it is refused with this fault, or there is no memory
+abbrev pub RefusedWith : Fault → Failure IncrementError → Type 0
+RefusedWith fault (Refused e) = fault ≡ fault_of e
+RefusedWith fault (Memory e) = ⊤
+
+-- the last number of a list
+pub record IsLastNumber (list : List Id) (i n : ℕ) : Type 0 where
+  pub front : List Id
+  pub back : List Id
+  pub divided : list ≡ front ++ Numeric n ∷ back
+  pub place : i ≡ length front
+  pub ended : has_numeric back ≡ false
+
+-- the last number that was found in a list
+abbrev pub Tracks : List Id → Option (ℕ × ℕ) → Type 0
+Tracks list None = has_numeric list ≡ false
+Tracks list (Some p) = IsLastNumber list p.0 p.1

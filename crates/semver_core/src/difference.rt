@@ -1,0 +1,119 @@
+// The kind of difference between two versions.
+
+ghost use Rattle.std.specs.Prelude.{◌≡◌, ◌↔◌, IsNone, IsTrue};
+ghost use Rattle.std.specs.declared.cmp.Ordering.TheVariants.{Equal};
+ghost use Rattle.semver_core.specs.Difference.{difference, difference_up};
+ghost use Rattle.semver_core.specs.Increment.{is_release};
+ghost use Rattle.semver_core.specs.Order.{precedence};
+
+use crate::Version;
+use std::cmp::Ordering;
+use std::fmt;
+
+/// A kind of difference between two versions, or of a release: what rises, and whether to a pre-release.
+#[derive(Clone, Copy, Debug, PartialEq, Eq, Hash)]
+pub enum VersionDiff {
+    /// The major number.
+    Major,
+    /// The minor number.
+    Minor,
+    /// The patch number.
+    Patch,
+    /// The major number, to a pre-release.
+    PreMajor,
+    /// The minor number, to a pre-release.
+    PreMinor,
+    /// The patch number, to a pre-release.
+    PrePatch,
+    /// The pre-release alone.
+    PreRelease,
+}
+
+/// A kind of release, named as the kind of difference.
+pub type ReleaseType = VersionDiff;
+
+/// Writes the word of the kind, as `Version::inc` takes it.
+impl fmt::Display for VersionDiff {
+    ghost use Rattle.std.specs.Prelude.{Some};
+    ghost use Rattle.semver_core.specs.Difference.{word_of};
+
+    ghost output = { λ kind. Some (word_of kind) };
+
+    fn fmt<W: fmt::Write>(&self, f: &mut fmt::Formatter<W>) -> fmt::Result {
+        f.write_str(match self {
+            VersionDiff::Major => "major",
+            VersionDiff::Minor => "minor",
+            VersionDiff::Patch => "patch",
+            VersionDiff::PreMajor => "premajor",
+            VersionDiff::PreMinor => "preminor",
+            VersionDiff::PrePatch => "prepatch",
+            VersionDiff::PreRelease => "prerelease",
+        })
+    }
+}
+
+fn is_release(version: &Version) -> bool
+    ensures { result ≡ is_release version.now }
+{
+    !version.is_prerelease()
+}
+
+// The kind that a version and a higher one differ by.
+fn difference_up(low: &Version, high: &Version) -> VersionDiff
+    ensures { result ≡ difference_up low.now high.now }
+{
+    let to_release = is_release(high);
+    if !is_release(low) && to_release {
+        return if low.minor() == 0 && low.patch() == 0 {
+            VersionDiff::Major
+        } else if high.patch() != 0 {
+            VersionDiff::Patch
+        } else if high.minor() != 0 {
+            VersionDiff::Minor
+        } else {
+            VersionDiff::Major
+        };
+    }
+    if low.major() != high.major() {
+        if to_release {
+            VersionDiff::Major
+        } else {
+            VersionDiff::PreMajor
+        }
+    } else if low.minor() != high.minor() {
+        if to_release {
+            VersionDiff::Minor
+        } else {
+            VersionDiff::PreMinor
+        }
+    } else if low.patch() != high.patch() {
+        if to_release {
+            VersionDiff::Patch
+        } else {
+            VersionDiff::PrePatch
+        }
+    } else {
+        VersionDiff::PreRelease
+    }
+}
+
+impl Version {
+    /// The kind of difference between this version and another, in either order: `None` exactly where they are equal,
+    /// so that build metadata makes no difference.
+    ///
+    /// A pre-release differs from a higher release by what was still to be released: by `Major` from 1.0.0-1 to any
+    /// release above it. Elsewhere the first of the numbers that differs decides, and whether the higher version is
+    /// a release.
+    #[tactic(auto, using(crate::proofs::DifferenceLaws::difference_symmetric))]
+    pub fn diff(&self, other: &Version) -> Option<VersionDiff>
+        ensures value { result ≡ difference self.now other.now }
+        ensures none { IsNone result ↔ (precedence self.now other.now ≡ Equal) }
+        ensures symmetric { result ≡ difference other.now self.now }
+    {
+        match self.cmp(other) {
+            Ordering::Less => Some(difference_up(self, other)),
+            Ordering::Equal => None,
+            Ordering::Greater => Some(difference_up(other, self)),
+        }
+    }
+}

@@ -1,0 +1,270 @@
+// Increments: the next version by a word, as release tools ask for it.
+
+ghost use Rattle.std.specs.Prelude.{◌≡◌, IfOk, codes, false};
+ghost use Rattle.std.specs.Option.{option_copied};
+ghost use Rattle.semver_core.specs.Increment as spec;
+ghost use Rattle.semver_core.specs.IncrementLeast.{CanStep, HasNoIdentifier, IsAbove, IsLeastAnswer, IsLeastOrOverflow, IsNextMajor, IsNextMinor, IsNextPatch, IsOfNextMajor, IsOfNextMinor, IsOfNextPatch, IsPlain};
+ghost use Rattle.semver_core.specs.IncrementView.{Answers, IfAnswered, fault_of};
+ghost use Rattle.semver_core.specs.IncrementSteps.{RefusedWith};
+ghost use Rattle.semver_core.specs.Versions.{IsVersion};
+
+use crate::increment::words::by_word;
+use crate::{Failure, Version};
+use std::alloc::{AllocError, Global};
+use thiserror::Error;
+
+mod pre_release;
+mod words;
+
+/// What a new pre-release list begins to count with.
+///
+/// `Value(0)` counts from 0 and every other value counts from 1. The default is `Value(0)`.
+#[derive(Clone, Copy, Debug, PartialEq, Eq)]
+pub enum IdentifierBase {
+    /// No number stands after a new identifier.
+    False,
+    /// A number stands after a new identifier.
+    Value(u64),
+}
+
+impl Default for IdentifierBase {
+    ghost use Rattle.std.specs.Prelude.{◌≡◌};
+    ghost use Rattle.semver_core.specs.declared.increment.IdentifierBase.TheVariants.{Value};
+
+    ghost is_default = { λ base. base ≡ Value 0 };
+
+    fn default() -> IdentifierBase {
+        IdentifierBase::Value(0)
+    }
+}
+
+impl From<bool> for IdentifierBase {
+    ghost use Rattle.std.specs.Prelude.{◌≡◌, if◌then◌else◌};
+    ghost use Rattle.semver_core.specs.declared.increment.IdentifierBase.TheVariants.{False, Value};
+
+    ghost from_gives = { λ flag base. base ≡ (if flag then Value 1 else False) };
+
+    fn from(flag: bool) -> IdentifierBase {
+        if flag {
+            IdentifierBase::Value(1)
+        } else {
+            IdentifierBase::False
+        }
+    }
+}
+
+impl From<u64> for IdentifierBase {
+    ghost use Rattle.std.specs.Prelude.{◌≡◌};
+    ghost use Rattle.semver_core.specs.declared.increment.IdentifierBase.TheVariants.{Value};
+
+    ghost from_gives = { λ value base. base ≡ Value value };
+
+    fn from(value: u64) -> IdentifierBase {
+        IdentifierBase::Value(value)
+    }
+}
+
+impl From<usize> for IdentifierBase {
+    ghost use Rattle.std.specs.Prelude.{◌≡◌};
+    ghost use Rattle.semver_core.specs.declared.increment.IdentifierBase.TheVariants.{Value};
+
+    ghost from_gives = { λ value base. base ≡ Value value };
+
+    fn from(value: usize) -> IdentifierBase {
+        IdentifierBase::Value(value as u64)
+    }
+}
+
+/// Why a version is not incremented.
+#[derive(Debug, Drop, PartialEq, Eq, Error)]
+pub enum IncrementError {
+    /// The identifier is not non-empty runs of ASCII letters, digits and `-`, joined by `.`.
+    #[error("invalid identifier: {0}")]
+    InvalidIdentifier(String),
+    /// The word is none of the words, there is nothing to put into a pre-release, or the identifier is there already.
+    #[error("invalid increment argument: {0}")]
+    InvalidIncrementArgument(String),
+    /// `release` was asked of a version that is one. It holds the printed version.
+    #[error("version {0} is not a prerelease")]
+    NotAPrerelease(String),
+    /// A number that was to rise is `u64::MAX`.
+    #[error("increment would overflow a version component")]
+    Overflow,
+}
+
+impl IncrementError {
+    /// The same error once more.
+    pub fn copy(&self, alloc: Global) -> Result<IncrementError, AllocError>
+        ensures { IfOk result (λ e. fault_of e ≡ fault_of self.now) }
+    {
+        Ok(match self {
+            IncrementError::InvalidIdentifier(text) => {
+                IncrementError::InvalidIdentifier(String::from_str(alloc, text)?)
+            }
+            IncrementError::InvalidIncrementArgument(text) => {
+                IncrementError::InvalidIncrementArgument(String::from_str(alloc, text)?)
+            }
+            IncrementError::NotAPrerelease(text) => {
+                IncrementError::NotAPrerelease(String::from_str(alloc, text)?)
+            }
+            IncrementError::Overflow => IncrementError::Overflow,
+        })
+    }
+}
+
+// One more, in 64 bits.
+fn one_more(n: u64) -> Result<u64, Failure<IncrementError>>
+    ensures { Answers (λ x. x) (spec.one_more n) result }
+{
+    match n.checked_add(1) {
+        Some(more) => Ok(more),
+        None => Err(Failure::Refused(IncrementError::Overflow)),
+    }
+}
+
+fn is_false(base: IdentifierBase) -> bool
+    ensures { result ≡ spec.is_false base }
+{
+    match base {
+        IdentifierBase::False => true,
+        IdentifierBase::Value(_) => false,
+    }
+}
+
+// The refusal of an argument.
+fn refused_argument(alloc: Global, text: &str) -> Failure<IncrementError>
+    ensures { RefusedWith (spec.InvalidIncrementArgument text.now) result }
+{
+    match String::from_str(alloc, text) {
+        Ok(text) => Failure::Refused(IncrementError::InvalidIncrementArgument(text)),
+        Err(error) => Failure::Memory(error),
+    }
+}
+
+// The refusal of an identifier.
+fn refused_identifier(alloc: Global, id: &str) -> Failure<IncrementError>
+    ensures { RefusedWith (spec.InvalidIdentifier id.now) result }
+{
+    match String::from_str(alloc, id) {
+        Ok(id) => Failure::Refused(IncrementError::InvalidIdentifier(id)),
+        Err(error) => Failure::Memory(error),
+    }
+}
+
+// The two checks of a word that begins with `pre`.
+fn check(alloc: Global, id: &str, base: IdentifierBase) -> Result<(), Failure<IncrementError>>
+    ensures { Answers (λ x. x) (spec.checked id.now base) result }
+{
+    if id.is_empty() && is_false(base) {
+        Err(refused_argument(alloc, "identifier is empty"))
+    } else if id.is_empty() || pre_release::is_identifiers(id) {
+        Ok(())
+    } else {
+        Err(refused_identifier(alloc, id))
+    }
+}
+
+// The checks of a word that begins with `pre`, and then the word.
+fn by_checked_word(
+    alloc: Global,
+    version: &Version,
+    word: &str,
+    id: &str,
+    base: IdentifierBase,
+) -> Result<Version, Failure<IncrementError>>
+    ensures { Answers (λ x. x) (spec.incremented version.now word.now id.now base) result }
+{
+    if word.starts_with("pre") {
+        check(alloc, id, base)?;
+    }
+    by_word(alloc, version, word, id, base)
+}
+
+// No identifier is an empty one, and no base is `Value(0)`.
+fn increment(
+    alloc: Global,
+    version: &Version,
+    word: &str,
+    identifier: Option<&str>,
+    base: Option<IdentifierBase>,
+) -> Result<Version, Failure<IncrementError>>
+    ensures { Answers (λ x. x) (spec.answer_of_inc version.now word.now (option_copied identifier.entry) base) result }
+{
+    by_checked_word(
+        alloc,
+        version,
+        word,
+        identifier.unwrap_or(""),
+        base.unwrap_or_default(),
+    )
+}
+
+// A version's numbers and identifiers are those of 64 bits. No effect at run time.
+fn is_version(version: &Version)
+    ensures { IsVersion version.now }
+{
+    version.major();
+}
+
+impl Version {
+    /// The next version by a word, as npm counts versions. This version is not changed.
+    ///
+    /// | word | the next version |
+    /// |---|---|
+    /// | `major` | the least release above with minor and patch 0: 2.0.0 after 1.2.3, and 1.0.0 after 1.0.0-1 |
+    /// | `minor` | the least release above with patch 0 in the same major |
+    /// | `patch` | the least release above in the same major and minor |
+    /// | `premajor`, `preminor`, `prepatch` | the first pre-release of the next major, minor or patch: 2.0.0-0 after 1.2.3 |
+    /// | `prerelease` | the next pre-release: 1.2.4-0 after 1.2.3, and 1.2.3-a.1 after 1.2.3-a.0 |
+    /// | `pre` | the next pre-release of the same three numbers, which for a release is below it |
+    /// | `release` | this pre-release's release |
+    ///
+    /// Build metadata is kept. The words that begin with `pre` and are in the table let the pre-release list go on, in
+    /// two steps. First the last number in it rises by one; a list without a number gets one at its end. Then, with an
+    /// identifier, a list that does not begin with it and a number is replaced by it and a number. A new number is 0,
+    /// or 1 for a base that is neither `False` nor `Value(0)`, and with `False` no number follows the identifier. An empty identifier is
+    /// none, and no base is `Value(0)`. An identifier with dots or of digits alone becomes one `AlphaNumeric`, so the
+    /// result may differ from its own printed text read again.
+    ///
+    /// It is refused, in this order,
+    /// - for a word that begins with `pre`, known or not: with `InvalidIncrementArgument` where there is no identifier
+    ///   and the base is `False`, and with `InvalidIdentifier` where the identifier is not non-empty runs of ASCII
+    ///   letters, digits and `-` joined by `.`;
+    /// - with `InvalidIncrementArgument` of a word that is not in the table;
+    /// - with `NotAPrerelease` where `release` is asked of a release;
+    /// - with `Overflow` where a number that is to rise is `u64::MAX`;
+    /// - with `InvalidIncrementArgument` where the base is `False` and the identifier is the whole list already.
+    ///
+    /// `Memory` may stand in place of any answer.
+    pub fn inc(
+        &self,
+        alloc: Global,
+        word: &str,
+        identifier: Option<&str>,
+        base: Option<IdentifierBase>,
+    ) -> Result<Version, Failure<IncrementError>>
+        // It answers what the table says.
+        ensures value { Answers (λ x. x) (spec.answer_of_inc self.now word.now (option_copied identifier.entry) base) result }
+        // The least release above of its kind, or Overflow where no version is one.
+        ensures patch { word.now ≡ codes "patch" → IfAnswered (IsLeastOrOverflow (IsNextPatch self.now)) result }
+        ensures minor { word.now ≡ codes "minor" → IfAnswered (IsLeastOrOverflow (IsNextMinor self.now)) result }
+        ensures major { word.now ≡ codes "major" → IfAnswered (IsLeastOrOverflow (IsNextMajor self.now)) result }
+        // Without identifier and with base 0: the least version of the next major, minor or patch, or Overflow.
+        ensures premajor { word.now ≡ codes "premajor" → IsPlain (option_copied identifier.entry) base
+            → IfAnswered (IsLeastOrOverflow (IsOfNextMajor self.now)) result }
+        ensures preminor { word.now ≡ codes "preminor" → IsPlain (option_copied identifier.entry) base
+            → IfAnswered (IsLeastOrOverflow (IsOfNextMinor self.now)) result }
+        ensures prepatch { word.now ≡ codes "prepatch" → IsPlain (option_copied identifier.entry) base
+            → IfAnswered (IsLeastOrOverflow (IsOfNextPatch self.now)) result }
+        // And the least version above, where the patch can rise or the pre-release has no number.
+        ensures prerelease { word.now ≡ codes "prerelease" → IsPlain (option_copied identifier.entry) base → CanStep self.now
+            → IfAnswered (IsLeastAnswer (IsAbove self.now)) result }
+        // Without identifier it goes up, save `pre` on a release.
+        ensures above { HasNoIdentifier (option_copied identifier.entry) → (word.now ≡ codes "pre" → spec.is_release self.now ≡ false)
+            → IfOk result (IsAbove self.now) }
+        ensures build { IfOk result (λ next. next.build ≡ self.now.build) }
+    {
+        is_version(self);
+        increment(alloc, self, word, identifier, base)
+    }
+}

@@ -1,0 +1,184 @@
+// The words of increments, a row each.
+
+ghost use Rattle.std.specs.Prelude.{◌≡◌, Ok};
+ghost use Rattle.semver_core.specs.Increment as spec;
+ghost use Rattle.semver_core.specs.IncrementView.{Answers};
+ghost use Rattle.semver_core.specs.ListView.{list_ids};
+
+use crate::increment::pre_release::{advance, identify};
+use crate::increment::{IdentifierBase, IncrementError, one_more, refused_argument};
+use crate::version::parts::{copy_items, unless_empty};
+use crate::{Failure, Identifier, Version};
+use std::alloc::Global;
+
+// The row of a word.
+pub(super) fn by_word(
+    alloc: Global,
+    version: &Version,
+    word: &str,
+    id: &str,
+    base: IdentifierBase,
+) -> Result<Version, Failure<IncrementError>>
+    ensures { Answers (λ x. x) (spec.by_word word.now id.now base version.now) result }
+{
+    match word {
+        "major" => major(alloc, version),
+        "minor" => minor(alloc, version),
+        "patch" => patch(alloc, version),
+        "premajor" => pre_step(alloc, &next_major(alloc, version)?, id, base),
+        "preminor" => pre_step(alloc, &next_minor(alloc, version)?, id, base),
+        "prepatch" => pre_step(alloc, &next_patch(alloc, version)?, id, base),
+        "prerelease" => prerelease(alloc, version, id, base),
+        "pre" => pre_step(alloc, version, id, base),
+        "release" => release(alloc, version),
+        _ => Err(refused_argument(alloc, word)),
+    }
+}
+
+fn is_release(version: &Version) -> bool
+    ensures { result ≡ spec.is_release version.now }
+{
+    !version.is_prerelease()
+}
+
+fn major(alloc: Global, version: &Version) -> Result<Version, Failure<IncrementError>>
+    ensures { Answers (λ x. x) (spec.by_major version.now) result }
+{
+    if version.minor() == 0 && version.patch() == 0 && !is_release(version) {
+        release_of(alloc, version)
+    } else {
+        next_major(alloc, version)
+    }
+}
+
+fn minor(alloc: Global, version: &Version) -> Result<Version, Failure<IncrementError>>
+    ensures { Answers (λ x. x) (spec.by_minor version.now) result }
+{
+    if version.patch() == 0 && !is_release(version) {
+        release_of(alloc, version)
+    } else {
+        next_minor(alloc, version)
+    }
+}
+
+fn patch(alloc: Global, version: &Version) -> Result<Version, Failure<IncrementError>>
+    ensures { Answers (λ x. x) (spec.by_patch version.now) result }
+{
+    if is_release(version) {
+        next_patch(alloc, version)
+    } else {
+        release_of(alloc, version)
+    }
+}
+
+fn prerelease(
+    alloc: Global,
+    version: &Version,
+    id: &str,
+    base: IdentifierBase,
+) -> Result<Version, Failure<IncrementError>>
+    ensures { Answers (λ x. x) (spec.by_prerelease id.now base version.now) result }
+{
+    if is_release(version) {
+        pre_step(alloc, &next_patch(alloc, version)?, id, base)
+    } else {
+        pre_step(alloc, version, id, base)
+    }
+}
+
+fn release(alloc: Global, version: &Version) -> Result<Version, Failure<IncrementError>>
+    ensures { Answers (λ x. x) (spec.by_release version.now) result }
+{
+    if is_release(version) {
+        let text = version.to_string(alloc)?;
+        Err(Failure::Refused(IncrementError::NotAPrerelease(text)))
+    } else {
+        release_of(alloc, version)
+    }
+}
+
+// The version with these numbers and this pre-release, and its own build.
+fn with_parts(
+    alloc: Global,
+    version: &Version,
+    major: u64,
+    minor: u64,
+    patch: u64,
+    pre_release: Option<Vec<Identifier>>,
+) -> Result<Version, Failure<IncrementError>>
+    ensures { Answers (λ x. x) (Ok (record {
+      major = major;
+      minor = minor;
+      patch = patch;
+      pre_release = list_ids pre_release;
+      build = version.now.build;
+    })) result }
+{
+    let build = copy_items(alloc, version.build())?;
+    Ok(Version::from_parts(major, minor, patch, pre_release, unless_empty(build)))
+}
+
+fn release_of(alloc: Global, version: &Version) -> Result<Version, Failure<IncrementError>>
+    ensures { Answers (λ x. x) (Ok (spec.release_of version.now)) result }
+{
+    with_parts(
+        alloc,
+        version,
+        version.major(),
+        version.minor(),
+        version.patch(),
+        None,
+    )
+}
+
+fn next_major(alloc: Global, version: &Version) -> Result<Version, Failure<IncrementError>>
+    ensures { Answers (λ x. x) (spec.next_major version.now) result }
+{
+    with_parts(alloc, version, one_more(version.major())?, 0, 0, None)
+}
+
+fn next_minor(alloc: Global, version: &Version) -> Result<Version, Failure<IncrementError>>
+    ensures { Answers (λ x. x) (spec.next_minor version.now) result }
+{
+    with_parts(
+        alloc,
+        version,
+        version.major(),
+        one_more(version.minor())?,
+        0,
+        None,
+    )
+}
+
+fn next_patch(alloc: Global, version: &Version) -> Result<Version, Failure<IncrementError>>
+    ensures { Answers (λ x. x) (spec.next_patch version.now) result }
+{
+    with_parts(
+        alloc,
+        version,
+        version.major(),
+        version.minor(),
+        one_more(version.patch())?,
+        None,
+    )
+}
+
+fn pre_step(
+    alloc: Global,
+    version: &Version,
+    id: &str,
+    base: IdentifierBase,
+) -> Result<Version, Failure<IncrementError>>
+    ensures { Answers (λ x. x) (spec.pre_step id.now base version.now) result }
+{
+    let list = advance(alloc, version.pre_release(), id, base)?;
+    let list = identify(alloc, id, base, list)?;
+    with_parts(
+        alloc,
+        version,
+        version.major(),
+        version.minor(),
+        version.patch(),
+        Some(list),
+    )
+}
