@@ -1,8 +1,7 @@
 -- Worked rows, computed: which versions a list of intervals accepts, and what the set algebra makes of two lists.
 use Rattle.std.specs.Prelude.{◌≡◌, ℕ, true, false, List, [], ◌∷◌, Some, None, is_some, refl}
-use Rattle.semver_core.specs.Cuts.{Span, list_holds}
+use Rattle.semver_core.specs.Cuts.{Span}
 use Rattle.semver_core.specs.Identifiers.{Numeric, AlphaNumeric}
-use Rattle.semver_core.specs.Order.{precedence}
 use Rattle.semver_core.specs.Versions.{VersionValue, release_value}
 use Rattle.semver_core.specs.declared.cuts.bound.Bound.{Bound}
 use Rattle.semver_core.specs.declared.cuts.bound.Bound.TheVariants.{Unbounded, Before, After}

@@ -1,4 +1,4 @@
-use Rattle.std.proofs.Common.{◌≡◌, ◌∙◌, ap, refl, ◌+◌, ◌&&◌, Bool, true, false, [], ◌∷◌, Option, Some, None, if◌then◌else◌}
+use Rattle.std.proofs.Common.{◌≡◌, ◌∙◌, ap, refl, ◌+◌, ◌&&◌, Bool, true, false, Some, None, if◌then◌else◌}
 use Rattle.std.specs.List.{list_all}
 use Rattle.semver_core.specs.Cuts.{Span, is_interval, interval}
 use Rattle.semver_core.specs.Order.{precedence}
