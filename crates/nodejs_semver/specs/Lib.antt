@@ -26,3 +26,4 @@ pub mod Outside
 pub mod Printed
 pub mod ComesBack
 pub mod PrintedRows
+pub mod Json

@@ -14,9 +14,8 @@ mod lists;
 mod neighbours;
 mod outside;
 mod print;
+mod parse;
 mod same;
-#[cfg(test)]
-mod tests;
 
 pub use crate::range::outside::{OutsideDirection, RangeError};
 use semver_core::Version;
