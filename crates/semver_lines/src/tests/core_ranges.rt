@@ -39,7 +39,10 @@ fn a_copy_is_equal(rt: HostRuntime) -> Result<(), Fail> {
     assert!(rt; copy == one && hash_of(&copy) == hash_of(&one));
     assert!(rt; copy == range(alloc, ">=2.0.0+b <3.0.0-0 || 7.x")?);
     assert!(rt; copy != range(alloc, ">=2.0.0 <3.0.0-0")?);
-    assert_eq!(rt; copy.to_string(alloc)?.as_str(), ">=2.0.0+a <3.0.0-0||>=7.0.0 <8.0.0-0");
+    assert_eq!(rt;
+        copy.to_string(alloc)?.as_str(),
+        ">=2.0.0+a <3.0.0-0||>=7.0.0 <8.0.0-0"
+    );
     Ok(())
 }
 
@@ -67,7 +70,12 @@ fn spaces_of_unicode(rt: HostRuntime) -> Result<(), Fail> {
     assert_eq!(rt; wide.to_string(alloc)?.as_str(), ">=1.0.0 <2.0.0");
     let mark = range(alloc, ">=1.0.0\u{FEFF}<2.0.0")?;
     assert!(rt; mark == wide);
-    for text in [">=1.0.0\u{85}<2.0.0", ">=1.0.0\u{180E}<2.0.0", "1.2.3-a\u{141}", "1.2.3\u{141}"] {
+    for text in [
+        ">=1.0.0\u{85}<2.0.0",
+        ">=1.0.0\u{180E}<2.0.0",
+        "1.2.3-a\u{141}",
+        "1.2.3\u{141}",
+    ] {
         assert!(rt; Range::parse(alloc, text).is_err(), "{text}");
     }
     Ok(())
@@ -108,7 +116,10 @@ fn ranges_meet_and_leave(rt: HostRuntime) -> Result<(), Fail> {
     let alloc = rt.alloc();
     let (one, other) = (range(alloc, "<1 || 3 - 4")?, range(alloc, "0.5 - 3.5.0")?);
     let both = one.intersect(alloc, &other)?.ok_or("nothing in common")?;
-    assert_eq!(rt; both.to_string(alloc)?.as_str(), ">=0.5.0 <1.0.0||>=3.0.0 <=3.5.0");
+    assert_eq!(rt;
+        both.to_string(alloc)?.as_str(),
+        ">=0.5.0 <1.0.0||>=3.0.0 <=3.5.0"
+    );
     let rest = one.difference(alloc, &other)?.ok_or("nothing left")?;
     assert_eq!(rt; rest.to_string(alloc)?.as_str(), "<0.5.0||>3.5.0 <5.0.0-0");
     assert!(rt; one.difference(alloc, &one)?.is_none());

@@ -47,7 +47,12 @@ fn quotes_are_escaped(rt: HostRuntime) -> Result<(), Fail> {
 fn texts_as_versions(rt: HostRuntime) -> Result<(), Fail> {
     let alloc = rt.alloc();
     let one = version(alloc, "1.2.3")?;
-    for text in ["\"v1.2.3\"", "\"\\u0031.2.3\"", " \t\"1.2.3\"\n", "\"1.2.3 \\ud83d\\ude00\""] {
+    for text in [
+        "\"v1.2.3\"",
+        "\"\\u0031.2.3\"",
+        " \t\"1.2.3\"\n",
+        "\"1.2.3 \\ud83d\\ude00\"",
+    ] {
         assert!(rt; version_from_json_text(alloc, text)? == one, "{text}");
     }
     Ok(())
@@ -56,7 +61,18 @@ fn texts_as_versions(rt: HostRuntime) -> Result<(), Fail> {
 #[test]
 fn texts_that_are_refused(rt: HostRuntime) -> Result<(), Fail> {
     let alloc = rt.alloc();
-    for text in ["12", "\"1.2.3", "null", "[]", "1.5", "", "\"1.2.3\",", "\"1.2\"", "{\"a\":1.5}", "\"\\ud83d\""] {
+    for text in [
+        "12",
+        "\"1.2.3",
+        "null",
+        "[]",
+        "1.5",
+        "",
+        "\"1.2.3\",",
+        "\"1.2\"",
+        "{\"a\":1.5}",
+        "\"\\ud83d\"",
+    ] {
         assert!(rt; is_refused(alloc, text), "{text}");
     }
     let mut deep = String::new(alloc);
@@ -75,7 +91,12 @@ fn ranges_as_texts(rt: HostRuntime) -> Result<(), Fail> {
     assert_eq!(rt; text.as_str(), "\">=1.2.0 <2.0.0-0\"");
     assert!(rt; range_from_json_text(alloc, &text)? == one);
     assert!(rt; range_from_json_text(alloc, "\"\"")? == Range::any(alloc)?);
-    assert!(rt; matches!(range_from_json_text(alloc, "\"foo\""), Err(Failure::Refused(_))));
+    assert!(rt;
+        matches!(
+            range_from_json_text(alloc, "\"foo\""),
+            Err(Failure::Refused(_))
+        )
+    );
     Ok(())
 }
 
@@ -88,6 +109,11 @@ fn values_there_and_back(rt: HostRuntime) -> Result<(), Fail> {
     let value = range_to_value(alloc, &Range::parse(alloc, "1 || 2")?)?;
     assert_eq!(rt; value.as_str(), Some(">=1.0.0 <2.0.0-0||>=2.0.0 <3.0.0-0"));
     assert!(rt; range_from_value(alloc, &value)? == Range::parse(alloc, "1 || 2")?);
-    assert!(rt; matches!(range_from_value(alloc, &Value::Null), Err(Failure::Refused(_))));
+    assert!(rt;
+        matches!(
+            range_from_value(alloc, &Value::Null),
+            Err(Failure::Refused(_))
+        )
+    );
     Ok(())
 }

@@ -18,5 +18,5 @@ returns-in_default-2 c =
 pub returns : goal.returns
 returns c =
     on_ok_weaker c.push_range.result (λ text.
-      range _ (rw c.in-Some.is at c.in_ok-one.ensures.some) (range _ (rw c.in-Some-2.is at c.in_ok-other.ensures.some) (text ∙ ap range_or_none c.in_ok-common.ensures.list)))
+    range _ (rw c.in-Some.is at c.in_ok-one.ensures.some) (range _ (rw c.in-Some-2.is at c.in_ok-other.ensures.some) (text ∙ ap range_or_none c.in_ok-common.ensures.list)))
     c.push_range.ensures

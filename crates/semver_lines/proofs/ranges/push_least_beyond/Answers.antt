@@ -12,6 +12,6 @@ returns-in_default-2 c =
 pub returns : goal.returns
 returns c =
     on_ok_weaker c.push_version.result (λ text.
-      range _ (rw c.in-Some.is at c.in_ok-one.ensures.some) (range _ (rw c.in-Some-2.is at c.in_ok-other.ensures.some)
-        (record { found = c.in_ok-least.least; least = c.in_ok-least.ensures.least; build = c.in_ok-least.ensures.build; printed = text })))
+    range _ (rw c.in-Some.is at c.in_ok-one.ensures.some) (range _ (rw c.in-Some-2.is at c.in_ok-other.ensures.some)
+    (record { found = c.in_ok-least.least; least = c.in_ok-least.ensures.least; build = c.in_ok-least.ensures.build; printed = text })))
     c.push_version.ensures
