@@ -10,7 +10,6 @@ pub mod Boundaries
 pub mod Pieces
 pub mod Reaches
 pub mod Progress
-pub mod PartSteps
 pub mod Sound
 pub mod SoundPartial
 pub mod BarLemmas
@@ -33,3 +32,5 @@ pub mod PrintedBounds
 pub mod PrintedParts
 pub mod PrintedRanges
 pub mod PrintedSteps
+pub mod Listed
+pub mod PartSteps

@@ -1,9 +1,9 @@
 //! The readers of range texts.
 
 mod bars;
+mod intervals;
 mod number;
 mod partial;
-mod parts;
 mod spaces;
 mod syntax;
 mod table;
