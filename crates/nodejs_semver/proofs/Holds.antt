@@ -8,8 +8,9 @@ use Rattle.semver_core.specs.Cuts.{Span, holds, list_holds}
 use Rattle.semver_core.specs.Order.{precedence}
 use Rattle.semver_core.specs.OrderLaws.{precedence_total}
 use Rattle.semver_core.specs.Versions.{VersionValue}
-use Rattle.nodejs_semver.specs.Denotes.{denotes, everything, part_bounds, part_intervals}
+use Rattle.nodejs_semver.specs.Denotes.{denotes, part_bounds, part_intervals}
 use Rattle.nodejs_semver.specs.Parts.{parts}
+use Rattle.nodejs_semver.specs.RangeView.{any_version}
 use Rattle.nodejs_semver.specs.Runs.{Run, interval_of, runs_of}
 use Rattle.semver_core.specs.Spaces.{is_empty}
 use Rattle.nodejs_semver.specs.Written.{part_writes, run_writes, writes}
@@ -37,7 +38,7 @@ parts-hold limit v (p ∷ ps) =
     ∙ ap₂ (λ (s t : Bool). s || t) (part-holds limit v p) (parts-hold limit v ps)
 
 by-test : (b : Bool) (ss : List (Span VersionValue)) (w : Bool) (v : VersionValue) → list_holds precedence ss v ≡ w
-    → list_holds precedence (if b then everything ∷ [] else ss) v ≡ (b || w)
+    → list_holds precedence (if b then any_version else ss) v ≡ (b || w)
 by-test true ss w v h = refl
 by-test false ss w v h = h
 

@@ -34,3 +34,4 @@ pub mod PrintedRanges
 pub mod PrintedSteps
 pub mod Listed
 pub mod PartSteps
+pub mod Trimmed

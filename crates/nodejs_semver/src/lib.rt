@@ -5,7 +5,7 @@
 
 pub mod laws;
 mod range;
-mod readers;
+pub mod readers;
 
 pub use crate::range::{OutsideDirection, Range, RangeError};
 pub use semver_core::{
