@@ -35,3 +35,5 @@ pub mod PrintedSteps
 pub mod Listed
 pub mod PartSteps
 pub mod Trimmed
+pub mod Bounded
+pub mod BoundedTable
