@@ -1,18 +1,14 @@
 -- What is read of bounds: no number is above the limit by more than one, and identifiers are what their texts spell.
-use Rattle.std.proofs.Common.{◌≡◌, ℕ, zero, suc, ◌≤◌, ◌+◌, ◌^◌, List, [], ◌∷◌, ◌++◌, drop, take, length, map, refl, sym, ap, ◌∙◌, arith, Bool, true, false, Some, None, inl, inr, subst}
-use Rattle.std.specs.Prelude.{Option, ◌==◌, ◌&&◌, not, nat_lt, if◌then◌else◌}
+use Rattle.std.proofs.Common.{◌≡◌, ℕ, zero, suc, ◌≤◌, ◌^◌, List, [], ◌∷◌, drop, take, length, map, refl, sym, ap, ◌∙◌, arith, true, Some, None, inl, inr, subst}
+use Rattle.std.specs.Prelude.{Option, ◌==◌, ◌&&◌, not, nat_lt}
 use Rattle.std.specs.Char.{is_ascii_digit}
 use Rattle.std.specs.List.{list_all}
 use Rattle.std.specs.Str.Parse.{digits_value}
-use Rattle.std.proofs.lemmas.Bool.{cases_Bool, le-leb, leb-true}
-use Rattle.semver_core.specs.Cuts.{Span}
-use Rattle.semver_core.specs.Identifiers.{Id, Numeric, identifier_of, is_run, pieces}
+use Rattle.std.proofs.lemmas.Bool.{cases_Bool, leb-true}
+use Rattle.semver_core.specs.Identifiers.{Id, identifier_of, is_run, pieces}
 use Rattle.semver_core.specs.Normal.{is_normal, is_u64_text}
-use Rattle.semver_core.specs.Versions.{VersionValue}
-use Rattle.nodejs_semver.specs.Partials.{Partial, ◌>>=◌, after_dot, before_dot, before_plus, build_of, component_of, components_of, drop_v, from_plus, identifiers_of, is_plus, longest_partial, longest_within, minor_after, number_of, or_else, partial_of, partial_to, patch_after, pre_release_of, qualifier_of, third, wildcard_of, begins_digit, ends_digit}
-use Rattle.nodejs_semver.specs.RangeView.{is_bound_version, is_range_bound}
-use Rattle.nodejs_semver.specs.Table.{above_bounds, at_most_bounds, below_bounds, caret_bounds, caret_end, compare_bounds, equal_bounds, hyphen_upper, lowest, or_zero, plain_bounds, release, table, tilde_bounds, version_of, without_build}
-use Rattle.nodejs_semver.specs.Words.{Comparator, Reading, Word, above, after_byte, after_some_space, at_boundary, at_least, at_most, below, caret, caret_at, comparator_at, compare, compare_at, equal, form_at, from_boundary, hyphen, hyphen_at, is_boundary, malformed, or_malformed, plain, plain_at, signed, tilde, tilde_at, tilde_sign, word_at}
+use Rattle.nodejs_semver.specs.Partials.{Partial, ◌>>=◌, after_dot, before_dot, before_plus, build_of, component_of, drop_v, from_plus, identifiers_of, is_plus, longest_partial, longest_within, minor_after, number_of, or_else, partial_of, partial_to, patch_after, pre_release_of, qualifier_of, third, wildcard_of, begins_digit, ends_digit}
+use Rattle.nodejs_semver.specs.Words.{Reading, Word, after_byte, after_some_space, at_boundary, caret, caret_at, comparator_at, compare, compare_at, form_at, hyphen, hyphen_at, is_boundary, malformed, or_malformed, plain, plain_at, signed, tilde, tilde_at, tilde_sign, word_at}
 use Rattle.semver_core.specs.Spaces.{drop_spaces}
 use Rattle.nodejs_semver.proofs.Lists.{and-both, and-left, and-right}
 use Rattle.nodejs_semver.proofs.Pieces.{bind-some, number_of-is}

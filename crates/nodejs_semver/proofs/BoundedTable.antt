@@ -1,12 +1,11 @@
 -- The bounds of what is read are such as a range may have.
-use Rattle.std.proofs.Common.{◌≡◌, ℕ, zero, suc, ◌≤◌, ◌+◌, List, [], ◌∷◌, ◌++◌, length, map, refl, sym, ap, ◌∙◌, arith, Bool, true, false, Some, None}
-use Rattle.std.specs.Prelude.{Option, ◌&&◌, flat_map, filter_map, if◌then◌else◌, nat_le}
+use Rattle.std.proofs.Common.{◌≡◌, ℕ, zero, suc, ◌≤◌, ◌+◌, List, [], ◌∷◌, length, map, refl, sym, ap, ◌∙◌, arith, Bool, true, false, Some, None}
+use Rattle.std.specs.Prelude.{Option, ◌&&◌, flat_map, filter_map, if◌then◌else◌}
 use Rattle.std.specs.List.{AllByRecursion, cons_option, list_all}
 use Rattle.std.proofs.lemmas.Bool.{le-leb}
 use Rattle.std.proofs.lemmas.List.Folds.{list_all-append}
-use Rattle.semver_core.specs.Cuts.{Span, greater_lower, interval, is_interval, lesser_upper}
+use Rattle.semver_core.specs.Cuts.{Span, interval, is_interval}
 use Rattle.semver_core.specs.declared.cuts.bound.Bound.{Bound}
-use Rattle.semver_core.specs.declared.cuts.bound.Bound.TheVariants.{Unbounded, Before, After}
 use Rattle.semver_core.specs.Normal.{is_normal}
 use Rattle.semver_core.specs.Order.{precedence}
 use Rattle.semver_core.specs.Spaces.{drop_spaces, is_empty}
@@ -15,12 +14,12 @@ use Rattle.nodejs_semver.specs.Denotes.{denotes, part_bounds, part_intervals}
 use Rattle.nodejs_semver.specs.Partials.{Partial, ◌>>=◌}
 use Rattle.nodejs_semver.specs.Parts.{parts}
 use Rattle.nodejs_semver.specs.RangeView.{any_version, is_bound_version, is_range_bound, is_range_span}
-use Rattle.nodejs_semver.specs.Runs.{AreRuns, Run, fits, greatest_lower, interval_of, least_upper, run_items, runs_of}
+use Rattle.nodejs_semver.specs.Runs.{Run, fits, greatest_lower, interval_of, least_upper, run_items, runs_of}
 use Rattle.nodejs_semver.specs.Table.{above_bounds, at_most_bounds, below_bounds, bounds_of, caret_bounds, caret_end, compare_bounds, equal_bounds, hyphen_upper, lowest, or_zero, plain_bounds, release, table, tilde_bounds, version_of, without_build}
-use Rattle.nodejs_semver.specs.Words.{Comparator, Word, above, at_least, at_most, below, caret, compare, equal, hyphen, malformed, plain, tilde, word_at, words, words_within}
+use Rattle.nodejs_semver.specs.Words.{Comparator, Word, above, at_least, at_most, below, caret, compare, equal, hyphen, malformed, plain, tilde, word_at, words_within}
 use Rattle.nodejs_semver.proofs.Bounded.{Fine, FineWord, Fits, word-fine}
 use Rattle.nodejs_semver.proofs.Lists.{and-both, and-left, and-right}
-use Rattle.nodejs_semver.proofs.RunsDivide.{bounds_of-interval, part_divides}
+use Rattle.nodejs_semver.proofs.RunsDivide.{part_divides}
 
 -- ---- the versions of the table
 

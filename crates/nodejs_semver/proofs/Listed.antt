@@ -1,5 +1,5 @@
 -- The identifiers of a text that is read as a list of them.
-use Rattle.std.proofs.Common.{◌≡◌, ℕ, ◌<◌, ◌+◌, List, [], ◌∷◌, ◌++◌, length, drop, refl, sym, ap, ◌∙◌, arith, Bool, true, false, Some, inl, inr, append-nil, map}
+use Rattle.std.proofs.Common.{◌≡◌, ℕ, ◌<◌, ◌+◌, List, [], ◌∷◌, ◌++◌, length, drop, refl, sym, ap, ◌∙◌, arith, true, Some, inl, inr, append-nil}
 use Rattle.std.specs.Prelude.{Option, None, IfSome, IfNone, IsUtf8, Vec, ◌&&◌}
 use Rattle.std.specs.declared.alloc.Global.{Global}
 use Rattle.semver_core.specs.Views.{ids_view}
@@ -10,8 +10,7 @@ use Rattle.std.proofs.lemmas.Bool.Decides.{nat_tests}
 use Rattle.std.proofs.lemmas.Str.{IsUtf8-from_ascii}
 use Rattle.std.proofs.lemmas.Str.Ascii.{IsAscii-nil, IsAscii-cons}
 use Rattle.semver_core.specs.Characters.{is_identifier_char, IsPieceAt, NoPieceAt}
-use Rattle.semver_core.specs.Identifiers.{Id, IsLongestIdentifiers, identifier_of, is_run, pieces}
-use Rattle.semver_core.specs.Reading.{list_at}
+use Rattle.semver_core.specs.Identifiers.{Id, IsLongestIdentifiers}
 use Rattle.semver_core.proofs.Pieces.{list_complete}
 use Rattle.nodejs_semver.specs.Fronts.{is_listed, list_of}
 use Rattle.nodejs_semver.specs.Partials.{is_dot}

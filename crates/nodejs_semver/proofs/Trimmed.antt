@@ -1,7 +1,7 @@
 -- A trimmed text does not begin with whitespace.
-use Rattle.std.proofs.Common.{◌≡◌, ℕ, List, [], ◌∷◌, ◌++◌, refl, sym, ap, ◌∙◌, true, false, Bool}
+use Rattle.std.proofs.Common.{◌≡◌, ℕ, List, [], ◌∷◌, ap, ◌∙◌, false, Bool}
 use Rattle.std.specs.Prelude.{encode_utf8_all, if◌then◌else◌}
-use Rattle.std.specs.Char.{encode_utf8, len_utf8}
+use Rattle.std.specs.Char.{len_utf8}
 use Rattle.semver_core.specs.Characters.{IsTrim, begins, is_whitespace}
 use Rattle.semver_core.specs.Spaces.{space_len}
 use Rattle.semver_core.proofs.SpaceLaw.{FrontIsFirstCharacter_lem}

@@ -1,5 +1,5 @@
 -- Statement. What a range text means: a list of intervals. The text has a range exactly where that list is not empty.
-use Rattle.std.specs.Prelude.{ℕ, List, [], ◌∷◌, map, flat_map, filter_map, if◌then◌else◌}
+use Rattle.std.specs.Prelude.{ℕ, List, map, flat_map, filter_map, if◌then◌else◌}
 use Rattle.std.specs.List.{list_all}
 use Rattle.semver_core.specs.Cuts.{Span}
 use Rattle.semver_core.specs.Order.{precedence}

@@ -13,6 +13,7 @@ mod least;
 mod lists;
 mod neighbours;
 mod outside;
+mod parse;
 mod print;
 mod same;
 

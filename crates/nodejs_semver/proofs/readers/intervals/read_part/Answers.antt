@@ -1,11 +1,11 @@
-use Rattle.std.proofs.Common.{◌≡◌, ◌<◌, ◌∷◌, ◌++◌, List, ℕ, length, sym, ap, ◌∙◌, arith, Some}
+use Rattle.std.proofs.Common.{◌≡◌, ◌<◌, ◌++◌, List, ℕ, length, sym, ap, ◌∙◌, arith}
 use Rattle.std.specs.Prelude.{Option}
 use Rattle.semver_core.specs.Cuts.{Span}
 use Rattle.semver_core.specs.Order.{precedence}
 use Rattle.semver_core.specs.Versions.{VersionValue}
 use Rattle.semver_core.specs.declared.TheConstants.{MAX_SAFE_INTEGER}
 use Rattle.nodejs_semver.specs.Denotes.{part_bounds}
-use Rattle.nodejs_semver.specs.Meets.{joined, joined_from, next_at}
+use Rattle.nodejs_semver.specs.Meets.{joined}
 use Rattle.semver_core.specs.Spaces.{space_len}
 use Rattle.nodejs_semver.proofs.PartSteps.{bounds-none, bounds-some, part-last, part-none, rest-shorter, rest-starts}
 use Rattle.nodejs_semver.proofs.readers.intervals.read_part.Goals as goal

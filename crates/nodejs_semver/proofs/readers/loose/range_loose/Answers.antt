@@ -1,4 +1,4 @@
-use Rattle.std.proofs.Common.{◌≡◌, ◌+◌, List, ap, ◌∙◌}
+use Rattle.std.proofs.Common.{◌+◌, List, ap, ◌∙◌}
 use Rattle.std.specs.List.{list_all}
 use Rattle.semver_core.specs.Cuts.{Span}
 use Rattle.semver_core.specs.Versions.{VersionValue}
