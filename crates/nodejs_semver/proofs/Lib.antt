@@ -37,3 +37,4 @@ pub mod PartSteps
 pub mod Trimmed
 pub mod Bounded
 pub mod BoundedTable
+pub mod NumberFront
