@@ -27,3 +27,4 @@ pub mod PrintedBounds
 pub mod PrintedParts
 pub mod PrintedRanges
 pub mod PrintedSteps
+pub mod RereadRange
