@@ -10,7 +10,6 @@ pub mod Boundaries
 pub mod Pieces
 pub mod Reaches
 pub mod Progress
-pub mod PartSteps
 pub mod Sound
 pub mod SoundPartial
 pub mod BarLemmas
@@ -21,6 +20,12 @@ pub mod RunsDivide
 pub mod Holds
 pub mod BarsDivide
 pub mod NumberLaw
+pub mod Keys
+pub mod LeastPieces
+pub mod LeastOf
+pub mod Raised
+pub mod BestOf
+pub mod OutsideLaw
 pub mod PrintedVersions
 pub mod PrintedWords
 pub mod PrintedBounds
@@ -28,3 +33,8 @@ pub mod PrintedParts
 pub mod PrintedRanges
 pub mod PrintedSteps
 pub mod RereadRange
+pub mod Listed
+pub mod PartSteps
+pub mod Trimmed
+pub mod Bounded
+pub mod BoundedTable

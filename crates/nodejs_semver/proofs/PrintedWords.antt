@@ -10,9 +10,8 @@ use Rattle.semver_core.specs.Versions.{VersionValue}
 use Rattle.semver_core.specs.Spaces.{drop_spaces, space_len, after_spaces}
 use Rattle.nodejs_semver.specs.Partials.{Partial, longest_partial, begins_digit, number_of}
 use Rattle.nodejs_semver.specs.Fronts.{partial_front, component_front}
-use Rattle.nodejs_semver.specs.Words.{Word, plain, compare, Comparator, at_least, above, equal, at_most, below, comparator_at, signed, word_at, words, is_boundary, or_equal}
+use Rattle.nodejs_semver.specs.Words.{Word, plain, compare, Comparator, at_least, above, equal, at_most, below, comparator_at, signed, word_at, words, is_boundary, or_equal, words_within}
 use Rattle.nodejs_semver.proofs.Progress.{words-step}
-use Rattle.nodejs_semver.proofs.PartSteps.{words-none}
 use Rattle.nodejs_semver.proofs.Longest.{longest_is_front}
 use Rattle.nodejs_semver.proofs.PrintedVersions.{whole, is_end, longest_back, front_digit, digit_dark, dark_stays}
 
@@ -102,7 +101,8 @@ plain_word limit v fits h = rw (longest_back limit v [] fits h refl) refl
 -- ---- the words of a part
 
 words-nil : (limit : ℕ) → words limit [] ≡ []
-words-nil limit = words-none limit [] refl
+unfolding words_within
+words-nil limit = refl
 
 -- the part begins with this word
 words_of : (limit : ℕ) (text : List ℕ) (w : Word) (rest : List ℕ) → 0 < length text → space_len text ≡ 0 → word_at limit text ≡ (w, rest)

@@ -17,6 +17,12 @@ pub mod PartFronts
 pub mod Meets
 pub mod Readings
 pub mod Examples
+pub mod Least
+pub mod Candidates
+pub mod Best
+pub mod Choosing
+pub mod Outside
 pub mod Printed
 pub mod ComesBack
 pub mod PrintedRows
+pub mod Json

@@ -7,11 +7,17 @@ ghost use Rattle.semver_core.specs.Cuts.{if_any};
 ghost use Rattle.nodejs_semver.specs.RangeView.{IsRange, is_range_span, any_version};
 
 mod algebra;
+mod best;
 mod gate;
+mod least;
 mod lists;
+mod neighbours;
+mod outside;
 mod print;
+mod parse;
 mod same;
 
+pub use crate::range::outside::{OutsideDirection, RangeError};
 use semver_core::Version;
 use semver_core::cuts::Interval;
 use std::alloc::{AllocError, Global};

@@ -10,6 +10,7 @@ pub mod CutLaws
 pub mod LastNumber
 pub mod DifferenceLaws
 pub mod IncrementLaws
+pub mod NextLaws
 pub mod Returns
 pub mod Prints
 pub mod Reread

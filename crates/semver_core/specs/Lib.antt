@@ -23,6 +23,7 @@ pub mod IncrementSteps
 pub mod IncrementLeast
 pub mod IncrementRows
 pub mod Successors
+pub mod NextVersions
 pub mod Difference
 pub mod DifferenceRows
 pub mod Examples

@@ -52,6 +52,3 @@ impl fmt::Display for Version {
         write_list("+", self.build(), f)
     }
 }
-
-#[cfg(test)]
-mod tests;

@@ -1,7 +1,7 @@
 // Which versions a range accepts.
 
-ghost use Rattle.std.specs.Prelude.{◌≡◌, IsTrue, true, false};
-ghost use Rattle.semver_core.specs.Cuts.{list_holds};
+ghost use Rattle.std.specs.Prelude.{◌≡◌, ◌&&◌, ◌||◌, IsTrue, true, false};
+ghost use Rattle.semver_core.specs.Cuts.{holds, list_holds};
 ghost use Rattle.semver_core.specs.Order.{precedence};
 ghost use Rattle.semver_core.specs.declared.TheConstants.{MAX_SAFE_INTEGER};
 ghost use Rattle.nodejs_semver.specs.Accepts.{accepts, lets_in, names};
@@ -34,9 +34,7 @@ impl Range {
         ensures gate { result ≡ accepts self.now version.now include_prerelease }
         ensures valid { IsRange MAX_SAFE_INTEGER self.now }
     {
-        self.intervals().iter().any(|interval| {
-            interval.contains(version) && (include_prerelease || lets_in(interval, version))
-        })
+        accepts(self.intervals(), version, include_prerelease)
     }
 }
 
@@ -46,6 +44,28 @@ impl Accepts for Range {
     fn accepts(&self, version: &Version, include_prerelease: bool) -> bool {
         self.satisfies_with_prerelease(version, include_prerelease)
     }
+}
+
+// Whether some one of the intervals holds the version and lets it in.
+pub(crate) fn accepts(
+    intervals: &[Interval<Version>],
+    version: &Version,
+    include_prerelease: bool,
+) -> bool
+    ensures { result ≡ accepts intervals.now version.now include_prerelease }
+{
+    intervals.iter().any(|interval| accepts_one(interval, version, include_prerelease))
+}
+
+// Whether the interval holds the version and lets it in.
+pub(crate) fn accepts_one(
+    interval: &Interval<Version>,
+    version: &Version,
+    include_prerelease: bool,
+) -> bool
+    ensures { result ≡ (holds precedence interval.now version.now && (include_prerelease || lets_in interval.now version.now)) }
+{
+    interval.contains(version) && (include_prerelease || lets_in(interval, version))
 }
 
 // Whether the interval lets in the version, pre-releases not being included.

@@ -1,0 +1,17 @@
+use Rattle.std.proofs.Common.{◌≡◌, [], false, sym, subst}
+use Rattle.semver_core.specs.Versions.{VersionValue}
+use Rattle.nodejs_semver.specs.Accepts.{accepts}
+use Rattle.nodejs_semver.specs.Least.{beyond, IsLeast, IsLeastOf, least_build}
+use Rattle.nodejs_semver.proofs.LeastOf.{least_accepted, least_build_built}
+use Rattle.nodejs_semver.proofs.range.least.least_accepted.Goals as goal
+
+pub returns-in_ok-built-in-Some-clause-least : goal.returns-in_ok-built-in-Some-clause-least
+returns-in_ok-built-in-Some-clause-least c =
+    let kept = c.args.intervals.now in
+    let h : IsLeast (beyond kept []) c.in-Some.version = subst (IsLeastOf (beyond kept [])) c.in-Some.is c.in_ok-least_beyond.ensures.least in
+    subst (IsLeast (λ v. accepts kept v false)) (sym c.in_ok-built-in-Some.ensures) (least_accepted kept c.in-Some.version _ h)
+
+pub returns-in_ok-built-in-Some-clause-build : goal.returns-in_ok-built-in-Some-clause-build
+returns-in_ok-built-in-Some-clause-build c =
+    let kept = c.args.intervals.now in
+    subst (λ (x : VersionValue). x.build ≡ least_build kept x) (sym c.in_ok-built-in-Some.ensures) (sym (least_build_built kept c.in-Some.version _))

@@ -1,0 +1,137 @@
+// Versions beside another one.
+
+ghost use Rattle.std.specs.Prelude.{◌≡◌, ◌+◌, ◌-◌, ◌<◌, ◌^◌, ◌++◌, [], IfOk};
+ghost use Rattle.nodejs_semver.specs.Accepts.{is_release};
+ghost use Rattle.nodejs_semver.specs.Candidates as spec;
+ghost use Rattle.semver_core.specs.Views.{ids_view};
+
+use semver_core::{Identifier, Version};
+use std::alloc::{AllocError, Global};
+
+// Whether the version has no pre-release.
+pub(crate) fn is_release(version: &Version) -> bool
+    ensures { result ≡ is_release version.now }
+{
+    version.pre_release().is_empty()
+}
+
+// The release of the same three numbers.
+pub(crate) fn release_of(version: &Version) -> Version
+    ensures { result ≡ spec.release_of version.now }
+{
+    Version::from((version.major(), version.minor(), version.patch()))
+}
+
+// The release after a release.
+pub(crate) fn next_patch(version: &Version) -> Version
+    requires { version.now.patch < 2 ^ 64 - 1 }
+    ensures { result ≡ spec.next_patch version.now }
+{
+    Version::from((version.major(), version.minor(), version.patch() + 1))
+}
+
+// The first pre-release of the same three numbers.
+pub(crate) fn first_pre(alloc: Global, version: &Version) -> Result<Version, AllocError>
+    ensures { IfOk result (λ v. v ≡ spec.first_pre version.now) }
+{
+    Version::with_pre(alloc, version.major(), version.minor(), version.patch(), 0)
+}
+
+// The version after a pre-release.
+pub(crate) fn next_pre(alloc: Global, version: &Version) -> Result<Version, AllocError>
+    ensures { IfOk result (λ v. v ≡ spec.next_pre version.now) }
+{
+    let mut pre_release = copy_identifiers(alloc, version.pre_release())?;
+    pre_release.push(Identifier::Numeric(0))?;
+    with_lists(alloc, version, pre_release, Vec::new(alloc))
+}
+
+// The version without its build.
+pub(crate) fn bare(alloc: Global, version: &Version) -> Result<Version, AllocError>
+    ensures { IfOk result (λ v. v ≡ spec.bare version.now) }
+{
+    let pre_release = copy_identifiers(alloc, version.pre_release())?;
+    with_lists(alloc, version, pre_release, Vec::new(alloc))
+}
+
+// A version that has no build, with this one.
+pub(crate) fn with_build(
+    alloc: Global,
+    version: Version,
+    build: &[Identifier],
+) -> Result<Version, AllocError>
+    requires { version.build ≡ [] }
+    ensures { IfOk result (λ v. v ≡ record version { build = ids_view build.now }) }
+{
+    if build.is_empty() {
+        return Ok(version);
+    }
+    let build = copy_identifiers(alloc, build)?;
+    match version.into_parts(alloc) {
+        Ok(parts) => new_version(
+            alloc,
+            parts.major,
+            parts.minor,
+            parts.patch,
+            parts.pre_release,
+            build,
+        ),
+        Err(_) => Err(AllocError),
+    }
+}
+
+// The same three numbers with these lists.
+fn with_lists(
+    alloc: Global,
+    version: &Version,
+    pre_release: Vec<Identifier>,
+    build: Vec<Identifier>,
+) -> Result<Version, AllocError>
+    ensures { IfOk result (λ v. v ≡ record version.now { pre_release = ids_view pre_release.items; build = ids_view build.items }) }
+{
+    new_version(
+        alloc,
+        version.major(),
+        version.minor(),
+        version.patch(),
+        pre_release,
+        build,
+    )
+}
+
+// The version of these parts, which are dropped where memory is missing.
+fn new_version(
+    alloc: Global,
+    major: u64,
+    minor: u64,
+    patch: u64,
+    pre_release: Vec<Identifier>,
+    build: Vec<Identifier>,
+) -> Result<Version, AllocError>
+    ensures { IfOk result (λ v. v ≡ record {
+      major = major;
+      minor = minor;
+      patch = patch;
+      pre_release = ids_view pre_release.items;
+      build = ids_view build.items;
+    }) }
+{
+    match Version::new(alloc, major, minor, patch, pre_release, build) {
+        Ok(version) => Ok(version),
+        Err(_) => Err(AllocError),
+    }
+}
+
+// The identifiers again.
+fn copy_identifiers(
+    alloc: Global,
+    identifiers: &[Identifier],
+) -> Result<Vec<Identifier>, AllocError>
+    ensures { IfOk result (λ copy. ids_view copy.items ≡ ids_view identifiers.now) }
+{
+    let mut copy = Vec::with_capacity(alloc, identifiers.len())?;
+    for identifier in identifiers {
+        copy.push(identifier.copy(alloc)?)?;
+    }
+    Ok(copy)
+}

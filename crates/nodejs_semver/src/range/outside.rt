@@ -1,0 +1,147 @@
+// Versions that lie above or below a range.
+
+ghost use Rattle.nodejs_semver.specs.Outside as spec;
+ghost use Rattle.semver_core.specs.Cuts.{is_past, lower_cut, upper_cut};
+ghost use Rattle.semver_core.specs.Order.{precedence};
+ghost use Rattle.std.specs.List.{list_all};
+ghost use Rattle.std.specs.Prelude.{Ok, ◌≡◌};
+
+use crate::Range;
+use semver_core::Version;
+use semver_core::cuts::{Bound, Interval};
+use std::cmp::Ordering;
+use std::fmt;
+use thiserror::Error;
+
+/// A side of a range, for `Range::outside`.
+#[derive(Clone, Copy, PartialEq, Eq, Hash, Debug)]
+pub enum OutsideDirection {
+    /// Above the range, written `>`.
+    Higher,
+    /// Below the range, written `<`.
+    Lower,
+}
+
+/// Writes `>` for `Higher` and `<` for `Lower`.
+impl fmt::Display for OutsideDirection {
+    ghost use Rattle.nodejs_semver.specs.Outside.{direction_char};
+    ghost use Rattle.std.specs.Prelude.{Some, [], ◌∷◌};
+
+    ghost output = { λ direction. Some (direction_char direction ∷ []) };
+
+    fn fmt<W: fmt::Write>(&self, f: &mut fmt::Formatter<W>) -> fmt::Result {
+        f.write_str(match self {
+            OutsideDirection::Higher => ">",
+            OutsideDirection::Lower => "<",
+        })
+    }
+}
+
+/// Reads `>` and `<`, and refuses every other character with `RangeError::InvalidOutsideDirection`.
+impl TryFrom<char> for OutsideDirection {
+    type Error = RangeError;
+
+    ghost try_from_gives = { λ c r. r ≡ spec.direction_of c };
+
+    fn try_from(c: char) -> Result<OutsideDirection, RangeError> {
+        match c {
+            '>' => Ok(OutsideDirection::Higher),
+            '<' => Ok(OutsideDirection::Lower),
+            _ => Err(RangeError::InvalidOutsideDirection(c)),
+        }
+    }
+}
+
+/// Why a question about a range has no answer.
+#[derive(Clone, Copy, PartialEq, Eq, Debug, Error)]
+pub enum RangeError {
+    /// The character names no side of a range.
+    #[error("outside() only supports checking whether a version is above or below a range, found `{0}`")]
+    InvalidOutsideDirection(char),
+    /// Kept for callers that match on it: no call answers it.
+    #[error("outside() could not determine comparator bounds for this range")]
+    MissingComparatorBounds,
+}
+
+impl Range {
+    /// Whether the version lies outside the range on this side: the range does not accept it, with the flag that lets
+    /// pre-releases in, and every interval lies on the other side. It is never an error.
+    ///
+    /// For `Higher` every interval must have an upper bound, and a lower cut that is not after the version. For `Lower` every
+    /// interval must have no bound at all, or a lower bound and an upper cut that is not before the version. So 2.0.0-beta is
+    /// above `1` though its upper bound is `<2.0.0-0`, and 0.7.2-beta is below the range without bounds, which does not accept it.
+    pub fn outside(
+        &self,
+        version: &Version,
+        direction: OutsideDirection,
+        include_prerelease: bool,
+    ) -> Result<bool, RangeError>
+        ensures { result ≡ Ok (spec.is_outside direction include_prerelease self.now version.now) }
+    {
+        let is_accepted = self.satisfies_with_prerelease(version, include_prerelease);
+        Ok(match direction {
+            OutsideDirection::Higher => !is_accepted && lie_below(self.intervals(), version),
+            OutsideDirection::Lower => !is_accepted && lie_above(self.intervals(), version),
+        })
+    }
+}
+
+fn lie_below(intervals: &[Interval<Version>], version: &Version) -> bool
+    ensures { result ≡ list_all (λ s. spec.lies_below s version.now) intervals.now }
+{
+    intervals
+        .iter()
+        .all(|interval| lies_below(interval, version))
+}
+
+fn lie_above(intervals: &[Interval<Version>], version: &Version) -> bool
+    ensures { result ≡ list_all (λ s. spec.lies_above s version.now) intervals.now }
+{
+    intervals
+        .iter()
+        .all(|interval| lies_above(interval, version))
+}
+
+fn lies_below(interval: &Interval<Version>, version: &Version) -> bool
+    ensures { result ≡ spec.lies_below interval.now version.now }
+{
+    is_bounded(interval.upper()) && is_past_lower(interval.lower(), version)
+}
+
+fn lies_above(interval: &Interval<Version>, version: &Version) -> bool
+    ensures { result ≡ spec.lies_above interval.now version.now }
+{
+    (!is_bounded(interval.lower()) && !is_bounded(interval.upper()))
+        || (is_bounded(interval.lower()) && !is_past_upper(interval.upper(), version))
+}
+
+fn is_bounded(bound: &Bound<Version>) -> bool
+    ensures { result ≡ spec.is_bounded bound.now }
+{
+    match bound {
+        Bound::Unbounded => false,
+        Bound::Before(_) | Bound::After(_) => true,
+    }
+}
+
+// Whether the version lies after the cut of the lower bound.
+fn is_past_lower(bound: &Bound<Version>, version: &Version) -> bool
+    ensures { result ≡ is_past precedence (lower_cut bound.now) version.now }
+{
+    match bound {
+        Bound::Unbounded => true,
+        Bound::Before(w) => w.cmp(version).then(Ordering::Equal).is_le(),
+        Bound::After(w) => w.cmp(version).then(Ordering::Greater).is_le(),
+    }
+}
+
+// Whether the version lies after the cut of the upper bound.
+fn is_past_upper(bound: &Bound<Version>, version: &Version) -> bool
+    ensures { result ≡ is_past precedence (upper_cut bound.now) version.now }
+{
+    match bound {
+        Bound::Unbounded => false,
+        Bound::Before(w) => w.cmp(version).then(Ordering::Equal).is_le(),
+        Bound::After(w) => w.cmp(version).then(Ordering::Greater).is_le(),
+    }
+}

@@ -1,7 +1,0 @@
-use Rattle.std.proofs.Common.{arith}
-use Rattle.std.specs.Fmt.{digits}
-use Rattle.semver_core.proofs.print.tests.a_printed_version_is_read_again.Goals as goal
-
-pub reread-requires-clause-short : goal.reread-requires-clause-short
-unfolding digits
-reread-requires-clause-short g c = rw c.from_parts-version.ensures (omega arith)
