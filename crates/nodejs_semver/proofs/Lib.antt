@@ -32,6 +32,7 @@ pub mod PrintedBounds
 pub mod PrintedParts
 pub mod PrintedRanges
 pub mod PrintedSteps
+pub mod RereadRange
 pub mod Listed
 pub mod PartSteps
 pub mod Trimmed
