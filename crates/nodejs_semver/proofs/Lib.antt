@@ -3,7 +3,6 @@ pub mod GateLaws
 pub mod AlgebraLaws
 pub mod SpanLaws
 pub mod AlgebraClauses
-pub mod Spaces
 pub mod Numbers
 pub mod Lists
 pub mod Longest
@@ -11,7 +10,6 @@ pub mod Boundaries
 pub mod Pieces
 pub mod Reaches
 pub mod Progress
-pub mod PartSteps
 pub mod Sound
 pub mod SoundPartial
 pub mod BarLemmas
@@ -28,3 +26,14 @@ pub mod LeastOf
 pub mod Raised
 pub mod BestOf
 pub mod OutsideLaw
+pub mod PrintedVersions
+pub mod PrintedWords
+pub mod PrintedBounds
+pub mod PrintedParts
+pub mod PrintedRanges
+pub mod PrintedSteps
+pub mod Listed
+pub mod PartSteps
+pub mod Trimmed
+pub mod Bounded
+pub mod BoundedTable

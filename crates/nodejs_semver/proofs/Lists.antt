@@ -9,7 +9,7 @@ use Rattle.std.proofs.lemmas.List.{drop_more, drop_all}
 use Rattle.semver_core.specs.Characters.{is_identifier_char}
 use Rattle.semver_core.specs.Identifiers.{is_run, goes_on}
 use Rattle.nodejs_semver.specs.Partials.{is_dot}
-use Rattle.nodejs_semver.specs.Fronts.{begins_identifier, run_on, list_len}
+use Rattle.nodejs_semver.specs.Fronts.{is_listed, begins_identifier, run_on, list_len}
 
 pub and-left : (a b : Bool) → (a && b) ≡ true → a ≡ true
 and-left true b h = refl
@@ -217,3 +217,20 @@ pub list_len-whole : (text : List ℕ) (i : ℕ) → begins_identifier text ≡ 
     → length text ≤ i → i ≤ length text → length text ≡ list_len text
 unfolding list_len
 list_len-whole text i begins inv all within = rw begins (omega (arith, rw (drop_all i text all) at inv, run_on-nil))
+
+-- what is taken is empty or a list
+is_list-listed : (text : List ℕ) → is_list text ≡ true → is_listed text ≡ true
+unfolding is_list is_listed
+is_list-listed [] h = refl
+is_list-listed (b ∷ rest) h = h
+
+pub listed_nil : is_listed [] ≡ true
+unfolding is_listed
+listed_nil = refl
+
+pub listed_taken : (text : List ℕ) → is_listed (take (list_len text) text) ≡ true
+unfolding list_len
+listed_taken text = elim (cases_Bool (begins_identifier text)) [
+  | inl some ↦ is_list-listed (take (list_len text) text) (list_len-is_list text some)
+  | inr none ↦ rw none listed_nil
+]

@@ -18,6 +18,14 @@ module _ {V : Type 0} (R : V → V → Ordering) where
   unfolding runs_from
   runs-stops r i is h = rw (h, runs_from) refl
 
+  pub joined-goes : (i j m : Span V) (is : List (Span V)) → meet R i j ≡ Some m → joined_from R i (j ∷ is) ≡ joined_from R m is
+  unfolding joined_from
+  joined-goes i j m is h = ap (λ (q : Option (Span V)). elim q [ Some m ↦ joined_from R m is | None ↦ i ∷ joined_from R j is ]) h
+
+  pub joined-stops : (i j : Span V) (is : List (Span V)) → meet R i j ≡ None → joined_from R i (j ∷ is) ≡ i ∷ joined_from R j is
+  unfolding joined_from
+  joined-stops i j is h = ap (λ (q : Option (Span V)). elim q [ Some m ↦ joined_from R m is | None ↦ i ∷ joined_from R j is ]) h
+
 module _ {V : Type 0} {R : V → V → Ordering} (o : IsTotalOrder R) where
   -- a run with one word more is met by that word
   meets-fit : (r : Run V) (s : Span V) → fits R (longer r s) ≡ true → meet R (interval_of R r) s ≡ Some (interval_of R (longer r s))
@@ -31,14 +39,6 @@ module _ {V : Type 0} {R : V → V → Ordering} (o : IsTotalOrder R) where
       let stops = sym (ap (λ (i : Span V). is_interval R i) (longer-is o r s)) ∙ h in
       rw stops refl
 
-  pub joined-goes : (i j m : Span V) (is : List (Span V)) → meet R i j ≡ Some m → joined_from R i (j ∷ is) ≡ joined_from R m is
-  unfolding joined_from
-  joined-goes i j m is h = ap (λ (q : Option (Span V)). elim q [ Some m ↦ joined_from R m is | None ↦ i ∷ joined_from R j is ]) h
-
-  pub joined-stops : (i j : Span V) (is : List (Span V)) → meet R i j ≡ None → joined_from R i (j ∷ is) ≡ i ∷ joined_from R j is
-  unfolding joined_from
-  joined-stops i j is h = ap (λ (q : Option (Span V)). elim q [ Some m ↦ joined_from R m is | None ↦ i ∷ joined_from R j is ]) h
-
   runs_from-joined : (r : Run V) (is : List (Span V)) → map (interval_of R) (runs_from R r is) ≡ joined_from R (interval_of R r) is
   unfolding runs_from joined_from
   runs_from-joined r [] = refl
@@ -46,11 +46,11 @@ module _ {V : Type 0} {R : V → V → Ordering} (o : IsTotalOrder R) where
       elim (cases_Bool (fits R (longer r i))) [
         | inl goes ↦
             ap (λ (rs : List (Run V)). map (interval_of R) rs) (runs-goes R r i is goes)
-            ∙ (runs_from-joined (longer r i) is ∙ sym (joined-goes (interval_of R r) i (interval_of R (longer r i)) is (meets-fit r i goes)))
+            ∙ (runs_from-joined (longer r i) is ∙ sym (joined-goes R (interval_of R r) i (interval_of R (longer r i)) is (meets-fit r i goes)))
         | inr stops ↦
             ap (λ (rs : List (Run V)). map (interval_of R) rs) (runs-stops R r i is stops)
             ∙ (ap (λ (js : List (Span V)). interval_of R r ∷ js) (runs_from-joined (record { first = i; others = [] }) is)
-            ∙ sym (joined-stops (interval_of R r) i is (meets-stop r i stops)))
+            ∙ sym (joined-stops R (interval_of R r) i is (meets-stop r i stops)))
       ]
 
   -- what the reader of a part computes is the intervals of its runs

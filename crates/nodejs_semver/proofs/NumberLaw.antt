@@ -4,7 +4,7 @@ use Rattle.std.specs.Prelude.{◌↔◌}
 use Rattle.std.proofs.lemmas.Bool.{leb-true}
 use Rattle.semver_core.specs.Numbers.{IsNumber}
 use Rattle.nodejs_semver.specs.Partials.{number_of}
-use Rattle.nodejs_semver.specs.Spaces.{is_empty}
+use Rattle.semver_core.specs.Spaces.{is_empty}
 use Rattle.nodejs_semver.proofs.Numbers.{number_of-some}
 use Rattle.nodejs_semver.proofs.Pieces.{number_of-is}
 

@@ -9,7 +9,7 @@ use Rattle.std.proofs.lemmas.Bool.Decides.{nat_tests}
 use Rattle.std.proofs.lemmas.Int.Digits.{digits_value_more}
 use Rattle.std.specs.Prelude.{Option}
 use Rattle.nodejs_semver.specs.Partials.{number_of, ◌>>=◌}
-use Rattle.nodejs_semver.specs.Spaces.{is_empty}
+use Rattle.semver_core.specs.Spaces.{is_empty}
 use Rattle.nodejs_semver.specs.Fronts.{number_front}
 
 -- the elements from the front on that pass, pass

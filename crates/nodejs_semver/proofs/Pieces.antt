@@ -8,7 +8,7 @@ use Rattle.std.proofs.lemmas.Bool.{cases_Bool, eqb-true}
 use Rattle.std.proofs.lemmas.Bool.Decides.{nat_tests}
 use Rattle.std.proofs.lemmas.List.{take_at, drop_at}
 use Rattle.nodejs_semver.specs.Partials.{number_of, ◌>>=◌, is_dot, before_dot, after_dot, begins_digit, ends_digit, component_of, wildcard_of, is_wildcard}
-use Rattle.nodejs_semver.specs.Spaces.{is_empty}
+use Rattle.semver_core.specs.Spaces.{is_empty}
 use Rattle.nodejs_semver.specs.Fronts.{begins_wildcard, component_front}
 use Rattle.nodejs_semver.proofs.Lists.{and-left, and-right}
 
@@ -120,7 +120,7 @@ wildcard_front : (limit b : ℕ) (more : List ℕ) → is_wildcard b ≡ true �
 unfolding component_front
 wildcard_front limit b more h = rw h refl
 
-number-then : (limit : ℕ) (run more : List ℕ) (n : ℕ) → number_of limit run ≡ Some n → begins_digit more ≡ false
+pub number-then : (limit : ℕ) (run more : List ℕ) (n : ℕ) → number_of limit run ≡ Some n → begins_digit more ≡ false
     → component_front limit (run ++ more) ≡ Some (Some n, more)
 unfolding component_front
 number-then limit run more n h stop =

@@ -2,12 +2,12 @@
 use Rattle.std.proofs.Common.{◌≡◌, ℕ, zero, suc, ◌<◌, ◌≤◌, List, [], ◌∷◌, length, take, drop, refl, ap, ◌∙◌, arith, Some, None, inl, inr, subst, length-append, length-drop, true, false, Bool}
 use Rattle.std.specs.Prelude.{Option, ◌==◌, nat_lt}
 use Rattle.std.proofs.lemmas.Bool.{cases_Bool}
-use Rattle.nodejs_semver.specs.Spaces.{drop_spaces, space_len, after_spaces}
+use Rattle.semver_core.specs.Spaces.{drop_spaces, space_len, after_spaces}
 use Rattle.nodejs_semver.specs.Words.{is_boundary, Word, Reading, Comparator, above, at_least, below, at_most, equal, after_some_space, after_byte, at_boundary, signed, hyphen, plain, compare, tilde, caret, hyphen_at, plain_at, compare_at, tilde_at, caret_at, comparator_at, or_equal, tilde_sign, from_boundary, form_at, word_at, words_within, words}
 use Rattle.nodejs_semver.specs.Partials.{◌>>=◌, Partial, longest_partial, longest_within, partial_to, or_else}
 use Rattle.nodejs_semver.proofs.Pieces.{bind-some}
 use Rattle.nodejs_semver.proofs.Reaches.{second-same}
-use Rattle.nodejs_semver.proofs.Spaces.{after_spaces-end, drop_spaces-none, space_len-nil}
+use Rattle.semver_core.proofs.Spaces.{after_spaces-end, drop_spaces-none, space_len-nil}
 
 -- an answer leaves less
 abbrev Shorter : {A : Type 0} → Option (A × List ℕ) → List ℕ → Type 0

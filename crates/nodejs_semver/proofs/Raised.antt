@@ -10,7 +10,7 @@ use Rattle.semver_core.specs.declared.TheConstants.{MAX_SAFE_INTEGER}
 use Rattle.semver_core.specs.declared.cuts.bound.Bound.{Bound}
 use Rattle.semver_core.specs.declared.cuts.bound.Bound.TheVariants.{Unbounded, Before, After}
 use Rattle.nodejs_semver.specs.RangeView.{IsRange, is_bound_version, is_range_bound, is_range_span}
-use Rattle.nodejs_semver.specs.Normal.{is_normal}
+use Rattle.semver_core.specs.Normal.{is_normal}
 use Rattle.nodejs_semver.specs.Candidates.{Raisable, IsRaisable}
 
 and_left : (a b : Bool) → (a && b) ≡ true → a ≡ true

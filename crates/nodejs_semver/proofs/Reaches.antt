@@ -7,13 +7,13 @@ use Rattle.std.proofs.lemmas.List.{take-append-drop}
 use Rattle.std.proofs.lemmas.List.Folds.{length-prefix_len}
 use Rattle.std.proofs.lemmas.Bool.{cases_Bool, eqb-true}
 use Rattle.std.proofs.lemmas.Bool.Decides.{nat_tests}
-use Rattle.nodejs_semver.specs.Spaces.{drop_spaces, after_spaces}
+use Rattle.semver_core.specs.Spaces.{drop_spaces, after_spaces}
 use Rattle.nodejs_semver.specs.Partials.{number_of, ◌>>=◌, is_dot, is_plus, identifiers_of, pre_release_of, build_of, before_plus, from_plus, qualifier_of, Partial, before_dot, after_dot, begins_digit, ends_digit, component_of, components_of, minor_after, patch_after, partial_of, drop_v, third, is_wildcard, wildcard_of}
 use Rattle.semver_core.specs.Identifiers.{is_run, Id}
 use Rattle.nodejs_semver.specs.Fronts.{Front, begins_wildcard, component_front, dotted_front, number_front, begins_identifier, begins_byte, run_on, list_len, pre_release_front, build_front, patch_front, minor_front, partial_front}
 use Rattle.nodejs_semver.proofs.Lists.{and-left, is_list, is_list-begins, list_len-append, begins-append}
 use Rattle.nodejs_semver.proofs.Pieces.{bind-some, dots, component-then, ends_digit-append, wildcard-no_digit, wildcard-is, number_of-is}
-use Rattle.nodejs_semver.proofs.Spaces.{after_spaces-append, after_spaces-end}
+use Rattle.semver_core.proofs.Spaces.{after_spaces-append, after_spaces-end}
 
 -- what is left is no longer
 drop-le : (n : ℕ) (xs : List ℕ) → length (drop n xs) ≤ length xs

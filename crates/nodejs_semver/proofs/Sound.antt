@@ -7,7 +7,7 @@ use Rattle.std.proofs.lemmas.Bool.{cases_Bool, eqb-true}
 use Rattle.std.proofs.lemmas.Bool.Decides.{nat_tests}
 use Rattle.std.proofs.lemmas.List.{take-append-drop}
 use Rattle.nodejs_semver.specs.Partials.{number_of, is_dot, is_plus, identifiers_of, pre_release_of, build_of, before_plus, from_plus, qualifier_of, after_dot, begins_digit, component_of, is_wildcard, wildcard_of}
-use Rattle.nodejs_semver.specs.Spaces.{is_empty}
+use Rattle.semver_core.specs.Spaces.{is_empty}
 use Rattle.semver_core.specs.Identifiers.{Id, goes_on}
 use Rattle.semver_core.specs.Characters.{is_identifier_char}
 use Rattle.nodejs_semver.specs.Fronts.{begins_wildcard, component_front, number_front, begins_identifier, begins_byte, run_on, list_len, list_of, pre_release_front, build_front}

@@ -7,14 +7,14 @@ use Rattle.std.proofs.lemmas.Bool.{cases_Bool, eqb-true, lt-ltb}
 use Rattle.std.proofs.lemmas.Bool.Decides.{nat_tests}
 use Rattle.std.proofs.lemmas.List.{take_at, drop_at}
 use Rattle.semver_core.specs.Characters.{is_whitespace}
-use Rattle.nodejs_semver.specs.Spaces.{drop_spaces, space_len, is_empty}
+use Rattle.semver_core.specs.Spaces.{drop_spaces, space_len, is_empty}
 use Rattle.nodejs_semver.specs.Partials.{number_of, ◌>>=◌, is_dot, qualifier_of, Partial, before_dot, after_dot, begins_digit, component_of, components_of, minor_after, patch_after, partial_of, drop_v, third, is_wildcard, wildcard_of}
 use Rattle.semver_core.specs.Identifiers.{Id}
 use Rattle.nodejs_semver.specs.Fronts.{Front, component_front, dotted_front, patch_front, minor_front, partial_front, pre_release_front, build_front}
 use Rattle.nodejs_semver.proofs.Lists.{and-left}
 use Rattle.nodejs_semver.proofs.Pieces.{bind-some, before_dot-cut, after_dot-cut, ends_digit-append, digits-taken, number_of-is, wildcard-is, digit-no_wildcard, digits-end}
 use Rattle.nodejs_semver.proofs.Reaches.{Quiet, quiet-before, second-same, component-some}
-use Rattle.nodejs_semver.proofs.Spaces.{after_spaces-end, after_spaces-again}
+use Rattle.semver_core.proofs.Spaces.{after_spaces-end, after_spaces-again}
 use Rattle.nodejs_semver.proofs.Sound.{Component, component-read, qualifier-read, begins_component}
 
 before_dot-whole : (c : List ℕ) → after_dot c ≡ None → before_dot c ≡ c

@@ -1,19 +1,15 @@
 -- Statement. What a range text means: a list of intervals. The text has a range exactly where that list is not empty.
-use Rattle.std.specs.Prelude.{ℕ, List, [], ◌∷◌, map, flat_map, filter_map, if◌then◌else◌}
+use Rattle.std.specs.Prelude.{ℕ, List, map, flat_map, filter_map, if◌then◌else◌}
 use Rattle.std.specs.List.{list_all}
 use Rattle.semver_core.specs.Cuts.{Span}
-use Rattle.semver_core.specs.declared.cuts.bound.Bound.TheVariants.{Unbounded}
 use Rattle.semver_core.specs.Order.{precedence}
 use Rattle.semver_core.specs.Versions.{VersionValue}
-use Rattle.nodejs_semver.specs.Spaces.{is_empty}
+use Rattle.semver_core.specs.Spaces.{is_empty}
 use Rattle.nodejs_semver.specs.Parts.{parts}
+use Rattle.nodejs_semver.specs.RangeView.{any_version}
 use Rattle.nodejs_semver.specs.Runs.{interval_of, runs_of}
 use Rattle.nodejs_semver.specs.Table.{bounds_of}
 use Rattle.nodejs_semver.specs.Words.{words}
-
--- the interval without bounds
-abbrev pub everything : Span VersionValue
-everything = record { lower = Unbounded; upper = Unbounded }
 
 -- the bounds of the words of a part that have bounds
 abbrev pub part_bounds : ℕ → List ℕ → List (Span VersionValue)
@@ -25,4 +21,4 @@ part_intervals limit part = map (interval_of precedence) (runs_of precedence (pa
 
 -- the intervals that a range text means
 abbrev pub denotes : ℕ → List ℕ → List (Span VersionValue)
-denotes limit text = if list_all is_empty (parts text) then everything ∷ [] else flat_map (part_intervals limit) (parts text)
+denotes limit text = if list_all is_empty (parts text) then any_version else flat_map (part_intervals limit) (parts text)

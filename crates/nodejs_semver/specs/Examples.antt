@@ -2,7 +2,7 @@
 use Rattle.std.specs.Prelude.{◌≡◌, [], ◌∷◌, ◌++◌, true, false, refl, codes}
 use Rattle.semver_core.specs.declared.cuts.bound.Bound.TheVariants.{Unbounded, Before, After}
 use Rattle.semver_core.specs.Identifiers.{Numeric, AlphaNumeric}
-use Rattle.nodejs_semver.specs.Spaces.{space_len, after_spaces, drop_end_spaces}
+use Rattle.semver_core.specs.Spaces.{space_len, after_spaces, drop_end_spaces}
 use Rattle.nodejs_semver.specs.Parts.{cut_bars}
 use Rattle.nodejs_semver.specs.Partials.{number_of, partial_of, longest_within}
 use Rattle.nodejs_semver.specs.Words.{is_boundary, word_at, words_within, from_boundary}

@@ -1,12 +1,12 @@
 -- For proofs and private contracts. What stands at the front of a text, read from the left: a number, a component, a
 -- qualifier, a partial.
-use Rattle.std.specs.Prelude.{ℕ, suc, ◌==◌, ◌&&◌, Bool, false, List, [], ◌∷◌, map, take, drop, Option, Some, None, if◌then◌else◌, take_while}
+use Rattle.std.specs.Prelude.{true, ℕ, suc, ◌==◌, ◌&&◌, Bool, false, List, [], ◌∷◌, map, take, drop, Option, Some, None, if◌then◌else◌, take_while}
 use Rattle.std.specs.Char.{is_ascii_digit}
-use Rattle.std.specs.List.{prefix_len}
+use Rattle.std.specs.List.{list_all, prefix_len}
 use Rattle.std.specs.Borrow.{Bor}
 use Rattle.nodejs_semver.specs.Partials.{number_of, ◌>>=◌, Partial, is_wildcard, drop_v}
-use Rattle.nodejs_semver.specs.Spaces.{drop_spaces}
-use Rattle.semver_core.specs.Identifiers.{Id, identifier_of, goes_on, pieces}
+use Rattle.semver_core.specs.Spaces.{drop_spaces}
+use Rattle.semver_core.specs.Identifiers.{Id, identifier_of, goes_on, pieces, is_run}
 use Rattle.semver_core.specs.Characters.{is_identifier_char, begins}
 use Rattle.nodejs_semver.specs.Words.{after_byte}
 
@@ -52,6 +52,11 @@ list_len text = if begins_identifier text then run_on text else 0
 unfoldable pub list_of : List ℕ → List Id
 list_of [] = []
 list_of (b ∷ rest) = map identifier_of (pieces (b ∷ rest))
+
+-- the text is empty, or identifiers joined by dots
+unfoldable pub is_listed : List ℕ → Bool
+is_listed [] = true
+is_listed (b ∷ rest) = list_all is_run (pieces (b ∷ rest))
 
 abbrev pub split_list : List ℕ → List ℕ × List ℕ
 split_list text = (take (list_len text) text, drop (list_len text) text)

@@ -1,10 +1,8 @@
-pub mod Normal
 pub mod RangeView
 pub mod Accepts
 pub mod SameRange
 pub mod SameLaws
 pub mod Lists
-pub mod Spaces
 pub mod Parts
 pub mod Partials
 pub mod Words
@@ -24,3 +22,7 @@ pub mod Candidates
 pub mod Best
 pub mod Choosing
 pub mod Outside
+pub mod Printed
+pub mod ComesBack
+pub mod PrintedRows
+pub mod Json

@@ -5,7 +5,7 @@ use Rattle.std.specs.Char.{is_ascii_digit}
 use Rattle.std.specs.List.{list_all}
 use Rattle.std.specs.Str.Parse.{digits_value}
 use Rattle.semver_core.specs.Identifiers.{Id, is_run, identifier_of, pieces}
-use Rattle.nodejs_semver.specs.Spaces.{drop_spaces, is_empty}
+use Rattle.semver_core.specs.Spaces.{drop_spaces, is_empty}
 
 infixl 10 ◌>>=◌
 abbrev pub ◌>>=◌ : {A B : Type 0} → Option A → (A → Option B) → Option B

@@ -1,6 +1,6 @@
 -- Statement. The parts of a range text: what stands between the bars `||`. A text is the list of its bytes in UTF-8.
 use Rattle.std.specs.Prelude.{ℕ, ◌==◌, ◌&&◌, Bool, true, false, List, [], ◌∷◌, map}
-use Rattle.nodejs_semver.specs.Spaces.{trim}
+use Rattle.semver_core.specs.Spaces.{trim}
 
 abbrev pub is_bar : ℕ → Bool
 is_bar b = b == 124

@@ -6,7 +6,7 @@ use Rattle.semver_core.specs.Order.{precedence}
 use Rattle.semver_core.specs.Versions.{VersionValue}
 use Rattle.semver_core.specs.declared.cuts.bound.Bound.{Bound}
 use Rattle.semver_core.specs.declared.cuts.bound.Bound.TheVariants.{Unbounded, Before, After}
-use Rattle.nodejs_semver.specs.Normal.{is_normal}
+use Rattle.semver_core.specs.Normal.{is_normal}
 
 -- a version that a bound may have: no number is above the limit, and its identifiers are what their texts spell
 abbrev pub is_bound_version : ℕ → VersionValue → Bool

@@ -81,3 +81,7 @@ table_view (Some b) = Some (bounds_view b)
 
 abbrev pub part_view : Bor (List ℕ) × Option (Bor (List ℕ)) → List ℕ × Option (List ℕ)
 part_view p = (p.0.now, rest_view p.1)
+
+-- an interval that may be absent, and the text behind it
+abbrev pub next_view : Option (Span VersionValue) × Bor (List ℕ) → Option (Span VersionValue) × List ℕ
+next_view p = (p.0, p.1.now)

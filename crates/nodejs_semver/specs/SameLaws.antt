@@ -15,7 +15,7 @@ use Rattle.nodejs_semver.specs.SameRange.{version_eq, span_eq, range_eq, bound_w
 version_equiv : IsEquivalence version_eq
 version_equiv = eq_by_cmp_equiv precedence_total
 
-bound_refl : (b : Bound VersionValue) → bound_eq version_eq b b ≡ true
+pub bound_refl : (b : Bound VersionValue) → bound_eq version_eq b b ≡ true
 bound_refl Unbounded = refl
 bound_refl (Before v) = version_equiv.refl v
 bound_refl (After v) = version_equiv.refl v

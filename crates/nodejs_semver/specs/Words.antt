@@ -1,6 +1,6 @@
 -- Statement. The words of a part.
 use Rattle.std.specs.Prelude.{ℕ, zero, suc, ◌==◌, ◌||◌, nat_lt, Bool, true, false, List, [], ◌∷◌, length, Option, Some, None, if◌then◌else◌}
-use Rattle.nodejs_semver.specs.Spaces.{drop_spaces, space_len, is_empty}
+use Rattle.semver_core.specs.Spaces.{drop_spaces, space_len, is_empty}
 use Rattle.nodejs_semver.specs.Partials.{Partial, longest_partial, or_else, ◌>>=◌}
 
 -- the end of a part, or whitespace

@@ -1,7 +1,10 @@
-//! Laws of the words that contracts speak in, each the contract of a function that does nothing.
+//! Laws of the words that contracts speak in. Each is the contract of a function that does nothing, or hardly anything,
+//! else; no caller needs this module.
 
 mod outside;
+mod printing;
 mod texts;
 
 pub use crate::laws::outside::outside_by_cuts;
+pub use crate::laws::printing::printed_ranges_come_back;
 pub use crate::laws::texts::{intervals_hold_what_is_written, numbers, parts, runs};

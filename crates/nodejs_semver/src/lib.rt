@@ -3,9 +3,10 @@
 //! Calls that allocate are passed the allocator and answer want of memory beside their own answers.
 #![tactic(auto)]
 
+pub mod json;
 pub mod laws;
 mod range;
-mod readers;
+pub mod readers;
 
 pub use crate::range::{OutsideDirection, Range, RangeError};
 pub use semver_core::{

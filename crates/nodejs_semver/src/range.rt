@@ -13,10 +13,11 @@ mod least;
 mod lists;
 mod neighbours;
 mod outside;
+mod print;
+mod parse;
 mod same;
 
 pub use crate::range::outside::{OutsideDirection, RangeError};
-
 use semver_core::Version;
 use semver_core::cuts::Interval;
 use std::alloc::{AllocError, Global};
@@ -93,6 +94,3 @@ fn copy_intervals(
     }
     Ok(copy)
 }
-
-#[cfg(test)]
-mod question_tests;

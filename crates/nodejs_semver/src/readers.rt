@@ -1,10 +1,15 @@
-//! The readers of range texts.
+//! The readers of version and range texts. They have no limit of length.
 
 mod bars;
+mod intervals;
+mod loose;
 mod number;
 mod partial;
-mod parts;
 mod spaces;
 mod syntax;
 mod table;
 mod words;
+
+pub(crate) use crate::readers::loose::is_blank;
+pub use crate::readers::loose::range_loose;
+pub use semver_core::readers::version_loose;

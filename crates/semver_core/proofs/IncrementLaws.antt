@@ -1,27 +1,27 @@
 -- The versions that `inc` answers are the least ones.
-use Rattle.std.proofs.Common.{◌≡◌, ◌⊎◌, inl, inr, refl, sym, ◌∙◌, ap, subst, ℕ, ◌+◌, ◌-◌, ◌^◌, ◌<◌, ◌≤◌, ◌==◌, ◌&&◌, ◌||◌, not, Bool, true, false, List, [], ◌∷◌, ◌++◌, arith, if◌then◌else◌, codes}
+use Rattle.std.proofs.Common.{◌≡◌, refl, ◌∙◌, ap, subst, ℕ, ◌+◌, ◌-◌, ◌^◌, ◌<◌, ◌≤◌, ◌==◌, ◌&&◌, not, Bool, true, false, List, [], ◌∷◌, ◌++◌, arith, if◌then◌else◌, codes}
 use Rattle.std.specs.Prelude.{Result, Ok, Err, ⊤}
 use Rattle.std.proofs.lemmas.Slice.Eq.{bytes_eq-Decides}
 use Rattle.std.specs.List.{starts_with}
 use Rattle.std.specs.Prelude.{nat_eq}
-use Rattle.std.specs.declared.cmp.Ordering.TheVariants.{Less, Equal, Greater}
-use Rattle.std.specs.Ordering.{ordering_then, is_le, nat_cmp}
+use Rattle.std.specs.declared.cmp.Ordering.TheVariants.{Less}
+use Rattle.std.specs.Ordering.{ordering_then, is_le}
 use Rattle.std.specs.List.{All}
 use Rattle.std.specs.Cmp.Lexicographic.{slice_cmp}
 use Rattle.std.proofs.lemmas.Bool.Decides.{nat_tests}
 use Rattle.std.proofs.lemmas.List.Elements.{All-nil, All-push, All-cons}
 use Rattle.semver_core.specs.Identifiers.{Id, Numeric, AlphaNumeric}
-use Rattle.semver_core.specs.Increment.{checked, counted, incremented, by_word, Fault, Overflow, InvalidIncrementArgument, InvalidIdentifier, NotAPrerelease, one_more, next_major, next_minor, next_patch, pre_step, release_of, is_release, is_empty, has_numeric, raise_last, advance, identify, is_identifiers, is_false, first_number, list_text, ◌>>=◌}
+use Rattle.semver_core.specs.Increment.{checked, incremented, by_word, Fault, Overflow, InvalidIncrementArgument, NotAPrerelease, one_more, next_major, next_minor, next_patch, pre_step, release_of, is_release, is_empty, has_numeric, raise_last, advance, identify, is_false, first_number, list_text, ◌>>=◌}
 use Rattle.std.specs.Cmp.{tied_itself}
 use Rattle.std.specs.Str.{bytes_eq}
 use Rattle.semver_core.specs.OrderLaws.{id_total}
-use Rattle.semver_core.specs.IncrementLeast.{IsLeast, IsLeastOrOverflow, IsLeastAnswer, IsAbove, IsNextPatch, IsNextMinor, IsNextMajor, IsOfNextMajor, IsOfNextMinor, IsOfNextPatch, CanStep, release_below, no_number}
+use Rattle.semver_core.specs.IncrementLeast.{IsLeastOrOverflow, IsLeastAnswer, IsAbove, IsNextPatch, IsNextMinor, IsNextMajor, IsOfNextMajor, IsOfNextMinor, IsOfNextPatch, CanStep, release_below, no_number}
 use Rattle.semver_core.specs.Order.{id_cmp, pre_cmp, precedence}
 use Rattle.semver_core.specs.Successors.{Below, by_major, by_minor, by_patch, by_pre, below_cases, less_first, above_major, above_minor, above_patch, above_pre, upto_major, upto_minor, upto_patch, zero_least, below_more, next_least, empty_not_below}
 use Rattle.semver_core.specs.Versions.{VersionValue, IsVersion, IsId}
 use Rattle.semver_core.specs.Printed.{version_text}
 use Rattle.semver_core.specs.declared.increment.IdentifierBase.{IdentifierBase}
-use Rattle.semver_core.specs.declared.increment.IdentifierBase.TheVariants.{False, Value}
+use Rattle.semver_core.specs.declared.increment.IdentifierBase.TheVariants.{Value}
 
 is_same : (m n : ℕ) → (m == n) ≡ true → m ≡ n
 is_same m n h = grind (arith, nat_tests)

@@ -1,10 +1,10 @@
 -- The last number of a list.
-use Rattle.std.proofs.Common.{◌≡◌, refl, sym, ap, subst, ◌∙◌, ℕ, ◌+◌, ◌<◌, ◌≤◌, Bool, true, false, List, [], ◌∷◌, ◌++◌, length, take, get_or, append_assoc, arith, rules, length-take}
+use Rattle.std.proofs.Common.{◌≡◌, refl, sym, ap, subst, ◌∙◌, ℕ, ◌+◌, ◌<◌, ◌≤◌, Bool, true, false, List, [], ◌∷◌, ◌++◌, length, take, get_or, append_assoc, arith, rules}
 use Rattle.std.specs.Prelude.{Option, Some, None, set, Result, Ok, Err}
 use Rattle.std.proofs.lemmas.List.{take_all, take_more}
 use Rattle.semver_core.proofs.Runs.{ids_view_push}
 use Rattle.semver_core.specs.Identifiers.{Id, Numeric, AlphaNumeric}
-use Rattle.semver_core.specs.Increment.{has_numeric, is_empty, list_text, advance, raise_last, one_more, Fault, Overflow, ◌>>=◌}
+use Rattle.semver_core.specs.Increment.{has_numeric, is_empty, list_text, advance, raise_last, one_more, Fault, ◌>>=◌}
 use Rattle.semver_core.specs.IncrementSteps.{IsLastNumber, Tracks}
 use Rattle.semver_core.specs.Printed.{id_text}
 use Rattle.semver_core.specs.declared.increment.IdentifierBase.{IdentifierBase}
@@ -21,7 +21,7 @@ use Rattle.std.specs.List.{list_all}
 use Rattle.std.specs.Prelude.{nat_lt}
 use Rattle.std.specs.Result.{MatchResult}
 use Rattle.std.specs.Str.Parse.{ParsesUnsigned, digits_value}
-use Rattle.semver_core.specs.IncrementView.{Answers, fault_of}
+use Rattle.semver_core.specs.IncrementView.{Answers}
 use Rattle.semver_core.specs.declared.error.Failure.{Failure}
 use Rattle.semver_core.specs.declared.error.Failure.TheVariants.{Refused, Memory}
 use Rattle.semver_core.specs.declared.increment.IncrementError.{IncrementError}

@@ -1,11 +1,10 @@
 -- Serves proofs: a printed version reads as itself.
-use Rattle.std.proofs.Common.{zero, suc, drop, take, Some, refl, ◌≡◌, ◌&&◌, ◌<◌, ◌≤◌, ◌^◌, ◌+◌, ◌==◌, ℕ, Bool, true, false, ltb, List, [], ◌∷◌, ◌++◌, length, map, sym, ap, ◌∙◌, arith, rules, inl, inr, eqb, subst, append_assoc, append-nil}
+use Rattle.std.proofs.Common.{zero, suc, Some, refl, ◌≡◌, ◌<◌, ◌≤◌, ◌^◌, ◌==◌, ℕ, Bool, true, false, ltb, List, [], ◌∷◌, ◌++◌, length, map, sym, ap, ◌∙◌, arith, eqb, subst, append-nil}
 use Rattle.std.specs.Prelude.{not}
-use Rattle.std.proofs.lemmas.Bool.{cases_Bool, lt-ltb}
-use borrow.Author.Tests.{ltb-true, eq-eqb}
+use Rattle.std.proofs.lemmas.Bool.{lt-ltb}
+use borrow.Author.Tests.{ltb-true}
 use Rattle.std.proofs.lemmas.Bool.Decides.{nat_tests}
 use Rattle.std.proofs.lemmas.Fmt.{decimal_is_IsNumeral, digits_decimal, digits_value-decimal}
-use Rattle.std.proofs.lemmas.Str.Parse.{IsDigitsTest, IsNumeralModel, numerals_by_value}
 use Rattle.std.proofs.lemmas.List.Splits.{slice_split_none, slice_split_at}
 use Rattle.std.specs.Cmp.{first_so, second_so}
 use Rattle.std.specs.Fmt.{decimal}
@@ -13,15 +12,15 @@ use Rattle.std.specs.Char.{is_ascii_digit}
 use Rattle.std.specs.List.{list_all, join_with_byte, All}
 use Rattle.std.specs.Str.Parse.{digits_value}
 use Rattle.semver_core.specs.Characters.{begins, is_identifier_char, IsBlank}
-use Rattle.semver_core.specs.Identifiers.{Id, Numeric, AlphaNumeric, identifier_of, is_run, pieces, goes_on, IsIdentifiers, IsLongestIdentifiers}
-use Rattle.semver_core.specs.Numbers.{IsNumber, IsWholeNumber}
+use Rattle.semver_core.specs.Identifiers.{Id, Numeric, AlphaNumeric, identifier_of, is_run, pieces, goes_on, IsIdentifiers}
+use Rattle.semver_core.specs.Numbers.{IsNumber}
 use Rattle.semver_core.specs.Versions.{VersionValue}
-use Rattle.semver_core.specs.Grammar.{Reads, IsPreRelease, IsBuild, no_mark, dashed, no_pre_release, plus, no_build, begins_build, begins_pre_release}
+use Rattle.semver_core.specs.Grammar.{Reads, IsPreRelease, IsBuild, no_mark, dashed, no_pre_release, plus, no_build, begins_pre_release}
 use Rattle.semver_core.specs.Printed.{id_text, marked_list, version_text}
 use Rattle.semver_core.specs.Normal.{is_u64_text, is_normal, IsReadable, PrintedBack, VersionsComeBack}
 use Rattle.semver_core.specs.declared.TheConstants.{MAX_LENGTH}
 use Rattle.semver_core.specs.Parsing.{Parses}
-use Rattle.std.specs.Prelude.{IsUtf8, slice_range}
+use Rattle.std.specs.Prelude.{IsUtf8}
 use Rattle.std.proofs.lemmas.Str.{IsCharBoundary-start}
 use Rattle.semver_core.specs.Characters.{IsAfterBlank}
 use Rattle.semver_core.specs.Reading.{version_at, mark_len}
@@ -79,7 +78,7 @@ chars_no_dot [] h k d lt = absurd (grind arith)
 chars_no_dot (c ∷ run) h zero d lt = not_dot c (first_so (is_identifier_char c) (list_all is_identifier_char run) h)
 chars_no_dot (c ∷ run) h (suc k) d lt = chars_no_dot run (second_so (is_identifier_char c) (list_all is_identifier_char run) h) k d (omega arith)
 
-run_chars : (run : List ℕ) → is_run run ≡ true → list_all is_identifier_char run ≡ true
+pub run_chars : (run : List ℕ) → is_run run ≡ true → list_all is_identifier_char run ≡ true
 run_chars run h = second_so (ltb 0 (length run)) (list_all is_identifier_char run) h
 
 -- runs joined by dots are cut at the dots into the same runs
@@ -90,11 +89,11 @@ pieces_joined run (next ∷ runs) h =
     slice_split_at (λ c. c == 46) run 46 (join_with_byte 46 (next ∷ runs)) one refl
     ∙ ap (λ l. run ∷ l) (pieces_joined next runs (second_so (is_run run) (list_all is_run (next ∷ runs)) h))
 
-ids_runs : (ids : List Id) → list_all is_normal ids ≡ true → list_all is_run (map id_text ids) ≡ true
+pub ids_runs : (ids : List Id) → list_all is_normal ids ≡ true → list_all is_run (map id_text ids) ≡ true
 ids_runs [] h = refl
 ids_runs (id ∷ ids) h = rw (id_run id (first_so (is_normal id) (list_all is_normal ids) h), ids_runs ids (second_so (is_normal id) (list_all is_normal ids) h)) refl
 
-ids_spelled : (ids : List Id) → list_all is_normal ids ≡ true → ids ≡ map identifier_of (map id_text ids)
+pub ids_spelled : (ids : List Id) → list_all is_normal ids ≡ true → ids ≡ map identifier_of (map id_text ids)
 ids_spelled [] h = refl
 ids_spelled (id ∷ ids) h =
     let one = id_spelled id (first_so (is_normal id) (list_all is_normal ids) h) in

@@ -1,8 +1,7 @@
 -- The least versions that `inc` answers. A statement that a reader has to believe.
-use Rattle.std.specs.Prelude.{◌≡◌, ◌⊎◌, ◌<◌, ◌+◌, ◌-◌, ◌^◌, ℕ, true, false, List, [], ◌∷◌, Option, Result, Ok, Err}
+use Rattle.std.specs.Prelude.{◌≡◌, ◌<◌, ◌+◌, ◌-◌, ◌^◌, ℕ, true, false, List, [], Option, Result, Ok, Err}
 use Rattle.std.specs.declared.cmp.Ordering.TheVariants.{Less}
 use Rattle.std.specs.Ordering.{is_le}
-use Rattle.semver_core.specs.Identifiers.{Id}
 use Rattle.semver_core.specs.Increment.{Fault, InvalidIdentifier, InvalidIncrementArgument, NotAPrerelease, Overflow, base_or_zero, has_numeric, identifier_or_none, is_release}
 use Rattle.semver_core.specs.Order.{precedence}
 use Rattle.semver_core.specs.Versions.{VersionValue, IsVersion}

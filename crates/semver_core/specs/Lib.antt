@@ -15,6 +15,7 @@ pub mod PartsView
 pub mod ListView
 pub mod Parsing
 pub mod Normal
+pub mod PrintedRows
 pub mod Cuts
 pub mod Increment
 pub mod IncrementView

@@ -1,12 +1,12 @@
 // The kind of difference between two versions.
 
-ghost use Rattle.std.specs.Prelude.{◌≡◌, ◌↔◌, IsNone, IsTrue};
+ghost use Rattle.std.specs.Prelude.{◌≡◌, ◌↔◌, IsNone};
 ghost use Rattle.std.specs.declared.cmp.Ordering.TheVariants.{Equal};
 ghost use Rattle.semver_core.specs.Difference.{difference, difference_up};
-ghost use Rattle.semver_core.specs.Increment.{is_release};
 ghost use Rattle.semver_core.specs.Order.{precedence};
 
 use crate::Version;
+use crate::increment::is_release;
 use std::cmp::Ordering;
 use std::fmt;
 
@@ -32,7 +32,7 @@ pub enum VersionDiff {
 /// A kind of release, named as the kind of difference.
 pub type ReleaseType = VersionDiff;
 
-/// Writes the word of the kind, as `Version::inc` takes it.
+/// Writes the word of the kind, as `Version::inc` takes it. Width and fill are not looked at.
 impl fmt::Display for VersionDiff {
     ghost use Rattle.std.specs.Prelude.{Some};
     ghost use Rattle.semver_core.specs.Difference.{word_of};
@@ -50,12 +50,6 @@ impl fmt::Display for VersionDiff {
             VersionDiff::PreRelease => "prerelease",
         })
     }
-}
-
-fn is_release(version: &Version) -> bool
-    ensures { result ≡ is_release version.now }
-{
-    !version.is_prerelease()
 }
 
 // The kind that a version and a higher one differ by.
@@ -117,6 +111,3 @@ impl Version {
         }
     }
 }
-
-#[cfg(test)]
-mod tests;

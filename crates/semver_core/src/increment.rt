@@ -27,6 +27,7 @@ pub enum IdentifierBase {
     Value(u64),
 }
 
+/// The default is `Value(0)`.
 impl Default for IdentifierBase {
     ghost use Rattle.std.specs.Prelude.{◌≡◌};
     ghost use Rattle.semver_core.specs.declared.increment.IdentifierBase.TheVariants.{Value};
@@ -38,6 +39,7 @@ impl Default for IdentifierBase {
     }
 }
 
+/// `true` counts from 1, and `false` is `False`.
 impl From<bool> for IdentifierBase {
     ghost use Rattle.std.specs.Prelude.{◌≡◌, if◌then◌else◌};
     ghost use Rattle.semver_core.specs.declared.increment.IdentifierBase.TheVariants.{False, Value};
@@ -53,6 +55,7 @@ impl From<bool> for IdentifierBase {
     }
 }
 
+/// The value itself.
 impl From<u64> for IdentifierBase {
     ghost use Rattle.std.specs.Prelude.{◌≡◌};
     ghost use Rattle.semver_core.specs.declared.increment.IdentifierBase.TheVariants.{Value};
@@ -64,6 +67,7 @@ impl From<u64> for IdentifierBase {
     }
 }
 
+/// The value itself.
 impl From<usize> for IdentifierBase {
     ghost use Rattle.std.specs.Prelude.{◌≡◌};
     ghost use Rattle.semver_core.specs.declared.increment.IdentifierBase.TheVariants.{Value};
@@ -110,6 +114,13 @@ impl IncrementError {
             IncrementError::Overflow => IncrementError::Overflow,
         })
     }
+}
+
+// Whether the version has no pre-release.
+pub(crate) fn is_release(version: &Version) -> bool
+    ensures { result ≡ spec.is_release version.now }
+{
+    !version.is_prerelease()
 }
 
 // One more, in 64 bits.
@@ -222,9 +233,9 @@ impl Version {
     /// Build metadata is kept. The words that begin with `pre` and are in the table let the pre-release list go on, in
     /// two steps. First the last number in it rises by one; a list without a number gets one at its end. Then, with an
     /// identifier, a list that does not begin with it and a number is replaced by it and a number. A new number is 0,
-    /// or 1 for a base that is neither `False` nor `Value(0)`, and with `False` no number follows the identifier. An empty identifier is
-    /// none, and no base is `Value(0)`. An identifier with dots or of digits alone becomes one `AlphaNumeric`, so the
-    /// result may differ from its own printed text read again.
+    /// or 1 for a base that is neither `False` nor `Value(0)`; with `False` no number follows a new identifier. An empty
+    /// identifier is none, and no base is `Value(0)`. An identifier with dots or of digits alone becomes one
+    /// `AlphaNumeric`, so the result may differ from its own printed text read again.
     ///
     /// It is refused, in this order,
     /// - for a word that begins with `pre`, known or not: with `InvalidIncrementArgument` where there is no identifier
@@ -268,6 +279,3 @@ impl Version {
         increment(alloc, self, word, identifier, base)
     }
 }
-
-#[cfg(test)]
-mod tests;

@@ -54,9 +54,7 @@ pub(crate) fn accepts(
 ) -> bool
     ensures { result ≡ accepts intervals.now version.now include_prerelease }
 {
-    intervals
-        .iter()
-        .any(|interval| accepts_one(interval, version, include_prerelease))
+    intervals.iter().any(|interval| accepts_one(interval, version, include_prerelease))
 }
 
 // Whether the interval holds the version and lets it in.

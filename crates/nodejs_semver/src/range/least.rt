@@ -19,8 +19,8 @@ use crate::range::gate::{accepts, accepts_one};
 use crate::range::neighbours::{
     bare, first_pre, is_release, next_patch, next_pre, release_of, with_build,
 };
-use semver_core::cuts::{Bound, Interval};
 use semver_core::Version;
+use semver_core::cuts::{Bound, Interval};
 use std::alloc::{AllocError, Global};
 
 impl Range {

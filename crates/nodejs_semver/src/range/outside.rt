@@ -69,7 +69,7 @@ impl Range {
     ///
     /// For `Higher` every interval must have an upper bound, and a lower cut that is not after the version. For `Lower` every
     /// interval must have no bound at all, or a lower bound and an upper cut that is not before the version. So 2.0.0-beta is
-    /// above `1` though its upper bound is `<2.0.0-0`, and 0.7.2-beta is below `*`, which does not accept it.
+    /// above `1` though its upper bound is `<2.0.0-0`, and 0.7.2-beta is below the range without bounds, which does not accept it.
     pub fn outside(
         &self,
         version: &Version,

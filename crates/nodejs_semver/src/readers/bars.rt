@@ -1,8 +1,12 @@
 // The parts of a range text, one after another.
 
-ghost use Rattle.std.specs.Prelude.{◌≡◌, ◌≤◌, take, drop, length};
+ghost use Rattle.std.specs.Prelude.{◌≡◌, ◌<◌, ◌∷◌, IfSome, length};
+ghost use Rattle.nodejs_semver.specs.Parts.{parts};
 ghost use Rattle.nodejs_semver.specs.PartFronts as Spec;
-ghost use Rattle.nodejs_semver.specs.Readings.{part_view};
+ghost use Rattle.nodejs_semver.specs.Readings.{part_view, rest_view};
+ghost use Rattle.semver_core.specs.Spaces.{space_len};
+
+use semver_core::scan;
 
 fn begins_bars(text: &[u8]) -> bool
     ensures { result ≡ Spec.begins_bars text.now }
@@ -22,15 +26,25 @@ fn bars_at(text: &[u8]) -> usize
     text.len()
 }
 
-/// The part at the front, and the text behind the bars after it, where there are bars.
-#[tactic(auto, using(crate::proofs::BarLemmas::bars_fit, crate::proofs::BarLemmas::bars_room))]
-pub(crate) fn cut_part(text: &[u8]) -> (&[u8], Option<&[u8]>)
+// The text before the first `||`, and the text behind it, where it is there.
+#[tactic(auto, using(crate::proofs::BarLemmas::bars_fit, crate::proofs::BarLemmas::bars_room, crate::proofs::BarLemmas::bars_boundary, crate::proofs::BarLemmas::bars_behind))]
+fn cut_part(text: &str) -> (&str, Option<&str>)
     ensures { part_view result ≡ Spec.front_part text.now }
 {
-    let at = bars_at(text);
+    let at = bars_at(text.as_bytes());
     if at < text.len() {
         (&text[..at], Some(&text[at + 2..]))
     } else {
         (text, None)
     }
+}
+
+/// The part at the front, trimmed, and the text behind the bars after it, where there are bars.
+pub(crate) fn next_part(text: &str) -> (&str, Option<&str>)
+    ensures value { result.0.now ∷ Spec.later_parts (rest_view result.1) ≡ parts text.now }
+    ensures starts { space_len result.0.now ≡ 0 }
+    ensures less { IfSome result.1 (λ rest. length rest.now < length text.now) }
+{
+    let (part, rest) = cut_part(text);
+    (scan::trim(part), rest)
 }

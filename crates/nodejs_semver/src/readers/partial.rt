@@ -88,18 +88,20 @@ fn list_len(text: &[u8]) -> usize
 }
 
 // The identifiers at the front, and what stands behind them.
-#[tactic(auto, using(crate::proofs::Lists::list_len_fits))]
+#[tactic(auto, using(crate::proofs::Lists::list_len_fits, crate::proofs::Lists::listed_taken))]
 fn split_list(text: &[u8]) -> (&[u8], &[u8])
     ensures front { result.0.now ≡ take (Spec.list_len text.now) text.now }
+    ensures listed { Spec.is_listed result.0.now ≡ true }
     ensures rest { result.1.now ≡ drop (Spec.list_len text.now) text.now }
 {
     text.split_at(list_len(text))
 }
 
 // The text of the pre-release at the front, and what stands behind it.
-#[tactic(auto, unfolding(crate::specs::Fronts::pre_release_front))]
+#[tactic(auto, unfolding(crate::specs::Fronts::pre_release_front), using(crate::proofs::Lists::listed_nil))]
 fn pre_release_front(text: &[u8]) -> (&[u8], &[u8])
-    ensures { pair_view result ≡ Spec.pre_release_front text.now }
+    ensures listed { Spec.is_listed result.0.now ≡ true }
+    ensures value { pair_view result ≡ Spec.pre_release_front text.now }
 {
     match text {
         [b'-', rest @ ..] => {
@@ -114,9 +116,10 @@ fn pre_release_front(text: &[u8]) -> (&[u8], &[u8])
 }
 
 // The same of the build.
-#[tactic(auto, unfolding(crate::specs::Fronts::build_front))]
+#[tactic(auto, unfolding(crate::specs::Fronts::build_front), using(crate::proofs::Lists::listed_nil))]
 fn build_front(text: &[u8]) -> (&[u8], &[u8])
-    ensures { pair_view result ≡ Spec.build_front text.now }
+    ensures listed { Spec.is_listed result.0.now ≡ true }
+    ensures value { pair_view result ≡ Spec.build_front text.now }
 {
     match text {
         [b'+', rest @ ..] if begins_identifier(rest) => split_list(rest),
@@ -125,7 +128,7 @@ fn build_front(text: &[u8]) -> (&[u8], &[u8])
 }
 
 // The partial at the front whose major and minor components were read.
-#[tactic(auto, unfolding(crate::specs::Fronts::list_of))]
+#[tactic(auto, unfolding(crate::specs::Fronts::list_of, crate::specs::Fronts::is_listed))]
 fn patch_front<'a>(
     major: Option<u64>,
     minor: Option<u64>,
@@ -163,7 +166,7 @@ fn patch_front<'a>(
 }
 
 // The partial at the front whose major component was read.
-#[tactic(auto, unfolding(crate::specs::Fronts::list_of))]
+#[tactic(auto, unfolding(crate::specs::Fronts::list_of, crate::specs::Fronts::is_listed))]
 fn minor_front(major: Option<u64>, text: &[u8]) -> (Partial<'_>, &[u8])
     requires { ForSome major (λ n. n ≤ MAX_SAFE_INTEGER) }
     ensures { partial_pair_view result

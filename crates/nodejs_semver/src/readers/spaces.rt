@@ -2,7 +2,7 @@
 
 ghost use Rattle.std.specs.Prelude.{◌≡◌, ◌≤◌, length};
 ghost use Rattle.semver_core.specs.Characters.{is_whitespace};
-ghost use Rattle.nodejs_semver.specs.Spaces as Spec;
+ghost use Rattle.semver_core.specs.Spaces as Spec;
 
 // Whether this is the code point of a whitespace character.
 fn is_whitespace(code: u32) -> bool
@@ -39,7 +39,7 @@ fn is_space_of_three(a: u8, b: u8, c: u8) -> bool
 }
 
 // How many bytes the whitespace character at the front takes, and 0 where none stands there.
-#[tactic(auto, unfolding(crate::specs::Spaces::space_len))]
+#[tactic(auto, unfolding(semver_core::specs::Spaces::space_len))]
 pub(crate) fn space_len(text: &[u8]) -> usize
     ensures value { result ≡ Spec.space_len text.now }
     ensures fits { result ≤ length text.now }

@@ -1,7 +1,8 @@
 // What a range text is made of.
 
 ghost use Rattle.std.specs.Option.{ForSome};
-ghost use Rattle.std.specs.Prelude.{◌≤◌};
+ghost use Rattle.std.specs.Prelude.{◌≡◌, ◌≤◌, true};
+ghost use Rattle.nodejs_semver.specs.Fronts.{is_listed};
 ghost use Rattle.semver_core.specs.declared.TheConstants.{MAX_SAFE_INTEGER};
 
 use semver_core::cuts::Bound;
@@ -18,6 +19,8 @@ pub(crate) struct Partial<'a> {
     ghost major_fits: { ForSome major (λ n. n ≤ MAX_SAFE_INTEGER) },
     ghost minor_fits: { ForSome minor (λ n. n ≤ MAX_SAFE_INTEGER) },
     ghost patch_fits: { ForSome patch (λ n. n ≤ MAX_SAFE_INTEGER) },
+    ghost pre_release_listed: { is_listed pre_release.now ≡ true },
+    ghost build_listed: { is_listed build.now ≡ true },
 }
 
 #[derive(Clone, Copy)]
@@ -47,6 +50,8 @@ pub(crate) struct BareVersion<'a> {
     pub(crate) patch: u64,
     pub(crate) pre_release: &'a [u8],
     pub(crate) build: &'a [u8],
+    ghost pre_release_listed: { is_listed pre_release.now ≡ true },
+    ghost build_listed: { is_listed build.now ≡ true },
 }
 
 /// What the table gives a word.

@@ -10,7 +10,7 @@ use semver_core::MAX_SAFE_INTEGER;
 use semver_core::cuts::Bound;
 
 // `major.minor.patch`
-#[tactic(auto, unfolding(crate::specs::Fronts::list_of))]
+#[tactic(auto, unfolding(crate::specs::Fronts::list_of, crate::specs::Fronts::is_listed))]
 fn release(major: u64, minor: u64, patch: u64) -> BareVersion<'static>
     ensures { bare_view result ≡ Spec.release major minor patch }
 {
@@ -24,7 +24,7 @@ fn release(major: u64, minor: u64, patch: u64) -> BareVersion<'static>
 }
 
 // `major.minor.patch-0`
-#[tactic(auto, unfolding(crate::specs::Fronts::list_of))]
+#[tactic(auto, unfolding(crate::specs::Fronts::list_of, crate::specs::Fronts::is_listed))]
 fn lowest(major: u64, minor: u64, patch: u64) -> BareVersion<'static>
     ensures { bare_view result ≡ Spec.lowest major minor patch }
 {
@@ -115,13 +115,16 @@ fn exactly(version: BareVersion<'_>) -> Option<Bounds<'_>>
     })
 }
 
-#[tactic(auto, unfolding(crate::specs::Fronts::list_of))]
+#[tactic(auto, unfolding(crate::specs::Fronts::list_of, crate::specs::Fronts::is_listed))]
 fn without_build(version: BareVersion<'_>) -> BareVersion<'_>
     ensures { bare_view result ≡ Spec.without_build (bare_view version.entry) }
 {
     BareVersion {
+        major: version.major,
+        minor: version.minor,
+        patch: version.patch,
+        pre_release: version.pre_release,
         build: b"",
-        ..version
     }
 }
 

@@ -6,7 +6,7 @@ ghost use Rattle.semver_core.specs.IncrementView.{Answers};
 ghost use Rattle.semver_core.specs.ListView.{list_ids};
 
 use crate::increment::pre_release::{advance, identify};
-use crate::increment::{IdentifierBase, IncrementError, one_more, refused_argument};
+use crate::increment::{IdentifierBase, IncrementError, is_release, one_more, refused_argument};
 use crate::version::parts::{copy_items, unless_empty};
 use crate::{Failure, Identifier, Version};
 use std::alloc::Global;
@@ -33,12 +33,6 @@ pub(super) fn by_word(
         "release" => release(alloc, version),
         _ => Err(refused_argument(alloc, word)),
     }
-}
-
-fn is_release(version: &Version) -> bool
-    ensures { result ≡ spec.is_release version.now }
-{
-    !version.is_prerelease()
 }
 
 fn major(alloc: Global, version: &Version) -> Result<Version, Failure<IncrementError>>
@@ -97,7 +91,7 @@ fn release(alloc: Global, version: &Version) -> Result<Version, Failure<Incremen
     }
 }
 
-// The version with these numbers and this pre-release, and its own build.
+// The version with these numbers, this pre-release and its own build.
 fn with_parts(
     alloc: Global,
     version: &Version,

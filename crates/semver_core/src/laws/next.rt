@@ -8,5 +8,4 @@ pub fn next_versions()
     ensures first { FirstOfAll }
     ensures pre_release { NextOfPreRelease }
     ensures release { NextOfRelease }
-{
-}
+{}

@@ -1,5 +1,5 @@
 use Rattle.std.proofs.Common.{◌≡◌, length}
-use Rattle.nodejs_semver.specs.Spaces.{drop_spaces}
+use Rattle.semver_core.specs.Spaces.{drop_spaces}
 use Rattle.nodejs_semver.proofs.readers.spaces.skip_spaces.Given as goal
 
 abbrev pub invariant-spaces : goal.invariant-spaces

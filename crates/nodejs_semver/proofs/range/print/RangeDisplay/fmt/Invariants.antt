@@ -1,0 +1,13 @@
+use Rattle.std.proofs.Common.{◌≡◌, take}
+use denote.Text.{Utf8}
+use denote.Shadow.{shadow}
+use Rattle.std.specs.Fmt.{HasWritten, IsPlainFormatter}
+use Rattle.nodejs_semver.proofs.PrintedSteps.{bars_after}
+use Rattle.nodejs_semver.specs.Printed.{range_text}
+use Rattle.nodejs_semver.proofs.range.print.RangeDisplay.fmt.Given as goal
+
+abbrev pub invariant-loop-interval : goal.invariant-loop-interval
+invariant-loop-interval g l =
+    (text : shadow (Utf8 l.separator))
+    × (separator : l.separator ≡ bars_after (take l.interval-index l.interval-items))
+    × (IsPlainFormatter l.initial.f → HasWritten g.W.Write.write_str_gives l.initial.f (range_text (take l.interval-index l.interval-items)) l.f)

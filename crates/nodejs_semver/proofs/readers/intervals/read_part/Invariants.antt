@@ -1,0 +1,17 @@
+use Rattle.std.proofs.Common.{◌≡◌, ◌++◌, length, None}
+use Rattle.semver_core.specs.Order.{precedence}
+use Rattle.semver_core.specs.declared.TheConstants.{MAX_SAFE_INTEGER}
+use Rattle.nodejs_semver.specs.Denotes.{part_bounds}
+use Rattle.nodejs_semver.specs.Meets.{joined}
+use Rattle.semver_core.specs.Spaces.{space_len}
+use Rattle.nodejs_semver.proofs.readers.intervals.read_part.Given as goal
+
+abbrev pub invariant-words : goal.invariant-words
+invariant-words l = record {
+  whole : l.found.items ++ joined precedence l.running (part_bounds MAX_SAFE_INTEGER l.rest)
+      ≡ l.fn.found.items ++ joined precedence None (part_bounds MAX_SAFE_INTEGER l.part);
+  starts : space_len l.rest ≡ 0;
+}
+
+abbrev pub decreases-words : goal.decreases-words
+decreases-words l = length l.rest

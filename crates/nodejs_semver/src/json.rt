@@ -1,0 +1,89 @@
+//! Versions and ranges as JSON: the string of the printed text.
+
+ghost use Rattle.std.specs.Prelude.{◌≡◌, IfOk, string_bytes};
+ghost use Rattle.serde_json.specs.Data.{string};
+ghost use Rattle.serde_json.specs.Find.{as_str};
+ghost use Rattle.serde_json.specs.View.{view};
+ghost use Rattle.serde_json.specs.Written.{compact_text};
+ghost use Rattle.nodejs_semver.specs.Json.{json_string, ReadsRange, ReadsVersion};
+ghost use Rattle.nodejs_semver.specs.Printed.{range_text};
+ghost use Rattle.semver_core.specs.Printed.{version_text};
+
+use crate::Range;
+use semver_core::{Failure, SemverError, Version};
+use serde_json::Value;
+use std::alloc::{AllocError, Global};
+
+/// The string of the printed version. The error is want of memory.
+pub fn version_to_value(alloc: Global, version: &Version) -> Result<Value, AllocError>
+    ensures { IfOk result (λ value. view value ≡ string (version_text version.now)) }
+{
+    Ok(Value::String(version.to_string(alloc)?))
+}
+
+/// The version of a string, as `Version::parse` reads it. A value that is no string is refused, as is a text that has no
+/// version; want of memory is the one other error.
+pub fn version_from_value(alloc: Global, value: &Value) -> Result<Version, Failure<SemverError>>
+    ensures { ReadsVersion (as_str (view value.now)) result }
+{
+    match value.as_str() {
+        Some(text) => Version::parse(alloc, text),
+        None => Err(Failure::Refused(SemverError)),
+    }
+}
+
+/// The compact JSON text of the printed version, quotes and escapes included. The error is want of memory.
+pub fn version_to_json_text(alloc: Global, version: &Version) -> Result<String, AllocError>
+    ensures { IfOk result (λ text. string_bytes text ≡ compact_text (string (version_text version.now))) }
+{
+    Value::String(version.to_string(alloc)?).to_string(alloc)
+}
+
+/// The version of a JSON text, as `Version::parse` reads its string. It is refused where the text is not that of one JSON
+/// value, the value is no string, or the string has no version; want of memory is the one other error.
+pub fn version_from_json_text(alloc: Global, text: &str) -> Result<Version, Failure<SemverError>>
+    ensures { ReadsVersion (json_string text.now) result }
+{
+    match Value::from_str(alloc, text) {
+        Ok(value) => version_from_value(alloc, &value),
+        Err(error) if error.is_memory() => Err(Failure::Memory(AllocError)),
+        Err(_) => Err(Failure::Refused(SemverError)),
+    }
+}
+
+/// The string of the printed range. The error is want of memory.
+pub fn range_to_value(alloc: Global, range: &Range) -> Result<Value, AllocError>
+    ensures { IfOk result (λ value. view value ≡ string (range_text range.now)) }
+{
+    Ok(Value::String(range.to_string(alloc)?))
+}
+
+/// The range of a string, as `Range::parse` reads it. A value that is no string is refused, as is a text that has no range;
+/// want of memory is the one other error.
+pub fn range_from_value(alloc: Global, value: &Value) -> Result<Range, Failure<SemverError>>
+    ensures { ReadsRange (as_str (view value.now)) result }
+{
+    match value.as_str() {
+        Some(text) => Range::parse(alloc, text),
+        None => Err(Failure::Refused(SemverError)),
+    }
+}
+
+/// The compact JSON text of the printed range, quotes included. The error is want of memory.
+pub fn range_to_json_text(alloc: Global, range: &Range) -> Result<String, AllocError>
+    ensures { IfOk result (λ text. string_bytes text ≡ compact_text (string (range_text range.now))) }
+{
+    Value::String(range.to_string(alloc)?).to_string(alloc)
+}
+
+/// The range of a JSON text, as `Range::parse` reads its string. It is refused where the text is not that of one JSON value,
+/// the value is no string, or the string has no range; want of memory is the one other error.
+pub fn range_from_json_text(alloc: Global, text: &str) -> Result<Range, Failure<SemverError>>
+    ensures { ReadsRange (json_string text.now) result }
+{
+    match Value::from_str(alloc, text) {
+        Ok(value) => range_from_value(alloc, &value),
+        Err(error) if error.is_memory() => Err(Failure::Memory(AllocError)),
+        Err(_) => Err(Failure::Refused(SemverError)),
+    }
+}

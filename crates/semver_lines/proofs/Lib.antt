@@ -1,0 +1,5 @@
+pub mod Firsts
+pub mod CutLaws
+pub mod Told
+pub mod Taken
+pub mod Ends

@@ -1,0 +1,142 @@
+-- Answers of lines, one part after another.
+use Rattle.std.proofs.Common.{◌≡◌, ◌<◌, ◌≤◌, ◌++◌, ◌∷◌, ◌∙◌, ℕ, List, [], length, take, drop, refl, sym, ap, subst, arith, append_assoc, append-nil, inl, inr}
+use Rattle.std.proofs.Math.Seq.{drop-append_seam, take-append_seam}
+use Rattle.std.proofs.lemmas.Bool.{cases_lt}
+use Rattle.std.proofs.lemmas.Grind.{flat_map-append}
+use Rattle.std.proofs.lemmas.List.{drop-append-le, length-append, take-append-drop, take-append-le}
+use Rattle.std.specs.List.{flat_map}
+use Rattle.semver_lines.specs.Answers.{AllAnswer, Answers, IsAnswer}
+use Rattle.semver_lines.specs.Lines.{ended}
+use Rattle.semver_lines.specs.Runs.{AnswersFront, AnswersTorn}
+use Rattle.semver_lines.specs.Steps.{GrowsByAnswer, GrowsByAnswers, GrowsByFront}
+
+AllAnswer-append : (xs ys answers others : List (List ℕ)) → AllAnswer xs answers → AllAnswer ys others → AllAnswer (xs ++ ys) (answers ++ others)
+AllAnswer-append [] ys [] others h k = k
+AllAnswer-append [] ys (a ∷ answers) others h k = absurd h
+AllAnswer-append (x ∷ xs) ys [] others h k = absurd h
+AllAnswer-append (x ∷ xs) ys (a ∷ answers) others h k = (h.0, AllAnswer-append xs ys answers others h.1 k)
+
+pub Answers-nil : Answers [] []
+Answers-nil = record { answers = []; each = tt; output_is = refl }
+
+pub Answers-one : (line answer : List ℕ) → IsAnswer line answer → Answers (line ∷ []) (ended answer)
+Answers-one line answer h = record { answers = answer ∷ []; each = (h, tt); output_is = sym (append-nil (ended answer)) }
+
+pub Answers-append : (xs ys : List (List ℕ)) (a b : List ℕ) → Answers xs a → Answers ys b → Answers (xs ++ ys) (a ++ b)
+Answers-append xs ys a b h k = record {
+  answers = h.answers ++ k.answers;
+  each = AllAnswer-append xs ys h.answers k.answers h.each k.each;
+  output_is = rw (h.output_is, k.output_is) (sym (flat_map-append ended h.answers k.answers));
+}
+
+pub front_all : (xs : List (List ℕ)) (a : List ℕ) → Answers xs a → AnswersFront xs a
+front_all xs a h = record { front = xs; rest = []; divided = sym (append-nil xs); answers = h }
+
+pub front_more : (xs ys : List (List ℕ)) (a : List ℕ) → AnswersFront xs a → AnswersFront (xs ++ ys) a
+front_more xs ys a h = record {
+  front = h.front;
+  rest = h.rest ++ ys;
+  divided = ap (λ l. l ++ ys) h.divided ∙ append_assoc h.front h.rest ys;
+  answers = h.answers;
+}
+
+pub front_after : (xs ys : List (List ℕ)) (a b : List ℕ) → Answers xs a → AnswersFront ys b → AnswersFront (xs ++ ys) (a ++ b)
+front_after xs ys a b h k = record {
+  front = xs ++ k.front;
+  rest = k.rest;
+  divided = ap (λ l. xs ++ l) k.divided ∙ sym (append_assoc xs k.front k.rest);
+  answers = Answers-append xs k.front a b h k.answers;
+}
+
+pub torn_more : (xs ys : List (List ℕ)) (a : List ℕ) → AnswersTorn xs a → AnswersTorn (xs ++ ys) a
+torn_more xs ys a t = record {
+  front = t.front;
+  line = t.line;
+  rest = t.rest ++ ys;
+  divided = ap (λ l. l ++ ys) t.divided ∙ append_assoc t.front (t.line ∷ t.rest) ys;
+  output = t.output;
+  answers = t.answers;
+  answer = t.answer;
+  is_answer = t.is_answer;
+  begun = t.begun;
+  left = t.left;
+  torn = t.torn;
+  written_is = t.written_is;
+}
+
+pub torn_after : (xs ys : List (List ℕ)) (a b : List ℕ) → Answers xs a → AnswersTorn ys b → AnswersTorn (xs ++ ys) (a ++ b)
+torn_after xs ys a b h t = record {
+  front = xs ++ t.front;
+  line = t.line;
+  rest = t.rest;
+  divided = ap (λ l. xs ++ l) t.divided ∙ sym (append_assoc xs t.front (t.line ∷ t.rest));
+  output = a ++ t.output;
+  answers = Answers-append xs t.front a t.output h t.answers;
+  answer = t.answer;
+  is_answer = t.is_answer;
+  begun = t.begun;
+  left = t.left;
+  torn = t.torn;
+  written_is = ap (λ l. a ++ l) t.written_is ∙ sym (append_assoc a t.output t.begun);
+}
+
+-- a front of a text that ends within its first part
+front_of : (part rest written left : List ℕ) → part ++ rest ≡ written ++ left → length written ≤ length part → part ≡ written ++ drop (length written) part
+front_of part rest written left e h =
+    let n = length written in
+    let same : take n part ≡ written = sym (take-append-le n part rest h) ∙ ap (λ l. take n l) e ∙ take-append_seam written left in
+    sym (take-append-drop n part) ∙ ap (λ l. l ++ drop n part) same
+
+-- a front that ends behind the first part
+behind : (part rest written left : List ℕ) → part ++ rest ≡ written ++ left → length part ≤ length written
+    → (written ≡ part ++ drop (length part) written) × (rest ≡ drop (length part) written ++ left)
+behind part rest written left e h =
+    let n = length part in
+    (front_of written left part rest (sym e) h, sym (drop-append_seam part rest) ∙ ap (λ l. drop n l) e ∙ drop-append-le n written left h)
+
+torn_at : (lines answers : List (List ℕ)) (written left : List ℕ) → AllAnswer lines answers → flat_map ended answers ≡ written ++ left → 0 < length left → AnswersTorn lines written
+torn_at [] [] written left h e some = absurd (omega (arith, ap length e, length-append written left))
+torn_at [] (a ∷ answers) written left h e some = absurd h
+torn_at (l ∷ ls) [] written left h e some = absurd h
+torn_at (l ∷ ls) (a ∷ answers) written left h e some = elim (cases_lt (length written) (length (ended a))) [
+  | inl lt ↦ record {
+    front = [];
+    line = l;
+    rest = ls;
+    divided = refl;
+    output = [];
+    answers = Answers-nil;
+    answer = a;
+    is_answer = h.0;
+    begun = written;
+    left = drop (length written) (ended a);
+    torn = front_of (ended a) (flat_map ended answers) written left e (omega arith);
+    written_is = refl;
+  }
+  | inr ge ↦
+      let parts = behind (ended a) (flat_map ended answers) written left e ge in
+      let rest = torn_at ls answers (drop (length (ended a)) written) left h.1 parts.1 some in
+      subst (λ w. AnswersTorn (l ∷ ls) w) (sym parts.0) (torn_after (l ∷ []) ls (ended a) _ (Answers-one l a h.0) rest)
+]
+
+-- a front of the answers of a beginning of the lines, with some bytes left, breaks off within the answer of a line
+pub torn_front : (lines : List (List ℕ)) (output written left : List ℕ) → AnswersFront lines output → output ≡ written ++ left → 0 < length left → AnswersTorn lines written
+torn_front lines output written left h e some =
+    subst (λ l. AnswersTorn l written) (sym h.divided) (torn_more h.front h.rest written (torn_at h.front h.answers.answers written left h.answers.each (sym h.answers.output_is ∙ e) some))
+
+-- an output that grows, step after step
+pub grows_one : (line old new : List ℕ) → GrowsByAnswer line old new → GrowsByAnswers (line ∷ []) old new
+grows_one line old new g = record { said = ended g.answer; answers = Answers-one line g.answer g.is_answer; grown = g.grown }
+
+pub grows_none : (out : List ℕ) → GrowsByAnswers [] out out
+grows_none out = record { said = []; answers = Answers-nil; grown = sym (append-nil out) }
+
+pub grows_on : (xs ys : List (List ℕ)) (a b c : List ℕ) → GrowsByAnswers xs a b → GrowsByAnswers ys b c → GrowsByAnswers (xs ++ ys) a c
+grows_on xs ys a b c g h = record {
+  said = g.said ++ h.said;
+  answers = Answers-append xs ys g.said h.said g.answers h.answers;
+  grown = h.grown ∙ ap (λ l. l ++ h.said) g.grown ∙ append_assoc a g.said h.said;
+}
+
+pub grows_front : (xs ys : List (List ℕ)) (a b : List ℕ) → GrowsByAnswers xs a b → GrowsByFront (xs ++ ys) a b
+grows_front xs ys a b g = record { said = g.said; answers = front_more xs ys g.said (front_all xs g.said g.answers); grown = g.grown }

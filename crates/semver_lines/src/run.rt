@@ -1,0 +1,183 @@
+// Answers each line that a reader gives.
+
+ghost use Rattle.std.specs.Prelude.{◌≡◌, ◌+◌, ◌<◌, ◌≤◌, ◌++◌, ◌∷◌, [], true, length, take, drop, IfSome, IfNone, IfOk, IfErr, OnOk, OnErr, string_bytes};
+ghost use Rattle.std.specs.Io.KnownBytes.{Appends, Consumes, Keeps, IsAtEnd};
+ghost use Rattle.semver_lines.specs.Cuts.{cut_lines, cut_rest};
+ghost use Rattle.semver_lines.specs.Lines.{last_line, no_feed};
+ghost use Rattle.semver_lines.specs.Runs.{Ran};
+ghost use Rattle.semver_lines.specs.Steps.{Finished, GrowsByAnswers, GrowsByFront, Stopped, Turned, WritesFront};
+
+use crate::answer::answer_line;
+use std::alloc::{AllocError, Global};
+use std::io::{Read, Write};
+
+/// Why a run ended before the end of its input.
+#[derive(Debug, Drop)]
+pub enum RunFault {
+    /// The input could not be read.
+    Read,
+    /// The output could not be written, or took no byte.
+    Write,
+    /// There was no memory.
+    Memory,
+}
+
+// How many bytes a read asks for.
+const CHUNK: usize = 65536;
+
+// What stays from one read to the next.
+#[derive(Drop)]
+struct Lines {
+    // The line that has not ended yet, as far as it was read.
+    pending: Vec<u8>,
+    // Room for one answer.
+    answer: String,
+    // The answers that wait to be written.
+    output: String,
+}
+
+impl Lines {
+    fn new(alloc: Global) -> Lines
+        ensures { result.pending.items ≡ [] }
+    {
+        Lines {
+            pending: Vec::new(alloc),
+            answer: String::new(alloc),
+            output: String::new(alloc),
+        }
+    }
+
+    // Answers the pending line, which goes on with these bytes and then ends.
+    fn end_line(&mut self, alloc: Global, bytes: &[u8]) -> Result<(), AllocError>
+        ensures ok { OnOk result (GrowsByAnswers ((self.old.pending.items ++ bytes.now) ∷ []) (string_bytes self.old.output) (string_bytes self.new.output)) }
+        ensures ended { OnOk result (self.new.pending.items ≡ []) }
+        ensures err { OnErr result (string_bytes self.new.output ≡ string_bytes self.old.output) }
+    {
+        if self.pending.is_empty() {
+            return answer_line(alloc, bytes, &mut self.answer, &mut self.output);
+        }
+        self.pending.extend_from_slice(bytes)?;
+        let line = self.pending.as_slice();
+        answer_line(alloc, line, &mut self.answer, &mut self.output)?;
+        self.pending.clear();
+        Ok(())
+    }
+
+    // Answers the lines that end in a chunk. What is left of it waits in `pending`.
+    fn take(&mut self, alloc: Global, chunk: &[u8]) -> Result<(), AllocError>
+        ensures ok { OnOk result (GrowsByAnswers (cut_lines self.old.pending.items chunk.now) (string_bytes self.old.output) (string_bytes self.new.output)) }
+        ensures kept { OnOk result (self.new.pending.items ≡ cut_rest self.old.pending.items chunk.now) }
+        ensures err { OnErr result (GrowsByFront (cut_lines self.old.pending.items chunk.now) (string_bytes self.old.output) (string_bytes self.new.output)) }
+    {
+        let mut rest = chunk;
+        'lines: while let Some(at) = first_feed(rest) {
+            self.end_line(alloc, &rest[..at])?;
+            rest = &rest[at + 1..];
+        }
+        self.pending.extend_from_slice(rest)
+    }
+
+    // Answers a last line that has no line feed, if it is not empty.
+    fn end(&mut self, alloc: Global) -> Result<(), AllocError>
+        ensures ok { OnOk result (GrowsByAnswers (last_line self.old.pending.items) (string_bytes self.old.output) (string_bytes self.new.output)) }
+        ensures err { OnErr result (string_bytes self.new.output ≡ string_bytes self.old.output) }
+    {
+        if self.pending.is_empty() {
+            return Ok(());
+        }
+        self.end_line(alloc, &[])
+    }
+}
+
+// The place of the first line feed.
+fn first_feed(bytes: &[u8]) -> Option<usize>
+    ensures below { IfSome result (λ at. at < length bytes.now) }
+    ensures some { IfSome result (λ at. bytes.now ≡ take at bytes.now ++ 10 ∷ drop (at + 1) bytes.now) }
+    ensures line { IfSome result (λ at. no_feed (take at bytes.now) ≡ true) }
+    ensures none { IfNone result (no_feed bytes.now ≡ true) }
+{
+    bytes.iter().position(|byte| *byte == b'\n')
+}
+
+// Writes these bytes by calls of `write` alone, of which none may take no byte.
+fn write_out<W: Write>(writer: &mut W, bytes: &[u8]) -> Result<(), RunFault>
+    ensures ok { OnOk result (Appends (W.contents writer.old) (W.contents writer.new) bytes.now) }
+    ensures err { OnErr result (WritesFront (W.contents writer.old) (W.contents writer.new) bytes.now) }
+    ensures fault { IfErr result (λ fault. fault ≡ RunFault.Write) }
+{
+    let mut rest = bytes;
+    'writes: while !rest.is_empty() {
+        match writer.write(rest) {
+            Ok(0) => return Err(RunFault::Write),
+            Ok(n) => rest = &rest[n..],
+            Err(_) => return Err(RunFault::Write),
+        }
+    }
+    Ok(())
+}
+
+// What a read fills. Its length is not told, so that no proof counts it out.
+fn room(alloc: Global) -> Result<Vec<u8>, AllocError>
+    ensures { IfOk result (λ room. 0 < length room.items) }
+{
+    Vec::from_elem(alloc, 0u8, CHUNK)
+}
+
+// One read, and the answers of the lines that end in it, which are written before the next read. It gives how many
+// bytes it read.
+fn turn<R: Read, W: Write>(
+    alloc: Global,
+    reader: &mut R,
+    writer: &mut W,
+    buffer: &mut [u8],
+    lines: &mut Lines,
+) -> Result<usize, RunFault>
+    ensures ok { IfOk result (λ n. Turned (R.remaining reader.old) (R.remaining reader.new) (W.contents writer.old) (W.contents writer.new)
+        lines.old.pending.items lines.new.pending.items (take n buffer.new)) }
+    ensures end { IfOk result (λ n. n ≡ 0 → 0 < length buffer.old → IsAtEnd (R.remaining reader.new)) }
+    ensures fault { IfErr result (Stopped (R.remaining reader.old) (R.remaining reader.new) (W.contents writer.old) (W.contents writer.new) lines.old.pending.items) }
+{
+    let Ok(n) = reader.read(buffer) else {
+        return Err(RunFault::Read);
+    };
+    lines.output.clear();
+    let taken = lines.take(alloc, &buffer[..n]);
+    write_out(writer, lines.output.as_bytes())?;
+    match taken {
+        Ok(()) => Ok(n),
+        Err(_) => Err(RunFault::Memory),
+    }
+}
+
+// Answers a last line that has no line feed.
+fn finish<W: Write>(alloc: Global, writer: &mut W, lines: &mut Lines) -> Result<(), RunFault>
+    ensures { Finished (W.contents writer.old) (W.contents writer.new) lines.old.pending.items result }
+{
+    lines.output.clear();
+    match lines.end(alloc) {
+        Ok(()) => write_out(writer, lines.output.as_bytes()),
+        Err(_) => Err(RunFault::Memory),
+    }
+}
+
+/// Reads lines and writes an answer to each, with a line feed. The answers of the lines that a read completed are
+/// written before the next read. A last line without a line feed counts where it is not empty.
+///
+/// Each error of either end is a fault at once, an interruption too, and so is a write that takes no byte. After
+/// `u64::MAX` reads the answer is `Read`. It takes memory for a chunk of the input, its answers and the longest line.
+pub fn run<R: Read, W: Write>(alloc: Global, reader: &mut R, writer: &mut W) -> Result<(), RunFault>
+    ensures { Ran result (R.remaining reader.old) (R.remaining reader.new) (W.contents writer.old) (W.contents writer.new) }
+{
+    let Ok(mut room) = room(alloc) else {
+        return Err(RunFault::Memory);
+    };
+    let buffer = room.as_mut_slice();
+    let mut lines = Lines::new(alloc);
+    'reads: for _ in 0..u64::MAX {
+        let n = turn(alloc, reader, writer, buffer, &mut lines)?;
+        if n == 0 {
+            return finish(alloc, writer, &mut lines);
+        }
+    }
+    Err(RunFault::Read)
+}
