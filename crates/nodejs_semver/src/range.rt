@@ -13,8 +13,8 @@ mod least;
 mod lists;
 mod neighbours;
 mod outside;
-mod print;
 mod parse;
+mod print;
 mod same;
 
 pub use crate::range::outside::{OutsideDirection, RangeError};
