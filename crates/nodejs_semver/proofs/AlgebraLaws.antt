@@ -15,7 +15,7 @@ use Rattle.semver_core.specs.Versions.{VersionValue}
 use Rattle.semver_core.specs.declared.cuts.bound.Bound.{Bound}
 use Rattle.semver_core.specs.declared.cuts.bound.Bound.TheVariants.{Unbounded, Before, After}
 use Rattle.nodejs_semver.specs.Accepts.{is_release, names, lets_in, accepts, option_accepts}
-use Rattle.nodejs_semver.specs.Lists.{intersection, meets_one}
+use Rattle.nodejs_semver.specs.Lists.{intersection}
 use Rattle.nodejs_semver.proofs.GateLaws.{named_by, lets_in-meet, names_below, names_above, past_lower, not_past_upper}
 
 -- the span holds v and lets it in
@@ -387,6 +387,9 @@ meets_of_one_some s (t ∷ ts) =
     ap (λ q. is_some (meet precedence s t) || q) (meets_of_one_some s ts)
     ∙ ap (λ q. q || is_some (if_any (flat_map (λ t. option_to_list (meet precedence s t)) ts))) (sym (some_option (meet precedence s t)))
     ∙ sym (some_append (option_to_list (meet precedence s t)) (flat_map (λ t. option_to_list (meet precedence s t)) ts))
+
+abbrev meets_one : List (Span VersionValue) → List (Span VersionValue) → Bool
+meets_one ss ts = list_any (λ s. list_any (λ t. is_some (meet precedence s t)) ts) ss
 
 pub meets_one-some : (ss ts : List (Span VersionValue)) → meets_one ss ts ≡ is_some (intersection ss ts)
 meets_one-some [] ts = refl

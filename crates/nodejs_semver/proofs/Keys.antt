@@ -1,9 +1,9 @@
 -- The order of versions in two steps, by the three numbers and then by the pre-release, and what comes next after a version.
-use Rattle.std.proofs.Common.{◌≡◌, refl, sym, ◌∙◌, ap, ℕ, ◌+◌, ◌<◌, ◌≤◌, Bool, true, false, ◌&&◌, ◌||◌, not, List, [], ◌∷◌, ◌++◌, arith}
+use Rattle.std.proofs.Common.{◌≡◌, refl, sym, ◌∙◌, ap, ℕ, ◌+◌, true, false, ◌&&◌, List, [], ◌∷◌, ◌++◌, arith}
 use Rattle.std.specs.declared.cmp.Ordering.{Ordering}
 use Rattle.std.specs.declared.cmp.Ordering.TheVariants.{Less, Equal, Greater}
 use Rattle.std.specs.Ordering.{ordering_reverse, ordering_then, is_lt, is_le, is_gt, is_eq, on, then_cmp, nat_cmp}
-use Rattle.std.specs.Cmp.{IsTotalOrder, upto, on_total, then_total, nat_cmp_total, tied_itself}
+use Rattle.std.specs.Cmp.{IsTotalOrder, on_total, then_total, nat_cmp_total, tied_itself}
 use Rattle.std.specs.Cmp.Lexicographic.{slice_cmp}
 use Rattle.std.specs.Bool.{◌==◌}
 use Rattle.std.proofs.lemmas.Bool.Decides.{nat_tests}
@@ -12,7 +12,7 @@ use Rattle.semver_core.specs.Order.{id_cmp, pre_cmp, precedence}
 use Rattle.semver_core.specs.OrderLaws.{id_total}
 use Rattle.semver_core.specs.Versions.{VersionValue}
 use Rattle.nodejs_semver.specs.Accepts.{is_release, is_empty, same_triple}
-use Rattle.nodejs_semver.specs.Candidates.{zero, release_of, first_pre, next_pre, next_patch}
+use Rattle.nodejs_semver.specs.Candidates.{zero, release_of, next_pre, next_patch}
 
 -- tests of answers
 pub then_not_gt : (r s : Ordering) → is_gt (ordering_then r s) ≡ false → is_gt r ≡ false

@@ -1,9 +1,9 @@
 -- The first least version of a set among a list, which is the least of the set where each of its versions has one of the list below it.
-use Rattle.std.proofs.Common.{◌≡◌, refl, sym, ◌∙◌, ap, subst, Bool, true, false, ◌&&◌, not, List, [], ◌∷◌, ◌++◌, Option, Some, None, if◌then◌else◌, ◌⊎◌, inl, inr, IfSome}
+use Rattle.std.proofs.Common.{◌≡◌, refl, sym, ◌∙◌, ap, subst, Bool, true, false, ◌&&◌, not, List, [], ◌∷◌, ◌++◌, Option, Some, None, if◌then◌else◌, inl, inr, IfSome}
 use Rattle.std.specs.declared.cmp.Ordering.{Ordering}
 use Rattle.std.specs.declared.cmp.Ordering.TheVariants.{Less, Equal, Greater}
 use Rattle.std.specs.Ordering.{ordering_reverse, ordering_then, is_lt, is_le, is_gt}
-use Rattle.std.specs.Cmp.{IsTotalOrder, upto, tied_itself, alike_right}
+use Rattle.std.specs.Cmp.{upto, tied_itself, alike_right}
 use Rattle.std.specs.List.{fold, flat_map, find, All}
 use Rattle.std.proofs.lemmas.List.Elements.{All-head, All-tail}
 use Rattle.std.proofs.lemmas.Grind.{flat_map-append, fold-append}
@@ -16,8 +16,8 @@ use Rattle.semver_core.specs.Versions.{VersionValue}
 use Rattle.nodejs_semver.specs.Accepts.{is_release, lets_in, accepts}
 use Rattle.nodejs_semver.specs.Least.{IsLeast, IsLeastOf, beyond, begins_with, build_by, build_in, least_build}
 use Rattle.nodejs_semver.specs.Candidates.{zero, bare, release_of, after_cut, release_after, firsts, span_marks, span_firsts, candidates, improves, better, least_of, is_reached, next_pre, next_patch}
-use Rattle.nodejs_semver.proofs.Keys.{triple_cmp, triple_total, le_not_gt, lt_not_gt, not_gt_le, next_patch_above, next_pre_above, release_above}
-use Rattle.nodejs_semver.proofs.LeastPieces.{In, Each, candidate, Covers, Alike, accepts_alike, lets_in_alike}
+use Rattle.nodejs_semver.proofs.Keys.{triple_total, le_not_gt, lt_not_gt, not_gt_le, next_patch_above, next_pre_above, release_above}
+use Rattle.nodejs_semver.proofs.LeastPieces.{In, Each, candidate, accepts_alike, lets_in_alike}
 
 -- the answer is in the set
 abbrev Fine : (VersionValue → Bool) → Option VersionValue → Type 0

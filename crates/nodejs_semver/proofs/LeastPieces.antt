@@ -1,22 +1,21 @@
 -- The line in pieces: between two marks that follow each other all releases, and all pre-releases of one named triple, are accepted alike.
-use Rattle.std.proofs.Common.{◌≡◌, refl, sym, ◌∙◌, ap, subst, ℕ, ◌+◌, Bool, true, false, ◌&&◌, ◌||◌, not, List, [], ◌∷◌, ◌++◌, arith, ◌⊎◌, inl, inr, ⊎_elim, if◌then◌else◌}
+use Rattle.std.proofs.Common.{◌≡◌, refl, sym, ◌∙◌, ap, subst, Bool, true, false, ◌&&◌, ◌||◌, not, List, [], ◌∷◌, ◌++◌, ◌⊎◌, inl, inr, ⊎_elim, if◌then◌else◌}
 use Rattle.std.specs.declared.cmp.Ordering.{Ordering}
 use Rattle.std.specs.declared.cmp.Ordering.TheVariants.{Less, Equal, Greater}
-use Rattle.std.specs.Ordering.{ordering_reverse, ordering_then, is_lt, is_le, is_gt, is_eq, nat_cmp}
+use Rattle.std.specs.Ordering.{ordering_reverse, ordering_then, is_le, is_gt, is_eq}
 use Rattle.std.specs.Cmp.{IsTotalOrder, upto, tied_itself, alike_right}
-use Rattle.std.specs.List.{list_any, flat_map}
+use Rattle.std.specs.List.{flat_map}
 use Rattle.semver_core.specs.Cuts.{Span, holds, Cut, Side, Start, Beside, End, Near, Far, side_cmp, cut_cmp, lower_cut, upper_cut, is_past}
 use Rattle.semver_core.proofs.CutLaws.{cut_total, is_past-down}
 use Rattle.semver_core.specs.declared.cuts.bound.Bound.{Bound}
 use Rattle.semver_core.specs.declared.cuts.bound.Bound.TheVariants.{Unbounded, Before, After}
-use Rattle.semver_core.specs.Identifiers.{Id, Numeric}
 use Rattle.semver_core.specs.Order.{pre_cmp, precedence}
 use Rattle.semver_core.specs.OrderLaws.{precedence_total}
 use Rattle.semver_core.specs.Versions.{VersionValue}
-use Rattle.nodejs_semver.specs.Accepts.{is_release, is_empty, same_triple, names, lets_in, accepts}
+use Rattle.nodejs_semver.specs.Accepts.{is_release, same_triple, names, lets_in, accepts}
 use Rattle.nodejs_semver.specs.Least.{beyond}
 use Rattle.nodejs_semver.specs.Candidates.{zero, bare, release_of, first_pre, next_pre, next_patch, after_cut, release_after, firsts, marks_at, marks, span_marks, candidates}
-use Rattle.nodejs_semver.proofs.Keys.{triple_cmp, same_triple_is, triple_total, triple_same, triple_upto, pre_decides, upto_by_both, then_not_gt, le_not_gt, not_gt_le, far_less, past_not_gt, not_gt_both, next_patch_least, next_patch_above, next_pre_above, release_above, pre_of_not_gt, next_not_empty, pre_next_least, first_pre_least, near_past, is_eq_is, empty_is, zero_first}
+use Rattle.nodejs_semver.proofs.Keys.{triple_cmp, same_triple_is, triple_total, triple_upto, pre_decides, upto_by_both, then_not_gt, le_not_gt, not_gt_le, far_less, past_not_gt, not_gt_both, next_patch_least, next_patch_above, next_pre_above, release_above, pre_of_not_gt, next_not_empty, pre_next_least, first_pre_least, near_past, is_eq_is, empty_is, zero_first}
 use Rattle.std.proofs.lemmas.Grind.{flat_map-append}
 
 -- an element of a list, and a fact of each

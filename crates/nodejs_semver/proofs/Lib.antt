@@ -32,8 +32,10 @@ pub mod PrintedBounds
 pub mod PrintedParts
 pub mod PrintedRanges
 pub mod PrintedSteps
+pub mod RereadRange
 pub mod Listed
 pub mod PartSteps
 pub mod Trimmed
 pub mod Bounded
 pub mod BoundedTable
+pub mod NumberFront

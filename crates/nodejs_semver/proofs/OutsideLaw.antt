@@ -1,10 +1,7 @@
 -- A version that a range does not hold lies outside it exactly where each cut says so.
-use Rattle.std.proofs.Common.{◌≡◌, refl, sym, ◌∙◌, ap, ℕ, ◌+◌, Bool, true, false, ◌&&◌, ◌||◌, not, List, [], ◌∷◌, ◌⊎◌, inl, inr}
-use Rattle.std.specs.declared.cmp.Ordering.{Ordering}
-use Rattle.std.specs.declared.cmp.Ordering.TheVariants.{Less, Equal, Greater}
-use Rattle.std.specs.Ordering.{is_lt, is_gt}
+use Rattle.std.proofs.Common.{◌≡◌, refl, ◌∙◌, ap, ℕ, ◌+◌, Bool, true, false, ◌&&◌, ◌||◌, not, List, [], ◌∷◌}
 use Rattle.std.specs.List.{list_any, list_all}
-use Rattle.semver_core.specs.Cuts.{Span, Cut, Start, Beside, End, is_interval, is_past, cut_cmp, lower_cut, upper_cut, holds}
+use Rattle.semver_core.specs.Cuts.{Span, is_interval, is_past, cut_cmp, lower_cut, upper_cut, holds}
 use Rattle.semver_core.proofs.CutLaws.{is_past-down}
 use Rattle.semver_core.specs.Order.{precedence}
 use Rattle.semver_core.specs.OrderLaws.{precedence_total}

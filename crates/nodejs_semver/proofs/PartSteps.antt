@@ -7,7 +7,7 @@ use Rattle.semver_core.specs.Order.{precedence}
 use Rattle.semver_core.specs.OrderLaws.{precedence_total}
 use Rattle.semver_core.specs.Versions.{VersionValue}
 use Rattle.semver_core.specs.Spaces.{space_len}
-use Rattle.nodejs_semver.specs.Words.{Word, word_at, words_within}
+use Rattle.nodejs_semver.specs.Words.{Word, word_at, words, words_within}
 use Rattle.nodejs_semver.specs.Table.{bounds_of}
 use Rattle.nodejs_semver.specs.Denotes.{part_bounds, part_intervals}
 use Rattle.nodejs_semver.specs.Meets.{joined, joined_from, next_at}
@@ -73,3 +73,8 @@ part-none limit part rest before done o h none e =
     ∙ (ap (λ (q : Option (Span VersionValue)). done ++ joined precedence q []) (sym e)
     ∙ (ap (λ (l : List (Span VersionValue)). done ++ joined precedence o l) (sym (bounds-end limit rest none))
     ∙ (h ∙ ap (λ (l : List (Span VersionValue)). before ++ l) (runs-joined precedence_total (part_bounds limit part)))))
+
+pub words-none : (limit : ℕ) (text : List ℕ) → length text ≡ 0 → words limit text ≡ []
+unfolding words_within
+words-none limit [] h = refl
+words-none limit (b ∷ rest) h = absurd (omega arith)

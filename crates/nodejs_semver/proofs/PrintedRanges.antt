@@ -30,7 +30,7 @@ bounds_same (Before v) (After w) = elim (cases_Bool (ties v w)) [
   | inr other ↦ rw other (and-both _ _ (ties_self v) (ties_self w))
 ]
 
-same_back : (list : List (Span VersionValue)) → range_eq (map read_back list) list ≡ true
+pub same_back : (list : List (Span VersionValue)) → range_eq (map read_back list) list ≡ true
 same_back [] = refl
 same_back (s ∷ rest) = and-both (span_eq (read_back s) s) (range_eq (map read_back rest) rest) (bounds_same s.lower s.upper) (same_back rest)
 

@@ -3,7 +3,7 @@ use Rattle.std.specs.Prelude.{◌+◌, Bool, true, false, ◌&&◌, List, [], �
 use Rattle.std.specs.List.{flat_map}
 use Rattle.std.specs.Ordering.{is_le, is_lt}
 use Rattle.semver_core.specs.Cuts.{Span, Cut, Side, Start, Beside, End, Near, Far}
-use Rattle.semver_core.specs.Identifiers.{Id, Numeric}
+use Rattle.semver_core.specs.Identifiers.{Numeric}
 use Rattle.semver_core.specs.Order.{precedence}
 use Rattle.semver_core.specs.Versions.{VersionValue}
 use Rattle.semver_core.specs.declared.cuts.bound.Bound.{Bound}

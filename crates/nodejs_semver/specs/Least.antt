@@ -1,4 +1,4 @@
--- The least version that a range accepts, and the least that it accepts and another does not. This is a statement: what it says is to be believed.
+-- Statement: the least version that a range accepts, and the least that it accepts and another does not.
 use Rattle.std.specs.Prelude.{◌≡◌, ◌+◌, Bool, true, false, ◌&&◌, not, List, [], ◌∷◌, ◌++◌, if◌then◌else◌, Option, Some, None, find}
 use Rattle.std.specs.Ordering.{is_eq, is_le}
 use Rattle.semver_core.specs.Cuts.{Span, holds}

@@ -1,9 +1,9 @@
 -- Statement: the lists of intervals that the set algebra answers, in order and with the builds of their bounds.
-use Rattle.std.specs.Prelude.{Bool, ◌&&◌, List, Option, is_some}
+use Rattle.std.specs.Prelude.{Bool, ◌&&◌, List, Option}
 use Rattle.std.specs.List.{list_any}
 use Rattle.std.specs.Ordering.{is_le}
 use Rattle.std.specs.declared.cmp.Ordering.{Ordering}
-use Rattle.semver_core.specs.Cuts.{Span, cut_cmp, lower_cut, upper_cut, meet, meets_of, minus, if_any}
+use Rattle.semver_core.specs.Cuts.{Span, cut_cmp, lower_cut, upper_cut, meets_of, minus, if_any}
 use Rattle.semver_core.specs.Order.{precedence}
 use Rattle.semver_core.specs.Versions.{VersionValue}
 
@@ -23,7 +23,3 @@ covers R s t =
 -- some one span of the first list covers some one span of the second
 abbrev pub covers_one : List (Span VersionValue) → List (Span VersionValue) → Bool
 covers_one ss ts = list_any (λ s. list_any (λ t. covers precedence s t) ts) ss
-
--- some one span of the first list meets some one span of the second
-abbrev pub meets_one : List (Span VersionValue) → List (Span VersionValue) → Bool
-meets_one ss ts = list_any (λ s. list_any (λ t. is_some (meet precedence s t)) ts) ss

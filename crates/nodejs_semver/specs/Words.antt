@@ -44,14 +44,17 @@ at_boundary word rest = if is_boundary rest then Some (word, rest) else None
 abbrev pub signed : ℕ → (Partial → Word) → List ℕ → Reading
 signed limit make text = longest_partial limit (drop_spaces text) >>= λ p. at_boundary (make p.0) p.1
 
-abbrev pub hyphen_at : ℕ → List ℕ → Reading
-hyphen_at limit text =
-    longest_partial limit text >>= λ p.
-    after_some_space p.1 >>= λ sign.
+-- what makes a hyphen word of a partial and the text behind it: whitespace, `-`, whitespace and a partial
+abbrev pub hyphen_behind : ℕ → Partial → List ℕ → Reading
+hyphen_behind limit lower text =
+    after_some_space text >>= λ sign.
     after_byte 45 sign >>= λ gap.
     after_some_space gap >>= λ second.
     longest_partial limit second >>= λ q.
-    at_boundary (hyphen p.0 q.0) q.1
+    at_boundary (hyphen lower q.0) q.1
+
+abbrev pub hyphen_at : ℕ → List ℕ → Reading
+hyphen_at limit text = longest_partial limit text >>= λ p. hyphen_behind limit p.0 p.1
 
 abbrev pub plain_at : ℕ → List ℕ → Reading
 plain_at limit text = longest_partial limit text >>= λ p. at_boundary (plain p.0) p.1

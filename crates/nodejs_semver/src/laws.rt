@@ -6,5 +6,5 @@ mod printing;
 mod texts;
 
 pub use crate::laws::outside::outside_by_cuts;
-pub use crate::laws::printing::printed_ranges_come_back;
+pub use crate::laws::printing::{printed_ranges_come_back, reread_range};
 pub use crate::laws::texts::{intervals_hold_what_is_written, numbers, parts, runs};

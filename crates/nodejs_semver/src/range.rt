@@ -13,8 +13,8 @@ mod least;
 mod lists;
 mod neighbours;
 mod outside;
-mod print;
 mod parse;
+mod print;
 mod same;
 
 pub use crate::range::outside::{OutsideDirection, RangeError};
@@ -24,7 +24,7 @@ use std::alloc::{AllocError, Global};
 use std::marker::Model;
 
 /// A range: the versions of one or more intervals. It is what a range text such as `^1.2 || >=3.0.0-rc` names.
-#[derive(Drop)]
+#[derive(Debug, Drop)]
 pub struct Range {
     intervals: Vec<Interval<Version>>,
 }

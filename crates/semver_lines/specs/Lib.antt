@@ -2,6 +2,7 @@ pub mod Lines
 pub mod Words
 pub mod Replies
 pub mod Bases
+pub mod Directions
 pub mod Commands
 pub mod Answers
 pub mod Runs

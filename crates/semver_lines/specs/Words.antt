@@ -1,5 +1,5 @@
 -- Statement: the words that answer a line.
-use Rattle.std.specs.Prelude.{ℕ, List, codes, Option, Some, None, Result, Ok, Err}
+use Rattle.std.specs.Prelude.{ℕ, Bool, true, false, List, codes, Option, Some, None, Result, Ok, Err}
 use Rattle.std.specs.declared.cmp.Ordering.{Ordering}
 use Rattle.std.specs.declared.cmp.Ordering.TheVariants.{Less, Equal, Greater}
 use Rattle.semver_core.specs.Difference as difference
@@ -21,6 +21,11 @@ bad_version = codes "bad version"
 -- a text of the question is no range
 abbrev pub bad_range : List ℕ
 bad_range = codes "bad range"
+
+-- whether it is so
+abbrev pub truth_word : Bool → List ℕ
+truth_word true = codes "true"
+truth_word false = codes "false"
 
 -- a version or a range, printed, where there is one
 abbrev pub version_or_none : Option VersionValue → List ℕ

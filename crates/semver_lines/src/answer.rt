@@ -8,7 +8,7 @@ ghost use Rattle.semver_lines.specs.Steps.{GrowsByAnswer};
 
 use crate::command::Command;
 use crate::fields::first;
-use crate::{best, increments, ranges, versions};
+use crate::{best, increments, questions, ranges, versions};
 use std::alloc::{AllocError, Global};
 use std::str;
 
@@ -32,6 +32,9 @@ fn answer_command(
         Command::Minus => ranges::minus(alloc, behind, answer),
         Command::Least => ranges::least(alloc, behind, answer),
         Command::Beyond => ranges::beyond(alloc, behind, answer),
+        Command::Sat => questions::sat(alloc, behind, answer),
+        Command::Pre => questions::pre(alloc, behind, answer),
+        Command::Out => questions::outside(alloc, behind, answer),
         Command::Max => best::max(alloc, behind, answer),
         Command::Min => best::min(alloc, behind, answer),
     }

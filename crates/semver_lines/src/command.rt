@@ -21,6 +21,12 @@ pub enum Command {
     Least,
     /// `beyond;R;S`: the least version that R accepts and S does not, or `none`.
     Beyond,
+    /// `sat;R;V`: whether R accepts V, by `satisfies`.
+    Sat,
+    /// `pre;R;V`: the same, pre-releases included.
+    Pre,
+    /// `out;R;V;>` and `out;R;V;<`: whether V lies above R, or below it.
+    Out,
     /// `max;R;V;..`: the greatest of some versions that R accepts, or `none`.
     Max,
     /// `min;R;V;..`: the least of some versions that R accepts, or `none`.
@@ -46,6 +52,9 @@ impl Command {
             b"minus" => Some(Command::Minus),
             b"least" => Some(Command::Least),
             b"beyond" => Some(Command::Beyond),
+            b"sat" => Some(Command::Sat),
+            b"pre" => Some(Command::Pre),
+            b"out" => Some(Command::Out),
             b"max" => Some(Command::Max),
             b"min" => Some(Command::Min),
             _ => None,

@@ -7,6 +7,7 @@ mod best;
 mod command;
 mod fields;
 mod increments;
+mod questions;
 mod ranges;
 mod run;
 #[cfg(test)]

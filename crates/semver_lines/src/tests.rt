@@ -1,5 +1,13 @@
+mod core_increments;
+mod core_ranges;
+mod core_versions;
+mod cuts;
+mod difference;
 mod ends;
 mod faults;
+mod json;
+mod printing;
+mod scan;
 
 use crate::run::run;
 use ends::{FailingReader, FailingWriter};
@@ -144,21 +152,24 @@ fn bad_lines_are_told(rt: HostRuntime) {
 }
 
 #[test]
-fn other_commands_are_unknown(rt: HostRuntime) {
+fn other_lines_are_no_questions(rt: HostRuntime) {
     for line in [
-        "sat;^1;1.0.0",
-        "pre;^1;1.0.0",
-        "ver;1.0.0",
-        "range;^1",
-        "and;^1;^2",
-        "minus;^1;^2",
-        "least;^1",
-        "beyond;^1;^2",
-        "max;^1;1.0.0",
-        "min;^1;1.0.0",
-        "inc;1.0.0;major",
-        "diff;1.0.0;2.0.0",
-        "out;^1;1.0.0;>",
+        "",
+        ";",
+        "CMP;1.0.0;1.0.0",
+        "compare;1.0.0;1.0.0",
+        "sat;^1",
+        "sat;^1;1.0.0;2.0.0",
+        "range",
+        "and;^1",
+        "least;^1;^2",
+        "beyond;^1",
+        "inc;1.2.3",
+        "inc;1.2.3;patch;dev;2",
+        "inc;1.2.3;patch;dev;0;0",
+        "diff;1.0.0",
+        "out;^1;1.0.0;=",
+        "out;^1;1.0.0",
     ] {
         assert!(rt; answers(rt.alloc(), line.as_bytes(), "bad line"), "{line}");
     }

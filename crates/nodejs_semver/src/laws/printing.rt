@@ -1,6 +1,14 @@
 // Printed ranges come back.
 
-ghost use Rattle.nodejs_semver.specs.ComesBack.{RangesComeBack};
+ghost use Rattle.std.specs.Prelude.{◌≡◌, ⊤, IfErr, IfOk, map, true};
+ghost use Rattle.std.specs.List.{list_all};
+ghost use Rattle.nodejs_semver.specs.ComesBack.{RangesComeBack, is_printable, read_back};
+ghost use Rattle.nodejs_semver.specs.Printed.{range_text};
+ghost use Rattle.nodejs_semver.specs.SameRange.{range_eq};
+ghost use Rattle.semver_core.specs.Parsing.{MatchFailure};
+
+use crate::{Failure, MAX_SAFE_INTEGER, Range, SemverError};
+use std::alloc::Global;
 
 /// Printed ranges come back: a text that is printed of one interval or more, none of which is `*`, reads as an equal range.
 /// Their versions have no number above the limit, and identifiers that their own texts spell. Builds come back too, save that
@@ -9,4 +17,23 @@ pub fn printed_ranges_come_back(text: &str)
     ensures { RangesComeBack text.now }
 {
     let _ = text;
+}
+
+/// A range that is printed and read again. No interval of it is `*`, and no number is above `MAX_SAFE_INTEGER`.
+///
+/// The answer is an equal range. Its builds are those of the first range too, save that where an interval prints as one
+/// version, that version stands for both ends. It prints as the same text. It is wanting only where memory is.
+pub fn reread_range(alloc: Global, range: &Range) -> Result<Range, Failure<SemverError>>
+    requires { list_all (is_printable MAX_SAFE_INTEGER) range.now ≡ true }
+    ensures equal { IfOk result (λ again. range_eq again range.now ≡ true) }
+    ensures builds { IfOk result (λ again. again ≡ map read_back range.now) }
+    ensures text { IfOk result (λ again. range_text again ≡ range_text range.now) }
+    ensures never_refused { IfErr result (λ e. MatchFailure e ⊥ ⊤) }
+{
+    // No effect at run time: the proof learns from it that a range has an interval.
+    let _intervals = range.intervals();
+    match range.to_string(alloc) {
+        Ok(text) => Range::parse(alloc, &text),
+        Err(error) => Err(Failure::Memory(error)),
+    }
 }

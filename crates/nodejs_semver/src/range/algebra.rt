@@ -1,11 +1,12 @@
 // The set algebra of ranges.
 
 ghost use Rattle.std.specs.Prelude.{◌≡◌, ◌&&◌, ◌||◌, not, IfOk, true, false, is_some};
-ghost use Rattle.semver_core.specs.Cuts.{list_holds, option_list_holds};
+ghost use Rattle.std.specs.List.{list_any};
+ghost use Rattle.semver_core.specs.Cuts.{list_holds, meet, option_list_holds};
 ghost use Rattle.semver_core.specs.Order.{precedence};
 ghost use Rattle.semver_core.specs.Versions.{VersionValue};
 ghost use Rattle.nodejs_semver.specs.Accepts.{accepts, option_accepts, is_release};
-ghost use Rattle.nodejs_semver.specs.Lists.{intersection, difference, covers_one, meets_one};
+ghost use Rattle.nodejs_semver.specs.Lists.{intersection, difference, covers_one};
 
 use crate::Range;
 use crate::range::{copy_intervals, lists};
@@ -71,7 +72,7 @@ impl Range {
     }
 
     fn meets(&self, other: &Range) -> bool
-        ensures { result ≡ meets_one self.now other.now }
+        ensures { result ≡ list_any (λ s. list_any (λ t. is_some (meet precedence s t)) other.now) self.now }
     {
         self.intervals()
             .iter()

@@ -8,6 +8,7 @@ ghost use Rattle.semver_core.specs.Spaces.{space_len};
 
 use semver_core::scan;
 
+#[inline(always)]
 fn begins_bars(text: &[u8]) -> bool
     ensures { result ≡ Spec.begins_bars text.now }
 {

@@ -1,54 +1,53 @@
 // Numbers at the front of a text.
 
-ghost use Rattle.std.specs.Prelude.{◌≡◌, ◌≤◌, ◌+◌, drop, min, take_while, true, IfSome};
-ghost use Rattle.std.specs.Char.{is_ascii_digit};
-ghost use Rattle.std.specs.List.{list_all, prefix_len};
-ghost use Rattle.std.specs.Str.Parse.{digits_value};
+ghost use Rattle.std.specs.Prelude.{◌≡◌, ◌==◌, ◌≤◌, if◌then◌else◌, length, IfSome, None, Some};
 ghost use Rattle.nodejs_semver.specs.Fronts as Spec;
 ghost use Rattle.nodejs_semver.specs.Fronts.{front_view};
+ghost use Rattle.semver_core.specs.Reading.{number_at};
 
 use semver_core::MAX_SAFE_INTEGER;
 
-// How many digits stand at the front.
-fn digits_len(text: &[u8]) -> usize
-    ensures { result ≡ prefix_len is_ascii_digit text.now }
+// What a run of digits gives that ended after `count` of them.
+#[inline(always)]
+fn ended(value: u64, count: usize) -> Option<(u64, usize)>
+    ensures { result ≡ (if count == 0 then None else Some (value, count)) }
 {
-    text.iter().take_while(|b| b.is_ascii_digit()).count()
-}
-
-// The digits at the front, and the text behind them.
-#[tactic(auto, using(crate::proofs::Numbers::digits_len_fits))]
-fn digits_front(text: &[u8]) -> (&[u8], &[u8])
-    ensures digits { result.0.now ≡ take_while is_ascii_digit text.now }
-    ensures rest { result.1.now ≡ drop (prefix_len is_ascii_digit text.now) text.now }
-{
-    text.split_at(digits_len(text))
-}
-
-// The value of digits, or one more than the greatest number that is read where it is above that.
-fn capped_value(digits: &[u8]) -> u64
-    requires { list_all is_ascii_digit digits.now ≡ true }
-    ensures { result ≡ min (digits_value 10 digits.now) (MAX_SAFE_INTEGER + 1) }
-{
-    let mut value = 0;
-    for digit in digits {
-        value = u64::min(value * 10 + u64::from(*digit - b'0'), MAX_SAFE_INTEGER + 1);
+    if count == 0 {
+        None
+    } else {
+        Some((value, count))
     }
-    value
+}
+
+// The number of the digits at the front, and how many they are.
+#[inline(always)]
+#[tactic(auto, using(semver_core::proofs::Digits::digits_step, semver_core::proofs::Digits::digits_over, semver_core::proofs::Digits::digits_stop, semver_core::proofs::Digits::digits_past, semver_core::proofs::Digits::digits_placed))]
+fn digits(text: &[u8]) -> Option<(u64, usize)>
+    ensures found { result ≡ number_at MAX_SAFE_INTEGER text.now 0 }
+    ensures place { IfSome result (λ found. found.1 ≤ length text.now) }
+    ensures small { IfSome result (λ found. found.0 ≤ MAX_SAFE_INTEGER) }
+{
+    let mut value = 0u64;
+    'digits: for count in 0..text.len() {
+        let byte = text[count];
+        if !byte.is_ascii_digit() {
+            return ended(value, count);
+        }
+        value = value * 10 + u64::from(byte - b'0');
+        if value > MAX_SAFE_INTEGER {
+            return None;
+        }
+    }
+    ended(value, text.len())
 }
 
 // The number at the front, a whole run of digits, and the text behind it.
+#[inline(always)]
+#[tactic(auto, using(crate::proofs::NumberFront::front_some, crate::proofs::NumberFront::front_none))]
 pub(crate) fn number_front(text: &[u8]) -> Option<(u64, &[u8])>
     ensures value { front_view result ≡ Spec.number_front MAX_SAFE_INTEGER text.now }
     ensures small { IfSome result (λ p. p.0 ≤ MAX_SAFE_INTEGER) }
 {
-    let (digits, rest) = digits_front(text);
-    if digits.is_empty() {
-        return None;
-    }
-    let value = capped_value(digits);
-    if value > MAX_SAFE_INTEGER {
-        return None;
-    }
-    Some((value, rest))
+    let (value, count) = digits(text)?;
+    Some((value, &text[count..]))
 }

@@ -14,6 +14,7 @@ use crate::readers::syntax::Partial;
 use crate::readers::{number, spaces};
 use semver_core::MAX_SAFE_INTEGER;
 
+#[inline(always)]
 fn begins_wildcard(text: &[u8]) -> bool
     ensures { result ≡ Spec.begins_wildcard text.now }
 {
@@ -21,6 +22,7 @@ fn begins_wildcard(text: &[u8]) -> bool
 }
 
 // A wildcard or a number.
+#[inline(always)]
 #[tactic(auto, unfolding(crate::specs::Fronts::component_front))]
 fn component_front(text: &[u8]) -> Option<(Option<u64>, &[u8])>
     ensures value { front_view result ≡ Spec.component_front MAX_SAFE_INTEGER text.now }
@@ -34,6 +36,7 @@ fn component_front(text: &[u8]) -> Option<(Option<u64>, &[u8])>
 }
 
 // The same behind a dot.
+#[inline(always)]
 #[tactic(auto, unfolding(crate::specs::Fronts::dotted_front))]
 fn dotted_front(text: &[u8]) -> Option<(Option<u64>, &[u8])>
     ensures value { front_view result ≡ Spec.dotted_front MAX_SAFE_INTEGER text.now }
@@ -45,12 +48,14 @@ fn dotted_front(text: &[u8]) -> Option<(Option<u64>, &[u8])>
     }
 }
 
+#[inline(always)]
 fn is_identifier_char(byte: u8) -> bool
     ensures { result ≡ is_identifier_char byte }
 {
     byte.is_ascii_alphanumeric() || byte == b'-'
 }
 
+#[inline(always)]
 fn begins_identifier(text: &[u8]) -> bool
     ensures { result ≡ Spec.begins_identifier text.now }
 {
@@ -61,6 +66,7 @@ fn begins_identifier(text: &[u8]) -> bool
 }
 
 // Whether identifiers joined by dots go on here.
+#[inline(always)]
 fn goes_on(text: &[u8]) -> bool
     ensures { result ≡ goes_on text.now }
 {
@@ -188,6 +194,7 @@ fn minor_front(major: Option<u64>, text: &[u8]) -> (Partial<'_>, &[u8])
 }
 
 // The text behind an optional `v`.
+#[inline(always)]
 fn drop_v(text: &[u8]) -> &[u8]
     ensures { result.now ≡ drop_v text.now }
 {

@@ -5,6 +5,7 @@ ghost use Rattle.semver_core.specs.Characters.{is_whitespace};
 ghost use Rattle.semver_core.specs.Spaces as Spec;
 
 // Whether this is the code point of a whitespace character.
+#[inline(always)]
 fn is_whitespace(code: u32) -> bool
     ensures { result ≡ is_whitespace code }
 {
@@ -15,12 +16,14 @@ fn is_whitespace(code: u32) -> bool
 }
 
 // Whether a byte goes on with a character.
+#[inline(always)]
 fn goes_on_with(byte: u8) -> bool
     ensures { result ≡ Spec.goes_on_with byte }
 {
     (0x80..=0xbf).contains(&byte)
 }
 
+#[inline(always)]
 fn is_space_of_two(a: u8, b: u8) -> bool
     ensures { result ≡ Spec.is_space_of_two a b }
 {
@@ -29,6 +32,7 @@ fn is_space_of_two(a: u8, b: u8) -> bool
         && is_whitespace(u32::from(a % 32) * 64 + u32::from(b % 64))
 }
 
+#[inline(always)]
 fn is_space_of_three(a: u8, b: u8, c: u8) -> bool
     ensures { result ≡ Spec.is_space_of_three a b c }
 {
@@ -39,6 +43,7 @@ fn is_space_of_three(a: u8, b: u8, c: u8) -> bool
 }
 
 // How many bytes the whitespace character at the front takes, and 0 where none stands there.
+#[inline(always)]
 #[tactic(auto, unfolding(semver_core::specs::Spaces::space_len))]
 pub(crate) fn space_len(text: &[u8]) -> usize
     ensures value { result ≡ Spec.space_len text.now }

@@ -10,6 +10,7 @@ use semver_core::MAX_SAFE_INTEGER;
 use semver_core::cuts::Bound;
 
 // `major.minor.patch`
+#[inline]
 #[tactic(auto, unfolding(crate::specs::Fronts::list_of, crate::specs::Fronts::is_listed))]
 fn release(major: u64, minor: u64, patch: u64) -> BareVersion<'static>
     ensures { bare_view result ≡ Spec.release major minor patch }
@@ -24,6 +25,7 @@ fn release(major: u64, minor: u64, patch: u64) -> BareVersion<'static>
 }
 
 // `major.minor.patch-0`
+#[inline]
 #[tactic(auto, unfolding(crate::specs::Fronts::list_of, crate::specs::Fronts::is_listed))]
 fn lowest(major: u64, minor: u64, patch: u64) -> BareVersion<'static>
     ensures { bare_view result ≡ Spec.lowest major minor patch }
@@ -38,6 +40,7 @@ fn lowest(major: u64, minor: u64, patch: u64) -> BareVersion<'static>
 }
 
 // The version of a partial, with 0 for what is absent or a wildcard.
+#[inline]
 fn version_of<'a>(partial: &Partial<'a>) -> BareVersion<'a>
     ensures { bare_view result ≡ Spec.version_of (partial_view partial.now) }
 {
@@ -50,6 +53,7 @@ fn version_of<'a>(partial: &Partial<'a>) -> BareVersion<'a>
     }
 }
 
+#[inline]
 fn from(version: BareVersion<'_>) -> Option<Bounds<'_>>
     ensures { table_view result ≡ Spec.from (bare_view version.entry) }
 {
@@ -59,6 +63,7 @@ fn from(version: BareVersion<'_>) -> Option<Bounds<'_>>
     })
 }
 
+#[inline]
 fn beyond(version: BareVersion<'_>) -> Option<Bounds<'_>>
     ensures { table_view result ≡ Spec.beyond (bare_view version.entry) }
 {
@@ -79,6 +84,7 @@ fn above_bounds<'a>(partial: &Partial<'a>) -> Option<Bounds<'a>>
     }
 }
 
+#[inline]
 fn until(version: BareVersion<'_>) -> Option<Bounds<'_>>
     ensures { table_view result ≡ Spec.until (bare_view version.entry) }
 {
@@ -88,6 +94,7 @@ fn until(version: BareVersion<'_>) -> Option<Bounds<'_>>
     })
 }
 
+#[inline]
 fn up_to(version: BareVersion<'_>) -> Option<Bounds<'_>>
     ensures { table_view result ≡ Spec.up_to (bare_view version.entry) }
 {
@@ -97,6 +104,7 @@ fn up_to(version: BareVersion<'_>) -> Option<Bounds<'_>>
     })
 }
 
+#[inline]
 fn from_until<'a>(first: BareVersion<'a>, end: BareVersion<'a>) -> Option<Bounds<'a>>
     ensures { table_view result ≡ Spec.from_until (bare_view first.entry) (bare_view end.entry) }
 {
@@ -106,6 +114,7 @@ fn from_until<'a>(first: BareVersion<'a>, end: BareVersion<'a>) -> Option<Bounds
     })
 }
 
+#[inline]
 fn exactly(version: BareVersion<'_>) -> Option<Bounds<'_>>
     ensures { table_view result ≡ Spec.exactly (bare_view version.entry) }
 {
@@ -115,6 +124,7 @@ fn exactly(version: BareVersion<'_>) -> Option<Bounds<'_>>
     })
 }
 
+#[inline]
 #[tactic(auto, unfolding(crate::specs::Fronts::list_of, crate::specs::Fronts::is_listed))]
 fn without_build(version: BareVersion<'_>) -> BareVersion<'_>
     ensures { bare_view result ≡ Spec.without_build (bare_view version.entry) }

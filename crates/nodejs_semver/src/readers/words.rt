@@ -1,8 +1,8 @@
 // The words of a part.
 
 ghost use Rattle.std.specs.Prelude.{◌≡◌, ◌≤◌, ◌+◌, length, take, drop, true};
-ghost use Rattle.nodejs_semver.specs.Partials.{longest_partial};
-ghost use Rattle.nodejs_semver.specs.Readings.{comparator_front_view, partial_front_view, reading_view, rest_view, sign_view, word_pair_view, word_view};
+ghost use Rattle.nodejs_semver.specs.Partials.{longest_partial, or_else};
+ghost use Rattle.nodejs_semver.specs.Readings.{comparator_front_view, partial_front_view, partial_view, reading_view, rest_view, sign_view, word_pair_view, word_view};
 ghost use Rattle.nodejs_semver.specs.Words as Spec;
 ghost use Rattle.nodejs_semver.specs.Words.{is_boundary};
 ghost use Rattle.semver_core.specs.declared.TheConstants.{MAX_SAFE_INTEGER};
@@ -20,6 +20,7 @@ fn longest_partial(text: &[u8]) -> Option<(Partial<'_>, &[u8])>
 }
 
 // Whether a word may end here.
+#[inline(always)]
 #[tactic(auto, unfolding(crate::specs::Words::is_boundary))]
 fn is_boundary(text: &[u8]) -> bool
     ensures { result ≡ is_boundary text.now }
@@ -28,6 +29,7 @@ fn is_boundary(text: &[u8]) -> bool
 }
 
 // A word, where what follows it begins at a boundary.
+#[inline(always)]
 fn at_boundary<'a>(word: Word<'a>, rest: &'a [u8]) -> Option<(Word<'a>, &'a [u8])>
     ensures { reading_view result ≡ Spec.at_boundary (word_view word.entry) rest.now }
 {
@@ -39,6 +41,7 @@ fn at_boundary<'a>(word: Word<'a>, rest: &'a [u8]) -> Option<(Word<'a>, &'a [u8]
 }
 
 // What follows one whitespace character or more.
+#[inline(always)]
 fn after_some_space(text: &[u8]) -> Option<&[u8]>
     ensures { rest_view result ≡ Spec.after_some_space text.now }
 {
@@ -50,6 +53,7 @@ fn after_some_space(text: &[u8]) -> Option<&[u8]>
 }
 
 // What follows a hyphen between two partials.
+#[inline(always)]
 fn after_hyphen(text: &[u8]) -> Option<&[u8]>
     ensures { rest_view result ≡ Spec.after_byte 45 text.now }
 {
@@ -59,25 +63,30 @@ fn after_hyphen(text: &[u8]) -> Option<&[u8]>
     }
 }
 
-fn hyphen_front(text: &[u8]) -> Option<(Word<'_>, &[u8])>
-    ensures { reading_view result ≡ Spec.hyphen_at MAX_SAFE_INTEGER text.now }
+// The hyphen word of a partial and the text behind it.
+fn hyphen_behind<'a>(lower: Partial<'a>, text: &'a [u8]) -> Option<(Word<'a>, &'a [u8])>
+    ensures { reading_view result ≡ Spec.hyphen_behind MAX_SAFE_INTEGER (partial_view lower.entry) text.now }
 {
-    let (lower, rest) = longest_partial(text)?;
-    let sign = after_some_space(rest)?;
+    let sign = after_some_space(text)?;
     let gap = after_hyphen(sign)?;
     let second = after_some_space(gap)?;
     let (upper, rest) = longest_partial(second)?;
     at_boundary(Word::Hyphen(lower, upper), rest)
 }
 
-fn plain_front(text: &[u8]) -> Option<(Word<'_>, &[u8])>
-    ensures { reading_view result ≡ Spec.plain_at MAX_SAFE_INTEGER text.now }
+// A word that begins with a partial.
+fn partial_word_front(text: &[u8]) -> Option<(Word<'_>, &[u8])>
+    ensures { reading_view result ≡ or_else (Spec.hyphen_at MAX_SAFE_INTEGER text.now) (Spec.plain_at MAX_SAFE_INTEGER text.now) }
 {
     let (partial, rest) = longest_partial(text)?;
+    if let Some(read) = hyphen_behind(partial, rest) {
+        return Some(read);
+    }
     at_boundary(Word::Plain(partial), rest)
 }
 
 // The comparator at the front, the longer one first.
+#[inline(always)]
 fn comparator_front(text: &[u8]) -> Option<(Comparator, &[u8])>
     ensures { comparator_front_view result ≡ Spec.comparator_at text.now }
 {
@@ -100,6 +109,7 @@ fn compare_front(text: &[u8]) -> Option<(Word<'_>, &[u8])>
 }
 
 // Whether `>` stands behind a tilde, and what stands behind it.
+#[inline(always)]
 fn tilde_sign(text: &[u8]) -> (bool, &[u8])
     ensures { sign_view result ≡ Spec.tilde_sign text.now }
 {
@@ -146,10 +156,7 @@ fn skip_to_boundary(text: &[u8]) -> &[u8]
 fn form_front(text: &[u8]) -> Option<(Word<'_>, &[u8])>
     ensures { reading_view result ≡ Spec.form_at MAX_SAFE_INTEGER text.now }
 {
-    if let Some(read) = hyphen_front(text) {
-        return Some(read);
-    }
-    if let Some(read) = plain_front(text) {
+    if let Some(read) = partial_word_front(text) {
         return Some(read);
     }
     if let Some(read) = compare_front(text) {

@@ -16,7 +16,7 @@ use std::marker::Model;
 /// Intervals are equal, and hash alike, where both bounds are of the same kind and at equal points.
 #[derive(Drop)]
 #[derive_where(PartialEq, Eq)]
-#[derive_where(Hash; V)]
+#[derive_where(Hash, Debug; V)]
 pub struct Interval<V: Point> {
     lower: Bound<V>,
     upper: Bound<V>,

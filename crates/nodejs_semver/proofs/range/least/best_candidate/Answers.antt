@@ -1,4 +1,4 @@
-use Rattle.std.proofs.Common.{◌≡◌, ◌++◌, ap, ◌∙◌, None}
+use Rattle.std.proofs.Common.{◌≡◌, ap, ◌∙◌, None}
 use Rattle.std.specs.List.{fold, flat_map}
 use Rattle.nodejs_semver.specs.Candidates.{better, span_firsts}
 use Rattle.nodejs_semver.specs.Least.{beyond}

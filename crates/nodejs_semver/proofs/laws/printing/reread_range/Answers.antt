@@ -1,0 +1,24 @@
+use Rattle.std.proofs.Common.{◌∙◌, arith}
+use Rattle.semver_core.specs.declared.TheConstants.{MAX_SAFE_INTEGER}
+use Rattle.nodejs_semver.proofs.RereadRange.{Reread, reread_builds, reread_equal, reread_text, reread_read}
+use Rattle.nodejs_semver.proofs.laws.printing.reread_range.Goals as goal
+
+given : (c : goal.After-drop-text) → Reread MAX_SAFE_INTEGER c.deref.result.now c.args.range.now
+given c = record {
+  small = omega arith;
+  some = c.intervals-intervals.ensures.valid.some;
+  printable = c.requires;
+  printed = c.deref.ensures ∙ c.in-Ok.ensures.ok;
+}
+
+pub returns-in-Ok-clause-equal : goal.returns-in-Ok-clause-equal
+returns-in-Ok-clause-equal c = reread_equal MAX_SAFE_INTEGER c.parse.result c.deref.result.now c.args.range.now (given c) c.parse.ensures.ok
+
+pub returns-in-Ok-clause-builds : goal.returns-in-Ok-clause-builds
+returns-in-Ok-clause-builds c = reread_builds MAX_SAFE_INTEGER c.parse.result c.deref.result.now c.args.range.now (given c) c.parse.ensures.ok
+
+pub returns-in-Ok-clause-text : goal.returns-in-Ok-clause-text
+returns-in-Ok-clause-text c = reread_text MAX_SAFE_INTEGER c.parse.result c.deref.result.now c.args.range.now (given c) c.parse.ensures.ok
+
+pub returns-in-Ok-clause-never_refused : goal.returns-in-Ok-clause-never_refused
+returns-in-Ok-clause-never_refused c = reread_read MAX_SAFE_INTEGER c.parse.result c.deref.result.now c.args.range.now (given c) c.parse.ensures.err

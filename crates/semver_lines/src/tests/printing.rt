@@ -1,0 +1,37 @@
+// Texts that are read and printed, with memory to spare.
+
+use nodejs_semver::{Failure, Identifier, Version};
+use std::test::Fail;
+
+#[test]
+fn a_printed_version_may_be_too_long(rt: HostRuntime) -> Result<(), Fail> {
+    let no = "";
+    let text = format!(in rt.alloc(); "1.2.3{no:b>251}")?;
+    let printed = Version::parse(rt.alloc(), &text)?.to_string(rt.alloc())?;
+    assert_eq!(rt; printed.len(), 257);
+    let read = Version::parse(rt.alloc(), &printed);
+    assert!(rt; matches!(&read, Err(Failure::Refused(_))));
+    Ok(())
+}
+
+#[test]
+fn width_and_fill_are_not_looked_at(rt: HostRuntime) -> Result<(), Fail> {
+    let version = Version::parse(rt.alloc(), "1.2.3-a+7")?;
+    let wide = format!(in rt.alloc(); "{version:*>20}|{version:3}|{version:.2}")?;
+    assert_eq!(rt; wide.as_str(), "1.2.3-a+7|1.2.3-a+7|1.2.3-a+7");
+    let identifier = Identifier::Numeric(7);
+    let wide = format!(in rt.alloc(); "{identifier:05}|{identifier:>4}")?;
+    assert_eq!(rt; wide.as_str(), "7|7");
+    Ok(())
+}
+
+#[test]
+fn identifiers_print(rt: HostRuntime) -> Result<(), Fail> {
+    let number = Identifier::Numeric(u64::MAX).to_string(rt.alloc())?;
+    assert_eq!(rt; number.as_str(), "18446744073709551615");
+    let text = Identifier::AlphaNumeric(String::from_str(rt.alloc(), "rc-1")?).to_string(
+        rt.alloc(),
+    )?;
+    assert_eq!(rt; text.as_str(), "rc-1");
+    Ok(())
+}
