@@ -154,7 +154,6 @@ fn bad_lines_are_told(rt: HostRuntime) {
 #[test]
 fn other_lines_are_no_questions(rt: HostRuntime) {
     for line in [
-        "",
         ";",
         "CMP;1.0.0;1.0.0",
         "compare;1.0.0;1.0.0",
