@@ -1,5 +1,5 @@
 -- Statement: versions and ranges as JSON strings.
-use Rattle.std.specs.Prelude.{◌≡◌, ℕ, List, Option, Some, None, IfSome, IsSomeAnd, Result, Ok, Err, [], ⊤, option_and_then}
+use Rattle.std.specs.Prelude.{◌≡◌, ℕ, List, Option, IfSome, IsSomeAnd, Result, Ok, Err, [], ⊤, option_and_then}
 use Rattle.serde_json.specs.Find.{as_str}
 use Rattle.serde_json.specs.Read.{read}
 use Rattle.nodejs_semver.specs.Denotes.{denotes}

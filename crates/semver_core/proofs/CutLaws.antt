@@ -1,10 +1,10 @@
 -- The cuts of a total order are totally ordered, and what two spans have in common, or one leaves of another, is so as sets of points.
-use Rattle.std.proofs.Common.{◌≡◌, refl, sym, ◌∙◌, ap, Bool, true, false, ◌&&◌, ◌||◌, not, List, [], ◌∷◌, ◌++◌, Option, Some, None, if◌then◌else◌, arith, is_some}
+use Rattle.std.proofs.Common.{◌≡◌, refl, sym, ◌∙◌, ap, Bool, true, false, ◌&&◌, ◌||◌, not, Option, Some, None, if◌then◌else◌, arith, is_some}
 use Rattle.std.specs.declared.cmp.Ordering.{Ordering}
 use Rattle.std.specs.declared.cmp.Ordering.TheVariants.{Less, Equal, Greater}
-use Rattle.std.specs.Ordering.{ordering_reverse, ordering_then, is_lt, is_le, is_gt, on, then_cmp, nat_cmp}
+use Rattle.std.specs.Ordering.{ordering_reverse, is_lt, is_le, is_gt, on, then_cmp}
 use Rattle.std.specs.Cmp.{IsTotalOrder, upto, on_total, then_total, nat_cmp_total}
-use Rattle.semver_core.specs.Cuts.{Side, Near, Far, side_cmp, side_index, Cut, Start, Beside, End, cut_cmp, is_past, lower_cut, upper_cut, Span, is_interval, interval, holds, greater_lower, lesser_upper, meet, left_below, left_above, remainders, option_holds}
+use Rattle.semver_core.specs.Cuts.{Side, Near, side_cmp, side_index, Cut, Start, Beside, End, cut_cmp, is_past, lower_cut, upper_cut, Span, is_interval, interval, holds, greater_lower, lesser_upper, meet, left_below, left_above, remainders, option_holds}
 use Rattle.semver_core.specs.declared.cuts.bound.Bound.{Bound}
 use Rattle.semver_core.specs.declared.cuts.bound.Bound.TheVariants.{Unbounded, Before, After}
 

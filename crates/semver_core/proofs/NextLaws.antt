@@ -1,14 +1,14 @@
 -- The version after a pre-release, and after a release.
-use Rattle.std.proofs.Common.{◌≡◌, refl, sym, ◌∙◌, ap, subst, ℕ, ◌+◌, ◌-◌, ◌<◌, ◌≤◌, ◌^◌, true, List, [], ◌∷◌, ◌++◌, length, arith, lit<}
+use Rattle.std.proofs.Common.{◌≡◌, refl, sym, ◌∙◌, ap, ℕ, ◌+◌, ◌-◌, ◌<◌, ◌^◌, true, List, [], ◌∷◌, ◌++◌, length, arith, lit<}
 use Rattle.std.specs.List.{All}
 use Rattle.std.specs.Ordering.{is_le}
 use Rattle.std.specs.declared.cmp.Ordering.TheVariants.{Less}
 use Rattle.std.proofs.lemmas.List.Elements.{All-append, All-cons, All-nil}
 use Rattle.semver_core.specs.Identifiers.{Id, Numeric}
-use Rattle.semver_core.specs.NextVersions.{IsNext, FirstOfAll, NextOfPreRelease, NextOfRelease}
+use Rattle.semver_core.specs.NextVersions.{FirstOfAll, NextOfPreRelease, NextOfRelease}
 use Rattle.semver_core.specs.Order.{pre_cmp, precedence}
 use Rattle.semver_core.specs.Successors.{Below, by_major, by_minor, by_patch, by_pre, below_cases, below_more, next_least, zero_least, empty_not_below, above_patch, above_pre, upto_major, upto_minor, upto_patch}
-use Rattle.semver_core.specs.Versions.{VersionValue, IsVersion, IsId}
+use Rattle.semver_core.specs.Versions.{VersionValue, IsId}
 
 pub first_of_all : FirstOfAll
 first_of_all u = upto_patch (record { major = 0; minor = 0; patch = 0; pre_release = Numeric 0 ∷ []; build = [] }) u (omega arith) (omega arith) (omega arith) (zero_least u.pre_release)

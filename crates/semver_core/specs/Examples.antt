@@ -1,11 +1,9 @@
 -- Worked examples of the definitions, computed.
 use Rattle.std.specs.Prelude.{◌≡◌, ℕ, true, false, List, [], ◌∷◌, map, codes, refl}
-use Rattle.std.specs.Ordering.{is_eq}
-use Rattle.std.specs.declared.cmp.Ordering.{Ordering}
 use Rattle.std.specs.declared.cmp.Ordering.TheVariants.{Less, Equal, Greater}
 use Rattle.semver_core.specs.Characters.{is_whitespace, is_identifier_char}
-use Rattle.semver_core.specs.Identifiers.{Id, Numeric, AlphaNumeric, identifier_of, pieces, goes_on}
-use Rattle.semver_core.specs.Order.{id_cmp, pre_cmp, precedence}
+use Rattle.semver_core.specs.Identifiers.{Numeric, AlphaNumeric, identifier_of, pieces, goes_on}
+use Rattle.semver_core.specs.Order.{id_cmp, precedence}
 use Rattle.semver_core.specs.Versions.{VersionValue, release_value}
 
 -- the ideographic space and the byte order mark are whitespace; the next line and the space of no width are not

@@ -6,6 +6,7 @@ mod difference;
 mod ends;
 mod faults;
 mod json;
+mod laws;
 mod printing;
 mod scan;
 

@@ -1,6 +1,6 @@
 // Texts that are read and printed, with memory to spare.
 
-use nodejs_semver::{Failure, Identifier, Version};
+use nodejs_semver::{Failure, Identifier, Range, Version};
 use std::test::Fail;
 
 #[test]
@@ -22,6 +22,17 @@ fn width_and_fill_are_not_looked_at(rt: HostRuntime) -> Result<(), Fail> {
     let identifier = Identifier::Numeric(7);
     let wide = format!(in rt.alloc(); "{identifier:05}|{identifier:>4}")?;
     assert_eq!(rt; wide.as_str(), "7|7");
+    Ok(())
+}
+
+#[test]
+fn nor_are_they_for_ranges(rt: HostRuntime) -> Result<(), Fail> {
+    let range = Range::parse(rt.alloc(), "^1.2 || <=0.5")?;
+    let wide = format!(in rt.alloc(); "{range:*^60}|{range:.1}")?;
+    assert_eq!(rt;
+        wide.as_str(),
+        ">=1.2.0 <2.0.0-0||<=0.5.900719925474099|>=1.2.0 <2.0.0-0||<=0.5.900719925474099"
+    );
     Ok(())
 }
 
