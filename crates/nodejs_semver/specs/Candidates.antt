@@ -1,4 +1,4 @@
--- The versions among which the least ones are found. These words serve proofs and private contracts alone.
+-- For proofs and private contracts: the versions among which the least ones are found.
 use Rattle.std.specs.Prelude.{◌+◌, Bool, true, false, ◌&&◌, List, [], ◌∷◌, ◌++◌, if◌then◌else◌, Option, Some, None, fold, ⊤, ◌<◌, ◌^◌, ◌-◌}
 use Rattle.std.specs.List.{flat_map}
 use Rattle.std.specs.Ordering.{is_le, is_lt}

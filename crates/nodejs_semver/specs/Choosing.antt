@@ -1,4 +1,4 @@
--- How the best of a list is found, version by version. These words serve proofs and private contracts alone.
+-- For proofs and private contracts: how the best of a list is found, version by version.
 use Rattle.std.specs.Prelude.{Bool, true, ◌&&◌, List, if◌then◌else◌, Option, Some, None, fold}
 use Rattle.std.specs.Ordering.{is_ge, is_lt}
 use Rattle.semver_core.specs.Order.{precedence}

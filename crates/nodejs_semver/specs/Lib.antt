@@ -12,7 +12,6 @@ pub mod Runs
 pub mod Denotes
 pub mod Written
 pub mod RangeLaws
-pub mod Common
 pub mod Fronts
 pub mod PartFronts
 pub mod Meets

@@ -1,4 +1,4 @@
--- Cuts of a line of ordered points, and the spans between two cuts.
+-- Statement: cuts of a line of ordered points, and the spans between two cuts.
 use Rattle.std.specs.Prelude.{ℕ, Bool, true, false, ◌&&◌, not, List, [], ◌∷◌, ◌++◌, if◌then◌else◌, Option, Some, None, is_some}
 use Rattle.std.specs.declared.cmp.Ordering.{Ordering}
 use Rattle.std.specs.declared.cmp.Ordering.TheVariants.{Less, Equal, Greater}

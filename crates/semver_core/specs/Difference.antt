@@ -1,4 +1,4 @@
--- What kind of difference there is between two versions. A statement that a reader has to believe.
+-- Statement: what kind of difference there is between two versions.
 use Rattle.std.specs.Prelude.{◌==◌, ◌&&◌, not, ℕ, if◌then◌else◌, List, codes, Option, Some, None}
 use Rattle.std.specs.declared.cmp.Ordering.{Ordering}
 use Rattle.std.specs.declared.cmp.Ordering.TheVariants as order

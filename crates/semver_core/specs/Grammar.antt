@@ -1,4 +1,4 @@
--- Version texts. A text is divided as a whole; how a reader goes through it does not matter.
+-- Statement: version texts. A text is divided as a whole; how a reader goes through it does not matter.
 use Rattle.std.specs.Prelude.{◌≡◌, ◌==◌, if◌then◌else◌, ℕ, Bool, false, List, [], ◌∷◌, ◌++◌}
 use Rattle.semver_core.specs.Characters.{begins, is_identifier_char, IsBlank}
 use Rattle.semver_core.specs.Identifiers.{Id, IsLongestIdentifiers}

@@ -1,4 +1,4 @@
--- The least versions that `inc` answers. A statement that a reader has to believe.
+-- Statement: the least versions that `inc` answers.
 use Rattle.std.specs.Prelude.{◌≡◌, ◌<◌, ◌+◌, ◌-◌, ◌^◌, ℕ, true, false, List, [], Option, Result, Ok, Err}
 use Rattle.std.specs.declared.cmp.Ordering.TheVariants.{Less}
 use Rattle.std.specs.Ordering.{is_le}

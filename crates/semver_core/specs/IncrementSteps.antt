@@ -1,4 +1,4 @@
--- What the steps of `inc` say to one another. It serves private contracts and proofs alone.
+-- For proofs and private contracts: what the steps of `inc` say to one another.
 use Rattle.std.specs.Prelude.{◌≡◌, ℕ, List, ◌∷◌, ◌++◌, length, Option, Some, None, ⊤, false}
 use Rattle.semver_core.specs.Identifiers.{Id, Numeric}
 use Rattle.semver_core.specs.Increment.{Fault, has_numeric}

@@ -1,4 +1,4 @@
--- How the answer of `inc` is seen in what a call returns. A statement that a reader has to believe.
+-- Statement: how the answer of `inc` is seen in what a call returns.
 use Rattle.std.specs.Prelude.{◌≡◌, Result, Ok, Err, ⊤, string_bytes}
 use Rattle.semver_core.specs.Increment as spec
 use Rattle.semver_core.specs.Increment.{Fault}

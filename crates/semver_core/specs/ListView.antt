@@ -1,4 +1,4 @@
--- What a contract sees of a version's lists.
+-- For proofs and private contracts: what a contract sees of a version's lists.
 use Rattle.std.specs.Prelude.{List, [], Option, Some, None, Vec}
 use Rattle.std.specs.declared.alloc.Global.{Global}
 use Rattle.semver_core.specs.Identifiers.{Id}

@@ -1,4 +1,4 @@
--- Numbers in versions and ranges.
+-- Statement: numbers in versions and ranges.
 use Rattle.std.specs.Prelude.{◌≡◌, ◌<◌, ◌≤◌, ℕ, true, false, List, length}
 use Rattle.std.specs.Char.{is_ascii_digit}
 use Rattle.std.specs.List.{list_all}

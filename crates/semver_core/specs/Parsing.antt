@@ -1,4 +1,4 @@
--- What `parse` reads: a version text of at most 256 bytes.
+-- Statement: what `parse` reads: a version text of at most 256 bytes.
 use Rattle.std.specs.Prelude.{◌≤◌, List, ℕ, length}
 use Rattle.semver_core.specs.Grammar.{Reads}
 use Rattle.semver_core.specs.Versions.{VersionValue, HasIdentifiers}

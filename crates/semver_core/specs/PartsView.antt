@@ -1,4 +1,4 @@
--- What a contract sees of the parts of a version: the five values.
+-- Statement: what a contract sees of the parts of a version: the five values.
 use Rattle.semver_core.specs.Versions.{VersionValue}
 use Rattle.semver_core.specs.Views.{ids_view}
 use Rattle.semver_core.specs.declared.version.parts.VersionParts.{VersionParts}

@@ -1,4 +1,5 @@
--- What a reader finds at the front of a text, as a function. `laws` shows that it is what the grammar says.
+-- For proofs and private contracts: what a reader finds at the front of a text, as a function. It is proved to be what the
+-- grammar says.
 use Rattle.std.specs.Prelude.{ℕ, ◌+◌, ◌*◌, ◌==◌, ◌||◌, nat_lt, if◌then◌else◌, List, [], ◌∷◌, Option, Some, None, map, take, drop}
 use Rattle.std.specs.Char.{is_ascii_digit, digit_value}
 use Rattle.semver_core.specs.Characters.{begins, is_identifier_char}

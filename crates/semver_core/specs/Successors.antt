@@ -1,4 +1,4 @@
--- What comes next after a version. It serves proofs alone.
+-- For proofs: what comes next after a version.
 use Rattle.std.proofs.Common.{◌≡◌, ◌⊎◌, inl, inr, refl, ◌∙◌, ap, ℕ, ◌<◌, ◌≤◌, true, List, [], ◌∷◌, ◌++◌, arith}
 use Rattle.std.specs.declared.cmp.Ordering.{Ordering}
 use Rattle.std.specs.declared.cmp.Ordering.TheVariants.{Less, Equal, Greater}

@@ -1,4 +1,4 @@
--- Versions from three signed numbers.
+-- Statement: versions from three signed numbers.
 use Rattle.std.specs.Prelude.{◌≡◌, ℕ, ℤ, pos, negsuc, Option, Some, None, Result, Ok, Err}
 use Rattle.semver_core.specs.Versions.{VersionValue, release_value}
 use Rattle.semver_core.specs.declared.error.NegativeNumber.{NegativeNumber}

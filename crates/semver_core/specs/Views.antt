@@ -1,4 +1,4 @@
--- What a contract sees of the identifiers of the program.
+-- Statement: what a contract sees of the identifiers of the program.
 use Rattle.std.specs.Prelude.{ℕ, List, Option, Some, None, map, string_bytes, Vec}
 use Rattle.semver_core.specs.Identifiers.{Id, Numeric, AlphaNumeric}
 use Rattle.std.specs.declared.alloc.Global.{Global}
