@@ -1,18 +1,9 @@
-// Texts that are read and printed, with memory to spare.
+// What is printed, where no line asks: formats with a width, hand-made identifiers, and texts that are read again.
 
+use nodejs_semver::laws::{printed_ranges_come_back, reread_range};
 use nodejs_semver::{Failure, Identifier, Range, Version};
+use semver_core::laws::{printed_versions_come_back, reread};
 use std::test::Fail;
-
-#[test]
-fn a_printed_version_may_be_too_long(rt: HostRuntime) -> Result<(), Fail> {
-    let no = "";
-    let text = format!(in rt.alloc(); "1.2.3{no:b>251}")?;
-    let printed = Version::parse(rt.alloc(), &text)?.to_string(rt.alloc())?;
-    assert_eq!(rt; printed.len(), 257);
-    let read = Version::parse(rt.alloc(), &printed);
-    assert!(rt; matches!(&read, Err(Failure::Refused(_))));
-    Ok(())
-}
 
 #[test]
 fn width_and_fill_are_not_looked_at(rt: HostRuntime) -> Result<(), Fail> {
@@ -40,9 +31,37 @@ fn nor_are_they_for_ranges(rt: HostRuntime) -> Result<(), Fail> {
 fn identifiers_print(rt: HostRuntime) -> Result<(), Fail> {
     let number = Identifier::Numeric(u64::MAX).to_string(rt.alloc())?;
     assert_eq!(rt; number.as_str(), "18446744073709551615");
-    let text = Identifier::AlphaNumeric(String::from_str(rt.alloc(), "rc-1")?).to_string(
-        rt.alloc(),
-    )?;
-    assert_eq!(rt; text.as_str(), "rc-1");
+    let text = String::from_str(rt.alloc(), "a b")?;
+    let text = Identifier::AlphaNumeric(text).to_string(rt.alloc())?;
+    assert_eq!(rt; text.as_str(), "a b");
+    Ok(())
+}
+
+#[test]
+fn a_printed_version_may_be_too_long(rt: HostRuntime) -> Result<(), Fail> {
+    let no = "";
+    let text = format!(in rt.alloc(); "1.2.3{no:b>251}")?;
+    let printed = Version::parse(rt.alloc(), &text)?.to_string(rt.alloc())?;
+    assert_eq!(rt; printed.len(), 257);
+    let read = Version::parse(rt.alloc(), &printed);
+    assert!(rt; matches!(&read, Err(Failure::Refused(_))));
+    Ok(())
+}
+
+#[test]
+fn a_printed_version_is_read_again(rt: HostRuntime) -> Result<(), Fail> {
+    printed_versions_come_back("1.2.3");
+    let version = Version::from((1u64, 2u64, 3u64));
+    let again = reread(rt.alloc(), &version)?;
+    assert!(rt; version == again);
+    Ok(())
+}
+
+#[test]
+fn a_printed_range_is_read_again(rt: HostRuntime) -> Result<(), Fail> {
+    printed_ranges_come_back(">1.2.3");
+    let range = Range::parse(rt.alloc(), ">1.2.3")?;
+    let again = reread_range(rt.alloc(), &range)?;
+    assert!(rt; range == again);
     Ok(())
 }
