@@ -6,4 +6,4 @@ mod interval;
 mod order;
 
 pub use crate::cuts::bound::{Bound, Point};
-pub use crate::cuts::interval::{Interval, is_same};
+pub use crate::cuts::interval::Interval;

@@ -1,7 +1,7 @@
 // An interval: all points between two cuts.
 ghost use Rattle.std.specs.Prelude.{◌≡◌, ◌&&◌, ◌||◌, not, Option, Some, None, IfOk, true, is_some};
 ghost use Rattle.std.specs.Ordering.{is_le};
-ghost use Rattle.semver_core.specs.Cuts.{cut_cmp, lower_cut, upper_cut, interval, is_interval, holds, meet, remainders, option_holds, bound_eq};
+ghost use Rattle.semver_core.specs.Cuts.{cut_cmp, lower_cut, upper_cut, interval, is_interval, holds, meet, remainders, option_holds};
 
 use crate::cuts::bound::{Bound, Point};
 use crate::cuts::order::{
@@ -163,13 +163,6 @@ impl<V: Point> Interval<V> {
         };
         Ok((below, above))
     }
-}
-
-/// What `==` says.
-pub fn is_same<V: Point>(a: &Interval<V>, b: &Interval<V>) -> bool
-    ensures { result ≡ (bound_eq V.eq a.now.lower b.now.lower && bound_eq V.eq a.now.upper b.now.upper) }
-{
-    a == b
 }
 
 /// The interval without bounds.

@@ -1,5 +1,6 @@
 // The laws that are functions: what they give, where they give something.
 
+use nodejs_semver::cuts::Interval;
 use nodejs_semver::{Identifier, OutsideDirection, Range, Version, laws};
 use semver_core::laws as core_laws;
 use std::cmp::Ordering;
@@ -12,6 +13,8 @@ fn laws_of_versions(rt: HostRuntime) -> Result<(), Fail> {
     core_laws::one_reading("1.2.3");
     core_laws::printed_versions_come_back("1.2.3");
     assert!(rt; core_laws::constants() == (900_719_925_474_099, 256));
+    let all = Interval::<Version>::default();
+    assert!(rt; core_laws::intervals_equal(&all, &Interval::default()));
     let (one, two) = (Identifier::Numeric(1), Identifier::Numeric(2));
     assert!(rt; core_laws::identifiers_in_order(&one, &two) == (Ordering::Less, false));
     let version = Version::parse(rt.alloc(), "1.2.3+a")?;
