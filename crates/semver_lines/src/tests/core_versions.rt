@@ -3,6 +3,7 @@
 use nodejs_semver::{Failure, Identifier, NegativeNumber, SemverError, Version, VersionParts};
 use std::alloc::{AllocError, Global};
 use std::cmp::Ordering;
+use std::hash::{DefaultHasher, Hash, Hasher};
 use std::test::Fail;
 
 fn parse(alloc: Global, text: &str) -> Result<Version, Fail> {
@@ -156,5 +157,20 @@ fn messages(rt: HostRuntime) -> Result<(), Fail> {
         NegativeNumber.to_string(alloc)?.as_str(),
         "a number is negative"
     );
+    Ok(())
+}
+
+fn hash_of(version: &Version) -> u64 {
+    let mut state = DefaultHasher::new();
+    version.hash(&mut state);
+    state.finish()
+}
+
+#[test]
+fn builds_do_not_count(rt: HostRuntime) -> Result<(), Fail> {
+    let alloc = rt.alloc();
+    let (one, other) = (parse(alloc, "1.2.3-a+b")?, parse(alloc, "1.2.3-a+c")?);
+    assert!(rt; one == other && hash_of(&one) == hash_of(&other));
+    assert!(rt; one != parse(alloc, "1.2.3-b")?);
     Ok(())
 }

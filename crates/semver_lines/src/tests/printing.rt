@@ -3,6 +3,7 @@
 use nodejs_semver::laws::{printed_ranges_come_back, reread_range};
 use nodejs_semver::{Failure, Identifier, Range, Version};
 use semver_core::laws::{printed_versions_come_back, reread};
+use std::alloc::AllocError;
 use std::test::Fail;
 
 #[test]
@@ -63,5 +64,17 @@ fn a_printed_range_is_read_again(rt: HostRuntime) -> Result<(), Fail> {
     let range = Range::parse(rt.alloc(), ">1.2.3")?;
     let again = reread_range(rt.alloc(), &range)?;
     assert!(rt; range == again);
+    Ok(())
+}
+
+#[test]
+fn versions_made_by_hand_print(rt: HostRuntime) -> Result<(), Fail> {
+    let alloc = rt.alloc();
+    let pre = vec![in alloc; Identifier::Numeric(0)]?;
+    let build = vec![in alloc; Identifier::AlphaNumeric(String::from_str(alloc, "a")?)]?;
+    let version = Version::new(alloc, 1, 2, 3, pre, build).map_err(|_| AllocError)?;
+    assert_eq!(rt; version.to_string(alloc)?.as_str(), "1.2.3-0+a");
+    let version = Version::with_pre(alloc, 1, 0, 0, 7)?;
+    assert_eq!(rt; version.to_string(alloc)?.as_str(), "1.0.0-7");
     Ok(())
 }
