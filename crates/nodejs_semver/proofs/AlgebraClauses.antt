@@ -1,5 +1,5 @@
 -- What the intersection and the difference of two lists hold and accept, and that their intervals are those of a range.
-use Rattle.std.proofs.Common.{◌≡◌, sym, ◌∙◌, ap, ◌+◌, true, false, ◌&&◌, ◌||◌, not, List, Option}
+use Rattle.std.proofs.Common.{◌≡◌, refl, sym, ◌∙◌, ap, ◌+◌, true, false, ◌&&◌, ◌||◌, not, List, Option, Some, None}
 use Rattle.std.specs.List.{list_all}
 use Rattle.semver_core.specs.Cuts.{Span, list_holds, option_list_holds, meets_of, minus}
 use Rattle.semver_core.specs.Order.{precedence}
@@ -10,8 +10,13 @@ use Rattle.nodejs_semver.specs.Accepts.{is_release, accepts, option_accepts}
 use Rattle.nodejs_semver.specs.Lists.{intersection, difference}
 use Rattle.nodejs_semver.specs.RangeView.{IsRange, is_range_span, is_range_bound}
 use Rattle.nodejs_semver.proofs.AlgebraLaws.{both_accept, one_accepts, kept_accepted, accepts-release, option_accepts-if_any}
+use Rattle.nodejs_semver.proofs.Holds.{accepts-held}
 use Rattle.nodejs_semver.proofs.ListLaws.{list_holds-meets_of, list_holds-minus, option_list_holds-if_any}
 use Rattle.nodejs_semver.proofs.SpanLaws.{fine-meets_of, fine-minus}
+
+option_accepts-held : (r : Option (List (Span VersionValue))) (v : VersionValue) → option_accepts r v true ≡ option_list_holds precedence r v
+option_accepts-held None v = refl
+option_accepts-held (Some ss) v = accepts-held ss v
 
 module _ (a b : List (Span VersionValue)) (r : Option (List (Span VersionValue))) (e : r ≡ intersection a b) (v : VersionValue) where
   accepted : option_accepts r v false ≡ option_accepts (intersection a b) v false
@@ -19,6 +24,9 @@ module _ (a b : List (Span VersionValue)) (r : Option (List (Span VersionValue))
 
   pub intersection-set : option_list_holds precedence r v ≡ (list_holds precedence a v && list_holds precedence b v)
   intersection-set = ap (λ q. option_list_holds precedence q v) e ∙ option_list_holds-if_any precedence (meets_of precedence a b) v ∙ list_holds-meets_of precedence_total a b v
+
+  pub intersection-all : option_accepts r v true ≡ (accepts a v true && accepts b v true)
+  intersection-all = cc (intersection-set, option_accepts-held r v, accepts-held a v, accepts-held b v)
 
   pub intersection-both : accepts a v false ≡ true → accepts b v false ≡ true → option_accepts r v false ≡ true
   intersection-both h k = accepted ∙ both_accept a b v h k
@@ -39,6 +47,9 @@ module _ (a b : List (Span VersionValue)) (r : Option (List (Span VersionValue))
 
   pub difference-set : option_list_holds precedence r v ≡ (list_holds precedence a v && not (list_holds precedence b v))
   difference-set = ap (λ q. option_list_holds precedence q v) e ∙ option_list_holds-if_any precedence (minus precedence a b) v ∙ list_holds-minus precedence_total a b v
+
+  pub difference-all : option_accepts r v true ≡ (accepts a v true && not (accepts b v true))
+  difference-all = cc (difference-set, option_accepts-held r v, accepts-held a v, accepts-held b v)
 
   pub difference-kept : accepts a v false ≡ true → list_holds precedence b v ≡ false → option_accepts r v false ≡ true
   difference-kept h k = left_accepted ∙ kept_accepted a b v h k

@@ -39,3 +39,4 @@ pub mod Trimmed
 pub mod Bounded
 pub mod BoundedTable
 pub mod NumberFront
+pub mod Through

@@ -1,10 +1,11 @@
 //! Laws of the words that contracts speak in. Each is the contract of a function that does nothing, or hardly anything,
 //! else; no caller needs this module.
 
+pub mod headline;
 mod outside;
 mod printing;
 mod texts;
 
 pub use crate::laws::outside::outside_by_cuts;
-pub use crate::laws::printing::{printed_ranges_come_back, reread_range};
+pub use crate::laws::printing::{printed_in_field, printed_ranges_come_back, reread_range};
 pub use crate::laws::texts::{intervals_hold_what_is_written, numbers, parts, runs};

@@ -1,6 +1,6 @@
 // Printed ranges come back.
 
-ghost use Rattle.std.specs.Prelude.{◌≡◌, ⊤, IfErr, IfOk, map, true};
+ghost use Rattle.std.specs.Prelude.{◌≡◌, ⊤, IfErr, IfOk, map, string_bytes, true};
 ghost use Rattle.std.specs.List.{list_all};
 ghost use Rattle.nodejs_semver.specs.ComesBack.{RangesComeBack, is_printable, read_back};
 ghost use Rattle.nodejs_semver.specs.Printed.{range_text};
@@ -8,7 +8,7 @@ ghost use Rattle.nodejs_semver.specs.SameRange.{range_eq};
 ghost use Rattle.semver_core.specs.Parsing.{MatchFailure};
 
 use crate::{Failure, MAX_SAFE_INTEGER, Range, SemverError};
-use std::alloc::Global;
+use std::alloc::{AllocError, Global};
 
 /// Printed ranges come back: a text that is printed of one interval or more, none of which is `*`, reads as an equal range.
 /// Their versions have no number above the limit, and identifiers that their own texts spell. Builds come back too, save that
@@ -36,4 +36,16 @@ pub fn reread_range(alloc: Global, range: &Range) -> Result<Range, Failure<Semve
         Ok(text) => Range::parse(alloc, &text),
         Err(error) => Err(Failure::Memory(error)),
     }
+}
+
+/// Fill, width and precision change nothing of a printed range.
+pub fn printed_in_field(
+    alloc: Global,
+    range: &Range,
+    width: usize,
+    precision: usize,
+) -> Result<String, AllocError>
+    ensures { IfOk result (λ text. string_bytes text ≡ range_text range.now) }
+{
+    format!(in alloc; "{range:*^width$.precision$}")
 }

@@ -40,6 +40,9 @@ impl Range {
         // It holds what both hold.
         ensures set { IfOk result (λ r. (v : VersionValue) →
             option_list_holds precedence r v ≡ (list_holds precedence self.now v && list_holds precedence other.now v)) }
+        // With pre-releases included it accepts what both accept.
+        ensures all { IfOk result (λ r. (v : VersionValue) →
+            option_accepts r v true ≡ (accepts self.now v true && accepts other.now v true)) }
         // It accepts what both accept, and nothing that neither accepts.
         ensures both { IfOk result (λ r. (v : VersionValue) →
             accepts self.now v false ≡ true → accepts other.now v false ≡ true → option_accepts r v false ≡ true) }
@@ -61,6 +64,9 @@ impl Range {
         // It holds what this range holds and the other does not.
         ensures set { IfOk result (λ r. (v : VersionValue) →
             option_list_holds precedence r v ≡ (list_holds precedence self.now v && not (list_holds precedence other.now v))) }
+        // With pre-releases included it accepts what this range accepts and the other does not.
+        ensures all { IfOk result (λ r. (v : VersionValue) →
+            option_accepts r v true ≡ (accepts self.now v true && not (accepts other.now v true))) }
         // It accepts what this range accepts and the other does not hold.
         ensures kept { IfOk result (λ r. (v : VersionValue) →
             accepts self.now v false ≡ true → list_holds precedence other.now v ≡ false → option_accepts r v false ≡ true) }

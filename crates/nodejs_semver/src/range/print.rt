@@ -1,6 +1,7 @@
 // How ranges print.
 
-ghost use Rattle.std.specs.Prelude.{Some};
+ghost use Rattle.std.specs.Fmt.{DisplaysStyledOnOk, HasWrittenStyled, IsFlush};
+ghost use Rattle.std.specs.Prelude.{Some, ◌≡◌};
 ghost use Rattle.nodejs_semver.specs.Printed.{lower_text, upper_text, span_text, range_text};
 
 use crate::Range;
@@ -60,9 +61,53 @@ impl fmt::Display for Between<'_> {
     }
 }
 
+// Intervals joined by `||`.
+#[derive(Drop)]
+struct Joined<'a>(&'a [Interval<Version>]);
+
+impl fmt::Display for Joined<'_> {
+    ghost output = { λ list. Some (range_text list.0.now) };
+
+    fn fmt<W: fmt::Write>(&self, f: &mut fmt::Formatter<W>) -> fmt::Result {
+        let mut separator = "";
+        for interval in self.0 {
+            let interval = Between(interval);
+            write!(f, "{separator}{interval}")?;
+            separator = "||";
+        }
+        Ok(())
+    }
+}
+
+// A formatter as a writer of text alone: what is written through it heeds none of the formatter's options.
+#[derive(Drop)]
+struct Through<'a, W> {
+    formatter: &'a mut fmt::Formatter<W>,
+}
+
+impl<W: fmt::Write> fmt::Write for Through<'_, W> {
+    ghost write_str_gives = { λ s text t. (t.formatter.ghost_name ≡ s.formatter.ghost_name)
+        × (IsFlush s.formatter.now → HasWrittenStyled W.write_str_gives s.formatter.now text t.formatter.now) };
+
+    fn write_str(&mut self, s: &str) -> fmt::Result {
+        self.formatter.write_str(s)
+    }
+}
+
+// Writes the value as `{}` does, whatever options the formatter has.
+fn write_unstyled<D: fmt::Display + Drop, W: fmt::Write>(
+    f: &mut fmt::Formatter<W>,
+    value: D,
+) -> fmt::Result
+    ensures { DisplaysStyledOnOk W.write_str_gives f.old result (D.output value) f.new }
+{
+    let mut out = Through { formatter: f };
+    fmt::Write::write(&mut out, value)
+}
+
 /// A range prints its intervals joined by `||`, as in `>=1.2.0 <2.0.0-0||>=3.0.0-rc`. An interval prints `*` without bounds,
 /// its bound where it has one, `v` where the bounds are `>=v` and `<=w` and v equals w (the build of v is shown), and else its
-/// two bounds with a space between them. Width and fill are not looked at.
+/// two bounds with a space between them. It is the same text under each width, fill and precision.
 ///
 /// `Range::parse` reads an equal range from this text where no interval is `*` and no number is above `MAX_SAFE_INTEGER`, as
 /// `laws::printed_ranges_come_back` says. Two texts are read as other ranges. `*` is read as `>=0.0.0`. And a range may have
@@ -72,13 +117,9 @@ impl fmt::Display for Between<'_> {
 impl fmt::Display for Range {
     ghost output = { λ r. Some (range_text r) };
 
+    ghost styled_output = { λ r _. Some (range_text r) };
+
     fn fmt<W: fmt::Write>(&self, f: &mut fmt::Formatter<W>) -> fmt::Result {
-        let mut separator = "";
-        for interval in self.intervals() {
-            let interval = Between(interval);
-            write!(f, "{separator}{interval}")?;
-            separator = "||";
-        }
-        Ok(())
+        write_unstyled(f, Joined(self.intervals()))
     }
 }

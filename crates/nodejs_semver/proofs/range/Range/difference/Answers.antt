@@ -1,4 +1,4 @@
-use Rattle.nodejs_semver.proofs.AlgebraClauses.{difference-set, difference-kept, difference-releases}
+use Rattle.nodejs_semver.proofs.AlgebraClauses.{difference-set, difference-all, difference-kept, difference-releases}
 use Rattle.nodejs_semver.proofs.range.Range.difference.Goals as goal
 
 pub returns-clause-set : goal.returns-clause-set
@@ -9,3 +9,6 @@ returns-clause-kept c = difference-kept c.args.self.now c.args.other.now c.in_ok
 
 pub returns-clause-releases : goal.returns-clause-releases
 returns-clause-releases c = difference-releases c.args.self.now c.args.other.now c.in_ok-left.left c.in_ok-left.ensures
+
+pub returns-clause-all : goal.returns-clause-all
+returns-clause-all c = difference-all c.args.self.now c.args.other.now c.in_ok-left.left c.in_ok-left.ensures

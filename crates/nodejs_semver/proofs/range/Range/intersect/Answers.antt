@@ -1,4 +1,4 @@
-use Rattle.nodejs_semver.proofs.AlgebraClauses.{intersection-set, intersection-both, intersection-one, intersection-releases}
+use Rattle.nodejs_semver.proofs.AlgebraClauses.{intersection-set, intersection-all, intersection-both, intersection-one, intersection-releases}
 use Rattle.nodejs_semver.proofs.range.Range.intersect.Goals as goal
 
 pub returns-clause-set : goal.returns-clause-set
@@ -12,3 +12,6 @@ returns-clause-one c = intersection-one c.args.self.now c.args.other.now c.in_ok
 
 pub returns-clause-releases : goal.returns-clause-releases
 returns-clause-releases c = intersection-releases c.args.self.now c.args.other.now c.in_ok-found.found c.in_ok-found.ensures
+
+pub returns-clause-all : goal.returns-clause-all
+returns-clause-all c = intersection-all c.args.self.now c.args.other.now c.in_ok-found.found c.in_ok-found.ensures

@@ -4,7 +4,7 @@ use denote.Shadow.{shadow}
 use Rattle.std.specs.Fmt.{HasWritten, IsPlainFormatter}
 use Rattle.nodejs_semver.proofs.PrintedSteps.{bars_after}
 use Rattle.nodejs_semver.specs.Printed.{range_text}
-use Rattle.nodejs_semver.proofs.range.print.RangeDisplay.fmt.Given as goal
+use Rattle.nodejs_semver.proofs.range.print.JoinedDisplay.fmt.Given as goal
 
 abbrev pub invariant-loop-interval : goal.invariant-loop-interval
 invariant-loop-interval g l =

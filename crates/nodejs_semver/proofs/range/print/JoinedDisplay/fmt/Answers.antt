@@ -1,11 +1,11 @@
 use Rattle.std.proofs.Common.{refl, rules}
 use Rattle.std.proofs.Output.{has_written_append, has_written_of_eq}
 use Rattle.nodejs_semver.proofs.PrintedSteps.{range_step, bars_step}
-use Rattle.nodejs_semver.proofs.range.print.RangeDisplay.fmt.Goals as goal
+use Rattle.nodejs_semver.proofs.range.print.JoinedDisplay.fmt.Goals as goal
 
 pub loop-interval-preserved : goal.loop-interval-preserved
 loop-interval-preserved g c =
-    let list = c.intervals-interval-items.result.now in
+    let list = c.args.self.now.0.now in
     let i = c.loop-interval.interval-index in (
       search rules,
       bars_step list i c.interval-item.result c.loop-interval-test.true c.interval-item.is,

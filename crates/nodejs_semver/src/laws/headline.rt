@@ -1,0 +1,106 @@
+// The headline of this crate. It rests on the contracts of the public calls alone.
+
+ghost use Rattle.std.specs.Prelude.{◌≡◌, ◌<◌, ◌⊎◌, ◌&&◌, not, ⊤, [], length, IfErr, IfOk, OnOk, true, false};
+ghost use Rattle.nodejs_semver.specs.Accepts.{accepts, option_accepts};
+ghost use Rattle.nodejs_semver.specs.Denotes.{denotes};
+ghost use Rattle.nodejs_semver.specs.Least.{IsLeastOf};
+ghost use Rattle.nodejs_semver.specs.Written.{writes};
+ghost use Rattle.semver_core.specs.Parsing.{MatchFailure};
+ghost use Rattle.semver_core.specs.Versions.{VersionValue};
+
+use crate::{Failure, MAX_SAFE_INTEGER, Range, SemverError, Version};
+use std::alloc::Global;
+
+/// What the public calls make of two texts. No range stands for the empty set.
+#[derive(Debug, Drop)]
+pub struct Findings {
+    /// The range of the first text.
+    pub first: Range,
+    /// What both ranges have in common.
+    pub both: Option<Range>,
+    /// What the first range has and the second has not.
+    pub first_alone: Option<Range>,
+    /// The least version that the first range accepts.
+    pub least: Option<Version>,
+}
+
+/// The headline, for all texts a and b and every version: `Range::parse` accepts exactly the texts to which the word grammar
+/// gives a range. With pre-releases included a's range accepts exactly what a writes, `intersect` exactly what both texts
+/// write, and `difference` exactly what a writes and b does not, no range standing for the empty set. `min_version` is the
+/// least version that `satisfies` accepts, and none exactly where there is none.
+///
+/// `Range::satisfies_with_prerelease` answers what `accepts` says here, and `satisfies` the same with false for the flag.
+pub fn headline(alloc: Global, a: &str, b: &str) -> Result<Findings, Failure<SemverError>>
+    ensures read { OnOk result ((0 < length (denotes MAX_SAFE_INTEGER a.now)) × (0 < length (denotes MAX_SAFE_INTEGER b.now))) }
+    // The one other error is want of memory.
+    ensures refused { IfErr result (λ e.
+        MatchFailure e ((denotes MAX_SAFE_INTEGER a.now ≡ []) ⊎ (denotes MAX_SAFE_INTEGER b.now ≡ [])) ⊤) }
+    ensures first { IfOk result (λ found. (v : VersionValue) →
+        accepts found.first v true ≡ writes MAX_SAFE_INTEGER a.now v) }
+    ensures both { IfOk result (λ found. (v : VersionValue) →
+        option_accepts found.both v true ≡ (writes MAX_SAFE_INTEGER a.now v && writes MAX_SAFE_INTEGER b.now v)) }
+    ensures first_alone { IfOk result (λ found. (v : VersionValue) →
+        option_accepts found.first_alone v true ≡ (writes MAX_SAFE_INTEGER a.now v && not (writes MAX_SAFE_INTEGER b.now v))) }
+    ensures least { IfOk result (λ found. IsLeastOf (λ v. accepts (denotes MAX_SAFE_INTEGER a.now) v false) found.least) }
+{
+    let first = Range::parse(alloc, a)?;
+    let second = Range::parse(alloc, b)?;
+    let both = first.intersect(alloc, &second)?;
+    let first_alone = first.difference(alloc, &second)?;
+    let least = first.min_version(alloc)?;
+    Ok(Findings {
+        first,
+        both,
+        first_alone,
+        least,
+    })
+}
+
+/// What the public calls answer of two texts and one version.
+#[derive(Debug, Drop)]
+pub struct FindingsAt {
+    /// Whether the first range accepts the version, with pre-releases included.
+    pub in_first: bool,
+    /// The same of what both ranges have in common.
+    pub in_both: bool,
+    /// The same of what the first range has and the second has not.
+    pub in_first_alone: bool,
+    /// The least version that the first range accepts.
+    pub least: Option<Version>,
+}
+
+/// The headline at one version, in the answers of `Range::satisfies_with_prerelease`.
+pub fn headline_at(
+    alloc: Global,
+    a: &str,
+    b: &str,
+    version: &Version,
+) -> Result<FindingsAt, Failure<SemverError>>
+    ensures read { OnOk result ((0 < length (denotes MAX_SAFE_INTEGER a.now)) × (0 < length (denotes MAX_SAFE_INTEGER b.now))) }
+    ensures refused { IfErr result (λ e.
+        MatchFailure e ((denotes MAX_SAFE_INTEGER a.now ≡ []) ⊎ (denotes MAX_SAFE_INTEGER b.now ≡ [])) ⊤) }
+    ensures first { IfOk result (λ found. found.in_first ≡ writes MAX_SAFE_INTEGER a.now version.now) }
+    ensures both { IfOk result (λ found.
+        found.in_both ≡ (writes MAX_SAFE_INTEGER a.now version.now && writes MAX_SAFE_INTEGER b.now version.now)) }
+    ensures first_alone { IfOk result (λ found.
+        found.in_first_alone ≡ (writes MAX_SAFE_INTEGER a.now version.now && not (writes MAX_SAFE_INTEGER b.now version.now))) }
+    ensures least { IfOk result (λ found. IsLeastOf (λ v. accepts (denotes MAX_SAFE_INTEGER a.now) v false) found.least) }
+{
+    let found = headline(alloc, a, b)?;
+    Ok(FindingsAt {
+        in_first: found.first.satisfies_with_prerelease(version, true),
+        in_both: is_in(&found.both, version),
+        in_first_alone: is_in(&found.first_alone, version),
+        least: found.least,
+    })
+}
+
+// Whether there is a range that accepts the version, with pre-releases included.
+fn is_in(range: &Option<Range>, version: &Version) -> bool
+    ensures { result ≡ option_accepts range.now version.now true }
+{
+    match range {
+        None => false,
+        Some(range) => range.satisfies_with_prerelease(version, true),
+    }
+}
