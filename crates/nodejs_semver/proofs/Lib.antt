@@ -20,6 +20,10 @@ pub mod RunsDivide
 pub mod Holds
 pub mod BarsDivide
 pub mod NumberLaw
+pub mod PartialLaw
+pub mod LongestLaw
+pub mod WordLaw
+pub mod MeaningLaw
 pub mod Keys
 pub mod LeastPieces
 pub mod LeastOf

@@ -8,7 +8,7 @@ use Rattle.nodejs_semver.specs.Fronts.{partial_front}
 use Rattle.nodejs_semver.proofs.Reaches.{reaches, second-same}
 use Rattle.nodejs_semver.proofs.SoundPartial.{sound}
 
-option-cases : {A : Type 0} (o : Option A) → (o ≡ None) ⊎ (x : A) × (o ≡ Some x)
+pub option-cases : {A : Type 0} (o : Option A) → (o ≡ None) ⊎ (x : A) × (o ≡ Some x)
 option-cases None = inl refl
 option-cases (Some x) = inr (x, refl)
 

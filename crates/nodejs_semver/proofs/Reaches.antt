@@ -227,14 +227,14 @@ run-quiet t more some h = go (drop (length (take_while is_ascii_digit t)) t) ref
     go (c ∷ rest) e =
         quiet-before (take_while is_ascii_digit t) (c ∷ (rest ++ more)) (sym (ap (λ (x : List ℕ). begins_digit x) e) ∙ run-stops t)
 
-third-whole : (t : List ℕ) → t ≡ third t ++ drop (length (third t)) t
+pub third-whole : (t : List ℕ) → t ≡ third t ++ drop (length (third t)) t
 third-whole [] = refl
 third-whole (b ∷ rest) = elim (cases_Bool (is_wildcard b)) [
   | inl wild ↦ rw wild refl
   | inr other ↦ rw other (sym (take_while-drop is_ascii_digit (b ∷ rest)))
 ]
 
-third-quiet : (t more : List ℕ) → 0 < length (third t) → Quiet t more → Quiet (third t) (drop (length (third t)) t ++ more)
+pub third-quiet : (t more : List ℕ) → 0 < length (third t) → Quiet t more → Quiet (third t) (drop (length (third t)) t ++ more)
 third-quiet [] more some h = absurd (omega arith)
 third-quiet (b ∷ rest) more some h = elim (cases_Bool (is_wildcard b)) [
   | inl wild ↦ rw wild (rw (wildcard-no_digit b wild) refl)

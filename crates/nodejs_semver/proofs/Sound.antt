@@ -33,7 +33,7 @@ pub record Component (limit : ℕ) (x c r : List ℕ) (v : Option ℕ) : Type 0 
   pub quiet : Quiet c r
   pub begins : begins_component c ≡ true
 
-digits-dotless : (run : List ℕ) → list_all is_ascii_digit run ≡ true → after_dot run ≡ None
+pub digits-dotless : (run : List ℕ) → list_all is_ascii_digit run ≡ true → after_dot run ≡ None
 digits-dotless [] h = refl
 digits-dotless (b ∷ rest) h =
     rw (digit-no_dot b (and-left (is_ascii_digit b) (list_all is_ascii_digit rest) h)) (digits-dotless rest (and-right (is_ascii_digit b) (list_all is_ascii_digit rest) h))
@@ -41,12 +41,12 @@ digits-dotless (b ∷ rest) h =
     digit-no_dot : (b : ℕ) → is_ascii_digit b ≡ true → is_dot b ≡ false
     digit-no_dot b h = grind (arith, nat_tests)
 
-digits-no_wild : (run : List ℕ) → list_all is_ascii_digit run ≡ true → wildcard_of run ≡ false
+pub digits-no_wild : (run : List ℕ) → list_all is_ascii_digit run ≡ true → wildcard_of run ≡ false
 digits-no_wild [] h = refl
 digits-no_wild (b ∷ []) h = digit-no_wildcard b (and-left (is_ascii_digit b) true h)
 digits-no_wild (b ∷ c ∷ rest) h = refl
 
-digits-begin : (run : List ℕ) → is_empty run ≡ false → list_all is_ascii_digit run ≡ true → begins_component run ≡ true
+pub digits-begin : (run : List ℕ) → is_empty run ≡ false → list_all is_ascii_digit run ≡ true → begins_component run ≡ true
 digits-begin [] h k = cc h
 digits-begin (b ∷ rest) h k =
     let d = and-left (is_ascii_digit b) (list_all is_ascii_digit rest) k in
@@ -125,7 +125,7 @@ no_plus b h = grind (arith, nat_tests)
 dot-no_plus : (b : ℕ) → is_dot b ≡ true → is_plus b ≡ false
 dot-no_plus b h = grind (arith, nat_tests)
 
-plusless : (text : List ℕ) → carries_on text ≡ true → (from_plus text ≡ []) × (before_plus text ≡ text)
+pub plusless : (text : List ℕ) → carries_on text ≡ true → (from_plus text ≡ []) × (before_plus text ≡ text)
 plusless [] h = (refl, refl)
 plusless (b ∷ rest) h = elim (cases_Bool (is_dot b)) [
   | inl dot ↦
@@ -264,7 +264,7 @@ build-read y = elim (cases_Bool (begins_byte 43 y && begins_identifier (drop 1 y
         )
 
 -- a text with no plus before a plus
-plus-cut : (p z : List ℕ) → from_plus p ≡ [] → (before_plus (p ++ (43 ∷ z)) ≡ p) × (from_plus (p ++ (43 ∷ z)) ≡ 43 ∷ z)
+pub plus-cut : (p z : List ℕ) → from_plus p ≡ [] → (before_plus (p ++ (43 ∷ z)) ≡ p) × (from_plus (p ++ (43 ∷ z)) ≡ 43 ∷ z)
 plus-cut [] z h = (refl, refl)
 plus-cut (b ∷ p) z h = elim (cases_Bool (is_plus b)) [
   | inl plus ↦ cc (rw plus at h)
@@ -279,7 +279,7 @@ pub record QualifierRead (x q left : List ℕ) (r : List Id × List Id) : Type 0
   pub is : qualifier_of q ≡ Some r
   pub quiet : Quiet q left
 
-made : (q p b : List ℕ) (l m : List Id) → before_plus q ≡ p → from_plus q ≡ b → pre_release_of p ≡ Some l → build_of b ≡ Some m
+pub made : (q p b : List ℕ) (l m : List Id) → before_plus q ≡ p → from_plus q ≡ b → pre_release_of p ≡ Some l → build_of b ≡ Some m
     → qualifier_of q ≡ Some (l, m)
 made q p b l m e f g h = rw (e, f, g, h) refl
 

@@ -25,16 +25,16 @@ before_dot-whole (b ∷ rest) h = elim (cases_Bool (is_dot b)) [
 ]
 
 -- a text of one component, and a component before a dot
-one-component : (limit : ℕ) (c : List ℕ) (v : Option ℕ) → component_of limit c ≡ Some v → after_dot c ≡ None → components_of limit c ≡ minor_after limit v None
+pub one-component : (limit : ℕ) (c : List ℕ) (v : Option ℕ) → component_of limit c ≡ Some v → after_dot c ≡ None → components_of limit c ≡ minor_after limit v None
 one-component limit c v h d = rw (before_dot-whole c d, h, d) refl
 
-component-dot : (limit : ℕ) (c t : List ℕ) (v : Option ℕ) → component_of limit c ≡ Some v → after_dot c ≡ None → components_of limit (c ++ (46 ∷ t)) ≡ minor_after limit v (Some t)
+pub component-dot : (limit : ℕ) (c t : List ℕ) (v : Option ℕ) → component_of limit c ≡ Some v → after_dot c ≡ None → components_of limit (c ++ (46 ∷ t)) ≡ minor_after limit v (Some t)
 component-dot limit c t v h d = rw (before_dot-cut c t d, h, after_dot-cut c t d) refl
 
-one-minor : (limit : ℕ) (a v : Option ℕ) (c : List ℕ) → component_of limit c ≡ Some v → after_dot c ≡ None → minor_after limit a (Some c) ≡ patch_after limit a v None
+pub one-minor : (limit : ℕ) (a v : Option ℕ) (c : List ℕ) → component_of limit c ≡ Some v → after_dot c ≡ None → minor_after limit a (Some c) ≡ patch_after limit a v None
 one-minor limit a v c h d = rw (before_dot-whole c d, h, d) refl
 
-minor-dot : (limit : ℕ) (a v : Option ℕ) (c t : List ℕ) → component_of limit c ≡ Some v → after_dot c ≡ None → minor_after limit a (Some (c ++ (46 ∷ t))) ≡ patch_after limit a v (Some t)
+pub minor-dot : (limit : ℕ) (a v : Option ℕ) (c t : List ℕ) → component_of limit c ≡ Some v → after_dot c ≡ None → minor_after limit a (Some (c ++ (46 ∷ t))) ≡ patch_after limit a v (Some t)
 minor-dot limit a v c t h d = rw (before_dot-cut c t d, h, after_dot-cut c t d) refl
 
 -- the third component of a text that begins with it
@@ -57,7 +57,7 @@ third-cut limit c q v h quiet = elim (cases_Bool (wildcard_of c)) [
       third-digits c q is.some is.digits stop
 ]
 
-patch-third : (limit : ℕ) (a b v : Option ℕ) (c q : List ℕ) (r : List Id × List Id) → component_of limit c ≡ Some v → Quiet c q → qualifier_of q ≡ Some r
+pub patch-third : (limit : ℕ) (a b v : Option ℕ) (c q : List ℕ) (r : List Id × List Id) → component_of limit c ≡ Some v → Quiet c q → qualifier_of q ≡ Some r
     → patch_after limit a b (Some (c ++ q)) ≡ Some (record { major = a; minor = b; patch = v; pre_release = r.0; build = r.1 })
 patch-third limit a b v c q r h quiet k =
     let t = third-cut limit c q v h quiet in
@@ -87,7 +87,7 @@ pub record Parted (limit : ℕ) (x s left : List ℕ) (p : Partial) : Type 0 whe
   pub quiet : Quiet s left
   pub begins : begins_component s ≡ true
 
-begins-longer : (c t : List ℕ) → begins_component c ≡ true → begins_component (c ++ t) ≡ true
+pub begins-longer : (c t : List ℕ) → begins_component c ≡ true → begins_component (c ++ t) ≡ true
 begins-longer [] t h = cc h
 begins-longer (b ∷ c) t h = h
 
@@ -147,10 +147,10 @@ begins-small b h = grind (arith, nat_tests)
 begins-no_space : (b : ℕ) → (is_wildcard b || is_ascii_digit b) ≡ true → is_whitespace b ≡ false
 begins-no_space b h = grind (arith, nat_tests)
 
-begins-no_v : (b : ℕ) → (is_wildcard b || is_ascii_digit b) ≡ true → (b == 118) ≡ false
+pub begins-no_v : (b : ℕ) → (is_wildcard b || is_ascii_digit b) ≡ true → (b == 118) ≡ false
 begins-no_v b h = grind (arith, nat_tests)
 
-blank : (b : ℕ) → (is_wildcard b || is_ascii_digit b) ≡ true → (t : List ℕ) → space_len (b ∷ t) ≡ 0
+pub blank : (b : ℕ) → (is_wildcard b || is_ascii_digit b) ≡ true → (t : List ℕ) → space_len (b ∷ t) ≡ 0
 unfolding space_len
 blank b h t = rw (lt-ltb b 128 (begins-small b h), begins-no_space b h) refl
 
@@ -171,7 +171,7 @@ drop_v-again (b ∷ u) lead c w y h k = elim (cases_Bool (b == 118)) [
         let plain : (l == 118) ≡ false = subst (λ (x : ℕ). (x == 118) ≡ false) head other in
         rw plain refl
 
-nonempty : (s : List ℕ) → begins_component s ≡ true → (c : ℕ) × (y : List ℕ) × (s ≡ c ∷ y) × ((is_wildcard c || is_ascii_digit c) ≡ true)
+pub nonempty : (s : List ℕ) → begins_component s ≡ true → (c : ℕ) × (y : List ℕ) × (s ≡ c ∷ y) × ((is_wildcard c || is_ascii_digit c) ≡ true)
 nonempty [] h = cc h
 nonempty (c ∷ y) h = (c, y, refl, h)
 

@@ -7,7 +7,7 @@ use Rattle.semver_core.specs.Spaces.{space_len}
 use Rattle.semver_core.proofs.SpaceLaw.{FrontIsFirstCharacter_lem}
 use Rattle.semver_core.proofs.Spaces.{space_len-nil}
 
-dark-starts : (characters : List ℕ) → begins is_whitespace characters ≡ false → space_len (encode_utf8_all characters) ≡ 0
+pub dark-starts : (characters : List ℕ) → begins is_whitespace characters ≡ false → space_len (encode_utf8_all characters) ≡ 0
 dark-starts [] h = space_len-nil
 dark-starts (c ∷ rest) h =
     FrontIsFirstCharacter_lem c (encode_utf8_all rest) ∙ ap (λ (b : Bool). if b then len_utf8 c else 0) h

@@ -12,6 +12,10 @@ pub mod Runs
 pub mod Denotes
 pub mod Written
 pub mod RangeLaws
+pub mod PartialText
+pub mod LongestText
+pub mod WordText
+pub mod RangeText
 pub mod Fronts
 pub mod PartFronts
 pub mod Meets

@@ -1,6 +1,10 @@
 // What is said of range texts.
 
+ghost use Rattle.nodejs_semver.specs.LongestText.{LongestPartialsAreRead};
+ghost use Rattle.nodejs_semver.specs.PartialText.{PartialsAreWritten};
 ghost use Rattle.nodejs_semver.specs.RangeLaws.{BarsDivide, BarsDivideOnce, IntervalsHoldWritten, NumbersAreWritten, RunsDivide, RunsDivideOnce};
+ghost use Rattle.nodejs_semver.specs.RangeText.{OneMeaning};
+ghost use Rattle.nodejs_semver.specs.WordText.{WordsAreRead};
 
 /// A range text has one division at its bars: pieces whose joining by `||` is the text, of which none contains `||` and only
 /// the last may end in `|`. So `1|||2` has the pieces `1` and `|2`.
@@ -21,8 +25,30 @@ pub fn numbers()
     ensures { NumbersAreWritten }
 {}
 
+/// A text is a partial where it is a `v` or nothing, whitespace or none and one to three components joined by dots, with a
+/// pre-release and a build behind the third, as versions have them. The numbers have the limit as a parameter.
+pub fn partials()
+    ensures { PartialsAreWritten }
+{}
+
+/// At the front of a text the longest partial is read: one that cuts no run of digits, of which none at the front is longer.
+pub fn longest_partials()
+    ensures { LongestPartialsAreRead }
+{}
+
+/// The word at the front of a text is one of the forms, or a malformed word where none of them stands there.
+pub fn words_at()
+    ensures { WordsAreRead }
+{}
+
 /// With pre-releases included, the intervals of a range text hold exactly the versions that the text writes: those that pass,
 /// for some one run, all comparisons of its words.
 pub fn intervals_hold_what_is_written()
     ensures { IntervalsHoldWritten }
+{}
+
+/// A range text has one meaning: it is cut at its bars, each piece is trimmed and read as words, and the bounds of these are
+/// divided into runs, whose intervals stand one after another. A text of whitespace and bars alone means every version.
+pub fn one_meaning()
+    ensures { OneMeaning }
 {}

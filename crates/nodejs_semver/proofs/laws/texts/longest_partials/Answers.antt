@@ -1,0 +1,5 @@
+use Rattle.nodejs_semver.proofs.LongestLaw.{longest_are}
+use Rattle.nodejs_semver.proofs.laws.texts.longest_partials.Goals as goal
+
+pub returns : goal.returns
+returns c = longest_are

@@ -1,0 +1,5 @@
+use Rattle.nodejs_semver.proofs.MeaningLaw.{one_meaning}
+use Rattle.nodejs_semver.proofs.laws.texts.one_meaning.Goals as goal
+
+pub returns : goal.returns
+returns c = one_meaning

@@ -1,0 +1,5 @@
+use Rattle.nodejs_semver.proofs.PartialLaw.{partials_are}
+use Rattle.nodejs_semver.proofs.laws.texts.partials.Goals as goal
+
+pub returns : goal.returns
+returns c = partials_are

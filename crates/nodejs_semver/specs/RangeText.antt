@@ -1,0 +1,47 @@
+-- Statement. What a range text means, as a relation of which denotes computes the one solution.
+use Rattle.std.specs.Prelude.{◌≡◌, ◌↔◌, ℕ, List, [], ◌∷◌, ◌++◌, map, filter_map, IsUtf8}
+use Rattle.std.specs.List.{AllByRecursion}
+use Rattle.semver_core.specs.Characters.{IsBlank, IsTrim}
+use Rattle.semver_core.specs.Cuts.{Span}
+use Rattle.semver_core.specs.Order.{precedence}
+use Rattle.semver_core.specs.Versions.{VersionValue}
+use Rattle.nodejs_semver.specs.Denotes.{denotes}
+use Rattle.nodejs_semver.specs.RangeLaws.{IsCutAtBars}
+use Rattle.nodejs_semver.specs.RangeView.{any_version}
+use Rattle.nodejs_semver.specs.Runs.{AreRuns, Run, interval_of}
+use Rattle.nodejs_semver.specs.Table.{bounds_of}
+use Rattle.nodejs_semver.specs.WordText.{IsWordAt, SkipsBlank}
+use Rattle.nodejs_semver.specs.Words.{Word}
+
+-- the words of a part, from the left, without the whitespace behind each
+pub data AreWords (limit : ℕ) : List ℕ → List Word → Type 0 where
+  no_word : AreWords limit [] []
+  next_word : (b : ℕ) (text behind next : List ℕ) (word : Word) (others : List Word) → IsWordAt limit (b ∷ text) word behind
+      → SkipsBlank behind next → AreWords limit next others → AreWords limit (b ∷ text) (word ∷ others)
+
+-- the intervals of what stands between bars: of the part in it, the words' bounds, divided into runs
+pub record AreIntervals (limit : ℕ) (piece : List ℕ) (list : List (Span VersionValue)) : Type 0 where
+  pub part : List ℕ
+  pub words : List Word
+  pub runs : List (Run VersionValue)
+  pub trimmed : IsTrim piece part
+  pub read : AreWords limit part words
+  pub divided : AreRuns precedence (filter_map (bounds_of limit) words) runs
+  pub spanned : list ≡ map (interval_of precedence) runs
+
+-- the intervals of all pieces, one piece after another
+pub data AreAllIntervals (limit : ℕ) : List (List ℕ) → List (Span VersionValue) → Type 0 where
+  no_piece : AreAllIntervals limit [] []
+  next_piece : (piece : List ℕ) (pieces : List (List ℕ)) (list others : List (Span VersionValue)) → AreIntervals limit piece list
+      → AreAllIntervals limit pieces others → AreAllIntervals limit (piece ∷ pieces) (list ++ others)
+
+-- the text means these intervals: every version where no piece has a part, and else those of its pieces
+pub record Means (limit : ℕ) (text : List ℕ) (list : List (Span VersionValue)) : Type 0 where
+  pub pieces : List (List ℕ)
+  pub cut : IsCutAtBars text pieces
+  pub where_blank : AllByRecursion IsBlank pieces → list ≡ any_version
+  pub elsewhere : (AllByRecursion IsBlank pieces → ⊥) → AreAllIntervals limit pieces list
+
+-- a text has one meaning, and it is what the text denotes
+abbrev pub OneMeaning : Type 0
+OneMeaning = (limit : ℕ) (text : List ℕ) (list : List (Span VersionValue)) → IsUtf8 text → (denotes limit text ≡ list) ↔ Means limit text list
