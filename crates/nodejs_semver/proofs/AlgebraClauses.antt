@@ -1,7 +1,12 @@
 -- What the intersection and the difference of two lists hold and accept, and that their intervals are those of a range.
+<<<<<<< ours
 use Rattle.std.proofs.Common.{◌≡◌, refl, sym, ◌∙◌, ap, ◌+◌, true, false, ◌&&◌, ◌||◌, not, List, Option, Some, None}
+=======
+use Rattle.std.proofs.Common.{◌≡◌, refl, sym, ◌∙◌, ap, ℕ, ◌+◌, true, false, ◌&&◌, ◌||◌, not, List, [], ◌∷◌, Option}
+use Rattle.std.specs.Cmp.{first_so, second_so}
+>>>>>>> theirs
 use Rattle.std.specs.List.{list_all}
-use Rattle.semver_core.specs.Cuts.{Span, list_holds, option_list_holds, meets_of, minus}
+use Rattle.semver_core.specs.Cuts.{Span, is_interval, list_holds, option_list_holds, meets_of, minus}
 use Rattle.semver_core.specs.Order.{precedence}
 use Rattle.semver_core.specs.OrderLaws.{precedence_total}
 use Rattle.semver_core.specs.Versions.{VersionValue}
@@ -73,3 +78,12 @@ minus-valid a b xs ys left h k p q e =
     ap (λ zs. list_all (is_range_span (MAX_SAFE_INTEGER + 1)) zs) e
     ∙ fine-minus precedence (is_range_bound (MAX_SAFE_INTEGER + 1)) xs ys
     (ap (λ zs. list_all (is_range_span (MAX_SAFE_INTEGER + 1)) zs) p ∙ h.each) (ap (λ zs. list_all (is_range_span (MAX_SAFE_INTEGER + 1)) zs) q ∙ k.each)
+
+-- the spans of a range are intervals
+all_intervals : (n : ℕ) (ss : List (Span VersionValue)) → list_all (is_range_span n) ss ≡ true → list_all (is_interval precedence) ss ≡ true
+all_intervals n [] h = refl
+all_intervals n (s ∷ ss) h =
+    ap (λ q. q && list_all (is_interval precedence) ss) (first_so _ _ (first_so _ _ h)) ∙ all_intervals n ss (second_so _ _ h)
+
+pub range-intervals : (a xs : List (Span VersionValue)) → IsRange MAX_SAFE_INTEGER a → xs ≡ a → list_all (is_interval precedence) xs ≡ true
+range-intervals a xs h e = ap (λ l. list_all (is_interval precedence) l) e ∙ all_intervals (MAX_SAFE_INTEGER + 1) a h.each

@@ -1,4 +1,5 @@
 pub mod ListLaws
+pub mod Differences
 pub mod GateLaws
 pub mod AlgebraLaws
 pub mod SpanLaws

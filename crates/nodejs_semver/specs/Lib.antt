@@ -3,6 +3,7 @@ pub mod Accepts
 pub mod SameRange
 pub mod SameLaws
 pub mod Lists
+pub mod Along
 pub mod RangeExamples
 pub mod Parts
 pub mod Partials

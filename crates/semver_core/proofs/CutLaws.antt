@@ -4,6 +4,7 @@ use Rattle.std.specs.declared.cmp.Ordering.{Ordering}
 use Rattle.std.specs.declared.cmp.Ordering.TheVariants.{Less, Equal, Greater}
 use Rattle.std.specs.Ordering.{ordering_reverse, is_lt, is_le, is_gt, on, then_cmp}
 use Rattle.std.specs.Cmp.{IsTotalOrder, upto, on_total, then_total, nat_cmp_total}
+use Rattle.semver_core.specs.Clips.{clip}
 use Rattle.semver_core.specs.Cuts.{Side, Near, side_cmp, side_index, Cut, Start, Beside, End, cut_cmp, is_past, lower_cut, upper_cut, Span, is_interval, interval, holds, greater_lower, lesser_upper, meet, left_below, left_above, remainders, option_holds}
 use Rattle.semver_core.specs.declared.cuts.bound.Bound.{Bound}
 use Rattle.semver_core.specs.declared.cuts.bound.Bound.TheVariants.{Unbounded, Before, After}
@@ -109,6 +110,9 @@ regroup false b c d = refl
 regroup true true c d = grind arith
 regroup true false c d = refl
 
+regroup_swapped : (a b c d : Bool) → ((c && a) && not (b || d)) ≡ ((a && not b) && (c && not d))
+regroup_swapped a b c d = grind arith
+
 apart : (x y : Bool) → (x && y) ≡ false → x ≡ (x && not y)
 apart true y h = sym (ap not h)
 apart false y h = refl
@@ -175,6 +179,14 @@ module _ {V : Type 0} {R : V → V → Ordering} (o : IsTotalOrder R) where
       ∙ ap (λ x. x && not (is_past R (upper_cut (lesser_upper R s.upper t.upper)) v)) (is_past-greater_lower s.lower t.lower v)
       ∙ ap (λ x. (is_past R (lower_cut s.lower) v && is_past R (lower_cut t.lower) v) && not x) (is_past-lesser_upper s.upper t.upper v)
       ∙ regroup (is_past R (lower_cut s.lower) v) (is_past R (upper_cut s.upper) v) (is_past R (lower_cut t.lower) v) (is_past R (upper_cut t.upper) v)
+
+  -- and so with the bounds of the first
+  pub option_holds-clip : (s t : Span V) (v : V) → option_holds R (clip R s t) v ≡ (holds R s v && holds R t v)
+  option_holds-clip s t v =
+      option_holds-interval _ v
+      ∙ ap (λ x. x && not (is_past R (upper_cut (lesser_upper R s.upper t.upper)) v)) (is_past-greater_lower t.lower s.lower v)
+      ∙ ap (λ x. (is_past R (lower_cut t.lower) v && is_past R (lower_cut s.lower) v) && not x) (is_past-lesser_upper s.upper t.upper v)
+      ∙ regroup_swapped (is_past R (lower_cut s.lower) v) (is_past R (upper_cut s.upper) v) (is_past R (lower_cut t.lower) v) (is_past R (upper_cut t.upper) v)
 
   -- what is left below is past the lower cut of the first, and not past that of the second
   option_holds-left_below : (s t : Span V) (v : V) → option_holds R (left_below R s t) v ≡ (is_past R (lower_cut s.lower) v && not (is_past R (lower_cut t.lower) v))

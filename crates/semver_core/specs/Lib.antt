@@ -17,6 +17,7 @@ pub mod Parsing
 pub mod Normal
 pub mod PrintedRows
 pub mod Cuts
+pub mod Clips
 pub mod Increment
 pub mod IncrementView
 pub mod IncrementSteps

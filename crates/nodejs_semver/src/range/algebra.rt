@@ -9,7 +9,7 @@ ghost use Rattle.nodejs_semver.specs.Accepts.{accepts, option_accepts, is_releas
 ghost use Rattle.nodejs_semver.specs.Lists.{intersection, difference, covers_one};
 
 use crate::Range;
-use crate::range::{copy_intervals, lists};
+use crate::range::lists;
 use std::alloc::{AllocError, Global};
 
 impl Range {
@@ -95,8 +95,7 @@ impl Range {
     fn rest(&self, alloc: Global, other: &Range) -> Result<Option<Range>, AllocError>
         ensures { IfOk result (λ r. r ≡ difference self.now other.now) }
     {
-        let these = copy_intervals(alloc, self.intervals())?;
-        let left = lists::differences(alloc, these, other.intervals())?;
+        let left = lists::differences(alloc, self.intervals(), other.intervals())?;
         Ok(Range::from_intervals(left))
     }
 }

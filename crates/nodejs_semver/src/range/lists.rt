@@ -1,9 +1,12 @@
 // Lists of intervals: what two of them have in common, and what one leaves of another.
 
-ghost use Rattle.std.specs.Prelude.{◌≡◌, ◌++◌, IfOk, OnOk, is_some};
-ghost use Rattle.std.specs.List.{flat_map, list_any};
+ghost use Rattle.std.specs.Prelude.{◌≡◌, [], ◌∷◌, ◌++◌, IfOk, OnOk, is_some, true};
+ghost use Rattle.std.specs.List.{flat_map, list_all, list_any};
 ghost use Rattle.std.specs.Option.{option_to_list};
-ghost use Rattle.semver_core.specs.Cuts.{meet, meets_of, minus, remainder};
+ghost use Rattle.semver_core.specs.Clips.{clip};
+ghost use Rattle.semver_core.specs.Cuts.{Start, is_interval, meet, meets_of, minus, remainder};
+ghost use Rattle.semver_core.specs.declared.cuts.bound.Bound.TheVariants.{Unbounded};
+ghost use Rattle.nodejs_semver.specs.Along.{IsAlong};
 ghost use Rattle.nodejs_semver.specs.Lists.{covers};
 
 use semver_core::cuts::{Interval, Point};
@@ -24,18 +27,21 @@ pub(crate) fn intersections<V: Point>(
     Ok(found)
 }
 
-/// What is left of these intervals when the others are taken away one after another.
+/// What is left of these intervals when the others are taken away one after another. It is what of each of them lies
+/// within what the others leave of the whole line.
 pub(crate) fn differences<V: Point>(
     alloc: Global,
-    these: Vec<Interval<V>>,
+    these: &[Interval<V>],
     others: &[Interval<V>],
 ) -> Result<Vec<Interval<V>>, AllocError>
-    ensures { IfOk result (λ r. r.items ≡ minus V.cmp these.items others.now) }
+    requires { list_all (is_interval V.cmp) these.now ≡ true }
+    ensures { IfOk result (λ r. r.items ≡ minus V.cmp these.now others.now) }
 {
-    let mut left = these;
-    for other in others {
-        left = remainders_by(alloc, &left, other)?;
+    if let [other] = others {
+        return remainders_by(alloc, these, other);
     }
+    let gaps = gaps(alloc, others)?;
+    let left = clips(alloc, these, &gaps)?;
     Ok(left)
 }
 
@@ -68,6 +74,35 @@ fn push_meets<V: Point>(
     Ok(())
 }
 
+// What the intervals leave of the whole line, in order along it.
+fn gaps<V: Point>(alloc: Global, intervals: &[Interval<V>]) -> Result<Vec<Interval<V>>, AllocError>
+    ensures { IfOk result (λ r. r.items ≡ minus V.cmp (record { lower = Unbounded; upper = Unbounded } ∷ []) intervals.now) }
+{
+    if intervals.len() < 4 {
+        return few_gaps(alloc, intervals);
+    }
+    let (front, back) = intervals.split_at(intervals.len() / 2);
+    let before = gaps(alloc, front)?;
+    let after = gaps(alloc, back)?;
+    let left = clips(alloc, &before, &after)?;
+    Ok(left)
+}
+
+// The same, the intervals taken away one after another.
+fn few_gaps<V: Point>(
+    alloc: Global,
+    intervals: &[Interval<V>],
+) -> Result<Vec<Interval<V>>, AllocError>
+    ensures { IfOk result (λ r. r.items ≡ minus V.cmp (record { lower = Unbounded; upper = Unbounded } ∷ []) intervals.now) }
+{
+    let mut left = Vec::new(alloc);
+    left.push(Interval::default())?;
+    for interval in intervals {
+        left = remainders_by(alloc, &left, interval)?;
+    }
+    Ok(left)
+}
+
 // What is left of each interval below and above one other.
 fn remainders_by<V: Point>(
     alloc: Global,
@@ -83,6 +118,44 @@ fn remainders_by<V: Point>(
         push_part(&mut left, above)?;
     }
     Ok(left)
+}
+
+// What of each interval lies within each of the pieces, which stand in order along the line.
+fn clips<V: Point>(
+    alloc: Global,
+    these: &[Interval<V>],
+    pieces: &[Interval<V>],
+) -> Result<Vec<Interval<V>>, AllocError>
+    requires { IsAlong V.cmp Start pieces.now }
+    ensures { IfOk result (λ r. r.items ≡ flat_map (λ s. flat_map (λ t. option_to_list (clip V.cmp s t)) pieces.now) these.now) }
+{
+    let mut found = Vec::new(alloc);
+    for interval in these {
+        push_clips(alloc, &mut found, interval, pieces)?;
+    }
+    Ok(found)
+}
+
+// Puts what of one interval lies within each of the pieces at the end. Those that do so stand together.
+fn push_clips<V: Point>(
+    alloc: Global,
+    parts: &mut Vec<Interval<V>>,
+    interval: &Interval<V>,
+    pieces: &[Interval<V>],
+) -> Result<(), AllocError>
+    requires { IsAlong V.cmp Start pieces.now }
+    ensures { OnOk result (parts.new.items ≡ parts.old.items ++ flat_map (λ t. option_to_list (clip V.cmp interval.now t)) pieces.now) }
+{
+    let first = pieces.partition_point(|piece| !piece.reaches(interval));
+    let (_, near) = pieces.split_at(first);
+    for piece in near {
+        let part = interval.clip(alloc, piece)?;
+        if part.is_none() {
+            return Ok(());
+        }
+        push_part(parts, part)?;
+    }
+    Ok(())
 }
 
 // Puts a part at the end, if there is one.

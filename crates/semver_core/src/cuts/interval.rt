@@ -1,7 +1,8 @@
 // An interval: all points between two cuts.
 ghost use Rattle.std.specs.Prelude.{◌≡◌, ◌&&◌, ◌||◌, not, Option, Some, None, IfOk, true, is_some};
-ghost use Rattle.std.specs.Ordering.{is_le};
+ghost use Rattle.std.specs.Ordering.{is_le, is_lt};
 ghost use Rattle.semver_core.specs.Cuts.{cut_cmp, lower_cut, upper_cut, interval, is_interval, holds, meet, remainders, option_holds};
+ghost use Rattle.semver_core.specs.Clips.{clip};
 
 use crate::cuts::bound::{Bound, Point};
 use crate::cuts::order::{
@@ -87,6 +88,13 @@ impl<V: Point> Interval<V> {
             && upper_order(&other.upper, &self.upper).is_le()
     }
 
+    /// Whether the interval ends above the place where the other one begins.
+    pub fn reaches(&self, other: &Interval<V>) -> bool
+        ensures { result ≡ is_lt (cut_cmp V.cmp (lower_cut other.now.lower) (upper_cut self.now.upper)) }
+    {
+        is_below(&other.lower, &self.upper)
+    }
+
     /// Whether the two have an interval in common, be there a point in it or not.
     pub fn meets(&self, other: &Interval<V>) -> bool
         ensures { result ≡ is_some (meet V.cmp self.now other.now) }
@@ -114,6 +122,32 @@ impl<V: Point> Interval<V> {
         ensures { IfOk result (λ r. r ≡ meet V.cmp self.now other.now) }
     {
         let lower = greater_lower(&self.lower, &other.lower);
+        let upper = lesser_upper(&self.upper, &other.upper);
+        if !is_below(lower, upper) {
+            return Ok(None);
+        }
+        let lower = lower.copy(alloc)?;
+        let upper = upper.copy(alloc)?;
+        Ok(Some(Interval { lower, upper }))
+    }
+
+    /// What of this interval lies within the other: the points of `intersect`, but of equal bounds self's are kept on both
+    /// sides. The error is want of memory.
+    pub fn clip(
+        &self,
+        alloc: Global,
+        other: &Interval<V>,
+    ) -> Result<Option<Interval<V>>, AllocError>
+        ensures bounds { IfOk result (λ r. r ≡ clip V.cmp self.now other.now) }
+        ensures set { IfOk result (λ r. (v : V) → option_holds V.cmp r v ≡ (holds V.cmp self.now v && holds V.cmp other.now v)) }
+    {
+        Ok(self.clipped(alloc, other)?)
+    }
+
+    fn clipped(&self, alloc: Global, other: &Interval<V>) -> Result<Option<Interval<V>>, AllocError>
+        ensures { IfOk result (λ r. r ≡ clip V.cmp self.now other.now) }
+    {
+        let lower = greater_lower(&other.lower, &self.lower);
         let upper = lesser_upper(&self.upper, &other.upper);
         if !is_below(lower, upper) {
             return Ok(None);

@@ -66,6 +66,15 @@ fn what_two_intervals_share(rt: HostRuntime) -> Result<(), Fail> {
 }
 
 #[test]
+fn what_of_one_interval_lies_in_another(rt: HostRuntime) -> Result<(), Fail> {
+    let (one, other) = (from_to(1, 3)?, from_to(2, 4)?);
+    assert!(rt; one.clip(rt.alloc(), &other)? == Some(from_to(2, 3)?));
+    assert!(rt; one.clip(rt.alloc(), &from_to(3, 4)?)? == None);
+    assert!(rt; one.reaches(&other) && !one.reaches(&from_to(3, 4)?));
+    Ok(())
+}
+
+#[test]
 fn what_one_interval_leaves(rt: HostRuntime) -> Result<(), Fail> {
     let one = from_to(1, 5)?;
     let parts = one.subtract(rt.alloc(), &from_to(2, 3)?)?;
