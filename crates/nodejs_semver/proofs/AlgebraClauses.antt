@@ -1,10 +1,6 @@
 -- What the intersection and the difference of two lists hold and accept, and that their intervals are those of a range.
-<<<<<<< ours
-use Rattle.std.proofs.Common.{◌≡◌, refl, sym, ◌∙◌, ap, ◌+◌, true, false, ◌&&◌, ◌||◌, not, List, Option, Some, None}
-=======
-use Rattle.std.proofs.Common.{◌≡◌, refl, sym, ◌∙◌, ap, ℕ, ◌+◌, true, false, ◌&&◌, ◌||◌, not, List, [], ◌∷◌, Option}
+use Rattle.std.proofs.Common.{◌≡◌, refl, sym, ◌∙◌, ap, ℕ, ◌+◌, true, false, ◌&&◌, ◌||◌, not, List, [], ◌∷◌, Option, Some, None}
 use Rattle.std.specs.Cmp.{first_so, second_so}
->>>>>>> theirs
 use Rattle.std.specs.List.{list_all}
 use Rattle.semver_core.specs.Cuts.{Span, is_interval, list_holds, option_list_holds, meets_of, minus}
 use Rattle.semver_core.specs.Order.{precedence}

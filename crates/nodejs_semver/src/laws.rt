@@ -7,12 +7,7 @@ mod printing;
 mod texts;
 
 pub use crate::laws::outside::outside_by_cuts;
-<<<<<<< ours
 pub use crate::laws::printing::{printed_in_field, printed_ranges_come_back, reread_range};
-pub use crate::laws::texts::{intervals_hold_what_is_written, numbers, parts, runs};
-=======
-pub use crate::laws::printing::{printed_ranges_come_back, reread_range};
 pub use crate::laws::texts::{
-    intervals_hold_what_is_written, numbers, one_meaning, partials, parts, runs,
+    intervals_hold_what_is_written, longest_partials, numbers, one_meaning, partials, parts, runs, words_at,
 };
->>>>>>> theirs
