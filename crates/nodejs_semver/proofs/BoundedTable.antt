@@ -10,7 +10,7 @@ use Rattle.semver_core.specs.Normal.{is_normal}
 use Rattle.semver_core.specs.Order.{precedence}
 use Rattle.semver_core.specs.Spaces.{drop_spaces, is_empty}
 use Rattle.semver_core.specs.Versions.{VersionValue}
-use Rattle.nodejs_semver.specs.Denotes.{denotes, part_bounds, part_intervals}
+use Rattle.nodejs_semver.specs.Denotes.{denotes, part_bounds, part_denotes, part_intervals}
 use Rattle.nodejs_semver.specs.Partials.{Partial, ◌>>=◌}
 use Rattle.nodejs_semver.specs.Parts.{parts}
 use Rattle.nodejs_semver.specs.RangeView.{any_version, is_bound_version, is_range_bound, is_range_span}
@@ -213,15 +213,19 @@ intervals-bounded limit part =
     runs-bounded (limit + 1) (runs_of precedence (part_bounds limit part))
     (ap (λ (l : List (Span VersionValue)). list_all (are_bounds (limit + 1)) l) runs.whole ∙ part-bounded limit part) runs.each
 
-pub all-bounded : (limit : ℕ) (ps : List (List ℕ)) → list_all (is_range_span (limit + 1)) (flat_map (part_intervals limit) ps) ≡ true
+part-denotes-bounded : (limit : ℕ) (part : List ℕ) → list_all (is_range_span (limit + 1)) (part_denotes limit part) ≡ true
+part-denotes-bounded limit [] = refl
+part-denotes-bounded limit (b ∷ part) = intervals-bounded limit (b ∷ part)
+
+pub all-bounded : (limit : ℕ) (ps : List (List ℕ)) → list_all (is_range_span (limit + 1)) (flat_map (part_denotes limit) ps) ≡ true
 all-bounded limit [] = refl
 all-bounded limit (p ∷ ps) =
-    list_all-append (is_range_span (limit + 1)) (part_intervals limit p) (flat_map (part_intervals limit) ps)
-    ∙ and-both _ _ (intervals-bounded limit p) (all-bounded limit ps)
+    list_all-append (is_range_span (limit + 1)) (part_denotes limit p) (flat_map (part_denotes limit) ps)
+    ∙ and-both _ _ (part-denotes-bounded limit p) (all-bounded limit ps)
 
 pub denotes-bounded : (limit : ℕ) (text : List ℕ) → list_all (is_range_span (limit + 1)) (denotes limit text) ≡ true
 denotes-bounded limit text = by_test (list_all is_empty (parts text))
   where
-    by_test : (b : Bool) → list_all (is_range_span (limit + 1)) (if b then any_version else flat_map (part_intervals limit) (parts text)) ≡ true
+    by_test : (b : Bool) → list_all (is_range_span (limit + 1)) (if b then any_version else flat_map (part_denotes limit) (parts text)) ≡ true
     by_test true = refl
     by_test false = all-bounded limit (parts text)

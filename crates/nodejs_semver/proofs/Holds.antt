@@ -1,5 +1,6 @@
 -- What a range text's intervals hold is what the text writes.
-use Rattle.std.proofs.Common.{◌≡◌, ℕ, List, [], ◌∷◌, ◌++◌, refl, ap, ap₂, ◌∙◌, true, false, Bool, map, Some}
+use Rattle.std.proofs.Common.{◌≡◌, ℕ, List, [], ◌∷◌, ◌++◌, refl, sym, ap, ap₂, ◌∙◌, true, false, Bool, map, Some, inl, inr}
+use Rattle.std.proofs.lemmas.Bool.{cases_Bool}
 use Rattle.std.specs.Prelude.{◌&&◌, ◌||◌, flat_map, if◌then◌else◌}
 use Rattle.std.specs.Cmp.{IsTotalOrder}
 use Rattle.std.specs.List.{list_all, list_any}
@@ -9,12 +10,13 @@ use Rattle.semver_core.specs.Order.{precedence}
 use Rattle.semver_core.specs.OrderLaws.{precedence_total}
 use Rattle.semver_core.specs.Versions.{VersionValue}
 use Rattle.nodejs_semver.specs.Accepts.{accepts}
-use Rattle.nodejs_semver.specs.Denotes.{denotes, part_bounds, part_intervals}
-use Rattle.nodejs_semver.specs.Parts.{parts}
+use Rattle.nodejs_semver.specs.Denotes.{denotes, part_bounds, part_denotes, part_intervals}
+use Rattle.nodejs_semver.specs.Parts.{begins_bar, cut_bars, is_bar, onto_first, parts}
 use Rattle.nodejs_semver.specs.RangeView.{any_version}
 use Rattle.nodejs_semver.specs.Runs.{Run, interval_of, runs_of}
-use Rattle.semver_core.specs.Spaces.{is_empty}
+use Rattle.semver_core.specs.Spaces.{is_empty, trim}
 use Rattle.nodejs_semver.specs.Written.{part_writes, run_writes, writes}
+use Rattle.nodejs_semver.proofs.Lists.{and-left}
 use Rattle.nodejs_semver.proofs.RunLemmas.{run-holds}
 
 any-append : {A : Type 0} (p : A → Bool) (xs ys : List A) → list_any p (xs ++ ys) ≡ (list_any p xs || list_any p ys)
@@ -32,20 +34,63 @@ runs-hold o v (r ∷ rs) = ap₂ (λ (s t : Bool). s || t) (run-holds o v r) (ru
 part-holds : (limit : ℕ) (v : VersionValue) (part : List ℕ) → list_holds precedence (part_intervals limit part) v ≡ part_writes limit v part
 part-holds limit v part = runs-hold precedence_total v (runs_of precedence (part_bounds limit part))
 
-parts-hold : (limit : ℕ) (v : VersionValue) (ps : List (List ℕ)) → list_holds precedence (flat_map (part_intervals limit) ps) v ≡ list_any (part_writes limit v) ps
+-- an empty part holds every version, and any other what its words write
+part-denoted : (limit : ℕ) (v : VersionValue) (part : List ℕ) → list_holds precedence (part_denotes limit part) v ≡ (is_empty part || part_writes limit v part)
+part-denoted limit v [] = refl
+part-denoted limit v (b ∷ part) = part-holds limit v (b ∷ part)
+
+or-across : (a b c d : Bool) → ((a || b) || (c || d)) ≡ ((a || c) || (b || d))
+or-across true b c d = refl
+or-across false true true d = refl
+or-across false true false d = refl
+or-across false false true d = refl
+or-across false false false d = refl
+
+parts-hold : (limit : ℕ) (v : VersionValue) (ps : List (List ℕ))
+    → list_holds precedence (flat_map (part_denotes limit) ps) v ≡ (list_any is_empty ps || list_any (part_writes limit v) ps)
 parts-hold limit v [] = refl
 parts-hold limit v (p ∷ ps) =
-    any-append (λ s. holds precedence s v) (part_intervals limit p) (flat_map (part_intervals limit) ps)
-    ∙ ap₂ (λ (s t : Bool). s || t) (part-holds limit v p) (parts-hold limit v ps)
+    any-append (λ s. holds precedence s v) (part_denotes limit p) (flat_map (part_denotes limit) ps)
+    ∙ ap₂ (λ (s t : Bool). s || t) (part-denoted limit v p) (parts-hold limit v ps)
+    ∙ or-across (is_empty p) (part_writes limit v p) (list_any is_empty ps) (list_any (part_writes limit v) ps)
 
-by-test : (b : Bool) (ss : List (Span VersionValue)) (w : Bool) (v : VersionValue) → list_holds precedence ss v ≡ w
-    → list_holds precedence (if b then any_version else ss) v ≡ (b || w)
-by-test true ss w v h = refl
-by-test false ss w v h = h
+-- where all of some texts are empty, one is
+first-empty : (ps : List (List ℕ)) → (ps ≡ [] → ⊥) → list_all is_empty ps ≡ true → list_any is_empty ps ≡ true
+first-empty [] some h = absurd (some refl)
+first-empty (p ∷ ps) some h = ap (λ (b : Bool). b || list_any is_empty ps) (and-left (is_empty p) (list_all is_empty ps) h)
+
+-- a text has a part or more
+cut-some : (text : List ℕ) (passed : Bool) → cut_bars passed text ≡ [] → ⊥
+unfolding cut_bars
+cut-some [] passed h = cc h
+cut-some (b ∷ rest) true h = cut-some rest false h
+cut-some (b ∷ rest) false h = elim (cases_Bool (is_bar b && begins_bar rest)) [
+  | inl bars ↦ let here = rw (bars, cut_bars) at h in cc here
+  | inr none ↦ let here = rw (none, cut_bars) at h in onto-some b (cut_bars false rest) here
+]
+  where
+    onto-some : (b : ℕ) (ps : List (List ℕ)) → onto_first b ps ≡ [] → ⊥
+    onto-some b [] h = cc h
+    onto-some b (p ∷ ps) h = cc h
+
+parts-some : (text : List ℕ) → parts text ≡ [] → ⊥
+parts-some text h = cut-some text false (none (cut_bars false text) h)
+  where
+    none : (ps : List (List ℕ)) → map trim ps ≡ [] → ps ≡ []
+    none [] h = refl
+    none (p ∷ ps) h = cc h
+
+by-test : (b : Bool) (ss : List (Span VersionValue)) (w : Bool) (v : VersionValue) → (b ≡ true → w ≡ true) → list_holds precedence ss v ≡ w
+    → list_holds precedence (if b then any_version else ss) v ≡ w
+by-test true ss w v all h = sym (all refl)
+by-test false ss w v all h = h
 
 pub denotes_hold : (limit : ℕ) (text : List ℕ) (v : VersionValue) → list_holds precedence (denotes limit text) v ≡ writes limit text v
 denotes_hold limit text v =
-    by-test (list_all is_empty (parts text)) (flat_map (part_intervals limit) (parts text)) (list_any (part_writes limit v) (parts text)) v (parts-hold limit v (parts text))
+    let ps = parts text in
+    by-test (list_all is_empty ps) (flat_map (part_denotes limit) ps) (writes limit text v) v
+    (λ (all : list_all is_empty ps ≡ true). ap (λ (b : Bool). b || list_any (part_writes limit v) ps) (first-empty ps (parts-some text) all))
+    (parts-hold limit v ps)
 
 -- with pre-releases included, a range accepts what its intervals hold
 pub accepts-held : (ss : List (Span VersionValue)) (v : VersionValue) → accepts ss v true ≡ list_holds precedence ss v

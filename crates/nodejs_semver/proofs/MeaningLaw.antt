@@ -13,10 +13,10 @@ use Rattle.semver_core.specs.Order.{precedence}
 use Rattle.semver_core.specs.Spaces.{drop_spaces, is_empty, space_len, trim}
 use Rattle.semver_core.specs.Versions.{VersionValue}
 use Rattle.semver_core.proofs.Trims.{MiddleIsTrim_lem, TrimIsMiddle_lem, trim_parts}
-use Rattle.nodejs_semver.specs.Denotes.{denotes, part_bounds, part_intervals}
+use Rattle.nodejs_semver.specs.Denotes.{denotes, part_bounds, part_denotes, part_intervals}
 use Rattle.nodejs_semver.specs.Parts.{cut_bars}
 use Rattle.nodejs_semver.specs.RangeLaws.{join_bars}
-use Rattle.nodejs_semver.specs.RangeText.{AreAllIntervals, AreIntervals, AreWords, Means, OneMeaning, next_piece, next_word, no_piece, no_word}
+use Rattle.nodejs_semver.specs.RangeText.{AreAllIntervals, AreIntervals, AreWords, Means, OneMeaning, blank_piece, next_piece, next_word, no_piece, no_word}
 use Rattle.nodejs_semver.specs.RangeView.{any_version}
 use Rattle.nodejs_semver.specs.Runs.{Run, interval_of, runs_of}
 use Rattle.nodejs_semver.specs.Table.{bounds_of}
@@ -83,18 +83,6 @@ piece-once limit piece list u h =
     (words-once limit h.part h.words (trim-utf8 piece h.part u h.trimmed) (trim-starts piece h.part h.trimmed) h.read)
     ∙ ap (λ (t : List ℕ). part_intervals limit t) (MiddleIsTrim_lem piece h.part h.trimmed)
 
-all-mean : (limit : ℕ) (pieces : List (List ℕ)) → AllByRecursion IsUtf8 pieces → AreAllIntervals limit pieces (flat_map (part_intervals limit) (map trim pieces))
-all-mean limit [] u = no_piece
-all-mean limit (piece ∷ pieces) u =
-    next_piece piece pieces (part_intervals limit (trim piece)) (flat_map (part_intervals limit) (map trim pieces)) (piece-means limit piece u.0) (all-mean limit pieces u.1)
-
-all-once : (limit : ℕ) (pieces : List (List ℕ)) (list : List (Span VersionValue)) → AllByRecursion IsUtf8 pieces → AreAllIntervals limit pieces list
-    → list ≡ flat_map (part_intervals limit) (map trim pieces)
-all-once limit pieces list u no_piece = refl
-all-once limit pieces list u (next_piece piece rest here others h more) =
-    ap (λ (l : List (Span VersionValue)). l ++ others) (piece-once limit piece here u.0 h)
-    ∙ ap (λ (l : List (Span VersionValue)). part_intervals limit (trim piece) ++ l) (all-once limit rest others u.1 more)
-
 -- ---- the pieces of a text are UTF-8
 
 utf8-bar : (piece t : List ℕ) → IsUtf8 (piece ++ 124 ∷ (124 ∷ t)) → IsUtf8 piece × IsUtf8 t
@@ -154,11 +142,46 @@ all-blank (piece ∷ pieces) u h =
     let rest = list_all is_empty (map trim pieces) in
     (empty-blank piece u.0 (and-left (is_empty (trim piece)) rest h), all-blank pieces u.1 (and-right (is_empty (trim piece)) rest h))
 
+-- ---- the intervals of all pieces
+
+-- what one piece means
+piece-denotes : (limit : ℕ) (piece : List ℕ) → is_empty (trim piece) ≡ true → part_denotes limit (trim piece) ≡ any_version
+piece-denotes limit piece h = rw h refl
+
+piece-words : (limit : ℕ) (piece : List ℕ) → is_empty (trim piece) ≡ false → part_denotes limit (trim piece) ≡ part_intervals limit (trim piece)
+piece-words limit piece h = rw h refl
+
+all-mean : (limit : ℕ) (pieces : List (List ℕ)) → AllByRecursion IsUtf8 pieces → AreAllIntervals limit pieces (flat_map (part_denotes limit) (map trim pieces))
+all-mean limit [] u = no_piece
+all-mean limit (piece ∷ pieces) u =
+    let others = flat_map (part_denotes limit) (map trim pieces) in
+    let more = all-mean limit pieces u.1 in
+    elim (cases_Bool (is_empty (trim piece))) [
+      | inl empty ↦ subst (λ (l : List (Span VersionValue)). AreAllIntervals limit (piece ∷ pieces) (l ++ others)) (sym (piece-denotes limit piece empty))
+          (blank_piece piece pieces others (empty-blank piece u.0 empty) more)
+      | inr some ↦ subst (λ (l : List (Span VersionValue)). AreAllIntervals limit (piece ∷ pieces) (l ++ others)) (sym (piece-words limit piece some))
+          (next_piece piece pieces (part_intervals limit (trim piece)) others (λ blank. cc (sym some ∙ blank-empty piece blank)) (piece-means limit piece u.0) more)
+    ]
+
+all-once : (limit : ℕ) (pieces : List (List ℕ)) (list : List (Span VersionValue)) → AllByRecursion IsUtf8 pieces → AreAllIntervals limit pieces list
+    → list ≡ flat_map (part_denotes limit) (map trim pieces)
+all-once limit pieces list u no_piece = refl
+all-once limit pieces list u (blank_piece piece rest others blank more) =
+    ap (λ (l : List (Span VersionValue)). l ++ others) (sym (piece-denotes limit piece (blank-empty piece blank)))
+    ∙ ap (λ (l : List (Span VersionValue)). part_denotes limit (trim piece) ++ l) (all-once limit rest others u.1 more)
+all-once limit pieces list u (next_piece piece rest here others dark h more) =
+    let some : is_empty (trim piece) ≡ false = elim (cases_Bool (is_empty (trim piece))) [
+      | inl empty ↦ absurd (dark (empty-blank piece u.0 empty))
+      | inr some ↦ some
+    ] in
+    ap (λ (l : List (Span VersionValue)). l ++ others) (piece-once limit piece here u.0 h ∙ sym (piece-words limit piece some))
+    ∙ ap (λ (l : List (Span VersionValue)). part_denotes limit (trim piece) ++ l) (all-once limit rest others u.1 more)
+
 -- ---- the whole text
 
 -- the intervals of a text by its pieces
 abbrev denoted : ℕ → List (List ℕ) → List (Span VersionValue)
-denoted limit pieces = if list_all is_empty (map trim pieces) then any_version else flat_map (part_intervals limit) (map trim pieces)
+denoted limit pieces = if list_all is_empty (map trim pieces) then any_version else flat_map (part_denotes limit) (map trim pieces)
 
 means : (limit : ℕ) (text : List ℕ) (list : List (Span VersionValue)) → IsUtf8 text → denotes limit text ≡ list → Means limit text list
 means limit text list u e =

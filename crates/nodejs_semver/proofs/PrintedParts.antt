@@ -17,7 +17,7 @@ use Rattle.semver_core.specs.declared.cuts.bound.Bound.{Bound}
 use Rattle.semver_core.specs.declared.cuts.bound.Bound.TheVariants.{Unbounded, Before, After}
 use Rattle.semver_core.proofs.Returns.{decimal_digits, decimal_some, ids_runs, run_chars}
 use Rattle.nodejs_semver.specs.ComesBack.{has_bound, read_back}
-use Rattle.nodejs_semver.specs.Denotes.{part_intervals, denotes}
+use Rattle.nodejs_semver.specs.Denotes.{part_denotes, part_intervals, denotes}
 use Rattle.nodejs_semver.specs.Parts.{cut_bars, parts}
 use Rattle.nodejs_semver.specs.Printed.{bounds_text, span_text, range_text, ties}
 use Rattle.semver_core.specs.Spaces.{is_empty, drop_spaces, drop_end_spaces, trim, space_len}
@@ -209,10 +209,10 @@ parts_back limit i (j ∷ rest) small h =
     rw (cut_at (span_text i) (range_text (j ∷ rest)) p.no_bar, p.trimmed) (ap (λ l. span_text i ∷ l) (parts_back limit j rest small h.1))
 
 intervals_back : (limit : ℕ) (list : List (Span VersionValue)) → limit < 2 ^ 64 → AllByRecursion (IsPrintable limit) list
-    → flat_map (part_intervals limit) (map span_text list) ≡ map read_back list
+    → flat_map (part_denotes limit) (map span_text list) ≡ map read_back list
 intervals_back limit [] small h = refl
 intervals_back limit (i ∷ rest) small h =
-    rw (bounds_come_back limit i.lower i.upper small h.0.proper h.0.bounded h.0.lower h.0.upper) (ap (λ l. read_back i ∷ l) (intervals_back limit rest small h.1))
+    rw ((span_part limit i small h.0).some, bounds_come_back limit i.lower i.upper small h.0.proper h.0.bounded h.0.lower h.0.upper) (ap (λ l. read_back i ∷ l) (intervals_back limit rest small h.1))
 
 not_all_empty : (limit : ℕ) (i : Span VersionValue) (rest : List (Span VersionValue)) → limit < 2 ^ 64 → AllByRecursion (IsPrintable limit) (i ∷ rest)
     → list_all is_empty (map span_text (i ∷ rest)) ≡ false

@@ -15,10 +15,15 @@ use Rattle.nodejs_semver.specs.Words.{words}
 abbrev pub part_bounds : ℕ → List ℕ → List (Span VersionValue)
 part_bounds limit part = filter_map (bounds_of limit) (words limit part)
 
--- the intervals of a part
+-- the intervals of the words of a part
 abbrev pub part_intervals : ℕ → List ℕ → List (Span VersionValue)
 part_intervals limit part = map (interval_of precedence) (runs_of precedence (part_bounds limit part))
 
--- the intervals that a range text means
+-- what a part means: one interval without bounds where the part is empty, and else the intervals of its words
+abbrev pub part_denotes : ℕ → List ℕ → List (Span VersionValue)
+part_denotes limit part = if is_empty part then any_version else part_intervals limit part
+
+-- the intervals that a range text means: those of its parts in order. A text of empty parts alone means one interval without
+-- bounds, however many parts there are.
 abbrev pub denotes : ℕ → List ℕ → List (Span VersionValue)
-denotes limit text = if list_all is_empty (parts text) then any_version else flat_map (part_intervals limit) (parts text)
+denotes limit text = if list_all is_empty (parts text) then any_version else flat_map (part_denotes limit) (parts text)

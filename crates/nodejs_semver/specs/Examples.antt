@@ -96,7 +96,7 @@ unfolding table is_boundary number_of space_len after_spaces drop_end_spaces cut
 row-foo = refl
 
 -- `|||`
-row-three_bars : denotes 900719925474099 (codes "|||") ≡ []
+row-three_bars : denotes 900719925474099 (codes "|||") ≡ span Unbounded Unbounded ∷ []
 unfolding table is_boundary number_of space_len after_spaces drop_end_spaces cut_bars partial_of longest_within word_at words_within from_boundary runs_from
 row-three_bars = refl
 
@@ -106,9 +106,28 @@ unfolding table is_boundary number_of space_len after_spaces drop_end_spaces cut
 row-foo_then = refl
 
 -- `1.2.3||`
-row-trailing_bars : denotes 900719925474099 (codes "1.2.3||") ≡ span (Before (release 1 2 3)) (After (release 1 2 3)) ∷ []
+row-trailing_bars : denotes 900719925474099 (codes "1.2.3||")
+    ≡ span (Before (release 1 2 3)) (After (release 1 2 3)) ∷ span Unbounded Unbounded ∷ []
 unfolding table is_boundary number_of space_len after_spaces drop_end_spaces cut_bars partial_of longest_within word_at words_within from_boundary runs_from
 row-trailing_bars = refl
+
+-- `||1.2.3`
+row-leading_bars : denotes 900719925474099 (codes "||1.2.3")
+    ≡ span Unbounded Unbounded ∷ span (Before (release 1 2 3)) (After (release 1 2 3)) ∷ []
+unfolding table is_boundary number_of space_len after_spaces drop_end_spaces cut_bars partial_of longest_within word_at words_within from_boundary runs_from
+row-leading_bars = refl
+
+-- `foo ||`
+row-foo_bars : denotes 900719925474099 (codes "foo ||") ≡ span Unbounded Unbounded ∷ []
+unfolding table is_boundary number_of space_len after_spaces drop_end_spaces cut_bars partial_of longest_within word_at words_within from_boundary runs_from
+row-foo_bars = refl
+
+-- `1||||2`
+row-empty_between : denotes 900719925474099 (codes "1||||2")
+    ≡ span (Before (release 1 0 0)) (Before (lowest 2 0 0)) ∷ span Unbounded Unbounded
+    ∷ span (Before (release 2 0 0)) (Before (lowest 3 0 0)) ∷ []
+unfolding table is_boundary number_of space_len after_spaces drop_end_spaces cut_bars partial_of longest_within word_at words_within from_boundary runs_from
+row-empty_between = refl
 
 -- `~>1.2.x-beta`
 row-tilde_greater : denotes 900719925474099 (codes "~>1.2.x-beta") ≡ span (Before (qualified 1 2 0 (AlphaNumeric (codes "beta") ∷ []) [])) (Before (lowest 1 3 0)) ∷ []

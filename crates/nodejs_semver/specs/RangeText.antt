@@ -29,13 +29,15 @@ pub record AreIntervals (limit : ℕ) (piece : List ℕ) (list : List (Span Vers
   pub divided : AreRuns precedence (filter_map (bounds_of limit) words) runs
   pub spanned : list ≡ map (interval_of precedence) runs
 
--- the intervals of all pieces, one piece after another
+-- the intervals of all pieces, one piece after another: one without bounds for a piece of whitespace alone
 pub data AreAllIntervals (limit : ℕ) : List (List ℕ) → List (Span VersionValue) → Type 0 where
   no_piece : AreAllIntervals limit [] []
-  next_piece : (piece : List ℕ) (pieces : List (List ℕ)) (list others : List (Span VersionValue)) → AreIntervals limit piece list
-      → AreAllIntervals limit pieces others → AreAllIntervals limit (piece ∷ pieces) (list ++ others)
+  blank_piece : (piece : List ℕ) (pieces : List (List ℕ)) (others : List (Span VersionValue)) → IsBlank piece
+      → AreAllIntervals limit pieces others → AreAllIntervals limit (piece ∷ pieces) (any_version ++ others)
+  next_piece : (piece : List ℕ) (pieces : List (List ℕ)) (list others : List (Span VersionValue)) → (IsBlank piece → ⊥)
+      → AreIntervals limit piece list → AreAllIntervals limit pieces others → AreAllIntervals limit (piece ∷ pieces) (list ++ others)
 
--- the text means these intervals: every version where no piece has a part, and else those of its pieces
+-- the text means these intervals: one without bounds where all pieces are blank, and else those of its pieces in order
 pub record Means (limit : ℕ) (text : List ℕ) (list : List (Span VersionValue)) : Type 0 where
   pub pieces : List (List ℕ)
   pub cut : IsCutAtBars text pieces

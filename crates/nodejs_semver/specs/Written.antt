@@ -36,6 +36,6 @@ run_writes R v r = list_all (word_writes R v) (run_items r)
 abbrev pub part_writes : ℕ → VersionValue → List ℕ → Bool
 part_writes limit v part = list_any (run_writes precedence v) (runs_of precedence (part_bounds limit part))
 
--- a text of empty parts alone writes every version, and any other the union of its runs
+-- a text with an empty part writes every version, and any other text the union of its runs
 abbrev pub writes : ℕ → List ℕ → VersionValue → Bool
-writes limit text v = list_all is_empty (parts text) || list_any (part_writes limit v) (parts text)
+writes limit text v = list_any is_empty (parts text) || list_any (part_writes limit v) (parts text)

@@ -17,10 +17,12 @@ impl Range {
     /// Reads a range text, of any length: parts between `||`, of which each is words such as `^1.2`, `>=1.0.0 <2.0.0`,
     /// `~1.2.3` or `1.0.0 - 2.0.0` (node-semver's range grammar).
     ///
-    /// The empty text is the range of all versions, and so is every text whose parts are all empty. A word that is malformed
-    /// is passed, so `foo 1.2.3` reads as `1.2.3`; a text none of whose words gives an interval is refused, as `foo` is. So a
-    /// number past `MAX_SAFE_INTEGER` is passed too: `>=900719925474099.0.0 <900719925474100.0.0-0`, which
-    /// `^900719925474099` prints, reads as `>=900719925474099.0.0`.
+    /// An empty text is [`Range::any`], and so is a text whose parts are all empty. An empty part beside other parts is one
+    /// interval without bounds in its place: `1.2.3||` reads as `1.2.3||*`. A malformed word is skipped, so `foo 1.2.3`
+    /// reads as `1.2.3`; a text with no empty part and no word that has bounds, such as `foo`, is rejected with
+    /// `SemverError`. A number above `MAX_SAFE_INTEGER` makes its word malformed, so that
+    /// `>=900719925474099.0.0 <900719925474100.0.0-0`, which `^900719925474099` prints, reads as
+    /// `>=900719925474099.0.0`.
     pub fn parse(alloc: Global, text: &str) -> Result<Range, Failure<SemverError>>
         // The intervals are those of the text, in order and with their builds.
         ensures ok { IfOk result (λ range. range ≡ denotes MAX_SAFE_INTEGER text.now) }

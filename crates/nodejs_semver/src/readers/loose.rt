@@ -1,11 +1,11 @@
 // The reader of range texts, word by word.
 
-ghost use Rattle.std.specs.Prelude.{◌≡◌, IfOk, flat_map, false};
+ghost use Rattle.std.specs.Prelude.{◌≡◌, ◌++◌, IfOk, OnOk, flat_map, false};
 ghost use Rattle.std.specs.List.{list_all};
-ghost use Rattle.nodejs_semver.specs.Denotes.{denotes, part_intervals};
+ghost use Rattle.nodejs_semver.specs.Denotes.{denotes, part_denotes};
 ghost use Rattle.nodejs_semver.specs.Parts.{parts};
 ghost use Rattle.semver_core.specs.Cuts.{if_any};
-ghost use Rattle.semver_core.specs.Spaces.{is_empty};
+ghost use Rattle.semver_core.specs.Spaces.{is_empty, space_len};
 
 use crate::Range;
 use crate::readers::{bars, intervals};
@@ -28,25 +28,43 @@ pub(crate) fn is_blank(text: &str) -> bool
     true
 }
 
+// Adds what a part means: one interval without bounds where it is empty, and else the intervals of its words.
+fn add_part(
+    alloc: Global,
+    part: &str,
+    found: &mut Vec<Interval<Version>>,
+) -> Result<(), AllocError>
+    requires { space_len part.now ≡ 0 }
+    ensures { OnOk result (
+        found.new.items ≡ found.old.items ++ part_denotes MAX_SAFE_INTEGER part.now) }
+{
+    if part.is_empty() {
+        found.push(Interval::default())?;
+        return Ok(());
+    }
+    intervals::read_part(alloc, part.as_bytes(), found)
+}
+
 // The intervals of all parts, in order. One cursor goes through the text.
 fn intervals_of(alloc: Global, text: &str) -> Result<Vec<Interval<Version>>, AllocError>
-    ensures { IfOk result (λ found. found.items ≡ flat_map (part_intervals MAX_SAFE_INTEGER) (parts text.now)) }
+    ensures { IfOk result (λ found. found.items ≡ flat_map (part_denotes MAX_SAFE_INTEGER) (parts text.now)) }
 {
     let mut found = Vec::new(alloc);
     let mut rest = Some(text);
     'parts: while let Some(text) = rest {
         let (part, after) = bars::next_part(text);
-        intervals::read_part(alloc, part.as_bytes(), &mut found)?;
+        add_part(alloc, part, &mut found)?;
         rest = after;
     }
     Ok(found)
 }
 
-/// The range of a text of which some part is not empty, or None where no part gives an interval. The error is want of
-/// memory.
+/// Reads a range text of which some part is not empty, or returns `None` where no part has an interval. Fails only if
+/// allocation fails.
 ///
-/// A text is cut at `||`, and each part read word by word (node-semver's range grammar): a word that is malformed, or that
-/// the word table gives no bounds, is passed. So `foo 1.2.3` is the range of `1.2.3`, and `foo` has none.
+/// The text is cut at `||`, and each part is read word by word (node-semver's range grammar). An empty part is one interval
+/// without bounds. A word that is malformed, or to which the word table gives no bounds, is skipped: `foo 1.2.3` is the
+/// range of `1.2.3`, and `foo` has none.
 pub fn range_loose(alloc: Global, text: &str) -> Result<Option<Range>, AllocError>
     requires some_part { list_all is_empty (parts text.now) ≡ false }
     ensures { IfOk result (λ found. found ≡ if_any (denotes MAX_SAFE_INTEGER text.now)) }

@@ -1,7 +1,7 @@
 use Rattle.std.proofs.Common.{◌≡◌, ◌++◌}
 use Rattle.std.specs.Prelude.{flat_map}
 use Rattle.semver_core.specs.declared.TheConstants.{MAX_SAFE_INTEGER}
-use Rattle.nodejs_semver.specs.Denotes.{part_intervals}
+use Rattle.nodejs_semver.specs.Denotes.{part_denotes}
 use Rattle.nodejs_semver.specs.PartFronts.{later_parts, left_over}
 use Rattle.nodejs_semver.specs.Parts.{parts}
 use Rattle.nodejs_semver.specs.Readings.{rest_view}
@@ -9,8 +9,8 @@ use Rattle.nodejs_semver.proofs.readers.loose.intervals_of.Given as goal
 
 abbrev pub invariant-parts : goal.invariant-parts
 invariant-parts l =
-    l.found.items ++ flat_map (part_intervals MAX_SAFE_INTEGER) (later_parts (rest_view l.rest))
-    ≡ flat_map (part_intervals MAX_SAFE_INTEGER) (parts l.fn.text)
+    l.found.items ++ flat_map (part_denotes MAX_SAFE_INTEGER) (later_parts (rest_view l.rest))
+    ≡ flat_map (part_denotes MAX_SAFE_INTEGER) (parts l.fn.text)
 
 abbrev pub decreases-parts : goal.decreases-parts
 decreases-parts l = left_over (rest_view l.rest)
