@@ -14,6 +14,7 @@ pub mod NextLaws
 pub mod Returns
 pub mod Prints
 pub mod Reread
+pub mod Through
 pub mod Spaces
 pub mod SpaceLaw
 pub mod Trims

@@ -13,6 +13,7 @@ pub mod VersionView
 pub mod Triples
 pub mod PartsView
 pub mod ListView
+pub mod Failures
 pub mod Parsing
 pub mod Normal
 pub mod PrintedRows

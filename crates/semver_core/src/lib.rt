@@ -11,7 +11,7 @@ mod error;
 mod identifier;
 mod increment;
 pub mod laws;
-mod print;
+pub mod print;
 pub mod readers;
 mod version;
 
