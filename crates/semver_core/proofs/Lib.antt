@@ -13,6 +13,7 @@ pub mod IncrementLaws
 pub mod NextLaws
 pub mod Returns
 pub mod Prints
+pub mod LargerLimit
 pub mod Reread
 pub mod Through
 pub mod Spaces

@@ -4,6 +4,7 @@ pub mod Identifiers
 pub mod Versions
 pub mod Order
 pub mod Grammar
+pub mod Limits
 pub mod Printed
 pub mod Views
 pub mod Reading
