@@ -44,4 +44,3 @@ pub mod Trimmed
 pub mod Bounded
 pub mod BoundedTable
 pub mod NumberFront
-pub mod Through

@@ -1,9 +1,9 @@
 -- For proofs. A range that is printed and parsed.
 use Rattle.std.proofs.Common.{◌≡◌, ◌<◌, ◌^◌, ℕ, true, List, [], ◌∷◌, length, map, ap, ◌∙◌, arith, Ok, Err, Result}
-use Rattle.std.specs.Prelude.{IfOk, IfErr, ⊤}
+use Rattle.std.specs.Prelude.{IfOk}
 use Rattle.std.specs.List.{list_all}
 use Rattle.semver_core.specs.Cuts.{Span}
-use Rattle.semver_core.specs.Parsing.{MatchFailure}
+use Rattle.semver_core.specs.Failures.{NeverRefused, RefusedOnlyIf}
 use Rattle.semver_core.specs.Versions.{VersionValue}
 use Rattle.semver_core.specs.declared.error.Failure.{Failure}
 use Rattle.semver_core.specs.declared.error.Failure.TheVariants.{Refused, Memory}
@@ -42,7 +42,7 @@ not_refused limit text [] h e = absurd (omega (arith, h.some))
 not_refused limit text (s ∷ rest) h e = cc (e, reads_back limit text h.small (s ∷ rest) h.some h.printable h.printed)
 
 pub reread_read : {E : Type 0} (limit : ℕ) (r : Result (List (Span VersionValue)) (Failure E)) (text : List ℕ) (list : List (Span VersionValue)) → Reread limit text list
-    → IfErr r (λ e. MatchFailure e (denotes limit text ≡ []) ⊤) → IfErr r (λ e. MatchFailure e ⊥ ⊤)
+    → RefusedOnlyIf {A = List (Span VersionValue)} {E = E} r (denotes limit text ≡ []) → NeverRefused {A = List (Span VersionValue)} {E = E} r
 reread_read limit (Ok again) text list h e = tt
 reread_read limit (Err (Refused x)) text list h e = not_refused limit text list h e
 reread_read limit (Err (Memory x)) text list h e = tt

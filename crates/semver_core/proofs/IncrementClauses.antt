@@ -4,7 +4,7 @@ use Rattle.std.specs.Prelude.{Result, Ok, Err}
 use Rattle.std.specs.Result.{IfOk}
 use Rattle.semver_core.specs.Increment.{Fault, answer_of_inc, base_or_zero, identifier_or_none, incremented, is_release}
 use Rattle.semver_core.specs.IncrementLeast.{HasNoIdentifier, IsAbove, IsLeastAnswer, IsLeastOrOverflow, IsNextMajor, IsNextMinor, IsNextPatch, IsOfNextMajor, IsOfNextMinor, IsOfNextPatch, IsPlain, CanStep}
-use Rattle.semver_core.specs.IncrementView.{Answers, IfAnswered}
+use Rattle.semver_core.specs.IncrementView.{IfAnswered, Returns}
 use Rattle.semver_core.specs.Versions.{VersionValue, IsVersion}
 use Rattle.semver_core.specs.declared.error.Failure.{Failure}
 use Rattle.semver_core.specs.declared.error.Failure.TheVariants.{Refused, Memory}
@@ -14,7 +14,7 @@ use Rattle.semver_core.specs.declared.increment.IncrementError.{IncrementError}
 use Rattle.semver_core.proofs.IncrementLaws as law
 
 told : (P : Result VersionValue Fault → Type 0) (a : Result VersionValue Fault) (r : Result VersionValue (Failure IncrementError))
-    → P a → Answers {A = VersionValue} {B = VersionValue} (λ x. x) a r → IfAnswered P r
+    → P a → Returns {A = VersionValue} a r → IfAnswered P r
 told P a (Ok v) p h = subst P h p
 told P a (Err (Refused e)) p h = subst P h p
 told P a (Err (Memory e)) p h = tt
@@ -22,7 +22,7 @@ told P a (Err (Memory e)) p h = tt
 -- of a word, whatever the identifier and base
 by_word : (P : Result VersionValue Fault → Type 0) (v : VersionValue) (name word : List ℕ) (id : Option (List ℕ)) (base : Option IdentifierBase)
     (r : Result VersionValue (Failure IncrementError))
-    → P (incremented v name (identifier_or_none id) (base_or_zero base)) → Answers {A = VersionValue} {B = VersionValue} (λ x. x) (answer_of_inc v word id base) r
+    → P (incremented v name (identifier_or_none id) (base_or_zero base)) → Returns {A = VersionValue} (answer_of_inc v word id base) r
     → word ≡ name → IfAnswered P r
 by_word P v name word id base r p h e =
     told P (answer_of_inc v word id base) r (subst (λ w. P (incremented v w (identifier_or_none id) (base_or_zero base))) (sym e) p) h
@@ -30,7 +30,7 @@ by_word P v name word id base r p h e =
 -- of a word, without identifier and with base 0
 by_plain_word : (P : Result VersionValue Fault → Type 0) (v : VersionValue) (name word : List ℕ) (id : Option (List ℕ)) (base : Option IdentifierBase)
     (r : Result VersionValue (Failure IncrementError))
-    → P (incremented v name [] (Value 0)) → Answers {A = VersionValue} {B = VersionValue} (λ x. x) (answer_of_inc v word id base) r
+    → P (incremented v name [] (Value 0)) → Returns {A = VersionValue} (answer_of_inc v word id base) r
     → word ≡ name → IsPlain id base → IfAnswered P r
 by_plain_word P v name word id base r p h e plain =
     let same : incremented v word (identifier_or_none id) (base_or_zero base) ≡ incremented v name [] (Value 0)
@@ -38,7 +38,7 @@ by_plain_word P v name word id base r p h e plain =
     told P (answer_of_inc v word id base) r (subst P (sym same) p) h
 
 module _ (v : VersionValue) (word : List ℕ) (id : Option (List ℕ)) (base : Option IdentifierBase) (r : Result VersionValue (Failure IncrementError))
-    (k : IsVersion v) (h : Answers {A = VersionValue} {B = VersionValue} (λ x. x) (answer_of_inc v word id base) r) where
+    (k : IsVersion v) (h : Returns {A = VersionValue} (answer_of_inc v word id base) r) where
   pub patch_clause : word ≡ codes "patch" → IfAnswered (IsLeastOrOverflow (IsNextPatch v)) r
   patch_clause e = by_word (IsLeastOrOverflow (IsNextPatch v)) v (codes "patch") word id base r (law.patch_least v (identifier_or_none id) (base_or_zero base) k) h e
 
@@ -61,7 +61,7 @@ module _ (v : VersionValue) (word : List ℕ) (id : Option (List ℕ)) (base : O
   prerelease_clause e plain can = by_plain_word (IsLeastAnswer (IsAbove v)) v (codes "prerelease") word id base r (law.prerelease_least v k can) h e plain
 
 pub above_clause : (v : VersionValue) (word : List ℕ) (id : Option (List ℕ)) (base : Option IdentifierBase) (r : Result VersionValue (Failure IncrementError))
-    → Answers {A = VersionValue} {B = VersionValue} (λ x. x) (answer_of_inc v word id base) r
+    → Returns {A = VersionValue} (answer_of_inc v word id base) r
     → HasNoIdentifier id → (word ≡ codes "pre" → is_release v ≡ false) → IfOk r (IsAbove v)
 above_clause v word id base (Ok w) h none can =
     let same : incremented v word (identifier_or_none id) (base_or_zero base) ≡ incremented v word [] (base_or_zero base)
@@ -70,6 +70,6 @@ above_clause v word id base (Ok w) h none can =
 above_clause v word id base (Err e) h none can = tt
 
 pub build_clause : (v : VersionValue) (word : List ℕ) (id : Option (List ℕ)) (base : Option IdentifierBase) (r : Result VersionValue (Failure IncrementError))
-    → Answers {A = VersionValue} {B = VersionValue} (λ x. x) (answer_of_inc v word id base) r → IfOk r (λ w. w.build ≡ v.build)
+    → Returns {A = VersionValue} (answer_of_inc v word id base) r → IfOk r (λ w. w.build ≡ v.build)
 build_clause v word id base (Ok w) h = law.increment_keeps_build v w word (identifier_or_none id) (base_or_zero base) h
 build_clause v word id base (Err e) h = tt

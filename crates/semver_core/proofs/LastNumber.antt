@@ -21,7 +21,6 @@ use Rattle.std.specs.List.{list_all}
 use Rattle.std.specs.Prelude.{nat_lt}
 use Rattle.std.specs.Result.{MatchResult}
 use Rattle.std.specs.Str.Parse.{ParsesUnsigned, digits_value}
-use Rattle.semver_core.specs.IncrementView.{Answers}
 use Rattle.semver_core.specs.declared.error.Failure.{Failure}
 use Rattle.semver_core.specs.declared.error.Failure.TheVariants.{Refused, Memory}
 use Rattle.semver_core.specs.declared.increment.IncrementError.{IncrementError}
@@ -109,21 +108,6 @@ differs m n h = by (m == n) refl
     by true e = absurd (h (grind (arith, nat_tests)))
     by false e = refl
 
--- digits that are not read have no value of 64 bits
-pub unread : {E : Type 0} (ds : List ℕ) (n : ℕ) (e : E) → ParsesUnsigned 64 10 ds (Err e) → list_all is_ascii_digit ds ≡ true → 0 < length ds → n < 2 ^ 64
-    → false ≡ (digits_value 10 ds == n)
-unread {E} ds n e h d some small = differs (digits_value 10 ds) n (λ same. parse_digits numerals {E = E} 64 ds (Err e) h d (some, omega (arith, same, small)))
-
-pub raise_err : {B : Type 0} (view : B → List Id) (list : List Id) (i n : ℕ) (e : Failure IncrementError) → IsLastNumber list i n
-    → Answers {A = ℕ} {B = ℕ} (λ x. x) (one_more n) (Err e) → Answers {A = List Id} {B = B} view (raise_last list) (Err e)
-raise_err view list i n (Refused e) last h = raise_at list i n last ∙ ap (λ r. r >>= λ m. Ok (set list i (Numeric m))) h
-raise_err view list i n (Memory e) last h = tt
-
-pub raise_ok : {B : Type 0} (view : B → List Id) (list : List Id) (i n m : ℕ) (r : Result B (Failure IncrementError)) → IsLastNumber list i n
-    → one_more n ≡ Ok m → Answers {A = List Id} {B = B} view (Ok (set list i (Numeric m))) r → Answers {A = List Id} {B = B} view (raise_last list) r
-raise_ok {B} view list i n m r last h k =
-    subst (λ a. Answers {A = List Id} {B = B} view a r) (sym (raise_at list i n last ∙ ap (λ r. r >>= λ m. Ok (set list i (Numeric m))) h)) k
-
 -- one more part of a printed list
 pub part_more : (xs : List Id) (x : Id) → list_text (xs ++ x ∷ []) ≡ (if is_empty xs then id_text x else list_text xs ++ 46 ∷ id_text x)
 part_more [] x = refl
@@ -165,11 +149,6 @@ number_there list i n last = ap has_numeric last.divided ∙ has_it last.front l
 by_raise : (list : List Id) (id : List ℕ) (base : IdentifierBase) → has_numeric list ≡ true → advance list id base ≡ raise_last list
 by_raise [] id base h = cc
 by_raise (x ∷ xs) id base h = rw h refl
-
-pub advance_last : {B : Type 0} (view : B → List Id) (list : List Id) (i n : ℕ) (id : List ℕ) (base : IdentifierBase) (r : Result B (Failure IncrementError)) → IsLastNumber list i n
-    → Answers {A = List Id} {B = B} view (raise_last list) r → Answers {A = List Id} {B = B} view (advance list id base) r
-advance_last {B} view list i n id base r last h =
-    subst (λ a. Answers {A = List Id} {B = B} view a r) (sym (by_raise list id base (number_there list i n last))) h
 
 not_less : (m n : ℕ) → (m < n → ⊥) → n ≤ m
 not_less m n h = by (nat_lt m n) refl

@@ -13,7 +13,9 @@ pub mod IncrementLaws
 pub mod NextLaws
 pub mod Returns
 pub mod Prints
+pub mod LargerLimit
 pub mod Reread
+pub mod Through
 pub mod Spaces
 pub mod SpaceLaw
 pub mod Trims

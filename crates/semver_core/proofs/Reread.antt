@@ -1,8 +1,9 @@
 -- Serves proofs: a version that is printed and parsed.
 use Rattle.std.proofs.Common.{◌≡◌, ◌≤◌, ◌<◌, ◌^◌, List, ℕ, length, Ok, Err, Result}
-use Rattle.std.specs.Prelude.{IsUtf8, IfOk, IfErr, ⊤}
+use Rattle.std.specs.Prelude.{IsUtf8, IfOk}
+use Rattle.semver_core.specs.Failures.{NeverRefused, RefusedOnlyIf}
 use Rattle.semver_core.specs.Normal.{IsReadable}
-use Rattle.semver_core.specs.Parsing.{Parses, IsRefused, NeedsMemory, MatchFailure}
+use Rattle.semver_core.specs.Parsing.{Parses, IsRefused}
 use Rattle.semver_core.specs.Printed.{version_text}
 use Rattle.semver_core.specs.Versions.{VersionValue}
 use Rattle.semver_core.specs.declared.TheConstants.{MAX_LENGTH}
@@ -16,7 +17,7 @@ reread_same limit (Ok w) v text max u e h p = parsed_back limit v w text max u e
 reread_same limit (Err x) v text max u e h p = tt
 
 pub reread_read : {E : Type 0} (limit : ℕ) (r : Result VersionValue (Failure E)) (v : VersionValue) (text : List ℕ) → limit < 2 ^ 64 → IsUtf8 text → text ≡ version_text v
-    → length (version_text v) ≤ MAX_LENGTH → IsReadable limit v → IfErr r (λ e. MatchFailure e (IsRefused limit text) (NeedsMemory limit text)) → IfErr r (λ e. MatchFailure e ⊥ ⊤)
+    → length (version_text v) ≤ MAX_LENGTH → IsReadable limit v → RefusedOnlyIf {A = VersionValue} {E = E} r (IsRefused limit text) → NeverRefused {A = VersionValue} {E = E} r
 reread_read limit (Ok w) v text max u e short h p = tt
 reread_read limit (Err (Refused x)) v text max u e short h p = p v (parses_back limit v text max u e short h)
 reread_read limit (Err (Memory x)) v text max u e short h p = tt

@@ -1,13 +1,22 @@
 -- For proofs and private contracts: what the steps of `inc` say to one another.
-use Rattle.std.specs.Prelude.{◌≡◌, ℕ, List, ◌∷◌, ◌++◌, length, Option, Some, None, ⊤, false}
+use Rattle.std.specs.Prelude.{◌≡◌, ℕ, List, ◌∷◌, ◌++◌, length, Option, Some, None, Result, Ok, Err, Vec, ⊤, false}
+use Rattle.std.specs.declared.alloc.Global.{Global}
 use Rattle.semver_core.specs.Identifiers.{Id, Numeric}
 use Rattle.semver_core.specs.Increment.{Fault, has_numeric}
 use Rattle.semver_core.specs.IncrementView.{fault_of}
+use Rattle.semver_core.specs.Views.{ids_view}
 use Rattle.semver_core.specs.declared.error.Failure.{Failure}
 use Rattle.semver_core.specs.declared.error.Failure.TheVariants.{Refused, Memory}
+use Rattle.semver_core.specs.declared.identifier.Identifier.{Identifier}
 use Rattle.semver_core.specs.declared.increment.IncrementError.{IncrementError}
 
--- it is refused with this fault, or there is no memory
+-- the call returns this list, or an error that tells this fault, unless an allocation fails
+abbrev pub ReturnsList : Result (List Id) Fault → Result (Vec Identifier Global) (Failure IncrementError) → Type 0
+ReturnsList expected (Ok list) = expected ≡ Ok (ids_view list.items)
+ReturnsList expected (Err (Refused e)) = expected ≡ Err (fault_of e)
+ReturnsList expected (Err (Memory e)) = ⊤
+
+-- the error tells this fault, unless an allocation fails
 abbrev pub RefusedWith : Fault → Failure IncrementError → Type 0
 RefusedWith fault (Refused e) = fault ≡ fault_of e
 RefusedWith fault (Memory e) = ⊤

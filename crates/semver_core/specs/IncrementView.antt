@@ -1,5 +1,7 @@
--- Statement: how the answer of `inc` is seen in what a call returns.
-use Rattle.std.specs.Prelude.{◌≡◌, Result, Ok, Err, ⊤, string_bytes}
+-- Statement. What `inc` is given and returns, in the words of its table.
+use Rattle.std.specs.Prelude.{◌≡◌, ℕ, List, Option, Result, Ok, Err, ⊤, string_bytes}
+use denote.Ref.{Bor}
+use Rattle.std.specs.Option.{option_copied}
 use Rattle.semver_core.specs.Increment as spec
 use Rattle.semver_core.specs.Increment.{Fault}
 use Rattle.semver_core.specs.Versions.{VersionValue}
@@ -15,13 +17,24 @@ fault_of (variant.InvalidIncrementArgument text) = spec.InvalidIncrementArgument
 fault_of (variant.NotAPrerelease text) = spec.NotAPrerelease (string_bytes text)
 fault_of variant.Overflow = spec.Overflow
 
--- the call answers this, its value seen by `view`, or finds no memory
-abbrev pub Answers : {A B : Type 0} → (B → A) → Result A Fault → Result B (Failure IncrementError) → Type 0
-Answers view answer (Ok value) = answer ≡ Ok (view value)
-Answers view answer (Err (Refused e)) = answer ≡ Err (fault_of e)
-Answers view answer (Err (Memory e)) = ⊤
+-- the fault comes with a text
+abbrev pub HasText : Fault → Type 0
+HasText (spec.InvalidIdentifier text) = ⊤
+HasText (spec.InvalidIncrementArgument text) = ⊤
+HasText (spec.NotAPrerelease text) = ⊤
+HasText spec.Overflow = ⊥
 
--- this holds of the call's answer, unless it finds no memory
+-- the identifier that the caller passes, or none
+abbrev pub given : Option (Bor (List ℕ)) → Option (List ℕ)
+given id = option_copied id
+
+-- the call returns this value, or an error that tells this fault, unless an allocation fails
+abbrev pub Returns : {A : Type 0} → Result A Fault → Result A (Failure IncrementError) → Type 0
+Returns expected (Ok value) = expected ≡ Ok value
+Returns expected (Err (Refused e)) = expected ≡ Err (fault_of e)
+Returns expected (Err (Memory e)) = ⊤
+
+-- this holds of what the call returns, unless an allocation fails
 abbrev pub IfAnswered : (Result VersionValue Fault → Type 0) → Result VersionValue (Failure IncrementError) → Type 0
 IfAnswered P (Ok v) = P (Ok v)
 IfAnswered P (Err (Refused e)) = P (Err (fault_of e))

@@ -4,6 +4,7 @@ pub mod Identifiers
 pub mod Versions
 pub mod Order
 pub mod Grammar
+pub mod Limits
 pub mod Printed
 pub mod Views
 pub mod Reading
@@ -13,6 +14,7 @@ pub mod VersionView
 pub mod Triples
 pub mod PartsView
 pub mod ListView
+pub mod Failures
 pub mod Parsing
 pub mod Normal
 pub mod PrintedRows

@@ -5,7 +5,7 @@ use Rattle.std.specs.List.{list_all}
 use Rattle.std.specs.Str.Parse.{digits_value}
 use Rattle.semver_core.specs.Characters.{begins}
 
--- a number: digits, leading zeros allowed, of a value up to MAX_SAFE_INTEGER
+-- a number: digits, leading zeros allowed, of a value up to the limit
 pub record IsNumber (limit : ℕ) (digits : List ℕ) (n : ℕ) : Type 0 where
   pub some : 0 < length digits
   pub each : list_all is_ascii_digit digits ≡ true

@@ -1,10 +1,8 @@
--- Statement: what `parse` reads: a version text of at most 256 bytes.
+-- Statement. What `parse` reads: a version text of at most 256 bytes.
 use Rattle.std.specs.Prelude.{◌≤◌, List, ℕ, length}
 use Rattle.semver_core.specs.Grammar.{Reads}
 use Rattle.semver_core.specs.Versions.{VersionValue, HasIdentifiers}
 use Rattle.semver_core.specs.declared.TheConstants.{MAX_LENGTH}
-use Rattle.semver_core.specs.declared.error.Failure.{Failure}
-use Rattle.semver_core.specs.declared.error.Failure.TheVariants.{Refused, Memory}
 
 pub record Parses (limit : ℕ) (text : List ℕ) (v : VersionValue) : Type 0 where
   pub short : length text ≤ MAX_LENGTH
@@ -17,8 +15,3 @@ IsRefused limit text = (v : VersionValue) → Parses limit text v → ⊥
 -- a version with a pre-release or a build is read from the text
 abbrev pub NeedsMemory : ℕ → List ℕ → Type 0
 NeedsMemory limit text = (v : VersionValue) × Parses limit text v × HasIdentifiers v
-
--- a fact for each kind of failure
-abbrev pub MatchFailure : {E : Type 0} → Failure E → Type 0 → Type 0 → Type 0
-MatchFailure (Refused e) P Q = P
-MatchFailure (Memory e) P Q = Q

@@ -32,12 +32,14 @@ pub enum VersionDiff {
 /// A kind of release, named as the kind of difference.
 pub type ReleaseType = VersionDiff;
 
-/// Writes the word of the kind, as `Version::inc` takes it. Width and fill are not looked at.
+/// Writes the word of the kind, as `Version::inc` takes it. Width, fill and precision change nothing.
 impl fmt::Display for VersionDiff {
     ghost use Rattle.std.specs.Prelude.{Some};
     ghost use Rattle.semver_core.specs.Difference.{word_of};
 
     ghost output = { λ kind. Some (word_of kind) };
+
+    ghost styled_output = { λ kind _. Some (word_of kind) };
 
     fn fmt<W: fmt::Write>(&self, f: &mut fmt::Formatter<W>) -> fmt::Result {
         f.write_str(match self {

@@ -1,10 +1,9 @@
 // Increments: the next version by a word, as release tools ask for it.
 
-ghost use Rattle.std.specs.Prelude.{◌≡◌, IfOk, codes, false};
-ghost use Rattle.std.specs.Option.{option_copied};
+ghost use Rattle.std.specs.Prelude.{◌≡◌, IfOk, OnErr, codes, false};
 ghost use Rattle.semver_core.specs.Increment as spec;
 ghost use Rattle.semver_core.specs.IncrementLeast.{CanStep, HasNoIdentifier, IsAbove, IsLeastAnswer, IsLeastOrOverflow, IsNextMajor, IsNextMinor, IsNextPatch, IsOfNextMajor, IsOfNextMinor, IsOfNextPatch, IsPlain};
-ghost use Rattle.semver_core.specs.IncrementView.{Answers, IfAnswered, fault_of};
+ghost use Rattle.semver_core.specs.IncrementView.{HasText, IfAnswered, Returns, fault_of, given};
 ghost use Rattle.semver_core.specs.IncrementSteps.{RefusedWith};
 ghost use Rattle.semver_core.specs.Versions.{IsVersion};
 
@@ -97,9 +96,10 @@ pub enum IncrementError {
 }
 
 impl IncrementError {
-    /// The same error once more.
+    /// The same error again. Fails only if allocation fails; copying `Overflow` never does.
     pub fn copy(&self, alloc: Global) -> Result<IncrementError, AllocError>
-        ensures { IfOk result (λ e. fault_of e ≡ fault_of self.now) }
+        ensures whole { IfOk result (λ e. fault_of e ≡ fault_of self.now) }
+        ensures memory { OnErr result (HasText (fault_of self.now)) }
     {
         Ok(match self {
             IncrementError::InvalidIdentifier(text) => {
@@ -125,7 +125,7 @@ pub(crate) fn is_release(version: &Version) -> bool
 
 // One more, in 64 bits.
 fn one_more(n: u64) -> Result<u64, Failure<IncrementError>>
-    ensures { Answers (λ x. x) (spec.one_more n) result }
+    ensures { Returns (spec.one_more n) result }
 {
     match n.checked_add(1) {
         Some(more) => Ok(more),
@@ -164,7 +164,7 @@ fn refused_identifier(alloc: Global, id: &str) -> Failure<IncrementError>
 
 // The two checks of a word that begins with `pre`.
 fn check(alloc: Global, id: &str, base: IdentifierBase) -> Result<(), Failure<IncrementError>>
-    ensures { Answers (λ x. x) (spec.checked id.now base) result }
+    ensures { Returns (spec.checked id.now base) result }
 {
     if id.is_empty() && is_false(base) {
         Err(refused_argument(alloc, "identifier is empty"))
@@ -183,7 +183,7 @@ fn by_checked_word(
     id: &str,
     base: IdentifierBase,
 ) -> Result<Version, Failure<IncrementError>>
-    ensures { Answers (λ x. x) (spec.incremented version.now word.now id.now base) result }
+    ensures { Returns (spec.incremented version.now word.now id.now base) result }
 {
     if word.starts_with("pre") {
         check(alloc, id, base)?;
@@ -199,7 +199,7 @@ fn increment(
     identifier: Option<&str>,
     base: Option<IdentifierBase>,
 ) -> Result<Version, Failure<IncrementError>>
-    ensures { Answers (λ x. x) (spec.answer_of_inc version.now word.now (option_copied identifier.entry) base) result }
+    ensures { Returns (spec.answer_of_inc version.now word.now (given identifier.entry) base) result }
 {
     by_checked_word(
         alloc,
@@ -255,23 +255,23 @@ impl Version {
         base: Option<IdentifierBase>,
     ) -> Result<Version, Failure<IncrementError>>
         // It answers what the table says.
-        ensures value { Answers (λ x. x) (spec.answer_of_inc self.now word.now (option_copied identifier.entry) base) result }
+        ensures value { Returns (spec.answer_of_inc self.now word.now (given identifier.entry) base) result }
         // The least release above of its kind, or Overflow where no version is one.
         ensures patch { word.now ≡ codes "patch" → IfAnswered (IsLeastOrOverflow (IsNextPatch self.now)) result }
         ensures minor { word.now ≡ codes "minor" → IfAnswered (IsLeastOrOverflow (IsNextMinor self.now)) result }
         ensures major { word.now ≡ codes "major" → IfAnswered (IsLeastOrOverflow (IsNextMajor self.now)) result }
         // Without identifier and with base 0: the least version of the next major, minor or patch, or Overflow.
-        ensures premajor { word.now ≡ codes "premajor" → IsPlain (option_copied identifier.entry) base
+        ensures premajor { word.now ≡ codes "premajor" → IsPlain (given identifier.entry) base
             → IfAnswered (IsLeastOrOverflow (IsOfNextMajor self.now)) result }
-        ensures preminor { word.now ≡ codes "preminor" → IsPlain (option_copied identifier.entry) base
+        ensures preminor { word.now ≡ codes "preminor" → IsPlain (given identifier.entry) base
             → IfAnswered (IsLeastOrOverflow (IsOfNextMinor self.now)) result }
-        ensures prepatch { word.now ≡ codes "prepatch" → IsPlain (option_copied identifier.entry) base
+        ensures prepatch { word.now ≡ codes "prepatch" → IsPlain (given identifier.entry) base
             → IfAnswered (IsLeastOrOverflow (IsOfNextPatch self.now)) result }
         // And the least version above, where the patch can rise or the pre-release has no number.
-        ensures prerelease { word.now ≡ codes "prerelease" → IsPlain (option_copied identifier.entry) base → CanStep self.now
+        ensures prerelease { word.now ≡ codes "prerelease" → IsPlain (given identifier.entry) base → CanStep self.now
             → IfAnswered (IsLeastAnswer (IsAbove self.now)) result }
         // Without identifier it goes up, save `pre` on a release.
-        ensures above { HasNoIdentifier (option_copied identifier.entry) → (word.now ≡ codes "pre" → spec.is_release self.now ≡ false)
+        ensures above { HasNoIdentifier (given identifier.entry) → (word.now ≡ codes "pre" → spec.is_release self.now ≡ false)
             → IfOk result (IsAbove self.now) }
         ensures build { IfOk result (λ next. next.build ≡ self.now.build) }
     {

@@ -11,6 +11,8 @@ mod whitespace;
 pub use crate::laws::intervals::intervals_equal;
 pub use crate::laws::next::next_versions;
 pub use crate::laws::order::{identifiers_in_order, versions_in_order};
-pub use crate::laws::printing::{printed_versions_come_back, reread};
-pub use crate::laws::reading::{constants, one_reading};
+pub use crate::laws::printing::{
+    identifier_in_field, printed_versions_come_back, reread, version_in_field,
+};
+pub use crate::laws::reading::{constants, larger_limits, one_reading};
 pub use crate::laws::whitespace::whitespace_in_bytes;

@@ -11,7 +11,7 @@ mod error;
 mod identifier;
 mod increment;
 pub mod laws;
-mod print;
+pub mod print;
 pub mod readers;
 mod version;
 
@@ -25,8 +25,8 @@ pub use crate::version::parts::VersionParts;
 
 pub mod scan;
 
-/// The greatest number that is read from a text. It is the crate's own limit, and not JavaScript's constant of that name.
-pub const MAX_SAFE_INTEGER: u64 = 900_719_925_474_099;
+/// The greatest number that is read from a text: JavaScript's `Number.MAX_SAFE_INTEGER`, 2^53 - 1.
+pub const MAX_SAFE_INTEGER: u64 = 9_007_199_254_740_991;
 
 /// The length of the longest text that `Version::parse` reads, in bytes.
 pub const MAX_LENGTH: usize = 256;

@@ -1,7 +1,8 @@
 // Versions: five values.
 
-ghost use Rattle.std.specs.Prelude.{◌≡◌, ◌↔◌, Some, refl, IsTrue, IfOk, IfErr, All, true, false, length, ◌<◌};
-ghost use Rattle.semver_core.specs.Parsing.{Parses, IsRefused, NeedsMemory, MatchFailure};
+ghost use Rattle.std.specs.Prelude.{◌≡◌, ◌↔◌, Some, refl, IsTrue, IfOk, All, true, false, length, ◌<◌};
+ghost use Rattle.semver_core.specs.Failures.{MemoryOnlyIf, RefusedOnlyIf};
+ghost use Rattle.semver_core.specs.Parsing.{Parses, IsRefused, NeedsMemory};
 ghost use Rattle.semver_core.specs.Versions.{VersionValue, IsVersion, IsId};
 ghost use Rattle.semver_core.specs.ListView.{list_ids};
 ghost use Rattle.semver_core.specs.Views.{ids_view, id_view};
@@ -63,8 +64,10 @@ impl Version {
     pub fn parse(alloc: Global, text: &str) -> Result<Version, Failure<SemverError>>
         // What is read is a version of the text.
         ensures ok { IfOk result (λ v. Parses MAX_SAFE_INTEGER text.now v) }
-        // A text is refused only where it has none, or is too long; memory is missing only for identifiers.
-        ensures err { IfErr result (λ e. MatchFailure e (IsRefused MAX_SAFE_INTEGER text.now) (NeedsMemory MAX_SAFE_INTEGER text.now)) }
+        // The text is rejected only if it is too long or has no version at its front.
+        ensures refused { RefusedOnlyIf result (IsRefused MAX_SAFE_INTEGER text.now) }
+        // Allocation fails only for a version with identifiers.
+        ensures memory { MemoryOnlyIf result (NeedsMemory MAX_SAFE_INTEGER text.now) }
     {
         if text.len() > MAX_LENGTH {
             return Err(Failure::Refused(SemverError));

@@ -1,11 +1,11 @@
 // The headline of this crate. It rests on the contracts of the public calls alone.
 
-ghost use Rattle.std.specs.Prelude.{◌≡◌, ◌<◌, ◌⊎◌, ◌&&◌, not, ⊤, [], length, IfErr, IfOk, OnOk, true, false};
+ghost use Rattle.std.specs.Prelude.{◌≡◌, ◌<◌, ◌⊎◌, ◌&&◌, not, [], length, IfOk, OnOk, true, false};
 ghost use Rattle.nodejs_semver.specs.Accepts.{accepts, option_accepts};
 ghost use Rattle.nodejs_semver.specs.Denotes.{denotes};
 ghost use Rattle.nodejs_semver.specs.Least.{IsLeastOf};
 ghost use Rattle.nodejs_semver.specs.Written.{writes};
-ghost use Rattle.semver_core.specs.Parsing.{MatchFailure};
+ghost use Rattle.semver_core.specs.Failures.{RefusedOnlyIf};
 ghost use Rattle.semver_core.specs.Versions.{VersionValue};
 
 use crate::{Failure, MAX_SAFE_INTEGER, Range, SemverError, Version};
@@ -32,9 +32,9 @@ pub struct Findings {
 /// `Range::satisfies_with_prerelease` answers what `accepts` says here, and `satisfies` the same with false for the flag.
 pub fn headline(alloc: Global, a: &str, b: &str) -> Result<Findings, Failure<SemverError>>
     ensures read { OnOk result ((0 < length (denotes MAX_SAFE_INTEGER a.now)) × (0 < length (denotes MAX_SAFE_INTEGER b.now))) }
-    // The one other error is want of memory.
-    ensures refused { IfErr result (λ e.
-        MatchFailure e ((denotes MAX_SAFE_INTEGER a.now ≡ []) ⊎ (denotes MAX_SAFE_INTEGER b.now ≡ [])) ⊤) }
+    // The one other error is a failed allocation.
+    ensures refused { RefusedOnlyIf result
+        ((denotes MAX_SAFE_INTEGER a.now ≡ []) ⊎ (denotes MAX_SAFE_INTEGER b.now ≡ [])) }
     ensures first { IfOk result (λ found. (v : VersionValue) →
         accepts found.first v true ≡ writes MAX_SAFE_INTEGER a.now v) }
     ensures both { IfOk result (λ found. (v : VersionValue) →
@@ -77,8 +77,8 @@ pub fn headline_at(
     version: &Version,
 ) -> Result<FindingsAt, Failure<SemverError>>
     ensures read { OnOk result ((0 < length (denotes MAX_SAFE_INTEGER a.now)) × (0 < length (denotes MAX_SAFE_INTEGER b.now))) }
-    ensures refused { IfErr result (λ e.
-        MatchFailure e ((denotes MAX_SAFE_INTEGER a.now ≡ []) ⊎ (denotes MAX_SAFE_INTEGER b.now ≡ [])) ⊤) }
+    ensures refused { RefusedOnlyIf result
+        ((denotes MAX_SAFE_INTEGER a.now ≡ []) ⊎ (denotes MAX_SAFE_INTEGER b.now ≡ [])) }
     ensures first { IfOk result (λ found. found.in_first ≡ writes MAX_SAFE_INTEGER a.now version.now) }
     ensures both { IfOk result (λ found.
         found.in_both ≡ (writes MAX_SAFE_INTEGER a.now version.now && writes MAX_SAFE_INTEGER b.now version.now)) }

@@ -1,11 +1,11 @@
 // Printed ranges come back.
 
-ghost use Rattle.std.specs.Prelude.{◌≡◌, ⊤, IfErr, IfOk, map, string_bytes, true};
+ghost use Rattle.std.specs.Prelude.{◌≡◌, IfOk, map, string_bytes, true};
 ghost use Rattle.std.specs.List.{list_all};
 ghost use Rattle.nodejs_semver.specs.ComesBack.{RangesComeBack, is_printable, read_back};
 ghost use Rattle.nodejs_semver.specs.Printed.{range_text};
 ghost use Rattle.nodejs_semver.specs.SameRange.{range_eq};
-ghost use Rattle.semver_core.specs.Parsing.{MatchFailure};
+ghost use Rattle.semver_core.specs.Failures.{NeverRefused};
 
 use crate::{Failure, MAX_SAFE_INTEGER, Range, SemverError};
 use std::alloc::{AllocError, Global};
@@ -28,7 +28,7 @@ pub fn reread_range(alloc: Global, range: &Range) -> Result<Range, Failure<Semve
     ensures equal { IfOk result (λ again. range_eq again range.now ≡ true) }
     ensures builds { IfOk result (λ again. again ≡ map read_back range.now) }
     ensures text { IfOk result (λ again. range_text again ≡ range_text range.now) }
-    ensures never_refused { IfErr result (λ e. MatchFailure e ⊥ ⊤) }
+    ensures never_refused { NeverRefused result }
 {
     // No effect at run time: the proof learns from it that a range has an interval.
     let _intervals = range.intervals();

@@ -22,12 +22,14 @@ pub enum OutsideDirection {
     Lower,
 }
 
-/// Writes `>` for `Higher` and `<` for `Lower`.
+/// Writes `>` for `Higher` and `<` for `Lower`. Width, fill and precision change nothing.
 impl fmt::Display for OutsideDirection {
     ghost use Rattle.nodejs_semver.specs.Outside.{direction_char};
     ghost use Rattle.std.specs.Prelude.{Some, [], ◌∷◌};
 
     ghost output = { λ direction. Some (direction_char direction ∷ []) };
+
+    ghost styled_output = { λ direction _. Some (direction_char direction ∷ []) };
 
     fn fmt<W: fmt::Write>(&self, f: &mut fmt::Formatter<W>) -> fmt::Result {
         f.write_str(match self {

@@ -1,11 +1,11 @@
 // Ranges are read from their texts.
 
-ghost use Rattle.std.specs.Prelude.{◌≡◌, ◌<◌, ⊤, [], IfErr, IfOk, OnOk, length, true};
+ghost use Rattle.std.specs.Prelude.{◌≡◌, ◌<◌, [], IfOk, OnOk, length, true};
 ghost use Rattle.nodejs_semver.specs.Accepts.{accepts};
 ghost use Rattle.nodejs_semver.specs.Denotes.{denotes};
 ghost use Rattle.nodejs_semver.specs.Written.{writes};
 ghost use Rattle.semver_core.specs.Cuts.{if_any};
-ghost use Rattle.semver_core.specs.Parsing.{MatchFailure};
+ghost use Rattle.semver_core.specs.Failures.{RefusedOnlyIf};
 ghost use Rattle.semver_core.specs.Versions.{VersionValue};
 
 use crate::Range;
@@ -27,8 +27,8 @@ impl Range {
         // The intervals are those of the text, in order and with their builds.
         ensures ok { IfOk result (λ range. range ≡ denotes MAX_SAFE_INTEGER text.now) }
         ensures some { OnOk result (0 < length (denotes MAX_SAFE_INTEGER text.now)) }
-        // A text is refused only where it has none. The one other error is want of memory.
-        ensures err { IfErr result (λ e. MatchFailure e (denotes MAX_SAFE_INTEGER text.now ≡ []) ⊤) }
+        // The text is rejected only if it has none. The one other error is a failed allocation.
+        ensures refused { RefusedOnlyIf result (denotes MAX_SAFE_INTEGER text.now ≡ []) }
         // With pre-releases included, the range accepts exactly the versions that the text writes.
         ensures set { IfOk result (λ range. (v : VersionValue) → accepts range v true ≡ writes MAX_SAFE_INTEGER text.now v) }
     {

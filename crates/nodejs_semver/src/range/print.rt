@@ -1,12 +1,12 @@
 // How ranges print.
 
-ghost use Rattle.std.specs.Fmt.{DisplaysStyledOnOk, HasWrittenStyled, IsFlush};
-ghost use Rattle.std.specs.Prelude.{Some, ◌≡◌};
+ghost use Rattle.std.specs.Prelude.{Some};
 ghost use Rattle.nodejs_semver.specs.Printed.{lower_text, upper_text, span_text, range_text};
 
 use crate::Range;
 use semver_core::Version;
 use semver_core::cuts::{Bound, Interval};
+use semver_core::print::write_unstyled;
 use std::fmt;
 
 // A lower bound: `>=v` or `>v`, and nothing where there is none.
@@ -77,32 +77,6 @@ impl fmt::Display for Joined<'_> {
         }
         Ok(())
     }
-}
-
-// A formatter as a writer of text alone: what is written through it heeds none of the formatter's options.
-#[derive(Drop)]
-struct Through<'a, W> {
-    formatter: &'a mut fmt::Formatter<W>,
-}
-
-impl<W: fmt::Write> fmt::Write for Through<'_, W> {
-    ghost write_str_gives = { λ s text t. (t.formatter.ghost_name ≡ s.formatter.ghost_name)
-        × (IsFlush s.formatter.now → HasWrittenStyled W.write_str_gives s.formatter.now text t.formatter.now) };
-
-    fn write_str(&mut self, s: &str) -> fmt::Result {
-        self.formatter.write_str(s)
-    }
-}
-
-// Writes the value as `{}` does, whatever options the formatter has.
-fn write_unstyled<D: fmt::Display + Drop, W: fmt::Write>(
-    f: &mut fmt::Formatter<W>,
-    value: D,
-) -> fmt::Result
-    ensures { DisplaysStyledOnOk W.write_str_gives f.old result (D.output value) f.new }
-{
-    let mut out = Through { formatter: f };
-    fmt::Write::write(&mut out, value)
 }
 
 /// A range prints its intervals joined by `||`, as in `>=1.2.0 <2.0.0-0||>=3.0.0-rc`. An interval prints `*` without bounds,

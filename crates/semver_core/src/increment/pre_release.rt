@@ -7,8 +7,7 @@ ghost use Rattle.std.specs.Str.Parse.{digits_value};
 ghost use Rattle.semver_core.specs.Characters.{is_identifier_char};
 ghost use Rattle.semver_core.specs.Identifiers.{Numeric, is_run};
 ghost use Rattle.semver_core.specs.Increment as spec;
-ghost use Rattle.semver_core.specs.IncrementSteps.{IsLastNumber, Tracks};
-ghost use Rattle.semver_core.specs.IncrementView.{Answers};
+ghost use Rattle.semver_core.specs.IncrementSteps.{IsLastNumber, ReturnsList, Tracks};
 ghost use Rattle.semver_core.specs.Printed as printed;
 ghost use Rattle.semver_core.specs.Views.{id_view, ids_view};
 
@@ -27,7 +26,7 @@ pub(super) fn advance(
     id: &str,
     base: IdentifierBase,
 ) -> Result<Vec<Identifier>, Failure<IncrementError>>
-    ensures { Answers (λ v. ids_view v.items) (spec.advance (ids_view list.now) id.now base) result }
+    ensures { ReturnsList (spec.advance (ids_view list.now) id.now base) result }
 {
     if list.is_empty() {
         return Ok(number_alone(alloc, first_number(base))?);
@@ -102,7 +101,7 @@ fn raise_last(
 ) -> Result<Vec<Identifier>, Failure<IncrementError>>
     requires place { place < length list.now }
     requires last { IsLastNumber (ids_view list.now) place number }
-    ensures { Answers (λ v. ids_view v.items) (spec.raise_last (ids_view list.now)) result }
+    ensures { ReturnsList (spec.raise_last (ids_view list.now)) result }
 {
     let more = one_more(number)?;
     Ok(replaced(alloc, list, place, Identifier::Numeric(more))?)
@@ -133,7 +132,7 @@ fn count(
     id: &str,
     base: IdentifierBase,
 ) -> Result<Vec<Identifier>, Failure<IncrementError>>
-    ensures { Answers (λ v. ids_view v.items) (spec.counted (ids_view list.now) id.now base) result }
+    ensures { ReturnsList (spec.counted (ids_view list.now) id.now base) result }
 {
     if is_false(base) && is_printed(alloc, list, id)? {
         return Err(refused_argument(alloc, "identifier already exists"));

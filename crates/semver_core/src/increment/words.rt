@@ -2,7 +2,7 @@
 
 ghost use Rattle.std.specs.Prelude.{◌≡◌, Ok};
 ghost use Rattle.semver_core.specs.Increment as spec;
-ghost use Rattle.semver_core.specs.IncrementView.{Answers};
+ghost use Rattle.semver_core.specs.IncrementView.{Returns};
 ghost use Rattle.semver_core.specs.ListView.{list_ids};
 
 use crate::increment::pre_release::{advance, identify};
@@ -19,7 +19,7 @@ pub(super) fn by_word(
     id: &str,
     base: IdentifierBase,
 ) -> Result<Version, Failure<IncrementError>>
-    ensures { Answers (λ x. x) (spec.by_word word.now id.now base version.now) result }
+    ensures { Returns (spec.by_word word.now id.now base version.now) result }
 {
     match word {
         "major" => major(alloc, version),
@@ -36,7 +36,7 @@ pub(super) fn by_word(
 }
 
 fn major(alloc: Global, version: &Version) -> Result<Version, Failure<IncrementError>>
-    ensures { Answers (λ x. x) (spec.by_major version.now) result }
+    ensures { Returns (spec.by_major version.now) result }
 {
     if version.minor() == 0 && version.patch() == 0 && !is_release(version) {
         release_of(alloc, version)
@@ -46,7 +46,7 @@ fn major(alloc: Global, version: &Version) -> Result<Version, Failure<IncrementE
 }
 
 fn minor(alloc: Global, version: &Version) -> Result<Version, Failure<IncrementError>>
-    ensures { Answers (λ x. x) (spec.by_minor version.now) result }
+    ensures { Returns (spec.by_minor version.now) result }
 {
     if version.patch() == 0 && !is_release(version) {
         release_of(alloc, version)
@@ -56,7 +56,7 @@ fn minor(alloc: Global, version: &Version) -> Result<Version, Failure<IncrementE
 }
 
 fn patch(alloc: Global, version: &Version) -> Result<Version, Failure<IncrementError>>
-    ensures { Answers (λ x. x) (spec.by_patch version.now) result }
+    ensures { Returns (spec.by_patch version.now) result }
 {
     if is_release(version) {
         next_patch(alloc, version)
@@ -71,7 +71,7 @@ fn prerelease(
     id: &str,
     base: IdentifierBase,
 ) -> Result<Version, Failure<IncrementError>>
-    ensures { Answers (λ x. x) (spec.by_prerelease id.now base version.now) result }
+    ensures { Returns (spec.by_prerelease id.now base version.now) result }
 {
     if is_release(version) {
         pre_step(alloc, &next_patch(alloc, version)?, id, base)
@@ -81,7 +81,7 @@ fn prerelease(
 }
 
 fn release(alloc: Global, version: &Version) -> Result<Version, Failure<IncrementError>>
-    ensures { Answers (λ x. x) (spec.by_release version.now) result }
+    ensures { Returns (spec.by_release version.now) result }
 {
     if is_release(version) {
         let text = version.to_string(alloc)?;
@@ -100,7 +100,7 @@ fn with_parts(
     patch: u64,
     pre_release: Option<Vec<Identifier>>,
 ) -> Result<Version, Failure<IncrementError>>
-    ensures { Answers (λ x. x) (Ok (record {
+    ensures { Returns (Ok (record {
       major = major;
       minor = minor;
       patch = patch;
@@ -113,7 +113,7 @@ fn with_parts(
 }
 
 fn release_of(alloc: Global, version: &Version) -> Result<Version, Failure<IncrementError>>
-    ensures { Answers (λ x. x) (Ok (spec.release_of version.now)) result }
+    ensures { Returns (Ok (spec.release_of version.now)) result }
 {
     with_parts(
         alloc,
@@ -126,13 +126,13 @@ fn release_of(alloc: Global, version: &Version) -> Result<Version, Failure<Incre
 }
 
 fn next_major(alloc: Global, version: &Version) -> Result<Version, Failure<IncrementError>>
-    ensures { Answers (λ x. x) (spec.next_major version.now) result }
+    ensures { Returns (spec.next_major version.now) result }
 {
     with_parts(alloc, version, one_more(version.major())?, 0, 0, None)
 }
 
 fn next_minor(alloc: Global, version: &Version) -> Result<Version, Failure<IncrementError>>
-    ensures { Answers (λ x. x) (spec.next_minor version.now) result }
+    ensures { Returns (spec.next_minor version.now) result }
 {
     with_parts(
         alloc,
@@ -145,7 +145,7 @@ fn next_minor(alloc: Global, version: &Version) -> Result<Version, Failure<Incre
 }
 
 fn next_patch(alloc: Global, version: &Version) -> Result<Version, Failure<IncrementError>>
-    ensures { Answers (λ x. x) (spec.next_patch version.now) result }
+    ensures { Returns (spec.next_patch version.now) result }
 {
     with_parts(
         alloc,
@@ -163,7 +163,7 @@ fn pre_step(
     id: &str,
     base: IdentifierBase,
 ) -> Result<Version, Failure<IncrementError>>
-    ensures { Answers (λ x. x) (spec.pre_step id.now base version.now) result }
+    ensures { Returns (spec.pre_step id.now base version.now) result }
 {
     let list = advance(alloc, version.pre_release(), id, base)?;
     let list = identify(alloc, id, base, list)?;

@@ -1,12 +1,13 @@
 // Printed versions come back.
 
-ghost use Rattle.std.specs.Prelude.{◌≡◌, ◌≤◌, ⊤, IfOk, IfErr, length};
+ghost use Rattle.std.specs.Prelude.{◌≡◌, ◌≤◌, IfOk, length, string_bytes};
+ghost use Rattle.semver_core.specs.Failures.{NeverRefused};
 ghost use Rattle.semver_core.specs.Normal.{IsReadable, VersionsComeBack};
-ghost use Rattle.semver_core.specs.Parsing.{MatchFailure};
-ghost use Rattle.semver_core.specs.Printed.{version_text};
+ghost use Rattle.semver_core.specs.Printed.{id_text, version_text};
+ghost use Rattle.semver_core.specs.Views.{id_view};
 
-use crate::{Failure, MAX_LENGTH, MAX_SAFE_INTEGER, SemverError, Version};
-use std::alloc::Global;
+use crate::{Failure, Identifier, MAX_LENGTH, MAX_SAFE_INTEGER, SemverError, Version};
+use std::alloc::{AllocError, Global};
 
 /// Printed versions come back: a text that is a printed version reads as that version, build included, and as no other.
 /// Its numbers are at most the limit, and each of its texts is a run of identifier characters that is not a number of
@@ -23,10 +24,34 @@ pub fn reread(alloc: Global, version: &Version) -> Result<Version, Failure<Semve
     requires readable { IsReadable MAX_SAFE_INTEGER version.now }
     requires short { length (version_text version.now) ≤ MAX_LENGTH }
     ensures same { IfOk result (λ again. again ≡ version.now) }
-    ensures never_refused { IfErr result (λ e. MatchFailure e ⊥ ⊤) }
+    ensures never_refused { NeverRefused result }
 {
     match version.to_string(alloc) {
         Ok(text) => Version::parse(alloc, &text),
         Err(error) => Err(Failure::Memory(error)),
     }
+}
+
+/// Fill, width and precision change nothing of a printed version.
+pub fn version_in_field(
+    alloc: Global,
+    version: &Version,
+    width: usize,
+    precision: usize,
+) -> Result<String, AllocError>
+    ensures { IfOk result (λ text. string_bytes text ≡ version_text version.now) }
+{
+    format!(in alloc; "{version:*^width$.precision$}")
+}
+
+/// Nor do they of a printed identifier, be it a number or a text.
+pub fn identifier_in_field(
+    alloc: Global,
+    identifier: &Identifier,
+    width: usize,
+    precision: usize,
+) -> Result<String, AllocError>
+    ensures { IfOk result (λ text. string_bytes text ≡ id_text (id_view identifier.now)) }
+{
+    format!(in alloc; "{identifier:*^width$.precision$}")
 }

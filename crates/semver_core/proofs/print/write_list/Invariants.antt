@@ -1,7 +1,7 @@
 use Rattle.std.proofs.Common.{◌≡◌, take}
 use denote.Text.{Utf8}
 use denote.Shadow.{shadow}
-use Rattle.std.specs.Fmt.{HasWritten, IsPlainFormatter}
+use Rattle.std.specs.Fmt.{HasWrittenStyled, IsFlush}
 use Rattle.semver_core.specs.Printed.{marked_list}
 use Rattle.semver_core.proofs.Prints.{separator_after}
 use Rattle.semver_core.specs.Views.{ids_view}
@@ -11,4 +11,4 @@ abbrev pub invariant-loop-identifier : goal.invariant-loop-identifier
 invariant-loop-identifier g l =
     (text : shadow (Utf8 l.separator))
     × (separator : l.separator ≡ separator_after l.mark (ids_view (take l.identifier-index l.list)))
-    × (IsPlainFormatter l.initial.f → HasWritten g.W.Write.write_str_gives l.initial.f (marked_list l.mark (ids_view (take l.identifier-index l.list))) l.f)
+    × (IsFlush l.initial.f → HasWrittenStyled g.W.Write.write_str_gives l.initial.f (marked_list l.mark (ids_view (take l.identifier-index l.list))) l.f)

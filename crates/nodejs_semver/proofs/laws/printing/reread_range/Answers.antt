@@ -21,4 +21,4 @@ pub returns-in-Ok-clause-text : goal.returns-in-Ok-clause-text
 returns-in-Ok-clause-text c = reread_text MAX_SAFE_INTEGER c.parse.result c.deref.result.now c.args.range.now (given c) c.parse.ensures.ok
 
 pub returns-in-Ok-clause-never_refused : goal.returns-in-Ok-clause-never_refused
-returns-in-Ok-clause-never_refused c = reread_read MAX_SAFE_INTEGER c.parse.result c.deref.result.now c.args.range.now (given c) c.parse.ensures.err
+returns-in-Ok-clause-never_refused c = reread_read MAX_SAFE_INTEGER c.parse.result c.deref.result.now c.args.range.now (given c) c.parse.ensures.refused

@@ -9,4 +9,4 @@ returns-in-Ok-clause-same c =
 
 pub returns-in-Ok-clause-never_refused : goal.returns-in-Ok-clause-never_refused
 returns-in-Ok-clause-never_refused c =
-    reread_read MAX_SAFE_INTEGER c.parse.result c.args.version.now c.deref.result.now (omega arith) c.deref.utf8 (c.deref.ensures ∙ c.in-Ok.ensures.ok) c.requires.short c.requires.readable c.parse.ensures.err
+    reread_read MAX_SAFE_INTEGER c.parse.result c.args.version.now c.deref.result.now (omega arith) c.deref.utf8 (c.deref.ensures ∙ c.in-Ok.ensures.ok) c.requires.short c.requires.readable c.parse.ensures.refused

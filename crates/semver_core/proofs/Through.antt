@@ -7,7 +7,7 @@ use Rattle.std.specs.Prelude.{OnOk}
 use Rattle.std.specs.declared.fmt.Error.{Error}
 use Rattle.std.specs.declared.fmt.Formatter.{Formatter}
 use Rattle.std.specs.declared.result.Result.{Result}
-use Rattle.nodejs_semver.specs.declared.range.print.Through.{Through}
+use Rattle.semver_core.specs.declared.print.unstyled.Through.{Through}
 
 module _ {W : Type 0} (took : W → List ℕ → W → Type 0) where
   -- what one call does, as `write_str_gives` of the writer says
