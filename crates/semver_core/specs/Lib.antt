@@ -14,6 +14,9 @@ pub mod Triples
 pub mod PartsView
 pub mod ListView
 pub mod Parsing
+pub mod Common
+pub mod CommonReading
+pub mod CommonRows
 pub mod Normal
 pub mod PrintedRows
 pub mod Cuts

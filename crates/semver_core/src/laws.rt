@@ -12,5 +12,5 @@ pub use crate::laws::intervals::intervals_equal;
 pub use crate::laws::next::next_versions;
 pub use crate::laws::order::{identifiers_in_order, versions_in_order};
 pub use crate::laws::printing::{printed_versions_come_back, reread};
-pub use crate::laws::reading::{constants, one_reading};
+pub use crate::laws::reading::{both_readers, common_reads_alike, constants, one_reading};
 pub use crate::laws::whitespace::whitespace_in_bytes;
