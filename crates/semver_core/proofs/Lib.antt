@@ -6,6 +6,9 @@ pub mod Pieces
 pub mod Texts
 pub mod Blanks
 pub mod Clauses
+pub mod OnePass
+pub mod Dotted
+pub mod Whole
 pub mod CutLaws
 pub mod LastNumber
 pub mod DifferenceLaws

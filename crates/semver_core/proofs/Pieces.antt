@@ -33,7 +33,7 @@ placed_some {A} at (Some (y, n)) x end e =
 pub rest_at : (text : List ℕ) (at end : ℕ) (piece rest : List ℕ) → drop at text ≡ piece ++ rest → end ≡ at + length piece → drop end text ≡ rest
 rest_at text at end piece rest e is = rw (is, ← drop-drop (length piece) at text, e) (drop-append_seam piece rest)
 
-digits_grow : (v : ℕ) (d : List ℕ) → v ≤ digits_value_after 10 v d
+pub digits_grow : (v : ℕ) (d : List ℕ) → v ≤ digits_value_after 10 v d
 digits_grow v [] = omega arith
 digits_grow v (c ∷ d) = let next = digits_grow (v * 10 + digit_value c) d in omega arith
 

@@ -23,7 +23,7 @@ use Rattle.semver_core.specs.Versions.{VersionValue, HasIdentifiers}
 use Rattle.semver_core.proofs.Pieces.{some_inside, rest_at, number_sound, number_complete, list_sound, list_complete, list_none, runs_begin}
 use Rattle.semver_core.proofs.Runs.{drop_next}
 
-bind_some : {A B : Type 0} (o : Option A) (f : A → Option B) (y : B) → (o >>= f) ≡ Some y → (x : A) × (o ≡ Some x) × (f x ≡ Some y)
+pub bind_some : {A B : Type 0} (o : Option A) (f : A → Option B) (y : B) → (o >>= f) ≡ Some y → (x : A) × (o ≡ Some x) × (f x ≡ Some y)
 bind_some None f y e = cc
 bind_some (Some x) f y e = (x, refl, e)
 
@@ -83,7 +83,7 @@ triple_sound limit text at t e =
     subst P (some_inside (a.0.0, c.0.0, f.0.0, f.0.1) t f.2)
     (triple_join limit text at a.0.0 a.0.1 b.0 c.0.0 c.0.1 d.0 f.0.0 f.0.1 a.1 b.1 c.1 d.1 f.1)
 
-triple_complete : (limit : ℕ) (text : List ℕ) (at M m p : ℕ) (major minor patch rest : List ℕ) → drop at text ≡ major ++ 46 ∷ (minor ++ 46 ∷ (patch ++ rest))
+pub triple_complete : (limit : ℕ) (text : List ℕ) (at M m p : ℕ) (major minor patch rest : List ℕ) → drop at text ≡ major ++ 46 ∷ (minor ++ 46 ∷ (patch ++ rest))
     → IsNumber limit major M → IsNumber limit minor m → IsWholeNumber limit patch rest p
     → (end : ℕ) × (triple_at limit text at ≡ Some (M, m, p, end)) × (drop end text ≡ rest)
 triple_complete limit text at M m p major minor patch rest e f g h =
@@ -98,7 +98,7 @@ no_front : (c : ℕ) (s r : List ℕ) → begins (λ b. b == c) (s ++ r) ≡ fal
 no_front c [] r h = refl
 no_front c (b ∷ s) r h = h
 
-pick : (b x y : Bool) → b ≡ false → y ≡ false → cond b x y ≡ false
+pub pick : (b x y : Bool) → b ≡ false → y ≡ false → cond b x y ≡ false
 pick true x y h k = cc
 pick false x y h k = k
 
@@ -157,7 +157,7 @@ pre_at_plain : (text : List ℕ) (at : ℕ) → begins (λ b. b == 45) (drop at 
 pre_at_plain text at h = rw h refl
 
 -- nothing stands there
-none_pre : (text : List ℕ) (at : ℕ) (r : List ℕ) → drop at text ≡ r → begins_pre_release r ≡ false → pre_release_at text at ≡ ([], at)
+pub none_pre : (text : List ℕ) (at : ℕ) (r : List ℕ) → drop at text ≡ r → begins_pre_release r ≡ false → pre_release_at text at ≡ ([], at)
 none_pre text at [] e none = pre_at_plain text at (rw e refl) ∙ ap (or_nothing at) (list_none text at (rw e refl))
 none_pre text at (c ∷ r) e none = elim (cases_Bool (eqb c 45)) [
   | inl dash ↦
@@ -169,7 +169,7 @@ none_pre text at (c ∷ r) e none = elim (cases_Bool (eqb c 45)) [
       pre_at_plain text at (rw e plain) ∙ ap (or_nothing at) (list_none text at stop)
 ]
 
-none_build : (text : List ℕ) (at : ℕ) (r : List ℕ) → drop at text ≡ r → begins_build r ≡ false → (build_at text at).0 ≡ []
+pub none_build : (text : List ℕ) (at : ℕ) (r : List ℕ) → drop at text ≡ r → begins_build r ≡ false → build_at text at ≡ ([], at)
 none_build text at [] e none = rw e refl
 none_build text at (c ∷ r) e none = elim (cases_Bool (eqb c 43)) [
   | inl mark ↦
@@ -203,7 +203,7 @@ build_sound text at = elim (cases_Bool (begins (λ b. b == 43) (drop at text))) 
       rw is (record { piece = []; divided = refl; piece_is = no_build (drop at text) (no_plus (drop at text) plain) })
 ]
 
-pre_complete : (text : List ℕ) (at : ℕ) (piece rest : List ℕ) (ids : List Id) → drop at text ≡ piece ++ rest → IsPreRelease piece rest ids
+pub pre_complete : (text : List ℕ) (at : ℕ) (piece rest : List ℕ) (ids : List Id) → drop at text ≡ piece ++ rest → IsPreRelease piece rest ids
     → (pre_release_at text at ≡ (ids, at + length piece)) × (drop (at + length piece) text ≡ rest)
 pre_complete text at piece rest ids e (dashed s r l long) =
     let next = drop_next at text (s ++ r) 45 e in
@@ -216,49 +216,70 @@ pre_complete text at piece rest ids e (bare s r l long plain) =
     (rw (e, front, found.0) refl, found.1)
 pre_complete text at piece rest ids e (no_pre_release r none) = (rw add-zero (none_pre text at r e none), rw add-zero e)
 
-build_complete : (text : List ℕ) (at : ℕ) (piece rest : List ℕ) (ids : List Id) → drop at text ≡ piece ++ rest → IsBuild piece rest ids
-    → (build_at text at).0 ≡ ids
+pub build_complete : (text : List ℕ) (at : ℕ) (piece rest : List ℕ) (ids : List Id) → drop at text ≡ piece ++ rest → IsBuild piece rest ids
+    → (build_at text at ≡ (ids, at + length piece)) × (drop (at + length piece) text ≡ rest)
 build_complete text at piece rest ids e (plus s r l long) =
     let next = drop_next at text (s ++ r) 43 e in
     let found = list_complete text (at + 1) s r l next long in
-    rw (e, found.0) refl
-build_complete text at piece rest ids e (no_build r none) = none_build text at r e none
+    let sum : at + 1 + length s ≡ at + length (43 ∷ s) = omega arith in
+    (rw (e, found.0, sum) refl, rest_at text at (at + length (43 ∷ s)) (43 ∷ s) r e refl)
+build_complete text at piece rest ids e (no_build r none) = (rw add-zero (none_build text at r e none), rw add-zero e)
 
 qualified_is : (limit : ℕ) (text : List ℕ) (at : ℕ) (v : VersionValue) (end next : ℕ) → triple_at limit text at ≡ Some (v.major, v.minor, v.patch, end)
     → pre_release_at text end ≡ (v.pre_release, next) → (build_at text next).0 ≡ v.build → version_at limit text at ≡ Some v
 qualified_is limit text at v end next e f g = rw (e, f, g) refl
+
+-- a division of a text, with this mark, this whitespace and this rest
+pub record Division (limit : ℕ) (text mark blank rest : List ℕ) (v : VersionValue) : Type 0 where
+  pub reads : Reads limit text v
+  pub mark_is : reads.mark ≡ mark
+  pub blank_is : reads.blank ≡ blank
+  pub rest_is : reads.rest ≡ rest
+
+-- the text behind the build
+abbrev pub rest_of : List ℕ → ℕ × ℕ × ℕ × ℕ → List ℕ
+rest_of text t = drop (build_at text (pre_release_at text t.3).1).1 text
+
+-- three numbers behind the mark and the whitespace divide the text
+pub divided_at : (limit : ℕ) (text mark blank : List ℕ) (at : ℕ) (t : ℕ × ℕ × ℕ × ℕ) → text ≡ mark ++ (blank ++ drop at text) → IsMark mark → IsBlank blank
+    → triple_at limit text at ≡ Some t → Division limit text mark blank (rest_of text t) (qualified text t)
+divided_at limit text mark blank at t divided m b e =
+    let three = triple_sound limit text at t e in
+    let pre = pre_sound text t.3 in
+    let meta = build_sound text (pre_release_at text t.3).1 in
+    let tail : drop t.3 text ≡ pre.piece ++ (meta.piece ++ rest_of text t) =
+    pre.divided ∙ ap (λ r. pre.piece ++ r) meta.divided in
+    record {
+      reads = record {
+        mark = mark;
+        blank = blank;
+        major = three.major;
+        minor = three.minor;
+        patch = three.patch;
+        pre_release = pre.piece;
+        build = meta.piece;
+        rest = rest_of text t;
+        divided = divided ∙ ap (λ r. mark ++ (blank ++ r)) (three.divided ∙ ap (λ r. three.major ++ 46 ∷ (three.minor ++ 46 ∷ (three.patch ++ r))) tail);
+        mark_is = m;
+        blank_is = b;
+        major_is = three.major_is;
+        minor_is = three.minor_is;
+        patch_is = (let Q : List ℕ → Type 0 = λ r. IsWholeNumber limit three.patch r t.2 in subst Q tail three.patch_is);
+        pre_release_is = (let Q : List ℕ → Type 0 = λ r. IsPreRelease pre.piece r (pre_release_at text t.3).0 in subst Q meta.divided pre.piece_is);
+        build_is = meta.piece_is;
+      };
+      mark_is = refl;
+      blank_is = refl;
+      rest_is = refl;
+    }
 
 -- what the reader finds behind the mark and the whitespace is a version of the text
 pub version_sound : (limit : ℕ) (text mark blank : List ℕ) (at : ℕ) (v : VersionValue) → text ≡ mark ++ (blank ++ drop at text) → IsMark mark → IsBlank blank
     → version_at limit text at ≡ Some v → Reads limit text v
 version_sound limit text mark blank at v divided m b e =
     let found = bind_some (triple_at limit text at) _ v e in
-    let t = found.0 in
-    let is : qualified text t ≡ v = some_inside (qualified text t) v found.2 in
-    let three = triple_sound limit text at t found.1 in
-    let pre = pre_sound text t.3 in
-    let meta = build_sound text (pre_release_at text t.3).1 in
     let P : VersionValue → Type 0 = λ w. Reads limit text w in
-    let tail : drop t.3 text ≡ pre.piece ++ (meta.piece ++ drop (build_at text (pre_release_at text t.3).1).1 text) =
-    pre.divided ∙ ap (λ r. pre.piece ++ r) meta.divided in
-    subst P is (record {
-      mark = mark;
-      blank = blank;
-      major = three.major;
-      minor = three.minor;
-      patch = three.patch;
-      pre_release = pre.piece;
-      build = meta.piece;
-      rest = drop (build_at text (pre_release_at text t.3).1).1 text;
-      divided = divided ∙ ap (λ r. mark ++ (blank ++ r)) (three.divided ∙ ap (λ r. three.major ++ 46 ∷ (three.minor ++ 46 ∷ (three.patch ++ r))) tail);
-      mark_is = m;
-      blank_is = b;
-      major_is = three.major_is;
-      minor_is = three.minor_is;
-      patch_is = (let Q : List ℕ → Type 0 = λ r. IsWholeNumber limit three.patch r t.2 in subst Q tail three.patch_is);
-      pre_release_is = (let Q : List ℕ → Type 0 = λ r. IsPreRelease pre.piece r (pre_release_at text t.3).0 in subst Q meta.divided pre.piece_is);
-      build_is = meta.piece_is;
-    })
+    subst P (some_inside (qualified text found.0) v found.2) (divided_at limit text mark blank at found.0 divided m b found.1).reads
 
 -- a version of the text is found where its numbers begin
 pub version_complete : (limit : ℕ) (text : List ℕ) (at : ℕ) (v : VersionValue) (r : Reads limit text v)
@@ -267,7 +288,7 @@ version_complete limit text at v r e =
     let three = triple_complete limit text at v.major v.minor v.patch r.major r.minor r.patch (r.pre_release ++ (r.build ++ r.rest)) e r.major_is r.minor_is r.patch_is in
     let pre = pre_complete text three.0 r.pre_release (r.build ++ r.rest) v.pre_release three.2 r.pre_release_is in
     let meta = build_complete text (three.0 + length r.pre_release) r.build r.rest v.build pre.1 r.build_is in
-    qualified_is limit text at v three.0 (three.0 + length r.pre_release) three.1 pre.0 meta
+    qualified_is limit text at v three.0 (three.0 + length r.pre_release) three.1 pre.0 (ap (λ (q : List Id × ℕ). q.0) meta.0)
 
 -- ---- the mark and the whitespace
 

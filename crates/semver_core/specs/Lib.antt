@@ -16,6 +16,9 @@ pub mod PartsView
 pub mod ListView
 pub mod Failures
 pub mod Parsing
+pub mod Common
+pub mod CommonReading
+pub mod CommonRows
 pub mod Normal
 pub mod PrintedRows
 pub mod Cuts

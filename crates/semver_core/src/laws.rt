@@ -14,5 +14,7 @@ pub use crate::laws::order::{identifiers_in_order, versions_in_order};
 pub use crate::laws::printing::{
     identifier_in_field, printed_versions_come_back, reread, version_in_field,
 };
-pub use crate::laws::reading::{constants, larger_limits, one_reading};
+pub use crate::laws::reading::{
+    both_readers, common_reads_alike, constants, larger_limits, one_reading,
+};
 pub use crate::laws::whitespace::whitespace_in_bytes;

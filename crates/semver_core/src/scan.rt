@@ -3,6 +3,7 @@
 ghost use Rattle.std.specs.Prelude.{◌≡◌, ◌≤◌, ◌==◌, ◌+◌, ◌<◌, if◌then◌else◌, ℕ, List, length, drop, take, IfOk, IfSome, IfNone, OnErr, IsCharBoundary, Ok, None, Some, false, true};
 ghost use Rattle.std.specs.Char.{is_ascii_digit};
 ghost use Rattle.std.specs.List.{prefix_len, list_all};
+ghost use Rattle.semver_core.specs.CommonReading.{grown, run_from, number_of_run};
 ghost use Rattle.semver_core.specs.Characters.{is_identifier_char, is_whitespace, begins, IsAfterBlank, IsPieceAt, NoPieceAt};
 ghost use Rattle.semver_core.specs.Identifiers as id;
 ghost use Rattle.semver_core.specs.Identifiers.{Id, identifier_of, is_run, goes_on, IsLongestIdentifiers};
@@ -74,6 +75,7 @@ fn trim_end(text: &str) -> &str
 }
 
 // What a run of digits gives that ended after `count` of them.
+#[inline(always)]
 fn ended(value: u64, at: usize, end: usize) -> Option<(u64, usize)>
     requires { at ≤ end }
     ensures { result ≡ (if end == at then None else Some (value, end)) }
@@ -107,8 +109,9 @@ pub(crate) fn read_number(text: &str, at: usize) -> Option<(u64, usize)>
     digits(text.as_bytes(), at)
 }
 
+#[inline(always)]
 #[tactic(auto, using(crate::proofs::Digits::digits_step, crate::proofs::Digits::digits_over, crate::proofs::Digits::digits_stop, crate::proofs::Digits::digits_past, crate::proofs::Digits::digits_placed))]
-fn digits(bytes: &[u8], at: usize) -> Option<(u64, usize)>
+pub(crate) fn digits(bytes: &[u8], at: usize) -> Option<(u64, usize)>
     requires { at ≤ length bytes.now }
     ensures found { result ≡ number_at MAX_SAFE_INTEGER bytes.now at }
     ensures place { IfSome result (λ found. found.1 ≤ length bytes.now) }
@@ -127,12 +130,14 @@ fn digits(bytes: &[u8], at: usize) -> Option<(u64, usize)>
     ended(value, at, bytes.len())
 }
 
+#[inline(always)]
 pub(crate) fn is_identifier_char(byte: u8) -> bool
     ensures { result ≡ is_identifier_char byte }
 {
     byte.is_ascii_alphanumeric() || byte == b'-'
 }
 
+#[inline(always)]
 fn begins_identifier(text: &[u8]) -> bool
     ensures { result ≡ begins is_identifier_char text.now }
 {
@@ -143,6 +148,7 @@ fn begins_identifier(text: &[u8]) -> bool
 }
 
 // Whether an identifier list that ends before this text would go on with it.
+#[inline(always)]
 fn goes_on(text: &[u8]) -> bool
     ensures { result ≡ goes_on text.now }
 {
@@ -153,52 +159,7 @@ fn goes_on(text: &[u8]) -> bool
     }
 }
 
-// Where the characters of identifiers that begin at a place end.
-fn run_end(bytes: &[u8], start: usize) -> usize
-    requires { start ≤ length bytes.now }
-    ensures { result ≡ start + prefix_len is_identifier_char (drop start bytes.now) }
-{
-    'run: for end in start..bytes.len() {
-        if !is_identifier_char(bytes[end]) {
-            return end;
-        }
-    }
-    bytes.len()
-}
-
-// The number that a run spells, where it is digits alone that fit.
-#[tactic(auto, using(crate::proofs::Runs::numeric_run, crate::proofs::Runs::other_run))]
-fn numeric_of(run: &str) -> Option<u64>
-    requires { is_run run.now ≡ true }
-    ensures some { IfSome result (λ n. identifier_of run.now ≡ id.Numeric n) }
-    ensures none { IfNone result (identifier_of run.now ≡ id.AlphaNumeric run.now) }
-{
-    if !is_numeric(run.as_bytes()) {
-        return None;
-    }
-    match run.parse::<u64>() {
-        Ok(value) => Some(value),
-        Err(_) => None,
-    }
-}
-
-// The identifier that a run spells.
-fn identifier(alloc: Global, run: &str) -> Result<Identifier, AllocError>
-    requires { is_run run.now ≡ true }
-    ensures { IfOk result (λ id. id_view id ≡ identifier_of run.now) }
-{
-    match numeric_of(run) {
-        Some(value) => Ok(Identifier::Numeric(value)),
-        None => Ok(Identifier::AlphaNumeric(String::from_str(alloc, run)?)),
-    }
-}
-
-fn is_numeric(run: &[u8]) -> bool
-    ensures { result ≡ list_all is_ascii_digit run.now }
-{
-    run.iter().all(|byte| byte.is_ascii_digit())
-}
-
+#[inline(always)]
 #[tactic(auto, using(crate::proofs::Runs::rest_from))]
 fn begins_at(text: &str, at: usize) -> bool
     requires { at ≤ length text.now }
@@ -207,6 +168,7 @@ fn begins_at(text: &str, at: usize) -> bool
     begins_identifier(&text.as_bytes()[at..])
 }
 
+#[inline(always)]
 #[tactic(auto, using(crate::proofs::Runs::rest_from))]
 fn goes_on_at(text: &str, at: usize) -> bool
     requires { at ≤ length text.now }
@@ -215,18 +177,73 @@ fn goes_on_at(text: &str, at: usize) -> bool
     goes_on(&text.as_bytes()[at..])
 }
 
-// The run at a place.
-#[tactic(auto, using(crate::proofs::Runs::run_is_run, crate::proofs::Runs::run_boundary, crate::proofs::Runs::run_length))]
-fn run_at(text: &str, start: usize) -> &str
+// The number that digits write so far, with one byte more: none where a byte is no digit, or the number does not fit.
+#[inline(always)]
+#[tactic(auto, using(crate::proofs::OnePass::grown_small, crate::proofs::OnePass::grown_big))]
+fn grown(number: Option<u64>, byte: u8) -> Option<u64>
+    ensures { result ≡ grown number byte }
+{
+    let value = number?;
+    if !byte.is_ascii_digit() {
+        return None;
+    }
+    value.checked_mul(10)?.checked_add(u64::from(byte - b'0'))
+}
+
+// Where the run at a place ends, and the number that it writes, in one pass.
+#[inline(always)]
+#[tactic(auto, using(crate::proofs::OnePass::run_step, crate::proofs::OnePass::run_stop, crate::proofs::OnePass::run_past))]
+fn scan_run(bytes: &[u8], start: usize) -> (usize, Option<u64>)
+    requires { start ≤ length bytes.now }
+    ensures { result ≡ run_from (Some 0) start (drop start bytes.now) }
+{
+    let mut number = Some(0u64);
+    'run: for end in start..bytes.len() {
+        let byte = bytes[end];
+        if !is_identifier_char(byte) {
+            return (end, number);
+        }
+        number = grown(number, byte);
+    }
+    (bytes.len(), number)
+}
+
+// The same in a text, where a run begins at the place.
+#[inline(always)]
+fn run_in(text: &str, start: usize) -> (usize, Option<u64>)
     requires place { start ≤ length text.now }
     requires here { begins is_identifier_char (drop start text.now) ≡ true }
-    ensures value { result.now ≡ take (prefix_len is_identifier_char (drop start text.now)) (drop start text.now) }
-    ensures run { is_run result.now ≡ true }
-    ensures len { length result.now ≡ prefix_len is_identifier_char (drop start text.now) }
-    ensures fits { start + length result.now ≤ length text.now }
+    ensures end { result.0 ≡ start + prefix_len is_identifier_char (drop start text.now) }
+    ensures number { result.1 ≡ number_of_run (Some 0)
+        (take (prefix_len is_identifier_char (drop start text.now)) (drop start text.now)) }
+    ensures after { start ≤ result.0 }
+    ensures fits { result.0 ≤ length text.now }
+    ensures boundary { IsCharBoundary text.now result.0 }
 {
-    let end = run_end(text.as_bytes(), start);
-    &text[start..end]
+    scan_run(text.as_bytes(), start)
+}
+
+// The identifier at a place where a run begins, and the place behind it.
+#[inline(always)]
+#[tactic(auto, using(crate::proofs::OnePass::scan_number, crate::proofs::OnePass::scan_text))]
+fn read_run(alloc: Global, text: &str, start: usize) -> Result<(Identifier, usize), AllocError>
+    requires place { start ≤ length text.now }
+    requires here { begins is_identifier_char (drop start text.now) ≡ true }
+    ensures id { IfOk result (λ found. id_view found.0 ≡ identifier_of
+        (take (prefix_len is_identifier_char (drop start text.now)) (drop start text.now))) }
+    ensures end { IfOk result (λ found.
+        found.1 ≡ start + prefix_len is_identifier_char (drop start text.now)) }
+    ensures after { IfOk result (λ found. start ≤ found.1) }
+    ensures fits { IfOk result (λ found. found.1 ≤ length text.now) }
+{
+    let (end, number) = run_in(text, start);
+    match number {
+        Some(value) => Ok((Identifier::Numeric(value), end)),
+        None => Ok((
+            Identifier::AlphaNumeric(String::from_str(alloc, &text[start..end])?),
+            end,
+        )),
+    }
 }
 
 /// The identifier list at a place, read as long as possible, and the place behind it: runs of ASCII letters, digits and `-`,
@@ -269,9 +286,8 @@ pub(crate) fn read_list(
     let mut list = Vec::new(alloc);
     let mut start = at;
     'runs: loop {
-        let run = run_at(text, start);
-        list.push(identifier(alloc, run)?)?;
-        let end = start + run.len();
+        let (id, end) = read_run(alloc, text, start)?;
+        list.push(id)?;
         if !goes_on_at(text, end) {
             return Ok(Some((list, end)));
         }

@@ -2,6 +2,7 @@
 
 ghost use Rattle.std.specs.Prelude.{◌≡◌, ◌↔◌, Some, refl, IsTrue, IfOk, All, true, false, length, ◌<◌};
 ghost use Rattle.semver_core.specs.Failures.{MemoryOnlyIf, RefusedOnlyIf};
+ghost use Rattle.semver_core.specs.Grammar.{Reads, HasNoVersion, HasVersionWithIdentifiers};
 ghost use Rattle.semver_core.specs.Parsing.{Parses, IsRefused, NeedsMemory};
 ghost use Rattle.semver_core.specs.Versions.{VersionValue, IsVersion, IsId};
 ghost use Rattle.semver_core.specs.ListView.{list_ids};
@@ -12,7 +13,7 @@ mod convert;
 mod order;
 pub mod parts;
 
-use crate::readers::version_loose;
+use crate::readers::{version_fast, version_loose};
 use crate::{Failure, Identifier, MAX_LENGTH, MAX_SAFE_INTEGER, SemverError};
 use std::alloc::Global;
 use std::marker::Model;
@@ -72,10 +73,9 @@ impl Version {
         if text.len() > MAX_LENGTH {
             return Err(Failure::Refused(SemverError));
         }
-        match version_loose(alloc, text) {
-            Ok(Some(version)) => Ok(version),
-            Ok(None) => Err(Failure::Refused(SemverError)),
-            Err(error) => Err(Failure::Memory(error)),
+        match version_fast(alloc, text)? {
+            Some(version) => Ok(version),
+            None => parse_loose(alloc, text),
         }
     }
 
@@ -152,6 +152,17 @@ impl Version {
     {
         !self.pre_release().is_empty()
     }
+}
+
+// The version at the front of a text, as `Version::parse` returns it where the text is not a common one.
+#[cold]
+#[inline(never)]
+fn parse_loose(alloc: Global, text: &str) -> Result<Version, Failure<SemverError>>
+    ensures ok { IfOk result (λ v. Reads MAX_SAFE_INTEGER text.now v) }
+    ensures refused { RefusedOnlyIf result (HasNoVersion MAX_SAFE_INTEGER text.now) }
+    ensures memory { MemoryOnlyIf result (HasVersionWithIdentifiers MAX_SAFE_INTEGER text.now) }
+{
+    version_loose(alloc, text)?.ok_or(Failure::Refused(SemverError))
 }
 
 // An identifier of the program is one that there is. No effect at run time: the proof learns a number's range from its read.

@@ -1,11 +1,13 @@
-// The two constants, and that a text has one version at most, whatever the limit on numbers.
+// The two constants, and that a text has one version at most, whatever the limit and whichever reader reads it.
 
-ghost use Rattle.std.specs.Prelude.{◌≡◌};
+ghost use Rattle.std.specs.Prelude.{◌≡◌, IfOk, IfSome, Some};
+ghost use Rattle.semver_core.specs.Common.{ReadsAlike};
 ghost use Rattle.semver_core.specs.Grammar.{HasOneReading};
 ghost use Rattle.semver_core.specs.Limits.{KeepsReading, KeepsVersion};
 
-use crate::readers::front_of_numbers;
-use crate::{MAX_LENGTH, MAX_SAFE_INTEGER};
+use crate::readers::{front_of_numbers, version_fast, version_loose};
+use crate::{MAX_LENGTH, MAX_SAFE_INTEGER, Version};
+use std::alloc::{AllocError, Global};
 
 /// The values of the two constants.
 pub fn constants() -> (u64, usize)
@@ -30,4 +32,27 @@ pub fn larger_limits(text: &str)
     ensures same { KeepsVersion text.now }
 {
     one_reading(text);
+}
+
+/// Whatever the limit on numbers is, the version of a common text is the version at its front.
+pub fn common_reads_alike(text: &str)
+    ensures { ReadsAlike text.now }
+{
+    one_reading(text);
+}
+
+#[tactic(auto, using(crate::proofs::Whole::alike))]
+/// What the fast reader and the loose reader return on one text: where the fast one returns a
+/// version, the loose one returns the same.
+///
+/// Fails only if allocation fails.
+pub fn both_readers(
+    alloc: Global,
+    text: &str,
+) -> Result<(Option<Version>, Option<Version>), AllocError>
+    ensures { IfOk result (λ both. IfSome both.0 (λ v. both.1 ≡ Some v)) }
+{
+    one_reading(text);
+    let fast = version_fast(alloc, text)?;
+    Ok((fast, version_loose(alloc, text)?))
 }

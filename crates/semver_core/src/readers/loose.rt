@@ -10,6 +10,7 @@ ghost use Rattle.semver_core.specs.Versions.{VersionValue, HasIdentifiers};
 use crate::{Identifier, MAX_SAFE_INTEGER, Version, scan};
 use std::alloc::{AllocError, Global};
 
+#[inline(always)]
 #[tactic(auto, using(crate::proofs::Runs::rest_from))]
 fn begins_with(text: &str, at: usize, mark: u8) -> bool
     requires { at ≤ length text.now }
@@ -21,6 +22,7 @@ fn begins_with(text: &str, at: usize, mark: u8) -> bool
     }
 }
 
+#[inline(always)]
 #[tactic(auto, using(crate::proofs::Places::begins_before_end))]
 fn past(text: &str, at: usize, mark: u8) -> Option<usize>
     requires { at ≤ length text.now }
@@ -49,7 +51,7 @@ fn triple(text: &str, at: usize) -> Option<(u64, u64, u64, usize)>
 }
 
 // The pre-release at a place, and the place after it.
-fn pre_release(
+pub(crate) fn pre_release(
     alloc: Global,
     text: &str,
     at: usize,
@@ -69,18 +71,23 @@ fn pre_release(
     }
 }
 
-// The build at a place.
-fn build(alloc: Global, text: &str, at: usize) -> Result<Option<Vec<Identifier>>, AllocError>
+// The build at a place, and the place after it.
+pub(crate) fn build(
+    alloc: Global,
+    text: &str,
+    at: usize,
+) -> Result<(Option<Vec<Identifier>>, usize), AllocError>
     requires { at ≤ length text.now }
-    ensures found { IfOk result (λ found. list_ids found ≡ (build_at text.now at).0) }
+    ensures found { IfOk result (λ found. (list_ids found.0, found.1) ≡ build_at text.now at) }
+    ensures place { IfOk result (λ found. found.1 ≤ length text.now) }
     ensures memory { OnErr result (0 < length (build_at text.now at).0) }
 {
     let Some(start) = past(text, at, b'+') else {
-        return Ok(None);
+        return Ok((None, at));
     };
     match scan::read_list(alloc, text, start)? {
-        Some((list, _)) => Ok(Some(list)),
-        None => Ok(None),
+        Some((list, end)) => Ok((Some(list), end)),
+        None => Ok((None, at)),
     }
 }
 
@@ -94,7 +101,7 @@ fn version_from(alloc: Global, text: &str, at: usize) -> Result<Option<Version>,
         return Ok(None);
     };
     let (pre, next) = pre_release(alloc, text, end)?;
-    let build = build(alloc, text, next)?;
+    let (build, _) = build(alloc, text, next)?;
     Ok(Some(Version::from_parts(major, minor, patch, pre, build)))
 }
 

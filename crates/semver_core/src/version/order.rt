@@ -65,7 +65,7 @@ impl Ord for Version {
             .cmp(&other.major())
             .then(self.minor().cmp(&other.minor()))
             .then(self.patch().cmp(&other.patch()))
-            .then(cmp_pre(self.pre_release(), other.pre_release()))
+            .then_with(|| cmp_pre(self.pre_release(), other.pre_release()))
     }
 }
 

@@ -1,0 +1,143 @@
+//! The reader of common version texts.
+
+ghost use Rattle.std.specs.Prelude.{◌||◌, ◌==◌, get_or, ◌≡◌, ◌≤◌, ◌<◌, length, drop, IfOk, IfSome, IfNone, IsSomeAnd, OnErr};
+ghost use Rattle.semver_core.specs.Characters.{is_identifier_char};
+ghost use Rattle.semver_core.specs.Common.{IsCommon, IsUncommon};
+ghost use Rattle.semver_core.specs.CommonReading.{small_len, part_at, whole_at, common_of};
+ghost use Rattle.semver_core.specs.Grammar.{HasVersionWithIdentifiers};
+ghost use Rattle.semver_core.specs.ListView.{list_ids};
+ghost use Rattle.semver_core.specs.Reading.{build_at, qualified, triple_at, version_at};
+ghost use Rattle.semver_core.specs.Versions.{HasIdentifiers};
+
+use crate::readers::loose::{build, pre_release};
+use crate::{Identifier, MAX_SAFE_INTEGER, Version, scan};
+use std::alloc::{AllocError, Global};
+
+#[inline(always)]
+fn small_len(bytes: &[u8]) -> usize
+    ensures value { result ≡ small_len bytes.now }
+    ensures place { result ≤ length bytes.now }
+{
+    match bytes {
+        [b'v', ..] => 1,
+        _ => 0,
+    }
+}
+
+// A number with a dot behind it, and the place behind the dot. Each byte is looked at once.
+#[inline(always)]
+#[tactic(auto, using(crate::proofs::Digits::digits_step, crate::proofs::Dotted::part_dot, crate::proofs::Dotted::part_bare, crate::proofs::Dotted::part_other, crate::proofs::Dotted::part_over, crate::proofs::Dotted::part_past))]
+fn part(bytes: &[u8], at: usize) -> Option<(u64, usize)>
+    requires { at ≤ length bytes.now }
+    ensures found { result ≡ part_at MAX_SAFE_INTEGER bytes.now at }
+    ensures place { IfSome result (λ found. found.1 ≤ length bytes.now) }
+{
+    let mut value = 0u64;
+    'digits: for end in at..bytes.len() {
+        let byte = bytes[end];
+        if byte == b'.' {
+            if end == at {
+                return None;
+            }
+            return Some((value, end + 1));
+        }
+        if !byte.is_ascii_digit() {
+            return None;
+        }
+        value = value * 10 + u64::from(byte - b'0');
+        if value > MAX_SAFE_INTEGER {
+            return None;
+        }
+    }
+    None
+}
+
+// Three numbers with dots between them, and the place behind them.
+#[inline(always)]
+#[tactic(auto, using(crate::proofs::Dotted::triple_parts))]
+fn three(bytes: &[u8], at: usize) -> Option<(u64, u64, u64, usize)>
+    requires { at ≤ length bytes.now }
+    ensures found { result ≡ triple_at MAX_SAFE_INTEGER bytes.now at }
+    ensures place { IfSome result (λ found. found.3 ≤ length bytes.now) }
+{
+    let (major, second) = part(bytes, at)?;
+    let (minor, third) = part(bytes, second)?;
+    let (patch, end) = scan::digits(bytes, third)?;
+    Some((major, minor, patch, end))
+}
+
+// The version of three numbers and the qualifier that goes from a place to the end of the text.
+#[inline(never)]
+#[tactic(auto, using(crate::proofs::Whole::whole_found, crate::proofs::Whole::whole_left))]
+fn qualified(
+    alloc: Global,
+    text: &str,
+    major: u64,
+    minor: u64,
+    patch: u64,
+    at: usize,
+) -> Result<Option<Version>, AllocError>
+    requires { at ≤ length text.now }
+    ensures found { IfOk result (λ found. found ≡ whole_at text.now (major, minor, patch, at)) }
+    ensures memory { OnErr result (HasIdentifiers (qualified text.now (major, minor, patch, at))) }
+{
+    let (pre, next) = pre_release(alloc, text, at)?;
+    let (build, end) = build(alloc, text, next)?;
+    if end < text.len() {
+        return Ok(None);
+    }
+    Ok(Some(Version::from_parts(major, minor, patch, pre, build)))
+}
+
+// Whether a qualifier may begin with the byte at a place.
+#[inline(always)]
+fn begins_qualifier(bytes: &[u8], at: usize) -> bool
+    requires { at < length bytes.now }
+    ensures { result ≡ (is_identifier_char (get_or bytes.now at 0) || get_or bytes.now at 0 == 43) }
+{
+    scan::is_identifier_char(bytes[at]) || bytes[at] == b'+'
+}
+
+// The same as a function of the text.
+#[inline(always)]
+#[tactic(auto, using(crate::proofs::Whole::not_qualifier, crate::proofs::Whole::release_found, crate::proofs::Whole::common_is, crate::proofs::Whole::common_not, crate::proofs::Whole::memory_at))]
+fn read(alloc: Global, text: &str) -> Result<Option<Version>, AllocError>
+    ensures found { IfOk result (λ found. found ≡ common_of MAX_SAFE_INTEGER text.now) }
+    ensures memory { OnErr result
+        (IsSomeAnd (version_at MAX_SAFE_INTEGER text.now (small_len text.now)) HasIdentifiers) }
+{
+    let bytes = text.as_bytes();
+    let Some((major, minor, patch, end)) = three(bytes, small_len(bytes)) else {
+        return Ok(None);
+    };
+    if end == text.len() {
+        return Ok(Some(Version::from_parts(major, minor, patch, None, None)));
+    }
+    if !begins_qualifier(bytes, end) {
+        return Ok(None);
+    }
+    qualified(alloc, text, major, minor, patch, end)
+}
+
+/// Reads a common version text, of any length: `v` or nothing, three numbers joined by dots, a
+/// pre-release, build metadata, and the end of the text.
+///
+/// Returns `None` on every other text, also where `version_loose` returns a version: on `V1.2.3`,
+/// `v 1.2.3`, ` 1.2.3`, and wherever something is left over, as in `1.2.3.4`, `1.2.3-` or
+/// `1.2.3+a+b`. On a common text both readers return the same version. Each byte is looked at once,
+/// save the one that ends a number or an identifier.
+///
+/// Fails only if allocation fails, which happens only where the version at the front of the text
+/// has a pre-release or build metadata.
+#[inline(always)]
+#[tactic(auto, using(crate::proofs::Whole::common_some, crate::proofs::Whole::common_none, crate::proofs::Whole::common_memory))]
+pub fn version_fast(alloc: Global, text: &str) -> Result<Option<Version>, AllocError>
+    // The version is the one that the whole text is.
+    ensures some { IfOk result (λ found. IfSome found (λ v. IsCommon MAX_SAFE_INTEGER text.now v)) }
+    // Every common text is read.
+    ensures none { IfOk result (λ found. IfNone found (IsUncommon MAX_SAFE_INTEGER text.now)) }
+    // Allocation fails only where the text has a version with identifiers.
+    ensures memory { OnErr result (HasVersionWithIdentifiers MAX_SAFE_INTEGER text.now) }
+{
+    read(alloc, text)
+}
