@@ -19,8 +19,8 @@ impl Range {
     ///
     /// The empty text is the range of all versions, and so is every text whose parts are all empty. A word that is malformed
     /// is passed, so `foo 1.2.3` reads as `1.2.3`; a text none of whose words gives an interval is refused, as `foo` is. So a
-    /// number past `MAX_SAFE_INTEGER` is passed too: `>=900719925474099.0.0 <900719925474100.0.0-0`, which
-    /// `^900719925474099` prints, reads as `>=900719925474099.0.0`.
+    /// number past `MAX_SAFE_INTEGER` is passed too: `>=9007199254740991.0.0 <9007199254740992.0.0-0`, which
+    /// `^9007199254740991` prints, reads as `>=9007199254740991.0.0`.
     pub fn parse(alloc: Global, text: &str) -> Result<Range, Failure<SemverError>>
         // The intervals are those of the text, in order and with their builds.
         ensures ok { IfOk result (λ range. range ≡ denotes MAX_SAFE_INTEGER text.now) }
