@@ -74,10 +74,10 @@ fn marks_and_spaces_in_front(rt: HostRuntime) -> Result<(), Fail> {
 #[test]
 fn numbers_up_to_the_limit(rt: HostRuntime) -> Result<(), Fail> {
     let alloc = rt.alloc();
-    let version = parse(alloc, "1.2.900719925474099")?;
-    assert_eq!(rt; version.patch(), 900_719_925_474_099);
-    assert!(rt; is_refused(alloc, "1.2.900719925474100"));
-    assert!(rt; is_refused(alloc, "900719925474100.0.0"));
+    let version = parse(alloc, "1.2.9007199254740991")?;
+    assert_eq!(rt; version.patch(), 9_007_199_254_740_991);
+    assert!(rt; is_refused(alloc, "1.2.9007199254740992"));
+    assert!(rt; is_refused(alloc, "9007199254740992.0.0"));
     Ok(())
 }
 

@@ -11,8 +11,9 @@ fn laws_of_versions(rt: HostRuntime) -> Result<(), Fail> {
     core_laws::whitespace_in_bytes();
     core_laws::next_versions();
     core_laws::one_reading("1.2.3");
+    core_laws::larger_limits("1.2.900719925474099");
     core_laws::printed_versions_come_back("1.2.3");
-    assert!(rt; core_laws::constants() == (900_719_925_474_099, 256));
+    assert!(rt; core_laws::constants() == (9_007_199_254_740_991, 256));
     let all = Interval::<Version>::default();
     assert!(rt; core_laws::intervals_equal(&all, &Interval::default()));
     let (one, two) = (Identifier::Numeric(1), Identifier::Numeric(2));
