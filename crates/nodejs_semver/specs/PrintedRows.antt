@@ -44,31 +44,31 @@ unfolding digits version
 prints-tie = refl
 
 -- and the build of the upper one is lost
-reads-tie : denotes 900719925474099 (codes "1.2.3+a") ≡ between (Before (version 1 2 3 [] (AlphaNumeric (codes "a") ∷ []))) (After (version 1 2 3 [] (AlphaNumeric (codes "a") ∷ []))) ∷ []
+reads-tie : denotes 9007199254740991 (codes "1.2.3+a") ≡ between (Before (version 1 2 3 [] (AlphaNumeric (codes "a") ∷ []))) (After (version 1 2 3 [] (AlphaNumeric (codes "a") ∷ []))) ∷ []
 unfolding table is_boundary number_of space_len after_spaces drop_end_spaces cut_bars partial_of longest_within word_at words_within from_boundary runs_from version
 reads-tie = refl
 
 -- `*` does not come back
-loses-star : denotes 900719925474099 (codes "*") ≡ between (Before (release 0 0 0)) Unbounded ∷ []
+loses-star : denotes 9007199254740991 (codes "*") ≡ between (Before (release 0 0 0)) Unbounded ∷ []
 unfolding table is_boundary number_of space_len after_spaces drop_end_spaces cut_bars partial_of longest_within word_at words_within from_boundary runs_from
 loses-star = refl
 
 -- nor does a number above the limit
-loses-limit : denotes 900719925474099 (range_text (between (Before (release 900719925474100 0 0)) Unbounded ∷ [])) ≡ []
+loses-limit : denotes 9007199254740991 (range_text (between (Before (release 9007199254740992 0 0)) Unbounded ∷ [])) ≡ []
 unfolding table is_boundary number_of space_len after_spaces drop_end_spaces cut_bars partial_of longest_within word_at words_within from_boundary runs_from digits
 loses-limit = refl
 
 -- an identifier of dashes does
-keeps-dash : denotes 900719925474099 (codes ">1.0.0--.x <=1.0.0") ≡ between (After (version 1 0 0 (AlphaNumeric (codes "-") ∷ AlphaNumeric (codes "x") ∷ []) [])) (After (release 1 0 0)) ∷ []
+keeps-dash : denotes 9007199254740991 (codes ">1.0.0--.x <=1.0.0") ≡ between (After (version 1 0 0 (AlphaNumeric (codes "-") ∷ AlphaNumeric (codes "x") ∷ []) [])) (After (release 1 0 0)) ∷ []
 unfolding table is_boundary number_of space_len after_spaces drop_end_spaces cut_bars partial_of longest_within word_at words_within from_boundary runs_from version
 keeps-dash = refl
 
 -- a range with the number after the limit prints two bounds, and the second one is passed over when they are read again
-widens-caret : denotes 900719925474099 (codes "^900719925474099") ≡ between (Before (release 900719925474099 0 0)) (Before (lowest 900719925474100 0 0)) ∷ []
+widens-caret : denotes 9007199254740991 (codes "^9007199254740991") ≡ between (Before (release 9007199254740991 0 0)) (Before (lowest 9007199254740992 0 0)) ∷ []
 unfolding table is_boundary number_of space_len after_spaces drop_end_spaces cut_bars partial_of longest_within word_at words_within from_boundary runs_from
 widens-caret = refl
 
 -- so that it is read wider
-widens-printed : denotes 900719925474099 (codes ">=900719925474099.0.0 <900719925474100.0.0-0") ≡ between (Before (release 900719925474099 0 0)) Unbounded ∷ []
+widens-printed : denotes 9007199254740991 (codes ">=9007199254740991.0.0 <9007199254740992.0.0-0") ≡ between (Before (release 9007199254740991 0 0)) Unbounded ∷ []
 unfolding table is_boundary number_of space_len after_spaces drop_end_spaces cut_bars partial_of longest_within word_at words_within from_boundary runs_from
 widens-printed = refl

@@ -8,7 +8,7 @@ use Rattle.semver_core.specs.Versions.{VersionValue, release_value}
 
 -- the limit on numbers
 abbrev limit : ℕ
-limit = 900719925474099
+limit = 9007199254740991
 
 -- `1.2.3` with these identifiers
 abbrev of : List Id → List Id → VersionValue
@@ -143,7 +143,7 @@ space_behind_pre_release : common_of limit (codes "1.2.3-a ") ≡ None
 unfolding digits_from list_len
 space_behind_pre_release = refl
 
-past_the_limit : common_of limit (codes "1.2.900719925474100") ≡ None
+past_the_limit : common_of limit (codes "1.2.9007199254740992") ≡ None
 unfolding digits_from list_len
 past_the_limit = refl
 

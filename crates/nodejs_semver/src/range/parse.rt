@@ -21,8 +21,8 @@ impl Range {
     /// interval without bounds in its place: `1.2.3||` reads as `1.2.3||*`. A malformed word is skipped, so `foo 1.2.3`
     /// reads as `1.2.3`; a text with no empty part and no word that has bounds, such as `foo`, is rejected with
     /// `SemverError`. A number above `MAX_SAFE_INTEGER` makes its word malformed, so that
-    /// `>=900719925474099.0.0 <900719925474100.0.0-0`, which `^900719925474099` prints, reads as
-    /// `>=900719925474099.0.0`.
+    /// `>=9007199254740991.0.0 <9007199254740992.0.0-0`, which `^9007199254740991` prints, reads as
+    /// `>=9007199254740991.0.0`.
     pub fn parse(alloc: Global, text: &str) -> Result<Range, Failure<SemverError>>
         // The intervals are those of the text, in order and with their builds.
         ensures ok { IfOk result (λ range. range ≡ denotes MAX_SAFE_INTEGER text.now) }

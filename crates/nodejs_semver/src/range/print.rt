@@ -85,9 +85,9 @@ impl fmt::Display for Joined<'_> {
 ///
 /// `Range::parse` reads an equal range from this text where no interval is `*` and no number is above `MAX_SAFE_INTEGER`, as
 /// `laws::printed_ranges_come_back` says. Two texts are read as other ranges. `*` is read as `>=0.0.0`. And a range may have
-/// the number `MAX_SAFE_INTEGER + 1`, which is read nowhere: `^900719925474099` prints
-/// `>=900719925474099.0.0 <900719925474100.0.0-0`, whose second word is malformed and so is passed over, without an error,
-/// when the text is read again. What is read is `>=900719925474099.0.0`, a wider range.
+/// the number `MAX_SAFE_INTEGER + 1`, which is read nowhere: `^9007199254740991` prints
+/// `>=9007199254740991.0.0 <9007199254740992.0.0-0`, whose second word is malformed and so is passed over, without an error,
+/// when the text is read again. What is read is `>=9007199254740991.0.0`, a wider range.
 impl fmt::Display for Range {
     ghost output = { λ r. Some (range_text r) };
 
