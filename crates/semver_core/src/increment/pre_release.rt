@@ -14,8 +14,10 @@ ghost use Rattle.semver_core.specs.Views.{id_view, ids_view};
 
 use crate::increment::{IdentifierBase, IncrementError, is_false, one_more, refused_argument};
 use crate::scan::is_identifier_char;
-use crate::version::parts::copy_items;
+use crate::version::lists::Identifiers;
+use crate::version::parts::copy_list;
 use crate::{Failure, Identifier};
+use smallvec::SmallVec;
 use std::alloc::{AllocError, Global};
 use std::fmt::Write;
 
@@ -26,7 +28,7 @@ pub(super) fn advance(
     list: &[Identifier],
     id: &str,
     base: IdentifierBase,
-) -> Result<Vec<Identifier>, Failure<IncrementError>>
+) -> Result<Identifiers, Failure<IncrementError>>
     ensures { Answers (λ v. ids_view v.items) (spec.advance (ids_view list.now) id.now base) result }
 {
     if list.is_empty() {
@@ -43,8 +45,8 @@ pub(super) fn identify(
     alloc: Global,
     id: &str,
     base: IdentifierBase,
-    list: Vec<Identifier>,
-) -> Result<Vec<Identifier>, AllocError>
+    list: Identifiers,
+) -> Result<Identifiers, AllocError>
     ensures { IfOk result (λ v. ids_view v.items ≡ spec.identify id.now base (ids_view list.items)) }
 {
     if id.is_empty() || is_kept(id, &list) {
@@ -83,11 +85,11 @@ fn replaced(
     list: &[Identifier],
     place: usize,
     id: Identifier,
-) -> Result<Vec<Identifier>, AllocError>
+) -> Result<Identifiers, AllocError>
     requires { place < length list.now }
     ensures { IfOk result (λ v. ids_view v.items ≡ set (ids_view list.now) place (id_view id)) }
 {
-    let mut copies = copy_items(alloc, list)?;
+    let mut copies = copy_list(alloc, list)?;
     copies[place] = id;
     Ok(copies)
 }
@@ -99,7 +101,7 @@ fn raise_last(
     list: &[Identifier],
     place: usize,
     number: u64,
-) -> Result<Vec<Identifier>, Failure<IncrementError>>
+) -> Result<Identifiers, Failure<IncrementError>>
     requires place { place < length list.now }
     requires last { IsLastNumber (ids_view list.now) place number }
     ensures { Answers (λ v. ids_view v.items) (spec.raise_last (ids_view list.now)) result }
@@ -109,19 +111,19 @@ fn raise_last(
 }
 
 // A list of one number.
-fn number_alone(alloc: Global, n: u64) -> Result<Vec<Identifier>, AllocError>
+fn number_alone(alloc: Global, n: u64) -> Result<Identifiers, AllocError>
     ensures { IfOk result (λ v. ids_view v.items ≡ Numeric n ∷ []) }
 {
-    let mut list = Vec::new(alloc);
+    let mut list = SmallVec::new(alloc);
     list.push(Identifier::Numeric(n))?;
     Ok(list)
 }
 
 // The list with a number after it.
-fn appended(alloc: Global, list: &[Identifier], n: u64) -> Result<Vec<Identifier>, AllocError>
+fn appended(alloc: Global, list: &[Identifier], n: u64) -> Result<Identifiers, AllocError>
     ensures { IfOk result (λ v. ids_view v.items ≡ ids_view list.now ++ Numeric n ∷ []) }
 {
-    let mut copies = copy_items(alloc, list)?;
+    let mut copies = copy_list(alloc, list)?;
     copies.push(Identifier::Numeric(n))?;
     Ok(copies)
 }
@@ -132,7 +134,7 @@ fn count(
     list: &[Identifier],
     id: &str,
     base: IdentifierBase,
-) -> Result<Vec<Identifier>, Failure<IncrementError>>
+) -> Result<Identifiers, Failure<IncrementError>>
     ensures { Answers (λ v. ids_view v.items) (spec.counted (ids_view list.now) id.now base) result }
 {
     if is_false(base) && is_printed(alloc, list, id)? {
@@ -173,10 +175,10 @@ fn push_part(text: &mut String, first: bool, id: &Identifier) -> Result<(), Allo
 }
 
 // The list that an identifier begins.
-fn begun(alloc: Global, id: &str, base: IdentifierBase) -> Result<Vec<Identifier>, AllocError>
+fn begun(alloc: Global, id: &str, base: IdentifierBase) -> Result<Identifiers, AllocError>
     ensures { IfOk result (λ v. ids_view v.items ≡ spec.begun id.now base) }
 {
-    let mut list = Vec::new(alloc);
+    let mut list = SmallVec::new(alloc);
     list.push(Identifier::AlphaNumeric(String::from_str(alloc, id)?))?;
     if !is_false(base) {
         list.push(Identifier::Numeric(first_number(base)))?;

@@ -1,6 +1,6 @@
 use Rattle.std.proofs.Common.{◌∙◌, ap, rules, subst, sym}
-use Rattle.std.specs.Prelude.{List, Ok, Vec, set}
-use Rattle.std.specs.declared.alloc.Global.{Global}
+use Rattle.smallvec.specs.SmallVec.{SmallVec}
+use Rattle.std.specs.Prelude.{List, Ok, set}
 use Rattle.semver_core.specs.Identifiers.{Id, Numeric}
 use Rattle.semver_core.specs.Increment.{◌>>=◌}
 use Rattle.semver_core.specs.IncrementView.{Answers}
@@ -11,8 +11,8 @@ use Rattle.semver_core.proofs.increment.pre_release.raise_last.Goals as goal
 
 pub returns-in_err-more : goal.returns-in_err-more
 returns-in_err-more c =
-    let view : Vec Identifier Global → List Id = λ v. ids_view v.items in
-    subst (λ a. Answers {A = List Id} {B = Vec Identifier Global} view a c.from_residual.result)
+    let view : SmallVec Identifier → List Id = λ v. ids_view v.items in
+    subst (λ a. Answers {A = List Id} {B = SmallVec Identifier} view a c.from_residual.result)
     (sym (raise_at (ids_view c.args.list.now) c.args.place c.args.number c.requires.last)) (search rules)
 
 pub returns : goal.returns
