@@ -1,7 +1,10 @@
 -- The last number of a list.
 use Rattle.std.proofs.Common.{◌≡◌, refl, sym, ap, subst, ◌∙◌, ℕ, ◌+◌, ◌<◌, ◌≤◌, Bool, true, false, List, [], ◌∷◌, ◌++◌, length, take, get_or, append_assoc, arith, rules}
 use Rattle.std.specs.Prelude.{Option, Some, None, set, Result, Ok, Err}
-use Rattle.std.proofs.lemmas.List.{take_all, take_more}
+use Rattle.std.proofs.Common.{drop}
+use Rattle.std.proofs.Math.Seq.{take-append_seam}
+use Rattle.std.proofs.lemmas.List.{length-set, take_all, take_more}
+use Rattle.std.specs.List.{refill}
 use Rattle.semver_core.proofs.Runs.{ids_view_push}
 use Rattle.semver_core.specs.Identifiers.{Id, Numeric, AlphaNumeric}
 use Rattle.semver_core.specs.Increment.{has_numeric, is_empty, list_text, advance, raise_last, one_more, Fault, ◌>>=◌}
@@ -94,6 +97,11 @@ pub set_view : (xs : List Identifier) (i : ℕ) (x : Identifier) → set (ids_vi
 set_view [] i x = refl
 set_view (y ∷ ys) zero x = refl
 set_view (y ∷ ys) (suc i) x = ap (λ l. id_view y ∷ l) (set_view ys i x)
+
+-- a write at one place of a list, through a slice of it
+pub refill_set : (xs ws : List Identifier) (i : ℕ) (x : Identifier) → ws ≡ xs → refill (length xs) xs (set ws i x) ≡ set xs i x
+refill_set xs ws i x e =
+    rw e (ap (λ n. take n (set xs i x ++ drop (length (set xs i x)) xs)) (sym (length-set xs i x)) ∙ take-append_seam (set xs i x) (drop (length (set xs i x)) xs))
 
 digits_test : IsDigitsTest (λ ds. list_all is_ascii_digit ds ≡ true)
 digits_test = search rules

@@ -12,7 +12,7 @@ use Rattle.semver_core.specs.CommonReading.{small_len, at_end, whole_at, common_
 use Rattle.semver_core.specs.Grammar.{HasVersionWithIdentifiers, HasNoVersion, HasOneReading, begins_pre_release, IsMark, IsPreRelease, IsBuild, Reads, begins_build, plus, no_build, no_mark, small_mark, capital_mark}
 use Rattle.semver_core.specs.Identifiers.{Id}
 use Rattle.semver_core.specs.Numbers.{IsNumber, IsWholeNumber}
-use Rattle.semver_core.specs.Reading.{◌>>=◌, list_at, triple_at, or_nothing, pre_release_at, build_at, qualified, version_at}
+use Rattle.semver_core.specs.Reading.{◌>>=◌, list_at, triple_at, or_nothing, pre_release_at, build_at, lists_at, qualified, version_at}
 use Rattle.semver_core.specs.Versions.{VersionValue, HasIdentifiers}
 use Rattle.semver_core.proofs.Pieces.{some_inside, rest_at, list_complete, list_none}
 use Rattle.semver_core.proofs.Runs.{drop_next}
@@ -121,6 +121,25 @@ whole_found text major minor patch at next end pre build e f le = rw (← e, ←
 pub whole_left : (text : List ℕ) (major minor patch at next end : ℕ) (pre build : List Id) → (pre, next) ≡ pre_release_at text at → (build, end) ≡ build_at text next
     → end < length text → whole_at text (major, minor, patch, at) ≡ None
 whole_left text major minor patch at next end pre build e f lt = rw (← e, ← f) (something_left text end _ lt)
+
+-- a list and the place after it
+abbrev placed : List Id → ℕ → List Id × ℕ
+placed list end = (list, end)
+
+-- the same of both lists at once
+pub lists_found : (text : List ℕ) (major minor patch at end : ℕ) (pre build : List Id) → (pre, build, end) ≡ lists_at text at → length text ≤ end
+    → whole_at text (major, minor, patch, at) ≡ Some (record { major = major; minor = minor; patch = patch; pre_release = pre; build = build })
+lists_found text major minor patch at end pre build e le =
+    let next = (pre_release_at text at).1 in
+    whole_found text major minor patch at next end pre build
+    (ap (λ (l : List Id × List Id × ℕ). placed l.0 next) e) (ap (λ (l : List Id × List Id × ℕ). placed l.1 l.2) e) le
+
+pub lists_left : (text : List ℕ) (major minor patch at end : ℕ) (pre build : List Id) → (pre, build, end) ≡ lists_at text at → end < length text
+    → whole_at text (major, minor, patch, at) ≡ None
+lists_left text major minor patch at end pre build e lt =
+    let next = (pre_release_at text at).1 in
+    whole_left text major minor patch at next end pre build
+    (ap (λ (l : List Id × List Id × ℕ). placed l.0 next) e) (ap (λ (l : List Id × List Id × ℕ). placed l.1 l.2) e) lt
 
 release_at : (text : List ℕ) (major minor patch at : ℕ) → drop at text ≡ [] → whole_at text (major, minor, patch, at) ≡ Some (record { major = major; minor = minor; patch = patch; pre_release = []; build = [] })
 release_at text major minor patch at none =

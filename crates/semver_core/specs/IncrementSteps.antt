@@ -1,6 +1,7 @@
 -- For proofs and private contracts: what the steps of `inc` say to one another.
-use Rattle.std.specs.Prelude.{◌≡◌, ℕ, List, ◌∷◌, ◌++◌, length, Option, Some, None, Result, Ok, Err, Vec, ⊤, false}
+use Rattle.std.specs.Prelude.{◌≡◌, ℕ, List, ◌∷◌, ◌++◌, length, Option, Some, None, Result, Ok, Err, ⊤, false}
 use Rattle.std.specs.declared.alloc.Global.{Global}
+use Rattle.smallvec.specs.SmallVec.{SmallVec}
 use Rattle.semver_core.specs.Identifiers.{Id, Numeric}
 use Rattle.semver_core.specs.Increment.{Fault, has_numeric}
 use Rattle.semver_core.specs.IncrementView.{fault_of}
@@ -11,7 +12,7 @@ use Rattle.semver_core.specs.declared.identifier.Identifier.{Identifier}
 use Rattle.semver_core.specs.declared.increment.IncrementError.{IncrementError}
 
 -- the call returns this list, or an error that tells this fault, unless an allocation fails
-abbrev pub ReturnsList : Result (List Id) Fault → Result (Vec Identifier Global) (Failure IncrementError) → Type 0
+abbrev pub ReturnsList : Result (List Id) Fault → Result (SmallVec Identifier) (Failure IncrementError) → Type 0
 ReturnsList expected (Ok list) = expected ≡ Ok (ids_view list.items)
 ReturnsList expected (Err (Refused e)) = expected ≡ Err (fault_of e)
 ReturnsList expected (Err (Memory e)) = ⊤

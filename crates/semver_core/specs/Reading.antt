@@ -75,6 +75,15 @@ pre_release_at text at = or_nothing at (list_at text (if begins (λ b. b == 45) 
 abbrev pub build_at : List ℕ → ℕ → List Id × ℕ
 build_at text at = if begins (λ b. b == 43) (drop at text) then or_nothing at (list_at text (at + 1)) else ([], at)
 
+-- the list that begins at another place, if there is one
+abbrev pub list_from : List ℕ → ℕ → Option ℕ → List Id × ℕ
+list_from text at None = ([], at)
+list_from text at (Some start) = or_nothing at (list_at text start)
+
+-- the pre-release and the build at a place, and the place after them
+abbrev pub lists_at : List ℕ → ℕ → List Id × List Id × ℕ
+lists_at text at = ((pre_release_at text at).0, (build_at text (pre_release_at text at).1).0, (build_at text (pre_release_at text at).1).1)
+
 -- the version of three numbers, with the qualifier after them
 abbrev pub qualified : List ℕ → ℕ × ℕ × ℕ × ℕ → VersionValue
 qualified text t = record {

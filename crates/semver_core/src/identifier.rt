@@ -11,6 +11,7 @@ ghost use Rattle.semver_core.specs.Views.{id_view};
 
 use std::alloc::{AllocError, Global};
 use std::cmp::Ordering;
+use std::default::MadeWith;
 use std::hash::{Hash, Hasher};
 
 /// One identifier of a pre-release or of build metadata (SemVer 2.0.0, items 9 and 10).
@@ -34,6 +35,13 @@ impl Identifier {
             Identifier::Numeric(number) => Ok(Identifier::Numeric(*number)),
             Identifier::AlphaNumeric(text) => Ok(Identifier::AlphaNumeric(text.clone()?)),
         }
+    }
+}
+
+// What stands in a place of a list that is not used yet.
+impl MadeWith<Global> for Identifier {
+    fn made_with(_alloc: Global) -> Identifier {
+        Identifier::Numeric(0)
     }
 }
 

@@ -1,6 +1,6 @@
 //! The pieces that every reader of versions and ranges is made of.
 
-ghost use Rattle.std.specs.Prelude.{◌≡◌, ◌≤◌, ◌==◌, ◌+◌, ◌<◌, if◌then◌else◌, ℕ, List, length, drop, take, IfOk, IfSome, IfNone, OnErr, IsCharBoundary, Ok, None, Some, false, true};
+ghost use Rattle.std.specs.Prelude.{◌≡◌, ◌≤◌, ◌==◌, ◌+◌, ◌<◌, if◌then◌else◌, ℕ, List, [], length, drop, take, IfOk, IfSome, IfNone, OnErr, IsCharBoundary, Ok, None, Some, false, true};
 ghost use Rattle.std.specs.Char.{is_ascii_digit};
 ghost use Rattle.std.specs.List.{prefix_len, list_all};
 ghost use Rattle.semver_core.specs.CommonReading.{grown, run_from, number_of_run};
@@ -13,7 +13,9 @@ ghost use Rattle.semver_core.specs.Views.{id_view, ids_view, list_view};
 ghost use Rattle.semver_core.specs.Characters.{IsTrim};
 ghost use Rattle.semver_core.specs.Spaces.{drop_end_spaces};
 
+use crate::version::lists::Identifiers;
 use crate::{Identifier, MAX_SAFE_INTEGER};
+use smallvec::SmallVec;
 use std::alloc::{AllocError, Global};
 
 fn is_whitespace(character: char) -> bool
@@ -161,7 +163,7 @@ fn goes_on(text: &[u8]) -> bool
 
 #[inline(always)]
 #[tactic(auto, using(crate::proofs::Runs::rest_from))]
-fn begins_at(text: &str, at: usize) -> bool
+pub(crate) fn begins_at(text: &str, at: usize) -> bool
     requires { at ≤ length text.now }
     ensures { result ≡ begins is_identifier_char (drop at text.now) }
 {
@@ -283,13 +285,30 @@ pub(crate) fn read_list(
     if !begins_at(text, at) {
         return Ok(None);
     }
-    let mut list = Vec::new(alloc);
+    let mut list = SmallVec::new(alloc);
+    let end = read_into(alloc, text, at, &mut list)?;
+    Ok(Some((list.into_vec()?, end)))
+}
+
+// Fills an empty list with the identifiers at a place where one begins.
+pub(crate) fn read_into(
+    alloc: Global,
+    text: &str,
+    at: usize,
+    list: &mut Identifiers,
+) -> Result<usize, AllocError>
+    requires inside { at ≤ length text.now }
+    requires here { begins is_identifier_char (drop at text.now) ≡ true }
+    requires empty { list.old.items ≡ [] }
+    ensures place { IfOk result (λ end. end ≤ length text.now) }
+    ensures exact { IfOk result (λ end. Some (ids_view list.new.items, end) ≡ list_at text.now at) }
+{
     let mut start = at;
     'runs: loop {
         let (id, end) = read_run(alloc, text, start)?;
         list.push(id)?;
         if !goes_on_at(text, end) {
-            return Ok(Some((list, end)));
+            return Ok(end);
         }
         start = end + 1;
     }

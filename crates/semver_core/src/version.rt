@@ -4,16 +4,18 @@ ghost use Rattle.std.specs.Prelude.{◌≡◌, ◌↔◌, Some, refl, IsTrue, If
 ghost use Rattle.semver_core.specs.Failures.{MemoryOnlyIf, RefusedOnlyIf};
 ghost use Rattle.semver_core.specs.Grammar.{Reads, HasNoVersion, HasVersionWithIdentifiers};
 ghost use Rattle.semver_core.specs.Parsing.{Parses, IsRefused, NeedsMemory};
-ghost use Rattle.semver_core.specs.Versions.{VersionValue, IsVersion, IsId};
-ghost use Rattle.semver_core.specs.ListView.{list_ids};
+ghost use Rattle.semver_core.specs.Versions.{VersionValue, IsVersion, IsId, release_value};
+ghost use Rattle.semver_core.specs.ListView.{IsFull, build_of, pre_release_of};
 ghost use Rattle.semver_core.specs.Views.{ids_view, id_view};
 
 pub mod accepts;
 mod convert;
+pub(crate) mod lists;
 mod order;
 pub mod parts;
 
 use crate::readers::{version_fast, version_loose};
+use crate::version::lists::Lists;
 use crate::{Failure, Identifier, MAX_LENGTH, MAX_SAFE_INTEGER, SemverError};
 use std::alloc::Global;
 use std::marker::Model;
@@ -27,9 +29,8 @@ pub struct Version {
     major: u64,
     minor: u64,
     patch: u64,
-    // `None` where it is empty
-    pre_release: Option<Vec<Identifier>>,
-    build: Option<Vec<Identifier>>,
+    // `None` where both are empty
+    lists: Option<Box<Lists>>,
 }
 
 impl Model for Version {
@@ -42,15 +43,6 @@ impl Model for Version {
     ghost view = { value_of };
 
     ghost invariant = { IsValid };
-}
-
-fn items(list: &Option<Vec<Identifier>>) -> &[Identifier]
-    ensures { ids_view result.now ≡ list_ids list.now }
-{
-    match list {
-        Some(list) => list.as_slice(),
-        None => &[],
-    }
 }
 
 impl Version {
@@ -79,30 +71,45 @@ impl Version {
         }
     }
 
-    // A version of these parts.
-    pub(crate) fn from_parts(
-        major: u64,
-        minor: u64,
-        patch: u64,
-        pre_release: Option<Vec<Identifier>>,
-        build: Option<Vec<Identifier>>,
-    ) -> Version
-        ensures { result ≡ record {
-          major = major;
-          minor = minor;
-          patch = patch;
-          pre_release = list_ids pre_release;
-          build = list_ids build;
-        } }
+    // The release of three numbers.
+    #[inline(always)]
+    pub(crate) fn release(major: u64, minor: u64, patch: u64) -> Version
+        ensures { result ≡ release_value major minor patch }
     {
-        are_ids(items(&pre_release));
-        are_ids(items(&build));
         Version {
             major,
             minor,
             patch,
-            pre_release,
-            build,
+            lists: None,
+        }
+    }
+
+    // The version of three numbers and of the identifiers in a box, if there are any.
+    #[inline(always)]
+    pub(crate) fn from_parts(
+        major: u64,
+        minor: u64,
+        patch: u64,
+        lists: Option<Box<Lists>>,
+    ) -> Version
+        requires { IsFull lists }
+        ensures { result ≡ record {
+          major = major;
+          minor = minor;
+          patch = patch;
+          pre_release = pre_release_of lists;
+          build = build_of lists;
+        } }
+    {
+        if let Some(lists) = &lists {
+            are_ids(&lists.pre_release);
+            are_ids(&lists.build);
+        }
+        Version {
+            major,
+            minor,
+            patch,
+            lists,
         }
     }
 
@@ -135,7 +142,10 @@ impl Version {
         ensures value { ids_view result.now ≡ self.now.pre_release }
         ensures valid { IsVersion self.now }
     {
-        items(&self.pre_release)
+        match &self.lists {
+            Some(lists) => lists.pre_release.as_slice(),
+            None => &[],
+        }
     }
 
     /// The identifiers of the build metadata, which no comparison looks at.
@@ -143,7 +153,10 @@ impl Version {
         ensures value { ids_view result.now ≡ self.now.build }
         ensures valid { IsVersion self.now }
     {
-        items(&self.build)
+        match &self.lists {
+            Some(lists) => lists.build.as_slice(),
+            None => &[],
+        }
     }
 
     /// Whether the version is a pre-release: its list of pre-release identifiers is not empty.

@@ -13,8 +13,10 @@ ghost use Rattle.semver_core.specs.Views.{id_view, ids_view};
 
 use crate::increment::{IdentifierBase, IncrementError, is_false, one_more, refused_argument};
 use crate::scan::is_identifier_char;
-use crate::version::parts::copy_items;
+use crate::version::lists::Identifiers;
+use crate::version::parts::copy_list;
 use crate::{Failure, Identifier};
+use smallvec::SmallVec;
 use std::alloc::{AllocError, Global};
 use std::fmt::Write;
 
@@ -25,7 +27,7 @@ pub(super) fn advance(
     list: &[Identifier],
     id: &str,
     base: IdentifierBase,
-) -> Result<Vec<Identifier>, Failure<IncrementError>>
+) -> Result<Identifiers, Failure<IncrementError>>
     ensures { ReturnsList (spec.advance (ids_view list.now) id.now base) result }
 {
     if list.is_empty() {
@@ -42,8 +44,8 @@ pub(super) fn identify(
     alloc: Global,
     id: &str,
     base: IdentifierBase,
-    list: Vec<Identifier>,
-) -> Result<Vec<Identifier>, AllocError>
+    list: Identifiers,
+) -> Result<Identifiers, AllocError>
     ensures { IfOk result (λ v. ids_view v.items ≡ spec.identify id.now base (ids_view list.items)) }
 {
     if id.is_empty() || is_kept(id, &list) {
@@ -82,11 +84,11 @@ fn replaced(
     list: &[Identifier],
     place: usize,
     id: Identifier,
-) -> Result<Vec<Identifier>, AllocError>
+) -> Result<Identifiers, AllocError>
     requires { place < length list.now }
     ensures { IfOk result (λ v. ids_view v.items ≡ set (ids_view list.now) place (id_view id)) }
 {
-    let mut copies = copy_items(alloc, list)?;
+    let mut copies = copy_list(alloc, list)?;
     copies[place] = id;
     Ok(copies)
 }
@@ -98,7 +100,7 @@ fn raise_last(
     list: &[Identifier],
     place: usize,
     number: u64,
-) -> Result<Vec<Identifier>, Failure<IncrementError>>
+) -> Result<Identifiers, Failure<IncrementError>>
     requires place { place < length list.now }
     requires last { IsLastNumber (ids_view list.now) place number }
     ensures { ReturnsList (spec.raise_last (ids_view list.now)) result }
@@ -108,19 +110,19 @@ fn raise_last(
 }
 
 // A list of one number.
-fn number_alone(alloc: Global, n: u64) -> Result<Vec<Identifier>, AllocError>
+fn number_alone(alloc: Global, n: u64) -> Result<Identifiers, AllocError>
     ensures { IfOk result (λ v. ids_view v.items ≡ Numeric n ∷ []) }
 {
-    let mut list = Vec::new(alloc);
+    let mut list = SmallVec::new(alloc);
     list.push(Identifier::Numeric(n))?;
     Ok(list)
 }
 
 // The list with a number after it.
-fn appended(alloc: Global, list: &[Identifier], n: u64) -> Result<Vec<Identifier>, AllocError>
+fn appended(alloc: Global, list: &[Identifier], n: u64) -> Result<Identifiers, AllocError>
     ensures { IfOk result (λ v. ids_view v.items ≡ ids_view list.now ++ Numeric n ∷ []) }
 {
-    let mut copies = copy_items(alloc, list)?;
+    let mut copies = copy_list(alloc, list)?;
     copies.push(Identifier::Numeric(n))?;
     Ok(copies)
 }
@@ -131,7 +133,7 @@ fn count(
     list: &[Identifier],
     id: &str,
     base: IdentifierBase,
-) -> Result<Vec<Identifier>, Failure<IncrementError>>
+) -> Result<Identifiers, Failure<IncrementError>>
     ensures { ReturnsList (spec.counted (ids_view list.now) id.now base) result }
 {
     if is_false(base) && is_printed(alloc, list, id)? {
@@ -172,10 +174,10 @@ fn push_part(text: &mut String, first: bool, id: &Identifier) -> Result<(), Allo
 }
 
 // The list that an identifier begins.
-fn begun(alloc: Global, id: &str, base: IdentifierBase) -> Result<Vec<Identifier>, AllocError>
+fn begun(alloc: Global, id: &str, base: IdentifierBase) -> Result<Identifiers, AllocError>
     ensures { IfOk result (λ v. ids_view v.items ≡ spec.begun id.now base) }
 {
-    let mut list = Vec::new(alloc);
+    let mut list = SmallVec::new(alloc);
     list.push(Identifier::AlphaNumeric(String::from_str(alloc, id)?))?;
     if !is_false(base) {
         list.push(Identifier::Numeric(first_number(base)))?;

@@ -3,12 +3,15 @@
 ghost use Rattle.std.specs.Prelude.{◌≡◌, Ok};
 ghost use Rattle.semver_core.specs.Increment as spec;
 ghost use Rattle.semver_core.specs.IncrementView.{Returns};
-ghost use Rattle.semver_core.specs.ListView.{list_ids};
+ghost use Rattle.semver_core.specs.Versions.{release_value};
+ghost use Rattle.semver_core.specs.Views.{ids_view};
 
 use crate::increment::pre_release::{advance, identify};
 use crate::increment::{IdentifierBase, IncrementError, is_release, one_more, refused_argument};
-use crate::version::parts::{copy_items, unless_empty};
-use crate::{Failure, Identifier, Version};
+use crate::version::lists::Identifiers;
+use crate::version::parts::copy_list;
+use crate::{Failure, Version};
+use smallvec::SmallVec;
 use std::alloc::Global;
 
 // The row of a word.
@@ -98,62 +101,70 @@ fn with_parts(
     major: u64,
     minor: u64,
     patch: u64,
-    pre_release: Option<Vec<Identifier>>,
+    pre_release: Identifiers,
 ) -> Result<Version, Failure<IncrementError>>
     ensures { Returns (Ok (record {
       major = major;
       minor = minor;
       patch = patch;
-      pre_release = list_ids pre_release;
+      pre_release = ids_view pre_release.items;
       build = version.now.build;
     })) result }
 {
-    let build = copy_items(alloc, version.build())?;
-    Ok(Version::from_parts(major, minor, patch, pre_release, unless_empty(build)))
+    let build = copy_list(alloc, version.build())?;
+    Ok(Version::from_lists(alloc, major, minor, patch, pre_release, build)?)
+}
+
+// The release of these numbers with the version's own build.
+fn with_numbers(
+    alloc: Global,
+    version: &Version,
+    major: u64,
+    minor: u64,
+    patch: u64,
+) -> Result<Version, Failure<IncrementError>>
+    ensures { Returns
+        (Ok (record (release_value major minor patch) { build = version.now.build })) result }
+{
+    if version.build().is_empty() {
+        return Ok(Version::release(major, minor, patch));
+    }
+    with_parts(alloc, version, major, minor, patch, SmallVec::new(alloc))
 }
 
 fn release_of(alloc: Global, version: &Version) -> Result<Version, Failure<IncrementError>>
     ensures { Returns (Ok (spec.release_of version.now)) result }
 {
-    with_parts(
+    with_numbers(
         alloc,
         version,
         version.major(),
         version.minor(),
         version.patch(),
-        None,
     )
 }
 
 fn next_major(alloc: Global, version: &Version) -> Result<Version, Failure<IncrementError>>
     ensures { Returns (spec.next_major version.now) result }
 {
-    with_parts(alloc, version, one_more(version.major())?, 0, 0, None)
+    with_numbers(alloc, version, one_more(version.major())?, 0, 0)
 }
 
 fn next_minor(alloc: Global, version: &Version) -> Result<Version, Failure<IncrementError>>
     ensures { Returns (spec.next_minor version.now) result }
 {
-    with_parts(
-        alloc,
-        version,
-        version.major(),
-        one_more(version.minor())?,
-        0,
-        None,
-    )
+    with_numbers(alloc, version, version.major(), one_more(version.minor())?, 0)
 }
 
 fn next_patch(alloc: Global, version: &Version) -> Result<Version, Failure<IncrementError>>
     ensures { Returns (spec.next_patch version.now) result }
 {
-    with_parts(
+    with_numbers(
         alloc,
         version,
         version.major(),
         version.minor(),
         one_more(version.patch())?,
-        None,
     )
 }
 
@@ -173,6 +184,6 @@ fn pre_step(
         version.major(),
         version.minor(),
         version.patch(),
-        Some(list),
+        list,
     )
 }

@@ -5,12 +5,11 @@ ghost use Rattle.semver_core.specs.Characters.{is_identifier_char};
 ghost use Rattle.semver_core.specs.Common.{IsCommon, IsUncommon};
 ghost use Rattle.semver_core.specs.CommonReading.{small_len, part_at, whole_at, common_of};
 ghost use Rattle.semver_core.specs.Grammar.{HasVersionWithIdentifiers};
-ghost use Rattle.semver_core.specs.ListView.{list_ids};
-ghost use Rattle.semver_core.specs.Reading.{build_at, qualified, triple_at, version_at};
+ghost use Rattle.semver_core.specs.Reading.{qualified, triple_at, version_at};
 ghost use Rattle.semver_core.specs.Versions.{HasIdentifiers};
 
-use crate::readers::loose::{build, pre_release};
-use crate::{Identifier, MAX_SAFE_INTEGER, Version, scan};
+use crate::readers::loose::lists_at;
+use crate::{MAX_SAFE_INTEGER, Version, scan};
 use std::alloc::{AllocError, Global};
 
 #[inline(always)]
@@ -68,7 +67,7 @@ fn three(bytes: &[u8], at: usize) -> Option<(u64, u64, u64, usize)>
 
 // The version of three numbers and the qualifier that goes from a place to the end of the text.
 #[inline(never)]
-#[tactic(auto, using(crate::proofs::Whole::whole_found, crate::proofs::Whole::whole_left))]
+#[tactic(auto, using(crate::proofs::Whole::lists_found, crate::proofs::Whole::lists_left))]
 fn qualified(
     alloc: Global,
     text: &str,
@@ -81,12 +80,11 @@ fn qualified(
     ensures found { IfOk result (λ found. found ≡ whole_at text.now (major, minor, patch, at)) }
     ensures memory { OnErr result (HasIdentifiers (qualified text.now (major, minor, patch, at))) }
 {
-    let (pre, next) = pre_release(alloc, text, at)?;
-    let (build, end) = build(alloc, text, next)?;
+    let (lists, end) = lists_at(alloc, text, at)?;
     if end < text.len() {
         return Ok(None);
     }
-    Ok(Some(Version::from_parts(major, minor, patch, pre, build)))
+    Ok(Some(Version::from_parts(major, minor, patch, lists)))
 }
 
 // Whether a qualifier may begin with the byte at a place.
@@ -111,7 +109,7 @@ fn read(alloc: Global, text: &str) -> Result<Option<Version>, AllocError>
         return Ok(None);
     };
     if end == text.len() {
-        return Ok(Some(Version::from_parts(major, minor, patch, None, None)));
+        return Ok(Some(Version::release(major, minor, patch)));
     }
     if !begins_qualifier(bytes, end) {
         return Ok(None);

@@ -1,13 +1,15 @@
 //! The reader of version texts.
 
-ghost use Rattle.std.specs.Prelude.{◌≡◌, ◌==◌, ◌≤◌, ◌<◌, ◌+◌, length, drop, None, Some, Option, IfOk, IfSome, IfNone, IsSomeAnd, IsCharBoundary, OnErr};
-ghost use Rattle.semver_core.specs.Characters.{begins, IsAfterBlank};
+ghost use Rattle.std.specs.Prelude.{IsFalse, IsTrue, ◌≡◌, ◌==◌, ◌≤◌, ◌<◌, ◌+◌, ◌⊎◌, [], true, length, drop, None, Some, Option, IfOk, IfSome, IfNone, IsSomeAnd, IsCharBoundary, OnErr, OnSome};
+ghost use Rattle.semver_core.specs.Characters.{begins, is_identifier_char, IsAfterBlank};
 ghost use Rattle.semver_core.specs.Grammar.{Reads, HasNoVersion, HasVersionWithIdentifiers};
-ghost use Rattle.semver_core.specs.ListView.{list_ids};
-ghost use Rattle.semver_core.specs.Reading.{past, triple_at, pre_release_at, build_at, version_at, mark_len};
+ghost use Rattle.semver_core.specs.ListView.{IsFull, build_of, pre_release_of};
+ghost use Rattle.semver_core.specs.Reading.{past, triple_at, pre_release_at, build_at, list_from, lists_at, version_at, mark_len};
 ghost use Rattle.semver_core.specs.Versions.{VersionValue, HasIdentifiers};
+ghost use Rattle.semver_core.specs.Views.{ids_view};
 
-use crate::{Identifier, MAX_SAFE_INTEGER, Version, scan};
+use crate::version::lists::{Identifiers, Lists};
+use crate::{MAX_SAFE_INTEGER, Version, scan};
 use std::alloc::{AllocError, Global};
 
 #[inline(always)]
@@ -50,45 +52,107 @@ fn triple(text: &str, at: usize) -> Option<(u64, u64, u64, usize)>
     Some((major, minor, patch, end))
 }
 
-// The pre-release at a place, and the place after it.
-pub(crate) fn pre_release(
-    alloc: Global,
-    text: &str,
-    at: usize,
-) -> Result<(Option<Vec<Identifier>>, usize), AllocError>
+// Where the identifiers of the pre-release at a place begin.
+fn pre_release_start(text: &str, at: usize) -> Option<usize>
     requires { at ≤ length text.now }
-    ensures found { IfOk result (λ found. (list_ids found.0, found.1) ≡ pre_release_at text.now at) }
-    ensures place { IfOk result (λ found. found.1 ≤ length text.now) }
-    ensures memory { OnErr result (0 < length (pre_release_at text.now at).0) }
+    ensures found { pre_release_at text.now at ≡ list_from text.now at result }
+    ensures some { OnSome result (0 < length (pre_release_at text.now at).0) }
+    ensures begins { IfSome result (λ start. begins is_identifier_char (drop start text.now) ≡ true) }
+    ensures inside { IfSome result (λ start. start ≤ length text.now) }
 {
     let start = match past(text, at, b'-') {
         Some(next) => next,
         None => at,
     };
-    match scan::read_list(alloc, text, start)? {
-        Some((list, end)) => Ok((Some(list), end)),
-        None => Ok((None, at)),
+    if scan::begins_at(text, start) {
+        Some(start)
+    } else {
+        None
     }
 }
 
-// The build at a place, and the place after it.
-pub(crate) fn build(
+// Where the identifiers of the build at a place begin.
+fn build_start(text: &str, at: usize) -> Option<usize>
+    requires { at ≤ length text.now }
+    ensures found { build_at text.now at ≡ list_from text.now at result }
+    ensures some { OnSome result (0 < length (build_at text.now at).0) }
+    ensures begins { IfSome result (λ start. begins is_identifier_char (drop start text.now) ≡ true) }
+    ensures inside { IfSome result (λ start. start ≤ length text.now) }
+{
+    let start = past(text, at, b'+')?;
+    if scan::begins_at(text, start) {
+        Some(start)
+    } else {
+        None
+    }
+}
+
+// Whether a pre-release or a build stands at a place.
+fn begins_lists(text: &str, at: usize) -> bool
+    requires { at ≤ length text.now }
+    ensures some { IsTrue result → (0 < length (lists_at text.now at).0) ⊎ (0 < length (lists_at text.now at).1) }
+    ensures none { IsFalse result → lists_at text.now at ≡ ([], [], at) }
+{
+    pre_release_start(text, at).is_some() || build_start(text, at).is_some()
+}
+
+// Fills an empty list with the identifiers that begin at a place, and returns the place after
+// them. Where there is none, that is the place where the list was expected.
+fn read_from(
     alloc: Global,
     text: &str,
     at: usize,
-) -> Result<(Option<Vec<Identifier>>, usize), AllocError>
-    requires { at ≤ length text.now }
-    ensures found { IfOk result (λ found. (list_ids found.0, found.1) ≡ build_at text.now at) }
-    ensures place { IfOk result (λ found. found.1 ≤ length text.now) }
-    ensures memory { OnErr result (0 < length (build_at text.now at).0) }
+    start: Option<usize>,
+    list: &mut Identifiers,
+) -> Result<usize, AllocError>
+    requires inside { at ≤ length text.now }
+    requires start { IfSome start (λ start. start ≤ length text.now) }
+    requires begins { IfSome start (λ start. begins is_identifier_char (drop start text.now) ≡ true) }
+    requires empty { list.old.items ≡ [] }
+    ensures found { IfOk result (λ end. (ids_view list.new.items, end) ≡ list_from text.now at start) }
+    ensures place { IfOk result (λ end. end ≤ length text.now) }
 {
-    let Some(start) = past(text, at, b'+') else {
-        return Ok((None, at));
-    };
-    match scan::read_list(alloc, text, start)? {
-        Some((list, end)) => Ok((Some(list), end)),
-        None => Ok((None, at)),
+    match start {
+        Some(start) => scan::read_into(alloc, text, start, list),
+        None => Ok(at),
     }
+}
+
+// The pre-release and the build at a place, and the place after them.
+fn boxed_lists(
+    alloc: Global,
+    text: &str,
+    at: usize,
+) -> Result<(Box<Lists>, usize), AllocError>
+    requires { at ≤ length text.now }
+    ensures found { IfOk result (λ found. (pre_release_of (Some found.0), build_of (Some found.0), found.1) ≡ lists_at text.now at) }
+    ensures place { IfOk result (λ found. found.1 ≤ length text.now) }
+{
+    let mut lists = Lists::boxed(alloc)?;
+    let start = pre_release_start(text, at);
+    let next = read_from(alloc, text, at, start, &mut lists.pre_release)?;
+    let start = build_start(text, next);
+    let end = read_from(alloc, text, next, start, &mut lists.build)?;
+    Ok((lists, end))
+}
+
+// The same, with no box where there are no identifiers.
+pub(crate) fn lists_at(
+    alloc: Global,
+    text: &str,
+    at: usize,
+) -> Result<(Option<Box<Lists>>, usize), AllocError>
+    requires { at ≤ length text.now }
+    ensures found { IfOk result (λ found. (pre_release_of found.0, build_of found.0, found.1) ≡ lists_at text.now at) }
+    ensures full { IfOk result (λ found. IsFull found.0) }
+    ensures place { IfOk result (λ found. found.1 ≤ length text.now) }
+    ensures memory { OnErr result ((0 < length (lists_at text.now at).0) ⊎ (0 < length (lists_at text.now at).1)) }
+{
+    if !begins_lists(text, at) {
+        return Ok((None, at));
+    }
+    let (lists, end) = boxed_lists(alloc, text, at)?;
+    Ok((Some(lists), end))
 }
 
 // The version at a place where its numbers begin.
@@ -100,9 +164,8 @@ fn version_from(alloc: Global, text: &str, at: usize) -> Result<Option<Version>,
     let Some((major, minor, patch, end)) = triple(text, at) else {
         return Ok(None);
     };
-    let (pre, next) = pre_release(alloc, text, end)?;
-    let (build, _) = build(alloc, text, next)?;
-    Ok(Some(Version::from_parts(major, minor, patch, pre, build)))
+    let (lists, _) = lists_at(alloc, text, end)?;
+    Ok(Some(Version::from_parts(major, minor, patch, lists)))
 }
 
 fn mark_len(bytes: &[u8]) -> usize

@@ -6,13 +6,6 @@ ghost use Rattle.semver_core.specs.Versions.{release_value};
 
 use crate::{NegativeNumber, Version};
 
-// The release of three numbers.
-fn release(major: u64, minor: u64, patch: u64) -> Version
-    ensures { result ≡ release_value major minor patch }
-{
-    Version::from_parts(major, minor, patch, None, None)
-}
-
 // The number, where it is not negative.
 fn natural(number: i64) -> Option<u64>
     ensures { result ≡ from_natural number }
@@ -29,7 +22,7 @@ fn release_of(major: i64, minor: i64, patch: i64) -> Result<Version, NegativeNum
     ensures { GivesRelease major minor patch result }
 {
     match (natural(major), natural(minor), natural(patch)) {
-        (Some(major), Some(minor), Some(patch)) => Ok(release(major, minor, patch)),
+        (Some(major), Some(minor), Some(patch)) => Ok(Version::release(major, minor, patch)),
         _ => Err(NegativeNumber),
     }
 }
@@ -39,7 +32,7 @@ impl From<(u8, u8, u8)> for Version {
     ghost from_gives = { λ t v. v ≡ release_value t.0 t.1 t.2 };
 
     fn from((major, minor, patch): (u8, u8, u8)) -> Version {
-        release(u64::from(major), u64::from(minor), u64::from(patch))
+        Version::release(u64::from(major), u64::from(minor), u64::from(patch))
     }
 }
 
@@ -48,7 +41,7 @@ impl From<(u16, u16, u16)> for Version {
     ghost from_gives = { λ t v. v ≡ release_value t.0 t.1 t.2 };
 
     fn from((major, minor, patch): (u16, u16, u16)) -> Version {
-        release(u64::from(major), u64::from(minor), u64::from(patch))
+        Version::release(u64::from(major), u64::from(minor), u64::from(patch))
     }
 }
 
@@ -57,7 +50,7 @@ impl From<(u32, u32, u32)> for Version {
     ghost from_gives = { λ t v. v ≡ release_value t.0 t.1 t.2 };
 
     fn from((major, minor, patch): (u32, u32, u32)) -> Version {
-        release(u64::from(major), u64::from(minor), u64::from(patch))
+        Version::release(u64::from(major), u64::from(minor), u64::from(patch))
     }
 }
 
@@ -66,7 +59,7 @@ impl From<(u64, u64, u64)> for Version {
     ghost from_gives = { λ t v. v ≡ release_value t.0 t.1 t.2 };
 
     fn from((major, minor, patch): (u64, u64, u64)) -> Version {
-        release(major, minor, patch)
+        Version::release(major, minor, patch)
     }
 }
 
@@ -75,7 +68,7 @@ impl From<(usize, usize, usize)> for Version {
     ghost from_gives = { λ t v. v ≡ release_value t.0 t.1 t.2 };
 
     fn from((major, minor, patch): (usize, usize, usize)) -> Version {
-        release(major as u64, minor as u64, patch as u64)
+        Version::release(major as u64, minor as u64, patch as u64)
     }
 }
 

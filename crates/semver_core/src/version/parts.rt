@@ -1,14 +1,15 @@
 // Versions made of parts, taken apart and copied.
 
-ghost use Rattle.std.specs.Prelude.{◌≡◌, ◌^◌, ◌∷◌, [], IfOk, IfErr, OnErr, IsOk, length, ◌<◌};
+ghost use Rattle.std.specs.Prelude.{◌≡◌, ◌≤◌, ◌+◌, ◌^◌, ◌⊎◌, ◌∷◌, ◌++◌, [], IfOk, IfErr, OnOk, OnErr, IsOk, length, ◌<◌, vec_len, vec_capacity};
 ghost use Rattle.semver_core.specs.Identifiers as id;
-ghost use Rattle.semver_core.specs.ListView.{list_ids};
 ghost use Rattle.semver_core.specs.PartsView.{parts_value};
 ghost use Rattle.semver_core.specs.Versions.{HasIdentifiers, release_value};
 ghost use Rattle.semver_core.specs.Views.{ids_view};
 
 use crate::cuts::Point;
+use crate::version::lists::{Identifiers, Lists};
 use crate::{Identifier, Version};
+use smallvec::SmallVec;
 use std::alloc::{AllocError, Global};
 
 /// The five values of a version, open to read and to change. Its equality counts all five, build too.
@@ -72,14 +73,46 @@ impl Version {
         }) }
         ensures bare { pre_release.items ≡ [] → build.items ≡ [] → IsOk result }
     {
-        let _ = alloc;
-        Ok(Version::from_parts(
-            major,
-            minor,
-            patch,
-            unless_empty(pre_release),
-            unless_empty(build),
-        ))
+        if pre_release.is_empty() && build.is_empty() {
+            return Ok(Version::release(major, minor, patch));
+        }
+        let Ok(mut lists) = Lists::boxed(alloc) else {
+            return Err(VersionParts {
+                major,
+                minor,
+                patch,
+                pre_release,
+                build,
+            });
+        };
+        lists.pre_release = SmallVec::from_vec(pre_release);
+        lists.build = SmallVec::from_vec(build);
+        Ok(Version::from_parts(major, minor, patch, Some(lists)))
+    }
+
+    // The version of these numbers and identifiers.
+    pub(crate) fn from_lists(
+        alloc: Global,
+        major: u64,
+        minor: u64,
+        patch: u64,
+        pre_release: Identifiers,
+        build: Identifiers,
+    ) -> Result<Version, AllocError>
+        ensures whole { IfOk result (λ v. v ≡ record {
+          major = major;
+          minor = minor;
+          patch = patch;
+          pre_release = ids_view pre_release.items;
+          build = ids_view build.items;
+        }) }
+        ensures memory { OnErr result ((0 < length pre_release.items) ⊎ (0 < length build.items)) }
+    {
+        if pre_release.is_empty() && build.is_empty() {
+            return Ok(Version::release(major, minor, patch));
+        }
+        let lists = Box::new(alloc, Lists { pre_release, build })?;
+        Ok(Version::from_parts(major, minor, patch, Some(lists)))
     }
 
     /// The pre-release `major.minor.patch-number`, with one identifier, which is numeric.
@@ -94,9 +127,9 @@ impl Version {
     ) -> Result<Version, AllocError>
         ensures { IfOk result (λ v. v ≡ record (release_value major minor patch) { pre_release = id.Numeric number ∷ [] }) }
     {
-        let mut pre_release = Vec::new(alloc);
-        pre_release.push(Identifier::Numeric(number))?;
-        Ok(Version::from_parts(major, minor, patch, Some(pre_release), None))
+        let mut lists = Lists::boxed(alloc)?;
+        lists.pre_release.push_reserved(Identifier::Numeric(number));
+        Ok(Version::from_parts(major, minor, patch, Some(lists)))
     }
 
     /// The five values of the version.
@@ -107,19 +140,29 @@ impl Version {
         ensures handed_back { IfErr result (λ v. v ≡ self) }
         ensures memory { OnErr result (HasIdentifiers self) }
     {
+        let Ok(mut pre_release) = Vec::with_capacity(alloc, self.pre_release().len()) else {
+            return Err(self);
+        };
+        let Ok(mut build) = Vec::with_capacity(alloc, self.build().len()) else {
+            return Err(self);
+        };
         let Version {
+            major,
+            minor,
+            patch,
+            lists,
+        } = self;
+        if let Some(lists) = lists {
+            let lists = Box::into_inner(lists);
+            move_items(lists.pre_release, &mut pre_release);
+            move_items(lists.build, &mut build);
+        }
+        Ok(VersionParts {
             major,
             minor,
             patch,
             pre_release,
             build,
-        } = self;
-        Ok(VersionParts {
-            major,
-            minor,
-            patch,
-            pre_release: or_empty(alloc, pre_release),
-            build: or_empty(alloc, build),
         })
     }
 
@@ -128,15 +171,13 @@ impl Version {
         ensures whole { IfOk result (λ v. v ≡ self.now) }
         ensures memory { OnErr result (HasIdentifiers self.now) }
     {
-        let pre_release = copy_items(alloc, self.pre_release())?;
-        let build = copy_items(alloc, self.build())?;
-        Ok(Version::from_parts(
-            self.major(),
-            self.minor(),
-            self.patch(),
-            unless_empty(pre_release),
-            unless_empty(build),
-        ))
+        let Some(lists) = &self.lists else {
+            return Ok(Version::release(self.major, self.minor, self.patch));
+        };
+        let mut copy = Lists::boxed(alloc)?;
+        copy_into(alloc, &lists.pre_release, &mut copy.pre_release)?;
+        copy_into(alloc, &lists.build, &mut copy.build)?;
+        Ok(Version::from_parts(self.major, self.minor, self.patch, Some(copy)))
     }
 }
 
@@ -146,31 +187,47 @@ impl Point for Version {
     }
 }
 
-// The list, or `None` where it is empty.
-pub(crate) fn unless_empty(list: Vec<Identifier>) -> Option<Vec<Identifier>>
-    ensures { list_ids result ≡ ids_view list.items }
-{
-    if list.is_empty() { None } else { Some(list) }
-}
-
-// The list, which is empty where there is `None`.
-fn or_empty(alloc: Global, list: Option<Vec<Identifier>>) -> Vec<Identifier>
-    ensures { ids_view result.items ≡ list_ids list }
-{
-    match list {
-        Some(list) => list,
-        None => Vec::new(alloc),
-    }
-}
-
-// The identifiers again, with room for no more. It takes no memory where there are none.
-pub(crate) fn copy_items(alloc: Global, list: &[Identifier]) -> Result<Vec<Identifier>, AllocError>
+// The identifiers again. It takes no memory where there are none.
+fn copy_items(alloc: Global, list: &[Identifier]) -> Result<Vec<Identifier>, AllocError>
     ensures whole { IfOk result (λ copy. ids_view copy.items ≡ ids_view list.now) }
     ensures memory { OnErr result (0 < length list.now) }
 {
     let mut copy = Vec::with_capacity(alloc, list.len())?;
     for id in list {
-        copy.push(id.copy(alloc)?)?;
+        copy.push_reserved(id.copy(alloc)?);
     }
     Ok(copy)
+}
+
+// The identifiers again, inline where they fit. It takes no memory where there are none.
+pub(crate) fn copy_list(alloc: Global, list: &[Identifier]) -> Result<Identifiers, AllocError>
+    ensures whole { IfOk result (λ copy. ids_view copy.items ≡ ids_view list.now) }
+    ensures memory { OnErr result (0 < length list.now) }
+{
+    let mut copy = SmallVec::new(alloc);
+    copy_into(alloc, list, &mut copy)?;
+    Ok(copy)
+}
+
+// Fills an empty list with the identifiers of another. It takes no memory where there are none.
+fn copy_into(alloc: Global, from: &[Identifier], to: &mut Identifiers) -> Result<(), AllocError>
+    requires { to.old.items ≡ [] }
+    ensures whole { OnOk result (ids_view to.new.items ≡ ids_view from.now) }
+    ensures memory { OnErr result (0 < length from.now) }
+{
+    to.reserve_exact(from.len())?;
+    for id in from {
+        to.push_reserved(id.copy(alloc)?);
+    }
+    Ok(())
+}
+
+// Appends the identifiers to a list that has room for them.
+fn move_items(from: Identifiers, to: &mut Vec<Identifier>)
+    requires { vec_len to.old + length from.items ≤ vec_capacity to.old }
+    ensures { to.new.items ≡ to.old.items ++ from.items }
+{
+    for id in from {
+        to.push_reserved(id);
+    }
 }

@@ -1,6 +1,7 @@
 use Rattle.std.proofs.Common.{◌≡◌, ◌≤◌, ◌<◌, length, sym}
-use Rattle.semver_core.proofs.Whole.{whole_left}
+use Rattle.semver_core.proofs.Whole.{lists_left}
 use Rattle.semver_core.proofs.readers.fast.qualified.Goals as goal
 
 pub returns-then-end-text-clause-found : goal.returns-then-end-text-clause-found
-returns-then-end-text-clause-found c = sym (whole_left c.args.text.now c.args.major c.args.minor c.args.patch c.args.at _ _ _ _ c.in_ok-pre.ensures.found c.in_ok-build.ensures.found c.if-end-text.true)
+returns-then-end-text-clause-found c =
+    sym (lists_left c.args.text.now c.args.major c.args.minor c.args.patch c.args.at _ _ _ c.in_ok-lists.ensures.found c.if-end-text.true)
