@@ -5,7 +5,7 @@ use Rattle.nodejs_semver.specs.Parts.{cut_bars}
 use Rattle.nodejs_semver.specs.Runs.{runs_from}
 use Rattle.nodejs_semver.specs.Table.{table}
 use Rattle.nodejs_semver.specs.Words.{is_boundary, word_at, words_within, from_boundary}
-use Rattle.semver_lines.proofs.tests.printing.a_printed_range_is_read_again.Goals as goal
+use Rattle.semver_lines.proofs.tests.print.reread_range_gives_an_equal_range.Goals as goal
 
 pub reread_range-requires : goal.reread_range-requires
 unfolding table is_boundary number_of space_len after_spaces drop_end_spaces cut_bars partial_of longest_within word_at words_within from_boundary runs_from
