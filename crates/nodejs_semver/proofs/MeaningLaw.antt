@@ -19,7 +19,7 @@ use Rattle.nodejs_semver.specs.RangeLaws.{join_bars}
 use Rattle.nodejs_semver.specs.RangeText.{AreAllIntervals, AreIntervals, AreWords, Means, OneMeaning, next_piece, next_word, no_piece, no_word}
 use Rattle.nodejs_semver.specs.RangeView.{any_version}
 use Rattle.nodejs_semver.specs.Runs.{Run, interval_of, runs_of}
-use Rattle.nodejs_semver.specs.Table.{bounds_of}
+use Rattle.nodejs_semver.specs.Table.{table}
 use Rattle.nodejs_semver.specs.Words.{Word, word_at, words}
 use Rattle.nodejs_semver.proofs.BarsDivide.{bars_divide, bars_once}
 use Rattle.nodejs_semver.proofs.Lists.{and-both, and-left, and-right}
@@ -78,8 +78,8 @@ piece-means limit piece u =
 piece-once : (limit : ℕ) (piece : List ℕ) (list : List (Span VersionValue)) → IsUtf8 piece → AreIntervals limit piece list → list ≡ part_intervals limit (trim piece)
 piece-once limit piece list u h =
     h.spanned
-    ∙ ap (λ (rs : List (Run VersionValue)). map (interval_of precedence) rs) (runs_are (filter_map (bounds_of limit) h.words) h.runs h.divided)
-    ∙ ap (λ (ws : List Word). map (interval_of precedence) (runs_of precedence (filter_map (bounds_of limit) ws)))
+    ∙ ap (λ (rs : List (Run VersionValue)). map (interval_of precedence) rs) (runs_are (filter_map (table limit) h.words) h.runs h.divided)
+    ∙ ap (λ (ws : List Word). map (interval_of precedence) (runs_of precedence (filter_map (table limit) ws)))
     (words-once limit h.part h.words (trim-utf8 piece h.part u h.trimmed) (trim-starts piece h.part h.trimmed) h.read)
     ∙ ap (λ (t : List ℕ). part_intervals limit t) (MiddleIsTrim_lem piece h.part h.trimmed)
 

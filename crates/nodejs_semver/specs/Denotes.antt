@@ -8,12 +8,12 @@ use Rattle.semver_core.specs.Spaces.{is_empty}
 use Rattle.nodejs_semver.specs.Parts.{parts}
 use Rattle.nodejs_semver.specs.RangeView.{any_version}
 use Rattle.nodejs_semver.specs.Runs.{interval_of, runs_of}
-use Rattle.nodejs_semver.specs.Table.{bounds_of}
+use Rattle.nodejs_semver.specs.Table.{table}
 use Rattle.nodejs_semver.specs.Words.{words}
 
 -- the bounds of the words of a part that have bounds
 abbrev pub part_bounds : ℕ → List ℕ → List (Span VersionValue)
-part_bounds limit part = filter_map (bounds_of limit) (words limit part)
+part_bounds limit part = filter_map (table limit) (words limit part)
 
 -- the intervals of a part
 abbrev pub part_intervals : ℕ → List ℕ → List (Span VersionValue)

@@ -19,6 +19,7 @@ pub mod WordText
 pub mod RangeText
 pub mod Fronts
 pub mod PartFronts
+pub mod PreReleases
 pub mod Meets
 pub mod Readings
 pub mod Examples

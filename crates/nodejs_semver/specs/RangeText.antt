@@ -9,7 +9,7 @@ use Rattle.nodejs_semver.specs.Denotes.{denotes}
 use Rattle.nodejs_semver.specs.RangeLaws.{IsCutAtBars}
 use Rattle.nodejs_semver.specs.RangeView.{any_version}
 use Rattle.nodejs_semver.specs.Runs.{AreRuns, Run, interval_of}
-use Rattle.nodejs_semver.specs.Table.{bounds_of}
+use Rattle.nodejs_semver.specs.Table.{table}
 use Rattle.nodejs_semver.specs.WordText.{IsWordAt, SkipsBlank}
 use Rattle.nodejs_semver.specs.Words.{Word}
 
@@ -26,7 +26,7 @@ pub record AreIntervals (limit : ℕ) (piece : List ℕ) (list : List (Span Vers
   pub runs : List (Run VersionValue)
   pub trimmed : IsTrim piece part
   pub read : AreWords limit part words
-  pub divided : AreRuns precedence (filter_map (bounds_of limit) words) runs
+  pub divided : AreRuns precedence (filter_map (table limit) words) runs
   pub spanned : list ≡ map (interval_of precedence) runs
 
 -- the intervals of all pieces, one piece after another
