@@ -11,7 +11,8 @@ use Rattle.semver_core.specs.Versions.{VersionValue}
 use Rattle.nodejs_semver.specs.Denotes.{denotes, part_bounds, part_intervals}
 use Rattle.nodejs_semver.specs.Parts.{parts}
 use Rattle.nodejs_semver.specs.RangeView.{any_version, is_range_bound, is_range_span}
-use Rattle.nodejs_semver.specs.Runs.{Run, fits, greatest_lower, interval_of, least_upper, run_items, runs_of}
+use Rattle.nodejs_semver.specs.Runs.{Run, fits, greatest_lower, interval_of, least_upper, run_items}
+use Rattle.nodejs_semver.specs.RunsFrom.{runs_of}
 use Rattle.nodejs_semver.specs.Table.{table}
 use Rattle.nodejs_semver.specs.Words.{word_at, words_within}
 use Rattle.nodejs_semver.proofs.Bounded.{word-fine}

@@ -12,7 +12,8 @@ use Rattle.nodejs_semver.specs.Accepts.{accepts}
 use Rattle.nodejs_semver.specs.Denotes.{denotes, part_bounds, part_intervals}
 use Rattle.nodejs_semver.specs.Parts.{parts}
 use Rattle.nodejs_semver.specs.RangeView.{any_version}
-use Rattle.nodejs_semver.specs.Runs.{Run, interval_of, runs_of}
+use Rattle.nodejs_semver.specs.Runs.{Run, interval_of}
+use Rattle.nodejs_semver.specs.RunsFrom.{runs_of}
 use Rattle.semver_core.specs.Spaces.{is_empty}
 use Rattle.nodejs_semver.specs.Written.{part_writes, run_writes, writes}
 use Rattle.nodejs_semver.proofs.RunLemmas.{run-holds}

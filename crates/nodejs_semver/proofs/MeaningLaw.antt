@@ -15,12 +15,15 @@ use Rattle.semver_core.specs.Versions.{VersionValue}
 use Rattle.semver_core.proofs.Trims.{MiddleIsTrim_lem, TrimIsMiddle_lem, trim_parts}
 use Rattle.nodejs_semver.specs.Denotes.{denotes, part_bounds, part_intervals}
 use Rattle.nodejs_semver.specs.Parts.{cut_bars}
-use Rattle.nodejs_semver.specs.RangeLaws.{join_bars}
-use Rattle.nodejs_semver.specs.RangeText.{AreAllIntervals, AreIntervals, AreWords, Means, OneMeaning, next_piece, next_word, no_piece, no_word}
+use Rattle.nodejs_semver.specs.Bars.{join_bars}
+use Rattle.nodejs_semver.specs.RangeText.{AreAllIntervals, AreIntervals, AreWords, Means, next_piece, next_word, no_piece, no_word}
+use Rattle.nodejs_semver.specs.RangeLaws.{OneMeaning}
 use Rattle.nodejs_semver.specs.RangeView.{any_version}
-use Rattle.nodejs_semver.specs.Runs.{Run, interval_of, runs_of}
+use Rattle.nodejs_semver.specs.Runs.{Run, interval_of}
+use Rattle.nodejs_semver.specs.RunsFrom.{runs_of}
 use Rattle.nodejs_semver.specs.Table.{table}
-use Rattle.nodejs_semver.specs.Words.{Word, word_at, words}
+use Rattle.nodejs_semver.specs.WordText.{Word}
+use Rattle.nodejs_semver.specs.Words.{word_at, words}
 use Rattle.nodejs_semver.proofs.BarsDivide.{bars_divide, bars_once}
 use Rattle.nodejs_semver.proofs.Lists.{and-both, and-left, and-right}
 use Rattle.nodejs_semver.proofs.PartSteps.{words-none}

@@ -7,7 +7,8 @@ use Rattle.semver_core.specs.Order.{precedence}
 use Rattle.semver_core.specs.OrderLaws.{precedence_total}
 use Rattle.semver_core.specs.Versions.{VersionValue}
 use Rattle.semver_core.specs.Spaces.{space_len}
-use Rattle.nodejs_semver.specs.Words.{Word, word_at, words, words_within}
+use Rattle.nodejs_semver.specs.WordText.{Word}
+use Rattle.nodejs_semver.specs.Words.{word_at, words, words_within}
 use Rattle.nodejs_semver.specs.Table.{table}
 use Rattle.nodejs_semver.specs.Denotes.{part_bounds, part_intervals}
 use Rattle.nodejs_semver.specs.Meets.{joined, joined_from, next_at}

@@ -11,12 +11,14 @@ use Rattle.semver_core.specs.Printed.{version_text}
 use Rattle.semver_core.specs.Versions.{VersionValue}
 use Rattle.semver_core.specs.declared.cuts.bound.Bound.{Bound}
 use Rattle.semver_core.specs.declared.cuts.bound.Bound.TheVariants.{Unbounded, Before, After}
-use Rattle.nodejs_semver.specs.ComesBack.{has_bound, is_bounded, bounds_back}
+use Rattle.nodejs_semver.specs.ComesBack.{has_bound, bounds_back}
 use Rattle.nodejs_semver.specs.Denotes.{part_intervals}
 use Rattle.nodejs_semver.specs.Printed.{bounds_text, ties}
-use Rattle.nodejs_semver.specs.Runs.{Run, interval_of, runs_from, runs_of, fits}
+use Rattle.nodejs_semver.specs.Runs.{Run, interval_of, fits}
+use Rattle.nodejs_semver.specs.RunsFrom.{runs_from, runs_of}
 use Rattle.nodejs_semver.specs.Table.{table}
-use Rattle.nodejs_semver.specs.Words.{Word, plain, compare, Comparator, at_least, above, equal, at_most, below, words}
+use Rattle.nodejs_semver.specs.WordText.{Word, plain, compare, Comparator, at_least, above, equal, at_most, below}
+use Rattle.nodejs_semver.specs.Words.{words}
 use Rattle.nodejs_semver.proofs.PrintedVersions.{whole}
 use Rattle.nodejs_semver.proofs.PrintedWords.{sign, is_printed, one_word, two_words, version_words}
 
@@ -29,7 +31,7 @@ IsReadableBound limit (After v) = IsReadable limit v
 -- an interval that is not `*` and whose versions are readable
 pub record IsPrintable (limit : ℕ) (s : Span VersionValue) : Type 0 where
   pub proper : is_interval precedence s ≡ true
-  pub bounded : is_bounded s ≡ true
+  pub bounded : has_bound s.lower s.upper ≡ true
   pub lower : IsReadableBound limit s.lower
   pub upper : IsReadableBound limit s.upper
 

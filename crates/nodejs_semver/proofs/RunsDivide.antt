@@ -10,7 +10,8 @@ use Rattle.semver_core.specs.Versions.{VersionValue}
 use Rattle.nodejs_semver.specs.Denotes.{part_bounds}
 use Rattle.nodejs_semver.specs.Table.{table}
 use Rattle.nodejs_semver.specs.Words.{words}
-use Rattle.nodejs_semver.specs.Runs.{Run, fits, longer, run_items, AreLongest, AreRuns, runs_from, runs_of}
+use Rattle.nodejs_semver.specs.Runs.{Run, fits, longer, run_items, AreLongest, AreRuns}
+use Rattle.nodejs_semver.specs.RunsFrom.{runs_from, runs_of}
 use Rattle.nodejs_semver.proofs.Lists.{and-left, and-right, and-both}
 use Rattle.nodejs_semver.proofs.MeetLemmas.{runs-goes, runs-stops}
 use Rattle.nodejs_semver.proofs.TableRows.{table-interval}

@@ -6,7 +6,7 @@ use Rattle.semver_core.specs.Order.{precedence}
 use Rattle.semver_core.specs.Versions.{VersionValue}
 use Rattle.nodejs_semver.specs.Readings.{bounds_view, interval_view, table_view}
 use Rattle.nodejs_semver.specs.Table.{table}
-use Rattle.nodejs_semver.specs.Words.{Word}
+use Rattle.nodejs_semver.specs.WordText.{Word}
 use Rattle.nodejs_semver.specs.declared.readers.syntax.Bounds.{Bounds}
 use Rattle.nodejs_semver.proofs.TableRows.{table-interval}
 

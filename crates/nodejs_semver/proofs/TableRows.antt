@@ -13,10 +13,10 @@ use Rattle.semver_core.specs.Identifiers.{Id}
 use Rattle.semver_core.specs.Order.{precedence}
 use Rattle.semver_core.specs.OrderLaws.{precedence_total}
 use Rattle.semver_core.specs.Versions.{VersionValue, release_value}
-use Rattle.nodejs_semver.specs.Partials.{Partial}
+use Rattle.nodejs_semver.specs.PartialText.{Partial}
 use Rattle.nodejs_semver.specs.RangeView.{is_bound_version, is_range_bound}
 use Rattle.nodejs_semver.specs.Table.{lowest, row, table, version_of, without_build}
-use Rattle.nodejs_semver.specs.Words.{Comparator, Word, above, at_least, at_most, below, caret, compare, equal, hyphen, malformed, plain, tilde}
+use Rattle.nodejs_semver.specs.WordText.{Comparator, Word, above, at_least, at_most, below, caret, compare, equal, hyphen, malformed, plain, tilde}
 use Rattle.nodejs_semver.proofs.Bounded.{Fine, FineWord, Fits}
 use Rattle.nodejs_semver.proofs.Lists.{and-both}
 

@@ -5,11 +5,13 @@ pub mod SameLaws
 pub mod Lists
 pub mod Along
 pub mod RangeExamples
+pub mod Bars
 pub mod Parts
 pub mod Partials
 pub mod Words
 pub mod Table
 pub mod Runs
+pub mod RunsFrom
 pub mod Denotes
 pub mod Written
 pub mod RangeLaws

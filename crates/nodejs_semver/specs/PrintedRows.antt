@@ -11,7 +11,7 @@ use Rattle.nodejs_semver.specs.Denotes.{denotes}
 use Rattle.nodejs_semver.specs.Partials.{number_of, partial_of, longest_within}
 use Rattle.nodejs_semver.specs.Parts.{cut_bars}
 use Rattle.nodejs_semver.specs.Printed.{range_text}
-use Rattle.nodejs_semver.specs.Runs.{runs_from}
+use Rattle.nodejs_semver.specs.RunsFrom.{runs_from}
 use Rattle.nodejs_semver.specs.Table.{table, lowest}
 use Rattle.nodejs_semver.specs.Words.{is_boundary, word_at, words_within, from_boundary}
 

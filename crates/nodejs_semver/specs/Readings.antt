@@ -7,10 +7,11 @@ use Rattle.semver_core.specs.declared.cuts.bound.Bound.TheVariants.{Unbounded, B
 use Rattle.semver_core.specs.Order.{precedence}
 use Rattle.semver_core.specs.Versions.{VersionValue}
 use Rattle.nodejs_semver.specs.Fronts.{Front, list_of}
-use Rattle.nodejs_semver.specs.Partials as Spec
+use Rattle.nodejs_semver.specs.PartialText as Spec
 use Rattle.nodejs_semver.specs.PreReleases.{pre_release_view}
-use Rattle.nodejs_semver.specs.Words as WordSpec
-use Rattle.nodejs_semver.specs.Words.{at_least, above, equal, at_most, below, hyphen, plain, compare, tilde, caret, malformed}
+use Rattle.nodejs_semver.specs.WordText as WordSpec
+use Rattle.nodejs_semver.specs.Words.{Reading}
+use Rattle.nodejs_semver.specs.WordText.{at_least, above, equal, at_most, below, hyphen, plain, compare, tilde, caret, malformed}
 use Rattle.nodejs_semver.specs.declared.readers.syntax.BareVersion.{BareVersion}
 use Rattle.nodejs_semver.specs.declared.readers.syntax.Bounds.{Bounds}
 use Rattle.nodejs_semver.specs.declared.readers.syntax.Partial.{Partial}
@@ -62,7 +63,7 @@ word_view Malformed = malformed
 abbrev pub word_pair_view : Word × Bor (List ℕ) → WordSpec.Word × List ℕ
 word_pair_view p = (word_view p.0, p.1.now)
 
-abbrev pub reading_view : Option (Word × Bor (List ℕ)) → WordSpec.Reading
+abbrev pub reading_view : Option (Word × Bor (List ℕ)) → Reading
 reading_view None = None
 reading_view (Some p) = Some (word_pair_view p)
 

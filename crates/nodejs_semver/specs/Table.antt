@@ -7,8 +7,8 @@ use Rattle.semver_core.specs.declared.cuts.bound.Bound.TheVariants.{Unbounded, B
 use Rattle.semver_core.specs.Identifiers.{Numeric}
 use Rattle.semver_core.specs.Order.{precedence}
 use Rattle.semver_core.specs.Versions.{VersionValue, release_value}
-use Rattle.nodejs_semver.specs.Partials.{Partial}
-use Rattle.nodejs_semver.specs.Words.{at_least, above, equal, at_most, below, Word, hyphen, plain, compare, tilde, caret, malformed}
+use Rattle.nodejs_semver.specs.PartialText.{Partial}
+use Rattle.nodejs_semver.specs.WordText.{at_least, above, equal, at_most, below, Word, hyphen, plain, compare, tilde, caret, malformed}
 
 -- the versions that one comparator lets in, and those that two do
 abbrev pub >= : VersionValue → Span VersionValue

@@ -4,7 +4,7 @@ ghost use Rattle.std.specs.Prelude.{◌≡◌, ◌≤◌, ◌<◌, ◌+◌, ◌^
 ghost use Rattle.nodejs_semver.specs.Readings.{bare_view, bounds_view, comparator_view, interval_view, partial_view, table_view, word_view};
 ghost use Rattle.nodejs_semver.specs.Table as Spec;
 ghost use Rattle.nodejs_semver.specs.Table.{table};
-ghost use Rattle.nodejs_semver.specs.Words as Words;
+ghost use Rattle.nodejs_semver.specs.WordText as Words;
 ghost use Rattle.semver_core.specs.Cuts.{interval};
 ghost use Rattle.semver_core.specs.Order.{precedence};
 ghost use Rattle.semver_core.specs.Versions.{release_value};
