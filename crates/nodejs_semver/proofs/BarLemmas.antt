@@ -1,11 +1,12 @@
 -- The parts of a text, cut at its bars.
+use Rattle.semver_core.specs.Characters.{begins}
 use Rattle.std.proofs.Common.{◌≡◌, ℕ, suc, ◌<◌, ◌≤◌, ◌+◌, List, [], ◌∷◌, length, drop, get_or, refl, sym, ap, ◌∙◌, arith, true, false, Some, None, inl, inr, subst, map, length-drop}
-use Rattle.std.specs.Prelude.{Option, nat_lt}
+use Rattle.std.specs.Prelude.{Option, nat_lt, IsCharBoundary, IsUtf8}
 use Rattle.std.proofs.lemmas.Bool.{eqb-true, cases_Bool, cases_lt, lt-ltb, le-ltb}
-use Rattle.std.specs.Prelude.{IsCharBoundary, IsUtf8}
 use Rattle.std.proofs.lemmas.Str.{IsCharBoundary-after_ascii, IsCharBoundary-before_ascii}
 use Rattle.std.proofs.lemmas.List.{drop_more, get_or-drop}
-use Rattle.nodejs_semver.specs.Parts.{begins_bar, cut_bars, is_bar, parts}
+use Rattle.nodejs_semver.specs.Parts.{cut_bars, parts}
+use Rattle.nodejs_semver.specs.Bars.{is_bar}
 use Rattle.semver_core.specs.Spaces.{trim}
 use Rattle.nodejs_semver.specs.PartFronts.{bars_at, begins_bars, front_part, later_parts}
 use Rattle.nodejs_semver.proofs.Lists.{and-left, and-right}
@@ -18,7 +19,7 @@ bars_fit (b ∷ rest) = elim (cases_Bool (begins_bars (b ∷ rest))) [
   | inr other ↦ let more = bars_fit rest in rw other (omega arith)
 ]
 
-begins_bar-some : (text : List ℕ) → begins_bar text ≡ true → 0 < length text
+begins_bar-some : (text : List ℕ) → begins is_bar text ≡ true → 0 < length text
 begins_bar-some [] h = cc h
 begins_bar-some (b ∷ rest) h = omega arith
 
@@ -27,7 +28,7 @@ pub bars_room : (text : List ℕ) → bars_at text < length text → bars_at tex
 unfolding bars_at
 bars_room [] h = absurd (omega arith)
 bars_room (b ∷ rest) h = elim (cases_Bool (begins_bars (b ∷ rest))) [
-  | inl here ↦ let some = begins_bar-some rest (and-right (is_bar b) (begins_bar rest) here) in rw here (omega arith)
+  | inl here ↦ let some = begins_bar-some rest (and-right (is_bar b) (begins is_bar rest) here) in rw here (omega arith)
   | inr other ↦ let less : suc (bars_at rest) < length (b ∷ rest) = rw other at h in let more = bars_room rest (omega arith) in rw other (omega arith)
 ]
 
@@ -81,13 +82,13 @@ cut_bars-front (b ∷ rest) = elim (cases_Bool (begins_bars (b ∷ rest))) [
 bar-low : (b : ℕ) → is_bar b ≡ true → b < 128
 bar-low b h = let e = eqb-true b 124 h in omega arith
 
-begins_bar-low : (text : List ℕ) → begins_bar text ≡ true → get_or text 0 0 < 128
+begins_bar-low : (text : List ℕ) → begins is_bar text ≡ true → get_or text 0 0 < 128
 begins_bar-low [] h = cc h
 begins_bar-low (b ∷ rest) h = bar-low b h
 
 here-low : (text : List ℕ) → begins_bars text ≡ true → (get_or text 0 0 < 128) × (get_or text 1 0 < 128)
 here-low [] h = cc h
-here-low (b ∷ rest) h = (bar-low b (and-left (is_bar b) (begins_bar rest) h), begins_bar-low rest (and-right (is_bar b) (begins_bar rest) h))
+here-low (b ∷ rest) h = (bar-low b (and-left (is_bar b) (begins is_bar rest) h), begins_bar-low rest (and-right (is_bar b) (begins is_bar rest) h))
 
 bars-begin : (text : List ℕ) → bars_at text < length text → begins_bars (drop (bars_at text) text) ≡ true
 unfolding bars_at

@@ -1,10 +1,11 @@
 -- A text has one division at its bars.
+use Rattle.semver_core.specs.Characters.{begins}
 use Rattle.std.proofs.Common.{◌≡◌, ◌<◌, ℕ, List, [], ◌∷◌, ◌++◌, length, refl, sym, ap, ◌∙◌, arith, inl, inr, true, false, Bool, subst}
 use Rattle.std.specs.Prelude.{◌&&◌, ◌||◌, not}
-use Rattle.std.specs.List.{list_all}
+use Rattle.std.specs.List.{list_all, onto_first}
 use Rattle.std.proofs.lemmas.Bool.{cases_Bool, eqb-true}
-use Rattle.nodejs_semver.specs.Parts.{begins_bar, cut_bars, is_bar, onto_first}
-use Rattle.nodejs_semver.specs.RangeLaws.{IsCutAtBars, are_closed, ends_in_bar, has_bars, join_bars}
+use Rattle.nodejs_semver.specs.Parts.{cut_bars}
+use Rattle.nodejs_semver.specs.Bars.{is_bar, IsCutAtBars, are_closed, ends_in_bar, has_bars, join_bars}
 use Rattle.nodejs_semver.proofs.Lists.{and-left, and-right, and-both}
 
 not-true : (b : Bool) → not b ≡ true → b ≡ false
@@ -35,13 +36,13 @@ one-piece : (piece : List ℕ) → has_bars piece ≡ false → cut_bars false p
 unfolding cut_bars
 one-piece [] h = refl
 one-piece (b ∷ rest) h =
-    let here : (is_bar b && begins_bar rest) ≡ false = or-first (is_bar b && begins_bar rest) (has_bars rest) h in
-    let more = one-piece rest (or-second (is_bar b && begins_bar rest) (has_bars rest) h) in
+    let here : (is_bar b && begins is_bar rest) ≡ false = or-first (is_bar b && begins is_bar rest) (has_bars rest) h in
+    let more = one-piece rest (or-second (is_bar b && begins is_bar rest) (has_bars rest) h) in
     rw (here, cut_bars) (ap (λ (ps : List (List ℕ)). onto_first b ps) more)
 
 -- a piece that ends before bars
-piece-ended : (b : ℕ) (rest t : List ℕ) → (is_bar b && begins_bar rest) ≡ false → ends_in_bar (b ∷ rest) ≡ false
-    → (is_bar b && begins_bar (rest ++ 124 ∷ t)) ≡ false
+piece-ended : (b : ℕ) (rest t : List ℕ) → (is_bar b && begins is_bar rest) ≡ false → ends_in_bar (b ∷ rest) ≡ false
+    → (is_bar b && begins is_bar (rest ++ 124 ∷ t)) ≡ false
 piece-ended b [] t here ends = rw ends refl
 piece-ended b (c ∷ rest) t here ends = here
 
@@ -54,8 +55,8 @@ front-piece : (piece t : List ℕ) → has_bars piece ≡ false → ends_in_bar 
 unfolding cut_bars
 front-piece [] t h ends = refl
 front-piece (b ∷ rest) t h ends =
-    let here = piece-ended b rest (124 ∷ t) (or-first (is_bar b && begins_bar rest) (has_bars rest) h) ends in
-    let more = front-piece rest t (or-second (is_bar b && begins_bar rest) (has_bars rest) h) (ends-rest b rest ends) in
+    let here = piece-ended b rest (124 ∷ t) (or-first (is_bar b && begins is_bar rest) (has_bars rest) h) ends in
+    let more = front-piece rest t (or-second (is_bar b && begins is_bar rest) (has_bars rest) h) (ends-rest b rest ends) in
     rw (here, cut_bars) (ap (λ (ps : List (List ℕ)). onto_first b ps) more)
 
 cut-joined : (pieces : List (List ℕ)) → 0 < length pieces → unbarred pieces ≡ true → are_closed pieces ≡ true → cut_bars false (join_bars pieces) ≡ pieces
@@ -81,8 +82,8 @@ record Divided (text : List ℕ) (pieces : List (List ℕ)) : Type 0 where
   joined : join_bars (head ∷ tail) ≡ text
   unbarred : list_all (λ piece. not (has_bars piece)) (head ∷ tail) ≡ true
   closed : are_closed (head ∷ tail) ≡ true
-  begins : begins_bar head ≡ true → begins_bar text ≡ true
-  bars : head ≡ [] → 0 < length tail → begins_bar text ≡ true
+  begun : begins is_bar head ≡ true → begins is_bar text ≡ true
+  bars : head ≡ [] → 0 < length tail → begins is_bar text ≡ true
 
 -- one byte more in front
 join-onto : (b : ℕ) (head : List ℕ) (tail : List (List ℕ)) → join_bars ((b ∷ head) ∷ tail) ≡ b ∷ join_bars (head ∷ tail)
@@ -104,7 +105,7 @@ second-false true b true h k = cc (sym h ∙ k refl)
 second-false true b false h k = refl
 second-false false b c h k = refl
 
-onto : (b : ℕ) (rest : List ℕ) (pieces : List (List ℕ)) → (is_bar b && begins_bar rest) ≡ false → Divided rest pieces → Divided (b ∷ rest) (onto_first b pieces)
+onto : (b : ℕ) (rest : List ℕ) (pieces : List (List ℕ)) → (is_bar b && begins is_bar rest) ≡ false → Divided rest pieces → Divided (b ∷ rest) (onto_first b pieces)
 onto b rest pieces here d = record {
   head = b ∷ d.head;
   tail = d.tail;
@@ -112,11 +113,11 @@ onto b rest pieces here d = record {
   joined = join-onto b d.head d.tail ∙ ap (λ (t : List ℕ). b ∷ t) d.joined;
   unbarred = and-both (not (has_bars (b ∷ d.head))) (list_all (λ piece. not (has_bars piece)) d.tail)
       (not-false (has_bars (b ∷ d.head))
-      (or-both (is_bar b && begins_bar d.head) (has_bars d.head) (second-false (is_bar b) (begins_bar rest) (begins_bar d.head) here d.begins)
+      (or-both (is_bar b && begins is_bar d.head) (has_bars d.head) (second-false (is_bar b) (begins is_bar rest) (begins is_bar d.head) here d.begun)
       (not-true (has_bars d.head) (and-left (not (has_bars d.head)) (list_all (λ piece. not (has_bars piece)) d.tail) d.unbarred))))
       (and-right (not (has_bars d.head)) (list_all (λ piece. not (has_bars piece)) d.tail) d.unbarred);
-  closed = closed-onto b d.head d.tail d.closed (λ e some. first-false (is_bar b) (begins_bar rest) here (d.bars e some));
-  begins = λ h. h;
+  closed = closed-onto b d.head d.tail d.closed (λ e some. first-false (is_bar b) (begins is_bar rest) here (d.bars e some));
+  begun = λ h. h;
   bars = λ e some. absurd (omega (arith, ap length e));
 }
 
@@ -131,13 +132,13 @@ bars-on b c t pieces here d =
       joined = ap (λ (u : List ℕ). 124 ∷ (124 ∷ u)) d.joined ∙ rw (eqb-true b 124 one, eqb-true c 124 two) refl;
       unbarred = d.unbarred;
       closed = d.closed;
-      begins = λ h. one;
+      begun = λ h. one;
       bars = λ e some. one;
     }
 
 divided : (text : List ℕ) → Divided text (cut_bars false text)
 unfolding cut_bars
-divided [] = record { head = []; tail = []; is = refl; joined = refl; unbarred = refl; closed = refl; begins = λ h. h; bars = λ e some. absurd (omega arith) }
+divided [] = record { head = []; tail = []; is = refl; joined = refl; unbarred = refl; closed = refl; begun = λ h. h; bars = λ e some. absurd (omega arith) }
 divided (b ∷ []) =
     let none : (is_bar b && false) ≡ false = and-none (is_bar b) in
     subst (λ (ps : List (List ℕ)). Divided (b ∷ []) ps) (sym (rw (none, cut_bars) refl)) (onto b [] ([] ∷ []) none (divided []))

@@ -1,6 +1,5 @@
 -- What a range text's intervals hold is what the text writes.
-use Rattle.std.proofs.Common.{◌≡◌, ℕ, List, [], ◌∷◌, ◌++◌, refl, sym, ap, ap₂, ◌∙◌, true, false, Bool, map, Some, inl, inr}
-use Rattle.std.proofs.lemmas.Bool.{cases_Bool}
+use Rattle.std.proofs.Common.{◌≡◌, ℕ, ◌<◌, length, arith, List, [], ◌∷◌, ◌++◌, refl, sym, ap, ap₂, ◌∙◌, true, false, Bool, map, Some}
 use Rattle.std.specs.Prelude.{◌&&◌, ◌||◌, flat_map, if◌then◌else◌}
 use Rattle.std.specs.Cmp.{IsTotalOrder}
 use Rattle.std.specs.List.{list_all, list_any}
@@ -11,11 +10,13 @@ use Rattle.semver_core.specs.OrderLaws.{precedence_total}
 use Rattle.semver_core.specs.Versions.{VersionValue}
 use Rattle.nodejs_semver.specs.Accepts.{accepts}
 use Rattle.nodejs_semver.specs.Denotes.{denotes, part_bounds, part_denotes, part_intervals}
-use Rattle.nodejs_semver.specs.Parts.{begins_bar, cut_bars, is_bar, onto_first, parts}
+use Rattle.nodejs_semver.specs.Parts.{cut_bars, parts}
 use Rattle.nodejs_semver.specs.RangeView.{any_version}
-use Rattle.nodejs_semver.specs.Runs.{Run, interval_of, runs_of}
+use Rattle.nodejs_semver.specs.Runs.{Run, interval_of}
+use Rattle.nodejs_semver.specs.RunsFrom.{runs_of}
 use Rattle.semver_core.specs.Spaces.{is_empty, trim}
 use Rattle.nodejs_semver.specs.Written.{part_writes, run_writes, writes}
+use Rattle.nodejs_semver.proofs.BarsDivide.{bars_divide}
 use Rattle.nodejs_semver.proofs.Lists.{and-left}
 use Rattle.nodejs_semver.proofs.RunLemmas.{run-holds}
 
@@ -60,25 +61,12 @@ first-empty [] some h = absurd (some refl)
 first-empty (p ∷ ps) some h = ap (λ (b : Bool). b || list_any is_empty ps) (and-left (is_empty p) (list_all is_empty ps) h)
 
 -- a text has a part or more
-cut-some : (text : List ℕ) (passed : Bool) → cut_bars passed text ≡ [] → ⊥
-unfolding cut_bars
-cut-some [] passed h = cc h
-cut-some (b ∷ rest) true h = cut-some rest false h
-cut-some (b ∷ rest) false h = elim (cases_Bool (is_bar b && begins_bar rest)) [
-  | inl bars ↦ let here = rw (bars, cut_bars) at h in cc here
-  | inr none ↦ let here = rw (none, cut_bars) at h in onto-some b (cut_bars false rest) here
-]
-  where
-    onto-some : (b : ℕ) (ps : List (List ℕ)) → onto_first b ps ≡ [] → ⊥
-    onto-some b [] h = cc h
-    onto-some b (p ∷ ps) h = cc h
-
 parts-some : (text : List ℕ) → parts text ≡ [] → ⊥
-parts-some text h = cut-some text false (none (cut_bars false text) h)
+parts-some text h = pieces-some (cut_bars false text) (bars_divide text).some h
   where
-    none : (ps : List (List ℕ)) → map trim ps ≡ [] → ps ≡ []
-    none [] h = refl
-    none (p ∷ ps) h = cc h
+    pieces-some : (pieces : List (List ℕ)) → 0 < length pieces → map trim pieces ≡ [] → ⊥
+    pieces-some [] some h = omega arith
+    pieces-some (piece ∷ pieces) some h = cc h
 
 by-test : (b : Bool) (ss : List (Span VersionValue)) (w : Bool) (v : VersionValue) → (b ≡ true → w ≡ true) → list_holds precedence ss v ≡ w
     → list_holds precedence (if b then any_version else ss) v ≡ w

@@ -42,5 +42,7 @@ pub mod Listed
 pub mod PartSteps
 pub mod Trimmed
 pub mod Bounded
+pub mod TableRows
+pub mod TableReadings
 pub mod BoundedTable
 pub mod NumberFront

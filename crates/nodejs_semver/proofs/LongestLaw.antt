@@ -14,9 +14,10 @@ use Rattle.semver_core.specs.Identifiers.{Id, IsIdentifiers}
 use Rattle.semver_core.specs.Spaces.{drop_spaces}
 use Rattle.semver_core.proofs.Spaces.{after_spaces-end}
 use Rattle.nodejs_semver.specs.Fronts.{partial_front}
-use Rattle.nodejs_semver.specs.LongestText.{BeginsPartial, IsLongestPartial, LongestPartialsAreRead}
-use Rattle.nodejs_semver.specs.PartialText.{AreComponents, IsComponent, number, one, three, two, wildcard}
-use Rattle.nodejs_semver.specs.Partials.{Partial, is_dot, is_wildcard, longest_partial, partial_of, drop_v, ◌>>=◌}
+use Rattle.nodejs_semver.specs.LongestText.{BeginsPartial, IsLongestPartial}
+use Rattle.nodejs_semver.specs.RangeLaws.{LongestPartialsAreRead}
+use Rattle.nodejs_semver.specs.PartialText.{AreComponents, IsComponent, number, one, three, two, wildcard, Partial, is_wildcard}
+use Rattle.nodejs_semver.specs.Partials.{is_dot, longest_partial, partial_of, drop_v, ◌>>=◌}
 use Rattle.nodejs_semver.proofs.Lists.{and-both, and-left, and-right, carries_on, carries_on-dot, carries_on-other, is_list, is_list-carries_on}
 use Rattle.nodejs_semver.proofs.Longest.{longest_is_front}
 use Rattle.nodejs_semver.proofs.PartialLaw.{components-are, components-begin, partial-is, partial-of}

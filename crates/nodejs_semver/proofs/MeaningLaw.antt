@@ -15,12 +15,15 @@ use Rattle.semver_core.specs.Versions.{VersionValue}
 use Rattle.semver_core.proofs.Trims.{MiddleIsTrim_lem, TrimIsMiddle_lem, trim_parts}
 use Rattle.nodejs_semver.specs.Denotes.{denotes, part_bounds, part_denotes, part_intervals}
 use Rattle.nodejs_semver.specs.Parts.{cut_bars}
-use Rattle.nodejs_semver.specs.RangeLaws.{join_bars}
-use Rattle.nodejs_semver.specs.RangeText.{AreAllIntervals, AreIntervals, AreWords, Means, OneMeaning, blank_piece, next_piece, next_word, no_piece, no_word}
+use Rattle.nodejs_semver.specs.Bars.{join_bars}
+use Rattle.nodejs_semver.specs.RangeText.{AreAllIntervals, AreIntervals, AreWords, Means, blank_piece, next_piece, next_word, no_piece, no_word}
+use Rattle.nodejs_semver.specs.RangeLaws.{OneMeaning}
 use Rattle.nodejs_semver.specs.RangeView.{any_version}
-use Rattle.nodejs_semver.specs.Runs.{Run, interval_of, runs_of}
-use Rattle.nodejs_semver.specs.Table.{bounds_of}
-use Rattle.nodejs_semver.specs.Words.{Word, word_at, words}
+use Rattle.nodejs_semver.specs.Runs.{Run, interval_of}
+use Rattle.nodejs_semver.specs.RunsFrom.{runs_of}
+use Rattle.nodejs_semver.specs.Table.{table}
+use Rattle.nodejs_semver.specs.WordText.{Word}
+use Rattle.nodejs_semver.specs.Words.{word_at, words}
 use Rattle.nodejs_semver.proofs.BarsDivide.{bars_divide, bars_once}
 use Rattle.nodejs_semver.proofs.Lists.{and-both, and-left, and-right}
 use Rattle.nodejs_semver.proofs.PartSteps.{words-none}
@@ -78,8 +81,8 @@ piece-means limit piece u =
 piece-once : (limit : ℕ) (piece : List ℕ) (list : List (Span VersionValue)) → IsUtf8 piece → AreIntervals limit piece list → list ≡ part_intervals limit (trim piece)
 piece-once limit piece list u h =
     h.spanned
-    ∙ ap (λ (rs : List (Run VersionValue)). map (interval_of precedence) rs) (runs_are (filter_map (bounds_of limit) h.words) h.runs h.divided)
-    ∙ ap (λ (ws : List Word). map (interval_of precedence) (runs_of precedence (filter_map (bounds_of limit) ws)))
+    ∙ ap (λ (rs : List (Run VersionValue)). map (interval_of precedence) rs) (runs_are (filter_map (table limit) h.words) h.runs h.divided)
+    ∙ ap (λ (ws : List Word). map (interval_of precedence) (runs_of precedence (filter_map (table limit) ws)))
     (words-once limit h.part h.words (trim-utf8 piece h.part u h.trimmed) (trim-starts piece h.part h.trimmed) h.read)
     ∙ ap (λ (t : List ℕ). part_intervals limit t) (MiddleIsTrim_lem piece h.part h.trimmed)
 

@@ -5,7 +5,8 @@ use Rattle.std.specs.Cmp.{IsTotalOrder}
 use Rattle.std.specs.declared.cmp.Ordering.{Ordering}
 use Rattle.std.proofs.lemmas.Bool.{cases_Bool}
 use Rattle.semver_core.specs.Cuts.{Span, is_interval, meet}
-use Rattle.nodejs_semver.specs.Runs.{Run, fits, longer, interval_of, runs_from, runs_of}
+use Rattle.nodejs_semver.specs.Runs.{Run, fits, longer, interval_of}
+use Rattle.nodejs_semver.specs.RunsFrom.{runs_from, runs_of}
 use Rattle.nodejs_semver.specs.Meets.{joined, joined_from}
 use Rattle.nodejs_semver.proofs.RunLemmas.{longer-is}
 

@@ -7,8 +7,9 @@ use Rattle.semver_core.specs.Order.{precedence}
 use Rattle.semver_core.specs.OrderLaws.{precedence_total}
 use Rattle.semver_core.specs.Versions.{VersionValue}
 use Rattle.semver_core.specs.Spaces.{space_len}
-use Rattle.nodejs_semver.specs.Words.{Word, word_at, words, words_within}
-use Rattle.nodejs_semver.specs.Table.{bounds_of}
+use Rattle.nodejs_semver.specs.WordText.{Word}
+use Rattle.nodejs_semver.specs.Words.{word_at, words, words_within}
+use Rattle.nodejs_semver.specs.Table.{table}
 use Rattle.nodejs_semver.specs.Denotes.{part_bounds, part_intervals}
 use Rattle.nodejs_semver.specs.Meets.{joined, joined_from, next_at}
 use Rattle.nodejs_semver.proofs.MeetLemmas.{joined-goes, joined-stops, runs-joined}
@@ -38,7 +39,7 @@ rest-starts limit text = spaces-gone 0 (word_at limit text).1
 -- the bounds of the word at the front, before those of what follows
 pub bounds-step : (limit : ℕ) (text : List ℕ) → 0 < length text → space_len text ≡ 0
     → part_bounds limit text ≡ cons_option (next_at limit text).0 (part_bounds limit (next_at limit text).1)
-bounds-step limit text some h = ap (λ (ws : List Word). filter_map (bounds_of limit) ws) (words-step limit text some h)
+bounds-step limit text some h = ap (λ (ws : List Word). filter_map (table limit) ws) (words-step limit text some h)
 
 pub bounds-some : (limit : ℕ) (text after : List ℕ) (s : Span VersionValue) → 0 < length text → space_len text ≡ 0
     → (Some s, after) ≡ next_at limit text → part_bounds limit text ≡ s ∷ part_bounds limit after

@@ -13,8 +13,9 @@ use Rattle.semver_core.specs.Spaces.{drop_spaces, space_len}
 use Rattle.semver_core.proofs.SpaceLaw.{space_len-white}
 use Rattle.semver_core.proofs.Spaces.{drop_spaces-none}
 use Rattle.semver_core.proofs.Trims.{drop_spaces-blank, fronted}
-use Rattle.nodejs_semver.specs.PartialText.{AreComponents, IsComponent, IsPartial, PartialsAreWritten, number, one, three, two, wildcard}
-use Rattle.nodejs_semver.specs.Partials.{Partial, after_dot, before_dot, before_plus, build_of, component_of, components_of, drop_v, from_plus, identifiers_of, is_dot, is_plus, is_wildcard, minor_after, number_of, partial_of, patch_after, pre_release_of, qualifier_of, third, wildcard_of}
+use Rattle.nodejs_semver.specs.PartialText.{AreComponents, IsComponent, IsPartial, number, one, three, two, wildcard, Partial, is_wildcard}
+use Rattle.nodejs_semver.specs.RangeLaws.{PartialsAreWritten}
+use Rattle.nodejs_semver.specs.Partials.{after_dot, before_dot, before_plus, build_of, component_of, components_of, drop_v, from_plus, identifiers_of, is_dot, is_plus, minor_after, number_of, partial_of, patch_after, pre_release_of, qualifier_of, third, wildcard_of}
 use Rattle.nodejs_semver.proofs.Lists.{and-left, is_list, is_list-carries_on}
 use Rattle.nodejs_semver.proofs.NumberLaw.{number-is, number-of}
 use Rattle.nodejs_semver.proofs.Numbers.{is_empty-false}

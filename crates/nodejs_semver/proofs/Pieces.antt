@@ -1,4 +1,5 @@
 -- The pieces of a partial, read from the left and as whole texts.
+use Rattle.semver_core.specs.Characters.{begins}
 use Rattle.std.proofs.Common.{◌≡◌, ◌⊎◌, ℕ, ◌<◌, List, [], ◌∷◌, ◌++◌, length, take, drop, refl, ap, ◌∙◌, arith, Bool, true, false, Some, None, inl, inr}
 use Rattle.std.specs.Prelude.{Option, ◌&&◌, not, nat_le}
 use Rattle.std.specs.Char.{is_ascii_digit}
@@ -7,7 +8,8 @@ use Rattle.std.specs.Str.Parse.{digits_value}
 use Rattle.std.proofs.lemmas.Bool.{cases_Bool, eqb-true}
 use Rattle.std.proofs.lemmas.Bool.Decides.{nat_tests}
 use Rattle.std.proofs.lemmas.List.{take_at, drop_at}
-use Rattle.nodejs_semver.specs.Partials.{number_of, ◌>>=◌, is_dot, before_dot, after_dot, begins_digit, ends_digit, component_of, wildcard_of, is_wildcard}
+use Rattle.nodejs_semver.specs.Partials.{number_of, ◌>>=◌, is_dot, before_dot, after_dot, component_of, wildcard_of}
+use Rattle.nodejs_semver.specs.PartialText.{ends_digit, is_wildcard}
 use Rattle.semver_core.specs.Spaces.{is_empty}
 use Rattle.nodejs_semver.specs.Fronts.{begins_wildcard, component_front}
 use Rattle.nodejs_semver.proofs.Lists.{and-left, and-right}
@@ -66,7 +68,7 @@ digits-end (b ∷ []) h k = and-left (is_ascii_digit b) true k
 digits-end (b ∷ c ∷ rest) h k = digits-end (c ∷ rest) refl (and-right (is_ascii_digit b) (list_all is_ascii_digit (c ∷ rest)) k)
 
 -- a run of digits is read whole
-pub digits-taken : (run more : List ℕ) → list_all is_ascii_digit run ≡ true → begins_digit more ≡ false
+pub digits-taken : (run more : List ℕ) → list_all is_ascii_digit run ≡ true → begins is_ascii_digit more ≡ false
     → prefix_len is_ascii_digit (run ++ more) ≡ length run
 digits-taken [] [] h k = refl
 digits-taken [] (c ∷ more) h k = rw k refl
@@ -120,7 +122,7 @@ wildcard_front : (limit b : ℕ) (more : List ℕ) → is_wildcard b ≡ true �
 unfolding component_front
 wildcard_front limit b more h = rw h refl
 
-pub number-then : (limit : ℕ) (run more : List ℕ) (n : ℕ) → number_of limit run ≡ Some n → begins_digit more ≡ false
+pub number-then : (limit : ℕ) (run more : List ℕ) (n : ℕ) → number_of limit run ≡ Some n → begins is_ascii_digit more ≡ false
     → component_front limit (run ++ more) ≡ Some (Some n, more)
 unfolding component_front
 number-then limit run more n h stop =
@@ -130,7 +132,7 @@ number-then limit run more n h stop =
     let back : drop (prefix_len is_ascii_digit (run ++ more)) (run ++ more) ≡ more = ap (λ (k : ℕ). drop k (run ++ more)) len ∙ drop_at run more (length run) refl in
     rw (digits-no_wildcard run more is.some is.digits, front, h, back) refl
 
-pub component-then : (limit : ℕ) (c more : List ℕ) (v : Option ℕ) → component_of limit c ≡ Some v → (ends_digit c && begins_digit more) ≡ false
+pub component-then : (limit : ℕ) (c more : List ℕ) (v : Option ℕ) → component_of limit c ≡ Some v → (ends_digit c && begins is_ascii_digit more) ≡ false
     → component_front limit (c ++ more) ≡ Some (v, more)
 component-then limit c more v h stop = elim (cases_Bool (wildcard_of c)) [
   | inl wild ↦
@@ -140,7 +142,7 @@ component-then limit c more v h stop = elim (cases_Bool (wildcard_of c)) [
   | inr other ↦
       let n = bind-some (number_of limit c) (λ n. Some (Some n)) v (rw other at h) in
       let is = number_of-is limit c n.0 n.1 in
-      let quiet : begins_digit more ≡ false = rw (digits-end c is.some is.digits) at stop in
+      let quiet : begins is_ascii_digit more ≡ false = rw (digits-end c is.some is.digits) at stop in
       let e : Some n.0 ≡ v = cc n.2 in
       number-then limit c more n.0 n.1 quiet ∙ ap (λ (o : Option ℕ). some_pair o more) e
 ]

@@ -3,7 +3,7 @@ use Rattle.std.proofs.Common.{◌≡◌, ◌<◌, ◌^◌, ℕ, true, List, [], 
 use Rattle.std.specs.Cmp.{Equal-is, eq_by_cmp_equiv}
 use Rattle.std.specs.declared.cmp.Ordering.TheVariants.{Equal}
 use Rattle.std.proofs.lemmas.Bool.{cases_Bool}
-use Rattle.semver_core.specs.Cuts.{Span, is_interval, interval}
+use Rattle.semver_core.specs.Cuts.{Span, is_interval}
 use Rattle.semver_core.specs.Normal.{IsReadable}
 use Rattle.semver_core.specs.Order.{precedence}
 use Rattle.semver_core.specs.OrderLaws.{precedence_total}
@@ -11,12 +11,14 @@ use Rattle.semver_core.specs.Printed.{version_text}
 use Rattle.semver_core.specs.Versions.{VersionValue}
 use Rattle.semver_core.specs.declared.cuts.bound.Bound.{Bound}
 use Rattle.semver_core.specs.declared.cuts.bound.Bound.TheVariants.{Unbounded, Before, After}
-use Rattle.nodejs_semver.specs.ComesBack.{has_bound, is_bounded, bounds_back}
+use Rattle.nodejs_semver.specs.ComesBack.{has_bound, bounds_back}
 use Rattle.nodejs_semver.specs.Denotes.{part_intervals}
 use Rattle.nodejs_semver.specs.Printed.{bounds_text, ties}
-use Rattle.nodejs_semver.specs.Runs.{Run, interval_of, runs_from, runs_of, fits}
-use Rattle.nodejs_semver.specs.Table.{table, bounds_of}
-use Rattle.nodejs_semver.specs.Words.{Word, plain, compare, Comparator, at_least, above, equal, at_most, below, words}
+use Rattle.nodejs_semver.specs.Runs.{Run, interval_of, fits}
+use Rattle.nodejs_semver.specs.RunsFrom.{runs_from, runs_of}
+use Rattle.nodejs_semver.specs.Table.{table}
+use Rattle.nodejs_semver.specs.WordText.{Word, plain, compare, Comparator, at_least, above, equal, at_most, below}
+use Rattle.nodejs_semver.specs.Words.{words}
 use Rattle.nodejs_semver.proofs.PrintedVersions.{whole}
 use Rattle.nodejs_semver.proofs.PrintedWords.{sign, is_printed, one_word, two_words, version_words}
 
@@ -29,7 +31,7 @@ IsReadableBound limit (After v) = IsReadable limit v
 -- an interval that is not `*` and whose versions are readable
 pub record IsPrintable (limit : ℕ) (s : Span VersionValue) : Type 0 where
   pub proper : is_interval precedence s ≡ true
-  pub bounded : is_bounded s ≡ true
+  pub bounded : has_bound s.lower s.upper ≡ true
   pub lower : IsReadableBound limit s.lower
   pub upper : IsReadableBound limit s.upper
 
@@ -49,7 +51,7 @@ bound below v = record { lower = Unbounded; upper = Before v }
 bound at_most v = record { lower = Unbounded; upper = After v }
 bound equal v = record { lower = Before v; upper = After v }
 
-compare_bound : (limit : ℕ) (c : Comparator) (v : VersionValue) → is_printed c ≡ true → bounds_of limit (compare c (whole v)) ≡ Some (bound c v)
+compare_bound : (limit : ℕ) (c : Comparator) (v : VersionValue) → is_printed c ≡ true → table limit (compare c (whole v)) ≡ Some (bound c v)
 unfolding table bound
 compare_bound limit at_least v p = refl
 compare_bound limit above v p = refl
@@ -60,14 +62,11 @@ compare_bound limit equal v p = cc p
 abbrev exact : VersionValue → Span VersionValue
 exact v = record { lower = Before v; upper = After v }
 
-exact_fits : (v : VersionValue) → interval precedence (exact v) ≡ Some (exact v)
-exact_fits v = rw (precedence_self v) refl
-
-plain_bound : (limit : ℕ) (v : VersionValue) → bounds_of limit (plain (whole v)) ≡ Some (exact v)
+plain_bound : (limit : ℕ) (v : VersionValue) → table limit (plain (whole v)) ≡ Some (exact v)
 unfolding table
-plain_bound limit v = exact_fits v
+plain_bound limit v = refl
 
-one_run : (limit : ℕ) (part : List ℕ) (w : Word) (i : Span VersionValue) → words limit part ≡ w ∷ [] → bounds_of limit w ≡ Some i → part_intervals limit part ≡ i ∷ []
+one_run : (limit : ℕ) (part : List ℕ) (w : Word) (i : Span VersionValue) → words limit part ≡ w ∷ [] → table limit w ≡ Some i → part_intervals limit part ≡ i ∷ []
 unfolding runs_from
 one_run limit part w i e h = rw (e, h) refl
 
@@ -79,7 +78,7 @@ two_fit : (i j : Span VersionValue) → fits precedence (pair i j) ≡ true → 
 unfolding runs_from
 two_fit i j h = rw (h, runs_from) refl
 
-two_run : (limit : ℕ) (part : List ℕ) (w x : Word) (i j : Span VersionValue) → words limit part ≡ w ∷ x ∷ [] → bounds_of limit w ≡ Some i → bounds_of limit x ≡ Some j
+two_run : (limit : ℕ) (part : List ℕ) (w x : Word) (i j : Span VersionValue) → words limit part ≡ w ∷ x ∷ [] → table limit w ≡ Some i → table limit x ≡ Some j
     → fits precedence (pair i j) ≡ true → part_intervals limit part ≡ interval_of precedence (pair i j) ∷ []
 two_run limit part w x i j e h k fit = rw (e, h, k) (ap (λ (l : List (Run VersionValue)). map (interval_of precedence) l) (two_fit i j fit))
 

@@ -10,7 +10,7 @@ use Rattle.semver_core.specs.Order.{precedence}
 use Rattle.semver_core.specs.Versions.{VersionValue}
 use Rattle.semver_core.specs.declared.cuts.bound.Bound.{Bound}
 use Rattle.semver_core.specs.declared.cuts.bound.Bound.TheVariants.{Unbounded, Before, After}
-use Rattle.nodejs_semver.specs.ComesBack.{is_bounded, is_printable, bounds_back, read_back, ReadsBack, ReadsEqual, RangesComeBack}
+use Rattle.nodejs_semver.specs.ComesBack.{has_bound, is_printable, bounds_back, read_back, ReadsBack, ReadsEqual, RangesComeBack}
 use Rattle.nodejs_semver.specs.Denotes.{denotes}
 use Rattle.nodejs_semver.specs.Printed.{ties, bounds_text, range_text}
 use Rattle.nodejs_semver.specs.RangeView.{is_bound_version, is_range_bound, is_range_span}
@@ -55,11 +55,11 @@ bound_readable limit (After v) h = version_readable limit v h
 
 printable : (limit : ℕ) (s : Span VersionValue) → is_printable limit s ≡ true → IsPrintable limit s
 printable limit s h =
-    let range = and-right (is_bounded s) (is_range_span limit s) h in
+    let range = and-right (has_bound s.lower s.upper) (is_range_span limit s) h in
     let bounds = and-right (is_interval precedence s) (is_range_bound limit s.lower && is_range_bound limit s.upper) range in
     record {
       proper = and-left (is_interval precedence s) (is_range_bound limit s.lower && is_range_bound limit s.upper) range;
-      bounded = and-left (is_bounded s) (is_range_span limit s) h;
+      bounded = and-left (has_bound s.lower s.upper) (is_range_span limit s) h;
       lower = bound_readable limit s.lower (and-left (is_range_bound limit s.lower) (is_range_bound limit s.upper) bounds);
       upper = bound_readable limit s.upper (and-right (is_range_bound limit s.lower) (is_range_bound limit s.upper) bounds);
     }

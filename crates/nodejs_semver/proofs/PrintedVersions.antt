@@ -6,14 +6,15 @@ use Rattle.std.proofs.lemmas.List.{take_at, drop_at}
 use Rattle.std.specs.Fmt.{decimal}
 use Rattle.std.specs.Char.{is_ascii_digit}
 use Rattle.std.specs.List.{list_all, join_with_byte, slice_split}
-use Rattle.semver_core.specs.Characters.{is_whitespace, is_identifier_char}
+use Rattle.semver_core.specs.Characters.{is_whitespace, is_identifier_char, begins}
 use Rattle.semver_core.specs.Identifiers.{Id, identifier_of, goes_on}
 use Rattle.semver_core.specs.Normal.{is_normal, IsReadable}
 use Rattle.semver_core.specs.Printed.{id_text, marked_list, version_text}
 use Rattle.semver_core.specs.Versions.{VersionValue}
 use Rattle.semver_core.proofs.Returns.{decimal_digits, decimal_value, decimal_some, joined_is}
 use Rattle.semver_core.specs.Spaces.{drop_spaces, space_len, after_spaces}
-use Rattle.nodejs_semver.specs.Partials.{Partial, longest_partial, begins_digit, drop_v, is_dot, number_of}
+use Rattle.nodejs_semver.specs.PartialText.{Partial}
+use Rattle.nodejs_semver.specs.Partials.{longest_partial, drop_v, is_dot, number_of}
 use Rattle.nodejs_semver.specs.Fronts.{begins_byte, partial_front, component_front, dotted_front, pre_release_front, build_front, begins_identifier, list_len, list_of, patch_front}
 use Rattle.nodejs_semver.proofs.Lists.{and-left, is_list, list_len-append, run_on-stop, is_list-begins, begins-append}
 use Rattle.nodejs_semver.proofs.Numbers.{number_of-some}
@@ -25,7 +26,7 @@ abbrev pub list_text : List Id → List ℕ
 list_text list = join_with_byte 46 (map id_text list)
 
 -- a printed number is read as itself
-number_back : (limit n : ℕ) (more : List ℕ) → limit < 2 ^ 64 → n ≤ limit → begins_digit more ≡ false → component_front limit (decimal n ++ more) ≡ Some (Some n, more)
+number_back : (limit n : ℕ) (more : List ℕ) → limit < 2 ^ 64 → n ≤ limit → begins is_ascii_digit more ≡ false → component_front limit (decimal n ++ more) ≡ Some (Some n, more)
 number_back limit n more fits small stop =
     let low : n < 2 ^ 64 = omega arith in
     let value = decimal_value n low in
@@ -144,7 +145,7 @@ pre_front-back [] builds rest h stop =
     pre_none more (no_dash builds rest stop) (list_len-none more (goes-begins more (build_ends builds rest stop)))
 pre_front-back (id ∷ ids) builds rest h stop = pre_some (list_text (id ∷ ids)) (marked_list (43 ∷ []) builds ++ rest) (list_is id ids h) (build_ends builds rest stop)
 
-no_digit : (ids builds : List Id) (rest : List ℕ) → is_end rest ≡ true → begins_digit (marked_list (45 ∷ []) ids ++ (marked_list (43 ∷ []) builds ++ rest)) ≡ false
+no_digit : (ids builds : List Id) (rest : List ℕ) → is_end rest ≡ true → begins is_ascii_digit (marked_list (45 ∷ []) ids ++ (marked_list (43 ∷ []) builds ++ rest)) ≡ false
 no_digit (id ∷ ids) builds rest h = refl
 no_digit [] (b ∷ bs) rest h = refl
 no_digit [] [] [] h = refl
@@ -154,7 +155,7 @@ no_digit [] [] (b ∷ rest) h = grind (arith, nat_tests)
 abbrev pub whole : VersionValue → Partial
 whole v = record { major = Some v.major; minor = Some v.minor; patch = Some v.patch; pre_release = v.pre_release; build = v.build }
 
-dotted-back : (limit n : ℕ) (more : List ℕ) → limit < 2 ^ 64 → n ≤ limit → begins_digit more ≡ false → dotted_front limit (46 ∷ (decimal n ++ more)) ≡ Some (Some n, more)
+dotted-back : (limit n : ℕ) (more : List ℕ) → limit < 2 ^ 64 → n ≤ limit → begins is_ascii_digit more ≡ false → dotted_front limit (46 ∷ (decimal n ++ more)) ≡ Some (Some n, more)
 unfolding dotted_front
 dotted-back limit n more fits small stop = number_back limit n more fits small stop
 
@@ -174,12 +175,12 @@ unfolding tail_text
 patch-back limit v rest h stop =
     rw (pre_front-back v.pre_release v.build rest h.pre_release stop, build_front-back v.build rest h.build stop, list_of-text v.pre_release h.pre_release, list_of-text v.build h.build) refl
 
-begins_digit-some : (ds more : List ℕ) → 0 < length ds → list_all is_ascii_digit ds ≡ true → begins_digit (ds ++ more) ≡ true
+begins_digit-some : (ds more : List ℕ) → 0 < length ds → list_all is_ascii_digit ds ≡ true → begins is_ascii_digit (ds ++ more) ≡ true
 begins_digit-some [] more some h = absurd (omega arith)
 begins_digit-some (c ∷ ds) more some h = and-left (is_ascii_digit c) (list_all is_ascii_digit ds) h
 
 -- a text that begins with a digit is read from its first byte on
-pub digit_dark : (text : List ℕ) → begins_digit text ≡ true → space_len text ≡ 0
+pub digit_dark : (text : List ℕ) → begins is_ascii_digit text ≡ true → space_len text ≡ 0
 unfolding space_len
 digit_dark [] h = cc h
 digit_dark (b ∷ rest) h = rw (low b h, dark b h) refl
@@ -195,14 +196,14 @@ unfolding after_spaces
 dark_stays [] h = refl
 dark_stays (b ∷ rest) h = rw (h, after_spaces) refl
 
-no_v : (text : List ℕ) → begins_digit text ≡ true → drop_v text ≡ text
+no_v : (text : List ℕ) → begins is_ascii_digit text ≡ true → drop_v text ≡ text
 no_v [] h = cc h
 no_v (b ∷ rest) h = rw (other b h) refl
   where
     other : (b : ℕ) → is_ascii_digit b ≡ true → (b == 118) ≡ false
     other b h = grind (arith, nat_tests)
 
-pub front_digit : (limit : ℕ) (v : VersionValue) (rest : List ℕ) → limit < 2 ^ 64 → IsReadable limit v → begins_digit (version_text v ++ rest) ≡ true
+pub front_digit : (limit : ℕ) (v : VersionValue) (rest : List ℕ) → limit < 2 ^ 64 → IsReadable limit v → begins is_ascii_digit (version_text v ++ rest) ≡ true
 front_digit limit v rest fits h =
     let low : v.major < 2 ^ 64 = omega (arith, h.major) in
     rw (text_is v rest) (begins_digit-some (decimal v.major) _ (decimal_some v.major low) (decimal_digits v.major low))

@@ -1,4 +1,5 @@
 -- For proofs. The words of a printed interval.
+use Rattle.semver_core.specs.Characters.{begins}
 use Rattle.std.proofs.Common.{◌≡◌, ◌<◌, ◌^◌, ◌==◌, ℕ, Bool, true, false, List, [], ◌∷◌, ◌++◌, length, refl, sym, ap, ◌∙◌, arith, inl, inr, append_assoc, append-nil, Some, None}
 use Rattle.std.specs.Prelude.{◌||◌}
 use Rattle.std.proofs.lemmas.Bool.{cases_Bool, eqb-true}
@@ -8,9 +9,11 @@ use Rattle.semver_core.specs.Normal.{IsReadable}
 use Rattle.semver_core.specs.Printed.{version_text}
 use Rattle.semver_core.specs.Versions.{VersionValue}
 use Rattle.semver_core.specs.Spaces.{drop_spaces, space_len, after_spaces}
-use Rattle.nodejs_semver.specs.Partials.{Partial, longest_partial, begins_digit, number_of}
+use Rattle.nodejs_semver.specs.PartialText.{Partial}
+use Rattle.nodejs_semver.specs.Partials.{longest_partial, number_of}
 use Rattle.nodejs_semver.specs.Fronts.{partial_front, component_front}
-use Rattle.nodejs_semver.specs.Words.{Word, plain, compare, Comparator, at_least, above, equal, at_most, below, comparator_at, signed, word_at, words, is_boundary, or_equal, words_within}
+use Rattle.nodejs_semver.specs.WordText.{Word, plain, compare, Comparator, at_least, above, equal, at_most, below}
+use Rattle.nodejs_semver.specs.Words.{comparator_at, signed, word_at, words, is_boundary, or_equal, words_within}
 use Rattle.nodejs_semver.proofs.Progress.{words-step}
 use Rattle.nodejs_semver.proofs.Longest.{longest_is_front}
 use Rattle.nodejs_semver.proofs.PrintedVersions.{whole, is_end, longest_back, front_digit, digit_dark, dark_stays}
@@ -49,7 +52,7 @@ signed_back limit make v rest fits h stop =
     rw (dark, longest_back limit v rest fits h stop, end_boundary rest stop) refl
 
 -- a digit is no `=`
-one_sign : (one two : Comparator) (text : List ℕ) → begins_digit text ≡ true → or_equal one two text ≡ (one, text)
+one_sign : (one two : Comparator) (text : List ℕ) → begins is_ascii_digit text ≡ true → or_equal one two text ≡ (one, text)
 one_sign one two [] h = cc h
 one_sign one two (b ∷ rest) h = rw (other b h) refl
   where
@@ -69,7 +72,7 @@ abbrev pub is_printed : Comparator → Bool
 is_printed equal = false
 is_printed _ = true
 
-comparator_back : (c : Comparator) (text : List ℕ) → is_printed c ≡ true → begins_digit text ≡ true → comparator_at (sign c ++ text) ≡ Some (c, text)
+comparator_back : (c : Comparator) (text : List ℕ) → is_printed c ≡ true → begins is_ascii_digit text ≡ true → comparator_at (sign c ++ text) ≡ Some (c, text)
 comparator_back at_least text p h = refl
 comparator_back at_most text p h = refl
 comparator_back above text p h = ap (λ r. Some r) (one_sign above at_least text h)
@@ -155,7 +158,7 @@ two_words limit c d v w p q fits h k =
     ∙ ap (λ t. compare c (whole v) ∷ words limit t) (space_passed next (sign_dark d (version_text w) q))
     ∙ ap (λ (l : List Word). compare c (whole v) ∷ l) (one_word limit d w q fits k)
 
-digit_some : (text : List ℕ) → begins_digit text ≡ true → 0 < length text
+digit_some : (text : List ℕ) → begins is_ascii_digit text ≡ true → 0 < length text
 digit_some [] h = cc h
 digit_some (b ∷ rest) h = omega arith
 

@@ -3,8 +3,10 @@ use Rattle.std.proofs.Common.{◌≡◌, ℕ, zero, suc, ◌<◌, ◌≤◌, Lis
 use Rattle.std.specs.Prelude.{Option, ◌==◌, nat_lt}
 use Rattle.std.proofs.lemmas.Bool.{cases_Bool}
 use Rattle.semver_core.specs.Spaces.{drop_spaces, space_len, after_spaces}
-use Rattle.nodejs_semver.specs.Words.{is_boundary, Word, Reading, Comparator, above, at_least, below, at_most, equal, after_some_space, after_byte, at_boundary, signed, hyphen, plain, compare, tilde, caret, hyphen_at, plain_at, compare_at, tilde_at, caret_at, comparator_at, or_equal, tilde_sign, from_boundary, form_at, word_at, words_within, words}
-use Rattle.nodejs_semver.specs.Partials.{◌>>=◌, Partial, longest_partial, longest_within, partial_to, or_else}
+use Rattle.nodejs_semver.specs.Words.{is_boundary, Reading, after_some_space, after_byte, at_boundary, signed, hyphen_at, plain_at, compare_at, tilde_at, caret_at, comparator_at, or_equal, tilde_sign, from_boundary, form_at, word_at, words_within, words}
+use Rattle.nodejs_semver.specs.WordText.{Word, Comparator, above, at_least, below, at_most, equal, hyphen, plain, compare, tilde, caret}
+use Rattle.nodejs_semver.specs.Partials.{◌>>=◌, longest_partial, longest_within, partial_to, or_else}
+use Rattle.nodejs_semver.specs.PartialText.{Partial}
 use Rattle.nodejs_semver.proofs.Pieces.{bind-some}
 use Rattle.nodejs_semver.proofs.Reaches.{second-same}
 use Rattle.semver_core.proofs.Spaces.{after_spaces-end, drop_spaces-none, space_len-nil}

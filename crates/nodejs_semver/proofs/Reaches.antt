@@ -1,4 +1,5 @@
 -- The reader goes at least as far as any partial at the front.
+use Rattle.semver_core.specs.Characters.{begins}
 use Rattle.std.proofs.Common.{◌≡◌, ◌⊎◌, ℕ, suc, ◌<◌, ◌≤◌, ◌+◌, List, [], ◌∷◌, ◌++◌, length, drop, get_or, refl, sym, ap, ◌∙◌, arith, Bool, true, false, Some, None, inl, inr, subst, append-nil, append_assoc, length-drop}
 use Rattle.std.specs.Prelude.{Option, ◌&&◌, ◌==◌}
 use Rattle.std.specs.Char.{is_ascii_digit}
@@ -8,7 +9,8 @@ use Rattle.std.proofs.lemmas.List.Folds.{length-prefix_len}
 use Rattle.std.proofs.lemmas.Bool.{cases_Bool, eqb-true}
 use Rattle.std.proofs.lemmas.Bool.Decides.{nat_tests}
 use Rattle.semver_core.specs.Spaces.{drop_spaces, after_spaces}
-use Rattle.nodejs_semver.specs.Partials.{number_of, ◌>>=◌, is_dot, is_plus, identifiers_of, pre_release_of, build_of, before_plus, from_plus, qualifier_of, Partial, before_dot, after_dot, begins_digit, ends_digit, component_of, components_of, minor_after, patch_after, partial_of, drop_v, third, is_wildcard, wildcard_of}
+use Rattle.nodejs_semver.specs.Partials.{number_of, ◌>>=◌, is_dot, is_plus, identifiers_of, pre_release_of, build_of, before_plus, from_plus, qualifier_of, before_dot, after_dot, component_of, components_of, minor_after, patch_after, partial_of, drop_v, third, wildcard_of}
+use Rattle.nodejs_semver.specs.PartialText.{Partial, ends_digit, is_wildcard}
 use Rattle.semver_core.specs.Identifiers.{is_run, Id}
 use Rattle.nodejs_semver.specs.Fronts.{Front, begins_wildcard, component_front, dotted_front, number_front, begins_identifier, begins_byte, run_on, list_len, pre_release_front, build_front, patch_front, minor_front, partial_front}
 use Rattle.nodejs_semver.proofs.Lists.{and-left, is_list, is_list-begins, list_len-append, begins-append}
@@ -182,12 +184,12 @@ qualifier-passed q more r h =
 
 -- what a run of digits at the end of a text is told from, by the last piece of that text
 abbrev pub Quiet : List ℕ → List ℕ → Type 0
-Quiet t more = (ends_digit t && begins_digit more) ≡ false
+Quiet t more = (ends_digit t && begins is_ascii_digit more) ≡ false
 
 quiet-last : (u v more : List ℕ) → 0 < length v → Quiet (u ++ v) more → Quiet v more
-quiet-last u v more some h = subst (λ (b : Bool). (b && begins_digit more) ≡ false) (ends_digit-append u v some) h
+quiet-last u v more some h = subst (λ (b : Bool). (b && begins is_ascii_digit more) ≡ false) (ends_digit-append u v some) h
 
-pub quiet-before : (c rest : List ℕ) → begins_digit rest ≡ false → Quiet c rest
+pub quiet-before : (c rest : List ℕ) → begins is_ascii_digit rest ≡ false → Quiet c rest
 quiet-before c rest h = subst (λ (b : Bool). (ends_digit c && b) ≡ false) (sym h) (and-false (ends_digit c))
   where
     and-false : (b : Bool) → (b && false) ≡ false
@@ -209,7 +211,7 @@ take_while-drop p xs =
     ap (λ (n : ℕ). take_while p xs ++ drop n xs) (length-prefix_len p xs) ∙ take-append-drop (prefix_len p xs) xs
 
 -- behind a run of digits stands no digit
-pub run-stops : (xs : List ℕ) → begins_digit (drop (length (take_while is_ascii_digit xs)) xs) ≡ false
+pub run-stops : (xs : List ℕ) → begins is_ascii_digit (drop (length (take_while is_ascii_digit xs)) xs) ≡ false
 run-stops [] = refl
 run-stops (b ∷ rest) = elim (cases_Bool (is_ascii_digit b)) [
   | inl digit ↦ let e : 1 + prefix_len is_ascii_digit rest ≡ suc (prefix_len is_ascii_digit rest) = omega arith in rw (digit, e) (run-stops rest)
@@ -225,7 +227,7 @@ run-quiet t more some h = go (drop (length (take_while is_ascii_digit t)) t) ref
         let whole : t ≡ take_while is_ascii_digit t = sym (take_while-drop is_ascii_digit t) ∙ (ap (λ (x : List ℕ). take_while is_ascii_digit t ++ x) e ∙ append-nil (take_while is_ascii_digit t)) in
         subst (λ (x : List ℕ). Quiet x more) whole h
     go (c ∷ rest) e =
-        quiet-before (take_while is_ascii_digit t) (c ∷ (rest ++ more)) (sym (ap (λ (x : List ℕ). begins_digit x) e) ∙ run-stops t)
+        quiet-before (take_while is_ascii_digit t) (c ∷ (rest ++ more)) (sym (ap (λ (x : List ℕ). begins is_ascii_digit x) e) ∙ run-stops t)
 
 pub third-whole : (t : List ℕ) → t ≡ third t ++ drop (length (third t)) t
 third-whole [] = refl

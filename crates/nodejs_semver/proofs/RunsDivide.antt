@@ -4,16 +4,17 @@ use Rattle.std.specs.Prelude.{flat_map, filter_map, Option, if◌then◌else◌}
 use Rattle.std.specs.List.{AllByRecursion, list_all, cons_option}
 use Rattle.std.specs.declared.cmp.Ordering.{Ordering}
 use Rattle.std.proofs.lemmas.Bool.{cases_Bool}
-use Rattle.semver_core.specs.Cuts.{Span, is_interval, interval}
+use Rattle.semver_core.specs.Cuts.{Span, is_interval}
 use Rattle.semver_core.specs.Order.{precedence}
 use Rattle.semver_core.specs.Versions.{VersionValue}
 use Rattle.nodejs_semver.specs.Denotes.{part_bounds}
-use Rattle.nodejs_semver.specs.Partials.{◌>>=◌}
-use Rattle.nodejs_semver.specs.Table.{bounds_of, table}
-use Rattle.nodejs_semver.specs.Words.{Word, words}
-use Rattle.nodejs_semver.specs.Runs.{Run, fits, longer, run_items, AreLongest, AreRuns, runs_from, runs_of}
+use Rattle.nodejs_semver.specs.Table.{table}
+use Rattle.nodejs_semver.specs.Words.{words}
+use Rattle.nodejs_semver.specs.Runs.{Run, fits, longer, run_items, AreLongest, AreRuns}
+use Rattle.nodejs_semver.specs.RunsFrom.{runs_from, runs_of}
 use Rattle.nodejs_semver.proofs.Lists.{and-left, and-right, and-both}
 use Rattle.nodejs_semver.proofs.MeetLemmas.{runs-goes, runs-stops}
+use Rattle.nodejs_semver.proofs.TableRows.{table-interval}
 
 abbrev single : {V : Type 0} → Span V → Run V
 single s = record { first = s; others = [] }
@@ -84,21 +85,6 @@ module _ {V : Type 0} (R : V → V → Ordering) where
     longest = from-longest (single s) rest;
   }
 
--- the bounds of a word are an interval
-interval-some : (s t : Span VersionValue) → interval precedence s ≡ Some t → is_interval precedence t ≡ true
-interval-some s t h = by_test (is_interval precedence s) refl h
-  where
-    by_test : (b : Bool) → is_interval precedence s ≡ b → (if b then Some s else None) ≡ Some t → is_interval precedence t ≡ true
-    by_test true e k = let same : s ≡ t = cc k in ap (λ (u : Span VersionValue). is_interval precedence u) (sym same) ∙ e
-    by_test false e k = cc k
-
-pub bounds_of-interval : (limit : ℕ) (w : Word) (s : Span VersionValue) → bounds_of limit w ≡ Some s → is_interval precedence s ≡ true
-bounds_of-interval limit w s h = by_table (table limit w) h
-  where
-    by_table : (o : Option (Span VersionValue)) → (o >>= interval precedence) ≡ Some s → is_interval precedence s ≡ true
-    by_table None k = cc k
-    by_table (Some t) k = interval-some t s k
-
 all-cons : {B : Type 0} (p : B → Bool) (o : Option B) (ys : List B) → ((b : B) → o ≡ Some b → p b ≡ true) → list_all p ys ≡ true → list_all p (cons_option o ys) ≡ true
 all-cons p None ys one rest = rest
 all-cons p (Some y) ys one rest = and-both (p y) (list_all p ys) (one y refl) rest
@@ -108,7 +94,7 @@ filtered-each p f each [] = refl
 filtered-each p f each (x ∷ xs) = all-cons p (f x) (filter_map f xs) (each x) (filtered-each p f each xs)
 
 pub part-intervals : (limit : ℕ) (part : List ℕ) → list_all (is_interval precedence) (part_bounds limit part) ≡ true
-part-intervals limit part = filtered-each (is_interval precedence) (bounds_of limit) (bounds_of-interval limit) (words limit part)
+part-intervals limit part = filtered-each (is_interval precedence) (table limit) (table-interval limit) (words limit part)
 
 pub part_divides : (limit : ℕ) (part : List ℕ) → AreRuns precedence (part_bounds limit part) (runs_of precedence (part_bounds limit part))
 part_divides limit part = runs-divide precedence (part_bounds limit part) (part-intervals limit part)

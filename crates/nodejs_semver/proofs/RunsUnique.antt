@@ -8,7 +8,8 @@ use Rattle.semver_core.specs.Cuts.{Span}
 use Rattle.semver_core.specs.Order.{precedence}
 use Rattle.semver_core.specs.OrderLaws.{precedence_total}
 use Rattle.semver_core.specs.Versions.{VersionValue}
-use Rattle.nodejs_semver.specs.Runs.{Run, fits, longer, run_items, AreLongest, AreRuns, runs_from, runs_of}
+use Rattle.nodejs_semver.specs.Runs.{Run, fits, longer, run_items, AreLongest, AreRuns}
+use Rattle.nodejs_semver.specs.RunsFrom.{runs_from, runs_of}
 use Rattle.nodejs_semver.proofs.RunLemmas.{fits-shrinks}
 
 abbrev extended : {V : Type 0} → Run V → List (Span V) → Run V

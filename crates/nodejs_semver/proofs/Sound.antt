@@ -6,10 +6,11 @@ use Rattle.std.specs.List.{list_all, take_while, prefix_len}
 use Rattle.std.proofs.lemmas.Bool.{cases_Bool, eqb-true}
 use Rattle.std.proofs.lemmas.Bool.Decides.{nat_tests}
 use Rattle.std.proofs.lemmas.List.{take-append-drop}
-use Rattle.nodejs_semver.specs.Partials.{number_of, is_dot, is_plus, identifiers_of, pre_release_of, build_of, before_plus, from_plus, qualifier_of, after_dot, begins_digit, component_of, is_wildcard, wildcard_of}
+use Rattle.nodejs_semver.specs.Partials.{number_of, is_dot, is_plus, identifiers_of, pre_release_of, build_of, before_plus, from_plus, qualifier_of, after_dot, component_of, wildcard_of}
+use Rattle.nodejs_semver.specs.PartialText.{is_wildcard}
 use Rattle.semver_core.specs.Spaces.{is_empty}
 use Rattle.semver_core.specs.Identifiers.{Id, goes_on}
-use Rattle.semver_core.specs.Characters.{is_identifier_char}
+use Rattle.semver_core.specs.Characters.{is_identifier_char, begins}
 use Rattle.nodejs_semver.specs.Fronts.{begins_wildcard, component_front, number_front, begins_identifier, begins_byte, run_on, list_len, list_of, pre_release_front, build_front}
 use Rattle.nodejs_semver.proofs.Lists.{and-left, and-right, is_list, is_list-begins, is_list-carries_on, list_len-is_list, carries_on, carries_on-dot, carries_on-other}
 use Rattle.nodejs_semver.proofs.Pieces.{bind-some, number_of-is, digit-no_wildcard, wildcard-no_digit}
@@ -65,7 +66,7 @@ wild-read limit b y r h e = record {
     no_dot b h = grind (arith, nat_tests)
 
 -- behind the digits at the front stands no digit
-run-ends : (x : List ℕ) → begins_digit (drop (prefix_len is_ascii_digit x) x) ≡ false
+run-ends : (x : List ℕ) → begins is_ascii_digit (drop (prefix_len is_ascii_digit x) x) ≡ false
 run-ends [] = refl
 run-ends (b ∷ rest) = elim (cases_Bool (is_ascii_digit b)) [
   | inl digit ↦ let e : 1 + prefix_len is_ascii_digit rest ≡ suc (prefix_len is_ascii_digit rest) = omega arith in rw (digit, e) (run-ends rest)
@@ -100,7 +101,7 @@ component-read limit x v r h = elim (cases_Bool (begins_wildcard x)) [
             split = sym (take-append-drop (prefix_len is_ascii_digit x) x) ∙ ap (λ (t : List ℕ). run ++ t) rest;
             is = rw (digits-no_wild run is.digits, read) (ap (λ (o : Option ℕ). some_some o) e);
             dotless = digits-dotless run is.digits;
-            quiet = quiet-before run r (subst (λ (t : List ℕ). begins_digit t ≡ false) rest (run-ends x));
+            quiet = quiet-before run r (subst (λ (t : List ℕ). begins is_ascii_digit t ≡ false) rest (run-ends x));
             begins = digits-begin run is.some is.digits;
           },
         )
@@ -150,14 +151,14 @@ run_on-end (b ∷ rest) = elim (cases_Bool (goes_on (b ∷ rest))) [
 digit-goes : (b : ℕ) → is_ascii_digit b ≡ true → is_identifier_char b ≡ true
 digit-goes b h = grind (arith, nat_tests)
 
-stop-no_digit : (text : List ℕ) → goes_on text ≡ false → begins_digit text ≡ false
+stop-no_digit : (text : List ℕ) → goes_on text ≡ false → begins is_ascii_digit text ≡ false
 stop-no_digit [] h = refl
 stop-no_digit (b ∷ rest) h = elim (cases_Bool (is_ascii_digit b)) [
   | inl digit ↦ cc (rw (digit-goes b digit) at h)
   | inr other ↦ other
 ]
 
-list_len-end : (text : List ℕ) → begins_identifier text ≡ true → begins_digit (drop (list_len text) text) ≡ false
+list_len-end : (text : List ℕ) → begins_identifier text ≡ true → begins is_ascii_digit (drop (list_len text) text) ≡ false
 unfolding list_len
 list_len-end text h = rw h (stop-no_digit (drop (run_on text) text) (run_on-end text))
 
@@ -171,7 +172,7 @@ pub record PreRead (x p left : List ℕ) (read : List ℕ) : Type 0 where
   pub is : pre_release_of p ≡ Some (list_of read)
   pub from : from_plus p ≡ []
   pub before : before_plus p ≡ p
-  pub stop : (p ≡ []) ⊎ (begins_digit left ≡ false)
+  pub stop : (p ≡ []) ⊎ (begins is_ascii_digit left ≡ false)
 
 list_of-nil : list_of [] ≡ []
 unfolding list_of
@@ -238,7 +239,7 @@ pre-read x = elim (cases_Bool (begins_byte 45 x)) [
 pub record BuildRead (y b left read : List ℕ) : Type 0 where
   pub split : y ≡ b ++ left
   pub is : build_of b ≡ Some (list_of read)
-  pub shape : (b ≡ []) × (left ≡ y) ⊎ (z : List ℕ) × (b ≡ 43 ∷ z) × (begins_digit left ≡ false)
+  pub shape : (b ≡ []) × (left ≡ y) ⊎ (z : List ℕ) × (b ≡ 43 ∷ z) × (begins is_ascii_digit left ≡ false)
 
 pub build-read : (y : List ℕ) → (b : List ℕ) × BuildRead y b (build_front y).1 (build_front y).0
 unfolding build_front
@@ -286,7 +287,7 @@ made q p b l m e f g h = rw (e, f, g, h) refl
 no_plus_cut : (q : List ℕ) → from_plus q ≡ [] → before_plus q ≡ q → (before_plus (q ++ []) ≡ q) × (from_plus (q ++ []) ≡ [])
 no_plus_cut q e f = rw (append-nil q) (f, e)
 
-quiet-stop : (p left : List ℕ) → (p ≡ []) ⊎ (begins_digit left ≡ false) → Quiet p left
+quiet-stop : (p left : List ℕ) → (p ≡ []) ⊎ (begins is_ascii_digit left ≡ false) → Quiet p left
 quiet-stop p left (inl e) = subst (λ (t : List ℕ). Quiet t left) (sym e) refl
 quiet-stop p left (inr s) = quiet-before p left s
 

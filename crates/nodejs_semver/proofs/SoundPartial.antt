@@ -6,9 +6,10 @@ use Rattle.std.specs.List.{list_all}
 use Rattle.std.proofs.lemmas.Bool.{cases_Bool, eqb-true, lt-ltb}
 use Rattle.std.proofs.lemmas.Bool.Decides.{nat_tests}
 use Rattle.std.proofs.lemmas.List.{take_at, drop_at}
-use Rattle.semver_core.specs.Characters.{is_whitespace}
+use Rattle.semver_core.specs.Characters.{is_whitespace, begins}
 use Rattle.semver_core.specs.Spaces.{drop_spaces, space_len, is_empty}
-use Rattle.nodejs_semver.specs.Partials.{number_of, ◌>>=◌, is_dot, qualifier_of, Partial, before_dot, after_dot, begins_digit, component_of, components_of, minor_after, patch_after, partial_of, drop_v, third, is_wildcard, wildcard_of}
+use Rattle.nodejs_semver.specs.Partials.{number_of, ◌>>=◌, is_dot, qualifier_of, before_dot, after_dot, component_of, components_of, minor_after, patch_after, partial_of, drop_v, third, wildcard_of}
+use Rattle.nodejs_semver.specs.PartialText.{Partial, is_wildcard}
 use Rattle.semver_core.specs.Identifiers.{Id}
 use Rattle.nodejs_semver.specs.Fronts.{Front, component_front, dotted_front, patch_front, minor_front, partial_front, pre_release_front, build_front}
 use Rattle.nodejs_semver.proofs.Lists.{and-left}
@@ -41,7 +42,7 @@ minor-dot limit a v c t h d = rw (before_dot-cut c t d, h, after_dot-cut c t d) 
 third-wild : (b : ℕ) (q : List ℕ) → is_wildcard b ≡ true → third (b ∷ q) ≡ b ∷ []
 third-wild b q h = rw h refl
 
-third-digits : (run q : List ℕ) → is_empty run ≡ false → list_all is_ascii_digit run ≡ true → begins_digit q ≡ false → third (run ++ q) ≡ run
+third-digits : (run q : List ℕ) → is_empty run ≡ false → list_all is_ascii_digit run ≡ true → begins is_ascii_digit q ≡ false → third (run ++ q) ≡ run
 third-digits [] q h k s = cc h
 third-digits (b ∷ rest) q h k s =
     let plain = digit-no_wildcard b (and-left (is_ascii_digit b) (list_all is_ascii_digit rest) k) in
@@ -53,7 +54,7 @@ third-cut limit c q v h quiet = elim (cases_Bool (wildcard_of c)) [
   | inr other ↦
       let n = bind-some (number_of limit c) (λ n. Some (Some n)) v (rw other at h) in
       let is = number_of-is limit c n.0 n.1 in
-      let stop : begins_digit q ≡ false = rw (digits-end c is.some is.digits) at quiet in
+      let stop : begins is_ascii_digit q ≡ false = rw (digits-end c is.some is.digits) at quiet in
       third-digits c q is.some is.digits stop
 ]
 
@@ -78,7 +79,7 @@ quiet-front c [] left h = quiet-before c [] refl
 quiet-front c (d ∷ q) left h = h
 
 quiet-append : (u v left : List ℕ) → 0 < length v → Quiet v left → Quiet (u ++ v) left
-quiet-append u v left some h = subst (λ (b : Bool). (b && begins_digit left) ≡ false) (sym (ends_digit-append u v some)) h
+quiet-append u v left some h = subst (λ (b : Bool). (b && begins is_ascii_digit left) ≡ false) (sym (ends_digit-append u v some)) h
 
 -- what was read of the components
 pub record Parted (limit : ℕ) (x s left : List ℕ) (p : Partial) : Type 0 where

@@ -12,9 +12,11 @@ use Rattle.semver_core.proofs.SpaceLaw.{space_len-dark, space_len-inside, space_
 use Rattle.semver_core.proofs.Spaces.{drop_spaces-none, space_len-nil}
 use Rattle.semver_core.proofs.Trims.{drop_spaces-blank, fronted}
 use Rattle.nodejs_semver.specs.Fronts.{partial_front, component_front}
-use Rattle.nodejs_semver.specs.Partials.{Partial, longest_partial, or_else, ◌>>=◌, is_wildcard, number_of}
-use Rattle.nodejs_semver.specs.WordText.{IsBehind, IsBoundary, IsFirstBoundary, IsForm, IsHyphen, IsSign, IsWhole, IsWordAt, SkipsBlank, WordsAreRead, above_sign, at_least_sign, at_most_sign, below_sign, caret_form, compare_form, equal_sign, formed, hyphen_form, no_form, plain_form, tilde_form, tilde_greater_form}
-use Rattle.nodejs_semver.specs.Words.{Comparator, Reading, Word, above, after_byte, after_some_space, at_boundary, at_least, at_most, below, caret, caret_at, compare, compare_at, comparator_at, equal, form_at, from_boundary, hyphen, hyphen_at, hyphen_behind, is_boundary, malformed, or_equal, or_malformed, plain, plain_at, signed, tilde, tilde_at, tilde_sign, word_at}
+use Rattle.nodejs_semver.specs.PartialText.{Partial, is_wildcard}
+use Rattle.nodejs_semver.specs.Partials.{longest_partial, or_else, ◌>>=◌, number_of}
+use Rattle.nodejs_semver.specs.WordText.{IsBehind, IsBoundary, IsFirstBoundary, IsForm, IsHyphen, IsSign, IsWhole, IsWordAt, SkipsBlank, above_sign, at_least_sign, at_most_sign, below_sign, caret_form, compare_form, equal_sign, formed, hyphen_form, no_form, plain_form, tilde_form, tilde_greater_form, Comparator, Word, above, at_least, at_most, below, caret, compare, equal, hyphen, malformed, plain, tilde}
+use Rattle.nodejs_semver.specs.RangeLaws.{WordsAreRead}
+use Rattle.nodejs_semver.specs.Words.{Reading, after_byte, after_some_space, at_boundary, caret_at, compare_at, comparator_at, form_at, from_boundary, hyphen_at, hyphen_behind, is_boundary, or_equal, or_malformed, plain_at, signed, tilde_at, tilde_sign, word_at}
 use Rattle.nodejs_semver.proofs.Boundaries.{from_boundary-nil, from_boundary-stop}
 use Rattle.nodejs_semver.proofs.Longest.{longest_is_front, option-cases}
 use Rattle.nodejs_semver.proofs.LongestLaw.{longest_are, rest-utf8}

@@ -15,13 +15,10 @@ abbrev pub has_bound : Bound VersionValue → Bound VersionValue → Bool
 has_bound Unbounded Unbounded = false
 has_bound lower upper = true
 
-abbrev pub is_bounded : Span VersionValue → Bool
-is_bounded s = has_bound s.lower s.upper
-
 -- an interval that comes back: it is not `*`, and no number of its bounds is above the limit. The rest of `is_range_span`
 -- holds of every interval of a range.
 abbrev pub is_printable : ℕ → Span VersionValue → Bool
-is_printable limit s = is_bounded s && is_range_span limit s
+is_printable limit s = has_bound s.lower s.upper && is_range_span limit s
 
 -- the interval that is read from a printed one: where its ends tie, the printed version stands for both
 abbrev pub bounds_back : Bound VersionValue → Bound VersionValue → Span VersionValue

@@ -1,4 +1,5 @@
--- Statement. What a range text means: a list of intervals. The text has a range exactly where that list is not empty.
+-- For proofs. What a range text means, computed: `denotes` gives the list of intervals of `Means` (the law `one_meaning`).
+-- The text has a range exactly where that list is not empty.
 use Rattle.std.specs.Prelude.{ℕ, List, map, flat_map, filter_map, if◌then◌else◌}
 use Rattle.std.specs.List.{list_all}
 use Rattle.semver_core.specs.Cuts.{Span}
@@ -7,13 +8,14 @@ use Rattle.semver_core.specs.Versions.{VersionValue}
 use Rattle.semver_core.specs.Spaces.{is_empty}
 use Rattle.nodejs_semver.specs.Parts.{parts}
 use Rattle.nodejs_semver.specs.RangeView.{any_version}
-use Rattle.nodejs_semver.specs.Runs.{interval_of, runs_of}
-use Rattle.nodejs_semver.specs.Table.{bounds_of}
+use Rattle.nodejs_semver.specs.Runs.{interval_of}
+use Rattle.nodejs_semver.specs.RunsFrom.{runs_of}
+use Rattle.nodejs_semver.specs.Table.{table}
 use Rattle.nodejs_semver.specs.Words.{words}
 
 -- the bounds of the words of a part that have bounds
 abbrev pub part_bounds : ℕ → List ℕ → List (Span VersionValue)
-part_bounds limit part = filter_map (bounds_of limit) (words limit part)
+part_bounds limit part = filter_map (table limit) (words limit part)
 
 -- the intervals of the words of a part
 abbrev pub part_intervals : ℕ → List ℕ → List (Span VersionValue)

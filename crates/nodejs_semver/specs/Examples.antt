@@ -1,7 +1,7 @@
 -- Worked rows, computed: what a text of a range means.
 use Rattle.std.specs.Prelude.{ℕ, List, ◌≡◌, [], ◌∷◌, ◌++◌, refl, codes}
 use Rattle.semver_core.specs.Cuts.{Span}
-use Rattle.semver_core.specs.Versions.{VersionValue}
+use Rattle.semver_core.specs.Versions.{VersionValue, release_value}
 use Rattle.semver_core.specs.declared.cuts.bound.Bound.{Bound}
 use Rattle.semver_core.specs.declared.cuts.bound.Bound.TheVariants.{Unbounded, Before, After}
 use Rattle.semver_core.specs.Identifiers.{Id, AlphaNumeric}
@@ -9,8 +9,8 @@ use Rattle.semver_core.specs.Spaces.{space_len, after_spaces, drop_end_spaces}
 use Rattle.nodejs_semver.specs.Parts.{cut_bars}
 use Rattle.nodejs_semver.specs.Partials.{number_of, partial_of, longest_within}
 use Rattle.nodejs_semver.specs.Words.{is_boundary, word_at, words_within, from_boundary}
-use Rattle.nodejs_semver.specs.Table.{table, release, lowest}
-use Rattle.nodejs_semver.specs.Runs.{runs_from}
+use Rattle.nodejs_semver.specs.Table.{table, lowest}
+use Rattle.nodejs_semver.specs.RunsFrom.{runs_from}
 use Rattle.nodejs_semver.specs.Denotes.{denotes}
 
 abbrev span : Bound VersionValue → Bound VersionValue → Span VersionValue
@@ -31,27 +31,27 @@ unfolding table is_boundary number_of space_len after_spaces drop_end_spaces cut
 row-bars = refl
 
 -- `*`
-row-star : denotes 9007199254740991 (codes "*") ≡ span (Before (release 0 0 0)) Unbounded ∷ []
+row-star : denotes 9007199254740991 (codes "*") ≡ span (Before (release_value 0 0 0)) Unbounded ∷ []
 unfolding table is_boundary number_of space_len after_spaces drop_end_spaces cut_bars partial_of longest_within word_at words_within from_boundary runs_from
 row-star = refl
 
 -- `^1.2`
-row-caret : denotes 9007199254740991 (codes "^1.2") ≡ span (Before (release 1 2 0)) (Before (lowest 2 0 0)) ∷ []
+row-caret : denotes 9007199254740991 (codes "^1.2") ≡ span (Before (release_value 1 2 0)) (Before (lowest 2 0 0)) ∷ []
 unfolding table is_boundary number_of space_len after_spaces drop_end_spaces cut_bars partial_of longest_within word_at words_within from_boundary runs_from
 row-caret = refl
 
 -- `>2 <1`
-row-disjoint : denotes 9007199254740991 (codes ">2 <1") ≡ span (Before (release 3 0 0)) Unbounded ∷ span Unbounded (Before (release 1 0 0)) ∷ []
+row-disjoint : denotes 9007199254740991 (codes ">2 <1") ≡ span (Before (release_value 3 0 0)) Unbounded ∷ span Unbounded (Before (release_value 1 0 0)) ∷ []
 unfolding table is_boundary number_of space_len after_spaces drop_end_spaces cut_bars partial_of longest_within word_at words_within from_boundary runs_from
 row-disjoint = refl
 
 -- `1 - 2 - 3`
-row-hyphens : denotes 9007199254740991 (codes "1 - 2 - 3") ≡ span (Before (release 1 0 0)) (Before (lowest 3 0 0)) ∷ span (Before (release 3 0 0)) (Before (lowest 4 0 0)) ∷ []
+row-hyphens : denotes 9007199254740991 (codes "1 - 2 - 3") ≡ span (Before (release_value 1 0 0)) (Before (lowest 3 0 0)) ∷ span (Before (release_value 3 0 0)) (Before (lowest 4 0 0)) ∷ []
 unfolding table is_boundary number_of space_len after_spaces drop_end_spaces cut_bars partial_of longest_within word_at words_within from_boundary runs_from
 row-hyphens = refl
 
 -- `1 - 2foo`
-row-hyphen_foo : denotes 9007199254740991 (codes "1 - 2foo") ≡ span (Before (release 1 0 0)) (Before (lowest 2 0 0)) ∷ []
+row-hyphen_foo : denotes 9007199254740991 (codes "1 - 2foo") ≡ span (Before (release_value 1 0 0)) (Before (lowest 2 0 0)) ∷ []
 unfolding table is_boundary number_of space_len after_spaces drop_end_spaces cut_bars partial_of longest_within word_at words_within from_boundary runs_from
 row-hyphen_foo = refl
 
@@ -61,17 +61,17 @@ unfolding table is_boundary number_of space_len after_spaces drop_end_spaces cut
 row-hyphen_x = refl
 
 -- `> > 1`
-row-greater_greater : denotes 9007199254740991 (codes "> > 1") ≡ span (Before (release 2 0 0)) Unbounded ∷ []
+row-greater_greater : denotes 9007199254740991 (codes "> > 1") ≡ span (Before (release_value 2 0 0)) Unbounded ∷ []
 unfolding table is_boundary number_of space_len after_spaces drop_end_spaces cut_bars partial_of longest_within word_at words_within from_boundary runs_from
 row-greater_greater = refl
 
 -- `<=x`
-row-at_most_x : denotes 9007199254740991 (codes "<=x") ≡ span Unbounded (After (release 0 9007199254740991 9007199254740991)) ∷ []
+row-at_most_x : denotes 9007199254740991 (codes "<=x") ≡ span Unbounded (After (release_value 0 9007199254740991 9007199254740991)) ∷ []
 unfolding table is_boundary number_of space_len after_spaces drop_end_spaces cut_bars partial_of longest_within word_at words_within from_boundary runs_from
 row-at_most_x = refl
 
 -- `<1`
-row-below_one : denotes 9007199254740991 (codes "<1") ≡ span Unbounded (Before (release 1 0 0)) ∷ []
+row-below_one : denotes 9007199254740991 (codes "<1") ≡ span Unbounded (Before (release_value 1 0 0)) ∷ []
 unfolding table is_boundary number_of space_len after_spaces drop_end_spaces cut_bars partial_of longest_within word_at words_within from_boundary runs_from
 row-below_one = refl
 
@@ -101,19 +101,19 @@ unfolding table is_boundary number_of space_len after_spaces drop_end_spaces cut
 row-three_bars = refl
 
 -- `foo 1.2.3`
-row-foo_then : denotes 9007199254740991 (codes "foo 1.2.3") ≡ span (Before (release 1 2 3)) (After (release 1 2 3)) ∷ []
+row-foo_then : denotes 9007199254740991 (codes "foo 1.2.3") ≡ span (Before (release_value 1 2 3)) (After (release_value 1 2 3)) ∷ []
 unfolding table is_boundary number_of space_len after_spaces drop_end_spaces cut_bars partial_of longest_within word_at words_within from_boundary runs_from
 row-foo_then = refl
 
 -- `1.2.3||`
 row-trailing_bars : denotes 9007199254740991 (codes "1.2.3||")
-    ≡ span (Before (release 1 2 3)) (After (release 1 2 3)) ∷ span Unbounded Unbounded ∷ []
+    ≡ span (Before (release_value 1 2 3)) (After (release_value 1 2 3)) ∷ span Unbounded Unbounded ∷ []
 unfolding table is_boundary number_of space_len after_spaces drop_end_spaces cut_bars partial_of longest_within word_at words_within from_boundary runs_from
 row-trailing_bars = refl
 
 -- `||1.2.3`
 row-leading_bars : denotes 9007199254740991 (codes "||1.2.3")
-    ≡ span Unbounded Unbounded ∷ span (Before (release 1 2 3)) (After (release 1 2 3)) ∷ []
+    ≡ span Unbounded Unbounded ∷ span (Before (release_value 1 2 3)) (After (release_value 1 2 3)) ∷ []
 unfolding table is_boundary number_of space_len after_spaces drop_end_spaces cut_bars partial_of longest_within word_at words_within from_boundary runs_from
 row-leading_bars = refl
 
@@ -124,8 +124,8 @@ row-foo_bars = refl
 
 -- `1||||2`
 row-empty_between : denotes 9007199254740991 (codes "1||||2")
-    ≡ span (Before (release 1 0 0)) (Before (lowest 2 0 0)) ∷ span Unbounded Unbounded
-    ∷ span (Before (release 2 0 0)) (Before (lowest 3 0 0)) ∷ []
+    ≡ span (Before (release_value 1 0 0)) (Before (lowest 2 0 0)) ∷ span Unbounded Unbounded
+    ∷ span (Before (release_value 2 0 0)) (Before (lowest 3 0 0)) ∷ []
 unfolding table is_boundary number_of space_len after_spaces drop_end_spaces cut_bars partial_of longest_within word_at words_within from_boundary runs_from
 row-empty_between = refl
 
@@ -135,7 +135,7 @@ unfolding table is_boundary number_of space_len after_spaces drop_end_spaces cut
 row-tilde_greater = refl
 
 -- `~1.2.x-beta`
-row-tilde_wild : denotes 9007199254740991 (codes "~1.2.x-beta") ≡ span (Before (release 1 2 0)) (Before (lowest 1 3 0)) ∷ []
+row-tilde_wild : denotes 9007199254740991 (codes "~1.2.x-beta") ≡ span (Before (release_value 1 2 0)) (Before (lowest 1 3 0)) ∷ []
 unfolding table is_boundary number_of space_len after_spaces drop_end_spaces cut_bars partial_of longest_within word_at words_within from_boundary runs_from
 row-tilde_wild = refl
 
@@ -145,27 +145,27 @@ unfolding table is_boundary number_of space_len after_spaces drop_end_spaces cut
 row-bar_one = refl
 
 -- `1|||2`
-row-one_bars_two : denotes 9007199254740991 (codes "1|||2") ≡ span (Before (release 1 0 0)) (Before (lowest 2 0 0)) ∷ []
+row-one_bars_two : denotes 9007199254740991 (codes "1|||2") ≡ span (Before (release_value 1 0 0)) (Before (lowest 2 0 0)) ∷ []
 unfolding table is_boundary number_of space_len after_spaces drop_end_spaces cut_bars partial_of longest_within word_at words_within from_boundary runs_from
 row-one_bars_two = refl
 
 -- `9007199254740992 1.2.3`
-row-big_skipped : denotes 9007199254740991 (codes "9007199254740992 1.2.3") ≡ span (Before (release 1 2 3)) (After (release 1 2 3)) ∷ []
+row-big_skipped : denotes 9007199254740991 (codes "9007199254740992 1.2.3") ≡ span (Before (release_value 1 2 3)) (After (release_value 1 2 3)) ∷ []
 unfolding table is_boundary number_of space_len after_spaces drop_end_spaces cut_bars partial_of longest_within word_at words_within from_boundary runs_from
 row-big_skipped = refl
 
 -- `1.2.9007199254740992 - 2`
-row-big_hyphen : denotes 9007199254740991 (codes "1.2.9007199254740992 - 2") ≡ span (Before (release 2 0 0)) (Before (lowest 3 0 0)) ∷ []
+row-big_hyphen : denotes 9007199254740991 (codes "1.2.9007199254740992 - 2") ≡ span (Before (release_value 2 0 0)) (Before (lowest 3 0 0)) ∷ []
 unfolding table is_boundary number_of space_len after_spaces drop_end_spaces cut_bars partial_of longest_within word_at words_within from_boundary runs_from
 row-big_hyphen = refl
 
 -- `900719925474100 1.2.3`: above the limit of the crate nodejs-semver, and read here
-row-big_read : denotes 9007199254740991 (codes "900719925474100 1.2.3") ≡ span (Before (release 900719925474100 0 0)) (Before (lowest 900719925474101 0 0)) ∷ span (Before (release 1 2 3)) (After (release 1 2 3)) ∷ []
+row-big_read : denotes 9007199254740991 (codes "900719925474100 1.2.3") ≡ span (Before (release_value 900719925474100 0 0)) (Before (lowest 900719925474101 0 0)) ∷ span (Before (release_value 1 2 3)) (After (release_value 1 2 3)) ∷ []
 unfolding table is_boundary number_of space_len after_spaces drop_end_spaces cut_bars partial_of longest_within word_at words_within from_boundary runs_from
 row-big_read = refl
 
 -- `1.2.900719925474100 - 2`
-row-big_hyphen_read : denotes 9007199254740991 (codes "1.2.900719925474100 - 2") ≡ span (Before (release 1 2 900719925474100)) (Before (lowest 3 0 0)) ∷ []
+row-big_hyphen_read : denotes 9007199254740991 (codes "1.2.900719925474100 - 2") ≡ span (Before (release_value 1 2 900719925474100)) (Before (lowest 3 0 0)) ∷ []
 unfolding table is_boundary number_of space_len after_spaces drop_end_spaces cut_bars partial_of longest_within word_at words_within from_boundary runs_from
 row-big_hyphen_read = refl
 
@@ -185,12 +185,12 @@ unfolding table is_boundary number_of space_len after_spaces drop_end_spaces cut
 row-cap_v = refl
 
 -- ` v 1.2.3`
-row-small_v : denotes 9007199254740991 (codes " v 1.2.3") ≡ span (Before (release 1 2 3)) (After (release 1 2 3)) ∷ []
+row-small_v : denotes 9007199254740991 (codes " v 1.2.3") ≡ span (Before (release_value 1 2 3)) (After (release_value 1 2 3)) ∷ []
 unfolding table is_boundary number_of space_len after_spaces drop_end_spaces cut_bars partial_of longest_within word_at words_within from_boundary runs_from
 row-small_v = refl
 
 -- U+3000 between two words, and U+0085
-row-ideographic : denotes 9007199254740991 (codes ">=1.0.0" ++ 0xE3 ∷ 0x80 ∷ 0x80 ∷ codes "<2.0.0") ≡ span (Before (release 1 0 0)) (Before (release 2 0 0)) ∷ []
+row-ideographic : denotes 9007199254740991 (codes ">=1.0.0" ++ 0xE3 ∷ 0x80 ∷ 0x80 ∷ codes "<2.0.0") ≡ span (Before (release_value 1 0 0)) (Before (release_value 2 0 0)) ∷ []
 unfolding table is_boundary number_of space_len after_spaces drop_end_spaces cut_bars partial_of longest_within word_at words_within from_boundary runs_from
 row-ideographic = refl
 
@@ -201,67 +201,67 @@ row-next_line = refl
 -- ---- one form after another
 
 -- `1.0.0 - 2.0.0`
-table-1 : denotes 9007199254740991 (codes "1.0.0 - 2.0.0") ≡ span (Before (release 1 0 0)) (After (release 2 0 0)) ∷ []
+table-1 : denotes 9007199254740991 (codes "1.0.0 - 2.0.0") ≡ span (Before (release_value 1 0 0)) (After (release_value 2 0 0)) ∷ []
 unfolding table is_boundary number_of space_len after_spaces drop_end_spaces cut_bars partial_of longest_within word_at words_within from_boundary runs_from
 table-1 = refl
 
 -- `1 - 2`
-table-2 : denotes 9007199254740991 (codes "1 - 2") ≡ span (Before (release 1 0 0)) (Before (lowest 3 0 0)) ∷ []
+table-2 : denotes 9007199254740991 (codes "1 - 2") ≡ span (Before (release_value 1 0 0)) (Before (lowest 3 0 0)) ∷ []
 unfolding table is_boundary number_of space_len after_spaces drop_end_spaces cut_bars partial_of longest_within word_at words_within from_boundary runs_from
 table-2 = refl
 
 -- `1.2 - 3.4.5`
-table-3 : denotes 9007199254740991 (codes "1.2 - 3.4.5") ≡ span (Before (release 1 2 0)) (After (release 3 4 5)) ∷ []
+table-3 : denotes 9007199254740991 (codes "1.2 - 3.4.5") ≡ span (Before (release_value 1 2 0)) (After (release_value 3 4 5)) ∷ []
 unfolding table is_boundary number_of space_len after_spaces drop_end_spaces cut_bars partial_of longest_within word_at words_within from_boundary runs_from
 table-3 = refl
 
 -- `1.2.3 - 3.4`
-table-4 : denotes 9007199254740991 (codes "1.2.3 - 3.4") ≡ span (Before (release 1 2 3)) (Before (lowest 3 5 0)) ∷ []
+table-4 : denotes 9007199254740991 (codes "1.2.3 - 3.4") ≡ span (Before (release_value 1 2 3)) (Before (lowest 3 5 0)) ∷ []
 unfolding table is_boundary number_of space_len after_spaces drop_end_spaces cut_bars partial_of longest_within word_at words_within from_boundary runs_from
 table-4 = refl
 
 -- `1.2 - 1.4 >=1.3.0`
-table-5 : denotes 9007199254740991 (codes "1.2 - 1.4 >=1.3.0") ≡ span (Before (release 1 3 0)) (Before (lowest 1 5 0)) ∷ []
+table-5 : denotes 9007199254740991 (codes "1.2 - 1.4 >=1.3.0") ≡ span (Before (release_value 1 3 0)) (Before (lowest 1 5 0)) ∷ []
 unfolding table is_boundary number_of space_len after_spaces drop_end_spaces cut_bars partial_of longest_within word_at words_within from_boundary runs_from
 table-5 = refl
 
 -- `* - 2`
-table-6 : denotes 9007199254740991 (codes "* - 2") ≡ span (Before (release 0 0 0)) (Before (lowest 3 0 0)) ∷ []
+table-6 : denotes 9007199254740991 (codes "* - 2") ≡ span (Before (release_value 0 0 0)) (Before (lowest 3 0 0)) ∷ []
 unfolding table is_boundary number_of space_len after_spaces drop_end_spaces cut_bars partial_of longest_within word_at words_within from_boundary runs_from
 table-6 = refl
 
 -- `- 10`
-table-7 : denotes 9007199254740991 (codes "- 10") ≡ span (Before (release 10 0 0)) (Before (lowest 11 0 0)) ∷ []
+table-7 : denotes 9007199254740991 (codes "- 10") ≡ span (Before (release_value 10 0 0)) (Before (lowest 11 0 0)) ∷ []
 unfolding table is_boundary number_of space_len after_spaces drop_end_spaces cut_bars partial_of longest_within word_at words_within from_boundary runs_from
 table-7 = refl
 
 -- `<=2.0`
-table-8 : denotes 9007199254740991 (codes "<=2.0") ≡ span Unbounded (After (release 2 0 9007199254740991)) ∷ []
+table-8 : denotes 9007199254740991 (codes "<=2.0") ≡ span Unbounded (After (release_value 2 0 9007199254740991)) ∷ []
 unfolding table is_boundary number_of space_len after_spaces drop_end_spaces cut_bars partial_of longest_within word_at words_within from_boundary runs_from
 table-8 = refl
 
 -- `2.*.*`
-table-9 : denotes 9007199254740991 (codes "2.*.*") ≡ span (Before (release 2 0 0)) (Before (lowest 3 0 0)) ∷ []
+table-9 : denotes 9007199254740991 (codes "2.*.*") ≡ span (Before (release_value 2 0 0)) (Before (lowest 3 0 0)) ∷ []
 unfolding table is_boundary number_of space_len after_spaces drop_end_spaces cut_bars partial_of longest_within word_at words_within from_boundary runs_from
 table-9 = refl
 
 -- `>1.x.3`
-table-10 : denotes 9007199254740991 (codes ">1.x.3") ≡ span (After (release 1 0 3)) Unbounded ∷ []
+table-10 : denotes 9007199254740991 (codes ">1.x.3") ≡ span (After (release_value 1 0 3)) Unbounded ∷ []
 unfolding table is_boundary number_of space_len after_spaces drop_end_spaces cut_bars partial_of longest_within word_at words_within from_boundary runs_from
 table-10 = refl
 
 -- `>x`
-table-11 : denotes 9007199254740991 (codes ">x") ≡ span (After (release 0 0 0)) Unbounded ∷ []
+table-11 : denotes 9007199254740991 (codes ">x") ≡ span (After (release_value 0 0 0)) Unbounded ∷ []
 unfolding table is_boundary number_of space_len after_spaces drop_end_spaces cut_bars partial_of longest_within word_at words_within from_boundary runs_from
 table-11 = refl
 
 -- `=1.x.3`
-table-12 : denotes 9007199254740991 (codes "=1.x.3") ≡ span (Before (release 1 0 0)) (Before (lowest 2 0 0)) ∷ []
+table-12 : denotes 9007199254740991 (codes "=1.x.3") ≡ span (Before (release_value 1 0 0)) (Before (lowest 2 0 0)) ∷ []
 unfolding table is_boundary number_of space_len after_spaces drop_end_spaces cut_bars partial_of longest_within word_at words_within from_boundary runs_from
 table-12 = refl
 
 -- `=1.2.3+a`
-table-13 : denotes 9007199254740991 (codes "=1.2.3+a") ≡ span (Before (release 1 2 3)) (After (release 1 2 3)) ∷ []
+table-13 : denotes 9007199254740991 (codes "=1.2.3+a") ≡ span (Before (release_value 1 2 3)) (After (release_value 1 2 3)) ∷ []
 unfolding table is_boundary number_of space_len after_spaces drop_end_spaces cut_bars partial_of longest_within word_at words_within from_boundary runs_from
 table-13 = refl
 
@@ -276,7 +276,7 @@ unfolding table is_boundary number_of space_len after_spaces drop_end_spaces cut
 table-15 = refl
 
 -- `~1`
-table-16 : denotes 9007199254740991 (codes "~1") ≡ span (Before (release 1 0 0)) (Before (lowest 2 0 0)) ∷ []
+table-16 : denotes 9007199254740991 (codes "~1") ≡ span (Before (release_value 1 0 0)) (Before (lowest 2 0 0)) ∷ []
 unfolding table is_boundary number_of space_len after_spaces drop_end_spaces cut_bars partial_of longest_within word_at words_within from_boundary runs_from
 table-16 = refl
 
@@ -286,7 +286,7 @@ unfolding table is_boundary number_of space_len after_spaces drop_end_spaces cut
 table-17 = refl
 
 -- `~ > 1.2.3`
-table-18 : denotes 9007199254740991 (codes "~ > 1.2.3") ≡ span (Before (release 1 2 3)) (Before (lowest 1 3 0)) ∷ []
+table-18 : denotes 9007199254740991 (codes "~ > 1.2.3") ≡ span (Before (release_value 1 2 3)) (Before (lowest 1 3 0)) ∷ []
 unfolding table is_boundary number_of space_len after_spaces drop_end_spaces cut_bars partial_of longest_within word_at words_within from_boundary runs_from
 table-18 = refl
 
@@ -296,7 +296,7 @@ unfolding table is_boundary number_of space_len after_spaces drop_end_spaces cut
 table-19 = refl
 
 -- `^0.0`
-table-20 : denotes 9007199254740991 (codes "^0.0") ≡ span (Before (release 0 0 0)) (Before (lowest 0 1 0)) ∷ []
+table-20 : denotes 9007199254740991 (codes "^0.0") ≡ span (Before (release_value 0 0 0)) (Before (lowest 0 1 0)) ∷ []
 unfolding table is_boundary number_of space_len after_spaces drop_end_spaces cut_bars partial_of longest_within word_at words_within from_boundary runs_from
 table-20 = refl
 
@@ -306,7 +306,7 @@ unfolding table is_boundary number_of space_len after_spaces drop_end_spaces cut
 table-21 = refl
 
 -- `^0.2.3`
-table-22 : denotes 9007199254740991 (codes "^0.2.3") ≡ span (Before (release 0 2 3)) (Before (lowest 0 3 0)) ∷ []
+table-22 : denotes 9007199254740991 (codes "^0.2.3") ≡ span (Before (release_value 0 2 3)) (Before (lowest 0 3 0)) ∷ []
 unfolding table is_boundary number_of space_len after_spaces drop_end_spaces cut_bars partial_of longest_within word_at words_within from_boundary runs_from
 table-22 = refl
 
@@ -316,12 +316,12 @@ unfolding table is_boundary number_of space_len after_spaces drop_end_spaces cut
 table-23 = refl
 
 -- `^1.2.3+build`
-table-24 : denotes 9007199254740991 (codes "^1.2.3+build") ≡ span (Before (release 1 2 3)) (Before (lowest 2 0 0)) ∷ []
+table-24 : denotes 9007199254740991 (codes "^1.2.3+build") ≡ span (Before (release_value 1 2 3)) (Before (lowest 2 0 0)) ∷ []
 unfolding table is_boundary number_of space_len after_spaces drop_end_spaces cut_bars partial_of longest_within word_at words_within from_boundary runs_from
 table-24 = refl
 
 -- `>=0.2.3 || <0.0.1`
-table-25 : denotes 9007199254740991 (codes ">=0.2.3 || <0.0.1") ≡ span (Before (release 0 2 3)) Unbounded ∷ span Unbounded (Before (release 0 0 1)) ∷ []
+table-25 : denotes 9007199254740991 (codes ">=0.2.3 || <0.0.1") ≡ span (Before (release_value 0 2 3)) Unbounded ∷ span Unbounded (Before (release_value 0 0 1)) ∷ []
 unfolding table is_boundary number_of space_len after_spaces drop_end_spaces cut_bars partial_of longest_within word_at words_within from_boundary runs_from
 table-25 = refl
 

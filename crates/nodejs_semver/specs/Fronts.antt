@@ -4,7 +4,8 @@ use Rattle.std.specs.Prelude.{true, ℕ, suc, ◌==◌, ◌&&◌, Bool, false, L
 use Rattle.std.specs.Char.{is_ascii_digit}
 use Rattle.std.specs.List.{list_all, prefix_len}
 use Rattle.std.specs.Borrow.{Bor}
-use Rattle.nodejs_semver.specs.Partials.{number_of, ◌>>=◌, Partial, is_wildcard, drop_v}
+use Rattle.nodejs_semver.specs.Partials.{number_of, ◌>>=◌, drop_v}
+use Rattle.nodejs_semver.specs.PartialText.{Partial, is_wildcard}
 use Rattle.semver_core.specs.Spaces.{drop_spaces}
 use Rattle.semver_core.specs.Identifiers.{Id, identifier_of, goes_on, pieces, is_run}
 use Rattle.semver_core.specs.Characters.{is_identifier_char, begins}

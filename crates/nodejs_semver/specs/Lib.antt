@@ -5,11 +5,13 @@ pub mod SameLaws
 pub mod Lists
 pub mod Along
 pub mod RangeExamples
+pub mod Bars
 pub mod Parts
 pub mod Partials
 pub mod Words
 pub mod Table
 pub mod Runs
+pub mod RunsFrom
 pub mod Denotes
 pub mod Written
 pub mod RangeLaws
@@ -19,6 +21,7 @@ pub mod WordText
 pub mod RangeText
 pub mod Fronts
 pub mod PartFronts
+pub mod PreReleases
 pub mod Meets
 pub mod Readings
 pub mod Examples

@@ -4,7 +4,7 @@ use Rattle.std.specs.declared.cmp.Ordering.{Ordering}
 use Rattle.semver_core.specs.Cuts.{Span, meet}
 use Rattle.semver_core.specs.Versions.{VersionValue}
 use Rattle.semver_core.specs.Spaces.{drop_spaces}
-use Rattle.nodejs_semver.specs.Table.{bounds_of}
+use Rattle.nodejs_semver.specs.Table.{table}
 use Rattle.nodejs_semver.specs.Words.{word_at}
 
 -- the running interval meets each next one, while that leaves an interval
@@ -20,4 +20,4 @@ joined R (Some s) spans = joined_from R s spans
 
 -- the bounds of the word at the front, where it has some, and the text behind that word and its whitespace
 abbrev pub next_at : ℕ → List ℕ → Option (Span VersionValue) × List ℕ
-next_at limit text = (bounds_of limit (word_at limit text).0, drop_spaces (word_at limit text).1)
+next_at limit text = (table limit (word_at limit text).0, drop_spaces (word_at limit text).1)

@@ -1,10 +1,12 @@
 -- For proofs and private contracts. The part at the front of a range text.
+use Rattle.semver_core.specs.Characters.{begins}
 use Rattle.std.specs.Prelude.{ℕ, suc, ◌+◌, ◌&&◌, nat_lt, Bool, false, List, [], ◌∷◌, length, take, drop, Option, Some, None, if◌then◌else◌}
-use Rattle.nodejs_semver.specs.Parts.{begins_bar, is_bar, parts}
+use Rattle.nodejs_semver.specs.Bars.{is_bar}
+use Rattle.nodejs_semver.specs.Parts.{parts}
 
 abbrev pub begins_bars : List ℕ → Bool
 begins_bars [] = false
-begins_bars (b ∷ rest) = is_bar b && begins_bar rest
+begins_bars (b ∷ rest) = is_bar b && begins is_bar rest
 
 -- how many bytes stand before the first `||`
 unfoldable pub bars_at : List ℕ → ℕ

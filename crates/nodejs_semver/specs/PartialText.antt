@@ -1,9 +1,29 @@
--- Statement. What a partial is as a text, in the words of the version grammar: the relation that partial_of computes.
-use Rattle.std.specs.Prelude.{◌≡◌, ◌⊎◌, ◌↔◌, ◌&&◌, ℕ, true, false, List, [], ◌∷◌, ◌++◌, Option, Some, None, IsUtf8}
-use Rattle.semver_core.specs.Characters.{IsBlank}
+-- Statement. A partial: a version whose components may be absent or wildcards, and what it is as a text, in the words of the
+-- version grammar. The greatest number that a text may write is the parameter `limit`.
+use Rattle.std.specs.Prelude.{◌≡◌, ◌⊎◌, ◌==◌, ◌&&◌, ◌||◌, ℕ, Bool, true, false, List, [], ◌∷◌, ◌++◌, Option, Some, None}
+use Rattle.std.specs.Char.{is_ascii_digit}
+use Rattle.semver_core.specs.Characters.{begins, IsBlank}
 use Rattle.semver_core.specs.Grammar.{IsPreRelease, IsBuild}
+use Rattle.semver_core.specs.Identifiers.{Id}
 use Rattle.semver_core.specs.Numbers.{IsNumber}
-use Rattle.nodejs_semver.specs.Partials.{Partial, begins_digit, ends_digit, is_wildcard, partial_of}
+
+-- a component is None where it is absent or a wildcard
+pub record Partial : Type 0 where
+  pub major : Option ℕ
+  pub minor : Option ℕ
+  pub patch : Option ℕ
+  pub pre_release : List Id
+  pub build : List Id
+
+-- `x`, `X` or `*`
+abbrev pub is_wildcard : ℕ → Bool
+is_wildcard b = b == 120 || b == 88 || b == 42
+
+-- the text ends in a digit
+abbrev pub ends_digit : List ℕ → Bool
+ends_digit [] = false
+ends_digit (b ∷ []) = is_ascii_digit b
+ends_digit (b ∷ c ∷ rest) = ends_digit (c ∷ rest)
 
 -- a component: a wildcard or a number
 pub data IsComponent (limit : ℕ) : List ℕ → Option ℕ → Type 0 where
@@ -18,7 +38,7 @@ pub data AreComponents (limit : ℕ) : List ℕ → Partial → Type 0 where
   two : (x y : List ℕ) (a b : Option ℕ) → IsComponent limit x a → IsComponent limit y b
       → AreComponents limit (x ++ 46 ∷ y) (record { major = a; minor = b; patch = None; pre_release = []; build = [] })
   three : (x y z pre build : List ℕ) (p : Partial) → IsComponent limit x p.major → IsComponent limit y p.minor → IsComponent limit z p.patch
-      → (ends_digit z && begins_digit (pre ++ build)) ≡ false → IsPreRelease pre build p.pre_release → IsBuild build [] p.build
+      → (ends_digit z && begins is_ascii_digit (pre ++ build)) ≡ false → IsPreRelease pre build p.pre_release → IsBuild build [] p.build
       → AreComponents limit (x ++ 46 ∷ (y ++ 46 ∷ (z ++ (pre ++ build)))) p
 
 -- the whole text is this partial
@@ -30,7 +50,3 @@ pub record IsPartial (limit : ℕ) (text : List ℕ) (p : Partial) : Type 0 wher
   pub mark_is : (mark ≡ []) ⊎ (mark ≡ 118 ∷ [])
   pub blank_is : IsBlank blank
   pub components_are : AreComponents limit components p
-
--- a text is a partial where it is divided like this
-abbrev pub PartialsAreWritten : Type 0
-PartialsAreWritten = (limit : ℕ) (text : List ℕ) (p : Partial) → IsUtf8 text → (partial_of limit text ≡ Some p) ↔ IsPartial limit text p

@@ -1,11 +1,13 @@
--- Statement. A partial: a version whose components may be absent or wildcards. The greatest number that a text may
--- write is the parameter `limit`.
+-- For proofs. Partials, computed: `partial_of` gives the partial of `IsPartial`, and `longest_partial` that of
+-- `IsLongestPartial`.
 use Rattle.std.specs.Prelude.{ℕ, zero, suc, ◌==◌, ◌&&◌, ◌||◌, not, nat_le, Bool, false, List, [], ◌∷◌, length, take, drop, map, Option, Some, None, if◌then◌else◌, take_while}
 use Rattle.std.specs.Char.{is_ascii_digit}
 use Rattle.std.specs.List.{list_all}
 use Rattle.std.specs.Str.Parse.{digits_value}
 use Rattle.semver_core.specs.Identifiers.{Id, is_run, identifier_of, pieces}
+use Rattle.semver_core.specs.Characters.{begins}
 use Rattle.semver_core.specs.Spaces.{drop_spaces, is_empty}
+use Rattle.nodejs_semver.specs.PartialText.{Partial, ends_digit, is_wildcard}
 
 infixl 10 ◌>>=◌
 abbrev pub ◌>>=◌ : {A B : Type 0} → Option A → (A → Option B) → Option B
@@ -59,18 +61,6 @@ qualifier_of text =
     build_of (from_plus text) >>= λ build.
     Some (pre, build)
 
--- a component is None where it is absent or a wildcard
-pub record Partial : Type 0 where
-  pub major : Option ℕ
-  pub minor : Option ℕ
-  pub patch : Option ℕ
-  pub pre_release : List Id
-  pub build : List Id
-
--- `x`, `X` or `*`
-abbrev pub is_wildcard : ℕ → Bool
-is_wildcard b = b == 120 || b == 88 || b == 42
-
 abbrev pub wildcard_of : List ℕ → Bool
 wildcard_of [] = false
 wildcard_of (b ∷ []) = is_wildcard b
@@ -122,19 +112,9 @@ components_of limit text =
 unfoldable pub partial_of : ℕ → List ℕ → Option Partial
 partial_of limit text = components_of limit (drop_spaces (drop_v text))
 
--- whether a run of digits goes on from one text to the next
-abbrev pub begins_digit : List ℕ → Bool
-begins_digit [] = false
-begins_digit (b ∷ rest) = is_ascii_digit b
-
-abbrev pub ends_digit : List ℕ → Bool
-ends_digit [] = false
-ends_digit (b ∷ []) = is_ascii_digit b
-ends_digit (b ∷ c ∷ rest) = ends_digit (c ∷ rest)
-
 -- the partial that ends at a place of a text, where no run of digits is cut there
 abbrev pub partial_to : ℕ → List ℕ → List ℕ → Option Partial
-partial_to limit text rest = if ends_digit text && begins_digit rest then None else partial_of limit text
+partial_to limit text rest = if ends_digit text && begins is_ascii_digit rest then None else partial_of limit text
 
 -- the longest partial at the front of a text among those of at most so many bytes, and what follows it
 unfoldable pub longest_within : ℕ → ℕ → List ℕ → Option (Partial × List ℕ)

@@ -4,15 +4,15 @@ use Rattle.std.specs.Fmt.{digits}
 use Rattle.semver_core.specs.Cuts.{Span}
 use Rattle.semver_core.specs.Identifiers.{Id, Numeric, AlphaNumeric}
 use Rattle.semver_core.specs.Spaces.{space_len, after_spaces, drop_end_spaces}
-use Rattle.semver_core.specs.Versions.{VersionValue}
+use Rattle.semver_core.specs.Versions.{VersionValue, release_value}
 use Rattle.semver_core.specs.declared.cuts.bound.Bound.{Bound}
 use Rattle.semver_core.specs.declared.cuts.bound.Bound.TheVariants.{Unbounded, Before, After}
 use Rattle.nodejs_semver.specs.Denotes.{denotes}
 use Rattle.nodejs_semver.specs.Partials.{number_of, partial_of, longest_within}
 use Rattle.nodejs_semver.specs.Parts.{cut_bars}
 use Rattle.nodejs_semver.specs.Printed.{range_text}
-use Rattle.nodejs_semver.specs.Runs.{runs_from}
-use Rattle.nodejs_semver.specs.Table.{table, release, lowest}
+use Rattle.nodejs_semver.specs.RunsFrom.{runs_from}
+use Rattle.nodejs_semver.specs.Table.{table, lowest}
 use Rattle.nodejs_semver.specs.Words.{is_boundary, word_at, words_within, from_boundary}
 
 -- M.m.p with these lists
@@ -24,12 +24,12 @@ abbrev between : Bound VersionValue → Bound VersionValue → Span VersionValue
 between lower upper = record { lower = lower; upper = upper }
 
 -- two bounds, and nothing printed for an end that is open
-prints-both : range_text (between (Before (version 1 2 3 (Numeric 0 ∷ []) (AlphaNumeric (codes "a") ∷ []))) (Before (release 2 0 0)) ∷ []) ≡ codes ">=1.2.3-0+a <2.0.0"
+prints-both : range_text (between (Before (version 1 2 3 (Numeric 0 ∷ []) (AlphaNumeric (codes "a") ∷ []))) (Before (release_value 2 0 0)) ∷ []) ≡ codes ">=1.2.3-0+a <2.0.0"
 unfolding digits version
 prints-both = refl
 
 -- two intervals, of one bound each
-prints-bars : range_text (between Unbounded (After (release 1 0 0)) ∷ between (After (release 2 0 0)) Unbounded ∷ []) ≡ codes "<=1.0.0||>2.0.0"
+prints-bars : range_text (between Unbounded (After (release_value 1 0 0)) ∷ between (After (release_value 2 0 0)) Unbounded ∷ []) ≡ codes "<=1.0.0||>2.0.0"
 unfolding digits version
 prints-bars = refl
 
@@ -49,26 +49,26 @@ unfolding table is_boundary number_of space_len after_spaces drop_end_spaces cut
 reads-tie = refl
 
 -- `*` does not come back
-loses-star : denotes 9007199254740991 (codes "*") ≡ between (Before (release 0 0 0)) Unbounded ∷ []
+loses-star : denotes 9007199254740991 (codes "*") ≡ between (Before (release_value 0 0 0)) Unbounded ∷ []
 unfolding table is_boundary number_of space_len after_spaces drop_end_spaces cut_bars partial_of longest_within word_at words_within from_boundary runs_from
 loses-star = refl
 
 -- nor does a number above the limit
-loses-limit : denotes 9007199254740991 (range_text (between (Before (release 9007199254740992 0 0)) Unbounded ∷ [])) ≡ []
+loses-limit : denotes 9007199254740991 (range_text (between (Before (release_value 9007199254740992 0 0)) Unbounded ∷ [])) ≡ []
 unfolding table is_boundary number_of space_len after_spaces drop_end_spaces cut_bars partial_of longest_within word_at words_within from_boundary runs_from digits
 loses-limit = refl
 
 -- an identifier of dashes does
-keeps-dash : denotes 9007199254740991 (codes ">1.0.0--.x <=1.0.0") ≡ between (After (version 1 0 0 (AlphaNumeric (codes "-") ∷ AlphaNumeric (codes "x") ∷ []) [])) (After (release 1 0 0)) ∷ []
+keeps-dash : denotes 9007199254740991 (codes ">1.0.0--.x <=1.0.0") ≡ between (After (version 1 0 0 (AlphaNumeric (codes "-") ∷ AlphaNumeric (codes "x") ∷ []) [])) (After (release_value 1 0 0)) ∷ []
 unfolding table is_boundary number_of space_len after_spaces drop_end_spaces cut_bars partial_of longest_within word_at words_within from_boundary runs_from version
 keeps-dash = refl
 
 -- a range with the number after the limit prints two bounds, and the second one is passed over when they are read again
-widens-caret : denotes 9007199254740991 (codes "^9007199254740991") ≡ between (Before (release 9007199254740991 0 0)) (Before (lowest 9007199254740992 0 0)) ∷ []
+widens-caret : denotes 9007199254740991 (codes "^9007199254740991") ≡ between (Before (release_value 9007199254740991 0 0)) (Before (lowest 9007199254740992 0 0)) ∷ []
 unfolding table is_boundary number_of space_len after_spaces drop_end_spaces cut_bars partial_of longest_within word_at words_within from_boundary runs_from
 widens-caret = refl
 
 -- so that it is read wider
-widens-printed : denotes 9007199254740991 (codes ">=9007199254740991.0.0 <9007199254740992.0.0-0") ≡ between (Before (release 9007199254740991 0 0)) Unbounded ∷ []
+widens-printed : denotes 9007199254740991 (codes ">=9007199254740991.0.0 <9007199254740992.0.0-0") ≡ between (Before (release_value 9007199254740991 0 0)) Unbounded ∷ []
 unfolding table is_boundary number_of space_len after_spaces drop_end_spaces cut_bars partial_of longest_within word_at words_within from_boundary runs_from
 widens-printed = refl

@@ -1,46 +1,22 @@
--- Statement. The division of a text at its bars and of a part into runs, each as a relation of which the definitions compute
--- the one solution; numbers; and that the intervals of a text hold what the text writes.
-use Rattle.std.specs.Prelude.{◌≡◌, ◌↔◌, ◌<◌, ℕ, ◌&&◌, ◌||◌, not, Bool, true, false, List, [], ◌∷◌, ◌++◌, length, Some}
-use Rattle.std.specs.List.{list_all}
+-- Statement. Each relation of range texts has one solution, which the definitions compute; and the intervals of a text hold
+-- what the text writes.
+use Rattle.std.specs.Prelude.{◌≡◌, ◌↔◌, ℕ, false, List, Some, IsUtf8}
 use Rattle.semver_core.specs.Cuts.{Span, list_holds}
 use Rattle.semver_core.specs.Numbers.{IsNumber}
 use Rattle.semver_core.specs.Order.{precedence}
 use Rattle.semver_core.specs.Versions.{VersionValue}
 use Rattle.nodejs_semver.specs.Denotes.{denotes, part_bounds}
-use Rattle.nodejs_semver.specs.Partials.{number_of}
-use Rattle.nodejs_semver.specs.Parts.{begins_bar, cut_bars, is_bar}
-use Rattle.nodejs_semver.specs.Runs.{AreRuns, Run, runs_of}
+use Rattle.nodejs_semver.specs.Bars.{IsCutAtBars}
+use Rattle.nodejs_semver.specs.LongestText.{IsLongestPartial}
+use Rattle.nodejs_semver.specs.PartialText.{IsPartial, Partial}
+use Rattle.nodejs_semver.specs.Partials.{longest_partial, number_of, partial_of}
+use Rattle.nodejs_semver.specs.Parts.{cut_bars}
+use Rattle.nodejs_semver.specs.RangeText.{Means}
+use Rattle.nodejs_semver.specs.Runs.{AreRuns, Run}
+use Rattle.nodejs_semver.specs.RunsFrom.{runs_of}
+use Rattle.nodejs_semver.specs.WordText.{IsWordAt, Word}
+use Rattle.nodejs_semver.specs.Words.{word_at}
 use Rattle.nodejs_semver.specs.Written.{writes}
-
--- the texts joined by `||`
-abbrev pub join_bars : List (List ℕ) → List ℕ
-join_bars [] = []
-join_bars (piece ∷ []) = piece
-join_bars (piece ∷ next ∷ rest) = piece ++ 124 ∷ (124 ∷ join_bars (next ∷ rest))
-
--- the text contains `||`
-abbrev pub has_bars : List ℕ → Bool
-has_bars [] = false
-has_bars (b ∷ rest) = (is_bar b && begins_bar rest) || has_bars rest
-
-abbrev pub ends_in_bar : List ℕ → Bool
-ends_in_bar [] = false
-ends_in_bar (b ∷ []) = is_bar b
-ends_in_bar (b ∷ c ∷ rest) = ends_in_bar (c ∷ rest)
-
--- none but the last ends in `|`
-abbrev pub are_closed : List (List ℕ) → Bool
-are_closed [] = true
-are_closed (piece ∷ []) = true
-are_closed (piece ∷ next ∷ rest) = not (ends_in_bar piece) && are_closed (next ∷ rest)
-
--- the division of a text at its bars: its pieces joined by `||` are the text, none of them contains `||`, and only the last may
--- end in `|`
-pub record IsCutAtBars (text : List ℕ) (pieces : List (List ℕ)) : Type 0 where
-  pub some : 0 < length pieces
-  pub joined : join_bars pieces ≡ text
-  pub unbarred : list_all (λ piece. not (has_bars piece)) pieces ≡ true
-  pub closed : are_closed pieces ≡ true
 
 -- a text has such a division, and no other
 abbrev pub BarsDivide : Type 0
@@ -59,6 +35,24 @@ RunsDivideOnce = (bounds : List (Span VersionValue)) (runs : List (Run VersionVa
 -- the number of a whole text is the one that its digits write
 abbrev pub NumbersAreWritten : Type 0
 NumbersAreWritten = (limit : ℕ) (text : List ℕ) (n : ℕ) → (number_of limit text ≡ Some n) ↔ IsNumber limit text n
+
+-- a text is a partial where it is divided like this
+abbrev pub PartialsAreWritten : Type 0
+PartialsAreWritten = (limit : ℕ) (text : List ℕ) (p : Partial) → IsUtf8 text → (partial_of limit text ≡ Some p) ↔ IsPartial limit text p
+
+-- the longest partial is computed
+abbrev pub LongestPartialsAreRead : Type 0
+LongestPartialsAreRead = (limit : ℕ) (text : List ℕ) (p : Partial) (rest : List ℕ) → IsUtf8 text
+    → (longest_partial limit text ≡ Some (p, rest)) ↔ IsLongestPartial limit text p rest
+
+-- the word at the front of a text is computed
+abbrev pub WordsAreRead : Type 0
+WordsAreRead = (limit : ℕ) (text : List ℕ) (word : Word) (rest : List ℕ) → IsUtf8 text
+    → (word_at limit text ≡ (word, rest)) ↔ IsWordAt limit text word rest
+
+-- a text has one meaning, and it is what the text denotes
+abbrev pub OneMeaning : Type 0
+OneMeaning = (limit : ℕ) (text : List ℕ) (list : List (Span VersionValue)) → IsUtf8 text → (denotes limit text ≡ list) ↔ Means limit text list
 
 -- with pre-releases included, a text's intervals hold exactly the versions that it writes
 abbrev pub IntervalsHoldWritten : Type 0

@@ -1,17 +1,15 @@
--- Statement. What a range text means, as a relation of which denotes computes the one solution.
-use Rattle.std.specs.Prelude.{◌≡◌, ◌↔◌, ℕ, List, [], ◌∷◌, ◌++◌, map, filter_map, IsUtf8}
+-- Statement. What a range text means: a list of intervals. The text has a range exactly where that list is not empty.
+use Rattle.std.specs.Prelude.{◌≡◌, ℕ, List, [], ◌∷◌, ◌++◌, map, filter_map}
 use Rattle.std.specs.List.{AllByRecursion}
 use Rattle.semver_core.specs.Characters.{IsBlank, IsTrim}
 use Rattle.semver_core.specs.Cuts.{Span}
 use Rattle.semver_core.specs.Order.{precedence}
 use Rattle.semver_core.specs.Versions.{VersionValue}
-use Rattle.nodejs_semver.specs.Denotes.{denotes}
-use Rattle.nodejs_semver.specs.RangeLaws.{IsCutAtBars}
+use Rattle.nodejs_semver.specs.Bars.{IsCutAtBars}
 use Rattle.nodejs_semver.specs.RangeView.{any_version}
 use Rattle.nodejs_semver.specs.Runs.{AreRuns, Run, interval_of}
-use Rattle.nodejs_semver.specs.Table.{bounds_of}
-use Rattle.nodejs_semver.specs.WordText.{IsWordAt, SkipsBlank}
-use Rattle.nodejs_semver.specs.Words.{Word}
+use Rattle.nodejs_semver.specs.Table.{table}
+use Rattle.nodejs_semver.specs.WordText.{IsWordAt, SkipsBlank, Word}
 
 -- the words of a part, from the left, without the whitespace behind each
 pub data AreWords (limit : ℕ) : List ℕ → List Word → Type 0 where
@@ -26,7 +24,7 @@ pub record AreIntervals (limit : ℕ) (piece : List ℕ) (list : List (Span Vers
   pub runs : List (Run VersionValue)
   pub trimmed : IsTrim piece part
   pub read : AreWords limit part words
-  pub divided : AreRuns precedence (filter_map (bounds_of limit) words) runs
+  pub divided : AreRuns precedence (filter_map (table limit) words) runs
   pub spanned : list ≡ map (interval_of precedence) runs
 
 -- the intervals of all pieces, one piece after another: one without bounds for a piece of whitespace alone
@@ -43,7 +41,3 @@ pub record Means (limit : ℕ) (text : List ℕ) (list : List (Span VersionValue
   pub cut : IsCutAtBars text pieces
   pub where_blank : AllByRecursion IsBlank pieces → list ≡ any_version
   pub elsewhere : (AllByRecursion IsBlank pieces → ⊥) → AreAllIntervals limit pieces list
-
--- a text has one meaning, and it is what the text denotes
-abbrev pub OneMeaning : Type 0
-OneMeaning = (limit : ℕ) (text : List ℕ) (list : List (Span VersionValue)) → IsUtf8 text → (denotes limit text ≡ list) ↔ Means limit text list

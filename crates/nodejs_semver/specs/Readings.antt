@@ -1,14 +1,17 @@
 -- For proofs and private contracts. What the readers give, seen without places in memory.
 use Rattle.std.specs.Prelude.{ℕ, Bool, List, Option, Some, None}
 use Rattle.std.specs.Borrow.{Bor}
-use Rattle.semver_core.specs.Cuts.{Span}
+use Rattle.semver_core.specs.Cuts.{Span, interval}
 use Rattle.semver_core.specs.declared.cuts.bound.Bound.{Bound}
 use Rattle.semver_core.specs.declared.cuts.bound.Bound.TheVariants.{Unbounded, Before, After}
+use Rattle.semver_core.specs.Order.{precedence}
 use Rattle.semver_core.specs.Versions.{VersionValue}
 use Rattle.nodejs_semver.specs.Fronts.{Front, list_of}
-use Rattle.nodejs_semver.specs.Partials as Spec
-use Rattle.nodejs_semver.specs.Words as WordSpec
-use Rattle.nodejs_semver.specs.Words.{at_least, above, equal, at_most, below, hyphen, plain, compare, tilde, caret, malformed}
+use Rattle.nodejs_semver.specs.PartialText as Spec
+use Rattle.nodejs_semver.specs.PreReleases.{pre_release_view}
+use Rattle.nodejs_semver.specs.WordText as WordSpec
+use Rattle.nodejs_semver.specs.Words.{Reading}
+use Rattle.nodejs_semver.specs.WordText.{at_least, above, equal, at_most, below, hyphen, plain, compare, tilde, caret, malformed}
 use Rattle.nodejs_semver.specs.declared.readers.syntax.BareVersion.{BareVersion}
 use Rattle.nodejs_semver.specs.declared.readers.syntax.Bounds.{Bounds}
 use Rattle.nodejs_semver.specs.declared.readers.syntax.Partial.{Partial}
@@ -60,12 +63,18 @@ word_view Malformed = malformed
 abbrev pub word_pair_view : Word × Bor (List ℕ) → WordSpec.Word × List ℕ
 word_pair_view p = (word_view p.0, p.1.now)
 
-abbrev pub reading_view : Option (Word × Bor (List ℕ)) → WordSpec.Reading
+abbrev pub reading_view : Option (Word × Bor (List ℕ)) → Reading
 reading_view None = None
 reading_view (Some p) = Some (word_pair_view p)
 
 abbrev pub bare_view : BareVersion → VersionValue
-bare_view v = record { major = v.major; minor = v.minor; patch = v.patch; pre_release = list_of v.pre_release.now; build = list_of v.build.now }
+bare_view v = record {
+  major = v.major;
+  minor = v.minor;
+  patch = v.patch;
+  pre_release = pre_release_view v.pre_release;
+  build = list_of v.build.now;
+}
 
 abbrev pub bound_view : Bound BareVersion → Bound VersionValue
 bound_view Unbounded = Unbounded
@@ -78,6 +87,11 @@ bounds_view b = record { lower = bound_view b.lower; upper = bound_view b.upper 
 abbrev pub table_view : Option Bounds → Option (Span VersionValue)
 table_view None = None
 table_view (Some b) = Some (bounds_view b)
+
+-- the interval of the bounds, where they are there and make one
+abbrev pub interval_view : Option Bounds → Option (Span VersionValue)
+interval_view None = None
+interval_view (Some b) = interval precedence (bounds_view b)
 
 abbrev pub part_view : Bor (List ℕ) × Option (Bor (List ℕ)) → List ℕ × Option (List ℕ)
 part_view p = (p.0.now, rest_view p.1)

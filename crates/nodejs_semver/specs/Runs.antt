@@ -47,14 +47,3 @@ pub record AreRuns {V : Type 0} (R : V → V → Ordering) (bounds : List (Span 
   pub whole : flat_map run_items runs ≡ bounds
   pub each : AllByRecursion (λ r. fits R r ≡ true) runs
   pub longest : AreLongest R runs
-
--- the runs, the first one being under way
-unfoldable pub runs_from : {V : Type 0} → (V → V → Ordering) → Run V → List (Span V) → List (Run V)
-runs_from R r [] = r ∷ []
-runs_from R r (s ∷ rest) =
-    elim (fits R (longer r s)) [ true ↦ runs_from R (longer r s) rest | false ↦ r ∷ runs_from R (record { first = s; others = [] }) rest ]
-
--- the same as a function of the bounds, each of which is an interval
-abbrev pub runs_of : {V : Type 0} → (V → V → Ordering) → List (Span V) → List (Run V)
-runs_of R [] = []
-runs_of R (s ∷ rest) = runs_from R (record { first = s; others = [] }) rest

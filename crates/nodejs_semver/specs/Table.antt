@@ -1,131 +1,102 @@
--- Statement. The word table: the bounds of each word. `>=v` is a lower bound `Before v`, `>v` is `After v`; `<v` is an upper
--- bound `Before v`, `<=v` is `After v`.
-use Rattle.std.specs.Prelude.{ℕ, zero, suc, ◌+◌, Bool, false, [], ◌∷◌, Option, Some, None}
+-- Statement. The word table, a line for each row; the first row that fits a word decides. M, m and p are the numbers of the
+-- word's partial, where `None` is a component that is absent or a wildcard and `_` is any. V is the version of the
+-- partial, with 0 for such components, and MAX the greatest number that a text may write.
+use Rattle.std.specs.Prelude.{ℕ, zero, suc, ◌+◌, true, false, [], ◌∷◌, Option, Some, None, unwrap_or}
 use Rattle.semver_core.specs.Cuts.{Span, interval}
-use Rattle.semver_core.specs.declared.cuts.bound.Bound.{Bound}
 use Rattle.semver_core.specs.declared.cuts.bound.Bound.TheVariants.{Unbounded, Before, After}
 use Rattle.semver_core.specs.Identifiers.{Numeric}
 use Rattle.semver_core.specs.Order.{precedence}
-use Rattle.semver_core.specs.Versions.{VersionValue}
-use Rattle.nodejs_semver.specs.Partials.{Partial, ◌>>=◌}
-use Rattle.nodejs_semver.specs.Words.{Comparator, at_least, above, equal, at_most, below, Word, hyphen, plain, compare, tilde, caret, malformed}
+use Rattle.semver_core.specs.Versions.{VersionValue, release_value}
+use Rattle.nodejs_semver.specs.PartialText.{Partial}
+use Rattle.nodejs_semver.specs.WordText.{at_least, above, equal, at_most, below, Word, hyphen, plain, compare, tilde, caret, malformed}
 
-abbrev pub or_zero : Option ℕ → ℕ
-or_zero None = 0
-or_zero (Some n) = n
+-- the versions that one comparator lets in, and those that two do
+abbrev pub >= : VersionValue → Span VersionValue
+>= v = record { lower = Before v; upper = Unbounded }
 
--- M.m.p, and M.m.p-0
-abbrev pub release : ℕ → ℕ → ℕ → VersionValue
-release major minor patch = record { major = major; minor = minor; patch = patch; pre_release = []; build = [] }
+abbrev pub > : VersionValue → Span VersionValue
+> v = record { lower = After v; upper = Unbounded }
 
+abbrev pub < : VersionValue → Span VersionValue
+< v = record { lower = Unbounded; upper = Before v }
+
+abbrev pub <= : VersionValue → Span VersionValue
+<= v = record { lower = Unbounded; upper = After v }
+
+infix 5 ◌&◌
+abbrev pub ◌&◌ : Span VersionValue → Span VersionValue → Span VersionValue
+s & t = record { lower = s.lower; upper = t.upper }
+
+abbrev pub exactly : VersionValue → Span VersionValue
+exactly v = >= v & <= v
+
+-- `M.m.p-0`, the least of the versions with these three numbers
 abbrev pub lowest : ℕ → ℕ → ℕ → VersionValue
-lowest major minor patch = record { major = major; minor = minor; patch = patch; pre_release = Numeric 0 ∷ []; build = [] }
-
--- the version of a partial, with 0 for what is absent or a wildcard
-abbrev pub version_of : Partial → VersionValue
-version_of p = record { major = or_zero p.major; minor = or_zero p.minor; patch = or_zero p.patch; pre_release = p.pre_release; build = p.build }
+lowest M m p = record (release_value M m p) { pre_release = Numeric 0 ∷ [] }
 
 abbrev pub without_build : VersionValue → VersionValue
 without_build v = record v { build = [] }
 
-abbrev pub between : Bound VersionValue → Bound VersionValue → Option (Span VersionValue)
-between lower upper = Some (record { lower = lower; upper = upper })
+-- the version of a partial, with 0 for what is absent or a wildcard
+abbrev pub version_of : Partial → VersionValue
+version_of p = record {
+  major = unwrap_or p.major 0;
+  minor = unwrap_or p.minor 0;
+  patch = unwrap_or p.patch 0;
+  pre_release = p.pre_release;
+  build = p.build;
+}
 
--- `>=v`, `>v`, `<v`, `<=v`, and `>=v <w`
-abbrev pub from : VersionValue → Option (Span VersionValue)
-from v = between (Before v) Unbounded
+-- from the version of a partial on, if that is an interval
+abbrev pub from_partial : Partial → Span VersionValue → Option (Span VersionValue)
+from_partial q s = interval precedence (>= (version_of q) & s)
 
-abbrev pub beyond : VersionValue → Option (Span VersionValue)
-beyond v = between (After v) Unbounded
+-- A hyphen word has the numbers and the version of its second partial here. It alone may have bounds that are no interval.
+abbrev pub row : ℕ → Word → Option ℕ → Option ℕ → Option ℕ → VersionValue → Option (Span VersionValue)
+row MAX (compare at_least _) _ _ _ V = Some (>= V)
+row MAX (compare above _) (Some M) (Some m) None V = Some (>= (release_value M (m + 1) 0))
+row MAX (compare above _) (Some M) None None V = Some (>= (release_value (M + 1) 0 0))
+row MAX (compare above _) _ _ _ V = Some (> V)
+row MAX (compare below _) (Some M) (Some m) None V = Some (< (lowest M m 0))
+row MAX (compare below _) _ _ _ V = Some (< V)
+row MAX (compare at_most _) _ None None V = Some (<= (release_value V.major MAX MAX))
+row MAX (compare at_most _) _ (Some m) None V = Some (<= (release_value V.major m MAX))
+row MAX (compare at_most _) _ _ _ V = Some (<= V)
+row MAX (compare equal _) (Some M) (Some m) (Some p) V = Some (exactly (without_build V))
+row MAX (compare equal _) (Some M) (Some m) None V = Some (>= (release_value M m 0) & < (lowest M (m + 1) 0))
+row MAX (compare equal _) (Some M) None _ V = Some (>= (release_value M 0 0) & < (lowest (M + 1) 0 0))
+row MAX (compare equal _) None _ _ V = None
+row MAX (plain _) None _ _ V = Some (>= (release_value 0 0 0))
+row MAX (plain _) (Some M) None _ V = Some (>= (release_value M 0 0) & < (lowest (M + 1) 0 0))
+row MAX (plain _) (Some M) (Some m) None V = Some (>= (release_value M m 0) & < (lowest M (m + 1) 0))
+row MAX (plain _) (Some M) (Some m) (Some p) V = Some (exactly V)
+row MAX (tilde _ _) (Some M) None _ V = Some (>= (release_value M 0 0) & < (lowest (M + 1) 0 0))
+row MAX (tilde false _) (Some M) (Some m) None V = Some (>= (release_value M m 0) & < (lowest M (m + 1) 0))
+row MAX (tilde _ _) (Some M) (Some m) _ V = Some (>= (without_build V) & < (lowest M (m + 1) 0))
+row MAX (tilde _ _) None _ _ V = None
+row MAX (caret _) (Some zero) None None V = Some (< (lowest 1 0 0))
+row MAX (caret _) (Some zero) (Some m) None V = Some (>= (release_value 0 m 0) & < (lowest 0 (m + 1) 0))
+row MAX (caret _) (Some M) None None V = Some (>= (release_value M 0 0) & < (lowest (M + 1) 0 0))
+row MAX (caret _) (Some M) (Some m) None V = Some (>= (release_value M m 0) & < (lowest (M + 1) 0 0))
+row MAX (caret _) (Some zero) (Some zero) (Some p) V = Some (>= (without_build V) & < (lowest 0 0 (p + 1)))
+row MAX (caret _) (Some zero) (Some m) (Some p) V = Some (>= (without_build V) & < (lowest 0 (m + 1) 0))
+row MAX (caret _) (Some M) (Some m) (Some p) V = Some (>= (without_build V) & < (lowest (M + 1) 0 0))
+row MAX (caret _) _ _ _ V = None
+row MAX (hyphen q _) None None None V = from_partial q (< (lowest 0 0 0))
+row MAX (hyphen q _) (Some M) None None V = from_partial q (< (lowest (M + 1) 0 0))
+row MAX (hyphen q _) (Some M) (Some m) None V = from_partial q (< (lowest M (m + 1) 0))
+row MAX (hyphen q _) _ _ _ V = from_partial q (<= V)
+row MAX malformed _ _ _ V = None
 
-abbrev pub until : VersionValue → Option (Span VersionValue)
-until v = between Unbounded (Before v)
+-- the row of a word by a partial of it
+abbrev pub row_of : ℕ → Word → Partial → Option (Span VersionValue)
+row_of limit word p = row limit word p.major p.minor p.patch (version_of p)
 
-abbrev pub up_to : VersionValue → Option (Span VersionValue)
-up_to v = between Unbounded (After v)
-
-abbrev pub from_until : VersionValue → VersionValue → Option (Span VersionValue)
-from_until v w = between (Before v) (Before w)
-
-abbrev pub exactly : VersionValue → Option (Span VersionValue)
-exactly v = between (Before v) (After v)
-
--- a whole major or minor version
-abbrev pub whole_major : ℕ → Option (Span VersionValue)
-whole_major major = from_until (release major 0 0) (lowest (major + 1) 0 0)
-
-abbrev pub whole_minor : ℕ → ℕ → Option (Span VersionValue)
-whole_minor major minor = from_until (release major minor 0) (lowest major (minor + 1) 0)
-
--- the bounds of each form, by the major, minor and patch number of the partial
-abbrev pub above_bounds : Partial → Option ℕ → Option ℕ → Option ℕ → Option (Span VersionValue)
-above_bounds p (Some major) (Some minor) None = from (release major (minor + 1) 0)
-above_bounds p (Some major) None None = from (release (major + 1) 0 0)
-above_bounds p _ _ _ = beyond (version_of p)
-
-abbrev pub below_bounds : Partial → Option ℕ → Option ℕ → Option ℕ → Option (Span VersionValue)
-below_bounds p (Some major) (Some minor) None = until (lowest major minor 0)
-below_bounds p _ _ _ = until (version_of p)
-
-abbrev pub at_most_bounds : ℕ → Partial → Option ℕ → Option ℕ → Option ℕ → Option (Span VersionValue)
-at_most_bounds limit p major None None = up_to (release (or_zero major) limit limit)
-at_most_bounds limit p major (Some minor) None = up_to (release (or_zero major) minor limit)
-at_most_bounds limit p _ _ _ = up_to (version_of p)
-
-abbrev pub equal_bounds : Partial → Option ℕ → Option ℕ → Option ℕ → Option (Span VersionValue)
-equal_bounds p (Some major) (Some minor) (Some patch) = exactly (without_build (version_of p))
-equal_bounds p (Some major) (Some minor) None = whole_minor major minor
-equal_bounds p (Some major) None _ = whole_major major
-equal_bounds p None _ _ = None
-
-abbrev pub plain_bounds : Partial → Option ℕ → Option ℕ → Option ℕ → Option (Span VersionValue)
-plain_bounds p None _ _ = from (release 0 0 0)
-plain_bounds p (Some major) None _ = whole_major major
-plain_bounds p (Some major) (Some minor) None = whole_minor major minor
-plain_bounds p (Some major) (Some minor) (Some patch) = exactly (version_of p)
-
-abbrev pub tilde_bounds : Bool → Partial → Option ℕ → Option ℕ → Option ℕ → Option (Span VersionValue)
-tilde_bounds greater p (Some major) None _ = whole_major major
-tilde_bounds false p (Some major) (Some minor) None = whole_minor major minor
-tilde_bounds greater p (Some major) (Some minor) _ = from_until (without_build (version_of p)) (lowest major (minor + 1) 0)
-tilde_bounds greater p None _ _ = None
-
--- the first version that a caret with three numbers leaves out
-abbrev pub caret_end : ℕ → ℕ → ℕ → VersionValue
-caret_end zero zero patch = lowest 0 0 (patch + 1)
-caret_end zero (suc minor) patch = lowest 0 (suc minor + 1) 0
-caret_end (suc major) minor patch = lowest (suc major + 1) 0 0
-
-abbrev pub caret_bounds : Partial → Option ℕ → Option ℕ → Option ℕ → Option (Span VersionValue)
-caret_bounds p (Some zero) None None = until (lowest 1 0 0)
-caret_bounds p (Some zero) (Some minor) None = whole_minor 0 minor
-caret_bounds p (Some (suc major)) None None = whole_major (suc major)
-caret_bounds p (Some (suc major)) (Some minor) None = from_until (release (suc major) minor 0) (lowest (suc major + 1) 0 0)
-caret_bounds p (Some major) (Some minor) (Some patch) = from_until (without_build (version_of p)) (caret_end major minor patch)
-caret_bounds p _ _ _ = None
-
-abbrev pub hyphen_upper : Partial → Option ℕ → Option ℕ → Option ℕ → Bound VersionValue
-hyphen_upper q None None None = Before (lowest 0 0 0)
-hyphen_upper q (Some major) None None = Before (lowest (major + 1) 0 0)
-hyphen_upper q (Some major) (Some minor) None = Before (lowest major (minor + 1) 0)
-hyphen_upper q _ _ _ = After (version_of q)
-
-abbrev pub compare_bounds : ℕ → Comparator → Partial → Option (Span VersionValue)
-compare_bounds limit at_least p = from (version_of p)
-compare_bounds limit above p = above_bounds p p.major p.minor p.patch
-compare_bounds limit equal p = equal_bounds p p.major p.minor p.patch
-compare_bounds limit at_most p = at_most_bounds limit p p.major p.minor p.patch
-compare_bounds limit below p = below_bounds p p.major p.minor p.patch
-
--- the two bounds that the table gives a word
+-- the interval that the table gives a word
 unfoldable pub table : ℕ → Word → Option (Span VersionValue)
-table limit (hyphen p q) = between (Before (version_of p)) (hyphen_upper q q.major q.minor q.patch)
-table limit (plain p) = plain_bounds p p.major p.minor p.patch
-table limit (compare c p) = compare_bounds limit c p
-table limit (tilde greater p) = tilde_bounds greater p p.major p.minor p.patch
-table limit (caret p) = caret_bounds p p.major p.minor p.patch
+table limit (hyphen p q) = row_of limit (hyphen p q) q
+table limit (plain p) = row_of limit (plain p) p
+table limit (compare c p) = row_of limit (compare c p) p
+table limit (tilde greater p) = row_of limit (tilde greater p) p
+table limit (caret p) = row_of limit (caret p) p
 table limit malformed = None
-
--- the bounds of a word, where the lower cut is below the upper one, which only a hyphen word can miss
-abbrev pub bounds_of : ℕ → Word → Option (Span VersionValue)
-bounds_of limit word = table limit word >>= interval precedence

@@ -1,9 +1,25 @@
--- Statement. What a word of a part is as a text, as a relation of which word_at computes the one solution.
-use Rattle.std.specs.Prelude.{◌≡◌, ◌⊎◌, ◌↔◌, ◌≤◌, ℕ, true, false, List, [], ◌∷◌, ◌++◌, length, IsUtf8}
+-- Statement. The words of a part, and what each is as a text.
+use Rattle.std.specs.Prelude.{◌≡◌, ◌⊎◌, ◌≤◌, ℕ, Bool, true, false, List, [], ◌∷◌, ◌++◌, length}
 use Rattle.semver_core.specs.Characters.{BeginsBlank, IsBlank}
 use Rattle.nodejs_semver.specs.LongestText.{IsLongestPartial}
-use Rattle.nodejs_semver.specs.Partials.{Partial}
-use Rattle.nodejs_semver.specs.Words.{Comparator, Word, above, at_least, at_most, below, caret, compare, equal, hyphen, malformed, plain, tilde, word_at}
+use Rattle.nodejs_semver.specs.PartialText.{Partial}
+
+-- the comparators `>=`, `>`, `=`, `<=` and `<`
+pub data Comparator : Type 0 where
+  at_least : Comparator
+  above : Comparator
+  equal : Comparator
+  at_most : Comparator
+  below : Comparator
+
+-- the forms of words. Of a tilde it is said whether `>` stands behind it.
+pub data Word : Type 0 where
+  hyphen : Partial → Partial → Word
+  plain : Partial → Word
+  compare : Comparator → Partial → Word
+  tilde : Bool → Partial → Word
+  caret : Partial → Word
+  malformed : Word
 
 -- a boundary is the end or whitespace
 abbrev pub IsBoundary : List ℕ → Type 0
@@ -69,8 +85,3 @@ pub data IsWordAt (limit : ℕ) : List ℕ → Word → List ℕ → Type 0 wher
   formed : (text : List ℕ) (word : Word) (rest : List ℕ) → IsForm limit text word rest → IsWordAt limit text word rest
   no_form : (text rest : List ℕ) → ((word : Word) (other : List ℕ) → IsForm limit text word other → ⊥) → IsFirstBoundary text rest
       → IsWordAt limit text malformed rest
-
--- the word at the front of a text is computed
-abbrev pub WordsAreRead : Type 0
-WordsAreRead = (limit : ℕ) (text : List ℕ) (word : Word) (rest : List ℕ) → IsUtf8 text
-    → (word_at limit text ≡ (word, rest)) ↔ IsWordAt limit text word rest

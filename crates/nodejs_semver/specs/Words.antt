@@ -1,27 +1,13 @@
--- Statement. The words of a part.
+-- For proofs. The words of a part, computed: `word_at` gives the word of `IsWordAt`.
 use Rattle.std.specs.Prelude.{ℕ, zero, suc, ◌==◌, ◌||◌, nat_lt, Bool, true, false, List, [], ◌∷◌, length, Option, Some, None, if◌then◌else◌}
 use Rattle.semver_core.specs.Spaces.{drop_spaces, space_len, is_empty}
-use Rattle.nodejs_semver.specs.Partials.{Partial, longest_partial, or_else, ◌>>=◌}
+use Rattle.nodejs_semver.specs.PartialText.{Partial}
+use Rattle.nodejs_semver.specs.Partials.{longest_partial, or_else, ◌>>=◌}
+use Rattle.nodejs_semver.specs.WordText.{Comparator, at_least, above, equal, at_most, below, Word, hyphen, plain, compare, tilde, caret, malformed}
 
 -- the end of a part, or whitespace
 unfoldable pub is_boundary : List ℕ → Bool
 is_boundary text = is_empty text || nat_lt 0 (space_len text)
-
--- the comparators `>=`, `>`, `=`, `<=` and `<`
-pub data Comparator : Type 0 where
-  at_least : Comparator
-  above : Comparator
-  equal : Comparator
-  at_most : Comparator
-  below : Comparator
-
-pub data Word : Type 0 where
-  hyphen : Partial → Partial → Word
-  plain : Partial → Word
-  compare : Comparator → Partial → Word
-  tilde : Bool → Partial → Word
-  caret : Partial → Word
-  malformed : Word
 
 -- a word that was read and what follows it
 abbrev pub Reading : Type 0

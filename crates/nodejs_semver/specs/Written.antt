@@ -10,7 +10,8 @@ use Rattle.semver_core.specs.Order.{precedence}
 use Rattle.semver_core.specs.Versions.{VersionValue}
 use Rattle.semver_core.specs.Spaces.{is_empty}
 use Rattle.nodejs_semver.specs.Parts.{parts}
-use Rattle.nodejs_semver.specs.Runs.{Run, run_items, runs_of}
+use Rattle.nodejs_semver.specs.Runs.{Run, run_items}
+use Rattle.nodejs_semver.specs.RunsFrom.{runs_of}
 use Rattle.nodejs_semver.specs.Denotes.{part_bounds}
 
 -- the comparisons `>=w` and `>w` of a lower bound

@@ -1,10 +1,6 @@
 // What is said of range texts.
 
-ghost use Rattle.nodejs_semver.specs.LongestText.{LongestPartialsAreRead};
-ghost use Rattle.nodejs_semver.specs.PartialText.{PartialsAreWritten};
-ghost use Rattle.nodejs_semver.specs.RangeLaws.{BarsDivide, BarsDivideOnce, IntervalsHoldWritten, NumbersAreWritten, RunsDivide, RunsDivideOnce};
-ghost use Rattle.nodejs_semver.specs.RangeText.{OneMeaning};
-ghost use Rattle.nodejs_semver.specs.WordText.{WordsAreRead};
+ghost use Rattle.nodejs_semver.specs.RangeLaws.{LongestPartialsAreRead, PartialsAreWritten, BarsDivide, BarsDivideOnce, IntervalsHoldWritten, NumbersAreWritten, RunsDivide, RunsDivideOnce, OneMeaning, WordsAreRead};
 
 /// A range text has one division at its bars: pieces whose joining by `||` is the text, of which none contains `||` and only
 /// the last may end in `|`. So `1|||2` has the pieces `1` and `|2`.

@@ -4,6 +4,7 @@ ghost use Rattle.std.specs.Prelude.{◌≡◌, ◌<◌, ◌++◌, ◌∷◌, Lis
 ghost use Rattle.nodejs_semver.specs.Denotes.{part_intervals};
 ghost use Rattle.nodejs_semver.specs.Fronts.{is_listed, list_of};
 ghost use Rattle.nodejs_semver.specs.Meets.{joined, next_at};
+ghost use Rattle.nodejs_semver.specs.PreReleases.{pre_release_view};
 ghost use Rattle.nodejs_semver.specs.Readings.{bare_view, bound_view, bounds_view, next_view};
 ghost use Rattle.semver_core.specs.Spaces.{space_len};
 ghost use Rattle.semver_core.specs.Cuts.{Span, interval};
@@ -12,7 +13,7 @@ ghost use Rattle.semver_core.specs.Versions.{VersionValue};
 ghost use Rattle.semver_core.specs.Views.{ids_view};
 ghost use Rattle.semver_core.specs.declared.TheConstants.{MAX_SAFE_INTEGER};
 
-use crate::readers::syntax::{BareVersion, Bounds};
+use crate::readers::syntax::{BareVersion, Bounds, PreRelease};
 use crate::readers::{spaces, table, words};
 use semver_core::cuts::{Bound, Interval};
 use semver_core::{Identifier, Version, scan};
@@ -42,10 +43,25 @@ fn identifiers(alloc: Global, bytes: &[u8]) -> Result<Vec<Identifier>, AllocErro
     }
 }
 
+// The identifiers of the pre-release of a bound.
+fn pre_release(alloc: Global, bare: &BareVersion<'_>) -> Result<Vec<Identifier>, AllocError>
+    ensures { IfOk result (λ list. ids_view list.items ≡ pre_release_view bare.now.pre_release) }
+{
+    match bare.pre_release {
+        PreRelease::Written(text) => identifiers(alloc, text),
+        PreRelease::Zero => {
+            let mut zero = Vec::new(alloc);
+            zero.push(Identifier::Numeric(0))?;
+            Ok(zero)
+        }
+    }
+}
+
+// The version with identifiers of its own.
 fn version(alloc: Global, bare: &BareVersion<'_>) -> Result<Version, AllocError>
     ensures { IfOk result (λ v. v ≡ bare_view bare.now) }
 {
-    let pre_release = identifiers(alloc, bare.pre_release)?;
+    let pre_release = pre_release(alloc, bare)?;
     let build = identifiers(alloc, bare.build)?;
     match Version::new(
         alloc,

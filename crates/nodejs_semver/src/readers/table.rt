@@ -1,11 +1,16 @@
-// The bounds of a word, by its form and its numbers.
+// The word table: the bounds of a word, by its form and the numbers of its partial.
 
-ghost use Rattle.std.specs.Prelude.{◌≡◌, ◌≤◌, ◌<◌, ◌+◌, ◌^◌, length, unwrap_or};
-ghost use Rattle.nodejs_semver.specs.Readings.{bare_view, bound_view, comparator_view, partial_view, table_view, word_view};
+ghost use Rattle.std.specs.Prelude.{◌≡◌, ◌≤◌, ◌<◌, ◌+◌, ◌^◌, Some, length, unwrap_or};
+ghost use Rattle.nodejs_semver.specs.Readings.{bare_view, bounds_view, comparator_view, interval_view, partial_view, table_view, word_view};
 ghost use Rattle.nodejs_semver.specs.Table as Spec;
+ghost use Rattle.nodejs_semver.specs.Table.{table};
+ghost use Rattle.nodejs_semver.specs.WordText as Words;
+ghost use Rattle.semver_core.specs.Cuts.{interval};
+ghost use Rattle.semver_core.specs.Order.{precedence};
+ghost use Rattle.semver_core.specs.Versions.{release_value};
 ghost use Rattle.semver_core.specs.declared.TheConstants.{MAX_SAFE_INTEGER};
 
-use crate::readers::syntax::{BareVersion, Bounds, Comparator, Partial, Word};
+use crate::readers::syntax::{BareVersion, Bounds, Comparator, Partial, PreRelease, Word};
 use semver_core::MAX_SAFE_INTEGER;
 use semver_core::cuts::Bound;
 
@@ -13,13 +18,13 @@ use semver_core::cuts::Bound;
 #[inline]
 #[tactic(auto, unfolding(crate::specs::Fronts::list_of, crate::specs::Fronts::is_listed))]
 fn release(major: u64, minor: u64, patch: u64) -> BareVersion<'static>
-    ensures { bare_view result ≡ Spec.release major minor patch }
+    ensures { bare_view result ≡ release_value major minor patch }
 {
     BareVersion {
         major,
         minor,
         patch,
-        pre_release: b"",
+        pre_release: PreRelease::Written(b""),
         build: b"",
     }
 }
@@ -34,7 +39,7 @@ fn lowest(major: u64, minor: u64, patch: u64) -> BareVersion<'static>
         major,
         minor,
         patch,
-        pre_release: b"0",
+        pre_release: PreRelease::Zero,
         build: b"",
     }
 }
@@ -48,80 +53,9 @@ fn version_of<'a>(partial: &Partial<'a>) -> BareVersion<'a>
         major: partial.major.unwrap_or(0),
         minor: partial.minor.unwrap_or(0),
         patch: partial.patch.unwrap_or(0),
-        pre_release: partial.pre_release,
+        pre_release: PreRelease::Written(partial.pre_release),
         build: partial.build,
     }
-}
-
-#[inline]
-fn from(version: BareVersion<'_>) -> Option<Bounds<'_>>
-    ensures { table_view result ≡ Spec.from (bare_view version.entry) }
-{
-    Some(Bounds {
-        lower: Bound::Before(version),
-        upper: Bound::Unbounded,
-    })
-}
-
-#[inline]
-fn beyond(version: BareVersion<'_>) -> Option<Bounds<'_>>
-    ensures { table_view result ≡ Spec.beyond (bare_view version.entry) }
-{
-    Some(Bounds {
-        lower: Bound::After(version),
-        upper: Bound::Unbounded,
-    })
-}
-
-fn above_bounds<'a>(partial: &Partial<'a>) -> Option<Bounds<'a>>
-    ensures { let p = partial_view partial.now in
-        table_view result ≡ Spec.above_bounds p p.major p.minor p.patch }
-{
-    match (partial.major, partial.minor, partial.patch) {
-        (Some(major), Some(minor), None) => from(release(major, minor + 1, 0)),
-        (Some(major), None, None) => from(release(major + 1, 0, 0)),
-        _ => beyond(version_of(partial)),
-    }
-}
-
-#[inline]
-fn until(version: BareVersion<'_>) -> Option<Bounds<'_>>
-    ensures { table_view result ≡ Spec.until (bare_view version.entry) }
-{
-    Some(Bounds {
-        lower: Bound::Unbounded,
-        upper: Bound::Before(version),
-    })
-}
-
-#[inline]
-fn up_to(version: BareVersion<'_>) -> Option<Bounds<'_>>
-    ensures { table_view result ≡ Spec.up_to (bare_view version.entry) }
-{
-    Some(Bounds {
-        lower: Bound::Unbounded,
-        upper: Bound::After(version),
-    })
-}
-
-#[inline]
-fn from_until<'a>(first: BareVersion<'a>, end: BareVersion<'a>) -> Option<Bounds<'a>>
-    ensures { table_view result ≡ Spec.from_until (bare_view first.entry) (bare_view end.entry) }
-{
-    Some(Bounds {
-        lower: Bound::Before(first),
-        upper: Bound::Before(end),
-    })
-}
-
-#[inline]
-fn exactly(version: BareVersion<'_>) -> Option<Bounds<'_>>
-    ensures { table_view result ≡ Spec.exactly (bare_view version.entry) }
-{
-    Some(Bounds {
-        lower: Bound::Before(version),
-        upper: Bound::After(version),
-    })
 }
 
 #[inline]
@@ -138,166 +72,236 @@ fn without_build(version: BareVersion<'_>) -> BareVersion<'_>
     }
 }
 
-fn whole_major(major: u64) -> Option<Bounds<'static>>
-    requires { major ≤ MAX_SAFE_INTEGER }
-    ensures { table_view result ≡ Spec.whole_major major }
-{
-    from_until(release(major, 0, 0), lowest(major + 1, 0, 0))
-}
-
-fn whole_minor(major: u64, minor: u64) -> Option<Bounds<'static>>
-    requires { minor ≤ MAX_SAFE_INTEGER }
-    ensures { table_view result ≡ Spec.whole_minor major minor }
-{
-    from_until(release(major, minor, 0), lowest(major, minor + 1, 0))
-}
-
-fn below_bounds<'a>(partial: &Partial<'a>) -> Option<Bounds<'a>>
-    ensures { let p = partial_view partial.now in
-        table_view result ≡ Spec.below_bounds p p.major p.minor p.patch }
-{
-    match (partial.major, partial.minor, partial.patch) {
-        (Some(major), Some(minor), None) => until(lowest(major, minor, 0)),
-        _ => until(version_of(partial)),
-    }
-}
-
-fn at_most_bounds<'a>(partial: &Partial<'a>) -> Option<Bounds<'a>>
-    ensures { let p = partial_view partial.now in
-        table_view result ≡ Spec.at_most_bounds MAX_SAFE_INTEGER p p.major p.minor p.patch }
-{
-    match (partial.major, partial.minor, partial.patch) {
-        (major, None, None) => {
-            up_to(release(major.unwrap_or(0), MAX_SAFE_INTEGER, MAX_SAFE_INTEGER))
+impl<'a> Bounds<'a> {
+    // `>=version`
+    #[inline]
+    fn at_least(version: BareVersion<'a>) -> Bounds<'a>
+        ensures { bounds_view result ≡ record { lower = Bound.Before (bare_view version.entry); upper = Bound.Unbounded } }
+    {
+        Bounds {
+            lower: Bound::Before(version),
+            upper: Bound::Unbounded,
         }
-        (major, Some(minor), None) => up_to(release(major.unwrap_or(0), minor, MAX_SAFE_INTEGER)),
-        _ => up_to(version_of(partial)),
+    }
+
+    // `>version`
+    #[inline]
+    fn above(version: BareVersion<'a>) -> Bounds<'a>
+        ensures { bounds_view result ≡ record { lower = Bound.After (bare_view version.entry); upper = Bound.Unbounded } }
+    {
+        Bounds {
+            lower: Bound::After(version),
+            upper: Bound::Unbounded,
+        }
+    }
+
+    // `<version`
+    #[inline]
+    fn below(version: BareVersion<'a>) -> Bounds<'a>
+        ensures { bounds_view result ≡ record { lower = Bound.Unbounded; upper = Bound.Before (bare_view version.entry) } }
+    {
+        Bounds {
+            lower: Bound::Unbounded,
+            upper: Bound::Before(version),
+        }
+    }
+
+    // `<=version`
+    #[inline]
+    fn at_most(version: BareVersion<'a>) -> Bounds<'a>
+        ensures { bounds_view result ≡ record { lower = Bound.Unbounded; upper = Bound.After (bare_view version.entry) } }
+    {
+        Bounds {
+            lower: Bound::Unbounded,
+            upper: Bound::After(version),
+        }
+    }
+
+    // `>=first <end`
+    #[inline]
+    fn between(first: BareVersion<'a>, end: BareVersion<'a>) -> Bounds<'a>
+        ensures { bounds_view result
+            ≡ record { lower = Bound.Before (bare_view first.entry); upper = Bound.Before (bare_view end.entry) } }
+    {
+        Bounds {
+            lower: Bound::Before(first),
+            upper: Bound::Before(end),
+        }
+    }
+
+    // `>=first <=last`
+    #[inline]
+    fn through(first: BareVersion<'a>, last: BareVersion<'a>) -> Bounds<'a>
+        ensures { bounds_view result
+            ≡ record { lower = Bound.Before (bare_view first.entry); upper = Bound.After (bare_view last.entry) } }
+    {
+        Bounds {
+            lower: Bound::Before(first),
+            upper: Bound::After(last),
+        }
+    }
+
+    // `>=major.0.0 <(major+1).0.0-0`
+    fn whole_major(major: u64) -> Bounds<'a>
+        requires { major ≤ MAX_SAFE_INTEGER }
+        ensures { bounds_view result
+            ≡ record { lower = Bound.Before (release_value major 0 0); upper = Bound.Before (Spec.lowest (major + 1) 0 0) } }
+    {
+        Bounds::between(release(major, 0, 0), lowest(major + 1, 0, 0))
+    }
+
+    // `>=major.minor.0 <major.(minor+1).0-0`
+    fn whole_minor(major: u64, minor: u64) -> Bounds<'a>
+        requires { minor ≤ MAX_SAFE_INTEGER }
+        ensures { bounds_view result
+            ≡ record { lower = Bound.Before (release_value major minor 0); upper = Bound.Before (Spec.lowest major (minor + 1) 0) } }
+    {
+        Bounds::between(release(major, minor, 0), lowest(major, minor + 1, 0))
     }
 }
 
-fn equal_bounds<'a>(partial: &Partial<'a>) -> Option<Bounds<'a>>
-    ensures { let p = partial_view partial.now in
-        table_view result ≡ Spec.equal_bounds p p.major p.minor p.patch }
+#[tactic(auto, unfolding(crate::specs::Table::table))]
+fn above<'a>(partial: &Partial<'a>) -> Bounds<'a>
+    ensures { Some (bounds_view result)
+        ≡ table MAX_SAFE_INTEGER (Words.compare Words.above (partial_view partial.now)) }
 {
     match (partial.major, partial.minor, partial.patch) {
-        (Some(_), Some(_), Some(_)) => exactly(without_build(version_of(partial))),
-        (Some(major), Some(minor), None) => whole_minor(major, minor),
-        (Some(major), None, _) => whole_major(major),
+        (Some(major), Some(minor), None) => Bounds::at_least(release(major, minor + 1, 0)),
+        (Some(major), None, None) => Bounds::at_least(release(major + 1, 0, 0)),
+        _ => Bounds::above(version_of(partial)),
+    }
+}
+
+#[tactic(auto, unfolding(crate::specs::Table::table))]
+fn below<'a>(partial: &Partial<'a>) -> Bounds<'a>
+    ensures { Some (bounds_view result)
+        ≡ table MAX_SAFE_INTEGER (Words.compare Words.below (partial_view partial.now)) }
+{
+    match (partial.major, partial.minor, partial.patch) {
+        (Some(major), Some(minor), None) => Bounds::below(lowest(major, minor, 0)),
+        _ => Bounds::below(version_of(partial)),
+    }
+}
+
+#[tactic(auto, unfolding(crate::specs::Table::table))]
+fn at_most<'a>(partial: &Partial<'a>) -> Bounds<'a>
+    ensures { Some (bounds_view result)
+        ≡ table MAX_SAFE_INTEGER (Words.compare Words.at_most (partial_view partial.now)) }
+{
+    let version = version_of(partial);
+    match (partial.minor, partial.patch) {
+        (None, None) => {
+            Bounds::at_most(release(version.major, MAX_SAFE_INTEGER, MAX_SAFE_INTEGER))
+        }
+        (Some(minor), None) => Bounds::at_most(release(version.major, minor, MAX_SAFE_INTEGER)),
+        _ => Bounds::at_most(version),
+    }
+}
+
+#[tactic(auto, unfolding(crate::specs::Table::table))]
+fn equal<'a>(partial: &Partial<'a>) -> Option<Bounds<'a>>
+    ensures { table_view result
+        ≡ table MAX_SAFE_INTEGER (Words.compare Words.equal (partial_view partial.now)) }
+{
+    let unbuilt = without_build(version_of(partial));
+    match (partial.major, partial.minor, partial.patch) {
+        (Some(_), Some(_), Some(_)) => Some(Bounds::through(unbuilt, unbuilt)),
+        (Some(major), Some(minor), None) => Some(Bounds::whole_minor(major, minor)),
+        (Some(major), None, _) => Some(Bounds::whole_major(major)),
         (None, _, _) => None,
     }
 }
 
-fn plain_bounds<'a>(partial: &Partial<'a>) -> Option<Bounds<'a>>
-    ensures { let p = partial_view partial.now in
-        table_view result ≡ Spec.plain_bounds p p.major p.minor p.patch }
+#[tactic(auto, unfolding(crate::specs::Table::table))]
+fn plain<'a>(partial: &Partial<'a>) -> Option<Bounds<'a>>
+    ensures { table_view result ≡ table MAX_SAFE_INTEGER (Words.plain (partial_view partial.now)) }
 {
+    let version = version_of(partial);
     match (partial.major, partial.minor, partial.patch) {
-        (None, _, _) => from(release(0, 0, 0)),
-        (Some(major), None, _) => whole_major(major),
-        (Some(major), Some(minor), None) => whole_minor(major, minor),
-        (Some(_), Some(_), Some(_)) => exactly(version_of(partial)),
+        (None, _, _) => Some(Bounds::at_least(release(0, 0, 0))),
+        (Some(major), None, _) => Some(Bounds::whole_major(major)),
+        (Some(major), Some(minor), None) => Some(Bounds::whole_minor(major, minor)),
+        (Some(_), Some(_), Some(_)) => Some(Bounds::through(version, version)),
     }
 }
 
-fn tilde_bounds<'a>(greater: bool, partial: &Partial<'a>) -> Option<Bounds<'a>>
-    ensures { let p = partial_view partial.now in
-        table_view result ≡ Spec.tilde_bounds greater p p.major p.minor p.patch }
+#[tactic(auto, unfolding(crate::specs::Table::table))]
+fn tilde<'a>(greater: bool, partial: &Partial<'a>) -> Option<Bounds<'a>>
+    ensures { table_view result ≡ table MAX_SAFE_INTEGER (Words.tilde greater (partial_view partial.now)) }
 {
     match (partial.major, partial.minor, partial.patch) {
-        (Some(major), None, _) => whole_major(major),
-        (Some(major), Some(minor), None) if !greater => whole_minor(major, minor),
+        (Some(major), None, _) => Some(Bounds::whole_major(major)),
+        (Some(major), Some(minor), None) if !greater => Some(Bounds::whole_minor(major, minor)),
         (Some(major), Some(minor), _) => {
-            from_until(
-                without_build(version_of(partial)),
-                lowest(major, minor + 1, 0),
-            )
+            let version = without_build(version_of(partial));
+            Some(Bounds::between(version, lowest(major, minor + 1, 0)))
         }
         (None, _, _) => None,
     }
 }
 
-// The first version that a caret with three numbers leaves out.
-fn caret_end(major: u64, minor: u64, patch: u64) -> BareVersion<'static>
-    requires major_fits { major ≤ MAX_SAFE_INTEGER }
-    requires minor_fits { minor ≤ MAX_SAFE_INTEGER }
-    requires patch_fits { patch ≤ MAX_SAFE_INTEGER }
-    ensures { bare_view result ≡ Spec.caret_end major minor patch }
+#[tactic(auto, unfolding(crate::specs::Table::table))]
+fn caret<'a>(partial: &Partial<'a>) -> Option<Bounds<'a>>
+    ensures { table_view result ≡ table MAX_SAFE_INTEGER (Words.caret (partial_view partial.now)) }
 {
-    match (major, minor) {
-        (0, 0) => lowest(0, 0, patch + 1),
-        (0, _) => lowest(0, minor + 1, 0),
-        _ => lowest(major + 1, 0, 0),
-    }
-}
-
-fn caret_bounds<'a>(partial: &Partial<'a>) -> Option<Bounds<'a>>
-    ensures { let p = partial_view partial.now in
-        table_view result ≡ Spec.caret_bounds p p.major p.minor p.patch }
-{
+    let version = without_build(version_of(partial));
     match (partial.major, partial.minor, partial.patch) {
-        (Some(major), None, None) => {
-            if major == 0 {
-                until(lowest(1, 0, 0))
-            } else {
-                whole_major(major)
-            }
-        }
-        (Some(major), Some(minor), None) => {
-            if major == 0 {
-                whole_minor(0, minor)
-            } else {
-                from_until(release(major, minor, 0), lowest(major + 1, 0, 0))
-            }
-        }
-        (Some(major), Some(minor), Some(patch)) => {
-            from_until(
-                without_build(version_of(partial)),
-                caret_end(major, minor, patch),
-            )
-        }
+        (Some(major), None, None) => match major {
+            0 => Some(Bounds::below(lowest(1, 0, 0))),
+            _ => Some(Bounds::whole_major(major)),
+        },
+        (Some(major), Some(minor), None) => match major {
+            0 => Some(Bounds::whole_minor(0, minor)),
+            _ => Some(Bounds::between(release(major, minor, 0), lowest(major + 1, 0, 0))),
+        },
+        (Some(major), Some(minor), Some(patch)) => match (major, minor) {
+            (0, 0) => Some(Bounds::between(version, lowest(0, 0, patch + 1))),
+            (0, _) => Some(Bounds::between(version, lowest(0, minor + 1, 0))),
+            _ => Some(Bounds::between(version, lowest(major + 1, 0, 0))),
+        },
         _ => None,
     }
 }
 
-fn hyphen_upper<'a>(partial: &Partial<'a>) -> Bound<BareVersion<'a>>
-    ensures { let q = partial_view partial.now in
-        bound_view result ≡ Spec.hyphen_upper q q.major q.minor q.patch }
+#[tactic(auto, unfolding(crate::specs::Table::table))]
+fn hyphen<'a>(lower: &Partial<'a>, upper: &Partial<'a>) -> Bounds<'a>
+    ensures { interval precedence (bounds_view result)
+        ≡ table MAX_SAFE_INTEGER (Words.hyphen (partial_view lower.now) (partial_view upper.now)) }
 {
-    match (partial.major, partial.minor, partial.patch) {
-        (None, None, None) => Bound::Before(lowest(0, 0, 0)),
-        (Some(major), None, None) => Bound::Before(lowest(major + 1, 0, 0)),
-        (Some(major), Some(minor), None) => Bound::Before(lowest(major, minor + 1, 0)),
-        _ => Bound::After(version_of(partial)),
+    let first = version_of(lower);
+    match (upper.major, upper.minor, upper.patch) {
+        (None, None, None) => Bounds::between(first, lowest(0, 0, 0)),
+        (Some(major), None, None) => Bounds::between(first, lowest(major + 1, 0, 0)),
+        (Some(major), Some(minor), None) => Bounds::between(first, lowest(major, minor + 1, 0)),
+        _ => Bounds::through(first, version_of(upper)),
     }
 }
 
-fn compare_bounds<'a>(comparator: Comparator, partial: &Partial<'a>) -> Option<Bounds<'a>>
+#[tactic(auto, unfolding(crate::specs::Table::table))]
+fn compare<'a>(comparator: Comparator, partial: &Partial<'a>) -> Option<Bounds<'a>>
     ensures { table_view result
-        ≡ Spec.compare_bounds MAX_SAFE_INTEGER (comparator_view comparator) (partial_view partial.now) }
+        ≡ table MAX_SAFE_INTEGER (Words.compare (comparator_view comparator) (partial_view partial.now)) }
 {
     match comparator {
-        Comparator::AtLeast => from(version_of(partial)),
-        Comparator::Above => above_bounds(partial),
-        Comparator::Equal => equal_bounds(partial),
-        Comparator::AtMost => at_most_bounds(partial),
-        Comparator::Below => below_bounds(partial),
+        Comparator::AtLeast => Some(Bounds::at_least(version_of(partial))),
+        Comparator::Above => Some(above(partial)),
+        Comparator::Equal => equal(partial),
+        Comparator::AtMost => Some(at_most(partial)),
+        Comparator::Below => Some(below(partial)),
     }
 }
 
-/// The two bounds that the form of a word and its numbers give.
-#[tactic(auto, unfolding(crate::specs::Table::table))]
+/// The bounds that the form of a word and its numbers give. Those of a hyphen word alone may make no interval.
+#[tactic(auto, unfolding(crate::specs::Table::table), using(crate::proofs::TableReadings::settled))]
 pub(crate) fn table<'a>(word: &Word<'a>) -> Option<Bounds<'a>>
-    ensures { table_view result ≡ Spec.table MAX_SAFE_INTEGER (word_view word.now) }
+    ensures { interval_view result ≡ table MAX_SAFE_INTEGER (word_view word.now) }
 {
     match word {
-        Word::Hyphen(lower, upper) => Some(Bounds {
-            lower: Bound::Before(version_of(lower)),
-            upper: hyphen_upper(upper),
-        }),
-        Word::Plain(partial) => plain_bounds(partial),
-        Word::Compare(comparator, partial) => compare_bounds(*comparator, partial),
-        Word::Tilde(greater, partial) => tilde_bounds(*greater, partial),
-        Word::Caret(partial) => caret_bounds(partial),
+        Word::Hyphen(lower, upper) => Some(hyphen(lower, upper)),
+        Word::Plain(partial) => plain(partial),
+        Word::Compare(comparator, partial) => compare(*comparator, partial),
+        Word::Tilde(greater, partial) => tilde(*greater, partial),
+        Word::Caret(partial) => caret(partial),
         Word::Malformed => None,
     }
 }
