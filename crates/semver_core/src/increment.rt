@@ -277,7 +277,8 @@ impl Version {
             → CanStep self.now → IfAnswered (IsLeastAnswer (IsAbove self.now)) result }
         // Without identifier it goes up, save `pre` on a release.
         ensures above { HasNoIdentifier (given identifier.entry)
-            → (word.now ≡ codes "pre" → spec.is_release self.now ≡ false) → IfOk result (IsAbove self.now) }
+            → (word.now ≡ codes "pre" → spec.is_release self.now ≡ false)
+            → IfOk result (IsAbove self.now) }
         ensures build { IfOk result (λ next. next.build ≡ self.now.build) }
     {
         is_version(self);
