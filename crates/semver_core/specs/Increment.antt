@@ -1,4 +1,4 @@
--- Statement: what `inc` answers, the table of the words row by row.
+-- Statement. What `inc` returns: the table of its words, row by row.
 use Rattle.std.specs.Prelude.{◌==◌, ◌&&◌, ◌||◌, ◌+◌, ◌-◌, ◌^◌, not, ℕ, Bool, true, false, List, [], ◌∷◌, ◌++◌, if◌then◌else◌, Option, Some, None, Result, Ok, Err, map, codes, ⊤}
 use Rattle.std.specs.Char.{is_ascii_digit}
 use Rattle.std.specs.List.{list_all, list_any, join_with_byte, starts_with}
@@ -176,6 +176,6 @@ abbrev pub incremented : VersionValue → List ℕ → List ℕ → IdentifierBa
 incremented v word id base =
     (if starts_with nat_eq word (codes "pre") then checked id base else Ok tt) >>= λ _. by_word word id base v
 
--- what `inc` answers, given a version, a word, and perhaps an identifier and a base
+-- what `inc` returns, given a version, a word, and perhaps an identifier and a base
 abbrev pub answer_of_inc : VersionValue → List ℕ → Option (List ℕ) → Option IdentifierBase → Result VersionValue Fault
 answer_of_inc v word id base = incremented v word (identifier_or_none id) (base_or_zero base)

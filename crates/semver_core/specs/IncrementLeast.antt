@@ -1,4 +1,4 @@
--- Statement: the least versions that `inc` answers.
+-- Statement. The least versions that `inc` returns.
 use Rattle.std.specs.Prelude.{◌≡◌, ◌<◌, ◌+◌, ◌-◌, ◌^◌, ℕ, true, false, List, [], Option, Result, Ok, Err}
 use Rattle.std.specs.declared.cmp.Ordering.TheVariants.{Less}
 use Rattle.std.specs.Ordering.{is_le}
@@ -14,7 +14,7 @@ pub record IsLeast (These : VersionValue → Type 0) (v : VersionValue) : Type 0
   pub inside : These v
   pub least : (w : VersionValue) → IsVersion w → These w → is_le (precedence v w) ≡ true
 
--- the answer is the least of these, or Overflow where there is none
+-- what is returned is the least of these, or Overflow where there is none
 abbrev pub IsLeastOrOverflow : (VersionValue → Type 0) → Result VersionValue Fault → Type 0
 IsLeastOrOverflow These (Ok v) = IsLeast These v
 IsLeastOrOverflow These (Err Overflow) = (w : VersionValue) → IsVersion w → These w → ⊥
@@ -22,7 +22,7 @@ IsLeastOrOverflow These (Err (InvalidIdentifier text)) = ⊥
 IsLeastOrOverflow These (Err (InvalidIncrementArgument text)) = ⊥
 IsLeastOrOverflow These (Err (NotAPrerelease text)) = ⊥
 
--- the answer is the least of these
+-- what is returned is the least of these
 abbrev pub IsLeastAnswer : (VersionValue → Type 0) → Result VersionValue Fault → Type 0
 IsLeastAnswer These (Ok v) = IsLeast These v
 IsLeastAnswer These (Err e) = ⊥

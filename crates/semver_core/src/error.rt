@@ -1,24 +1,24 @@
-// Why a call answers no value.
+// The errors of the crate.
 
 use std::alloc::AllocError;
 use thiserror::Error;
 
-/// The text is no version, or no range. It keeps nothing of the text.
+/// The text is not a version, or not a range. The error holds nothing of the text.
 #[derive(Clone, Copy, PartialEq, Eq, Debug, Error)]
 #[error("Invalid semantic version or range")]
 pub struct SemverError;
 
-/// A version has no negative numbers.
+/// A number is negative, which no number of a version is.
 #[derive(Clone, Copy, PartialEq, Eq, Debug, Error)]
 #[error("a number is negative")]
 pub struct NegativeNumber;
 
-/// Why a call that reads or computes gave no value: its input was refused, or memory was missing.
+/// The error of a call that may reject its input and that allocates.
 #[derive(Debug, Drop)]
 pub enum Failure<E> {
-    /// The input was refused, for this reason.
+    /// The input was rejected, for this reason.
     Refused(E),
-    /// Memory was missing. The same call may succeed when there is more.
+    /// An allocation failed. The same call may succeed when there is more memory.
     Memory(AllocError),
 }
 

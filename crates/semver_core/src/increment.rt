@@ -142,7 +142,7 @@ fn is_false(base: IdentifierBase) -> bool
     }
 }
 
-// The refusal of an argument.
+// The error for an argument, with its text.
 fn refused_argument(alloc: Global, text: &str) -> Failure<IncrementError>
     ensures { RefusedWith (spec.InvalidIncrementArgument text.now) result }
 {
@@ -152,7 +152,7 @@ fn refused_argument(alloc: Global, text: &str) -> Failure<IncrementError>
     }
 }
 
-// The refusal of an identifier.
+// The error for an identifier, with its text.
 fn refused_identifier(alloc: Global, id: &str) -> Failure<IncrementError>
     ensures { RefusedWith (spec.InvalidIdentifier id.now) result }
 {
@@ -199,7 +199,8 @@ fn increment(
     identifier: Option<&str>,
     base: Option<IdentifierBase>,
 ) -> Result<Version, Failure<IncrementError>>
-    ensures { Returns (spec.answer_of_inc version.now word.now (given identifier.entry) base) result }
+    ensures { Returns
+        (spec.answer_of_inc version.now word.now (given identifier.entry) base) result }
 {
     by_checked_word(
         alloc,
@@ -237,16 +238,16 @@ impl Version {
     /// identifier is none, and no base is `Value(0)`. An identifier with dots or of digits alone becomes one
     /// `AlphaNumeric`, so the result may differ from its own printed text read again.
     ///
-    /// It is refused, in this order,
-    /// - for a word that begins with `pre`, known or not: with `InvalidIncrementArgument` where there is no identifier
-    ///   and the base is `False`, and with `InvalidIdentifier` where the identifier is not non-empty runs of ASCII
-    ///   letters, digits and `-` joined by `.`;
-    /// - with `InvalidIncrementArgument` of a word that is not in the table;
-    /// - with `NotAPrerelease` where `release` is asked of a release;
-    /// - with `Overflow` where a number that is to rise is `u64::MAX`;
-    /// - with `InvalidIncrementArgument` where the base is `False` and the identifier is the whole list already.
+    /// These errors are checked in this order:
+    /// - for a word that begins with `pre`, known or not: `InvalidIncrementArgument` if there is no identifier and the
+    ///   base is `False`, and `InvalidIdentifier` if the identifier is not non-empty runs of ASCII letters, digits and
+    ///   `-` joined by `.`;
+    /// - `InvalidIncrementArgument` if the word is not in the table;
+    /// - `NotAPrerelease` if the word is `release` and this version is a release;
+    /// - `Overflow` if a number that is to rise is `u64::MAX`;
+    /// - `InvalidIncrementArgument` if the base is `False` and the identifier is the whole list already.
     ///
-    /// `Memory` may stand in place of any answer.
+    /// Any call may also return `Memory`, if an allocation fails.
     pub fn inc(
         &self,
         alloc: Global,
@@ -254,12 +255,16 @@ impl Version {
         identifier: Option<&str>,
         base: Option<IdentifierBase>,
     ) -> Result<Version, Failure<IncrementError>>
-        // It answers what the table says.
-        ensures value { Returns (spec.answer_of_inc self.now word.now (given identifier.entry) base) result }
+        // It returns what the table says.
+        ensures value { Returns
+            (spec.answer_of_inc self.now word.now (given identifier.entry) base) result }
         // The least release above of its kind, or Overflow where no version is one.
-        ensures patch { word.now ≡ codes "patch" → IfAnswered (IsLeastOrOverflow (IsNextPatch self.now)) result }
-        ensures minor { word.now ≡ codes "minor" → IfAnswered (IsLeastOrOverflow (IsNextMinor self.now)) result }
-        ensures major { word.now ≡ codes "major" → IfAnswered (IsLeastOrOverflow (IsNextMajor self.now)) result }
+        ensures patch { word.now ≡ codes "patch"
+            → IfAnswered (IsLeastOrOverflow (IsNextPatch self.now)) result }
+        ensures minor { word.now ≡ codes "minor"
+            → IfAnswered (IsLeastOrOverflow (IsNextMinor self.now)) result }
+        ensures major { word.now ≡ codes "major"
+            → IfAnswered (IsLeastOrOverflow (IsNextMajor self.now)) result }
         // Without identifier and with base 0: the least version of the next major, minor or patch, or Overflow.
         ensures premajor { word.now ≡ codes "premajor" → IsPlain (given identifier.entry) base
             → IfAnswered (IsLeastOrOverflow (IsOfNextMajor self.now)) result }
@@ -268,10 +273,11 @@ impl Version {
         ensures prepatch { word.now ≡ codes "prepatch" → IsPlain (given identifier.entry) base
             → IfAnswered (IsLeastOrOverflow (IsOfNextPatch self.now)) result }
         // And the least version above, where the patch can rise or the pre-release has no number.
-        ensures prerelease { word.now ≡ codes "prerelease" → IsPlain (given identifier.entry) base → CanStep self.now
-            → IfAnswered (IsLeastAnswer (IsAbove self.now)) result }
+        ensures prerelease { word.now ≡ codes "prerelease" → IsPlain (given identifier.entry) base
+            → CanStep self.now → IfAnswered (IsLeastAnswer (IsAbove self.now)) result }
         // Without identifier it goes up, save `pre` on a release.
-        ensures above { HasNoIdentifier (given identifier.entry) → (word.now ≡ codes "pre" → spec.is_release self.now ≡ false)
+        ensures above { HasNoIdentifier (given identifier.entry)
+            → (word.now ≡ codes "pre" → spec.is_release self.now ≡ false)
             → IfOk result (IsAbove self.now) }
         ensures build { IfOk result (λ next. next.build ≡ self.now.build) }
     {

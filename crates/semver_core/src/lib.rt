@@ -1,6 +1,6 @@
 //! Versions as npm reads, orders and prints them, and intervals over any order.
 //!
-//! Calls that allocate are passed the allocator and answer want of memory beside their own answers.
+//! Allocating functions take the allocator and report allocation failure in their error type.
 #![tactic(auto)]
 
 ghost use Rattle.std.specs.Prelude.{◌≡◌};

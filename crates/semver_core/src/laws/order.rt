@@ -12,7 +12,8 @@ use std::cmp::Ordering;
 /// tie.
 pub fn identifiers_in_order(first: &Identifier, second: &Identifier) -> (Ordering, bool)
     ensures order { result.0 ≡ id_cmp (id_view first.now) (id_view second.now) }
-    ensures equal { IsTrue result.1 ↔ (id_cmp (id_view first.now) (id_view second.now) ≡ Equal) }
+    ensures equal { IsTrue result.1
+        ↔ (id_cmp (id_view first.now) (id_view second.now) ≡ Equal) }
 {
     (first.cmp(second), first == second)
 }

@@ -18,8 +18,8 @@ pub fn printed_versions_come_back(text: &str)
     let _ = text;
 }
 
-/// A version that is printed and read again. The answer is the version itself, build included; it is wanting only where
-/// memory is.
+/// A version that is printed and read again. It returns the version itself, build included, and fails only if allocation
+/// fails.
 pub fn reread(alloc: Global, version: &Version) -> Result<Version, Failure<SemverError>>
     requires readable { IsReadable MAX_SAFE_INTEGER version.now }
     requires short { length (version_text version.now) ≤ MAX_LENGTH }
