@@ -64,7 +64,8 @@ impl Version {
         // What is read is a version of the text.
         ensures ok { IfOk result (λ v. Parses MAX_SAFE_INTEGER text.now v) }
         // A text is refused only where it has none, or is too long; memory is missing only for identifiers.
-        ensures err { IfErr result (λ e. MatchFailure e (IsRefused MAX_SAFE_INTEGER text.now) (NeedsMemory MAX_SAFE_INTEGER text.now)) }
+        ensures err { IfErr result (λ e.
+            MatchFailure e (IsRefused MAX_SAFE_INTEGER text.now) (NeedsMemory MAX_SAFE_INTEGER text.now)) }
     {
         if text.len() > MAX_LENGTH {
             return Err(Failure::Refused(SemverError));
@@ -151,7 +152,9 @@ impl Version {
     }
 }
 
-// An identifier of the program is one that there is. No effect at run time: the proof learns a number's range from its read.
+// Proof helper: every `Identifier` of the program satisfies `IsId`. The read of the number has no effect at run time; it tells
+// the proof that the number has 64 bits.
+#[inline(always)]
 fn is_id(id: &Identifier)
     ensures { IsId (id_view id.now) }
 {
@@ -163,7 +166,8 @@ fn is_id(id: &Identifier)
     }
 }
 
-// Likewise a list.
+// Proof helper: likewise each identifier of a list. The loop has no effect, so that the compiler drops it.
+#[inline(always)]
 #[tactic(auto, using(crate::proofs::Compared::ids_more, crate::proofs::Compared::ids_all))]
 fn are_ids(list: &[Identifier])
     ensures { All IsId (ids_view list.now) }

@@ -14,7 +14,6 @@ ghost use Rattle.semver_core.specs.Views.{id_view, ids_view};
 
 use crate::increment::{IdentifierBase, IncrementError, is_false, one_more, refused_argument};
 use crate::scan::is_identifier_char;
-use crate::version::parts::copy_items;
 use crate::{Failure, Identifier};
 use std::alloc::{AllocError, Global};
 use std::fmt::Write;
@@ -87,7 +86,7 @@ fn replaced(
     requires { place < length list.now }
     ensures { IfOk result (λ v. ids_view v.items ≡ set (ids_view list.now) place (id_view id)) }
 {
-    let mut copies = copy_items(alloc, list)?;
+    let mut copies = Identifier::copy_list(alloc, list)?;
     copies[place] = id;
     Ok(copies)
 }
@@ -121,7 +120,7 @@ fn number_alone(alloc: Global, n: u64) -> Result<Vec<Identifier>, AllocError>
 fn appended(alloc: Global, list: &[Identifier], n: u64) -> Result<Vec<Identifier>, AllocError>
     ensures { IfOk result (λ v. ids_view v.items ≡ ids_view list.now ++ Numeric n ∷ []) }
 {
-    let mut copies = copy_items(alloc, list)?;
+    let mut copies = Identifier::copy_list(alloc, list)?;
     copies.push(Identifier::Numeric(n))?;
     Ok(copies)
 }

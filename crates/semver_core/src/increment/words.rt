@@ -7,7 +7,7 @@ ghost use Rattle.semver_core.specs.ListView.{list_ids};
 
 use crate::increment::pre_release::{advance, identify};
 use crate::increment::{IdentifierBase, IncrementError, is_release, one_more, refused_argument};
-use crate::version::parts::{copy_items, unless_empty};
+use crate::version::parts::unless_empty;
 use crate::{Failure, Identifier, Version};
 use std::alloc::Global;
 
@@ -108,7 +108,7 @@ fn with_parts(
       build = version.now.build;
     })) result }
 {
-    let build = copy_items(alloc, version.build())?;
+    let build = Identifier::copy_list(alloc, version.build())?;
     Ok(Version::from_parts(major, minor, patch, pre_release, unless_empty(build)))
 }
 

@@ -32,8 +32,8 @@ impl VersionParts {
         ensures whole { IfOk result (λ p. parts_value p ≡ parts_value self.now) }
         ensures memory { OnErr result (HasIdentifiers (parts_value self.now)) }
     {
-        let pre_release = copy_items(alloc, &self.pre_release)?;
-        let build = copy_items(alloc, &self.build)?;
+        let pre_release = Identifier::copy_list(alloc, &self.pre_release)?;
+        let build = Identifier::copy_list(alloc, &self.build)?;
         Ok(VersionParts {
             major: self.major,
             minor: self.minor,
@@ -128,8 +128,8 @@ impl Version {
         ensures whole { IfOk result (λ v. v ≡ self.now) }
         ensures memory { OnErr result (HasIdentifiers self.now) }
     {
-        let pre_release = copy_items(alloc, self.pre_release())?;
-        let build = copy_items(alloc, self.build())?;
+        let pre_release = Identifier::copy_list(alloc, self.pre_release())?;
+        let build = Identifier::copy_list(alloc, self.build())?;
         Ok(Version::from_parts(
             self.major(),
             self.minor(),
@@ -161,16 +161,4 @@ fn or_empty(alloc: Global, list: Option<Vec<Identifier>>) -> Vec<Identifier>
         Some(list) => list,
         None => Vec::new(alloc),
     }
-}
-
-// The identifiers again, with room for no more. It takes no memory where there are none.
-pub(crate) fn copy_items(alloc: Global, list: &[Identifier]) -> Result<Vec<Identifier>, AllocError>
-    ensures whole { IfOk result (λ copy. ids_view copy.items ≡ ids_view list.now) }
-    ensures memory { OnErr result (0 < length list.now) }
-{
-    let mut copy = Vec::with_capacity(alloc, list.len())?;
-    for id in list {
-        copy.push(id.copy(alloc)?)?;
-    }
-    Ok(copy)
 }
