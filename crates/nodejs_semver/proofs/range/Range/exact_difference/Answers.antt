@@ -1,5 +1,5 @@
 use Rattle.nodejs_semver.proofs.AlgebraClauses.{minus-valid, range-intervals}
-use Rattle.nodejs_semver.proofs.range.Range.rest.Goals as goal
+use Rattle.nodejs_semver.proofs.range.Range.exact_difference.Goals as goal
 
 pub differences-requires : goal.differences-requires
 differences-requires c = range-intervals c.args.self.now c.intervals.result.now c.intervals.ensures.valid c.intervals.ensures.value

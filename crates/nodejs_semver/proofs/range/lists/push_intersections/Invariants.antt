@@ -2,7 +2,7 @@ use Rattle.std.proofs.Common.{◌≡◌, ◌++◌, take}
 use Rattle.std.specs.List.{flat_map}
 use Rattle.std.specs.Option.{option_to_list}
 use Rattle.semver_core.specs.Cuts.{meet}
-use Rattle.nodejs_semver.proofs.range.lists.push_meets.Given as goal
+use Rattle.nodejs_semver.proofs.range.lists.push_intersections.Given as goal
 
 abbrev pub invariant-loop-other : goal.invariant-loop-other
 invariant-loop-other g l =

@@ -2,7 +2,7 @@ use Rattle.std.proofs.Common.{◌≡◌, ◌++◌, ◌∙◌, ap, false, is_some
 use Rattle.std.proofs.lemmas.Grind.{common_steps}
 use Rattle.std.proofs.lemmas.List.Sorted.{IsPartitionPoint-from_clause}
 use Rattle.nodejs_semver.proofs.Differences.{falls_short, parted, clips-to_end, clips-to_none}
-use Rattle.nodejs_semver.proofs.range.lists.push_clips.Goals as goal
+use Rattle.nodejs_semver.proofs.range.lists.push_clipped.Goals as goal
 
 pub returns : goal.returns
 returns g c =

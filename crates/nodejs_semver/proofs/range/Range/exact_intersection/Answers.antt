@@ -1,5 +1,5 @@
 use Rattle.nodejs_semver.proofs.AlgebraClauses.{meets_of-valid}
-use Rattle.nodejs_semver.proofs.range.Range.common.Goals as goal
+use Rattle.nodejs_semver.proofs.range.Range.exact_intersection.Goals as goal
 
 pub from_intervals-requires : goal.from_intervals-requires
 from_intervals-requires c =

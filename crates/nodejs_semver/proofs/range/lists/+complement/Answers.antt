@@ -1,10 +1,10 @@
 use Rattle.std.proofs.Common.{sym}
 use Rattle.std.proofs.lemmas.List.{take-append-drop}
 use Rattle.nodejs_semver.proofs.Differences.{along-gaps, gaps-joined}
-use Rattle.nodejs_semver.proofs.range.lists.+gaps.Goals as goal
+use Rattle.nodejs_semver.proofs.range.lists.+complement.Goals as goal
 
-pub clips-requires : goal.clips-requires
-clips-requires g t c = rw c.deref-2.ensures.value (along-gaps g.met.V.Ord.total c.split_at.result.1.now c.in_ok-after.after.items c.in_ok-after.ensures)
+pub clip_each-requires : goal.clip_each-requires
+clip_each-requires g t c = rw c.deref-2.ensures.value (along-gaps g.met.V.Ord.total c.split_at.result.1.now c.in_ok-after.after.items c.in_ok-after.ensures)
 
 pub returns : goal.returns
 returns g t c =
