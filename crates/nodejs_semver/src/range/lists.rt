@@ -30,8 +30,8 @@ pub(crate) fn intersections<V: Point>(
 /// The differences: what is left of these intervals, in order, when the others are taken away one after another.
 ///
 /// That is what of each of them lies within the complement of the others, so each is clipped to the complement's pieces,
-/// which stand in order along the line: n intervals, m others and k results take time about n log m + m log m + k, as
-/// measured. Taking the others away one by one would copy each survivor m times.
+/// which stand in order along the line. For n intervals, m others and k results that is about n log m + m log m + k steps,
+/// which no clause promises; taking the others away one by one would copy each survivor m times.
 pub(crate) fn differences<V: Point>(
     alloc: Global,
     these: &[Interval<V>],

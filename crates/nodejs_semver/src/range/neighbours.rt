@@ -44,16 +44,7 @@ pub(crate) fn next_pre(alloc: Global, version: &Version) -> Result<Version, Allo
 {
     let mut pre_release = Identifier::copy_list(alloc, version.pre_release())?;
     pre_release.push(Identifier::Numeric(0))?;
-    new_version(
-        alloc,
-        VersionParts {
-            major: version.major(),
-            minor: version.minor(),
-            patch: version.patch(),
-            pre_release,
-            build: Vec::new(alloc),
-        },
-    )
+    with_pre_release(alloc, version, pre_release)
 }
 
 // The version without its build.
@@ -61,6 +52,18 @@ pub(crate) fn bare(alloc: Global, version: &Version) -> Result<Version, AllocErr
     ensures { IfOk result (λ v. v ≡ spec.bare version.now) }
 {
     let pre_release = Identifier::copy_list(alloc, version.pre_release())?;
+    with_pre_release(alloc, version, pre_release)
+}
+
+// The same three numbers with this pre-release, and no build.
+fn with_pre_release(
+    alloc: Global,
+    version: &Version,
+    pre_release: Vec<Identifier>,
+) -> Result<Version, AllocError>
+    ensures { IfOk result (λ v. v
+        ≡ record version.now { pre_release = ids_view pre_release.items; build = [] }) }
+{
     new_version(
         alloc,
         VersionParts {
