@@ -1,17 +1,32 @@
 -- The version that is found in a list is the best one of those in the set.
-use Rattle.std.proofs.Common.{◌≡◌, refl, sym, ◌∙◌, ap, subst, Bool, true, false, ◌&&◌, ◌||◌, not, List, [], ◌∷◌, ◌++◌, Option, Some, None, if◌then◌else◌}
+use Rattle.std.proofs.Common.{◌≡◌, refl, sym, ◌∙◌, ap, subst, Bool, true, false, ◌&&◌, ◌||◌, not, List, [], ◌∷◌, ◌++◌, Option, Some, None, if◌then◌else◌, Bor}
 use Rattle.std.proofs.lemmas.List.{append-nil, append_assoc}
 use Rattle.std.specs.declared.cmp.Ordering.{Ordering}
 use Rattle.std.specs.declared.cmp.Ordering.TheVariants.{Less, Equal, Greater}
-use Rattle.std.specs.Ordering.{ordering_reverse, is_lt, is_le, is_ge, is_gt}
+use Rattle.std.specs.Ordering.{ordering_reverse, is_lt, is_le, is_ge, is_gt, max_by_ordering, min_by_ordering}
 use Rattle.std.specs.Cmp.{upto, alike_right}
-use Rattle.std.specs.List.{fold, list_all}
+use Rattle.std.specs.List.{filter, fold, list_all, reduce}
 use Rattle.semver_core.specs.Order.{precedence}
 use Rattle.semver_core.specs.OrderLaws.{precedence_total}
 use Rattle.semver_core.specs.Versions.{VersionValue}
 use Rattle.nodejs_semver.specs.Best.{Stands, IsMax, IsMin, has_none}
-use Rattle.nodejs_semver.specs.Choosing.{is_not_below, is_below, kept, chosen}
 use Rattle.nodejs_semver.proofs.Keys.{le_not_gt, not_gt_le, lt_not_gt}
+
+-- the version takes the place of the best so far: a greater or an equal one does, or a lesser one
+abbrev is_not_below : VersionValue → Option VersionValue → Bool
+is_not_below v None = true
+is_not_below v (Some best) = is_ge (precedence v best)
+
+abbrev is_below : VersionValue → Option VersionValue → Bool
+is_below v None = true
+is_below v (Some best) = is_lt (precedence v best)
+
+-- the best so far and one more version
+abbrev kept : (VersionValue → Option VersionValue → Bool) → (VersionValue → Bool) → Option VersionValue → VersionValue → Option VersionValue
+kept wins set best v = if wins v best && set v then Some v else best
+
+abbrev chosen : (VersionValue → Option VersionValue → Bool) → (VersionValue → Bool) → List VersionValue → Option VersionValue
+chosen wins set list = fold (kept wins set) None list
 
 -- two relations to the best so far, and a test that replaces it, which agree
 record Agree (in_front behind : VersionValue → VersionValue → Bool) (wins : VersionValue → Option VersionValue → Bool) : Type 0 where
@@ -167,15 +182,88 @@ agree_min = record {
     up w b x e Equal k h = ap is_lt (sym (alike_right precedence_total b w x k)) ∙ e
     up w b x e Greater k h = cc
 
-pub max_is : (set : VersionValue → Bool) (list : List VersionValue) → IsMax set list (chosen is_not_below set list)
-max_is set list = as_max (chosen is_not_below set list) (chosen_stands _ _ is_not_below agree_max set list)
+-- to pick the best one of those in the set, one after another, is to choose
+module _ (wins : VersionValue → Option VersionValue → Bool) (pick : VersionValue → VersionValue → VersionValue) (set : VersionValue → Bool)
+    (first : (x : VersionValue) → wins x None ≡ true) (same : (b x : VersionValue) → pick b x ≡ (if wins x (Some b) then x else b)) where
+  picked_from : (b : VersionValue) (xs : List VersionValue) → Some (fold pick b (filter set xs)) ≡ fold (kept wins set) (Some b) xs
+  picked_from b [] = refl
+  picked_from b (x ∷ xs) = by_test (set x) (λ c. picked_from c xs)
+    where
+      by_win : (w : Bool) → ((c : VersionValue) → Some (fold pick c (filter set xs)) ≡ fold (kept wins set) (Some c) xs)
+          → Some (fold pick (if w then x else b) (filter set xs)) ≡ fold (kept wins set) (if w && true then Some x else Some b) xs
+      by_win true f = f x
+      by_win false f = f b
+
+      by_loss : (w : Bool) → ((c : VersionValue) → Some (fold pick c (filter set xs)) ≡ fold (kept wins set) (Some c) xs)
+          → Some (fold pick b (filter set xs)) ≡ fold (kept wins set) (if w && false then Some x else Some b) xs
+      by_loss true f = f b
+      by_loss false f = f b
+
+      by_test : (t : Bool) → ((c : VersionValue) → Some (fold pick c (filter set xs)) ≡ fold (kept wins set) (Some c) xs)
+          → Some (fold pick b (if t then x ∷ filter set xs else filter set xs)) ≡ fold (kept wins set) (if wins x (Some b) && t then Some x else Some b) xs
+      by_test true f = ap (λ (c : VersionValue). Some (fold pick c (filter set xs))) (same b x) ∙ by_win (wins x (Some b)) f
+      by_test false f = by_loss (wins x (Some b)) f
+
+  picked : (xs : List VersionValue) → chosen wins set xs ≡ reduce pick (filter set xs)
+  picked [] = refl
+  picked (x ∷ xs) = by_test (set x) (wins x None) (first x) (picked xs)
+    where
+      by_test : (t w : Bool) → w ≡ true → chosen wins set xs ≡ reduce pick (filter set xs)
+          → fold (kept wins set) (if w && t then Some x else None) xs ≡ reduce pick (if t then x ∷ filter set xs else filter set xs)
+      by_test true true e f = sym (picked_from x xs)
+      by_test true false e f = cc
+      by_test false true e f = f
+      by_test false false e f = f
+
+-- the greater of two, the second of equal ones; and the lesser, the first of equal ones
+abbrev pub greater : VersionValue → VersionValue → VersionValue
+greater b x = max_by_ordering (precedence b x) b x
+
+abbrev pub lesser : VersionValue → VersionValue → VersionValue
+lesser b x = min_by_ordering (precedence b x) b x
+
+greater_wins : (b x : VersionValue) → greater b x ≡ (if is_not_below x (Some b) then x else b)
+greater_wins b x = ap (λ r. max_by_ordering r b x) (precedence_total.antisymm b x) ∙ by_order (precedence x b)
+  where
+    by_order : (r : Ordering) → max_by_ordering (ordering_reverse r) b x ≡ (if is_ge r then x else b)
+    by_order Less = refl
+    by_order Equal = refl
+    by_order Greater = refl
+
+lesser_wins : (b x : VersionValue) → lesser b x ≡ (if is_below x (Some b) then x else b)
+lesser_wins b x = ap (λ r. min_by_ordering r b x) (precedence_total.antisymm b x) ∙ by_order (precedence x b)
+  where
+    by_order : (r : Ordering) → min_by_ordering (ordering_reverse r) b x ≡ (if is_lt r then x else b)
+    by_order Less = refl
+    by_order Equal = refl
+    by_order Greater = refl
+
+-- the same behind references
+pub greater_now : (p z : Bor VersionValue) → (max_by_ordering (precedence p.now z.now) p z).now ≡ greater p.now z.now
+greater_now p z = by_order (precedence p.now z.now)
+  where
+    by_order : (r : Ordering) → (max_by_ordering r p z).now ≡ max_by_ordering r p.now z.now
+    by_order Less = refl
+    by_order Equal = refl
+    by_order Greater = refl
+
+pub lesser_now : (p z : Bor VersionValue) → (min_by_ordering (precedence p.now z.now) p z).now ≡ lesser p.now z.now
+lesser_now p z = by_order (precedence p.now z.now)
+  where
+    by_order : (r : Ordering) → (min_by_ordering r p z).now ≡ min_by_ordering r p.now z.now
+    by_order Less = refl
+    by_order Equal = refl
+    by_order Greater = refl
+
+pub max_is : (set : VersionValue → Bool) (list : List VersionValue) → IsMax set list (reduce greater (filter set list))
+max_is set list = subst (IsMax set list) (picked is_not_below greater set (λ x. refl) greater_wins list) (as_max (chosen is_not_below set list) (chosen_stands _ _ is_not_below agree_max set list))
   where
     as_max : (r : Option VersionValue) → Chosen (λ w v. is_le (precedence w v)) (λ w v. is_lt (precedence w v)) is_not_below agree_max set list r → IsMax set list r
     as_max None h = h
     as_max (Some v) h = h
 
-pub min_is : (set : VersionValue → Bool) (list : List VersionValue) → IsMin set list (chosen is_below set list)
-min_is set list = as_min (chosen is_below set list) (chosen_stands _ _ is_below agree_min set list)
+pub min_is : (set : VersionValue → Bool) (list : List VersionValue) → IsMin set list (reduce lesser (filter set list))
+min_is set list = subst (IsMin set list) (picked is_below lesser set (λ x. refl) lesser_wins list) (as_min (chosen is_below set list) (chosen_stands _ _ is_below agree_min set list))
   where
     as_min : (r : Option VersionValue) → Chosen (λ w v. is_lt (precedence v w)) (λ w v. is_le (precedence v w)) is_below agree_min set list r → IsMin set list r
     as_min None h = h

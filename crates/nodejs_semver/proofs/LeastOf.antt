@@ -15,9 +15,9 @@ use Rattle.semver_core.specs.OrderLaws.{precedence_total}
 use Rattle.semver_core.specs.Versions.{VersionValue}
 use Rattle.nodejs_semver.specs.Accepts.{is_release, lets_in, accepts}
 use Rattle.nodejs_semver.specs.Least.{IsLeast, IsLeastOf, beyond, begins_with, build_by, build_in, least_build}
-use Rattle.nodejs_semver.specs.Candidates.{zero, bare, release_of, after_cut, release_after, firsts, span_marks, span_firsts, candidates, improves, better, least_of, is_reached, next_pre, next_patch}
+use Rattle.nodejs_semver.specs.Candidates.{zero, bare, release_of, after_cut, release_after, firsts, kept_marks, removed_marks, kept_firsts, removed_firsts, candidates, improves, better, least_of, is_reached, next_pre, next_patch}
 use Rattle.nodejs_semver.proofs.Keys.{triple_total, le_not_gt, lt_not_gt, not_gt_le, next_patch_above, next_pre_above, release_above}
-use Rattle.nodejs_semver.proofs.LeastPieces.{In, Each, candidate, accepts_alike, lets_in_alike}
+use Rattle.nodejs_semver.proofs.LeastPieces.{In, Each, candidate, accepts_same, lets_in_alike}
 
 -- the answer is in the set
 abbrev Fine : (VersionValue → Bool) → Option VersionValue → Type 0
@@ -76,17 +76,17 @@ module _ (set : VersionValue → Bool) where
   fold_takes best (x ∷ xs) y (inr h) k = fold_takes (better set best x) xs y h k
 
 -- the least candidate beyond is the least version beyond
-pub least_beyond : (ks ls : List (Span VersionValue)) → IsLeastOf (beyond ks ls) (least_of (beyond ks ls) (candidates (ks ++ ls)))
-least_beyond ks ls = by_answer (least_of (beyond ks ls) (candidates (ks ++ ls))) (fold_fine (beyond ks ls) None (candidates (ks ++ ls)) tt) reached
+pub least_beyond : (ks ls : List (Span VersionValue)) → IsLeastOf (beyond ks ls) (least_of (beyond ks ls) (candidates ks ls))
+least_beyond ks ls = by_answer (least_of (beyond ks ls) (candidates ks ls)) (fold_fine (beyond ks ls) None (candidates ks ls) tt) reached
   where
     chain : (best : Option VersionValue) (x v : VersionValue) → UpTo best x → is_gt (precedence x v) ≡ false → UpTo best v
     chain None x v h k = absurd h
     chain (Some b) x v h k = upto precedence_total b x v h k
 
-    reached : (v : VersionValue) → beyond ks ls v ≡ true → UpTo (least_of (beyond ks ls) (candidates (ks ++ ls))) v
+    reached : (v : VersionValue) → beyond ks ls v ≡ true → UpTo (least_of (beyond ks ls) (candidates ks ls)) v
     reached v h =
         let (x, k) = candidate ks ls v h in
-        chain _ x v (fold_takes (beyond ks ls) None (candidates (ks ++ ls)) x k.found k.inside) k.below
+        chain _ x v (fold_takes (beyond ks ls) None (candidates ks ls) x k.found k.inside) k.below
 
     none_so : (t : Bool) → (t ≡ true → ⊥) → t ≡ false
     none_so true f = absurd (f refl)
@@ -96,15 +96,21 @@ least_beyond ks ls = by_answer (least_of (beyond ks ls) (candidates (ks ++ ls)))
     by_answer None h f = λ v. none_so (beyond ks ls v) (f v)
     by_answer (Some b) h f = record { inside = h; least = λ w e. not_gt_le _ (f w e) }
 
--- the first versions of all pieces, bound by bound
-flat_map-marks : (ss : List (Span VersionValue)) → flat_map firsts (flat_map span_marks ss) ≡ flat_map span_firsts ss
-flat_map-marks [] = refl
-flat_map-marks (s ∷ ss) = flat_map-append firsts (span_marks s) (flat_map span_marks ss) ∙ ap (λ xs. flat_map firsts (span_marks s) ++ xs) (flat_map-marks ss)
+-- the first versions past all marks, interval by interval
+flat_map-kept : (ss : List (Span VersionValue)) → flat_map firsts (flat_map kept_marks ss) ≡ flat_map kept_firsts ss
+flat_map-kept [] = refl
+flat_map-kept (s ∷ ss) = flat_map-append firsts (kept_marks s) (flat_map kept_marks ss) ∙ ap (λ xs. flat_map firsts (kept_marks s) ++ xs) (flat_map-kept ss)
 
-pub fold-candidates : (set : VersionValue → Bool) (ks ls : List (Span VersionValue)) → fold (better set) (fold (better set) (better set None zero) (flat_map span_firsts ks)) (flat_map span_firsts ls) ≡ least_of set (candidates (ks ++ ls))
+flat_map-removed : (ss : List (Span VersionValue)) → flat_map firsts (flat_map removed_marks ss) ≡ flat_map removed_firsts ss
+flat_map-removed [] = refl
+flat_map-removed (s ∷ ss) = flat_map-append firsts (removed_marks s) (flat_map removed_marks ss) ∙ ap (λ xs. flat_map firsts (removed_marks s) ++ xs) (flat_map-removed ss)
+
+pub fold-candidates : (set : VersionValue → Bool) (ks ls : List (Span VersionValue)) → fold (better set) (fold (better set) (better set None zero) (flat_map kept_firsts ks)) (flat_map removed_firsts ls) ≡ least_of set (candidates ks ls)
 fold-candidates set ks ls =
-    sym (fold-append (better set) (better set None zero) (flat_map span_firsts ks) (flat_map span_firsts ls))
-    ∙ ap (fold (better set) (better set None zero)) (sym (flat_map-append span_firsts ks ls) ∙ sym (flat_map-marks (ks ++ ls)))
+    sym (fold-append (better set) (better set None zero) (flat_map kept_firsts ks) (flat_map removed_firsts ls))
+    ∙ ap (λ xs. fold (better set) (better set None zero) (xs ++ flat_map removed_firsts ls)) (sym (flat_map-kept ks))
+    ∙ ap (λ xs. fold (better set) (better set None zero) (flat_map firsts (flat_map kept_marks ks) ++ xs)) (sym (flat_map-removed ls))
+    ∙ ap (fold (better set) (better set None zero)) (sym (flat_map-append firsts (flat_map kept_marks ks) (flat_map removed_marks ls)))
 
 -- what the answer is, if all of the list and what was there before are so
 abbrev Has : (VersionValue → Type 0) → Option VersionValue → Type 0
@@ -127,7 +133,7 @@ firsts_bare : (g : Cut VersionValue) → Each (λ v. v.build ≡ []) (firsts g)
 firsts_bare Start = (refl, tt)
 firsts_bare (Beside w s) = by_test (is_release w) s
   where
-    by_test : (r : Bool) (s : Side) → Each (λ v. v.build ≡ []) (if r then release_after w s ∷ [] else release_of w ∷ after_cut w s ∷ [])
+    by_test : (r : Bool) (s : Side) → Each (λ v. v.build ≡ []) (if r then release_after w s ∷ [] else after_cut w s ∷ release_of w ∷ [])
     by_test true Near = (refl, tt)
     by_test true Far = (refl, tt)
     by_test false Near = (refl, (refl, tt))
@@ -142,8 +148,8 @@ candidates_bare : (ds : List (Cut VersionValue)) → Each (λ v. v.build ≡ [])
 candidates_bare [] = tt
 candidates_bare (d ∷ ds) = Each-append (λ v. v.build ≡ []) (firsts d) (flat_map firsts ds) (firsts_bare d) (candidates_bare ds)
 
-pub least_bare : (set : VersionValue → Bool) (ss : List (Span VersionValue)) (r : Option VersionValue) → r ≡ least_of set (candidates ss) → IfSome r (λ v. v.build ≡ [])
-least_bare set ss r e = as_if r (subst (Has (λ v. v.build ≡ [])) (sym e) (fold_has (λ v. v.build ≡ []) set None (candidates ss) tt (candidates_bare (Start ∷ flat_map span_marks ss))))
+pub least_bare : (set : VersionValue → Bool) (ks ls : List (Span VersionValue)) (r : Option VersionValue) → r ≡ least_of set (candidates ks ls) → IfSome r (λ v. v.build ≡ [])
+least_bare set ks ls r e = as_if r (subst (Has (λ v. v.build ≡ [])) (sym e) (fold_has (λ v. v.build ≡ []) set None (candidates ks ls) tt (candidates_bare (Start ∷ (flat_map kept_marks ks ++ flat_map removed_marks ls)))))
   where
     as_if : (r : Option VersionValue) → Has (λ v. v.build ≡ []) r → IfSome r (λ v. v.build ≡ [])
     as_if None h = tt
@@ -166,18 +172,20 @@ beyond-none ks v = both (accepts ks v false)
     both false = refl
 
 -- a version with another build is accepted alike
-each_of : {X : Type 0} (P : X → Type 0) (xs : List X) → ((x : X) → P x) → Each P xs
-each_of P [] f = tt
-each_of P (x ∷ xs) f = (f x, each_of P xs f)
-
 past_built : (d : Cut VersionValue) (v : VersionValue) (b : List Id) → is_past precedence d (record v { build = b }) ≡ is_past precedence d v
 past_built d v b =
     ap is_le (alike_right (cut_total precedence_total) (Beside (record v { build = b }) Near) (Beside v Near) d (ap (λ r. ordering_then r Equal) (tied_itself precedence_total v)))
 
+holds_built : (s : Span VersionValue) (v : VersionValue) (b : List Id) → holds precedence s (record v { build = b }) ≡ holds precedence s v
+holds_built s v b =
+    ap (λ q. q && not (is_past precedence (upper_cut s.upper) (record v { build = b }))) (past_built (lower_cut s.lower) v b)
+    ∙ ap (λ q. is_past precedence (lower_cut s.lower) v && not q) (past_built (upper_cut s.upper) v b)
+
+gate_built : (s : Span VersionValue) (v : VersionValue) (b : List Id) → lets_in s (record v { build = b }) ≡ lets_in s v
+gate_built s v b = lets_in_alike s (record v { build = b }) v (record { release = refl; triple = λ _. tied_itself triple_total v })
+
 accepts_built : (ks : List (Span VersionValue)) (v : VersionValue) (b : List Id) → accepts ks (record v { build = b }) false ≡ accepts ks v false
-accepts_built ks v b =
-    accepts_alike ks (record v { build = b }) v (record { release = refl; triple = λ _. tied_itself triple_total v })
-    (each_of (λ d. is_past precedence d (record v { build = b }) ≡ is_past precedence d v) (flat_map span_marks ks) (λ d. past_built d v b))
+accepts_built ks v b = accepts_same ks (record v { build = b }) v (λ s. gate_built s v b) (λ s. holds_built s v b)
 
 -- the least beyond nothing is the least that is accepted, whatever its build
 pub least_accepted : (ks : List (Span VersionValue)) (v : VersionValue) (b : List Id) → IsLeast (beyond ks []) v → IsLeast (λ w. accepts ks w false) (record v { build = b })
@@ -202,10 +210,7 @@ least_build_built ks v b =
     ∙ build_in_built (find (λ s. holds precedence s v && lets_in s v) ks) v b
   where
     same : (s : Span VersionValue) → (holds precedence s (record v { build = b }) && lets_in s (record v { build = b })) ≡ (holds precedence s v && lets_in s v)
-    same s =
-        ap (λ q. (q && not (is_past precedence (upper_cut s.upper) (record v { build = b }))) && lets_in s (record v { build = b })) (past_built (lower_cut s.lower) v b)
-        ∙ ap (λ q. (is_past precedence (lower_cut s.lower) v && not q) && lets_in s (record v { build = b })) (past_built (upper_cut s.upper) v b)
-        ∙ ap (λ q. holds precedence s v && q) (lets_in_alike s (record v { build = b }) v (record { release = refl; triple = λ _. tied_itself triple_total v }))
+    same s = ap (λ q. q && lets_in s (record v { build = b })) (holds_built s v b) ∙ ap (λ q. holds precedence s v && q) (gate_built s v b)
 
 pub none_accepted : (ks : List (Span VersionValue)) → ((v : VersionValue) → beyond ks [] v ≡ false) → (v : VersionValue) → accepts ks v false ≡ false
 none_accepted ks f v = sym (beyond-none ks v) ∙ f v
@@ -239,11 +244,11 @@ reached set best w s h = by_kind (is_release w) s refl
     two : (x y : VersionValue) → is_gt (precedence w x) ≡ false → is_gt (precedence w y) ≡ false → better set (better set best x) y ≡ best
     two x y k l = ap (λ b. better set b y) (no_better set best w x h k) ∙ no_better set best w y h l
 
-    by_kind : (r : Bool) (s : Side) → is_release w ≡ r → fold (better set) best (if r then release_after w s ∷ [] else release_of w ∷ after_cut w s ∷ []) ≡ best
+    by_kind : (r : Bool) (s : Side) → is_release w ≡ r → fold (better set) best (if r then release_after w s ∷ [] else after_cut w s ∷ release_of w ∷ []) ≡ best
     by_kind true Near k = no_better set best w (bare w) h (ap is_gt (tied_itself precedence_total w))
     by_kind true Far k = no_better set best w (next_patch w) h (ap is_gt (next_patch_above w))
-    by_kind false Near k = two (release_of w) (bare w) (ap is_gt (release_above w k)) (ap is_gt (tied_itself precedence_total w))
-    by_kind false Far k = two (release_of w) (next_pre w) (ap is_gt (release_above w k)) (ap is_gt (next_pre_above w k))
+    by_kind false Near k = two (bare w) (release_of w) (ap is_gt (tied_itself precedence_total w)) (ap is_gt (release_above w k))
+    by_kind false Far k = two (next_pre w) (release_of w) (ap is_gt (next_pre_above w k)) (ap is_gt (release_above w k))
 
 pub reached_near : (set : VersionValue → Bool) (best : Option VersionValue) (w : VersionValue) → is_reached best w ≡ true → fold (better set) best (firsts (Beside w Near)) ≡ best
 reached_near set best w h = reached set best w Near h

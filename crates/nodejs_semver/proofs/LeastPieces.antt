@@ -1,4 +1,4 @@
--- The line in pieces: between two marks that follow each other all releases, and all pre-releases of one named triple, are accepted alike.
+-- The least version beyond is the first of its kind past a mark: a lower cut of what is kept, an upper cut of what is removed, or the cut below the pre-releases that an upper bound of what is kept names.
 use Rattle.std.proofs.Common.{◌≡◌, refl, sym, ◌∙◌, ap, subst, Bool, true, false, ◌&&◌, ◌||◌, not, List, [], ◌∷◌, ◌++◌, ◌⊎◌, inl, inr, ⊎_elim, if◌then◌else◌}
 use Rattle.std.specs.declared.cmp.Ordering.{Ordering}
 use Rattle.std.specs.declared.cmp.Ordering.TheVariants.{Less, Equal, Greater}
@@ -14,9 +14,8 @@ use Rattle.semver_core.specs.OrderLaws.{precedence_total}
 use Rattle.semver_core.specs.Versions.{VersionValue}
 use Rattle.nodejs_semver.specs.Accepts.{is_release, same_triple, names, lets_in, accepts}
 use Rattle.nodejs_semver.specs.Least.{beyond}
-use Rattle.nodejs_semver.specs.Candidates.{zero, bare, release_of, first_pre, next_pre, next_patch, after_cut, release_after, firsts, marks_at, marks, span_marks, candidates}
+use Rattle.nodejs_semver.specs.Candidates.{zero, bare, release_of, first_pre, next_pre, next_patch, after_cut, release_after, firsts, beside, below_at, below_named, kept_marks, removed_marks, candidates}
 use Rattle.nodejs_semver.proofs.Keys.{triple_cmp, same_triple_is, triple_total, triple_upto, pre_decides, upto_by_both, then_not_gt, le_not_gt, not_gt_le, far_less, past_not_gt, not_gt_both, next_patch_least, next_patch_above, next_pre_above, release_above, pre_of_not_gt, next_not_empty, pre_next_least, first_pre_least, near_past, is_eq_is, empty_is, zero_first}
-use Rattle.std.proofs.lemmas.Grind.{flat_map-append}
 
 -- an element of a list, and a fact of each
 
@@ -82,26 +81,14 @@ module _ {V : Type 0} {R : V → V → Ordering} (o : IsTotalOrder R) (v : V) wh
       by_test true false p t f (g, k) = (g, record { past = k.past; above = k.above; tops = (λ _. upto (cut_total o) d c g t k.above, k.tops); found = ⊎_elim inl (λ m. inr (inr m)) k.found })
       by_test false t p q f (g, k) = (g, record { past = k.past; above = k.above; tops = (λ r. cc, k.tops); found = ⊎_elim inl (λ m. inr (inr m)) k.found })
 
-  -- a point that is not above v, and past the greatest cut that v is past, lies past the same ones
-  past_up : (d : Cut V) (x : V) → is_gt (R x v) ≡ false → is_past R d x ≡ true → is_past R d v ≡ true
+  -- what a point lies past that is not above v, v lies past
+  pub past_up : (d : Cut V) (x : V) → is_gt (R x v) ≡ false → is_past R d x ≡ true → is_past R d v ≡ true
   past_up d x h p = not_gt_le _ (upto (cut_total o) d (Beside x Near) (Beside v Near) (le_not_gt _ p) (near_not_gt (R x v) h))
     where
       near_not_gt : (r : Ordering) → is_gt r ≡ false → is_gt (ordering_then r Equal) ≡ false
       near_not_gt Less h = refl
       near_not_gt Equal h = refl
       near_not_gt Greater h = cc
-
-  same_test : (a b : Bool) → (a ≡ true → b ≡ true) → (b ≡ true → a ≡ true) → a ≡ b
-  same_test true b f g = sym (f refl)
-  same_test false true f g = g refl
-  same_test false false f g = refl
-
-  pub same_side : (c : Cut V) (ds : List (Cut V)) (g : Cut V) (x : V) → Greatest c ds g → is_past R g x ≡ true → is_gt (R x v) ≡ false → Each (λ d. is_past R d x ≡ is_past R d v) ds
-  same_side c ds g x k p h = along ds k.tops
-    where
-      along : (es : List (Cut V)) → Each (λ d. is_past R d v ≡ true → is_gt (cut_cmp R d g) ≡ false) es → Each (λ d. is_past R d x ≡ is_past R d v) es
-      along [] t = tt
-      along (e ∷ es) t = (same_test _ _ (past_up e x h) (λ q. is_past-down o e g x (t.0 q) p), along es t.1)
 
 -- versions that are releases alike, and of one triple if they are none
 pub record Alike (x v : VersionValue) : Type 0 where
@@ -126,36 +113,29 @@ lets_in_alike s x v k = by_test (is_release v) refl
         ∙ ap (λ q. is_release v || (q || names s.upper x)) (names_alike s.lower x v (k.triple r))
         ∙ ap (λ q. is_release v || (names s.lower v || q)) (names_alike s.upper x v (k.triple r))
 
--- the same side of each mark is the same side of both cuts
-at_mark : (w : VersionValue) (s : Side) (x v : VersionValue) → Each (λ d. is_past precedence d x ≡ is_past precedence d v) (marks_at w s) → is_past precedence (Beside w s) x ≡ is_past precedence (Beside w s) v
-at_mark w s x v e = by_test (is_release w) e
+or_true : (a b : Bool) → b ≡ true → (a || b) ≡ true
+or_true true b h = refl
+or_true false b h = h
+
+-- what a list accepts of one version it accepts of another one that its spans let in alike, if they hold it
+pub accepts_from : (ss : List (Span VersionValue)) (x y : VersionValue) → ((s : Span VersionValue) → lets_in s y ≡ lets_in s x)
+    → Each (λ s. holds precedence s y ≡ true → holds precedence s x ≡ true) ss → accepts ss y false ≡ true → accepts ss x false ≡ true
+accepts_from [] x y gate e h = h
+accepts_from (s ∷ ss) x y gate e h =
+    by_test (holds precedence s y) (lets_in s y) (holds precedence s x) (lets_in s x) (accepts ss y false) (accepts ss x false) e.0 (gate s) (accepts_from ss x y gate e.1) h
   where
-    by_test : (r : Bool) → Each (λ d. is_past precedence d x ≡ is_past precedence d v) (if r then Beside w s ∷ [] else Beside (first_pre w) Near ∷ Beside w s ∷ []) → is_past precedence (Beside w s) x ≡ is_past precedence (Beside w s) v
-    by_test true e = e.0
-    by_test false e = e.1.0
+    by_test : (p q p' q' r r' : Bool) → (p ≡ true → p' ≡ true) → q ≡ q' → (r ≡ true → r' ≡ true) → ((p && q) || r) ≡ true → ((p' && q') || r') ≡ true
+    by_test true true p' q' r r' f g k h = ap (λ a. (a && q') || r') (f refl) ∙ ap (λ a. a || r') (sym g)
+    by_test true false p' q' r r' f g k h = or_true (p' && q') r' (k h)
+    by_test false q p' q' r r' f g k h = or_true (p' && q') r' (k h)
 
-marks_lower : (b : Bound VersionValue) (x v : VersionValue) → Each (λ d. is_past precedence d x ≡ is_past precedence d v) (marks b) → is_past precedence (lower_cut b) x ≡ is_past precedence (lower_cut b) v
-marks_lower Unbounded x v e = refl
-marks_lower (Before w) x v e = at_mark w Near x v e
-marks_lower (After w) x v e = at_mark w Far x v e
-
-marks_upper : (b : Bound VersionValue) (x v : VersionValue) → Each (λ d. is_past precedence d x ≡ is_past precedence d v) (marks b) → is_past precedence (upper_cut b) x ≡ is_past precedence (upper_cut b) v
-marks_upper Unbounded x v e = refl
-marks_upper (Before w) x v e = at_mark w Near x v e
-marks_upper (After w) x v e = at_mark w Far x v e
-
-pub accepts_alike : (ss : List (Span VersionValue)) (x v : VersionValue) → Alike x v → Each (λ d. is_past precedence d x ≡ is_past precedence d v) (flat_map span_marks ss) → accepts ss x false ≡ accepts ss v false
-accepts_alike [] x v k e = refl
-accepts_alike (s ∷ ss) x v k e =
-    let here = Each-left (λ d. is_past precedence d x ≡ is_past precedence d v) (span_marks s) (flat_map span_marks ss) e in
-    let low : is_past precedence (lower_cut s.lower) x ≡ is_past precedence (lower_cut s.lower) v = marks_lower s.lower x v (Each-left _ (marks s.lower) (marks s.upper) here) in
-    let up : is_past precedence (upper_cut s.upper) x ≡ is_past precedence (upper_cut s.upper) v = marks_upper s.upper x v (Each-right _ (marks s.lower) (marks s.upper) here) in
-    let gate : lets_in s x ≡ lets_in s v = lets_in_alike s x v k in
-    let rest : accepts ss x false ≡ accepts ss v false = accepts_alike ss x v k (Each-right _ (span_marks s) (flat_map span_marks ss) e) in
-    ap (λ q. ((q && not (is_past precedence (upper_cut s.upper) x)) && lets_in s x) || accepts ss x false) low
-    ∙ ap (λ q. ((is_past precedence (lower_cut s.lower) v && not q) && lets_in s x) || accepts ss x false) up
-    ∙ ap (λ q. (holds precedence s v && q) || accepts ss x false) gate
-    ∙ ap (λ q. (holds precedence s v && lets_in s v) || q) rest
+pub accepts_same : (ss : List (Span VersionValue)) (x y : VersionValue) → ((s : Span VersionValue) → lets_in s x ≡ lets_in s y)
+    → ((s : Span VersionValue) → holds precedence s x ≡ holds precedence s y) → accepts ss x false ≡ accepts ss y false
+accepts_same [] x y gate e = refl
+accepts_same (s ∷ ss) x y gate e =
+    ap (λ q. (q && lets_in s x) || accepts ss x false) (e s)
+    ∙ ap (λ q. (holds precedence s y && q) || accepts ss x false) (gate s)
+    ∙ ap (λ q. (holds precedence s y && lets_in s y) || q) (accepts_same ss x y gate e)
 
 -- x begins the piece of the line in which v lies, and is of v's kind
 pub record Begins (g : Cut VersionValue) (v x : VersionValue) : Type 0 where
@@ -206,7 +186,7 @@ begins_release (Beside w s) v k h = by_test (is_release w) s refl h
     by_test false s r h = (
       release_of w,
       record {
-        found = in_else _ (release_of w) _ _ r (inl refl);
+        found = in_else _ (release_of w) _ _ r (inr (inl refl));
         past = ap (λ q. is_le (ordering_then q (side_cmp s Near))) (release_above w r);
         below = upto_by_both (release_of w) v (triple_upto w v (past_not_gt (precedence w v) (side_cmp s Near) h)) (ap is_gt v_last);
         alike = kind_of_release (release_of w) v refl k;
@@ -234,7 +214,7 @@ begins_pre (Beside u s) w v k e m h =
     by_side Near t r n h = (
       bare u,
       record {
-        found = in_else (is_release u) (bare u) (release_after u Near ∷ []) (release_of u ∷ after_cut u Near ∷ []) r (inr (inl refl));
+        found = in_else (is_release u) (bare u) (release_after u Near ∷ []) (after_cut u Near ∷ release_of u ∷ []) r (inl refl);
         past = ap (λ q. is_le (ordering_then q Equal)) (tied_itself precedence_total u);
         below = n;
         alike = record { release = r ∙ sym k; triple = λ _. t };
@@ -243,7 +223,7 @@ begins_pre (Beside u s) w v k e m h =
     by_side Far t r n h = (
       next_pre u,
       record {
-        found = in_else (is_release u) (next_pre u) (release_after u Far ∷ []) (release_of u ∷ after_cut u Far ∷ []) r (inr (inl refl));
+        found = in_else (is_release u) (next_pre u) (release_after u Far ∷ []) (after_cut u Far ∷ release_of u ∷ []) r (inl refl);
         past = ap (λ q. is_le (ordering_then q Greater)) (next_pre_above u r);
         below = upto_by_both (next_pre u) v (ap is_gt t)
             (pre_next_least u.pre_release v.pre_release r (sym (pre_decides u v t) ∙ far_less (precedence u v) h));
@@ -267,72 +247,153 @@ not_true : (a : Bool) → not a ≡ true → a ≡ false
 not_true true h = cc
 not_true false h = refl
 
--- w is a pre-release of v's triple, and the cut below all such is among the marks
-pub record NamedBy (v : VersionValue) (ds : List (Cut VersionValue)) (w : VersionValue) : Type 0 where
+-- w is of v's triple, and the cut below its pre-releases is not above g
+pub record NamedBy (v : VersionValue) (g : Cut VersionValue) (w : VersionValue) : Type 0 where
   pub triple : triple_cmp w v ≡ Equal
-  pub marked : In (Beside (first_pre w) Near) ds
+  pub above : is_gt (cut_cmp precedence (Beside (first_pre w) Near) g) ≡ false
 
-named_at : (w v : VersionValue) (s : Side) → (not (is_release w) && same_triple w v) ≡ true → (x : VersionValue) × NamedBy v (marks_at w s) x
-named_at w v s h =
-    (w, record { triple = is_eq_is (triple_cmp w v) (sym (same_triple_is w v) ∙ and_right (not (is_release w)) (same_triple w v) h); marked = in_else (is_release w) _ (Beside w s ∷ []) _ (not_true _ (and_left _ _ h)) (inl refl) })
+-- every mark that v lies past is not above g
+abbrev Top : VersionValue → Cut VersionValue → List (Cut VersionValue) → Type 0
+Top v g ds = Each (λ d. is_past precedence d v ≡ true → is_gt (cut_cmp precedence d g) ≡ false) ds
 
-named_bound : (b : Bound VersionValue) (v : VersionValue) → names b v ≡ true → (x : VersionValue) × NamedBy v (marks b) x
-named_bound Unbounded v h = cc
-named_bound (Before w) v h = named_at w v Near h
-named_bound (After w) v h = named_at w v Far h
+first_below : (w : VersionValue) (s : Side) → is_release w ≡ false → is_gt (cut_cmp precedence (Beside (first_pre w) Near) (Beside w s)) ≡ false
+first_below w s k = by_side (precedence (first_pre w) w) s (upto_by_both (first_pre w) w (ap is_gt (tied_itself triple_total w)) (first_pre_least w.pre_release k))
+  where
+    by_side : (r : Ordering) (s : Side) → is_gt r ≡ false → is_gt (ordering_then r (side_cmp Near s)) ≡ false
+    by_side Less s h = refl
+    by_side Equal Near h = refl
+    by_side Equal Far h = refl
+    by_side Greater s h = cc
 
-more_left : (v : VersionValue) (ds es : List (Cut VersionValue)) → (x : VersionValue) × NamedBy v ds x → (x : VersionValue) × NamedBy v (ds ++ es) x
-more_left v ds es (x, n) = (x, record { triple = n.triple; marked = In-append_left _ ds es n.marked })
+named_triple : (w v : VersionValue) → (not (is_release w) && same_triple w v) ≡ true → triple_cmp w v ≡ Equal
+named_triple w v h = is_eq_is (triple_cmp w v) (sym (same_triple_is w v) ∙ and_right (not (is_release w)) (same_triple w v) h)
 
-more_right : (v : VersionValue) (ds es : List (Cut VersionValue)) → (x : VersionValue) × NamedBy v es x → (x : VersionValue) × NamedBy v (ds ++ es) x
-more_right v ds es (x, n) = (x, record { triple = n.triple; marked = In-append_right _ ds es n.marked })
+named_pre : (w v : VersionValue) → (not (is_release w) && same_triple w v) ≡ true → is_release w ≡ false
+named_pre w v h = not_true (is_release w) (and_left (not (is_release w)) (same_triple w v) h)
 
-named_span : (s : Span VersionValue) (v : VersionValue) → is_release v ≡ false → lets_in s v ≡ true → (x : VersionValue) × NamedBy v (span_marks s) x
-named_span s v k h =
+-- by a lower bound, past which v lies
+named_lower : (b : Bound VersionValue) (v : VersionValue) (g : Cut VersionValue) → names b v ≡ true → is_past precedence (lower_cut b) v ≡ true → Top v g (beside b) → (x : VersionValue) × NamedBy v g x
+named_lower Unbounded v g h p e = cc
+named_lower (Before w) v g h p e =
+    (w, record { triple = named_triple w v h; above = upto (cut_total precedence_total) (Beside (first_pre w) Near) (Beside w Near) g (first_below w Near (named_pre w v h)) (e.0 p) })
+named_lower (After w) v g h p e =
+    (w, record { triple = named_triple w v h; above = upto (cut_total precedence_total) (Beside (first_pre w) Near) (Beside w Far) g (first_below w Far (named_pre w v h)) (e.0 p) })
+
+-- by an upper bound, with the cut below the pre-releases that it names
+named_upper_at : (w v : VersionValue) (g : Cut VersionValue) → is_release v ≡ false → (not (is_release w) && same_triple w v) ≡ true → Top v g (below_at w) → (x : VersionValue) × NamedBy v g x
+named_upper_at w v g k h e =
+    let past : is_past precedence (Beside (first_pre w) Near) v ≡ true = near_past (precedence (first_pre w) v) (upto_by_both (first_pre w) v (ap is_gt (named_triple w v h)) (first_pre_least v.pre_release k)) in
+    (w, record { triple = named_triple w v h; above = by_test (is_release w) (named_pre w v h) e past })
+  where
+    by_test : (r : Bool) → r ≡ false → Top v g (if r then [] else Beside (first_pre w) Near ∷ []) → is_past precedence (Beside (first_pre w) Near) v ≡ true → is_gt (cut_cmp precedence (Beside (first_pre w) Near) g) ≡ false
+    by_test true q e p = cc
+    by_test false q e p = e.0 p
+
+named_upper : (b : Bound VersionValue) (v : VersionValue) (g : Cut VersionValue) → is_release v ≡ false → names b v ≡ true → Top v g (below_named b) → (x : VersionValue) × NamedBy v g x
+named_upper Unbounded v g k h e = cc
+named_upper (Before w) v g k h e = named_upper_at w v g k h e
+named_upper (After w) v g k h e = named_upper_at w v g k h e
+
+named_span : (s : Span VersionValue) (v : VersionValue) (g : Cut VersionValue) → is_release v ≡ false → (holds precedence s v && lets_in s v) ≡ true → Top v g (kept_marks s) → (x : VersionValue) × NamedBy v g x
+named_span s v g k h e =
     ⊎_elim
-    (λ n. more_left v (marks s.lower) (marks s.upper) (named_bound s.lower v n))
-    (λ n. more_right v (marks s.lower) (marks s.upper) (named_bound s.upper v n))
-    (or_cases (names s.lower v) (names s.upper v) (sym (ap (λ q. q || (names s.lower v || names s.upper v)) k) ∙ h))
+    (λ n. named_lower s.lower v g n (and_left (is_past precedence (lower_cut s.lower) v) (not (is_past precedence (upper_cut s.upper) v)) (and_left (holds precedence s v) (lets_in s v) h)) (Each-left _ (beside s.lower) (below_named s.upper) e))
+    (λ n. named_upper s.upper v g k n (Each-right _ (beside s.lower) (below_named s.upper) e))
+    (or_cases (names s.lower v) (names s.upper v) (sym (ap (λ q. q || (names s.lower v || names s.upper v)) k) ∙ and_right (holds precedence s v) (lets_in s v) h))
 
-named_list : (ss : List (Span VersionValue)) (v : VersionValue) → is_release v ≡ false → accepts ss v false ≡ true → (x : VersionValue) × NamedBy v (flat_map span_marks ss) x
-named_list [] v k h = cc
-named_list (s ∷ ss) v k h =
+named_list : (ss : List (Span VersionValue)) (v : VersionValue) (g : Cut VersionValue) → is_release v ≡ false → accepts ss v false ≡ true → Top v g (flat_map kept_marks ss) → (x : VersionValue) × NamedBy v g x
+named_list [] v g k h e = cc
+named_list (s ∷ ss) v g k h e =
     ⊎_elim
-    (λ n. more_left v (span_marks s) (flat_map span_marks ss) (named_span s v k (and_right _ _ n)))
-    (λ n. more_right v (span_marks s) (flat_map span_marks ss) (named_list ss v k n))
+    (λ n. named_span s v g k n (Each-left _ (kept_marks s) (flat_map kept_marks ss) e))
+    (λ n. named_list ss v g k n (Each-right _ (kept_marks s) (flat_map kept_marks ss) e))
     (or_cases (holds precedence s v && lets_in s v) (accepts ss v false) h)
+
+-- x is past g, and not above v
+module _ (v x : VersionValue) (g : Cut VersionValue) (past : is_past precedence g x ≡ true) (below : is_gt (precedence x v) ≡ false) where
+  mark_past : (d : Cut VersionValue) → (is_past precedence d v ≡ true → is_gt (cut_cmp precedence d g) ≡ false) → is_past precedence d v ≡ true → is_past precedence d x ≡ true
+  mark_past d f p = is_past-down precedence_total d g x (f p) past
+
+  lower_past : (b : Bound VersionValue) → Top v g (beside b) → is_past precedence (lower_cut b) v ≡ true → is_past precedence (lower_cut b) x ≡ true
+  lower_past Unbounded e p = refl
+  lower_past (Before w) e p = mark_past (Beside w Near) e.0 p
+  lower_past (After w) e p = mark_past (Beside w Far) e.0 p
+
+  upper_past : (b : Bound VersionValue) → Top v g (beside b) → is_past precedence (upper_cut b) v ≡ true → is_past precedence (upper_cut b) x ≡ true
+  upper_past Unbounded e p = cc
+  upper_past (Before w) e p = mark_past (Beside w Near) e.0 p
+  upper_past (After w) e p = mark_past (Beside w Far) e.0 p
+
+  held : (a b c d : Bool) → (a ≡ true → c ≡ true) → (d ≡ true → b ≡ true) → (a && not b) ≡ true → (c && not d) ≡ true
+  held true true c d f h k = cc
+  held true false c true f h k = cc (h refl)
+  held true false c false f h k = ap (λ q. q && true) (f refl)
+  held false b c d f h k = cc
+
+  -- a span that holds v holds x
+  kept_held : (ss : List (Span VersionValue)) → Top v g (flat_map kept_marks ss) → Each (λ s. holds precedence s v ≡ true → holds precedence s x ≡ true) ss
+  kept_held [] e = tt
+  kept_held (s ∷ ss) e = (
+    held (is_past precedence (lower_cut s.lower) v) (is_past precedence (upper_cut s.upper) v) (is_past precedence (lower_cut s.lower) x) (is_past precedence (upper_cut s.upper) x)
+        (lower_past s.lower (Each-left _ (beside s.lower) (below_named s.upper) (Each-left _ (kept_marks s) (flat_map kept_marks ss) e)))
+        (past_up precedence_total v (upper_cut s.upper) x below),
+    kept_held ss (Each-right _ (kept_marks s) (flat_map kept_marks ss) e),
+  )
+
+  -- a span that holds x holds v
+  removed_held : (ss : List (Span VersionValue)) → Top v g (flat_map removed_marks ss) → Each (λ s. holds precedence s x ≡ true → holds precedence s v ≡ true) ss
+  removed_held [] e = tt
+  removed_held (s ∷ ss) e = (
+    held (is_past precedence (lower_cut s.lower) x) (is_past precedence (upper_cut s.upper) x) (is_past precedence (lower_cut s.lower) v) (is_past precedence (upper_cut s.upper) v)
+        (past_up precedence_total v (lower_cut s.lower) x below)
+        (upper_past s.upper (Each-left _ (removed_marks s) (flat_map removed_marks ss) e)),
+    removed_held ss (Each-right _ (removed_marks s) (flat_map removed_marks ss) e),
+  )
 
 -- whatever is beyond, a candidate that is not above it is beyond too
 pub record Covers (ks ls : List (Span VersionValue)) (v x : VersionValue) : Type 0 where
-  pub found : In x (candidates (ks ++ ls))
+  pub found : In x (candidates ks ls)
   pub inside : beyond ks ls x ≡ true
   pub below : is_gt (precedence x v) ≡ false
 
 pub candidate : (ks ls : List (Span VersionValue)) (v : VersionValue) → beyond ks ls v ≡ true → (x : VersionValue) × Covers ks ls v x
 candidate ks ls v h =
-    let (g, k) = greatest precedence_total v Start (flat_map span_marks (ks ++ ls)) refl in
+    let (g, k) = greatest precedence_total v Start (flat_map kept_marks ks ++ flat_map removed_marks ls) refl in
     by_kind g k (is_release v) refl
   where
-    done : (g : Cut VersionValue) → Greatest precedence_total v Start (flat_map span_marks (ks ++ ls)) g → (x : VersionValue) × Begins g v x → (x : VersionValue) × Covers ks ls v x
+    kept : accepts ks v false ≡ true
+    kept = and_left (accepts ks v false) (not (accepts ls v false)) h
+
+    gone : accepts ls v false ≡ false
+    gone = not_true (accepts ls v false) (and_right (accepts ks v false) (not (accepts ls v false)) h)
+
+    refuted : (a : Bool) → (a ≡ true → ⊥) → a ≡ false
+    refuted true f = absurd (f refl)
+    refuted false f = refl
+
+    clash : (a : Bool) → a ≡ false → a ≡ true → ⊥
+    clash a h k = cc
+
+    inside : (a b : Bool) → a ≡ true → b ≡ false → (a && not b) ≡ true
+    inside a b h k = ap (λ q. q && not b) h ∙ ap not k
+
+    done : (g : Cut VersionValue) → Greatest precedence_total v Start (flat_map kept_marks ks ++ flat_map removed_marks ls) g → (x : VersionValue) × Begins g v x → (x : VersionValue) × Covers ks ls v x
     done g k (x, b) =
-        let side = same_side precedence_total v Start (flat_map span_marks (ks ++ ls)) g x k b.past b.below in
-        let both = subst (Each (λ d. is_past precedence d x ≡ is_past precedence d v)) (flat_map-append span_marks ks ls) side in
-        let kept : accepts ks x false ≡ accepts ks v false = accepts_alike ks x v b.alike (Each-left _ (flat_map span_marks ks) (flat_map span_marks ls) both) in
-        let gone : accepts ls x false ≡ accepts ls v false = accepts_alike ls x v b.alike (Each-right _ (flat_map span_marks ks) (flat_map span_marks ls) both) in (
+        let gate = λ (s : Span VersionValue). lets_in_alike s x v b.alike in
+        let top_kept : Top v g (flat_map kept_marks ks) = Each-left _ (flat_map kept_marks ks) (flat_map removed_marks ls) k.tops in
+        let top_removed : Top v g (flat_map removed_marks ls) = Each-right _ (flat_map kept_marks ks) (flat_map removed_marks ls) k.tops in
+        let in_kept : accepts ks x false ≡ true = accepts_from ks x v (λ s. sym (gate s)) (kept_held v x g b.past b.below ks top_kept) kept in
+        let in_removed : accepts ls x false ≡ false = refuted (accepts ls x false) (λ t. clash (accepts ls v false) gone (accepts_from ls v x gate (removed_held v x g b.past b.below ls top_removed) t)) in (
           x,
           record {
-            found = In-flat_map firsts g x (Start ∷ flat_map span_marks (ks ++ ls)) k.found b.found;
-            inside = ap (λ q. q && not (accepts ls x false)) kept ∙ ap (λ q. accepts ks v false && not q) gone ∙ h;
+            found = In-flat_map firsts g x (Start ∷ (flat_map kept_marks ks ++ flat_map removed_marks ls)) k.found b.found;
+            inside = inside (accepts ks x false) (accepts ls x false) in_kept in_removed;
             below = b.below;
           },
         )
 
-    by_kind : (g : Cut VersionValue) → Greatest precedence_total v Start (flat_map span_marks (ks ++ ls)) g → (r : Bool) → is_release v ≡ r → (x : VersionValue) × Covers ks ls v x
+    by_kind : (g : Cut VersionValue) → Greatest precedence_total v Start (flat_map kept_marks ks ++ flat_map removed_marks ls) g → (r : Bool) → is_release v ≡ r → (x : VersionValue) × Covers ks ls v x
     by_kind g k true r = done g k (begins_release g v r k.past)
     by_kind g k false r =
-        let (w, n) = named_list ks v r (and_left (accepts ks v false) (not (accepts ls v false)) h) in
-        let P : List (Cut VersionValue) → Type 0 = λ ds. In (Beside (first_pre w) Near) ds in
-        let marked : P (flat_map span_marks (ks ++ ls)) = subst P (sym (flat_map-append span_marks ks ls)) (In-append_left _ (flat_map span_marks ks) (flat_map span_marks ls) n.marked) in
-        let reached : is_past precedence (Beside (first_pre w) Near) v ≡ true =
-        near_past (precedence (first_pre w) v) (upto_by_both (first_pre w) v (ap is_gt n.triple) (first_pre_least v.pre_release r)) in
-        done g k (begins_pre g w v r n.triple (Each-In (λ d. is_past precedence d v ≡ true → is_gt (cut_cmp precedence d g) ≡ false) (Beside (first_pre w) Near) (flat_map span_marks (ks ++ ls)) k.tops marked reached) k.past)
+        let (w, n) = named_list ks v g r kept (Each-left _ (flat_map kept_marks ks) (flat_map removed_marks ls) k.tops) in
+        done g k (begins_pre g w v r n.triple n.above k.past)

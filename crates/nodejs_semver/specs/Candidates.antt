@@ -41,27 +41,40 @@ release_after w Far = next_patch w
 -- the versions that can be the first of a piece of the line that begins at the cut
 abbrev pub firsts : Cut VersionValue → List VersionValue
 firsts Start = zero ∷ []
-firsts (Beside w s) = if is_release w then release_after w s ∷ [] else release_of w ∷ after_cut w s ∷ []
+firsts (Beside w s) = if is_release w then release_after w s ∷ [] else after_cut w s ∷ release_of w ∷ []
 firsts End = []
 
--- the cuts that a bound brings, with the one below all pre-releases of its triple if it names one
-abbrev pub marks_at : VersionValue → Side → List (Cut VersionValue)
-marks_at w s = if is_release w then Beside w s ∷ [] else Beside (first_pre w) Near ∷ Beside w s ∷ []
+-- the cut that a bound makes, on whichever side
+abbrev pub beside : Bound VersionValue → List (Cut VersionValue)
+beside Unbounded = []
+beside (Before w) = Beside w Near ∷ []
+beside (After w) = Beside w Far ∷ []
 
-abbrev pub marks : Bound VersionValue → List (Cut VersionValue)
-marks Unbounded = []
-marks (Before w) = marks_at w Near
-marks (After w) = marks_at w Far
+-- the cut below the pre-releases that a bound names
+abbrev pub below_at : VersionValue → List (Cut VersionValue)
+below_at w = if is_release w then [] else Beside (first_pre w) Near ∷ []
 
-abbrev pub span_marks : Span VersionValue → List (Cut VersionValue)
-span_marks s = marks s.lower ++ marks s.upper
+abbrev pub below_named : Bound VersionValue → List (Cut VersionValue)
+below_named Unbounded = []
+below_named (Before w) = below_at w
+below_named (After w) = below_at w
 
-abbrev pub span_firsts : Span VersionValue → List VersionValue
-span_firsts s = flat_map firsts (span_marks s)
+-- where what a span accepts may begin, and where it ends
+abbrev pub kept_marks : Span VersionValue → List (Cut VersionValue)
+kept_marks s = beside s.lower ++ below_named s.upper
+
+abbrev pub removed_marks : Span VersionValue → List (Cut VersionValue)
+removed_marks s = beside s.upper
+
+abbrev pub kept_firsts : Span VersionValue → List VersionValue
+kept_firsts s = flat_map firsts (kept_marks s)
+
+abbrev pub removed_firsts : Span VersionValue → List VersionValue
+removed_firsts s = flat_map firsts (removed_marks s)
 
 -- every version that can be the least beyond
-abbrev pub candidates : List (Span VersionValue) → List VersionValue
-candidates ss = flat_map firsts (Start ∷ flat_map span_marks ss)
+abbrev pub candidates : List (Span VersionValue) → List (Span VersionValue) → List VersionValue
+candidates ks ls = flat_map firsts (Start ∷ (flat_map kept_marks ks ++ flat_map removed_marks ls))
 
 -- the least version of a set that a list names, the first of equal ones
 abbrev pub improves : Option VersionValue → VersionValue → Bool

@@ -28,7 +28,6 @@ pub mod Examples
 pub mod Least
 pub mod Candidates
 pub mod Best
-pub mod Choosing
 pub mod Outside
 pub mod Printed
 pub mod ComesBack

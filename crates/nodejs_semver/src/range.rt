@@ -24,6 +24,9 @@ use std::alloc::{AllocError, Global};
 use std::marker::Model;
 
 /// A range: the versions of one or more intervals. It is what a range text such as `^1.2 || >=3.0.0-rc` names.
+///
+/// A range keeps its intervals and not the text that it was read from, so it prints in a normal form: `^1.2` prints
+/// `>=1.2.0 <2.0.0-0`.
 #[derive(Debug, Drop)]
 pub struct Range {
     intervals: Vec<Interval<Version>>,
@@ -44,7 +47,9 @@ impl Model for Range {
 }
 
 impl Range {
-    /// The range of all versions: one interval without bounds. The error is want of memory.
+    /// The range with one interval, which has no bounds. It holds every version, but `satisfies` accepts releases alone, since
+    /// it names no pre-release; `satisfies_with_prerelease` with the flag accepts every version. Fails only if allocation
+    /// fails.
     pub fn any(alloc: Global) -> Result<Range, AllocError>
         ensures { IfOk result (λ r. r ≡ any_version) }
     {
@@ -53,7 +58,7 @@ impl Range {
         Ok(Range { intervals })
     }
 
-    /// The whole value again, builds included. The error is want of memory.
+    /// A copy of the whole range, builds included. Fails only if allocation fails.
     pub fn copy(&self, alloc: Global) -> Result<Range, AllocError>
         ensures { IfOk result (λ r. r ≡ self.now) }
     {
@@ -61,15 +66,15 @@ impl Range {
         Ok(Range { intervals })
     }
 
-    /// The intervals in order.
-    pub(crate) fn intervals(&self) -> &[Interval<Version>]
+    /// The intervals, in the order in which the text names them: one or more, which may overlap.
+    pub fn intervals(&self) -> &[Interval<Version>]
         ensures value { result.now ≡ self.now }
         ensures valid { IsRange MAX_SAFE_INTEGER self.now }
     {
         &self.intervals
     }
 
-    /// The range of these intervals, or none where there is no interval.
+    // The range of these intervals, or none where there is no interval.
     pub(crate) fn from_intervals(intervals: Vec<Interval<Version>>) -> Option<Range>
         requires { list_all (is_range_span (MAX_SAFE_INTEGER + 1)) intervals.items ≡ true }
         ensures { result ≡ if_any intervals.items }

@@ -10,6 +10,5 @@ mod syntax;
 mod table;
 mod words;
 
-pub(crate) use crate::readers::loose::is_blank;
-pub use crate::readers::loose::range_loose;
+pub use crate::readers::loose::{is_blank, range_loose};
 pub use semver_core::readers::version_loose;

@@ -1,13 +1,13 @@
 // Identifiers: what they are, their order, equality and hash.
 
-ghost use Rattle.std.specs.Prelude.{◌≡◌, Some, refl, IfOk, OnErr};
+ghost use Rattle.std.specs.Prelude.{◌≡◌, ◌<◌, Some, refl, IfOk, OnErr, length};
 ghost use Rattle.semver_core.specs.Identifiers.{IsText};
 ghost use Rattle.std.specs.Cmp.{eq_by_cmp_equiv, on_equiv, on_per, on_po, on_total, partial_equiv_from_equiv, po};
 ghost use Rattle.std.specs.Ordering.{is_eq, eq_by_cmp};
 ghost use Rattle.semver_core.specs.Hashes.{id_writes};
 ghost use Rattle.semver_core.specs.Order.{id_cmp};
 ghost use Rattle.semver_core.specs.OrderLaws.{id_alike, id_total};
-ghost use Rattle.semver_core.specs.Views.{id_view};
+ghost use Rattle.semver_core.specs.Views.{id_view, ids_view};
 
 use std::alloc::{AllocError, Global};
 use std::cmp::Ordering;
@@ -26,7 +26,7 @@ pub enum Identifier {
 }
 
 impl Identifier {
-    /// The same identifier again. The error is want of memory, which a number takes none of.
+    /// A copy of the identifier. Fails only if allocation fails; copying a number never does.
     pub fn copy(&self, alloc: Global) -> Result<Identifier, AllocError>
         ensures whole { IfOk result (λ i. id_view i ≡ id_view self.now) }
         ensures memory { OnErr result (IsText (id_view self.now)) }
@@ -35,6 +35,19 @@ impl Identifier {
             Identifier::Numeric(number) => Ok(Identifier::Numeric(*number)),
             Identifier::AlphaNumeric(text) => Ok(Identifier::AlphaNumeric(text.clone()?)),
         }
+    }
+
+    /// A copy of a list of identifiers, with no spare capacity. Fails only if allocation fails; copying an empty list never
+    /// does.
+    pub fn copy_list(alloc: Global, list: &[Identifier]) -> Result<Vec<Identifier>, AllocError>
+        ensures whole { IfOk result (λ copy. ids_view copy.items ≡ ids_view list.now) }
+        ensures memory { OnErr result (0 < length list.now) }
+    {
+        let mut copy = Vec::with_capacity(alloc, list.len())?;
+        for id in list {
+            copy.push(id.copy(alloc)?)?;
+        }
+        Ok(copy)
     }
 }
 

@@ -54,7 +54,7 @@ impl From<bool> for IdentifierBase {
     }
 }
 
-/// The value itself.
+/// The value itself. A literal needs a suffix, since there is an impl for each unsigned type: `IdentifierBase::from(1u64)`.
 impl From<u64> for IdentifierBase {
     ghost use Rattle.std.specs.Prelude.{◌≡◌};
     ghost use Rattle.semver_core.specs.declared.increment.IdentifierBase.TheVariants.{Value};
@@ -211,11 +211,12 @@ fn increment(
     )
 }
 
-// A version's numbers and identifiers are those of 64 bits. No effect at run time.
+// Proof helper: every `Version` satisfies `IsVersion`. The read of a number has no effect at run time.
+#[inline(always)]
 fn is_version(version: &Version)
     ensures { IsVersion version.now }
 {
-    version.major();
+    let _major = version.major();
 }
 
 impl Version {

@@ -178,7 +178,9 @@ fn parse_loose(alloc: Global, text: &str) -> Result<Version, Failure<SemverError
     version_loose(alloc, text)?.ok_or(Failure::Refused(SemverError))
 }
 
-// An identifier of the program is one that there is. No effect at run time: the proof learns a number's range from its read.
+// Proof helper: every `Identifier` of the program satisfies `IsId`. The read of the number has no effect at run time; it tells
+// the proof that the number has 64 bits.
+#[inline(always)]
 fn is_id(id: &Identifier)
     ensures { IsId (id_view id.now) }
 {
@@ -190,7 +192,8 @@ fn is_id(id: &Identifier)
     }
 }
 
-// Likewise a list.
+// Proof helper: likewise each identifier of a list. The loop has no effect, so that the compiler drops it.
+#[inline(always)]
 #[tactic(auto, using(crate::proofs::Compared::ids_more, crate::proofs::Compared::ids_all))]
 fn are_ids(list: &[Identifier])
     ensures { All IsId (ids_view list.now) }

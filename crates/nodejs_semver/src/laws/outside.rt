@@ -14,6 +14,7 @@ pub fn outside_by_cuts(
 ) -> Result<bool, RangeError>
     ensures { result ≡ Ok (is_outside_by_cuts direction range.now version.now) }
 {
-    let _ = range.intervals();
+    // Proof helper: the bounds of a range are those of intervals. The call has no effect at run time.
+    let _intervals = range.intervals();
     range.outside(version, direction, true)
 }

@@ -30,7 +30,7 @@ pub fn reread_range(alloc: Global, range: &Range) -> Result<Range, Failure<Semve
     ensures text { IfOk result (λ again. range_text again ≡ range_text range.now) }
     ensures never_refused { NeverRefused result }
 {
-    // No effect at run time: the proof learns from it that a range has an interval.
+    // Proof helper: a range has an interval. The call has no effect at run time.
     let _intervals = range.intervals();
     match range.to_string(alloc) {
         Ok(text) => Range::parse(alloc, &text),

@@ -13,8 +13,9 @@ use crate::range::lists;
 use std::alloc::{AllocError, Global};
 
 impl Range {
-    /// Whether some one interval of this range covers some one interval of the other, as cuts: `>=1.2.3` allows all of
-    /// `0.1 || 1.4`. Where this range accepts all that the other accepts is another question.
+    /// Whether some one interval of this range covers some one interval of the other, by their cuts: `>=1.2.3` allows all of
+    /// `0.1 || 1.4`. This is not a subset test. For that, see `least_beyond`: `other.least_beyond(alloc, self)` is `None`
+    /// exactly where this range accepts every version that the other accepts.
     pub fn allows_all(&self, other: &Range) -> bool
         ensures { result ≡ covers_one self.now other.now }
     {
@@ -23,76 +24,92 @@ impl Range {
             .any(|interval| lists::covers_one(interval, other.intervals()))
     }
 
-    /// Whether some interval of this range meets some interval of the other. It is true exactly where `intersect` gives a
-    /// range, memory aside.
+    /// Whether some interval of this range meets some interval of the other: whether `intersect` returns a range.
     pub fn allows_any(&self, other: &Range) -> bool
         ensures { result ≡ is_some (intersection self.now other.now) }
     {
-        self.meets(other)
+        self.has_meeting_pair(other)
     }
 
-    /// What both ranges have in common: the intersections of all pairs of intervals, those of this range outside. None
-    /// where no pair meets. The error is want of memory.
+    /// The intersection: what the pairs of intervals have in common, for each interval of this range in order with each of
+    /// the other's. Returns `None` if no pair meets. Fails only if allocation fails.
     ///
     /// Of equal lower bounds the other's is kept with its build, of equal upper bounds this range's.
+    ///
+    /// The list is not normalised: n intervals that all meet m others make n times m intervals, and time and memory grow
+    /// with that product.
     pub fn intersect(&self, alloc: Global, other: &Range) -> Result<Option<Range>, AllocError>
         ensures list { IfOk result (λ r. r ≡ intersection self.now other.now) }
         // It holds what both hold.
         ensures set { IfOk result (λ r. (v : VersionValue) →
-            option_list_holds precedence r v ≡ (list_holds precedence self.now v && list_holds precedence other.now v)) }
+            option_list_holds precedence r v
+            ≡ (list_holds precedence self.now v && list_holds precedence other.now v)) }
         // With pre-releases included it accepts what both accept.
         ensures all { IfOk result (λ r. (v : VersionValue) →
             option_accepts r v true ≡ (accepts self.now v true && accepts other.now v true)) }
         // It accepts what both accept, and nothing that neither accepts.
         ensures both { IfOk result (λ r. (v : VersionValue) →
-            accepts self.now v false ≡ true → accepts other.now v false ≡ true → option_accepts r v false ≡ true) }
+            accepts self.now v false ≡ true → accepts other.now v false ≡ true
+            → option_accepts r v false ≡ true) }
         ensures one { IfOk result (λ r. (v : VersionValue) →
-            option_accepts r v false ≡ true → (accepts self.now v false || accepts other.now v false) ≡ true) }
+            option_accepts r v false ≡ true
+            → (accepts self.now v false || accepts other.now v false) ≡ true) }
         ensures releases { IfOk result (λ r. (v : VersionValue) → is_release v ≡ true →
             option_accepts r v false ≡ (accepts self.now v false && accepts other.now v false)) }
     {
-        let found = self.common(alloc, other)?;
+        let found = self.exact_intersection(alloc, other)?;
         Ok(found)
     }
 
-    /// What this range has and the other has not: from each interval in order the other's are taken away one after
-    /// another. None where nothing is left. The error is want of memory.
+    /// The difference: what is left of each interval of this range, in order, once all of the other's are taken away. Returns
+    /// `None` if nothing is left. Fails only if allocation fails.
     ///
-    /// A bound that comes from the other range carries that bound's build.
+    /// A bound that comes from the other range carries that bound's build. Pre-releases that this range holds and does not
+    /// accept may be accepted by the difference, whose bounds may name others; see `least_beyond`.
+    ///
+    /// Each interval of this range is left in as many pieces as the other's have gaps in it: n intervals less m others make
+    /// at most n times m + 1 pieces. Time was measured to grow with the size of the result, and with m log m.
     pub fn difference(&self, alloc: Global, other: &Range) -> Result<Option<Range>, AllocError>
         ensures list { IfOk result (λ r. r ≡ difference self.now other.now) }
         // It holds what this range holds and the other does not.
         ensures set { IfOk result (λ r. (v : VersionValue) →
-            option_list_holds precedence r v ≡ (list_holds precedence self.now v && not (list_holds precedence other.now v))) }
+            option_list_holds precedence r v
+            ≡ (list_holds precedence self.now v && not (list_holds precedence other.now v))) }
         // With pre-releases included it accepts what this range accepts and the other does not.
         ensures all { IfOk result (λ r. (v : VersionValue) →
             option_accepts r v true ≡ (accepts self.now v true && not (accepts other.now v true))) }
         // It accepts what this range accepts and the other does not hold.
         ensures kept { IfOk result (λ r. (v : VersionValue) →
-            accepts self.now v false ≡ true → list_holds precedence other.now v ≡ false → option_accepts r v false ≡ true) }
+            accepts self.now v false ≡ true → list_holds precedence other.now v ≡ false
+            → option_accepts r v false ≡ true) }
         ensures releases { IfOk result (λ r. (v : VersionValue) → is_release v ≡ true →
-            option_accepts r v false ≡ (accepts self.now v false && not (accepts other.now v false))) }
+            option_accepts r v false
+            ≡ (accepts self.now v false && not (accepts other.now v false))) }
     {
-        let left = self.rest(alloc, other)?;
+        let left = self.exact_difference(alloc, other)?;
         Ok(left)
     }
 
-    fn meets(&self, other: &Range) -> bool
-        ensures { result ≡ list_any (λ s. list_any (λ t. is_some (meet precedence s t)) other.now) self.now }
+    // Whether some pair of intervals meets.
+    fn has_meeting_pair(&self, other: &Range) -> bool
+        ensures { result
+            ≡ list_any (λ s. list_any (λ t. is_some (meet precedence s t)) other.now) self.now }
     {
         self.intervals()
             .iter()
             .any(|interval| lists::meets_one(interval, other.intervals()))
     }
 
-    fn common(&self, alloc: Global, other: &Range) -> Result<Option<Range>, AllocError>
+    // The intersection as a list, in order and with its builds.
+    fn exact_intersection(&self, alloc: Global, other: &Range) -> Result<Option<Range>, AllocError>
         ensures { IfOk result (λ r. r ≡ intersection self.now other.now) }
     {
         let found = lists::intersections(alloc, self.intervals(), other.intervals())?;
         Ok(Range::from_intervals(found))
     }
 
-    fn rest(&self, alloc: Global, other: &Range) -> Result<Option<Range>, AllocError>
+    // The difference as a list, in order and with its builds.
+    fn exact_difference(&self, alloc: Global, other: &Range) -> Result<Option<Range>, AllocError>
         ensures { IfOk result (λ r. r ≡ difference self.now other.now) }
     {
         let left = lists::differences(alloc, self.intervals(), other.intervals())?;

@@ -13,25 +13,20 @@ use semver_core::{Accepts, Version};
 
 impl Range {
     /// Whether the range accepts this version. A pre-release is accepted only where the interval that holds it has a
-    /// bound with a pre-release of the same three numbers: `>=1.2.3-a` accepts 1.2.3-b and 1.3.0, and not 1.3.0-b.
+    /// bound with a pre-release of the same three numbers: `>=1.2.3-a` accepts 1.2.3-b and 1.3.0, and not 1.3.0-b. So the
+    /// range without bounds, which `Range::any` returns, accepts no pre-release.
     pub fn satisfies(&self, version: &Version) -> bool
         ensures gate { result ≡ accepts self.now version.now false }
         ensures valid { IsRange MAX_SAFE_INTEGER self.now }
     {
-        self.is_accepted(version, false)
+        accepts(self.intervals(), version, false)
     }
 
-    /// The same; with the flag, pre-releases are accepted like releases, so that the set of the range alone decides.
+    /// The same; with the flag, pre-releases are accepted like releases, so that the intervals alone decide.
     pub fn satisfies_with_prerelease(&self, version: &Version, include_prerelease: bool) -> bool
         ensures gate { result ≡ accepts self.now version.now include_prerelease }
-        ensures set { IsTrue include_prerelease → result ≡ list_holds precedence self.now version.now }
-        ensures valid { IsRange MAX_SAFE_INTEGER self.now }
-    {
-        self.is_accepted(version, include_prerelease)
-    }
-
-    fn is_accepted(&self, version: &Version, include_prerelease: bool) -> bool
-        ensures gate { result ≡ accepts self.now version.now include_prerelease }
+        ensures set { IsTrue include_prerelease
+            → result ≡ list_holds precedence self.now version.now }
         ensures valid { IsRange MAX_SAFE_INTEGER self.now }
     {
         accepts(self.intervals(), version, include_prerelease)
@@ -63,7 +58,9 @@ pub(crate) fn accepts_one(
     version: &Version,
     include_prerelease: bool,
 ) -> bool
-    ensures { result ≡ (holds precedence interval.now version.now && (include_prerelease || lets_in interval.now version.now)) }
+    ensures { result
+        ≡ (holds precedence interval.now version.now
+        && (include_prerelease || lets_in interval.now version.now)) }
 {
     interval.contains(version) && (include_prerelease || lets_in(interval, version))
 }

@@ -1,8 +1,10 @@
 // The least version that intervals accept, alone or beyond others.
 //
-// The line falls into finitely many pieces, cut at every bound and below the pre-releases of each three numbers that a
-// pre-release bound names. On each piece all releases are accepted alike, and all pre-releases of the named numbers. So the
-// least version is the first of its kind on some piece: these are the candidates, at most four for each bound.
+// Let v be accepted by the first list and not by the second. Of the lower cuts of the first list, the upper cuts of the
+// second, and the cuts below the pre-releases that an upper bound of the first list names, take the greatest that is not
+// after v. The first version of v's kind past that cut, a release or a pre-release of the same three numbers, is not above
+// v, and is accepted by the first list and not by the second either. So the least version is among these first versions:
+// these are the candidates, at most four for an interval of the first list, and two for one of the second.
 
 ghost use Rattle.nodejs_semver.specs.Accepts.{accepts, lets_in};
 ghost use Rattle.nodejs_semver.specs.Candidates as spec;
@@ -11,8 +13,9 @@ ghost use Rattle.semver_core.specs.Cuts.{Beside, Far, Near, holds};
 ghost use Rattle.semver_core.specs.Order.{precedence};
 ghost use Rattle.std.specs.List.{flat_map};
 ghost use Rattle.std.specs.Option.{option_copied};
-ghost use Rattle.std.specs.Ordering.{is_le};
-ghost use Rattle.std.specs.Prelude.{All, IfOk, IfSome, Some, None, OnOk, [], false, find, fold, ◌&&◌, ◌++◌, ◌-◌, ◌<◌, ◌≡◌, ◌^◌};
+ghost use Rattle.semver_core.specs.declared.cuts.bound.Bound.TheVariants.{After};
+ghost use Rattle.std.specs.Prelude.{All, IfOk, IfSome, OnOk, Some, [], false, find, fold};
+ghost use Rattle.std.specs.Prelude.{◌&&◌, ◌-◌, ◌<◌, ◌≡◌, ◌^◌};
 
 use crate::Range;
 use crate::range::gate::{accepts, accepts_one};
@@ -24,15 +27,13 @@ use semver_core::cuts::{Bound, Interval};
 use std::alloc::{AllocError, Global};
 
 impl Range {
-    /// The least version that the range accepts by `satisfies`, or `None` exactly where it accepts no version at all, as
-    /// `>1.0.0 <1.0.1-0`. The error is want of memory.
+    /// The smallest version that the range accepts by `satisfies`. Returns `None` exactly where it accepts no version at all,
+    /// as `>1.0.0 <1.0.1-0`. Fails only if allocation fails.
     ///
-    /// Where the answer comes from a lower bound it has that bound's build: from `>=v` it is v itself, from `>v` the next
-    /// patch where v is a release, and else v with one more identifier, the number 0. So `>1.2.3+b` gives 1.2.4+b. An answer
-    /// that an upper bound alone lets in, as 1.0.1-0 for `>1.0.0 <1.0.1-5`, or one of an interval without a lower bound, has
-    /// no build. Of equal answers it is the one of the first interval.
-    ///
-    /// The time is at most that of asking `satisfies` for four versions a bound.
+    /// A result that comes from a lower bound has that bound's build: from `>=v` it is v itself, from `>v` the next patch
+    /// where v is a release, and else v with one more identifier, the number 0. So `>1.2.3+b` gives 1.2.4+b. A result that an
+    /// upper bound alone lets in, as 1.0.1-0 for `>1.0.0 <1.0.1-5`, or one of an interval without a lower bound, has no
+    /// build. Of equal results it is the one of the first interval.
     #[tactic(auto, using(crate::proofs::Raised::raisable))]
     pub fn min_version(&self, alloc: Global) -> Result<Option<Version>, AllocError>
         ensures least { IfOk result (λ r. stated.IsLeastOf (λ v. accepts self.now v false) r) }
@@ -41,13 +42,11 @@ impl Range {
         least_accepted(alloc, self.intervals())
     }
 
-    /// The least version that this range accepts by `satisfies` and the other does not, without a build, or `None` exactly
-    /// where the other accepts every version that this one accepts. The error is want of memory.
+    /// The smallest version that this range accepts by `satisfies` and the other does not, without a build. Returns `None`
+    /// exactly where the other accepts every version that this one accepts. Fails only if allocation fails.
     ///
-    /// It is not the least version of the difference of the two: `>=1.2.3-a` beyond `>=1.0.0` is 1.2.3-a, which the second
-    /// range holds and does not let in.
-    ///
-    /// The time is at most that of asking both ranges for four versions a bound of either of them.
+    /// It is not the smallest version of the difference of the two: `>=1.2.3-a` beyond `>=1.0.0` is 1.2.3-a, which the
+    /// second range holds and does not accept.
     #[tactic(auto, using(crate::proofs::Raised::raisable))]
     pub fn least_beyond(&self, alloc: Global, other: &Range) -> Result<Option<Version>, AllocError>
         ensures least { IfOk result (λ r. stated.IsLeastOf (stated.beyond self.now other.now) r) }
@@ -57,169 +56,198 @@ impl Range {
     }
 }
 
-// Whether the version is below the best so far, and the first list accepts it and the second does not.
-fn improves(
-    best: &Option<Version>,
-    version: &Version,
-    kept: &[Interval<Version>],
-    removed: &[Interval<Version>],
-) -> bool
-    ensures { result ≡ (spec.improves best.now version.now && stated.beyond kept.now removed.now version.now) }
-{
-    let is_below = match best {
-        None => true,
-        Some(least) => version.cmp(least).is_lt(),
-    };
-    is_below && accepts(kept, version, false) && !accepts(removed, version, false)
+// The search for the least version that `kept` accepts and `removed` does not: `best` is the least candidate so far that is
+// such a version.
+#[derive(Drop)]
+struct Search<'a> {
+    kept: &'a [Interval<Version>],
+    removed: &'a [Interval<Version>],
+    best: Option<Version>,
 }
 
-// Keeps the version where it improves on the best so far.
-fn consider(
-    best: &mut Option<Version>,
-    version: Version,
-    kept: &[Interval<Version>],
-    removed: &[Interval<Version>],
-)
-    ensures { best.new ≡ spec.better (stated.beyond kept.now removed.now) best.old version }
-{
-    if improves(best, &version, kept, removed) {
-        *best = Some(version);
+impl<'a> Search<'a> {
+    // Whether the version is below the best so far, and accepted by the first list and not by the second.
+    fn improves(&self, version: &Version) -> bool
+        ensures { result ≡ (spec.improves self.now.best version.now
+            && stated.beyond self.now.kept.now self.now.removed.now version.now) }
+    {
+        let is_below = match &self.best {
+            None => true,
+            Some(best) => version.cmp(best).is_lt(),
+        };
+        is_below && accepts(self.kept, version, false) && !accepts(self.removed, version, false)
     }
-}
 
-// The same of a version that is lent. It is copied, without its build, only where it improves.
-#[tactic(auto, using(crate::proofs::LeastOf::improves_bare))]
-fn consider_lent(
-    alloc: Global,
-    best: &mut Option<Version>,
-    version: &Version,
-    kept: &[Interval<Version>],
-    removed: &[Interval<Version>],
-) -> Result<(), AllocError>
-    ensures { OnOk result (best.new ≡ spec.better (stated.beyond kept.now removed.now) best.old (spec.bare version.now)) }
-{
-    if improves(best, version, kept, removed) {
-        let found = bare(alloc, version)?;
-        *best = Some(found);
-    }
-    Ok(())
-}
-
-// Whether the best so far is not above the version: nothing from the version on improves on it.
-fn is_reached(best: &Option<Version>, version: &Version) -> bool
-    ensures { result ≡ spec.is_reached best.now version.now }
-{
-    match best {
-        None => false,
-        Some(least) => least.cmp(version).is_le(),
-    }
-}
-
-// Considers the first versions past the cut just before a version.
-#[tactic(auto, using(crate::proofs::LeastOf::reached_near))]
-fn consider_before(
-    alloc: Global,
-    best: &mut Option<Version>,
-    version: &Version,
-    kept: &[Interval<Version>],
-    removed: &[Interval<Version>],
-) -> Result<(), AllocError>
-    ensures { OnOk result (best.new ≡ fold (spec.better (stated.beyond kept.now removed.now)) best.old (spec.firsts (Beside version.now Near))) }
-{
-    if is_reached(best, version) {
-        return Ok(());
-    }
-    if !is_release(version) {
-        consider(best, release_of(version), kept, removed);
-    }
-    consider_lent(alloc, best, version, kept, removed)
-}
-
-// Considers the first versions past the cut just after a version.
-#[tactic(auto, using(crate::proofs::LeastOf::reached_far))]
-fn consider_after(
-    alloc: Global,
-    best: &mut Option<Version>,
-    version: &Version,
-    kept: &[Interval<Version>],
-    removed: &[Interval<Version>],
-) -> Result<(), AllocError>
-    requires { version.now.patch < 2 ^ 64 - 1 }
-    ensures { OnOk result (best.new ≡ fold (spec.better (stated.beyond kept.now removed.now)) best.old (spec.firsts (Beside version.now Far))) }
-{
-    if is_reached(best, version) {
-        return Ok(());
-    }
-    if is_release(version) {
-        consider(best, next_patch(version), kept, removed);
-        return Ok(());
-    }
-    consider(best, release_of(version), kept, removed);
-    consider(best, next_pre(alloc, version)?, kept, removed);
-    Ok(())
-}
-
-// Considers the first versions of the pieces of the line that a bound begins.
-fn consider_bound(
-    alloc: Global,
-    best: &mut Option<Version>,
-    bound: &Bound<Version>,
-    kept: &[Interval<Version>],
-    removed: &[Interval<Version>],
-) -> Result<(), AllocError>
-    requires { spec.Raisable bound.now }
-    ensures { OnOk result (best.new ≡ fold (spec.better (stated.beyond kept.now removed.now)) best.old (flat_map spec.firsts (spec.marks bound.now))) }
-{
-    match bound {
-        Bound::Unbounded => Ok(()),
-        Bound::Before(version) => {
-            if !is_release(version) {
-                consider_before(alloc, best, &first_pre(alloc, version)?, kept, removed)?;
-            }
-            consider_before(alloc, best, version, kept, removed)
-        }
-        Bound::After(version) => {
-            if !is_release(version) {
-                consider_before(alloc, best, &first_pre(alloc, version)?, kept, removed)?;
-            }
-            consider_after(alloc, best, version, kept, removed)
+    // Whether the best so far is not above the version: nothing from the version on improves on it.
+    fn is_reached(&self, version: &Version) -> bool
+        ensures { result ≡ spec.is_reached self.now.best version.now }
+    {
+        match &self.best {
+            None => false,
+            Some(best) => best.cmp(version).is_le(),
         }
     }
-}
 
-// The same of all bounds of a list of intervals.
-fn consider_bounds(
-    alloc: Global,
-    best: &mut Option<Version>,
-    intervals: &[Interval<Version>],
-    kept: &[Interval<Version>],
-    removed: &[Interval<Version>],
-) -> Result<(), AllocError>
-    requires { All spec.IsRaisable intervals.now }
-    ensures { OnOk result (best.new ≡ fold (spec.better (stated.beyond kept.now removed.now)) best.old (flat_map spec.span_firsts intervals.now)) }
-{
-    for interval in intervals {
-        consider_bound(alloc, best, interval.lower(), kept, removed)?;
-        consider_bound(alloc, best, interval.upper(), kept, removed)?;
+    // Keeps the version where it improves on the best so far.
+    fn consider(&mut self, version: Version)
+        ensures { let set = stated.beyond self.old.kept.now self.old.removed.now in
+            self.new ≡ record self.old {
+              best =
+                  spec.better set self.old.best version;
+            } }
+    {
+        if self.improves(&version) {
+            self.best = Some(version);
+        }
     }
-    Ok(())
-}
 
-// The best of all candidates.
-fn best_candidate(
-    alloc: Global,
-    kept: &[Interval<Version>],
-    removed: &[Interval<Version>],
-) -> Result<Option<Version>, AllocError>
-    requires kept { All spec.IsRaisable kept.now }
-    requires removed { All spec.IsRaisable removed.now }
-    ensures { IfOk result (λ r. r ≡ spec.least_of (stated.beyond kept.now removed.now) (spec.candidates (kept.now ++ removed.now))) }
-{
-    let mut best = None;
-    consider(&mut best, Version::from((0u64, 0, 0)), kept, removed);
-    consider_bounds(alloc, &mut best, kept, kept, removed)?;
-    consider_bounds(alloc, &mut best, removed, kept, removed)?;
-    Ok(best)
+    // The same of a version that is borrowed. It is copied, without its build, only where it improves.
+    #[tactic(auto, using(crate::proofs::LeastOf::improves_bare))]
+    fn consider_borrowed(&mut self, alloc: Global, version: &Version) -> Result<(), AllocError>
+        ensures { let set = stated.beyond self.old.kept.now self.old.removed.now in
+            OnOk result (self.new ≡ record self.old {
+              best =
+                  spec.better set self.old.best (spec.bare version.now);
+            }) }
+    {
+        if self.improves(version) {
+            let found = bare(alloc, version)?;
+            self.best = Some(found);
+        }
+        Ok(())
+    }
+
+    // Considers the first versions from this one on.
+    #[tactic(auto, using(crate::proofs::LeastOf::reached_near))]
+    fn consider_from(&mut self, alloc: Global, version: &Version) -> Result<(), AllocError>
+        ensures { let set = stated.beyond self.old.kept.now self.old.removed.now in
+            OnOk result (self.new ≡ record self.old {
+              best =
+                  fold (spec.better set) self.old.best (spec.firsts (Beside version.now Near));
+            }) }
+    {
+        if self.is_reached(version) {
+            return Ok(());
+        }
+        self.consider_borrowed(alloc, version)?;
+        if !is_release(version) {
+            self.consider(release_of(version));
+        }
+        Ok(())
+    }
+
+    // Considers the first versions after this one.
+    #[tactic(auto, using(crate::proofs::LeastOf::reached_far))]
+    fn consider_after(&mut self, alloc: Global, version: &Version) -> Result<(), AllocError>
+        requires { version.now.patch < 2 ^ 64 - 1 }
+        ensures { let set = stated.beyond self.old.kept.now self.old.removed.now in
+            OnOk result (self.new ≡ record self.old {
+              best =
+                  fold (spec.better set) self.old.best (spec.firsts (Beside version.now Far));
+            }) }
+    {
+        if self.is_reached(version) {
+            return Ok(());
+        }
+        if is_release(version) {
+            self.consider(next_patch(version));
+            return Ok(());
+        }
+        self.consider(next_pre(alloc, version)?);
+        self.consider(release_of(version));
+        Ok(())
+    }
+
+    // Considers the first versions past the cut of a bound.
+    fn consider_past(&mut self, alloc: Global, bound: &Bound<Version>) -> Result<(), AllocError>
+        requires { spec.Raisable bound.now }
+        ensures { let set = stated.beyond self.old.kept.now self.old.removed.now in
+            OnOk result (self.new ≡ record self.old {
+              best =
+                  fold (spec.better set) self.old.best (flat_map spec.firsts (spec.beside bound.now));
+            }) }
+    {
+        match bound {
+            Bound::Unbounded => Ok(()),
+            Bound::Before(version) => self.consider_from(alloc, version),
+            Bound::After(version) => self.consider_after(alloc, version),
+        }
+    }
+
+    // Considers the first versions past the cut below the pre-releases that a bound names.
+    fn consider_named(&mut self, alloc: Global, bound: &Bound<Version>) -> Result<(), AllocError>
+        ensures { let set = stated.beyond self.old.kept.now self.old.removed.now in
+            OnOk result (self.new ≡ record self.old {
+              best =
+                  fold (spec.better set) self.old.best
+                  (flat_map spec.firsts (spec.below_named bound.now));
+            }) }
+    {
+        match bound {
+            Bound::Before(version) | Bound::After(version) if !is_release(version) => {
+                self.consider_from(alloc, &first_pre(alloc, version)?)
+            }
+            _ => Ok(()),
+        }
+    }
+
+    // Considers all that the first list brings.
+    fn consider_kept(&mut self, alloc: Global) -> Result<(), AllocError>
+        requires { All spec.IsRaisable self.old.kept.now }
+        ensures { let set = stated.beyond self.old.kept.now self.old.removed.now in
+            OnOk result (self.new ≡ record self.old {
+              best =
+                  fold (spec.better set) self.old.best (flat_map spec.kept_firsts self.old.kept.now);
+            }) }
+    {
+        let intervals = self.kept;
+        for interval in intervals {
+            self.consider_past(alloc, interval.lower())?;
+            self.consider_named(alloc, interval.upper())?;
+        }
+        Ok(())
+    }
+
+    // Considers all that the second list brings.
+    fn consider_removed(&mut self, alloc: Global) -> Result<(), AllocError>
+        requires { All spec.IsRaisable self.old.removed.now }
+        ensures { let set = stated.beyond self.old.kept.now self.old.removed.now in
+            OnOk result (self.new ≡ record self.old {
+              best =
+                  fold (spec.better set) self.old.best
+                  (flat_map spec.removed_firsts self.old.removed.now);
+            }) }
+    {
+        let intervals = self.removed;
+        for interval in intervals {
+            self.consider_past(alloc, interval.upper())?;
+        }
+        Ok(())
+    }
+
+    // The best of all candidates.
+    fn run(
+        alloc: Global,
+        kept: &'a [Interval<Version>],
+        removed: &'a [Interval<Version>],
+    ) -> Result<Option<Version>, AllocError>
+        requires kept { All spec.IsRaisable kept.now }
+        requires removed { All spec.IsRaisable removed.now }
+        ensures { IfOk result (λ r.
+            r ≡ spec.least_of (stated.beyond kept.now removed.now)
+            (spec.candidates kept.now removed.now)) }
+    {
+        let best = None;
+        let mut search = Search {
+            kept,
+            removed,
+            best,
+        };
+        search.consider(Version::from((0u64, 0, 0)));
+        search.consider_kept(alloc)?;
+        search.consider_removed(alloc)?;
+        Ok(search.best)
+    }
 }
 
 // The least version that the first list accepts and the second does not, without a build.
@@ -233,30 +261,24 @@ fn least_beyond(
     ensures least { IfOk result (λ r. stated.IsLeastOf (stated.beyond kept.now removed.now) r) }
     ensures build { IfOk result (λ r. IfSome r (λ v. v.build ≡ [])) }
 {
-    let best = best_candidate(alloc, kept, removed)?;
+    let best = Search::run(alloc, kept, removed)?;
     Ok(best)
 }
 
-// The version with which an interval above the bound begins, with the bound's build.
-fn begins_with(alloc: Global, bound: &Bound<Version>) -> Result<Option<Version>, AllocError>
-    requires { spec.Raisable bound.now }
-    ensures { IfOk result (λ r. r ≡ stated.begins_with bound.now) }
+// The first version after this one, without a build: the next patch of a release, and a pre-release with one more identifier.
+fn following(alloc: Global, version: &Version) -> Result<Version, AllocError>
+    requires { version.now.patch < 2 ^ 64 - 1 }
+    ensures { IfOk result (λ next. stated.begins_with (After version.now)
+        ≡ Some (record next { build = version.now.build })) }
 {
-    match bound {
-        Bound::Unbounded => Ok(None),
-        Bound::Before(version) => Ok(Some(version.copy(alloc)?)),
-        Bound::After(version) => {
-            let next = if is_release(version) {
-                next_patch(version)
-            } else {
-                next_pre(alloc, version)?
-            };
-            Ok(Some(with_build(alloc, next, version.build())?))
-        }
+    if is_release(version) {
+        Ok(next_patch(version))
+    } else {
+        next_pre(alloc, version)
     }
 }
 
-// The answer with the build of the bound, where the answer comes from it.
+// The version with the build of the bound, where an interval above the bound begins with it.
 fn with_build_by(
     alloc: Global,
     version: Version,
@@ -264,29 +286,36 @@ fn with_build_by(
 ) -> Result<Version, AllocError>
     requires raisable { spec.Raisable bound.now }
     requires bare { version.build ≡ [] }
-    ensures { IfOk result (λ v. v ≡ record version { build = stated.build_by (stated.begins_with bound.now) version }) }
+    ensures { IfOk result (λ v. v
+        ≡ record version { build = stated.build_by (stated.begins_with bound.now) version }) }
 {
-    match begins_with(alloc, bound)? {
-        Some(first) if first.cmp(&version).is_eq() => with_build(alloc, version, first.build()),
+    match bound {
+        Bound::Before(first) if first.cmp(&version).is_eq() => {
+            with_build(alloc, version, first.build())
+        }
+        Bound::After(end) if following(alloc, end)?.cmp(&version).is_eq() => {
+            with_build(alloc, version, end.build())
+        }
         _ => Ok(version),
     }
 }
 
+// The first interval that accepts the version.
 fn first_accepting<'a>(
     intervals: &'a [Interval<Version>],
     version: &Version,
 ) -> Option<&'a Interval<Version>>
     requires { All spec.IsRaisable intervals.now }
-    ensures value { option_copied result ≡ find (λ s. holds precedence s version.now && lets_in s version.now) intervals.now }
+    ensures value { option_copied result
+        ≡ find (λ s. holds precedence s version.now && lets_in s version.now) intervals.now }
     ensures raisable { IfSome result (λ s. spec.Raisable s.now.lower) }
 {
-    let found = intervals
+    intervals
         .iter()
-        .find(|interval| accepts_one(interval, version, false));
-    found
+        .find(|interval| accepts_one(interval, version, false))
 }
 
-// The answer with the build of the bound with which the first interval that accepts it begins.
+// The version with the build of the bound with which the first interval that accepts it begins.
 fn with_least_build(
     alloc: Global,
     version: Version,
@@ -294,7 +323,8 @@ fn with_least_build(
 ) -> Result<Version, AllocError>
     requires raisable { All spec.IsRaisable intervals.now }
     requires bare { version.build ≡ [] }
-    ensures { IfOk result (λ v. v ≡ record version { build = stated.least_build intervals.now version }) }
+    ensures { IfOk result (λ v. v
+        ≡ record version { build = stated.least_build intervals.now version }) }
 {
     match first_accepting(intervals, &version) {
         Some(interval) => with_build_by(alloc, version, interval.lower()),
@@ -309,7 +339,8 @@ fn least_accepted(
 ) -> Result<Option<Version>, AllocError>
     requires { All spec.IsRaisable intervals.now }
     ensures least { IfOk result (λ r. stated.IsLeastOf (λ v. accepts intervals.now v false) r) }
-    ensures build { IfOk result (λ r. IfSome r (λ v. v.build ≡ stated.least_build intervals.now v)) }
+    ensures build { IfOk result (λ r.
+        IfSome r (λ v. v.build ≡ stated.least_build intervals.now v)) }
 {
     match least_beyond(alloc, intervals, &[])? {
         None => Ok(None),

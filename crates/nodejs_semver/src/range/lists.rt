@@ -22,13 +22,16 @@ pub(crate) fn intersections<V: Point>(
 {
     let mut found = Vec::new(alloc);
     for interval in these {
-        push_meets(alloc, &mut found, interval, others)?;
+        push_intersections(alloc, &mut found, interval, others)?;
     }
     Ok(found)
 }
 
-/// What is left of these intervals when the others are taken away one after another. It is what of each of them lies
-/// within what the others leave of the whole line.
+/// The differences: what is left of these intervals, in order, when the others are taken away one after another.
+///
+/// That is what of each of them lies within the complement of the others, so each is clipped to the complement's pieces,
+/// which stand in order along the line. For n intervals, m others and k results that is about n log m + m log m + k steps,
+/// which no clause promises; taking the others away one by one would copy each survivor m times.
 pub(crate) fn differences<V: Point>(
     alloc: Global,
     these: &[Interval<V>],
@@ -38,10 +41,10 @@ pub(crate) fn differences<V: Point>(
     ensures { IfOk result (λ r. r.items ≡ minus V.cmp these.now others.now) }
 {
     if let [other] = others {
-        return remainders_by(alloc, these, other);
+        return subtract_from_each(alloc, these, other);
     }
-    let gaps = gaps(alloc, others)?;
-    let left = clips(alloc, these, &gaps)?;
+    let pieces = complement(alloc, others)?;
+    let left = clip_each(alloc, these, &pieces)?;
     Ok(left)
 }
 
@@ -60,13 +63,15 @@ pub(crate) fn covers_one<V: Point>(interval: &Interval<V>, others: &[Interval<V>
 }
 
 // Puts what one interval has in common with each of the others at the end.
-fn push_meets<V: Point>(
+fn push_intersections<V: Point>(
     alloc: Global,
     parts: &mut Vec<Interval<V>>,
     interval: &Interval<V>,
     others: &[Interval<V>],
 ) -> Result<(), AllocError>
-    ensures { OnOk result (parts.new.items ≡ parts.old.items ++ flat_map (λ t. option_to_list (meet V.cmp interval.now t)) others.now) }
+    ensures { OnOk result (parts.new.items
+        ≡ parts.old.items
+        ++ flat_map (λ t. option_to_list (meet V.cmp interval.now t)) others.now) }
 {
     for other in others {
         push_part(parts, interval.intersect(alloc, other)?)?;
@@ -74,37 +79,43 @@ fn push_meets<V: Point>(
     Ok(())
 }
 
-// What the intervals leave of the whole line, in order along it.
-fn gaps<V: Point>(alloc: Global, intervals: &[Interval<V>]) -> Result<Vec<Interval<V>>, AllocError>
-    ensures { IfOk result (λ r. r.items ≡ minus V.cmp (record { lower = Unbounded; upper = Unbounded } ∷ []) intervals.now) }
-{
-    if intervals.len() < 4 {
-        return few_gaps(alloc, intervals);
-    }
-    let (front, back) = intervals.split_at(intervals.len() / 2);
-    let before = gaps(alloc, front)?;
-    let after = gaps(alloc, back)?;
-    let left = clips(alloc, &before, &after)?;
-    Ok(left)
-}
-
-// The same, the intervals taken away one after another.
-fn few_gaps<V: Point>(
+// The complement: what the intervals leave of the whole line, in order along it. It is found by halves, so that each piece
+// is copied about log m times for m intervals.
+fn complement<V: Point>(
     alloc: Global,
     intervals: &[Interval<V>],
 ) -> Result<Vec<Interval<V>>, AllocError>
-    ensures { IfOk result (λ r. r.items ≡ minus V.cmp (record { lower = Unbounded; upper = Unbounded } ∷ []) intervals.now) }
+    ensures { IfOk result (λ r. r.items
+        ≡ minus V.cmp (record { lower = Unbounded; upper = Unbounded } ∷ []) intervals.now) }
+{
+    if intervals.len() < 4 {
+        return complement_of_few(alloc, intervals);
+    }
+    let (front, back) = intervals.split_at(intervals.len() / 2);
+    let before = complement(alloc, front)?;
+    let after = complement(alloc, back)?;
+    let left = clip_each(alloc, &before, &after)?;
+    Ok(left)
+}
+
+// The same of a few intervals, which are taken away one after another.
+fn complement_of_few<V: Point>(
+    alloc: Global,
+    intervals: &[Interval<V>],
+) -> Result<Vec<Interval<V>>, AllocError>
+    ensures { IfOk result (λ r. r.items
+        ≡ minus V.cmp (record { lower = Unbounded; upper = Unbounded } ∷ []) intervals.now) }
 {
     let mut left = Vec::new(alloc);
     left.push(Interval::default())?;
     for interval in intervals {
-        left = remainders_by(alloc, &left, interval)?;
+        left = subtract_from_each(alloc, &left, interval)?;
     }
     Ok(left)
 }
 
 // What is left of each interval below and above one other.
-fn remainders_by<V: Point>(
+fn subtract_from_each<V: Point>(
     alloc: Global,
     these: &[Interval<V>],
     other: &Interval<V>,
@@ -121,30 +132,33 @@ fn remainders_by<V: Point>(
 }
 
 // What of each interval lies within each of the pieces, which stand in order along the line.
-fn clips<V: Point>(
+fn clip_each<V: Point>(
     alloc: Global,
     these: &[Interval<V>],
     pieces: &[Interval<V>],
 ) -> Result<Vec<Interval<V>>, AllocError>
     requires { IsAlong V.cmp Start pieces.now }
-    ensures { IfOk result (λ r. r.items ≡ flat_map (λ s. flat_map (λ t. option_to_list (clip V.cmp s t)) pieces.now) these.now) }
+    ensures { IfOk result (λ r. r.items
+        ≡ flat_map (λ s. flat_map (λ t. option_to_list (clip V.cmp s t)) pieces.now) these.now) }
 {
     let mut found = Vec::new(alloc);
     for interval in these {
-        push_clips(alloc, &mut found, interval, pieces)?;
+        push_clipped(alloc, &mut found, interval, pieces)?;
     }
     Ok(found)
 }
 
 // Puts what of one interval lies within each of the pieces at the end. Those that do so stand together.
-fn push_clips<V: Point>(
+fn push_clipped<V: Point>(
     alloc: Global,
     parts: &mut Vec<Interval<V>>,
     interval: &Interval<V>,
     pieces: &[Interval<V>],
 ) -> Result<(), AllocError>
     requires { IsAlong V.cmp Start pieces.now }
-    ensures { OnOk result (parts.new.items ≡ parts.old.items ++ flat_map (λ t. option_to_list (clip V.cmp interval.now t)) pieces.now) }
+    ensures { OnOk result (parts.new.items
+        ≡ parts.old.items
+        ++ flat_map (λ t. option_to_list (clip V.cmp interval.now t)) pieces.now) }
 {
     let first = pieces.partition_point(|piece| !piece.reaches(interval));
     let (_, near) = pieces.split_at(first);

@@ -1,18 +1,19 @@
 // Versions beside another one.
 
-ghost use Rattle.std.specs.Prelude.{◌≡◌, ◌+◌, ◌-◌, ◌<◌, ◌^◌, ◌++◌, [], IfOk};
+ghost use Rattle.std.specs.Prelude.{◌≡◌, ◌+◌, ◌-◌, ◌<◌, ◌^◌, [], IfOk};
 ghost use Rattle.nodejs_semver.specs.Accepts.{is_release};
 ghost use Rattle.nodejs_semver.specs.Candidates as spec;
+ghost use Rattle.semver_core.specs.PartsView.{parts_value};
 ghost use Rattle.semver_core.specs.Views.{ids_view};
 
-use semver_core::{Identifier, Version};
+use semver_core::{Identifier, Version, VersionParts};
 use std::alloc::{AllocError, Global};
 
 // Whether the version has no pre-release.
 pub(crate) fn is_release(version: &Version) -> bool
     ensures { result ≡ is_release version.now }
 {
-    version.pre_release().is_empty()
+    !version.is_prerelease()
 }
 
 // The release of the same three numbers.
@@ -41,17 +42,38 @@ pub(crate) fn first_pre(alloc: Global, version: &Version) -> Result<Version, All
 pub(crate) fn next_pre(alloc: Global, version: &Version) -> Result<Version, AllocError>
     ensures { IfOk result (λ v. v ≡ spec.next_pre version.now) }
 {
-    let mut pre_release = copy_identifiers(alloc, version.pre_release())?;
+    let mut pre_release = Identifier::copy_list(alloc, version.pre_release())?;
     pre_release.push(Identifier::Numeric(0))?;
-    with_lists(alloc, version, pre_release, Vec::new(alloc))
+    with_pre_release(alloc, version, pre_release)
 }
 
 // The version without its build.
 pub(crate) fn bare(alloc: Global, version: &Version) -> Result<Version, AllocError>
     ensures { IfOk result (λ v. v ≡ spec.bare version.now) }
 {
-    let pre_release = copy_identifiers(alloc, version.pre_release())?;
-    with_lists(alloc, version, pre_release, Vec::new(alloc))
+    let pre_release = Identifier::copy_list(alloc, version.pre_release())?;
+    with_pre_release(alloc, version, pre_release)
+}
+
+// The same three numbers with this pre-release, and no build.
+fn with_pre_release(
+    alloc: Global,
+    version: &Version,
+    pre_release: Vec<Identifier>,
+) -> Result<Version, AllocError>
+    ensures { IfOk result (λ v. v
+        ≡ record version.now { pre_release = ids_view pre_release.items; build = [] }) }
+{
+    new_version(
+        alloc,
+        VersionParts {
+            major: version.major(),
+            minor: version.minor(),
+            patch: version.patch(),
+            pre_release,
+            build: Vec::new(alloc),
+        },
+    )
 }
 
 // A version that has no build, with this one.
@@ -66,72 +88,35 @@ pub(crate) fn with_build(
     if build.is_empty() {
         return Ok(version);
     }
-    let build = copy_identifiers(alloc, build)?;
+    let build = Identifier::copy_list(alloc, build)?;
     match version.into_parts(alloc) {
         Ok(parts) => new_version(
             alloc,
-            parts.major,
-            parts.minor,
-            parts.patch,
-            parts.pre_release,
-            build,
+            VersionParts {
+                major: parts.major,
+                minor: parts.minor,
+                patch: parts.patch,
+                pre_release: parts.pre_release,
+                build,
+            },
         ),
         Err(_) => Err(AllocError),
     }
 }
 
-// The same three numbers with these lists.
-fn with_lists(
-    alloc: Global,
-    version: &Version,
-    pre_release: Vec<Identifier>,
-    build: Vec<Identifier>,
-) -> Result<Version, AllocError>
-    ensures { IfOk result (λ v. v ≡ record version.now { pre_release = ids_view pre_release.items; build = ids_view build.items }) }
+// The version of these parts, which are dropped where allocation fails.
+pub(crate) fn new_version(alloc: Global, parts: VersionParts) -> Result<Version, AllocError>
+    ensures { IfOk result (λ v. v ≡ parts_value parts) }
 {
-    new_version(
-        alloc,
-        version.major(),
-        version.minor(),
-        version.patch(),
+    let VersionParts {
+        major,
+        minor,
+        patch,
         pre_release,
         build,
-    )
-}
-
-// The version of these parts, which are dropped where memory is missing.
-fn new_version(
-    alloc: Global,
-    major: u64,
-    minor: u64,
-    patch: u64,
-    pre_release: Vec<Identifier>,
-    build: Vec<Identifier>,
-) -> Result<Version, AllocError>
-    ensures { IfOk result (λ v. v ≡ record {
-      major = major;
-      minor = minor;
-      patch = patch;
-      pre_release = ids_view pre_release.items;
-      build = ids_view build.items;
-    }) }
-{
+    } = parts;
     match Version::new(alloc, major, minor, patch, pre_release, build) {
         Ok(version) => Ok(version),
         Err(_) => Err(AllocError),
     }
-}
-
-// The identifiers again.
-fn copy_identifiers(
-    alloc: Global,
-    identifiers: &[Identifier],
-) -> Result<Vec<Identifier>, AllocError>
-    ensures { IfOk result (λ copy. ids_view copy.items ≡ ids_view identifiers.now) }
-{
-    let mut copy = Vec::with_capacity(alloc, identifiers.len())?;
-    for identifier in identifiers {
-        copy.push(identifier.copy(alloc)?)?;
-    }
-    Ok(copy)
 }

@@ -1,15 +1,12 @@
 // Versions that lie above or below a range.
 
 ghost use Rattle.nodejs_semver.specs.Outside as spec;
-ghost use Rattle.semver_core.specs.Cuts.{is_past, lower_cut, upper_cut};
-ghost use Rattle.semver_core.specs.Order.{precedence};
 ghost use Rattle.std.specs.List.{list_all};
 ghost use Rattle.std.specs.Prelude.{Ok, ◌≡◌};
 
 use crate::Range;
 use semver_core::Version;
 use semver_core::cuts::{Bound, Interval};
-use std::cmp::Ordering;
 use std::fmt;
 use thiserror::Error;
 
@@ -39,7 +36,7 @@ impl fmt::Display for OutsideDirection {
     }
 }
 
-/// Reads `>` and `<`, and refuses every other character with `RangeError::InvalidOutsideDirection`.
+/// Reads `>` and `<`, and rejects every other character with `RangeError::InvalidOutsideDirection`.
 impl TryFrom<char> for OutsideDirection {
     type Error = RangeError;
 
@@ -54,20 +51,20 @@ impl TryFrom<char> for OutsideDirection {
     }
 }
 
-/// Why a question about a range has no answer.
+/// The errors of questions about a range.
 #[derive(Clone, Copy, PartialEq, Eq, Debug, Error)]
 pub enum RangeError {
     /// The character names no side of a range.
     #[error("outside() only supports checking whether a version is above or below a range, found `{0}`")]
     InvalidOutsideDirection(char),
-    /// Kept for callers that match on it: no call answers it.
+    /// Kept for callers that match on it: no call returns it.
     #[error("outside() could not determine comparator bounds for this range")]
     MissingComparatorBounds,
 }
 
 impl Range {
-    /// Whether the version lies outside the range on this side: the range does not accept it, with the flag that lets
-    /// pre-releases in, and every interval lies on the other side. It is never an error.
+    /// Whether the version lies outside the range on this side: the range does not accept it (the flag says whether
+    /// pre-releases are included), and every interval lies on the other side. It never returns an error.
     ///
     /// For `Higher` every interval must have an upper bound, and a lower cut that is not after the version. For `Lower` every
     /// interval must have no bound at all, or a lower bound and an upper cut that is not before the version. So 2.0.0-beta is
@@ -107,14 +104,14 @@ fn lie_above(intervals: &[Interval<Version>], version: &Version) -> bool
 fn lies_below(interval: &Interval<Version>, version: &Version) -> bool
     ensures { result ≡ spec.lies_below interval.now version.now }
 {
-    is_bounded(interval.upper()) && is_past_lower(interval.lower(), version)
+    is_bounded(interval.upper()) && interval.begins_below(version)
 }
 
 fn lies_above(interval: &Interval<Version>, version: &Version) -> bool
     ensures { result ≡ spec.lies_above interval.now version.now }
 {
     (!is_bounded(interval.lower()) && !is_bounded(interval.upper()))
-        || (is_bounded(interval.lower()) && !is_past_upper(interval.upper(), version))
+        || (is_bounded(interval.lower()) && !interval.ends_below(version))
 }
 
 fn is_bounded(bound: &Bound<Version>) -> bool
@@ -123,27 +120,5 @@ fn is_bounded(bound: &Bound<Version>) -> bool
     match bound {
         Bound::Unbounded => false,
         Bound::Before(_) | Bound::After(_) => true,
-    }
-}
-
-// Whether the version lies after the cut of the lower bound.
-fn is_past_lower(bound: &Bound<Version>, version: &Version) -> bool
-    ensures { result ≡ is_past precedence (lower_cut bound.now) version.now }
-{
-    match bound {
-        Bound::Unbounded => true,
-        Bound::Before(w) => w.cmp(version).then(Ordering::Equal).is_le(),
-        Bound::After(w) => w.cmp(version).then(Ordering::Greater).is_le(),
-    }
-}
-
-// Whether the version lies after the cut of the upper bound.
-fn is_past_upper(bound: &Bound<Version>, version: &Version) -> bool
-    ensures { result ≡ is_past precedence (upper_cut bound.now) version.now }
-{
-    match bound {
-        Bound::Unbounded => false,
-        Bound::Before(w) => w.cmp(version).then(Ordering::Equal).is_le(),
-        Bound::After(w) => w.cmp(version).then(Ordering::Greater).is_le(),
     }
 }

@@ -110,10 +110,8 @@ fn next_interval(
     Ok((found, spaces::skip_spaces(rest)))
 }
 
-// The running interval with one word more: what both have in common, or the word alone, and then the running one is
-// finished.
+// The running interval with one more: the intersection of both, or the next one alone, and then the running one is finished.
 fn join(
-    alloc: Global,
     running: Option<Interval<Version>>,
     next: Interval<Version>,
     finished: &mut Vec<Interval<Version>>,
@@ -125,9 +123,9 @@ fn join(
     let Some(running) = running else {
         return Ok(next);
     };
-    match running.intersect(alloc, &next)? {
-        Some(common) => Ok(common),
-        None => {
+    match running.into_intersection(next) {
+        Ok(common) => Ok(common),
+        Err((running, next)) => {
             finished.push(running)?;
             Ok(next)
         }
@@ -149,7 +147,7 @@ pub(crate) fn read_part(
         let (next, after) = next_interval(alloc, rest)?;
         rest = after;
         if let Some(next) = next {
-            running = Some(join(alloc, running, next, found)?);
+            running = Some(join(running, next, found)?);
         }
     }
     if let Some(last) = running {

@@ -13,8 +13,9 @@ use semver_core::cuts::Interval;
 use semver_core::{MAX_SAFE_INTEGER, Version};
 use std::alloc::{AllocError, Global};
 
-/// Whether all parts of a range text are empty.
-pub(crate) fn is_blank(text: &str) -> bool
+/// Whether a range text is blank: each part between `||` is empty or whitespace alone, as in ` `, `||` and ` || `. Such a text
+/// names the range without bounds, `Range::any`; `range_loose` reads every other text.
+pub fn is_blank(text: &str) -> bool
     ensures { result ≡ list_all is_empty (parts text.now) }
 {
     let mut rest = Some(text);
@@ -47,7 +48,8 @@ fn add_part(
 
 // The intervals of all parts, in order. One cursor goes through the text.
 fn intervals_of(alloc: Global, text: &str) -> Result<Vec<Interval<Version>>, AllocError>
-    ensures { IfOk result (λ found. found.items ≡ flat_map (part_denotes MAX_SAFE_INTEGER) (parts text.now)) }
+    ensures { IfOk result (λ found. found.items
+        ≡ flat_map (part_denotes MAX_SAFE_INTEGER) (parts text.now)) }
 {
     let mut found = Vec::new(alloc);
     let mut rest = Some(text);
@@ -59,12 +61,11 @@ fn intervals_of(alloc: Global, text: &str) -> Result<Vec<Interval<Version>>, All
     Ok(found)
 }
 
-/// Reads a range text of which some part is not empty, or returns `None` where no part has an interval. Fails only if
-/// allocation fails.
+/// Reads a range text of any length. Returns `None` if no part has an interval; fails only if allocation fails.
 ///
-/// The text is cut at `||`, and each part is read word by word (node-semver's range grammar). An empty part is one interval
-/// without bounds. A word that is malformed, or to which the word table gives no bounds, is skipped: `foo 1.2.3` is the
-/// range of `1.2.3`, and `foo` has none.
+/// The text must not be blank: ask `is_blank` first. It is cut at `||`, and each part is read word by word (node-semver's
+/// range grammar). An empty part is one interval without bounds. A malformed word, and one to which the word table gives no
+/// interval, is ignored: `foo 1.2.3` is the range of `1.2.3`, and `foo` has none.
 pub fn range_loose(alloc: Global, text: &str) -> Result<Option<Range>, AllocError>
     requires some_part { list_all is_empty (parts text.now) ≡ false }
     ensures { IfOk result (λ found. found ≡ if_any (denotes MAX_SAFE_INTEGER text.now)) }

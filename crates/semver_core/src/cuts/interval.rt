@@ -1,18 +1,20 @@
 // An interval: all points between two cuts.
-ghost use Rattle.std.specs.Prelude.{◌≡◌, ◌&&◌, ◌||◌, not, Option, Some, None, IfOk, true, is_some};
+ghost use Rattle.std.specs.Prelude.{◌≡◌, ◌&&◌, ◌||◌, not, Option, Some, None, IfOk, IfErr, true, is_some};
 ghost use Rattle.std.specs.Ordering.{is_le, is_lt};
-ghost use Rattle.semver_core.specs.Cuts.{cut_cmp, lower_cut, upper_cut, interval, is_interval, holds, meet, remainders, option_holds};
+ghost use Rattle.semver_core.specs.Cuts.{cut_cmp, holds, interval, is_interval, is_past, lower_cut, meet};
+ghost use Rattle.semver_core.specs.Cuts.{option_holds, remainders, upper_cut};
 ghost use Rattle.semver_core.specs.Clips.{clip};
 
 use crate::cuts::bound::{Bound, Point};
 use crate::cuts::order::{
-    greater_lower, is_below, is_past_lower, is_past_upper, lesser_upper, lower_order, upper_order,
+    greater_lower, into_greater_lower, into_lesser_upper, is_below, is_past_lower, is_past_upper,
+    lesser_upper, lower_order, upper_order,
 };
 use std::alloc::{AllocError, Global};
 use std::marker::Model;
 
-/// The points between a lower and an upper bound. The cut of the lower bound is below that of the upper one; that no point
-/// lies between them is no hindrance.
+/// The points between a lower and an upper bound. The cut of the lower bound is below that of the upper one; the interval
+/// may contain no points.
 ///
 /// Intervals are equal, and hash alike, where both bounds are of the same kind and at equal points.
 #[derive(Drop)]
@@ -52,7 +54,7 @@ impl<V: Point> Interval<V> {
         &self.upper
     }
 
-    /// The whole interval again. The error is want of memory.
+    /// A copy of the whole interval. Fails only if allocation fails.
     pub fn copy(&self, alloc: Global) -> Result<Interval<V>, AllocError>
         ensures { IfOk result (λ i. i ≡ self.now) }
     {
@@ -77,25 +79,43 @@ impl<V: Point> Interval<V> {
     pub fn contains(&self, point: &V) -> bool
         ensures { result ≡ holds V.cmp self.now point.now }
     {
-        is_past_lower(&self.lower, point) && !is_past_upper(&self.upper, point)
+        self.begins_below(point) && !self.ends_below(point)
+    }
+
+    /// Whether the interval begins below the point: its lower cut is not after the point. The point itself may lie above the
+    /// interval.
+    pub fn begins_below(&self, point: &V) -> bool
+        ensures { result ≡ is_past V.cmp (lower_cut self.now.lower) point.now }
+    {
+        is_past_lower(&self.lower, point)
+    }
+
+    /// Whether the interval ends below the point: its upper cut is not after the point.
+    pub fn ends_below(&self, point: &V) -> bool
+        ensures { result ≡ is_past V.cmp (upper_cut self.now.upper) point.now }
+    {
+        is_past_upper(&self.upper, point)
     }
 
     /// Whether the other interval lies within this one: its lower cut is not below, and its upper cut not above.
     pub fn covers(&self, other: &Interval<V>) -> bool
-        ensures { result ≡ (is_le (cut_cmp V.cmp (lower_cut self.now.lower) (lower_cut other.now.lower)) && is_le (cut_cmp V.cmp (upper_cut other.now.upper) (upper_cut self.now.upper))) }
+        ensures { result
+            ≡ (is_le (cut_cmp V.cmp (lower_cut self.now.lower) (lower_cut other.now.lower))
+            && is_le (cut_cmp V.cmp (upper_cut other.now.upper) (upper_cut self.now.upper))) }
     {
         lower_order(&self.lower, &other.lower).is_le()
             && upper_order(&other.upper, &self.upper).is_le()
     }
 
-    /// Whether the interval ends above the place where the other one begins.
+    /// Whether the interval ends above the cut at which the other one begins. Two intervals meet exactly where each reaches
+    /// the other.
     pub fn reaches(&self, other: &Interval<V>) -> bool
         ensures { result ≡ is_lt (cut_cmp V.cmp (lower_cut other.now.lower) (upper_cut self.now.upper)) }
     {
         is_below(&other.lower, &self.upper)
     }
 
-    /// Whether the two have an interval in common, be there a point in it or not.
+    /// Whether the two have an interval in common, whether it contains a point or not.
     pub fn meets(&self, other: &Interval<V>) -> bool
         ensures { result ≡ is_some (meet V.cmp self.now other.now) }
     {
@@ -105,73 +125,82 @@ impl<V: Point> Interval<V> {
         )
     }
 
-    /// What both have in common: the greater lower bound and the lesser upper bound, if that is an interval. Of equal lower
-    /// bounds the other's is kept, of equal upper bounds self's. The error is want of memory.
+    /// The intersection: the points of both intervals. Its bounds are the greater lower bound and the lesser upper bound;
+    /// of equal lower bounds the other's is kept, of equal upper bounds self's. Returns `None` exactly where the two cuts
+    /// leave no interval. The result may contain no points, as that of `>1` and `<2` over whole numbers.
+    ///
+    /// Both intervals are borrowed, so the two bounds are copied: the call fails only if that allocation fails. Where both
+    /// are at hand to be consumed, `into_intersection` copies nothing.
     pub fn intersect(
         &self,
         alloc: Global,
         other: &Interval<V>,
     ) -> Result<Option<Interval<V>>, AllocError>
         ensures bounds { IfOk result (λ r. r ≡ meet V.cmp self.now other.now) }
-        ensures set { IfOk result (λ r. (v : V) → option_holds V.cmp r v ≡ (holds V.cmp self.now v && holds V.cmp other.now v)) }
-    {
-        Ok(self.common(alloc, other)?)
-    }
-
-    fn common(&self, alloc: Global, other: &Interval<V>) -> Result<Option<Interval<V>>, AllocError>
-        ensures { IfOk result (λ r. r ≡ meet V.cmp self.now other.now) }
+        ensures set { IfOk result (λ r. (v : V) →
+            option_holds V.cmp r v ≡ (holds V.cmp self.now v && holds V.cmp other.now v)) }
     {
         let lower = greater_lower(&self.lower, &other.lower);
         let upper = lesser_upper(&self.upper, &other.upper);
-        if !is_below(lower, upper) {
-            return Ok(None);
-        }
-        let lower = lower.copy(alloc)?;
-        let upper = upper.copy(alloc)?;
-        Ok(Some(Interval { lower, upper }))
+        let common = copy_between(alloc, lower, upper)?;
+        Ok(common)
     }
 
-    /// What of this interval lies within the other: the points of `intersect`, but of equal bounds self's are kept on both
-    /// sides. The error is want of memory.
+    /// The intersection, by moving the bounds of both intervals. It allocates nothing. Where `intersect` would return
+    /// `None`, both intervals are returned to the caller.
+    pub fn into_intersection(
+        self,
+        other: Interval<V>,
+    ) -> Result<Interval<V>, (Interval<V>, Interval<V>)>
+        ensures common { IfOk result (λ r. Some r ≡ meet V.cmp self other) }
+        ensures none { IfErr result (λ both. meet V.cmp self other ≡ None) }
+        ensures returned { IfErr result (λ both. both ≡ (self, other)) }
+    {
+        if !self.meets(&other) {
+            return Err((self, other));
+        }
+        let lower = into_greater_lower(self.lower, other.lower);
+        let upper = into_lesser_upper(self.upper, other.upper);
+        Ok(Interval { lower, upper })
+    }
+
+    /// The part of this interval that lies within the other: the points of `intersect`, but of equal bounds self's are kept
+    /// on both sides. So what is clipped to pieces of the line keeps its own bounds, with their builds, wherever it can.
+    ///
+    /// Two bounds are copied: the call fails only if that allocation fails.
     pub fn clip(
         &self,
         alloc: Global,
         other: &Interval<V>,
     ) -> Result<Option<Interval<V>>, AllocError>
         ensures bounds { IfOk result (λ r. r ≡ clip V.cmp self.now other.now) }
-        ensures set { IfOk result (λ r. (v : V) → option_holds V.cmp r v ≡ (holds V.cmp self.now v && holds V.cmp other.now v)) }
-    {
-        Ok(self.clipped(alloc, other)?)
-    }
-
-    fn clipped(&self, alloc: Global, other: &Interval<V>) -> Result<Option<Interval<V>>, AllocError>
-        ensures { IfOk result (λ r. r ≡ clip V.cmp self.now other.now) }
+        ensures set { IfOk result (λ r. (v : V) →
+            option_holds V.cmp r v ≡ (holds V.cmp self.now v && holds V.cmp other.now v)) }
     {
         let lower = greater_lower(&other.lower, &self.lower);
         let upper = lesser_upper(&self.upper, &other.upper);
-        if !is_below(lower, upper) {
-            return Ok(None);
-        }
-        let lower = lower.copy(alloc)?;
-        let upper = upper.copy(alloc)?;
-        Ok(Some(Interval { lower, upper }))
+        let clipped = copy_between(alloc, lower, upper)?;
+        Ok(clipped)
     }
 
     /// What is left of the interval below the other one, and above it. A new bound is the other's turned round, so `>=v`
-    /// leaves `<v`. Where the two do not meet, all is left: a copy of self, then `None`. The error is want of memory.
+    /// leaves `<v`. Where the two do not meet, all is left: a copy of self, then `None`. Fails only if allocation fails.
     pub fn subtract(
         &self,
         alloc: Global,
         other: &Interval<V>,
     ) -> Result<(Option<Interval<V>>, Option<Interval<V>>), AllocError>
         ensures bounds { IfOk result (λ r. r ≡ remainders V.cmp self.now other.now) }
-        ensures set { IfOk result (λ r. (v : V) → (option_holds V.cmp r.0 v || option_holds V.cmp r.1 v) ≡ (holds V.cmp self.now v && not (holds V.cmp other.now v))) }
+        ensures set { IfOk result (λ r. (v : V) →
+            (option_holds V.cmp r.0 v || option_holds V.cmp r.1 v)
+            ≡ (holds V.cmp self.now v && not (holds V.cmp other.now v))) }
     {
-        let parts = self.remainders(alloc, other)?;
+        let parts = self.exact_remainders(alloc, other)?;
         Ok(parts)
     }
 
-    fn remainders(
+    // The two parts by their bounds.
+    fn exact_remainders(
         &self,
         alloc: Global,
         other: &Interval<V>,
@@ -197,6 +226,22 @@ impl<V: Point> Interval<V> {
         };
         Ok((below, above))
     }
+}
+
+// The interval between copies of two bounds, where the lower cut is below the upper one.
+fn copy_between<V: Point>(
+    alloc: Global,
+    lower: &Bound<V>,
+    upper: &Bound<V>,
+) -> Result<Option<Interval<V>>, AllocError>
+    ensures { IfOk result (λ r. r ≡ interval V.cmp (record { lower = lower.now; upper = upper.now })) }
+{
+    if !is_below(lower, upper) {
+        return Ok(None);
+    }
+    let lower = lower.copy(alloc)?;
+    let upper = upper.copy(alloc)?;
+    Ok(Some(Interval { lower, upper }))
 }
 
 /// The interval without bounds.

@@ -1,7 +1,8 @@
 // The order of the cuts that two bounds make.
 ghost use Rattle.std.specs.Prelude.{◌≡◌};
 ghost use Rattle.std.specs.Ordering.{is_lt};
-ghost use Rattle.semver_core.specs.Cuts.{cut_cmp, lower_cut, upper_cut, is_past, greater_lower, lesser_upper};
+ghost use Rattle.semver_core.specs.Cuts.{cut_cmp, greater_lower, is_past, lesser_upper};
+ghost use Rattle.semver_core.specs.Cuts.{lower_cut, upper_cut};
 
 use crate::cuts::bound::Bound;
 use std::cmp::Ordering;
@@ -83,4 +84,18 @@ pub(crate) fn lesser_upper<'b, V: Ord>(a: &'b Bound<V>, b: &'b Bound<V>) -> &'b 
     ensures { result.now ≡ lesser_upper V.cmp a.now b.now }
 {
     if upper_order(a, b).is_gt() { b } else { a }
+}
+
+/// The lower bound that is further up, the second of equal ones. The other one is dropped.
+pub(crate) fn into_greater_lower<V: Ord + Drop>(a: Bound<V>, b: Bound<V>) -> Bound<V>
+    ensures { result ≡ greater_lower V.cmp a b }
+{
+    if lower_order(&a, &b).is_gt() { a } else { b }
+}
+
+/// The upper bound that is further down, the first of equal ones. The other one is dropped.
+pub(crate) fn into_lesser_upper<V: Ord + Drop>(a: Bound<V>, b: Bound<V>) -> Bound<V>
+    ensures { result ≡ lesser_upper V.cmp a b }
+{
+    if upper_order(&a, &b).is_gt() { b } else { a }
 }

@@ -33,8 +33,8 @@ impl VersionParts {
         ensures whole { IfOk result (λ p. parts_value p ≡ parts_value self.now) }
         ensures memory { OnErr result (HasIdentifiers (parts_value self.now)) }
     {
-        let pre_release = copy_items(alloc, &self.pre_release)?;
-        let build = copy_items(alloc, &self.build)?;
+        let pre_release = Identifier::copy_list(alloc, &self.pre_release)?;
+        let build = Identifier::copy_list(alloc, &self.build)?;
         Ok(VersionParts {
             major: self.major,
             minor: self.minor,
@@ -185,18 +185,6 @@ impl Point for Version {
     fn copy(&self, alloc: Global) -> Result<Version, AllocError> {
         Version::copy(self, alloc)
     }
-}
-
-// The identifiers again. It takes no memory where there are none.
-fn copy_items(alloc: Global, list: &[Identifier]) -> Result<Vec<Identifier>, AllocError>
-    ensures whole { IfOk result (λ copy. ids_view copy.items ≡ ids_view list.now) }
-    ensures memory { OnErr result (0 < length list.now) }
-{
-    let mut copy = Vec::with_capacity(alloc, list.len())?;
-    for id in list {
-        copy.push_reserved(id.copy(alloc)?);
-    }
-    Ok(copy)
 }
 
 // The identifiers again, inline where they fit. It takes no memory where there are none.

@@ -6,4 +6,4 @@ use Rattle.nodejs_semver.proofs.laws.outside.outside_by_cuts.Goals as goal
 pub returns : goal.returns
 returns c =
     c.outside.ensures
-    ∙ ap Ok (by_cuts c.args.direction MAX_SAFE_INTEGER c.args.range.now c.args.version.now c.intervals.ensures.valid)
+    ∙ ap Ok (by_cuts c.args.direction MAX_SAFE_INTEGER c.args.range.now c.args.version.now c.intervals-intervals.ensures.valid)

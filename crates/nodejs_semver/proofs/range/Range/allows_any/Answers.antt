@@ -3,4 +3,4 @@ use Rattle.nodejs_semver.proofs.AlgebraLaws.{meets_one-some}
 use Rattle.nodejs_semver.proofs.range.Range.allows_any.Goals as goal
 
 pub returns : goal.returns
-returns c = c.meets.ensures ∙ meets_one-some c.args.self.now c.args.other.now
+returns c = c.has_meeting_pair.ensures ∙ meets_one-some c.args.self.now c.args.other.now

@@ -1,10 +1,18 @@
-use Rattle.std.proofs.Common.{false, sym, subst}
+use Rattle.std.proofs.Common.{◌≡◌, Bool, false, rules, tests, sym, subst}
+use Rattle.std.proofs.lemmas.Iterator.{YieldsList-from_slice}
+use Rattle.std.proofs.lemmas.Iterator.Consumers.{YieldsList-from_filter, reduce_by_from_yields_List}
+use Rattle.std.specs.List.{filter, reduce}
+use Rattle.std.specs.Option.{option_copied}
+use Rattle.semver_core.specs.Versions.{VersionValue}
 use Rattle.nodejs_semver.specs.Accepts.{accepts}
 use Rattle.nodejs_semver.specs.Best.{IsMin}
-use Rattle.nodejs_semver.proofs.BestOf.{min_is}
+use Rattle.nodejs_semver.proofs.BestOf.{lesser, lesser_now, min_is}
 use Rattle.nodejs_semver.proofs.range.Range.min_satisfying.Goals as goal
 
 pub returns : goal.returns
 returns c =
-    subst (IsMin (λ v. accepts c.args.self.now v false) c.args.versions.now) (sym c.first_least-best.ensures)
-    (min_is (λ v. accepts c.args.self.now v false) c.args.versions.now)
+    let set : VersionValue → Bool = λ v. accepts c.args.self.now v false in
+    let found : option_copied c.min.result ≡ reduce lesser (filter set c.args.versions.now) =
+    reduce_by_from_yields_List _ lesser _ _ lesser_now c.min.ensures.ran
+    (YieldsList-from_filter _ set (YieldsList-from_slice c.args.versions.now cc) c.filter.ensures.closure (λ x r q k. search (rules, tests))) in
+    subst (IsMin set c.args.versions.now) (sym found) (min_is set c.args.versions.now)

@@ -1,4 +1,4 @@
-use Rattle.std.proofs.Common.{◌++◌, sym, subst}
+use Rattle.std.proofs.Common.{sym, subst}
 use Rattle.nodejs_semver.specs.Least.{beyond, IsLeastOf}
 use Rattle.nodejs_semver.proofs.LeastOf as lemmas
 use Rattle.nodejs_semver.proofs.range.least.least_beyond.Goals as goal
@@ -7,4 +7,4 @@ pub returns-clause-least : goal.returns-clause-least
 returns-clause-least c = subst (IsLeastOf (beyond c.args.kept.now c.args.removed.now)) (sym c.in_ok-best.ensures) (lemmas.least_beyond c.args.kept.now c.args.removed.now)
 
 pub returns-clause-build : goal.returns-clause-build
-returns-clause-build c = lemmas.least_bare (beyond c.args.kept.now c.args.removed.now) (c.args.kept.now ++ c.args.removed.now) c.in_ok-best.best c.in_ok-best.ensures
+returns-clause-build c = lemmas.least_bare (beyond c.args.kept.now c.args.removed.now) c.args.kept.now c.args.removed.now c.in_ok-best.best c.in_ok-best.ensures

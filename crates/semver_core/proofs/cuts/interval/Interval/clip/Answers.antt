@@ -1,8 +1,10 @@
-use Rattle.std.proofs.Common.{ap, ◌∙◌}
+use Rattle.std.proofs.Common.{◌≡◌, ap, ◌∙◌}
+use Rattle.semver_core.specs.Clips.{clip}
 use Rattle.semver_core.specs.Cuts.{option_holds}
 use Rattle.semver_core.proofs.CutLaws.{option_holds-clip}
 use Rattle.semver_core.proofs.cuts.interval.Interval.clip.Goals as goal
 
 pub returns-clause-set : goal.returns-clause-set
 returns-clause-set g c =
-    λ v. ap (λ r. option_holds g.V.Ord.cmp r v) c.in_ok-clipped.ensures ∙ option_holds-clip g.met.V.Ord.total c.args.self.now c.args.other.now v
+    let found : c.in_ok-clipped.clipped ≡ clip g.V.Ord.cmp c.args.self.now c.args.other.now = cc (c.in_ok-clipped.ensures, c.greater_lower-lower.ensures, c.lesser_upper-upper.ensures) in
+    λ v. ap (λ r. option_holds g.V.Ord.cmp r v) found ∙ option_holds-clip g.met.V.Ord.total c.args.self.now c.args.other.now v

@@ -1,0 +1,9 @@
+use Rattle.std.proofs.Common.{◌≡◌, Option, Some, None, is_some, false, refl, sym, ◌∙◌}
+use Rattle.semver_core.proofs.cuts.interval.Interval.into_intersection.Goals as goal
+
+none_of : {A : Type 0} (m : Option A) → is_some m ≡ false → m ≡ None
+none_of None h = refl
+none_of (Some x) h = cc
+
+pub returns-then-not-meets-clause-none : goal.returns-then-not-meets-clause-none
+returns-then-not-meets-clause-none g c = none_of _ (sym c.meets.ensures ∙ c.if-not-meets.true)
