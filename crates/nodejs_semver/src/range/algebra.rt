@@ -10,6 +10,7 @@ ghost use Rattle.nodejs_semver.specs.Lists.{intersection, difference, covers_one
 
 use crate::Range;
 use crate::range::lists;
+use smallvec::SmallVec;
 use std::alloc::{AllocError, Global};
 
 impl Range {
@@ -89,13 +90,13 @@ impl Range {
         ensures { IfOk result (λ r. r ≡ intersection self.now other.now) }
     {
         let found = lists::intersections(alloc, self.intervals(), other.intervals())?;
-        Ok(Range::from_intervals(found))
+        Ok(Range::from_intervals(SmallVec::from_vec(found)))
     }
 
     fn rest(&self, alloc: Global, other: &Range) -> Result<Option<Range>, AllocError>
         ensures { IfOk result (λ r. r ≡ difference self.now other.now) }
     {
         let left = lists::differences(alloc, self.intervals(), other.intervals())?;
-        Ok(Range::from_intervals(left))
+        Ok(Range::from_intervals(SmallVec::from_vec(left)))
     }
 }

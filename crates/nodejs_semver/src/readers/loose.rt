@@ -8,9 +8,10 @@ ghost use Rattle.semver_core.specs.Cuts.{if_any};
 ghost use Rattle.semver_core.specs.Spaces.{is_empty};
 
 use crate::Range;
+use crate::range::Intervals;
 use crate::readers::{bars, intervals};
-use semver_core::cuts::Interval;
 use semver_core::{MAX_SAFE_INTEGER, Version};
+use smallvec::SmallVec;
 use std::alloc::{AllocError, Global};
 
 /// Whether all parts of a range text are empty.
@@ -29,10 +30,10 @@ pub(crate) fn is_blank(text: &str) -> bool
 }
 
 // The intervals of all parts, in order. One cursor goes through the text.
-fn intervals_of(alloc: Global, text: &str) -> Result<Vec<Interval<Version>>, AllocError>
+fn intervals_of(alloc: Global, text: &str) -> Result<Intervals<Version>, AllocError>
     ensures { IfOk result (λ found. found.items ≡ flat_map (part_intervals MAX_SAFE_INTEGER) (parts text.now)) }
 {
-    let mut found = Vec::new(alloc);
+    let mut found = SmallVec::new(alloc);
     let mut rest = Some(text);
     'parts: while let Some(text) = rest {
         let (part, after) = bars::next_part(text);

@@ -12,5 +12,5 @@ returns-in-Some-2 c = λ rest.
 
 pub returns-in_ok-push-in-None : goal.returns-in_ok-push-in-None
 returns-in_ok-push-in-None c = λ rest.
-    ap (λ (l : List (Span VersionValue)). l ++ joined_from precedence c.args.next rest) c.in_ok-push-in-None.ensures.items
+    ap (λ (l : List (Span VersionValue)). l ++ joined_from precedence c.args.next rest) c.in_ok-push-in-None.ensures.ok
     ∙ join_stops c.args.running c.in-Some.running c.args.next c.args.finished.now.items rest c.in-Some.is (sym c.in_ok-common.ensures.bounds ∙ c.in-None.is)
