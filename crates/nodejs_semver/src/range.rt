@@ -1,6 +1,6 @@
 // Ranges: lists of intervals of versions.
 
-ghost use Rattle.std.specs.Prelude.{◌≡◌, ◌+◌, IfOk, true};
+ghost use Rattle.std.specs.Prelude.{◌≡◌, ◌+◌, IfOk, IsOk, true};
 ghost use Rattle.std.specs.List.{list_all};
 ghost use Rattle.semver_core.specs.declared.TheConstants.{MAX_SAFE_INTEGER};
 ghost use Rattle.semver_core.specs.Cuts.{if_any};
@@ -20,8 +20,12 @@ mod same;
 pub use crate::range::outside::{OutsideDirection, RangeError};
 use semver_core::Version;
 use semver_core::cuts::Interval;
+use smallvec::SmallVec;
 use std::alloc::{AllocError, Global};
 use std::marker::Model;
+
+// A list of intervals. One stands inline.
+pub(crate) type Intervals<V> = SmallVec<Interval<V>, 1>;
 
 /// A range: the versions of one or more intervals. It is what a range text such as `^1.2 || >=3.0.0-rc` names.
 ///
@@ -29,7 +33,7 @@ use std::marker::Model;
 /// `>=1.2.0 <2.0.0-0`.
 #[derive(Debug, Drop)]
 pub struct Range {
-    intervals: Vec<Interval<Version>>,
+    intervals: Intervals<Version>,
 }
 
 impl Model for Range {
@@ -48,13 +52,14 @@ impl Model for Range {
 
 impl Range {
     /// The range with one interval, which has no bounds. It holds every version, but `satisfies` accepts releases alone, since
-    /// it names no pre-release; `satisfies_with_prerelease` with the flag accepts every version. Fails only if allocation
-    /// fails.
+    /// it names no pre-release; `satisfies_with_prerelease` with the flag accepts every version. Nothing is allocated, so it
+    /// never fails.
     pub fn any(alloc: Global) -> Result<Range, AllocError>
-        ensures { IfOk result (λ r. r ≡ any_version) }
+        ensures value { IfOk result (λ r. r ≡ any_version) }
+        ensures succeeds { IsOk result }
     {
-        let mut intervals = Vec::new(alloc);
-        intervals.push(Interval::default())?;
+        let mut intervals = SmallVec::new(alloc);
+        intervals.push_reserved(Interval::default());
         Ok(Range { intervals })
     }
 
@@ -75,7 +80,7 @@ impl Range {
     }
 
     // The range of these intervals, or none where there is no interval.
-    pub(crate) fn from_intervals(intervals: Vec<Interval<Version>>) -> Option<Range>
+    pub(crate) fn from_intervals(intervals: Intervals<Version>) -> Option<Range>
         requires { list_all (is_range_span (MAX_SAFE_INTEGER + 1)) intervals.items ≡ true }
         ensures { result ≡ if_any intervals.items }
     {
@@ -90,10 +95,10 @@ impl Range {
 fn copy_intervals(
     alloc: Global,
     intervals: &[Interval<Version>],
-) -> Result<Vec<Interval<Version>>, AllocError>
+) -> Result<Intervals<Version>, AllocError>
     ensures { IfOk result (λ copy. copy.items ≡ intervals.now) }
 {
-    let mut copy = Vec::with_capacity(alloc, intervals.len())?;
+    let mut copy = SmallVec::with_capacity(alloc, intervals.len())?;
     for interval in intervals {
         copy.push(interval.copy(alloc)?)?;
     }

@@ -10,6 +10,7 @@ ghost use Rattle.nodejs_semver.specs.Lists.{intersection, difference, covers_one
 
 use crate::Range;
 use crate::range::lists;
+use smallvec::SmallVec;
 use std::alloc::{AllocError, Global};
 
 impl Range {
@@ -105,7 +106,7 @@ impl Range {
         ensures { IfOk result (λ r. r ≡ intersection self.now other.now) }
     {
         let found = lists::intersections(alloc, self.intervals(), other.intervals())?;
-        Ok(Range::from_intervals(found))
+        Ok(Range::from_intervals(SmallVec::from_vec(found)))
     }
 
     // The difference as a list, in order and with its builds.
@@ -113,6 +114,6 @@ impl Range {
         ensures { IfOk result (λ r. r ≡ difference self.now other.now) }
     {
         let left = lists::differences(alloc, self.intervals(), other.intervals())?;
-        Ok(Range::from_intervals(left))
+        Ok(Range::from_intervals(SmallVec::from_vec(left)))
     }
 }

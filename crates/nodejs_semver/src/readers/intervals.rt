@@ -13,6 +13,7 @@ ghost use Rattle.semver_core.specs.Versions.{VersionValue};
 ghost use Rattle.semver_core.specs.Views.{ids_view};
 ghost use Rattle.semver_core.specs.declared.TheConstants.{MAX_SAFE_INTEGER};
 
+use crate::range::Intervals;
 use crate::readers::syntax::{BareVersion, Bounds, PreRelease};
 use crate::readers::{spaces, table, words};
 use semver_core::cuts::{Bound, Interval};
@@ -114,7 +115,7 @@ fn next_interval(
 fn join(
     running: Option<Interval<Version>>,
     next: Interval<Version>,
-    finished: &mut Vec<Interval<Version>>,
+    finished: &mut Intervals<Version>,
 ) -> Result<Interval<Version>, AllocError>
     ensures { IfOk result (λ kept. (rest : List (Span VersionValue)) →
         finished.new.items ++ joined precedence (Some kept) rest
@@ -136,7 +137,7 @@ fn join(
 pub(crate) fn read_part(
     alloc: Global,
     part: &[u8],
-    found: &mut Vec<Interval<Version>>,
+    found: &mut Intervals<Version>,
 ) -> Result<(), AllocError>
     requires { space_len part.now ≡ 0 }
     ensures { OnOk result (found.new.items ≡ found.old.items ++ part_intervals MAX_SAFE_INTEGER part.now) }

@@ -8,9 +8,11 @@ ghost use Rattle.semver_core.specs.Cuts.{if_any};
 ghost use Rattle.semver_core.specs.Spaces.{is_empty, space_len};
 
 use crate::Range;
+use crate::range::Intervals;
 use crate::readers::{bars, intervals};
 use semver_core::cuts::Interval;
 use semver_core::{MAX_SAFE_INTEGER, Version};
+use smallvec::SmallVec;
 use std::alloc::{AllocError, Global};
 
 /// Whether a range text is blank: each part between `||` is empty or whitespace alone, as in ` `, `||` and ` || `. Such a text
@@ -33,7 +35,7 @@ pub fn is_blank(text: &str) -> bool
 fn add_part(
     alloc: Global,
     part: &str,
-    found: &mut Vec<Interval<Version>>,
+    found: &mut Intervals<Version>,
 ) -> Result<(), AllocError>
     requires { space_len part.now ≡ 0 }
     ensures { OnOk result (
@@ -47,11 +49,11 @@ fn add_part(
 }
 
 // The intervals of all parts, in order. One cursor goes through the text.
-fn intervals_of(alloc: Global, text: &str) -> Result<Vec<Interval<Version>>, AllocError>
+fn intervals_of(alloc: Global, text: &str) -> Result<Intervals<Version>, AllocError>
     ensures { IfOk result (λ found. found.items
         ≡ flat_map (part_denotes MAX_SAFE_INTEGER) (parts text.now)) }
 {
-    let mut found = Vec::new(alloc);
+    let mut found = SmallVec::new(alloc);
     let mut rest = Some(text);
     'parts: while let Some(text) = rest {
         let (part, after) = bars::next_part(text);

@@ -53,7 +53,7 @@ words-preserved c =
 pub returns-in_ok-push : goal.returns-in_ok-push
 returns-in_ok-push c =
     let none : length c.words.rest.now ≡ 0 = grind arith in
-    c.in_ok-push.ensures.items
+    c.in_ok-push.ensures.ok
     ∙ part-last MAX_SAFE_INTEGER c.args.part.now c.words.rest.now c.args.found.now.items c.words.found.items c.words.running c.in-Some-running.last c.words.invariant.whole none c.in-Some-running.is
 
 pub returns-in_default-running : goal.returns-in_default-running
