@@ -4,6 +4,7 @@ use Rattle.std.specs.Prelude.{ℕ, zero, suc, ◌==◌, ◌&&◌, ◌||◌, not,
 use Rattle.std.specs.Char.{is_ascii_digit}
 use Rattle.std.specs.List.{list_all}
 use Rattle.std.specs.Str.Parse.{digits_value}
+use Rattle.semver_core.specs.Characters.{begins}
 use Rattle.semver_core.specs.Identifiers.{Id, is_run, identifier_of, pieces}
 use Rattle.semver_core.specs.Spaces.{drop_spaces, is_empty}
 
@@ -124,8 +125,7 @@ partial_of limit text = components_of limit (drop_spaces (drop_v text))
 
 -- whether a run of digits goes on from one text to the next
 abbrev pub begins_digit : List ℕ → Bool
-begins_digit [] = false
-begins_digit (b ∷ rest) = is_ascii_digit b
+begins_digit text = begins is_ascii_digit text
 
 abbrev pub ends_digit : List ℕ → Bool
 ends_digit [] = false

@@ -3,13 +3,11 @@
 mod bars;
 mod intervals;
 mod loose;
-mod number;
 mod partial;
-mod spaces;
 mod syntax;
 mod table;
 mod words;
 
 pub(crate) use crate::readers::loose::is_blank;
 pub use crate::readers::loose::range_loose;
-pub use semver_core::readers::version_loose;
+pub use semver_core::readers::{version_fast, version_loose};
