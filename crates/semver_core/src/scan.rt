@@ -6,11 +6,10 @@
 
 ghost use Rattle.std.specs.Prelude.{◌≡◌, ◌≤◌, ◌==◌, ◌+◌, ◌<◌, if◌then◌else◌, ℕ, List, length, drop, take, IfOk, IfSome, IfNone, OnErr, IsCharBoundary, IsUtf8, Ok, None, Some, false, true};
 ghost use Rattle.std.specs.Char.{is_ascii_digit};
-ghost use Rattle.std.specs.List.{prefix_len, list_all};
+ghost use Rattle.std.specs.List.{prefix_len};
 ghost use Rattle.semver_core.specs.CommonReading.{grown, run_from, number_of_run};
 ghost use Rattle.semver_core.specs.Characters.{is_identifier_char, is_whitespace, begins, IsAfterBlank, IsPieceAt, NoPieceAt};
-ghost use Rattle.semver_core.specs.Identifiers as id;
-ghost use Rattle.semver_core.specs.Identifiers.{Id, identifier_of, is_run, goes_on, IsLongestIdentifiers};
+ghost use Rattle.semver_core.specs.Identifiers.{Id, identifier_of, goes_on, IsLongestIdentifiers};
 ghost use Rattle.semver_core.specs.Numbers.{IsWholeNumber};
 ghost use Rattle.semver_core.specs.Reading.{number_at, list_at};
 ghost use Rattle.semver_core.specs.Views.{id_view, ids_view, list_view};
@@ -83,7 +82,13 @@ pub fn space_len(text: &[u8]) -> usize
     ensures fits { result ≤ length text.now }
 {
     match text {
-        [a, ..] if *a < 0x80 => { if is_whitespace_code(u32::from(*a)) { 1 } else { 0 } }
+        [a, ..] if *a < 0x80 => {
+            if is_whitespace_code(u32::from(*a)) {
+                1
+            } else {
+                0
+            }
+        }
         [a, b, ..] if is_space_of_two(*a, *b) => 2,
         [a, b, c, ..] if is_space_of_three(*a, *b, *c) => 3,
         _ => 0,

@@ -11,8 +11,8 @@ ghost use Rattle.nodejs_semver.specs.Readings.{pair_view, partial_front_view, pa
 ghost use Rattle.semver_core.specs.declared.TheConstants.{MAX_SAFE_INTEGER};
 
 use crate::readers::syntax::Partial;
-use semver_core::scan::{begins_identifier, goes_on, number_in, skip_spaces};
 use semver_core::MAX_SAFE_INTEGER;
+use semver_core::scan::{begins_identifier, goes_on, number_in, skip_spaces};
 
 #[inline(always)]
 fn begins_wildcard(text: &[u8]) -> bool

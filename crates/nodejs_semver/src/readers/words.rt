@@ -7,8 +7,8 @@ ghost use Rattle.nodejs_semver.specs.Words as Spec;
 ghost use Rattle.nodejs_semver.specs.Words.{is_boundary};
 ghost use Rattle.semver_core.specs.declared.TheConstants.{MAX_SAFE_INTEGER};
 
-use crate::readers::syntax::{Comparator, Partial, Word};
 use crate::readers::partial;
+use crate::readers::syntax::{Comparator, Partial, Word};
 use semver_core::{MAX_SAFE_INTEGER, scan};
 
 // The longest partial at the front.

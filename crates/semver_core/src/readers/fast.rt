@@ -1,12 +1,11 @@
 //! The reader of common version texts.
 
-ghost use Rattle.std.specs.Prelude.{◌||◌, ◌==◌, get_or, ◌≡◌, ◌≤◌, ◌<◌, length, drop, IfOk, IfSome, IfNone, IsSomeAnd, OnErr};
+ghost use Rattle.std.specs.Prelude.{◌||◌, ◌==◌, get_or, ◌≡◌, ◌≤◌, ◌<◌, length, IfOk, IfSome, IfNone, IsSomeAnd, OnErr};
 ghost use Rattle.semver_core.specs.Characters.{is_identifier_char};
 ghost use Rattle.semver_core.specs.Common.{IsCommon, IsUncommon};
 ghost use Rattle.semver_core.specs.CommonReading.{small_len, part_at, whole_at, common_of};
 ghost use Rattle.semver_core.specs.Grammar.{HasVersionWithIdentifiers};
-ghost use Rattle.semver_core.specs.ListView.{list_ids};
-ghost use Rattle.semver_core.specs.Reading.{build_at, qualified, triple_at, version_at};
+ghost use Rattle.semver_core.specs.Reading.{qualified, triple_at, version_at};
 ghost use Rattle.semver_core.specs.Versions.{HasIdentifiers};
 
 use crate::readers::loose::{build, pre_release};
