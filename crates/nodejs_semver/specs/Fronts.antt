@@ -25,8 +25,7 @@ number_front limit text =
     number_of limit (take_while is_ascii_digit text) >>= λ n. Some (n, drop (prefix_len is_ascii_digit text) text)
 
 abbrev pub begins_wildcard : List ℕ → Bool
-begins_wildcard [] = false
-begins_wildcard (b ∷ rest) = is_wildcard b
+begins_wildcard text = begins is_wildcard text
 
 -- a wildcard or a number
 unfoldable pub component_front : ℕ → List ℕ → Front (Option ℕ)

@@ -4,8 +4,8 @@ use Rattle.std.specs.Prelude.{ℕ, zero, suc, ◌==◌, ◌&&◌, ◌||◌, not,
 use Rattle.std.specs.Char.{is_ascii_digit}
 use Rattle.std.specs.List.{list_all}
 use Rattle.std.specs.Str.Parse.{digits_value}
-use Rattle.semver_core.specs.Identifiers.{Id, is_run, identifier_of, pieces}
 use Rattle.semver_core.specs.Characters.{begins}
+use Rattle.semver_core.specs.Identifiers.{Id, is_run, identifier_of, pieces}
 use Rattle.semver_core.specs.Spaces.{drop_spaces, is_empty}
 use Rattle.nodejs_semver.specs.PartialText.{Partial, ends_digit, is_wildcard}
 

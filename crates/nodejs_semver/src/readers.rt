@@ -3,12 +3,10 @@
 mod bars;
 mod intervals;
 mod loose;
-mod number;
 mod partial;
-mod spaces;
 mod syntax;
 mod table;
 mod words;
 
 pub use crate::readers::loose::{is_blank, range_loose};
-pub use semver_core::readers::version_loose;
+pub use semver_core::readers::{version_fast, version_loose};

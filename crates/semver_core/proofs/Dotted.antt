@@ -1,7 +1,7 @@
 -- Three numbers, each dot looked at once.
-use Rattle.std.proofs.Common.{◌≡◌, ◌==◌, ◌<◌, ◌≤◌, ◌+◌, ◌-◌, ◌*◌, ℕ, Bool, true, false, List, [], ◌∷◌, length, drop, get_or, Option, Some, None, refl, sym, ap, ◌∙◌, arith, inl, inr, eqb, ltb}
+use Rattle.std.proofs.Common.{◌≡◌, ◌==◌, ◌<◌, ◌≤◌, ◌+◌, ◌-◌, ◌*◌, ℕ, true, false, List, length, drop, get_or, Option, Some, None, refl, arith, inl, inr, eqb}
 use Rattle.std.proofs.Math.Seq.{drop-cons}
-use Rattle.std.proofs.lemmas.Bool.{cases_Bool, eqb-true}
+use Rattle.std.proofs.lemmas.Bool.{cases_Bool}
 use Rattle.std.proofs.lemmas.Bool.Decides.{nat_tests}
 use Rattle.std.proofs.lemmas.List.{drop_all}
 use Rattle.std.specs.Char.{is_ascii_digit}
@@ -76,10 +76,12 @@ by_parts (Some a) P N = second (P a.1)
     third : (m : ℕ × ℕ) (o : Option ℕ) → (o >>= λ t. N t >>= λ c. four a.0 m.0 c) ≡ ((o >>= λ x. two m.0 x) >>= λ b. N b.1 >>= λ c. four a.0 b.0 c)
     third m None = refl
     third m (Some t) = refl
+
     minor : (o : Option (ℕ × ℕ)) → (o >>= λ b. P b.1 >>= λ t. N t >>= λ c. four a.0 b.0 c)
         ≡ ((o >>= λ n. P n.1 >>= λ x. two n.0 x) >>= λ b. N b.1 >>= λ c. four a.0 b.0 c)
     minor None = refl
     minor (Some m) = third m (P m.1)
+
     second : (o : Option ℕ) → (o >>= λ s. N s >>= λ b. P b.1 >>= λ t. N t >>= λ c. four a.0 b.0 c)
         ≡ ((o >>= λ x. two a.0 x) >>= λ y. (N y.1 >>= λ n. P n.1 >>= λ x. two n.0 x) >>= λ b. N b.1 >>= λ c. four y.0 b.0 c)
     second None = refl

@@ -5,6 +5,7 @@ pub mod Places
 pub mod Pieces
 pub mod Texts
 pub mod Blanks
+pub mod TextFront
 pub mod Clauses
 pub mod OnePass
 pub mod Dotted

@@ -1,5 +1,5 @@
 -- A run that is read in one pass.
-use Rattle.std.proofs.Common.{◌≡◌, ◌<◌, ◌≤◌, ◌+◌, ◌*◌, ◌^◌, ◌-◌, ◌&&◌, ℕ, Bool, true, false, ltb, List, [], ◌∷◌, length, drop, take, get_or, Option, Some, None, refl, sym, ap, ◌∙◌, arith, inl, inr, add-one, add_comm, add-zero}
+use Rattle.std.proofs.Common.{◌≡◌, ◌<◌, ◌≤◌, ◌+◌, ◌*◌, ◌^◌, ◌-◌, ℕ, true, false, ltb, List, [], ◌∷◌, length, drop, take, get_or, Option, Some, None, refl, sym, ap, ◌∙◌, arith, inl, inr, add-one, add_comm, add-zero}
 use Rattle.std.proofs.Math.Seq.{drop-cons}
 use Rattle.std.proofs.lemmas.Bool.{cases_Bool}
 use Rattle.std.proofs.lemmas.Bool.Decides.{nat_tests}
@@ -8,9 +8,9 @@ use Rattle.std.specs.Cmp.{first_so, second_so}
 use Rattle.std.specs.Char.{is_ascii_digit, digit_value}
 use Rattle.std.specs.List.{list_all, prefix_len}
 use Rattle.std.specs.Str.Parse.{digits_value, digits_value_after}
-use Rattle.semver_core.specs.Characters.{begins, is_identifier_char}
+use Rattle.semver_core.specs.Characters.{is_identifier_char}
 use Rattle.semver_core.specs.CommonReading.{grown, run_from, number_of_run, id_by}
-use Rattle.semver_core.specs.Identifiers.{Id, Numeric, AlphaNumeric, identifier_of}
+use Rattle.semver_core.specs.Identifiers.{Numeric, AlphaNumeric, identifier_of}
 use Rattle.semver_core.proofs.Digits.{digit_value-is}
 use Rattle.semver_core.proofs.Pieces.{digits_grow}
 use Rattle.semver_core.proofs.Runs.{run_length}

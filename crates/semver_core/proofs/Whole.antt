@@ -1,5 +1,5 @@
 -- The fast reader's answer is the common text's version.
-use Rattle.std.proofs.Common.{suc, ◌||◌, ◌≡◌, ◌==◌, ◌<◌, ◌≤◌, ◌+◌, ℕ, Bool, true, false, List, [], ◌∷◌, ◌++◌, length, drop, take, get_or, Option, Some, None, refl, sym, ap, ◌∙◌, subst, arith, inl, inr, eqb, cond, append_assoc, add-zero, append-nil}
+use Rattle.std.proofs.Common.{suc, ◌||◌, ◌≡◌, ◌==◌, ◌<◌, ◌≤◌, ◌+◌, ℕ, Bool, true, false, List, [], ◌∷◌, ◌++◌, length, drop, take, get_or, Option, Some, None, refl, sym, ap, ◌∙◌, subst, arith, inl, inr, eqb}
 use Rattle.std.proofs.lemmas.Bool.{cases_Bool, eqb-true}
 use Rattle.std.proofs.lemmas.Bool.Decides.{nat_tests}
 use Rattle.std.proofs.lemmas.List.{take-append-drop, drop_all}
@@ -9,14 +9,12 @@ use Rattle.std.specs.Option.{IsSomeAnd, IfSome, IfNone}
 use Rattle.semver_core.specs.Characters.{begins, is_identifier_char, IsBlank}
 use Rattle.semver_core.specs.Common.{IsCommon, IsUncommon}
 use Rattle.semver_core.specs.CommonReading.{small_len, at_end, whole_at, common_of}
-use Rattle.semver_core.specs.Grammar.{HasVersionWithIdentifiers, HasNoVersion, HasOneReading, begins_pre_release, IsMark, IsPreRelease, IsBuild, Reads, begins_build, plus, no_build, no_mark, small_mark, capital_mark}
+use Rattle.semver_core.specs.Grammar.{HasVersionWithIdentifiers, HasNoVersion, HasOneReading, begins_pre_release, IsMark, Reads, begins_build, no_mark, small_mark, capital_mark}
 use Rattle.semver_core.specs.Identifiers.{Id}
-use Rattle.semver_core.specs.Numbers.{IsNumber, IsWholeNumber}
-use Rattle.semver_core.specs.Reading.{◌>>=◌, list_at, triple_at, or_nothing, pre_release_at, build_at, lists_at, qualified, version_at}
+use Rattle.semver_core.specs.Reading.{triple_at, pre_release_at, build_at, lists_at, qualified, version_at}
 use Rattle.semver_core.specs.Versions.{VersionValue, HasIdentifiers}
-use Rattle.semver_core.proofs.Pieces.{some_inside, rest_at, list_complete, list_none}
-use Rattle.semver_core.proofs.Runs.{drop_next}
-use Rattle.semver_core.proofs.Texts.{Division, rest_of, divided_at, bind_some, triple_complete, pre_complete, none_build, build_complete, number_begins, pick, none_pre, version_sound}
+use Rattle.semver_core.proofs.Pieces.{some_inside}
+use Rattle.semver_core.proofs.Texts.{rest_of, divided_at, bind_some, triple_complete, pre_complete, none_build, build_complete, number_begins, pick, none_pre, version_sound}
 
 at_end_some : {A : Type 0} (rest : List ℕ) (x y : A) → at_end rest x ≡ Some y → (rest ≡ []) × (x ≡ y)
 at_end_some [] x y e = (refl, some_inside x y e)

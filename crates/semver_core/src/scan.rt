@@ -1,38 +1,125 @@
-//! The pieces that every reader of versions and ranges is made of.
+//! The pieces that every reader of versions and ranges is made of: whitespace, numbers and
+//! identifiers.
+//!
+//! A call on a `&str` takes a place in it, a byte index. A call on a `&[u8]` reads at the front of
+//! the bytes, save `number_in`, which takes a place.
 
-ghost use Rattle.std.specs.Prelude.{◌≡◌, ◌≤◌, ◌==◌, ◌+◌, ◌<◌, if◌then◌else◌, ℕ, List, [], length, drop, take, IfOk, IfSome, IfNone, OnErr, IsCharBoundary, Ok, None, Some, false, true};
+ghost use Rattle.std.specs.Prelude.{◌≡◌, ◌≤◌, ◌==◌, ◌+◌, ◌<◌, if◌then◌else◌, ℕ, List, [], length, drop, take, IfOk, IfSome, IfNone, OnErr, IsCharBoundary, IsUtf8, Ok, None, Some, false, true};
 ghost use Rattle.std.specs.Char.{is_ascii_digit};
-ghost use Rattle.std.specs.List.{prefix_len, list_all};
+ghost use Rattle.std.specs.List.{prefix_len};
 ghost use Rattle.semver_core.specs.CommonReading.{grown, run_from, number_of_run};
 ghost use Rattle.semver_core.specs.Characters.{is_identifier_char, is_whitespace, begins, IsAfterBlank, IsPieceAt, NoPieceAt};
-ghost use Rattle.semver_core.specs.Identifiers as id;
-ghost use Rattle.semver_core.specs.Identifiers.{Id, identifier_of, is_run, goes_on, IsLongestIdentifiers};
+ghost use Rattle.semver_core.specs.Identifiers.{Id, identifier_of, goes_on, IsLongestIdentifiers};
 ghost use Rattle.semver_core.specs.Numbers.{IsWholeNumber};
 ghost use Rattle.semver_core.specs.Reading.{number_at, list_at};
 ghost use Rattle.semver_core.specs.Views.{id_view, ids_view, list_view};
 ghost use Rattle.semver_core.specs.Characters.{IsTrim};
-ghost use Rattle.semver_core.specs.Spaces.{drop_end_spaces};
+ghost use Rattle.semver_core.specs.Spaces.{drop_end_spaces, drop_spaces, goes_on_with, is_space_of_two, is_space_of_three, space_len};
 
 use crate::version::lists::Identifiers;
 use crate::{Identifier, MAX_SAFE_INTEGER};
 use smallvec::SmallVec;
 use std::alloc::{AllocError, Global};
 
+/// Returns the longest text at the front of some bytes, which is all of them where they are UTF-8.
+#[tactic(auto, using(crate::proofs::TextFront::none_is_all, crate::proofs::TextFront::text_is_all))]
+pub fn text_front(bytes: &[u8]) -> &str
+    ensures { IsUtf8 bytes.now → result.now ≡ bytes.now }
+{
+    match bytes.utf8_chunks().next() {
+        Some(chunk) => chunk.valid(),
+        None => "",
+    }
+}
+
+// Whether a code point is that of a whitespace character.
+#[inline(always)]
+fn is_whitespace_code(code: u32) -> bool
+    ensures { result ≡ is_whitespace code }
+{
+    matches!(code, 0x9..=0xD | 0x20 | 0xA0 | 0x1680 | 0x2000..=0x200A)
+        || matches!(code, 0x2028 | 0x2029 | 0x202F | 0x205F | 0x3000 | 0xFEFF)
+}
+
+#[inline(always)]
 fn is_whitespace(character: char) -> bool
     ensures { result ≡ is_whitespace character }
 {
-    matches!(character, '\t'..='\r' | ' ' | '\u{A0}' | '\u{1680}' | '\u{2000}'..='\u{200A}')
-        || matches!(
-            character,
-            '\u{2028}' | '\u{2029}' | '\u{202F}' | '\u{205F}' | '\u{3000}' | '\u{FEFF}'
-        )
+    is_whitespace_code(u32::from(character))
 }
 
-#[tactic(auto, using(crate::proofs::Blanks::passed_none, crate::proofs::Blanks::passed_more, crate::proofs::Blanks::passed_room, crate::proofs::Blanks::passed_stop, crate::proofs::Blanks::passed_end))]
-/// The place behind the whitespace that begins at a place, which is that place itself where none stands there.
+// Whether a byte goes on with a character.
+#[inline(always)]
+fn goes_on_with(byte: u8) -> bool
+    ensures { result ≡ goes_on_with byte }
+{
+    (0x80..=0xBF).contains(&byte)
+}
+
+#[inline(always)]
+fn is_space_of_two(a: u8, b: u8) -> bool
+    ensures { result ≡ is_space_of_two a b }
+{
+    (0xC0..=0xDF).contains(&a)
+        && goes_on_with(b)
+        && is_whitespace_code(u32::from(a % 32) * 64 + u32::from(b % 64))
+}
+
+#[inline(always)]
+fn is_space_of_three(a: u8, b: u8, c: u8) -> bool
+    ensures { result ≡ is_space_of_three a b c }
+{
+    (0xE0..=0xEF).contains(&a)
+        && goes_on_with(b)
+        && goes_on_with(c)
+        && is_whitespace_code((u32::from(a % 16) * 64 + u32::from(b % 64)) * 64 + u32::from(c % 64))
+}
+
+/// Returns how many bytes the whitespace character at the front of a text takes, and 0 where none
+/// stands there. Whitespace is what `skip_whitespace` skips.
+#[inline(always)]
+#[tactic(auto, unfolding(crate::specs::Spaces::space_len))]
+pub fn space_len(text: &[u8]) -> usize
+    ensures value { result ≡ space_len text.now }
+    ensures fits { result ≤ length text.now }
+{
+    match text {
+        [a, ..] if *a < 0x80 => {
+            if is_whitespace_code(u32::from(*a)) {
+                1
+            } else {
+                0
+            }
+        }
+        [a, b, ..] if is_space_of_two(*a, *b) => 2,
+        [a, b, c, ..] if is_space_of_three(*a, *b, *c) => 3,
+        _ => 0,
+    }
+}
+
+/// Returns the bytes of a text behind the whitespace at its front.
+pub fn skip_spaces(text: &[u8]) -> &[u8]
+    ensures { result.now ≡ drop_spaces text.now }
+{
+    let mut left = text;
+    'spaces: loop {
+        let len = space_len(left);
+        if len == 0 {
+            return left;
+        }
+        left = &left[len..];
+    }
+}
+
+/// Returns the place behind the whitespace that begins at a place, which is that place itself if no
+/// whitespace stands there.
 ///
-/// Whitespace is tab to carriage return, the space, U+00A0, U+1680, U+2000 to U+200A, U+2028, U+2029, U+202F, U+205F,
-/// U+3000 and U+FEFF, as in node-semver. A place is a byte index on a character boundary.
+/// Whitespace is what node-semver skips: tab to carriage return, the space, U+00A0, U+1680, U+2000
+/// to U+200A, U+2028, U+2029, U+202F, U+205F, U+3000 and U+FEFF. A place is a byte index on a
+/// character boundary. Place 0 is one by std's lemma `IsCharBoundary-start` (of
+/// `Rattle.std.proofs.lemmas.Str`): the goal of a call `skip_whitespace(text, 0)` is answered by
+/// `IsCharBoundary-start c.args.text.now c.utf8.text`.
+#[tactic(auto, using(crate::proofs::Blanks::passed_none, crate::proofs::Blanks::passed_more, crate::proofs::Blanks::passed_room, crate::proofs::Blanks::passed_stop, crate::proofs::Blanks::passed_end))]
 pub fn skip_whitespace(text: &str, at: usize) -> usize
     requires { IsCharBoundary text.now at }
     ensures { IsAfterBlank text.now at result }
@@ -47,11 +134,11 @@ pub fn skip_whitespace(text: &str, at: usize) -> usize
     end
 }
 
-/// The text without the whitespace at its front and at its end: a part of the text, empty where the text is whitespace
-/// alone.
+/// Returns the text without the whitespace at its front and at its end: a part of the text, empty
+/// if the text is whitespace alone.
 ///
-/// Whitespace is what JavaScript's `trim` takes off: U+0009 to U+000D, U+0020, U+00A0, U+1680, U+2000 to U+200A,
-/// U+2028, U+2029, U+202F, U+205F, U+3000 and U+FEFF. U+0085, U+180E and U+200B are no whitespace.
+/// Whitespace is what JavaScript's `trim` takes off, which is what `skip_whitespace` skips. U+0085,
+/// U+180E and U+200B are not whitespace.
 ///
 /// `trim(" \u{FEFF}1.x || 2 ")` is `"1.x || 2"`.
 pub fn trim(text: &str) -> &str
@@ -85,20 +172,38 @@ fn ended(value: u64, at: usize, end: usize) -> Option<(u64, usize)>
     if end == at { None } else { Some((value, end)) }
 }
 
-/// The number at a place, and the place behind it: a whole run of ASCII digits, leading zeros allowed, of a value up to
-/// `MAX_SAFE_INTEGER`. A run of a greater value is no number and is not cut short.
+/// Returns the number at a place, and the place behind it: a whole run of ASCII digits, leading
+/// zeros allowed, of a value up to `MAX_SAFE_INTEGER`. A run of a greater value is not a number,
+/// and it is not cut short.
 ///
-/// The place is one before which no digit stands; at any other the run is what is left of it from there on.
+/// The place is one before which no digit stands; at any other the run is what is left of it from
+/// there on.
 pub fn number(text: &str, at: usize) -> Option<(u64, usize)>
     requires { at ≤ length text.now }
     // What is found is a whole run of digits.
-    ensures found { IfSome result (λ found.
-        IsPieceAt (λ digits rest. IsWholeNumber MAX_SAFE_INTEGER digits rest found.0) text.now at found.1) }
+    ensures found { IfSome result (λ found. IsPieceAt
+        (λ digits rest. IsWholeNumber MAX_SAFE_INTEGER digits rest found.0) text.now at found.1) }
     // Nothing is found only where no number begins.
-    ensures none { IfNone result ((n : ℕ) → NoPieceAt (λ digits rest. IsWholeNumber MAX_SAFE_INTEGER digits rest n) text.now at) }
+    ensures none { IfNone result ((n : ℕ) →
+        NoPieceAt (λ digits rest. IsWholeNumber MAX_SAFE_INTEGER digits rest n) text.now at) }
     ensures place { IfSome result (λ found. found.1 ≤ length text.now) }
 {
     read_number(text, at)
+}
+
+/// `number` over the bytes of a text.
+#[inline(always)]
+pub fn number_in(bytes: &[u8], at: usize) -> Option<(u64, usize)>
+    requires { at ≤ length bytes.now }
+    // What is found is a whole run of digits.
+    ensures found { IfSome result (λ found. IsPieceAt
+        (λ digits rest. IsWholeNumber MAX_SAFE_INTEGER digits rest found.0) bytes.now at found.1) }
+    // Nothing is found only where no number begins.
+    ensures none { IfNone result ((n : ℕ) →
+        NoPieceAt (λ digits rest. IsWholeNumber MAX_SAFE_INTEGER digits rest n) bytes.now at) }
+    ensures place { IfSome result (λ found. found.1 ≤ length bytes.now) }
+{
+    digits(bytes, at)
 }
 
 // The same as a function of the text.
@@ -132,15 +237,17 @@ pub(crate) fn digits(bytes: &[u8], at: usize) -> Option<(u64, usize)>
     ended(value, at, bytes.len())
 }
 
+/// Whether a byte is an ASCII letter, an ASCII digit or `-`, which identifiers are made of.
 #[inline(always)]
-pub(crate) fn is_identifier_char(byte: u8) -> bool
+pub fn is_identifier_char(byte: u8) -> bool
     ensures { result ≡ is_identifier_char byte }
 {
     byte.is_ascii_alphanumeric() || byte == b'-'
 }
 
+/// Whether a text begins with a character of identifiers.
 #[inline(always)]
-fn begins_identifier(text: &[u8]) -> bool
+pub fn begins_identifier(text: &[u8]) -> bool
     ensures { result ≡ begins is_identifier_char text.now }
 {
     match text {
@@ -149,9 +256,10 @@ fn begins_identifier(text: &[u8]) -> bool
     }
 }
 
-// Whether an identifier list that ends before this text would go on with it.
+/// Whether an identifier list that ends before this text would go on with it: with a character of
+/// identifiers, or with a dot that such a character follows.
 #[inline(always)]
-fn goes_on(text: &[u8]) -> bool
+pub fn goes_on(text: &[u8]) -> bool
     ensures { result ≡ goes_on text.now }
 {
     match text {
@@ -179,7 +287,8 @@ fn goes_on_at(text: &str, at: usize) -> bool
     goes_on(&text.as_bytes()[at..])
 }
 
-// The number that digits write so far, with one byte more: none where a byte is no digit, or the number does not fit.
+// The number that digits write so far, with one byte more: none where a byte is no digit, or the
+// number does not fit.
 #[inline(always)]
 #[tactic(auto, using(crate::proofs::OnePass::grown_small, crate::proofs::OnePass::grown_big))]
 fn grown(number: Option<u64>, byte: u8) -> Option<u64>
@@ -248,10 +357,12 @@ fn read_run(alloc: Global, text: &str, start: usize) -> Result<(Identifier, usiz
     }
 }
 
-/// The identifier list at a place, read as long as possible, and the place behind it: runs of ASCII letters, digits and `-`,
-/// joined by dots. A dot that no such character follows does not belong to it.
+/// Returns the identifier list at a place, read as long as possible, and the place behind it: runs
+/// of ASCII letters, digits and `-`, joined by dots. A dot that no such character follows does not
+/// belong to it.
 ///
-/// `None` where no such character stands there, which takes no memory; the error is want of memory.
+/// Returns `None` if no such character stands there, and then allocates nothing. Fails only if
+/// allocation fails.
 pub fn identifiers(
     alloc: Global,
     text: &str,
@@ -265,7 +376,7 @@ pub fn identifiers(
     ensures none { IfOk result (λ found. IfNone found ((ids : List Id) →
         NoPieceAt (λ piece rest. IsLongestIdentifiers piece rest ids) text.now at)) }
     ensures place { IfOk result (λ found. IfSome found (λ list. list.1 ≤ length text.now)) }
-    // Memory is missing only where a list begins.
+    // Allocation fails only where a list begins.
     ensures memory { OnErr result (begins is_identifier_char (drop at text.now) ≡ true) }
 {
     read_list(alloc, text, at)

@@ -65,9 +65,10 @@ impl Version {
         if text.len() > MAX_LENGTH {
             return Err(Failure::Refused(SemverError));
         }
-        match version_fast(alloc, text)? {
-            Some(version) => Ok(version),
-            None => parse_loose(alloc, text),
+        match version_fast(alloc, text) {
+            Ok(Some(version)) => Ok(version),
+            Ok(None) => parse_loose(alloc, text),
+            Err(error) => Err(Failure::Memory(error)),
         }
     }
 
@@ -167,7 +168,8 @@ impl Version {
     }
 }
 
-// The version at the front of a text, as `Version::parse` returns it where the text is not a common one.
+// Reads the version at the front of a text of any length, for `Version::parse` where the text is
+// not a common one.
 #[cold]
 #[inline(never)]
 fn parse_loose(alloc: Global, text: &str) -> Result<Version, Failure<SemverError>>

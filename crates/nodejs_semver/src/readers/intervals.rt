@@ -15,29 +15,17 @@ ghost use Rattle.semver_core.specs.declared.TheConstants.{MAX_SAFE_INTEGER};
 
 use crate::range::Intervals;
 use crate::readers::syntax::{BareVersion, Bounds, PreRelease};
-use crate::readers::{spaces, table, words};
+use crate::readers::{table, words};
 use semver_core::cuts::{Bound, Interval};
 use semver_core::{Identifier, Version, scan};
 use std::alloc::{AllocError, Global};
-
-// The text of identifiers, which are ASCII.
-#[tactic(auto, using(crate::proofs::Listed::listed_utf8))]
-fn as_text(bytes: &[u8]) -> &str
-    requires { is_listed bytes.now ≡ true }
-    ensures { result.now ≡ bytes.now }
-{
-    match str::from_utf8(bytes) {
-        Ok(text) => text,
-        Err(_) => "",
-    }
-}
 
 // The identifiers that a text writes.
 fn identifiers(alloc: Global, bytes: &[u8]) -> Result<Vec<Identifier>, AllocError>
     requires { is_listed bytes.now ≡ true }
     ensures { IfOk result (λ list. ids_view list.items ≡ list_of bytes.now) }
 {
-    let found = scan::identifiers(alloc, as_text(bytes), 0)?;
+    let found = scan::identifiers(alloc, scan::text_front(bytes), 0)?;
     match found {
         Some((list, _)) => Ok(list),
         None => Ok(Vec::new(alloc)),
@@ -108,7 +96,7 @@ fn next_interval(
         Some(bounds) => interval_of(alloc, &bounds)?,
         None => None,
     };
-    Ok((found, spaces::skip_spaces(rest)))
+    Ok((found, scan::skip_spaces(rest)))
 }
 
 // The running interval with one more: the intersection of both, or the next one alone, and then the running one is finished.

@@ -11,14 +11,25 @@ ghost use Rattle.nodejs_semver.specs.Readings.{pair_view, partial_front_view, pa
 ghost use Rattle.semver_core.specs.declared.TheConstants.{MAX_SAFE_INTEGER};
 
 use crate::readers::syntax::Partial;
-use crate::readers::{number, spaces};
 use semver_core::MAX_SAFE_INTEGER;
+use semver_core::scan::{begins_identifier, goes_on, number_in, skip_spaces};
 
 #[inline(always)]
 fn begins_wildcard(text: &[u8]) -> bool
     ensures { result ≡ Spec.begins_wildcard text.now }
 {
     matches!(text, [b'x' | b'X' | b'*', ..])
+}
+
+// The number at the front, a whole run of digits, and the text behind it.
+#[inline(always)]
+#[tactic(auto, using(crate::proofs::NumberFront::front_some, crate::proofs::NumberFront::front_none, crate::proofs::NumberFront::front_small))]
+fn number_front(text: &[u8]) -> Option<(u64, &[u8])>
+    ensures value { front_view result ≡ Spec.number_front MAX_SAFE_INTEGER text.now }
+    ensures small { IfSome result (λ found. found.0 ≤ MAX_SAFE_INTEGER) }
+{
+    let (value, end) = number_in(text, 0)?;
+    Some((value, &text[end..]))
 }
 
 // A wildcard or a number.
@@ -31,7 +42,7 @@ fn component_front(text: &[u8]) -> Option<(Option<u64>, &[u8])>
     if begins_wildcard(text) {
         return Some((None, &text[1..]));
     }
-    let (number, rest) = number::number_front(text)?;
+    let (number, rest) = number_front(text)?;
     Some((Some(number), rest))
 }
 
@@ -45,35 +56,6 @@ fn dotted_front(text: &[u8]) -> Option<(Option<u64>, &[u8])>
     match text {
         [b'.', rest @ ..] => component_front(rest),
         _ => None,
-    }
-}
-
-#[inline(always)]
-fn is_identifier_char(byte: u8) -> bool
-    ensures { result ≡ is_identifier_char byte }
-{
-    byte.is_ascii_alphanumeric() || byte == b'-'
-}
-
-#[inline(always)]
-fn begins_identifier(text: &[u8]) -> bool
-    ensures { result ≡ Spec.begins_identifier text.now }
-{
-    match text {
-        [byte, ..] => is_identifier_char(*byte),
-        [] => false,
-    }
-}
-
-// Whether identifiers joined by dots go on here.
-#[inline(always)]
-fn goes_on(text: &[u8]) -> bool
-    ensures { result ≡ goes_on text.now }
-{
-    match text {
-        [b'.', rest @ ..] => begins_identifier(rest),
-        [byte, ..] => is_identifier_char(*byte),
-        [] => false,
     }
 }
 
@@ -209,6 +191,6 @@ fn drop_v(text: &[u8]) -> &[u8]
 pub(crate) fn partial_front(text: &[u8]) -> Option<(Partial<'_>, &[u8])>
     ensures { partial_front_view result ≡ Spec.partial_front MAX_SAFE_INTEGER text.now }
 {
-    let (major, rest) = component_front(spaces::skip_spaces(drop_v(text)))?;
+    let (major, rest) = component_front(skip_spaces(drop_v(text)))?;
     Some(minor_front(major, rest))
 }

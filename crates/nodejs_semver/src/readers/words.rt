@@ -7,9 +7,9 @@ ghost use Rattle.nodejs_semver.specs.Words as Spec;
 ghost use Rattle.nodejs_semver.specs.Words.{is_boundary};
 ghost use Rattle.semver_core.specs.declared.TheConstants.{MAX_SAFE_INTEGER};
 
+use crate::readers::partial;
 use crate::readers::syntax::{Comparator, Partial, Word};
-use crate::readers::{partial, spaces};
-use semver_core::MAX_SAFE_INTEGER;
+use semver_core::{MAX_SAFE_INTEGER, scan};
 
 // The longest partial at the front.
 #[tactic(auto, using(crate::proofs::Longest::longest_is_front))]
@@ -25,7 +25,7 @@ fn longest_partial(text: &[u8]) -> Option<(Partial<'_>, &[u8])>
 fn is_boundary(text: &[u8]) -> bool
     ensures { result ≡ is_boundary text.now }
 {
-    text.is_empty() || spaces::space_len(text) > 0
+    text.is_empty() || scan::space_len(text) > 0
 }
 
 // A word, where what follows it begins at a boundary.
@@ -45,8 +45,8 @@ fn at_boundary<'a>(word: Word<'a>, rest: &'a [u8]) -> Option<(Word<'a>, &'a [u8]
 fn after_some_space(text: &[u8]) -> Option<&[u8]>
     ensures { rest_view result ≡ Spec.after_some_space text.now }
 {
-    if spaces::space_len(text) > 0 {
-        Some(spaces::skip_spaces(text))
+    if scan::space_len(text) > 0 {
+        Some(scan::skip_spaces(text))
     } else {
         None
     }
@@ -104,7 +104,7 @@ fn compare_front(text: &[u8]) -> Option<(Word<'_>, &[u8])>
     ensures { reading_view result ≡ Spec.compare_at MAX_SAFE_INTEGER text.now }
 {
     let (comparator, rest) = comparator_front(text)?;
-    let (partial, rest) = longest_partial(spaces::skip_spaces(rest))?;
+    let (partial, rest) = longest_partial(scan::skip_spaces(rest))?;
     at_boundary(Word::Compare(comparator, partial), rest)
 }
 
@@ -125,8 +125,8 @@ fn tilde_front(text: &[u8]) -> Option<(Word<'_>, &[u8])>
     let [b'~', rest @ ..] = text else {
         return None;
     };
-    let (greater, rest) = tilde_sign(spaces::skip_spaces(rest));
-    let (partial, rest) = longest_partial(spaces::skip_spaces(rest))?;
+    let (greater, rest) = tilde_sign(scan::skip_spaces(rest));
+    let (partial, rest) = longest_partial(scan::skip_spaces(rest))?;
     at_boundary(Word::Tilde(greater, partial), rest)
 }
 
@@ -136,7 +136,7 @@ fn caret_front(text: &[u8]) -> Option<(Word<'_>, &[u8])>
     let [b'^', rest @ ..] = text else {
         return None;
     };
-    let (partial, rest) = longest_partial(spaces::skip_spaces(rest))?;
+    let (partial, rest) = longest_partial(scan::skip_spaces(rest))?;
     at_boundary(Word::Caret(partial), rest)
 }
 

@@ -41,11 +41,11 @@ pub fn common_reads_alike(text: &str)
     one_reading(text);
 }
 
-#[tactic(auto, using(crate::proofs::Whole::alike))]
-/// What the fast reader and the loose reader return on one text: where the fast one returns a
-/// version, the loose one returns the same.
+/// Returns what the fast reader and the loose reader return on one text: where the fast one returns
+/// a version, the loose one returns the same.
 ///
 /// Fails only if allocation fails.
+#[tactic(auto, using(crate::proofs::Whole::alike))]
 pub fn both_readers(
     alloc: Global,
     text: &str,

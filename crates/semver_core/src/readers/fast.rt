@@ -1,6 +1,6 @@
 //! The reader of common version texts.
 
-ghost use Rattle.std.specs.Prelude.{◌||◌, ◌==◌, get_or, ◌≡◌, ◌≤◌, ◌<◌, length, drop, IfOk, IfSome, IfNone, IsSomeAnd, OnErr};
+ghost use Rattle.std.specs.Prelude.{◌||◌, ◌==◌, get_or, ◌≡◌, ◌≤◌, ◌<◌, length, IfOk, IfSome, IfNone, IsSomeAnd, OnErr};
 ghost use Rattle.semver_core.specs.Characters.{is_identifier_char};
 ghost use Rattle.semver_core.specs.Common.{IsCommon, IsUncommon};
 ghost use Rattle.semver_core.specs.CommonReading.{small_len, part_at, whole_at, common_of};

@@ -195,17 +195,18 @@ pub(crate) fn front_of_numbers(text: &str) -> usize
     scan::skip_whitespace(text, after_mark(text))
 }
 
-#[tactic(auto, using(crate::proofs::Texts::found_some, crate::proofs::Texts::found_none, crate::proofs::Texts::loose_memory))]
-/// The version at the front of a text of any length, read as `Version::parse` reads it; whatever follows it is ignored.
+/// Reads the version at the front of a text of any length, as `Version::parse` reads it; whatever
+/// follows it is ignored.
 ///
-/// `None` where the text has none. The error is want of memory, which comes only where the version has a pre-release or build
-/// metadata.
+/// Returns `None` if the text has none. Fails only if allocation fails, which happens only where the
+/// version has a pre-release or build metadata.
+#[tactic(auto, using(crate::proofs::Texts::found_some, crate::proofs::Texts::found_none, crate::proofs::Texts::loose_memory))]
 pub fn version_loose(alloc: Global, text: &str) -> Result<Option<Version>, AllocError>
     // What is read is a version of the text.
     ensures some { IfOk result (λ found. IfSome found (λ v. Reads MAX_SAFE_INTEGER text.now v)) }
     // Nothing is read only where the text has none.
     ensures none { IfOk result (λ found. IfNone found (HasNoVersion MAX_SAFE_INTEGER text.now)) }
-    // Memory is missing only where the text has a version with identifiers.
+    // Allocation fails only where the text has a version with identifiers.
     ensures memory { OnErr result (HasVersionWithIdentifiers MAX_SAFE_INTEGER text.now) }
 {
     version_from(alloc, text, front_of_numbers(text))

@@ -1,4 +1,3 @@
-use Rattle.std.proofs.Common.{◌≡◌}
 use Rattle.semver_core.proofs.OnePass.{scan_end, scan_fits}
 use Rattle.semver_core.proofs.Runs.{run_boundary}
 use Rattle.semver_core.proofs.scan.run_in.Goals as goal

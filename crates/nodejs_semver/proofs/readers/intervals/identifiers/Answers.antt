@@ -1,17 +1,19 @@
 use Rattle.std.proofs.Common.{◌≡◌, ◌∙◌, ap, sym, ℕ, List, true}
 use Rattle.nodejs_semver.specs.Fronts.{is_listed, list_of}
 use Rattle.semver_core.specs.Views.{ids_view}
-use Rattle.nodejs_semver.proofs.Listed.{found_ids, listed_read}
+use Rattle.nodejs_semver.proofs.Listed.{found_ids, listed_read, listed_utf8}
 use Rattle.nodejs_semver.proofs.readers.intervals.identifiers.Goals as goal
 
 pub returns-in-Some : goal.returns-in-Some
 returns-in-Some c =
-    let listed : is_listed c.as_text.result.now ≡ true = ap (λ (t : List ℕ). is_listed t) c.as_text.ensures ∙ c.requires in
-    let read = listed_read c.as_text.result.now c.in_ok-found.found listed c.in_ok-found.ensures.found c.in_ok-found.ensures.none in
-    ap found_ids (sym c.in-Some.is) ∙ (read ∙ ap (λ (t : List ℕ). list_of t) c.as_text.ensures)
+    let text = c.text_front.ensures (listed_utf8 c.args.bytes.now c.requires) in
+    let listed : is_listed c.text_front.result.now ≡ true = ap (λ (t : List ℕ). is_listed t) text ∙ c.requires in
+    let read = listed_read c.text_front.result.now c.in_ok-found.found listed c.in_ok-found.ensures.found c.in_ok-found.ensures.none in
+    ap found_ids (sym c.in-Some.is) ∙ (read ∙ ap (λ (t : List ℕ). list_of t) text)
 
 pub returns-in-None : goal.returns-in-None
 returns-in-None c =
-    let listed : is_listed c.as_text.result.now ≡ true = ap (λ (t : List ℕ). is_listed t) c.as_text.ensures ∙ c.requires in
-    let read = listed_read c.as_text.result.now c.in_ok-found.found listed c.in_ok-found.ensures.found c.in_ok-found.ensures.none in
-    ap ids_view c.new.ensures.items ∙ (ap found_ids (sym c.in-None.is) ∙ (read ∙ ap (λ (t : List ℕ). list_of t) c.as_text.ensures))
+    let text = c.text_front.ensures (listed_utf8 c.args.bytes.now c.requires) in
+    let listed : is_listed c.text_front.result.now ≡ true = ap (λ (t : List ℕ). is_listed t) text ∙ c.requires in
+    let read = listed_read c.text_front.result.now c.in_ok-found.found listed c.in_ok-found.ensures.found c.in_ok-found.ensures.none in
+    ap ids_view c.new.ensures.items ∙ (ap found_ids (sym c.in-None.is) ∙ (read ∙ ap (λ (t : List ℕ). list_of t) text))

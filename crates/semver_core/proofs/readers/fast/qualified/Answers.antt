@@ -1,4 +1,4 @@
-use Rattle.std.proofs.Common.{◌≡◌, ◌≤◌, ◌<◌, length, sym}
+use Rattle.std.proofs.Common.{sym}
 use Rattle.semver_core.proofs.Whole.{lists_left}
 use Rattle.semver_core.proofs.readers.fast.qualified.Goals as goal
 

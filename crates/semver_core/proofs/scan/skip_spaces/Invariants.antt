@@ -1,9 +1,9 @@
 use Rattle.std.proofs.Common.{◌≡◌, length}
 use Rattle.semver_core.specs.Spaces.{drop_spaces}
-use Rattle.nodejs_semver.proofs.readers.spaces.skip_spaces.Given as goal
+use Rattle.semver_core.proofs.scan.skip_spaces.Given as goal
 
 abbrev pub invariant-spaces : goal.invariant-spaces
-invariant-spaces l = drop_spaces l.rest ≡ drop_spaces l.text
+invariant-spaces l = drop_spaces l.left ≡ drop_spaces l.text
 
 abbrev pub decreases-spaces : goal.decreases-spaces
-decreases-spaces l = length l.rest
+decreases-spaces l = length l.left
