@@ -7,6 +7,7 @@ mod ends;
 mod faults;
 mod json;
 mod laws;
+mod lists;
 mod printing;
 mod scan;
 
