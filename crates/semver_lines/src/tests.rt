@@ -11,6 +11,7 @@ mod outside;
 mod print;
 mod range;
 mod run;
+mod lists;
 mod scan;
 mod version;
 

@@ -153,7 +153,13 @@ fn next_major(alloc: Global, version: &Version) -> Result<Version, Failure<Incre
 fn next_minor(alloc: Global, version: &Version) -> Result<Version, Failure<IncrementError>>
     ensures { Returns (spec.next_minor version.now) result }
 {
-    with_numbers(alloc, version, version.major(), one_more(version.minor())?, 0)
+    with_numbers(
+        alloc,
+        version,
+        version.major(),
+        one_more(version.minor())?,
+        0,
+    )
 }
 
 fn next_patch(alloc: Global, version: &Version) -> Result<Version, Failure<IncrementError>>

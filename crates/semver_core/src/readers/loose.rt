@@ -119,11 +119,7 @@ fn read_from(
 }
 
 // The pre-release and the build at a place, and the place after them.
-fn boxed_lists(
-    alloc: Global,
-    text: &str,
-    at: usize,
-) -> Result<(Box<Lists>, usize), AllocError>
+fn boxed_lists(alloc: Global, text: &str, at: usize) -> Result<(Box<Lists>, usize), AllocError>
     requires { at ≤ length text.now }
     ensures found { IfOk result (λ found. (pre_release_of (Some found.0), build_of (Some found.0), found.1) ≡ lists_at text.now at) }
     ensures place { IfOk result (λ found. found.1 ≤ length text.now) }
