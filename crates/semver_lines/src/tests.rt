@@ -7,11 +7,11 @@ mod fast_versions;
 mod increment;
 mod json;
 mod laws;
+mod lists;
 mod outside;
 mod print;
 mod range;
 mod run;
-mod lists;
 mod scan;
 mod version;
 

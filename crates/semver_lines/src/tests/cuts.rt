@@ -10,21 +10,40 @@ fn release(major: u8) -> Version {
     Version::from((major, 0, 0))
 }
 
-// `>=from <to`
-fn from_to(from: u8, to: u8) -> Option<Interval<Version>> {
-    Interval::new(Bound::Before(release(from)), Bound::Before(release(to)))
+// An end of an interval, at a release.
+#[derive(Clone, Copy)]
+enum End {
+    Open,
+    Before(u8),
+    After(u8),
 }
 
-fn is_before(bound: &Bound<Version>, major: u8) -> bool {
-    match bound {
-        Bound::Before(version) => version.major() == u64::from(major),
-        Bound::After(_) | Bound::Unbounded => false,
+fn bound(end: End) -> Bound<Version> {
+    match end {
+        End::Open => Bound::Unbounded,
+        End::Before(major) => Bound::Before(release(major)),
+        End::After(major) => Bound::After(release(major)),
     }
+}
+
+fn is_bound(bound: &Bound<Version>, end: End) -> bool {
+    match (bound, end) {
+        (Bound::Unbounded, End::Open) => true,
+        (Bound::Before(version), End::Before(major)) => version.major() == u64::from(major),
+        (Bound::After(version), End::After(major)) => version.major() == u64::from(major),
+        (_, _) => false,
+    }
+}
+
+// `>=from <to`
+fn from_to(from: u8, to: u8) -> Option<Interval<Version>> {
+    Interval::new(bound(End::Before(from)), bound(End::Before(to)))
 }
 
 // Whether the interval is the one from the first number to the second.
 fn spans(interval: &Interval<Version>, ends: (u8, u8)) -> bool {
-    is_before(interval.lower(), ends.0) && is_before(interval.upper(), ends.1)
+    is_bound(interval.lower(), End::Before(ends.0))
+        && is_bound(interval.upper(), End::Before(ends.1))
 }
 
 // Whether the interval is the one between two numbers, or there is none where none is wanted.
@@ -36,49 +55,56 @@ fn is_wanted(interval: &Option<Interval<Version>>, wanted: Option<(u8, u8)>) -> 
     }
 }
 
-fn is_interval(lower: Bound<Version>, upper: Bound<Version>) -> bool {
-    Interval::new(lower, upper).is_some()
+// Two ends, and whether they make an interval.
+const ENDS: &[(End, End, bool)] = &[
+    (End::Before(1), End::Before(1), false),
+    (End::After(1), End::After(1), false),
+    (End::After(1), End::Before(1), false),
+    (End::Before(1), End::After(1), true),
+    (End::Before(1), End::After(2), true),
+    (End::Open, End::Open, true),
+];
+
+// Whether there is an interval with these ends.
+fn makes(lower: End, upper: End) -> bool {
+    match Interval::new(bound(lower), bound(upper)) {
+        Some(interval) => is_bound(interval.lower(), lower) && is_bound(interval.upper(), upper),
+        None => false,
+    }
 }
 
 #[test]
 fn new_wants_the_lower_cut_below_the_upper_one(rt: HostRuntime) {
-    assert!(rt; !is_interval(Bound::Before(release(1)), Bound::Before(release(1))));
-    assert!(rt; !is_interval(Bound::After(release(1)), Bound::After(release(1))));
-    assert!(rt; is_interval(Bound::Before(release(1)), Bound::After(release(1))));
-    assert!(rt; is_interval(Bound::Unbounded, Bound::Unbounded));
+    for &(lower, upper, wanted) in ENDS {
+        assert!(rt; makes(lower, upper) == wanted);
+    }
 }
 
-#[test]
-fn lower_and_upper_are_the_bounds(rt: HostRuntime) -> Result<(), Fail> {
-    let one = Interval::new(Bound::Before(release(1)), Bound::After(release(2)));
-    let one = one.ok_or("no interval")?;
-    assert!(rt; matches!(one.lower(), Bound::Before(v) if v.major() == 1));
-    assert!(rt; matches!(one.upper(), Bound::After(v) if v.major() == 2));
-    Ok(())
-}
+// The ends of an interval, a release, and whether it lies between them.
+const POINTS: &[(End, End, u8, bool)] = &[
+    (End::Before(1), End::Before(2), 0, false),
+    (End::Before(1), End::Before(2), 1, true),
+    (End::Before(1), End::Before(2), 2, false),
+    (End::After(1), End::After(2), 1, false),
+    (End::After(1), End::After(2), 2, true),
+    (End::After(1), End::After(2), 3, false),
+    (End::Before(1), End::After(1), 1, true),
+    (End::Before(1), End::After(1), 2, false),
+    (End::Open, End::Open, 0, true),
+];
 
-// Which of 0, 1, 2 and 3 the interval contains.
-fn contains(lower: Bound<Version>, upper: Bound<Version>, wanted: [bool; 4]) -> bool {
-    match Interval::new(lower, upper) {
-        Some(interval) => {
-            interval.contains(&release(0)) == wanted[0]
-                && interval.contains(&release(1)) == wanted[1]
-                && interval.contains(&release(2)) == wanted[2]
-                && interval.contains(&release(3)) == wanted[3]
-        }
+fn contains(lower: End, upper: End, major: u8) -> bool {
+    match Interval::new(bound(lower), bound(upper)) {
+        Some(interval) => interval.contains(&release(major)),
         None => false,
     }
 }
 
 #[test]
 fn contains_the_points_between_the_cuts(rt: HostRuntime) {
-    let (before, after) = (Bound::Before(release(1)), Bound::Before(release(2)));
-    assert!(rt; contains(before, after, [false, true, false, false]));
-    let (before, after) = (Bound::After(release(1)), Bound::After(release(2)));
-    assert!(rt; contains(before, after, [false, false, true, false]));
-    let (before, after) = (Bound::Before(release(1)), Bound::After(release(1)));
-    assert!(rt; contains(before, after, [false, true, false, false]));
-    assert!(rt; contains(Bound::Unbounded, Bound::Unbounded, [true, true, true, true]));
+    for &(lower, upper, major, wanted) in POINTS {
+        assert!(rt; contains(lower, upper, major) == wanted, "{major}");
+    }
 }
 
 fn hash_of(interval: &Interval<Version>) -> u64 {
@@ -96,7 +122,10 @@ fn copies_equal(alloc: Global, interval: &Interval<Version>) -> bool {
 }
 
 fn equals(interval: &Interval<Version>, ends: (u8, u8)) -> bool {
-    from_to(ends.0, ends.1).is_some_and(|other| *interval == other)
+    match from_to(ends.0, ends.1) {
+        Some(other) => *interval == other,
+        None => false,
+    }
 }
 
 #[test]
@@ -104,7 +133,7 @@ fn copy_is_equal_and_hashes_alike(rt: HostRuntime) -> Result<(), Fail> {
     let one = from_to(1, 2).ok_or("no interval")?;
     assert!(rt; copies_equal(rt.alloc(), &one));
     assert!(rt; equals(&one, (1, 2)) && !equals(&one, (1, 3)));
-    assert!(rt; is_before(&one.lower().copy(rt.alloc())?, 1));
+    assert!(rt; is_bound(&one.lower().copy(rt.alloc())?, End::Before(1)));
     Ok(())
 }
 
@@ -161,7 +190,10 @@ enum Call {
 
 // Whether the call gives what the pair says.
 fn agrees(alloc: Global, call: Call, pair: &Pair) -> bool {
-    from_to(pair.first.0, pair.first.1).is_some_and(|first| agrees_on(alloc, call, pair, &first))
+    match from_to(pair.first.0, pair.first.1) {
+        Some(first) => agrees_on(alloc, call, pair, &first),
+        None => false,
+    }
 }
 
 fn agrees_on(alloc: Global, call: Call, pair: &Pair, first: &Interval<Version>) -> bool {
@@ -253,11 +285,18 @@ fn meets_where_both_hold_something(rt: HostRuntime) {
     }
 }
 
+// Whether this interval covers the other, and the other does not cover it.
+fn only_covers(interval: &Interval<Version>, ends: (u8, u8)) -> bool {
+    match from_to(ends.0, ends.1) {
+        Some(other) => interval.covers(&other) && !other.covers(interval),
+        None => false,
+    }
+}
+
 #[test]
 fn covers_where_the_other_lies_within(rt: HostRuntime) {
     for pair in PAIRS {
         assert!(rt; agrees(rt.alloc(), Call::Covers, pair));
     }
-    let all = Interval::<Version>::default();
-    assert!(rt; from_to(1, 2).is_some_and(|one| all.covers(&one) && !one.covers(&all)));
+    assert!(rt; only_covers(&Interval::default(), (1, 2)));
 }

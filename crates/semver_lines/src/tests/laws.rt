@@ -1,4 +1,4 @@
-// The laws that are functions, each called once with ample memory: what they return, where they return something.
+// Each law that is a function, called once with ample memory, and what it returns.
 
 use super::prints;
 use nodejs_semver::cuts::Interval;

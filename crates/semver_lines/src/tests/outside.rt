@@ -4,7 +4,7 @@ use super::prints;
 use nodejs_semver::{OutsideDirection, Range, RangeError, Version};
 use std::alloc::Global;
 
-// A range, a version that is outside it with pre-releases excluded and not with them included, and the side.
+// A range, a version that lies outside it only with pre-releases excluded, and the side.
 const BY_THE_FLAG: &[(&str, &str, OutsideDirection)] = &[
     ("0.7.x", "0.7.2-beta", OutsideDirection::Higher),
     (">1.2.3", "1.3.0-alpha", OutsideDirection::Lower),

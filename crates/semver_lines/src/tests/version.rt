@@ -27,7 +27,10 @@ fn parse_reads_the_five_values(rt: HostRuntime) -> Result<(), Fail> {
     assert_eq!(rt; version.minor(), 2);
     assert_eq!(rt; version.patch(), 34);
     assert!(rt;
-        matches!(version.pre_release(), [first, second] if is_text(first, "abc") && is_number(second, 123))
+        matches!(
+            version.pre_release(),
+            [first, second] if is_text(first, "abc") && is_number(second, 123)
+        )
     );
     assert!(rt; matches!(version.build(), [one] if is_number(one, 1)));
     Ok(())
@@ -37,7 +40,10 @@ fn parse_reads_the_five_values(rt: HostRuntime) -> Result<(), Fail> {
 fn parse_keeps_dashes_in_identifiers(rt: HostRuntime) -> Result<(), Fail> {
     let version = Version::parse(rt.alloc(), "1.0.0-rc.2-migration")?;
     assert!(rt;
-        matches!(version.pre_release(), [first, second] if is_text(first, "rc") && is_text(second, "2-migration"))
+        matches!(
+            version.pre_release(),
+            [first, second] if is_text(first, "rc") && is_text(second, "2-migration")
+        )
     );
     Ok(())
 }
