@@ -12,6 +12,7 @@ use nodejs_semver::Failure;
 use std::alloc::{AllocError, Global};
 
 // Appends the reply to the question of a line.
+#[inline(always)]
 fn reply_to(alloc: Global, line: &[u8], answer: &mut String) -> Result<(), Failure<Fault>>
     requires { string_bytes answer.old ≡ [] }
     ensures { IsTold result (string_bytes answer.new) (IsAnswer line.now) }
@@ -23,6 +24,7 @@ fn reply_to(alloc: Global, line: &[u8], answer: &mut String) -> Result<(), Failu
 }
 
 // Appends the answer to a line.
+#[inline(always)]
 fn answer_to(alloc: Global, line: &[u8], answer: &mut String) -> Result<(), AllocError>
     requires { string_bytes answer.old ≡ [] }
     ensures { OnOk result (IsAnswer line.now (string_bytes answer.new)) }

@@ -24,6 +24,7 @@ impl Command {
     ghost use Rattle.semver_lines.specs.CommandWords.{word_of, IsUnknown};
 
     /// The command of this word.
+    #[inline]
     pub fn of(word: &str) -> Option<Command>
         ensures some { IfSome result (λ command. word.now ≡ word_of command) }
         ensures none { IfNone result (IsUnknown word.now) }

@@ -53,6 +53,7 @@ impl<'a> Question<'a> {
     ghost use Rattle.semver_lines.specs.declared.question.Question.{Question};
 
     /// The question that a line asks, or `None` where it asks none.
+    #[inline]
     pub fn of(line: &'a [u8]) -> Option<Question<'a>>
         ensures some { IfSome result (λ question. IsQuestion line.now question) }
         ensures none { IfNone result ((question : Question) → IsQuestion line.now question → ⊥) }
@@ -64,6 +65,7 @@ impl<'a> Question<'a> {
     }
 
     // The question that a text asks.
+    #[inline(always)]
     fn of_text(text: &'a str) -> Option<Question<'a>>
         ensures some { IfSome result (λ question. Asks (fields text.now) question) }
         ensures none { IfNone result ((question : Question) → Asks (fields text.now) question → ⊥) }

@@ -9,6 +9,7 @@ use nodejs_semver::{Failure, Range, Version};
 use std::alloc::{AllocError, Global};
 
 /// The version of a text.
+#[inline(always)]
 pub fn version(alloc: Global, text: &str) -> Result<Version, Failure<Fault>>
     ensures { IsRead result (IsVersionOf text.now) }
 {
@@ -20,6 +21,7 @@ pub fn version(alloc: Global, text: &str) -> Result<Version, Failure<Fault>>
 }
 
 /// The range of a text.
+#[inline(always)]
 pub fn range(alloc: Global, text: &str) -> Result<Range, Failure<Fault>>
     ensures { IsRead result (IsRangeOf text.now) }
 {
@@ -43,6 +45,7 @@ fn versions(alloc: Global, texts: &str) -> Result<Vec<Version>, Failure<Fault>>
 }
 
 /// The versions of two texts.
+#[inline(always)]
 pub fn two_versions(
     alloc: Global,
     texts: (&str, &str),
@@ -53,6 +56,7 @@ pub fn two_versions(
 }
 
 /// The ranges of two texts.
+#[inline(always)]
 pub fn two_ranges(alloc: Global, texts: (&str, &str)) -> Result<(Range, Range), Failure<Fault>>
     ensures { IsRead result (TwoRanges texts.entry) }
 {
@@ -60,6 +64,7 @@ pub fn two_ranges(alloc: Global, texts: (&str, &str)) -> Result<(Range, Range), 
 }
 
 /// The range of the first text and the version of the second.
+#[inline(always)]
 pub fn range_and_version(
     alloc: Global,
     texts: (&str, &str),
@@ -70,6 +75,7 @@ pub fn range_and_version(
 }
 
 /// The range of the first text and the versions of the fields of the second.
+#[inline(always)]
 pub fn range_and_versions(
     alloc: Global,
     texts: (&str, &str),

@@ -13,6 +13,7 @@ use crate::fault::Fault;
 use nodejs_semver::{Failure, IncrementError, Range, Version, VersionDiff};
 use std::cmp::Ordering;
 
+#[inline(always)]
 fn order_word(order: Ordering) -> &'static str
     ensures { result.now ≡ order_word order }
 {
@@ -23,6 +24,7 @@ fn order_word(order: Ordering) -> &'static str
     }
 }
 
+#[inline(always)]
 fn truth_word(is_so: bool) -> &'static str
     ensures { result.now ≡ truth_word is_so }
 {
@@ -30,6 +32,7 @@ fn truth_word(is_so: bool) -> &'static str
 }
 
 /// How one version compares to another.
+#[inline(always)]
 pub fn push_order(order: Ordering, answer: &mut String) -> Result<(), Failure<Fault>>
     requires { string_bytes answer.old ≡ [] }
     ensures { IsTold result (string_bytes answer.new) (Says (order_word order)) }
@@ -38,6 +41,7 @@ pub fn push_order(order: Ordering, answer: &mut String) -> Result<(), Failure<Fa
 }
 
 /// Whether it is so.
+#[inline(always)]
 pub fn push_truth(is_so: bool, answer: &mut String) -> Result<(), Failure<Fault>>
     requires { string_bytes answer.old ≡ [] }
     ensures { IsTold result (string_bytes answer.new) (Says (truth_word is_so)) }
@@ -46,6 +50,7 @@ pub fn push_truth(is_so: bool, answer: &mut String) -> Result<(), Failure<Fault>
 }
 
 /// The kind of a difference, or `none`.
+#[inline(always)]
 pub fn push_difference(
     kind: Option<VersionDiff>,
     answer: &mut String,
@@ -60,6 +65,7 @@ pub fn push_difference(
 }
 
 /// A version, printed, or `none`.
+#[inline(always)]
 pub fn push_version(version: Option<&Version>, answer: &mut String) -> Result<(), Failure<Fault>>
     requires { string_bytes answer.old ≡ [] }
     ensures { IsTold result (string_bytes answer.new) (Says (version_or_none (option_copied version.entry))) }
@@ -71,6 +77,7 @@ pub fn push_version(version: Option<&Version>, answer: &mut String) -> Result<()
 }
 
 /// A range, printed, or `none`.
+#[inline(always)]
 pub fn push_range(range: Option<&Range>, answer: &mut String) -> Result<(), Failure<Fault>>
     requires { string_bytes answer.old ≡ [] }
     ensures { IsTold result (string_bytes answer.new) (Says (range_or_none (option_copied range.entry))) }
@@ -93,6 +100,7 @@ fn increment_fault_word(fault: &IncrementError) -> &'static str
 }
 
 /// The next version, printed, or why there is none.
+#[inline(always)]
 pub fn push_next(
     next: Result<Version, Failure<IncrementError>>,
     answer: &mut String,
