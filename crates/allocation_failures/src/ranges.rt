@@ -7,6 +7,7 @@ use std::alloc::{AllocError, Global};
 use std::io;
 
 const THREE: &str = "^1.2.3-a.1 || ~2.3.4-b || >=5.0.0-c <7.0.0-d";
+
 const FIVE: &str = "1.3.0 || 1.5.0 || 2.3.5 || >=5.1.0-c <5.2.0 || >=6.0.0-e";
 
 /// Makes each call on ranges and on intervals.
@@ -32,9 +33,24 @@ fn algebra(rt: &impl Print, alloc: Global, one: &str, other: &str) -> io::Result
     let Ok(other) = Range::parse(alloc, other) else {
         return no_values(rt, "algebra");
     };
-    show(rt, "Range::intersect", found(one.intersect(alloc, &other)), &one)?;
-    show(rt, "Range::difference", found(one.difference(alloc, &other)), &other)?;
-    show(rt, "Range::least_beyond", found(one.least_beyond(alloc, &other)), &one)
+    show(
+        rt,
+        "Range::intersect",
+        found(one.intersect(alloc, &other)),
+        &one,
+    )?;
+    show(
+        rt,
+        "Range::difference",
+        found(one.difference(alloc, &other)),
+        &other,
+    )?;
+    show(
+        rt,
+        "Range::least_beyond",
+        found(one.least_beyond(alloc, &other)),
+        &one,
+    )
 }
 
 fn choices(rt: &impl Print, alloc: Global, text: &str) -> io::Result<()> {
@@ -42,7 +58,12 @@ fn choices(rt: &impl Print, alloc: Global, text: &str) -> io::Result<()> {
         return no_values(rt, "choices");
     };
     show(rt, "Range::copy", Outcome::from(range.copy(alloc)), &range)?;
-    show(rt, "Range::min_version", found(range.min_version(alloc)), &range)
+    show(
+        rt,
+        "Range::min_version",
+        found(range.min_version(alloc)),
+        &range,
+    )
 }
 
 // `>=lower <upper`
@@ -64,7 +85,12 @@ fn intervals(rt: &impl Print, alloc: Global, lower: &str, upper: &str) -> io::Re
         Ok(bound) => show_bound(rt, "Bound::copy", &bound, lower)?,
         Err(_) => println!(rt; "Bound::copy: memory from {lower}")?,
     }
-    show_interval(rt, "Interval::intersect", one.intersect(alloc, &other), lower)?;
+    show_interval(
+        rt,
+        "Interval::intersect",
+        one.intersect(alloc, &other),
+        lower,
+    )?;
     match one.subtract(alloc, &other) {
         Ok((below, above)) => {
             show_interval(rt, "Interval::subtract, below", Ok(below), lower)?;

@@ -12,10 +12,25 @@ const VERSION: &str = "1.2.3-a.1.b+c.2.d";
 /// Makes each call on versions.
 pub fn show_all(rt: &impl Print, alloc: Global) -> io::Result<()> {
     for text in [VERSION, "1.2.3", "1.2"] {
-        show(rt, "Version::parse", read(Version::parse(alloc, text)), &text)?;
-        show(rt, "version_loose", found(version_loose(alloc, text)), &text)?;
+        show(
+            rt,
+            "Version::parse",
+            read(Version::parse(alloc, text)),
+            &text,
+        )?;
+        show(
+            rt,
+            "version_loose",
+            found(version_loose(alloc, text)),
+            &text,
+        )?;
     }
-    show(rt, "with_pre", Outcome::from(Version::with_pre(alloc, 1, 2, 3, 4)), &4)?;
+    show(
+        rt,
+        "with_pre",
+        Outcome::from(Version::with_pre(alloc, 1, 2, 3, 4)),
+        &4,
+    )?;
     identifiers(rt, alloc, VERSION, 6)?;
     identifiers(rt, alloc, VERSION, 5)?;
     for text in [VERSION, "1.2.3"] {
@@ -72,9 +87,19 @@ fn copy(rt: &impl Print, alloc: Global, text: &str) -> io::Result<()> {
     let Ok(version) = Version::parse(alloc, text) else {
         return no_values(rt, "Version::copy");
     };
-    show(rt, "Version::copy", Outcome::from(version.copy(alloc)), &version)?;
+    show(
+        rt,
+        "Version::copy",
+        Outcome::from(version.copy(alloc)),
+        &version,
+    )?;
     for identifier in version.build() {
-        show(rt, "Identifier::copy", Outcome::from(identifier.copy(alloc)), identifier)?;
+        show(
+            rt,
+            "Identifier::copy",
+            Outcome::from(identifier.copy(alloc)),
+            identifier,
+        )?;
     }
     Ok(())
 }
@@ -83,7 +108,12 @@ fn parts_copy(rt: &impl Print, alloc: Global, text: &str) -> io::Result<()> {
     let Some(parts) = parts_of(alloc, text) else {
         return no_values(rt, "VersionParts::copy");
     };
-    show_debug(rt, "VersionParts::copy", Outcome::from(parts.copy(alloc)), &text)?;
+    show_debug(
+        rt,
+        "VersionParts::copy",
+        Outcome::from(parts.copy(alloc)),
+        &text,
+    )?;
     println!(rt; "VersionParts::copy left {parts:?}")
 }
 
@@ -94,7 +124,12 @@ fn inc(rt: &impl Print, alloc: Global, text: &str, word: &str) -> io::Result<()>
     let next = version.inc(alloc, word, Some("beta"), None);
     match next {
         Err(Failure::Refused(error)) => {
-            show(rt, "IncrementError::copy", Outcome::from(error.copy(alloc)), &error)
+            show(
+                rt,
+                "IncrementError::copy",
+                Outcome::from(error.copy(alloc)),
+                &error,
+            )
         }
         next => show(rt, word, read(next), &version),
     }

@@ -41,8 +41,8 @@ found_feed text (Some at) h =
     let next : suc at ≡ at + 1 = omega arith in (
       sym (take-append-drop at text) ∙ ap (λ l. take at text ++ l) (drop-cons text at 0 inside ∙ ap (λ b. b ∷ drop (suc at) text) feed) ∙ ap (λ n. take at text ++ 10 ∷ drop n text) next,
       no_feed_by (take at text) (λ i before is.
-      let here : i < at = omega (arith, length-take-le at text (omega (arith, inside))) in
-      h.0.before i (omega arith) here (sym (ap (λ b. b == 10) (get_or-take at text i 0 here)) ∙ is)),
+          let here : i < at = omega (arith, length-take-le at text (omega (arith, inside))) in
+          h.0.before i (omega arith) here (sym (ap (λ b. b == 10) (get_or-take at text i 0 here)) ∙ is)),
       tt,
     )
 

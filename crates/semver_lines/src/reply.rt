@@ -11,10 +11,10 @@ ghost use Rattle.semver_lines.specs.declared.question.Question.{Question};
 
 use crate::fault::Fault;
 use crate::question::Question;
-use crate::read::{range, range_and_version, range_and_versions, two_ranges, two_versions, version};
-use crate::words::{
-    push_difference, push_next, push_order, push_range, push_truth, push_version,
+use crate::read::{
+    range, range_and_version, range_and_versions, two_ranges, two_versions, version,
 };
+use crate::words::{push_difference, push_next, push_order, push_range, push_truth, push_version};
 use nodejs_semver::{Failure, IdentifierBase, OutsideDirection};
 use std::alloc::Global;
 

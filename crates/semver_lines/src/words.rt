@@ -51,10 +51,7 @@ pub fn push_truth(is_so: bool, answer: &mut String) -> Result<(), Failure<Fault>
 
 /// The kind of a difference, or `none`.
 #[inline(always)]
-pub fn push_difference(
-    kind: Option<VersionDiff>,
-    answer: &mut String,
-) -> Result<(), Failure<Fault>>
+pub fn push_difference(kind: Option<VersionDiff>, answer: &mut String) -> Result<(), Failure<Fault>>
     requires { string_bytes answer.old ≡ [] }
     ensures { IsTold result (string_bytes answer.new) (Says (difference_word kind)) }
 {
