@@ -5,9 +5,9 @@ use Rattle.std.specs.Prelude.{⊤}
 use Rattle.std.specs.Io.KnownBytes.{Appends, Consumes, IsAtEnd}
 use Rattle.std.specs.declared.alloc.AllocError.{AllocError}
 use Rattle.semver_lines.specs.Answers.{Answers}
-use Rattle.semver_lines.specs.Cuts.{cut_lines, cut_rest}
+use Rattle.semver_lines.specs.LineCuts.{cut_lines, cut_rest}
 use Rattle.semver_lines.specs.Lines.{last_line}
-use Rattle.semver_lines.specs.Runs.{AnswersFront, AnswersTorn, Ran}
+use Rattle.semver_lines.specs.Outcome.{AnswersFront, AnswersTorn, Ran}
 use Rattle.semver_lines.specs.Steps.{Finished, GrowsByAnswers, GrowsByFront, Stopped, Turned, WritesFront}
 use Rattle.semver_lines.specs.declared.run.RunFault.{RunFault}
 use Rattle.semver_lines.specs.declared.run.RunFault.TheVariants.{Memory, Read, Write}

@@ -1,18 +1,16 @@
 -- The first `;` of a line, and the first line feed of an input.
-use Rattle.std.proofs.Common.{◌≡◌, ◌==◌, ◌<◌, ◌≤◌, ◌∙◌, ℕ, true, not, List, Option, Some, None, IfSome, IfNone, cond, ltb, length, take, get_or, ap, arith, inl, inr}
-use Rattle.std.proofs.lemmas.Bool.{cases_Bool, eqb-true, ltb-true, ltb-false}
+use Rattle.std.proofs.Common.{◌≡◌, ◌==◌, ◌<◌, ◌+◌, ◌∙◌, ◌++◌, ◌∷◌, ℕ, suc, Bor, true, false, not, List, [], Option, Some, None, IfSome, IfNone, Result, Ok, Err, OnOk, is_ok, if◌then◌else◌, length, take, drop, get_or, refl, sym, ap, subst, arith, inl, inr, drop-cons, take-append-drop}
+use Rattle.memchr.specs.Find.{IsFirstByte, is_byte}
+use Rattle.std.proofs.lemmas.Bool.{cases_Bool, eqb-true}
 use Rattle.std.proofs.lemmas.List.{get_or-take, length-take-le}
 use Rattle.std.proofs.lemmas.List.Elements.{All-from_get_or}
-use Rattle.std.proofs.lemmas.List.Splits.{slice_split_none}
+use Rattle.std.proofs.lemmas.List.Splits.{slice_split_first, slice_split_none}
 use Rattle.std.proofs.lemmas.List.Sums.{fails_before_first, list_all-from_AllPass}
-use Rattle.std.specs.List.{position_or_len}
-use Rattle.semver_lines.specs.Lines.{fields, no_feed}
-use Rattle.std.proofs.Common.{Bor, [], ◌∷◌, ◌++◌, false, refl, sym, subst, Result, Ok, Err, OnOk, is_ok, if◌then◌else◌}
+use Rattle.std.specs.List.{after_first, before_first, position_or_len}
+use Rattle.std.specs.Option.{MatchOption}
 use Rattle.std.specs.Prelude.{⊤}
 use Rattle.std.specs.declared.alloc.AllocError.{AllocError}
-use Rattle.std.specs.Option.{MatchOption}
-use Rattle.std.specs.List.{before_first, after_first}
-use Rattle.std.proofs.lemmas.List.Splits.{slice_split_first}
+use Rattle.semver_lines.specs.Lines.{fields, no_feed}
 
 -- a text with no `;` is one field
 pub one_field : (text : List ℕ) → position_or_len (λ b. b == 59) text ≡ length text → fields text ≡ text ∷ []
@@ -27,36 +25,26 @@ pub first_cut : (text : List ℕ) (cut : Option (Bor (List ℕ) × Bor (List ℕ
 first_cut text None h = (tt, one_field text h)
 first_cut text (Some x) h = (rw (h.1, h.2) (slice_split_first (λ b. b == 59) text 0 h.0), tt)
 
--- where the first line feed of a text stands
-abbrev pub feed_at : List ℕ → ℕ
-feed_at text = position_or_len (λ b. b == 10) text
+no_feed_by : (text : List ℕ) → ((i : ℕ) → i < length text → (get_or text i 0 == 10) ≡ true → ⊥) → no_feed text ≡ true
+no_feed_by text none = list_all-from_AllPass (λ b. not (b == 10)) text (All-from_get_or (λ b. not (b == 10) ≡ true) text 0 (λ i h. elim (cases_Bool (get_or text i 0 == 10)) [
+  | inl feed ↦ absurd (none i h feed)
+  | inr other ↦ ap not other
+]))
 
-no_sooner : (text : List ℕ) (i : ℕ) → i < feed_at text → not (get_or text i 0 == 10) ≡ true
-no_sooner text i h = ap not (fails_before_first (λ b. b == 10) text i 0 h)
-
-no_feed_before : (text : List ℕ) (n : ℕ) → n ≤ length text → n ≤ feed_at text → no_feed (take n text) ≡ true
-no_feed_before text n inside sooner =
-    list_all-from_AllPass (λ b. not (b == 10)) (take n text) (All-from_get_or (λ b. not (b == 10) ≡ true) (take n text) 0 (λ i h.
-    let here : i < n = omega (arith, length-take-le n text inside) in
-    rw (get_or-take n text i 0 here) (no_sooner text i (omega arith))))
-
-no_feed_at_all : (text : List ℕ) → length text ≤ feed_at text → no_feed text ≡ true
-no_feed_at_all text h =
-    list_all-from_AllPass (λ b. not (b == 10)) text (All-from_get_or (λ b. not (b == 10) ≡ true) text 0 (λ i k. no_sooner text i (omega arith)))
-
--- what a search that stops at the first line feed says
-pub found_feed : (text : List ℕ) (found : Option ℕ) → found ≡ cond (ltb (feed_at text) (length text)) (Some (feed_at text)) None
-    → IfSome found (λ at. no_feed (take at text) ≡ true) × IfNone found (no_feed text ≡ true)
-found_feed text found e = elim (cases_Bool (ltb (feed_at text) (length text))) [
-  | inl inside ↦
-      let lt = ltb-true (feed_at text) (length text) inside in
-      let is : found ≡ Some (feed_at text) = e ∙ ap (λ b. cond b (Some (feed_at text)) None) inside in
-      rw is (no_feed_before text (feed_at text) (omega arith) (omega arith), tt)
-  | inr past ↦
-      let le = ltb-false (feed_at text) (length text) past in
-      let is : found ≡ None = e ∙ ap (λ b. cond b (Some (feed_at text)) None) past in
-      rw is (tt, no_feed_at_all text le)
-]
+-- what a search for the first line feed says
+pub found_feed : (text : List ℕ) (found : Option ℕ) → IsFirstByte (is_byte 10) text found
+    → IfSome found (λ at. text ≡ take at text ++ 10 ∷ drop (at + 1) text) × IfSome found (λ at. no_feed (take at text) ≡ true) × IfNone found (no_feed text ≡ true)
+found_feed text None h = (tt, tt, no_feed_by text (λ i inside feed. h i (omega arith) inside feed))
+found_feed text (Some at) h =
+    let inside = h.0.high in
+    let feed : get_or text at 0 ≡ 10 = eqb-true (get_or text at 0) 10 h.1 in
+    let next : suc at ≡ at + 1 = omega arith in (
+      sym (take-append-drop at text) ∙ ap (λ l. take at text ++ l) (drop-cons text at 0 inside ∙ ap (λ b. b ∷ drop (suc at) text) feed) ∙ ap (λ n. take at text ++ 10 ∷ drop n text) next,
+      no_feed_by (take at text) (λ i before is.
+          let here : i < at = omega (arith, length-take-le at text (omega (arith, inside))) in
+          h.0.before i (omega arith) here (sym (ap (λ b. b == 10) (get_or-take at text i 0 here)) ∙ is)),
+      tt,
+    )
 
 -- a word that was pushed onto an empty text
 pub pushed : (result : Result ⊤ AllocError) (old word new : List ℕ) → new ≡ (if is_ok result then old ++ word else old) → old ≡ [] → OnOk result (new ≡ word)

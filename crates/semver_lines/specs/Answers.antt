@@ -1,21 +1,20 @@
--- Statement: what each line of an input is answered.
+-- Statement. The answer to each line of an input.
 use Rattle.std.specs.Prelude.{◌≡◌, ℕ, List, [], ◌∷◌, ⊤, IsUtf8}
 use Rattle.std.specs.List.{flat_map}
-use Rattle.semver_lines.specs.Commands.{word_of, IsReply, IsUnknown}
+use Rattle.semver_lines.specs.Commands.{Asks, IsReply}
 use Rattle.semver_lines.specs.Lines.{ended, fields}
-use Rattle.semver_lines.specs.Words.{bad_line}
-use Rattle.semver_lines.specs.declared.command.Command.{Command}
+use Rattle.semver_lines.specs.Names.{fault_word}
+use Rattle.semver_lines.specs.declared.fault.Fault.TheVariants.{BadLine}
+use Rattle.semver_lines.specs.declared.question.Question.{Question}
 
--- the answer to the fields of a line: a command with fields behind it is replied to, anything else is a bad line
-pub data IsAnswerTo (line : List (List ℕ)) (answer : List ℕ) : Type 0 where
-  replied : (command : Command) (behind : List (List ℕ)) → line ≡ word_of command ∷ behind → IsReply command behind answer → IsAnswerTo line answer
-  unknown : (word : List ℕ) (behind : List (List ℕ)) → line ≡ word ∷ behind → IsUnknown word → answer ≡ bad_line → IsAnswerTo line answer
-  alone : (word : List ℕ) → line ≡ word ∷ [] → answer ≡ bad_line → IsAnswerTo line answer
+-- a line of bytes asks this question: it is a text, and its fields ask it
+abbrev pub IsQuestion : List ℕ → Question → Type 0
+IsQuestion line question = IsUtf8 line × Asks (fields line) question
 
--- the answer to a line of bytes, which may be no text
+-- the answer to a line: the reply to its question, or `bad line` where it asks none
 pub data IsAnswer (line answer : List ℕ) : Type 0 where
-  text : IsUtf8 line → IsAnswerTo (fields line) answer → IsAnswer line answer
-  no_text : (IsUtf8 line → ⊥) → answer ≡ bad_line → IsAnswer line answer
+  replied : (question : Question) → IsQuestion line question → IsReply question answer → IsAnswer line answer
+  no_question : ((question : Question) → IsQuestion line question → ⊥) → answer ≡ fault_word BadLine → IsAnswer line answer
 
 -- each line has its answer
 abbrev pub AllAnswer : List (List ℕ) → List (List ℕ) → Type 0

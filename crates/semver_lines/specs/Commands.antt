@@ -1,5 +1,5 @@
--- Statement: the commands, each with its word and what it is answered.
-use Rattle.std.specs.Prelude.{◌≡◌, ◌≢◌, ℕ, List, [], ◌∷◌, codes, Some, None, true, false}
+-- Statement. The questions of the lines: the fields that ask each one, and what it is answered.
+use Rattle.std.specs.Prelude.{◌≡◌, ℕ, List, [], ◌∷◌, codes, Some, None, true, false}
 use Rattle.semver_core.specs.Difference.{difference}
 use Rattle.semver_core.specs.Increment.{answer_of_inc}
 use Rattle.semver_core.specs.Order.{precedence}
@@ -10,52 +10,51 @@ use Rattle.nodejs_semver.specs.Lists.{intersection}
 use Rattle.nodejs_semver.specs.Lists as lists
 use Rattle.nodejs_semver.specs.Outside.{is_outside}
 use Rattle.nodejs_semver.specs.Printed.{range_text}
-use Rattle.semver_lines.specs.Bases.{base_named}
-use Rattle.semver_lines.specs.Directions.{direction_named}
-use Rattle.semver_lines.specs.Replies.{OnVersion, OnNamed, OnVersions, OnRange, IsLeastReply, IsBeyondReply, IsBestReply}
-use Rattle.semver_lines.specs.Words.{bad_line, order_word, difference_word, next_text, range_or_none, truth_word}
-use Rattle.semver_lines.specs.declared.command.Command.{Command}
-use Rattle.semver_lines.specs.declared.command.Command.TheVariants.{Cmp, Ver, Diff, Inc, Range, And, Minus, Least, Beyond, Sat, Pre, Out, Max, Min}
+use Rattle.semver_lines.specs.Lines.{fields}
+use Rattle.semver_lines.specs.Names.{base_named, direction_named, difference_word, next_text, order_word, range_or_none, truth_word}
+use Rattle.semver_lines.specs.Replies.{IsVersionOf, IsRangeOf, TwoVersions, TwoRanges, RangeAndVersion, RangeAndVersions, On, Says, IsLeastReply, IsBeyondReply, IsBestReply}
+use Rattle.semver_lines.specs.declared.question.Question.{Question}
+use Rattle.semver_lines.specs.declared.question.Question.TheVariants.{Cmp, Ver, Diff, Inc, IncWith, IncFrom, Range, And, Minus, Least, Beyond, Sat, Pre, Out, Max, Min}
 
--- the word of a command, the first field of its lines
-abbrev pub word_of : Command → List ℕ
-word_of Cmp = codes "cmp"
-word_of Ver = codes "ver"
-word_of Diff = codes "diff"
-word_of Inc = codes "inc"
-word_of Range = codes "range"
-word_of And = codes "and"
-word_of Minus = codes "minus"
-word_of Least = codes "least"
-word_of Beyond = codes "beyond"
-word_of Sat = codes "sat"
-word_of Pre = codes "pre"
-word_of Out = codes "out"
-word_of Max = codes "max"
-word_of Min = codes "min"
+-- a line with these fields asks this question
+abbrev pub Asks : List (List ℕ) → Question → Type 0
+Asks line (Cmp (v, w)) = line ≡ codes "cmp" ∷ v.now ∷ w.now ∷ []
+Asks line (Ver v) = line ≡ codes "ver" ∷ v.now ∷ []
+Asks line (Diff (v, w)) = line ≡ codes "diff" ∷ v.now ∷ w.now ∷ []
+Asks line (Inc (v, word)) = line ≡ codes "inc" ∷ v.now ∷ word.now ∷ []
+Asks line (IncWith (v, word, id)) = line ≡ codes "inc" ∷ v.now ∷ word.now ∷ id.now ∷ []
+Asks line (IncFrom (v, word, id) base) = (name : List ℕ) × (base_named name ≡ Some base)
+    × (line ≡ codes "inc" ∷ v.now ∷ word.now ∷ id.now ∷ name ∷ [])
+Asks line (Range r) = line ≡ codes "range" ∷ r.now ∷ []
+Asks line (And (r, s)) = line ≡ codes "and" ∷ r.now ∷ s.now ∷ []
+Asks line (Minus (r, s)) = line ≡ codes "minus" ∷ r.now ∷ s.now ∷ []
+Asks line (Least r) = line ≡ codes "least" ∷ r.now ∷ []
+Asks line (Beyond (r, s)) = line ≡ codes "beyond" ∷ r.now ∷ s.now ∷ []
+Asks line (Sat (r, v)) = line ≡ codes "sat" ∷ r.now ∷ v.now ∷ []
+Asks line (Pre (r, v)) = line ≡ codes "pre" ∷ r.now ∷ v.now ∷ []
+Asks line (Out (r, v) side) = (name : List ℕ) × (direction_named name ≡ Some side)
+    × (line ≡ codes "out" ∷ r.now ∷ v.now ∷ name ∷ [])
+Asks line (Max (r, vs)) = line ≡ codes "max" ∷ r.now ∷ fields vs.now
+Asks line (Min (r, vs)) = line ≡ codes "min" ∷ r.now ∷ fields vs.now
 
--- no command has this word
-abbrev pub IsUnknown : List ℕ → Type 0
-IsUnknown word = (command : Command) → word ≢ word_of command
-
--- the answer to a command with these fields behind its word; another number of fields makes a bad line
-abbrev pub IsReply : Command → List (List ℕ) → List ℕ → Type 0
-IsReply Cmp (first ∷ second ∷ []) answer = OnVersion (λ v. OnVersion (λ w reply. reply ≡ order_word (precedence v w)) second) first answer
-IsReply Ver (text ∷ []) answer = OnVersion (λ v reply. reply ≡ version_text v) text answer
-IsReply Diff (first ∷ second ∷ []) answer = OnVersion (λ v. OnVersion (λ w reply. reply ≡ difference_word (difference v w)) second) first answer
-IsReply Inc (text ∷ word ∷ []) answer = OnVersion (λ v reply. reply ≡ next_text (answer_of_inc v word None None)) text answer
-IsReply Inc (text ∷ word ∷ id ∷ []) answer = OnVersion (λ v reply. reply ≡ next_text (answer_of_inc v word (Some id) None)) text answer
-IsReply Inc (text ∷ word ∷ id ∷ base ∷ []) answer =
-    OnNamed (λ b. OnVersion (λ v reply. reply ≡ next_text (answer_of_inc v word (Some id) (Some b))) text) (base_named base) answer
-IsReply Range (text ∷ []) answer = OnRange (λ ss reply. reply ≡ range_text ss) text answer
-IsReply And (first ∷ second ∷ []) answer = OnRange (λ ss. OnRange (λ ts reply. reply ≡ range_or_none (intersection ss ts)) second) first answer
-IsReply Minus (first ∷ second ∷ []) answer = OnRange (λ ss. OnRange (λ ts reply. reply ≡ range_or_none (lists.difference ss ts)) second) first answer
-IsReply Least (text ∷ []) answer = OnRange IsLeastReply text answer
-IsReply Beyond (first ∷ second ∷ []) answer = OnRange (λ ss. OnRange (IsBeyondReply ss) second) first answer
-IsReply Sat (first ∷ second ∷ []) answer = OnRange (λ ss. OnVersion (λ v reply. reply ≡ truth_word (accepts ss v false)) second) first answer
-IsReply Pre (first ∷ second ∷ []) answer = OnRange (λ ss. OnVersion (λ v reply. reply ≡ truth_word (accepts ss v true)) second) first answer
-IsReply Out (first ∷ second ∷ side ∷ []) answer =
-    OnNamed (λ d. OnRange (λ ss. OnVersion (λ v reply. reply ≡ truth_word (is_outside d false ss v)) second) first) (direction_named side) answer
-IsReply Max (range ∷ text ∷ texts) answer = OnRange (λ ss. OnVersions (IsBestReply IsMax ss) (text ∷ texts)) range answer
-IsReply Min (range ∷ text ∷ texts) answer = OnRange (λ ss. OnVersions (IsBestReply IsMin ss) (text ∷ texts)) range answer
-IsReply command others answer = answer ≡ bad_line
+-- the answer to each question
+abbrev pub IsReply : Question → List ℕ → Type 0
+IsReply (Cmp texts) = On (TwoVersions texts) (λ vw. Says (order_word (precedence vw.0 vw.1)))
+IsReply (Ver v) = On (IsVersionOf v.now) (λ v. Says (version_text v))
+IsReply (Diff texts) = On (TwoVersions texts) (λ vw. Says (difference_word (difference vw.0 vw.1)))
+IsReply (Inc (v, word)) = On (IsVersionOf v.now) (λ v. Says (next_text (answer_of_inc v word.now None None)))
+IsReply (IncWith (v, word, id)) =
+    On (IsVersionOf v.now) (λ v. Says (next_text (answer_of_inc v word.now (Some id.now) None)))
+IsReply (IncFrom (v, word, id) base) =
+    On (IsVersionOf v.now) (λ v. Says (next_text (answer_of_inc v word.now (Some id.now) (Some base))))
+IsReply (Range r) = On (IsRangeOf r.now) (λ r. Says (range_text r))
+IsReply (And texts) = On (TwoRanges texts) (λ rs. Says (range_or_none (intersection rs.0 rs.1)))
+IsReply (Minus texts) = On (TwoRanges texts) (λ rs. Says (range_or_none (lists.difference rs.0 rs.1)))
+IsReply (Least r) = On (IsRangeOf r.now) IsLeastReply
+IsReply (Beyond texts) = On (TwoRanges texts) (λ rs. IsBeyondReply rs.0 rs.1)
+IsReply (Sat texts) = On (RangeAndVersion texts) (λ rv. Says (truth_word (accepts rv.0 rv.1 false)))
+IsReply (Pre texts) = On (RangeAndVersion texts) (λ rv. Says (truth_word (accepts rv.0 rv.1 true)))
+IsReply (Out texts side) =
+    On (RangeAndVersion texts) (λ rv. Says (truth_word (is_outside side false rv.0 rv.1)))
+IsReply (Max texts) = On (RangeAndVersions texts) (λ rvs. IsBestReply IsMax rvs.0 rvs.1)
+IsReply (Min texts) = On (RangeAndVersions texts) (λ rvs. IsBestReply IsMin rvs.0 rvs.1)

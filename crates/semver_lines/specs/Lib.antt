@@ -1,11 +1,10 @@
 pub mod Lines
-pub mod Words
+pub mod Names
 pub mod Replies
-pub mod Bases
-pub mod Directions
 pub mod Commands
 pub mod Answers
-pub mod Runs
-pub mod Cuts
+pub mod Outcome
+pub mod LineCuts
+pub mod Results
+pub mod CommandWords
 pub mod Steps
-pub mod SeveralVersions

@@ -1,4 +1,4 @@
--- Statement: the lines of an input, and the fields of a line.
+-- Statement. The lines of an input, and the fields of a line.
 use Rattle.std.specs.Prelude.{◌≡◌, ◌==◌, ℕ, Bool, true, not, List, [], ◌∷◌, ◌++◌}
 use Rattle.std.specs.List.{list_all, flat_map, slice_split}
 

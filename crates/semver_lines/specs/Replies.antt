@@ -1,6 +1,7 @@
--- Statement: what is replied about the texts of a question. The first of them that is none of its kind, from the left,
--- is the fault that is told.
-use Rattle.std.specs.Prelude.{◌≡◌, ◌<◌, ℕ, List, [], ◌∷◌, length, Bool, Option, Some, None, IfSome, false}
+-- Statement. What the texts of a question are read as, and what is replied. The texts are read from the left, and the
+-- first that is no version, or no range, decides the fault.
+use Rattle.std.specs.Prelude.{◌≡◌, ◌<◌, ◌⊎◌, ℕ, List, [], ◌∷◌, length, Bool, Option, IfSome, Result, Ok, Err, false, ⊤}
+use Rattle.std.specs.Borrow.{Bor}
 use Rattle.semver_core.specs.Cuts.{Span}
 use Rattle.semver_core.specs.Parsing.{Parses, IsRefused}
 use Rattle.semver_core.specs.Versions.{VersionValue}
@@ -8,51 +9,81 @@ use Rattle.semver_core.specs.declared.TheConstants.{MAX_SAFE_INTEGER}
 use Rattle.nodejs_semver.specs.Accepts.{accepts}
 use Rattle.nodejs_semver.specs.Denotes.{denotes}
 use Rattle.nodejs_semver.specs.Least.{IsLeastOf, beyond, least_build}
-use Rattle.semver_lines.specs.Words.{bad_line, bad_range, bad_version, version_or_none}
+use Rattle.semver_lines.specs.Lines.{fields}
+use Rattle.semver_lines.specs.Names.{fault_word, version_or_none}
+use Rattle.semver_lines.specs.declared.fault.Fault.{Fault}
+use Rattle.semver_lines.specs.declared.fault.Fault.TheVariants.{BadVersion, BadRange}
 
--- a reply about the version of a text, or that the text has none
-pub data OnVersion (Reply : VersionValue → List ℕ → Type 0) (text answer : List ℕ) : Type 0 where
-  version : (v : VersionValue) → Parses MAX_SAFE_INTEGER text v → Reply v answer → OnVersion Reply text answer
-  no_version : IsRefused MAX_SAFE_INTEGER text → answer ≡ bad_version → OnVersion Reply text answer
+-- a text is read as this version, or as none
+abbrev pub IsVersionOf : List ℕ → Result VersionValue Fault → Type 0
+IsVersionOf text (Ok v) = Parses MAX_SAFE_INTEGER text v
+IsVersionOf text (Err fault) = IsRefused MAX_SAFE_INTEGER text × (fault ≡ BadVersion)
 
--- a reply about the versions of all these texts, or that one of them has none
-abbrev pub OnVersions : (List VersionValue → List ℕ → Type 0) → List (List ℕ) → List ℕ → Type 0
-OnVersions Reply [] answer = Reply [] answer
-OnVersions Reply (text ∷ texts) answer = OnVersion (λ v. OnVersions (λ vs. Reply (v ∷ vs)) texts) text answer
+-- a text is read as this range, or as none
+abbrev pub IsRangeOf : List ℕ → Result (List (Span VersionValue)) Fault → Type 0
+IsRangeOf text (Ok ss) = (ss ≡ denotes MAX_SAFE_INTEGER text) × (0 < length ss)
+IsRangeOf text (Err fault) = (denotes MAX_SAFE_INTEGER text ≡ []) × (fault ≡ BadRange)
 
--- a reply about what a field names, or that it names nothing, so that the line is no question
-abbrev pub OnNamed : {A : Type 0} → (A → List ℕ → Type 0) → Option A → List ℕ → Type 0
-OnNamed Reply None answer = answer ≡ bad_line
-OnNamed Reply (Some x) answer = Reply x answer
+-- each text has its version
+abbrev pub AllParse : List (List ℕ) → List VersionValue → Type 0
+AllParse [] [] = ⊤
+AllParse [] (v ∷ vs) = ⊥
+AllParse (text ∷ texts) [] = ⊥
+AllParse (text ∷ texts) (v ∷ vs) = Parses MAX_SAFE_INTEGER text v × AllParse texts vs
 
--- the range that the grammar gives a text, and that it gives it none
-pub record IsRangeOf (text : List ℕ) (ss : List (Span VersionValue)) : Type 0 where
-  pub denoted : ss ≡ denotes MAX_SAFE_INTEGER text
-  pub some : 0 < length ss
+-- one of the texts has no version
+abbrev pub AnyRefused : List (List ℕ) → Type 0
+AnyRefused [] = ⊥
+AnyRefused (text ∷ texts) = IsRefused MAX_SAFE_INTEGER text ⊎ AnyRefused texts
 
-abbrev pub HasNoRange : List ℕ → Type 0
-HasNoRange text = denotes MAX_SAFE_INTEGER text ≡ []
+-- some texts are read as these versions, or one of them as none
+abbrev pub AreVersionsOf : List (List ℕ) → Result (List VersionValue) Fault → Type 0
+AreVersionsOf texts (Ok vs) = AllParse texts vs
+AreVersionsOf texts (Err fault) = AnyRefused texts × (fault ≡ BadVersion)
 
--- a reply about the range of a text, or that the text has none
-pub data OnRange (Reply : List (Span VersionValue) → List ℕ → Type 0) (text answer : List ℕ) : Type 0 where
-  range : (ss : List (Span VersionValue)) → IsRangeOf text ss → Reply ss answer → OnRange Reply text answer
-  no_range : HasNoRange text → answer ≡ bad_range → OnRange Reply text answer
+-- two readings, one after the other
+abbrev pub Both : {A B : Type 0} → (Result A Fault → Type 0) → (Result B Fault → Type 0) → Result (A × B) Fault → Type 0
+Both First Second (Ok ab) = First (Ok ab.0) × Second (Ok ab.1)
+Both {A = A} First Second (Err fault) = First (Err fault) ⊎ ((a : A) × First (Ok a) × Second (Err fault))
 
--- the least version that a range accepts, printed with its build, or none
+-- the two texts of a question
+abbrev pub TwoVersions : Bor (List ℕ) × Bor (List ℕ) → Result (VersionValue × VersionValue) Fault → Type 0
+TwoVersions texts = Both (IsVersionOf texts.0.now) (IsVersionOf texts.1.now)
+
+abbrev pub TwoRanges : Bor (List ℕ) × Bor (List ℕ) → Result (List (Span VersionValue) × List (Span VersionValue)) Fault → Type 0
+TwoRanges texts = Both (IsRangeOf texts.0.now) (IsRangeOf texts.1.now)
+
+abbrev pub RangeAndVersion : Bor (List ℕ) × Bor (List ℕ) → Result (List (Span VersionValue) × VersionValue) Fault → Type 0
+RangeAndVersion texts = Both (IsRangeOf texts.0.now) (IsVersionOf texts.1.now)
+
+-- a range, and some versions that `;` parts
+abbrev pub RangeAndVersions : Bor (List ℕ) × Bor (List ℕ) → Result (List (Span VersionValue) × List VersionValue) Fault → Type 0
+RangeAndVersions texts = Both (IsRangeOf texts.0.now) (AreVersionsOf (fields texts.1.now))
+
+-- a reply about what was read, or the word of the fault
+pub data On {A : Type 0} (Reads : Result A Fault → Type 0) (Reply : A → List ℕ → Type 0) (answer : List ℕ) : Type 0 where
+  read : (value : A) → Reads (Ok value) → Reply value answer → On Reads Reply answer
+  fault : (why : Fault) → Reads (Err why) → answer ≡ fault_word why → On Reads Reply answer
+
+-- the reply is this text
+abbrev pub Says : List ℕ → List ℕ → Type 0
+Says text answer = answer ≡ text
+
+-- the smallest version that a range accepts, with its build, or none
 pub record IsLeastReply (ss : List (Span VersionValue)) (reply : List ℕ) : Type 0 where
   pub found : Option VersionValue
   pub least : IsLeastOf (λ v. accepts ss v false) found
   pub build : IfSome found (λ v. v.build ≡ least_build ss v)
   pub printed : reply ≡ version_or_none found
 
--- the least version that the first range accepts and the second does not, printed without a build, or none
+-- the smallest version that the first range accepts and the second does not, without a build, or none
 pub record IsBeyondReply (ss ts : List (Span VersionValue)) (reply : List ℕ) : Type 0 where
   pub found : Option VersionValue
   pub least : IsLeastOf (beyond ss ts) found
   pub build : IfSome found (λ v. v.build ≡ [])
   pub printed : reply ≡ version_or_none found
 
--- the version that is best by this order among those that a range accepts, printed with its build, or none
+-- the version that is best by this order among those that a range accepts, with its build, or none
 pub record IsBestReply (IsBest : (VersionValue → Bool) → List VersionValue → Option VersionValue → Type 0) (ss : List (Span VersionValue)) (vs : List VersionValue) (reply : List ℕ) : Type 0 where
   pub found : Option VersionValue
   pub best : IsBest (λ v. accepts ss v false) vs found

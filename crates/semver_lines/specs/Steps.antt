@@ -1,10 +1,10 @@
--- For proofs: what the steps of a run do.
+-- For proofs. What the steps of a run do.
 use Rattle.std.specs.Prelude.{◌≡◌, ◌<◌, ℕ, List, ◌++◌, length, Option, Result, Ok, Err, ⊤}
 use Rattle.std.specs.Io.KnownBytes.{Appends, Consumes, Keeps}
 use Rattle.semver_lines.specs.Answers.{Answers, IsAnswer}
-use Rattle.semver_lines.specs.Cuts.{cut_lines, cut_rest}
+use Rattle.semver_lines.specs.LineCuts.{cut_lines, cut_rest}
 use Rattle.semver_lines.specs.Lines.{ended, last_line}
-use Rattle.semver_lines.specs.Runs.{AnswersFront, AnswersTorn}
+use Rattle.semver_lines.specs.Outcome.{AnswersFront, AnswersTorn}
 use Rattle.semver_lines.specs.declared.run.RunFault.{RunFault}
 use Rattle.semver_lines.specs.declared.run.RunFault.TheVariants.{Read, Write, Memory}
 

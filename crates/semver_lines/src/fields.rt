@@ -4,6 +4,7 @@ ghost use Rattle.std.specs.Prelude.{◌≡◌, ◌≢◌, [], ◌∷◌, IfSome,
 ghost use Rattle.semver_lines.specs.Lines.{fields};
 
 /// The first field, and the text behind its `;`; `None` where the text is one field.
+#[inline(always)]
 pub fn first(text: &str) -> Option<(&str, &str)>
     ensures some { IfSome result (λ cut. fields text.now ≡ cut.0.now ∷ fields cut.1.now) }
     ensures none { IfNone result (fields text.now ≡ text.now ∷ []) }
@@ -12,6 +13,7 @@ pub fn first(text: &str) -> Option<(&str, &str)>
 }
 
 /// The field of a text that has just one.
+#[inline(always)]
 pub fn one(text: &str) -> Option<&str>
     ensures some { IfSome result (λ field. fields text.now ≡ field.now ∷ []) }
     ensures none { IfNone result (length (fields text.now) ≢ 1) }
@@ -23,6 +25,7 @@ pub fn one(text: &str) -> Option<&str>
 }
 
 /// The two fields of a text that has just two.
+#[inline(always)]
 pub fn two(text: &str) -> Option<(&str, &str)>
     ensures some { IfSome result (λ both. fields text.now ≡ both.0.now ∷ both.1.now ∷ []) }
     ensures none { IfNone result (length (fields text.now) ≢ 2) }
@@ -32,6 +35,7 @@ pub fn two(text: &str) -> Option<(&str, &str)>
 }
 
 /// The three fields of a text that has just three.
+#[inline(always)]
 pub fn three(text: &str) -> Option<(&str, &str, &str)>
     ensures some { IfSome result (λ all. fields text.now ≡ all.0.now ∷ all.1.now ∷ all.2.now ∷ []) }
     ensures none { IfNone result (length (fields text.now) ≢ 3) }

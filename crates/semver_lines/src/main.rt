@@ -1,18 +1,18 @@
-//! Answers questions about versions, one a line: reads them from standard input and writes the answers to standard
-//! output. It takes no arguments. It exits with 0, or with 1 where an end failed or memory was missing.
+//! Answers questions about versions and ranges, one a line: reads the lines from standard input and writes the answers
+//! to standard output. It takes no arguments. It exits with 0, or with 1 where an end failed or an allocation did.
 #![tactic(auto)]
 
 mod answer;
-mod best;
 mod command;
+mod fault;
 mod fields;
-mod increments;
-mod questions;
-mod ranges;
+mod question;
+mod read;
+mod reply;
 mod run;
 #[cfg(test)]
 mod tests;
-mod versions;
+mod words;
 
 use crate::run::run;
 use std::process::ExitCode;

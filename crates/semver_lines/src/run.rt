@@ -2,12 +2,13 @@
 
 ghost use Rattle.std.specs.Prelude.{◌≡◌, ◌+◌, ◌<◌, ◌≤◌, ◌++◌, ◌∷◌, [], true, length, take, drop, IfSome, IfNone, IfOk, IfErr, OnOk, OnErr, string_bytes};
 ghost use Rattle.std.specs.Io.KnownBytes.{Appends, Consumes, Keeps, IsAtEnd};
-ghost use Rattle.semver_lines.specs.Cuts.{cut_lines, cut_rest};
+ghost use Rattle.semver_lines.specs.LineCuts.{cut_lines, cut_rest};
 ghost use Rattle.semver_lines.specs.Lines.{last_line, no_feed};
-ghost use Rattle.semver_lines.specs.Runs.{Ran};
+ghost use Rattle.semver_lines.specs.Outcome.{Ran};
 ghost use Rattle.semver_lines.specs.Steps.{Finished, GrowsByAnswers, GrowsByFront, Stopped, Turned, WritesFront};
 
 use crate::answer::answer_line;
+use memchr::memchr;
 use std::alloc::{AllocError, Global};
 use std::io::{Read, Write};
 
@@ -96,7 +97,7 @@ fn first_feed(bytes: &[u8]) -> Option<usize>
     ensures line { IfSome result (λ at. no_feed (take at bytes.now) ≡ true) }
     ensures none { IfNone result (no_feed bytes.now ≡ true) }
 {
-    bytes.iter().position(|byte| *byte == b'\n')
+    memchr(b'\n', bytes)
 }
 
 // Writes these bytes by calls of `write` alone, of which none may take no byte.

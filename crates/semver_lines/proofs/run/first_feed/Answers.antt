@@ -1,17 +1,11 @@
-use Rattle.std.proofs.Common.{◌==◌, rules, tests}
-use Rattle.std.proofs.lemmas.Iterator.{YieldsList-from_slice}
-use Rattle.std.proofs.lemmas.Iterator.Search.{position_from_yields_List}
 use Rattle.semver_lines.proofs.Firsts.{found_feed}
 use Rattle.semver_lines.proofs.run.first_feed.Goals as goal
 
+pub returns-clause-some : goal.returns-clause-some
+returns-clause-some c = (found_feed c.args.bytes.now c.memchr.result c.memchr.ensures).0
+
 pub returns-clause-line : goal.returns-clause-line
-returns-clause-line c =
-    let text = c.args.bytes.now in
-    let place = position_from_yields_List (λ b. b == 10) _ _ c.position.result c.position.ensures.ran (YieldsList-from_slice text cc) (λ x b q k. search (rules, tests)) in
-    (found_feed text c.position.result place).0
+returns-clause-line c = (found_feed c.args.bytes.now c.memchr.result c.memchr.ensures).1
 
 pub returns-clause-none : goal.returns-clause-none
-returns-clause-none c =
-    let text = c.args.bytes.now in
-    let place = position_from_yields_List (λ b. b == 10) _ _ c.position.result c.position.ensures.ran (YieldsList-from_slice text cc) (λ x b q k. search (rules, tests)) in
-    (found_feed text c.position.result place).1
+returns-clause-none c = (found_feed c.args.bytes.now c.memchr.result c.memchr.ensures).2

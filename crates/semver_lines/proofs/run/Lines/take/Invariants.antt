@@ -1,5 +1,5 @@
 use Rattle.std.proofs.Common.{◌≡◌, ◌++◌, length, List, ℕ, string_bytes}
-use Rattle.semver_lines.specs.Cuts.{cut_lines, cut_rest}
+use Rattle.semver_lines.specs.LineCuts.{cut_lines, cut_rest}
 use Rattle.semver_lines.specs.Steps.{GrowsByAnswers}
 use Rattle.semver_lines.proofs.run.Lines.take.Given as goal
 

@@ -1,0 +1,132 @@
+// The calls on ranges and on intervals.
+
+use crate::show::{Outcome, found, no_values, read, show};
+use nodejs_semver::cuts::{Bound, Interval};
+use nodejs_semver::{Range, Version};
+use std::alloc::{AllocError, Global};
+use std::io;
+
+const THREE: &str = "^1.2.3-a.1 || ~2.3.4-b || >=5.0.0-c <7.0.0-d";
+
+const FIVE: &str = "1.3.0 || 1.5.0 || 2.3.5 || >=5.1.0-c <5.2.0 || >=6.0.0-e";
+
+/// Makes each call on ranges and on intervals.
+pub fn show_all(rt: &impl Print, alloc: Global) -> io::Result<()> {
+    for text in [THREE, FIVE, "foo"] {
+        show(rt, "Range::parse", read(Range::parse(alloc, text)), &text)?;
+    }
+    show(rt, "Range::any", Outcome::from(Range::any(alloc)), &"*")?;
+    for (one, other) in [(THREE, THREE), (THREE, FIVE), (FIVE, THREE)] {
+        algebra(rt, alloc, one, other)?;
+    }
+    choices(rt, alloc, THREE)?;
+    for (one, other) in [("1.0.0-a", "2.0.0-b"), ("1.5.0-c", "3.0.0-d")] {
+        intervals(rt, alloc, one, other)?;
+    }
+    Ok(())
+}
+
+fn algebra(rt: &impl Print, alloc: Global, one: &str, other: &str) -> io::Result<()> {
+    let Ok(one) = Range::parse(alloc, one) else {
+        return no_values(rt, "algebra");
+    };
+    let Ok(other) = Range::parse(alloc, other) else {
+        return no_values(rt, "algebra");
+    };
+    show(
+        rt,
+        "Range::intersect",
+        found(one.intersect(alloc, &other)),
+        &one,
+    )?;
+    show(
+        rt,
+        "Range::difference",
+        found(one.difference(alloc, &other)),
+        &other,
+    )?;
+    show(
+        rt,
+        "Range::least_beyond",
+        found(one.least_beyond(alloc, &other)),
+        &one,
+    )
+}
+
+fn choices(rt: &impl Print, alloc: Global, text: &str) -> io::Result<()> {
+    let Ok(range) = Range::parse(alloc, text) else {
+        return no_values(rt, "choices");
+    };
+    show(rt, "Range::copy", Outcome::from(range.copy(alloc)), &range)?;
+    show(
+        rt,
+        "Range::min_version",
+        found(range.min_version(alloc)),
+        &range,
+    )
+}
+
+// `>=lower <upper`
+fn interval(alloc: Global, lower: &str, upper: &str) -> Option<Interval<Version>> {
+    let lower = Version::parse(alloc, lower).ok()?;
+    let upper = Version::parse(alloc, upper).ok()?;
+    Interval::new(Bound::Before(lower), Bound::Before(upper))
+}
+
+fn intervals(rt: &impl Print, alloc: Global, lower: &str, upper: &str) -> io::Result<()> {
+    let Some(one) = interval(alloc, lower, upper) else {
+        return no_values(rt, "intervals");
+    };
+    let Some(other) = interval(alloc, "1.2.0-x.1", "1.9.0-y.2") else {
+        return no_values(rt, "intervals");
+    };
+    show_interval(rt, "Interval::copy", one.copy(alloc).map(Some), lower)?;
+    match one.lower().copy(alloc) {
+        Ok(bound) => show_bound(rt, "Bound::copy", &bound, lower)?,
+        Err(_) => println!(rt; "Bound::copy: memory from {lower}")?,
+    }
+    show_interval(
+        rt,
+        "Interval::intersect",
+        one.intersect(alloc, &other),
+        lower,
+    )?;
+    match one.subtract(alloc, &other) {
+        Ok((below, above)) => {
+            show_interval(rt, "Interval::subtract, below", Ok(below), lower)?;
+            show_interval(rt, "Interval::subtract, above", Ok(above), lower)?;
+        }
+        Err(_) => println!(rt; "Interval::subtract: memory from {lower}")?,
+    }
+    show_interval(rt, "the first interval", Ok(Some(one)), lower)?;
+    show_interval(rt, "the second interval", Ok(Some(other)), lower)
+}
+
+fn show_bound(
+    rt: &impl Print,
+    call: &str,
+    bound: &Bound<Version>,
+    borrowed: &str,
+) -> io::Result<()> {
+    match bound {
+        Bound::Unbounded => println!(rt; "{call}: unbounded from {borrowed}"),
+        Bound::Before(version) => println!(rt; "{call}: before {version} from {borrowed}"),
+        Bound::After(version) => println!(rt; "{call}: after {version} from {borrowed}"),
+    }
+}
+
+fn show_interval(
+    rt: &impl Print,
+    call: &str,
+    found: Result<Option<Interval<Version>>, AllocError>,
+    borrowed: &str,
+) -> io::Result<()> {
+    match found {
+        Ok(Some(interval)) => {
+            show_bound(rt, call, interval.lower(), borrowed)?;
+            show_bound(rt, call, interval.upper(), borrowed)
+        }
+        Ok(None) => println!(rt; "{call}: nothing from {borrowed}"),
+        Err(_) => println!(rt; "{call}: memory from {borrowed}"),
+    }
+}

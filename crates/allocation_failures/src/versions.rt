@@ -1,0 +1,136 @@
+// The calls on versions.
+
+use crate::show::{Outcome, found, no_values, read, show, show_debug};
+use nodejs_semver::readers::version_loose;
+use nodejs_semver::{Failure, Version, VersionParts};
+use semver_core::scan;
+use std::alloc::Global;
+use std::io;
+
+const VERSION: &str = "1.2.3-a.1.b+c.2.d";
+
+/// Makes each call on versions.
+pub fn show_all(rt: &impl Print, alloc: Global) -> io::Result<()> {
+    for text in [VERSION, "1.2.3", "1.2"] {
+        show(
+            rt,
+            "Version::parse",
+            read(Version::parse(alloc, text)),
+            &text,
+        )?;
+        show(
+            rt,
+            "version_loose",
+            found(version_loose(alloc, text)),
+            &text,
+        )?;
+    }
+    show(
+        rt,
+        "with_pre",
+        Outcome::from(Version::with_pre(alloc, 1, 2, 3, 4)),
+        &4,
+    )?;
+    identifiers(rt, alloc, VERSION, 6)?;
+    identifiers(rt, alloc, VERSION, 5)?;
+    for text in [VERSION, "1.2.3"] {
+        new(rt, alloc, text)?;
+        into_parts(rt, alloc, text)?;
+        copy(rt, alloc, text)?;
+        parts_copy(rt, alloc, text)?;
+        for word in ["major", "prerelease", "premajor", "fake"] {
+            inc(rt, alloc, text, word)?;
+        }
+    }
+    Ok(())
+}
+
+fn identifiers(rt: &impl Print, alloc: Global, text: &str, at: usize) -> io::Result<()> {
+    if at > text.len() {
+        return no_values(rt, "identifiers");
+    }
+    match scan::identifiers(alloc, text, at) {
+        Ok(Some((list, end))) => println!(rt; "identifiers: {} to {end} from {text}", list.len()),
+        Ok(None) => println!(rt; "identifiers: nothing from {text}"),
+        Err(_) => println!(rt; "identifiers: memory from {text}"),
+    }
+}
+
+fn parts_of(alloc: Global, text: &str) -> Option<VersionParts> {
+    match Version::parse(alloc, text) {
+        Ok(version) => version.into_parts(alloc).ok(),
+        Err(_) => None,
+    }
+}
+
+fn new(rt: &impl Print, alloc: Global, text: &str) -> io::Result<()> {
+    let Some(parts) = parts_of(alloc, text) else {
+        return no_values(rt, "new");
+    };
+    match Version::new(alloc, 7, 8, 9, parts.pre_release, parts.build) {
+        Ok(version) => println!(rt; "new: {version} from {text}"),
+        Err(parts) => println!(rt; "new: memory from {parts:?}"),
+    }
+}
+
+fn into_parts(rt: &impl Print, alloc: Global, text: &str) -> io::Result<()> {
+    let Ok(version) = Version::parse(alloc, text) else {
+        return no_values(rt, "into_parts");
+    };
+    match version.into_parts(alloc) {
+        Ok(parts) => println!(rt; "into_parts: {parts:?} from {text}"),
+        Err(version) => println!(rt; "into_parts: memory from {version}"),
+    }
+}
+
+fn copy(rt: &impl Print, alloc: Global, text: &str) -> io::Result<()> {
+    let Ok(version) = Version::parse(alloc, text) else {
+        return no_values(rt, "Version::copy");
+    };
+    show(
+        rt,
+        "Version::copy",
+        Outcome::from(version.copy(alloc)),
+        &version,
+    )?;
+    for identifier in version.build() {
+        show(
+            rt,
+            "Identifier::copy",
+            Outcome::from(identifier.copy(alloc)),
+            identifier,
+        )?;
+    }
+    Ok(())
+}
+
+fn parts_copy(rt: &impl Print, alloc: Global, text: &str) -> io::Result<()> {
+    let Some(parts) = parts_of(alloc, text) else {
+        return no_values(rt, "VersionParts::copy");
+    };
+    show_debug(
+        rt,
+        "VersionParts::copy",
+        Outcome::from(parts.copy(alloc)),
+        &text,
+    )?;
+    println!(rt; "VersionParts::copy left {parts:?}")
+}
+
+fn inc(rt: &impl Print, alloc: Global, text: &str, word: &str) -> io::Result<()> {
+    let Ok(version) = Version::parse(alloc, text) else {
+        return no_values(rt, word);
+    };
+    let next = version.inc(alloc, word, Some("beta"), None);
+    match next {
+        Err(Failure::Refused(error)) => {
+            show(
+                rt,
+                "IncrementError::copy",
+                Outcome::from(error.copy(alloc)),
+                &error,
+            )
+        }
+        next => show(rt, word, read(next), &version),
+    }
+}
