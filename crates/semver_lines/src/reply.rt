@@ -43,7 +43,7 @@ pub fn reply(
         Question::Beyond(texts) => beyond(alloc, texts, answer),
         Question::Sat(texts) => sat(alloc, texts, answer),
         Question::Pre(texts) => pre(alloc, texts, answer),
-        Question::Out(texts, direction) => out(alloc, texts, direction, answer),
+        Question::Out(texts, direction) => outside(alloc, texts, direction, answer),
         Question::Max(texts) => max(alloc, texts, answer),
         Question::Min(texts) => min(alloc, texts, answer),
     }
@@ -149,7 +149,7 @@ fn pre(alloc: Global, texts: (&str, &str), answer: &mut String) -> Result<(), Fa
     push_truth(range.satisfies_with_prerelease(&version, true), answer)
 }
 
-fn out(
+fn outside(
     alloc: Global,
     texts: (&str, &str),
     direction: OutsideDirection,

@@ -3,7 +3,7 @@
 ghost use Rattle.std.specs.Option.{option_copied};
 ghost use Rattle.std.specs.Prelude.{◌≡◌, [], Result, string_bytes};
 ghost use Rattle.semver_core.specs.Increment as increment;
-ghost use Rattle.semver_core.specs.IncrementView.{Answers, fault_of};
+ghost use Rattle.semver_core.specs.IncrementView.{Returns, fault_of};
 ghost use Rattle.semver_core.specs.Versions.{VersionValue};
 ghost use Rattle.semver_lines.specs.Names.{difference_word, increment_fault_word, next_text, order_word, range_or_none, truth_word, version_or_none};
 ghost use Rattle.semver_lines.specs.Replies.{Says};
@@ -103,7 +103,7 @@ pub fn push_next(
     answer: &mut String,
 ) -> Result<(), Failure<Fault>>
     requires { string_bytes answer.old ≡ [] }
-    ensures { (told : Result VersionValue increment.Fault) → Answers (λ v. v) told next
+    ensures { (told : Result VersionValue increment.Fault) → Returns told next
         → IsTold result (string_bytes answer.new) (Says (next_text told)) }
 {
     Ok(match next {

@@ -10,4 +10,4 @@ pub returns-in-IncFrom : goal.returns-in-IncFrom
 returns-in-IncFrom c = rw c.in-IncFrom.is c.inc-in-IncFrom.ensures
 
 pub returns-in-Out : goal.returns-in-Out
-returns-in-Out c = rw c.in-Out.is c.out.ensures
+returns-in-Out c = rw c.in-Out.is c.outside.ensures

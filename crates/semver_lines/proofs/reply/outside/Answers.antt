@@ -1,0 +1,13 @@
+use Rattle.std.proofs.Common.{ap, rules}
+use Rattle.std.proofs.lemmas.Result.{err_from_is_err_and}
+use Rattle.semver_lines.specs.Names.{truth_word}
+use Rattle.semver_lines.proofs.Replies.{told_fault, told_read}
+use Rattle.semver_lines.proofs.reply.outside.Goals as goal
+
+pub returns-in_err-range : goal.returns-in_err-range
+returns-in_err-range c =
+    let p = err_from_is_err_and c.from_residual.result c.from_residual.ensures.1 in
+    rw (p.1, p.2) (told_fault _ _ _ _ c.in_err-range.ensures c.requires)
+
+pub returns : goal.returns
+returns c = told_read _ _ _ _ _ _ c.push_truth.ensures c.in_ok-range.ensures (ap truth_word (search rules))
