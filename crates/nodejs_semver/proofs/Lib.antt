@@ -44,4 +44,11 @@ pub mod Trimmed
 pub mod Bounded
 pub mod BoundedTable
 pub mod NumberFront
+pub mod CommonPieces
+pub mod CommonWords
+pub mod CommonTexts
+pub mod CommonParts
+pub mod CommonLoop
+pub mod CommonBounds
+pub mod CommonRange
 pub mod Through

@@ -1,6 +1,7 @@
 //! The readers of version and range texts. They have no limit of length.
 
 mod bars;
+mod fast;
 mod intervals;
 mod loose;
 mod number;
@@ -10,6 +11,7 @@ mod syntax;
 mod table;
 mod words;
 
+pub use crate::readers::fast::range_fast;
 pub(crate) use crate::readers::loose::is_blank;
 pub use crate::readers::loose::range_loose;
 pub use semver_core::readers::version_loose;

@@ -4,6 +4,7 @@ mod core_versions;
 mod cuts;
 mod difference;
 mod ends;
+mod fast_ranges;
 mod faults;
 mod json;
 mod laws;
