@@ -60,8 +60,8 @@ pub fn one_meaning()
     ensures { OneMeaning }
 {}
 
-/// A common range text has a range: what it denotes is one interval for each of its parts, none of which is empty. The common
-/// texts and their intervals are computed.
+/// A common range text has a range: it denotes its intervals, of which there is one or more, and some part of it is not empty.
+/// The common texts and their intervals are computed.
 pub fn common_ranges()
     ensures denoted { CommonRangesAreDenoted }
     ensures read { CommonRangesAreRead }

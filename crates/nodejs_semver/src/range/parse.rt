@@ -14,18 +14,18 @@ use semver_core::{Failure, MAX_SAFE_INTEGER, SemverError};
 use std::alloc::{AllocError, Global};
 
 impl Range {
-    /// Reads a range text, of any length: parts between `||`, of which each is words such as `^1.2`, `>=1.0.0 <2.0.0`,
+    /// Reads a range text of any length: parts separated by `||`, each of which is words such as `^1.2`, `>=1.0.0 <2.0.0`,
     /// `~1.2.3` or `1.0.0 - 2.0.0` (node-semver's range grammar).
     ///
-    /// The empty text is the range of all versions, and so is every text whose parts are all empty. A word that is malformed
-    /// is passed, so `foo 1.2.3` reads as `1.2.3`; a text none of whose words gives an interval is refused, as `foo` is. So a
-    /// number past `MAX_SAFE_INTEGER` is passed too: `>=900719925474099.0.0 <900719925474100.0.0-0`, which
+    /// The empty text is the range of all versions, and so is every text whose parts are all empty. A malformed word is
+    /// skipped, so `foo 1.2.3` reads as `1.2.3`; `SemverError` is returned if no word gives an interval, as for `foo`. A
+    /// number past `MAX_SAFE_INTEGER` makes a word malformed: `>=900719925474099.0.0 <900719925474100.0.0-0`, which
     /// `^900719925474099` prints, reads as `>=900719925474099.0.0`.
     pub fn parse(alloc: Global, text: &str) -> Result<Range, Failure<SemverError>>
         // The intervals are those of the text, in order and with their builds.
         ensures ok { IfOk result (λ range. range ≡ denotes MAX_SAFE_INTEGER text.now) }
         ensures some { OnOk result (0 < length (denotes MAX_SAFE_INTEGER text.now)) }
-        // A text is refused only where it has none. The one other error is want of memory.
+        // A text is rejected only where it has none. The one other error is an allocation failure.
         ensures err { IfErr result (λ e. MatchFailure e (denotes MAX_SAFE_INTEGER text.now ≡ []) ⊤) }
         // With pre-releases included, the range accepts exactly the versions that the text writes.
         ensures set { IfOk result (λ range. (v : VersionValue) → accepts range v true ≡ writes MAX_SAFE_INTEGER text.now v) }

@@ -6,7 +6,7 @@ ghost use Rattle.nodejs_semver.specs.CommonFronts as Spec;
 ghost use Rattle.nodejs_semver.specs.CommonText.{IsCommonRange, IsUncommon};
 ghost use Rattle.nodejs_semver.specs.Denotes.{denotes};
 ghost use Rattle.nodejs_semver.specs.Fronts.{dotted_front};
-ghost use Rattle.nodejs_semver.specs.CommonViews.{both_view, bounds_front_view, passed_view};
+ghost use Rattle.nodejs_semver.specs.CommonViews.{between_view, both_view, bounds_front_view, passed_view};
 ghost use Rattle.nodejs_semver.specs.Readings.{bare_view, bound_view, bounds_view, partial_front_view, partial_pair_view, reading_view, rest_view};
 ghost use Rattle.semver_core.specs.Cuts.{interval};
 ghost use Rattle.semver_core.specs.Order.{precedence};
@@ -81,6 +81,7 @@ fn bare_minor(major: Option<u64>, text: &[u8]) -> (Partial<'_>, &[u8])
 }
 
 // The partial at the front. Neither `v` nor whitespace is skipped before it, and no build is read.
+#[inline(always)]
 #[tactic(auto, unfolding(crate::specs::CommonFronts::bare_front))]
 fn bare_front(text: &[u8]) -> Option<(Partial<'_>, &[u8])>
     ensures { partial_front_view result ≡ Spec.bare_front MAX_SAFE_INTEGER text.now }
@@ -136,7 +137,8 @@ fn partials_front(text: &[u8]) -> Option<(Word<'_>, &[u8])>
 // The bounds of a word that was read, and what follows the word.
 #[inline(always)]
 fn bounds_read<'a>(read: Option<(Word<'a>, &'a [u8])>) -> Option<(Bounds<'a>, &'a [u8])>
-    ensures { bounds_front_view result ≡ Spec.bounds_read MAX_SAFE_INTEGER (reading_view read.entry) }
+    ensures { bounds_front_view result
+        ≡ Spec.bounds_read MAX_SAFE_INTEGER (reading_view read.entry) }
 {
     let (word, rest) = read?;
     let bounds = table::table(&word)?;
@@ -174,8 +176,9 @@ fn push_between(
     upper: &Bound<BareVersion<'_>>,
     found: &mut Vec<Interval<Version>>,
 ) -> Result<bool, AllocError>
-    ensures { IfOk result (λ there. both_view there found.new.items ≡ Spec.pushed found.old.items
-        (interval precedence (record { lower = bound_view lower.now; upper = bound_view upper.now }))) }
+    ensures { let s = between_view lower.now upper.now in
+        IfOk result (λ there. both_view there found.new.items
+            ≡ Spec.pushed found.old.items (interval precedence s)) }
 {
     let lower = bound(alloc, lower)?;
     let upper = bound(alloc, upper)?;
@@ -192,7 +195,8 @@ fn common_interval(
     first: &Bounds<'_>,
     second: &Bounds<'_>,
 ) -> Result<Option<Interval<Version>>, AllocError>
-    ensures { IfOk result (λ both. both ≡ Spec.both_of (bounds_view first.now) (bounds_view second.now)) }
+    ensures { IfOk result (λ both. both
+        ≡ Spec.both_of (bounds_view first.now) (bounds_view second.now)) }
 {
     let Some(first) = intervals::interval_of(alloc, first)? else {
         return Ok(None);
@@ -212,8 +216,9 @@ fn push_common(
     second: &Bounds<'_>,
     found: &mut Vec<Interval<Version>>,
 ) -> Result<bool, AllocError>
-    ensures { IfOk result (λ there. both_view there found.new.items
-        ≡ Spec.pushed found.old.items (Spec.both_of (bounds_view first.now) (bounds_view second.now))) }
+    ensures { let both = Spec.both_of (bounds_view first.now) (bounds_view second.now) in
+        IfOk result (λ there. both_view there found.new.items
+            ≡ Spec.pushed found.old.items both) }
 {
     match common_interval(alloc, first, second)? {
         Some(interval) => {
@@ -232,8 +237,9 @@ fn push_both(
     second: &Bounds<'_>,
     found: &mut Vec<Interval<Version>>,
 ) -> Result<bool, AllocError>
-    ensures { IfOk result (λ there. both_view there found.new.items
-        ≡ Spec.pushed found.old.items (Spec.both_of (bounds_view first.now) (bounds_view second.now))) }
+    ensures { let both = Spec.both_of (bounds_view first.now) (bounds_view second.now) in
+        IfOk result (λ there. both_view there found.new.items
+            ≡ Spec.pushed found.old.items both) }
 {
     match (&first.upper, &second.lower) {
         (Bound::Unbounded, Bound::Unbounded) => {
@@ -346,7 +352,8 @@ fn intervals_of(
     alloc: Global,
     text: &[u8],
 ) -> Result<Option<Vec<Interval<Version>>>, AllocError>
-    ensures some { IfOk result (λ found. IfSome found (λ list. IsCommonRange MAX_SAFE_INTEGER text.now list.items)) }
+    ensures some { IfOk result (λ found. IfSome found (λ list.
+        IsCommonRange MAX_SAFE_INTEGER text.now list.items)) }
     ensures none { IfOk result (λ found. IfNone found (IsUncommon MAX_SAFE_INTEGER text.now)) }
 {
     let mut found = Vec::new(alloc);
@@ -365,16 +372,19 @@ fn intervals_of(
     }
 }
 
-/// The range of a common text, and `None` exactly where the text is no common one. The error is an allocation failure.
+/// Reads a common range text in one pass. It returns `None` exactly where the text is not one; the error is an allocation
+/// failure.
 ///
-/// Most ranges in manifests are common texts. Their parts are separated by `||`, with one space or none on each side; each
-/// part is one word, as `^1.2.3`, `~1.2`, `1.x` or `1.0.0 - 2.0.0`, or two comparisons with one space between them that have
-/// versions in common, as `>=1.0.0 <2.0.0`. No partial begins with `v`, none has build metadata, and no other whitespace
-/// stands in the text. `foo 1.2.3`, `v1.2.3` and `> 1` are no common texts.
+/// Most ranges in manifests are common texts. Their parts are separated by `||`, with one space or none on each side. Each
+/// part is one word, such as `^1.2.3`, `~1.2`, `1.x` or `1.0.0 - 2.0.0`, or two comparisons separated by one space whose
+/// intervals meet, such as `>=1.0.0 <2.0.0`. No version in the text begins with `v` or has build metadata, and there is no
+/// other whitespace. `foo 1.2.3`, `v1.2.3` and `> 1` are not common texts; `Range::parse` reads them too.
 pub fn range_fast(alloc: Global, text: &str) -> Result<Option<Range>, AllocError>
     // What is read is the meaning of a common text, which is what the text denotes.
-    ensures some { IfOk result (λ found. IfSome found (λ range. IsCommonRange MAX_SAFE_INTEGER text.now range)) }
-    ensures denoted { IfOk result (λ found. IfSome found (λ range. range ≡ denotes MAX_SAFE_INTEGER text.now)) }
+    ensures some { IfOk result (λ found. IfSome found (λ range.
+        IsCommonRange MAX_SAFE_INTEGER text.now range)) }
+    ensures denoted { IfOk result (λ found. IfSome found (λ range.
+        range ≡ denotes MAX_SAFE_INTEGER text.now)) }
     // Nothing is read only where the text is no common one.
     ensures none { IfOk result (λ found. IfNone found (IsUncommon MAX_SAFE_INTEGER text.now)) }
 {
