@@ -1,16 +1,16 @@
 -- The interval of a part and what follows it, as the fast reader makes them.
 use Rattle.std.proofs.Common.{◌≡◌, ℕ, List, [], ◌∷◌, ◌++◌, drop, refl, sym, ap, ◌∙◌, Bool, true, false, Some, None}
 use Rattle.std.specs.Prelude.{Option, if◌then◌else◌}
-use Rattle.semver_core.specs.Cuts.{Span, interval}
+use Rattle.semver_core.specs.Cuts.{Span, interval, meet}
 use Rattle.semver_core.specs.Order.{precedence}
 use Rattle.semver_core.specs.Versions.{VersionValue}
 use Rattle.semver_core.specs.declared.cuts.bound.Bound.{Bound}
 use Rattle.semver_core.specs.declared.cuts.bound.Bound.TheVariants.{Unbounded, Before, After}
-use Rattle.nodejs_semver.specs.CommonFronts.{begins_second, both_of, bounds_read, comparison_front, comparisons_front, part_read, passed, pushed, word_read}
+use Rattle.nodejs_semver.specs.CommonFronts.{begins_second, both_of, comparison_front, comparisons_front, part_read, passed, pushed, word_read}
 use Rattle.nodejs_semver.specs.CommonViews.{both_view}
 use Rattle.nodejs_semver.specs.Fronts.{Front}
 use Rattle.nodejs_semver.specs.Partials.{◌>>=◌}
-use Rattle.nodejs_semver.specs.Words.{Word}
+use Rattle.nodejs_semver.specs.WordText.{Word}
 
 -- two comparisons of which the first has no upper and the second no lower bound
 pub half_open : (a b : Bound VersionValue)
@@ -48,20 +48,55 @@ passed-part there rest done new (Some s) r h e =
 
 -- one word
 pub passed-word : (limit : ℕ) (read : Front Word) (bounds : Span VersionValue) (rest : List ℕ) (there : Bool) (done new : List (Span VersionValue)) (r : Option (List ℕ))
-    → bounds_read limit read ≡ Some (bounds, rest) → both_view there new ≡ pushed done (interval precedence bounds) → r ≡ (if there then Some rest else None)
+    → part_read rest (interval precedence bounds) ≡ word_read limit read → both_view there new ≡ pushed done (interval precedence bounds) → r ≡ (if there then Some rest else None)
     → behind r new ≡ passed done (word_read limit read)
 passed-word limit read bounds rest there done new r h p e =
-    passed-part there rest done new (interval precedence bounds) r p e
-    ∙ ap (λ (o : Front (Span VersionValue)). passed done (o >>= λ s. part_read s.1 (interval precedence s.0))) (sym h)
+    passed-part there rest done new (interval precedence bounds) r p e ∙ ap (λ (o : Front (Span VersionValue)). passed done o) h
 
-second-read : (limit : ℕ) (text : List ℕ) (a b : Span VersionValue) (rest more : List ℕ) → bounds_read limit (comparison_front limit text) ≡ Some (a, rest)
-    → begins_second rest ≡ true → bounds_read limit (comparison_front limit (drop 1 rest)) ≡ Some (b, more) → comparisons_front limit text ≡ part_read more (both_of a b)
+-- the step behind the first comparison
+abbrev behind-first : ℕ → Span VersionValue × List ℕ → Front (Span VersionValue)
+behind-first limit s =
+    if begins_second s.1
+    then (word_read limit (comparison_front limit (drop 1 s.1)) >>= λ t. part_read t.1 (meet precedence s.0 t.0))
+    else Some s
+
+front-is : (limit : ℕ) (text : List ℕ) (o : Front (Span VersionValue)) → o ≡ word_read limit (comparison_front limit text)
+    → comparisons_front limit text ≡ (o >>= λ s. behind-first limit s)
 unfolding comparisons_front
-second-read limit text a b rest more h second k = rw (h, second, k) refl
+front-is limit text o h = ap (λ (q : Front (Span VersionValue)). q >>= λ s. behind-first limit s) (sym h)
+
+no-second : (limit : ℕ) (rest : List ℕ) (o : Option (Span VersionValue)) → begins_second rest ≡ true → word_read limit (comparison_front limit (drop 1 rest)) ≡ None
+    → (part_read rest o >>= λ s. behind-first limit s) ≡ None
+no-second limit rest None h k = refl
+no-second limit rest (Some a) h k = rw (h, k) refl
+
+-- no second comparison is read
+pub none-second : (limit : ℕ) (text : List ℕ) (a : Span VersionValue) (rest : List ℕ)
+    → part_read rest (interval precedence a) ≡ word_read limit (comparison_front limit text) → begins_second rest ≡ true
+    → word_read limit (comparison_front limit (drop 1 rest)) ≡ None → comparisons_front limit text ≡ None
+none-second limit text a rest h second k =
+    front-is limit text (part_read rest (interval precedence a)) h ∙ no-second limit rest (interval precedence a) second k
+
+then-second : (limit : ℕ) (a : Span VersionValue) (rest more : List ℕ) (o : Option (Span VersionValue)) → part_read more o ≡ word_read limit (comparison_front limit (drop 1 rest))
+    → begins_second rest ≡ true → behind-first limit (a, rest) ≡ part_read more (o >>= λ b. meet precedence a b)
+then-second limit a rest more None h second = rw (second, sym h) refl
+then-second limit a rest more (Some b) h second = rw (second, sym h) refl
+
+two-read : (limit : ℕ) (rest more : List ℕ) (o p : Option (Span VersionValue)) → begins_second rest ≡ true → part_read more p ≡ word_read limit (comparison_front limit (drop 1 rest))
+    → (part_read rest o >>= λ s. behind-first limit s) ≡ part_read more (o >>= λ a. p >>= λ b. meet precedence a b)
+two-read limit rest more None p second k = refl
+two-read limit rest more (Some a) p second k = then-second limit a rest more p k second
+
+second-read : (limit : ℕ) (text : List ℕ) (a b : Span VersionValue) (rest more : List ℕ) → part_read rest (interval precedence a) ≡ word_read limit (comparison_front limit text)
+    → begins_second rest ≡ true → part_read more (interval precedence b) ≡ word_read limit (comparison_front limit (drop 1 rest))
+    → comparisons_front limit text ≡ part_read more (both_of a b)
+second-read limit text a b rest more h second k =
+    front-is limit text (part_read rest (interval precedence a)) h ∙ two-read limit rest more (interval precedence a) (interval precedence b) second k
 
 -- two comparisons
 pub passed-second : (limit : ℕ) (text : List ℕ) (a b : Span VersionValue) (rest more : List ℕ) (there : Bool) (done new : List (Span VersionValue)) (r : Option (List ℕ))
-    → bounds_read limit (comparison_front limit text) ≡ Some (a, rest) → begins_second rest ≡ true → bounds_read limit (comparison_front limit (drop 1 rest)) ≡ Some (b, more)
+    → part_read rest (interval precedence a) ≡ word_read limit (comparison_front limit text) → begins_second rest ≡ true
+    → part_read more (interval precedence b) ≡ word_read limit (comparison_front limit (drop 1 rest))
     → both_view there new ≡ pushed done (both_of a b) → r ≡ (if there then Some more else None) → behind r new ≡ passed done (comparisons_front limit text)
 passed-second limit text a b rest more there done new r h second k p e =
     passed-part there more done new (both_of a b) r p e

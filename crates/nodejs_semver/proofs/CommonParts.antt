@@ -9,13 +9,14 @@ use Rattle.semver_core.specs.Cuts.{Span, interval, meet}
 use Rattle.semver_core.specs.Order.{precedence}
 use Rattle.semver_core.specs.Spaces.{is_empty}
 use Rattle.semver_core.specs.Versions.{VersionValue}
-use Rattle.nodejs_semver.specs.CommonFronts.{after_bars, after_gap, bare_front, begins_dash, begins_second, both_of, bounds_read, caret_front, common_range, common_within, comparison_front, comparisons_front, is_sign, onto, part_front, part_read, partials_front, tilde_front, word_read}
+use Rattle.nodejs_semver.specs.CommonFronts.{after_bars, after_gap, bare_front, begins_dash, begins_second, caret_front, common_range, common_within, comparison_front, comparisons_front, is_sign, onto, part_front, part_read, partials_front, tilde_front, word_read}
 use Rattle.nodejs_semver.specs.CommonText.{CommonRangesAreRead, IsBare, IsCommonPart, IsCommonRange, IsCommonWord, IsComparison, IsGap, caret_word, compare_word, comparison, hyphen_word, more_parts, one_part, one_word, plain_word, tilde_greater_word, tilde_word, two_comparisons}
 use Rattle.nodejs_semver.specs.Fronts.{Front, begins_byte}
-use Rattle.nodejs_semver.specs.Partials.{Partial, ◌>>=◌, is_wildcard}
-use Rattle.nodejs_semver.specs.Table.{bounds_of, table}
-use Rattle.nodejs_semver.specs.WordText.{IsSign, above_sign, at_least_sign, at_most_sign, below_sign, equal_sign}
-use Rattle.nodejs_semver.specs.Words.{Comparator, Word, above, after_byte, at_least, at_most, below, caret, comparator_at, compare, equal, hyphen, plain, tilde, tilde_sign}
+use Rattle.nodejs_semver.specs.PartialText.{Partial, is_wildcard}
+use Rattle.nodejs_semver.specs.Partials.{◌>>=◌}
+use Rattle.nodejs_semver.specs.Table.{table}
+use Rattle.nodejs_semver.specs.WordText.{IsSign, above_sign, at_least_sign, at_most_sign, below_sign, equal_sign, Comparator, Word, above, at_least, at_most, below, caret, compare, equal, hyphen, plain, tilde}
+use Rattle.nodejs_semver.specs.Words.{after_byte, comparator_at, tilde_sign}
 use Rattle.nodejs_semver.proofs.CommonPieces.{Stop, bare-begins, bare-exact, bare-sound, stop-bar, stop-nil, stop-space}
 use Rattle.nodejs_semver.proofs.CommonTexts.{is_solid, part-compact}
 use Rattle.nodejs_semver.proofs.CommonWords.{no-equal, no-greater}
@@ -212,30 +213,6 @@ partials-sound limit text w more h plus =
 
 -- ---- parts
 
--- the bounds of a word, and the interval that they make
-bounds-are : (limit : ℕ) (w : Word) (s : Span VersionValue) → bounds_of limit w ≡ Some s → (t : Span VersionValue) × (table limit w ≡ Some t) × (interval precedence t ≡ Some s)
-bounds-are limit w s h = bind-some (table limit w) (interval precedence) s h
-
-bounds-make : (limit : ℕ) (w : Word) (t s : Span VersionValue) → table limit w ≡ Some t → interval precedence t ≡ Some s → bounds_of limit w ≡ Some s
-bounds-make limit w t s h k = rw h k
-
-read-exact : (limit : ℕ) (read : Front Word) (w : Word) (more : List ℕ) (t : Span VersionValue) → read ≡ Some (w, more) → table limit w ≡ Some t
-    → bounds_read limit read ≡ Some (t, more)
-read-exact limit read w more t h k = rw (h, k) refl
-
-read-sound : (limit : ℕ) (read : Front Word) (t : Span VersionValue) (more : List ℕ) → bounds_read limit read ≡ Some (t, more)
-    → (w : Word) × (read ≡ Some (w, more)) × (table limit w ≡ Some t)
-read-sound limit read t more h =
-    let w = bind-some read _ (t, more) h in
-    let b = bind-some (table limit w.0.0) (λ b. Some (b, w.0.1)) (t, more) w.2 in
-    (w.0.0, w.1 ∙ ap (λ (r : List ℕ). pair_of w.0.0 r) (second-of b.2), b.1 ∙ ap (λ (a : Span VersionValue). some_span a) (first-of b.2))
-  where
-    pair_of : Word → List ℕ → Front Word
-    pair_of w r = Some (w, r)
-
-    some_span : Span VersionValue → Option (Span VersionValue)
-    some_span a = Some a
-
 part-is : (rest : List ℕ) (o : Option (Span VersionValue)) (s : Span VersionValue) (more : List ℕ) → part_read rest o ≡ Some (s, more) → (o ≡ Some s) × (rest ≡ more)
 part-is rest None s more h = cc h
 part-is rest (Some a) s more h = (ap (λ (b : Span VersionValue). some_span b) (first-of h), second-of h)
@@ -243,38 +220,30 @@ part-is rest (Some a) s more h = (ap (λ (b : Span VersionValue). some_span b) (
     some_span : Span VersionValue → Option (Span VersionValue)
     some_span b = Some b
 
-bounds-exact : (limit : ℕ) (read : Front Word) (w : Word) (more : List ℕ) (s : Span VersionValue) → read ≡ Some (w, more) → bounds_of limit w ≡ Some s
+read-exact : (limit : ℕ) (read : Front Word) (w : Word) (more : List ℕ) (s : Span VersionValue) → read ≡ Some (w, more) → table limit w ≡ Some s
     → word_read limit read ≡ Some (s, more)
-bounds-exact limit read w more s h k =
-    let b = bounds-are limit w s k in
-    bind-of (bounds_read limit read) (λ s. part_read s.1 (interval precedence s.0)) (b.0, more) (read-exact limit read w more b.0 h b.1)
-    ∙ ap (λ (o : Option (Span VersionValue)). part_read more o) b.2
+read-exact limit read w more s h k = rw (h, k) refl
 
-bounds-sound : (limit : ℕ) (read : Front Word) (s : Span VersionValue) (more : List ℕ) → word_read limit read ≡ Some (s, more)
-    → (w : Word) × (read ≡ Some (w, more)) × (bounds_of limit w ≡ Some s)
-bounds-sound limit read s more h =
-    let b = bind-some (bounds_read limit read) (λ s. part_read s.1 (interval precedence s.0)) (s, more) h in
-    let p = part-is b.0.1 (interval precedence b.0.0) s more b.2 in
-    let w = read-sound limit read b.0.0 more (b.1 ∙ ap (λ (r : List ℕ). pair_of b.0.0 r) p.1) in
-    (w.0, w.1, bounds-make limit w.0 b.0.0 s w.2 p.0)
+read-sound : (limit : ℕ) (read : Front Word) (s : Span VersionValue) (more : List ℕ) → word_read limit read ≡ Some (s, more)
+    → (w : Word) × (read ≡ Some (w, more)) × (table limit w ≡ Some s)
+read-sound limit read s more h =
+    let w = bind-some read (λ w. part_read w.1 (table limit w.0)) (s, more) h in
+    let p = part-is w.0.1 (table limit w.0.0) s more w.2 in
+    (w.0.0, w.1 ∙ ap (λ (r : List ℕ). pair_of w.0.0 r) p.1, p.0)
   where
-    pair_of : Span VersionValue → List ℕ → Front (Span VersionValue)
-    pair_of a r = Some (a, r)
+    pair_of : Word → List ℕ → Front Word
+    pair_of w r = Some (w, r)
 
-one-comparison : (limit : ℕ) (text : List ℕ) (t s : Span VersionValue) (more : List ℕ) → bounds_read limit (comparison_front limit text) ≡ Some (t, more)
-    → begins_second more ≡ false → interval precedence t ≡ Some s → comparisons_front limit text ≡ Some (s, more)
+one-comparison : (limit : ℕ) (text : List ℕ) (s : Span VersionValue) (more : List ℕ) → word_read limit (comparison_front limit text) ≡ Some (s, more)
+    → begins_second more ≡ false → comparisons_front limit text ≡ Some (s, more)
 unfolding comparisons_front
-one-comparison limit text t s more h second k = rw (h, second) (ap (λ (o : Option (Span VersionValue)). part_read more o) k)
+one-comparison limit text s more h second = rw (h, second) refl
 
-both-is : (c d s t both : Span VersionValue) → interval precedence c ≡ Some s → interval precedence d ≡ Some t → meet precedence s t ≡ Some both → both_of c d ≡ Some both
-both-is c d s t both h k m =
-    bind-of (interval precedence c) (λ a. interval precedence d >>= λ b. meet precedence a b) s h ∙ (bind-of (interval precedence d) (λ b. meet precedence s b) t k ∙ m)
-
-two-comparisons : (limit : ℕ) (text : List ℕ) (c d both : Span VersionValue) (rest more : List ℕ) → bounds_read limit (comparison_front limit text) ≡ Some (c, 32 ∷ rest)
-    → begins_second (32 ∷ rest) ≡ true → bounds_read limit (comparison_front limit rest) ≡ Some (d, more) → both_of c d ≡ Some both
+two-comparisons : (limit : ℕ) (text : List ℕ) (s t both : Span VersionValue) (rest more : List ℕ) → word_read limit (comparison_front limit text) ≡ Some (s, 32 ∷ rest)
+    → begins_second (32 ∷ rest) ≡ true → word_read limit (comparison_front limit rest) ≡ Some (t, more) → meet precedence s t ≡ Some both
     → comparisons_front limit text ≡ Some (both, more)
 unfolding comparisons_front
-two-comparisons limit text c d both rest more h second k m = rw (h, second, k) (ap (λ (o : Option (Span VersionValue)). part_read more o) m)
+two-comparisons limit text s t both rest more h second k m = rw (h, second, k) (ap (λ (o : Option (Span VersionValue)). part_read more o) m)
 
 -- the first byte decides the form
 sign-part : (limit b : ℕ) (rest : List ℕ) → is_sign b ≡ true → part_front limit (b ∷ rest) ≡ comparisons_front limit (b ∷ rest)
@@ -319,28 +288,27 @@ comparisons-part : (limit : ℕ) (text : List ℕ) → begins is_sign text ≡ t
 comparisons-part limit [] h = cc h
 comparisons-part limit (b ∷ rest) h = sign-part limit b rest h
 
-word-exact : (limit : ℕ) (x : List ℕ) (w : Word) (s : Span VersionValue) (more : List ℕ) → IsCommonWord limit x w → bounds_of limit w ≡ Some s → Ends more
+word-exact : (limit : ℕ) (x : List ℕ) (w : Word) (s : Span VersionValue) (more : List ℕ) → IsCommonWord limit x w → table limit w ≡ Some s → Ends more
     → part_front limit (x ++ more) ≡ Some (s, more)
 word-exact limit x w s more (plain_word text p h) bounds e =
     partials-part limit (text ++ more) (begins-longer text more (bare-begins limit text p h))
-    ∙ bounds-exact limit (partials_front limit (text ++ more)) (plain p) more s (plain-exact limit text more p h e.stop e.dash) bounds
+    ∙ read-exact limit (partials_front limit (text ++ more)) (plain p) more s (plain-exact limit text more p h e.stop e.dash) bounds
 word-exact limit x w s more (compare_word text word is) bounds e =
     comparisons-part limit (text ++ more) (begins-on text more (comparison-begins limit text word is))
-    ∙ one-comparison limit (text ++ more) (bounds-are limit word s bounds).0 s more
-    (read-exact limit (comparison_front limit (text ++ more)) word more (bounds-are limit word s bounds).0 (comparison-exact limit text word more is e.stop) (bounds-are limit word s bounds).1)
-    e.second (bounds-are limit word s bounds).2
+    ∙ one-comparison limit (text ++ more) s more
+    (read-exact limit (comparison_front limit (text ++ more)) word more s (comparison-exact limit text word more is e.stop) bounds) e.second
 word-exact limit x w s more (tilde_word text p h) bounds e =
-    tilde-part limit (text ++ more) ∙ bounds-exact limit (tilde_front limit (text ++ more)) (tilde false p) more s (tilde-exact limit text more p h e.stop) bounds
+    tilde-part limit (text ++ more) ∙ read-exact limit (tilde_front limit (text ++ more)) (tilde false p) more s (tilde-exact limit text more p h e.stop) bounds
 word-exact limit x w s more (tilde_greater_word text p h) bounds e =
     tilde-part limit (62 ∷ (text ++ more))
-    ∙ bounds-exact limit (tilde_front limit (62 ∷ (text ++ more))) (tilde true p) more s (tilde-greater-exact limit text more p h e.stop) bounds
+    ∙ read-exact limit (tilde_front limit (62 ∷ (text ++ more))) (tilde true p) more s (tilde-greater-exact limit text more p h e.stop) bounds
 word-exact limit x w s more (caret_word text p h) bounds e =
-    caret-part limit (text ++ more) ∙ bounds-exact limit (caret_front limit (text ++ more)) (caret p) more s (caret-exact limit text more p h e.stop) bounds
+    caret-part limit (text ++ more) ∙ read-exact limit (caret_front limit (text ++ more)) (caret p) more s (caret-exact limit text more p h e.stop) bounds
 word-exact limit x w s more (hyphen_word first second p q h k) bounds e =
     let behind = 32 ∷ 45 ∷ 32 ∷ (second ++ more) in
     ap (λ (t : List ℕ). part_front limit t) (append_assoc first (32 ∷ 45 ∷ 32 ∷ second) more)
     ∙ (partials-part limit (first ++ behind) (begins-longer first behind (bare-begins limit first p h))
-    ∙ bounds-exact limit (partials_front limit (first ++ behind)) (hyphen p q) more s (hyphen-exact limit first second more p q h k e.stop) bounds)
+    ∙ read-exact limit (partials_front limit (first ++ behind)) (hyphen p q) more s (hyphen-exact limit first second more p q h k e.stop) bounds)
 
 -- a part that ends there is read whole
 pub part-exact : (limit : ℕ) (x : List ℕ) (s : Span VersionValue) (more : List ℕ) → IsCommonPart limit x s → Ends more → part_front limit (x ++ more) ≡ Some (s, more)
@@ -348,21 +316,19 @@ part-exact limit x s more (one_word text word span is bounds) e = word-exact lim
 part-exact limit x s more (two_comparisons u v a b c d both is other h k m) e =
     let behind = 32 ∷ (v ++ more) in
     let second = begins-on v more (comparison-begins limit v b other) in
-    let one = bounds-are limit a c h in
-    let two = bounds-are limit b d k in
     ap (λ (t : List ℕ). part_front limit t) (append_assoc u (32 ∷ v) more)
     ∙ (comparisons-part limit (u ++ behind) (begins-on u behind (comparison-begins limit u a is))
-    ∙ two-comparisons limit (u ++ behind) one.0 two.0 both (v ++ more) more
-    (read-exact limit (comparison_front limit (u ++ behind)) a behind one.0 (comparison-exact limit u a behind is (stop-space (v ++ more))) one.1)
+    ∙ two-comparisons limit (u ++ behind) c d both (v ++ more) more
+    (read-exact limit (comparison_front limit (u ++ behind)) a behind c (comparison-exact limit u a behind is (stop-space (v ++ more))) h)
     second
-    (read-exact limit (comparison_front limit (v ++ more)) b more two.0 (comparison-exact limit v b more other e.stop) two.1)
-    (both-is one.0 two.0 c d both one.2 two.2 m))
+    (read-exact limit (comparison_front limit (v ++ more)) b more d (comparison-exact limit v b more other e.stop) k)
+    m)
 
 -- a part at the front
 abbrev pub Parted : ℕ → List ℕ → Span VersionValue → List ℕ → Type 0
 Parted limit text s more = (x : List ℕ) × (text ≡ x ++ more) × IsCommonPart limit x s
 
-worded-part : (limit : ℕ) (text : List ℕ) (w : Word) (s : Span VersionValue) (more : List ℕ) → bounds_of limit w ≡ Some s → Worded limit text w more → Parted limit text s more
+worded-part : (limit : ℕ) (text : List ℕ) (w : Word) (s : Span VersionValue) (more : List ℕ) → table limit w ≡ Some s → Worded limit text w more → Parted limit text s more
 worded-part limit text w s more bounds h = (h.0, h.1, one_word h.0 w s h.2 bounds)
 
 second-is : (text : List ℕ) → begins_second text ≡ true → text ≡ 32 ∷ drop 1 text
@@ -372,16 +338,14 @@ second-is (a ∷ rest) h = rw (eqb-true a 32 (and-left (a == 32) (begins is_sign
 comparisons-sound : (limit : ℕ) (text : List ℕ) (s : Span VersionValue) (more : List ℕ) → comparisons_front limit text ≡ Some (s, more) → begins_byte 43 more ≡ false → Parted limit text s more
 unfolding comparisons_front
 comparisons-sound limit text s more h plus =
-    let a = bind-some (bounds_read limit (comparison_front limit text)) _ (s, more) h in
+    let a = bind-some (word_read limit (comparison_front limit text)) _ (s, more) h in
     let v = read-sound limit (comparison_front limit text) a.0.0 a.0.1 a.1 in
     elim (cases_Bool (begins_second a.0.1)) [
       | inl second ↦
           let rest = drop 1 a.0.1 in
-          let b = bind-some (bounds_read limit (comparison_front limit rest)) (λ t. part_read t.1 (both_of a.0.0 t.0)) (s, more) (rw second at a.2) in
-          let p = part-is b.0.1 (both_of a.0.0 b.0.0) s more b.2 in
+          let b = bind-some (word_read limit (comparison_front limit rest)) (λ t. part_read t.1 (meet precedence a.0.0 t.0)) (s, more) (rw second at a.2) in
+          let p = part-is b.0.1 (meet precedence a.0.0 b.0.0) s more b.2 in
           let w = read-sound limit (comparison_front limit rest) b.0.0 b.0.1 b.1 in
-          let c = bind-some (interval precedence a.0.0) (λ c. interval precedence b.0.0 >>= λ d. meet precedence c d) s p.0 in
-          let d = bind-some (interval precedence b.0.0) (λ d. meet precedence c.0 d) s c.2 in
           let end : b.0.1 ≡ more = p.1 in
           let is = second-is a.0.1 second in
           let one = comparison-sound limit text v.0 a.0.1 v.1 (space-no_plus a.0.1 rest is) in
@@ -389,17 +353,20 @@ comparisons-sound limit text s more h plus =
           let behind : a.0.1 ≡ (32 ∷ two.0) ++ more = is ∙ ap (λ (t : List ℕ). 32 ∷ t) (two.1 ∙ ap (λ (t : List ℕ). two.0 ++ t) end) in (
             one.0 ++ (32 ∷ two.0),
             one.1 ∙ (ap (λ (t : List ℕ). one.0 ++ t) behind ∙ sym (append_assoc one.0 (32 ∷ two.0) more)),
-            two_comparisons one.0 two.0 v.0 w.0 c.0 d.0 s one.2 two.2 (bounds-make limit v.0 a.0.0 c.0 v.2 c.1) (bounds-make limit w.0 b.0.0 d.0 w.2 d.1) d.2,
+            two_comparisons one.0 two.0 v.0 w.0 a.0.0 b.0.0 s one.2 two.2 v.2 w.2 p.0,
           )
       | inr none ↦
-          let last : part_read a.0.1 (interval precedence a.0.0) ≡ Some (s, more) = rw none at a.2 in
-          let p = part-is a.0.1 (interval precedence a.0.0) s more last in
-          let one = comparison-sound limit text v.0 a.0.1 v.1 (ap (λ (t : List ℕ). begins_byte 43 t) p.1 ∙ plus) in (
+          let last : Some a.0 ≡ Some (s, more) = rw none at a.2 in
+          let end : a.0.1 ≡ more = second-of last in
+          let one = comparison-sound limit text v.0 a.0.1 v.1 (ap (λ (t : List ℕ). begins_byte 43 t) end ∙ plus) in (
             one.0,
-            one.1 ∙ ap (λ (t : List ℕ). one.0 ++ t) p.1,
-            one_word one.0 v.0 s (compare_word one.0 v.0 one.2) (bounds-make limit v.0 a.0.0 s v.2 p.0),
+            one.1 ∙ ap (λ (t : List ℕ). one.0 ++ t) end,
+            one_word one.0 v.0 s (compare_word one.0 v.0 one.2) (v.2 ∙ ap (λ (b : Span VersionValue). some_span b) (first-of last)),
           )
     ]
+  where
+    some_span : Span VersionValue → Option (Span VersionValue)
+    some_span b = Some b
 
 -- what is read at the front is a part, where no build follows it
 pub part-sound : (limit : ℕ) (text : List ℕ) (s : Span VersionValue) (more : List ℕ) → part_front limit text ≡ Some (s, more) → begins_byte 43 more ≡ false → Parted limit text s more
@@ -409,14 +376,14 @@ part-sound limit (b ∷ rest) s more h plus = elim (cases_Bool (is_sign b)) [
   | inl sign ↦ comparisons-sound limit (b ∷ rest) s more (rw sign at h) plus
   | inr other ↦ elim (cases_Bool (b == 126)) [
     | inl t ↦
-        let w = bounds-sound limit (tilde_front limit rest) s more (rw (other, t) at h) in
+        let w = read-sound limit (tilde_front limit rest) s more (rw (other, t) at h) in
         worded-part limit (b ∷ rest) w.0 s more w.2 (subst (λ (a : ℕ). Worded limit (a ∷ rest) w.0 more) (sym (eqb-true b 126 t)) (tilde-sound limit rest w.0 more w.1 plus))
     | inr no_tilde ↦ elim (cases_Bool (b == 94)) [
       | inl c ↦
-          let w = bounds-sound limit (caret_front limit rest) s more (rw (other, no_tilde, c) at h) in
+          let w = read-sound limit (caret_front limit rest) s more (rw (other, no_tilde, c) at h) in
           worded-part limit (b ∷ rest) w.0 s more w.2 (subst (λ (a : ℕ). Worded limit (a ∷ rest) w.0 more) (sym (eqb-true b 94 c)) (caret-sound limit rest w.0 more w.1 plus))
       | inr no_caret ↦
-          let w = bounds-sound limit (partials_front limit (b ∷ rest)) s more (rw (other, no_tilde, no_caret) at h) in
+          let w = read-sound limit (partials_front limit (b ∷ rest)) s more (rw (other, no_tilde, no_caret) at h) in
           worded-part limit (b ∷ rest) w.0 s more w.2 (partials-sound limit (b ∷ rest) w.0 more w.1 plus)
     ]
   ]

@@ -1,17 +1,20 @@
 -- A partial of a common text is read exactly, whatever may follow it there.
 use Rattle.std.proofs.Common.{◌≡◌, ℕ, ◌<◌, ◌+◌, List, [], ◌∷◌, ◌++◌, length, map, take, drop, refl, sym, ap, ◌∙◌, arith, Bool, true, false, Some, None, inl, inr, subst, append_assoc}
 use Rattle.std.specs.Prelude.{Option, ◌&&◌, ◌==◌}
+use Rattle.std.specs.Char.{is_ascii_digit}
 use Rattle.std.specs.List.{list_all, onto_first}
 use Rattle.std.proofs.lemmas.Bool.{cases_Bool, eqb-true}
 use Rattle.std.proofs.lemmas.List.{take_at, drop_at, length-map}
 use Rattle.std.proofs.lemmas.List.Splits.{slice_split-cons_yes, slice_split-cons_no}
+use Rattle.semver_core.specs.Characters.{begins}
 use Rattle.semver_core.specs.Identifiers.{Id, identifier_of, is_run, pieces}
 use Rattle.semver_core.specs.Spaces.{drop_spaces, space_len}
 use Rattle.semver_core.proofs.Spaces.{drop_spaces-none}
 use Rattle.nodejs_semver.specs.CommonFronts.{bare_front, bare_minor, bare_patch}
 use Rattle.nodejs_semver.specs.CommonText.{IsBare}
 use Rattle.nodejs_semver.specs.Fronts.{Front, begins_byte, begins_identifier, build_front, component_front, dotted_front, list_len, list_of, minor_front, partial_front, patch_front, pre_release_front, run_on, split_list}
-use Rattle.nodejs_semver.specs.Partials.{Partial, ◌>>=◌, after_dot, before_dot, before_plus, begins_digit, build_of, component_of, components_of, drop_v, from_plus, identifiers_of, is_dot, is_plus, longest_partial, minor_after, patch_after, pre_release_of, qualifier_of, third}
+use Rattle.nodejs_semver.specs.PartialText.{Partial}
+use Rattle.nodejs_semver.specs.Partials.{◌>>=◌, after_dot, before_dot, before_plus, build_of, component_of, components_of, drop_v, from_plus, identifiers_of, is_dot, is_plus, longest_partial, minor_after, patch_after, pre_release_of, qualifier_of, third}
 use Rattle.nodejs_semver.proofs.Lists.{begins-append, is_list, is_list-begins, list_len-append, list_len-is_list, and-right}
 use Rattle.nodejs_semver.proofs.Longest.{longest_is_front}
 use Rattle.nodejs_semver.proofs.PartialLaw.{components-are, components-begin, components-of}
@@ -29,7 +32,7 @@ pub record Stop (more : List ℕ) : Type 0 where
   pub dash : begins_byte 45 more ≡ false
   pub plus : begins_byte 43 more ≡ false
   pub identifier : begins_identifier more ≡ false
-  pub digit : begins_digit more ≡ false
+  pub digit : begins is_ascii_digit more ≡ false
   pub dot : (limit : ℕ) → dotted_front limit more ≡ None
 
 pub stop-nil : Stop []

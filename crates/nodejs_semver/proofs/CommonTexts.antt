@@ -2,7 +2,7 @@
 use Rattle.std.proofs.Common.{◌≡◌, ◌⊎◌, ℕ, ◌<◌, List, [], ◌∷◌, ◌++◌, length, map, refl, sym, ap, ◌∙◌, arith, Bool, true, false, Some, inl, inr, subst, append-nil, append_assoc}
 use Rattle.std.specs.Prelude.{Option, ◌&&◌, ◌||◌, ◌==◌, not, nat_lt, flat_map, if◌then◌else◌}
 use Rattle.std.specs.Char.{is_ascii_digit}
-use Rattle.std.specs.List.{list_all}
+use Rattle.std.specs.List.{list_all, onto_first}
 use Rattle.std.proofs.lemmas.Bool.{cases_Bool, eqb-true}
 use Rattle.std.proofs.lemmas.Bool.Decides.{nat_tests}
 use Rattle.std.proofs.lemmas.List.Folds.{list_all-append}
@@ -14,13 +14,13 @@ use Rattle.semver_core.specs.Spaces.{after_spaces, drop_end_spaces, drop_spaces,
 use Rattle.semver_core.specs.Versions.{VersionValue}
 use Rattle.semver_core.proofs.Spaces.{drop_spaces-none}
 use Rattle.nodejs_semver.specs.CommonText.{CommonRangesAreDenoted, IsBare, IsCommonPart, IsCommonRange, IsCommonWord, IsComparison, IsGap, caret_word, compare_word, comparison, hyphen_word, more_parts, one_part, one_word, plain_word, tilde_greater_word, tilde_word, two_comparisons}
-use Rattle.nodejs_semver.specs.Denotes.{denotes, part_intervals}
-use Rattle.nodejs_semver.specs.Partials.{Partial, is_dot, is_wildcard}
-use Rattle.nodejs_semver.specs.PartialText.{AreComponents, IsComponent, number, one, three, two, wildcard}
-use Rattle.nodejs_semver.specs.Parts.{begins_bar, cut_bars, is_bar, onto_first, parts}
+use Rattle.nodejs_semver.specs.Denotes.{denotes, part_denotes, part_intervals}
+use Rattle.nodejs_semver.specs.PartialText.{Partial, is_wildcard, AreComponents, IsComponent, number, one, three, two, wildcard}
+use Rattle.nodejs_semver.specs.Partials.{is_dot}
+use Rattle.nodejs_semver.specs.Parts.{cut_bars, parts}
+use Rattle.nodejs_semver.specs.Bars.{is_bar}
 use Rattle.nodejs_semver.specs.RangeView.{any_version}
-use Rattle.nodejs_semver.specs.WordText.{IsSign, above_sign, at_least_sign, at_most_sign, below_sign, equal_sign}
-use Rattle.nodejs_semver.specs.Words.{Comparator, Word}
+use Rattle.nodejs_semver.specs.WordText.{IsSign, above_sign, at_least_sign, at_most_sign, below_sign, equal_sign, Comparator, Word}
 use Rattle.nodejs_semver.proofs.CommonPieces.{bare-begins, front-some}
 use Rattle.nodejs_semver.proofs.CommonWords.{common-part}
 use Rattle.nodejs_semver.proofs.Lists.{and-both, and-left, and-right, carries_on, carries_on-dot, carries_on-other, is_list, is_list-carries_on}
@@ -289,14 +289,17 @@ front-filled (b ∷ text) h = refl
 
 -- what the parts of a text are, where its first part is not empty
 record Denoted (limit : ℕ) (pieces : List (List ℕ)) (list : List (Span VersionValue)) : Type 0 where
-  intervals : flat_map (part_intervals limit) (map trim pieces) ≡ list
+  intervals : flat_map (part_denotes limit) (map trim pieces) ≡ list
   filled : list_all is_empty (map trim pieces) ≡ false
 
+part-worded : (limit : ℕ) (part : List ℕ) → Compact part → part_denotes limit part ≡ part_intervals limit part
+part-worded limit part c = rw (front-filled part c.front) refl
+
 denoted-on : (limit : ℕ) (piece part : List ℕ) (pieces : List (List ℕ)) (s : Span VersionValue) (list : List (Span VersionValue)) → trim piece ≡ part → Compact part
-    → part_intervals limit part ≡ s ∷ [] → flat_map (part_intervals limit) (map trim pieces) ≡ list → Denoted limit (piece ∷ pieces) (s ∷ list)
+    → part_intervals limit part ≡ s ∷ [] → flat_map (part_denotes limit) (map trim pieces) ≡ list → Denoted limit (piece ∷ pieces) (s ∷ list)
 denoted-on limit piece part pieces s list t c i h = record {
-  intervals = ap (λ (x : List ℕ). part_intervals limit x ++ flat_map (part_intervals limit) (map trim pieces)) t
-      ∙ (ap (λ (l : List (Span VersionValue)). l ++ flat_map (part_intervals limit) (map trim pieces)) i ∙ ap (λ (l : List (Span VersionValue)). s ∷ l) h);
+  intervals = ap (λ (x : List ℕ). part_denotes limit x ++ flat_map (part_denotes limit) (map trim pieces)) t
+      ∙ (ap (λ (l : List (Span VersionValue)). l ++ flat_map (part_denotes limit) (map trim pieces)) (part-worded limit part c ∙ i) ∙ ap (λ (l : List (Span VersionValue)). s ∷ l) h);
   filled = ap (λ (x : List ℕ). is_empty x && list_all is_empty (map trim pieces)) t
       ∙ ap (λ (x : Bool). x && list_all is_empty (map trim pieces)) (front-filled part c.front);
 }
@@ -332,5 +335,5 @@ common_ranges_are_denoted limit text list h =
     let d = denoted limit text list [] (inl refl) h in
     (filled-case d.filled d.intervals, list-some limit text list h, d.filled)
   where
-    filled-case : list_all is_empty (parts text) ≡ false → flat_map (part_intervals limit) (parts text) ≡ list → denotes limit text ≡ list
+    filled-case : list_all is_empty (parts text) ≡ false → flat_map (part_denotes limit) (parts text) ≡ list → denotes limit text ≡ list
     filled-case f i = rw f i

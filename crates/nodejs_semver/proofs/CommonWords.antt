@@ -15,11 +15,13 @@ use Rattle.nodejs_semver.specs.CommonText.{IsBare, IsCommonPart, IsCommonWord, I
 use Rattle.nodejs_semver.specs.Denotes.{part_bounds, part_intervals}
 use Rattle.nodejs_semver.specs.Fronts.{component_front, partial_front}
 use Rattle.nodejs_semver.specs.Meets.{joined, joined_from}
-use Rattle.nodejs_semver.specs.Partials.{Partial, is_wildcard, longest_partial, number_of}
-use Rattle.nodejs_semver.specs.Runs.{interval_of, runs_of}
-use Rattle.nodejs_semver.specs.Table.{bounds_of}
-use Rattle.nodejs_semver.specs.WordText.{IsSign, above_sign, at_least_sign, at_most_sign, below_sign, equal_sign}
-use Rattle.nodejs_semver.specs.Words.{Comparator, Word, above, at_least, at_most, below, caret, comparator_at, compare, equal, hyphen, is_boundary, or_equal, plain, tilde, tilde_sign, word_at, words, words_within}
+use Rattle.nodejs_semver.specs.PartialText.{Partial, is_wildcard}
+use Rattle.nodejs_semver.specs.Partials.{longest_partial, number_of}
+use Rattle.nodejs_semver.specs.Runs.{interval_of}
+use Rattle.nodejs_semver.specs.RunsFrom.{runs_of}
+use Rattle.nodejs_semver.specs.Table.{table}
+use Rattle.nodejs_semver.specs.WordText.{IsSign, above_sign, at_least_sign, at_most_sign, below_sign, equal_sign, Comparator, Word, above, at_least, at_most, below, caret, compare, equal, hyphen, plain, tilde}
+use Rattle.nodejs_semver.specs.Words.{comparator_at, is_boundary, or_equal, tilde_sign, word_at, words, words_within}
 use Rattle.nodejs_semver.proofs.CommonPieces.{Stop, bare-begins, front-dark, front-some, longest-exact, stop-nil, stop-space}
 use Rattle.nodejs_semver.proofs.Longest.{longest_is_front}
 use Rattle.nodejs_semver.proofs.MeetLemmas.{joined-goes, runs-joined}
@@ -212,13 +214,13 @@ two-words limit x y v w h k =
     ∙ (ap (λ (r : Word × List ℕ). r.0 ∷ words limit (drop_spaces r.1)) first.word
     ∙ (ap (λ t. v ∷ words limit t) (space-gone y second.dark) ∙ ap (λ ws. v ∷ ws) (one-word limit y w second)))
 
-one-bound : (limit : ℕ) (w : Word) (s : Span VersionValue) → bounds_of limit w ≡ Some s → filter_map (bounds_of limit) (w ∷ []) ≡ s ∷ []
+one-bound : (limit : ℕ) (w : Word) (s : Span VersionValue) → table limit w ≡ Some s → filter_map (table limit) (w ∷ []) ≡ s ∷ []
 one-bound limit w s h = ap (λ (o : Option (Span VersionValue)). cons_option o []) h
 
-two-bounds : (limit : ℕ) (v w : Word) (s t : Span VersionValue) → bounds_of limit v ≡ Some s → bounds_of limit w ≡ Some t
-    → filter_map (bounds_of limit) (v ∷ w ∷ []) ≡ s ∷ t ∷ []
+two-bounds : (limit : ℕ) (v w : Word) (s t : Span VersionValue) → table limit v ≡ Some s → table limit w ≡ Some t
+    → filter_map (table limit) (v ∷ w ∷ []) ≡ s ∷ t ∷ []
 two-bounds limit v w s t h k =
-    ap (λ (o : Option (Span VersionValue)). cons_option o (filter_map (bounds_of limit) (w ∷ []))) h
+    ap (λ (o : Option (Span VersionValue)). cons_option o (filter_map (table limit) (w ∷ []))) h
     ∙ ap (λ (l : List (Span VersionValue)). s ∷ l) (one-bound limit w t k)
 
 one-run : (s : Span VersionValue) → joined precedence None (s ∷ []) ≡ s ∷ []
@@ -232,10 +234,10 @@ two-runs s t both h = joined-goes precedence s t both [] h
 -- a common part has its one interval
 pub common-part : (limit : ℕ) (part : List ℕ) (s : Span VersionValue) → IsCommonPart limit part s → part_intervals limit part ≡ s ∷ []
 common-part limit part s (one_word text word span is bounds) =
-    ap (λ (ws : List Word). map (interval_of precedence) (runs_of precedence (filter_map (bounds_of limit) ws))) (one-word limit text word (word-read limit text word is))
+    ap (λ (ws : List Word). map (interval_of precedence) (runs_of precedence (filter_map (table limit) ws))) (one-word limit text word (word-read limit text word is))
     ∙ (ap (λ (l : List (Span VersionValue)). map (interval_of precedence) (runs_of precedence l)) (one-bound limit word span bounds)
     ∙ (sym (runs-joined precedence_total (span ∷ [])) ∙ one-run span))
 common-part limit part s (two_comparisons x y v w a b both is other h k m) =
-    ap (λ (ws : List Word). map (interval_of precedence) (runs_of precedence (filter_map (bounds_of limit) ws))) (two-words limit x y v w is other)
+    ap (λ (ws : List Word). map (interval_of precedence) (runs_of precedence (filter_map (table limit) ws))) (two-words limit x y v w is other)
     ∙ (ap (λ (l : List (Span VersionValue)). map (interval_of precedence) (runs_of precedence l)) (two-bounds limit v w a b h k)
     ∙ (sym (runs-joined precedence_total (a ∷ b ∷ [])) ∙ two-runs a b both m))

@@ -6,9 +6,11 @@ use Rattle.semver_core.specs.Order.{precedence}
 use Rattle.semver_core.specs.Spaces.{is_empty}
 use Rattle.semver_core.specs.Versions.{VersionValue}
 use Rattle.nodejs_semver.specs.Fronts.{Front, begins_byte, component_front, dotted_front, list_of, pre_release_front}
-use Rattle.nodejs_semver.specs.Partials.{Partial, ◌>>=◌}
+use Rattle.nodejs_semver.specs.PartialText.{Partial}
+use Rattle.nodejs_semver.specs.Partials.{◌>>=◌}
 use Rattle.nodejs_semver.specs.Table.{table}
-use Rattle.nodejs_semver.specs.Words.{Word, after_byte, caret, comparator_at, compare, hyphen, plain, tilde, tilde_sign}
+use Rattle.nodejs_semver.specs.WordText.{Word, caret, compare, hyphen, plain, tilde}
+use Rattle.nodejs_semver.specs.Words.{after_byte, comparator_at, tilde_sign}
 
 -- the partial at the front, component by component; neither `v` nor whitespace is passed, and no build is read
 abbrev pub bare_patch : Option ℕ → Option ℕ → List ℕ → Front (Option ℕ) → Partial × List ℕ
@@ -53,22 +55,17 @@ partials_front limit text =
     bare_front limit text >>= λ p.
     if begins_dash p.1 then (bare_front limit (drop 3 p.1) >>= λ q. Some (hyphen p.0 q.0, q.1)) else Some (plain p.0, p.1)
 
--- the bounds of a word that was read, as the table gives them, and what follows it
-abbrev pub bounds_read : ℕ → Front Word → Front (Span VersionValue)
-bounds_read limit read = read >>= λ w. table limit w.0 >>= λ s. Some (s, w.1)
-
--- an interval that there may be, and what follows its part
+-- an interval that there may be, and what follows it
 abbrev pub part_read : List ℕ → Option (Span VersionValue) → Front (Span VersionValue)
-part_read rest None = None
-part_read rest (Some s) = Some (s, rest)
+part_read rest found = found >>= λ s. Some (s, rest)
 
--- what two intervals have in common
+-- the interval that the table gives a word that was read, and what follows the word
+abbrev pub word_read : ℕ → Front Word → Front (Span VersionValue)
+word_read limit read = read >>= λ w. part_read w.1 (table limit w.0)
+
+-- what the intervals of two pairs of bounds have in common
 abbrev pub both_of : Span VersionValue → Span VersionValue → Option (Span VersionValue)
 both_of s t = interval precedence s >>= λ a. interval precedence t >>= λ b. meet precedence a b
-
--- the interval of one word
-abbrev pub word_read : ℕ → Front Word → Front (Span VersionValue)
-word_read limit read = bounds_read limit read >>= λ s. part_read s.1 (interval precedence s.0)
 
 abbrev pub is_sign : ℕ → Bool
 is_sign b = b == 60 || (b == 61 || b == 62)
@@ -81,10 +78,10 @@ begins_second (a ∷ rest) = a == 32 && begins is_sign rest
 -- one comparison, or two with an interval in common
 unfoldable pub comparisons_front : ℕ → List ℕ → Front (Span VersionValue)
 comparisons_front limit text =
-    bounds_read limit (comparison_front limit text) >>= λ s.
+    word_read limit (comparison_front limit text) >>= λ s.
     if begins_second s.1
-    then (bounds_read limit (comparison_front limit (drop 1 s.1)) >>= λ t. part_read t.1 (both_of s.0 t.0))
-    else part_read s.1 (interval precedence s.0)
+    then (word_read limit (comparison_front limit (drop 1 s.1)) >>= λ t. part_read t.1 (meet precedence s.0 t.0))
+    else Some s
 
 -- the interval of the part at the front
 unfoldable pub part_front : ℕ → List ℕ → Front (Span VersionValue)

@@ -1,16 +1,16 @@
 -- Worked rows, computed: texts that are common range texts, and texts that are not.
 use Rattle.std.specs.Prelude.{ℕ, ◌≡◌, Bool, true, false, List, [], ◌∷◌, refl, codes, is_some, Some}
 use Rattle.semver_core.specs.Cuts.{Span}
-use Rattle.semver_core.specs.Versions.{VersionValue}
+use Rattle.semver_core.specs.Versions.{VersionValue, release_value}
 use Rattle.semver_core.specs.declared.cuts.bound.Bound.{Bound}
 use Rattle.semver_core.specs.declared.cuts.bound.Bound.TheVariants.{Unbounded, Before, After}
 use Rattle.nodejs_semver.specs.CommonFronts.{after_bars, bare_front, caret_front, common_range, common_within, comparison_front, comparisons_front, part_front, partials_front, tilde_front}
 use Rattle.nodejs_semver.specs.Fronts.{component_front, dotted_front, list_len, list_of, pre_release_front, run_on}
 use Rattle.nodejs_semver.specs.Partials.{number_of}
-use Rattle.nodejs_semver.specs.Table.{lowest, release, table}
+use Rattle.nodejs_semver.specs.Table.{lowest, table}
 
 is_common : List ℕ → Bool
-is_common text = is_some (common_range 900719925474099 text)
+is_common text = is_some (common_range 9007199254740991 text)
 
 -- `1.2.3`
 row-1 : is_common (codes "1.2.3") ≡ true
@@ -472,8 +472,8 @@ row-92 : is_common (codes "1.2.") ≡ false
 unfolding is_common table number_of component_front dotted_front list_len run_on list_of pre_release_front bare_front comparison_front tilde_front caret_front partials_front comparisons_front part_front after_bars common_within
 row-92 = refl
 
--- `1.2.900719925474100`
-row-93 : is_common (codes "1.2.900719925474100") ≡ false
+-- `1.2.9007199254740992`
+row-93 : is_common (codes "1.2.9007199254740992") ≡ false
 unfolding is_common table number_of component_front dotted_front list_len run_on list_of pre_release_front bare_front comparison_front tilde_front caret_front partials_front comparisons_front part_front after_bars common_within
 row-93 = refl
 
@@ -538,6 +538,6 @@ unfolding is_common table number_of component_front dotted_front list_len run_on
 row-105 = refl
 
 -- the intervals of a text of two parts
-row-list : common_range 900719925474099 (codes "^1.2||>=3.0.0 <4") ≡ Some (record { lower = Before (release 1 2 0); upper = Before (lowest 2 0 0) } ∷ record { lower = Before (release 3 0 0); upper = Before (release 4 0 0) } ∷ [])
+row-list : common_range 9007199254740991 (codes "^1.2||>=3.0.0 <4") ≡ Some (record { lower = Before (release_value 1 2 0); upper = Before (lowest 2 0 0) } ∷ record { lower = Before (release_value 3 0 0); upper = Before (release_value 4 0 0) } ∷ [])
 unfolding table number_of component_front dotted_front list_len run_on list_of pre_release_front bare_front comparison_front tilde_front caret_front partials_front comparisons_front part_front after_bars common_within
 row-list = refl

@@ -8,12 +8,10 @@ use Rattle.semver_core.specs.Spaces.{is_empty}
 use Rattle.semver_core.specs.Versions.{VersionValue}
 use Rattle.nodejs_semver.specs.CommonFronts.{common_range}
 use Rattle.nodejs_semver.specs.Denotes.{denotes}
-use Rattle.nodejs_semver.specs.Partials.{Partial}
-use Rattle.nodejs_semver.specs.PartialText.{AreComponents}
+use Rattle.nodejs_semver.specs.PartialText.{Partial, AreComponents}
 use Rattle.nodejs_semver.specs.Parts.{parts}
-use Rattle.nodejs_semver.specs.Table.{bounds_of}
-use Rattle.nodejs_semver.specs.Words.{Comparator, Word, caret, compare, hyphen, plain, tilde}
-use Rattle.nodejs_semver.specs.WordText.{IsSign}
+use Rattle.nodejs_semver.specs.Table.{table}
+use Rattle.nodejs_semver.specs.WordText.{Comparator, Word, caret, compare, hyphen, plain, tilde, IsSign}
 
 -- the whole text is this partial, with neither `v` nor whitespace in front, and it has no build
 pub record IsBare (limit : ℕ) (text : List ℕ) (p : Partial) : Type 0 where
@@ -37,10 +35,10 @@ pub data IsCommonWord (limit : ℕ) : List ℕ → Word → Type 0 where
 
 -- a part and its interval: one word that has bounds, or two comparisons with a space between them that have an interval in common
 pub data IsCommonPart (limit : ℕ) : List ℕ → Span VersionValue → Type 0 where
-  one_word : (text : List ℕ) (word : Word) (s : Span VersionValue) → IsCommonWord limit text word → bounds_of limit word ≡ Some s
+  one_word : (text : List ℕ) (word : Word) (s : Span VersionValue) → IsCommonWord limit text word → table limit word ≡ Some s
       → IsCommonPart limit text s
   two_comparisons : (x y : List ℕ) (v w : Word) (s t both : Span VersionValue) → IsComparison limit x v → IsComparison limit y w
-      → bounds_of limit v ≡ Some s → bounds_of limit w ≡ Some t → meet precedence s t ≡ Some both → IsCommonPart limit (x ++ 32 ∷ y) both
+      → table limit v ≡ Some s → table limit w ≡ Some t → meet precedence s t ≡ Some both → IsCommonPart limit (x ++ 32 ∷ y) both
 
 -- one space, or none
 abbrev pub IsGap : List ℕ → Type 0

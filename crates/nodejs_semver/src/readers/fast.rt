@@ -13,10 +13,12 @@ ghost use Rattle.semver_core.specs.Order.{precedence};
 ghost use Rattle.semver_core.specs.declared.TheConstants.{MAX_SAFE_INTEGER};
 
 use crate::Range;
-use crate::readers::syntax::{BareVersion, Bounds, Partial, Word};
+use crate::range::Intervals;
+use crate::readers::syntax::{BareVersion, Bounds, Partial, PreRelease, Word};
 use crate::readers::{intervals, partial, table, words};
 use semver_core::cuts::{Bound, Interval};
 use semver_core::{MAX_SAFE_INTEGER, Version};
+use smallvec::SmallVec;
 use std::alloc::{AllocError, Global};
 
 // The partial at the front whose major and minor components were read.
@@ -138,22 +140,24 @@ fn partials_front(text: &[u8]) -> Option<(Word<'_>, &[u8])>
 #[inline(always)]
 fn bounds_read<'a>(read: Option<(Word<'a>, &'a [u8])>) -> Option<(Bounds<'a>, &'a [u8])>
     ensures { bounds_front_view result
-        ≡ Spec.bounds_read MAX_SAFE_INTEGER (reading_view read.entry) }
+        ≡ Spec.word_read MAX_SAFE_INTEGER (reading_view read.entry) }
 {
     let (word, rest) = read?;
     let bounds = table::table(&word)?;
     Some((bounds, rest))
 }
 
-// The version of a bound, which mostly has no identifiers or the number 0 alone.
+// The version of a bound. Mostly it has no identifiers, or the pre-release `0` alone.
 #[inline(always)]
 #[tactic(auto, unfolding(crate::specs::Fronts::list_of))]
 fn version(alloc: Global, bare: &BareVersion<'_>) -> Result<Version, AllocError>
     ensures { IfOk result (λ v. v ≡ bare_view bare.now) }
 {
     match (bare.pre_release, bare.build) {
-        ([], []) => Ok(Version::from((bare.major, bare.minor, bare.patch))),
-        ([b'0'], []) => Version::with_pre(alloc, bare.major, bare.minor, bare.patch, 0),
+        (PreRelease::Written([]), []) => Ok(Version::from((bare.major, bare.minor, bare.patch))),
+        (PreRelease::Zero, []) => {
+            Version::with_pre(alloc, bare.major, bare.minor, bare.patch, 0)
+        }
         _ => intervals::version(alloc, bare),
     }
 }
@@ -174,7 +178,7 @@ fn push_between(
     alloc: Global,
     lower: &Bound<BareVersion<'_>>,
     upper: &Bound<BareVersion<'_>>,
-    found: &mut Vec<Interval<Version>>,
+    found: &mut Intervals<Version>,
 ) -> Result<bool, AllocError>
     ensures { let s = between_view lower.now upper.now in
         IfOk result (λ there. both_view there found.new.items
@@ -189,7 +193,7 @@ fn push_between(
     Ok(true)
 }
 
-// What two intervals have in common, each of them where its lower cut is below its upper one.
+// What the intervals of two pairs of bounds have in common.
 fn common_interval(
     alloc: Global,
     first: &Bounds<'_>,
@@ -214,7 +218,7 @@ fn push_common(
     alloc: Global,
     first: &Bounds<'_>,
     second: &Bounds<'_>,
-    found: &mut Vec<Interval<Version>>,
+    found: &mut Intervals<Version>,
 ) -> Result<bool, AllocError>
     ensures { let both = Spec.both_of (bounds_view first.now) (bounds_view second.now) in
         IfOk result (λ there. both_view there found.new.items
@@ -235,7 +239,7 @@ fn push_both(
     alloc: Global,
     first: &Bounds<'_>,
     second: &Bounds<'_>,
-    found: &mut Vec<Interval<Version>>,
+    found: &mut Intervals<Version>,
 ) -> Result<bool, AllocError>
     ensures { let both = Spec.both_of (bounds_view first.now) (bounds_view second.now) in
         IfOk result (λ there. both_view there found.new.items
@@ -270,7 +274,7 @@ fn behind_part(there: bool, rest: &[u8]) -> Option<&[u8]>
 fn push_comparisons<'a>(
     alloc: Global,
     text: &'a [u8],
-    found: &mut Vec<Interval<Version>>,
+    found: &mut Intervals<Version>,
 ) -> Result<Option<&'a [u8]>, AllocError>
     ensures { IfOk result (λ rest. passed_view rest found.new.items
         ≡ Spec.passed found.old.items (Spec.comparisons_front MAX_SAFE_INTEGER text.now)) }
@@ -293,7 +297,7 @@ fn push_comparisons<'a>(
 fn push_word<'a>(
     alloc: Global,
     read: Option<(Word<'a>, &'a [u8])>,
-    found: &mut Vec<Interval<Version>>,
+    found: &mut Intervals<Version>,
 ) -> Result<Option<&'a [u8]>, AllocError>
     ensures { IfOk result (λ rest. passed_view rest found.new.items
         ≡ Spec.passed found.old.items (Spec.word_read MAX_SAFE_INTEGER (reading_view read.entry))) }
@@ -310,7 +314,7 @@ fn push_word<'a>(
 fn push_part<'a>(
     alloc: Global,
     text: &'a [u8],
-    found: &mut Vec<Interval<Version>>,
+    found: &mut Intervals<Version>,
 ) -> Result<Option<&'a [u8]>, AllocError>
     ensures { IfOk result (λ rest. passed_view rest found.new.items
         ≡ Spec.passed found.old.items (Spec.part_front MAX_SAFE_INTEGER text.now)) }
@@ -351,12 +355,12 @@ fn after_bars(text: &[u8]) -> Option<&[u8]>
 fn intervals_of(
     alloc: Global,
     text: &[u8],
-) -> Result<Option<Vec<Interval<Version>>>, AllocError>
+) -> Result<Option<Intervals<Version>>, AllocError>
     ensures some { IfOk result (λ found. IfSome found (λ list.
         IsCommonRange MAX_SAFE_INTEGER text.now list.items)) }
     ensures none { IfOk result (λ found. IfNone found (IsUncommon MAX_SAFE_INTEGER text.now)) }
 {
-    let mut found = Vec::new(alloc);
+    let mut found = SmallVec::new(alloc);
     let mut rest = text;
     'parts: loop {
         let Some(behind) = push_part(alloc, rest, &mut found)? else {

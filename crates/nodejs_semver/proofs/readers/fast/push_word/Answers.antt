@@ -8,4 +8,4 @@ use Rattle.nodejs_semver.proofs.readers.fast.push_word.Goals as goal
 pub returns : goal.returns
 returns c =
     passed-word MAX_SAFE_INTEGER (reading_view c.args.read) (bounds_view c.in-Some.bounds) c.in-Some.rest.now c.in_ok-there.there c.args.found.now.items
-    c.push_between.new.found.items (rest_view c.behind_part.result) (sym c.bounds_read.ensures ∙ ap bounds_front_view c.in-Some.is) c.in_ok-there.ensures c.behind_part.ensures
+    c.push_between.new.found.items (rest_view c.behind_part.result) (sym (ap bounds_front_view c.in-Some.is) ∙ c.bounds_read.ensures) c.in_ok-there.ensures c.behind_part.ensures
