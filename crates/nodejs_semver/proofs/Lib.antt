@@ -46,3 +46,10 @@ pub mod TableRows
 pub mod TableReadings
 pub mod BoundedTable
 pub mod NumberFront
+pub mod CommonPieces
+pub mod CommonWords
+pub mod CommonTexts
+pub mod CommonParts
+pub mod CommonLoop
+pub mod CommonBounds
+pub mod CommonRange

@@ -152,7 +152,7 @@ qualifier-of p b l m h k =
 
 -- ---- components joined by dots
 
-components-of : (limit : ℕ) (x : List ℕ) (p : Partial) → AreComponents limit x p → components_of limit x ≡ Some p
+pub components-of : (limit : ℕ) (x : List ℕ) (p : Partial) → AreComponents limit x p → components_of limit x ≡ Some p
 components-of limit x p (one c a h) = one-component limit c a (component-of limit c a h) (component-dotless limit c a h)
 components-of limit x p (two c d a b h k) =
     component-dot limit c d a (component-of limit c a h) (component-dotless limit c a h)

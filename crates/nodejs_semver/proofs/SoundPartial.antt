@@ -131,7 +131,7 @@ patch-read limit a b x c cc_ y (Some o) e whole h d begins m =
     quiet-tail c [] left h k = subst (λ (u : List ℕ). Quiet u left) (sym (append-nil c)) h
     quiet-tail c (d ∷ q) left h k = quiet-append c (d ∷ q) left (omega arith) k
 
-minor-read : (limit : ℕ) (a : Option ℕ) (x c y : List ℕ) (o : Front (Option ℕ)) → dotted_front limit y ≡ o → Component limit x c y a
+pub minor-read : (limit : ℕ) (a : Option ℕ) (x c y : List ℕ) (o : Front (Option ℕ)) → dotted_front limit y ≡ o → Component limit x c y a
     → (s : List ℕ) × Parted limit x s (minor_front limit a y o).1 (minor_front limit a y o).0
 minor-read limit a x c y None e m = (c, record { split = m.split; is = one-component limit c a m.is m.dotless; quiet = m.quiet; begins = m.begins })
 minor-read limit a x c y (Some o) e m =

@@ -294,10 +294,10 @@ or-equal one two b (d ∷ rest) s t = elim (cases_Bool (d == 61)) [
   | inr other ↦ rw other (b ∷ [], s, refl)
 ]
 
-abbrev Signed : List ℕ → Comparator × List ℕ → Type 0
+abbrev pub Signed : List ℕ → Comparator × List ℕ → Type 0
 Signed text c = (sign : List ℕ) × IsSign c.0 sign × (text ≡ sign ++ c.1)
 
-sign-is : (text : List ℕ) (c : Comparator × List ℕ) → comparator_at text ≡ Some c → Signed text c
+pub sign-is : (text : List ℕ) (c : Comparator × List ℕ) → comparator_at text ≡ Some c → Signed text c
 sign-is [] c h = cc h
 sign-is (b ∷ rest) c h = elim (cases_Bool (b == 62)) [
   | inl more ↦

@@ -32,4 +32,8 @@ pub mod Outside
 pub mod Printed
 pub mod ComesBack
 pub mod PrintedRows
+pub mod CommonFronts
+pub mod CommonViews
+pub mod CommonText
+pub mod CommonRows
 pub mod Json

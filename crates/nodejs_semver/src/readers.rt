@@ -1,6 +1,7 @@
 //! The readers of version and range texts. They have no limit of length.
 
 mod bars;
+mod fast;
 mod intervals;
 mod loose;
 mod partial;
@@ -8,5 +9,6 @@ mod syntax;
 mod table;
 mod words;
 
+pub use crate::readers::fast::range_fast;
 pub use crate::readers::loose::{is_blank, range_loose};
 pub use semver_core::readers::{version_fast, version_loose};

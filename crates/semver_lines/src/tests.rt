@@ -3,6 +3,7 @@ mod cuts;
 mod difference;
 mod ends;
 mod error;
+mod fast_ranges;
 mod fast_versions;
 mod increment;
 mod json;

@@ -1,6 +1,13 @@
 // What is said of range texts.
 
 ghost use Rattle.nodejs_semver.specs.RangeLaws.{LongestPartialsAreRead, PartialsAreWritten, BarsDivide, BarsDivideOnce, IntervalsHoldWritten, NumbersAreWritten, RunsDivide, RunsDivideOnce, OneMeaning, WordsAreRead};
+ghost use Rattle.std.specs.Prelude.{◌≡◌, IfNone, IfOk, IfSome, Some};
+ghost use Rattle.nodejs_semver.specs.CommonText.{CommonRangesAreDenoted, CommonRangesAreRead, IsUncommon};
+ghost use Rattle.semver_core.specs.declared.TheConstants.{MAX_SAFE_INTEGER};
+
+use crate::Range;
+use crate::readers::{range_fast, range_loose};
+use std::alloc::{AllocError, Global};
 
 /// A range text has one division at its bars: pieces whose joining by `||` is the text, of which none contains `||` and only
 /// the last may end in `|`. So `1|||2` has the pieces `1` and `|2`.
@@ -48,3 +55,29 @@ pub fn intervals_hold_what_is_written()
 pub fn one_meaning()
     ensures { OneMeaning }
 {}
+
+/// A common range text has a range: it denotes its intervals, of which there is one or more, and some part of it is not empty.
+/// The common texts and their intervals are computed.
+pub fn common_ranges()
+    ensures denoted { CommonRangesAreDenoted }
+    ensures read { CommonRangesAreRead }
+{}
+
+/// On a common text both readers return the same range; elsewhere the fast one returns none.
+#[tactic(auto, using(crate::proofs::CommonRange::fast_read))]
+pub fn both_readers(
+    alloc: Global,
+    text: &str,
+) -> Result<Option<(Range, Option<Range>)>, AllocError>
+    ensures same { IfOk result (λ found. IfSome found (λ both. Some both.0 ≡ both.1)) }
+    ensures uncommon { IfOk result (λ found. IfNone found (IsUncommon MAX_SAFE_INTEGER text.now)) }
+{
+    let fast = range_fast(alloc, text)?;
+    match fast {
+        Some(fast) => {
+            let loose = range_loose(alloc, text)?;
+            Ok(Some((fast, loose)))
+        }
+        None => Ok(None),
+    }
+}

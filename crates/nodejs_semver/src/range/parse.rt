@@ -9,12 +9,12 @@ ghost use Rattle.semver_core.specs.Failures.{RefusedOnlyIf};
 ghost use Rattle.semver_core.specs.Versions.{VersionValue};
 
 use crate::Range;
-use crate::readers::{is_blank, range_loose};
+use crate::readers::{is_blank, range_fast, range_loose};
 use semver_core::{Failure, MAX_SAFE_INTEGER, SemverError};
 use std::alloc::{AllocError, Global};
 
 impl Range {
-    /// Reads a range text, of any length: parts between `||`, of which each is words such as `^1.2`, `>=1.0.0 <2.0.0`,
+    /// Reads a range text of any length: parts separated by `||`, each of which is words such as `^1.2`, `>=1.0.0 <2.0.0`,
     /// `~1.2.3` or `1.0.0 - 2.0.0` (node-semver's range grammar).
     ///
     /// An empty text is [`Range::any`], and so is a text whose parts are all empty. An empty part beside other parts is one
@@ -40,8 +40,21 @@ impl Range {
     }
 }
 
-// The range of a text, or none where it has no interval.
+// The range of a text, or none where it has no interval. Most texts are read by the fast reader.
 fn read(alloc: Global, text: &str) -> Result<Option<Range>, AllocError>
+    ensures { IfOk result (λ found. found ≡ if_any (denotes MAX_SAFE_INTEGER text.now)) }
+{
+    let found = range_fast(alloc, text)?;
+    match found {
+        Some(range) => Ok(Some(range)),
+        None => read_loosely(alloc, text),
+    }
+}
+
+// The same, word by word.
+#[cold]
+#[inline(never)]
+fn read_loosely(alloc: Global, text: &str) -> Result<Option<Range>, AllocError>
     ensures { IfOk result (λ found. found ≡ if_any (denotes MAX_SAFE_INTEGER text.now)) }
 {
     if is_blank(text) {

@@ -47,7 +47,7 @@ fn pre_release(alloc: Global, bare: &BareVersion<'_>) -> Result<Vec<Identifier>,
 }
 
 // The version with identifiers of its own.
-fn version(alloc: Global, bare: &BareVersion<'_>) -> Result<Version, AllocError>
+pub(crate) fn version(alloc: Global, bare: &BareVersion<'_>) -> Result<Version, AllocError>
     ensures { IfOk result (λ v. v ≡ bare_view bare.now) }
 {
     let pre_release = pre_release(alloc, bare)?;
@@ -76,7 +76,7 @@ fn bound(alloc: Global, bare: &Bound<BareVersion<'_>>) -> Result<Bound<Version>,
 }
 
 // The interval of two bounds, where the lower cut is below the upper one.
-fn interval_of(alloc: Global, bounds: &Bounds<'_>) -> Result<Option<Interval<Version>>, AllocError>
+pub(crate) fn interval_of(alloc: Global, bounds: &Bounds<'_>) -> Result<Option<Interval<Version>>, AllocError>
     ensures { IfOk result (λ found. found ≡ interval precedence (bounds_view bounds.now)) }
 {
     let lower = bound(alloc, &bounds.lower)?;

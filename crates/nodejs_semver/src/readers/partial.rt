@@ -35,7 +35,7 @@ fn number_front(text: &[u8]) -> Option<(u64, &[u8])>
 // A wildcard or a number.
 #[inline(always)]
 #[tactic(auto, unfolding(crate::specs::Fronts::component_front))]
-fn component_front(text: &[u8]) -> Option<(Option<u64>, &[u8])>
+pub(crate) fn component_front(text: &[u8]) -> Option<(Option<u64>, &[u8])>
     ensures value { front_view result ≡ Spec.component_front MAX_SAFE_INTEGER text.now }
     ensures small { IfSome result (λ p. ForSome p.0 (λ n. n ≤ MAX_SAFE_INTEGER)) }
 {
@@ -49,7 +49,7 @@ fn component_front(text: &[u8]) -> Option<(Option<u64>, &[u8])>
 // The same behind a dot.
 #[inline(always)]
 #[tactic(auto, unfolding(crate::specs::Fronts::dotted_front))]
-fn dotted_front(text: &[u8]) -> Option<(Option<u64>, &[u8])>
+pub(crate) fn dotted_front(text: &[u8]) -> Option<(Option<u64>, &[u8])>
     ensures value { front_view result ≡ Spec.dotted_front MAX_SAFE_INTEGER text.now }
     ensures small { IfSome result (λ p. ForSome p.0 (λ n. n ≤ MAX_SAFE_INTEGER)) }
 {
@@ -87,7 +87,7 @@ fn split_list(text: &[u8]) -> (&[u8], &[u8])
 
 // The text of the pre-release at the front, and what stands behind it.
 #[tactic(auto, unfolding(crate::specs::Fronts::pre_release_front), using(crate::proofs::Lists::listed_nil))]
-fn pre_release_front(text: &[u8]) -> (&[u8], &[u8])
+pub(crate) fn pre_release_front(text: &[u8]) -> (&[u8], &[u8])
     ensures listed { Spec.is_listed result.0.now ≡ true }
     ensures value { pair_view result ≡ Spec.pre_release_front text.now }
 {

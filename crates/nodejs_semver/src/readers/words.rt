@@ -87,7 +87,7 @@ fn partial_word_front(text: &[u8]) -> Option<(Word<'_>, &[u8])>
 
 // The comparator at the front, the longer one first.
 #[inline(always)]
-fn comparator_front(text: &[u8]) -> Option<(Comparator, &[u8])>
+pub(crate) fn comparator_front(text: &[u8]) -> Option<(Comparator, &[u8])>
     ensures { comparator_front_view result ≡ Spec.comparator_at text.now }
 {
     match text {
@@ -110,7 +110,7 @@ fn compare_front(text: &[u8]) -> Option<(Word<'_>, &[u8])>
 
 // Whether `>` stands behind a tilde, and what stands behind it.
 #[inline(always)]
-fn tilde_sign(text: &[u8]) -> (bool, &[u8])
+pub(crate) fn tilde_sign(text: &[u8]) -> (bool, &[u8])
     ensures { sign_view result ≡ Spec.tilde_sign text.now }
 {
     match text {

@@ -1,0 +1,39 @@
+use Rattle.std.proofs.Common.{◌≡◌, ◌<◌, ℕ, length, arith, sym, ap, ◌∙◌, None}
+use Rattle.semver_core.specs.declared.TheConstants.{MAX_SAFE_INTEGER}
+use Rattle.nodejs_semver.specs.Readings.{rest_view}
+use Rattle.nodejs_semver.proofs.CommonLoop.{loop-complete, loop-ends, loop-no_bars, loop-no_part, loop-shorter, loop-sound}
+use Rattle.nodejs_semver.proofs.readers.fast.intervals_of.Goals as goal
+
+pub returns-in_default-clause-none : goal.returns-in_default-clause-none
+returns-in_default-clause-none c =
+    loop-no_part MAX_SAFE_INTEGER c.args.text.now c.parts.found.items c.push_part.new.found.items c.parts.rest.now (rest_view c.in_ok-behind.field-0)
+    c.in_ok-behind.ensures (ap rest_view c.in_default.is) c.parts.invariant.complete
+
+pub returns-then-is_empty-clause-some : goal.returns-then-is_empty-clause-some
+returns-then-is_empty-clause-some c =
+    let none : length c.in-Some.behind.now ≡ 0 = grind arith in
+    loop-ends MAX_SAFE_INTEGER c.args.text.now c.parts.found.items c.push_part.new.found.items c.parts.rest.now c.in-Some.behind.now
+    (record { after = rest_view c.in_ok-behind.field-0; added = c.in_ok-behind.ensures; there = ap rest_view c.in-Some.is }) none c.parts.invariant.sound
+
+pub returns-in_default-after_bars-clause-none : goal.returns-in_default-after_bars-clause-none
+returns-in_default-after_bars-clause-none c =
+    let some : 0 < length c.in-Some.behind.now = grind arith in
+    loop-no_bars MAX_SAFE_INTEGER c.args.text.now c.parts.found.items c.push_part.new.found.items c.parts.rest.now c.in-Some.behind.now
+    (record { after = rest_view c.in_ok-behind.field-0; added = c.in_ok-behind.ensures; there = ap rest_view c.in-Some.is })
+    some (sym c.after_bars.ensures ∙ ap rest_view c.in_default-after_bars.is) c.parts.invariant.complete
+
+pub parts-smaller : goal.parts-smaller
+parts-smaller c =
+    loop-shorter MAX_SAFE_INTEGER c.parts.found.items c.push_part.new.found.items c.parts.rest.now c.in-Some.behind.now c.in-Some-after_bars.next.now
+    (record { after = rest_view c.in_ok-behind.field-0; added = c.in_ok-behind.ensures; there = ap rest_view c.in-Some.is })
+    (sym c.after_bars.ensures ∙ ap rest_view c.in-Some-after_bars.is)
+
+pub parts-preserved : goal.parts-preserved
+parts-preserved c = record {
+  sound = loop-sound MAX_SAFE_INTEGER c.args.text.now c.parts.found.items c.push_part.new.found.items c.parts.rest.now c.in-Some.behind.now c.in-Some-after_bars.next.now
+      (record { after = rest_view c.in_ok-behind.field-0; added = c.in_ok-behind.ensures; there = ap rest_view c.in-Some.is })
+      (sym c.after_bars.ensures ∙ ap rest_view c.in-Some-after_bars.is) c.parts.invariant.sound;
+  complete = loop-complete MAX_SAFE_INTEGER c.args.text.now c.parts.found.items c.push_part.new.found.items c.parts.rest.now c.in-Some.behind.now c.in-Some-after_bars.next.now
+      (record { after = rest_view c.in_ok-behind.field-0; added = c.in_ok-behind.ensures; there = ap rest_view c.in-Some.is })
+      (sym c.after_bars.ensures ∙ ap rest_view c.in-Some-after_bars.is) c.parts.invariant.complete;
+}

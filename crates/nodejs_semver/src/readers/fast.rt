@@ -1,0 +1,400 @@
+// The reader of common range texts, in one pass from the left.
+
+ghost use Rattle.std.specs.Option.{ForSome};
+ghost use Rattle.std.specs.Prelude.{◌≡◌, ◌≤◌, if◌then◌else◌, IfNone, IfOk, IfSome, None, Some};
+ghost use Rattle.nodejs_semver.specs.CommonFronts as Spec;
+ghost use Rattle.nodejs_semver.specs.CommonText.{IsCommonRange, IsUncommon};
+ghost use Rattle.nodejs_semver.specs.Denotes.{denotes};
+ghost use Rattle.nodejs_semver.specs.Fronts.{dotted_front};
+ghost use Rattle.nodejs_semver.specs.CommonViews.{between_view, both_view, bounds_front_view, passed_view};
+ghost use Rattle.nodejs_semver.specs.Readings.{bare_view, bound_view, bounds_view, partial_front_view, partial_pair_view, reading_view, rest_view};
+ghost use Rattle.semver_core.specs.Cuts.{interval};
+ghost use Rattle.semver_core.specs.Order.{precedence};
+ghost use Rattle.semver_core.specs.declared.TheConstants.{MAX_SAFE_INTEGER};
+
+use crate::Range;
+use crate::range::Intervals;
+use crate::readers::syntax::{BareVersion, Bounds, Partial, PreRelease, Word};
+use crate::readers::{intervals, partial, table, words};
+use semver_core::cuts::{Bound, Interval};
+use semver_core::{MAX_SAFE_INTEGER, Version};
+use smallvec::SmallVec;
+use std::alloc::{AllocError, Global};
+
+// The partial at the front whose major and minor components were read.
+#[inline(always)]
+#[tactic(auto, unfolding(crate::specs::Fronts::list_of, crate::specs::Fronts::is_listed))]
+fn bare_patch<'a>(
+    major: Option<u64>,
+    minor: Option<u64>,
+    text: &'a [u8],
+) -> (Partial<'a>, &'a [u8])
+    requires major_small { ForSome major (λ n. n ≤ MAX_SAFE_INTEGER) }
+    requires minor_small { ForSome minor (λ n. n ≤ MAX_SAFE_INTEGER) }
+    ensures { partial_pair_view result
+        ≡ Spec.bare_patch major minor text.now (dotted_front MAX_SAFE_INTEGER text.now) }
+{
+    let Some((patch, rest)) = partial::dotted_front(text) else {
+        return (
+            Partial {
+                major,
+                minor,
+                patch: None,
+                pre_release: &text[..0],
+                build: &text[..0],
+            },
+            text,
+        );
+    };
+    let (pre_release, rest) = partial::pre_release_front(rest);
+    (
+        Partial {
+            major,
+            minor,
+            patch,
+            pre_release,
+            build: &text[..0],
+        },
+        rest,
+    )
+}
+
+// The partial at the front whose major component was read.
+#[inline(always)]
+#[tactic(auto, unfolding(crate::specs::Fronts::list_of, crate::specs::Fronts::is_listed))]
+fn bare_minor(major: Option<u64>, text: &[u8]) -> (Partial<'_>, &[u8])
+    requires { ForSome major (λ n. n ≤ MAX_SAFE_INTEGER) }
+    ensures { partial_pair_view result
+        ≡ Spec.bare_minor MAX_SAFE_INTEGER major text.now (dotted_front MAX_SAFE_INTEGER text.now) }
+{
+    match partial::dotted_front(text) {
+        Some((minor, rest)) => bare_patch(major, minor, rest),
+        None => (
+            Partial {
+                major,
+                minor: None,
+                patch: None,
+                pre_release: &text[..0],
+                build: &text[..0],
+            },
+            text,
+        ),
+    }
+}
+
+// The partial at the front. Neither `v` nor whitespace is skipped before it, and no build is read.
+#[inline(always)]
+#[tactic(auto, unfolding(crate::specs::CommonFronts::bare_front))]
+fn bare_front(text: &[u8]) -> Option<(Partial<'_>, &[u8])>
+    ensures { partial_front_view result ≡ Spec.bare_front MAX_SAFE_INTEGER text.now }
+{
+    let (major, rest) = partial::component_front(text)?;
+    Some(bare_minor(major, rest))
+}
+
+// A comparator and a partial.
+#[tactic(auto, unfolding(crate::specs::CommonFronts::comparison_front))]
+fn comparison_front(text: &[u8]) -> Option<(Word<'_>, &[u8])>
+    ensures { reading_view result ≡ Spec.comparison_front MAX_SAFE_INTEGER text.now }
+{
+    let (comparator, rest) = words::comparator_front(text)?;
+    let (partial, rest) = bare_front(rest)?;
+    Some((Word::Compare(comparator, partial), rest))
+}
+
+// What stands behind a tilde.
+#[tactic(auto, unfolding(crate::specs::CommonFronts::tilde_front))]
+fn tilde_front(text: &[u8]) -> Option<(Word<'_>, &[u8])>
+    ensures { reading_view result ≡ Spec.tilde_front MAX_SAFE_INTEGER text.now }
+{
+    let (greater, rest) = words::tilde_sign(text);
+    let (partial, rest) = bare_front(rest)?;
+    Some((Word::Tilde(greater, partial), rest))
+}
+
+// What stands behind a caret.
+#[tactic(auto, unfolding(crate::specs::CommonFronts::caret_front))]
+fn caret_front(text: &[u8]) -> Option<(Word<'_>, &[u8])>
+    ensures { reading_view result ≡ Spec.caret_front MAX_SAFE_INTEGER text.now }
+{
+    let (partial, rest) = bare_front(text)?;
+    Some((Word::Caret(partial), rest))
+}
+
+// One partial, or two with a dash between them.
+#[tactic(auto, unfolding(crate::specs::CommonFronts::partials_front))]
+fn partials_front(text: &[u8]) -> Option<(Word<'_>, &[u8])>
+    ensures { reading_view result ≡ Spec.partials_front MAX_SAFE_INTEGER text.now }
+{
+    let (lower, rest) = bare_front(text)?;
+    match rest {
+        [b' ', b'-', b' ', second @ ..] => {
+            let (upper, rest) = bare_front(second)?;
+            Some((Word::Hyphen(lower, upper), rest))
+        }
+        _ => Some((Word::Plain(lower), rest)),
+    }
+}
+
+// The bounds of a word that was read, and what follows the word.
+#[inline(always)]
+fn bounds_read<'a>(read: Option<(Word<'a>, &'a [u8])>) -> Option<(Bounds<'a>, &'a [u8])>
+    ensures { bounds_front_view result
+        ≡ Spec.word_read MAX_SAFE_INTEGER (reading_view read.entry) }
+{
+    let (word, rest) = read?;
+    let bounds = table::table(&word)?;
+    Some((bounds, rest))
+}
+
+// The version of a bound. Mostly it has no identifiers, or the pre-release `0` alone.
+#[inline(always)]
+#[tactic(auto, unfolding(crate::specs::Fronts::list_of))]
+fn version(alloc: Global, bare: &BareVersion<'_>) -> Result<Version, AllocError>
+    ensures { IfOk result (λ v. v ≡ bare_view bare.now) }
+{
+    match (bare.pre_release, bare.build) {
+        (PreRelease::Written([]), []) => Ok(Version::from((bare.major, bare.minor, bare.patch))),
+        (PreRelease::Zero, []) => {
+            Version::with_pre(alloc, bare.major, bare.minor, bare.patch, 0)
+        }
+        _ => intervals::version(alloc, bare),
+    }
+}
+
+#[inline(always)]
+fn bound(alloc: Global, bare: &Bound<BareVersion<'_>>) -> Result<Bound<Version>, AllocError>
+    ensures { IfOk result (λ b. b ≡ bound_view bare.now) }
+{
+    Ok(match bare {
+        Bound::Unbounded => Bound::Unbounded,
+        Bound::Before(bare) => Bound::Before(version(alloc, bare)?),
+        Bound::After(bare) => Bound::After(version(alloc, bare)?),
+    })
+}
+
+// Adds the interval of two bounds, where the lower cut is below the upper one.
+fn push_between(
+    alloc: Global,
+    lower: &Bound<BareVersion<'_>>,
+    upper: &Bound<BareVersion<'_>>,
+    found: &mut Intervals<Version>,
+) -> Result<bool, AllocError>
+    ensures { let s = between_view lower.now upper.now in
+        IfOk result (λ there. both_view there found.new.items
+            ≡ Spec.pushed found.old.items (interval precedence s)) }
+{
+    let lower = bound(alloc, lower)?;
+    let upper = bound(alloc, upper)?;
+    let Some(interval) = Interval::new(lower, upper) else {
+        return Ok(false);
+    };
+    found.push(interval)?;
+    Ok(true)
+}
+
+// What the intervals of two pairs of bounds have in common.
+fn common_interval(
+    alloc: Global,
+    first: &Bounds<'_>,
+    second: &Bounds<'_>,
+) -> Result<Option<Interval<Version>>, AllocError>
+    ensures { IfOk result (λ both. both
+        ≡ Spec.both_of (bounds_view first.now) (bounds_view second.now)) }
+{
+    let Some(first) = intervals::interval_of(alloc, first)? else {
+        return Ok(None);
+    };
+    let Some(second) = intervals::interval_of(alloc, second)? else {
+        return Ok(None);
+    };
+    Ok(first.intersect(alloc, &second)?)
+}
+
+// Adds what two comparisons have in common, where that is an interval.
+#[cold]
+#[inline(never)]
+fn push_common(
+    alloc: Global,
+    first: &Bounds<'_>,
+    second: &Bounds<'_>,
+    found: &mut Intervals<Version>,
+) -> Result<bool, AllocError>
+    ensures { let both = Spec.both_of (bounds_view first.now) (bounds_view second.now) in
+        IfOk result (λ there. both_view there found.new.items
+            ≡ Spec.pushed found.old.items both) }
+{
+    match common_interval(alloc, first, second)? {
+        Some(interval) => {
+            found.push(interval)?;
+            Ok(true)
+        }
+        None => Ok(false),
+    }
+}
+
+// The same; mostly the first comparison has a lower bound and the second an upper one.
+#[tactic(auto, using(crate::proofs::CommonBounds::half_open))]
+fn push_both(
+    alloc: Global,
+    first: &Bounds<'_>,
+    second: &Bounds<'_>,
+    found: &mut Intervals<Version>,
+) -> Result<bool, AllocError>
+    ensures { let both = Spec.both_of (bounds_view first.now) (bounds_view second.now) in
+        IfOk result (λ there. both_view there found.new.items
+            ≡ Spec.pushed found.old.items both) }
+{
+    match (&first.upper, &second.lower) {
+        (Bound::Unbounded, Bound::Unbounded) => {
+            push_between(alloc, &first.lower, &second.upper, found)
+        }
+        _ => push_common(alloc, first, second, found),
+    }
+}
+
+// Whether a space and a comparator stand at the front.
+#[inline(always)]
+fn begins_second(text: &[u8]) -> bool
+    ensures { result ≡ Spec.begins_second text.now }
+{
+    matches!(text, [b' ', b'<' | b'=' | b'>', ..])
+}
+
+// What follows a part, where its interval was added.
+#[inline(always)]
+fn behind_part(there: bool, rest: &[u8]) -> Option<&[u8]>
+    ensures { rest_view result ≡ (if there then Some rest.now else None) }
+{
+    if there { Some(rest) } else { None }
+}
+
+// Adds the interval of one comparison, or of two, and returns what follows them.
+#[tactic(auto, unfolding(crate::specs::CommonFronts::comparisons_front))]
+fn push_comparisons<'a>(
+    alloc: Global,
+    text: &'a [u8],
+    found: &mut Intervals<Version>,
+) -> Result<Option<&'a [u8]>, AllocError>
+    ensures { IfOk result (λ rest. passed_view rest found.new.items
+        ≡ Spec.passed found.old.items (Spec.comparisons_front MAX_SAFE_INTEGER text.now)) }
+{
+    let Some((first, rest)) = bounds_read(comparison_front(text)) else {
+        return Ok(None);
+    };
+    if !begins_second(rest) {
+        let there = push_between(alloc, &first.lower, &first.upper, found)?;
+        return Ok(behind_part(there, rest));
+    }
+    let Some((second, rest)) = bounds_read(comparison_front(&rest[1..])) else {
+        return Ok(None);
+    };
+    let there = push_both(alloc, &first, &second, found)?;
+    Ok(behind_part(there, rest))
+}
+
+// Adds the interval of a word that was read, and returns what follows the word.
+fn push_word<'a>(
+    alloc: Global,
+    read: Option<(Word<'a>, &'a [u8])>,
+    found: &mut Intervals<Version>,
+) -> Result<Option<&'a [u8]>, AllocError>
+    ensures { IfOk result (λ rest. passed_view rest found.new.items
+        ≡ Spec.passed found.old.items (Spec.word_read MAX_SAFE_INTEGER (reading_view read.entry))) }
+{
+    let Some((bounds, rest)) = bounds_read(read) else {
+        return Ok(None);
+    };
+    let there = push_between(alloc, &bounds.lower, &bounds.upper, found)?;
+    Ok(behind_part(there, rest))
+}
+
+// Adds the interval of the part at the front, and returns what follows the part.
+#[tactic(auto, unfolding(crate::specs::CommonFronts::part_front))]
+fn push_part<'a>(
+    alloc: Global,
+    text: &'a [u8],
+    found: &mut Intervals<Version>,
+) -> Result<Option<&'a [u8]>, AllocError>
+    ensures { IfOk result (λ rest. passed_view rest found.new.items
+        ≡ Spec.passed found.old.items (Spec.part_front MAX_SAFE_INTEGER text.now)) }
+{
+    match text {
+        [] => Ok(None),
+        [b'<' | b'=' | b'>', ..] => push_comparisons(alloc, text, found),
+        [b'~', rest @ ..] => push_word(alloc, tilde_front(rest), found),
+        [b'^', rest @ ..] => push_word(alloc, caret_front(rest), found),
+        _ => push_word(alloc, partials_front(text), found),
+    }
+}
+
+// What follows one space or none.
+#[inline(always)]
+fn after_gap(text: &[u8]) -> &[u8]
+    ensures { result.now ≡ Spec.after_gap text.now }
+{
+    match text {
+        [b' ', rest @ ..] => rest,
+        _ => text,
+    }
+}
+
+// What follows `||`, with one space or none on each side.
+#[inline(always)]
+#[tactic(auto, unfolding(crate::specs::CommonFronts::after_bars))]
+fn after_bars(text: &[u8]) -> Option<&[u8]>
+    ensures { rest_view result ≡ Spec.after_bars text.now }
+{
+    match after_gap(text) {
+        [b'|', b'|', rest @ ..] => Some(after_gap(rest)),
+        _ => None,
+    }
+}
+
+// The intervals of a common text, one for each part.
+fn intervals_of(
+    alloc: Global,
+    text: &[u8],
+) -> Result<Option<Intervals<Version>>, AllocError>
+    ensures some { IfOk result (λ found. IfSome found (λ list.
+        IsCommonRange MAX_SAFE_INTEGER text.now list.items)) }
+    ensures none { IfOk result (λ found. IfNone found (IsUncommon MAX_SAFE_INTEGER text.now)) }
+{
+    let mut found = SmallVec::new(alloc);
+    let mut rest = text;
+    'parts: loop {
+        let Some(behind) = push_part(alloc, rest, &mut found)? else {
+            return Ok(None);
+        };
+        if behind.is_empty() {
+            return Ok(Some(found));
+        }
+        let Some(next) = after_bars(behind) else {
+            return Ok(None);
+        };
+        rest = next;
+    }
+}
+
+/// Reads a common range text in one pass. It returns `None` exactly where the text is not one; the error is an allocation
+/// failure.
+///
+/// Most ranges in manifests are common texts. Their parts are separated by `||`, with one space or none on each side. Each
+/// part is one word, such as `^1.2.3`, `~1.2`, `1.x` or `1.0.0 - 2.0.0`, or two comparisons separated by one space whose
+/// intervals meet, such as `>=1.0.0 <2.0.0`. No version in the text begins with `v` or has build metadata, and there is no
+/// other whitespace. `foo 1.2.3`, `v1.2.3` and `> 1` are not common texts; `Range::parse` reads them too.
+pub fn range_fast(alloc: Global, text: &str) -> Result<Option<Range>, AllocError>
+    // What is read is the meaning of a common text, which is what the text denotes.
+    ensures some { IfOk result (λ found. IfSome found (λ range.
+        IsCommonRange MAX_SAFE_INTEGER text.now range)) }
+    ensures denoted { IfOk result (λ found. IfSome found (λ range.
+        range ≡ denotes MAX_SAFE_INTEGER text.now)) }
+    // Nothing is read only where the text is no common one.
+    ensures none { IfOk result (λ found. IfNone found (IsUncommon MAX_SAFE_INTEGER text.now)) }
+{
+    let found = intervals_of(alloc, text.as_bytes())?;
+    match found {
+        Some(found) => Ok(Range::from_intervals(found)),
+        None => Ok(None),
+    }
+}
