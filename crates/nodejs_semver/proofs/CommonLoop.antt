@@ -6,7 +6,6 @@ use Rattle.semver_core.specs.Spaces.{is_empty}
 use Rattle.semver_core.specs.Versions.{VersionValue}
 use Rattle.nodejs_semver.specs.CommonFronts.{after_bars, part_front, passed}
 use Rattle.nodejs_semver.specs.CommonText.{IsCommonRange, IsUncommon}
-use Rattle.nodejs_semver.specs.Fronts.{Front}
 use Rattle.nodejs_semver.proofs.CommonBounds.{Added, behind, passed-none, passed-some}
 use Rattle.nodejs_semver.proofs.CommonParts.{Steps, last-sound, next-shorter, next-sound, steps}
 

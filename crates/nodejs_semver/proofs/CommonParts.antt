@@ -1,15 +1,15 @@
 -- What the fast reader finds is the parts of a common text, and it finds each of them.
 use Rattle.std.proofs.Common.{◌≡◌, ◌⊎◌, ℕ, zero, suc, ◌<◌, ◌≤◌, List, [], ◌∷◌, ◌++◌, length, drop, refl, sym, ap, ◌∙◌, arith, Bool, true, false, Some, None, inl, inr, subst, append-nil, append_assoc, length-append}
-use Rattle.std.specs.Prelude.{Option, ◌&&◌, ◌||◌, ◌==◌, if◌then◌else◌}
+use Rattle.std.specs.Prelude.{Option, ◌&&◌, ◌||◌, ◌==◌}
 use Rattle.std.specs.Char.{is_ascii_digit}
 use Rattle.std.proofs.lemmas.Bool.{cases_Bool, eqb-true}
 use Rattle.std.proofs.lemmas.Bool.Decides.{nat_tests}
 use Rattle.semver_core.specs.Characters.{begins}
-use Rattle.semver_core.specs.Cuts.{Span, interval, meet}
+use Rattle.semver_core.specs.Cuts.{Span, meet}
 use Rattle.semver_core.specs.Order.{precedence}
 use Rattle.semver_core.specs.Spaces.{is_empty}
 use Rattle.semver_core.specs.Versions.{VersionValue}
-use Rattle.nodejs_semver.specs.CommonFronts.{after_bars, after_gap, bare_front, begins_dash, begins_second, caret_front, common_range, common_within, comparison_front, comparisons_front, is_sign, onto, part_front, part_read, partials_front, tilde_front, word_read}
+use Rattle.nodejs_semver.specs.CommonFronts.{after_bars, after_gap, bare_front, begins_dash, begins_second, caret_front, common_within, comparison_front, comparisons_front, is_sign, onto, part_front, part_read, partials_front, tilde_front, word_read}
 use Rattle.nodejs_semver.specs.CommonText.{CommonRangesAreRead, IsBare, IsCommonPart, IsCommonRange, IsCommonWord, IsComparison, IsGap, caret_word, compare_word, comparison, hyphen_word, more_parts, one_part, one_word, plain_word, tilde_greater_word, tilde_word, two_comparisons}
 use Rattle.nodejs_semver.specs.Fronts.{Front, begins_byte}
 use Rattle.nodejs_semver.specs.PartialText.{Partial, is_wildcard}

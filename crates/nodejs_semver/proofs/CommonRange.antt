@@ -1,5 +1,5 @@
 -- The range that the fast reader makes of the intervals of a common text.
-use Rattle.std.proofs.Common.{◌≡◌, ℕ, ◌<◌, ◌+◌, List, [], ◌∷◌, length, refl, sym, ap, ◌∙◌, arith, true, Some, None, subst}
+use Rattle.std.proofs.Common.{◌≡◌, ℕ, ◌<◌, ◌+◌, List, [], ◌∷◌, length, refl, sym, ap, ◌∙◌, arith, true, Some, subst}
 use Rattle.std.specs.Prelude.{Option, IfNone, IfSome}
 use Rattle.std.specs.List.{list_all}
 use Rattle.semver_core.specs.Cuts.{Span, if_any}

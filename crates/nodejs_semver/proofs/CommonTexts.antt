@@ -1,6 +1,6 @@
 -- A common text denotes its intervals: its parts are cut at the bars and are trimmed to themselves.
-use Rattle.std.proofs.Common.{◌≡◌, ◌⊎◌, ℕ, ◌<◌, List, [], ◌∷◌, ◌++◌, length, map, refl, sym, ap, ◌∙◌, arith, Bool, true, false, Some, inl, inr, subst, append-nil, append_assoc}
-use Rattle.std.specs.Prelude.{Option, ◌&&◌, ◌||◌, ◌==◌, not, nat_lt, flat_map, if◌then◌else◌}
+use Rattle.std.proofs.Common.{◌≡◌, ℕ, ◌<◌, List, [], ◌∷◌, ◌++◌, length, map, refl, sym, ap, ◌∙◌, arith, Bool, true, false, inl, inr, subst, append-nil, append_assoc}
+use Rattle.std.specs.Prelude.{Option, ◌&&◌, ◌||◌, ◌==◌, not, nat_lt, flat_map}
 use Rattle.std.specs.Char.{is_ascii_digit}
 use Rattle.std.specs.List.{list_all, onto_first}
 use Rattle.std.proofs.lemmas.Bool.{cases_Bool, eqb-true}
@@ -19,7 +19,6 @@ use Rattle.nodejs_semver.specs.PartialText.{Partial, is_wildcard, AreComponents,
 use Rattle.nodejs_semver.specs.Partials.{is_dot}
 use Rattle.nodejs_semver.specs.Parts.{cut_bars, parts}
 use Rattle.nodejs_semver.specs.Bars.{is_bar}
-use Rattle.nodejs_semver.specs.RangeView.{any_version}
 use Rattle.nodejs_semver.specs.WordText.{IsSign, above_sign, at_least_sign, at_most_sign, below_sign, equal_sign, Comparator, Word}
 use Rattle.nodejs_semver.proofs.CommonPieces.{bare-begins, front-some}
 use Rattle.nodejs_semver.proofs.CommonWords.{common-part}

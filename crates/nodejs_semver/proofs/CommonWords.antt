@@ -1,8 +1,7 @@
 -- The words of a common part are what the range grammar reads in it.
-use Rattle.std.proofs.Common.{◌≡◌, ℕ, ◌<◌, List, [], ◌∷◌, ◌++◌, length, map, refl, sym, ap, ◌∙◌, arith, Bool, true, false, Some, None, subst, append-nil, append_assoc}
+use Rattle.std.proofs.Common.{◌≡◌, ℕ, ◌<◌, List, [], ◌∷◌, ◌++◌, length, map, refl, sym, ap, ◌∙◌, arith, Bool, true, false, Some, None, subst, append-nil}
 use Rattle.std.specs.Prelude.{Option, ◌==◌, ◌||◌, filter_map}
 use Rattle.std.specs.List.{cons_option}
-use Rattle.std.proofs.lemmas.Bool.{cases_Bool}
 use Rattle.std.proofs.lemmas.Bool.Decides.{nat_tests}
 use Rattle.std.specs.Char.{is_ascii_digit}
 use Rattle.semver_core.specs.Cuts.{Span, meet}
@@ -12,7 +11,7 @@ use Rattle.semver_core.specs.Spaces.{after_spaces, drop_spaces, space_len}
 use Rattle.semver_core.specs.Versions.{VersionValue}
 use Rattle.semver_core.proofs.Spaces.{drop_spaces-none}
 use Rattle.nodejs_semver.specs.CommonText.{IsBare, IsCommonPart, IsCommonWord, IsComparison, caret_word, compare_word, comparison, hyphen_word, one_word, plain_word, tilde_greater_word, tilde_word, two_comparisons}
-use Rattle.nodejs_semver.specs.Denotes.{part_bounds, part_intervals}
+use Rattle.nodejs_semver.specs.Denotes.{part_intervals}
 use Rattle.nodejs_semver.specs.Fronts.{component_front, partial_front}
 use Rattle.nodejs_semver.specs.Meets.{joined, joined_from}
 use Rattle.nodejs_semver.specs.PartialText.{Partial, is_wildcard}
@@ -27,7 +26,7 @@ use Rattle.nodejs_semver.proofs.Longest.{longest_is_front}
 use Rattle.nodejs_semver.proofs.MeetLemmas.{joined-goes, runs-joined}
 use Rattle.nodejs_semver.proofs.Progress.{words-step}
 use Rattle.nodejs_semver.proofs.Sound.{begins_component}
-use Rattle.nodejs_semver.proofs.SoundPartial.{begins-longer, nonempty}
+use Rattle.nodejs_semver.proofs.SoundPartial.{begins-longer}
 
 -- no partial begins with a sign
 pub sign-none : (limit : ℕ) (rest : List ℕ)
@@ -110,7 +109,6 @@ at-end limit x p h = subst (λ (t : List ℕ). longest_partial limit t ≡ Some 
 signed-end : (limit : ℕ) (x : List ℕ) (p : Partial) → IsBare limit x p → longest_partial limit (drop_spaces x) ≡ Some (p, [])
 signed-end limit x p h =
     subst (λ (t : List ℕ). longest_partial limit (drop_spaces t) ≡ Some (p, [])) (append-nil x) (signed-exact limit x [] p h stop-nil)
-
 
 abbrev some_sign : Comparator × List ℕ → Option (Comparator × List ℕ)
 some_sign x = Some x

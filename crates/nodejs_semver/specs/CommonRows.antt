@@ -1,9 +1,7 @@
 -- Worked rows, computed: texts that are common range texts, and texts that are not.
 use Rattle.std.specs.Prelude.{ℕ, ◌≡◌, Bool, true, false, List, [], ◌∷◌, refl, codes, is_some, Some}
-use Rattle.semver_core.specs.Cuts.{Span}
-use Rattle.semver_core.specs.Versions.{VersionValue, release_value}
-use Rattle.semver_core.specs.declared.cuts.bound.Bound.{Bound}
-use Rattle.semver_core.specs.declared.cuts.bound.Bound.TheVariants.{Unbounded, Before, After}
+use Rattle.semver_core.specs.Versions.{release_value}
+use Rattle.semver_core.specs.declared.cuts.bound.Bound.TheVariants.{Before}
 use Rattle.nodejs_semver.specs.CommonFronts.{after_bars, bare_front, caret_front, common_range, common_within, comparison_front, comparisons_front, part_front, partials_front, tilde_front}
 use Rattle.nodejs_semver.specs.Fronts.{component_front, dotted_front, list_len, list_of, pre_release_front, run_on}
 use Rattle.nodejs_semver.specs.Partials.{number_of}

@@ -51,7 +51,7 @@ fn read(alloc: Global, text: &str) -> Result<Option<Range>, AllocError>
     }
 }
 
-// The same, word by word.
+// The same without the fast reader.
 #[cold]
 #[inline(never)]
 fn read_loosely(alloc: Global, text: &str) -> Result<Option<Range>, AllocError>

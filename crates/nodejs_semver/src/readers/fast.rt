@@ -24,11 +24,7 @@ use std::alloc::{AllocError, Global};
 // The partial at the front whose major and minor components were read.
 #[inline(always)]
 #[tactic(auto, unfolding(crate::specs::Fronts::list_of, crate::specs::Fronts::is_listed))]
-fn bare_patch<'a>(
-    major: Option<u64>,
-    minor: Option<u64>,
-    text: &'a [u8],
-) -> (Partial<'a>, &'a [u8])
+fn bare_patch<'a>(major: Option<u64>, minor: Option<u64>, text: &'a [u8]) -> (Partial<'a>, &'a [u8])
     requires major_small { ForSome major (λ n. n ≤ MAX_SAFE_INTEGER) }
     requires minor_small { ForSome minor (λ n. n ≤ MAX_SAFE_INTEGER) }
     ensures { partial_pair_view result
@@ -182,7 +178,7 @@ fn push_between(
 ) -> Result<bool, AllocError>
     ensures { let s = between_view lower.now upper.now in
         IfOk result (λ there. both_view there found.new.items
-            ≡ Spec.pushed found.old.items (interval precedence s)) }
+        ≡ Spec.pushed found.old.items (interval precedence s)) }
 {
     let lower = bound(alloc, lower)?;
     let upper = bound(alloc, upper)?;
@@ -222,7 +218,7 @@ fn push_common(
 ) -> Result<bool, AllocError>
     ensures { let both = Spec.both_of (bounds_view first.now) (bounds_view second.now) in
         IfOk result (λ there. both_view there found.new.items
-            ≡ Spec.pushed found.old.items both) }
+        ≡ Spec.pushed found.old.items both) }
 {
     match common_interval(alloc, first, second)? {
         Some(interval) => {
@@ -243,7 +239,7 @@ fn push_both(
 ) -> Result<bool, AllocError>
     ensures { let both = Spec.both_of (bounds_view first.now) (bounds_view second.now) in
         IfOk result (λ there. both_view there found.new.items
-            ≡ Spec.pushed found.old.items both) }
+        ≡ Spec.pushed found.old.items both) }
 {
     match (&first.upper, &second.lower) {
         (Bound::Unbounded, Bound::Unbounded) => {
@@ -352,10 +348,7 @@ fn after_bars(text: &[u8]) -> Option<&[u8]>
 }
 
 // The intervals of a common text, one for each part.
-fn intervals_of(
-    alloc: Global,
-    text: &[u8],
-) -> Result<Option<Intervals<Version>>, AllocError>
+fn intervals_of(alloc: Global, text: &[u8]) -> Result<Option<Intervals<Version>>, AllocError>
     ensures some { IfOk result (λ found. IfSome found (λ list.
         IsCommonRange MAX_SAFE_INTEGER text.now list.items)) }
     ensures none { IfOk result (λ found. IfNone found (IsUncommon MAX_SAFE_INTEGER text.now)) }

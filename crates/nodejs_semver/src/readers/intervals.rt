@@ -76,7 +76,10 @@ fn bound(alloc: Global, bare: &Bound<BareVersion<'_>>) -> Result<Bound<Version>,
 }
 
 // The interval of two bounds, where the lower cut is below the upper one.
-pub(crate) fn interval_of(alloc: Global, bounds: &Bounds<'_>) -> Result<Option<Interval<Version>>, AllocError>
+pub(crate) fn interval_of(
+    alloc: Global,
+    bounds: &Bounds<'_>,
+) -> Result<Option<Interval<Version>>, AllocError>
     ensures { IfOk result (λ found. found ≡ interval precedence (bounds_view bounds.now)) }
 {
     let lower = bound(alloc, &bounds.lower)?;

@@ -1,9 +1,9 @@
-use Rattle.std.proofs.Common.{◌≡◌, rules, List, ℕ, sym, ap, ◌∙◌, true, None, drop}
+use Rattle.std.proofs.Common.{◌≡◌, rules, List, ℕ, sym, ap, ◌∙◌, true}
 use Rattle.std.proofs.lemmas.List.{take_rest}
 use Rattle.semver_core.specs.Cuts.{Span}
 use Rattle.semver_core.specs.Versions.{VersionValue}
 use Rattle.semver_core.specs.declared.TheConstants.{MAX_SAFE_INTEGER}
-use Rattle.nodejs_semver.specs.CommonFronts.{begins_second, comparison_front, comparisons_front, passed, word_read}
+use Rattle.nodejs_semver.specs.CommonFronts.{begins_second, comparison_front, passed, word_read}
 use Rattle.nodejs_semver.specs.CommonViews.{bounds_front_view}
 use Rattle.nodejs_semver.specs.Fronts.{Front}
 use Rattle.nodejs_semver.specs.Readings.{bounds_view, rest_view}

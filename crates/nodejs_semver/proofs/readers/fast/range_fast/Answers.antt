@@ -1,5 +1,5 @@
-use Rattle.std.proofs.Common.{◌≡◌, List, ℕ, sym, ap, ◌∙◌, Some, subst}
-use Rattle.std.specs.Prelude.{Option, IfSome, Vec}
+use Rattle.std.proofs.Common.{◌≡◌, List, ℕ, subst}
+use Rattle.std.specs.Prelude.{IfSome}
 use Rattle.semver_core.specs.declared.TheConstants.{MAX_SAFE_INTEGER}
 use Rattle.nodejs_semver.specs.CommonText.{IsCommonRange}
 use Rattle.nodejs_semver.specs.Denotes.{denotes}
