@@ -2,10 +2,10 @@
 use Rattle.std.specs.Prelude.{◌≡◌, ℕ, List, Option, IfSome, IsSomeAnd, Result, Ok, Err, [], ⊤, option_and_then}
 use Rattle.serde_json.specs.Find.{as_str}
 use Rattle.serde_json.specs.Read.{read}
-use Rattle.nodejs_semver.specs.Denotes.{denotes}
+use Rattle.nodejs_semver.specs.Text.Denotes.{denotes}
 use Rattle.semver_core.specs.Cuts.{Span}
-use Rattle.semver_core.specs.Parsing.{Parses, IsRefused}
-use Rattle.semver_core.specs.Versions.{VersionValue}
+use Rattle.semver_core.specs.Text.Parsing.{Parses, IsRefused}
+use Rattle.semver_core.specs.Values.Versions.{VersionValue}
 use Rattle.semver_core.specs.declared.TheConstants.{MAX_SAFE_INTEGER}
 use Rattle.semver_core.specs.declared.error.Failure.{Failure}
 use Rattle.semver_core.specs.declared.error.Failure.TheVariants.{Refused, Memory}

@@ -6,8 +6,8 @@ ghost use Rattle.serde_json.specs.Find.{as_str};
 ghost use Rattle.serde_json.specs.View.{view};
 ghost use Rattle.serde_json.specs.Written.{compact_text};
 ghost use Rattle.nodejs_semver.specs.Json.{json_string, ReadsRange, ReadsVersion};
-ghost use Rattle.nodejs_semver.specs.Printed.{range_text};
-ghost use Rattle.semver_core.specs.Printed.{version_text};
+ghost use Rattle.nodejs_semver.specs.Printing.Text.{range_text};
+ghost use Rattle.semver_core.specs.Printing.Text.{version_text};
 
 use crate::Range;
 use semver_core::{Failure, SemverError, Version};

@@ -4,7 +4,7 @@ ghost use Rattle.std.specs.Prelude.{◌≡◌, ◌+◌, IfOk, IsOk, true};
 ghost use Rattle.std.specs.List.{list_all};
 ghost use Rattle.semver_core.specs.declared.TheConstants.{MAX_SAFE_INTEGER};
 ghost use Rattle.semver_core.specs.Cuts.{if_any};
-ghost use Rattle.nodejs_semver.specs.RangeView.{IsRange, is_range_span, any_version};
+ghost use Rattle.nodejs_semver.specs.Ranges.View.{IsRange, is_range_span, any_version};
 
 mod algebra;
 mod best;
@@ -39,9 +39,9 @@ pub struct Range {
 impl Model for Range {
     ghost use Rattle.std.specs.Prelude.{List};
     ghost use Rattle.semver_core.specs.Cuts.{Span};
-    ghost use Rattle.semver_core.specs.Versions.{VersionValue};
+    ghost use Rattle.semver_core.specs.Values.Versions.{VersionValue};
     ghost use Rattle.semver_core.specs.declared.TheConstants.{MAX_SAFE_INTEGER};
-    ghost use Rattle.nodejs_semver.specs.RangeView.{IsRange};
+    ghost use Rattle.nodejs_semver.specs.Ranges.View.{IsRange};
 
     ghost Value = { List (Span VersionValue) };
 

@@ -3,7 +3,7 @@
 ghost use Rattle.std.specs.Prelude.{◌≡◌, ◌↔◌, IsNone};
 ghost use Rattle.std.specs.declared.cmp.Ordering.TheVariants.{Equal};
 ghost use Rattle.semver_core.specs.Difference.{difference, difference_up};
-ghost use Rattle.semver_core.specs.Order.{precedence};
+ghost use Rattle.semver_core.specs.Values.Order.{precedence};
 
 use crate::Version;
 use crate::increment::is_release;
@@ -100,7 +100,7 @@ impl Version {
     /// A pre-release differs from a higher release by what was still to be released: by `Major` from 1.0.0-1 to any
     /// release above it. Elsewhere the first of the numbers that differs decides, and whether the higher version is
     /// a release.
-    #[tactic(auto, using(crate::proofs::DifferenceLaws::difference_symmetric))]
+    #[tactic(auto, using(crate::proofs::Increments::Differences::difference_symmetric))]
     pub fn diff(&self, other: &Version) -> Option<VersionDiff>
         ensures value { result ≡ difference self.now other.now }
         ensures none { IsNone result ↔ (precedence self.now other.now ≡ Equal) }

@@ -1,13 +1,13 @@
 // Identifiers: what they are, their order, equality and hash.
 
 ghost use Rattle.std.specs.Prelude.{◌≡◌, ◌<◌, Some, refl, IfOk, OnErr, length};
-ghost use Rattle.semver_core.specs.Identifiers.{IsText};
+ghost use Rattle.semver_core.specs.Text.Identifiers.{IsText};
 ghost use Rattle.std.specs.Cmp.{eq_by_cmp_equiv, on_equiv, on_per, on_po, on_total, partial_equiv_from_equiv, po};
 ghost use Rattle.std.specs.Ordering.{is_eq, eq_by_cmp};
-ghost use Rattle.semver_core.specs.Hashes.{id_writes};
-ghost use Rattle.semver_core.specs.Order.{id_cmp};
-ghost use Rattle.semver_core.specs.OrderLaws.{id_alike, id_total};
-ghost use Rattle.semver_core.specs.Views.{id_view, ids_view};
+ghost use Rattle.semver_core.specs.Values.Hashes.{id_writes};
+ghost use Rattle.semver_core.specs.Values.Order.{id_cmp};
+ghost use Rattle.semver_core.specs.Internal.OrderLaws.{id_alike, id_total};
+ghost use Rattle.semver_core.specs.Values.Views.{id_view, ids_view};
 
 use std::alloc::{AllocError, Global};
 use std::cmp::Ordering;

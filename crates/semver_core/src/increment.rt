@@ -1,11 +1,11 @@
 // Increments: the next version by a word, as release tools ask for it.
 
 ghost use Rattle.std.specs.Prelude.{◌≡◌, IfOk, OnErr, codes, false};
-ghost use Rattle.semver_core.specs.Increment as spec;
-ghost use Rattle.semver_core.specs.IncrementLeast.{CanStep, HasNoIdentifier, IsAbove, IsLeastAnswer, IsLeastOrOverflow, IsNextMajor, IsNextMinor, IsNextPatch, IsOfNextMajor, IsOfNextMinor, IsOfNextPatch, IsPlain};
-ghost use Rattle.semver_core.specs.IncrementView.{HasText, IfAnswered, Returns, fault_of, given};
-ghost use Rattle.semver_core.specs.IncrementSteps.{RefusedWith};
-ghost use Rattle.semver_core.specs.Versions.{IsVersion};
+ghost use Rattle.semver_core.specs.Increments.Table as spec;
+ghost use Rattle.semver_core.specs.Increments.Least.{CanStep, HasNoIdentifier, IsAbove, IsLeastAnswer, IsLeastOrOverflow, IsNextMajor, IsNextMinor, IsNextPatch, IsOfNextMajor, IsOfNextMinor, IsOfNextPatch, IsPlain};
+ghost use Rattle.semver_core.specs.Increments.View.{HasText, IfAnswered, Returns, fault_of, given};
+ghost use Rattle.semver_core.specs.Internal.IncrementSteps.{RefusedWith};
+ghost use Rattle.semver_core.specs.Values.Versions.{IsVersion};
 
 use crate::increment::words::by_word;
 use crate::{Failure, Version};

@@ -2,8 +2,8 @@
 
 ghost use Rattle.std.specs.Fmt.{DisplaysStyledOnOk};
 ghost use Rattle.std.specs.Prelude.{Some};
-ghost use Rattle.semver_core.specs.Printed.{id_text, marked_list, version_text};
-ghost use Rattle.semver_core.specs.Views.{id_view, ids_view};
+ghost use Rattle.semver_core.specs.Printing.Text.{id_text, marked_list, version_text};
+ghost use Rattle.semver_core.specs.Values.Views.{id_view, ids_view};
 
 mod unstyled;
 

@@ -7,14 +7,14 @@
 ghost use Rattle.std.specs.Prelude.{◌≡◌, ◌≤◌, ◌==◌, ◌+◌, ◌<◌, if◌then◌else◌, ℕ, List, [], length, drop, take, IfOk, IfSome, IfNone, OnErr, IsCharBoundary, IsUtf8, Ok, None, Some, false, true};
 ghost use Rattle.std.specs.Char.{is_ascii_digit};
 ghost use Rattle.std.specs.List.{prefix_len};
-ghost use Rattle.semver_core.specs.CommonReading.{grown, run_from, number_of_run};
-ghost use Rattle.semver_core.specs.Characters.{is_identifier_char, is_whitespace, begins, IsAfterBlank, IsPieceAt, NoPieceAt};
-ghost use Rattle.semver_core.specs.Identifiers.{Id, identifier_of, goes_on, IsLongestIdentifiers};
-ghost use Rattle.semver_core.specs.Numbers.{IsWholeNumber};
-ghost use Rattle.semver_core.specs.Reading.{number_at, list_at};
-ghost use Rattle.semver_core.specs.Views.{id_view, ids_view, list_view};
-ghost use Rattle.semver_core.specs.Characters.{IsTrim};
-ghost use Rattle.semver_core.specs.Spaces.{drop_end_spaces, drop_spaces, goes_on_with, is_space_of_two, is_space_of_three, space_len};
+ghost use Rattle.semver_core.specs.Internal.CommonReading.{grown, run_from, number_of_run};
+ghost use Rattle.semver_core.specs.Text.Characters.{is_identifier_char, is_whitespace, begins, IsAfterBlank, IsPieceAt, NoPieceAt};
+ghost use Rattle.semver_core.specs.Text.Identifiers.{Id, identifier_of, goes_on, IsLongestIdentifiers};
+ghost use Rattle.semver_core.specs.Text.Numbers.{IsWholeNumber};
+ghost use Rattle.semver_core.specs.Internal.Reading.{number_at, list_at};
+ghost use Rattle.semver_core.specs.Values.Views.{id_view, ids_view, list_view};
+ghost use Rattle.semver_core.specs.Text.Characters.{IsTrim};
+ghost use Rattle.semver_core.specs.Internal.Spaces.{drop_end_spaces, drop_spaces, goes_on_with, is_space_of_two, is_space_of_three, space_len};
 
 use crate::version::lists::Identifiers;
 use crate::{Identifier, MAX_SAFE_INTEGER};
@@ -22,7 +22,7 @@ use smallvec::SmallVec;
 use std::alloc::{AllocError, Global};
 
 /// Returns the longest text at the front of some bytes, which is all of them where they are UTF-8.
-#[tactic(auto, using(crate::proofs::TextFront::none_is_all, crate::proofs::TextFront::text_is_all))]
+#[tactic(auto, using(crate::proofs::Text::TextFront::none_is_all, crate::proofs::Text::TextFront::text_is_all))]
 pub fn text_front(bytes: &[u8]) -> &str
     ensures { IsUtf8 bytes.now → result.now ≡ bytes.now }
 {
@@ -78,7 +78,7 @@ fn is_space_of_three(a: u8, b: u8, c: u8) -> bool
 /// Returns how many bytes the whitespace character at the front of a text takes, and 0 where none
 /// stands there. Whitespace is what `skip_whitespace` skips.
 #[inline(always)]
-#[tactic(auto, unfolding(crate::specs::Spaces::space_len))]
+#[tactic(auto, unfolding(crate::specs::Internal::Spaces::space_len))]
 pub fn space_len(text: &[u8]) -> usize
     ensures value { result ≡ space_len text.now }
     ensures fits { result ≤ length text.now }
@@ -119,7 +119,7 @@ pub fn skip_spaces(text: &[u8]) -> &[u8]
 /// character boundary. Place 0 is one by std's lemma `IsCharBoundary-start` (of
 /// `Rattle.std.proofs.lemmas.Str`): the goal of a call `skip_whitespace(text, 0)` is answered by
 /// `IsCharBoundary-start c.args.text.now c.utf8.text`.
-#[tactic(auto, using(crate::proofs::Blanks::passed_none, crate::proofs::Blanks::passed_more, crate::proofs::Blanks::passed_room, crate::proofs::Blanks::passed_stop, crate::proofs::Blanks::passed_end))]
+#[tactic(auto, using(crate::proofs::Text::Blanks::passed_none, crate::proofs::Text::Blanks::passed_more, crate::proofs::Text::Blanks::passed_room, crate::proofs::Text::Blanks::passed_stop, crate::proofs::Text::Blanks::passed_end))]
 pub fn skip_whitespace(text: &str, at: usize) -> usize
     requires { IsCharBoundary text.now at }
     ensures { IsAfterBlank text.now at result }
@@ -217,7 +217,7 @@ pub(crate) fn read_number(text: &str, at: usize) -> Option<(u64, usize)>
 }
 
 #[inline(always)]
-#[tactic(auto, using(crate::proofs::Digits::digits_step, crate::proofs::Digits::digits_over, crate::proofs::Digits::digits_stop, crate::proofs::Digits::digits_past, crate::proofs::Digits::digits_placed))]
+#[tactic(auto, using(crate::proofs::Text::Digits::digits_step, crate::proofs::Text::Digits::digits_over, crate::proofs::Text::Digits::digits_stop, crate::proofs::Text::Digits::digits_past, crate::proofs::Text::Digits::digits_placed))]
 pub(crate) fn digits(bytes: &[u8], at: usize) -> Option<(u64, usize)>
     requires { at ≤ length bytes.now }
     ensures found { result ≡ number_at MAX_SAFE_INTEGER bytes.now at }
@@ -270,7 +270,7 @@ pub fn goes_on(text: &[u8]) -> bool
 }
 
 #[inline(always)]
-#[tactic(auto, using(crate::proofs::Runs::rest_from))]
+#[tactic(auto, using(crate::proofs::Text::Runs::rest_from))]
 pub(crate) fn begins_at(text: &str, at: usize) -> bool
     requires { at ≤ length text.now }
     ensures { result ≡ begins is_identifier_char (drop at text.now) }
@@ -279,7 +279,7 @@ pub(crate) fn begins_at(text: &str, at: usize) -> bool
 }
 
 #[inline(always)]
-#[tactic(auto, using(crate::proofs::Runs::rest_from))]
+#[tactic(auto, using(crate::proofs::Text::Runs::rest_from))]
 fn goes_on_at(text: &str, at: usize) -> bool
     requires { at ≤ length text.now }
     ensures { result ≡ goes_on (drop at text.now) }
@@ -290,7 +290,7 @@ fn goes_on_at(text: &str, at: usize) -> bool
 // The number that digits write so far, with one byte more: none where a byte is no digit, or the
 // number does not fit.
 #[inline(always)]
-#[tactic(auto, using(crate::proofs::OnePass::grown_small, crate::proofs::OnePass::grown_big))]
+#[tactic(auto, using(crate::proofs::Text::OnePass::grown_small, crate::proofs::Text::OnePass::grown_big))]
 fn grown(number: Option<u64>, byte: u8) -> Option<u64>
     ensures { result ≡ grown number byte }
 {
@@ -303,7 +303,7 @@ fn grown(number: Option<u64>, byte: u8) -> Option<u64>
 
 // Where the run at a place ends, and the number that it writes, in one pass.
 #[inline(always)]
-#[tactic(auto, using(crate::proofs::OnePass::run_step, crate::proofs::OnePass::run_stop, crate::proofs::OnePass::run_past))]
+#[tactic(auto, using(crate::proofs::Text::OnePass::run_step, crate::proofs::Text::OnePass::run_stop, crate::proofs::Text::OnePass::run_past))]
 fn scan_run(bytes: &[u8], start: usize) -> (usize, Option<u64>)
     requires { start ≤ length bytes.now }
     ensures { result ≡ run_from (Some 0) start (drop start bytes.now) }
@@ -336,7 +336,7 @@ fn run_in(text: &str, start: usize) -> (usize, Option<u64>)
 
 // The identifier at a place where a run begins, and the place behind it.
 #[inline(always)]
-#[tactic(auto, using(crate::proofs::OnePass::scan_number, crate::proofs::OnePass::scan_text))]
+#[tactic(auto, using(crate::proofs::Text::OnePass::scan_number, crate::proofs::Text::OnePass::scan_text))]
 fn read_run(alloc: Global, text: &str, start: usize) -> Result<(Identifier, usize), AllocError>
     requires place { start ≤ length text.now }
     requires here { begins is_identifier_char (drop start text.now) ≡ true }

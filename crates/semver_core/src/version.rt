@@ -2,11 +2,11 @@
 
 ghost use Rattle.std.specs.Prelude.{◌≡◌, ◌↔◌, Some, refl, IsTrue, IfOk, All, true, false, length, ◌<◌};
 ghost use Rattle.semver_core.specs.Failures.{MemoryOnlyIf, RefusedOnlyIf};
-ghost use Rattle.semver_core.specs.Grammar.{Reads, HasNoVersion, HasVersionWithIdentifiers};
-ghost use Rattle.semver_core.specs.Parsing.{Parses, IsRefused, NeedsMemory};
-ghost use Rattle.semver_core.specs.Versions.{VersionValue, IsVersion, IsId, release_value};
-ghost use Rattle.semver_core.specs.ListView.{IsFull, build_of, pre_release_of};
-ghost use Rattle.semver_core.specs.Views.{ids_view, id_view};
+ghost use Rattle.semver_core.specs.Text.VersionText.{Reads, HasNoVersion, HasVersionWithIdentifiers};
+ghost use Rattle.semver_core.specs.Text.Parsing.{Parses, IsRefused, NeedsMemory};
+ghost use Rattle.semver_core.specs.Values.Versions.{VersionValue, IsVersion, IsId, release_value};
+ghost use Rattle.semver_core.specs.Internal.ListView.{IsFull, build_of, pre_release_of};
+ghost use Rattle.semver_core.specs.Values.Views.{ids_view, id_view};
 
 pub mod accepts;
 mod convert;
@@ -34,11 +34,11 @@ pub struct Version {
 }
 
 impl Model for Version {
-    ghost use Rattle.semver_core.specs.Versions.{VersionValue};
+    ghost use Rattle.semver_core.specs.Values.Versions.{VersionValue};
 
     ghost Value = { VersionValue };
 
-    ghost use Rattle.semver_core.specs.VersionView.{value_of, IsValid};
+    ghost use Rattle.semver_core.specs.Values.VersionView.{value_of, IsValid};
 
     ghost view = { value_of };
 
@@ -196,7 +196,7 @@ fn is_id(id: &Identifier)
 
 // Proof helper: likewise each identifier of a list. The loop has no effect, so that the compiler drops it.
 #[inline(always)]
-#[tactic(auto, using(crate::proofs::Compared::ids_more, crate::proofs::Compared::ids_all))]
+#[tactic(auto, using(crate::proofs::Values::Compared::ids_more, crate::proofs::Values::Compared::ids_all))]
 fn are_ids(list: &[Identifier])
     ensures { All IsId (ids_view list.now) }
 {

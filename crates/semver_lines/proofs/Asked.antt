@@ -3,8 +3,8 @@ use Rattle.std.proofs.Common.{◌≡◌, ◌≢◌, ◌<◌, ◌==◌, ◌∙◌
 use Rattle.std.proofs.lemmas.Bool.{false≢true}
 use Rattle.std.proofs.lemmas.List.Splits.{length-slice_split}
 use Rattle.std.specs.Str.{bytes_eq}
-use Rattle.semver_lines.specs.CommandWords as by_command
-use Rattle.semver_lines.specs.CommandWords.{IsUnknown}
+use Rattle.semver_lines.specs.Internal.CommandWords as by_command
+use Rattle.semver_lines.specs.Internal.CommandWords.{IsUnknown}
 use Rattle.semver_lines.specs.Commands.{Asks}
 use Rattle.semver_lines.specs.Lines.{fields}
 use Rattle.semver_lines.specs.declared.command.Command.{Command}

@@ -3,7 +3,7 @@ use Rattle.std.proofs.Common.{◌≡◌, ◌==◌, ◌&&◌, ◌++◌, ◌∷◌
 use Rattle.std.proofs.lemmas.Bool.{cases_Bool, eqb-true, false≢true}
 use Rattle.std.proofs.lemmas.List.Folds.{list_all-append}
 use Rattle.std.specs.List.{flat_map}
-use Rattle.semver_lines.specs.LineCuts.{cut_lines, cut_rest}
+use Rattle.semver_lines.specs.Internal.LineCuts.{cut_lines, cut_rest}
 use Rattle.semver_lines.specs.Lines.{HasLines, ended, no_feed}
 
 pub cut_lines-append : (p xs ys : List ℕ) → cut_lines p (xs ++ ys) ≡ cut_lines p xs ++ cut_lines (cut_rest p xs) ys

@@ -5,10 +5,10 @@ use Rattle.std.specs.Prelude.{⊤}
 use Rattle.std.specs.Io.KnownBytes.{Appends, Consumes, IsAtEnd}
 use Rattle.std.specs.declared.alloc.AllocError.{AllocError}
 use Rattle.semver_lines.specs.Answers.{Answers}
-use Rattle.semver_lines.specs.LineCuts.{cut_lines, cut_rest}
+use Rattle.semver_lines.specs.Internal.LineCuts.{cut_lines, cut_rest}
 use Rattle.semver_lines.specs.Lines.{last_line}
 use Rattle.semver_lines.specs.Outcome.{AnswersFront, AnswersTorn, Ran}
-use Rattle.semver_lines.specs.Steps.{Finished, GrowsByAnswers, GrowsByFront, Stopped, Turned, WritesFront}
+use Rattle.semver_lines.specs.Internal.Steps.{Finished, GrowsByAnswers, GrowsByFront, Stopped, Turned, WritesFront}
 use Rattle.semver_lines.specs.declared.run.RunFault.{RunFault}
 use Rattle.semver_lines.specs.declared.run.RunFault.TheVariants.{Memory, Read, Write}
 use Rattle.semver_lines.proofs.CutLaws.{cut_has, cut_lines-append, cut_rest-append}

@@ -5,7 +5,7 @@ use Rattle.semver_core.specs.declared.error.Failure.{Failure}
 use Rattle.semver_core.specs.declared.error.Failure.TheVariants.{Refused, Memory}
 use Rattle.semver_lines.specs.Names.{fault_word}
 use Rattle.semver_lines.specs.Replies.{On, Says, read, fault}
-use Rattle.semver_lines.specs.Results.{IsRead, IsTold}
+use Rattle.semver_lines.specs.Internal.Results.{IsRead, IsTold}
 use Rattle.semver_lines.specs.declared.fault.Fault.{Fault}
 
 -- what holds of a text holds of the answer that says it

@@ -1,13 +1,13 @@
 -- The versions of several texts.
 use Rattle.std.proofs.Common.{◌≡◌, ◌<◌, ℕ, ◌+◌, List, [], ◌∷◌, ◌++◌, suc, length, get_or, take, drop, sym, ap, ◌∙◌, subst, arith, drop-cons, take-append-drop, inl, inr, Err}
 use Rattle.std.proofs.lemmas.List.{take_more, take_all}
-use Rattle.semver_core.specs.Parsing.{Parses, IsRefused}
-use Rattle.semver_core.specs.Versions.{VersionValue}
+use Rattle.semver_core.specs.Text.Parsing.{Parses, IsRefused}
+use Rattle.semver_core.specs.Values.Versions.{VersionValue}
 use Rattle.semver_core.specs.declared.TheConstants.{MAX_SAFE_INTEGER}
 use Rattle.semver_core.specs.declared.error.Failure.{Failure}
 use Rattle.semver_core.specs.declared.error.Failure.TheVariants.{Refused, Memory}
 use Rattle.semver_lines.specs.Replies.{AllParse, AnyRefused, AreVersionsOf, IsVersionOf}
-use Rattle.semver_lines.specs.Results.{IsRead}
+use Rattle.semver_lines.specs.Internal.Results.{IsRead}
 use Rattle.semver_lines.specs.declared.fault.Fault.{Fault}
 
 parse_one_more : (texts : List (List ℕ)) (vs : List VersionValue) (text : List ℕ) (v : VersionValue) → AllParse texts vs → Parses MAX_SAFE_INTEGER text v → AllParse (texts ++ text ∷ []) (vs ++ v ∷ [])

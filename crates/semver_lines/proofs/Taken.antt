@@ -2,9 +2,9 @@
 use Rattle.std.proofs.Common.{◌≡◌, ◌++◌, ◌∷◌, ◌∙◌, ℕ, true, List, [], Result, Ok, Err, OnOk, OnErr, is_ok, if◌then◌else◌, sym, ap, subst, append_assoc, append-nil}
 use Rattle.std.specs.Prelude.{⊤}
 use Rattle.std.specs.declared.alloc.AllocError.{AllocError}
-use Rattle.semver_lines.specs.LineCuts.{cut_lines, cut_rest}
+use Rattle.semver_lines.specs.Internal.LineCuts.{cut_lines, cut_rest}
 use Rattle.semver_lines.specs.Lines.{ended, no_feed}
-use Rattle.semver_lines.specs.Steps.{GrowsByAnswers, GrowsByFront}
+use Rattle.semver_lines.specs.Internal.Steps.{GrowsByAnswers, GrowsByFront}
 use Rattle.semver_lines.proofs.CutLaws.{cut_line, cut_lines-append, cut_none, cut_rest-append}
 use Rattle.semver_lines.proofs.Told.{grows_front, grows_on}
 

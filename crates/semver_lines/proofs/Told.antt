@@ -8,7 +8,7 @@ use Rattle.std.specs.List.{flat_map}
 use Rattle.semver_lines.specs.Answers.{AllAnswer, Answers, IsAnswer}
 use Rattle.semver_lines.specs.Lines.{ended}
 use Rattle.semver_lines.specs.Outcome.{AnswersFront, AnswersTorn}
-use Rattle.semver_lines.specs.Steps.{GrowsByAnswer, GrowsByAnswers, GrowsByFront}
+use Rattle.semver_lines.specs.Internal.Steps.{GrowsByAnswer, GrowsByAnswers, GrowsByFront}
 
 AllAnswer-append : (xs ys answers others : List (List ℕ)) → AllAnswer xs answers → AllAnswer ys others → AllAnswer (xs ++ ys) (answers ++ others)
 AllAnswer-append [] ys [] others h k = k

@@ -1,15 +1,15 @@
 -- Statement. The questions of the lines: the fields that ask each one, and what it is answered.
 use Rattle.std.specs.Prelude.{◌≡◌, ℕ, List, [], ◌∷◌, codes, Some, None, true, false}
 use Rattle.semver_core.specs.Difference.{difference}
-use Rattle.semver_core.specs.Increment.{answer_of_inc}
-use Rattle.semver_core.specs.Order.{precedence}
-use Rattle.semver_core.specs.Printed.{version_text}
-use Rattle.nodejs_semver.specs.Accepts.{accepts}
-use Rattle.nodejs_semver.specs.Best.{IsMax, IsMin}
-use Rattle.nodejs_semver.specs.Lists.{intersection}
-use Rattle.nodejs_semver.specs.Lists as lists
-use Rattle.nodejs_semver.specs.Outside.{is_outside}
-use Rattle.nodejs_semver.specs.Printed.{range_text}
+use Rattle.semver_core.specs.Increments.Table.{answer_of_inc}
+use Rattle.semver_core.specs.Values.Order.{precedence}
+use Rattle.semver_core.specs.Printing.Text.{version_text}
+use Rattle.nodejs_semver.specs.Ranges.Gate.{accepts}
+use Rattle.nodejs_semver.specs.Ranges.Best.{IsMax, IsMin}
+use Rattle.nodejs_semver.specs.Ranges.Algebra.{intersection}
+use Rattle.nodejs_semver.specs.Ranges.Algebra as lists
+use Rattle.nodejs_semver.specs.Ranges.Outside.{is_outside}
+use Rattle.nodejs_semver.specs.Printing.Text.{range_text}
 use Rattle.semver_lines.specs.Lines.{fields}
 use Rattle.semver_lines.specs.Names.{base_named, direction_named, difference_word, next_text, order_word, range_or_none, truth_word}
 use Rattle.semver_lines.specs.Replies.{IsVersionOf, IsRangeOf, TwoVersions, TwoRanges, RangeAndVersion, RangeAndVersions, On, Says, IsLeastReply, IsBeyondReply, IsBestReply}

@@ -4,7 +4,4 @@ pub mod Replies
 pub mod Commands
 pub mod Answers
 pub mod Outcome
-pub mod LineCuts
-pub mod Results
-pub mod CommandWords
-pub mod Steps
+pub mod Internal

@@ -5,13 +5,13 @@ use Rattle.std.specs.declared.cmp.Ordering.{Ordering}
 use Rattle.std.specs.declared.cmp.Ordering.TheVariants.{Less, Equal, Greater}
 use Rattle.semver_core.specs.Cuts.{Span}
 use Rattle.semver_core.specs.Difference as difference
-use Rattle.semver_core.specs.Increment as increment
-use Rattle.semver_core.specs.Printed.{version_text}
-use Rattle.semver_core.specs.Versions.{VersionValue}
+use Rattle.semver_core.specs.Increments.Table as increment
+use Rattle.semver_core.specs.Printing.Text.{version_text}
+use Rattle.semver_core.specs.Values.Versions.{VersionValue}
 use Rattle.semver_core.specs.declared.difference.VersionDiff.{VersionDiff}
 use Rattle.semver_core.specs.declared.increment.IdentifierBase.{IdentifierBase}
 use Rattle.semver_core.specs.declared.increment.IdentifierBase.TheVariants.{False, Value}
-use Rattle.nodejs_semver.specs.Printed.{range_text}
+use Rattle.nodejs_semver.specs.Printing.Text.{range_text}
 use Rattle.nodejs_semver.specs.declared.range.outside.OutsideDirection.{OutsideDirection}
 use Rattle.nodejs_semver.specs.declared.range.outside.OutsideDirection.TheVariants.{Higher, Lower}
 use Rattle.semver_lines.specs.declared.fault.Fault.{Fault}

@@ -3,12 +3,12 @@
 use Rattle.std.specs.Prelude.{◌≡◌, ◌<◌, ◌⊎◌, ℕ, List, [], ◌∷◌, length, Bool, Option, IfSome, Result, Ok, Err, false, ⊤}
 use Rattle.std.specs.Borrow.{Bor}
 use Rattle.semver_core.specs.Cuts.{Span}
-use Rattle.semver_core.specs.Parsing.{Parses, IsRefused}
-use Rattle.semver_core.specs.Versions.{VersionValue}
+use Rattle.semver_core.specs.Text.Parsing.{Parses, IsRefused}
+use Rattle.semver_core.specs.Values.Versions.{VersionValue}
 use Rattle.semver_core.specs.declared.TheConstants.{MAX_SAFE_INTEGER}
-use Rattle.nodejs_semver.specs.Accepts.{accepts}
-use Rattle.nodejs_semver.specs.Denotes.{denotes}
-use Rattle.nodejs_semver.specs.Least.{IsLeastOf, beyond, least_build}
+use Rattle.nodejs_semver.specs.Ranges.Gate.{accepts}
+use Rattle.nodejs_semver.specs.Text.Denotes.{denotes}
+use Rattle.nodejs_semver.specs.Ranges.Least.{IsLeastOf, beyond, least_build}
 use Rattle.semver_lines.specs.Lines.{fields}
 use Rattle.semver_lines.specs.Names.{fault_word, version_or_none}
 use Rattle.semver_lines.specs.declared.fault.Fault.{Fault}

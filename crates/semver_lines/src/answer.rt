@@ -2,8 +2,8 @@
 
 ghost use Rattle.std.specs.Prelude.{◌≡◌, [], OnOk, OnErr, string_bytes};
 ghost use Rattle.semver_lines.specs.Answers.{IsAnswer};
-ghost use Rattle.semver_lines.specs.Results.{IsTold};
-ghost use Rattle.semver_lines.specs.Steps.{GrowsByAnswer};
+ghost use Rattle.semver_lines.specs.Internal.Results.{IsTold};
+ghost use Rattle.semver_lines.specs.Internal.Steps.{GrowsByAnswer};
 
 use crate::fault::Fault;
 use crate::question::Question;

@@ -21,7 +21,7 @@ pub enum Command {
 
 impl Command {
     ghost use Rattle.std.specs.Prelude.{◌≡◌, IfSome, IfNone};
-    ghost use Rattle.semver_lines.specs.CommandWords.{word_of, IsUnknown};
+    ghost use Rattle.semver_lines.specs.Internal.CommandWords.{word_of, IsUnknown};
 
     /// The command of this word.
     #[inline]

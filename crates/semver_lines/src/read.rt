@@ -2,7 +2,7 @@
 
 ghost use Rattle.semver_lines.specs.Lines.{fields};
 ghost use Rattle.semver_lines.specs.Replies.{AreVersionsOf, IsRangeOf, IsVersionOf, RangeAndVersion, RangeAndVersions, TwoRanges, TwoVersions};
-ghost use Rattle.semver_lines.specs.Results.{IsRead, IsReadAs};
+ghost use Rattle.semver_lines.specs.Internal.Results.{IsRead, IsReadAs};
 
 use crate::fault::Fault;
 use nodejs_semver::{Failure, Range, Version};

@@ -2,11 +2,11 @@
 
 ghost use Rattle.std.specs.Option.{option_copied};
 ghost use Rattle.std.specs.Prelude.{◌≡◌, [], string_bytes};
-ghost use Rattle.semver_core.specs.Increment.{answer_of_inc};
+ghost use Rattle.semver_core.specs.Increments.Table.{answer_of_inc};
 ghost use Rattle.semver_lines.specs.Commands.{IsReply};
 ghost use Rattle.semver_lines.specs.Names.{next_text};
 ghost use Rattle.semver_lines.specs.Replies.{IsVersionOf, On, Says};
-ghost use Rattle.semver_lines.specs.Results.{IsTold};
+ghost use Rattle.semver_lines.specs.Internal.Results.{IsTold};
 ghost use Rattle.semver_lines.specs.declared.question.Question.{Question};
 
 use crate::fault::Fault;

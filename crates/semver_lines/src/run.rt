@@ -2,10 +2,10 @@
 
 ghost use Rattle.std.specs.Prelude.{◌≡◌, ◌+◌, ◌<◌, ◌≤◌, ◌++◌, ◌∷◌, [], true, length, take, drop, IfSome, IfNone, IfOk, IfErr, OnOk, OnErr, string_bytes};
 ghost use Rattle.std.specs.Io.KnownBytes.{Appends, Consumes, Keeps, IsAtEnd};
-ghost use Rattle.semver_lines.specs.LineCuts.{cut_lines, cut_rest};
+ghost use Rattle.semver_lines.specs.Internal.LineCuts.{cut_lines, cut_rest};
 ghost use Rattle.semver_lines.specs.Lines.{last_line, no_feed};
 ghost use Rattle.semver_lines.specs.Outcome.{Ran};
-ghost use Rattle.semver_lines.specs.Steps.{Finished, GrowsByAnswers, GrowsByFront, Stopped, Turned, WritesFront};
+ghost use Rattle.semver_lines.specs.Internal.Steps.{Finished, GrowsByAnswers, GrowsByFront, Stopped, Turned, WritesFront};
 
 use crate::answer::answer_line;
 use memchr::memchr;

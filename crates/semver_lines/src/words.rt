@@ -2,12 +2,12 @@
 
 ghost use Rattle.std.specs.Option.{option_copied};
 ghost use Rattle.std.specs.Prelude.{◌≡◌, [], Result, string_bytes};
-ghost use Rattle.semver_core.specs.Increment as increment;
-ghost use Rattle.semver_core.specs.IncrementView.{Returns, fault_of};
-ghost use Rattle.semver_core.specs.Versions.{VersionValue};
+ghost use Rattle.semver_core.specs.Increments.Table as increment;
+ghost use Rattle.semver_core.specs.Increments.View.{Returns, fault_of};
+ghost use Rattle.semver_core.specs.Values.Versions.{VersionValue};
 ghost use Rattle.semver_lines.specs.Names.{difference_word, increment_fault_word, next_text, order_word, range_or_none, truth_word, version_or_none};
 ghost use Rattle.semver_lines.specs.Replies.{Says};
-ghost use Rattle.semver_lines.specs.Results.{IsTold};
+ghost use Rattle.semver_lines.specs.Internal.Results.{IsTold};
 
 use crate::fault::Fault;
 use nodejs_semver::{Failure, IncrementError, Range, Version, VersionDiff};

@@ -1,12 +1,12 @@
 // The headline of this crate. It rests on the contracts of the public calls alone.
 
 ghost use Rattle.std.specs.Prelude.{◌≡◌, ◌<◌, ◌⊎◌, ◌&&◌, not, [], length, IfOk, OnOk, true, false};
-ghost use Rattle.nodejs_semver.specs.Accepts.{accepts, option_accepts};
-ghost use Rattle.nodejs_semver.specs.Denotes.{denotes};
-ghost use Rattle.nodejs_semver.specs.Least.{IsLeastOf};
-ghost use Rattle.nodejs_semver.specs.Written.{writes};
+ghost use Rattle.nodejs_semver.specs.Ranges.Gate.{accepts, option_accepts};
+ghost use Rattle.nodejs_semver.specs.Text.Denotes.{denotes};
+ghost use Rattle.nodejs_semver.specs.Ranges.Least.{IsLeastOf};
+ghost use Rattle.nodejs_semver.specs.Text.WrittenSet.{writes};
 ghost use Rattle.semver_core.specs.Failures.{RefusedOnlyIf};
-ghost use Rattle.semver_core.specs.Versions.{VersionValue};
+ghost use Rattle.semver_core.specs.Values.Versions.{VersionValue};
 
 use crate::{Failure, MAX_SAFE_INTEGER, Range, SemverError, Version};
 use std::alloc::Global;

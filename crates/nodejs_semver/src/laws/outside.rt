@@ -1,6 +1,6 @@
 // What `Range::outside` says of the cuts of the intervals.
 
-ghost use Rattle.nodejs_semver.specs.Outside.{is_outside_by_cuts};
+ghost use Rattle.nodejs_semver.specs.Ranges.Outside.{is_outside_by_cuts};
 ghost use Rattle.std.specs.Prelude.{Ok, ◌≡◌};
 
 use crate::{OutsideDirection, Range, RangeError, Version};

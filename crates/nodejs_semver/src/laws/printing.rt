@@ -2,9 +2,9 @@
 
 ghost use Rattle.std.specs.Prelude.{◌≡◌, IfOk, map, string_bytes, true};
 ghost use Rattle.std.specs.List.{list_all};
-ghost use Rattle.nodejs_semver.specs.ComesBack.{RangesComeBack, is_printable, read_back};
-ghost use Rattle.nodejs_semver.specs.Printed.{range_text};
-ghost use Rattle.nodejs_semver.specs.SameRange.{range_eq};
+ghost use Rattle.nodejs_semver.specs.Printing.RoundTrip.{RangesComeBack, is_printable, read_back};
+ghost use Rattle.nodejs_semver.specs.Printing.Text.{range_text};
+ghost use Rattle.nodejs_semver.specs.Ranges.Equality.{range_eq};
 ghost use Rattle.semver_core.specs.Failures.{NeverRefused};
 
 use crate::{Failure, MAX_SAFE_INTEGER, Range, SemverError};

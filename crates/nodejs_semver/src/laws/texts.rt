@@ -1,8 +1,8 @@
 // What is said of range texts.
 
-ghost use Rattle.nodejs_semver.specs.RangeLaws.{LongestPartialsAreRead, PartialsAreWritten, BarsDivide, BarsDivideOnce, IntervalsHoldWritten, NumbersAreWritten, RunsDivide, RunsDivideOnce, OneMeaning, WordsAreRead};
+ghost use Rattle.nodejs_semver.specs.Text.Laws.{LongestPartialsAreRead, PartialsAreWritten, BarsDivide, BarsDivideOnce, IntervalsHoldWritten, NumbersAreWritten, RunsDivide, RunsDivideOnce, OneMeaning, WordsAreRead};
 ghost use Rattle.std.specs.Prelude.{◌≡◌, IfNone, IfOk, IfSome, Some};
-ghost use Rattle.nodejs_semver.specs.CommonText.{CommonRangesAreDenoted, CommonRangesAreRead, IsUncommon};
+ghost use Rattle.nodejs_semver.specs.Text.Common.{CommonRangesAreDenoted, CommonRangesAreRead, IsUncommon};
 ghost use Rattle.semver_core.specs.declared.TheConstants.{MAX_SAFE_INTEGER};
 
 use crate::Range;
@@ -64,7 +64,7 @@ pub fn common_ranges()
 {}
 
 /// On a common text both readers return the same range; elsewhere the fast one returns none.
-#[tactic(auto, using(crate::proofs::CommonRange::fast_read))]
+#[tactic(auto, using(crate::proofs::Common::Whole::fast_read))]
 pub fn both_readers(alloc: Global, text: &str) -> Result<Option<(Range, Option<Range>)>, AllocError>
     ensures same { IfOk result (λ found. IfSome found (λ both. Some both.0 ≡ both.1)) }
     ensures uncommon { IfOk result (λ found. IfNone found (IsUncommon MAX_SAFE_INTEGER text.now)) }

@@ -3,10 +3,10 @@
 ghost use Rattle.std.specs.Prelude.{◌≡◌, ◌&&◌, ◌||◌, not, IfOk, true, false, is_some};
 ghost use Rattle.std.specs.List.{list_any};
 ghost use Rattle.semver_core.specs.Cuts.{list_holds, meet, option_list_holds};
-ghost use Rattle.semver_core.specs.Order.{precedence};
-ghost use Rattle.semver_core.specs.Versions.{VersionValue};
-ghost use Rattle.nodejs_semver.specs.Accepts.{accepts, option_accepts, is_release};
-ghost use Rattle.nodejs_semver.specs.Lists.{intersection, difference, covers_one};
+ghost use Rattle.semver_core.specs.Values.Order.{precedence};
+ghost use Rattle.semver_core.specs.Values.Versions.{VersionValue};
+ghost use Rattle.nodejs_semver.specs.Ranges.Gate.{accepts, option_accepts, is_release};
+ghost use Rattle.nodejs_semver.specs.Ranges.Algebra.{intersection, difference, covers_one};
 
 use crate::Range;
 use crate::range::lists;

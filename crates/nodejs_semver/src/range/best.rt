@@ -1,7 +1,7 @@
 // The best of a slice of versions.
 
-ghost use Rattle.nodejs_semver.specs.Accepts.{accepts};
-ghost use Rattle.nodejs_semver.specs.Best.{IsMax, IsMin};
+ghost use Rattle.nodejs_semver.specs.Ranges.Gate.{accepts};
+ghost use Rattle.nodejs_semver.specs.Ranges.Best.{IsMax, IsMin};
 ghost use Rattle.std.specs.Option.{option_copied};
 ghost use Rattle.std.specs.Prelude.{false};
 

@@ -2,10 +2,10 @@
 
 ghost use Rattle.std.specs.Prelude.{◌≡◌, ◌&&◌, ◌||◌, IsTrue, true, false};
 ghost use Rattle.semver_core.specs.Cuts.{holds, list_holds};
-ghost use Rattle.semver_core.specs.Order.{precedence};
+ghost use Rattle.semver_core.specs.Values.Order.{precedence};
 ghost use Rattle.semver_core.specs.declared.TheConstants.{MAX_SAFE_INTEGER};
-ghost use Rattle.nodejs_semver.specs.Accepts.{accepts, lets_in, names};
-ghost use Rattle.nodejs_semver.specs.RangeView.{IsRange};
+ghost use Rattle.nodejs_semver.specs.Ranges.Gate.{accepts, lets_in, names};
+ghost use Rattle.nodejs_semver.specs.Ranges.View.{IsRange};
 
 use crate::Range;
 use semver_core::cuts::{Bound, Interval};

@@ -6,11 +6,11 @@
 // v, and is accepted by the first list and not by the second either. So the least version is among these first versions:
 // these are the candidates, at most four for an interval of the first list, and two for one of the second.
 
-ghost use Rattle.nodejs_semver.specs.Accepts.{accepts, lets_in};
-ghost use Rattle.nodejs_semver.specs.Candidates as spec;
-ghost use Rattle.nodejs_semver.specs.Least as stated;
+ghost use Rattle.nodejs_semver.specs.Ranges.Gate.{accepts, lets_in};
+ghost use Rattle.nodejs_semver.specs.Internal.Candidates as spec;
+ghost use Rattle.nodejs_semver.specs.Ranges.Least as stated;
 ghost use Rattle.semver_core.specs.Cuts.{Beside, Far, Near, holds};
-ghost use Rattle.semver_core.specs.Order.{precedence};
+ghost use Rattle.semver_core.specs.Values.Order.{precedence};
 ghost use Rattle.std.specs.List.{flat_map};
 ghost use Rattle.std.specs.Option.{option_copied};
 ghost use Rattle.semver_core.specs.declared.cuts.bound.Bound.TheVariants.{After};
@@ -34,7 +34,7 @@ impl Range {
     /// where v is a release, and else v with one more identifier, the number 0. So `>1.2.3+b` gives 1.2.4+b. A result that an
     /// upper bound alone lets in, as 1.0.1-0 for `>1.0.0 <1.0.1-5`, or one of an interval without a lower bound, has no
     /// build. Of equal results it is the one of the first interval.
-    #[tactic(auto, using(crate::proofs::Raised::raisable))]
+    #[tactic(auto, using(crate::proofs::Choice::Raised::raisable))]
     pub fn min_version(&self, alloc: Global) -> Result<Option<Version>, AllocError>
         ensures least { IfOk result (λ r. stated.IsLeastOf (λ v. accepts self.now v false) r) }
         ensures build { IfOk result (λ r. IfSome r (λ v. v.build ≡ stated.least_build self.now v)) }
@@ -47,7 +47,7 @@ impl Range {
     ///
     /// It is not the smallest version of the difference of the two: `>=1.2.3-a` beyond `>=1.0.0` is 1.2.3-a, which the
     /// second range holds and does not accept.
-    #[tactic(auto, using(crate::proofs::Raised::raisable))]
+    #[tactic(auto, using(crate::proofs::Choice::Raised::raisable))]
     pub fn least_beyond(&self, alloc: Global, other: &Range) -> Result<Option<Version>, AllocError>
         ensures least { IfOk result (λ r. stated.IsLeastOf (stated.beyond self.now other.now) r) }
         ensures build { IfOk result (λ r. IfSome r (λ v. v.build ≡ [])) }
@@ -102,7 +102,7 @@ impl<'a> Search<'a> {
     }
 
     // The same of a version that is borrowed. It is copied, without its build, only where it improves.
-    #[tactic(auto, using(crate::proofs::LeastOf::improves_bare))]
+    #[tactic(auto, using(crate::proofs::Choice::LeastOf::improves_bare))]
     fn consider_borrowed(&mut self, alloc: Global, version: &Version) -> Result<(), AllocError>
         ensures { let set = stated.beyond self.old.kept.now self.old.removed.now in
             OnOk result (self.new ≡ record self.old {
@@ -118,7 +118,7 @@ impl<'a> Search<'a> {
     }
 
     // Considers the first versions from this one on.
-    #[tactic(auto, using(crate::proofs::LeastOf::reached_near))]
+    #[tactic(auto, using(crate::proofs::Choice::LeastOf::reached_near))]
     fn consider_from(&mut self, alloc: Global, version: &Version) -> Result<(), AllocError>
         ensures { let set = stated.beyond self.old.kept.now self.old.removed.now in
             OnOk result (self.new ≡ record self.old {
@@ -137,7 +137,7 @@ impl<'a> Search<'a> {
     }
 
     // Considers the first versions after this one.
-    #[tactic(auto, using(crate::proofs::LeastOf::reached_far))]
+    #[tactic(auto, using(crate::proofs::Choice::LeastOf::reached_far))]
     fn consider_after(&mut self, alloc: Global, version: &Version) -> Result<(), AllocError>
         requires { version.now.patch < 2 ^ 64 - 1 }
         ensures { let set = stated.beyond self.old.kept.now self.old.removed.now in

@@ -1,10 +1,10 @@
 // Versions beside another one.
 
 ghost use Rattle.std.specs.Prelude.{◌≡◌, ◌+◌, ◌-◌, ◌<◌, ◌^◌, [], IfOk};
-ghost use Rattle.nodejs_semver.specs.Accepts.{is_release};
-ghost use Rattle.nodejs_semver.specs.Candidates as spec;
-ghost use Rattle.semver_core.specs.PartsView.{parts_value};
-ghost use Rattle.semver_core.specs.Views.{ids_view};
+ghost use Rattle.nodejs_semver.specs.Ranges.Gate.{is_release};
+ghost use Rattle.nodejs_semver.specs.Internal.Candidates as spec;
+ghost use Rattle.semver_core.specs.Values.PartsView.{parts_value};
+ghost use Rattle.semver_core.specs.Values.Views.{ids_view};
 
 use semver_core::{Identifier, Version, VersionParts};
 use std::alloc::{AllocError, Global};

@@ -1,6 +1,6 @@
 // Versions that lie above or below a range.
 
-ghost use Rattle.nodejs_semver.specs.Outside as spec;
+ghost use Rattle.nodejs_semver.specs.Ranges.Outside as spec;
 ghost use Rattle.std.specs.List.{list_all};
 ghost use Rattle.std.specs.Prelude.{Ok, ◌≡◌};
 
@@ -21,7 +21,7 @@ pub enum OutsideDirection {
 
 /// Writes `>` for `Higher` and `<` for `Lower`. Width, fill and precision change nothing.
 impl fmt::Display for OutsideDirection {
-    ghost use Rattle.nodejs_semver.specs.Outside.{direction_char};
+    ghost use Rattle.nodejs_semver.specs.Ranges.Outside.{direction_char};
     ghost use Rattle.std.specs.Prelude.{Some, [], ◌∷◌};
 
     ghost output = { λ direction. Some (direction_char direction ∷ []) };

@@ -1,12 +1,12 @@
 // Ranges are read from their texts.
 
 ghost use Rattle.std.specs.Prelude.{◌≡◌, ◌<◌, [], IfOk, OnOk, length, true};
-ghost use Rattle.nodejs_semver.specs.Accepts.{accepts};
-ghost use Rattle.nodejs_semver.specs.Denotes.{denotes};
-ghost use Rattle.nodejs_semver.specs.Written.{writes};
+ghost use Rattle.nodejs_semver.specs.Ranges.Gate.{accepts};
+ghost use Rattle.nodejs_semver.specs.Text.Denotes.{denotes};
+ghost use Rattle.nodejs_semver.specs.Text.WrittenSet.{writes};
 ghost use Rattle.semver_core.specs.Cuts.{if_any};
 ghost use Rattle.semver_core.specs.Failures.{RefusedOnlyIf};
-ghost use Rattle.semver_core.specs.Versions.{VersionValue};
+ghost use Rattle.semver_core.specs.Values.Versions.{VersionValue};
 
 use crate::Range;
 use crate::readers::{is_blank, range_fast, range_loose};

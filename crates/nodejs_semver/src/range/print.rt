@@ -1,7 +1,7 @@
 // How ranges print.
 
 ghost use Rattle.std.specs.Prelude.{Some};
-ghost use Rattle.nodejs_semver.specs.Printed.{lower_text, upper_text, span_text, range_text};
+ghost use Rattle.nodejs_semver.specs.Printing.Text.{lower_text, upper_text, span_text, range_text};
 
 use crate::Range;
 use semver_core::Version;

@@ -1,10 +1,10 @@
 // The parts of a range text, one after another.
 
 ghost use Rattle.std.specs.Prelude.{◌≡◌, ◌<◌, ◌∷◌, IfSome, length};
-ghost use Rattle.nodejs_semver.specs.Parts.{parts};
-ghost use Rattle.nodejs_semver.specs.PartFronts as Spec;
-ghost use Rattle.nodejs_semver.specs.Readings.{part_view, rest_view};
-ghost use Rattle.semver_core.specs.Spaces.{space_len};
+ghost use Rattle.nodejs_semver.specs.Internal.Parts.{parts};
+ghost use Rattle.nodejs_semver.specs.Internal.PartFronts as Spec;
+ghost use Rattle.nodejs_semver.specs.Internal.Readings.{part_view, rest_view};
+ghost use Rattle.semver_core.specs.Internal.Spaces.{space_len};
 
 use semver_core::scan;
 
@@ -28,7 +28,7 @@ fn bars_at(text: &[u8]) -> usize
 }
 
 // The text before the first `||`, and the text behind it, where it is there.
-#[tactic(auto, using(crate::proofs::BarLemmas::bars_fit, crate::proofs::BarLemmas::bars_room, crate::proofs::BarLemmas::bars_boundary, crate::proofs::BarLemmas::bars_behind))]
+#[tactic(auto, using(crate::proofs::Dividing::BarLemmas::bars_fit, crate::proofs::Dividing::BarLemmas::bars_room, crate::proofs::Dividing::BarLemmas::bars_boundary, crate::proofs::Dividing::BarLemmas::bars_behind))]
 fn cut_part(text: &str) -> (&str, Option<&str>)
     ensures { part_view result ≡ Spec.front_part text.now }
 {

@@ -2,14 +2,14 @@
 
 ghost use Rattle.std.specs.Option.{ForSome};
 ghost use Rattle.std.specs.Prelude.{◌≡◌, ◌≤◌, if◌then◌else◌, IfNone, IfOk, IfSome, None, Some};
-ghost use Rattle.nodejs_semver.specs.CommonFronts as Spec;
-ghost use Rattle.nodejs_semver.specs.CommonText.{IsCommonRange, IsUncommon};
-ghost use Rattle.nodejs_semver.specs.Denotes.{denotes};
-ghost use Rattle.nodejs_semver.specs.Fronts.{dotted_front};
-ghost use Rattle.nodejs_semver.specs.CommonViews.{between_view, both_view, bounds_front_view, passed_view};
-ghost use Rattle.nodejs_semver.specs.Readings.{bare_view, bound_view, bounds_view, partial_front_view, partial_pair_view, reading_view, rest_view};
+ghost use Rattle.nodejs_semver.specs.Internal.CommonFronts as Spec;
+ghost use Rattle.nodejs_semver.specs.Text.Common.{IsCommonRange, IsUncommon};
+ghost use Rattle.nodejs_semver.specs.Text.Denotes.{denotes};
+ghost use Rattle.nodejs_semver.specs.Internal.Fronts.{dotted_front};
+ghost use Rattle.nodejs_semver.specs.Internal.CommonViews.{between_view, both_view, bounds_front_view, passed_view};
+ghost use Rattle.nodejs_semver.specs.Internal.Readings.{bare_view, bound_view, bounds_view, partial_front_view, partial_pair_view, reading_view, rest_view};
 ghost use Rattle.semver_core.specs.Cuts.{interval};
-ghost use Rattle.semver_core.specs.Order.{precedence};
+ghost use Rattle.semver_core.specs.Values.Order.{precedence};
 ghost use Rattle.semver_core.specs.declared.TheConstants.{MAX_SAFE_INTEGER};
 
 use crate::Range;
@@ -23,7 +23,7 @@ use std::alloc::{AllocError, Global};
 
 // The partial at the front whose major and minor components were read.
 #[inline(always)]
-#[tactic(auto, unfolding(crate::specs::Fronts::list_of, crate::specs::Fronts::is_listed))]
+#[tactic(auto, unfolding(crate::specs::Internal::Fronts::list_of, crate::specs::Internal::Fronts::is_listed))]
 fn bare_patch<'a>(major: Option<u64>, minor: Option<u64>, text: &'a [u8]) -> (Partial<'a>, &'a [u8])
     requires major_small { ForSome major (λ n. n ≤ MAX_SAFE_INTEGER) }
     requires minor_small { ForSome minor (λ n. n ≤ MAX_SAFE_INTEGER) }
@@ -57,7 +57,7 @@ fn bare_patch<'a>(major: Option<u64>, minor: Option<u64>, text: &'a [u8]) -> (Pa
 
 // The partial at the front whose major component was read.
 #[inline(always)]
-#[tactic(auto, unfolding(crate::specs::Fronts::list_of, crate::specs::Fronts::is_listed))]
+#[tactic(auto, unfolding(crate::specs::Internal::Fronts::list_of, crate::specs::Internal::Fronts::is_listed))]
 fn bare_minor(major: Option<u64>, text: &[u8]) -> (Partial<'_>, &[u8])
     requires { ForSome major (λ n. n ≤ MAX_SAFE_INTEGER) }
     ensures { partial_pair_view result
@@ -80,7 +80,7 @@ fn bare_minor(major: Option<u64>, text: &[u8]) -> (Partial<'_>, &[u8])
 
 // The partial at the front. Neither `v` nor whitespace is skipped before it, and no build is read.
 #[inline(always)]
-#[tactic(auto, unfolding(crate::specs::CommonFronts::bare_front))]
+#[tactic(auto, unfolding(crate::specs::Internal::CommonFronts::bare_front))]
 fn bare_front(text: &[u8]) -> Option<(Partial<'_>, &[u8])>
     ensures { partial_front_view result ≡ Spec.bare_front MAX_SAFE_INTEGER text.now }
 {
@@ -89,7 +89,7 @@ fn bare_front(text: &[u8]) -> Option<(Partial<'_>, &[u8])>
 }
 
 // A comparator and a partial.
-#[tactic(auto, unfolding(crate::specs::CommonFronts::comparison_front))]
+#[tactic(auto, unfolding(crate::specs::Internal::CommonFronts::comparison_front))]
 fn comparison_front(text: &[u8]) -> Option<(Word<'_>, &[u8])>
     ensures { reading_view result ≡ Spec.comparison_front MAX_SAFE_INTEGER text.now }
 {
@@ -99,7 +99,7 @@ fn comparison_front(text: &[u8]) -> Option<(Word<'_>, &[u8])>
 }
 
 // What stands behind a tilde.
-#[tactic(auto, unfolding(crate::specs::CommonFronts::tilde_front))]
+#[tactic(auto, unfolding(crate::specs::Internal::CommonFronts::tilde_front))]
 fn tilde_front(text: &[u8]) -> Option<(Word<'_>, &[u8])>
     ensures { reading_view result ≡ Spec.tilde_front MAX_SAFE_INTEGER text.now }
 {
@@ -109,7 +109,7 @@ fn tilde_front(text: &[u8]) -> Option<(Word<'_>, &[u8])>
 }
 
 // What stands behind a caret.
-#[tactic(auto, unfolding(crate::specs::CommonFronts::caret_front))]
+#[tactic(auto, unfolding(crate::specs::Internal::CommonFronts::caret_front))]
 fn caret_front(text: &[u8]) -> Option<(Word<'_>, &[u8])>
     ensures { reading_view result ≡ Spec.caret_front MAX_SAFE_INTEGER text.now }
 {
@@ -118,7 +118,7 @@ fn caret_front(text: &[u8]) -> Option<(Word<'_>, &[u8])>
 }
 
 // One partial, or two with a dash between them.
-#[tactic(auto, unfolding(crate::specs::CommonFronts::partials_front))]
+#[tactic(auto, unfolding(crate::specs::Internal::CommonFronts::partials_front))]
 fn partials_front(text: &[u8]) -> Option<(Word<'_>, &[u8])>
     ensures { reading_view result ≡ Spec.partials_front MAX_SAFE_INTEGER text.now }
 {
@@ -145,7 +145,7 @@ fn bounds_read<'a>(read: Option<(Word<'a>, &'a [u8])>) -> Option<(Bounds<'a>, &'
 
 // The version of a bound. Mostly it has no identifiers, or the pre-release `0` alone.
 #[inline(always)]
-#[tactic(auto, unfolding(crate::specs::Fronts::list_of))]
+#[tactic(auto, unfolding(crate::specs::Internal::Fronts::list_of))]
 fn version(alloc: Global, bare: &BareVersion<'_>) -> Result<Version, AllocError>
     ensures { IfOk result (λ v. v ≡ bare_view bare.now) }
 {
@@ -230,7 +230,7 @@ fn push_common(
 }
 
 // The same; mostly the first comparison has a lower bound and the second an upper one.
-#[tactic(auto, using(crate::proofs::CommonBounds::half_open))]
+#[tactic(auto, using(crate::proofs::Common::Bounds::half_open))]
 fn push_both(
     alloc: Global,
     first: &Bounds<'_>,
@@ -266,7 +266,7 @@ fn behind_part(there: bool, rest: &[u8]) -> Option<&[u8]>
 }
 
 // Adds the interval of one comparison, or of two, and returns what follows them.
-#[tactic(auto, unfolding(crate::specs::CommonFronts::comparisons_front))]
+#[tactic(auto, unfolding(crate::specs::Internal::CommonFronts::comparisons_front))]
 fn push_comparisons<'a>(
     alloc: Global,
     text: &'a [u8],
@@ -306,7 +306,7 @@ fn push_word<'a>(
 }
 
 // Adds the interval of the part at the front, and returns what follows the part.
-#[tactic(auto, unfolding(crate::specs::CommonFronts::part_front))]
+#[tactic(auto, unfolding(crate::specs::Internal::CommonFronts::part_front))]
 fn push_part<'a>(
     alloc: Global,
     text: &'a [u8],
@@ -337,7 +337,7 @@ fn after_gap(text: &[u8]) -> &[u8]
 
 // What follows `||`, with one space or none on each side.
 #[inline(always)]
-#[tactic(auto, unfolding(crate::specs::CommonFronts::after_bars))]
+#[tactic(auto, unfolding(crate::specs::Internal::CommonFronts::after_bars))]
 fn after_bars(text: &[u8]) -> Option<&[u8]>
     ensures { rest_view result ≡ Spec.after_bars text.now }
 {

@@ -1,16 +1,16 @@
 // The intervals of a part. Memory is taken here, where the versions of bounds are made, and not while words are read.
 
 ghost use Rattle.std.specs.Prelude.{◌≡◌, ◌<◌, ◌++◌, ◌∷◌, List, IfOk, OnOk, Some, length, true};
-ghost use Rattle.nodejs_semver.specs.Denotes.{part_intervals};
-ghost use Rattle.nodejs_semver.specs.Fronts.{is_listed, list_of};
-ghost use Rattle.nodejs_semver.specs.Meets.{joined, next_at};
-ghost use Rattle.nodejs_semver.specs.PreReleases.{pre_release_view};
-ghost use Rattle.nodejs_semver.specs.Readings.{bare_view, bound_view, bounds_view, next_view};
-ghost use Rattle.semver_core.specs.Spaces.{space_len};
+ghost use Rattle.nodejs_semver.specs.Text.Denotes.{part_intervals};
+ghost use Rattle.nodejs_semver.specs.Internal.Fronts.{is_listed, list_of};
+ghost use Rattle.nodejs_semver.specs.Internal.Meets.{joined, next_at};
+ghost use Rattle.nodejs_semver.specs.Internal.PreReleases.{pre_release_view};
+ghost use Rattle.nodejs_semver.specs.Internal.Readings.{bare_view, bound_view, bounds_view, next_view};
+ghost use Rattle.semver_core.specs.Internal.Spaces.{space_len};
 ghost use Rattle.semver_core.specs.Cuts.{Span, interval};
-ghost use Rattle.semver_core.specs.Order.{precedence};
-ghost use Rattle.semver_core.specs.Versions.{VersionValue};
-ghost use Rattle.semver_core.specs.Views.{ids_view};
+ghost use Rattle.semver_core.specs.Values.Order.{precedence};
+ghost use Rattle.semver_core.specs.Values.Versions.{VersionValue};
+ghost use Rattle.semver_core.specs.Values.Views.{ids_view};
 ghost use Rattle.semver_core.specs.declared.TheConstants.{MAX_SAFE_INTEGER};
 
 use crate::range::Intervals;

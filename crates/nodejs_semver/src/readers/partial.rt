@@ -2,12 +2,12 @@
 
 ghost use Rattle.std.specs.Option.{ForSome};
 ghost use Rattle.std.specs.Prelude.{IfSome, ◌≡◌, ◌≤◌, ◌+◌, length, take, drop, true};
-ghost use Rattle.nodejs_semver.specs.Fronts as Spec;
-ghost use Rattle.nodejs_semver.specs.Fronts.{front_view};
-ghost use Rattle.semver_core.specs.Characters.{is_identifier_char};
-ghost use Rattle.semver_core.specs.Identifiers.{goes_on};
-ghost use Rattle.nodejs_semver.specs.Partials.{drop_v};
-ghost use Rattle.nodejs_semver.specs.Readings.{pair_view, partial_front_view, partial_pair_view};
+ghost use Rattle.nodejs_semver.specs.Internal.Fronts as Spec;
+ghost use Rattle.nodejs_semver.specs.Internal.Fronts.{front_view};
+ghost use Rattle.semver_core.specs.Text.Characters.{is_identifier_char};
+ghost use Rattle.semver_core.specs.Text.Identifiers.{goes_on};
+ghost use Rattle.nodejs_semver.specs.Internal.Partials.{drop_v};
+ghost use Rattle.nodejs_semver.specs.Internal.Readings.{pair_view, partial_front_view, partial_pair_view};
 ghost use Rattle.semver_core.specs.declared.TheConstants.{MAX_SAFE_INTEGER};
 
 use crate::readers::syntax::Partial;
@@ -23,7 +23,7 @@ fn begins_wildcard(text: &[u8]) -> bool
 
 // The number at the front, a whole run of digits, and the text behind it.
 #[inline(always)]
-#[tactic(auto, using(crate::proofs::NumberFront::front_some, crate::proofs::NumberFront::front_none, crate::proofs::NumberFront::front_small))]
+#[tactic(auto, using(crate::proofs::Reading::NumberFront::front_some, crate::proofs::Reading::NumberFront::front_none, crate::proofs::Reading::NumberFront::front_small))]
 fn number_front(text: &[u8]) -> Option<(u64, &[u8])>
     ensures value { front_view result ≡ Spec.number_front MAX_SAFE_INTEGER text.now }
     ensures small { IfSome result (λ found. found.0 ≤ MAX_SAFE_INTEGER) }
@@ -34,7 +34,7 @@ fn number_front(text: &[u8]) -> Option<(u64, &[u8])>
 
 // A wildcard or a number.
 #[inline(always)]
-#[tactic(auto, unfolding(crate::specs::Fronts::component_front))]
+#[tactic(auto, unfolding(crate::specs::Internal::Fronts::component_front))]
 pub(crate) fn component_front(text: &[u8]) -> Option<(Option<u64>, &[u8])>
     ensures value { front_view result ≡ Spec.component_front MAX_SAFE_INTEGER text.now }
     ensures small { IfSome result (λ p. ForSome p.0 (λ n. n ≤ MAX_SAFE_INTEGER)) }
@@ -48,7 +48,7 @@ pub(crate) fn component_front(text: &[u8]) -> Option<(Option<u64>, &[u8])>
 
 // The same behind a dot.
 #[inline(always)]
-#[tactic(auto, unfolding(crate::specs::Fronts::dotted_front))]
+#[tactic(auto, unfolding(crate::specs::Internal::Fronts::dotted_front))]
 pub(crate) fn dotted_front(text: &[u8]) -> Option<(Option<u64>, &[u8])>
     ensures value { front_view result ≡ Spec.dotted_front MAX_SAFE_INTEGER text.now }
     ensures small { IfSome result (λ p. ForSome p.0 (λ n. n ≤ MAX_SAFE_INTEGER)) }
@@ -60,7 +60,7 @@ pub(crate) fn dotted_front(text: &[u8]) -> Option<(Option<u64>, &[u8])>
 }
 
 // How many bytes the identifiers at the front take.
-#[tactic(auto, unfolding(crate::specs::Fronts::list_len))]
+#[tactic(auto, unfolding(crate::specs::Internal::Fronts::list_len))]
 fn list_len(text: &[u8]) -> usize
     ensures { result ≡ Spec.list_len text.now }
 {
@@ -76,7 +76,7 @@ fn list_len(text: &[u8]) -> usize
 }
 
 // The identifiers at the front, and what stands behind them.
-#[tactic(auto, using(crate::proofs::Lists::list_len_fits, crate::proofs::Lists::listed_taken))]
+#[tactic(auto, using(crate::proofs::Reading::IdentifierLists::list_len_fits, crate::proofs::Reading::IdentifierLists::listed_taken))]
 fn split_list(text: &[u8]) -> (&[u8], &[u8])
     ensures front { result.0.now ≡ take (Spec.list_len text.now) text.now }
     ensures listed { Spec.is_listed result.0.now ≡ true }
@@ -86,7 +86,7 @@ fn split_list(text: &[u8]) -> (&[u8], &[u8])
 }
 
 // The text of the pre-release at the front, and what stands behind it.
-#[tactic(auto, unfolding(crate::specs::Fronts::pre_release_front), using(crate::proofs::Lists::listed_nil))]
+#[tactic(auto, unfolding(crate::specs::Internal::Fronts::pre_release_front), using(crate::proofs::Reading::IdentifierLists::listed_nil))]
 pub(crate) fn pre_release_front(text: &[u8]) -> (&[u8], &[u8])
     ensures listed { Spec.is_listed result.0.now ≡ true }
     ensures value { pair_view result ≡ Spec.pre_release_front text.now }
@@ -104,7 +104,7 @@ pub(crate) fn pre_release_front(text: &[u8]) -> (&[u8], &[u8])
 }
 
 // The same of the build.
-#[tactic(auto, unfolding(crate::specs::Fronts::build_front), using(crate::proofs::Lists::listed_nil))]
+#[tactic(auto, unfolding(crate::specs::Internal::Fronts::build_front), using(crate::proofs::Reading::IdentifierLists::listed_nil))]
 fn build_front(text: &[u8]) -> (&[u8], &[u8])
     ensures listed { Spec.is_listed result.0.now ≡ true }
     ensures value { pair_view result ≡ Spec.build_front text.now }
@@ -116,7 +116,7 @@ fn build_front(text: &[u8]) -> (&[u8], &[u8])
 }
 
 // The partial at the front whose major and minor components were read.
-#[tactic(auto, unfolding(crate::specs::Fronts::list_of, crate::specs::Fronts::is_listed))]
+#[tactic(auto, unfolding(crate::specs::Internal::Fronts::list_of, crate::specs::Internal::Fronts::is_listed))]
 fn patch_front<'a>(
     major: Option<u64>,
     minor: Option<u64>,
@@ -154,7 +154,7 @@ fn patch_front<'a>(
 }
 
 // The partial at the front whose major component was read.
-#[tactic(auto, unfolding(crate::specs::Fronts::list_of, crate::specs::Fronts::is_listed))]
+#[tactic(auto, unfolding(crate::specs::Internal::Fronts::list_of, crate::specs::Internal::Fronts::is_listed))]
 fn minor_front(major: Option<u64>, text: &[u8]) -> (Partial<'_>, &[u8])
     requires { ForSome major (λ n. n ≤ MAX_SAFE_INTEGER) }
     ensures { partial_pair_view result
@@ -187,7 +187,7 @@ fn drop_v(text: &[u8]) -> &[u8]
 }
 
 // The partial at the front, component by component.
-#[tactic(auto, unfolding(crate::specs::Fronts::partial_front))]
+#[tactic(auto, unfolding(crate::specs::Internal::Fronts::partial_front))]
 pub(crate) fn partial_front(text: &[u8]) -> Option<(Partial<'_>, &[u8])>
     ensures { partial_front_view result ≡ Spec.partial_front MAX_SAFE_INTEGER text.now }
 {

@@ -2,8 +2,8 @@
 
 ghost use Rattle.std.specs.Option.{ForSome};
 ghost use Rattle.std.specs.Prelude.{◌≡◌, ◌≤◌, true};
-ghost use Rattle.nodejs_semver.specs.Fronts.{is_listed};
-ghost use Rattle.nodejs_semver.specs.PreReleases.{is_written};
+ghost use Rattle.nodejs_semver.specs.Internal.Fronts.{is_listed};
+ghost use Rattle.nodejs_semver.specs.Internal.PreReleases.{is_written};
 ghost use Rattle.semver_core.specs.declared.TheConstants.{MAX_SAFE_INTEGER};
 
 use semver_core::cuts::Bound;

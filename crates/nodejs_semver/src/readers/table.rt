@@ -1,13 +1,13 @@
 // The word table: the bounds of a word, by its form and the numbers of its partial.
 
 ghost use Rattle.std.specs.Prelude.{◌≡◌, ◌≤◌, ◌<◌, ◌+◌, ◌^◌, Some, length, unwrap_or};
-ghost use Rattle.nodejs_semver.specs.Readings.{bare_view, bounds_view, comparator_view, interval_view, partial_view, table_view, word_view};
-ghost use Rattle.nodejs_semver.specs.Table as Spec;
-ghost use Rattle.nodejs_semver.specs.Table.{table};
-ghost use Rattle.nodejs_semver.specs.WordText as Words;
+ghost use Rattle.nodejs_semver.specs.Internal.Readings.{bare_view, bounds_view, comparator_view, interval_view, partial_view, table_view, word_view};
+ghost use Rattle.nodejs_semver.specs.Text.Table as Spec;
+ghost use Rattle.nodejs_semver.specs.Text.Table.{table};
+ghost use Rattle.nodejs_semver.specs.Text.WordText as Words;
 ghost use Rattle.semver_core.specs.Cuts.{interval};
-ghost use Rattle.semver_core.specs.Order.{precedence};
-ghost use Rattle.semver_core.specs.Versions.{release_value};
+ghost use Rattle.semver_core.specs.Values.Order.{precedence};
+ghost use Rattle.semver_core.specs.Values.Versions.{release_value};
 ghost use Rattle.semver_core.specs.declared.TheConstants.{MAX_SAFE_INTEGER};
 
 use crate::readers::syntax::{BareVersion, Bounds, Comparator, Partial, PreRelease, Word};
@@ -16,7 +16,7 @@ use semver_core::cuts::Bound;
 
 // `major.minor.patch`
 #[inline]
-#[tactic(auto, unfolding(crate::specs::Fronts::list_of, crate::specs::Fronts::is_listed))]
+#[tactic(auto, unfolding(crate::specs::Internal::Fronts::list_of, crate::specs::Internal::Fronts::is_listed))]
 fn release(major: u64, minor: u64, patch: u64) -> BareVersion<'static>
     ensures { bare_view result ≡ release_value major minor patch }
 {
@@ -31,7 +31,7 @@ fn release(major: u64, minor: u64, patch: u64) -> BareVersion<'static>
 
 // `major.minor.patch-0`
 #[inline]
-#[tactic(auto, unfolding(crate::specs::Fronts::list_of, crate::specs::Fronts::is_listed))]
+#[tactic(auto, unfolding(crate::specs::Internal::Fronts::list_of, crate::specs::Internal::Fronts::is_listed))]
 fn lowest(major: u64, minor: u64, patch: u64) -> BareVersion<'static>
     ensures { bare_view result ≡ Spec.lowest major minor patch }
 {
@@ -59,7 +59,7 @@ fn version_of<'a>(partial: &Partial<'a>) -> BareVersion<'a>
 }
 
 #[inline]
-#[tactic(auto, unfolding(crate::specs::Fronts::list_of, crate::specs::Fronts::is_listed))]
+#[tactic(auto, unfolding(crate::specs::Internal::Fronts::list_of, crate::specs::Internal::Fronts::is_listed))]
 fn without_build(version: BareVersion<'_>) -> BareVersion<'_>
     ensures { bare_view result ≡ Spec.without_build (bare_view version.entry) }
 {
@@ -160,7 +160,7 @@ impl<'a> Bounds<'a> {
     }
 }
 
-#[tactic(auto, unfolding(crate::specs::Table::table))]
+#[tactic(auto, unfolding(crate::specs::Text::Table::table))]
 fn above<'a>(partial: &Partial<'a>) -> Bounds<'a>
     ensures { Some (bounds_view result)
         ≡ table MAX_SAFE_INTEGER (Words.compare Words.above (partial_view partial.now)) }
@@ -172,7 +172,7 @@ fn above<'a>(partial: &Partial<'a>) -> Bounds<'a>
     }
 }
 
-#[tactic(auto, unfolding(crate::specs::Table::table))]
+#[tactic(auto, unfolding(crate::specs::Text::Table::table))]
 fn below<'a>(partial: &Partial<'a>) -> Bounds<'a>
     ensures { Some (bounds_view result)
         ≡ table MAX_SAFE_INTEGER (Words.compare Words.below (partial_view partial.now)) }
@@ -183,7 +183,7 @@ fn below<'a>(partial: &Partial<'a>) -> Bounds<'a>
     }
 }
 
-#[tactic(auto, unfolding(crate::specs::Table::table))]
+#[tactic(auto, unfolding(crate::specs::Text::Table::table))]
 fn at_most<'a>(partial: &Partial<'a>) -> Bounds<'a>
     ensures { Some (bounds_view result)
         ≡ table MAX_SAFE_INTEGER (Words.compare Words.at_most (partial_view partial.now)) }
@@ -198,7 +198,7 @@ fn at_most<'a>(partial: &Partial<'a>) -> Bounds<'a>
     }
 }
 
-#[tactic(auto, unfolding(crate::specs::Table::table))]
+#[tactic(auto, unfolding(crate::specs::Text::Table::table))]
 fn equal<'a>(partial: &Partial<'a>) -> Option<Bounds<'a>>
     ensures { table_view result
         ≡ table MAX_SAFE_INTEGER (Words.compare Words.equal (partial_view partial.now)) }
@@ -212,7 +212,7 @@ fn equal<'a>(partial: &Partial<'a>) -> Option<Bounds<'a>>
     }
 }
 
-#[tactic(auto, unfolding(crate::specs::Table::table))]
+#[tactic(auto, unfolding(crate::specs::Text::Table::table))]
 fn plain<'a>(partial: &Partial<'a>) -> Option<Bounds<'a>>
     ensures { table_view result ≡ table MAX_SAFE_INTEGER (Words.plain (partial_view partial.now)) }
 {
@@ -225,7 +225,7 @@ fn plain<'a>(partial: &Partial<'a>) -> Option<Bounds<'a>>
     }
 }
 
-#[tactic(auto, unfolding(crate::specs::Table::table))]
+#[tactic(auto, unfolding(crate::specs::Text::Table::table))]
 fn tilde<'a>(greater: bool, partial: &Partial<'a>) -> Option<Bounds<'a>>
     ensures { table_view result ≡ table MAX_SAFE_INTEGER (Words.tilde greater (partial_view partial.now)) }
 {
@@ -240,7 +240,7 @@ fn tilde<'a>(greater: bool, partial: &Partial<'a>) -> Option<Bounds<'a>>
     }
 }
 
-#[tactic(auto, unfolding(crate::specs::Table::table))]
+#[tactic(auto, unfolding(crate::specs::Text::Table::table))]
 fn caret<'a>(partial: &Partial<'a>) -> Option<Bounds<'a>>
     ensures { table_view result ≡ table MAX_SAFE_INTEGER (Words.caret (partial_view partial.now)) }
 {
@@ -263,7 +263,7 @@ fn caret<'a>(partial: &Partial<'a>) -> Option<Bounds<'a>>
     }
 }
 
-#[tactic(auto, unfolding(crate::specs::Table::table))]
+#[tactic(auto, unfolding(crate::specs::Text::Table::table))]
 fn hyphen<'a>(lower: &Partial<'a>, upper: &Partial<'a>) -> Bounds<'a>
     ensures { interval precedence (bounds_view result)
         ≡ table MAX_SAFE_INTEGER (Words.hyphen (partial_view lower.now) (partial_view upper.now)) }
@@ -277,7 +277,7 @@ fn hyphen<'a>(lower: &Partial<'a>, upper: &Partial<'a>) -> Bounds<'a>
     }
 }
 
-#[tactic(auto, unfolding(crate::specs::Table::table))]
+#[tactic(auto, unfolding(crate::specs::Text::Table::table))]
 fn compare<'a>(comparator: Comparator, partial: &Partial<'a>) -> Option<Bounds<'a>>
     ensures { table_view result
         ≡ table MAX_SAFE_INTEGER (Words.compare (comparator_view comparator) (partial_view partial.now)) }
@@ -292,7 +292,7 @@ fn compare<'a>(comparator: Comparator, partial: &Partial<'a>) -> Option<Bounds<'
 }
 
 /// The bounds that the form of a word and its numbers give. Those of a hyphen word alone may make no interval.
-#[tactic(auto, unfolding(crate::specs::Table::table), using(crate::proofs::TableReadings::settled))]
+#[tactic(auto, unfolding(crate::specs::Text::Table::table), using(crate::proofs::Bounds::TableReadings::settled))]
 pub(crate) fn table<'a>(word: &Word<'a>) -> Option<Bounds<'a>>
     ensures { interval_view result ≡ table MAX_SAFE_INTEGER (word_view word.now) }
 {

@@ -1,10 +1,10 @@
 // The words of a part.
 
 ghost use Rattle.std.specs.Prelude.{◌≡◌, ◌≤◌, ◌+◌, length, take, drop, true};
-ghost use Rattle.nodejs_semver.specs.Partials.{longest_partial, or_else};
-ghost use Rattle.nodejs_semver.specs.Readings.{comparator_front_view, partial_front_view, partial_view, reading_view, rest_view, sign_view, word_pair_view, word_view};
-ghost use Rattle.nodejs_semver.specs.Words as Spec;
-ghost use Rattle.nodejs_semver.specs.Words.{is_boundary};
+ghost use Rattle.nodejs_semver.specs.Internal.Partials.{longest_partial, or_else};
+ghost use Rattle.nodejs_semver.specs.Internal.Readings.{comparator_front_view, partial_front_view, partial_view, reading_view, rest_view, sign_view, word_pair_view, word_view};
+ghost use Rattle.nodejs_semver.specs.Internal.Words as Spec;
+ghost use Rattle.nodejs_semver.specs.Internal.Words.{is_boundary};
 ghost use Rattle.semver_core.specs.declared.TheConstants.{MAX_SAFE_INTEGER};
 
 use crate::readers::partial;
@@ -12,7 +12,7 @@ use crate::readers::syntax::{Comparator, Partial, Word};
 use semver_core::{MAX_SAFE_INTEGER, scan};
 
 // The longest partial at the front.
-#[tactic(auto, using(crate::proofs::Longest::longest_is_front))]
+#[tactic(auto, using(crate::proofs::Reading::Longest::longest_is_front))]
 fn longest_partial(text: &[u8]) -> Option<(Partial<'_>, &[u8])>
     ensures { partial_front_view result ≡ longest_partial MAX_SAFE_INTEGER text.now }
 {
@@ -21,7 +21,7 @@ fn longest_partial(text: &[u8]) -> Option<(Partial<'_>, &[u8])>
 
 // Whether a word may end here.
 #[inline(always)]
-#[tactic(auto, unfolding(crate::specs::Words::is_boundary))]
+#[tactic(auto, unfolding(crate::specs::Internal::Words::is_boundary))]
 fn is_boundary(text: &[u8]) -> bool
     ensures { result ≡ is_boundary text.now }
 {
@@ -169,7 +169,7 @@ fn form_front(text: &[u8]) -> Option<(Word<'_>, &[u8])>
 }
 
 // The word at the front, and what follows it.
-#[tactic(auto, unfolding(crate::specs::Words::word_at))]
+#[tactic(auto, unfolding(crate::specs::Internal::Words::word_at))]
 pub(crate) fn word_front(text: &[u8]) -> (Word<'_>, &[u8])
     ensures { word_pair_view result ≡ Spec.word_at MAX_SAFE_INTEGER text.now }
 {

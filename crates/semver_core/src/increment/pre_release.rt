@@ -4,12 +4,12 @@ ghost use Rattle.std.specs.Prelude.{◌≡◌, ◌∷◌, ◌++◌, [], ◌<◌,
 ghost use Rattle.std.specs.List.{list_all};
 ghost use Rattle.std.specs.Str.{bytes_eq};
 ghost use Rattle.std.specs.Str.Parse.{digits_value};
-ghost use Rattle.semver_core.specs.Characters.{is_identifier_char};
-ghost use Rattle.semver_core.specs.Identifiers.{Numeric, is_run};
-ghost use Rattle.semver_core.specs.Increment as spec;
-ghost use Rattle.semver_core.specs.IncrementSteps.{IsLastNumber, ReturnsList, Tracks};
-ghost use Rattle.semver_core.specs.Printed as printed;
-ghost use Rattle.semver_core.specs.Views.{id_view, ids_view};
+ghost use Rattle.semver_core.specs.Text.Characters.{is_identifier_char};
+ghost use Rattle.semver_core.specs.Text.Identifiers.{Numeric, is_run};
+ghost use Rattle.semver_core.specs.Increments.Table as spec;
+ghost use Rattle.semver_core.specs.Internal.IncrementSteps.{IsLastNumber, ReturnsList, Tracks};
+ghost use Rattle.semver_core.specs.Printing.Text as printed;
+ghost use Rattle.semver_core.specs.Values.Views.{id_view, ids_view};
 
 use crate::increment::{IdentifierBase, IncrementError, is_false, one_more, refused_argument};
 use crate::scan::is_identifier_char;
@@ -21,7 +21,7 @@ use std::alloc::{AllocError, Global};
 use std::fmt::Write;
 
 // The first three steps: the last number rises, and a list without a number gets one.
-#[tactic(auto, using(crate::proofs::LastNumber::advance_raises))]
+#[tactic(auto, using(crate::proofs::Increments::LastNumber::advance_raises))]
 pub(super) fn advance(
     alloc: Global,
     list: &[Identifier],
@@ -65,7 +65,7 @@ fn first_number(base: IdentifierBase) -> u64
 }
 
 // The place of the last number of a list, and that number.
-#[tactic(auto, using(crate::proofs::LastNumber::tracks_number, crate::proofs::LastNumber::tracks_text, crate::proofs::LastNumber::tracks_whole))]
+#[tactic(auto, using(crate::proofs::Increments::LastNumber::tracks_number, crate::proofs::Increments::LastNumber::tracks_text, crate::proofs::Increments::LastNumber::tracks_whole))]
 fn last_number(list: &[Identifier]) -> Option<(usize, u64)>
     ensures { Tracks (ids_view list.now) result }
 {
@@ -94,7 +94,7 @@ fn replaced(
 }
 
 // The list with its last number one more.
-#[tactic(auto, using(crate::proofs::LastNumber::raise_at))]
+#[tactic(auto, using(crate::proofs::Increments::LastNumber::raise_at))]
 fn raise_last(
     alloc: Global,
     list: &[Identifier],
@@ -151,7 +151,7 @@ fn is_printed(alloc: Global, list: &[Identifier], id: &str) -> Result<bool, Allo
 }
 
 // A list printed, its identifiers joined by dots.
-#[tactic(auto, using(crate::proofs::LastNumber::text_so_far, crate::proofs::LastNumber::text_whole))]
+#[tactic(auto, using(crate::proofs::Increments::LastNumber::text_so_far, crate::proofs::Increments::LastNumber::text_whole))]
 fn list_text(alloc: Global, list: &[Identifier]) -> Result<String, AllocError>
     ensures { IfOk result (λ t. string_bytes t ≡ spec.list_text (ids_view list.now)) }
 {
@@ -220,7 +220,7 @@ fn is_digits(text: &[u8]) -> bool
     text.iter().all(|b| b.is_ascii_digit())
 }
 
-#[tactic(auto, using(crate::proofs::LastNumber::value_run))]
+#[tactic(auto, using(crate::proofs::Increments::LastNumber::value_run))]
 fn has_value(digits: &str, n: u64) -> bool
     requires some { 0 < length digits.now }
     requires digits { spec.is_digits digits.now ≡ true }

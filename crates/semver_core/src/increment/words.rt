@@ -1,10 +1,10 @@
 // The words of increments, a row each.
 
 ghost use Rattle.std.specs.Prelude.{◌≡◌, Ok};
-ghost use Rattle.semver_core.specs.Increment as spec;
-ghost use Rattle.semver_core.specs.IncrementView.{Returns};
-ghost use Rattle.semver_core.specs.Versions.{release_value};
-ghost use Rattle.semver_core.specs.Views.{ids_view};
+ghost use Rattle.semver_core.specs.Increments.Table as spec;
+ghost use Rattle.semver_core.specs.Increments.View.{Returns};
+ghost use Rattle.semver_core.specs.Values.Versions.{release_value};
+ghost use Rattle.semver_core.specs.Values.Views.{ids_view};
 
 use crate::increment::pre_release::{advance, identify};
 use crate::increment::{IdentifierBase, IncrementError, is_release, one_more, refused_argument};

@@ -2,8 +2,8 @@
 
 ghost use Rattle.std.specs.Prelude.{◌≡◌, ◌↔◌, IsTrue};
 ghost use Rattle.std.specs.declared.cmp.Ordering.TheVariants.{Equal};
-ghost use Rattle.semver_core.specs.Order.{id_cmp, precedence};
-ghost use Rattle.semver_core.specs.Views.{id_view};
+ghost use Rattle.semver_core.specs.Values.Order.{id_cmp, precedence};
+ghost use Rattle.semver_core.specs.Values.Views.{id_view};
 
 use crate::{Identifier, Version};
 use std::cmp::Ordering;

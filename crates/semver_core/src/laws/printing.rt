@@ -2,9 +2,9 @@
 
 ghost use Rattle.std.specs.Prelude.{◌≡◌, ◌≤◌, IfOk, length, string_bytes};
 ghost use Rattle.semver_core.specs.Failures.{NeverRefused};
-ghost use Rattle.semver_core.specs.Normal.{IsReadable, VersionsComeBack};
-ghost use Rattle.semver_core.specs.Printed.{id_text, version_text};
-ghost use Rattle.semver_core.specs.Views.{id_view};
+ghost use Rattle.semver_core.specs.Printing.RoundTrip.{IsReadable, VersionsComeBack};
+ghost use Rattle.semver_core.specs.Printing.Text.{id_text, version_text};
+ghost use Rattle.semver_core.specs.Values.Views.{id_view};
 
 use crate::{Failure, Identifier, MAX_LENGTH, MAX_SAFE_INTEGER, SemverError, Version};
 use std::alloc::{AllocError, Global};

@@ -1,9 +1,9 @@
 // The two constants, and that a text has one version at most, whatever the limit and whichever reader reads it.
 
 ghost use Rattle.std.specs.Prelude.{◌≡◌, IfOk, IfSome, Some};
-ghost use Rattle.semver_core.specs.Common.{ReadsAlike};
-ghost use Rattle.semver_core.specs.Grammar.{HasOneReading};
-ghost use Rattle.semver_core.specs.Limits.{KeepsReading, KeepsVersion};
+ghost use Rattle.semver_core.specs.Text.Common.{ReadsAlike};
+ghost use Rattle.semver_core.specs.Text.VersionText.{HasOneReading};
+ghost use Rattle.semver_core.specs.Text.Limits.{KeepsReading, KeepsVersion};
 
 use crate::readers::{front_of_numbers, version_fast, version_loose};
 use crate::{MAX_LENGTH, MAX_SAFE_INTEGER, Version};
@@ -45,7 +45,7 @@ pub fn common_reads_alike(text: &str)
 /// a version, the loose one returns the same.
 ///
 /// Fails only if allocation fails.
-#[tactic(auto, using(crate::proofs::Whole::alike))]
+#[tactic(auto, using(crate::proofs::Text::Whole::alike))]
 pub fn both_readers(
     alloc: Global,
     text: &str,

@@ -1,6 +1,6 @@
 // Whitespace as the bytes of a text spell it.
 
-ghost use Rattle.semver_core.specs.SpaceLaws.{FrontIsFirstCharacter, TrimIsMiddle, MiddleIsTrim, AfterBlankDropsSpaces, OneAfterBlank};
+ghost use Rattle.semver_core.specs.Text.Whitespace.{FrontIsFirstCharacter, TrimIsMiddle, MiddleIsTrim, AfterBlankDropsSpaces, OneAfterBlank};
 
 /// Whitespace as the bytes of a text spell it is whitespace as its characters are; the trimmed text is the only trimmed
 /// middle, and the place behind whitespace is one.

@@ -1,12 +1,12 @@
 //! The reader of common version texts.
 
 ghost use Rattle.std.specs.Prelude.{◌||◌, ◌==◌, get_or, ◌≡◌, ◌≤◌, ◌<◌, length, IfOk, IfSome, IfNone, IsSomeAnd, OnErr};
-ghost use Rattle.semver_core.specs.Characters.{is_identifier_char};
-ghost use Rattle.semver_core.specs.Common.{IsCommon, IsUncommon};
-ghost use Rattle.semver_core.specs.CommonReading.{small_len, part_at, whole_at, common_of};
-ghost use Rattle.semver_core.specs.Grammar.{HasVersionWithIdentifiers};
-ghost use Rattle.semver_core.specs.Reading.{qualified, triple_at, version_at};
-ghost use Rattle.semver_core.specs.Versions.{HasIdentifiers};
+ghost use Rattle.semver_core.specs.Text.Characters.{is_identifier_char};
+ghost use Rattle.semver_core.specs.Text.Common.{IsCommon, IsUncommon};
+ghost use Rattle.semver_core.specs.Internal.CommonReading.{small_len, part_at, whole_at, common_of};
+ghost use Rattle.semver_core.specs.Text.VersionText.{HasVersionWithIdentifiers};
+ghost use Rattle.semver_core.specs.Internal.Reading.{qualified, triple_at, version_at};
+ghost use Rattle.semver_core.specs.Values.Versions.{HasIdentifiers};
 
 use crate::readers::loose::lists_at;
 use crate::{MAX_SAFE_INTEGER, Version, scan};
@@ -25,7 +25,7 @@ fn small_len(bytes: &[u8]) -> usize
 
 // A number with a dot behind it, and the place behind the dot. Each byte is looked at once.
 #[inline(always)]
-#[tactic(auto, using(crate::proofs::Digits::digits_step, crate::proofs::Dotted::part_dot, crate::proofs::Dotted::part_bare, crate::proofs::Dotted::part_other, crate::proofs::Dotted::part_over, crate::proofs::Dotted::part_past))]
+#[tactic(auto, using(crate::proofs::Text::Digits::digits_step, crate::proofs::Text::Dotted::part_dot, crate::proofs::Text::Dotted::part_bare, crate::proofs::Text::Dotted::part_other, crate::proofs::Text::Dotted::part_over, crate::proofs::Text::Dotted::part_past))]
 fn part(bytes: &[u8], at: usize) -> Option<(u64, usize)>
     requires { at ≤ length bytes.now }
     ensures found { result ≡ part_at MAX_SAFE_INTEGER bytes.now at }
@@ -53,7 +53,7 @@ fn part(bytes: &[u8], at: usize) -> Option<(u64, usize)>
 
 // Three numbers with dots between them, and the place behind them.
 #[inline(always)]
-#[tactic(auto, using(crate::proofs::Dotted::triple_parts))]
+#[tactic(auto, using(crate::proofs::Text::Dotted::triple_parts))]
 fn three(bytes: &[u8], at: usize) -> Option<(u64, u64, u64, usize)>
     requires { at ≤ length bytes.now }
     ensures found { result ≡ triple_at MAX_SAFE_INTEGER bytes.now at }
@@ -67,7 +67,7 @@ fn three(bytes: &[u8], at: usize) -> Option<(u64, u64, u64, usize)>
 
 // The version of three numbers and the qualifier that goes from a place to the end of the text.
 #[inline(never)]
-#[tactic(auto, using(crate::proofs::Whole::lists_found, crate::proofs::Whole::lists_left))]
+#[tactic(auto, using(crate::proofs::Text::Whole::lists_found, crate::proofs::Text::Whole::lists_left))]
 fn qualified(
     alloc: Global,
     text: &str,
@@ -98,7 +98,7 @@ fn begins_qualifier(bytes: &[u8], at: usize) -> bool
 
 // The same as a function of the text.
 #[inline(always)]
-#[tactic(auto, using(crate::proofs::Whole::not_qualifier, crate::proofs::Whole::release_found, crate::proofs::Whole::common_is, crate::proofs::Whole::common_not, crate::proofs::Whole::memory_at))]
+#[tactic(auto, using(crate::proofs::Text::Whole::not_qualifier, crate::proofs::Text::Whole::release_found, crate::proofs::Text::Whole::common_is, crate::proofs::Text::Whole::common_not, crate::proofs::Text::Whole::memory_at))]
 fn read(alloc: Global, text: &str) -> Result<Option<Version>, AllocError>
     ensures found { IfOk result (λ found. found ≡ common_of MAX_SAFE_INTEGER text.now) }
     ensures memory { OnErr result
@@ -128,7 +128,7 @@ fn read(alloc: Global, text: &str) -> Result<Option<Version>, AllocError>
 /// Fails only if allocation fails, which happens only where the version at the front of the text
 /// has a pre-release or build metadata.
 #[inline(always)]
-#[tactic(auto, using(crate::proofs::Whole::common_some, crate::proofs::Whole::common_none, crate::proofs::Whole::common_memory))]
+#[tactic(auto, using(crate::proofs::Text::Whole::common_some, crate::proofs::Text::Whole::common_none, crate::proofs::Text::Whole::common_memory))]
 pub fn version_fast(alloc: Global, text: &str) -> Result<Option<Version>, AllocError>
     // The version is the one that the whole text is.
     ensures some { IfOk result (λ found. IfSome found (λ v. IsCommon MAX_SAFE_INTEGER text.now v)) }

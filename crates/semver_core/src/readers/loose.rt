@@ -1,19 +1,19 @@
 //! The reader of version texts.
 
 ghost use Rattle.std.specs.Prelude.{IsFalse, IsTrue, ◌≡◌, ◌==◌, ◌≤◌, ◌<◌, ◌+◌, ◌⊎◌, [], true, length, drop, None, Some, Option, IfOk, IfSome, IfNone, IsSomeAnd, IsCharBoundary, OnErr, OnSome};
-ghost use Rattle.semver_core.specs.Characters.{begins, is_identifier_char, IsAfterBlank};
-ghost use Rattle.semver_core.specs.Grammar.{Reads, HasNoVersion, HasVersionWithIdentifiers};
-ghost use Rattle.semver_core.specs.ListView.{IsFull, build_of, pre_release_of};
-ghost use Rattle.semver_core.specs.Reading.{past, triple_at, pre_release_at, build_at, list_from, lists_at, version_at, mark_len};
-ghost use Rattle.semver_core.specs.Versions.{VersionValue, HasIdentifiers};
-ghost use Rattle.semver_core.specs.Views.{ids_view};
+ghost use Rattle.semver_core.specs.Text.Characters.{begins, is_identifier_char, IsAfterBlank};
+ghost use Rattle.semver_core.specs.Text.VersionText.{Reads, HasNoVersion, HasVersionWithIdentifiers};
+ghost use Rattle.semver_core.specs.Internal.ListView.{IsFull, build_of, pre_release_of};
+ghost use Rattle.semver_core.specs.Internal.Reading.{past, triple_at, pre_release_at, build_at, list_from, lists_at, version_at, mark_len};
+ghost use Rattle.semver_core.specs.Values.Versions.{VersionValue, HasIdentifiers};
+ghost use Rattle.semver_core.specs.Values.Views.{ids_view};
 
 use crate::version::lists::{Identifiers, Lists};
 use crate::{MAX_SAFE_INTEGER, Version, scan};
 use std::alloc::{AllocError, Global};
 
 #[inline(always)]
-#[tactic(auto, using(crate::proofs::Runs::rest_from))]
+#[tactic(auto, using(crate::proofs::Text::Runs::rest_from))]
 fn begins_with(text: &str, at: usize, mark: u8) -> bool
     requires { at ≤ length text.now }
     ensures { result ≡ begins (λ b. b == mark) (drop at text.now) }
@@ -25,7 +25,7 @@ fn begins_with(text: &str, at: usize, mark: u8) -> bool
 }
 
 #[inline(always)]
-#[tactic(auto, using(crate::proofs::Places::begins_before_end))]
+#[tactic(auto, using(crate::proofs::Text::Places::begins_before_end))]
 fn past(text: &str, at: usize, mark: u8) -> Option<usize>
     requires { at ≤ length text.now }
     ensures found { result ≡ past mark text.now at }
@@ -175,7 +175,7 @@ fn mark_len(bytes: &[u8]) -> usize
 }
 
 // The place after a `v` or `V` at the front.
-#[tactic(auto, using(crate::proofs::Texts::mark_boundary))]
+#[tactic(auto, using(crate::proofs::Text::Texts::mark_boundary))]
 fn after_mark(text: &str) -> usize
     ensures value { result ≡ mark_len text.now }
     ensures boundary { IsCharBoundary text.now result }
@@ -196,7 +196,7 @@ pub(crate) fn front_of_numbers(text: &str) -> usize
 ///
 /// Returns `None` if the text has none. Fails only if allocation fails, which happens only where the
 /// version has a pre-release or build metadata.
-#[tactic(auto, using(crate::proofs::Texts::found_some, crate::proofs::Texts::found_none, crate::proofs::Texts::loose_memory))]
+#[tactic(auto, using(crate::proofs::Text::Texts::found_some, crate::proofs::Text::Texts::found_none, crate::proofs::Text::Texts::loose_memory))]
 pub fn version_loose(alloc: Global, text: &str) -> Result<Option<Version>, AllocError>
     // What is read is a version of the text.
     ensures some { IfOk result (λ found. IfSome found (λ v. Reads MAX_SAFE_INTEGER text.now v)) }

@@ -1,8 +1,8 @@
 // Versions from triples of numbers.
 
 ghost use Rattle.std.specs.Prelude.{◌≡◌};
-ghost use Rattle.semver_core.specs.Triples.{from_natural, GivesRelease};
-ghost use Rattle.semver_core.specs.Versions.{release_value};
+ghost use Rattle.semver_core.specs.Values.Triples.{from_natural, GivesRelease};
+ghost use Rattle.semver_core.specs.Values.Versions.{release_value};
 
 use crate::{NegativeNumber, Version};
 

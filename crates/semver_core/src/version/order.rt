@@ -3,16 +3,16 @@
 ghost use Rattle.std.specs.Prelude.{◌≡◌, Some, refl};
 ghost use Rattle.std.specs.Cmp.{eq_by_cmp_equiv, partial_equiv_from_equiv, po};
 ghost use Rattle.std.specs.Ordering.{is_eq};
-ghost use Rattle.semver_core.specs.Hashes.{version_writes};
-ghost use Rattle.semver_core.specs.Order.{precedence, pre_cmp};
-ghost use Rattle.semver_core.specs.OrderLaws.{precedence_total, version_alike};
-ghost use Rattle.semver_core.specs.Views.{ids_view};
+ghost use Rattle.semver_core.specs.Values.Hashes.{version_writes};
+ghost use Rattle.semver_core.specs.Values.Order.{precedence, pre_cmp};
+ghost use Rattle.semver_core.specs.Internal.OrderLaws.{precedence_total, version_alike};
+ghost use Rattle.semver_core.specs.Values.Views.{ids_view};
 
 use crate::{Identifier, Version};
 use std::cmp::Ordering;
 use std::hash::{Hash, Hasher};
 
-#[tactic(auto, using(crate::proofs::Compared::pre_view))]
+#[tactic(auto, using(crate::proofs::Values::Compared::pre_view))]
 fn cmp_pre(a: &[Identifier], b: &[Identifier]) -> Ordering
     ensures { result ≡ pre_cmp (ids_view a.now) (ids_view b.now) }
 {
@@ -74,7 +74,7 @@ impl Hash for Version {
 
     ghost respects_eq = { version_alike };
 
-    #[tactic(auto, using(crate::proofs::Compared::writes_view))]
+    #[tactic(auto, using(crate::proofs::Values::Compared::writes_view))]
     fn hash<H: Hasher>(&self, state: &mut H) {
         self.major().hash(state);
         self.minor().hash(state);

@@ -1,10 +1,10 @@
 // Versions made of parts, taken apart and copied.
 
 ghost use Rattle.std.specs.Prelude.{◌≡◌, ◌≤◌, ◌+◌, ◌^◌, ◌⊎◌, ◌∷◌, ◌++◌, [], IfOk, IfErr, OnOk, OnErr, IsOk, length, ◌<◌, vec_len, vec_capacity};
-ghost use Rattle.semver_core.specs.Identifiers as id;
-ghost use Rattle.semver_core.specs.PartsView.{parts_value};
-ghost use Rattle.semver_core.specs.Versions.{HasIdentifiers, release_value};
-ghost use Rattle.semver_core.specs.Views.{ids_view};
+ghost use Rattle.semver_core.specs.Text.Identifiers as id;
+ghost use Rattle.semver_core.specs.Values.PartsView.{parts_value};
+ghost use Rattle.semver_core.specs.Values.Versions.{HasIdentifiers, release_value};
+ghost use Rattle.semver_core.specs.Values.Views.{ids_view};
 
 use crate::cuts::Point;
 use crate::version::lists::{Identifiers, Lists};

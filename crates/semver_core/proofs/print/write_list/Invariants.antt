@@ -2,9 +2,9 @@ use Rattle.std.proofs.Common.{◌≡◌, take}
 use denote.Text.{Utf8}
 use denote.Shadow.{shadow}
 use Rattle.std.specs.Fmt.{HasWrittenStyled, IsFlush}
-use Rattle.semver_core.specs.Printed.{marked_list}
-use Rattle.semver_core.proofs.Prints.{separator_after}
-use Rattle.semver_core.specs.Views.{ids_view}
+use Rattle.semver_core.specs.Printing.Text.{marked_list}
+use Rattle.semver_core.proofs.Printing.Prints.{separator_after}
+use Rattle.semver_core.specs.Values.Views.{ids_view}
 use Rattle.semver_core.proofs.print.write_list.Given as goal
 
 abbrev pub invariant-loop-identifier : goal.invariant-loop-identifier

@@ -1,5 +1,5 @@
 use Rattle.std.proofs.Common.{◌≡◌, ◌-◌, ◌≤◌, drop}
-use Rattle.semver_core.specs.Reading.{digits_from}
+use Rattle.semver_core.specs.Internal.Reading.{digits_from}
 use Rattle.semver_core.specs.declared.TheConstants.{MAX_SAFE_INTEGER}
 use Rattle.semver_core.proofs.scan.digits.Given as goal
 

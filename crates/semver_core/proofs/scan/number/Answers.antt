@@ -1,5 +1,5 @@
 use Rattle.semver_core.specs.declared.TheConstants.{MAX_SAFE_INTEGER}
-use Rattle.semver_core.proofs.Clauses.{number_found, number_none}
+use Rattle.semver_core.proofs.Text.Clauses.{number_found, number_none}
 use Rattle.semver_core.proofs.scan.number.Goals as goal
 
 pub returns-clause-found : goal.returns-clause-found

@@ -1,5 +1,5 @@
-use Rattle.semver_core.proofs.OnePass.{scan_end, scan_fits}
-use Rattle.semver_core.proofs.Runs.{run_boundary}
+use Rattle.semver_core.proofs.Text.OnePass.{scan_end, scan_fits}
+use Rattle.semver_core.proofs.Text.Runs.{run_boundary}
 use Rattle.semver_core.proofs.scan.run_in.Goals as goal
 
 pub returns-clause-end : goal.returns-clause-end

@@ -1,5 +1,5 @@
 use Rattle.std.proofs.Common.{◌≡◌, drop, Some}
-use Rattle.semver_core.specs.CommonReading.{run_from}
+use Rattle.semver_core.specs.Internal.CommonReading.{run_from}
 use Rattle.semver_core.proofs.scan.scan_run.Given as goal
 
 abbrev pub invariant-run : goal.invariant-run

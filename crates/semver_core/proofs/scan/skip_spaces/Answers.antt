@@ -1,7 +1,7 @@
 use Rattle.std.proofs.Common.{ℕ, List, sym, ap, ◌∙◌, ◌<◌, arith, drop}
 use Rattle.std.proofs.lemmas.List.{take_rest}
-use Rattle.semver_core.specs.Spaces.{space_len, drop_spaces}
-use Rattle.semver_core.proofs.Spaces.{drop_spaces-more, drop_spaces-none}
+use Rattle.semver_core.specs.Internal.Spaces.{space_len, drop_spaces}
+use Rattle.semver_core.proofs.Text.Spaces.{drop_spaces-more, drop_spaces-none}
 use Rattle.semver_core.proofs.scan.skip_spaces.Goals as goal
 
 pub returns-then-len-eq0 : goal.returns-then-len-eq0

@@ -1,5 +1,5 @@
 use Rattle.std.proofs.Common.{◌≡◌, length}
-use Rattle.semver_core.specs.Spaces.{drop_spaces}
+use Rattle.semver_core.specs.Internal.Spaces.{drop_spaces}
 use Rattle.semver_core.proofs.scan.skip_spaces.Given as goal
 
 abbrev pub invariant-spaces : goal.invariant-spaces

@@ -1,5 +1,5 @@
 use Rattle.std.proofs.lemmas.Str.{IsCharBoundary-start}
-use Rattle.semver_core.proofs.Trims.{trim_in_two}
+use Rattle.semver_core.proofs.Text.Trims.{trim_in_two}
 use Rattle.semver_core.proofs.scan.trim.Goals as goal
 
 pub skip_whitespace-start-requires : goal.skip_whitespace-start-requires

@@ -1,6 +1,6 @@
 use Rattle.std.proofs.Common.{length, sym, ap, ◌∙◌, ◌++◌}
 use Rattle.std.specs.Char.{encode_utf8}
-use Rattle.semver_core.proofs.Trims.{shortened_more, shortened_stop, shortened_out}
+use Rattle.semver_core.proofs.Text.Trims.{shortened_more, shortened_stop, shortened_out}
 use Rattle.semver_core.proofs.scan.trim_end.Goals as goal
 
 pub returns-then-not-is_whitespace : goal.returns-then-not-is_whitespace

@@ -1,5 +1,5 @@
 use Rattle.std.proofs.Common.{◌≡◌, length}
-use Rattle.semver_core.proofs.Trims.{Shortened}
+use Rattle.semver_core.proofs.Text.Trims.{Shortened}
 use Rattle.semver_core.proofs.scan.trim_end.Given as goal
 
 abbrev pub invariant-spaces : goal.invariant-spaces

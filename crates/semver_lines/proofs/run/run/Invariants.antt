@@ -1,5 +1,5 @@
 use Rattle.std.proofs.Common.{◌<◌, [], List, ℕ, length}
-use Rattle.semver_lines.specs.Steps.{Turned}
+use Rattle.semver_lines.specs.Internal.Steps.{Turned}
 use Rattle.semver_lines.proofs.run.run.Given as goal
 
 abbrev pub invariant-reads : goal.invariant-reads

@@ -1,6 +1,6 @@
 use Rattle.std.proofs.Common.{◌∙◌, arith}
 use Rattle.semver_core.specs.declared.TheConstants.{MAX_SAFE_INTEGER}
-use Rattle.nodejs_semver.proofs.RereadRange.{Reread, reread_builds, reread_equal, reread_text, reread_read}
+use Rattle.nodejs_semver.proofs.Printing.RereadRange.{Reread, reread_builds, reread_equal, reread_text, reread_read}
 use Rattle.nodejs_semver.proofs.laws.printing.reread_range.Goals as goal
 
 given : (c : goal.After-drop-text) → Reread MAX_SAFE_INTEGER c.deref.result.now c.args.range.now

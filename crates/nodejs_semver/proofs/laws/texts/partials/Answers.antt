@@ -1,4 +1,4 @@
-use Rattle.nodejs_semver.proofs.PartialLaw.{partials_are}
+use Rattle.nodejs_semver.proofs.Reading.PartialLaw.{partials_are}
 use Rattle.nodejs_semver.proofs.laws.texts.partials.Goals as goal
 
 pub returns : goal.returns

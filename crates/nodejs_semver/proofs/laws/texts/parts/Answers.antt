@@ -1,4 +1,4 @@
-use Rattle.nodejs_semver.proofs.BarsDivide.{bars_divide, bars_once}
+use Rattle.nodejs_semver.proofs.Dividing.BarsDivide.{bars_divide, bars_once}
 use Rattle.nodejs_semver.proofs.laws.texts.parts.Goals as goal
 
 pub returns : goal.returns

@@ -1,5 +1,5 @@
-use Rattle.nodejs_semver.proofs.RunsDivide.{part_divides}
-use Rattle.nodejs_semver.proofs.RunsUnique.{runs_are}
+use Rattle.nodejs_semver.proofs.Dividing.RunsDivide.{part_divides}
+use Rattle.nodejs_semver.proofs.Dividing.RunsUnique.{runs_are}
 use Rattle.nodejs_semver.proofs.laws.texts.runs.Goals as goal
 
 pub returns : goal.returns

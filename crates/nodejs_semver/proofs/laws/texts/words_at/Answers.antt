@@ -1,4 +1,4 @@
-use Rattle.nodejs_semver.proofs.WordLaw.{words_are}
+use Rattle.nodejs_semver.proofs.Reading.WordLaw.{words_are}
 use Rattle.nodejs_semver.proofs.laws.texts.words_at.Goals as goal
 
 pub returns : goal.returns

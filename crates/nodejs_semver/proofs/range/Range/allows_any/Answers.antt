@@ -1,5 +1,5 @@
 use Rattle.std.proofs.Common.{◌∙◌}
-use Rattle.nodejs_semver.proofs.AlgebraLaws.{meets_one-some}
+use Rattle.nodejs_semver.proofs.Algebra.Accepting.{meets_one-some}
 use Rattle.nodejs_semver.proofs.range.Range.allows_any.Goals as goal
 
 pub returns : goal.returns

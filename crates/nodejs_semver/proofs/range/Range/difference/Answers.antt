@@ -1,4 +1,4 @@
-use Rattle.nodejs_semver.proofs.AlgebraClauses.{difference-set, difference-all, difference-kept, difference-releases}
+use Rattle.nodejs_semver.proofs.Algebra.Clauses.{difference-set, difference-all, difference-kept, difference-releases}
 use Rattle.nodejs_semver.proofs.range.Range.difference.Goals as goal
 
 pub returns-clause-set : goal.returns-clause-set

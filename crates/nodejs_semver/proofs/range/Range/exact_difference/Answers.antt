@@ -1,4 +1,4 @@
-use Rattle.nodejs_semver.proofs.AlgebraClauses.{minus-valid, range-intervals}
+use Rattle.nodejs_semver.proofs.Algebra.Clauses.{minus-valid, range-intervals}
 use Rattle.nodejs_semver.proofs.range.Range.exact_difference.Goals as goal
 
 pub differences-requires : goal.differences-requires

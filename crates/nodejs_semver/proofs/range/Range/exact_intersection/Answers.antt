@@ -1,4 +1,4 @@
-use Rattle.nodejs_semver.proofs.AlgebraClauses.{meets_of-valid}
+use Rattle.nodejs_semver.proofs.Algebra.Clauses.{meets_of-valid}
 use Rattle.nodejs_semver.proofs.range.Range.exact_intersection.Goals as goal
 
 pub from_intervals-requires : goal.from_intervals-requires

@@ -1,4 +1,4 @@
-use Rattle.nodejs_semver.proofs.AlgebraClauses.{intersection-set, intersection-all, intersection-both, intersection-one, intersection-releases}
+use Rattle.nodejs_semver.proofs.Algebra.Clauses.{intersection-set, intersection-all, intersection-both, intersection-one, intersection-releases}
 use Rattle.nodejs_semver.proofs.range.Range.intersect.Goals as goal
 
 pub returns-clause-set : goal.returns-clause-set

@@ -3,10 +3,10 @@ use Rattle.std.proofs.lemmas.Iterator.{YieldsList-from_slice}
 use Rattle.std.proofs.lemmas.Iterator.Consumers.{YieldsList-from_filter, reduce_by_from_yields_List}
 use Rattle.std.specs.List.{filter, reduce}
 use Rattle.std.specs.Option.{option_copied}
-use Rattle.semver_core.specs.Versions.{VersionValue}
-use Rattle.nodejs_semver.specs.Accepts.{accepts}
-use Rattle.nodejs_semver.specs.Best.{IsMax}
-use Rattle.nodejs_semver.proofs.BestOf.{greater, greater_now, max_is}
+use Rattle.semver_core.specs.Values.Versions.{VersionValue}
+use Rattle.nodejs_semver.specs.Ranges.Gate.{accepts}
+use Rattle.nodejs_semver.specs.Ranges.Best.{IsMax}
+use Rattle.nodejs_semver.proofs.Choice.BestOf.{greater, greater_now, max_is}
 use Rattle.nodejs_semver.proofs.range.Range.max_satisfying.Goals as goal
 
 pub returns : goal.returns

@@ -1,7 +1,7 @@
 use Rattle.std.proofs.Common.{◌≡◌, ◌<◌, List, [], ◌∷◌, Some, length, arith, sym, ◌∙◌}
 use Rattle.semver_core.specs.Cuts.{if_any}
 use Rattle.semver_core.specs.declared.TheConstants.{MAX_SAFE_INTEGER}
-use Rattle.nodejs_semver.proofs.Holds.{accepted-written}
+use Rattle.nodejs_semver.proofs.Algebra.Holds.{accepted-written}
 use Rattle.nodejs_semver.proofs.range.Range.parse.Goals as goal
 
 any_some : {A : Type 0} (xs ys : List A) → Some ys ≡ if_any xs → 0 < length xs

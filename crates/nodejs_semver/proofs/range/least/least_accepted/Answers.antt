@@ -1,8 +1,8 @@
 use Rattle.std.proofs.Common.{◌≡◌, [], false, sym, subst}
-use Rattle.semver_core.specs.Versions.{VersionValue}
-use Rattle.nodejs_semver.specs.Accepts.{accepts}
-use Rattle.nodejs_semver.specs.Least.{beyond, IsLeast, IsLeastOf, least_build}
-use Rattle.nodejs_semver.proofs.LeastOf.{least_accepted, least_build_built}
+use Rattle.semver_core.specs.Values.Versions.{VersionValue}
+use Rattle.nodejs_semver.specs.Ranges.Gate.{accepts}
+use Rattle.nodejs_semver.specs.Ranges.Least.{beyond, IsLeast, IsLeastOf, least_build}
+use Rattle.nodejs_semver.proofs.Choice.LeastOf.{least_accepted, least_build_built}
 use Rattle.nodejs_semver.proofs.range.least.least_accepted.Goals as goal
 
 pub returns-in_ok-built-in-Some-clause-least : goal.returns-in_ok-built-in-Some-clause-least

@@ -1,6 +1,6 @@
 use Rattle.std.proofs.Common.{sym, subst}
-use Rattle.nodejs_semver.specs.Least.{beyond, IsLeastOf}
-use Rattle.nodejs_semver.proofs.LeastOf as lemmas
+use Rattle.nodejs_semver.specs.Ranges.Least.{beyond, IsLeastOf}
+use Rattle.nodejs_semver.proofs.Choice.LeastOf as lemmas
 use Rattle.nodejs_semver.proofs.range.least.least_beyond.Goals as goal
 
 pub returns-clause-least : goal.returns-clause-least

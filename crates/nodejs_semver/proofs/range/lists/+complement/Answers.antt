@@ -1,6 +1,6 @@
 use Rattle.std.proofs.Common.{sym}
 use Rattle.std.proofs.lemmas.List.{take-append-drop}
-use Rattle.nodejs_semver.proofs.Differences.{along-gaps, gaps-joined}
+use Rattle.nodejs_semver.proofs.Algebra.Differences.{along-gaps, gaps-joined}
 use Rattle.nodejs_semver.proofs.range.lists.+complement.Goals as goal
 
 pub clip_each-requires : goal.clip_each-requires

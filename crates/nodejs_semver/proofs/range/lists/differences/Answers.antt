@@ -1,5 +1,5 @@
 use Rattle.std.proofs.Common.{◌∙◌}
-use Rattle.nodejs_semver.proofs.Differences.{minus-clips, along-gaps}
+use Rattle.nodejs_semver.proofs.Algebra.Differences.{minus-clips, along-gaps}
 use Rattle.nodejs_semver.proofs.range.lists.differences.Goals as goal
 
 pub clip_each-requires : goal.clip_each-requires

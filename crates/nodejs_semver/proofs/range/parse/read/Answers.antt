@@ -1,6 +1,6 @@
 use Rattle.semver_core.specs.declared.TheConstants.{MAX_SAFE_INTEGER}
-use Rattle.nodejs_semver.specs.CommonText.{IsCommonRange}
-use Rattle.nodejs_semver.proofs.CommonRange.{fast_read, if-some}
+use Rattle.nodejs_semver.specs.Text.Common.{IsCommonRange}
+use Rattle.nodejs_semver.proofs.Common.Whole.{fast_read, if-some}
 use Rattle.nodejs_semver.proofs.range.parse.read.Goals as goal
 
 pub returns-in-Some : goal.returns-in-Some

@@ -1,7 +1,7 @@
 use Rattle.std.proofs.Common.{◌≡◌, ◌+◌, sym, ap, ◌∙◌, arith, drop, true, false, List, ℕ, suc}
 use Rattle.std.proofs.lemmas.List.{take_rest, drop_all}
-use Rattle.nodejs_semver.specs.PartFronts.{bars_at, begins_bars}
-use Rattle.nodejs_semver.proofs.BarLemmas.{bars_at-stop, bars_at-more, bars_at-nil}
+use Rattle.nodejs_semver.specs.Internal.PartFronts.{bars_at, begins_bars}
+use Rattle.nodejs_semver.proofs.Dividing.BarLemmas.{bars_at-stop, bars_at-more, bars_at-nil}
 use Rattle.nodejs_semver.proofs.readers.bars.bars_at.Goals as goal
 
 pub returns-then-begins_bars : goal.returns-then-begins_bars

@@ -1,5 +1,5 @@
 use Rattle.std.proofs.Common.{◌≡◌, ◌+◌, drop}
-use Rattle.nodejs_semver.specs.PartFronts.{bars_at}
+use Rattle.nodejs_semver.specs.Internal.PartFronts.{bars_at}
 use Rattle.nodejs_semver.proofs.readers.bars.bars_at.Given as goal
 
 abbrev pub invariant-bytes : goal.invariant-bytes

@@ -1,11 +1,11 @@
 use Rattle.std.proofs.Common.{◌∷◌, List, ℕ, sym, ap, ◌∙◌}
 use Rattle.std.specs.Prelude.{Option}
-use Rattle.semver_core.proofs.Trims.{MiddleIsTrim_lem}
-use Rattle.semver_core.specs.Spaces.{trim}
-use Rattle.nodejs_semver.specs.PartFronts.{later_parts}
-use Rattle.nodejs_semver.specs.Readings.{rest_view}
-use Rattle.nodejs_semver.proofs.BarLemmas.{parts-front}
-use Rattle.nodejs_semver.proofs.Trimmed.{trim-starts}
+use Rattle.semver_core.proofs.Text.Trims.{MiddleIsTrim_lem}
+use Rattle.semver_core.specs.Internal.Spaces.{trim}
+use Rattle.nodejs_semver.specs.Internal.PartFronts.{later_parts}
+use Rattle.nodejs_semver.specs.Internal.Readings.{rest_view}
+use Rattle.nodejs_semver.proofs.Dividing.BarLemmas.{parts-front}
+use Rattle.nodejs_semver.proofs.Dividing.Trimmed.{trim-starts}
 use Rattle.nodejs_semver.proofs.readers.bars.next_part.Goals as goal
 
 pub returns-clause-value : goal.returns-clause-value

@@ -1,14 +1,14 @@
 use Rattle.std.proofs.Common.{◌≡◌, rules, List, ℕ, sym, ap, ◌∙◌, true}
 use Rattle.std.proofs.lemmas.List.{take_rest}
 use Rattle.semver_core.specs.Cuts.{Span}
-use Rattle.semver_core.specs.Versions.{VersionValue}
+use Rattle.semver_core.specs.Values.Versions.{VersionValue}
 use Rattle.semver_core.specs.declared.TheConstants.{MAX_SAFE_INTEGER}
-use Rattle.nodejs_semver.specs.CommonFronts.{begins_second, comparison_front, passed, word_read}
-use Rattle.nodejs_semver.specs.CommonViews.{bounds_front_view}
-use Rattle.nodejs_semver.specs.Fronts.{Front}
-use Rattle.nodejs_semver.specs.Readings.{bounds_view, rest_view}
-use Rattle.nodejs_semver.specs.WordText.{Word}
-use Rattle.nodejs_semver.proofs.CommonBounds.{none-second, passed-second}
+use Rattle.nodejs_semver.specs.Internal.CommonFronts.{begins_second, comparison_front, passed, word_read}
+use Rattle.nodejs_semver.specs.Internal.CommonViews.{bounds_front_view}
+use Rattle.nodejs_semver.specs.Internal.Fronts.{Front}
+use Rattle.nodejs_semver.specs.Internal.Readings.{bounds_view, rest_view}
+use Rattle.nodejs_semver.specs.Text.WordText.{Word}
+use Rattle.nodejs_semver.proofs.Common.Bounds.{none-second, passed-second}
 use Rattle.nodejs_semver.proofs.readers.fast.push_comparisons.Goals as goal
 
 pub returns-in_default-bounds_read : goal.returns-in_default-bounds_read

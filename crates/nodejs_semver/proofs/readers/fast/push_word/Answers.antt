@@ -1,8 +1,8 @@
 use Rattle.std.proofs.Common.{sym, ap, ◌∙◌}
 use Rattle.semver_core.specs.declared.TheConstants.{MAX_SAFE_INTEGER}
-use Rattle.nodejs_semver.specs.CommonViews.{bounds_front_view}
-use Rattle.nodejs_semver.specs.Readings.{bounds_view, reading_view, rest_view}
-use Rattle.nodejs_semver.proofs.CommonBounds.{passed-word}
+use Rattle.nodejs_semver.specs.Internal.CommonViews.{bounds_front_view}
+use Rattle.nodejs_semver.specs.Internal.Readings.{bounds_view, reading_view, rest_view}
+use Rattle.nodejs_semver.proofs.Common.Bounds.{passed-word}
 use Rattle.nodejs_semver.proofs.readers.fast.push_word.Goals as goal
 
 pub returns : goal.returns

@@ -1,9 +1,9 @@
 use Rattle.std.proofs.Common.{◌≡◌, List, ℕ, subst}
 use Rattle.std.specs.Prelude.{IfSome}
 use Rattle.semver_core.specs.declared.TheConstants.{MAX_SAFE_INTEGER}
-use Rattle.nodejs_semver.specs.CommonText.{IsCommonRange}
-use Rattle.nodejs_semver.specs.Denotes.{denotes}
-use Rattle.nodejs_semver.proofs.CommonRange.{common_bounded, common_denoted, if-some}
+use Rattle.nodejs_semver.specs.Text.Common.{IsCommonRange}
+use Rattle.nodejs_semver.specs.Text.Denotes.{denotes}
+use Rattle.nodejs_semver.proofs.Common.Whole.{common_bounded, common_denoted, if-some}
 use Rattle.nodejs_semver.proofs.readers.fast.range_fast.Goals as goal
 
 pub from_intervals-requires : goal.from_intervals-requires

@@ -1,7 +1,7 @@
 use Rattle.std.proofs.Common.{◌≡◌, ◌∙◌, ap, sym, ℕ, List, true}
-use Rattle.nodejs_semver.specs.Fronts.{is_listed, list_of}
-use Rattle.semver_core.specs.Views.{ids_view}
-use Rattle.nodejs_semver.proofs.Listed.{found_ids, listed_read, listed_utf8}
+use Rattle.nodejs_semver.specs.Internal.Fronts.{is_listed, list_of}
+use Rattle.semver_core.specs.Values.Views.{ids_view}
+use Rattle.nodejs_semver.proofs.Reading.WrittenIdentifiers.{found_ids, listed_read, listed_utf8}
 use Rattle.nodejs_semver.proofs.readers.intervals.identifiers.Goals as goal
 
 pub returns-in-Some : goal.returns-in-Some

@@ -1,9 +1,9 @@
 use Rattle.std.proofs.Common.{◌++◌, ◌∷◌, [], List, sym, ap, ◌∙◌}
 use Rattle.semver_core.specs.Cuts.{Span}
-use Rattle.semver_core.specs.Order.{precedence}
-use Rattle.semver_core.specs.Versions.{VersionValue}
-use Rattle.nodejs_semver.specs.Meets.{joined_from}
-use Rattle.nodejs_semver.proofs.PartSteps.{join_goes, join_stops}
+use Rattle.semver_core.specs.Values.Order.{precedence}
+use Rattle.semver_core.specs.Values.Versions.{VersionValue}
+use Rattle.nodejs_semver.specs.Internal.Meets.{joined_from}
+use Rattle.nodejs_semver.proofs.Dividing.PartSteps.{join_goes, join_stops}
 use Rattle.nodejs_semver.proofs.readers.intervals.join.Goals as goal
 
 pub returns-in-Ok : goal.returns-in-Ok

@@ -1,13 +1,13 @@
 use Rattle.std.proofs.Common.{◌≡◌, ◌<◌, ◌++◌, List, ℕ, length, sym, ap, ◌∙◌, arith}
 use Rattle.std.specs.Prelude.{Option}
 use Rattle.semver_core.specs.Cuts.{Span}
-use Rattle.semver_core.specs.Order.{precedence}
-use Rattle.semver_core.specs.Versions.{VersionValue}
+use Rattle.semver_core.specs.Values.Order.{precedence}
+use Rattle.semver_core.specs.Values.Versions.{VersionValue}
 use Rattle.semver_core.specs.declared.TheConstants.{MAX_SAFE_INTEGER}
-use Rattle.nodejs_semver.specs.Denotes.{part_bounds}
-use Rattle.nodejs_semver.specs.Meets.{joined}
-use Rattle.semver_core.specs.Spaces.{space_len}
-use Rattle.nodejs_semver.proofs.PartSteps.{bounds-none, bounds-some, part-last, part-none, rest-shorter, rest-starts}
+use Rattle.nodejs_semver.specs.Text.Denotes.{part_bounds}
+use Rattle.nodejs_semver.specs.Internal.Meets.{joined}
+use Rattle.semver_core.specs.Internal.Spaces.{space_len}
+use Rattle.nodejs_semver.proofs.Dividing.PartSteps.{bounds-none, bounds-some, part-last, part-none, rest-shorter, rest-starts}
 use Rattle.nodejs_semver.proofs.readers.intervals.read_part.Goals as goal
 
 abbrev two : Option (Span VersionValue) → List ℕ → Option (Span VersionValue) × List ℕ

@@ -1,9 +1,9 @@
 use Rattle.std.proofs.Common.{◌≡◌, ◌++◌, length, None}
-use Rattle.semver_core.specs.Order.{precedence}
+use Rattle.semver_core.specs.Values.Order.{precedence}
 use Rattle.semver_core.specs.declared.TheConstants.{MAX_SAFE_INTEGER}
-use Rattle.nodejs_semver.specs.Denotes.{part_bounds}
-use Rattle.nodejs_semver.specs.Meets.{joined}
-use Rattle.semver_core.specs.Spaces.{space_len}
+use Rattle.nodejs_semver.specs.Text.Denotes.{part_bounds}
+use Rattle.nodejs_semver.specs.Internal.Meets.{joined}
+use Rattle.semver_core.specs.Internal.Spaces.{space_len}
 use Rattle.nodejs_semver.proofs.readers.intervals.read_part.Given as goal
 
 abbrev pub invariant-words : goal.invariant-words

@@ -1,9 +1,9 @@
 use Rattle.std.proofs.Common.{◌≡◌}
 use Rattle.std.specs.List.{list_all}
-use Rattle.semver_core.specs.Spaces.{is_empty}
-use Rattle.nodejs_semver.specs.PartFronts.{later_parts, left_over}
-use Rattle.nodejs_semver.specs.Parts.{parts}
-use Rattle.nodejs_semver.specs.Readings.{rest_view}
+use Rattle.semver_core.specs.Internal.Spaces.{is_empty}
+use Rattle.nodejs_semver.specs.Internal.PartFronts.{later_parts, left_over}
+use Rattle.nodejs_semver.specs.Internal.Parts.{parts}
+use Rattle.nodejs_semver.specs.Internal.Readings.{rest_view}
 use Rattle.nodejs_semver.proofs.readers.loose.is_blank.Given as goal
 
 abbrev pub invariant-parts : goal.invariant-parts

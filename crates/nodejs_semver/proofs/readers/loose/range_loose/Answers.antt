@@ -1,11 +1,11 @@
 use Rattle.std.proofs.Common.{◌+◌, List, ap, ◌∙◌}
 use Rattle.std.specs.List.{list_all}
 use Rattle.semver_core.specs.Cuts.{Span}
-use Rattle.semver_core.specs.Versions.{VersionValue}
+use Rattle.semver_core.specs.Values.Versions.{VersionValue}
 use Rattle.semver_core.specs.declared.TheConstants.{MAX_SAFE_INTEGER}
-use Rattle.nodejs_semver.specs.Parts.{parts}
-use Rattle.nodejs_semver.specs.RangeView.{is_range_span}
-use Rattle.nodejs_semver.proofs.BoundedTable.{all-bounded}
+use Rattle.nodejs_semver.specs.Internal.Parts.{parts}
+use Rattle.nodejs_semver.specs.Ranges.View.{is_range_span}
+use Rattle.nodejs_semver.proofs.Bounds.Table.{all-bounded}
 use Rattle.nodejs_semver.proofs.readers.loose.range_loose.Goals as goal
 
 pub from_intervals-requires : goal.from_intervals-requires

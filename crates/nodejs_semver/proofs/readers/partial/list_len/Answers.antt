@@ -1,8 +1,8 @@
 use Rattle.std.proofs.Common.{rules, ◌≡◌, ◌+◌, sym, ap, ◌∙◌, arith, drop, true, false, List, ℕ, suc}
 use Rattle.std.proofs.lemmas.List.{take_rest}
-use Rattle.semver_core.specs.Identifiers.{goes_on}
-use Rattle.nodejs_semver.specs.Fronts.{begins_identifier, run_on}
-use Rattle.nodejs_semver.proofs.Lists.{list_len-stop, list_len-whole, run_on-more}
+use Rattle.semver_core.specs.Text.Identifiers.{goes_on}
+use Rattle.nodejs_semver.specs.Internal.Fronts.{begins_identifier, run_on}
+use Rattle.nodejs_semver.proofs.Reading.IdentifierLists.{list_len-stop, list_len-whole, run_on-more}
 use Rattle.nodejs_semver.proofs.readers.partial.list_len.Goals as goal
 
 pub returns-then-not-goes_on : goal.returns-then-not-goes_on

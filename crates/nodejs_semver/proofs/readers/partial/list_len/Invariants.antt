@@ -1,5 +1,5 @@
 use Rattle.std.proofs.Common.{◌≡◌, ◌+◌, drop}
-use Rattle.nodejs_semver.specs.Fronts.{run_on}
+use Rattle.nodejs_semver.specs.Internal.Fronts.{run_on}
 use Rattle.nodejs_semver.proofs.readers.partial.list_len.Given as goal
 
 abbrev pub invariant-bytes : goal.invariant-bytes

@@ -1,7 +1,7 @@
 use Rattle.std.proofs.Common.{◌≡◌, sym, ap, ◌∙◌, arith, drop, length, true, false, List, ℕ}
 use Rattle.std.proofs.lemmas.List.{take_rest, drop_all}
-use Rattle.nodejs_semver.specs.Words.{is_boundary, from_boundary}
-use Rattle.nodejs_semver.proofs.Boundaries.{from_boundary-stop, from_boundary-more, from_boundary-nil}
+use Rattle.nodejs_semver.specs.Internal.Words.{is_boundary, from_boundary}
+use Rattle.nodejs_semver.proofs.Reading.Boundaries.{from_boundary-stop, from_boundary-more, from_boundary-nil}
 use Rattle.nodejs_semver.proofs.readers.words.skip_to_boundary.Goals as goal
 
 pub returns-then-is_boundary : goal.returns-then-is_boundary

@@ -1,5 +1,5 @@
 use Rattle.std.proofs.Common.{◌≡◌, drop}
-use Rattle.nodejs_semver.specs.Words.{from_boundary}
+use Rattle.nodejs_semver.specs.Internal.Words.{from_boundary}
 use Rattle.nodejs_semver.proofs.readers.words.skip_to_boundary.Given as goal
 
 abbrev pub invariant-bytes : goal.invariant-bytes

@@ -1,7 +1,7 @@
 use Rattle.std.proofs.Common.{lit<, rules, tests}
 use Rattle.std.proofs.lemmas.Iterator.Search.{all_from_yields_List}
 use Rattle.std.proofs.lemmas.Iterator.Splits.{YieldsList-from_str_split}
-use Rattle.semver_core.specs.Identifiers.{is_run}
+use Rattle.semver_core.specs.Text.Identifiers.{is_run}
 use Rattle.semver_core.proofs.increment.pre_release.is_identifiers.Goals as goal
 
 pub returns : goal.returns

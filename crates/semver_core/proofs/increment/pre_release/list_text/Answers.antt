@@ -1,5 +1,5 @@
 use Rattle.std.specs.Prelude.{string_bytes}
-use Rattle.semver_core.proofs.LastNumber.{text_so_far}
+use Rattle.semver_core.proofs.Increments.LastNumber.{text_so_far}
 use Rattle.semver_core.proofs.increment.pre_release.list_text.Goals as goal
 
 pub parts-preserved : goal.parts-preserved

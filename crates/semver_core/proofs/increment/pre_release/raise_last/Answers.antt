@@ -1,10 +1,10 @@
 use Rattle.std.proofs.Common.{◌∙◌, ap, rules, subst, sym}
 use Rattle.std.specs.Prelude.{Ok, set}
-use Rattle.semver_core.specs.Identifiers.{Numeric}
-use Rattle.semver_core.specs.Increment.{◌>>=◌}
-use Rattle.semver_core.specs.IncrementSteps.{ReturnsList}
-use Rattle.semver_core.specs.Views.{ids_view}
-use Rattle.semver_core.proofs.LastNumber.{raise_at}
+use Rattle.semver_core.specs.Text.Identifiers.{Numeric}
+use Rattle.semver_core.specs.Increments.Table.{◌>>=◌}
+use Rattle.semver_core.specs.Internal.IncrementSteps.{ReturnsList}
+use Rattle.semver_core.specs.Values.Views.{ids_view}
+use Rattle.semver_core.proofs.Increments.LastNumber.{raise_at}
 use Rattle.semver_core.proofs.increment.pre_release.raise_last.Goals as goal
 
 pub returns-in_err-more : goal.returns-in_err-more

@@ -1,7 +1,7 @@
 use Rattle.std.proofs.Common.{◌∙◌, ap, sym}
 use Rattle.std.specs.Prelude.{set}
-use Rattle.semver_core.specs.Views.{id_view, ids_view}
-use Rattle.semver_core.proofs.LastNumber.{refill_set, set_view}
+use Rattle.semver_core.specs.Values.Views.{id_view, ids_view}
+use Rattle.semver_core.proofs.Increments.LastNumber.{refill_set, set_view}
 use Rattle.semver_core.proofs.increment.pre_release.replaced.Goals as goal
 
 pub returns : goal.returns

@@ -1,4 +1,4 @@
-use Rattle.semver_core.proofs.NextLaws as law
+use Rattle.semver_core.proofs.Values.NextLaws as law
 use Rattle.semver_core.proofs.laws.next.next_versions.Goals as goal
 
 pub returns-clause-first : goal.returns-clause-first

@@ -1,4 +1,4 @@
-use Rattle.semver_core.proofs.Returns.{versions_back}
+use Rattle.semver_core.proofs.Printing.Returns.{versions_back}
 use Rattle.semver_core.proofs.laws.printing.printed_versions_come_back.Goals as goal
 
 pub returns : goal.returns

@@ -1,6 +1,6 @@
 use Rattle.std.proofs.Common.{◌∙◌, arith}
 use Rattle.semver_core.specs.declared.TheConstants.{MAX_SAFE_INTEGER}
-use Rattle.semver_core.proofs.Reread.{reread_same, reread_read}
+use Rattle.semver_core.proofs.Printing.Reread.{reread_same, reread_read}
 use Rattle.semver_core.proofs.laws.printing.reread.Goals as goal
 
 pub returns-in-Ok-clause-same : goal.returns-in-Ok-clause-same

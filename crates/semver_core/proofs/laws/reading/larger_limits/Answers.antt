@@ -1,4 +1,4 @@
-use Rattle.semver_core.proofs.LargerLimit.{keeps_reading, keeps_version}
+use Rattle.semver_core.proofs.Text.LargerLimit.{keeps_reading, keeps_version}
 use Rattle.semver_core.proofs.laws.reading.larger_limits.Goals as goal
 
 pub returns-clause-read : goal.returns-clause-read

@@ -1,4 +1,4 @@
-use Rattle.semver_core.proofs.Texts.{one_reading}
+use Rattle.semver_core.proofs.Text.Texts.{one_reading}
 use Rattle.semver_core.proofs.laws.reading.one_reading.Goals as goal
 
 pub returns : goal.returns

@@ -1,5 +1,5 @@
-use Rattle.semver_core.proofs.SpaceLaw.{FrontIsFirstCharacter_lem}
-use Rattle.semver_core.proofs.Trims.{TrimIsMiddle_lem, MiddleIsTrim_lem, AfterBlankDropsSpaces_lem, OneAfterBlank_lem}
+use Rattle.semver_core.proofs.Text.SpaceLaw.{FrontIsFirstCharacter_lem}
+use Rattle.semver_core.proofs.Text.Trims.{TrimIsMiddle_lem, MiddleIsTrim_lem, AfterBlankDropsSpaces_lem, OneAfterBlank_lem}
 use Rattle.semver_core.proofs.laws.whitespace.whitespace_in_bytes.Goals as goal
 
 pub returns : goal.returns

@@ -1,5 +1,5 @@
 use Rattle.std.proofs.Common.{rules}
-use Rattle.semver_core.proofs.Through.{displays_through}
+use Rattle.semver_core.proofs.Printing.Through.{displays_through}
 use Rattle.semver_core.proofs.print.unstyled.write_unstyled.Goals as goal
 
 pub returns : goal.returns

@@ -1,5 +1,5 @@
 use Rattle.std.proofs.Common.{sym}
-use Rattle.semver_core.proofs.Whole.{lists_left}
+use Rattle.semver_core.proofs.Text.Whole.{lists_left}
 use Rattle.semver_core.proofs.readers.fast.qualified.Goals as goal
 
 pub returns-then-end-text-clause-found : goal.returns-then-end-text-clause-found

@@ -1,7 +1,7 @@
 use Rattle.std.proofs.Common.{◌≡◌}
 use Rattle.std.proofs.lemmas.Result.{err_from_is_err_and}
 use Rattle.semver_core.specs.declared.TheConstants.{MAX_SAFE_INTEGER}
-use Rattle.semver_core.proofs.Places.{version_some}
+use Rattle.semver_core.proofs.Text.Places.{version_some}
 use Rattle.semver_core.proofs.readers.loose.version_from.Goals as goal
 
 pub returns-in_err-lists-clause-memory : goal.returns-in_err-lists-clause-memory

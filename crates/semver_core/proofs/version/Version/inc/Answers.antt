@@ -1,6 +1,6 @@
 -- Each clause follows from the table's answer.
-use Rattle.semver_core.specs.IncrementView.{given}
-use Rattle.semver_core.proofs.IncrementClauses.{patch_clause, minor_clause, major_clause, premajor_clause, preminor_clause, prepatch_clause, prerelease_clause, above_clause, build_clause}
+use Rattle.semver_core.specs.Increments.View.{given}
+use Rattle.semver_core.proofs.Increments.Clauses.{patch_clause, minor_clause, major_clause, premajor_clause, preminor_clause, prepatch_clause, prerelease_clause, above_clause, build_clause}
 use Rattle.semver_core.proofs.version.Version.inc.Goals as goal
 
 pub returns-clause-patch : goal.returns-clause-patch

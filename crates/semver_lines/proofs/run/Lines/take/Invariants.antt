@@ -1,6 +1,6 @@
 use Rattle.std.proofs.Common.{◌≡◌, ◌++◌, length, List, ℕ, string_bytes}
-use Rattle.semver_lines.specs.LineCuts.{cut_lines, cut_rest}
-use Rattle.semver_lines.specs.Steps.{GrowsByAnswers}
+use Rattle.semver_lines.specs.Internal.LineCuts.{cut_lines, cut_rest}
+use Rattle.semver_lines.specs.Internal.Steps.{GrowsByAnswers}
 use Rattle.semver_lines.proofs.run.Lines.take.Given as goal
 
 abbrev pub invariant-lines : goal.invariant-lines

@@ -1,10 +1,10 @@
 use Rattle.std.proofs.Common.{refl}
-use Rattle.semver_core.specs.Spaces.{space_len, after_spaces, drop_end_spaces}
-use Rattle.nodejs_semver.specs.Partials.{number_of, partial_of, longest_within}
-use Rattle.nodejs_semver.specs.Parts.{cut_bars}
-use Rattle.nodejs_semver.specs.RunsFrom.{runs_from}
-use Rattle.nodejs_semver.specs.Table.{table}
-use Rattle.nodejs_semver.specs.Words.{is_boundary, word_at, words_within, from_boundary}
+use Rattle.semver_core.specs.Internal.Spaces.{space_len, after_spaces, drop_end_spaces}
+use Rattle.nodejs_semver.specs.Internal.Partials.{number_of, partial_of, longest_within}
+use Rattle.nodejs_semver.specs.Internal.Parts.{cut_bars}
+use Rattle.nodejs_semver.specs.Internal.RunsFrom.{runs_from}
+use Rattle.nodejs_semver.specs.Text.Table.{table}
+use Rattle.nodejs_semver.specs.Internal.Words.{is_boundary, word_at, words_within, from_boundary}
 use Rattle.semver_lines.proofs.tests.print.reread_range_gives_an_equal_range.Goals as goal
 
 pub reread_range-requires : goal.reread_range-requires

@@ -1,7 +1,7 @@
 use Rattle.std.proofs.Common.{◌≡◌, take}
 use Rattle.std.specs.List.{fold, flat_map}
-use Rattle.nodejs_semver.specs.Candidates.{better, removed_firsts}
-use Rattle.nodejs_semver.specs.Least.{beyond}
+use Rattle.nodejs_semver.specs.Internal.Candidates.{better, removed_firsts}
+use Rattle.nodejs_semver.specs.Ranges.Least.{beyond}
 use Rattle.nodejs_semver.proofs.range.least.Search.consider_removed.Given as goal
 
 abbrev pub invariant-loop-interval : goal.invariant-loop-interval

@@ -1,5 +1,5 @@
-use Rattle.nodejs_semver.specs.Least.{beyond}
-use Rattle.nodejs_semver.proofs.LeastOf.{fold-candidates}
+use Rattle.nodejs_semver.specs.Ranges.Least.{beyond}
+use Rattle.nodejs_semver.proofs.Choice.LeastOf.{fold-candidates}
 use Rattle.nodejs_semver.proofs.range.least.Search.run.Goals as goal
 
 pub returns : goal.returns

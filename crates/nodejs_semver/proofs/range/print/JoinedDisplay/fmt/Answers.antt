@@ -1,6 +1,6 @@
 use Rattle.std.proofs.Common.{refl, rules}
 use Rattle.std.proofs.Output.{has_written_append, has_written_of_eq}
-use Rattle.nodejs_semver.proofs.PrintedSteps.{range_step, bars_step}
+use Rattle.nodejs_semver.proofs.Printing.Steps.{range_step, bars_step}
 use Rattle.nodejs_semver.proofs.range.print.JoinedDisplay.fmt.Goals as goal
 
 pub loop-interval-preserved : goal.loop-interval-preserved

@@ -2,8 +2,8 @@ use Rattle.std.proofs.Common.{◌≡◌, take}
 use denote.Text.{Utf8}
 use denote.Shadow.{shadow}
 use Rattle.std.specs.Fmt.{HasWritten, IsPlainFormatter}
-use Rattle.nodejs_semver.proofs.PrintedSteps.{bars_after}
-use Rattle.nodejs_semver.specs.Printed.{range_text}
+use Rattle.nodejs_semver.proofs.Printing.Steps.{bars_after}
+use Rattle.nodejs_semver.specs.Printing.Text.{range_text}
 use Rattle.nodejs_semver.proofs.range.print.JoinedDisplay.fmt.Given as goal
 
 abbrev pub invariant-loop-interval : goal.invariant-loop-interval

@@ -1,0 +1,7 @@
+pub mod Clauses
+pub mod Accepting
+pub mod ListSets
+pub mod Spans
+pub mod Differences
+pub mod Gate
+pub mod Holds

@@ -1,0 +1,4 @@
+pub mod Bounded
+pub mod Table
+pub mod TableRows
+pub mod TableReadings

@@ -1,0 +1,91 @@
+-- For proofs. The bounds of what is read are such as a range may have.
+use Rattle.std.proofs.Common.{◌≡◌, ℕ, zero, suc, ◌≤◌, ◌+◌, List, [], ◌∷◌, length, map, refl, sym, ap, ◌∙◌, Bool, true, false, Some, None}
+use Rattle.std.specs.Prelude.{Option, ◌&&◌, flat_map, filter_map, if◌then◌else◌}
+use Rattle.std.specs.List.{AllByRecursion, cons_option, list_all}
+use Rattle.std.proofs.lemmas.List.Folds.{list_all-append}
+use Rattle.semver_core.specs.Cuts.{Span}
+use Rattle.semver_core.specs.declared.cuts.bound.Bound.{Bound}
+use Rattle.semver_core.specs.Values.Order.{precedence}
+use Rattle.semver_core.specs.Internal.Spaces.{drop_spaces, is_empty}
+use Rattle.semver_core.specs.Values.Versions.{VersionValue}
+use Rattle.nodejs_semver.specs.Text.Denotes.{denotes, part_bounds, part_denotes, part_intervals}
+use Rattle.nodejs_semver.specs.Internal.Parts.{parts}
+use Rattle.nodejs_semver.specs.Ranges.View.{any_version, is_range_bound, is_range_span}
+use Rattle.nodejs_semver.specs.Text.Runs.{Run, fits, greatest_lower, interval_of, least_upper, run_items}
+use Rattle.nodejs_semver.specs.Internal.RunsFrom.{runs_of}
+use Rattle.nodejs_semver.specs.Text.Table.{table}
+use Rattle.nodejs_semver.specs.Internal.Words.{word_at, words_within}
+use Rattle.nodejs_semver.proofs.Bounds.Bounded.{word-fine}
+use Rattle.nodejs_semver.proofs.Reading.IdentifierLists.{and-both, and-left, and-right}
+use Rattle.nodejs_semver.proofs.Dividing.RunsDivide.{part_divides}
+use Rattle.nodejs_semver.proofs.Bounds.TableRows.{are_bounds, table-bounded}
+
+all-cons : {B : Type 0} (p : B → Bool) (o : Option B) (ys : List B) → ((b : B) → o ≡ Some b → p b ≡ true) → list_all p ys ≡ true → list_all p (cons_option o ys) ≡ true
+all-cons p None ys one rest = rest
+all-cons p (Some y) ys one rest = and-both (p y) (list_all p ys) (one y refl) rest
+
+words-bounded : (limit n : ℕ) (text : List ℕ) → list_all (are_bounds (limit + 1)) (filter_map (table limit) (words_within limit n text)) ≡ true
+unfolding words_within
+words-bounded limit zero text = refl
+words-bounded limit (suc n) [] = refl
+words-bounded limit (suc n) (b ∷ text) =
+    let read = word_at limit (b ∷ text) in
+    all-cons (are_bounds (limit + 1)) (table limit read.0) (filter_map (table limit) (words_within limit n (drop_spaces read.1)))
+    (λ s e. table-bounded limit read.0 s (word-fine limit (b ∷ text)) e)
+    (words-bounded limit n (drop_spaces read.1))
+
+part-bounded : (limit : ℕ) (part : List ℕ) → list_all (are_bounds (limit + 1)) (part_bounds limit part) ≡ true
+part-bounded limit part = words-bounded limit (length part) part
+
+-- ---- the intervals of runs
+
+pick : (limit : ℕ) (t : Bool) (b c : Bound VersionValue) → is_range_bound limit b ≡ true → is_range_bound limit c ≡ true → is_range_bound limit (if t then b else c) ≡ true
+pick limit true b c f g = f
+pick limit false b c f g = g
+
+lower-bounded : (limit : ℕ) (s : Span VersionValue) (ts : List (Span VersionValue)) → list_all (are_bounds limit) (s ∷ ts) ≡ true → is_range_bound limit (greatest_lower precedence s ts) ≡ true
+lower-bounded limit s [] h = and-left _ _ (and-left (are_bounds limit s) true h)
+lower-bounded limit s (t ∷ rest) h =
+    pick limit _ s.lower (greatest_lower precedence t rest) (and-left _ _ (and-left (are_bounds limit s) (list_all (are_bounds limit) (t ∷ rest)) h))
+    (lower-bounded limit t rest (and-right (are_bounds limit s) (list_all (are_bounds limit) (t ∷ rest)) h))
+
+upper-bounded : (limit : ℕ) (s : Span VersionValue) (ts : List (Span VersionValue)) → list_all (are_bounds limit) (s ∷ ts) ≡ true → is_range_bound limit (least_upper precedence s ts) ≡ true
+upper-bounded limit s [] h = and-right (is_range_bound limit s.lower) (is_range_bound limit s.upper) (and-left (are_bounds limit s) true h)
+upper-bounded limit s (t ∷ rest) h =
+    pick limit _ (least_upper precedence t rest) s.upper (upper-bounded limit t rest (and-right (are_bounds limit s) (list_all (are_bounds limit) (t ∷ rest)) h))
+    (and-right (is_range_bound limit s.lower) (is_range_bound limit s.upper) (and-left (are_bounds limit s) (list_all (are_bounds limit) (t ∷ rest)) h))
+
+run-bounded : (limit : ℕ) (r : Run VersionValue) → list_all (are_bounds limit) (run_items r) ≡ true → fits precedence r ≡ true → is_range_span limit (interval_of precedence r) ≡ true
+run-bounded limit r h one = and-both _ _ one (and-both _ _ (lower-bounded limit r.first r.others h) (upper-bounded limit r.first r.others h))
+
+runs-bounded : (limit : ℕ) (runs : List (Run VersionValue)) → list_all (are_bounds limit) (flat_map run_items runs) ≡ true → AllByRecursion (λ r. fits precedence r ≡ true) runs
+    → list_all (is_range_span limit) (map (interval_of precedence) runs) ≡ true
+runs-bounded limit [] h each = refl
+runs-bounded limit (r ∷ rest) h each =
+    let both = sym (list_all-append (are_bounds limit) (run_items r) (flat_map run_items rest)) ∙ h in
+    and-both (is_range_span limit (interval_of precedence r)) (list_all (is_range_span limit) (map (interval_of precedence) rest))
+    (run-bounded limit r (and-left (list_all (are_bounds limit) (run_items r)) (list_all (are_bounds limit) (flat_map run_items rest)) both) each.0)
+    (runs-bounded limit rest (and-right (list_all (are_bounds limit) (run_items r)) (list_all (are_bounds limit) (flat_map run_items rest)) both) each.1)
+
+pub intervals-bounded : (limit : ℕ) (part : List ℕ) → list_all (is_range_span (limit + 1)) (part_intervals limit part) ≡ true
+intervals-bounded limit part =
+    let runs = part_divides limit part in
+    runs-bounded (limit + 1) (runs_of precedence (part_bounds limit part))
+    (ap (λ (l : List (Span VersionValue)). list_all (are_bounds (limit + 1)) l) runs.whole ∙ part-bounded limit part) runs.each
+
+part-denotes-bounded : (limit : ℕ) (part : List ℕ) → list_all (is_range_span (limit + 1)) (part_denotes limit part) ≡ true
+part-denotes-bounded limit [] = refl
+part-denotes-bounded limit (b ∷ part) = intervals-bounded limit (b ∷ part)
+
+pub all-bounded : (limit : ℕ) (ps : List (List ℕ)) → list_all (is_range_span (limit + 1)) (flat_map (part_denotes limit) ps) ≡ true
+all-bounded limit [] = refl
+all-bounded limit (p ∷ ps) =
+    list_all-append (is_range_span (limit + 1)) (part_denotes limit p) (flat_map (part_denotes limit) ps)
+    ∙ and-both _ _ (part-denotes-bounded limit p) (all-bounded limit ps)
+
+pub denotes-bounded : (limit : ℕ) (text : List ℕ) → list_all (is_range_span (limit + 1)) (denotes limit text) ≡ true
+denotes-bounded limit text = by_test (list_all is_empty (parts text))
+  where
+    by_test : (b : Bool) → list_all (is_range_span (limit + 1)) (if b then any_version else flat_map (part_denotes limit) (parts text)) ≡ true
+    by_test true = refl
+    by_test false = all-bounded limit (parts text)

@@ -1,0 +1,18 @@
+-- For proofs. The bounds that the table gives a word that is no hyphen word make an interval.
+use Rattle.std.proofs.Common.{◌≡◌, ◌∙◌, ℕ, refl, sym, true, Some, None}
+use Rattle.std.specs.Prelude.{Option}
+use Rattle.semver_core.specs.Cuts.{Span, interval, is_interval}
+use Rattle.semver_core.specs.Values.Order.{precedence}
+use Rattle.semver_core.specs.Values.Versions.{VersionValue}
+use Rattle.nodejs_semver.specs.Internal.Readings.{bounds_view, interval_view, table_view}
+use Rattle.nodejs_semver.specs.Text.Table.{table}
+use Rattle.nodejs_semver.specs.Text.WordText.{Word}
+use Rattle.nodejs_semver.specs.declared.readers.syntax.Bounds.{Bounds}
+use Rattle.nodejs_semver.proofs.Bounds.TableRows.{table-interval}
+
+kept : (s : Span VersionValue) → is_interval precedence s ≡ true → interval precedence s ≡ Some s
+kept s h = rw h refl
+
+pub settled : (limit : ℕ) (w : Word) (o : Option Bounds) → table_view o ≡ table limit w → interval_view o ≡ table limit w
+settled limit w None e = e
+settled limit w (Some b) e = let h = kept (bounds_view b) (table-interval limit w (bounds_view b) (sym e)) in h ∙ e

@@ -1,0 +1,140 @@
+-- The parts of a text, cut at its bars.
+use Rattle.semver_core.specs.Text.Characters.{begins}
+use Rattle.std.proofs.Common.{◌≡◌, ℕ, suc, ◌<◌, ◌≤◌, ◌+◌, List, [], ◌∷◌, length, drop, get_or, refl, sym, ap, ◌∙◌, arith, true, false, Some, None, inl, inr, subst, map, length-drop}
+use Rattle.std.specs.Prelude.{Option, nat_lt, IsCharBoundary, IsUtf8}
+use Rattle.std.proofs.lemmas.Bool.{eqb-true, cases_Bool, cases_lt, lt-ltb, le-ltb}
+use Rattle.std.proofs.lemmas.Str.{IsCharBoundary-after_ascii, IsCharBoundary-before_ascii}
+use Rattle.std.proofs.lemmas.List.{drop_more, get_or-drop}
+use Rattle.nodejs_semver.specs.Internal.Parts.{cut_bars, parts}
+use Rattle.nodejs_semver.specs.Text.Bars.{is_bar}
+use Rattle.semver_core.specs.Internal.Spaces.{trim}
+use Rattle.nodejs_semver.specs.Internal.PartFronts.{bars_at, begins_bars, front_part, later_parts}
+use Rattle.nodejs_semver.proofs.Reading.IdentifierLists.{and-left, and-right}
+
+pub bars_fit : (text : List ℕ) → bars_at text ≤ length text
+unfolding bars_at
+bars_fit [] = omega arith
+bars_fit (b ∷ rest) = elim (cases_Bool (begins_bars (b ∷ rest))) [
+  | inl here ↦ rw here (omega arith)
+  | inr other ↦ let more = bars_fit rest in rw other (omega arith)
+]
+
+begins_bar-some : (text : List ℕ) → begins is_bar text ≡ true → 0 < length text
+begins_bar-some [] h = cc h
+begins_bar-some (b ∷ rest) h = omega arith
+
+-- where bars stand, both fit
+pub bars_room : (text : List ℕ) → bars_at text < length text → bars_at text + 2 ≤ length text
+unfolding bars_at
+bars_room [] h = absurd (omega arith)
+bars_room (b ∷ rest) h = elim (cases_Bool (begins_bars (b ∷ rest))) [
+  | inl here ↦ let some = begins_bar-some rest (and-right (is_bar b) (begins is_bar rest) here) in rw here (omega arith)
+  | inr other ↦ let less : suc (bars_at rest) < length (b ∷ rest) = rw other at h in let more = bars_room rest (omega arith) in rw other (omega arith)
+]
+
+pub bars_at-stop : (text : List ℕ) → begins_bars text ≡ true → bars_at text ≡ 0
+unfolding bars_at
+bars_at-stop [] h = refl
+bars_at-stop (b ∷ rest) h = rw h refl
+
+pub bars_at-more : (text : List ℕ) (i : ℕ) → i < length text → begins_bars (drop i text) ≡ false → bars_at (drop i text) ≡ suc (bars_at (drop (i + 1) text))
+unfolding bars_at
+bars_at-more text i lt h =
+    let goes : begins_bars (get_or text i 0 ∷ drop (i + 1) text) ≡ false = rw (drop_more text i 0 lt) at h in
+    rw (drop_more text i 0 lt, goes) refl
+
+pub bars_at-nil : bars_at [] ≡ 0
+unfolding bars_at
+bars_at-nil = refl
+
+-- what a list of parts has after its first one
+abbrev parts_after : Option (List ℕ) → List (List ℕ)
+parts_after None = []
+parts_after (Some t) = cut_bars false t
+
+-- the parts are the one at the front, and those of what follows
+pub cut_bars-front : (text : List ℕ) → cut_bars false text ≡ (front_part text).0 ∷ parts_after (front_part text).1
+unfolding bars_at cut_bars
+cut_bars-front [] = refl
+cut_bars-front (b ∷ rest) = elim (cases_Bool (begins_bars (b ∷ rest))) [
+  | inl here ↦ at_bars rest here
+  | inr other ↦
+      rw (other, cut_bars) (elim (cases_lt (bars_at rest) (length rest)) [
+        | inl less ↦
+            let more = rw (lt-ltb _ _ less) at (cut_bars-front rest) in
+            let yes : nat_lt (suc (bars_at rest)) (length (b ∷ rest)) ≡ true = lt-ltb _ _ (omega arith) in
+            let sum : suc (bars_at rest) + 2 ≡ suc (bars_at rest + 2) = omega arith in
+            rw (yes, more, sum) refl
+        | inr none ↦
+            let more = rw (le-ltb _ _ none) at (cut_bars-front rest) in
+            let no : nat_lt (suc (bars_at rest)) (length (b ∷ rest)) ≡ false = le-ltb _ _ (omega arith) in
+            rw (no, more) refl
+      ])
+]
+  where
+    at_bars : (rest : List ℕ) → begins_bars (b ∷ rest) ≡ true → cut_bars false (b ∷ rest) ≡ (front_part (b ∷ rest)).0 ∷ parts_after (front_part (b ∷ rest)).1
+    at_bars [] h = cc (and-right (is_bar b) false h)
+    at_bars (c ∷ r) h =
+        let yes : nat_lt 0 (length (b ∷ c ∷ r)) ≡ true = lt-ltb 0 (length (b ∷ c ∷ r)) (omega arith) in
+        rw (h, cut_bars, yes) refl
+
+-- bars are ASCII, so a text may be cut at them
+bar-low : (b : ℕ) → is_bar b ≡ true → b < 128
+bar-low b h = let e = eqb-true b 124 h in omega arith
+
+begins_bar-low : (text : List ℕ) → begins is_bar text ≡ true → get_or text 0 0 < 128
+begins_bar-low [] h = cc h
+begins_bar-low (b ∷ rest) h = bar-low b h
+
+here-low : (text : List ℕ) → begins_bars text ≡ true → (get_or text 0 0 < 128) × (get_or text 1 0 < 128)
+here-low [] h = cc h
+here-low (b ∷ rest) h = (bar-low b (and-left (is_bar b) (begins is_bar rest) h), begins_bar-low rest (and-right (is_bar b) (begins is_bar rest) h))
+
+bars-begin : (text : List ℕ) → bars_at text < length text → begins_bars (drop (bars_at text) text) ≡ true
+unfolding bars_at
+bars-begin [] h = absurd (omega arith)
+bars-begin (b ∷ rest) h = elim (cases_Bool (begins_bars (b ∷ rest))) [
+  | inl here ↦ rw here here
+  | inr other ↦ let less : suc (bars_at rest) < length (b ∷ rest) = rw other at h in rw other (bars-begin rest (omega arith))
+]
+
+bars-low : (text : List ℕ) → bars_at text < length text → (get_or text (bars_at text) 0 < 128) × (get_or text (bars_at text + 1) 0 < 128)
+bars-low text h =
+    let n = bars_at text in
+    let low = here-low (drop n text) (bars-begin text h) in
+    let place : n + 0 ≡ n = omega arith in
+    let one : get_or (drop n text) 0 0 ≡ get_or text n 0 = get_or-drop n text 0 0 ∙ ap (λ (k : ℕ). get_or text k 0) place in
+    let two : get_or (drop n text) 1 0 ≡ get_or text (n + 1) 0 = get_or-drop n text 1 0 in
+    (omega (arith, low.0, one), omega (arith, low.1, two))
+
+pub bars_boundary : (text : List ℕ) (at : ℕ) → at ≡ bars_at text → at < length text → IsCharBoundary text at
+bars_boundary text at e h =
+    let less : bars_at text < length text = omega arith in
+    subst (λ (n : ℕ). IsCharBoundary text n) (sym e) (IsCharBoundary-before_ascii text (bars_at text) less (bars-low text less).0)
+
+pub bars_behind : (text : List ℕ) (at : ℕ) → IsUtf8 text → at ≡ bars_at text → at < length text → IsCharBoundary text (at + 2)
+bars_behind text at u e h =
+    let less : bars_at text < length text = omega arith in
+    let room = bars_room text less in
+    let next : bars_at text + 1 < length text = omega arith in
+    let place : bars_at text + 1 + 1 ≡ at + 2 = omega arith in
+    subst (λ (n : ℕ). IsCharBoundary text n) place (IsCharBoundary-after_ascii text (bars_at text + 1) u next (bars-low text less).1)
+
+-- the parts are the one at the front, trimmed, and those of what follows
+pub parts-front : (text : List ℕ) → parts text ≡ trim (front_part text).0 ∷ later_parts (front_part text).1
+parts-front text = ap (λ (ps : List (List ℕ)). map trim ps) (cut_bars-front text) ∙ ap (λ (ps : List (List ℕ)). trim (front_part text).0 ∷ ps) (later (front_part text).1)
+  where
+    later : (o : Option (List ℕ)) → map trim (parts_after o) ≡ later_parts o
+    later None = refl
+    later (Some t) = refl
+
+pub rest-less : (text : List ℕ) (rest : List ℕ) → (front_part text).1 ≡ Some rest → length rest < length text
+rest-less text rest h = elim (cases_lt (bars_at text) (length text)) [
+  | inl less ↦
+      let e : drop (bars_at text + 2) text ≡ rest = inside (rw (lt-ltb _ _ less) at h) in
+      omega (arith, bars_room text less, ap length e, length-drop (bars_at text + 2) text)
+  | inr none ↦ cc (rw (le-ltb _ _ none) at h)
+]
+  where
+    inside : {t u : List ℕ} → Some t ≡ Some u → t ≡ u
+    inside k = cc k

@@ -1,0 +1,219 @@
+-- What a text denotes is its one meaning.
+use Rattle.std.proofs.Common.{◌≡◌, ℕ, zero, suc, ◌<◌, ◌≤◌, List, [], ◌∷◌, ◌++◌, length, get_or, refl, sym, ap, ◌∙◌, arith, true, false, inl, inr, subst, append-nil, length-append}
+use Rattle.std.specs.Prelude.{IsUtf8, encode_utf8_all, map, filter_map, flat_map, if◌then◌else◌}
+use Rattle.std.specs.Char.{encode_utf8}
+use Rattle.std.specs.List.{AllByRecursion, list_all}
+use Rattle.std.proofs.lemmas.Bool.{cases_Bool}
+use Rattle.std.proofs.lemmas.List.{take_at, drop_at}
+use Rattle.std.proofs.lemmas.List.Folds.{list_all-append}
+use Rattle.std.proofs.lemmas.Str.{IsUtf8-drop, IsUtf8-take, IsCharBoundary-after_ascii, IsCharBoundary-before_ascii, len_utf8_bounds, length-encode}
+use Rattle.semver_core.specs.Text.Characters.{IsBlank, is_whitespace}
+use Rattle.semver_core.specs.Cuts.{Span}
+use Rattle.semver_core.specs.Values.Order.{precedence}
+use Rattle.semver_core.specs.Internal.Spaces.{drop_spaces, is_empty, space_len, trim}
+use Rattle.semver_core.specs.Values.Versions.{VersionValue}
+use Rattle.semver_core.proofs.Text.Trims.{MiddleIsTrim_lem, TrimIsMiddle_lem, trim_parts}
+use Rattle.nodejs_semver.specs.Text.Denotes.{denotes, part_bounds, part_denotes, part_intervals}
+use Rattle.nodejs_semver.specs.Internal.Parts.{cut_bars}
+use Rattle.nodejs_semver.specs.Text.Bars.{join_bars}
+use Rattle.nodejs_semver.specs.Text.Meaning.{AreAllIntervals, AreIntervals, AreWords, Means, blank_piece, next_piece, next_word, no_piece, no_word}
+use Rattle.nodejs_semver.specs.Text.Laws.{OneMeaning}
+use Rattle.nodejs_semver.specs.Ranges.View.{any_version}
+use Rattle.nodejs_semver.specs.Text.Runs.{Run, interval_of}
+use Rattle.nodejs_semver.specs.Internal.RunsFrom.{runs_of}
+use Rattle.nodejs_semver.specs.Text.Table.{table}
+use Rattle.nodejs_semver.specs.Text.WordText.{Word}
+use Rattle.nodejs_semver.specs.Internal.Words.{word_at, words}
+use Rattle.nodejs_semver.proofs.Dividing.BarsDivide.{bars_divide, bars_once}
+use Rattle.nodejs_semver.proofs.Reading.IdentifierLists.{and-both, and-left, and-right}
+use Rattle.nodejs_semver.proofs.Dividing.PartSteps.{words-none}
+use Rattle.nodejs_semver.proofs.Reading.Progress.{spaces-gone, spaces-le, word-shorter, words-step}
+use Rattle.nodejs_semver.proofs.Dividing.RunsDivide.{part_divides}
+use Rattle.nodejs_semver.proofs.Dividing.RunsUnique.{runs_are}
+use Rattle.nodejs_semver.proofs.Dividing.Trimmed.{trim-starts}
+use Rattle.nodejs_semver.proofs.Reading.WordLaw.{skips-is, skips-of, skips-utf8, trim-utf8, word-utf8, words_are}
+
+-- ---- the words of a part
+
+words-once : (limit : ℕ) (text : List ℕ) (list : List Word) → IsUtf8 text → space_len text ≡ 0 → AreWords limit text list → list ≡ words limit text
+words-once limit text list u h no_word = sym (words-none limit [] refl)
+words-once limit text list u h (next_word b rest behind next word others is skipped more) =
+    let read : word_at limit (b ∷ rest) ≡ (word, behind) = (words_are limit (b ∷ rest) word behind u).1 is in
+    let v = word-utf8 limit (b ∷ rest) word behind u is in
+    let left : drop_spaces behind ≡ next = skips-of behind next v skipped in
+    let dark : space_len next ≡ 0 = subst (λ (t : List ℕ). space_len t ≡ 0) left (spaces-gone 0 behind) in
+    let same : others ≡ words limit (drop_spaces behind) =
+    words-once limit next others (skips-utf8 behind next skipped v) dark more ∙ ap (λ (t : List ℕ). words limit t) (sym left) in
+    ap (λ (l : List Word). word ∷ l) same ∙ (ap (λ (r : Word × List ℕ). r.0 ∷ words limit (drop_spaces r.1)) (sym read)
+    ∙ sym (words-step limit (b ∷ rest) (omega arith) h))
+
+words-read : (limit n : ℕ) (text : List ℕ) → IsUtf8 text → space_len text ≡ 0 → length text ≤ n → AreWords limit text (words limit text)
+words-read limit n [] u h l = subst (λ (list : List Word). AreWords limit [] list) (sym (words-none limit [] refl)) no_word
+words-read limit zero (b ∷ rest) u h l = absurd (omega arith)
+words-read limit (suc n) (b ∷ rest) u h l =
+    let read = word_at limit (b ∷ rest) in
+    let next = drop_spaces read.1 in
+    let is = (words_are limit (b ∷ rest) read.0 read.1 u).0 refl in
+    let v = word-utf8 limit (b ∷ rest) read.0 read.1 u is in
+    let skipped = skips-is read.1 v in
+    let less = word-shorter limit b rest h in
+    let le = spaces-le read.1 in
+    let more = words-read limit n next (skips-utf8 read.1 next skipped v) (spaces-gone 0 read.1) (omega arith) in
+    subst (λ (list : List Word). AreWords limit (b ∷ rest) list) (sym (words-step limit (b ∷ rest) (omega arith) h))
+    (next_word b rest read.1 next read.0 (words limit next) is skipped more)
+
+-- ---- the intervals of a piece
+
+piece-means : (limit : ℕ) (piece : List ℕ) → IsUtf8 piece → AreIntervals limit piece (part_intervals limit (trim piece))
+piece-means limit piece u =
+    let part = trim piece in
+    let is = TrimIsMiddle_lem piece u in
+    record {
+      part = part;
+      words = words limit part;
+      runs = runs_of precedence (part_bounds limit part);
+      trimmed = is;
+      read = words-read limit (length part) part (trim-utf8 piece part u is) (trim-starts piece part is) (omega arith);
+      divided = part_divides limit part;
+      spanned = refl;
+    }
+
+piece-once : (limit : ℕ) (piece : List ℕ) (list : List (Span VersionValue)) → IsUtf8 piece → AreIntervals limit piece list → list ≡ part_intervals limit (trim piece)
+piece-once limit piece list u h =
+    h.spanned
+    ∙ ap (λ (rs : List (Run VersionValue)). map (interval_of precedence) rs) (runs_are (filter_map (table limit) h.words) h.runs h.divided)
+    ∙ ap (λ (ws : List Word). map (interval_of precedence) (runs_of precedence (filter_map (table limit) ws)))
+    (words-once limit h.part h.words (trim-utf8 piece h.part u h.trimmed) (trim-starts piece h.part h.trimmed) h.read)
+    ∙ ap (λ (t : List ℕ). part_intervals limit t) (MiddleIsTrim_lem piece h.part h.trimmed)
+
+-- ---- the pieces of a text are UTF-8
+
+utf8-bar : (piece t : List ℕ) → IsUtf8 (piece ++ 124 ∷ (124 ∷ t)) → IsUtf8 piece × IsUtf8 t
+utf8-bar piece t u =
+    let text = piece ++ 124 ∷ (124 ∷ t) in
+    let long : length piece < length text = omega (arith, length-append piece (124 ∷ (124 ∷ t))) in
+    let bar : get_or text (length piece) 0 ≡ 124 = at_bar piece in
+    let cut = IsCharBoundary-before_ascii text (length piece) long (omega (arith, bar)) in
+    let front : IsUtf8 piece = subst (λ (x : List ℕ). IsUtf8 x) (take_at piece (124 ∷ (124 ∷ t)) (length piece) refl) (IsUtf8-take text (length piece) u cut) in
+    let back : IsUtf8 (124 ∷ (124 ∷ t)) = subst (λ (x : List ℕ). IsUtf8 x) (drop_at piece (124 ∷ (124 ∷ t)) (length piece) refl) (IsUtf8-drop text (length piece) u cut) in
+    (front, IsUtf8-drop (124 ∷ (124 ∷ t)) 2 back (IsCharBoundary-after_ascii (124 ∷ (124 ∷ t)) 1 back (omega arith) (omega arith)))
+  where
+    at_bar : (p : List ℕ) → get_or (p ++ 124 ∷ (124 ∷ t)) (length p) 0 ≡ 124
+    at_bar [] = refl
+    at_bar (b ∷ p) = at_bar p
+
+pieces-utf8 : (pieces : List (List ℕ)) → IsUtf8 (join_bars pieces) → AllByRecursion IsUtf8 pieces
+pieces-utf8 [] u = tt
+pieces-utf8 (piece ∷ []) u = (u, tt)
+pieces-utf8 (piece ∷ next ∷ rest) u =
+    let cut = utf8-bar piece (join_bars (next ∷ rest)) u in
+    (cut.0, pieces-utf8 (next ∷ rest) cut.1)
+
+-- ---- a piece is blank where nothing is left of it
+
+empty-is : (text : List ℕ) → is_empty text ≡ true → text ≡ []
+empty-is [] h = refl
+empty-is (b ∷ rest) h = cc h
+
+no_characters : (cs : List ℕ) → encode_utf8_all cs ≡ [] → cs ≡ []
+no_characters [] h = refl
+no_characters (c ∷ cs) h =
+    absurd (omega (arith, ap length h, length-append (encode_utf8 c) (encode_utf8_all cs), length-encode c, (len_utf8_bounds c).0))
+
+blank-empty : (piece : List ℕ) → IsBlank piece → is_empty (trim piece) ≡ true
+blank-empty piece h =
+    ap (λ (t : List ℕ). is_empty (trim t)) (h.spelled ∙ ap (λ (cs : List ℕ). encode_utf8_all cs) (sym (append-nil h.characters)))
+    ∙ ap (λ (t : List ℕ). is_empty t) (trim_parts h.characters [] [] h.each refl refl refl)
+
+empty-blank : (piece : List ℕ) → IsUtf8 piece → is_empty (trim piece) ≡ true → IsBlank piece
+empty-blank piece u h =
+    let is = TrimIsMiddle_lem piece u in
+    let none : is.characters ≡ [] = no_characters is.characters (sym is.middle_is ∙ empty-is (trim piece) h) in
+    record {
+      characters = is.before ++ is.after;
+      each = list_all-append is_whitespace is.before is.after ∙ and-both _ _ is.blank_before is.blank_after;
+      spelled = is.divided ∙ ap (λ (cs : List ℕ). encode_utf8_all (is.before ++ (cs ++ is.after))) none;
+    }
+
+all-empty : (pieces : List (List ℕ)) → AllByRecursion IsBlank pieces → list_all is_empty (map trim pieces) ≡ true
+all-empty [] h = refl
+all-empty (piece ∷ pieces) h = and-both (is_empty (trim piece)) (list_all is_empty (map trim pieces)) (blank-empty piece h.0) (all-empty pieces h.1)
+
+all-blank : (pieces : List (List ℕ)) → AllByRecursion IsUtf8 pieces → list_all is_empty (map trim pieces) ≡ true → AllByRecursion IsBlank pieces
+all-blank [] u h = tt
+all-blank (piece ∷ pieces) u h =
+    let rest = list_all is_empty (map trim pieces) in
+    (empty-blank piece u.0 (and-left (is_empty (trim piece)) rest h), all-blank pieces u.1 (and-right (is_empty (trim piece)) rest h))
+
+-- ---- the intervals of all pieces
+
+-- what one piece means
+piece-denotes : (limit : ℕ) (piece : List ℕ) → is_empty (trim piece) ≡ true → part_denotes limit (trim piece) ≡ any_version
+piece-denotes limit piece h = rw h refl
+
+piece-words : (limit : ℕ) (piece : List ℕ) → is_empty (trim piece) ≡ false → part_denotes limit (trim piece) ≡ part_intervals limit (trim piece)
+piece-words limit piece h = rw h refl
+
+all-mean : (limit : ℕ) (pieces : List (List ℕ)) → AllByRecursion IsUtf8 pieces → AreAllIntervals limit pieces (flat_map (part_denotes limit) (map trim pieces))
+all-mean limit [] u = no_piece
+all-mean limit (piece ∷ pieces) u =
+    let others = flat_map (part_denotes limit) (map trim pieces) in
+    let more = all-mean limit pieces u.1 in
+    elim (cases_Bool (is_empty (trim piece))) [
+      | inl empty ↦ subst (λ (l : List (Span VersionValue)). AreAllIntervals limit (piece ∷ pieces) (l ++ others)) (sym (piece-denotes limit piece empty))
+          (blank_piece piece pieces others (empty-blank piece u.0 empty) more)
+      | inr some ↦ subst (λ (l : List (Span VersionValue)). AreAllIntervals limit (piece ∷ pieces) (l ++ others)) (sym (piece-words limit piece some))
+          (next_piece piece pieces (part_intervals limit (trim piece)) others (λ blank. cc (sym some ∙ blank-empty piece blank)) (piece-means limit piece u.0) more)
+    ]
+
+all-once : (limit : ℕ) (pieces : List (List ℕ)) (list : List (Span VersionValue)) → AllByRecursion IsUtf8 pieces → AreAllIntervals limit pieces list
+    → list ≡ flat_map (part_denotes limit) (map trim pieces)
+all-once limit pieces list u no_piece = refl
+all-once limit pieces list u (blank_piece piece rest others blank more) =
+    ap (λ (l : List (Span VersionValue)). l ++ others) (sym (piece-denotes limit piece (blank-empty piece blank)))
+    ∙ ap (λ (l : List (Span VersionValue)). part_denotes limit (trim piece) ++ l) (all-once limit rest others u.1 more)
+all-once limit pieces list u (next_piece piece rest here others dark h more) =
+    let some : is_empty (trim piece) ≡ false = elim (cases_Bool (is_empty (trim piece))) [
+      | inl empty ↦ absurd (dark (empty-blank piece u.0 empty))
+      | inr some ↦ some
+    ] in
+    ap (λ (l : List (Span VersionValue)). l ++ others) (piece-once limit piece here u.0 h ∙ sym (piece-words limit piece some))
+    ∙ ap (λ (l : List (Span VersionValue)). part_denotes limit (trim piece) ++ l) (all-once limit rest others u.1 more)
+
+-- ---- the whole text
+
+-- the intervals of a text by its pieces
+abbrev denoted : ℕ → List (List ℕ) → List (Span VersionValue)
+denoted limit pieces = if list_all is_empty (map trim pieces) then any_version else flat_map (part_denotes limit) (map trim pieces)
+
+means : (limit : ℕ) (text : List ℕ) (list : List (Span VersionValue)) → IsUtf8 text → denotes limit text ≡ list → Means limit text list
+means limit text list u e =
+    let pieces = cut_bars false text in
+    let cut = bars_divide text in
+    let each = pieces-utf8 pieces (subst (λ (t : List ℕ). IsUtf8 t) (sym cut.joined) u) in
+    subst (λ (l : List (Span VersionValue)). Means limit text l) e
+    (record { pieces = pieces; cut = cut; where_blank = λ blank. blank-case pieces (all-empty pieces blank); elsewhere = λ filled. filled-case pieces each filled })
+  where
+    blank-case : (pieces : List (List ℕ)) → list_all is_empty (map trim pieces) ≡ true → denoted limit pieces ≡ any_version
+    blank-case pieces h = rw h refl
+
+    filled-case : (pieces : List (List ℕ)) → AllByRecursion IsUtf8 pieces → (AllByRecursion IsBlank pieces → ⊥) → AreAllIntervals limit pieces (denoted limit pieces)
+    filled-case pieces each filled = elim (cases_Bool (list_all is_empty (map trim pieces))) [
+      | inl empty ↦ absurd (filled (all-blank pieces each empty))
+      | inr some ↦ rw some (all-mean limit pieces each)
+    ]
+
+one-meaning : (limit : ℕ) (text : List ℕ) (list : List (Span VersionValue)) → IsUtf8 text → Means limit text list → denotes limit text ≡ list
+one-meaning limit text list u h =
+    let each = pieces-utf8 h.pieces (subst (λ (t : List ℕ). IsUtf8 t) (sym h.cut.joined) u) in
+    let here : denoted limit h.pieces ≡ list = elim (cases_Bool (list_all is_empty (map trim h.pieces))) [
+      | inl empty ↦ rw empty (sym (h.where_blank (all-blank h.pieces each empty)))
+      | inr some ↦ rw some (sym (all-once limit h.pieces list each (h.elsewhere (λ blank. clash h.pieces some (all-empty h.pieces blank)))))
+    ] in
+    ap (λ (ps : List (List ℕ)). denoted limit ps) (sym (bars_once text h.pieces h.cut)) ∙ here
+  where
+    clash : (pieces : List (List ℕ)) → list_all is_empty (map trim pieces) ≡ false → list_all is_empty (map trim pieces) ≡ true → ⊥
+    clash pieces a b = cc (sym a ∙ b)
+
+pub one_meaning : OneMeaning
+one_meaning limit text list u = (means limit text list u, one-meaning limit text list u)

@@ -1,0 +1,63 @@
+-- The running intervals are those of the runs.
+use Rattle.std.proofs.Common.{◌≡◌, List, [], ◌∷◌, refl, sym, ap, ◌∙◌, true, false, map, inl, inr, Some, None}
+use Rattle.std.specs.Prelude.{Option}
+use Rattle.std.specs.Cmp.{IsTotalOrder}
+use Rattle.std.specs.declared.cmp.Ordering.{Ordering}
+use Rattle.std.proofs.lemmas.Bool.{cases_Bool}
+use Rattle.semver_core.specs.Cuts.{Span, is_interval, meet}
+use Rattle.nodejs_semver.specs.Text.Runs.{Run, fits, longer, interval_of}
+use Rattle.nodejs_semver.specs.Internal.RunsFrom.{runs_from, runs_of}
+use Rattle.nodejs_semver.specs.Internal.Meets.{joined, joined_from}
+use Rattle.nodejs_semver.proofs.Dividing.RunLemmas.{longer-is}
+
+module _ {V : Type 0} (R : V → V → Ordering) where
+  pub runs-goes : (r : Run V) (i : Span V) (is : List (Span V)) → fits R (longer r i) ≡ true → runs_from R r (i ∷ is) ≡ runs_from R (longer r i) is
+  unfolding runs_from
+  runs-goes r i is h = rw (h, runs_from) refl
+
+  pub runs-stops : (r : Run V) (i : Span V) (is : List (Span V)) → fits R (longer r i) ≡ false → runs_from R r (i ∷ is) ≡ r ∷ runs_from R (record { first = i; others = [] }) is
+  unfolding runs_from
+  runs-stops r i is h = rw (h, runs_from) refl
+
+  pub joined-goes : (i j m : Span V) (is : List (Span V)) → meet R i j ≡ Some m → joined_from R i (j ∷ is) ≡ joined_from R m is
+  unfolding joined_from
+  joined-goes i j m is h = ap (λ (q : Option (Span V)). elim q [ Some m ↦ joined_from R m is | None ↦ i ∷ joined_from R j is ]) h
+
+  pub joined-stops : (i j : Span V) (is : List (Span V)) → meet R i j ≡ None → joined_from R i (j ∷ is) ≡ i ∷ joined_from R j is
+  unfolding joined_from
+  joined-stops i j is h = ap (λ (q : Option (Span V)). elim q [ Some m ↦ joined_from R m is | None ↦ i ∷ joined_from R j is ]) h
+
+module _ {V : Type 0} {R : V → V → Ordering} (o : IsTotalOrder R) where
+  -- a run with one word more is met by that word
+  meets-fit : (r : Run V) (s : Span V) → fits R (longer r s) ≡ true → meet R (interval_of R r) s ≡ Some (interval_of R (longer r s))
+  meets-fit r s h =
+      let e = longer-is o r s in
+      let goes = sym (ap (λ (i : Span V). is_interval R i) e) ∙ h in
+      rw goes (ap Some (sym e))
+
+  meets-stop : (r : Run V) (s : Span V) → fits R (longer r s) ≡ false → meet R (interval_of R r) s ≡ None
+  meets-stop r s h =
+      let stops = sym (ap (λ (i : Span V). is_interval R i) (longer-is o r s)) ∙ h in
+      rw stops refl
+
+  runs_from-joined : (r : Run V) (is : List (Span V)) → map (interval_of R) (runs_from R r is) ≡ joined_from R (interval_of R r) is
+  unfolding runs_from joined_from
+  runs_from-joined r [] = refl
+  runs_from-joined r (i ∷ is) =
+      elim (cases_Bool (fits R (longer r i))) [
+        | inl goes ↦
+            ap (λ (rs : List (Run V)). map (interval_of R) rs) (runs-goes R r i is goes)
+            ∙ (runs_from-joined (longer r i) is ∙ sym (joined-goes R (interval_of R r) i (interval_of R (longer r i)) is (meets-fit r i goes)))
+        | inr stops ↦
+            ap (λ (rs : List (Run V)). map (interval_of R) rs) (runs-stops R r i is stops)
+            ∙ (ap (λ (js : List (Span V)). interval_of R r ∷ js) (runs_from-joined (record { first = i; others = [] }) is)
+            ∙ sym (joined-stops R (interval_of R r) i is (meets-stop r i stops)))
+      ]
+
+  -- what the reader of a part computes is the intervals of its runs
+  pub runs-joined : (bounds : List (Span V)) → joined R None bounds ≡ map (interval_of R) (runs_of R bounds)
+  runs-joined [] = refl
+  runs-joined (s ∷ rest) = sym (runs_from-joined (record { first = s; others = [] }) rest)
+
+  pub joined-none : (s : Span V) (rest : List (Span V)) → joined R None (s ∷ rest) ≡ joined R (Some s) rest
+  joined-none s rest = refl

@@ -1,0 +1,99 @@
+-- For proofs. Printed ranges come back.
+use Rattle.std.proofs.Common.{◌≡◌, ◌<◌, ◌^◌, ℕ, true, List, [], ◌∷◌, ◌++◌, map, refl, ap, ap₂, ◌∙◌, arith, inl, inr}
+use borrow.Author.Tests.{leb-true}
+use Rattle.std.specs.List.{AllByRecursion, list_all}
+use Rattle.std.specs.Prelude.{◌&&◌, nat_le}
+use Rattle.std.proofs.lemmas.Bool.{cases_Bool}
+use Rattle.semver_core.specs.Cuts.{Span, is_interval}
+use Rattle.semver_core.specs.Printing.RoundTrip.{is_normal, IsReadable}
+use Rattle.semver_core.specs.Values.Order.{precedence}
+use Rattle.semver_core.specs.Values.Versions.{VersionValue}
+use Rattle.semver_core.specs.declared.cuts.bound.Bound.{Bound}
+use Rattle.semver_core.specs.declared.cuts.bound.Bound.TheVariants.{Unbounded, Before, After}
+use Rattle.nodejs_semver.specs.Printing.RoundTrip.{has_bound, is_printable, bounds_back, read_back, ReadsBack, ReadsEqual, RangesComeBack}
+use Rattle.nodejs_semver.specs.Text.Denotes.{denotes}
+use Rattle.nodejs_semver.specs.Printing.Text.{ties, bounds_text, range_text}
+use Rattle.nodejs_semver.specs.Ranges.View.{is_bound_version, is_range_bound, is_range_span}
+use Rattle.nodejs_semver.specs.Internal.SameLaws.{bound_refl}
+use Rattle.nodejs_semver.specs.Ranges.Equality.{span_eq, range_eq}
+use Rattle.nodejs_semver.proofs.Reading.IdentifierLists.{and-left, and-right, and-both}
+use Rattle.nodejs_semver.proofs.Printing.Bounds.{IsReadableBound, IsPrintable, ties_self}
+use Rattle.nodejs_semver.proofs.Printing.Parts.{denotes_back}
+
+bounds_same : (lower upper : Bound VersionValue) → span_eq (bounds_back lower upper) (record { lower = lower; upper = upper }) ≡ true
+bounds_same Unbounded upper = bound_refl upper
+bounds_same (After v) upper = and-both _ _ (ties_self v) (bound_refl upper)
+bounds_same (Before v) Unbounded = and-both _ _ (ties_self v) refl
+bounds_same (Before v) (Before w) = and-both _ _ (ties_self v) (ties_self w)
+bounds_same (Before v) (After w) = elim (cases_Bool (ties v w)) [
+  | inl same ↦ rw same (and-both _ _ (ties_self v) same)
+  | inr other ↦ rw other (and-both _ _ (ties_self v) (ties_self w))
+]
+
+pub same_back : (list : List (Span VersionValue)) → range_eq (map read_back list) list ≡ true
+same_back [] = refl
+same_back (s ∷ rest) = and-both (span_eq (read_back s) s) (range_eq (map read_back rest) rest) (bounds_same s.lower s.upper) (same_back rest)
+
+-- the tests of a printable interval, as facts
+version_readable : (limit : ℕ) (v : VersionValue) → is_bound_version limit v ≡ true → IsReadable limit v
+version_readable limit v h =
+    let numbers = and-left (nat_le v.major limit && (nat_le v.minor limit && nat_le v.patch limit)) (list_all is_normal v.pre_release && list_all is_normal v.build) h in
+    let lists = and-right (nat_le v.major limit && (nat_le v.minor limit && nat_le v.patch limit)) (list_all is_normal v.pre_release && list_all is_normal v.build) h in
+    let others = and-right (nat_le v.major limit) (nat_le v.minor limit && nat_le v.patch limit) numbers in
+    record {
+      major = leb-true v.major limit (and-left (nat_le v.major limit) (nat_le v.minor limit && nat_le v.patch limit) numbers);
+      minor = leb-true v.minor limit (and-left (nat_le v.minor limit) (nat_le v.patch limit) others);
+      patch = leb-true v.patch limit (and-right (nat_le v.minor limit) (nat_le v.patch limit) others);
+      pre_release = and-left (list_all is_normal v.pre_release) (list_all is_normal v.build) lists;
+      build = and-right (list_all is_normal v.pre_release) (list_all is_normal v.build) lists;
+    }
+
+bound_readable : (limit : ℕ) (b : Bound VersionValue) → is_range_bound limit b ≡ true → IsReadableBound limit b
+bound_readable limit Unbounded h = tt
+bound_readable limit (Before v) h = version_readable limit v h
+bound_readable limit (After v) h = version_readable limit v h
+
+printable : (limit : ℕ) (s : Span VersionValue) → is_printable limit s ≡ true → IsPrintable limit s
+printable limit s h =
+    let range = and-right (has_bound s.lower s.upper) (is_range_span limit s) h in
+    let bounds = and-right (is_interval precedence s) (is_range_bound limit s.lower && is_range_bound limit s.upper) range in
+    record {
+      proper = and-left (is_interval precedence s) (is_range_bound limit s.lower && is_range_bound limit s.upper) range;
+      bounded = and-left (has_bound s.lower s.upper) (is_range_span limit s) h;
+      lower = bound_readable limit s.lower (and-left (is_range_bound limit s.lower) (is_range_bound limit s.upper) bounds);
+      upper = bound_readable limit s.upper (and-right (is_range_bound limit s.lower) (is_range_bound limit s.upper) bounds);
+    }
+
+all_printable : (limit : ℕ) (list : List (Span VersionValue)) → list_all (is_printable limit) list ≡ true → AllByRecursion (IsPrintable limit) list
+all_printable limit [] h = tt
+all_printable limit (s ∷ rest) h = (
+  printable limit s (and-left (is_printable limit s) (list_all (is_printable limit) rest) h),
+  all_printable limit rest (and-right (is_printable limit s) (list_all (is_printable limit) rest) h),
+)
+
+pub reads_back : (limit : ℕ) (text : List ℕ) → limit < 2 ^ 64 → ReadsBack limit text
+reads_back limit text small [] some h e = absurd (omega arith)
+reads_back limit text small (s ∷ rest) some h e = ap (denotes limit) e ∙ denotes_back limit s rest small (all_printable limit (s ∷ rest) h)
+
+pub reads_equal : (limit : ℕ) (text : List ℕ) → limit < 2 ^ 64 → ReadsEqual limit text
+reads_equal limit text small list some h e = ap (λ (l : List (Span VersionValue)). range_eq l list) (reads_back limit text small list some h e) ∙ same_back list
+
+pub ranges_come_back : (text : List ℕ) → RangesComeBack text
+ranges_come_back text = record { equal = λ limit small. reads_equal limit text small; builds = λ limit small. reads_back limit text small }
+
+-- what is read from a printed interval prints as the same text
+again : (lower upper : Bound VersionValue) → bounds_text (bounds_back lower upper).lower (bounds_back lower upper).upper ≡ bounds_text lower upper
+again Unbounded upper = refl
+again (After v) upper = refl
+again (Before v) Unbounded = refl
+again (Before v) (Before w) = refl
+again (Before v) (After w) = elim (cases_Bool (ties v w)) [
+  | inl same ↦ rw (same, ties_self v) refl
+  | inr other ↦ rw (other, other) refl
+]
+
+-- and so does a range
+pub prints_again : (list : List (Span VersionValue)) → range_text (map read_back list) ≡ range_text list
+prints_again [] = refl
+prints_again (i ∷ []) = again i.lower i.upper
+prints_again (i ∷ j ∷ rest) = ap₂ (λ a b. a ++ 124 ∷ 124 ∷ b) (again i.lower i.upper) (prints_again (j ∷ rest))

@@ -1,0 +1,15 @@
+pub mod DigitValues
+pub mod NumberFront
+pub mod NumberLaw
+pub mod IdentifierLists
+pub mod WrittenIdentifiers
+pub mod Longest
+pub mod LongestLaw
+pub mod Boundaries
+pub mod Pieces
+pub mod Reaches
+pub mod Progress
+pub mod Sound
+pub mod SoundPartial
+pub mod PartialLaw
+pub mod WordLaw

@@ -1,0 +1,4 @@
+pub mod Texts
+pub mod Ranges
+pub mod Printed
+pub mod Common

@@ -1,0 +1,13 @@
+pub mod Parts
+pub mod Partials
+pub mod Words
+pub mod RunsFrom
+pub mod PreReleases
+pub mod Fronts
+pub mod PartFronts
+pub mod Readings
+pub mod Meets
+pub mod Candidates
+pub mod SameLaws
+pub mod CommonFronts
+pub mod CommonViews

@@ -1,0 +1,102 @@
+-- For proofs and private contracts: the versions among which the least ones are found.
+use Rattle.std.specs.Prelude.{◌+◌, Bool, true, false, ◌&&◌, List, [], ◌∷◌, ◌++◌, if◌then◌else◌, Option, Some, None, fold, ⊤, ◌<◌, ◌^◌, ◌-◌}
+use Rattle.std.specs.List.{flat_map}
+use Rattle.std.specs.Ordering.{is_le, is_lt}
+use Rattle.semver_core.specs.Cuts.{Span, Cut, Side, Start, Beside, End, Near, Far}
+use Rattle.semver_core.specs.Text.Identifiers.{Numeric}
+use Rattle.semver_core.specs.Values.Order.{precedence}
+use Rattle.semver_core.specs.Values.Versions.{VersionValue}
+use Rattle.semver_core.specs.declared.cuts.bound.Bound.{Bound}
+use Rattle.semver_core.specs.declared.cuts.bound.Bound.TheVariants.{Unbounded, Before, After}
+use Rattle.nodejs_semver.specs.Ranges.Gate.{is_release}
+
+-- the versions without a build that come first somewhere
+abbrev pub zero : VersionValue
+zero = record { major = 0; minor = 0; patch = 0; pre_release = []; build = [] }
+
+abbrev pub bare : VersionValue → VersionValue
+bare w = record w { build = [] }
+
+abbrev pub release_of : VersionValue → VersionValue
+release_of w = record w { pre_release = []; build = [] }
+
+abbrev pub first_pre : VersionValue → VersionValue
+first_pre w = record w { pre_release = Numeric 0 ∷ []; build = [] }
+
+abbrev pub next_pre : VersionValue → VersionValue
+next_pre w = record w { pre_release = w.pre_release ++ Numeric 0 ∷ []; build = [] }
+
+abbrev pub next_patch : VersionValue → VersionValue
+next_patch w = record w { patch = w.patch + 1; pre_release = []; build = [] }
+
+-- the first version and the first release past a cut beside w
+abbrev pub after_cut : VersionValue → Side → VersionValue
+after_cut w Near = bare w
+after_cut w Far = next_pre w
+
+abbrev pub release_after : VersionValue → Side → VersionValue
+release_after w Near = bare w
+release_after w Far = next_patch w
+
+-- the versions that can be the first of a piece of the line that begins at the cut
+abbrev pub firsts : Cut VersionValue → List VersionValue
+firsts Start = zero ∷ []
+firsts (Beside w s) = if is_release w then release_after w s ∷ [] else after_cut w s ∷ release_of w ∷ []
+firsts End = []
+
+-- the cut that a bound makes, on whichever side
+abbrev pub beside : Bound VersionValue → List (Cut VersionValue)
+beside Unbounded = []
+beside (Before w) = Beside w Near ∷ []
+beside (After w) = Beside w Far ∷ []
+
+-- the cut below the pre-releases that a bound names
+abbrev pub below_at : VersionValue → List (Cut VersionValue)
+below_at w = if is_release w then [] else Beside (first_pre w) Near ∷ []
+
+abbrev pub below_named : Bound VersionValue → List (Cut VersionValue)
+below_named Unbounded = []
+below_named (Before w) = below_at w
+below_named (After w) = below_at w
+
+-- where what a span accepts may begin, and where it ends
+abbrev pub kept_marks : Span VersionValue → List (Cut VersionValue)
+kept_marks s = beside s.lower ++ below_named s.upper
+
+abbrev pub removed_marks : Span VersionValue → List (Cut VersionValue)
+removed_marks s = beside s.upper
+
+abbrev pub kept_firsts : Span VersionValue → List VersionValue
+kept_firsts s = flat_map firsts (kept_marks s)
+
+abbrev pub removed_firsts : Span VersionValue → List VersionValue
+removed_firsts s = flat_map firsts (removed_marks s)
+
+-- every version that can be the least beyond
+abbrev pub candidates : List (Span VersionValue) → List (Span VersionValue) → List VersionValue
+candidates ks ls = flat_map firsts (Start ∷ (flat_map kept_marks ks ++ flat_map removed_marks ls))
+
+-- the least version of a set that a list names, the first of equal ones
+abbrev pub improves : Option VersionValue → VersionValue → Bool
+improves None x = true
+improves (Some b) x = is_lt (precedence x b)
+
+abbrev pub better : (VersionValue → Bool) → Option VersionValue → VersionValue → Option VersionValue
+better set best x = if improves best x && set x then Some x else best
+
+abbrev pub least_of : (VersionValue → Bool) → List VersionValue → Option VersionValue
+least_of set xs = fold (better set) None xs
+
+-- the patch of the bound's version can be raised
+abbrev pub Raisable : Bound VersionValue → Type 0
+Raisable Unbounded = ⊤
+Raisable (Before w) = w.patch < 2 ^ 64 - 1
+Raisable (After w) = w.patch < 2 ^ 64 - 1
+
+abbrev pub IsRaisable : Span VersionValue → Type 0
+IsRaisable s = Raisable s.lower × Raisable s.upper
+
+-- the best so far is not above x: nothing from x on improves on it
+abbrev pub is_reached : Option VersionValue → VersionValue → Bool
+is_reached None x = false
+is_reached (Some b) x = is_le (precedence b x)

@@ -1,0 +1,92 @@
+-- For proofs and private contracts. What stands at the front of a text, read from the left: a number, a component, a
+-- qualifier, a partial.
+use Rattle.std.specs.Prelude.{true, ℕ, suc, ◌==◌, ◌&&◌, Bool, false, List, [], ◌∷◌, map, take, drop, Option, Some, None, if◌then◌else◌, take_while}
+use Rattle.std.specs.Char.{is_ascii_digit}
+use Rattle.std.specs.List.{list_all, prefix_len}
+use Rattle.std.specs.Borrow.{Bor}
+use Rattle.nodejs_semver.specs.Internal.Partials.{number_of, ◌>>=◌, drop_v}
+use Rattle.nodejs_semver.specs.Text.PartialText.{Partial, is_wildcard}
+use Rattle.semver_core.specs.Internal.Spaces.{drop_spaces}
+use Rattle.semver_core.specs.Text.Identifiers.{Id, identifier_of, goes_on, pieces, is_run}
+use Rattle.semver_core.specs.Text.Characters.{is_identifier_char, begins}
+use Rattle.nodejs_semver.specs.Internal.Words.{after_byte}
+
+-- a value and the text behind it
+abbrev pub Front : Type 0 → Type 0
+Front A = Option (A × List ℕ)
+
+abbrev pub front_view : {A : Type 0} → Option (A × Bor (List ℕ)) → Front A
+front_view None = None
+front_view (Some p) = Some (p.0, p.1.now)
+
+-- the whole run of digits at the front of a text, where it is a number
+abbrev pub number_front : ℕ → List ℕ → Front ℕ
+number_front limit text =
+    number_of limit (take_while is_ascii_digit text) >>= λ n. Some (n, drop (prefix_len is_ascii_digit text) text)
+
+abbrev pub begins_wildcard : List ℕ → Bool
+begins_wildcard text = begins is_wildcard text
+
+-- a wildcard or a number
+unfoldable pub component_front : ℕ → List ℕ → Front (Option ℕ)
+component_front limit text =
+    if begins_wildcard text then Some (None, drop 1 text) else (number_front limit text >>= λ n. Some (Some n.0, n.1))
+
+-- the same behind a dot
+unfoldable pub dotted_front : ℕ → List ℕ → Front (Option ℕ)
+dotted_front limit text = after_byte 46 text >>= λ rest. component_front limit rest
+
+abbrev pub begins_identifier : List ℕ → Bool
+begins_identifier text = begins is_identifier_char text
+
+-- how far identifiers joined by dots go on
+unfoldable pub run_on : List ℕ → ℕ
+run_on [] = 0
+run_on (b ∷ rest) = if goes_on (b ∷ rest) then suc (run_on rest) else 0
+
+-- how many bytes the identifiers at the front take
+unfoldable pub list_len : List ℕ → ℕ
+list_len text = if begins_identifier text then run_on text else 0
+
+-- the identifiers that a text of them writes
+unfoldable pub list_of : List ℕ → List Id
+list_of [] = []
+list_of (b ∷ rest) = map identifier_of (pieces (b ∷ rest))
+
+-- the text is empty, or identifiers joined by dots
+unfoldable pub is_listed : List ℕ → Bool
+is_listed [] = true
+is_listed (b ∷ rest) = list_all is_run (pieces (b ∷ rest))
+
+abbrev pub split_list : List ℕ → List ℕ × List ℕ
+split_list text = (take (list_len text) text, drop (list_len text) text)
+
+abbrev pub begins_byte : ℕ → List ℕ → Bool
+begins_byte c text = begins (λ b. b == c) text
+
+-- the text of the pre-release at the front, and what stands behind it
+unfoldable pub pre_release_front : List ℕ → List ℕ × List ℕ
+pre_release_front text =
+    if begins_byte 45 text then (if begins_identifier (drop 1 text) then split_list (drop 1 text) else ([], text)) else split_list text
+
+-- the same of the build
+unfoldable pub build_front : List ℕ → List ℕ × List ℕ
+build_front text = if begins_byte 43 text && begins_identifier (drop 1 text) then split_list (drop 1 text) else ([], text)
+
+abbrev pub patch_front : Option ℕ → Option ℕ → List ℕ → Front (Option ℕ) → Partial × List ℕ
+patch_front major minor text None =
+    (record { major = major; minor = minor; patch = None; pre_release = []; build = [] }, text)
+patch_front major minor text (Some c) =
+    let pre = pre_release_front c.1 in
+    let build = build_front pre.1 in
+    (record { major = major; minor = minor; patch = c.0; pre_release = list_of pre.0; build = list_of build.0 }, build.1)
+
+abbrev pub minor_front : ℕ → Option ℕ → List ℕ → Front (Option ℕ) → Partial × List ℕ
+minor_front limit major text None =
+    (record { major = major; minor = None; patch = None; pre_release = []; build = [] }, text)
+minor_front limit major text (Some b) = patch_front major b.0 b.1 (dotted_front limit b.1)
+
+-- the partial at the front, component by component
+unfoldable pub partial_front : ℕ → List ℕ → Front Partial
+partial_front limit text =
+    component_front limit (drop_spaces (drop_v text)) >>= λ a. Some (minor_front limit a.0 a.1 (dotted_front limit a.1))

@@ -1,0 +1,101 @@
+-- For proofs and private contracts. What the readers give, seen without places in memory.
+use Rattle.std.specs.Prelude.{ℕ, Bool, List, Option, Some, None}
+use Rattle.std.specs.Borrow.{Bor}
+use Rattle.semver_core.specs.Cuts.{Span, interval}
+use Rattle.semver_core.specs.declared.cuts.bound.Bound.{Bound}
+use Rattle.semver_core.specs.declared.cuts.bound.Bound.TheVariants.{Unbounded, Before, After}
+use Rattle.semver_core.specs.Values.Order.{precedence}
+use Rattle.semver_core.specs.Values.Versions.{VersionValue}
+use Rattle.nodejs_semver.specs.Internal.Fronts.{Front, list_of}
+use Rattle.nodejs_semver.specs.Text.PartialText as Spec
+use Rattle.nodejs_semver.specs.Internal.PreReleases.{pre_release_view}
+use Rattle.nodejs_semver.specs.Text.WordText as WordSpec
+use Rattle.nodejs_semver.specs.Internal.Words.{Reading}
+use Rattle.nodejs_semver.specs.Text.WordText.{at_least, above, equal, at_most, below, hyphen, plain, compare, tilde, caret, malformed}
+use Rattle.nodejs_semver.specs.declared.readers.syntax.BareVersion.{BareVersion}
+use Rattle.nodejs_semver.specs.declared.readers.syntax.Bounds.{Bounds}
+use Rattle.nodejs_semver.specs.declared.readers.syntax.Partial.{Partial}
+use Rattle.nodejs_semver.specs.declared.readers.syntax.Comparator.{Comparator}
+use Rattle.nodejs_semver.specs.declared.readers.syntax.Comparator.TheVariants.{AtLeast, Above, Equal, AtMost, Below}
+use Rattle.nodejs_semver.specs.declared.readers.syntax.Word.{Word}
+use Rattle.nodejs_semver.specs.declared.readers.syntax.Word.TheVariants.{Hyphen, Plain, Compare, Tilde, Caret, Malformed}
+
+abbrev pub partial_view : Partial → Spec.Partial
+partial_view p =
+    record { major = p.major; minor = p.minor; patch = p.patch; pre_release = list_of p.pre_release.now; build = list_of p.build.now }
+
+abbrev pub partial_front_view : Option (Partial × Bor (List ℕ)) → Front Spec.Partial
+partial_front_view None = None
+partial_front_view (Some p) = Some (partial_view p.0, p.1.now)
+
+abbrev pub partial_pair_view : Partial × Bor (List ℕ) → Spec.Partial × List ℕ
+partial_pair_view p = (partial_view p.0, p.1.now)
+
+abbrev pub pair_view : Bor (List ℕ) × Bor (List ℕ) → List ℕ × List ℕ
+pair_view p = (p.0.now, p.1.now)
+
+abbrev pub sign_view : Bool × Bor (List ℕ) → Bool × List ℕ
+sign_view p = (p.0, p.1.now)
+
+abbrev pub rest_view : Option (Bor (List ℕ)) → Option (List ℕ)
+rest_view None = None
+rest_view (Some t) = Some t.now
+
+abbrev pub comparator_view : Comparator → WordSpec.Comparator
+comparator_view AtLeast = at_least
+comparator_view Above = above
+comparator_view Equal = equal
+comparator_view AtMost = at_most
+comparator_view Below = below
+
+abbrev pub comparator_front_view : Option (Comparator × Bor (List ℕ)) → Front WordSpec.Comparator
+comparator_front_view None = None
+comparator_front_view (Some p) = Some (comparator_view p.0, p.1.now)
+
+abbrev pub word_view : Word → WordSpec.Word
+word_view (Hyphen p q) = hyphen (partial_view p) (partial_view q)
+word_view (Plain p) = plain (partial_view p)
+word_view (Compare c p) = compare (comparator_view c) (partial_view p)
+word_view (Tilde greater p) = tilde greater (partial_view p)
+word_view (Caret p) = caret (partial_view p)
+word_view Malformed = malformed
+
+abbrev pub word_pair_view : Word × Bor (List ℕ) → WordSpec.Word × List ℕ
+word_pair_view p = (word_view p.0, p.1.now)
+
+abbrev pub reading_view : Option (Word × Bor (List ℕ)) → Reading
+reading_view None = None
+reading_view (Some p) = Some (word_pair_view p)
+
+abbrev pub bare_view : BareVersion → VersionValue
+bare_view v = record {
+  major = v.major;
+  minor = v.minor;
+  patch = v.patch;
+  pre_release = pre_release_view v.pre_release;
+  build = list_of v.build.now;
+}
+
+abbrev pub bound_view : Bound BareVersion → Bound VersionValue
+bound_view Unbounded = Unbounded
+bound_view (Before v) = Before (bare_view v)
+bound_view (After v) = After (bare_view v)
+
+abbrev pub bounds_view : Bounds → Span VersionValue
+bounds_view b = record { lower = bound_view b.lower; upper = bound_view b.upper }
+
+abbrev pub table_view : Option Bounds → Option (Span VersionValue)
+table_view None = None
+table_view (Some b) = Some (bounds_view b)
+
+-- the interval of the bounds, where they are there and make one
+abbrev pub interval_view : Option Bounds → Option (Span VersionValue)
+interval_view None = None
+interval_view (Some b) = interval precedence (bounds_view b)
+
+abbrev pub part_view : Bor (List ℕ) × Option (Bor (List ℕ)) → List ℕ × Option (List ℕ)
+part_view p = (p.0.now, rest_view p.1)
+
+-- an interval that may be absent, and the text behind it
+abbrev pub next_view : Option (Span VersionValue) × Bor (List ℕ) → Option (Span VersionValue) × List ℕ
+next_view p = (p.0, p.1.now)

@@ -1,0 +1,46 @@
+-- Statement: how ranges print, as UTF-8 bytes.
+use Rattle.std.specs.Prelude.{ℕ, Bool, List, [], ◌∷◌, ◌++◌, if◌then◌else◌}
+use Rattle.std.specs.Ordering.{is_eq}
+use Rattle.semver_core.specs.Cuts.{Span}
+use Rattle.semver_core.specs.Values.Order.{precedence}
+use Rattle.semver_core.specs.Printing.Text.{version_text}
+use Rattle.semver_core.specs.Values.Versions.{VersionValue}
+use Rattle.semver_core.specs.declared.cuts.bound.Bound.{Bound}
+use Rattle.semver_core.specs.declared.cuts.bound.Bound.TheVariants.{Unbounded, Before, After}
+
+-- the versions have the same place in the order, whatever their builds
+abbrev pub ties : VersionValue → VersionValue → Bool
+ties v w = is_eq (precedence v w)
+
+-- `>=v` and `>v`; nothing without a bound
+abbrev pub lower_text : Bound VersionValue → List ℕ
+lower_text Unbounded = []
+lower_text (Before v) = 62 ∷ 61 ∷ version_text v
+lower_text (After v) = 62 ∷ version_text v
+
+-- `<v` and `<=v`; nothing without a bound
+abbrev pub upper_text : Bound VersionValue → List ℕ
+upper_text Unbounded = []
+upper_text (Before v) = 60 ∷ version_text v
+upper_text (After v) = 60 ∷ 61 ∷ version_text v
+
+-- the two with a space between them
+abbrev pub both_text : Bound VersionValue → Bound VersionValue → List ℕ
+both_text lower upper = lower_text lower ++ 32 ∷ upper_text upper
+
+-- `*` without bounds, one bound, `v` for `>=v` and `<=w` where v and w tie, and else two bounds
+abbrev pub bounds_text : Bound VersionValue → Bound VersionValue → List ℕ
+bounds_text Unbounded Unbounded = 42 ∷ []
+bounds_text Unbounded upper = upper_text upper
+bounds_text lower Unbounded = lower_text lower
+bounds_text (Before v) (After w) = if ties v w then version_text v else both_text (Before v) (After w)
+bounds_text lower upper = both_text lower upper
+
+abbrev pub span_text : Span VersionValue → List ℕ
+span_text s = bounds_text s.lower s.upper
+
+-- intervals joined by `||`
+abbrev pub range_text : List (Span VersionValue) → List ℕ
+range_text [] = []
+range_text (s ∷ []) = span_text s
+range_text (s ∷ t ∷ rest) = span_text s ++ 124 ∷ 124 ∷ range_text (t ∷ rest)

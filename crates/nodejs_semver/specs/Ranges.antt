@@ -1,0 +1,8 @@
+pub mod View
+pub mod Gate
+pub mod Equality
+pub mod Algebra
+pub mod Along
+pub mod Least
+pub mod Best
+pub mod Outside

@@ -1,0 +1,38 @@
+-- Statement: the best of the versions of a list that are in a set.
+use Rattle.std.specs.Prelude.{◌≡◌, Bool, true, ◌||◌, not, List, ◌∷◌, ◌++◌, Option, Some, None}
+use Rattle.std.specs.List.{list_all}
+use Rattle.std.specs.Ordering.{is_le, is_lt}
+use Rattle.semver_core.specs.Values.Order.{precedence}
+use Rattle.semver_core.specs.Values.Versions.{VersionValue}
+
+-- v is in the set, and has a place in the list such that each version of the set in front of it, and each behind it, has
+-- this relation to it
+pub record Stands (in_front behind : VersionValue → VersionValue → Bool) (set : VersionValue → Bool) (list : List VersionValue) (v : VersionValue) : Type 0 where
+  pub front : List VersionValue
+  pub back : List VersionValue
+  pub divided : list ≡ front ++ v ∷ back
+  pub inside : set v ≡ true
+  pub before : list_all (λ w. not (set w) || in_front w v) front ≡ true
+  pub after : list_all (λ w. not (set w) || behind w v) back ≡ true
+
+-- the last of the greatest: none in front of it is above it, and all behind it are below
+abbrev pub IsLastGreatest : (VersionValue → Bool) → List VersionValue → VersionValue → Type 0
+IsLastGreatest = Stands (λ w v. is_le (precedence w v)) (λ w v. is_lt (precedence w v))
+
+-- the first of the least: all in front of it are above it, and none behind it is below
+abbrev pub IsFirstLeast : (VersionValue → Bool) → List VersionValue → VersionValue → Type 0
+IsFirstLeast = Stands (λ w v. is_lt (precedence v w)) (λ w v. is_le (precedence v w))
+
+-- no version of the list is in the set
+abbrev pub has_none : (VersionValue → Bool) → List VersionValue → Bool
+has_none set list = list_all (λ w. not (set w)) list
+
+-- the last of the greatest, and None exactly where there is none
+abbrev pub IsMax : (VersionValue → Bool) → List VersionValue → Option VersionValue → Type 0
+IsMax set list None = has_none set list ≡ true
+IsMax set list (Some v) = IsLastGreatest set list v
+
+-- the first of the least, and None exactly where there is none
+abbrev pub IsMin : (VersionValue → Bool) → List VersionValue → Option VersionValue → Type 0
+IsMin set list None = has_none set list ≡ true
+IsMin set list (Some v) = IsFirstLeast set list v

@@ -1,0 +1,45 @@
+-- Statement: the least version that a range accepts, and the least that it accepts and another does not.
+use Rattle.std.specs.Prelude.{◌≡◌, ◌+◌, Bool, true, false, ◌&&◌, not, List, [], ◌∷◌, ◌++◌, if◌then◌else◌, Option, Some, None, find}
+use Rattle.std.specs.Ordering.{is_eq, is_le}
+use Rattle.semver_core.specs.Cuts.{Span, holds}
+use Rattle.semver_core.specs.Text.Identifiers.{Id, Numeric}
+use Rattle.semver_core.specs.Values.Order.{precedence}
+use Rattle.semver_core.specs.Values.Versions.{VersionValue}
+use Rattle.semver_core.specs.declared.cuts.bound.Bound.{Bound}
+use Rattle.semver_core.specs.declared.cuts.bound.Bound.TheVariants.{Unbounded, Before, After}
+use Rattle.nodejs_semver.specs.Ranges.Gate.{is_release, lets_in, accepts}
+
+-- v is in the set, and nothing in the set is below v
+pub record IsLeast (set : VersionValue → Bool) (v : VersionValue) : Type 0 where
+  pub inside : set v ≡ true
+  pub least : (w : VersionValue) → set w ≡ true → is_le (precedence v w) ≡ true
+
+-- the answer is the least of the set, or there is none and the set is empty
+abbrev pub IsLeastOf : (VersionValue → Bool) → Option VersionValue → Type 0
+IsLeastOf set None = (v : VersionValue) → set v ≡ false
+IsLeastOf set (Some v) = IsLeast set v
+
+-- the first list accepts the version, and the second does not
+abbrev pub beyond : List (Span VersionValue) → List (Span VersionValue) → VersionValue → Bool
+beyond kept removed v = accepts kept v false && not (accepts removed v false)
+
+-- the version with which the spans of this lower bound begin, with the bound's build: that of `>=w` itself; of `>w` the
+-- next patch of a release, and a pre-release with one more identifier, the number 0
+abbrev pub begins_with : Bound VersionValue → Option VersionValue
+begins_with Unbounded = None
+begins_with (Before w) = Some w
+begins_with (After w) = Some (if is_release w then record w { patch = w.patch + 1; pre_release = [] }
+    else record w { pre_release = w.pre_release ++ Numeric 0 ∷ [] })
+
+-- the build of that version, where the answer is it, and else none
+abbrev pub build_by : Option VersionValue → VersionValue → List Id
+build_by None v = []
+build_by (Some x) v = if is_eq (precedence x v) then x.build else []
+
+abbrev pub build_in : Option (Span VersionValue) → VersionValue → List Id
+build_in None v = []
+build_in (Some s) v = build_by (begins_with s.lower) v
+
+-- the build of an answer: that of the lower bound from which it comes, of the first span that accepts it
+abbrev pub least_build : List (Span VersionValue) → VersionValue → List Id
+least_build ss v = build_in (find (λ s. holds precedence s v && lets_in s v) ss) v

@@ -1,0 +1,46 @@
+-- Statement: versions that lie outside a range, above or below it.
+use Rattle.std.specs.Prelude.{◌==◌, ℕ, Bool, true, false, ◌&&◌, ◌||◌, not, if◌then◌else◌, List, Result, Ok, Err}
+use Rattle.std.specs.List.{list_all}
+use Rattle.semver_core.specs.Cuts.{Span, is_past, lower_cut, upper_cut}
+use Rattle.semver_core.specs.Values.Order.{precedence}
+use Rattle.semver_core.specs.Values.Versions.{VersionValue}
+use Rattle.semver_core.specs.declared.cuts.bound.Bound.{Bound}
+use Rattle.semver_core.specs.declared.cuts.bound.Bound.TheVariants.{Unbounded, Before, After}
+use Rattle.nodejs_semver.specs.Ranges.Gate.{accepts}
+use Rattle.nodejs_semver.specs.declared.range.outside.OutsideDirection.{OutsideDirection}
+use Rattle.nodejs_semver.specs.declared.range.outside.OutsideDirection.TheVariants.{Higher, Lower}
+use Rattle.nodejs_semver.specs.declared.range.outside.RangeError.{RangeError}
+use Rattle.nodejs_semver.specs.declared.range.outside.RangeError.TheVariants.{InvalidOutsideDirection}
+
+abbrev pub is_bounded : Bound VersionValue → Bool
+is_bounded Unbounded = false
+is_bounded (Before v) = true
+is_bounded (After v) = true
+
+-- the span has an upper bound, and its lower cut is not after the version
+abbrev pub lies_below : Span VersionValue → VersionValue → Bool
+lies_below s v = is_bounded s.upper && is_past precedence (lower_cut s.lower) v
+
+-- the span has no bound at all, or it has a lower bound and its upper cut is not before the version
+abbrev pub lies_above : Span VersionValue → VersionValue → Bool
+lies_above s v = (not (is_bounded s.lower) && not (is_bounded s.upper))
+    || (is_bounded s.lower && not (is_past precedence (upper_cut s.upper) v))
+
+-- the version is not accepted, and each span lies on the other side
+abbrev pub is_outside : OutsideDirection → Bool → List (Span VersionValue) → VersionValue → Bool
+is_outside Higher include ss v = not (accepts ss v include) && list_all (λ s. lies_below s v) ss
+is_outside Lower include ss v = not (accepts ss v include) && list_all (λ s. lies_above s v) ss
+
+-- the character of a direction, `>` or `<`
+abbrev pub direction_char : OutsideDirection → ℕ
+direction_char Higher = 62
+direction_char Lower = 60
+
+-- the direction of a character: every other one is refused
+abbrev pub direction_of : ℕ → Result OutsideDirection RangeError
+direction_of c = if c == 62 then Ok Higher else if c == 60 then Ok Lower else Err (InvalidOutsideDirection c)
+
+-- the version lies past each upper cut, or before each lower cut
+abbrev pub is_outside_by_cuts : OutsideDirection → List (Span VersionValue) → VersionValue → Bool
+is_outside_by_cuts Higher ss v = list_all (λ s. is_past precedence (upper_cut s.upper) v) ss
+is_outside_by_cuts Lower ss v = list_all (λ s. not (is_past precedence (lower_cut s.lower) v)) ss

@@ -1,0 +1,33 @@
+-- Statement: what every range is.
+use Rattle.std.specs.Prelude.{◌≡◌, ◌+◌, ◌<◌, ◌&&◌, ℕ, Bool, true, nat_le, List, [], ◌∷◌, length}
+use Rattle.std.specs.List.{list_all}
+use Rattle.semver_core.specs.Cuts.{Span, is_interval}
+use Rattle.semver_core.specs.Values.Order.{precedence}
+use Rattle.semver_core.specs.Values.Versions.{VersionValue}
+use Rattle.semver_core.specs.declared.cuts.bound.Bound.{Bound}
+use Rattle.semver_core.specs.declared.cuts.bound.Bound.TheVariants.{Unbounded, Before, After}
+use Rattle.semver_core.specs.Printing.RoundTrip.{is_normal}
+
+-- a version that a bound may have: no number is above the limit, and its identifiers are what their texts spell
+abbrev pub is_bound_version : ℕ → VersionValue → Bool
+is_bound_version limit v =
+    (nat_le v.major limit && (nat_le v.minor limit && nat_le v.patch limit))
+    && (list_all is_normal v.pre_release && list_all is_normal v.build)
+
+abbrev pub is_range_bound : ℕ → Bound VersionValue → Bool
+is_range_bound limit Unbounded = true
+is_range_bound limit (Before v) = is_bound_version limit v
+is_range_bound limit (After v) = is_bound_version limit v
+
+-- the lower cut is below the upper one, and both bounds are such
+abbrev pub is_range_span : ℕ → Span VersionValue → Bool
+is_range_span limit s = is_interval precedence s && (is_range_bound limit s.lower && is_range_bound limit s.upper)
+
+-- the intervals of a range: one or more; a bound has no number past the greatest that is read by more than one
+pub record IsRange (limit : ℕ) (ss : List (Span VersionValue)) : Type 0 where
+  pub some : 0 < length ss
+  pub each : list_all (is_range_span (limit + 1)) ss ≡ true
+
+-- the range of all versions: one interval without bounds
+abbrev pub any_version : List (Span VersionValue)
+any_version = record { lower = Unbounded; upper = Unbounded } ∷ []

@@ -1,0 +1,11 @@
+pub mod Bars
+pub mod PartialText
+pub mod LongestText
+pub mod WordText
+pub mod Table
+pub mod Runs
+pub mod Meaning
+pub mod Denotes
+pub mod WrittenSet
+pub mod Laws
+pub mod Common

@@ -1,0 +1,42 @@
+-- Statement. The set of versions that a range text writes, by plain comparisons of versions.
+use Rattle.std.specs.Prelude.{ℕ, ◌&&◌, ◌||◌, not, Bool, true, List}
+use Rattle.std.specs.List.{list_all, list_any}
+use Rattle.std.specs.Ordering.{is_lt}
+use Rattle.std.specs.declared.cmp.Ordering.{Ordering}
+use Rattle.semver_core.specs.Cuts.{Span}
+use Rattle.semver_core.specs.declared.cuts.bound.Bound.{Bound}
+use Rattle.semver_core.specs.declared.cuts.bound.Bound.TheVariants.{Unbounded, Before, After}
+use Rattle.semver_core.specs.Values.Order.{precedence}
+use Rattle.semver_core.specs.Values.Versions.{VersionValue}
+use Rattle.semver_core.specs.Internal.Spaces.{is_empty}
+use Rattle.nodejs_semver.specs.Internal.Parts.{parts}
+use Rattle.nodejs_semver.specs.Text.Runs.{Run, run_items}
+use Rattle.nodejs_semver.specs.Internal.RunsFrom.{runs_of}
+use Rattle.nodejs_semver.specs.Text.Denotes.{part_bounds}
+
+-- the comparisons `>=w` and `>w` of a lower bound
+abbrev pub is_above : {V : Type 0} → (V → V → Ordering) → Bound V → V → Bool
+is_above R Unbounded v = true
+is_above R (Before w) v = not (is_lt (R v w))
+is_above R (After w) v = is_lt (R w v)
+
+-- the comparisons `<w` and `<=w` of an upper bound
+abbrev pub is_below : {V : Type 0} → (V → V → Ordering) → Bound V → V → Bool
+is_below R Unbounded v = true
+is_below R (Before w) v = is_lt (R v w)
+is_below R (After w) v = not (is_lt (R w v))
+
+-- the set of a word: what passes its comparisons
+abbrev pub word_writes : {V : Type 0} → (V → V → Ordering) → V → Span V → Bool
+word_writes R v s = is_above R s.lower v && is_below R s.upper v
+
+-- a run writes what every word of it writes
+abbrev pub run_writes : {V : Type 0} → (V → V → Ordering) → V → Run V → Bool
+run_writes R v r = list_all (word_writes R v) (run_items r)
+
+abbrev pub part_writes : ℕ → VersionValue → List ℕ → Bool
+part_writes limit v part = list_any (run_writes precedence v) (runs_of precedence (part_bounds limit part))
+
+-- a text with an empty part writes every version, and any other text the union of its runs
+abbrev pub writes : ℕ → List ℕ → VersionValue → Bool
+writes limit text v = list_any is_empty (parts text) || list_any (part_writes limit v) (parts text)

@@ -1,0 +1,4 @@
+pub mod Clauses
+pub mod Laws
+pub mod LastNumber
+pub mod Differences

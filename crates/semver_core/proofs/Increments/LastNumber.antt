@@ -1,0 +1,175 @@
+-- The last number of a list.
+use Rattle.std.proofs.Common.{◌≡◌, refl, sym, ap, subst, ◌∙◌, ℕ, ◌+◌, ◌<◌, ◌≤◌, Bool, true, false, List, [], ◌∷◌, ◌++◌, length, take, get_or, append_assoc, arith, rules}
+use Rattle.std.specs.Prelude.{Option, Some, None, set, Result, Ok, Err}
+use Rattle.std.proofs.Common.{drop}
+use Rattle.std.proofs.Math.Seq.{take-append_seam}
+use Rattle.std.proofs.lemmas.List.{length-set, take_all, take_more}
+use Rattle.std.specs.List.{refill}
+use Rattle.semver_core.proofs.Text.Runs.{ids_view_push}
+use Rattle.semver_core.specs.Text.Identifiers.{Id, Numeric, AlphaNumeric}
+use Rattle.semver_core.specs.Increments.Table.{has_numeric, is_empty, list_text, advance, raise_last, one_more, Fault, ◌>>=◌}
+use Rattle.semver_core.specs.Internal.IncrementSteps.{IsLastNumber, Tracks}
+use Rattle.semver_core.specs.Printing.Text.{id_text}
+use Rattle.semver_core.specs.declared.increment.IdentifierBase.{IdentifierBase}
+use Rattle.std.specs.Prelude.{if◌then◌else◌}
+use Rattle.semver_core.specs.Values.Views.{id_view, ids_view}
+use Rattle.semver_core.specs.declared.identifier.Identifier.{Identifier}
+use Rattle.std.specs.Prelude.{suc, zero, ◌==◌, ◌^◌}
+use Rattle.std.proofs.lemmas.Grind.{common_steps}
+use Rattle.std.proofs.lemmas.List.{length-map}
+use Rattle.std.proofs.lemmas.Bool.Decides.{nat_tests}
+use Rattle.std.proofs.lemmas.Str.Parse.{IsDigitsTest, IsNumeralModel, numerals_by_value, parse_digits}
+use Rattle.std.specs.Char.{is_ascii_digit}
+use Rattle.std.specs.List.{list_all}
+use Rattle.std.specs.Prelude.{nat_lt}
+use Rattle.std.specs.Result.{MatchResult}
+use Rattle.std.specs.Str.Parse.{ParsesUnsigned, digits_value}
+use Rattle.semver_core.specs.declared.error.Failure.{Failure}
+use Rattle.semver_core.specs.declared.error.Failure.TheVariants.{Refused, Memory}
+use Rattle.semver_core.specs.declared.increment.IncrementError.{IncrementError}
+
+no_more : (xs : List Id) (text : List ℕ) → has_numeric xs ≡ false → has_numeric (xs ++ AlphaNumeric text ∷ []) ≡ false
+no_more [] text h = refl
+no_more (AlphaNumeric s ∷ xs) text h = no_more xs text h
+no_more (Numeric n ∷ xs) text h = cc
+
+text_more : (xs : List Id) (last : Option (ℕ × ℕ)) (text : List ℕ) → Tracks xs last → Tracks (xs ++ AlphaNumeric text ∷ []) last
+text_more xs None text h = no_more xs text h
+text_more xs (Some p) text h = record {
+  front = h.front;
+  back = h.back ++ AlphaNumeric text ∷ [];
+  divided = ap (λ l. l ++ AlphaNumeric text ∷ []) h.divided ∙ append_assoc h.front (Numeric p.1 ∷ h.back) (AlphaNumeric text ∷ []);
+  place = h.place;
+  ended = no_more h.back text h.ended;
+}
+
+number_more : (xs : List Id) (i n : ℕ) → i ≡ length xs → Tracks (xs ++ Numeric n ∷ []) (Some (i, n))
+number_more xs i n e = record { front = xs; back = []; divided = refl; place = e; ended = refl }
+
+has_it : (front back : List Id) (n : ℕ) → has_numeric (front ++ Numeric n ∷ back) ≡ true
+has_it [] back n = refl
+has_it (Numeric m ∷ front) back n = refl
+has_it (AlphaNumeric text ∷ front) back n = has_it front back n
+
+bind_twice : {A B C : Type 0} (r : Result A Fault) (f : A → B) (g : B → C) → ((r >>= λ x. Ok (f x)) >>= λ y. Ok (g y)) ≡ (r >>= λ x. Ok (g (f x)))
+bind_twice (Ok x) f g = refl
+bind_twice (Err e) f g = refl
+
+raise_divided : (front back : List Id) (n : ℕ) → has_numeric back ≡ false
+    → raise_last (front ++ Numeric n ∷ back) ≡ (one_more n >>= λ m. Ok (front ++ Numeric m ∷ back))
+raise_divided [] back n h = rw h refl
+raise_divided (AlphaNumeric text ∷ front) back n h =
+    ap (λ r. r >>= λ list. Ok (AlphaNumeric text ∷ list)) (raise_divided front back n h) ∙ bind_twice (one_more n) (λ m. front ++ Numeric m ∷ back) (λ list. AlphaNumeric text ∷ list)
+raise_divided (Numeric k ∷ front) back n h = rw (has_it front back n)
+    (ap (λ r. r >>= λ list. Ok (Numeric k ∷ list)) (raise_divided front back n h) ∙ bind_twice (one_more n) (λ m. front ++ Numeric m ∷ back) (λ list. Numeric k ∷ list))
+
+set_divided : (front back : List Id) (x y : Id) → set (front ++ x ∷ back) (length front) y ≡ front ++ y ∷ back
+set_divided [] back x y = refl
+set_divided (z ∷ front) back x y = ap (λ l. z ∷ l) (set_divided front back x y)
+
+-- the last number rises where it stands
+pub raise_at : (list : List Id) (i n : ℕ) → IsLastNumber list i n → raise_last list ≡ (one_more n >>= λ m. Ok (set list i (Numeric m)))
+raise_at list i n h = rw (h.divided, h.place) (raise_divided h.front h.back n h.ended ∙ sym (by (one_more n)))
+  where
+    by : (r : Result ℕ Fault) → (r >>= λ m. Ok (set (h.front ++ Numeric n ∷ h.back) (length h.front) (Numeric m))) ≡ (r >>= λ m. Ok (h.front ++ Numeric m ∷ h.back))
+    by (Ok m) = ap Ok (set_divided h.front h.back (Numeric n) (Numeric m))
+    by (Err e) = refl
+
+length-take-le : (xs : List Identifier) (i : ℕ) → i < length xs → length (take i xs) ≡ i
+length-take-le xs i lt = grind (arith, common_steps)
+
+pub tracks_number : (xs : List Identifier) (i n : ℕ) (x : Identifier) → i < length xs → x ≡ get_or xs i x → id_view x ≡ Numeric n
+    → Tracks (ids_view (take (i + 1) xs)) (Some (i, n))
+tracks_number xs i n x lt at is =
+    let text : take (i + 1) xs ≡ take i xs ++ x ∷ [] = take_more xs i x lt ∙ ap (λ y. take i xs ++ y ∷ []) (sym at) in
+    rw (text, ids_view_push (take i xs) x, is) (number_more (ids_view (take i xs)) i n (sym (length-map (take i xs) id_view ∙ length-take-le xs i lt)))
+
+pub tracks_text : (xs : List Identifier) (i : ℕ) (last : Option (ℕ × ℕ)) (text : List ℕ) (x : Identifier) → i < length xs → x ≡ get_or xs i x → id_view x ≡ AlphaNumeric text
+    → Tracks (ids_view (take i xs)) last → Tracks (ids_view (take (i + 1) xs)) last
+tracks_text xs i last text x lt at is h =
+    let whole : take (i + 1) xs ≡ take i xs ++ x ∷ [] = take_more xs i x lt ∙ ap (λ y. take i xs ++ y ∷ []) (sym at) in
+    rw (whole, ids_view_push (take i xs) x, is) (text_more (ids_view (take i xs)) last text h)
+
+pub tracks_whole : (xs : List Identifier) (i : ℕ) (last : Option (ℕ × ℕ)) → length xs ≤ i → Tracks (ids_view (take i xs)) last → Tracks (ids_view xs) last
+tracks_whole xs i last le h = rw (take_all i xs le) at h
+
+pub set_view : (xs : List Identifier) (i : ℕ) (x : Identifier) → set (ids_view xs) i (id_view x) ≡ ids_view (set xs i x)
+set_view [] i x = refl
+set_view (y ∷ ys) zero x = refl
+set_view (y ∷ ys) (suc i) x = ap (λ l. id_view y ∷ l) (set_view ys i x)
+
+-- a write at one place of a list, through a slice of it
+pub refill_set : (xs ws : List Identifier) (i : ℕ) (x : Identifier) → ws ≡ xs → refill (length xs) xs (set ws i x) ≡ set xs i x
+refill_set xs ws i x e =
+    rw e (ap (λ n. take n (set xs i x ++ drop (length (set xs i x)) xs)) (sym (length-set xs i x)) ∙ take-append_seam (set xs i x) (drop (length (set xs i x)) xs))
+
+digits_test : IsDigitsTest (λ ds. list_all is_ascii_digit ds ≡ true)
+digits_test = search rules
+
+numerals : IsNumeralModel (λ ds. list_all is_ascii_digit ds ≡ true) (digits_value 10)
+numerals = numerals_by_value _ digits_test
+
+differs : (m n : ℕ) → (m ≡ n → ⊥) → false ≡ (m == n)
+differs m n h = by (m == n) refl
+  where
+    by : (t : Bool) → (m == n) ≡ t → false ≡ t
+    by true e = absurd (h (grind (arith, nat_tests)))
+    by false e = refl
+
+-- one more part of a printed list
+pub part_more : (xs : List Id) (x : Id) → list_text (xs ++ x ∷ []) ≡ (if is_empty xs then id_text x else list_text xs ++ 46 ∷ id_text x)
+part_more [] x = refl
+part_more (y ∷ []) x = refl
+part_more (y ∷ z ∷ xs) x = ap (λ t. id_text y ++ 46 ∷ t) (part_more (z ∷ xs) x) ∙ sym (append_assoc (id_text y) (46 ∷ list_text (z ∷ xs)) (46 ∷ id_text x))
+
+first_is : (xs : List Identifier) (i : ℕ) → i < length xs → is_empty (ids_view (take i xs)) ≡ (i == 0)
+first_is [] i lt = absurd (no_less i lt)
+  where
+    no_less : (i : ℕ) → i < 0 → ⊥
+    no_less i lt = omega (arith, lt)
+first_is (x ∷ xs) zero lt = refl
+first_is (x ∷ xs) (suc i) lt = differs (suc i) 0 (λ e. omega (arith, e))
+
+pub text_so_far : (xs : List Identifier) (i : ℕ) (x : Identifier) (text more : List ℕ) → i < length xs → x ≡ get_or xs i x
+    → text ≡ list_text (ids_view (take i xs))
+    → more ≡ (if i == 0 then text ++ id_text (id_view x) else text ++ 46 ∷ id_text (id_view x))
+    → more ≡ list_text (ids_view (take (i + 1) xs))
+text_so_far xs i x text more lt at before is =
+    let whole : take (i + 1) xs ≡ take i xs ++ x ∷ [] = take_more xs i x lt ∙ ap (λ y. take i xs ++ y ∷ []) (sym at) in
+    rw (whole, ids_view_push (take i xs) x) (is ∙ by (i == 0) (first_is xs i lt) ∙ sym (part_more (ids_view (take i xs)) (id_view x)))
+  where
+    nothing : (ids : List Id) → is_empty ids ≡ true → list_text ids ≡ []
+    nothing [] h = refl
+    nothing (y ∷ ys) h = cc
+
+    by : (t : Bool) → is_empty (ids_view (take i xs)) ≡ t
+        → (if t then text ++ id_text (id_view x) else text ++ 46 ∷ id_text (id_view x))
+        ≡ (if is_empty (ids_view (take i xs)) then id_text (id_view x) else list_text (ids_view (take i xs)) ++ 46 ∷ id_text (id_view x))
+    by true h = rw h (ap (λ t. t ++ id_text (id_view x)) (before ∙ nothing (ids_view (take i xs)) h))
+    by false h = rw h (ap (λ t. t ++ 46 ∷ id_text (id_view x)) before)
+
+pub text_whole : (xs : List Identifier) (i : ℕ) (text : List ℕ) → length xs ≤ i → text ≡ list_text (ids_view (take i xs)) → text ≡ list_text (ids_view xs)
+text_whole xs i text le h = rw (take_all i xs le) at h
+
+number_there : (list : List Id) (i n : ℕ) → IsLastNumber list i n → has_numeric list ≡ true
+number_there list i n last = ap has_numeric last.divided ∙ has_it last.front last.back n
+
+by_raise : (list : List Id) (id : List ℕ) (base : IdentifierBase) → has_numeric list ≡ true → advance list id base ≡ raise_last list
+by_raise [] id base h = cc
+by_raise (x ∷ xs) id base h = rw h refl
+
+not_less : (m n : ℕ) → (m < n → ⊥) → n ≤ m
+not_less m n h = by (nat_lt m n) refl
+  where
+    by : (t : Bool) → nat_lt m n ≡ t → n ≤ m
+    by true e = absurd (h (grind (arith, nat_tests)))
+    by false e = grind (arith, nat_tests)
+
+pub value_run : {E : Type 0} (ds : List ℕ) (r : Result ℕ E) → ParsesUnsigned 64 10 ds r → list_all is_ascii_digit ds ≡ true → 0 < length ds
+    → MatchResult r (λ n. digits_value 10 ds ≡ n) (λ _. 2 ^ 64 ≤ digits_value 10 ds)
+value_run {E} ds (Ok n) h d some = sym (parse_digits numerals {E = E} 64 ds (Ok n) h d).1
+value_run {E} ds (Err e) h d some = not_less (digits_value 10 ds) (2 ^ 64) (λ small. parse_digits numerals {E = E} 64 ds (Err e) h d (some, small))
+
+-- a list with a last number goes on by raising it
+pub advance_raises : (list : List Id) (id : List ℕ) (base : IdentifierBase) (i n : ℕ) → IsLastNumber list i n → advance list id base ≡ raise_last list
+advance_raises list id base i n last = by_raise list id base (number_there list i n last)

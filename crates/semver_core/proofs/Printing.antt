@@ -1,0 +1,4 @@
+pub mod Prints
+pub mod Returns
+pub mod Reread
+pub mod Through

@@ -1,0 +1,205 @@
+-- Serves proofs: a printed version reads as itself.
+use Rattle.std.proofs.Common.{zero, suc, Some, refl, ◌≡◌, ◌<◌, ◌≤◌, ◌^◌, ◌==◌, ℕ, Bool, true, false, ltb, List, [], ◌∷◌, ◌++◌, length, map, sym, ap, ◌∙◌, arith, eqb, subst, append-nil}
+use Rattle.std.specs.Prelude.{not}
+use Rattle.std.proofs.lemmas.Bool.{lt-ltb}
+use borrow.Author.Tests.{ltb-true}
+use Rattle.std.proofs.lemmas.Bool.Decides.{nat_tests}
+use Rattle.std.proofs.lemmas.Fmt.{decimal_is_IsNumeral, digits_decimal, digits_value-decimal}
+use Rattle.std.proofs.lemmas.List.Splits.{slice_split_none, slice_split_at}
+use Rattle.std.specs.Cmp.{first_so, second_so}
+use Rattle.std.specs.Fmt.{decimal}
+use Rattle.std.specs.Char.{is_ascii_digit}
+use Rattle.std.specs.List.{list_all, join_with_byte, All}
+use Rattle.std.specs.Str.Parse.{digits_value}
+use Rattle.semver_core.specs.Text.Characters.{begins, is_identifier_char, IsBlank}
+use Rattle.semver_core.specs.Text.Identifiers.{Id, Numeric, AlphaNumeric, identifier_of, is_run, pieces, goes_on, IsIdentifiers}
+use Rattle.semver_core.specs.Text.Numbers.{IsNumber}
+use Rattle.semver_core.specs.Values.Versions.{VersionValue}
+use Rattle.semver_core.specs.Text.VersionText.{Reads, IsPreRelease, IsBuild, no_mark, dashed, no_pre_release, plus, no_build, begins_pre_release}
+use Rattle.semver_core.specs.Printing.Text.{id_text, marked_list, version_text}
+use Rattle.semver_core.specs.Printing.RoundTrip.{is_u64_text, is_normal, IsReadable, PrintedBack, VersionsComeBack}
+use Rattle.semver_core.specs.declared.TheConstants.{MAX_LENGTH}
+use Rattle.semver_core.specs.Text.Parsing.{Parses}
+use Rattle.std.specs.Prelude.{IsUtf8}
+use Rattle.std.proofs.lemmas.Str.{IsCharBoundary-start}
+use Rattle.semver_core.specs.Text.Characters.{IsAfterBlank}
+use Rattle.semver_core.specs.Internal.Reading.{version_at, mark_len}
+use Rattle.semver_core.proofs.Text.Pieces.{some_inside}
+use Rattle.semver_core.proofs.Text.Texts.{version_complete, loose_at, small_digit, number_begins, no_mark_at, digit_no_mark}
+use Rattle.semver_core.proofs.Text.Runs.{not_dot, of_digits, numerals}
+
+-- ---- one identifier
+
+digit_char : (c : ℕ) → is_ascii_digit c ≡ true → is_identifier_char c ≡ true
+digit_char c h = grind (arith, nat_tests)
+
+digits_chars : (ds : List ℕ) → list_all is_ascii_digit ds ≡ true → list_all is_identifier_char ds ≡ true
+digits_chars [] h = refl
+digits_chars (c ∷ ds) h =
+    rw (digit_char c (first_so (is_ascii_digit c) (list_all is_ascii_digit ds) h), digits_chars ds (second_so (is_ascii_digit c) (list_all is_ascii_digit ds) h)) refl
+
+pub decimal_digits : (n : ℕ) → n < 2 ^ 64 → list_all is_ascii_digit (decimal n) ≡ true
+decimal_digits n small = digits_decimal numerals n small
+
+pub decimal_value : (n : ℕ) → n < 2 ^ 64 → digits_value 10 (decimal n) ≡ n
+decimal_value n small = digits_value-decimal numerals n small
+
+pub decimal_some : (n : ℕ) → n < 2 ^ 64 → 0 < length (decimal n)
+decimal_some n small = (decimal_is_IsNumeral n small).0.0
+
+decimal_run : (n : ℕ) → n < 2 ^ 64 → is_run (decimal n) ≡ true
+decimal_run n small = rw (lt-ltb 0 (length (decimal n)) (decimal_some n small), digits_chars (decimal n) (decimal_digits n small)) refl
+
+decimal_identifier : (n : ℕ) → n < 2 ^ 64 → identifier_of (decimal n) ≡ Numeric n
+decimal_identifier n small =
+    let value = decimal_value n small in
+    of_digits (decimal n) (decimal_digits n small) (rw value small) ∙ ap Numeric value
+
+not_so : (b : Bool) → not b ≡ true → b ≡ false
+not_so true h = cc
+not_so false h = refl
+
+text_identifier : (text : List ℕ) → not (is_u64_text text) ≡ true → identifier_of text ≡ AlphaNumeric text
+text_identifier text h = rw (not_so (is_u64_text text) h) refl
+
+-- the text of an identifier is a run that spells it
+pub id_run : (id : Id) → is_normal id ≡ true → is_run (id_text id) ≡ true
+id_run (Numeric n) h = decimal_run n (ltb-true n (2 ^ 64) h)
+id_run (AlphaNumeric text) h = first_so (is_run text) (not (is_u64_text text)) h
+
+pub id_spelled : (id : Id) → is_normal id ≡ true → identifier_of (id_text id) ≡ id
+id_spelled (Numeric n) h = decimal_identifier n (ltb-true n (2 ^ 64) h)
+id_spelled (AlphaNumeric text) h = text_identifier text (second_so (is_run text) (not (is_u64_text text)) h)
+
+-- ---- lists joined by dots
+
+chars_no_dot : (run : List ℕ) → list_all is_identifier_char run ≡ true → All (λ c. eqb c 46 ≡ false) run
+chars_no_dot [] h k d lt = absurd (grind arith)
+chars_no_dot (c ∷ run) h zero d lt = not_dot c (first_so (is_identifier_char c) (list_all is_identifier_char run) h)
+chars_no_dot (c ∷ run) h (suc k) d lt = chars_no_dot run (second_so (is_identifier_char c) (list_all is_identifier_char run) h) k d (omega arith)
+
+pub run_chars : (run : List ℕ) → is_run run ≡ true → list_all is_identifier_char run ≡ true
+run_chars run h = second_so (ltb 0 (length run)) (list_all is_identifier_char run) h
+
+-- runs joined by dots are cut at the dots into the same runs
+pub pieces_joined : (run : List ℕ) (runs : List (List ℕ)) → list_all is_run (run ∷ runs) ≡ true → pieces (join_with_byte 46 (run ∷ runs)) ≡ run ∷ runs
+pieces_joined run [] h = slice_split_none (λ c. c == 46) run (chars_no_dot run (run_chars run (first_so (is_run run) true h)))
+pieces_joined run (next ∷ runs) h =
+    let one = chars_no_dot run (run_chars run (first_so (is_run run) (list_all is_run (next ∷ runs)) h)) in
+    slice_split_at (λ c. c == 46) run 46 (join_with_byte 46 (next ∷ runs)) one refl
+    ∙ ap (λ l. run ∷ l) (pieces_joined next runs (second_so (is_run run) (list_all is_run (next ∷ runs)) h))
+
+pub ids_runs : (ids : List Id) → list_all is_normal ids ≡ true → list_all is_run (map id_text ids) ≡ true
+ids_runs [] h = refl
+ids_runs (id ∷ ids) h = rw (id_run id (first_so (is_normal id) (list_all is_normal ids) h), ids_runs ids (second_so (is_normal id) (list_all is_normal ids) h)) refl
+
+pub ids_spelled : (ids : List Id) → list_all is_normal ids ≡ true → ids ≡ map identifier_of (map id_text ids)
+ids_spelled [] h = refl
+ids_spelled (id ∷ ids) h =
+    let one = id_spelled id (first_so (is_normal id) (list_all is_normal ids) h) in
+    let more = ids_spelled ids (second_so (is_normal id) (list_all is_normal ids) h) in
+    rw (one, ← more) refl
+
+pub joined_is : (id : Id) (ids : List Id) → list_all is_normal (id ∷ ids) ≡ true → IsIdentifiers (join_with_byte 46 (map id_text (id ∷ ids))) (id ∷ ids)
+joined_is id ids h =
+    let cut = pieces_joined (id_text id) (map id_text ids) (ids_runs (id ∷ ids) h) in
+    record { runs = rw cut (ids_runs (id ∷ ids) h); spelled = rw cut (ids_spelled (id ∷ ids) h) }
+
+-- ---- the pieces of a version
+
+pub build_back : (ids : List Id) → list_all is_normal ids ≡ true → IsBuild (marked_list (43 ∷ []) ids) [] ids
+build_back [] h = no_build [] refl
+build_back (id ∷ ids) h = plus _ [] (id ∷ ids) (record { identifiers = joined_is id ids h; ended = refl })
+
+-- no identifier list goes on with what a build begins with
+build_stops : (ids : List Id) → goes_on (marked_list (43 ∷ []) ids ++ []) ≡ false
+build_stops [] = refl
+build_stops (id ∷ ids) = refl
+
+build_no_pre : (ids : List Id) → begins_pre_release (marked_list (43 ∷ []) ids ++ []) ≡ false
+build_no_pre [] = refl
+build_no_pre (id ∷ ids) = refl
+
+pub pre_back : (ids builds : List Id) → list_all is_normal ids ≡ true → IsPreRelease (marked_list (45 ∷ []) ids) (marked_list (43 ∷ []) builds ++ []) ids
+pre_back [] builds h = no_pre_release (marked_list (43 ∷ []) builds ++ []) (build_no_pre builds)
+pre_back (id ∷ ids) builds h = dashed _ (marked_list (43 ∷ []) builds ++ []) (id ∷ ids) (record { identifiers = joined_is id ids h; ended = build_stops builds })
+
+no_digit : (ids builds : List Id) → begins is_ascii_digit (marked_list (45 ∷ []) ids ++ (marked_list (43 ∷ []) builds ++ [])) ≡ false
+no_digit [] [] = refl
+no_digit [] (b ∷ bs) = refl
+no_digit (id ∷ ids) builds = refl
+
+number_back : (limit n : ℕ) → limit < 2 ^ 64 → n ≤ limit → IsNumber limit (decimal n) n
+number_back limit n max small =
+    let fits : n < 2 ^ 64 = omega arith in
+    record { some = decimal_some n fits; each = decimal_digits n fits; value = sym (decimal_value n fits); safe = small }
+
+blank_back : IsBlank []
+blank_back = record { characters = []; each = refl; spelled = refl }
+
+-- a printed version reads as itself
+pub version_back : (limit : ℕ) (v : VersionValue) → limit < 2 ^ 64 → IsReadable limit v → Reads limit (version_text v) v
+version_back limit v max h = record {
+  mark = [];
+  blank = [];
+  major = decimal v.major;
+  minor = decimal v.minor;
+  patch = decimal v.patch;
+  pre_release = marked_list (45 ∷ []) v.pre_release;
+  build = marked_list (43 ∷ []) v.build;
+  rest = [];
+  divided = rw (append-nil (marked_list (43 ∷ []) v.build)) refl;
+  mark_is = no_mark;
+  blank_is = blank_back;
+  major_is = number_back limit v.major max h.major;
+  minor_is = number_back limit v.minor max h.minor;
+  patch_is = record { number = number_back limit v.patch max h.patch; ended = no_digit v.pre_release v.build };
+  pre_release_is = pre_back v.pre_release v.build h.pre_release;
+  build_is = build_back v.build h.build;
+}
+
+-- a text that begins with a digit has no mark and no whitespace at its front
+no_mark_digit : (text : List ℕ) → begins is_ascii_digit text ≡ true → mark_len text ≡ 0
+no_mark_digit [] h = cc
+no_mark_digit (c ∷ rest) h = no_mark_at c rest (λ m. digit_no_mark c h m)
+
+at_front : (text : List ℕ) → IsUtf8 text → begins is_ascii_digit text ≡ true → IsAfterBlank text (mark_len text) 0
+at_front text u h =
+    let none = no_mark_digit text h in
+    rw none (record { after = omega arith; boundary = IsCharBoundary-start text u; blank = blank_back; ended = small_digit text h })
+
+version_digit : (limit : ℕ) (v : VersionValue) → limit < 2 ^ 64 → IsReadable limit v → begins is_ascii_digit (version_text v) ≡ true
+version_digit limit v max h =
+    let fits : v.major < 2 ^ 64 = omega (arith, h.major) in
+    number_begins (decimal v.major) _ (decimal_some v.major fits) (decimal_digits v.major fits)
+
+-- the reader finds the printed version at the front of its text
+pub version_found : (limit : ℕ) (v : VersionValue) → limit < 2 ^ 64 → IsReadable limit v → version_at limit (version_text v) 0 ≡ Some v
+unfolding version_back
+version_found limit v max h = version_complete limit (version_text v) 0 v (version_back limit v max h) (version_back limit v max h).divided
+
+-- and no other version is read there
+pub version_only : (limit : ℕ) (v w : VersionValue) → limit < 2 ^ 64 → IsUtf8 (version_text v) → IsReadable limit v → Reads limit (version_text v) w → w ≡ v
+version_only limit v w max u h r =
+    let front = at_front (version_text v) u (version_digit limit v max h) in
+    some_inside w v (sym (loose_at limit (version_text v) 0 w front r) ∙ version_found limit v max h)
+
+-- what comes back from a printed version
+pub printed_back : (limit : ℕ) (text : List ℕ) → limit < 2 ^ 64 → IsUtf8 text → PrintedBack limit text
+printed_back limit text max u v e h =
+    let same : IsUtf8 (version_text v) = subst (λ (t : List ℕ). IsUtf8 t) e u in (
+      subst (λ (t : List ℕ). Reads limit t v) (sym e) (version_back limit v max h),
+      λ w r. version_only limit v w max same h (subst (λ (t : List ℕ). Reads limit t w) e r),
+    )
+
+pub versions_back : (text : List ℕ) → IsUtf8 text → VersionsComeBack text
+versions_back text u = λ limit max. printed_back limit text max u
+
+-- what is parsed from a printed version is that version
+pub parsed_back : (limit : ℕ) (v w : VersionValue) (text : List ℕ) → limit < 2 ^ 64 → IsUtf8 text → text ≡ version_text v → IsReadable limit v → Parses limit text w → w ≡ v
+parsed_back limit v w text max u e h p = (printed_back limit text max u v e h).1 w p.reads
+
+-- a printed version of at most 256 bytes is parsed
+pub parses_back : (limit : ℕ) (v : VersionValue) (text : List ℕ) → limit < 2 ^ 64 → IsUtf8 text → text ≡ version_text v → length (version_text v) ≤ MAX_LENGTH → IsReadable limit v
+    → Parses limit text v
+parses_back limit v text max u e short h = record { short = rw e short; reads = (printed_back limit text max u v e h).0 }

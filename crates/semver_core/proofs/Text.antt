@@ -1,0 +1,15 @@
+pub mod Blanks
+pub mod SpaceLaw
+pub mod Spaces
+pub mod Trims
+pub mod TextFront
+pub mod Digits
+pub mod Runs
+pub mod Pieces
+pub mod Places
+pub mod Clauses
+pub mod Texts
+pub mod Whole
+pub mod OnePass
+pub mod Dotted
+pub mod LargerLimit

@@ -1,0 +1,72 @@
+-- Whitespace, character by character.
+use Rattle.std.proofs.Common.{◌≡◌, ◌≤◌, ◌+◌, ◌-◌, ℕ, true, false, List, [], ◌∷◌, ◌++◌, length, drop, take, refl, sym, ap, ◌∙◌, arith}
+use Rattle.std.proofs.Common.{length-append}
+use Rattle.std.proofs.lemmas.List.{drop_at}
+use Rattle.std.proofs.Common.{append-nil}
+use Rattle.std.proofs.lemmas.Str.{len_utf8_bounds}
+use mathlib.Core.Bool.{true≢false}
+use Rattle.std.proofs.Math.Seq.{take-add}
+use Rattle.std.proofs.lemmas.List.{drop-drop, length-drop, take_at}
+use Rattle.std.proofs.lemmas.List.Folds.{list_all-append}
+use Rattle.std.proofs.lemmas.Str.{IsCharBoundary-past_char, IsUtf8-drop, encode_same, encodes-append, length-encode}
+use Rattle.std.specs.Char.{len_utf8, encode_utf8}
+use Rattle.std.specs.List.{list_all}
+use Rattle.std.specs.Prelude.{encode_utf8_all, IsCharBoundary, IsUtf8, slice_range}
+use Rattle.semver_core.specs.Text.Characters.{is_whitespace, IsBlank, IsAfterBlank}
+
+-- how far whitespace has been passed
+pub record Passed (text : List ℕ) (at end : ℕ) (rest passed : List ℕ) : Type 0 where
+  pub after : at ≤ end
+  pub boundary : IsCharBoundary text end
+  pub rest_is : rest ≡ drop end text
+  pub blank : take (end - at) (drop at text) ≡ encode_utf8_all passed
+  pub each : list_all is_whitespace passed ≡ true
+
+pub passed_none : (text : List ℕ) (at : ℕ) (rest : List ℕ) → IsCharBoundary text at → rest ≡ drop at text → Passed text at at rest []
+passed_none text at rest b e =
+    let none : at - at ≡ 0 = omega arith in
+    record { after = omega arith; boundary = b; rest_is = e; blank = rw none refl; each = refl }
+
+pub passed_room : (text : List ℕ) (at end : ℕ) (rest passed next : List ℕ) (c n : ℕ) → Passed text at end rest passed → rest ≡ encode_utf8 c ++ next → n ≡ len_utf8 c
+    → end + n ≤ length text
+passed_room text at end rest passed next c n p e is =
+    omega (arith, p.boundary.0, ap length (sym p.rest_is ∙ e), length-append (encode_utf8 c) next, length-encode c, length-drop end text)
+
+pub passed_more : (text : List ℕ) (at end : ℕ) (rest passed next : List ℕ) (c n : ℕ) → IsUtf8 text → Passed text at end rest passed → rest ≡ encode_utf8 c ++ next
+    → is_whitespace c ≡ true → n ≡ len_utf8 c → Passed text at (end + n) next (passed ++ c ∷ [])
+passed_more text at end rest passed next c n u p e white is =
+    let front : drop end text ≡ encode_utf8 c ++ next = sym p.rest_is ∙ e in
+    let size : length (encode_utf8 c) ≡ n = length-encode c ∙ sym is in
+    let count : end + n - at ≡ end - at + n = omega (arith, p.after) in
+    let place : at + (end - at) ≡ end = omega (arith, p.after) in
+    let taken : take n (drop (end - at) (drop at text)) ≡ encode_utf8 c ++ [] =
+    rw (drop-drop (end - at) at text, place, front, take_at (encode_utf8 c) next n size) (sym (append-nil (encode_utf8 c))) in
+    record {
+      after = omega (arith, p.after);
+      boundary = rw is (IsCharBoundary-past_char text next end c p.boundary.0 (IsUtf8-drop text end u p.boundary) front);
+      rest_is = rw (← drop-drop n end text, front) (sym (drop_at (encode_utf8 c) next n size));
+      blank = rw (count, take-add (end - at) n (drop at text), p.blank, taken) (sym (encodes-append passed (c ∷ [])));
+      each = rw (list_all-append, p.each, white) refl;
+    }
+
+passed_blank : (text : List ℕ) (at end : ℕ) (rest passed : List ℕ) → Passed text at end rest passed → IsBlank (slice_range text at end)
+passed_blank text at end rest passed p = record { characters = passed; each = p.each; spelled = p.blank }
+
+pub passed_stop : (text : List ℕ) (at end : ℕ) (rest passed next : List ℕ) (c : ℕ) → Passed text at end rest passed → rest ≡ encode_utf8 c ++ next
+    → is_whitespace c ≡ false → IsAfterBlank text at end
+passed_stop text at end rest passed next c p e dark = record {
+  after = p.after;
+  boundary = p.boundary;
+  blank = passed_blank text at end rest passed p;
+  ended = λ b. let same = encode_same c b.character next b.rest (sym (sym p.rest_is ∙ e) ∙ b.spelled) in
+      true≢false (sym b.passes ∙ ap is_whitespace (sym same.0) ∙ dark);
+}
+
+pub passed_end : (text : List ℕ) (at end : ℕ) (rest passed : List ℕ) → Passed text at end rest passed → length rest ≡ 0 → IsAfterBlank text at end
+passed_end text at end rest passed p none = record {
+  after = p.after;
+  boundary = p.boundary;
+  blank = passed_blank text at end rest passed p;
+  ended = λ b. let some = len_utf8_bounds b.character in
+      absurd (omega (arith, none, ap length (p.rest_is ∙ b.spelled), length-append (encode_utf8 b.character) b.rest, length-encode b.character, some.0));
+}

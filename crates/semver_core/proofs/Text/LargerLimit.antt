@@ -1,0 +1,34 @@
+-- For proofs. What a larger limit on numbers leaves as it is.
+use Rattle.std.proofs.Common.{◌≡◌, ◌≤◌, ℕ, List, arith}
+use Rattle.semver_core.specs.Text.VersionText.{HasOneReading, Reads}
+use Rattle.semver_core.specs.Text.Limits.{KeepsReading, KeepsVersion}
+use Rattle.semver_core.specs.Text.Numbers.{IsNumber, IsWholeNumber}
+
+number_kept : (small large : ℕ) (digits : List ℕ) (n : ℕ) → small ≤ large → IsNumber small digits n → IsNumber large digits n
+number_kept small large digits n le h = record { some = h.some; each = h.each; value = h.value; safe = omega (arith, le, h.safe) }
+
+whole_kept : (small large : ℕ) (digits rest : List ℕ) (n : ℕ) → small ≤ large → IsWholeNumber small digits rest n → IsWholeNumber large digits rest n
+whole_kept small large digits rest n le h = record { number = number_kept small large digits n le h.number; ended = h.ended }
+
+pub keeps_reading : (text : List ℕ) → KeepsReading text
+keeps_reading text small large v le h = record {
+  mark = h.mark;
+  blank = h.blank;
+  major = h.major;
+  minor = h.minor;
+  patch = h.patch;
+  pre_release = h.pre_release;
+  build = h.build;
+  rest = h.rest;
+  divided = h.divided;
+  mark_is = h.mark_is;
+  blank_is = h.blank_is;
+  major_is = number_kept small large _ _ le h.major_is;
+  minor_is = number_kept small large _ _ le h.minor_is;
+  patch_is = whole_kept small large _ _ _ le h.patch_is;
+  pre_release_is = h.pre_release_is;
+  build_is = h.build_is;
+}
+
+pub keeps_version : (text : List ℕ) → HasOneReading text → KeepsVersion text
+keeps_version text one small large v w le h k = one large w v k (keeps_reading text small large v le h)

@@ -1,0 +1,270 @@
+-- A number and an identifier list are read exactly where the grammar has them.
+use Rattle.std.proofs.Common.{◌≡◌, ◌&&◌, ◌<◌, ◌≤◌, ◌+◌, ◌*◌, ℕ, Bool, true, false, ltb, List, [], ◌∷◌, ◌++◌, length, drop, take, Option, Some, None, refl, sym, ap, ◌∙◌, arith, inl, inr, add-one, add_comm}
+use Rattle.std.proofs.Common.{zero-add, eqb}
+use Rattle.std.proofs.Math.Seq.{take-append_seam, drop-append_seam}
+use Rattle.semver_core.proofs.Text.Runs.{not_dot}
+use Rattle.std.proofs.lemmas.Bool.{cases_Bool, eqb-true}
+use Rattle.std.proofs.lemmas.Bool.Decides.{nat_tests}
+use Rattle.std.proofs.lemmas.List.{drop-drop, take-append-drop}
+use Rattle.std.specs.Cmp.{first_so, second_so}
+use Rattle.std.specs.Char.{is_ascii_digit, digit_value}
+use Rattle.std.specs.List.{list_all, onto_first}
+use Rattle.std.specs.Str.Parse.{digits_value_after}
+use Rattle.std.proofs.lemmas.Bool.{lt-ltb}
+use borrow.Author.Tests.{ltb-false, le-ltb}
+use Rattle.semver_core.specs.Text.Characters.{begins, is_identifier_char}
+use Rattle.semver_core.specs.Text.Identifiers.{Id, is_run, pieces, goes_on, IsLongestIdentifiers}
+use Rattle.semver_core.specs.Text.Numbers.{IsWholeNumber}
+use Rattle.semver_core.specs.Internal.Reading.{digits_end, digits_from, list_len, list_of, placed, number_at, list_at}
+
+pub some_inside : {A : Type 0} (x y : A) → Some x ≡ Some y → x ≡ y
+some_inside x y e = cc
+
+-- what a placed piece was
+placed_some : {A : Type 0} (at : ℕ) (found : Option (A × ℕ)) (x : A) (end : ℕ) → placed at found ≡ Some (x, end)
+    → (n : ℕ) × (found ≡ Some (x, n)) × (end ≡ at + n)
+placed_some at None x end e = cc
+placed_some {A} at (Some (y, n)) x end e =
+    let pair : (y, at + n) ≡ (x, end) = some_inside _ _ e in
+    let same : y ≡ x = ap (λ (q : A × ℕ). q.0) pair in
+    (n, ap (λ z. Some (z, n)) same, sym (ap (λ (q : A × ℕ). q.1) pair))
+
+-- what stands after a piece
+pub rest_at : (text : List ℕ) (at end : ℕ) (piece rest : List ℕ) → drop at text ≡ piece ++ rest → end ≡ at + length piece → drop end text ≡ rest
+rest_at text at end piece rest e is = rw (is, ← drop-drop (length piece) at text, e) (drop-append_seam piece rest)
+
+pub digits_grow : (v : ℕ) (d : List ℕ) → v ≤ digits_value_after 10 v d
+digits_grow v [] = omega arith
+digits_grow v (c ∷ d) = let next = digits_grow (v * 10 + digit_value c) d in omega arith
+
+-- ---- numbers
+
+record Digits (limit : ℕ) (value count : ℕ) (text : List ℕ) (n m : ℕ) : Type 0 where
+  digits : List ℕ
+  rest : List ℕ
+  divided : text ≡ digits ++ rest
+  each : list_all is_ascii_digit digits ≡ true
+  spelled : n ≡ digits_value_after 10 value digits
+  counted : m ≡ count + length digits
+  ended : begins is_ascii_digit rest ≡ false
+  some : 0 < m
+  safe : n ≤ limit
+
+ended_some : (v k n m : ℕ) → digits_end v k ≡ Some (n, m) → (v ≡ n) × (k ≡ m) × (0 < k)
+ended_some v k n m e = elim (cases_Bool (eqb k 0)) [
+  | inl none ↦ cc (rw none at e)
+  | inr other ↦
+      let pair = some_inside (v, k) (n, m) (rw other at e) in
+      (ap (λ (q : ℕ × ℕ). q.0) pair, ap (λ (q : ℕ × ℕ). q.1) pair, grind (arith, nat_tests))
+]
+
+end_some : (v k n : ℕ) → n ≡ k → 0 < k → digits_end v k ≡ Some (v, n)
+end_some v k n same some =
+    let other : eqb k 0 ≡ false = grind (arith, nat_tests) in
+    rw (other, same) refl
+
+stopped : (limit : ℕ) (v k n m : ℕ) (t : List ℕ) → begins is_ascii_digit t ≡ false → v ≤ limit → digits_end v k ≡ Some (n, m) → Digits limit v k t n m
+stopped limit v k n m t stop small e =
+    let p = ended_some v k n m e in
+    record { digits = []; rest = t; divided = refl; each = refl; spelled = sym p.0; counted = omega arith; ended = stop; some = omega arith; safe = omega arith }
+
+digits_sound : (limit : ℕ) (v k : ℕ) (t : List ℕ) (n m : ℕ) → v ≤ limit → digits_from limit v k t ≡ Some (n, m) → Digits limit v k t n m
+unfolding digits_from
+digits_sound limit v k [] n m small e = stopped limit v k n m [] refl small e
+digits_sound limit v k (c ∷ rest) n m small e = elim (cases_Bool (is_ascii_digit c)) [
+  | inr other ↦ stopped limit v k n m (c ∷ rest) other small (rw other at e)
+  | inl digit ↦ elim (cases_Bool (ltb limit (v * 10 + digit_value c))) [
+    | inl big ↦ cc (rw (digit, big) at e)
+    | inr fits ↦
+        let r = digits_sound limit (v * 10 + digit_value c) (k + 1) rest n m (ltb-false limit (v * 10 + digit_value c) fits) (rw (digit, fits) at e) in
+        record {
+          digits = c ∷ r.digits;
+          rest = r.rest;
+          divided = ap (λ l. c ∷ l) r.divided;
+          each = rw (digit) r.each;
+          spelled = r.spelled;
+          counted = r.counted ∙ omega arith;
+          ended = r.ended;
+          some = r.some;
+          safe = r.safe;
+        }
+  ]
+]
+
+pub number_sound : (limit : ℕ) (text : List ℕ) (at n end : ℕ) → number_at limit text at ≡ Some (n, end)
+    → (digits : List ℕ) × (drop at text ≡ digits ++ drop end text) × IsWholeNumber limit digits (drop end text) n
+number_sound limit text at n end e =
+    let front = placed_some at (digits_from limit 0 0 (drop at text)) n end e in
+    let d = digits_sound limit 0 0 (drop at text) n front.0 (omega arith) front.1 in
+    let count : front.0 ≡ length d.digits = omega (arith, d.counted) in
+    let rest : drop end text ≡ d.rest = rest_at text at end d.digits d.rest d.divided (omega (arith, front.2)) in (
+      d.digits,
+      d.divided ∙ rw rest refl,
+      record {
+        number = record { some = omega (arith, d.some); each = d.each; value = d.spelled; safe = d.safe };
+        ended = rw rest d.ended;
+      },
+    )
+
+digits_complete : (limit : ℕ) (v k : ℕ) (d r : List ℕ) → list_all is_ascii_digit d ≡ true → begins is_ascii_digit r ≡ false → 0 < k + length d
+    → digits_value_after 10 v d ≤ limit → digits_from limit v k (d ++ r) ≡ Some (digits_value_after 10 v d, k + length d)
+unfolding digits_from
+digits_complete limit v k [] [] a b some safe = end_some v k (k + 0) (omega arith) (omega arith)
+digits_complete limit v k [] (c ∷ r) a b some safe = rw b (end_some v k (k + 0) (omega arith) (omega arith))
+digits_complete limit v k (c ∷ d) r a b some safe =
+    let grows = digits_grow (v * 10 + digit_value c) d in
+    let fits : ltb limit (v * 10 + digit_value c) ≡ false = le-ltb limit (v * 10 + digit_value c) (omega arith) in
+    let sum : k + 1 + length d ≡ k + length (c ∷ d) = omega arith in
+    rw (first_so (is_ascii_digit c) (list_all is_ascii_digit d) a, fits, ← sum)
+    (digits_complete limit (v * 10 + digit_value c) (k + 1) d r (second_so (is_ascii_digit c) (list_all is_ascii_digit d) a) b (omega arith) safe)
+
+pub number_complete : (limit : ℕ) (text : List ℕ) (at n : ℕ) (digits rest : List ℕ) → drop at text ≡ digits ++ rest → IsWholeNumber limit digits rest n
+    → (number_at limit text at ≡ Some (n, at + length digits)) × (drop (at + length digits) text ≡ rest)
+number_complete limit text at n digits rest e w =
+    let value = digits_complete limit 0 0 digits rest w.number.each w.ended (omega (arith, w.number.some)) (rw w.number.value at w.number.safe) in
+    (rw (e, value, ← w.number.value, zero-add (length digits)) refl, rest_at text at (at + length digits) digits rest e refl)
+
+-- ---- identifier lists
+
+-- the pieces of a text that follows identifier characters: the first may be empty
+abbrev tail_runs : List (List ℕ) → Bool
+tail_runs [] = true
+tail_runs (first ∷ others) = list_all is_identifier_char first && list_all is_run others
+
+pieces_cons : (c : ℕ) (rest : List ℕ) → eqb c 46 ≡ false → pieces (c ∷ rest) ≡ onto_first c (pieces rest)
+pieces_cons c rest other = rw other refl
+
+run_from : (t : List ℕ) → 0 < length t → list_all is_identifier_char t ≡ true → is_run t ≡ true
+run_from t some each = rw (lt-ltb 0 (length t) some, each) refl
+
+onto_tail : (c : ℕ) (ps : List (List ℕ)) → is_identifier_char c ≡ true → tail_runs ps ≡ true → list_all is_run (onto_first c ps) ≡ true
+onto_tail c [] h t = rw h refl
+onto_tail c (p ∷ ps) h t =
+    let first = first_so (list_all is_identifier_char p) (list_all is_run ps) t in
+    let others = second_so (list_all is_identifier_char p) (list_all is_run ps) t in
+    rw (run_from (c ∷ p) (omega arith) (rw (h, first) refl), others) refl
+
+tail_onto : (c : ℕ) (ps : List (List ℕ)) → tail_runs (onto_first c ps) ≡ true → tail_runs ps ≡ true
+tail_onto c [] t = refl
+tail_onto c (p ∷ ps) t =
+    let first = first_so (is_identifier_char c && list_all is_identifier_char p) (list_all is_run ps) t in
+    rw (second_so (is_identifier_char c) (list_all is_identifier_char p) first, second_so (is_identifier_char c && list_all is_identifier_char p) (list_all is_run ps) t) refl
+
+runs_tail : (ps : List (List ℕ)) → list_all is_run ps ≡ true → tail_runs ps ≡ true
+runs_tail [] h = refl
+runs_tail (p ∷ ps) h =
+    let first = first_so (is_run p) (list_all is_run ps) h in
+    rw (second_so (ltb 0 (length p)) (list_all is_identifier_char p) first, second_so (is_run p) (list_all is_run ps) h) refl
+
+-- a text of runs whose first character is one of identifiers
+begun_runs : (t : List ℕ) → begins is_identifier_char t ≡ true → tail_runs (pieces t) ≡ true → list_all is_run (pieces t) ≡ true
+begun_runs [] h t = cc
+begun_runs (c ∷ rest) h t =
+    let split = pieces_cons c rest (not_dot c h) in
+    rw split (onto_tail c (pieces rest) h (tail_onto c (pieces rest) (rw split at t)))
+
+begins_taken : (rest : List ℕ) → begins is_identifier_char rest ≡ true → begins is_identifier_char (take (list_len rest) rest) ≡ true
+unfolding list_len
+begins_taken [] h = cc
+begins_taken (c ∷ rest) h = rw (h, add_comm 1 (list_len rest), add-one (list_len rest)) h
+
+-- `goes_on` with no dot in front
+goes_on_char : (c : ℕ) (rest : List ℕ) → eqb c 46 ≡ false → goes_on (c ∷ rest) ≡ true → is_identifier_char c ≡ true
+goes_on_char c rest other more = elim (cases_Bool (is_identifier_char c)) [
+  | inl passes ↦ passes
+  | inr fails ↦ cc (rw (fails, other) at more)
+]
+
+goes_on_dot : (c : ℕ) (rest : List ℕ) → eqb c 46 ≡ true → goes_on (c ∷ rest) ≡ true → begins is_identifier_char rest ≡ true
+goes_on_dot c rest dot more = rw (eqb-true c 46 dot) at more
+
+cons_runs : (c : ℕ) (rest : List ℕ) → tail_runs (pieces rest) ≡ true → is_identifier_char c ≡ true → list_all is_run (pieces (c ∷ rest)) ≡ true
+cons_runs c rest t h = rw (pieces_cons c rest (not_dot c h)) (onto_tail c (pieces rest) h t)
+
+taken_cons : (c : ℕ) (rest : List ℕ) → tail_runs (pieces (take (list_len rest) rest)) ≡ true → goes_on (c ∷ rest) ≡ true → tail_runs (pieces (c ∷ take (list_len rest) rest)) ≡ true
+taken_cons c rest before more = elim (cases_Bool (eqb c 46)) [
+  | inr other ↦ runs_tail (pieces (c ∷ take (list_len rest) rest)) (cons_runs c (take (list_len rest) rest) before (goes_on_char c rest other more))
+  | inl dot ↦ rw dot (begun_runs (take (list_len rest) rest) (begins_taken rest (goes_on_dot c rest dot more)) before)
+]
+
+-- what a longest list takes is runs, where the first may go on from before
+taken_runs : (t : List ℕ) → tail_runs (pieces (take (list_len t) t)) ≡ true
+unfolding list_len
+taken_runs [] = refl
+taken_runs (c ∷ rest) = elim (cases_Bool (goes_on (c ∷ rest))) [
+  | inr stop ↦ rw stop refl
+  | inl more ↦
+      let step : take (list_len (c ∷ rest)) (c ∷ rest) ≡ c ∷ take (list_len rest) rest = rw (more, add_comm 1 (list_len rest), add-one (list_len rest)) refl in
+      rw step (taken_cons c rest (taken_runs rest) more)
+]
+
+pub list_ended : (t : List ℕ) → goes_on (drop (list_len t) t) ≡ false
+unfolding list_len
+list_ended [] = refl
+list_ended (c ∷ rest) = elim (cases_Bool (goes_on (c ∷ rest))) [
+  | inr stop ↦ rw stop stop
+  | inl more ↦
+      let step : drop (list_len (c ∷ rest)) (c ∷ rest) ≡ drop (list_len rest) rest = rw (more, add_comm 1 (list_len rest), add-one (list_len rest)) refl in
+      rw step (list_ended rest)
+]
+
+pub list_sound : (text : List ℕ) (at : ℕ) (ids : List Id) (end : ℕ) → list_at text at ≡ Some (ids, end)
+    → (begins is_identifier_char (drop at text) ≡ true) × ((piece : List ℕ) × (drop at text ≡ piece ++ drop end text) × IsLongestIdentifiers piece (drop end text) ids)
+list_sound text at ids end e = elim (cases_Bool (begins is_identifier_char (drop at text))) [
+  | inr none ↦ cc (rw none at e)
+  | inl some ↦
+      let t = drop at text in
+      let pair = some_inside (list_of t, at + list_len t) (ids, end) (rw some at e) in
+      let spelled : list_of t ≡ ids = ap (λ (q : List Id × ℕ). q.0) pair in
+      let place : at + list_len t ≡ end = ap (λ (q : List Id × ℕ). q.1) pair in
+      let rest : drop end text ≡ drop (list_len t) t = rw (← place) (sym (drop-drop (list_len t) at text)) in (
+        some,
+        (
+          take (list_len t) t,
+          rw rest (sym (take-append-drop (list_len t) t)),
+          record {
+            identifiers = record { runs = begun_runs (take (list_len t) t) (begins_taken t some) (taken_runs t); spelled = sym spelled };
+            ended = rw rest (list_ended t);
+          },
+        ),
+      )
+]
+
+first_char : (c : ℕ) (ps : List (List ℕ)) → tail_runs (onto_first c ps) ≡ true → is_identifier_char c ≡ true
+first_char c [] t = first_so (is_identifier_char c) true (first_so (is_identifier_char c && true) true t)
+first_char c (p ∷ ps) t =
+    first_so (is_identifier_char c) (list_all is_identifier_char p) (first_so (is_identifier_char c && list_all is_identifier_char p) (list_all is_run ps) t)
+
+pub runs_begin : (s r : List ℕ) → list_all is_run (pieces s) ≡ true → begins is_identifier_char (s ++ r) ≡ true
+runs_begin [] r h = cc
+runs_begin (c ∷ s) r h = elim (cases_Bool (eqb c 46)) [
+  | inl dot ↦ cc (rw dot at h)
+  | inr other ↦ first_char c (pieces s) (runs_tail (onto_first c (pieces s)) (rw other at h))
+]
+
+-- a text whose pieces are runs, before what does not go on, is the whole list
+whole_list : (s r : List ℕ) → tail_runs (pieces s) ≡ true → goes_on r ≡ false → list_len (s ++ r) ≡ length s
+unfolding list_len
+whole_list [] [] t stop = refl
+whole_list [] (c ∷ r) t stop = rw stop refl
+whole_list (c ∷ s) r t stop = elim (cases_Bool (eqb c 46)) [
+  | inl dot ↦
+      let runs : list_all is_run (pieces s) ≡ true = rw dot at t in
+      let begun : begins is_identifier_char (s ++ r) ≡ true = runs_begin s r runs in
+      let is : c ≡ 46 = eqb-true c 46 dot in
+      rw (is, begun, whole_list s r (runs_tail (pieces s) runs) stop) (omega arith)
+  | inr other ↦
+      let split : tail_runs (onto_first c (pieces s)) ≡ true = rw other at t in
+      let first = first_char c (pieces s) split in
+      rw (first, whole_list s r (tail_onto c (pieces s) split) stop) (omega arith)
+]
+
+pub list_complete : (text : List ℕ) (at : ℕ) (piece rest : List ℕ) (ids : List Id) → drop at text ≡ piece ++ rest → IsLongestIdentifiers piece rest ids
+    → (list_at text at ≡ Some (ids, at + length piece)) × (drop (at + length piece) text ≡ rest)
+list_complete text at piece rest ids e l =
+    let begun = runs_begin piece rest l.identifiers.runs in
+    let len = whole_list piece rest (runs_tail (pieces piece) l.identifiers.runs) l.ended in
+    (rw (e, begun, len, take-append_seam piece rest, ← l.identifiers.spelled) refl, rest_at text at (at + length piece) piece rest e refl)
+
+pub list_none : (text : List ℕ) (at : ℕ) → begins is_identifier_char (drop at text) ≡ false → list_at text at ≡ None
+list_none text at h = rw h refl

@@ -1,0 +1,220 @@
+-- Runs of identifier characters, and lists of them.
+use Rattle.std.proofs.Common.{◌≡◌, ◌<◌, ◌≤◌, ◌+◌, ◌-◌, ◌^◌, ◌==◌, ℕ, true, false, List, [], ◌∷◌, ◌++◌, length, drop, take, get_or, map, refl, sym, ap, ◌∙◌, arith, Some, Ok, Err, Result, ltb, eqb, rules, inl, inr}
+use Rattle.std.proofs.lemmas.Bool.{cases_Bool, eqb-true, cases_lt}
+use borrow.Author.Tests.{ltb-true}
+use Rattle.std.specs.Cmp.{first_so}
+use Rattle.std.proofs.Common.{add_comm, add-one, suc}
+use Rattle.std.proofs.Math.Seq.{take-add, drop-cons}
+use Rattle.std.proofs.lemmas.List.{get_or-take, length-take, length-drop}
+use Rattle.std.proofs.lemmas.List.Sums.{prefix_len_passes, prefix_len-le-length}
+use Rattle.std.proofs.lemmas.List.Folds.{length-prefix_len}
+use Rattle.std.proofs.lemmas.List.{get_or-drop, drop-drop, take_rest, drop_all}
+use Rattle.std.proofs.lemmas.Str.{IsCharBoundary-after_ascii}
+use Rattle.std.specs.Str.{IsUtf8, IsCharBoundary}
+use Rattle.std.proofs.Common.{append_assoc, zero-add}
+use Rattle.std.proofs.lemmas.Bool.Decides.{nat_tests}
+use Rattle.std.proofs.lemmas.Str.Parse.{IsDigitsTest, IsNumeralModel, numerals_by_value, parse_digits}
+use Rattle.std.proofs.lemmas.List.Splits.{slice_split_none, slice_split_at}
+use Rattle.std.specs.Char.{is_ascii_digit}
+use Rattle.std.specs.List.{list_all, prefix_len, All}
+use Rattle.std.specs.Result.{MatchResult}
+use Rattle.std.specs.Str.Parse.{ParsesUnsigned, digits_value}
+use Rattle.semver_core.specs.Text.Characters.{begins, is_identifier_char}
+use Rattle.semver_core.specs.Text.Identifiers.{Id, Numeric, AlphaNumeric, identifier_of, is_run, goes_on}
+use Rattle.semver_core.specs.Internal.Reading.{list_len, list_of, list_at}
+use Rattle.semver_core.specs.Values.Views.{ids_view, id_view}
+use Rattle.semver_core.specs.declared.identifier.Identifier.{Identifier}
+
+digits_test : IsDigitsTest (λ ds. list_all is_ascii_digit ds ≡ true)
+digits_test = search rules
+
+pub numerals : IsNumeralModel (λ ds. list_all is_ascii_digit ds ≡ true) (digits_value 10)
+numerals = numerals_by_value _ digits_test
+
+-- a run of digits is the number where it fits
+pub of_digits : (run : List ℕ) → list_all is_ascii_digit run ≡ true → digits_value 10 run < 2 ^ 64 → identifier_of run ≡ Numeric (digits_value 10 run)
+of_digits run d small =
+    let fits : ltb (digits_value 10 run) (2 ^ 64) ≡ true = grind (arith, nat_tests) in
+    rw (d, fits) refl
+
+of_long : (run : List ℕ) → list_all is_ascii_digit run ≡ true → (digits_value 10 run < 2 ^ 64 → ⊥) → identifier_of run ≡ AlphaNumeric run
+of_long run d big =
+    let over : ltb (digits_value 10 run) (2 ^ 64) ≡ false = grind (arith, nat_tests) in
+    rw (d, over) refl
+
+pub other_run : (run : List ℕ) → list_all is_ascii_digit run ≡ false → identifier_of run ≡ AlphaNumeric run
+other_run run d = rw d refl
+
+run_some : (run : List ℕ) → is_run run ≡ true → 0 < length run
+run_some run h = ltb-true 0 (length run) (first_so _ _ h)
+
+drop_one : (rest : List ℕ) (c n : ℕ) → drop (1 + n) (c ∷ rest) ≡ drop n rest
+drop_one rest c n = rw (add_comm 1 n, add-one n) refl
+
+pub numeric_run : {E : Type 0} (run : List ℕ) (r : Result ℕ E) → ParsesUnsigned 64 10 run r → list_all is_ascii_digit run ≡ true → is_run run ≡ true
+    → MatchResult r (λ n. identifier_of run ≡ Numeric n) (λ _. identifier_of run ≡ AlphaNumeric run)
+numeric_run {E} run (Ok n) h d some =
+    let p = parse_digits numerals {E = E} 64 run (Ok n) h d in
+    of_digits run d p.0.1 ∙ ap Numeric (sym p.1)
+numeric_run {E} run (Err e) h d some =
+    let p = parse_digits numerals {E = E} 64 run (Err e) h d in
+    of_long run d (λ small. p (run_some run some, small))
+
+-- the list goes over the run at its front, and then as the rest does
+list_len_run : (t : List ℕ) → list_len t ≡ prefix_len is_identifier_char t + list_len (drop (prefix_len is_identifier_char t) t)
+unfolding list_len
+list_len_run [] = refl
+list_len_run (c ∷ rest) = elim (cases_Bool (is_identifier_char c)) [
+  | inl passes ↦ let next = list_len_run rest in rw (passes, drop_one rest c (prefix_len is_identifier_char rest)) (omega (arith, next))
+  | inr fails ↦ let none : prefix_len is_identifier_char (c ∷ rest) ≡ 0 = rw fails refl in rw none (sym (zero-add (list_len (c ∷ rest))))
+]
+
+list_len_stop : (t : List ℕ) → goes_on t ≡ false → list_len t ≡ 0
+unfolding list_len
+list_len_stop [] h = refl
+list_len_stop (c ∷ rest) h = rw h refl
+
+-- what goes on after a run goes on with a dot
+dot_after : (t : List ℕ) → begins is_identifier_char t ≡ false → goes_on t ≡ true → (rest : List ℕ) × (t ≡ 46 ∷ rest) × (begins is_identifier_char rest ≡ true)
+dot_after [] n h = cc
+dot_after (c ∷ rest) n h = elim (cases_Bool (c == 46)) [
+  | inl dot ↦ let at : c ≡ 46 = eqb-true c 46 dot in (rest, rw at refl, rw (n, dot) at h)
+  | inr other ↦ cc (rw (n, other) at h)
+]
+
+list_len_dot : (rest : List ℕ) → begins is_identifier_char rest ≡ true → list_len (46 ∷ rest) ≡ 1 + list_len rest
+unfolding list_len
+list_len_dot rest h = rw h refl
+
+pub not_dot : (c : ℕ) → is_identifier_char c ≡ true → eqb c 46 ≡ false
+not_dot c h = elim (cases_Bool (eqb c 46)) [
+  | inl dot ↦ cc (rw (eqb-true c 46 dot) at h)
+  | inr other ↦ other
+]
+
+-- no run holds a dot
+run_no_dot : (t : List ℕ) → All (λ c. eqb c 46 ≡ false) (take (prefix_len is_identifier_char t) t)
+run_no_dot t k d lt =
+    let inside : k < prefix_len is_identifier_char t = omega (arith, length-take (prefix_len is_identifier_char t) t) in
+    rw (get_or-take (prefix_len is_identifier_char t) t k d inside) (not_dot _ (prefix_len_passes is_identifier_char t k d inside))
+
+pub prefix_ends : (t : List ℕ) → begins is_identifier_char (drop (prefix_len is_identifier_char t) t) ≡ false
+prefix_ends [] = refl
+prefix_ends (c ∷ rest) = elim (cases_Bool (is_identifier_char c)) [
+  | inl passes ↦ rw (passes, drop_one rest c (prefix_len is_identifier_char rest)) (prefix_ends rest)
+  | inr fails ↦ rw fails fails
+]
+
+-- the list is one run
+pub list_stop : (t : List ℕ) → goes_on (drop (prefix_len is_identifier_char t) t) ≡ false
+    → (list_of t ≡ identifier_of (take (prefix_len is_identifier_char t) t) ∷ []) × (list_len t ≡ prefix_len is_identifier_char t)
+list_stop t h =
+    let len : list_len t ≡ prefix_len is_identifier_char t = omega (arith, list_len_run t, list_len_stop (drop (prefix_len is_identifier_char t) t) h) in
+    (rw len (ap (map identifier_of) (slice_split_none (λ c. c == 46) (take (prefix_len is_identifier_char t) t) (run_no_dot t))), len)
+
+pub drop_next : (n : ℕ) (t rest : List ℕ) (c : ℕ) → drop n t ≡ c ∷ rest → drop (n + 1) t ≡ rest
+drop_next n t rest c e =
+    let inside : n < length t = omega (arith, ap length e, length-drop n t) in
+    let parts : get_or t n 0 ∷ drop (suc n) t ≡ c ∷ rest = sym (drop-cons t n 0 inside) ∙ e in
+    rw (add-one n) (cc)
+
+list_next_at : (t rest : List ℕ) (n : ℕ) → prefix_len is_identifier_char t ≡ n → drop n t ≡ 46 ∷ rest → begins is_identifier_char rest ≡ true
+    → (list_of t ≡ identifier_of (take n t) ∷ list_of rest) × (list_len t ≡ n + 1 + list_len rest)
+list_next_at t rest n is dot more =
+    let whole : list_len t ≡ n + list_len (drop n t) = rw is at (list_len_run t) in
+    let len : list_len t ≡ n + (1 + list_len rest) = rw (dot, list_len_dot rest more) at whole in
+    let text : take (list_len t) t ≡ take n t ++ 46 ∷ take (list_len rest) rest =
+    rw (len, take-add n (1 + list_len rest) t, dot, add_comm 1 (list_len rest), add-one (list_len rest)) refl in
+    (rw text (ap (map identifier_of) (slice_split_at (λ c. c == 46) (take n t) 46 (take (list_len rest) rest) (rw is at (run_no_dot t)) refl)), rw len (omega arith))
+
+-- the list is a run, a dot and a list
+pub list_next : (t : List ℕ) → goes_on (drop (prefix_len is_identifier_char t) t) ≡ true
+    → (list_of t ≡ identifier_of (take (prefix_len is_identifier_char t) t) ∷ list_of (drop (prefix_len is_identifier_char t + 1) t))
+    × (list_len t ≡ prefix_len is_identifier_char t + 1 + list_len (drop (prefix_len is_identifier_char t + 1) t))
+    × (begins is_identifier_char (drop (prefix_len is_identifier_char t + 1) t) ≡ true)
+list_next t h =
+    let n = prefix_len is_identifier_char t in
+    let dot = dot_after (drop n t) (prefix_ends t) h in
+    let next : drop (n + 1) t ≡ dot.0 = drop_next n t dot.0 46 dot.1 in
+    let facts = list_next_at t dot.0 n refl dot.1 dot.2 in
+    (rw next facts.0, rw next facts.1, rw next dot.2)
+
+all_prefix : (t : List ℕ) → list_all is_identifier_char (take (prefix_len is_identifier_char t) t) ≡ true
+all_prefix [] = refl
+all_prefix (c ∷ rest) = elim (cases_Bool (is_identifier_char c)) [
+  | inl passes ↦ rw (passes, add_comm 1 (prefix_len is_identifier_char rest), add-one (prefix_len is_identifier_char rest), passes) (all_prefix rest)
+  | inr fails ↦ rw fails refl
+]
+
+prefix_some : (t : List ℕ) → begins is_identifier_char t ≡ true → 0 < prefix_len is_identifier_char t
+prefix_some [] h = cc
+prefix_some (c ∷ rest) h = rw h (omega arith)
+
+pub run_is_run : (t : List ℕ) → begins is_identifier_char t ≡ true → is_run (take (prefix_len is_identifier_char t) t) ≡ true
+run_is_run t h =
+    let some : ltb 0 (length (take (prefix_len is_identifier_char t) t)) ≡ true =
+    grind (arith, nat_tests, prefix_some t h, length-prefix_len is_identifier_char t) in
+    rw (some, all_prefix t) refl
+
+ascii : (c : ℕ) → is_identifier_char c ≡ true → c < 128
+ascii c h = grind (arith, nat_tests)
+
+-- a text may be cut after a run
+pub run_boundary : (text : List ℕ) (start end : ℕ) → IsUtf8 text → start ≤ length text → begins is_identifier_char (drop start text) ≡ true
+    → end ≡ start + prefix_len is_identifier_char (drop start text) → IsCharBoundary text end
+run_boundary text start end u le h is =
+    let some = prefix_some (drop start text) h in
+    let most = prefix_len-le-length is_identifier_char (drop start text) in
+    let last : end - 1 ≡ start + (prefix_len is_identifier_char (drop start text) - 1) = omega arith in
+    let inside : end - 1 < length text = omega (arith, length-drop start text) in
+    let passes = prefix_len_passes is_identifier_char (drop start text) (prefix_len is_identifier_char (drop start text) - 1) 0 (omega arith) in
+    let low : get_or text (end - 1) 0 < 128 = ascii _ (rw last (rw get_or-drop at passes)) in
+    let e : end - 1 + 1 ≡ end = omega arith in
+    rw e at (IsCharBoundary-after_ascii text (end - 1) u inside low)
+
+-- the last run of a list
+pub list_done : (text : List ℕ) (at start end : ℕ) (before : List Id) (id : Id) → begins is_identifier_char (drop at text) ≡ true
+    → list_of (drop at text) ≡ before ++ list_of (drop start text) → at + list_len (drop at text) ≡ start + list_len (drop start text)
+    → end ≡ start + prefix_len is_identifier_char (drop start text) → id ≡ identifier_of (take (prefix_len is_identifier_char (drop start text)) (drop start text)) → goes_on (drop end text) ≡ false
+    → Some (before ++ id ∷ [], end) ≡ list_at text at
+list_done text at start end before id front whole ends is spelled stop =
+    let n = prefix_len is_identifier_char (drop start text) in
+    let rest : drop end text ≡ drop n (drop start text) = rw is (sym (drop-drop n start text)) in
+    let facts = list_stop (drop start text) (rw rest at stop) in
+    let place : at + list_len (drop at text) ≡ end = omega (arith, facts.1) in
+    rw (front, whole, place, facts.0, spelled) refl
+
+-- one more run of a list
+pub list_more : (text : List ℕ) (at start end : ℕ) (before : List Id) (id : Id)
+    → list_of (drop at text) ≡ before ++ list_of (drop start text) → at + list_len (drop at text) ≡ start + list_len (drop start text)
+    → end ≡ start + prefix_len is_identifier_char (drop start text) → id ≡ identifier_of (take (prefix_len is_identifier_char (drop start text)) (drop start text)) → goes_on (drop end text) ≡ true
+    → (begins is_identifier_char (drop (end + 1) text) ≡ true) × (list_of (drop at text) ≡ (before ++ id ∷ []) ++ list_of (drop (end + 1) text))
+    × (at + list_len (drop at text) ≡ end + 1 + list_len (drop (end + 1) text))
+list_more text at start end before id whole ends is spelled more =
+    let n = prefix_len is_identifier_char (drop start text) in
+    let rest : drop end text ≡ drop n (drop start text) = rw is (sym (drop-drop n start text)) in
+    let next : drop (end + 1) text ≡ drop (n + 1) (drop start text) =
+    (let sum : end + 1 ≡ start + (n + 1) = omega arith in rw sum (sym (drop-drop (n + 1) start text))) in
+    let facts = list_next (drop start text) (rw rest at more) in
+    (rw next facts.2, whole ∙ rw (next, facts.0, spelled, append_assoc) refl, rw next (omega (arith, facts.1)))
+
+-- a slice to the end
+pub rest_from : (text : List ℕ) (at : ℕ) → take (length text - at) (drop at text) ≡ drop at text
+rest_from text at = take_rest text at
+
+pub run_length : (text : List ℕ) (start : ℕ) → start ≤ length text
+    → (length (take (prefix_len is_identifier_char (drop start text)) (drop start text)) ≡ prefix_len is_identifier_char (drop start text))
+    × (start + prefix_len is_identifier_char (drop start text) ≤ length text)
+run_length text start le =
+    let most = prefix_len-le-length is_identifier_char (drop start text) in
+    (length-prefix_len is_identifier_char (drop start text), omega (arith, length-drop start text))
+
+pub begins_inside : (text : List ℕ) (at : ℕ) → begins is_identifier_char (drop at text) ≡ true → at < length text
+begins_inside text at h = elim (cases_lt at (length text)) [
+  | inl inside ↦ inside
+  | inr past ↦ cc (rw (drop_all at text past) at h)
+]
+
+pub ids_view_push : (xs : List Identifier) (x : Identifier) → ids_view (xs ++ x ∷ []) ≡ ids_view xs ++ id_view x ∷ []
+ids_view_push [] x = refl
+ids_view_push (y ∷ ys) x = ap (λ l. id_view y ∷ l) (ids_view_push ys x)

@@ -1,0 +1,356 @@
+-- Serves proofs. The text without the whitespace round it, by bytes and by characters.
+use Rattle.std.proofs.Common.{◌≡◌, ℕ, ◌<◌, ◌≤◌, ◌-◌, ◌+◌, ◌/◌, ◌%◌, List, [], ◌∷◌, ◌++◌, length, get_or, take, drop, refl, sym, ap, ◌∙◌, subst, arith, true, false, inl, inr, append_assoc, length-append}
+use Rattle.std.specs.Prelude.{encode_utf8_all, IsUtf8, reverse}
+use Rattle.std.specs.Char.{encode_utf8, len_utf8}
+use Rattle.std.specs.List.{list_all}
+use Rattle.std.proofs.Common.{append-nil}
+use Rattle.std.proofs.lemmas.Bool.{and_parts, and_from, cases_Bool, cases_lt, lt-ltb, le-ltb}
+use Rattle.std.proofs.lemmas.List.{length-drop, take-append-drop, drop-drop, drop_at, reverse-append, length-reverse}
+use Rattle.std.proofs.lemmas.List.Folds.{list_all-append}
+use Rattle.std.proofs.Math.Seq.{get_or-append_right, take-append_seam}
+use Rattle.std.proofs.lemmas.Str.{IsUtf8-drop, IsUtf8-take, encode_ascii, encodes-append, length-encode, len_utf8_bounds}
+use Rattle.semver_core.specs.Text.Characters.{is_whitespace, begins, IsTrim, BeginsBlank, IsAfterBlank}
+use Rattle.semver_core.specs.Internal.Spaces.{space_len, after_spaces, drop_spaces, drop_end_spaces, is_empty, trim}
+use Rattle.semver_core.specs.Text.Whitespace.{MiddleIsTrim, TrimIsMiddle, AfterBlankDropsSpaces, OneAfterBlank}
+use Rattle.semver_core.proofs.Text.Spaces.{drop_spaces-more, drop_spaces-none}
+use Rattle.semver_core.proofs.Text.SpaceLaw.{space_len-white, space_len-dark, space_len-inside}
+
+-- at the front
+
+pub drop_spaces-nil : drop_spaces [] ≡ []
+unfolding after_spaces
+drop_spaces-nil = refl
+
+pub drop_spaces-white : (c : ℕ) (rest : List ℕ) → is_whitespace c ≡ true → drop_spaces (encode_utf8 c ++ rest) ≡ drop_spaces rest
+drop_spaces-white c rest h =
+    let size = space_len-white c rest h in
+    let some : 0 < space_len (encode_utf8 c ++ rest) = omega (arith, size, (len_utf8_bounds c).0) in
+    sym (drop_spaces-more (encode_utf8 c ++ rest) some)
+    ∙ ap drop_spaces (ap (λ n. drop n (encode_utf8 c ++ rest)) size ∙ drop_at (encode_utf8 c) rest (len_utf8 c) (length-encode c))
+
+pub drop_spaces-dark : (c : ℕ) (rest : List ℕ) → is_whitespace c ≡ false → drop_spaces (encode_utf8 c ++ rest) ≡ encode_utf8 c ++ rest
+drop_spaces-dark c rest h = drop_spaces-none (encode_utf8 c ++ rest) (space_len-dark c rest h)
+
+-- whitespace at the front is passed
+pub drop_spaces-blank : (cs rest : List ℕ) → list_all is_whitespace cs ≡ true → drop_spaces (encode_utf8_all cs ++ rest) ≡ drop_spaces rest
+drop_spaces-blank [] rest h = refl
+drop_spaces-blank (c ∷ cs) rest h =
+    let each = and_parts (is_whitespace c) (list_all is_whitespace cs) h in
+    ap drop_spaces (append_assoc (encode_utf8 c) (encode_utf8_all cs) rest)
+    ∙ drop_spaces-white c (encode_utf8_all cs ++ rest) each.0
+    ∙ drop_spaces-blank cs rest each.1
+
+-- at the end
+
+keep_byte : (b : ℕ) (rest : List ℕ) → is_empty (drop_spaces (b ∷ rest)) ≡ false → drop_end_spaces (b ∷ rest) ≡ b ∷ drop_end_spaces rest
+unfolding drop_end_spaces
+keep_byte b rest h = rw (h, drop_end_spaces) refl
+
+keep_inside : (b : ℕ) (rest : List ℕ) → 128 ≤ b → b < 192 → drop_end_spaces (b ∷ rest) ≡ b ∷ drop_end_spaces rest
+keep_inside b rest l h = keep_byte b rest (ap is_empty (drop_spaces-none (b ∷ rest) (space_len-inside b rest l h)))
+
+keep_one : (c : ℕ) (rest : List ℕ) → c < 128 → is_empty (drop_spaces (encode_utf8 c ++ rest)) ≡ false
+    → drop_end_spaces (encode_utf8 c ++ rest) ≡ encode_utf8 c ++ drop_end_spaces rest
+keep_one c rest h some = rw (encode_ascii c h) (keep_byte c rest (rw (encode_ascii c h) at some))
+
+keep_two : (c : ℕ) (rest : List ℕ) → 128 ≤ c → c < 2048 → is_empty (drop_spaces (encode_utf8 c ++ rest)) ≡ false
+    → drop_end_spaces (encode_utf8 c ++ rest) ≡ encode_utf8 c ++ drop_end_spaces rest
+unfolding encode_utf8
+keep_two c rest l h some =
+    let a = 192 + c / 64 in
+    let b = 128 + c % 64 in
+    rw (le-ltb c 128 l, lt-ltb c 2048 h)
+    (keep_byte a (b ∷ rest) (rw (le-ltb c 128 l, lt-ltb c 2048 h) at some) ∙ ap (λ t. a ∷ t) (keep_inside b rest (omega arith) (omega arith)))
+
+keep_three : (c : ℕ) (rest : List ℕ) → 2048 ≤ c → c < 65536 → is_empty (drop_spaces (encode_utf8 c ++ rest)) ≡ false
+    → drop_end_spaces (encode_utf8 c ++ rest) ≡ encode_utf8 c ++ drop_end_spaces rest
+unfolding encode_utf8
+keep_three c rest l h some =
+    let one : 128 ≤ c = omega arith in
+    let a = 224 + c / 4096 in
+    let b = 128 + (c / 64) % 64 in
+    let d = 128 + c % 64 in
+    rw (le-ltb c 128 one, le-ltb c 2048 l, lt-ltb c 65536 h)
+    (keep_byte a (b ∷ d ∷ rest) (rw (le-ltb c 128 one, le-ltb c 2048 l, lt-ltb c 65536 h) at some)
+    ∙ ap (λ t. a ∷ t) (keep_inside b (d ∷ rest) (omega arith) (omega arith) ∙ ap (λ t. b ∷ t) (keep_inside d rest (omega arith) (omega arith))))
+
+keep_four : (c : ℕ) (rest : List ℕ) → 65536 ≤ c → is_empty (drop_spaces (encode_utf8 c ++ rest)) ≡ false
+    → drop_end_spaces (encode_utf8 c ++ rest) ≡ encode_utf8 c ++ drop_end_spaces rest
+unfolding encode_utf8
+keep_four c rest l some =
+    let one : 128 ≤ c = omega arith in
+    let two : 2048 ≤ c = omega arith in
+    let a = 240 + c / 262144 in
+    let b = 128 + (c / 4096) % 64 in
+    let d = 128 + (c / 64) % 64 in
+    let e = 128 + c % 64 in
+    rw (le-ltb c 128 one, le-ltb c 2048 two, le-ltb c 65536 l)
+    (keep_byte a (b ∷ d ∷ e ∷ rest) (rw (le-ltb c 128 one, le-ltb c 2048 two, le-ltb c 65536 l) at some)
+    ∙ ap (λ t. a ∷ t) (keep_inside b (d ∷ e ∷ rest) (omega arith) (omega arith)
+    ∙ ap (λ t. b ∷ t) (keep_inside d (e ∷ rest) (omega arith) (omega arith) ∙ ap (λ t. d ∷ t) (keep_inside e rest (omega arith) (omega arith)))))
+
+-- a character stays where more than whitespace is left
+keep_char : (c : ℕ) (rest : List ℕ) → is_empty (drop_spaces (encode_utf8 c ++ rest)) ≡ false
+    → drop_end_spaces (encode_utf8 c ++ rest) ≡ encode_utf8 c ++ drop_end_spaces rest
+keep_char c rest some = elim (cases_lt c 128) [
+  | inl one ↦ keep_one c rest one some
+  | inr more ↦ elim (cases_lt c 2048) [
+    | inl two ↦ keep_two c rest more two some
+    | inr more ↦ elim (cases_lt c 65536) [ inl three ↦ keep_three c rest more three some | inr four ↦ keep_four c rest four some ]
+  ]
+]
+
+drop_end-all : (text : List ℕ) → drop_spaces text ≡ [] → drop_end_spaces text ≡ []
+unfolding drop_end_spaces
+drop_end-all [] h = refl
+drop_end-all (b ∷ rest) h = rw (h, drop_end_spaces) refl
+
+pub drop_end-blank : (cs : List ℕ) → list_all is_whitespace cs ≡ true → drop_end_spaces (encode_utf8_all cs) ≡ []
+drop_end-blank cs h =
+    drop_end-all (encode_utf8_all cs)
+    (ap drop_spaces (sym (append-nil (encode_utf8_all cs))) ∙ drop_spaces-blank cs [] h ∙ drop_spaces-nil)
+
+-- the last character of a list, behind a front
+
+ends_front : (c d : ℕ) (cs : List ℕ) → begins is_whitespace (reverse (c ∷ d ∷ cs)) ≡ begins is_whitespace (reverse (d ∷ cs))
+ends_front c d cs = rw (reverse-append (c ∷ []) (d ∷ cs)) (go (reverse (d ∷ cs)) (length-reverse (d ∷ cs)))
+  where
+    go : (xs : List ℕ) → length xs ≡ length (d ∷ cs) → begins is_whitespace (xs ++ (c ∷ [])) ≡ begins is_whitespace xs
+    go [] e = absurd (omega arith)
+    go (x ∷ xs) e = refl
+
+-- where a text has another character than whitespace, more than whitespace is left
+filled : (c : ℕ) (rest : List ℕ) → is_empty (encode_utf8 c ++ rest) ≡ false
+filled c rest = go (encode_utf8 c) (omega (arith, length-encode c, (len_utf8_bounds c).0))
+  where
+    go : (xs : List ℕ) → 0 < length xs → is_empty (xs ++ rest) ≡ false
+    go [] h = absurd (omega arith)
+    go (x ∷ xs) h = refl
+
+some_dark : (c : ℕ) (cs after : List ℕ) → begins is_whitespace (reverse (c ∷ cs)) ≡ false
+    → is_empty (drop_spaces (encode_utf8_all ((c ∷ cs) ++ after))) ≡ false
+some_dark c [] after dark = ap is_empty (drop_spaces-dark c (encode_utf8_all after) dark) ∙ filled c (encode_utf8_all after)
+some_dark c (d ∷ cs) after h = elim (cases_Bool (is_whitespace c)) [
+  | inl white ↦ ap is_empty (drop_spaces-white c (encode_utf8_all ((d ∷ cs) ++ after)) white) ∙ some_dark d cs after (sym (ends_front c d cs) ∙ h)
+  | inr dark ↦ ap is_empty (drop_spaces-dark c (encode_utf8_all ((d ∷ cs) ++ after)) dark) ∙ filled c (encode_utf8_all ((d ∷ cs) ++ after))
+]
+
+-- what stands before the whitespace at the end
+pub drop_end-dark : (cs after : List ℕ) → begins is_whitespace (reverse cs) ≡ false → list_all is_whitespace after ≡ true
+    → drop_end_spaces (encode_utf8_all (cs ++ after)) ≡ encode_utf8_all cs
+drop_end-dark [] after h blank = drop_end-blank after blank
+drop_end-dark (c ∷ cs) after h blank =
+    keep_char c (encode_utf8_all (cs ++ after)) (some_dark c cs after h)
+    ∙ ap (λ t. encode_utf8 c ++ t) (drop_end-dark cs after (later cs h) blank)
+  where
+    later : (cs : List ℕ) → begins is_whitespace (reverse (c ∷ cs)) ≡ false → begins is_whitespace (reverse cs) ≡ false
+    later [] h = refl
+    later (d ∷ cs) h = sym (ends_front c d cs) ∙ h
+
+-- the trimmed middle is what the bytes give
+
+pub trim_parts : (before characters after : List ℕ) → list_all is_whitespace before ≡ true → list_all is_whitespace after ≡ true
+    → begins is_whitespace characters ≡ false → begins is_whitespace (reverse characters) ≡ false
+    → trim (encode_utf8_all (before ++ (characters ++ after))) ≡ encode_utf8_all characters
+trim_parts before characters after front back begin end =
+    ap trim (encodes-append before (characters ++ after))
+    ∙ ap drop_end_spaces (drop_spaces-blank before (encode_utf8_all (characters ++ after)) front)
+    ∙ go characters begin end
+  where
+    go : (cs : List ℕ) → begins is_whitespace cs ≡ false → begins is_whitespace (reverse cs) ≡ false
+        → drop_end_spaces (drop_spaces (encode_utf8_all (cs ++ after))) ≡ encode_utf8_all cs
+    go [] begin end = ap drop_end_spaces (ap drop_spaces (sym (append-nil (encode_utf8_all after))) ∙ drop_spaces-blank after [] back ∙ drop_spaces-nil) ∙ drop_end-all [] drop_spaces-nil
+    go (c ∷ cs) begin end = ap drop_end_spaces (drop_spaces-dark c (encode_utf8_all (cs ++ after)) begin) ∙ drop_end-dark (c ∷ cs) after end back
+
+pub MiddleIsTrim_lem : MiddleIsTrim
+MiddleIsTrim_lem text middle t =
+    t.middle_is
+    ∙ sym (trim_parts t.before t.characters t.after t.blank_before t.blank_after t.begins_dark t.ends_dark)
+    ∙ ap trim (sym t.divided)
+
+-- characters divided into whitespace and what begins with another character
+pub record Fronted (cs : List ℕ) : Type 0 where
+  pub before : List ℕ
+  pub rest : List ℕ
+  pub divided : cs ≡ before ++ rest
+  pub blank : list_all is_whitespace before ≡ true
+  pub dark : begins is_whitespace rest ≡ false
+
+pub fronted : (cs : List ℕ) → Fronted cs
+fronted [] = record { before = []; rest = []; divided = refl; blank = refl; dark = refl }
+fronted (c ∷ cs) = elim (cases_Bool (is_whitespace c)) [
+  | inl white ↦ white_on c cs white (fronted cs)
+  | inr dark ↦ record { before = []; rest = c ∷ cs; divided = refl; blank = refl; dark = dark }
+]
+  where
+    white_on : (c : ℕ) (cs : List ℕ) → is_whitespace c ≡ true → Fronted cs → Fronted (c ∷ cs)
+    white_on c cs white f = record {
+      before = c ∷ f.before;
+      rest = f.rest;
+      divided = ap (λ t. c ∷ t) f.divided;
+      blank = and_from (is_whitespace c) (list_all is_whitespace f.before) white f.blank;
+      dark = f.dark;
+    }
+
+-- and into what ends with another character and whitespace
+pub record Ended (cs : List ℕ) : Type 0 where
+  pub rest : List ℕ
+  pub after : List ℕ
+  pub divided : cs ≡ rest ++ after
+  pub blank : list_all is_whitespace after ≡ true
+  pub dark : begins is_whitespace (reverse rest) ≡ false
+
+pub ended : (cs : List ℕ) → Ended cs
+ended [] = record { rest = []; after = []; divided = refl; blank = refl; dark = refl }
+ended (c ∷ cs) = more c cs (ended cs)
+  where
+    more : (c : ℕ) (cs : List ℕ) → Ended cs → Ended (c ∷ cs)
+    more c cs e = go e.rest e.divided e.dark
+      where
+        go : (rest : List ℕ) → cs ≡ rest ++ e.after → begins is_whitespace (reverse rest) ≡ false → Ended (c ∷ cs)
+        go [] divided dark = elim (cases_Bool (is_whitespace c)) [
+          | inl white ↦ record { rest = []; after = c ∷ e.after; divided = ap (λ t. c ∷ t) divided; blank = and_from (is_whitespace c) (list_all is_whitespace e.after) white e.blank; dark = refl }
+          | inr dark ↦ record { rest = c ∷ []; after = e.after; divided = ap (λ t. c ∷ t) divided; blank = e.blank; dark = dark }
+        ]
+        go (d ∷ rest) divided dark = record { rest = c ∷ d ∷ rest; after = e.after; divided = ap (λ t. c ∷ t) divided; blank = e.blank; dark = ends_front c d rest ∙ dark }
+
+begins_front : (cs after : List ℕ) → begins is_whitespace (cs ++ after) ≡ false → begins is_whitespace cs ≡ false
+begins_front [] after h = refl
+begins_front (c ∷ cs) after h = h
+
+pub IsTrim_exists : (cs : List ℕ) → (middle : List ℕ) × IsTrim (encode_utf8_all cs) middle
+IsTrim_exists cs =
+    let f = fronted cs in
+    let e = ended f.rest in (
+      encode_utf8_all e.rest,
+      record {
+        before = f.before;
+        characters = e.rest;
+        after = e.after;
+        divided = ap encode_utf8_all (f.divided ∙ ap (λ t. f.before ++ t) e.divided);
+        middle_is = refl;
+        blank_before = f.blank;
+        blank_after = e.blank;
+        begins_dark = begins_front e.rest e.after (subst (λ (t : List ℕ). begins is_whitespace t ≡ false) e.divided f.dark);
+        ends_dark = e.dark;
+      },
+    )
+
+pub TrimIsMiddle_lem : TrimIsMiddle
+TrimIsMiddle_lem text utf8 =
+    let t = IsTrim_exists utf8.0 in
+    let here : IsTrim text t.0 = subst (λ (x : List ℕ). IsTrim x t.0) utf8.1.1 t.1 in
+    subst (λ (m : List ℕ). IsTrim text m) (MiddleIsTrim_lem text t.0 here) here
+
+-- what stands behind the whitespace at a place
+
+dark_here : (text : List ℕ) → IsUtf8 text → (BeginsBlank text → ⊥) → drop_spaces text ≡ text
+dark_here text utf8 dark = go utf8.0 utf8.1.1
+  where
+    go : (cs : List ℕ) → encode_utf8_all cs ≡ text → drop_spaces text ≡ text
+    go [] e = ap drop_spaces (sym e) ∙ drop_spaces-nil ∙ e
+    go (c ∷ cs) e = elim (cases_Bool (is_whitespace c)) [
+      | inl white ↦ absurd (dark (record { character = c; rest = encode_utf8_all cs; passes = white; spelled = sym e }))
+      | inr other ↦ ap drop_spaces (sym e) ∙ drop_spaces-dark c (encode_utf8_all cs) other ∙ e
+    ]
+
+pub AfterBlankDropsSpaces_lem : AfterBlankDropsSpaces
+AfterBlankDropsSpaces_lem text at end utf8 a =
+    let place : at + (end - at) ≡ end = omega (arith, a.after) in
+    let whole = sym (take-append-drop (end - at) (drop at text)) ∙ ap (λ t. take (end - at) (drop at text) ++ t) (drop-drop (end - at) at text ∙ ap (λ n. drop n text) place) in
+    sym (dark_here (drop end text) (IsUtf8-drop text end utf8 a.boundary) a.ended)
+    ∙ sym (drop_spaces-blank a.blank.characters (drop end text) a.blank.each)
+    ∙ ap (λ t. drop_spaces (t ++ drop end text)) (sym a.blank.spelled)
+    ∙ ap drop_spaces (sym whole)
+
+-- that place is where so much of the text is left
+pub after_blank-place : (text : List ℕ) (at end : ℕ) → IsUtf8 text → IsAfterBlank text at end → end ≡ length text - length (drop_spaces (drop at text))
+after_blank-place text at end utf8 a =
+    let within : end ≤ length text = a.boundary.0 in
+    omega (arith, ap length (AfterBlankDropsSpaces_lem text at end utf8 a), length-drop end text)
+
+pub OneAfterBlank_lem : OneAfterBlank
+OneAfterBlank_lem text at end other utf8 a b = after_blank-place text at end utf8 a ∙ sym (after_blank-place text at other utf8 b)
+
+-- from the end, character by character
+
+-- a whitespace character at the end
+pub drop_end-more : (text before : List ℕ) (c : ℕ) → IsUtf8 before → text ≡ before ++ encode_utf8 c → is_whitespace c ≡ true
+    → drop_end_spaces before ≡ drop_end_spaces text
+drop_end-more text before c utf8 e white =
+    let d = ended utf8.0 in
+    let back : list_all is_whitespace (d.after ++ (c ∷ [])) ≡ true = rw (list_all-append, d.blank, white) refl in
+    let short : before ≡ encode_utf8_all (d.rest ++ d.after) = sym utf8.1.1 ∙ ap encode_utf8_all d.divided in
+    ap drop_end_spaces short
+    ∙ drop_end-dark d.rest d.after d.dark d.blank
+    ∙ sym (drop_end-dark d.rest (d.after ++ (c ∷ [])) d.dark back)
+    ∙ ap drop_end_spaces (ap encode_utf8_all (sym (append_assoc d.rest d.after (c ∷ [])))
+    ∙ encodes-append (d.rest ++ d.after) (c ∷ [])
+    ∙ ap (λ t. encode_utf8_all (d.rest ++ d.after) ++ t) (append-nil (encode_utf8 c))
+    ∙ ap (λ t. t ++ encode_utf8 c) (sym short)
+    ∙ sym e)
+
+-- another character there
+pub drop_end-stop : (text before : List ℕ) (c : ℕ) → IsUtf8 before → text ≡ before ++ encode_utf8 c → is_whitespace c ≡ false
+    → drop_end_spaces text ≡ text
+drop_end-stop text before c utf8 e dark =
+    let whole : text ≡ encode_utf8_all (utf8.0 ++ (c ∷ [])) =
+    e ∙ ap (λ t. t ++ encode_utf8 c) (sym utf8.1.1) ∙ ap (λ t. encode_utf8_all utf8.0 ++ t) (sym (append-nil (encode_utf8 c))) ∙ sym (encodes-append utf8.0 (c ∷ [])) in
+    let last : begins is_whitespace (reverse (utf8.0 ++ (c ∷ []))) ≡ false = rw (reverse-append utf8.0 (c ∷ [])) dark in
+    ap drop_end_spaces (whole ∙ ap encode_utf8_all (sym (append-nil (utf8.0 ++ (c ∷ [])))))
+    ∙ drop_end-dark (utf8.0 ++ (c ∷ [])) [] last refl
+    ∙ sym whole
+
+-- nothing is there
+pub drop_end-none : (text : List ℕ) → length text ≡ 0 → drop_end_spaces text ≡ text
+drop_end-none [] h = drop_end-all [] drop_spaces-nil
+drop_end-none (b ∷ text) h = absurd (omega arith)
+
+-- the whitespace in front, and then that at the end
+pub trim_in_two : (text rest middle : List ℕ) (start : ℕ) → IsUtf8 text → IsAfterBlank text 0 start → rest ≡ drop start text → middle ≡ drop_end_spaces rest
+    → IsTrim text middle
+trim_in_two text rest middle start utf8 a r m =
+    let value : middle ≡ trim text = m ∙ ap drop_end_spaces (r ∙ AfterBlankDropsSpaces_lem text 0 start utf8 a) in
+    subst (λ (t : List ℕ). IsTrim text t) (sym value) (TrimIsMiddle_lem text utf8)
+
+-- what stands before the last character
+
+lead_byte : (c : ℕ) → 128 ≤ get_or (encode_utf8 c) 0 0 → 192 ≤ get_or (encode_utf8 c) 0 0
+lead_byte c h = elim (cases_lt c 128) [
+  | inl one ↦ absurd (omega (arith, rw (encode_ascii c one) at h))
+  | inr more ↦ elim (cases_lt c 2048) [
+    | inl two ↦ unfold encode_utf8 in rw (le-ltb c 128 more, lt-ltb c 2048 two) (omega arith)
+    | inr wide ↦ elim (cases_lt c 65536) [
+      | inl three ↦ unfold encode_utf8 in rw (le-ltb c 128 more, le-ltb c 2048 wide, lt-ltb c 65536 three) (omega arith)
+      | inr four ↦ unfold encode_utf8 in rw (le-ltb c 128 more, le-ltb c 2048 wide, le-ltb c 65536 four) (omega arith)
+    ]
+  ]
+]
+
+pub before_last : (text before : List ℕ) (c : ℕ) → IsUtf8 text → text ≡ before ++ encode_utf8 c → IsUtf8 before
+before_last text before c utf8 e =
+    let whole : IsUtf8 (before ++ encode_utf8 c) = subst (λ (t : List ℕ). IsUtf8 t) e utf8 in
+    let none : length before - length before ≡ 0 = omega arith in
+    let first : get_or (before ++ encode_utf8 c) (length before) 0 ≡ get_or (encode_utf8 c) 0 0 =
+    get_or-append_right before (encode_utf8 c) (length before) 0 (omega arith) ∙ ap (λ n. get_or (encode_utf8 c) n 0) none in
+    let room : length before ≤ length (before ++ encode_utf8 c) = omega (arith, length-append before (encode_utf8 c)) in
+    let lead : 128 ≤ get_or (before ++ encode_utf8 c) (length before) 0 → 192 ≤ get_or (before ++ encode_utf8 c) (length before) 0 =
+    rw first (lead_byte c) in
+    subst (λ (t : List ℕ). IsUtf8 t) (take-append_seam before (encode_utf8 c)) (IsUtf8-take (before ++ encode_utf8 c) (length before) whole (room, λ _ high. lead high))
+
+-- what is left of a text whose end is passed, character by character
+pub record Shortened (text rest : List ℕ) : Type 0 where
+  pub utf8 : IsUtf8 rest
+  pub same : drop_end_spaces rest ≡ drop_end_spaces text
+
+pub shortened_more : (text rest before : List ℕ) (c : ℕ) → Shortened text rest → rest ≡ before ++ encode_utf8 c → is_whitespace c ≡ true → Shortened text before
+shortened_more text rest before c s e white =
+    let utf8 = before_last rest before c s.utf8 e in
+    record { utf8 = utf8; same = drop_end-more rest before c utf8 e white ∙ s.same }
+
+pub shortened_stop : (text rest before : List ℕ) (c : ℕ) → Shortened text rest → rest ≡ before ++ encode_utf8 c → is_whitespace c ≡ false
+    → rest ≡ drop_end_spaces text
+shortened_stop text rest before c s e dark = sym (drop_end-stop rest before c (before_last rest before c s.utf8 e) e dark) ∙ s.same
+
+pub shortened_out : (text rest : List ℕ) → Shortened text rest → length rest ≡ 0 → rest ≡ drop_end_spaces text
+shortened_out text rest s none = sym (drop_end-none rest none) ∙ s.same

@@ -1,0 +1,196 @@
+-- The fast reader's answer is the common text's version.
+use Rattle.std.proofs.Common.{suc, ◌||◌, ◌≡◌, ◌==◌, ◌<◌, ◌≤◌, ◌+◌, ℕ, Bool, true, false, List, [], ◌∷◌, ◌++◌, length, drop, take, get_or, Option, Some, None, refl, sym, ap, ◌∙◌, subst, arith, inl, inr, eqb}
+use Rattle.std.proofs.lemmas.Bool.{cases_Bool, eqb-true}
+use Rattle.std.proofs.lemmas.Bool.Decides.{nat_tests}
+use Rattle.std.proofs.lemmas.List.{take-append-drop, drop_all}
+use Rattle.std.proofs.Math.Seq.{drop-cons}
+use Rattle.std.specs.Char.{is_ascii_digit}
+use Rattle.std.specs.Option.{IsSomeAnd, IfSome, IfNone}
+use Rattle.semver_core.specs.Text.Characters.{begins, is_identifier_char, IsBlank}
+use Rattle.semver_core.specs.Text.Common.{IsCommon, IsUncommon}
+use Rattle.semver_core.specs.Internal.CommonReading.{small_len, at_end, whole_at, common_of}
+use Rattle.semver_core.specs.Text.VersionText.{HasVersionWithIdentifiers, HasNoVersion, HasOneReading, begins_pre_release, IsMark, Reads, begins_build, no_mark, small_mark, capital_mark}
+use Rattle.semver_core.specs.Text.Identifiers.{Id}
+use Rattle.semver_core.specs.Internal.Reading.{triple_at, pre_release_at, build_at, lists_at, qualified, version_at}
+use Rattle.semver_core.specs.Values.Versions.{VersionValue, HasIdentifiers}
+use Rattle.semver_core.proofs.Text.Pieces.{some_inside}
+use Rattle.semver_core.proofs.Text.Texts.{rest_of, divided_at, bind_some, triple_complete, pre_complete, none_build, build_complete, number_begins, pick, none_pre, version_sound}
+
+at_end_some : {A : Type 0} (rest : List ℕ) (x y : A) → at_end rest x ≡ Some y → (rest ≡ []) × (x ≡ y)
+at_end_some [] x y e = (refl, some_inside x y e)
+at_end_some (c ∷ rest) x y e = cc
+
+at_end_is : {A : Type 0} (rest : List ℕ) (x : A) → rest ≡ [] → at_end rest x ≡ Some x
+at_end_is [] x e = refl
+at_end_is (c ∷ rest) x e = cc
+
+front_is : (m : List ℕ) (c : ℕ) → m ≡ c ∷ [] → m ≡ 86 ∷ [] → c ≡ 86
+front_is m c e f = ap (λ l. get_or l 0 0) (sym e ∙ f)
+
+not_capital : (m : List ℕ) → m ≡ 118 ∷ [] → IsMark m × (m ≡ 86 ∷ [] → ⊥)
+not_capital m e = (rw e small_mark, λ f. omega (arith, front_is m 118 e f))
+
+no_front_mark : (m : List ℕ) → m ≡ [] → IsMark m × (m ≡ 86 ∷ [] → ⊥)
+no_front_mark m e = (rw e no_mark, λ f. omega (arith, ap length (sym e ∙ f)))
+
+small_is : (text : List ℕ) → IsMark (take (small_len text) text) × (take (small_len text) text ≡ 86 ∷ [] → ⊥)
+small_is [] = no_front_mark (take (small_len []) []) refl
+small_is (c ∷ rest) = elim (cases_Bool (eqb c 118)) [
+  | inl small ↦ not_capital (take (small_len (c ∷ rest)) (c ∷ rest)) (rw (eqb-true c 118 small) refl)
+  | inr other ↦ no_front_mark (take (small_len (c ∷ rest)) (c ∷ rest)) (rw other refl)
+]
+
+nothing_blank : IsBlank []
+nothing_blank = record { characters = []; each = refl; spelled = refl }
+
+-- what is found is a common text's version
+pub common_sound : (limit : ℕ) (text : List ℕ) (v : VersionValue) → common_of limit text ≡ Some v → IsCommon limit text v
+common_sound limit text v e =
+    let k = small_len text in
+    let found = bind_some (triple_at limit text k) _ v e in
+    let ended = at_end_some (rest_of text found.0) (qualified text found.0) v found.2 in
+    let mark = small_is text in
+    let d = divided_at limit text (take k text) [] k found.0 (sym (take-append-drop k text)) mark.0 nothing_blank found.1 in
+    let P : VersionValue → Type 0 = λ w. IsCommon limit text w in
+    subst P ended.1 (record {
+      division = d.reads;
+      not_capital = λ capital. mark.1 (sym d.mark_is ∙ capital);
+      no_blank = d.blank_is;
+      no_rest = d.rest_is ∙ ended.0;
+    })
+
+digit_no_small : (c : ℕ) → is_ascii_digit c ≡ true → eqb c 118 ≡ false
+digit_no_small c h = grind (arith, nat_tests)
+
+no_small : (D : List ℕ) → begins is_ascii_digit D ≡ true → small_len D ≡ 0
+no_small [] h = cc
+no_small (c ∷ D) h = rw (digit_no_small c h) refl
+
+past_small : (text mark D : List ℕ) → IsMark mark → (mark ≡ 86 ∷ [] → ⊥) → text ≡ mark ++ D → begins is_ascii_digit D ≡ true → drop (small_len text) text ≡ D
+past_small text mark D no_mark s e h = rw (e, no_small D h) refl
+past_small text mark D small_mark s e h = rw e refl
+past_small text mark D capital_mark s e h = absurd (s refl)
+
+whole_is : (limit : ℕ) (text : List ℕ) (v : VersionValue) (end next last : ℕ) → triple_at limit text (small_len text) ≡ Some (v.major, v.minor, v.patch, end)
+    → pre_release_at text end ≡ (v.pre_release, next) → build_at text next ≡ (v.build, last) → drop last text ≡ [] → common_of limit text ≡ Some v
+whole_is limit text v end next last e f g h = rw (e, f, g, h) refl
+
+-- a common text's version is found
+pub common_complete : (limit : ℕ) (text : List ℕ) (v : VersionValue) → IsCommon limit text v → common_of limit text ≡ Some v
+common_complete limit text v c =
+    let r = c.division in
+    let D = r.major ++ 46 ∷ (r.minor ++ 46 ∷ (r.patch ++ (r.pre_release ++ (r.build ++ r.rest)))) in
+    let digit : begins is_ascii_digit D ≡ true = number_begins r.major (46 ∷ (r.minor ++ 46 ∷ (r.patch ++ (r.pre_release ++ (r.build ++ r.rest))))) r.major_is.some r.major_is.each in
+    let divided : text ≡ r.mark ++ D = r.divided ∙ ap (λ b. r.mark ++ (b ++ D)) c.no_blank in
+    let marked : drop (small_len text) text ≡ D = past_small text r.mark D r.mark_is c.not_capital divided digit in
+    let three = triple_complete limit text (small_len text) v.major v.minor v.patch r.major r.minor r.patch (r.pre_release ++ (r.build ++ r.rest)) marked r.major_is r.minor_is r.patch_is in
+    let pre = pre_complete text three.0 r.pre_release (r.build ++ r.rest) v.pre_release three.2 r.pre_release_is in
+    let meta = build_complete text (three.0 + length r.pre_release) r.build r.rest v.build pre.1 r.build_is in
+    whole_is limit text v three.0 (three.0 + length r.pre_release) (three.0 + length r.pre_release + length r.build) three.1 pre.0 meta.0 (meta.1 ∙ c.no_rest)
+
+-- the clauses of a reader whose answer is `common_of`
+pub common_some : (limit : ℕ) (text : List ℕ) (found : Option VersionValue) → found ≡ common_of limit text → IfSome found (λ v. IsCommon limit text v)
+common_some limit text None e = tt
+common_some limit text (Some v) e = common_sound limit text v (sym e)
+
+pub common_none : (limit : ℕ) (text : List ℕ) (found : Option VersionValue) → found ≡ common_of limit text → IfNone found (IsUncommon limit text)
+common_none limit text None e = λ v c. cc (e, common_complete limit text v c)
+common_none limit text (Some v) e = tt
+
+-- both readers on one text
+pub alike : (limit : ℕ) (text : List ℕ) (fast loose : Option VersionValue) → IfSome fast (λ v. IsCommon limit text v) → IfSome loose (λ v. Reads limit text v)
+    → IfNone loose (HasNoVersion limit text) → HasOneReading text → IfSome fast (λ v. loose ≡ Some v)
+alike limit text None loose f l n one = tt
+alike limit text (Some v) None f l n one = absurd (n v f.division)
+alike limit text (Some v) (Some w) f l n one = ap Some (one limit w v l f.division)
+
+-- ---- what the code finds
+
+nothing_left : (text : List ℕ) (end : ℕ) → length text ≤ end → drop end text ≡ []
+nothing_left text end le = drop_all end text le
+
+something_left : {A : Type 0} (text : List ℕ) (end : ℕ) (x : A) → end < length text → at_end (drop end text) x ≡ None
+something_left text end x lt = rw (drop-cons text end 0 lt) refl
+
+pub whole_found : (text : List ℕ) (major minor patch at next end : ℕ) (pre build : List Id) → (pre, next) ≡ pre_release_at text at → (build, end) ≡ build_at text next
+    → length text ≤ end → whole_at text (major, minor, patch, at) ≡ Some (record { major = major; minor = minor; patch = patch; pre_release = pre; build = build })
+whole_found text major minor patch at next end pre build e f le = rw (← e, ← f, nothing_left text end le) refl
+
+pub whole_left : (text : List ℕ) (major minor patch at next end : ℕ) (pre build : List Id) → (pre, next) ≡ pre_release_at text at → (build, end) ≡ build_at text next
+    → end < length text → whole_at text (major, minor, patch, at) ≡ None
+whole_left text major minor patch at next end pre build e f lt = rw (← e, ← f) (something_left text end _ lt)
+
+-- a list and the place after it
+abbrev placed : List Id → ℕ → List Id × ℕ
+placed list end = (list, end)
+
+-- the same of both lists at once
+pub lists_found : (text : List ℕ) (major minor patch at end : ℕ) (pre build : List Id) → (pre, build, end) ≡ lists_at text at → length text ≤ end
+    → whole_at text (major, minor, patch, at) ≡ Some (record { major = major; minor = minor; patch = patch; pre_release = pre; build = build })
+lists_found text major minor patch at end pre build e le =
+    let next = (pre_release_at text at).1 in
+    whole_found text major minor patch at next end pre build
+    (ap (λ (l : List Id × List Id × ℕ). placed l.0 next) e) (ap (λ (l : List Id × List Id × ℕ). placed l.1 l.2) e) le
+
+pub lists_left : (text : List ℕ) (major minor patch at end : ℕ) (pre build : List Id) → (pre, build, end) ≡ lists_at text at → end < length text
+    → whole_at text (major, minor, patch, at) ≡ None
+lists_left text major minor patch at end pre build e lt =
+    let next = (pre_release_at text at).1 in
+    whole_left text major minor patch at next end pre build
+    (ap (λ (l : List Id × List Id × ℕ). placed l.0 next) e) (ap (λ (l : List Id × List Id × ℕ). placed l.1 l.2) e) lt
+
+release_at : (text : List ℕ) (major minor patch at : ℕ) → drop at text ≡ [] → whole_at text (major, minor, patch, at) ≡ Some (record { major = major; minor = minor; patch = patch; pre_release = []; build = [] })
+release_at text major minor patch at none =
+    let pre : pre_release_at text at ≡ ([], at) = none_pre text at [] none refl in
+    let build : build_at text at ≡ ([], at) = none_build text at [] none refl in
+    rw (pre, build, none) refl
+
+pub common_is : (limit : ℕ) (text : List ℕ) (t : ℕ × ℕ × ℕ × ℕ) → Some t ≡ triple_at limit text (small_len text) → common_of limit text ≡ whole_at text t
+common_is limit text t e = rw (← e) refl
+
+pub common_not : (limit : ℕ) (text : List ℕ) → None ≡ triple_at limit text (small_len text) → common_of limit text ≡ None
+common_not limit text e = rw (← e) refl
+
+pub release_found : (limit : ℕ) (text : List ℕ) (major minor patch at : ℕ) → Some (major, minor, patch, at) ≡ triple_at limit text (small_len text) → length text ≤ at
+    → common_of limit text ≡ Some (record { major = major; minor = minor; patch = patch; pre_release = []; build = [] })
+release_found limit text major minor patch at e le = common_is limit text (major, minor, patch, at) e ∙ release_at text major minor patch at (nothing_left text at le)
+
+pub memory_at : (limit : ℕ) (text : List ℕ) (t : ℕ × ℕ × ℕ × ℕ) → Some t ≡ triple_at limit text (small_len text) → HasIdentifiers (qualified text t)
+    → IsSomeAnd (version_at limit text (small_len text)) HasIdentifiers
+memory_at limit text t e h = rw (← e) h
+
+pub common_memory : (limit : ℕ) (text : List ℕ) → IsSomeAnd (version_at limit text (small_len text)) HasIdentifiers → HasVersionWithIdentifiers limit text
+common_memory limit text h = at_some (version_at limit text (small_len text)) h (λ v e.
+    version_sound limit text (take (small_len text) text) [] (small_len text) v (sym (take-append-drop (small_len text) text)) (small_is text).0 nothing_blank e)
+  where
+    at_some : (o : Option VersionValue) → IsSomeAnd o HasIdentifiers → ((v : VersionValue) → o ≡ Some v → Reads limit text v) → HasVersionWithIdentifiers limit text
+    at_some None h f = absurd h
+    at_some (Some v) h f = (v, f v refl, h)
+
+no_pre_byte : (c : ℕ) (r : List ℕ) → is_identifier_char c ≡ false → begins_pre_release (c ∷ r) ≡ false
+no_pre_byte c r h = elim (cases_Bool (eqb c 45)) [
+  | inl dash ↦ cc (rw (eqb-true c 45 dash) at h)
+  | inr other ↦ pick (eqb c 45) (begins is_identifier_char r) (is_identifier_char c) other h
+]
+
+or_left : (a b : Bool) → (a || b) ≡ false → a ≡ false
+or_left true b h = cc
+or_left false b h = refl
+
+or_right : (a b : Bool) → (a || b) ≡ false → b ≡ false
+or_right true b h = cc
+or_right false b h = h
+
+-- behind the numbers stands what begins no qualifier
+pub not_qualifier : (limit : ℕ) (text : List ℕ) (major minor patch at : ℕ) → Some (major, minor, patch, at) ≡ triple_at limit text (small_len text) → at < length text
+    → (is_identifier_char (get_or text at 0) || get_or text at 0 == 43) ≡ false → common_of limit text ≡ None
+not_qualifier limit text major minor patch at e lt h =
+    let c = get_or text at 0 in
+    let rest : drop at text ≡ c ∷ drop (suc at) text = drop-cons text at 0 lt in
+    let pre = none_pre text at (c ∷ drop (suc at) text) rest (no_pre_byte c (drop (suc at) text) (or_left (is_identifier_char c) (c == 43) h)) in
+    let plain : begins_build (c ∷ drop (suc at) text) ≡ false = no_build_byte c (drop (suc at) text) (or_right (is_identifier_char c) (c == 43) h) in
+    let build = none_build text at (c ∷ drop (suc at) text) rest plain in
+    common_is limit text (major, minor, patch, at) e ∙ whole_left text major minor patch at at at [] [] (sym pre) (sym build) lt
+  where
+    no_build_byte : (c : ℕ) (r : List ℕ) → (c == 43) ≡ false → begins_build (c ∷ r) ≡ false
+    no_build_byte c r h = rw h refl

@@ -1,0 +1,74 @@
+-- The version after a pre-release, and after a release.
+use Rattle.std.proofs.Common.{◌≡◌, refl, sym, ◌∙◌, ap, ℕ, ◌+◌, ◌-◌, ◌<◌, ◌^◌, true, List, [], ◌∷◌, ◌++◌, length, arith, lit<}
+use Rattle.std.specs.List.{All}
+use Rattle.std.specs.Ordering.{is_le}
+use Rattle.std.specs.declared.cmp.Ordering.TheVariants.{Less}
+use Rattle.std.proofs.lemmas.List.Elements.{All-append, All-cons, All-nil}
+use Rattle.semver_core.specs.Text.Identifiers.{Id, Numeric}
+use Rattle.semver_core.specs.Values.NextVersions.{FirstOfAll, NextOfPreRelease, NextOfRelease}
+use Rattle.semver_core.specs.Values.Order.{pre_cmp, precedence}
+use Rattle.semver_core.specs.Internal.Successors.{Below, by_major, by_minor, by_patch, by_pre, below_cases, below_more, next_least, zero_least, empty_not_below, above_patch, above_pre, upto_major, upto_minor, upto_patch}
+use Rattle.semver_core.specs.Values.Versions.{VersionValue, IsId}
+
+pub first_of_all : FirstOfAll
+first_of_all u = upto_patch (record { major = 0; minor = 0; patch = 0; pre_release = Numeric 0 ∷ []; build = [] }) u (omega arith) (omega arith) (omega arith) (zero_least u.pre_release)
+
+-- the number 0, alone or behind other identifiers
+zero_alone : All IsId (Numeric 0 ∷ [])
+zero_alone = All-cons IsId (Numeric 0) [] (lit< tt) (All-nil IsId)
+
+more_above : (xs : List Id) → 0 < length xs → pre_cmp xs (xs ++ Numeric 0 ∷ []) ≡ Less
+more_above [] h = absurd (omega arith)
+more_above (x ∷ xs) h = below_more (x ∷ xs) (Numeric 0) []
+
+more_least : (xs ys : List Id) → 0 < length xs → pre_cmp xs ys ≡ Less → is_le (pre_cmp (xs ++ Numeric 0 ∷ []) ys) ≡ true
+more_least [] ys h k = absurd (omega arith)
+more_least (x ∷ xs) [] h k = refl
+more_least (x ∷ xs) (y ∷ ys) h k = next_least (x ∷ xs) (y ∷ ys) k
+
+pub next_of_pre_release : NextOfPreRelease
+next_of_pre_release v is_version some = record {
+  is_version = record {
+    major = is_version.major;
+    minor = is_version.minor;
+    patch = is_version.patch;
+    pre_release = All-append IsId v.pre_release (Numeric 0 ∷ []) is_version.pre_release zero_alone;
+    build = is_version.build;
+  };
+  above = above_pre v next refl refl refl (more_above v.pre_release some);
+  least = λ u h. upto u (below_cases v u h);
+}
+  where
+    next : VersionValue
+    next = record v { pre_release = v.pre_release ++ Numeric 0 ∷ [] }
+
+    upto : (u : VersionValue) → Below v u → is_le (precedence (record v { pre_release = v.pre_release ++ Numeric 0 ∷ [] }) u) ≡ true
+    upto u (by_major a) = upto_major next u a
+    upto u (by_minor a b) = upto_minor next u a b
+    upto u (by_patch a b c) = ap is_le (above_patch next u a b c)
+    upto u (by_pre a b c d) = upto_patch next u (omega arith) (omega arith) (omega arith) (more_least v.pre_release u.pre_release some d)
+
+pub next_of_release : NextOfRelease
+next_of_release v is_version none room = record {
+  is_version = record {
+    major = is_version.major;
+    minor = is_version.minor;
+    patch = raised v.patch room;
+    pre_release = zero_alone;
+    build = is_version.build;
+  };
+  above = above_patch v next refl refl (omega arith);
+  least = λ u h. upto u (below_cases v u h);
+}
+  where
+    next : VersionValue
+    next = record v { patch = v.patch + 1; pre_release = Numeric 0 ∷ [] }
+
+    raised : (n : ℕ) → n < 2 ^ 64 - 1 → n + 1 < 2 ^ 64
+    raised n h = omega arith
+
+    upto : (u : VersionValue) → Below v u → is_le (precedence (record v { patch = v.patch + 1; pre_release = Numeric 0 ∷ [] }) u) ≡ true
+    upto u (by_major a) = upto_major next u a
+    upto u (by_minor a b) = upto_minor next u a b
+    upto u (by_patch a b c) = upto_patch next u (omega arith) (omega arith) (omega arith) (zero_least u.pre_release)
+    upto u (by_pre a b c d) = absurd (empty_not_below u.pre_release (ap (λ xs. pre_cmp xs u.pre_release) (sym none) ∙ d))

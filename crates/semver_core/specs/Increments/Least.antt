@@ -1,0 +1,73 @@
+-- Statement. The least versions that `inc` returns.
+use Rattle.std.specs.Prelude.{◌≡◌, ◌<◌, ◌+◌, ◌-◌, ◌^◌, ℕ, true, false, List, [], Option, Result, Ok, Err}
+use Rattle.std.specs.declared.cmp.Ordering.TheVariants.{Less}
+use Rattle.std.specs.Ordering.{is_le}
+use Rattle.semver_core.specs.Increments.Table.{Fault, InvalidIdentifier, InvalidIncrementArgument, NotAPrerelease, Overflow, base_or_zero, has_numeric, identifier_or_none, is_release}
+use Rattle.semver_core.specs.Values.Order.{precedence}
+use Rattle.semver_core.specs.Values.Versions.{VersionValue, IsVersion}
+use Rattle.semver_core.specs.declared.increment.IdentifierBase.{IdentifierBase}
+use Rattle.semver_core.specs.declared.increment.IdentifierBase.TheVariants.{Value}
+
+-- v is a version that is one of these, and none of these is below it
+pub record IsLeast (These : VersionValue → Type 0) (v : VersionValue) : Type 0 where
+  pub is_version : IsVersion v
+  pub inside : These v
+  pub least : (w : VersionValue) → IsVersion w → These w → is_le (precedence v w) ≡ true
+
+-- what is returned is the least of these, or Overflow where there is none
+abbrev pub IsLeastOrOverflow : (VersionValue → Type 0) → Result VersionValue Fault → Type 0
+IsLeastOrOverflow These (Ok v) = IsLeast These v
+IsLeastOrOverflow These (Err Overflow) = (w : VersionValue) → IsVersion w → These w → ⊥
+IsLeastOrOverflow These (Err (InvalidIdentifier text)) = ⊥
+IsLeastOrOverflow These (Err (InvalidIncrementArgument text)) = ⊥
+IsLeastOrOverflow These (Err (NotAPrerelease text)) = ⊥
+
+-- what is returned is the least of these
+abbrev pub IsLeastAnswer : (VersionValue → Type 0) → Result VersionValue Fault → Type 0
+IsLeastAnswer These (Ok v) = IsLeast These v
+IsLeastAnswer These (Err e) = ⊥
+
+abbrev pub IsAbove : VersionValue → VersionValue → Type 0
+IsAbove v w = precedence v w ≡ Less
+
+-- the releases above v in the same major and minor, those with patch 0 in the same major, and those with minor and patch 0
+pub record IsNextPatch (v w : VersionValue) : Type 0 where
+  pub above : IsAbove v w
+  pub release : w.pre_release ≡ []
+  pub minor : w.minor ≡ v.minor
+  pub major : w.major ≡ v.major
+
+pub record IsNextMinor (v w : VersionValue) : Type 0 where
+  pub above : IsAbove v w
+  pub release : w.pre_release ≡ []
+  pub patch : w.patch ≡ 0
+  pub major : w.major ≡ v.major
+
+pub record IsNextMajor (v w : VersionValue) : Type 0 where
+  pub above : IsAbove v w
+  pub release : w.pre_release ≡ []
+  pub patch : w.patch ≡ 0
+  pub minor : w.minor ≡ 0
+
+-- the versions of the next major, of the next minor, and of the next patch
+abbrev pub IsOfNextMajor : VersionValue → VersionValue → Type 0
+IsOfNextMajor v w = w.major ≡ v.major + 1
+
+abbrev pub IsOfNextMinor : VersionValue → VersionValue → Type 0
+IsOfNextMinor v w = (w.major ≡ v.major) × (w.minor ≡ v.minor + 1)
+
+abbrev pub IsOfNextPatch : VersionValue → VersionValue → Type 0
+IsOfNextPatch v w = (w.major ≡ v.major) × (w.minor ≡ v.minor) × (w.patch ≡ v.patch + 1)
+
+-- a release below the greatest patch, or a pre-release without a number
+pub data CanStep (v : VersionValue) : Type 0 where
+  release_below : is_release v ≡ true → v.patch < 2 ^ 64 - 1 → CanStep v
+  no_number : is_release v ≡ false → has_numeric v.pre_release ≡ false → CanStep v
+
+-- no identifier, or an empty one
+abbrev pub HasNoIdentifier : Option (List ℕ) → Type 0
+HasNoIdentifier id = identifier_or_none id ≡ []
+
+-- no identifier, and the base 0 or none
+abbrev pub IsPlain : Option (List ℕ) → Option IdentifierBase → Type 0
+IsPlain id base = HasNoIdentifier id × (base_or_zero base ≡ Value 0)

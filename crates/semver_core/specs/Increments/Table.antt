@@ -1,0 +1,181 @@
+-- Statement. What `inc` returns: the table of its words, row by row.
+use Rattle.std.specs.Prelude.{◌==◌, ◌&&◌, ◌||◌, ◌+◌, ◌-◌, ◌^◌, not, ℕ, Bool, true, false, List, [], ◌∷◌, ◌++◌, if◌then◌else◌, Option, Some, None, Result, Ok, Err, map, codes, ⊤}
+use Rattle.std.specs.Char.{is_ascii_digit}
+use Rattle.std.specs.List.{list_all, list_any, join_with_byte, starts_with}
+use Rattle.std.specs.Str.{bytes_eq}
+use Rattle.std.specs.Str.Parse.{digits_value}
+use Rattle.std.specs.Prelude.{nat_eq}
+use Rattle.semver_core.specs.Text.Identifiers.{Id, Numeric, AlphaNumeric, is_run, pieces}
+use Rattle.semver_core.specs.Printing.Text.{id_text, version_text}
+use Rattle.semver_core.specs.Values.Versions.{VersionValue}
+use Rattle.semver_core.specs.declared.increment.IdentifierBase.{IdentifierBase}
+use Rattle.semver_core.specs.declared.increment.IdentifierBase.TheVariants.{False, Value}
+
+-- why a version is not incremented, with the text that the error holds
+pub data Fault : Type 0 where
+  InvalidIdentifier : List ℕ → Fault
+  InvalidIncrementArgument : List ℕ → Fault
+  NotAPrerelease : List ℕ → Fault
+  Overflow : Fault
+
+-- the first step, and with its value the second
+infixl 10 ◌>>=◌
+abbrev pub ◌>>=◌ : {A B : Type 0} → Result A Fault → (A → Result B Fault) → Result B Fault
+(Ok x) >>= f = f x
+(Err e) >>= f = Err e
+
+abbrev pub is_empty : {A : Type 0} → List A → Bool
+is_empty [] = true
+is_empty (x ∷ xs) = false
+
+-- no identifier and an empty one are the same
+abbrev pub identifier_or_none : Option (List ℕ) → List ℕ
+identifier_or_none None = []
+identifier_or_none (Some id) = id
+
+abbrev pub base_or_zero : Option IdentifierBase → IdentifierBase
+base_or_zero None = Value 0
+base_or_zero (Some base) = base
+
+abbrev pub is_false : IdentifierBase → Bool
+is_false False = true
+is_false (Value n) = false
+
+-- the number that a base begins with
+abbrev pub first_number : IdentifierBase → ℕ
+first_number False = 0
+first_number (Value n) = if n == 0 then 0 else 1
+
+-- one more, in 64 bits
+abbrev pub one_more : ℕ → Result ℕ Fault
+one_more n = if n == 2 ^ 64 - 1 then Err Overflow else Ok (n + 1)
+
+abbrev pub is_numeric : Id → Bool
+is_numeric (Numeric n) = true
+is_numeric (AlphaNumeric text) = false
+
+abbrev pub has_numeric : List Id → Bool
+has_numeric list = list_any is_numeric list
+
+-- the last number of a list rises by one
+abbrev pub raise_last : List Id → Result (List Id) Fault
+raise_last [] = Ok []
+raise_last (AlphaNumeric text ∷ rest) = raise_last rest >>= λ list. Ok (AlphaNumeric text ∷ list)
+raise_last (Numeric n ∷ rest) = if has_numeric rest
+    then (raise_last rest >>= λ list. Ok (Numeric n ∷ list))
+    else (one_more n >>= λ more. Ok (Numeric more ∷ rest))
+
+-- a list printed and joined by dots
+abbrev pub list_text : List Id → List ℕ
+list_text list = join_with_byte 46 (map id_text list)
+
+-- a list without a number gets one at its end, unless the base is false and the identifier is the list itself
+abbrev pub counted : List Id → List ℕ → IdentifierBase → Result (List Id) Fault
+counted list id base = if is_false base && bytes_eq id (list_text list)
+    then Err (InvalidIncrementArgument (codes "identifier already exists"))
+    else Ok (list ++ Numeric (first_number base) ∷ [])
+
+-- the pre step, first half: an empty list becomes a number, a last number rises, another list gets a number
+abbrev pub advance : List Id → List ℕ → IdentifierBase → Result (List Id) Fault
+advance [] id base = Ok (Numeric (first_number base) ∷ [])
+advance (x ∷ xs) id base = if has_numeric (x ∷ xs) then raise_last (x ∷ xs) else counted (x ∷ xs) id base
+
+abbrev pub is_digits : List ℕ → Bool
+is_digits text = list_all is_ascii_digit text
+
+-- an identifier of a list matches the one that was asked for: a number by its value, a text by its bytes
+abbrev pub matches_id : List ℕ → Id → Bool
+matches_id id (Numeric n) = is_digits id && digits_value 10 id == n
+matches_id id (AlphaNumeric text) = not (is_digits id) && bytes_eq text id
+
+-- the list begins with a match and then a number
+abbrev pub is_kept : List ℕ → List Id → Bool
+is_kept id [] = false
+is_kept id (x ∷ []) = false
+is_kept id (x ∷ y ∷ rest) = is_numeric y && matches_id id x
+
+-- the list that an identifier begins, with a number unless the base is false
+abbrev pub begun : List ℕ → IdentifierBase → List Id
+begun id False = AlphaNumeric id ∷ []
+begun id (Value n) = AlphaNumeric id ∷ Numeric (first_number (Value n)) ∷ []
+
+-- the pre step, second half: with an identifier, a list that does not begin with it is begun anew
+abbrev pub identify : List ℕ → IdentifierBase → List Id → List Id
+identify id base list = if is_empty id || is_kept id list then list else begun id base
+
+abbrev pub pre_step : List ℕ → IdentifierBase → VersionValue → Result VersionValue Fault
+pre_step id base v = advance v.pre_release id base >>= λ list. Ok (record v { pre_release = identify id base list })
+
+-- the release of the same numbers, and of the next major, minor and patch
+abbrev pub release_of : VersionValue → VersionValue
+release_of v = record v { pre_release = [] }
+
+abbrev pub next_major : VersionValue → Result VersionValue Fault
+next_major v = one_more v.major >>= λ n. Ok (record v { major = n; minor = 0; patch = 0; pre_release = [] })
+
+abbrev pub next_minor : VersionValue → Result VersionValue Fault
+next_minor v = one_more v.minor >>= λ n. Ok (record v { minor = n; patch = 0; pre_release = [] })
+
+abbrev pub next_patch : VersionValue → Result VersionValue Fault
+next_patch v = one_more v.patch >>= λ n. Ok (record v { patch = n; pre_release = [] })
+
+abbrev pub is_release : VersionValue → Bool
+is_release v = is_empty v.pre_release
+
+-- the rows of the words
+abbrev pub by_major : VersionValue → Result VersionValue Fault
+by_major v = if v.minor == 0 && (v.patch == 0 && not (is_release v)) then Ok (release_of v) else next_major v
+
+abbrev pub by_minor : VersionValue → Result VersionValue Fault
+by_minor v = if v.patch == 0 && not (is_release v) then Ok (release_of v) else next_minor v
+
+abbrev pub by_patch : VersionValue → Result VersionValue Fault
+by_patch v = if is_release v then next_patch v else Ok (release_of v)
+
+abbrev pub by_premajor : List ℕ → IdentifierBase → VersionValue → Result VersionValue Fault
+by_premajor id base v = next_major v >>= pre_step id base
+
+abbrev pub by_preminor : List ℕ → IdentifierBase → VersionValue → Result VersionValue Fault
+by_preminor id base v = next_minor v >>= pre_step id base
+
+abbrev pub by_prepatch : List ℕ → IdentifierBase → VersionValue → Result VersionValue Fault
+by_prepatch id base v = next_patch v >>= pre_step id base
+
+abbrev pub by_prerelease : List ℕ → IdentifierBase → VersionValue → Result VersionValue Fault
+by_prerelease id base v = if is_release v then by_prepatch id base v else pre_step id base v
+
+abbrev pub by_release : VersionValue → Result VersionValue Fault
+by_release v = if is_release v then Err (NotAPrerelease (version_text v)) else Ok (release_of v)
+
+abbrev pub by_word : List ℕ → List ℕ → IdentifierBase → VersionValue → Result VersionValue Fault
+by_word word id base v =
+    if bytes_eq word (codes "major") then by_major v
+    else if bytes_eq word (codes "minor") then by_minor v
+    else if bytes_eq word (codes "patch") then by_patch v
+    else if bytes_eq word (codes "premajor") then by_premajor id base v
+    else if bytes_eq word (codes "preminor") then by_preminor id base v
+    else if bytes_eq word (codes "prepatch") then by_prepatch id base v
+    else if bytes_eq word (codes "prerelease") then by_prerelease id base v
+    else if bytes_eq word (codes "pre") then pre_step id base v
+    else if bytes_eq word (codes "release") then by_release v
+    else Err (InvalidIncrementArgument word)
+
+-- an identifier is runs joined by dots
+abbrev pub is_identifiers : List ℕ → Bool
+is_identifiers id = list_all is_run (pieces id)
+
+-- the two checks
+abbrev pub checked : List ℕ → IdentifierBase → Result ⊤ Fault
+checked id base =
+    if is_empty id && is_false base then Err (InvalidIncrementArgument (codes "identifier is empty"))
+    else if is_empty id || is_identifiers id then Ok tt
+    else Err (InvalidIdentifier id)
+
+-- the checks where the word begins with `pre`, also where it is none of the words, and then the word's row
+abbrev pub incremented : VersionValue → List ℕ → List ℕ → IdentifierBase → Result VersionValue Fault
+incremented v word id base =
+    (if starts_with nat_eq word (codes "pre") then checked id base else Ok tt) >>= λ _. by_word word id base v
+
+-- what `inc` returns, given a version, a word, and perhaps an identifier and a base
+abbrev pub answer_of_inc : VersionValue → List ℕ → Option (List ℕ) → Option IdentifierBase → Result VersionValue Fault
+answer_of_inc v word id base = incremented v word (identifier_or_none id) (base_or_zero base)

@@ -1,0 +1,41 @@
+-- Statement. What `inc` is given and returns, in the words of its table.
+use Rattle.std.specs.Prelude.{◌≡◌, ℕ, List, Option, Result, Ok, Err, ⊤, string_bytes}
+use denote.Ref.{Bor}
+use Rattle.std.specs.Option.{option_copied}
+use Rattle.semver_core.specs.Increments.Table as spec
+use Rattle.semver_core.specs.Increments.Table.{Fault}
+use Rattle.semver_core.specs.Values.Versions.{VersionValue}
+use Rattle.semver_core.specs.declared.error.Failure.{Failure}
+use Rattle.semver_core.specs.declared.error.Failure.TheVariants.{Refused, Memory}
+use Rattle.semver_core.specs.declared.increment.IncrementError.{IncrementError}
+use Rattle.semver_core.specs.declared.increment.IncrementError.TheVariants as variant
+
+-- the fault that an error tells
+abbrev pub fault_of : IncrementError → Fault
+fault_of (variant.InvalidIdentifier text) = spec.InvalidIdentifier (string_bytes text)
+fault_of (variant.InvalidIncrementArgument text) = spec.InvalidIncrementArgument (string_bytes text)
+fault_of (variant.NotAPrerelease text) = spec.NotAPrerelease (string_bytes text)
+fault_of variant.Overflow = spec.Overflow
+
+-- the fault comes with a text
+abbrev pub HasText : Fault → Type 0
+HasText (spec.InvalidIdentifier text) = ⊤
+HasText (spec.InvalidIncrementArgument text) = ⊤
+HasText (spec.NotAPrerelease text) = ⊤
+HasText spec.Overflow = ⊥
+
+-- the identifier that the caller passes, or none
+abbrev pub given : Option (Bor (List ℕ)) → Option (List ℕ)
+given id = option_copied id
+
+-- the call returns this value, or an error that tells this fault, unless an allocation fails
+abbrev pub Returns : {A : Type 0} → Result A Fault → Result A (Failure IncrementError) → Type 0
+Returns expected (Ok value) = expected ≡ Ok value
+Returns expected (Err (Refused e)) = expected ≡ Err (fault_of e)
+Returns expected (Err (Memory e)) = ⊤
+
+-- this holds of what the call returns, unless an allocation fails
+abbrev pub IfAnswered : (Result VersionValue Fault → Type 0) → Result VersionValue (Failure IncrementError) → Type 0
+IfAnswered P (Ok v) = P (Ok v)
+IfAnswered P (Err (Refused e)) = P (Err (fault_of e))
+IfAnswered P (Err (Memory e)) = ⊤

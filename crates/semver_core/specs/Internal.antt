@@ -1,0 +1,7 @@
+pub mod Reading
+pub mod IncrementSteps
+pub mod Successors
+pub mod OrderLaws
+pub mod Spaces
+pub mod ListView
+pub mod CommonReading

@@ -1,0 +1,35 @@
+-- Statement: which versions come back from their printed text.
+use Rattle.std.specs.Prelude.{◌≡◌, ◌&&◌, ◌^◌, ◌<◌, ◌≤◌, not, nat_lt, ℕ, Bool, true, List}
+use Rattle.std.specs.Char.{is_ascii_digit}
+use Rattle.std.specs.List.{list_all}
+use Rattle.std.specs.Str.Parse.{digits_value}
+use Rattle.semver_core.specs.Text.VersionText.{Reads}
+use Rattle.semver_core.specs.Text.Identifiers.{Id, Numeric, AlphaNumeric, is_run}
+use Rattle.semver_core.specs.Printing.Text.{version_text}
+use Rattle.semver_core.specs.Values.Versions.{VersionValue}
+
+-- the text is digits alone of a value that fits 64 bits
+abbrev pub is_u64_text : List ℕ → Bool
+is_u64_text text = list_all is_ascii_digit text && nat_lt (digits_value 10 text) (2 ^ 64)
+
+-- an identifier that its own text spells: a number of 64 bits, or a run that is not such a number
+abbrev pub is_normal : Id → Bool
+is_normal (Numeric n) = nat_lt n (2 ^ 64)
+is_normal (AlphaNumeric text) = is_run text && not (is_u64_text text)
+
+-- numbers up to the limit, and identifiers in normal form
+pub record IsReadable (limit : ℕ) (v : VersionValue) : Type 0 where
+  pub major : v.major ≤ limit
+  pub minor : v.minor ≤ limit
+  pub patch : v.patch ≤ limit
+  pub pre_release : list_all is_normal v.pre_release ≡ true
+  pub build : list_all is_normal v.build ≡ true
+
+-- a text that is a printed version reads as that version, build included, and as no other
+abbrev pub PrintedBack : ℕ → List ℕ → Type 0
+PrintedBack limit text = (v : VersionValue) → text ≡ version_text v → IsReadable limit v
+    → Reads limit text v × ((w : VersionValue) → Reads limit text w → w ≡ v)
+
+-- the same, whatever the limit on numbers is
+abbrev pub VersionsComeBack : List ℕ → Type 0
+VersionsComeBack text = (limit : ℕ) → limit < 2 ^ 64 → PrintedBack limit text

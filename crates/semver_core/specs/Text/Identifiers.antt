@@ -1,0 +1,44 @@
+-- Statement: identifiers, and lists of them joined by dots.
+use Rattle.std.specs.Prelude.{◌≡◌, ◌==◌, ◌&&◌, ◌||◌, ◌^◌, nat_lt, ℕ, Bool, true, false, if◌then◌else◌, List, [], ◌∷◌, length, map, ⊤}
+use Rattle.std.specs.Char.{is_ascii_digit}
+use Rattle.std.specs.List.{list_all, slice_split}
+use Rattle.std.specs.Str.Parse.{digits_value}
+use Rattle.semver_core.specs.Text.Characters.{begins, is_identifier_char}
+
+-- an identifier: a number, or a text as its bytes
+pub data Id : Type 0 where
+  Numeric : ℕ → Id
+  AlphaNumeric : List ℕ → Id
+
+-- a run: characters of identifiers, one or more
+abbrev pub is_run : List ℕ → Bool
+is_run text = nat_lt 0 (length text) && list_all is_identifier_char text
+
+-- the identifier that a run spells: the number of digits alone that fits 64 bits, and else the run
+abbrev pub identifier_of : List ℕ → Id
+identifier_of run = if list_all is_ascii_digit run && nat_lt (digits_value 10 run) (2 ^ 64)
+    then Numeric (digits_value 10 run) else AlphaNumeric run
+
+-- the pieces of a text between its dots
+abbrev pub pieces : List ℕ → List (List ℕ)
+pieces text = slice_split (λ c. c == 46) text
+
+-- the text is runs joined by dots, which spell these identifiers
+pub record IsIdentifiers (text : List ℕ) (list : List Id) : Type 0 where
+  pub runs : list_all is_run (pieces text) ≡ true
+  pub spelled : list ≡ map identifier_of (pieces text)
+
+-- an identifier list that ends here would go on with this text
+abbrev pub goes_on : List ℕ → Bool
+goes_on [] = false
+goes_on (c ∷ rest) = is_identifier_char c || (c == 46 && begins is_identifier_char rest)
+
+-- an identifier list, read as long as possible
+pub record IsLongestIdentifiers (text rest : List ℕ) (list : List Id) : Type 0 where
+  pub identifiers : IsIdentifiers text list
+  pub ended : goes_on rest ≡ false
+
+-- the identifier is a text
+abbrev pub IsText : Id → Type 0
+IsText (Numeric n) = ⊥
+IsText (AlphaNumeric text) = ⊤

@@ -1,0 +1,4 @@
+pub mod CommandWords
+pub mod LineCuts
+pub mod Results
+pub mod Steps
