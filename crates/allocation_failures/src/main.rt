@@ -1,5 +1,6 @@
-//! Makes each call that allocates, and prints one line for each: what it returned and what it borrowed, or `memory` in
-//! place of what it returned. A script runs this program with one allocation after another failing.
+//! Makes each call that allocates, and prints one line for each: what it returned and what it
+//! borrowed, or `memory` in place of what it returned. A script runs this program with one
+//! allocation after another failing.
 #![tactic(auto)]
 
 mod ranges;

@@ -21,8 +21,8 @@ pub fn version_to_value(alloc: Global, version: &Version) -> Result<Value, Alloc
     Ok(Value::String(version.to_string(alloc)?))
 }
 
-/// The version of a string, as `Version::parse` reads it. A value that is no string is refused, as is a text that has no
-/// version; want of memory is the one other error.
+/// The version of a string, as `Version::parse` reads it. A value that is no string is refused, as
+/// is a text that has no version; want of memory is the one other error.
 pub fn version_from_value(alloc: Global, value: &Value) -> Result<Version, Failure<SemverError>>
     ensures { ReadsVersion (as_str (view value.now)) result }
 {
@@ -32,15 +32,17 @@ pub fn version_from_value(alloc: Global, value: &Value) -> Result<Version, Failu
     }
 }
 
-/// The compact JSON text of the printed version, quotes and escapes included. The error is want of memory.
+/// The compact JSON text of the printed version, quotes and escapes included. The error is want of
+/// memory.
 pub fn version_to_json_text(alloc: Global, version: &Version) -> Result<String, AllocError>
     ensures { IfOk result (λ text. string_bytes text ≡ compact_text (string (version_text version.now))) }
 {
     Value::String(version.to_string(alloc)?).to_string(alloc)
 }
 
-/// The version of a JSON text, as `Version::parse` reads its string. It is refused where the text is not that of one JSON
-/// value, the value is no string, or the string has no version; want of memory is the one other error.
+/// The version of a JSON text, as `Version::parse` reads its string. It is refused where the text
+/// is not that of one JSON value, the value is no string, or the string has no version; want of
+/// memory is the one other error.
 pub fn version_from_json_text(alloc: Global, text: &str) -> Result<Version, Failure<SemverError>>
     ensures { ReadsVersion (json_string text.now) result }
 {
@@ -58,8 +60,8 @@ pub fn range_to_value(alloc: Global, range: &Range) -> Result<Value, AllocError>
     Ok(Value::String(range.to_string(alloc)?))
 }
 
-/// The range of a string, as `Range::parse` reads it. A value that is no string is refused, as is a text that has no range;
-/// want of memory is the one other error.
+/// The range of a string, as `Range::parse` reads it. A value that is no string is refused, as is a
+/// text that has no range; want of memory is the one other error.
 pub fn range_from_value(alloc: Global, value: &Value) -> Result<Range, Failure<SemverError>>
     ensures { ReadsRange (as_str (view value.now)) result }
 {
@@ -76,8 +78,9 @@ pub fn range_to_json_text(alloc: Global, range: &Range) -> Result<String, AllocE
     Value::String(range.to_string(alloc)?).to_string(alloc)
 }
 
-/// The range of a JSON text, as `Range::parse` reads its string. It is refused where the text is not that of one JSON value,
-/// the value is no string, or the string has no range; want of memory is the one other error.
+/// The range of a JSON text, as `Range::parse` reads its string. It is refused where the text is
+/// not that of one JSON value, the value is no string, or the string has no range; want of memory
+/// is the one other error.
 pub fn range_from_json_text(alloc: Global, text: &str) -> Result<Range, Failure<SemverError>>
     ensures { ReadsRange (json_string text.now) result }
 {

@@ -1,5 +1,5 @@
-//! Laws of the words that contracts speak in. Each is the contract of a function that does nothing, or hardly anything,
-//! else; no caller needs this module.
+//! Laws of the words that contracts speak in. Each is the contract of a function that does nothing,
+//! or hardly anything, else; no caller needs this module.
 
 pub mod headline;
 mod outside;

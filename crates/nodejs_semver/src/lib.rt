@@ -1,4 +1,5 @@
-//! Versions and ranges as npm has them: which versions a range admits, which one is the best, and which number comes next.
+//! Versions and ranges as npm has them: which versions a range admits, which one is the best, and
+//! which number comes next.
 //!
 //! Calls that allocate are passed the allocator and answer want of memory beside their own answers.
 #![tactic(auto)]

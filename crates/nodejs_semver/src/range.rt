@@ -27,10 +27,11 @@ use std::marker::Model;
 // A list of intervals. One stands inline.
 pub(crate) type Intervals<V> = SmallVec<Interval<V>, 1>;
 
-/// A range: the versions of one or more intervals. It is what a range text such as `^1.2 || >=3.0.0-rc` names.
+/// A range: the versions of one or more intervals. It is what a range text such as `^1.2 ||
+/// >=3.0.0-rc` names.
 ///
-/// A range keeps its intervals and not the text that it was read from, so it prints in a normal form: `^1.2` prints
-/// `>=1.2.0 <2.0.0-0`.
+/// A range keeps its intervals and not the text that it was read from, so it prints in a normal
+/// form: `^1.2` prints `>=1.2.0 <2.0.0-0`.
 #[derive(Debug, Drop)]
 pub struct Range {
     intervals: Intervals<Version>,
@@ -51,9 +52,9 @@ impl Model for Range {
 }
 
 impl Range {
-    /// The range with one interval, which has no bounds. It holds every version, but `satisfies` accepts releases alone, since
-    /// it names no pre-release; `satisfies_with_prerelease` with the flag accepts every version. Nothing is allocated, so it
-    /// never fails.
+    /// The range with one interval, which has no bounds. It holds every version, but `satisfies`
+    /// accepts releases alone, since it names no pre-release; `satisfies_with_prerelease` with the
+    /// flag accepts every version. Nothing is allocated, so it never fails.
     pub fn any(alloc: Global) -> Result<Range, AllocError>
         ensures value { IfOk result (λ r. r ≡ any_version) }
         ensures succeeds { IsOk result }

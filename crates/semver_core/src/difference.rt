@@ -10,7 +10,8 @@ use crate::increment::is_release;
 use std::cmp::Ordering;
 use std::fmt;
 
-/// A kind of difference between two versions, or of a release: what rises, and whether to a pre-release.
+/// A kind of difference between two versions, or of a release: what rises, and whether to a
+/// pre-release.
 #[derive(Clone, Copy, Debug, PartialEq, Eq, Hash)]
 pub enum VersionDiff {
     /// The major number.
@@ -32,7 +33,8 @@ pub enum VersionDiff {
 /// A kind of release, named as the kind of difference.
 pub type ReleaseType = VersionDiff;
 
-/// Writes the word of the kind, as `Version::inc` takes it. Width, fill and precision change nothing.
+/// Writes the word of the kind, as `Version::inc` takes it. Width, fill and precision change
+/// nothing.
 impl fmt::Display for VersionDiff {
     ghost use Rattle.std.specs.Prelude.{Some};
     ghost use Rattle.semver_core.specs.Difference.{word_of};
@@ -94,12 +96,12 @@ fn difference_up(low: &Version, high: &Version) -> VersionDiff
 }
 
 impl Version {
-    /// The kind of difference between this version and another, in either order: `None` exactly where they are equal,
-    /// so that build metadata makes no difference.
+    /// The kind of difference between this version and another, in either order: `None` exactly
+    /// where they are equal, so that build metadata makes no difference.
     ///
-    /// A pre-release differs from a higher release by what was still to be released: by `Major` from 1.0.0-1 to any
-    /// release above it. Elsewhere the first of the numbers that differs decides, and whether the higher version is
-    /// a release.
+    /// A pre-release differs from a higher release by what was still to be released: by `Major`
+    /// from 1.0.0-1 to any release above it. Elsewhere the first of the numbers that differs
+    /// decides, and whether the higher version is a release.
     #[tactic(auto, using(crate::proofs::Increments::Differences::difference_symmetric))]
     pub fn diff(&self, other: &Version) -> Option<VersionDiff>
         ensures value { result ≡ difference self.now other.now }

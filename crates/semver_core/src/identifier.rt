@@ -16,7 +16,8 @@ use std::hash::{Hash, Hasher};
 
 /// One identifier of a pre-release or of build metadata (SemVer 2.0.0, items 9 and 10).
 ///
-/// Identifiers have the order of SemVer 2.0.0, item 11: numbers by value and below all texts, texts by their bytes.
+/// Identifiers have the order of SemVer 2.0.0, item 11: numbers by value and below all texts, texts
+/// by their bytes.
 #[derive(Debug, Drop)]
 pub enum Identifier {
     /// Digits alone, of a value below 2^64.
@@ -37,8 +38,8 @@ impl Identifier {
         }
     }
 
-    /// A copy of a list of identifiers, with no spare capacity. Fails only if allocation fails; copying an empty list never
-    /// does.
+    /// A copy of a list of identifiers, with no spare capacity. Fails only if allocation fails;
+    /// copying an empty list never does.
     pub fn copy_list(alloc: Global, list: &[Identifier]) -> Result<Vec<Identifier>, AllocError>
         ensures whole { IfOk result (λ copy. ids_view copy.items ≡ ids_view list.now) }
         ensures memory { OnErr result (0 < length list.now) }

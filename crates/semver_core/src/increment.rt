@@ -54,7 +54,8 @@ impl From<bool> for IdentifierBase {
     }
 }
 
-/// The value itself. A literal needs a suffix, since there is an impl for each unsigned type: `IdentifierBase::from(1u64)`.
+/// The value itself. A literal needs a suffix, since there is an impl for each unsigned type:
+/// `IdentifierBase::from(1u64)`.
 impl From<u64> for IdentifierBase {
     ghost use Rattle.std.specs.Prelude.{◌≡◌};
     ghost use Rattle.semver_core.specs.declared.increment.IdentifierBase.TheVariants.{Value};
@@ -84,7 +85,8 @@ pub enum IncrementError {
     /// The identifier is not non-empty runs of ASCII letters, digits and `-`, joined by `.`.
     #[error("invalid identifier: {0}")]
     InvalidIdentifier(String),
-    /// The word is none of the words, there is nothing to put into a pre-release, or the identifier is there already.
+    /// The word is none of the words, there is nothing to put into a pre-release, or the identifier
+    /// is there already.
     #[error("invalid increment argument: {0}")]
     InvalidIncrementArgument(String),
     /// `release` was asked of a version that is one. It holds the printed version.
@@ -211,7 +213,8 @@ fn increment(
     )
 }
 
-// Proof helper: every `Version` satisfies `IsVersion`. The read of a number has no effect at run time.
+// Proof helper: every `Version` satisfies `IsVersion`. The read of a number has no effect at run
+// time.
 #[inline(always)]
 fn is_version(version: &Version)
     ensures { IsVersion version.now }
@@ -232,21 +235,23 @@ impl Version {
     /// | `pre` | the next pre-release of the same three numbers, which for a release is below it |
     /// | `release` | this pre-release's release |
     ///
-    /// Build metadata is kept. The words that begin with `pre` and are in the table let the pre-release list go on, in
-    /// two steps. First the last number in it rises by one; a list without a number gets one at its end. Then, with an
-    /// identifier, a list that does not begin with it and a number is replaced by it and a number. A new number is 0,
-    /// or 1 for a base that is neither `False` nor `Value(0)`; with `False` no number follows a new identifier. An empty
-    /// identifier is none, and no base is `Value(0)`. An identifier with dots or of digits alone becomes one
-    /// `AlphaNumeric`, so the result may differ from its own printed text read again.
+    /// Build metadata is kept. The words that begin with `pre` and are in the table let the
+    /// pre-release list go on, in two steps. First the last number in it rises by one; a list
+    /// without a number gets one at its end. Then, with an identifier, a list that does not begin
+    /// with it and a number is replaced by it and a number. A new number is 0, or 1 for a base that
+    /// is neither `False` nor `Value(0)`; with `False` no number follows a new identifier. An empty
+    /// identifier is none, and no base is `Value(0)`. An identifier with dots or of digits alone
+    /// becomes one `AlphaNumeric`, so the result may differ from its own printed text read again.
     ///
     /// These errors are checked in this order:
-    /// - for a word that begins with `pre`, known or not: `InvalidIncrementArgument` if there is no identifier and the
-    ///   base is `False`, and `InvalidIdentifier` if the identifier is not non-empty runs of ASCII letters, digits and
-    ///   `-` joined by `.`;
+    /// - for a word that begins with `pre`, known or not: `InvalidIncrementArgument` if there is no
+    /// identifier and the base is `False`, and `InvalidIdentifier` if the identifier is not
+    /// non-empty runs of ASCII letters, digits and `-` joined by `.`;
     /// - `InvalidIncrementArgument` if the word is not in the table;
     /// - `NotAPrerelease` if the word is `release` and this version is a release;
     /// - `Overflow` if a number that is to rise is `u64::MAX`;
-    /// - `InvalidIncrementArgument` if the base is `False` and the identifier is the whole list already.
+    /// - `InvalidIncrementArgument` if the base is `False` and the identifier is the whole list
+    /// already.
     ///
     /// Any call may also return `Memory`, if an allocation fails.
     pub fn inc(
@@ -266,7 +271,8 @@ impl Version {
             → IfAnswered (IsLeastOrOverflow (IsNextMinor self.now)) result }
         ensures major { word.now ≡ codes "major"
             → IfAnswered (IsLeastOrOverflow (IsNextMajor self.now)) result }
-        // Without identifier and with base 0: the least version of the next major, minor or patch, or Overflow.
+        // Without identifier and with base 0: the least version of the next major, minor or patch,
+        // or Overflow.
         ensures premajor { word.now ≡ codes "premajor" → IsPlain (given identifier.entry) base
             → IfAnswered (IsLeastOrOverflow (IsOfNextMajor self.now)) result }
         ensures preminor { word.now ≡ codes "preminor" → IsPlain (given identifier.entry) base

@@ -1,5 +1,5 @@
-//! Laws over the definitions alone. Each is the contract of a function that does nothing, or hardly anything, else; no
-//! caller needs this module.
+//! Laws over the definitions alone. Each is the contract of a function that does nothing, or hardly
+//! anything, else; no caller needs this module.
 
 mod intervals;
 mod next;

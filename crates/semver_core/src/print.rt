@@ -1,4 +1,5 @@
-//! How identifiers and versions print, and how a value is written without regard to formatting options.
+//! How identifiers and versions print, and how a value is written without regard to formatting
+//! options.
 
 ghost use Rattle.std.specs.Fmt.{DisplaysStyledOnOk};
 ghost use Rattle.std.specs.Prelude.{Some};
@@ -42,12 +43,14 @@ fn write_list<W: fmt::Write>(
     Ok(())
 }
 
-/// A version prints as `major.minor.patch`, then `-` and the pre-release where there is one, then `+` and the build where
-/// there is one, the identifiers of each joined by dots, as in `1.2.3-rc.1+build.7`. Width, fill and precision change nothing.
+/// A version prints as `major.minor.patch`, then `-` and the pre-release where there is one, then
+/// `+` and the build where there is one, the identifiers of each joined by dots, as in
+/// `1.2.3-rc.1+build.7`. Width, fill and precision change nothing.
 ///
-/// What is printed is read back by `Version::parse` where it has at most 256 bytes, the three numbers are at most
-/// `MAX_SAFE_INTEGER`, and each `AlphaNumeric` is a run of ASCII letters, digits and `-` that is not a number of 64 bits in
-/// digits. `laws::printed_versions_come_back` and `laws::reread` say so.
+/// What is printed is read back by `Version::parse` where it has at most 256 bytes, the three
+/// numbers are at most `MAX_SAFE_INTEGER`, and each `AlphaNumeric` is a run of ASCII letters,
+/// digits and `-` that is not a number of 64 bits in digits. `laws::printed_versions_come_back` and
+/// `laws::reread` say so.
 impl fmt::Display for Version {
     ghost output = { λ v. Some (version_text v) };
 

@@ -22,8 +22,9 @@ use std::marker::Model;
 
 /// A version: three numbers, a pre-release and build metadata (SemVer 2.0.0).
 ///
-/// Two versions are equal, and hash alike, where their numbers and pre-releases are: build metadata does not count.
-/// The numbers are of 64 bits; those that are read from a text are at most `MAX_SAFE_INTEGER`.
+/// Two versions are equal, and hash alike, where their numbers and pre-releases are: build metadata
+/// does not count. The numbers are of 64 bits; those that are read from a text are at most
+/// `MAX_SAFE_INTEGER`.
 #[derive(Debug, Drop)]
 pub struct Version {
     major: u64,
@@ -48,12 +49,13 @@ impl Model for Version {
 impl Version {
     /// Reads the version at the front of a text of at most `MAX_LENGTH` bytes.
     ///
-    /// The version is `v` or `V` or nothing, whitespace or none, three numbers joined by dots, a pre-release (behind `-`, which
-    /// may be missing) and build metadata (behind `+`), as node-semver's loose grammar has it. Whatever follows is ignored:
-    /// `1.2.3.4` is read as `1.2.3`.
+    /// The version is `v` or `V` or nothing, whitespace or none, three numbers joined by dots, a
+    /// pre-release (behind `-`, which may be missing) and build metadata (behind `+`), as
+    /// node-semver's loose grammar has it. Whatever follows is ignored: `1.2.3.4` is read as
+    /// `1.2.3`.
     ///
-    /// `Refused` comes exactly where the text is longer or has no version at its front; `Memory` only where the version has a
-    /// pre-release or build metadata.
+    /// `Refused` comes exactly where the text is longer or has no version at its front; `Memory`
+    /// only where the version has a pre-release or build metadata.
     pub fn parse(alloc: Global, text: &str) -> Result<Version, Failure<SemverError>>
         // What is read is a version of the text.
         ensures ok { IfOk result (λ v. Parses MAX_SAFE_INTEGER text.now v) }
@@ -180,8 +182,8 @@ fn parse_loose(alloc: Global, text: &str) -> Result<Version, Failure<SemverError
     version_loose(alloc, text)?.ok_or(Failure::Refused(SemverError))
 }
 
-// Proof helper: every `Identifier` of the program satisfies `IsId`. The read of the number has no effect at run time; it tells
-// the proof that the number has 64 bits.
+// Proof helper: every `Identifier` of the program satisfies `IsId`. The read of the number has no
+// effect at run time; it tells the proof that the number has 64 bits.
 #[inline(always)]
 fn is_id(id: &Identifier)
     ensures { IsId (id_view id.now) }
@@ -194,7 +196,8 @@ fn is_id(id: &Identifier)
     }
 }
 
-// Proof helper: likewise each identifier of a list. The loop has no effect, so that the compiler drops it.
+// Proof helper: likewise each identifier of a list. The loop has no effect, so that the compiler
+// drops it.
 #[inline(always)]
 #[tactic(auto, using(crate::proofs::Values::Compared::ids_more, crate::proofs::Values::Compared::ids_all))]
 fn are_ids(list: &[Identifier])

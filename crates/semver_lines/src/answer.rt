@@ -36,7 +36,8 @@ fn answer_to(alloc: Global, line: &[u8], answer: &mut String) -> Result<(), Allo
     }
 }
 
-/// Appends the answer to a line, and a line feed, to the output, all or nothing. `answer` is room to write it in.
+/// Appends the answer to a line, and a line feed, to the output, all or nothing. `answer` is room
+/// to write it in.
 pub fn answer_line(
     alloc: Global,
     line: &[u8],

@@ -3,7 +3,8 @@
 /// What is wrong with a line.
 #[derive(Clone, Copy, PartialEq, Eq, Debug)]
 pub enum Fault {
-    /// It asks no question: it is no UTF-8, its first field is no command, or the fields behind it are not that command's.
+    /// It asks no question: it is no UTF-8, its first field is no command, or the fields behind it
+    /// are not that command's.
     BadLine,
     /// A text that is to be a version is none.
     BadVersion,

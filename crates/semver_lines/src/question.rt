@@ -39,9 +39,11 @@ pub enum Question<'a> {
     Pre((&'a str, &'a str)),
     /// `out;R;V;>` and `out;R;V;<`: whether V lies above R, or below it.
     Out((&'a str, &'a str), OutsideDirection),
-    /// `max;R;V;..`: the greatest of some versions that R accepts, or `none`. The second text holds the versions.
+    /// `max;R;V;..`: the greatest of some versions that R accepts, or `none`. The second text holds
+    /// the versions.
     Max((&'a str, &'a str)),
-    /// `min;R;V;..`: the least of some versions that R accepts, or `none`. The second text holds the versions.
+    /// `min;R;V;..`: the least of some versions that R accepts, or `none`. The second text holds
+    /// the versions.
     Min((&'a str, &'a str)),
 }
 

@@ -1,4 +1,5 @@
-// The versions and ranges of a question's texts, read from the left. The first text that is none decides the fault.
+// The versions and ranges of a question's texts, read from the left. The first text that is none
+// decides the fault.
 
 ghost use Rattle.semver_lines.specs.Lines.{fields};
 ghost use Rattle.semver_lines.specs.Replies.{AreVersionsOf, IsRangeOf, IsVersionOf, RangeAndVersion, RangeAndVersions, TwoRanges, TwoVersions};

@@ -1,4 +1,5 @@
-// The replies to questions. Each function appends one to an empty text, which stays empty where it returns an error.
+// The replies to questions. Each function appends one to an empty text, which stays empty where it
+// returns an error.
 
 ghost use Rattle.std.specs.Option.{option_copied};
 ghost use Rattle.std.specs.Prelude.{◌≡◌, [], string_bytes};

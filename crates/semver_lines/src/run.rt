@@ -124,8 +124,8 @@ fn room(alloc: Global) -> Result<Vec<u8>, AllocError>
     Vec::from_elem(alloc, 0u8, CHUNK)
 }
 
-// One read, and the answers of the lines that end in it, which are written before the next read. It gives how many
-// bytes it read.
+// One read, and the answers of the lines that end in it, which are written before the next read. It
+// gives how many bytes it read.
 fn turn<R: Read, W: Write>(
     alloc: Global,
     reader: &mut R,
@@ -161,11 +161,13 @@ fn finish<W: Write>(alloc: Global, writer: &mut W, lines: &mut Lines) -> Result<
     }
 }
 
-/// Reads lines and writes an answer to each, with a line feed. The answers of the lines that a read completed are
-/// written before the next read. A last line without a line feed counts where it is not empty.
+/// Reads lines and writes an answer to each, with a line feed. The answers of the lines that a read
+/// completed are written before the next read. A last line without a line feed counts where it is
+/// not empty.
 ///
-/// Each error of either end is a fault at once, an interruption too, and so is a write that takes no byte. After
-/// `u64::MAX` reads the answer is `Read`. It takes memory for a chunk of the input, its answers and the longest line.
+/// Each error of either end is a fault at once, an interruption too, and so is a write that takes
+/// no byte. After `u64::MAX` reads the answer is `Read`. It takes memory for a chunk of the input,
+/// its answers and the longest line.
 pub fn run<R: Read, W: Write>(alloc: Global, reader: &mut R, writer: &mut W) -> Result<(), RunFault>
     ensures { Ran result (R.remaining reader.old) (R.remaining reader.new) (W.contents writer.old) (W.contents writer.new) }
 {

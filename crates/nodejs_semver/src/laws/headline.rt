@@ -24,12 +24,14 @@ pub struct Findings {
     pub least: Option<Version>,
 }
 
-/// The headline, for all texts a and b and every version: `Range::parse` accepts exactly the texts to which the word grammar
-/// gives a range. With pre-releases included a's range accepts exactly what a writes, `intersect` exactly what both texts
-/// write, and `difference` exactly what a writes and b does not, no range standing for the empty set. `min_version` is the
-/// least version that `satisfies` accepts, and none exactly where there is none.
+/// The headline, for all texts a and b and every version: `Range::parse` accepts exactly the texts
+/// to which the word grammar gives a range. With pre-releases included a's range accepts exactly
+/// what a writes, `intersect` exactly what both texts write, and `difference` exactly what a writes
+/// and b does not, no range standing for the empty set. `min_version` is the least version that
+/// `satisfies` accepts, and none exactly where there is none.
 ///
-/// `Range::satisfies_with_prerelease` answers what `accepts` says here, and `satisfies` the same with false for the flag.
+/// `Range::satisfies_with_prerelease` answers what `accepts` says here, and `satisfies` the same
+/// with false for the flag.
 pub fn headline(alloc: Global, a: &str, b: &str) -> Result<Findings, Failure<SemverError>>
     ensures read { OnOk result ((0 < length (denotes MAX_SAFE_INTEGER a.now)) × (0 < length (denotes MAX_SAFE_INTEGER b.now))) }
     // The one other error is a failed allocation.

@@ -14,9 +14,10 @@ use smallvec::SmallVec;
 use std::alloc::{AllocError, Global};
 
 impl Range {
-    /// Whether some one interval of this range covers some one interval of the other, by their cuts: `>=1.2.3` allows all of
-    /// `0.1 || 1.4`. This is not a subset test. For that, see `least_beyond`: `other.least_beyond(alloc, self)` is `None`
-    /// exactly where this range accepts every version that the other accepts.
+    /// Whether some one interval of this range covers some one interval of the other, by their
+    /// cuts: `>=1.2.3` allows all of `0.1 || 1.4`. This is not a subset test. For that, see
+    /// `least_beyond`: `other.least_beyond(alloc, self)` is `None` exactly where this range accepts
+    /// every version that the other accepts.
     pub fn allows_all(&self, other: &Range) -> bool
         ensures { result ≡ covers_one self.now other.now }
     {
@@ -25,20 +26,23 @@ impl Range {
             .any(|interval| lists::covers_one(interval, other.intervals()))
     }
 
-    /// Whether some interval of this range meets some interval of the other: whether `intersect` returns a range.
+    /// Whether some interval of this range meets some interval of the other: whether `intersect`
+    /// returns a range.
     pub fn allows_any(&self, other: &Range) -> bool
         ensures { result ≡ is_some (intersection self.now other.now) }
     {
         self.has_meeting_pair(other)
     }
 
-    /// The intersection: what the pairs of intervals have in common, for each interval of this range in order with each of
-    /// the other's. Returns `None` if no pair meets. Fails only if allocation fails.
+    /// The intersection: what the pairs of intervals have in common, for each interval of this
+    /// range in order with each of the other's. Returns `None` if no pair meets. Fails only if
+    /// allocation fails.
     ///
-    /// Of equal lower bounds the other's is kept with its build, of equal upper bounds this range's.
+    /// Of equal lower bounds the other's is kept with its build, of equal upper bounds this
+    /// range's.
     ///
-    /// The list is not normalised: n intervals that all meet m others make n times m intervals, and time and memory grow
-    /// with that product.
+    /// The list is not normalised: n intervals that all meet m others make n times m intervals, and
+    /// time and memory grow with that product.
     pub fn intersect(&self, alloc: Global, other: &Range) -> Result<Option<Range>, AllocError>
         ensures list { IfOk result (λ r. r ≡ intersection self.now other.now) }
         // It holds what both hold.
@@ -62,14 +66,16 @@ impl Range {
         Ok(found)
     }
 
-    /// The difference: what is left of each interval of this range, in order, once all of the other's are taken away. Returns
-    /// `None` if nothing is left. Fails only if allocation fails.
+    /// The difference: what is left of each interval of this range, in order, once all of the
+    /// other's are taken away. Returns `None` if nothing is left. Fails only if allocation fails.
     ///
-    /// A bound that comes from the other range carries that bound's build. Pre-releases that this range holds and does not
-    /// accept may be accepted by the difference, whose bounds may name others; see `least_beyond`.
+    /// A bound that comes from the other range carries that bound's build. Pre-releases that this
+    /// range holds and does not accept may be accepted by the difference, whose bounds may name
+    /// others; see `least_beyond`.
     ///
-    /// Each interval of this range is left in as many pieces as the other's have gaps in it: n intervals less m others make
-    /// at most n times m + 1 pieces. Time was measured to grow with the size of the result, and with m log m.
+    /// Each interval of this range is left in as many pieces as the other's have gaps in it: n
+    /// intervals less m others make at most n times m + 1 pieces. Time was measured to grow with
+    /// the size of the result, and with m log m.
     pub fn difference(&self, alloc: Global, other: &Range) -> Result<Option<Range>, AllocError>
         ensures list { IfOk result (λ r. r ≡ difference self.now other.now) }
         // It holds what this range holds and the other does not.

@@ -9,9 +9,11 @@ use crate::Range;
 use semver_core::Version;
 
 impl Range {
-    /// The greatest of the versions that the range accepts by `satisfies`. Returns `None` exactly where it accepts none.
+    /// The greatest of the versions that the range accepts by `satisfies`. Returns `None` exactly
+    /// where it accepts none.
     ///
-    /// Of equal versions, which differ in their builds alone, it is the last: `^1` chooses 1.2.0+b from 1.2.0+a and 1.2.0+b.
+    /// Of equal versions, which differ in their builds alone, it is the last: `^1` chooses 1.2.0+b
+    /// from 1.2.0+a and 1.2.0+b.
     pub fn max_satisfying<'v>(&self, versions: &'v [Version]) -> Option<&'v Version>
         ensures { IsMax (λ v. accepts self.now v false) versions.now (option_copied result) }
     {
@@ -21,7 +23,8 @@ impl Range {
             .max()
     }
 
-    /// The smallest of the versions that the range accepts by `satisfies`. Returns `None` exactly where it accepts none.
+    /// The smallest of the versions that the range accepts by `satisfies`. Returns `None` exactly
+    /// where it accepts none.
     ///
     /// Of equal versions, which differ in their builds alone, it is the first.
     pub fn min_satisfying<'v>(&self, versions: &'v [Version]) -> Option<&'v Version>

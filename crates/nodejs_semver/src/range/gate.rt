@@ -12,9 +12,10 @@ use semver_core::cuts::{Bound, Interval};
 use semver_core::{Accepts, Version};
 
 impl Range {
-    /// Whether the range accepts this version. A pre-release is accepted only where the interval that holds it has a
-    /// bound with a pre-release of the same three numbers: `>=1.2.3-a` accepts 1.2.3-b and 1.3.0, and not 1.3.0-b. So the
-    /// range without bounds, which `Range::any` returns, accepts no pre-release.
+    /// Whether the range accepts this version. A pre-release is accepted only where the interval
+    /// that holds it has a bound with a pre-release of the same three numbers: `>=1.2.3-a` accepts
+    /// 1.2.3-b and 1.3.0, and not 1.3.0-b. So the range without bounds, which `Range::any` returns,
+    /// accepts no pre-release.
     pub fn satisfies(&self, version: &Version) -> bool
         ensures gate { result ≡ accepts self.now version.now false }
         ensures valid { IsRange MAX_SAFE_INTEGER self.now }
@@ -22,7 +23,8 @@ impl Range {
         accepts(self.intervals(), version, false)
     }
 
-    /// The same; with the flag, pre-releases are accepted like releases, so that the intervals alone decide.
+    /// The same; with the flag, pre-releases are accepted like releases, so that the intervals
+    /// alone decide.
     pub fn satisfies_with_prerelease(&self, version: &Version, include_prerelease: bool) -> bool
         ensures gate { result ≡ accepts self.now version.now include_prerelease }
         ensures set { IsTrue include_prerelease

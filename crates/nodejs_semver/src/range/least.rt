@@ -1,10 +1,12 @@
 // The least version that intervals accept, alone or beyond others.
 //
-// Let v be accepted by the first list and not by the second. Of the lower cuts of the first list, the upper cuts of the
-// second, and the cuts below the pre-releases that an upper bound of the first list names, take the greatest that is not
-// after v. The first version of v's kind past that cut, a release or a pre-release of the same three numbers, is not above
-// v, and is accepted by the first list and not by the second either. So the least version is among these first versions:
-// these are the candidates, at most four for an interval of the first list, and two for one of the second.
+// Let v be accepted by the first list and not by the second. Of the lower cuts of the first list,
+// the upper cuts of the second, and the cuts below the pre-releases that an upper bound of the
+// first list names, take the greatest that is not after v. The first version of v's kind past that
+// cut, a release or a pre-release of the same three numbers, is not above v, and is accepted by the
+// first list and not by the second either. So the least version is among these first versions:
+// these are the candidates, at most four for an interval of the first list, and two for one of the
+// second.
 
 ghost use Rattle.nodejs_semver.specs.Ranges.Gate.{accepts, lets_in};
 ghost use Rattle.nodejs_semver.specs.Internal.Candidates as spec;
@@ -27,13 +29,14 @@ use semver_core::cuts::{Bound, Interval};
 use std::alloc::{AllocError, Global};
 
 impl Range {
-    /// The smallest version that the range accepts by `satisfies`. Returns `None` exactly where it accepts no version at all,
-    /// as `>1.0.0 <1.0.1-0`. Fails only if allocation fails.
+    /// The smallest version that the range accepts by `satisfies`. Returns `None` exactly where it
+    /// accepts no version at all, as `>1.0.0 <1.0.1-0`. Fails only if allocation fails.
     ///
-    /// A result that comes from a lower bound has that bound's build: from `>=v` it is v itself, from `>v` the next patch
-    /// where v is a release, and else v with one more identifier, the number 0. So `>1.2.3+b` gives 1.2.4+b. A result that an
-    /// upper bound alone lets in, as 1.0.1-0 for `>1.0.0 <1.0.1-5`, or one of an interval without a lower bound, has no
-    /// build. Of equal results it is the one of the first interval.
+    /// A result that comes from a lower bound has that bound's build: from `>=v` it is v itself,
+    /// from `>v` the next patch where v is a release, and else v with one more identifier, the
+    /// number 0. So `>1.2.3+b` gives 1.2.4+b. A result that an upper bound alone lets in, as
+    /// 1.0.1-0 for `>1.0.0 <1.0.1-5`, or one of an interval without a lower bound, has no build. Of
+    /// equal results it is the one of the first interval.
     #[tactic(auto, using(crate::proofs::Choice::Raised::raisable))]
     pub fn min_version(&self, alloc: Global) -> Result<Option<Version>, AllocError>
         ensures least { IfOk result (λ r. stated.IsLeastOf (λ v. accepts self.now v false) r) }
@@ -42,11 +45,12 @@ impl Range {
         least_accepted(alloc, self.intervals())
     }
 
-    /// The smallest version that this range accepts by `satisfies` and the other does not, without a build. Returns `None`
-    /// exactly where the other accepts every version that this one accepts. Fails only if allocation fails.
+    /// The smallest version that this range accepts by `satisfies` and the other does not, without
+    /// a build. Returns `None` exactly where the other accepts every version that this one accepts.
+    /// Fails only if allocation fails.
     ///
-    /// It is not the smallest version of the difference of the two: `>=1.2.3-a` beyond `>=1.0.0` is 1.2.3-a, which the
-    /// second range holds and does not accept.
+    /// It is not the smallest version of the difference of the two: `>=1.2.3-a` beyond `>=1.0.0` is
+    /// 1.2.3-a, which the second range holds and does not accept.
     #[tactic(auto, using(crate::proofs::Choice::Raised::raisable))]
     pub fn least_beyond(&self, alloc: Global, other: &Range) -> Result<Option<Version>, AllocError>
         ensures least { IfOk result (λ r. stated.IsLeastOf (stated.beyond self.now other.now) r) }
@@ -56,8 +60,8 @@ impl Range {
     }
 }
 
-// The search for the least version that `kept` accepts and `removed` does not: `best` is the least candidate so far that is
-// such a version.
+// The search for the least version that `kept` accepts and `removed` does not: `best` is the least
+// candidate so far that is such a version.
 #[derive(Drop)]
 struct Search<'a> {
     kept: &'a [Interval<Version>],
@@ -66,7 +70,8 @@ struct Search<'a> {
 }
 
 impl<'a> Search<'a> {
-    // Whether the version is below the best so far, and accepted by the first list and not by the second.
+    // Whether the version is below the best so far, and accepted by the first list and not by the
+    // second.
     fn improves(&self, version: &Version) -> bool
         ensures { result ≡ (spec.improves self.now.best version.now
             && stated.beyond self.now.kept.now self.now.removed.now version.now) }
@@ -101,7 +106,8 @@ impl<'a> Search<'a> {
         }
     }
 
-    // The same of a version that is borrowed. It is copied, without its build, only where it improves.
+    // The same of a version that is borrowed. It is copied, without its build, only where it
+    // improves.
     #[tactic(auto, using(crate::proofs::Choice::LeastOf::improves_bare))]
     fn consider_borrowed(&mut self, alloc: Global, version: &Version) -> Result<(), AllocError>
         ensures { let set = stated.beyond self.old.kept.now self.old.removed.now in
@@ -265,7 +271,8 @@ fn least_beyond(
     Ok(best)
 }
 
-// The first version after this one, without a build: the next patch of a release, and a pre-release with one more identifier.
+// The first version after this one, without a build: the next patch of a release, and a pre-release
+// with one more identifier.
 fn following(alloc: Global, version: &Version) -> Result<Version, AllocError>
     requires { version.now.patch < 2 ^ 64 - 1 }
     ensures { IfOk result (λ next. stated.begins_with (After version.now)

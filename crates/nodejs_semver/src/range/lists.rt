@@ -27,11 +27,13 @@ pub(crate) fn intersections<V: Point>(
     Ok(found)
 }
 
-/// The differences: what is left of these intervals, in order, when the others are taken away one after another.
+/// The differences: what is left of these intervals, in order, when the others are taken away one
+/// after another.
 ///
-/// That is what of each of them lies within the complement of the others, so each is clipped to the complement's pieces,
-/// which stand in order along the line. For n intervals, m others and k results that is about n log m + m log m + k steps,
-/// which no clause promises; taking the others away one by one would copy each survivor m times.
+/// That is what of each of them lies within the complement of the others, so each is clipped to the
+/// complement's pieces, which stand in order along the line. For n intervals, m others and k
+/// results that is about n log m + m log m + k steps, which no clause promises; taking the others
+/// away one by one would copy each survivor m times.
 pub(crate) fn differences<V: Point>(
     alloc: Global,
     these: &[Interval<V>],
@@ -79,8 +81,8 @@ fn push_intersections<V: Point>(
     Ok(())
 }
 
-// The complement: what the intervals leave of the whole line, in order along it. It is found by halves, so that each piece
-// is copied about log m times for m intervals.
+// The complement: what the intervals leave of the whole line, in order along it. It is found by
+// halves, so that each piece is copied about log m times for m intervals.
 fn complement<V: Point>(
     alloc: Global,
     intervals: &[Interval<V>],
@@ -148,7 +150,8 @@ fn clip_each<V: Point>(
     Ok(found)
 }
 
-// Puts what of one interval lies within each of the pieces at the end. Those that do so stand together.
+// Puts what of one interval lies within each of the pieces at the end. Those that do so stand
+// together.
 fn push_clipped<V: Point>(
     alloc: Global,
     parts: &mut Vec<Interval<V>>,

@@ -63,12 +63,14 @@ pub enum RangeError {
 }
 
 impl Range {
-    /// Whether the version lies outside the range on this side: the range does not accept it (the flag says whether
-    /// pre-releases are included), and every interval lies on the other side. It never returns an error.
+    /// Whether the version lies outside the range on this side: the range does not accept it (the
+    /// flag says whether pre-releases are included), and every interval lies on the other side. It
+    /// never returns an error.
     ///
-    /// For `Higher` every interval must have an upper bound, and a lower cut that is not after the version. For `Lower` every
-    /// interval must have no bound at all, or a lower bound and an upper cut that is not before the version. So 2.0.0-beta is
-    /// above `1` though its upper bound is `<2.0.0-0`, and 0.7.2-beta is below the range without bounds, which does not accept it.
+    /// For `Higher` every interval must have an upper bound, and a lower cut that is not after the
+    /// version. For `Lower` every interval must have no bound at all, or a lower bound and an upper
+    /// cut that is not before the version. So 2.0.0-beta is above `1` though its upper bound is
+    /// `<2.0.0-0`, and 0.7.2-beta is below the range without bounds, which does not accept it.
     pub fn outside(
         &self,
         version: &Version,

@@ -14,14 +14,15 @@ use semver_core::{Failure, MAX_SAFE_INTEGER, SemverError};
 use std::alloc::{AllocError, Global};
 
 impl Range {
-    /// Reads a range text of any length: parts separated by `||`, each of which is words such as `^1.2`, `>=1.0.0 <2.0.0`,
-    /// `~1.2.3` or `1.0.0 - 2.0.0` (node-semver's range grammar).
+    /// Reads a range text of any length: parts separated by `||`, each of which is words such as
+    /// `^1.2`, `>=1.0.0 <2.0.0`, `~1.2.3` or `1.0.0 - 2.0.0` (node-semver's range grammar).
     ///
-    /// An empty text is [`Range::any`], and so is a text whose parts are all empty. An empty part beside other parts is one
-    /// interval without bounds in its place: `1.2.3||` reads as `1.2.3||*`. A malformed word is skipped, so `foo 1.2.3`
-    /// reads as `1.2.3`; a text with no empty part and no word that has bounds, such as `foo`, is rejected with
-    /// `SemverError`. A number above `MAX_SAFE_INTEGER` makes its word malformed, so that
-    /// `>=9007199254740991.0.0 <9007199254740992.0.0-0`, which `^9007199254740991` prints, reads as
+    /// An empty text is [`Range::any`], and so is a text whose parts are all empty. An empty part
+    /// beside other parts is one interval without bounds in its place: `1.2.3||` reads as
+    /// `1.2.3||*`. A malformed word is skipped, so `foo 1.2.3` reads as `1.2.3`; a text with no
+    /// empty part and no word that has bounds, such as `foo`, is rejected with `SemverError`. A
+    /// number above `MAX_SAFE_INTEGER` makes its word malformed, so that `>=9007199254740991.0.0
+    /// <9007199254740992.0.0-0`, which `^9007199254740991` prints, reads as
     /// `>=9007199254740991.0.0`.
     pub fn parse(alloc: Global, text: &str) -> Result<Range, Failure<SemverError>>
         // The intervals are those of the text, in order and with their builds.

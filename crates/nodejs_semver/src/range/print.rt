@@ -79,15 +79,17 @@ impl fmt::Display for Joined<'_> {
     }
 }
 
-/// A range prints its intervals joined by `||`, as in `>=1.2.0 <2.0.0-0||>=3.0.0-rc`. An interval prints `*` without bounds,
-/// its bound where it has one, `v` where the bounds are `>=v` and `<=w` and v equals w (the build of v is shown), and else its
-/// two bounds with a space between them. It is the same text under each width, fill and precision.
+/// A range prints its intervals joined by `||`, as in `>=1.2.0 <2.0.0-0||>=3.0.0-rc`. An interval
+/// prints `*` without bounds, its bound where it has one, `v` where the bounds are `>=v` and `<=w`
+/// and v equals w (the build of v is shown), and else its two bounds with a space between them. It
+/// is the same text under each width, fill and precision.
 ///
-/// `Range::parse` reads an equal range from this text where no interval is `*` and no number is above `MAX_SAFE_INTEGER`, as
-/// `laws::printed_ranges_come_back` says. Two texts are read as other ranges. `*` is read as `>=0.0.0`. And a range may have
-/// the number `MAX_SAFE_INTEGER + 1`, which is read nowhere: `^9007199254740991` prints
-/// `>=9007199254740991.0.0 <9007199254740992.0.0-0`, whose second word is malformed and so is passed over, without an error,
-/// when the text is read again. What is read is `>=9007199254740991.0.0`, a wider range.
+/// `Range::parse` reads an equal range from this text where no interval is `*` and no number is
+/// above `MAX_SAFE_INTEGER`, as `laws::printed_ranges_come_back` says. Two texts are read as other
+/// ranges. `*` is read as `>=0.0.0`. And a range may have the number `MAX_SAFE_INTEGER + 1`, which
+/// is read nowhere: `^9007199254740991` prints `>=9007199254740991.0.0 <9007199254740992.0.0-0`,
+/// whose second word is malformed and so is passed over, without an error, when the text is read
+/// again. What is read is `>=9007199254740991.0.0`, a wider range.
 impl fmt::Display for Range {
     ghost output = { λ r. Some (range_text r) };
 

@@ -12,7 +12,8 @@ impl PartialEq for Range {
 
     ghost laws = { partial_equiv_from_equiv range_equiv };
 
-    /// Whether both have as many intervals, and each equals the one in its place. Build metadata does not count.
+    /// Whether both have as many intervals, and each equals the one in its place. Build metadata
+    /// does not count.
     fn eq(&self, other: &Range) -> bool {
         self.intervals() == other.intervals()
     }

@@ -369,13 +369,14 @@ fn intervals_of(alloc: Global, text: &[u8]) -> Result<Option<Intervals<Version>>
     }
 }
 
-/// Reads a common range text in one pass. It returns `None` exactly where the text is not one; the error is an allocation
-/// failure.
+/// Reads a common range text in one pass. It returns `None` exactly where the text is not one; the
+/// error is an allocation failure.
 ///
-/// Most ranges in manifests are common texts. Their parts are separated by `||`, with one space or none on each side. Each
-/// part is one word, such as `^1.2.3`, `~1.2`, `1.x` or `1.0.0 - 2.0.0`, or two comparisons separated by one space whose
-/// intervals meet, such as `>=1.0.0 <2.0.0`. No version in the text begins with `v` or has build metadata, and there is no
-/// other whitespace. `foo 1.2.3`, `v1.2.3` and `> 1` are not common texts; `Range::parse` reads them too.
+/// Most ranges in manifests are common texts. Their parts are separated by `||`, with one space or
+/// none on each side. Each part is one word, such as `^1.2.3`, `~1.2`, `1.x` or `1.0.0 - 2.0.0`, or
+/// two comparisons separated by one space whose intervals meet, such as `>=1.0.0 <2.0.0`. No
+/// version in the text begins with `v` or has build metadata, and there is no other whitespace.
+/// `foo 1.2.3`, `v1.2.3` and `> 1` are not common texts; `Range::parse` reads them too.
 pub fn range_fast(alloc: Global, text: &str) -> Result<Option<Range>, AllocError>
     // What is read is the meaning of a common text, which is what the text denotes.
     ensures some { IfOk result (λ found. IfSome found (λ range.

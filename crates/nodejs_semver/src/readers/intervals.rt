@@ -1,4 +1,5 @@
-// The intervals of a part. Memory is taken here, where the versions of bounds are made, and not while words are read.
+// The intervals of a part. Memory is taken here, where the versions of bounds are made, and not
+// while words are read.
 
 ghost use Rattle.std.specs.Prelude.{◌≡◌, ◌<◌, ◌++◌, ◌∷◌, List, IfOk, OnOk, Some, length, true};
 ghost use Rattle.nodejs_semver.specs.Text.Denotes.{part_intervals};
@@ -87,7 +88,8 @@ pub(crate) fn interval_of(
     Ok(Interval::new(lower, upper))
 }
 
-// The interval of the word at the front, where it has one, and the text behind that word and its whitespace.
+// The interval of the word at the front, where it has one, and the text behind that word and its
+// whitespace.
 fn next_interval(
     alloc: Global,
     text: &[u8],
@@ -102,7 +104,8 @@ fn next_interval(
     Ok((found, scan::skip_spaces(rest)))
 }
 
-// The running interval with one more: the intersection of both, or the next one alone, and then the running one is finished.
+// The running interval with one more: the intersection of both, or the next one alone, and then the
+// running one is finished.
 fn join(
     running: Option<Interval<Version>>,
     next: Interval<Version>,

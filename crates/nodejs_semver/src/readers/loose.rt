@@ -15,8 +15,9 @@ use semver_core::{MAX_SAFE_INTEGER, Version};
 use smallvec::SmallVec;
 use std::alloc::{AllocError, Global};
 
-/// Whether a range text is blank: each part between `||` is empty or whitespace alone, as in ` `, `||` and ` || `. Such a text
-/// names the range without bounds, `Range::any`; `range_loose` reads every other text.
+/// Whether a range text is blank: each part between `||` is empty or whitespace alone, as in ` `,
+/// `||` and ` || `. Such a text names the range without bounds, `Range::any`; `range_loose` reads
+/// every other text.
 pub fn is_blank(text: &str) -> bool
     ensures { result ≡ list_all is_empty (parts text.now) }
 {
@@ -31,12 +32,9 @@ pub fn is_blank(text: &str) -> bool
     true
 }
 
-// Adds what a part means: one interval without bounds where it is empty, and else the intervals of its words.
-fn add_part(
-    alloc: Global,
-    part: &str,
-    found: &mut Intervals<Version>,
-) -> Result<(), AllocError>
+// Adds what a part means: one interval without bounds where it is empty, and else the intervals of
+// its words.
+fn add_part(alloc: Global, part: &str, found: &mut Intervals<Version>) -> Result<(), AllocError>
     requires { space_len part.now ≡ 0 }
     ensures { OnOk result (
         found.new.items ≡ found.old.items ++ part_denotes MAX_SAFE_INTEGER part.now) }
@@ -63,11 +61,13 @@ fn intervals_of(alloc: Global, text: &str) -> Result<Intervals<Version>, AllocEr
     Ok(found)
 }
 
-/// Reads a range text of any length. Returns `None` if no part has an interval; fails only if allocation fails.
+/// Reads a range text of any length. Returns `None` if no part has an interval; fails only if
+/// allocation fails.
 ///
-/// The text must not be blank: ask `is_blank` first. It is cut at `||`, and each part is read word by word (node-semver's
-/// range grammar). An empty part is one interval without bounds. A malformed word, and one to which the word table gives no
-/// interval, is ignored: `foo 1.2.3` is the range of `1.2.3`, and `foo` has none.
+/// The text must not be blank: ask `is_blank` first. It is cut at `||`, and each part is read word
+/// by word (node-semver's range grammar). An empty part is one interval without bounds. A malformed
+/// word, and one to which the word table gives no interval, is ignored: `foo 1.2.3` is the range of
+/// `1.2.3`, and `foo` has none.
 pub fn range_loose(alloc: Global, text: &str) -> Result<Option<Range>, AllocError>
     requires some_part { list_all is_empty (parts text.now) ≡ false }
     ensures { IfOk result (λ found. found ≡ if_any (denotes MAX_SAFE_INTEGER text.now)) }

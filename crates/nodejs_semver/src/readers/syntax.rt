@@ -8,8 +8,8 @@ ghost use Rattle.semver_core.specs.declared.TheConstants.{MAX_SAFE_INTEGER};
 
 use semver_core::cuts::Bound;
 
-/// A partial as it was read. A component is None where it is absent or a wildcard; the identifiers stand
-/// as their text, joined by dots.
+/// A partial as it was read. A component is None where it is absent or a wildcard; the identifiers
+/// stand as their text, joined by dots.
 #[derive(Clone, Copy)]
 pub(crate) struct Partial<'a> {
     pub(crate) major: Option<u64>,

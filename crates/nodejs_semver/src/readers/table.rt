@@ -291,7 +291,8 @@ fn compare<'a>(comparator: Comparator, partial: &Partial<'a>) -> Option<Bounds<'
     }
 }
 
-/// The bounds that the form of a word and its numbers give. Those of a hyphen word alone may make no interval.
+/// The bounds that the form of a word and its numbers give. Those of a hyphen word alone may make
+/// no interval.
 #[tactic(auto, unfolding(crate::specs::Text::Table::table), using(crate::proofs::Bounds::TableReadings::settled))]
 pub(crate) fn table<'a>(word: &Word<'a>) -> Option<Bounds<'a>>
     ensures { interval_view result ≡ table MAX_SAFE_INTEGER (word_view word.now) }

@@ -13,8 +13,8 @@ use crate::cuts::order::{
 use std::alloc::{AllocError, Global};
 use std::marker::Model;
 
-/// The points between a lower and an upper bound. The cut of the lower bound is below that of the upper one; the interval
-/// may contain no points.
+/// The points between a lower and an upper bound. The cut of the lower bound is below that of the
+/// upper one; the interval may contain no points.
 ///
 /// Intervals are equal, and hash alike, where both bounds are of the same kind and at equal points.
 #[derive(Drop)]
@@ -63,8 +63,9 @@ impl<V: Point> Interval<V> {
         Ok(Interval { lower, upper })
     }
 
-    /// The interval between two bounds, and `None` exactly where the cut of the lower one is not below that of the upper one.
-    /// The cut after v is below the cut before w exactly where `v < w`.
+    /// The interval between two bounds, and `None` exactly where the cut of the lower one is not
+    /// below that of the upper one. The cut after v is below the cut before w exactly where `v <
+    /// w`.
     pub fn new(lower: Bound<V>, upper: Bound<V>) -> Option<Interval<V>>
         ensures { result ≡ interval V.cmp (record { lower = lower; upper = upper }) }
     {
@@ -82,8 +83,8 @@ impl<V: Point> Interval<V> {
         self.begins_below(point) && !self.ends_below(point)
     }
 
-    /// Whether the interval begins below the point: its lower cut is not after the point. The point itself may lie above the
-    /// interval.
+    /// Whether the interval begins below the point: its lower cut is not after the point. The point
+    /// itself may lie above the interval.
     pub fn begins_below(&self, point: &V) -> bool
         ensures { result ≡ is_past V.cmp (lower_cut self.now.lower) point.now }
     {
@@ -97,7 +98,8 @@ impl<V: Point> Interval<V> {
         is_past_upper(&self.upper, point)
     }
 
-    /// Whether the other interval lies within this one: its lower cut is not below, and its upper cut not above.
+    /// Whether the other interval lies within this one: its lower cut is not below, and its upper
+    /// cut not above.
     pub fn covers(&self, other: &Interval<V>) -> bool
         ensures { result
             ≡ (is_le (cut_cmp V.cmp (lower_cut self.now.lower) (lower_cut other.now.lower))
@@ -107,8 +109,8 @@ impl<V: Point> Interval<V> {
             && upper_order(&other.upper, &self.upper).is_le()
     }
 
-    /// Whether the interval ends above the cut at which the other one begins. Two intervals meet exactly where each reaches
-    /// the other.
+    /// Whether the interval ends above the cut at which the other one begins. Two intervals meet
+    /// exactly where each reaches the other.
     pub fn reaches(&self, other: &Interval<V>) -> bool
         ensures { result ≡ is_lt (cut_cmp V.cmp (lower_cut other.now.lower) (upper_cut self.now.upper)) }
     {
@@ -125,12 +127,13 @@ impl<V: Point> Interval<V> {
         )
     }
 
-    /// The intersection: the points of both intervals. Its bounds are the greater lower bound and the lesser upper bound;
-    /// of equal lower bounds the other's is kept, of equal upper bounds self's. Returns `None` exactly where the two cuts
-    /// leave no interval. The result may contain no points, as that of `>1` and `<2` over whole numbers.
+    /// The intersection: the points of both intervals. Its bounds are the greater lower bound and
+    /// the lesser upper bound; of equal lower bounds the other's is kept, of equal upper bounds
+    /// self's. Returns `None` exactly where the two cuts leave no interval. The result may contain
+    /// no points, as that of `>1` and `<2` over whole numbers.
     ///
-    /// Both intervals are borrowed, so the two bounds are copied: the call fails only if that allocation fails. Where both
-    /// are at hand to be consumed, `into_intersection` copies nothing.
+    /// Both intervals are borrowed, so the two bounds are copied: the call fails only if that
+    /// allocation fails. Where both are at hand to be consumed, `into_intersection` copies nothing.
     pub fn intersect(
         &self,
         alloc: Global,
@@ -146,8 +149,8 @@ impl<V: Point> Interval<V> {
         Ok(common)
     }
 
-    /// The intersection, by moving the bounds of both intervals. It allocates nothing. Where `intersect` would return
-    /// `None`, both intervals are returned to the caller.
+    /// The intersection, by moving the bounds of both intervals. It allocates nothing. Where
+    /// `intersect` would return `None`, both intervals are returned to the caller.
     pub fn into_intersection(
         self,
         other: Interval<V>,
@@ -164,8 +167,9 @@ impl<V: Point> Interval<V> {
         Ok(Interval { lower, upper })
     }
 
-    /// The part of this interval that lies within the other: the points of `intersect`, but of equal bounds self's are kept
-    /// on both sides. So what is clipped to pieces of the line keeps its own bounds, with their builds, wherever it can.
+    /// The part of this interval that lies within the other: the points of `intersect`, but of
+    /// equal bounds self's are kept on both sides. So what is clipped to pieces of the line keeps
+    /// its own bounds, with their builds, wherever it can.
     ///
     /// Two bounds are copied: the call fails only if that allocation fails.
     pub fn clip(
@@ -183,8 +187,9 @@ impl<V: Point> Interval<V> {
         Ok(clipped)
     }
 
-    /// What is left of the interval below the other one, and above it. A new bound is the other's turned round, so `>=v`
-    /// leaves `<v`. Where the two do not meet, all is left: a copy of self, then `None`. Fails only if allocation fails.
+    /// What is left of the interval below the other one, and above it. A new bound is the other's
+    /// turned round, so `>=v` leaves `<v`. Where the two do not meet, all is left: a copy of self,
+    /// then `None`. Fails only if allocation fails.
     pub fn subtract(
         &self,
         alloc: Global,

@@ -8,8 +8,8 @@ ghost use Rattle.semver_core.specs.Values.Views.{id_view};
 use crate::{Identifier, Version};
 use std::cmp::Ordering;
 
-/// How two identifiers compare: numbers by value and below all texts, texts by their bytes. `==` holds exactly where they
-/// tie.
+/// How two identifiers compare: numbers by value and below all texts, texts by their bytes. `==`
+/// holds exactly where they tie.
 pub fn identifiers_in_order(first: &Identifier, second: &Identifier) -> (Ordering, bool)
     ensures order { result.0 ≡ id_cmp (id_view first.now) (id_view second.now) }
     ensures equal { IsTrue result.1
@@ -18,8 +18,8 @@ pub fn identifiers_in_order(first: &Identifier, second: &Identifier) -> (Orderin
     (first.cmp(second), first == second)
 }
 
-/// How two versions compare: by SemVer 2.0.0, item 11. `==` holds exactly where they tie, so build metadata counts in
-/// neither.
+/// How two versions compare: by SemVer 2.0.0, item 11. `==` holds exactly where they tie, so build
+/// metadata counts in neither.
 pub fn versions_in_order(first: &Version, second: &Version) -> (Ordering, bool)
     ensures order { result.0 ≡ precedence first.now second.now }
     ensures equal { IsTrue result.1 ↔ (precedence first.now second.now ≡ Equal) }

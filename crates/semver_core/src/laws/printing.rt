@@ -9,17 +9,18 @@ ghost use Rattle.semver_core.specs.Values.Views.{id_view};
 use crate::{Failure, Identifier, MAX_LENGTH, MAX_SAFE_INTEGER, SemverError, Version};
 use std::alloc::{AllocError, Global};
 
-/// Printed versions come back: a text that is a printed version reads as that version, build included, and as no other.
-/// Its numbers are at most the limit, and each of its texts is a run of identifier characters that is not a number of
-/// 64 bits in digits. An `AlphaNumeric` that holds `12`, or a dot, does not come back.
+/// Printed versions come back: a text that is a printed version reads as that version, build
+/// included, and as no other. Its numbers are at most the limit, and each of its texts is a run of
+/// identifier characters that is not a number of 64 bits in digits. An `AlphaNumeric` that holds
+/// `12`, or a dot, does not come back.
 pub fn printed_versions_come_back(text: &str)
     ensures { VersionsComeBack text.now }
 {
     let _ = text;
 }
 
-/// A version that is printed and read again. It returns the version itself, build included, and fails only if allocation
-/// fails.
+/// A version that is printed and read again. It returns the version itself, build included, and
+/// fails only if allocation fails.
 pub fn reread(alloc: Global, version: &Version) -> Result<Version, Failure<SemverError>>
     requires readable { IsReadable MAX_SAFE_INTEGER version.now }
     requires short { length (version_text version.now) ≤ MAX_LENGTH }

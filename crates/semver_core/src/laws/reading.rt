@@ -1,4 +1,5 @@
-// The two constants, and that a text has one version at most, whatever the limit and whichever reader reads it.
+// The two constants, and that a text has one version at most, whatever the limit and whichever
+// reader reads it.
 
 ghost use Rattle.std.specs.Prelude.{◌≡◌, IfOk, IfSome, Some};
 ghost use Rattle.semver_core.specs.Text.Common.{ReadsAlike};
@@ -25,8 +26,9 @@ pub fn one_reading(text: &str)
     let _ = front_of_numbers(text);
 }
 
-/// A text that is read under one limit on numbers is read as the same version under every larger limit. No such law holds of
-/// ranges: a word that is malformed under the small limit may name an interval under the large one.
+/// A text that is read under one limit on numbers is read as the same version under every larger
+/// limit. No such law holds of ranges: a word that is malformed under the small limit may name an
+/// interval under the large one.
 pub fn larger_limits(text: &str)
     ensures read { KeepsReading text.now }
     ensures same { KeepsVersion text.now }

@@ -2,8 +2,8 @@
 
 ghost use Rattle.semver_core.specs.Text.Whitespace.{FrontIsFirstCharacter, TrimIsMiddle, MiddleIsTrim, AfterBlankDropsSpaces, OneAfterBlank};
 
-/// Whitespace as the bytes of a text spell it is whitespace as its characters are; the trimmed text is the only trimmed
-/// middle, and the place behind whitespace is one.
+/// Whitespace as the bytes of a text spell it is whitespace as its characters are; the trimmed text
+/// is the only trimmed middle, and the place behind whitespace is one.
 pub fn whitespace_in_bytes()
     ensures front { FrontIsFirstCharacter }
     ensures trimmed { TrimIsMiddle }

@@ -5,7 +5,8 @@ ghost use Rattle.std.specs.Prelude.{◌≡◌};
 
 use std::fmt;
 
-// A formatter as a writer of text alone: what is written through it heeds none of the formatter's options.
+// A formatter as a writer of text alone: what is written through it heeds none of the formatter's
+// options.
 #[derive(Drop)]
 struct Through<'a, W> {
     formatter: &'a mut fmt::Formatter<W>,
@@ -22,8 +23,9 @@ impl<W: fmt::Write> fmt::Write for Through<'_, W> {
 
 /// Writes the value as `{}` does, whatever width, fill, precision and flags the formatter has.
 ///
-/// An implementation of `Display` that calls this in place of `write!` prints the same text under each of these options, as
-/// its member `styled_output` can then say. The error is the one that the formatter's writer returns.
+/// An implementation of `Display` that calls this in place of `write!` prints the same text under
+/// each of these options, as its member `styled_output` can then say. The error is the one that the
+/// formatter's writer returns.
 pub fn write_unstyled<D: fmt::Display + Drop, W: fmt::Write>(
     f: &mut fmt::Formatter<W>,
     value: D,

@@ -194,8 +194,8 @@ pub(crate) fn front_of_numbers(text: &str) -> usize
 /// Reads the version at the front of a text of any length, as `Version::parse` reads it; whatever
 /// follows it is ignored.
 ///
-/// Returns `None` if the text has none. Fails only if allocation fails, which happens only where the
-/// version has a pre-release or build metadata.
+/// Returns `None` if the text has none. Fails only if allocation fails, which happens only where
+/// the version has a pre-release or build metadata.
 #[tactic(auto, using(crate::proofs::Text::Texts::found_some, crate::proofs::Text::Texts::found_none, crate::proofs::Text::Texts::loose_memory))]
 pub fn version_loose(alloc: Global, text: &str) -> Result<Option<Version>, AllocError>
     // What is read is a version of the text.

@@ -7,8 +7,9 @@ use crate::Version;
 
 /// A set of versions that is asked one by one, as a range is.
 ///
-/// An impl needs the method and the ghost member `accepts`, a function of the set, the version as the contracts see it
-/// (`VersionValue`: five values) and the flag. The proof is that the method returns what the member says. For instance:
+/// An impl needs the method and the ghost member `accepts`, a function of the set, the version as
+/// the contracts see it (`VersionValue`: five values) and the flag. The proof is that the method
+/// returns what the member says. For instance:
 ///
 /// ```
 /// ghost use Rattle.std.specs.Prelude.{◌==◌};
@@ -28,15 +29,17 @@ pub trait Accepts {
     /// Whether the set accepts a version; the flag includes pre-releases.
     ghost accepts: { Self → VersionValue → Bool → Bool };
 
-    /// Whether the set accepts this version. The flag says whether pre-releases are included. What that changes is for the
-    /// set to say: a range otherwise accepts a pre-release only where it names one of the same three numbers.
+    /// Whether the set accepts this version. The flag says whether pre-releases are included. What
+    /// that changes is for the set to say: a range otherwise accepts a pre-release only where it
+    /// names one of the same three numbers.
     fn accepts(&self, version: &Version, include_prerelease: bool) -> bool
         ensures { result ≡ accepts self.now version.now include_prerelease };
 }
 
 impl Version {
-    /// Whether the set accepts this version, pre-releases not being included: `set.accepts(version, false)`. For a range see
-    /// its own `satisfies`, which is the same question the other way round.
+    /// Whether the set accepts this version, pre-releases not being included: `set.accepts(version,
+    /// false)`. For a range see its own `satisfies`, which is the same question the other way
+    /// round.
     pub fn satisfies<R: Accepts>(&self, range: &R) -> bool
         ensures { result ≡ R.accepts range.now self.now false }
     {

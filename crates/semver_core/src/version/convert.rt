@@ -54,8 +54,8 @@ impl From<(u32, u32, u32)> for Version {
     }
 }
 
-/// The release of three numbers: major, minor and patch. Literals need a suffix, since there is an impl for each unsigned
-/// type: `Version::from((1u64, 2, 3))`.
+/// The release of three numbers: major, minor and patch. Literals need a suffix, since there is an
+/// impl for each unsigned type: `Version::from((1u64, 2, 3))`.
 impl From<(u64, u64, u64)> for Version {
     ghost from_gives = { λ t v. v ≡ release_value t.0 t.1 t.2 };
 

@@ -49,8 +49,8 @@ impl PartialOrd for Version {
     }
 }
 
-/// The precedence of SemVer 2.0.0, item 11: the three numbers, then a pre-release below its release, then the identifiers
-/// of two pre-releases one by one.
+/// The precedence of SemVer 2.0.0, item 11: the three numbers, then a pre-release below its
+/// release, then the identifiers of two pre-releases one by one.
 impl Ord for Version {
     ghost cmp = { precedence };
 

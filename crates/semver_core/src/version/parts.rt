@@ -12,7 +12,8 @@ use crate::{Identifier, Version};
 use smallvec::SmallVec;
 use std::alloc::{AllocError, Global};
 
-/// The five values of a version, open to read and to change. Its equality counts all five, build too.
+/// The five values of a version, open to read and to change. Its equality counts all five, build
+/// too.
 #[derive(PartialEq, Eq, Debug, Drop)]
 pub struct VersionParts {
     /// The major number.
@@ -46,7 +47,8 @@ impl VersionParts {
 }
 
 impl Version {
-    /// The version of these five values, whatever texts the identifiers hold: they are not read again.
+    /// The version of these five values, whatever texts the identifiers hold: they are not read
+    /// again.
     ///
     /// A refusal is want of memory, and hands the parts back. None is taken for two empty lists.
     pub fn new(
@@ -134,7 +136,8 @@ impl Version {
 
     /// The five values of the version.
     ///
-    /// A refusal is want of memory, and hands the version back. None is taken where it has no identifiers.
+    /// A refusal is want of memory, and hands the version back. None is taken where it has no
+    /// identifiers.
     pub fn into_parts(self, alloc: Global) -> Result<VersionParts, Version>
         ensures ok { IfOk result (λ p. parts_value p ≡ self) }
         ensures handed_back { IfErr result (λ v. v ≡ self) }
@@ -166,7 +169,8 @@ impl Version {
         })
     }
 
-    /// The whole value again, build included. It takes no memory where the version has no identifiers.
+    /// The whole value again, build included. It takes no memory where the version has no
+    /// identifiers.
     pub fn copy(&self, alloc: Global) -> Result<Version, AllocError>
         ensures whole { IfOk result (λ v. v ≡ self.now) }
         ensures memory { OnErr result (HasIdentifiers self.now) }
