@@ -38,7 +38,15 @@ const LOOSE: &[(&str, &str)] = &[
 ];
 
 // Texts without a version.
-const NONE: &[&str] = &["", "v", "1.2", "1..3", "foo", "vv1.2.3", "1.2.90071992547409912"];
+const NONE: &[&str] = &[
+    "",
+    "v",
+    "1.2",
+    "1..3",
+    "foo",
+    "vv1.2.3",
+    "1.2.90071992547409912",
+];
 
 fn prints(alloc: Global, version: &Version, text: &str) -> bool {
     matches!(version.to_string(alloc), Ok(printed) if printed.as_str() == text)

@@ -91,7 +91,10 @@ fn versions_keep_their_identifiers(rt: HostRuntime) -> Result<(), Fail> {
     for &pre_release in IDENTIFIERS {
         for &build in IDENTIFIERS {
             let text = version_text(rt.alloc(), pre_release, build)?;
-            assert!(rt; version_is_kept(rt.alloc(), &text, pre_release, build), "{text}");
+            assert!(rt;
+                version_is_kept(rt.alloc(), &text, pre_release, build),
+                "{text}"
+            );
         }
     }
     Ok(())
