@@ -62,9 +62,36 @@ fn run_answers_a_long_line(rt: HostRuntime) -> Result<(), Fail> {
     Ok(())
 }
 
-const INPUT: &[u8] = b"cmp;1.0.0;2.0.0\nfoo\n\ncmp;1.0.0;1.0.0";
+// A line for each command save `pre`, `min` and `ver`, and two faults; the last one has no line feed.
+const INPUT: &[u8] = b"cmp;1.0.0-alpha;1.0.0-alpha.1\n\
+sat;^1.2.3-rc.4;1.2.3-rc.5\n\
+range;>2 <1\n\
+and;>=1.2.3+a;>=1.2.3+b\n\
+sat;^1\n\
+minus;>=1.2.3;1.2.3 || 2.0.0\n\
+least;>1.0.0-a\n\
+beyond;>=1.2.3-a;>=1.0.0\n\
+sat;^x;y\n\
+max;^1;1.2.0+a;1.2.0+b;2.0.0\n\
+inc;1.0.0-rc.1+build.4;prerelease;rc;false\n\
+diff;2.0.0-pre;1.2.3\n\
+out;0.7.x;0.7.2-beta;>";
 
-const ANSWERS: &[u8] = b"less\nbad line\nbad line\nequal\n";
+const ANSWERS: &[u8] = b"less\n\
+true\n\
+>=3.0.0||<1.0.0\n\
+>=1.2.3+b\n\
+bad line\n\
+>1.2.3 <2.0.0||>2.0.0\n\
+1.0.0-a.0\n\
+1.2.3-a\n\
+bad range\n\
+1.2.0+b\n\
+1.0.0-rc.2+build.4\n\
+premajor\n\
+true\n";
+
+const ANSWER_COUNT: usize = 13;
 
 fn reader(step: usize, before: Option<usize>) -> FailingReader<'static> {
     FailingReader {
@@ -84,33 +111,41 @@ fn writer(alloc: Global, step: usize, before: Option<usize>) -> FailingWriter {
     }
 }
 
-// Whether the first `told` bytes of the answers were written, and no more.
+// How many lines end in these bytes.
+fn ended(bytes: &[u8]) -> usize {
+    bytes.iter().filter(|&&byte| byte == b'\n').count()
+}
+
+// Whether just the first `told` bytes of the answers were written.
 fn has_told(writer: &FailingWriter, told: usize) -> bool {
-    match ANSWERS.get(..told) {
-        Some(answers) => writer.written.as_slice() == answers,
-        None => false,
-    }
+    ANSWERS.get(..told) == Some(writer.written.as_slice())
 }
 
-// Whether a run whose reader and writer pass so many bytes a call writes all answers.
-fn tells_all(alloc: Global, read: usize, write: usize) -> bool {
-    let mut output = writer(alloc, write, None);
-    let ran = run(alloc, &mut reader(read, None), &mut output);
-    ran.is_ok() && has_told(&output, ANSWERS.len())
+// Whether just the answers of the first `lines` lines were written.
+fn has_answered(writer: &FailingWriter, lines: usize) -> bool {
+    let written = writer.written.as_slice();
+    let whole = written.is_empty() || written.ends_with(b"\n");
+    whole && ANSWERS.starts_with(written) && ended(written) == lines
 }
 
-// Whether a run whose reader fails at its call `k` ends with `Read` and has written so many bytes.
-fn stops_reading(alloc: Global, step: usize, k: usize, told: usize) -> bool {
+// Whether a run whose reader and writer pass so many bytes a call writes all answers. Neither end fails where its call
+// `before` is behind its last one.
+fn tells_all(alloc: Global, mut reader: FailingReader<'static>, mut writer: FailingWriter) -> bool {
+    let ran = run(alloc, &mut reader, &mut writer);
+    ran.is_ok() && has_told(&writer, ANSWERS.len())
+}
+
+// Whether a run whose reader fails at its call `k` ends with `Read` and has answered just so many lines.
+fn stops_reading(alloc: Global, step: usize, k: usize, lines: usize) -> bool {
     let mut output = writer(alloc, usize::MAX, None);
     let ran = run(alloc, &mut reader(step, Some(k)), &mut output);
-    matches!(&ran, Err(RunFault::Read)) && has_told(&output, told)
+    matches!(&ran, Err(RunFault::Read)) && has_answered(&output, lines)
 }
 
-// Whether a run whose writer fails at its call `k` ends with `Write` and has written so many bytes.
-fn stops_writing(alloc: Global, read: usize, write: usize, k: Option<usize>, told: usize) -> bool {
-    let mut output = writer(alloc, write, k);
-    let ran = run(alloc, &mut reader(read, None), &mut output);
-    matches!(&ran, Err(RunFault::Write)) && has_told(&output, told)
+// Whether a run over this writer ends with `Write`, and the writer that it leaves.
+fn stops_writing(alloc: Global, read: usize, writer: &mut FailingWriter) -> bool {
+    let ran = run(alloc, &mut reader(read, None), writer);
+    matches!(&ran, Err(RunFault::Write))
 }
 
 // How many bytes a read and a write pass.
@@ -124,57 +159,50 @@ const STEPS: &[(usize, usize)] = &[
 
 #[test]
 fn run_tells_the_same_a_byte_a_call(rt: HostRuntime) {
+    let alloc = rt.alloc();
     for &(read, write) in STEPS {
-        assert!(rt; tells_all(rt.alloc(), read, write), "{read} and {write}");
-    }
-}
-
-// How long the answers are of the lines whose line feed is among the first `read` bytes.
-fn answered(read: usize) -> usize {
-    match read {
-        0..16 => 0,
-        16..20 => 5,
-        20 => 14,
-        _ => 23,
+        assert!(rt;
+            tells_all(alloc, reader(read, None), writer(alloc, write, None)),
+            "{read} and {write}"
+        );
     }
 }
 
 #[test]
 fn run_answers_whole_lines_before_a_failed_read(rt: HostRuntime) {
+    let alloc = rt.alloc();
     for k in 0..=INPUT.len() {
-        assert!(rt; stops_reading(rt.alloc(), 1, k, answered(k)), "at read {k}");
+        assert!(rt;
+            stops_reading(alloc, 1, k, ended(&INPUT[..k])),
+            "at read {k}"
+        );
     }
-    assert!(rt; stops_reading(rt.alloc(), usize::MAX, 0, 0));
-    assert!(rt; stops_reading(rt.alloc(), usize::MAX, 1, 23));
+    assert!(rt; stops_reading(alloc, usize::MAX, 0, 0));
+    assert!(rt; stops_reading(alloc, usize::MAX, 1, ANSWER_COUNT - 1));
 }
 
 #[test]
 fn run_ends_at_a_failed_write(rt: HostRuntime) {
+    let alloc = rt.alloc();
     for read in [1, 5, usize::MAX] {
         for k in 0..ANSWERS.len() {
+            let mut output = writer(alloc, 1, Some(k));
             assert!(rt;
-                stops_writing(rt.alloc(), read, 1, Some(k), k),
+                stops_writing(alloc, read, &mut output) && has_told(&output, k),
                 "at write {k}"
             );
         }
     }
 }
 
-// How long the answers are that go out in the first `calls` calls, where each line is read alone.
-fn sent(calls: usize) -> usize {
-    match calls {
-        0 => 0,
-        1 => 5,
-        2 => 14,
-        _ => 23,
-    }
-}
-
+// Each line is read alone, so that each write takes a whole answer.
 #[test]
 fn run_ends_at_a_failed_write_of_a_whole_answer(rt: HostRuntime) {
-    for k in 0..4 {
+    let alloc = rt.alloc();
+    for k in 0..ANSWER_COUNT {
+        let mut output = writer(alloc, usize::MAX, Some(k));
         assert!(rt;
-            stops_writing(rt.alloc(), 1, usize::MAX, Some(k), sent(k)),
+            stops_writing(alloc, 1, &mut output) && has_answered(&output, k),
             "at write {k}"
         );
     }
@@ -182,7 +210,30 @@ fn run_ends_at_a_failed_write_of_a_whole_answer(rt: HostRuntime) {
 
 #[test]
 fn run_ends_at_a_write_that_takes_nothing(rt: HostRuntime) {
+    let alloc = rt.alloc();
     for read in [1, usize::MAX] {
-        assert!(rt; stops_writing(rt.alloc(), read, 0, None, 0));
+        let mut output = writer(alloc, 0, None);
+        assert!(rt; stops_writing(alloc, read, &mut output) && has_told(&output, 0));
     }
+}
+
+// An end whose failing call never comes changes nothing.
+#[test]
+fn run_answers_all_where_the_failing_call_never_comes(rt: HostRuntime) {
+    let alloc = rt.alloc();
+    let reads = INPUT.len() + 1;
+    assert!(rt;
+        tells_all(
+            alloc,
+            reader(1, Some(reads)),
+            writer(alloc, 1, Some(ANSWERS.len()))
+        )
+    );
+    assert!(rt;
+        tells_all(
+            alloc,
+            reader(usize::MAX, Some(2)),
+            writer(alloc, usize::MAX, Some(2))
+        )
+    );
 }
