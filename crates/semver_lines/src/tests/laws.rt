@@ -14,8 +14,10 @@ fn laws_of_texts_of_versions(rt: HostRuntime) {
     core_laws::whitespace_in_bytes();
     core_laws::next_versions();
     core_laws::one_reading("1.2.3");
+    core_laws::larger_limits("1.2.900719925474099");
+    core_laws::common_reads_alike("1.2.3-a");
     core_laws::printed_versions_come_back("1.2.3");
-    assert!(rt; core_laws::constants() == (900_719_925_474_099, 256));
+    assert!(rt; core_laws::constants() == (9_007_199_254_740_991, 256));
 }
 
 #[test]
@@ -40,6 +42,7 @@ fn laws_of_range_texts(rt: HostRuntime) {
     laws::words_at();
     laws::intervals_hold_what_is_written();
     laws::one_meaning();
+    laws::common_ranges();
     laws::printed_ranges_come_back(">1.2.3");
     assert!(rt; true);
 }

@@ -2,35 +2,60 @@
 
 use super::prints;
 use nodejs_semver::laws::{printed_in_field, reread_range};
-use nodejs_semver::{Failure, Identifier, Range, SemverError, Version};
-use semver_core::laws::reread;
+use nodejs_semver::{
+    Failure, Identifier, OutsideDirection, Range, SemverError, Version, VersionDiff,
+};
+use semver_core::laws::{identifier_in_field, reread, version_in_field};
 use std::alloc::Global;
+use std::fmt::Display;
 use std::test::Fail;
 
-#[test]
-fn version_ignores_width_and_fill(rt: HostRuntime) -> Result<(), Fail> {
-    let version = Version::parse(rt.alloc(), "1.2.3-a+7")?;
-    let wide = format!(in rt.alloc(); "{version:*>20}|{version:3}|{version:.2}")?;
-    assert_eq!(rt; wide.as_str(), "1.2.3-a+7|1.2.3-a+7|1.2.3-a+7");
-    Ok(())
+#[derive(Clone, Copy)]
+enum Kind {
+    Number,
+    Text,
+    Version,
+    Difference,
+    Range,
+    Direction,
+}
+
+// A value of each kind that prints, by its text.
+const PRINTED: &[(Kind, &str)] = &[
+    (Kind::Number, "7"),
+    (Kind::Text, "rc"),
+    (Kind::Version, "1.2.3-a+7"),
+    (Kind::Difference, "premajor"),
+    (Kind::Range, ">=1.2.0 <2.0.0-0||<=0.5.9007199254740991"),
+    (Kind::Direction, ">"),
+];
+
+// Whether a value prints as this text in a wide field, in a narrow one with zeros, and cut to one character.
+fn prints_as<D: Display>(alloc: Global, value: &D, text: &str) -> Result<bool, Fail> {
+    let printed = format!(in alloc; "{value:*>60}|{value:03}|{value:^.1}")?;
+    let wanted = format!(in alloc; "{text}|{text}|{text}")?;
+    Ok(printed == wanted)
+}
+
+fn is_unstyled(alloc: Global, kind: Kind, text: &str) -> Result<bool, Fail> {
+    match kind {
+        Kind::Number => prints_as(alloc, &Identifier::Numeric(7), text),
+        Kind::Text => {
+            let identifier = Identifier::AlphaNumeric(String::from_str(alloc, text)?);
+            prints_as(alloc, &identifier, text)
+        }
+        Kind::Version => prints_as(alloc, &Version::parse(alloc, text)?, text),
+        Kind::Difference => prints_as(alloc, &VersionDiff::PreMajor, text),
+        Kind::Range => prints_as(alloc, &Range::parse(alloc, text)?, text),
+        Kind::Direction => prints_as(alloc, &OutsideDirection::Higher, text),
+    }
 }
 
 #[test]
-fn identifier_ignores_width_and_fill(rt: HostRuntime) -> Result<(), Fail> {
-    let identifier = Identifier::Numeric(7);
-    let wide = format!(in rt.alloc(); "{identifier:05}|{identifier:>4}")?;
-    assert_eq!(rt; wide.as_str(), "7|7");
-    Ok(())
-}
-
-#[test]
-fn range_ignores_width_and_fill(rt: HostRuntime) -> Result<(), Fail> {
-    let range = Range::parse(rt.alloc(), "^1.2 || <=0.5")?;
-    let wide = format!(in rt.alloc(); "{range:*^60}|{range:.1}")?;
-    assert_eq!(rt;
-        wide.as_str(),
-        ">=1.2.0 <2.0.0-0||<=0.5.900719925474099|>=1.2.0 <2.0.0-0||<=0.5.900719925474099"
-    );
+fn width_fill_and_precision_change_nothing(rt: HostRuntime) -> Result<(), Fail> {
+    for &(kind, text) in PRINTED {
+        assert!(rt; is_unstyled(rt.alloc(), kind, text)?, "{text}");
+    }
     Ok(())
 }
 
@@ -39,6 +64,16 @@ fn printed_in_field_ignores_width_and_precision(rt: HostRuntime) -> Result<(), F
     let range = Range::parse(rt.alloc(), "^1.2")?;
     let wide = printed_in_field(rt.alloc(), &range, 60, 1)?;
     assert_eq!(rt; wide.as_str(), ">=1.2.0 <2.0.0-0");
+    Ok(())
+}
+
+#[test]
+fn versions_and_identifiers_in_a_field(rt: HostRuntime) -> Result<(), Fail> {
+    let version = Version::parse(rt.alloc(), "1.2.3-a")?;
+    let wide = version_in_field(rt.alloc(), &version, 60, 1)?;
+    assert_eq!(rt; wide.as_str(), "1.2.3-a");
+    let wide = identifier_in_field(rt.alloc(), &Identifier::Numeric(7), 60, 1)?;
+    assert_eq!(rt; wide.as_str(), "7");
     Ok(())
 }
 
