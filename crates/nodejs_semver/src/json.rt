@@ -14,15 +14,15 @@ use semver_core::{Failure, SemverError, Version};
 use serde_json::Value;
 use std::alloc::{AllocError, Global};
 
-/// The string of the printed version. The error is want of memory.
+/// Returns the string of the printed version. Fails only if allocation fails.
 pub fn version_to_value(alloc: Global, version: &Version) -> Result<Value, AllocError>
     ensures { IfOk result (λ value. view value ≡ string (version_text version.now)) }
 {
     Ok(Value::String(version.to_string(alloc)?))
 }
 
-/// The version of a string, as `Version::parse` reads it. A value that is no string is refused, as
-/// is a text that has no version; want of memory is the one other error.
+/// Reads the version of a JSON string, as `Version::parse` does. Returns `SemverError` if the value
+/// is no string or its text has no version; the one other error is an allocation failure.
 pub fn version_from_value(alloc: Global, value: &Value) -> Result<Version, Failure<SemverError>>
     ensures { ReadsVersion (as_str (view value.now)) result }
 {
@@ -32,17 +32,17 @@ pub fn version_from_value(alloc: Global, value: &Value) -> Result<Version, Failu
     }
 }
 
-/// The compact JSON text of the printed version, quotes and escapes included. The error is want of
-/// memory.
+/// Returns the compact JSON text of the printed version, quotes and escapes included. Fails only if
+/// allocation fails.
 pub fn version_to_json_text(alloc: Global, version: &Version) -> Result<String, AllocError>
     ensures { IfOk result (λ text. string_bytes text ≡ compact_text (string (version_text version.now))) }
 {
     Value::String(version.to_string(alloc)?).to_string(alloc)
 }
 
-/// The version of a JSON text, as `Version::parse` reads its string. It is refused where the text
-/// is not that of one JSON value, the value is no string, or the string has no version; want of
-/// memory is the one other error.
+/// Reads the version of a JSON text, as `Version::parse` reads its string. Returns `SemverError` if
+/// the text is not one JSON value, the value is no string, or the string has no version; the one
+/// other error is an allocation failure.
 pub fn version_from_json_text(alloc: Global, text: &str) -> Result<Version, Failure<SemverError>>
     ensures { ReadsVersion (json_string text.now) result }
 {
@@ -53,15 +53,15 @@ pub fn version_from_json_text(alloc: Global, text: &str) -> Result<Version, Fail
     }
 }
 
-/// The string of the printed range. The error is want of memory.
+/// Returns the string of the printed range. Fails only if allocation fails.
 pub fn range_to_value(alloc: Global, range: &Range) -> Result<Value, AllocError>
     ensures { IfOk result (λ value. view value ≡ string (range_text range.now)) }
 {
     Ok(Value::String(range.to_string(alloc)?))
 }
 
-/// The range of a string, as `Range::parse` reads it. A value that is no string is refused, as is a
-/// text that has no range; want of memory is the one other error.
+/// Reads the range of a JSON string, as `Range::parse` does. Returns `SemverError` if the value is no
+/// string or its text has no range; the one other error is an allocation failure.
 pub fn range_from_value(alloc: Global, value: &Value) -> Result<Range, Failure<SemverError>>
     ensures { ReadsRange (as_str (view value.now)) result }
 {
@@ -71,16 +71,17 @@ pub fn range_from_value(alloc: Global, value: &Value) -> Result<Range, Failure<S
     }
 }
 
-/// The compact JSON text of the printed range, quotes included. The error is want of memory.
+/// Returns the compact JSON text of the printed range, quotes included. Fails only if allocation
+/// fails.
 pub fn range_to_json_text(alloc: Global, range: &Range) -> Result<String, AllocError>
     ensures { IfOk result (λ text. string_bytes text ≡ compact_text (string (range_text range.now))) }
 {
     Value::String(range.to_string(alloc)?).to_string(alloc)
 }
 
-/// The range of a JSON text, as `Range::parse` reads its string. It is refused where the text is
-/// not that of one JSON value, the value is no string, or the string has no range; want of memory
-/// is the one other error.
+/// Reads the range of a JSON text, as `Range::parse` reads its string. Returns `SemverError` if the
+/// text is not one JSON value, the value is no string, or the string has no range; the one other
+/// error is an allocation failure.
 pub fn range_from_json_text(alloc: Global, text: &str) -> Result<Range, Failure<SemverError>>
     ensures { ReadsRange (json_string text.now) result }
 {

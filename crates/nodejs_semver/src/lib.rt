@@ -1,7 +1,7 @@
 //! Versions and ranges as npm has them: which versions a range admits, which one is the best, and
 //! which number comes next.
 //!
-//! Calls that allocate are passed the allocator and answer want of memory beside their own answers.
+//! Allocating functions take the allocator and report allocation failure in their error type.
 #![tactic(auto)]
 
 pub mod json;

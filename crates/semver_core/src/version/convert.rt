@@ -73,7 +73,7 @@ impl From<(usize, usize, usize)> for Version {
     }
 }
 
-/// The release of three numbers. It is refused exactly where one of them is negative.
+/// The release of three numbers. Returns `NegativeNumber` exactly if one of them is negative.
 impl TryFrom<(i8, i8, i8)> for Version {
     type Error = NegativeNumber;
 
@@ -84,7 +84,7 @@ impl TryFrom<(i8, i8, i8)> for Version {
     }
 }
 
-/// The release of three numbers. It is refused exactly where one of them is negative.
+/// The release of three numbers. Returns `NegativeNumber` exactly if one of them is negative.
 impl TryFrom<(i16, i16, i16)> for Version {
     type Error = NegativeNumber;
 
@@ -95,7 +95,7 @@ impl TryFrom<(i16, i16, i16)> for Version {
     }
 }
 
-/// The release of three numbers. It is refused exactly where one of them is negative.
+/// The release of three numbers. Returns `NegativeNumber` exactly if one of them is negative.
 impl TryFrom<(i32, i32, i32)> for Version {
     type Error = NegativeNumber;
 
@@ -106,7 +106,7 @@ impl TryFrom<(i32, i32, i32)> for Version {
     }
 }
 
-/// The release of three numbers. It is refused exactly where one of them is negative.
+/// The release of three numbers. Returns `NegativeNumber` exactly if one of them is negative.
 impl TryFrom<(i64, i64, i64)> for Version {
     type Error = NegativeNumber;
 
@@ -117,7 +117,7 @@ impl TryFrom<(i64, i64, i64)> for Version {
     }
 }
 
-/// The release of three numbers. It is refused exactly where one of them is negative.
+/// The release of three numbers. Returns `NegativeNumber` exactly if one of them is negative.
 impl TryFrom<(isize, isize, isize)> for Version {
     type Error = NegativeNumber;
 

@@ -50,7 +50,7 @@ impl Version {
     /// The version of these five values, whatever texts the identifiers hold: they are not read
     /// again.
     ///
-    /// A refusal is want of memory, and hands the parts back. None is taken for two empty lists.
+    /// If allocation fails, the parts are returned to the caller. Two empty lists allocate nothing.
     pub fn new(
         alloc: Global,
         major: u64,
@@ -119,7 +119,7 @@ impl Version {
 
     /// The pre-release `major.minor.patch-number`, with one identifier, which is numeric.
     ///
-    /// The error is want of memory.
+    /// Fails only if allocation fails.
     pub fn with_pre(
         alloc: Global,
         major: u64,
@@ -136,8 +136,8 @@ impl Version {
 
     /// The five values of the version.
     ///
-    /// A refusal is want of memory, and hands the version back. None is taken where it has no
-    /// identifiers.
+    /// If allocation fails, the version is returned to the caller. A version without identifiers
+    /// allocates nothing.
     pub fn into_parts(self, alloc: Global) -> Result<VersionParts, Version>
         ensures ok { IfOk result (λ p. parts_value p ≡ self) }
         ensures handed_back { IfErr result (λ v. v ≡ self) }
