@@ -10,20 +10,25 @@ and exit with 1, or write them all and exit with 0. Prints how many requests eac
 import collections, os, pathlib, re, shutil, subprocess, sys, tempfile
 
 TOP = pathlib.Path(__file__).resolve().parent.parent
-# Calls that never allocate on these inputs, by the line that they print.
+# The lines of calls that never allocate.
 NEVER = [
-    "Version::parse: 1.2.3 from 1.2.3", "Version::parse: nothing from 1.2",
-    "version_loose: 1.2.3 from 1.2.3", "version_loose: nothing from 1.2",
-    "identifiers: nothing", "new: 7.8.9 from 1.2.3", "Version::copy: 1.2.3 from 1.2.3",
-    "Identifier::copy: 2 from 2", "Range::any: * from *",
+    "Version::parse: 1.2.3 from 1.2.3", "Version::parse: nothing from 1.2", "Version::parse: nothing from 1.2-a.1.b",
+    "version_loose: 1.2.3 from 1.2.3", "version_loose: nothing from 1.2", "version_loose: nothing from 1.2-a.1.b",
+    "version_fast: 1.2.3 from 1.2.3", "version_fast: nothing from 1.2", "version_fast: nothing from 1.2-a.1.b",
+    "scan::identifiers: nothing from 1.2.3-a.1.b+c.2.d", "Version::new: 7.8.9 from 1.2.3",
+    "Version::into_parts: VersionParts { major: 1, minor: 2, patch: 3, pre_release: [], build: [] } from 1.2.3",
+    "Version::copy: 1.2.3 from 1.2.3", "Identifier::copy: 2 from 2", "Range::any: * from *",
+    "IncrementError::copy: increment would overflow a version component"
+    " from increment would overflow a version component",
 ]
 
-# Where the first of two calls fails, the line of the second is missing.
+# The calls whose line has another name: the call fails before the one that the line names.
 FOLLOWED_BY = {
-    "fake": "IncrementError::copy",
+    "inc fake": "IncrementError::copy",
     "version_to_value": "version_from_value",
     "range_to_value": "range_from_value",
 }
+
 LINES = b"""cmp;1.0.0-a;2.0.0-b
 sat;^1.2.3-a || 2.x || 3.x;1.2.3-b+c
 and;^1.2.3-a || 2.x || 3.x;>=1.3.0-b
@@ -38,6 +43,20 @@ out;^1.2.3-a;3.0.0-b;>
 foo;1.2.3
 and;1.x;foo
 """
+ANSWERS = b"""less
+true
+>=1.3.0-b <2.0.0-0||>=2.0.0 <3.0.0-0||>=3.0.0 <4.0.0-0
+>=1.2.3-a <1.3.0-b||>1.3.0-b <2.0.0-0||>=2.0.0 <2.5.0||>2.5.0 <3.0.0-0||>=3.0.0 <4.0.0-0
+1.2.3-a.0
+1.2.3-a
+>=1.2.3-a <2.0.0-0||>=2.0.0 <3.0.0-0||>=3.0.0 <4.0.0-0
+1.3.0
+1.2.3-beta.0+c.2.d
+preminor
+true
+bad line
+bad range
+"""
 
 def run(shim, program, at=0, log=False, text=b""):
     env = {**os.environ, "LD_PRELOAD": str(shim), "REFUSE_AT": str(at)}
@@ -49,50 +68,60 @@ def run(shim, program, at=0, log=False, text=b""):
 def call_of(line):
     return line.split(": ")[0]
 
+# What is wrong with a run of which one allocation failed: one line differs from those wanted, and those that follow from it
+# are missing. Counts the failure of a call in `requests`.
+def fault_of(lines, wanted, requests):
+    same = 0
+    while same < len(lines) and lines[same] == wanted[same]:
+        same += 1
+    if same == len(lines):
+        return None if lines == wanted else "lines are missing"
+    line, behind = lines[same], lines[same + 1:]
+    missing = wanted[same:len(wanted) - len(behind)]
+    if behind != wanted[len(wanted) - len(behind):] or not missing:
+        return f"wrong lines behind: {line}"
+    if line.endswith(": no values"):
+        return None
+    if ": memory from " not in line:
+        return f"wrong line: {line}"
+    call, borrowed = line.split(": memory from ", 1)
+    requests[call] += 1
+    name = FOLLOWED_BY.get(call, call)
+    if any(not call_of(w).startswith(name) for w in missing):
+        return f"no such line: {line}"
+    if call == "Version::new":
+        # It hands back its parts: new numbers and the lists that `into_parts` returned for the same text.
+        parts = borrowed.replace("major: 7, minor: 8, patch: 9", "major: 1, minor: 2, patch: 3")
+        kept = parts != borrowed and f"Version::into_parts: {parts} from {missing[0].split(' from ')[1]}" in wanted
+    else:
+        kept = call == "inc fake" or all(w.endswith(" from " + borrowed) for w in missing)
+    if not kept:
+        return f"what was borrowed or handed back has changed: {line}"
+    if missing[0] in NEVER:
+        return f"allocates: {missing[0]}"
+    return None
+
 def check_calls(shim, program, wanted):
     _, ample, log = run(shim, program, log=True)
     if ample.decode() != wanted:
         sys.exit("with ample memory the lines are not those of `stdout`")
     wanted = wanted.splitlines()
-    requests, never, bad = collections.Counter(), set(), []
+    requests = collections.Counter()
+    bad = [f"`stdout` has no line: {line}" for line in NEVER if line not in wanted]
     for at in range(1, int(log) + 1):
         status, out, _ = run(shim, program, at)
-        lines = out.decode().splitlines()
-        rest = list(wanted)
-        failures = 0
-        for line in lines:
-            if line in rest:
-                rest = rest[rest.index(line) + 1:]
-            elif line.endswith(": no values"):
-                failures += 1
-            elif ": memory from " in line:
-                failures += 1
-                call, borrowed = line.split(": memory from ", 1)
-                requests[call] += 1
-                line_of = FOLLOWED_BY.get(call, call)
-                match = [
-                    w for w in rest
-                    if call_of(w).startswith(line_of) and (call == "fake" or w.endswith(" from " + borrowed))
-                ]
-                if not match:
-                    bad.append(f"request {at}: no such line: {line}")
-                elif any(match[0].startswith(n) for n in NEVER):
-                    bad.append(f"request {at}: allocates: {match[0]}")
-                else:
-                    rest = rest[rest.index(match[0]) + 1:]
-            else:
-                bad.append(f"request {at}: wrong line: {line}")
-        if status != 0 or failures > 1:
-            bad.append(f"request {at}: status {status}, {failures} failures")
-    status, out, _ = run(shim, program, int(log) + 1)
+        fault = fault_of(out.decode().splitlines(), wanted, requests)
+        if status != 0 or fault:
+            bad.append(f"request {at}: status {status}, {fault}")
+    _, out, _ = run(shim, program, int(log) + 1)
     if out != ample:
         bad.append("a run that meets no failure differs")
     return int(log), requests, bad
 
 def check_lines(shim, program):
     status, ample, log = run(shim, program, log=True, text=LINES)
-    if status != 0 or len(ample.splitlines()) != 13:
-        sys.exit("with ample memory `semver_lines` does not answer")
+    if status != 0 or ample != ANSWERS:
+        sys.exit("with ample memory `semver_lines` does not write its answers")
     bad = []
     for at in range(1, int(log) + 1):
         status, out, said = run(shim, program, at, text=LINES)
@@ -113,6 +142,8 @@ def main():
         more, faults = check_lines(shim, TOP / "crates/semver_lines/out/semver_lines")
     for call, n in sorted(requests.items()):
         print(f"{call}: {n} requests refused in turn")
+    for line in NEVER:
+        print(f"no request: {line}")
     for line in bad + faults:
         print(line)
     print(f"{count} requests of the calls and {more} of semver_lines refused in turn: {len(bad + faults)} wrong")

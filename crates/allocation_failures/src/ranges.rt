@@ -2,28 +2,43 @@
 
 use crate::show::{Outcome, found, no_values, read, show};
 use nodejs_semver::cuts::{Bound, Interval};
+use nodejs_semver::readers::{is_blank, range_fast, range_loose};
 use nodejs_semver::{Range, Version};
 use std::alloc::{AllocError, Global};
 use std::io;
 
-const THREE: &str = "^1.2.3-a.1 || ~2.3.4-b || >=5.0.0-c <7.0.0-d";
+const THREE: &str = ">=1.2.3-a.1.b+c.2.d <2.0.0 || ~2.3.4-b || >=5.0.0-c <7.0.0-d+e";
+
+// Three intervals of a text that the fast reader reads: it has no builds.
+const COMMON: &str = "^1.2.3-a.1.b || ~2.3.4-b || >=5.0.0-c <7.0.0-d";
 
 const FIVE: &str = "1.3.0 || 1.5.0 || 2.3.5 || >=5.1.0-c <5.2.0 || >=6.0.0-e";
 
 /// Makes each call on ranges and on intervals.
 pub fn show_all(rt: &impl Print, alloc: Global) -> io::Result<()> {
-    for text in [THREE, FIVE, "foo"] {
+    for text in [THREE, FIVE, COMMON, "foo", "||"] {
         show(rt, "Range::parse", read(Range::parse(alloc, text)), &text)?;
+        readers(rt, alloc, text)?;
     }
     show(rt, "Range::any", Outcome::from(Range::any(alloc)), &"*")?;
     for (one, other) in [(THREE, THREE), (THREE, FIVE), (FIVE, THREE)] {
         algebra(rt, alloc, one, other)?;
     }
     choices(rt, alloc, THREE)?;
-    for (one, other) in [("1.0.0-a", "2.0.0-b"), ("1.5.0-c", "3.0.0-d")] {
+    for (one, other) in [
+        ("1.0.0-a.1.b+c.2.d", "2.0.0-b.1.c+d.2.e"),
+        ("1.5.0-c.1.d+e.2.f", "3.0.0-d.1.e+f.2.g"),
+    ] {
         intervals(rt, alloc, one, other)?;
     }
     Ok(())
+}
+
+fn readers(rt: &impl Print, alloc: Global, text: &str) -> io::Result<()> {
+    if !is_blank(text) {
+        show(rt, "range_loose", found(range_loose(alloc, text)), &text)?;
+    }
+    show(rt, "range_fast", found(range_fast(alloc, text)), &text)
 }
 
 fn algebra(rt: &impl Print, alloc: Global, one: &str, other: &str) -> io::Result<()> {
@@ -77,7 +92,7 @@ fn intervals(rt: &impl Print, alloc: Global, lower: &str, upper: &str) -> io::Re
     let Some(one) = interval(alloc, lower, upper) else {
         return no_values(rt, "intervals");
     };
-    let Some(other) = interval(alloc, "1.2.0-x.1", "1.9.0-y.2") else {
+    let Some(other) = interval(alloc, "1.2.0-x.1.y+z.2.w", "1.9.0-y.2.z+w.3.v") else {
         return no_values(rt, "intervals");
     };
     show_interval(rt, "Interval::copy", one.copy(alloc).map(Some), lower)?;

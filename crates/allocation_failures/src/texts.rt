@@ -13,7 +13,12 @@ use std::io;
 pub fn show_all(rt: &impl Print, alloc: Global) -> io::Result<()> {
     versions(rt, alloc)?;
     ranges(rt, alloc)?;
-    for text in ["\"1.2.3-a.1.b+c.2.d\"", "\"1.2\"", "[1, {}]"] {
+    for text in [
+        "\"1.2.3-a.1.b+c.2.d\"",
+        "\"^1.2.3-a.1.b || ~2.3.4-b || >=5.0.0-c <7.0.0-d\"",
+        "\"1.2\"",
+        "[1, {}]",
+    ] {
         show(
             rt,
             "version_from_json_text",
@@ -52,7 +57,10 @@ fn versions(rt: &impl Print, alloc: Global) -> io::Result<()> {
 }
 
 fn ranges(rt: &impl Print, alloc: Global) -> io::Result<()> {
-    let Ok(range) = Range::parse(alloc, "^1.2.3-a.1 || ~2.3.4-b || >=5.0.0-c <7.0.0-d") else {
+    let Ok(range) = Range::parse(
+        alloc,
+        ">=1.2.3-a.1.b+c.2.d <2.0.0 || ~2.3.4-b || >=5.0.0-c <7.0.0-d",
+    ) else {
         return no_values(rt, "range_to_value");
     };
     show(

@@ -1,8 +1,8 @@
 // The calls on versions.
 
 use crate::show::{Outcome, found, no_values, read, show, show_debug};
-use nodejs_semver::readers::version_loose;
-use nodejs_semver::{Failure, Version, VersionParts};
+use nodejs_semver::readers::{version_fast, version_loose};
+use nodejs_semver::{Failure, IncrementError, Version, VersionParts};
 use semver_core::scan;
 use std::alloc::Global;
 use std::io;
@@ -11,7 +11,7 @@ const VERSION: &str = "1.2.3-a.1.b+c.2.d";
 
 /// Makes each call on versions.
 pub fn show_all(rt: &impl Print, alloc: Global) -> io::Result<()> {
-    for text in [VERSION, "1.2.3", "1.2"] {
+    for text in [VERSION, "1.2.3", "1.2", "1.2-a.1.b"] {
         show(
             rt,
             "Version::parse",
@@ -24,35 +24,45 @@ pub fn show_all(rt: &impl Print, alloc: Global) -> io::Result<()> {
             found(version_loose(alloc, text)),
             &text,
         )?;
+        show(rt, "version_fast", found(version_fast(alloc, text)), &text)?;
     }
     show(
         rt,
-        "with_pre",
+        "Version::with_pre",
         Outcome::from(Version::with_pre(alloc, 1, 2, 3, 4)),
         &4,
     )?;
-    identifiers(rt, alloc, VERSION, 6)?;
-    identifiers(rt, alloc, VERSION, 5)?;
+    for at in [6, 5, 1] {
+        identifiers(rt, alloc, VERSION, at)?;
+    }
     for text in [VERSION, "1.2.3"] {
         new(rt, alloc, text)?;
         into_parts(rt, alloc, text)?;
         copy(rt, alloc, text)?;
         parts_copy(rt, alloc, text)?;
-        for word in ["major", "prerelease", "premajor", "fake"] {
-            inc(rt, alloc, text, word)?;
+        for (call, word) in [
+            ("inc major", "major"),
+            ("inc prerelease", "prerelease"),
+            ("inc premajor", "premajor"),
+            ("inc fake", "fake"),
+        ] {
+            inc(rt, alloc, text, call, word)?;
         }
     }
-    Ok(())
+    errors(rt, alloc)
 }
 
 fn identifiers(rt: &impl Print, alloc: Global, text: &str, at: usize) -> io::Result<()> {
     if at > text.len() {
-        return no_values(rt, "identifiers");
+        return no_values(rt, "scan::identifiers");
     }
     match scan::identifiers(alloc, text, at) {
-        Ok(Some((list, end))) => println!(rt; "identifiers: {} to {end} from {text}", list.len()),
-        Ok(None) => println!(rt; "identifiers: nothing from {text}"),
-        Err(_) => println!(rt; "identifiers: memory from {text}"),
+        Ok(Some((list, end))) => println!(rt;
+            "scan::identifiers: {} to {end} from {text}",
+            list.len()
+        ),
+        Ok(None) => println!(rt; "scan::identifiers: nothing from {text}"),
+        Err(_) => println!(rt; "scan::identifiers: memory from {text}"),
     }
 }
 
@@ -65,21 +75,21 @@ fn parts_of(alloc: Global, text: &str) -> Option<VersionParts> {
 
 fn new(rt: &impl Print, alloc: Global, text: &str) -> io::Result<()> {
     let Some(parts) = parts_of(alloc, text) else {
-        return no_values(rt, "new");
+        return no_values(rt, "Version::new");
     };
     match Version::new(alloc, 7, 8, 9, parts.pre_release, parts.build) {
-        Ok(version) => println!(rt; "new: {version} from {text}"),
-        Err(parts) => println!(rt; "new: memory from {parts:?}"),
+        Ok(version) => println!(rt; "Version::new: {version} from {text}"),
+        Err(parts) => println!(rt; "Version::new: memory from {parts:?}"),
     }
 }
 
 fn into_parts(rt: &impl Print, alloc: Global, text: &str) -> io::Result<()> {
     let Ok(version) = Version::parse(alloc, text) else {
-        return no_values(rt, "into_parts");
+        return no_values(rt, "Version::into_parts");
     };
     match version.into_parts(alloc) {
-        Ok(parts) => println!(rt; "into_parts: {parts:?} from {text}"),
-        Err(version) => println!(rt; "into_parts: memory from {version}"),
+        Ok(parts) => println!(rt; "Version::into_parts: {parts:?} from {text}"),
+        Err(version) => println!(rt; "Version::into_parts: memory from {version}"),
     }
 }
 
@@ -117,20 +127,34 @@ fn parts_copy(rt: &impl Print, alloc: Global, text: &str) -> io::Result<()> {
     println!(rt; "VersionParts::copy left {parts:?}")
 }
 
-fn inc(rt: &impl Print, alloc: Global, text: &str, word: &str) -> io::Result<()> {
+fn inc(rt: &impl Print, alloc: Global, text: &str, call: &str, word: &str) -> io::Result<()> {
     let Ok(version) = Version::parse(alloc, text) else {
-        return no_values(rt, word);
+        return no_values(rt, call);
     };
     let next = version.inc(alloc, word, Some("beta"), None);
     match next {
-        Err(Failure::Refused(error)) => {
-            show(
-                rt,
-                "IncrementError::copy",
-                Outcome::from(error.copy(alloc)),
-                &error,
-            )
-        }
-        next => show(rt, word, read(next), &version),
+        Err(Failure::Refused(error)) => copy_error(rt, alloc, &error),
+        next => show(rt, call, read(next), &version),
+    }
+}
+
+fn copy_error(rt: &impl Print, alloc: Global, error: &IncrementError) -> io::Result<()> {
+    show(
+        rt,
+        "IncrementError::copy",
+        Outcome::from(error.copy(alloc)),
+        error,
+    )
+}
+
+fn errors(rt: &impl Print, alloc: Global) -> io::Result<()> {
+    copy_error(rt, alloc, &IncrementError::Overflow)?;
+    match String::from_str(alloc, "a/b") {
+        Ok(text) => copy_error(rt, alloc, &IncrementError::InvalidIdentifier(text))?,
+        Err(_) => no_values(rt, "IncrementError::copy")?,
+    }
+    match String::from_str(alloc, "1.2.3") {
+        Ok(text) => copy_error(rt, alloc, &IncrementError::NotAPrerelease(text)),
+        Err(_) => no_values(rt, "IncrementError::copy"),
     }
 }
