@@ -72,7 +72,7 @@ const OTHERS: &[&str] = &[
 
 fn is_read_alike(alloc: Global, text: &str) -> bool {
     match both_readers(alloc, text) {
-        Ok(Some((fast, Some(loose)))) => fast == loose,
+        Ok(Some((fast, loose))) => loose == Some(fast),
         _ => false,
     }
 }
