@@ -78,6 +78,11 @@ interval R s = if is_interval R s then Some s else None
 abbrev pub holds : {V : Type 0} → (V → V → Ordering) → Span V → V → Bool
 holds R s v = is_past R (lower_cut s.lower) v && not (is_past R (upper_cut s.upper) v)
 
+-- t lies within s, as cuts
+abbrev pub covers : {V : Type 0} → (V → V → Ordering) → Span V → Span V → Bool
+covers R s t =
+    is_le (cut_cmp R (lower_cut s.lower) (lower_cut t.lower)) && is_le (cut_cmp R (upper_cut t.upper) (upper_cut s.upper))
+
 -- the lower bound that is further up, the second of equal ones
 abbrev pub greater_lower : {V : Type 0} → (V → V → Ordering) → Bound V → Bound V → Bound V
 greater_lower R b c = if is_gt (cut_cmp R (lower_cut b) (lower_cut c)) then b else c

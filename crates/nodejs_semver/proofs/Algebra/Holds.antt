@@ -14,7 +14,8 @@ use Rattle.nodejs_semver.specs.Internal.Parts.{cut_bars, parts}
 use Rattle.nodejs_semver.specs.Ranges.View.{any_version}
 use Rattle.nodejs_semver.specs.Text.Runs.{Run, interval_of}
 use Rattle.nodejs_semver.specs.Internal.RunsFrom.{runs_of}
-use Rattle.semver_core.specs.Internal.Spaces.{is_empty, trim}
+use Rattle.semver_core.specs.Internal.Spaces.{trim}
+use Rattle.semver_core.specs.Lists.{is_empty}
 use Rattle.nodejs_semver.specs.Text.WrittenSet.{part_writes, run_writes, writes}
 use Rattle.nodejs_semver.proofs.Dividing.BarsDivide.{bars_divide}
 use Rattle.nodejs_semver.proofs.Reading.IdentifierLists.{and-left}

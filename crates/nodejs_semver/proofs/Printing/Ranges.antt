@@ -6,13 +6,13 @@ use Rattle.std.specs.Prelude.{◌&&◌, nat_le}
 use Rattle.std.proofs.lemmas.Bool.{cases_Bool}
 use Rattle.semver_core.specs.Cuts.{Span, is_interval}
 use Rattle.semver_core.specs.Printing.RoundTrip.{is_normal, IsReadable}
-use Rattle.semver_core.specs.Values.Order.{precedence}
+use Rattle.semver_core.specs.Values.Order.{precedence, version_eq}
 use Rattle.semver_core.specs.Values.Versions.{VersionValue}
 use Rattle.semver_core.specs.declared.cuts.bound.Bound.{Bound}
 use Rattle.semver_core.specs.declared.cuts.bound.Bound.TheVariants.{Unbounded, Before, After}
 use Rattle.nodejs_semver.specs.Printing.RoundTrip.{has_bound, is_printable, bounds_back, read_back, ReadsBack, ReadsEqual, RangesComeBack}
 use Rattle.nodejs_semver.specs.Text.Denotes.{denotes}
-use Rattle.nodejs_semver.specs.Printing.Text.{ties, bounds_text, range_text}
+use Rattle.nodejs_semver.specs.Printing.Text.{bounds_text, range_text}
 use Rattle.nodejs_semver.specs.Ranges.View.{is_bound_version, is_range_bound, is_range_span}
 use Rattle.nodejs_semver.specs.Internal.SameLaws.{bound_refl}
 use Rattle.nodejs_semver.specs.Ranges.Equality.{span_eq, range_eq}
@@ -25,7 +25,7 @@ bounds_same Unbounded upper = bound_refl upper
 bounds_same (After v) upper = and-both _ _ (ties_self v) (bound_refl upper)
 bounds_same (Before v) Unbounded = and-both _ _ (ties_self v) refl
 bounds_same (Before v) (Before w) = and-both _ _ (ties_self v) (ties_self w)
-bounds_same (Before v) (After w) = elim (cases_Bool (ties v w)) [
+bounds_same (Before v) (After w) = elim (cases_Bool (version_eq v w)) [
   | inl same ↦ rw same (and-both _ _ (ties_self v) same)
   | inr other ↦ rw other (and-both _ _ (ties_self v) (ties_self w))
 ]
@@ -87,7 +87,7 @@ again Unbounded upper = refl
 again (After v) upper = refl
 again (Before v) Unbounded = refl
 again (Before v) (Before w) = refl
-again (Before v) (After w) = elim (cases_Bool (ties v w)) [
+again (Before v) (After w) = elim (cases_Bool (version_eq v w)) [
   | inl same ↦ rw (same, ties_self v) refl
   | inr other ↦ rw (other, other) refl
 ]

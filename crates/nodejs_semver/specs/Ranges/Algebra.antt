@@ -3,7 +3,7 @@ use Rattle.std.specs.Prelude.{Bool, ◌&&◌, List, Option}
 use Rattle.std.specs.List.{list_any}
 use Rattle.std.specs.Ordering.{is_le}
 use Rattle.std.specs.declared.cmp.Ordering.{Ordering}
-use Rattle.semver_core.specs.Cuts.{Span, cut_cmp, lower_cut, upper_cut, meets_of, minus, if_any}
+use Rattle.semver_core.specs.Cuts.{Span, cut_cmp, lower_cut, upper_cut, meets_of, minus, if_any, covers}
 use Rattle.semver_core.specs.Values.Order.{precedence}
 use Rattle.semver_core.specs.Values.Versions.{VersionValue}
 
@@ -14,11 +14,6 @@ intersection ss ts = if_any (meets_of precedence ss ts)
 -- what is left of the first list, the second taken away one after another; none where nothing is left
 abbrev pub difference : List (Span VersionValue) → List (Span VersionValue) → Option (List (Span VersionValue))
 difference ss ts = if_any (minus precedence ss ts)
-
--- t lies within s, as cuts
-abbrev pub covers : {V : Type 0} → (V → V → Ordering) → Span V → Span V → Bool
-covers R s t =
-    is_le (cut_cmp R (lower_cut s.lower) (lower_cut t.lower)) && is_le (cut_cmp R (upper_cut t.upper) (upper_cut s.upper))
 
 -- some one span of the first list covers some one span of the second
 abbrev pub covers_one : List (Span VersionValue) → List (Span VersionValue) → Bool

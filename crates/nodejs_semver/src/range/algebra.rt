@@ -4,8 +4,8 @@ ghost use Rattle.std.specs.Prelude.{◌≡◌, ◌&&◌, ◌||◌, not, IfOk, tr
 ghost use Rattle.std.specs.List.{list_any};
 ghost use Rattle.semver_core.specs.Cuts.{list_holds, meet, option_list_holds};
 ghost use Rattle.semver_core.specs.Values.Order.{precedence};
-ghost use Rattle.semver_core.specs.Values.Versions.{VersionValue};
-ghost use Rattle.nodejs_semver.specs.Ranges.Gate.{accepts, option_accepts, is_release};
+ghost use Rattle.semver_core.specs.Values.Versions.{VersionValue, is_release};
+ghost use Rattle.nodejs_semver.specs.Ranges.Gate.{accepts, option_accepts};
 ghost use Rattle.nodejs_semver.specs.Ranges.Algebra.{intersection, difference, covers_one};
 
 use crate::Range;

@@ -1,7 +1,7 @@
 // Versions beside another one.
 
 ghost use Rattle.std.specs.Prelude.{◌≡◌, ◌+◌, ◌-◌, ◌<◌, ◌^◌, [], IfOk};
-ghost use Rattle.nodejs_semver.specs.Ranges.Gate.{is_release};
+ghost use Rattle.semver_core.specs.Values.Versions.{is_release};
 ghost use Rattle.nodejs_semver.specs.Internal.Candidates as spec;
 ghost use Rattle.semver_core.specs.Values.PartsView.{parts_value};
 ghost use Rattle.semver_core.specs.Values.Views.{ids_view};

@@ -10,7 +10,8 @@ use Rattle.std.proofs.lemmas.List.Folds.{list_all-append}
 use Rattle.std.proofs.Math.Seq.{get_or-append_right, take-append_seam}
 use Rattle.std.proofs.lemmas.Str.{IsUtf8-drop, IsUtf8-take, encode_ascii, encodes-append, length-encode, len_utf8_bounds}
 use Rattle.semver_core.specs.Text.Characters.{is_whitespace, begins, IsTrim, BeginsBlank, IsAfterBlank}
-use Rattle.semver_core.specs.Internal.Spaces.{space_len, after_spaces, drop_spaces, drop_end_spaces, is_empty, trim}
+use Rattle.semver_core.specs.Internal.Spaces.{space_len, after_spaces, drop_spaces, drop_end_spaces, trim}
+use Rattle.semver_core.specs.Lists.{is_empty}
 use Rattle.semver_core.specs.Text.Whitespace.{MiddleIsTrim, TrimIsMiddle, AfterBlankDropsSpaces, OneAfterBlank}
 use Rattle.semver_core.proofs.Text.Spaces.{drop_spaces-more, drop_spaces-none}
 use Rattle.semver_core.proofs.Text.SpaceLaw.{space_len-white, space_len-dark, space_len-inside}

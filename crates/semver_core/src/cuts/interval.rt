@@ -1,7 +1,7 @@
 // An interval: all points between two cuts.
 ghost use Rattle.std.specs.Prelude.{◌≡◌, ◌&&◌, ◌||◌, not, Option, Some, None, IfOk, IfErr, true, is_some};
 ghost use Rattle.std.specs.Ordering.{is_le, is_lt};
-ghost use Rattle.semver_core.specs.Cuts.{cut_cmp, holds, interval, is_interval, is_past, lower_cut, meet};
+ghost use Rattle.semver_core.specs.Cuts.{covers, cut_cmp, holds, interval, is_interval, is_past, lower_cut, meet};
 ghost use Rattle.semver_core.specs.Cuts.{option_holds, remainders, upper_cut};
 ghost use Rattle.semver_core.specs.Clips.{clip};
 
@@ -101,9 +101,7 @@ impl<V: Point> Interval<V> {
     /// Whether the other interval lies within this one: its lower cut is not below, and its upper
     /// cut not above.
     pub fn covers(&self, other: &Interval<V>) -> bool
-        ensures { result
-            ≡ (is_le (cut_cmp V.cmp (lower_cut self.now.lower) (lower_cut other.now.lower))
-            && is_le (cut_cmp V.cmp (upper_cut other.now.upper) (upper_cut self.now.upper))) }
+        ensures { result ≡ covers V.cmp self.now other.now }
     {
         lower_order(&self.lower, &other.lower).is_le()
             && upper_order(&other.upper, &self.upper).is_le()

@@ -1,0 +1,6 @@
+-- Statement: words about lists of any kind.
+use Rattle.std.specs.Prelude.{Bool, true, false, List, [], ◌∷◌}
+
+abbrev pub is_empty : {A : Type 0} → List A → Bool
+is_empty [] = true
+is_empty (x ∷ rest) = false
