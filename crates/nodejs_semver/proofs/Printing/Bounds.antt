@@ -4,7 +4,7 @@ use Rattle.std.specs.Cmp.{Equal-is, eq_by_cmp_equiv}
 use Rattle.std.specs.declared.cmp.Ordering.TheVariants.{Equal}
 use Rattle.std.proofs.lemmas.Bool.{cases_Bool}
 use Rattle.semver_core.specs.Cuts.{Span, is_interval}
-use Rattle.semver_core.specs.Printing.RoundTrip.{IsReadable}
+use Rattle.semver_core.specs.Internal.Readable.{IsReadable}
 use Rattle.semver_core.specs.Values.Order.{precedence, version_eq}
 use Rattle.semver_core.specs.Internal.OrderLaws.{precedence_total}
 use Rattle.semver_core.specs.Printing.Text.{version_text}

@@ -10,7 +10,8 @@ use Rattle.std.specs.List.{list_all, join_with_byte, AllByRecursion}
 use Rattle.semver_core.specs.Text.Characters.{is_whitespace, is_identifier_char}
 use Rattle.semver_core.specs.Cuts.{Span}
 use Rattle.semver_core.specs.Text.Identifiers.{Id, is_run}
-use Rattle.semver_core.specs.Printing.RoundTrip.{is_normal, IsReadable}
+use Rattle.semver_core.specs.Printing.RoundTrip.{is_normal}
+use Rattle.semver_core.specs.Internal.Readable.{IsReadable}
 use Rattle.semver_core.specs.Printing.Text.{id_text, marked_list, version_text}
 use Rattle.semver_core.specs.Values.Versions.{VersionValue}
 use Rattle.semver_core.specs.declared.cuts.bound.Bound.{Bound}

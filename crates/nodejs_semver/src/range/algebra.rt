@@ -2,11 +2,11 @@
 
 ghost use Rattle.std.specs.Prelude.{◌≡◌, ◌&&◌, ◌||◌, not, IfOk, true, false, is_some};
 ghost use Rattle.std.specs.List.{list_any};
-ghost use Rattle.semver_core.specs.Cuts.{list_holds, meet, option_list_holds};
+ghost use Rattle.semver_core.specs.Cuts.{meet};
 ghost use Rattle.semver_core.specs.Values.Order.{precedence};
 ghost use Rattle.semver_core.specs.Values.Versions.{VersionValue, is_release};
 ghost use Rattle.nodejs_semver.specs.Ranges.Gate.{accepts, option_accepts};
-ghost use Rattle.nodejs_semver.specs.Ranges.Algebra.{intersection, difference, covers_one};
+ghost use Rattle.nodejs_semver.specs.Ranges.Algebra.{intersection, difference, covers_one, list_holds, option_list_holds};
 
 use crate::Range;
 use crate::range::lists;

@@ -4,7 +4,7 @@ ghost use Rattle.std.specs.Prelude.{◌≡◌, ◌<◌, [], IfOk, OnOk, length, 
 ghost use Rattle.nodejs_semver.specs.Ranges.Gate.{accepts};
 ghost use Rattle.nodejs_semver.specs.Text.Denotes.{denotes};
 ghost use Rattle.nodejs_semver.specs.Text.WrittenSet.{writes};
-ghost use Rattle.semver_core.specs.Cuts.{if_any};
+ghost use Rattle.semver_core.specs.Lists.{if_any};
 ghost use Rattle.semver_core.specs.Failures.{RefusedOnlyIf};
 ghost use Rattle.semver_core.specs.Values.Versions.{VersionValue};
 
