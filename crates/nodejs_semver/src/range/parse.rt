@@ -31,7 +31,8 @@ impl Range {
         // The text is rejected only if it has none. The one other error is a failed allocation.
         ensures refused { RefusedOnlyIf result (denotes MAX_SAFE_INTEGER text.now ≡ []) }
         // With pre-releases included, the range accepts exactly the versions that the text writes.
-        ensures set { IfOk result (λ range. (v : VersionValue) → accepts range v true ≡ writes MAX_SAFE_INTEGER text.now v) }
+        ensures set { IfOk result (λ range.
+            (v : VersionValue) → accepts range v true ≡ writes MAX_SAFE_INTEGER text.now v) }
     {
         match read(alloc, text) {
             Ok(Some(range)) => Ok(range),

@@ -33,7 +33,8 @@ impl<V: Point> Model for Interval<V> {
 
     ghost view = { λ i. record { lower = i.lower; upper = i.upper } };
 
-    ghost invariant = { λ i. is_interval V.cmp (record { lower = i.lower; upper = i.upper }) ≡ true };
+    ghost invariant = { λ i.
+        is_interval V.cmp (record { lower = i.lower; upper = i.upper }) ≡ true };
 
     ghost inverse = { λ s. record { lower = s.lower; upper = s.upper } };
 }
@@ -110,7 +111,8 @@ impl<V: Point> Interval<V> {
     /// Whether the interval ends above the cut at which the other one begins. Two intervals meet
     /// exactly where each reaches the other.
     pub fn reaches(&self, other: &Interval<V>) -> bool
-        ensures { result ≡ is_lt (cut_cmp V.cmp (lower_cut other.now.lower) (upper_cut self.now.upper)) }
+        ensures { result
+            ≡ is_lt (cut_cmp V.cmp (lower_cut other.now.lower) (upper_cut self.now.upper)) }
     {
         is_below(&other.lower, &self.upper)
     }
@@ -237,7 +239,8 @@ fn copy_between<V: Point>(
     lower: &Bound<V>,
     upper: &Bound<V>,
 ) -> Result<Option<Interval<V>>, AllocError>
-    ensures { IfOk result (λ r. r ≡ interval V.cmp (record { lower = lower.now; upper = upper.now })) }
+    ensures { IfOk result (λ r.
+        r ≡ interval V.cmp (record { lower = lower.now; upper = upper.now })) }
 {
     if !is_below(lower, upper) {
         return Ok(None);
