@@ -63,8 +63,8 @@ impl Range {
         ensures releases { IfOk result (λ r. (v : VersionValue) → is_release v ≡ true →
             option_accepts r v false ≡ (accepts self.now v false && accepts other.now v false)) }
     {
-        let found = self.exact_intersection(alloc, other)?;
-        Ok(found)
+        let found = lists::intersections(alloc, self.intervals(), other.intervals())?;
+        Ok(Range::from_intervals(SmallVec::from_vec(found)))
     }
 
     /// The difference: what is left of each interval of this range, in order, once all of the
@@ -94,8 +94,8 @@ impl Range {
             option_accepts r v false
             ≡ (accepts self.now v false && not (accepts other.now v false))) }
     {
-        let left = self.exact_difference(alloc, other)?;
-        Ok(left)
+        let left = lists::differences(alloc, self.intervals(), other.intervals())?;
+        Ok(Range::from_intervals(SmallVec::from_vec(left)))
     }
 
     // Whether some pair of intervals meets.
@@ -106,21 +106,5 @@ impl Range {
         self.intervals()
             .iter()
             .any(|interval| lists::meets_one(interval, other.intervals()))
-    }
-
-    // The intersection as a list, in order and with its builds.
-    fn exact_intersection(&self, alloc: Global, other: &Range) -> Result<Option<Range>, AllocError>
-        ensures { IfOk result (λ r. r ≡ intersection self.now other.now) }
-    {
-        let found = lists::intersections(alloc, self.intervals(), other.intervals())?;
-        Ok(Range::from_intervals(SmallVec::from_vec(found)))
-    }
-
-    // The difference as a list, in order and with its builds.
-    fn exact_difference(&self, alloc: Global, other: &Range) -> Result<Option<Range>, AllocError>
-        ensures { IfOk result (λ r. r ≡ difference self.now other.now) }
-    {
-        let left = lists::differences(alloc, self.intervals(), other.intervals())?;
-        Ok(Range::from_intervals(SmallVec::from_vec(left)))
     }
 }
