@@ -15,8 +15,8 @@ use Rattle.semver_core.specs.declared.error.SemverError.{SemverError}
 abbrev pub json_string : List ℕ → Option (List ℕ)
 json_string text = option_and_then as_str (read text)
 
--- what is read of a string that may be missing: its version; a refusal exactly where there is no string or it has none;
--- or want of memory
+-- what is read of a string that may be missing: its version; a rejection exactly if there is no string or it has none;
+-- or an allocation failure
 abbrev pub ReadsVersion : Option (List ℕ) → Result VersionValue (Failure SemverError) → Type 0
 ReadsVersion found (Ok v) = IsSomeAnd found (λ text. Parses MAX_SAFE_INTEGER text v)
 ReadsVersion found (Err (Refused e)) = IfSome found (λ text. IsRefused MAX_SAFE_INTEGER text)

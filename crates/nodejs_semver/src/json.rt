@@ -22,7 +22,7 @@ pub fn version_to_value(alloc: Global, version: &Version) -> Result<Value, Alloc
 }
 
 /// Reads the version of a JSON string, as `Version::parse` does. Returns `SemverError` if the value
-/// is no string or its text has no version; the one other error is an allocation failure.
+/// is not a string or its text has no version; the only other error is an allocation failure.
 pub fn version_from_value(alloc: Global, value: &Value) -> Result<Version, Failure<SemverError>>
     ensures { ReadsVersion (as_str (view value.now)) result }
 {
@@ -42,8 +42,8 @@ pub fn version_to_json_text(alloc: Global, version: &Version) -> Result<String, 
 }
 
 /// Reads the version of a JSON text, as `Version::parse` reads its string. Returns `SemverError` if
-/// the text is not one JSON value, the value is no string, or the string has no version; the one
-/// other error is an allocation failure.
+/// the text is not one JSON value, the value is not a string, or the string has no version; the
+/// only other error is an allocation failure.
 pub fn version_from_json_text(alloc: Global, text: &str) -> Result<Version, Failure<SemverError>>
     ensures { ReadsVersion (json_string text.now) result }
 {
@@ -61,8 +61,8 @@ pub fn range_to_value(alloc: Global, range: &Range) -> Result<Value, AllocError>
     Ok(Value::String(range.to_string(alloc)?))
 }
 
-/// Reads the range of a JSON string, as `Range::parse` does. Returns `SemverError` if the value is no
-/// string or its text has no range; the one other error is an allocation failure.
+/// Reads the range of a JSON string, as `Range::parse` does. Returns `SemverError` if the value is
+/// not a string or its text has no range; the only other error is an allocation failure.
 pub fn range_from_value(alloc: Global, value: &Value) -> Result<Range, Failure<SemverError>>
     ensures { ReadsRange (as_str (view value.now)) result }
 {
@@ -82,8 +82,8 @@ pub fn range_to_json_text(alloc: Global, range: &Range) -> Result<String, AllocE
 }
 
 /// Reads the range of a JSON text, as `Range::parse` reads its string. Returns `SemverError` if the
-/// text is not one JSON value, the value is no string, or the string has no range; the one other
-/// error is an allocation failure.
+/// text is not one JSON value, the value is not a string, or the string has no range; the only
+/// other error is an allocation failure.
 pub fn range_from_json_text(alloc: Global, text: &str) -> Result<Range, Failure<SemverError>>
     ensures { ReadsRange (json_string text.now) result }
 {

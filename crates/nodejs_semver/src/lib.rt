@@ -1,7 +1,30 @@
-//! Versions and ranges as npm has them: which versions a range admits, which one is the best, and
-//! which number comes next.
+//! npm's versions and ranges: reads them, compares them, computes with ranges as sets, and finds
+//! the best, the smallest and the next version.
 //!
-//! Allocating functions take the allocator and report allocation failure in their error type.
+//! ```rust
+//! use nodejs_semver::{Range, Version};
+//! use std::test::Fail;
+//!
+//! #[test]
+//! fn the_best_of_two_versions(rt: HostRuntime) -> Result<(), Fail> {
+//!     let alloc = rt.alloc();
+//!     let range = Range::parse(alloc, "^1.2.3 || >=3.0.0-rc.1")?;
+//!     let beta = Version::parse(alloc, "1.3.0-beta")?;
+//!     assert!(rt; !range.satisfies(&beta));
+//!
+//!     let versions = [Version::from((1u64, 2, 9)), beta];
+//!     assert_eq!(rt; range.max_satisfying(&versions), Some(&versions[0]));
+//!
+//!     let smallest = range.min_version(alloc)?;
+//!     assert_eq!(rt; smallest, Some(Version::parse(alloc, "1.2.3")?));
+//!     Ok(())
+//! }
+//! ```
+//!
+//! Allocating functions take the allocator and report allocation failure in their error type:
+//! `AllocError`, or [`Failure`] where the function may also reject its input. A caller's own
+//! contract cites the definitions that the contracts here name; `docs/CALLING.md` of the repository
+//! shows how.
 #![tactic(auto)]
 
 pub mod json;

@@ -79,14 +79,14 @@ impl From<usize> for IdentifierBase {
     }
 }
 
-/// Why a version is not incremented.
+/// Why `Version::inc` returns no version.
 #[derive(Debug, Drop, PartialEq, Eq, Error)]
 pub enum IncrementError {
     /// The identifier is not non-empty runs of ASCII letters, digits and `-`, joined by `.`.
     #[error("invalid identifier: {0}")]
     InvalidIdentifier(String),
-    /// The word is none of the words, there is nothing to put into a pre-release, or the identifier
-    /// is there already.
+    /// The word is unknown, there is nothing to put into a pre-release, or the identifier is there
+    /// already.
     #[error("invalid increment argument: {0}")]
     InvalidIncrementArgument(String),
     /// `release` was asked of a version that is one. It holds the printed version.
@@ -98,7 +98,7 @@ pub enum IncrementError {
 }
 
 impl IncrementError {
-    /// The same error again. Fails only if allocation fails; copying `Overflow` never does.
+    /// A copy of the error. Fails only if allocation fails; copying `Overflow` never does.
     pub fn copy(&self, alloc: Global) -> Result<IncrementError, AllocError>
         ensures whole { IfOk result (λ e. fault_of e ≡ fault_of self.now) }
         ensures memory { OnErr result (HasText (fault_of self.now)) }
@@ -227,9 +227,9 @@ impl Version {
     ///
     /// | word | the next version |
     /// |---|---|
-    /// | `major` | the least release above with minor and patch 0: 2.0.0 after 1.2.3, and 1.0.0 after 1.0.0-1 |
-    /// | `minor` | the least release above with patch 0 in the same major |
-    /// | `patch` | the least release above in the same major and minor |
+    /// | `major` | the smallest release above with minor and patch 0: 2.0.0 after 1.2.3, and 1.0.0 after 1.0.0-1 |
+    /// | `minor` | the smallest release above with patch 0 in the same major |
+    /// | `patch` | the smallest release above in the same major and minor |
     /// | `premajor`, `preminor`, `prepatch` | the first pre-release of the next major, minor or patch: 2.0.0-0 after 1.2.3 |
     /// | `prerelease` | the next pre-release: 1.2.4-0 after 1.2.3, and 1.2.3-a.1 after 1.2.3-a.0 |
     /// | `pre` | the next pre-release of the same three numbers, which for a release is below it |
@@ -282,7 +282,7 @@ impl Version {
         // And the least version above, where the patch can rise or the pre-release has no number.
         ensures prerelease { word.now ≡ codes "prerelease" → IsPlain (given identifier.entry) base
             → CanStep self.now → IfAnswered (IsLeastAnswer (IsAbove self.now)) result }
-        // Without identifier it goes up, save `pre` on a release.
+        // Without an identifier the version rises, except by `pre` from a release.
         ensures above { HasNoIdentifier (given identifier.entry)
             → (word.now ≡ codes "pre" → is_release self.now ≡ false)
             → IfOk result (IsAbove self.now) }

@@ -54,8 +54,8 @@ impl Version {
     /// node-semver's loose grammar has it. Whatever follows is ignored: `1.2.3.4` is read as
     /// `1.2.3`.
     ///
-    /// `Refused` comes exactly where the text is longer or has no version at its front; `Memory`
-    /// only where the version has a pre-release or build metadata.
+    /// Returns `Refused` exactly if the text is longer or has no version at its front, and `Memory`
+    /// only if the version has a pre-release or build metadata.
     pub fn parse(alloc: Global, text: &str) -> Result<Version, Failure<SemverError>>
         // What is read is a version of the text.
         ensures ok { IfOk result (λ v. Parses MAX_SAFE_INTEGER text.now v) }

@@ -1,5 +1,5 @@
 -- Statement. What the texts of a question are read as, and what is replied. The texts are read from the left, and the
--- first that is no version, or no range, decides the fault.
+-- first that is no version, or no range, decides the error.
 use Rattle.std.specs.Prelude.{◌≡◌, ◌<◌, ◌⊎◌, ℕ, List, [], ◌∷◌, length, Bool, Option, IfSome, Result, Ok, Err, false, ⊤}
 use Rattle.std.specs.Borrow.{Bor}
 use Rattle.semver_core.specs.Cuts.{Span}
@@ -60,7 +60,7 @@ RangeAndVersion texts = Both (IsRangeOf texts.0.now) (IsVersionOf texts.1.now)
 abbrev pub RangeAndVersions : Bor (List ℕ) × Bor (List ℕ) → Result (List (Span VersionValue) × List VersionValue) Fault → Type 0
 RangeAndVersions texts = Both (IsRangeOf texts.0.now) (AreVersionsOf (fields texts.1.now))
 
--- a reply about what was read, or the word of the fault
+-- a reply about what was read, or the word of the error
 pub data On {A : Type 0} (Reads : Result A Fault → Type 0) (Reply : A → List ℕ → Type 0) (answer : List ℕ) : Type 0 where
   read : (value : A) → Reads (Ok value) → Reply value answer → On Reads Reply answer
   fault : (why : Fault) → Reads (Err why) → answer ≡ fault_word why → On Reads Reply answer

@@ -1,14 +1,14 @@
-// Why a line has no other answer.
+// The errors of a line.
 
 /// What is wrong with a line.
 #[derive(Clone, Copy, PartialEq, Eq, Debug)]
 pub enum Fault {
-    /// It asks no question: it is no UTF-8, its first field is no command, or the fields behind it
-    /// are not that command's.
+    /// The line asks no question: it is not UTF-8, its first field is not a command, or the fields
+    /// behind it are not that command's.
     BadLine,
-    /// A text that is to be a version is none.
+    /// `Version::parse` rejects a text.
     BadVersion,
-    /// A text that is to be a range is none.
+    /// `Range::parse` rejects a text.
     BadRange,
 }
 

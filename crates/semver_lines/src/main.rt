@@ -1,6 +1,6 @@
 //! Answers questions about versions and ranges, one a line: reads the lines from standard input and
-//! writes the answers to standard output. It takes no arguments. It exits with 0, or with 1 where
-//! an end failed or an allocation did.
+//! writes the answers to standard output. It takes no arguments. It exits with 0, or with 1 if
+//! reading, writing or an allocation failed.
 #![tactic(auto)]
 
 mod answer;

@@ -42,7 +42,7 @@ pub enum Question<'a> {
     /// `max;R;V;..`: the greatest of some versions that R accepts, or `none`. The second text holds
     /// the versions.
     Max((&'a str, &'a str)),
-    /// `min;R;V;..`: the least of some versions that R accepts, or `none`. The second text holds
+    /// `min;R;V;..`: the smallest of some versions that R accepts, or `none`. The second text holds
     /// the versions.
     Min((&'a str, &'a str)),
 }

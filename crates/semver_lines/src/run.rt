@@ -1,4 +1,4 @@
-// Answers each line that a reader gives.
+// Answers each line of an input.
 
 ghost use Rattle.std.specs.Prelude.{◌≡◌, ◌+◌, ◌<◌, ◌≤◌, ◌++◌, ◌∷◌, [], true, length, take, drop, IfSome, IfNone, IfOk, IfErr, OnOk, OnErr, string_bytes};
 ghost use Rattle.std.specs.Io.KnownBytes.{Appends, Consumes, Keeps, IsAtEnd};
@@ -17,9 +17,9 @@ use std::io::{Read, Write};
 pub enum RunFault {
     /// The input could not be read.
     Read,
-    /// The output could not be written, or took no byte.
+    /// The output could not be written, or accepted no byte.
     Write,
-    /// There was no memory.
+    /// An allocation failed.
     Memory,
 }
 
@@ -100,7 +100,7 @@ fn first_feed(bytes: &[u8]) -> Option<usize>
     memchr(b'\n', bytes)
 }
 
-// Writes these bytes by calls of `write` alone, of which none may take no byte.
+// Writes these bytes by calls of `write` alone. A call that accepts no byte is an error.
 fn write_out<W: Write>(writer: &mut W, bytes: &[u8]) -> Result<(), RunFault>
     ensures ok { OnOk result (Appends (W.contents writer.old) (W.contents writer.new) bytes.now) }
     ensures err { OnErr result (WritesFront (W.contents writer.old) (W.contents writer.new) bytes.now) }
@@ -117,15 +117,15 @@ fn write_out<W: Write>(writer: &mut W, bytes: &[u8]) -> Result<(), RunFault>
     Ok(())
 }
 
-// What a read fills. Its length is not told, so that no proof counts it out.
+// The buffer that a read fills. No clause tells its length, so that no proof counts it out.
 fn room(alloc: Global) -> Result<Vec<u8>, AllocError>
     ensures { IfOk result (λ room. 0 < length room.items) }
 {
     Vec::from_elem(alloc, 0u8, CHUNK)
 }
 
-// One read, and the answers of the lines that end in it, which are written before the next read. It
-// gives how many bytes it read.
+// One read, and the answers of the lines that end in it, which are written before the next read.
+// Returns how many bytes were read.
 fn turn<R: Read, W: Write>(
     alloc: Global,
     reader: &mut R,
@@ -162,12 +162,12 @@ fn finish<W: Write>(alloc: Global, writer: &mut W, lines: &mut Lines) -> Result<
 }
 
 /// Reads lines and writes an answer to each, with a line feed. The answers of the lines that a read
-/// completed are written before the next read. A last line without a line feed counts where it is
-/// not empty.
+/// completed are written before the next read. A last line without a line feed counts if it is not
+/// empty.
 ///
-/// Each error of either end is a fault at once, an interruption too, and so is a write that takes
-/// no byte. After `u64::MAX` reads the answer is `Read`. It takes memory for a chunk of the input,
-/// its answers and the longest line.
+/// Each error of the reader or the writer ends the run at once, an interruption too, and so does a
+/// write that accepts no byte. After `u64::MAX` reads the error is `Read`. Memory is allocated for
+/// a chunk of the input, its answers and the longest line.
 pub fn run<R: Read, W: Write>(alloc: Global, reader: &mut R, writer: &mut W) -> Result<(), RunFault>
     ensures { Ran result (R.remaining reader.old) (R.remaining reader.new) (W.contents writer.old) (W.contents writer.new) }
 {

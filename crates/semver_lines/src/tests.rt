@@ -1,4 +1,5 @@
 mod algebra;
+mod calling;
 mod cuts;
 mod difference;
 mod ends;
@@ -12,6 +13,7 @@ mod lists;
 mod outside;
 mod print;
 mod range;
+mod readme;
 mod run;
 mod scan;
 mod version;

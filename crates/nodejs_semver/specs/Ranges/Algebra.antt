@@ -1,4 +1,4 @@
--- Statement: the lists of intervals that the set algebra answers, in order and with the builds of their bounds.
+-- Statement: the lists of intervals that the set operations return, in order and with the builds of their bounds.
 use Rattle.std.specs.Prelude.{Bool, false, List, ◌++◌, Option, Some, None}
 use Rattle.std.specs.List.{list_any, flat_map, fold}
 use Rattle.std.specs.Option.{option_to_list}

@@ -14,7 +14,7 @@ pub record IsLeast (set : VersionValue → Bool) (v : VersionValue) : Type 0 whe
   pub inside : set v ≡ true
   pub least : (w : VersionValue) → set w ≡ true → is_le (precedence v w) ≡ true
 
--- the answer is the least of the set, or there is none and the set is empty
+-- the result is the least of the set, or it is None and the set is empty
 abbrev pub IsLeastOf : (VersionValue → Bool) → Option VersionValue → Type 0
 IsLeastOf set None = (v : VersionValue) → set v ≡ false
 IsLeastOf set (Some v) = IsLeast set v
@@ -31,7 +31,7 @@ begins_with (Before w) = Some w
 begins_with (After w) = Some (if is_release w then record w { patch = w.patch + 1; pre_release = [] }
     else record w { pre_release = w.pre_release ++ Numeric 0 ∷ [] })
 
--- the build of that version, where the answer is it, and else none
+-- the build of that version, if the result is it, and else none
 abbrev pub build_by : Option VersionValue → VersionValue → List Id
 build_by None v = []
 build_by (Some x) v = if version_eq x v then x.build else []
@@ -40,6 +40,6 @@ abbrev pub build_in : Option (Span VersionValue) → VersionValue → List Id
 build_in None v = []
 build_in (Some s) v = build_by (begins_with s.lower) v
 
--- the build of an answer: that of the lower bound from which it comes, of the first span that accepts it
+-- the build of a result: that of the lower bound from which it comes, of the first span that accepts it
 abbrev pub least_build : List (Span VersionValue) → VersionValue → List Id
 least_build ss v = build_in (find (λ s. holds precedence s v && lets_in s v) ss) v

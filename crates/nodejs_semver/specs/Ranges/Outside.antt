@@ -36,7 +36,7 @@ abbrev pub direction_char : OutsideDirection → ℕ
 direction_char Higher = 62
 direction_char Lower = 60
 
--- the direction of a character: every other one is refused
+-- the direction of a character: every other character is an error
 abbrev pub direction_of : ℕ → Result OutsideDirection RangeError
 direction_of c = if c == 62 then Ok Higher else if c == 60 then Ok Lower else Err (InvalidOutsideDirection c)
 

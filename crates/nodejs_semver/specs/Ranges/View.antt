@@ -18,7 +18,7 @@ is_range_bound limit (After v) = is_readable limit v
 abbrev pub is_range_span : ℕ → Span VersionValue → Bool
 is_range_span limit s = is_interval precedence s && (is_range_bound limit s.lower && is_range_bound limit s.upper)
 
--- the intervals of a range: one or more; a bound has no number past the greatest that is read by more than one
+-- the intervals of a range: one or more; no number of a bound is above the limit by more than one
 pub record IsRange (limit : ℕ) (ss : List (Span VersionValue)) : Type 0 where
   pub some : 0 < length ss
   pub each : list_all (is_range_span (limit + 1)) ss ≡ true

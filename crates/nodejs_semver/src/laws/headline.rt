@@ -11,26 +11,26 @@ ghost use Rattle.semver_core.specs.Values.Versions.{VersionValue};
 use crate::{Failure, MAX_SAFE_INTEGER, Range, SemverError, Version};
 use std::alloc::Global;
 
-/// What the public calls make of two texts. No range stands for the empty set.
+/// What the public calls return for two texts. No range stands for the empty set.
 #[derive(Debug, Drop)]
 pub struct Findings {
     /// The range of the first text.
     pub first: Range,
     /// What both ranges have in common.
     pub both: Option<Range>,
-    /// What the first range has and the second has not.
+    /// What the first range has and the second does not.
     pub first_alone: Option<Range>,
-    /// The least version that the first range accepts.
+    /// The smallest version that the first range accepts.
     pub least: Option<Version>,
 }
 
 /// The headline, for all texts a and b and every version: `Range::parse` accepts exactly the texts
 /// to which the word grammar gives a range. With pre-releases included a's range accepts exactly
 /// what a writes, `intersect` exactly what both texts write, and `difference` exactly what a writes
-/// and b does not, no range standing for the empty set. `min_version` is the least version that
-/// `satisfies` accepts, and none exactly where there is none.
+/// and b does not; no range stands for the empty set. `min_version` is the smallest version that
+/// `satisfies` accepts, and `None` exactly if there is none.
 ///
-/// `Range::satisfies_with_prerelease` answers what `accepts` says here, and `satisfies` the same
+/// `Range::satisfies_with_prerelease` returns what `accepts` says here, and `satisfies` the same
 /// with false for the flag.
 pub fn headline(alloc: Global, a: &str, b: &str) -> Result<Findings, Failure<SemverError>>
     ensures read { OnOk result ((0 < length (denotes MAX_SAFE_INTEGER a.now))
@@ -62,20 +62,20 @@ pub fn headline(alloc: Global, a: &str, b: &str) -> Result<Findings, Failure<Sem
     })
 }
 
-/// What the public calls answer of two texts and one version.
+/// What the public calls return for two texts and one version.
 #[derive(Debug, Drop)]
 pub struct FindingsAt {
     /// Whether the first range accepts the version, with pre-releases included.
     pub in_first: bool,
     /// The same of what both ranges have in common.
     pub in_both: bool,
-    /// The same of what the first range has and the second has not.
+    /// The same of what the first range has and the second does not.
     pub in_first_alone: bool,
-    /// The least version that the first range accepts.
+    /// The smallest version that the first range accepts.
     pub least: Option<Version>,
 }
 
-/// The headline at one version, in the answers of `Range::satisfies_with_prerelease`.
+/// The headline at one version, by the results of `Range::satisfies_with_prerelease`.
 pub fn headline_at(
     alloc: Global,
     a: &str,

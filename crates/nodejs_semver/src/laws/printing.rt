@@ -12,8 +12,8 @@ use std::alloc::{AllocError, Global};
 
 /// Printed ranges come back: a text that is printed of one interval or more, none of which is `*`,
 /// reads as an equal range. Their versions have no number above the limit, and identifiers that
-/// their own texts spell. Builds come back too, save that where an interval prints as one version,
-/// that version stands for both ends.
+/// their own texts spell. Builds come back too, but where an interval prints as one version, that
+/// version stands for both ends.
 pub fn printed_ranges_come_back(text: &str)
     ensures { RangesComeBack text.now }
 {
@@ -23,9 +23,9 @@ pub fn printed_ranges_come_back(text: &str)
 /// A range that is printed and read again. No interval of it is `*`, and no number is above
 /// `MAX_SAFE_INTEGER`.
 ///
-/// The answer is an equal range. Its builds are those of the first range too, save that where an
+/// Returns an equal range. Its builds are those of the first range too, except that where an
 /// interval prints as one version, that version stands for both ends. It prints as the same text.
-/// It is wanting only where memory is.
+/// Fails only if allocation fails.
 pub fn reread_range(alloc: Global, range: &Range) -> Result<Range, Failure<SemverError>>
     requires { list_all (is_printable MAX_SAFE_INTEGER) range.now ≡ true }
     ensures equal { IfOk result (λ again. range_eq again range.now ≡ true) }

@@ -50,7 +50,7 @@ pub fn words_at()
 {}
 
 /// With pre-releases included, the intervals of a range text hold exactly the versions that the
-/// text writes: those that pass, for some one run, all comparisons of its words.
+/// text writes: those that satisfy, for some one run, all comparisons of its words.
 pub fn intervals_hold_what_is_written()
     ensures { IntervalsHoldWritten }
 {}
@@ -69,7 +69,7 @@ pub fn common_ranges()
     ensures read { CommonRangesAreRead }
 {}
 
-/// On a common text both readers return the same range; elsewhere the fast one returns none.
+/// On a common text both readers return the same range; on another the fast one returns `None`.
 #[tactic(auto, using(crate::proofs::Common::Whole::fast_read))]
 pub fn both_readers(alloc: Global, text: &str) -> Result<Option<(Range, Option<Range>)>, AllocError>
     ensures same { IfOk result (λ found. IfSome found (λ both. Some both.0 ≡ both.1)) }

@@ -13,8 +13,8 @@ use semver_core::cuts::{Bound, Interval};
 use semver_core::{Accepts, Version};
 
 impl Range {
-    /// Whether the range accepts this version. A pre-release is accepted only where the interval
-    /// that holds it has a bound with a pre-release of the same three numbers: `>=1.2.3-a` accepts
+    /// Whether the range accepts this version. A pre-release is accepted only if the interval that
+    /// holds it has a bound with a pre-release of the same three numbers: `>=1.2.3-a` accepts
     /// 1.2.3-b and 1.3.0, and not 1.3.0-b. So the range without bounds, which `Range::any` returns,
     /// accepts no pre-release.
     pub fn satisfies(&self, version: &Version) -> bool

@@ -104,7 +104,7 @@ pub(crate) fn with_build(
     }
 }
 
-// The version of these parts, which are dropped where allocation fails.
+// The version of these parts, which are dropped if allocation fails.
 pub(crate) fn new_version(alloc: Global, parts: VersionParts) -> Result<Version, AllocError>
     ensures { IfOk result (λ v. v ≡ parts_value parts) }
 {

@@ -19,7 +19,7 @@ impl Range {
     ///
     /// An empty text is [`Range::any`], and so is a text whose parts are all empty. An empty part
     /// beside other parts is one interval without bounds in its place: `1.2.3||` reads as
-    /// `1.2.3||*`. A malformed word is skipped, so `foo 1.2.3` reads as `1.2.3`; a text with no
+    /// `1.2.3||*`. A malformed word is ignored, so `foo 1.2.3` reads as `1.2.3`; a text with no
     /// empty part and no word that has bounds, such as `foo`, is rejected with `SemverError`. A
     /// number above `MAX_SAFE_INTEGER` makes its word malformed, so that `>=9007199254740991.0.0
     /// <9007199254740992.0.0-0`, which `^9007199254740991` prints, reads as

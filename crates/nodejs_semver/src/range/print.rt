@@ -88,7 +88,7 @@ impl fmt::Display for Joined<'_> {
 /// above `MAX_SAFE_INTEGER`, as `laws::printed_ranges_come_back` says. Two texts are read as other
 /// ranges. `*` is read as `>=0.0.0`. And a range may have the number `MAX_SAFE_INTEGER + 1`, which
 /// is read nowhere: `^9007199254740991` prints `>=9007199254740991.0.0 <9007199254740992.0.0-0`,
-/// whose second word is malformed and so is skipped, without an error, when the text is read again.
+/// whose second word is malformed and so is ignored, without an error, when the text is read again.
 /// What is read is `>=9007199254740991.0.0`, a wider range.
 impl fmt::Display for Range {
     ghost output = { λ r. Some (range_text r) };

@@ -10,25 +10,25 @@ use Rattle.semver_core.specs.declared.error.Failure.TheVariants.{Refused, Memory
 use Rattle.semver_core.specs.declared.increment.IncrementError.{IncrementError}
 use Rattle.semver_core.specs.declared.increment.IncrementError.TheVariants as variant
 
--- the fault that an error tells
+-- the error as the table names it
 abbrev pub fault_of : IncrementError → Fault
 fault_of (variant.InvalidIdentifier text) = spec.InvalidIdentifier (string_bytes text)
 fault_of (variant.InvalidIncrementArgument text) = spec.InvalidIncrementArgument (string_bytes text)
 fault_of (variant.NotAPrerelease text) = spec.NotAPrerelease (string_bytes text)
 fault_of variant.Overflow = spec.Overflow
 
--- the fault comes with a text
+-- the error has a text
 abbrev pub HasText : Fault → Type 0
 HasText (spec.InvalidIdentifier text) = ⊤
 HasText (spec.InvalidIncrementArgument text) = ⊤
 HasText (spec.NotAPrerelease text) = ⊤
 HasText spec.Overflow = ⊥
 
--- the identifier that the caller passes, or none
+-- the identifier that is given, or none
 abbrev pub given : Option (Bor (List ℕ)) → Option (List ℕ)
 given id = option_copied id
 
--- the call returns this value, or an error that tells this fault, unless an allocation fails
+-- the call returns this value or this error, unless an allocation fails
 abbrev pub Returns : {A : Type 0} → Result A Fault → Result A (Failure IncrementError) → Type 0
 Returns expected (Ok value) = expected ≡ Ok value
 Returns expected (Err (Refused e)) = expected ≡ Err (fault_of e)

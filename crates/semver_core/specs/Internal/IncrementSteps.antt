@@ -11,13 +11,13 @@ use Rattle.semver_core.specs.declared.error.Failure.TheVariants.{Refused, Memory
 use Rattle.semver_core.specs.declared.identifier.Identifier.{Identifier}
 use Rattle.semver_core.specs.declared.increment.IncrementError.{IncrementError}
 
--- the call returns this list, or an error that tells this fault, unless an allocation fails
+-- the call returns this list or this error, unless an allocation fails
 abbrev pub ReturnsList : Result (List Id) Fault → Result (SmallVec Identifier) (Failure IncrementError) → Type 0
 ReturnsList expected (Ok list) = expected ≡ Ok (ids_view list.items)
 ReturnsList expected (Err (Refused e)) = expected ≡ Err (fault_of e)
 ReturnsList expected (Err (Memory e)) = ⊤
 
--- the error tells this fault, unless an allocation fails
+-- it is this error, unless an allocation fails
 abbrev pub RefusedWith : Fault → Failure IncrementError → Type 0
 RefusedWith fault (Refused e) = fault ≡ fault_of e
 RefusedWith fault (Memory e) = ⊤

@@ -62,12 +62,12 @@ triple_at limit text at =
     number_at limit text third >>= λ patch.
     Some (major.0, minor.0, patch.0, patch.1)
 
--- the list that was found, or none, and then nothing is passed
+-- the list that was found, or none, and then nothing is skipped
 abbrev pub or_nothing : ℕ → Option (List Id × ℕ) → List Id × ℕ
 or_nothing at None = ([], at)
 or_nothing at (Some found) = found
 
--- the pre-release at a place, and the place after it: one `-` is passed where it stands
+-- the pre-release at a place, and the place after it: one `-` is skipped where it stands
 abbrev pub pre_release_at : List ℕ → ℕ → List Id × ℕ
 pre_release_at text at = or_nothing at (list_at text (if begins (λ b. b == 45) (drop at text) then at + 1 else at))
 

@@ -12,7 +12,7 @@ pub record IsNumber (limit : ℕ) (digits : List ℕ) (n : ℕ) : Type 0 where
   pub value : n ≡ digits_value 10 digits
   pub safe : n ≤ limit
 
--- what follows a number is no digit, so that the digits are a whole run
+-- no digit follows the number, so that its digits are a whole run
 pub record IsWholeNumber (limit : ℕ) (digits rest : List ℕ) (n : ℕ) : Type 0 where
   pub number : IsNumber limit digits n
   pub ended : begins is_ascii_digit rest ≡ false

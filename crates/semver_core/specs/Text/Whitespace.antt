@@ -8,7 +8,7 @@ use Rattle.semver_core.specs.Internal.Spaces.{space_len, drop_spaces, trim}
 abbrev pub FrontIsFirstCharacter : Type 0
 FrontIsFirstCharacter = (c : ℕ) (rest : List ℕ) → space_len (encode_utf8 c ++ rest) ≡ (if is_whitespace c then len_utf8 c else 0)
 
--- The text without the whitespace round it is the trimmed middle.
+-- The text without the whitespace around it is the trimmed middle.
 abbrev pub TrimIsMiddle : Type 0
 TrimIsMiddle = (text : List ℕ) → IsUtf8 text → IsTrim text (trim text)
 

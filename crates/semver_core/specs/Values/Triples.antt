@@ -18,7 +18,7 @@ abbrev pub IsReleaseOf : Option ℕ → Option ℕ → Option ℕ → VersionVal
 IsReleaseOf (Some a) (Some b) (Some c) v = v ≡ release_value a b c
 IsReleaseOf _ _ _ v = ⊥
 
--- the release of these numbers, and a refusal exactly where one of them is negative
+-- the release of these numbers, and an error exactly if one of them is negative
 abbrev pub GivesRelease : ℤ → ℤ → ℤ → Result VersionValue NegativeNumber → Type 0
 GivesRelease a b c (Ok v) = IsReleaseOf (from_natural a) (from_natural b) (from_natural c) v
 GivesRelease a b c (Err e) = AnyNegative (from_natural a) (from_natural b) (from_natural c)

@@ -15,7 +15,7 @@ abbrev pub IsId : Id → Type 0
 IsId (Numeric n) = n < 2 ^ 64
 IsId (AlphaNumeric text) = IsUtf8 text
 
--- the versions that there are
+-- every version: its numbers fit 64 bits, and so do those of its identifiers
 pub record IsVersion (v : VersionValue) : Type 0 where
   pub major : v.major < 2 ^ 64
   pub minor : v.minor < 2 ^ 64

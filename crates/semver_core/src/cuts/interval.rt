@@ -133,7 +133,7 @@ impl<V: Point> Interval<V> {
     /// no points, as that of `>1` and `<2` over whole numbers.
     ///
     /// Both intervals are borrowed, so the two bounds are copied: the call fails only if that
-    /// allocation fails. Where both are at hand to be consumed, `into_intersection` copies nothing.
+    /// allocation fails. To consume both intervals and copy nothing, see `into_intersection`.
     pub fn intersect(
         &self,
         alloc: Global,

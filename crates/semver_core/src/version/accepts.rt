@@ -46,7 +46,7 @@ impl Version {
         range.accepts(self, false)
     }
 
-    /// The same with the flag passed on: `set.accepts(version, include_prerelease)`.
+    /// The same with the caller's flag: `set.accepts(version, include_prerelease)`.
     pub fn satisfies_with_prerelease<R: Accepts>(&self, range: &R, include_prerelease: bool) -> bool
         ensures { result ≡ R.accepts range.now self.now include_prerelease }
     {

@@ -29,7 +29,7 @@ pub struct VersionParts {
 }
 
 impl VersionParts {
-    /// The whole value again, build included. It takes no memory where both lists are empty.
+    /// A copy of all five values. Fails only if allocation fails; empty lists allocate nothing.
     pub fn copy(&self, alloc: Global) -> Result<VersionParts, AllocError>
         ensures whole { IfOk result (λ p. parts_value p ≡ parts_value self.now) }
         ensures memory { OnErr result (HasIdentifiers (parts_value self.now)) }
@@ -170,8 +170,8 @@ impl Version {
         })
     }
 
-    /// The whole value again, build included. It takes no memory where the version has no
-    /// identifiers.
+    /// A copy of the whole version, build included. Fails only if allocation fails; a version
+    /// without identifiers allocates nothing.
     pub fn copy(&self, alloc: Global) -> Result<Version, AllocError>
         ensures whole { IfOk result (λ v. v ≡ self.now) }
         ensures memory { OnErr result (HasIdentifiers self.now) }
@@ -192,7 +192,7 @@ impl Point for Version {
     }
 }
 
-// The identifiers again, inline where they fit. It takes no memory where there are none.
+// A copy of the identifiers, inline where they fit. An empty list allocates nothing.
 pub(crate) fn copy_list(alloc: Global, list: &[Identifier]) -> Result<Identifiers, AllocError>
     ensures whole { IfOk result (λ copy. ids_view copy.items ≡ ids_view list.now) }
     ensures memory { OnErr result (0 < length list.now) }
@@ -202,7 +202,7 @@ pub(crate) fn copy_list(alloc: Global, list: &[Identifier]) -> Result<Identifier
     Ok(copy)
 }
 
-// Fills an empty list with the identifiers of another. It takes no memory where there are none.
+// Fills an empty list with copies of these identifiers. An empty list allocates nothing.
 fn copy_into(alloc: Global, from: &[Identifier], to: &mut Identifiers) -> Result<(), AllocError>
     requires { to.old.items ≡ [] }
     ensures whole { OnOk result (ids_view to.new.items ≡ ids_view from.now) }

@@ -14,7 +14,7 @@ IsReadAs view (Err (Memory error)) Reads = ⊤
 abbrev pub IsRead : {A : Type 0} → Result A (Failure Fault) → (Result A Fault → Type 0) → Type 0
 IsRead result Reads = IsReadAs (λ value. value) result Reads
 
--- an empty text became the reply, or stayed empty as a fault is the reply, unless an allocation failed
+-- an empty text became the reply, or stayed empty as an error is the reply, unless an allocation failed
 abbrev pub IsTold : Result ⊤ (Failure Fault) → List ℕ → (List ℕ → Type 0) → Type 0
 IsTold (Ok done) answer Reply = Reply answer
 IsTold (Err (Refused fault)) answer Reply = Reply (fault_word fault) × (answer ≡ [])

@@ -42,7 +42,7 @@ pub record Turned (had left held holds : Option (List ℕ)) (pending after bytes
   pub answers : Answers (cut_lines pending bytes) written
   pub kept : after ≡ cut_rest pending bytes
 
--- what a fault leaves: some bytes were read, and a part of the answers to the lines that end in them is written
+-- what an error leaves: some bytes were read, and a part of the answers to the lines that end in them is written
 abbrev pub Stopped : (had left held holds : Option (List ℕ)) (pending : List ℕ) → RunFault → Type 0
 Stopped had left held holds pending Read = Keeps had left × Keeps held holds
 Stopped had left held holds pending Memory = (bytes written : List ℕ) × Consumes had left bytes × Appends held holds written × AnswersFront (cut_lines pending bytes) written

@@ -1,0 +1,31 @@
+//! Checks a lock file of npm: reads a `package-lock.json` from standard input and names each
+//! dependency whose locked version its range rejects. It takes no arguments. It exits with 0 if
+//! every dependency is satisfied, absent by leave or skipped, and with 1 otherwise.
+#![tactic(auto)]
+
+mod check;
+mod finding;
+mod lock;
+mod verdict;
+
+use crate::check::check;
+use crate::finding::Counts;
+use crate::lock::Lock;
+use anyhow::{Context, Result};
+use serde_json::Value;
+use std::io;
+use std::process::ExitCode;
+
+fn main(rt: HostRuntime) -> Result<ExitCode> {
+    let alloc = rt.alloc();
+    let text = io::read_to_string(alloc, rt.stdin())?;
+    let file = Value::from_str(alloc, &text).context("the input is not JSON")?;
+    let lock = Lock::of_file(&file)?;
+    let findings = check(alloc, lock)?;
+    for finding in findings.iter().filter(|finding| finding.is_printed()) {
+        println!(rt; "{finding}")?;
+    }
+    let counts = Counts::of(lock, &findings);
+    println!(rt; "{counts}")?;
+    Ok(counts.exit_code())
+}

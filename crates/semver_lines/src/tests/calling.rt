@@ -1,0 +1,42 @@
+ghost use Rattle.std.specs.Prelude.{◌≡◌, ◌&&◌, ◌⊎◌, [], IfOk, true, false};
+ghost use Rattle.nodejs_semver.specs.Ranges.Gate.{accepts, option_accepts};
+ghost use Rattle.nodejs_semver.specs.Text.Denotes.{denotes};
+ghost use Rattle.nodejs_semver.specs.Text.WrittenSet.{writes};
+ghost use Rattle.semver_core.specs.Failures.{RefusedOnlyIf};
+ghost use Rattle.semver_core.specs.Text.Parsing.{IsRefused, Parses};
+ghost use Rattle.semver_core.specs.Values.Versions.{VersionValue};
+ghost use Rattle.semver_core.specs.declared.TheConstants.{MAX_SAFE_INTEGER};
+
+use nodejs_semver::{Failure, Range, SemverError, Version};
+use std::alloc::Global;
+use std::test::Fail;
+
+// Whether the version of a text satisfies the range of another text.
+fn admits(alloc: Global, range: &str, version: &str) -> Result<bool, Failure<SemverError>>
+    ensures ok { IfOk result (λ answer. (v : VersionValue) × Parses MAX_SAFE_INTEGER version.now v
+        × (answer ≡ accepts (denotes MAX_SAFE_INTEGER range.now) v false)) }
+    ensures refused { RefusedOnlyIf result ((denotes MAX_SAFE_INTEGER range.now ≡ [])
+        ⊎ IsRefused MAX_SAFE_INTEGER version.now) }
+{
+    let range = Range::parse(alloc, range)?;
+    let version = Version::parse(alloc, version)?;
+    Ok(range.satisfies(&version))
+}
+
+// What two range texts have in common, or `None` if no version is in both.
+fn both(alloc: Global, one: &str, other: &str) -> Result<Option<Range>, Failure<SemverError>>
+    ensures { IfOk result (λ found. (v : VersionValue) → option_accepts found v true
+        ≡ (writes MAX_SAFE_INTEGER one.now v && writes MAX_SAFE_INTEGER other.now v)) }
+{
+    let one = Range::parse(alloc, one)?;
+    let other = Range::parse(alloc, other)?;
+    Ok(one.intersect(alloc, &other)?)
+}
+
+#[test]
+fn callers_run(rt: HostRuntime) -> Result<(), Fail> {
+    assert!(rt; admits(rt.alloc(), "^1.2.3", "1.9.0")?);
+    let found = both(rt.alloc(), "^1.2.3", "<1.5.0")?;
+    assert_eq!(rt; found, Some(Range::parse(rt.alloc(), ">=1.2.3 <1.5.0")?));
+    Ok(())
+}
