@@ -32,8 +32,8 @@ first_field text at h =
     let divided : text ≡ take at text ++ 59 ∷ drop (at + 1) text =
     sym (take-append-drop at text) ∙ ap (λ l. take at text ++ l) (drop-cons text at 0 inside ∙ ap (λ b. b ∷ drop (suc at) text) mark) ∙ ap (λ n. take at text ++ 59 ∷ drop n text) next in
     let before = All-from_get_or (λ b. (b == 59) ≡ false) (take at text) 0 (λ i lt.
-        let here : i < at = omega (arith, length-take-le at text (omega (arith, inside))) in
-        ap (λ b. b == 59) (get_or-take at text i 0 here) ∙ none_here 59 text i (λ is. h.0.before i (omega arith) here is)) in
+    let here : i < at = omega (arith, length-take-le at text (omega (arith, inside))) in
+    ap (λ b. b == 59) (get_or-take at text i 0 here) ∙ none_here 59 text i (λ is. h.0.before i (omega arith) here is)) in
     ap fields divided ∙ slice_split_at (λ b. b == 59) (take at text) 59 (drop (at + 1) text) before refl
 
 -- a text may be cut before its first `;` and behind it
