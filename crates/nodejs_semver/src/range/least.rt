@@ -22,7 +22,7 @@ ghost use Rattle.std.specs.Prelude.{◌&&◌, ◌-◌, ◌<◌, ◌≡◌, ◌^�
 use crate::Range;
 use crate::range::gate::{accepts, accepts_one};
 use crate::range::neighbours::{
-    bare, first_pre, is_release, next_patch, next_pre, release_of, with_build,
+    bare, first_pre, is_first_pre, is_release, next_patch, next_pre, release_of, with_build,
 };
 use semver_core::Version;
 use semver_core::cuts::{Bound, Interval};
@@ -184,6 +184,22 @@ impl<'a> Search<'a> {
         }
     }
 
+    // Considers the first versions from the first pre-release with these three numbers on. Mostly
+    // the version is that pre-release, as in `<2.0.0-0`, and none is made.
+    fn consider_first_pre(&mut self, alloc: Global, version: &Version) -> Result<(), AllocError>
+        ensures { let set = stated.beyond self.old.kept.now self.old.removed.now in
+            OnOk result (self.new ≡ record self.old {
+              best =
+                  fold (spec.better set) self.old.best
+                  (spec.firsts (Beside (spec.first_pre version.now) Near));
+            }) }
+    {
+        if is_first_pre(version) {
+            return self.consider_from(alloc, version);
+        }
+        self.consider_from(alloc, &first_pre(alloc, version)?)
+    }
+
     // Considers the first versions past the cut below the pre-releases that a bound names.
     fn consider_named(&mut self, alloc: Global, bound: &Bound<Version>) -> Result<(), AllocError>
         ensures { let set = stated.beyond self.old.kept.now self.old.removed.now in
@@ -195,7 +211,7 @@ impl<'a> Search<'a> {
     {
         match bound {
             Bound::Before(version) | Bound::After(version) if !is_release(version) => {
-                self.consider_from(alloc, &first_pre(alloc, version)?)
+                self.consider_first_pre(alloc, version)
             }
             _ => Ok(()),
         }

@@ -77,6 +77,15 @@ impl<V: Point> Interval<V> {
         }
     }
 
+    /// The same of bounds that are known to be in order, without the comparison.
+    #[inline(always)]
+    pub fn of_ordered(lower: Bound<V>, upper: Bound<V>) -> Interval<V>
+        requires { is_interval V.cmp (record { lower = lower; upper = upper }) ≡ true }
+        ensures { result ≡ record { lower = lower; upper = upper } }
+    {
+        Interval { lower, upper }
+    }
+
     /// Whether the point lies between the two cuts.
     pub fn contains(&self, point: &V) -> bool
         ensures { result ≡ holds V.cmp self.now point.now }
