@@ -35,7 +35,8 @@ pub fn version_from_value(alloc: Global, value: &Value) -> Result<Version, Failu
 /// Returns the compact JSON text of the printed version, quotes and escapes included. Fails only if
 /// allocation fails.
 pub fn version_to_json_text(alloc: Global, version: &Version) -> Result<String, AllocError>
-    ensures { IfOk result (λ text. string_bytes text ≡ compact_text (string (version_text version.now))) }
+    ensures { IfOk result (λ text.
+        string_bytes text ≡ compact_text (string (version_text version.now))) }
 {
     Value::String(version.to_string(alloc)?).to_string(alloc)
 }
@@ -74,7 +75,8 @@ pub fn range_from_value(alloc: Global, value: &Value) -> Result<Range, Failure<S
 /// Returns the compact JSON text of the printed range, quotes included. Fails only if allocation
 /// fails.
 pub fn range_to_json_text(alloc: Global, range: &Range) -> Result<String, AllocError>
-    ensures { IfOk result (λ text. string_bytes text ≡ compact_text (string (range_text range.now))) }
+    ensures { IfOk result (λ text.
+        string_bytes text ≡ compact_text (string (range_text range.now))) }
 {
     Value::String(range.to_string(alloc)?).to_string(alloc)
 }

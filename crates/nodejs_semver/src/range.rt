@@ -3,7 +3,7 @@
 ghost use Rattle.std.specs.Prelude.{◌≡◌, ◌+◌, IfOk, IsOk, true};
 ghost use Rattle.std.specs.List.{list_all};
 ghost use Rattle.semver_core.specs.declared.TheConstants.{MAX_SAFE_INTEGER};
-ghost use Rattle.semver_core.specs.Cuts.{if_any};
+ghost use Rattle.semver_core.specs.Lists.{if_any};
 ghost use Rattle.nodejs_semver.specs.Ranges.View.{IsRange, is_range_span, any_version};
 
 mod algebra;

@@ -1,10 +1,8 @@
 -- Statement: cuts of a line of ordered points, and the spans between two cuts.
-use Rattle.std.specs.Prelude.{ℕ, Bool, true, false, ◌&&◌, not, List, [], ◌∷◌, ◌++◌, if◌then◌else◌, Option, Some, None, is_some}
+use Rattle.std.specs.Prelude.{ℕ, Bool, true, false, ◌&&◌, not, if◌then◌else◌, Option, Some, None, is_some}
 use Rattle.std.specs.declared.cmp.Ordering.{Ordering}
 use Rattle.std.specs.declared.cmp.Ordering.TheVariants.{Less, Equal, Greater}
 use Rattle.std.specs.Ordering.{ordering_then, on, nat_cmp, is_lt, is_le, is_gt}
-use Rattle.std.specs.List.{list_any, flat_map, fold}
-use Rattle.std.specs.Option.{option_to_list}
 use Rattle.semver_core.specs.declared.cuts.bound.Bound.{Bound}
 use Rattle.semver_core.specs.declared.cuts.bound.Bound.TheVariants.{Unbounded, Before, After}
 
@@ -78,6 +76,11 @@ interval R s = if is_interval R s then Some s else None
 abbrev pub holds : {V : Type 0} → (V → V → Ordering) → Span V → V → Bool
 holds R s v = is_past R (lower_cut s.lower) v && not (is_past R (upper_cut s.upper) v)
 
+-- t lies within s, as cuts
+abbrev pub covers : {V : Type 0} → (V → V → Ordering) → Span V → Span V → Bool
+covers R s t =
+    is_le (cut_cmp R (lower_cut s.lower) (lower_cut t.lower)) && is_le (cut_cmp R (upper_cut t.upper) (upper_cut s.upper))
+
 -- the lower bound that is further up, the second of equal ones
 abbrev pub greater_lower : {V : Type 0} → (V → V → Ordering) → Bound V → Bound V → Bound V
 greater_lower R b c = if is_gt (cut_cmp R (lower_cut b) (lower_cut c)) then b else c
@@ -108,29 +111,3 @@ remainders R s t = if is_some (meet R s t) then (left_below R s t, left_above R 
 abbrev pub option_holds : {V : Type 0} → (V → V → Ordering) → Option (Span V) → V → Bool
 option_holds R None v = false
 option_holds R (Some s) v = holds R s v
-
--- a list of spans holds a point where one of them does
-abbrev pub list_holds : {V : Type 0} → (V → V → Ordering) → List (Span V) → V → Bool
-list_holds R ss v = list_any (λ s. holds R s v) ss
-
--- the same where there may be no list, which stands for the empty set
-abbrev pub option_list_holds : {V : Type 0} → (V → V → Ordering) → Option (List (Span V)) → V → Bool
-option_list_holds R None v = false
-option_list_holds R (Some ss) v = list_holds R ss v
-
--- the list, if it is not empty
-abbrev pub if_any : {A : Type 0} → List A → Option (List A)
-if_any [] = None
-if_any (x ∷ xs) = Some (x ∷ xs)
-
--- what the pairs of two lists have in common, the first list outside
-abbrev pub meets_of : {V : Type 0} → (V → V → Ordering) → List (Span V) → List (Span V) → List (Span V)
-meets_of R ss ts = flat_map (λ s. flat_map (λ t. option_to_list (meet R s t)) ts) ss
-
--- the remainder of s as a list
-abbrev pub remainder : {V : Type 0} → (V → V → Ordering) → Span V → Span V → List (Span V)
-remainder R s t = option_to_list (remainders R s t).0 ++ option_to_list (remainders R s t).1
-
--- each of ss with the remainders by ts taken one after another
-abbrev pub minus : {V : Type 0} → (V → V → Ordering) → List (Span V) → List (Span V) → List (Span V)
-minus R ss ts = fold (λ left t. flat_map (λ s. remainder R s t) left) ss ts

@@ -2,15 +2,14 @@
 use Rattle.std.specs.Prelude.{◌==◌, ◌&&◌, not, ℕ, if◌then◌else◌, List, codes, Option, Some, None}
 use Rattle.std.specs.declared.cmp.Ordering.{Ordering}
 use Rattle.std.specs.declared.cmp.Ordering.TheVariants as order
-use Rattle.semver_core.specs.Increments.Table.{is_release}
 use Rattle.semver_core.specs.Values.Order.{precedence}
-use Rattle.semver_core.specs.Values.Versions.{VersionValue}
+use Rattle.semver_core.specs.Values.Versions.{VersionValue, is_release}
 use Rattle.semver_core.specs.declared.difference.VersionDiff.{VersionDiff}
 use Rattle.semver_core.specs.declared.difference.VersionDiff.TheVariants.{Major, Minor, Patch, PreMajor, PreMinor, PrePatch, PreRelease}
 
 -- the kind, by the lower and the higher of two versions
-abbrev pub difference_up : VersionValue → VersionValue → VersionDiff
-difference_up low high =
+abbrev pub kind_up : VersionValue → VersionValue → VersionDiff
+kind_up low high =
     if not (is_release low) && is_release high then
     (if low.minor == 0 && low.patch == 0 then Major
     else if not (high.patch == 0) then Patch
@@ -21,21 +20,21 @@ difference_up low high =
     else if not (low.patch == high.patch) then (if is_release high then Patch else PrePatch)
     else PreRelease
 
-abbrev pub difference_by : Ordering → VersionValue → VersionValue → Option VersionDiff
-difference_by order.Less v w = Some (difference_up v w)
-difference_by order.Equal v w = None
-difference_by order.Greater v w = Some (difference_up w v)
+abbrev pub kind_by : Ordering → VersionValue → VersionValue → Option VersionDiff
+kind_by order.Less v w = Some (kind_up v w)
+kind_by order.Equal v w = None
+kind_by order.Greater v w = Some (kind_up w v)
 
 -- none between equal versions
-abbrev pub difference : VersionValue → VersionValue → Option VersionDiff
-difference v w = difference_by (precedence v w) v w
+abbrev pub kind_between : VersionValue → VersionValue → Option VersionDiff
+kind_between v w = kind_by (precedence v w) v w
 
 -- the word of a kind
-abbrev pub word_of : VersionDiff → List ℕ
-word_of Major = codes "major"
-word_of Minor = codes "minor"
-word_of Patch = codes "patch"
-word_of PreMajor = codes "premajor"
-word_of PreMinor = codes "preminor"
-word_of PrePatch = codes "prepatch"
-word_of PreRelease = codes "prerelease"
+abbrev pub kind_word : VersionDiff → List ℕ
+kind_word Major = codes "major"
+kind_word Minor = codes "minor"
+kind_word Patch = codes "patch"
+kind_word PreMajor = codes "premajor"
+kind_word PreMinor = codes "preminor"
+kind_word PrePatch = codes "prepatch"
+kind_word PreRelease = codes "prerelease"

@@ -3,5 +3,6 @@ pub mod IncrementSteps
 pub mod Successors
 pub mod OrderLaws
 pub mod Spaces
+pub mod Readable
 pub mod ListView
 pub mod CommonReading

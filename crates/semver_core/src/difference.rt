@@ -2,7 +2,7 @@
 
 ghost use Rattle.std.specs.Prelude.{◌≡◌, ◌↔◌, IsNone};
 ghost use Rattle.std.specs.declared.cmp.Ordering.TheVariants.{Equal};
-ghost use Rattle.semver_core.specs.Difference.{difference, difference_up};
+ghost use Rattle.semver_core.specs.Difference.{kind_between, kind_up};
 ghost use Rattle.semver_core.specs.Values.Order.{precedence};
 
 use crate::Version;
@@ -37,11 +37,11 @@ pub type ReleaseType = VersionDiff;
 /// nothing.
 impl fmt::Display for VersionDiff {
     ghost use Rattle.std.specs.Prelude.{Some};
-    ghost use Rattle.semver_core.specs.Difference.{word_of};
+    ghost use Rattle.semver_core.specs.Difference.{kind_word};
 
-    ghost output = { λ kind. Some (word_of kind) };
+    ghost output = { λ kind. Some (kind_word kind) };
 
-    ghost styled_output = { λ kind _. Some (word_of kind) };
+    ghost styled_output = { λ kind _. Some (kind_word kind) };
 
     fn fmt<W: fmt::Write>(&self, f: &mut fmt::Formatter<W>) -> fmt::Result {
         f.write_str(match self {
@@ -57,8 +57,8 @@ impl fmt::Display for VersionDiff {
 }
 
 // The kind that a version and a higher one differ by.
-fn difference_up(low: &Version, high: &Version) -> VersionDiff
-    ensures { result ≡ difference_up low.now high.now }
+fn kind_up(low: &Version, high: &Version) -> VersionDiff
+    ensures { result ≡ kind_up low.now high.now }
 {
     let to_release = is_release(high);
     if !is_release(low) && to_release {
@@ -104,14 +104,14 @@ impl Version {
     /// decides, and whether the higher version is a release.
     #[tactic(auto, using(crate::proofs::Increments::Differences::difference_symmetric))]
     pub fn diff(&self, other: &Version) -> Option<VersionDiff>
-        ensures value { result ≡ difference self.now other.now }
+        ensures value { result ≡ kind_between self.now other.now }
         ensures none { IsNone result ↔ (precedence self.now other.now ≡ Equal) }
-        ensures symmetric { result ≡ difference other.now self.now }
+        ensures symmetric { result ≡ kind_between other.now self.now }
     {
         match self.cmp(other) {
-            Ordering::Less => Some(difference_up(self, other)),
+            Ordering::Less => Some(kind_up(self, other)),
             Ordering::Equal => None,
-            Ordering::Greater => Some(difference_up(other, self)),
+            Ordering::Greater => Some(kind_up(other, self)),
         }
     }
 }

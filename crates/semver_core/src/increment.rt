@@ -5,7 +5,7 @@ ghost use Rattle.semver_core.specs.Increments.Table as spec;
 ghost use Rattle.semver_core.specs.Increments.Least.{CanStep, HasNoIdentifier, IsAbove, IsLeastAnswer, IsLeastOrOverflow, IsNextMajor, IsNextMinor, IsNextPatch, IsOfNextMajor, IsOfNextMinor, IsOfNextPatch, IsPlain};
 ghost use Rattle.semver_core.specs.Increments.View.{HasText, IfAnswered, Returns, fault_of, given};
 ghost use Rattle.semver_core.specs.Internal.IncrementSteps.{RefusedWith};
-ghost use Rattle.semver_core.specs.Values.Versions.{IsVersion};
+ghost use Rattle.semver_core.specs.Values.Versions.{IsVersion, is_release};
 
 use crate::increment::words::by_word;
 use crate::{Failure, Version};
@@ -120,7 +120,7 @@ impl IncrementError {
 
 // Whether the version has no pre-release.
 pub(crate) fn is_release(version: &Version) -> bool
-    ensures { result ≡ spec.is_release version.now }
+    ensures { result ≡ is_release version.now }
 {
     !version.is_prerelease()
 }
@@ -284,7 +284,7 @@ impl Version {
             → CanStep self.now → IfAnswered (IsLeastAnswer (IsAbove self.now)) result }
         // Without an identifier the version rises, except by `pre` from a release.
         ensures above { HasNoIdentifier (given identifier.entry)
-            → (word.now ≡ codes "pre" → spec.is_release self.now ≡ false)
+            → (word.now ≡ codes "pre" → is_release self.now ≡ false)
             → IfOk result (IsAbove self.now) }
         ensures build { IfOk result (λ next. next.build ≡ self.now.build) }
     {

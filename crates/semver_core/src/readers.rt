@@ -3,6 +3,7 @@
 mod fast;
 mod loose;
 
+pub(crate) use crate::readers::fast::numbers;
 pub use crate::readers::fast::version_fast;
-pub(crate) use crate::readers::loose::front_of_numbers;
+pub(crate) use crate::readers::loose::{front_of_numbers, lists_at};
 pub use crate::readers::loose::version_loose;

@@ -291,14 +291,28 @@ fn goes_on_at(text: &str, at: usize) -> bool
 // number does not fit.
 #[inline(always)]
 #[tactic(auto, using(crate::proofs::Text::OnePass::grown_small, crate::proofs::Text::OnePass::grown_big))]
-fn grown(number: Option<u64>, byte: u8) -> Option<u64>
-    ensures { result ≡ grown number byte }
+fn grown(value: u64, byte: u8) -> Option<u64>
+    ensures { result ≡ grown (Some value) byte }
 {
-    let value = number?;
     if !byte.is_ascii_digit() {
         return None;
     }
     value.checked_mul(10)?.checked_add(u64::from(byte - b'0'))
+}
+
+// Where the run ends that goes on at a place.
+#[inline(always)]
+#[tactic(auto, using(crate::proofs::Text::OnePass::run_step, crate::proofs::Text::OnePass::run_stop, crate::proofs::Text::OnePass::run_past))]
+fn run_end(bytes: &[u8], start: usize) -> usize
+    requires { start ≤ length bytes.now }
+    ensures { (result, None) ≡ run_from None start (drop start bytes.now) }
+{
+    'run: for end in start..bytes.len() {
+        if !is_identifier_char(bytes[end]) {
+            return end;
+        }
+    }
+    bytes.len()
 }
 
 // Where the run at a place ends, and the number that it writes, in one pass.
@@ -308,15 +322,18 @@ fn scan_run(bytes: &[u8], start: usize) -> (usize, Option<u64>)
     requires { start ≤ length bytes.now }
     ensures { result ≡ run_from (Some 0) start (drop start bytes.now) }
 {
-    let mut number = Some(0u64);
-    'run: for end in start..bytes.len() {
+    let mut number = 0u64;
+    'digits: for end in start..bytes.len() {
         let byte = bytes[end];
         if !is_identifier_char(byte) {
-            return (end, number);
+            return (end, Some(number));
         }
-        number = grown(number, byte);
+        match grown(number, byte) {
+            Some(next) => number = next,
+            None => return (run_end(bytes, end + 1), None),
+        }
     }
-    (bytes.len(), number)
+    (bytes.len(), Some(number))
 }
 
 // The same in a text, where a run begins at the place.

@@ -1,11 +1,12 @@
 // Versions: five values.
 
-ghost use Rattle.std.specs.Prelude.{◌≡◌, ◌↔◌, Some, refl, IsTrue, IfOk, All, true, false, length, ◌<◌};
-ghost use Rattle.semver_core.specs.Failures.{MemoryOnlyIf, RefusedOnlyIf};
+ghost use Rattle.std.specs.Prelude.{◌≡◌, ◌↔◌, Some, refl, IsTrue, IfOk, All, true, false, length, ◌<◌, ◌≤◌};
+ghost use Rattle.semver_core.specs.Failures.{MemoryOnlyIf, NeverRefused, RefusedOnlyIf};
 ghost use Rattle.semver_core.specs.Text.VersionText.{Reads, HasNoVersion, HasVersionWithIdentifiers};
 ghost use Rattle.semver_core.specs.Text.Parsing.{Parses, IsRefused, NeedsMemory};
-ghost use Rattle.semver_core.specs.Values.Versions.{VersionValue, IsVersion, IsId, release_value};
+ghost use Rattle.semver_core.specs.Values.Versions.{VersionValue, HasIdentifiers, IsVersion, IsId, release_value};
 ghost use Rattle.semver_core.specs.Internal.ListView.{IsFull, build_of, pre_release_of};
+ghost use Rattle.semver_core.specs.Internal.Reading.{qualified};
 ghost use Rattle.semver_core.specs.Values.Views.{ids_view, id_view};
 
 pub mod accepts;
@@ -14,7 +15,7 @@ pub(crate) mod lists;
 mod order;
 pub mod parts;
 
-use crate::readers::{version_fast, version_loose};
+use crate::readers::{lists_at, numbers, version_loose};
 use crate::version::lists::Lists;
 use crate::{Failure, Identifier, MAX_LENGTH, MAX_SAFE_INTEGER, SemverError};
 use std::alloc::Global;
@@ -67,11 +68,13 @@ impl Version {
         if text.len() > MAX_LENGTH {
             return Err(Failure::Refused(SemverError));
         }
-        match version_fast(alloc, text) {
-            Ok(Some(version)) => Ok(version),
-            Ok(None) => parse_loose(alloc, text),
-            Err(error) => Err(Failure::Memory(error)),
+        let Some((major, minor, patch, end)) = numbers(text) else {
+            return parse_loose(alloc, text);
+        };
+        if end == text.len() {
+            return Ok(Version::release(major, minor, patch));
         }
+        parse_lists(alloc, text, major, minor, patch, end)
     }
 
     // The release of three numbers.
@@ -170,8 +173,27 @@ impl Version {
     }
 }
 
-// Reads the version at the front of a text of any length, for `Version::parse` where the text is
-// not a common one.
+// The version of three numbers and of the identifiers behind them, for `Version::parse`.
+#[inline(never)]
+fn parse_lists(
+    alloc: Global,
+    text: &str,
+    major: u64,
+    minor: u64,
+    patch: u64,
+    at: usize,
+) -> Result<Version, Failure<SemverError>>
+    requires { at ≤ length text.now }
+    ensures ok { IfOk result (λ v. v ≡ qualified text.now (major, minor, patch, at)) }
+    ensures never { NeverRefused result }
+    ensures memory { MemoryOnlyIf result (HasIdentifiers (qualified text.now (major, minor, patch, at))) }
+{
+    let (lists, _) = lists_at(alloc, text, at)?;
+    Ok(Version::from_parts(major, minor, patch, lists))
+}
+
+// Reads the version at the front of a text of any length, for `Version::parse` where the text does
+// not begin with the numbers or with `v` and the numbers.
 #[cold]
 #[inline(never)]
 fn parse_loose(alloc: Global, text: &str) -> Result<Version, Failure<SemverError>>

@@ -3,8 +3,7 @@ use Rattle.std.proofs.Common.{◌≡◌, ◌≢◌, ◌<◌, ◌==◌, ◌∙◌
 use Rattle.std.proofs.lemmas.Bool.{false≢true}
 use Rattle.std.proofs.lemmas.List.Splits.{length-slice_split}
 use Rattle.std.specs.Str.{bytes_eq}
-use Rattle.semver_lines.specs.Internal.CommandWords as by_command
-use Rattle.semver_lines.specs.Internal.CommandWords.{IsUnknown}
+use Rattle.semver_lines.specs.Internal.CommandWords.{IsUnknown, command_word}
 use Rattle.semver_lines.specs.Commands.{Asks}
 use Rattle.semver_lines.specs.Lines.{fields}
 use Rattle.semver_lines.specs.declared.command.Command.{Command}
@@ -33,7 +32,7 @@ command_of (Min texts) = command.Min
 
 -- the first field of its line
 abbrev pub word_of : Question → List ℕ
-word_of question = by_command.word_of (command_of question)
+word_of question = command_word (command_of question)
 
 pub head_of : List (List ℕ) → List ℕ
 head_of [] = []

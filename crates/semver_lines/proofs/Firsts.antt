@@ -1,29 +1,46 @@
--- The first `;` of a line, and the first line feed of an input.
+-- The first `;` of a text, and the first line feed of an input.
 use Rattle.std.proofs.Common.{◌≡◌, ◌==◌, ◌<◌, ◌+◌, ◌∙◌, ◌++◌, ◌∷◌, ℕ, suc, Bor, true, false, not, List, [], Option, Some, None, IfSome, IfNone, Result, Ok, Err, OnOk, is_ok, if◌then◌else◌, length, take, drop, get_or, refl, sym, ap, subst, arith, inl, inr, drop-cons, take-append-drop}
 use Rattle.memchr.specs.Find.{IsFirstByte, is_byte}
 use Rattle.std.proofs.lemmas.Bool.{cases_Bool, eqb-true}
 use Rattle.std.proofs.lemmas.List.{get_or-take, length-take-le}
 use Rattle.std.proofs.lemmas.List.Elements.{All-from_get_or}
-use Rattle.std.proofs.lemmas.List.Splits.{slice_split_first, slice_split_none}
-use Rattle.std.proofs.lemmas.List.Sums.{fails_before_first, list_all-from_AllPass}
-use Rattle.std.specs.List.{after_first, before_first, position_or_len}
-use Rattle.std.specs.Option.{MatchOption}
-use Rattle.std.specs.Prelude.{⊤}
+use Rattle.std.proofs.lemmas.List.Splits.{slice_split_at, slice_split_none}
+use Rattle.std.proofs.lemmas.List.Sums.{list_all-from_AllPass}
+use Rattle.std.proofs.lemmas.Str.{IsCharBoundary-after_ascii, IsCharBoundary-before_ascii}
+use Rattle.std.specs.Prelude.{⊤, IsCharBoundary, IsUtf8}
 use Rattle.std.specs.declared.alloc.AllocError.{AllocError}
 use Rattle.semver_lines.specs.Lines.{fields, no_feed}
 
--- a text with no `;` is one field
-pub one_field : (text : List ℕ) → position_or_len (λ b. b == 59) text ≡ length text → fields text ≡ text ∷ []
-one_field text e =
-    slice_split_none (λ b. b == 59) text (All-from_get_or (λ b. (b == 59) ≡ false) text 0 (λ i h. fails_before_first (λ b. b == 59) text i 0 (omega arith)))
+-- the byte does not stand in these places
+none_here : (b : ℕ) (text : List ℕ) (i : ℕ) → ((get_or text i 0 == b) ≡ true → ⊥) → (get_or text i 0 == b) ≡ false
+none_here b text i none = elim (cases_Bool (get_or text i 0 == b)) [
+  | inl here ↦ absurd (none here)
+  | inr other ↦ other
+]
 
--- what a cut at the first `;` says
-pub first_cut : (text : List ℕ) (cut : Option (Bor (List ℕ) × Bor (List ℕ)))
-    → MatchOption cut (position_or_len (λ b. b == 59) text ≡ length text)
-    (λ x. (position_or_len (λ b. b == 59) text < length text) × (x.0.now ≡ before_first (λ b. b == 59) text) × (x.1.now ≡ after_first (λ b. b == 59) text))
-    → IfSome cut (λ x. fields text ≡ x.0.now ∷ fields x.1.now) × IfNone cut (fields text ≡ text ∷ [])
-first_cut text None h = (tt, one_field text h)
-first_cut text (Some x) h = (rw (h.1, h.2) (slice_split_first (λ b. b == 59) text 0 h.0), tt)
+-- a text with no `;` is one field
+pub one_field : (text : List ℕ) → IsFirstByte (is_byte 59) text None → fields text ≡ text ∷ []
+one_field text h =
+    slice_split_none (λ b. b == 59) text (All-from_get_or (λ b. (b == 59) ≡ false) text 0 (λ i inside. none_here 59 text i (λ is. h i (omega arith) inside is)))
+
+-- the first field ends before the first `;`
+pub first_field : (text : List ℕ) (at : ℕ) → IsFirstByte (is_byte 59) text (Some at) → fields text ≡ take at text ∷ fields (drop (at + 1) text)
+first_field text at h =
+    let inside = h.0.high in
+    let mark : get_or text at 0 ≡ 59 = eqb-true (get_or text at 0) 59 h.1 in
+    let next : suc at ≡ at + 1 = omega arith in
+    let divided : text ≡ take at text ++ 59 ∷ drop (at + 1) text =
+    sym (take-append-drop at text) ∙ ap (λ l. take at text ++ l) (drop-cons text at 0 inside ∙ ap (λ b. b ∷ drop (suc at) text) mark) ∙ ap (λ n. take at text ++ 59 ∷ drop n text) next in
+    let before = All-from_get_or (λ b. (b == 59) ≡ false) (take at text) 0 (λ i lt.
+    let here : i < at = omega (arith, length-take-le at text (omega (arith, inside))) in
+    ap (λ b. b == 59) (get_or-take at text i 0 here) ∙ none_here 59 text i (λ is. h.0.before i (omega arith) here is)) in
+    ap fields divided ∙ slice_split_at (λ b. b == 59) (take at text) 59 (drop (at + 1) text) before refl
+
+-- a text may be cut before its first `;` and behind it
+pub mark_boundaries : (text : List ℕ) (at : ℕ) → IsUtf8 text → IsFirstByte (is_byte 59) text (Some at) → IsCharBoundary text at × IsCharBoundary text (at + 1)
+mark_boundaries text at utf8 h =
+    let low : get_or text at 0 < 128 = omega (arith, eqb-true (get_or text at 0) 59 h.1) in
+    (IsCharBoundary-before_ascii text at h.0.high low, IsCharBoundary-after_ascii text at utf8 h.0.high low)
 
 no_feed_by : (text : List ℕ) → ((i : ℕ) → i < length text → (get_or text i 0 == 10) ≡ true → ⊥) → no_feed text ≡ true
 no_feed_by text none = list_all-from_AllPass (λ b. not (b == 10)) text (All-from_get_or (λ b. not (b == 10) ≡ true) text 0 (λ i h. elim (cases_Bool (get_or text i 0 == 10)) [

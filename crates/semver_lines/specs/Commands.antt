@@ -1,6 +1,6 @@
 -- Statement. The questions of the lines: the fields that ask each one, and what it is answered.
 use Rattle.std.specs.Prelude.{◌≡◌, ℕ, List, [], ◌∷◌, codes, Some, None, true, false}
-use Rattle.semver_core.specs.Difference.{difference}
+use Rattle.semver_core.specs.Difference.{kind_between}
 use Rattle.semver_core.specs.Increments.Table.{answer_of_inc}
 use Rattle.semver_core.specs.Values.Order.{precedence}
 use Rattle.semver_core.specs.Printing.Text.{version_text}
@@ -41,7 +41,7 @@ Asks line (Min (r, vs)) = line ≡ codes "min" ∷ r.now ∷ fields vs.now
 abbrev pub IsReply : Question → List ℕ → Type 0
 IsReply (Cmp texts) = On (TwoVersions texts) (λ vw. Says (order_word (precedence vw.0 vw.1)))
 IsReply (Ver v) = On (IsVersionOf v.now) (λ v. Says (version_text v))
-IsReply (Diff texts) = On (TwoVersions texts) (λ vw. Says (difference_word (difference vw.0 vw.1)))
+IsReply (Diff texts) = On (TwoVersions texts) (λ vw. Says (difference_word (kind_between vw.0 vw.1)))
 IsReply (Inc (v, word)) = On (IsVersionOf v.now) (λ v. Says (next_text (answer_of_inc v word.now None None)))
 IsReply (IncWith (v, word, id)) =
     On (IsVersionOf v.now) (λ v. Says (next_text (answer_of_inc v word.now (Some id.now) None)))

@@ -52,7 +52,7 @@ order_word Greater = codes "greater"
 -- the kind of a difference
 abbrev pub difference_word : Option VersionDiff → List ℕ
 difference_word None = codes "none"
-difference_word (Some kind) = difference.word_of kind
+difference_word (Some kind) = difference.kind_word kind
 
 -- a version, printed, where there is one
 abbrev pub version_or_none : Option VersionValue → List ℕ

@@ -21,12 +21,12 @@ pub enum Command {
 
 impl Command {
     ghost use Rattle.std.specs.Prelude.{◌≡◌, IfSome, IfNone};
-    ghost use Rattle.semver_lines.specs.Internal.CommandWords.{word_of, IsUnknown};
+    ghost use Rattle.semver_lines.specs.Internal.CommandWords.{command_word, IsUnknown};
 
     /// The command of this word.
     #[inline]
     pub fn of(word: &str) -> Option<Command>
-        ensures some { IfSome result (λ command. word.now ≡ word_of command) }
+        ensures some { IfSome result (λ command. word.now ≡ command_word command) }
         ensures none { IfNone result (IsUnknown word.now) }
     {
         match word.as_bytes() {

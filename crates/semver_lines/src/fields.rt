@@ -3,13 +3,16 @@
 ghost use Rattle.std.specs.Prelude.{◌≡◌, ◌≢◌, [], ◌∷◌, IfSome, IfNone, length};
 ghost use Rattle.semver_lines.specs.Lines.{fields};
 
+use memchr::memchr;
+
 /// The first field, and the text behind its `;`; `None` where the text is one field.
 #[inline(always)]
 pub fn first(text: &str) -> Option<(&str, &str)>
     ensures some { IfSome result (λ cut. fields text.now ≡ cut.0.now ∷ fields cut.1.now) }
     ensures none { IfNone result (fields text.now ≡ text.now ∷ []) }
 {
-    text.split_once(';')
+    let at = memchr(b';', text.as_bytes())?;
+    Some((&text[..at], &text[at + 1..]))
 }
 
 /// The field of a text that has just one.

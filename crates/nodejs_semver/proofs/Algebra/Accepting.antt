@@ -8,14 +8,15 @@ use Rattle.std.specs.declared.cmp.Ordering.TheVariants.{Less, Equal, Greater}
 use Rattle.std.specs.Ordering.{ordering_reverse, is_lt, is_gt}
 use Rattle.std.specs.Cmp.{IsTotalOrder, upto, tied_itself}
 use Rattle.semver_core.proofs.CutLaws.{cut_total, is_past-down_back, option_holds-interval, option_holds-meet}
-use Rattle.semver_core.specs.Cuts.{Span, Cut, cut_cmp, lower_cut, upper_cut, is_past, is_interval, interval, holds, greater_lower, lesser_upper, meet, left_below, left_above, remainder, option_holds, list_holds, meets_of, minus, if_any}
+use Rattle.semver_core.specs.Cuts.{Span, Cut, cut_cmp, lower_cut, upper_cut, is_past, is_interval, interval, holds, greater_lower, lesser_upper, meet, left_below, left_above, option_holds}
+use Rattle.semver_core.specs.Lists.{if_any}
 use Rattle.semver_core.specs.Values.Order.{precedence}
 use Rattle.semver_core.specs.Internal.OrderLaws.{precedence_total}
-use Rattle.semver_core.specs.Values.Versions.{VersionValue}
+use Rattle.semver_core.specs.Values.Versions.{VersionValue, is_release}
 use Rattle.semver_core.specs.declared.cuts.bound.Bound.{Bound}
 use Rattle.semver_core.specs.declared.cuts.bound.Bound.TheVariants.{Unbounded, Before, After}
-use Rattle.nodejs_semver.specs.Ranges.Gate.{is_release, names, lets_in, accepts, option_accepts}
-use Rattle.nodejs_semver.specs.Ranges.Algebra.{intersection}
+use Rattle.nodejs_semver.specs.Ranges.Gate.{names, lets_in, accepts, option_accepts}
+use Rattle.nodejs_semver.specs.Ranges.Algebra.{intersection, remainder, list_holds, meets_of, minus}
 use Rattle.nodejs_semver.proofs.Algebra.Gate.{named_by, lets_in-meet, names_below, names_above, past_lower, not_past_upper}
 
 -- the span holds v and lets it in

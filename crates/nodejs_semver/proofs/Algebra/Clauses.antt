@@ -2,13 +2,13 @@
 use Rattle.std.proofs.Common.{◌≡◌, refl, sym, ◌∙◌, ap, ℕ, ◌+◌, true, false, ◌&&◌, ◌||◌, not, List, [], ◌∷◌, Option, Some, None}
 use Rattle.std.specs.Cmp.{first_so, second_so}
 use Rattle.std.specs.List.{list_all}
-use Rattle.semver_core.specs.Cuts.{Span, is_interval, list_holds, option_list_holds, meets_of, minus}
+use Rattle.semver_core.specs.Cuts.{Span, is_interval}
 use Rattle.semver_core.specs.Values.Order.{precedence}
 use Rattle.semver_core.specs.Internal.OrderLaws.{precedence_total}
-use Rattle.semver_core.specs.Values.Versions.{VersionValue}
+use Rattle.semver_core.specs.Values.Versions.{VersionValue, is_release}
 use Rattle.semver_core.specs.declared.TheConstants.{MAX_SAFE_INTEGER}
-use Rattle.nodejs_semver.specs.Ranges.Gate.{is_release, accepts, option_accepts}
-use Rattle.nodejs_semver.specs.Ranges.Algebra.{intersection, difference}
+use Rattle.nodejs_semver.specs.Ranges.Gate.{accepts, option_accepts}
+use Rattle.nodejs_semver.specs.Ranges.Algebra.{intersection, difference, list_holds, option_list_holds, meets_of, minus}
 use Rattle.nodejs_semver.specs.Ranges.View.{IsRange, is_range_span, is_range_bound}
 use Rattle.nodejs_semver.proofs.Algebra.Accepting.{both_accept, one_accepts, kept_accepted, accepts-release, option_accepts-if_any}
 use Rattle.nodejs_semver.proofs.Algebra.Holds.{accepts-held}

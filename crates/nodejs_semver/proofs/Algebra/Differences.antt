@@ -12,7 +12,8 @@ use Rattle.std.specs.declared.cmp.Ordering.{Ordering}
 use Rattle.std.specs.declared.cmp.Ordering.TheVariants.{Less, Equal, Greater}
 use Rattle.semver_core.proofs.CutLaws.{cut_total}
 use Rattle.semver_core.specs.Clips.{clip}
-use Rattle.semver_core.specs.Cuts.{Span, Cut, Start, Beside, End, cut_cmp, lower_cut, upper_cut, is_interval, greater_lower, lesser_upper, left_below, left_above, remainder, minus}
+use Rattle.semver_core.specs.Cuts.{Span, Cut, Start, Beside, End, cut_cmp, lower_cut, upper_cut, is_interval, greater_lower, lesser_upper, left_below, left_above}
+use Rattle.nodejs_semver.specs.Ranges.Algebra.{remainder, minus}
 use Rattle.semver_core.specs.declared.cuts.bound.Bound.{Bound}
 use Rattle.semver_core.specs.declared.cuts.bound.Bound.TheVariants.{Unbounded, Before, After}
 use Rattle.nodejs_semver.specs.Ranges.Along.{IsAlong}

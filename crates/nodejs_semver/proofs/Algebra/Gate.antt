@@ -9,10 +9,11 @@ use Rattle.semver_core.specs.Cuts.{Span, holds, Side, Cut, Beside, Near, Far, si
 use Rattle.semver_core.specs.Text.Identifiers.{Id}
 use Rattle.semver_core.specs.Values.Order.{pre_cmp, precedence}
 use Rattle.semver_core.specs.Internal.OrderLaws.{precedence_total}
-use Rattle.semver_core.specs.Values.Versions.{VersionValue}
+use Rattle.semver_core.specs.Values.Versions.{VersionValue, is_release}
 use Rattle.semver_core.specs.declared.cuts.bound.Bound.{Bound}
 use Rattle.semver_core.specs.declared.cuts.bound.Bound.TheVariants.{Unbounded, Before, After}
-use Rattle.nodejs_semver.specs.Ranges.Gate.{is_empty, is_release, same_triple, names, lets_in}
+use Rattle.nodejs_semver.specs.Ranges.Gate.{same_triple, names, lets_in}
+use Rattle.semver_core.specs.Lists.{is_empty}
 
 -- the order of the three numbers
 abbrev pub triple_cmp : VersionValue → VersionValue → Ordering

@@ -4,7 +4,8 @@ use Rattle.std.specs.Prelude.{◌&&◌, ◌||◌, flat_map, if◌then◌else◌}
 use Rattle.std.specs.Cmp.{IsTotalOrder}
 use Rattle.std.specs.List.{list_all, list_any}
 use Rattle.std.specs.declared.cmp.Ordering.{Ordering}
-use Rattle.semver_core.specs.Cuts.{Span, holds, if_any, list_holds}
+use Rattle.semver_core.specs.Cuts.{Span, holds}
+use Rattle.nodejs_semver.specs.Ranges.Algebra.{list_holds}
 use Rattle.semver_core.specs.Values.Order.{precedence}
 use Rattle.semver_core.specs.Internal.OrderLaws.{precedence_total}
 use Rattle.semver_core.specs.Values.Versions.{VersionValue}
@@ -14,7 +15,8 @@ use Rattle.nodejs_semver.specs.Internal.Parts.{cut_bars, parts}
 use Rattle.nodejs_semver.specs.Ranges.View.{any_version}
 use Rattle.nodejs_semver.specs.Text.Runs.{Run, interval_of}
 use Rattle.nodejs_semver.specs.Internal.RunsFrom.{runs_of}
-use Rattle.semver_core.specs.Internal.Spaces.{is_empty, trim}
+use Rattle.semver_core.specs.Internal.Spaces.{trim}
+use Rattle.semver_core.specs.Lists.{is_empty, if_any}
 use Rattle.nodejs_semver.specs.Text.WrittenSet.{part_writes, run_writes, writes}
 use Rattle.nodejs_semver.proofs.Dividing.BarsDivide.{bars_divide}
 use Rattle.nodejs_semver.proofs.Reading.IdentifierLists.{and-left}

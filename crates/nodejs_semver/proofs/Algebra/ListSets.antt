@@ -4,7 +4,9 @@ use Rattle.std.specs.declared.cmp.Ordering.{Ordering}
 use Rattle.std.specs.Cmp.{IsTotalOrder}
 use Rattle.std.specs.List.{flat_map}
 use Rattle.std.specs.Option.{option_to_list}
-use Rattle.semver_core.specs.Cuts.{Span, holds, meet, remainders, remainder, option_holds, list_holds, option_list_holds, if_any, meets_of, minus}
+use Rattle.semver_core.specs.Cuts.{Span, holds, meet, remainders, option_holds}
+use Rattle.nodejs_semver.specs.Ranges.Algebra.{remainder, list_holds, option_list_holds, meets_of, minus}
+use Rattle.semver_core.specs.Lists.{if_any}
 use Rattle.semver_core.proofs.CutLaws.{option_holds-meet, remainders-hold}
 
 and_false : (a : Bool) → false ≡ (a && false)

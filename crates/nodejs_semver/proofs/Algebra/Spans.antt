@@ -5,7 +5,8 @@ use Rattle.std.specs.List.{list_all, flat_map}
 use Rattle.std.specs.Option.{option_to_list}
 use Rattle.std.specs.declared.cmp.Ordering.{Ordering}
 use Rattle.std.specs.Ordering.{is_lt, is_gt}
-use Rattle.semver_core.specs.Cuts.{Span, Cut, Start, Beside, End, cut_cmp, lower_cut, upper_cut, is_interval, greater_lower, lesser_upper, meet, left_below, left_above, remainder, meets_of, minus}
+use Rattle.semver_core.specs.Cuts.{Span, Cut, Start, Beside, End, cut_cmp, lower_cut, upper_cut, is_interval, greater_lower, lesser_upper, meet, left_below, left_above}
+use Rattle.nodejs_semver.specs.Ranges.Algebra.{remainder, meets_of, minus}
 use Rattle.semver_core.specs.declared.cuts.bound.Bound.{Bound}
 use Rattle.semver_core.specs.declared.cuts.bound.Bound.TheVariants.{Unbounded, Before, After}
 

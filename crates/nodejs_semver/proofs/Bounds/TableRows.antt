@@ -8,13 +8,13 @@ use Rattle.std.proofs.lemmas.Bool.{le-leb}
 use Rattle.semver_core.specs.Cuts.{Span, interval, is_interval}
 use Rattle.semver_core.specs.declared.cuts.bound.Bound.{Bound}
 use Rattle.semver_core.specs.declared.cuts.bound.Bound.TheVariants.{Unbounded, Before, After}
-use Rattle.semver_core.specs.Printing.RoundTrip.{is_normal}
+use Rattle.semver_core.specs.Printing.RoundTrip.{is_normal, is_readable}
 use Rattle.semver_core.specs.Text.Identifiers.{Id}
 use Rattle.semver_core.specs.Values.Order.{precedence}
 use Rattle.semver_core.specs.Internal.OrderLaws.{precedence_total}
 use Rattle.semver_core.specs.Values.Versions.{VersionValue, release_value}
 use Rattle.nodejs_semver.specs.Text.PartialText.{Partial}
-use Rattle.nodejs_semver.specs.Ranges.View.{is_bound_version, is_range_bound}
+use Rattle.nodejs_semver.specs.Ranges.View.{is_range_bound}
 use Rattle.nodejs_semver.specs.Text.Table.{lowest, row, table, version_of, without_build}
 use Rattle.nodejs_semver.specs.Text.WordText.{Comparator, Word, above, at_least, at_most, below, caret, compare, equal, hyphen, malformed, plain, tilde}
 use Rattle.nodejs_semver.proofs.Bounds.Bounded.{Fine, FineWord, Fits}
@@ -23,25 +23,25 @@ use Rattle.nodejs_semver.proofs.Reading.IdentifierLists.{and-both}
 -- ---- the versions of the table
 
 pub bound-is : (limit : ℕ) (v : VersionValue) → v.major ≤ limit → v.minor ≤ limit → v.patch ≤ limit → list_all is_normal v.pre_release ≡ true
-    → list_all is_normal v.build ≡ true → is_bound_version limit v ≡ true
+    → list_all is_normal v.build ≡ true → is_readable limit v ≡ true
 bound-is limit v a b c p q =
     and-both _ _ (and-both _ _ (le-leb v.major limit a) (and-both _ _ (le-leb v.minor limit b) (le-leb v.patch limit c))) (and-both _ _ p q)
 
-release-is : (limit major minor patch : ℕ) → major ≤ limit → minor ≤ limit → patch ≤ limit → is_bound_version limit (release_value major minor patch) ≡ true
+release-is : (limit major minor patch : ℕ) → major ≤ limit → minor ≤ limit → patch ≤ limit → is_readable limit (release_value major minor patch) ≡ true
 release-is limit major minor patch a b c = bound-is limit (release_value major minor patch) a b c refl refl
 
-lowest-is : (limit major minor patch : ℕ) → major ≤ limit → minor ≤ limit → patch ≤ limit → is_bound_version limit (lowest major minor patch) ≡ true
+lowest-is : (limit major minor patch : ℕ) → major ≤ limit → minor ≤ limit → patch ≤ limit → is_readable limit (lowest major minor patch) ≡ true
 lowest-is limit major minor patch a b c = bound-is limit (lowest major minor patch) a b c refl refl
 
 zeroed-le : (limit : ℕ) (o : Option ℕ) → Fits limit o → unwrap_or o 0 ≤ limit + 1
 zeroed-le limit None f = omega arith
 zeroed-le limit (Some n) f = omega arith
 
-version-is : (limit : ℕ) (p : Partial) → Fine limit p → is_bound_version (limit + 1) (version_of p) ≡ true
+version-is : (limit : ℕ) (p : Partial) → Fine limit p → is_readable (limit + 1) (version_of p) ≡ true
 version-is limit p f =
     bound-is (limit + 1) (version_of p) (zeroed-le limit p.major f.major) (zeroed-le limit p.minor f.minor) (zeroed-le limit p.patch f.patch) f.pre_release f.build
 
-unbuilt-is : (limit : ℕ) (p : Partial) → Fine limit p → is_bound_version (limit + 1) (without_build (version_of p)) ≡ true
+unbuilt-is : (limit : ℕ) (p : Partial) → Fine limit p → is_readable (limit + 1) (without_build (version_of p)) ≡ true
 unbuilt-is limit p f =
     bound-is (limit + 1) (without_build (version_of p)) (zeroed-le limit p.major f.major) (zeroed-le limit p.minor f.minor) (zeroed-le limit p.patch f.patch) f.pre_release refl
 
@@ -72,7 +72,7 @@ made a b c x y = record { major = a; minor = b; patch = c; pre_release = x; buil
 
 module _ (limit : ℕ) (p : Partial) where
   abbrev Bounds : VersionValue → Type 0
-  Bounds v = Fine limit p → is_bound_version (limit + 1) v ≡ true
+  Bounds v = Fine limit p → is_readable (limit + 1) v ≡ true
 
   from-good : (v : VersionValue) → Bounds v → Good limit p (Some (record { lower = Before v; upper = Unbounded }))
   from-good v h = (refl, λ f. and-both _ _ (h f) refl)

@@ -10,8 +10,9 @@ use Rattle.std.proofs.lemmas.Bool.Decides.{nat_tests}
 use Rattle.semver_core.specs.Text.Identifiers.{Id, Numeric, AlphaNumeric}
 use Rattle.semver_core.specs.Values.Order.{id_cmp, pre_cmp, precedence}
 use Rattle.semver_core.specs.Internal.OrderLaws.{id_total}
-use Rattle.semver_core.specs.Values.Versions.{VersionValue}
-use Rattle.nodejs_semver.specs.Ranges.Gate.{is_release, is_empty, same_triple}
+use Rattle.semver_core.specs.Values.Versions.{VersionValue, is_release}
+use Rattle.nodejs_semver.specs.Ranges.Gate.{same_triple}
+use Rattle.semver_core.specs.Lists.{is_empty}
 use Rattle.nodejs_semver.specs.Internal.Candidates.{zero, release_of, next_pre, next_patch}
 
 -- tests of answers

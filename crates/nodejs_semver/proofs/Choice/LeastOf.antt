@@ -12,8 +12,8 @@ use Rattle.semver_core.proofs.CutLaws.{cut_total}
 use Rattle.semver_core.specs.Text.Identifiers.{Id}
 use Rattle.semver_core.specs.Values.Order.{precedence}
 use Rattle.semver_core.specs.Internal.OrderLaws.{precedence_total}
-use Rattle.semver_core.specs.Values.Versions.{VersionValue}
-use Rattle.nodejs_semver.specs.Ranges.Gate.{is_release, lets_in, accepts}
+use Rattle.semver_core.specs.Values.Versions.{VersionValue, is_release}
+use Rattle.nodejs_semver.specs.Ranges.Gate.{lets_in, accepts}
 use Rattle.nodejs_semver.specs.Ranges.Least.{IsLeast, IsLeastOf, beyond, begins_with, build_by, build_in, least_build}
 use Rattle.nodejs_semver.specs.Internal.Candidates.{zero, bare, release_of, after_cut, release_after, firsts, kept_marks, removed_marks, kept_firsts, removed_firsts, candidates, improves, better, least_of, is_reached, next_pre, next_patch}
 use Rattle.nodejs_semver.proofs.Choice.Keys.{triple_total, le_not_gt, lt_not_gt, not_gt_le, next_patch_above, next_pre_above, release_above}

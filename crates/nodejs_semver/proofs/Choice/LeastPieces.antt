@@ -11,8 +11,8 @@ use Rattle.semver_core.specs.declared.cuts.bound.Bound.{Bound}
 use Rattle.semver_core.specs.declared.cuts.bound.Bound.TheVariants.{Unbounded, Before, After}
 use Rattle.semver_core.specs.Values.Order.{pre_cmp, precedence}
 use Rattle.semver_core.specs.Internal.OrderLaws.{precedence_total}
-use Rattle.semver_core.specs.Values.Versions.{VersionValue}
-use Rattle.nodejs_semver.specs.Ranges.Gate.{is_release, same_triple, names, lets_in, accepts}
+use Rattle.semver_core.specs.Values.Versions.{VersionValue, is_release}
+use Rattle.nodejs_semver.specs.Ranges.Gate.{same_triple, names, lets_in, accepts}
 use Rattle.nodejs_semver.specs.Ranges.Least.{beyond}
 use Rattle.nodejs_semver.specs.Internal.Candidates.{zero, bare, release_of, first_pre, next_pre, next_patch, after_cut, release_after, firsts, beside, below_at, below_named, kept_marks, removed_marks, candidates}
 use Rattle.nodejs_semver.proofs.Choice.Keys.{triple_cmp, same_triple_is, triple_total, triple_upto, pre_decides, upto_by_both, then_not_gt, le_not_gt, not_gt_le, far_less, past_not_gt, not_gt_both, next_patch_least, next_patch_above, next_pre_above, release_above, pre_of_not_gt, next_not_empty, pre_next_least, first_pre_least, near_past, is_eq_is, empty_is, zero_first}

@@ -9,8 +9,8 @@ use Rattle.semver_core.specs.Values.Versions.{VersionValue}
 use Rattle.semver_core.specs.declared.TheConstants.{MAX_SAFE_INTEGER}
 use Rattle.semver_core.specs.declared.cuts.bound.Bound.{Bound}
 use Rattle.semver_core.specs.declared.cuts.bound.Bound.TheVariants.{Unbounded, Before, After}
-use Rattle.nodejs_semver.specs.Ranges.View.{IsRange, is_bound_version, is_range_bound, is_range_span}
-use Rattle.semver_core.specs.Printing.RoundTrip.{is_normal}
+use Rattle.nodejs_semver.specs.Ranges.View.{IsRange, is_range_bound, is_range_span}
+use Rattle.semver_core.specs.Printing.RoundTrip.{is_normal, is_readable}
 use Rattle.nodejs_semver.specs.Internal.Candidates.{Raisable, IsRaisable}
 
 and_left : (a b : Bool) → (a && b) ≡ true → a ≡ true
@@ -24,7 +24,7 @@ and_right false b h = cc
 upto : (m n : ℕ) → nat_le m n ≡ true → m ≤ n
 upto m n h = grind (arith, nat_tests)
 
-small : (limit : ℕ) (v : VersionValue) → is_bound_version limit v ≡ true → v.patch ≤ limit
+small : (limit : ℕ) (v : VersionValue) → is_readable limit v ≡ true → v.patch ≤ limit
 small limit v h =
     let numbers = and_left (nat_le v.major limit && (nat_le v.minor limit && nat_le v.patch limit)) (list_all is_normal v.pre_release && list_all is_normal v.build) h in
     upto v.patch limit (and_right (nat_le v.minor limit) (nat_le v.patch limit) (and_right (nat_le v.major limit) (nat_le v.minor limit && nat_le v.patch limit) numbers))

@@ -10,7 +10,6 @@ use Rattle.nodejs_semver.specs.Internal.CommonFronts.{begins_second, both_of, co
 use Rattle.nodejs_semver.specs.Internal.CommonViews.{both_view}
 use Rattle.nodejs_semver.specs.Internal.Fronts.{Front}
 use Rattle.nodejs_semver.specs.Internal.Partials.{◌>>=◌}
-use Rattle.nodejs_semver.specs.Text.WordText.{Word}
 
 -- two comparisons of which the first has no upper and the second no lower bound
 pub half_open : (a b : Bound VersionValue)
@@ -45,13 +44,6 @@ passed-part there rest done new (Some s) r h e =
     let t : there ≡ true = ap (λ (x : Bool × List (Span VersionValue)). x.0) h in
     let n : new ≡ done ++ s ∷ [] = ap (λ (x : Bool × List (Span VersionValue)). x.1) h in
     ap (λ (q : Option (List ℕ)). behind q new) (e ∙ ap (λ (b : Bool). when b rest) t) ∙ ap (λ (l : List (Span VersionValue)). behind (Some rest) l) n
-
--- one word
-pub passed-word : (limit : ℕ) (read : Front Word) (bounds : Span VersionValue) (rest : List ℕ) (there : Bool) (done new : List (Span VersionValue)) (r : Option (List ℕ))
-    → part_read rest (interval precedence bounds) ≡ word_read limit read → both_view there new ≡ pushed done (interval precedence bounds) → r ≡ (if there then Some rest else None)
-    → behind r new ≡ passed done (word_read limit read)
-passed-word limit read bounds rest there done new r h p e =
-    passed-part there rest done new (interval precedence bounds) r p e ∙ ap (λ (o : Front (Span VersionValue)). passed done o) h
 
 -- the step behind the first comparison
 abbrev behind-first : ℕ → Span VersionValue × List ℕ → Front (Span VersionValue)

@@ -2,7 +2,7 @@
 use Rattle.std.proofs.Common.{◌≡◌, ℕ, ◌<◌, List, [], ◌∷◌, ◌++◌, length, refl, sym, ap, ◌∙◌, arith, true, false, Some, None, inl, inr, subst, append_assoc}
 use Rattle.std.specs.Prelude.{Option}
 use Rattle.semver_core.specs.Cuts.{Span}
-use Rattle.semver_core.specs.Internal.Spaces.{is_empty}
+use Rattle.semver_core.specs.Lists.{is_empty}
 use Rattle.semver_core.specs.Values.Versions.{VersionValue}
 use Rattle.nodejs_semver.specs.Internal.CommonFronts.{after_bars, part_front, passed}
 use Rattle.nodejs_semver.specs.Text.Common.{IsCommonRange, IsUncommon}

@@ -7,7 +7,7 @@ use Rattle.std.proofs.lemmas.Bool.Decides.{nat_tests}
 use Rattle.semver_core.specs.Text.Characters.{begins}
 use Rattle.semver_core.specs.Cuts.{Span, meet}
 use Rattle.semver_core.specs.Values.Order.{precedence}
-use Rattle.semver_core.specs.Internal.Spaces.{is_empty}
+use Rattle.semver_core.specs.Lists.{is_empty}
 use Rattle.semver_core.specs.Values.Versions.{VersionValue}
 use Rattle.nodejs_semver.specs.Internal.CommonFronts.{after_bars, after_gap, bare_front, begins_dash, begins_second, caret_front, common_within, comparison_front, comparisons_front, is_sign, onto, part_front, part_read, partials_front, tilde_front, word_read}
 use Rattle.nodejs_semver.specs.Text.Common.{CommonRangesAreRead, IsBare, IsCommonPart, IsCommonRange, IsCommonWord, IsComparison, IsGap, caret_word, compare_word, comparison, hyphen_word, more_parts, one_part, one_word, plain_word, tilde_greater_word, tilde_word, two_comparisons}

@@ -10,7 +10,8 @@ use Rattle.semver_core.specs.Text.Characters.{begins, is_identifier_char, is_whi
 use Rattle.semver_core.specs.Cuts.{Span}
 use Rattle.semver_core.specs.Text.VersionText.{IsBuild, IsPreRelease, bare, dashed, no_build, no_pre_release, plus}
 use Rattle.semver_core.specs.Text.Identifiers.{Id, IsIdentifiers}
-use Rattle.semver_core.specs.Internal.Spaces.{after_spaces, drop_end_spaces, drop_spaces, is_empty, space_len, trim}
+use Rattle.semver_core.specs.Internal.Spaces.{after_spaces, drop_end_spaces, drop_spaces, space_len, trim}
+use Rattle.semver_core.specs.Lists.{is_empty}
 use Rattle.semver_core.specs.Values.Versions.{VersionValue}
 use Rattle.semver_core.proofs.Text.Spaces.{drop_spaces-none}
 use Rattle.nodejs_semver.specs.Text.Common.{CommonRangesAreDenoted, IsBare, IsCommonPart, IsCommonRange, IsCommonWord, IsComparison, IsGap, caret_word, compare_word, comparison, hyphen_word, more_parts, one_part, one_word, plain_word, tilde_greater_word, tilde_word, two_comparisons}

@@ -2,7 +2,8 @@
 use Rattle.std.proofs.Common.{◌≡◌, ℕ, ◌<◌, ◌+◌, List, [], ◌∷◌, length, refl, sym, ap, ◌∙◌, arith, true, Some, subst}
 use Rattle.std.specs.Prelude.{Option, IfNone, IfSome}
 use Rattle.std.specs.List.{list_all}
-use Rattle.semver_core.specs.Cuts.{Span, if_any}
+use Rattle.semver_core.specs.Cuts.{Span}
+use Rattle.semver_core.specs.Lists.{if_any}
 use Rattle.semver_core.specs.Values.Versions.{VersionValue}
 use Rattle.nodejs_semver.specs.Text.Common.{IsCommonRange, IsUncommon}
 use Rattle.nodejs_semver.specs.Text.Denotes.{denotes}

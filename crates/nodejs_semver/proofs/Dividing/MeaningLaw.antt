@@ -10,7 +10,8 @@ use Rattle.std.proofs.lemmas.Str.{IsUtf8-drop, IsUtf8-take, IsCharBoundary-after
 use Rattle.semver_core.specs.Text.Characters.{IsBlank, is_whitespace}
 use Rattle.semver_core.specs.Cuts.{Span}
 use Rattle.semver_core.specs.Values.Order.{precedence}
-use Rattle.semver_core.specs.Internal.Spaces.{drop_spaces, is_empty, space_len, trim}
+use Rattle.semver_core.specs.Internal.Spaces.{drop_spaces, space_len, trim}
+use Rattle.semver_core.specs.Lists.{is_empty}
 use Rattle.semver_core.specs.Values.Versions.{VersionValue}
 use Rattle.semver_core.proofs.Text.Trims.{MiddleIsTrim_lem, TrimIsMiddle_lem, trim_parts}
 use Rattle.nodejs_semver.specs.Text.Denotes.{denotes, part_bounds, part_denotes, part_intervals}

@@ -4,8 +4,8 @@ use Rattle.std.specs.Cmp.{Equal-is, eq_by_cmp_equiv}
 use Rattle.std.specs.declared.cmp.Ordering.TheVariants.{Equal}
 use Rattle.std.proofs.lemmas.Bool.{cases_Bool}
 use Rattle.semver_core.specs.Cuts.{Span, is_interval}
-use Rattle.semver_core.specs.Printing.RoundTrip.{IsReadable}
-use Rattle.semver_core.specs.Values.Order.{precedence}
+use Rattle.semver_core.specs.Internal.Readable.{IsReadable}
+use Rattle.semver_core.specs.Values.Order.{precedence, version_eq}
 use Rattle.semver_core.specs.Internal.OrderLaws.{precedence_total}
 use Rattle.semver_core.specs.Printing.Text.{version_text}
 use Rattle.semver_core.specs.Values.Versions.{VersionValue}
@@ -13,7 +13,7 @@ use Rattle.semver_core.specs.declared.cuts.bound.Bound.{Bound}
 use Rattle.semver_core.specs.declared.cuts.bound.Bound.TheVariants.{Unbounded, Before, After}
 use Rattle.nodejs_semver.specs.Printing.RoundTrip.{has_bound, bounds_back}
 use Rattle.nodejs_semver.specs.Text.Denotes.{part_intervals}
-use Rattle.nodejs_semver.specs.Printing.Text.{bounds_text, ties}
+use Rattle.nodejs_semver.specs.Printing.Text.{bounds_text}
 use Rattle.nodejs_semver.specs.Text.Runs.{Run, interval_of, fits}
 use Rattle.nodejs_semver.specs.Internal.RunsFrom.{runs_from, runs_of}
 use Rattle.nodejs_semver.specs.Text.Table.{table}
@@ -36,7 +36,7 @@ pub record IsPrintable (limit : ℕ) (s : Span VersionValue) : Type 0 where
   pub upper : IsReadableBound limit s.upper
 
 -- a version has its own place in the order
-pub ties_self : (v : VersionValue) → ties v v ≡ true
+pub ties_self : (v : VersionValue) → version_eq v v ≡ true
 ties_self v = (eq_by_cmp_equiv precedence_total).refl v
 
 pub precedence_self : (v : VersionValue) → precedence v v ≡ Equal
@@ -105,7 +105,7 @@ bounds_come_back limit Unbounded (Before w) small p b h k = one limit below w sm
 bounds_come_back limit Unbounded (After w) small p b h k = one limit at_most w small refl k
 bounds_come_back limit (Before v) Unbounded small p b h k = one limit at_least v small refl h
 bounds_come_back limit (Before v) (Before w) small p b h k = two limit at_least below v w small refl refl h k p
-bounds_come_back limit (Before v) (After w) small p b h k = elim (cases_Bool (ties v w)) [
+bounds_come_back limit (Before v) (After w) small p b h k = elim (cases_Bool (version_eq v w)) [
   | inl same ↦ rw same (alone limit v small h)
   | inr other ↦ rw other (two limit at_least at_most v w small refl refl h k p)
 ]

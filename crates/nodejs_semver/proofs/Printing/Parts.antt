@@ -10,7 +10,8 @@ use Rattle.std.specs.List.{list_all, join_with_byte, AllByRecursion}
 use Rattle.semver_core.specs.Text.Characters.{is_whitespace, is_identifier_char}
 use Rattle.semver_core.specs.Cuts.{Span}
 use Rattle.semver_core.specs.Text.Identifiers.{Id, is_run}
-use Rattle.semver_core.specs.Printing.RoundTrip.{is_normal, IsReadable}
+use Rattle.semver_core.specs.Printing.RoundTrip.{is_normal}
+use Rattle.semver_core.specs.Internal.Readable.{IsReadable}
 use Rattle.semver_core.specs.Printing.Text.{id_text, marked_list, version_text}
 use Rattle.semver_core.specs.Values.Versions.{VersionValue}
 use Rattle.semver_core.specs.declared.cuts.bound.Bound.{Bound}
@@ -19,8 +20,10 @@ use Rattle.semver_core.proofs.Printing.Returns.{decimal_digits, decimal_some, id
 use Rattle.nodejs_semver.specs.Printing.RoundTrip.{has_bound, read_back}
 use Rattle.nodejs_semver.specs.Text.Denotes.{part_denotes, part_intervals, denotes}
 use Rattle.nodejs_semver.specs.Internal.Parts.{cut_bars, parts}
-use Rattle.nodejs_semver.specs.Printing.Text.{bounds_text, span_text, range_text, ties}
-use Rattle.semver_core.specs.Internal.Spaces.{is_empty, drop_spaces, drop_end_spaces, trim, space_len}
+use Rattle.nodejs_semver.specs.Printing.Text.{bounds_text, span_text, range_text}
+use Rattle.semver_core.specs.Values.Order.{version_eq}
+use Rattle.semver_core.specs.Internal.Spaces.{drop_spaces, drop_end_spaces, trim, space_len}
+use Rattle.semver_core.specs.Lists.{is_empty}
 use Rattle.nodejs_semver.proofs.Reading.IdentifierLists.{and-left, and-right, and-both}
 use Rattle.nodejs_semver.proofs.Printing.Versions.{dark_stays}
 use Rattle.nodejs_semver.proofs.Printing.Words.{space_step}
@@ -167,7 +170,7 @@ bounds_part limit Unbounded (After w) small b h k = part_one (60 ∷ 61 ∷ vers
 bounds_part limit (Before v) Unbounded small b h k = part_one (62 ∷ 61 ∷ version_text v) (version_shown limit v small h) (omega arith)
 bounds_part limit (Before v) (Before w) small b h k =
     part_two (62 ∷ 61 ∷ version_text v) (60 ∷ version_text w) (version_shown limit v small h) (omega arith) (version_shown limit w small k) (omega arith)
-bounds_part limit (Before v) (After w) small b h k = elim (cases_Bool (ties v w)) [
+bounds_part limit (Before v) (After w) small b h k = elim (cases_Bool (version_eq v w)) [
   | inl same ↦ rw same (part_one (version_text v) (version_shown limit v small h) (version_some limit v small h))
   | inr other ↦ rw other (part_two (62 ∷ 61 ∷ version_text v) (60 ∷ 61 ∷ version_text w) (version_shown limit v small h) (omega arith) (version_shown limit w small k) (omega arith))
 ]

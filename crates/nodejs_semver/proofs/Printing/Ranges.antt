@@ -1,19 +1,18 @@
 -- For proofs. Printed ranges come back.
 use Rattle.std.proofs.Common.{◌≡◌, ◌<◌, ◌^◌, ℕ, true, List, [], ◌∷◌, ◌++◌, map, refl, ap, ap₂, ◌∙◌, arith, inl, inr}
-use borrow.Author.Tests.{leb-true}
 use Rattle.std.specs.List.{AllByRecursion, list_all}
-use Rattle.std.specs.Prelude.{◌&&◌, nat_le}
+use Rattle.std.specs.Prelude.{◌&&◌}
 use Rattle.std.proofs.lemmas.Bool.{cases_Bool}
 use Rattle.semver_core.specs.Cuts.{Span, is_interval}
-use Rattle.semver_core.specs.Printing.RoundTrip.{is_normal, IsReadable}
-use Rattle.semver_core.specs.Values.Order.{precedence}
+use Rattle.semver_core.specs.Internal.Readable.{readable}
+use Rattle.semver_core.specs.Values.Order.{precedence, version_eq}
 use Rattle.semver_core.specs.Values.Versions.{VersionValue}
 use Rattle.semver_core.specs.declared.cuts.bound.Bound.{Bound}
 use Rattle.semver_core.specs.declared.cuts.bound.Bound.TheVariants.{Unbounded, Before, After}
 use Rattle.nodejs_semver.specs.Printing.RoundTrip.{has_bound, is_printable, bounds_back, read_back, ReadsBack, ReadsEqual, RangesComeBack}
 use Rattle.nodejs_semver.specs.Text.Denotes.{denotes}
-use Rattle.nodejs_semver.specs.Printing.Text.{ties, bounds_text, range_text}
-use Rattle.nodejs_semver.specs.Ranges.View.{is_bound_version, is_range_bound, is_range_span}
+use Rattle.nodejs_semver.specs.Printing.Text.{bounds_text, range_text}
+use Rattle.nodejs_semver.specs.Ranges.View.{is_range_bound, is_range_span}
 use Rattle.nodejs_semver.specs.Internal.SameLaws.{bound_refl}
 use Rattle.nodejs_semver.specs.Ranges.Equality.{span_eq, range_eq}
 use Rattle.nodejs_semver.proofs.Reading.IdentifierLists.{and-left, and-right, and-both}
@@ -25,7 +24,7 @@ bounds_same Unbounded upper = bound_refl upper
 bounds_same (After v) upper = and-both _ _ (ties_self v) (bound_refl upper)
 bounds_same (Before v) Unbounded = and-both _ _ (ties_self v) refl
 bounds_same (Before v) (Before w) = and-both _ _ (ties_self v) (ties_self w)
-bounds_same (Before v) (After w) = elim (cases_Bool (ties v w)) [
+bounds_same (Before v) (After w) = elim (cases_Bool (version_eq v w)) [
   | inl same ↦ rw same (and-both _ _ (ties_self v) same)
   | inr other ↦ rw other (and-both _ _ (ties_self v) (ties_self w))
 ]
@@ -35,23 +34,10 @@ same_back [] = refl
 same_back (s ∷ rest) = and-both (span_eq (read_back s) s) (range_eq (map read_back rest) rest) (bounds_same s.lower s.upper) (same_back rest)
 
 -- the tests of a printable interval, as facts
-version_readable : (limit : ℕ) (v : VersionValue) → is_bound_version limit v ≡ true → IsReadable limit v
-version_readable limit v h =
-    let numbers = and-left (nat_le v.major limit && (nat_le v.minor limit && nat_le v.patch limit)) (list_all is_normal v.pre_release && list_all is_normal v.build) h in
-    let lists = and-right (nat_le v.major limit && (nat_le v.minor limit && nat_le v.patch limit)) (list_all is_normal v.pre_release && list_all is_normal v.build) h in
-    let others = and-right (nat_le v.major limit) (nat_le v.minor limit && nat_le v.patch limit) numbers in
-    record {
-      major = leb-true v.major limit (and-left (nat_le v.major limit) (nat_le v.minor limit && nat_le v.patch limit) numbers);
-      minor = leb-true v.minor limit (and-left (nat_le v.minor limit) (nat_le v.patch limit) others);
-      patch = leb-true v.patch limit (and-right (nat_le v.minor limit) (nat_le v.patch limit) others);
-      pre_release = and-left (list_all is_normal v.pre_release) (list_all is_normal v.build) lists;
-      build = and-right (list_all is_normal v.pre_release) (list_all is_normal v.build) lists;
-    }
-
 bound_readable : (limit : ℕ) (b : Bound VersionValue) → is_range_bound limit b ≡ true → IsReadableBound limit b
 bound_readable limit Unbounded h = tt
-bound_readable limit (Before v) h = version_readable limit v h
-bound_readable limit (After v) h = version_readable limit v h
+bound_readable limit (Before v) h = readable limit v h
+bound_readable limit (After v) h = readable limit v h
 
 printable : (limit : ℕ) (s : Span VersionValue) → is_printable limit s ≡ true → IsPrintable limit s
 printable limit s h =
@@ -87,7 +73,7 @@ again Unbounded upper = refl
 again (After v) upper = refl
 again (Before v) Unbounded = refl
 again (Before v) (Before w) = refl
-again (Before v) (After w) = elim (cases_Bool (ties v w)) [
+again (Before v) (After w) = elim (cases_Bool (version_eq v w)) [
   | inl same ↦ rw (same, ties_self v) refl
   | inr other ↦ rw (other, other) refl
 ]

@@ -8,7 +8,8 @@ use Rattle.std.specs.Char.{is_ascii_digit}
 use Rattle.std.specs.List.{list_all, join_with_byte, slice_split}
 use Rattle.semver_core.specs.Text.Characters.{is_whitespace, is_identifier_char, begins}
 use Rattle.semver_core.specs.Text.Identifiers.{Id, identifier_of, goes_on}
-use Rattle.semver_core.specs.Printing.RoundTrip.{is_normal, IsReadable}
+use Rattle.semver_core.specs.Printing.RoundTrip.{is_normal}
+use Rattle.semver_core.specs.Internal.Readable.{IsReadable}
 use Rattle.semver_core.specs.Printing.Text.{id_text, marked_list, version_text}
 use Rattle.semver_core.specs.Values.Versions.{VersionValue}
 use Rattle.semver_core.proofs.Printing.Returns.{decimal_digits, decimal_value, decimal_some, joined_is}

@@ -4,7 +4,7 @@ use Rattle.std.specs.Prelude.{◌↔◌}
 use Rattle.std.proofs.lemmas.Bool.{leb-true}
 use Rattle.semver_core.specs.Text.Numbers.{IsNumber}
 use Rattle.nodejs_semver.specs.Internal.Partials.{number_of}
-use Rattle.semver_core.specs.Internal.Spaces.{is_empty}
+use Rattle.semver_core.specs.Lists.{is_empty}
 use Rattle.nodejs_semver.proofs.Reading.DigitValues.{number_of-some}
 use Rattle.nodejs_semver.proofs.Reading.Pieces.{number_of-is}
 

@@ -10,7 +10,7 @@ use Rattle.std.proofs.lemmas.Bool.Decides.{nat_tests}
 use Rattle.std.proofs.lemmas.List.{take_at, drop_at}
 use Rattle.nodejs_semver.specs.Internal.Partials.{number_of, ◌>>=◌, is_dot, before_dot, after_dot, component_of, wildcard_of}
 use Rattle.nodejs_semver.specs.Text.PartialText.{ends_digit, is_wildcard}
-use Rattle.semver_core.specs.Internal.Spaces.{is_empty}
+use Rattle.semver_core.specs.Lists.{is_empty}
 use Rattle.nodejs_semver.specs.Internal.Fronts.{begins_wildcard, component_front}
 use Rattle.nodejs_semver.proofs.Reading.IdentifierLists.{and-left, and-right}
 

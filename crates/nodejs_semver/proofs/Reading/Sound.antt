@@ -8,7 +8,7 @@ use Rattle.std.proofs.lemmas.Bool.Decides.{nat_tests}
 use Rattle.std.proofs.lemmas.List.{take-append-drop}
 use Rattle.nodejs_semver.specs.Internal.Partials.{number_of, is_dot, is_plus, identifiers_of, pre_release_of, build_of, before_plus, from_plus, qualifier_of, after_dot, component_of, wildcard_of}
 use Rattle.nodejs_semver.specs.Text.PartialText.{is_wildcard}
-use Rattle.semver_core.specs.Internal.Spaces.{is_empty}
+use Rattle.semver_core.specs.Lists.{is_empty}
 use Rattle.semver_core.specs.Text.Identifiers.{Id, goes_on}
 use Rattle.semver_core.specs.Text.Characters.{is_identifier_char, begins}
 use Rattle.nodejs_semver.specs.Internal.Fronts.{begins_wildcard, component_front, number_front, begins_identifier, begins_byte, run_on, list_len, list_of, pre_release_front, build_front}

@@ -7,7 +7,8 @@ use Rattle.std.proofs.lemmas.Bool.{cases_Bool, eqb-true, lt-ltb}
 use Rattle.std.proofs.lemmas.Bool.Decides.{nat_tests}
 use Rattle.std.proofs.lemmas.List.{take_at, drop_at}
 use Rattle.semver_core.specs.Text.Characters.{is_whitespace, begins}
-use Rattle.semver_core.specs.Internal.Spaces.{drop_spaces, space_len, is_empty}
+use Rattle.semver_core.specs.Internal.Spaces.{drop_spaces, space_len}
+use Rattle.semver_core.specs.Lists.{is_empty}
 use Rattle.nodejs_semver.specs.Internal.Partials.{number_of, ◌>>=◌, is_dot, qualifier_of, before_dot, after_dot, component_of, components_of, minor_after, patch_after, partial_of, drop_v, third, wildcard_of}
 use Rattle.nodejs_semver.specs.Text.PartialText.{Partial, is_wildcard}
 use Rattle.semver_core.specs.Text.Identifiers.{Id}

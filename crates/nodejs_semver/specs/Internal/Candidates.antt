@@ -5,10 +5,9 @@ use Rattle.std.specs.Ordering.{is_le, is_lt}
 use Rattle.semver_core.specs.Cuts.{Span, Cut, Side, Start, Beside, End, Near, Far}
 use Rattle.semver_core.specs.Text.Identifiers.{Numeric}
 use Rattle.semver_core.specs.Values.Order.{precedence}
-use Rattle.semver_core.specs.Values.Versions.{VersionValue}
+use Rattle.semver_core.specs.Values.Versions.{VersionValue, is_release}
 use Rattle.semver_core.specs.declared.cuts.bound.Bound.{Bound}
 use Rattle.semver_core.specs.declared.cuts.bound.Bound.TheVariants.{Unbounded, Before, After}
-use Rattle.nodejs_semver.specs.Ranges.Gate.{is_release}
 
 -- the versions without a build that come first somewhere
 abbrev pub zero : VersionValue

@@ -3,7 +3,7 @@ use Rattle.std.specs.Prelude.{ℕ, zero, suc, ◌==◌, ◌&&◌, ◌||◌, Bool
 use Rattle.semver_core.specs.Text.Characters.{begins}
 use Rattle.semver_core.specs.Cuts.{Span, interval, meet}
 use Rattle.semver_core.specs.Values.Order.{precedence}
-use Rattle.semver_core.specs.Internal.Spaces.{is_empty}
+use Rattle.semver_core.specs.Lists.{is_empty}
 use Rattle.semver_core.specs.Values.Versions.{VersionValue}
 use Rattle.nodejs_semver.specs.Internal.Fronts.{Front, begins_byte, component_front, dotted_front, list_of, pre_release_front}
 use Rattle.nodejs_semver.specs.Text.PartialText.{Partial}
@@ -49,11 +49,15 @@ begins_dash (a ∷ []) = false
 begins_dash (a ∷ b ∷ []) = false
 begins_dash (a ∷ b ∷ c ∷ rest) = a == 32 && (b == 45 && c == 32)
 
+-- the partial behind a dash
+abbrev pub upper_front : ℕ → Partial → List ℕ → Front Word
+upper_front limit lower text = bare_front limit text >>= λ q. Some (hyphen lower q.0, q.1)
+
 -- one partial, or a hyphen word
 unfoldable pub partials_front : ℕ → List ℕ → Front Word
 partials_front limit text =
     bare_front limit text >>= λ p.
-    if begins_dash p.1 then (bare_front limit (drop 3 p.1) >>= λ q. Some (hyphen p.0 q.0, q.1)) else Some (plain p.0, p.1)
+    if begins_dash p.1 then upper_front limit p.0 (drop 3 p.1) else Some (plain p.0, p.1)
 
 -- an interval that there may be, and what follows it
 abbrev pub part_read : List ℕ → Option (Span VersionValue) → Front (Span VersionValue)

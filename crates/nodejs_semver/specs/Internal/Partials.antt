@@ -6,7 +6,8 @@ use Rattle.std.specs.List.{list_all}
 use Rattle.std.specs.Str.Parse.{digits_value}
 use Rattle.semver_core.specs.Text.Characters.{begins}
 use Rattle.semver_core.specs.Text.Identifiers.{Id, is_run, identifier_of, pieces}
-use Rattle.semver_core.specs.Internal.Spaces.{drop_spaces, is_empty}
+use Rattle.semver_core.specs.Internal.Spaces.{drop_spaces}
+use Rattle.semver_core.specs.Lists.{is_empty}
 use Rattle.nodejs_semver.specs.Text.PartialText.{Partial, ends_digit, is_wildcard}
 
 infixl 10 ◌>>=◌

@@ -1,6 +1,7 @@
 -- For proofs. The words of a part, computed: `word_at` gives the word of `IsWordAt`.
 use Rattle.std.specs.Prelude.{ℕ, zero, suc, ◌==◌, ◌||◌, nat_lt, Bool, true, false, List, [], ◌∷◌, length, Option, Some, None, if◌then◌else◌}
-use Rattle.semver_core.specs.Internal.Spaces.{drop_spaces, space_len, is_empty}
+use Rattle.semver_core.specs.Internal.Spaces.{drop_spaces, space_len}
+use Rattle.semver_core.specs.Lists.{is_empty}
 use Rattle.nodejs_semver.specs.Text.PartialText.{Partial}
 use Rattle.nodejs_semver.specs.Internal.Partials.{longest_partial, or_else, ◌>>=◌}
 use Rattle.nodejs_semver.specs.Text.WordText.{Comparator, at_least, above, equal, at_most, below, Word, hyphen, plain, compare, tilde, caret, malformed}

@@ -6,7 +6,8 @@ use Rattle.semver_core.specs.Values.Versions.{VersionValue}
 use Rattle.semver_core.specs.declared.cuts.bound.Bound.{Bound}
 use Rattle.semver_core.specs.declared.cuts.bound.Bound.TheVariants.{Unbounded, Before, After}
 use Rattle.nodejs_semver.specs.Text.Denotes.{denotes}
-use Rattle.nodejs_semver.specs.Printing.Text.{range_text, ties}
+use Rattle.nodejs_semver.specs.Printing.Text.{range_text}
+use Rattle.semver_core.specs.Values.Order.{version_eq}
 use Rattle.nodejs_semver.specs.Ranges.View.{is_range_span}
 use Rattle.nodejs_semver.specs.Ranges.Equality.{range_eq}
 
@@ -22,7 +23,7 @@ is_printable limit s = has_bound s.lower s.upper && is_range_span limit s
 
 -- the interval that is read from a printed one: where its ends tie, the printed version stands for both
 abbrev pub bounds_back : Bound VersionValue → Bound VersionValue → Span VersionValue
-bounds_back (Before v) (After w) = if ties v w then record { lower = Before v; upper = After v } else record { lower = Before v; upper = After w }
+bounds_back (Before v) (After w) = if version_eq v w then record { lower = Before v; upper = After v } else record { lower = Before v; upper = After w }
 bounds_back lower upper = record { lower = lower; upper = upper }
 
 abbrev pub read_back : Span VersionValue → Span VersionValue

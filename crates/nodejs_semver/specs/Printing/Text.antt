@@ -2,15 +2,11 @@
 use Rattle.std.specs.Prelude.{ℕ, Bool, List, [], ◌∷◌, ◌++◌, if◌then◌else◌}
 use Rattle.std.specs.Ordering.{is_eq}
 use Rattle.semver_core.specs.Cuts.{Span}
-use Rattle.semver_core.specs.Values.Order.{precedence}
+use Rattle.semver_core.specs.Values.Order.{precedence, version_eq}
 use Rattle.semver_core.specs.Printing.Text.{version_text}
 use Rattle.semver_core.specs.Values.Versions.{VersionValue}
 use Rattle.semver_core.specs.declared.cuts.bound.Bound.{Bound}
 use Rattle.semver_core.specs.declared.cuts.bound.Bound.TheVariants.{Unbounded, Before, After}
-
--- the versions have the same place in the order, whatever their builds
-abbrev pub ties : VersionValue → VersionValue → Bool
-ties v w = is_eq (precedence v w)
 
 -- `>=v` and `>v`; nothing without a bound
 abbrev pub lower_text : Bound VersionValue → List ℕ
@@ -33,7 +29,7 @@ abbrev pub bounds_text : Bound VersionValue → Bound VersionValue → List ℕ
 bounds_text Unbounded Unbounded = 42 ∷ []
 bounds_text Unbounded upper = upper_text upper
 bounds_text lower Unbounded = lower_text lower
-bounds_text (Before v) (After w) = if ties v w then version_text v else both_text (Before v) (After w)
+bounds_text (Before v) (After w) = if version_eq v w then version_text v else both_text (Before v) (After w)
 bounds_text lower upper = both_text lower upper
 
 abbrev pub span_text : Span VersionValue → List ℕ

@@ -3,16 +3,13 @@ use Rattle.std.specs.Prelude.{pos, Bool, ◌++◌, List}
 use Rattle.std.specs.Cmp.Lexicographic.{pointwise}
 use Rattle.std.specs.Hash as fed
 use Rattle.std.specs.Hash.{HashWrites}
-use Rattle.std.specs.Ordering.{eq_by_cmp, eq_of_both, on}
+use Rattle.std.specs.Ordering.{eq_of_both, on}
 use Rattle.semver_core.specs.Cuts.{Span, bound_eq}
 use Rattle.semver_core.specs.Values.Hashes.{version_writes}
-use Rattle.semver_core.specs.Values.Order.{precedence}
+use Rattle.semver_core.specs.Values.Order.{precedence, version_eq}
 use Rattle.semver_core.specs.Values.Versions.{VersionValue}
 use Rattle.semver_core.specs.declared.cuts.bound.Bound.{Bound}
 use Rattle.semver_core.specs.declared.cuts.bound.Bound.TheVariants.{Unbounded, Before, After}
-
-abbrev pub version_eq : VersionValue → VersionValue → Bool
-version_eq = eq_by_cmp precedence
 
 -- equal lower bounds and equal upper bounds
 abbrev pub span_eq : Span VersionValue → Span VersionValue → Bool

@@ -4,17 +4,9 @@ use Rattle.std.specs.List.{list_any}
 use Rattle.semver_core.specs.Cuts.{Span, holds}
 use Rattle.semver_core.specs.Text.Identifiers.{Id}
 use Rattle.semver_core.specs.Values.Order.{precedence}
-use Rattle.semver_core.specs.Values.Versions.{VersionValue}
+use Rattle.semver_core.specs.Values.Versions.{VersionValue, is_release}
 use Rattle.semver_core.specs.declared.cuts.bound.Bound.{Bound}
 use Rattle.semver_core.specs.declared.cuts.bound.Bound.TheVariants.{Unbounded, Before, After}
-
-abbrev pub is_empty : List Id → Bool
-is_empty [] = true
-is_empty (x ∷ xs) = false
-
--- a version without a pre-release
-abbrev pub is_release : VersionValue → Bool
-is_release v = is_empty v.pre_release
 
 abbrev pub same_triple : VersionValue → VersionValue → Bool
 same_triple v w = (v.major == w.major) && ((v.minor == w.minor) && (v.patch == w.patch))

@@ -1,13 +1,13 @@
 -- Statement: the least version that a range accepts, and the least that it accepts and another does not.
 use Rattle.std.specs.Prelude.{◌≡◌, ◌+◌, Bool, true, false, ◌&&◌, not, List, [], ◌∷◌, ◌++◌, if◌then◌else◌, Option, Some, None, find}
-use Rattle.std.specs.Ordering.{is_eq, is_le}
+use Rattle.std.specs.Ordering.{is_le}
 use Rattle.semver_core.specs.Cuts.{Span, holds}
 use Rattle.semver_core.specs.Text.Identifiers.{Id, Numeric}
-use Rattle.semver_core.specs.Values.Order.{precedence}
-use Rattle.semver_core.specs.Values.Versions.{VersionValue}
+use Rattle.semver_core.specs.Values.Order.{precedence, version_eq}
+use Rattle.semver_core.specs.Values.Versions.{VersionValue, is_release}
 use Rattle.semver_core.specs.declared.cuts.bound.Bound.{Bound}
 use Rattle.semver_core.specs.declared.cuts.bound.Bound.TheVariants.{Unbounded, Before, After}
-use Rattle.nodejs_semver.specs.Ranges.Gate.{is_release, lets_in, accepts}
+use Rattle.nodejs_semver.specs.Ranges.Gate.{lets_in, accepts}
 
 -- v is in the set, and nothing in the set is below v
 pub record IsLeast (set : VersionValue → Bool) (v : VersionValue) : Type 0 where
@@ -34,7 +34,7 @@ begins_with (After w) = Some (if is_release w then record w { patch = w.patch + 
 -- the build of that version, if the result is it, and else none
 abbrev pub build_by : Option VersionValue → VersionValue → List Id
 build_by None v = []
-build_by (Some x) v = if is_eq (precedence x v) then x.build else []
+build_by (Some x) v = if version_eq x v then x.build else []
 
 abbrev pub build_in : Option (Span VersionValue) → VersionValue → List Id
 build_in None v = []

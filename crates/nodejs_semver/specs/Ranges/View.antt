@@ -1,23 +1,18 @@
 -- Statement: what every range is.
-use Rattle.std.specs.Prelude.{◌≡◌, ◌+◌, ◌<◌, ◌&&◌, ℕ, Bool, true, nat_le, List, [], ◌∷◌, length}
+use Rattle.std.specs.Prelude.{◌≡◌, ◌+◌, ◌<◌, ◌&&◌, ℕ, Bool, true, List, [], ◌∷◌, length}
 use Rattle.std.specs.List.{list_all}
 use Rattle.semver_core.specs.Cuts.{Span, is_interval}
 use Rattle.semver_core.specs.Values.Order.{precedence}
 use Rattle.semver_core.specs.Values.Versions.{VersionValue}
 use Rattle.semver_core.specs.declared.cuts.bound.Bound.{Bound}
 use Rattle.semver_core.specs.declared.cuts.bound.Bound.TheVariants.{Unbounded, Before, After}
-use Rattle.semver_core.specs.Printing.RoundTrip.{is_normal}
+use Rattle.semver_core.specs.Printing.RoundTrip.{is_readable}
 
--- a version that a bound may have: no number is above the limit, and its identifiers are what their texts spell
-abbrev pub is_bound_version : ℕ → VersionValue → Bool
-is_bound_version limit v =
-    (nat_le v.major limit && (nat_le v.minor limit && nat_le v.patch limit))
-    && (list_all is_normal v.pre_release && list_all is_normal v.build)
-
+-- numbers up to the limit, and identifiers in normal form
 abbrev pub is_range_bound : ℕ → Bound VersionValue → Bool
 is_range_bound limit Unbounded = true
-is_range_bound limit (Before v) = is_bound_version limit v
-is_range_bound limit (After v) = is_bound_version limit v
+is_range_bound limit (Before v) = is_readable limit v
+is_range_bound limit (After v) = is_readable limit v
 
 -- the lower cut is below the upper one, and both bounds are such
 abbrev pub is_range_span : ℕ → Span VersionValue → Bool

@@ -4,7 +4,7 @@ use Rattle.std.specs.Prelude.{◌≡◌, ◌⊎◌, ◌↔◌, ◌<◌, ℕ, tru
 use Rattle.std.specs.List.{list_all}
 use Rattle.semver_core.specs.Cuts.{Span, meet}
 use Rattle.semver_core.specs.Values.Order.{precedence}
-use Rattle.semver_core.specs.Internal.Spaces.{is_empty}
+use Rattle.semver_core.specs.Lists.{is_empty}
 use Rattle.semver_core.specs.Values.Versions.{VersionValue}
 use Rattle.nodejs_semver.specs.Internal.CommonFronts.{common_range}
 use Rattle.nodejs_semver.specs.Text.Denotes.{denotes}

@@ -5,7 +5,7 @@ use Rattle.std.specs.List.{list_all}
 use Rattle.semver_core.specs.Cuts.{Span}
 use Rattle.semver_core.specs.Values.Order.{precedence}
 use Rattle.semver_core.specs.Values.Versions.{VersionValue}
-use Rattle.semver_core.specs.Internal.Spaces.{is_empty}
+use Rattle.semver_core.specs.Lists.{is_empty}
 use Rattle.nodejs_semver.specs.Internal.Parts.{parts}
 use Rattle.nodejs_semver.specs.Ranges.View.{any_version}
 use Rattle.nodejs_semver.specs.Text.Runs.{interval_of}

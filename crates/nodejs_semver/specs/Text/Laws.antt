@@ -1,7 +1,8 @@
 -- Statement. Each relation of range texts has one solution, which the definitions compute; and the intervals of a text hold
 -- what the text writes.
 use Rattle.std.specs.Prelude.{◌≡◌, ◌↔◌, ℕ, false, List, Some, IsUtf8}
-use Rattle.semver_core.specs.Cuts.{Span, list_holds}
+use Rattle.semver_core.specs.Cuts.{Span}
+use Rattle.nodejs_semver.specs.Ranges.Algebra.{list_holds}
 use Rattle.semver_core.specs.Text.Numbers.{IsNumber}
 use Rattle.semver_core.specs.Values.Order.{precedence}
 use Rattle.semver_core.specs.Values.Versions.{VersionValue}

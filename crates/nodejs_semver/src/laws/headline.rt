@@ -33,17 +33,21 @@ pub struct Findings {
 /// `Range::satisfies_with_prerelease` returns what `accepts` says here, and `satisfies` the same
 /// with false for the flag.
 pub fn headline(alloc: Global, a: &str, b: &str) -> Result<Findings, Failure<SemverError>>
-    ensures read { OnOk result ((0 < length (denotes MAX_SAFE_INTEGER a.now)) × (0 < length (denotes MAX_SAFE_INTEGER b.now))) }
+    ensures read { OnOk result ((0 < length (denotes MAX_SAFE_INTEGER a.now))
+        × (0 < length (denotes MAX_SAFE_INTEGER b.now))) }
     // The one other error is a failed allocation.
     ensures refused { RefusedOnlyIf result
         ((denotes MAX_SAFE_INTEGER a.now ≡ []) ⊎ (denotes MAX_SAFE_INTEGER b.now ≡ [])) }
     ensures first { IfOk result (λ found. (v : VersionValue) →
         accepts found.first v true ≡ writes MAX_SAFE_INTEGER a.now v) }
     ensures both { IfOk result (λ found. (v : VersionValue) →
-        option_accepts found.both v true ≡ (writes MAX_SAFE_INTEGER a.now v && writes MAX_SAFE_INTEGER b.now v)) }
+        option_accepts found.both v true
+        ≡ (writes MAX_SAFE_INTEGER a.now v && writes MAX_SAFE_INTEGER b.now v)) }
     ensures first_alone { IfOk result (λ found. (v : VersionValue) →
-        option_accepts found.first_alone v true ≡ (writes MAX_SAFE_INTEGER a.now v && not (writes MAX_SAFE_INTEGER b.now v))) }
-    ensures least { IfOk result (λ found. IsLeastOf (λ v. accepts (denotes MAX_SAFE_INTEGER a.now) v false) found.least) }
+        option_accepts found.first_alone v true
+        ≡ (writes MAX_SAFE_INTEGER a.now v && not (writes MAX_SAFE_INTEGER b.now v))) }
+    ensures least { IfOk result (λ found.
+        IsLeastOf (λ v. accepts (denotes MAX_SAFE_INTEGER a.now) v false) found.least) }
 {
     let first = Range::parse(alloc, a)?;
     let second = Range::parse(alloc, b)?;
@@ -78,15 +82,22 @@ pub fn headline_at(
     b: &str,
     version: &Version,
 ) -> Result<FindingsAt, Failure<SemverError>>
-    ensures read { OnOk result ((0 < length (denotes MAX_SAFE_INTEGER a.now)) × (0 < length (denotes MAX_SAFE_INTEGER b.now))) }
+    ensures read { OnOk result ((0 < length (denotes MAX_SAFE_INTEGER a.now))
+        × (0 < length (denotes MAX_SAFE_INTEGER b.now))) }
     ensures refused { RefusedOnlyIf result
         ((denotes MAX_SAFE_INTEGER a.now ≡ []) ⊎ (denotes MAX_SAFE_INTEGER b.now ≡ [])) }
-    ensures first { IfOk result (λ found. found.in_first ≡ writes MAX_SAFE_INTEGER a.now version.now) }
+    ensures first { IfOk result (λ found.
+        found.in_first ≡ writes MAX_SAFE_INTEGER a.now version.now) }
     ensures both { IfOk result (λ found.
-        found.in_both ≡ (writes MAX_SAFE_INTEGER a.now version.now && writes MAX_SAFE_INTEGER b.now version.now)) }
+        found.in_both
+        ≡ (writes MAX_SAFE_INTEGER a.now version.now
+        && writes MAX_SAFE_INTEGER b.now version.now)) }
     ensures first_alone { IfOk result (λ found.
-        found.in_first_alone ≡ (writes MAX_SAFE_INTEGER a.now version.now && not (writes MAX_SAFE_INTEGER b.now version.now))) }
-    ensures least { IfOk result (λ found. IsLeastOf (λ v. accepts (denotes MAX_SAFE_INTEGER a.now) v false) found.least) }
+        found.in_first_alone
+        ≡ (writes MAX_SAFE_INTEGER a.now version.now
+        && not (writes MAX_SAFE_INTEGER b.now version.now))) }
+    ensures least { IfOk result (λ found.
+        IsLeastOf (λ v. accepts (denotes MAX_SAFE_INTEGER a.now) v false) found.least) }
 {
     let found = headline(alloc, a, b)?;
     Ok(FindingsAt {

@@ -2,11 +2,11 @@
 
 ghost use Rattle.std.specs.Prelude.{◌≡◌, ◌&&◌, ◌||◌, not, IfOk, true, false, is_some};
 ghost use Rattle.std.specs.List.{list_any};
-ghost use Rattle.semver_core.specs.Cuts.{list_holds, meet, option_list_holds};
+ghost use Rattle.semver_core.specs.Cuts.{meet};
 ghost use Rattle.semver_core.specs.Values.Order.{precedence};
-ghost use Rattle.semver_core.specs.Values.Versions.{VersionValue};
-ghost use Rattle.nodejs_semver.specs.Ranges.Gate.{accepts, option_accepts, is_release};
-ghost use Rattle.nodejs_semver.specs.Ranges.Algebra.{intersection, difference, covers_one};
+ghost use Rattle.semver_core.specs.Values.Versions.{VersionValue, is_release};
+ghost use Rattle.nodejs_semver.specs.Ranges.Gate.{accepts, option_accepts};
+ghost use Rattle.nodejs_semver.specs.Ranges.Algebra.{intersection, difference, covers_one, list_holds, option_list_holds};
 
 use crate::Range;
 use crate::range::lists;
@@ -41,8 +41,9 @@ impl Range {
     /// Of equal lower bounds the other's is kept with its build, of equal upper bounds this
     /// range's.
     ///
-    /// The list is not normalised: n intervals that all meet m others make n times m intervals, and
-    /// time and memory grow with that product.
+    /// The list is not normalised: n intervals and m others make at most n times m intervals, and
+    /// that many if all pairs meet. As measured, time grows with n times m, and memory with the
+    /// number of intervals made.
     pub fn intersect(&self, alloc: Global, other: &Range) -> Result<Option<Range>, AllocError>
         ensures list { IfOk result (λ r. r ≡ intersection self.now other.now) }
         // It holds what both hold.
@@ -62,8 +63,8 @@ impl Range {
         ensures releases { IfOk result (λ r. (v : VersionValue) → is_release v ≡ true →
             option_accepts r v false ≡ (accepts self.now v false && accepts other.now v false)) }
     {
-        let found = self.exact_intersection(alloc, other)?;
-        Ok(found)
+        let found = lists::intersections(alloc, self.intervals(), other.intervals())?;
+        Ok(Range::from_intervals(SmallVec::from_vec(found)))
     }
 
     /// The difference: what is left of each interval of this range, in order, once all of the
@@ -74,7 +75,7 @@ impl Range {
     /// others; see `least_beyond`.
     ///
     /// Each interval of this range is left in as many pieces as the other's have gaps in it: n
-    /// intervals less m others make at most n times m + 1 pieces. Time was measured to grow with
+    /// intervals less m others make at most n times (m + 1) intervals. As measured, time grows with
     /// the size of the result, and with m log m.
     pub fn difference(&self, alloc: Global, other: &Range) -> Result<Option<Range>, AllocError>
         ensures list { IfOk result (λ r. r ≡ difference self.now other.now) }
@@ -93,8 +94,8 @@ impl Range {
             option_accepts r v false
             ≡ (accepts self.now v false && not (accepts other.now v false))) }
     {
-        let left = self.exact_difference(alloc, other)?;
-        Ok(left)
+        let left = lists::differences(alloc, self.intervals(), other.intervals())?;
+        Ok(Range::from_intervals(SmallVec::from_vec(left)))
     }
 
     // Whether some pair of intervals meets.
@@ -105,21 +106,5 @@ impl Range {
         self.intervals()
             .iter()
             .any(|interval| lists::meets_one(interval, other.intervals()))
-    }
-
-    // The intersection as a list, in order and with its builds.
-    fn exact_intersection(&self, alloc: Global, other: &Range) -> Result<Option<Range>, AllocError>
-        ensures { IfOk result (λ r. r ≡ intersection self.now other.now) }
-    {
-        let found = lists::intersections(alloc, self.intervals(), other.intervals())?;
-        Ok(Range::from_intervals(SmallVec::from_vec(found)))
-    }
-
-    // The difference as a list, in order and with its builds.
-    fn exact_difference(&self, alloc: Global, other: &Range) -> Result<Option<Range>, AllocError>
-        ensures { IfOk result (λ r. r ≡ difference self.now other.now) }
-    {
-        let left = lists::differences(alloc, self.intervals(), other.intervals())?;
-        Ok(Range::from_intervals(SmallVec::from_vec(left)))
     }
 }

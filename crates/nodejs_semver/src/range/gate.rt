@@ -1,7 +1,8 @@
 // Which versions a range accepts.
 
 ghost use Rattle.std.specs.Prelude.{◌≡◌, ◌&&◌, ◌||◌, IsTrue, true, false};
-ghost use Rattle.semver_core.specs.Cuts.{holds, list_holds};
+ghost use Rattle.semver_core.specs.Cuts.{holds};
+ghost use Rattle.nodejs_semver.specs.Ranges.Algebra.{list_holds};
 ghost use Rattle.semver_core.specs.Values.Order.{precedence};
 ghost use Rattle.semver_core.specs.declared.TheConstants.{MAX_SAFE_INTEGER};
 ghost use Rattle.nodejs_semver.specs.Ranges.Gate.{accepts, lets_in, names};

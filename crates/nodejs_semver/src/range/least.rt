@@ -22,7 +22,7 @@ ghost use Rattle.std.specs.Prelude.{◌&&◌, ◌-◌, ◌<◌, ◌≡◌, ◌^�
 use crate::Range;
 use crate::range::gate::{accepts, accepts_one};
 use crate::range::neighbours::{
-    bare, first_pre, is_release, next_patch, next_pre, release_of, with_build,
+    bare, first_pre, is_first_pre, is_release, next_patch, next_pre, release_of, with_build,
 };
 use semver_core::Version;
 use semver_core::cuts::{Bound, Interval};
@@ -37,6 +37,8 @@ impl Range {
     /// number 0. So `>1.2.3+b` gives 1.2.4+b. A result that an upper bound alone lets in, as
     /// 1.0.1-0 for `>1.0.0 <1.0.1-5`, or one of an interval without a lower bound, has no build. Of
     /// equal results it is the one of the first interval.
+    ///
+    /// As measured, time grows at most with the square of the number of intervals.
     #[tactic(auto, using(crate::proofs::Choice::Raised::raisable))]
     pub fn min_version(&self, alloc: Global) -> Result<Option<Version>, AllocError>
         ensures least { IfOk result (λ r. stated.IsLeastOf (λ v. accepts self.now v false) r) }
@@ -51,6 +53,8 @@ impl Range {
     ///
     /// It is not the smallest version of the difference of the two: `>=1.2.3-a` beyond `>=1.0.0` is
     /// 1.2.3-a, which the second range holds and does not accept.
+    ///
+    /// As measured, time grows at most with the square of the number of intervals of both ranges.
     #[tactic(auto, using(crate::proofs::Choice::Raised::raisable))]
     pub fn least_beyond(&self, alloc: Global, other: &Range) -> Result<Option<Version>, AllocError>
         ensures least { IfOk result (λ r. stated.IsLeastOf (stated.beyond self.now other.now) r) }
@@ -180,6 +184,22 @@ impl<'a> Search<'a> {
         }
     }
 
+    // Considers the first versions from the first pre-release with these three numbers on. Mostly
+    // the version is that pre-release, as in `<2.0.0-0`, and none is made.
+    fn consider_first_pre(&mut self, alloc: Global, version: &Version) -> Result<(), AllocError>
+        ensures { let set = stated.beyond self.old.kept.now self.old.removed.now in
+            OnOk result (self.new ≡ record self.old {
+              best =
+                  fold (spec.better set) self.old.best
+                  (spec.firsts (Beside (spec.first_pre version.now) Near));
+            }) }
+    {
+        if is_first_pre(version) {
+            return self.consider_from(alloc, version);
+        }
+        self.consider_from(alloc, &first_pre(alloc, version)?)
+    }
+
     // Considers the first versions past the cut below the pre-releases that a bound names.
     fn consider_named(&mut self, alloc: Global, bound: &Bound<Version>) -> Result<(), AllocError>
         ensures { let set = stated.beyond self.old.kept.now self.old.removed.now in
@@ -191,7 +211,7 @@ impl<'a> Search<'a> {
     {
         match bound {
             Bound::Before(version) | Bound::After(version) if !is_release(version) => {
-                self.consider_from(alloc, &first_pre(alloc, version)?)
+                self.consider_first_pre(alloc, version)
             }
             _ => Ok(()),
         }

@@ -4,10 +4,10 @@ ghost use Rattle.std.specs.Prelude.{◌≡◌, [], ◌∷◌, ◌++◌, IfOk, On
 ghost use Rattle.std.specs.List.{flat_map, list_all, list_any};
 ghost use Rattle.std.specs.Option.{option_to_list};
 ghost use Rattle.semver_core.specs.Clips.{clip};
-ghost use Rattle.semver_core.specs.Cuts.{Start, is_interval, meet, meets_of, minus, remainder};
+ghost use Rattle.semver_core.specs.Cuts.{Start, is_interval, meet, covers};
+ghost use Rattle.nodejs_semver.specs.Ranges.Algebra.{meets_of, minus, remainder};
 ghost use Rattle.semver_core.specs.declared.cuts.bound.Bound.TheVariants.{Unbounded};
 ghost use Rattle.nodejs_semver.specs.Ranges.Along.{IsAlong};
-ghost use Rattle.nodejs_semver.specs.Ranges.Algebra.{covers};
 
 use semver_core::cuts::{Interval, Point};
 use std::alloc::{AllocError, Global};

@@ -1,8 +1,9 @@
 // Versions beside another one.
 
-ghost use Rattle.std.specs.Prelude.{◌≡◌, ◌+◌, ◌-◌, ◌<◌, ◌^◌, [], IfOk};
-ghost use Rattle.nodejs_semver.specs.Ranges.Gate.{is_release};
+ghost use Rattle.std.specs.Prelude.{◌≡◌, ◌+◌, ◌-◌, ◌<◌, ◌^◌, [], ◌∷◌, IfOk, IsTrue};
+ghost use Rattle.semver_core.specs.Values.Versions.{is_release};
 ghost use Rattle.nodejs_semver.specs.Internal.Candidates as spec;
+ghost use Rattle.semver_core.specs.Text.Identifiers.{Numeric};
 ghost use Rattle.semver_core.specs.Values.PartsView.{parts_value};
 ghost use Rattle.semver_core.specs.Values.Views.{ids_view};
 
@@ -38,6 +39,13 @@ pub(crate) fn first_pre(alloc: Global, version: &Version) -> Result<Version, All
     Version::with_pre(alloc, version.major(), version.minor(), version.patch(), 0)
 }
 
+// Whether the pre-release is the number 0 alone, as that of `<2.0.0-0`.
+pub(crate) fn is_first_pre(version: &Version) -> bool
+    ensures { IsTrue result → version.now.pre_release ≡ Numeric 0 ∷ [] }
+{
+    matches!(version.pre_release(), [Identifier::Numeric(0)])
+}
+
 // The version after a pre-release.
 pub(crate) fn next_pre(alloc: Global, version: &Version) -> Result<Version, AllocError>
     ensures { IfOk result (λ v. v ≡ spec.next_pre version.now) }
@@ -51,6 +59,9 @@ pub(crate) fn next_pre(alloc: Global, version: &Version) -> Result<Version, Allo
 pub(crate) fn bare(alloc: Global, version: &Version) -> Result<Version, AllocError>
     ensures { IfOk result (λ v. v ≡ spec.bare version.now) }
 {
+    if version.build().is_empty() {
+        return version.copy(alloc);
+    }
     let pre_release = Identifier::copy_list(alloc, version.pre_release())?;
     with_pre_release(alloc, version, pre_release)
 }

@@ -4,7 +4,7 @@ ghost use Rattle.std.specs.Prelude.{◌≡◌, ◌<◌, [], IfOk, OnOk, length, 
 ghost use Rattle.nodejs_semver.specs.Ranges.Gate.{accepts};
 ghost use Rattle.nodejs_semver.specs.Text.Denotes.{denotes};
 ghost use Rattle.nodejs_semver.specs.Text.WrittenSet.{writes};
-ghost use Rattle.semver_core.specs.Cuts.{if_any};
+ghost use Rattle.semver_core.specs.Lists.{if_any};
 ghost use Rattle.semver_core.specs.Failures.{RefusedOnlyIf};
 ghost use Rattle.semver_core.specs.Values.Versions.{VersionValue};
 
@@ -31,7 +31,8 @@ impl Range {
         // The text is rejected only if it has none. The one other error is a failed allocation.
         ensures refused { RefusedOnlyIf result (denotes MAX_SAFE_INTEGER text.now ≡ []) }
         // With pre-releases included, the range accepts exactly the versions that the text writes.
-        ensures set { IfOk result (λ range. (v : VersionValue) → accepts range v true ≡ writes MAX_SAFE_INTEGER text.now v) }
+        ensures set { IfOk result (λ range.
+            (v : VersionValue) → accepts range v true ≡ writes MAX_SAFE_INTEGER text.now v) }
     {
         match read(alloc, text) {
             Ok(Some(range)) => Ok(range),

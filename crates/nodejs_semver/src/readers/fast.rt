@@ -1,20 +1,20 @@
 // The reader of common range texts, in one pass from the left.
 
 ghost use Rattle.std.specs.Option.{ForSome};
-ghost use Rattle.std.specs.Prelude.{◌≡◌, ◌≤◌, if◌then◌else◌, IfNone, IfOk, IfSome, None, Some};
+ghost use Rattle.std.specs.Prelude.{◌≡◌, ◌≤◌, if◌then◌else◌, IfNone, IfOk, IfSome, None, Some, true};
 ghost use Rattle.nodejs_semver.specs.Internal.CommonFronts as Spec;
 ghost use Rattle.nodejs_semver.specs.Text.Common.{IsCommonRange, IsUncommon};
 ghost use Rattle.nodejs_semver.specs.Text.Denotes.{denotes};
 ghost use Rattle.nodejs_semver.specs.Internal.Fronts.{dotted_front};
 ghost use Rattle.nodejs_semver.specs.Internal.CommonViews.{between_view, both_view, bounds_front_view, passed_view};
-ghost use Rattle.nodejs_semver.specs.Internal.Readings.{bare_view, bound_view, bounds_view, partial_front_view, partial_pair_view, reading_view, rest_view};
-ghost use Rattle.semver_core.specs.Cuts.{interval};
+ghost use Rattle.nodejs_semver.specs.Internal.Readings.{bounds_view, partial_front_view, partial_pair_view, partial_view, rest_view, table_view};
+ghost use Rattle.semver_core.specs.Cuts.{interval, is_interval};
 ghost use Rattle.semver_core.specs.Values.Order.{precedence};
 ghost use Rattle.semver_core.specs.declared.TheConstants.{MAX_SAFE_INTEGER};
 
 use crate::Range;
 use crate::range::Intervals;
-use crate::readers::syntax::{BareVersion, Bounds, Partial, PreRelease, Word};
+use crate::readers::syntax::{BareVersion, Bounds, Partial};
 use crate::readers::{intervals, partial, table, words};
 use semver_core::cuts::{Bound, Interval};
 use semver_core::{MAX_SAFE_INTEGER, Version};
@@ -88,100 +88,33 @@ fn bare_front(text: &[u8]) -> Option<(Partial<'_>, &[u8])>
     Some(bare_minor(major, rest))
 }
 
-// A comparator and a partial.
-#[tactic(auto, unfolding(crate::specs::Internal::CommonFronts::comparison_front))]
-fn comparison_front(text: &[u8]) -> Option<(Word<'_>, &[u8])>
-    ensures { reading_view result ≡ Spec.comparison_front MAX_SAFE_INTEGER text.now }
+// The bounds of a comparator and a partial.
+#[inline(always)]
+#[tactic(auto, unfolding(crate::specs::Internal::CommonFronts::comparison_front), using(crate::proofs::Bounds::TableReadings::compared))]
+fn comparison(text: &[u8]) -> Option<(Bounds<'_>, &[u8])>
+    ensures { bounds_front_view result
+        ≡ Spec.word_read MAX_SAFE_INTEGER (Spec.comparison_front MAX_SAFE_INTEGER text.now) }
 {
     let (comparator, rest) = words::comparator_front(text)?;
     let (partial, rest) = bare_front(rest)?;
-    Some((Word::Compare(comparator, partial), rest))
-}
-
-// What stands behind a tilde.
-#[tactic(auto, unfolding(crate::specs::Internal::CommonFronts::tilde_front))]
-fn tilde_front(text: &[u8]) -> Option<(Word<'_>, &[u8])>
-    ensures { reading_view result ≡ Spec.tilde_front MAX_SAFE_INTEGER text.now }
-{
-    let (greater, rest) = words::tilde_sign(text);
-    let (partial, rest) = bare_front(rest)?;
-    Some((Word::Tilde(greater, partial), rest))
-}
-
-// What stands behind a caret.
-#[tactic(auto, unfolding(crate::specs::Internal::CommonFronts::caret_front))]
-fn caret_front(text: &[u8]) -> Option<(Word<'_>, &[u8])>
-    ensures { reading_view result ≡ Spec.caret_front MAX_SAFE_INTEGER text.now }
-{
-    let (partial, rest) = bare_front(text)?;
-    Some((Word::Caret(partial), rest))
-}
-
-// One partial, or two with a dash between them.
-#[tactic(auto, unfolding(crate::specs::Internal::CommonFronts::partials_front))]
-fn partials_front(text: &[u8]) -> Option<(Word<'_>, &[u8])>
-    ensures { reading_view result ≡ Spec.partials_front MAX_SAFE_INTEGER text.now }
-{
-    let (lower, rest) = bare_front(text)?;
-    match rest {
-        [b' ', b'-', b' ', second @ ..] => {
-            let (upper, rest) = bare_front(second)?;
-            Some((Word::Hyphen(lower, upper), rest))
-        }
-        _ => Some((Word::Plain(lower), rest)),
-    }
-}
-
-// The bounds of a word that was read, and what follows the word.
-#[inline(always)]
-fn bounds_read<'a>(read: Option<(Word<'a>, &'a [u8])>) -> Option<(Bounds<'a>, &'a [u8])>
-    ensures { bounds_front_view result
-        ≡ Spec.word_read MAX_SAFE_INTEGER (reading_view read.entry) }
-{
-    let (word, rest) = read?;
-    let bounds = table::table(&word)?;
+    let bounds = table::compare(comparator, &partial)?;
     Some((bounds, rest))
 }
 
-// The version of a bound. Mostly it has no identifiers, or the pre-release `0` alone.
-#[inline(always)]
-#[tactic(auto, unfolding(crate::specs::Internal::Fronts::list_of))]
-fn version(alloc: Global, bare: &BareVersion<'_>) -> Result<Version, AllocError>
-    ensures { IfOk result (λ v. v ≡ bare_view bare.now) }
-{
-    match (bare.pre_release, bare.build) {
-        (PreRelease::Written([]), []) => Ok(Version::from((bare.major, bare.minor, bare.patch))),
-        (PreRelease::Zero, []) => {
-            Version::with_pre(alloc, bare.major, bare.minor, bare.patch, 0)
-        }
-        _ => intervals::version(alloc, bare),
-    }
-}
-
-#[inline(always)]
-fn bound(alloc: Global, bare: &Bound<BareVersion<'_>>) -> Result<Bound<Version>, AllocError>
-    ensures { IfOk result (λ b. b ≡ bound_view bare.now) }
-{
-    Ok(match bare {
-        Bound::Unbounded => Bound::Unbounded,
-        Bound::Before(bare) => Bound::Before(version(alloc, bare)?),
-        Bound::After(bare) => Bound::After(version(alloc, bare)?),
-    })
-}
-
 // Adds the interval of two bounds, where the lower cut is below the upper one.
+#[inline(always)]
 fn push_between(
     alloc: Global,
-    lower: &Bound<BareVersion<'_>>,
-    upper: &Bound<BareVersion<'_>>,
+    lower: Bound<BareVersion<'_>>,
+    upper: Bound<BareVersion<'_>>,
     found: &mut Intervals<Version>,
 ) -> Result<bool, AllocError>
-    ensures { let s = between_view lower.now upper.now in
+    ensures { let s = between_view lower.entry upper.entry in
         IfOk result (λ there. both_view there found.new.items
         ≡ Spec.pushed found.old.items (interval precedence s)) }
 {
-    let lower = bound(alloc, lower)?;
-    let upper = bound(alloc, upper)?;
+    let lower = intervals::bound(alloc, lower)?;
+    let upper = intervals::bound(alloc, upper)?;
     let Some(interval) = Interval::new(lower, upper) else {
         return Ok(false);
     };
@@ -192,11 +125,11 @@ fn push_between(
 // What the intervals of two pairs of bounds have in common.
 fn common_interval(
     alloc: Global,
-    first: &Bounds<'_>,
-    second: &Bounds<'_>,
+    first: Bounds<'_>,
+    second: Bounds<'_>,
 ) -> Result<Option<Interval<Version>>, AllocError>
     ensures { IfOk result (λ both. both
-        ≡ Spec.both_of (bounds_view first.now) (bounds_view second.now)) }
+        ≡ Spec.both_of (bounds_view first.entry) (bounds_view second.entry)) }
 {
     let Some(first) = intervals::interval_of(alloc, first)? else {
         return Ok(None);
@@ -212,11 +145,11 @@ fn common_interval(
 #[inline(never)]
 fn push_common(
     alloc: Global,
-    first: &Bounds<'_>,
-    second: &Bounds<'_>,
+    first: Bounds<'_>,
+    second: Bounds<'_>,
     found: &mut Intervals<Version>,
 ) -> Result<bool, AllocError>
-    ensures { let both = Spec.both_of (bounds_view first.now) (bounds_view second.now) in
+    ensures { let both = Spec.both_of (bounds_view first.entry) (bounds_view second.entry) in
         IfOk result (λ there. both_view there found.new.items
         ≡ Spec.pushed found.old.items both) }
 {
@@ -233,17 +166,17 @@ fn push_common(
 #[tactic(auto, using(crate::proofs::Common::Bounds::half_open))]
 fn push_both(
     alloc: Global,
-    first: &Bounds<'_>,
-    second: &Bounds<'_>,
+    first: Bounds<'_>,
+    second: Bounds<'_>,
     found: &mut Intervals<Version>,
 ) -> Result<bool, AllocError>
-    ensures { let both = Spec.both_of (bounds_view first.now) (bounds_view second.now) in
+    ensures { let both = Spec.both_of (bounds_view first.entry) (bounds_view second.entry) in
         IfOk result (λ there. both_view there found.new.items
         ≡ Spec.pushed found.old.items both) }
 {
     match (&first.upper, &second.lower) {
         (Bound::Unbounded, Bound::Unbounded) => {
-            push_between(alloc, &first.lower, &second.upper, found)
+            push_between(alloc, first.lower, second.upper, found)
         }
         _ => push_common(alloc, first, second, found),
     }
@@ -275,37 +208,118 @@ fn push_comparisons<'a>(
     ensures { IfOk result (λ rest. passed_view rest found.new.items
         ≡ Spec.passed found.old.items (Spec.comparisons_front MAX_SAFE_INTEGER text.now)) }
 {
-    let Some((first, rest)) = bounds_read(comparison_front(text)) else {
+    let Some((first, rest)) = comparison(text) else {
         return Ok(None);
     };
     if !begins_second(rest) {
-        let there = push_between(alloc, &first.lower, &first.upper, found)?;
+        let there = push_between(alloc, first.lower, first.upper, found)?;
         return Ok(behind_part(there, rest));
     }
-    let Some((second, rest)) = bounds_read(comparison_front(&rest[1..])) else {
+    let Some((second, rest)) = comparison(&rest[1..]) else {
         return Ok(None);
     };
-    let there = push_both(alloc, &first, &second, found)?;
+    let there = push_both(alloc, first, second, found)?;
     Ok(behind_part(there, rest))
 }
 
-// Adds the interval of a word that was read, and returns what follows the word.
+// Adds the interval of a word that has these bounds, and returns what follows the word. The bounds
+// are known to be in order.
+#[inline(always)]
 fn push_word<'a>(
     alloc: Global,
-    read: Option<(Word<'a>, &'a [u8])>,
+    bounds: Option<Bounds<'_>>,
+    rest: &'a [u8],
+    found: &mut Intervals<Version>,
+) -> Result<Option<&'a [u8]>, AllocError>
+    requires { IfSome bounds (λ b. is_interval precedence (bounds_view b) ≡ true) }
+    ensures { IfOk result (λ after. passed_view after found.new.items
+        ≡ Spec.passed found.old.items (Spec.part_read rest.now (table_view bounds.entry))) }
+{
+    let Some(bounds) = bounds else {
+        return Ok(None);
+    };
+    let lower = intervals::bound(alloc, bounds.lower)?;
+    let upper = intervals::bound(alloc, bounds.upper)?;
+    found.push(Interval::of_ordered(lower, upper))?;
+    Ok(Some(rest))
+}
+
+// Adds the interval of what stands behind a tilde, and returns what follows it.
+#[tactic(auto, unfolding(crate::specs::Internal::CommonFronts::tilde_front), using(crate::proofs::Bounds::TableReadings::ordered))]
+fn push_tilde<'a>(
+    alloc: Global,
+    text: &'a [u8],
     found: &mut Intervals<Version>,
 ) -> Result<Option<&'a [u8]>, AllocError>
     ensures { IfOk result (λ rest. passed_view rest found.new.items
-        ≡ Spec.passed found.old.items (Spec.word_read MAX_SAFE_INTEGER (reading_view read.entry))) }
+        ≡ Spec.passed found.old.items
+        (Spec.word_read MAX_SAFE_INTEGER (Spec.tilde_front MAX_SAFE_INTEGER text.now))) }
 {
-    let Some((bounds, rest)) = bounds_read(read) else {
+    let (greater, rest) = words::tilde_sign(text);
+    let Some((partial, rest)) = bare_front(rest) else {
         return Ok(None);
     };
-    let there = push_between(alloc, &bounds.lower, &bounds.upper, found)?;
+    push_word(alloc, table::tilde(greater, &partial), rest, found)
+}
+
+// Adds the interval of what stands behind a caret, and returns what follows it.
+#[tactic(auto, unfolding(crate::specs::Internal::CommonFronts::caret_front), using(crate::proofs::Bounds::TableReadings::ordered))]
+fn push_caret<'a>(
+    alloc: Global,
+    text: &'a [u8],
+    found: &mut Intervals<Version>,
+) -> Result<Option<&'a [u8]>, AllocError>
+    ensures { IfOk result (λ rest. passed_view rest found.new.items
+        ≡ Spec.passed found.old.items
+        (Spec.word_read MAX_SAFE_INTEGER (Spec.caret_front MAX_SAFE_INTEGER text.now))) }
+{
+    let Some((partial, rest)) = bare_front(text) else {
+        return Ok(None);
+    };
+    push_word(alloc, table::caret(&partial), rest, found)
+}
+
+// Adds the interval from a partial to the one at the front, and returns what follows it.
+fn push_hyphen<'a>(
+    alloc: Global,
+    lower: Partial<'_>,
+    text: &'a [u8],
+    found: &mut Intervals<Version>,
+) -> Result<Option<&'a [u8]>, AllocError>
+    ensures { IfOk result (λ rest. passed_view rest found.new.items
+        ≡ Spec.passed found.old.items
+        (Spec.word_read MAX_SAFE_INTEGER (Spec.upper_front MAX_SAFE_INTEGER (partial_view lower.entry) text.now))) }
+{
+    let Some((upper, rest)) = bare_front(text) else {
+        return Ok(None);
+    };
+    let bounds = table::hyphen(&lower, &upper);
+    let there = push_between(alloc, bounds.lower, bounds.upper, found)?;
     Ok(behind_part(there, rest))
 }
 
+// Adds the interval of one partial, or of two with a dash between them, and returns what follows.
+#[tactic(auto, unfolding(crate::specs::Internal::CommonFronts::partials_front), using(crate::proofs::Bounds::TableReadings::ordered))]
+fn push_partials<'a>(
+    alloc: Global,
+    text: &'a [u8],
+    found: &mut Intervals<Version>,
+) -> Result<Option<&'a [u8]>, AllocError>
+    ensures { IfOk result (λ rest. passed_view rest found.new.items
+        ≡ Spec.passed found.old.items
+        (Spec.word_read MAX_SAFE_INTEGER (Spec.partials_front MAX_SAFE_INTEGER text.now))) }
+{
+    let Some((partial, rest)) = bare_front(text) else {
+        return Ok(None);
+    };
+    match rest {
+        [b' ', b'-', b' ', second @ ..] => push_hyphen(alloc, partial, second, found),
+        _ => push_word(alloc, table::plain(&partial), rest, found),
+    }
+}
+
 // Adds the interval of the part at the front, and returns what follows the part.
+#[inline(always)]
 #[tactic(auto, unfolding(crate::specs::Internal::CommonFronts::part_front))]
 fn push_part<'a>(
     alloc: Global,
@@ -318,9 +332,9 @@ fn push_part<'a>(
     match text {
         [] => Ok(None),
         [b'<' | b'=' | b'>', ..] => push_comparisons(alloc, text, found),
-        [b'~', rest @ ..] => push_word(alloc, tilde_front(rest), found),
-        [b'^', rest @ ..] => push_word(alloc, caret_front(rest), found),
-        _ => push_word(alloc, partials_front(text), found),
+        [b'~', rest @ ..] => push_tilde(alloc, rest, found),
+        [b'^', rest @ ..] => push_caret(alloc, rest, found),
+        _ => push_partials(alloc, text, found),
     }
 }
 
@@ -348,6 +362,7 @@ fn after_bars(text: &[u8]) -> Option<&[u8]>
 }
 
 // The intervals of a common text, one for each part.
+#[inline(always)]
 fn intervals_of(alloc: Global, text: &[u8]) -> Result<Option<Intervals<Version>>, AllocError>
     ensures some { IfOk result (λ found. IfSome found (λ list.
         IsCommonRange MAX_SAFE_INTEGER text.now list.items)) }
@@ -377,6 +392,7 @@ fn intervals_of(alloc: Global, text: &[u8]) -> Result<Option<Intervals<Version>>
 /// two comparisons separated by one space whose intervals meet, such as `>=1.0.0 <2.0.0`. No
 /// version in the text begins with `v` or has build metadata, and there is no other whitespace.
 /// `foo 1.2.3`, `v1.2.3` and `> 1` are not common texts; `Range::parse` reads them too.
+#[inline(always)]
 pub fn range_fast(alloc: Global, text: &str) -> Result<Option<Range>, AllocError>
     // What is read is the meaning of a common text, which is what the text denotes.
     ensures some { IfOk result (λ found. IfSome found (λ range.

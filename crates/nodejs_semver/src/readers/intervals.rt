@@ -34,8 +34,8 @@ fn identifiers(alloc: Global, bytes: &[u8]) -> Result<Vec<Identifier>, AllocErro
 }
 
 // The identifiers of the pre-release of a bound.
-fn pre_release(alloc: Global, bare: &BareVersion<'_>) -> Result<Vec<Identifier>, AllocError>
-    ensures { IfOk result (λ list. ids_view list.items ≡ pre_release_view bare.now.pre_release) }
+fn pre_release(alloc: Global, bare: BareVersion<'_>) -> Result<Vec<Identifier>, AllocError>
+    ensures { IfOk result (λ list. ids_view list.items ≡ pre_release_view bare.entry.pre_release) }
 {
     match bare.pre_release {
         PreRelease::Written(text) => identifiers(alloc, text),
@@ -47,9 +47,11 @@ fn pre_release(alloc: Global, bare: &BareVersion<'_>) -> Result<Vec<Identifier>,
     }
 }
 
-// The version with identifiers of its own.
-pub(crate) fn version(alloc: Global, bare: &BareVersion<'_>) -> Result<Version, AllocError>
-    ensures { IfOk result (λ v. v ≡ bare_view bare.now) }
+// The version with the identifiers that a text writes.
+#[cold]
+#[inline(never)]
+fn written_version(alloc: Global, bare: BareVersion<'_>) -> Result<Version, AllocError>
+    ensures { IfOk result (λ v. v ≡ bare_view bare.entry) }
 {
     let pre_release = pre_release(alloc, bare)?;
     let build = identifiers(alloc, bare.build)?;
@@ -66,8 +68,37 @@ pub(crate) fn version(alloc: Global, bare: &BareVersion<'_>) -> Result<Version, 
     }
 }
 
-fn bound(alloc: Global, bare: &Bound<BareVersion<'_>>) -> Result<Bound<Version>, AllocError>
-    ensures { IfOk result (λ b. b ≡ bound_view bare.now) }
+// The version of a bound. Mostly it has no identifiers, or the pre-release `0` alone.
+//
+// Each call puts its version into a place of its own, and `bare` is passed by value: then the
+// compiler keeps the numbers of a release in registers.
+#[inline(always)]
+#[tactic(auto, unfolding(crate::specs::Internal::Fronts::list_of))]
+fn version(alloc: Global, bare: BareVersion<'_>) -> Result<Version, AllocError>
+    ensures { IfOk result (λ v. v ≡ bare_view bare.entry) }
+{
+    match bare.pre_release {
+        PreRelease::Written([]) if bare.build.is_empty() => {
+            Ok(Version::from((bare.major, bare.minor, bare.patch)))
+        }
+        PreRelease::Zero if bare.build.is_empty() => {
+            let version = Version::with_pre(alloc, bare.major, bare.minor, bare.patch, 0)?;
+            Ok(version)
+        }
+        _ => {
+            let version = written_version(alloc, bare)?;
+            Ok(version)
+        }
+    }
+}
+
+/// The bound with a version of its own.
+#[inline(always)]
+pub(crate) fn bound(
+    alloc: Global,
+    bare: Bound<BareVersion<'_>>,
+) -> Result<Bound<Version>, AllocError>
+    ensures { IfOk result (λ b. b ≡ bound_view bare.entry) }
 {
     Ok(match bare {
         Bound::Unbounded => Bound::Unbounded,
@@ -79,12 +110,12 @@ fn bound(alloc: Global, bare: &Bound<BareVersion<'_>>) -> Result<Bound<Version>,
 // The interval of two bounds, where the lower cut is below the upper one.
 pub(crate) fn interval_of(
     alloc: Global,
-    bounds: &Bounds<'_>,
+    bounds: Bounds<'_>,
 ) -> Result<Option<Interval<Version>>, AllocError>
-    ensures { IfOk result (λ found. found ≡ interval precedence (bounds_view bounds.now)) }
+    ensures { IfOk result (λ found. found ≡ interval precedence (bounds_view bounds.entry)) }
 {
-    let lower = bound(alloc, &bounds.lower)?;
-    let upper = bound(alloc, &bounds.upper)?;
+    let lower = bound(alloc, bounds.lower)?;
+    let upper = bound(alloc, bounds.upper)?;
     Ok(Interval::new(lower, upper))
 }
 
@@ -98,7 +129,7 @@ fn next_interval(
 {
     let (word, rest) = words::word_front(text);
     let found = match table::table(&word) {
-        Some(bounds) => interval_of(alloc, &bounds)?,
+        Some(bounds) => interval_of(alloc, bounds)?,
         None => None,
     };
     Ok((found, scan::skip_spaces(rest)))

@@ -4,8 +4,8 @@ ghost use Rattle.std.specs.Prelude.{◌≡◌, ◌++◌, IfOk, OnOk, flat_map, f
 ghost use Rattle.std.specs.List.{list_all};
 ghost use Rattle.nodejs_semver.specs.Text.Denotes.{denotes, part_denotes};
 ghost use Rattle.nodejs_semver.specs.Internal.Parts.{parts};
-ghost use Rattle.semver_core.specs.Cuts.{if_any};
-ghost use Rattle.semver_core.specs.Internal.Spaces.{is_empty, space_len};
+ghost use Rattle.semver_core.specs.Internal.Spaces.{space_len};
+ghost use Rattle.semver_core.specs.Lists.{is_empty, if_any};
 
 use crate::Range;
 use crate::range::Intervals;

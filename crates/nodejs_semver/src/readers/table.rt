@@ -15,7 +15,7 @@ use semver_core::MAX_SAFE_INTEGER;
 use semver_core::cuts::Bound;
 
 // `major.minor.patch`
-#[inline]
+#[inline(always)]
 #[tactic(auto, unfolding(crate::specs::Internal::Fronts::list_of, crate::specs::Internal::Fronts::is_listed))]
 fn release(major: u64, minor: u64, patch: u64) -> BareVersion<'static>
     ensures { bare_view result ≡ release_value major minor patch }
@@ -30,7 +30,7 @@ fn release(major: u64, minor: u64, patch: u64) -> BareVersion<'static>
 }
 
 // `major.minor.patch-0`
-#[inline]
+#[inline(always)]
 #[tactic(auto, unfolding(crate::specs::Internal::Fronts::list_of, crate::specs::Internal::Fronts::is_listed))]
 fn lowest(major: u64, minor: u64, patch: u64) -> BareVersion<'static>
     ensures { bare_view result ≡ Spec.lowest major minor patch }
@@ -45,7 +45,7 @@ fn lowest(major: u64, minor: u64, patch: u64) -> BareVersion<'static>
 }
 
 // The version of a partial, with 0 for what is absent or a wildcard.
-#[inline]
+#[inline(always)]
 fn version_of<'a>(partial: &Partial<'a>) -> BareVersion<'a>
     ensures { bare_view result ≡ Spec.version_of (partial_view partial.now) }
 {
@@ -58,7 +58,7 @@ fn version_of<'a>(partial: &Partial<'a>) -> BareVersion<'a>
     }
 }
 
-#[inline]
+#[inline(always)]
 #[tactic(auto, unfolding(crate::specs::Internal::Fronts::list_of, crate::specs::Internal::Fronts::is_listed))]
 fn without_build(version: BareVersion<'_>) -> BareVersion<'_>
     ensures { bare_view result ≡ Spec.without_build (bare_view version.entry) }
@@ -74,7 +74,7 @@ fn without_build(version: BareVersion<'_>) -> BareVersion<'_>
 
 impl<'a> Bounds<'a> {
     // `>=version`
-    #[inline]
+    #[inline(always)]
     fn at_least(version: BareVersion<'a>) -> Bounds<'a>
         ensures { bounds_view result ≡ record { lower = Bound.Before (bare_view version.entry); upper = Bound.Unbounded } }
     {
@@ -85,7 +85,7 @@ impl<'a> Bounds<'a> {
     }
 
     // `>version`
-    #[inline]
+    #[inline(always)]
     fn above(version: BareVersion<'a>) -> Bounds<'a>
         ensures { bounds_view result ≡ record { lower = Bound.After (bare_view version.entry); upper = Bound.Unbounded } }
     {
@@ -96,7 +96,7 @@ impl<'a> Bounds<'a> {
     }
 
     // `<version`
-    #[inline]
+    #[inline(always)]
     fn below(version: BareVersion<'a>) -> Bounds<'a>
         ensures { bounds_view result ≡ record { lower = Bound.Unbounded; upper = Bound.Before (bare_view version.entry) } }
     {
@@ -107,7 +107,7 @@ impl<'a> Bounds<'a> {
     }
 
     // `<=version`
-    #[inline]
+    #[inline(always)]
     fn at_most(version: BareVersion<'a>) -> Bounds<'a>
         ensures { bounds_view result ≡ record { lower = Bound.Unbounded; upper = Bound.After (bare_view version.entry) } }
     {
@@ -118,7 +118,7 @@ impl<'a> Bounds<'a> {
     }
 
     // `>=first <end`
-    #[inline]
+    #[inline(always)]
     fn between(first: BareVersion<'a>, end: BareVersion<'a>) -> Bounds<'a>
         ensures { bounds_view result
             ≡ record { lower = Bound.Before (bare_view first.entry); upper = Bound.Before (bare_view end.entry) } }
@@ -130,7 +130,7 @@ impl<'a> Bounds<'a> {
     }
 
     // `>=first <=last`
-    #[inline]
+    #[inline(always)]
     fn through(first: BareVersion<'a>, last: BareVersion<'a>) -> Bounds<'a>
         ensures { bounds_view result
             ≡ record { lower = Bound.Before (bare_view first.entry); upper = Bound.After (bare_view last.entry) } }
@@ -142,6 +142,7 @@ impl<'a> Bounds<'a> {
     }
 
     // `>=major.0.0 <(major+1).0.0-0`
+    #[inline(always)]
     fn whole_major(major: u64) -> Bounds<'a>
         requires { major ≤ MAX_SAFE_INTEGER }
         ensures { bounds_view result
@@ -151,6 +152,7 @@ impl<'a> Bounds<'a> {
     }
 
     // `>=major.minor.0 <major.(minor+1).0-0`
+    #[inline(always)]
     fn whole_minor(major: u64, minor: u64) -> Bounds<'a>
         requires { minor ≤ MAX_SAFE_INTEGER }
         ensures { bounds_view result
@@ -160,6 +162,7 @@ impl<'a> Bounds<'a> {
     }
 }
 
+#[inline(always)]
 #[tactic(auto, unfolding(crate::specs::Text::Table::table))]
 fn above<'a>(partial: &Partial<'a>) -> Bounds<'a>
     ensures { Some (bounds_view result)
@@ -172,6 +175,7 @@ fn above<'a>(partial: &Partial<'a>) -> Bounds<'a>
     }
 }
 
+#[inline(always)]
 #[tactic(auto, unfolding(crate::specs::Text::Table::table))]
 fn below<'a>(partial: &Partial<'a>) -> Bounds<'a>
     ensures { Some (bounds_view result)
@@ -183,6 +187,7 @@ fn below<'a>(partial: &Partial<'a>) -> Bounds<'a>
     }
 }
 
+#[inline(always)]
 #[tactic(auto, unfolding(crate::specs::Text::Table::table))]
 fn at_most<'a>(partial: &Partial<'a>) -> Bounds<'a>
     ensures { Some (bounds_view result)
@@ -198,6 +203,7 @@ fn at_most<'a>(partial: &Partial<'a>) -> Bounds<'a>
     }
 }
 
+#[inline(always)]
 #[tactic(auto, unfolding(crate::specs::Text::Table::table))]
 fn equal<'a>(partial: &Partial<'a>) -> Option<Bounds<'a>>
     ensures { table_view result
@@ -212,8 +218,9 @@ fn equal<'a>(partial: &Partial<'a>) -> Option<Bounds<'a>>
     }
 }
 
+#[inline(always)]
 #[tactic(auto, unfolding(crate::specs::Text::Table::table))]
-fn plain<'a>(partial: &Partial<'a>) -> Option<Bounds<'a>>
+pub(crate) fn plain<'a>(partial: &Partial<'a>) -> Option<Bounds<'a>>
     ensures { table_view result ≡ table MAX_SAFE_INTEGER (Words.plain (partial_view partial.now)) }
 {
     let version = version_of(partial);
@@ -225,8 +232,9 @@ fn plain<'a>(partial: &Partial<'a>) -> Option<Bounds<'a>>
     }
 }
 
+#[inline(always)]
 #[tactic(auto, unfolding(crate::specs::Text::Table::table))]
-fn tilde<'a>(greater: bool, partial: &Partial<'a>) -> Option<Bounds<'a>>
+pub(crate) fn tilde<'a>(greater: bool, partial: &Partial<'a>) -> Option<Bounds<'a>>
     ensures { table_view result ≡ table MAX_SAFE_INTEGER (Words.tilde greater (partial_view partial.now)) }
 {
     match (partial.major, partial.minor, partial.patch) {
@@ -240,8 +248,9 @@ fn tilde<'a>(greater: bool, partial: &Partial<'a>) -> Option<Bounds<'a>>
     }
 }
 
+#[inline(always)]
 #[tactic(auto, unfolding(crate::specs::Text::Table::table))]
-fn caret<'a>(partial: &Partial<'a>) -> Option<Bounds<'a>>
+pub(crate) fn caret<'a>(partial: &Partial<'a>) -> Option<Bounds<'a>>
     ensures { table_view result ≡ table MAX_SAFE_INTEGER (Words.caret (partial_view partial.now)) }
 {
     let version = without_build(version_of(partial));
@@ -263,8 +272,9 @@ fn caret<'a>(partial: &Partial<'a>) -> Option<Bounds<'a>>
     }
 }
 
+#[inline(always)]
 #[tactic(auto, unfolding(crate::specs::Text::Table::table))]
-fn hyphen<'a>(lower: &Partial<'a>, upper: &Partial<'a>) -> Bounds<'a>
+pub(crate) fn hyphen<'a>(lower: &Partial<'a>, upper: &Partial<'a>) -> Bounds<'a>
     ensures { interval precedence (bounds_view result)
         ≡ table MAX_SAFE_INTEGER (Words.hyphen (partial_view lower.now) (partial_view upper.now)) }
 {
@@ -277,8 +287,9 @@ fn hyphen<'a>(lower: &Partial<'a>, upper: &Partial<'a>) -> Bounds<'a>
     }
 }
 
+#[inline(always)]
 #[tactic(auto, unfolding(crate::specs::Text::Table::table))]
-fn compare<'a>(comparator: Comparator, partial: &Partial<'a>) -> Option<Bounds<'a>>
+pub(crate) fn compare<'a>(comparator: Comparator, partial: &Partial<'a>) -> Option<Bounds<'a>>
     ensures { table_view result
         ≡ table MAX_SAFE_INTEGER (Words.compare (comparator_view comparator) (partial_view partial.now)) }
 {

@@ -2,10 +2,10 @@
 use Rattle.std.proofs.Common.{◌≡◌, sym, ◌∙◌, subst, false, List, [], ℕ, codes, Option}
 use Rattle.std.specs.Prelude.{Result, Ok, Err}
 use Rattle.std.specs.Result.{IfOk}
-use Rattle.semver_core.specs.Increments.Table.{Fault, answer_of_inc, base_or_zero, identifier_or_none, incremented, is_release}
+use Rattle.semver_core.specs.Increments.Table.{Fault, answer_of_inc, base_or_zero, identifier_or_none, incremented}
 use Rattle.semver_core.specs.Increments.Least.{HasNoIdentifier, IsAbove, IsLeastAnswer, IsLeastOrOverflow, IsNextMajor, IsNextMinor, IsNextPatch, IsOfNextMajor, IsOfNextMinor, IsOfNextPatch, IsPlain, CanStep}
 use Rattle.semver_core.specs.Increments.View.{IfAnswered, Returns}
-use Rattle.semver_core.specs.Values.Versions.{VersionValue, IsVersion}
+use Rattle.semver_core.specs.Values.Versions.{VersionValue, IsVersion, is_release}
 use Rattle.semver_core.specs.declared.error.Failure.{Failure}
 use Rattle.semver_core.specs.declared.error.Failure.TheVariants.{Refused, Memory}
 use Rattle.semver_core.specs.declared.increment.IdentifierBase.{IdentifierBase}

@@ -3,15 +3,15 @@ use Rattle.std.proofs.Common.{◌≡◌, refl, ◌∙◌, ap}
 use Rattle.std.specs.declared.cmp.Ordering.{Ordering}
 use Rattle.std.specs.declared.cmp.Ordering.TheVariants.{Less, Equal, Greater}
 use Rattle.std.specs.Ordering.{ordering_reverse}
-use Rattle.semver_core.specs.Difference.{difference, difference_by}
+use Rattle.semver_core.specs.Difference.{kind_between, kind_by}
 use Rattle.semver_core.specs.Values.Order.{precedence}
 use Rattle.semver_core.specs.Internal.OrderLaws.{precedence_total}
 use Rattle.semver_core.specs.Values.Versions.{VersionValue}
 
-turned : (r : Ordering) (v w : VersionValue) → difference_by (ordering_reverse r) v w ≡ difference_by r w v
+turned : (r : Ordering) (v w : VersionValue) → kind_by (ordering_reverse r) v w ≡ kind_by r w v
 turned Less v w = refl
 turned Equal v w = refl
 turned Greater v w = refl
 
-pub difference_symmetric : (v w : VersionValue) → difference v w ≡ difference w v
-difference_symmetric v w = ap (λ r. difference_by r v w) (precedence_total.antisymm v w) ∙ turned (precedence w v) v w
+pub difference_symmetric : (v w : VersionValue) → kind_between v w ≡ kind_between w v
+difference_symmetric v w = ap (λ r. kind_by r v w) (precedence_total.antisymm v w) ∙ turned (precedence w v) v w

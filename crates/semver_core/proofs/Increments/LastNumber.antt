@@ -7,7 +7,8 @@ use Rattle.std.proofs.lemmas.List.{length-set, take_all, take_more}
 use Rattle.std.specs.List.{refill}
 use Rattle.semver_core.proofs.Text.Runs.{ids_view_push}
 use Rattle.semver_core.specs.Text.Identifiers.{Id, Numeric, AlphaNumeric}
-use Rattle.semver_core.specs.Increments.Table.{has_numeric, is_empty, list_text, advance, raise_last, one_more, Fault, ◌>>=◌}
+use Rattle.semver_core.specs.Increments.Table.{has_numeric, list_text, advance, raise_last, one_more, Fault, ◌>>=◌}
+use Rattle.semver_core.specs.Lists.{is_empty}
 use Rattle.semver_core.specs.Internal.IncrementSteps.{IsLastNumber, Tracks}
 use Rattle.semver_core.specs.Printing.Text.{id_text}
 use Rattle.semver_core.specs.declared.increment.IdentifierBase.{IdentifierBase}

@@ -11,14 +11,15 @@ use Rattle.std.specs.Cmp.Lexicographic.{slice_cmp}
 use Rattle.std.proofs.lemmas.Bool.Decides.{nat_tests}
 use Rattle.std.proofs.lemmas.List.Elements.{All-nil, All-push, All-cons}
 use Rattle.semver_core.specs.Text.Identifiers.{Id, Numeric, AlphaNumeric}
-use Rattle.semver_core.specs.Increments.Table.{checked, incremented, by_word, Fault, Overflow, InvalidIncrementArgument, NotAPrerelease, one_more, next_major, next_minor, next_patch, pre_step, release_of, is_release, is_empty, has_numeric, raise_last, advance, identify, is_false, first_number, list_text, ◌>>=◌}
+use Rattle.semver_core.specs.Increments.Table.{checked, incremented, by_word, Fault, Overflow, InvalidIncrementArgument, NotAPrerelease, one_more, next_major, next_minor, next_patch, pre_step, release_of, has_numeric, raise_last, advance, identify, is_false, first_number, list_text, ◌>>=◌}
+use Rattle.semver_core.specs.Lists.{is_empty}
 use Rattle.std.specs.Cmp.{tied_itself}
 use Rattle.std.specs.Str.{bytes_eq}
 use Rattle.semver_core.specs.Internal.OrderLaws.{id_total}
 use Rattle.semver_core.specs.Increments.Least.{IsLeastOrOverflow, IsLeastAnswer, IsAbove, IsNextPatch, IsNextMinor, IsNextMajor, IsOfNextMajor, IsOfNextMinor, IsOfNextPatch, CanStep, release_below, no_number}
 use Rattle.semver_core.specs.Values.Order.{id_cmp, pre_cmp, precedence}
 use Rattle.semver_core.specs.Internal.Successors.{Below, by_major, by_minor, by_patch, by_pre, below_cases, less_first, above_major, above_minor, above_patch, above_pre, upto_major, upto_minor, upto_patch, zero_least, below_more, next_least, empty_not_below}
-use Rattle.semver_core.specs.Values.Versions.{VersionValue, IsVersion, IsId}
+use Rattle.semver_core.specs.Values.Versions.{VersionValue, IsVersion, IsId, is_release}
 use Rattle.semver_core.specs.Printing.Text.{version_text}
 use Rattle.semver_core.specs.declared.increment.IdentifierBase.{IdentifierBase}
 use Rattle.semver_core.specs.declared.increment.IdentifierBase.TheVariants.{Value}

@@ -1,6 +1,6 @@
 -- Serves proofs. The text without the whitespace round it, by bytes and by characters.
 use Rattle.std.proofs.Common.{◌≡◌, ℕ, ◌<◌, ◌≤◌, ◌-◌, ◌+◌, ◌/◌, ◌%◌, List, [], ◌∷◌, ◌++◌, length, get_or, take, drop, refl, sym, ap, ◌∙◌, subst, arith, true, false, inl, inr, append_assoc, length-append}
-use Rattle.std.specs.Prelude.{encode_utf8_all, IsUtf8, reverse}
+use Rattle.std.specs.Prelude.{encode_utf8_all, IsCharBoundary, IsUtf8, reverse}
 use Rattle.std.specs.Char.{encode_utf8, len_utf8}
 use Rattle.std.specs.List.{list_all}
 use Rattle.std.proofs.Common.{append-nil}
@@ -10,8 +10,10 @@ use Rattle.std.proofs.lemmas.List.Folds.{list_all-append}
 use Rattle.std.proofs.Math.Seq.{get_or-append_right, take-append_seam}
 use Rattle.std.proofs.lemmas.Str.{IsUtf8-drop, IsUtf8-take, encode_ascii, encodes-append, length-encode, len_utf8_bounds}
 use Rattle.semver_core.specs.Text.Characters.{is_whitespace, begins, IsTrim, BeginsBlank, IsAfterBlank}
-use Rattle.semver_core.specs.Internal.Spaces.{space_len, after_spaces, drop_spaces, drop_end_spaces, is_empty, trim}
-use Rattle.semver_core.specs.Text.Whitespace.{MiddleIsTrim, TrimIsMiddle, AfterBlankDropsSpaces, OneAfterBlank}
+use Rattle.semver_core.specs.Internal.Spaces.{space_len, after_spaces, drop_spaces, drop_end_spaces, trim}
+use Rattle.semver_core.specs.Lists.{is_empty}
+use Rattle.semver_core.specs.Text.Whitespace.{MiddleIsTrim, TrimIsMiddle, AfterBlankDropsSpaces, OneAfterBlank, SomeAfterBlank}
+use Rattle.semver_core.proofs.Text.Blanks.{Passed, passed_none, passed_more, passed_stop, passed_end}
 use Rattle.semver_core.proofs.Text.Spaces.{drop_spaces-more, drop_spaces-none}
 use Rattle.semver_core.proofs.Text.SpaceLaw.{space_len-white, space_len-dark, space_len-inside}
 
@@ -271,6 +273,20 @@ after_blank-place text at end utf8 a =
 
 pub OneAfterBlank_lem : OneAfterBlank
 OneAfterBlank_lem text at end other utf8 a b = after_blank-place text at end utf8 a ∙ sym (after_blank-place text at other utf8 b)
+
+-- there is such a place: it goes on behind each whitespace character
+pub SomeAfterBlank_lem : SomeAfterBlank
+SomeAfterBlank_lem text at utf8 b =
+    let here = IsUtf8-drop text at utf8 b in
+    go here.0 at (drop at text) [] here.1.1 (passed_none text at (drop at text) b refl)
+  where
+    go : (cs : List ℕ) (end : ℕ) (rest passed : List ℕ) → encode_utf8_all cs ≡ rest → Passed text at end rest passed → (place : ℕ) × IsAfterBlank text at place
+    go [] end rest passed e p = (end, passed_end text at end rest passed p (ap length (sym e)))
+    go (c ∷ cs) end rest passed e p = elim (cases_Bool (is_whitespace c)) [
+      | inl white ↦ go cs (end + len_utf8 c) (encode_utf8_all cs) (passed ++ c ∷ []) refl
+          (passed_more text at end rest passed (encode_utf8_all cs) c (len_utf8 c) utf8 p (sym e) white refl)
+      | inr dark ↦ (end, passed_stop text at end rest passed (encode_utf8_all cs) c p (sym e) dark)
+    ]
 
 -- from the end, character by character
 

@@ -167,6 +167,16 @@ common_memory limit text h = at_some (version_at limit text (small_len text)) h 
     at_some None h f = absurd h
     at_some (Some v) h f = (v, f v refl, h)
 
+-- numbers at the front, with the lists behind them, are a version of the text
+pub front_read : (limit : ℕ) (text : List ℕ) (t : ℕ × ℕ × ℕ × ℕ) → Some t ≡ triple_at limit text (small_len text) → Reads limit text (qualified text t)
+front_read limit text t e =
+    (divided_at limit text (take (small_len text) text) [] (small_len text) t (sym (take-append-drop (small_len text) text)) (small_is text).0 nothing_blank (sym e)).reads
+
+pub release_read : (limit : ℕ) (text : List ℕ) (major minor patch at : ℕ) → Some (major, minor, patch, at) ≡ triple_at limit text (small_len text) → length text ≤ at
+    → Reads limit text (record { major = major; minor = minor; patch = patch; pre_release = []; build = [] })
+release_read limit text major minor patch at e le =
+    (common_sound limit text (record { major = major; minor = minor; patch = patch; pre_release = []; build = [] }) (release_found limit text major minor patch at e le)).division
+
 no_pre_byte : (c : ℕ) (r : List ℕ) → is_identifier_char c ≡ false → begins_pre_release (c ∷ r) ≡ false
 no_pre_byte c r h = elim (cases_Bool (eqb c 45)) [
   | inl dash ↦ cc (rw (eqb-true c 45 dash) at h)

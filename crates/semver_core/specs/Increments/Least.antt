@@ -2,21 +2,21 @@
 use Rattle.std.specs.Prelude.{◌≡◌, ◌<◌, ◌+◌, ◌-◌, ◌^◌, ℕ, true, false, List, [], Option, Result, Ok, Err}
 use Rattle.std.specs.declared.cmp.Ordering.TheVariants.{Less}
 use Rattle.std.specs.Ordering.{is_le}
-use Rattle.semver_core.specs.Increments.Table.{Fault, InvalidIdentifier, InvalidIncrementArgument, NotAPrerelease, Overflow, base_or_zero, has_numeric, identifier_or_none, is_release}
+use Rattle.semver_core.specs.Increments.Table.{Fault, InvalidIdentifier, InvalidIncrementArgument, NotAPrerelease, Overflow, base_or_zero, has_numeric, identifier_or_none}
 use Rattle.semver_core.specs.Values.Order.{precedence}
-use Rattle.semver_core.specs.Values.Versions.{VersionValue, IsVersion}
+use Rattle.semver_core.specs.Values.Versions.{VersionValue, IsVersion, is_release}
 use Rattle.semver_core.specs.declared.increment.IdentifierBase.{IdentifierBase}
 use Rattle.semver_core.specs.declared.increment.IdentifierBase.TheVariants.{Value}
 
 -- v is a version that is one of these, and none of these is below it
-pub record IsLeast (These : VersionValue → Type 0) (v : VersionValue) : Type 0 where
+pub record IsLeastVersion (These : VersionValue → Type 0) (v : VersionValue) : Type 0 where
   pub is_version : IsVersion v
   pub inside : These v
   pub least : (w : VersionValue) → IsVersion w → These w → is_le (precedence v w) ≡ true
 
 -- what is returned is the least of these, or Overflow where there is none
 abbrev pub IsLeastOrOverflow : (VersionValue → Type 0) → Result VersionValue Fault → Type 0
-IsLeastOrOverflow These (Ok v) = IsLeast These v
+IsLeastOrOverflow These (Ok v) = IsLeastVersion These v
 IsLeastOrOverflow These (Err Overflow) = (w : VersionValue) → IsVersion w → These w → ⊥
 IsLeastOrOverflow These (Err (InvalidIdentifier text)) = ⊥
 IsLeastOrOverflow These (Err (InvalidIncrementArgument text)) = ⊥
@@ -24,7 +24,7 @@ IsLeastOrOverflow These (Err (NotAPrerelease text)) = ⊥
 
 -- what is returned is the least of these
 abbrev pub IsLeastAnswer : (VersionValue → Type 0) → Result VersionValue Fault → Type 0
-IsLeastAnswer These (Ok v) = IsLeast These v
+IsLeastAnswer These (Ok v) = IsLeastVersion These v
 IsLeastAnswer These (Err e) = ⊥
 
 abbrev pub IsAbove : VersionValue → VersionValue → Type 0

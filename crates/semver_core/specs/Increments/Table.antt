@@ -7,9 +7,10 @@ use Rattle.std.specs.Str.Parse.{digits_value}
 use Rattle.std.specs.Prelude.{nat_eq}
 use Rattle.semver_core.specs.Text.Identifiers.{Id, Numeric, AlphaNumeric, is_run, pieces}
 use Rattle.semver_core.specs.Printing.Text.{id_text, version_text}
-use Rattle.semver_core.specs.Values.Versions.{VersionValue}
+use Rattle.semver_core.specs.Values.Versions.{VersionValue, is_release}
 use Rattle.semver_core.specs.declared.increment.IdentifierBase.{IdentifierBase}
 use Rattle.semver_core.specs.declared.increment.IdentifierBase.TheVariants.{False, Value}
+use Rattle.semver_core.specs.Lists.{is_empty}
 
 -- why a version is not incremented, with the text that the error holds
 pub data Fault : Type 0 where
@@ -23,10 +24,6 @@ infixl 10 ◌>>=◌
 abbrev pub ◌>>=◌ : {A B : Type 0} → Result A Fault → (A → Result B Fault) → Result B Fault
 (Ok x) >>= f = f x
 (Err e) >>= f = Err e
-
-abbrev pub is_empty : {A : Type 0} → List A → Bool
-is_empty [] = true
-is_empty (x ∷ xs) = false
 
 -- no identifier and an empty one are the same
 abbrev pub identifier_or_none : Option (List ℕ) → List ℕ
@@ -118,9 +115,6 @@ next_minor v = one_more v.minor >>= λ n. Ok (record v { minor = n; patch = 0; p
 
 abbrev pub next_patch : VersionValue → Result VersionValue Fault
 next_patch v = one_more v.patch >>= λ n. Ok (record v { patch = n; pre_release = [] })
-
-abbrev pub is_release : VersionValue → Bool
-is_release v = is_empty v.pre_release
 
 -- the rows of the words
 abbrev pub by_major : VersionValue → Result VersionValue Fault

@@ -3,6 +3,7 @@
 use Rattle.std.specs.Prelude.{ℕ, zero, suc, ◌+◌, ◌*◌, ◌%◌, ◌&&◌, nat_lt, Bool, true, false, List, [], ◌∷◌, if◌then◌else◌}
 use Rattle.std.specs.Int.{is_in_range}
 use Rattle.semver_core.specs.Text.Characters.{is_whitespace}
+use Rattle.semver_core.specs.Lists.{is_empty}
 
 -- a byte that goes on with a character
 abbrev pub goes_on_with : ℕ → Bool
@@ -37,10 +38,6 @@ after_spaces zero (b ∷ rest) = elim (space_len (b ∷ rest)) [ zero ↦ b ∷ 
 
 abbrev pub drop_spaces : List ℕ → List ℕ
 drop_spaces text = after_spaces 0 text
-
-abbrev pub is_empty : List ℕ → Bool
-is_empty [] = true
-is_empty (b ∷ rest) = false
 
 -- the text before the whitespace at its end
 unfoldable pub drop_end_spaces : List ℕ → List ℕ

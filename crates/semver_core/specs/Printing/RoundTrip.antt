@@ -1,5 +1,5 @@
 -- Statement: which versions come back from their printed text.
-use Rattle.std.specs.Prelude.{◌≡◌, ◌&&◌, ◌^◌, ◌<◌, ◌≤◌, not, nat_lt, ℕ, Bool, true, List}
+use Rattle.std.specs.Prelude.{◌≡◌, ◌&&◌, ◌^◌, ◌<◌, not, nat_le, nat_lt, ℕ, Bool, true, List}
 use Rattle.std.specs.Char.{is_ascii_digit}
 use Rattle.std.specs.List.{list_all}
 use Rattle.std.specs.Str.Parse.{digits_value}
@@ -18,16 +18,14 @@ is_normal (Numeric n) = nat_lt n (2 ^ 64)
 is_normal (AlphaNumeric text) = is_run text && not (is_u64_text text)
 
 -- numbers up to the limit, and identifiers in normal form
-pub record IsReadable (limit : ℕ) (v : VersionValue) : Type 0 where
-  pub major : v.major ≤ limit
-  pub minor : v.minor ≤ limit
-  pub patch : v.patch ≤ limit
-  pub pre_release : list_all is_normal v.pre_release ≡ true
-  pub build : list_all is_normal v.build ≡ true
+abbrev pub is_readable : ℕ → VersionValue → Bool
+is_readable limit v =
+    (nat_le v.major limit && (nat_le v.minor limit && nat_le v.patch limit))
+    && (list_all is_normal v.pre_release && list_all is_normal v.build)
 
 -- a text that is a printed version reads as that version, build included, and as no other
 abbrev pub PrintedBack : ℕ → List ℕ → Type 0
-PrintedBack limit text = (v : VersionValue) → text ≡ version_text v → IsReadable limit v
+PrintedBack limit text = (v : VersionValue) → text ≡ version_text v → is_readable limit v ≡ true
     → Reads limit text v × ((w : VersionValue) → Reads limit text w → w ≡ v)
 
 -- the same, whatever the limit on numbers is

@@ -1,7 +1,7 @@
 -- Statement: the order of versions (SemVer 2.0.0, item 11). Build metadata counts in none of order, equality and hash.
-use Rattle.std.specs.Prelude.{List, [], ◌∷◌}
+use Rattle.std.specs.Prelude.{Bool, List, [], ◌∷◌}
 use Rattle.std.specs.Cmp.Lexicographic.{slice_cmp}
-use Rattle.std.specs.Ordering.{nat_cmp, on, then_cmp}
+use Rattle.std.specs.Ordering.{eq_by_cmp, nat_cmp, on, then_cmp}
 use Rattle.std.specs.declared.cmp.Ordering.{Ordering}
 use Rattle.std.specs.declared.cmp.Ordering.TheVariants.{Less, Equal, Greater}
 use Rattle.semver_core.specs.Text.Identifiers.{Id, Numeric, AlphaNumeric}
@@ -25,3 +25,7 @@ pre_cmp (x ∷ xs) (y ∷ ys) = slice_cmp id_cmp (x ∷ xs) (y ∷ ys)
 abbrev pub precedence : VersionValue → VersionValue → Ordering
 precedence = then_cmp (on (λ v. v.major) nat_cmp) (then_cmp (on (λ v. v.minor) nat_cmp)
     (then_cmp (on (λ v. v.patch) nat_cmp) (on (λ v. v.pre_release) pre_cmp)))
+
+-- the versions have the same place in the order, whatever their builds
+abbrev pub version_eq : VersionValue → VersionValue → Bool
+version_eq = eq_by_cmp precedence

@@ -1,5 +1,6 @@
 -- Statement: what a version is to its callers: three numbers and two lists of identifiers.
-use Rattle.std.specs.Prelude.{◌⊎◌, ◌<◌, ◌^◌, ℕ, List, [], All, IsUtf8, length}
+use Rattle.std.specs.Prelude.{◌⊎◌, ◌<◌, ◌^◌, ℕ, Bool, List, [], All, IsUtf8, length}
+use Rattle.semver_core.specs.Lists.{is_empty}
 use Rattle.semver_core.specs.Text.Identifiers.{Id, Numeric, AlphaNumeric}
 
 pub record VersionValue : Type 0 where
@@ -21,6 +22,10 @@ pub record IsVersion (v : VersionValue) : Type 0 where
   pub patch : v.patch < 2 ^ 64
   pub pre_release : All IsId v.pre_release
   pub build : All IsId v.build
+
+-- a version without a pre-release
+abbrev pub is_release : VersionValue → Bool
+is_release v = is_empty v.pre_release
 
 -- the version has a pre-release or a build
 abbrev pub HasIdentifiers : VersionValue → Type 0

@@ -1,7 +1,7 @@
 // An interval: all points between two cuts.
 ghost use Rattle.std.specs.Prelude.{◌≡◌, ◌&&◌, ◌||◌, not, Option, Some, None, IfOk, IfErr, true, is_some};
 ghost use Rattle.std.specs.Ordering.{is_le, is_lt};
-ghost use Rattle.semver_core.specs.Cuts.{cut_cmp, holds, interval, is_interval, is_past, lower_cut, meet};
+ghost use Rattle.semver_core.specs.Cuts.{covers, cut_cmp, holds, interval, is_interval, is_past, lower_cut, meet};
 ghost use Rattle.semver_core.specs.Cuts.{option_holds, remainders, upper_cut};
 ghost use Rattle.semver_core.specs.Clips.{clip};
 
@@ -33,7 +33,8 @@ impl<V: Point> Model for Interval<V> {
 
     ghost view = { λ i. record { lower = i.lower; upper = i.upper } };
 
-    ghost invariant = { λ i. is_interval V.cmp (record { lower = i.lower; upper = i.upper }) ≡ true };
+    ghost invariant = { λ i.
+        is_interval V.cmp (record { lower = i.lower; upper = i.upper }) ≡ true };
 
     ghost inverse = { λ s. record { lower = s.lower; upper = s.upper } };
 }
@@ -76,6 +77,15 @@ impl<V: Point> Interval<V> {
         }
     }
 
+    /// The same of bounds that are known to be in order, without the comparison.
+    #[inline(always)]
+    pub fn of_ordered(lower: Bound<V>, upper: Bound<V>) -> Interval<V>
+        requires { is_interval V.cmp (record { lower = lower; upper = upper }) ≡ true }
+        ensures { result ≡ record { lower = lower; upper = upper } }
+    {
+        Interval { lower, upper }
+    }
+
     /// Whether the point lies between the two cuts.
     pub fn contains(&self, point: &V) -> bool
         ensures { result ≡ holds V.cmp self.now point.now }
@@ -101,9 +111,7 @@ impl<V: Point> Interval<V> {
     /// Whether the other interval lies within this one: its lower cut is not below, and its upper
     /// cut not above.
     pub fn covers(&self, other: &Interval<V>) -> bool
-        ensures { result
-            ≡ (is_le (cut_cmp V.cmp (lower_cut self.now.lower) (lower_cut other.now.lower))
-            && is_le (cut_cmp V.cmp (upper_cut other.now.upper) (upper_cut self.now.upper))) }
+        ensures { result ≡ covers V.cmp self.now other.now }
     {
         lower_order(&self.lower, &other.lower).is_le()
             && upper_order(&other.upper, &self.upper).is_le()
@@ -112,7 +120,8 @@ impl<V: Point> Interval<V> {
     /// Whether the interval ends above the cut at which the other one begins. Two intervals meet
     /// exactly where each reaches the other.
     pub fn reaches(&self, other: &Interval<V>) -> bool
-        ensures { result ≡ is_lt (cut_cmp V.cmp (lower_cut other.now.lower) (upper_cut self.now.upper)) }
+        ensures { result
+            ≡ is_lt (cut_cmp V.cmp (lower_cut other.now.lower) (upper_cut self.now.upper)) }
     {
         is_below(&other.lower, &self.upper)
     }
@@ -239,7 +248,8 @@ fn copy_between<V: Point>(
     lower: &Bound<V>,
     upper: &Bound<V>,
 ) -> Result<Option<Interval<V>>, AllocError>
-    ensures { IfOk result (λ r. r ≡ interval V.cmp (record { lower = lower.now; upper = upper.now })) }
+    ensures { IfOk result (λ r.
+        r ≡ interval V.cmp (record { lower = lower.now; upper = upper.now })) }
 {
     if !is_below(lower, upper) {
         return Ok(None);

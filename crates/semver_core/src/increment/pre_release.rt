@@ -46,7 +46,8 @@ pub(super) fn identify(
     base: IdentifierBase,
     list: Identifiers,
 ) -> Result<Identifiers, AllocError>
-    ensures { IfOk result (λ v. ids_view v.items ≡ spec.identify id.now base (ids_view list.items)) }
+    ensures { IfOk result (λ v.
+        ids_view v.items ≡ spec.identify id.now base (ids_view list.items)) }
 {
     if id.is_empty() || is_kept(id, &list) {
         Ok(list)
@@ -164,7 +165,8 @@ fn list_text(alloc: Global, list: &[Identifier]) -> Result<String, AllocError>
 
 // One more part of a printed list.
 fn push_part(text: &mut String, first: bool, id: &Identifier) -> Result<(), AllocError>
-    ensures { OnOk result (string_bytes text.new ≡ (if first then string_bytes text.old ++ printed.id_text (id_view id.now)
+    ensures { OnOk result (string_bytes text.new
+        ≡ (if first then string_bytes text.old ++ printed.id_text (id_view id.now)
         else string_bytes text.old ++ 46 ∷ printed.id_text (id_view id.now))) }
 {
     if !first {

@@ -1,8 +1,8 @@
 // Printed versions come back.
 
-ghost use Rattle.std.specs.Prelude.{◌≡◌, ◌≤◌, IfOk, length, string_bytes};
+ghost use Rattle.std.specs.Prelude.{◌≡◌, ◌≤◌, IfOk, length, string_bytes, true};
 ghost use Rattle.semver_core.specs.Failures.{NeverRefused};
-ghost use Rattle.semver_core.specs.Printing.RoundTrip.{IsReadable, VersionsComeBack};
+ghost use Rattle.semver_core.specs.Printing.RoundTrip.{VersionsComeBack, is_readable};
 ghost use Rattle.semver_core.specs.Printing.Text.{id_text, version_text};
 ghost use Rattle.semver_core.specs.Values.Views.{id_view};
 
@@ -22,7 +22,7 @@ pub fn printed_versions_come_back(text: &str)
 /// A version that is printed and read again. It returns the version itself, build included, and
 /// fails only if allocation fails.
 pub fn reread(alloc: Global, version: &Version) -> Result<Version, Failure<SemverError>>
-    requires readable { IsReadable MAX_SAFE_INTEGER version.now }
+    requires readable { is_readable MAX_SAFE_INTEGER version.now ≡ true }
     requires short { length (version_text version.now) ≤ MAX_LENGTH }
     ensures same { IfOk result (λ again. again ≡ version.now) }
     ensures never_refused { NeverRefused result }

@@ -1,9 +1,10 @@
 // The two constants, and that a text has one version at most, whatever the limit and whichever
 // reader reads it.
 
-ghost use Rattle.std.specs.Prelude.{◌≡◌, IfOk, IfSome, Some};
-ghost use Rattle.semver_core.specs.Text.Common.{ReadsAlike};
-ghost use Rattle.semver_core.specs.Text.VersionText.{HasOneReading};
+ghost use Rattle.std.specs.Prelude.{◌≡◌, IfNone, IfOk, IfSome, Some};
+ghost use Rattle.semver_core.specs.Text.Common.{IsUncommon, ReadsAlike};
+ghost use Rattle.semver_core.specs.Text.VersionText.{HasNoVersion, HasOneReading};
+ghost use Rattle.semver_core.specs.declared.TheConstants.{MAX_SAFE_INTEGER};
 ghost use Rattle.semver_core.specs.Text.Limits.{KeepsReading, KeepsVersion};
 
 use crate::readers::{front_of_numbers, version_fast, version_loose};
@@ -44,7 +45,8 @@ pub fn common_reads_alike(text: &str)
 }
 
 /// Returns what the fast reader and the loose reader return on one text: where the fast one returns
-/// a version, the loose one returns the same.
+/// a version, the loose one returns the same. The fast one returns none only on a text that is no
+/// common one, and the loose one only on a text that has no version.
 ///
 /// Fails only if allocation fails.
 #[tactic(auto, using(crate::proofs::Text::Whole::alike))]
@@ -52,7 +54,9 @@ pub fn both_readers(
     alloc: Global,
     text: &str,
 ) -> Result<(Option<Version>, Option<Version>), AllocError>
-    ensures { IfOk result (λ both. IfSome both.0 (λ v. both.1 ≡ Some v)) }
+    ensures same { IfOk result (λ both. IfSome both.0 (λ v. both.1 ≡ Some v)) }
+    ensures uncommon { IfOk result (λ both. IfNone both.0 (IsUncommon MAX_SAFE_INTEGER text.now)) }
+    ensures unread { IfOk result (λ both. IfNone both.1 (HasNoVersion MAX_SAFE_INTEGER text.now)) }
 {
     one_reading(text);
     let fast = version_fast(alloc, text)?;

@@ -14,7 +14,8 @@ struct Through<'a, W> {
 
 impl<W: fmt::Write> fmt::Write for Through<'_, W> {
     ghost write_str_gives = { λ s text t. (t.formatter.ghost_name ≡ s.formatter.ghost_name)
-        × (IsFlush s.formatter.now → HasWrittenStyled W.write_str_gives s.formatter.now text t.formatter.now) };
+        × (IsFlush s.formatter.now
+        → HasWrittenStyled W.write_str_gives s.formatter.now text t.formatter.now) };
 
     fn write_str(&mut self, s: &str) -> fmt::Result {
         self.formatter.write_str(s)

@@ -65,6 +65,17 @@ fn three(bytes: &[u8], at: usize) -> Option<(u64, u64, u64, usize)>
     Some((major, minor, patch, end))
 }
 
+// The three numbers of a text that begins with them, or with `v` and them, and the place behind
+// them.
+#[inline(always)]
+pub(crate) fn numbers(text: &str) -> Option<(u64, u64, u64, usize)>
+    ensures found { result ≡ triple_at MAX_SAFE_INTEGER text.now (small_len text.now) }
+    ensures place { IfSome result (λ found. found.3 ≤ length text.now) }
+{
+    let bytes = text.as_bytes();
+    three(bytes, small_len(bytes))
+}
+
 // The version of three numbers and the qualifier that goes from a place to the end of the text.
 #[inline(never)]
 #[tactic(auto, using(crate::proofs::Text::Whole::lists_found, crate::proofs::Text::Whole::lists_left))]
@@ -104,14 +115,13 @@ fn read(alloc: Global, text: &str) -> Result<Option<Version>, AllocError>
     ensures memory { OnErr result
         (IsSomeAnd (version_at MAX_SAFE_INTEGER text.now (small_len text.now)) HasIdentifiers) }
 {
-    let bytes = text.as_bytes();
-    let Some((major, minor, patch, end)) = three(bytes, small_len(bytes)) else {
+    let Some((major, minor, patch, end)) = numbers(text) else {
         return Ok(None);
     };
     if end == text.len() {
         return Ok(Some(Version::release(major, minor, patch)));
     }
-    if !begins_qualifier(bytes, end) {
+    if !begins_qualifier(text.as_bytes(), end) {
         return Ok(None);
     }
     qualified(alloc, text, major, minor, patch, end)

@@ -20,8 +20,10 @@ pub(crate) struct Lists {
 impl Lists {
     // Two empty lists, to be filled where they stand.
     pub(crate) fn boxed(alloc: Global) -> Result<Box<Lists>, AllocError>
-        ensures pre_release { IfOk result (λ lists. lists.value.pre_release ≡ record { items = []; capacity = 2 }) }
-        ensures build { IfOk result (λ lists. lists.value.build ≡ record { items = []; capacity = 2 }) }
+        ensures pre_release { IfOk result (λ lists.
+            lists.value.pre_release ≡ record { items = []; capacity = 2 }) }
+        ensures build { IfOk result (λ lists.
+            lists.value.build ≡ record { items = []; capacity = 2 }) }
     {
         let lists = Lists {
             pre_release: SmallVec::new(alloc),

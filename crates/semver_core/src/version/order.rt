@@ -2,9 +2,8 @@
 
 ghost use Rattle.std.specs.Prelude.{◌≡◌, Some, refl};
 ghost use Rattle.std.specs.Cmp.{eq_by_cmp_equiv, partial_equiv_from_equiv, po};
-ghost use Rattle.std.specs.Ordering.{is_eq};
 ghost use Rattle.semver_core.specs.Values.Hashes.{version_writes};
-ghost use Rattle.semver_core.specs.Values.Order.{precedence, pre_cmp};
+ghost use Rattle.semver_core.specs.Values.Order.{precedence, pre_cmp, version_eq};
 ghost use Rattle.semver_core.specs.Internal.OrderLaws.{precedence_total, version_alike};
 ghost use Rattle.semver_core.specs.Values.Views.{ids_view};
 
@@ -26,7 +25,7 @@ fn cmp_pre(a: &[Identifier], b: &[Identifier]) -> Ordering
 
 /// Equal versions tie in the order.
 impl PartialEq for Version {
-    ghost eq = { λ v w. is_eq (precedence v w) };
+    ghost eq = { version_eq };
 
     ghost laws = { partial_equiv_from_equiv (eq_by_cmp_equiv precedence_total) };
 

@@ -127,7 +127,8 @@ impl Version {
         patch: u64,
         number: u64,
     ) -> Result<Version, AllocError>
-        ensures { IfOk result (λ v. v ≡ record (release_value major minor patch) { pre_release = id.Numeric number ∷ [] }) }
+        ensures { IfOk result (λ v.
+            v ≡ record (release_value major minor patch) { pre_release = id.Numeric number ∷ [] }) }
     {
         let mut lists = Lists::boxed(alloc)?;
         lists.pre_release.push_reserved(Identifier::Numeric(number));

@@ -91,15 +91,16 @@ fn other_texts_are_left_to_the_loose_reader(rt: HostRuntime) {
     }
 }
 
-// The fast reader has no limit of length; `parse` has one.
+// The readers have no limit of length; `parse` has one, which the text of 257 bytes exceeds.
 #[test]
-fn long_common_texts_are_read(rt: HostRuntime) -> Result<(), Fail> {
+fn long_texts_are_read_by_both(rt: HostRuntime) -> Result<(), Fail> {
     let alloc = rt.alloc();
-    let mut text = String::from_str(alloc, "1.2.3-")?;
-    for _ in 0..300 {
-        text.push('a')?;
+    let mut text = String::from_str(alloc, "1.1.1-")?;
+    for _ in 0..251 {
+        text.push('X')?;
     }
     assert!(rt; reads_fast(alloc, &text, &text));
+    assert!(rt; reads_loose(alloc, &text, &text));
     assert!(rt; Version::parse(alloc, &text).is_err());
     Ok(())
 }

@@ -79,6 +79,14 @@ fn parse_reads_equal_ranges(rt: HostRuntime) {
     }
 }
 
+// The one whitespace character that no line can hold.
+#[test]
+fn parse_takes_a_line_feed_for_whitespace(rt: HostRuntime) -> Result<(), Fail> {
+    let range = Range::parse(rt.alloc(), ">=1.0.0\n<2.0.0")?;
+    assert!(rt; prints(rt.alloc(), &range, ">=1.0.0 <2.0.0"));
+    Ok(())
+}
+
 #[test]
 fn parse_reads_twenty_thousand_words(rt: HostRuntime) -> Result<(), Fail> {
     let mut text = String::from_str(rt.alloc(), ">=0.0.0")?;

@@ -2,5 +2,5 @@ use Rattle.std.proofs.Common.{◌≡◌, drop, Some}
 use Rattle.semver_core.specs.Internal.CommonReading.{run_from}
 use Rattle.semver_core.proofs.scan.scan_run.Given as goal
 
-abbrev pub invariant-run : goal.invariant-run
-invariant-run l = run_from (Some 0) l.start (drop l.start l.bytes) ≡ run_from l.number l.end (drop l.end l.bytes)
+abbrev pub invariant-digits : goal.invariant-digits
+invariant-digits l = run_from (Some 0) l.start (drop l.start l.bytes) ≡ run_from (Some l.number) l.end (drop l.end l.bytes)

@@ -1,10 +1,14 @@
-use Rattle.std.proofs.Common.{lit<}
-use Rattle.std.proofs.lemmas.Str.Pattern.{split_once_first}
-use Rattle.semver_lines.proofs.Firsts.{first_cut}
+use Rattle.std.proofs.Common.{◌≡◌, ◌-◌, arith}
+use Rattle.semver_lines.proofs.Firsts.{first_field, mark_boundaries, one_field}
 use Rattle.semver_lines.proofs.fields.first.Goals as goal
 
-pub returns-clause-some : goal.returns-clause-some
-returns-clause-some c = (first_cut c.args.text.now c.split_once.result (split_once_first 59 c.args.text.now c.split_once.result c.split_once.ensures.cases (lit< tt))).0
+pub returns-in_err-at-clause-none : goal.returns-in_err-at-clause-none
+returns-in_err-at-clause-none c = rw c.from_residual.ensures (one_field c.args.text.now (rw c.as_bytes.ensures.value at c.in_err-at.ensures))
 
-pub returns-clause-none : goal.returns-clause-none
-returns-clause-none c = (first_cut c.args.text.now c.split_once.result (split_once_first 59 c.args.text.now c.split_once.result c.split_once.ensures.cases (lit< tt))).1
+pub range_from-requires : goal.range_from-requires
+range_from-requires c = λ _. (mark_boundaries c.args.text.now c.in_ok-at.at c.utf8.text (rw c.as_bytes.ensures.value at c.in_ok-at.ensures)).1
+
+pub returns-clause-some : goal.returns-clause-some
+returns-clause-some c =
+    let whole : c.in_ok-at.at - 0 ≡ c.in_ok-at.at = omega arith in
+    rw (c.range.ensures.value, c.range_from.ensures.value, whole) (first_field c.args.text.now c.in_ok-at.at (rw c.as_bytes.ensures.value at c.in_ok-at.ensures))

@@ -1,5 +1,5 @@
 use Rattle.std.proofs.Common.{◌≡◌, ◌<◌, List, [], ◌∷◌, Some, length, arith, sym, ◌∙◌}
-use Rattle.semver_core.specs.Cuts.{if_any}
+use Rattle.semver_core.specs.Lists.{if_any}
 use Rattle.semver_core.specs.declared.TheConstants.{MAX_SAFE_INTEGER}
 use Rattle.nodejs_semver.proofs.Algebra.Holds.{accepted-written}
 use Rattle.nodejs_semver.proofs.range.Range.parse.Goals as goal

@@ -1,6 +1,6 @@
 use Rattle.std.proofs.Common.{◌≡◌, take}
 use Rattle.std.specs.List.{flat_map}
-use Rattle.semver_core.specs.Cuts.{remainder}
+use Rattle.nodejs_semver.specs.Ranges.Algebra.{remainder}
 use Rattle.nodejs_semver.proofs.range.lists.subtract_from_each.Given as goal
 
 abbrev pub invariant-loop-interval : goal.invariant-loop-interval

@@ -7,31 +7,28 @@ use Rattle.nodejs_semver.specs.Internal.CommonFronts.{begins_second, comparison_
 use Rattle.nodejs_semver.specs.Internal.CommonViews.{bounds_front_view}
 use Rattle.nodejs_semver.specs.Internal.Fronts.{Front}
 use Rattle.nodejs_semver.specs.Internal.Readings.{bounds_view, rest_view}
-use Rattle.nodejs_semver.specs.Text.WordText.{Word}
 use Rattle.nodejs_semver.proofs.Common.Bounds.{none-second, passed-second}
 use Rattle.nodejs_semver.proofs.readers.fast.push_comparisons.Goals as goal
 
-pub returns-in_default-bounds_read : goal.returns-in_default-bounds_read
-returns-in_default-bounds_read c =
+pub returns-in_default-comparison : goal.returns-in_default-comparison
+returns-in_default-comparison c =
     let rest = c.in-Some.rest.now in
     let second : begins_second rest ≡ true = search rules in
     ap (λ (o : Front (Span VersionValue)). passed c.args.found.now.items o)
     (sym (none-second MAX_SAFE_INTEGER c.args.text.now (bounds_view c.in-Some.first) rest
-    (sym (ap bounds_front_view c.in-Some.is) ∙ (c.bounds_read.ensures ∙ ap (λ (r : Front Word). word_read MAX_SAFE_INTEGER r) c.comparison_front.ensures))
+    (sym (ap bounds_front_view c.in-Some.is) ∙ c.comparison.ensures)
     second
     (ap (λ (t : List ℕ). word_read MAX_SAFE_INTEGER (comparison_front MAX_SAFE_INTEGER t)) (sym (take_rest rest 1))
-    ∙ (ap (λ (r : Front Word). word_read MAX_SAFE_INTEGER r) (sym c.comparison_front-2.ensures)
-    ∙ (sym c.bounds_read-2.ensures ∙ ap bounds_front_view c.in_default-bounds_read.is)))))
+    ∙ (sym c.comparison-2.ensures ∙ ap bounds_front_view c.in_default-comparison.is))))
 
 pub returns : goal.returns
 returns c =
     let rest = c.in-Some.rest.now in
     let second : begins_second rest ≡ true = search rules in
-    passed-second MAX_SAFE_INTEGER c.args.text.now (bounds_view c.in-Some.first) (bounds_view c.in-Some-bounds_read.second) rest c.in-Some-bounds_read.rest.now
+    passed-second MAX_SAFE_INTEGER c.args.text.now (bounds_view c.in-Some.first) (bounds_view c.in-Some-comparison.second) rest c.in-Some-comparison.rest.now
     c.in_ok-there-2.there c.args.found.now.items c.push_both.new.found.items (rest_view c.behind_part-2.result)
-    (sym (ap bounds_front_view c.in-Some.is) ∙ (c.bounds_read.ensures ∙ ap (λ (r : Front Word). word_read MAX_SAFE_INTEGER r) c.comparison_front.ensures))
+    (sym (ap bounds_front_view c.in-Some.is) ∙ c.comparison.ensures)
     second
-    (sym (ap bounds_front_view c.in-Some-bounds_read.is)
-    ∙ (c.bounds_read-2.ensures ∙ (ap (λ (r : Front Word). word_read MAX_SAFE_INTEGER r) c.comparison_front-2.ensures
-    ∙ ap (λ (t : List ℕ). word_read MAX_SAFE_INTEGER (comparison_front MAX_SAFE_INTEGER t)) (take_rest rest 1))))
+    (sym (ap bounds_front_view c.in-Some-comparison.is)
+    ∙ (c.comparison-2.ensures ∙ ap (λ (t : List ℕ). word_read MAX_SAFE_INTEGER (comparison_front MAX_SAFE_INTEGER t)) (take_rest rest 1)))
     c.in_ok-there-2.ensures c.behind_part-2.ensures

@@ -1,7 +1,0 @@
-use Rattle.nodejs_semver.proofs.Algebra.Clauses.{meets_of-valid}
-use Rattle.nodejs_semver.proofs.range.Range.exact_intersection.Goals as goal
-
-pub from_intervals-requires : goal.from_intervals-requires
-from_intervals-requires c =
-    rw c.from_vec.ensures.items (meets_of-valid c.args.self.now c.args.other.now c.intervals.result.now c.intervals-2.result.now _
-    c.intervals.ensures.valid c.intervals-2.ensures.valid c.intervals.ensures.value c.intervals-2.ensures.value c.in_ok-found.ensures)
