@@ -5,3 +5,4 @@ pub mod OrderLaws
 pub mod Spaces
 pub mod ListView
 pub mod CommonReading
+pub mod Printed
