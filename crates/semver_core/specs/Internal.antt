@@ -6,3 +6,4 @@ pub mod Spaces
 pub mod Readable
 pub mod ListView
 pub mod CommonReading
+pub mod Printed
