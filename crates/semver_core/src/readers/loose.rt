@@ -3,10 +3,9 @@
 ghost use Rattle.std.specs.Prelude.{IsFalse, IsTrue, ◌≡◌, ◌==◌, ◌≤◌, ◌<◌, ◌+◌, ◌⊎◌, [], true, length, drop, None, Some, Option, IfOk, IfSome, IfNone, IsSomeAnd, IsCharBoundary, OnErr, OnSome};
 ghost use Rattle.semver_core.specs.Text.Characters.{begins, is_identifier_char, IsAfterBlank};
 ghost use Rattle.semver_core.specs.Text.VersionText.{Reads, HasNoVersion, HasVersionWithIdentifiers};
-ghost use Rattle.semver_core.specs.Internal.ListView.{IsFull, build_of, pre_release_of};
 ghost use Rattle.semver_core.specs.Internal.Reading.{past, triple_at, pre_release_at, build_at, list_from, lists_at, version_at, mark_len};
 ghost use Rattle.semver_core.specs.Values.Versions.{VersionValue, HasIdentifiers};
-ghost use Rattle.semver_core.specs.Values.Views.{ids_view};
+ghost use Rattle.semver_core.specs.Values.Views.{ids_view, IsFull, build_of, pre_release_of};
 
 use crate::version::lists::{Identifiers, Lists};
 use crate::{MAX_SAFE_INTEGER, Version, scan};
