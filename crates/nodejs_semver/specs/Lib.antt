@@ -3,7 +3,6 @@ pub mod Internal
 pub mod Printing
 pub mod Ranges
 pub mod Text
-
 -- what public clauses cite of the core
 pub use Rattle.semver_core.specs.Cuts
 pub use Rattle.semver_core.specs.Failures

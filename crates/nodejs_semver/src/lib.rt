@@ -5,7 +5,6 @@
 //! use nodejs_semver::{Range, Version};
 //! use std::test::Fail;
 //!
-//! #[test]
 //! fn the_best_of_two_versions(rt: HostRuntime) -> Result<(), Fail> {
 //!     let alloc = rt.alloc();
 //!     let range = Range::parse(alloc, "^1.2.3 || >=3.0.0-rc.1")?;

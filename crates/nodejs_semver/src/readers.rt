@@ -10,5 +10,6 @@ mod table;
 mod words;
 
 pub use crate::readers::fast::range_fast;
+pub(crate) use crate::readers::fast::read_into;
 pub use crate::readers::loose::{is_blank, range_loose};
 pub use semver_core::readers::{version_fast, version_loose};

@@ -4,5 +4,5 @@ pub mod Successors
 pub mod OrderLaws
 pub mod Spaces
 pub mod Readable
-pub mod ListView
 pub mod CommonReading
+pub mod Printed

@@ -5,5 +5,5 @@ mod loose;
 
 pub(crate) use crate::readers::fast::numbers;
 pub use crate::readers::fast::version_fast;
-pub(crate) use crate::readers::loose::{front_of_numbers, lists_at};
 pub use crate::readers::loose::version_loose;
+pub(crate) use crate::readers::loose::{front_of_numbers, lists_at};

@@ -5,9 +5,8 @@ ghost use Rattle.semver_core.specs.Failures.{MemoryOnlyIf, NeverRefused, Refused
 ghost use Rattle.semver_core.specs.Text.VersionText.{Reads, HasNoVersion, HasVersionWithIdentifiers};
 ghost use Rattle.semver_core.specs.Text.Parsing.{Parses, IsRefused, NeedsMemory};
 ghost use Rattle.semver_core.specs.Values.Versions.{VersionValue, HasIdentifiers, IsVersion, IsId, release_value};
-ghost use Rattle.semver_core.specs.Internal.ListView.{IsFull, build_of, pre_release_of};
 ghost use Rattle.semver_core.specs.Internal.Reading.{qualified};
-ghost use Rattle.semver_core.specs.Values.Views.{ids_view, id_view};
+ghost use Rattle.semver_core.specs.Values.Views.{ids_view, id_view, IsFull, build_of, pre_release_of};
 
 pub mod accepts;
 mod convert;
@@ -40,7 +39,7 @@ impl Model for Version {
 
     ghost Value = { VersionValue };
 
-    ghost use Rattle.semver_core.specs.Values.VersionView.{value_of, IsValid};
+    ghost use Rattle.semver_core.specs.Values.Views.{value_of, IsValid};
 
     ghost view = { value_of };
 

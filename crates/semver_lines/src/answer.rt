@@ -17,7 +17,7 @@ fn reply_to(alloc: Global, line: &[u8], answer: &mut String) -> Result<(), Failu
     requires { string_bytes answer.old ≡ [] }
     ensures { IsTold result (string_bytes answer.new) (IsAnswer line.now) }
 {
-    match Question::of(line) {
+    match &Question::of(line) {
         Some(question) => reply(alloc, question, answer),
         None => Err(Failure::Refused(Fault::BadLine)),
     }

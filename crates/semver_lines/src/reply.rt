@@ -20,13 +20,13 @@ use std::alloc::Global;
 /// Appends the reply to a question.
 pub fn reply(
     alloc: Global,
-    question: Question<'_>,
+    question: &Question<'_>,
     answer: &mut String,
 ) -> Result<(), Failure<Fault>>
     requires { string_bytes answer.old ≡ [] }
-    ensures { IsTold result (string_bytes answer.new) (IsReply question.entry) }
+    ensures { IsTold result (string_bytes answer.new) (IsReply question.now) }
 {
-    match question {
+    match *question {
         Question::Cmp(texts) => cmp(alloc, texts, answer),
         Question::Ver(text) => ver(alloc, text, answer),
         Question::Diff(texts) => diff(alloc, texts, answer),

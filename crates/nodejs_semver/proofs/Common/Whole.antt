@@ -7,7 +7,7 @@ use Rattle.semver_core.specs.Lists.{if_any}
 use Rattle.semver_core.specs.Values.Versions.{VersionValue}
 use Rattle.nodejs_semver.specs.Text.Common.{IsCommonRange, IsUncommon}
 use Rattle.nodejs_semver.specs.Text.Denotes.{denotes}
-use Rattle.nodejs_semver.specs.Ranges.View.{is_range_span}
+use Rattle.nodejs_semver.specs.Ranges.View.{IsRange, is_range_span}
 use Rattle.nodejs_semver.proofs.Bounds.Table.{denotes-bounded}
 use Rattle.nodejs_semver.proofs.Common.Texts.{common_ranges_are_denoted, list-some}
 
@@ -42,3 +42,13 @@ if-some {A} P o x e h = subst (λ (q : Option A). IfSome q P) e h
 pub fast_read : (limit : ℕ) (text : List ℕ) (list : List (Span VersionValue)) → IsCommonRange limit text list → Some list ≡ if_any (denotes limit text)
 fast_read limit text list h =
     sym (any-of list (list-some limit text list h)) ∙ ap (λ (l : List (Span VersionValue)). if_any l) (sym (common_ranges_are_denoted limit text list h).0)
+
+-- its intervals are a range
+pub common_range : (limit : ℕ) (text : List ℕ) (list : List (Span VersionValue)) → IsCommonRange limit text list → IsRange limit list
+common_range limit text list h = record { some = list-some limit text list h; each = common_bounded limit text list h }
+
+pub common_list : (limit : ℕ) (text : List ℕ) (list : List (Span VersionValue)) → IsCommonRange limit text list → list ≡ denotes limit text
+common_list limit text list h = sym (common_ranges_are_denoted limit text list h).0
+
+pub common_filled : (limit : ℕ) (text : List ℕ) (list : List (Span VersionValue)) → IsCommonRange limit text list → 0 < length (denotes limit text)
+common_filled limit text list h = subst (λ (l : List (Span VersionValue)). 0 < length l) (common_list limit text list h) (list-some limit text list h)

@@ -4,7 +4,7 @@ ghost use Rattle.std.specs.Prelude.{◌≡◌, ◌+◌, ◌-◌, ◌<◌, ◌^�
 ghost use Rattle.semver_core.specs.Values.Versions.{is_release};
 ghost use Rattle.nodejs_semver.specs.Internal.Candidates as spec;
 ghost use Rattle.semver_core.specs.Text.Identifiers.{Numeric};
-ghost use Rattle.semver_core.specs.Values.PartsView.{parts_value};
+ghost use Rattle.semver_core.specs.Values.Views.{parts_value};
 ghost use Rattle.semver_core.specs.Values.Views.{ids_view};
 
 use semver_core::{Identifier, Version, VersionParts};

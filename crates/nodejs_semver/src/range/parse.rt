@@ -9,8 +9,9 @@ ghost use Rattle.semver_core.specs.Failures.{RefusedOnlyIf};
 ghost use Rattle.semver_core.specs.Values.Versions.{VersionValue};
 
 use crate::Range;
-use crate::readers::{is_blank, range_fast, range_loose};
+use crate::readers::{is_blank, range_loose, read_into};
 use semver_core::{Failure, MAX_SAFE_INTEGER, SemverError};
+use smallvec::SmallVec;
 use std::alloc::{AllocError, Global};
 
 impl Range {
@@ -34,28 +35,32 @@ impl Range {
         ensures set { IfOk result (λ range.
             (v : VersionValue) → accepts range v true ≡ writes MAX_SAFE_INTEGER text.now v) }
     {
-        match read(alloc, text) {
-            Ok(Some(range)) => Ok(range),
-            Ok(None) => Err(Failure::Refused(SemverError)),
+        let mut intervals = SmallVec::new(alloc);
+        match read_into(alloc, text.as_bytes(), &mut intervals) {
+            Ok(true) => Ok(Range { intervals }),
+            Ok(false) => parse_loosely(alloc, text),
             Err(error) => Err(Failure::Memory(error)),
         }
     }
 }
 
-// The range of a text, or none where it has no interval. Most texts are read by the fast reader.
-fn read(alloc: Global, text: &str) -> Result<Option<Range>, AllocError>
-    ensures { IfOk result (λ found. found ≡ if_any (denotes MAX_SAFE_INTEGER text.now)) }
+// Reads a text that is not a common one.
+#[cold]
+#[inline(never)]
+fn parse_loosely(alloc: Global, text: &str) -> Result<Range, Failure<SemverError>>
+    ensures ok { IfOk result (λ range. range ≡ denotes MAX_SAFE_INTEGER text.now) }
+    ensures some { OnOk result (0 < length (denotes MAX_SAFE_INTEGER text.now)) }
+    ensures refused { RefusedOnlyIf result (denotes MAX_SAFE_INTEGER text.now ≡ []) }
+    ensures set { IfOk result (λ range. (v : VersionValue) → accepts range v true ≡ writes MAX_SAFE_INTEGER text.now v) }
 {
-    let found = range_fast(alloc, text)?;
-    match found {
-        Some(range) => Ok(Some(range)),
-        None => read_loosely(alloc, text),
+    match read_loosely(alloc, text) {
+        Ok(Some(range)) => Ok(range),
+        Ok(None) => Err(Failure::Refused(SemverError)),
+        Err(error) => Err(Failure::Memory(error)),
     }
 }
 
-// The same without the fast reader.
-#[cold]
-#[inline(never)]
+// The range of a text, or none where it has no interval.
 fn read_loosely(alloc: Global, text: &str) -> Result<Option<Range>, AllocError>
     ensures { IfOk result (λ found. found ≡ if_any (denotes MAX_SAFE_INTEGER text.now)) }
 {

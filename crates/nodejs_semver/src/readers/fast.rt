@@ -1,7 +1,7 @@
 // The reader of common range texts, in one pass from the left.
 
 ghost use Rattle.std.specs.Option.{ForSome};
-ghost use Rattle.std.specs.Prelude.{◌≡◌, ◌≤◌, if◌then◌else◌, IfNone, IfOk, IfSome, None, Some, true};
+ghost use Rattle.std.specs.Prelude.{◌≡◌, ◌≤◌, [], if◌then◌else◌, IfNone, IfOk, IfSome, IsFalse, IsTrue, None, Some, true};
 ghost use Rattle.nodejs_semver.specs.Internal.CommonFronts as Spec;
 ghost use Rattle.nodejs_semver.specs.Text.Common.{IsCommonRange, IsUncommon};
 ghost use Rattle.nodejs_semver.specs.Text.Denotes.{denotes};
@@ -361,24 +361,29 @@ fn after_bars(text: &[u8]) -> Option<&[u8]>
     }
 }
 
-// The intervals of a common text, one for each part.
+/// Adds the intervals of a common text, one for each part, to an empty list. It returns `false`
+/// exactly where the text is not a common one; then the list may hold some of them.
 #[inline(always)]
-fn intervals_of(alloc: Global, text: &[u8]) -> Result<Option<Intervals<Version>>, AllocError>
-    ensures some { IfOk result (λ found. IfSome found (λ list.
-        IsCommonRange MAX_SAFE_INTEGER text.now list.items)) }
-    ensures none { IfOk result (λ found. IfNone found (IsUncommon MAX_SAFE_INTEGER text.now)) }
+pub(crate) fn read_into(
+    alloc: Global,
+    text: &[u8],
+    found: &mut Intervals<Version>,
+) -> Result<bool, AllocError>
+    requires { found.old.items ≡ [] }
+    ensures some { IfOk result (λ there. IsTrue there
+        → IsCommonRange MAX_SAFE_INTEGER text.now found.new.items) }
+    ensures none { IfOk result (λ there. IsFalse there → IsUncommon MAX_SAFE_INTEGER text.now) }
 {
-    let mut found = SmallVec::new(alloc);
     let mut rest = text;
     'parts: loop {
-        let Some(behind) = push_part(alloc, rest, &mut found)? else {
-            return Ok(None);
+        let Some(behind) = push_part(alloc, rest, found)? else {
+            return Ok(false);
         };
         if behind.is_empty() {
-            return Ok(Some(found));
+            return Ok(true);
         }
         let Some(next) = after_bars(behind) else {
-            return Ok(None);
+            return Ok(false);
         };
         rest = next;
     }
@@ -392,7 +397,6 @@ fn intervals_of(alloc: Global, text: &[u8]) -> Result<Option<Intervals<Version>>
 /// two comparisons separated by one space whose intervals meet, such as `>=1.0.0 <2.0.0`. No
 /// version in the text begins with `v` or has build metadata, and there is no other whitespace.
 /// `foo 1.2.3`, `v1.2.3` and `> 1` are not common texts; `Range::parse` reads them too.
-#[inline(always)]
 pub fn range_fast(alloc: Global, text: &str) -> Result<Option<Range>, AllocError>
     // What is read is the meaning of a common text, which is what the text denotes.
     ensures some { IfOk result (λ found. IfSome found (λ range.
@@ -402,9 +406,9 @@ pub fn range_fast(alloc: Global, text: &str) -> Result<Option<Range>, AllocError
     // Nothing is read only where the text is no common one.
     ensures none { IfOk result (λ found. IfNone found (IsUncommon MAX_SAFE_INTEGER text.now)) }
 {
-    let found = intervals_of(alloc, text.as_bytes())?;
-    match found {
-        Some(found) => Ok(Range::from_intervals(found)),
-        None => Ok(None),
+    let mut found = SmallVec::new(alloc);
+    if !read_into(alloc, text.as_bytes(), &mut found)? {
+        return Ok(None);
     }
+    Ok(Range::from_intervals(found))
 }

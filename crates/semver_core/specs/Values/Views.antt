@@ -1,9 +1,13 @@
--- Statement: what a contract sees of the identifiers of the program.
-use Rattle.std.specs.Prelude.{ℕ, List, Option, Some, None, map, string_bytes, Vec}
-use Rattle.semver_core.specs.Text.Identifiers.{Id, Numeric, AlphaNumeric}
+-- Statement: what a contract sees of identifiers, of versions and of their parts, whatever the fields are.
+use Rattle.std.specs.Prelude.{ℕ, ◌⊎◌, ◌<◌, List, [], Option, Some, None, OnSome, map, length, string_bytes, Box, Vec}
 use Rattle.std.specs.declared.alloc.Global.{Global}
+use Rattle.semver_core.specs.Text.Identifiers.{Id, Numeric, AlphaNumeric}
+use Rattle.semver_core.specs.Values.Versions.{VersionValue, IsVersion}
 use Rattle.semver_core.specs.declared.identifier.Identifier.{Identifier}
 use Rattle.semver_core.specs.declared.identifier.Identifier.TheVariants as variant
+use Rattle.semver_core.specs.declared.version.Version.TheInside.{Inside}
+use Rattle.semver_core.specs.declared.version.lists.Lists.{Lists}
+use Rattle.semver_core.specs.declared.version.parts.VersionParts.{VersionParts}
 
 abbrev pub id_view : Identifier → Id
 id_view (variant.Numeric n) = Numeric n
@@ -16,3 +20,28 @@ ids_view list = map id_view list
 abbrev pub list_view : Option (Vec Identifier Global × ℕ) → Option (List Id × ℕ)
 list_view None = None
 list_view (Some p) = Some (ids_view p.0.items, p.1)
+
+-- the pre-release and the build metadata: empty where there is no box
+abbrev pub pre_release_of : Option (Box Lists Global) → List Id
+pre_release_of None = []
+pre_release_of (Some lists) = ids_view lists.value.pre_release.items
+
+abbrev pub build_of : Option (Box Lists Global) → List Id
+build_of None = []
+build_of (Some lists) = ids_view lists.value.build.items
+
+-- a box holds at least one identifier
+abbrev pub IsFull : Option (Box Lists Global) → Type 0
+IsFull lists = OnSome lists ((0 < length (pre_release_of lists)) ⊎ (0 < length (build_of lists)))
+
+-- the five values of a version
+abbrev pub value_of : Inside → VersionValue
+value_of v = record { major = v.major; minor = v.minor; patch = v.patch; pre_release = pre_release_of v.lists; build = build_of v.lists }
+
+-- they are those of a version, and a version without identifiers has no box
+abbrev pub IsValid : Inside → Type 0
+IsValid v = IsVersion (value_of v) × IsFull v.lists
+
+-- the version that parts make
+abbrev pub parts_value : VersionParts → VersionValue
+parts_value p = record { major = p.major; minor = p.minor; patch = p.patch; pre_release = ids_view p.pre_release.items; build = ids_view p.build.items }

@@ -34,14 +34,12 @@ fn part(bytes: &[u8], at: usize) -> Option<(u64, usize)>
     let mut value = 0u64;
     'digits: for end in at..bytes.len() {
         let byte = bytes[end];
-        if byte == b'.' {
-            if end == at {
-                return None;
-            }
-            return Some((value, end + 1));
-        }
         if !byte.is_ascii_digit() {
-            return None;
+            return if byte == b'.' && at < end {
+                Some((value, end + 1))
+            } else {
+                None
+            };
         }
         value = value * 10 + u64::from(byte - b'0');
         if value > MAX_SAFE_INTEGER {

@@ -3,10 +3,9 @@
 ghost use Rattle.std.specs.Prelude.{IsFalse, IsTrue, ◌≡◌, ◌==◌, ◌≤◌, ◌<◌, ◌+◌, ◌⊎◌, [], true, length, drop, None, Some, Option, IfOk, IfSome, IfNone, IsSomeAnd, IsCharBoundary, OnErr, OnSome};
 ghost use Rattle.semver_core.specs.Text.Characters.{begins, is_identifier_char, IsAfterBlank};
 ghost use Rattle.semver_core.specs.Text.VersionText.{Reads, HasNoVersion, HasVersionWithIdentifiers};
-ghost use Rattle.semver_core.specs.Internal.ListView.{IsFull, build_of, pre_release_of};
 ghost use Rattle.semver_core.specs.Internal.Reading.{past, triple_at, pre_release_at, build_at, list_from, lists_at, version_at, mark_len};
 ghost use Rattle.semver_core.specs.Values.Versions.{VersionValue, HasIdentifiers};
-ghost use Rattle.semver_core.specs.Values.Views.{ids_view};
+ghost use Rattle.semver_core.specs.Values.Views.{ids_view, IsFull, build_of, pre_release_of};
 
 use crate::version::lists::{Identifiers, Lists};
 use crate::{MAX_SAFE_INTEGER, Version, scan};
@@ -87,15 +86,6 @@ fn build_start(text: &str, at: usize) -> Option<usize>
     }
 }
 
-// Whether a pre-release or a build stands at a place.
-fn begins_lists(text: &str, at: usize) -> bool
-    requires { at ≤ length text.now }
-    ensures some { IsTrue result → (0 < length (lists_at text.now at).0) ⊎ (0 < length (lists_at text.now at).1) }
-    ensures none { IsFalse result → lists_at text.now at ≡ ([], [], at) }
-{
-    pre_release_start(text, at).is_some() || build_start(text, at).is_some()
-}
-
 // Fills an empty list with the identifiers that begin at a place, and returns the place after
 // them. Where there is none, that is the place where the list was expected.
 fn read_from(
@@ -118,21 +108,9 @@ fn read_from(
     }
 }
 
-// The pre-release and the build at a place, and the place after them.
-fn boxed_lists(alloc: Global, text: &str, at: usize) -> Result<(Box<Lists>, usize), AllocError>
-    requires { at ≤ length text.now }
-    ensures found { IfOk result (λ found. (pre_release_of (Some found.0), build_of (Some found.0), found.1) ≡ lists_at text.now at) }
-    ensures place { IfOk result (λ found. found.1 ≤ length text.now) }
-{
-    let mut lists = Lists::boxed(alloc)?;
-    let start = pre_release_start(text, at);
-    let next = read_from(alloc, text, at, start, &mut lists.pre_release)?;
-    let start = build_start(text, next);
-    let end = read_from(alloc, text, next, start, &mut lists.build)?;
-    Ok((lists, end))
-}
-
-// The same, with no box where there are no identifiers.
+// The pre-release and the build at a place, and the place after them; no box where there are no
+// identifiers.
+#[inline(always)]
 pub(crate) fn lists_at(
     alloc: Global,
     text: &str,
@@ -144,10 +122,14 @@ pub(crate) fn lists_at(
     ensures place { IfOk result (λ found. found.1 ≤ length text.now) }
     ensures memory { OnErr result ((0 < length (lists_at text.now at).0) ⊎ (0 < length (lists_at text.now at).1)) }
 {
-    if !begins_lists(text, at) {
+    let start = pre_release_start(text, at);
+    if start.is_none() && build_start(text, at).is_none() {
         return Ok((None, at));
     }
-    let (lists, end) = boxed_lists(alloc, text, at)?;
+    let mut lists = Lists::boxed(alloc)?;
+    let next = read_from(alloc, text, at, start, &mut lists.pre_release)?;
+    let start = build_start(text, next);
+    let end = read_from(alloc, text, next, start, &mut lists.build)?;
     Ok((Some(lists), end))
 }
 

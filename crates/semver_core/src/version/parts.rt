@@ -2,9 +2,8 @@
 
 ghost use Rattle.std.specs.Prelude.{◌≡◌, ◌≤◌, ◌+◌, ◌^◌, ◌⊎◌, ◌∷◌, ◌++◌, [], IfOk, IfErr, OnOk, OnErr, IsOk, length, ◌<◌, vec_len, vec_capacity};
 ghost use Rattle.semver_core.specs.Text.Identifiers as id;
-ghost use Rattle.semver_core.specs.Values.PartsView.{parts_value};
 ghost use Rattle.semver_core.specs.Values.Versions.{HasIdentifiers, release_value};
-ghost use Rattle.semver_core.specs.Values.Views.{ids_view};
+ghost use Rattle.semver_core.specs.Values.Views.{ids_view, parts_value};
 
 use crate::cuts::Point;
 use crate::version::lists::{Identifiers, Lists};

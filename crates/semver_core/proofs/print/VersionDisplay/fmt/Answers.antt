@@ -4,7 +4,7 @@ use Rattle.semver_core.proofs.print.VersionDisplay.fmt.Goals as goal
 
 pub returns-clause-styled : goal.returns-clause-styled
 returns-clause-styled g c flush ok =
-    let numbers = c.write_unstyled.ensures flush (search rules) in
+    let numbers = c.write_numbers.ensures flush (search rules) in
     let pre_release = c.write_list.ensures numbers.flush (search rules) in
     let build = c.write_list-2.ensures pre_release.flush ok in
     has_written_styled_of_eq _ _ _ _ _ (simp append_assoc (search rules))

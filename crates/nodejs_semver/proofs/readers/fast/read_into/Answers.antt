@@ -2,21 +2,21 @@ use Rattle.std.proofs.Common.{◌≡◌, ◌<◌, length, arith, sym, ap, ◌∙
 use Rattle.semver_core.specs.declared.TheConstants.{MAX_SAFE_INTEGER}
 use Rattle.nodejs_semver.specs.Internal.Readings.{rest_view}
 use Rattle.nodejs_semver.proofs.Common.Loop.{loop-complete, loop-ends, loop-no_bars, loop-no_part, loop-shorter, loop-sound}
-use Rattle.nodejs_semver.proofs.readers.fast.intervals_of.Goals as goal
+use Rattle.nodejs_semver.proofs.readers.fast.read_into.Goals as goal
 
 pub returns-in_default-clause-none : goal.returns-in_default-clause-none
-returns-in_default-clause-none c =
+returns-in_default-clause-none c = λ _.
     loop-no_part MAX_SAFE_INTEGER c.args.text.now c.parts.found.items c.push_part.new.found.items c.parts.rest.now (rest_view c.in_ok-behind.field-0)
     c.in_ok-behind.ensures (ap rest_view c.in_default.is) c.parts.invariant.complete
 
 pub returns-then-is_empty-clause-some : goal.returns-then-is_empty-clause-some
-returns-then-is_empty-clause-some c =
+returns-then-is_empty-clause-some c = λ _.
     let none : length c.in-Some.behind.now ≡ 0 = grind arith in
     loop-ends MAX_SAFE_INTEGER c.args.text.now c.parts.found.items c.push_part.new.found.items c.parts.rest.now c.in-Some.behind.now
     (record { after = rest_view c.in_ok-behind.field-0; added = c.in_ok-behind.ensures; there = ap rest_view c.in-Some.is }) none c.parts.invariant.sound
 
 pub returns-in_default-after_bars-clause-none : goal.returns-in_default-after_bars-clause-none
-returns-in_default-after_bars-clause-none c =
+returns-in_default-after_bars-clause-none c = λ _.
     let some : 0 < length c.in-Some.behind.now = grind arith in
     loop-no_bars MAX_SAFE_INTEGER c.args.text.now c.parts.found.items c.push_part.new.found.items c.parts.rest.now c.in-Some.behind.now
     (record { after = rest_view c.in_ok-behind.field-0; added = c.in_ok-behind.ensures; there = ap rest_view c.in-Some.is })
