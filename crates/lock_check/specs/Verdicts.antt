@@ -1,7 +1,7 @@
 -- Statement: what a range says of a version.
 use Rattle.std.specs.Prelude.{◌≡◌, true, false, List}
-use Rattle.semver_core.specs.Cuts.{Span}
-use Rattle.semver_core.specs.Values.Versions.{VersionValue}
+use Rattle.nodejs_semver.specs.Cuts.{Span}
+use Rattle.nodejs_semver.specs.Versions.{VersionValue}
 use Rattle.nodejs_semver.specs.Ranges.Gate.{accepts}
 use Rattle.nodejs_semver.specs.Ranges.Least.{IsLeastOf}
 use Rattle.lock_check.specs.declared.verdict.Verdict.{Verdict}

@@ -3,7 +3,7 @@ use Rattle.std.proofs.Common.{◌≡◌, ℕ, zero, suc, ◌<◌, ◌≤◌, ◌
 use Rattle.std.proofs.lemmas.Bool.{cases_Bool, lt-ltb}
 use Rattle.semver_core.specs.Internal.Spaces.{after_spaces, drop_spaces, space_len, space_len_two, space_len_three, is_space_of_two, is_space_of_three}
 
--- bytes that belong to a whitespace character are passed
+-- bytes that belong to a whitespace character are skipped
 pub after_spaces-drop : (n : ℕ) (text : List ℕ) → after_spaces n text ≡ drop_spaces (drop n text)
 unfolding after_spaces
 after_spaces-drop zero text = refl
@@ -30,7 +30,7 @@ unfolding after_spaces
 drop_spaces-none [] h = refl
 drop_spaces-none (b ∷ rest) h = rw (h, after_spaces) refl
 
--- whitespace is passed as far as before, where more follows
+-- whitespace is skipped as far as before, where more follows
 space_len-ascii : (b : ℕ) (x y : List ℕ) → b < 128 → space_len (b ∷ x) ≡ space_len (b ∷ y)
 unfolding space_len
 space_len-ascii b x y h = rw (lt-ltb b 128 h) refl
@@ -121,14 +121,14 @@ space_len-front b (c ∷ []) u k h l = elim (cases_Bool (ltb b 128)) [
     ]
 space_len-front b (c ∷ d ∷ x) u k h l = h
 
--- how much is passed at least
+-- how much is skipped at least
 after_spaces-len : (n : ℕ) (text : List ℕ) (c : ℕ) (w : List ℕ) → after_spaces n text ≡ c ∷ w → n + length (c ∷ w) ≤ length text
 unfolding after_spaces
 after_spaces-len n [] c w h = cc h
 after_spaces-len (suc n) (b ∷ text) c w h = let less = after_spaces-len n text c w h in omega arith
 after_spaces-len zero (b ∷ text) c w h = let e = after_spaces-end 0 (b ∷ text) in omega (arith, ap length e.1, ap length h, length-append e.0 (after_spaces 0 (b ∷ text)))
 
--- the whitespace in front is passed whatever follows the first other character
+-- the whitespace in front is skipped whatever follows the first other character
 pub after_spaces-again : (n : ℕ) (lead : List ℕ) (c : ℕ) (w y : List ℕ) → ((t : List ℕ) → space_len (c ∷ t) ≡ 0)
     → after_spaces n (lead ++ (c ∷ w)) ≡ c ∷ w → after_spaces n (lead ++ (c ∷ y)) ≡ c ∷ y
 unfolding after_spaces

@@ -33,7 +33,7 @@ drop_spaces-white c rest h =
 pub drop_spaces-dark : (c : ℕ) (rest : List ℕ) → is_whitespace c ≡ false → drop_spaces (encode_utf8 c ++ rest) ≡ encode_utf8 c ++ rest
 drop_spaces-dark c rest h = drop_spaces-none (encode_utf8 c ++ rest) (space_len-dark c rest h)
 
--- whitespace at the front is passed
+-- whitespace at the front is skipped
 pub drop_spaces-blank : (cs rest : List ℕ) → list_all is_whitespace cs ≡ true → drop_spaces (encode_utf8_all cs ++ rest) ≡ drop_spaces rest
 drop_spaces-blank [] rest h = refl
 drop_spaces-blank (c ∷ cs) rest h =
@@ -354,7 +354,7 @@ before_last text before c utf8 e =
     rw first (lead_byte c) in
     subst (λ (t : List ℕ). IsUtf8 t) (take-append_seam before (encode_utf8 c)) (IsUtf8-take (before ++ encode_utf8 c) (length before) whole (room, λ _ high. lead high))
 
--- what is left of a text whose end is passed, character by character
+-- what is left of a text whose end is skipped, character by character
 pub record Shortened (text rest : List ℕ) : Type 0 where
   pub utf8 : IsUtf8 rest
   pub same : drop_end_spaces rest ≡ drop_end_spaces text

@@ -37,7 +37,7 @@ ids_length xs = length-map xs id_view
 pub writes_view : (xs : List Identifier) → fed.slice (λ a. id_writes (id_view a)) xs ≡ fed.slice id_writes (ids_view xs)
 writes_view xs = rw (ids_length xs, each_view xs) refl
 
--- one more identifier of a list is one that there is
+-- with one more identifier, every identifier of a list is such
 pub ids_more : (xs : List Identifier) (i : ℕ) (x : Identifier) → i < length xs → x ≡ get_or xs i x → All IsId (ids_view (take i xs)) → IsId (id_view x)
     → All IsId (ids_view (take (i + 1) xs))
 ids_more xs i x lt at before here =

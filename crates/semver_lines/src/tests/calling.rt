@@ -1,13 +1,12 @@
 ghost use Rattle.std.specs.Prelude.{◌≡◌, ◌&&◌, ◌⊎◌, [], IfOk, true, false};
+ghost use Rattle.nodejs_semver.specs.Failures.{RefusedOnlyIf};
+ghost use Rattle.nodejs_semver.specs.Parsing.{IsRefused, Parses};
 ghost use Rattle.nodejs_semver.specs.Ranges.Gate.{accepts, option_accepts};
 ghost use Rattle.nodejs_semver.specs.Text.Denotes.{denotes};
 ghost use Rattle.nodejs_semver.specs.Text.WrittenSet.{writes};
-ghost use Rattle.semver_core.specs.Failures.{RefusedOnlyIf};
-ghost use Rattle.semver_core.specs.Text.Parsing.{IsRefused, Parses};
-ghost use Rattle.semver_core.specs.Values.Versions.{VersionValue};
-ghost use Rattle.semver_core.specs.declared.TheConstants.{MAX_SAFE_INTEGER};
+ghost use Rattle.nodejs_semver.specs.Versions.{VersionValue};
 
-use nodejs_semver::{Failure, Range, SemverError, Version};
+use nodejs_semver::{Failure, MAX_SAFE_INTEGER, Range, SemverError, Version};
 use std::alloc::Global;
 use std::test::Fail;
 
