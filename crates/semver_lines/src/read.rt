@@ -51,7 +51,8 @@ fn version(alloc: Global, text: &str) -> Result<Version, Failure<Fault>>
 pub fn versions(alloc: Global, texts: &str) -> Result<Vec<Version>, Failure<Fault>>
     ensures { IsReadAs (λ vs. vs.items) result (AreVersionsOf (fields texts.now)) }
 {
-    let mut versions = Vec::new(alloc);
+    // A version takes five bytes at least, and a `;` parts it from the next.
+    let mut versions = Vec::with_capacity(alloc, texts.len() / 6 + 1)?;
     for text in texts.split(';') {
         let version = version(alloc, text)?;
         versions.push(version).map_err(AllocError::from)?;

@@ -1,21 +1,24 @@
 -- The first least version of a set among a list, which is the least of the set where each of its versions has one of the list below it.
-use Rattle.std.proofs.Common.{◌≡◌, refl, sym, ◌∙◌, ap, subst, Bool, true, false, ◌&&◌, not, List, [], ◌∷◌, ◌++◌, Option, Some, None, if◌then◌else◌, inl, inr, IfSome}
+use Rattle.std.proofs.Common.{◌≡◌, ◌+◌, refl, sym, ◌∙◌, ap, subst, Bool, true, false, ◌&&◌, ◌||◌, not, List, [], ◌∷◌, ◌++◌, Option, Some, None, if◌then◌else◌, inl, inr, IfSome}
 use Rattle.std.specs.declared.cmp.Ordering.{Ordering}
 use Rattle.std.specs.declared.cmp.Ordering.TheVariants.{Less, Equal, Greater}
-use Rattle.std.specs.Ordering.{ordering_reverse, ordering_then, is_lt, is_le, is_gt}
+use Rattle.std.specs.Ordering.{ordering_reverse, ordering_then, is_eq, is_lt, is_le, is_gt}
 use Rattle.std.specs.Cmp.{upto, tied_itself, alike_right}
-use Rattle.std.specs.List.{fold, flat_map, find, All}
+use Rattle.std.specs.List.{fold, flat_map, find, list_any, All}
 use Rattle.std.proofs.lemmas.List.Elements.{All-head, All-tail}
 use Rattle.std.proofs.lemmas.Grind.{flat_map-append, fold-append}
 use Rattle.semver_core.specs.Cuts.{Span, Cut, Side, Start, Beside, End, Near, Far, is_past, holds, lower_cut, upper_cut}
+use Rattle.semver_core.specs.declared.cuts.bound.Bound.{Bound}
+use Rattle.semver_core.specs.declared.cuts.bound.Bound.TheVariants.{Unbounded, Before, After}
 use Rattle.semver_core.proofs.CutLaws.{cut_total}
-use Rattle.semver_core.specs.Text.Identifiers.{Id}
+use Rattle.semver_core.specs.Text.Identifiers.{Id, Numeric}
 use Rattle.semver_core.specs.Values.Order.{precedence}
 use Rattle.semver_core.specs.Internal.OrderLaws.{precedence_total}
 use Rattle.semver_core.specs.Values.Versions.{VersionValue, is_release}
 use Rattle.nodejs_semver.specs.Ranges.Gate.{lets_in, accepts}
+use Rattle.semver_core.specs.Lists.{is_empty}
 use Rattle.nodejs_semver.specs.Ranges.Least.{IsLeast, IsLeastOf, beyond, begins_with, build_by, build_in, least_build}
-use Rattle.nodejs_semver.specs.Internal.Candidates.{zero, bare, release_of, after_cut, release_after, firsts, kept_marks, removed_marks, kept_firsts, removed_firsts, candidates, improves, better, least_of, is_reached, next_pre, next_patch}
+use Rattle.nodejs_semver.specs.Internal.Candidates.{has_build, zero, bare, release_of, after_cut, release_after, firsts, kept_marks, removed_marks, kept_firsts, removed_firsts, candidates, improves, better, least_of, is_reached, next_pre, next_patch}
 use Rattle.nodejs_semver.proofs.Choice.Keys.{triple_total, le_not_gt, lt_not_gt, not_gt_le, next_patch_above, next_pre_above, release_above}
 use Rattle.nodejs_semver.proofs.Choice.LeastPieces.{In, Each, candidate, accepts_same, lets_in_alike}
 
@@ -255,3 +258,40 @@ reached_near set best w h = reached set best w Near h
 
 pub reached_far : (set : VersionValue → Bool) (best : Option VersionValue) (w : VersionValue) → is_reached best w ≡ true → fold (better set) best (firsts (Beside w Far)) ≡ best
 reached_far set best w h = reached set best w Far h
+
+-- no build comes from a bound that has none
+unbuilt_list : (xs : List Id) → not (is_empty xs) ≡ false → xs ≡ []
+unbuilt_list [] h = refl
+unbuilt_list (x ∷ xs) h = cc h
+
+none_of : (b : Bool) (xs : List Id) → xs ≡ [] → (if b then xs else []) ≡ []
+none_of true xs h = h
+none_of false xs h = refl
+
+no_build : (b : Bound VersionValue) (v : VersionValue) → has_build b ≡ false → build_by (begins_with b) v ≡ []
+no_build Unbounded v h = refl
+no_build (Before w) v h = none_of (is_eq (precedence w v)) w.build (unbuilt_list w.build h)
+no_build (After w) v h = by_release (is_release w)
+  where
+    by_release : (r : Bool) → build_by (Some (if r then record w { patch = w.patch + 1; pre_release = [] } else record w { pre_release = w.pre_release ++ Numeric 0 ∷ [] })) v ≡ []
+    by_release true = none_of _ w.build (unbuilt_list w.build h)
+    by_release false = none_of _ w.build (unbuilt_list w.build h)
+
+first_none : (a b : Bool) → (a || b) ≡ false → a ≡ false
+first_none true b h = cc h
+first_none false b h = refl
+
+second_none : (a b : Bool) → (a || b) ≡ false → b ≡ false
+second_none true b h = cc h
+second_none false b h = h
+
+unbuilt : (ss : List (Span VersionValue)) (v : VersionValue) → list_any (λ s. has_build s.lower) ss ≡ false → least_build ss v ≡ []
+unbuilt [] v h = refl
+unbuilt (s ∷ ss) v h = by_first (holds precedence s v && lets_in s v) (unbuilt ss v (second_none _ _ h))
+  where
+    by_first : (t : Bool) → least_build ss v ≡ [] → build_in (if t then Some s else find (λ s. holds precedence s v && lets_in s v) ss) v ≡ []
+    by_first true more = no_build s.lower v (first_none _ _ h)
+    by_first false more = more
+
+pub unbuilt_stays : (ss : List (Span VersionValue)) (v : VersionValue) → v.build ≡ [] → list_any (λ s. has_build s.lower) ss ≡ false → v ≡ record v { build = least_build ss v }
+unbuilt_stays ss v bare h = ap (λ b. record v { build = b }) (bare ∙ sym (unbuilt ss v h))

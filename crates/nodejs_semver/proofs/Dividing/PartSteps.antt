@@ -57,23 +57,28 @@ bounds-end limit [] h = refl
 bounds-end limit (b ∷ rest) h = absurd (omega arith)
 
 -- the end of the part
-pub part-last : (limit : ℕ) (part rest : List ℕ) (before done : List (Span VersionValue)) (o : Option (Span VersionValue)) (last : Span VersionValue)
-    → done ++ joined precedence o (part_bounds limit rest) ≡ before ++ joined precedence None (part_bounds limit part) → length rest ≡ 0
-    → o ≡ Some last → done ++ last ∷ [] ≡ before ++ part_intervals limit part
+pub words-last : (limit : ℕ) (rest : List ℕ) (all done : List (Span VersionValue)) (o : Option (Span VersionValue)) (last : Span VersionValue)
+    → done ++ joined precedence o (part_bounds limit rest) ≡ all → length rest ≡ 0 → o ≡ Some last → done ++ last ∷ [] ≡ all
 unfolding joined_from
-part-last limit part rest before done o last h none e =
+words-last limit rest all done o last h none e =
     ap (λ (q : Option (Span VersionValue)). done ++ joined precedence q []) (sym e)
-    ∙ (ap (λ (l : List (Span VersionValue)). done ++ joined precedence o l) (sym (bounds-end limit rest none))
-    ∙ (h ∙ ap (λ (l : List (Span VersionValue)). before ++ l) (runs-joined precedence_total (part_bounds limit part))))
+    ∙ (ap (λ (l : List (Span VersionValue)). done ++ joined precedence o l) (sym (bounds-end limit rest none)) ∙ h)
 
-pub part-none : (limit : ℕ) (part rest : List ℕ) (before done : List (Span VersionValue)) (o : Option (Span VersionValue))
-    → done ++ joined precedence o (part_bounds limit rest) ≡ before ++ joined precedence None (part_bounds limit part) → length rest ≡ 0
-    → o ≡ None → done ≡ before ++ part_intervals limit part
-part-none limit part rest before done o h none e =
+pub words-end : (limit : ℕ) (rest : List ℕ) (all done : List (Span VersionValue)) (o : Option (Span VersionValue))
+    → done ++ joined precedence o (part_bounds limit rest) ≡ all → length rest ≡ 0 → o ≡ None → done ≡ all
+words-end limit rest all done o h none e =
     sym (append-nil done)
     ∙ (ap (λ (q : Option (Span VersionValue)). done ++ joined precedence q []) (sym e)
-    ∙ (ap (λ (l : List (Span VersionValue)). done ++ joined precedence o l) (sym (bounds-end limit rest none))
-    ∙ (h ∙ ap (λ (l : List (Span VersionValue)). before ++ l) (runs-joined precedence_total (part_bounds limit part)))))
+    ∙ (ap (λ (l : List (Span VersionValue)). done ++ joined precedence o l) (sym (bounds-end limit rest none)) ∙ h))
+
+-- the first word of a part, and what follows it
+pub part-first : (limit : ℕ) (part rest : List ℕ) (o : Option (Span VersionValue)) → 0 < length part → space_len part ≡ 0
+    → (o, rest) ≡ next_at limit part → joined precedence o (part_bounds limit rest) ≡ part_intervals limit part
+unfolding joined_from
+part-first limit part rest None some h e =
+    ap (λ (l : List (Span VersionValue)). joined precedence None l) (sym (bounds-none limit part rest some h e)) ∙ runs-joined precedence_total (part_bounds limit part)
+part-first limit part rest (Some s) some h e =
+    ap (λ (l : List (Span VersionValue)). joined precedence None l) (sym (bounds-some limit part rest s some h e)) ∙ runs-joined precedence_total (part_bounds limit part)
 
 pub words-none : (limit : ℕ) (text : List ℕ) → length text ≡ 0 → words limit text ≡ []
 unfolding words_within

@@ -85,3 +85,8 @@ pub listed_read : (text : List ℕ) (o : Option (Vec Identifier Global × ℕ)) 
     → found_ids o ≡ list_of text
 listed_read text None h some none = listed_none text h none
 listed_read text (Some found) h some none = listed_found text found.1 (ids_view found.0.items) h some
+
+pub nothing_written : (text : List ℕ) → length text ≡ 0 → list_of text ≡ []
+unfolding list_of
+nothing_written [] h = refl
+nothing_written (b ∷ rest) h = absurd (omega arith)

@@ -1,5 +1,5 @@
 -- For proofs and private contracts: the versions among which the least ones are found.
-use Rattle.std.specs.Prelude.{◌+◌, Bool, true, false, ◌&&◌, List, [], ◌∷◌, ◌++◌, if◌then◌else◌, Option, Some, None, fold, ⊤, ◌<◌, ◌^◌, ◌-◌}
+use Rattle.std.specs.Prelude.{◌+◌, Bool, true, false, ◌&&◌, not, List, [], ◌∷◌, ◌++◌, if◌then◌else◌, Option, Some, None, fold, ⊤, ◌<◌, ◌^◌, ◌-◌}
 use Rattle.std.specs.List.{flat_map}
 use Rattle.std.specs.Ordering.{is_le, is_lt}
 use Rattle.semver_core.specs.Cuts.{Span, Cut, Side, Start, Beside, End, Near, Far}
@@ -8,6 +8,7 @@ use Rattle.semver_core.specs.Values.Order.{precedence}
 use Rattle.semver_core.specs.Values.Versions.{VersionValue, is_release}
 use Rattle.semver_core.specs.declared.cuts.bound.Bound.{Bound}
 use Rattle.semver_core.specs.declared.cuts.bound.Bound.TheVariants.{Unbounded, Before, After}
+use Rattle.semver_core.specs.Lists.{is_empty}
 
 -- the versions without a build that come first somewhere
 abbrev pub zero : VersionValue
@@ -99,3 +100,9 @@ IsRaisable s = Raisable s.lower × Raisable s.upper
 abbrev pub is_reached : Option VersionValue → VersionValue → Bool
 is_reached None x = false
 is_reached (Some b) x = is_le (precedence b x)
+
+-- whether the bound's version has a build
+abbrev pub has_build : Bound VersionValue → Bool
+has_build Unbounded = false
+has_build (Before w) = not (is_empty w.build)
+has_build (After w) = not (is_empty w.build)

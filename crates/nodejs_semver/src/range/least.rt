@@ -13,7 +13,7 @@ ghost use Rattle.nodejs_semver.specs.Internal.Candidates as spec;
 ghost use Rattle.nodejs_semver.specs.Ranges.Least as stated;
 ghost use Rattle.semver_core.specs.Cuts.{Beside, Far, Near, holds};
 ghost use Rattle.semver_core.specs.Values.Order.{precedence};
-ghost use Rattle.std.specs.List.{flat_map};
+ghost use Rattle.std.specs.List.{flat_map, list_any};
 ghost use Rattle.std.specs.Option.{option_copied};
 ghost use Rattle.semver_core.specs.declared.cuts.bound.Bound.TheVariants.{After};
 ghost use Rattle.std.specs.Prelude.{All, IfOk, IfSome, OnOk, Some, [], false, find, fold};
@@ -342,7 +342,25 @@ fn first_accepting<'a>(
         .find(|interval| accepts_one(interval, version, false))
 }
 
+// Whether the bound's version has a build.
+fn has_build(bound: &Bound<Version>) -> bool
+    ensures { result ≡ spec.has_build bound.now }
+{
+    match bound {
+        Bound::Unbounded => false,
+        Bound::Before(version) | Bound::After(version) => !version.build().is_empty(),
+    }
+}
+
+// Whether one of the lower bounds has a build.
+fn begin_with_build(intervals: &[Interval<Version>]) -> bool
+    ensures { result ≡ list_any (λ s. spec.has_build s.lower) intervals.now }
+{
+    intervals.iter().any(|interval| has_build(interval.lower()))
+}
+
 // The version with the build of the bound with which the first interval that accepts it begins.
+#[tactic(auto, using(crate::proofs::Choice::LeastOf::unbuilt_stays))]
 fn with_least_build(
     alloc: Global,
     version: Version,
@@ -353,6 +371,9 @@ fn with_least_build(
     ensures { IfOk result (λ v. v
         ≡ record version { build = stated.least_build intervals.now version }) }
 {
+    if !begin_with_build(intervals) {
+        return Ok(version);
+    }
     match first_accepting(intervals, &version) {
         Some(interval) => with_build_by(alloc, version, interval.lower()),
         None => Ok(version),

@@ -2,7 +2,7 @@
 // while words are read.
 
 ghost use Rattle.std.specs.Prelude.{◌≡◌, ◌<◌, ◌++◌, ◌∷◌, List, IfOk, OnOk, Some, length, true};
-ghost use Rattle.nodejs_semver.specs.Text.Denotes.{part_intervals};
+ghost use Rattle.nodejs_semver.specs.Text.Denotes.{part_bounds, part_intervals};
 ghost use Rattle.nodejs_semver.specs.Internal.Fronts.{is_listed, list_of};
 ghost use Rattle.nodejs_semver.specs.Internal.Meets.{joined, next_at};
 ghost use Rattle.nodejs_semver.specs.Internal.PreReleases.{pre_release_view};
@@ -26,6 +26,9 @@ fn identifiers(alloc: Global, bytes: &[u8]) -> Result<Vec<Identifier>, AllocErro
     requires { is_listed bytes.now ≡ true }
     ensures { IfOk result (λ list. ids_view list.items ≡ list_of bytes.now) }
 {
+    if bytes.is_empty() {
+        return Ok(Vec::new(alloc));
+    }
     let found = scan::identifiers(alloc, scan::text_front(bytes), 0)?;
     match found {
         Some((list, _)) => Ok(list),
@@ -158,17 +161,40 @@ fn join(
     }
 }
 
-/// Adds the intervals of a part that whitespace does not begin.
+/// Adds the intervals of a part that whitespace does not begin. Most parts have one word.
 pub(crate) fn read_part(
     alloc: Global,
     part: &[u8],
     found: &mut Intervals<Version>,
 ) -> Result<(), AllocError>
-    requires { space_len part.now ≡ 0 }
+    requires some { 0 < length part.now }
+    requires starts { space_len part.now ≡ 0 }
     ensures { OnOk result (found.new.items ≡ found.old.items ++ part_intervals MAX_SAFE_INTEGER part.now) }
 {
-    let mut running = None;
-    let mut rest = part;
+    let (first, rest) = next_interval(alloc, part)?;
+    if !rest.is_empty() {
+        return read_words(alloc, first, rest, found);
+    }
+    if let Some(first) = first {
+        found.push(first)?;
+    }
+    Ok(())
+}
+
+// Adds the intervals of the words of a part, of which the first has this interval or none.
+#[inline(never)]
+fn read_words(
+    alloc: Global,
+    first: Option<Interval<Version>>,
+    text: &[u8],
+    found: &mut Intervals<Version>,
+) -> Result<(), AllocError>
+    requires { space_len text.now ≡ 0 }
+    ensures { OnOk result (found.new.items
+        ≡ found.old.items ++ joined precedence first (part_bounds MAX_SAFE_INTEGER text.now)) }
+{
+    let mut running = first;
+    let mut rest = text;
     'words: while !rest.is_empty() {
         let (next, after) = next_interval(alloc, rest)?;
         rest = after;

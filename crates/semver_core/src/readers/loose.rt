@@ -1,6 +1,6 @@
 //! The reader of version texts.
 
-ghost use Rattle.std.specs.Prelude.{IsFalse, IsTrue, ◌≡◌, ◌==◌, ◌≤◌, ◌<◌, ◌+◌, ◌⊎◌, [], true, length, drop, None, Some, Option, IfOk, IfSome, IfNone, IsSomeAnd, IsCharBoundary, OnErr, OnSome};
+ghost use Rattle.std.specs.Prelude.{◌≡◌, ◌==◌, ◌≤◌, ◌<◌, ◌+◌, ◌⊎◌, [], true, length, drop, None, Some, Option, IfOk, IfSome, IfNone, IsSomeAnd, IsCharBoundary, OnErr, OnSome};
 ghost use Rattle.semver_core.specs.Text.Characters.{begins, is_identifier_char, IsAfterBlank};
 ghost use Rattle.semver_core.specs.Text.VersionText.{Reads, HasNoVersion, HasVersionWithIdentifiers};
 ghost use Rattle.semver_core.specs.Internal.Reading.{past, triple_at, pre_release_at, build_at, list_from, lists_at, version_at, mark_len};

@@ -62,8 +62,8 @@ impl Ord for Version {
     fn cmp(&self, other: &Version) -> Ordering {
         self.major()
             .cmp(&other.major())
-            .then(self.minor().cmp(&other.minor()))
-            .then(self.patch().cmp(&other.patch()))
+            .then_with(|| self.minor().cmp(&other.minor()))
+            .then_with(|| self.patch().cmp(&other.patch()))
             .then_with(|| cmp_pre(self.pre_release(), other.pre_release()))
     }
 }

@@ -10,7 +10,7 @@ use Rattle.semver_lines.proofs.read.versions.Goals as goal
 pub returns-in_err-version : goal.returns-in_err-version
 returns-in_err-version c =
     let turn = YieldsList-turn (YieldsList-from_str_split 59 c.args.texts.now (lit< tt) (cc) (cc) (cc)) c.loop-text.yielded _ c.loop-text.yielded_by _ _ c.in-Some.text c.in-Some.is c.next.ensures.steps in
-    let p = err_from_is_err_and c.from_residual.result c.from_residual.ensures.1 in
+    let p = err_from_is_err_and c.from_residual-in_err-version.result c.from_residual-in_err-version.ensures.1 in
     rw p.1 (refused_step (fields c.args.texts.now) (length c.loop-text.yielded) c.in-Some.text.now _ turn (rw p.2 c.in_err-version.ensures))
 
 pub loop-text-preserved : goal.loop-text-preserved

@@ -1,4 +1,4 @@
-use Rattle.std.proofs.Common.{append_assoc, refl, rules}
+use Rattle.std.proofs.Common.{append_assoc, rules}
 use Rattle.std.proofs.Output.{has_written_styled_append, has_written_styled_of_eq}
 use Rattle.semver_core.proofs.print.VersionDisplay.fmt.Goals as goal
 

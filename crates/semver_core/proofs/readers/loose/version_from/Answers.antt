@@ -1,4 +1,3 @@
-use Rattle.std.proofs.Common.{◌≡◌}
 use Rattle.std.proofs.lemmas.Result.{err_from_is_err_and}
 use Rattle.semver_core.specs.declared.TheConstants.{MAX_SAFE_INTEGER}
 use Rattle.semver_core.proofs.Text.Places.{version_some}
