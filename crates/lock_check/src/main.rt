@@ -1,6 +1,10 @@
 //! Checks a lock file of npm: reads a `package-lock.json` from standard input and names each
 //! dependency whose locked version its range rejects. It takes no arguments. It exits with 0 if
 //! every dependency is satisfied, absent by leave or skipped, and with 1 otherwise.
+//!
+//! It finds what `npm ls --package-lock-only --all` finds, except that it knows neither
+//! `overrides`, which a lock file does not hold, nor `acceptDependencies`, and that it skips range
+//! texts which are not version ranges, and links.
 #![tactic(auto)]
 
 mod check;
