@@ -122,7 +122,7 @@ run_on-nil : run_on [] ≡ 0
 unfolding run_on
 run_on-nil = refl
 
--- a text that goes on is passed, whatever follows it
+-- a text that goes on is skipped, whatever follows it
 pub run_on-append : (text more : List ℕ) → carries_on text ≡ true → run_on (text ++ more) ≡ length text + run_on more
 run_on-append [] more h = omega arith
 run_on-append (b ∷ rest) more h = elim (cases_Bool (is_dot b)) [

@@ -82,7 +82,7 @@ minor_front-le limit a x None h = omega arith
 minor_front-le limit a x (Some b) h =
     omega (arith, dotted_front-le limit x b.0 b.1 h, patch_front-le limit a b.0 b.1 (dotted_front limit b.1) refl)
 
--- ---- a qualifier is passed
+-- ---- a qualifier is skipped
 
 -- a text with no plus, and one that is cut at its first plus
 pub record Plusless (text : List ℕ) : Type 0 where
@@ -121,11 +121,11 @@ drop-past (b ∷ l) y k = ap (λ (n : ℕ). drop n (b ∷ (l ++ y))) (suc-plus (
     suc-plus : (n k : ℕ) → suc n + k ≡ suc (n + k)
     suc-plus n k = omega arith
 
--- a list is passed, and what follows goes on
+-- a list is skipped, and what follows goes on
 list-passed : (l y : List ℕ) → is_list l ≡ true → drop (list_len (l ++ y)) (l ++ y) ≡ drop (run_on y) y
 list-passed l y h = ap (λ (n : ℕ). drop n (l ++ y)) (list_len-append l y h) ∙ drop-past l y (run_on y)
 
--- a pre-release that is there is passed
+-- a pre-release that is there is skipped
 pre-passed : (b : ℕ) (p y : List ℕ) (l : List Id) → pre_release_of (b ∷ p) ≡ Some l
     → (pre_release_front ((b ∷ p) ++ y)).1 ≡ drop (run_on y) y
 unfolding pre_release_front
@@ -163,7 +163,7 @@ build-list t z l e h =
     let there : build_of (43 ∷ z) ≡ Some l = subst (λ (x : List ℕ). build_of x ≡ Some l) e h in
     identifiers_of-is z l there
 
--- a whole qualifier is passed
+-- a whole qualifier is skipped
 pub qualifier-passed : (q more : List ℕ) (r : List Id × List Id) → qualifier_of q ≡ Some r
     → length (build_front (pre_release_front (q ++ more)).1).1 ≤ length more
 qualifier-passed q more r h =
@@ -180,7 +180,7 @@ qualifier-passed q more r h =
           subst (λ (t : List ℕ). length (build_front t).1 ≤ length more) (sym left) (build-passed d.0 more list)
     ]
 
--- ---- a whole partial is passed
+-- ---- a whole partial is skipped
 
 -- what a run of digits at the end of a text is told from, by the last piece of that text
 abbrev pub Quiet : List ℕ → List ℕ → Type 0
@@ -296,7 +296,7 @@ patch-passed limit a t more b q c h quiet = elim (dots t) [
       (third-passed limit t2 more a b v.0 r.0 v.1 r.1 stop)
 ]
 
--- the components of a whole text are passed
+-- the components of a whole text are skipped
 components-passed : (limit : ℕ) (b more : List ℕ) (q : Partial) → components_of limit b ≡ Some q → Quiet b more
     → (a : Option ℕ × List ℕ) × (component_front limit (b ++ more) ≡ Some a) × (length (minor_front limit a.0 a.1 (dotted_front limit a.1)).1 ≤ length more)
 components-passed limit b more q h quiet =

@@ -156,7 +156,7 @@ pub blank : (b : ℕ) → (is_wildcard b || is_ascii_digit b) ≡ true → (t : 
 unfolding space_len
 blank b h t = rw (lt-ltb b 128 (begins-small b h), begins-no_space b h) refl
 
--- an optional v is passed whatever follows
+-- an optional v is skipped whatever follows
 drop_v-again : (text lead : List ℕ) (c : ℕ) (w y : List ℕ) → drop_v text ≡ lead ++ (c ∷ w) → (c == 118) ≡ false
     → (v : List ℕ) × (text ≡ v ++ drop_v text) × (drop_v (v ++ (lead ++ (c ∷ y))) ≡ lead ++ (c ∷ y))
 drop_v-again [] [] c w y h k = cc h

@@ -63,7 +63,7 @@ keeps-dash : denotes 9007199254740991 (codes ">1.0.0--.x <=1.0.0") ≡ between (
 unfolding table is_boundary number_of space_len after_spaces drop_end_spaces cut_bars partial_of longest_within word_at words_within from_boundary runs_from version
 keeps-dash = refl
 
--- a range with the number after the limit prints two bounds, and the second one is passed over when they are read again
+-- a range with the number after the limit prints two bounds, and the second one is skipped when they are read again
 widens-caret : denotes 9007199254740991 (codes "^9007199254740991") ≡ between (Before (release_value 9007199254740991 0 0)) (Before (lowest 9007199254740992 0 0)) ∷ []
 unfolding table is_boundary number_of space_len after_spaces drop_end_spaces cut_bars partial_of longest_within word_at words_within from_boundary runs_from
 widens-caret = refl

@@ -12,7 +12,7 @@ use Rattle.nodejs_semver.specs.Text.Table.{table}
 use Rattle.nodejs_semver.specs.Text.WordText.{Word, caret, compare, hyphen, plain, tilde}
 use Rattle.nodejs_semver.specs.Internal.Words.{after_byte, comparator_at, tilde_sign}
 
--- the partial at the front, component by component; neither `v` nor whitespace is passed, and no build is read
+-- the partial at the front, component by component; neither `v` nor whitespace is skipped, and no build is read
 abbrev pub bare_patch : Option ℕ → Option ℕ → List ℕ → Front (Option ℕ) → Partial × List ℕ
 bare_patch major minor text None =
     (record { major = major; minor = minor; patch = None; pre_release = []; build = [] }, text)

@@ -5,7 +5,7 @@ use Rattle.semver_core.specs.Text.Characters.{begins}
 use Rattle.semver_core.specs.Internal.Spaces.{trim}
 use Rattle.nodejs_semver.specs.Text.Bars.{is_bar}
 
--- the texts between the bars, leftmost bars first, not trimmed. After the first bar of two, the second one is passed.
+-- the texts between the bars, leftmost bars first, not trimmed. After the first bar of two, the second one is skipped.
 unfoldable pub cut_bars : Bool → List ℕ → List (List ℕ)
 cut_bars passed [] = [] ∷ []
 cut_bars true (b ∷ rest) = cut_bars false rest

@@ -1,4 +1,4 @@
--- For proofs. What a range text means, computed: `denotes` gives the list of intervals of `Means` (the law `one_meaning`).
+-- For proofs. What a range text means, computed: `denotes` returns the list of intervals of `Means` (the law `one_meaning`).
 -- The text has a range exactly where that list is not empty.
 use Rattle.std.specs.Prelude.{ℕ, List, map, flat_map, filter_map, if◌then◌else◌}
 use Rattle.std.specs.List.{list_all}

@@ -26,7 +26,7 @@ is_below R Unbounded v = true
 is_below R (Before w) v = is_lt (R v w)
 is_below R (After w) v = not (is_lt (R w v))
 
--- the set of a word: what passes its comparisons
+-- the set of a word: what satisfies its comparisons
 abbrev pub word_writes : {V : Type 0} → (V → V → Ordering) → V → Span V → Bool
 word_writes R v s = is_above R s.lower v && is_below R s.upper v
 
