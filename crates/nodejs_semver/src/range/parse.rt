@@ -51,7 +51,8 @@ fn parse_loosely(alloc: Global, text: &str) -> Result<Range, Failure<SemverError
     ensures ok { IfOk result (λ range. range ≡ denotes MAX_SAFE_INTEGER text.now) }
     ensures some { OnOk result (0 < length (denotes MAX_SAFE_INTEGER text.now)) }
     ensures refused { RefusedOnlyIf result (denotes MAX_SAFE_INTEGER text.now ≡ []) }
-    ensures set { IfOk result (λ range. (v : VersionValue) → accepts range v true ≡ writes MAX_SAFE_INTEGER text.now v) }
+    ensures set { IfOk result (λ range. (v : VersionValue) →
+        accepts range v true ≡ writes MAX_SAFE_INTEGER text.now v) }
 {
     match read_loosely(alloc, text) {
         Ok(Some(range)) => Ok(range),

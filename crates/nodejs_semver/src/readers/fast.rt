@@ -288,7 +288,8 @@ fn push_hyphen<'a>(
 ) -> Result<Option<&'a [u8]>, AllocError>
     ensures { IfOk result (λ rest. passed_view rest found.new.items
         ≡ Spec.passed found.old.items
-        (Spec.word_read MAX_SAFE_INTEGER (Spec.upper_front MAX_SAFE_INTEGER (partial_view lower.entry) text.now))) }
+        (Spec.word_read MAX_SAFE_INTEGER
+        (Spec.upper_front MAX_SAFE_INTEGER (partial_view lower.entry) text.now))) }
 {
     let Some((upper, rest)) = bare_front(text) else {
         return Ok(None);

@@ -51,7 +51,6 @@ fn pre_release(alloc: Global, bare: BareVersion<'_>) -> Result<Vec<Identifier>, 
 }
 
 // The version with the identifiers that a text writes.
-#[cold]
 #[inline(never)]
 fn written_version(alloc: Global, bare: BareVersion<'_>) -> Result<Version, AllocError>
     ensures { IfOk result (λ v. v ≡ bare_view bare.entry) }
