@@ -13,7 +13,7 @@ use Rattle.semver_core.specs.Internal.OrderLaws.{id_total}
 use Rattle.semver_core.specs.Values.Versions.{VersionValue, is_release}
 use Rattle.nodejs_semver.specs.Ranges.Gate.{same_triple}
 use Rattle.semver_core.specs.Lists.{is_empty}
-use Rattle.nodejs_semver.specs.Internal.Candidates.{zero, release_of, next_pre, next_patch}
+use Rattle.nodejs_semver.specs.Internal.Candidates.{zero, bare_release, pre_after, patch_after}
 
 -- tests of answers
 pub then_not_gt : (r s : Ordering) → is_gt (ordering_then r s) ≡ false → is_gt r ≡ false
@@ -174,16 +174,16 @@ first_pre_least [] h = cc
 first_pre_least (y ∷ ys) h = least_pre y ys
 
 -- what comes next after a version
-pub next_pre_above : (w : VersionValue) → is_release w ≡ false → precedence w (next_pre w) ≡ Less
-next_pre_above w k = pre_decides w (next_pre w) (triple_same w) ∙ pre_next_above w.pre_release k
+pub next_pre_above : (w : VersionValue) → is_release w ≡ false → precedence w (pre_after w) ≡ Less
+next_pre_above w k = pre_decides w (pre_after w) (triple_same w) ∙ pre_next_above w.pre_release k
 
-pub release_above : (w : VersionValue) → is_release w ≡ false → precedence w (release_of w) ≡ Less
-release_above w k = pre_decides w (release_of w) (triple_same w) ∙ pre_below w.pre_release k
+pub release_above : (w : VersionValue) → is_release w ≡ false → precedence w (bare_release w) ≡ Less
+release_above w k = pre_decides w (bare_release w) (triple_same w) ∙ pre_below w.pre_release k
 
 patch_above : (p : ℕ) → nat_cmp p (p + 1) ≡ Less
 patch_above p = grind (arith, nat_tests)
 
-pub next_patch_above : (w : VersionValue) → precedence w (next_patch w) ≡ Less
+pub next_patch_above : (w : VersionValue) → precedence w (patch_after w) ≡ Less
 next_patch_above w =
     ap (λ r. ordering_then r (ordering_then (nat_cmp w.minor w.minor) (ordering_then (nat_cmp w.patch (w.patch + 1)) (pre_cmp w.pre_release [])))) (tied_itself nat_cmp_total w.major)
     ∙ ap (λ r. ordering_then r (ordering_then (nat_cmp w.patch (w.patch + 1)) (pre_cmp w.pre_release []))) (tied_itself nat_cmp_total w.minor)
@@ -193,9 +193,9 @@ patch_more : (p q : ℕ) → nat_cmp p q ≡ Less → is_gt (nat_cmp (p + 1) q) 
 patch_more p q h = grind (arith, nat_tests)
 
 -- the next patch of a release is not above a release that is above it
-pub next_patch_least : (w v : VersionValue) → w.pre_release ≡ [] → v.pre_release ≡ [] → precedence w v ≡ Less → is_gt (precedence (next_patch w) v) ≡ false
+pub next_patch_least : (w v : VersionValue) → w.pre_release ≡ [] → v.pre_release ≡ [] → precedence w v ≡ Less → is_gt (precedence (patch_after w) v) ≡ false
 next_patch_least w v e f h =
-    upto_by_both (next_patch w) v
+    upto_by_both (patch_after w) v
     (by_cmp (nat_cmp w.major v.major) (nat_cmp w.minor v.minor) w.patch v.patch (then_less (triple_cmp w v) (pre_cmp w.pre_release v.pre_release) both (sym (in_two_steps w v) ∙ h)))
     (ap (λ ys. is_gt (pre_cmp [] ys)) f)
   where

@@ -18,7 +18,7 @@ use Rattle.semver_core.specs.Values.Versions.{VersionValue, is_release}
 use Rattle.nodejs_semver.specs.Ranges.Gate.{lets_in, accepts}
 use Rattle.semver_core.specs.Lists.{is_empty}
 use Rattle.nodejs_semver.specs.Ranges.Least.{IsLeast, IsLeastOf, beyond, begins_with, build_by, build_in, least_build}
-use Rattle.nodejs_semver.specs.Internal.Candidates.{has_build, zero, bare, release_of, after_cut, release_after, firsts, kept_marks, removed_marks, kept_firsts, removed_firsts, candidates, improves, better, least_of, is_reached, next_pre, next_patch}
+use Rattle.nodejs_semver.specs.Internal.Candidates.{has_build, zero, bare, bare_release, after_cut, release_after, firsts, kept_marks, removed_marks, kept_firsts, removed_firsts, candidates, improves, better, least_of, is_reached, pre_after, patch_after}
 use Rattle.nodejs_semver.proofs.Choice.Keys.{triple_total, le_not_gt, lt_not_gt, not_gt_le, next_patch_above, next_pre_above, release_above}
 use Rattle.nodejs_semver.proofs.Choice.LeastPieces.{In, Each, candidate, accepts_same, lets_in_alike}
 
@@ -136,7 +136,7 @@ firsts_bare : (g : Cut VersionValue) → Each (λ v. v.build ≡ []) (firsts g)
 firsts_bare Start = (refl, tt)
 firsts_bare (Beside w s) = by_test (is_release w) s
   where
-    by_test : (r : Bool) (s : Side) → Each (λ v. v.build ≡ []) (if r then release_after w s ∷ [] else after_cut w s ∷ release_of w ∷ [])
+    by_test : (r : Bool) (s : Side) → Each (λ v. v.build ≡ []) (if r then release_after w s ∷ [] else after_cut w s ∷ bare_release w ∷ [])
     by_test true Near = (refl, tt)
     by_test true Far = (refl, tt)
     by_test false Near = (refl, (refl, tt))
@@ -247,11 +247,11 @@ reached set best w s h = by_kind (is_release w) s refl
     two : (x y : VersionValue) → is_gt (precedence w x) ≡ false → is_gt (precedence w y) ≡ false → better set (better set best x) y ≡ best
     two x y k l = ap (λ b. better set b y) (no_better set best w x h k) ∙ no_better set best w y h l
 
-    by_kind : (r : Bool) (s : Side) → is_release w ≡ r → fold (better set) best (if r then release_after w s ∷ [] else after_cut w s ∷ release_of w ∷ []) ≡ best
+    by_kind : (r : Bool) (s : Side) → is_release w ≡ r → fold (better set) best (if r then release_after w s ∷ [] else after_cut w s ∷ bare_release w ∷ []) ≡ best
     by_kind true Near k = no_better set best w (bare w) h (ap is_gt (tied_itself precedence_total w))
-    by_kind true Far k = no_better set best w (next_patch w) h (ap is_gt (next_patch_above w))
-    by_kind false Near k = two (bare w) (release_of w) (ap is_gt (tied_itself precedence_total w)) (ap is_gt (release_above w k))
-    by_kind false Far k = two (next_pre w) (release_of w) (ap is_gt (next_pre_above w k)) (ap is_gt (release_above w k))
+    by_kind true Far k = no_better set best w (patch_after w) h (ap is_gt (next_patch_above w))
+    by_kind false Near k = two (bare w) (bare_release w) (ap is_gt (tied_itself precedence_total w)) (ap is_gt (release_above w k))
+    by_kind false Far k = two (pre_after w) (bare_release w) (ap is_gt (next_pre_above w k)) (ap is_gt (release_above w k))
 
 pub reached_near : (set : VersionValue → Bool) (best : Option VersionValue) (w : VersionValue) → is_reached best w ≡ true → fold (better set) best (firsts (Beside w Near)) ≡ best
 reached_near set best w h = reached set best w Near h

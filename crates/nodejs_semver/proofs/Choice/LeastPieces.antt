@@ -14,7 +14,7 @@ use Rattle.semver_core.specs.Internal.OrderLaws.{precedence_total}
 use Rattle.semver_core.specs.Values.Versions.{VersionValue, is_release}
 use Rattle.nodejs_semver.specs.Ranges.Gate.{same_triple, names, lets_in, accepts}
 use Rattle.nodejs_semver.specs.Ranges.Least.{beyond}
-use Rattle.nodejs_semver.specs.Internal.Candidates.{zero, bare, release_of, first_pre, next_pre, next_patch, after_cut, release_after, firsts, beside, below_at, below_named, kept_marks, removed_marks, candidates}
+use Rattle.nodejs_semver.specs.Internal.Candidates.{zero, bare, bare_release, first_pre, pre_after, patch_after, after_cut, release_after, firsts, beside, below_at, below_named, kept_marks, removed_marks, candidates}
 use Rattle.nodejs_semver.proofs.Choice.Keys.{triple_cmp, same_triple_is, triple_total, triple_upto, pre_decides, upto_by_both, then_not_gt, le_not_gt, not_gt_le, far_less, past_not_gt, not_gt_both, next_patch_least, next_patch_above, next_pre_above, release_above, pre_of_not_gt, next_not_empty, pre_next_least, first_pre_least, near_past, is_eq_is, empty_is, zero_first}
 
 -- an element of a list, and a fact of each
@@ -175,21 +175,21 @@ begins_release (Beside w s) v k h = by_test (is_release w) s refl h
       },
     )
     by_test true Far r h = (
-      next_patch w,
+      patch_after w,
       record {
-        found = in_then _ (next_patch w) _ _ r (inl refl);
+        found = in_then _ (patch_after w) _ _ r (inl refl);
         past = ap (λ q. is_le (ordering_then q Greater)) (next_patch_above w);
         below = next_patch_least w v (empty_is w.pre_release r) (empty_is v.pre_release k) (far_less (precedence w v) h);
-        alike = kind_of_release (next_patch w) v refl k;
+        alike = kind_of_release (patch_after w) v refl k;
       },
     )
     by_test false s r h = (
-      release_of w,
+      bare_release w,
       record {
-        found = in_else _ (release_of w) _ _ r (inr (inl refl));
+        found = in_else _ (bare_release w) _ _ r (inr (inl refl));
         past = ap (λ q. is_le (ordering_then q (side_cmp s Near))) (release_above w r);
-        below = upto_by_both (release_of w) v (triple_upto w v (past_not_gt (precedence w v) (side_cmp s Near) h)) (ap is_gt v_last);
-        alike = kind_of_release (release_of w) v refl k;
+        below = upto_by_both (bare_release w) v (triple_upto w v (past_not_gt (precedence w v) (side_cmp s Near) h)) (ap is_gt v_last);
+        alike = kind_of_release (bare_release w) v refl k;
       },
     )
 
@@ -214,18 +214,18 @@ begins_pre (Beside u s) w v k e m h =
     by_side Near t r n h = (
       bare u,
       record {
-        found = in_else (is_release u) (bare u) (release_after u Near ∷ []) (after_cut u Near ∷ release_of u ∷ []) r (inl refl);
+        found = in_else (is_release u) (bare u) (release_after u Near ∷ []) (after_cut u Near ∷ bare_release u ∷ []) r (inl refl);
         past = ap (λ q. is_le (ordering_then q Equal)) (tied_itself precedence_total u);
         below = n;
         alike = record { release = r ∙ sym k; triple = λ _. t };
       },
     )
     by_side Far t r n h = (
-      next_pre u,
+      pre_after u,
       record {
-        found = in_else (is_release u) (next_pre u) (release_after u Far ∷ []) (after_cut u Far ∷ release_of u ∷ []) r (inl refl);
+        found = in_else (is_release u) (pre_after u) (release_after u Far ∷ []) (after_cut u Far ∷ bare_release u ∷ []) r (inl refl);
         past = ap (λ q. is_le (ordering_then q Greater)) (next_pre_above u r);
-        below = upto_by_both (next_pre u) v (ap is_gt t)
+        below = upto_by_both (pre_after u) v (ap is_gt t)
             (pre_next_least u.pre_release v.pre_release r (sym (pre_decides u v t) ∙ far_less (precedence u v) h));
         alike = record { release = next_not_empty u.pre_release ∙ sym k; triple = λ _. t };
       },

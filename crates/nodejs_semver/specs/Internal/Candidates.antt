@@ -17,31 +17,31 @@ zero = record { major = 0; minor = 0; patch = 0; pre_release = []; build = [] }
 abbrev pub bare : VersionValue → VersionValue
 bare w = record w { build = [] }
 
-abbrev pub release_of : VersionValue → VersionValue
-release_of w = record w { pre_release = []; build = [] }
+abbrev pub bare_release : VersionValue → VersionValue
+bare_release w = record w { pre_release = []; build = [] }
 
 abbrev pub first_pre : VersionValue → VersionValue
 first_pre w = record w { pre_release = Numeric 0 ∷ []; build = [] }
 
-abbrev pub next_pre : VersionValue → VersionValue
-next_pre w = record w { pre_release = w.pre_release ++ Numeric 0 ∷ []; build = [] }
+abbrev pub pre_after : VersionValue → VersionValue
+pre_after w = record w { pre_release = w.pre_release ++ Numeric 0 ∷ []; build = [] }
 
-abbrev pub next_patch : VersionValue → VersionValue
-next_patch w = record w { patch = w.patch + 1; pre_release = []; build = [] }
+abbrev pub patch_after : VersionValue → VersionValue
+patch_after w = record w { patch = w.patch + 1; pre_release = []; build = [] }
 
 -- the first version and the first release past a cut beside w
 abbrev pub after_cut : VersionValue → Side → VersionValue
 after_cut w Near = bare w
-after_cut w Far = next_pre w
+after_cut w Far = pre_after w
 
 abbrev pub release_after : VersionValue → Side → VersionValue
 release_after w Near = bare w
-release_after w Far = next_patch w
+release_after w Far = patch_after w
 
 -- the versions that can be the first of a piece of the line that begins at the cut
 abbrev pub firsts : Cut VersionValue → List VersionValue
 firsts Start = zero ∷ []
-firsts (Beside w s) = if is_release w then release_after w s ∷ [] else after_cut w s ∷ release_of w ∷ []
+firsts (Beside w s) = if is_release w then release_after w s ∷ [] else after_cut w s ∷ bare_release w ∷ []
 firsts End = []
 
 -- the cut that a bound makes, on whichever side

@@ -22,7 +22,7 @@ ghost use Rattle.std.specs.Prelude.{◌&&◌, ◌-◌, ◌<◌, ◌≡◌, ◌^�
 use crate::Range;
 use crate::range::gate::{accepts, accepts_one};
 use crate::range::neighbours::{
-    bare, first_pre, is_first_pre, is_release, next_patch, next_pre, release_of, with_build,
+    bare, bare_release, first_pre, is_first_pre, is_release, patch_after, pre_after, with_build,
 };
 use semver_core::Version;
 use semver_core::cuts::{Bound, Interval};
@@ -141,7 +141,7 @@ impl<'a> Search<'a> {
         }
         self.consider_borrowed(alloc, version)?;
         if !is_release(version) {
-            self.consider(release_of(version));
+            self.consider(bare_release(version));
         }
         Ok(())
     }
@@ -160,11 +160,11 @@ impl<'a> Search<'a> {
             return Ok(());
         }
         if is_release(version) {
-            self.consider(next_patch(version));
+            self.consider(patch_after(version));
             return Ok(());
         }
-        self.consider(next_pre(alloc, version)?);
-        self.consider(release_of(version));
+        self.consider(pre_after(alloc, version)?);
+        self.consider(bare_release(version));
         Ok(())
     }
 
@@ -174,7 +174,8 @@ impl<'a> Search<'a> {
         ensures { let set = stated.beyond self.old.kept.now self.old.removed.now in
             OnOk result (self.new ≡ record self.old {
               best =
-                  fold (spec.better set) self.old.best (flat_map spec.firsts (spec.beside bound.now));
+                  fold (spec.better set) self.old.best
+                  (flat_map spec.firsts (spec.beside bound.now));
             }) }
     {
         match bound {
@@ -223,7 +224,8 @@ impl<'a> Search<'a> {
         ensures { let set = stated.beyond self.old.kept.now self.old.removed.now in
             OnOk result (self.new ≡ record self.old {
               best =
-                  fold (spec.better set) self.old.best (flat_map spec.kept_firsts self.old.kept.now);
+                  fold (spec.better set) self.old.best
+                  (flat_map spec.kept_firsts self.old.kept.now);
             }) }
     {
         let intervals = self.kept;
@@ -287,8 +289,7 @@ fn least_beyond(
     ensures least { IfOk result (λ r. stated.IsLeastOf (stated.beyond kept.now removed.now) r) }
     ensures build { IfOk result (λ r. IfSome r (λ v. v.build ≡ [])) }
 {
-    let best = Search::run(alloc, kept, removed)?;
-    Ok(best)
+    Ok(Search::run(alloc, kept, removed)?)
 }
 
 // The first version after this one, without a build: the next patch of a release, and a pre-release
@@ -299,9 +300,9 @@ fn following(alloc: Global, version: &Version) -> Result<Version, AllocError>
         ≡ Some (record next { build = version.now.build })) }
 {
     if is_release(version) {
-        Ok(next_patch(version))
+        Ok(patch_after(version))
     } else {
-        next_pre(alloc, version)
+        pre_after(alloc, version)
     }
 }
 

@@ -46,8 +46,7 @@ pub(crate) fn differences<V: Point>(
         return subtract_from_each(alloc, these, other);
     }
     let pieces = complement(alloc, others)?;
-    let left = clip_each(alloc, these, &pieces)?;
-    Ok(left)
+    Ok(clip_each(alloc, these, &pieces)?)
 }
 
 /// Whether the interval meets one of the others.
@@ -96,8 +95,7 @@ fn complement<V: Point>(
     let (front, back) = intervals.split_at(intervals.len() / 2);
     let before = complement(alloc, front)?;
     let after = complement(alloc, back)?;
-    let left = clip_each(alloc, &before, &after)?;
-    Ok(left)
+    Ok(clip_each(alloc, &before, &after)?)
 }
 
 // The same of a few intervals, which are taken away one after another.

@@ -18,16 +18,16 @@ pub(crate) fn is_release(version: &Version) -> bool
 }
 
 // The release of the same three numbers.
-pub(crate) fn release_of(version: &Version) -> Version
-    ensures { result ≡ spec.release_of version.now }
+pub(crate) fn bare_release(version: &Version) -> Version
+    ensures { result ≡ spec.bare_release version.now }
 {
     Version::from((version.major(), version.minor(), version.patch()))
 }
 
 // The release after a release.
-pub(crate) fn next_patch(version: &Version) -> Version
+pub(crate) fn patch_after(version: &Version) -> Version
     requires { version.now.patch < 2 ^ 64 - 1 }
-    ensures { result ≡ spec.next_patch version.now }
+    ensures { result ≡ spec.patch_after version.now }
 {
     Version::from((version.major(), version.minor(), version.patch() + 1))
 }
@@ -47,8 +47,8 @@ pub(crate) fn is_first_pre(version: &Version) -> bool
 }
 
 // The version after a pre-release.
-pub(crate) fn next_pre(alloc: Global, version: &Version) -> Result<Version, AllocError>
-    ensures { IfOk result (λ v. v ≡ spec.next_pre version.now) }
+pub(crate) fn pre_after(alloc: Global, version: &Version) -> Result<Version, AllocError>
+    ensures { IfOk result (λ v. v ≡ spec.pre_after version.now) }
 {
     let mut pre_release = Identifier::copy_list(alloc, version.pre_release())?;
     pre_release.push(Identifier::Numeric(0))?;

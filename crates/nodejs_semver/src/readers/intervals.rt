@@ -168,7 +168,8 @@ pub(crate) fn read_part(
 ) -> Result<(), AllocError>
     requires some { 0 < length part.now }
     requires starts { space_len part.now ≡ 0 }
-    ensures { OnOk result (found.new.items ≡ found.old.items ++ part_intervals MAX_SAFE_INTEGER part.now) }
+    ensures { OnOk result (found.new.items ≡ found.old.items
+        ++ part_intervals MAX_SAFE_INTEGER part.now) }
 {
     let (first, rest) = next_interval(alloc, part)?;
     if !rest.is_empty() {

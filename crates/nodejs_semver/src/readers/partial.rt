@@ -158,7 +158,8 @@ fn patch_front<'a>(
 fn minor_front(major: Option<u64>, text: &[u8]) -> (Partial<'_>, &[u8])
     requires { ForSome major (λ n. n ≤ MAX_SAFE_INTEGER) }
     ensures { partial_pair_view result
-        ≡ Spec.minor_front MAX_SAFE_INTEGER major text.now (Spec.dotted_front MAX_SAFE_INTEGER text.now) }
+        ≡ Spec.minor_front MAX_SAFE_INTEGER major text.now
+        (Spec.dotted_front MAX_SAFE_INTEGER text.now) }
 {
     match dotted_front(text) {
         Some((minor, rest)) => patch_front(major, minor, rest),

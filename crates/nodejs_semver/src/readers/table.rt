@@ -76,7 +76,8 @@ impl<'a> Bounds<'a> {
     // `>=version`
     #[inline(always)]
     fn at_least(version: BareVersion<'a>) -> Bounds<'a>
-        ensures { bounds_view result ≡ record { lower = Bound.Before (bare_view version.entry); upper = Bound.Unbounded } }
+        ensures { bounds_view result
+            ≡ record { lower = Bound.Before (bare_view version.entry); upper = Bound.Unbounded } }
     {
         Bounds {
             lower: Bound::Before(version),
@@ -87,7 +88,8 @@ impl<'a> Bounds<'a> {
     // `>version`
     #[inline(always)]
     fn above(version: BareVersion<'a>) -> Bounds<'a>
-        ensures { bounds_view result ≡ record { lower = Bound.After (bare_view version.entry); upper = Bound.Unbounded } }
+        ensures { bounds_view result
+            ≡ record { lower = Bound.After (bare_view version.entry); upper = Bound.Unbounded } }
     {
         Bounds {
             lower: Bound::After(version),
@@ -98,7 +100,8 @@ impl<'a> Bounds<'a> {
     // `<version`
     #[inline(always)]
     fn below(version: BareVersion<'a>) -> Bounds<'a>
-        ensures { bounds_view result ≡ record { lower = Bound.Unbounded; upper = Bound.Before (bare_view version.entry) } }
+        ensures { bounds_view result
+            ≡ record { lower = Bound.Unbounded; upper = Bound.Before (bare_view version.entry) } }
     {
         Bounds {
             lower: Bound::Unbounded,
@@ -109,7 +112,8 @@ impl<'a> Bounds<'a> {
     // `<=version`
     #[inline(always)]
     fn at_most(version: BareVersion<'a>) -> Bounds<'a>
-        ensures { bounds_view result ≡ record { lower = Bound.Unbounded; upper = Bound.After (bare_view version.entry) } }
+        ensures { bounds_view result
+            ≡ record { lower = Bound.Unbounded; upper = Bound.After (bare_view version.entry) } }
     {
         Bounds {
             lower: Bound::Unbounded,
@@ -121,7 +125,10 @@ impl<'a> Bounds<'a> {
     #[inline(always)]
     fn between(first: BareVersion<'a>, end: BareVersion<'a>) -> Bounds<'a>
         ensures { bounds_view result
-            ≡ record { lower = Bound.Before (bare_view first.entry); upper = Bound.Before (bare_view end.entry) } }
+            ≡ record {
+              lower = Bound.Before (bare_view first.entry);
+              upper = Bound.Before (bare_view end.entry);
+            } }
     {
         Bounds {
             lower: Bound::Before(first),
@@ -133,7 +140,10 @@ impl<'a> Bounds<'a> {
     #[inline(always)]
     fn through(first: BareVersion<'a>, last: BareVersion<'a>) -> Bounds<'a>
         ensures { bounds_view result
-            ≡ record { lower = Bound.Before (bare_view first.entry); upper = Bound.After (bare_view last.entry) } }
+            ≡ record {
+              lower = Bound.Before (bare_view first.entry);
+              upper = Bound.After (bare_view last.entry);
+            } }
     {
         Bounds {
             lower: Bound::Before(first),
@@ -146,7 +156,10 @@ impl<'a> Bounds<'a> {
     fn whole_major(major: u64) -> Bounds<'a>
         requires { major ≤ MAX_SAFE_INTEGER }
         ensures { bounds_view result
-            ≡ record { lower = Bound.Before (release_value major 0 0); upper = Bound.Before (Spec.lowest (major + 1) 0 0) } }
+            ≡ record {
+              lower = Bound.Before (release_value major 0 0);
+              upper = Bound.Before (Spec.lowest (major + 1) 0 0);
+            } }
     {
         Bounds::between(release(major, 0, 0), lowest(major + 1, 0, 0))
     }
@@ -156,7 +169,10 @@ impl<'a> Bounds<'a> {
     fn whole_minor(major: u64, minor: u64) -> Bounds<'a>
         requires { minor ≤ MAX_SAFE_INTEGER }
         ensures { bounds_view result
-            ≡ record { lower = Bound.Before (release_value major minor 0); upper = Bound.Before (Spec.lowest major (minor + 1) 0) } }
+            ≡ record {
+              lower = Bound.Before (release_value major minor 0);
+              upper = Bound.Before (Spec.lowest major (minor + 1) 0);
+            } }
     {
         Bounds::between(release(major, minor, 0), lowest(major, minor + 1, 0))
     }
@@ -235,7 +251,8 @@ pub(crate) fn plain<'a>(partial: &Partial<'a>) -> Option<Bounds<'a>>
 #[inline(always)]
 #[tactic(auto, unfolding(crate::specs::Text::Table::table))]
 pub(crate) fn tilde<'a>(greater: bool, partial: &Partial<'a>) -> Option<Bounds<'a>>
-    ensures { table_view result ≡ table MAX_SAFE_INTEGER (Words.tilde greater (partial_view partial.now)) }
+    ensures { table_view result
+        ≡ table MAX_SAFE_INTEGER (Words.tilde greater (partial_view partial.now)) }
 {
     match (partial.major, partial.minor, partial.patch) {
         (Some(major), None, _) => Some(Bounds::whole_major(major)),
@@ -291,7 +308,8 @@ pub(crate) fn hyphen<'a>(lower: &Partial<'a>, upper: &Partial<'a>) -> Bounds<'a>
 #[tactic(auto, unfolding(crate::specs::Text::Table::table))]
 pub(crate) fn compare<'a>(comparator: Comparator, partial: &Partial<'a>) -> Option<Bounds<'a>>
     ensures { table_view result
-        ≡ table MAX_SAFE_INTEGER (Words.compare (comparator_view comparator) (partial_view partial.now)) }
+        ≡ table MAX_SAFE_INTEGER
+        (Words.compare (comparator_view comparator) (partial_view partial.now)) }
 {
     match comparator {
         Comparator::AtLeast => Some(Bounds::at_least(version_of(partial))),

@@ -65,7 +65,8 @@ fn after_hyphen(text: &[u8]) -> Option<&[u8]>
 
 // The hyphen word of a partial and the text behind it.
 fn hyphen_behind<'a>(lower: Partial<'a>, text: &'a [u8]) -> Option<(Word<'a>, &'a [u8])>
-    ensures { reading_view result ≡ Spec.hyphen_behind MAX_SAFE_INTEGER (partial_view lower.entry) text.now }
+    ensures { reading_view result
+        ≡ Spec.hyphen_behind MAX_SAFE_INTEGER (partial_view lower.entry) text.now }
 {
     let sign = after_some_space(text)?;
     let gap = after_hyphen(sign)?;
@@ -76,7 +77,9 @@ fn hyphen_behind<'a>(lower: Partial<'a>, text: &'a [u8]) -> Option<(Word<'a>, &'
 
 // A word that begins with a partial.
 fn partial_word_front(text: &[u8]) -> Option<(Word<'_>, &[u8])>
-    ensures { reading_view result ≡ or_else (Spec.hyphen_at MAX_SAFE_INTEGER text.now) (Spec.plain_at MAX_SAFE_INTEGER text.now) }
+    ensures { reading_view result
+        ≡ or_else (Spec.hyphen_at MAX_SAFE_INTEGER text.now)
+        (Spec.plain_at MAX_SAFE_INTEGER text.now) }
 {
     let (partial, rest) = longest_partial(text)?;
     if let Some(read) = hyphen_behind(partial, rest) {

@@ -7,5 +7,5 @@ clip_each-requires g c = rw c.deref.ensures.value (along-gaps g.met.V.Ord.total 
 
 pub returns : goal.returns
 returns g c =
-    rw c.deref.ensures.value at c.in_ok-left.ensures
+    rw c.deref.ensures.value at c.in_ok-clip_each.ensures
     ∙ minus-clips g.met.V.Ord.total c.args.these.now c.args.others.now c.in_ok-pieces.pieces.items c.requires c.in_ok-pieces.ensures
