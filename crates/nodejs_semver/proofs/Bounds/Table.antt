@@ -1,6 +1,6 @@
 -- For proofs. The bounds of what is read are such as a range may have.
-use Rattle.std.proofs.Common.{◌≡◌, ℕ, zero, suc, ◌≤◌, ◌+◌, List, [], ◌∷◌, length, map, refl, sym, ap, ◌∙◌, Bool, true, false, Some, None}
-use Rattle.std.specs.Prelude.{Option, ◌&&◌, flat_map, filter_map, if◌then◌else◌}
+use Rattle.std.proofs.Common.{◌≡◌, ℕ, zero, suc, ◌+◌, List, [], ◌∷◌, length, map, refl, sym, ap, ◌∙◌, Bool, true, false, Some, None}
+use Rattle.std.specs.Prelude.{Option, flat_map, filter_map, if◌then◌else◌}
 use Rattle.std.specs.List.{AllByRecursion, cons_option, list_all}
 use Rattle.std.proofs.lemmas.List.Folds.{list_all-append}
 use Rattle.semver_core.specs.Cuts.{Span}

@@ -18,7 +18,7 @@ use Rattle.semver_core.specs.declared.cuts.bound.Bound.{Bound}
 use Rattle.semver_core.specs.declared.cuts.bound.Bound.TheVariants.{Unbounded, Before, After}
 use Rattle.semver_core.proofs.Printing.Returns.{decimal_digits, decimal_some, ids_runs, run_chars}
 use Rattle.nodejs_semver.specs.Printing.RoundTrip.{has_bound, read_back}
-use Rattle.nodejs_semver.specs.Text.Denotes.{part_denotes, part_intervals, denotes}
+use Rattle.nodejs_semver.specs.Text.Denotes.{part_denotes, denotes}
 use Rattle.nodejs_semver.specs.Internal.Parts.{cut_bars, parts}
 use Rattle.nodejs_semver.specs.Printing.Text.{bounds_text, span_text, range_text}
 use Rattle.semver_core.specs.Values.Order.{version_eq}

@@ -1,5 +1,5 @@
 -- The number at the front of a text, read in one pass.
-use Rattle.std.proofs.Common.{◌≡◌, ◌≤◌, ◌⊎◌, ℕ, List, length, take, drop, refl, sym, ap, ◌∙◌, arith, Some, None, inl, inr}
+use Rattle.std.proofs.Common.{◌≡◌, ◌≤◌, ◌⊎◌, ℕ, List, length, take, drop, refl, sym, ap, ◌∙◌, Some, None, inl, inr}
 use Rattle.std.specs.Prelude.{Option}
 use Rattle.std.specs.Char.{is_ascii_digit}
 use Rattle.std.specs.List.{prefix_len, take_while}

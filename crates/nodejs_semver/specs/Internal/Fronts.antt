@@ -1,6 +1,6 @@
 -- For proofs and private contracts. What stands at the front of a text, read from the left: a number, a component, a
 -- qualifier, a partial.
-use Rattle.std.specs.Prelude.{true, ℕ, suc, ◌==◌, ◌&&◌, Bool, false, List, [], ◌∷◌, map, take, drop, Option, Some, None, if◌then◌else◌, take_while}
+use Rattle.std.specs.Prelude.{true, ℕ, suc, ◌==◌, ◌&&◌, Bool, List, [], ◌∷◌, map, take, drop, Option, Some, None, if◌then◌else◌, take_while}
 use Rattle.std.specs.Char.{is_ascii_digit}
 use Rattle.std.specs.List.{list_all, prefix_len}
 use Rattle.std.specs.Borrow.{Bor}

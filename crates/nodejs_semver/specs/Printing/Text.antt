@@ -1,8 +1,7 @@
 -- Statement: how ranges print, as UTF-8 bytes.
-use Rattle.std.specs.Prelude.{ℕ, Bool, List, [], ◌∷◌, ◌++◌, if◌then◌else◌}
-use Rattle.std.specs.Ordering.{is_eq}
+use Rattle.std.specs.Prelude.{ℕ, List, [], ◌∷◌, ◌++◌, if◌then◌else◌}
 use Rattle.semver_core.specs.Cuts.{Span}
-use Rattle.semver_core.specs.Values.Order.{precedence, version_eq}
+use Rattle.semver_core.specs.Values.Order.{version_eq}
 use Rattle.semver_core.specs.Printing.Text.{version_text}
 use Rattle.semver_core.specs.Values.Versions.{VersionValue}
 use Rattle.semver_core.specs.declared.cuts.bound.Bound.{Bound}

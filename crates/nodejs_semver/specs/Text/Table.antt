@@ -1,7 +1,7 @@
 -- Statement. The word table, a line for each row; the first row that fits a word decides. M, m and p are the numbers of the
 -- word's partial, where `None` is a component that is absent or a wildcard and `_` is any. V is the version of the
 -- partial, with 0 for such components, and MAX the greatest number that a text may write.
-use Rattle.std.specs.Prelude.{ℕ, zero, suc, ◌+◌, true, false, [], ◌∷◌, Option, Some, None, unwrap_or}
+use Rattle.std.specs.Prelude.{ℕ, zero, ◌+◌, false, [], ◌∷◌, Option, Some, None, unwrap_or}
 use Rattle.semver_core.specs.Cuts.{Span, interval}
 use Rattle.semver_core.specs.declared.cuts.bound.Bound.TheVariants.{Unbounded, Before, After}
 use Rattle.semver_core.specs.Text.Identifiers.{Numeric}
