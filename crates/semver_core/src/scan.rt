@@ -388,7 +388,8 @@ pub fn identifiers(
     requires { at ≤ length text.now }
     // What is found is the longest list there.
     ensures found { IfOk result (λ found. IfSome found (λ list.
-        IsPieceAt (λ piece rest. IsLongestIdentifiers piece rest (ids_view list.0.items)) text.now at list.1)) }
+        IsPieceAt (λ piece rest. IsLongestIdentifiers piece rest (ids_view list.0.items))
+        text.now at list.1)) }
     // Nothing is found only where no list begins.
     ensures none { IfOk result (λ found. IfNone found ((ids : List Id) →
         NoPieceAt (λ piece rest. IsLongestIdentifiers piece rest ids) text.now at)) }

@@ -185,7 +185,8 @@ fn parse_lists(
     requires { at ≤ length text.now }
     ensures ok { IfOk result (λ v. v ≡ qualified text.now (major, minor, patch, at)) }
     ensures never { NeverRefused result }
-    ensures memory { MemoryOnlyIf result (HasIdentifiers (qualified text.now (major, minor, patch, at))) }
+    ensures memory { MemoryOnlyIf result
+        (HasIdentifiers (qualified text.now (major, minor, patch, at))) }
 {
     let (lists, _) = lists_at(alloc, text, at)?;
     Ok(Version::from_parts(major, minor, patch, lists))

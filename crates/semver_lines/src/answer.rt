@@ -44,7 +44,8 @@ pub fn answer_line(
     answer: &mut String,
     output: &mut String,
 ) -> Result<(), AllocError>
-    ensures ok { OnOk result (GrowsByAnswer line.now (string_bytes output.old) (string_bytes output.new)) }
+    ensures ok { OnOk result
+        (GrowsByAnswer line.now (string_bytes output.old) (string_bytes output.new)) }
     ensures err { OnErr result (string_bytes output.new ≡ string_bytes output.old) }
 {
     answer.clear();

@@ -94,7 +94,8 @@ impl<'a> Question<'a> {
     // The question of a line `inc` with these fields behind the command.
     fn increment(rest: &'a str) -> Option<Question<'a>>
         ensures some { IfSome result (λ question. Asks (codes "inc" ∷ fields rest.now) question) }
-        ensures none { IfNone result ((question : Question) → Asks (codes "inc" ∷ fields rest.now) question → ⊥) }
+        ensures none { IfNone result ((question : Question)
+            → Asks (codes "inc" ∷ fields rest.now) question → ⊥) }
     {
         let (version, rest) = first(rest)?;
         let Some((word, rest)) = first(rest) else {
@@ -110,7 +111,8 @@ impl<'a> Question<'a> {
     // The question of a line `out` with these fields behind the command.
     fn outside(rest: &'a str) -> Option<Question<'a>>
         ensures some { IfSome result (λ question. Asks (codes "out" ∷ fields rest.now) question) }
-        ensures none { IfNone result ((question : Question) → Asks (codes "out" ∷ fields rest.now) question → ⊥) }
+        ensures none { IfNone result ((question : Question)
+            → Asks (codes "out" ∷ fields rest.now) question → ⊥) }
     {
         let (range, version, side) = three(rest)?;
         let direction = direction_named(side)?;

@@ -14,7 +14,8 @@ use std::alloc::{AllocError, Global};
 pub fn version_of(
     parsed: &Result<Version, Failure<SemverError>>,
 ) -> Result<&Version, Failure<Fault>>
-    ensures { (text : List ℕ) → ParsesVersion text parsed.now → IsReadAs (λ v. v.now) result (IsVersionOf text) }
+    ensures { (text : List ℕ) → ParsesVersion text parsed.now
+        → IsReadAs (λ v. v.now) result (IsVersionOf text) }
 {
     match parsed {
         Ok(version) => Ok(version),
@@ -26,7 +27,8 @@ pub fn version_of(
 /// The range that was parsed, where it stands.
 #[inline(always)]
 pub fn range_of(parsed: &Result<Range, Failure<SemverError>>) -> Result<&Range, Failure<Fault>>
-    ensures { (text : List ℕ) → ParsesRange text parsed.now → IsReadAs (λ r. r.now) result (IsRangeOf text) }
+    ensures { (text : List ℕ) → ParsesRange text parsed.now
+        → IsReadAs (λ r. r.now) result (IsRangeOf text) }
 {
     match parsed {
         Ok(range) => Ok(range),

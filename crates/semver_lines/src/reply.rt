@@ -180,7 +180,8 @@ fn outside(
     answer: &mut String,
 ) -> Result<(), Failure<Fault>>
     requires { string_bytes answer.old ≡ [] }
-    ensures { IsTold result (string_bytes answer.new) (IsReply (Question.Out texts.entry direction)) }
+    ensures { IsTold result (string_bytes answer.new)
+        (IsReply (Question.Out texts.entry direction)) }
 {
     let range = Range::parse(alloc, texts.0);
     let range = range_of(&range)?;

@@ -50,7 +50,9 @@ impl Lines {
 
     // Answers the pending line, which goes on with these bytes and then ends.
     fn end_line(&mut self, alloc: Global, bytes: &[u8]) -> Result<(), AllocError>
-        ensures ok { OnOk result (GrowsByAnswers ((self.old.pending.items ++ bytes.now) ∷ []) (string_bytes self.old.output) (string_bytes self.new.output)) }
+        ensures ok { OnOk result
+            (GrowsByAnswers ((self.old.pending.items ++ bytes.now) ∷ [])
+            (string_bytes self.old.output) (string_bytes self.new.output)) }
         ensures ended { OnOk result (self.new.pending.items ≡ []) }
         ensures err { OnErr result (string_bytes self.new.output ≡ string_bytes self.old.output) }
     {
@@ -66,9 +68,14 @@ impl Lines {
 
     // Answers the lines that end in a chunk. What is left of it waits in `pending`.
     fn take(&mut self, alloc: Global, chunk: &[u8]) -> Result<(), AllocError>
-        ensures ok { OnOk result (GrowsByAnswers (cut_lines self.old.pending.items chunk.now) (string_bytes self.old.output) (string_bytes self.new.output)) }
-        ensures kept { OnOk result (self.new.pending.items ≡ cut_rest self.old.pending.items chunk.now) }
-        ensures err { OnErr result (GrowsByFront (cut_lines self.old.pending.items chunk.now) (string_bytes self.old.output) (string_bytes self.new.output)) }
+        ensures ok { OnOk result
+            (GrowsByAnswers (cut_lines self.old.pending.items chunk.now)
+            (string_bytes self.old.output) (string_bytes self.new.output)) }
+        ensures kept { OnOk result (self.new.pending.items
+            ≡ cut_rest self.old.pending.items chunk.now) }
+        ensures err { OnErr result
+            (GrowsByFront (cut_lines self.old.pending.items chunk.now)
+            (string_bytes self.old.output) (string_bytes self.new.output)) }
     {
         let mut rest = chunk;
         'lines: while let Some(at) = first_feed(rest) {
@@ -80,7 +87,9 @@ impl Lines {
 
     // Answers a last line that has no line feed, if it is not empty.
     fn end(&mut self, alloc: Global) -> Result<(), AllocError>
-        ensures ok { OnOk result (GrowsByAnswers (last_line self.old.pending.items) (string_bytes self.old.output) (string_bytes self.new.output)) }
+        ensures ok { OnOk result
+            (GrowsByAnswers (last_line self.old.pending.items) (string_bytes self.old.output)
+            (string_bytes self.new.output)) }
         ensures err { OnErr result (string_bytes self.new.output ≡ string_bytes self.old.output) }
     {
         if self.pending.is_empty() {
@@ -93,7 +102,8 @@ impl Lines {
 // The place of the first line feed.
 fn first_feed(bytes: &[u8]) -> Option<usize>
     ensures below { IfSome result (λ at. at < length bytes.now) }
-    ensures some { IfSome result (λ at. bytes.now ≡ take at bytes.now ++ 10 ∷ drop (at + 1) bytes.now) }
+    ensures some { IfSome result (λ at.
+        bytes.now ≡ take at bytes.now ++ 10 ∷ drop (at + 1) bytes.now) }
     ensures line { IfSome result (λ at. no_feed (take at bytes.now) ≡ true) }
     ensures none { IfNone result (no_feed bytes.now ≡ true) }
 {
@@ -103,7 +113,8 @@ fn first_feed(bytes: &[u8]) -> Option<usize>
 // Writes these bytes by calls of `write` alone. A call that accepts no byte is an error.
 fn write_out<W: Write>(writer: &mut W, bytes: &[u8]) -> Result<(), RunFault>
     ensures ok { OnOk result (Appends (W.contents writer.old) (W.contents writer.new) bytes.now) }
-    ensures err { OnErr result (WritesFront (W.contents writer.old) (W.contents writer.new) bytes.now) }
+    ensures err { OnErr result
+        (WritesFront (W.contents writer.old) (W.contents writer.new) bytes.now) }
     ensures fault { IfErr result (λ fault. fault ≡ RunFault.Write) }
 {
     let mut rest = bytes;
@@ -133,10 +144,15 @@ fn turn<R: Read, W: Write>(
     buffer: &mut [u8],
     lines: &mut Lines,
 ) -> Result<usize, RunFault>
-    ensures ok { IfOk result (λ n. Turned (R.remaining reader.old) (R.remaining reader.new) (W.contents writer.old) (W.contents writer.new)
+    ensures ok { IfOk result (λ n.
+        Turned (R.remaining reader.old) (R.remaining reader.new) (W.contents writer.old)
+        (W.contents writer.new)
         lines.old.pending.items lines.new.pending.items (take n buffer.new)) }
-    ensures end { IfOk result (λ n. n ≡ 0 → 0 < length buffer.old → IsAtEnd (R.remaining reader.new)) }
-    ensures fault { IfErr result (Stopped (R.remaining reader.old) (R.remaining reader.new) (W.contents writer.old) (W.contents writer.new) lines.old.pending.items) }
+    ensures end { IfOk result (λ n.
+        n ≡ 0 → 0 < length buffer.old → IsAtEnd (R.remaining reader.new)) }
+    ensures fault { IfErr result
+        (Stopped (R.remaining reader.old) (R.remaining reader.new) (W.contents writer.old)
+        (W.contents writer.new) lines.old.pending.items) }
 {
     let Ok(n) = reader.read(buffer) else {
         return Err(RunFault::Read);
@@ -152,7 +168,8 @@ fn turn<R: Read, W: Write>(
 
 // Answers a last line that has no line feed.
 fn finish<W: Write>(alloc: Global, writer: &mut W, lines: &mut Lines) -> Result<(), RunFault>
-    ensures { Finished (W.contents writer.old) (W.contents writer.new) lines.old.pending.items result }
+    ensures { Finished (W.contents writer.old)
+        (W.contents writer.new) lines.old.pending.items result }
 {
     lines.output.clear();
     match lines.end(alloc) {
@@ -169,7 +186,8 @@ fn finish<W: Write>(alloc: Global, writer: &mut W, lines: &mut Lines) -> Result<
 /// write that accepts no byte. After `u64::MAX` reads the error is `Read`. Memory is allocated for
 /// a chunk of the input, its answers and the longest line.
 pub fn run<R: Read, W: Write>(alloc: Global, reader: &mut R, writer: &mut W) -> Result<(), RunFault>
-    ensures { Ran result (R.remaining reader.old) (R.remaining reader.new) (W.contents writer.old) (W.contents writer.new) }
+    ensures { Ran result (R.remaining reader.old) (R.remaining reader.new) (W.contents writer.old)
+        (W.contents writer.new) }
 {
     let Ok(mut room) = room(alloc) else {
         return Err(RunFault::Memory);

@@ -65,7 +65,8 @@ pub fn push_difference(kind: Option<VersionDiff>, answer: &mut String) -> Result
 #[inline(always)]
 pub fn push_version(version: Option<&Version>, answer: &mut String) -> Result<(), Failure<Fault>>
     requires { string_bytes answer.old ≡ [] }
-    ensures { IsTold result (string_bytes answer.new) (Says (version_or_none (option_copied version.entry))) }
+    ensures { IsTold result (string_bytes answer.new)
+        (Says (version_or_none (option_copied version.entry))) }
 {
     Ok(match version {
         Some(version) => write!(answer, "{version}"),
@@ -77,7 +78,8 @@ pub fn push_version(version: Option<&Version>, answer: &mut String) -> Result<()
 #[inline(always)]
 pub fn push_range(range: Option<&Range>, answer: &mut String) -> Result<(), Failure<Fault>>
     requires { string_bytes answer.old ≡ [] }
-    ensures { IsTold result (string_bytes answer.new) (Says (range_or_none (option_copied range.entry))) }
+    ensures { IsTold result (string_bytes answer.new)
+        (Says (range_or_none (option_copied range.entry))) }
 {
     Ok(match range {
         Some(range) => write!(answer, "{range}"),

@@ -154,8 +154,7 @@ impl<V: Point> Interval<V> {
     {
         let lower = greater_lower(&self.lower, &other.lower);
         let upper = lesser_upper(&self.upper, &other.upper);
-        let common = copy_between(alloc, lower, upper)?;
-        Ok(common)
+        Ok(copy_between(alloc, lower, upper)?)
     }
 
     /// The intersection, by moving the bounds of both intervals. It allocates nothing. Where
@@ -192,8 +191,7 @@ impl<V: Point> Interval<V> {
     {
         let lower = greater_lower(&other.lower, &self.lower);
         let upper = lesser_upper(&self.upper, &other.upper);
-        let clipped = copy_between(alloc, lower, upper)?;
-        Ok(clipped)
+        Ok(copy_between(alloc, lower, upper)?)
     }
 
     /// What is left of the interval below the other one, and above it. A new bound is the other's
@@ -209,8 +207,7 @@ impl<V: Point> Interval<V> {
             (option_holds V.cmp r.0 v || option_holds V.cmp r.1 v)
             ≡ (holds V.cmp self.now v && not (holds V.cmp other.now v))) }
     {
-        let parts = self.exact_remainders(alloc, other)?;
-        Ok(parts)
+        Ok(self.exact_remainders(alloc, other)?)
     }
 
     // The two parts by their bounds.

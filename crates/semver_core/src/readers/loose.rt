@@ -56,7 +56,8 @@ fn pre_release_start(text: &str, at: usize) -> Option<usize>
     requires { at ≤ length text.now }
     ensures found { pre_release_at text.now at ≡ list_from text.now at result }
     ensures some { OnSome result (0 < length (pre_release_at text.now at).0) }
-    ensures begins { IfSome result (λ start. begins is_identifier_char (drop start text.now) ≡ true) }
+    ensures begins { IfSome result (λ start.
+        begins is_identifier_char (drop start text.now) ≡ true) }
     ensures inside { IfSome result (λ start. start ≤ length text.now) }
 {
     let start = match past(text, at, b'-') {
@@ -75,7 +76,8 @@ fn build_start(text: &str, at: usize) -> Option<usize>
     requires { at ≤ length text.now }
     ensures found { build_at text.now at ≡ list_from text.now at result }
     ensures some { OnSome result (0 < length (build_at text.now at).0) }
-    ensures begins { IfSome result (λ start. begins is_identifier_char (drop start text.now) ≡ true) }
+    ensures begins { IfSome result (λ start.
+        begins is_identifier_char (drop start text.now) ≡ true) }
     ensures inside { IfSome result (λ start. start ≤ length text.now) }
 {
     let start = past(text, at, b'+')?;
@@ -97,9 +99,11 @@ fn read_from(
 ) -> Result<usize, AllocError>
     requires inside { at ≤ length text.now }
     requires start { IfSome start (λ start. start ≤ length text.now) }
-    requires begins { IfSome start (λ start. begins is_identifier_char (drop start text.now) ≡ true) }
+    requires begins { IfSome start (λ start.
+        begins is_identifier_char (drop start text.now) ≡ true) }
     requires empty { list.old.items ≡ [] }
-    ensures found { IfOk result (λ end. (ids_view list.new.items, end) ≡ list_from text.now at start) }
+    ensures found { IfOk result (λ end.
+        (ids_view list.new.items, end) ≡ list_from text.now at start) }
     ensures place { IfOk result (λ end. end ≤ length text.now) }
 {
     match start {
@@ -117,10 +121,12 @@ pub(crate) fn lists_at(
     at: usize,
 ) -> Result<(Option<Box<Lists>>, usize), AllocError>
     requires { at ≤ length text.now }
-    ensures found { IfOk result (λ found. (pre_release_of found.0, build_of found.0, found.1) ≡ lists_at text.now at) }
+    ensures found { IfOk result (λ found.
+        (pre_release_of found.0, build_of found.0, found.1) ≡ lists_at text.now at) }
     ensures full { IfOk result (λ found. IsFull found.0) }
     ensures place { IfOk result (λ found. found.1 ≤ length text.now) }
-    ensures memory { OnErr result ((0 < length (lists_at text.now at).0) ⊎ (0 < length (lists_at text.now at).1)) }
+    ensures memory { OnErr result ((0 < length (lists_at text.now at).0)
+        ⊎ (0 < length (lists_at text.now at).1)) }
 {
     let start = pre_release_start(text, at);
     if start.is_none() && build_start(text, at).is_none() {
@@ -137,7 +143,8 @@ pub(crate) fn lists_at(
 fn version_from(alloc: Global, text: &str, at: usize) -> Result<Option<Version>, AllocError>
     requires { at ≤ length text.now }
     ensures found { IfOk result (λ found. found ≡ version_at MAX_SAFE_INTEGER text.now at) }
-    ensures memory { OnErr result (IsSomeAnd (version_at MAX_SAFE_INTEGER text.now at) HasIdentifiers) }
+    ensures memory { OnErr result
+        (IsSomeAnd (version_at MAX_SAFE_INTEGER text.now at) HasIdentifiers) }
 {
     let Some((major, minor, patch, end)) = triple(text, at) else {
         return Ok(None);

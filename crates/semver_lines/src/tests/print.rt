@@ -30,7 +30,8 @@ const PRINTED: &[(Kind, &str)] = &[
     (Kind::Direction, ">"),
 ];
 
-// Whether a value prints as this text in a wide field, in a narrow one with zeros, and cut to one character.
+// Whether a value prints as this text in a wide field, in a narrow one with zeros, and cut to one
+// character.
 fn prints_as<D: Display>(alloc: Global, value: &D, text: &str) -> Result<bool, Fail> {
     let printed = format!(in alloc; "{value:*>60}|{value:03}|{value:^.1}")?;
     let wanted = format!(in alloc; "{text}|{text}|{text}")?;

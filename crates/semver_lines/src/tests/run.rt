@@ -62,7 +62,8 @@ fn run_answers_a_long_line(rt: HostRuntime) -> Result<(), Fail> {
     Ok(())
 }
 
-// A line for each command save `pre`, `min` and `ver`, and two faults; the last one has no line feed.
+// A line for each command but `pre`, `min` and `ver`, and two faults; the last one has no line
+// feed.
 const INPUT: &[u8] = b"cmp;1.0.0-alpha;1.0.0-alpha.1\n\
 sat;^1.2.3-rc.4;1.2.3-rc.5\n\
 range;>2 <1\n\
@@ -128,14 +129,15 @@ fn has_answered(writer: &FailingWriter, lines: usize) -> bool {
     whole && ANSWERS.starts_with(written) && ended(written) == lines
 }
 
-// Whether a run whose reader and writer pass so many bytes a call writes all answers. Neither end fails where its call
-// `before` is behind its last one.
+// Whether a run whose reader and writer pass so many bytes a call writes all answers. Neither end
+// fails if its call `before` is behind its last one.
 fn tells_all(alloc: Global, mut reader: FailingReader<'static>, mut writer: FailingWriter) -> bool {
     let ran = run(alloc, &mut reader, &mut writer);
     ran.is_ok() && has_told(&writer, ANSWERS.len())
 }
 
-// Whether a run whose reader fails at its call `k` ends with `Read` and has answered just so many lines.
+// Whether a run whose reader fails at its call `k` ends with `Read` and has answered just so many
+// lines.
 fn stops_reading(alloc: Global, step: usize, k: usize, lines: usize) -> bool {
     let mut output = writer(alloc, usize::MAX, None);
     let ran = run(alloc, &mut reader(step, Some(k)), &mut output);
