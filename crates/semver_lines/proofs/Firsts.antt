@@ -1,5 +1,5 @@
 -- The first `;` of a text, and the first line feed of an input.
-use Rattle.std.proofs.Common.{◌≡◌, ◌==◌, ◌<◌, ◌+◌, ◌∙◌, ◌++◌, ◌∷◌, ℕ, suc, Bor, true, false, not, List, [], Option, Some, None, IfSome, IfNone, Result, Ok, Err, OnOk, is_ok, if◌then◌else◌, length, take, drop, get_or, refl, sym, ap, subst, arith, inl, inr, drop-cons, take-append-drop}
+use Rattle.std.proofs.Common.{◌≡◌, ◌==◌, ◌<◌, ◌+◌, ◌∙◌, ◌++◌, ◌∷◌, ℕ, suc, true, false, not, List, [], Option, Some, None, IfSome, IfNone, Result, Ok, Err, OnOk, is_ok, if◌then◌else◌, length, take, drop, get_or, refl, sym, ap, subst, arith, inl, inr, drop-cons, take-append-drop}
 use Rattle.memchr.specs.Find.{IsFirstByte, is_byte}
 use Rattle.std.proofs.lemmas.Bool.{cases_Bool, eqb-true}
 use Rattle.std.proofs.lemmas.List.{get_or-take, length-take-le}

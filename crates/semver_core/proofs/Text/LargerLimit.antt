@@ -1,6 +1,6 @@
 -- For proofs. What a larger limit on numbers leaves as it is.
-use Rattle.std.proofs.Common.{◌≡◌, ◌≤◌, ℕ, List, arith}
-use Rattle.semver_core.specs.Text.VersionText.{HasOneReading, Reads}
+use Rattle.std.proofs.Common.{◌≤◌, ℕ, List, arith}
+use Rattle.semver_core.specs.Text.VersionText.{HasOneReading}
 use Rattle.semver_core.specs.Text.Limits.{KeepsReading, KeepsVersion}
 use Rattle.semver_core.specs.Text.Numbers.{IsNumber, IsWholeNumber}
 

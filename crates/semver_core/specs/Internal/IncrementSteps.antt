@@ -1,6 +1,5 @@
 -- For proofs and private contracts: what the steps of `inc` say to one another.
 use Rattle.std.specs.Prelude.{◌≡◌, ℕ, List, ◌∷◌, ◌++◌, length, Option, Some, None, Result, Ok, Err, ⊤, false}
-use Rattle.std.specs.declared.alloc.Global.{Global}
 use Rattle.smallvec.specs.SmallVec.{SmallVec}
 use Rattle.semver_core.specs.Text.Identifiers.{Id, Numeric}
 use Rattle.semver_core.specs.Increments.Table.{Fault, has_numeric}
