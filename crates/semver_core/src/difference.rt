@@ -6,7 +6,6 @@ ghost use Rattle.semver_core.specs.Difference.{kind_between, kind_up};
 ghost use Rattle.semver_core.specs.Values.Order.{precedence};
 
 use crate::Version;
-use crate::increment::is_release;
 use std::cmp::Ordering;
 use std::fmt;
 
@@ -60,8 +59,8 @@ impl fmt::Display for VersionDiff {
 fn kind_up(low: &Version, high: &Version) -> VersionDiff
     ensures { result ≡ kind_up low.now high.now }
 {
-    let to_release = is_release(high);
-    if !is_release(low) && to_release {
+    let to_release = high.is_release();
+    if !low.is_release() && to_release {
         return if low.minor() == 0 && low.patch() == 0 {
             VersionDiff::Major
         } else if high.patch() != 0 {

@@ -118,13 +118,6 @@ impl IncrementError {
     }
 }
 
-// Whether the version has no pre-release.
-pub(crate) fn is_release(version: &Version) -> bool
-    ensures { result ≡ is_release version.now }
-{
-    !version.is_prerelease()
-}
-
 // One more, in 64 bits.
 fn one_more(n: u64) -> Result<u64, Failure<IncrementError>>
     ensures { Returns (spec.one_more n) result }

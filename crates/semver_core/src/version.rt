@@ -4,7 +4,7 @@ ghost use Rattle.std.specs.Prelude.{◌≡◌, ◌↔◌, Some, refl, IsTrue, If
 ghost use Rattle.semver_core.specs.Failures.{MemoryOnlyIf, NeverRefused, RefusedOnlyIf};
 ghost use Rattle.semver_core.specs.Text.VersionText.{Reads, HasNoVersion, HasVersionWithIdentifiers};
 ghost use Rattle.semver_core.specs.Text.Parsing.{Parses, IsRefused, NeedsMemory};
-ghost use Rattle.semver_core.specs.Values.Versions.{VersionValue, HasIdentifiers, IsVersion, IsId, release_value};
+ghost use Rattle.semver_core.specs.Values.Versions.{VersionValue, HasIdentifiers, IsVersion, IsId, is_release, release_value};
 ghost use Rattle.semver_core.specs.Internal.Reading.{qualified};
 ghost use Rattle.semver_core.specs.Values.Views.{ids_view, id_view, IsFull, build_of, pre_release_of};
 
@@ -169,6 +169,14 @@ impl Version {
         ensures { IsTrue result ↔ (0 < length self.now.pre_release) }
     {
         !self.pre_release().is_empty()
+    }
+
+    /// Whether the version is a release: it has no pre-release identifiers. Build metadata does not
+    /// count.
+    pub fn is_release(&self) -> bool
+        ensures { result ≡ is_release self.now }
+    {
+        self.pre_release().is_empty()
     }
 }
 

@@ -6,10 +6,11 @@ use Rattle.std.specs.Char.{is_ascii_digit}
 use Rattle.std.specs.List.{list_all}
 use Rattle.std.specs.Str.Parse.{digits_value}
 use Rattle.std.proofs.lemmas.Bool.{cases_Bool, leb-true}
-use Rattle.semver_core.specs.Text.Identifiers.{Id, identifier_of, is_run, pieces}
+use Rattle.semver_core.specs.Text.Identifiers.{Id, identifier_of, is_identifier, pieces}
 use Rattle.semver_core.specs.Printing.RoundTrip.{is_normal, is_u64_text}
 use Rattle.nodejs_semver.specs.Text.PartialText.{Partial, ends_digit}
-use Rattle.nodejs_semver.specs.Internal.Partials.{◌>>=◌, after_dot, before_dot, before_plus, build_of, component_of, drop_v, from_plus, identifiers_of, is_plus, longest_partial, longest_within, minor_after, number_of, or_else, partial_of, partial_to, patch_after, pre_release_of, qualifier_of, third, wildcard_of}
+use Rattle.nodejs_semver.specs.Internal.Partials.{after_dot, before_dot, before_plus, build_of, component_of, drop_v, from_plus, identifiers_of, is_plus, longest_partial, longest_within, minor_after, number_of, or_else, partial_of, partial_to, patch_after, pre_release_of, qualifier_of, third, wildcard_of}
+use Rattle.semver_core.specs.Internal.Reading.{◌>>?◌}
 use Rattle.nodejs_semver.specs.Internal.Words.{Reading, after_byte, after_some_space, at_boundary, caret_at, comparator_at, compare_at, form_at, hyphen_at, is_boundary, or_malformed, plain_at, signed, tilde_at, tilde_sign, word_at}
 use Rattle.nodejs_semver.specs.Text.WordText.{Word, caret, compare, hyphen, malformed, plain, tilde}
 use Rattle.semver_core.specs.Internal.Spaces.{drop_spaces}
@@ -18,20 +19,20 @@ use Rattle.nodejs_semver.proofs.Reading.Pieces.{bind-some, number_of-is}
 
 -- ---- identifiers
 
-run-normal : (run : List ℕ) → is_run run ≡ true → is_normal (identifier_of run) ≡ true
+run-normal : (run : List ℕ) → is_identifier run ≡ true → is_normal (identifier_of run) ≡ true
 run-normal run h = elim (cases_Bool (is_u64_text run)) [
   | inl digits ↦ rw digits (and-right (list_all is_ascii_digit run) (nat_lt (digits_value 10 run) (2 ^ 64)) digits)
-  | inr other ↦ rw other (and-both (is_run run) (not (is_u64_text run)) h (ap not other))
+  | inr other ↦ rw other (and-both (is_identifier run) (not (is_u64_text run)) h (ap not other))
 ]
 
-runs-normal : (runs : List (List ℕ)) → list_all is_run runs ≡ true → list_all is_normal (map identifier_of runs) ≡ true
+runs-normal : (runs : List (List ℕ)) → list_all is_identifier runs ≡ true → list_all is_normal (map identifier_of runs) ≡ true
 runs-normal [] h = refl
 runs-normal (run ∷ rest) h =
     and-both (is_normal (identifier_of run)) (list_all is_normal (map identifier_of rest))
-    (run-normal run (and-left (is_run run) (list_all is_run rest) h)) (runs-normal rest (and-right (is_run run) (list_all is_run rest) h))
+    (run-normal run (and-left (is_identifier run) (list_all is_identifier rest) h)) (runs-normal rest (and-right (is_identifier run) (list_all is_identifier rest) h))
 
 identifiers-normal : (text : List ℕ) (ids : List Id) → identifiers_of text ≡ Some ids → list_all is_normal ids ≡ true
-identifiers-normal text ids h = elim (cases_Bool (list_all is_run (pieces text))) [
+identifiers-normal text ids h = elim (cases_Bool (list_all is_identifier (pieces text))) [
   | inl all ↦ let same : map identifier_of (pieces text) ≡ ids = inside (rw all at h) in
       ap (λ (l : List Id). list_all is_normal l) (sym same) ∙ runs-normal (pieces text) all
   | inr none ↦ cc (rw none at h)
@@ -133,7 +134,7 @@ ended-fine limit text rest p h = elim (cases_Bool (ends_digit text && begins is_
 
 or_else-fine : (limit : ℕ) (o : Option Partial) (t : List ℕ) (more : Option (Partial × List ℕ)) → ((p : Partial) → o ≡ Some p → Fine limit p)
     → ((p : Partial) (r : List ℕ) → more ≡ Some (p, r) → Fine limit p)
-    → (p : Partial) (r : List ℕ) → or_else (o >>= λ q. Some (q, t)) more ≡ Some (p, r) → Fine limit p
+    → (p : Partial) (r : List ℕ) → or_else (o >>? λ q. Some (q, t)) more ≡ Some (p, r) → Fine limit p
 or_else-fine limit None t more f g p r h = g p r h
 or_else-fine limit (Some q) t more f g p r h = subst (λ (x : Partial). Fine limit x) (first (q, t) (p, r) h) (f q refl)
   where

@@ -9,7 +9,7 @@ use Rattle.semver_core.specs.declared.cuts.bound.Bound.TheVariants.{Unbounded, B
 use Rattle.nodejs_semver.specs.Internal.CommonFronts.{begins_second, both_of, comparison_front, comparisons_front, part_read, passed, pushed, word_read}
 use Rattle.nodejs_semver.specs.Internal.CommonViews.{both_view}
 use Rattle.nodejs_semver.specs.Internal.Fronts.{Front}
-use Rattle.nodejs_semver.specs.Internal.Partials.{◌>>=◌}
+use Rattle.semver_core.specs.Internal.Reading.{◌>>?◌}
 
 -- two comparisons of which the first has no upper and the second no lower bound
 pub half_open : (a b : Bound VersionValue)
@@ -49,16 +49,16 @@ passed-part there rest done new (Some s) r h e =
 abbrev behind-first : ℕ → Span VersionValue × List ℕ → Front (Span VersionValue)
 behind-first limit s =
     if begins_second s.1
-    then (word_read limit (comparison_front limit (drop 1 s.1)) >>= λ t. part_read t.1 (meet precedence s.0 t.0))
+    then (word_read limit (comparison_front limit (drop 1 s.1)) >>? λ t. part_read t.1 (meet precedence s.0 t.0))
     else Some s
 
 front-is : (limit : ℕ) (text : List ℕ) (o : Front (Span VersionValue)) → o ≡ word_read limit (comparison_front limit text)
-    → comparisons_front limit text ≡ (o >>= λ s. behind-first limit s)
+    → comparisons_front limit text ≡ (o >>? λ s. behind-first limit s)
 unfolding comparisons_front
-front-is limit text o h = ap (λ (q : Front (Span VersionValue)). q >>= λ s. behind-first limit s) (sym h)
+front-is limit text o h = ap (λ (q : Front (Span VersionValue)). q >>? λ s. behind-first limit s) (sym h)
 
 no-second : (limit : ℕ) (rest : List ℕ) (o : Option (Span VersionValue)) → begins_second rest ≡ true → word_read limit (comparison_front limit (drop 1 rest)) ≡ None
-    → (part_read rest o >>= λ s. behind-first limit s) ≡ None
+    → (part_read rest o >>? λ s. behind-first limit s) ≡ None
 no-second limit rest None h k = refl
 no-second limit rest (Some a) h k = rw (h, k) refl
 
@@ -70,12 +70,12 @@ none-second limit text a rest h second k =
     front-is limit text (part_read rest (interval precedence a)) h ∙ no-second limit rest (interval precedence a) second k
 
 then-second : (limit : ℕ) (a : Span VersionValue) (rest more : List ℕ) (o : Option (Span VersionValue)) → part_read more o ≡ word_read limit (comparison_front limit (drop 1 rest))
-    → begins_second rest ≡ true → behind-first limit (a, rest) ≡ part_read more (o >>= λ b. meet precedence a b)
+    → begins_second rest ≡ true → behind-first limit (a, rest) ≡ part_read more (o >>? λ b. meet precedence a b)
 then-second limit a rest more None h second = rw (second, sym h) refl
 then-second limit a rest more (Some b) h second = rw (second, sym h) refl
 
 two-read : (limit : ℕ) (rest more : List ℕ) (o p : Option (Span VersionValue)) → begins_second rest ≡ true → part_read more p ≡ word_read limit (comparison_front limit (drop 1 rest))
-    → (part_read rest o >>= λ s. behind-first limit s) ≡ part_read more (o >>= λ a. p >>= λ b. meet precedence a b)
+    → (part_read rest o >>? λ s. behind-first limit s) ≡ part_read more (o >>? λ a. p >>? λ b. meet precedence a b)
 two-read limit rest more None p second k = refl
 two-read limit rest more (Some a) p second k = then-second limit a rest more p k second
 

@@ -13,7 +13,7 @@ use Rattle.nodejs_semver.specs.Internal.CommonFronts.{after_bars, after_gap, bar
 use Rattle.nodejs_semver.specs.Text.Common.{CommonRangesAreRead, IsBare, IsCommonPart, IsCommonRange, IsCommonWord, IsComparison, IsGap, caret_word, compare_word, comparison, hyphen_word, more_parts, one_part, one_word, plain_word, tilde_greater_word, tilde_word, two_comparisons}
 use Rattle.nodejs_semver.specs.Internal.Fronts.{Front, begins_byte}
 use Rattle.nodejs_semver.specs.Text.PartialText.{Partial, is_wildcard}
-use Rattle.nodejs_semver.specs.Internal.Partials.{◌>>=◌}
+use Rattle.semver_core.specs.Internal.Reading.{◌>>?◌}
 use Rattle.nodejs_semver.specs.Text.Table.{table}
 use Rattle.nodejs_semver.specs.Text.WordText.{IsSign, above_sign, at_least_sign, at_most_sign, below_sign, equal_sign, Comparator, Word, above, at_least, at_most, below, caret, compare, equal, hyphen, plain, tilde}
 use Rattle.nodejs_semver.specs.Internal.Words.{after_byte, comparator_at, tilde_sign}
@@ -39,8 +39,8 @@ second-of {A} {B} {p} {q} h = ap (λ (x : A × B). x.1) (inside h)
     inside k = cc k
 
 -- the next step of a reading
-bind-of : {A B : Type 0} (o : Option A) (f : A → Option B) (x : A) → o ≡ Some x → (o >>= f) ≡ f x
-bind-of {A} {B} o f x h = ap (λ (q : Option A). q >>= f) h
+bind-of : {A B : Type 0} (o : Option A) (f : A → Option B) (x : A) → o ≡ Some x → (o >>? f) ≡ f x
+bind-of {A} {B} o f x h = ap (λ (q : Option A). q >>? f) h
 
 -- what may follow a part: the end, or bars with one space or none before them
 pub record Ends (more : List ℕ) : Type 0 where
@@ -554,7 +554,7 @@ within-sound limit (suc n) text list h =
           let e : p.0.0 ∷ [] ≡ list = inside (rw none at p.2) in
           subst (λ (l : List (Span VersionValue)). IsCommonRange limit text l) e (last-sound limit text p.0.0 p.0.1 p.1 none)
       | inr some ↦
-          let next = bind-some (after_bars p.0.1) (λ next. common_within limit n next >>= λ tail. Some (onto p.0.0 tail)) list (rw some at p.2) in
+          let next = bind-some (after_bars p.0.1) (λ next. common_within limit n next >>? λ tail. Some (onto p.0.0 tail)) list (rw some at p.2) in
           let tail = bind-some (common_within limit n next.0) (λ tail. Some (onto p.0.0 tail)) list next.2 in
           let e : p.0.0 ∷ tail.0 ≡ list = inside tail.2 in
           subst (λ (l : List (Span VersionValue)). IsCommonRange limit text l) e

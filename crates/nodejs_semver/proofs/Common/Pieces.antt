@@ -7,14 +7,15 @@ use Rattle.std.proofs.lemmas.Bool.{cases_Bool}
 use Rattle.std.proofs.lemmas.List.{take_at, drop_at, length-map}
 use Rattle.std.proofs.lemmas.List.Splits.{slice_split-cons_yes, slice_split-cons_no}
 use Rattle.semver_core.specs.Text.Characters.{begins}
-use Rattle.semver_core.specs.Text.Identifiers.{Id, identifier_of, is_run, pieces}
+use Rattle.semver_core.specs.Text.Identifiers.{Id, identifier_of, is_identifier, pieces}
 use Rattle.semver_core.specs.Internal.Spaces.{drop_spaces, space_len}
 use Rattle.semver_core.proofs.Text.Spaces.{drop_spaces-none}
 use Rattle.nodejs_semver.specs.Internal.CommonFronts.{bare_front, bare_minor, bare_patch}
 use Rattle.nodejs_semver.specs.Text.Common.{IsBare}
 use Rattle.nodejs_semver.specs.Internal.Fronts.{Front, begins_byte, begins_identifier, build_front, component_front, dotted_front, list_len, list_of, minor_front, partial_front, patch_front, pre_release_front, run_on, split_list}
 use Rattle.nodejs_semver.specs.Text.PartialText.{Partial}
-use Rattle.nodejs_semver.specs.Internal.Partials.{◌>>=◌, after_dot, before_dot, before_plus, build_of, component_of, components_of, drop_v, from_plus, identifiers_of, is_dot, is_plus, longest_partial, minor_after, patch_after, pre_release_of, qualifier_of, third}
+use Rattle.nodejs_semver.specs.Internal.Partials.{after_dot, before_dot, before_plus, build_of, component_of, components_of, drop_v, from_plus, identifiers_of, is_dot, is_plus, longest_partial, minor_after, patch_after, pre_release_of, qualifier_of, third}
+use Rattle.semver_core.specs.Internal.Reading.{◌>>?◌}
 use Rattle.nodejs_semver.proofs.Reading.IdentifierLists.{begins-append, is_list, is_list-begins, list_len-append, list_len-is_list, and-right}
 use Rattle.nodejs_semver.proofs.Reading.Longest.{longest_is_front}
 use Rattle.nodejs_semver.proofs.Reading.PartialLaw.{components-are, components-begin, components-of}
@@ -55,7 +56,7 @@ split-exact l y h stop =
     rw (list_len-append l y h ∙ sum, take_at l y (length l) refl, drop_at l y (length l) refl) refl
 
 spelled : (t : List ℕ) (l : List Id) → identifiers_of t ≡ Some l → map identifier_of (pieces t) ≡ l
-spelled t l h = elim (cases_Bool (list_all is_run (pieces t))) [
+spelled t l h = elim (cases_Bool (list_all is_identifier (pieces t))) [
   | inl all ↦ inside (map identifier_of (pieces t)) l (rw all at h)
   | inr none ↦ cc (rw none at h)
 ]
@@ -262,7 +263,7 @@ longest-exact limit x more p h stop =
     let kept = front-kept (x ++ more) (begins-longer x more (bare-begins limit x p h)) in
     let read : component_front limit (drop_spaces (drop_v (x ++ more))) ≡ Some a.0 = ap (λ (t : List ℕ). component_front limit t) kept ∙ a.1 in
     longest_is_front limit (x ++ more)
-    ∙ (ap (λ (o : Front (Option ℕ)). o >>= λ a. Some (minor_front limit a.0 a.1 (dotted_front limit a.1))) read ∙ ap (λ (q : Partial × List ℕ). some_read q) a.2)
+    ∙ (ap (λ (o : Front (Option ℕ)). o >>? λ a. Some (minor_front limit a.0 a.1 (dotted_front limit a.1))) read ∙ ap (λ (q : Partial × List ℕ). some_read q) a.2)
   where
     some_read : Partial × List ℕ → Option (Partial × List ℕ)
     some_read q = Some q
@@ -327,7 +328,7 @@ pub bare-exact : (limit : ℕ) (x more : List ℕ) (p : Partial) → IsBare limi
 unfolding bare_front
 bare-exact limit x more p h stop =
     let a = components-exact limit x more p (components-of limit x p h.components) stop in
-    ap (λ (o : Front (Option ℕ)). o >>= λ a. Some (bare_minor limit a.0 a.1 (dotted_front limit a.1))) a.1
+    ap (λ (o : Front (Option ℕ)). o >>? λ a. Some (bare_minor limit a.0 a.1 (dotted_front limit a.1))) a.1
     ∙ ap (λ (q : Partial × List ℕ). some_read q) (minor-bare limit a.0.0 a.0.1 (dotted_front limit a.0.1) p more a.2 h.no_build)
   where
     some_read : Partial × List ℕ → Option (Partial × List ℕ)

@@ -9,7 +9,7 @@ use Rattle.std.specs.Int.{is_in_range}
 use Rattle.std.specs.List.{list_all, join_with_byte, AllByRecursion}
 use Rattle.semver_core.specs.Text.Characters.{is_whitespace, is_identifier_char}
 use Rattle.semver_core.specs.Cuts.{Span}
-use Rattle.semver_core.specs.Text.Identifiers.{Id, is_run}
+use Rattle.semver_core.specs.Text.Identifiers.{Id, is_identifier}
 use Rattle.semver_core.specs.Printing.RoundTrip.{is_normal}
 use Rattle.semver_core.specs.Internal.Readable.{IsReadable}
 use Rattle.semver_core.specs.Printing.Text.{id_text, marked_list, version_text}
@@ -59,13 +59,13 @@ shown_print b h = grind (arith, nat_tests)
 print_no_bar : (b : ℕ) → is_print b ≡ true → (b == 124) ≡ false
 print_no_bar b h = grind (arith, nat_tests)
 
-joined_shown : (runs : List (List ℕ)) → list_all is_run runs ≡ true → list_all is_shown (join_with_byte 46 runs) ≡ true
+joined_shown : (runs : List (List ℕ)) → list_all is_identifier runs ≡ true → list_all is_shown (join_with_byte 46 runs) ≡ true
 joined_shown [] h = refl
-joined_shown (run ∷ []) h = all_imply is_identifier_char is_shown char_shown run (run_chars run (and-left (is_run run) true h))
+joined_shown (run ∷ []) h = all_imply is_identifier_char is_shown char_shown run (run_chars run (and-left (is_identifier run) true h))
 joined_shown (run ∷ next ∷ runs) h =
     all_append is_shown run (46 ∷ join_with_byte 46 (next ∷ runs))
-    (all_imply is_identifier_char is_shown char_shown run (run_chars run (and-left (is_run run) (list_all is_run (next ∷ runs)) h)))
-    (joined_shown (next ∷ runs) (and-right (is_run run) (list_all is_run (next ∷ runs)) h))
+    (all_imply is_identifier_char is_shown char_shown run (run_chars run (and-left (is_identifier run) (list_all is_identifier (next ∷ runs)) h)))
+    (joined_shown (next ∷ runs) (and-right (is_identifier run) (list_all is_identifier (next ∷ runs)) h))
 
 marked_shown : (mark : ℕ) (ids : List Id) → is_shown mark ≡ true → list_all is_normal ids ≡ true → list_all is_shown (marked_list (mark ∷ []) ids) ≡ true
 marked_shown mark [] m h = refl

@@ -7,7 +7,8 @@ use Rattle.std.proofs.lemmas.List.Sums.{take_while-cons}
 use Rattle.std.proofs.lemmas.Bool.{cases_Bool, le-leb}
 use Rattle.std.proofs.lemmas.Bool.Decides.{nat_tests}
 use Rattle.std.specs.Prelude.{Option}
-use Rattle.nodejs_semver.specs.Internal.Partials.{number_of, ◌>>=◌}
+use Rattle.nodejs_semver.specs.Internal.Partials.{number_of}
+use Rattle.semver_core.specs.Internal.Reading.{◌>>?◌}
 use Rattle.semver_core.specs.Lists.{is_empty}
 use Rattle.nodejs_semver.specs.Internal.Fronts.{number_front}
 
@@ -35,5 +36,5 @@ digit_value-is b h = (grind (arith, nat_tests), grind (arith, nat_tests), grind 
 
 -- the number at the front, by what its digits are
 pub number_front-is : (limit : ℕ) (text : List ℕ) (n : Option ℕ) → number_of limit (take_while is_ascii_digit text) ≡ n
-    → number_front limit text ≡ (n >>= λ x. Some (x, drop (prefix_len is_ascii_digit text) text))
-number_front-is limit text n e = ap (λ (o : Option ℕ). o >>= λ x. Some (x, drop (prefix_len is_ascii_digit text) text)) e
+    → number_front limit text ≡ (n >>? λ x. Some (x, drop (prefix_len is_ascii_digit text) text))
+number_front-is limit text n e = ap (λ (o : Option ℕ). o >>? λ x. Some (x, drop (prefix_len is_ascii_digit text) text)) e

@@ -7,7 +7,7 @@ use Rattle.std.proofs.lemmas.Bool.Decides.{nat_tests}
 use Rattle.std.proofs.lemmas.List.Splits.{slice_split-cons_yes, slice_split-cons_no}
 use Rattle.std.proofs.lemmas.List.{drop_more, drop_all}
 use Rattle.semver_core.specs.Text.Characters.{is_identifier_char}
-use Rattle.semver_core.specs.Text.Identifiers.{is_run, goes_on}
+use Rattle.semver_core.specs.Text.Identifiers.{is_identifier, goes_on}
 use Rattle.nodejs_semver.specs.Internal.Partials.{is_dot}
 use Rattle.nodejs_semver.specs.Internal.Fronts.{is_listed, begins_identifier, run_on, list_len}
 
@@ -39,17 +39,17 @@ tail-onto : (b : ℕ) (ps : List (List ℕ)) → tail_of (onto_first b ps) ≡ t
 tail-onto b [] = refl
 tail-onto b (p ∷ ps) = refl
 
-runs-onto : (b : ℕ) (ps : List (List ℕ)) → list_all is_run (onto_first b ps) ≡ (is_identifier_char b && list_all is_identifier_char (head_of ps) && list_all is_run (tail_of ps))
+runs-onto : (b : ℕ) (ps : List (List ℕ)) → list_all is_identifier (onto_first b ps) ≡ (is_identifier_char b && list_all is_identifier_char (head_of ps) && list_all is_identifier (tail_of ps))
 runs-onto b [] = grind (arith, nat_tests)
 runs-onto b (p ∷ ps) = rw (lt-ltb 0 (length (b ∷ p)) (omega arith)) refl
 
 -- each part is a run, but for the first, which may be empty
 unfoldable pub carries_on : List ℕ → Bool
-carries_on text = list_all is_identifier_char (head_of (slice_split is_dot text)) && list_all is_run (tail_of (slice_split is_dot text))
+carries_on text = list_all is_identifier_char (head_of (slice_split is_dot text)) && list_all is_identifier (tail_of (slice_split is_dot text))
 
 -- each part is a run
 unfoldable pub is_list : List ℕ → Bool
-is_list text = list_all is_run (slice_split is_dot text)
+is_list text = list_all is_identifier (slice_split is_dot text)
 
 -- a dot is no character of identifiers
 dot-other : (b : ℕ) → is_dot b ≡ true → is_identifier_char b ≡ false
@@ -68,7 +68,7 @@ unfolding carries_on
 carries_on-other b rest h =
     let ps = slice_split is_dot rest in
     rw (slice_split-cons_no is_dot b rest h, head-onto b ps, tail-onto b ps)
-    (and-assoc (is_identifier_char b) (list_all is_identifier_char (head_of ps)) (list_all is_run (tail_of ps)))
+    (and-assoc (is_identifier_char b) (list_all is_identifier_char (head_of ps)) (list_all is_identifier (tail_of ps)))
 
 pub is_list-dot : (b : ℕ) (rest : List ℕ) → is_dot b ≡ true → is_list (b ∷ rest) ≡ false
 unfolding is_list
@@ -79,7 +79,7 @@ unfolding is_list carries_on
 is_list-other b rest h =
     let ps = slice_split is_dot rest in
     rw (slice_split-cons_no is_dot b rest h)
-    (runs-onto b ps ∙ and-assoc (is_identifier_char b) (list_all is_identifier_char (head_of ps)) (list_all is_run (tail_of ps)))
+    (runs-onto b ps ∙ and-assoc (is_identifier_char b) (list_all is_identifier_char (head_of ps)) (list_all is_identifier (tail_of ps)))
 
 -- a list begins with a character of identifiers
 pub is_list-begins : (text : List ℕ) → is_list text ≡ true → begins_identifier text ≡ true

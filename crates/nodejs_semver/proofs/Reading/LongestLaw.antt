@@ -17,7 +17,8 @@ use Rattle.nodejs_semver.specs.Internal.Fronts.{partial_front}
 use Rattle.nodejs_semver.specs.Text.LongestText.{BeginsPartial, IsLongestPartial}
 use Rattle.nodejs_semver.specs.Text.Laws.{LongestPartialsAreRead}
 use Rattle.nodejs_semver.specs.Text.PartialText.{AreComponents, IsComponent, number, one, three, two, wildcard, Partial, is_wildcard}
-use Rattle.nodejs_semver.specs.Internal.Partials.{is_dot, longest_partial, partial_of, drop_v, ◌>>=◌}
+use Rattle.nodejs_semver.specs.Internal.Partials.{is_dot, longest_partial, partial_of, drop_v}
+use Rattle.semver_core.specs.Internal.Reading.{◌>>?◌}
 use Rattle.nodejs_semver.proofs.Reading.IdentifierLists.{and-both, and-left, and-right, carries_on, carries_on-dot, carries_on-other, is_list, is_list-carries_on}
 use Rattle.nodejs_semver.proofs.Reading.Longest.{longest_is_front}
 use Rattle.nodejs_semver.proofs.Reading.PartialLaw.{components-are, components-begin, partial-is, partial-of}
@@ -173,7 +174,7 @@ longest-of limit text p rest u h =
   where
     paired : (q : Partial) (left : List ℕ) → Some q ≡ Some p → rest ≡ left → ◌≡◌ {A = Option (Partial × List ℕ)} (Some (q, left)) (Some (p, rest))
     paired q left e f =
-        ap (λ (o : Option Partial). o >>= λ x. Some (x, left)) e ∙ ap (λ (t : List ℕ). some_pair t) (sym f)
+        ap (λ (o : Option Partial). o >>? λ x. Some (x, left)) e ∙ ap (λ (t : List ℕ). some_pair t) (sym f)
       where
         some_pair : List ℕ → Option (Partial × List ℕ)
         some_pair t = Some (p, t)

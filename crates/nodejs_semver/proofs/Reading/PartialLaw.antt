@@ -8,7 +8,7 @@ use Rattle.std.proofs.lemmas.Bool.Decides.{nat_tests}
 use Rattle.std.proofs.lemmas.Str.{IsUtf8-drop, IsCharBoundary-after_ascii, encodes-append, len_utf8_bounds}
 use Rattle.semver_core.specs.Text.Characters.{begins, is_whitespace, IsBlank}
 use Rattle.semver_core.specs.Text.VersionText.{IsBuild, IsPreRelease, begins_pre_release, dashed, bare, no_pre_release, plus, no_build}
-use Rattle.semver_core.specs.Text.Identifiers.{Id, IsIdentifiers, goes_on, is_run, pieces}
+use Rattle.semver_core.specs.Text.Identifiers.{Id, IsIdentifiers, goes_on, is_identifier, pieces}
 use Rattle.semver_core.specs.Internal.Spaces.{drop_spaces, space_len}
 use Rattle.semver_core.proofs.Text.SpaceLaw.{space_len-white}
 use Rattle.semver_core.proofs.Text.Spaces.{drop_spaces-none}
@@ -60,7 +60,7 @@ component-begins limit c v (number digits n h) = digits-begin digits (is_empty-f
 -- ---- the qualifier
 
 identifiers-are : (text : List ℕ) (l : List Id) → identifiers_of text ≡ Some l → IsIdentifiers text l
-identifiers-are text l h = elim (cases_Bool (list_all is_run (pieces text))) [
+identifiers-are text l h = elim (cases_Bool (list_all is_identifier (pieces text))) [
   | inl all ↦ record { runs = all; spelled = sym (inside (rw all at h)) }
   | inr none ↦ cc (rw none at h)
 ]

@@ -8,14 +8,15 @@ use Rattle.std.specs.Str.Parse.{digits_value}
 use Rattle.std.proofs.lemmas.Bool.{cases_Bool, eqb-true}
 use Rattle.std.proofs.lemmas.Bool.Decides.{nat_tests}
 use Rattle.std.proofs.lemmas.List.{take_at, drop_at}
-use Rattle.nodejs_semver.specs.Internal.Partials.{number_of, ◌>>=◌, is_dot, before_dot, after_dot, component_of, wildcard_of}
+use Rattle.nodejs_semver.specs.Internal.Partials.{number_of, is_dot, before_dot, after_dot, component_of, wildcard_of}
+use Rattle.semver_core.specs.Internal.Reading.{◌>>?◌}
 use Rattle.nodejs_semver.specs.Text.PartialText.{ends_digit, is_wildcard}
 use Rattle.semver_core.specs.Lists.{is_empty}
 use Rattle.nodejs_semver.specs.Internal.Fronts.{begins_wildcard, component_front}
 use Rattle.nodejs_semver.proofs.Reading.IdentifierLists.{and-left, and-right}
 
 -- a step that gave an answer
-pub bind-some : {A B : Type 0} (o : Option A) (f : A → Option B) (y : B) → (o >>= f) ≡ Some y → (x : A) × (o ≡ Some x) × (f x ≡ Some y)
+pub bind-some : {A B : Type 0} (o : Option A) (f : A → Option B) (y : B) → (o >>? f) ≡ Some y → (x : A) × (o ≡ Some x) × (f x ≡ Some y)
 bind-some None f y h = cc h
 bind-some (Some x) f y h = (x, refl, h)
 

@@ -5,7 +5,8 @@ use Rattle.std.proofs.lemmas.Bool.{cases_Bool}
 use Rattle.semver_core.specs.Internal.Spaces.{drop_spaces, space_len, after_spaces}
 use Rattle.nodejs_semver.specs.Internal.Words.{is_boundary, Reading, after_some_space, after_byte, at_boundary, signed, hyphen_at, plain_at, compare_at, tilde_at, caret_at, comparator_at, or_equal, tilde_sign, from_boundary, form_at, word_at, words_within, words}
 use Rattle.nodejs_semver.specs.Text.WordText.{Word, Comparator, above, at_least, below, at_most, equal, hyphen, plain, compare, tilde, caret}
-use Rattle.nodejs_semver.specs.Internal.Partials.{◌>>=◌, longest_partial, longest_within, partial_to, or_else}
+use Rattle.nodejs_semver.specs.Internal.Partials.{longest_partial, longest_within, partial_to, or_else}
+use Rattle.semver_core.specs.Internal.Reading.{◌>>?◌}
 use Rattle.nodejs_semver.specs.Text.PartialText.{Partial}
 use Rattle.nodejs_semver.proofs.Reading.Pieces.{bind-some}
 use Rattle.nodejs_semver.proofs.Reading.Reaches.{second-same}
@@ -20,7 +21,7 @@ drop-shorter n text r l e = omega (arith, ap length e, length-drop (suc n) text)
 
 or_else-shorter : (o : Option Partial) (t : List ℕ) (more : Option (Partial × List ℕ)) (n : ℕ) → length t < n
     → ((x : Partial) (r : List ℕ) → more ≡ Some (x, r) → length r < n)
-    → (x : Partial) (r : List ℕ) → or_else (o >>= λ p. Some (p, t)) more ≡ Some (x, r) → length r < n
+    → (x : Partial) (r : List ℕ) → or_else (o >>? λ p. Some (p, t)) more ≡ Some (x, r) → length r < n
 or_else-shorter None t more n l m x r h = m x r h
 or_else-shorter (Some p) t more n l m x r h = subst (λ (u : List ℕ). length u < n) (second-same (p, t) (x, r) h) l
 

@@ -9,9 +9,10 @@ use Rattle.std.proofs.lemmas.List.Folds.{length-prefix_len}
 use Rattle.std.proofs.lemmas.Bool.{cases_Bool, eqb-true}
 use Rattle.std.proofs.lemmas.Bool.Decides.{nat_tests}
 use Rattle.semver_core.specs.Internal.Spaces.{drop_spaces, after_spaces}
-use Rattle.nodejs_semver.specs.Internal.Partials.{number_of, ◌>>=◌, is_dot, is_plus, identifiers_of, pre_release_of, build_of, before_plus, from_plus, qualifier_of, before_dot, after_dot, component_of, components_of, minor_after, patch_after, partial_of, drop_v, third, wildcard_of}
+use Rattle.nodejs_semver.specs.Internal.Partials.{number_of, is_dot, is_plus, identifiers_of, pre_release_of, build_of, before_plus, from_plus, qualifier_of, before_dot, after_dot, component_of, components_of, minor_after, patch_after, partial_of, drop_v, third, wildcard_of}
+use Rattle.semver_core.specs.Internal.Reading.{◌>>?◌}
 use Rattle.nodejs_semver.specs.Text.PartialText.{Partial, ends_digit, is_wildcard}
-use Rattle.semver_core.specs.Text.Identifiers.{is_run, Id}
+use Rattle.semver_core.specs.Text.Identifiers.{is_identifier, Id}
 use Rattle.nodejs_semver.specs.Internal.Fronts.{Front, begins_wildcard, component_front, dotted_front, number_front, begins_identifier, begins_byte, run_on, list_len, pre_release_front, build_front, patch_front, minor_front, partial_front}
 use Rattle.nodejs_semver.proofs.Reading.IdentifierLists.{and-left, is_list, is_list-begins, list_len-append, begins-append}
 use Rattle.nodejs_semver.proofs.Reading.Pieces.{bind-some, dots, component-then, ends_digit-append, wildcard-no_digit, wildcard-is, number_of-is}
@@ -106,7 +107,7 @@ pluses (b ∷ rest) = elim (cases_Bool (is_plus b)) [
 
 pub identifiers_of-is : (text : List ℕ) (l : List Id) → identifiers_of text ≡ Some l → is_list text ≡ true
 unfolding is_list
-identifiers_of-is text l h = elim (cases_Bool (list_all is_run (slice_split is_dot text))) [
+identifiers_of-is text l h = elim (cases_Bool (list_all is_identifier (slice_split is_dot text))) [
   | inl all ↦ all
   | inr none ↦ cc (rw none at h)
 ]
@@ -379,4 +380,4 @@ reaches limit (b ∷ u) more q h quiet =
     let a = components-passed limit body more q h stop in
     let read : component_front limit (drop_spaces (drop_v ((b ∷ u) ++ more))) ≡ Some a.0 = ap (λ (x : List ℕ). component_front limit x) lead ∙ a.1 in
     let m = minor_front limit a.0.0 a.0.1 (dotted_front limit a.0.1) in
-    (m.0, m.1, ap (λ (o : Front (Option ℕ)). o >>= λ a. Some (minor_front limit a.0 a.1 (dotted_front limit a.1))) read, a.2)
+    (m.0, m.1, ap (λ (o : Front (Option ℕ)). o >>? λ a. Some (minor_front limit a.0 a.1 (dotted_front limit a.1))) read, a.2)

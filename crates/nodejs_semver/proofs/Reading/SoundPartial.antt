@@ -9,7 +9,8 @@ use Rattle.std.proofs.lemmas.List.{take_at, drop_at}
 use Rattle.semver_core.specs.Text.Characters.{is_whitespace, begins}
 use Rattle.semver_core.specs.Internal.Spaces.{drop_spaces, space_len}
 use Rattle.semver_core.specs.Lists.{is_empty}
-use Rattle.nodejs_semver.specs.Internal.Partials.{number_of, ◌>>=◌, is_dot, qualifier_of, before_dot, after_dot, component_of, components_of, minor_after, patch_after, partial_of, drop_v, third, wildcard_of}
+use Rattle.nodejs_semver.specs.Internal.Partials.{number_of, is_dot, qualifier_of, before_dot, after_dot, component_of, components_of, minor_after, patch_after, partial_of, drop_v, third, wildcard_of}
+use Rattle.semver_core.specs.Internal.Reading.{◌>>?◌}
 use Rattle.nodejs_semver.specs.Text.PartialText.{Partial, is_wildcard}
 use Rattle.semver_core.specs.Text.Identifiers.{Id}
 use Rattle.nodejs_semver.specs.Internal.Fronts.{Front, component_front, dotted_front, patch_front, minor_front, partial_front, pre_release_front, build_front}
@@ -215,4 +216,4 @@ sound limit text p rest h =
     regroup u v w x = ap (λ (t : List ℕ). u ++ t) (sym (append_assoc v w x)) ∙ sym (append_assoc u (v ++ w) x)
 
     first_of : {q r : Partial × List ℕ} → Some q ≡ Some r → Some q.0 ≡ Some r.0
-    first_of {q} {r} k = ap (λ (o : Option (Partial × List ℕ)). o >>= λ x. Some x.0) k
+    first_of {q} {r} k = ap (λ (o : Option (Partial × List ℕ)). o >>? λ x. Some x.0) k

@@ -13,7 +13,8 @@ use Rattle.semver_core.proofs.Text.Spaces.{drop_spaces-none, space_len-nil}
 use Rattle.semver_core.proofs.Text.Trims.{drop_spaces-blank, fronted}
 use Rattle.nodejs_semver.specs.Internal.Fronts.{partial_front, component_front}
 use Rattle.nodejs_semver.specs.Text.PartialText.{Partial, is_wildcard}
-use Rattle.nodejs_semver.specs.Internal.Partials.{longest_partial, or_else, ◌>>=◌, number_of}
+use Rattle.nodejs_semver.specs.Internal.Partials.{longest_partial, or_else, number_of}
+use Rattle.semver_core.specs.Internal.Reading.{◌>>?◌}
 use Rattle.nodejs_semver.specs.Text.WordText.{IsBehind, IsBoundary, IsFirstBoundary, IsForm, IsHyphen, IsSign, IsWhole, IsWordAt, SkipsBlank, above_sign, at_least_sign, at_most_sign, below_sign, caret_form, compare_form, equal_sign, formed, hyphen_form, no_form, plain_form, tilde_form, tilde_greater_form, Comparator, Word, above, at_least, at_most, below, caret, compare, equal, hyphen, malformed, plain, tilde}
 use Rattle.nodejs_semver.specs.Text.Laws.{WordsAreRead}
 use Rattle.nodejs_semver.specs.Internal.Words.{Reading, after_byte, after_some_space, at_boundary, caret_at, compare_at, comparator_at, form_at, from_boundary, hyphen_at, hyphen_behind, is_boundary, or_equal, or_malformed, plain_at, signed, tilde_at, tilde_sign, word_at}
@@ -142,7 +143,7 @@ byte-is c (b ∷ text) rest h = elim (cases_Bool (b == c)) [
 -- ---- partials
 
 whole-is : (limit : ℕ) (make : Partial → Word) (text : List ℕ) (x : Word × List ℕ) → IsUtf8 text
-    → (longest_partial limit text >>= λ p. at_boundary (make p.0) p.1) ≡ Some x → (p : Partial) × (make p ≡ x.0) × IsWhole limit text p x.1
+    → (longest_partial limit text >>? λ p. at_boundary (make p.0) p.1) ≡ Some x → (p : Partial) × (make p ≡ x.0) × IsWhole limit text p x.1
 whole-is limit make text x u h =
     let p = bind-some (longest_partial limit text) (λ p. at_boundary (make p.0) p.1) x h in
     let read = (longest_are limit text p.0.0 p.0.1 u).0 p.1 in
@@ -155,7 +156,7 @@ whole-is limit make text x u h =
     ]
 
 whole-of : (limit : ℕ) (make : Partial → Word) (text : List ℕ) (p : Partial) (rest : List ℕ) → IsUtf8 text → IsWhole limit text p rest
-    → (longest_partial limit text >>= λ p. at_boundary (make p.0) p.1) ≡ Some (make p, rest)
+    → (longest_partial limit text >>? λ p. at_boundary (make p.0) p.1) ≡ Some (make p, rest)
 whole-of limit make text p rest u h = rw ((longest_are limit text p rest u).1 h.read, boundary-of rest h.ended) refl
 
 behind-is : (limit : ℕ) (make : Partial → Word) (text : List ℕ) (x : Word × List ℕ) → IsUtf8 text → signed limit make text ≡ Some x
@@ -168,7 +169,7 @@ behind-is limit make text x u h =
 behind-of : (limit : ℕ) (make : Partial → Word) (text : List ℕ) (p : Partial) (rest : List ℕ) → IsUtf8 text → IsBehind limit text p rest
     → signed limit make text ≡ Some (make p, rest)
 behind-of limit make text p rest u h =
-    ap (λ (t : List ℕ). longest_partial limit t >>= λ p. at_boundary (make p.0) p.1) (skips-of text h.start u h.skipped)
+    ap (λ (t : List ℕ). longest_partial limit t >>? λ p. at_boundary (make p.0) p.1) (skips-of text h.start u h.skipped)
     ∙ whole-of limit make h.start p rest (skips-utf8 text h.start h.skipped u) h.is
 
 -- no partial begins with one of these bytes
@@ -198,11 +199,11 @@ none-126 limit rest = none-at limit 126 rest refl (ascii-dark 126 rest (omega ar
 
 -- ---- steps through options
 
-bind-of : {A B : Type 0} (o : Option A) (f : A → Option B) (x : A) → o ≡ Some x → (o >>= f) ≡ f x
-bind-of {A} {B} o f x h = ap (λ (p : Option A). p >>= f) h
+bind-of : {A B : Type 0} (o : Option A) (f : A → Option B) (x : A) → o ≡ Some x → (o >>? f) ≡ f x
+bind-of {A} {B} o f x h = ap (λ (p : Option A). p >>? f) h
 
-bind-none : {A B : Type 0} (o : Option A) (f : A → Option B) → o ≡ None → (o >>= f) ≡ None
-bind-none {A} {B} o f h = ap (λ (p : Option A). p >>= f) h
+bind-none : {A B : Type 0} (o : Option A) (f : A → Option B) → o ≡ None → (o >>? f) ≡ None
+bind-none {A} {B} o f h = ap (λ (p : Option A). p >>? f) h
 
 or-cases : {A : Type 0} (a b : Option A) (x : A) → or_else a b ≡ Some x → (a ≡ Some x) ⊎ ((a ≡ None) × (b ≡ Some x))
 or-cases None b x h = inr (refl, h)
@@ -252,9 +253,9 @@ hyphen-of limit text lower upper rest u h =
     let w = tail-utf8 45 h.after (omega arith) (skips-utf8 h.before (45 ∷ h.after) h.dash v) in
     let z = skips-utf8 h.after h.second.start h.second.skipped w in
     bind-of (longest_partial limit text) (λ p. hyphen_behind limit p.0 p.1) (lower, h.before) ((longest_are limit text lower h.before u).1 h.first)
-    ∙ (bind-of (after_some_space h.before) (λ sign. after_byte 45 sign >>= λ gap. after_some_space gap >>= λ second. longest_partial limit second >>= λ q. at_boundary (hyphen lower q.0) q.1)
+    ∙ (bind-of (after_some_space h.before) (λ sign. after_byte 45 sign >>? λ gap. after_some_space gap >>? λ second. longest_partial limit second >>? λ q. at_boundary (hyphen lower q.0) q.1)
     (45 ∷ h.after) (some_space-of h.before (45 ∷ h.after) v h.space_before h.dash)
-    ∙ (bind-of (after_some_space h.after) (λ second. longest_partial limit second >>= λ q. at_boundary (hyphen lower q.0) q.1)
+    ∙ (bind-of (after_some_space h.after) (λ second. longest_partial limit second >>? λ q. at_boundary (hyphen lower q.0) q.1)
     h.second.start (some_space-of h.after h.second.start w h.space_after h.second.skipped)
     ∙ whole-of limit (hyphen lower) h.second.start upper rest z h.second.is))
 
@@ -371,7 +372,7 @@ sign-none limit c sign text equal_sign = none-61 limit text
 
 signed-again : (limit : ℕ) (make : Partial → Word) (text : List ℕ) → signed limit make (drop_spaces text) ≡ signed limit make text
 signed-again limit make text =
-    ap (λ (t : List ℕ). longest_partial limit t >>= λ p. at_boundary (make p.0) p.1) (drop_spaces-none (drop_spaces text) (spaces-gone 0 text))
+    ap (λ (t : List ℕ). longest_partial limit t >>? λ p. at_boundary (make p.0) p.1) (drop_spaces-none (drop_spaces text) (spaces-gone 0 text))
 
 tilde-form : (limit : ℕ) (text : List ℕ) (x : Word × List ℕ) → IsUtf8 text → tilde_at limit text ≡ Some x → IsForm limit text x.0 x.1
 tilde-form limit text x u h =

@@ -7,7 +7,7 @@ use Rattle.semver_core.specs.Lists.{is_empty}
 use Rattle.semver_core.specs.Values.Versions.{VersionValue}
 use Rattle.nodejs_semver.specs.Internal.Fronts.{Front, begins_byte, component_front, dotted_front, list_of, pre_release_front}
 use Rattle.nodejs_semver.specs.Text.PartialText.{Partial}
-use Rattle.nodejs_semver.specs.Internal.Partials.{◌>>=◌}
+use Rattle.semver_core.specs.Internal.Reading.{◌>>?◌}
 use Rattle.nodejs_semver.specs.Text.Table.{table}
 use Rattle.nodejs_semver.specs.Text.WordText.{Word, caret, compare, hyphen, plain, tilde}
 use Rattle.nodejs_semver.specs.Internal.Words.{after_byte, comparator_at, tilde_sign}
@@ -27,20 +27,20 @@ bare_minor limit major text (Some b) = bare_patch major b.0 b.1 (dotted_front li
 
 unfoldable pub bare_front : ℕ → List ℕ → Front Partial
 bare_front limit text =
-    component_front limit text >>= λ a. Some (bare_minor limit a.0 a.1 (dotted_front limit a.1))
+    component_front limit text >>? λ a. Some (bare_minor limit a.0 a.1 (dotted_front limit a.1))
 
 -- a comparator and a partial
 unfoldable pub comparison_front : ℕ → List ℕ → Front Word
 comparison_front limit text =
-    comparator_at text >>= λ c. bare_front limit c.1 >>= λ p. Some (compare c.0 p.0, p.1)
+    comparator_at text >>? λ c. bare_front limit c.1 >>? λ p. Some (compare c.0 p.0, p.1)
 
 -- what follows a tilde, and what follows a caret
 unfoldable pub tilde_front : ℕ → List ℕ → Front Word
 tilde_front limit text =
-    bare_front limit (tilde_sign text).1 >>= λ p. Some (tilde (tilde_sign text).0 p.0, p.1)
+    bare_front limit (tilde_sign text).1 >>? λ p. Some (tilde (tilde_sign text).0 p.0, p.1)
 
 unfoldable pub caret_front : ℕ → List ℕ → Front Word
-caret_front limit text = bare_front limit text >>= λ p. Some (caret p.0, p.1)
+caret_front limit text = bare_front limit text >>? λ p. Some (caret p.0, p.1)
 
 -- a space, `-` and a space
 abbrev pub begins_dash : List ℕ → Bool
@@ -51,25 +51,25 @@ begins_dash (a ∷ b ∷ c ∷ rest) = a == 32 && (b == 45 && c == 32)
 
 -- the partial behind a dash
 abbrev pub upper_front : ℕ → Partial → List ℕ → Front Word
-upper_front limit lower text = bare_front limit text >>= λ q. Some (hyphen lower q.0, q.1)
+upper_front limit lower text = bare_front limit text >>? λ q. Some (hyphen lower q.0, q.1)
 
 -- one partial, or a hyphen word
 unfoldable pub partials_front : ℕ → List ℕ → Front Word
 partials_front limit text =
-    bare_front limit text >>= λ p.
+    bare_front limit text >>? λ p.
     if begins_dash p.1 then upper_front limit p.0 (drop 3 p.1) else Some (plain p.0, p.1)
 
 -- an interval that there may be, and what follows it
 abbrev pub part_read : List ℕ → Option (Span VersionValue) → Front (Span VersionValue)
-part_read rest found = found >>= λ s. Some (s, rest)
+part_read rest found = found >>? λ s. Some (s, rest)
 
 -- the interval that the table gives a word that was read, and what follows the word
 abbrev pub word_read : ℕ → Front Word → Front (Span VersionValue)
-word_read limit read = read >>= λ w. part_read w.1 (table limit w.0)
+word_read limit read = read >>? λ w. part_read w.1 (table limit w.0)
 
 -- what the intervals of two pairs of bounds have in common
 abbrev pub both_of : Span VersionValue → Span VersionValue → Option (Span VersionValue)
-both_of s t = interval precedence s >>= λ a. interval precedence t >>= λ b. meet precedence a b
+both_of s t = interval precedence s >>? λ a. interval precedence t >>? λ b. meet precedence a b
 
 abbrev pub is_sign : ℕ → Bool
 is_sign b = b == 60 || (b == 61 || b == 62)
@@ -82,9 +82,9 @@ begins_second (a ∷ rest) = a == 32 && begins is_sign rest
 -- one comparison, or two with an interval in common
 unfoldable pub comparisons_front : ℕ → List ℕ → Front (Span VersionValue)
 comparisons_front limit text =
-    word_read limit (comparison_front limit text) >>= λ s.
+    word_read limit (comparison_front limit text) >>? λ s.
     if begins_second s.1
-    then (word_read limit (comparison_front limit (drop 1 s.1)) >>= λ t. part_read t.1 (meet precedence s.0 t.0))
+    then (word_read limit (comparison_front limit (drop 1 s.1)) >>? λ t. part_read t.1 (meet precedence s.0 t.0))
     else Some s
 
 -- the interval of the part at the front
@@ -112,7 +112,7 @@ after_gap text = if begins_byte 32 text then drop 1 text else text
 -- what follows `||`, with one space or none on each side
 unfoldable pub after_bars : List ℕ → Option (List ℕ)
 after_bars text =
-    after_byte 124 (after_gap text) >>= λ one. after_byte 124 one >>= λ two. Some (after_gap two)
+    after_byte 124 (after_gap text) >>? λ one. after_byte 124 one >>? λ two. Some (after_gap two)
 
 abbrev pub onto : Span VersionValue → List (Span VersionValue) → List (Span VersionValue)
 onto s list = s ∷ list
@@ -121,9 +121,9 @@ onto s list = s ∷ list
 unfoldable pub common_within : ℕ → ℕ → List ℕ → Option (List (Span VersionValue))
 common_within limit zero text = None
 common_within limit (suc n) text =
-    part_front limit text >>= λ part.
+    part_front limit text >>? λ part.
     if is_empty part.1 then Some (part.0 ∷ [])
-    else (after_bars part.1 >>= λ next. common_within limit n next >>= λ list. Some (onto part.0 list))
+    else (after_bars part.1 >>? λ next. common_within limit n next >>? λ list. Some (onto part.0 list))
 
 -- the intervals of a common text
 abbrev pub common_range : ℕ → List ℕ → Option (List (Span VersionValue))

@@ -4,10 +4,11 @@ use Rattle.std.specs.Prelude.{true, ℕ, suc, ◌==◌, ◌&&◌, Bool, List, []
 use Rattle.std.specs.Char.{is_ascii_digit}
 use Rattle.std.specs.List.{list_all, prefix_len}
 use Rattle.std.specs.Borrow.{Bor}
-use Rattle.nodejs_semver.specs.Internal.Partials.{number_of, ◌>>=◌, drop_v}
+use Rattle.nodejs_semver.specs.Internal.Partials.{number_of, drop_v}
+use Rattle.semver_core.specs.Internal.Reading.{◌>>?◌}
 use Rattle.nodejs_semver.specs.Text.PartialText.{Partial, is_wildcard}
 use Rattle.semver_core.specs.Internal.Spaces.{drop_spaces}
-use Rattle.semver_core.specs.Text.Identifiers.{Id, identifier_of, goes_on, pieces, is_run}
+use Rattle.semver_core.specs.Text.Identifiers.{Id, identifier_of, goes_on, pieces, is_identifier}
 use Rattle.semver_core.specs.Text.Characters.{is_identifier_char, begins}
 use Rattle.nodejs_semver.specs.Internal.Words.{after_byte}
 
@@ -22,7 +23,7 @@ front_view (Some p) = Some (p.0, p.1.now)
 -- the whole run of digits at the front of a text, where it is a number
 abbrev pub number_front : ℕ → List ℕ → Front ℕ
 number_front limit text =
-    number_of limit (take_while is_ascii_digit text) >>= λ n. Some (n, drop (prefix_len is_ascii_digit text) text)
+    number_of limit (take_while is_ascii_digit text) >>? λ n. Some (n, drop (prefix_len is_ascii_digit text) text)
 
 abbrev pub begins_wildcard : List ℕ → Bool
 begins_wildcard text = begins is_wildcard text
@@ -30,11 +31,11 @@ begins_wildcard text = begins is_wildcard text
 -- a wildcard or a number
 unfoldable pub component_front : ℕ → List ℕ → Front (Option ℕ)
 component_front limit text =
-    if begins_wildcard text then Some (None, drop 1 text) else (number_front limit text >>= λ n. Some (Some n.0, n.1))
+    if begins_wildcard text then Some (None, drop 1 text) else (number_front limit text >>? λ n. Some (Some n.0, n.1))
 
 -- the same behind a dot
 unfoldable pub dotted_front : ℕ → List ℕ → Front (Option ℕ)
-dotted_front limit text = after_byte 46 text >>= λ rest. component_front limit rest
+dotted_front limit text = after_byte 46 text >>? λ rest. component_front limit rest
 
 abbrev pub begins_identifier : List ℕ → Bool
 begins_identifier text = begins is_identifier_char text
@@ -56,7 +57,7 @@ list_of (b ∷ rest) = map identifier_of (pieces (b ∷ rest))
 -- the text is empty, or identifiers joined by dots
 unfoldable pub is_listed : List ℕ → Bool
 is_listed [] = true
-is_listed (b ∷ rest) = list_all is_run (pieces (b ∷ rest))
+is_listed (b ∷ rest) = list_all is_identifier (pieces (b ∷ rest))
 
 abbrev pub split_list : List ℕ → List ℕ × List ℕ
 split_list text = (take (list_len text) text, drop (list_len text) text)
@@ -89,4 +90,4 @@ minor_front limit major text (Some b) = patch_front major b.0 b.1 (dotted_front 
 -- the partial at the front, component by component
 unfoldable pub partial_front : ℕ → List ℕ → Front Partial
 partial_front limit text =
-    component_front limit (drop_spaces (drop_v text)) >>= λ a. Some (minor_front limit a.0 a.1 (dotted_front limit a.1))
+    component_front limit (drop_spaces (drop_v text)) >>? λ a. Some (minor_front limit a.0 a.1 (dotted_front limit a.1))

@@ -5,17 +5,13 @@ use Rattle.std.specs.Char.{is_ascii_digit}
 use Rattle.std.specs.List.{list_all}
 use Rattle.std.specs.Str.Parse.{digits_value}
 use Rattle.semver_core.specs.Text.Characters.{begins}
-use Rattle.semver_core.specs.Text.Identifiers.{Id, is_run, identifier_of, pieces}
+use Rattle.semver_core.specs.Text.Identifiers.{Id, is_identifier, identifier_of, pieces}
 use Rattle.semver_core.specs.Internal.Spaces.{drop_spaces}
 use Rattle.semver_core.specs.Lists.{is_empty}
 use Rattle.nodejs_semver.specs.Text.PartialText.{Partial, ends_digit, is_wildcard}
+use Rattle.semver_core.specs.Internal.Reading.{◌>>?◌}
 
-infixl 10 ◌>>=◌
-abbrev pub ◌>>=◌ : {A B : Type 0} → Option A → (A → Option B) → Option B
-None >>= f = None
-Some x >>= f = f x
-
--- the first answer of two
+-- the first result of two
 abbrev pub or_else : {A : Type 0} → Option A → Option A → Option A
 or_else (Some x) o = Some x
 or_else None o = o
@@ -28,7 +24,7 @@ number_of limit text =
 
 -- the identifiers that a whole text writes, joined by dots
 abbrev pub identifiers_of : List ℕ → Option (List Id)
-identifiers_of text = if list_all is_run (pieces text) then Some (map identifier_of (pieces text)) else None
+identifiers_of text = if list_all is_identifier (pieces text) then Some (map identifier_of (pieces text)) else None
 
 abbrev pub is_dot : ℕ → Bool
 is_dot b = b == 46
@@ -58,8 +54,8 @@ from_plus (b ∷ rest) = if is_plus b then b ∷ rest else from_plus rest
 -- a whole text that is a pre-release and a build
 abbrev pub qualifier_of : List ℕ → Option (List Id × List Id)
 qualifier_of text =
-    pre_release_of (before_plus text) >>= λ pre.
-    build_of (from_plus text) >>= λ build.
+    pre_release_of (before_plus text) >>? λ pre.
+    build_of (from_plus text) >>? λ build.
     Some (pre, build)
 
 abbrev pub wildcard_of : List ℕ → Bool
@@ -69,7 +65,7 @@ wildcard_of (b ∷ c ∷ rest) = false
 
 -- the component that a whole text writes: a wildcard or a number
 abbrev pub component_of : ℕ → List ℕ → Option (Option ℕ)
-component_of limit text = if wildcard_of text then Some None else (number_of limit text >>= λ n. Some (Some n))
+component_of limit text = if wildcard_of text then Some None else (number_of limit text >>? λ n. Some (Some n))
 
 -- what stands before the first dot
 abbrev pub before_dot : List ℕ → List ℕ
@@ -95,19 +91,19 @@ drop_v (b ∷ rest) = if b == 118 then rest else b ∷ rest
 abbrev pub patch_after : ℕ → Option ℕ → Option ℕ → Option (List ℕ) → Option Partial
 patch_after limit major minor None = Some (record { major = major; minor = minor; patch = None; pre_release = []; build = [] })
 patch_after limit major minor (Some text) =
-    component_of limit (third text) >>= λ patch.
-    qualifier_of (drop (length (third text)) text) >>= λ q.
+    component_of limit (third text) >>? λ patch.
+    qualifier_of (drop (length (third text)) text) >>? λ q.
     Some (record { major = major; minor = minor; patch = patch; pre_release = q.0; build = q.1 })
 
 abbrev pub minor_after : ℕ → Option ℕ → Option (List ℕ) → Option Partial
 minor_after limit major None = Some (record { major = major; minor = None; patch = None; pre_release = []; build = [] })
 minor_after limit major (Some text) =
-    component_of limit (before_dot text) >>= λ minor. patch_after limit major minor (after_dot text)
+    component_of limit (before_dot text) >>? λ minor. patch_after limit major minor (after_dot text)
 
 -- the components of a whole text
 abbrev pub components_of : ℕ → List ℕ → Option Partial
 components_of limit text =
-    component_of limit (before_dot text) >>= λ major. minor_after limit major (after_dot text)
+    component_of limit (before_dot text) >>? λ major. minor_after limit major (after_dot text)
 
 -- the partial that a whole text is
 unfoldable pub partial_of : ℕ → List ℕ → Option Partial
@@ -121,7 +117,7 @@ partial_to limit text rest = if ends_digit text && begins is_ascii_digit rest th
 unfoldable pub longest_within : ℕ → ℕ → List ℕ → Option (Partial × List ℕ)
 longest_within limit zero text = None
 longest_within limit (suc n) text =
-    or_else (partial_to limit (take (suc n) text) (drop (suc n) text) >>= λ p. Some (p, drop (suc n) text))
+    or_else (partial_to limit (take (suc n) text) (drop (suc n) text) >>? λ p. Some (p, drop (suc n) text))
     (longest_within limit n text)
 
 -- the longest partial at the front of a text, and what follows it

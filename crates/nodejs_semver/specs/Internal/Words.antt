@@ -3,7 +3,8 @@ use Rattle.std.specs.Prelude.{ℕ, zero, suc, ◌==◌, ◌||◌, nat_lt, Bool, 
 use Rattle.semver_core.specs.Internal.Spaces.{drop_spaces, space_len}
 use Rattle.semver_core.specs.Lists.{is_empty}
 use Rattle.nodejs_semver.specs.Text.PartialText.{Partial}
-use Rattle.nodejs_semver.specs.Internal.Partials.{longest_partial, or_else, ◌>>=◌}
+use Rattle.nodejs_semver.specs.Internal.Partials.{longest_partial, or_else}
+use Rattle.semver_core.specs.Internal.Reading.{◌>>?◌}
 use Rattle.nodejs_semver.specs.Text.WordText.{Comparator, at_least, above, equal, at_most, below, Word, hyphen, plain, compare, tilde, caret, malformed}
 
 -- the end of a part, or whitespace
@@ -29,22 +30,22 @@ at_boundary word rest = if is_boundary rest then Some (word, rest) else None
 
 -- a word that is one partial behind its sign
 abbrev pub signed : ℕ → (Partial → Word) → List ℕ → Reading
-signed limit make text = longest_partial limit (drop_spaces text) >>= λ p. at_boundary (make p.0) p.1
+signed limit make text = longest_partial limit (drop_spaces text) >>? λ p. at_boundary (make p.0) p.1
 
 -- what makes a hyphen word of a partial and the text behind it: whitespace, `-`, whitespace and a partial
 abbrev pub hyphen_behind : ℕ → Partial → List ℕ → Reading
 hyphen_behind limit lower text =
-    after_some_space text >>= λ sign.
-    after_byte 45 sign >>= λ gap.
-    after_some_space gap >>= λ second.
-    longest_partial limit second >>= λ q.
+    after_some_space text >>? λ sign.
+    after_byte 45 sign >>? λ gap.
+    after_some_space gap >>? λ second.
+    longest_partial limit second >>? λ q.
     at_boundary (hyphen lower q.0) q.1
 
 abbrev pub hyphen_at : ℕ → List ℕ → Reading
-hyphen_at limit text = longest_partial limit text >>= λ p. hyphen_behind limit p.0 p.1
+hyphen_at limit text = longest_partial limit text >>? λ p. hyphen_behind limit p.0 p.1
 
 abbrev pub plain_at : ℕ → List ℕ → Reading
-plain_at limit text = longest_partial limit text >>= λ p. at_boundary (plain p.0) p.1
+plain_at limit text = longest_partial limit text >>? λ p. at_boundary (plain p.0) p.1
 
 -- the sign with a longer form takes it where it stands
 abbrev pub or_equal : Comparator → Comparator → List ℕ → Comparator × List ℕ
@@ -60,7 +61,7 @@ comparator_at (b ∷ rest) =
     else None
 
 abbrev pub compare_at : ℕ → List ℕ → Reading
-compare_at limit text = comparator_at text >>= λ c. signed limit (compare c.0) c.1
+compare_at limit text = comparator_at text >>? λ c. signed limit (compare c.0) c.1
 
 -- after `~`, whitespace or none, and `>` or none
 abbrev pub tilde_sign : List ℕ → Bool × List ℕ
@@ -69,10 +70,10 @@ tilde_sign (b ∷ rest) = if b == 62 then (true, rest) else (false, b ∷ rest)
 
 abbrev pub tilde_at : ℕ → List ℕ → Reading
 tilde_at limit text =
-    after_byte 126 text >>= λ rest. signed limit (tilde (tilde_sign (drop_spaces rest)).0) (tilde_sign (drop_spaces rest)).1
+    after_byte 126 text >>? λ rest. signed limit (tilde (tilde_sign (drop_spaces rest)).0) (tilde_sign (drop_spaces rest)).1
 
 abbrev pub caret_at : ℕ → List ℕ → Reading
-caret_at limit text = after_byte 94 text >>= λ rest. signed limit caret rest
+caret_at limit text = after_byte 94 text >>? λ rest. signed limit caret rest
 
 -- what stands from the first boundary on
 unfoldable pub from_boundary : List ℕ → List ℕ

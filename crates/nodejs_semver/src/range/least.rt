@@ -22,7 +22,7 @@ ghost use Rattle.std.specs.Prelude.{◌&&◌, ◌-◌, ◌<◌, ◌≡◌, ◌^�
 use crate::Range;
 use crate::range::gate::{accepts, accepts_one};
 use crate::range::neighbours::{
-    bare, bare_release, first_pre, is_first_pre, is_release, patch_after, pre_after, with_build,
+    bare, bare_release, first_pre, is_first_pre, patch_after, pre_after, with_build,
 };
 use semver_core::Version;
 use semver_core::cuts::{Bound, Interval};
@@ -140,7 +140,7 @@ impl<'a> Search<'a> {
             return Ok(());
         }
         self.consider_borrowed(alloc, version)?;
-        if !is_release(version) {
+        if !version.is_release() {
             self.consider(bare_release(version));
         }
         Ok(())
@@ -159,7 +159,7 @@ impl<'a> Search<'a> {
         if self.is_reached(version) {
             return Ok(());
         }
-        if is_release(version) {
+        if version.is_release() {
             self.consider(patch_after(version));
             return Ok(());
         }
@@ -211,7 +211,7 @@ impl<'a> Search<'a> {
             }) }
     {
         match bound {
-            Bound::Before(version) | Bound::After(version) if !is_release(version) => {
+            Bound::Before(version) | Bound::After(version) if !version.is_release() => {
                 self.consider_first_pre(alloc, version)
             }
             _ => Ok(()),
@@ -299,7 +299,7 @@ fn following(alloc: Global, version: &Version) -> Result<Version, AllocError>
     ensures { IfOk result (λ next. stated.begins_with (After version.now)
         ≡ Some (record next { build = version.now.build })) }
 {
-    if is_release(version) {
+    if version.is_release() {
         Ok(patch_after(version))
     } else {
         pre_after(alloc, version)

@@ -1,21 +1,12 @@
 // Versions beside another one.
 
 ghost use Rattle.std.specs.Prelude.{◌≡◌, ◌+◌, ◌-◌, ◌<◌, ◌^◌, [], ◌∷◌, IfOk, IsTrue};
-ghost use Rattle.semver_core.specs.Values.Versions.{is_release};
 ghost use Rattle.nodejs_semver.specs.Internal.Candidates as spec;
 ghost use Rattle.semver_core.specs.Text.Identifiers.{Numeric};
-ghost use Rattle.semver_core.specs.Values.Views.{parts_value};
-ghost use Rattle.semver_core.specs.Values.Views.{ids_view};
+ghost use Rattle.semver_core.specs.Values.Views.{ids_view, parts_value};
 
 use semver_core::{Identifier, Version, VersionParts};
 use std::alloc::{AllocError, Global};
-
-// Whether the version has no pre-release.
-pub(crate) fn is_release(version: &Version) -> bool
-    ensures { result ≡ is_release version.now }
-{
-    !version.is_prerelease()
-}
 
 // The release of the same three numbers.
 pub(crate) fn bare_release(version: &Version) -> Version

@@ -12,7 +12,7 @@ use Rattle.std.specs.Char.{is_ascii_digit}
 use Rattle.std.specs.List.{list_all, join_with_byte, All}
 use Rattle.std.specs.Str.Parse.{digits_value}
 use Rattle.semver_core.specs.Text.Characters.{begins, is_identifier_char, IsBlank}
-use Rattle.semver_core.specs.Text.Identifiers.{Id, Numeric, AlphaNumeric, identifier_of, is_run, pieces, goes_on, IsIdentifiers}
+use Rattle.semver_core.specs.Text.Identifiers.{Id, Numeric, AlphaNumeric, identifier_of, is_identifier, pieces, goes_on, IsIdentifiers}
 use Rattle.semver_core.specs.Text.Numbers.{IsNumber}
 use Rattle.semver_core.specs.Values.Versions.{VersionValue}
 use Rattle.semver_core.specs.Text.VersionText.{Reads, IsPreRelease, IsBuild, no_mark, dashed, no_pre_release, plus, no_build, begins_pre_release}
@@ -48,7 +48,7 @@ decimal_value n small = digits_value-decimal numerals n small
 pub decimal_some : (n : ℕ) → n < 2 ^ 64 → 0 < length (decimal n)
 decimal_some n small = (decimal_is_IsNumeral n small).0.0
 
-decimal_run : (n : ℕ) → n < 2 ^ 64 → is_run (decimal n) ≡ true
+decimal_run : (n : ℕ) → n < 2 ^ 64 → is_identifier (decimal n) ≡ true
 decimal_run n small = rw (lt-ltb 0 (length (decimal n)) (decimal_some n small), digits_chars (decimal n) (decimal_digits n small)) refl
 
 decimal_identifier : (n : ℕ) → n < 2 ^ 64 → identifier_of (decimal n) ≡ Numeric n
@@ -64,13 +64,13 @@ text_identifier : (text : List ℕ) → not (is_u64_text text) ≡ true → iden
 text_identifier text h = rw (not_so (is_u64_text text) h) refl
 
 -- the text of an identifier is a run that spells it
-pub id_run : (id : Id) → is_normal id ≡ true → is_run (id_text id) ≡ true
+pub id_run : (id : Id) → is_normal id ≡ true → is_identifier (id_text id) ≡ true
 id_run (Numeric n) h = decimal_run n (ltb-true n (2 ^ 64) h)
-id_run (AlphaNumeric text) h = first_so (is_run text) (not (is_u64_text text)) h
+id_run (AlphaNumeric text) h = first_so (is_identifier text) (not (is_u64_text text)) h
 
 pub id_spelled : (id : Id) → is_normal id ≡ true → identifier_of (id_text id) ≡ id
 id_spelled (Numeric n) h = decimal_identifier n (ltb-true n (2 ^ 64) h)
-id_spelled (AlphaNumeric text) h = text_identifier text (second_so (is_run text) (not (is_u64_text text)) h)
+id_spelled (AlphaNumeric text) h = text_identifier text (second_so (is_identifier text) (not (is_u64_text text)) h)
 
 -- ---- lists joined by dots
 
@@ -79,18 +79,18 @@ chars_no_dot [] h k d lt = absurd (grind arith)
 chars_no_dot (c ∷ run) h zero d lt = not_dot c (first_so (is_identifier_char c) (list_all is_identifier_char run) h)
 chars_no_dot (c ∷ run) h (suc k) d lt = chars_no_dot run (second_so (is_identifier_char c) (list_all is_identifier_char run) h) k d (omega arith)
 
-pub run_chars : (run : List ℕ) → is_run run ≡ true → list_all is_identifier_char run ≡ true
+pub run_chars : (run : List ℕ) → is_identifier run ≡ true → list_all is_identifier_char run ≡ true
 run_chars run h = second_so (ltb 0 (length run)) (list_all is_identifier_char run) h
 
 -- runs joined by dots are cut at the dots into the same runs
-pub pieces_joined : (run : List ℕ) (runs : List (List ℕ)) → list_all is_run (run ∷ runs) ≡ true → pieces (join_with_byte 46 (run ∷ runs)) ≡ run ∷ runs
-pieces_joined run [] h = slice_split_none (λ c. c == 46) run (chars_no_dot run (run_chars run (first_so (is_run run) true h)))
+pub pieces_joined : (run : List ℕ) (runs : List (List ℕ)) → list_all is_identifier (run ∷ runs) ≡ true → pieces (join_with_byte 46 (run ∷ runs)) ≡ run ∷ runs
+pieces_joined run [] h = slice_split_none (λ c. c == 46) run (chars_no_dot run (run_chars run (first_so (is_identifier run) true h)))
 pieces_joined run (next ∷ runs) h =
-    let one = chars_no_dot run (run_chars run (first_so (is_run run) (list_all is_run (next ∷ runs)) h)) in
+    let one = chars_no_dot run (run_chars run (first_so (is_identifier run) (list_all is_identifier (next ∷ runs)) h)) in
     slice_split_at (λ c. c == 46) run 46 (join_with_byte 46 (next ∷ runs)) one refl
-    ∙ ap (λ l. run ∷ l) (pieces_joined next runs (second_so (is_run run) (list_all is_run (next ∷ runs)) h))
+    ∙ ap (λ l. run ∷ l) (pieces_joined next runs (second_so (is_identifier run) (list_all is_identifier (next ∷ runs)) h))
 
-pub ids_runs : (ids : List Id) → list_all is_normal ids ≡ true → list_all is_run (map id_text ids) ≡ true
+pub ids_runs : (ids : List Id) → list_all is_normal ids ≡ true → list_all is_identifier (map id_text ids) ≡ true
 ids_runs [] h = refl
 ids_runs (id ∷ ids) h = rw (id_run id (first_so (is_normal id) (list_all is_normal ids) h), ids_runs ids (second_so (is_normal id) (list_all is_normal ids) h)) refl
 

@@ -13,7 +13,7 @@ use Rattle.std.specs.Str.Parse.{digits_value_after}
 use Rattle.std.proofs.lemmas.Bool.{lt-ltb}
 use borrow.Author.Tests.{ltb-false, le-ltb}
 use Rattle.semver_core.specs.Text.Characters.{begins, is_identifier_char}
-use Rattle.semver_core.specs.Text.Identifiers.{Id, is_run, pieces, goes_on, IsLongestIdentifiers}
+use Rattle.semver_core.specs.Text.Identifiers.{Id, is_identifier, pieces, goes_on, IsLongestIdentifiers}
 use Rattle.semver_core.specs.Text.Numbers.{IsWholeNumber}
 use Rattle.semver_core.specs.Internal.Reading.{digits_end, digits_from, list_len, list_of, placed, number_at, list_at}
 
@@ -129,35 +129,35 @@ number_complete limit text at n digits rest e w =
 -- the pieces of a text that follows identifier characters: the first may be empty
 abbrev tail_runs : List (List ℕ) → Bool
 tail_runs [] = true
-tail_runs (first ∷ others) = list_all is_identifier_char first && list_all is_run others
+tail_runs (first ∷ others) = list_all is_identifier_char first && list_all is_identifier others
 
 pieces_cons : (c : ℕ) (rest : List ℕ) → eqb c 46 ≡ false → pieces (c ∷ rest) ≡ onto_first c (pieces rest)
 pieces_cons c rest other = rw other refl
 
-run_from : (t : List ℕ) → 0 < length t → list_all is_identifier_char t ≡ true → is_run t ≡ true
+run_from : (t : List ℕ) → 0 < length t → list_all is_identifier_char t ≡ true → is_identifier t ≡ true
 run_from t some each = rw (lt-ltb 0 (length t) some, each) refl
 
-onto_tail : (c : ℕ) (ps : List (List ℕ)) → is_identifier_char c ≡ true → tail_runs ps ≡ true → list_all is_run (onto_first c ps) ≡ true
+onto_tail : (c : ℕ) (ps : List (List ℕ)) → is_identifier_char c ≡ true → tail_runs ps ≡ true → list_all is_identifier (onto_first c ps) ≡ true
 onto_tail c [] h t = rw h refl
 onto_tail c (p ∷ ps) h t =
-    let first = first_so (list_all is_identifier_char p) (list_all is_run ps) t in
-    let others = second_so (list_all is_identifier_char p) (list_all is_run ps) t in
+    let first = first_so (list_all is_identifier_char p) (list_all is_identifier ps) t in
+    let others = second_so (list_all is_identifier_char p) (list_all is_identifier ps) t in
     rw (run_from (c ∷ p) (omega arith) (rw (h, first) refl), others) refl
 
 tail_onto : (c : ℕ) (ps : List (List ℕ)) → tail_runs (onto_first c ps) ≡ true → tail_runs ps ≡ true
 tail_onto c [] t = refl
 tail_onto c (p ∷ ps) t =
-    let first = first_so (is_identifier_char c && list_all is_identifier_char p) (list_all is_run ps) t in
-    rw (second_so (is_identifier_char c) (list_all is_identifier_char p) first, second_so (is_identifier_char c && list_all is_identifier_char p) (list_all is_run ps) t) refl
+    let first = first_so (is_identifier_char c && list_all is_identifier_char p) (list_all is_identifier ps) t in
+    rw (second_so (is_identifier_char c) (list_all is_identifier_char p) first, second_so (is_identifier_char c && list_all is_identifier_char p) (list_all is_identifier ps) t) refl
 
-runs_tail : (ps : List (List ℕ)) → list_all is_run ps ≡ true → tail_runs ps ≡ true
+runs_tail : (ps : List (List ℕ)) → list_all is_identifier ps ≡ true → tail_runs ps ≡ true
 runs_tail [] h = refl
 runs_tail (p ∷ ps) h =
-    let first = first_so (is_run p) (list_all is_run ps) h in
-    rw (second_so (ltb 0 (length p)) (list_all is_identifier_char p) first, second_so (is_run p) (list_all is_run ps) h) refl
+    let first = first_so (is_identifier p) (list_all is_identifier ps) h in
+    rw (second_so (ltb 0 (length p)) (list_all is_identifier_char p) first, second_so (is_identifier p) (list_all is_identifier ps) h) refl
 
 -- a text of runs whose first character is one of identifiers
-begun_runs : (t : List ℕ) → begins is_identifier_char t ≡ true → tail_runs (pieces t) ≡ true → list_all is_run (pieces t) ≡ true
+begun_runs : (t : List ℕ) → begins is_identifier_char t ≡ true → tail_runs (pieces t) ≡ true → list_all is_identifier (pieces t) ≡ true
 begun_runs [] h t = cc
 begun_runs (c ∷ rest) h t =
     let split = pieces_cons c rest (not_dot c h) in
@@ -178,7 +178,7 @@ goes_on_char c rest other more = elim (cases_Bool (is_identifier_char c)) [
 goes_on_dot : (c : ℕ) (rest : List ℕ) → eqb c 46 ≡ true → goes_on (c ∷ rest) ≡ true → begins is_identifier_char rest ≡ true
 goes_on_dot c rest dot more = rw (eqb-true c 46 dot) at more
 
-cons_runs : (c : ℕ) (rest : List ℕ) → tail_runs (pieces rest) ≡ true → is_identifier_char c ≡ true → list_all is_run (pieces (c ∷ rest)) ≡ true
+cons_runs : (c : ℕ) (rest : List ℕ) → tail_runs (pieces rest) ≡ true → is_identifier_char c ≡ true → list_all is_identifier (pieces (c ∷ rest)) ≡ true
 cons_runs c rest t h = rw (pieces_cons c rest (not_dot c h)) (onto_tail c (pieces rest) h t)
 
 taken_cons : (c : ℕ) (rest : List ℕ) → tail_runs (pieces (take (list_len rest) rest)) ≡ true → goes_on (c ∷ rest) ≡ true → tail_runs (pieces (c ∷ take (list_len rest) rest)) ≡ true
@@ -233,9 +233,9 @@ list_sound text at ids end e = elim (cases_Bool (begins is_identifier_char (drop
 first_char : (c : ℕ) (ps : List (List ℕ)) → tail_runs (onto_first c ps) ≡ true → is_identifier_char c ≡ true
 first_char c [] t = first_so (is_identifier_char c) true (first_so (is_identifier_char c && true) true t)
 first_char c (p ∷ ps) t =
-    first_so (is_identifier_char c) (list_all is_identifier_char p) (first_so (is_identifier_char c && list_all is_identifier_char p) (list_all is_run ps) t)
+    first_so (is_identifier_char c) (list_all is_identifier_char p) (first_so (is_identifier_char c && list_all is_identifier_char p) (list_all is_identifier ps) t)
 
-pub runs_begin : (s r : List ℕ) → list_all is_run (pieces s) ≡ true → begins is_identifier_char (s ++ r) ≡ true
+pub runs_begin : (s r : List ℕ) → list_all is_identifier (pieces s) ≡ true → begins is_identifier_char (s ++ r) ≡ true
 runs_begin [] r h = cc
 runs_begin (c ∷ s) r h = elim (cases_Bool (eqb c 46)) [
   | inl dot ↦ cc (rw dot at h)
@@ -249,7 +249,7 @@ whole_list [] [] t stop = refl
 whole_list [] (c ∷ r) t stop = rw stop refl
 whole_list (c ∷ s) r t stop = elim (cases_Bool (eqb c 46)) [
   | inl dot ↦
-      let runs : list_all is_run (pieces s) ≡ true = rw dot at t in
+      let runs : list_all is_identifier (pieces s) ≡ true = rw dot at t in
       let begun : begins is_identifier_char (s ++ r) ≡ true = runs_begin s r runs in
       let is : c ≡ 46 = eqb-true c 46 dot in
       rw (is, begun, whole_list s r (runs_tail (pieces s) runs) stop) (omega arith)

@@ -20,7 +20,7 @@ use Rattle.std.specs.List.{list_all, prefix_len, All}
 use Rattle.std.specs.Result.{MatchResult}
 use Rattle.std.specs.Str.Parse.{ParsesUnsigned, digits_value}
 use Rattle.semver_core.specs.Text.Characters.{begins, is_identifier_char}
-use Rattle.semver_core.specs.Text.Identifiers.{Id, Numeric, AlphaNumeric, identifier_of, is_run, goes_on}
+use Rattle.semver_core.specs.Text.Identifiers.{Id, Numeric, AlphaNumeric, identifier_of, is_identifier, goes_on}
 use Rattle.semver_core.specs.Internal.Reading.{list_len, list_of, list_at}
 use Rattle.semver_core.specs.Values.Views.{ids_view, id_view}
 use Rattle.semver_core.specs.declared.identifier.Identifier.{Identifier}
@@ -45,13 +45,13 @@ of_long run d big =
 pub other_run : (run : List ℕ) → list_all is_ascii_digit run ≡ false → identifier_of run ≡ AlphaNumeric run
 other_run run d = rw d refl
 
-run_some : (run : List ℕ) → is_run run ≡ true → 0 < length run
+run_some : (run : List ℕ) → is_identifier run ≡ true → 0 < length run
 run_some run h = ltb-true 0 (length run) (first_so _ _ h)
 
 drop_one : (rest : List ℕ) (c n : ℕ) → drop (1 + n) (c ∷ rest) ≡ drop n rest
 drop_one rest c n = rw (add_comm 1 n, add-one n) refl
 
-pub numeric_run : {E : Type 0} (run : List ℕ) (r : Result ℕ E) → ParsesUnsigned 64 10 run r → list_all is_ascii_digit run ≡ true → is_run run ≡ true
+pub numeric_run : {E : Type 0} (run : List ℕ) (r : Result ℕ E) → ParsesUnsigned 64 10 run r → list_all is_ascii_digit run ≡ true → is_identifier run ≡ true
     → MatchResult r (λ n. identifier_of run ≡ Numeric n) (λ _. identifier_of run ≡ AlphaNumeric run)
 numeric_run {E} run (Ok n) h d some =
     let p = parse_digits numerals {E = E} 64 run (Ok n) h d in
@@ -150,7 +150,7 @@ prefix_some : (t : List ℕ) → begins is_identifier_char t ≡ true → 0 < pr
 prefix_some [] h = cc
 prefix_some (c ∷ rest) h = rw h (omega arith)
 
-pub run_is_run : (t : List ℕ) → begins is_identifier_char t ≡ true → is_run (take (prefix_len is_identifier_char t) t) ≡ true
+pub run_is_run : (t : List ℕ) → begins is_identifier_char t ≡ true → is_identifier (take (prefix_len is_identifier_char t) t) ≡ true
 run_is_run t h =
     let some : ltb 0 (length (take (prefix_len is_identifier_char t) t)) ≡ true =
     grind (arith, nat_tests, prefix_some t h, length-prefix_len is_identifier_char t) in

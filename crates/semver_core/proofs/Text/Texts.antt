@@ -18,12 +18,12 @@ use Rattle.std.specs.Prelude.{IsUtf8, IsCharBoundary, slice_range}
 use Rattle.semver_core.specs.Text.Characters.{is_whitespace, BeginsBlank, IsAfterBlank}
 use Rattle.semver_core.specs.Text.Identifiers.{Id}
 use Rattle.semver_core.specs.Text.Numbers.{IsNumber, IsWholeNumber}
-use Rattle.semver_core.specs.Internal.Reading.{◌>>=◌, list_of, list_len, number_at, list_at, past, triple_at, or_nothing, pre_release_at, build_at, qualified, version_at, mark_len}
+use Rattle.semver_core.specs.Internal.Reading.{◌>>?◌, list_of, list_len, number_at, list_at, past, triple_at, or_nothing, pre_release_at, build_at, qualified, version_at, mark_len}
 use Rattle.semver_core.specs.Values.Versions.{VersionValue, HasIdentifiers}
 use Rattle.semver_core.proofs.Text.Pieces.{some_inside, rest_at, number_sound, number_complete, list_sound, list_complete, list_none, runs_begin}
 use Rattle.semver_core.proofs.Text.Runs.{drop_next}
 
-pub bind_some : {A B : Type 0} (o : Option A) (f : A → Option B) (y : B) → (o >>= f) ≡ Some y → (x : A) × (o ≡ Some x) × (f x ≡ Some y)
+pub bind_some : {A B : Type 0} (o : Option A) (f : A → Option B) (y : B) → (o >>? f) ≡ Some y → (x : A) × (o ≡ Some x) × (f x ≡ Some y)
 bind_some None f y e = cc
 bind_some (Some x) f y e = (x, refl, e)
 

@@ -5,7 +5,7 @@ use Rattle.std.specs.List.{list_all, list_any, join_with_byte, starts_with}
 use Rattle.std.specs.Str.{bytes_eq}
 use Rattle.std.specs.Str.Parse.{digits_value}
 use Rattle.std.specs.Prelude.{nat_eq}
-use Rattle.semver_core.specs.Text.Identifiers.{Id, Numeric, AlphaNumeric, is_run, pieces}
+use Rattle.semver_core.specs.Text.Identifiers.{Id, Numeric, AlphaNumeric, is_identifier, pieces}
 use Rattle.semver_core.specs.Printing.Text.{id_text, version_text}
 use Rattle.semver_core.specs.Values.Versions.{VersionValue, is_release}
 use Rattle.semver_core.specs.declared.increment.IdentifierBase.{IdentifierBase}
@@ -154,9 +154,9 @@ by_word word id base v =
     else if bytes_eq word (codes "release") then by_release v
     else Err (InvalidIncrementArgument word)
 
--- an identifier is runs joined by dots
+-- what is given as the identifier may be several, joined by dots
 abbrev pub is_identifiers : List ℕ → Bool
-is_identifiers id = list_all is_run (pieces id)
+is_identifiers id = list_all is_identifier (pieces id)
 
 -- the two checks
 abbrev pub checked : List ℕ → IdentifierBase → Result ⊤ Fault

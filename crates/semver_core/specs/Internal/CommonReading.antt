@@ -4,7 +4,7 @@ use Rattle.std.specs.Prelude.{ℕ, ◌+◌, ◌*◌, ◌^◌, ◌&&◌, nat_lt, 
 use Rattle.std.specs.Char.{is_ascii_digit, digit_value}
 use Rattle.semver_core.specs.Text.Characters.{is_identifier_char}
 use Rattle.semver_core.specs.Text.Identifiers.{Id, Numeric, AlphaNumeric}
-use Rattle.semver_core.specs.Internal.Reading.{◌>>=◌, number_at, past, triple_at, pre_release_at, build_at, qualified}
+use Rattle.semver_core.specs.Internal.Reading.{◌>>?◌, number_at, past, triple_at, pre_release_at, build_at, qualified}
 use Rattle.semver_core.specs.Values.Versions.{VersionValue}
 
 -- how many bytes a small `v` at the front takes
@@ -14,7 +14,7 @@ small_len (c ∷ rest) = if c == 118 then 1 else 0
 
 -- a number with a dot behind it, and the place after the dot
 abbrev pub part_at : ℕ → List ℕ → ℕ → Option (ℕ × ℕ)
-part_at limit text at = number_at limit text at >>= λ n. past 46 text n.1 >>= λ next. Some (n.0, next)
+part_at limit text at = number_at limit text at >>? λ n. past 46 text n.1 >>? λ next. Some (n.0, next)
 
 -- the value, where nothing is left
 abbrev pub at_end : {A : Type 0} → List ℕ → A → Option A
@@ -28,7 +28,7 @@ whole_at text t =
 
 -- the version that the whole text is
 abbrev pub common_of : ℕ → List ℕ → Option VersionValue
-common_of limit text = triple_at limit text (small_len text) >>= λ t. whole_at text t
+common_of limit text = triple_at limit text (small_len text) >>? λ t. whole_at text t
 
 -- the number that digits write so far, with one byte more; none where one is no digit, or the
 -- number does not fit 64 bits

@@ -43,10 +43,10 @@ list_front text = if begins is_identifier_char text then Some (list_of text, lis
 abbrev pub list_at : List ℕ → ℕ → Option (List Id × ℕ)
 list_at text at = placed at (list_front (drop at text))
 
-infixl 10 ◌>>=◌
-abbrev pub ◌>>=◌ : {A B : Type 0} → Option A → (A → Option B) → Option B
-None >>= f = None
-(Some x) >>= f = f x
+infixl 10 ◌>>?◌
+abbrev pub ◌>>?◌ : {A B : Type 0} → Option A → (A → Option B) → Option B
+None >>? f = None
+(Some x) >>? f = f x
 
 -- the place after this character
 abbrev pub past : ℕ → List ℕ → ℕ → Option ℕ
@@ -55,11 +55,11 @@ past c text at = if begins (λ b. b == c) (drop at text) then Some (at + 1) else
 -- three numbers with dots between them, and the place after them
 abbrev pub triple_at : ℕ → List ℕ → ℕ → Option (ℕ × ℕ × ℕ × ℕ)
 triple_at limit text at =
-    number_at limit text at >>= λ major.
-    past 46 text major.1 >>= λ second.
-    number_at limit text second >>= λ minor.
-    past 46 text minor.1 >>= λ third.
-    number_at limit text third >>= λ patch.
+    number_at limit text at >>? λ major.
+    past 46 text major.1 >>? λ second.
+    number_at limit text second >>? λ minor.
+    past 46 text minor.1 >>? λ third.
+    number_at limit text third >>? λ patch.
     Some (major.0, minor.0, patch.0, patch.1)
 
 -- the list that was found, or none, and then nothing is skipped
@@ -96,7 +96,7 @@ qualified text t = record {
 
 -- the version at a place where its numbers begin
 abbrev pub version_at : ℕ → List ℕ → ℕ → Option VersionValue
-version_at limit text at = triple_at limit text at >>= λ t. Some (qualified text t)
+version_at limit text at = triple_at limit text at >>? λ t. Some (qualified text t)
 
 -- how many bytes the mark takes that a version may begin with
 abbrev pub mark_len : List ℕ → ℕ

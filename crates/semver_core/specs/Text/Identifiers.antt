@@ -10,22 +10,22 @@ pub data Id : Type 0 where
   Numeric : ℕ → Id
   AlphaNumeric : List ℕ → Id
 
--- a run: characters of identifiers, one or more
-abbrev pub is_run : List ℕ → Bool
-is_run text = nat_lt 0 (length text) && list_all is_identifier_char text
+-- the text of an identifier: characters of identifiers, one or more
+abbrev pub is_identifier : List ℕ → Bool
+is_identifier text = nat_lt 0 (length text) && list_all is_identifier_char text
 
--- the identifier that a run spells: the number of digits alone that fits 64 bits, and else the run
+-- the identifier that such a text spells: the number of digits alone that fits 64 bits, and else the text
 abbrev pub identifier_of : List ℕ → Id
-identifier_of run = if list_all is_ascii_digit run && nat_lt (digits_value 10 run) (2 ^ 64)
-    then Numeric (digits_value 10 run) else AlphaNumeric run
+identifier_of text = if list_all is_ascii_digit text && nat_lt (digits_value 10 text) (2 ^ 64)
+    then Numeric (digits_value 10 text) else AlphaNumeric text
 
 -- the pieces of a text between its dots
 abbrev pub pieces : List ℕ → List (List ℕ)
 pieces text = slice_split (λ c. c == 46) text
 
--- the text is runs joined by dots, which spell these identifiers
+-- the text is texts of identifiers joined by dots, which spell these
 pub record IsIdentifiers (text : List ℕ) (list : List Id) : Type 0 where
-  pub runs : list_all is_run (pieces text) ≡ true
+  pub runs : list_all is_identifier (pieces text) ≡ true
   pub spelled : list ≡ map identifier_of (pieces text)
 
 -- an identifier list that ends here would go on with this text

@@ -5,7 +5,7 @@ ghost use Rattle.std.specs.List.{list_all};
 ghost use Rattle.std.specs.Str.{bytes_eq};
 ghost use Rattle.std.specs.Str.Parse.{digits_value};
 ghost use Rattle.semver_core.specs.Text.Characters.{is_identifier_char};
-ghost use Rattle.semver_core.specs.Text.Identifiers.{Numeric, is_run};
+ghost use Rattle.semver_core.specs.Text.Identifiers.{Numeric, is_identifier};
 ghost use Rattle.semver_core.specs.Increments.Table as spec;
 ghost use Rattle.semver_core.specs.Internal.IncrementSteps.{IsLastNumber, ReturnsList, Tracks};
 ghost use Rattle.semver_core.specs.Printing.Text as printed;
@@ -240,8 +240,8 @@ fn are_identifier_chars(piece: &[u8]) -> bool
     piece.iter().all(|b| is_identifier_char(*b))
 }
 
-fn is_run(piece: &[u8]) -> bool
-    ensures { result ≡ is_run piece.now }
+fn is_identifier(piece: &[u8]) -> bool
+    ensures { result ≡ is_identifier piece.now }
 {
     !piece.is_empty() && are_identifier_chars(piece)
 }
@@ -250,5 +250,5 @@ fn is_run(piece: &[u8]) -> bool
 pub(super) fn is_identifiers(id: &str) -> bool
     ensures { result ≡ spec.is_identifiers id.now }
 {
-    id.split('.').all(|piece| is_run(piece.as_bytes()))
+    id.split('.').all(|piece| is_identifier(piece.as_bytes()))
 }

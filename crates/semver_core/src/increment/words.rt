@@ -7,7 +7,7 @@ ghost use Rattle.semver_core.specs.Values.Versions.{release_value};
 ghost use Rattle.semver_core.specs.Values.Views.{ids_view};
 
 use crate::increment::pre_release::{advance, identify};
-use crate::increment::{IdentifierBase, IncrementError, is_release, one_more, refused_argument};
+use crate::increment::{IdentifierBase, IncrementError, one_more, refused_argument};
 use crate::version::lists::Identifiers;
 use crate::version::parts::copy_list;
 use crate::{Failure, Version};
@@ -41,7 +41,7 @@ pub(super) fn by_word(
 fn major(alloc: Global, version: &Version) -> Result<Version, Failure<IncrementError>>
     ensures { Returns (spec.by_major version.now) result }
 {
-    if version.minor() == 0 && version.patch() == 0 && !is_release(version) {
+    if version.minor() == 0 && version.patch() == 0 && !version.is_release() {
         release_of(alloc, version)
     } else {
         next_major(alloc, version)
@@ -51,7 +51,7 @@ fn major(alloc: Global, version: &Version) -> Result<Version, Failure<IncrementE
 fn minor(alloc: Global, version: &Version) -> Result<Version, Failure<IncrementError>>
     ensures { Returns (spec.by_minor version.now) result }
 {
-    if version.patch() == 0 && !is_release(version) {
+    if version.patch() == 0 && !version.is_release() {
         release_of(alloc, version)
     } else {
         next_minor(alloc, version)
@@ -61,7 +61,7 @@ fn minor(alloc: Global, version: &Version) -> Result<Version, Failure<IncrementE
 fn patch(alloc: Global, version: &Version) -> Result<Version, Failure<IncrementError>>
     ensures { Returns (spec.by_patch version.now) result }
 {
-    if is_release(version) {
+    if version.is_release() {
         next_patch(alloc, version)
     } else {
         release_of(alloc, version)
@@ -76,7 +76,7 @@ fn prerelease(
 ) -> Result<Version, Failure<IncrementError>>
     ensures { Returns (spec.by_prerelease id.now base version.now) result }
 {
-    if is_release(version) {
+    if version.is_release() {
         pre_step(alloc, &next_patch(alloc, version)?, id, base)
     } else {
         pre_step(alloc, version, id, base)
@@ -86,7 +86,7 @@ fn prerelease(
 fn release(alloc: Global, version: &Version) -> Result<Version, Failure<IncrementError>>
     ensures { Returns (spec.by_release version.now) result }
 {
-    if is_release(version) {
+    if version.is_release() {
         let text = version.to_string(alloc)?;
         Err(Failure::Refused(IncrementError::NotAPrerelease(text)))
     } else {
