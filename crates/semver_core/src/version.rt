@@ -15,10 +15,11 @@ mod order;
 pub mod parts;
 
 use crate::readers::{lists_at, numbers, version_loose};
-use crate::version::lists::Lists;
+use crate::version::lists::Qualifier;
 use crate::{Failure, Identifier, MAX_LENGTH, MAX_SAFE_INTEGER, SemverError};
 use std::alloc::Global;
 use std::marker::Model;
+use std::slice;
 
 /// A version: three numbers, a pre-release and build metadata (SemVer 2.0.0).
 ///
@@ -30,8 +31,7 @@ pub struct Version {
     major: u64,
     minor: u64,
     patch: u64,
-    // `None` where both are empty
-    lists: Option<Box<Lists>>,
+    qualifier: Qualifier,
 }
 
 impl Model for Version {
@@ -85,36 +85,40 @@ impl Version {
             major,
             minor,
             patch,
-            lists: None,
+            qualifier: Qualifier::Absent,
         }
     }
 
-    // The version of three numbers and of the identifiers in a box, if there are any.
+    // The version of three numbers and of what stands behind them.
     #[inline(always)]
     pub(crate) fn from_parts(
         major: u64,
         minor: u64,
         patch: u64,
-        lists: Option<Box<Lists>>,
+        qualifier: Qualifier,
     ) -> Version
-        requires { IsFull lists }
+        requires { IsFull qualifier }
         ensures { result ≡ record {
           major = major;
           minor = minor;
           patch = patch;
-          pre_release = pre_release_of lists;
-          build = build_of lists;
+          pre_release = pre_release_of qualifier;
+          build = build_of qualifier;
         } }
     {
-        if let Some(lists) = &lists {
-            are_ids(&lists.pre_release);
-            are_ids(&lists.build);
+        match &qualifier {
+            Qualifier::Absent => {}
+            Qualifier::One(id) => is_id(id),
+            Qualifier::Lists(lists) => {
+                are_ids(&lists.pre_release);
+                are_ids(&lists.build);
+            }
         }
         Version {
             major,
             minor,
             patch,
-            lists,
+            qualifier,
         }
     }
 
@@ -147,9 +151,10 @@ impl Version {
         ensures value { ids_view result.now ≡ self.now.pre_release }
         ensures valid { IsVersion self.now }
     {
-        match &self.lists {
-            Some(lists) => lists.pre_release.as_slice(),
-            None => &[],
+        match &self.qualifier {
+            Qualifier::Absent => &[],
+            Qualifier::One(id) => slice::from_ref(id),
+            Qualifier::Lists(lists) => lists.pre_release.as_slice(),
         }
     }
 
@@ -158,9 +163,9 @@ impl Version {
         ensures value { ids_view result.now ≡ self.now.build }
         ensures valid { IsVersion self.now }
     {
-        match &self.lists {
-            Some(lists) => lists.build.as_slice(),
-            None => &[],
+        match &self.qualifier {
+            Qualifier::Absent | Qualifier::One(_) => &[],
+            Qualifier::Lists(lists) => lists.build.as_slice(),
         }
     }
 
@@ -196,8 +201,8 @@ fn parse_lists(
     ensures memory { MemoryOnlyIf result
         (HasIdentifiers (qualified text.now (major, minor, patch, at))) }
 {
-    let (lists, _) = lists_at(alloc, text, at)?;
-    Ok(Version::from_parts(major, minor, patch, lists))
+    let (qualifier, _) = lists_at(alloc, text, at)?;
+    Ok(Version::from_parts(major, minor, patch, qualifier))
 }
 
 // Reads the version at the front of a text of any length, for `Version::parse` where the text does

@@ -1,12 +1,13 @@
 -- Statement: what a contract sees of identifiers, of versions and of their parts, whatever the fields are.
-use Rattle.std.specs.Prelude.{ℕ, ◌⊎◌, ◌<◌, List, [], Option, Some, None, OnSome, map, length, string_bytes, Box, Vec}
+use Rattle.std.specs.Prelude.{ℕ, ◌⊎◌, ◌<◌, ⊤, List, [], ◌∷◌, Option, Some, None, map, length, string_bytes, Vec}
 use Rattle.std.specs.declared.alloc.Global.{Global}
 use Rattle.semver_core.specs.Text.Identifiers.{Id, Numeric, AlphaNumeric}
 use Rattle.semver_core.specs.Values.Versions.{VersionValue, IsVersion}
 use Rattle.semver_core.specs.declared.identifier.Identifier.{Identifier}
 use Rattle.semver_core.specs.declared.identifier.Identifier.TheVariants as variant
 use Rattle.semver_core.specs.declared.version.Version.TheInside.{Inside}
-use Rattle.semver_core.specs.declared.version.lists.Lists.{Lists}
+use Rattle.semver_core.specs.declared.version.lists.Qualifier.{Qualifier}
+use Rattle.semver_core.specs.declared.version.lists.Qualifier.TheVariants.{Absent, One, Lists}
 use Rattle.semver_core.specs.declared.version.parts.VersionParts.{VersionParts}
 
 abbrev pub id_view : Identifier → Id
@@ -21,26 +22,30 @@ abbrev pub list_view : Option (Vec Identifier Global × ℕ) → Option (List Id
 list_view None = None
 list_view (Some p) = Some (ids_view p.0.items, p.1)
 
--- the pre-release and the build metadata: empty where there is no box
-abbrev pub pre_release_of : Option (Box Lists Global) → List Id
-pre_release_of None = []
-pre_release_of (Some lists) = ids_view lists.value.pre_release.items
+-- the pre-release and the build metadata
+abbrev pub pre_release_of : Qualifier → List Id
+pre_release_of Absent = []
+pre_release_of (One id) = id_view id ∷ []
+pre_release_of (Lists lists) = ids_view lists.value.pre_release.items
 
-abbrev pub build_of : Option (Box Lists Global) → List Id
-build_of None = []
-build_of (Some lists) = ids_view lists.value.build.items
+abbrev pub build_of : Qualifier → List Id
+build_of Absent = []
+build_of (One id) = []
+build_of (Lists lists) = ids_view lists.value.build.items
 
--- a box holds at least one identifier
-abbrev pub IsFull : Option (Box Lists Global) → Type 0
-IsFull lists = OnSome lists ((0 < length (pre_release_of lists)) ⊎ (0 < length (build_of lists)))
+-- it has at least one identifier, unless it is absent
+abbrev pub IsFull : Qualifier → Type 0
+IsFull Absent = ⊤
+IsFull (One id) = ⊤
+IsFull (Lists lists) = (0 < length lists.value.pre_release.items) ⊎ (0 < length lists.value.build.items)
 
 -- the five values of a version
 abbrev pub value_of : Inside → VersionValue
-value_of v = record { major = v.major; minor = v.minor; patch = v.patch; pre_release = pre_release_of v.lists; build = build_of v.lists }
+value_of v = record { major = v.major; minor = v.minor; patch = v.patch; pre_release = pre_release_of v.qualifier; build = build_of v.qualifier }
 
--- they are those of a version, and a version without identifiers has no box
+-- they are those of a version
 abbrev pub IsValid : Inside → Type 0
-IsValid v = IsVersion (value_of v) × IsFull v.lists
+IsValid v = IsVersion (value_of v) × IsFull v.qualifier
 
 -- the version that parts make
 abbrev pub parts_value : VersionParts → VersionValue

@@ -89,11 +89,11 @@ fn qualified(
     ensures found { IfOk result (λ found. found ≡ whole_at text.now (major, minor, patch, at)) }
     ensures memory { OnErr result (HasIdentifiers (qualified text.now (major, minor, patch, at))) }
 {
-    let (lists, end) = lists_at(alloc, text, at)?;
+    let (qualifier, end) = lists_at(alloc, text, at)?;
     if end < text.len() {
         return Ok(None);
     }
-    Ok(Some(Version::from_parts(major, minor, patch, lists)))
+    Ok(Some(Version::from_parts(major, minor, patch, qualifier)))
 }
 
 // Whether a qualifier may begin with the byte at a place.

@@ -7,7 +7,7 @@ ghost use Rattle.semver_core.specs.Internal.Reading.{past, triple_at, pre_releas
 ghost use Rattle.semver_core.specs.Values.Versions.{VersionValue, HasIdentifiers};
 ghost use Rattle.semver_core.specs.Values.Views.{ids_view, IsFull, build_of, pre_release_of};
 
-use crate::version::lists::{Identifiers, Lists};
+use crate::version::lists::{Identifiers, Lists, Qualifier};
 use crate::{MAX_SAFE_INTEGER, Version, scan};
 use std::alloc::{AllocError, Global};
 
@@ -119,7 +119,7 @@ pub(crate) fn lists_at(
     alloc: Global,
     text: &str,
     at: usize,
-) -> Result<(Option<Box<Lists>>, usize), AllocError>
+) -> Result<(Qualifier, usize), AllocError>
     requires { at ≤ length text.now }
     ensures found { IfOk result (λ found.
         (pre_release_of found.0, build_of found.0, found.1) ≡ lists_at text.now at) }
@@ -130,13 +130,13 @@ pub(crate) fn lists_at(
 {
     let start = pre_release_start(text, at);
     if start.is_none() && build_start(text, at).is_none() {
-        return Ok((None, at));
+        return Ok((Qualifier::Absent, at));
     }
     let mut lists = Lists::boxed(alloc)?;
     let next = read_from(alloc, text, at, start, &mut lists.pre_release)?;
     let start = build_start(text, next);
     let end = read_from(alloc, text, next, start, &mut lists.build)?;
-    Ok((Some(lists), end))
+    Ok((Qualifier::Lists(lists), end))
 }
 
 // The version at a place where its numbers begin.
@@ -149,8 +149,8 @@ fn version_from(alloc: Global, text: &str, at: usize) -> Result<Option<Version>,
     let Some((major, minor, patch, end)) = triple(text, at) else {
         return Ok(None);
     };
-    let (lists, _) = lists_at(alloc, text, end)?;
-    Ok(Some(Version::from_parts(major, minor, patch, lists)))
+    let (qualifier, _) = lists_at(alloc, text, end)?;
+    Ok(Some(Version::from_parts(major, minor, patch, qualifier)))
 }
 
 fn mark_len(bytes: &[u8]) -> usize

@@ -1,4 +1,4 @@
-// The two lists of a version.
+// What stands behind the three numbers of a version.
 
 ghost use Rattle.std.specs.Prelude.{◌≡◌, [], IfOk};
 ghost use Rattle.smallvec.specs.SmallVec as small;
@@ -10,7 +10,18 @@ use std::alloc::{AllocError, Global};
 // A list of identifiers. Two stand inline.
 pub(crate) type Identifiers = SmallVec<Identifier, 2>;
 
-// The pre-release and the build metadata of a version that has identifiers.
+// The pre-release and the build metadata of a version.
+#[derive(Debug, Drop)]
+pub(crate) enum Qualifier {
+    // Neither.
+    Absent,
+    // One pre-release identifier and no build metadata, as in `-0`, which most bounds have.
+    One(Identifier),
+    // Any other identifiers.
+    Lists(Box<Lists>),
+}
+
+// The lists of a version with more identifiers than one.
 #[derive(Debug, Drop)]
 pub(crate) struct Lists {
     pub(crate) pre_release: Identifiers,

@@ -6,7 +6,7 @@ ghost use Rattle.semver_core.specs.Values.Versions.{HasIdentifiers, release_valu
 ghost use Rattle.semver_core.specs.Values.Views.{ids_view, parts_value};
 
 use crate::cuts::Point;
-use crate::version::lists::{Identifiers, Lists};
+use crate::version::lists::{Identifiers, Lists, Qualifier};
 use crate::{Identifier, Version};
 use smallvec::SmallVec;
 use std::alloc::{AllocError, Global};
@@ -88,7 +88,7 @@ impl Version {
         };
         lists.pre_release = SmallVec::from_vec(pre_release);
         lists.build = SmallVec::from_vec(build);
-        Ok(Version::from_parts(major, minor, patch, Some(lists)))
+        Ok(Version::from_parts(major, minor, patch, Qualifier::Lists(lists)))
     }
 
     // The version of these numbers and identifiers.
@@ -113,25 +113,25 @@ impl Version {
             return Ok(Version::release(major, minor, patch));
         }
         let lists = Box::new(alloc, Lists { pre_release, build })?;
-        Ok(Version::from_parts(major, minor, patch, Some(lists)))
+        Ok(Version::from_parts(major, minor, patch, Qualifier::Lists(lists)))
     }
 
     /// The pre-release `major.minor.patch-number`, with one identifier, which is numeric.
     ///
-    /// Fails only if allocation fails.
+    /// Nothing is allocated, so it never fails.
     pub fn with_pre(
-        alloc: Global,
+        _alloc: Global,
         major: u64,
         minor: u64,
         patch: u64,
         number: u64,
     ) -> Result<Version, AllocError>
-        ensures { IfOk result (λ v.
+        ensures value { IfOk result (λ v.
             v ≡ record (release_value major minor patch) { pre_release = id.Numeric number ∷ [] }) }
+        ensures succeeds { IsOk result }
     {
-        let mut lists = Lists::boxed(alloc)?;
-        lists.pre_release.push_reserved(Identifier::Numeric(number));
-        Ok(Version::from_parts(major, minor, patch, Some(lists)))
+        let one = Qualifier::One(Identifier::Numeric(number));
+        Ok(Version::from_parts(major, minor, patch, one))
     }
 
     /// The five values of the version.
@@ -153,12 +153,16 @@ impl Version {
             major,
             minor,
             patch,
-            lists,
+            qualifier,
         } = self;
-        if let Some(lists) = lists {
-            let lists = Box::into_inner(lists);
-            move_items(lists.pre_release, &mut pre_release);
-            move_items(lists.build, &mut build);
+        match qualifier {
+            Qualifier::Absent => {}
+            Qualifier::One(id) => pre_release.push_reserved(id),
+            Qualifier::Lists(lists) => {
+                let lists = Box::into_inner(lists);
+                move_items(lists.pre_release, &mut pre_release);
+                move_items(lists.build, &mut build);
+            }
         }
         Ok(VersionParts {
             major,
@@ -175,13 +179,17 @@ impl Version {
         ensures whole { IfOk result (λ v. v ≡ self.now) }
         ensures memory { OnErr result (HasIdentifiers self.now) }
     {
-        let Some(lists) = &self.lists else {
-            return Ok(Version::release(self.major, self.minor, self.patch));
+        let qualifier = match &self.qualifier {
+            Qualifier::Absent => Qualifier::Absent,
+            Qualifier::One(id) => Qualifier::One(id.copy(alloc)?),
+            Qualifier::Lists(lists) => {
+                let mut copy = Lists::boxed(alloc)?;
+                copy_into(alloc, &lists.pre_release, &mut copy.pre_release)?;
+                copy_into(alloc, &lists.build, &mut copy.build)?;
+                Qualifier::Lists(copy)
+            }
         };
-        let mut copy = Lists::boxed(alloc)?;
-        copy_into(alloc, &lists.pre_release, &mut copy.pre_release)?;
-        copy_into(alloc, &lists.build, &mut copy.build)?;
-        Ok(Version::from_parts(self.major, self.minor, self.patch, Some(copy)))
+        Ok(Version::from_parts(self.major, self.minor, self.patch, qualifier))
     }
 }
 

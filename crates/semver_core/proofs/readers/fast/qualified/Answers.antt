@@ -4,4 +4,4 @@ use Rattle.semver_core.proofs.readers.fast.qualified.Goals as goal
 
 pub returns-then-end-text-clause-found : goal.returns-then-end-text-clause-found
 returns-then-end-text-clause-found c =
-    sym (lists_left c.args.text.now c.args.major c.args.minor c.args.patch c.args.at _ _ _ c.in_ok-lists.ensures.found c.if-end-text.true)
+    sym (lists_left c.args.text.now c.args.major c.args.minor c.args.patch c.args.at _ _ _ c.in_ok-qualifier.ensures.found c.if-end-text.true)
