@@ -56,6 +56,7 @@ impl Version {
     ///
     /// Returns `Refused` exactly if the text is longer or has no version at its front, and `Memory`
     /// only if the version has a pre-release or build metadata.
+    #[inline(always)]
     pub fn parse(alloc: Global, text: &str) -> Result<Version, Failure<SemverError>>
         // What is read is a version of the text.
         ensures ok { IfOk result (λ v. Parses MAX_SAFE_INTEGER text.now v) }

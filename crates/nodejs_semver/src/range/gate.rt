@@ -56,6 +56,7 @@ pub(crate) fn accepts(
 }
 
 // Whether the interval holds the version and lets it in.
+#[inline(always)]
 pub(crate) fn accepts_one(
     interval: &Interval<Version>,
     version: &Version,
@@ -69,6 +70,7 @@ pub(crate) fn accepts_one(
 }
 
 // Whether the interval lets in the version, pre-releases not being included.
+#[inline]
 fn lets_in(interval: &Interval<Version>, version: &Version) -> bool
     ensures { result ≡ lets_in interval.now version.now }
 {
