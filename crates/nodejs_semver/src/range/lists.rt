@@ -174,6 +174,7 @@ fn push_clipped<V: Point>(
 }
 
 // Puts a part at the end, if there is one.
+#[inline(always)]
 fn push_part<V: Point>(
     parts: &mut Vec<Interval<V>>,
     part: Option<Interval<V>>,
@@ -181,7 +182,8 @@ fn push_part<V: Point>(
     ensures { OnOk result (parts.new.items ≡ parts.old.items ++ option_to_list part) }
 {
     if let Some(interval) = part {
-        parts.push(interval)?;
+        parts.reserve(1)?;
+        parts.push_reserved(interval);
     }
     Ok(())
 }

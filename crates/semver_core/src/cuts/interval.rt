@@ -143,6 +143,7 @@ impl<V: Point> Interval<V> {
     ///
     /// Both intervals are borrowed, so the two bounds are copied: the call fails only if that
     /// allocation fails. To consume both intervals and copy nothing, see `into_intersection`.
+    #[inline(always)]
     pub fn intersect(
         &self,
         alloc: Global,
@@ -180,6 +181,7 @@ impl<V: Point> Interval<V> {
     /// its own bounds, with their builds, wherever it can.
     ///
     /// Two bounds are copied: the call fails only if that allocation fails.
+    #[inline(always)]
     pub fn clip(
         &self,
         alloc: Global,
@@ -240,6 +242,7 @@ impl<V: Point> Interval<V> {
 }
 
 // The interval between copies of two bounds, where the lower cut is below the upper one.
+#[inline(always)]
 fn copy_between<V: Point>(
     alloc: Global,
     lower: &Bound<V>,
