@@ -1,14 +1,10 @@
-//! How identifiers and versions print, and how a value is written without regard to formatting
-//! options.
+// How identifiers and versions print.
 
 ghost use Rattle.std.specs.Fmt.{DisplaysStyledOnOk, decimal};
 ghost use Rattle.std.specs.Prelude.{◌≡◌, ◌++◌, ◌∷◌, [], Some};
 ghost use Rattle.semver_core.specs.Printing.Text.{id_text, marked_list, version_text};
 ghost use Rattle.semver_core.specs.Values.Views.{id_view, ids_view};
 
-mod unstyled;
-
-pub use crate::print::unstyled::write_unstyled;
 use crate::{Identifier, Version};
 use itoa::Buffer;
 use std::fmt;
