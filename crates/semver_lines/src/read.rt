@@ -6,6 +6,7 @@ ghost use Rattle.semver_lines.specs.Replies.{AreVersionsOf, IsRangeOf, IsVersion
 ghost use Rattle.semver_lines.specs.Internal.Results.{IsRead, IsReadAs};
 
 use crate::fault::Fault;
+use crate::fields::first;
 use nodejs_semver::{Failure, Range, Version};
 use std::alloc::{AllocError, Global};
 
@@ -39,10 +40,14 @@ fn versions(alloc: Global, texts: &str) -> Result<Vec<Version>, Failure<Fault>>
 {
     // A version takes five bytes at least, and a `;` parts it from the next.
     let mut versions = Vec::with_capacity(alloc, texts.len() / 6 + 1)?;
-    for text in texts.split(';') {
+    let mut rest = texts;
+    'fields: while let Some((text, behind)) = first(rest) {
         let version = version(alloc, text)?;
         versions.push(version).map_err(AllocError::from)?;
+        rest = behind;
     }
+    let last = version(alloc, rest)?;
+    versions.push(last).map_err(AllocError::from)?;
     Ok(versions)
 }
 
