@@ -1,8 +1,12 @@
-use Rattle.std.proofs.Common.{length, take}
+use Rattle.std.proofs.Common.{◌≡◌, ◌++◌, List, ℕ, length}
+use Rattle.std.specs.Prelude.{IsUtf8}
 use Rattle.semver_lines.specs.Lines.{fields}
 use Rattle.semver_lines.specs.Replies.{AllParse}
 use Rattle.semver_lines.proofs.read.versions.Given as goal
 
 -- the fields so far have these versions
-abbrev pub invariant-loop-text : goal.invariant-loop-text
-invariant-loop-text l = AllParse (take (length l.yielded) (fields l.texts)) l.versions.items
+abbrev pub invariant-fields : goal.invariant-fields
+invariant-fields l = IsUtf8 l.rest × ((done : List (List ℕ)) × (fields l.initial.rest ≡ done ++ fields l.rest) × AllParse done l.versions.items)
+
+abbrev pub decreases-fields : goal.decreases-fields
+decreases-fields l = length (fields l.rest)
