@@ -365,7 +365,7 @@ fn after_bars(text: &[u8]) -> Option<&[u8]>
 /// Adds the intervals of a common text, one for each part, to an empty list. It returns `false`
 /// exactly where the text is not a common one; then the list may hold some of them.
 #[inline(always)]
-pub(crate) fn read_into(
+pub(crate) fn read_common(
     alloc: Global,
     text: &[u8],
     found: &mut Intervals<Version>,
@@ -408,7 +408,7 @@ pub fn range_fast(alloc: Global, text: &str) -> Result<Option<Range>, AllocError
     ensures none { IfOk result (λ found. IfNone found (IsUncommon MAX_SAFE_INTEGER text.now)) }
 {
     let mut found = SmallVec::new(alloc);
-    if !read_into(alloc, text.as_bytes(), &mut found)? {
+    if !read_common(alloc, text.as_bytes(), &mut found)? {
         return Ok(None);
     }
     Ok(Range::from_intervals(found))
