@@ -49,8 +49,7 @@ fn add_part(alloc: Global, part: &str, found: &mut Intervals<Version>) -> Result
         found.new.items ≡ found.old.items ++ part_denotes MAX_SAFE_INTEGER part.now) }
 {
     if part.is_empty() {
-        found.push(Interval::default())?;
-        return Ok(());
+        return intervals::push(Interval::default(), found);
     }
     intervals::read_part(alloc, part.as_bytes(), found)
 }
@@ -91,8 +90,7 @@ pub(crate) fn read_any(
 {
     let (part, rest) = bars::next_part(text);
     if part.is_empty() && are_blank(rest) {
-        found.push(Interval::default())?;
-        return Ok(());
+        return intervals::push(Interval::default(), found);
     }
     add_parts(alloc, part, rest, found)
 }
