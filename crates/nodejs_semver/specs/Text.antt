@@ -7,5 +7,4 @@ pub mod Runs
 pub mod Meaning
 pub mod Denotes
 pub mod WrittenSet
-pub mod Laws
 pub mod Common

@@ -1,6 +1,6 @@
 -- What the fast reader finds is the parts of a common text, and it finds each of them.
 use Rattle.std.proofs.Common.{◌≡◌, ◌⊎◌, ℕ, zero, suc, ◌<◌, ◌≤◌, List, [], ◌∷◌, ◌++◌, length, drop, refl, sym, ap, ◌∙◌, arith, Bool, true, false, Some, None, inl, inr, subst, append-nil, append_assoc, length-append}
-use Rattle.std.specs.Prelude.{Option, ◌&&◌, ◌||◌, ◌==◌}
+use Rattle.std.specs.Prelude.{◌↔◌, Option, ◌&&◌, ◌||◌, ◌==◌}
 use Rattle.std.specs.Char.{is_ascii_digit}
 use Rattle.std.proofs.lemmas.Bool.{cases_Bool, eqb-true}
 use Rattle.std.proofs.lemmas.Bool.Decides.{nat_tests}
@@ -9,8 +9,8 @@ use Rattle.semver_core.specs.Cuts.{Span, meet}
 use Rattle.semver_core.specs.Values.Order.{precedence}
 use Rattle.semver_core.specs.Lists.{is_empty}
 use Rattle.semver_core.specs.Values.Versions.{VersionValue}
-use Rattle.nodejs_semver.specs.Internal.CommonFronts.{after_bars, after_gap, bare_front, begins_dash, begins_second, caret_front, common_within, comparison_front, comparisons_front, is_sign, onto, part_front, part_read, partials_front, tilde_front, word_read}
-use Rattle.nodejs_semver.specs.Text.Common.{CommonRangesAreRead, IsBare, IsCommonPart, IsCommonRange, IsCommonWord, IsComparison, IsGap, caret_word, compare_word, comparison, hyphen_word, more_parts, one_part, one_word, plain_word, tilde_greater_word, tilde_word, two_comparisons}
+use Rattle.nodejs_semver.specs.Internal.CommonFronts.{after_bars, after_gap, bare_front, begins_dash, begins_second, caret_front, common_range, common_within, comparison_front, comparisons_front, is_sign, onto, part_front, part_read, partials_front, tilde_front, word_read}
+use Rattle.nodejs_semver.specs.Text.Common.{IsBare, IsCommonPart, IsCommonRange, IsCommonWord, IsComparison, IsGap, caret_word, compare_word, comparison, hyphen_word, more_parts, one_part, one_word, plain_word, tilde_greater_word, tilde_word, two_comparisons}
 use Rattle.nodejs_semver.specs.Internal.Fronts.{Front, begins_byte}
 use Rattle.nodejs_semver.specs.Text.PartialText.{Partial, is_wildcard}
 use Rattle.semver_core.specs.Internal.Reading.{◌>>?◌}
@@ -596,5 +596,5 @@ within-exact limit (suc n) text list l h =
     some_list : List (Span VersionValue) → Option (List (Span VersionValue))
     some_list x = Some x
 
-pub common_ranges_are_read : CommonRangesAreRead
+pub common_ranges_are_read : (limit : ℕ) (text : List ℕ) (list : List (Span VersionValue)) → (common_range limit text ≡ Some list) ↔ IsCommonRange limit text list
 common_ranges_are_read limit text list = (within-sound limit (length text) text list, within-exact limit (length text) text list (omega arith))

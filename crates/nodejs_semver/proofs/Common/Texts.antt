@@ -14,7 +14,7 @@ use Rattle.semver_core.specs.Internal.Spaces.{after_spaces, drop_end_spaces, dro
 use Rattle.semver_core.specs.Lists.{is_empty}
 use Rattle.semver_core.specs.Values.Versions.{VersionValue}
 use Rattle.semver_core.proofs.Text.Spaces.{drop_spaces-none}
-use Rattle.nodejs_semver.specs.Text.Common.{CommonRangesAreDenoted, IsBare, IsCommonPart, IsCommonRange, IsCommonWord, IsComparison, IsGap, caret_word, compare_word, comparison, hyphen_word, more_parts, one_part, one_word, plain_word, tilde_greater_word, tilde_word, two_comparisons}
+use Rattle.nodejs_semver.specs.Text.Common.{IsBare, IsCommonPart, IsCommonRange, IsCommonWord, IsComparison, IsGap, caret_word, compare_word, comparison, hyphen_word, more_parts, one_part, one_word, plain_word, tilde_greater_word, tilde_word, two_comparisons}
 use Rattle.nodejs_semver.specs.Text.Denotes.{denotes, part_denotes, part_intervals}
 use Rattle.nodejs_semver.specs.Text.PartialText.{Partial, is_wildcard, AreComponents, IsComponent, number, one, three, two, wildcard}
 use Rattle.nodejs_semver.specs.Internal.Partials.{is_dot}
@@ -330,7 +330,8 @@ pub list-some : (limit : ℕ) (text : List ℕ) (list : List (Span VersionValue)
 list-some limit text list (one_part part s is) = omega arith
 list-some limit text list (more_parts part before after rest s others is b a more) = omega arith
 
-pub common_ranges_are_denoted : CommonRangesAreDenoted
+pub common_ranges_are_denoted : (limit : ℕ) (text : List ℕ) (list : List (Span VersionValue)) → IsCommonRange limit text list
+    → (denotes limit text ≡ list) × (0 < length list) × (list_all is_empty (parts text) ≡ false)
 common_ranges_are_denoted limit text list h =
     let d = denoted limit text list [] (inl refl) h in
     (filled-case d.filled d.intervals, list-some limit text list h, d.filled)

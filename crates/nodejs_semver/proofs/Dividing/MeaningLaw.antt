@@ -1,6 +1,6 @@
 -- What a text denotes is its one meaning.
 use Rattle.std.proofs.Common.{◌≡◌, ℕ, zero, suc, ◌<◌, ◌≤◌, List, [], ◌∷◌, ◌++◌, length, get_or, refl, sym, ap, ◌∙◌, arith, true, false, inl, inr, subst, append-nil, length-append}
-use Rattle.std.specs.Prelude.{IsUtf8, encode_utf8_all, map, filter_map, flat_map, if◌then◌else◌}
+use Rattle.std.specs.Prelude.{◌↔◌, IsUtf8, encode_utf8_all, map, filter_map, flat_map, if◌then◌else◌}
 use Rattle.std.specs.Char.{encode_utf8}
 use Rattle.std.specs.List.{AllByRecursion, list_all}
 use Rattle.std.proofs.lemmas.Bool.{cases_Bool}
@@ -13,12 +13,11 @@ use Rattle.semver_core.specs.Values.Order.{precedence}
 use Rattle.semver_core.specs.Internal.Spaces.{drop_spaces, space_len, trim}
 use Rattle.semver_core.specs.Lists.{is_empty}
 use Rattle.semver_core.specs.Values.Versions.{VersionValue}
-use Rattle.semver_core.proofs.Text.Trims.{MiddleIsTrim_lem, TrimIsMiddle_lem, trim_parts}
+use Rattle.semver_core.proofs.Text.Trims.{middle_is_trim, trim_is_middle, trim_parts}
 use Rattle.nodejs_semver.specs.Text.Denotes.{denotes, part_bounds, part_denotes, part_intervals}
 use Rattle.nodejs_semver.specs.Internal.Parts.{cut_bars}
 use Rattle.nodejs_semver.specs.Text.Bars.{join_bars}
 use Rattle.nodejs_semver.specs.Text.Meaning.{AreAllIntervals, AreIntervals, AreWords, Means, blank_piece, next_piece, next_word, no_piece, no_word}
-use Rattle.nodejs_semver.specs.Text.Laws.{OneMeaning}
 use Rattle.nodejs_semver.specs.Ranges.View.{any_version}
 use Rattle.nodejs_semver.specs.Text.Runs.{Run, interval_of}
 use Rattle.nodejs_semver.specs.Internal.RunsFrom.{runs_of}
@@ -68,7 +67,7 @@ words-read limit (suc n) (b ∷ rest) u h l =
 piece-means : (limit : ℕ) (piece : List ℕ) → IsUtf8 piece → AreIntervals limit piece (part_intervals limit (trim piece))
 piece-means limit piece u =
     let part = trim piece in
-    let is = TrimIsMiddle_lem piece u in
+    let is = trim_is_middle piece u in
     record {
       part = part;
       words = words limit part;
@@ -85,7 +84,7 @@ piece-once limit piece list u h =
     ∙ ap (λ (rs : List (Run VersionValue)). map (interval_of precedence) rs) (runs_are (filter_map (table limit) h.words) h.runs h.divided)
     ∙ ap (λ (ws : List Word). map (interval_of precedence) (runs_of precedence (filter_map (table limit) ws)))
     (words-once limit h.part h.words (trim-utf8 piece h.part u h.trimmed) (trim-starts piece h.part h.trimmed) h.read)
-    ∙ ap (λ (t : List ℕ). part_intervals limit t) (MiddleIsTrim_lem piece h.part h.trimmed)
+    ∙ ap (λ (t : List ℕ). part_intervals limit t) (middle_is_trim piece h.part h.trimmed)
 
 -- ---- the pieces of a text are UTF-8
 
@@ -128,7 +127,7 @@ blank-empty piece h =
 
 empty-blank : (piece : List ℕ) → IsUtf8 piece → is_empty (trim piece) ≡ true → IsBlank piece
 empty-blank piece u h =
-    let is = TrimIsMiddle_lem piece u in
+    let is = trim_is_middle piece u in
     let none : is.characters ≡ [] = no_characters is.characters (sym is.middle_is ∙ empty-is (trim piece) h) in
     record {
       characters = is.before ++ is.after;
@@ -216,5 +215,5 @@ one-meaning limit text list u h =
     clash : (pieces : List (List ℕ)) → list_all is_empty (map trim pieces) ≡ false → list_all is_empty (map trim pieces) ≡ true → ⊥
     clash pieces a b = cc (sym a ∙ b)
 
-pub one_meaning : OneMeaning
+pub one_meaning : (limit : ℕ) (text : List ℕ) (list : List (Span VersionValue)) → IsUtf8 text → (denotes limit text ≡ list) ↔ Means limit text list
 one_meaning limit text list u = (means limit text list u, one-meaning limit text list u)

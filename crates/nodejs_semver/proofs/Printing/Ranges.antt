@@ -1,5 +1,5 @@
 -- For proofs. Printed ranges come back.
-use Rattle.std.proofs.Common.{◌≡◌, ◌<◌, ◌^◌, ℕ, true, List, [], ◌∷◌, ◌++◌, map, refl, ap, ap₂, ◌∙◌, arith, inl, inr}
+use Rattle.std.proofs.Common.{◌≡◌, ◌<◌, ◌^◌, ℕ, true, List, [], ◌∷◌, ◌++◌, length, map, refl, ap, ap₂, ◌∙◌, arith, inl, inr}
 use Rattle.std.specs.List.{AllByRecursion, list_all}
 use Rattle.std.specs.Prelude.{◌&&◌}
 use Rattle.std.proofs.lemmas.Bool.{cases_Bool}
@@ -9,7 +9,7 @@ use Rattle.semver_core.specs.Values.Order.{precedence, version_eq}
 use Rattle.semver_core.specs.Values.Versions.{VersionValue}
 use Rattle.semver_core.specs.declared.cuts.bound.Bound.{Bound}
 use Rattle.semver_core.specs.declared.cuts.bound.Bound.TheVariants.{Unbounded, Before, After}
-use Rattle.nodejs_semver.specs.Printing.RoundTrip.{has_bound, is_printable, bounds_back, read_back, ReadsBack, ReadsEqual, RangesComeBack}
+use Rattle.nodejs_semver.specs.Printing.RoundTrip.{has_bound, is_printable, bounds_back, read_back}
 use Rattle.nodejs_semver.specs.Text.Denotes.{denotes}
 use Rattle.nodejs_semver.specs.Printing.Text.{bounds_text, range_text}
 use Rattle.nodejs_semver.specs.Ranges.View.{is_range_bound, is_range_span}
@@ -57,15 +57,14 @@ all_printable limit (s ∷ rest) h = (
   all_printable limit rest (and-right (is_printable limit s) (list_all (is_printable limit) rest) h),
 )
 
-pub reads_back : (limit : ℕ) (text : List ℕ) → limit < 2 ^ 64 → ReadsBack limit text
-reads_back limit text small [] some h e = absurd (omega arith)
-reads_back limit text small (s ∷ rest) some h e = ap (denotes limit) e ∙ denotes_back limit s rest small (all_printable limit (s ∷ rest) h)
+pub reads_back : (limit : ℕ) (text : List ℕ) (list : List (Span VersionValue)) → limit < 2 ^ 64 → 0 < length list → list_all (is_printable limit) list ≡ true
+    → text ≡ range_text list → denotes limit text ≡ map read_back list
+reads_back limit text [] small some h e = absurd (omega arith)
+reads_back limit text (s ∷ rest) small some h e = ap (denotes limit) e ∙ denotes_back limit s rest small (all_printable limit (s ∷ rest) h)
 
-pub reads_equal : (limit : ℕ) (text : List ℕ) → limit < 2 ^ 64 → ReadsEqual limit text
-reads_equal limit text small list some h e = ap (λ (l : List (Span VersionValue)). range_eq l list) (reads_back limit text small list some h e) ∙ same_back list
-
-pub ranges_come_back : (text : List ℕ) → RangesComeBack text
-ranges_come_back text = record { equal = λ limit small. reads_equal limit text small; builds = λ limit small. reads_back limit text small }
+pub reads_equal : (limit : ℕ) (text : List ℕ) (list : List (Span VersionValue)) → limit < 2 ^ 64 → 0 < length list → list_all (is_printable limit) list ≡ true
+    → text ≡ range_text list → range_eq (denotes limit text) list ≡ true
+reads_equal limit text list small some h e = ap (λ (l : List (Span VersionValue)). range_eq l list) (reads_back limit text list small some h e) ∙ same_back list
 
 -- what is read from a printed interval prints as the same text
 again : (lower upper : Bound VersionValue) → bounds_text (bounds_back lower upper).lower (bounds_back lower upper).upper ≡ bounds_text lower upper

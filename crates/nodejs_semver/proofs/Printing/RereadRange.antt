@@ -22,24 +22,24 @@ pub record Reread (limit : ℕ) (text : List ℕ) (list : List (Span VersionValu
 
 pub reread_builds : {E : Type 0} (limit : ℕ) (r : Result (List (Span VersionValue)) E) (text : List ℕ) (list : List (Span VersionValue)) → Reread limit text list
     → IfOk r (λ again. again ≡ denotes limit text) → IfOk r (λ again. again ≡ map read_back list)
-reread_builds limit (Ok again) text list h e = e ∙ reads_back limit text h.small list h.some h.printable h.printed
+reread_builds limit (Ok again) text list h e = e ∙ reads_back limit text list h.small h.some h.printable h.printed
 reread_builds limit (Err x) text list h e = tt
 
 pub reread_equal : {E : Type 0} (limit : ℕ) (r : Result (List (Span VersionValue)) E) (text : List ℕ) (list : List (Span VersionValue)) → Reread limit text list
     → IfOk r (λ again. again ≡ denotes limit text) → IfOk r (λ again. range_eq again list ≡ true)
 reread_equal limit (Ok again) text list h e =
-    ap (λ (l : List (Span VersionValue)). range_eq l list) (e ∙ reads_back limit text h.small list h.some h.printable h.printed) ∙ same_back list
+    ap (λ (l : List (Span VersionValue)). range_eq l list) (e ∙ reads_back limit text list h.small h.some h.printable h.printed) ∙ same_back list
 reread_equal limit (Err x) text list h e = tt
 
 pub reread_text : {E : Type 0} (limit : ℕ) (r : Result (List (Span VersionValue)) E) (text : List ℕ) (list : List (Span VersionValue)) → Reread limit text list
     → IfOk r (λ again. again ≡ denotes limit text) → IfOk r (λ again. range_text again ≡ range_text list)
-reread_text limit (Ok again) text list h e = ap range_text (e ∙ reads_back limit text h.small list h.some h.printable h.printed) ∙ prints_again list
+reread_text limit (Ok again) text list h e = ap range_text (e ∙ reads_back limit text list h.small h.some h.printable h.printed) ∙ prints_again list
 reread_text limit (Err x) text list h e = tt
 
 -- the text means some interval
 not_refused : (limit : ℕ) (text : List ℕ) (list : List (Span VersionValue)) → Reread limit text list → denotes limit text ≡ [] → ⊥
 not_refused limit text [] h e = absurd (omega (arith, h.some))
-not_refused limit text (s ∷ rest) h e = cc (e, reads_back limit text h.small (s ∷ rest) h.some h.printable h.printed)
+not_refused limit text (s ∷ rest) h e = cc (e, reads_back limit text (s ∷ rest) h.small h.some h.printable h.printed)
 
 pub reread_read : {E : Type 0} (limit : ℕ) (r : Result (List (Span VersionValue)) (Failure E)) (text : List ℕ) (list : List (Span VersionValue)) → Reread limit text list
     → RefusedOnlyIf {A = List (Span VersionValue)} {E = E} r (denotes limit text ≡ []) → NeverRefused {A = List (Span VersionValue)} {E = E} r

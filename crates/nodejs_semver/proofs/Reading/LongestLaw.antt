@@ -1,6 +1,6 @@
 -- The longest partial that is computed is the longest one that is written.
 use Rattle.std.proofs.Common.{◌≡◌, ℕ, zero, suc, ◌<◌, ◌≤◌, ◌+◌, Bool, List, [], ◌∷◌, ◌++◌, length, take, drop, get_or, refl, sym, ap, ◌∙◌, arith, true, Some, inl, inr, subst, append_assoc, length-append}
-use Rattle.std.specs.Prelude.{Option, IsUtf8, ◌&&◌, nat_lt}
+use Rattle.std.specs.Prelude.{◌↔◌, Option, IsUtf8, ◌&&◌, nat_lt}
 use Rattle.std.specs.Char.{is_ascii_digit}
 use Rattle.std.specs.List.{list_all}
 use Rattle.std.proofs.lemmas.Bool.{cases_Bool}
@@ -15,7 +15,6 @@ use Rattle.semver_core.specs.Internal.Spaces.{drop_spaces}
 use Rattle.semver_core.proofs.Text.Spaces.{after_spaces-end}
 use Rattle.nodejs_semver.specs.Internal.Fronts.{partial_front}
 use Rattle.nodejs_semver.specs.Text.LongestText.{BeginsPartial, IsLongestPartial}
-use Rattle.nodejs_semver.specs.Text.Laws.{LongestPartialsAreRead}
 use Rattle.nodejs_semver.specs.Text.PartialText.{AreComponents, IsComponent, number, one, three, two, wildcard, Partial, is_wildcard}
 use Rattle.nodejs_semver.specs.Internal.Partials.{is_dot, longest_partial, partial_of, drop_v}
 use Rattle.semver_core.specs.Internal.Reading.{◌>>?◌}
@@ -190,5 +189,6 @@ rest-utf8 limit text p rest u h =
     subst (λ (t : List ℕ). IsUtf8 t) (drop_at front rest (length front) refl)
     (IsUtf8-drop (front ++ rest) (length front) whole (IsCharBoundary-from_take (front ++ rest) (length front) whole room taken))
 
-pub longest_are : LongestPartialsAreRead
+pub longest_are : (limit : ℕ) (text : List ℕ) (p : Partial) (rest : List ℕ) → IsUtf8 text
+    → (longest_partial limit text ≡ Some (p, rest)) ↔ IsLongestPartial limit text p rest
 longest_are limit text p rest u = (longest-is limit text p rest u, longest-of limit text p rest u)

@@ -1,6 +1,6 @@
 -- A text is a partial exactly where it is divided like one.
 use Rattle.std.proofs.Common.{◌≡◌, ◌⊎◌, ℕ, ◌<◌, List, [], ◌∷◌, ◌++◌, length, drop, refl, sym, ap, ◌∙◌, arith, true, false, Some, None, inl, inr, subst, append-nil, append_assoc}
-use Rattle.std.specs.Prelude.{◌==◌, Option, IsUtf8, encode_utf8_all}
+use Rattle.std.specs.Prelude.{◌==◌, ◌↔◌, Option, IsUtf8, encode_utf8_all}
 use Rattle.std.specs.Char.{encode_utf8}
 use Rattle.std.specs.List.{list_all}
 use Rattle.std.proofs.lemmas.Bool.{cases_Bool, eqb-true}
@@ -14,7 +14,6 @@ use Rattle.semver_core.proofs.Text.SpaceLaw.{space_len-white}
 use Rattle.semver_core.proofs.Text.Spaces.{drop_spaces-none}
 use Rattle.semver_core.proofs.Text.Trims.{drop_spaces-blank, fronted}
 use Rattle.nodejs_semver.specs.Text.PartialText.{AreComponents, IsComponent, IsPartial, number, one, three, two, wildcard, Partial, is_wildcard}
-use Rattle.nodejs_semver.specs.Text.Laws.{PartialsAreWritten}
 use Rattle.nodejs_semver.specs.Internal.Partials.{after_dot, before_dot, before_plus, build_of, component_of, components_of, drop_v, from_plus, identifiers_of, is_dot, is_plus, minor_after, number_of, partial_of, patch_after, pre_release_of, qualifier_of, third, wildcard_of}
 use Rattle.nodejs_semver.proofs.Reading.IdentifierLists.{and-left, is_list, is_list-carries_on}
 use Rattle.nodejs_semver.proofs.Reading.NumberLaw.{number-is, number-of}
@@ -308,5 +307,5 @@ partial-is limit text p u h =
       components_are = components-are limit (drop_spaces (drop_v text)) p h;
     }
 
-pub partials_are : PartialsAreWritten
+pub partials_are : (limit : ℕ) (text : List ℕ) (p : Partial) → IsUtf8 text → (partial_of limit text ≡ Some p) ↔ IsPartial limit text p
 partials_are limit text p u = (partial-is limit text p u, partial-of limit text p)

@@ -1,6 +1,6 @@
 -- The word that is computed is the one that is written.
 use Rattle.std.proofs.Common.{◌≡◌, ◌⊎◌, ℕ, ◌<◌, ◌≤◌, Bool, List, [], ◌∷◌, ◌++◌, length, drop, get_or, refl, sym, ap, ◌∙◌, arith, true, false, Some, None, inl, inr, subst, append_assoc, length-append}
-use Rattle.std.specs.Prelude.{Option, IsUtf8, encode_utf8_all, ◌==◌, nat_lt, IsCharBoundary}
+use Rattle.std.specs.Prelude.{◌↔◌, Option, IsUtf8, encode_utf8_all, ◌==◌, nat_lt, IsCharBoundary}
 use Rattle.std.specs.Char.{encode_utf8, is_ascii_digit}
 use Rattle.std.proofs.lemmas.Bool.{cases_Bool, cases_lt, eqb-true, lt-ltb}
 use Rattle.std.proofs.lemmas.Bool.Decides.{nat_tests}
@@ -16,7 +16,6 @@ use Rattle.nodejs_semver.specs.Text.PartialText.{Partial, is_wildcard}
 use Rattle.nodejs_semver.specs.Internal.Partials.{longest_partial, or_else, number_of}
 use Rattle.semver_core.specs.Internal.Reading.{◌>>?◌}
 use Rattle.nodejs_semver.specs.Text.WordText.{IsBehind, IsBoundary, IsFirstBoundary, IsForm, IsHyphen, IsSign, IsWhole, IsWordAt, SkipsBlank, above_sign, at_least_sign, at_most_sign, below_sign, caret_form, compare_form, equal_sign, formed, hyphen_form, no_form, plain_form, tilde_form, tilde_greater_form, Comparator, Word, above, at_least, at_most, below, caret, compare, equal, hyphen, malformed, plain, tilde}
-use Rattle.nodejs_semver.specs.Text.Laws.{WordsAreRead}
 use Rattle.nodejs_semver.specs.Internal.Words.{Reading, after_byte, after_some_space, at_boundary, caret_at, compare_at, comparator_at, form_at, from_boundary, hyphen_at, hyphen_behind, is_boundary, or_equal, or_malformed, plain_at, signed, tilde_at, tilde_sign, word_at}
 use Rattle.nodejs_semver.proofs.Reading.Boundaries.{from_boundary-nil, from_boundary-stop}
 use Rattle.nodejs_semver.proofs.Reading.Longest.{longest_is_front, option-cases}
@@ -578,5 +577,5 @@ trim-utf8 text middle u h =
     let taken : IsUtf8 front = subst (λ (t : List ℕ). IsUtf8 t) (take_at front back (length front) refl) (IsUtf8-take (front ++ back) (length front) v cut) in
     subst (λ (t : List ℕ). IsUtf8 t) (sym h.middle_is) taken
 
-pub words_are : WordsAreRead
+pub words_are : (limit : ℕ) (text : List ℕ) (word : Word) (rest : List ℕ) → IsUtf8 text → (word_at limit text ≡ (word, rest)) ↔ IsWordAt limit text word rest
 words_are limit text word rest u = (word-is limit text word rest u, word-of limit text word rest u)

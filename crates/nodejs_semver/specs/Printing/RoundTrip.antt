@@ -1,15 +1,11 @@
 -- Statement: which ranges come back from their printed text, and what is read from it.
-use Rattle.std.specs.Prelude.{ℕ, ◌≡◌, ◌<◌, ◌^◌, ◌&&◌, Bool, true, false, List, map, length, if◌then◌else◌}
-use Rattle.std.specs.List.{list_all}
+use Rattle.std.specs.Prelude.{ℕ, ◌&&◌, Bool, true, false, if◌then◌else◌}
 use Rattle.semver_core.specs.Cuts.{Span}
 use Rattle.semver_core.specs.Values.Versions.{VersionValue}
 use Rattle.semver_core.specs.declared.cuts.bound.Bound.{Bound}
 use Rattle.semver_core.specs.declared.cuts.bound.Bound.TheVariants.{Unbounded, Before, After}
-use Rattle.nodejs_semver.specs.Text.Denotes.{denotes}
-use Rattle.nodejs_semver.specs.Printing.Text.{range_text}
 use Rattle.semver_core.specs.Values.Order.{version_eq}
 use Rattle.nodejs_semver.specs.Ranges.View.{is_range_span}
-use Rattle.nodejs_semver.specs.Ranges.Equality.{range_eq}
 
 -- the interval is not the one without bounds, which prints `*`
 abbrev pub has_bound : Bound VersionValue → Bound VersionValue → Bool
@@ -28,18 +24,3 @@ bounds_back lower upper = record { lower = lower; upper = upper }
 
 abbrev pub read_back : Span VersionValue → Span VersionValue
 read_back s = bounds_back s.lower s.upper
-
--- what a text reads as that is printed of one such interval or more, builds included
-abbrev pub ReadsBack : ℕ → List ℕ → Type 0
-ReadsBack limit text = (list : List (Span VersionValue)) → 0 < length list → list_all (is_printable limit) list ≡ true → text ≡ range_text list
-    → denotes limit text ≡ map read_back list
-
--- such a text reads as an equal range
-abbrev pub ReadsEqual : ℕ → List ℕ → Type 0
-ReadsEqual limit text = (list : List (Span VersionValue)) → 0 < length list → list_all (is_printable limit) list ≡ true → text ≡ range_text list
-    → range_eq (denotes limit text) list ≡ true
-
--- printed ranges come back, whatever the limit on numbers is
-pub record RangesComeBack (text : List ℕ) : Type 0 where
-  pub equal : (limit : ℕ) → limit < 2 ^ 64 → ReadsEqual limit text
-  pub builds : (limit : ℕ) → limit < 2 ^ 64 → ReadsBack limit text

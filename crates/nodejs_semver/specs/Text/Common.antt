@@ -1,15 +1,10 @@
 -- Statement. The common range texts, which the fast reader reads, and the intervals that each of them means. Every piece of such a
 -- text is named as a whole.
-use Rattle.std.specs.Prelude.{◌≡◌, ◌⊎◌, ◌↔◌, ◌<◌, ℕ, true, false, List, [], ◌∷◌, ◌++◌, length, Some}
-use Rattle.std.specs.List.{list_all}
+use Rattle.std.specs.Prelude.{◌≡◌, ◌⊎◌, ℕ, true, false, List, [], ◌∷◌, ◌++◌, Some}
 use Rattle.semver_core.specs.Cuts.{Span, meet}
 use Rattle.semver_core.specs.Values.Order.{precedence}
-use Rattle.semver_core.specs.Lists.{is_empty}
 use Rattle.semver_core.specs.Values.Versions.{VersionValue}
-use Rattle.nodejs_semver.specs.Internal.CommonFronts.{common_range}
-use Rattle.nodejs_semver.specs.Text.Denotes.{denotes}
 use Rattle.nodejs_semver.specs.Text.PartialText.{Partial, AreComponents}
-use Rattle.nodejs_semver.specs.Internal.Parts.{parts}
 use Rattle.nodejs_semver.specs.Text.Table.{table}
 use Rattle.nodejs_semver.specs.Text.WordText.{Comparator, Word, caret, compare, hyphen, plain, tilde, IsSign}
 
@@ -54,12 +49,3 @@ pub data IsCommonRange (limit : ℕ) : List ℕ → List (Span VersionValue) →
 -- the text is no common one
 abbrev pub IsUncommon : ℕ → List ℕ → Type 0
 IsUncommon limit text = (list : List (Span VersionValue)) → IsCommonRange limit text list → ⊥
-
--- the common texts are computed
-abbrev pub CommonRangesAreRead : Type 0
-CommonRangesAreRead = (limit : ℕ) (text : List ℕ) (list : List (Span VersionValue)) → (common_range limit text ≡ Some list) ↔ IsCommonRange limit text list
-
--- a common text denotes these intervals, of which there is one or more, and not all of its parts are empty
-abbrev pub CommonRangesAreDenoted : Type 0
-CommonRangesAreDenoted = (limit : ℕ) (text : List ℕ) (list : List (Span VersionValue)) → IsCommonRange limit text list
-    → (denotes limit text ≡ list) × (0 < length list) × (list_all is_empty (parts text) ≡ false)

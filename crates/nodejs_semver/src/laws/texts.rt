@@ -1,9 +1,28 @@
 // What is said of range texts.
 
-ghost use Rattle.nodejs_semver.specs.Text.Laws.{LongestPartialsAreRead, PartialsAreWritten, BarsDivide, BarsDivideOnce, IntervalsHoldWritten, NumbersAreWritten, RunsDivide, RunsDivideOnce, OneMeaning, WordsAreRead};
-ghost use Rattle.std.specs.Prelude.{◌≡◌, IfNone, IfOk, IfSome, Some};
-ghost use Rattle.nodejs_semver.specs.Text.Common.{CommonRangesAreDenoted, CommonRangesAreRead, IsUncommon};
+ghost use Rattle.std.specs.Prelude.{◌≡◌, ◌↔◌, ◌<◌, ℕ, false, IfNone, IfOk, IfSome, IsUtf8, List, Some, length};
+ghost use Rattle.std.specs.List.{list_all};
+ghost use Rattle.semver_core.specs.Cuts.{Span};
+ghost use Rattle.semver_core.specs.Lists.{is_empty};
+ghost use Rattle.semver_core.specs.Text.Numbers.{IsNumber};
+ghost use Rattle.semver_core.specs.Values.Order.{precedence};
+ghost use Rattle.semver_core.specs.Values.Versions.{VersionValue};
 ghost use Rattle.semver_core.specs.declared.TheConstants.{MAX_SAFE_INTEGER};
+ghost use Rattle.nodejs_semver.specs.Internal.CommonFronts.{common_range};
+ghost use Rattle.nodejs_semver.specs.Internal.Partials.{longest_partial, number_of, partial_of};
+ghost use Rattle.nodejs_semver.specs.Internal.Parts.{cut_bars, parts};
+ghost use Rattle.nodejs_semver.specs.Internal.RunsFrom.{runs_of};
+ghost use Rattle.nodejs_semver.specs.Internal.Words.{word_at};
+ghost use Rattle.nodejs_semver.specs.Ranges.Algebra.{list_holds};
+ghost use Rattle.nodejs_semver.specs.Text.Bars.{IsCutAtBars};
+ghost use Rattle.nodejs_semver.specs.Text.Common.{IsCommonRange, IsUncommon};
+ghost use Rattle.nodejs_semver.specs.Text.Denotes.{denotes, part_bounds};
+ghost use Rattle.nodejs_semver.specs.Text.LongestText.{IsLongestPartial};
+ghost use Rattle.nodejs_semver.specs.Text.Meaning.{Means};
+ghost use Rattle.nodejs_semver.specs.Text.PartialText.{IsPartial, Partial};
+ghost use Rattle.nodejs_semver.specs.Text.Runs.{AreRuns, Run};
+ghost use Rattle.nodejs_semver.specs.Text.WordText.{IsWordAt, Word};
+ghost use Rattle.nodejs_semver.specs.Text.WrittenSet.{writes};
 
 use crate::Range;
 use crate::readers::{range_fast, range_loose};
@@ -12,61 +31,74 @@ use std::alloc::{AllocError, Global};
 /// A range text has one division at its bars: pieces whose joining by `||` is the text, of which
 /// none contains `||` and only the last may end in `|`. So `1|||2` has the pieces `1` and `|2`.
 pub fn parts()
-    ensures divided { BarsDivide }
-    ensures once { BarsDivideOnce }
+    ensures divided { (text : List ℕ) → IsCutAtBars text (cut_bars false text) }
+    ensures once { (text : List ℕ) (pieces : List (List ℕ)) → IsCutAtBars text pieces
+        → pieces ≡ cut_bars false text }
 {}
 
 /// The bounds of a part's words have one division into runs: consecutive and not empty, each with
 /// its lower cut below its upper cut, and none that keeps that with the first word of the next one.
 /// So `>2 <1` has two runs of one word.
 pub fn runs()
-    ensures divided { RunsDivide }
-    ensures once { RunsDivideOnce }
+    ensures divided { (limit : ℕ) (part : List ℕ)
+        → AreRuns precedence (part_bounds limit part) (runs_of precedence (part_bounds limit part)) }
+    ensures once { (bounds : List (Span VersionValue)) (runs : List (Run VersionValue))
+        → AreRuns precedence bounds runs → runs ≡ runs_of precedence bounds }
 {}
 
 /// The number of a whole text is the decimal value of its digits, leading zeros allowed, up to the
 /// limit.
 pub fn numbers()
-    ensures { NumbersAreWritten }
+    ensures { (limit : ℕ) (text : List ℕ) (n : ℕ)
+        → (number_of limit text ≡ Some n) ↔ IsNumber limit text n }
 {}
 
 /// A text is a partial where it is a `v` or nothing, whitespace or none and one to three components
 /// joined by dots, with a pre-release and a build behind the third, as versions have them. The
 /// numbers have the limit as a parameter.
 pub fn partials()
-    ensures { PartialsAreWritten }
+    ensures { (limit : ℕ) (text : List ℕ) (p : Partial) → IsUtf8 text
+        → (partial_of limit text ≡ Some p) ↔ IsPartial limit text p }
 {}
 
 /// At the front of a text the longest partial is read: one that cuts no run of digits, of which
 /// none at the front is longer.
 pub fn longest_partials()
-    ensures { LongestPartialsAreRead }
+    ensures { (limit : ℕ) (text : List ℕ) (p : Partial) (rest : List ℕ) → IsUtf8 text
+        → (longest_partial limit text ≡ Some (p, rest)) ↔ IsLongestPartial limit text p rest }
 {}
 
 /// The word at the front of a text is one of the forms, or a malformed word where none of them
 /// stands there.
 pub fn words_at()
-    ensures { WordsAreRead }
+    ensures { (limit : ℕ) (text : List ℕ) (word : Word) (rest : List ℕ) → IsUtf8 text
+        → (word_at limit text ≡ (word, rest)) ↔ IsWordAt limit text word rest }
 {}
 
 /// With pre-releases included, the intervals of a range text hold exactly the versions that the
 /// text writes: those that satisfy, for some one run, all comparisons of its words.
 pub fn intervals_hold_what_is_written()
-    ensures { IntervalsHoldWritten }
+    ensures { (limit : ℕ) (text : List ℕ) (v : VersionValue)
+        → list_holds precedence (denotes limit text) v ≡ writes limit text v }
 {}
 
 /// A range text has one meaning: it is cut at its bars, each piece is trimmed and read as words,
 /// and the bounds of these are divided into runs, whose intervals stand one after another. A text
 /// of whitespace and bars alone means every version.
 pub fn one_meaning()
-    ensures { OneMeaning }
+    ensures { (limit : ℕ) (text : List ℕ) (list : List (Span VersionValue)) → IsUtf8 text
+        → (denotes limit text ≡ list) ↔ Means limit text list }
 {}
 
 /// A common range text has a range: it denotes its intervals, of which there is one or more, and
 /// some part of it is not empty. The common texts and their intervals are computed.
 pub fn common_ranges()
-    ensures denoted { CommonRangesAreDenoted }
-    ensures read { CommonRangesAreRead }
+    ensures denoted { (limit : ℕ) (text : List ℕ) (list : List (Span VersionValue))
+        → IsCommonRange limit text list
+        → (denotes limit text ≡ list) × (0 < length list)
+        × (list_all is_empty (parts text) ≡ false) }
+    ensures read { (limit : ℕ) (text : List ℕ) (list : List (Span VersionValue))
+        → (common_range limit text ≡ Some list) ↔ IsCommonRange limit text list }
 {}
 
 /// On a common text both readers return the same range; on another the fast one returns `None`.

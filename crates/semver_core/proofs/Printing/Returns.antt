@@ -17,7 +17,7 @@ use Rattle.semver_core.specs.Text.Numbers.{IsNumber}
 use Rattle.semver_core.specs.Values.Versions.{VersionValue}
 use Rattle.semver_core.specs.Text.VersionText.{Reads, IsPreRelease, IsBuild, no_mark, dashed, no_pre_release, plus, no_build, begins_pre_release}
 use Rattle.semver_core.specs.Printing.Text.{id_text, marked_list, version_text}
-use Rattle.semver_core.specs.Printing.RoundTrip.{is_u64_text, is_normal, is_readable, PrintedBack, VersionsComeBack}
+use Rattle.semver_core.specs.Printing.RoundTrip.{is_u64_text, is_normal, is_readable}
 use Rattle.semver_core.specs.Internal.Readable.{IsReadable, readable}
 use Rattle.semver_core.specs.declared.TheConstants.{MAX_LENGTH}
 use Rattle.semver_core.specs.Text.Parsing.{Parses}
@@ -186,21 +186,20 @@ version_only limit v w max u h r =
     some_inside w v (sym (loose_at limit (version_text v) 0 w front r) ∙ version_found limit v max h)
 
 -- what comes back from a printed version
-pub printed_back : (limit : ℕ) (text : List ℕ) → limit < 2 ^ 64 → IsUtf8 text → PrintedBack limit text
-printed_back limit text max u v e h =
-    let same : IsUtf8 (version_text v) = subst (λ (t : List ℕ). IsUtf8 t) e u in (
-      subst (λ (t : List ℕ). Reads limit t v) (sym e) (version_back limit v max (readable limit v h)),
-      λ w r. version_only limit v w max same (readable limit v h) (subst (λ (t : List ℕ). Reads limit t w) e r),
-    )
+pub printed_back : (limit : ℕ) (text : List ℕ) (v : VersionValue) → limit < 2 ^ 64 → text ≡ version_text v → is_readable limit v ≡ true → Reads limit text v
+printed_back limit text v max e h = subst (λ (t : List ℕ). Reads limit t v) (sym e) (version_back limit v max (readable limit v h))
 
-pub versions_back : (text : List ℕ) → IsUtf8 text → VersionsComeBack text
-versions_back text u = λ limit max. printed_back limit text max u
+pub only_printed_back : (limit : ℕ) (text : List ℕ) (v w : VersionValue) → IsUtf8 text → limit < 2 ^ 64 → text ≡ version_text v → is_readable limit v ≡ true
+    → Reads limit text w → w ≡ v
+only_printed_back limit text v w u max e h r =
+    let same : IsUtf8 (version_text v) = subst (λ (t : List ℕ). IsUtf8 t) e u in
+    version_only limit v w max same (readable limit v h) (subst (λ (t : List ℕ). Reads limit t w) e r)
 
 -- what is parsed from a printed version is that version
 pub parsed_back : (limit : ℕ) (v w : VersionValue) (text : List ℕ) → limit < 2 ^ 64 → IsUtf8 text → text ≡ version_text v → is_readable limit v ≡ true → Parses limit text w → w ≡ v
-parsed_back limit v w text max u e h p = (printed_back limit text max u v e h).1 w p.reads
+parsed_back limit v w text max u e h p = only_printed_back limit text v w u max e h p.reads
 
 -- a printed version of at most 256 bytes is parsed
 pub parses_back : (limit : ℕ) (v : VersionValue) (text : List ℕ) → limit < 2 ^ 64 → IsUtf8 text → text ≡ version_text v → length (version_text v) ≤ MAX_LENGTH → is_readable limit v ≡ true
     → Parses limit text v
-parses_back limit v text max u e short h = record { short = rw e short; reads = (printed_back limit text max u v e h).0 }
+parses_back limit v text max u e short h = record { short = rw e short; reads = printed_back limit text v max e h }

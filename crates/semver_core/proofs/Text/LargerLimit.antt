@@ -1,8 +1,8 @@
 -- For proofs. What a larger limit on numbers leaves as it is.
-use Rattle.std.proofs.Common.{◌≤◌, ℕ, List, arith}
-use Rattle.semver_core.specs.Text.VersionText.{HasOneReading}
-use Rattle.semver_core.specs.Text.Limits.{KeepsReading, KeepsVersion}
+use Rattle.std.proofs.Common.{◌≡◌, ◌≤◌, ℕ, List, arith}
+use Rattle.semver_core.specs.Text.VersionText.{HasOneReading, Reads}
 use Rattle.semver_core.specs.Text.Numbers.{IsNumber, IsWholeNumber}
+use Rattle.semver_core.specs.Values.Versions.{VersionValue}
 
 number_kept : (small large : ℕ) (digits : List ℕ) (n : ℕ) → small ≤ large → IsNumber small digits n → IsNumber large digits n
 number_kept small large digits n le h = record { some = h.some; each = h.each; value = h.value; safe = omega (arith, le, h.safe) }
@@ -10,7 +10,7 @@ number_kept small large digits n le h = record { some = h.some; each = h.each; v
 whole_kept : (small large : ℕ) (digits rest : List ℕ) (n : ℕ) → small ≤ large → IsWholeNumber small digits rest n → IsWholeNumber large digits rest n
 whole_kept small large digits rest n le h = record { number = number_kept small large digits n le h.number; ended = h.ended }
 
-pub keeps_reading : (text : List ℕ) → KeepsReading text
+pub keeps_reading : (text : List ℕ) (small large : ℕ) (v : VersionValue) → small ≤ large → Reads small text v → Reads large text v
 keeps_reading text small large v le h = record {
   mark = h.mark;
   blank = h.blank;
@@ -30,5 +30,5 @@ keeps_reading text small large v le h = record {
   build_is = h.build_is;
 }
 
-pub keeps_version : (text : List ℕ) → HasOneReading text → KeepsVersion text
+pub keeps_version : (text : List ℕ) → HasOneReading text → (small large : ℕ) (v w : VersionValue) → small ≤ large → Reads small text v → Reads large text w → w ≡ v
 keeps_version text one small large v w le h k = one large w v k (keeps_reading text small large v le h)

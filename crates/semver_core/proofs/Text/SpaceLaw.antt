@@ -8,7 +8,6 @@ use Rattle.std.proofs.lemmas.Bool.Decides.{nat_tests}
 use Rattle.std.proofs.lemmas.Str.{encode_ascii, len_utf8_ascii}
 use Rattle.semver_core.specs.Text.Characters.{is_whitespace}
 use Rattle.semver_core.specs.Internal.Spaces.{space_len, space_len_two, space_len_three, goes_on_with}
-use Rattle.semver_core.specs.Text.Whitespace.{FrontIsFirstCharacter}
 
 two_code : (c : ℕ) → 128 ≤ c → c < 2048 → ((192 + c / 64) % 32) * 64 + (128 + c % 64) % 64 ≡ c
 two_code c h l =
@@ -100,8 +99,8 @@ front_four c rest l =
     rw (wide_is_dark c l, le-ltb c 128 one, le-ltb c 2048 two, le-ltb c 65536 l)
     (four_bytes (240 + c / 262144) (128 + (c / 4096) % 64) ((128 + (c / 64) % 64) ∷ (128 + c % 64) ∷ rest) (omega arith))
 
-pub FrontIsFirstCharacter_lem : FrontIsFirstCharacter
-FrontIsFirstCharacter_lem c rest = elim (cases_lt c 128) [
+pub front_is_first_character : (c : ℕ) (rest : List ℕ) → space_len (encode_utf8 c ++ rest) ≡ (if is_whitespace c then len_utf8 c else 0)
+front_is_first_character c rest = elim (cases_lt c 128) [
   | inl one ↦ front_one c rest one
   | inr more ↦ elim (cases_lt c 2048) [
     | inl two ↦ front_two c rest more two
@@ -111,7 +110,7 @@ FrontIsFirstCharacter_lem c rest = elim (cases_lt c 128) [
 
 -- what that says of a character that is whitespace, and of one that is not
 pub space_len-white : (c : ℕ) (rest : List ℕ) → is_whitespace c ≡ true → space_len (encode_utf8 c ++ rest) ≡ len_utf8 c
-space_len-white c rest h = FrontIsFirstCharacter_lem c rest ∙ ap (λ b. if b then len_utf8 c else 0) h
+space_len-white c rest h = front_is_first_character c rest ∙ ap (λ b. if b then len_utf8 c else 0) h
 
 pub space_len-dark : (c : ℕ) (rest : List ℕ) → is_whitespace c ≡ false → space_len (encode_utf8 c ++ rest) ≡ 0
-space_len-dark c rest h = FrontIsFirstCharacter_lem c rest ∙ ap (λ b. if b then len_utf8 c else 0) h
+space_len-dark c rest h = front_is_first_character c rest ∙ ap (λ b. if b then len_utf8 c else 0) h

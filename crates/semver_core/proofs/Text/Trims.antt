@@ -1,6 +1,6 @@
 -- Serves proofs. The text without the whitespace round it, by bytes and by characters.
 use Rattle.std.proofs.Common.{◌≡◌, ℕ, ◌<◌, ◌≤◌, ◌-◌, ◌+◌, ◌/◌, ◌%◌, List, [], ◌∷◌, ◌++◌, length, get_or, take, drop, refl, sym, ap, ◌∙◌, subst, arith, true, false, inl, inr, append_assoc, length-append}
-use Rattle.std.specs.Prelude.{encode_utf8_all, IsUtf8, reverse}
+use Rattle.std.specs.Prelude.{encode_utf8_all, IsCharBoundary, IsUtf8, reverse}
 use Rattle.std.specs.Char.{encode_utf8, len_utf8}
 use Rattle.std.specs.List.{list_all}
 use Rattle.std.proofs.Common.{append-nil}
@@ -12,7 +12,6 @@ use Rattle.std.proofs.lemmas.Str.{IsUtf8-drop, IsUtf8-take, encode_ascii, encode
 use Rattle.semver_core.specs.Text.Characters.{is_whitespace, begins, IsTrim, BeginsBlank, IsAfterBlank}
 use Rattle.semver_core.specs.Internal.Spaces.{space_len, after_spaces, drop_spaces, drop_end_spaces, trim}
 use Rattle.semver_core.specs.Lists.{is_empty}
-use Rattle.semver_core.specs.Text.Whitespace.{MiddleIsTrim, TrimIsMiddle, AfterBlankDropsSpaces, OneAfterBlank, SomeAfterBlank}
 use Rattle.semver_core.proofs.Text.Blanks.{Passed, passed_none, passed_more, passed_stop, passed_end}
 use Rattle.semver_core.proofs.Text.Spaces.{drop_spaces-more, drop_spaces-none}
 use Rattle.semver_core.proofs.Text.SpaceLaw.{space_len-white, space_len-dark, space_len-inside}
@@ -164,8 +163,8 @@ trim_parts before characters after front back begin end =
     go [] begin end = ap drop_end_spaces (ap drop_spaces (sym (append-nil (encode_utf8_all after))) ∙ drop_spaces-blank after [] back ∙ drop_spaces-nil) ∙ drop_end-all [] drop_spaces-nil
     go (c ∷ cs) begin end = ap drop_end_spaces (drop_spaces-dark c (encode_utf8_all (cs ++ after)) begin) ∙ drop_end-dark (c ∷ cs) after end back
 
-pub MiddleIsTrim_lem : MiddleIsTrim
-MiddleIsTrim_lem text middle t =
+pub middle_is_trim : (text middle : List ℕ) → IsTrim text middle → middle ≡ trim text
+middle_is_trim text middle t =
     t.middle_is
     ∙ sym (trim_parts t.before t.characters t.after t.blank_before t.blank_after t.begins_dark t.ends_dark)
     ∙ ap trim (sym t.divided)
@@ -238,11 +237,11 @@ IsTrim_exists cs =
       },
     )
 
-pub TrimIsMiddle_lem : TrimIsMiddle
-TrimIsMiddle_lem text utf8 =
+pub trim_is_middle : (text : List ℕ) → IsUtf8 text → IsTrim text (trim text)
+trim_is_middle text utf8 =
     let t = IsTrim_exists utf8.0 in
     let here : IsTrim text t.0 = subst (λ (x : List ℕ). IsTrim x t.0) utf8.1.1 t.1 in
-    subst (λ (m : List ℕ). IsTrim text m) (MiddleIsTrim_lem text t.0 here) here
+    subst (λ (m : List ℕ). IsTrim text m) (middle_is_trim text t.0 here) here
 
 -- what stands behind the whitespace at a place
 
@@ -256,8 +255,8 @@ dark_here text utf8 dark = go utf8.0 utf8.1.1
       | inr other ↦ ap drop_spaces (sym e) ∙ drop_spaces-dark c (encode_utf8_all cs) other ∙ e
     ]
 
-pub AfterBlankDropsSpaces_lem : AfterBlankDropsSpaces
-AfterBlankDropsSpaces_lem text at end utf8 a =
+pub after_blank_drops_spaces : (text : List ℕ) (at end : ℕ) → IsUtf8 text → IsAfterBlank text at end → drop end text ≡ drop_spaces (drop at text)
+after_blank_drops_spaces text at end utf8 a =
     let place : at + (end - at) ≡ end = omega (arith, a.after) in
     let whole = sym (take-append-drop (end - at) (drop at text)) ∙ ap (λ t. take (end - at) (drop at text) ++ t) (drop-drop (end - at) at text ∙ ap (λ n. drop n text) place) in
     sym (dark_here (drop end text) (IsUtf8-drop text end utf8 a.boundary) a.ended)
@@ -269,14 +268,14 @@ AfterBlankDropsSpaces_lem text at end utf8 a =
 pub after_blank-place : (text : List ℕ) (at end : ℕ) → IsUtf8 text → IsAfterBlank text at end → end ≡ length text - length (drop_spaces (drop at text))
 after_blank-place text at end utf8 a =
     let within : end ≤ length text = a.boundary.0 in
-    omega (arith, ap length (AfterBlankDropsSpaces_lem text at end utf8 a), length-drop end text)
+    omega (arith, ap length (after_blank_drops_spaces text at end utf8 a), length-drop end text)
 
-pub OneAfterBlank_lem : OneAfterBlank
-OneAfterBlank_lem text at end other utf8 a b = after_blank-place text at end utf8 a ∙ sym (after_blank-place text at other utf8 b)
+pub one_after_blank : (text : List ℕ) (at end other : ℕ) → IsUtf8 text → IsAfterBlank text at end → IsAfterBlank text at other → end ≡ other
+one_after_blank text at end other utf8 a b = after_blank-place text at end utf8 a ∙ sym (after_blank-place text at other utf8 b)
 
 -- there is such a place: it goes on behind each whitespace character
-pub SomeAfterBlank_lem : SomeAfterBlank
-SomeAfterBlank_lem text at utf8 b =
+pub some_after_blank : (text : List ℕ) (at : ℕ) → IsUtf8 text → IsCharBoundary text at → (end : ℕ) × IsAfterBlank text at end
+some_after_blank text at utf8 b =
     let here = IsUtf8-drop text at utf8 b in
     go here.0 at (drop at text) [] here.1.1 (passed_none text at (drop at text) b refl)
   where
@@ -326,8 +325,8 @@ drop_end-none (b ∷ text) h = absurd (omega arith)
 pub trim_in_two : (text rest middle : List ℕ) (start : ℕ) → IsUtf8 text → IsAfterBlank text 0 start → rest ≡ drop start text → middle ≡ drop_end_spaces rest
     → IsTrim text middle
 trim_in_two text rest middle start utf8 a r m =
-    let value : middle ≡ trim text = m ∙ ap drop_end_spaces (r ∙ AfterBlankDropsSpaces_lem text 0 start utf8 a) in
-    subst (λ (t : List ℕ). IsTrim text t) (sym value) (TrimIsMiddle_lem text utf8)
+    let value : middle ≡ trim text = m ∙ ap drop_end_spaces (r ∙ after_blank_drops_spaces text 0 start utf8 a) in
+    subst (λ (t : List ℕ). IsTrim text t) (sym value) (trim_is_middle text utf8)
 
 -- what stands before the last character
 

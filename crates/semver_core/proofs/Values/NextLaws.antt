@@ -5,13 +5,13 @@ use Rattle.std.specs.Ordering.{is_le}
 use Rattle.std.specs.declared.cmp.Ordering.TheVariants.{Less}
 use Rattle.std.proofs.lemmas.List.Elements.{All-append, All-cons, All-nil}
 use Rattle.semver_core.specs.Text.Identifiers.{Id, Numeric}
-use Rattle.semver_core.specs.Values.NextVersions.{FirstOfAll, NextOfPreRelease, NextOfRelease}
+use Rattle.semver_core.specs.Values.NextVersions.{IsNext}
 use Rattle.semver_core.specs.Values.Order.{pre_cmp, precedence}
 use Rattle.semver_core.specs.Internal.Successors.{Below, by_major, by_minor, by_patch, by_pre, below_cases, below_more, next_least, zero_least, empty_not_below, above_patch, above_pre, upto_major, upto_minor, upto_patch}
-use Rattle.semver_core.specs.Values.Versions.{VersionValue, IsId}
+use Rattle.semver_core.specs.Values.Versions.{VersionValue, IsId, IsVersion, release_value}
 
-pub first_of_all : FirstOfAll
-first_of_all u = upto_patch (record { major = 0; minor = 0; patch = 0; pre_release = Numeric 0 ∷ []; build = [] }) u (omega arith) (omega arith) (omega arith) (zero_least u.pre_release)
+pub first_of_all : (v : VersionValue) → is_le (precedence (record (release_value 0 0 0) { pre_release = Numeric 0 ∷ [] }) v) ≡ true
+first_of_all v = upto_patch (record (release_value 0 0 0) { pre_release = Numeric 0 ∷ [] }) v (omega arith) (omega arith) (omega arith) (zero_least v.pre_release)
 
 -- the number 0, alone or behind other identifiers
 zero_alone : All IsId (Numeric 0 ∷ [])
@@ -26,7 +26,7 @@ more_least [] ys h k = absurd (omega arith)
 more_least (x ∷ xs) [] h k = refl
 more_least (x ∷ xs) (y ∷ ys) h k = next_least (x ∷ xs) (y ∷ ys) k
 
-pub next_of_pre_release : NextOfPreRelease
+pub next_of_pre_release : (v : VersionValue) → IsVersion v → 0 < length v.pre_release → IsNext v (record v { pre_release = v.pre_release ++ Numeric 0 ∷ [] })
 next_of_pre_release v is_version some = record {
   is_version = record {
     major = is_version.major;
@@ -48,7 +48,7 @@ next_of_pre_release v is_version some = record {
     upto u (by_patch a b c) = ap is_le (above_patch next u a b c)
     upto u (by_pre a b c d) = upto_patch next u (omega arith) (omega arith) (omega arith) (more_least v.pre_release u.pre_release some d)
 
-pub next_of_release : NextOfRelease
+pub next_of_release : (v : VersionValue) → IsVersion v → v.pre_release ≡ [] → v.patch < 2 ^ 64 - 1 → IsNext v (record v { patch = v.patch + 1; pre_release = Numeric 0 ∷ [] })
 next_of_release v is_version none room = record {
   is_version = record {
     major = is_version.major;

@@ -1,11 +1,9 @@
 -- Statement: which versions come back from their printed text.
-use Rattle.std.specs.Prelude.{◌≡◌, ◌&&◌, ◌^◌, ◌<◌, not, nat_le, nat_lt, ℕ, Bool, true, List}
+use Rattle.std.specs.Prelude.{◌&&◌, ◌^◌, not, nat_le, nat_lt, ℕ, Bool, List}
 use Rattle.std.specs.Char.{is_ascii_digit}
 use Rattle.std.specs.List.{list_all}
 use Rattle.std.specs.Str.Parse.{digits_value}
-use Rattle.semver_core.specs.Text.VersionText.{Reads}
 use Rattle.semver_core.specs.Text.Identifiers.{Id, Numeric, AlphaNumeric, is_identifier}
-use Rattle.semver_core.specs.Printing.Text.{version_text}
 use Rattle.semver_core.specs.Values.Versions.{VersionValue}
 
 -- the text is digits alone of a value that fits 64 bits
@@ -22,12 +20,3 @@ abbrev pub is_readable : ℕ → VersionValue → Bool
 is_readable limit v =
     (nat_le v.major limit && (nat_le v.minor limit && nat_le v.patch limit))
     && (list_all is_normal v.pre_release && list_all is_normal v.build)
-
--- a text that is a printed version reads as that version, build included, and as no other
-abbrev pub PrintedBack : ℕ → List ℕ → Type 0
-PrintedBack limit text = (v : VersionValue) → text ≡ version_text v → is_readable limit v ≡ true
-    → Reads limit text v × ((w : VersionValue) → Reads limit text w → w ≡ v)
-
--- the same, whatever the limit on numbers is
-abbrev pub VersionsComeBack : List ℕ → Type 0
-VersionsComeBack text = (limit : ℕ) → limit < 2 ^ 64 → PrintedBack limit text

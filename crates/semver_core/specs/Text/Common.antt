@@ -14,7 +14,3 @@ pub record IsCommon (limit : ℕ) (text : List ℕ) (v : VersionValue) : Type 0 
 -- the text is not a common one
 abbrev pub IsUncommon : ℕ → List ℕ → Type 0
 IsUncommon limit text = (v : VersionValue) → IsCommon limit text v → ⊥
-
--- on a common text the loose reading is the same version
-abbrev pub ReadsAlike : List ℕ → Type 0
-ReadsAlike text = (limit : ℕ) (v w : VersionValue) → IsCommon limit text v → Reads limit text w → v ≡ w

@@ -1,9 +1,11 @@
 // Printed versions come back.
 
-ghost use Rattle.std.specs.Prelude.{◌≡◌, ◌≤◌, IfOk, length, string_bytes, true};
+ghost use Rattle.std.specs.Prelude.{◌≡◌, ◌<◌, ◌≤◌, ◌^◌, ℕ, IfOk, length, string_bytes, true};
 ghost use Rattle.semver_core.specs.Failures.{NeverRefused};
-ghost use Rattle.semver_core.specs.Printing.RoundTrip.{VersionsComeBack, is_readable};
+ghost use Rattle.semver_core.specs.Printing.RoundTrip.{is_readable};
 ghost use Rattle.semver_core.specs.Printing.Text.{id_text, version_text};
+ghost use Rattle.semver_core.specs.Text.VersionText.{Reads};
+ghost use Rattle.semver_core.specs.Values.Versions.{VersionValue};
 ghost use Rattle.semver_core.specs.Values.Views.{id_view};
 
 use crate::{Failure, Identifier, MAX_LENGTH, MAX_SAFE_INTEGER, SemverError, Version};
@@ -14,7 +16,10 @@ use std::alloc::{AllocError, Global};
 /// identifier characters that is not a number of 64 bits in digits. An `AlphaNumeric` that holds
 /// `12`, or a dot, does not come back.
 pub fn printed_versions_come_back(text: &str)
-    ensures { VersionsComeBack text.now }
+    ensures read { (limit : ℕ) (v : VersionValue) → limit < 2 ^ 64 → text.now ≡ version_text v
+        → is_readable limit v ≡ true → Reads limit text.now v }
+    ensures only { (limit : ℕ) (v w : VersionValue) → limit < 2 ^ 64 → text.now ≡ version_text v
+        → is_readable limit v ≡ true → Reads limit text.now w → w ≡ v }
 {
     let _ = text;
 }

@@ -1,11 +1,11 @@
 // The two constants, and that a text has one version at most, whatever the limit and whichever
 // reader reads it.
 
-ghost use Rattle.std.specs.Prelude.{◌≡◌, IfNone, IfOk, IfSome, Some};
-ghost use Rattle.semver_core.specs.Text.Common.{IsUncommon, ReadsAlike};
-ghost use Rattle.semver_core.specs.Text.VersionText.{HasNoVersion, HasOneReading};
+ghost use Rattle.std.specs.Prelude.{◌≡◌, ◌≤◌, ℕ, IfNone, IfOk, IfSome, Some};
+ghost use Rattle.semver_core.specs.Text.Common.{IsCommon, IsUncommon};
+ghost use Rattle.semver_core.specs.Text.VersionText.{HasNoVersion, HasOneReading, Reads};
+ghost use Rattle.semver_core.specs.Values.Versions.{VersionValue};
 ghost use Rattle.semver_core.specs.declared.TheConstants.{MAX_SAFE_INTEGER};
-ghost use Rattle.semver_core.specs.Text.Limits.{KeepsReading, KeepsVersion};
 
 use crate::readers::{front_of_numbers, version_fast, version_loose};
 use crate::{MAX_LENGTH, MAX_SAFE_INTEGER, Version};
@@ -31,15 +31,18 @@ pub fn one_reading(text: &str)
 /// limit. No such law holds of ranges: a word that is malformed under the small limit may name an
 /// interval under the large one.
 pub fn larger_limits(text: &str)
-    ensures read { KeepsReading text.now }
-    ensures same { KeepsVersion text.now }
+    ensures read { (small large : ℕ) (v : VersionValue) → small ≤ large
+        → Reads small text.now v → Reads large text.now v }
+    ensures same { (small large : ℕ) (v w : VersionValue) → small ≤ large
+        → Reads small text.now v → Reads large text.now w → w ≡ v }
 {
     one_reading(text);
 }
 
 /// Whatever the limit on numbers is, the version of a common text is the version at its front.
 pub fn common_reads_alike(text: &str)
-    ensures { ReadsAlike text.now }
+    ensures { (limit : ℕ) (v w : VersionValue)
+        → IsCommon limit text.now v → Reads limit text.now w → v ≡ w }
 {
     one_reading(text);
 }
