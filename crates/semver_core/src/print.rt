@@ -30,7 +30,6 @@ impl fmt::Display for Identifier {
 
     ghost styled_output = { λ id _. Some (id_text (id_view id)) };
 
-    #[inline(always)]
     fn fmt<W: fmt::Write>(&self, f: &mut fmt::Formatter<W>) -> fmt::Result {
         match self {
             Identifier::Numeric(number) => write_number(*number, f),
