@@ -444,7 +444,7 @@ pub(crate) fn read_into(
 }
 
 // Fills an empty list with the identifiers that a text spells, joined by dots.
-#[tactic(auto, using(crate::proofs::Text::Listed::listed_utf8, crate::proofs::Text::Listed::listed_begins, crate::proofs::Text::Listed::listed_all, crate::proofs::Text::Listed::listed_none))]
+#[tactic(auto, using(crate::proofs::Text::Listed::listed_utf8, crate::proofs::Text::Listed::listed_begins, crate::proofs::Text::Listed::listed_all, crate::proofs::Text::Listed::listed_none, crate::proofs::Text::Listed::some_listed))]
 pub(crate) fn read_listed(
     alloc: Global,
     bytes: &[u8],
@@ -452,7 +452,8 @@ pub(crate) fn read_listed(
 ) -> Result<(), AllocError>
     requires listed { is_listed bytes.now ≡ true }
     requires empty { list.old.items ≡ [] }
-    ensures { OnOk result (ids_view list.new.items ≡ listed bytes.now) }
+    ensures whole { OnOk result (ids_view list.new.items ≡ listed bytes.now) }
+    ensures some { OnOk result (0 < length bytes.now → 0 < length list.new.items) }
 {
     if !bytes.is_empty() {
         read_into(alloc, text_front(bytes), 0, list)?;
