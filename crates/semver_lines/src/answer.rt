@@ -16,7 +16,7 @@ use std::alloc::{AllocError, Global};
 fn reply_to<'a>(alloc: Global, line: &[u8], room: &'a mut String) -> Result<&'a str, Failure<Fault>>
     ensures { IsTold result (IsAnswer line.now) }
 {
-    match &Question::of(line) {
+    match Question::of(line) {
         Some(question) => reply(alloc, question, room),
         None => Err(Failure::Refused(Fault::BadLine)),
     }

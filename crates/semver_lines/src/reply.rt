@@ -23,12 +23,12 @@ use std::alloc::Global;
 #[inline(always)]
 pub fn reply<'a>(
     alloc: Global,
-    question: &Question<'_>,
+    question: Question<'_>,
     room: &'a mut String,
 ) -> Result<&'a str, Failure<Fault>>
-    ensures { IsTold result (IsReply question.now) }
+    ensures { IsTold result (IsReply question.entry) }
 {
-    match *question {
+    match question {
         Question::Cmp(texts) => cmp(alloc, texts),
         Question::Ver(text) => ver(alloc, text, room),
         Question::Diff(texts) => diff(alloc, texts, room),
