@@ -47,6 +47,7 @@ pub fn answer_line(
     ensures err { OnErr result (string_bytes output.new ≡ string_bytes output.old) }
 {
     let answer = answer_to(alloc, line, room)?;
+    // Room for both is asked for first, so that neither of the next two calls fails.
     output.reserve(answer.len() + 1)?;
     output.push_str(answer)?;
     output.push('\n')

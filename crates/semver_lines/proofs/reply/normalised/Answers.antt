@@ -9,4 +9,4 @@ returns-in_err-range c =
     rw (p.1, p.2) (told_fault _ _ _ c.in_err-range.ensures)
 
 pub returns : goal.returns
-returns c = read _ c.in_ok-range.ensures (c.in_ok-range_or_none.ensures)
+returns c = read _ c.in_ok-range.ensures c.in_ok-range_or_none.ensures

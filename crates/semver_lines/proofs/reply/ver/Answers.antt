@@ -9,4 +9,4 @@ returns-in_err-version c =
     rw (p.1, p.2) (told_fault _ _ _ c.in_err-version.ensures)
 
 pub returns : goal.returns
-returns c = read _ c.in_ok-version.ensures (c.in_ok-version_or_none.ensures)
+returns c = read _ c.in_ok-version.ensures c.in_ok-version_or_none.ensures
