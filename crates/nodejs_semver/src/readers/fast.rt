@@ -16,7 +16,7 @@ use crate::Range;
 use crate::range::Intervals;
 use crate::readers::intervals::{between, push, push_between, push_ordered};
 use crate::readers::syntax::{BareVersion, Bounds, Partial};
-use crate::readers::{partial, table, words};
+use crate::readers::{intervals, partial, table, words};
 use semver_core::cuts::{Bound, Interval};
 use semver_core::{MAX_SAFE_INTEGER, Version};
 use smallvec::SmallVec;
@@ -272,8 +272,7 @@ fn push_hyphen<'a>(
     let Some((upper, rest)) = bare_front(text) else {
         return Ok(None);
     };
-    let bounds = table::hyphen(&lower, &upper);
-    let there = push_between(alloc, bounds.lower, bounds.upper, found)?;
+    let there = intervals::push_hyphen(alloc, lower, upper, found)?;
     Ok(behind_part(there, rest))
 }
 
