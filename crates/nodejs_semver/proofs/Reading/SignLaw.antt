@@ -12,7 +12,7 @@ use Rattle.semver_core.specs.Internal.Reading.{◌>>?◌}
 use Rattle.semver_core.specs.Internal.Spaces.{drop_spaces, space_len}
 use Rattle.nodejs_semver.specs.Internal.Partials.{longest_partial, or_else}
 use Rattle.nodejs_semver.specs.Internal.Words.{Reading, after_byte, after_some_space, at_boundary, caret_at, compare_at, form_at, from_boundary, hyphen_behind, is_boundary, or_equal, or_malformed, signed, tilde_at, tilde_sign, word_at}
-use Rattle.nodejs_semver.specs.Internal.Signs.{Sign, behind_sign, sign_at, signed_word, unsigned, upper_behind, upper_of, word_behind, word_pushed, compared, tilded, careted}
+use Rattle.nodejs_semver.specs.Internal.Signs.{Sign, behind_sign, sign_at, signed_word, unsigned, upper_behind, upper_of, word_behind, hyphen_pushed, word_pushed, compared, tilded, careted}
 use Rattle.nodejs_semver.specs.Text.PartialText.{Partial}
 use Rattle.nodejs_semver.specs.Text.WordText.{Word, above, at_least, at_most, below, compare, equal, hyphen, malformed, plain, tilde}
 use Rattle.nodejs_semver.proofs.Reading.WordLaw.{none-60, none-61, none-62, none-94, none-126}
@@ -115,7 +115,7 @@ pub word_none : (limit : ℕ) (text : List ℕ) (s : Sign × List ℕ) (o : Opti
     → word_at limit text ≡ (malformed, from_boundary text)
 word_none limit text s o h k e = word-as limit text s o h k ∙ rw e refl
 
-pub word_hyphen : (limit : ℕ) (text : List ℕ) (s : Sign × List ℕ) (o : Option (Partial × List ℕ)) (p : Partial) (rest : List ℕ) (u : Option (Partial × List ℕ)) (q : Partial) (after : List ℕ)
+word_hyphen : (limit : ℕ) (text : List ℕ) (s : Sign × List ℕ) (o : Option (Partial × List ℕ)) (p : Partial) (rest : List ℕ) (u : Option (Partial × List ℕ)) (q : Partial) (after : List ℕ)
     → s ≡ sign_at text → o ≡ longest_partial limit s.1 → o ≡ Some (p, rest) → u ≡ upper_of limit s.0 rest → u ≡ Some (q, after)
     → word_at limit text ≡ (hyphen p q, after)
 word_hyphen limit text s o p rest u q after h k e m n = word-as limit text s o h k ∙ rw (e, sym m, n) refl
@@ -162,3 +162,33 @@ pushed_word limit old new there word w rest e h = go (table limit word) refl ∙
 
     go : (o : Option (Span VersionValue)) → table limit word ≡ o → triple (there, new) ≡ with (table limit word)
     go o k = ap triple h ∙ all (table limit word)
+
+-- a hyphen word was read
+pub pushed_hyphen : (limit : ℕ) (text : List ℕ) (s : Sign × List ℕ) (o : Option (Partial × List ℕ)) (p : Partial) (rest : List ℕ) (u : Option (Partial × List ℕ))
+    (old new : List (Span VersionValue)) (read : Bool × List ℕ)
+    → s ≡ sign_at text → o ≡ longest_partial limit s.1 → o ≡ Some (p, rest) → u ≡ upper_of limit s.0 rest
+    → ◌≡◌ {A = Option (Bool × List ℕ) × List (Span VersionValue)} (Some read, new) (hyphen_pushed limit old p u)
+    → ◌≡◌ {A = (Bool × List ℕ) × List (Span VersionValue)} (read, new) (word_pushed limit old (word_at limit text))
+pushed_hyphen limit text s o p rest None old new read h k e m n = absurd (clash (ap (λ (x : Option (Bool × List ℕ) × List (Span VersionValue)). x.0) n))
+  where
+    clash : Some read ≡ None → ⊥
+    clash f = cc f
+pushed_hyphen limit text s o p rest (Some q) old new read h k e m n =
+    let w = word_hyphen limit text s o p rest (Some q) q.0 q.1 h k e m refl in
+    whole (inside (ap (λ (x : Option (Bool × List ℕ) × List (Span VersionValue)). x.0) n)) (ap (λ (x : Option (Bool × List ℕ) × List (Span VersionValue)). x.1) n)
+    ∙ ap (λ (x : Word × List ℕ). word_pushed limit old x) (sym w)
+  where
+    inside : {a b : Bool × List ℕ} → Some a ≡ Some b → a ≡ b
+    inside f = cc f
+
+    whole : {a b : Bool × List ℕ} {l m : List (Span VersionValue)} → a ≡ b → l ≡ m → ◌≡◌ {A = (Bool × List ℕ) × List (Span VersionValue)} (a, l) (b, m)
+    whole f g = rw (f, g) refl
+
+-- none was read
+pub no_hyphen : (limit : ℕ) (p : Partial) (u : Option (Partial × List ℕ)) (old new : List (Span VersionValue))
+    → ◌≡◌ {A = Option (Bool × List ℕ) × List (Span VersionValue)} (None, new) (hyphen_pushed limit old p u) → (u ≡ None) × (new ≡ old)
+no_hyphen limit p None old new n = (refl, ap (λ (x : Option (Bool × List ℕ) × List (Span VersionValue)). x.1) n)
+no_hyphen limit p (Some q) old new n = absurd (clash (ap (λ (x : Option (Bool × List ℕ) × List (Span VersionValue)). x.0) n))
+  where
+    clash : {a : Bool × List ℕ} → None ≡ Some a → ⊥
+    clash f = cc f

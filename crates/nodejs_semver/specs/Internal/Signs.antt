@@ -67,3 +67,9 @@ behind_sign limit s = longest_partial limit s.1 >>? λ p. word_behind limit s.0 
 -- whether a word has an interval, what follows the word, and a list to which its interval was added
 abbrev pub word_pushed : ℕ → List (Span VersionValue) → Word × List ℕ → (Bool × List ℕ) × List (Span VersionValue)
 word_pushed limit list w = ((is_some (table limit w.0), w.1), list ++ option_to_list (table limit w.0))
+
+-- the same of a hyphen word, where its second partial is there
+abbrev pub hyphen_pushed : ℕ → List (Span VersionValue) → Partial → Front Partial → Option (Bool × List ℕ) × List (Span VersionValue)
+hyphen_pushed limit list lower None = (None, list)
+hyphen_pushed limit list lower (Some q) =
+    let w = word_pushed limit list (hyphen lower q.0, q.1) in (Some w.0, w.1)

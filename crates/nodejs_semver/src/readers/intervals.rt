@@ -9,8 +9,8 @@ ghost use Rattle.nodejs_semver.specs.Internal.CommonViews.{between_view, both_vi
 ghost use Rattle.nodejs_semver.specs.Internal.Fronts.{is_listed, list_of};
 ghost use Rattle.nodejs_semver.specs.Internal.Meets.{joined_from, next_at};
 ghost use Rattle.nodejs_semver.specs.Internal.PreReleases.{pre_release_view};
-ghost use Rattle.nodejs_semver.specs.Internal.Readings.{bare_view, bound_view, bounds_view, next_view, partial_view, sign_view, word_pushed_view};
-ghost use Rattle.nodejs_semver.specs.Internal.Signs.{signed_word, word_pushed};
+ghost use Rattle.nodejs_semver.specs.Internal.Readings.{bare_view, bound_view, bounds_view, hyphen_pushed_view, next_view, partial_view, sign_view, word_pushed_view};
+ghost use Rattle.nodejs_semver.specs.Internal.Signs.{hyphen_pushed, signed_word, upper_behind, upper_of, word_pushed};
 ghost use Rattle.nodejs_semver.specs.Internal.Words.{word_at};
 ghost use Rattle.nodejs_semver.specs.Text.WordText.{hyphen};
 ghost use Rattle.nodejs_semver.specs.Text.Table.{table};
@@ -196,6 +196,46 @@ pub(crate) fn push_hyphen(
     push_between(alloc, bounds.lower, bounds.upper, found)
 }
 
+// Adds the interval of the hyphen word of a partial and the text behind it, where they make one.
+// Returns whether the word has an interval, and the text behind the word.
+#[inline(never)]
+fn push_hyphen_behind<'a>(
+    alloc: Global,
+    lower: Partial<'_>,
+    text: &'a [u8],
+    found: &mut Intervals<Version>,
+) -> Result<Option<(bool, &'a [u8])>, AllocError>
+    ensures { let upper = upper_behind MAX_SAFE_INTEGER text.now in
+        IfOk result (λ read. hyphen_pushed_view read found.new.items
+        ≡ hyphen_pushed MAX_SAFE_INTEGER found.old.items (partial_view lower.entry) upper) }
+{
+    let Some((upper, rest)) = words::upper_behind(text) else {
+        return Ok(None);
+    };
+    let there = push_hyphen(alloc, lower, upper, found)?;
+    Ok(Some((there, rest)))
+}
+
+// The same of a partial that has a sign or none. Mostly the part ends behind it.
+#[inline(always)]
+fn push_upper<'a>(
+    alloc: Global,
+    sign: Sign,
+    lower: Partial<'_>,
+    rest: &'a [u8],
+    found: &mut Intervals<Version>,
+) -> Result<Option<(bool, &'a [u8])>, AllocError>
+    ensures { let upper = upper_of MAX_SAFE_INTEGER (sign_view sign) rest.now in
+        IfOk result (λ read. hyphen_pushed_view read found.new.items
+        ≡ hyphen_pushed MAX_SAFE_INTEGER found.old.items (partial_view lower.entry) upper) }
+{
+    match (sign, rest) {
+        (_, []) => Ok(None),
+        (Sign::Nothing, _) => push_hyphen_behind(alloc, lower, rest, found),
+        (Sign::Comparator(_) | Sign::Tilde(_) | Sign::Caret, _) => Ok(None),
+    }
+}
+
 // Adds the interval of a word of one partial, and returns whether it has one.
 #[inline(always)]
 #[tactic(auto, using(crate::proofs::Bounds::TableReadings::settled))]
@@ -234,9 +274,8 @@ fn push_word<'a>(
     let Some((partial, rest)) = words::longest_partial(rest) else {
         return Ok((false, words::skip_to_boundary(text)));
     };
-    if let Some((upper, rest)) = words::upper_of(sign, rest) {
-        let there = push_hyphen(alloc, partial, upper, found)?;
-        return Ok((there, rest));
+    if let Some(read) = push_upper(alloc, sign, partial, rest, found)? {
+        return Ok(read);
     }
     if !words::is_boundary(rest) {
         return Ok((false, words::skip_to_boundary(text)));

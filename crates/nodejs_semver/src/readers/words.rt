@@ -53,10 +53,9 @@ fn after_hyphen(text: &[u8]) -> Option<&[u8]>
     }
 }
 
-// The second partial of a hyphen word, and what follows it: behind whitespace, `-` and whitespace,
-// and up to a boundary.
-#[inline(never)]
-fn upper_behind(text: &[u8]) -> Option<(Partial<'_>, &[u8])>
+/// The second partial of a hyphen word, and what follows it: behind whitespace, `-` and whitespace,
+/// and up to a boundary.
+pub(crate) fn upper_behind(text: &[u8]) -> Option<(Partial<'_>, &[u8])>
     ensures { partial_front_view result ≡ Signs.upper_behind MAX_SAFE_INTEGER text.now }
 {
     let sign = after_some_space(text)?;
@@ -67,19 +66,6 @@ fn upper_behind(text: &[u8]) -> Option<(Partial<'_>, &[u8])>
         Some((upper, rest))
     } else {
         None
-    }
-}
-
-/// The same behind a partial that has a sign or none. Mostly the part ends behind the partial.
-#[inline(always)]
-pub(crate) fn upper_of(sign: Sign, rest: &[u8]) -> Option<(Partial<'_>, &[u8])>
-    ensures { partial_front_view result
-        ≡ Signs.upper_of MAX_SAFE_INTEGER (sign_view sign) rest.now }
-{
-    match (sign, rest) {
-        (_, []) => None,
-        (Sign::Nothing, _) => upper_behind(rest),
-        (Sign::Comparator(_) | Sign::Tilde(_) | Sign::Caret, _) => None,
     }
 }
 
