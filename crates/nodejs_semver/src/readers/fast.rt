@@ -79,14 +79,18 @@ fn bare_minor(major: Option<u64>, text: &[u8]) -> (Partial<'_>, &[u8])
     }
 }
 
-// The partial at the front. Neither `v` nor whitespace is skipped before it, and no build is read.
+// The partial at the front. Neither `v` nor whitespace is skipped before it. A partial that a build
+// follows is none of a common text.
 #[inline(always)]
 #[tactic(auto, unfolding(crate::specs::Internal::CommonFronts::bare_front))]
 fn bare_front(text: &[u8]) -> Option<(Partial<'_>, &[u8])>
     ensures { partial_front_view result ≡ Spec.bare_front MAX_SAFE_INTEGER text.now }
 {
     let (major, rest) = partial::component_front(text)?;
-    Some(bare_minor(major, rest))
+    match bare_minor(major, rest) {
+        (_, [b'+', ..]) => None,
+        read => Some(read),
+    }
 }
 
 // The bounds of a comparator and a partial.
