@@ -22,4 +22,4 @@ pub returns : goal.returns
 returns c =
     let first = c.in_ok-range.ensures c.args.texts.0.now (range_read _ _ c.parse-range.ensures.ok c.parse-range.ensures.some, c.parse-range.ensures.refused) in
     let second = c.in_ok-other.ensures c.args.texts.1.now (range_read _ _ c.parse-other.ensures.ok c.parse-other.ensures.some, c.parse-other.ensures.refused) in
-    told_read _ _ (c.in_ok-range.range.now, c.in_ok-other.other.now) _ _ _ c.push_version.ensures (first, second) (record { found = c.in_ok-least.least; least = c.in_ok-least.ensures.least; build = c.in_ok-least.ensures.build; printed = ap version_or_none c.as_ref.ensures.value })
+    told_read _ _ (c.in_ok-range.range.now, c.in_ok-other.other.now) _ _ _ c.push_version.ensures (first, second) (record { found = c.in_ok-least.least; is = (c.in_ok-least.ensures.least, c.in_ok-least.ensures.build); printed = ap version_or_none c.as_ref.ensures.value })

@@ -14,4 +14,4 @@ returns-in_err-range c =
 pub returns : goal.returns
 returns c =
     let read = c.in_ok-range.ensures c.args.text.now (range_read _ _ c.parse-range.ensures.ok c.parse-range.ensures.some, c.parse-range.ensures.refused) in
-    told_read _ _ c.in_ok-range.range.now _ _ _ c.push_version.ensures read (record { found = c.in_ok-least.least; least = c.in_ok-least.ensures.least; build = c.in_ok-least.ensures.build; printed = ap version_or_none c.as_ref.ensures.value })
+    told_read _ _ c.in_ok-range.range.now _ _ _ c.push_version.ensures read (record { found = c.in_ok-least.least; is = (c.in_ok-least.ensures.least, c.in_ok-least.ensures.build); printed = ap version_or_none c.as_ref.ensures.value })

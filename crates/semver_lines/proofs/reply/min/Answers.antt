@@ -22,4 +22,4 @@ pub returns : goal.returns
 returns c =
     let first = c.in_ok-range.ensures c.args.texts.0.now (range_read _ _ c.parse-range.ensures.ok c.parse-range.ensures.some, c.parse-range.ensures.refused) in
     let second = c.in_ok-versions.ensures in
-    told_read _ _ (c.in_ok-range.range.now, c.in_ok-versions.versions.items) _ _ _ c.push_version.ensures (first, second) (record { found = option_copied c.min_satisfying.result; best = rw c.deref.ensures.value at c.min_satisfying.ensures; printed = refl })
+    told_read _ _ (c.in_ok-range.range.now, c.in_ok-versions.versions.items) _ _ _ c.push_version.ensures (first, second) (record { found = option_copied c.min_satisfying.result; is = rw c.deref.ensures.value at c.min_satisfying.ensures; printed = refl })
