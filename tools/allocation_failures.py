@@ -17,7 +17,8 @@ NEVER = [
     "version_fast: 1.2.3 from 1.2.3", "version_fast: nothing from 1.2", "version_fast: nothing from 1.2-a.1.b",
     "scan::identifiers: nothing from 1.2.3-a.1.b+c.2.d", "Version::new: 7.8.9 from 1.2.3",
     "Version::into_parts: VersionParts { major: 1, minor: 2, patch: 3, pre_release: [], build: [] } from 1.2.3",
-    "Version::copy: 1.2.3 from 1.2.3", "Identifier::copy: 2 from 2", "Range::any: * from *",
+    "Version::copy: 1.2.3 from 1.2.3", "Version::with_pre: 1.2.3-4 from 4", "Identifier::copy: 2 from 2",
+    "Range::any: * from *",
     "IncrementError::copy: increment would overflow a version component"
     " from increment would overflow a version component",
 ]

@@ -13,3 +13,4 @@ pub mod Sound
 pub mod SoundPartial
 pub mod PartialLaw
 pub mod WordLaw
+pub mod SignLaw

@@ -1,6 +1,7 @@
 pub mod Parts
 pub mod Partials
 pub mod Words
+pub mod Signs
 pub mod RunsFrom
 pub mod PreReleases
 pub mod Fronts

@@ -10,6 +10,7 @@ mod table;
 mod words;
 
 pub use crate::readers::fast::range_fast;
-pub(crate) use crate::readers::fast::read_into;
+pub(crate) use crate::readers::fast::read_common;
+pub(crate) use crate::readers::loose::read_any;
 pub use crate::readers::loose::{is_blank, range_loose};
 pub use semver_core::readers::{version_fast, version_loose};

@@ -218,3 +218,129 @@ module _ {V : Type 0} {R : V → V → Ordering} (o : IsTotalOrder R) where
           ∙ ap (λ x. (is_past R (lower_cut s.lower) v && not (is_past R (lower_cut t.lower) v)) || x) (option_holds-left_above s t v)
           ∙ two_parts (is_past R (lower_cut s.lower) v) (is_past R (upper_cut s.upper) v) (is_past R (lower_cut t.lower) v) (is_past R (upper_cut t.upper) v)
           (λ h. sym (is_past-greater_lower s.lower t.lower v) ∙ is_past-down _ _ v (lt_not_gt _ (is_some-if _ _ _ e)) (is_past-lesser_upper s.upper t.upper v ∙ h))
+
+-- two spans that meet
+reversed_lt : (r : Ordering) → is_lt (ordering_reverse r) ≡ is_gt r
+reversed_lt Less = refl
+reversed_lt Equal = refl
+reversed_lt Greater = refl
+
+and_true : (a b : Bool) → b ≡ true → a ≡ (a && b)
+and_true true b h = sym h
+and_true false b h = refl
+
+module _ {V : Type 0} {R : V → V → Ordering} (o : IsTotalOrder R) where
+  abbrev lt : Cut V → Cut V → Bool
+  lt c d = is_lt (cut_cmp R c d)
+
+  abbrev gt : Cut V → Cut V → Bool
+  gt c d = is_gt (cut_cmp R c d)
+
+  lt_gt : (c d : Cut V) → lt c d ≡ gt d c
+  lt_gt c d = ap is_lt ((cut_total o).antisymm c d) ∙ reversed_lt _
+
+  below_upto : (c d e : Cut V) → lt c d ≡ true → gt d e ≡ false → lt c e ≡ true
+  below_upto c d e h k = by_test (lt c e) refl
+    where
+      by_test : (t : Bool) → lt c e ≡ t → t ≡ true
+      by_test true n = refl
+      by_test false n =
+          let no : gt d c ≡ false = upto (cut_total o) d e c k (sym (lt_gt c e) ∙ n) in
+          sym no ∙ sym (lt_gt c d) ∙ h
+
+  upto_below : (c d e : Cut V) → gt c d ≡ false → lt d e ≡ true → lt c e ≡ true
+  upto_below c d e h k = by_test (lt c e) refl
+    where
+      by_test : (t : Bool) → lt c e ≡ t → t ≡ true
+      by_test true n = refl
+      by_test false n =
+          let no : gt e d ≡ false = upto (cut_total o) e c d (sym (lt_gt c e) ∙ n) h in
+          sym no ∙ sym (lt_gt d e) ∙ k
+
+  is_some-interval : (s : Span V) → is_some (interval R s) ≡ is_interval R s
+  is_some-interval s = by_test (is_interval R s)
+    where
+      by_test : (t : Bool) → is_some (if t then Some s else None) ≡ t
+      by_test true = refl
+      by_test false = refl
+
+  -- two intervals have something in common where each reaches above the lower cut of the other
+  pub meets_both : (s t : Span V) → is_interval R s ≡ true → is_interval R t ≡ true
+      → is_some (meet R s t) ≡ (lt (lower_cut t.lower) (upper_cut s.upper) && lt (lower_cut s.lower) (upper_cut t.upper))
+  meets_both s t hs ht = by_tests (gt a b) (gt c d) refl refl
+    where
+      a : Cut V
+      a = lower_cut s.lower
+      b : Cut V
+      b = lower_cut t.lower
+      c : Cut V
+      c = upper_cut s.upper
+      d : Cut V
+      d = upper_cut t.upper
+      first : lt b a ≡ true → lt b c ≡ true
+      first h = below_upto b a c h (lt_not_gt _ hs)
+      by_tests : (i j : Bool) → gt a b ≡ i → gt c d ≡ j
+          → is_some (interval R (record { lower = if i then s.lower else t.lower; upper = if j then t.upper else s.upper })) ≡ (lt b c && lt a d)
+      by_tests true true g h = is_some-interval _ ∙ ap (λ x. x && lt a d) (sym (first (lt_gt b a ∙ g)))
+      by_tests true false g h =
+          is_some-interval _ ∙ hs ∙ sym (ap (λ x. x && lt a d) (first (lt_gt b a ∙ g)) ∙ below_upto a c d hs h)
+      by_tests false true g h =
+          is_some-interval _ ∙ ht ∙ sym (ap (λ x. x && lt a d) (below_upto b d c ht (lt_not_gt _ (lt_gt d c ∙ h))) ∙ upto_below a b d g ht)
+      by_tests false false g h = is_some-interval _ ∙ and_true _ _ (below_upto a c d hs h)
+
+  -- two spans that have nothing in common hold no point both
+  pub none-hold : (s t : Span V) (v : V) → is_some (meet R s t) ≡ false → false ≡ (holds R s v && holds R t v)
+  none-hold s t v h = by_case (meet R s t) h (option_holds-meet o s t v)
+    where
+      by_case : (m : Option (Span V)) → is_some m ≡ false → option_holds R m v ≡ (holds R s v && holds R t v) → false ≡ (holds R s v && holds R t v)
+      by_case None n e = e
+      by_case (Some m) n e = cc
+
+  -- the bounds of what two spans have in common, and with those of the first where two are equal
+  pub meet-holds : (s t : Span V) (b c : Bound V) (v : V) → b ≡ greater_lower R s.lower t.lower → c ≡ lesser_upper R s.upper t.upper
+      → holds R (record { lower = b; upper = c }) v ≡ (holds R s v && holds R t v)
+  meet-holds s t b c v e f =
+      ap (λ x. holds R (record { lower = x; upper = c }) v) e
+      ∙ ap (λ x. holds R (record { lower = greater_lower R s.lower t.lower; upper = x }) v) f
+      ∙ sym (option_holds-interval o _ v) ∙ option_holds-meet o s t v
+
+  pub clip-holds : (s t : Span V) (b c : Bound V) (v : V) → b ≡ greater_lower R t.lower s.lower → c ≡ lesser_upper R s.upper t.upper
+      → holds R (record { lower = b; upper = c }) v ≡ (holds R s v && holds R t v)
+  clip-holds s t b c v e f =
+      ap (λ x. holds R (record { lower = x; upper = c }) v) e
+      ∙ ap (λ x. holds R (record { lower = greater_lower R t.lower s.lower; upper = x }) v) f
+      ∙ sym (option_holds-interval o _ v) ∙ option_holds-clip o s t v
+
+  clip-both : (s t : Span V) → is_interval R s ≡ true → is_interval R t ≡ true
+      → is_some (clip R s t) ≡ (lt (lower_cut t.lower) (upper_cut s.upper) && lt (lower_cut s.lower) (upper_cut t.upper))
+  clip-both s t hs ht = by_tests (gt b a) (gt c d) refl refl
+    where
+      a : Cut V
+      a = lower_cut s.lower
+      b : Cut V
+      b = lower_cut t.lower
+      c : Cut V
+      c = upper_cut s.upper
+      d : Cut V
+      d = upper_cut t.upper
+      by_tests : (i j : Bool) → gt b a ≡ i → gt c d ≡ j
+          → is_some (interval R (record { lower = if i then t.lower else s.lower; upper = if j then t.upper else s.upper })) ≡ (lt b c && lt a d)
+      by_tests true true g h =
+          let below = below_upto a b d (lt_gt a b ∙ g) (lt_not_gt _ ht) in
+          is_some-interval _ ∙ ht ∙ sym (ap (λ x. x && lt a d) (below_upto b d c ht (lt_not_gt _ (lt_gt d c ∙ h))) ∙ below)
+      by_tests true false g h = is_some-interval _ ∙ and_true _ _ (below_upto a c d hs h)
+      by_tests false true g h = is_some-interval _ ∙ ap (λ x. x && lt a d) (sym (upto_below b a c g hs))
+      by_tests false false g h =
+          is_some-interval _ ∙ hs ∙ sym (ap (λ x. x && lt a d) (upto_below b a c g hs) ∙ below_upto a c d hs h)
+
+  -- an interval is clipped to what it meets
+  pub clip-meets : (s t : Span V) → is_interval R s ≡ true → is_interval R t ≡ true → is_some (clip R s t) ≡ is_some (meet R s t)
+  clip-meets s t hs ht = clip-both s t hs ht ∙ sym (meets_both s t hs ht)
+
+  -- where it meets, its bounds are in order
+  pub clip-ordered : (s t : Span V) (b c : Bound V) → is_interval R s ≡ true → is_interval R t ≡ true → is_some (meet R s t) ≡ true
+      → b ≡ greater_lower R t.lower s.lower → c ≡ lesser_upper R s.upper t.upper → is_interval R (record { lower = b; upper = c }) ≡ true
+  clip-ordered s t b c hs ht h e f =
+      ap (λ x. is_interval R (record { lower = x; upper = c })) e
+      ∙ ap (λ x. is_interval R (record { lower = greater_lower R t.lower s.lower; upper = x })) f
+      ∙ sym (is_some-interval _) ∙ clip-meets s t hs ht ∙ h

@@ -1,4 +1,3 @@
 pub mod Prints
 pub mod Returns
 pub mod Reread
-pub mod Through

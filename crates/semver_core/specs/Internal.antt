@@ -5,4 +5,3 @@ pub mod OrderLaws
 pub mod Spaces
 pub mod Readable
 pub mod CommonReading
-pub mod Printed

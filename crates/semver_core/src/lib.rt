@@ -11,7 +11,7 @@ mod error;
 mod identifier;
 mod increment;
 pub mod laws;
-pub mod print;
+mod print;
 pub mod readers;
 mod version;
 

@@ -1,18 +1,25 @@
-//! How identifiers and versions print, and how a value is written without regard to formatting
-//! options.
+// How identifiers and versions print.
 
 ghost use Rattle.std.specs.Fmt.{DisplaysStyledOnOk, decimal};
-ghost use Rattle.std.specs.Prelude.{◌≡◌, ◌≤◌, ◌+◌, ◌++◌, ◌∷◌, drop, length, IsAscii, Some};
-ghost use Rattle.semver_core.specs.Internal.Printed.{numbers_text};
+ghost use Rattle.std.specs.Prelude.{◌≡◌, ◌++◌, ◌∷◌, [], Some};
 ghost use Rattle.semver_core.specs.Printing.Text.{id_text, marked_list, version_text};
 ghost use Rattle.semver_core.specs.Values.Views.{id_view, ids_view};
 
-mod unstyled;
-
-pub use crate::print::unstyled::write_unstyled;
 use crate::{Identifier, Version};
-use itoa::{Buffer, write_digits};
-use std::{fmt, str};
+use itoa::Buffer;
+use std::fmt;
+
+// A number in decimal.
+#[inline(always)]
+fn write_number<W: fmt::Write>(number: u64, f: &mut fmt::Formatter<W>) -> fmt::Result
+    ensures { DisplaysStyledOnOk W.write_str_gives f.old result (Some (decimal number)) f.new }
+{
+    if number < 10 {
+        let digit = number as usize;
+        return f.write_str(&"0123456789"[digit..digit + 1]);
+    }
+    f.write_str(Buffer::new().format(number))
+}
 
 /// A number prints in decimal, and a text as it is. Width, fill and precision change nothing.
 impl fmt::Display for Identifier {
@@ -20,15 +27,29 @@ impl fmt::Display for Identifier {
 
     ghost styled_output = { λ id _. Some (id_text (id_view id)) };
 
+    #[inline(always)]
     fn fmt<W: fmt::Write>(&self, f: &mut fmt::Formatter<W>) -> fmt::Result {
         match self {
-            Identifier::Numeric(number) => f.write_str(Buffer::new().format(*number)),
+            Identifier::Numeric(number) => write_number(*number, f),
             Identifier::AlphaNumeric(text) => f.write_str(text),
         }
     }
 }
 
+// The identifiers, a dot before each.
+fn write_dotted<W: fmt::Write>(list: &[Identifier], f: &mut fmt::Formatter<W>) -> fmt::Result
+    ensures { DisplaysStyledOnOk W.write_str_gives f.old result
+        (Some (marked_list (46 ∷ []) (ids_view list.now))) f.new }
+{
+    for identifier in list {
+        f.write_str(".")?;
+        fmt::Display::fmt(identifier, f)?;
+    }
+    Ok(())
+}
+
 // A mark and the identifiers joined by dots, or nothing where there are none.
+#[inline(always)]
 fn write_list<W: fmt::Write>(
     mark: &str,
     list: &[Identifier],
@@ -37,44 +58,17 @@ fn write_list<W: fmt::Write>(
     ensures { DisplaysStyledOnOk W.write_str_gives f.old result
         (Some (marked_list mark.now (ids_view list.now))) f.new }
 {
-    let mut separator = mark;
-    for identifier in list {
-        f.write_str(separator)?;
-        fmt::Display::fmt(identifier, f)?;
-        separator = ".";
+    match list.split_first() {
+        None => Ok(()),
+        Some((first, others)) => {
+            f.write_str(mark)?;
+            fmt::Display::fmt(first, f)?;
+            write_dotted(others, f)
+        }
     }
-    Ok(())
 }
 
-// How many bytes three numbers take at most, with the dots between them.
-const NUMBERS_LEN: usize = 62;
-
-// Writes a dot and a number so that they end at a place, and returns where they begin.
-#[inline(always)]
-fn put_dotted(number: u64, bytes: &mut [u8; NUMBERS_LEN], end: usize) -> usize
-    requires { (21 ≤ end) × (end ≤ 62) }
-    ensures written { drop result bytes.new ≡ 46 ∷ (decimal number ++ drop end bytes.old) }
-    ensures room { end ≤ result + 21 }
-    ensures place { result ≤ end }
-{
-    let start = write_digits(number, bytes, end) - 1;
-    bytes[start] = b'.';
-    start
-}
-
-// Writes three numbers with dots between them so that they end where the bytes end, and returns
-// where they begin.
-fn put_numbers(major: u64, minor: u64, patch: u64, bytes: &mut [u8; NUMBERS_LEN]) -> usize
-    ensures written { drop result bytes.new ≡ numbers_text major minor patch }
-    ensures ascii { IsAscii (numbers_text major minor patch) }
-    ensures place { result ≤ length bytes.new }
-{
-    let third = put_dotted(patch, bytes, NUMBERS_LEN);
-    let second = put_dotted(minor, bytes, third);
-    write_digits(major, bytes, second)
-}
-
-// Writes three numbers with dots between them.
+// Three numbers with dots between them.
 fn write_numbers<W: fmt::Write>(
     major: u64,
     minor: u64,
@@ -82,14 +76,13 @@ fn write_numbers<W: fmt::Write>(
     f: &mut fmt::Formatter<W>,
 ) -> fmt::Result
     ensures { DisplaysStyledOnOk W.write_str_gives f.old result
-        (Some (numbers_text major minor patch)) f.new }
+        (Some (decimal major ++ 46 ∷ (decimal minor ++ 46 ∷ decimal patch))) f.new }
 {
-    let mut bytes = [0; NUMBERS_LEN];
-    let start = put_numbers(major, minor, patch, &mut bytes);
-    match str::from_utf8(&bytes[start..]) {
-        Ok(numbers) => f.write_str(numbers),
-        Err(_) => unreachable!(),
-    }
+    write_number(major, f)?;
+    f.write_str(".")?;
+    write_number(minor, f)?;
+    f.write_str(".")?;
+    write_number(patch, f)
 }
 
 /// A version prints as `major.minor.patch`, then `-` and the pre-release where there is one, then

@@ -1,6 +1,6 @@
 // The fields of a line, which are cut at each `;`.
 
-ghost use Rattle.std.specs.Prelude.{◌≡◌, ◌≢◌, [], ◌∷◌, IfSome, IfNone, length};
+ghost use Rattle.std.specs.Prelude.{◌≡◌, ◌≢◌, [], ◌∷◌, IfSome, IfNone, IsUtf8, length};
 ghost use Rattle.semver_lines.specs.Lines.{fields};
 
 use memchr::memchr;
@@ -10,6 +10,7 @@ use memchr::memchr;
 pub fn first(text: &str) -> Option<(&str, &str)>
     ensures some { IfSome result (λ cut. fields text.now ≡ cut.0.now ∷ fields cut.1.now) }
     ensures none { IfNone result (fields text.now ≡ text.now ∷ []) }
+    ensures utf8 { IfSome result (λ cut. IsUtf8 cut.1.now) }
 {
     let at = memchr(b';', text.as_bytes())?;
     Some((&text[..at], &text[at + 1..]))

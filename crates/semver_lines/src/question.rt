@@ -92,6 +92,7 @@ impl<'a> Question<'a> {
     }
 
     // The question of a line `inc` with these fields behind the command.
+    #[inline(always)]
     fn increment(rest: &'a str) -> Option<Question<'a>>
         ensures some { IfSome result (λ question. Asks (codes "inc" ∷ fields rest.now) question) }
         ensures none { IfNone result ((question : Question)
@@ -109,6 +110,7 @@ impl<'a> Question<'a> {
     }
 
     // The question of a line `out` with these fields behind the command.
+    #[inline(always)]
     fn outside(rest: &'a str) -> Option<Question<'a>>
         ensures some { IfSome result (λ question. Asks (codes "out" ∷ fields rest.now) question) }
         ensures none { IfNone result ((question : Question)

@@ -12,9 +12,11 @@ ghost use Rattle.semver_lines.specs.declared.question.Question.{Question};
 
 use crate::fault::Fault;
 use crate::question::Question;
-use crate::read::{range_of, version_of, versions};
+use crate::read::{
+    range, range_and_version, range_and_versions, two_ranges, two_versions, version,
+};
 use crate::words::{push_difference, push_next, push_order, push_range, push_truth, push_version};
-use nodejs_semver::{Failure, IdentifierBase, OutsideDirection, Range, Version};
+use nodejs_semver::{Failure, IdentifierBase, OutsideDirection};
 use std::alloc::Global;
 
 /// Appends the reply to a question.
@@ -52,31 +54,24 @@ fn cmp(alloc: Global, texts: (&str, &str), answer: &mut String) -> Result<(), Fa
     requires { string_bytes answer.old ≡ [] }
     ensures { IsTold result (string_bytes answer.new) (IsReply (Question.Cmp texts.entry)) }
 {
-    let version = Version::parse(alloc, texts.0);
-    let version = version_of(&version)?;
-    let other = Version::parse(alloc, texts.1);
-    let other = version_of(&other)?;
-    push_order(version.cmp(other), answer)
+    let (version, other) = two_versions(alloc, texts)?;
+    push_order(version.cmp(&other), answer)
 }
 
 fn ver(alloc: Global, text: &str, answer: &mut String) -> Result<(), Failure<Fault>>
     requires { string_bytes answer.old ≡ [] }
     ensures { IsTold result (string_bytes answer.new) (IsReply (Question.Ver text.entry)) }
 {
-    let version = Version::parse(alloc, text);
-    let version = version_of(&version)?;
-    push_version(Some(version), answer)
+    let version = version(alloc, text)?;
+    push_version(Some(&version), answer)
 }
 
 fn diff(alloc: Global, texts: (&str, &str), answer: &mut String) -> Result<(), Failure<Fault>>
     requires { string_bytes answer.old ≡ [] }
     ensures { IsTold result (string_bytes answer.new) (IsReply (Question.Diff texts.entry)) }
 {
-    let version = Version::parse(alloc, texts.0);
-    let version = version_of(&version)?;
-    let other = Version::parse(alloc, texts.1);
-    let other = version_of(&other)?;
-    push_difference(version.diff(other), answer)
+    let (version, other) = two_versions(alloc, texts)?;
+    push_difference(version.diff(&other), answer)
 }
 
 fn inc(
@@ -91,8 +86,7 @@ fn inc(
     ensures { IsTold result (string_bytes answer.new) (On (IsVersionOf text.now)
         (λ v. Says (next_text (answer_of_inc v word.now (option_copied identifier.entry) base)))) }
 {
-    let version = Version::parse(alloc, text);
-    let version = version_of(&version)?;
+    let version = version(alloc, text)?;
     push_next(version.inc(alloc, word, identifier, base), answer)
 }
 
@@ -100,20 +94,16 @@ fn normalised(alloc: Global, text: &str, answer: &mut String) -> Result<(), Fail
     requires { string_bytes answer.old ≡ [] }
     ensures { IsTold result (string_bytes answer.new) (IsReply (Question.Range text.entry)) }
 {
-    let range = Range::parse(alloc, text);
-    let range = range_of(&range)?;
-    push_range(Some(range), answer)
+    let range = range(alloc, text)?;
+    push_range(Some(&range), answer)
 }
 
 fn and(alloc: Global, texts: (&str, &str), answer: &mut String) -> Result<(), Failure<Fault>>
     requires { string_bytes answer.old ≡ [] }
     ensures { IsTold result (string_bytes answer.new) (IsReply (Question.And texts.entry)) }
 {
-    let range = Range::parse(alloc, texts.0);
-    let range = range_of(&range)?;
-    let other = Range::parse(alloc, texts.1);
-    let other = range_of(&other)?;
-    let common = range.intersect(alloc, other)?;
+    let (range, other) = two_ranges(alloc, texts)?;
+    let common = range.intersect(alloc, &other)?;
     push_range(common.as_ref(), answer)
 }
 
@@ -121,11 +111,8 @@ fn minus(alloc: Global, texts: (&str, &str), answer: &mut String) -> Result<(), 
     requires { string_bytes answer.old ≡ [] }
     ensures { IsTold result (string_bytes answer.new) (IsReply (Question.Minus texts.entry)) }
 {
-    let range = Range::parse(alloc, texts.0);
-    let range = range_of(&range)?;
-    let other = Range::parse(alloc, texts.1);
-    let other = range_of(&other)?;
-    let left = range.difference(alloc, other)?;
+    let (range, other) = two_ranges(alloc, texts)?;
+    let left = range.difference(alloc, &other)?;
     push_range(left.as_ref(), answer)
 }
 
@@ -133,8 +120,7 @@ fn least(alloc: Global, text: &str, answer: &mut String) -> Result<(), Failure<F
     requires { string_bytes answer.old ≡ [] }
     ensures { IsTold result (string_bytes answer.new) (IsReply (Question.Least text.entry)) }
 {
-    let range = Range::parse(alloc, text);
-    let range = range_of(&range)?;
+    let range = range(alloc, text)?;
     let least = range.min_version(alloc)?;
     push_version(least.as_ref(), answer)
 }
@@ -143,11 +129,8 @@ fn beyond(alloc: Global, texts: (&str, &str), answer: &mut String) -> Result<(),
     requires { string_bytes answer.old ≡ [] }
     ensures { IsTold result (string_bytes answer.new) (IsReply (Question.Beyond texts.entry)) }
 {
-    let range = Range::parse(alloc, texts.0);
-    let range = range_of(&range)?;
-    let other = Range::parse(alloc, texts.1);
-    let other = range_of(&other)?;
-    let least = range.least_beyond(alloc, other)?;
+    let (range, other) = two_ranges(alloc, texts)?;
+    let least = range.least_beyond(alloc, &other)?;
     push_version(least.as_ref(), answer)
 }
 
@@ -155,22 +138,16 @@ fn sat(alloc: Global, texts: (&str, &str), answer: &mut String) -> Result<(), Fa
     requires { string_bytes answer.old ≡ [] }
     ensures { IsTold result (string_bytes answer.new) (IsReply (Question.Sat texts.entry)) }
 {
-    let range = Range::parse(alloc, texts.0);
-    let range = range_of(&range)?;
-    let version = Version::parse(alloc, texts.1);
-    let version = version_of(&version)?;
-    push_truth(range.satisfies(version), answer)
+    let (range, version) = range_and_version(alloc, texts)?;
+    push_truth(range.satisfies(&version), answer)
 }
 
 fn pre(alloc: Global, texts: (&str, &str), answer: &mut String) -> Result<(), Failure<Fault>>
     requires { string_bytes answer.old ≡ [] }
     ensures { IsTold result (string_bytes answer.new) (IsReply (Question.Pre texts.entry)) }
 {
-    let range = Range::parse(alloc, texts.0);
-    let range = range_of(&range)?;
-    let version = Version::parse(alloc, texts.1);
-    let version = version_of(&version)?;
-    push_truth(range.satisfies_with_prerelease(version, true), answer)
+    let (range, version) = range_and_version(alloc, texts)?;
+    push_truth(range.satisfies_with_prerelease(&version, true), answer)
 }
 
 fn outside(
@@ -183,11 +160,8 @@ fn outside(
     ensures { IsTold result (string_bytes answer.new)
         (IsReply (Question.Out texts.entry direction)) }
 {
-    let range = Range::parse(alloc, texts.0);
-    let range = range_of(&range)?;
-    let version = Version::parse(alloc, texts.1);
-    let version = version_of(&version)?;
-    match range.outside(version, direction, false) {
+    let (range, version) = range_and_version(alloc, texts)?;
+    match range.outside(&version, direction, false) {
         Ok(is_outside) => push_truth(is_outside, answer),
         Err(_) => unreachable!(),
     }
@@ -197,9 +171,7 @@ fn max(alloc: Global, texts: (&str, &str), answer: &mut String) -> Result<(), Fa
     requires { string_bytes answer.old ≡ [] }
     ensures { IsTold result (string_bytes answer.new) (IsReply (Question.Max texts.entry)) }
 {
-    let range = Range::parse(alloc, texts.0);
-    let range = range_of(&range)?;
-    let versions = versions(alloc, texts.1)?;
+    let (range, versions) = range_and_versions(alloc, texts)?;
     push_version(range.max_satisfying(&versions), answer)
 }
 
@@ -207,8 +179,6 @@ fn min(alloc: Global, texts: (&str, &str), answer: &mut String) -> Result<(), Fa
     requires { string_bytes answer.old ≡ [] }
     ensures { IsTold result (string_bytes answer.new) (IsReply (Question.Min texts.entry)) }
 {
-    let range = Range::parse(alloc, texts.0);
-    let range = range_of(&range)?;
-    let versions = versions(alloc, texts.1)?;
+    let (range, versions) = range_and_versions(alloc, texts)?;
     push_version(range.min_satisfying(&versions), answer)
 }

@@ -5,7 +5,7 @@ use Rattle.semver_core.specs.Cuts.{Span, interval, is_interval}
 use Rattle.semver_core.specs.Values.Order.{precedence}
 use Rattle.semver_core.specs.Values.Versions.{VersionValue}
 use Rattle.nodejs_semver.specs.Internal.CommonFronts.{part_read}
-use Rattle.nodejs_semver.specs.Internal.Readings.{bounds_view, interval_view, table_view}
+use Rattle.nodejs_semver.specs.Internal.Readings.{bounds_view, table_view}
 use Rattle.nodejs_semver.specs.Text.Table.{table}
 use Rattle.nodejs_semver.specs.Text.WordText.{Word}
 use Rattle.nodejs_semver.specs.declared.readers.syntax.Bounds.{Bounds}
@@ -14,14 +14,14 @@ use Rattle.nodejs_semver.proofs.Bounds.TableRows.{table-interval}
 kept : (s : Span VersionValue) → is_interval precedence s ≡ true → interval precedence s ≡ Some s
 kept s h = rw h refl
 
-pub settled : (limit : ℕ) (w : Word) (o : Option Bounds) → table_view o ≡ table limit w → interval_view o ≡ table limit w
-settled limit w None e = e
-settled limit w (Some b) e = let h = kept (bounds_view b) (table-interval limit w (bounds_view b) (sym e)) in h ∙ e
+pub settled : (limit : ℕ) (w : Word) (b : Bounds) → table_view (Some b) ≡ table limit w → is_interval precedence (bounds_view b) ≡ true
+settled limit w b e = table-interval limit w (bounds_view b) (sym e)
 
 pub ordered : (limit : ℕ) (w : Word) (o : Option Bounds) → table_view o ≡ table limit w → IfSome o (λ b. is_interval precedence (bounds_view b) ≡ true)
 ordered limit w None e = tt
-ordered limit w (Some b) e = table-interval limit w (bounds_view b) (sym e)
+ordered limit w (Some b) e = settled limit w b e
 
 pub compared : (limit : ℕ) (w : Word) (b : Bounds) (rest : List ℕ) → table_view (Some b) ≡ table limit w
     → part_read rest (interval precedence (bounds_view b)) ≡ part_read rest (table limit w)
-compared limit w b rest e = ap (λ (o : Option (Span VersionValue)). part_read rest o) (settled limit w (Some b) e)
+compared limit w b rest e =
+    ap (λ (o : Option (Span VersionValue)). part_read rest o) (kept (bounds_view b) (settled limit w b e) ∙ e)

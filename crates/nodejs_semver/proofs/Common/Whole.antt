@@ -38,17 +38,19 @@ common_none limit text list o h e =
 pub if-some : {A : Type 0} (P : A → Type 0) (o : Option A) (x : A) → o ≡ Some x → IfSome o P → P x
 if-some {A} P o x e h = subst (λ (q : Option A). IfSome q P) e h
 
--- the range of a common text
-pub fast_read : (limit : ℕ) (text : List ℕ) (list : List (Span VersionValue)) → IsCommonRange limit text list → Some list ≡ if_any (denotes limit text)
-fast_read limit text list h =
-    sym (any-of list (list-some limit text list h)) ∙ ap (λ (l : List (Span VersionValue)). if_any l) (sym (common_ranges_are_denoted limit text list h).0)
-
--- its intervals are a range
-pub common_range : (limit : ℕ) (text : List ℕ) (list : List (Span VersionValue)) → IsCommonRange limit text list → IsRange limit list
-common_range limit text list h = record { some = list-some limit text list h; each = common_bounded limit text list h }
-
 pub common_list : (limit : ℕ) (text : List ℕ) (list : List (Span VersionValue)) → IsCommonRange limit text list → list ≡ denotes limit text
 common_list limit text list h = sym (common_ranges_are_denoted limit text list h).0
 
-pub common_filled : (limit : ℕ) (text : List ℕ) (list : List (Span VersionValue)) → IsCommonRange limit text list → 0 < length (denotes limit text)
-common_filled limit text list h = subst (λ (l : List (Span VersionValue)). 0 < length l) (common_list limit text list h) (list-some limit text list h)
+-- the intervals that a text denotes are a range, where there are some
+pub denoted_range : (limit : ℕ) (text : List ℕ) (list : List (Span VersionValue)) → list ≡ denotes limit text → 0 < length list → IsRange limit list
+denoted_range limit text list h some = record {
+  some = some;
+  each = ap (λ (l : List (Span VersionValue)). list_all (is_range_span (limit + 1)) l) h ∙ denotes-bounded limit text;
+}
+
+pub denoted_some : (limit : ℕ) (text : List ℕ) (list : List (Span VersionValue)) → list ≡ denotes limit text → 0 < length list → Some list ≡ if_any (denotes limit text)
+denoted_some limit text list h some = sym (any-of list some) ∙ ap (λ (l : List (Span VersionValue)). if_any l) h
+
+-- the range of a common text
+pub fast_read : (limit : ℕ) (text : List ℕ) (list : List (Span VersionValue)) → IsCommonRange limit text list → Some list ≡ if_any (denotes limit text)
+fast_read limit text list h = denoted_some limit text list (common_list limit text list h) (list-some limit text list h)

@@ -1,7 +1,8 @@
 -- One word of a part after another.
-use Rattle.std.proofs.Common.{◌≡◌, ℕ, ◌<◌, List, [], ◌∷◌, ◌++◌, length, sym, ap, ◌∙◌, arith, Some, None, append_assoc, refl, append-nil}
+use Rattle.std.proofs.Common.{◌≡◌, ℕ, ◌<◌, List, [], ◌∷◌, ◌++◌, length, sym, ap, ◌∙◌, arith, Some, None, append_assoc, refl}
 use Rattle.std.specs.Prelude.{Option, filter_map}
 use Rattle.std.specs.List.{cons_option}
+use Rattle.std.specs.Option.{option_to_list}
 use Rattle.semver_core.specs.Cuts.{Span, meet}
 use Rattle.semver_core.specs.Values.Order.{precedence}
 use Rattle.semver_core.specs.Internal.OrderLaws.{precedence_total}
@@ -16,18 +17,16 @@ use Rattle.nodejs_semver.proofs.Dividing.MeetLemmas.{joined-goes, joined-stops, 
 use Rattle.nodejs_semver.proofs.Reading.Progress.{words-step, word-shorter, spaces-le, spaces-gone}
 
 -- the running interval and one word more
-pub join_goes : (o : Option (Span VersionValue)) (running next common : Span VersionValue) (done rest : List (Span VersionValue)) → o ≡ Some running
-    → meet precedence running next ≡ Some common → done ++ joined_from precedence common rest ≡ done ++ joined precedence o (next ∷ rest)
-join_goes o running next common done rest e m =
+pub join_goes : (running next common : Span VersionValue) (done rest : List (Span VersionValue))
+    → meet precedence running next ≡ Some common → done ++ joined_from precedence common rest ≡ done ++ joined_from precedence running (next ∷ rest)
+join_goes running next common done rest m =
     ap (λ (l : List (Span VersionValue)). done ++ l) (sym (joined-goes precedence running next common rest m))
-    ∙ ap (λ (q : Option (Span VersionValue)). done ++ joined precedence q (next ∷ rest)) (sym e)
 
-pub join_stops : (o : Option (Span VersionValue)) (running next : Span VersionValue) (done rest : List (Span VersionValue)) → o ≡ Some running
-    → meet precedence running next ≡ None → (done ++ running ∷ []) ++ joined_from precedence next rest ≡ done ++ joined precedence o (next ∷ rest)
-join_stops o running next done rest e m =
+pub join_stops : (running next : Span VersionValue) (done rest : List (Span VersionValue))
+    → meet precedence running next ≡ None → (done ++ running ∷ []) ++ joined_from precedence next rest ≡ done ++ joined_from precedence running (next ∷ rest)
+join_stops running next done rest m =
     append_assoc done (running ∷ []) (joined_from precedence next rest)
-    ∙ (ap (λ (l : List (Span VersionValue)). done ++ l) (sym (joined-stops precedence running next rest m))
-    ∙ ap (λ (q : Option (Span VersionValue)). done ++ joined precedence q (next ∷ rest)) (sym e))
+    ∙ ap (λ (l : List (Span VersionValue)). done ++ l) (sym (joined-stops precedence running next rest m))
 
 pub rest-shorter : (limit : ℕ) (text : List ℕ) → 0 < length text → space_len text ≡ 0 → length (next_at limit text).1 < length text
 rest-shorter limit [] some h = absurd (omega arith)
@@ -35,6 +34,21 @@ rest-shorter limit (b ∷ rest) some h = omega (arith, word-shorter limit b rest
 
 pub rest-starts : (limit : ℕ) (text : List ℕ) → space_len (next_at limit text).1 ≡ 0
 rest-starts limit text = spaces-gone 0 (word_at limit text).1
+
+-- the same of what was read
+pub read-shorter : (limit : ℕ) (text after : List ℕ) (o : Option (Span VersionValue)) → 0 < length text → space_len text ≡ 0
+    → (o, after) ≡ next_at limit text → length after < length text
+read-shorter limit text after o some h e =
+    omega (arith, rest-shorter limit text some h, ap (λ (p : Option (Span VersionValue) × List ℕ). length p.1) e)
+
+pub read-starts : (limit : ℕ) (text after : List ℕ) (o : Option (Span VersionValue)) → (o, after) ≡ next_at limit text → space_len after ≡ 0
+read-starts limit text after o e = ap (λ (p : Option (Span VersionValue) × List ℕ). space_len p.1) e ∙ rest-starts limit text
+
+pub read-is : (limit : ℕ) (text after : List ℕ) (o p : Option (Span VersionValue)) → p ≡ o → (o, after) ≡ next_at limit text → (p, after) ≡ next_at limit text
+read-is limit text after o p h e = ap (λ (q : Option (Span VersionValue)). two q after) h ∙ e
+  where
+    two : Option (Span VersionValue) → List ℕ → Option (Span VersionValue) × List ℕ
+    two q t = (q, t)
 
 -- the bounds of the word at the front, before those of what follows
 pub bounds-step : (limit : ℕ) (text : List ℕ) → 0 < length text → space_len text ≡ 0
@@ -57,28 +71,30 @@ bounds-end limit [] h = refl
 bounds-end limit (b ∷ rest) h = absurd (omega arith)
 
 -- the end of the part
-pub words-last : (limit : ℕ) (rest : List ℕ) (all done : List (Span VersionValue)) (o : Option (Span VersionValue)) (last : Span VersionValue)
-    → done ++ joined precedence o (part_bounds limit rest) ≡ all → length rest ≡ 0 → o ≡ Some last → done ++ last ∷ [] ≡ all
+pub words-last : (limit : ℕ) (rest : List ℕ) (last : Span VersionValue) → length rest ≡ 0 → joined_from precedence last (part_bounds limit rest) ≡ last ∷ []
 unfolding joined_from
-words-last limit rest all done o last h none e =
-    ap (λ (q : Option (Span VersionValue)). done ++ joined precedence q []) (sym e)
-    ∙ (ap (λ (l : List (Span VersionValue)). done ++ joined precedence o l) (sym (bounds-end limit rest none)) ∙ h)
+words-last limit rest last none = ap (λ (l : List (Span VersionValue)). joined_from precedence last l) (bounds-end limit rest none)
 
-pub words-end : (limit : ℕ) (rest : List ℕ) (all done : List (Span VersionValue)) (o : Option (Span VersionValue))
-    → done ++ joined precedence o (part_bounds limit rest) ≡ all → length rest ≡ 0 → o ≡ None → done ≡ all
-words-end limit rest all done o h none e =
-    sym (append-nil done)
-    ∙ (ap (λ (q : Option (Span VersionValue)). done ++ joined precedence q []) (sym e)
-    ∙ (ap (λ (l : List (Span VersionValue)). done ++ joined precedence o l) (sym (bounds-end limit rest none)) ∙ h))
+-- the intervals of a part, before any word is read
+pub part-begins : (limit : ℕ) (part : List ℕ) → joined precedence None (part_bounds limit part) ≡ part_intervals limit part
+part-begins limit part = runs-joined precedence_total (part_bounds limit part)
 
--- the first word of a part, and what follows it
-pub part-first : (limit : ℕ) (part rest : List ℕ) (o : Option (Span VersionValue)) → 0 < length part → space_len part ≡ 0
-    → (o, rest) ≡ next_at limit part → joined precedence o (part_bounds limit rest) ≡ part_intervals limit part
-unfolding joined_from
-part-first limit part rest None some h e =
-    ap (λ (l : List (Span VersionValue)). joined precedence None l) (sym (bounds-none limit part rest some h e)) ∙ runs-joined precedence_total (part_bounds limit part)
-part-first limit part rest (Some s) some h e =
-    ap (λ (l : List (Span VersionValue)). joined precedence None l) (sym (bounds-some limit part rest s some h e)) ∙ runs-joined precedence_total (part_bounds limit part)
+-- a word without an interval
+pub part-passes : (limit : ℕ) (text after : List ℕ) → 0 < length text → space_len text ≡ 0
+    → ◌≡◌ {A = Option (Span VersionValue) × List ℕ} (None, after) (next_at limit text) → joined precedence None (part_bounds limit text) ≡ joined precedence None (part_bounds limit after)
+part-passes limit text after some h e = ap (λ (l : List (Span VersionValue)). joined precedence None l) (bounds-none limit text after some h e)
+
+-- the first word with one, and what follows it
+pub part-first : (limit : ℕ) (text after : List ℕ) (s : Span VersionValue) → 0 < length text → space_len text ≡ 0
+    → (Some s, after) ≡ next_at limit text → joined precedence None (part_bounds limit text) ≡ joined_from precedence s (part_bounds limit after)
+part-first limit text after s some h e = ap (λ (l : List (Span VersionValue)). joined precedence None l) (bounds-some limit text after s some h e)
+
+-- a last word before which no word had one
+pub part-last : (limit : ℕ) (text after : List ℕ) (o : Option (Span VersionValue)) → 0 < length text → space_len text ≡ 0 → length after ≡ 0
+    → (o, after) ≡ next_at limit text → joined precedence None (part_bounds limit text) ≡ option_to_list o
+part-last limit text after None some h none e =
+    part-passes limit text after some h e ∙ ap (λ (l : List (Span VersionValue)). joined precedence None l) (bounds-end limit after none)
+part-last limit text after (Some s) some h none e = part-first limit text after s some h e ∙ words-last limit after s none
 
 pub words-none : (limit : ℕ) (text : List ℕ) → length text ≡ 0 → words limit text ≡ []
 unfolding words_within

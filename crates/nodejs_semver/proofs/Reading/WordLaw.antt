@@ -181,19 +181,19 @@ ascii-dark : (b : ℕ) (rest : List ℕ) → b < 128 → is_whitespace b ≡ fal
 unfolding space_len
 ascii-dark b rest l h = rw (lt-ltb b 128 l, h) refl
 
-none-60 : (limit : ℕ) (rest : List ℕ) → longest_partial limit (60 ∷ rest) ≡ None
+pub none-60 : (limit : ℕ) (rest : List ℕ) → longest_partial limit (60 ∷ rest) ≡ None
 none-60 limit rest = none-at limit 60 rest refl (ascii-dark 60 rest (omega arith) refl) refl refl
 
-none-61 : (limit : ℕ) (rest : List ℕ) → longest_partial limit (61 ∷ rest) ≡ None
+pub none-61 : (limit : ℕ) (rest : List ℕ) → longest_partial limit (61 ∷ rest) ≡ None
 none-61 limit rest = none-at limit 61 rest refl (ascii-dark 61 rest (omega arith) refl) refl refl
 
-none-62 : (limit : ℕ) (rest : List ℕ) → longest_partial limit (62 ∷ rest) ≡ None
+pub none-62 : (limit : ℕ) (rest : List ℕ) → longest_partial limit (62 ∷ rest) ≡ None
 none-62 limit rest = none-at limit 62 rest refl (ascii-dark 62 rest (omega arith) refl) refl refl
 
-none-94 : (limit : ℕ) (rest : List ℕ) → longest_partial limit (94 ∷ rest) ≡ None
+pub none-94 : (limit : ℕ) (rest : List ℕ) → longest_partial limit (94 ∷ rest) ≡ None
 none-94 limit rest = none-at limit 94 rest refl (ascii-dark 94 rest (omega arith) refl) refl refl
 
-none-126 : (limit : ℕ) (rest : List ℕ) → longest_partial limit (126 ∷ rest) ≡ None
+pub none-126 : (limit : ℕ) (rest : List ℕ) → longest_partial limit (126 ∷ rest) ≡ None
 none-126 limit rest = none-at limit 126 rest refl (ascii-dark 126 rest (omega arith) refl) refl refl
 
 -- ---- steps through options

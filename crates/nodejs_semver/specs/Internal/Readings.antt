@@ -1,24 +1,27 @@
 -- For proofs and private contracts. What the readers give, seen without places in memory.
 use Rattle.std.specs.Prelude.{ℕ, Bool, List, Option, Some, None}
 use Rattle.std.specs.Borrow.{Bor}
-use Rattle.semver_core.specs.Cuts.{Span, interval}
+use Rattle.semver_core.specs.Cuts.{Span}
 use Rattle.semver_core.specs.declared.cuts.bound.Bound.{Bound}
 use Rattle.semver_core.specs.declared.cuts.bound.Bound.TheVariants.{Unbounded, Before, After}
-use Rattle.semver_core.specs.Values.Order.{precedence}
 use Rattle.semver_core.specs.Values.Versions.{VersionValue}
 use Rattle.nodejs_semver.specs.Internal.Fronts.{Front, list_of}
 use Rattle.nodejs_semver.specs.Text.PartialText as Spec
 use Rattle.nodejs_semver.specs.Internal.PreReleases.{pre_release_view}
 use Rattle.nodejs_semver.specs.Text.WordText as WordSpec
 use Rattle.nodejs_semver.specs.Internal.Words.{Reading}
-use Rattle.nodejs_semver.specs.Text.WordText.{at_least, above, equal, at_most, below, hyphen, plain, compare, tilde, caret, malformed}
+use Rattle.nodejs_semver.specs.Internal.Signs as SignSpec
+use Rattle.nodejs_semver.specs.Internal.Signs.{signed_word, unsigned, compared, tilded, careted}
+use Rattle.nodejs_semver.specs.Text.WordText.{at_least, above, equal, at_most, below, hyphen, malformed}
 use Rattle.nodejs_semver.specs.declared.readers.syntax.BareVersion.{BareVersion}
 use Rattle.nodejs_semver.specs.declared.readers.syntax.Bounds.{Bounds}
 use Rattle.nodejs_semver.specs.declared.readers.syntax.Partial.{Partial}
 use Rattle.nodejs_semver.specs.declared.readers.syntax.Comparator.{Comparator}
 use Rattle.nodejs_semver.specs.declared.readers.syntax.Comparator.TheVariants.{AtLeast, Above, Equal, AtMost, Below}
+use Rattle.nodejs_semver.specs.declared.readers.syntax.Sign.{Sign}
+use Rattle.nodejs_semver.specs.declared.readers.syntax.Sign.TheVariants as Signs
 use Rattle.nodejs_semver.specs.declared.readers.syntax.Word.{Word}
-use Rattle.nodejs_semver.specs.declared.readers.syntax.Word.TheVariants.{Hyphen, Plain, Compare, Tilde, Caret, Malformed}
+use Rattle.nodejs_semver.specs.declared.readers.syntax.Word.TheVariants.{Hyphen, Signed, Malformed}
 
 abbrev pub partial_view : Partial → Spec.Partial
 partial_view p =
@@ -34,8 +37,8 @@ partial_pair_view p = (partial_view p.0, p.1.now)
 abbrev pub pair_view : Bor (List ℕ) × Bor (List ℕ) → List ℕ × List ℕ
 pair_view p = (p.0.now, p.1.now)
 
-abbrev pub sign_view : Bool × Bor (List ℕ) → Bool × List ℕ
-sign_view p = (p.0, p.1.now)
+abbrev pub greater_view : Bool × Bor (List ℕ) → Bool × List ℕ
+greater_view p = (p.0, p.1.now)
 
 abbrev pub rest_view : Option (Bor (List ℕ)) → Option (List ℕ)
 rest_view None = None
@@ -52,12 +55,18 @@ abbrev pub comparator_front_view : Option (Comparator × Bor (List ℕ)) → Fro
 comparator_front_view None = None
 comparator_front_view (Some p) = Some (comparator_view p.0, p.1.now)
 
+abbrev pub sign_view : Sign → SignSpec.Sign
+sign_view Signs.Nothing = unsigned
+sign_view (Signs.Comparator c) = compared (comparator_view c)
+sign_view (Signs.Tilde greater) = tilded greater
+sign_view Signs.Caret = careted
+
+abbrev pub sign_pair_view : Sign × Bor (List ℕ) → SignSpec.Sign × List ℕ
+sign_pair_view p = (sign_view p.0, p.1.now)
+
 abbrev pub word_view : Word → WordSpec.Word
 word_view (Hyphen p q) = hyphen (partial_view p) (partial_view q)
-word_view (Plain p) = plain (partial_view p)
-word_view (Compare c p) = compare (comparator_view c) (partial_view p)
-word_view (Tilde greater p) = tilde greater (partial_view p)
-word_view (Caret p) = caret (partial_view p)
+word_view (Signed sign p) = signed_word (sign_view sign) (partial_view p)
 word_view Malformed = malformed
 
 abbrev pub word_pair_view : Word × Bor (List ℕ) → WordSpec.Word × List ℕ
@@ -88,14 +97,9 @@ abbrev pub table_view : Option Bounds → Option (Span VersionValue)
 table_view None = None
 table_view (Some b) = Some (bounds_view b)
 
--- the interval of the bounds, where they are there and make one
-abbrev pub interval_view : Option Bounds → Option (Span VersionValue)
-interval_view None = None
-interval_view (Some b) = interval precedence (bounds_view b)
-
 abbrev pub part_view : Bor (List ℕ) × Option (Bor (List ℕ)) → List ℕ × Option (List ℕ)
 part_view p = (p.0.now, rest_view p.1)
 
 -- an interval that may be absent, and the text behind it
-abbrev pub next_view : Option (Span VersionValue) × Bor (List ℕ) → Option (Span VersionValue) × List ℕ
-next_view p = (p.0, p.1.now)
+abbrev pub next_view : Option (Span VersionValue) → Bor (List ℕ) → Option (Span VersionValue) × List ℕ
+next_view found rest = (found, rest.now)

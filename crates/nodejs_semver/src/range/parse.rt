@@ -4,13 +4,13 @@ ghost use Rattle.std.specs.Prelude.{◌≡◌, ◌<◌, [], IfOk, OnOk, length, 
 ghost use Rattle.nodejs_semver.specs.Ranges.Gate.{accepts};
 ghost use Rattle.nodejs_semver.specs.Text.Denotes.{denotes};
 ghost use Rattle.nodejs_semver.specs.Text.WrittenSet.{writes};
-ghost use Rattle.semver_core.specs.Lists.{if_any};
 ghost use Rattle.semver_core.specs.Failures.{RefusedOnlyIf};
 ghost use Rattle.semver_core.specs.Values.Versions.{VersionValue};
 
 use crate::Range;
-use crate::readers::{is_blank, range_loose, read_into};
-use semver_core::{Failure, MAX_SAFE_INTEGER, SemverError};
+use crate::range::Intervals;
+use crate::readers::{read_any, read_common};
+use semver_core::{Failure, MAX_SAFE_INTEGER, SemverError, Version};
 use smallvec::SmallVec;
 use std::alloc::{AllocError, Global};
 
@@ -36,37 +36,23 @@ impl Range {
             (v : VersionValue) → accepts range v true ≡ writes MAX_SAFE_INTEGER text.now v) }
     {
         let mut intervals = SmallVec::new(alloc);
-        match read_into(alloc, text.as_bytes(), &mut intervals) {
-            Ok(true) => Ok(Range { intervals }),
-            Ok(false) => parse_loosely(alloc, text),
-            Err(error) => Err(Failure::Memory(error)),
+        read(alloc, text, &mut intervals)?;
+        if intervals.is_empty() {
+            return Err(Failure::Refused(SemverError));
         }
+        Ok(Range { intervals })
     }
 }
 
-// Reads a text that is not a common one.
-#[cold]
-#[inline(never)]
-fn parse_loosely(alloc: Global, text: &str) -> Result<Range, Failure<SemverError>>
-    ensures ok { IfOk result (λ range. range ≡ denotes MAX_SAFE_INTEGER text.now) }
-    ensures some { OnOk result (0 < length (denotes MAX_SAFE_INTEGER text.now)) }
-    ensures refused { RefusedOnlyIf result (denotes MAX_SAFE_INTEGER text.now ≡ []) }
-    ensures set { IfOk result (λ range. (v : VersionValue) →
-        accepts range v true ≡ writes MAX_SAFE_INTEGER text.now v) }
+// Reads the intervals of a text into an empty list. Most texts are common ones.
+#[inline(always)]
+fn read(alloc: Global, text: &str, found: &mut Intervals<Version>) -> Result<(), AllocError>
+    requires { found.old.items ≡ [] }
+    ensures { OnOk result (found.new.items ≡ denotes MAX_SAFE_INTEGER text.now) }
 {
-    match read_loosely(alloc, text) {
-        Ok(Some(range)) => Ok(range),
-        Ok(None) => Err(Failure::Refused(SemverError)),
-        Err(error) => Err(Failure::Memory(error)),
+    if !read_common(alloc, text.as_bytes(), found)? {
+        found.clear();
+        read_any(alloc, text, found)?;
     }
-}
-
-// The range of a text, or none where it has no interval.
-fn read_loosely(alloc: Global, text: &str) -> Result<Option<Range>, AllocError>
-    ensures { IfOk result (λ found. found ≡ if_any (denotes MAX_SAFE_INTEGER text.now)) }
-{
-    if is_blank(text) {
-        return Ok(Some(Range::any(alloc)?));
-    }
-    range_loose(alloc, text)
+    Ok(())
 }

@@ -1,81 +1,71 @@
 // How ranges print.
 
-ghost use Rattle.std.specs.Prelude.{Some};
+ghost use Rattle.std.specs.Fmt.{DisplaysStyledOnOk};
+ghost use Rattle.std.specs.Prelude.{◌≡◌, ◌++◌, Some};
+ghost use Rattle.semver_core.specs.Printing.Text.{version_text};
 ghost use Rattle.nodejs_semver.specs.Printing.Text.{lower_text, upper_text, span_text, range_text};
 
 use crate::Range;
 use semver_core::Version;
 use semver_core::cuts::{Bound, Interval};
-use semver_core::print::write_unstyled;
 use std::fmt;
 
+// A sign and a version.
+fn write_signed<W: fmt::Write>(
+    sign: &str,
+    version: &Version,
+    f: &mut fmt::Formatter<W>,
+) -> fmt::Result
+    ensures { DisplaysStyledOnOk W.write_str_gives f.old result
+        (Some (sign.now ++ version_text version.now)) f.new }
+{
+    f.write_str(sign)?;
+    fmt::Display::fmt(version, f)
+}
+
 // A lower bound: `>=v` or `>v`, and nothing where there is none.
-#[derive(Drop)]
-struct Lower<'a>(&'a Bound<Version>);
-
-impl fmt::Display for Lower<'_> {
-    ghost output = { λ b. Some (lower_text b.0.now) };
-
-    fn fmt<W: fmt::Write>(&self, f: &mut fmt::Formatter<W>) -> fmt::Result {
-        match self.0 {
-            Bound::Unbounded => Ok(()),
-            Bound::Before(version) => write!(f, ">={version}"),
-            Bound::After(version) => write!(f, ">{version}"),
-        }
+fn write_lower<W: fmt::Write>(bound: &Bound<Version>, f: &mut fmt::Formatter<W>) -> fmt::Result
+    ensures { DisplaysStyledOnOk W.write_str_gives f.old result
+        (Some (lower_text bound.now)) f.new }
+{
+    match bound {
+        Bound::Unbounded => Ok(()),
+        Bound::Before(version) => write_signed(">=", version, f),
+        Bound::After(version) => write_signed(">", version, f),
     }
 }
 
 // An upper bound: `<v` or `<=v`, and nothing where there is none.
-#[derive(Drop)]
-struct Upper<'a>(&'a Bound<Version>);
-
-impl fmt::Display for Upper<'_> {
-    ghost output = { λ b. Some (upper_text b.0.now) };
-
-    fn fmt<W: fmt::Write>(&self, f: &mut fmt::Formatter<W>) -> fmt::Result {
-        match self.0 {
-            Bound::Unbounded => Ok(()),
-            Bound::Before(version) => write!(f, "<{version}"),
-            Bound::After(version) => write!(f, "<={version}"),
-        }
+fn write_upper<W: fmt::Write>(bound: &Bound<Version>, f: &mut fmt::Formatter<W>) -> fmt::Result
+    ensures { DisplaysStyledOnOk W.write_str_gives f.old result
+        (Some (upper_text bound.now)) f.new }
+{
+    match bound {
+        Bound::Unbounded => Ok(()),
+        Bound::Before(version) => write_signed("<", version, f),
+        Bound::After(version) => write_signed("<=", version, f),
     }
 }
 
 // An interval: its bounds, or one version where they are `>=v` and `<=w` and v equals w.
-#[derive(Drop)]
-struct Between<'a>(&'a Interval<Version>);
-
-impl fmt::Display for Between<'_> {
-    ghost output = { λ i. Some (span_text i.0.now) };
-
-    fn fmt<W: fmt::Write>(&self, f: &mut fmt::Formatter<W>) -> fmt::Result {
-        let (first, last) = (self.0.lower(), self.0.upper());
-        let (lower, upper) = (Lower(first), Upper(last));
-        match (first, last) {
-            (Bound::Unbounded, Bound::Unbounded) => write!(f, "*"),
-            (Bound::Unbounded, _) => write!(f, "{upper}"),
-            (_, Bound::Unbounded) => write!(f, "{lower}"),
-            (Bound::Before(v), Bound::After(w)) if v == w => write!(f, "{v}"),
-            (_, _) => write!(f, "{lower} {upper}"),
+fn write_interval<W: fmt::Write>(
+    interval: &Interval<Version>,
+    f: &mut fmt::Formatter<W>,
+) -> fmt::Result
+    ensures { DisplaysStyledOnOk W.write_str_gives f.old result
+        (Some (span_text interval.now)) f.new }
+{
+    let (lower, upper) = (interval.lower(), interval.upper());
+    match (lower, upper) {
+        (Bound::Unbounded, Bound::Unbounded) => f.write_str("*"),
+        (Bound::Unbounded, _) => write_upper(upper, f),
+        (_, Bound::Unbounded) => write_lower(lower, f),
+        (Bound::Before(v), Bound::After(w)) if v == w => fmt::Display::fmt(v, f),
+        (_, _) => {
+            write_lower(lower, f)?;
+            f.write_str(" ")?;
+            write_upper(upper, f)
         }
-    }
-}
-
-// Intervals joined by `||`.
-#[derive(Drop)]
-struct Joined<'a>(&'a [Interval<Version>]);
-
-impl fmt::Display for Joined<'_> {
-    ghost output = { λ list. Some (range_text list.0.now) };
-
-    fn fmt<W: fmt::Write>(&self, f: &mut fmt::Formatter<W>) -> fmt::Result {
-        let mut separator = "";
-        for interval in self.0 {
-            let interval = Between(interval);
-            write!(f, "{separator}{interval}")?;
-            separator = "||";
-        }
-        Ok(())
     }
 }
 
@@ -96,6 +86,12 @@ impl fmt::Display for Range {
     ghost styled_output = { λ r _. Some (range_text r) };
 
     fn fmt<W: fmt::Write>(&self, f: &mut fmt::Formatter<W>) -> fmt::Result {
-        write_unstyled(f, Joined(self.intervals()))
+        let mut separator = "";
+        for interval in self.intervals() {
+            f.write_str(separator)?;
+            write_interval(interval, f)?;
+            separator = "||";
+        }
+        Ok(())
     }
 }

@@ -14,8 +14,9 @@ ghost use Rattle.semver_core.specs.declared.TheConstants.{MAX_SAFE_INTEGER};
 
 use crate::Range;
 use crate::range::Intervals;
+use crate::readers::intervals::{between, push, push_between, push_ordered};
 use crate::readers::syntax::{BareVersion, Bounds, Partial};
-use crate::readers::{intervals, partial, table, words};
+use crate::readers::{partial, table, words};
 use semver_core::cuts::{Bound, Interval};
 use semver_core::{MAX_SAFE_INTEGER, Version};
 use smallvec::SmallVec;
@@ -101,27 +102,6 @@ fn comparison(text: &[u8]) -> Option<(Bounds<'_>, &[u8])>
     Some((bounds, rest))
 }
 
-// Adds the interval of two bounds, where the lower cut is below the upper one.
-#[inline(always)]
-fn push_between(
-    alloc: Global,
-    lower: Bound<BareVersion<'_>>,
-    upper: Bound<BareVersion<'_>>,
-    found: &mut Intervals<Version>,
-) -> Result<bool, AllocError>
-    ensures { let s = between_view lower.entry upper.entry in
-        IfOk result (λ there. both_view there found.new.items
-        ≡ Spec.pushed found.old.items (interval precedence s)) }
-{
-    let lower = intervals::bound(alloc, lower)?;
-    let upper = intervals::bound(alloc, upper)?;
-    let Some(interval) = Interval::new(lower, upper) else {
-        return Ok(false);
-    };
-    found.push(interval)?;
-    Ok(true)
-}
-
 // What the intervals of two pairs of bounds have in common.
 fn common_interval(
     alloc: Global,
@@ -131,10 +111,10 @@ fn common_interval(
     ensures { IfOk result (λ both. both
         ≡ Spec.both_of (bounds_view first.entry) (bounds_view second.entry)) }
 {
-    let Some(first) = intervals::interval_of(alloc, first)? else {
+    let Some(first) = between(alloc, first)? else {
         return Ok(None);
     };
-    let Some(second) = intervals::interval_of(alloc, second)? else {
+    let Some(second) = between(alloc, second)? else {
         return Ok(None);
     };
     Ok(first.intersect(alloc, &second)?)
@@ -155,7 +135,7 @@ fn push_common(
 {
     match common_interval(alloc, first, second)? {
         Some(interval) => {
-            found.push(interval)?;
+            push(interval, found)?;
             Ok(true)
         }
         None => Ok(false),
@@ -238,9 +218,7 @@ fn push_word<'a>(
     let Some(bounds) = bounds else {
         return Ok(None);
     };
-    let lower = intervals::bound(alloc, bounds.lower)?;
-    let upper = intervals::bound(alloc, bounds.upper)?;
-    found.push(Interval::of_ordered(lower, upper))?;
+    push_ordered(alloc, bounds, found)?;
     Ok(Some(rest))
 }
 
@@ -365,7 +343,7 @@ fn after_bars(text: &[u8]) -> Option<&[u8]>
 /// Adds the intervals of a common text, one for each part, to an empty list. It returns `false`
 /// exactly where the text is not a common one; then the list may hold some of them.
 #[inline(always)]
-pub(crate) fn read_into(
+pub(crate) fn read_common(
     alloc: Global,
     text: &[u8],
     found: &mut Intervals<Version>,
@@ -408,7 +386,7 @@ pub fn range_fast(alloc: Global, text: &str) -> Result<Option<Range>, AllocError
     ensures none { IfOk result (λ found. IfNone found (IsUncommon MAX_SAFE_INTEGER text.now)) }
 {
     let mut found = SmallVec::new(alloc);
-    if !read_into(alloc, text.as_bytes(), &mut found)? {
+    if !read_common(alloc, text.as_bytes(), &mut found)? {
         return Ok(None);
     }
     Ok(Range::from_intervals(found))

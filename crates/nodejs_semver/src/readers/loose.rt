@@ -1,9 +1,11 @@
 // The reader of range texts, word by word.
 
-ghost use Rattle.std.specs.Prelude.{◌≡◌, ◌++◌, IfOk, OnOk, flat_map, false};
+ghost use Rattle.std.specs.Prelude.{◌≡◌, ◌++◌, ◌∷◌, [], IfOk, OnOk, flat_map, false};
 ghost use Rattle.std.specs.List.{list_all};
 ghost use Rattle.nodejs_semver.specs.Text.Denotes.{denotes, part_denotes};
+ghost use Rattle.nodejs_semver.specs.Internal.PartFronts.{later_parts};
 ghost use Rattle.nodejs_semver.specs.Internal.Parts.{parts};
+ghost use Rattle.nodejs_semver.specs.Internal.Readings.{rest_view};
 ghost use Rattle.semver_core.specs.Internal.Spaces.{space_len};
 ghost use Rattle.semver_core.specs.Lists.{is_empty, if_any};
 
@@ -21,7 +23,14 @@ use std::alloc::{AllocError, Global};
 pub fn is_blank(text: &str) -> bool
     ensures { result ≡ list_all is_empty (parts text.now) }
 {
-    let mut rest = Some(text);
+    are_blank(Some(text))
+}
+
+// The same of a text that may be absent.
+fn are_blank(text: Option<&str>) -> bool
+    ensures { result ≡ list_all is_empty (later_parts (rest_view text.entry)) }
+{
+    let mut rest = text;
     'parts: while let Some(text) = rest {
         let (part, after) = bars::next_part(text);
         if !part.is_empty() {
@@ -40,25 +49,50 @@ fn add_part(alloc: Global, part: &str, found: &mut Intervals<Version>) -> Result
         found.new.items ≡ found.old.items ++ part_denotes MAX_SAFE_INTEGER part.now) }
 {
     if part.is_empty() {
-        found.push(Interval::default())?;
-        return Ok(());
+        return intervals::push(Interval::default(), found);
     }
     intervals::read_part(alloc, part.as_bytes(), found)
 }
 
-// The intervals of all parts, in order. One cursor goes through the text.
-fn intervals_of(alloc: Global, text: &str) -> Result<Intervals<Version>, AllocError>
-    ensures { IfOk result (λ found. found.items
-        ≡ flat_map (part_denotes MAX_SAFE_INTEGER) (parts text.now)) }
+// Adds to an empty list what a part means, and what each part of the text behind it means. One
+// cursor goes through the text.
+fn add_parts(
+    alloc: Global,
+    first: &str,
+    behind: Option<&str>,
+    found: &mut Intervals<Version>,
+) -> Result<(), AllocError>
+    requires starts { space_len first.now ≡ 0 }
+    requires empty { found.old.items ≡ [] }
+    ensures { OnOk result (found.new.items ≡ flat_map (part_denotes MAX_SAFE_INTEGER)
+        (first.now ∷ later_parts (rest_view behind.entry))) }
 {
-    let mut found = SmallVec::new(alloc);
-    let mut rest = Some(text);
+    add_part(alloc, first, found)?;
+    let mut rest = behind;
     'parts: while let Some(text) = rest {
         let (part, after) = bars::next_part(text);
-        add_part(alloc, part, &mut found)?;
+        add_part(alloc, part, found)?;
         rest = after;
     }
-    Ok(found)
+    Ok(())
+}
+
+/// Reads the intervals of a range text of any length into an empty list.
+#[cold]
+#[inline(never)]
+pub(crate) fn read_any(
+    alloc: Global,
+    text: &str,
+    found: &mut Intervals<Version>,
+) -> Result<(), AllocError>
+    requires { found.old.items ≡ [] }
+    ensures { OnOk result (found.new.items ≡ denotes MAX_SAFE_INTEGER text.now) }
+{
+    let (part, rest) = bars::next_part(text);
+    if part.is_empty() && are_blank(rest) {
+        return intervals::push(Interval::default(), found);
+    }
+    add_parts(alloc, part, rest, found)
 }
 
 /// Reads a range text of any length. Returns `None` if no part has an interval; fails only if
@@ -72,6 +106,8 @@ pub fn range_loose(alloc: Global, text: &str) -> Result<Option<Range>, AllocErro
     requires some_part { list_all is_empty (parts text.now) ≡ false }
     ensures { IfOk result (λ found. found ≡ if_any (denotes MAX_SAFE_INTEGER text.now)) }
 {
-    let found = intervals_of(alloc, text)?;
+    let mut found = SmallVec::new(alloc);
+    let (part, rest) = bars::next_part(text);
+    add_parts(alloc, part, rest, &mut found)?;
     Ok(Range::from_intervals(found))
 }

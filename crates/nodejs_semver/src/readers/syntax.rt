@@ -33,13 +33,20 @@ pub(crate) enum Comparator {
     Below,
 }
 
+/// What stands before the partial of a word.
+#[derive(Clone, Copy)]
+pub(crate) enum Sign {
+    Nothing,
+    Comparator(Comparator),
+    /// A tilde. It is `true` where `>` stands behind it.
+    Tilde(bool),
+    Caret,
+}
+
 #[derive(Clone, Copy)]
 pub(crate) enum Word<'a> {
     Hyphen(Partial<'a>, Partial<'a>),
-    Plain(Partial<'a>),
-    Compare(Comparator, Partial<'a>),
-    Tilde(bool, Partial<'a>),
-    Caret(Partial<'a>),
+    Signed(Sign, Partial<'a>),
     Malformed,
 }
 

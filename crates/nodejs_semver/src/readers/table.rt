@@ -1,7 +1,8 @@
 // The word table: the bounds of a word, by its form and the numbers of its partial.
 
 ghost use Rattle.std.specs.Prelude.{◌≡◌, ◌≤◌, ◌<◌, ◌+◌, ◌^◌, Some, length, unwrap_or};
-ghost use Rattle.nodejs_semver.specs.Internal.Readings.{bare_view, bounds_view, comparator_view, interval_view, partial_view, table_view, word_view};
+ghost use Rattle.nodejs_semver.specs.Internal.Readings.{bare_view, bounds_view, comparator_view, partial_view, sign_view, table_view};
+ghost use Rattle.nodejs_semver.specs.Internal.Signs.{signed_word};
 ghost use Rattle.nodejs_semver.specs.Text.Table as Spec;
 ghost use Rattle.nodejs_semver.specs.Text.Table.{table};
 ghost use Rattle.nodejs_semver.specs.Text.WordText as Words;
@@ -10,7 +11,7 @@ ghost use Rattle.semver_core.specs.Values.Order.{precedence};
 ghost use Rattle.semver_core.specs.Values.Versions.{release_value};
 ghost use Rattle.semver_core.specs.declared.TheConstants.{MAX_SAFE_INTEGER};
 
-use crate::readers::syntax::{BareVersion, Bounds, Comparator, Partial, PreRelease, Word};
+use crate::readers::syntax::{BareVersion, Bounds, Comparator, Partial, PreRelease, Sign};
 use semver_core::MAX_SAFE_INTEGER;
 use semver_core::cuts::Bound;
 
@@ -320,18 +321,16 @@ pub(crate) fn compare<'a>(comparator: Comparator, partial: &Partial<'a>) -> Opti
     }
 }
 
-/// The bounds that the form of a word and its numbers give. Those of a hyphen word alone may make
-/// no interval.
-#[tactic(auto, unfolding(crate::specs::Text::Table::table), using(crate::proofs::Bounds::TableReadings::settled))]
-pub(crate) fn table<'a>(word: &Word<'a>) -> Option<Bounds<'a>>
-    ensures { interval_view result ≡ table MAX_SAFE_INTEGER (word_view word.now) }
+/// The bounds of a word of one partial, in order.
+#[inline(always)]
+pub(crate) fn signed<'a>(sign: Sign, partial: &Partial<'a>) -> Option<Bounds<'a>>
+    ensures { table_view result
+        ≡ table MAX_SAFE_INTEGER (signed_word (sign_view sign) (partial_view partial.now)) }
 {
-    match word {
-        Word::Hyphen(lower, upper) => Some(hyphen(lower, upper)),
-        Word::Plain(partial) => plain(partial),
-        Word::Compare(comparator, partial) => compare(*comparator, partial),
-        Word::Tilde(greater, partial) => tilde(*greater, partial),
-        Word::Caret(partial) => caret(partial),
-        Word::Malformed => None,
+    match sign {
+        Sign::Nothing => plain(partial),
+        Sign::Comparator(comparator) => compare(comparator, partial),
+        Sign::Tilde(greater) => tilde(greater, partial),
+        Sign::Caret => caret(partial),
     }
 }

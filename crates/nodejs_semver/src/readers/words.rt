@@ -1,14 +1,15 @@
 // The words of a part.
 
 ghost use Rattle.std.specs.Prelude.{◌≡◌, ◌≤◌, ◌+◌, length, take, drop, true};
-ghost use Rattle.nodejs_semver.specs.Internal.Partials.{longest_partial, or_else};
-ghost use Rattle.nodejs_semver.specs.Internal.Readings.{comparator_front_view, partial_front_view, partial_view, reading_view, rest_view, sign_view, word_pair_view, word_view};
+ghost use Rattle.nodejs_semver.specs.Internal.Partials.{longest_partial};
+ghost use Rattle.nodejs_semver.specs.Internal.Readings.{comparator_front_view, greater_view, partial_front_view, partial_view, reading_view, rest_view, sign_pair_view, sign_view, word_pair_view, word_view};
+ghost use Rattle.nodejs_semver.specs.Internal.Signs as Signs;
 ghost use Rattle.nodejs_semver.specs.Internal.Words as Spec;
 ghost use Rattle.nodejs_semver.specs.Internal.Words.{is_boundary};
 ghost use Rattle.semver_core.specs.declared.TheConstants.{MAX_SAFE_INTEGER};
 
 use crate::readers::partial;
-use crate::readers::syntax::{Comparator, Partial, Word};
+use crate::readers::syntax::{Comparator, Partial, Sign, Word};
 use semver_core::{MAX_SAFE_INTEGER, scan};
 
 // The longest partial at the front.
@@ -75,19 +76,6 @@ fn hyphen_behind<'a>(lower: Partial<'a>, text: &'a [u8]) -> Option<(Word<'a>, &'
     at_boundary(Word::Hyphen(lower, upper), rest)
 }
 
-// A word that begins with a partial.
-fn partial_word_front(text: &[u8]) -> Option<(Word<'_>, &[u8])>
-    ensures { reading_view result
-        ≡ or_else (Spec.hyphen_at MAX_SAFE_INTEGER text.now)
-        (Spec.plain_at MAX_SAFE_INTEGER text.now) }
-{
-    let (partial, rest) = longest_partial(text)?;
-    if let Some(read) = hyphen_behind(partial, rest) {
-        return Some(read);
-    }
-    at_boundary(Word::Plain(partial), rest)
-}
-
 // The comparator at the front, the longer one first.
 #[inline(always)]
 pub(crate) fn comparator_front(text: &[u8]) -> Option<(Comparator, &[u8])>
@@ -103,18 +91,10 @@ pub(crate) fn comparator_front(text: &[u8]) -> Option<(Comparator, &[u8])>
     }
 }
 
-fn compare_front(text: &[u8]) -> Option<(Word<'_>, &[u8])>
-    ensures { reading_view result ≡ Spec.compare_at MAX_SAFE_INTEGER text.now }
-{
-    let (comparator, rest) = comparator_front(text)?;
-    let (partial, rest) = longest_partial(scan::skip_spaces(rest))?;
-    at_boundary(Word::Compare(comparator, partial), rest)
-}
-
 // Whether `>` stands behind a tilde, and what stands behind it.
 #[inline(always)]
 pub(crate) fn tilde_sign(text: &[u8]) -> (bool, &[u8])
-    ensures { sign_view result ≡ Spec.tilde_sign text.now }
+    ensures { greater_view result ≡ Spec.tilde_sign text.now }
 {
     match text {
         [b'>', rest @ ..] => (true, rest),
@@ -122,25 +102,36 @@ pub(crate) fn tilde_sign(text: &[u8]) -> (bool, &[u8])
     }
 }
 
-fn tilde_front(text: &[u8]) -> Option<(Word<'_>, &[u8])>
-    ensures { reading_view result ≡ Spec.tilde_at MAX_SAFE_INTEGER text.now }
+// The sign at the front, and what follows it and its whitespace.
+#[inline(always)]
+fn sign_front(text: &[u8]) -> (Sign, &[u8])
+    ensures { sign_pair_view result ≡ Signs.sign_at text.now }
 {
-    let [b'~', rest @ ..] = text else {
-        return None;
-    };
-    let (greater, rest) = tilde_sign(scan::skip_spaces(rest));
-    let (partial, rest) = longest_partial(scan::skip_spaces(rest))?;
-    at_boundary(Word::Tilde(greater, partial), rest)
+    match text {
+        [b'~', rest @ ..] => {
+            let (greater, rest) = tilde_sign(scan::skip_spaces(rest));
+            (Sign::Tilde(greater), scan::skip_spaces(rest))
+        }
+        [b'^', rest @ ..] => (Sign::Caret, scan::skip_spaces(rest)),
+        _ => match comparator_front(text) {
+            Some((comparator, rest)) => (Sign::Comparator(comparator), scan::skip_spaces(rest)),
+            None => (Sign::Nothing, text),
+        },
+    }
 }
 
-fn caret_front(text: &[u8]) -> Option<(Word<'_>, &[u8])>
-    ensures { reading_view result ≡ Spec.caret_at MAX_SAFE_INTEGER text.now }
+// The word of a sign, the partial behind it and what follows the partial.
+#[inline(always)]
+fn word_behind<'a>(sign: Sign, partial: Partial<'a>, rest: &'a [u8]) -> Option<(Word<'a>, &'a [u8])>
+    ensures { reading_view result ≡ Signs.word_behind MAX_SAFE_INTEGER
+        (sign_view sign) (partial_view partial.entry) rest.now }
 {
-    let [b'^', rest @ ..] = text else {
-        return None;
-    };
-    let (partial, rest) = longest_partial(scan::skip_spaces(rest))?;
-    at_boundary(Word::Caret(partial), rest)
+    if let Sign::Nothing = sign {
+        if let Some(read) = hyphen_behind(partial, rest) {
+            return Some(read);
+        }
+    }
+    at_boundary(Word::Signed(sign, partial), rest)
 }
 
 // What stands from the first boundary on.
@@ -155,20 +146,15 @@ fn skip_to_boundary(text: &[u8]) -> &[u8]
     &text[text.len()..]
 }
 
-// The first of the forms that stands at the front.
+// The word at the front, where it has one of the forms of words.
+#[inline(always)]
+#[tactic(auto, using(crate::proofs::Reading::SignLaw::word_by_sign))]
 fn form_front(text: &[u8]) -> Option<(Word<'_>, &[u8])>
     ensures { reading_view result ≡ Spec.form_at MAX_SAFE_INTEGER text.now }
 {
-    if let Some(read) = partial_word_front(text) {
-        return Some(read);
-    }
-    if let Some(read) = compare_front(text) {
-        return Some(read);
-    }
-    if let Some(read) = tilde_front(text) {
-        return Some(read);
-    }
-    caret_front(text)
+    let (sign, rest) = sign_front(text);
+    let (partial, rest) = longest_partial(rest)?;
+    word_behind(sign, partial, rest)
 }
 
 // The word at the front, and what follows it.

@@ -130,10 +130,7 @@ impl<V: Point> Interval<V> {
     pub fn meets(&self, other: &Interval<V>) -> bool
         ensures { result ≡ is_some (meet V.cmp self.now other.now) }
     {
-        is_below(
-            greater_lower(&self.lower, &other.lower),
-            lesser_upper(&self.upper, &other.upper),
-        )
+        is_below(&other.lower, &self.upper) && is_below(&self.lower, &other.upper)
     }
 
     /// The intersection: the points of both intervals. Its bounds are the greater lower bound and
@@ -153,9 +150,12 @@ impl<V: Point> Interval<V> {
         ensures set { IfOk result (λ r. (v : V) →
             option_holds V.cmp r v ≡ (holds V.cmp self.now v && holds V.cmp other.now v)) }
     {
-        let lower = greater_lower(&self.lower, &other.lower);
-        let upper = lesser_upper(&self.upper, &other.upper);
-        Ok(copy_between(alloc, lower, upper)?)
+        if !self.meets(other) {
+            return Ok(None);
+        }
+        let lower = greater_lower(&self.lower, &other.lower).copy(alloc)?;
+        let upper = lesser_upper(&self.upper, &other.upper).copy(alloc)?;
+        Ok(Some(Interval { lower, upper }))
     }
 
     /// The intersection, by moving the bounds of both intervals. It allocates nothing. Where
@@ -191,9 +191,12 @@ impl<V: Point> Interval<V> {
         ensures set { IfOk result (λ r. (v : V) →
             option_holds V.cmp r v ≡ (holds V.cmp self.now v && holds V.cmp other.now v)) }
     {
-        let lower = greater_lower(&other.lower, &self.lower);
-        let upper = lesser_upper(&self.upper, &other.upper);
-        Ok(copy_between(alloc, lower, upper)?)
+        if !self.meets(other) {
+            return Ok(None);
+        }
+        let lower = greater_lower(&other.lower, &self.lower).copy(alloc)?;
+        let upper = lesser_upper(&self.upper, &other.upper).copy(alloc)?;
+        Ok(Some(Interval { lower, upper }))
     }
 
     /// What is left of the interval below the other one, and above it. A new bound is the other's
@@ -239,24 +242,6 @@ impl<V: Point> Interval<V> {
         };
         Ok((below, above))
     }
-}
-
-// The interval between copies of two bounds, where the lower cut is below the upper one.
-#[inline(always)]
-fn copy_between<V: Point>(
-    alloc: Global,
-    lower: &Bound<V>,
-    upper: &Bound<V>,
-) -> Result<Option<Interval<V>>, AllocError>
-    ensures { IfOk result (λ r.
-        r ≡ interval V.cmp (record { lower = lower.now; upper = upper.now })) }
-{
-    if !is_below(lower, upper) {
-        return Ok(None);
-    }
-    let lower = lower.copy(alloc)?;
-    let upper = upper.copy(alloc)?;
-    Ok(Some(Interval { lower, upper }))
 }
 
 /// The interval without bounds.

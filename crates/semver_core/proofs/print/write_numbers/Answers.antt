@@ -1,13 +1,13 @@
-use Rattle.std.proofs.Common.{◌≡◌, ◌-◌, ◌∙◌, drop, take}
-use Rattle.std.proofs.lemmas.List.{take_rest}
-use Rattle.std.proofs.lemmas.Str.{IsUtf8-from_ascii}
-use Rattle.semver_core.specs.Internal.Printed.{numbers_text}
+use Rattle.std.proofs.Common.{append_assoc, refl, rules}
+use Rattle.std.proofs.Output.{has_written_styled_append, has_written_styled_of_eq}
 use Rattle.semver_core.proofs.print.write_numbers.Goals as goal
 
-pub unreachable-requires : goal.unreachable-requires
-unreachable-requires g c =
-    let start = c.put_numbers-start.result in
-    let bytes = c.put_numbers-start.new.bytes in
-    let whole : take (62 - start) (drop start bytes) ≡ numbers_text c.args.major c.args.minor c.args.patch =
-    rw c.put_numbers-start.array_long at (take_rest bytes start) ∙ c.put_numbers-start.ensures.written in
-    c.in-Err.ensures.cases.0 (rw whole (IsUtf8-from_ascii _ c.put_numbers-start.ensures.ascii))
+pub returns : goal.returns
+returns g c flush ok =
+    let major = c.in_ok-write_number.ensures flush refl in
+    let dot = c.in_ok-write_str.ensures.styled major.flush refl in
+    let minor = c.in_ok-write_number-2.ensures dot.flush refl in
+    let second = c.in_ok-write_str-2.ensures.styled minor.flush refl in
+    let patch = c.write_number-3.ensures second.flush ok in
+    has_written_styled_of_eq _ _ _ _ _ (simp append_assoc (search rules))
+    (has_written_styled_append _ _ _ _ _ _ (has_written_styled_append _ _ _ _ _ _ (has_written_styled_append _ _ _ _ _ _ (has_written_styled_append _ _ _ _ _ _ major dot) minor) second) patch)

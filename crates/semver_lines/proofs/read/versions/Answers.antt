@@ -1,25 +1,36 @@
-use Rattle.std.proofs.Common.{◌≡◌, ◌++◌, ◌∷◌, [], length, lit<, rules}
-use Rattle.std.proofs.lemmas.Iterator.Consumers.{YieldsList-turn, YieldsList-end}
-use Rattle.std.proofs.lemmas.Iterator.Splits.{YieldsList-from_str_split}
-use Rattle.std.proofs.lemmas.List.{length_push}
+use Rattle.std.proofs.Common.{◌≡◌, ◌++◌, ◌∷◌, ◌∙◌, [], ap, append_assoc, rules, sym}
 use Rattle.std.proofs.lemmas.Result.{err_from_is_err_and}
 use Rattle.semver_lines.specs.Lines.{fields}
-use Rattle.semver_lines.proofs.Several.{parse_step, parsed_all, refused_step}
+use Rattle.semver_lines.proofs.Several.{parse_one_more, refused_one}
 use Rattle.semver_lines.proofs.read.versions.Goals as goal
 
 pub returns-in_err-version : goal.returns-in_err-version
 returns-in_err-version c =
-    let turn = YieldsList-turn (YieldsList-from_str_split 59 c.args.texts.now (lit< tt) (cc) (cc) (cc)) c.loop-text.yielded _ c.loop-text.yielded_by _ _ c.in-Some.text c.in-Some.is c.next.ensures.steps in
+    let (utf8, (done, split, read)) = c.fields.invariant in
     let p = err_from_is_err_and c.from_residual-in_err-version.result c.from_residual-in_err-version.ensures.1 in
-    rw p.1 (refused_step (fields c.args.texts.now) (length c.loop-text.yielded) c.in-Some.text.now _ turn (rw p.2 c.in_err-version.ensures))
+    rw p.1 (refused_one (fields c.args.texts.now) done c.in-Some.text.now (fields c.in-Some.behind.now) _ (split ∙ ap (λ l. done ++ l) c.in-Some.ensures.some) (rw p.2 c.in_err-version.ensures))
 
-pub loop-text-preserved : goal.loop-text-preserved
-loop-text-preserved c =
-    let turn = YieldsList-turn (YieldsList-from_str_split 59 c.args.texts.now (lit< tt) (cc) (cc) (cc)) c.loop-text.yielded _ c.loop-text.yielded_by _ _ c.in-Some.text c.in-Some.is c.next.ensures.steps in
-    let same : c.push.new.self.items ≡ c.loop-text.versions.items ++ c.in_ok-version.version ∷ [] = search rules in
-    rw same (parse_step (fields c.args.texts.now) (length c.loop-text.yielded) _ c.in-Some.text.now c.loop-text.versions.items c.in_ok-version.version turn (length_push c.loop-text.yielded c.in-Some.text) c.loop-text.invariant c.in_ok-version.ensures)
+pub fields-preserved : goal.fields-preserved
+fields-preserved c =
+    let (utf8, (done, split, read)) = c.fields.invariant in
+    let text = c.in-Some.text.now in
+    let same : c.push.new.self.items ≡ c.fields.versions.items ++ c.in_ok-version.version ∷ [] = search rules in (
+      c.in-Some.ensures.utf8,
+      (
+        done ++ text ∷ [],
+        split ∙ ap (λ l. done ++ l) c.in-Some.ensures.some ∙ sym (append_assoc done (text ∷ []) (fields c.in-Some.behind.now)),
+        rw same (parse_one_more done c.fields.versions.items text c.in_ok-version.version read c.in_ok-version.ensures),
+      ),
+    )
+
+pub returns-in_err-last : goal.returns-in_err-last
+returns-in_err-last c =
+    let (utf8, (done, split, read)) = c.fields.invariant in
+    let p = err_from_is_err_and c.from_residual-in_err-last.result c.from_residual-in_err-last.ensures.1 in
+    rw p.1 (refused_one (fields c.args.texts.now) done c.fields.rest.now [] _ (split ∙ ap (λ l. done ++ l) c.in_default.ensures.none) (rw p.2 c.in_err-last.ensures))
 
 pub returns : goal.returns
 returns c =
-    let end = YieldsList-end (YieldsList-from_str_split 59 c.args.texts.now (lit< tt) (cc) (cc) (cc)) c.loop-text.yielded _ c.loop-text.yielded_by _ _ c.in-None.is c.next.ensures.steps in
-    parsed_all (fields c.args.texts.now) (length c.loop-text.yielded) c.loop-text.versions.items end.1 c.loop-text.invariant
+    let (utf8, (done, split, read)) = c.fields.invariant in
+    let same : c.push-2.new.self.items ≡ c.fields.versions.items ++ c.in_ok-last.last ∷ [] = search rules in
+    rw (split, c.in_default.ensures.none, same) (parse_one_more done c.fields.versions.items c.fields.rest.now c.in_ok-last.last read c.in_ok-last.ensures)

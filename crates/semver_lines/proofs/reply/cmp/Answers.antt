@@ -1,25 +1,13 @@
 use Rattle.std.proofs.Common.{ap}
-use Rattle.semver_lines.specs.Names.{order_word}
 use Rattle.std.proofs.lemmas.Result.{err_from_is_err_and}
-use Rattle.semver_lines.specs.Replies.{IsVersionOf}
-use Rattle.semver_lines.proofs.Replies.{first_fault, second_fault, told_fault, told_read}
+use Rattle.semver_lines.specs.Names.{order_word}
+use Rattle.semver_lines.proofs.Replies.{told_fault, told_read}
 use Rattle.semver_lines.proofs.reply.cmp.Goals as goal
 
 pub returns-in_err-version : goal.returns-in_err-version
 returns-in_err-version c =
     let p = err_from_is_err_and c.from_residual.result c.from_residual.ensures.1 in
-    let first = c.in_err-version.ensures c.args.texts.0.now (c.parse-version.ensures.ok, c.parse-version.ensures.refused) in
-    rw (p.1, p.2) (told_fault _ _ _ _ (first_fault (IsVersionOf c.args.texts.0.now) (IsVersionOf c.args.texts.1.now) _ first) c.requires)
-
-pub returns-in_err-other : goal.returns-in_err-other
-returns-in_err-other c =
-    let p = err_from_is_err_and c.from_residual-in_err-other.result c.from_residual-in_err-other.ensures.1 in
-    let first = c.in_ok-version.ensures c.args.texts.0.now (c.parse-version.ensures.ok, c.parse-version.ensures.refused) in
-    let second = c.in_err-other.ensures c.args.texts.1.now (c.parse-other.ensures.ok, c.parse-other.ensures.refused) in
-    rw (p.1, p.2) (told_fault _ _ _ _ (second_fault (IsVersionOf c.args.texts.0.now) (IsVersionOf c.args.texts.1.now) _ _ first second) c.requires)
+    rw (p.1, p.2) (told_fault _ _ _ _ c.in_err-version.ensures c.requires)
 
 pub returns : goal.returns
-returns c =
-    let first = c.in_ok-version.ensures c.args.texts.0.now (c.parse-version.ensures.ok, c.parse-version.ensures.refused) in
-    let second = c.in_ok-other.ensures c.args.texts.1.now (c.parse-other.ensures.ok, c.parse-other.ensures.refused) in
-    told_read _ _ (c.in_ok-version.version.now, c.in_ok-other.other.now) _ _ _ c.push_order.ensures (first, second) (ap order_word c.cmp.ensures)
+returns c = told_read _ _ _ _ _ _ c.push_order.ensures c.in_ok-version.ensures (ap order_word c.cmp.ensures)

@@ -1,25 +1,13 @@
 use Rattle.std.proofs.Common.{refl}
-use Rattle.std.specs.Option.{option_copied}
 use Rattle.std.proofs.lemmas.Result.{err_from_is_err_and}
-use Rattle.semver_lines.specs.Lines.{fields}
-use Rattle.semver_lines.specs.Replies.{AreVersionsOf, IsRangeOf}
-use Rattle.semver_lines.proofs.Replies.{first_fault, listed_fault, range_read, told_fault, told_read}
+use Rattle.std.specs.Option.{option_copied}
+use Rattle.semver_lines.proofs.Replies.{told_fault, told_read}
 use Rattle.semver_lines.proofs.reply.max.Goals as goal
 
 pub returns-in_err-range : goal.returns-in_err-range
 returns-in_err-range c =
     let p = err_from_is_err_and c.from_residual.result c.from_residual.ensures.1 in
-    let first = c.in_err-range.ensures c.args.texts.0.now (range_read _ _ c.parse-range.ensures.ok c.parse-range.ensures.some, c.parse-range.ensures.refused) in
-    rw (p.1, p.2) (told_fault _ _ _ _ (first_fault (IsRangeOf c.args.texts.0.now) (AreVersionsOf (fields c.args.texts.1.now)) _ first) c.requires)
-
-pub returns-in_err-versions : goal.returns-in_err-versions
-returns-in_err-versions c =
-    let p = err_from_is_err_and c.from_residual-in_err-versions.result c.from_residual-in_err-versions.ensures.1 in
-    let first = c.in_ok-range.ensures c.args.texts.0.now (range_read _ _ c.parse-range.ensures.ok c.parse-range.ensures.some, c.parse-range.ensures.refused) in
-    rw (p.1, p.2) (told_fault _ _ _ _ (listed_fault (IsRangeOf c.args.texts.0.now) (AreVersionsOf (fields c.args.texts.1.now)) _ _ first c.in_err-versions.ensures) c.requires)
+    rw (p.1, p.2) (told_fault _ _ _ _ c.in_err-range.ensures c.requires)
 
 pub returns : goal.returns
-returns c =
-    let first = c.in_ok-range.ensures c.args.texts.0.now (range_read _ _ c.parse-range.ensures.ok c.parse-range.ensures.some, c.parse-range.ensures.refused) in
-    let second = c.in_ok-versions.ensures in
-    told_read _ _ (c.in_ok-range.range.now, c.in_ok-versions.versions.items) _ _ _ c.push_version.ensures (first, second) (record { found = option_copied c.max_satisfying.result; is = rw c.deref.ensures.value at c.max_satisfying.ensures; printed = refl })
+returns c = told_read _ _ _ _ _ _ c.push_version.ensures c.in_ok-range.ensures (record { found = option_copied c.max_satisfying.result; is = rw c.deref.ensures.value at c.max_satisfying.ensures; printed = refl })

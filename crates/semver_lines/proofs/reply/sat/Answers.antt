@@ -1,25 +1,13 @@
 use Rattle.std.proofs.Common.{ap}
-use Rattle.semver_lines.specs.Names.{truth_word}
 use Rattle.std.proofs.lemmas.Result.{err_from_is_err_and}
-use Rattle.semver_lines.specs.Replies.{IsRangeOf, IsVersionOf}
-use Rattle.semver_lines.proofs.Replies.{first_fault, range_read, second_fault, told_fault, told_read}
+use Rattle.semver_lines.specs.Names.{truth_word}
+use Rattle.semver_lines.proofs.Replies.{told_fault, told_read}
 use Rattle.semver_lines.proofs.reply.sat.Goals as goal
 
 pub returns-in_err-range : goal.returns-in_err-range
 returns-in_err-range c =
     let p = err_from_is_err_and c.from_residual.result c.from_residual.ensures.1 in
-    let first = c.in_err-range.ensures c.args.texts.0.now (range_read _ _ c.parse-range.ensures.ok c.parse-range.ensures.some, c.parse-range.ensures.refused) in
-    rw (p.1, p.2) (told_fault _ _ _ _ (first_fault (IsRangeOf c.args.texts.0.now) (IsVersionOf c.args.texts.1.now) _ first) c.requires)
-
-pub returns-in_err-version : goal.returns-in_err-version
-returns-in_err-version c =
-    let p = err_from_is_err_and c.from_residual-in_err-version.result c.from_residual-in_err-version.ensures.1 in
-    let first = c.in_ok-range.ensures c.args.texts.0.now (range_read _ _ c.parse-range.ensures.ok c.parse-range.ensures.some, c.parse-range.ensures.refused) in
-    let second = c.in_err-version.ensures c.args.texts.1.now (c.parse-version.ensures.ok, c.parse-version.ensures.refused) in
-    rw (p.1, p.2) (told_fault _ _ _ _ (second_fault (IsRangeOf c.args.texts.0.now) (IsVersionOf c.args.texts.1.now) _ _ first second) c.requires)
+    rw (p.1, p.2) (told_fault _ _ _ _ c.in_err-range.ensures c.requires)
 
 pub returns : goal.returns
-returns c =
-    let first = c.in_ok-range.ensures c.args.texts.0.now (range_read _ _ c.parse-range.ensures.ok c.parse-range.ensures.some, c.parse-range.ensures.refused) in
-    let second = c.in_ok-version.ensures c.args.texts.1.now (c.parse-version.ensures.ok, c.parse-version.ensures.refused) in
-    told_read _ _ (c.in_ok-range.range.now, c.in_ok-version.version.now) _ _ _ c.push_truth.ensures (first, second) (ap truth_word c.satisfies.ensures.gate)
+returns c = told_read _ _ _ _ _ _ c.push_truth.ensures c.in_ok-range.ensures (ap truth_word c.satisfies.ensures.gate)

@@ -1,16 +1,12 @@
 use Rattle.std.proofs.Common.{refl}
 use Rattle.std.proofs.lemmas.Result.{err_from_is_err_and}
-use Rattle.semver_lines.specs.Replies.{IsVersionOf}
-use Rattle.semver_lines.proofs.Replies.{one_fault, told_fault, told_read}
+use Rattle.semver_lines.proofs.Replies.{told_fault, told_read}
 use Rattle.semver_lines.proofs.reply.ver.Goals as goal
 
 pub returns-in_err-version : goal.returns-in_err-version
 returns-in_err-version c =
     let p = err_from_is_err_and c.from_residual.result c.from_residual.ensures.1 in
-    let read = c.in_err-version.ensures c.args.text.now (c.parse-version.ensures.ok, c.parse-version.ensures.refused) in
-    rw (p.1, p.2) (told_fault _ _ _ _ (one_fault (IsVersionOf c.args.text.now) _ read) c.requires)
+    rw (p.1, p.2) (told_fault _ _ _ _ c.in_err-version.ensures c.requires)
 
 pub returns : goal.returns
-returns c =
-    let read = c.in_ok-version.ensures c.args.text.now (c.parse-version.ensures.ok, c.parse-version.ensures.refused) in
-    told_read _ _ c.in_ok-version.version.now _ _ _ c.push_version.ensures read refl
+returns c = told_read _ _ _ _ _ _ c.push_version.ensures c.in_ok-version.ensures refl

@@ -7,11 +7,11 @@ use Rattle.nodejs_semver.proofs.readers.fast.range_fast.Goals as goal
 
 pub from_intervals-requires : goal.from_intervals-requires
 from_intervals-requires c =
-    let there : IsTrue c.in_ok-read_into.field-0 = search rules in
-    common_bounded MAX_SAFE_INTEGER c.as_bytes.result.now c.read_into.new.found.items (c.in_ok-read_into.ensures.some there)
+    let there : IsTrue c.in_ok-read_common.field-0 = search rules in
+    common_bounded MAX_SAFE_INTEGER c.as_bytes.result.now c.read_common.new.found.items (c.in_ok-read_common.ensures.some there)
 
 pub returns-clause-denoted : goal.returns-clause-denoted
 returns-clause-denoted c =
-    let there : IsTrue c.in_ok-read_into.field-0 = search rules in
+    let there : IsTrue c.in_ok-read_common.field-0 = search rules in
     subst (λ (t : List ℕ). IfSome c.from_intervals.result (λ range. range ≡ denotes MAX_SAFE_INTEGER t)) c.as_bytes.ensures.value
-    (common_denoted MAX_SAFE_INTEGER c.as_bytes.result.now c.read_into.new.found.items c.from_intervals.result (c.in_ok-read_into.ensures.some there) c.from_intervals.ensures)
+    (common_denoted MAX_SAFE_INTEGER c.as_bytes.result.now c.read_common.new.found.items c.from_intervals.result (c.in_ok-read_common.ensures.some there) c.from_intervals.ensures)

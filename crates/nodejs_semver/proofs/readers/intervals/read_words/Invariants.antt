@@ -2,14 +2,14 @@ use Rattle.std.proofs.Common.{◌≡◌, ◌++◌, length}
 use Rattle.semver_core.specs.Values.Order.{precedence}
 use Rattle.semver_core.specs.declared.TheConstants.{MAX_SAFE_INTEGER}
 use Rattle.nodejs_semver.specs.Text.Denotes.{part_bounds}
-use Rattle.nodejs_semver.specs.Internal.Meets.{joined}
+use Rattle.nodejs_semver.specs.Internal.Meets.{joined_from}
 use Rattle.semver_core.specs.Internal.Spaces.{space_len}
 use Rattle.nodejs_semver.proofs.readers.intervals.read_words.Given as goal
 
 abbrev pub invariant-words : goal.invariant-words
 invariant-words l = record {
-  whole : l.found.items ++ joined precedence l.running (part_bounds MAX_SAFE_INTEGER l.rest)
-      ≡ l.fn.found.items ++ joined precedence l.fn.first (part_bounds MAX_SAFE_INTEGER l.text);
+  whole : l.found.items ++ joined_from precedence l.running (part_bounds MAX_SAFE_INTEGER l.rest)
+      ≡ l.fn.found.items ++ joined_from precedence l.fn.first (part_bounds MAX_SAFE_INTEGER l.text);
   starts : space_len l.rest ≡ 0;
 }
 

@@ -1,13 +1,15 @@
-use Rattle.std.proofs.Common.{◌+◌, List, ap, ◌∙◌}
+use Rattle.std.proofs.Common.{◌+◌, ℕ, List, ap, ◌∙◌}
 use Rattle.std.specs.List.{list_all}
+use Rattle.std.specs.Prelude.{flat_map}
 use Rattle.semver_core.specs.Cuts.{Span}
 use Rattle.semver_core.specs.Values.Versions.{VersionValue}
 use Rattle.semver_core.specs.declared.TheConstants.{MAX_SAFE_INTEGER}
 use Rattle.nodejs_semver.specs.Internal.Parts.{parts}
+use Rattle.nodejs_semver.specs.Text.Denotes.{part_denotes}
 use Rattle.nodejs_semver.specs.Ranges.View.{is_range_span}
 use Rattle.nodejs_semver.proofs.Bounds.Table.{all-bounded}
 use Rattle.nodejs_semver.proofs.readers.loose.range_loose.Goals as goal
 
 pub from_intervals-requires : goal.from_intervals-requires
 from_intervals-requires c =
-    ap (λ (l : List (Span VersionValue)). list_all (is_range_span (MAX_SAFE_INTEGER + 1)) l) c.in_ok-found.ensures ∙ all-bounded MAX_SAFE_INTEGER (parts c.args.text.now)
+    ap (λ (l : List (Span VersionValue)). list_all (is_range_span (MAX_SAFE_INTEGER + 1)) l) (c.in_ok-add_parts.ensures ∙ ap (λ (ps : List (List ℕ)). flat_map (part_denotes MAX_SAFE_INTEGER) ps) c.next_part.ensures.value) ∙ all-bounded MAX_SAFE_INTEGER (parts c.args.text.now)

@@ -3,7 +3,7 @@ use Rattle.semver_core.specs.Cuts.{Span}
 use Rattle.semver_core.specs.Values.Versions.{VersionValue}
 use Rattle.semver_core.specs.declared.TheConstants.{MAX_SAFE_INTEGER}
 use Rattle.nodejs_semver.specs.Text.Common.{IsCommonRange}
-use Rattle.nodejs_semver.proofs.readers.fast.read_into.Given as goal
+use Rattle.nodejs_semver.proofs.readers.fast.read_common.Given as goal
 
 -- what was found and what is left of the text make a common text exactly where the text is one
 abbrev pub invariant-parts : goal.invariant-parts

@@ -2,7 +2,7 @@ use Rattle.std.proofs.Common.{◌≡◌, ◌<◌, length, arith, sym, ap, ◌∙
 use Rattle.semver_core.specs.declared.TheConstants.{MAX_SAFE_INTEGER}
 use Rattle.nodejs_semver.specs.Internal.Readings.{rest_view}
 use Rattle.nodejs_semver.proofs.Common.Loop.{loop-complete, loop-ends, loop-no_bars, loop-no_part, loop-shorter, loop-sound}
-use Rattle.nodejs_semver.proofs.readers.fast.read_into.Goals as goal
+use Rattle.nodejs_semver.proofs.readers.fast.read_common.Goals as goal
 
 pub returns-in_default-clause-none : goal.returns-in_default-clause-none
 returns-in_default-clause-none c = λ _.

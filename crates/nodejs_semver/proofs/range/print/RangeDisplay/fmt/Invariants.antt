@@ -1,13 +1,13 @@
 use Rattle.std.proofs.Common.{◌≡◌, take}
 use denote.Text.{Utf8}
 use denote.Shadow.{shadow}
-use Rattle.std.specs.Fmt.{HasWritten, IsPlainFormatter}
+use Rattle.std.specs.Fmt.{HasWrittenStyled, IsFlush}
 use Rattle.nodejs_semver.proofs.Printing.Steps.{bars_after}
 use Rattle.nodejs_semver.specs.Printing.Text.{range_text}
-use Rattle.nodejs_semver.proofs.range.print.JoinedDisplay.fmt.Given as goal
+use Rattle.nodejs_semver.proofs.range.print.RangeDisplay.fmt.Given as goal
 
 abbrev pub invariant-loop-interval : goal.invariant-loop-interval
 invariant-loop-interval g l =
     (text : shadow (Utf8 l.separator))
     × (separator : l.separator ≡ bars_after (take l.interval-index l.interval-items))
-    × (IsPlainFormatter l.initial.f → HasWritten g.W.Write.write_str_gives l.initial.f (range_text (take l.interval-index l.interval-items)) l.f)
+    × (IsFlush l.initial.f → HasWrittenStyled g.W.Write.write_str_gives l.initial.f (range_text (take l.interval-index l.interval-items)) l.f)

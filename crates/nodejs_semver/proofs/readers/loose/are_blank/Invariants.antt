@@ -2,12 +2,11 @@ use Rattle.std.proofs.Common.{◌≡◌}
 use Rattle.std.specs.List.{list_all}
 use Rattle.semver_core.specs.Lists.{is_empty}
 use Rattle.nodejs_semver.specs.Internal.PartFronts.{later_parts, left_over}
-use Rattle.nodejs_semver.specs.Internal.Parts.{parts}
 use Rattle.nodejs_semver.specs.Internal.Readings.{rest_view}
-use Rattle.nodejs_semver.proofs.readers.loose.is_blank.Given as goal
+use Rattle.nodejs_semver.proofs.readers.loose.are_blank.Given as goal
 
 abbrev pub invariant-parts : goal.invariant-parts
-invariant-parts l = list_all is_empty (parts l.fn.text) ≡ list_all is_empty (later_parts (rest_view l.rest))
+invariant-parts l = list_all is_empty (later_parts (rest_view l.text)) ≡ list_all is_empty (later_parts (rest_view l.rest))
 
 abbrev pub decreases-parts : goal.decreases-parts
 decreases-parts l = left_over (rest_view l.rest)

@@ -1,16 +1,15 @@
-use Rattle.std.proofs.Common.{◌≡◌, ◌++◌}
+use Rattle.std.proofs.Common.{◌≡◌, ◌++◌, ◌∷◌}
 use Rattle.std.specs.Prelude.{flat_map}
 use Rattle.semver_core.specs.declared.TheConstants.{MAX_SAFE_INTEGER}
 use Rattle.nodejs_semver.specs.Text.Denotes.{part_denotes}
 use Rattle.nodejs_semver.specs.Internal.PartFronts.{later_parts, left_over}
-use Rattle.nodejs_semver.specs.Internal.Parts.{parts}
 use Rattle.nodejs_semver.specs.Internal.Readings.{rest_view}
-use Rattle.nodejs_semver.proofs.readers.loose.intervals_of.Given as goal
+use Rattle.nodejs_semver.proofs.readers.loose.add_parts.Given as goal
 
 abbrev pub invariant-parts : goal.invariant-parts
 invariant-parts l =
     l.found.items ++ flat_map (part_denotes MAX_SAFE_INTEGER) (later_parts (rest_view l.rest))
-    ≡ flat_map (part_denotes MAX_SAFE_INTEGER) (parts l.fn.text)
+    ≡ flat_map (part_denotes MAX_SAFE_INTEGER) (l.first ∷ later_parts (rest_view l.behind))
 
 abbrev pub decreases-parts : goal.decreases-parts
 decreases-parts l = left_over (rest_view l.rest)

@@ -1,0 +1,13 @@
+use Rattle.std.proofs.Common.{List, ℕ, rules, subst}
+use Rattle.std.specs.Prelude.{IsTrue}
+use Rattle.semver_core.specs.declared.TheConstants.{MAX_SAFE_INTEGER}
+use Rattle.nodejs_semver.specs.Text.Common.{IsCommonRange}
+use Rattle.nodejs_semver.proofs.Common.Whole.{common_list}
+use Rattle.nodejs_semver.proofs.range.parse.read.Goals as goal
+
+pub returns-else-not-branch : goal.returns-else-not-branch
+returns-else-not-branch c =
+    let there : IsTrue c.in_ok-read_common.field-0 = search rules in
+    let common : IsCommonRange MAX_SAFE_INTEGER c.args.text.now c.read_common.new.found.items =
+    subst (λ (t : List ℕ). IsCommonRange MAX_SAFE_INTEGER t c.read_common.new.found.items) c.as_bytes.ensures.value (c.in_ok-read_common.ensures.some there) in
+    common_list MAX_SAFE_INTEGER c.args.text.now c.read_common.new.found.items common

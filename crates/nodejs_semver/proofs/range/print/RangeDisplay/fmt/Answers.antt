@@ -1,0 +1,17 @@
+use Rattle.std.proofs.Common.{refl, rules}
+use Rattle.std.proofs.Output.{has_written_styled_append, has_written_styled_of_eq}
+use Rattle.nodejs_semver.proofs.Printing.Steps.{range_step, bars_step}
+use Rattle.nodejs_semver.proofs.range.print.RangeDisplay.fmt.Goals as goal
+
+pub loop-interval-preserved : goal.loop-interval-preserved
+loop-interval-preserved g c =
+    let i = c.loop-interval.interval-index in (
+      search rules,
+      bars_step _ i c.interval-item.result c.loop-interval-test.true c.interval-item.is,
+      λ p.
+          let so_far = c.loop-interval.invariant.2 p in
+          let bars = c.in_ok-write_str.ensures.styled so_far.flush refl in
+          let now = has_written_styled_append _ _ _ _ _ _ bars (c.in_ok-write_interval.ensures bars.flush refl) in
+          has_written_styled_of_eq _ _ _ _ _ (range_step _ i _ _ c.loop-interval-test.true c.loop-interval.invariant.1 c.interval-item.is)
+          (has_written_styled_append _ _ _ _ _ _ so_far now),
+    )

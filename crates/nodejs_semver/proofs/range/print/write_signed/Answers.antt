@@ -1,0 +1,8 @@
+use Rattle.std.proofs.Common.{refl}
+use Rattle.std.proofs.Output.{has_written_styled_append}
+use Rattle.nodejs_semver.proofs.range.print.write_signed.Goals as goal
+
+pub returns : goal.returns
+returns g c flush ok =
+    let sign = c.in_ok-write_str.ensures.styled flush refl in
+    has_written_styled_append _ _ _ _ _ _ sign (c.fmt.ensures.styled sign.flush ok)

@@ -1,0 +1,18 @@
+use Rattle.std.proofs.Common.{◌≡◌, ◌<◌, None, length}
+use Rattle.semver_core.specs.Values.Order.{precedence}
+use Rattle.semver_core.specs.declared.TheConstants.{MAX_SAFE_INTEGER}
+use Rattle.nodejs_semver.specs.Text.Denotes.{part_bounds, part_intervals}
+use Rattle.nodejs_semver.specs.Internal.Meets.{joined}
+use Rattle.semver_core.specs.Internal.Spaces.{space_len}
+use Rattle.nodejs_semver.proofs.readers.intervals.read_part.Given as goal
+
+abbrev pub invariant-words : goal.invariant-words
+invariant-words l = record {
+  same : l.found.items ≡ l.fn.found.items;
+  whole : joined precedence None (part_bounds MAX_SAFE_INTEGER l.rest) ≡ part_intervals MAX_SAFE_INTEGER l.part;
+  some : 0 < length l.rest;
+  starts : space_len l.rest ≡ 0;
+}
+
+abbrev pub decreases-words : goal.decreases-words
+decreases-words l = length l.rest
