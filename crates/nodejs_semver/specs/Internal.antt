@@ -9,6 +9,7 @@ pub mod PartFronts
 pub mod Readings
 pub mod Meets
 pub mod Candidates
+pub mod Along
 pub mod SameLaws
 pub mod CommonFronts
 pub mod CommonViews

@@ -2,7 +2,6 @@ pub mod View
 pub mod Gate
 pub mod Equality
 pub mod Algebra
-pub mod Along
 pub mod Least
 pub mod Best
 pub mod Outside

@@ -28,14 +28,12 @@ pub data Cut (V : Type 0) : Type 0 where
 -- the order of the cuts along the line: by the point, and then by the side
 abbrev pub cut_cmp : {V : Type 0} → (V → V → Ordering) → Cut V → Cut V → Ordering
 cut_cmp R Start Start = Equal
-cut_cmp R Start (Beside w t) = Less
-cut_cmp R Start End = Less
+cut_cmp R Start _ = Less
 cut_cmp R (Beside v s) Start = Greater
 cut_cmp R (Beside v s) (Beside w t) = ordering_then (R v w) (side_cmp s t)
 cut_cmp R (Beside v s) End = Less
-cut_cmp R End Start = Greater
-cut_cmp R End (Beside w t) = Greater
 cut_cmp R End End = Equal
+cut_cmp R End _ = Greater
 
 -- the cut that a bound makes below an interval, and above it
 abbrev pub lower_cut : {V : Type 0} → Bound V → Cut V

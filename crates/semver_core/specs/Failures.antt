@@ -1,19 +1,17 @@
 -- Statement. When a call that may reject its input, or fail to allocate, returns one of these two errors.
-use Rattle.std.specs.Prelude.{⊤, Result, Ok, Err}
+use Rattle.std.specs.Prelude.{⊤, Result, Err}
 use Rattle.semver_core.specs.declared.error.Failure.{Failure}
 use Rattle.semver_core.specs.declared.error.Failure.TheVariants.{Refused, Memory}
 
 -- the call rejects its input only if this holds
 abbrev pub RefusedOnlyIf : {A E : Type 0} → Result A (Failure E) → Type 0 → Type 0
-RefusedOnlyIf (Ok value) P = ⊤
 RefusedOnlyIf (Err (Refused e)) P = P
-RefusedOnlyIf (Err (Memory e)) P = ⊤
+RefusedOnlyIf _ P = ⊤
 
 -- an allocation fails only if this holds
 abbrev pub MemoryOnlyIf : {A E : Type 0} → Result A (Failure E) → Type 0 → Type 0
-MemoryOnlyIf (Ok value) P = ⊤
-MemoryOnlyIf (Err (Refused e)) P = ⊤
 MemoryOnlyIf (Err (Memory e)) P = P
+MemoryOnlyIf _ P = ⊤
 
 -- the call never rejects its input: its one error is a failed allocation
 abbrev pub NeverRefused : {A E : Type 0} → Result A (Failure E) → Type 0

@@ -1,18 +1,19 @@
 -- Statement. The questions of the lines: the fields that ask each one, and what it is answered.
-use Rattle.std.specs.Prelude.{◌≡◌, ℕ, List, [], ◌∷◌, codes, Some, None, true, false}
+use Rattle.std.specs.Prelude.{◌≡◌, ℕ, List, [], ◌∷◌, codes, IfSome, Some, None, true, false}
 use Rattle.semver_core.specs.Difference.{kind_between}
 use Rattle.semver_core.specs.Increments.Table.{answer_of_inc}
 use Rattle.semver_core.specs.Values.Order.{precedence}
 use Rattle.semver_core.specs.Printing.Text.{version_text}
 use Rattle.nodejs_semver.specs.Ranges.Gate.{accepts}
 use Rattle.nodejs_semver.specs.Ranges.Best.{IsMax, IsMin}
+use Rattle.nodejs_semver.specs.Ranges.Least.{IsLeastOf, beyond, least_build}
 use Rattle.nodejs_semver.specs.Ranges.Algebra.{intersection}
 use Rattle.nodejs_semver.specs.Ranges.Algebra as lists
 use Rattle.nodejs_semver.specs.Ranges.Outside.{is_outside}
 use Rattle.nodejs_semver.specs.Printing.Text.{range_text}
 use Rattle.semver_lines.specs.Lines.{fields}
 use Rattle.semver_lines.specs.Names.{base_named, direction_named, difference_word, next_text, order_word, range_or_none, truth_word}
-use Rattle.semver_lines.specs.Replies.{IsVersionOf, IsRangeOf, TwoVersions, TwoRanges, RangeAndVersion, RangeAndVersions, On, Says, IsLeastReply, IsBeyondReply, IsBestReply}
+use Rattle.semver_lines.specs.Replies.{IsVersionOf, IsRangeOf, TwoVersions, TwoRanges, RangeAndVersion, RangeAndVersions, On, Says, SaysFound}
 use Rattle.semver_lines.specs.declared.question.Question.{Question}
 use Rattle.semver_lines.specs.declared.question.Question.TheVariants.{Cmp, Ver, Diff, Inc, IncWith, IncFrom, Range, And, Minus, Least, Beyond, Sat, Pre, Out, Max, Min}
 
@@ -50,11 +51,15 @@ IsReply (IncFrom (v, word, id) base) =
 IsReply (Range r) = On (IsRangeOf r.now) (λ r. Says (range_text r))
 IsReply (And texts) = On (TwoRanges texts) (λ rs. Says (range_or_none (intersection rs.0 rs.1)))
 IsReply (Minus texts) = On (TwoRanges texts) (λ rs. Says (range_or_none (lists.difference rs.0 rs.1)))
-IsReply (Least r) = On (IsRangeOf r.now) IsLeastReply
-IsReply (Beyond texts) = On (TwoRanges texts) (λ rs. IsBeyondReply rs.0 rs.1)
+IsReply (Least r) = On (IsRangeOf r.now) (λ r. SaysFound (λ found.
+    IsLeastOf (λ v. accepts r v false) found × IfSome found (λ v. v.build ≡ least_build r v)))
+IsReply (Beyond texts) = On (TwoRanges texts) (λ rs. SaysFound (λ found.
+    IsLeastOf (beyond rs.0 rs.1) found × IfSome found (λ v. v.build ≡ [])))
 IsReply (Sat texts) = On (RangeAndVersion texts) (λ rv. Says (truth_word (accepts rv.0 rv.1 false)))
 IsReply (Pre texts) = On (RangeAndVersion texts) (λ rv. Says (truth_word (accepts rv.0 rv.1 true)))
 IsReply (Out texts side) =
     On (RangeAndVersion texts) (λ rv. Says (truth_word (is_outside side false rv.0 rv.1)))
-IsReply (Max texts) = On (RangeAndVersions texts) (λ rvs. IsBestReply IsMax rvs.0 rvs.1)
-IsReply (Min texts) = On (RangeAndVersions texts) (λ rvs. IsBestReply IsMin rvs.0 rvs.1)
+IsReply (Max texts) =
+    On (RangeAndVersions texts) (λ rvs. SaysFound (IsMax (λ v. accepts rvs.0 v false) rvs.1))
+IsReply (Min texts) =
+    On (RangeAndVersions texts) (λ rvs. SaysFound (IsMin (λ v. accepts rvs.0 v false) rvs.1))

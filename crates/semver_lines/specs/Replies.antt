@@ -1,14 +1,13 @@
 -- Statement. What the texts of a question are read as, and what is replied. The texts are read from the left, and the
 -- first that is no version, or no range, decides the error.
-use Rattle.std.specs.Prelude.{◌≡◌, ◌<◌, ◌⊎◌, ℕ, List, [], ◌∷◌, length, Bool, Option, IfSome, Result, Ok, Err, false, ⊤}
+use Rattle.std.specs.Prelude.{◌≡◌, ◌<◌, ◌⊎◌, ℕ, List, [], length, Option, Result, Ok, Err}
 use Rattle.std.specs.Borrow.{Bor}
+use Rattle.std.specs.List.{AllZip, Any}
 use Rattle.semver_core.specs.Cuts.{Span}
 use Rattle.semver_core.specs.Text.Parsing.{Parses, IsRefused}
 use Rattle.semver_core.specs.Values.Versions.{VersionValue}
 use Rattle.semver_core.specs.declared.TheConstants.{MAX_SAFE_INTEGER}
-use Rattle.nodejs_semver.specs.Ranges.Gate.{accepts}
 use Rattle.nodejs_semver.specs.Text.Denotes.{denotes}
-use Rattle.nodejs_semver.specs.Ranges.Least.{IsLeastOf, beyond, least_build}
 use Rattle.semver_lines.specs.Lines.{fields}
 use Rattle.semver_lines.specs.Names.{fault_word, version_or_none}
 use Rattle.semver_lines.specs.declared.fault.Fault.{Fault}
@@ -24,22 +23,10 @@ abbrev pub IsRangeOf : List ℕ → Result (List (Span VersionValue)) Fault → 
 IsRangeOf text (Ok ss) = (ss ≡ denotes MAX_SAFE_INTEGER text) × (0 < length ss)
 IsRangeOf text (Err fault) = (denotes MAX_SAFE_INTEGER text ≡ []) × (fault ≡ BadRange)
 
--- each text has its version
-abbrev pub AllParse : List (List ℕ) → List VersionValue → Type 0
-AllParse [] [] = ⊤
-AllParse [] (v ∷ vs) = ⊥
-AllParse (text ∷ texts) [] = ⊥
-AllParse (text ∷ texts) (v ∷ vs) = Parses MAX_SAFE_INTEGER text v × AllParse texts vs
-
--- one of the texts has no version
-abbrev pub AnyRefused : List (List ℕ) → Type 0
-AnyRefused [] = ⊥
-AnyRefused (text ∷ texts) = IsRefused MAX_SAFE_INTEGER text ⊎ AnyRefused texts
-
--- some texts are read as these versions, or one of them as none
+-- some texts are read as these versions, each as its own, or one of them as none
 abbrev pub AreVersionsOf : List (List ℕ) → Result (List VersionValue) Fault → Type 0
-AreVersionsOf texts (Ok vs) = AllParse texts vs
-AreVersionsOf texts (Err fault) = AnyRefused texts × (fault ≡ BadVersion)
+AreVersionsOf texts (Ok vs) = AllZip (Parses MAX_SAFE_INTEGER) texts vs
+AreVersionsOf texts (Err fault) = Any (IsRefused MAX_SAFE_INTEGER) texts × (fault ≡ BadVersion)
 
 -- two readings, one after the other
 abbrev pub Both : {A B : Type 0} → (Result A Fault → Type 0) → (Result B Fault → Type 0) → Result (A × B) Fault → Type 0
@@ -69,22 +56,8 @@ pub data On {A : Type 0} (Reads : Result A Fault → Type 0) (Reply : A → List
 abbrev pub Says : List ℕ → List ℕ → Type 0
 Says text answer = answer ≡ text
 
--- the smallest version that a range accepts, with its build, or none
-pub record IsLeastReply (ss : List (Span VersionValue)) (reply : List ℕ) : Type 0 where
+-- the reply is the version that is so found, printed, or `none` where none is
+pub record SaysFound (IsFound : Option VersionValue → Type 0) (reply : List ℕ) : Type 0 where
   pub found : Option VersionValue
-  pub least : IsLeastOf (λ v. accepts ss v false) found
-  pub build : IfSome found (λ v. v.build ≡ least_build ss v)
-  pub printed : reply ≡ version_or_none found
-
--- the smallest version that the first range accepts and the second does not, without a build, or none
-pub record IsBeyondReply (ss ts : List (Span VersionValue)) (reply : List ℕ) : Type 0 where
-  pub found : Option VersionValue
-  pub least : IsLeastOf (beyond ss ts) found
-  pub build : IfSome found (λ v. v.build ≡ [])
-  pub printed : reply ≡ version_or_none found
-
--- the version that is best by this order among those that a range accepts, with its build, or none
-pub record IsBestReply (IsBest : (VersionValue → Bool) → List VersionValue → Option VersionValue → Type 0) (ss : List (Span VersionValue)) (vs : List VersionValue) (reply : List ℕ) : Type 0 where
-  pub found : Option VersionValue
-  pub best : IsBest (λ v. accepts ss v false) vs found
+  pub is : IsFound found
   pub printed : reply ≡ version_or_none found

@@ -16,7 +16,7 @@ use Rattle.semver_core.specs.Cuts.{Span, Cut, Start, Beside, End, cut_cmp, lower
 use Rattle.nodejs_semver.specs.Ranges.Algebra.{remainder, minus}
 use Rattle.semver_core.specs.declared.cuts.bound.Bound.{Bound}
 use Rattle.semver_core.specs.declared.cuts.bound.Bound.TheVariants.{Unbounded, Before, After}
-use Rattle.nodejs_semver.specs.Ranges.Along.{IsAlong}
+use Rattle.nodejs_semver.specs.Internal.Along.{IsAlong}
 
 -- tests
 both_so : (a b : Bool) → a ≡ true → b ≡ true → (a && b) ≡ true

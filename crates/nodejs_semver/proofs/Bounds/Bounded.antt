@@ -1,14 +1,14 @@
 -- What is read of bounds: no number is above the limit by more than one, and identifiers are what their texts spell.
-use Rattle.semver_core.specs.Text.Characters.{begins}
+use Rattle.semver_core.specs.Text.Characters.{begins, ends}
 use Rattle.std.proofs.Common.{◌≡◌, ℕ, zero, suc, ◌≤◌, ◌^◌, List, [], ◌∷◌, drop, take, length, map, refl, sym, ap, ◌∙◌, arith, true, Some, None, inl, inr, subst}
 use Rattle.std.specs.Prelude.{Option, ◌==◌, ◌&&◌, not, nat_lt}
 use Rattle.std.specs.Char.{is_ascii_digit}
 use Rattle.std.specs.List.{list_all}
 use Rattle.std.specs.Str.Parse.{digits_value}
 use Rattle.std.proofs.lemmas.Bool.{cases_Bool, leb-true}
-use Rattle.semver_core.specs.Text.Identifiers.{Id, identifier_of, is_identifier, pieces}
-use Rattle.semver_core.specs.Printing.RoundTrip.{is_normal, is_u64_text}
-use Rattle.nodejs_semver.specs.Text.PartialText.{Partial, ends_digit}
+use Rattle.semver_core.specs.Text.Identifiers.{Id, identifier_of, is_identifier, is_u64_text, pieces}
+use Rattle.semver_core.specs.Printing.RoundTrip.{is_normal}
+use Rattle.nodejs_semver.specs.Text.PartialText.{Partial}
 use Rattle.nodejs_semver.specs.Internal.Partials.{after_dot, before_dot, before_plus, build_of, component_of, drop_v, from_plus, identifiers_of, is_plus, longest_partial, longest_within, minor_after, number_of, or_else, partial_of, partial_to, patch_after, pre_release_of, qualifier_of, third, wildcard_of}
 use Rattle.semver_core.specs.Internal.Reading.{◌>>?◌}
 use Rattle.nodejs_semver.specs.Internal.Words.{Reading, after_byte, after_some_space, at_boundary, caret_at, comparator_at, compare_at, form_at, hyphen_at, is_boundary, or_malformed, plain_at, signed, tilde_at, tilde_sign, word_at}
@@ -127,7 +127,7 @@ partial-fine limit text p h =
     minor-fine limit c.0 (after_dot body) p (component-fits limit (before_dot body) c.0 c.1) c.2
 
 ended-fine : (limit : ℕ) (text rest : List ℕ) (p : Partial) → partial_to limit text rest ≡ Some p → Fine limit p
-ended-fine limit text rest p h = elim (cases_Bool (ends_digit text && begins is_ascii_digit rest)) [
+ended-fine limit text rest p h = elim (cases_Bool (ends is_ascii_digit text && begins is_ascii_digit rest)) [
   | inl cut ↦ cc (rw cut at h)
   | inr whole ↦ partial-fine limit text p (rw whole at h)
 ]

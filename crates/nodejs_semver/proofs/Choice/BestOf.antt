@@ -9,7 +9,7 @@ use Rattle.std.specs.List.{filter, fold, list_all, reduce}
 use Rattle.semver_core.specs.Values.Order.{precedence}
 use Rattle.semver_core.specs.Internal.OrderLaws.{precedence_total}
 use Rattle.semver_core.specs.Values.Versions.{VersionValue}
-use Rattle.nodejs_semver.specs.Ranges.Best.{Stands, IsMax, IsMin, has_none}
+use Rattle.nodejs_semver.specs.Ranges.Best.{IsBest, IsMax, IsMin, Stands}
 use Rattle.nodejs_semver.proofs.Choice.Keys.{le_not_gt, not_gt_le, lt_not_gt}
 
 -- the version takes the place of the best so far: a greater or an equal one does, or a lesser one
@@ -77,15 +77,11 @@ both true b h k = k
 both false b h k = h
 
 module _ (in_front behind : VersionValue → VersionValue → Bool) (wins : VersionValue → Option VersionValue → Bool) (agree : Agree in_front behind wins) (set : VersionValue → Bool) where
-  abbrev Chosen : List VersionValue → Option VersionValue → Type 0
-  Chosen list None = has_none set list ≡ true
-  Chosen list (Some v) = Stands in_front behind set list v
-
   -- one more version at the end of the list
-  one_more : (list : List VersionValue) (best : Option VersionValue) (x : VersionValue) → Chosen list best → Chosen (list ++ x ∷ []) (kept wins set best x)
+  one_more : (list : List VersionValue) (best : Option VersionValue) (x : VersionValue) → IsBest in_front behind set list best → IsBest in_front behind set (list ++ x ∷ []) (kept wins set best x)
   one_more list None x h = by_test (wins x None) (set x) (agree.first x) refl
     where
-      by_test : (t s : Bool) → t ≡ true → set x ≡ s → Chosen (list ++ x ∷ []) (if t && s then Some x else None)
+      by_test : (t s : Bool) → t ≡ true → set x ≡ s → IsBest in_front behind set (list ++ x ∷ []) (if t && s then Some x else None)
       by_test true true e k = record {
         front = list;
         back = [];
@@ -122,18 +118,18 @@ module _ (in_front behind : VersionValue → VersionValue → Bool) (wins : Vers
         after = all-append (λ w. not (set w) || behind w b) h.back (x ∷ []) h.after (one (λ w. not (set w) || behind w b) x e);
       }
 
-      by_test : (t s : Bool) → wins x (Some b) ≡ t → set x ≡ s → Chosen (list ++ x ∷ []) (if t && s then Some x else Some b)
+      by_test : (t s : Bool) → wins x (Some b) ≡ t → set x ≡ s → IsBest in_front behind set (list ++ x ∷ []) (if t && s then Some x else Some b)
       by_test true true e k = replaced_by e k
       by_test true false e k = extended (outside (set x) (behind x b) k)
       by_test false s e k = extended (in_set (set x) (behind x b) (agree.loses x b e))
 
-  all_more : (done rest : List VersionValue) (best : Option VersionValue) → Chosen done best → Chosen (done ++ rest) (fold (kept wins set) best rest)
-  all_more done [] best h = subst (λ q. Chosen q best) (sym (append-nil done)) h
+  all_more : (done rest : List VersionValue) (best : Option VersionValue) → IsBest in_front behind set done best → IsBest in_front behind set (done ++ rest) (fold (kept wins set) best rest)
+  all_more done [] best h = subst (λ q. IsBest in_front behind set q best) (sym (append-nil done)) h
   all_more done (x ∷ rest) best h =
-      subst (λ q. Chosen q (fold (kept wins set) (kept wins set best x) rest)) (append_assoc done (x ∷ []) rest)
+      subst (λ q. IsBest in_front behind set q (fold (kept wins set) (kept wins set best x) rest)) (append_assoc done (x ∷ []) rest)
       (all_more (done ++ x ∷ []) rest (kept wins set best x) (one_more done best x h))
 
-  chosen_stands : (list : List VersionValue) → Chosen list (chosen wins set list)
+  chosen_stands : (list : List VersionValue) → IsBest in_front behind set list (chosen wins set list)
   chosen_stands list = all_more [] list None refl
 
 is_less : (r : Ordering) → is_lt r ≡ true → r ≡ Less
@@ -256,15 +252,7 @@ lesser_now p z = by_order (precedence p.now z.now)
     by_order Greater = refl
 
 pub max_is : (set : VersionValue → Bool) (list : List VersionValue) → IsMax set list (reduce greater (filter set list))
-max_is set list = subst (IsMax set list) (picked is_not_below greater set (λ x. refl) greater_wins list) (as_max (chosen is_not_below set list) (chosen_stands _ _ is_not_below agree_max set list))
-  where
-    as_max : (r : Option VersionValue) → Chosen (λ w v. is_le (precedence w v)) (λ w v. is_lt (precedence w v)) is_not_below agree_max set list r → IsMax set list r
-    as_max None h = h
-    as_max (Some v) h = h
+max_is set list = subst (IsMax set list) (picked is_not_below greater set (λ x. refl) greater_wins list) (chosen_stands _ _ is_not_below agree_max set list)
 
 pub min_is : (set : VersionValue → Bool) (list : List VersionValue) → IsMin set list (reduce lesser (filter set list))
-min_is set list = subst (IsMin set list) (picked is_below lesser set (λ x. refl) lesser_wins list) (as_min (chosen is_below set list) (chosen_stands _ _ is_below agree_min set list))
-  where
-    as_min : (r : Option VersionValue) → Chosen (λ w v. is_lt (precedence v w)) (λ w v. is_le (precedence v w)) is_below agree_min set list r → IsMin set list r
-    as_min None h = h
-    as_min (Some v) h = h
+min_is set list = subst (IsMin set list) (picked is_below lesser set (λ x. refl) lesser_wins list) (chosen_stands _ _ is_below agree_min set list)

@@ -1,5 +1,5 @@
 -- The first least version of a set among a list, which is the least of the set where each of its versions has one of the list below it.
-use Rattle.std.proofs.Common.{◌≡◌, ◌+◌, refl, sym, ◌∙◌, ap, subst, Bool, true, false, ◌&&◌, ◌||◌, not, List, [], ◌∷◌, ◌++◌, Option, Some, None, if◌then◌else◌, inl, inr, IfSome}
+use Rattle.std.proofs.Common.{◌≡◌, ◌+◌, refl, sym, ◌∙◌, ap, subst, Bool, true, false, ◌&&◌, ◌||◌, not, List, [], ◌∷◌, ◌++◌, Option, Some, None, option_and_then, if◌then◌else◌, inl, inr, IfSome}
 use Rattle.std.specs.declared.cmp.Ordering.{Ordering}
 use Rattle.std.specs.declared.cmp.Ordering.TheVariants.{Less, Equal, Greater}
 use Rattle.std.specs.Ordering.{ordering_reverse, ordering_then, is_eq, is_lt, is_le, is_gt}
@@ -17,7 +17,7 @@ use Rattle.semver_core.specs.Internal.OrderLaws.{precedence_total}
 use Rattle.semver_core.specs.Values.Versions.{VersionValue, is_release}
 use Rattle.nodejs_semver.specs.Ranges.Gate.{lets_in, accepts}
 use Rattle.semver_core.specs.Lists.{is_empty}
-use Rattle.nodejs_semver.specs.Ranges.Least.{IsLeast, IsLeastOf, beyond, begins_with, build_by, build_in, least_build}
+use Rattle.nodejs_semver.specs.Ranges.Least.{IsLeast, IsLeastOf, beyond, begins_with, build_by, least_build}
 use Rattle.nodejs_semver.specs.Internal.Candidates.{has_build, zero, bare, bare_release, after_cut, release_after, firsts, kept_marks, removed_marks, kept_firsts, removed_firsts, candidates, improves, better, least_of, is_reached, pre_after, patch_after}
 use Rattle.nodejs_semver.proofs.Choice.Keys.{triple_total, le_not_gt, lt_not_gt, not_gt_le, next_patch_above, next_pre_above, release_above}
 use Rattle.nodejs_semver.proofs.Choice.LeastPieces.{In, Each, candidate, accepts_same, lets_in_alike}
@@ -199,18 +199,18 @@ find_same : {X : Type 0} (p q : X → Bool) (xs : List X) → ((x : X) → p x �
 find_same p q [] f = refl
 find_same p q (x ∷ xs) f = ap (λ t. if t then Some x else find p xs) (f x) ∙ ap (λ r. if q x then Some x else r) (find_same p q xs f)
 
-build_in_built : (o : Option (Span VersionValue)) (v : VersionValue) (b : List Id) → build_in o (record v { build = b }) ≡ build_in o v
-build_in_built None v b = refl
-build_in_built (Some s) v b = by_bound (begins_with s.lower)
-  where
-    by_bound : (x : Option VersionValue) → build_by x (record v { build = b }) ≡ build_by x v
-    by_bound None = refl
-    by_bound (Some x) = refl
+-- the version with which the span begins that is found, if one is
+abbrev first_of : Option (Span VersionValue) → Option VersionValue
+first_of found = option_and_then (λ s. begins_with s.lower) found
+
+build_by_built : (x : Option VersionValue) (v : VersionValue) (b : List Id) → build_by x (record v { build = b }) ≡ build_by x v
+build_by_built None v b = refl
+build_by_built (Some x) v b = refl
 
 pub least_build_built : (ks : List (Span VersionValue)) (v : VersionValue) (b : List Id) → least_build ks (record v { build = b }) ≡ least_build ks v
 least_build_built ks v b =
-    ap (λ o. build_in o (record v { build = b })) (find_same _ _ ks same)
-    ∙ build_in_built (find (λ s. holds precedence s v && lets_in s v) ks) v b
+    ap (λ o. build_by (first_of o) (record v { build = b })) (find_same _ _ ks same)
+    ∙ build_by_built (first_of (find (λ s. holds precedence s v && lets_in s v) ks)) v b
   where
     same : (s : Span VersionValue) → (holds precedence s (record v { build = b }) && lets_in s (record v { build = b })) ≡ (holds precedence s v && lets_in s v)
     same s = ap (λ q. q && lets_in s (record v { build = b })) (holds_built s v b) ∙ ap (λ q. holds precedence s v && q) (gate_built s v b)
@@ -289,7 +289,7 @@ unbuilt : (ss : List (Span VersionValue)) (v : VersionValue) → list_any (λ s.
 unbuilt [] v h = refl
 unbuilt (s ∷ ss) v h = by_first (holds precedence s v && lets_in s v) (unbuilt ss v (second_none _ _ h))
   where
-    by_first : (t : Bool) → least_build ss v ≡ [] → build_in (if t then Some s else find (λ s. holds precedence s v && lets_in s v) ss) v ≡ []
+    by_first : (t : Bool) → least_build ss v ≡ [] → build_by (first_of (if t then Some s else find (λ s. holds precedence s v && lets_in s v) ss)) v ≡ []
     by_first true more = no_build s.lower v (first_none _ _ h)
     by_first false more = more
 

@@ -8,7 +8,7 @@ use Rattle.semver_core.specs.Internal.OrderLaws.{precedence_total}
 use Rattle.semver_core.specs.Values.Versions.{VersionValue}
 use Rattle.semver_core.specs.declared.cuts.bound.Bound.{Bound}
 use Rattle.semver_core.specs.declared.cuts.bound.Bound.TheVariants.{Unbounded, Before, After}
-use Rattle.nodejs_semver.specs.Ranges.Outside.{is_bounded, lies_below, lies_above, is_outside, is_outside_by_cuts}
+use Rattle.nodejs_semver.specs.Ranges.Outside.{is_bounded, lies_below, lies_above, is_outside}
 use Rattle.nodejs_semver.specs.declared.range.outside.OutsideDirection.{OutsideDirection}
 use Rattle.nodejs_semver.specs.declared.range.outside.OutsideDirection.TheVariants.{Higher, Lower}
 use Rattle.nodejs_semver.specs.Ranges.View.{IsRange, is_range_span, is_range_bound}
@@ -74,8 +74,9 @@ along held test other ok each (s ∷ ss) h =
     regroup false true false d = refl
     regroup false false c d = refl
 
-higher_by_cuts : (ss : List (Span VersionValue)) (v : VersionValue) → list_all (is_interval precedence) ss ≡ true → is_outside Higher true ss v ≡ is_outside_by_cuts Higher ss v
-higher_by_cuts ss v h =
+higher_of : (ss : List (Span VersionValue)) (v : VersionValue) → list_all (is_interval precedence) ss ≡ true
+    → is_outside Higher true ss v ≡ list_all (λ s. is_past precedence (upper_cut s.upper) v) ss
+higher_of ss v h =
     along (λ s. holds precedence s v && true) (λ s. lies_below s v) (λ s. is_past precedence (upper_cut s.upper) v) (is_interval precedence) each ss h
   where
     each : (s : Span VersionValue) → is_interval precedence s ≡ true → (not (holds precedence s v && true) && lies_below s v) ≡ is_past precedence (upper_cut s.upper) v
@@ -83,8 +84,9 @@ higher_by_cuts ss v h =
         ap (λ q. not q && lies_below s v) (and_true (holds precedence s v))
         ∙ higher_one (is_past precedence (lower_cut s.lower) v) (is_past precedence (upper_cut s.upper) v) (is_bounded s.upper) (both_past s v e) (unbounded_above s.upper v)
 
-lower_by_cuts : (ss : List (Span VersionValue)) (v : VersionValue) → list_all (is_interval precedence) ss ≡ true → is_outside Lower true ss v ≡ is_outside_by_cuts Lower ss v
-lower_by_cuts ss v h =
+lower_of : (ss : List (Span VersionValue)) (v : VersionValue) → list_all (is_interval precedence) ss ≡ true
+    → is_outside Lower true ss v ≡ list_all (λ s. not (is_past precedence (lower_cut s.lower) v)) ss
+lower_of ss v h =
     along (λ s. holds precedence s v && true) (λ s. lies_above s v) (λ s. not (is_past precedence (lower_cut s.lower) v)) (is_interval precedence) each ss h
   where
     each : (s : Span VersionValue) → is_interval precedence s ≡ true → (not (holds precedence s v && true) && lies_above s v) ≡ not (is_past precedence (lower_cut s.lower) v)
@@ -99,6 +101,10 @@ intervals limit (s ∷ ss) h =
     ap (λ q. q && list_all (is_interval precedence) ss) (and_left (is_interval precedence s) (is_range_bound limit s.lower && is_range_bound limit s.upper) (and_left (is_range_span limit s) (list_all (is_range_span limit) ss) h))
     ∙ intervals limit ss (and_right (is_range_span limit s) (list_all (is_range_span limit) ss) h)
 
-pub by_cuts : (d : OutsideDirection) (limit : ℕ) (ss : List (Span VersionValue)) (v : VersionValue) → IsRange limit ss → is_outside d true ss v ≡ is_outside_by_cuts d ss v
-by_cuts Higher limit ss v h = higher_by_cuts ss v (intervals (limit + 1) ss h.each)
-by_cuts Lower limit ss v h = lower_by_cuts ss v (intervals (limit + 1) ss h.each)
+pub higher_by_cuts : (d : OutsideDirection) (limit : ℕ) (ss : List (Span VersionValue)) (v : VersionValue) → IsRange limit ss → d ≡ Higher
+    → is_outside d true ss v ≡ list_all (λ s. is_past precedence (upper_cut s.upper) v) ss
+higher_by_cuts d limit ss v h e = ap (λ d. is_outside d true ss v) e ∙ higher_of ss v (intervals (limit + 1) ss h.each)
+
+pub lower_by_cuts : (d : OutsideDirection) (limit : ℕ) (ss : List (Span VersionValue)) (v : VersionValue) → IsRange limit ss → d ≡ Lower
+    → is_outside d true ss v ≡ list_all (λ s. not (is_past precedence (lower_cut s.lower) v)) ss
+lower_by_cuts d limit ss v h e = ap (λ d. is_outside d true ss v) e ∙ lower_of ss v (intervals (limit + 1) ss h.each)

@@ -1,11 +1,11 @@
 -- A text has one division at its bars.
-use Rattle.semver_core.specs.Text.Characters.{begins}
+use Rattle.semver_core.specs.Text.Characters.{begins, ends}
 use Rattle.std.proofs.Common.{◌≡◌, ◌<◌, ℕ, List, [], ◌∷◌, ◌++◌, length, refl, sym, ap, ◌∙◌, arith, inl, inr, true, false, Bool, subst}
 use Rattle.std.specs.Prelude.{◌&&◌, ◌||◌, not}
 use Rattle.std.specs.List.{list_all, onto_first}
 use Rattle.std.proofs.lemmas.Bool.{cases_Bool, eqb-true}
 use Rattle.nodejs_semver.specs.Internal.Parts.{cut_bars}
-use Rattle.nodejs_semver.specs.Text.Bars.{is_bar, IsCutAtBars, are_closed, ends_in_bar, has_bars, join_bars}
+use Rattle.nodejs_semver.specs.Text.Bars.{is_bar, IsCutAtBars, are_closed, has_bars, join_bars}
 use Rattle.nodejs_semver.proofs.Reading.IdentifierLists.{and-left, and-right, and-both}
 
 not-true : (b : Bool) → not b ≡ true → b ≡ false
@@ -41,16 +41,16 @@ one-piece (b ∷ rest) h =
     rw (here, cut_bars) (ap (λ (ps : List (List ℕ)). onto_first b ps) more)
 
 -- a piece that ends before bars
-piece-ended : (b : ℕ) (rest t : List ℕ) → (is_bar b && begins is_bar rest) ≡ false → ends_in_bar (b ∷ rest) ≡ false
+piece-ended : (b : ℕ) (rest t : List ℕ) → (is_bar b && begins is_bar rest) ≡ false → ends is_bar (b ∷ rest) ≡ false
     → (is_bar b && begins is_bar (rest ++ 124 ∷ t)) ≡ false
 piece-ended b [] t here ends = rw ends refl
 piece-ended b (c ∷ rest) t here ends = here
 
-ends-rest : (b : ℕ) (rest : List ℕ) → ends_in_bar (b ∷ rest) ≡ false → ends_in_bar rest ≡ false
+ends-rest : (b : ℕ) (rest : List ℕ) → ends is_bar (b ∷ rest) ≡ false → ends is_bar rest ≡ false
 ends-rest b [] h = refl
 ends-rest b (c ∷ rest) h = h
 
-front-piece : (piece t : List ℕ) → has_bars piece ≡ false → ends_in_bar piece ≡ false
+front-piece : (piece t : List ℕ) → has_bars piece ≡ false → ends is_bar piece ≡ false
     → cut_bars false (piece ++ 124 ∷ (124 ∷ t)) ≡ piece ∷ cut_bars false t
 unfolding cut_bars
 front-piece [] t h ends = refl
@@ -64,10 +64,10 @@ cut-joined [] some whole closed = absurd (omega arith)
 cut-joined (piece ∷ []) some whole closed = one-piece piece (not-true (has_bars piece) (and-left (not (has_bars piece)) true whole))
 cut-joined (piece ∷ next ∷ rest) some whole closed =
     front-piece piece (join_bars (next ∷ rest)) (not-true (has_bars piece) (and-left (not (has_bars piece)) (unbarred (next ∷ rest)) whole))
-    (not-true (ends_in_bar piece) (and-left (not (ends_in_bar piece)) (are_closed (next ∷ rest)) closed))
+    (not-true (ends is_bar piece) (and-left (not (ends is_bar piece)) (are_closed (next ∷ rest)) closed))
     ∙ ap (λ (ps : List (List ℕ)). piece ∷ ps)
     (cut-joined (next ∷ rest) (omega arith) (and-right (not (has_bars piece)) (unbarred (next ∷ rest)) whole)
-    (and-right (not (ends_in_bar piece)) (are_closed (next ∷ rest)) closed))
+    (and-right (not (ends is_bar piece)) (are_closed (next ∷ rest)) closed))
 
 pub bars_once : (text : List ℕ) (pieces : List (List ℕ)) → IsCutAtBars text pieces → pieces ≡ cut_bars false text
 bars_once text pieces h = sym (cut-joined pieces h.some h.unbarred h.closed) ∙ ap (λ (t : List ℕ). cut_bars false t) h.joined

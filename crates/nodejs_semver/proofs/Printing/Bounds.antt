@@ -1,5 +1,5 @@
 -- For proofs. The intervals of a printed interval's part.
-use Rattle.std.proofs.Common.{◌≡◌, ◌<◌, ◌^◌, ℕ, true, List, [], ◌∷◌, ◌++◌, map, refl, ap, inl, inr, Some}
+use Rattle.std.proofs.Common.{◌≡◌, ◌<◌, ◌^◌, ◌||◌, ℕ, true, List, [], ◌∷◌, ◌++◌, map, refl, ap, inl, inr, Some}
 use Rattle.std.specs.Cmp.{Equal-is, eq_by_cmp_equiv}
 use Rattle.std.specs.declared.cmp.Ordering.TheVariants.{Equal}
 use Rattle.std.proofs.lemmas.Bool.{cases_Bool}
@@ -11,7 +11,8 @@ use Rattle.semver_core.specs.Printing.Text.{version_text}
 use Rattle.semver_core.specs.Values.Versions.{VersionValue}
 use Rattle.semver_core.specs.declared.cuts.bound.Bound.{Bound}
 use Rattle.semver_core.specs.declared.cuts.bound.Bound.TheVariants.{Unbounded, Before, After}
-use Rattle.nodejs_semver.specs.Printing.RoundTrip.{has_bound, bounds_back}
+use Rattle.nodejs_semver.specs.Printing.RoundTrip.{bounds_back}
+use Rattle.nodejs_semver.specs.Ranges.Outside.{is_bounded}
 use Rattle.nodejs_semver.specs.Text.Denotes.{part_intervals}
 use Rattle.nodejs_semver.specs.Printing.Text.{bounds_text}
 use Rattle.nodejs_semver.specs.Text.Runs.{Run, interval_of, fits}
@@ -31,7 +32,7 @@ IsReadableBound limit (After v) = IsReadable limit v
 -- an interval that is not `*` and whose versions are readable
 pub record IsPrintable (limit : ℕ) (s : Span VersionValue) : Type 0 where
   pub proper : is_interval precedence s ≡ true
-  pub bounded : has_bound s.lower s.upper ≡ true
+  pub bounded : (is_bounded s.lower || is_bounded s.upper) ≡ true
   pub lower : IsReadableBound limit s.lower
   pub upper : IsReadableBound limit s.upper
 
@@ -97,7 +98,7 @@ alone limit v small h = one_run limit (version_text v) (plain (whole v)) (exact 
 
 -- the part of a printed interval has that interval alone
 pub bounds_come_back : (limit : ℕ) (lower upper : Bound VersionValue) → limit < 2 ^ 64 → is_interval precedence (record { lower = lower; upper = upper }) ≡ true
-    → has_bound lower upper ≡ true → IsReadableBound limit lower → IsReadableBound limit upper
+    → (is_bounded lower || is_bounded upper) ≡ true → IsReadableBound limit lower → IsReadableBound limit upper
     → part_intervals limit (bounds_text lower upper) ≡ bounds_back lower upper ∷ []
 unfolding bound
 bounds_come_back limit Unbounded Unbounded small p b h k = cc b

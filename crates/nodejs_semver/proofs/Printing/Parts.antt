@@ -1,5 +1,5 @@
 -- For proofs. The parts of a printed range are the texts of its intervals.
-use Rattle.std.proofs.Common.{◌≡◌, ◌<◌, ◌^◌, ◌==◌, ℕ, Bool, true, false, List, [], ◌∷◌, ◌++◌, length, map, refl, ap, ◌∙◌, arith, inl, inr, subst, append_assoc}
+use Rattle.std.proofs.Common.{◌≡◌, ◌<◌, ◌^◌, ◌==◌, ◌||◌, ℕ, Bool, true, false, List, [], ◌∷◌, ◌++◌, length, map, refl, ap, ◌∙◌, arith, inl, inr, subst, append_assoc}
 use Rattle.std.specs.Prelude.{nat_lt, flat_map}
 use Rattle.std.proofs.lemmas.Bool.{cases_Bool}
 use Rattle.std.proofs.lemmas.Bool.Decides.{nat_tests}
@@ -17,7 +17,8 @@ use Rattle.semver_core.specs.Values.Versions.{VersionValue}
 use Rattle.semver_core.specs.declared.cuts.bound.Bound.{Bound}
 use Rattle.semver_core.specs.declared.cuts.bound.Bound.TheVariants.{Unbounded, Before, After}
 use Rattle.semver_core.proofs.Printing.Returns.{decimal_digits, decimal_some, ids_runs, run_chars}
-use Rattle.nodejs_semver.specs.Printing.RoundTrip.{has_bound, read_back}
+use Rattle.nodejs_semver.specs.Printing.RoundTrip.{read_back}
+use Rattle.nodejs_semver.specs.Ranges.Outside.{is_bounded}
 use Rattle.nodejs_semver.specs.Text.Denotes.{part_denotes, denotes}
 use Rattle.nodejs_semver.specs.Internal.Parts.{cut_bars, parts}
 use Rattle.nodejs_semver.specs.Printing.Text.{bounds_text, span_text, range_text}
@@ -162,7 +163,7 @@ part_two (b ∷ s) t h some k more =
     }
 
 -- the text of a printable interval is a part
-pub bounds_part : (limit : ℕ) (lower upper : Bound VersionValue) → limit < 2 ^ 64 → has_bound lower upper ≡ true → IsReadableBound limit lower → IsReadableBound limit upper
+pub bounds_part : (limit : ℕ) (lower upper : Bound VersionValue) → limit < 2 ^ 64 → (is_bounded lower || is_bounded upper) ≡ true → IsReadableBound limit lower → IsReadableBound limit upper
     → IsPart (bounds_text lower upper)
 bounds_part limit Unbounded Unbounded small b h k = cc b
 bounds_part limit Unbounded (Before w) small b h k = part_one (60 ∷ version_text w) (version_shown limit w small k) (omega arith)

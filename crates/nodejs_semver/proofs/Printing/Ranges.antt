@@ -1,7 +1,7 @@
 -- For proofs. Printed ranges come back.
 use Rattle.std.proofs.Common.{◌≡◌, ◌<◌, ◌^◌, ℕ, true, List, [], ◌∷◌, ◌++◌, length, map, refl, ap, ap₂, ◌∙◌, arith, inl, inr}
 use Rattle.std.specs.List.{AllByRecursion, list_all}
-use Rattle.std.specs.Prelude.{◌&&◌}
+use Rattle.std.specs.Prelude.{◌&&◌, ◌||◌}
 use Rattle.std.proofs.lemmas.Bool.{cases_Bool}
 use Rattle.semver_core.specs.Cuts.{Span, is_interval}
 use Rattle.semver_core.specs.Internal.Readable.{readable}
@@ -9,9 +9,10 @@ use Rattle.semver_core.specs.Values.Order.{precedence, version_eq}
 use Rattle.semver_core.specs.Values.Versions.{VersionValue}
 use Rattle.semver_core.specs.declared.cuts.bound.Bound.{Bound}
 use Rattle.semver_core.specs.declared.cuts.bound.Bound.TheVariants.{Unbounded, Before, After}
-use Rattle.nodejs_semver.specs.Printing.RoundTrip.{has_bound, is_printable, bounds_back, read_back}
+use Rattle.nodejs_semver.specs.Printing.RoundTrip.{is_printable, bounds_back, read_back}
 use Rattle.nodejs_semver.specs.Text.Denotes.{denotes}
 use Rattle.nodejs_semver.specs.Printing.Text.{bounds_text, range_text}
+use Rattle.nodejs_semver.specs.Ranges.Outside.{is_bounded}
 use Rattle.nodejs_semver.specs.Ranges.View.{is_range_bound, is_range_span}
 use Rattle.nodejs_semver.specs.Internal.SameLaws.{bound_refl}
 use Rattle.nodejs_semver.specs.Ranges.Equality.{span_eq, range_eq}
@@ -41,11 +42,11 @@ bound_readable limit (After v) h = readable limit v h
 
 printable : (limit : ℕ) (s : Span VersionValue) → is_printable limit s ≡ true → IsPrintable limit s
 printable limit s h =
-    let range = and-right (has_bound s.lower s.upper) (is_range_span limit s) h in
+    let range = and-right (is_bounded s.lower || is_bounded s.upper) (is_range_span limit s) h in
     let bounds = and-right (is_interval precedence s) (is_range_bound limit s.lower && is_range_bound limit s.upper) range in
     record {
       proper = and-left (is_interval precedence s) (is_range_bound limit s.lower && is_range_bound limit s.upper) range;
-      bounded = and-left (has_bound s.lower s.upper) (is_range_span limit s) h;
+      bounded = and-left (is_bounded s.lower || is_bounded s.upper) (is_range_span limit s) h;
       lower = bound_readable limit s.lower (and-left (is_range_bound limit s.lower) (is_range_bound limit s.upper) bounds);
       upper = bound_readable limit s.upper (and-right (is_range_bound limit s.lower) (is_range_bound limit s.upper) bounds);
     }

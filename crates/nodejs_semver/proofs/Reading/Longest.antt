@@ -1,11 +1,11 @@
 -- The longest partial is the one that is read component by component.
 use Rattle.std.specs.Char.{is_ascii_digit}
-use Rattle.semver_core.specs.Text.Characters.{begins}
+use Rattle.semver_core.specs.Text.Characters.{begins, ends}
 use Rattle.std.proofs.Common.{◌≡◌, ◌⊎◌, ℕ, zero, suc, ◌<◌, ◌≤◌, List, ◌++◌, length, take, drop, refl, sym, ap, ◌∙◌, arith, Some, None, inl, inr, subst, length-append, length-drop, false}
 use Rattle.std.specs.Prelude.{Option, ◌&&◌}
 use Rattle.std.proofs.lemmas.Bool.{cases_Bool, cases_lt}
 use Rattle.std.proofs.lemmas.List.{take-append-drop, take_at, drop_at}
-use Rattle.nodejs_semver.specs.Text.PartialText.{Partial, ends_digit}
+use Rattle.nodejs_semver.specs.Text.PartialText.{Partial}
 use Rattle.nodejs_semver.specs.Internal.Partials.{longest_partial, longest_within, partial_to, partial_of}
 use Rattle.nodejs_semver.specs.Internal.Fronts.{partial_front}
 use Rattle.nodejs_semver.proofs.Reading.Reaches.{reaches, second-same}
@@ -34,11 +34,11 @@ longest-some limit (suc n) text k p some within here none = elim (cases_lt k (su
 
 -- a partial that ends at a place, by itself
 pub record Ends (limit : ℕ) (s rest : List ℕ) (p : Partial) : Type 0 where
-  pub quiet : (ends_digit s && begins is_ascii_digit rest) ≡ false
+  pub quiet : (ends is_ascii_digit s && begins is_ascii_digit rest) ≡ false
   pub is : partial_of limit s ≡ Some p
 
 pub ends-is : (limit : ℕ) (s rest : List ℕ) (p : Partial) → partial_to limit s rest ≡ Some p → Ends limit s rest p
-ends-is limit s rest p h = elim (cases_Bool (ends_digit s && begins is_ascii_digit rest)) [
+ends-is limit s rest p h = elim (cases_Bool (ends is_ascii_digit s && begins is_ascii_digit rest)) [
   | inl cut ↦ cc (rw cut at h)
   | inr whole ↦ record { quiet = whole; is = rw whole at h }
 ]

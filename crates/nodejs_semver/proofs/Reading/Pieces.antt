@@ -1,5 +1,5 @@
 -- The pieces of a partial, read from the left and as whole texts.
-use Rattle.semver_core.specs.Text.Characters.{begins}
+use Rattle.semver_core.specs.Text.Characters.{begins, ends}
 use Rattle.std.proofs.Common.{◌≡◌, ◌⊎◌, ℕ, ◌<◌, List, [], ◌∷◌, ◌++◌, length, take, drop, refl, ap, ◌∙◌, arith, Bool, true, false, Some, None, inl, inr}
 use Rattle.std.specs.Prelude.{Option, ◌&&◌, not, nat_le}
 use Rattle.std.specs.Char.{is_ascii_digit}
@@ -10,7 +10,7 @@ use Rattle.std.proofs.lemmas.Bool.Decides.{nat_tests}
 use Rattle.std.proofs.lemmas.List.{take_at, drop_at}
 use Rattle.nodejs_semver.specs.Internal.Partials.{number_of, is_dot, before_dot, after_dot, component_of, wildcard_of}
 use Rattle.semver_core.specs.Internal.Reading.{◌>>?◌}
-use Rattle.nodejs_semver.specs.Text.PartialText.{ends_digit, is_wildcard}
+use Rattle.nodejs_semver.specs.Text.PartialText.{is_wildcard}
 use Rattle.semver_core.specs.Lists.{is_empty}
 use Rattle.nodejs_semver.specs.Internal.Fronts.{begins_wildcard, component_front}
 use Rattle.nodejs_semver.proofs.Reading.IdentifierLists.{and-left, and-right}
@@ -56,14 +56,14 @@ after_dot-cut (b ∷ rest) t h = elim (cases_Bool (is_dot b)) [
 ]
 
 -- whether a text ends in a digit goes by its last piece
-pub ends_digit-append : (u v : List ℕ) → 0 < length v → ends_digit (u ++ v) ≡ ends_digit v
-ends_digit-append [] v h = refl
-ends_digit-append (b ∷ []) [] h = absurd (omega arith)
-ends_digit-append (b ∷ []) (c ∷ v) h = refl
-ends_digit-append (b ∷ c ∷ u) v h = ends_digit-append (c ∷ u) v h
+pub ends-append : (u v : List ℕ) → 0 < length v → ends is_ascii_digit (u ++ v) ≡ ends is_ascii_digit v
+ends-append [] v h = refl
+ends-append (b ∷ []) [] h = absurd (omega arith)
+ends-append (b ∷ []) (c ∷ v) h = refl
+ends-append (b ∷ c ∷ u) v h = ends-append (c ∷ u) v h
 
 -- digits alone end in a digit
-pub digits-end : (run : List ℕ) → is_empty run ≡ false → list_all is_ascii_digit run ≡ true → ends_digit run ≡ true
+pub digits-end : (run : List ℕ) → is_empty run ≡ false → list_all is_ascii_digit run ≡ true → ends is_ascii_digit run ≡ true
 digits-end [] h k = cc h
 digits-end (b ∷ []) h k = and-left (is_ascii_digit b) true k
 digits-end (b ∷ c ∷ rest) h k = digits-end (c ∷ rest) refl (and-right (is_ascii_digit b) (list_all is_ascii_digit (c ∷ rest)) k)
@@ -133,7 +133,7 @@ number-then limit run more n h stop =
     let back : drop (prefix_len is_ascii_digit (run ++ more)) (run ++ more) ≡ more = ap (λ (k : ℕ). drop k (run ++ more)) len ∙ drop_at run more (length run) refl in
     rw (digits-no_wildcard run more is.some is.digits, front, h, back) refl
 
-pub component-then : (limit : ℕ) (c more : List ℕ) (v : Option ℕ) → component_of limit c ≡ Some v → (ends_digit c && begins is_ascii_digit more) ≡ false
+pub component-then : (limit : ℕ) (c more : List ℕ) (v : Option ℕ) → component_of limit c ≡ Some v → (ends is_ascii_digit c && begins is_ascii_digit more) ≡ false
     → component_front limit (c ++ more) ≡ Some (v, more)
 component-then limit c more v h stop = elim (cases_Bool (wildcard_of c)) [
   | inl wild ↦

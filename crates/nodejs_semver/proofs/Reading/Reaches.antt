@@ -1,5 +1,5 @@
 -- The reader goes at least as far as any partial at the front.
-use Rattle.semver_core.specs.Text.Characters.{begins}
+use Rattle.semver_core.specs.Text.Characters.{begins, ends}
 use Rattle.std.proofs.Common.{◌≡◌, ◌⊎◌, ℕ, suc, ◌<◌, ◌≤◌, ◌+◌, List, [], ◌∷◌, ◌++◌, length, drop, get_or, refl, sym, ap, ◌∙◌, arith, Bool, true, false, Some, None, inl, inr, subst, append-nil, append_assoc, length-drop}
 use Rattle.std.specs.Prelude.{Option, ◌&&◌, ◌==◌}
 use Rattle.std.specs.Char.{is_ascii_digit}
@@ -11,11 +11,11 @@ use Rattle.std.proofs.lemmas.Bool.Decides.{nat_tests}
 use Rattle.semver_core.specs.Internal.Spaces.{drop_spaces, after_spaces}
 use Rattle.nodejs_semver.specs.Internal.Partials.{number_of, is_dot, is_plus, identifiers_of, pre_release_of, build_of, before_plus, from_plus, qualifier_of, before_dot, after_dot, component_of, components_of, minor_after, patch_after, partial_of, drop_v, third, wildcard_of}
 use Rattle.semver_core.specs.Internal.Reading.{◌>>?◌}
-use Rattle.nodejs_semver.specs.Text.PartialText.{Partial, ends_digit, is_wildcard}
+use Rattle.nodejs_semver.specs.Text.PartialText.{Partial, is_wildcard}
 use Rattle.semver_core.specs.Text.Identifiers.{is_identifier, Id}
 use Rattle.nodejs_semver.specs.Internal.Fronts.{Front, begins_wildcard, component_front, dotted_front, number_front, begins_identifier, begins_byte, run_on, list_len, pre_release_front, build_front, patch_front, minor_front, partial_front}
 use Rattle.nodejs_semver.proofs.Reading.IdentifierLists.{and-left, is_list, is_list-begins, list_len-append, begins-append}
-use Rattle.nodejs_semver.proofs.Reading.Pieces.{bind-some, dots, component-then, ends_digit-append, wildcard-no_digit, wildcard-is, number_of-is}
+use Rattle.nodejs_semver.proofs.Reading.Pieces.{bind-some, dots, component-then, ends-append, wildcard-no_digit, wildcard-is, number_of-is}
 use Rattle.semver_core.proofs.Text.Spaces.{after_spaces-append, after_spaces-end}
 
 -- what is left is no longer
@@ -185,13 +185,13 @@ qualifier-passed q more r h =
 
 -- what a run of digits at the end of a text is told from, by the last piece of that text
 abbrev pub Quiet : List ℕ → List ℕ → Type 0
-Quiet t more = (ends_digit t && begins is_ascii_digit more) ≡ false
+Quiet t more = (ends is_ascii_digit t && begins is_ascii_digit more) ≡ false
 
 quiet-last : (u v more : List ℕ) → 0 < length v → Quiet (u ++ v) more → Quiet v more
-quiet-last u v more some h = subst (λ (b : Bool). (b && begins is_ascii_digit more) ≡ false) (ends_digit-append u v some) h
+quiet-last u v more some h = subst (λ (b : Bool). (b && begins is_ascii_digit more) ≡ false) (ends-append u v some) h
 
 pub quiet-before : (c rest : List ℕ) → begins is_ascii_digit rest ≡ false → Quiet c rest
-quiet-before c rest h = subst (λ (b : Bool). (ends_digit c && b) ≡ false) (sym h) (and-false (ends_digit c))
+quiet-before c rest h = subst (λ (b : Bool). (ends is_ascii_digit c && b) ≡ false) (sym h) (and-false (ends is_ascii_digit c))
   where
     and-false : (b : Bool) → (b && false) ≡ false
     and-false true = refl

@@ -15,7 +15,7 @@ use Rattle.nodejs_semver.specs.Text.PartialText.{Partial, is_wildcard}
 use Rattle.semver_core.specs.Text.Identifiers.{Id}
 use Rattle.nodejs_semver.specs.Internal.Fronts.{Front, component_front, dotted_front, patch_front, minor_front, partial_front, pre_release_front, build_front}
 use Rattle.nodejs_semver.proofs.Reading.IdentifierLists.{and-left}
-use Rattle.nodejs_semver.proofs.Reading.Pieces.{bind-some, before_dot-cut, after_dot-cut, ends_digit-append, digits-taken, number_of-is, wildcard-is, digit-no_wildcard, digits-end}
+use Rattle.nodejs_semver.proofs.Reading.Pieces.{bind-some, before_dot-cut, after_dot-cut, ends-append, digits-taken, number_of-is, wildcard-is, digit-no_wildcard, digits-end}
 use Rattle.nodejs_semver.proofs.Reading.Reaches.{Quiet, quiet-before, second-same, component-some}
 use Rattle.semver_core.proofs.Text.Spaces.{after_spaces-end, after_spaces-again}
 use Rattle.nodejs_semver.proofs.Reading.Sound.{Component, component-read, qualifier-read, begins_component}
@@ -81,7 +81,7 @@ quiet-front c [] left h = quiet-before c [] refl
 quiet-front c (d ∷ q) left h = h
 
 quiet-append : (u v left : List ℕ) → 0 < length v → Quiet v left → Quiet (u ++ v) left
-quiet-append u v left some h = subst (λ (b : Bool). (b && begins is_ascii_digit left) ≡ false) (sym (ends_digit-append u v some)) h
+quiet-append u v left some h = subst (λ (b : Bool). (b && begins is_ascii_digit left) ≡ false) (sym (ends-append u v some)) h
 
 -- what was read of the components
 pub record Parted (limit : ℕ) (x s left : List ℕ) (p : Partial) : Type 0 where

@@ -4,11 +4,11 @@ use Rattle.std.specs.Prelude.{ℕ, zero, suc, ◌==◌, ◌&&◌, not, nat_le, B
 use Rattle.std.specs.Char.{is_ascii_digit}
 use Rattle.std.specs.List.{list_all}
 use Rattle.std.specs.Str.Parse.{digits_value}
-use Rattle.semver_core.specs.Text.Characters.{begins}
+use Rattle.semver_core.specs.Text.Characters.{begins, ends}
 use Rattle.semver_core.specs.Text.Identifiers.{Id, is_identifier, identifier_of, pieces}
 use Rattle.semver_core.specs.Internal.Spaces.{drop_spaces}
 use Rattle.semver_core.specs.Lists.{is_empty}
-use Rattle.nodejs_semver.specs.Text.PartialText.{Partial, ends_digit, is_wildcard}
+use Rattle.nodejs_semver.specs.Text.PartialText.{Partial, is_wildcard}
 use Rattle.semver_core.specs.Internal.Reading.{◌>>?◌}
 
 -- the first result of two
@@ -111,7 +111,7 @@ partial_of limit text = components_of limit (drop_spaces (drop_v text))
 
 -- the partial that ends at a place of a text, where no run of digits is cut there
 abbrev pub partial_to : ℕ → List ℕ → List ℕ → Option Partial
-partial_to limit text rest = if ends_digit text && begins is_ascii_digit rest then None else partial_of limit text
+partial_to limit text rest = if ends is_ascii_digit text && begins is_ascii_digit rest then None else partial_of limit text
 
 -- the longest partial at the front of a text among those of at most so many bytes, and what follows it
 unfoldable pub longest_within : ℕ → ℕ → List ℕ → Option (Partial × List ℕ)

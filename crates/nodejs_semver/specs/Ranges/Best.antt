@@ -15,24 +15,15 @@ pub record Stands (in_front behind : VersionValue → VersionValue → Bool) (se
   pub before : list_all (λ w. not (set w) || in_front w v) front ≡ true
   pub after : list_all (λ w. not (set w) || behind w v) back ≡ true
 
+-- the version that stands so, and None exactly where no version of the list is in the set
+abbrev pub IsBest : (in_front behind : VersionValue → VersionValue → Bool) → (VersionValue → Bool) → List VersionValue → Option VersionValue → Type 0
+IsBest in_front behind set list None = list_all (λ w. not (set w)) list ≡ true
+IsBest in_front behind set list (Some v) = Stands in_front behind set list v
+
 -- the last of the greatest: none in front of it is above it, and all behind it are below
-abbrev pub IsLastGreatest : (VersionValue → Bool) → List VersionValue → VersionValue → Type 0
-IsLastGreatest = Stands (λ w v. is_le (precedence w v)) (λ w v. is_lt (precedence w v))
+abbrev pub IsMax : (VersionValue → Bool) → List VersionValue → Option VersionValue → Type 0
+IsMax = IsBest (λ w v. is_le (precedence w v)) (λ w v. is_lt (precedence w v))
 
 -- the first of the least: all in front of it are above it, and none behind it is below
-abbrev pub IsFirstLeast : (VersionValue → Bool) → List VersionValue → VersionValue → Type 0
-IsFirstLeast = Stands (λ w v. is_lt (precedence v w)) (λ w v. is_le (precedence v w))
-
--- no version of the list is in the set
-abbrev pub has_none : (VersionValue → Bool) → List VersionValue → Bool
-has_none set list = list_all (λ w. not (set w)) list
-
--- the last of the greatest, and None exactly where there is none
-abbrev pub IsMax : (VersionValue → Bool) → List VersionValue → Option VersionValue → Type 0
-IsMax set list None = has_none set list ≡ true
-IsMax set list (Some v) = IsLastGreatest set list v
-
--- the first of the least, and None exactly where there is none
 abbrev pub IsMin : (VersionValue → Bool) → List VersionValue → Option VersionValue → Type 0
-IsMin set list None = has_none set list ≡ true
-IsMin set list (Some v) = IsFirstLeast set list v
+IsMin = IsBest (λ w v. is_lt (precedence v w)) (λ w v. is_le (precedence v w))

@@ -1,5 +1,5 @@
 -- Statement: the least version that a range accepts, and the least that it accepts and another does not.
-use Rattle.std.specs.Prelude.{◌≡◌, ◌+◌, Bool, true, false, ◌&&◌, not, List, [], ◌∷◌, ◌++◌, if◌then◌else◌, Option, Some, None, find}
+use Rattle.std.specs.Prelude.{◌≡◌, ◌+◌, Bool, true, false, ◌&&◌, not, List, [], ◌∷◌, ◌++◌, if◌then◌else◌, Option, Some, None, find, option_and_then}
 use Rattle.std.specs.Ordering.{is_le}
 use Rattle.semver_core.specs.Cuts.{Span, holds}
 use Rattle.semver_core.specs.Text.Identifiers.{Id, Numeric}
@@ -36,10 +36,6 @@ abbrev pub build_by : Option VersionValue → VersionValue → List Id
 build_by None v = []
 build_by (Some x) v = if version_eq x v then x.build else []
 
-abbrev pub build_in : Option (Span VersionValue) → VersionValue → List Id
-build_in None v = []
-build_in (Some s) v = build_by (begins_with s.lower) v
-
 -- the build of a result: that of the lower bound from which it comes, of the first span that accepts it
 abbrev pub least_build : List (Span VersionValue) → VersionValue → List Id
-least_build ss v = build_in (find (λ s. holds precedence s v && lets_in s v) ss) v
+least_build ss v = build_by (option_and_then (λ s. begins_with s.lower) (find (λ s. holds precedence s v && lets_in s v) ss)) v

@@ -5,7 +5,7 @@ use Rattle.semver_core.specs.Cuts.{Span, is_past, lower_cut, upper_cut}
 use Rattle.semver_core.specs.Values.Order.{precedence}
 use Rattle.semver_core.specs.Values.Versions.{VersionValue}
 use Rattle.semver_core.specs.declared.cuts.bound.Bound.{Bound}
-use Rattle.semver_core.specs.declared.cuts.bound.Bound.TheVariants.{Unbounded, Before, After}
+use Rattle.semver_core.specs.declared.cuts.bound.Bound.TheVariants.{Unbounded}
 use Rattle.nodejs_semver.specs.Ranges.Gate.{accepts}
 use Rattle.nodejs_semver.specs.declared.range.outside.OutsideDirection.{OutsideDirection}
 use Rattle.nodejs_semver.specs.declared.range.outside.OutsideDirection.TheVariants.{Higher, Lower}
@@ -14,8 +14,7 @@ use Rattle.nodejs_semver.specs.declared.range.outside.RangeError.TheVariants.{In
 
 abbrev pub is_bounded : Bound VersionValue → Bool
 is_bounded Unbounded = false
-is_bounded (Before v) = true
-is_bounded (After v) = true
+is_bounded _ = true
 
 -- the span has an upper bound, and its lower cut is not after the version
 abbrev pub lies_below : Span VersionValue → VersionValue → Bool
@@ -39,8 +38,3 @@ direction_char Lower = 60
 -- the direction of a character: every other character is an error
 abbrev pub direction_of : ℕ → Result OutsideDirection RangeError
 direction_of c = if c == 62 then Ok Higher else if c == 60 then Ok Lower else Err (InvalidOutsideDirection c)
-
--- the version lies past each upper cut, or before each lower cut
-abbrev pub is_outside_by_cuts : OutsideDirection → List (Span VersionValue) → VersionValue → Bool
-is_outside_by_cuts Higher ss v = list_all (λ s. is_past precedence (upper_cut s.upper) v) ss
-is_outside_by_cuts Lower ss v = list_all (λ s. not (is_past precedence (lower_cut s.lower) v)) ss

@@ -1,7 +1,7 @@
 -- Statement. The division of a range text at its bars `||`. A text is the list of its bytes in UTF-8.
 use Rattle.std.specs.Prelude.{◌≡◌, ◌<◌, ◌==◌, ℕ, ◌&&◌, ◌||◌, not, Bool, true, false, List, [], ◌∷◌, ◌++◌, length}
 use Rattle.std.specs.List.{list_all}
-use Rattle.semver_core.specs.Text.Characters.{begins}
+use Rattle.semver_core.specs.Text.Characters.{begins, ends}
 
 abbrev pub is_bar : ℕ → Bool
 is_bar b = b == 124
@@ -17,16 +17,11 @@ abbrev pub has_bars : List ℕ → Bool
 has_bars [] = false
 has_bars (b ∷ rest) = (is_bar b && begins is_bar rest) || has_bars rest
 
-abbrev pub ends_in_bar : List ℕ → Bool
-ends_in_bar [] = false
-ends_in_bar (b ∷ []) = is_bar b
-ends_in_bar (b ∷ c ∷ rest) = ends_in_bar (c ∷ rest)
-
 -- none but the last ends in `|`
 abbrev pub are_closed : List (List ℕ) → Bool
 are_closed [] = true
 are_closed (piece ∷ []) = true
-are_closed (piece ∷ next ∷ rest) = not (ends_in_bar piece) && are_closed (next ∷ rest)
+are_closed (piece ∷ next ∷ rest) = not (ends is_bar piece) && are_closed (next ∷ rest)
 
 -- the division of a text at its bars: its pieces joined by `||` are the text, none of them contains `||`, and only the last may
 -- end in `|`

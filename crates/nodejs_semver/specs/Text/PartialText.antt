@@ -2,7 +2,7 @@
 -- version grammar. The greatest number that a text may write is the parameter `limit`.
 use Rattle.std.specs.Prelude.{◌≡◌, ◌⊎◌, ◌==◌, ◌&&◌, ◌||◌, ℕ, Bool, true, false, List, [], ◌∷◌, ◌++◌, Option, Some, None}
 use Rattle.std.specs.Char.{is_ascii_digit}
-use Rattle.semver_core.specs.Text.Characters.{begins, IsBlank}
+use Rattle.semver_core.specs.Text.Characters.{begins, ends, IsBlank}
 use Rattle.semver_core.specs.Text.VersionText.{IsPreRelease, IsBuild}
 use Rattle.semver_core.specs.Text.Identifiers.{Id}
 use Rattle.semver_core.specs.Text.Numbers.{IsNumber}
@@ -19,12 +19,6 @@ pub record Partial : Type 0 where
 abbrev pub is_wildcard : ℕ → Bool
 is_wildcard b = b == 120 || b == 88 || b == 42
 
--- the text ends in a digit
-abbrev pub ends_digit : List ℕ → Bool
-ends_digit [] = false
-ends_digit (b ∷ []) = is_ascii_digit b
-ends_digit (b ∷ c ∷ rest) = ends_digit (c ∷ rest)
-
 -- a component: a wildcard or a number
 pub data IsComponent (limit : ℕ) : List ℕ → Option ℕ → Type 0 where
   wildcard : (b : ℕ) → is_wildcard b ≡ true → IsComponent limit (b ∷ []) None
@@ -38,7 +32,7 @@ pub data AreComponents (limit : ℕ) : List ℕ → Partial → Type 0 where
   two : (x y : List ℕ) (a b : Option ℕ) → IsComponent limit x a → IsComponent limit y b
       → AreComponents limit (x ++ 46 ∷ y) (record { major = a; minor = b; patch = None; pre_release = []; build = [] })
   three : (x y z pre build : List ℕ) (p : Partial) → IsComponent limit x p.major → IsComponent limit y p.minor → IsComponent limit z p.patch
-      → (ends_digit z && begins is_ascii_digit (pre ++ build)) ≡ false → IsPreRelease pre build p.pre_release → IsBuild build [] p.build
+      → (ends is_ascii_digit z && begins is_ascii_digit (pre ++ build)) ≡ false → IsPreRelease pre build p.pre_release → IsBuild build [] p.build
       → AreComponents limit (x ++ 46 ∷ (y ++ 46 ∷ (z ++ (pre ++ build)))) p
 
 -- the whole text is this partial

@@ -1,7 +1,10 @@
 // What `Range::outside` says of the cuts of the intervals.
 
-ghost use Rattle.nodejs_semver.specs.Ranges.Outside.{is_outside_by_cuts};
-ghost use Rattle.std.specs.Prelude.{Ok, ◌≡◌};
+ghost use Rattle.std.specs.Prelude.{◌≡◌, not, Ok};
+ghost use Rattle.std.specs.List.{list_all};
+ghost use Rattle.semver_core.specs.Cuts.{is_past, lower_cut, upper_cut};
+ghost use Rattle.semver_core.specs.Values.Order.{precedence};
+ghost use Rattle.nodejs_semver.specs.declared.range.outside.OutsideDirection.TheVariants.{Higher, Lower};
 
 use crate::{OutsideDirection, Range, RangeError, Version};
 
@@ -13,7 +16,10 @@ pub fn outside_by_cuts(
     version: &Version,
     direction: OutsideDirection,
 ) -> Result<bool, RangeError>
-    ensures { result ≡ Ok (is_outside_by_cuts direction range.now version.now) }
+    ensures higher { direction ≡ Higher → result
+        ≡ Ok (list_all (λ s. is_past precedence (upper_cut s.upper) version.now) range.now) }
+    ensures lower { direction ≡ Lower → result
+        ≡ Ok (list_all (λ s. not (is_past precedence (lower_cut s.lower) version.now)) range.now) }
 {
     // Proof helper: the bounds of a range are those of intervals. The call has no effect at run
     // time.

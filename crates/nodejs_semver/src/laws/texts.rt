@@ -40,8 +40,8 @@ pub fn parts()
 /// its lower cut below its upper cut, and none that keeps that with the first word of the next one.
 /// So `>2 <1` has two runs of one word.
 pub fn runs()
-    ensures divided { (limit : ℕ) (part : List ℕ)
-        → AreRuns precedence (part_bounds limit part) (runs_of precedence (part_bounds limit part)) }
+    ensures divided { (limit : ℕ) (part : List ℕ) → AreRuns precedence
+        (part_bounds limit part) (runs_of precedence (part_bounds limit part)) }
     ensures once { (bounds : List (Span VersionValue)) (runs : List (Run VersionValue))
         → AreRuns precedence bounds runs → runs ≡ runs_of precedence bounds }
 {}

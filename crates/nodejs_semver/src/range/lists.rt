@@ -7,7 +7,7 @@ ghost use Rattle.semver_core.specs.Clips.{clip};
 ghost use Rattle.semver_core.specs.Cuts.{Start, is_interval, meet, covers};
 ghost use Rattle.nodejs_semver.specs.Ranges.Algebra.{meets_of, minus, remainder};
 ghost use Rattle.semver_core.specs.declared.cuts.bound.Bound.TheVariants.{Unbounded};
-ghost use Rattle.nodejs_semver.specs.Ranges.Along.{IsAlong};
+ghost use Rattle.nodejs_semver.specs.Internal.Along.{IsAlong};
 
 use semver_core::cuts::{Interval, Point};
 use std::alloc::{AllocError, Global};

@@ -112,19 +112,19 @@ patch_of a b c [] build id base k =
     (λ e w good next. full c w.patch e (past w next) good.patch)
     (λ other. record {
       is_version = released a b (c + 1) build k.major k.minor (room c k.patch other) k.build;
-      inside = record { above = above_patch (version a b c [] build) (version a b (c + 1) [] build) refl refl (omega arith); release = refl; minor = refl; major = refl };
-      least = λ w good next. le_numbers (version a b (c + 1) [] build) w refl next.release
-          (omega (arith, next.major)) (omega (arith, next.minor)) (omega (arith, past w next));
+      inside = (above_patch (version a b c [] build) (version a b (c + 1) [] build) refl refl (omega arith), refl, refl, refl);
+      least = λ w good next. le_numbers (version a b (c + 1) [] build) w refl next.1
+          (omega (arith, next.2)) (omega (arith, next.3)) (omega (arith, past w next));
     })
   where
     past : (w : VersionValue) → IsNextPatch (version a b c [] build) w → c < w.patch
-    past w next = patch_past (version a b c [] build) w refl next.minor next.major (below_cases (version a b c [] build) w next.above)
+    past w next = patch_past (version a b c [] build) w refl next.3 next.2 (below_cases (version a b c [] build) w next.0)
 patch_of a b c (x ∷ xs) build id base k = record {
   is_version = released a b c build k.major k.minor k.patch k.build;
-  inside = record { above = release_above a b c x xs build; release = refl; minor = refl; major = refl };
-  least = λ w good next. le_numbers (version a b c [] build) w refl next.release
-      (omega (arith, next.major)) (omega (arith, next.minor))
-      (patch_upto (version a b c (x ∷ xs) build) w next.minor next.major (below_cases (version a b c (x ∷ xs) build) w next.above));
+  inside = (release_above a b c x xs build, refl, refl, refl);
+  least = λ w good next. le_numbers (version a b c [] build) w refl next.1
+      (omega (arith, next.2)) (omega (arith, next.3))
+      (patch_upto (version a b c (x ∷ xs) build) w next.3 next.2 (below_cases (version a b c (x ∷ xs) build) w next.0));
 }
 
 pub patch_least : (v : VersionValue) (id : List ℕ) (base : IdentifierBase) → IsVersion v
@@ -168,26 +168,21 @@ minor_of a b c pre build id base k =
     by_if (IsLeastOrOverflow (IsNextMinor (version a b c pre build))) (c == 0 && not (is_empty pre)) (Ok (version a b c [] build)) (next_minor (version a b c pre build))
     (λ h. let zero : c ≡ 0 = is_same c 0 (first_true (c == 0) (not (is_empty pre)) h) in record {
       is_version = released a b c build k.major k.minor k.patch k.build;
-      inside = record {
-        above = above_pre (version a b c pre build) (version a b c [] build) refl refl refl (some_left pre (second_true (c == 0) (not (is_empty pre)) h));
-        release = refl;
-        patch = zero;
-        major = refl;
-      };
-      least = λ w good next. le_numbers (version a b c [] build) w refl next.release
-          (omega (arith, next.major)) (minor_upto (version a b c pre build) w next.major (below_cases (version a b c pre build) w next.above)) (omega (arith, zero));
+      inside = (above_pre (version a b c pre build) (version a b c [] build) refl refl refl (some_left pre (second_true (c == 0) (not (is_empty pre)) h)), refl, refl, zero);
+      least = λ w good next. le_numbers (version a b c [] build) w refl next.1
+          (omega (arith, next.2)) (minor_upto (version a b c pre build) w next.2 (below_cases (version a b c pre build) w next.0)) (omega (arith, zero));
     })
     (λ h. by_one (IsLeastOrOverflow (IsNextMinor (version a b c pre build))) b (λ n. Ok (version a n 0 [] build))
     (λ e w good next. full b w.minor e (past h w next) good.minor)
     (λ other. record {
       is_version = released a (b + 1) 0 build k.major (room b k.minor other) (omega arith) k.build;
-      inside = record { above = above_minor (version a b c pre build) (version a (b + 1) 0 [] build) refl (omega arith); release = refl; patch = refl; major = refl };
-      least = λ w good next. le_numbers (version a (b + 1) 0 [] build) w refl next.release
-          (omega (arith, next.major)) (omega (arith, past h w next)) (omega arith);
+      inside = (above_minor (version a b c pre build) (version a (b + 1) 0 [] build) refl (omega arith), refl, refl, refl);
+      least = λ w good next. le_numbers (version a (b + 1) 0 [] build) w refl next.1
+          (omega (arith, next.2)) (omega (arith, past h w next)) (omega arith);
     }))
   where
     past : (c == 0 && not (is_empty pre)) ≡ false → (w : VersionValue) → IsNextMinor (version a b c pre build) w → b < w.minor
-    past h w next = minor_past (version a b c pre build) w next.major next.patch (none_left c pre h) (below_cases (version a b c pre build) w next.above)
+    past h w next = minor_past (version a b c pre build) w next.2 next.3 (none_left c pre h) (below_cases (version a b c pre build) w next.0)
 
 pub minor_least : (v : VersionValue) (id : List ℕ) (base : IdentifierBase) → IsVersion v
     → IsLeastOrOverflow (IsNextMinor v) (incremented v (codes "minor") id base)
@@ -202,26 +197,21 @@ major_of a b c pre build id base k =
     let minor : b ≡ 0 = is_same b 0 (first_true (b == 0) (c == 0 && not (is_empty pre)) h) in
     let patch : c ≡ 0 = is_same c 0 (first_true (c == 0) (not (is_empty pre)) rest) in record {
       is_version = released a b c build k.major k.minor k.patch k.build;
-      inside = record {
-        above = above_pre (version a b c pre build) (version a b c [] build) refl refl refl (some_left pre (second_true (c == 0) (not (is_empty pre)) rest));
-        release = refl;
-        patch = patch;
-        minor = minor;
-      };
-      least = λ w good next. le_numbers (version a b c [] build) w refl next.release
-          (major_upto (version a b c pre build) w (below_cases (version a b c pre build) w next.above)) (omega (arith, minor)) (omega (arith, patch));
+      inside = (above_pre (version a b c pre build) (version a b c [] build) refl refl refl (some_left pre (second_true (c == 0) (not (is_empty pre)) rest)), refl, minor, patch);
+      least = λ w good next. le_numbers (version a b c [] build) w refl next.1
+          (major_upto (version a b c pre build) w (below_cases (version a b c pre build) w next.0)) (omega (arith, minor)) (omega (arith, patch));
     })
     (λ h. by_one (IsLeastOrOverflow (IsNextMajor (version a b c pre build))) a (λ n. Ok (version n 0 0 [] build))
     (λ e w good next. full a w.major e (past h w next) good.major)
     (λ other. record {
       is_version = released (a + 1) 0 0 build (room a k.major other) (omega arith) (omega arith) k.build;
-      inside = record { above = above_major (version a b c pre build) (version (a + 1) 0 0 [] build) (omega arith); release = refl; patch = refl; minor = refl };
-      least = λ w good next. le_numbers (version (a + 1) 0 0 [] build) w refl next.release
+      inside = (above_major (version a b c pre build) (version (a + 1) 0 0 [] build) (omega arith), refl, refl, refl);
+      least = λ w good next. le_numbers (version (a + 1) 0 0 [] build) w refl next.1
           (omega (arith, past h w next)) (omega arith) (omega arith);
     }))
   where
     past : (b == 0 && (c == 0 && not (is_empty pre))) ≡ false → (w : VersionValue) → IsNextMajor (version a b c pre build) w → a < w.major
-    past h w next = major_past (version a b c pre build) w next.minor next.patch (none_left_2 b c pre h) (below_cases (version a b c pre build) w next.above)
+    past h w next = major_past (version a b c pre build) w next.2 next.3 (none_left_2 b c pre h) (below_cases (version a b c pre build) w next.0)
 
 pub major_least : (v : VersionValue) (id : List ℕ) (base : IdentifierBase) → IsVersion v
     → IsLeastOrOverflow (IsNextMajor v) (incremented v (codes "major") id base)

@@ -12,12 +12,12 @@ use Rattle.std.specs.Char.{is_ascii_digit}
 use Rattle.std.specs.List.{list_all, join_with_byte, All}
 use Rattle.std.specs.Str.Parse.{digits_value}
 use Rattle.semver_core.specs.Text.Characters.{begins, is_identifier_char, IsBlank}
-use Rattle.semver_core.specs.Text.Identifiers.{Id, Numeric, AlphaNumeric, identifier_of, is_identifier, pieces, goes_on, IsIdentifiers}
+use Rattle.semver_core.specs.Text.Identifiers.{Id, Numeric, AlphaNumeric, identifier_of, is_identifier, is_u64_text, pieces, goes_on, IsIdentifiers}
 use Rattle.semver_core.specs.Text.Numbers.{IsNumber}
 use Rattle.semver_core.specs.Values.Versions.{VersionValue}
 use Rattle.semver_core.specs.Text.VersionText.{Reads, IsPreRelease, IsBuild, no_mark, dashed, no_pre_release, plus, no_build, begins_pre_release}
 use Rattle.semver_core.specs.Printing.Text.{id_text, marked_list, version_text}
-use Rattle.semver_core.specs.Printing.RoundTrip.{is_u64_text, is_normal, is_readable}
+use Rattle.semver_core.specs.Printing.RoundTrip.{is_normal, is_readable}
 use Rattle.semver_core.specs.Internal.Readable.{IsReadable, readable}
 use Rattle.semver_core.specs.declared.TheConstants.{MAX_LENGTH}
 use Rattle.semver_core.specs.Text.Parsing.{Parses}

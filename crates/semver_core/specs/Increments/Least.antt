@@ -1,8 +1,8 @@
 -- Statement. The least versions that `inc` returns.
-use Rattle.std.specs.Prelude.{◌≡◌, ◌<◌, ◌+◌, ◌-◌, ◌^◌, ℕ, true, false, List, [], Option, Result, Ok, Err}
+use Rattle.std.specs.Prelude.{◌≡◌, ◌<◌, ◌+◌, ◌-◌, ◌^◌, ℕ, true, false, List, [], IsOkAnd, Option, Result, Ok, Err, unwrap_or}
 use Rattle.std.specs.declared.cmp.Ordering.TheVariants.{Less}
 use Rattle.std.specs.Ordering.{is_le}
-use Rattle.semver_core.specs.Increments.Table.{Fault, InvalidIdentifier, InvalidIncrementArgument, NotAPrerelease, Overflow, base_or_zero, has_numeric, identifier_or_none}
+use Rattle.semver_core.specs.Increments.Table.{Fault, Overflow, has_numeric}
 use Rattle.semver_core.specs.Values.Order.{precedence}
 use Rattle.semver_core.specs.Values.Versions.{VersionValue, IsVersion, is_release}
 use Rattle.semver_core.specs.declared.increment.IdentifierBase.{IdentifierBase}
@@ -18,36 +18,24 @@ pub record IsLeastVersion (These : VersionValue → Type 0) (v : VersionValue) :
 abbrev pub IsLeastOrOverflow : (VersionValue → Type 0) → Result VersionValue Fault → Type 0
 IsLeastOrOverflow These (Ok v) = IsLeastVersion These v
 IsLeastOrOverflow These (Err Overflow) = (w : VersionValue) → IsVersion w → These w → ⊥
-IsLeastOrOverflow These (Err (InvalidIdentifier text)) = ⊥
-IsLeastOrOverflow These (Err (InvalidIncrementArgument text)) = ⊥
-IsLeastOrOverflow These (Err (NotAPrerelease text)) = ⊥
+IsLeastOrOverflow These (Err _) = ⊥
 
 -- what is returned is the least of these
 abbrev pub IsLeastAnswer : (VersionValue → Type 0) → Result VersionValue Fault → Type 0
-IsLeastAnswer These (Ok v) = IsLeastVersion These v
-IsLeastAnswer These (Err e) = ⊥
+IsLeastAnswer These answer = IsOkAnd answer (IsLeastVersion These)
 
 abbrev pub IsAbove : VersionValue → VersionValue → Type 0
 IsAbove v w = precedence v w ≡ Less
 
 -- the releases above v in the same major and minor, those with patch 0 in the same major, and those with minor and patch 0
-pub record IsNextPatch (v w : VersionValue) : Type 0 where
-  pub above : IsAbove v w
-  pub release : w.pre_release ≡ []
-  pub minor : w.minor ≡ v.minor
-  pub major : w.major ≡ v.major
+abbrev pub IsNextPatch : VersionValue → VersionValue → Type 0
+IsNextPatch v w = IsAbove v w × (w.pre_release ≡ []) × (w.major ≡ v.major) × (w.minor ≡ v.minor)
 
-pub record IsNextMinor (v w : VersionValue) : Type 0 where
-  pub above : IsAbove v w
-  pub release : w.pre_release ≡ []
-  pub patch : w.patch ≡ 0
-  pub major : w.major ≡ v.major
+abbrev pub IsNextMinor : VersionValue → VersionValue → Type 0
+IsNextMinor v w = IsAbove v w × (w.pre_release ≡ []) × (w.major ≡ v.major) × (w.patch ≡ 0)
 
-pub record IsNextMajor (v w : VersionValue) : Type 0 where
-  pub above : IsAbove v w
-  pub release : w.pre_release ≡ []
-  pub patch : w.patch ≡ 0
-  pub minor : w.minor ≡ 0
+abbrev pub IsNextMajor : VersionValue → VersionValue → Type 0
+IsNextMajor v w = IsAbove v w × (w.pre_release ≡ []) × (w.minor ≡ 0) × (w.patch ≡ 0)
 
 -- the versions of the next major, of the next minor, and of the next patch
 abbrev pub IsOfNextMajor : VersionValue → VersionValue → Type 0
@@ -66,8 +54,8 @@ pub data CanStep (v : VersionValue) : Type 0 where
 
 -- no identifier, or an empty one
 abbrev pub HasNoIdentifier : Option (List ℕ) → Type 0
-HasNoIdentifier id = identifier_or_none id ≡ []
+HasNoIdentifier id = unwrap_or id [] ≡ []
 
 -- no identifier, and the base 0 or none
 abbrev pub IsPlain : Option (List ℕ) → Option IdentifierBase → Type 0
-IsPlain id base = HasNoIdentifier id × (base_or_zero base ≡ Value 0)
+IsPlain id base = HasNoIdentifier id × (unwrap_or base (Value 0) ≡ Value 0)

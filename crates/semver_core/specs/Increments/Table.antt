@@ -1,5 +1,5 @@
 -- Statement. What `inc` returns: the table of its words, row by row.
-use Rattle.std.specs.Prelude.{◌==◌, ◌&&◌, ◌||◌, ◌+◌, ◌-◌, ◌^◌, not, ℕ, Bool, true, false, List, [], ◌∷◌, ◌++◌, if◌then◌else◌, Option, Some, None, Result, Ok, Err, map, codes, ⊤}
+use Rattle.std.specs.Prelude.{◌==◌, ◌&&◌, ◌||◌, ◌+◌, ◌-◌, ◌^◌, not, ℕ, Bool, true, false, List, [], ◌∷◌, ◌++◌, if◌then◌else◌, Option, unwrap_or, Result, Ok, Err, map, codes, ⊤}
 use Rattle.std.specs.Char.{is_ascii_digit}
 use Rattle.std.specs.List.{list_all, list_any, join_with_byte, starts_with}
 use Rattle.std.specs.Str.{bytes_eq}
@@ -24,15 +24,6 @@ infixl 10 ◌>>=◌
 abbrev pub ◌>>=◌ : {A B : Type 0} → Result A Fault → (A → Result B Fault) → Result B Fault
 (Ok x) >>= f = f x
 (Err e) >>= f = Err e
-
--- no identifier and an empty one are the same
-abbrev pub identifier_or_none : Option (List ℕ) → List ℕ
-identifier_or_none None = []
-identifier_or_none (Some id) = id
-
-abbrev pub base_or_zero : Option IdentifierBase → IdentifierBase
-base_or_zero None = Value 0
-base_or_zero (Some base) = base
 
 abbrev pub is_false : IdentifierBase → Bool
 is_false False = true
@@ -87,9 +78,8 @@ matches_id id (AlphaNumeric text) = not (is_digits id) && bytes_eq text id
 
 -- the list begins with a match and then a number
 abbrev pub is_kept : List ℕ → List Id → Bool
-is_kept id [] = false
-is_kept id (x ∷ []) = false
 is_kept id (x ∷ y ∷ rest) = is_numeric y && matches_id id x
+is_kept id _ = false
 
 -- the list that an identifier begins, with a number unless the base is false
 abbrev pub begun : List ℕ → IdentifierBase → List Id
@@ -126,17 +116,8 @@ by_minor v = if v.patch == 0 && not (is_release v) then Ok (release_of v) else n
 abbrev pub by_patch : VersionValue → Result VersionValue Fault
 by_patch v = if is_release v then next_patch v else Ok (release_of v)
 
-abbrev pub by_premajor : List ℕ → IdentifierBase → VersionValue → Result VersionValue Fault
-by_premajor id base v = next_major v >>= pre_step id base
-
-abbrev pub by_preminor : List ℕ → IdentifierBase → VersionValue → Result VersionValue Fault
-by_preminor id base v = next_minor v >>= pre_step id base
-
-abbrev pub by_prepatch : List ℕ → IdentifierBase → VersionValue → Result VersionValue Fault
-by_prepatch id base v = next_patch v >>= pre_step id base
-
 abbrev pub by_prerelease : List ℕ → IdentifierBase → VersionValue → Result VersionValue Fault
-by_prerelease id base v = if is_release v then by_prepatch id base v else pre_step id base v
+by_prerelease id base v = if is_release v then (next_patch v >>= pre_step id base) else pre_step id base v
 
 abbrev pub by_release : VersionValue → Result VersionValue Fault
 by_release v = if is_release v then Err (NotAPrerelease (version_text v)) else Ok (release_of v)
@@ -146,9 +127,9 @@ by_word word id base v =
     if bytes_eq word (codes "major") then by_major v
     else if bytes_eq word (codes "minor") then by_minor v
     else if bytes_eq word (codes "patch") then by_patch v
-    else if bytes_eq word (codes "premajor") then by_premajor id base v
-    else if bytes_eq word (codes "preminor") then by_preminor id base v
-    else if bytes_eq word (codes "prepatch") then by_prepatch id base v
+    else if bytes_eq word (codes "premajor") then (next_major v >>= pre_step id base)
+    else if bytes_eq word (codes "preminor") then (next_minor v >>= pre_step id base)
+    else if bytes_eq word (codes "prepatch") then (next_patch v >>= pre_step id base)
     else if bytes_eq word (codes "prerelease") then by_prerelease id base v
     else if bytes_eq word (codes "pre") then pre_step id base v
     else if bytes_eq word (codes "release") then by_release v
@@ -170,6 +151,7 @@ abbrev pub incremented : VersionValue → List ℕ → List ℕ → IdentifierBa
 incremented v word id base =
     (if starts_with nat_eq word (codes "pre") then checked id base else Ok tt) >>= λ _. by_word word id base v
 
--- what `inc` returns, given a version, a word, and perhaps an identifier and a base
+-- what `inc` returns, given a version, a word, and perhaps an identifier and a base: no identifier and an empty one are the
+-- same, and so are no base and the number 0
 abbrev pub answer_of_inc : VersionValue → List ℕ → Option (List ℕ) → Option IdentifierBase → Result VersionValue Fault
-answer_of_inc v word id base = incremented v word (identifier_or_none id) (base_or_zero base)
+answer_of_inc v word id base = incremented v word (unwrap_or id []) (unwrap_or base (Value 0))

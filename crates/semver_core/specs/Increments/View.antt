@@ -1,5 +1,5 @@
 -- Statement. What `inc` is given and returns, in the words of its table.
-use Rattle.std.specs.Prelude.{◌≡◌, ℕ, List, Option, Result, Ok, Err, ⊤, string_bytes}
+use Rattle.std.specs.Prelude.{◌≡◌, ◌≢◌, ℕ, List, Option, Result, Ok, Err, ⊤, string_bytes}
 use denote.Ref.{Bor}
 use Rattle.std.specs.Option.{option_copied}
 use Rattle.semver_core.specs.Increments.Table as spec
@@ -19,10 +19,7 @@ fault_of variant.Overflow = spec.Overflow
 
 -- the error has a text
 abbrev pub HasText : Fault → Type 0
-HasText (spec.InvalidIdentifier text) = ⊤
-HasText (spec.InvalidIncrementArgument text) = ⊤
-HasText (spec.NotAPrerelease text) = ⊤
-HasText spec.Overflow = ⊥
+HasText fault = fault ≢ spec.Overflow
 
 -- the identifier that is given, or none
 abbrev pub given : Option (Bor (List ℕ)) → Option (List ℕ)

@@ -14,10 +14,13 @@ pub data Id : Type 0 where
 abbrev pub is_identifier : List ℕ → Bool
 is_identifier text = nat_lt 0 (length text) && list_all is_identifier_char text
 
--- the identifier that such a text spells: the number of digits alone that fits 64 bits, and else the text
+-- the text is digits alone of a value that fits 64 bits
+abbrev pub is_u64_text : List ℕ → Bool
+is_u64_text text = list_all is_ascii_digit text && nat_lt (digits_value 10 text) (2 ^ 64)
+
+-- the identifier that such a text spells: that number, and else the text
 abbrev pub identifier_of : List ℕ → Id
-identifier_of text = if list_all is_ascii_digit text && nat_lt (digits_value 10 text) (2 ^ 64)
-    then Numeric (digits_value 10 text) else AlphaNumeric text
+identifier_of text = if is_u64_text text then Numeric (digits_value 10 text) else AlphaNumeric text
 
 -- the pieces of a text between its dots
 abbrev pub pieces : List ℕ → List (List ℕ)

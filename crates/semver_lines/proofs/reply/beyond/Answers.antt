@@ -11,4 +11,4 @@ returns-in_err-range c =
     rw (p.1, p.2) (told_fault _ _ _ c.in_err-range.ensures)
 
 pub returns : goal.returns
-returns c = read _ c.in_ok-range.ensures (record { found = c.in_ok-least.least; least = c.in_ok-least.ensures.least; build = c.in_ok-least.ensures.build; printed = c.in_ok-version_or_none.ensures ∙ ap version_or_none c.as_ref.ensures.value })
+returns c = read _ c.in_ok-range.ensures (record { found = c.in_ok-least.least; is = (c.in_ok-least.ensures.least, c.in_ok-least.ensures.build); printed = c.in_ok-version_or_none.ensures ∙ ap version_or_none c.as_ref.ensures.value })

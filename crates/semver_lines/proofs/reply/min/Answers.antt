@@ -10,4 +10,4 @@ returns-in_err-range c =
     rw (p.1, p.2) (told_fault _ _ _ c.in_err-range.ensures)
 
 pub returns : goal.returns
-returns c = read _ c.in_ok-range.ensures (record { found = option_copied c.min_satisfying.result; best = rw c.deref.ensures.value at c.min_satisfying.ensures; printed = c.in_ok-version_or_none.ensures })
+returns c = read _ c.in_ok-range.ensures (record { found = option_copied c.min_satisfying.result; is = rw c.deref.ensures.value at c.min_satisfying.ensures; printed = c.in_ok-version_or_none.ensures })

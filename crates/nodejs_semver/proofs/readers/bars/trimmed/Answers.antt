@@ -1,6 +1,6 @@
 use Rattle.std.proofs.Common.{◌≡◌, ◌≤◌, ◌-◌, get_or, length, true, arith}
 use Rattle.std.specs.Int.{is_in_range}
-use Rattle.semver_core.proofs.Text.Trims.{MiddleIsTrim_lem}
+use Rattle.semver_core.proofs.Text.Trims.{middle_is_trim}
 use Rattle.nodejs_semver.proofs.Dividing.Trimmed.{seen-starts, seen-trimmed, trim-starts}
 use Rattle.nodejs_semver.proofs.readers.bars.trimmed.Goals as goal
 
@@ -20,7 +20,7 @@ returns-in-len2-up-clause-starts c =
     seen-starts text some first
 
 pub returns-in_default-clause-value : goal.returns-in_default-clause-value
-returns-in_default-clause-value c = MiddleIsTrim_lem c.args.text.now c.trim.result.now c.trim.ensures.middle
+returns-in_default-clause-value c = middle_is_trim c.args.text.now c.trim.result.now c.trim.ensures.middle
 
 pub returns-in_default-clause-starts : goal.returns-in_default-clause-starts
 returns-in_default-clause-starts c = trim-starts c.args.text.now c.trim.result.now c.trim.ensures.middle

@@ -1,4 +1,4 @@
--- Statement: intervals that stand in order along the line and do not overlap.
+-- For proofs and private contracts: intervals that stand in order along the line and do not overlap.
 use Rattle.std.specs.Prelude.{◌≡◌, true, false, List, [], ◌∷◌}
 use Rattle.std.specs.Ordering.{is_lt}
 use Rattle.std.specs.declared.cmp.Ordering.{Ordering}
