@@ -128,7 +128,7 @@ pub(crate) fn between(
     Ok(Interval::new(lower, upper))
 }
 
-/// Adds an interval at the end of a list.
+/// Adds an interval at the end of a list. A list that outgrows its place mostly has more than two.
 #[inline(always)]
 pub(crate) fn push(
     interval: Interval<Version>,
@@ -137,7 +137,7 @@ pub(crate) fn push(
     ensures { OnOk result (found.new.items ≡ found.old.items ++ interval ∷ []) }
 {
     if found.len() == found.capacity() {
-        found.reserve(1)?;
+        found.reserve(3)?;
     }
     found.push_reserved(interval);
     Ok(())
