@@ -2,7 +2,6 @@ pub mod DigitValues
 pub mod NumberFront
 pub mod NumberLaw
 pub mod IdentifierLists
-pub mod WrittenIdentifiers
 pub mod Longest
 pub mod LongestLaw
 pub mod Boundaries

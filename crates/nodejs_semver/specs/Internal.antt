@@ -3,7 +3,6 @@ pub mod Partials
 pub mod Words
 pub mod Signs
 pub mod RunsFrom
-pub mod PreReleases
 pub mod Fronts
 pub mod PartFronts
 pub mod Readings

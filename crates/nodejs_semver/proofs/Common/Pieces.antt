@@ -7,12 +7,12 @@ use Rattle.std.proofs.lemmas.Bool.{cases_Bool}
 use Rattle.std.proofs.lemmas.List.{take_at, drop_at, length-map}
 use Rattle.std.proofs.lemmas.List.Splits.{slice_split-cons_yes, slice_split-cons_no}
 use Rattle.semver_core.specs.Text.Characters.{begins}
-use Rattle.semver_core.specs.Text.Identifiers.{Id, identifier_of, is_identifier, pieces}
+use Rattle.semver_core.specs.Text.Identifiers.{Id, identifier_of, is_identifier, pieces, listed}
 use Rattle.semver_core.specs.Internal.Spaces.{drop_spaces, space_len}
 use Rattle.semver_core.proofs.Text.Spaces.{drop_spaces-none}
 use Rattle.nodejs_semver.specs.Internal.CommonFronts.{bare_front, bare_minor, bare_patch, unbuilt}
 use Rattle.nodejs_semver.specs.Text.Common.{IsBare}
-use Rattle.nodejs_semver.specs.Internal.Fronts.{Front, begins_byte, begins_identifier, build_front, component_front, dotted_front, list_len, list_of, minor_front, partial_front, patch_front, pre_release_front, run_on, split_list}
+use Rattle.nodejs_semver.specs.Internal.Fronts.{Front, begins_byte, begins_identifier, build_front, component_front, dotted_front, list_len, minor_front, partial_front, patch_front, pre_release_front, run_on, split_list}
 use Rattle.nodejs_semver.specs.Text.PartialText.{Partial}
 use Rattle.nodejs_semver.specs.Internal.Partials.{after_dot, before_dot, before_plus, build_of, component_of, components_of, drop_v, from_plus, identifiers_of, is_dot, is_plus, longest_partial, minor_after, patch_after, pre_release_of, qualifier_of, third}
 use Rattle.semver_core.specs.Internal.Reading.{◌>>?◌}
@@ -61,20 +61,20 @@ spelled t l h = elim (cases_Bool (list_all is_identifier (pieces t))) [
   | inr none ↦ cc (rw none at h)
 ]
 
-list_of-is : (t : List ℕ) (l : List Id) → identifiers_of t ≡ Some l → list_of t ≡ l
-unfolding list_of
-list_of-is [] l h = cc h
-list_of-is (b ∷ t) l h = spelled (b ∷ t) l h
+listed-is : (t : List ℕ) (l : List Id) → identifiers_of t ≡ Some l → listed t ≡ l
+unfolding listed
+listed-is [] l h = cc h
+listed-is (b ∷ t) l h = spelled (b ∷ t) l h
 
-list_of-nil : (l : List Id) → Some [] ≡ Some l → list_of [] ≡ l
-unfolding list_of
-list_of-nil l h = inside [] l h
+listed-nil : (l : List Id) → Some [] ≡ Some l → listed [] ≡ l
+unfolding listed
+listed-nil l h = inside [] l h
 
 -- a piece of a qualifier: the text of its list, and what is left
 record Piece (front : List ℕ × List ℕ) (y : List ℕ) (l : List Id) : Type 0 where
   s : List ℕ
   is : front ≡ (s, y)
-  list : list_of s ≡ l
+  list : listed s ≡ l
 
 pre-none : (y : List ℕ) → begins_byte 45 y ≡ false → begins_identifier y ≡ false → pre_release_front y ≡ ([], y)
 unfolding pre_release_front list_len
@@ -90,14 +90,14 @@ pre-bare b p y o list stop = rw o (split-exact (b ∷ p) y list stop)
 
 pre-exact : (p y : List ℕ) (l : List Id) → pre_release_of p ≡ Some l → run_on y ≡ 0 → begins_byte 45 y ≡ false → begins_identifier y ≡ false
     → Piece (pre_release_front (p ++ y)) y l
-pre-exact [] y l h stop dash none = record { s = []; is = pre-none y dash none; list = list_of-nil l h }
+pre-exact [] y l h stop dash none = record { s = []; is = pre-none y dash none; list = listed-nil l h }
 pre-exact (b ∷ p) y l h stop dash none = elim (cases_Bool (b == 45)) [
   | inl d ↦
       let ids : identifiers_of p ≡ Some l = rw d at h in
-      record { s = p; is = pre-dashed b p y d (identifiers_of-is p l ids) stop; list = list_of-is p l ids }
+      record { s = p; is = pre-dashed b p y d (identifiers_of-is p l ids) stop; list = listed-is p l ids }
   | inr o ↦
       let ids : identifiers_of (b ∷ p) ≡ Some l = rw o at h in
-      record { s = b ∷ p; is = pre-bare b p y o (identifiers_of-is (b ∷ p) l ids) stop; list = list_of-is (b ∷ p) l ids }
+      record { s = b ∷ p; is = pre-bare b p y o (identifiers_of-is (b ∷ p) l ids) stop; list = listed-is (b ∷ p) l ids }
 ]
 
 build-none : (y : List ℕ) → begins_byte 43 y ≡ false → build_front y ≡ ([], y)
@@ -109,11 +109,11 @@ unfolding build_front
 build-plus b t y p list stop = rw (p, begins-append t y (is_list-begins t list)) (split-exact t y list stop)
 
 build-exact : (t y : List ℕ) (l : List Id) → build_of t ≡ Some l → run_on y ≡ 0 → begins_byte 43 y ≡ false → Piece (build_front (t ++ y)) y l
-build-exact [] y l h stop plus = record { s = []; is = build-none y plus; list = list_of-nil l h }
+build-exact [] y l h stop plus = record { s = []; is = build-none y plus; list = listed-nil l h }
 build-exact (b ∷ t) y l h stop plus = elim (cases_Bool (is_plus b)) [
   | inl p ↦
       let ids : identifiers_of t ≡ Some l = rw p at h in
-      record { s = t; is = build-plus b t y p (identifiers_of-is t l ids) stop; list = list_of-is t l ids }
+      record { s = t; is = build-plus b t y p (identifiers_of-is t l ids) stop; list = listed-is t l ids }
   | inr o ↦ cc (rw o at h)
 ]
 
@@ -141,8 +141,8 @@ behind q more stop = elim (pluses q) [
 ]
 
 record QualifierRead (text more : List ℕ) (r : List Id × List Id) : Type 0 where
-  pre : list_of (pre_release_front text).0 ≡ r.0
-  build : list_of (build_front (pre_release_front text).1).0 ≡ r.1
+  pre : listed (pre_release_front text).0 ≡ r.0
+  build : listed (build_front (pre_release_front text).1).0 ≡ r.1
   rest : (build_front (pre_release_front text).1).1 ≡ more
 
 qualifier-exact : (q more : List ℕ) (r : List Id × List Id) → qualifier_of q ≡ Some r → Stop more → QualifierRead (q ++ more) more r
@@ -157,8 +157,8 @@ qualifier-exact q more r h stop =
     let front : pre_release_front (q ++ more) ≡ (p.s, from_plus q ++ more) = ap (λ t. pre_release_front t) whole ∙ p.is in
     let back : build_front (pre_release_front (q ++ more)).1 ≡ (b.s, more) = ap (λ (x : List ℕ × List ℕ). build_front x.1) front ∙ b.is in
     record {
-      pre = ap (λ (x : List ℕ × List ℕ). list_of x.0) front ∙ (p.list ∙ ap (λ (x : List Id × List Id). x.0) both);
-      build = ap (λ (x : List ℕ × List ℕ). list_of x.0) back ∙ (b.list ∙ ap (λ (x : List Id × List Id). x.1) both);
+      pre = ap (λ (x : List ℕ × List ℕ). listed x.0) front ∙ (p.list ∙ ap (λ (x : List Id × List Id). x.0) both);
+      build = ap (λ (x : List ℕ × List ℕ). listed x.0) back ∙ (b.list ∙ ap (λ (x : List Id × List Id). x.1) both);
       rest = ap (λ (x : List ℕ × List ℕ). x.1) back;
     }
 
@@ -279,21 +279,21 @@ pieces-some b t = elim (cases_Bool (is_dot b)) [
     onto-some [] = omega arith
     onto-some (p ∷ ps) = omega arith
 
-list_of-none : (t : List ℕ) → list_of t ≡ [] → t ≡ []
-unfolding list_of
-list_of-none [] h = refl
-list_of-none (b ∷ t) h = absurd (omega (arith, pieces-some b t, ap length h, length-map (pieces (b ∷ t)) identifier_of))
+listed-none : (t : List ℕ) → listed t ≡ [] → t ≡ []
+unfolding listed
+listed-none [] h = refl
+listed-none (b ∷ t) h = absurd (omega (arith, pieces-some b t, ap length h, length-map (pieces (b ∷ t)) identifier_of))
 
 empty-no_list : (t : List ℕ) → t ≡ [] → is_list t ≡ true → ⊥
 empty-no_list t e h = cc (sym (ap (λ (s : List ℕ). begins_identifier s) e) ∙ is_list-begins t h)
 
-no-build : (y : List ℕ) → list_of (build_front y).0 ≡ [] → build_front y ≡ ([], y)
+no-build : (y : List ℕ) → listed (build_front y).0 ≡ [] → build_front y ≡ ([], y)
 unfolding build_front
 no-build y h = elim (cases_Bool (begins_byte 43 y && begins_identifier (drop 1 y))) [
   | inl both ↦
       let z = drop 1 y in
       let some = and-right (begins_byte 43 y) (begins_identifier z) both in
-      absurd (empty-no_list (take (list_len z) z) (list_of-none (take (list_len z) z) (rw both at h)) (list_len-is_list z some))
+      absurd (empty-no_list (take (list_len z) z) (listed-none (take (list_len z) z) (rw both at h)) (list_len-is_list z some))
   | inr none ↦ rw none refl
 ]
 
@@ -301,11 +301,11 @@ abbrev beside_ : Partial → List ℕ → Partial × List ℕ
 beside_ p more = (p, more)
 
 abbrev both_of : Option ℕ → Option ℕ → Option ℕ → List ℕ × List ℕ → List ℕ × List ℕ → Partial × List ℕ
-both_of a b v pre build = (record { major = a; minor = b; patch = v; pre_release = list_of pre.0; build = list_of build.0 }, build.1)
+both_of a b v pre build = (record { major = a; minor = b; patch = v; pre_release = listed pre.0; build = listed build.0 }, build.1)
 
 no-build_of : (a b v : Option ℕ) (pre : List ℕ × List ℕ)
-    → both_of a b v pre ([], pre.1) ≡ beside_ (record { major = a; minor = b; patch = v; pre_release = list_of pre.0; build = [] }) pre.1
-unfolding list_of
+    → both_of a b v pre ([], pre.1) ≡ beside_ (record { major = a; minor = b; patch = v; pre_release = listed pre.0; build = [] }) pre.1
+unfolding listed
 no-build_of a b v pre = refl
 
 -- what a reader without builds and one with them find where there is no build
@@ -314,7 +314,7 @@ patch-bare : (a b : Option ℕ) (x : List ℕ) (o : Front (Option ℕ)) (p : Par
 patch-bare a b x None p more h e = h
 patch-bare a b x (Some c) p more h e =
     let pre = pre_release_front c.1 in
-    let none : list_of (build_front pre.1).0 ≡ [] = ap (λ (q : Partial × List ℕ). q.0.build) h ∙ e in
+    let none : listed (build_front pre.1).0 ≡ [] = ap (λ (q : Partial × List ℕ). q.0.build) h ∙ e in
     let build : build_front pre.1 ≡ ([], pre.1) = no-build pre.1 none in
     sym (no-build_of a b c.0 pre) ∙ (ap (λ (q : List ℕ × List ℕ). both_of a b c.0 pre q) (sym build) ∙ h)
 

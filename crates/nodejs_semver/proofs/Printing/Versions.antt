@@ -7,7 +7,7 @@ use Rattle.std.specs.Fmt.{decimal}
 use Rattle.std.specs.Char.{is_ascii_digit}
 use Rattle.std.specs.List.{list_all, join_with_byte, slice_split}
 use Rattle.semver_core.specs.Text.Characters.{is_whitespace, is_identifier_char, begins}
-use Rattle.semver_core.specs.Text.Identifiers.{Id, identifier_of, goes_on}
+use Rattle.semver_core.specs.Text.Identifiers.{Id, identifier_of, goes_on, listed}
 use Rattle.semver_core.specs.Printing.RoundTrip.{is_normal}
 use Rattle.semver_core.specs.Internal.Readable.{IsReadable}
 use Rattle.semver_core.specs.Printing.Text.{id_text, marked_list, version_text}
@@ -16,7 +16,7 @@ use Rattle.semver_core.proofs.Printing.Returns.{decimal_digits, decimal_value, d
 use Rattle.semver_core.specs.Internal.Spaces.{drop_spaces, space_len, after_spaces}
 use Rattle.nodejs_semver.specs.Text.PartialText.{Partial}
 use Rattle.nodejs_semver.specs.Internal.Partials.{longest_partial, drop_v, is_dot, number_of}
-use Rattle.nodejs_semver.specs.Internal.Fronts.{begins_byte, partial_front, component_front, dotted_front, pre_release_front, build_front, begins_identifier, list_len, list_of, patch_front}
+use Rattle.nodejs_semver.specs.Internal.Fronts.{begins_byte, partial_front, component_front, dotted_front, pre_release_front, build_front, begins_identifier, list_len, patch_front}
 use Rattle.nodejs_semver.proofs.Reading.IdentifierLists.{and-left, is_list, list_len-append, run_on-stop, is_list-begins, begins-append}
 use Rattle.nodejs_semver.proofs.Reading.DigitValues.{number_of-some}
 use Rattle.nodejs_semver.proofs.Reading.Pieces.{number-then}
@@ -40,14 +40,14 @@ list_is : (id : Id) (ids : List Id) → list_all is_normal (id ∷ ids) ≡ true
 unfolding is_list
 list_is id ids h = (joined_is id ids h).runs
 
-list_of-some : (text : List ℕ) → begins_identifier text ≡ true → list_of text ≡ map identifier_of (slice_split is_dot text)
-unfolding list_of
-list_of-some [] h = cc h
-list_of-some (b ∷ rest) h = refl
+listed-some : (text : List ℕ) → begins_identifier text ≡ true → listed text ≡ map identifier_of (slice_split is_dot text)
+unfolding listed
+listed-some [] h = cc h
+listed-some (b ∷ rest) h = refl
 
-list_back : (id : Id) (ids : List Id) → list_all is_normal (id ∷ ids) ≡ true → list_of (list_text (id ∷ ids)) ≡ id ∷ ids
+list_back : (id : Id) (ids : List Id) → list_all is_normal (id ∷ ids) ≡ true → listed (list_text (id ∷ ids)) ≡ id ∷ ids
 list_back id ids h =
-    list_of-some (list_text (id ∷ ids)) (is_list-begins (list_text (id ∷ ids)) (list_is id ids h)) ∙ sym (joined_is id ids h).spelled
+    listed-some (list_text (id ∷ ids)) (is_list-begins (list_text (id ∷ ids)) (list_is id ids h)) ∙ sym (joined_is id ids h).spelled
 
 list_front : (text more : List ℕ) → is_list text ≡ true → goes_on more ≡ false → list_len (text ++ more) ≡ length text
 list_front text more h stop =
@@ -90,13 +90,13 @@ build_front-back (id ∷ ids) rest h stop =
         pick : (x y z : Bool) → x ≡ false → y ≡ false → (x || (y && z)) ≡ false
         pick x y z e f = rw (e, f) refl
 
-list_of-nil : list_of [] ≡ []
-unfolding list_of
-list_of-nil = refl
+listed-nil : listed [] ≡ []
+unfolding listed
+listed-nil = refl
 
-list_of-text : (ids : List Id) → list_all is_normal ids ≡ true → list_of (list_text_of ids) ≡ ids
-list_of-text [] h = list_of-nil
-list_of-text (id ∷ ids) h = list_back id ids h
+listed-text : (ids : List Id) → list_all is_normal ids ≡ true → listed (list_text_of ids) ≡ ids
+listed-text [] h = listed-nil
+listed-text (id ∷ ids) h = list_back id ids h
 
 -- behind a pre-release stands a build, a space or nothing
 build_ends : (ids : List Id) (rest : List ℕ) → is_end rest ≡ true → goes_on (marked_list (43 ∷ []) ids ++ rest) ≡ false
@@ -174,7 +174,7 @@ patch-back : (limit : ℕ) (v : VersionValue) (rest : List ℕ) → IsReadable l
     → patch_front (Some v.major) (Some v.minor) (46 ∷ (decimal v.patch ++ tail_text v rest)) (Some (Some v.patch, tail_text v rest)) ≡ (whole v, rest)
 unfolding tail_text
 patch-back limit v rest h stop =
-    rw (pre_front-back v.pre_release v.build rest h.pre_release stop, build_front-back v.build rest h.build stop, list_of-text v.pre_release h.pre_release, list_of-text v.build h.build) refl
+    rw (pre_front-back v.pre_release v.build rest h.pre_release stop, build_front-back v.build rest h.build stop, listed-text v.pre_release h.pre_release, listed-text v.build h.build) refl
 
 begins_digit-some : (ds more : List ℕ) → 0 < length ds → list_all is_ascii_digit ds ≡ true → begins is_ascii_digit (ds ++ more) ≡ true
 begins_digit-some [] more some h = absurd (omega arith)

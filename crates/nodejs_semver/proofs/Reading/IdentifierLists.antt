@@ -7,9 +7,9 @@ use Rattle.std.proofs.lemmas.Bool.Decides.{nat_tests}
 use Rattle.std.proofs.lemmas.List.Splits.{slice_split-cons_yes, slice_split-cons_no}
 use Rattle.std.proofs.lemmas.List.{drop_more, drop_all}
 use Rattle.semver_core.specs.Text.Characters.{is_identifier_char}
-use Rattle.semver_core.specs.Text.Identifiers.{is_identifier, goes_on}
+use Rattle.semver_core.specs.Text.Identifiers.{is_identifier, goes_on, is_listed}
 use Rattle.nodejs_semver.specs.Internal.Partials.{is_dot}
-use Rattle.nodejs_semver.specs.Internal.Fronts.{is_listed, begins_identifier, run_on, list_len}
+use Rattle.nodejs_semver.specs.Internal.Fronts.{begins_identifier, run_on, list_len}
 
 pub and-left : (a b : Bool) → (a && b) ≡ true → a ≡ true
 and-left true b h = refl

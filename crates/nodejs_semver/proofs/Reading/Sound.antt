@@ -9,9 +9,9 @@ use Rattle.std.proofs.lemmas.List.{take-append-drop}
 use Rattle.nodejs_semver.specs.Internal.Partials.{number_of, is_dot, is_plus, identifiers_of, pre_release_of, build_of, before_plus, from_plus, qualifier_of, after_dot, component_of, wildcard_of}
 use Rattle.nodejs_semver.specs.Text.PartialText.{is_wildcard}
 use Rattle.semver_core.specs.Lists.{is_empty}
-use Rattle.semver_core.specs.Text.Identifiers.{Id, goes_on}
+use Rattle.semver_core.specs.Text.Identifiers.{Id, goes_on, listed}
 use Rattle.semver_core.specs.Text.Characters.{is_identifier_char, begins}
-use Rattle.nodejs_semver.specs.Internal.Fronts.{begins_wildcard, component_front, number_front, begins_identifier, begins_byte, run_on, list_len, list_of, pre_release_front, build_front}
+use Rattle.nodejs_semver.specs.Internal.Fronts.{begins_wildcard, component_front, number_front, begins_identifier, begins_byte, run_on, list_len, pre_release_front, build_front}
 use Rattle.nodejs_semver.proofs.Reading.IdentifierLists.{and-left, and-right, is_list, is_list-begins, is_list-carries_on, list_len-is_list, carries_on, carries_on-dot, carries_on-other}
 use Rattle.nodejs_semver.proofs.Reading.Pieces.{bind-some, number_of-is, digit-no_wildcard, wildcard-no_digit}
 use Rattle.nodejs_semver.proofs.Reading.Reaches.{second-same, number_front-rest, quiet-before, Quiet}
@@ -114,8 +114,8 @@ component-read limit x v r h = elim (cases_Bool (begins_wildcard x)) [
 
 -- ---- the qualifier
 
-list-is : (text : List ℕ) → is_list text ≡ true → identifiers_of text ≡ Some (list_of text)
-unfolding is_list list_of
+list-is : (text : List ℕ) → is_list text ≡ true → identifiers_of text ≡ Some (listed text)
+unfolding is_list listed
 list-is [] h = cc h
 list-is (b ∷ rest) h = rw h refl
 
@@ -169,17 +169,17 @@ list_len-none text h = rw h refl
 -- what was read of a pre-release, and what is left
 pub record PreRead (x p left : List ℕ) (read : List ℕ) : Type 0 where
   pub split : x ≡ p ++ left
-  pub is : pre_release_of p ≡ Some (list_of read)
+  pub is : pre_release_of p ≡ Some (listed read)
   pub from : from_plus p ≡ []
   pub before : before_plus p ≡ p
   pub stop : (p ≡ []) ⊎ (begins is_ascii_digit left ≡ false)
 
-list_of-nil : list_of [] ≡ []
-unfolding list_of
-list_of-nil = refl
+listed-nil : listed [] ≡ []
+unfolding listed
+listed-nil = refl
 
 nothing-read : (x : List ℕ) → PreRead x [] x []
-nothing-read x = record { split = refl; is = ap (λ (l : List Id). some_of l) (sym list_of-nil); from = refl; before = refl; stop = inl refl }
+nothing-read x = record { split = refl; is = ap (λ (l : List Id). some_of l) (sym listed-nil); from = refl; before = refl; stop = inl refl }
   where
     some_of : List Id → Option (List Id)
     some_of l = Some l
@@ -213,7 +213,7 @@ bare-read x d h =
     begins-take c (suc n) [] h = refl
     begins-take c (suc n) (b ∷ x) h = h
 
-    pre_release-bare : (t : List ℕ) → is_list t ≡ true → begins_byte 45 t ≡ false → pre_release_of t ≡ Some (list_of t)
+    pre_release-bare : (t : List ℕ) → is_list t ≡ true → begins_byte 45 t ≡ false → pre_release_of t ≡ Some (listed t)
     pre_release-bare [] l b = cc (is_list-begins [] l)
     pre_release-bare (c ∷ t) l b = rw b (list-is (c ∷ t) l)
 
@@ -238,14 +238,14 @@ pre-read x = elim (cases_Bool (begins_byte 45 x)) [
 -- what was read of a build: nothing, or a plus and a list
 pub record BuildRead (y b left read : List ℕ) : Type 0 where
   pub split : y ≡ b ++ left
-  pub is : build_of b ≡ Some (list_of read)
+  pub is : build_of b ≡ Some (listed read)
   pub shape : (b ≡ []) × (left ≡ y) ⊎ (z : List ℕ) × (b ≡ 43 ∷ z) × (begins is_ascii_digit left ≡ false)
 
 pub build-read : (y : List ℕ) → (b : List ℕ) × BuildRead y b (build_front y).1 (build_front y).0
 unfolding build_front
 build-read y = elim (cases_Bool (begins_byte 43 y && begins_identifier (drop 1 y))) [
   | inl both ↦ rw both (plussed y (and-left (begins_byte 43 y) (begins_identifier (drop 1 y)) both) (and-right (begins_byte 43 y) (begins_identifier (drop 1 y)) both))
-  | inr none ↦ rw none ([], record { split = refl; is = ap (λ (l : List Id). some_of l) (sym list_of-nil); shape = inl (refl, refl) })
+  | inr none ↦ rw none ([], record { split = refl; is = ap (λ (l : List Id). some_of l) (sym listed-nil); shape = inl (refl, refl) })
 ]
   where
     some_of : List Id → Option (List Id)
@@ -292,7 +292,7 @@ quiet-stop p left (inl e) = subst (λ (t : List ℕ). Quiet t left) (sym e) refl
 quiet-stop p left (inr s) = quiet-before p left s
 
 pub qualifier-read : (x : List ℕ) → (q : List ℕ) × QualifierRead x q (build_front (pre_release_front x).1).1
-    (list_of (pre_release_front x).0, list_of (build_front (pre_release_front x).1).0)
+    (listed (pre_release_front x).0, listed (build_front (pre_release_front x).1).0)
 qualifier-read x =
     let pre = pre-read x in
     let build = build-read (pre_release_front x).1 in
@@ -305,7 +305,7 @@ qualifier-read x =
             pre.0 ++ [],
             record {
               split = whole ∙ ap (λ (t : List ℕ). t ++ left) same;
-              is = made (pre.0 ++ []) pre.0 [] _ _ cut.0 cut.1 pre.1.is (subst (λ (b : List ℕ). build_of b ≡ Some (list_of (build_front (pre_release_front x).1).0)) none.0 build.1.is);
+              is = made (pre.0 ++ []) pre.0 [] _ _ cut.0 cut.1 pre.1.is (subst (λ (b : List ℕ). build_of b ≡ Some (listed (build_front (pre_release_front x).1).0)) none.0 build.1.is);
               quiet = subst (λ (t : List ℕ). Quiet t left) (sym (append-nil pre.0))
                   (subst (λ (t : List ℕ). Quiet pre.0 t) (sym none.1) (quiet-stop pre.0 (pre_release_front x).1 pre.1.stop));
             },
@@ -316,7 +316,7 @@ qualifier-read x =
             pre.0 ++ (43 ∷ some.0),
             record {
               split = whole ∙ ap (λ (t : List ℕ). t ++ left) same;
-              is = made (pre.0 ++ (43 ∷ some.0)) pre.0 (43 ∷ some.0) _ _ cut.0 cut.1 pre.1.is (subst (λ (b : List ℕ). build_of b ≡ Some (list_of (build_front (pre_release_front x).1).0)) some.1 build.1.is);
+              is = made (pre.0 ++ (43 ∷ some.0)) pre.0 (43 ∷ some.0) _ _ cut.0 cut.1 pre.1.is (subst (λ (b : List ℕ). build_of b ≡ Some (listed (build_front (pre_release_front x).1).0)) some.1 build.1.is);
               quiet = quiet-before (pre.0 ++ (43 ∷ some.0)) left some.2;
             },
           )

@@ -1,11 +1,12 @@
 -- For proofs and private contracts. What of a common range text stands at the front of a text, read from the left.
 use Rattle.std.specs.Prelude.{ℕ, zero, suc, ◌==◌, ◌&&◌, ◌||◌, Bool, true, false, List, [], ◌∷◌, ◌++◌, length, drop, Option, Some, None, if◌then◌else◌}
+use Rattle.semver_core.specs.Text.Identifiers.{listed}
 use Rattle.semver_core.specs.Text.Characters.{begins}
 use Rattle.semver_core.specs.Cuts.{Span, interval, meet}
 use Rattle.semver_core.specs.Values.Order.{precedence}
 use Rattle.semver_core.specs.Lists.{is_empty}
 use Rattle.semver_core.specs.Values.Versions.{VersionValue}
-use Rattle.nodejs_semver.specs.Internal.Fronts.{Front, begins_byte, component_front, dotted_front, list_of, pre_release_front}
+use Rattle.nodejs_semver.specs.Internal.Fronts.{Front, begins_byte, component_front, dotted_front, pre_release_front}
 use Rattle.nodejs_semver.specs.Text.PartialText.{Partial}
 use Rattle.semver_core.specs.Internal.Reading.{◌>>?◌}
 use Rattle.nodejs_semver.specs.Text.Table.{table}
@@ -18,7 +19,7 @@ bare_patch major minor text None =
     (record { major = major; minor = minor; patch = None; pre_release = []; build = [] }, text)
 bare_patch major minor text (Some c) =
     let pre = pre_release_front c.1 in
-    (record { major = major; minor = minor; patch = c.0; pre_release = list_of pre.0; build = [] }, pre.1)
+    (record { major = major; minor = minor; patch = c.0; pre_release = listed pre.0; build = [] }, pre.1)
 
 abbrev pub bare_minor : ℕ → Option ℕ → List ℕ → Front (Option ℕ) → Partial × List ℕ
 bare_minor limit major text None =

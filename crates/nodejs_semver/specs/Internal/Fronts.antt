@@ -8,7 +8,7 @@ use Rattle.nodejs_semver.specs.Internal.Partials.{number_of, drop_v}
 use Rattle.semver_core.specs.Internal.Reading.{◌>>?◌}
 use Rattle.nodejs_semver.specs.Text.PartialText.{Partial, is_wildcard}
 use Rattle.semver_core.specs.Internal.Spaces.{drop_spaces}
-use Rattle.semver_core.specs.Text.Identifiers.{Id, identifier_of, goes_on, pieces, is_identifier}
+use Rattle.semver_core.specs.Text.Identifiers.{Id, identifier_of, goes_on, pieces, is_identifier, listed}
 use Rattle.semver_core.specs.Text.Characters.{is_identifier_char, begins}
 use Rattle.nodejs_semver.specs.Internal.Words.{after_byte}
 
@@ -49,16 +49,6 @@ run_on (b ∷ rest) = if goes_on (b ∷ rest) then suc (run_on rest) else 0
 unfoldable pub list_len : List ℕ → ℕ
 list_len text = if begins_identifier text then run_on text else 0
 
--- the identifiers that a text of them writes
-unfoldable pub list_of : List ℕ → List Id
-list_of [] = []
-list_of (b ∷ rest) = map identifier_of (pieces (b ∷ rest))
-
--- the text is empty, or identifiers joined by dots
-unfoldable pub is_listed : List ℕ → Bool
-is_listed [] = true
-is_listed (b ∷ rest) = list_all is_identifier (pieces (b ∷ rest))
-
 abbrev pub split_list : List ℕ → List ℕ × List ℕ
 split_list text = (take (list_len text) text, drop (list_len text) text)
 
@@ -80,7 +70,7 @@ patch_front major minor text None =
 patch_front major minor text (Some c) =
     let pre = pre_release_front c.1 in
     let build = build_front pre.1 in
-    (record { major = major; minor = minor; patch = c.0; pre_release = list_of pre.0; build = list_of build.0 }, build.1)
+    (record { major = major; minor = minor; patch = c.0; pre_release = listed pre.0; build = listed build.0 }, build.1)
 
 abbrev pub minor_front : ℕ → Option ℕ → List ℕ → Front (Option ℕ) → Partial × List ℕ
 minor_front limit major text None =

@@ -1,13 +1,13 @@
 -- For proofs and private contracts. What the readers give, seen without places in memory.
 use Rattle.std.specs.Prelude.{ℕ, Bool, List, Option, Some, None}
 use Rattle.std.specs.Borrow.{Bor}
+use Rattle.semver_core.specs.Text.Identifiers.{listed}
 use Rattle.semver_core.specs.Cuts.{Span}
 use Rattle.semver_core.specs.declared.cuts.bound.Bound.{Bound}
 use Rattle.semver_core.specs.declared.cuts.bound.Bound.TheVariants.{Unbounded, Before, After}
 use Rattle.semver_core.specs.Values.Versions.{VersionValue}
-use Rattle.nodejs_semver.specs.Internal.Fronts.{Front, list_of}
+use Rattle.nodejs_semver.specs.Internal.Fronts.{Front}
 use Rattle.nodejs_semver.specs.Text.PartialText as Spec
-use Rattle.nodejs_semver.specs.Internal.PreReleases.{pre_release_view}
 use Rattle.nodejs_semver.specs.Text.WordText as WordSpec
 use Rattle.nodejs_semver.specs.Internal.Signs as SignSpec
 use Rattle.nodejs_semver.specs.Internal.Signs.{unsigned, compared, tilded, careted}
@@ -22,7 +22,7 @@ use Rattle.nodejs_semver.specs.declared.readers.syntax.Sign.TheVariants as Signs
 
 abbrev pub partial_view : Partial → Spec.Partial
 partial_view p =
-    record { major = p.major; minor = p.minor; patch = p.patch; pre_release = list_of p.pre_release.now; build = list_of p.build.now }
+    record { major = p.major; minor = p.minor; patch = p.patch; pre_release = listed p.pre_release.now; build = listed p.build.now }
 
 abbrev pub partial_front_view : Option (Partial × Bor (List ℕ)) → Front Spec.Partial
 partial_front_view None = None
@@ -66,8 +66,8 @@ bare_view v = record {
   major = v.major;
   minor = v.minor;
   patch = v.patch;
-  pre_release = pre_release_view v.pre_release;
-  build = list_of v.build.now;
+  pre_release = listed v.pre_release.now;
+  build = listed v.build.now;
 }
 
 abbrev pub bound_view : Bound BareVersion → Bound VersionValue

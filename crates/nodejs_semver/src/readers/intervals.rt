@@ -3,12 +3,11 @@
 
 ghost use Rattle.std.specs.Option.{option_to_list};
 ghost use Rattle.std.specs.Prelude.{◌≡◌, ◌<◌, ◌++◌, ◌∷◌, [], List, Option, IfOk, OnOk, is_some, length, true};
+ghost use Rattle.semver_core.specs.Text.Identifiers.{is_listed, listed};
 ghost use Rattle.nodejs_semver.specs.Text.Denotes.{part_bounds, part_intervals};
 ghost use Rattle.nodejs_semver.specs.Internal.CommonFronts.{pushed};
 ghost use Rattle.nodejs_semver.specs.Internal.CommonViews.{between_view, both_view};
-ghost use Rattle.nodejs_semver.specs.Internal.Fronts.{is_listed, list_of};
 ghost use Rattle.nodejs_semver.specs.Internal.Meets.{joined_from, next_at};
-ghost use Rattle.nodejs_semver.specs.Internal.PreReleases.{pre_release_view};
 ghost use Rattle.nodejs_semver.specs.Internal.Readings.{bare_view, bound_view, bounds_view, hyphen_pushed_view, next_view, partial_view, sign_view, word_pushed_view};
 ghost use Rattle.nodejs_semver.specs.Internal.Signs.{hyphen_pushed, signed_word, upper_behind, upper_of, word_pushed};
 ghost use Rattle.nodejs_semver.specs.Internal.Words.{word_at};
@@ -22,83 +21,20 @@ ghost use Rattle.semver_core.specs.Values.Views.{ids_view};
 ghost use Rattle.semver_core.specs.declared.TheConstants.{MAX_SAFE_INTEGER};
 
 use crate::range::Intervals;
-use crate::readers::syntax::{BareVersion, Bounds, Partial, PreRelease, Sign};
+use crate::readers::syntax::{BareVersion, Bounds, Partial, Sign};
 use crate::readers::{table, words};
 use semver_core::cuts::{Bound, Interval};
-use semver_core::{Identifier, Version, scan};
+use semver_core::{Version, scan};
 use std::alloc::{AllocError, Global};
 
-// The identifiers that a text writes.
-fn identifiers(alloc: Global, bytes: &[u8]) -> Result<Vec<Identifier>, AllocError>
-    requires { is_listed bytes.now ≡ true }
-    ensures { IfOk result (λ list. ids_view list.items ≡ list_of bytes.now) }
-{
-    if bytes.is_empty() {
-        return Ok(Vec::new(alloc));
-    }
-    let found = scan::identifiers(alloc, scan::text_front(bytes), 0)?;
-    match found {
-        Some((list, _)) => Ok(list),
-        None => Ok(Vec::new(alloc)),
-    }
-}
-
-// The identifiers of the pre-release of a bound.
-fn pre_release(alloc: Global, bare: BareVersion<'_>) -> Result<Vec<Identifier>, AllocError>
-    ensures { IfOk result (λ list. ids_view list.items ≡ pre_release_view bare.entry.pre_release) }
-{
-    match bare.pre_release {
-        PreRelease::Written(text) => identifiers(alloc, text),
-        PreRelease::Zero => {
-            let mut zero = Vec::new(alloc);
-            zero.push(Identifier::Numeric(0))?;
-            Ok(zero)
-        }
-    }
-}
-
-// The version with the identifiers that a text writes.
-#[inline(never)]
-fn written_version(alloc: Global, bare: BareVersion<'_>) -> Result<Version, AllocError>
-    ensures { IfOk result (λ v. v ≡ bare_view bare.entry) }
-{
-    let pre_release = pre_release(alloc, bare)?;
-    let build = identifiers(alloc, bare.build)?;
-    match Version::new(
-        alloc,
-        bare.major,
-        bare.minor,
-        bare.patch,
-        pre_release,
-        build,
-    ) {
-        Ok(version) => Ok(version),
-        Err(_) => Err(AllocError),
-    }
-}
-
-// The version of a bound. Mostly it has no identifiers, or the pre-release `0` alone.
-//
-// Each call puts its version into a place of its own, and `bare` is passed by value: then the
-// compiler keeps the numbers of a release in registers.
+// The version of a bound. `bare` is passed by value: then the compiler keeps the numbers of a
+// release in registers.
 #[inline(always)]
-#[tactic(auto, unfolding(crate::specs::Internal::Fronts::list_of))]
 fn version(alloc: Global, bare: BareVersion<'_>) -> Result<Version, AllocError>
     ensures { IfOk result (λ v. v ≡ bare_view bare.entry) }
 {
-    match bare.pre_release {
-        PreRelease::Written([]) if bare.build.is_empty() => {
-            Ok(Version::from((bare.major, bare.minor, bare.patch)))
-        }
-        PreRelease::Zero if bare.build.is_empty() => {
-            let version = Version::with_pre(alloc, bare.major, bare.minor, bare.patch, 0)?;
-            Ok(version)
-        }
-        _ => {
-            let version = written_version(alloc, bare)?;
-            Ok(version)
-        }
-    }
+    let (pre_release, build) = (bare.pre_release, bare.build);
+    Version::from_texts(alloc, bare.major, bare.minor, bare.patch, pre_release, build)
 }
 
 /// The bound with a version of its own.

@@ -5,7 +5,7 @@ ghost use Rattle.std.specs.Prelude.{IfSome, ◌≡◌, ◌≤◌, ◌+◌, lengt
 ghost use Rattle.nodejs_semver.specs.Internal.Fronts as Spec;
 ghost use Rattle.nodejs_semver.specs.Internal.Fronts.{front_view};
 ghost use Rattle.semver_core.specs.Text.Characters.{is_identifier_char};
-ghost use Rattle.semver_core.specs.Text.Identifiers.{goes_on};
+ghost use Rattle.semver_core.specs.Text.Identifiers.{goes_on, is_listed};
 ghost use Rattle.nodejs_semver.specs.Internal.Partials.{drop_v};
 ghost use Rattle.nodejs_semver.specs.Internal.Readings.{pair_view, partial_front_view, partial_pair_view};
 ghost use Rattle.semver_core.specs.declared.TheConstants.{MAX_SAFE_INTEGER};
@@ -79,7 +79,7 @@ fn list_len(text: &[u8]) -> usize
 #[tactic(auto, using(crate::proofs::Reading::IdentifierLists::list_len_fits, crate::proofs::Reading::IdentifierLists::listed_taken))]
 fn split_list(text: &[u8]) -> (&[u8], &[u8])
     ensures front { result.0.now ≡ take (Spec.list_len text.now) text.now }
-    ensures listed { Spec.is_listed result.0.now ≡ true }
+    ensures listed { is_listed result.0.now ≡ true }
     ensures rest { result.1.now ≡ drop (Spec.list_len text.now) text.now }
 {
     text.split_at(list_len(text))
@@ -89,7 +89,7 @@ fn split_list(text: &[u8]) -> (&[u8], &[u8])
 #[inline(always)]
 #[tactic(auto, unfolding(crate::specs::Internal::Fronts::pre_release_front, crate::specs::Internal::Fronts::list_len), using(crate::proofs::Reading::IdentifierLists::listed_nil))]
 pub(crate) fn pre_release_front(text: &[u8]) -> (&[u8], &[u8])
-    ensures listed { Spec.is_listed result.0.now ≡ true }
+    ensures listed { is_listed result.0.now ≡ true }
     ensures value { pair_view result ≡ Spec.pre_release_front text.now }
 {
     if begins_identifier(text) {
@@ -103,7 +103,7 @@ pub(crate) fn pre_release_front(text: &[u8]) -> (&[u8], &[u8])
 #[inline(never)]
 #[tactic(auto, unfolding(crate::specs::Internal::Fronts::pre_release_front), using(crate::proofs::Reading::IdentifierLists::listed_nil))]
 fn written_pre_release(text: &[u8]) -> (&[u8], &[u8])
-    ensures listed { Spec.is_listed result.0.now ≡ true }
+    ensures listed { is_listed result.0.now ≡ true }
     ensures value { pair_view result ≡ Spec.pre_release_front text.now }
 {
     match text {
@@ -121,7 +121,7 @@ fn written_pre_release(text: &[u8]) -> (&[u8], &[u8])
 // The same of the build.
 #[tactic(auto, unfolding(crate::specs::Internal::Fronts::build_front), using(crate::proofs::Reading::IdentifierLists::listed_nil))]
 fn build_front(text: &[u8]) -> (&[u8], &[u8])
-    ensures listed { Spec.is_listed result.0.now ≡ true }
+    ensures listed { is_listed result.0.now ≡ true }
     ensures value { pair_view result ≡ Spec.build_front text.now }
 {
     match text {
@@ -132,7 +132,7 @@ fn build_front(text: &[u8]) -> (&[u8], &[u8])
 
 // The partial at the front whose major and minor components were read.
 #[inline(always)]
-#[tactic(auto, unfolding(crate::specs::Internal::Fronts::list_of, crate::specs::Internal::Fronts::is_listed))]
+#[tactic(auto, unfolding(semver_core::specs::Text::Identifiers::listed, semver_core::specs::Text::Identifiers::is_listed))]
 fn patch_front<'a>(
     major: Option<u64>,
     minor: Option<u64>,
@@ -171,7 +171,7 @@ fn patch_front<'a>(
 
 // The partial at the front whose major component was read.
 #[inline(always)]
-#[tactic(auto, unfolding(crate::specs::Internal::Fronts::list_of, crate::specs::Internal::Fronts::is_listed))]
+#[tactic(auto, unfolding(semver_core::specs::Text::Identifiers::listed, semver_core::specs::Text::Identifiers::is_listed))]
 fn minor_front(major: Option<u64>, text: &[u8]) -> (Partial<'_>, &[u8])
     requires { ForSome major (λ n. n ≤ MAX_SAFE_INTEGER) }
     ensures { partial_pair_view result

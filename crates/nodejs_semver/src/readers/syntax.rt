@@ -2,8 +2,7 @@
 
 ghost use Rattle.std.specs.Option.{ForSome};
 ghost use Rattle.std.specs.Prelude.{◌≡◌, ◌≤◌, true};
-ghost use Rattle.nodejs_semver.specs.Internal.Fronts.{is_listed};
-ghost use Rattle.nodejs_semver.specs.Internal.PreReleases.{is_written};
+ghost use Rattle.semver_core.specs.Text.Identifiers.{is_listed};
 ghost use Rattle.semver_core.specs.declared.TheConstants.{MAX_SAFE_INTEGER};
 
 use semver_core::cuts::Bound;
@@ -43,24 +42,15 @@ pub(crate) enum Sign {
     Caret,
 }
 
-/// The pre-release of a bound.
-#[derive(Clone, Copy)]
-pub(crate) enum PreRelease<'a> {
-    /// The text of identifiers joined by dots. An empty text is no pre-release.
-    Written(&'a [u8]),
-    /// The number 0 alone, as in `<2.0.0-0`.
-    Zero,
-}
-
 /// A version whose identifiers still stand as their text.
 #[derive(Clone, Copy)]
 pub(crate) struct BareVersion<'a> {
     pub(crate) major: u64,
     pub(crate) minor: u64,
     pub(crate) patch: u64,
-    pub(crate) pre_release: PreRelease<'a>,
+    pub(crate) pre_release: &'a [u8],
     pub(crate) build: &'a [u8],
-    ghost pre_release_listed: { is_written pre_release ≡ true },
+    ghost pre_release_listed: { is_listed pre_release.now ≡ true },
     ghost build_listed: { is_listed build.now ≡ true },
 }
 

@@ -11,13 +11,13 @@ ghost use Rattle.semver_core.specs.Values.Order.{precedence};
 ghost use Rattle.semver_core.specs.Values.Versions.{release_value};
 ghost use Rattle.semver_core.specs.declared.TheConstants.{MAX_SAFE_INTEGER};
 
-use crate::readers::syntax::{BareVersion, Bounds, Comparator, Partial, PreRelease, Sign};
+use crate::readers::syntax::{BareVersion, Bounds, Comparator, Partial, Sign};
 use semver_core::MAX_SAFE_INTEGER;
 use semver_core::cuts::Bound;
 
 // `major.minor.patch`
 #[inline(always)]
-#[tactic(auto, unfolding(crate::specs::Internal::Fronts::list_of, crate::specs::Internal::Fronts::is_listed))]
+#[tactic(auto, unfolding(semver_core::specs::Text::Identifiers::listed, semver_core::specs::Text::Identifiers::is_listed))]
 fn release(major: u64, minor: u64, patch: u64) -> BareVersion<'static>
     ensures { bare_view result ≡ release_value major minor patch }
 {
@@ -25,14 +25,14 @@ fn release(major: u64, minor: u64, patch: u64) -> BareVersion<'static>
         major,
         minor,
         patch,
-        pre_release: PreRelease::Written(b""),
+        pre_release: b"",
         build: b"",
     }
 }
 
 // `major.minor.patch-0`
 #[inline(always)]
-#[tactic(auto, unfolding(crate::specs::Internal::Fronts::list_of, crate::specs::Internal::Fronts::is_listed))]
+#[tactic(auto, unfolding(semver_core::specs::Text::Identifiers::listed, semver_core::specs::Text::Identifiers::is_listed))]
 fn lowest(major: u64, minor: u64, patch: u64) -> BareVersion<'static>
     ensures { bare_view result ≡ Spec.lowest major minor patch }
 {
@@ -40,7 +40,7 @@ fn lowest(major: u64, minor: u64, patch: u64) -> BareVersion<'static>
         major,
         minor,
         patch,
-        pre_release: PreRelease::Zero,
+        pre_release: b"0",
         build: b"",
     }
 }
@@ -54,13 +54,13 @@ fn version_of<'a>(partial: &Partial<'a>) -> BareVersion<'a>
         major: partial.major.unwrap_or(0),
         minor: partial.minor.unwrap_or(0),
         patch: partial.patch.unwrap_or(0),
-        pre_release: PreRelease::Written(partial.pre_release),
+        pre_release: partial.pre_release,
         build: partial.build,
     }
 }
 
 #[inline(always)]
-#[tactic(auto, unfolding(crate::specs::Internal::Fronts::list_of, crate::specs::Internal::Fronts::is_listed))]
+#[tactic(auto, unfolding(semver_core::specs::Text::Identifiers::listed, semver_core::specs::Text::Identifiers::is_listed))]
 fn without_build(version: BareVersion<'_>) -> BareVersion<'_>
     ensures { bare_view result ≡ Spec.without_build (bare_view version.entry) }
 {

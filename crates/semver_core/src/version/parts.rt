@@ -141,6 +141,7 @@ impl Version {
     /// Fails only if allocation fails. Two empty texts allocate nothing, and nor does the
     /// pre-release `0` alone.
     #[tactic(auto, using(crate::proofs::Text::Listed::listed_none))]
+    #[inline(always)]
     pub fn from_texts(
         alloc: Global,
         major: u64,
@@ -161,7 +162,7 @@ impl Version {
         ensures memory { OnErr result ((0 < length pre_release.now) ⊎ (0 < length build.now)) }
     {
         if !build.is_empty() {
-            return Version::with_texts(alloc, major, minor, patch, pre_release, build);
+            return Ok(Version::with_texts(alloc, major, minor, patch, pre_release, build)?);
         }
         match pre_release {
             b"" => Ok(Version::release(major, minor, patch)),
@@ -169,11 +170,12 @@ impl Version {
                 let zero = Qualifier::One(Identifier::Numeric(0));
                 Ok(Version::from_parts(major, minor, patch, zero))
             }
-            _ => Version::with_texts(alloc, major, minor, patch, pre_release, build),
+            _ => Ok(Version::with_texts(alloc, major, minor, patch, pre_release, build)?),
         }
     }
 
     // The same of texts of which one is not empty, or both.
+    #[inline(never)]
     fn with_texts(
         alloc: Global,
         major: u64,
