@@ -44,7 +44,8 @@ impl Range {
     }
 }
 
-// Reads the intervals of a text into an empty list. Most texts are common ones.
+// Reads the intervals of a text into an empty list. Most texts are common ones, and of most others
+// the fast reader adds nothing to the list.
 #[inline(always)]
 fn read(alloc: Global, text: &str, found: &mut Intervals<Version>) -> Result<(), AllocError>
     requires { found.old.items ≡ [] }

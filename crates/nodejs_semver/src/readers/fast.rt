@@ -87,10 +87,11 @@ fn bare_front(text: &[u8]) -> Option<(Partial<'_>, &[u8])>
     ensures { partial_front_view result ≡ Spec.bare_front MAX_SAFE_INTEGER text.now }
 {
     let (major, rest) = partial::component_front(text)?;
-    match bare_minor(major, rest) {
-        (_, [b'+', ..]) => None,
-        read => Some(read),
+    let (partial, rest) = bare_minor(major, rest);
+    if let [b'+', ..] = rest {
+        return None;
     }
+    Some((partial, rest))
 }
 
 // The bounds of a comparator and a partial.

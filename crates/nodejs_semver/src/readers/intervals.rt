@@ -1,5 +1,5 @@
 // The intervals of a part. Memory is taken here, where the versions of bounds are made, and not
-// while words are read.
+// while partials are read.
 
 ghost use Rattle.std.specs.Option.{option_to_list};
 ghost use Rattle.std.specs.Prelude.{◌≡◌, ◌<◌, ◌++◌, ◌∷◌, [], List, Option, IfOk, OnOk, is_some, length, true};

@@ -1,4 +1,4 @@
-// The words of a part.
+// What the words of a part are made of.
 
 ghost use Rattle.std.specs.Prelude.{◌≡◌, ◌≤◌, ◌+◌, length, take, drop, true};
 ghost use Rattle.nodejs_semver.specs.Internal.Partials.{longest_partial};
@@ -69,7 +69,7 @@ pub(crate) fn upper_behind(text: &[u8]) -> Option<(Partial<'_>, &[u8])>
     }
 }
 
-// The comparator at the front, the longer one first.
+/// The comparator at the front, the longer one first.
 #[inline(always)]
 pub(crate) fn comparator_front(text: &[u8]) -> Option<(Comparator, &[u8])>
     ensures { comparator_front_view result ≡ Spec.comparator_at text.now }
@@ -84,7 +84,7 @@ pub(crate) fn comparator_front(text: &[u8]) -> Option<(Comparator, &[u8])>
     }
 }
 
-// Whether `>` stands behind a tilde, and what stands behind it.
+/// Whether `>` stands behind a tilde, and what stands behind it.
 #[inline(always)]
 pub(crate) fn tilde_sign(text: &[u8]) -> (bool, &[u8])
     ensures { greater_view result ≡ Spec.tilde_sign text.now }
