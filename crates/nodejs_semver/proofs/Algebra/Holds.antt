@@ -1,5 +1,5 @@
 -- What a range text's intervals hold is what the text writes.
-use Rattle.std.proofs.Common.{◌≡◌, ℕ, ◌<◌, length, arith, List, [], ◌∷◌, ◌++◌, refl, sym, ap, ap₂, ◌∙◌, true, false, Bool, map, Some}
+use Rattle.std.proofs.Common.{◌≡◌, ℕ, List, [], ◌∷◌, ◌++◌, refl, sym, ap, ap₂, ◌∙◌, true, false, Bool, map, Some}
 use Rattle.std.specs.Prelude.{◌&&◌, ◌||◌, flat_map, if◌then◌else◌}
 use Rattle.std.specs.Cmp.{IsTotalOrder}
 use Rattle.std.specs.List.{list_all, list_any}
@@ -12,6 +12,7 @@ use Rattle.semver_core.specs.Values.Versions.{VersionValue}
 use Rattle.nodejs_semver.specs.Ranges.Gate.{accepts}
 use Rattle.nodejs_semver.specs.Text.Denotes.{denotes, part_bounds, part_denotes, part_intervals}
 use Rattle.nodejs_semver.specs.Internal.Parts.{cut_bars, parts}
+use Rattle.nodejs_semver.specs.Text.Bars.{IsCutAtBars, more_pieces, one_piece}
 use Rattle.nodejs_semver.specs.Ranges.View.{any_version}
 use Rattle.nodejs_semver.specs.Text.Runs.{Run, interval_of}
 use Rattle.nodejs_semver.specs.Internal.RunsFrom.{runs_of}
@@ -64,11 +65,11 @@ first-empty (p ∷ ps) some h = ap (λ (b : Bool). b || list_any is_empty ps) (a
 
 -- a text has a part or more
 parts-some : (text : List ℕ) → parts text ≡ [] → ⊥
-parts-some text h = pieces-some (cut_bars false text) (bars_divide text).some h
+parts-some text h = pieces-some text (cut_bars false text) (bars_divide text) h
   where
-    pieces-some : (pieces : List (List ℕ)) → 0 < length pieces → map trim pieces ≡ [] → ⊥
-    pieces-some [] some h = omega arith
-    pieces-some (piece ∷ pieces) some h = cc h
+    pieces-some : (whole : List ℕ) (pieces : List (List ℕ)) → IsCutAtBars whole pieces → map trim pieces ≡ [] → ⊥
+    pieces-some whole pieces (one_piece piece free) h = cc h
+    pieces-some whole pieces (more_pieces piece rest others free ended cut) h = cc h
 
 by-test : (b : Bool) (ss : List (Span VersionValue)) (w : Bool) (v : VersionValue) → (b ≡ true → w ≡ true) → list_holds precedence ss v ≡ w
     → list_holds precedence (if b then any_version else ss) v ≡ w

@@ -17,7 +17,7 @@ use Rattle.semver_core.specs.Internal.OrderLaws.{precedence_total}
 use Rattle.semver_core.specs.Values.Versions.{VersionValue, is_release}
 use Rattle.nodejs_semver.specs.Ranges.Gate.{lets_in, accepts}
 use Rattle.semver_core.specs.Lists.{is_empty}
-use Rattle.nodejs_semver.specs.Ranges.Least.{IsLeast, IsLeastOf, beyond, begins_with, build_by, least_build}
+use Rattle.nodejs_semver.specs.Ranges.Least.{IsLeastOf, beyond, begins_with, build_by, least_build}
 use Rattle.nodejs_semver.specs.Internal.Candidates.{has_build, zero, bare, bare_release, after_cut, release_after, firsts, kept_marks, removed_marks, kept_firsts, removed_firsts, candidates, improves, better, least_of, is_reached, pre_after, patch_after}
 use Rattle.nodejs_semver.proofs.Choice.Keys.{triple_total, le_not_gt, lt_not_gt, not_gt_le, next_patch_above, next_pre_above, release_above}
 use Rattle.nodejs_semver.proofs.Choice.LeastPieces.{In, Each, candidate, accepts_same, lets_in_alike}
@@ -97,7 +97,7 @@ least_beyond ks ls = by_answer (least_of (beyond ks ls) (candidates ks ls)) (fol
 
     by_answer : (r : Option VersionValue) → Fine (beyond ks ls) r → ((v : VersionValue) → beyond ks ls v ≡ true → UpTo r v) → IsLeastOf (beyond ks ls) r
     by_answer None h f = λ v. none_so (beyond ks ls v) (f v)
-    by_answer (Some b) h f = record { inside = h; least = λ w e. not_gt_le _ (f w e) }
+    by_answer (Some b) h f = (h, λ w e. not_gt_le _ (f w e))
 
 -- the first versions past all marks, interval by interval
 flat_map-kept : (ss : List (Span VersionValue)) → flat_map firsts (flat_map kept_marks ss) ≡ flat_map kept_firsts ss
@@ -191,9 +191,9 @@ accepts_built : (ks : List (Span VersionValue)) (v : VersionValue) (b : List Id)
 accepts_built ks v b = accepts_same ks (record v { build = b }) v (λ s. gate_built s v b) (λ s. holds_built s v b)
 
 -- the least beyond nothing is the least that is accepted, whatever its build
-pub least_accepted : (ks : List (Span VersionValue)) (v : VersionValue) (b : List Id) → IsLeast (beyond ks []) v → IsLeast (λ w. accepts ks w false) (record v { build = b })
+pub least_accepted : (ks : List (Span VersionValue)) (v : VersionValue) (b : List Id) → IsLeastOf (beyond ks []) (Some v) → IsLeastOf (λ w. accepts ks w false) (Some (record v { build = b }))
 least_accepted ks v b h =
-    record { inside = accepts_built ks v b ∙ sym (beyond-none ks v) ∙ h.inside; least = λ w e. h.least w (beyond-none ks w ∙ e) }
+    (accepts_built ks v b ∙ sym (beyond-none ks v) ∙ h.0, λ w e. h.1 w (beyond-none ks w ∙ e))
 
 find_same : {X : Type 0} (p q : X → Bool) (xs : List X) → ((x : X) → p x ≡ q x) → find p xs ≡ find q xs
 find_same p q [] f = refl

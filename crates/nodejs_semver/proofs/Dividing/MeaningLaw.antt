@@ -16,7 +16,7 @@ use Rattle.semver_core.specs.Values.Versions.{VersionValue}
 use Rattle.semver_core.proofs.Text.Trims.{middle_is_trim, trim_is_middle, trim_parts}
 use Rattle.nodejs_semver.specs.Text.Denotes.{denotes, part_bounds, part_denotes, part_intervals}
 use Rattle.nodejs_semver.specs.Internal.Parts.{cut_bars}
-use Rattle.nodejs_semver.specs.Text.Bars.{join_bars}
+use Rattle.nodejs_semver.specs.Text.Bars.{IsCutAtBars, more_pieces, one_piece}
 use Rattle.nodejs_semver.specs.Text.Meaning.{AreAllIntervals, AreIntervals, AreWords, Means, blank_piece, next_piece, next_word, no_piece, no_word}
 use Rattle.nodejs_semver.specs.Ranges.View.{any_version}
 use Rattle.nodejs_semver.specs.Text.Runs.{Run, interval_of}
@@ -102,12 +102,11 @@ utf8-bar piece t u =
     at_bar [] = refl
     at_bar (b ∷ p) = at_bar p
 
-pieces-utf8 : (pieces : List (List ℕ)) → IsUtf8 (join_bars pieces) → AllByRecursion IsUtf8 pieces
-pieces-utf8 [] u = tt
-pieces-utf8 (piece ∷ []) u = (u, tt)
-pieces-utf8 (piece ∷ next ∷ rest) u =
-    let cut = utf8-bar piece (join_bars (next ∷ rest)) u in
-    (cut.0, pieces-utf8 (next ∷ rest) cut.1)
+pieces-utf8 : (text : List ℕ) (pieces : List (List ℕ)) → IsCutAtBars text pieces → IsUtf8 text → AllByRecursion IsUtf8 pieces
+pieces-utf8 text pieces (one_piece piece h) u = (u, tt)
+pieces-utf8 text pieces (more_pieces piece rest others h ended cut) u =
+    let both = utf8-bar piece rest u in
+    (both.0, pieces-utf8 rest others cut both.1)
 
 -- ---- a piece is blank where nothing is left of it
 
@@ -190,7 +189,7 @@ means : (limit : ℕ) (text : List ℕ) (list : List (Span VersionValue)) → Is
 means limit text list u e =
     let pieces = cut_bars false text in
     let cut = bars_divide text in
-    let each = pieces-utf8 pieces (subst (λ (t : List ℕ). IsUtf8 t) (sym cut.joined) u) in
+    let each = pieces-utf8 text pieces cut u in
     subst (λ (l : List (Span VersionValue)). Means limit text l) e
     (record { pieces = pieces; cut = cut; where_blank = λ blank. blank-case pieces (all-empty pieces blank); elsewhere = λ filled. filled-case pieces each filled })
   where
@@ -205,7 +204,7 @@ means limit text list u e =
 
 one-meaning : (limit : ℕ) (text : List ℕ) (list : List (Span VersionValue)) → IsUtf8 text → Means limit text list → denotes limit text ≡ list
 one-meaning limit text list u h =
-    let each = pieces-utf8 h.pieces (subst (λ (t : List ℕ). IsUtf8 t) (sym h.cut.joined) u) in
+    let each = pieces-utf8 text h.pieces h.cut u in
     let here : denoted limit h.pieces ≡ list = elim (cases_Bool (list_all is_empty (map trim h.pieces))) [
       | inl empty ↦ rw empty (sym (h.where_blank (all-blank h.pieces each empty)))
       | inr some ↦ rw some (sym (all-once limit h.pieces list each (h.elsewhere (λ blank. clash h.pieces some (all-empty h.pieces blank)))))

@@ -1,5 +1,5 @@
 -- For proofs. The parts of a printed range are the texts of its intervals.
-use Rattle.std.proofs.Common.{◌≡◌, ◌<◌, ◌^◌, ◌==◌, ◌||◌, ℕ, Bool, true, false, List, [], ◌∷◌, ◌++◌, length, map, refl, ap, ◌∙◌, arith, inl, inr, subst, append_assoc}
+use Rattle.std.proofs.Common.{◌≡◌, ◌<◌, ◌^◌, ◌==◌, ◌||◌, ℕ, Bool, true, false, List, [], ◌∷◌, ◌++◌, length, map, refl, ap, ◌∙◌, arith, inl, inr, subst, append-nil, append_assoc}
 use Rattle.std.specs.Prelude.{nat_lt, flat_map}
 use Rattle.std.proofs.lemmas.Bool.{cases_Bool}
 use Rattle.std.proofs.lemmas.Bool.Decides.{nat_tests}
@@ -207,7 +207,7 @@ pub parts_back : (limit : ℕ) (i : Span VersionValue) (rest : List (Span Versio
     → parts (range_text (i ∷ rest)) ≡ map span_text (i ∷ rest)
 parts_back limit i [] small h =
     let p = span_part limit i small h.0 in
-    rw (cut_last (span_text i) p.no_bar, p.trimmed) refl
+    rw (append-nil (span_text i), cut_last (span_text i) p.no_bar, p.trimmed) refl
 parts_back limit i (j ∷ rest) small h =
     let p = span_part limit i small h.0 in
     rw (cut_at (span_text i) (range_text (j ∷ rest)) p.no_bar, p.trimmed) (ap (λ l. span_text i ∷ l) (parts_back limit j rest small h.1))

@@ -81,5 +81,5 @@ again (Before v) (After w) = elim (cases_Bool (version_eq v w)) [
 -- and so does a range
 pub prints_again : (list : List (Span VersionValue)) → range_text (map read_back list) ≡ range_text list
 prints_again [] = refl
-prints_again (i ∷ []) = again i.lower i.upper
+prints_again (i ∷ []) = ap (λ a. a ++ []) (again i.lower i.upper)
 prints_again (i ∷ j ∷ rest) = ap₂ (λ a b. a ++ 124 ∷ 124 ∷ b) (again i.lower i.upper) (prints_again (j ∷ rest))

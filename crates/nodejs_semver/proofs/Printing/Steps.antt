@@ -1,6 +1,8 @@
 -- For proofs. What a loop over intervals has written.
-use Rattle.std.proofs.Common.{◌≡◌, ◌<◌, ◌+◌, ℕ, List, [], ◌∷◌, ◌++◌, length, take, get_or, refl, sym, ap, ◌∙◌, append_assoc}
+use Rattle.std.proofs.Common.{◌≡◌, ◌<◌, ◌+◌, ℕ, List, [], ◌∷◌, ◌++◌, length, take, get_or, refl, sym, ap, ◌∙◌, append-nil, append_assoc}
+use Rattle.std.proofs.lemmas.Grind.{flat_map-append}
 use Rattle.std.proofs.lemmas.List.{take_more}
+use Rattle.std.specs.List.{flat_map}
 use Rattle.semver_core.specs.Cuts.{Span}
 use Rattle.semver_core.specs.Values.Versions.{VersionValue}
 use Rattle.nodejs_semver.specs.Printing.Text.{span_text, range_text}
@@ -11,10 +13,13 @@ bars_after [] = []
 bars_after (s ∷ rest) = 124 ∷ 124 ∷ []
 
 range_push : (xs : List (Span VersionValue)) (x : Span VersionValue) → range_text (xs ++ x ∷ []) ≡ range_text xs ++ (bars_after xs ++ span_text x)
-range_push [] x = refl
-range_push (y ∷ []) x = refl
-range_push (y ∷ z ∷ zs) x =
-    ap (λ l. span_text y ++ 124 ∷ 124 ∷ l) (range_push (z ∷ zs) x) ∙ sym (append_assoc (span_text y) (124 ∷ 124 ∷ range_text (z ∷ zs)) (124 ∷ 124 ∷ span_text x))
+range_push [] x = append-nil (span_text x)
+range_push (y ∷ ys) x =
+    ap (λ l. span_text y ++ l) (flat_map-append behind_bars ys (x ∷ []) ∙ ap (λ l. flat_map behind_bars ys ++ l) (append-nil (behind_bars x)))
+    ∙ sym (append_assoc (span_text y) (flat_map behind_bars ys) (behind_bars x))
+  where
+    behind_bars : Span VersionValue → List ℕ
+    behind_bars s = 124 ∷ 124 ∷ span_text s
 
 spans_more : (xs : List (Span VersionValue)) (i : ℕ) (x : Span VersionValue) → i < length xs → x ≡ get_or xs i x → take (i + 1) xs ≡ take i xs ++ x ∷ []
 spans_more xs i x lt e = take_more xs i x lt ∙ ap (λ y. take i xs ++ y ∷ []) (sym e)

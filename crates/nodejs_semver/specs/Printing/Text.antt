@@ -1,5 +1,6 @@
 -- Statement: how ranges print, as UTF-8 bytes.
-use Rattle.std.specs.Prelude.{ℕ, List, [], ◌∷◌, ◌++◌, if◌then◌else◌}
+use Rattle.std.specs.Prelude.{ℕ, List, [], ◌∷◌, ◌++◌, codes, if◌then◌else◌}
+use Rattle.std.specs.List.{join_by}
 use Rattle.semver_core.specs.Cuts.{Span}
 use Rattle.semver_core.specs.Values.Order.{version_eq}
 use Rattle.semver_core.specs.Printing.Text.{version_text}
@@ -36,6 +37,4 @@ span_text s = bounds_text s.lower s.upper
 
 -- intervals joined by `||`
 abbrev pub range_text : List (Span VersionValue) → List ℕ
-range_text [] = []
-range_text (s ∷ []) = span_text s
-range_text (s ∷ t ∷ rest) = span_text s ++ 124 ∷ 124 ∷ range_text (t ∷ rest)
+range_text list = join_by span_text (codes "||") list

@@ -9,15 +9,10 @@ use Rattle.semver_core.specs.declared.cuts.bound.Bound.{Bound}
 use Rattle.semver_core.specs.declared.cuts.bound.Bound.TheVariants.{Unbounded, Before, After}
 use Rattle.nodejs_semver.specs.Ranges.Gate.{lets_in, accepts}
 
--- v is in the set, and nothing in the set is below v
-pub record IsLeast (set : VersionValue → Bool) (v : VersionValue) : Type 0 where
-  pub inside : set v ≡ true
-  pub least : (w : VersionValue) → set w ≡ true → is_le (precedence v w) ≡ true
-
--- the result is the least of the set, or it is None and the set is empty
+-- the result is in the set and nothing in the set is below it, or it is None and the set is empty
 abbrev pub IsLeastOf : (VersionValue → Bool) → Option VersionValue → Type 0
 IsLeastOf set None = (v : VersionValue) → set v ≡ false
-IsLeastOf set (Some v) = IsLeast set v
+IsLeastOf set (Some v) = (set v ≡ true) × ((w : VersionValue) → set w ≡ true → is_le (precedence v w) ≡ true)
 
 -- the first list accepts the version, and the second does not
 abbrev pub beyond : List (Span VersionValue) → List (Span VersionValue) → VersionValue → Bool

@@ -38,9 +38,8 @@ longer r s = record { first = r.first; others = r.others ++ s ∷ [] }
 
 -- no run can take the first word of the next one
 abbrev pub AreLongest : {V : Type 0} → (V → V → Ordering) → List (Run V) → Type 0
-AreLongest R [] = Unit {0}
-AreLongest R (r ∷ []) = Unit {0}
 AreLongest R (r ∷ s ∷ rest) = (fits R (longer r s.first) ≡ false) × AreLongest R (s ∷ rest)
+AreLongest R _ = Unit {0}
 
 -- the division of a part's bounds into runs, of which there is one
 pub record AreRuns {V : Type 0} (R : V → V → Ordering) (bounds : List (Span V)) (runs : List (Run V)) : Type 0 where

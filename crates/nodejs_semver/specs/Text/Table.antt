@@ -39,13 +39,8 @@ without_build v = record v { build = [] }
 
 -- the version of a partial, with 0 for what is absent or a wildcard
 abbrev pub version_of : Partial → VersionValue
-version_of p = record {
-  major = unwrap_or p.major 0;
-  minor = unwrap_or p.minor 0;
-  patch = unwrap_or p.patch 0;
-  pre_release = p.pre_release;
-  build = p.build;
-}
+version_of p =
+    record (release_value (unwrap_or p.major 0) (unwrap_or p.minor 0) (unwrap_or p.patch 0)) { pre_release = p.pre_release; build = p.build }
 
 -- from the version of a partial on, if that is an interval
 abbrev pub from_partial : Partial → Span VersionValue → Option (Span VersionValue)

@@ -25,14 +25,12 @@ HasText fault = fault ≢ spec.Overflow
 abbrev pub given : Option (Bor (List ℕ)) → Option (List ℕ)
 given id = option_copied id
 
--- the call returns this value or this error, unless an allocation fails
-abbrev pub Returns : {A : Type 0} → Result A Fault → Result A (Failure IncrementError) → Type 0
-Returns expected (Ok value) = expected ≡ Ok value
-Returns expected (Err (Refused e)) = expected ≡ Err (fault_of e)
-Returns expected (Err (Memory e)) = ⊤
-
 -- this holds of what the call returns, unless an allocation fails
-abbrev pub IfAnswered : (Result VersionValue Fault → Type 0) → Result VersionValue (Failure IncrementError) → Type 0
-IfAnswered P (Ok v) = P (Ok v)
+abbrev pub IfAnswered : {A : Type 0} → (Result A Fault → Type 0) → Result A (Failure IncrementError) → Type 0
+IfAnswered P (Ok value) = P (Ok value)
 IfAnswered P (Err (Refused e)) = P (Err (fault_of e))
 IfAnswered P (Err (Memory e)) = ⊤
+
+-- the call returns this value or this error, unless an allocation fails
+abbrev pub Returns : {A : Type 0} → Result A Fault → Result A (Failure IncrementError) → Type 0
+Returns expected result = IfAnswered (λ answer. expected ≡ answer) result

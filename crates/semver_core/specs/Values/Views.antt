@@ -29,15 +29,13 @@ pre_release_of (One id) = id_view id ∷ []
 pre_release_of (Lists lists) = ids_view lists.value.pre_release.items
 
 abbrev pub build_of : Qualifier → List Id
-build_of Absent = []
-build_of (One id) = []
 build_of (Lists lists) = ids_view lists.value.build.items
+build_of _ = []
 
--- it has at least one identifier, unless it is absent
+-- two lists hold an identifier or more
 abbrev pub IsFull : Qualifier → Type 0
-IsFull Absent = ⊤
-IsFull (One id) = ⊤
 IsFull (Lists lists) = (0 < length lists.value.pre_release.items) ⊎ (0 < length lists.value.build.items)
+IsFull _ = ⊤
 
 -- the five values of a version
 abbrev pub value_of : Inside → VersionValue

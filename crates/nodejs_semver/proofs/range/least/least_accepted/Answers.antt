@@ -1,15 +1,15 @@
-use Rattle.std.proofs.Common.{◌≡◌, [], false, sym, subst}
+use Rattle.std.proofs.Common.{◌≡◌, [], false, Some, sym, subst}
 use Rattle.semver_core.specs.Values.Versions.{VersionValue}
 use Rattle.nodejs_semver.specs.Ranges.Gate.{accepts}
-use Rattle.nodejs_semver.specs.Ranges.Least.{beyond, IsLeast, IsLeastOf, least_build}
+use Rattle.nodejs_semver.specs.Ranges.Least.{beyond, IsLeastOf, least_build}
 use Rattle.nodejs_semver.proofs.Choice.LeastOf.{least_accepted, least_build_built}
 use Rattle.nodejs_semver.proofs.range.least.least_accepted.Goals as goal
 
 pub returns-in_ok-built-in-Some-clause-least : goal.returns-in_ok-built-in-Some-clause-least
 returns-in_ok-built-in-Some-clause-least c =
     let kept = c.args.intervals.now in
-    let h : IsLeast (beyond kept []) c.in-Some.version = subst (IsLeastOf (beyond kept [])) c.in-Some.is c.in_ok-least_beyond.ensures.least in
-    subst (IsLeast (λ v. accepts kept v false)) (sym c.in_ok-built-in-Some.ensures) (least_accepted kept c.in-Some.version _ h)
+    let h : IsLeastOf (beyond kept []) (Some c.in-Some.version) = subst (IsLeastOf (beyond kept [])) c.in-Some.is c.in_ok-least_beyond.ensures.least in
+    subst (λ (x : VersionValue). IsLeastOf (λ v. accepts kept v false) (Some x)) (sym c.in_ok-built-in-Some.ensures) (least_accepted kept c.in-Some.version _ h)
 
 pub returns-in_ok-built-in-Some-clause-build : goal.returns-in_ok-built-in-Some-clause-build
 returns-in_ok-built-in-Some-clause-build c =
