@@ -32,6 +32,7 @@ pub fn show_all(rt: &impl Print, alloc: Global) -> io::Result<()> {
         Outcome::from(Version::with_pre(alloc, 1, 2, 3, 4)),
         &4,
     )?;
+    from_texts(rt, alloc)?;
     for at in [6, 5, 1] {
         identifiers(rt, alloc, VERSION, at)?;
     }
@@ -50,6 +51,12 @@ pub fn show_all(rt: &impl Print, alloc: Global) -> io::Result<()> {
         }
     }
     errors(rt, alloc)
+}
+
+#[tactic(auto, unfolding(semver_core::specs::Text::Identifiers::is_listed))]
+fn from_texts(rt: &impl Print, alloc: Global) -> io::Result<()> {
+    let version = Version::from_texts(alloc, 1, 2, 3, b"a.1.b", b"c.2.d");
+    show(rt, "Version::from_texts", Outcome::from(version), &"texts")
 }
 
 fn identifiers(rt: &impl Print, alloc: Global, text: &str, at: usize) -> io::Result<()> {

@@ -153,6 +153,16 @@ fn with_pre_has_one_number(rt: HostRuntime) -> Result<(), Fail> {
     Ok(())
 }
 
+#[test]
+#[tactic(auto, unfolding(semver_core::specs::Text::Identifiers::is_listed))]
+fn from_texts_reads_both_lists(rt: HostRuntime) -> Result<(), Fail> {
+    let version = Version::from_texts(rt.alloc(), 1, 2, 3, b"rc.1", b"a-b.007")?;
+    assert!(rt; prints(rt.alloc(), &version, "1.2.3-rc.1+a-b.7"));
+    let lowest = Version::from_texts(rt.alloc(), 2, 0, 0, b"0", b"")?;
+    assert!(rt; prints(rt.alloc(), &lowest, "2.0.0-0"));
+    Ok(())
+}
+
 fn hash_of(version: &Version) -> u64 {
     let mut state = DefaultHasher::new();
     version.hash(&mut state);
