@@ -1,18 +1,46 @@
-// The versions and ranges of a question's texts, read from the left. The first text that is none
-// decides the fault.
+// The versions and ranges of a question's texts, and the fault where a text is none.
 
+ghost use Rattle.std.specs.Prelude.{ℕ, List};
 ghost use Rattle.semver_lines.specs.Lines.{fields};
-ghost use Rattle.semver_lines.specs.Replies.{AreVersionsOf, IsRangeOf, IsVersionOf, RangeAndVersion, RangeAndVersions, TwoRanges, TwoVersions};
-ghost use Rattle.semver_lines.specs.Internal.Results.{IsRead, IsReadAs};
+ghost use Rattle.semver_lines.specs.Replies.{AreVersionsOf, IsRangeOf, IsVersionOf};
+ghost use Rattle.semver_lines.specs.Internal.Results.{IsRead, IsReadAs, ParsesRange, ParsesVersion};
 
 use crate::fault::Fault;
 use crate::fields::first;
-use nodejs_semver::{Failure, Range, Version};
+use nodejs_semver::{Failure, Range, SemverError, Version};
 use std::alloc::{AllocError, Global};
 
-/// The version of a text.
+/// The version that was parsed, where it stands.
 #[inline(always)]
-pub fn version(alloc: Global, text: &str) -> Result<Version, Failure<Fault>>
+pub fn version_of(
+    parsed: &Result<Version, Failure<SemverError>>,
+) -> Result<&Version, Failure<Fault>>
+    ensures { (text : List ℕ) → ParsesVersion text parsed.now
+        → IsReadAs (λ v. v.now) result (IsVersionOf text) }
+{
+    match parsed {
+        Ok(version) => Ok(version),
+        Err(Failure::Refused(_)) => Err(Failure::Refused(Fault::BadVersion)),
+        Err(Failure::Memory(_)) => Err(Failure::Memory(AllocError)),
+    }
+}
+
+/// The range that was parsed, where it stands.
+#[inline(always)]
+pub fn range_of(parsed: &Result<Range, Failure<SemverError>>) -> Result<&Range, Failure<Fault>>
+    ensures { (text : List ℕ) → ParsesRange text parsed.now
+        → IsReadAs (λ r. r.now) result (IsRangeOf text) }
+{
+    match parsed {
+        Ok(range) => Ok(range),
+        Err(Failure::Refused(_)) => Err(Failure::Refused(Fault::BadRange)),
+        Err(Failure::Memory(_)) => Err(Failure::Memory(AllocError)),
+    }
+}
+
+// The version of a text.
+#[inline(always)]
+fn version(alloc: Global, text: &str) -> Result<Version, Failure<Fault>>
     ensures { IsRead result (IsVersionOf text.now) }
 {
     match Version::parse(alloc, text) {
@@ -22,20 +50,8 @@ pub fn version(alloc: Global, text: &str) -> Result<Version, Failure<Fault>>
     }
 }
 
-/// The range of a text.
-#[inline(always)]
-pub fn range(alloc: Global, text: &str) -> Result<Range, Failure<Fault>>
-    ensures { IsRead result (IsRangeOf text.now) }
-{
-    match Range::parse(alloc, text) {
-        Ok(range) => Ok(range),
-        Err(Failure::Refused(_)) => Err(Failure::Refused(Fault::BadRange)),
-        Err(Failure::Memory(error)) => Err(Failure::Memory(error)),
-    }
-}
-
-// The versions of the fields of a text.
-fn versions(alloc: Global, texts: &str) -> Result<Vec<Version>, Failure<Fault>>
+/// The versions of the fields of a text.
+pub fn versions(alloc: Global, texts: &str) -> Result<Vec<Version>, Failure<Fault>>
     ensures { IsReadAs (λ vs. vs.items) result (AreVersionsOf (fields texts.now)) }
 {
     // A version takes five bytes at least, and a `;` parts it from the next.
@@ -49,45 +65,4 @@ fn versions(alloc: Global, texts: &str) -> Result<Vec<Version>, Failure<Fault>>
     let last = version(alloc, rest)?;
     versions.push(last).map_err(AllocError::from)?;
     Ok(versions)
-}
-
-/// The versions of two texts.
-#[inline(always)]
-pub fn two_versions(
-    alloc: Global,
-    texts: (&str, &str),
-) -> Result<(Version, Version), Failure<Fault>>
-    ensures { IsRead result (TwoVersions texts.entry) }
-{
-    Ok((version(alloc, texts.0)?, version(alloc, texts.1)?))
-}
-
-/// The ranges of two texts.
-#[inline(always)]
-pub fn two_ranges(alloc: Global, texts: (&str, &str)) -> Result<(Range, Range), Failure<Fault>>
-    ensures { IsRead result (TwoRanges texts.entry) }
-{
-    Ok((range(alloc, texts.0)?, range(alloc, texts.1)?))
-}
-
-/// The range of the first text and the version of the second.
-#[inline(always)]
-pub fn range_and_version(
-    alloc: Global,
-    texts: (&str, &str),
-) -> Result<(Range, Version), Failure<Fault>>
-    ensures { IsRead result (RangeAndVersion texts.entry) }
-{
-    Ok((range(alloc, texts.0)?, version(alloc, texts.1)?))
-}
-
-/// The range of the first text and the versions of the fields of the second.
-#[inline(always)]
-pub fn range_and_versions(
-    alloc: Global,
-    texts: (&str, &str),
-) -> Result<(Range, Vec<Version>), Failure<Fault>>
-    ensures { IsReadAs (λ rvs. (rvs.0, rvs.1.items)) result (RangeAndVersions texts.entry) }
-{
-    Ok((range(alloc, texts.0)?, versions(alloc, texts.1)?))
 }

@@ -10,13 +10,11 @@ ghost use Rattle.semver_lines.specs.declared.question.Question.{Question};
 
 use crate::fault::Fault;
 use crate::question::Question;
-use crate::read::{
-    range, range_and_version, range_and_versions, two_ranges, two_versions, version,
-};
+use crate::read::{range_of, version_of, versions};
 use crate::words::{
     difference_word, next_text, order_word, range_or_none, truth_word, version_or_none,
 };
-use nodejs_semver::{Failure, IdentifierBase, OutsideDirection};
+use nodejs_semver::{Failure, IdentifierBase, OutsideDirection, Range, Version};
 use std::alloc::Global;
 
 /// The reply to a question.
@@ -53,15 +51,19 @@ pub fn reply<'a>(
 fn cmp(alloc: Global, texts: (&str, &str)) -> Result<&'static str, Failure<Fault>>
     ensures { IsTold result (IsReply (Question.Cmp texts.entry)) }
 {
-    let (version, other) = two_versions(alloc, texts)?;
-    Ok(order_word(version.cmp(&other)))
+    let version = Version::parse(alloc, texts.0);
+    let version = version_of(&version)?;
+    let other = Version::parse(alloc, texts.1);
+    let other = version_of(&other)?;
+    Ok(order_word(version.cmp(other)))
 }
 
 fn ver<'a>(alloc: Global, text: &str, room: &'a mut String) -> Result<&'a str, Failure<Fault>>
     ensures { IsTold result (IsReply (Question.Ver text.entry)) }
 {
-    let version = version(alloc, text)?;
-    Ok(version_or_none(Some(&version), room)?)
+    let version = Version::parse(alloc, text);
+    let version = version_of(&version)?;
+    Ok(version_or_none(Some(version), room)?)
 }
 
 fn diff<'a>(
@@ -71,8 +73,11 @@ fn diff<'a>(
 ) -> Result<&'a str, Failure<Fault>>
     ensures { IsTold result (IsReply (Question.Diff texts.entry)) }
 {
-    let (version, other) = two_versions(alloc, texts)?;
-    Ok(difference_word(version.diff(&other), room)?)
+    let version = Version::parse(alloc, texts.0);
+    let version = version_of(&version)?;
+    let other = Version::parse(alloc, texts.1);
+    let other = version_of(&other)?;
+    Ok(difference_word(version.diff(other), room)?)
 }
 
 fn inc<'a>(
@@ -86,7 +91,8 @@ fn inc<'a>(
     ensures { IsTold result (On (IsVersionOf text.now)
         (λ v. Says (next_text (answer_of_inc v word.now (option_copied identifier.entry) base)))) }
 {
-    let version = version(alloc, text)?;
+    let version = Version::parse(alloc, text);
+    let version = version_of(&version)?;
     Ok(next_text(&version.inc(alloc, word, identifier, base), room)?)
 }
 
@@ -97,8 +103,9 @@ fn normalised<'a>(
 ) -> Result<&'a str, Failure<Fault>>
     ensures { IsTold result (IsReply (Question.Range text.entry)) }
 {
-    let range = range(alloc, text)?;
-    Ok(range_or_none(Some(&range), room)?)
+    let range = Range::parse(alloc, text);
+    let range = range_of(&range)?;
+    Ok(range_or_none(Some(range), room)?)
 }
 
 fn and<'a>(
@@ -108,8 +115,11 @@ fn and<'a>(
 ) -> Result<&'a str, Failure<Fault>>
     ensures { IsTold result (IsReply (Question.And texts.entry)) }
 {
-    let (range, other) = two_ranges(alloc, texts)?;
-    let common = range.intersect(alloc, &other)?;
+    let range = Range::parse(alloc, texts.0);
+    let range = range_of(&range)?;
+    let other = Range::parse(alloc, texts.1);
+    let other = range_of(&other)?;
+    let common = range.intersect(alloc, other)?;
     Ok(range_or_none(common.as_ref(), room)?)
 }
 
@@ -120,15 +130,19 @@ fn minus<'a>(
 ) -> Result<&'a str, Failure<Fault>>
     ensures { IsTold result (IsReply (Question.Minus texts.entry)) }
 {
-    let (range, other) = two_ranges(alloc, texts)?;
-    let left = range.difference(alloc, &other)?;
+    let range = Range::parse(alloc, texts.0);
+    let range = range_of(&range)?;
+    let other = Range::parse(alloc, texts.1);
+    let other = range_of(&other)?;
+    let left = range.difference(alloc, other)?;
     Ok(range_or_none(left.as_ref(), room)?)
 }
 
 fn least<'a>(alloc: Global, text: &str, room: &'a mut String) -> Result<&'a str, Failure<Fault>>
     ensures { IsTold result (IsReply (Question.Least text.entry)) }
 {
-    let range = range(alloc, text)?;
+    let range = Range::parse(alloc, text);
+    let range = range_of(&range)?;
     let least = range.min_version(alloc)?;
     Ok(version_or_none(least.as_ref(), room)?)
 }
@@ -140,23 +154,32 @@ fn beyond<'a>(
 ) -> Result<&'a str, Failure<Fault>>
     ensures { IsTold result (IsReply (Question.Beyond texts.entry)) }
 {
-    let (range, other) = two_ranges(alloc, texts)?;
-    let least = range.least_beyond(alloc, &other)?;
+    let range = Range::parse(alloc, texts.0);
+    let range = range_of(&range)?;
+    let other = Range::parse(alloc, texts.1);
+    let other = range_of(&other)?;
+    let least = range.least_beyond(alloc, other)?;
     Ok(version_or_none(least.as_ref(), room)?)
 }
 
 fn sat(alloc: Global, texts: (&str, &str)) -> Result<&'static str, Failure<Fault>>
     ensures { IsTold result (IsReply (Question.Sat texts.entry)) }
 {
-    let (range, version) = range_and_version(alloc, texts)?;
-    Ok(truth_word(range.satisfies(&version)))
+    let range = Range::parse(alloc, texts.0);
+    let range = range_of(&range)?;
+    let version = Version::parse(alloc, texts.1);
+    let version = version_of(&version)?;
+    Ok(truth_word(range.satisfies(version)))
 }
 
 fn pre(alloc: Global, texts: (&str, &str)) -> Result<&'static str, Failure<Fault>>
     ensures { IsTold result (IsReply (Question.Pre texts.entry)) }
 {
-    let (range, version) = range_and_version(alloc, texts)?;
-    Ok(truth_word(range.satisfies_with_prerelease(&version, true)))
+    let range = Range::parse(alloc, texts.0);
+    let range = range_of(&range)?;
+    let version = Version::parse(alloc, texts.1);
+    let version = version_of(&version)?;
+    Ok(truth_word(range.satisfies_with_prerelease(version, true)))
 }
 
 fn outside(
@@ -166,8 +189,11 @@ fn outside(
 ) -> Result<&'static str, Failure<Fault>>
     ensures { IsTold result (IsReply (Question.Out texts.entry direction)) }
 {
-    let (range, version) = range_and_version(alloc, texts)?;
-    match range.outside(&version, direction, false) {
+    let range = Range::parse(alloc, texts.0);
+    let range = range_of(&range)?;
+    let version = Version::parse(alloc, texts.1);
+    let version = version_of(&version)?;
+    match range.outside(version, direction, false) {
         Ok(is_outside) => Ok(truth_word(is_outside)),
         Err(_) => unreachable!(),
     }
@@ -180,7 +206,9 @@ fn max<'a>(
 ) -> Result<&'a str, Failure<Fault>>
     ensures { IsTold result (IsReply (Question.Max texts.entry)) }
 {
-    let (range, versions) = range_and_versions(alloc, texts)?;
+    let range = Range::parse(alloc, texts.0);
+    let range = range_of(&range)?;
+    let versions = versions(alloc, texts.1)?;
     Ok(version_or_none(range.max_satisfying(&versions), room)?)
 }
 
@@ -191,6 +219,8 @@ fn min<'a>(
 ) -> Result<&'a str, Failure<Fault>>
     ensures { IsTold result (IsReply (Question.Min texts.entry)) }
 {
-    let (range, versions) = range_and_versions(alloc, texts)?;
+    let range = Range::parse(alloc, texts.0);
+    let range = range_of(&range)?;
+    let versions = versions(alloc, texts.1)?;
     Ok(version_or_none(range.min_satisfying(&versions), room)?)
 }

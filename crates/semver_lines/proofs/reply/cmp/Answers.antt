@@ -1,14 +1,23 @@
 use Rattle.std.proofs.Common.{ap, ◌∙◌}
 use Rattle.std.proofs.lemmas.Result.{err_from_is_err_and}
 use Rattle.semver_lines.specs.Names.{order_word}
-use Rattle.semver_lines.specs.Replies.{read}
-use Rattle.semver_lines.proofs.Replies.{told_fault}
+use Rattle.semver_lines.specs.Replies.{IsVersionOf, read}
+use Rattle.semver_lines.proofs.Replies.{told_first, told_second}
 use Rattle.semver_lines.proofs.reply.cmp.Goals as goal
 
 pub returns-in_err-version : goal.returns-in_err-version
 returns-in_err-version c =
     let p = err_from_is_err_and c.from_residual.result c.from_residual.ensures.1 in
-    rw (p.1, p.2) (told_fault _ _ _ c.in_err-version.ensures)
+    rw (p.1, p.2) (told_first (IsVersionOf c.args.texts.0.now) (IsVersionOf c.args.texts.1.now) _ _ (c.in_err-version.ensures c.args.texts.0.now (c.parse-version.ensures.ok, c.parse-version.ensures.refused)))
+
+pub returns-in_err-other : goal.returns-in_err-other
+returns-in_err-other c =
+    let p = err_from_is_err_and c.from_residual-in_err-other.result c.from_residual-in_err-other.ensures.1 in
+    let first = c.in_ok-version.ensures c.args.texts.0.now (c.parse-version.ensures.ok, c.parse-version.ensures.refused) in
+    rw (p.1, p.2) (told_second (IsVersionOf c.args.texts.0.now) (IsVersionOf c.args.texts.1.now) _ _ _ first (c.in_err-other.ensures c.args.texts.1.now (c.parse-other.ensures.ok, c.parse-other.ensures.refused)))
 
 pub returns : goal.returns
-returns c = read _ c.in_ok-version.ensures (c.order_word.ensures ∙ ap order_word c.cmp.ensures)
+returns c =
+    let first = c.in_ok-version.ensures c.args.texts.0.now (c.parse-version.ensures.ok, c.parse-version.ensures.refused) in
+    let second = c.in_ok-other.ensures c.args.texts.1.now (c.parse-other.ensures.ok, c.parse-other.ensures.refused) in
+    read _ (first, second) (c.order_word.ensures ∙ ap order_word c.cmp.ensures)

@@ -6,7 +6,7 @@ use Rattle.semver_lines.proofs.reply.normalised.Goals as goal
 pub returns-in_err-range : goal.returns-in_err-range
 returns-in_err-range c =
     let p = err_from_is_err_and c.from_residual.result c.from_residual.ensures.1 in
-    rw (p.1, p.2) (told_fault _ _ _ c.in_err-range.ensures)
+    rw (p.1, p.2) (told_fault _ _ _ (c.in_err-range.ensures c.args.text.now (c.parse-range.ensures.ok, c.parse-range.ensures.some, c.parse-range.ensures.refused)))
 
 pub returns : goal.returns
-returns c = read _ c.in_ok-range.ensures c.in_ok-range_or_none.ensures
+returns c = read _ (c.in_ok-range.ensures c.args.text.now (c.parse-range.ensures.ok, c.parse-range.ensures.some, c.parse-range.ensures.refused)) c.in_ok-range_or_none.ensures
