@@ -242,7 +242,7 @@ pub(crate) fn digits(bytes: &[u8], at: usize) -> Option<(u64, usize)>
 pub fn is_identifier_char(byte: u8) -> bool
     ensures { result ≡ is_identifier_char byte }
 {
-    byte.is_ascii_alphabetic() || byte.is_ascii_digit() || byte == b'-'
+    byte.is_ascii_alphanumeric() || byte == b'-'
 }
 
 /// Whether a text begins with a character of identifiers.
