@@ -3,7 +3,7 @@
 ghost use Rattle.std.specs.Prelude.{ℕ, List};
 ghost use Rattle.semver_lines.specs.Lines.{fields};
 ghost use Rattle.semver_lines.specs.Replies.{AreVersionsOf, IsRangeOf, IsVersionOf};
-ghost use Rattle.semver_lines.specs.Internal.Results.{IsRead, IsReadAs, ParsesRange, ParsesVersion};
+ghost use Rattle.semver_lines.specs.Internal.Results.{Appends, IsReadAs, ParsesRange, ParsesVersion};
 
 use crate::fault::Fault;
 use crate::fields::first;
@@ -38,16 +38,23 @@ pub fn range_of(parsed: &Result<Range, Failure<SemverError>>) -> Result<&Range, 
     }
 }
 
-// The version of a text.
+// Appends the version of a text.
 #[inline(always)]
-fn version(alloc: Global, text: &str) -> Result<Version, Failure<Fault>>
-    ensures { IsRead result (IsVersionOf text.now) }
+fn push_version(
+    alloc: Global,
+    text: &str,
+    versions: &mut Vec<Version>,
+) -> Result<(), Failure<Fault>>
+    ensures { Appends result text.now versions.old.items versions.new.items }
 {
+    // There is room before there is a version, so that it moves once.
+    versions.reserve(1)?;
     match Version::parse(alloc, text) {
-        Ok(version) => Ok(version),
-        Err(Failure::Refused(_)) => Err(Failure::Refused(Fault::BadVersion)),
-        Err(Failure::Memory(error)) => Err(Failure::Memory(error)),
+        Ok(version) => versions.push_reserved(version),
+        Err(Failure::Refused(_)) => return Err(Failure::Refused(Fault::BadVersion)),
+        Err(Failure::Memory(error)) => return Err(Failure::Memory(error)),
     }
+    Ok(())
 }
 
 /// The versions of the fields of a text.
@@ -58,11 +65,9 @@ pub fn versions(alloc: Global, texts: &str) -> Result<Vec<Version>, Failure<Faul
     let mut versions = Vec::with_capacity(alloc, texts.len() / 6 + 1)?;
     let mut rest = texts;
     'fields: while let Some((text, behind)) = first(rest) {
-        let version = version(alloc, text)?;
-        versions.push(version).map_err(AllocError::from)?;
+        push_version(alloc, text, &mut versions)?;
         rest = behind;
     }
-    let last = version(alloc, rest)?;
-    versions.push(last).map_err(AllocError::from)?;
+    push_version(alloc, rest, &mut versions)?;
     Ok(versions)
 }

@@ -1,5 +1,5 @@
 -- For proofs. What the results of reading a question's texts, and of replying to it, say.
-use Rattle.std.specs.Prelude.{◌≡◌, ◌<◌, ℕ, List, [], length, Result, Ok, Err, IfOk, OnOk, ⊤}
+use Rattle.std.specs.Prelude.{◌≡◌, ◌<◌, ◌++◌, ◌∷◌, ℕ, List, [], length, Result, Ok, Err, IfOk, OnOk, ⊤}
 use Rattle.std.specs.Borrow.{Bor}
 use Rattle.semver_core.specs.Cuts.{Span}
 use Rattle.semver_core.specs.Failures.{RefusedOnlyIf}
@@ -11,6 +11,7 @@ use Rattle.nodejs_semver.specs.Text.Denotes.{denotes}
 use Rattle.semver_core.specs.declared.error.Failure.{Failure}
 use Rattle.semver_core.specs.declared.error.Failure.TheVariants.{Refused, Memory}
 use Rattle.semver_lines.specs.Names.{fault_word}
+use Rattle.semver_lines.specs.Replies.{IsVersionOf}
 use Rattle.semver_lines.specs.declared.fault.Fault.{Fault}
 
 -- a text was parsed as a version, or as a range
@@ -26,8 +27,11 @@ IsReadAs view (Ok value) Reads = Reads (Ok (view value))
 IsReadAs view (Err (Refused fault)) Reads = Reads (Err fault)
 IsReadAs view (Err (Memory error)) Reads = ⊤
 
-abbrev pub IsRead : {A : Type 0} → Result A (Failure Fault) → (Result A Fault → Type 0) → Type 0
-IsRead result Reads = IsReadAs (λ value. value) result Reads
+-- the version of a text was appended to a list, unless an allocation failed
+abbrev pub Appends : Result ⊤ (Failure Fault) → List ℕ → List VersionValue → List VersionValue → Type 0
+Appends (Ok done) text old new = (v : VersionValue) × Parses MAX_SAFE_INTEGER text v × (new ≡ old ++ v ∷ [])
+Appends (Err (Refused fault)) text old new = IsVersionOf text (Err fault)
+Appends (Err (Memory error)) text old new = ⊤
 
 -- the text or the error is the reply, unless an allocation failed
 abbrev pub IsTold : Result (Bor (List ℕ)) (Failure Fault) → (List ℕ → Type 0) → Type 0

@@ -1,36 +1,36 @@
-use Rattle.std.proofs.Common.{◌≡◌, ◌++◌, ◌∷◌, ◌∙◌, [], ap, append_assoc, rules, sym}
+use Rattle.std.proofs.Common.{◌++◌, ◌∷◌, ◌∙◌, [], ap, append_assoc, sym}
 use Rattle.std.proofs.lemmas.Result.{err_from_is_err_and}
 use Rattle.semver_lines.specs.Lines.{fields}
 use Rattle.semver_lines.proofs.Several.{parse_one_more, refused_one}
 use Rattle.semver_lines.proofs.read.versions.Goals as goal
 
-pub returns-in_err-version : goal.returns-in_err-version
-returns-in_err-version c =
+pub returns-in_err-push_version : goal.returns-in_err-push_version
+returns-in_err-push_version c =
     let (utf8, (done, split, read)) = c.fields.invariant in
-    let p = err_from_is_err_and c.from_residual-in_err-version.result c.from_residual-in_err-version.ensures.1 in
-    rw p.1 (refused_one (fields c.args.texts.now) done c.in-Some.text.now (fields c.in-Some.behind.now) _ (split ∙ ap (λ l. done ++ l) c.in-Some.ensures.some) (rw p.2 c.in_err-version.ensures))
+    let p = err_from_is_err_and c.from_residual-in_err-push_version.result c.from_residual-in_err-push_version.ensures.1 in
+    rw p.1 (refused_one (fields c.args.texts.now) done c.in-Some.text.now (fields c.in-Some.behind.now) c.fields.versions.items c.push_version.new.versions.items _ (split ∙ ap (λ l. done ++ l) c.in-Some.ensures.some) (rw p.2 c.in_err-push_version.ensures))
 
 pub fields-preserved : goal.fields-preserved
 fields-preserved c =
     let (utf8, (done, split, read)) = c.fields.invariant in
     let text = c.in-Some.text.now in
-    let same : c.push.new.self.items ≡ c.fields.versions.items ++ c.in_ok-version.version ∷ [] = search rules in (
+    let (v, parses, pushed) = c.in_ok-push_version.ensures in (
       c.in-Some.ensures.utf8,
       (
         done ++ text ∷ [],
         split ∙ ap (λ l. done ++ l) c.in-Some.ensures.some ∙ sym (append_assoc done (text ∷ []) (fields c.in-Some.behind.now)),
-        rw same (parse_one_more done c.fields.versions.items text c.in_ok-version.version read c.in_ok-version.ensures),
+        rw pushed (parse_one_more done c.fields.versions.items text v read parses),
       ),
     )
 
-pub returns-in_err-last : goal.returns-in_err-last
-returns-in_err-last c =
+pub returns-in_err-push_version-2 : goal.returns-in_err-push_version-2
+returns-in_err-push_version-2 c =
     let (utf8, (done, split, read)) = c.fields.invariant in
-    let p = err_from_is_err_and c.from_residual-in_err-last.result c.from_residual-in_err-last.ensures.1 in
-    rw p.1 (refused_one (fields c.args.texts.now) done c.fields.rest.now [] _ (split ∙ ap (λ l. done ++ l) c.in_default.ensures.none) (rw p.2 c.in_err-last.ensures))
+    let p = err_from_is_err_and c.from_residual-in_err-push_version-2.result c.from_residual-in_err-push_version-2.ensures.1 in
+    rw p.1 (refused_one (fields c.args.texts.now) done c.fields.rest.now [] c.fields.versions.items c.push_version-2.new.versions.items _ (split ∙ ap (λ l. done ++ l) c.in_default.ensures.none) (rw p.2 c.in_err-push_version-2.ensures))
 
 pub returns : goal.returns
 returns c =
     let (utf8, (done, split, read)) = c.fields.invariant in
-    let same : c.push-2.new.self.items ≡ c.fields.versions.items ++ c.in_ok-last.last ∷ [] = search rules in
-    rw (split, c.in_default.ensures.none, same) (parse_one_more done c.fields.versions.items c.fields.rest.now c.in_ok-last.last read c.in_ok-last.ensures)
+    let (v, parses, pushed) = c.in_ok-push_version-2.ensures in
+    rw (split, c.in_default.ensures.none, pushed) (parse_one_more done c.fields.versions.items c.fields.rest.now v read parses)
