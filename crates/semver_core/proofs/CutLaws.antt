@@ -271,14 +271,19 @@ module _ {V : Type 0} {R : V → V → Ordering} (o : IsTotalOrder R) where
     where
       a : Cut V
       a = lower_cut s.lower
+
       b : Cut V
       b = lower_cut t.lower
+
       c : Cut V
       c = upper_cut s.upper
+
       d : Cut V
       d = upper_cut t.upper
+
       first : lt b a ≡ true → lt b c ≡ true
       first h = below_upto b a c h (lt_not_gt _ hs)
+
       by_tests : (i j : Bool) → gt a b ≡ i → gt c d ≡ j
           → is_some (interval R (record { lower = if i then s.lower else t.lower; upper = if j then t.upper else s.upper })) ≡ (lt b c && lt a d)
       by_tests true true g h = is_some-interval _ ∙ ap (λ x. x && lt a d) (sym (first (lt_gt b a ∙ g)))
@@ -317,12 +322,16 @@ module _ {V : Type 0} {R : V → V → Ordering} (o : IsTotalOrder R) where
     where
       a : Cut V
       a = lower_cut s.lower
+
       b : Cut V
       b = lower_cut t.lower
+
       c : Cut V
       c = upper_cut s.upper
+
       d : Cut V
       d = upper_cut t.upper
+
       by_tests : (i j : Bool) → gt b a ≡ i → gt c d ≡ j
           → is_some (interval R (record { lower = if i then t.lower else s.lower; upper = if j then t.upper else s.upper })) ≡ (lt b c && lt a d)
       by_tests true true g h =

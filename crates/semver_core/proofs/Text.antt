@@ -13,3 +13,4 @@ pub mod Whole
 pub mod OnePass
 pub mod Dotted
 pub mod LargerLimit
+pub mod Listed

@@ -9,7 +9,7 @@ use crate::{Identifier, Version};
 use itoa::Buffer;
 use std::fmt;
 
-// A number in decimal.
+// A number in decimal. The length of a short one is known, so that it is copied without a call.
 #[inline(always)]
 fn write_number<W: fmt::Write>(number: u64, f: &mut fmt::Formatter<W>) -> fmt::Result
     ensures { DisplaysStyledOnOk W.write_str_gives f.old result (Some (decimal number)) f.new }
@@ -17,6 +17,9 @@ fn write_number<W: fmt::Write>(number: u64, f: &mut fmt::Formatter<W>) -> fmt::R
     if number < 10 {
         let digit = number as usize;
         return f.write_str(&"0123456789"[digit..digit + 1]);
+    }
+    if number < 100 {
+        return f.write_str(Buffer::new().format(number as u8));
     }
     f.write_str(Buffer::new().format(number))
 }
@@ -27,7 +30,6 @@ impl fmt::Display for Identifier {
 
     ghost styled_output = { λ id _. Some (id_text (id_view id)) };
 
-    #[inline(always)]
     fn fmt<W: fmt::Write>(&self, f: &mut fmt::Formatter<W>) -> fmt::Result {
         match self {
             Identifier::Numeric(number) => write_number(*number, f),

@@ -4,12 +4,12 @@
 //! A call on a `&str` takes a place in it, a byte index. A call on a `&[u8]` reads at the front of
 //! the bytes, save `number_in`, which takes a place.
 
-ghost use Rattle.std.specs.Prelude.{◌≡◌, ◌≤◌, ◌==◌, ◌+◌, ◌<◌, if◌then◌else◌, ℕ, List, [], length, drop, take, IfOk, IfSome, IfNone, OnErr, IsCharBoundary, IsUtf8, Ok, None, Some, false, true};
+ghost use Rattle.std.specs.Prelude.{◌≡◌, ◌≤◌, ◌==◌, ◌+◌, ◌<◌, if◌then◌else◌, ℕ, List, [], length, drop, take, IfOk, IfSome, IfNone, OnErr, OnOk, IsCharBoundary, IsUtf8, Ok, None, Some, false, true};
 ghost use Rattle.std.specs.Char.{is_ascii_digit};
 ghost use Rattle.std.specs.List.{prefix_len};
 ghost use Rattle.semver_core.specs.Internal.CommonReading.{grown, run_from, number_of_run};
 ghost use Rattle.semver_core.specs.Text.Characters.{is_identifier_char, is_whitespace, begins, IsAfterBlank, IsPieceAt, NoPieceAt};
-ghost use Rattle.semver_core.specs.Text.Identifiers.{Id, identifier_of, goes_on, IsLongestIdentifiers};
+ghost use Rattle.semver_core.specs.Text.Identifiers.{Id, identifier_of, goes_on, is_listed, listed, IsLongestIdentifiers};
 ghost use Rattle.semver_core.specs.Text.Numbers.{IsWholeNumber};
 ghost use Rattle.semver_core.specs.Internal.Reading.{number_at, list_at};
 ghost use Rattle.semver_core.specs.Values.Views.{id_view, ids_view, list_view};
@@ -441,4 +441,22 @@ pub(crate) fn read_into(
         }
         start = end + 1;
     }
+}
+
+// Fills an empty list with the identifiers that a text spells, joined by dots.
+#[tactic(auto, using(crate::proofs::Text::Listed::listed_utf8, crate::proofs::Text::Listed::listed_begins, crate::proofs::Text::Listed::listed_all, crate::proofs::Text::Listed::listed_none, crate::proofs::Text::Listed::some_listed))]
+pub(crate) fn read_listed(
+    alloc: Global,
+    bytes: &[u8],
+    list: &mut Identifiers,
+) -> Result<(), AllocError>
+    requires listed { is_listed bytes.now ≡ true }
+    requires empty { list.old.items ≡ [] }
+    ensures whole { OnOk result (ids_view list.new.items ≡ listed bytes.now) }
+    ensures some { OnOk result (0 < length bytes.now → 0 < length list.new.items) }
+{
+    if !bytes.is_empty() {
+        read_into(alloc, text_front(bytes), 0, list)?;
+    }
+    Ok(())
 }

@@ -92,12 +92,7 @@ impl Version {
 
     // The version of three numbers and of what stands behind them.
     #[inline(always)]
-    pub(crate) fn from_parts(
-        major: u64,
-        minor: u64,
-        patch: u64,
-        qualifier: Qualifier,
-    ) -> Version
+    pub(crate) fn from_parts(major: u64, minor: u64, patch: u64, qualifier: Qualifier) -> Version
         requires { IsFull qualifier }
         ensures { result ≡ record {
           major = major;

@@ -1,5 +1,5 @@
 -- The first `;` of a text, and the first line feed of an input.
-use Rattle.std.proofs.Common.{◌≡◌, ◌==◌, ◌<◌, ◌+◌, ◌∙◌, ◌++◌, ◌∷◌, ℕ, suc, true, false, not, List, [], Option, Some, None, IfSome, IfNone, Result, Ok, Err, OnOk, is_ok, if◌then◌else◌, length, take, drop, get_or, refl, sym, ap, subst, arith, inl, inr, drop-cons, take-append-drop}
+use Rattle.std.proofs.Common.{◌≡◌, ◌==◌, ◌<◌, ◌+◌, ◌∙◌, ◌++◌, ◌∷◌, ℕ, suc, true, false, not, List, [], Option, Some, None, IfSome, IfNone, length, take, drop, get_or, refl, sym, ap, arith, inl, inr, drop-cons, take-append-drop}
 use Rattle.memchr.specs.Find.{IsFirstByte, is_byte}
 use Rattle.std.proofs.lemmas.Bool.{cases_Bool, eqb-true}
 use Rattle.std.proofs.lemmas.List.{get_or-take, length-take-le}
@@ -7,8 +7,7 @@ use Rattle.std.proofs.lemmas.List.Elements.{All-from_get_or}
 use Rattle.std.proofs.lemmas.List.Splits.{slice_split_at, slice_split_none}
 use Rattle.std.proofs.lemmas.List.Sums.{list_all-from_AllPass}
 use Rattle.std.proofs.lemmas.Str.{IsCharBoundary-after_ascii, IsCharBoundary-before_ascii}
-use Rattle.std.specs.Prelude.{⊤, IsCharBoundary, IsUtf8}
-use Rattle.std.specs.declared.alloc.AllocError.{AllocError}
+use Rattle.std.specs.Prelude.{IsCharBoundary, IsUtf8}
 use Rattle.semver_lines.specs.Lines.{fields, no_feed}
 
 -- the byte does not stand in these places
@@ -62,21 +61,6 @@ found_feed text (Some at) h =
           h.0.before i (omega arith) here (sym (ap (λ b. b == 10) (get_or-take at text i 0 here)) ∙ is)),
       tt,
     )
-
--- a word that was pushed onto an empty text
-pub pushed : (result : Result ⊤ AllocError) (old word new : List ℕ) → new ≡ (if is_ok result then old ++ word else old) → old ≡ [] → OnOk result (new ≡ word)
-pushed (Ok done) old word new e empty = e ∙ ap (λ l. l ++ word) empty
-pushed (Err error) old word new e empty = tt
-
--- what holds of a word holds of an empty text onto which it was pushed
-pub said : (P : List ℕ → Type 0) (result : Result ⊤ AllocError) (old word new : List ℕ) → new ≡ (if is_ok result then old ++ word else old) → old ≡ [] → P word → OnOk result (P new)
-said P (Ok done) old word new e empty p = subst P (sym (e ∙ ap (λ l. l ++ word) empty)) p
-said P (Err error) old word new e empty p = tt
-
--- the same where a value was printed onto it
-pub printed : (P : List ℕ → Type 0) (result : Result ⊤ AllocError) (old word new : List ℕ) → OnOk result (new ≡ old ++ word) → old ≡ [] → P word → OnOk result (P new)
-printed P (Ok done) old word new e empty p = subst P (sym (e ∙ ap (λ l. l ++ word) empty)) p
-printed P (Err error) old word new e empty p = tt
 
 -- a list by its length
 pub nil_by_len : (xs : List ℕ) (n : ℕ) → n ≡ length xs → (n == 0) ≡ true → xs ≡ []

@@ -1,8 +1,6 @@
-// The replies to questions. Each function appends one to an empty text, which stays empty where it
-// returns an error.
+// The replies to questions. What is printed is printed to `room`.
 
 ghost use Rattle.std.specs.Option.{option_copied};
-ghost use Rattle.std.specs.Prelude.{◌≡◌, [], string_bytes};
 ghost use Rattle.semver_core.specs.Increments.Table.{answer_of_inc};
 ghost use Rattle.semver_lines.specs.Commands.{IsReply};
 ghost use Rattle.semver_lines.specs.Names.{next_text};
@@ -15,170 +13,184 @@ use crate::question::Question;
 use crate::read::{
     range, range_and_version, range_and_versions, two_ranges, two_versions, version,
 };
-use crate::words::{push_difference, push_next, push_order, push_range, push_truth, push_version};
+use crate::words::{
+    difference_word, next_text, order_word, range_or_none, truth_word, version_or_none,
+};
 use nodejs_semver::{Failure, IdentifierBase, OutsideDirection};
 use std::alloc::Global;
 
-/// Appends the reply to a question.
-pub fn reply(
+/// The reply to a question.
+#[inline(always)]
+pub fn reply<'a>(
     alloc: Global,
-    question: &Question<'_>,
-    answer: &mut String,
-) -> Result<(), Failure<Fault>>
-    requires { string_bytes answer.old ≡ [] }
-    ensures { IsTold result (string_bytes answer.new) (IsReply question.now) }
+    question: Question<'_>,
+    room: &'a mut String,
+) -> Result<&'a str, Failure<Fault>>
+    ensures { IsTold result (IsReply question.entry) }
 {
-    match *question {
-        Question::Cmp(texts) => cmp(alloc, texts, answer),
-        Question::Ver(text) => ver(alloc, text, answer),
-        Question::Diff(texts) => diff(alloc, texts, answer),
-        Question::Inc((v, word)) => inc(alloc, v, word, None, None, answer),
-        Question::IncWith((v, word, id)) => inc(alloc, v, word, Some(id), None, answer),
+    match question {
+        Question::Cmp(texts) => cmp(alloc, texts),
+        Question::Ver(text) => ver(alloc, text, room),
+        Question::Diff(texts) => diff(alloc, texts, room),
+        Question::Inc((v, word)) => inc(alloc, v, word, None, None, room),
+        Question::IncWith((v, word, id)) => inc(alloc, v, word, Some(id), None, room),
         Question::IncFrom((v, word, id), base) => {
-            inc(alloc, v, word, Some(id), Some(base), answer)
+            inc(alloc, v, word, Some(id), Some(base), room)
         }
-        Question::Range(text) => normalised(alloc, text, answer),
-        Question::And(texts) => and(alloc, texts, answer),
-        Question::Minus(texts) => minus(alloc, texts, answer),
-        Question::Least(text) => least(alloc, text, answer),
-        Question::Beyond(texts) => beyond(alloc, texts, answer),
-        Question::Sat(texts) => sat(alloc, texts, answer),
-        Question::Pre(texts) => pre(alloc, texts, answer),
-        Question::Out(texts, direction) => outside(alloc, texts, direction, answer),
-        Question::Max(texts) => max(alloc, texts, answer),
-        Question::Min(texts) => min(alloc, texts, answer),
+        Question::Range(text) => normalised(alloc, text, room),
+        Question::And(texts) => and(alloc, texts, room),
+        Question::Minus(texts) => minus(alloc, texts, room),
+        Question::Least(text) => least(alloc, text, room),
+        Question::Beyond(texts) => beyond(alloc, texts, room),
+        Question::Sat(texts) => sat(alloc, texts),
+        Question::Pre(texts) => pre(alloc, texts),
+        Question::Out(texts, direction) => outside(alloc, texts, direction),
+        Question::Max(texts) => max(alloc, texts, room),
+        Question::Min(texts) => min(alloc, texts, room),
     }
 }
 
-fn cmp(alloc: Global, texts: (&str, &str), answer: &mut String) -> Result<(), Failure<Fault>>
-    requires { string_bytes answer.old ≡ [] }
-    ensures { IsTold result (string_bytes answer.new) (IsReply (Question.Cmp texts.entry)) }
+fn cmp(alloc: Global, texts: (&str, &str)) -> Result<&'static str, Failure<Fault>>
+    ensures { IsTold result (IsReply (Question.Cmp texts.entry)) }
 {
     let (version, other) = two_versions(alloc, texts)?;
-    push_order(version.cmp(&other), answer)
+    Ok(order_word(version.cmp(&other)))
 }
 
-fn ver(alloc: Global, text: &str, answer: &mut String) -> Result<(), Failure<Fault>>
-    requires { string_bytes answer.old ≡ [] }
-    ensures { IsTold result (string_bytes answer.new) (IsReply (Question.Ver text.entry)) }
+fn ver<'a>(alloc: Global, text: &str, room: &'a mut String) -> Result<&'a str, Failure<Fault>>
+    ensures { IsTold result (IsReply (Question.Ver text.entry)) }
 {
     let version = version(alloc, text)?;
-    push_version(Some(&version), answer)
+    Ok(version_or_none(Some(&version), room)?)
 }
 
-fn diff(alloc: Global, texts: (&str, &str), answer: &mut String) -> Result<(), Failure<Fault>>
-    requires { string_bytes answer.old ≡ [] }
-    ensures { IsTold result (string_bytes answer.new) (IsReply (Question.Diff texts.entry)) }
+fn diff<'a>(
+    alloc: Global,
+    texts: (&str, &str),
+    room: &'a mut String,
+) -> Result<&'a str, Failure<Fault>>
+    ensures { IsTold result (IsReply (Question.Diff texts.entry)) }
 {
     let (version, other) = two_versions(alloc, texts)?;
-    push_difference(version.diff(&other), answer)
+    Ok(difference_word(version.diff(&other), room)?)
 }
 
-fn inc(
+fn inc<'a>(
     alloc: Global,
     text: &str,
     word: &str,
     identifier: Option<&str>,
     base: Option<IdentifierBase>,
-    answer: &mut String,
-) -> Result<(), Failure<Fault>>
-    requires { string_bytes answer.old ≡ [] }
-    ensures { IsTold result (string_bytes answer.new) (On (IsVersionOf text.now)
+    room: &'a mut String,
+) -> Result<&'a str, Failure<Fault>>
+    ensures { IsTold result (On (IsVersionOf text.now)
         (λ v. Says (next_text (answer_of_inc v word.now (option_copied identifier.entry) base)))) }
 {
     let version = version(alloc, text)?;
-    push_next(version.inc(alloc, word, identifier, base), answer)
+    Ok(next_text(&version.inc(alloc, word, identifier, base), room)?)
 }
 
-fn normalised(alloc: Global, text: &str, answer: &mut String) -> Result<(), Failure<Fault>>
-    requires { string_bytes answer.old ≡ [] }
-    ensures { IsTold result (string_bytes answer.new) (IsReply (Question.Range text.entry)) }
+fn normalised<'a>(
+    alloc: Global,
+    text: &str,
+    room: &'a mut String,
+) -> Result<&'a str, Failure<Fault>>
+    ensures { IsTold result (IsReply (Question.Range text.entry)) }
 {
     let range = range(alloc, text)?;
-    push_range(Some(&range), answer)
+    Ok(range_or_none(Some(&range), room)?)
 }
 
-fn and(alloc: Global, texts: (&str, &str), answer: &mut String) -> Result<(), Failure<Fault>>
-    requires { string_bytes answer.old ≡ [] }
-    ensures { IsTold result (string_bytes answer.new) (IsReply (Question.And texts.entry)) }
+fn and<'a>(
+    alloc: Global,
+    texts: (&str, &str),
+    room: &'a mut String,
+) -> Result<&'a str, Failure<Fault>>
+    ensures { IsTold result (IsReply (Question.And texts.entry)) }
 {
     let (range, other) = two_ranges(alloc, texts)?;
     let common = range.intersect(alloc, &other)?;
-    push_range(common.as_ref(), answer)
+    Ok(range_or_none(common.as_ref(), room)?)
 }
 
-fn minus(alloc: Global, texts: (&str, &str), answer: &mut String) -> Result<(), Failure<Fault>>
-    requires { string_bytes answer.old ≡ [] }
-    ensures { IsTold result (string_bytes answer.new) (IsReply (Question.Minus texts.entry)) }
+fn minus<'a>(
+    alloc: Global,
+    texts: (&str, &str),
+    room: &'a mut String,
+) -> Result<&'a str, Failure<Fault>>
+    ensures { IsTold result (IsReply (Question.Minus texts.entry)) }
 {
     let (range, other) = two_ranges(alloc, texts)?;
     let left = range.difference(alloc, &other)?;
-    push_range(left.as_ref(), answer)
+    Ok(range_or_none(left.as_ref(), room)?)
 }
 
-fn least(alloc: Global, text: &str, answer: &mut String) -> Result<(), Failure<Fault>>
-    requires { string_bytes answer.old ≡ [] }
-    ensures { IsTold result (string_bytes answer.new) (IsReply (Question.Least text.entry)) }
+fn least<'a>(alloc: Global, text: &str, room: &'a mut String) -> Result<&'a str, Failure<Fault>>
+    ensures { IsTold result (IsReply (Question.Least text.entry)) }
 {
     let range = range(alloc, text)?;
     let least = range.min_version(alloc)?;
-    push_version(least.as_ref(), answer)
+    Ok(version_or_none(least.as_ref(), room)?)
 }
 
-fn beyond(alloc: Global, texts: (&str, &str), answer: &mut String) -> Result<(), Failure<Fault>>
-    requires { string_bytes answer.old ≡ [] }
-    ensures { IsTold result (string_bytes answer.new) (IsReply (Question.Beyond texts.entry)) }
+fn beyond<'a>(
+    alloc: Global,
+    texts: (&str, &str),
+    room: &'a mut String,
+) -> Result<&'a str, Failure<Fault>>
+    ensures { IsTold result (IsReply (Question.Beyond texts.entry)) }
 {
     let (range, other) = two_ranges(alloc, texts)?;
     let least = range.least_beyond(alloc, &other)?;
-    push_version(least.as_ref(), answer)
+    Ok(version_or_none(least.as_ref(), room)?)
 }
 
-fn sat(alloc: Global, texts: (&str, &str), answer: &mut String) -> Result<(), Failure<Fault>>
-    requires { string_bytes answer.old ≡ [] }
-    ensures { IsTold result (string_bytes answer.new) (IsReply (Question.Sat texts.entry)) }
+fn sat(alloc: Global, texts: (&str, &str)) -> Result<&'static str, Failure<Fault>>
+    ensures { IsTold result (IsReply (Question.Sat texts.entry)) }
 {
     let (range, version) = range_and_version(alloc, texts)?;
-    push_truth(range.satisfies(&version), answer)
+    Ok(truth_word(range.satisfies(&version)))
 }
 
-fn pre(alloc: Global, texts: (&str, &str), answer: &mut String) -> Result<(), Failure<Fault>>
-    requires { string_bytes answer.old ≡ [] }
-    ensures { IsTold result (string_bytes answer.new) (IsReply (Question.Pre texts.entry)) }
+fn pre(alloc: Global, texts: (&str, &str)) -> Result<&'static str, Failure<Fault>>
+    ensures { IsTold result (IsReply (Question.Pre texts.entry)) }
 {
     let (range, version) = range_and_version(alloc, texts)?;
-    push_truth(range.satisfies_with_prerelease(&version, true), answer)
+    Ok(truth_word(range.satisfies_with_prerelease(&version, true)))
 }
 
 fn outside(
     alloc: Global,
     texts: (&str, &str),
     direction: OutsideDirection,
-    answer: &mut String,
-) -> Result<(), Failure<Fault>>
-    requires { string_bytes answer.old ≡ [] }
-    ensures { IsTold result (string_bytes answer.new)
-        (IsReply (Question.Out texts.entry direction)) }
+) -> Result<&'static str, Failure<Fault>>
+    ensures { IsTold result (IsReply (Question.Out texts.entry direction)) }
 {
     let (range, version) = range_and_version(alloc, texts)?;
     match range.outside(&version, direction, false) {
-        Ok(is_outside) => push_truth(is_outside, answer),
+        Ok(is_outside) => Ok(truth_word(is_outside)),
         Err(_) => unreachable!(),
     }
 }
 
-fn max(alloc: Global, texts: (&str, &str), answer: &mut String) -> Result<(), Failure<Fault>>
-    requires { string_bytes answer.old ≡ [] }
-    ensures { IsTold result (string_bytes answer.new) (IsReply (Question.Max texts.entry)) }
+fn max<'a>(
+    alloc: Global,
+    texts: (&str, &str),
+    room: &'a mut String,
+) -> Result<&'a str, Failure<Fault>>
+    ensures { IsTold result (IsReply (Question.Max texts.entry)) }
 {
     let (range, versions) = range_and_versions(alloc, texts)?;
-    push_version(range.max_satisfying(&versions), answer)
+    Ok(version_or_none(range.max_satisfying(&versions), room)?)
 }
 
-fn min(alloc: Global, texts: (&str, &str), answer: &mut String) -> Result<(), Failure<Fault>>
-    requires { string_bytes answer.old ≡ [] }
-    ensures { IsTold result (string_bytes answer.new) (IsReply (Question.Min texts.entry)) }
+fn min<'a>(
+    alloc: Global,
+    texts: (&str, &str),
+    room: &'a mut String,
+) -> Result<&'a str, Failure<Fault>>
+    ensures { IsTold result (IsReply (Question.Min texts.entry)) }
 {
     let (range, versions) = range_and_versions(alloc, texts)?;
-    push_version(range.min_satisfying(&versions), answer)
+    Ok(version_or_none(range.min_satisfying(&versions), room)?)
 }

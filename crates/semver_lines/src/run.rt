@@ -31,8 +31,8 @@ const CHUNK: usize = 65536;
 struct Lines {
     // The line that has not ended yet, as far as it was read.
     pending: Vec<u8>,
-    // Room for one answer.
-    answer: String,
+    // Room to print an answer in.
+    room: String,
     // The answers that wait to be written.
     output: String,
 }
@@ -43,7 +43,7 @@ impl Lines {
     {
         Lines {
             pending: Vec::new(alloc),
-            answer: String::new(alloc),
+            room: String::new(alloc),
             output: String::new(alloc),
         }
     }
@@ -57,11 +57,11 @@ impl Lines {
         ensures err { OnErr result (string_bytes self.new.output ≡ string_bytes self.old.output) }
     {
         if self.pending.is_empty() {
-            return answer_line(alloc, bytes, &mut self.answer, &mut self.output);
+            return answer_line(alloc, bytes, &mut self.room, &mut self.output);
         }
         self.pending.extend_from_slice(bytes)?;
         let line = self.pending.as_slice();
-        answer_line(alloc, line, &mut self.answer, &mut self.output)?;
+        answer_line(alloc, line, &mut self.room, &mut self.output)?;
         self.pending.clear();
         Ok(())
     }

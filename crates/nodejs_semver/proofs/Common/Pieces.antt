@@ -10,7 +10,7 @@ use Rattle.semver_core.specs.Text.Characters.{begins}
 use Rattle.semver_core.specs.Text.Identifiers.{Id, identifier_of, is_identifier, pieces}
 use Rattle.semver_core.specs.Internal.Spaces.{drop_spaces, space_len}
 use Rattle.semver_core.proofs.Text.Spaces.{drop_spaces-none}
-use Rattle.nodejs_semver.specs.Internal.CommonFronts.{bare_front, bare_minor, bare_patch}
+use Rattle.nodejs_semver.specs.Internal.CommonFronts.{bare_front, bare_minor, bare_patch, unbuilt}
 use Rattle.nodejs_semver.specs.Text.Common.{IsBare}
 use Rattle.nodejs_semver.specs.Internal.Fronts.{Front, begins_byte, begins_identifier, build_front, component_front, dotted_front, list_len, list_of, minor_front, partial_front, patch_front, pre_release_front, run_on, split_list}
 use Rattle.nodejs_semver.specs.Text.PartialText.{Partial}
@@ -328,11 +328,9 @@ pub bare-exact : (limit : ℕ) (x more : List ℕ) (p : Partial) → IsBare limi
 unfolding bare_front
 bare-exact limit x more p h stop =
     let a = components-exact limit x more p (components-of limit x p h.components) stop in
-    ap (λ (o : Front (Option ℕ)). o >>? λ a. Some (bare_minor limit a.0 a.1 (dotted_front limit a.1))) a.1
-    ∙ ap (λ (q : Partial × List ℕ). some_read q) (minor-bare limit a.0.0 a.0.1 (dotted_front limit a.0.1) p more a.2 h.no_build)
-  where
-    some_read : Partial × List ℕ → Option (Partial × List ℕ)
-    some_read q = Some q
+    ap (λ (o : Front (Option ℕ)). o >>? λ a. unbuilt (bare_minor limit a.0 a.1 (dotted_front limit a.1))) a.1
+    ∙ ap (λ (q : Partial × List ℕ). unbuilt q) (minor-bare limit a.0.0 a.0.1 (dotted_front limit a.0.1) p more a.2 h.no_build)
+    ∙ rw stop.plus refl
 
 -- and what is read there is one, where no build follows
 patch-full : (a b : Option ℕ) (x : List ℕ) (o : Front (Option ℕ)) → begins_byte 43 (bare_patch a b x o).1 ≡ false
@@ -347,13 +345,22 @@ minor-full : (limit : ℕ) (a : Option ℕ) (x : List ℕ) (o : Front (Option �
 minor-full limit a x None h = (refl, refl)
 minor-full limit a x (Some b) h = patch-full a b.0 b.1 (dotted_front limit b.1) h
 
+unbuilt-is : (r q : Partial × List ℕ) → unbuilt r ≡ Some q → r ≡ q
+unbuilt-is r q h = elim (cases_Bool (begins_byte 43 r.1)) [
+  | inl build ↦ cc (rw build at h)
+  | inr none ↦ pair (rw none at h)
+]
+  where
+    pair : {a b : Partial × List ℕ} → Some a ≡ Some b → a ≡ b
+    pair k = cc k
+
 pub bare-sound : (limit : ℕ) (text : List ℕ) (p : Partial) (more : List ℕ) → bare_front limit text ≡ Some (p, more) → begins_byte 43 more ≡ false
     → (x : List ℕ) × (text ≡ x ++ more) × IsBare limit x p
 unfolding bare_front
 bare-sound limit text p more h plus =
-    let a = bind-some (component_front limit text) (λ a. Some (bare_minor limit a.0 a.1 (dotted_front limit a.1))) (p, more) h in
+    let a = bind-some (component_front limit text) (λ a. unbuilt (bare_minor limit a.0 a.1 (dotted_front limit a.1))) (p, more) h in
     let o = dotted_front limit a.0.1 in
-    let read : bare_minor limit a.0.0 a.0.1 o ≡ (p, more) = pair a.2 in
+    let read : bare_minor limit a.0.0 a.0.1 o ≡ (p, more) = unbuilt-is (bare_minor limit a.0.0 a.0.1 o) (p, more) a.2 in
     let full = minor-full limit a.0.0 a.0.1 o (ap (λ (q : Partial × List ℕ). begins_byte 43 q.1) read ∙ plus) in
     let same : minor_front limit a.0.0 a.0.1 o ≡ (p, more) = full.0 ∙ read in
     let one = component-read limit text a.0.0 a.0.1 a.1 in
@@ -366,6 +373,3 @@ bare-sound limit text p more h plus =
   where
     some_partial : Partial → Option Partial
     some_partial q = Some q
-
-    pair : {q r : Partial × List ℕ} → Some q ≡ Some r → q ≡ r
-    pair k = cc k

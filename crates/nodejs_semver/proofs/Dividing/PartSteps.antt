@@ -50,6 +50,12 @@ read-is limit text after o p h e = ap (λ (q : Option (Span VersionValue)). two 
     two : Option (Span VersionValue) → List ℕ → Option (Span VersionValue) × List ℕ
     two q t = (q, t)
 
+pub read-next : (limit : ℕ) (text after : List ℕ) → after ≡ (next_at limit text).1 → ◌≡◌ {A = Option (Span VersionValue) × List ℕ} ((next_at limit text).0, after) (next_at limit text)
+read-next limit text after h = ap (λ (t : List ℕ). two (next_at limit text).0 t) h
+  where
+    two : Option (Span VersionValue) → List ℕ → Option (Span VersionValue) × List ℕ
+    two q t = (q, t)
+
 -- the bounds of the word at the front, before those of what follows
 pub bounds-step : (limit : ℕ) (text : List ℕ) → 0 < length text → space_len text ≡ 0
     → part_bounds limit text ≡ cons_option (next_at limit text).0 (part_bounds limit (next_at limit text).1)

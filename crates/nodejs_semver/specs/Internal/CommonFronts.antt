@@ -12,7 +12,7 @@ use Rattle.nodejs_semver.specs.Text.Table.{table}
 use Rattle.nodejs_semver.specs.Text.WordText.{Word, caret, compare, hyphen, plain, tilde}
 use Rattle.nodejs_semver.specs.Internal.Words.{after_byte, comparator_at, tilde_sign}
 
--- the partial at the front, component by component; neither `v` nor whitespace is skipped, and no build is read
+-- the partial at the front, component by component; neither `v` nor whitespace is skipped, and no build may follow
 abbrev pub bare_patch : Option ℕ → Option ℕ → List ℕ → Front (Option ℕ) → Partial × List ℕ
 bare_patch major minor text None =
     (record { major = major; minor = minor; patch = None; pre_release = []; build = [] }, text)
@@ -25,9 +25,13 @@ bare_minor limit major text None =
     (record { major = major; minor = None; patch = None; pre_release = []; build = [] }, text)
 bare_minor limit major text (Some b) = bare_patch major b.0 b.1 (dotted_front limit b.1)
 
+-- where no build follows it
+abbrev pub unbuilt : Partial × List ℕ → Front Partial
+unbuilt read = if begins_byte 43 read.1 then None else Some read
+
 unfoldable pub bare_front : ℕ → List ℕ → Front Partial
 bare_front limit text =
-    component_front limit text >>? λ a. Some (bare_minor limit a.0 a.1 (dotted_front limit a.1))
+    component_front limit text >>? λ a. unbuilt (bare_minor limit a.0 a.1 (dotted_front limit a.1))
 
 -- a comparator and a partial
 unfoldable pub comparison_front : ℕ → List ℕ → Front Word

@@ -9,10 +9,9 @@ use Rattle.nodejs_semver.specs.Internal.Fronts.{Front, list_of}
 use Rattle.nodejs_semver.specs.Text.PartialText as Spec
 use Rattle.nodejs_semver.specs.Internal.PreReleases.{pre_release_view}
 use Rattle.nodejs_semver.specs.Text.WordText as WordSpec
-use Rattle.nodejs_semver.specs.Internal.Words.{Reading}
 use Rattle.nodejs_semver.specs.Internal.Signs as SignSpec
-use Rattle.nodejs_semver.specs.Internal.Signs.{signed_word, unsigned, compared, tilded, careted}
-use Rattle.nodejs_semver.specs.Text.WordText.{at_least, above, equal, at_most, below, hyphen, malformed}
+use Rattle.nodejs_semver.specs.Internal.Signs.{unsigned, compared, tilded, careted}
+use Rattle.nodejs_semver.specs.Text.WordText.{at_least, above, equal, at_most, below}
 use Rattle.nodejs_semver.specs.declared.readers.syntax.BareVersion.{BareVersion}
 use Rattle.nodejs_semver.specs.declared.readers.syntax.Bounds.{Bounds}
 use Rattle.nodejs_semver.specs.declared.readers.syntax.Partial.{Partial}
@@ -20,8 +19,6 @@ use Rattle.nodejs_semver.specs.declared.readers.syntax.Comparator.{Comparator}
 use Rattle.nodejs_semver.specs.declared.readers.syntax.Comparator.TheVariants.{AtLeast, Above, Equal, AtMost, Below}
 use Rattle.nodejs_semver.specs.declared.readers.syntax.Sign.{Sign}
 use Rattle.nodejs_semver.specs.declared.readers.syntax.Sign.TheVariants as Signs
-use Rattle.nodejs_semver.specs.declared.readers.syntax.Word.{Word}
-use Rattle.nodejs_semver.specs.declared.readers.syntax.Word.TheVariants.{Hyphen, Signed, Malformed}
 
 abbrev pub partial_view : Partial → Spec.Partial
 partial_view p =
@@ -64,18 +61,6 @@ sign_view Signs.Caret = careted
 abbrev pub sign_pair_view : Sign × Bor (List ℕ) → SignSpec.Sign × List ℕ
 sign_pair_view p = (sign_view p.0, p.1.now)
 
-abbrev pub word_view : Word → WordSpec.Word
-word_view (Hyphen p q) = hyphen (partial_view p) (partial_view q)
-word_view (Signed sign p) = signed_word (sign_view sign) (partial_view p)
-word_view Malformed = malformed
-
-abbrev pub word_pair_view : Word × Bor (List ℕ) → WordSpec.Word × List ℕ
-word_pair_view p = (word_view p.0, p.1.now)
-
-abbrev pub reading_view : Option (Word × Bor (List ℕ)) → Reading
-reading_view None = None
-reading_view (Some p) = Some (word_pair_view p)
-
 abbrev pub bare_view : BareVersion → VersionValue
 bare_view v = record {
   major = v.major;
@@ -99,6 +84,14 @@ table_view (Some b) = Some (bounds_view b)
 
 abbrev pub part_view : Bor (List ℕ) × Option (Bor (List ℕ)) → List ℕ × Option (List ℕ)
 part_view p = (p.0.now, rest_view p.1)
+
+-- whether an interval was added, the text behind its word, and the list
+abbrev pub word_pushed_view : Bool × Bor (List ℕ) → List (Span VersionValue) → (Bool × List ℕ) × List (Span VersionValue)
+word_pushed_view read list = ((read.0, read.1.now), list)
+
+abbrev pub hyphen_pushed_view : Option (Bool × Bor (List ℕ)) → List (Span VersionValue) → Option (Bool × List ℕ) × List (Span VersionValue)
+hyphen_pushed_view None list = (None, list)
+hyphen_pushed_view (Some read) list = (Some (read.0, read.1.now), list)
 
 -- an interval that may be absent, and the text behind it
 abbrev pub next_view : Option (Span VersionValue) → Bor (List ℕ) → Option (Span VersionValue) × List ℕ

@@ -51,7 +51,9 @@ fn read(alloc: Global, text: &str, found: &mut Intervals<Version>) -> Result<(),
     ensures { OnOk result (found.new.items ≡ denotes MAX_SAFE_INTEGER text.now) }
 {
     if !read_common(alloc, text.as_bytes(), found)? {
-        found.clear();
+        if !found.is_empty() {
+            found.clear();
+        }
         read_any(alloc, text, found)?;
     }
     Ok(())

@@ -16,7 +16,7 @@ use crate::Range;
 use crate::range::Intervals;
 use crate::readers::intervals::{between, push, push_between, push_ordered};
 use crate::readers::syntax::{BareVersion, Bounds, Partial};
-use crate::readers::{partial, table, words};
+use crate::readers::{intervals, partial, table, words};
 use semver_core::cuts::{Bound, Interval};
 use semver_core::{MAX_SAFE_INTEGER, Version};
 use smallvec::SmallVec;
@@ -79,14 +79,18 @@ fn bare_minor(major: Option<u64>, text: &[u8]) -> (Partial<'_>, &[u8])
     }
 }
 
-// The partial at the front. Neither `v` nor whitespace is skipped before it, and no build is read.
+// The partial at the front. Neither `v` nor whitespace is skipped before it. A partial that a build
+// follows is none of a common text.
 #[inline(always)]
 #[tactic(auto, unfolding(crate::specs::Internal::CommonFronts::bare_front))]
 fn bare_front(text: &[u8]) -> Option<(Partial<'_>, &[u8])>
     ensures { partial_front_view result ≡ Spec.bare_front MAX_SAFE_INTEGER text.now }
 {
     let (major, rest) = partial::component_front(text)?;
-    Some(bare_minor(major, rest))
+    match bare_minor(major, rest) {
+        (_, [b'+', ..]) => None,
+        read => Some(read),
+    }
 }
 
 // The bounds of a comparator and a partial.
@@ -272,8 +276,7 @@ fn push_hyphen<'a>(
     let Some((upper, rest)) = bare_front(text) else {
         return Ok(None);
     };
-    let bounds = table::hyphen(&lower, &upper);
-    let there = push_between(alloc, bounds.lower, bounds.upper, found)?;
+    let there = intervals::push_hyphen(alloc, lower, upper, found)?;
     Ok(behind_part(there, rest))
 }
 

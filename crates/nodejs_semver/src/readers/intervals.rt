@@ -2,14 +2,17 @@
 // while words are read.
 
 ghost use Rattle.std.specs.Option.{option_to_list};
-ghost use Rattle.std.specs.Prelude.{◌≡◌, ◌<◌, ◌++◌, ◌∷◌, [], List, IfOk, OnOk, length, true};
+ghost use Rattle.std.specs.Prelude.{◌≡◌, ◌<◌, ◌++◌, ◌∷◌, [], List, Option, IfOk, OnOk, is_some, length, true};
 ghost use Rattle.nodejs_semver.specs.Text.Denotes.{part_bounds, part_intervals};
 ghost use Rattle.nodejs_semver.specs.Internal.CommonFronts.{pushed};
 ghost use Rattle.nodejs_semver.specs.Internal.CommonViews.{between_view, both_view};
 ghost use Rattle.nodejs_semver.specs.Internal.Fronts.{is_listed, list_of};
 ghost use Rattle.nodejs_semver.specs.Internal.Meets.{joined_from, next_at};
 ghost use Rattle.nodejs_semver.specs.Internal.PreReleases.{pre_release_view};
-ghost use Rattle.nodejs_semver.specs.Internal.Readings.{bare_view, bound_view, bounds_view, next_view, word_view};
+ghost use Rattle.nodejs_semver.specs.Internal.Readings.{bare_view, bound_view, bounds_view, hyphen_pushed_view, next_view, partial_view, sign_view, word_pushed_view};
+ghost use Rattle.nodejs_semver.specs.Internal.Signs.{hyphen_pushed, signed_word, upper_behind, upper_of, word_pushed};
+ghost use Rattle.nodejs_semver.specs.Internal.Words.{word_at};
+ghost use Rattle.nodejs_semver.specs.Text.WordText.{hyphen};
 ghost use Rattle.nodejs_semver.specs.Text.Table.{table};
 ghost use Rattle.semver_core.specs.Internal.Spaces.{space_len};
 ghost use Rattle.semver_core.specs.Cuts.{Span, interval, is_interval};
@@ -19,7 +22,7 @@ ghost use Rattle.semver_core.specs.Values.Views.{ids_view};
 ghost use Rattle.semver_core.specs.declared.TheConstants.{MAX_SAFE_INTEGER};
 
 use crate::range::Intervals;
-use crate::readers::syntax::{BareVersion, Bounds, PreRelease, Word};
+use crate::readers::syntax::{BareVersion, Bounds, Partial, PreRelease, Sign};
 use crate::readers::{table, words};
 use semver_core::cuts::{Bound, Interval};
 use semver_core::{Identifier, Version, scan};
@@ -113,17 +116,6 @@ pub(crate) fn bound(
     })
 }
 
-// The interval of two bounds that are in order.
-#[inline(always)]
-fn ordered(alloc: Global, bounds: Bounds<'_>) -> Result<Interval<Version>, AllocError>
-    requires { is_interval precedence (bounds_view bounds) ≡ true }
-    ensures { IfOk result (λ found. found ≡ bounds_view bounds.entry) }
-{
-    let lower = bound(alloc, bounds.lower)?;
-    let upper = bound(alloc, bounds.upper)?;
-    Ok(Interval::of_ordered(lower, upper))
-}
-
 /// The interval of two bounds, where the lower cut is below the upper one.
 pub(crate) fn between(
     alloc: Global,
@@ -136,7 +128,7 @@ pub(crate) fn between(
     Ok(Interval::new(lower, upper))
 }
 
-/// Adds an interval at the end of a list.
+/// Adds an interval at the end of a list. A list that outgrows its place mostly has more than two.
 #[inline(always)]
 pub(crate) fn push(
     interval: Interval<Version>,
@@ -145,7 +137,7 @@ pub(crate) fn push(
     ensures { OnOk result (found.new.items ≡ found.old.items ++ interval ∷ []) }
 {
     if found.len() == found.capacity() {
-        found.reserve(1)?;
+        found.reserve(3)?;
     }
     found.push_reserved(interval);
     Ok(())
@@ -161,7 +153,9 @@ pub(crate) fn push_ordered(
     requires { is_interval precedence (bounds_view bounds) ≡ true }
     ensures { OnOk result (found.new.items ≡ found.old.items ++ bounds_view bounds.entry ∷ []) }
 {
-    push(ordered(alloc, bounds)?, found)
+    let lower = bound(alloc, bounds.lower)?;
+    let upper = bound(alloc, bounds.upper)?;
+    push(Interval::of_ordered(lower, upper), found)
 }
 
 /// Adds the interval of two bounds, where the lower cut is below the upper one, and returns whether
@@ -186,67 +180,148 @@ pub(crate) fn push_between(
     Ok(true)
 }
 
-// The interval of a word, where it has one. The bounds of a hyphen word alone may be out of order.
-#[inline(always)]
-#[tactic(auto, unfolding(crate::specs::Text::Table::table), using(crate::proofs::Bounds::TableReadings::settled))]
-fn interval_of(alloc: Global, word: Word<'_>) -> Result<Option<Interval<Version>>, AllocError>
-    ensures { IfOk result (λ found. found ≡ table MAX_SAFE_INTEGER (word_view word.entry)) }
-{
-    match word {
-        Word::Hyphen(lower, upper) => between(alloc, table::hyphen(&lower, &upper)),
-        Word::Signed(sign, partial) => match table::signed(sign, &partial) {
-            Some(bounds) => Ok(Some(ordered(alloc, bounds)?)),
-            None => Ok(None),
-        },
-        Word::Malformed => Ok(None),
-    }
-}
-
-// Adds the interval of a word, where it has one.
-#[inline(always)]
-#[tactic(auto, unfolding(crate::specs::Text::Table::table), using(crate::proofs::Bounds::TableReadings::settled))]
-fn push_word(
-    alloc: Global,
-    word: Word<'_>,
-    found: &mut Intervals<Version>,
-) -> Result<(), AllocError>
-    ensures { OnOk result (found.new.items ≡ found.old.items
-        ++ option_to_list (table MAX_SAFE_INTEGER (word_view word.entry))) }
-{
-    match word {
-        Word::Hyphen(lower, upper) => {
-            let bounds = table::hyphen(&lower, &upper);
-            push_between(alloc, bounds.lower, bounds.upper, found)?;
-            Ok(())
-        }
-        Word::Signed(sign, partial) => match table::signed(sign, &partial) {
-            Some(bounds) => push_ordered(alloc, bounds, found),
-            None => Ok(()),
-        },
-        Word::Malformed => Ok(()),
-    }
-}
-
-// The word at the front, and the text behind it and its whitespace.
-#[inline(always)]
-fn next_word(text: &[u8]) -> (Word<'_>, &[u8])
-    ensures { next_view (table MAX_SAFE_INTEGER (word_view result.0)) result.1
-        ≡ next_at MAX_SAFE_INTEGER text.now }
-{
-    let (word, rest) = words::word_front(text);
-    (word, scan::skip_spaces(rest))
-}
-
-// The same of the interval of that word, where it has one.
+/// Adds the interval of a hyphen word, and returns whether it has one.
 #[inline(never)]
-fn next_interval(
+pub(crate) fn push_hyphen(
     alloc: Global,
-    text: &[u8],
-) -> Result<(Option<Interval<Version>>, &[u8]), AllocError>
-    ensures { IfOk result (λ found. next_view found.0 found.1 ≡ next_at MAX_SAFE_INTEGER text.now) }
+    lower: Partial<'_>,
+    upper: Partial<'_>,
+    found: &mut Intervals<Version>,
+) -> Result<bool, AllocError>
+    ensures { let w = hyphen (partial_view lower.entry) (partial_view upper.entry) in
+        IfOk result (λ there. both_view there found.new.items
+        ≡ pushed found.old.items (table MAX_SAFE_INTEGER w)) }
 {
-    let (word, rest) = next_word(text);
-    Ok((interval_of(alloc, word)?, rest))
+    let bounds = table::hyphen(&lower, &upper);
+    push_between(alloc, bounds.lower, bounds.upper, found)
+}
+
+// Adds the interval of the hyphen word of a partial and the text behind it, where they make one.
+// Returns whether the word has an interval, and the text behind the word.
+#[inline(never)]
+fn push_hyphen_behind<'a>(
+    alloc: Global,
+    lower: Partial<'_>,
+    text: &'a [u8],
+    found: &mut Intervals<Version>,
+) -> Result<Option<(bool, &'a [u8])>, AllocError>
+    ensures { let upper = upper_behind MAX_SAFE_INTEGER text.now in
+        IfOk result (λ read. hyphen_pushed_view read found.new.items
+        ≡ hyphen_pushed MAX_SAFE_INTEGER found.old.items (partial_view lower.entry) upper) }
+{
+    let Some((upper, rest)) = words::upper_behind(text) else {
+        return Ok(None);
+    };
+    let there = push_hyphen(alloc, lower, upper, found)?;
+    Ok(Some((there, rest)))
+}
+
+// The same of a partial that has a sign or none. Mostly the part ends behind it.
+#[inline(always)]
+fn push_upper<'a>(
+    alloc: Global,
+    sign: Sign,
+    lower: Partial<'_>,
+    rest: &'a [u8],
+    found: &mut Intervals<Version>,
+) -> Result<Option<(bool, &'a [u8])>, AllocError>
+    ensures { let upper = upper_of MAX_SAFE_INTEGER (sign_view sign) rest.now in
+        IfOk result (λ read. hyphen_pushed_view read found.new.items
+        ≡ hyphen_pushed MAX_SAFE_INTEGER found.old.items (partial_view lower.entry) upper) }
+{
+    match (sign, rest) {
+        (_, []) => Ok(None),
+        (Sign::Nothing, _) => push_hyphen_behind(alloc, lower, rest, found),
+        (Sign::Comparator(_) | Sign::Tilde(_) | Sign::Caret, _) => Ok(None),
+    }
+}
+
+// Adds the interval of a word of one partial, and returns whether it has one.
+#[inline(always)]
+#[tactic(auto, using(crate::proofs::Bounds::TableReadings::settled))]
+fn push_signed(
+    alloc: Global,
+    sign: Sign,
+    partial: Partial<'_>,
+    found: &mut Intervals<Version>,
+) -> Result<bool, AllocError>
+    ensures { let w = signed_word (sign_view sign) (partial_view partial.entry) in
+        IfOk result (λ there. both_view there found.new.items
+        ≡ pushed found.old.items (table MAX_SAFE_INTEGER w)) }
+{
+    match table::signed(sign, &partial) {
+        Some(bounds) => {
+            push_ordered(alloc, bounds, found)?;
+            Ok(true)
+        }
+        None => Ok(false),
+    }
+}
+
+// Adds the interval of the word at the front. Returns whether it has one, and the text behind the
+// word.
+#[inline(always)]
+fn push_word<'a>(
+    alloc: Global,
+    text: &'a [u8],
+    found: &mut Intervals<Version>,
+) -> Result<(bool, &'a [u8]), AllocError>
+    ensures { let w = word_at MAX_SAFE_INTEGER text.now in
+        IfOk result (λ read. word_pushed_view read found.new.items
+        ≡ word_pushed MAX_SAFE_INTEGER found.old.items w) }
+{
+    let (sign, rest) = words::sign_front(text);
+    let Some((partial, rest)) = words::longest_partial(rest) else {
+        return Ok((false, words::skip_to_boundary(text)));
+    };
+    if let Some(read) = push_upper(alloc, sign, partial, rest, found)? {
+        return Ok(read);
+    }
+    if !words::is_boundary(rest) {
+        return Ok((false, words::skip_to_boundary(text)));
+    }
+    let there = push_signed(alloc, sign, partial, found)?;
+    Ok((there, rest))
+}
+
+// The same, and the text behind the word and its whitespace.
+fn push_next<'a>(
+    alloc: Global,
+    text: &'a [u8],
+    found: &mut Intervals<Version>,
+) -> Result<(bool, &'a [u8]), AllocError>
+    ensures there { IfOk result (λ read. read.0 ≡ is_some (next_at MAX_SAFE_INTEGER text.now).0) }
+    ensures rest { IfOk result (λ read. read.1.now ≡ (next_at MAX_SAFE_INTEGER text.now).1) }
+    ensures found { OnOk result (found.new.items
+        ≡ found.old.items ++ option_to_list (next_at MAX_SAFE_INTEGER text.now).0) }
+{
+    let (there, rest) = push_word(alloc, text, found)?;
+    Ok((there, scan::skip_spaces(rest)))
+}
+
+// Takes back the interval that was added last, where one was.
+#[inline(always)]
+fn taken(there: bool, found: &mut Intervals<Version>) -> Option<Interval<Version>>
+    ensures { (front : List (Span VersionValue)) → (added : Option (Span VersionValue)) →
+        there ≡ is_some added → found.old.items ≡ front ++ option_to_list added →
+        (result ≡ added) × (found.new.items ≡ front) }
+{
+    if there { found.pop() } else { None }
+}
+
+// The interval of the word at the front, where it has one, and the text behind the word and its
+// whitespace. The list has room for it for a while.
+#[inline(never)]
+fn next_interval<'a>(
+    alloc: Global,
+    text: &'a [u8],
+    found: &mut Intervals<Version>,
+) -> Result<(Option<Interval<Version>>, &'a [u8]), AllocError>
+    ensures value { IfOk result (λ r. next_view r.0 r.1 ≡ next_at MAX_SAFE_INTEGER text.now) }
+    ensures kept { OnOk result (found.new.items ≡ found.old.items) }
+{
+    let (there, rest) = push_next(alloc, text, found)?;
+    Ok((taken(there, found), rest))
 }
 
 // The running interval with one more: the intersection of both, or the next one alone, and then the
@@ -283,11 +358,11 @@ pub(crate) fn read_part(
 {
     let mut rest = part;
     'words: loop {
-        let (word, after) = next_word(rest);
+        let (there, after) = push_next(alloc, rest, found)?;
         if after.is_empty() {
-            return push_word(alloc, word, found);
+            return Ok(());
         }
-        if let Some(first) = interval_of(alloc, word)? {
+        if let Some(first) = taken(there, found) {
             return read_words(alloc, first, after, found);
         }
         rest = after;
@@ -309,7 +384,7 @@ fn read_words(
     let mut running = first;
     let mut rest = text;
     'words: while !rest.is_empty() {
-        let (next, after) = next_interval(alloc, rest)?;
+        let (next, after) = next_interval(alloc, rest, found)?;
         rest = after;
         if let Some(next) = next {
             running = join(running, next, found)?;

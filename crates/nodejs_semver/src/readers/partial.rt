@@ -85,9 +85,24 @@ fn split_list(text: &[u8]) -> (&[u8], &[u8])
     text.split_at(list_len(text))
 }
 
-// The text of the pre-release at the front, and what stands behind it.
-#[tactic(auto, unfolding(crate::specs::Internal::Fronts::pre_release_front), using(crate::proofs::Reading::IdentifierLists::listed_nil))]
+/// The text of the pre-release at the front, and what stands behind it. Mostly there is none.
+#[inline(always)]
+#[tactic(auto, unfolding(crate::specs::Internal::Fronts::pre_release_front, crate::specs::Internal::Fronts::list_len), using(crate::proofs::Reading::IdentifierLists::listed_nil))]
 pub(crate) fn pre_release_front(text: &[u8]) -> (&[u8], &[u8])
+    ensures listed { Spec.is_listed result.0.now ≡ true }
+    ensures value { pair_view result ≡ Spec.pre_release_front text.now }
+{
+    if begins_identifier(text) {
+        written_pre_release(text)
+    } else {
+        (&text[..0], text)
+    }
+}
+
+// The same of any text.
+#[inline(never)]
+#[tactic(auto, unfolding(crate::specs::Internal::Fronts::pre_release_front), using(crate::proofs::Reading::IdentifierLists::listed_nil))]
+fn written_pre_release(text: &[u8]) -> (&[u8], &[u8])
     ensures listed { Spec.is_listed result.0.now ≡ true }
     ensures value { pair_view result ≡ Spec.pre_release_front text.now }
 {
@@ -116,6 +131,7 @@ fn build_front(text: &[u8]) -> (&[u8], &[u8])
 }
 
 // The partial at the front whose major and minor components were read.
+#[inline(always)]
 #[tactic(auto, unfolding(crate::specs::Internal::Fronts::list_of, crate::specs::Internal::Fronts::is_listed))]
 fn patch_front<'a>(
     major: Option<u64>,
@@ -154,6 +170,7 @@ fn patch_front<'a>(
 }
 
 // The partial at the front whose major component was read.
+#[inline(always)]
 #[tactic(auto, unfolding(crate::specs::Internal::Fronts::list_of, crate::specs::Internal::Fronts::is_listed))]
 fn minor_front(major: Option<u64>, text: &[u8]) -> (Partial<'_>, &[u8])
     requires { ForSome major (λ n. n ≤ MAX_SAFE_INTEGER) }
@@ -188,6 +205,7 @@ fn drop_v(text: &[u8]) -> &[u8]
 }
 
 // The partial at the front, component by component.
+#[inline(always)]
 #[tactic(auto, unfolding(crate::specs::Internal::Fronts::partial_front))]
 pub(crate) fn partial_front(text: &[u8]) -> Option<(Partial<'_>, &[u8])>
     ensures { partial_front_view result ≡ Spec.partial_front MAX_SAFE_INTEGER text.now }

@@ -43,13 +43,6 @@ pub(crate) enum Sign {
     Caret,
 }
 
-#[derive(Clone, Copy)]
-pub(crate) enum Word<'a> {
-    Hyphen(Partial<'a>, Partial<'a>),
-    Signed(Sign, Partial<'a>),
-    Malformed,
-}
-
 /// The pre-release of a bound.
 #[derive(Clone, Copy)]
 pub(crate) enum PreRelease<'a> {

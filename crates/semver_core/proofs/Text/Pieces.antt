@@ -127,7 +127,7 @@ number_complete limit text at n digits rest e w =
 -- ---- identifier lists
 
 -- the pieces of a text that follows identifier characters: the first may be empty
-abbrev tail_runs : List (List ℕ) → Bool
+abbrev pub tail_runs : List (List ℕ) → Bool
 tail_runs [] = true
 tail_runs (first ∷ others) = list_all is_identifier_char first && list_all is_identifier others
 
@@ -137,20 +137,20 @@ pieces_cons c rest other = rw other refl
 run_from : (t : List ℕ) → 0 < length t → list_all is_identifier_char t ≡ true → is_identifier t ≡ true
 run_from t some each = rw (lt-ltb 0 (length t) some, each) refl
 
-onto_tail : (c : ℕ) (ps : List (List ℕ)) → is_identifier_char c ≡ true → tail_runs ps ≡ true → list_all is_identifier (onto_first c ps) ≡ true
+pub onto_tail : (c : ℕ) (ps : List (List ℕ)) → is_identifier_char c ≡ true → tail_runs ps ≡ true → list_all is_identifier (onto_first c ps) ≡ true
 onto_tail c [] h t = rw h refl
 onto_tail c (p ∷ ps) h t =
     let first = first_so (list_all is_identifier_char p) (list_all is_identifier ps) t in
     let others = second_so (list_all is_identifier_char p) (list_all is_identifier ps) t in
     rw (run_from (c ∷ p) (omega arith) (rw (h, first) refl), others) refl
 
-tail_onto : (c : ℕ) (ps : List (List ℕ)) → tail_runs (onto_first c ps) ≡ true → tail_runs ps ≡ true
+pub tail_onto : (c : ℕ) (ps : List (List ℕ)) → tail_runs (onto_first c ps) ≡ true → tail_runs ps ≡ true
 tail_onto c [] t = refl
 tail_onto c (p ∷ ps) t =
     let first = first_so (is_identifier_char c && list_all is_identifier_char p) (list_all is_identifier ps) t in
     rw (second_so (is_identifier_char c) (list_all is_identifier_char p) first, second_so (is_identifier_char c && list_all is_identifier_char p) (list_all is_identifier ps) t) refl
 
-runs_tail : (ps : List (List ℕ)) → list_all is_identifier ps ≡ true → tail_runs ps ≡ true
+pub runs_tail : (ps : List (List ℕ)) → list_all is_identifier ps ≡ true → tail_runs ps ≡ true
 runs_tail [] h = refl
 runs_tail (p ∷ ps) h =
     let first = first_so (is_identifier p) (list_all is_identifier ps) h in
@@ -230,7 +230,7 @@ list_sound text at ids end e = elim (cases_Bool (begins is_identifier_char (drop
       )
 ]
 
-first_char : (c : ℕ) (ps : List (List ℕ)) → tail_runs (onto_first c ps) ≡ true → is_identifier_char c ≡ true
+pub first_char : (c : ℕ) (ps : List (List ℕ)) → tail_runs (onto_first c ps) ≡ true → is_identifier_char c ≡ true
 first_char c [] t = first_so (is_identifier_char c) true (first_so (is_identifier_char c && true) true t)
 first_char c (p ∷ ps) t =
     first_so (is_identifier_char c) (list_all is_identifier_char p) (first_so (is_identifier_char c && list_all is_identifier_char p) (list_all is_identifier ps) t)

@@ -31,6 +31,16 @@ pub record IsIdentifiers (text : List ℕ) (list : List Id) : Type 0 where
   pub runs : list_all is_identifier (pieces text) ≡ true
   pub spelled : list ≡ map identifier_of (pieces text)
 
+-- the text is empty, or texts of identifiers joined by dots
+unfoldable pub is_listed : List ℕ → Bool
+is_listed [] = true
+is_listed (c ∷ rest) = list_all is_identifier (pieces (c ∷ rest))
+
+-- the identifiers that such a text spells
+unfoldable pub listed : List ℕ → List Id
+listed [] = []
+listed (c ∷ rest) = map identifier_of (pieces (c ∷ rest))
+
 -- an identifier list that ends here would go on with this text
 abbrev pub goes_on : List ℕ → Bool
 goes_on [] = false

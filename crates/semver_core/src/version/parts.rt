@@ -1,13 +1,14 @@
 // Versions made of parts, taken apart and copied.
 
-ghost use Rattle.std.specs.Prelude.{◌≡◌, ◌≤◌, ◌+◌, ◌^◌, ◌⊎◌, ◌∷◌, ◌++◌, [], IfOk, IfErr, OnOk, OnErr, IsOk, length, ◌<◌, vec_len, vec_capacity};
+ghost use Rattle.std.specs.Prelude.{◌≡◌, ◌≤◌, ◌+◌, ◌^◌, ◌⊎◌, ◌∷◌, ◌++◌, [], IfOk, IfErr, OnOk, OnErr, IsOk, true, length, ◌<◌, vec_len, vec_capacity};
 ghost use Rattle.semver_core.specs.Text.Identifiers as id;
+ghost use Rattle.semver_core.specs.Text.Identifiers.{is_listed, listed};
 ghost use Rattle.semver_core.specs.Values.Versions.{HasIdentifiers, release_value};
 ghost use Rattle.semver_core.specs.Values.Views.{ids_view, parts_value};
 
 use crate::cuts::Point;
 use crate::version::lists::{Identifiers, Lists, Qualifier};
-use crate::{Identifier, Version};
+use crate::{Identifier, Version, scan};
 use smallvec::SmallVec;
 use std::alloc::{AllocError, Global};
 
@@ -132,6 +133,70 @@ impl Version {
     {
         let one = Qualifier::One(Identifier::Numeric(number));
         Ok(Version::from_parts(major, minor, patch, one))
+    }
+
+    /// The version of three numbers and of the identifiers that two texts spell, joined by dots, as
+    /// `rc.1`. An empty text spells none.
+    ///
+    /// Fails only if allocation fails. Two empty texts allocate nothing, and nor does the
+    /// pre-release `0` alone.
+    #[tactic(auto, using(crate::proofs::Text::Listed::listed_none))]
+    pub fn from_texts(
+        alloc: Global,
+        major: u64,
+        minor: u64,
+        patch: u64,
+        pre_release: &[u8],
+        build: &[u8],
+    ) -> Result<Version, AllocError>
+        requires pre_release { is_listed pre_release.now ≡ true }
+        requires build { is_listed build.now ≡ true }
+        ensures whole { IfOk result (λ v. v ≡ record {
+          major = major;
+          minor = minor;
+          patch = patch;
+          pre_release = listed pre_release.now;
+          build = listed build.now;
+        }) }
+        ensures memory { OnErr result ((0 < length pre_release.now) ⊎ (0 < length build.now)) }
+    {
+        if !build.is_empty() {
+            return Version::with_texts(alloc, major, minor, patch, pre_release, build);
+        }
+        match pre_release {
+            b"" => Ok(Version::release(major, minor, patch)),
+            b"0" => {
+                let zero = Qualifier::One(Identifier::Numeric(0));
+                Ok(Version::from_parts(major, minor, patch, zero))
+            }
+            _ => Version::with_texts(alloc, major, minor, patch, pre_release, build),
+        }
+    }
+
+    // The same of texts of which one is not empty, or both.
+    fn with_texts(
+        alloc: Global,
+        major: u64,
+        minor: u64,
+        patch: u64,
+        pre_release: &[u8],
+        build: &[u8],
+    ) -> Result<Version, AllocError>
+        requires pre_release { is_listed pre_release.now ≡ true }
+        requires build { is_listed build.now ≡ true }
+        requires some { (0 < length pre_release.now) ⊎ (0 < length build.now) }
+        ensures { IfOk result (λ v. v ≡ record {
+          major = major;
+          minor = minor;
+          patch = patch;
+          pre_release = listed pre_release.now;
+          build = listed build.now;
+        }) }
+    {
+        let mut lists = Lists::boxed(alloc)?;
+        scan::read_listed(alloc, pre_release, &mut lists.pre_release)?;
+        scan::read_listed(alloc, build, &mut lists.build)?;
+        Ok(Version::from_parts(major, minor, patch, Qualifier::Lists(lists)))
     }
 
     /// The five values of the version.

@@ -1,5 +1,6 @@
 -- For proofs. What the results of reading a question's texts, and of replying to it, say.
-use Rattle.std.specs.Prelude.{◌≡◌, ℕ, List, [], Result, Ok, Err, ⊤}
+use Rattle.std.specs.Prelude.{ℕ, List, Result, Ok, Err, ⊤}
+use Rattle.std.specs.Borrow.{Bor}
 use Rattle.semver_core.specs.declared.error.Failure.{Failure}
 use Rattle.semver_core.specs.declared.error.Failure.TheVariants.{Refused, Memory}
 use Rattle.semver_lines.specs.Names.{fault_word}
@@ -14,8 +15,8 @@ IsReadAs view (Err (Memory error)) Reads = ⊤
 abbrev pub IsRead : {A : Type 0} → Result A (Failure Fault) → (Result A Fault → Type 0) → Type 0
 IsRead result Reads = IsReadAs (λ value. value) result Reads
 
--- an empty text became the reply, or stayed empty as an error is the reply, unless an allocation failed
-abbrev pub IsTold : Result ⊤ (Failure Fault) → List ℕ → (List ℕ → Type 0) → Type 0
-IsTold (Ok done) answer Reply = Reply answer
-IsTold (Err (Refused fault)) answer Reply = Reply (fault_word fault) × (answer ≡ [])
-IsTold (Err (Memory error)) answer Reply = ⊤
+-- the text or the error is the reply, unless an allocation failed
+abbrev pub IsTold : Result (Bor (List ℕ)) (Failure Fault) → (List ℕ → Type 0) → Type 0
+IsTold (Ok text) Reply = Reply text.now
+IsTold (Err (Refused fault)) Reply = Reply (fault_word fault)
+IsTold (Err (Memory error)) Reply = ⊤

@@ -1,13 +1,14 @@
-use Rattle.std.proofs.Common.{ap}
+use Rattle.std.proofs.Common.{ap, ◌∙◌}
 use Rattle.std.proofs.lemmas.Result.{err_from_is_err_and}
 use Rattle.semver_lines.specs.Names.{order_word}
-use Rattle.semver_lines.proofs.Replies.{told_fault, told_read}
+use Rattle.semver_lines.specs.Replies.{read}
+use Rattle.semver_lines.proofs.Replies.{told_fault}
 use Rattle.semver_lines.proofs.reply.cmp.Goals as goal
 
 pub returns-in_err-version : goal.returns-in_err-version
 returns-in_err-version c =
     let p = err_from_is_err_and c.from_residual.result c.from_residual.ensures.1 in
-    rw (p.1, p.2) (told_fault _ _ _ _ c.in_err-version.ensures c.requires)
+    rw (p.1, p.2) (told_fault _ _ _ c.in_err-version.ensures)
 
 pub returns : goal.returns
-returns c = told_read _ _ _ _ _ _ c.push_order.ensures c.in_ok-version.ensures (ap order_word c.cmp.ensures)
+returns c = read _ c.in_ok-version.ensures (c.order_word.ensures ∙ ap order_word c.cmp.ensures)

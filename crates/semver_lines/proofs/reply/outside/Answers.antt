@@ -1,13 +1,14 @@
-use Rattle.std.proofs.Common.{ap, rules}
+use Rattle.std.proofs.Common.{ap, rules, ◌∙◌}
 use Rattle.std.proofs.lemmas.Result.{err_from_is_err_and}
 use Rattle.semver_lines.specs.Names.{truth_word}
-use Rattle.semver_lines.proofs.Replies.{told_fault, told_read}
+use Rattle.semver_lines.specs.Replies.{read}
+use Rattle.semver_lines.proofs.Replies.{told_fault}
 use Rattle.semver_lines.proofs.reply.outside.Goals as goal
 
 pub returns-in_err-range : goal.returns-in_err-range
 returns-in_err-range c =
     let p = err_from_is_err_and c.from_residual.result c.from_residual.ensures.1 in
-    rw (p.1, p.2) (told_fault _ _ _ _ c.in_err-range.ensures c.requires)
+    rw (p.1, p.2) (told_fault _ _ _ c.in_err-range.ensures)
 
 pub returns : goal.returns
-returns c = told_read _ _ _ _ _ _ c.push_truth.ensures c.in_ok-range.ensures (ap truth_word (search rules))
+returns c = read _ c.in_ok-range.ensures (c.truth_word.ensures ∙ ap truth_word (search rules))

@@ -1,4 +1,4 @@
-use Rattle.std.proofs.Common.{◌≡◌, ◌<◌, ◌++◌, List, length, sym, ap, ◌∙◌, arith, subst, Some, None}
+use Rattle.std.proofs.Common.{◌≡◌, ◌<◌, ◌++◌, ◌∷◌, List, length, sym, ap, ◌∙◌, arith, subst, Some, None}
 use Rattle.std.specs.Prelude.{OnOk}
 use Rattle.semver_core.specs.Cuts.{Span}
 use Rattle.semver_core.specs.Values.Order.{precedence}
@@ -12,24 +12,25 @@ use Rattle.nodejs_semver.proofs.readers.intervals.read_words.Goals as goal
 pub words-smaller-in-Some : goal.words-smaller-in-Some
 words-smaller-in-Some c =
     let some : 0 < length c.words.rest.now = grind arith in
-    read-shorter MAX_SAFE_INTEGER c.words.rest.now c.in_ok-next.after.now c.in_ok-next.next some c.words.invariant.starts c.in_ok-next.ensures
+    read-shorter MAX_SAFE_INTEGER c.words.rest.now c.in_ok-next.after.now c.in_ok-next.next some c.words.invariant.starts c.in_ok-next.ensures.value
 
 pub words-smaller : goal.words-smaller
 words-smaller c =
     let some : 0 < length c.words.rest.now = grind arith in
-    read-shorter MAX_SAFE_INTEGER c.words.rest.now c.in_ok-next.after.now c.in_ok-next.next some c.words.invariant.starts c.in_ok-next.ensures
+    read-shorter MAX_SAFE_INTEGER c.words.rest.now c.in_ok-next.after.now c.in_ok-next.next some c.words.invariant.starts c.in_ok-next.ensures.value
 
 pub words-preserved-in-Some : goal.words-preserved-in-Some
 words-preserved-in-Some c =
     let rest = c.words.rest.now in
     let after = c.in_ok-next.after.now in
     let some : 0 < length rest = grind arith in
-    let read = read-is MAX_SAFE_INTEGER rest after c.in_ok-next.next (Some c.in-Some.next) (sym c.in-Some.is) c.in_ok-next.ensures in
+    let read = read-is MAX_SAFE_INTEGER rest after c.in_ok-next.next (Some c.in-Some.next) (sym c.in-Some.is) c.in_ok-next.ensures.value in
     let bounds = bounds-some MAX_SAFE_INTEGER rest after c.in-Some.next some c.words.invariant.starts read in
     record {
       whole = c.in_ok-running.ensures (part_bounds MAX_SAFE_INTEGER after)
-          ∙ (ap (λ (l : List (Span VersionValue)). c.words.found.items ++ joined_from precedence c.words.running l) (sym bounds) ∙ c.words.invariant.whole);
-      starts = read-starts MAX_SAFE_INTEGER rest after c.in_ok-next.next c.in_ok-next.ensures;
+          ∙ (ap (λ (l : List (Span VersionValue)). l ++ joined_from precedence c.words.running (c.in-Some.next ∷ part_bounds MAX_SAFE_INTEGER after)) c.in_ok-next.ensures.kept
+          ∙ (ap (λ (l : List (Span VersionValue)). c.words.found.items ++ joined_from precedence c.words.running l) (sym bounds) ∙ c.words.invariant.whole));
+      starts = read-starts MAX_SAFE_INTEGER rest after c.in_ok-next.next c.in_ok-next.ensures.value;
     }
 
 pub words-preserved : goal.words-preserved
@@ -37,11 +38,12 @@ words-preserved c =
     let rest = c.words.rest.now in
     let after = c.in_ok-next.after.now in
     let some : 0 < length rest = grind arith in
-    let read = read-is MAX_SAFE_INTEGER rest after c.in_ok-next.next None (sym c.in_default.is) c.in_ok-next.ensures in
+    let read = read-is MAX_SAFE_INTEGER rest after c.in_ok-next.next None (sym c.in_default.is) c.in_ok-next.ensures.value in
     let bounds = bounds-none MAX_SAFE_INTEGER rest after some c.words.invariant.starts read in
     record {
-      whole = ap (λ (l : List (Span VersionValue)). c.words.found.items ++ joined_from precedence c.words.running l) (sym bounds) ∙ c.words.invariant.whole;
-      starts = read-starts MAX_SAFE_INTEGER rest after c.in_ok-next.next c.in_ok-next.ensures;
+      whole = ap (λ (l : List (Span VersionValue)). l ++ joined_from precedence c.words.running (part_bounds MAX_SAFE_INTEGER after)) c.in_ok-next.ensures.kept
+          ∙ (ap (λ (l : List (Span VersionValue)). c.words.found.items ++ joined_from precedence c.words.running l) (sym bounds) ∙ c.words.invariant.whole);
+      starts = read-starts MAX_SAFE_INTEGER rest after c.in_ok-next.next c.in_ok-next.ensures.value;
     }
 
 pub returns : goal.returns
