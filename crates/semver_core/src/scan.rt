@@ -22,7 +22,7 @@ use smallvec::SmallVec;
 use std::alloc::{AllocError, Global};
 
 /// Returns the longest text at the front of some bytes, which is all of them where they are UTF-8.
-#[tactic(auto, using(crate::proofs::Text::TextFront::none_is_all, crate::proofs::Text::TextFront::text_is_all))]
+#[tactic(auto, using(crate::proofs::Text::TextFront::text_fronts))]
 pub fn text_front(bytes: &[u8]) -> &str
     ensures { IsUtf8 bytes.now → result.now ≡ bytes.now }
 {
@@ -119,7 +119,7 @@ pub fn skip_spaces(text: &[u8]) -> &[u8]
 /// character boundary. Place 0 is one by std's lemma `IsCharBoundary-start` (of
 /// `Rattle.std.proofs.lemmas.Str`): the goal of a call `skip_whitespace(text, 0)` is answered by
 /// `IsCharBoundary-start c.args.text.now c.utf8.text`.
-#[tactic(auto, using(crate::proofs::Text::Blanks::passed_none, crate::proofs::Text::Blanks::passed_more, crate::proofs::Text::Blanks::passed_room, crate::proofs::Text::Blanks::passed_stop, crate::proofs::Text::Blanks::passed_end))]
+#[tactic(auto, using(crate::proofs::Text::Blanks::passing))]
 pub fn skip_whitespace(text: &str, at: usize) -> usize
     requires { IsCharBoundary text.now at }
     ensures { IsAfterBlank text.now at result }
@@ -217,7 +217,7 @@ pub(crate) fn read_number(text: &str, at: usize) -> Option<(u64, usize)>
 }
 
 #[inline(always)]
-#[tactic(auto, using(crate::proofs::Text::Digits::digits_step, crate::proofs::Text::Digits::digits_over, crate::proofs::Text::Digits::digits_stop, crate::proofs::Text::Digits::digits_past, crate::proofs::Text::Digits::digits_placed))]
+#[tactic(auto, using(crate::proofs::Text::Digits::digits_read))]
 pub(crate) fn digits(bytes: &[u8], at: usize) -> Option<(u64, usize)>
     requires { at ≤ length bytes.now }
     ensures found { result ≡ number_at MAX_SAFE_INTEGER bytes.now at }
@@ -290,7 +290,7 @@ fn goes_on_at(text: &str, at: usize) -> bool
 // The number that digits write so far, with one byte more: none where a byte is no digit, or the
 // number does not fit.
 #[inline(always)]
-#[tactic(auto, using(crate::proofs::Text::OnePass::grown_small, crate::proofs::Text::OnePass::grown_big))]
+#[tactic(auto, using(crate::proofs::Text::OnePass::grown_either))]
 fn grown(value: u64, byte: u8) -> Option<u64>
     ensures { result ≡ grown (Some value) byte }
 {
@@ -302,7 +302,7 @@ fn grown(value: u64, byte: u8) -> Option<u64>
 
 // Where the run ends that goes on at a place.
 #[inline(always)]
-#[tactic(auto, using(crate::proofs::Text::OnePass::run_step, crate::proofs::Text::OnePass::run_stop, crate::proofs::Text::OnePass::run_past))]
+#[tactic(auto, using(crate::proofs::Text::OnePass::run_ends))]
 fn run_end(bytes: &[u8], start: usize) -> usize
     requires { start ≤ length bytes.now }
     ensures { (result, None) ≡ run_from None start (drop start bytes.now) }
@@ -317,7 +317,7 @@ fn run_end(bytes: &[u8], start: usize) -> usize
 
 // Where the run at a place ends, and the number that it writes, in one pass.
 #[inline(always)]
-#[tactic(auto, using(crate::proofs::Text::OnePass::run_step, crate::proofs::Text::OnePass::run_stop, crate::proofs::Text::OnePass::run_past))]
+#[tactic(auto, using(crate::proofs::Text::OnePass::run_ends))]
 fn scan_run(bytes: &[u8], start: usize) -> (usize, Option<u64>)
     requires { start ≤ length bytes.now }
     ensures { result ≡ run_from (Some 0) start (drop start bytes.now) }
@@ -353,7 +353,7 @@ fn run_in(text: &str, start: usize) -> (usize, Option<u64>)
 
 // The identifier at a place where a run begins, and the place behind it.
 #[inline(always)]
-#[tactic(auto, using(crate::proofs::Text::OnePass::scan_number, crate::proofs::Text::OnePass::scan_text))]
+#[tactic(auto, using(crate::proofs::Text::OnePass::scanned))]
 fn read_run(alloc: Global, text: &str, start: usize) -> Result<(Identifier, usize), AllocError>
     requires place { start ≤ length text.now }
     requires here { begins is_identifier_char (drop start text.now) ≡ true }
@@ -444,7 +444,7 @@ pub(crate) fn read_into(
 }
 
 // Fills an empty list with the identifiers that a text spells, joined by dots.
-#[tactic(auto, using(crate::proofs::Text::Listed::listed_utf8, crate::proofs::Text::Listed::listed_begins, crate::proofs::Text::Listed::listed_all, crate::proofs::Text::Listed::listed_none, crate::proofs::Text::Listed::some_listed))]
+#[tactic(auto, using(crate::proofs::Text::Listed::listed_read))]
 pub(crate) fn read_listed(
     alloc: Global,
     bytes: &[u8],

@@ -141,3 +141,5 @@ rest-less text rest h = elim (cases_lt (bars_at text) (length text)) [
   where
     inside : {t u : List ℕ} → Some t ≡ Some u → t ≡ u
     inside k = cc k
+
+pub ruleset at_bars = (bars_fit, bars_room, bars_boundary, bars_behind)

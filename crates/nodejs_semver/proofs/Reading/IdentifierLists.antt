@@ -234,3 +234,5 @@ listed_taken text = elim (cases_Bool (begins_identifier text)) [
   | inl some ↦ is_list-listed (take (list_len text) text) (list_len-is_list text some)
   | inr none ↦ rw none listed_nil
 ]
+
+pub ruleset listed_front = (list_len_fits, listed_taken)

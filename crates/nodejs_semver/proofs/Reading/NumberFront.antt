@@ -50,3 +50,5 @@ front_none limit text none = elim (option-cases (number_of limit (take_while is_
       let is : IsWholeNumber limit run rest n.0 = record { number = number; ended = run-stops text } in
       absurd (none n.0 run rest (sym (take_while-drop is_ascii_digit text)) is)
 ]
+
+pub ruleset number_fronts = (front_some, front_none, front_small)

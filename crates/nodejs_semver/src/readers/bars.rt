@@ -32,7 +32,7 @@ fn bars_at(text: &[u8]) -> usize
 }
 
 // The text before the first `||`, and the text behind it, where it is there.
-#[tactic(auto, using(crate::proofs::Dividing::BarLemmas::bars_fit, crate::proofs::Dividing::BarLemmas::bars_room, crate::proofs::Dividing::BarLemmas::bars_boundary, crate::proofs::Dividing::BarLemmas::bars_behind))]
+#[tactic(auto, using(crate::proofs::Dividing::BarLemmas::at_bars))]
 fn cut_part(text: &str) -> (&str, Option<&str>)
     ensures { part_view result ≡ Spec.front_part text.now }
 {

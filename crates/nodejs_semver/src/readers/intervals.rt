@@ -34,7 +34,14 @@ fn version(alloc: Global, bare: BareVersion<'_>) -> Result<Version, AllocError>
     ensures { IfOk result (λ v. v ≡ bare_view bare.entry) }
 {
     let (pre_release, build) = (bare.pre_release, bare.build);
-    Version::from_texts(alloc, bare.major, bare.minor, bare.patch, pre_release, build)
+    Version::from_texts(
+        alloc,
+        bare.major,
+        bare.minor,
+        bare.patch,
+        pre_release,
+        build,
+    )
 }
 
 /// The bound with a version of its own.

@@ -23,7 +23,7 @@ fn begins_wildcard(text: &[u8]) -> bool
 
 // The number at the front, a whole run of digits, and the text behind it.
 #[inline(always)]
-#[tactic(auto, using(crate::proofs::Reading::NumberFront::front_some, crate::proofs::Reading::NumberFront::front_none, crate::proofs::Reading::NumberFront::front_small))]
+#[tactic(auto, using(crate::proofs::Reading::NumberFront::number_fronts))]
 fn number_front(text: &[u8]) -> Option<(u64, &[u8])>
     ensures value { front_view result ≡ Spec.number_front MAX_SAFE_INTEGER text.now }
     ensures small { IfSome result (λ found. found.0 ≤ MAX_SAFE_INTEGER) }
@@ -76,7 +76,7 @@ fn list_len(text: &[u8]) -> usize
 }
 
 // The identifiers at the front, and what stands behind them.
-#[tactic(auto, using(crate::proofs::Reading::IdentifierLists::list_len_fits, crate::proofs::Reading::IdentifierLists::listed_taken))]
+#[tactic(auto, using(crate::proofs::Reading::IdentifierLists::listed_front))]
 fn split_list(text: &[u8]) -> (&[u8], &[u8])
     ensures front { result.0.now ≡ take (Spec.list_len text.now) text.now }
     ensures listed { is_listed result.0.now ≡ true }

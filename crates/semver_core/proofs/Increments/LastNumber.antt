@@ -171,3 +171,7 @@ value_run {E} ds (Err e) h d some = not_less (digits_value 10 ds) (2 ^ 64) (λ s
 -- a list with a last number goes on by raising it
 pub advance_raises : (list : List Id) (id : List ℕ) (base : IdentifierBase) (i n : ℕ) → IsLastNumber list i n → advance list id base ≡ raise_last list
 advance_raises list id base i n last = by_raise list id base (number_there list i n last)
+
+pub ruleset tracked = (tracks_number, tracks_text, tracks_whole)
+
+pub ruleset printed_list = (text_so_far, text_whole)

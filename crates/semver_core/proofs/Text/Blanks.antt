@@ -70,3 +70,5 @@ passed_end text at end rest passed p none = record {
   ended = λ b. let some = len_utf8_bounds b.character in
       absurd (omega (arith, none, ap length (p.rest_is ∙ b.spelled), length-append (encode_utf8 b.character) b.rest, length-encode b.character, some.0));
 }
+
+pub ruleset passing = (passed_none, passed_more, passed_room, passed_stop, passed_end)

@@ -41,3 +41,5 @@ digits_past limit v k xs i le = rw (drop_all i xs le) refl
 
 pub digits_placed : (v at i : ℕ) → at ≤ i → placed at (digits_end v (i - at)) ≡ (if i == at then None else Some (v, i))
 digits_placed v at i le = grind (arith, nat_tests)
+
+pub ruleset digits_read = (digits_step, digits_over, digits_stop, digits_past, digits_placed)

@@ -118,3 +118,9 @@ scan_number run v e = sym (id_spelled run) ∙ ap (λ n. id_by n run) (sym e)
 
 pub scan_text : (run : List ℕ) → None ≡ number_of_run (Some 0) run → identifier_of run ≡ AlphaNumeric run
 scan_text run e = sym (id_spelled run) ∙ ap (λ n. id_by n run) (sym e)
+
+pub ruleset grown_either = (grown_small, grown_big)
+
+pub ruleset run_ends = (run_step, run_stop, run_past)
+
+pub ruleset scanned = (scan_number, scan_text)

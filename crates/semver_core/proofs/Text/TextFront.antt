@@ -16,3 +16,5 @@ text_is_all bytes valid invalid rest parts size u =
     let all = utf8_valid_len-IsUtf8 bytes u in
     let left : length (invalid ++ rest) ≡ 0 = omega (arith, ap length parts, length-append valid (invalid ++ rest), size, all) in
     sym (append-nil valid) ∙ ap (λ t. valid ++ t) (nothing (invalid ++ rest) left) ∙ sym parts
+
+pub ruleset text_fronts = (none_is_all, text_is_all)

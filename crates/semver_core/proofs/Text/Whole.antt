@@ -204,3 +204,9 @@ not_qualifier limit text major minor patch at e lt h =
   where
     no_build_byte : (c : ℕ) (r : List ℕ) → (c == 43) ≡ false → begins_build (c ∷ r) ≡ false
     no_build_byte c r h = rw h refl
+
+pub ruleset lists_behind = (lists_found, lists_left)
+
+pub ruleset read_whole = (not_qualifier, release_found, common_is, common_not, memory_at)
+
+pub ruleset read_common = (common_some, common_none, common_memory)

@@ -66,7 +66,7 @@ fn first_number(base: IdentifierBase) -> u64
 }
 
 // The place of the last number of a list, and that number.
-#[tactic(auto, using(crate::proofs::Increments::LastNumber::tracks_number, crate::proofs::Increments::LastNumber::tracks_text, crate::proofs::Increments::LastNumber::tracks_whole))]
+#[tactic(auto, using(crate::proofs::Increments::LastNumber::tracked))]
 fn last_number(list: &[Identifier]) -> Option<(usize, u64)>
     ensures { Tracks (ids_view list.now) result }
 {
@@ -152,7 +152,7 @@ fn is_printed(alloc: Global, list: &[Identifier], id: &str) -> Result<bool, Allo
 }
 
 // A list printed, its identifiers joined by dots.
-#[tactic(auto, using(crate::proofs::Increments::LastNumber::text_so_far, crate::proofs::Increments::LastNumber::text_whole))]
+#[tactic(auto, using(crate::proofs::Increments::LastNumber::printed_list))]
 fn list_text(alloc: Global, list: &[Identifier]) -> Result<String, AllocError>
     ensures { IfOk result (λ t. string_bytes t ≡ spec.list_text (ids_view list.now)) }
 {

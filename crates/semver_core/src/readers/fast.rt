@@ -76,7 +76,7 @@ pub(crate) fn numbers(text: &str) -> Option<(u64, u64, u64, usize)>
 
 // The version of three numbers and the qualifier that goes from a place to the end of the text.
 #[inline(never)]
-#[tactic(auto, using(crate::proofs::Text::Whole::lists_found, crate::proofs::Text::Whole::lists_left))]
+#[tactic(auto, using(crate::proofs::Text::Whole::lists_behind))]
 fn qualified(
     alloc: Global,
     text: &str,
@@ -107,7 +107,7 @@ fn begins_qualifier(bytes: &[u8], at: usize) -> bool
 
 // The same as a function of the text.
 #[inline(always)]
-#[tactic(auto, using(crate::proofs::Text::Whole::not_qualifier, crate::proofs::Text::Whole::release_found, crate::proofs::Text::Whole::common_is, crate::proofs::Text::Whole::common_not, crate::proofs::Text::Whole::memory_at))]
+#[tactic(auto, using(crate::proofs::Text::Whole::read_whole))]
 fn read(alloc: Global, text: &str) -> Result<Option<Version>, AllocError>
     ensures found { IfOk result (λ found. found ≡ common_of MAX_SAFE_INTEGER text.now) }
     ensures memory { OnErr result
@@ -136,7 +136,7 @@ fn read(alloc: Global, text: &str) -> Result<Option<Version>, AllocError>
 /// Fails only if allocation fails, which happens only where the version at the front of the text
 /// has a pre-release or build metadata.
 #[inline(always)]
-#[tactic(auto, using(crate::proofs::Text::Whole::common_some, crate::proofs::Text::Whole::common_none, crate::proofs::Text::Whole::common_memory))]
+#[tactic(auto, using(crate::proofs::Text::Whole::read_common))]
 pub fn version_fast(alloc: Global, text: &str) -> Result<Option<Version>, AllocError>
     // The version is the one that the whole text is.
     ensures some { IfOk result (λ found. IfSome found (λ v. IsCommon MAX_SAFE_INTEGER text.now v)) }
