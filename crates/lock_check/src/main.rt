@@ -2,9 +2,10 @@
 //! dependency whose locked version its range rejects. It takes no arguments. It exits with 0 if
 //! every dependency is satisfied, absent by leave or skipped, and with 1 otherwise.
 //!
-//! It finds what `npm ls --package-lock-only --all` finds, except that it knows neither
+//! It is meant to find what `npm ls --package-lock-only --all` finds, except that it knows neither
 //! `overrides`, which a lock file does not hold, nor `acceptDependencies`, and that it skips range
-//! texts which are not version ranges, and links.
+//! texts which are not version ranges, and links. `tools/lock_check --npm` compares the two; that
+//! is no part of the tests.
 #![tactic(auto)]
 
 mod check;

@@ -1,14 +1,14 @@
 -- For proofs and private contracts. What stands at the front of a text, read from the left: a number, a component, a
 -- qualifier, a partial.
-use Rattle.std.specs.Prelude.{true, ℕ, suc, ◌==◌, ◌&&◌, Bool, List, [], ◌∷◌, map, take, drop, Option, Some, None, if◌then◌else◌, take_while}
+use Rattle.std.specs.Prelude.{ℕ, suc, ◌==◌, ◌&&◌, Bool, List, [], ◌∷◌, take, drop, Option, Some, None, if◌then◌else◌, take_while}
 use Rattle.std.specs.Char.{is_ascii_digit}
-use Rattle.std.specs.List.{list_all, prefix_len}
+use Rattle.std.specs.List.{prefix_len}
 use Rattle.std.specs.Borrow.{Bor}
 use Rattle.nodejs_semver.specs.Internal.Partials.{number_of, drop_v}
 use Rattle.semver_core.specs.Internal.Reading.{◌>>?◌}
 use Rattle.nodejs_semver.specs.Text.PartialText.{Partial, is_wildcard}
 use Rattle.semver_core.specs.Internal.Spaces.{drop_spaces}
-use Rattle.semver_core.specs.Text.Identifiers.{Id, identifier_of, goes_on, pieces, is_identifier, listed}
+use Rattle.semver_core.specs.Text.Identifiers.{goes_on, listed}
 use Rattle.semver_core.specs.Text.Characters.{is_identifier_char, begins}
 use Rattle.nodejs_semver.specs.Internal.Words.{after_byte}
 

@@ -4,7 +4,6 @@ use denote.Ref.{Bor}
 use Rattle.std.specs.Option.{option_copied}
 use Rattle.semver_core.specs.Increments.Table as spec
 use Rattle.semver_core.specs.Increments.Table.{Fault}
-use Rattle.semver_core.specs.Values.Versions.{VersionValue}
 use Rattle.semver_core.specs.declared.error.Failure.{Failure}
 use Rattle.semver_core.specs.declared.error.Failure.TheVariants.{Refused, Memory}
 use Rattle.semver_core.specs.declared.increment.IncrementError.{IncrementError}

@@ -1,4 +1,4 @@
-use Rattle.std.proofs.Common.{◌≡◌, sym, ◌∙◌, not, false, true, is_some, rules}
+use Rattle.std.proofs.Common.{◌≡◌, sym, ◌∙◌, true, rules}
 use Rattle.semver_core.specs.Cuts.{is_interval, greater_lower, lesser_upper}
 use Rattle.semver_core.proofs.CutLaws.{none-hold, clip-holds, clip-ordered}
 use Rattle.semver_core.proofs.cuts.interval.Interval.clip.Goals as goal

@@ -1,4 +1,4 @@
-use Rattle.std.proofs.Common.{◌≡◌, sym, ◌∙◌, not, false, rules}
+use Rattle.std.proofs.Common.{◌≡◌, sym, ◌∙◌, rules}
 use Rattle.semver_core.specs.Cuts.{greater_lower, lesser_upper}
 use Rattle.semver_core.proofs.CutLaws.{none-hold, meet-holds}
 use Rattle.semver_core.proofs.cuts.interval.Interval.intersect.Goals as goal

@@ -1,5 +1,5 @@
-use Rattle.std.proofs.Common.{◌≡◌, ◌&&◌, sym, ◌∙◌, ap, true, rules}
-use Rattle.semver_core.specs.Cuts.{is_interval, cut_cmp, lower_cut, upper_cut}
+use Rattle.std.proofs.Common.{◌≡◌, true, rules}
+use Rattle.semver_core.specs.Cuts.{is_interval}
 use Rattle.semver_core.proofs.CutLaws.{meets_both}
 use Rattle.semver_core.proofs.cuts.interval.Interval.meets.Goals as goal
 
