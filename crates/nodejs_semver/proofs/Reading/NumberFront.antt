@@ -1,16 +1,17 @@
 -- The number at the front of a text, read in one pass.
-use Rattle.std.proofs.Common.{◌≡◌, ◌≤◌, ◌⊎◌, ℕ, List, length, take, drop, refl, sym, ap, ◌∙◌, Some, None, inl, inr}
+use Rattle.std.proofs.Common.{◌≡◌, ◌≤◌, ◌⊎◌, ℕ, List, length, take, drop, refl, sym, ap, ◌∙◌, Some, None, [], ◌∷◌, inl, inr, true}
 use Rattle.std.specs.Prelude.{Option}
 use Rattle.std.specs.Char.{is_ascii_digit}
 use Rattle.std.specs.List.{prefix_len, take_while}
+use Rattle.std.proofs.lemmas.Bool.{cases_Bool}
 use Rattle.std.proofs.lemmas.List.{take_at, drop_at}
 use Rattle.semver_core.specs.Text.Numbers.{IsNumber, IsWholeNumber}
 use Rattle.semver_core.specs.Text.Characters.{IsPieceAt, NoPieceAt}
-use Rattle.nodejs_semver.specs.Internal.Fronts.{number_front}
+use Rattle.nodejs_semver.specs.Internal.Fronts.{begins_wildcard, component_front, number_front}
 use Rattle.nodejs_semver.specs.Internal.Partials.{number_of}
 use Rattle.nodejs_semver.proofs.Reading.DigitValues.{number_front-is}
 use Rattle.nodejs_semver.proofs.Reading.NumberLaw.{number-is, number-of}
-use Rattle.nodejs_semver.proofs.Reading.Pieces.{digits-taken}
+use Rattle.nodejs_semver.proofs.Reading.Pieces.{digits-taken, wildcard-no_digit}
 use Rattle.nodejs_semver.proofs.Reading.Reaches.{run-stops, take_while-drop}
 
 option-cases : {A : Type 0} (o : Option A) → (o ≡ None) ⊎ (x : A) × (o ≡ Some x)
@@ -49,6 +50,21 @@ front_none limit text none = elim (option-cases (number_of limit (take_while is_
       let number : IsNumber limit run n.0 = number-is limit run n.0 n.1 in
       let is : IsWholeNumber limit run rest n.0 = record { number = number; ended = run-stops text } in
       absurd (none n.0 run rest (sym (take_while-drop is_ascii_digit text)) is)
+]
+
+-- where a wildcard begins, no number does
+no_number : (limit : ℕ) (text : List ℕ) → begins_wildcard text ≡ true → number_front limit text ≡ None
+unfolding number_of
+no_number limit [] h = cc h
+no_number limit (b ∷ rest) h = number_front-is limit (b ∷ rest) None (rw (wildcard-no_digit b h) refl)
+
+-- so a component may be looked for as a number first
+pub number_first : (limit : ℕ) (text rest : List ℕ) (n : ℕ) → number_front limit text ≡ Some (n, rest)
+    → component_front limit text ≡ Some (Some n, rest)
+unfolding component_front
+number_first limit text rest n h = elim (cases_Bool (begins_wildcard text)) [
+  | inl wild ↦ absurd (cc (sym h ∙ no_number limit text wild))
+  | inr other ↦ rw other (rw h refl)
 ]
 
 pub ruleset number_fronts = (front_some, front_none, front_small)

@@ -34,16 +34,16 @@ fn number_front(text: &[u8]) -> Option<(u64, &[u8])>
 
 // A wildcard or a number.
 #[inline(always)]
-#[tactic(auto, unfolding(crate::specs::Internal::Fronts::component_front))]
+#[tactic(auto, unfolding(crate::specs::Internal::Fronts::component_front), using(crate::proofs::Reading::NumberFront::number_first))]
 pub(crate) fn component_front(text: &[u8]) -> Option<(Option<u64>, &[u8])>
     ensures value { front_view result ≡ Spec.component_front MAX_SAFE_INTEGER text.now }
     ensures small { IfSome result (λ p. ForSome p.0 (λ n. n ≤ MAX_SAFE_INTEGER)) }
 {
-    if begins_wildcard(text) {
-        return Some((None, &text[1..]));
+    match number_front(text) {
+        Some((number, rest)) => Some((Some(number), rest)),
+        None if begins_wildcard(text) => Some((None, &text[1..])),
+        None => None,
     }
-    let (number, rest) = number_front(text)?;
-    Some((Some(number), rest))
 }
 
 // The same behind a dot.
