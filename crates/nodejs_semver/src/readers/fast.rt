@@ -344,6 +344,18 @@ fn after_bars(text: &[u8]) -> Option<&[u8]>
     }
 }
 
+// Room for the intervals of a text, at most 31 at once. A part and its bars mostly take eight bytes
+// or more.
+#[inline(always)]
+fn reserve_for(text: &[u8], found: &mut Intervals<Version>) -> Result<(), AllocError>
+    ensures { found.new.items ≡ found.old.items }
+{
+    if found.len() == found.capacity() {
+        found.reserve((text.len() / 8).min(30) + 1)?;
+    }
+    Ok(())
+}
+
 /// Adds the intervals of a common text, one for each part, to an empty list. It returns `false`
 /// exactly where the text is not a common one; then the list may hold some of them.
 #[inline(always)]
@@ -368,6 +380,7 @@ pub(crate) fn read_common(
         let Some(next) = after_bars(behind) else {
             return Ok(false);
         };
+        reserve_for(next, found)?;
         rest = next;
     }
 }

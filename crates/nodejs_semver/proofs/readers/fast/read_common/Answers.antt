@@ -29,11 +29,11 @@ parts-smaller c =
     (sym c.after_bars.ensures ∙ ap rest_view c.in-Some-after_bars.is)
 
 pub parts-preserved : goal.parts-preserved
-parts-preserved c = record {
+parts-preserved c = rw c.reserve_for.ensures (record {
   sound = loop-sound MAX_SAFE_INTEGER c.args.text.now c.parts.found.items c.push_part.new.found.items c.parts.rest.now c.in-Some.behind.now c.in-Some-after_bars.next.now
       (record { after = rest_view c.in_ok-behind.field-0; added = c.in_ok-behind.ensures; there = ap rest_view c.in-Some.is })
       (sym c.after_bars.ensures ∙ ap rest_view c.in-Some-after_bars.is) c.parts.invariant.sound;
   complete = loop-complete MAX_SAFE_INTEGER c.args.text.now c.parts.found.items c.push_part.new.found.items c.parts.rest.now c.in-Some.behind.now c.in-Some-after_bars.next.now
       (record { after = rest_view c.in_ok-behind.field-0; added = c.in_ok-behind.ensures; there = ap rest_view c.in-Some.is })
       (sym c.after_bars.ensures ∙ ap rest_view c.in-Some-after_bars.is) c.parts.invariant.complete;
-}
+})
