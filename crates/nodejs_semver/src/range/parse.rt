@@ -25,6 +25,7 @@ impl Range {
     /// number above `MAX_SAFE_INTEGER` makes its word malformed, so that `>=9007199254740991.0.0
     /// <9007199254740992.0.0-0`, which `^9007199254740991` prints, reads as
     /// `>=9007199254740991.0.0`.
+    #[inline(always)]
     pub fn parse(alloc: Global, text: &str) -> Result<Range, Failure<SemverError>>
         // The intervals are those of the text, in order and with their builds.
         ensures ok { IfOk result (λ range. range ≡ denotes MAX_SAFE_INTEGER text.now) }
@@ -46,7 +47,7 @@ impl Range {
 
 // Reads the intervals of a text into an empty list. Most texts are common ones, and of most others
 // the fast reader adds nothing to the list.
-#[inline(always)]
+#[inline(never)]
 fn read(alloc: Global, text: &str, found: &mut Intervals<Version>) -> Result<(), AllocError>
     requires { found.old.items ≡ [] }
     ensures { OnOk result (found.new.items ≡ denotes MAX_SAFE_INTEGER text.now) }
