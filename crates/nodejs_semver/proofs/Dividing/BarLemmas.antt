@@ -1,7 +1,7 @@
 -- The parts of a text, cut at its bars.
 use Rattle.semver_core.specs.Text.Characters.{begins}
 use Rattle.std.proofs.Common.{◌≡◌, ℕ, suc, ◌<◌, ◌≤◌, ◌+◌, List, [], ◌∷◌, length, drop, get_or, refl, sym, ap, ◌∙◌, arith, true, false, Some, None, inl, inr, subst, map, length-drop}
-use Rattle.std.specs.Prelude.{◌&&◌, Option, nat_lt, IsCharBoundary, IsUtf8}
+use Rattle.std.specs.Prelude.{Option, nat_lt, IsCharBoundary, IsUtf8}
 use Rattle.std.proofs.lemmas.Bool.{eqb-true, cases_Bool, cases_lt, lt-ltb, le-ltb}
 use Rattle.std.proofs.lemmas.Str.{IsCharBoundary-after_ascii, IsCharBoundary-before_ascii}
 use Rattle.std.proofs.lemmas.List.{drop_more, get_or-drop}
@@ -31,9 +31,6 @@ bars_room (b ∷ rest) h = elim (cases_Bool (begins_bars (b ∷ rest))) [
   | inl here ↦ let some = begins_bar-some rest (and-right (is_bar b) (begins is_bar rest) here) in rw here (omega arith)
   | inr other ↦ let less : suc (bars_at rest) < length (b ∷ rest) = rw other at h in let more = bars_room rest (omega arith) in rw other (omega arith)
 ]
-
-pub bars_here : (text : List ℕ) (i : ℕ) → i < length text → begins_bars (drop i text) ≡ (is_bar (get_or text i 0) && begins is_bar (drop (i + 1) text))
-bars_here text i less = rw (drop_more text i 0 less) refl
 
 pub bars_at-stop : (text : List ℕ) → begins_bars text ≡ true → bars_at text ≡ 0
 unfolding bars_at

@@ -7,7 +7,7 @@ use Rattle.std.proofs.lemmas.Bool.Decides.{nat_tests}
 use Rattle.std.proofs.lemmas.List.Splits.{slice_split-cons_yes, slice_split-cons_no}
 use Rattle.std.proofs.lemmas.List.{drop_more, drop_all}
 use Rattle.semver_core.specs.Text.Characters.{is_identifier_char}
-use Rattle.semver_core.specs.Text.Identifiers.{is_identifier, goes_on, is_listed}
+use Rattle.semver_core.specs.Text.Identifiers.{Numeric, is_identifier, goes_on, is_listed, listed}
 use Rattle.nodejs_semver.specs.Internal.Partials.{is_dot}
 use Rattle.nodejs_semver.specs.Internal.Fronts.{begins_identifier, run_on, list_len}
 
@@ -235,4 +235,19 @@ listed_taken text = elim (cases_Bool (begins_identifier text)) [
   | inr none ↦ rw none listed_nil
 ]
 
+-- the empty text, and `0`
+pub nothing_spelled : listed [] ≡ []
+unfolding listed
+nothing_spelled = refl
+
+pub zero_listed : is_listed (48 ∷ []) ≡ true
+unfolding is_listed
+zero_listed = refl
+
+pub zero_spelled : listed (48 ∷ []) ≡ Numeric 0 ∷ []
+unfolding listed
+zero_spelled = refl
+
 pub ruleset listed_front = (list_len_fits, listed_taken)
+
+pub ruleset short_lists = (listed_nil, nothing_spelled, zero_listed, zero_spelled)

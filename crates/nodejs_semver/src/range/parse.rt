@@ -53,9 +53,7 @@ fn read(alloc: Global, text: &str, found: &mut Intervals<Version>) -> Result<(),
     ensures { OnOk result (found.new.items ≡ denotes MAX_SAFE_INTEGER text.now) }
 {
     if !read_common(alloc, text.as_bytes(), found)? {
-        if !found.is_empty() {
-            found.clear();
-        }
+        found.clear();
         read_any(alloc, text, found)?;
     }
     Ok(())

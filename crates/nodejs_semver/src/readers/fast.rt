@@ -24,7 +24,7 @@ use std::alloc::{AllocError, Global};
 
 // The partial at the front whose major and minor components were read.
 #[inline(always)]
-#[tactic(auto, unfolding(semver_core::specs::Text::Identifiers::listed, semver_core::specs::Text::Identifiers::is_listed))]
+#[tactic(auto, using(crate::proofs::Reading::IdentifierLists::short_lists))]
 fn bare_patch<'a>(major: Option<u64>, minor: Option<u64>, text: &'a [u8]) -> (Partial<'a>, &'a [u8])
     requires major_small { ForSome major (λ n. n ≤ MAX_SAFE_INTEGER) }
     requires minor_small { ForSome minor (λ n. n ≤ MAX_SAFE_INTEGER) }
@@ -58,7 +58,7 @@ fn bare_patch<'a>(major: Option<u64>, minor: Option<u64>, text: &'a [u8]) -> (Pa
 
 // The partial at the front whose major component was read.
 #[inline(always)]
-#[tactic(auto, unfolding(semver_core::specs::Text::Identifiers::listed, semver_core::specs::Text::Identifiers::is_listed))]
+#[tactic(auto, using(crate::proofs::Reading::IdentifierLists::short_lists))]
 fn bare_minor(major: Option<u64>, text: &[u8]) -> (Partial<'_>, &[u8])
     requires { ForSome major (λ n. n ≤ MAX_SAFE_INTEGER) }
     ensures { partial_pair_view result

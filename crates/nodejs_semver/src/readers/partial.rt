@@ -132,7 +132,7 @@ fn build_front(text: &[u8]) -> (&[u8], &[u8])
 
 // The partial at the front whose major and minor components were read.
 #[inline(always)]
-#[tactic(auto, unfolding(semver_core::specs::Text::Identifiers::listed, semver_core::specs::Text::Identifiers::is_listed))]
+#[tactic(auto, using(crate::proofs::Reading::IdentifierLists::short_lists))]
 fn patch_front<'a>(
     major: Option<u64>,
     minor: Option<u64>,
@@ -171,7 +171,7 @@ fn patch_front<'a>(
 
 // The partial at the front whose major component was read.
 #[inline(always)]
-#[tactic(auto, unfolding(semver_core::specs::Text::Identifiers::listed, semver_core::specs::Text::Identifiers::is_listed))]
+#[tactic(auto, using(crate::proofs::Reading::IdentifierLists::short_lists))]
 fn minor_front(major: Option<u64>, text: &[u8]) -> (Partial<'_>, &[u8])
     requires { ForSome major (λ n. n ≤ MAX_SAFE_INTEGER) }
     ensures { partial_pair_view result

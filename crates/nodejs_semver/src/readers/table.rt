@@ -17,7 +17,7 @@ use semver_core::cuts::Bound;
 
 // `major.minor.patch`
 #[inline(always)]
-#[tactic(auto, unfolding(semver_core::specs::Text::Identifiers::listed, semver_core::specs::Text::Identifiers::is_listed))]
+#[tactic(auto, using(crate::proofs::Reading::IdentifierLists::short_lists))]
 fn release(major: u64, minor: u64, patch: u64) -> BareVersion<'static>
     ensures { bare_view result ≡ release_value major minor patch }
 {
@@ -32,7 +32,7 @@ fn release(major: u64, minor: u64, patch: u64) -> BareVersion<'static>
 
 // `major.minor.patch-0`
 #[inline(always)]
-#[tactic(auto, unfolding(semver_core::specs::Text::Identifiers::listed, semver_core::specs::Text::Identifiers::is_listed))]
+#[tactic(auto, using(crate::proofs::Reading::IdentifierLists::short_lists))]
 fn lowest(major: u64, minor: u64, patch: u64) -> BareVersion<'static>
     ensures { bare_view result ≡ Spec.lowest major minor patch }
 {
@@ -60,7 +60,7 @@ fn version_of<'a>(partial: &Partial<'a>) -> BareVersion<'a>
 }
 
 #[inline(always)]
-#[tactic(auto, unfolding(semver_core::specs::Text::Identifiers::listed, semver_core::specs::Text::Identifiers::is_listed))]
+#[tactic(auto, using(crate::proofs::Reading::IdentifierLists::short_lists))]
 fn without_build(version: BareVersion<'_>) -> BareVersion<'_>
     ensures { bare_view result ≡ Spec.without_build (bare_view version.entry) }
 {

@@ -7,7 +7,7 @@ use Rattle.std.proofs.lemmas.List.{drop_all}
 use Rattle.std.specs.Char.{is_ascii_digit}
 use Rattle.semver_core.specs.Internal.CommonReading.{part_at}
 use Rattle.semver_core.specs.Internal.Reading.{◌>>?◌, digits_from, digits_end, placed, number_at, past, triple_at}
-use Rattle.semver_core.proofs.Text.Digits.{digits_over, digits_stop, digits_past}
+use Rattle.semver_core.proofs.Text.Digits.{digits_over, digits_step, digits_stop, digits_past}
 
 abbrev two : ℕ → ℕ → Option (ℕ × ℕ)
 two n x = Some (n, x)
@@ -90,3 +90,5 @@ by_parts (Some a) P N = second (P a.1)
 pub triple_parts : (limit : ℕ) (text : List ℕ) (at : ℕ)
     → triple_at limit text at ≡ (part_at limit text at >>? λ a. part_at limit text a.1 >>? λ b. number_at limit text b.1 >>? λ c. four a.0 b.0 c)
 triple_parts limit text at = by_parts (number_at limit text at) (λ i. past 46 text i) (λ i. number_at limit text i)
+
+pub ruleset part_read = (digits_step, part_dot, part_bare, part_other, part_over, part_past)

@@ -25,7 +25,7 @@ fn small_len(bytes: &[u8]) -> usize
 
 // A number with a dot behind it, and the place behind the dot. Each byte is looked at once.
 #[inline(always)]
-#[tactic(auto, using(crate::proofs::Text::Digits::digits_step, crate::proofs::Text::Dotted::part_dot, crate::proofs::Text::Dotted::part_bare, crate::proofs::Text::Dotted::part_other, crate::proofs::Text::Dotted::part_over, crate::proofs::Text::Dotted::part_past))]
+#[tactic(auto, using(crate::proofs::Text::Dotted::part_read))]
 fn part(bytes: &[u8], at: usize) -> Option<(u64, usize)>
     requires { at ≤ length bytes.now }
     ensures found { result ≡ part_at MAX_SAFE_INTEGER bytes.now at }

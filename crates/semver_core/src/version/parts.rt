@@ -1,6 +1,6 @@
 // Versions made of parts, taken apart and copied.
 
-ghost use Rattle.std.specs.Prelude.{◌≡◌, ◌≤◌, ◌+◌, ◌^◌, ◌⊎◌, ◌∷◌, ◌++◌, [], IfOk, IfErr, OnOk, OnErr, IsOk, true, length, ◌<◌, vec_len, vec_capacity};
+ghost use Rattle.std.specs.Prelude.{◌≡◌, ◌≤◌, ◌+◌, ◌^◌, ◌⊎◌, ◌∷◌, ◌++◌, [], codes, IfOk, IfErr, OnOk, OnErr, IsOk, true, length, ◌<◌, vec_len, vec_capacity};
 ghost use Rattle.semver_core.specs.Text.Identifiers as id;
 ghost use Rattle.semver_core.specs.Text.Identifiers.{is_listed, listed};
 ghost use Rattle.semver_core.specs.Values.Versions.{HasIdentifiers, release_value};
@@ -160,6 +160,7 @@ impl Version {
           build = listed build.now;
         }) }
         ensures memory { OnErr result ((0 < length pre_release.now) ⊎ (0 < length build.now)) }
+        ensures zero { pre_release.now ≡ codes "0" → build.now ≡ [] → IsOk result }
     {
         if !build.is_empty() {
             return Ok(Version::with_texts(alloc, major, minor, patch, pre_release, build)?);

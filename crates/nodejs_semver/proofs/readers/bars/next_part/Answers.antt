@@ -1,12 +1,17 @@
 use Rattle.std.proofs.Common.{◌∷◌, List, ℕ, sym, ap, ◌∙◌}
 use Rattle.std.specs.Prelude.{Option}
+use Rattle.semver_core.proofs.Text.Trims.{middle_is_trim}
 use Rattle.semver_core.specs.Internal.Spaces.{trim}
 use Rattle.nodejs_semver.specs.Internal.PartFronts.{later_parts}
 use Rattle.nodejs_semver.specs.Internal.Readings.{rest_view}
 use Rattle.nodejs_semver.proofs.Dividing.BarLemmas.{parts-front}
+use Rattle.nodejs_semver.proofs.Dividing.Trimmed.{trim-starts}
 use Rattle.nodejs_semver.proofs.readers.bars.next_part.Goals as goal
 
 pub returns-clause-value : goal.returns-clause-value
 returns-clause-value c =
-    ap (λ (t : List ℕ). t ∷ later_parts (rest_view c.cut_part.result.1)) c.trimmed.ensures.value
+    ap (λ (t : List ℕ). t ∷ later_parts (rest_view c.cut_part.result.1)) (middle_is_trim c.cut_part.result.0.now c.trim.result.now c.trim.ensures.middle)
     ∙ (ap (λ (p : List ℕ × Option (List ℕ)). trim p.0 ∷ later_parts p.1) c.cut_part.ensures ∙ sym (parts-front c.args.text.now))
+
+pub returns-clause-starts : goal.returns-clause-starts
+returns-clause-starts c = trim-starts c.cut_part.result.0.now c.trim.result.now c.trim.ensures.middle
