@@ -45,15 +45,13 @@ impl Range {
     }
 }
 
-// Reads the intervals of a text into an empty list. Most texts are common ones, and of most others
-// the fast reader adds nothing to the list.
+// Reads the intervals of a text into an empty list. Most texts are common ones.
 #[inline(never)]
 fn read(alloc: Global, text: &str, found: &mut Intervals<Version>) -> Result<(), AllocError>
     requires { found.old.items ≡ [] }
     ensures { OnOk result (found.new.items ≡ denotes MAX_SAFE_INTEGER text.now) }
 {
     if !read_common(alloc, text.as_bytes(), found)? {
-        found.clear();
         read_any(alloc, text, found)?;
     }
     Ok(())

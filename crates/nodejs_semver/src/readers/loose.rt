@@ -77,7 +77,7 @@ fn add_parts(
     Ok(())
 }
 
-/// Reads the intervals of a range text of any length into an empty list.
+/// Reads the intervals of a range text of any length into a list, in place of what it holds.
 #[cold]
 #[inline(never)]
 pub(crate) fn read_any(
@@ -85,9 +85,9 @@ pub(crate) fn read_any(
     text: &str,
     found: &mut Intervals<Version>,
 ) -> Result<(), AllocError>
-    requires { found.old.items ≡ [] }
     ensures { OnOk result (found.new.items ≡ denotes MAX_SAFE_INTEGER text.now) }
 {
+    found.clear();
     let (part, rest) = bars::next_part(text);
     if part.is_empty() && are_blank(rest) {
         return intervals::push(Interval::default(), found);
