@@ -223,7 +223,7 @@ impl Version {
     /// | `major` | the smallest `n.0.0` above: 2.0.0 after 1.2.3, and 1.0.0 after 1.0.0-1 |
     /// | `minor` | the smallest release above with patch 0 in the same major |
     /// | `patch` | the smallest release above in the same major and minor |
-    /// | `premajor`, `preminor`, `prepatch` | the first pre-release of the next major, minor or patch |
+    /// | `premajor`, `preminor`, `prepatch` | the first pre-release of the next such version |
     /// | `prerelease` | the next pre-release: 1.2.4-0 after 1.2.3, and 1.2.3-a.1 after 1.2.3-a.0 |
     /// | `pre` | the next pre-release of the same three numbers, which for a release is below it |
     /// | `release` | this pre-release's release |
