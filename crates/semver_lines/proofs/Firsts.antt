@@ -49,8 +49,8 @@ no_feed_by text none = list_all-from_AllPass (λ b. not (b == 10)) text (All-fro
 
 -- what a search for the first line feed says
 pub found_feed : (text : List ℕ) (found : Option ℕ) → IsFirstByte (is_byte 10) text found
-    → IfSome found (λ at. text ≡ take at text ++ 10 ∷ drop (at + 1) text) × IfSome found (λ at. no_feed (take at text) ≡ true) × IfNone found (no_feed text ≡ true)
-found_feed text None h = (tt, tt, no_feed_by text (λ i inside feed. h i (omega arith) inside feed))
+    → IfSome found (λ at. text ≡ take at text ++ 10 ∷ drop (at + 1) text) × IfSome found (λ at. no_feed (take at text) ≡ true) × IfSome found (λ at. get_or text at 0 ≡ 10) × IfNone found (no_feed text ≡ true)
+found_feed text None h = (tt, tt, tt, no_feed_by text (λ i inside feed. h i (omega arith) inside feed))
 found_feed text (Some at) h =
     let inside = h.0.high in
     let feed : get_or text at 0 ≡ 10 = eqb-true (get_or text at 0) 10 h.1 in
@@ -59,6 +59,7 @@ found_feed text (Some at) h =
       no_feed_by (take at text) (λ i before is.
           let here : i < at = omega (arith, length-take-le at text (omega (arith, inside))) in
           h.0.before i (omega arith) here (sym (ap (λ b. b == 10) (get_or-take at text i 0 here)) ∙ is)),
+      feed,
       tt,
     )
 

@@ -1,5 +1,5 @@
 use Rattle.semver_lines.proofs.Asked.{no_max, no_min, unknown}
-use Rattle.semver_lines.proofs.question.Question.of_text.Goals as goal
+use Rattle.semver_lines.proofs.question.Question.of.Goals as goal
 
 pub returns-in_err-of-clause-none : goal.returns-in_err-of-clause-none
 returns-in_err-of-clause-none c = rw c.from_residual-in_err-of.ensures (unknown _ _ _ c.in_ok-word.ensures.some c.in_err-of.ensures.none)
