@@ -48,6 +48,7 @@ pub fn reply<'a>(
     }
 }
 
+#[inline(never)]
 fn cmp(alloc: Global, texts: (&str, &str)) -> Result<&'static str, Failure<Fault>>
     ensures { IsTold result (IsReply (Question.Cmp texts.entry)) }
 {
@@ -58,6 +59,7 @@ fn cmp(alloc: Global, texts: (&str, &str)) -> Result<&'static str, Failure<Fault
     Ok(order_word(version.cmp(other)))
 }
 
+#[inline(never)]
 fn ver<'a>(alloc: Global, text: &str, room: &'a mut String) -> Result<&'a str, Failure<Fault>>
     ensures { IsTold result (IsReply (Question.Ver text.entry)) }
 {
@@ -66,6 +68,7 @@ fn ver<'a>(alloc: Global, text: &str, room: &'a mut String) -> Result<&'a str, F
     Ok(version_or_none(Some(version), room)?)
 }
 
+#[inline(never)]
 fn diff<'a>(
     alloc: Global,
     texts: (&str, &str),
@@ -80,6 +83,7 @@ fn diff<'a>(
     Ok(difference_word(version.diff(other), room)?)
 }
 
+#[inline(never)]
 fn inc<'a>(
     alloc: Global,
     text: &str,
@@ -96,6 +100,7 @@ fn inc<'a>(
     Ok(next_text(&version.inc(alloc, word, identifier, base), room)?)
 }
 
+#[inline(never)]
 fn normalised<'a>(
     alloc: Global,
     text: &str,
@@ -108,6 +113,7 @@ fn normalised<'a>(
     Ok(range_or_none(Some(range), room)?)
 }
 
+#[inline(never)]
 fn and<'a>(
     alloc: Global,
     texts: (&str, &str),
@@ -123,6 +129,7 @@ fn and<'a>(
     Ok(range_or_none(common.as_ref(), room)?)
 }
 
+#[inline(never)]
 fn minus<'a>(
     alloc: Global,
     texts: (&str, &str),
@@ -138,6 +145,7 @@ fn minus<'a>(
     Ok(range_or_none(left.as_ref(), room)?)
 }
 
+#[inline(never)]
 fn least<'a>(alloc: Global, text: &str, room: &'a mut String) -> Result<&'a str, Failure<Fault>>
     ensures { IsTold result (IsReply (Question.Least text.entry)) }
 {
@@ -147,6 +155,7 @@ fn least<'a>(alloc: Global, text: &str, room: &'a mut String) -> Result<&'a str,
     Ok(version_or_none(least.as_ref(), room)?)
 }
 
+#[inline(never)]
 fn beyond<'a>(
     alloc: Global,
     texts: (&str, &str),
@@ -162,6 +171,7 @@ fn beyond<'a>(
     Ok(version_or_none(least.as_ref(), room)?)
 }
 
+#[inline(never)]
 fn sat(alloc: Global, texts: (&str, &str)) -> Result<&'static str, Failure<Fault>>
     ensures { IsTold result (IsReply (Question.Sat texts.entry)) }
 {
@@ -172,6 +182,7 @@ fn sat(alloc: Global, texts: (&str, &str)) -> Result<&'static str, Failure<Fault
     Ok(truth_word(range.satisfies(version)))
 }
 
+#[inline(never)]
 fn pre(alloc: Global, texts: (&str, &str)) -> Result<&'static str, Failure<Fault>>
     ensures { IsTold result (IsReply (Question.Pre texts.entry)) }
 {
@@ -182,6 +193,7 @@ fn pre(alloc: Global, texts: (&str, &str)) -> Result<&'static str, Failure<Fault
     Ok(truth_word(range.satisfies_with_prerelease(version, true)))
 }
 
+#[inline(never)]
 fn outside(
     alloc: Global,
     texts: (&str, &str),
@@ -199,6 +211,7 @@ fn outside(
     }
 }
 
+#[inline(never)]
 fn max<'a>(
     alloc: Global,
     texts: (&str, &str),
@@ -212,6 +225,7 @@ fn max<'a>(
     Ok(version_or_none(range.max_satisfying(&versions), room)?)
 }
 
+#[inline(never)]
 fn min<'a>(
     alloc: Global,
     texts: (&str, &str),
