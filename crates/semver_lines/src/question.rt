@@ -58,8 +58,8 @@ impl<'a> Question<'a> {
         ensures some { IfSome result (λ question. Asks (fields text.now) question) }
         ensures none { IfNone result ((question : Question) → Asks (fields text.now) question → ⊥) }
     {
-        let (word, rest) = first(text)?;
-        match Command::of(word)? {
+        let (command, rest) = Command::of(text)?;
+        match command {
             Command::Cmp => Some(Question::Cmp(two(rest)?)),
             Command::Ver => Some(Question::Ver(one(rest)?)),
             Command::Diff => Some(Question::Diff(two(rest)?)),
