@@ -1,6 +1,6 @@
-// The commands, by the first field of a line.
+// The commands that lines begin with.
 
-/// What a line begins with. `Question` says what each command asks.
+/// The first field of a line. `Question` says what each command asks.
 #[derive(Clone, Copy)]
 pub enum Command {
     Cmp,

@@ -1,4 +1,5 @@
-// The replies to questions. What is printed is printed to `room`.
+// The replies to questions. What is printed is printed to `room`. The reply to each question is a
+// function that is not inlined, so that a line pays for the locals of its own question alone.
 
 ghost use Rattle.std.specs.Prelude.{Some};
 ghost use Rattle.semver_core.specs.Increments.Table.{answer_of_inc};

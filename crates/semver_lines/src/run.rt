@@ -78,6 +78,7 @@ impl Lines {
             (string_bytes self.old.output) (string_bytes self.new.output)) }
     {
         let mut rest = chunk;
+        // The line that goes on from `pending`, and each line that is no text, is checked by itself.
         'lines: while let Some(at) = first_feed(rest) {
             self.end_line(alloc, &rest[..at])?;
             rest = take_front(alloc, &rest[at + 1..], &mut self.room, &mut self.output)?;
