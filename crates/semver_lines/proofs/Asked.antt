@@ -1,7 +1,9 @@
 -- Lines that ask no question.
-use Rattle.std.proofs.Common.{◌≡◌, ◌≢◌, ◌<◌, ◌==◌, ◌∙◌, ℕ, List, [], ◌∷◌, true, false, codes, length, refl, sym, ap, arith}
+use Rattle.std.proofs.Common.{◌≡◌, ◌≢◌, ◌<◌, ◌==◌, ◌∙◌, ℕ, List, [], ◌∷◌, ◌++◌, false, codes, get_or, length, refl, sym, ap, arith}
 use Rattle.std.proofs.lemmas.Bool.{false≢true}
-use Rattle.std.proofs.lemmas.List.Splits.{length-slice_split}
+use Rattle.std.proofs.lemmas.List.Splits.{join_with_byte-slice_split, length-slice_split}
+use Rattle.std.proofs.lemmas.Slice.Eq.{bytes_eq-Decides}
+use Rattle.std.specs.List.{join_with_byte}
 use Rattle.std.specs.Str.{bytes_eq}
 use Rattle.semver_lines.specs.Internal.CommandWords.{IsUnknown, command_word}
 use Rattle.semver_lines.specs.Commands.{Asks}
@@ -34,56 +36,30 @@ command_of (Min texts) = command.Min
 abbrev pub word_of : Question → List ℕ
 word_of question = command_word (command_of question)
 
-pub head_of : List (List ℕ) → List ℕ
-head_of [] = []
-head_of (word ∷ rest) = word
-
-pub asks_word : (line : List (List ℕ)) (question : Question) → Asks line question → head_of line ≡ word_of question
-unfolding head_of
-asks_word line (Cmp texts) e = ap head_of e
-asks_word line (Ver text) e = ap head_of e
-asks_word line (Diff texts) e = ap head_of e
-asks_word line (Inc texts) e = ap head_of e
-asks_word line (IncWith texts) e = ap head_of e
-asks_word line (IncFrom texts base) (name, named, e) = ap head_of e
-asks_word line (Range text) e = ap head_of e
-asks_word line (And texts) e = ap head_of e
-asks_word line (Minus texts) e = ap head_of e
-asks_word line (Least text) e = ap head_of e
-asks_word line (Beyond texts) e = ap head_of e
-asks_word line (Sat texts) e = ap head_of e
-asks_word line (Pre texts) e = ap head_of e
-asks_word line (Out texts side) (name, named, e) = ap head_of e
-asks_word line (Max texts) e = ap head_of e
-asks_word line (Min texts) e = ap head_of e
-
--- the first field of a line that asks a question is its command
-pub asks_command : (line : List (List ℕ)) (word : List ℕ) (rest : List (List ℕ)) (question : Question) → line ≡ word ∷ rest → Asks line question → word ≡ word_of question
-unfolding head_of
-asks_command line word rest question e asks = sym (ap head_of e) ∙ asks_word line question asks
-
-same_word : (question : Question) → bytes_eq (word_of question) (word_of question) ≡ true
-same_word (Cmp texts) = refl
-same_word (Ver text) = refl
-same_word (Diff texts) = refl
-same_word (Inc texts) = refl
-same_word (IncWith texts) = refl
-same_word (IncFrom texts base) = refl
-same_word (Range text) = refl
-same_word (And texts) = refl
-same_word (Minus texts) = refl
-same_word (Least text) = refl
-same_word (Beyond texts) = refl
-same_word (Sat texts) = refl
-same_word (Pre texts) = refl
-same_word (Out texts side) = refl
-same_word (Max texts) = refl
-same_word (Min texts) = refl
+-- a line that asks a question begins with its command, and has a field behind it
+pub asks_command : (line : List (List ℕ)) (question : Question) → Asks line question → (field : List ℕ) × (rest : List (List ℕ)) × (line ≡ word_of question ∷ field ∷ rest)
+asks_command line (Cmp texts) e = (_, _, e)
+asks_command line (Ver text) e = (_, _, e)
+asks_command line (Diff texts) e = (_, _, e)
+asks_command line (Inc texts) e = (_, _, e)
+asks_command line (IncWith texts) e = (_, _, e)
+asks_command line (IncFrom texts base) (name, named, e) = (_, _, e)
+asks_command line (Range text) e = (_, _, e)
+asks_command line (And texts) e = (_, _, e)
+asks_command line (Minus texts) e = (_, _, e)
+asks_command line (Least text) e = (_, _, e)
+asks_command line (Beyond texts) e = (_, _, e)
+asks_command line (Sat texts) e = (_, _, e)
+asks_command line (Pre texts) e = (_, _, e)
+asks_command line (Out texts side) (name, named, e) = (_, _, e)
+asks_command line (Max texts) e = (_, _, e)
+asks_command line (Min texts) e = (_, _, e)
 
 -- the line of another command
 another : (word : List ℕ) (rest : List (List ℕ)) (question : Question) → bytes_eq word (word_of question) ≡ false → Asks (word ∷ rest) question → ⊥
 another word rest question differs asks =
-    false≢true (sym differs ∙ ap (λ w. bytes_eq w (word_of question)) (asks_command (word ∷ rest) word rest question refl asks) ∙ same_word question)
+    let (field, behind, e) = asks_command (word ∷ rest) question asks in
+    false≢true (sym differs ∙ (bytes_eq-Decides word (word_of question)).1 (ap (λ l. get_or l 0 []) e))
 
 -- a text has one field or more
 pub some_field : (text : List ℕ) → 0 < length (fields text)
@@ -105,6 +81,25 @@ no_inc v word id rest some many (IncWith texts) e = omega (arith, ap length e)
 no_inc v word id rest some many (IncFrom texts base) (name, named, e) = many (omega (arith, ap length e))
 no_inc v word id rest some many question asks = another (codes "inc") (v ∷ word ∷ id ∷ rest) question refl asks
 
--- no command has this word
-pub unknown : (line : List (List ℕ)) (word : List ℕ) (rest : List (List ℕ)) → line ≡ word ∷ rest → IsUnknown word → (question : Question) → Asks line question → ⊥
-unknown line word rest e none question asks = none (command_of question) (asks_command line word rest question e asks)
+-- no command begins this text
+pub unknown : (text : List ℕ) → IsUnknown text → (question : Question) → Asks (fields text) question → ⊥
+unknown text none question asks =
+    let (field, rest, e) = asks_command (fields text) question asks in
+    none (command_of question) (join_with_byte 59 (field ∷ rest)) (sym (join_with_byte-slice_split 59 text) ∙ ap (join_with_byte 59) e)
+
+-- the fields of a text that begins with a command
+pub known : (c : Command) (rest : List ℕ) → fields (command_word c ++ 59 ∷ rest) ≡ command_word c ∷ fields rest
+known command.Cmp rest = refl
+known command.Ver rest = refl
+known command.Diff rest = refl
+known command.Inc rest = refl
+known command.Range rest = refl
+known command.And rest = refl
+known command.Minus rest = refl
+known command.Least rest = refl
+known command.Beyond rest = refl
+known command.Sat rest = refl
+known command.Pre rest = refl
+known command.Out rest = refl
+known command.Max rest = refl
+known command.Min rest = refl

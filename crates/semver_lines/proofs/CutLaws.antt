@@ -23,6 +23,10 @@ cut_rest-append p (x ∷ xs) ys =
       | false ↦ cut_rest-append (p ++ x ∷ []) xs ys
     ]
 
+-- the lines of what was read and of what was read after it
+pub lines_on : (p q bytes more : List ℕ) → q ≡ cut_rest p bytes → cut_lines p bytes ++ cut_lines q more ≡ cut_lines p (bytes ++ more)
+lines_on p q bytes more e = rw e (sym (cut_lines-append p bytes more))
+
 -- bytes with no line feed end no line
 pub cut_none : (p xs : List ℕ) → no_feed xs ≡ true → (cut_lines p xs ≡ []) × (cut_rest p xs ≡ p ++ xs)
 cut_none p [] h = (refl, sym (append-nil p))

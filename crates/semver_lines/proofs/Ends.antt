@@ -11,12 +11,8 @@ use Rattle.semver_lines.specs.Outcome.{AnswersFront, AnswersTorn, Ran}
 use Rattle.semver_lines.specs.Internal.Steps.{Finished, GrowsByAnswers, GrowsByFront, Stopped, Turned, WritesFront}
 use Rattle.semver_lines.specs.declared.run.RunFault.{RunFault}
 use Rattle.semver_lines.specs.declared.run.RunFault.TheVariants.{Memory, Read, Write}
-use Rattle.semver_lines.proofs.CutLaws.{cut_has, cut_lines-append, cut_rest-append}
+use Rattle.semver_lines.proofs.CutLaws.{cut_has, cut_rest-append, lines_on}
 use Rattle.semver_lines.proofs.Told.{Answers-append, front_after, front_all, torn_after, torn_front}
-
--- the lines of what was read and of what was read after it
-lines_on : (p q bytes more : List ℕ) → q ≡ cut_rest p bytes → cut_lines p bytes ++ cut_lines q more ≡ cut_lines p (bytes ++ more)
-lines_on p q bytes more e = rw e (sym (cut_lines-append p bytes more))
 
 pub turned_on : (a b c u v w : Option (List ℕ)) (p q r bytes more : List ℕ) → Turned a b u v p q bytes → Turned b c v w q r more → Turned a c u w p r (bytes ++ more)
 turned_on a b c u v w p q r bytes more t s = record {

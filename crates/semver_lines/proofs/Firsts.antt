@@ -1,8 +1,9 @@
 -- The first `;` of a text, and the first line feed of an input.
 use Rattle.std.proofs.Common.{◌≡◌, ◌==◌, ◌<◌, ◌+◌, ◌∙◌, ◌++◌, ◌∷◌, ℕ, suc, true, false, not, List, [], Option, Some, None, IfSome, IfNone, length, take, drop, get_or, refl, sym, ap, arith, inl, inr, drop-cons, take-append-drop}
 use Rattle.memchr.specs.Find.{IsFirstByte, is_byte}
+use Rattle.std.proofs.Math.Seq.{get_or-append_seam}
 use Rattle.std.proofs.lemmas.Bool.{cases_Bool, eqb-true}
-use Rattle.std.proofs.lemmas.List.{get_or-take, length-take-le}
+use Rattle.std.proofs.lemmas.List.{get_or-take, length-append, length-take-le}
 use Rattle.std.proofs.lemmas.List.Elements.{All-from_get_or}
 use Rattle.std.proofs.lemmas.List.Splits.{slice_split_at, slice_split_none}
 use Rattle.std.proofs.lemmas.List.Sums.{list_all-from_AllPass}
@@ -41,6 +42,13 @@ mark_boundaries text at utf8 h =
     let low : get_or text at 0 < 128 = omega (arith, eqb-true (get_or text at 0) 59 h.1) in
     (IsCharBoundary-before_ascii text at h.0.high low, IsCharBoundary-after_ascii text at utf8 h.0.high low)
 
+-- and behind a `;` that follows a word
+pub behind_mark : (text word rest : List ℕ) (end : ℕ) → IsUtf8 text → text ≡ word ++ 59 ∷ rest → end ≡ length word + 1 → IsCharBoundary text end
+behind_mark text word rest end utf8 split e =
+    let mark : get_or text (length word) 0 ≡ 59 = ap (λ l. get_or l (length word) 0) split ∙ get_or-append_seam word 59 rest 0 in
+    let inside : length word < length text = omega (arith, ap length split, length-append word (59 ∷ rest)) in
+    rw e (IsCharBoundary-after_ascii text (length word) utf8 inside (omega (arith, mark)))
+
 no_feed_by : (text : List ℕ) → ((i : ℕ) → i < length text → (get_or text i 0 == 10) ≡ true → ⊥) → no_feed text ≡ true
 no_feed_by text none = list_all-from_AllPass (λ b. not (b == 10)) text (All-from_get_or (λ b. not (b == 10) ≡ true) text 0 (λ i h. elim (cases_Bool (get_or text i 0 == 10)) [
   | inl feed ↦ absurd (none i h feed)
@@ -49,8 +57,8 @@ no_feed_by text none = list_all-from_AllPass (λ b. not (b == 10)) text (All-fro
 
 -- what a search for the first line feed says
 pub found_feed : (text : List ℕ) (found : Option ℕ) → IsFirstByte (is_byte 10) text found
-    → IfSome found (λ at. text ≡ take at text ++ 10 ∷ drop (at + 1) text) × IfSome found (λ at. no_feed (take at text) ≡ true) × IfNone found (no_feed text ≡ true)
-found_feed text None h = (tt, tt, no_feed_by text (λ i inside feed. h i (omega arith) inside feed))
+    → IfSome found (λ at. text ≡ take at text ++ 10 ∷ drop (at + 1) text) × IfSome found (λ at. no_feed (take at text) ≡ true) × IfSome found (λ at. get_or text at 0 ≡ 10) × IfNone found (no_feed text ≡ true)
+found_feed text None h = (tt, tt, tt, no_feed_by text (λ i inside feed. h i (omega arith) inside feed))
 found_feed text (Some at) h =
     let inside = h.0.high in
     let feed : get_or text at 0 ≡ 10 = eqb-true (get_or text at 0) 10 h.1 in
@@ -59,6 +67,7 @@ found_feed text (Some at) h =
       no_feed_by (take at text) (λ i before is.
           let here : i < at = omega (arith, length-take-le at text (omega (arith, inside))) in
           h.0.before i (omega arith) here (sym (ap (λ b. b == 10) (get_or-take at text i 0 here)) ∙ is)),
+      feed,
       tt,
     )
 

@@ -1,42 +1,65 @@
--- How a chunk of the input is taken, line by line: `done` is what was taken of it, `rest` what was not.
-use Rattle.std.proofs.Common.{◌≡◌, ◌++◌, ◌∷◌, ◌∙◌, ℕ, true, List, [], Result, Ok, Err, OnOk, OnErr, is_ok, if◌then◌else◌, sym, ap, subst, append_assoc, append-nil}
+-- How a chunk of the input is taken, part by part.
+use Rattle.std.proofs.Common.{◌≡◌, ◌-◌, arith, drop, length, length-append, ◌++◌, ◌∷◌, ◌∙◌, ℕ, true, List, [], Result, Ok, Err, OnOk, OnErr, is_ok, if◌then◌else◌, sym, ap, subst, append_assoc, append-nil}
+use Rattle.std.proofs.Math.Seq.{drop-append_seam}
 use Rattle.std.specs.Prelude.{⊤}
 use Rattle.std.specs.declared.alloc.AllocError.{AllocError}
 use Rattle.semver_lines.specs.Internal.LineCuts.{cut_lines, cut_rest}
 use Rattle.semver_lines.specs.Lines.{ended, no_feed}
-use Rattle.semver_lines.specs.Internal.Steps.{GrowsByAnswers, GrowsByFront}
-use Rattle.semver_lines.proofs.CutLaws.{cut_line, cut_lines-append, cut_none, cut_rest-append}
-use Rattle.semver_lines.proofs.Told.{grows_front, grows_on}
+use Rattle.semver_lines.specs.Internal.Steps.{GrowsByAnswers, GrowsByFront, Taken}
+use Rattle.semver_lines.proofs.CutLaws.{cut_line, cut_none, cut_rest-append, lines_on}
+use Rattle.semver_lines.proofs.Told.{front_after, grows_none, grows_on}
 
--- one line of the rest, which begins with what is pending
-pub take_line : (p chunk done rest line more a b c q after : List ℕ) → chunk ≡ done ++ rest → rest ≡ line ++ 10 ∷ more → no_feed line ≡ true → q ≡ cut_rest p done
-    → GrowsByAnswers (cut_lines p done) a b → GrowsByAnswers ((q ++ line) ∷ []) b c → after ≡ []
-    → (taken : List ℕ) × (chunk ≡ taken ++ more) × GrowsByAnswers (cut_lines p taken) a c × (after ≡ cut_rest p taken)
-take_line p chunk done rest line more a b c q after split next plain pending grown last empty =
-    let cut = cut_line q line plain in
-    let lines : cut_lines p done ++ ((q ++ line) ∷ []) ≡ cut_lines p (done ++ ended line) =
-    sym (cut_lines-append p done (ended line) ∙ ap (λ l. cut_lines p done ++ cut_lines l (ended line)) (sym pending) ∙ ap (λ l. cut_lines p done ++ l) cut.0) in (
-      done ++ ended line,
-      split ∙ ap (λ l. done ++ l) (next ∙ sym (append_assoc line (10 ∷ []) more)) ∙ sym (append_assoc done (ended line) more),
-      subst (λ l. GrowsByAnswers l a c) lines (grows_on (cut_lines p done) ((q ++ line) ∷ []) a b c grown last),
-      sym (cut_rest-append p done (ended line) ∙ ap (λ l. cut_rest l (ended line)) (sym pending) ∙ cut.1 ∙ sym empty),
-    )
+-- one part after another
+pub Taken-trans : (p q r chunk rest more a b c : List ℕ) → Taken p chunk rest q a b → Taken q rest more r b c → Taken p chunk more r a c
+Taken-trans p q r chunk rest more a b c t s = record {
+  taken = t.taken ++ s.taken;
+  divided = t.divided ∙ ap (λ l. t.taken ++ l) s.divided ∙ sym (append_assoc t.taken s.taken more);
+  grown = subst (λ l. GrowsByAnswers l a c) (lines_on p q t.taken s.taken t.kept) (grows_on (cut_lines p t.taken) (cut_lines q s.taken) a b c t.grown s.grown);
+  kept = s.kept ∙ ap (λ l. cut_rest l s.taken) t.kept ∙ sym (cut_rest-append p t.taken s.taken);
+}
 
--- a stop before the next line
-pub take_stop : (p chunk done rest a b c : List ℕ) → chunk ≡ done ++ rest → GrowsByAnswers (cut_lines p done) a b → c ≡ b → GrowsByFront (cut_lines p chunk) a c
-take_stop p chunk done rest a b c split grown same =
-    rw (split, same, cut_lines-append) (grows_front (cut_lines p done) (cut_lines (cut_rest p done) rest) a b grown)
+-- a line, which goes on from what is pending
+pub Taken-line : (p after chunk line more a b : List ℕ) → chunk ≡ line ++ 10 ∷ more → no_feed line ≡ true → GrowsByAnswers ((p ++ line) ∷ []) a b → after ≡ [] → Taken p chunk more after a b
+Taken-line p after chunk line more a b next plain grown empty =
+    let cut = cut_line p line plain in
+    record {
+      taken = ended line;
+      divided = next ∙ sym (append_assoc line (10 ∷ []) more);
+      grown = rw cut.0 grown;
+      kept = empty ∙ sym cut.1;
+    }
 
--- the end of the chunk
-pub take_end : (p chunk done rest a b q : List ℕ) → chunk ≡ done ++ rest → no_feed rest ≡ true → q ≡ cut_rest p done → GrowsByAnswers (cut_lines p done) a b
-    → GrowsByAnswers (cut_lines p chunk) a b × (q ++ rest ≡ cut_rest p chunk)
-take_end p chunk done rest a b q split plain pending grown =
+-- the same with more behind
+pub Taken-more : (p q chunk rest a b more : List ℕ) → Taken p chunk rest q a b → Taken p (chunk ++ more) (rest ++ more) q a b
+Taken-more p q chunk rest a b more t = record {
+  taken = t.taken;
+  divided = ap (λ l. l ++ more) t.divided ∙ append_assoc t.taken rest more;
+  grown = t.grown;
+  kept = t.kept;
+}
+
+-- what is left behind a front of the chunk
+pub behind_front : (p q front rest a b more bytes : List ℕ) → Taken p front rest q a b → bytes ≡ front ++ more → drop (length front - length rest) bytes ≡ rest ++ more
+behind_front p q front rest a b more bytes t whole =
+    let long : length front - length rest ≡ length t.taken = omega (arith, ap length t.divided, length-append t.taken rest) in
+    rw (long, whole, t.divided, append_assoc t.taken rest more) (drop-append_seam t.taken (rest ++ more))
+
+-- the end of the chunk, where no line ends
+pub take_end : (p q chunk rest a b : List ℕ) → Taken p chunk rest q a b → no_feed rest ≡ true → GrowsByAnswers (cut_lines p chunk) a b × (q ++ rest ≡ cut_rest p chunk)
+take_end p q chunk rest a b t plain =
     let cut = cut_none q rest plain in
-    let lines : cut_lines p done ++ [] ≡ cut_lines p chunk =
-    sym (ap (λ l. cut_lines p l) split ∙ cut_lines-append p done rest ∙ ap (λ l. cut_lines p done ++ cut_lines l rest) (sym pending) ∙ ap (λ l. cut_lines p done ++ l) cut.0) in (
-      subst (λ l. GrowsByAnswers l a b) (sym (append-nil (cut_lines p done)) ∙ lines) grown,
-      sym (ap (λ l. cut_rest p l) split ∙ cut_rest-append p done rest ∙ ap (λ l. cut_rest l rest) (sym pending) ∙ cut.1),
-    )
+    let last : Taken q rest [] (q ++ rest) b b = record { taken = rest; divided = sym (append-nil rest); grown = rw cut.0 (grows_none b); kept = sym cut.1 } in
+    let all = Taken-trans p q (q ++ rest) chunk rest [] a b b t last in
+    let whole = all.divided ∙ append-nil all.taken in
+    (rw whole all.grown, rw whole all.kept)
+
+-- a stop in what follows
+pub take_stop : (p q chunk rest a b c : List ℕ) → Taken p chunk rest q a b → GrowsByFront (cut_lines q rest) b c → GrowsByFront (cut_lines p chunk) a c
+take_stop p q chunk rest a b c t stop = record {
+  said = t.grown.said ++ stop.said;
+  answers = rw (t.divided, sym (lines_on p q t.taken rest t.kept)) (front_after (cut_lines p t.taken) (cut_lines q rest) t.grown.said stop.said t.grown.answers stop.answers);
+  grown = stop.grown ∙ ap (λ l. l ++ stop.said) t.grown.grown ∙ append_assoc a t.grown.said stop.said;
+}
 
 -- what is pushed onto the pending line
 pub kept_end : (result : Result ⊤ AllocError) (q rest new all : List ℕ) → new ≡ (if is_ok result then q ++ rest else q) → q ++ rest ≡ all → OnOk result (new ≡ all)

@@ -140,3 +140,7 @@ grows_on xs ys a b c g h = record {
 
 pub grows_front : (xs ys : List (List ℕ)) (a b : List ℕ) → GrowsByAnswers xs a b → GrowsByFront (xs ++ ys) a b
 grows_front xs ys a b g = record { said = g.said; answers = front_more xs ys g.said (front_all xs g.said g.answers); grown = g.grown }
+
+-- nothing of it was answered
+pub front_none : (lines : List (List ℕ)) (old new : List ℕ) → new ≡ old → GrowsByFront lines old new
+front_none lines old new same = rw same (grows_front [] lines old old (grows_none old))

@@ -6,7 +6,6 @@ ghost use Rattle.semver_lines.specs.Names.{base_named, direction_named};
 use crate::command::Command;
 use crate::fields::{first, one, three, two};
 use nodejs_semver::{IdentifierBase, OutsideDirection};
-use std::str;
 
 /// The question of a line. Its texts are fields of the line, not yet read.
 #[derive(Clone, Copy)]
@@ -49,31 +48,18 @@ pub enum Question<'a> {
 
 impl<'a> Question<'a> {
     ghost use Rattle.std.specs.Prelude.{◌∷◌, codes, IfSome, IfNone};
-    ghost use Rattle.semver_lines.specs.Answers.{IsQuestion};
     ghost use Rattle.semver_lines.specs.Commands.{Asks};
     ghost use Rattle.semver_lines.specs.Lines.{fields};
     ghost use Rattle.semver_lines.specs.declared.question.Question.{Question};
 
-    /// The question that a line asks, or `None` where it asks none.
-    #[inline]
-    pub fn of(line: &'a [u8]) -> Option<Question<'a>>
-        ensures some { IfSome result (λ question. IsQuestion line.now question) }
-        ensures none { IfNone result ((question : Question) → IsQuestion line.now question → ⊥) }
-    {
-        match str::from_utf8(line) {
-            Ok(text) => Question::of_text(text),
-            Err(_) => None,
-        }
-    }
-
-    // The question that a text asks.
+    /// The question that the fields of a text ask, or `None` where they ask none.
     #[inline(always)]
-    fn of_text(text: &'a str) -> Option<Question<'a>>
+    pub fn of(text: &'a str) -> Option<Question<'a>>
         ensures some { IfSome result (λ question. Asks (fields text.now) question) }
         ensures none { IfNone result ((question : Question) → Asks (fields text.now) question → ⊥) }
     {
-        let (word, rest) = first(text)?;
-        match Command::of(word)? {
+        let (command, rest) = Command::of(text)?;
+        match command {
             Command::Cmp => Some(Question::Cmp(two(rest)?)),
             Command::Ver => Some(Question::Ver(one(rest)?)),
             Command::Diff => Some(Question::Diff(two(rest)?)),

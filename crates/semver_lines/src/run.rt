@@ -1,13 +1,13 @@
 // Answers each line of an input.
 
-ghost use Rattle.std.specs.Prelude.{◌≡◌, ◌+◌, ◌<◌, ◌≤◌, ◌++◌, ◌∷◌, [], true, length, take, drop, IfSome, IfNone, IfOk, IfErr, OnOk, OnErr, string_bytes};
+ghost use Rattle.std.specs.Prelude.{ℕ, List, ◌≡◌, ◌+◌, ◌<◌, ◌≤◌, ◌++◌, ◌∷◌, [], true, length, take, drop, slice_index, IfSome, IfNone, IsUtf8, IfOk, IfErr, OnOk, OnErr, string_bytes};
 ghost use Rattle.std.specs.Io.KnownBytes.{Appends, Consumes, Keeps, IsAtEnd};
 ghost use Rattle.semver_lines.specs.Internal.LineCuts.{cut_lines, cut_rest};
 ghost use Rattle.semver_lines.specs.Lines.{last_line, no_feed};
 ghost use Rattle.semver_lines.specs.Outcome.{Ran};
-ghost use Rattle.semver_lines.specs.Internal.Steps.{Finished, GrowsByAnswers, GrowsByFront, Stopped, Turned, WritesFront};
+ghost use Rattle.semver_lines.specs.Internal.Steps.{Finished, GrowsByAnswers, GrowsByFront, Stopped, Taken, Turned, WritesFront};
 
-use crate::answer::answer_line;
+use crate::answer::{answer_line, answer_text};
 use memchr::memchr;
 use std::alloc::{AllocError, Global};
 use std::io::{Read, Write};
@@ -78,9 +78,10 @@ impl Lines {
             (string_bytes self.old.output) (string_bytes self.new.output)) }
     {
         let mut rest = chunk;
+        // The line that goes on from `pending`, and each line that is no text, is checked by itself.
         'lines: while let Some(at) = first_feed(rest) {
             self.end_line(alloc, &rest[..at])?;
-            rest = &rest[at + 1..];
+            rest = take_front(alloc, &rest[at + 1..], &mut self.room, &mut self.output)?;
         }
         self.pending.extend_from_slice(rest)
     }
@@ -105,9 +106,53 @@ fn first_feed(bytes: &[u8]) -> Option<usize>
     ensures some { IfSome result (λ at.
         bytes.now ≡ take at bytes.now ++ 10 ∷ drop (at + 1) bytes.now) }
     ensures line { IfSome result (λ at. no_feed (take at bytes.now) ≡ true) }
+    ensures feed { IfSome result (λ at. slice_index bytes.now at ≡ 10) }
     ensures none { IfNone result (no_feed bytes.now ≡ true) }
 {
     memchr(b'\n', bytes)
+}
+
+// The longest text at the front of some bytes.
+fn front_text(bytes: &[u8]) -> &str
+    ensures { (behind : List ℕ) × bytes.now ≡ result.now ++ behind }
+{
+    match bytes.utf8_chunks().next() {
+        Some(chunk) => chunk.valid(),
+        None => "",
+    }
+}
+
+// Answers the lines that end in the text at the front of some bytes, which is checked to be UTF-8
+// once for all of them. Returns what stands behind these lines.
+fn take_front<'a>(
+    alloc: Global,
+    bytes: &'a [u8],
+    room: &mut String,
+    output: &mut String,
+) -> Result<&'a [u8], AllocError>
+    ensures ok { IfOk result (λ rest.
+        Taken [] bytes.now rest.now [] (string_bytes output.old) (string_bytes output.new)) }
+    ensures err { OnErr result
+        (GrowsByFront (cut_lines [] bytes.now) (string_bytes output.old) (string_bytes output.new)) }
+{
+    let front = front_text(bytes);
+    let mut text = front;
+    'lines: while let Some((line, behind)) = first_line(text) {
+        answer_text(alloc, line, room, output)?;
+        text = behind;
+    }
+    Ok(&bytes[front.len() - text.len()..])
+}
+
+// The first line, and the text behind its line feed; `None` where there is none.
+#[inline(always)]
+fn first_line(text: &str) -> Option<(&str, &str)>
+    ensures some { IfSome result (λ cut. text.now ≡ cut.0.now ++ 10 ∷ cut.1.now) }
+    ensures line { IfSome result (λ cut. no_feed cut.0.now ≡ true) }
+    ensures utf8 { IfSome result (λ cut. IsUtf8 cut.1.now) }
+{
+    let at = first_feed(text.as_bytes())?;
+    Some((&text[..at], &text[at + 1..]))
 }
 
 // Writes these bytes by calls of `write` alone. A call that accepts no byte is an error.

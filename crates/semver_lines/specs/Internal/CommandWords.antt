@@ -1,5 +1,5 @@
 -- For proofs. The commands by their words.
-use Rattle.std.specs.Prelude.{◌≢◌, ℕ, List, codes}
+use Rattle.std.specs.Prelude.{◌≢◌, ◌++◌, ◌∷◌, ℕ, List, codes}
 use Rattle.semver_lines.specs.declared.command.Command.{Command}
 use Rattle.semver_lines.specs.declared.command.Command.TheVariants.{Cmp, Ver, Diff, Inc, Range, And, Minus, Least, Beyond, Sat, Pre, Out, Max, Min}
 
@@ -20,6 +20,6 @@ command_word Out = codes "out"
 command_word Max = codes "max"
 command_word Min = codes "min"
 
--- no command has this word
+-- no command begins this text
 abbrev pub IsUnknown : List ℕ → Type 0
-IsUnknown word = (command : Command) → word ≢ command_word command
+IsUnknown text = (command : Command) (rest : List ℕ) → text ≢ command_word command ++ 59 ∷ rest

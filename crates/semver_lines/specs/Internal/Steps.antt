@@ -26,6 +26,14 @@ pub record GrowsByFront (lines : List (List ℕ)) (old new : List ℕ) : Type 0 
   pub answers : AnswersFront lines said
   pub grown : new ≡ old ++ said
 
+-- of this chunk all but the rest was taken, and the output grew by the answers to the lines that end in it; `pending`
+-- was and is the line that has not ended
+pub record Taken (pending chunk rest after old new : List ℕ) : Type 0 where
+  pub taken : List ℕ
+  pub divided : chunk ≡ taken ++ rest
+  pub grown : GrowsByAnswers (cut_lines pending taken) old new
+  pub kept : after ≡ cut_rest pending taken
+
 -- a writer that tells its bytes got a front of these, and not all
 pub record WritesFront (held holds : Option (List ℕ)) (bytes : List ℕ) : Type 0 where
   pub front : List ℕ

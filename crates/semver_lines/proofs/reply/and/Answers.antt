@@ -8,16 +8,16 @@ use Rattle.semver_lines.proofs.reply.and.Goals as goal
 pub returns-in_err-range : goal.returns-in_err-range
 returns-in_err-range c =
     let p = err_from_is_err_and c.from_residual.result c.from_residual.ensures.1 in
-    rw (p.1, p.2) (told_first (IsRangeOf c.args.texts.0.now) (IsRangeOf c.args.texts.1.now) _ _ (c.in_err-range.ensures c.args.texts.0.now (c.parse-range.ensures.ok, c.parse-range.ensures.some, c.parse-range.ensures.refused)))
+    rw (p.1, p.2) (told_first (IsRangeOf c.args.r.now) (IsRangeOf c.args.s.now) _ _ (c.in_err-range.ensures c.args.r.now (c.parse-range.ensures.ok, c.parse-range.ensures.some, c.parse-range.ensures.refused)))
 
 pub returns-in_err-other : goal.returns-in_err-other
 returns-in_err-other c =
     let p = err_from_is_err_and c.from_residual-in_err-other.result c.from_residual-in_err-other.ensures.1 in
-    let first = c.in_ok-range.ensures c.args.texts.0.now (c.parse-range.ensures.ok, c.parse-range.ensures.some, c.parse-range.ensures.refused) in
-    rw (p.1, p.2) (told_second (IsRangeOf c.args.texts.0.now) (IsRangeOf c.args.texts.1.now) _ _ _ first (c.in_err-other.ensures c.args.texts.1.now (c.parse-other.ensures.ok, c.parse-other.ensures.some, c.parse-other.ensures.refused)))
+    let first = c.in_ok-range.ensures c.args.r.now (c.parse-range.ensures.ok, c.parse-range.ensures.some, c.parse-range.ensures.refused) in
+    rw (p.1, p.2) (told_second (IsRangeOf c.args.r.now) (IsRangeOf c.args.s.now) _ _ _ first (c.in_err-other.ensures c.args.s.now (c.parse-other.ensures.ok, c.parse-other.ensures.some, c.parse-other.ensures.refused)))
 
 pub returns : goal.returns
 returns c =
-    let first = c.in_ok-range.ensures c.args.texts.0.now (c.parse-range.ensures.ok, c.parse-range.ensures.some, c.parse-range.ensures.refused) in
-    let second = c.in_ok-other.ensures c.args.texts.1.now (c.parse-other.ensures.ok, c.parse-other.ensures.some, c.parse-other.ensures.refused) in
+    let first = c.in_ok-range.ensures c.args.r.now (c.parse-range.ensures.ok, c.parse-range.ensures.some, c.parse-range.ensures.refused) in
+    let second = c.in_ok-other.ensures c.args.s.now (c.parse-other.ensures.ok, c.parse-other.ensures.some, c.parse-other.ensures.refused) in
     read _ (first, second) (c.in_ok-range_or_none.ensures ∙ ap range_or_none (c.as_ref.ensures.value ∙ c.in_ok-common.ensures.list))

@@ -8,16 +8,16 @@ use Rattle.semver_lines.proofs.reply.outside.Goals as goal
 pub returns-in_err-range : goal.returns-in_err-range
 returns-in_err-range c =
     let p = err_from_is_err_and c.from_residual.result c.from_residual.ensures.1 in
-    rw (p.1, p.2) (told_first (IsRangeOf c.args.texts.0.now) (IsVersionOf c.args.texts.1.now) _ _ (c.in_err-range.ensures c.args.texts.0.now (c.parse-range.ensures.ok, c.parse-range.ensures.some, c.parse-range.ensures.refused)))
+    rw (p.1, p.2) (told_first (IsRangeOf c.args.r.now) (IsVersionOf c.args.v.now) _ _ (c.in_err-range.ensures c.args.r.now (c.parse-range.ensures.ok, c.parse-range.ensures.some, c.parse-range.ensures.refused)))
 
 pub returns-in_err-version : goal.returns-in_err-version
 returns-in_err-version c =
     let p = err_from_is_err_and c.from_residual-in_err-version.result c.from_residual-in_err-version.ensures.1 in
-    let first = c.in_ok-range.ensures c.args.texts.0.now (c.parse-range.ensures.ok, c.parse-range.ensures.some, c.parse-range.ensures.refused) in
-    rw (p.1, p.2) (told_second (IsRangeOf c.args.texts.0.now) (IsVersionOf c.args.texts.1.now) _ _ _ first (c.in_err-version.ensures c.args.texts.1.now (c.parse-version.ensures.ok, c.parse-version.ensures.refused)))
+    let first = c.in_ok-range.ensures c.args.r.now (c.parse-range.ensures.ok, c.parse-range.ensures.some, c.parse-range.ensures.refused) in
+    rw (p.1, p.2) (told_second (IsRangeOf c.args.r.now) (IsVersionOf c.args.v.now) _ _ _ first (c.in_err-version.ensures c.args.v.now (c.parse-version.ensures.ok, c.parse-version.ensures.refused)))
 
 pub returns : goal.returns
 returns c =
-    let first = c.in_ok-range.ensures c.args.texts.0.now (c.parse-range.ensures.ok, c.parse-range.ensures.some, c.parse-range.ensures.refused) in
-    let second = c.in_ok-version.ensures c.args.texts.1.now (c.parse-version.ensures.ok, c.parse-version.ensures.refused) in
+    let first = c.in_ok-range.ensures c.args.r.now (c.parse-range.ensures.ok, c.parse-range.ensures.some, c.parse-range.ensures.refused) in
+    let second = c.in_ok-version.ensures c.args.v.now (c.parse-version.ensures.ok, c.parse-version.ensures.refused) in
     read _ (first, second) (c.truth_word.ensures ∙ ap truth_word (search rules))

@@ -8,4 +8,7 @@ pub returns-clause-line : goal.returns-clause-line
 returns-clause-line c = (found_feed c.args.bytes.now c.memchr.result c.memchr.ensures).1
 
 pub returns-clause-none : goal.returns-clause-none
-returns-clause-none c = (found_feed c.args.bytes.now c.memchr.result c.memchr.ensures).2
+returns-clause-none c = (found_feed c.args.bytes.now c.memchr.result c.memchr.ensures).3
+
+pub returns-clause-feed : goal.returns-clause-feed
+returns-clause-feed c = (found_feed c.args.bytes.now c.memchr.result c.memchr.ensures).2

@@ -1,0 +1,13 @@
+use Rattle.semver_lines.proofs.Asked.{no_max, no_min, unknown}
+use Rattle.semver_lines.proofs.question.Question.of.Goals as goal
+
+pub returns-in_err-command-clause-none : goal.returns-in_err-command-clause-none
+returns-in_err-command-clause-none c = rw c.from_residual.ensures (unknown c.args.text.now c.in_err-command.ensures.none)
+
+pub returns-in_err-first-in-Max-clause-none : goal.returns-in_err-first-in-Max-clause-none
+returns-in_err-first-in-Max-clause-none c =
+    rw (c.from_residual-in_err-first-in-Max.ensures, c.in_ok-command.ensures.some, c.in-Max.is, c.in_err-first-in-Max.ensures.none) (no_max c.in_ok-command.rest.now)
+
+pub returns-in_err-first-in-Min-clause-none : goal.returns-in_err-first-in-Min-clause-none
+returns-in_err-first-in-Min-clause-none c =
+    rw (c.from_residual-in_err-first-in-Min.ensures, c.in_ok-command.ensures.some, c.in-Min.is, c.in_err-first-in-Min.ensures.none) (no_min c.in_ok-command.rest.now)
