@@ -75,8 +75,44 @@ fn push_intersections<V: Point>(
         ++ flat_map (λ t. option_to_list (meet V.cmp interval.now t)) others.now) }
 {
     for other in others {
-        push_part(parts, interval.intersect(alloc, other)?)?;
+        push_intersection(alloc, parts, interval, other)?;
     }
+    Ok(())
+}
+
+// Puts what two intervals have in common at the end.
+#[inline(always)]
+fn push_intersection<V: Point>(
+    alloc: Global,
+    parts: &mut Vec<Interval<V>>,
+    interval: &Interval<V>,
+    other: &Interval<V>,
+) -> Result<(), AllocError>
+    ensures { OnOk result (parts.new.items
+        ≡ parts.old.items ++ option_to_list (meet V.cmp interval.now other.now)) }
+{
+    if interval.meets(other) {
+        push_common(alloc, parts, interval, other)
+    } else {
+        Ok(())
+    }
+}
+
+// The same of two that meet.
+#[inline(never)]
+fn push_common<V: Point>(
+    alloc: Global,
+    parts: &mut Vec<Interval<V>>,
+    interval: &Interval<V>,
+    other: &Interval<V>,
+) -> Result<(), AllocError>
+    requires { is_some (meet V.cmp interval.now other.now) ≡ true }
+    ensures { OnOk result (parts.new.items
+        ≡ parts.old.items ++ option_to_list (meet V.cmp interval.now other.now)) }
+{
+    let common = interval.common_part(alloc, other)?;
+    parts.reserve(1)?;
+    parts.push_reserved(common);
     Ok(())
 }
 

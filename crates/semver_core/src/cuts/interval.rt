@@ -153,9 +153,22 @@ impl<V: Point> Interval<V> {
         if !self.meets(other) {
             return Ok(None);
         }
+        Ok(Some(self.common_part(alloc, other)?))
+    }
+
+    /// The same of two intervals that are known to meet, without that comparison.
+    #[inline(always)]
+    pub fn common_part(
+        &self,
+        alloc: Global,
+        other: &Interval<V>,
+    ) -> Result<Interval<V>, AllocError>
+        requires { is_some (meet V.cmp self.now other.now) ≡ true }
+        ensures { IfOk result (λ r. Some r ≡ meet V.cmp self.now other.now) }
+    {
         let lower = greater_lower(&self.lower, &other.lower).copy(alloc)?;
         let upper = lesser_upper(&self.upper, &other.upper).copy(alloc)?;
-        Ok(Some(Interval { lower, upper }))
+        Ok(Interval { lower, upper })
     }
 
     /// The intersection, by moving the bounds of both intervals. It allocates nothing. Where
