@@ -160,11 +160,57 @@ fn subtract_from_each<V: Point>(
 {
     let mut left = Vec::new(alloc);
     for interval in these {
-        let (below, above) = interval.subtract(alloc, other)?;
-        push_part(&mut left, below)?;
-        push_part(&mut left, above)?;
+        push_remainders(alloc, &mut left, interval, other)?;
     }
     Ok(left)
+}
+
+// Puts what is left of one interval below and above another at the end.
+#[inline(always)]
+fn push_remainders<V: Point>(
+    alloc: Global,
+    parts: &mut Vec<Interval<V>>,
+    interval: &Interval<V>,
+    other: &Interval<V>,
+) -> Result<(), AllocError>
+    ensures { OnOk result (parts.new.items
+        ≡ parts.old.items ++ remainder V.cmp interval.now other.now) }
+{
+    if interval.meets(other) {
+        push_both(alloc, parts, interval, other)
+    } else {
+        push_copy(alloc, parts, interval)
+    }
+}
+
+// The same of two that meet.
+#[inline(never)]
+fn push_both<V: Point>(
+    alloc: Global,
+    parts: &mut Vec<Interval<V>>,
+    interval: &Interval<V>,
+    other: &Interval<V>,
+) -> Result<(), AllocError>
+    ensures { OnOk result (parts.new.items
+        ≡ parts.old.items ++ remainder V.cmp interval.now other.now) }
+{
+    let (below, above) = interval.subtract(alloc, other)?;
+    push_part(parts, below)?;
+    push_part(parts, above)
+}
+
+// Puts a copy of the interval at the end.
+#[inline(never)]
+fn push_copy<V: Point>(
+    alloc: Global,
+    parts: &mut Vec<Interval<V>>,
+    interval: &Interval<V>,
+) -> Result<(), AllocError>
+    ensures { OnOk result (parts.new.items ≡ parts.old.items ++ (interval.now ∷ [])) }
+{
+    parts.reserve(1)?;
+    parts.push_reserved(interval.copy(alloc)?);
+    Ok(())
 }
 
 // What of each interval lies within each of the pieces, which stand in order along the line.
