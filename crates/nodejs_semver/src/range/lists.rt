@@ -9,7 +9,7 @@ ghost use Rattle.nodejs_semver.specs.Ranges.Algebra.{meets_of, minus, remainder}
 ghost use Rattle.semver_core.specs.declared.cuts.bound.Bound.TheVariants.{Unbounded};
 ghost use Rattle.nodejs_semver.specs.Internal.Along.{IsAlong};
 
-use semver_core::cuts::{Interval, Point};
+use semver_core::cuts::{Interval, Part, Point};
 use std::alloc::{AllocError, Global};
 
 /// The intersections of all pairs, the first list outside.
@@ -75,44 +75,8 @@ fn push_intersections<V: Point>(
         ++ flat_map (λ t. option_to_list (meet V.cmp interval.now t)) others.now) }
 {
     for other in others {
-        push_intersection(alloc, parts, interval, other)?;
+        push_part(alloc, parts, interval.common_part(other))?;
     }
-    Ok(())
-}
-
-// Puts what two intervals have in common at the end.
-#[inline(always)]
-fn push_intersection<V: Point>(
-    alloc: Global,
-    parts: &mut Vec<Interval<V>>,
-    interval: &Interval<V>,
-    other: &Interval<V>,
-) -> Result<(), AllocError>
-    ensures { OnOk result (parts.new.items
-        ≡ parts.old.items ++ option_to_list (meet V.cmp interval.now other.now)) }
-{
-    if interval.meets(other) {
-        push_common(alloc, parts, interval, other)
-    } else {
-        Ok(())
-    }
-}
-
-// The same of two that meet.
-#[inline(never)]
-fn push_common<V: Point>(
-    alloc: Global,
-    parts: &mut Vec<Interval<V>>,
-    interval: &Interval<V>,
-    other: &Interval<V>,
-) -> Result<(), AllocError>
-    requires { is_some (meet V.cmp interval.now other.now) ≡ true }
-    ensures { OnOk result (parts.new.items
-        ≡ parts.old.items ++ option_to_list (meet V.cmp interval.now other.now)) }
-{
-    let common = interval.common_part(alloc, other)?;
-    parts.reserve(1)?;
-    parts.push_reserved(common);
     Ok(())
 }
 
@@ -160,57 +124,11 @@ fn subtract_from_each<V: Point>(
 {
     let mut left = Vec::new(alloc);
     for interval in these {
-        push_remainders(alloc, &mut left, interval, other)?;
+        let (below, above) = interval.remaining_parts(other);
+        push_part(alloc, &mut left, below)?;
+        push_part(alloc, &mut left, above)?;
     }
     Ok(left)
-}
-
-// Puts what is left of one interval below and above another at the end.
-#[inline(always)]
-fn push_remainders<V: Point>(
-    alloc: Global,
-    parts: &mut Vec<Interval<V>>,
-    interval: &Interval<V>,
-    other: &Interval<V>,
-) -> Result<(), AllocError>
-    ensures { OnOk result (parts.new.items
-        ≡ parts.old.items ++ remainder V.cmp interval.now other.now) }
-{
-    if interval.meets(other) {
-        push_both(alloc, parts, interval, other)
-    } else {
-        push_copy(alloc, parts, interval)
-    }
-}
-
-// The same of two that meet.
-#[inline(never)]
-fn push_both<V: Point>(
-    alloc: Global,
-    parts: &mut Vec<Interval<V>>,
-    interval: &Interval<V>,
-    other: &Interval<V>,
-) -> Result<(), AllocError>
-    ensures { OnOk result (parts.new.items
-        ≡ parts.old.items ++ remainder V.cmp interval.now other.now) }
-{
-    let (below, above) = interval.subtract(alloc, other)?;
-    push_part(parts, below)?;
-    push_part(parts, above)
-}
-
-// Puts a copy of the interval at the end.
-#[inline(never)]
-fn push_copy<V: Point>(
-    alloc: Global,
-    parts: &mut Vec<Interval<V>>,
-    interval: &Interval<V>,
-) -> Result<(), AllocError>
-    ensures { OnOk result (parts.new.items ≡ parts.old.items ++ (interval.now ∷ [])) }
-{
-    parts.reserve(1)?;
-    parts.push_reserved(interval.copy(alloc)?);
-    Ok(())
 }
 
 // What of each interval lies within each of the pieces, which stand in order along the line.
@@ -246,26 +164,40 @@ fn push_clipped<V: Point>(
     let first = pieces.partition_point(|piece| !piece.reaches(interval));
     let (_, near) = pieces.split_at(first);
     for piece in near {
-        let part = interval.clip(alloc, piece)?;
-        if part.is_none() {
+        let Some(part) = interval.clipped_part(piece) else {
             return Ok(());
-        }
-        push_part(parts, part)?;
+        };
+        push_copy(alloc, parts, &part)?;
     }
     Ok(())
 }
 
-// Puts a part at the end, if there is one.
+// Puts a copy of the part at the end, if there is one.
 #[inline(always)]
 fn push_part<V: Point>(
+    alloc: Global,
     parts: &mut Vec<Interval<V>>,
-    part: Option<Interval<V>>,
+    part: Option<Part<V>>,
 ) -> Result<(), AllocError>
-    ensures { OnOk result (parts.new.items ≡ parts.old.items ++ option_to_list part) }
+    ensures { OnOk result (parts.new.items ≡ parts.old.items ++ option_to_list part.entry) }
 {
-    if let Some(interval) = part {
-        parts.reserve(1)?;
-        parts.push_reserved(interval);
+    match part {
+        Some(part) => push_copy(alloc, parts, &part),
+        None => Ok(()),
     }
+}
+
+// Puts a copy of the part at the end.
+#[inline(never)]
+fn push_copy<V: Point>(
+    alloc: Global,
+    parts: &mut Vec<Interval<V>>,
+    part: &Part<V>,
+) -> Result<(), AllocError>
+    ensures { OnOk result (parts.new.items ≡ parts.old.items ++ (part.now ∷ [])) }
+{
+    let interval = part.copy(alloc)?;
+    parts.reserve(1)?;
+    parts.push_reserved(interval);
     Ok(())
 }
