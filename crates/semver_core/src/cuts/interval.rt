@@ -128,6 +128,7 @@ impl<V: Point> Interval<V> {
     }
 
     /// Whether the two have an interval in common, whether it contains a point or not.
+    #[inline(always)]
     pub fn meets(&self, other: &Interval<V>) -> bool
         ensures { result ≡ is_some (meet V.cmp self.now other.now) }
     {
