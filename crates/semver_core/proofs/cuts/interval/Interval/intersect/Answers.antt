@@ -1,5 +1,5 @@
-use Rattle.std.proofs.Common.{ap, ◌∙◌, rules}
-use Rattle.semver_core.specs.Cuts.{option_holds, meet}
+use Rattle.std.proofs.Common.{ap, ◌∙◌}
+use Rattle.semver_core.specs.Cuts.{option_holds}
 use Rattle.semver_core.proofs.CutLaws.{option_holds-meet}
 use Rattle.semver_core.proofs.cuts.interval.Interval.intersect.Goals as goal
 
