@@ -293,29 +293,6 @@ module _ {V : Type 0} {R : V → V → Ordering} (o : IsTotalOrder R) where
           is_some-interval _ ∙ ht ∙ sym (ap (λ x. x && lt a d) (below_upto b d c ht (lt_not_gt _ (lt_gt d c ∙ h))) ∙ upto_below a b d g ht)
       by_tests false false g h = is_some-interval _ ∙ and_true _ _ (below_upto a c d hs h)
 
-  -- two spans that have nothing in common hold no point both
-  pub none-hold : (s t : Span V) (v : V) → is_some (meet R s t) ≡ false → false ≡ (holds R s v && holds R t v)
-  none-hold s t v h = by_case (meet R s t) h (option_holds-meet o s t v)
-    where
-      by_case : (m : Option (Span V)) → is_some m ≡ false → option_holds R m v ≡ (holds R s v && holds R t v) → false ≡ (holds R s v && holds R t v)
-      by_case None n e = e
-      by_case (Some m) n e = cc
-
-  -- the bounds of what two spans have in common, and with those of the first where two are equal
-  pub meet-holds : (s t : Span V) (b c : Bound V) (v : V) → b ≡ greater_lower R s.lower t.lower → c ≡ lesser_upper R s.upper t.upper
-      → holds R (record { lower = b; upper = c }) v ≡ (holds R s v && holds R t v)
-  meet-holds s t b c v e f =
-      ap (λ x. holds R (record { lower = x; upper = c }) v) e
-      ∙ ap (λ x. holds R (record { lower = greater_lower R s.lower t.lower; upper = x }) v) f
-      ∙ sym (option_holds-interval o _ v) ∙ option_holds-meet o s t v
-
-  pub clip-holds : (s t : Span V) (b c : Bound V) (v : V) → b ≡ greater_lower R t.lower s.lower → c ≡ lesser_upper R s.upper t.upper
-      → holds R (record { lower = b; upper = c }) v ≡ (holds R s v && holds R t v)
-  clip-holds s t b c v e f =
-      ap (λ x. holds R (record { lower = x; upper = c }) v) e
-      ∙ ap (λ x. holds R (record { lower = greater_lower R t.lower s.lower; upper = x }) v) f
-      ∙ sym (option_holds-interval o _ v) ∙ option_holds-clip o s t v
-
   clip-both : (s t : Span V) → is_interval R s ≡ true → is_interval R t ≡ true
       → is_some (clip R s t) ≡ (lt (lower_cut t.lower) (upper_cut s.upper) && lt (lower_cut s.lower) (upper_cut t.upper))
   clip-both s t hs ht = by_tests (gt b a) (gt c d) refl refl

@@ -127,7 +127,8 @@ impl<'a> Search<'a> {
         Ok(())
     }
 
-    // Considers the first versions from this one on.
+    // Considers the first versions from this one on. Mostly a better one is known.
+    #[inline(always)]
     #[tactic(auto, using(crate::proofs::Choice::LeastOf::reached_near))]
     fn consider_from(&mut self, alloc: Global, version: &Version) -> Result<(), AllocError>
         ensures { let set = stated.beyond self.old.kept.now self.old.removed.now in
@@ -137,8 +138,21 @@ impl<'a> Search<'a> {
             }) }
     {
         if self.is_reached(version) {
-            return Ok(());
+            Ok(())
+        } else {
+            self.consider_near(alloc, version)
         }
+    }
+
+    // The same, whatever the best so far is.
+    #[inline(never)]
+    fn consider_near(&mut self, alloc: Global, version: &Version) -> Result<(), AllocError>
+        ensures { let set = stated.beyond self.old.kept.now self.old.removed.now in
+            OnOk result (self.new ≡ record self.old {
+              best =
+                  fold (spec.better set) self.old.best (spec.firsts (Beside version.now Near));
+            }) }
+    {
         self.consider_borrowed(alloc, version)?;
         if !version.is_release() {
             self.consider(bare_release(version));

@@ -9,7 +9,7 @@ ghost use Rattle.nodejs_semver.specs.Ranges.Algebra.{meets_of, minus, remainder}
 ghost use Rattle.semver_core.specs.declared.cuts.bound.Bound.TheVariants.{Unbounded};
 ghost use Rattle.nodejs_semver.specs.Internal.Along.{IsAlong};
 
-use semver_core::cuts::{Interval, Point};
+use semver_core::cuts::{Interval, Part, Point};
 use std::alloc::{AllocError, Global};
 
 /// The intersections of all pairs, the first list outside.
@@ -75,7 +75,7 @@ fn push_intersections<V: Point>(
         ++ flat_map (λ t. option_to_list (meet V.cmp interval.now t)) others.now) }
 {
     for other in others {
-        push_part(parts, interval.intersect(alloc, other)?)?;
+        push_part(alloc, parts, interval.common_part(other))?;
     }
     Ok(())
 }
@@ -124,9 +124,9 @@ fn subtract_from_each<V: Point>(
 {
     let mut left = Vec::new(alloc);
     for interval in these {
-        let (below, above) = interval.subtract(alloc, other)?;
-        push_part(&mut left, below)?;
-        push_part(&mut left, above)?;
+        let (below, above) = interval.remaining_parts(other);
+        push_part(alloc, &mut left, below)?;
+        push_part(alloc, &mut left, above)?;
     }
     Ok(left)
 }
@@ -164,26 +164,40 @@ fn push_clipped<V: Point>(
     let first = pieces.partition_point(|piece| !piece.reaches(interval));
     let (_, near) = pieces.split_at(first);
     for piece in near {
-        let part = interval.clip(alloc, piece)?;
-        if part.is_none() {
+        let Some(part) = interval.clipped_part(piece) else {
             return Ok(());
-        }
-        push_part(parts, part)?;
+        };
+        push_copy(alloc, parts, &part)?;
     }
     Ok(())
 }
 
-// Puts a part at the end, if there is one.
+// Puts a copy of the part at the end, if there is one.
 #[inline(always)]
 fn push_part<V: Point>(
+    alloc: Global,
     parts: &mut Vec<Interval<V>>,
-    part: Option<Interval<V>>,
+    part: Option<Part<V>>,
 ) -> Result<(), AllocError>
-    ensures { OnOk result (parts.new.items ≡ parts.old.items ++ option_to_list part) }
+    ensures { OnOk result (parts.new.items ≡ parts.old.items ++ option_to_list part.entry) }
 {
-    if let Some(interval) = part {
-        parts.reserve(1)?;
-        parts.push_reserved(interval);
+    match part {
+        Some(part) => push_copy(alloc, parts, &part),
+        None => Ok(()),
     }
+}
+
+// Puts a copy of the part at the end.
+#[inline(never)]
+fn push_copy<V: Point>(
+    alloc: Global,
+    parts: &mut Vec<Interval<V>>,
+    part: &Part<V>,
+) -> Result<(), AllocError>
+    ensures { OnOk result (parts.new.items ≡ parts.old.items ++ (part.now ∷ [])) }
+{
+    let interval = part.copy(alloc)?;
+    parts.reserve(1)?;
+    parts.push_reserved(interval);
     Ok(())
 }

@@ -10,6 +10,7 @@ use crate::cuts::order::{
     greater_lower, into_greater_lower, into_lesser_upper, is_below, is_past_lower, is_past_upper,
     lesser_upper, lower_order, upper_order,
 };
+use crate::cuts::part::{Part, copied};
 use std::alloc::{AllocError, Global};
 use std::marker::Model;
 
@@ -127,6 +128,7 @@ impl<V: Point> Interval<V> {
     }
 
     /// Whether the two have an interval in common, whether it contains a point or not.
+    #[inline(always)]
     pub fn meets(&self, other: &Interval<V>) -> bool
         ensures { result ≡ is_some (meet V.cmp self.now other.now) }
     {
@@ -140,7 +142,6 @@ impl<V: Point> Interval<V> {
     ///
     /// Both intervals are borrowed, so the two bounds are copied: the call fails only if that
     /// allocation fails. To consume both intervals and copy nothing, see `into_intersection`.
-    #[inline(always)]
     pub fn intersect(
         &self,
         alloc: Global,
@@ -150,12 +151,20 @@ impl<V: Point> Interval<V> {
         ensures set { IfOk result (λ r. (v : V) →
             option_holds V.cmp r v ≡ (holds V.cmp self.now v && holds V.cmp other.now v)) }
     {
+        Ok(copied(alloc, self.common_part(other))?)
+    }
+
+    /// The same with borrowed bounds, so that nothing is copied.
+    #[inline(always)]
+    pub fn common_part<'a>(&'a self, other: &'a Interval<V>) -> Option<Part<'a, V>>
+        ensures { result ≡ meet V.cmp self.now other.now }
+    {
         if !self.meets(other) {
-            return Ok(None);
+            return None;
         }
-        let lower = greater_lower(&self.lower, &other.lower).copy(alloc)?;
-        let upper = lesser_upper(&self.upper, &other.upper).copy(alloc)?;
-        Ok(Some(Interval { lower, upper }))
+        let lower = greater_lower(&self.lower, &other.lower);
+        let upper = lesser_upper(&self.upper, &other.upper);
+        Some(Part::of_ordered(lower, upper))
     }
 
     /// The intersection, by moving the bounds of both intervals. It allocates nothing. Where
@@ -181,7 +190,6 @@ impl<V: Point> Interval<V> {
     /// its own bounds, with their builds, wherever it can.
     ///
     /// Two bounds are copied: the call fails only if that allocation fails.
-    #[inline(always)]
     pub fn clip(
         &self,
         alloc: Global,
@@ -191,12 +199,20 @@ impl<V: Point> Interval<V> {
         ensures set { IfOk result (λ r. (v : V) →
             option_holds V.cmp r v ≡ (holds V.cmp self.now v && holds V.cmp other.now v)) }
     {
+        Ok(copied(alloc, self.clipped_part(other))?)
+    }
+
+    /// The same with borrowed bounds, so that nothing is copied.
+    #[inline(always)]
+    pub fn clipped_part<'a>(&'a self, other: &'a Interval<V>) -> Option<Part<'a, V>>
+        ensures { result ≡ clip V.cmp self.now other.now }
+    {
         if !self.meets(other) {
-            return Ok(None);
+            return None;
         }
-        let lower = greater_lower(&other.lower, &self.lower).copy(alloc)?;
-        let upper = lesser_upper(&self.upper, &other.upper).copy(alloc)?;
-        Ok(Some(Interval { lower, upper }))
+        let lower = greater_lower(&other.lower, &self.lower);
+        let upper = lesser_upper(&self.upper, &other.upper);
+        Some(Part::of_ordered(lower, upper))
     }
 
     /// What is left of the interval below the other one, and above it. A new bound is the other's
@@ -212,35 +228,34 @@ impl<V: Point> Interval<V> {
             (option_holds V.cmp r.0 v || option_holds V.cmp r.1 v)
             ≡ (holds V.cmp self.now v && not (holds V.cmp other.now v))) }
     {
-        Ok(self.exact_remainders(alloc, other)?)
+        let (below, above) = self.remaining_parts(other);
+        let below = copied(alloc, below)?;
+        let above = copied(alloc, above)?;
+        Ok((below, above))
     }
 
-    // The two parts by their bounds.
-    fn exact_remainders(
-        &self,
-        alloc: Global,
-        other: &Interval<V>,
-    ) -> Result<(Option<Interval<V>>, Option<Interval<V>>), AllocError>
-        ensures { IfOk result (λ r. r ≡ remainders V.cmp self.now other.now) }
+    /// The same with borrowed bounds, so that nothing is copied.
+    #[inline(always)]
+    pub fn remaining_parts<'a>(
+        &'a self,
+        other: &'a Interval<V>,
+    ) -> (Option<Part<'a, V>>, Option<Part<'a, V>>)
+        ensures { result ≡ remainders V.cmp self.now other.now }
     {
         if !self.meets(other) {
-            return Ok((Some(self.copy(alloc)?), None));
+            return (Some(Part::of_ordered(&self.lower, &self.upper)), None);
         }
         let below = if lower_order(&self.lower, &other.lower).is_lt() {
-            let lower = self.lower.copy(alloc)?;
-            let upper = other.lower.copy(alloc)?;
-            Some(Interval { lower, upper })
+            Some(Part::of_ordered(&self.lower, &other.lower))
         } else {
             None
         };
         let above = if upper_order(&other.upper, &self.upper).is_lt() {
-            let lower = other.upper.copy(alloc)?;
-            let upper = self.upper.copy(alloc)?;
-            Some(Interval { lower, upper })
+            Some(Part::of_ordered(&other.upper, &self.upper))
         } else {
             None
         };
-        Ok((below, above))
+        (below, above)
     }
 }
 
