@@ -24,20 +24,6 @@ fn write_number<W: fmt::Write>(number: u64, f: &mut fmt::Formatter<W>) -> fmt::R
     f.write_str(Buffer::new().format(number))
 }
 
-// A dot and a number. One digit is written with its dot.
-#[inline(always)]
-fn write_dotted_number<W: fmt::Write>(number: u64, f: &mut fmt::Formatter<W>) -> fmt::Result
-    ensures { DisplaysStyledOnOk W.write_str_gives f.old result
-        (Some (46 ∷ decimal number)) f.new }
-{
-    if number < 10 {
-        let at = 2 * (number as usize);
-        return f.write_str(&".0.1.2.3.4.5.6.7.8.9"[at..at + 2]);
-    }
-    f.write_str(".")?;
-    write_number(number, f)
-}
-
 /// A number prints in decimal, and a text as it is. Width, fill and precision change nothing.
 impl fmt::Display for Identifier {
     ghost output = { λ id. Some (id_text (id_view id)) };
@@ -95,8 +81,10 @@ fn write_numbers<W: fmt::Write>(
         (Some (decimal major ++ 46 ∷ (decimal minor ++ 46 ∷ decimal patch))) f.new }
 {
     write_number(major, f)?;
-    write_dotted_number(minor, f)?;
-    write_dotted_number(patch, f)
+    f.write_str(".")?;
+    write_number(minor, f)?;
+    f.write_str(".")?;
+    write_number(patch, f)
 }
 
 /// A version prints as `major.minor.patch`, then `-` and the pre-release where there is one, then

@@ -1,5 +1,5 @@
 -- Serves proofs: what a loop over identifiers has written.
-use Rattle.std.proofs.Common.{◌≡◌, ◌<◌, ◌+◌, ◌*◌, ℕ, zero, suc, List, [], ◌∷◌, ◌++◌, length, take, get_or, arith, map, refl, sym, ap, ◌∙◌, append_assoc, append-nil}
+use Rattle.std.proofs.Common.{◌≡◌, ◌<◌, ◌+◌, ℕ, zero, suc, List, [], ◌∷◌, ◌++◌, length, take, get_or, arith, map, refl, sym, ap, ◌∙◌, append_assoc, append-nil}
 use Rattle.std.proofs.lemmas.List.{take_more}
 use Rattle.std.specs.Fmt.{decimal, digits}
 use Rattle.std.specs.List.{join_with_byte, slice_range}
@@ -45,18 +45,3 @@ digit_text (suc (suc (suc (suc (suc (suc (suc zero))))))) h = refl
 digit_text (suc (suc (suc (suc (suc (suc (suc (suc zero)))))))) h = refl
 digit_text (suc (suc (suc (suc (suc (suc (suc (suc (suc zero))))))))) h = refl
 digit_text (suc (suc (suc (suc (suc (suc (suc (suc (suc (suc n)))))))))) h = absurd (omega (arith, h))
-
--- and each with a dot before it
-pub dotted_digit_text : (n : ℕ) → n < 10 → slice_range (codes ".0.1.2.3.4.5.6.7.8.9") (2 * n) (2 * n + 2) ≡ 46 ∷ decimal n
-unfolding digits
-dotted_digit_text zero h = refl
-dotted_digit_text (suc zero) h = refl
-dotted_digit_text (suc (suc zero)) h = refl
-dotted_digit_text (suc (suc (suc zero))) h = refl
-dotted_digit_text (suc (suc (suc (suc zero)))) h = refl
-dotted_digit_text (suc (suc (suc (suc (suc zero))))) h = refl
-dotted_digit_text (suc (suc (suc (suc (suc (suc zero)))))) h = refl
-dotted_digit_text (suc (suc (suc (suc (suc (suc (suc zero))))))) h = refl
-dotted_digit_text (suc (suc (suc (suc (suc (suc (suc (suc zero)))))))) h = refl
-dotted_digit_text (suc (suc (suc (suc (suc (suc (suc (suc (suc zero))))))))) h = refl
-dotted_digit_text (suc (suc (suc (suc (suc (suc (suc (suc (suc (suc n)))))))))) h = absurd (omega (arith, h))
