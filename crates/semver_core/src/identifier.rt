@@ -2,7 +2,8 @@
 
 ghost use Rattle.std.specs.Prelude.{◌≡◌, ◌<◌, Some, refl, IfOk, OnErr, length};
 ghost use Rattle.semver_core.specs.Text.Identifiers.{IsText};
-ghost use Rattle.std.specs.Cmp.{eq_by_cmp_equiv, on_equiv, on_per, on_po, on_total, partial_equiv_from_equiv, po};
+ghost use Rattle.std.specs.Cmp.{eq_by_cmp_equiv, on_equiv, on_per, on_po, on_total};
+ghost use Rattle.std.specs.Cmp.{partial_equiv_from_equiv, po};
 ghost use Rattle.std.specs.Ordering.{is_eq, eq_by_cmp};
 ghost use Rattle.semver_core.specs.Values.Hashes.{id_writes};
 ghost use Rattle.semver_core.specs.Values.Order.{id_cmp};

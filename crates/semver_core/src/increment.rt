@@ -2,7 +2,10 @@
 
 ghost use Rattle.std.specs.Prelude.{◌≡◌, IfOk, OnErr, codes, false};
 ghost use Rattle.semver_core.specs.Increments.Table as spec;
-ghost use Rattle.semver_core.specs.Increments.Least.{CanStep, HasNoIdentifier, IsAbove, IsLeastAnswer, IsLeastOrOverflow, IsNextMajor, IsNextMinor, IsNextPatch, IsOfNextMajor, IsOfNextMinor, IsOfNextPatch, IsPlain};
+ghost use Rattle.semver_core.specs.Increments.Least.{CanStep, HasNoIdentifier, IsAbove};
+ghost use Rattle.semver_core.specs.Increments.Least.{IsLeastAnswer, IsLeastOrOverflow, IsNextMajor};
+ghost use Rattle.semver_core.specs.Increments.Least.{IsNextMinor, IsNextPatch, IsOfNextMajor};
+ghost use Rattle.semver_core.specs.Increments.Least.{IsOfNextMinor, IsOfNextPatch, IsPlain};
 ghost use Rattle.semver_core.specs.Increments.View.{HasText, IfAnswered, Returns, fault_of, given};
 ghost use Rattle.semver_core.specs.Internal.IncrementSteps.{RefusedWith};
 ghost use Rattle.semver_core.specs.Values.Versions.{IsVersion, is_release};

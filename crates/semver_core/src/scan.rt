@@ -4,17 +4,22 @@
 //! A call on a `&str` takes a place in it, a byte index. A call on a `&[u8]` reads at the front of
 //! the bytes, save `number_in`, which takes a place.
 
-ghost use Rattle.std.specs.Prelude.{◌≡◌, ◌≤◌, ◌==◌, ◌+◌, ◌<◌, if◌then◌else◌, ℕ, List, [], length, drop, take, IfOk, IfSome, IfNone, OnErr, OnOk, IsCharBoundary, IsUtf8, Ok, None, Some, false, true};
+ghost use Rattle.std.specs.Prelude.{◌≡◌, ◌≤◌, ◌==◌, ◌+◌, ◌<◌, if◌then◌else◌, ℕ, List, [], length};
+ghost use Rattle.std.specs.Prelude.{drop, take, IfOk, IfSome, IfNone, OnErr, OnOk, IsCharBoundary};
+ghost use Rattle.std.specs.Prelude.{IsUtf8, Ok, None, Some, false, true};
 ghost use Rattle.std.specs.Char.{is_ascii_digit};
 ghost use Rattle.std.specs.List.{prefix_len};
 ghost use Rattle.semver_core.specs.Internal.CommonReading.{grown, run_from, number_of_run};
-ghost use Rattle.semver_core.specs.Text.Characters.{is_identifier_char, is_whitespace, begins, IsAfterBlank, IsPieceAt, NoPieceAt};
-ghost use Rattle.semver_core.specs.Text.Identifiers.{Id, identifier_of, goes_on, is_listed, listed, IsLongestIdentifiers};
+ghost use Rattle.semver_core.specs.Text.Characters.{is_identifier_char, is_whitespace, begins};
+ghost use Rattle.semver_core.specs.Text.Characters.{IsAfterBlank, IsPieceAt, NoPieceAt};
+ghost use Rattle.semver_core.specs.Text.Identifiers.{Id, identifier_of, goes_on, is_listed, listed};
+ghost use Rattle.semver_core.specs.Text.Identifiers.{IsLongestIdentifiers};
 ghost use Rattle.semver_core.specs.Text.Numbers.{IsWholeNumber};
 ghost use Rattle.semver_core.specs.Internal.Reading.{number_at, list_at};
 ghost use Rattle.semver_core.specs.Values.Views.{id_view, ids_view, list_view};
 ghost use Rattle.semver_core.specs.Text.Characters.{IsTrim};
-ghost use Rattle.semver_core.specs.Internal.Spaces.{drop_end_spaces, drop_spaces, goes_on_with, is_space_of_two, is_space_of_three, space_len};
+ghost use Rattle.semver_core.specs.Internal.Spaces.{drop_end_spaces, drop_spaces, goes_on_with};
+ghost use Rattle.semver_core.specs.Internal.Spaces.{is_space_of_two, is_space_of_three, space_len};
 
 use crate::version::lists::Identifiers;
 use crate::{Identifier, MAX_SAFE_INTEGER};

@@ -1,12 +1,16 @@
 // Versions: five values.
 
-ghost use Rattle.std.specs.Prelude.{◌≡◌, ◌↔◌, Some, refl, IsTrue, IfOk, All, true, false, length, ◌<◌, ◌≤◌};
+ghost use Rattle.std.specs.Prelude.{◌≡◌, ◌↔◌, Some, refl, IsTrue, IfOk, All, true, false, length};
+ghost use Rattle.std.specs.Prelude.{◌<◌, ◌≤◌};
 ghost use Rattle.semver_core.specs.Failures.{MemoryOnlyIf, NeverRefused, RefusedOnlyIf};
-ghost use Rattle.semver_core.specs.Text.VersionText.{Reads, HasNoVersion, HasVersionWithIdentifiers};
+ghost use Rattle.semver_core.specs.Text.VersionText.{Reads, HasNoVersion};
+ghost use Rattle.semver_core.specs.Text.VersionText.{HasVersionWithIdentifiers};
 ghost use Rattle.semver_core.specs.Text.Parsing.{Parses, IsRefused, NeedsMemory};
-ghost use Rattle.semver_core.specs.Values.Versions.{VersionValue, HasIdentifiers, IsVersion, IsId, is_release, release_value};
+ghost use Rattle.semver_core.specs.Values.Versions.{VersionValue, HasIdentifiers, IsVersion, IsId};
+ghost use Rattle.semver_core.specs.Values.Versions.{is_release, release_value};
 ghost use Rattle.semver_core.specs.Internal.Reading.{qualified};
-ghost use Rattle.semver_core.specs.Values.Views.{ids_view, id_view, IsFull, build_of, pre_release_of};
+ghost use Rattle.semver_core.specs.Values.Views.{ids_view, id_view, IsFull, build_of};
+ghost use Rattle.semver_core.specs.Values.Views.{pre_release_of};
 
 pub mod accepts;
 mod convert;

@@ -4,17 +4,17 @@ use Rattle.std.proofs.Math.Seq.{drop-append_seam, take-append_seam}
 use Rattle.std.proofs.lemmas.Bool.{cases_lt}
 use Rattle.std.proofs.lemmas.Grind.{flat_map-append}
 use Rattle.std.proofs.lemmas.List.{drop-append-le, length-append, take-append-drop, take-append-le}
-use Rattle.std.specs.List.{flat_map}
-use Rattle.semver_lines.specs.Answers.{AllAnswer, Answers, IsAnswer}
+use Rattle.std.specs.List.{AllZip, flat_map}
+use Rattle.semver_lines.specs.Answers.{Answers, IsAnswer}
 use Rattle.semver_lines.specs.Lines.{ended}
 use Rattle.semver_lines.specs.Outcome.{AnswersFront, AnswersTorn}
 use Rattle.semver_lines.specs.Internal.Steps.{GrowsByAnswer, GrowsByAnswers, GrowsByFront}
 
-AllAnswer-append : (xs ys answers others : List (List ℕ)) → AllAnswer xs answers → AllAnswer ys others → AllAnswer (xs ++ ys) (answers ++ others)
-AllAnswer-append [] ys [] others h k = k
-AllAnswer-append [] ys (a ∷ answers) others h k = absurd h
-AllAnswer-append (x ∷ xs) ys [] others h k = absurd h
-AllAnswer-append (x ∷ xs) ys (a ∷ answers) others h k = (h.0, AllAnswer-append xs ys answers others h.1 k)
+answered-append : (xs ys answers others : List (List ℕ)) → AllZip IsAnswer xs answers → AllZip IsAnswer ys others → AllZip IsAnswer (xs ++ ys) (answers ++ others)
+answered-append [] ys [] others h k = k
+answered-append [] ys (a ∷ answers) others h k = absurd h
+answered-append (x ∷ xs) ys [] others h k = absurd h
+answered-append (x ∷ xs) ys (a ∷ answers) others h k = (h.0, answered-append xs ys answers others h.1 k)
 
 pub Answers-nil : Answers [] []
 Answers-nil = record { answers = []; each = tt; output_is = refl }
@@ -25,7 +25,7 @@ Answers-one line answer h = record { answers = answer ∷ []; each = (h, tt); ou
 pub Answers-append : (xs ys : List (List ℕ)) (a b : List ℕ) → Answers xs a → Answers ys b → Answers (xs ++ ys) (a ++ b)
 Answers-append xs ys a b h k = record {
   answers = h.answers ++ k.answers;
-  each = AllAnswer-append xs ys h.answers k.answers h.each k.each;
+  each = answered-append xs ys h.answers k.answers h.each k.each;
   output_is = rw (h.output_is, k.output_is) (sym (flat_map-append ended h.answers k.answers));
 }
 
@@ -94,7 +94,7 @@ behind part rest written left e h =
     let n = length part in
     (front_of written left part rest (sym e) h, sym (drop-append_seam part rest) ∙ ap (λ l. drop n l) e ∙ drop-append-le n written left h)
 
-torn_at : (lines answers : List (List ℕ)) (written left : List ℕ) → AllAnswer lines answers → flat_map ended answers ≡ written ++ left → 0 < length left → AnswersTorn lines written
+torn_at : (lines answers : List (List ℕ)) (written left : List ℕ) → AllZip IsAnswer lines answers → flat_map ended answers ≡ written ++ left → 0 < length left → AnswersTorn lines written
 torn_at [] [] written left h e some = absurd (omega (arith, ap length e, length-append written left))
 torn_at [] (a ∷ answers) written left h e some = absurd h
 torn_at (l ∷ ls) [] written left h e some = absurd h

@@ -1,6 +1,6 @@
 -- Statement. The answer to each line of an input.
 use Rattle.std.specs.Prelude.{◌≡◌, ℕ, List, [], ◌∷◌, ⊤, IsUtf8}
-use Rattle.std.specs.List.{flat_map}
+use Rattle.std.specs.List.{AllZip, flat_map}
 use Rattle.semver_lines.specs.Commands.{Asks, IsReply}
 use Rattle.semver_lines.specs.Lines.{ended, fields}
 use Rattle.semver_lines.specs.Names.{fault_word}
@@ -16,15 +16,8 @@ pub data IsAnswer (line answer : List ℕ) : Type 0 where
   replied : (question : Question) → IsQuestion line question → IsReply question answer → IsAnswer line answer
   no_question : ((question : Question) → IsQuestion line question → ⊥) → answer ≡ fault_word BadLine → IsAnswer line answer
 
--- each line has its answer
-abbrev pub AllAnswer : List (List ℕ) → List (List ℕ) → Type 0
-AllAnswer [] [] = ⊤
-AllAnswer [] (a ∷ answers) = ⊥
-AllAnswer (l ∷ lines) [] = ⊥
-AllAnswer (l ∷ lines) (a ∷ answers) = IsAnswer l a × AllAnswer lines answers
-
--- the output is an answer to each of these lines, with a line feed
+-- the output is the answers to these lines, one to each and with a line feed
 pub record Answers (lines : List (List ℕ)) (output : List ℕ) : Type 0 where
   pub answers : List (List ℕ)
-  pub each : AllAnswer lines answers
+  pub each : AllZip IsAnswer lines answers
   pub output_is : output ≡ flat_map ended answers

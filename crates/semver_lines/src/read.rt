@@ -3,7 +3,8 @@
 ghost use Rattle.std.specs.Prelude.{ℕ, List};
 ghost use Rattle.semver_lines.specs.Lines.{fields};
 ghost use Rattle.semver_lines.specs.Replies.{AreVersionsOf, IsRangeOf, IsVersionOf};
-ghost use Rattle.semver_lines.specs.Internal.Results.{Appends, IsReadAs, ParsesRange, ParsesVersion};
+ghost use Rattle.semver_lines.specs.Internal.Results.{Appends, IsReadAs, ParsesRange};
+ghost use Rattle.semver_lines.specs.Internal.Results.{ParsesVersion};
 
 use crate::fault::Fault;
 use crate::fields::first;

@@ -1,11 +1,14 @@
 // Answers each line of an input.
 
-ghost use Rattle.std.specs.Prelude.{ℕ, List, ◌≡◌, ◌+◌, ◌<◌, ◌≤◌, ◌++◌, ◌∷◌, [], true, length, take, drop, slice_index, IfSome, IfNone, IsUtf8, IfOk, IfErr, OnOk, OnErr, string_bytes};
+ghost use Rattle.std.specs.Prelude.{ℕ, List, ◌≡◌, ◌+◌, ◌<◌, ◌≤◌, ◌++◌, ◌∷◌, [], true, length, take};
+ghost use Rattle.std.specs.Prelude.{drop, slice_index, IfSome, IfNone, IsUtf8, IfOk, IfErr, OnOk};
+ghost use Rattle.std.specs.Prelude.{OnErr, string_bytes};
 ghost use Rattle.std.specs.Io.KnownBytes.{Appends, Consumes, Keeps, IsAtEnd};
 ghost use Rattle.semver_lines.specs.Internal.LineCuts.{cut_lines, cut_rest};
 ghost use Rattle.semver_lines.specs.Lines.{last_line, no_feed};
 ghost use Rattle.semver_lines.specs.Outcome.{Ran};
-ghost use Rattle.semver_lines.specs.Internal.Steps.{Finished, GrowsByAnswers, GrowsByFront, Stopped, Taken, Turned, WritesFront};
+ghost use Rattle.semver_lines.specs.Internal.Steps.{Finished, GrowsByAnswers, GrowsByFront};
+ghost use Rattle.semver_lines.specs.Internal.Steps.{Stopped, Taken, Turned, WritesFront};
 
 use crate::answer::{answer_line, answer_text};
 use memchr::memchr;

@@ -5,7 +5,8 @@ ghost use Rattle.std.specs.Prelude.{◌≡◌, IfOk, IfSome, Result};
 ghost use Rattle.semver_core.specs.Increments.Table as increment;
 ghost use Rattle.semver_core.specs.Increments.View.{Returns, fault_of};
 ghost use Rattle.semver_core.specs.Values.Versions.{VersionValue};
-ghost use Rattle.semver_lines.specs.Names.{difference_word, increment_fault_word, next_text, order_word, range_or_none, truth_word, version_or_none};
+ghost use Rattle.semver_lines.specs.Names.{difference_word, increment_fault_word, next_text};
+ghost use Rattle.semver_lines.specs.Names.{order_word, range_or_none, truth_word, version_or_none};
 
 use nodejs_semver::{Failure, IncrementError, Range, Version, VersionDiff};
 use std::alloc::AllocError;

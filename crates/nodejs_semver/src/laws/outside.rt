@@ -4,7 +4,8 @@ ghost use Rattle.std.specs.Prelude.{◌≡◌, not, Ok};
 ghost use Rattle.std.specs.List.{list_all};
 ghost use Rattle.semver_core.specs.Cuts.{is_past, lower_cut, upper_cut};
 ghost use Rattle.semver_core.specs.Values.Order.{precedence};
-ghost use Rattle.nodejs_semver.specs.declared.range.outside.OutsideDirection.TheVariants.{Higher, Lower};
+ghost use Rattle.nodejs_semver.specs.declared.range.outside.OutsideDirection.TheVariants.{Higher};
+ghost use Rattle.nodejs_semver.specs.declared.range.outside.OutsideDirection.TheVariants.{Lower};
 
 use crate::{OutsideDirection, Range, RangeError, Version};
 

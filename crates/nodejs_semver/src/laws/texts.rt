@@ -1,6 +1,7 @@
 // What is said of range texts.
 
-ghost use Rattle.std.specs.Prelude.{◌≡◌, ◌↔◌, ◌<◌, ℕ, false, IfNone, IfOk, IfSome, IsUtf8, List, Some, length};
+ghost use Rattle.std.specs.Prelude.{◌≡◌, ◌↔◌, ◌<◌, ℕ, false, IfNone, IfOk, IfSome, IsUtf8, List};
+ghost use Rattle.std.specs.Prelude.{Some, length};
 ghost use Rattle.std.specs.List.{list_all};
 ghost use Rattle.semver_core.specs.Cuts.{Span};
 ghost use Rattle.semver_core.specs.Lists.{is_empty};

@@ -6,7 +6,8 @@ ghost use Rattle.semver_core.specs.Cuts.{meet};
 ghost use Rattle.semver_core.specs.Values.Order.{precedence};
 ghost use Rattle.semver_core.specs.Values.Versions.{VersionValue, is_release};
 ghost use Rattle.nodejs_semver.specs.Ranges.Gate.{accepts, option_accepts};
-ghost use Rattle.nodejs_semver.specs.Ranges.Algebra.{intersection, difference, covers_one, list_holds, option_list_holds};
+ghost use Rattle.nodejs_semver.specs.Ranges.Algebra.{intersection, difference, covers_one};
+ghost use Rattle.nodejs_semver.specs.Ranges.Algebra.{list_holds, option_list_holds};
 
 use crate::Range;
 use crate::range::lists;

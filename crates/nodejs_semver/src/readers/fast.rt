@@ -1,13 +1,17 @@
 // The reader of common range texts, in one pass from the left.
 
 ghost use Rattle.std.specs.Option.{ForSome};
-ghost use Rattle.std.specs.Prelude.{◌≡◌, ◌≤◌, [], if◌then◌else◌, IfNone, IfOk, IfSome, IsFalse, IsTrue, None, Some, true};
+ghost use Rattle.std.specs.Prelude.{◌≡◌, ◌≤◌, [], if◌then◌else◌, IfNone, IfOk, IfSome, IsFalse};
+ghost use Rattle.std.specs.Prelude.{IsTrue, None, Some, true};
 ghost use Rattle.nodejs_semver.specs.Internal.CommonFronts as Spec;
 ghost use Rattle.nodejs_semver.specs.Text.Common.{IsCommonRange, IsUncommon};
 ghost use Rattle.nodejs_semver.specs.Text.Denotes.{denotes};
 ghost use Rattle.nodejs_semver.specs.Internal.Fronts.{dotted_front};
-ghost use Rattle.nodejs_semver.specs.Internal.CommonViews.{between_view, both_view, bounds_front_view, passed_view};
-ghost use Rattle.nodejs_semver.specs.Internal.Readings.{bounds_view, partial_front_view, partial_pair_view, partial_view, rest_view, table_view};
+ghost use Rattle.nodejs_semver.specs.Internal.CommonViews.{between_view, both_view};
+ghost use Rattle.nodejs_semver.specs.Internal.CommonViews.{bounds_front_view, passed_view};
+ghost use Rattle.nodejs_semver.specs.Internal.Readings.{bounds_view, partial_front_view};
+ghost use Rattle.nodejs_semver.specs.Internal.Readings.{partial_pair_view, partial_view, rest_view};
+ghost use Rattle.nodejs_semver.specs.Internal.Readings.{table_view};
 ghost use Rattle.semver_core.specs.Cuts.{interval, is_interval};
 ghost use Rattle.semver_core.specs.Values.Order.{precedence};
 ghost use Rattle.semver_core.specs.declared.TheConstants.{MAX_SAFE_INTEGER};

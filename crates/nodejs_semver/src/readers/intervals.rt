@@ -2,14 +2,18 @@
 // while partials are read.
 
 ghost use Rattle.std.specs.Option.{option_to_list};
-ghost use Rattle.std.specs.Prelude.{◌≡◌, ◌<◌, ◌++◌, ◌∷◌, [], List, Option, IfOk, OnOk, is_some, length, true};
+ghost use Rattle.std.specs.Prelude.{◌≡◌, ◌<◌, ◌++◌, ◌∷◌, [], List, Option, IfOk, OnOk, is_some};
+ghost use Rattle.std.specs.Prelude.{length, true};
 ghost use Rattle.semver_core.specs.Text.Identifiers.{is_listed, listed};
 ghost use Rattle.nodejs_semver.specs.Text.Denotes.{part_bounds, part_intervals};
 ghost use Rattle.nodejs_semver.specs.Internal.CommonFronts.{pushed};
 ghost use Rattle.nodejs_semver.specs.Internal.CommonViews.{between_view, both_view};
 ghost use Rattle.nodejs_semver.specs.Internal.Meets.{joined_from, next_at};
-ghost use Rattle.nodejs_semver.specs.Internal.Readings.{bare_view, bound_view, bounds_view, hyphen_pushed_view, next_view, partial_view, sign_view, word_pushed_view};
-ghost use Rattle.nodejs_semver.specs.Internal.Signs.{hyphen_pushed, signed_word, upper_behind, upper_of, word_pushed};
+ghost use Rattle.nodejs_semver.specs.Internal.Readings.{bare_view, bound_view, bounds_view};
+ghost use Rattle.nodejs_semver.specs.Internal.Readings.{hyphen_pushed_view, next_view};
+ghost use Rattle.nodejs_semver.specs.Internal.Readings.{partial_view, sign_view, word_pushed_view};
+ghost use Rattle.nodejs_semver.specs.Internal.Signs.{hyphen_pushed, signed_word, upper_behind};
+ghost use Rattle.nodejs_semver.specs.Internal.Signs.{upper_of, word_pushed};
 ghost use Rattle.nodejs_semver.specs.Internal.Words.{word_at};
 ghost use Rattle.nodejs_semver.specs.Text.WordText.{hyphen};
 ghost use Rattle.nodejs_semver.specs.Text.Table.{table};

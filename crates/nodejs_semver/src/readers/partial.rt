@@ -7,7 +7,8 @@ ghost use Rattle.nodejs_semver.specs.Internal.Fronts.{front_view};
 ghost use Rattle.semver_core.specs.Text.Characters.{is_identifier_char};
 ghost use Rattle.semver_core.specs.Text.Identifiers.{goes_on, is_listed};
 ghost use Rattle.nodejs_semver.specs.Internal.Partials.{drop_v};
-ghost use Rattle.nodejs_semver.specs.Internal.Readings.{pair_view, partial_front_view, partial_pair_view};
+ghost use Rattle.nodejs_semver.specs.Internal.Readings.{pair_view, partial_front_view};
+ghost use Rattle.nodejs_semver.specs.Internal.Readings.{partial_pair_view};
 ghost use Rattle.semver_core.specs.declared.TheConstants.{MAX_SAFE_INTEGER};
 
 use crate::readers::syntax::Partial;

@@ -1,7 +1,8 @@
 // The word table: the bounds of a word, by its form and the numbers of its partial.
 
 ghost use Rattle.std.specs.Prelude.{◌≡◌, ◌≤◌, ◌<◌, ◌+◌, ◌^◌, Some, length, unwrap_or};
-ghost use Rattle.nodejs_semver.specs.Internal.Readings.{bare_view, bounds_view, comparator_view, partial_view, sign_view, table_view};
+ghost use Rattle.nodejs_semver.specs.Internal.Readings.{bare_view, bounds_view, comparator_view};
+ghost use Rattle.nodejs_semver.specs.Internal.Readings.{partial_view, sign_view, table_view};
 ghost use Rattle.nodejs_semver.specs.Internal.Signs.{signed_word};
 ghost use Rattle.nodejs_semver.specs.Text.Table as Spec;
 ghost use Rattle.nodejs_semver.specs.Text.Table.{table};

@@ -2,7 +2,9 @@
 
 ghost use Rattle.std.specs.Prelude.{◌≡◌, ◌≤◌, ◌+◌, length, take, drop, true};
 ghost use Rattle.nodejs_semver.specs.Internal.Partials.{longest_partial};
-ghost use Rattle.nodejs_semver.specs.Internal.Readings.{comparator_front_view, greater_view, partial_front_view, rest_view, sign_pair_view, sign_view};
+ghost use Rattle.nodejs_semver.specs.Internal.Readings.{comparator_front_view, greater_view};
+ghost use Rattle.nodejs_semver.specs.Internal.Readings.{partial_front_view, rest_view};
+ghost use Rattle.nodejs_semver.specs.Internal.Readings.{sign_pair_view, sign_view};
 ghost use Rattle.nodejs_semver.specs.Internal.Signs as Signs;
 ghost use Rattle.nodejs_semver.specs.Internal.Words as Spec;
 ghost use Rattle.nodejs_semver.specs.Internal.Words.{is_boundary};

@@ -1,7 +1,9 @@
 // An interval: all points between two cuts.
-ghost use Rattle.std.specs.Prelude.{◌≡◌, ◌&&◌, ◌||◌, not, Option, Some, None, IfOk, IfErr, true, is_some};
+ghost use Rattle.std.specs.Prelude.{◌≡◌, ◌&&◌, ◌||◌, not, Option, Some, None, IfOk, IfErr, true};
+ghost use Rattle.std.specs.Prelude.{is_some};
 ghost use Rattle.std.specs.Ordering.{is_le, is_lt};
-ghost use Rattle.semver_core.specs.Cuts.{covers, cut_cmp, holds, interval, is_interval, is_past, lower_cut, meet};
+ghost use Rattle.semver_core.specs.Cuts.{covers, cut_cmp, holds, interval, is_interval, is_past};
+ghost use Rattle.semver_core.specs.Cuts.{lower_cut, meet};
 ghost use Rattle.semver_core.specs.Cuts.{option_holds, remainders, upper_cut};
 ghost use Rattle.semver_core.specs.Clips.{clip};
 

@@ -7,7 +7,9 @@ use crate::cuts::interval::Interval;
 use std::alloc::{AllocError, Global};
 use std::marker::Model;
 
-/// A part of intervals, with the bounds that it has of theirs: an interval that is not copied yet.
+/// A part of intervals that borrows its bounds from them: an interval that is not copied yet.
+///
+/// `Interval::common_part`, `clipped_part` and `remaining_parts` return parts.
 #[derive(Drop)]
 pub struct Part<'a, V: Point> {
     lower: &'a Bound<V>,
@@ -34,6 +36,20 @@ impl<'a, V: Point> Part<'a, V> {
         ensures { result ≡ record { lower = lower.now; upper = upper.now } }
     {
         Part { lower, upper }
+    }
+
+    /// The bound below the part.
+    pub fn lower(&self) -> &'a Bound<V>
+        ensures { result.now ≡ self.now.lower }
+    {
+        self.lower
+    }
+
+    /// The bound above the part.
+    pub fn upper(&self) -> &'a Bound<V>
+        ensures { result.now ≡ self.now.upper }
+    {
+        self.upper
     }
 
     /// The part as an interval of its own. Fails only if allocation fails.

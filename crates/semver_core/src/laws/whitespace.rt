@@ -1,6 +1,7 @@
 // Whitespace as the bytes of a text spell it.
 
-ghost use Rattle.std.specs.Prelude.{◌≡◌, ℕ, List, ◌++◌, drop, IsCharBoundary, IsUtf8, if◌then◌else◌};
+ghost use Rattle.std.specs.Prelude.{◌≡◌, ℕ, List, ◌++◌, drop, IsCharBoundary, IsUtf8};
+ghost use Rattle.std.specs.Prelude.{if◌then◌else◌};
 ghost use Rattle.std.specs.Char.{encode_utf8, len_utf8};
 ghost use Rattle.semver_core.specs.Internal.Spaces.{space_len, drop_spaces, trim};
 ghost use Rattle.semver_core.specs.Text.Characters.{is_whitespace, IsTrim, IsAfterBlank};

@@ -1,6 +1,7 @@
 //! The reader of common version texts.
 
-ghost use Rattle.std.specs.Prelude.{◌||◌, ◌==◌, get_or, ◌≡◌, ◌≤◌, ◌<◌, length, IfOk, IfSome, IfNone, IsSomeAnd, OnErr};
+ghost use Rattle.std.specs.Prelude.{◌||◌, ◌==◌, get_or, ◌≡◌, ◌≤◌, ◌<◌, length, IfOk, IfSome};
+ghost use Rattle.std.specs.Prelude.{IfNone, IsSomeAnd, OnErr};
 ghost use Rattle.semver_core.specs.Text.Characters.{is_identifier_char};
 ghost use Rattle.semver_core.specs.Text.Common.{IsCommon, IsUncommon};
 ghost use Rattle.semver_core.specs.Internal.CommonReading.{small_len, part_at, whole_at, common_of};

@@ -1,9 +1,13 @@
 //! The reader of version texts.
 
-ghost use Rattle.std.specs.Prelude.{◌≡◌, ◌==◌, ◌≤◌, ◌<◌, ◌+◌, ◌⊎◌, [], true, length, drop, None, Some, Option, IfOk, IfSome, IfNone, IsSomeAnd, IsCharBoundary, OnErr, OnSome};
+ghost use Rattle.std.specs.Prelude.{◌≡◌, ◌==◌, ◌≤◌, ◌<◌, ◌+◌, ◌⊎◌, [], true, length, drop, None};
+ghost use Rattle.std.specs.Prelude.{Some, Option, IfOk, IfSome, IfNone, IsSomeAnd, IsCharBoundary};
+ghost use Rattle.std.specs.Prelude.{OnErr, OnSome};
 ghost use Rattle.semver_core.specs.Text.Characters.{begins, is_identifier_char, IsAfterBlank};
-ghost use Rattle.semver_core.specs.Text.VersionText.{Reads, HasNoVersion, HasVersionWithIdentifiers};
-ghost use Rattle.semver_core.specs.Internal.Reading.{past, triple_at, pre_release_at, build_at, list_from, lists_at, version_at, mark_len};
+ghost use Rattle.semver_core.specs.Text.VersionText.{Reads, HasNoVersion};
+ghost use Rattle.semver_core.specs.Text.VersionText.{HasVersionWithIdentifiers};
+ghost use Rattle.semver_core.specs.Internal.Reading.{past, triple_at, pre_release_at, build_at};
+ghost use Rattle.semver_core.specs.Internal.Reading.{list_from, lists_at, version_at, mark_len};
 ghost use Rattle.semver_core.specs.Values.Versions.{VersionValue, HasIdentifiers};
 ghost use Rattle.semver_core.specs.Values.Views.{ids_view, IsFull, build_of, pre_release_of};
 

@@ -1,7 +1,7 @@
 // Intervals of versions, whose bounds are releases here: `1` is 1.0.0.
 
 use nodejs_semver::Version;
-use nodejs_semver::cuts::{Bound, Interval};
+use nodejs_semver::cuts::{Bound, Interval, Part};
 use std::alloc::Global;
 use std::hash::{DefaultHasher, Hash, Hasher};
 use std::test::Fail;
@@ -183,6 +183,7 @@ enum Call {
     Intersect,
     Clip,
     Subtract,
+    Parts,
     Meets,
     Reaches,
     Covers,
@@ -214,6 +215,7 @@ fn holds(
         Call::Intersect => intersects(alloc, pair, first, second),
         Call::Clip => clips(alloc, pair, first, second),
         Call::Subtract => subtracts(alloc, pair, first, second),
+        Call::Parts => has_parts(alloc, pair, first, second),
         Call::Meets => first.meets(second) == pair.both.is_some(),
         Call::Reaches => first.reaches(second) == pair.both.is_some(),
         Call::Covers => first.covers(second) == (pair.both == Some(pair.second)),
@@ -256,6 +258,33 @@ fn subtracts(
     }
 }
 
+// Whether the part, and its copy, is the one between two numbers, or there is none where none is
+// wanted.
+fn is_part(alloc: Global, part: Option<Part<Version>>, wanted: Option<(u8, u8)>) -> bool {
+    match (part, wanted) {
+        (Some(part), Some(ends)) => {
+            is_bound(part.lower(), End::Before(ends.0))
+                && is_bound(part.upper(), End::Before(ends.1))
+                && part.copy(alloc).is_ok_and(|copy| spans(&copy, ends))
+        }
+        (None, None) => true,
+        (_, _) => false,
+    }
+}
+
+fn has_parts(
+    alloc: Global,
+    pair: &Pair,
+    first: &Interval<Version>,
+    second: &Interval<Version>,
+) -> bool {
+    let (below, above) = first.remaining_parts(second);
+    is_part(alloc, first.common_part(second), pair.both)
+        && is_part(alloc, first.clipped_part(second), pair.both)
+        && is_part(alloc, below, pair.below)
+        && is_part(alloc, above, pair.above)
+}
+
 #[test]
 fn intersect_keeps_what_both_hold(rt: HostRuntime) {
     for pair in PAIRS {
@@ -274,6 +303,13 @@ fn clip_keeps_what_both_hold(rt: HostRuntime) {
 fn subtract_leaves_what_lies_below_and_above(rt: HostRuntime) {
     for pair in PAIRS {
         assert!(rt; agrees(rt.alloc(), Call::Subtract, pair));
+    }
+}
+
+#[test]
+fn parts_borrow_what_the_copies_hold(rt: HostRuntime) {
+    for pair in PAIRS {
+        assert!(rt; agrees(rt.alloc(), Call::Parts, pair));
     }
 }
 
