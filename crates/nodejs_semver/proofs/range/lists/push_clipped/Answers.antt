@@ -1,5 +1,4 @@
-use Rattle.std.proofs.Common.{◌≡◌, ◌++◌, ◌∙◌, ap, false, is_some, arith, rules}
-use Rattle.std.proofs.lemmas.Grind.{common_steps}
+use Rattle.std.proofs.Common.{◌≡◌, ◌++◌, ◌∙◌, ap, false, is_some, rules}
 use Rattle.std.proofs.lemmas.List.Sorted.{IsPartitionPoint-from_clause}
 use Rattle.nodejs_semver.proofs.Algebra.Differences.{falls_short, parted, clips-to_end, clips-to_none}
 use Rattle.nodejs_semver.proofs.range.lists.push_clipped.Goals as goal
