@@ -1,5 +1,5 @@
 -- Statement. The answer to each line of an input.
-use Rattle.std.specs.Prelude.{◌≡◌, ℕ, List, [], ◌∷◌, ⊤, IsUtf8}
+use Rattle.std.specs.Prelude.{◌≡◌, ℕ, List, IsUtf8}
 use Rattle.std.specs.List.{AllZip, flat_map}
 use Rattle.semver_lines.specs.Commands.{Asks, IsReply}
 use Rattle.semver_lines.specs.Lines.{ended, fields}
