@@ -114,8 +114,8 @@ fn add_partial<R: Rng>(rng: &mut R, text: &mut String, end: usize) -> Result<(),
     add_qualifier(rng, text, end)
 }
 
-// Adds a word, if there is room for a character or more: a hyphen range, or a partial with a sign or
-// none before it.
+// Adds a word, if there is room for a character or more: a hyphen range, or a partial with a sign
+// or none before it.
 fn add_word<R: Rng>(rng: &mut R, text: &mut String) -> Result<(), AllocError> {
     if text.len() <= LONGEST - 5 && rng.random_ratio(1, 4) {
         add_partial(rng, text, LONGEST - 4)?;

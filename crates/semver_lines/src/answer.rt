@@ -48,8 +48,8 @@ fn push_line(text: &str, output: &mut String) -> Result<(), AllocError>
     output.push('\n')
 }
 
-/// Appends the answer to a line that is a text, and a line feed, to the output, all or nothing. What
-/// is printed is printed to `room` first.
+/// Appends the answer to a line that is a text, and a line feed, to the output, all or nothing.
+/// What is printed is printed to `room` first.
 pub fn answer_text(
     alloc: Global,
     text: &str,

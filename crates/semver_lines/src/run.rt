@@ -81,7 +81,7 @@ impl Lines {
             (string_bytes self.old.output) (string_bytes self.new.output)) }
     {
         let mut rest = chunk;
-        // The line that goes on from `pending`, and each line that is no text, is checked by itself.
+        // A line that goes on from `pending`, or that is no text, is answered by itself.
         'lines: while let Some(at) = first_feed(rest) {
             self.end_line(alloc, &rest[..at])?;
             rest = take_front(alloc, &rest[at + 1..], &mut self.room, &mut self.output)?;
@@ -136,7 +136,8 @@ fn take_front<'a>(
     ensures ok { IfOk result (λ rest.
         Taken [] bytes.now rest.now [] (string_bytes output.old) (string_bytes output.new)) }
     ensures err { OnErr result
-        (GrowsByFront (cut_lines [] bytes.now) (string_bytes output.old) (string_bytes output.new)) }
+        (GrowsByFront (cut_lines [] bytes.now)
+        (string_bytes output.old) (string_bytes output.new)) }
 {
     let front = front_text(bytes);
     let mut text = front;
