@@ -2,14 +2,12 @@ pub mod DigitValues
 pub mod NumberFront
 pub mod NumberLaw
 pub mod IdentifierLists
-pub mod Longest
-pub mod LongestLaw
 pub mod Boundaries
 pub mod Pieces
-pub mod Reaches
+pub mod Quiet
+pub mod Qualifiers
+pub mod Components
 pub mod Progress
-pub mod Sound
-pub mod SoundPartial
 pub mod PartialLaw
 pub mod WordLaw
 pub mod SignLaw

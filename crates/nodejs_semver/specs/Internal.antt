@@ -1,9 +1,7 @@
 pub mod Parts
-pub mod Partials
-pub mod Words
-pub mod Signs
 pub mod RunsFrom
 pub mod Fronts
+pub mod Words
 pub mod PartFronts
 pub mod Readings
 pub mod Meets

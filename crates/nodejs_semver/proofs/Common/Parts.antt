@@ -11,32 +11,21 @@ use Rattle.semver_core.specs.Lists.{is_empty}
 use Rattle.semver_core.specs.Values.Versions.{VersionValue}
 use Rattle.nodejs_semver.specs.Internal.CommonFronts.{after_bars, after_gap, bare_front, begins_dash, begins_second, caret_front, common_range, common_within, comparison_front, comparisons_front, is_sign, onto, part_front, part_read, partials_front, tilde_front, word_read}
 use Rattle.nodejs_semver.specs.Text.Common.{IsBare, IsCommonPart, IsCommonRange, IsCommonWord, IsComparison, IsGap, caret_word, compare_word, comparison, hyphen_word, more_parts, one_part, one_word, plain_word, tilde_greater_word, tilde_word, two_comparisons}
-use Rattle.nodejs_semver.specs.Internal.Fronts.{Front, begins_byte}
+use Rattle.nodejs_semver.specs.Internal.Fronts.{after_byte, begins_byte, Front}
 use Rattle.nodejs_semver.specs.Text.PartialText.{Partial, is_wildcard}
 use Rattle.semver_core.specs.Internal.Reading.{◌>>?◌}
 use Rattle.nodejs_semver.specs.Text.Table.{table}
 use Rattle.nodejs_semver.specs.Text.WordText.{IsSign, above_sign, at_least_sign, at_most_sign, below_sign, equal_sign, Comparator, Word, above, at_least, at_most, below, caret, compare, equal, hyphen, plain, tilde}
-use Rattle.nodejs_semver.specs.Internal.Words.{after_byte, comparator_at, tilde_sign}
-use Rattle.nodejs_semver.proofs.Common.Pieces.{Stop, bare-begins, bare-exact, bare-sound, stop-bar, stop-nil, stop-space}
+use Rattle.nodejs_semver.specs.Internal.Words.{comparator_at, tilde_sign}
+use Rattle.nodejs_semver.proofs.Common.Pieces.{bare-begins, bare-exact, bare-sound}
+use Rattle.nodejs_semver.proofs.Reading.Quiet.{Stop, stop-bar, stop-nil, stop-space}
 use Rattle.nodejs_semver.proofs.Common.Texts.{is_solid, part-compact}
 use Rattle.nodejs_semver.proofs.Common.Words.{no-equal, no-greater}
 use Rattle.nodejs_semver.proofs.Reading.IdentifierLists.{and-left, and-right}
 use Rattle.nodejs_semver.proofs.Reading.Pieces.{bind-some}
-use Rattle.nodejs_semver.proofs.Reading.Sound.{begins_component}
-use Rattle.nodejs_semver.proofs.Reading.SoundPartial.{begins-longer}
-use Rattle.nodejs_semver.proofs.Reading.WordLaw.{Signed, sign-is}
-
-first-of : {A B : Type 0} {p q : A × B} → Some p ≡ Some q → p.0 ≡ q.0
-first-of {A} {B} {p} {q} h = ap (λ (x : A × B). x.0) (inside h)
-  where
-    inside : Some p ≡ Some q → p ≡ q
-    inside k = cc k
-
-second-of : {A B : Type 0} {p q : A × B} → Some p ≡ Some q → p.1 ≡ q.1
-second-of {A} {B} {p} {q} h = ap (λ (x : A × B). x.1) (inside h)
-  where
-    inside : Some p ≡ Some q → p ≡ q
-    inside k = cc k
+use Rattle.nodejs_semver.proofs.Reading.Components.{begins-longer, begins_component}
+use Rattle.nodejs_semver.proofs.Reading.WordLaw.{Signed, byte-is, sign-is}
+use Rattle.nodejs_semver.proofs.Reading.PartialLaw.{inside}
 
 -- the next step of a reading
 bind-of : {A B : Type 0} (o : Option A) (f : A → Option B) (x : A) → o ≡ Some x → (o >>? f) ≡ f x
@@ -68,47 +57,32 @@ ends-space z = record { stop = stop-space (124 ∷ z); second = refl; dash = no-
 
 -- ---- words
 
-comparison-found : (limit : ℕ) (text : List ℕ) (c : Comparator) (rest : List ℕ) (p : Partial) (more : List ℕ) → comparator_at text ≡ Some (c, rest) → bare_front limit rest ≡ Some (p, more)
-    → comparison_front limit text ≡ Some (compare c p, more)
-unfolding comparison_front
-comparison-found limit text c rest p more h k = rw (h, k) refl
-
-abbrev some_sign : Comparator × List ℕ → Option (Comparator × List ℕ)
-some_sign x = Some x
+comparator-of : (c : Comparator) (sign text : List ℕ) → IsSign c sign → begins_component text ≡ true → comparator_at (sign ++ text) ≡ Some (c, text)
+comparator-of c sign text above_sign h = ap Some (no-equal above at_least text h)
+comparator-of c sign text at_least_sign h = refl
+comparator-of c sign text below_sign h = ap Some (no-equal below at_most text h)
+comparator-of c sign text at_most_sign h = refl
+comparator-of c sign text equal_sign h = refl
 
 comparison-exact : (limit : ℕ) (x : List ℕ) (w : Word) (more : List ℕ) → IsComparison limit x w → Stop more → comparison_front limit (x ++ more) ≡ Some (w, more)
-comparison-exact limit x w more (comparison c sign text p is bare) stop = by c sign is
-  where
-    begins_ : begins_component (text ++ more) ≡ true
-    begins_ = begins-longer text more (bare-begins limit text p bare)
-
-    read : bare_front limit (text ++ more) ≡ Some (p, more)
-    read = bare-exact limit text more p bare stop
-
-    by : (c : Comparator) (sign : List ℕ) → IsSign c sign → comparison_front limit ((sign ++ text) ++ more) ≡ Some (compare c p, more)
-    by c sign above_sign = comparison-found limit (62 ∷ (text ++ more)) above (text ++ more) p more (ap some_sign (no-equal above at_least (text ++ more) begins_)) read
-    by c sign at_least_sign = comparison-found limit (62 ∷ 61 ∷ (text ++ more)) at_least (text ++ more) p more refl read
-    by c sign below_sign = comparison-found limit (60 ∷ (text ++ more)) below (text ++ more) p more (ap some_sign (no-equal below at_most (text ++ more) begins_)) read
-    by c sign at_most_sign = comparison-found limit (60 ∷ 61 ∷ (text ++ more)) at_most (text ++ more) p more refl read
-    by c sign equal_sign = comparison-found limit (61 ∷ (text ++ more)) equal (text ++ more) p more refl read
+unfolding comparison_front
+comparison-exact limit x w more (comparison c sign text p is bare) stop =
+    let at = comparator-of c sign (text ++ more) is (begins-longer text more (bare-begins limit text p bare)) in
+    rw (append_assoc sign text more, at, bare-exact limit text more p bare stop) refl
 
 -- a comparison at the front
 abbrev Compared : ℕ → List ℕ → Word → List ℕ → Type 0
 Compared limit text w more = (x : List ℕ) × (text ≡ x ++ more) × IsComparison limit x w
 
-comparison-sound : (limit : ℕ) (text : List ℕ) (w : Word) (more : List ℕ) → comparison_front limit text ≡ Some (w, more) → begins_byte 43 more ≡ false → Compared limit text w more
+comparison-sound : (limit : ℕ) (text : List ℕ) (w : Word) (more : List ℕ) → comparison_front limit text ≡ Some (w, more) → Compared limit text w more
 unfolding comparison_front
-comparison-sound limit text w more h plus =
+comparison-sound limit text w more h =
     let c = bind-some (comparator_at text) _ (w, more) h in
     let p = bind-some (bare_front limit c.0.1) _ (w, more) c.2 in
-    let rest : p.0.1 ≡ more = second-of p.2 in
-    let word : compare c.0.0 p.0.0 ≡ w = first-of p.2 in
     let s : Signed text c.0 = sign-is text c.0 c.1 in
-    let b = bare-sound limit c.0.1 p.0.0 p.0.1 p.1 (ap (λ (t : List ℕ). begins_byte 43 t) rest ∙ plus) in (
-      s.0 ++ b.0,
-      s.2 ∙ (ap (λ (t : List ℕ). s.0 ++ t) (b.1 ∙ ap (λ (t : List ℕ). b.0 ++ t) rest) ∙ sym (append_assoc s.0 b.0 more)),
-      subst (λ (v : Word). IsComparison limit (s.0 ++ b.0) v) word (comparison c.0.0 s.0 b.0 p.0.0 s.1 b.2),
-    )
+    let b = bare-sound limit c.0.1 p.0.0 p.0.1 p.1 in
+    subst (λ (x : Word × List ℕ). Compared limit text x.0 x.1) (inside p.2)
+    (s.0 ++ b.0, s.2 ∙ (ap (λ (t : List ℕ). s.0 ++ t) b.1 ∙ sym (append_assoc s.0 b.0 p.0.1)), comparison c.0.0 s.0 b.0 p.0.0 s.1 b.2)
 
 -- a word at the front
 abbrev Worded : ℕ → List ℕ → Word → List ℕ → Type 0
@@ -118,16 +92,12 @@ caret-exact : (limit : ℕ) (x more : List ℕ) (p : Partial) → IsBare limit x
 unfolding caret_front
 caret-exact limit x more p h stop = rw (bare-exact limit x more p h stop) refl
 
-caret-sound : (limit : ℕ) (text : List ℕ) (w : Word) (more : List ℕ) → caret_front limit text ≡ Some (w, more) → begins_byte 43 more ≡ false → Worded limit (94 ∷ text) w more
+caret-sound : (limit : ℕ) (text : List ℕ) (w : Word) (more : List ℕ) → caret_front limit text ≡ Some (w, more) → Worded limit (94 ∷ text) w more
 unfolding caret_front
-caret-sound limit text w more h plus =
+caret-sound limit text w more h =
     let p = bind-some (bare_front limit text) _ (w, more) h in
-    let rest : p.0.1 ≡ more = second-of p.2 in
-    let b = bare-sound limit text p.0.0 p.0.1 p.1 (ap (λ (t : List ℕ). begins_byte 43 t) rest ∙ plus) in (
-      94 ∷ b.0,
-      ap (λ (t : List ℕ). 94 ∷ t) (b.1 ∙ ap (λ (t : List ℕ). b.0 ++ t) rest),
-      subst (λ (v : Word). IsCommonWord limit (94 ∷ b.0) v) (first-of p.2) (caret_word b.0 p.0.0 b.2),
-    )
+    let b = bare-sound limit text p.0.0 p.0.1 p.1 in
+    subst (λ (x : Word × List ℕ). Worded limit (94 ∷ text) x.0 x.1) (inside p.2) (94 ∷ b.0, ap (λ (t : List ℕ). 94 ∷ t) b.1, caret_word b.0 p.0.0 b.2)
 
 tilde-found : (limit : ℕ) (text : List ℕ) (greater : Bool) (rest : List ℕ) (p : Partial) (more : List ℕ) → tilde_sign text ≡ (greater, rest) → bare_front limit rest ≡ Some (p, more)
     → tilde_front limit text ≡ Some (tilde greater p, more)
@@ -145,24 +115,19 @@ tilde-greater-exact limit x more p h stop = tilde-found limit (62 ∷ (x ++ more
 tilde-by : (limit : ℕ) (text : List ℕ) (p : Partial) (x more : List ℕ) → (tilde_sign text).1 ≡ x ++ more → IsBare limit x p → Worded limit (126 ∷ text) (tilde (tilde_sign text).0 p) more
 tilde-by limit [] p x more e h = (126 ∷ x, ap (λ (t : List ℕ). 126 ∷ t) e, tilde_word x p h)
 tilde-by limit (b ∷ text) p x more e h = elim (cases_Bool (b == 62)) [
-  | inl same ↦ with-greater (rw same at e) same
-  | inr other ↦ without (rw other at e) other
+  | inl same ↦
+      let whole : text ≡ x ++ more = rw same at e in
+      rw same (126 ∷ 62 ∷ x, rw (eqb-true b 62 same) (ap (λ (t : List ℕ). 126 ∷ 62 ∷ t) whole), tilde_greater_word x p h)
+  | inr other ↦ let whole : b ∷ text ≡ x ++ more = rw other at e in rw other (126 ∷ x, ap (λ (t : List ℕ). 126 ∷ t) whole, tilde_word x p h)
 ]
-  where
-    with-greater : text ≡ x ++ more → (b == 62) ≡ true → Worded limit (126 ∷ b ∷ text) (tilde (tilde_sign (b ∷ text)).0 p) more
-    with-greater e same = rw same (126 ∷ 62 ∷ x, rw (eqb-true b 62 same) (ap (λ (t : List ℕ). 126 ∷ 62 ∷ t) e), tilde_greater_word x p h)
 
-    without : b ∷ text ≡ x ++ more → (b == 62) ≡ false → Worded limit (126 ∷ b ∷ text) (tilde (tilde_sign (b ∷ text)).0 p) more
-    without e other = rw other (126 ∷ x, ap (λ (t : List ℕ). 126 ∷ t) e, tilde_word x p h)
-
-tilde-sound : (limit : ℕ) (text : List ℕ) (w : Word) (more : List ℕ) → tilde_front limit text ≡ Some (w, more) → begins_byte 43 more ≡ false → Worded limit (126 ∷ text) w more
+tilde-sound : (limit : ℕ) (text : List ℕ) (w : Word) (more : List ℕ) → tilde_front limit text ≡ Some (w, more) → Worded limit (126 ∷ text) w more
 unfolding tilde_front
-tilde-sound limit text w more h plus =
+tilde-sound limit text w more h =
     let sign = tilde_sign text in
     let p = bind-some (bare_front limit sign.1) _ (w, more) h in
-    let rest : p.0.1 ≡ more = second-of p.2 in
-    let b = bare-sound limit sign.1 p.0.0 p.0.1 p.1 (ap (λ (t : List ℕ). begins_byte 43 t) rest ∙ plus) in
-    subst (λ (v : Word). Worded limit (126 ∷ text) v more) (first-of p.2) (tilde-by limit text p.0.0 b.0 more (b.1 ∙ ap (λ (t : List ℕ). b.0 ++ t) rest) b.2)
+    let b = bare-sound limit sign.1 p.0.0 p.0.1 p.1 in
+    subst (λ (x : Word × List ℕ). Worded limit (126 ∷ text) x.0 x.1) (inside p.2) (tilde-by limit text p.0.0 b.0 p.0.1 b.1 b.2)
 
 plain-exact : (limit : ℕ) (x more : List ℕ) (p : Partial) → IsBare limit x p → Stop more → begins_dash more ≡ false → partials_front limit (x ++ more) ≡ Some (plain p, more)
 unfolding partials_front
@@ -182,43 +147,33 @@ dash-is (a ∷ b ∷ c ∷ rest) h =
     let later = and-right (a == 32) (b == 45 && c == 32) h in
     rw (eqb-true a 32 (and-left (a == 32) (b == 45 && c == 32) h), eqb-true b 45 (and-left (b == 45) (c == 32) later), eqb-true c 32 (and-right (b == 45) (c == 32) later)) refl
 
-space-no_plus : (text rest : List ℕ) → text ≡ 32 ∷ rest → begins_byte 43 text ≡ false
-space-no_plus text rest h = ap (λ (t : List ℕ). begins_byte 43 t) h
-
-partials-sound : (limit : ℕ) (text : List ℕ) (w : Word) (more : List ℕ) → partials_front limit text ≡ Some (w, more) → begins_byte 43 more ≡ false → Worded limit text w more
+partials-sound : (limit : ℕ) (text : List ℕ) (w : Word) (more : List ℕ) → partials_front limit text ≡ Some (w, more) → Worded limit text w more
 unfolding partials_front
-partials-sound limit text w more h plus =
+partials-sound limit text w more h =
     let p = bind-some (bare_front limit text) _ (w, more) h in
+    let a = bare-sound limit text p.0.0 p.0.1 p.1 in
     elim (cases_Bool (begins_dash p.0.1)) [
       | inl dash ↦
           let q = bind-some (bare_front limit (drop 3 p.0.1)) (λ q. Some (hyphen p.0.0 q.0, q.1)) (w, more) (rw dash at p.2) in
-          let rest : q.0.1 ≡ more = second-of q.2 in
-          let is = dash-is p.0.1 dash in
-          let a = bare-sound limit text p.0.0 p.0.1 p.1 (space-no_plus p.0.1 (45 ∷ 32 ∷ drop 3 p.0.1) is) in
-          let b = bare-sound limit (drop 3 p.0.1) q.0.0 q.0.1 q.1 (ap (λ (t : List ℕ). begins_byte 43 t) rest ∙ plus) in
-          let behind : p.0.1 ≡ (32 ∷ 45 ∷ 32 ∷ b.0) ++ more = is ∙ ap (λ (t : List ℕ). 32 ∷ 45 ∷ 32 ∷ t) (b.1 ∙ ap (λ (t : List ℕ). b.0 ++ t) rest) in (
+          let b = bare-sound limit (drop 3 p.0.1) q.0.0 q.0.1 q.1 in
+          let behind : p.0.1 ≡ (32 ∷ 45 ∷ 32 ∷ b.0) ++ q.0.1 = dash-is p.0.1 dash ∙ ap (λ (t : List ℕ). 32 ∷ 45 ∷ 32 ∷ t) b.1 in
+          subst (λ (x : Word × List ℕ). Worded limit text x.0 x.1) (inside q.2) (
             a.0 ++ (32 ∷ 45 ∷ 32 ∷ b.0),
-            a.1 ∙ (ap (λ (t : List ℕ). a.0 ++ t) behind ∙ sym (append_assoc a.0 (32 ∷ 45 ∷ 32 ∷ b.0) more)),
-            subst (λ (v : Word). IsCommonWord limit (a.0 ++ (32 ∷ 45 ∷ 32 ∷ b.0)) v) (first-of q.2) (hyphen_word a.0 b.0 p.0.0 q.0.0 a.2 b.2),
+            a.1 ∙ (ap (λ (t : List ℕ). a.0 ++ t) behind ∙ sym (append_assoc a.0 (32 ∷ 45 ∷ 32 ∷ b.0) q.0.1)),
+            hyphen_word a.0 b.0 p.0.0 q.0.0 a.2 b.2,
           )
       | inr none ↦
-          let last : Some (plain p.0.0, p.0.1) ≡ Some (w, more) = rw none at p.2 in
-          let rest : p.0.1 ≡ more = second-of last in
-          let a = bare-sound limit text p.0.0 p.0.1 p.1 (ap (λ (t : List ℕ). begins_byte 43 t) rest ∙ plus) in (
-            a.0,
-            a.1 ∙ ap (λ (t : List ℕ). a.0 ++ t) rest,
-            subst (λ (v : Word). IsCommonWord limit a.0 v) (first-of last) (plain_word a.0 p.0.0 a.2),
-          )
+          let last : (plain p.0.0, p.0.1) ≡ (w, more) = inside (rw none at p.2) in
+          subst (λ (x : Word × List ℕ). Worded limit text x.0 x.1) last (a.0, a.1, plain_word a.0 p.0.0 a.2)
     ]
 
 -- ---- parts
 
 part-is : (rest : List ℕ) (o : Option (Span VersionValue)) (s : Span VersionValue) (more : List ℕ) → part_read rest o ≡ Some (s, more) → (o ≡ Some s) × (rest ≡ more)
 part-is rest None s more h = cc h
-part-is rest (Some a) s more h = (ap (λ (b : Span VersionValue). some_span b) (first-of h), second-of h)
-  where
-    some_span : Span VersionValue → Option (Span VersionValue)
-    some_span b = Some b
+part-is rest (Some a) s more h =
+    let e : (a, rest) ≡ (s, more) = inside h in
+    (ap (λ (x : Span VersionValue × List ℕ). Some x.0) e, ap (λ (x : Span VersionValue × List ℕ). x.1) e)
 
 read-exact : (limit : ℕ) (read : Front Word) (w : Word) (more : List ℕ) (s : Span VersionValue) → read ≡ Some (w, more) → table limit w ≡ Some s
     → word_read limit read ≡ Some (s, more)
@@ -335,56 +290,47 @@ second-is : (text : List ℕ) → begins_second text ≡ true → text ≡ 32 �
 second-is [] h = cc h
 second-is (a ∷ rest) h = rw (eqb-true a 32 (and-left (a == 32) (begins is_sign rest) h)) refl
 
-comparisons-sound : (limit : ℕ) (text : List ℕ) (s : Span VersionValue) (more : List ℕ) → comparisons_front limit text ≡ Some (s, more) → begins_byte 43 more ≡ false → Parted limit text s more
+comparisons-sound : (limit : ℕ) (text : List ℕ) (s : Span VersionValue) (more : List ℕ) → comparisons_front limit text ≡ Some (s, more) → Parted limit text s more
 unfolding comparisons_front
-comparisons-sound limit text s more h plus =
+comparisons-sound limit text s more h =
     let a = bind-some (word_read limit (comparison_front limit text)) _ (s, more) h in
     let v = read-sound limit (comparison_front limit text) a.0.0 a.0.1 a.1 in
+    let one = comparison-sound limit text v.0 a.0.1 v.1 in
     elim (cases_Bool (begins_second a.0.1)) [
       | inl second ↦
           let rest = drop 1 a.0.1 in
           let b = bind-some (word_read limit (comparison_front limit rest)) (λ t. part_read t.1 (meet precedence a.0.0 t.0)) (s, more) (rw second at a.2) in
           let p = part-is b.0.1 (meet precedence a.0.0 b.0.0) s more b.2 in
           let w = read-sound limit (comparison_front limit rest) b.0.0 b.0.1 b.1 in
-          let end : b.0.1 ≡ more = p.1 in
-          let is = second-is a.0.1 second in
-          let one = comparison-sound limit text v.0 a.0.1 v.1 (space-no_plus a.0.1 rest is) in
-          let two = comparison-sound limit rest w.0 b.0.1 w.1 (ap (λ (t : List ℕ). begins_byte 43 t) end ∙ plus) in
-          let behind : a.0.1 ≡ (32 ∷ two.0) ++ more = is ∙ ap (λ (t : List ℕ). 32 ∷ t) (two.1 ∙ ap (λ (t : List ℕ). two.0 ++ t) end) in (
+          let two = comparison-sound limit rest w.0 b.0.1 w.1 in
+          let behind : a.0.1 ≡ (32 ∷ two.0) ++ b.0.1 = second-is a.0.1 second ∙ ap (λ (t : List ℕ). 32 ∷ t) two.1 in
+          subst (λ (t : List ℕ). Parted limit text s t) p.1 (
             one.0 ++ (32 ∷ two.0),
-            one.1 ∙ (ap (λ (t : List ℕ). one.0 ++ t) behind ∙ sym (append_assoc one.0 (32 ∷ two.0) more)),
+            one.1 ∙ (ap (λ (t : List ℕ). one.0 ++ t) behind ∙ sym (append_assoc one.0 (32 ∷ two.0) b.0.1)),
             two_comparisons one.0 two.0 v.0 w.0 a.0.0 b.0.0 s one.2 two.2 v.2 w.2 p.0,
           )
       | inr none ↦
-          let last : Some a.0 ≡ Some (s, more) = rw none at a.2 in
-          let end : a.0.1 ≡ more = second-of last in
-          let one = comparison-sound limit text v.0 a.0.1 v.1 (ap (λ (t : List ℕ). begins_byte 43 t) end ∙ plus) in (
-            one.0,
-            one.1 ∙ ap (λ (t : List ℕ). one.0 ++ t) end,
-            one_word one.0 v.0 s (compare_word one.0 v.0 one.2) (v.2 ∙ ap (λ (b : Span VersionValue). some_span b) (first-of last)),
-          )
+          let last : a.0 ≡ (s, more) = inside (rw none at a.2) in
+          subst (λ (x : Span VersionValue × List ℕ). Parted limit text x.0 x.1) last (one.0, one.1, one_word one.0 v.0 a.0.0 (compare_word one.0 v.0 one.2) v.2)
     ]
-  where
-    some_span : Span VersionValue → Option (Span VersionValue)
-    some_span b = Some b
 
 -- what is read at the front is a part, where no build follows it
-pub part-sound : (limit : ℕ) (text : List ℕ) (s : Span VersionValue) (more : List ℕ) → part_front limit text ≡ Some (s, more) → begins_byte 43 more ≡ false → Parted limit text s more
+pub part-sound : (limit : ℕ) (text : List ℕ) (s : Span VersionValue) (more : List ℕ) → part_front limit text ≡ Some (s, more) → Parted limit text s more
 unfolding part_front
-part-sound limit [] s more h plus = cc h
-part-sound limit (b ∷ rest) s more h plus = elim (cases_Bool (is_sign b)) [
-  | inl sign ↦ comparisons-sound limit (b ∷ rest) s more (rw sign at h) plus
+part-sound limit [] s more h = cc h
+part-sound limit (b ∷ rest) s more h = elim (cases_Bool (is_sign b)) [
+  | inl sign ↦ comparisons-sound limit (b ∷ rest) s more (rw sign at h)
   | inr other ↦ elim (cases_Bool (b == 126)) [
     | inl t ↦
         let w = read-sound limit (tilde_front limit rest) s more (rw (other, t) at h) in
-        worded-part limit (b ∷ rest) w.0 s more w.2 (subst (λ (a : ℕ). Worded limit (a ∷ rest) w.0 more) (sym (eqb-true b 126 t)) (tilde-sound limit rest w.0 more w.1 plus))
+        worded-part limit (b ∷ rest) w.0 s more w.2 (subst (λ (a : ℕ). Worded limit (a ∷ rest) w.0 more) (sym (eqb-true b 126 t)) (tilde-sound limit rest w.0 more w.1))
     | inr no_tilde ↦ elim (cases_Bool (b == 94)) [
       | inl c ↦
           let w = read-sound limit (caret_front limit rest) s more (rw (other, no_tilde, c) at h) in
-          worded-part limit (b ∷ rest) w.0 s more w.2 (subst (λ (a : ℕ). Worded limit (a ∷ rest) w.0 more) (sym (eqb-true b 94 c)) (caret-sound limit rest w.0 more w.1 plus))
+          worded-part limit (b ∷ rest) w.0 s more w.2 (subst (λ (a : ℕ). Worded limit (a ∷ rest) w.0 more) (sym (eqb-true b 94 c)) (caret-sound limit rest w.0 more w.1))
       | inr no_caret ↦
           let w = read-sound limit (partials_front limit (b ∷ rest)) s more (rw (other, no_tilde, no_caret) at h) in
-          worded-part limit (b ∷ rest) w.0 s more w.2 (partials-sound limit (b ∷ rest) w.0 more w.1 plus)
+          worded-part limit (b ∷ rest) w.0 s more w.2 (partials-sound limit (b ∷ rest) w.0 more w.1)
     ]
   ]
 ]
@@ -406,18 +352,6 @@ gap-is (b ∷ text) = elim (cases_Bool (b == 32)) [
   | inr other ↦ ([], inl refl, rw other refl)
 ]
 
-after_byte-is : (c : ℕ) (text rest : List ℕ) → after_byte c text ≡ Some rest → text ≡ c ∷ rest
-after_byte-is c [] rest h = cc h
-after_byte-is c (b ∷ text) rest h = elim (cases_Bool (b == c)) [
-  | inl same ↦
-      let e : text ≡ rest = inside (rw same at h) in
-      ap (λ (a : ℕ). a ∷ text) (eqb-true b c same) ∙ ap (λ (t : List ℕ). c ∷ t) e
-  | inr other ↦ cc (rw other at h)
-]
-  where
-    inside : {t u : List ℕ} → Some t ≡ Some u → t ≡ u
-    inside k = cc k
-
 pub bars-sound : (more next : List ℕ) → after_bars more ≡ Some next → Barred more next
 unfolding after_bars
 bars-sound more next h =
@@ -426,8 +360,8 @@ bars-sound more next h =
     let before = gap-is more in
     let after = gap-is two.0 in
     let left : after_gap two.0 ≡ next = inside two.2 in
-    let first = after_byte-is 124 (after_gap more) one.0 one.1 in
-    let second = after_byte-is 124 one.0 two.0 two.1 in
+    let first = byte-is 124 (after_gap more) one.0 one.1 in
+    let second = byte-is 124 one.0 two.0 two.1 in
     record {
       before = before.0;
       after = after.0;
@@ -436,9 +370,6 @@ bars-sound more next h =
       divided = before.2 ∙ ap (λ (t : List ℕ). before.0 ++ t)
           (first ∙ ap (λ (t : List ℕ). 124 ∷ t) (second ∙ ap (λ (t : List ℕ). 124 ∷ t) (after.2 ∙ ap (λ (t : List ℕ). after.0 ++ t) left)));
     }
-  where
-    inside : {t u : List ℕ} → Some t ≡ Some u → t ≡ u
-    inside k = cc k
 
 pub barred-ends : (more next : List ℕ) → Barred more next → Ends more
 barred-ends more next h = subst (λ (t : List ℕ). Ends t) (sym h.divided) (by h.before h.is_before)
@@ -494,7 +425,7 @@ empty-nil (b ∷ text) h = cc h
 pub last-sound : (limit : ℕ) (text : List ℕ) (s : Span VersionValue) (more : List ℕ) → part_front limit text ≡ Some (s, more) → is_empty more ≡ true → IsCommonRange limit text (s ∷ [])
 last-sound limit text s more h e =
     let none = empty-nil more e in
-    let p = part-sound limit text s more h (ap (λ (t : List ℕ). begins_byte 43 t) none) in
+    let p = part-sound limit text s more h in
     subst (λ (t : List ℕ). IsCommonRange limit t (s ∷ [])) (sym (p.1 ∙ (ap (λ (t : List ℕ). p.0 ++ t) none ∙ append-nil p.0))) (one_part p.0 s p.2)
 
 -- a part before others
@@ -502,7 +433,7 @@ pub next-sound : (limit : ℕ) (text : List ℕ) (s : Span VersionValue) (more n
     → after_bars more ≡ Some next → IsCommonRange limit next list → IsCommonRange limit text (s ∷ list)
 next-sound limit text s more next list h k r =
     let b = bars-sound more next k in
-    let p = part-sound limit text s more h (barred-ends more next b).stop.plus in
+    let p = part-sound limit text s more h in
     subst (λ (t : List ℕ). IsCommonRange limit t (s ∷ list)) (sym (p.1 ∙ ap (λ (t : List ℕ). p.0 ++ t) b.divided))
     (more_parts p.0 b.before b.after next s list p.2 b.is_before b.is_after r)
 
@@ -511,7 +442,7 @@ pub next-shorter : (limit : ℕ) (text : List ℕ) (s : Span VersionValue) (more
     → length next < length text
 next-shorter limit text s more next h k =
     let b = bars-sound more next k in
-    let p = part-sound limit text s more h (barred-ends more next b).stop.plus in
+    let p = part-sound limit text s more h in
     omega (arith, ap length p.1, length-append p.0 more, ap length b.divided, length-append b.before (124 ∷ (124 ∷ (b.after ++ next))), length-append b.after next)
 
 -- the first part of a common text, and the others

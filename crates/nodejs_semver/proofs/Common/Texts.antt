@@ -17,11 +17,12 @@ use Rattle.semver_core.proofs.Text.Spaces.{drop_spaces-none}
 use Rattle.nodejs_semver.specs.Text.Common.{IsBare, IsCommonPart, IsCommonRange, IsCommonWord, IsComparison, IsGap, caret_word, compare_word, comparison, hyphen_word, more_parts, one_part, one_word, plain_word, tilde_greater_word, tilde_word, two_comparisons}
 use Rattle.nodejs_semver.specs.Text.Denotes.{denotes, part_denotes, part_intervals}
 use Rattle.nodejs_semver.specs.Text.PartialText.{Partial, is_wildcard, AreComponents, IsComponent, number, one, three, two, wildcard}
-use Rattle.nodejs_semver.specs.Internal.Partials.{is_dot}
+use Rattle.nodejs_semver.specs.Internal.Fronts.{is_dot}
 use Rattle.nodejs_semver.specs.Internal.Parts.{cut_bars, parts}
 use Rattle.nodejs_semver.specs.Text.Bars.{is_bar}
 use Rattle.nodejs_semver.specs.Text.WordText.{IsSign, above_sign, at_least_sign, at_most_sign, below_sign, equal_sign, Comparator, Word}
-use Rattle.nodejs_semver.proofs.Common.Pieces.{bare-begins, front-some}
+use Rattle.nodejs_semver.proofs.Common.Pieces.{bare-begins}
+use Rattle.nodejs_semver.proofs.Reading.PartialLaw.{front-some}
 use Rattle.nodejs_semver.proofs.Common.Words.{common-part}
 use Rattle.nodejs_semver.proofs.Reading.IdentifierLists.{and-both, and-left, and-right, carries_on, carries_on-dot, carries_on-other, is_list, is_list-carries_on}
 

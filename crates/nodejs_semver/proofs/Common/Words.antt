@@ -1,5 +1,5 @@
 -- The words of a common part are what the range grammar reads in it.
-use Rattle.std.proofs.Common.{◌≡◌, ℕ, ◌<◌, List, [], ◌∷◌, ◌++◌, length, map, refl, sym, ap, ◌∙◌, arith, Bool, true, false, Some, None, subst, append-nil}
+use Rattle.std.proofs.Common.{◌≡◌, ℕ, ◌<◌, List, [], ◌∷◌, ◌++◌, length, map, refl, sym, ap, ◌∙◌, arith, Bool, true, false, Some, None, subst, append-nil, append_assoc}
 use Rattle.std.specs.Prelude.{Option, ◌==◌, ◌||◌, filter_map}
 use Rattle.std.specs.List.{cons_option}
 use Rattle.std.proofs.lemmas.Bool.Decides.{nat_tests}
@@ -12,38 +12,35 @@ use Rattle.semver_core.specs.Values.Versions.{VersionValue}
 use Rattle.semver_core.proofs.Text.Spaces.{drop_spaces-none}
 use Rattle.nodejs_semver.specs.Text.Common.{IsBare, IsCommonPart, IsCommonWord, IsComparison, caret_word, compare_word, comparison, hyphen_word, one_word, plain_word, tilde_greater_word, tilde_word, two_comparisons}
 use Rattle.nodejs_semver.specs.Text.Denotes.{part_intervals}
-use Rattle.nodejs_semver.specs.Internal.Fronts.{component_front, partial_front}
+use Rattle.nodejs_semver.specs.Internal.Fronts.{partial_front}
 use Rattle.nodejs_semver.specs.Internal.Meets.{joined, joined_from}
 use Rattle.nodejs_semver.specs.Text.PartialText.{Partial, is_wildcard}
-use Rattle.nodejs_semver.specs.Internal.Partials.{longest_partial, number_of}
 use Rattle.nodejs_semver.specs.Text.Runs.{interval_of}
 use Rattle.nodejs_semver.specs.Internal.RunsFrom.{runs_of}
 use Rattle.nodejs_semver.specs.Text.Table.{table}
-use Rattle.nodejs_semver.specs.Text.WordText.{IsSign, above_sign, at_least_sign, at_most_sign, below_sign, equal_sign, Comparator, Word, above, at_least, at_most, below, caret, compare, equal, hyphen, plain, tilde}
-use Rattle.nodejs_semver.specs.Internal.Words.{comparator_at, is_boundary, or_equal, tilde_sign, word_at, words, words_within}
-use Rattle.nodejs_semver.proofs.Common.Pieces.{Stop, bare-begins, front-dark, front-some, longest-exact, stop-nil, stop-space}
-use Rattle.nodejs_semver.proofs.Reading.Longest.{longest_is_front}
+use Rattle.nodejs_semver.specs.Text.WordText.{IsSign, above_sign, at_least_sign, at_most_sign, below_sign, equal_sign, Comparator, Word, above, caret, hyphen, plain, tilde}
+use Rattle.nodejs_semver.specs.Internal.Words.{careted, compared, is_boundary, or_equal, tilde_sign, tilded, unsigned, word_at, words, words_within}
+use Rattle.nodejs_semver.proofs.Common.Pieces.{bare-begins, longest-exact}
 use Rattle.nodejs_semver.proofs.Dividing.MeetLemmas.{joined-goes, runs-joined}
+use Rattle.nodejs_semver.proofs.Reading.SignLaw.{word-as}
+use Rattle.nodejs_semver.proofs.Reading.WordLaw.{compared-of, unsigned-at}
 use Rattle.nodejs_semver.proofs.Reading.Progress.{words-step}
-use Rattle.nodejs_semver.proofs.Reading.Sound.{begins_component}
-use Rattle.nodejs_semver.proofs.Reading.SoundPartial.{begins-longer}
+use Rattle.nodejs_semver.proofs.Reading.Components.{begins-longer, begins_component}
+use Rattle.nodejs_semver.proofs.Reading.PartialLaw.{front-dark, front-some}
+use Rattle.nodejs_semver.proofs.Reading.Quiet.{Stop, stop-nil, stop-space}
 
--- no partial begins with a sign
-pub sign-none : (limit : ℕ) (rest : List ℕ)
-    → (longest_partial limit (62 ∷ rest) ≡ None) × (longest_partial limit (60 ∷ rest) ≡ None) × (longest_partial limit (61 ∷ rest) ≡ None)
-    × (longest_partial limit (126 ∷ rest) ≡ None) × (longest_partial limit (94 ∷ rest) ≡ None)
-unfolding partial_front component_front number_of after_spaces space_len
-sign-none limit rest = (
-  longest_is_front limit (62 ∷ rest),
-  longest_is_front limit (60 ∷ rest),
-  longest_is_front limit (61 ∷ rest),
-  longest_is_front limit (126 ∷ rest),
-  longest_is_front limit (94 ∷ rest),
-)
-
-sign-dark : (rest : List ℕ) → (space_len (62 ∷ rest) ≡ 0) × (space_len (60 ∷ rest) ≡ 0) × (space_len (61 ∷ rest) ≡ 0) × (space_len (126 ∷ rest) ≡ 0) × (space_len (94 ∷ rest) ≡ 0)
+-- a sign is no whitespace
+sign-dark : (rest : List ℕ) → (space_len (126 ∷ rest) ≡ 0) × (space_len (94 ∷ rest) ≡ 0)
 unfolding space_len
-sign-dark rest = (refl, refl, refl, refl, refl)
+sign-dark rest = (refl, refl)
+
+comparator-dark : (c : Comparator) (sign text : List ℕ) → IsSign c sign → (0 < length (sign ++ text)) × (space_len (sign ++ text) ≡ 0)
+unfolding space_len
+comparator-dark c sign text above_sign = (omega arith, refl)
+comparator-dark c sign text at_least_sign = (omega arith, refl)
+comparator-dark c sign text below_sign = (omega arith, refl)
+comparator-dark c sign text at_most_sign = (omega arith, refl)
+comparator-dark c sign text equal_sign = (omega arith, refl)
 
 -- where a component begins, no sign goes on
 component-no_sign : (b : ℕ) → (is_wildcard b || is_ascii_digit b) ≡ true → ((b == 61) ≡ false) × ((b == 62) ≡ false)
@@ -59,29 +56,26 @@ no-greater (b ∷ rest) h = rw (component-no_sign b h).1 refl
 
 -- ---- one word
 
-plain-at : (limit : ℕ) (text : List ℕ) (p : Partial) → longest_partial limit text ≡ Some (p, []) → word_at limit text ≡ (plain p, [])
-unfolding word_at is_boundary space_len
-plain-at limit text p h = rw h refl
+plain-at : (limit : ℕ) (text : List ℕ) (p : Partial) → partial_front limit text ≡ Some (p, []) → word_at limit text ≡ (plain p, [])
+unfolding is_boundary space_len
+plain-at limit text p h = word-as limit text (unsigned, text) (Some (p, [])) (sym (unsigned-at limit text (p, []) h)) (sym h)
 
-compare-at : (limit : ℕ) (text : List ℕ) (c : Comparator) (rest : List ℕ) (p : Partial) (more : List ℕ) → longest_partial limit text ≡ None → comparator_at text ≡ Some (c, rest)
-    → longest_partial limit (drop_spaces rest) ≡ Some (p, more) → is_boundary more ≡ true → word_at limit text ≡ (compare c p, more)
-unfolding word_at
-compare-at limit text c rest p more none sign h stop = rw (none, sign, h, stop) refl
+tilde-at : (limit : ℕ) (rest : List ℕ) (greater : Bool) (t : List ℕ) (p : Partial) → tilde_sign (drop_spaces rest) ≡ (greater, t)
+    → partial_front limit (drop_spaces t) ≡ Some (p, []) → word_at limit (126 ∷ rest) ≡ (tilde greater p, [])
+unfolding is_boundary space_len
+tilde-at limit rest greater t p sign h =
+    word-as limit (126 ∷ rest) (tilded greater, drop_spaces t) (Some (p, [])) (ap (λ (s : Bool × List ℕ). (tilded s.0, drop_spaces s.1)) (sym sign)) (sym h)
 
-tilde-at : (limit : ℕ) (rest : List ℕ) (greater : Bool) (t : List ℕ) (p : Partial) → longest_partial limit (126 ∷ rest) ≡ None → tilde_sign (drop_spaces rest) ≡ (greater, t)
-    → longest_partial limit (drop_spaces t) ≡ Some (p, []) → word_at limit (126 ∷ rest) ≡ (tilde greater p, [])
-unfolding word_at is_boundary space_len
-tilde-at limit rest greater t p none sign h = rw (none, sign, h) refl
+caret-at : (limit : ℕ) (rest : List ℕ) (p : Partial) → partial_front limit (drop_spaces rest) ≡ Some (p, []) → word_at limit (94 ∷ rest) ≡ (caret p, [])
+unfolding is_boundary space_len
+caret-at limit rest p h = word-as limit (94 ∷ rest) (careted, drop_spaces rest) (Some (p, [])) refl (sym h)
 
-caret-at : (limit : ℕ) (rest : List ℕ) (p : Partial) → longest_partial limit (94 ∷ rest) ≡ None → longest_partial limit (drop_spaces rest) ≡ Some (p, [])
-    → word_at limit (94 ∷ rest) ≡ (caret p, [])
-unfolding word_at is_boundary space_len
-caret-at limit rest p none h = rw (none, h) refl
-
-hyphen-at : (limit : ℕ) (text : List ℕ) (p : Partial) (second : List ℕ) (q : Partial) → longest_partial limit text ≡ Some (p, 32 ∷ 45 ∷ 32 ∷ second)
-    → longest_partial limit (drop_spaces second) ≡ Some (q, []) → word_at limit text ≡ (hyphen p q, [])
-unfolding word_at is_boundary space_len after_spaces
-hyphen-at limit text p second q h k = rw (h, k) refl
+hyphen-at : (limit : ℕ) (text : List ℕ) (p : Partial) (second : List ℕ) (q : Partial) → partial_front limit text ≡ Some (p, 32 ∷ 45 ∷ 32 ∷ second)
+    → partial_front limit (drop_spaces second) ≡ Some (q, []) → word_at limit text ≡ (hyphen p q, [])
+unfolding is_boundary space_len after_spaces
+hyphen-at limit text p second q h k =
+    let x : Partial × List ℕ = (p, 32 ∷ 45 ∷ 32 ∷ second) in
+    word-as limit text (unsigned, text) (Some x) (sym (unsigned-at limit text x h)) (sym h) ∙ rw k refl
 
 no-more : (limit : ℕ) (w : Word) → (w ∷ words limit (drop_spaces [])) ≡ w ∷ []
 unfolding after_spaces words_within
@@ -98,57 +92,28 @@ one-word limit text w r =
     words-step limit text r.some r.dark ∙ ap (λ (q : Word × List ℕ). q.0 ∷ words limit (drop_spaces q.1)) r.word ∙ no-more limit w
 
 -- behind a sign, where whitespace might stand
-signed-exact : (limit : ℕ) (x more : List ℕ) (p : Partial) → IsBare limit x p → Stop more → longest_partial limit (drop_spaces (x ++ more)) ≡ Some (p, more)
+signed-exact : (limit : ℕ) (x more : List ℕ) (p : Partial) → IsBare limit x p → Stop more → partial_front limit (drop_spaces (x ++ more)) ≡ Some (p, more)
 signed-exact limit x more p h stop =
-    ap (λ t. longest_partial limit t) (drop_spaces-none (x ++ more) (front-dark (x ++ more) (begins-longer x more (bare-begins limit x p h))))
+    ap (λ t. partial_front limit t) (drop_spaces-none (x ++ more) (front-dark (x ++ more) (begins-longer x more (bare-begins limit x p h))))
     ∙ longest-exact limit x more p h stop
 
-at-end : (limit : ℕ) (x : List ℕ) (p : Partial) → longest_partial limit (x ++ []) ≡ Some (p, []) → longest_partial limit x ≡ Some (p, [])
-at-end limit x p h = subst (λ (t : List ℕ). longest_partial limit t ≡ Some (p, [])) (append-nil x) h
+at-end : (limit : ℕ) (x : List ℕ) (p : Partial) → partial_front limit (x ++ []) ≡ Some (p, []) → partial_front limit x ≡ Some (p, [])
+at-end limit x p h = subst (λ (t : List ℕ). partial_front limit t ≡ Some (p, [])) (append-nil x) h
 
-signed-end : (limit : ℕ) (x : List ℕ) (p : Partial) → IsBare limit x p → longest_partial limit (drop_spaces x) ≡ Some (p, [])
+signed-end : (limit : ℕ) (x : List ℕ) (p : Partial) → IsBare limit x p → partial_front limit (drop_spaces x) ≡ Some (p, [])
 signed-end limit x p h =
-    subst (λ (t : List ℕ). longest_partial limit (drop_spaces t) ≡ Some (p, [])) (append-nil x) (signed-exact limit x [] p h stop-nil)
-
-abbrev some_sign : Comparator × List ℕ → Option (Comparator × List ℕ)
-some_sign x = Some x
+    subst (λ (t : List ℕ). partial_front limit (drop_spaces t) ≡ Some (p, [])) (append-nil x) (signed-exact limit x [] p h stop-nil)
 
 comparison-read : (limit : ℕ) (x : List ℕ) (w : Word) (more : List ℕ) → IsComparison limit x w → Stop more → is_boundary more ≡ true → ReadAt limit (x ++ more) w more
-comparison-read limit x w more (comparison c sign text p is bare) stop end = by c sign is
-  where
-    begins : begins_component (text ++ more) ≡ true
-    begins = begins-longer text more (bare-begins limit text p bare)
-
-    read : longest_partial limit (drop_spaces (text ++ more)) ≡ Some (p, more)
-    read = signed-exact limit text more p bare stop
-
-    by : (c : Comparator) (sign : List ℕ) → IsSign c sign → ReadAt limit ((sign ++ text) ++ more) (compare c p) more
-    by c sign above_sign = record {
-      some = omega arith;
-      dark = (sign-dark (text ++ more)).0;
-      word = compare-at limit (62 ∷ (text ++ more)) above (text ++ more) p more (sign-none limit (text ++ more)).0
-          (ap some_sign (no-equal above at_least (text ++ more) begins)) read end;
-    }
-    by c sign at_least_sign = record {
-      some = omega arith;
-      dark = (sign-dark (61 ∷ (text ++ more))).0;
-      word = compare-at limit (62 ∷ 61 ∷ (text ++ more)) at_least (text ++ more) p more (sign-none limit (61 ∷ (text ++ more))).0 refl read end;
-    }
-    by c sign below_sign = record {
-      some = omega arith;
-      dark = (sign-dark (text ++ more)).1;
-      word = compare-at limit (60 ∷ (text ++ more)) below (text ++ more) p more (sign-none limit (text ++ more)).1
-          (ap some_sign (no-equal below at_most (text ++ more) begins)) read end;
-    }
-    by c sign at_most_sign = record {
-      some = omega arith;
-      dark = (sign-dark (61 ∷ (text ++ more))).1;
-      word = compare-at limit (60 ∷ 61 ∷ (text ++ more)) at_most (text ++ more) p more (sign-none limit (61 ∷ (text ++ more))).1 refl read end;
-    }
-    by c sign equal_sign = record {
-      some = omega arith;
-      dark = (sign-dark (text ++ more)).2;
-      word = compare-at limit (61 ∷ (text ++ more)) equal (text ++ more) p more (sign-none limit (text ++ more)).2 refl read end;
+comparison-read limit x w more (comparison c sign text p is bare) stop end =
+    let whole = append_assoc sign text more in
+    let dark = comparator-dark c sign (text ++ more) is in
+    let read = signed-exact limit text more p bare stop in
+    let at = sym (compared-of limit c sign (text ++ more) (p, more) is read) in
+    record {
+      some = rw whole dark.0;
+      dark = rw whole dark.1;
+      word = rw whole (word-as limit (sign ++ (text ++ more)) (compared c, drop_spaces (text ++ more)) (Some (p, more)) at (sym read) ∙ rw end refl);
     }
 
 end-boundary : is_boundary [] ≡ true
@@ -178,20 +143,20 @@ word-read limit x w (tilde_word text p bare) =
     let begins = bare-begins limit text p bare in
     record {
       some = omega arith;
-      dark = (sign-dark text).3;
-      word = tilde-at limit text false text p (sign-none limit text).3
+      dark = (sign-dark text).0;
+      word = tilde-at limit text false text p
           (ap tilde_sign (drop_spaces-none text (front-dark text begins)) ∙ no-greater text begins) (signed-end limit text p bare);
     }
 word-read limit x w (tilde_greater_word text p bare) = record {
   some = omega arith;
-  dark = (sign-dark (62 ∷ text)).3;
-  word = tilde-at limit (62 ∷ text) true text p (sign-none limit (62 ∷ text)).3
-      (ap tilde_sign (drop_spaces-none (62 ∷ text) (sign-dark text).0)) (signed-end limit text p bare);
+  dark = (sign-dark (62 ∷ text)).0;
+  word = tilde-at limit (62 ∷ text) true text p
+      (ap tilde_sign (drop_spaces-none (62 ∷ text) (comparator-dark above (62 ∷ []) text above_sign).1)) (signed-end limit text p bare);
 }
 word-read limit x w (caret_word text p bare) = record {
   some = omega arith;
-  dark = (sign-dark text).4;
-  word = caret-at limit text p (sign-none limit text).4 (signed-end limit text p bare);
+  dark = (sign-dark text).1;
+  word = caret-at limit text p (signed-end limit text p bare);
 }
 word-read limit x w (hyphen_word first second p q bare other) =
     let behind = 32 ∷ 45 ∷ 32 ∷ second in

@@ -17,6 +17,7 @@ use Rattle.semver_core.specs.Values.Versions.{VersionValue}
 use Rattle.semver_core.specs.declared.cuts.bound.Bound.{Bound}
 use Rattle.semver_core.specs.declared.cuts.bound.Bound.TheVariants.{Unbounded, Before, After}
 use Rattle.semver_core.proofs.Printing.Returns.{decimal_digits, decimal_some, ids_runs, run_chars}
+use Rattle.semver_core.proofs.Text.Spaces.{drop_spaces-none}
 use Rattle.nodejs_semver.specs.Printing.RoundTrip.{read_back}
 use Rattle.nodejs_semver.specs.Ranges.Outside.{is_bounded}
 use Rattle.nodejs_semver.specs.Text.Denotes.{part_denotes, denotes}
@@ -26,7 +27,6 @@ use Rattle.semver_core.specs.Values.Order.{version_eq}
 use Rattle.semver_core.specs.Internal.Spaces.{drop_spaces, drop_end_spaces, trim, space_len}
 use Rattle.semver_core.specs.Lists.{is_empty}
 use Rattle.nodejs_semver.proofs.Reading.IdentifierLists.{and-left, and-right, and-both}
-use Rattle.nodejs_semver.proofs.Printing.Versions.{dark_stays}
 use Rattle.nodejs_semver.proofs.Printing.Words.{space_step}
 use Rattle.nodejs_semver.proofs.Printing.Bounds.{IsReadableBound, IsPrintable, bounds_come_back}
 
@@ -110,9 +110,9 @@ space_or b h k = grind (arith, nat_tests)
 -- text is left behind the spaces
 text_left : (s t : List ℕ) → list_all is_print s ≡ true → list_all is_shown t ≡ true → 0 < length t → is_empty (drop_spaces (s ++ t)) ≡ false
 text_left [] [] h k some = absurd (omega arith)
-text_left [] (b ∷ t) h k some = ap (λ l. is_empty l) (dark_stays (b ∷ t) (shown_dark b t (and-left (is_shown b) (list_all is_shown t) k)))
+text_left [] (b ∷ t) h k some = ap (λ l. is_empty l) (drop_spaces-none (b ∷ t) (shown_dark b t (and-left (is_shown b) (list_all is_shown t) k)))
 text_left (b ∷ s) t h k some = elim (cases_Bool (is_shown b)) [
-  | inl shown ↦ ap (λ l. is_empty l) (dark_stays (b ∷ s ++ t) (shown_dark b (s ++ t) shown))
+  | inl shown ↦ ap (λ l. is_empty l) (drop_spaces-none (b ∷ s ++ t) (shown_dark b (s ++ t) shown))
   | inr space ↦
       let is = space_or b (and-left (is_print b) (list_all is_print s) h) space in
       rw is (ap (λ l. is_empty l) (space_step (s ++ t)) ∙ text_left s t (and-right (is_print b) (list_all is_print s) h) k some)
@@ -129,7 +129,7 @@ end_nil = refl
 ends_shown : (t : List ℕ) → list_all is_shown t ≡ true → drop_end_spaces t ≡ t
 ends_shown [] h = end_nil
 ends_shown (b ∷ t) h =
-    end_step b t (ap (λ l. is_empty l) (dark_stays (b ∷ t) (shown_dark b t (and-left (is_shown b) (list_all is_shown t) h))))
+    end_step b t (ap (λ l. is_empty l) (drop_spaces-none (b ∷ t) (shown_dark b t (and-left (is_shown b) (list_all is_shown t) h))))
     (ends_shown t (and-right (is_shown b) (list_all is_shown t) h))
 
 ends_text : (s t : List ℕ) → list_all is_print s ≡ true → list_all is_shown t ≡ true → 0 < length t → drop_end_spaces (s ++ t) ≡ s ++ t
@@ -147,7 +147,7 @@ part_one [] h some = absurd (omega arith)
 part_one (b ∷ rest) h some = record {
   no_bar = all_imply is_shown is_print shown_print (b ∷ rest) h;
   some = refl;
-  trimmed = ap (λ l. drop_end_spaces l) (dark_stays (b ∷ rest) (shown_dark b rest (and-left (is_shown b) (list_all is_shown rest) h))) ∙ ends_shown (b ∷ rest) h;
+  trimmed = ap (λ l. drop_end_spaces l) (drop_spaces-none (b ∷ rest) (shown_dark b rest (and-left (is_shown b) (list_all is_shown rest) h))) ∙ ends_shown (b ∷ rest) h;
 }
 
 part_two : (s t : List ℕ) → list_all is_shown s ≡ true → 0 < length s → list_all is_shown t ≡ true → 0 < length t → IsPart (s ++ 32 ∷ t)
@@ -158,7 +158,7 @@ part_two (b ∷ s) t h some k more =
     record {
       no_bar = all_append is_print (b ∷ s) (32 ∷ t) (all_imply is_shown is_print shown_print (b ∷ s) h) (all_imply is_shown is_print shown_print t k);
       some = refl;
-      trimmed = ap (λ l. drop_end_spaces l) (dark_stays (b ∷ s ++ 32 ∷ t) (shown_dark b (s ++ 32 ∷ t) (and-left (is_shown b) (list_all is_shown s) h)))
+      trimmed = ap (λ l. drop_end_spaces l) (drop_spaces-none (b ∷ s ++ 32 ∷ t) (shown_dark b (s ++ 32 ∷ t) (and-left (is_shown b) (list_all is_shown s) h)))
           ∙ subst (λ (l : List ℕ). drop_end_spaces l ≡ l) same (ends_text (b ∷ s ++ 32 ∷ []) t front k more);
     }
 

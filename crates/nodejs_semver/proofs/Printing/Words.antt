@@ -1,41 +1,20 @@
 -- For proofs. The words of a printed interval.
 use Rattle.semver_core.specs.Text.Characters.{begins}
-use Rattle.std.proofs.Common.{◌≡◌, ◌<◌, ◌^◌, ◌==◌, ℕ, Bool, true, false, List, [], ◌∷◌, ◌++◌, length, refl, sym, ap, ◌∙◌, arith, inl, inr, append_assoc, append-nil, Some, None}
-use Rattle.std.specs.Prelude.{◌||◌}
-use Rattle.std.proofs.lemmas.Bool.{cases_Bool, eqb-true}
-use Rattle.std.proofs.lemmas.Bool.Decides.{nat_tests}
+use Rattle.std.proofs.Common.{◌≡◌, ◌<◌, ◌^◌, ℕ, Bool, true, false, List, [], ◌∷◌, ◌++◌, length, refl, sym, ap, ◌∙◌, arith, append_assoc, append-nil, Some}
+use Rattle.std.proofs.lemmas.Bool.{eqb-true}
 use Rattle.std.specs.Char.{is_ascii_digit}
 use Rattle.semver_core.specs.Internal.Readable.{IsReadable}
 use Rattle.semver_core.specs.Printing.Text.{version_text}
 use Rattle.semver_core.specs.Values.Versions.{VersionValue}
 use Rattle.semver_core.specs.Internal.Spaces.{drop_spaces, space_len, after_spaces}
-use Rattle.nodejs_semver.specs.Text.PartialText.{Partial}
-use Rattle.nodejs_semver.specs.Internal.Partials.{longest_partial, number_of}
-use Rattle.nodejs_semver.specs.Internal.Fronts.{partial_front, component_front}
-use Rattle.nodejs_semver.specs.Text.WordText.{Word, plain, compare, Comparator, at_least, above, equal, at_most, below}
-use Rattle.nodejs_semver.specs.Internal.Words.{comparator_at, signed, word_at, words, is_boundary, or_equal, words_within}
+use Rattle.semver_core.proofs.Text.Spaces.{drop_spaces-none}
+use Rattle.nodejs_semver.specs.Internal.Fronts.{partial_front}
+use Rattle.nodejs_semver.specs.Text.WordText.{IsSign, above_sign, at_least_sign, at_most_sign, below_sign, equal_sign, Word, plain, compare, Comparator, at_least, above, equal, at_most, below}
+use Rattle.nodejs_semver.specs.Internal.Words.{compared, is_boundary, unsigned, word_at, words, words_within}
+use Rattle.nodejs_semver.proofs.Reading.SignLaw.{word-as}
+use Rattle.nodejs_semver.proofs.Reading.WordLaw.{compared-of, unsigned-at}
 use Rattle.nodejs_semver.proofs.Reading.Progress.{words-step}
-use Rattle.nodejs_semver.proofs.Reading.Longest.{longest_is_front}
-use Rattle.nodejs_semver.proofs.Printing.Versions.{whole, is_end, longest_back, front_digit, digit_dark, dark_stays}
-
-none_more : (limit : ℕ) (rest : List ℕ) → partial_front limit (62 ∷ rest) ≡ None
-unfolding partial_front component_front after_spaces space_len number_of
-none_more limit rest = refl
-
-none_less : (limit : ℕ) (rest : List ℕ) → partial_front limit (60 ∷ rest) ≡ None
-unfolding partial_front component_front after_spaces space_len number_of
-none_less limit rest = refl
-
--- no partial begins with `<` or `>`
-no_partial_front : (limit c : ℕ) (rest : List ℕ) → (c == 62 || c == 60) ≡ true → longest_partial limit (c ∷ rest) ≡ None
-no_partial_front limit c rest h = elim (cases_Bool (c == 62)) [
-  | inl more ↦ rw (eqb-true c 62 more) (longest_is_front limit (62 ∷ rest) ∙ none_more limit rest)
-  | inr other ↦ rw (eqb-true c 60 (right (c == 62) (c == 60) h other)) (longest_is_front limit (60 ∷ rest) ∙ none_less limit rest)
-]
-  where
-    right : (x y : Bool) → (x || y) ≡ true → x ≡ false → y ≡ true
-    right true y h e = cc e
-    right false y h e = h
+use Rattle.nodejs_semver.proofs.Printing.Versions.{whole, is_end, longest_back, front_digit, digit_dark}
 
 -- the end and a space are boundaries
 end_boundary : (rest : List ℕ) → is_end rest ≡ true → is_boundary rest ≡ true
@@ -43,21 +22,12 @@ unfolding is_boundary space_len
 end_boundary [] h = refl
 end_boundary (b ∷ rest) h = rw (eqb-true b 32 h) refl
 
--- one partial behind its sign
-signed_back : (limit : ℕ) (make : Partial → Word) (v : VersionValue) (rest : List ℕ) → limit < 2 ^ 64 → IsReadable limit v → is_end rest ≡ true
-    → signed limit make (version_text v ++ rest) ≡ Some (make (whole v), rest)
-signed_back limit make v rest fits h stop =
-    let digit = front_digit limit v rest fits h in
-    let dark = dark_stays (version_text v ++ rest) (digit_dark (version_text v ++ rest) digit) in
-    rw (dark, longest_back limit v rest fits h stop, end_boundary rest stop) refl
-
--- a digit is no `=`
-one_sign : (one two : Comparator) (text : List ℕ) → begins is_ascii_digit text ≡ true → or_equal one two text ≡ (one, text)
-one_sign one two [] h = cc h
-one_sign one two (b ∷ rest) h = rw (other b h) refl
-  where
-    other : (b : ℕ) → is_ascii_digit b ≡ true → (b == 61) ≡ false
-    other b h = grind (arith, nat_tests)
+-- a version behind whitespace or none
+spaced_back : (limit : ℕ) (v : VersionValue) (rest : List ℕ) → limit < 2 ^ 64 → IsReadable limit v → is_end rest ≡ true
+    → partial_front limit (drop_spaces (version_text v ++ rest)) ≡ Some (whole v, rest)
+spaced_back limit v rest fits h stop =
+    let dark = digit_dark (version_text v ++ rest) (front_digit limit v rest fits h) in
+    ap (λ (t : List ℕ). partial_front limit t) (drop_spaces-none (version_text v ++ rest) dark) ∙ longest_back limit v rest fits h stop
 
 -- the text of a comparator
 abbrev pub sign : Comparator → List ℕ
@@ -72,34 +42,29 @@ abbrev pub is_printed : Comparator → Bool
 is_printed equal = false
 is_printed _ = true
 
-comparator_back : (c : Comparator) (text : List ℕ) → is_printed c ≡ true → begins is_ascii_digit text ≡ true → comparator_at (sign c ++ text) ≡ Some (c, text)
-comparator_back at_least text p h = refl
-comparator_back at_most text p h = refl
-comparator_back above text p h = ap (λ r. Some r) (one_sign above at_least text h)
-comparator_back below text p h = ap (λ r. Some r) (one_sign below at_most text h)
-comparator_back equal text p h = cc p
-
-no_partial_sign : (limit : ℕ) (c : Comparator) (text : List ℕ) → is_printed c ≡ true → longest_partial limit (sign c ++ text) ≡ None
-no_partial_sign limit at_least text p = no_partial_front limit 62 (61 ∷ text) refl
-no_partial_sign limit above text p = no_partial_front limit 62 text refl
-no_partial_sign limit at_most text p = no_partial_front limit 60 (61 ∷ text) refl
-no_partial_sign limit below text p = no_partial_front limit 60 text refl
-no_partial_sign limit equal text p = cc p
+comparator_is : (c : Comparator) → is_printed c ≡ true → IsSign c (sign c)
+comparator_is at_least p = at_least_sign
+comparator_is at_most p = at_most_sign
+comparator_is above p = above_sign
+comparator_is below p = below_sign
+comparator_is equal p = equal_sign
 
 -- a comparator, a version, and the end or a space: the word there
 compare_word : (limit : ℕ) (c : Comparator) (v : VersionValue) (rest : List ℕ) → is_printed c ≡ true → limit < 2 ^ 64 → IsReadable limit v → is_end rest ≡ true
     → word_at limit (sign c ++ (version_text v ++ rest)) ≡ (compare c (whole v), rest)
-unfolding word_at
 compare_word limit c v rest p fits h stop =
     let text = version_text v ++ rest in
-    let none = no_partial_sign limit c text p in
-    let there = comparator_back c text p (front_digit limit v rest fits h) in
-    rw (none, there, signed_back limit (compare c) v rest fits h stop) refl
+    let read = spaced_back limit v rest fits h stop in
+    let at = compared-of limit c (sign c) text (whole v, rest) (comparator_is c p) read in
+    word-as limit (sign c ++ text) (compared c, drop_spaces text) (Some (whole v, rest)) (sym at) (sym read) ∙ rw (end_boundary rest stop) refl
 
 -- a version alone
 plain_word : (limit : ℕ) (v : VersionValue) → limit < 2 ^ 64 → IsReadable limit v → word_at limit (version_text v ++ []) ≡ (plain (whole v), [])
-unfolding word_at is_boundary space_len
-plain_word limit v fits h = rw (longest_back limit v [] fits h refl) refl
+unfolding is_boundary space_len
+plain_word limit v fits h =
+    let text = version_text v ++ [] in
+    let read = longest_back limit v [] fits h refl in
+    word-as limit text (unsigned, text) (Some (whole v, [])) (sym (unsigned-at limit text (whole v, []) read)) (sym read)
 
 -- ---- the words of a part
 
@@ -145,7 +110,7 @@ unfolding after_spaces space_len
 space_step text = refl
 
 space_passed : (text : List ℕ) → space_len text ≡ 0 → drop_spaces (32 ∷ text) ≡ text
-space_passed text h = space_step text ∙ dark_stays text h
+space_passed text h = space_step text ∙ drop_spaces-none text h
 
 pub two_words : (limit : ℕ) (c d : Comparator) (v w : VersionValue) → is_printed c ≡ true → is_printed d ≡ true → limit < 2 ^ 64 → IsReadable limit v → IsReadable limit w
     → words limit ((sign c ++ version_text v) ++ 32 ∷ (sign d ++ version_text w)) ≡ compare c (whole v) ∷ compare d (whole w) ∷ []

@@ -7,10 +7,9 @@ use Rattle.std.proofs.lemmas.List.Sums.{take_while-cons}
 use Rattle.std.proofs.lemmas.Bool.{cases_Bool, le-leb}
 use Rattle.std.proofs.lemmas.Bool.Decides.{nat_tests}
 use Rattle.std.specs.Prelude.{Option}
-use Rattle.nodejs_semver.specs.Internal.Partials.{number_of}
 use Rattle.semver_core.specs.Internal.Reading.{◌>>?◌}
 use Rattle.semver_core.specs.Lists.{is_empty}
-use Rattle.nodejs_semver.specs.Internal.Fronts.{number_front}
+use Rattle.nodejs_semver.specs.Internal.Fronts.{number_front, number_of}
 
 -- the elements from the front on that pass, pass
 pub take_while-pass : (p : ℕ → Bool) (xs : List ℕ) → list_all p (take_while p xs) ≡ true
@@ -29,10 +28,6 @@ pub number_of-some : (limit : ℕ) (run : List ℕ) → 0 < length run → list_
 unfolding number_of
 number_of-some limit run some pass small =
     rw (is_empty-false run some, pass, le-leb _ _ small) refl
-
--- a digit stands for its byte less 48
-digit_value-is : (b : ℕ) → is_ascii_digit b ≡ true → (48 ≤ b) × (b ≤ 57) × (digit_value b ≡ b - 48)
-digit_value-is b h = (grind (arith, nat_tests), grind (arith, nat_tests), grind (arith, nat_tests))
 
 -- the number at the front, by what its digits are
 pub number_front-is : (limit : ℕ) (text : List ℕ) (n : Option ℕ) → number_of limit (take_while is_ascii_digit text) ≡ n

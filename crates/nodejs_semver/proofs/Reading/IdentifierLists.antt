@@ -8,8 +8,7 @@ use Rattle.std.proofs.lemmas.List.Splits.{slice_split-cons_yes, slice_split-cons
 use Rattle.std.proofs.lemmas.List.{drop_more, drop_all}
 use Rattle.semver_core.specs.Text.Characters.{is_identifier_char}
 use Rattle.semver_core.specs.Text.Identifiers.{Numeric, is_identifier, goes_on, is_listed, listed}
-use Rattle.nodejs_semver.specs.Internal.Partials.{is_dot}
-use Rattle.nodejs_semver.specs.Internal.Fronts.{begins_identifier, run_on, list_len}
+use Rattle.nodejs_semver.specs.Internal.Fronts.{is_dot, begins_identifier, run_on, list_len}
 
 pub and-left : (a b : Bool) → (a && b) ≡ true → a ≡ true
 and-left true b h = refl

@@ -4,17 +4,15 @@ use Rattle.std.specs.Prelude.{Option}
 use Rattle.std.specs.Char.{is_ascii_digit}
 use Rattle.std.specs.List.{prefix_len, take_while}
 use Rattle.std.proofs.lemmas.Bool.{cases_Bool}
-use Rattle.std.proofs.lemmas.List.{take_at, drop_at}
+use Rattle.std.proofs.lemmas.List.{take-append-drop, take_at, drop_at}
 use Rattle.semver_core.specs.Text.Numbers.{IsNumber, IsWholeNumber}
 use Rattle.semver_core.specs.Text.Characters.{IsPieceAt, NoPieceAt}
-use Rattle.nodejs_semver.specs.Internal.Fronts.{begins_wildcard, component_front, number_front}
-use Rattle.nodejs_semver.specs.Internal.Partials.{number_of}
+use Rattle.nodejs_semver.specs.Internal.Fronts.{begins_wildcard, component_front, number_front, number_of}
 use Rattle.nodejs_semver.proofs.Reading.DigitValues.{number_front-is}
 use Rattle.nodejs_semver.proofs.Reading.NumberLaw.{number-is, number-of}
-use Rattle.nodejs_semver.proofs.Reading.Pieces.{digits-taken, wildcard-no_digit}
-use Rattle.nodejs_semver.proofs.Reading.Reaches.{run-stops, take_while-drop}
+use Rattle.nodejs_semver.proofs.Reading.Pieces.{digits-taken, run-ends, wildcard-no_digit}
 
-option-cases : {A : Type 0} (o : Option A) → (o ≡ None) ⊎ (x : A) × (o ≡ Some x)
+pub option-cases : {A : Type 0} (o : Option A) → (o ≡ None) ⊎ (x : A) × (o ≡ Some x)
 option-cases None = inl refl
 option-cases (Some x) = inr (x, refl)
 
@@ -46,10 +44,10 @@ front_none limit text none = elim (option-cases (number_of limit (take_while is_
   | inl not ↦ number_front-is limit text None not
   | inr n ↦
       let run = take_while is_ascii_digit text in
-      let rest = drop (length run) text in
+      let rest = drop (prefix_len is_ascii_digit text) text in
       let number : IsNumber limit run n.0 = number-is limit run n.0 n.1 in
-      let is : IsWholeNumber limit run rest n.0 = record { number = number; ended = run-stops text } in
-      absurd (none n.0 run rest (sym (take_while-drop is_ascii_digit text)) is)
+      let is : IsWholeNumber limit run rest n.0 = record { number = number; ended = run-ends text } in
+      absurd (none n.0 run rest (sym (take-append-drop (prefix_len is_ascii_digit text) text)) is)
 ]
 
 -- where a wildcard begins, no number does

@@ -3,7 +3,7 @@ use Rattle.std.proofs.Common.{◌≡◌, ◌<◌, ℕ, List, [], ◌∷◌, leng
 use Rattle.std.specs.Prelude.{◌↔◌}
 use Rattle.std.proofs.lemmas.Bool.{leb-true}
 use Rattle.semver_core.specs.Text.Numbers.{IsNumber}
-use Rattle.nodejs_semver.specs.Internal.Partials.{number_of}
+use Rattle.nodejs_semver.specs.Internal.Fronts.{number_of}
 use Rattle.semver_core.specs.Lists.{is_empty}
 use Rattle.nodejs_semver.proofs.Reading.DigitValues.{number_of-some}
 use Rattle.nodejs_semver.proofs.Reading.Pieces.{number_of-is}

@@ -1,42 +1,38 @@
 -- Each word takes a byte or more, so the list of words is a recursion.
-use Rattle.std.proofs.Common.{◌≡◌, ℕ, zero, suc, ◌<◌, ◌≤◌, List, [], ◌∷◌, length, take, drop, refl, ap, ◌∙◌, arith, Some, None, inl, inr, subst, length-append, length-drop, true, false, Bool}
-use Rattle.std.specs.Prelude.{Option, ◌==◌, nat_lt}
+use Rattle.std.proofs.Common.{◌≡◌, ℕ, zero, suc, ◌<◌, ◌≤◌, List, [], ◌∷◌, length, refl, ap, ◌∙◌, arith, Some, None, inl, inr, length-append, true, false, Bool}
+use Rattle.std.specs.Prelude.{Option, ◌==◌, if◌then◌else◌, nat_lt}
 use Rattle.std.proofs.lemmas.Bool.{cases_Bool}
 use Rattle.semver_core.specs.Internal.Spaces.{drop_spaces, space_len, after_spaces}
-use Rattle.nodejs_semver.specs.Internal.Words.{is_boundary, Reading, after_some_space, after_byte, at_boundary, signed, hyphen_at, plain_at, compare_at, tilde_at, caret_at, comparator_at, or_equal, tilde_sign, from_boundary, form_at, word_at, words_within, words}
-use Rattle.nodejs_semver.specs.Text.WordText.{Word, Comparator, above, at_least, below, at_most, equal, hyphen, plain, compare, tilde, caret}
-use Rattle.nodejs_semver.specs.Internal.Partials.{longest_partial, longest_within, partial_to, or_else}
+use Rattle.nodejs_semver.specs.Text.WordText.{Word, Comparator, above, at_least, below, at_most, equal, hyphen}
+use Rattle.nodejs_semver.specs.Internal.Words.{Reading, Sign, after_some_space, at_boundary, behind_sign, careted, comparator_at, compared, comparing, from_boundary, is_boundary, or_else, or_equal, sign_at, signed_word, tilde_sign, tilded, unsigned, upper_of, word_at, word_behind, words, words_within}
+use Rattle.nodejs_semver.specs.Internal.Fronts.{after_byte, component_front, dotted_front, drop_v, minor_front, partial_front}
 use Rattle.semver_core.specs.Internal.Reading.{◌>>?◌}
 use Rattle.nodejs_semver.specs.Text.PartialText.{Partial}
 use Rattle.nodejs_semver.proofs.Reading.Pieces.{bind-some}
-use Rattle.nodejs_semver.proofs.Reading.Reaches.{second-same}
+use Rattle.nodejs_semver.proofs.Reading.Components.{component-shorter, minor_front-le, second-same}
 use Rattle.semver_core.proofs.Text.Spaces.{after_spaces-end, drop_spaces-none, space_len-nil}
-
--- an answer leaves less
-abbrev Shorter : {A : Type 0} → Option (A × List ℕ) → List ℕ → Type 0
-Shorter {A} o text = (x : A) (r : List ℕ) → o ≡ Some (x, r) → length r < length text
-
-drop-shorter : (n : ℕ) (text r : List ℕ) → suc n ≤ length text → drop (suc n) text ≡ r → length r < length text
-drop-shorter n text r l e = omega (arith, ap length e, length-drop (suc n) text)
-
-or_else-shorter : (o : Option Partial) (t : List ℕ) (more : Option (Partial × List ℕ)) (n : ℕ) → length t < n
-    → ((x : Partial) (r : List ℕ) → more ≡ Some (x, r) → length r < n)
-    → (x : Partial) (r : List ℕ) → or_else (o >>? λ p. Some (p, t)) more ≡ Some (x, r) → length r < n
-or_else-shorter None t more n l m x r h = m x r h
-or_else-shorter (Some p) t more n l m x r h = subst (λ (u : List ℕ). length u < n) (second-same (p, t) (x, r) h) l
-
-longest-shorter : (limit n : ℕ) (text : List ℕ) → n ≤ length text → (x : Partial) (r : List ℕ) → longest_within limit n text ≡ Some (x, r) → length r < length text
-unfolding longest_within
-longest-shorter limit zero text l x r h = cc h
-longest-shorter limit (suc n) text l x r h =
-    or_else-shorter (partial_to limit (take (suc n) text) (drop (suc n) text)) (drop (suc n) text) (longest_within limit n text) (length text)
-    (drop-shorter n text (drop (suc n) text) l refl) (λ y s k. longest-shorter limit n text (omega arith) y s k) x r h
-
-partial-shorter : (limit : ℕ) (text : List ℕ) (x : Partial) (r : List ℕ) → longest_partial limit text ≡ Some (x, r) → length r < length text
-partial-shorter limit text x r h = longest-shorter limit (length text) text (omega arith) x r h
 
 pub spaces-le : (text : List ℕ) → length (drop_spaces text) ≤ length text
 spaces-le text = let e = after_spaces-end 0 text in omega (arith, ap length e.1, length-append e.0 (drop_spaces text))
+
+partial-shorter : (limit : ℕ) (text : List ℕ) (x : Partial) (r : List ℕ) → partial_front limit text ≡ Some (x, r) → length r < length text
+unfolding partial_front
+partial-shorter limit text x r h =
+    let body = drop_spaces (drop_v text) in
+    let a = bind-some (component_front limit body) (λ a. Some (minor_front limit a.0 a.1 (dotted_front limit a.1))) (x, r) h in
+    let same = second-same (minor_front limit a.0.0 a.0.1 (dotted_front limit a.0.1)) (x, r) a.2 in
+    omega (
+      arith,
+      component-shorter limit body a.0.0 a.0.1 a.1,
+      minor_front-le limit a.0.0 a.0.1 (dotted_front limit a.0.1) refl,
+      spaces-le (drop_v text),
+      v-le text,
+      ap length same,
+    )
+  where
+    v-le : (text : List ℕ) → length (drop_v text) ≤ length text
+    v-le [] = omega arith
+    v-le (b ∷ rest) = elim (cases_Bool (b == 118)) [ inl v ↦ rw v (omega arith) | inr other ↦ rw other (omega arith) ]
 
 some-space-le : (text r : List ℕ) → after_some_space text ≡ Some r → length r ≤ length text
 some-space-le text r h = elim (cases_Bool (nat_lt 0 (space_len text))) [
@@ -63,35 +59,35 @@ boundary-same w x rest r h = elim (cases_Bool (is_boundary rest)) [
   | inr other ↦ cc (rw other at h)
 ]
 
-signed-shorter : (limit : ℕ) (make : Partial → Word) (text : List ℕ) (x : Word) (r : List ℕ) → signed limit make text ≡ Some (x, r) → length r < length text
-signed-shorter limit make text x r h =
-    let p = bind-some (longest_partial limit (drop_spaces text)) _ (x, r) h in
-    let e = boundary-same (make p.0.0) x p.0.1 r p.2 in
-    omega (arith, partial-shorter limit (drop_spaces text) p.0.0 p.0.1 p.1, spaces-le text, ap length e)
-
-hyphen-shorter : (limit : ℕ) (text : List ℕ) (x : Word) (r : List ℕ) → hyphen_at limit text ≡ Some (x, r) → length r < length text
-hyphen-shorter limit text x r h =
-    let p = bind-some (longest_partial limit text) _ (x, r) h in
-    let sign = bind-some (after_some_space p.0.1) _ (x, r) p.2 in
-    let gap = bind-some (after_byte 45 sign.0) _ (x, r) sign.2 in
-    let second = bind-some (after_some_space gap.0) _ (x, r) gap.2 in
-    let q = bind-some (longest_partial limit second.0) _ (x, r) second.2 in
-    let e = boundary-same (hyphen p.0.0 q.0.0) x q.0.1 r q.2 in
+upper-le : (limit : ℕ) (s : Sign) (text : List ℕ) (q : Partial × List ℕ) → upper_of limit s text ≡ Some q → length q.1 ≤ length text
+upper-le limit unsigned text q h =
+    let sign = bind-some (after_some_space text) _ q h in
+    let gap = bind-some (after_byte 45 sign.0) _ q sign.2 in
+    let second = bind-some (after_some_space gap.0) _ q gap.2 in
+    let read = bind-some (partial_front limit second.0) _ q second.2 in
+    let same : read.0 ≡ q = ended read.0 read.2 in
     omega (
       arith,
-      partial-shorter limit text p.0.0 p.0.1 p.1,
-      some-space-le p.0.1 sign.0 sign.1,
+      some-space-le text sign.0 sign.1,
       byte-le 45 sign.0 gap.0 gap.1,
       some-space-le gap.0 second.0 second.1,
-      partial-shorter limit second.0 q.0.0 q.0.1 q.1,
-      ap length e,
+      partial-shorter limit second.0 read.0.0 read.0.1 read.1,
+      ap (λ (x : Partial × List ℕ). length x.1) same,
     )
+  where
+    ended : (r : Partial × List ℕ) → (if is_boundary r.1 then Some r else None) ≡ Some q → r ≡ q
+    ended r k = elim (cases_Bool (is_boundary r.1)) [ inl here ↦ cc (rw here at k) | inr other ↦ cc (rw other at k) ]
+upper-le limit (compared c) text q h = cc h
+upper-le limit (tilded greater) text q h = cc h
+upper-le limit careted text q h = cc h
 
-plain-shorter : (limit : ℕ) (text : List ℕ) (x : Word) (r : List ℕ) → plain_at limit text ≡ Some (x, r) → length r < length text
-plain-shorter limit text x r h =
-    let p = bind-some (longest_partial limit text) _ (x, r) h in
-    let e = boundary-same (plain p.0.0) x p.0.1 r p.2 in
-    omega (arith, partial-shorter limit text p.0.0 p.0.1 p.1, ap length e)
+word_behind-le : (limit : ℕ) (s : Sign) (p : Partial) (rest : List ℕ) (x : Word) (r : List ℕ) → word_behind limit s p rest ≡ Some (x, r) → length r ≤ length rest
+word_behind-le limit s p rest x r h = go (upper_of limit s rest) refl h
+  where
+    go : (o : Option (Partial × List ℕ)) → upper_of limit s rest ≡ o → or_else (o >>? λ q. Some (hyphen p q.0, q.1)) (at_boundary (signed_word s p) rest) ≡ Some (x, r)
+        → length r ≤ length rest
+    go (Some q) e k = omega (arith, upper-le limit s rest q e, ap length (second-same (hyphen p q.0, q.1) (x, r) k))
+    go None e k = omega (arith, ap length (boundary-same (signed_word s p) x rest r k))
 
 or_equal-le : (one two : Comparator) (rest : List ℕ) → length (or_equal one two rest).1 ≤ length rest
 or_equal-le one two [] = omega arith
@@ -113,38 +109,29 @@ comparator-le (b ∷ rest) c h = elim (cases_Bool (b == 62)) [
     sized : (d : Comparator × List ℕ) → length d.1 ≤ length rest → Some d ≡ Some c → length c.1 ≤ length (b ∷ rest)
     sized d l k = omega (arith, ap length (second-same d c k))
 
-compare-shorter : (limit : ℕ) (text : List ℕ) (x : Word) (r : List ℕ) → compare_at limit text ≡ Some (x, r) → length r < length text
-compare-shorter limit text x r h =
-    let c = bind-some (comparator_at text) _ (x, r) h in
-    omega (arith, comparator-le text c.0 c.1, signed-shorter limit (compare c.0.0) c.0.1 x r c.2)
-
 sign-le : (rest : List ℕ) → length (tilde_sign rest).1 ≤ length rest
 sign-le [] = omega arith
 sign-le (b ∷ rest) = elim (cases_Bool (b == 62)) [ inl e ↦ rw e (omega arith) | inr o ↦ rw o (omega arith) ]
 
-tilde-shorter : (limit : ℕ) (text : List ℕ) (x : Word) (r : List ℕ) → tilde_at limit text ≡ Some (x, r) → length r < length text
-tilde-shorter limit text x r h =
-    let t = bind-some (after_byte 126 text) _ (x, r) h in
-    let sign = tilde_sign (drop_spaces t.0) in
-    omega (arith, byte-le 126 text t.0 t.1, spaces-le t.0, sign-le (drop_spaces t.0), signed-shorter limit (tilde sign.0) sign.1 x r t.2)
+sign_at-le : (text : List ℕ) → length (sign_at text).1 ≤ length text
+sign_at-le [] = omega arith
+sign_at-le (b ∷ rest) = elim (cases_Bool (b == 126)) [
+  | inl same ↦ rw same (omega (arith, spaces-le rest, sign-le (drop_spaces rest), spaces-le (tilde_sign (drop_spaces rest)).1))
+  | inr a ↦ elim (cases_Bool (b == 94)) [
+    | inl same ↦ rw (a, same) (omega (arith, spaces-le rest))
+    | inr c ↦ rw (a, c) (compared-le (comparator_at (b ∷ rest)) refl)
+  ]
+]
+  where
+    compared-le : (o : Option (Comparator × List ℕ)) → comparator_at (b ∷ rest) ≡ o → length (comparing o (b ∷ rest)).1 ≤ length (b ∷ rest)
+    compared-le None e = omega arith
+    compared-le (Some c) e = omega (arith, comparator-le (b ∷ rest) c e, spaces-le c.1)
 
-caret-shorter : (limit : ℕ) (text : List ℕ) (x : Word) (r : List ℕ) → caret_at limit text ≡ Some (x, r) → length r < length text
-caret-shorter limit text x r h =
-    let t = bind-some (after_byte 94 text) _ (x, r) h in
-    omega (arith, byte-le 94 text t.0 t.1, signed-shorter limit caret t.0 x r t.2)
-
-either-shorter : (o p : Reading) (n : ℕ) → ((x : Word) (r : List ℕ) → o ≡ Some (x, r) → length r < n) → ((x : Word) (r : List ℕ) → p ≡ Some (x, r) → length r < n)
-    → (x : Word) (r : List ℕ) → or_else o p ≡ Some (x, r) → length r < n
-either-shorter None p n f g x r h = g x r h
-either-shorter (Some y) p n f g x r h = f x r h
-
-form-shorter : (limit : ℕ) (text : List ℕ) (x : Word) (r : List ℕ) → form_at limit text ≡ Some (x, r) → length r < length text
+form-shorter : (limit : ℕ) (text : List ℕ) (x : Word) (r : List ℕ) → behind_sign limit (sign_at text) ≡ Some (x, r) → length r < length text
 form-shorter limit text x r h =
-    let n = length text in
-    either-shorter (hyphen_at limit text) _ n (hyphen-shorter limit text)
-    (either-shorter (plain_at limit text) _ n (plain-shorter limit text)
-    (either-shorter (compare_at limit text) _ n (compare-shorter limit text)
-    (either-shorter (tilde_at limit text) (caret_at limit text) n (tilde-shorter limit text) (caret-shorter limit text)))) x r h
+    let s = sign_at text in
+    let p = bind-some (partial_front limit s.1) (λ p. word_behind limit s.0 p.0 p.1) (x, r) h in
+    omega (arith, sign_at-le text, partial-shorter limit s.1 p.0.0 p.0.1 p.1, word_behind-le limit s.0 p.0.0 p.0.1 x r p.2)
 
 boundary-le : (text : List ℕ) → length (from_boundary text) ≤ length text
 unfolding from_boundary
@@ -162,9 +149,9 @@ no-boundary b rest h = rw h refl
 -- a word that begins with no whitespace takes a byte or more
 pub word-shorter : (limit b : ℕ) (rest : List ℕ) → space_len (b ∷ rest) ≡ 0 → length (word_at limit (b ∷ rest)).1 < length (b ∷ rest)
 unfolding word_at from_boundary
-word-shorter limit b rest h = go (form_at limit (b ∷ rest)) refl
+word-shorter limit b rest h = go (behind_sign limit (sign_at (b ∷ rest))) refl
   where
-    go : (o : Reading) → form_at limit (b ∷ rest) ≡ o → length (word_at limit (b ∷ rest)).1 < length (b ∷ rest)
+    go : (o : Reading) → behind_sign limit (sign_at (b ∷ rest)) ≡ o → length (word_at limit (b ∷ rest)).1 < length (b ∷ rest)
     go (Some x) e = rw e (form-shorter limit (b ∷ rest) x.0 x.1 e)
     go None e = rw (e, from_boundary, no-boundary b rest h) (omega (arith, boundary-le rest))
 

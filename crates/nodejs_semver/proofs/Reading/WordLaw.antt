@@ -1,6 +1,6 @@
 -- The word that is computed is the one that is written.
 use Rattle.std.proofs.Common.{◌≡◌, ◌⊎◌, ℕ, ◌<◌, ◌≤◌, Bool, List, [], ◌∷◌, ◌++◌, length, drop, get_or, refl, sym, ap, ◌∙◌, arith, true, false, Some, None, inl, inr, subst, append_assoc, length-append}
-use Rattle.std.specs.Prelude.{◌↔◌, Option, IsUtf8, encode_utf8_all, ◌==◌, nat_lt, IsCharBoundary}
+use Rattle.std.specs.Prelude.{◌↔◌, if◌then◌else◌, Option, IsUtf8, encode_utf8_all, ◌==◌, nat_lt, IsCharBoundary}
 use Rattle.std.specs.Char.{encode_utf8, is_ascii_digit}
 use Rattle.std.proofs.lemmas.Bool.{cases_Bool, cases_lt, eqb-true, lt-ltb}
 use Rattle.std.proofs.lemmas.Bool.Decides.{nat_tests}
@@ -11,16 +11,16 @@ use Rattle.semver_core.specs.Internal.Spaces.{drop_spaces, space_len}
 use Rattle.semver_core.proofs.Text.SpaceLaw.{space_len-dark, space_len-inside, space_len-white}
 use Rattle.semver_core.proofs.Text.Spaces.{drop_spaces-none, space_len-nil}
 use Rattle.semver_core.proofs.Text.Trims.{drop_spaces-blank, fronted}
-use Rattle.nodejs_semver.specs.Internal.Fronts.{partial_front, component_front}
+use Rattle.nodejs_semver.specs.Internal.Words.{Reading, Sign, after_some_space, at_boundary, behind_sign, careted, comparator_at, compared, comparing, from_boundary, is_boundary, or_else, or_equal, or_malformed, sign_at, tilde_sign, tilded, unsigned, upper_behind, word_at, word_behind}
+use Rattle.nodejs_semver.specs.Internal.Fronts.{after_byte, component_front, number_of, partial_front}
 use Rattle.nodejs_semver.specs.Text.PartialText.{Partial, is_wildcard}
-use Rattle.nodejs_semver.specs.Internal.Partials.{longest_partial, or_else, number_of}
 use Rattle.semver_core.specs.Internal.Reading.{◌>>?◌}
+use Rattle.nodejs_semver.specs.Text.LongestText.{IsLongestPartial}
 use Rattle.nodejs_semver.specs.Text.WordText.{IsBehind, IsBoundary, IsFirstBoundary, IsForm, IsHyphen, IsSign, IsWhole, IsWordAt, SkipsBlank, above_sign, at_least_sign, at_most_sign, below_sign, caret_form, compare_form, equal_sign, formed, hyphen_form, no_form, plain_form, tilde_form, tilde_greater_form, Comparator, Word, above, at_least, at_most, below, caret, compare, equal, hyphen, malformed, plain, tilde}
-use Rattle.nodejs_semver.specs.Internal.Words.{Reading, after_byte, after_some_space, at_boundary, caret_at, compare_at, comparator_at, form_at, from_boundary, hyphen_at, hyphen_behind, is_boundary, or_equal, or_malformed, plain_at, signed, tilde_at, tilde_sign, word_at}
 use Rattle.nodejs_semver.proofs.Reading.Boundaries.{from_boundary-nil, from_boundary-stop}
-use Rattle.nodejs_semver.proofs.Reading.Longest.{longest_is_front, option-cases}
-use Rattle.nodejs_semver.proofs.Reading.LongestLaw.{longest_are, rest-utf8}
-use Rattle.nodejs_semver.proofs.Reading.PartialLaw.{inside}
+use Rattle.nodejs_semver.proofs.Reading.Components.{second-same}
+use Rattle.nodejs_semver.proofs.Reading.NumberFront.{option-cases}
+use Rattle.nodejs_semver.proofs.Reading.PartialLaw.{inside, longest_are, spaced}
 use Rattle.nodejs_semver.proofs.Reading.Pieces.{bind-some}
 use Rattle.nodejs_semver.proofs.Reading.Progress.{spaces-gone}
 use Rattle.nodejs_semver.proofs.Dividing.Trimmed.{dark-starts}
@@ -80,8 +80,12 @@ unfolding is_boundary
 suffix-boundary front [] u h = inl refl
 suffix-boundary front (b ∷ rest) u h = inr (suffix-blank front (b ∷ rest) u (grind (arith, h, nat_tests)))
 
-boundary-is : (rest : List ℕ) → IsUtf8 rest → is_boundary rest ≡ true → IsBoundary rest
-boundary-is rest u h = suffix-boundary [] rest u h
+boundary-utf8 : (front rest : List ℕ) → IsUtf8 (front ++ rest) → IsBoundary rest → IsUtf8 rest
+boundary-utf8 front rest u (inl empty) = subst (λ (s : List ℕ). IsUtf8 s) (sym empty) IsUtf8-nil
+boundary-utf8 front rest u (inr blank) = suffix-utf8 front rest u (blank-len rest blank)
+
+rest-utf8 : (limit : ℕ) (text : List ℕ) (p : Partial) (rest : List ℕ) → IsUtf8 text → IsLongestPartial limit text p rest → IsBoundary rest → IsUtf8 rest
+rest-utf8 limit text p rest u h b = boundary-utf8 h.front rest (subst (λ (t : List ℕ). IsUtf8 t) h.begins.divided u) b
 
 boundary-of : (rest : List ℕ) → IsBoundary rest → is_boundary rest ≡ true
 unfolding is_boundary
@@ -93,20 +97,13 @@ boundary-of (b ∷ rest) (inr blank) = lt-ltb 0 (space_len (b ∷ rest)) (blank-
 
 pub skips-is : (text : List ℕ) → IsUtf8 text → SkipsBlank text (drop_spaces text)
 skips-is text u =
-    let f = fronted u.0 in
-    let split : text ≡ encode_utf8_all f.before ++ encode_utf8_all f.rest =
-    sym u.1.1 ∙ (ap (λ (t : List ℕ). encode_utf8_all t) f.divided ∙ encodes-append f.before f.rest) in
-    let none = dark-starts f.rest f.dark in
-    let left : drop_spaces text ≡ encode_utf8_all f.rest =
-    ap (λ (t : List ℕ). drop_spaces t) split
-    ∙ (drop_spaces-blank f.before (encode_utf8_all f.rest) f.blank ∙ drop_spaces-none (encode_utf8_all f.rest) none) in
-    let skipped : SkipsBlank text (encode_utf8_all f.rest) = record {
-      blank = encode_utf8_all f.before;
-      divided = split;
-      is = record { characters = f.before; each = f.blank; spelled = refl };
-      ended = λ (h : BeginsBlank (encode_utf8_all f.rest)). absurd (omega (arith, none, blank-len (encode_utf8_all f.rest) h));
-    } in
-    subst (λ (t : List ℕ). SkipsBlank text t) (sym left) skipped
+    let s = spaced text u in
+    record {
+      blank = s.0;
+      divided = s.2;
+      is = s.1;
+      ended = λ (h : BeginsBlank (drop_spaces text)). absurd (omega (arith, spaces-gone 0 text, blank-len (drop_spaces text) h));
+    }
 
 pub skips-of : (text rest : List ℕ) → IsUtf8 text → SkipsBlank text rest → drop_spaces text ≡ rest
 skips-of text rest u h =
@@ -118,11 +115,12 @@ skips-of text rest u h =
     ap (λ (t : List ℕ). drop_spaces t) (h.divided ∙ ap (λ (t : List ℕ). t ++ rest) h.is.spelled)
     ∙ (drop_spaces-blank h.is.characters rest h.is.each ∙ drop_spaces-none rest none)
 
-some_space-is : (text rest : List ℕ) → IsUtf8 text → after_some_space text ≡ Some rest → BeginsBlank text × SkipsBlank text rest
-some_space-is text rest u h = elim (cases_Bool (nat_lt 0 (space_len text))) [
+some_space-is : (front text rest : List ℕ) → IsUtf8 (front ++ text) → after_some_space text ≡ Some rest → IsUtf8 text × BeginsBlank text × SkipsBlank text rest
+some_space-is front text rest u h = elim (cases_Bool (nat_lt 0 (space_len text))) [
   | inl some ↦
       let e : drop_spaces text ≡ rest = inside (rw some at h) in
-      (suffix-blank [] text u (grind (arith, some, nat_tests)), subst (λ (t : List ℕ). SkipsBlank text t) e (skips-is text u))
+      let v = suffix-utf8 front text u (grind (arith, some, nat_tests)) in
+      (v, suffix-blank front text u (grind (arith, some, nat_tests)), subst (λ (t : List ℕ). SkipsBlank text t) e (skips-is text v))
   | inr none ↦ cc (rw none at h)
 ]
 
@@ -132,159 +130,124 @@ some_space-of text rest u b h = rw (lt-ltb 0 (space_len text) (blank-len text b)
     some_of : List ℕ → Option (List ℕ)
     some_of t = Some t
 
-byte-is : (c : ℕ) (text rest : List ℕ) → after_byte c text ≡ Some rest → text ≡ c ∷ rest
+pub byte-is : (c : ℕ) (text rest : List ℕ) → after_byte c text ≡ Some rest → text ≡ c ∷ rest
 byte-is c [] rest h = cc h
 byte-is c (b ∷ text) rest h = elim (cases_Bool (b == c)) [
   | inl same ↦ let e : text ≡ rest = inside (rw same at h) in ap (λ (t : List ℕ). b ∷ t) e ∙ ap (λ (d : ℕ). d ∷ rest) (eqb-true b c same)
   | inr other ↦ cc (rw other at h)
 ]
 
--- ---- partials
+-- ---- partials up to a boundary
 
-whole-is : (limit : ℕ) (make : Partial → Word) (text : List ℕ) (x : Word × List ℕ) → IsUtf8 text
-    → (longest_partial limit text >>? λ p. at_boundary (make p.0) p.1) ≡ Some x → (p : Partial) × (make p ≡ x.0) × IsWhole limit text p x.1
-whole-is limit make text x u h =
-    let p = bind-some (longest_partial limit text) (λ p. at_boundary (make p.0) p.1) x h in
-    let read = (longest_are limit text p.0.0 p.0.1 u).0 p.1 in
-    elim (cases_Bool (is_boundary p.0.1)) [
-      | inl here ↦
-          let e : (make p.0.0, p.0.1) ≡ x = inside (rw here at p.2) in
-          let ends = boundary-is p.0.1 (rest-utf8 limit text p.0.0 p.0.1 u read) here in
-          (p.0.0, ap (λ (y : Word × List ℕ). y.0) e, subst (λ (t : List ℕ). IsWhole limit text p.0.0 t) (ap (λ (y : Word × List ℕ). y.1) e) (record { read = read; ended = ends }))
-      | inr other ↦ cc (rw other at p.2)
-    ]
-
-whole-of : (limit : ℕ) (make : Partial → Word) (text : List ℕ) (p : Partial) (rest : List ℕ) → IsUtf8 text → IsWhole limit text p rest
-    → (longest_partial limit text >>? λ p. at_boundary (make p.0) p.1) ≡ Some (make p, rest)
-whole-of limit make text p rest u h = rw ((longest_are limit text p rest u).1 h.read, boundary-of rest h.ended) refl
-
-behind-is : (limit : ℕ) (make : Partial → Word) (text : List ℕ) (x : Word × List ℕ) → IsUtf8 text → signed limit make text ≡ Some x
-    → (p : Partial) × (make p ≡ x.0) × IsBehind limit text p x.1
-behind-is limit make text x u h =
-    let skipped = skips-is text u in
-    let w = whole-is limit make (drop_spaces text) x (skips-utf8 text (drop_spaces text) skipped u) h in
-    (w.0, w.1, record { start = drop_spaces text; skipped = skipped; is = w.2 })
-
-behind-of : (limit : ℕ) (make : Partial → Word) (text : List ℕ) (p : Partial) (rest : List ℕ) → IsUtf8 text → IsBehind limit text p rest
-    → signed limit make text ≡ Some (make p, rest)
-behind-of limit make text p rest u h =
-    ap (λ (t : List ℕ). longest_partial limit t >>? λ p. at_boundary (make p.0) p.1) (skips-of text h.start u h.skipped)
-    ∙ whole-of limit make h.start p rest (skips-utf8 text h.start h.skipped u) h.is
+-- the word of a partial that ends there
+bounded-is : (limit : ℕ) (text : List ℕ) (p : Partial) (rest : List ℕ) (w : Word) (x : Word × List ℕ) → IsUtf8 text → IsLongestPartial limit text p rest
+    → at_boundary w rest ≡ Some x → ((w, rest) ≡ x) × IsWhole limit text p rest
+bounded-is limit text p rest w x u read h = elim (cases_Bool (is_boundary rest)) [
+  | inl here ↦ (inside (rw here at h), record { read = read; ended = suffix-boundary read.front rest (subst (λ (t : List ℕ). IsUtf8 t) read.begins.divided u) here })
+  | inr other ↦ cc (rw other at h)
+]
 
 -- no partial begins with one of these bytes
 none-at : (limit b : ℕ) (rest : List ℕ) → (b == 118) ≡ false → space_len (b ∷ rest) ≡ 0 → is_wildcard b ≡ false → is_ascii_digit b ≡ false
-    → longest_partial limit (b ∷ rest) ≡ None
+    → partial_front limit (b ∷ rest) ≡ None
 unfolding partial_front component_front number_of
-none-at limit b rest v s w d = longest_is_front limit (b ∷ rest) ∙ rw (v, drop_spaces-none (b ∷ rest) s, w, d) refl
+none-at limit b rest v s w d = rw (v, drop_spaces-none (b ∷ rest) s, w, d) refl
 
 ascii-dark : (b : ℕ) (rest : List ℕ) → b < 128 → is_whitespace b ≡ false → space_len (b ∷ rest) ≡ 0
 unfolding space_len
 ascii-dark b rest l h = rw (lt-ltb b 128 l, h) refl
 
-pub none-60 : (limit : ℕ) (rest : List ℕ) → longest_partial limit (60 ∷ rest) ≡ None
+none-60 : (limit : ℕ) (rest : List ℕ) → partial_front limit (60 ∷ rest) ≡ None
 none-60 limit rest = none-at limit 60 rest refl (ascii-dark 60 rest (omega arith) refl) refl refl
 
-pub none-61 : (limit : ℕ) (rest : List ℕ) → longest_partial limit (61 ∷ rest) ≡ None
+none-61 : (limit : ℕ) (rest : List ℕ) → partial_front limit (61 ∷ rest) ≡ None
 none-61 limit rest = none-at limit 61 rest refl (ascii-dark 61 rest (omega arith) refl) refl refl
 
-pub none-62 : (limit : ℕ) (rest : List ℕ) → longest_partial limit (62 ∷ rest) ≡ None
+none-62 : (limit : ℕ) (rest : List ℕ) → partial_front limit (62 ∷ rest) ≡ None
 none-62 limit rest = none-at limit 62 rest refl (ascii-dark 62 rest (omega arith) refl) refl refl
 
-pub none-94 : (limit : ℕ) (rest : List ℕ) → longest_partial limit (94 ∷ rest) ≡ None
+none-94 : (limit : ℕ) (rest : List ℕ) → partial_front limit (94 ∷ rest) ≡ None
 none-94 limit rest = none-at limit 94 rest refl (ascii-dark 94 rest (omega arith) refl) refl refl
 
-pub none-126 : (limit : ℕ) (rest : List ℕ) → longest_partial limit (126 ∷ rest) ≡ None
+none-126 : (limit : ℕ) (rest : List ℕ) → partial_front limit (126 ∷ rest) ≡ None
 none-126 limit rest = none-at limit 126 rest refl (ascii-dark 126 rest (omega arith) refl) refl refl
 
--- ---- steps through options
+-- where a partial begins, another byte does
+other-byte : (limit c b : ℕ) (rest : List ℕ) (x : Partial × List ℕ) → ((t : List ℕ) → partial_front limit (c ∷ t) ≡ None)
+    → partial_front limit (b ∷ rest) ≡ Some x → (b == c) ≡ false
+other-byte limit c b rest x none h = elim (cases_Bool (b == c)) [
+  | inl same ↦ let here : partial_front limit (b ∷ rest) ≡ None = rw (eqb-true b c same) (none rest) in cc (sym here ∙ h)
+  | inr other ↦ other
+]
+
+pub unsigned-at : (limit : ℕ) (text : List ℕ) (x : Partial × List ℕ) → partial_front limit text ≡ Some x → sign_at text ≡ (unsigned, text)
+unsigned-at limit [] x h = refl
+unsigned-at limit (b ∷ rest) x h =
+    rw (
+      other-byte limit 126 b rest x (none-126 limit) h,
+      other-byte limit 94 b rest x (none-94 limit) h,
+      other-byte limit 62 b rest x (none-62 limit) h,
+      other-byte limit 60 b rest x (none-60 limit) h,
+      other-byte limit 61 b rest x (none-61 limit) h,
+    ) refl
 
 bind-of : {A B : Type 0} (o : Option A) (f : A → Option B) (x : A) → o ≡ Some x → (o >>? f) ≡ f x
 bind-of {A} {B} o f x h = ap (λ (p : Option A). p >>? f) h
 
-bind-none : {A B : Type 0} (o : Option A) (f : A → Option B) → o ≡ None → (o >>? f) ≡ None
-bind-none {A} {B} o f h = ap (λ (p : Option A). p >>? f) h
+-- ---- hyphens
 
-or-cases : {A : Type 0} (a b : Option A) (x : A) → or_else a b ≡ Some x → (a ≡ Some x) ⊎ ((a ≡ None) × (b ≡ Some x))
-or-cases None b x h = inr (refl, h)
-or-cases (Some y) b x h = inl h
-
-or-first : {A : Type 0} (a b : Option A) (x : A) → a ≡ Some x → or_else a b ≡ Some x
-or-first {A} a b x h = ap (λ (o : Option A). or_else o b) h
-
-or-then : {A : Type 0} (a b : Option A) → a ≡ None → or_else a b ≡ b
-or-then {A} a b h = ap (λ (o : Option A). or_else o b) h
-
--- ---- hyphen words and plain ones
-
-hyphen-is : (limit : ℕ) (text : List ℕ) (x : Word × List ℕ) → IsUtf8 text → hyphen_at limit text ≡ Some x
-    → (lower : Partial) × (upper : Partial) × (hyphen lower upper ≡ x.0) × IsHyphen limit text lower upper x.1
-hyphen-is limit text x u h =
-    let p = bind-some (longest_partial limit text) (λ p. hyphen_behind limit p.0 p.1) x h in
-    let read = (longest_are limit text p.0.0 p.0.1 u).0 p.1 in
-    let v = rest-utf8 limit text p.0.0 p.0.1 u read in
-    let sign = bind-some (after_some_space p.0.1) _ x p.2 in
-    let s = some_space-is p.0.1 sign.0 v sign.1 in
+hyphen-is : (limit : ℕ) (text : List ℕ) (p : Partial) (before : List ℕ) (x : Partial × List ℕ) → IsUtf8 text → IsLongestPartial limit text p before
+    → upper_behind limit before ≡ Some x → IsHyphen limit text p x.0 x.1
+hyphen-is limit text p before x u read h =
+    let sign = bind-some (after_some_space before) _ x h in
+    let s = some_space-is read.front before sign.0 (subst (λ (t : List ℕ). IsUtf8 t) read.begins.divided u) sign.1 in
     let gap = bind-some (after_byte 45 sign.0) _ x sign.2 in
     let dash = byte-is 45 sign.0 gap.0 gap.1 in
-    let behind : IsUtf8 (45 ∷ gap.0) = subst (λ (t : List ℕ). IsUtf8 t) dash (skips-utf8 p.0.1 sign.0 s.1 v) in
-    let w = tail-utf8 45 gap.0 (omega arith) behind in
+    let w = tail-utf8 45 gap.0 (omega arith) (subst (λ (t : List ℕ). IsUtf8 t) dash (skips-utf8 before sign.0 s.2 s.0)) in
     let second = bind-some (after_some_space gap.0) _ x gap.2 in
-    let t = some_space-is gap.0 second.0 w second.1 in
-    let q = whole-is limit (hyphen p.0.0) second.0 x (skips-utf8 gap.0 second.0 t.1 w) second.2 in (
-      p.0.0,
-      q.0,
-      q.1,
-      record {
-        before = p.0.1;
-        after = gap.0;
-        first = read;
-        space_before = s.0;
-        dash = subst (λ (r : List ℕ). SkipsBlank p.0.1 r) dash s.1;
-        space_after = t.0;
-        second = record { start = second.0; skipped = t.1; is = q.2 };
-      },
-    )
+    let t = some_space-is [] gap.0 second.0 w second.1 in
+    let v = skips-utf8 gap.0 second.0 t.2 w in
+    let q = bind-some (partial_front limit second.0) _ x second.2 in
+    let there = (longest_are limit second.0 q.0.0 q.0.1 v).0 q.1 in
+    let last = ending q.0 q.2 there v in
+    record {
+      before = before;
+      after = gap.0;
+      first = read;
+      space_before = s.1;
+      dash = subst (λ (r : List ℕ). SkipsBlank before r) dash s.2;
+      space_after = t.1;
+      second = record { start = second.0; skipped = t.2; is = last };
+    }
+  where
+    ending : {text : List ℕ} (q : Partial × List ℕ) → (if is_boundary q.1 then Some q else None) ≡ Some x → IsLongestPartial limit text q.0 q.1 → IsUtf8 text
+        → IsWhole limit text x.0 x.1
+    ending {text} q k there v = elim (cases_Bool (is_boundary q.1)) [
+      | inl here ↦
+          let e : q ≡ x = inside (rw here at k) in
+          let stop = suffix-boundary there.front q.1 (subst (λ (t : List ℕ). IsUtf8 t) there.begins.divided v) here in
+          subst (λ (y : Partial × List ℕ). IsWhole limit text y.0 y.1) e (record { read = there; ended = stop })
+      | inr other ↦ cc (rw other at k)
+    ]
 
-hyphen-of : (limit : ℕ) (text : List ℕ) (lower upper : Partial) (rest : List ℕ) → IsUtf8 text → IsHyphen limit text lower upper rest
-    → hyphen_at limit text ≡ Some (hyphen lower upper, rest)
+hyphen-of : (limit : ℕ) (text : List ℕ) (lower upper : Partial) (rest : List ℕ) → IsUtf8 text → (h : IsHyphen limit text lower upper rest)
+    → upper_behind limit h.before ≡ Some (upper, rest)
 hyphen-of limit text lower upper rest u h =
-    let v = rest-utf8 limit text lower h.before u h.first in
+    let v = rest-utf8 limit text lower h.before u h.first (inr h.space_before) in
     let w = tail-utf8 45 h.after (omega arith) (skips-utf8 h.before (45 ∷ h.after) h.dash v) in
     let z = skips-utf8 h.after h.second.start h.second.skipped w in
-    bind-of (longest_partial limit text) (λ p. hyphen_behind limit p.0 p.1) (lower, h.before) ((longest_are limit text lower h.before u).1 h.first)
-    ∙ (bind-of (after_some_space h.before) (λ sign. after_byte 45 sign >>? λ gap. after_some_space gap >>? λ second. longest_partial limit second >>? λ q. at_boundary (hyphen lower q.0) q.1)
-    (45 ∷ h.after) (some_space-of h.before (45 ∷ h.after) v h.space_before h.dash)
-    ∙ (bind-of (after_some_space h.after) (λ second. longest_partial limit second >>? λ q. at_boundary (hyphen lower q.0) q.1)
-    h.second.start (some_space-of h.after h.second.start w h.space_after h.second.skipped)
-    ∙ whole-of limit (hyphen lower) h.second.start upper rest z h.second.is))
+    let sign = some_space-of h.before (45 ∷ h.after) v h.space_before h.dash in
+    let second = some_space-of h.after h.second.start w h.space_after h.second.skipped in
+    let read = (longest_are limit h.second.start upper rest z).1 h.second.is.read in
+    upper-as h.before (45 ∷ h.after) sign refl second read (boundary-of rest h.second.is.ended)
+  where
+    upper-as : (before sign : List ℕ) {after start : List ℕ} → after_some_space before ≡ Some sign → after_byte 45 sign ≡ Some after → after_some_space after ≡ Some start
+        → partial_front limit start ≡ Some (upper, rest) → is_boundary rest ≡ true → upper_behind limit before ≡ Some (upper, rest)
+    upper-as before sign {after} {start} e f g k b =
+        bind-of (after_some_space before) _ sign e ∙ (bind-of (after_byte 45 sign) _ after f ∙ (bind-of (after_some_space after) _ start g
+        ∙ (bind-of (partial_front limit start) _ (upper, rest) k ∙ rw b refl)))
 
--- the form of a pair
-formed-as : (limit : ℕ) (text : List ℕ) (x : Word × List ℕ) (w : Word) → w ≡ x.0 → IsForm limit text w x.1 → IsForm limit text x.0 x.1
-formed-as limit text x w e f = subst (λ (y : Word). IsForm limit text y x.1) e f
-
-hyphen-form : (limit : ℕ) (text : List ℕ) (x : Word × List ℕ) → IsUtf8 text → hyphen_at limit text ≡ Some x → IsForm limit text x.0 x.1
-hyphen-form limit text x u h =
-    let r = hyphen-is limit text x u h in
-    formed-as limit text x (hyphen r.0 r.1) r.2 (hyphen_form text r.0 r.1 x.1 r.3)
-
-no_hyphen-is : (limit : ℕ) (text : List ℕ) → IsUtf8 text → hyphen_at limit text ≡ None
-    → (lower upper : Partial) (other : List ℕ) → IsHyphen limit text lower upper other → ⊥
-no_hyphen-is limit text u none lower upper other h = cc (sym none ∙ hyphen-of limit text lower upper other u h)
-
-no_hyphen-of : (limit : ℕ) (text : List ℕ) → IsUtf8 text → ((lower upper : Partial) (other : List ℕ) → IsHyphen limit text lower upper other → ⊥)
-    → hyphen_at limit text ≡ None
-no_hyphen-of limit text u none = elim (option-cases (hyphen_at limit text)) [
-  | inl e ↦ e
-  | inr x ↦ let r = hyphen-is limit text x.0 u x.1 in absurd (none r.0 r.1 x.0.1 r.3)
-]
-
-plain-form : (limit : ℕ) (text : List ℕ) (x : Word × List ℕ) → IsUtf8 text → hyphen_at limit text ≡ None → plain_at limit text ≡ Some x
-    → IsForm limit text x.0 x.1
-plain-form limit text x u none h =
-    let r = whole-is limit plain text x u h in
-    formed-as limit text x (plain r.0) r.1 (plain_form text r.0 x.1 r.2 (no_hyphen-is limit text u none))
-
--- ---- comparators
+-- ---- signs
 
 or-equal : (one two : Comparator) (b : ℕ) (rest : List ℕ) → IsSign one (b ∷ []) → IsSign two (b ∷ 61 ∷ [])
     → (sign : List ℕ) × IsSign (or_equal one two rest).0 sign × (b ∷ rest ≡ sign ++ (or_equal one two rest).1)
@@ -323,157 +286,172 @@ sign-utf8 c sign text below_sign u = tail-utf8 60 text (omega arith) u
 sign-utf8 c sign text at_most_sign u = tail-utf8 61 text (omega arith) (tail-utf8 60 (61 ∷ text) (omega arith) u)
 sign-utf8 c sign text equal_sign u = tail-utf8 61 text (omega arith) u
 
-compare-form : (limit : ℕ) (text : List ℕ) (x : Word × List ℕ) → IsUtf8 text → compare_at limit text ≡ Some x → IsForm limit text x.0 x.1
-compare-form limit text x u h =
-    let c = bind-some (comparator_at text) (λ c. signed limit (compare c.0) c.1) x h in
-    let s = sign-is text c.0 c.1 in
-    let v = sign-utf8 c.0.0 s.0 c.0.1 s.1 (subst (λ (t : List ℕ). IsUtf8 t) s.2 u) in
-    let b = behind-is limit (compare c.0.0) c.0.1 x v c.2 in
-    subst (λ (t : List ℕ). IsForm limit t x.0 x.1) (sym s.2)
-    (formed-as limit (s.0 ++ c.0.1) x (compare c.0.0 b.0) b.1 (compare_form c.0.0 s.0 c.0.1 b.0 x.1 s.1 b.2))
+-- a sign, and the text behind it and its whitespace
+data IsSignedAt : List ℕ → Sign → List ℕ → Type 0 where
+  without : (text : List ℕ) → IsSignedAt text unsigned text
+  comparator : (c : Comparator) (sign text start : List ℕ) → IsSign c sign → SkipsBlank text start → IsSignedAt (sign ++ text) (compared c) start
+  tilde_alone : (text start : List ℕ) → SkipsBlank text start → IsSignedAt (126 ∷ text) (tilded false) start
+  tilde_greater : (text behind start : List ℕ) → SkipsBlank text (62 ∷ behind) → SkipsBlank behind start → IsSignedAt (126 ∷ text) (tilded true) start
+  caret_alone : (text start : List ℕ) → SkipsBlank text start → IsSignedAt (94 ∷ text) careted start
 
--- what stands behind a sign is read, so it does not begin with `=`
-behind-read : (limit : ℕ) (text : List ℕ) (p : Partial) (rest : List ℕ) → IsUtf8 text → IsBehind limit text p rest
-    → longest_partial limit (drop_spaces text) ≡ Some (p, rest)
-behind-read limit text p rest u h =
-    ap (λ (t : List ℕ). longest_partial limit t) (skips-of text h.start u h.skipped)
-    ∙ (longest_are limit h.start p rest (skips-utf8 text h.start h.skipped u)).1 h.is.read
+spaces-again : (text : List ℕ) → drop_spaces (drop_spaces text) ≡ drop_spaces text
+spaces-again text = drop_spaces-none (drop_spaces text) (spaces-gone 0 text)
 
-alone : (one two : Comparator) (limit : ℕ) (text : List ℕ) (p : Partial) (rest : List ℕ) → IsUtf8 text → IsBehind limit text p rest
-    → or_equal one two text ≡ (one, text)
-alone one two limit [] p rest u h = refl
-alone one two limit (b ∷ text) p rest u h = elim (cases_Bool (b == 61)) [
-  | inl same ↦
-      let is : b ≡ 61 = eqb-true b 61 same in
-      let dark : drop_spaces (b ∷ text) ≡ 61 ∷ text =
-      ap (λ (c : ℕ). drop_spaces (c ∷ text)) is ∙ drop_spaces-none (61 ∷ text) (ascii-dark 61 text (omega arith) refl) in
-      let none : longest_partial limit (drop_spaces (b ∷ text)) ≡ None = ap (λ (t : List ℕ). longest_partial limit t) dark ∙ none-61 limit text in
-      cc (sym none ∙ behind-read limit (b ∷ text) p rest u h)
-  | inr other ↦ rw other refl
-]
-
-sign-of : (limit : ℕ) (c : Comparator) (sign text : List ℕ) (p : Partial) (rest : List ℕ) → IsUtf8 text → IsSign c sign → IsBehind limit text p rest
-    → comparator_at (sign ++ text) ≡ Some (c, text)
-sign-of limit c sign text p rest u above_sign h = ap (λ (r : Comparator × List ℕ). Some r) (alone above at_least limit text p rest u h)
-sign-of limit c sign text p rest u at_least_sign h = refl
-sign-of limit c sign text p rest u below_sign h = ap (λ (r : Comparator × List ℕ). Some r) (alone below at_most limit text p rest u h)
-sign-of limit c sign text p rest u at_most_sign h = refl
-sign-of limit c sign text p rest u equal_sign h = refl
-
-sign-none : (limit : ℕ) (c : Comparator) (sign text : List ℕ) → IsSign c sign → longest_partial limit (sign ++ text) ≡ None
-sign-none limit c sign text above_sign = none-62 limit text
-sign-none limit c sign text at_least_sign = none-62 limit (61 ∷ text)
-sign-none limit c sign text below_sign = none-60 limit text
-sign-none limit c sign text at_most_sign = none-60 limit (61 ∷ text)
-sign-none limit c sign text equal_sign = none-61 limit text
-
--- ---- tildes and carets
-
-signed-again : (limit : ℕ) (make : Partial → Word) (text : List ℕ) → signed limit make (drop_spaces text) ≡ signed limit make text
-signed-again limit make text =
-    ap (λ (t : List ℕ). longest_partial limit t >>? λ p. at_boundary (make p.0) p.1) (drop_spaces-none (drop_spaces text) (spaces-gone 0 text))
-
-tilde-form : (limit : ℕ) (text : List ℕ) (x : Word × List ℕ) → IsUtf8 text → tilde_at limit text ≡ Some x → IsForm limit text x.0 x.1
-tilde-form limit text x u h =
-    let r = bind-some (after_byte 126 text) (λ rest. signed limit (tilde (tilde_sign (drop_spaces rest)).0) (tilde_sign (drop_spaces rest)).1) x h in
-    let e = byte-is 126 text r.0 r.1 in
-    let v = tail-utf8 126 r.0 (omega arith) (subst (λ (t : List ℕ). IsUtf8 t) e u) in
-    subst (λ (t : List ℕ). IsForm limit t x.0 x.1) (sym e) (go r.0 v (drop_spaces r.0) refl r.2)
-  where
-    without : (rest : List ℕ) → IsUtf8 rest → signed limit (tilde false) (drop_spaces rest) ≡ Some x → IsForm limit (126 ∷ rest) x.0 x.1
-    without rest v k =
-        let b = behind-is limit (tilde false) rest x v (sym (signed-again limit (tilde false) rest) ∙ k) in
-        formed-as limit (126 ∷ rest) x (tilde false b.0) b.1 (tilde_form rest b.0 x.1 b.2)
-
-    go : (rest : List ℕ) → IsUtf8 rest → (t : List ℕ) → drop_spaces rest ≡ t → signed limit (tilde (tilde_sign t).0) (tilde_sign t).1 ≡ Some x
-        → IsForm limit (126 ∷ rest) x.0 x.1
-    go rest v [] e k = without rest v (subst (λ (t : List ℕ). signed limit (tilde false) t ≡ Some x) (sym e) k)
-    go rest v (b ∷ t) e k = elim (cases_Bool (b == 62)) [
-      | inl same ↦
-          let front : drop_spaces rest ≡ 62 ∷ t = e ∙ ap (λ (c : ℕ). c ∷ t) (eqb-true b 62 same) in
-          let s : SkipsBlank rest (62 ∷ t) = subst (λ (y : List ℕ). SkipsBlank rest y) front (skips-is rest v) in
-          let w = tail-utf8 62 t (omega arith) (skips-utf8 rest (62 ∷ t) s v) in
-          let q = behind-is limit (tilde true) t x w (rw same at k) in
-          formed-as limit (126 ∷ rest) x (tilde true q.0) q.1 (tilde_greater_form rest t q.0 x.1 s q.2)
-      | inr other ↦
-          let read : signed limit (tilde false) (b ∷ t) ≡ Some x = rw other at k in
-          without rest v (subst (λ (y : List ℕ). signed limit (tilde false) y ≡ Some x) (sym e) read)
-    ]
-
-no_greater : (limit : ℕ) (text : List ℕ) (x : Partial × List ℕ) → longest_partial limit text ≡ Some x → tilde_sign text ≡ (false, text)
-no_greater limit [] x h = refl
-no_greater limit (b ∷ text) x h = elim (cases_Bool (b == 62)) [
-  | inl same ↦
-      let none : longest_partial limit (b ∷ text) ≡ None = ap (λ (c : ℕ). longest_partial limit (c ∷ text)) (eqb-true b 62 same) ∙ none-62 limit text in
-      cc (sym none ∙ h)
-  | inr other ↦ rw other refl
-]
-
-tilde-of : (limit : ℕ) (text : List ℕ) (p : Partial) (rest : List ℕ) → IsUtf8 text → IsBehind limit text p rest
-    → tilde_at limit (126 ∷ text) ≡ Some (tilde false p, rest)
-tilde-of limit text p rest u h =
-    ap (λ (s : Bool × List ℕ). signed limit (tilde s.0) s.1) (no_greater limit (drop_spaces text) (p, rest) (behind-read limit text p rest u h))
-    ∙ (signed-again limit (tilde false) text ∙ behind-of limit (tilde false) text p rest u h)
-
-tilde_greater-of : (limit : ℕ) (text behind : List ℕ) (p : Partial) (rest : List ℕ) → IsUtf8 text → SkipsBlank text (62 ∷ behind) → IsBehind limit behind p rest
-    → tilde_at limit (126 ∷ text) ≡ Some (tilde true p, rest)
-tilde_greater-of limit text behind p rest u s h =
-    let v = tail-utf8 62 behind (omega arith) (skips-utf8 text (62 ∷ behind) s u) in
-    ap (λ (t : List ℕ). signed limit (tilde (tilde_sign t).0) (tilde_sign t).1) (skips-of text (62 ∷ behind) u s)
-    ∙ behind-of limit (tilde true) behind p rest v h
-
-caret-form : (limit : ℕ) (text : List ℕ) (x : Word × List ℕ) → IsUtf8 text → caret_at limit text ≡ Some x → IsForm limit text x.0 x.1
-caret-form limit text x u h =
-    let r = bind-some (after_byte 94 text) (λ rest. signed limit caret rest) x h in
-    let e = byte-is 94 text r.0 r.1 in
-    let v = tail-utf8 94 r.0 (omega arith) (subst (λ (t : List ℕ). IsUtf8 t) e u) in
-    let b = behind-is limit caret r.0 x v r.2 in
-    subst (λ (t : List ℕ). IsForm limit t x.0 x.1) (sym e) (formed-as limit (94 ∷ r.0) x (caret b.0) b.1 (caret_form r.0 b.0 x.1 b.2))
-
--- ---- the forms
-
-form-is : (limit : ℕ) (text : List ℕ) (x : Word × List ℕ) → IsUtf8 text → form_at limit text ≡ Some x → IsForm limit text x.0 x.1
-form-is limit text x u h = elim (or-cases (hyphen_at limit text) _ x h) [
-  | inl one ↦ hyphen-form limit text x u one
-  | inr others ↦ elim (or-cases (plain_at limit text) _ x others.1) [
-    | inl two ↦ plain-form limit text x u others.0 two
-    | inr more ↦ elim (or-cases (compare_at limit text) _ x more.1) [
-      | inl three ↦ compare-form limit text x u three
-      | inr left ↦ elim (or-cases (tilde_at limit text) (caret_at limit text) x left.1) [
-        | inl four ↦ tilde-form limit text x u four
-        | inr last ↦ caret-form limit text x u last.1
-      ]
-    ]
+signed-at : (text : List ℕ) → IsUtf8 text → IsSignedAt text (sign_at text).0 (sign_at text).1
+signed-at [] u = without []
+signed-at (b ∷ rest) u = elim (cases_Bool (b == 126)) [
+  | inl same ↦ rw same (rw (eqb-true b 126 same) (tilded-at rest (tail-utf8 126 rest (omega arith) (subst (λ (c : ℕ). IsUtf8 (c ∷ rest)) (eqb-true b 126 same) u))))
+  | inr a ↦ elim (cases_Bool (b == 94)) [
+    | inl same ↦
+        let v = tail-utf8 94 rest (omega arith) (subst (λ (c : ℕ). IsUtf8 (c ∷ rest)) (eqb-true b 94 same) u) in
+        rw (a, same) (rw (eqb-true b 94 same) (caret_alone rest (drop_spaces rest) (skips-is rest v)))
+    | inr c ↦ rw (a, c) (compared-at (comparator_at (b ∷ rest)) refl)
   ]
 ]
+  where
+    compared-at : (o : Option (Comparator × List ℕ)) → comparator_at (b ∷ rest) ≡ o → IsSignedAt (b ∷ rest) (comparing o (b ∷ rest)).0 (comparing o (b ∷ rest)).1
+    compared-at None e = without (b ∷ rest)
+    compared-at (Some c) e =
+        let s = sign-is (b ∷ rest) c e in
+        let v = sign-utf8 c.0 s.0 c.1 s.1 (subst (λ (t : List ℕ). IsUtf8 t) s.2 u) in
+        subst (λ (t : List ℕ). IsSignedAt t (compared c.0) (drop_spaces c.1)) (sym s.2) (comparator c.0 s.0 c.1 (drop_spaces c.1) s.1 (skips-is c.1 v))
 
--- where no partial begins, the form is one with a sign
-signs : ℕ → List ℕ → Reading
-signs limit text = or_else (compare_at limit text) (or_else (tilde_at limit text) (caret_at limit text))
+    tilded-at : (rest : List ℕ) → IsUtf8 rest → IsSignedAt (126 ∷ rest) (tilded (tilde_sign (drop_spaces rest)).0) (drop_spaces (tilde_sign (drop_spaces rest)).1)
+    tilded-at rest v = go (drop_spaces rest) refl
+      where
+        alone_at : (t : List ℕ) → drop_spaces rest ≡ t → IsSignedAt (126 ∷ rest) (tilded false) (drop_spaces t)
+        alone_at t e =
+            tilde_alone rest (drop_spaces t) (subst (λ (y : List ℕ). SkipsBlank rest y) (sym (spaces-again rest) ∙ ap (λ (y : List ℕ). drop_spaces y) e) (skips-is rest v))
 
-form-signs : (limit : ℕ) (text : List ℕ) → longest_partial limit text ≡ None → form_at limit text ≡ signs limit text
-unfolding signs
-form-signs limit text none =
-    or-then (hyphen_at limit text) (or_else (plain_at limit text) (signs limit text)) (bind-none (longest_partial limit text) (λ p. hyphen_behind limit p.0 p.1) none)
-    ∙ or-then (plain_at limit text) (signs limit text) (bind-none (longest_partial limit text) (λ p. at_boundary (plain p.0) p.1) none)
+        go : (t : List ℕ) → drop_spaces rest ≡ t → IsSignedAt (126 ∷ rest) (tilded (tilde_sign t).0) (drop_spaces (tilde_sign t).1)
+        go [] e = alone_at [] e
+        go (d ∷ t) e = elim (cases_Bool (d == 62)) [
+          | inl same ↦
+              let front : drop_spaces rest ≡ 62 ∷ t = e ∙ ap (λ (c : ℕ). c ∷ t) (eqb-true d 62 same) in
+              let s : SkipsBlank rest (62 ∷ t) = subst (λ (y : List ℕ). SkipsBlank rest y) front (skips-is rest v) in
+              rw same (tilde_greater rest t (drop_spaces t) s (skips-is t (tail-utf8 62 t (omega arith) (skips-utf8 rest (62 ∷ t) s v))))
+          | inr other ↦ rw other (alone_at (d ∷ t) e)
+        ]
 
-form-of : (limit : ℕ) (text : List ℕ) (w : Word) (rest : List ℕ) → IsUtf8 text → IsForm limit text w rest → form_at limit text ≡ Some (w, rest)
-unfolding signs
-form-of limit text w rest u (hyphen_form t lower upper r h) = or-first (hyphen_at limit t) _ (hyphen lower upper, r) (hyphen-of limit t lower upper r u h)
+signed-utf8 : (text : List ℕ) (s : Sign) (start : List ℕ) → IsSignedAt text s start → IsUtf8 text → IsUtf8 start
+signed-utf8 text s start (without t) u = u
+signed-utf8 text s start (comparator c sign t r is k) u = skips-utf8 t r k (sign-utf8 c sign t is u)
+signed-utf8 text s start (tilde_alone t r k) u = skips-utf8 t r k (tail-utf8 126 t (omega arith) u)
+signed-utf8 text s start (tilde_greater t behind r j k) u = skips-utf8 behind r k (tail-utf8 62 behind (omega arith) (skips-utf8 t (62 ∷ behind) j (tail-utf8 126 t (omega arith) u)))
+signed-utf8 text s start (caret_alone t r k) u = skips-utf8 t r k (tail-utf8 94 t (omega arith) u)
+
+-- ---- the form that is read is written
+
+plain-is : (limit : ℕ) (text : List ℕ) (p : Partial) (rest : List ℕ) (x : Word × List ℕ) → IsUtf8 text → IsLongestPartial limit text p rest
+    → word_behind limit unsigned p rest ≡ Some x → IsForm limit text x.0 x.1
+plain-is limit text p rest x u read h = go (upper_behind limit rest) refl h
+  where
+    go : (o : Option (Partial × List ℕ)) → upper_behind limit rest ≡ o → or_else (o >>? λ q. Some (hyphen p q.0, q.1)) (at_boundary (plain p) rest) ≡ Some x
+        → IsForm limit text x.0 x.1
+    go (Some q) e k = subst (λ (y : Word × List ℕ). IsForm limit text y.0 y.1) (inside k) (hyphen_form text p q.0 q.1 (hyphen-is limit text p rest q u read e))
+    go None e k =
+        let b = bounded-is limit text p rest (plain p) x u read k in
+        subst (λ (y : Word × List ℕ). IsForm limit text y.0 y.1) b.0 (plain_form text p rest b.1 none)
+      where
+        none : (lower upper : Partial) (other : List ℕ) → IsHyphen limit text lower upper other → ⊥
+        none lower upper other j =
+            let same = second-same (p, rest) (lower, j.before) (sym ((longest_are limit text p rest u).1 read) ∙ (longest_are limit text lower j.before u).1 j.first) in
+            cc (sym e ∙ (ap (λ (t : List ℕ). upper_behind limit t) same ∙ hyphen-of limit text lower upper other u j))
+
+signed-is : (limit : ℕ) (text : List ℕ) (s : Sign) (start : List ℕ) (p : Partial) (rest : List ℕ) (x : Word × List ℕ) → IsUtf8 start → IsSignedAt text s start
+    → IsLongestPartial limit start p rest → word_behind limit s p rest ≡ Some x → IsForm limit text x.0 x.1
+signed-is limit text s start p rest x v (without t) read h = plain-is limit t p rest x v read h
+signed-is limit text s start p rest x v (comparator c sign t r is k) read h =
+    let b = bounded-is limit r p rest (compare c p) x v read h in
+    subst (λ (y : Word × List ℕ). IsForm limit (sign ++ t) y.0 y.1) b.0 (compare_form c sign t p rest is (record { start = r; skipped = k; is = b.1 }))
+signed-is limit text s start p rest x v (tilde_alone t r k) read h =
+    let b = bounded-is limit r p rest (tilde false p) x v read h in
+    subst (λ (y : Word × List ℕ). IsForm limit (126 ∷ t) y.0 y.1) b.0 (tilde_form t p rest (record { start = r; skipped = k; is = b.1 }))
+signed-is limit text s start p rest x v (tilde_greater t behind r j k) read h =
+    let b = bounded-is limit r p rest (tilde true p) x v read h in
+    subst (λ (y : Word × List ℕ). IsForm limit (126 ∷ t) y.0 y.1) b.0 (tilde_greater_form t behind p rest j (record { start = r; skipped = k; is = b.1 }))
+signed-is limit text s start p rest x v (caret_alone t r k) read h =
+    let b = bounded-is limit r p rest (caret p) x v read h in
+    subst (λ (y : Word × List ℕ). IsForm limit (94 ∷ t) y.0 y.1) b.0 (caret_form t p rest (record { start = r; skipped = k; is = b.1 }))
+
+form-is : (limit : ℕ) (text : List ℕ) (x : Word × List ℕ) → IsUtf8 text → behind_sign limit (sign_at text) ≡ Some x → IsForm limit text x.0 x.1
+form-is limit text x u h =
+    let s = sign_at text in
+    let is = signed-at text u in
+    let v = signed-utf8 text s.0 s.1 is u in
+    let p = bind-some (partial_front limit s.1) (λ p. word_behind limit s.0 p.0 p.1) x h in
+    signed-is limit text s.0 s.1 p.0.0 p.0.1 x v is ((longest_are limit s.1 p.0.0 p.0.1 v).0 p.1) p.2
+
+-- ---- the form that is written is read
+
+behind-read : (limit : ℕ) (text : List ℕ) (p : Partial) (rest : List ℕ) → IsUtf8 text → IsBehind limit text p rest
+    → partial_front limit (drop_spaces text) ≡ Some (p, rest)
+behind-read limit text p rest u h =
+    ap (λ (t : List ℕ). partial_front limit t) (skips-of text h.start u h.skipped)
+    ∙ (longest_are limit h.start p rest (skips-utf8 text h.start h.skipped u)).1 h.is.read
+
+-- the word of a sign and a partial behind it
+form-as : (limit : ℕ) (text : List ℕ) (s : Sign) (start : List ℕ) (p : Partial) (rest : List ℕ) → sign_at text ≡ (s, start) → partial_front limit start ≡ Some (p, rest)
+    → behind_sign limit (sign_at text) ≡ word_behind limit s p rest
+form-as limit text s start p rest e f = ap (λ (y : Sign × List ℕ). behind_sign limit y) e ∙ rw f refl
+
+alone : (one two : Comparator) (limit : ℕ) (text : List ℕ) (x : Partial × List ℕ) → partial_front limit (drop_spaces text) ≡ Some x → or_equal one two text ≡ (one, text)
+alone one two limit [] x h = refl
+alone one two limit (b ∷ text) x h = elim (cases_Bool (b == 61)) [
+  | inl same ↦
+      let dark : drop_spaces (b ∷ text) ≡ 61 ∷ text =
+      ap (λ (c : ℕ). drop_spaces (c ∷ text)) (eqb-true b 61 same) ∙ drop_spaces-none (61 ∷ text) (ascii-dark 61 text (omega arith) refl) in
+      cc (sym (ap (λ (t : List ℕ). partial_front limit t) dark ∙ none-61 limit text) ∙ h)
+  | inr other ↦ rw other refl
+]
+
+pub compared-of : (limit : ℕ) (c : Comparator) (sign text : List ℕ) (x : Partial × List ℕ) → IsSign c sign → partial_front limit (drop_spaces text) ≡ Some x
+    → sign_at (sign ++ text) ≡ (compared c, drop_spaces text)
+compared-of limit c sign text x above_sign h = ap (λ (r : Comparator × List ℕ). comparing (Some r) []) (alone above at_least limit text x h)
+compared-of limit c sign text x at_least_sign h = refl
+compared-of limit c sign text x below_sign h = ap (λ (r : Comparator × List ℕ). comparing (Some r) []) (alone below at_most limit text x h)
+compared-of limit c sign text x at_most_sign h = refl
+compared-of limit c sign text x equal_sign h = refl
+
+no_greater : (limit : ℕ) (text : List ℕ) (x : Partial × List ℕ) → partial_front limit text ≡ Some x → tilde_sign text ≡ (false, text)
+no_greater limit [] x h = refl
+no_greater limit (b ∷ text) x h = rw (other-byte limit 62 b text x (none-62 limit) h) refl
+
+form-of : (limit : ℕ) (text : List ℕ) (w : Word) (rest : List ℕ) → IsUtf8 text → IsForm limit text w rest → behind_sign limit (sign_at text) ≡ Some (w, rest)
+form-of limit text w rest u (hyphen_form t lower upper r h) =
+    let read = (longest_are limit t lower h.before u).1 h.first in
+    form-as limit t unsigned t lower h.before (unsigned-at limit t (lower, h.before) read) read ∙ rw (hyphen-of limit t lower upper r u h) refl
 form-of limit text w rest u (plain_form t p r h none) =
-    or-then (hyphen_at limit t) _ (no_hyphen-of limit t u none) ∙ or-first (plain_at limit t) _ (plain p, r) (whole-of limit plain t p r u h)
+    let read = (longest_are limit t p r u).1 h.read in
+    form-as limit t unsigned t p r (unsigned-at limit t (p, r) read) read ∙ (rw (no_upper (option-cases (upper_behind limit r)), boundary-of r h.ended) refl)
+  where
+    no_upper : (upper_behind limit r ≡ None) ⊎ (x : Partial × List ℕ) × (upper_behind limit r ≡ Some x) → upper_behind limit r ≡ None
+    no_upper (inl e) = e
+    no_upper (inr x) = absurd (none p x.0.0 x.0.1 (hyphen-is limit t p r x.0 u h.read x.1))
 form-of limit text w rest u (compare_form c sign t p r s h) =
-    let v = sign-utf8 c sign t s u in
-    let read : compare_at limit (sign ++ t) ≡ Some (compare c p, r) =
-    bind-of (comparator_at (sign ++ t)) (λ c. signed limit (compare c.0) c.1) (c, t) (sign-of limit c sign t p r v s h) ∙ behind-of limit (compare c) t p r v h in
-    form-signs limit (sign ++ t) (sign-none limit c sign t s) ∙ or-first (compare_at limit (sign ++ t)) _ (compare c p, r) read
+    let read = behind-read limit t p r (sign-utf8 c sign t s u) h in
+    form-as limit (sign ++ t) (compared c) (drop_spaces t) p r (compared-of limit c sign t (p, r) s read) read ∙ rw (boundary-of r h.is.ended) refl
 form-of limit text w rest u (tilde_form t p r h) =
-    form-signs limit (126 ∷ t) (none-126 limit t) ∙ or-first (tilde_at limit (126 ∷ t)) _ (tilde false p, r) (tilde-of limit t p r (tail-utf8 126 t (omega arith) u) h)
+    let read = behind-read limit t p r (tail-utf8 126 t (omega arith) u) h in
+    let sign = ap (λ (s : Bool × List ℕ). tilded_at s) (no_greater limit (drop_spaces t) (p, r) read) ∙ ap (λ (y : List ℕ). alone_at y) (spaces-again t) in
+    form-as limit (126 ∷ t) (tilded false) (drop_spaces t) p r sign read ∙ rw (boundary-of r h.is.ended) refl
+  where
+    tilded_at : Bool × List ℕ → Sign × List ℕ
+    tilded_at s = (tilded s.0, drop_spaces s.1)
+
+    alone_at : List ℕ → Sign × List ℕ
+    alone_at y = (tilded false, y)
 form-of limit text w rest u (tilde_greater_form t behind p r s h) =
-    form-signs limit (126 ∷ t) (none-126 limit t)
-    ∙ or-first (tilde_at limit (126 ∷ t)) _ (tilde true p, r) (tilde_greater-of limit t behind p r (tail-utf8 126 t (omega arith) u) s h)
+    let v = tail-utf8 126 t (omega arith) u in
+    let read = behind-read limit behind p r (tail-utf8 62 behind (omega arith) (skips-utf8 t (62 ∷ behind) s v)) h in
+    form-as limit (126 ∷ t) (tilded true) (drop_spaces behind) p r (ap (λ (y : List ℕ). tilded_at (tilde_sign y)) (skips-of t (62 ∷ behind) v s)) read
+    ∙ rw (boundary-of r h.is.ended) refl
+  where
+    tilded_at : Bool × List ℕ → Sign × List ℕ
+    tilded_at s = (tilded s.0, drop_spaces s.1)
 form-of limit text w rest u (caret_form t p r h) =
-    form-signs limit (94 ∷ t) (none-94 limit t) ∙ behind-of limit caret t p r (tail-utf8 94 t (omega arith) u) h
+    let read = behind-read limit t p r (tail-utf8 94 t (omega arith) u) h in
+    form-as limit (94 ∷ t) careted (drop_spaces t) p r refl read ∙ rw (boundary-of r h.is.ended) refl
 
 -- ---- the next boundary
 
@@ -516,7 +494,7 @@ first-of text rest u h =
 
 word-is : (limit : ℕ) (text : List ℕ) (word : Word) (rest : List ℕ) → IsUtf8 text → word_at limit text ≡ (word, rest) → IsWordAt limit text word rest
 unfolding word_at
-word-is limit text word rest u h = elim (option-cases (form_at limit text)) [
+word-is limit text word rest u h = elim (option-cases (behind_sign limit (sign_at text))) [
   | inl none ↦
       let e : (malformed, from_boundary text) ≡ (word, rest) = sym (ap (λ (o : Reading). or_malformed o text) none) ∙ h in
       let stop : IsFirstBoundary text rest = subst (λ (r : List ℕ). IsFirstBoundary text r) (ap (λ (y : Word × List ℕ). y.1) e) (first-is [] text u) in
@@ -526,13 +504,13 @@ word-is limit text word rest u h = elim (option-cases (form_at limit text)) [
       formed text word rest (subst (λ (y : Word × List ℕ). IsForm limit text y.0 y.1) e (form-is limit text x.0 u x.1))
 ]
   where
-    without : form_at limit text ≡ None → (w : Word) (other : List ℕ) → IsForm limit text w other → ⊥
+    without : behind_sign limit (sign_at text) ≡ None → (w : Word) (other : List ℕ) → IsForm limit text w other → ⊥
     without none w other k = cc (sym none ∙ form-of limit text w other u k)
 
 word-of : (limit : ℕ) (text : List ℕ) (word : Word) (rest : List ℕ) → IsUtf8 text → IsWordAt limit text word rest → word_at limit text ≡ (word, rest)
 unfolding word_at
 word-of limit text word rest u (formed t w r h) = ap (λ (o : Reading). or_malformed o t) (form-of limit t w r u h)
-word-of limit text word rest u (no_form t r none h) = elim (option-cases (form_at limit t)) [
+word-of limit text word rest u (no_form t r none h) = elim (option-cases (behind_sign limit (sign_at t))) [
   | inl e ↦ ap (λ (o : Reading). or_malformed o t) e ∙ ap (λ (s : List ℕ). pair_of s) (first-of t r u h)
   | inr x ↦ absurd (none x.0.0 x.0.1 (form-is limit t x.0 u x.1))
 ]
@@ -542,14 +520,14 @@ word-of limit text word rest u (no_form t r none h) = elim (option-cases (form_a
 
 -- what follows a word is UTF-8
 whole-utf8 : (limit : ℕ) (text : List ℕ) (p : Partial) (rest : List ℕ) → IsUtf8 text → IsWhole limit text p rest → IsUtf8 rest
-whole-utf8 limit text p rest u h = rest-utf8 limit text p rest u h.read
+whole-utf8 limit text p rest u h = rest-utf8 limit text p rest u h.read h.ended
 
 behind-utf8 : (limit : ℕ) (text : List ℕ) (p : Partial) (rest : List ℕ) → IsUtf8 text → IsBehind limit text p rest → IsUtf8 rest
 behind-utf8 limit text p rest u h = whole-utf8 limit h.start p rest (skips-utf8 text h.start h.skipped u) h.is
 
 form-utf8 : (limit : ℕ) (text : List ℕ) (w : Word) (rest : List ℕ) → IsUtf8 text → IsForm limit text w rest → IsUtf8 rest
 form-utf8 limit text w rest u (hyphen_form t lower upper r h) =
-    let v = rest-utf8 limit t lower h.before u h.first in
+    let v = rest-utf8 limit t lower h.before u h.first (inr h.space_before) in
     behind-utf8 limit h.after upper r (tail-utf8 45 h.after (omega arith) (skips-utf8 h.before (45 ∷ h.after) h.dash v)) h.second
 form-utf8 limit text w rest u (plain_form t p r h none) = whole-utf8 limit t p r u h
 form-utf8 limit text w rest u (compare_form c sign t p r s h) = behind-utf8 limit t p r (sign-utf8 c sign t s u) h
@@ -560,10 +538,7 @@ form-utf8 limit text w rest u (caret_form t p r h) = behind-utf8 limit t p r (ta
 
 pub word-utf8 : (limit : ℕ) (text : List ℕ) (w : Word) (rest : List ℕ) → IsUtf8 text → IsWordAt limit text w rest → IsUtf8 rest
 word-utf8 limit text w rest u (formed t v r h) = form-utf8 limit t v r u h
-word-utf8 limit text w rest u (no_form t r none h) = elim h.boundary [
-  | inl empty ↦ subst (λ (s : List ℕ). IsUtf8 s) (sym empty) IsUtf8-nil
-  | inr blank ↦ suffix-utf8 h.passed r (subst (λ (s : List ℕ). IsUtf8 s) h.divided u) (blank-len r blank)
-]
+word-utf8 limit text w rest u (no_form t r none h) = boundary-utf8 h.passed r (subst (λ (s : List ℕ). IsUtf8 s) h.divided u) h.boundary
 
 -- what is trimmed is UTF-8
 pub trim-utf8 : (text middle : List ℕ) → IsUtf8 text → IsTrim text middle → IsUtf8 middle

@@ -1,38 +1,24 @@
 -- For proofs and private contracts. What of a common range text stands at the front of a text, read from the left.
 use Rattle.std.specs.Prelude.{ℕ, zero, suc, ◌==◌, ◌&&◌, ◌||◌, Bool, true, false, List, [], ◌∷◌, ◌++◌, length, drop, Option, Some, None, if◌then◌else◌}
-use Rattle.semver_core.specs.Text.Identifiers.{listed}
 use Rattle.semver_core.specs.Text.Characters.{begins}
 use Rattle.semver_core.specs.Cuts.{Span, interval, meet}
 use Rattle.semver_core.specs.Values.Order.{precedence}
 use Rattle.semver_core.specs.Lists.{is_empty}
 use Rattle.semver_core.specs.Values.Versions.{VersionValue}
-use Rattle.nodejs_semver.specs.Internal.Fronts.{Front, begins_byte, component_front, dotted_front, pre_release_front}
+use Rattle.nodejs_semver.specs.Internal.Fronts.{after_byte, begins_byte, component_front, dotted_front, Front, minor_front}
 use Rattle.nodejs_semver.specs.Text.PartialText.{Partial}
 use Rattle.semver_core.specs.Internal.Reading.{◌>>?◌}
 use Rattle.nodejs_semver.specs.Text.Table.{table}
 use Rattle.nodejs_semver.specs.Text.WordText.{Word, caret, compare, hyphen, plain, tilde}
-use Rattle.nodejs_semver.specs.Internal.Words.{after_byte, comparator_at, tilde_sign}
+use Rattle.nodejs_semver.specs.Internal.Words.{comparator_at, tilde_sign}
 
--- the partial at the front, component by component; neither `v` nor whitespace is skipped, and no build may follow
-abbrev pub bare_patch : Option ℕ → Option ℕ → List ℕ → Front (Option ℕ) → Partial × List ℕ
-bare_patch major minor text None =
-    (record { major = major; minor = minor; patch = None; pre_release = []; build = [] }, text)
-bare_patch major minor text (Some c) =
-    let pre = pre_release_front c.1 in
-    (record { major = major; minor = minor; patch = c.0; pre_release = listed pre.0; build = [] }, pre.1)
-
-abbrev pub bare_minor : ℕ → Option ℕ → List ℕ → Front (Option ℕ) → Partial × List ℕ
-bare_minor limit major text None =
-    (record { major = major; minor = None; patch = None; pre_release = []; build = [] }, text)
-bare_minor limit major text (Some b) = bare_patch major b.0 b.1 (dotted_front limit b.1)
-
--- where no build follows it
+-- the partial at the front, where it has no build; neither `v` nor whitespace is skipped
 abbrev pub unbuilt : Partial × List ℕ → Front Partial
-unbuilt read = if begins_byte 43 read.1 then None else Some read
+unbuilt read = if is_empty read.0.build then Some read else None
 
 unfoldable pub bare_front : ℕ → List ℕ → Front Partial
 bare_front limit text =
-    component_front limit text >>? λ a. unbuilt (bare_minor limit a.0 a.1 (dotted_front limit a.1))
+    component_front limit text >>? λ a. unbuilt (minor_front limit a.0 a.1 (dotted_front limit a.1))
 
 -- a comparator and a partial
 unfoldable pub comparison_front : ℕ → List ℕ → Front Word

@@ -1,16 +1,16 @@
 -- For proofs and private contracts. What stands at the front of a text, read from the left: a number, a component, a
--- qualifier, a partial.
-use Rattle.std.specs.Prelude.{ℕ, suc, ◌==◌, ◌&&◌, Bool, List, [], ◌∷◌, take, drop, Option, Some, None, if◌then◌else◌, take_while}
+-- qualifier, a partial. `partial_front` gives the partial of `IsLongestPartial`.
+use Rattle.std.specs.Prelude.{ℕ, suc, ◌==◌, ◌&&◌, not, nat_le, Bool, List, [], ◌∷◌, take, drop, Option, Some, None, if◌then◌else◌, take_while}
 use Rattle.std.specs.Char.{is_ascii_digit}
-use Rattle.std.specs.List.{prefix_len}
+use Rattle.std.specs.List.{list_all, prefix_len}
+use Rattle.std.specs.Str.Parse.{digits_value}
+use Rattle.semver_core.specs.Lists.{is_empty}
 use Rattle.std.specs.Borrow.{Bor}
-use Rattle.nodejs_semver.specs.Internal.Partials.{number_of, drop_v}
 use Rattle.semver_core.specs.Internal.Reading.{◌>>?◌}
 use Rattle.nodejs_semver.specs.Text.PartialText.{Partial, is_wildcard}
 use Rattle.semver_core.specs.Internal.Spaces.{drop_spaces}
 use Rattle.semver_core.specs.Text.Identifiers.{goes_on, listed}
 use Rattle.semver_core.specs.Text.Characters.{is_identifier_char, begins}
-use Rattle.nodejs_semver.specs.Internal.Words.{after_byte}
 
 -- a value and the text behind it
 abbrev pub Front : Type 0 → Type 0
@@ -19,6 +19,25 @@ Front A = Option (A × List ℕ)
 abbrev pub front_view : {A : Type 0} → Option (A × Bor (List ℕ)) → Front A
 front_view None = None
 front_view (Some p) = Some (p.0, p.1.now)
+
+-- the number that a whole text writes in decimal digits, where it is not above the limit
+unfoldable pub number_of : ℕ → List ℕ → Option ℕ
+number_of limit text =
+    if not (is_empty text) && list_all is_ascii_digit text && nat_le (digits_value 10 text) limit
+    then Some (digits_value 10 text) else None
+
+-- what follows a given byte
+abbrev pub after_byte : ℕ → List ℕ → Option (List ℕ)
+after_byte c [] = None
+after_byte c (b ∷ rest) = if b == c then Some rest else None
+
+abbrev pub is_dot : ℕ → Bool
+is_dot b = b == 46
+
+-- the text without an optional `v`
+abbrev pub drop_v : List ℕ → List ℕ
+drop_v [] = []
+drop_v (b ∷ rest) = if b == 118 then rest else b ∷ rest
 
 -- the whole run of digits at the front of a text, where it is a number
 abbrev pub number_front : ℕ → List ℕ → Front ℕ

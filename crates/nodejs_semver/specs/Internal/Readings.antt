@@ -9,8 +9,8 @@ use Rattle.semver_core.specs.Values.Versions.{VersionValue}
 use Rattle.nodejs_semver.specs.Internal.Fronts.{Front}
 use Rattle.nodejs_semver.specs.Text.PartialText as Spec
 use Rattle.nodejs_semver.specs.Text.WordText as WordSpec
-use Rattle.nodejs_semver.specs.Internal.Signs as SignSpec
-use Rattle.nodejs_semver.specs.Internal.Signs.{unsigned, compared, tilded, careted}
+use Rattle.nodejs_semver.specs.Internal.Words as SignSpec
+use Rattle.nodejs_semver.specs.Internal.Words.{unsigned, compared, tilded, careted}
 use Rattle.nodejs_semver.specs.Text.WordText.{at_least, above, equal, at_most, below}
 use Rattle.nodejs_semver.specs.declared.readers.syntax.BareVersion.{BareVersion}
 use Rattle.nodejs_semver.specs.declared.readers.syntax.Bounds.{Bounds}

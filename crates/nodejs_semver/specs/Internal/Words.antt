@@ -1,11 +1,21 @@
--- For proofs. The words of a part, computed: `word_at` gives the word of `IsWordAt`.
-use Rattle.std.specs.Prelude.{ℕ, zero, suc, ◌==◌, ◌||◌, nat_lt, Bool, true, false, List, [], ◌∷◌, length, Option, Some, None, if◌then◌else◌}
+-- For proofs and private contracts. The words of a part, computed: a word is read from its sign on. `word_at` gives the word of
+-- `IsWordAt`.
+use Rattle.std.specs.Option.{option_to_list}
+use Rattle.std.specs.Prelude.{ℕ, zero, suc, ◌==◌, ◌||◌, ◌++◌, nat_lt, Bool, true, false, List, [], ◌∷◌, length, Option, Some, None, if◌then◌else◌, is_some}
+use Rattle.semver_core.specs.Cuts.{Span}
+use Rattle.semver_core.specs.Values.Versions.{VersionValue}
+use Rattle.nodejs_semver.specs.Text.Table.{table}
 use Rattle.semver_core.specs.Internal.Spaces.{drop_spaces, space_len}
 use Rattle.semver_core.specs.Lists.{is_empty}
 use Rattle.nodejs_semver.specs.Text.PartialText.{Partial}
-use Rattle.nodejs_semver.specs.Internal.Partials.{longest_partial, or_else}
+use Rattle.nodejs_semver.specs.Internal.Fronts.{Front, after_byte, partial_front}
 use Rattle.semver_core.specs.Internal.Reading.{◌>>?◌}
 use Rattle.nodejs_semver.specs.Text.WordText.{Comparator, at_least, above, equal, at_most, below, Word, hyphen, plain, compare, tilde, caret, malformed}
+
+-- the first result of two
+abbrev pub or_else : {A : Type 0} → Option A → Option A → Option A
+or_else (Some x) o = Some x
+or_else None o = o
 
 -- the end of a part, or whitespace
 unfoldable pub is_boundary : List ℕ → Bool
@@ -19,33 +29,9 @@ Reading = Option (Word × List ℕ)
 abbrev pub after_some_space : List ℕ → Option (List ℕ)
 after_some_space text = if nat_lt 0 (space_len text) then Some (drop_spaces text) else None
 
--- what follows a given byte
-abbrev pub after_byte : ℕ → List ℕ → Option (List ℕ)
-after_byte c [] = None
-after_byte c (b ∷ rest) = if b == c then Some rest else None
-
 -- the text, where it begins at a boundary
 abbrev pub at_boundary : Word → List ℕ → Reading
 at_boundary word rest = if is_boundary rest then Some (word, rest) else None
-
--- a word that is one partial behind its sign
-abbrev pub signed : ℕ → (Partial → Word) → List ℕ → Reading
-signed limit make text = longest_partial limit (drop_spaces text) >>? λ p. at_boundary (make p.0) p.1
-
--- what makes a hyphen word of a partial and the text behind it: whitespace, `-`, whitespace and a partial
-abbrev pub hyphen_behind : ℕ → Partial → List ℕ → Reading
-hyphen_behind limit lower text =
-    after_some_space text >>? λ sign.
-    after_byte 45 sign >>? λ gap.
-    after_some_space gap >>? λ second.
-    longest_partial limit second >>? λ q.
-    at_boundary (hyphen lower q.0) q.1
-
-abbrev pub hyphen_at : ℕ → List ℕ → Reading
-hyphen_at limit text = longest_partial limit text >>? λ p. hyphen_behind limit p.0 p.1
-
-abbrev pub plain_at : ℕ → List ℕ → Reading
-plain_at limit text = longest_partial limit text >>? λ p. at_boundary (plain p.0) p.1
 
 -- the sign with a longer form takes it where it stands
 abbrev pub or_equal : Comparator → Comparator → List ℕ → Comparator × List ℕ
@@ -60,30 +46,67 @@ comparator_at (b ∷ rest) =
     else if b == 61 then Some (equal, rest)
     else None
 
-abbrev pub compare_at : ℕ → List ℕ → Reading
-compare_at limit text = comparator_at text >>? λ c. signed limit (compare c.0) c.1
-
 -- after `~`, whitespace or none, and `>` or none
 abbrev pub tilde_sign : List ℕ → Bool × List ℕ
 tilde_sign [] = (false, [])
 tilde_sign (b ∷ rest) = if b == 62 then (true, rest) else (false, b ∷ rest)
 
-abbrev pub tilde_at : ℕ → List ℕ → Reading
-tilde_at limit text =
-    after_byte 126 text >>? λ rest. signed limit (tilde (tilde_sign (drop_spaces rest)).0) (tilde_sign (drop_spaces rest)).1
+-- the sign of a word with one partial; a plain word has none
+pub data Sign : Type 0 where
+  unsigned : Sign
+  compared : Comparator → Sign
+  tilded : Bool → Sign
+  careted : Sign
 
-abbrev pub caret_at : ℕ → List ℕ → Reading
-caret_at limit text = after_byte 94 text >>? λ rest. signed limit caret rest
+-- the word of a sign and a partial
+abbrev pub signed_word : Sign → Partial → Word
+signed_word unsigned p = plain p
+signed_word (compared c) p = compare c p
+signed_word (tilded greater) p = tilde greater p
+signed_word careted p = caret p
+
+-- the sign behind which a comparator stands or none, and what follows it
+abbrev pub comparing : Option (Comparator × List ℕ) → List ℕ → Sign × List ℕ
+comparing None text = (unsigned, text)
+comparing (Some c) text = (compared c.0, drop_spaces c.1)
+
+-- the sign at the front of a text, and what follows it and its whitespace
+abbrev pub sign_at : List ℕ → Sign × List ℕ
+sign_at [] = (unsigned, [])
+sign_at (b ∷ rest) =
+    if b == 126 then (tilded (tilde_sign (drop_spaces rest)).0, drop_spaces (tilde_sign (drop_spaces rest)).1)
+    else if b == 94 then (careted, drop_spaces rest)
+    else comparing (comparator_at (b ∷ rest)) (b ∷ rest)
+
+-- what makes a hyphen word of the partial before the text: whitespace, `-`, whitespace and a partial up to a boundary
+abbrev pub upper_behind : ℕ → List ℕ → Front Partial
+upper_behind limit text =
+    after_some_space text >>? λ sign.
+    after_byte 45 sign >>? λ gap.
+    after_some_space gap >>? λ second.
+    partial_front limit second >>? λ q.
+    if is_boundary q.1 then Some q else None
+
+-- the same behind a partial that has a sign or none
+abbrev pub upper_of : ℕ → Sign → List ℕ → Front Partial
+upper_of limit unsigned rest = upper_behind limit rest
+upper_of limit (compared c) rest = None
+upper_of limit (tilded greater) rest = None
+upper_of limit careted rest = None
+
+-- the word of a sign, a partial behind it and what follows the partial
+abbrev pub word_behind : ℕ → Sign → Partial → List ℕ → Reading
+word_behind limit sign p rest =
+    or_else (upper_of limit sign rest >>? λ q. Some (hyphen p q.0, q.1)) (at_boundary (signed_word sign p) rest)
+
+-- the word behind a sign
+abbrev pub behind_sign : ℕ → Sign × List ℕ → Reading
+behind_sign limit s = partial_front limit s.1 >>? λ p. word_behind limit s.0 p.0 p.1
 
 -- what stands from the first boundary on
 unfoldable pub from_boundary : List ℕ → List ℕ
 from_boundary [] = []
 from_boundary (b ∷ rest) = elim (is_boundary (b ∷ rest)) [ true ↦ b ∷ rest | false ↦ from_boundary rest ]
-
--- the first of the forms that stands at the front of a text
-abbrev pub form_at : ℕ → List ℕ → Reading
-form_at limit text =
-    or_else (hyphen_at limit text) (or_else (plain_at limit text) (or_else (compare_at limit text) (or_else (tilde_at limit text) (caret_at limit text))))
 
 abbrev pub or_malformed : Reading → List ℕ → Word × List ℕ
 or_malformed (Some r) text = r
@@ -91,7 +114,7 @@ or_malformed None text = (malformed, from_boundary text)
 
 -- the word at the front of a text, and what follows it
 unfoldable pub word_at : ℕ → List ℕ → Word × List ℕ
-word_at limit text = or_malformed (form_at limit text) text
+word_at limit text = or_malformed (behind_sign limit (sign_at text)) text
 
 -- the words of a part, of which there are at most as many as it has bytes
 unfoldable pub words_within : ℕ → ℕ → List ℕ → List Word
@@ -102,3 +125,13 @@ words_within limit (suc n) (b ∷ text) =
 
 abbrev pub words : ℕ → List ℕ → List Word
 words limit part = words_within limit (length part) part
+
+-- whether a word has an interval, what follows the word, and a list to which its interval was added
+abbrev pub word_pushed : ℕ → List (Span VersionValue) → Word × List ℕ → (Bool × List ℕ) × List (Span VersionValue)
+word_pushed limit list w = ((is_some (table limit w.0), w.1), list ++ option_to_list (table limit w.0))
+
+-- the same of a hyphen word, where its second partial is there
+abbrev pub hyphen_pushed : ℕ → List (Span VersionValue) → Partial → Front Partial → Option (Bool × List ℕ) × List (Span VersionValue)
+hyphen_pushed limit list lower None = (None, list)
+hyphen_pushed limit list lower (Some q) =
+    let w = word_pushed limit list (hyphen lower q.0, q.1) in (Some w.0, w.1)

@@ -1,7 +1,7 @@
 // What is said of range texts.
 
 ghost use Rattle.std.specs.Prelude.{◌≡◌, ◌↔◌, ◌<◌, ℕ, false, IfNone, IfOk, IfSome, IsUtf8, List};
-ghost use Rattle.std.specs.Prelude.{Some, length};
+ghost use Rattle.std.specs.Prelude.{[], Some, length};
 ghost use Rattle.std.specs.List.{list_all};
 ghost use Rattle.semver_core.specs.Cuts.{Span};
 ghost use Rattle.semver_core.specs.Lists.{is_empty};
@@ -10,7 +10,7 @@ ghost use Rattle.semver_core.specs.Values.Order.{precedence};
 ghost use Rattle.semver_core.specs.Values.Versions.{VersionValue};
 ghost use Rattle.semver_core.specs.declared.TheConstants.{MAX_SAFE_INTEGER};
 ghost use Rattle.nodejs_semver.specs.Internal.CommonFronts.{common_range};
-ghost use Rattle.nodejs_semver.specs.Internal.Partials.{longest_partial, number_of, partial_of};
+ghost use Rattle.nodejs_semver.specs.Internal.Fronts.{number_of, partial_front};
 ghost use Rattle.nodejs_semver.specs.Internal.Parts.{cut_bars, parts};
 ghost use Rattle.nodejs_semver.specs.Internal.RunsFrom.{runs_of};
 ghost use Rattle.nodejs_semver.specs.Internal.Words.{word_at};
@@ -59,14 +59,14 @@ pub fn numbers()
 /// numbers have the limit as a parameter.
 pub fn partials()
     ensures { (limit : ℕ) (text : List ℕ) (p : Partial) → IsUtf8 text
-        → (partial_of limit text ≡ Some p) ↔ IsPartial limit text p }
+        → (partial_front limit text ≡ Some (p, [])) ↔ IsPartial limit text p }
 {}
 
 /// At the front of a text the longest partial is read: one that cuts no run of digits, of which
 /// none at the front is longer.
 pub fn longest_partials()
     ensures { (limit : ℕ) (text : List ℕ) (p : Partial) (rest : List ℕ) → IsUtf8 text
-        → (longest_partial limit text ≡ Some (p, rest)) ↔ IsLongestPartial limit text p rest }
+        → (partial_front limit text ≡ Some (p, rest)) ↔ IsLongestPartial limit text p rest }
 {}
 
 /// The word at the front of a text is one of the forms, or a malformed word where none of them

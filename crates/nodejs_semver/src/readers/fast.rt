@@ -26,76 +26,20 @@ use semver_core::{MAX_SAFE_INTEGER, Version};
 use smallvec::SmallVec;
 use std::alloc::{AllocError, Global};
 
-// The partial at the front whose major and minor components were read.
+// The partial at the front. Neither `v` nor whitespace is skipped before it. A partial that has a
+// build is none of a common text.
 #[inline(always)]
-#[tactic(auto, using(crate::proofs::Reading::IdentifierLists::short_lists))]
-fn bare_patch<'a>(major: Option<u64>, minor: Option<u64>, text: &'a [u8]) -> (Partial<'a>, &'a [u8])
-    requires major_small { ForSome major (λ n. n ≤ MAX_SAFE_INTEGER) }
-    requires minor_small { ForSome minor (λ n. n ≤ MAX_SAFE_INTEGER) }
-    ensures { partial_pair_view result
-        ≡ Spec.bare_patch major minor text.now (dotted_front MAX_SAFE_INTEGER text.now) }
-{
-    let Some((patch, rest)) = partial::dotted_front(text) else {
-        return (
-            Partial {
-                major,
-                minor,
-                patch: None,
-                pre_release: &text[..0],
-                build: &text[..0],
-            },
-            text,
-        );
-    };
-    let (pre_release, rest) = partial::pre_release_front(rest);
-    (
-        Partial {
-            major,
-            minor,
-            patch,
-            pre_release,
-            build: &text[..0],
-        },
-        rest,
-    )
-}
-
-// The partial at the front whose major component was read.
-#[inline(always)]
-#[tactic(auto, using(crate::proofs::Reading::IdentifierLists::short_lists))]
-fn bare_minor(major: Option<u64>, text: &[u8]) -> (Partial<'_>, &[u8])
-    requires { ForSome major (λ n. n ≤ MAX_SAFE_INTEGER) }
-    ensures { partial_pair_view result
-        ≡ Spec.bare_minor MAX_SAFE_INTEGER major text.now (dotted_front MAX_SAFE_INTEGER text.now) }
-{
-    match partial::dotted_front(text) {
-        Some((minor, rest)) => bare_patch(major, minor, rest),
-        None => (
-            Partial {
-                major,
-                minor: None,
-                patch: None,
-                pre_release: &text[..0],
-                build: &text[..0],
-            },
-            text,
-        ),
-    }
-}
-
-// The partial at the front. Neither `v` nor whitespace is skipped before it. A partial that a build
-// follows is none of a common text.
-#[inline(always)]
-#[tactic(auto, unfolding(crate::specs::Internal::CommonFronts::bare_front))]
+#[tactic(auto, unfolding(crate::specs::Internal::CommonFronts::bare_front), using(crate::proofs::Reading::Qualifiers::listed_empty))]
 fn bare_front(text: &[u8]) -> Option<(Partial<'_>, &[u8])>
     ensures { partial_front_view result ≡ Spec.bare_front MAX_SAFE_INTEGER text.now }
 {
     let (major, rest) = partial::component_front(text)?;
-    let (partial, rest) = bare_minor(major, rest);
-    if let [b'+', ..] = rest {
-        return None;
+    let (partial, rest) = partial::minor_front(major, rest);
+    if partial.build.is_empty() {
+        Some((partial, rest))
+    } else {
+        None
     }
-    Some((partial, rest))
 }
 
 // The bounds of a comparator and a partial.

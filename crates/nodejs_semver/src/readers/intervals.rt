@@ -12,8 +12,8 @@ ghost use Rattle.nodejs_semver.specs.Internal.Meets.{joined_from, next_at};
 ghost use Rattle.nodejs_semver.specs.Internal.Readings.{bare_view, bound_view, bounds_view};
 ghost use Rattle.nodejs_semver.specs.Internal.Readings.{hyphen_pushed_view, next_view};
 ghost use Rattle.nodejs_semver.specs.Internal.Readings.{partial_view, sign_view, word_pushed_view};
-ghost use Rattle.nodejs_semver.specs.Internal.Signs.{hyphen_pushed, signed_word, upper_behind};
-ghost use Rattle.nodejs_semver.specs.Internal.Signs.{upper_of, word_pushed};
+ghost use Rattle.nodejs_semver.specs.Internal.Words.{hyphen_pushed, signed_word, upper_behind};
+ghost use Rattle.nodejs_semver.specs.Internal.Words.{upper_of, word_pushed};
 ghost use Rattle.nodejs_semver.specs.Internal.Words.{word_at};
 ghost use Rattle.nodejs_semver.specs.Text.WordText.{hyphen};
 ghost use Rattle.nodejs_semver.specs.Text.Table.{table};
@@ -26,7 +26,7 @@ ghost use Rattle.semver_core.specs.declared.TheConstants.{MAX_SAFE_INTEGER};
 
 use crate::range::Intervals;
 use crate::readers::syntax::{BareVersion, Bounds, Partial, Sign};
-use crate::readers::{table, words};
+use crate::readers::{partial, table, words};
 use semver_core::cuts::{Bound, Interval};
 use semver_core::{Version, scan};
 use std::alloc::{AllocError, Global};
@@ -218,7 +218,7 @@ fn push_word<'a>(
         ≡ word_pushed MAX_SAFE_INTEGER found.old.items w) }
 {
     let (sign, rest) = words::sign_front(text);
-    let Some((partial, rest)) = words::longest_partial(rest) else {
+    let Some((partial, rest)) = partial::partial_front(rest) else {
         return Ok((false, words::skip_to_boundary(text)));
     };
     if let Some(read) = push_upper(alloc, sign, partial, rest, found)? {

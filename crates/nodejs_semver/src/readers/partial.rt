@@ -3,10 +3,9 @@
 ghost use Rattle.std.specs.Option.{ForSome};
 ghost use Rattle.std.specs.Prelude.{IfSome, ◌≡◌, ◌≤◌, ◌+◌, length, take, drop, true};
 ghost use Rattle.nodejs_semver.specs.Internal.Fronts as Spec;
-ghost use Rattle.nodejs_semver.specs.Internal.Fronts.{front_view};
+ghost use Rattle.nodejs_semver.specs.Internal.Fronts.{drop_v, front_view};
 ghost use Rattle.semver_core.specs.Text.Characters.{is_identifier_char};
 ghost use Rattle.semver_core.specs.Text.Identifiers.{goes_on, is_listed};
-ghost use Rattle.nodejs_semver.specs.Internal.Partials.{drop_v};
 ghost use Rattle.nodejs_semver.specs.Internal.Readings.{pair_view, partial_front_view};
 ghost use Rattle.nodejs_semver.specs.Internal.Readings.{partial_pair_view};
 ghost use Rattle.semver_core.specs.declared.TheConstants.{MAX_SAFE_INTEGER};
@@ -170,10 +169,10 @@ fn patch_front<'a>(
     )
 }
 
-// The partial at the front whose major component was read.
+/// The partial at the front whose major component was read.
 #[inline(always)]
 #[tactic(auto, using(crate::proofs::Reading::IdentifierLists::short_lists))]
-fn minor_front(major: Option<u64>, text: &[u8]) -> (Partial<'_>, &[u8])
+pub(crate) fn minor_front(major: Option<u64>, text: &[u8]) -> (Partial<'_>, &[u8])
     requires { ForSome major (λ n. n ≤ MAX_SAFE_INTEGER) }
     ensures { partial_pair_view result
         ≡ Spec.minor_front MAX_SAFE_INTEGER major text.now

@@ -3,7 +3,7 @@
 ghost use Rattle.std.specs.Prelude.{◌≡◌, ◌≤◌, ◌<◌, ◌+◌, ◌^◌, Some, length, unwrap_or};
 ghost use Rattle.nodejs_semver.specs.Internal.Readings.{bare_view, bounds_view, comparator_view};
 ghost use Rattle.nodejs_semver.specs.Internal.Readings.{partial_view, sign_view, table_view};
-ghost use Rattle.nodejs_semver.specs.Internal.Signs.{signed_word};
+ghost use Rattle.nodejs_semver.specs.Internal.Words.{signed_word};
 ghost use Rattle.nodejs_semver.specs.Text.Table as Spec;
 ghost use Rattle.nodejs_semver.specs.Text.Table.{table};
 ghost use Rattle.nodejs_semver.specs.Text.WordText as Words;

@@ -1,11 +1,10 @@
 // What the words of a part are made of.
 
 ghost use Rattle.std.specs.Prelude.{◌≡◌, ◌≤◌, ◌+◌, length, take, drop, true};
-ghost use Rattle.nodejs_semver.specs.Internal.Partials.{longest_partial};
+ghost use Rattle.nodejs_semver.specs.Internal.Fronts as Fronts;
 ghost use Rattle.nodejs_semver.specs.Internal.Readings.{comparator_front_view, greater_view};
 ghost use Rattle.nodejs_semver.specs.Internal.Readings.{partial_front_view, rest_view};
 ghost use Rattle.nodejs_semver.specs.Internal.Readings.{sign_pair_view, sign_view};
-ghost use Rattle.nodejs_semver.specs.Internal.Signs as Signs;
 ghost use Rattle.nodejs_semver.specs.Internal.Words as Spec;
 ghost use Rattle.nodejs_semver.specs.Internal.Words.{is_boundary};
 ghost use Rattle.semver_core.specs.declared.TheConstants.{MAX_SAFE_INTEGER};
@@ -13,15 +12,6 @@ ghost use Rattle.semver_core.specs.declared.TheConstants.{MAX_SAFE_INTEGER};
 use crate::readers::partial;
 use crate::readers::syntax::{Comparator, Partial, Sign};
 use semver_core::{MAX_SAFE_INTEGER, scan};
-
-/// The longest partial at the front.
-#[inline(always)]
-#[tactic(auto, using(crate::proofs::Reading::Longest::longest_is_front))]
-pub(crate) fn longest_partial(text: &[u8]) -> Option<(Partial<'_>, &[u8])>
-    ensures { partial_front_view result ≡ longest_partial MAX_SAFE_INTEGER text.now }
-{
-    partial::partial_front(text)
-}
 
 /// Whether a word may end here.
 #[inline(always)]
@@ -47,7 +37,7 @@ fn after_some_space(text: &[u8]) -> Option<&[u8]>
 // What follows a hyphen between two partials.
 #[inline(always)]
 fn after_hyphen(text: &[u8]) -> Option<&[u8]>
-    ensures { rest_view result ≡ Spec.after_byte 45 text.now }
+    ensures { rest_view result ≡ Fronts.after_byte 45 text.now }
 {
     match text {
         [b'-', rest @ ..] => Some(rest),
@@ -58,12 +48,12 @@ fn after_hyphen(text: &[u8]) -> Option<&[u8]>
 /// The second partial of a hyphen word, and what follows it: behind whitespace, `-` and whitespace,
 /// and up to a boundary.
 pub(crate) fn upper_behind(text: &[u8]) -> Option<(Partial<'_>, &[u8])>
-    ensures { partial_front_view result ≡ Signs.upper_behind MAX_SAFE_INTEGER text.now }
+    ensures { partial_front_view result ≡ Spec.upper_behind MAX_SAFE_INTEGER text.now }
 {
     let sign = after_some_space(text)?;
     let gap = after_hyphen(sign)?;
     let second = after_some_space(gap)?;
-    let (upper, rest) = longest_partial(second)?;
+    let (upper, rest) = partial::partial_front(second)?;
     if is_boundary(rest) {
         Some((upper, rest))
     } else {
@@ -100,7 +90,7 @@ pub(crate) fn tilde_sign(text: &[u8]) -> (bool, &[u8])
 /// The sign at the front, and what follows it and its whitespace.
 #[inline(always)]
 pub(crate) fn sign_front(text: &[u8]) -> (Sign, &[u8])
-    ensures { sign_pair_view result ≡ Signs.sign_at text.now }
+    ensures { sign_pair_view result ≡ Spec.sign_at text.now }
 {
     match text {
         [b'~', rest @ ..] => {

@@ -1,4 +1,4 @@
-use Rattle.nodejs_semver.proofs.Reading.LongestLaw.{longest_are}
+use Rattle.nodejs_semver.proofs.Reading.PartialLaw.{longest_are}
 use Rattle.nodejs_semver.proofs.laws.texts.longest_partials.Goals as goal
 
 pub returns : goal.returns

@@ -2,7 +2,7 @@ use Rattle.std.proofs.Common.{◌≡◌, ℕ, List, length, sym, ap, arith}
 use Rattle.std.specs.Prelude.{Option}
 use Rattle.semver_core.specs.declared.TheConstants.{MAX_SAFE_INTEGER}
 use Rattle.nodejs_semver.specs.Internal.Readings.{partial_view, sign_view}
-use Rattle.nodejs_semver.specs.Internal.Signs.{hyphen_pushed}
+use Rattle.nodejs_semver.specs.Internal.Words.{hyphen_pushed}
 use Rattle.nodejs_semver.specs.Text.PartialText.{Partial}
 use Rattle.nodejs_semver.proofs.Reading.SignLaw.{upper_none}
 use Rattle.nodejs_semver.proofs.readers.intervals.push_upper.Goals as goal

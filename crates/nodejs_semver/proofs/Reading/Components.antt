@@ -1,0 +1,219 @@
+-- The components of a partial at the front of a text: what is read is written there, and what is written is read.
+use Rattle.std.proofs.Common.{◌≡◌, ℕ, ◌<◌, ◌≤◌, List, [], ◌∷◌, ◌++◌, length, drop, refl, sym, ap, ◌∙◌, arith, true, false, Some, None, inl, inr, subst, append_assoc, length-append}
+use Rattle.std.specs.Prelude.{Bool, Option, ◌||◌, ◌==◌}
+use Rattle.std.specs.Char.{is_ascii_digit}
+use Rattle.std.specs.List.{list_all, take_while, prefix_len}
+use Rattle.std.proofs.lemmas.Bool.{cases_Bool, eqb-true}
+use Rattle.std.proofs.lemmas.List.{take-append-drop}
+use Rattle.semver_core.specs.Text.Characters.{begins}
+use Rattle.nodejs_semver.specs.Internal.Fronts.{Front, begins_wildcard, build_front, component_front, dotted_front, minor_front, number_front, number_of, patch_front, pre_release_front}
+use Rattle.nodejs_semver.specs.Text.PartialText.{AreComponents, IsComponent, Partial, is_wildcard, number, one, three, two, wildcard}
+use Rattle.nodejs_semver.proofs.Reading.DigitValues.{is_empty-false}
+use Rattle.nodejs_semver.proofs.Reading.IdentifierLists.{and-left}
+use Rattle.nodejs_semver.proofs.Reading.NumberLaw.{number-is, number-of}
+use Rattle.nodejs_semver.proofs.Reading.Pieces.{bind-some, digit-no_wildcard, digits-end, number-then, run-ends, wildcard-no_digit, wildcard_front}
+use Rattle.nodejs_semver.proofs.Reading.Qualifiers.{build-read, build_front-le, pre-read, pre_release_front-le, qualifier-passed}
+use Rattle.nodejs_semver.proofs.Reading.Quiet.{Quiet, Stop, quiet-append, quiet-before, quiet-behind, quiet-both, quiet-front, quiet-further}
+
+pub first-same : {A B : Type 0} (p q : A × B) → Some p ≡ Some q → p.0 ≡ q.0
+first-same {A} {B} p q h = ap (λ (x : A × B). x.0) (inside h)
+  where
+    inside : Some p ≡ Some q → p ≡ q
+    inside k = cc k
+
+pub second-same : {A B : Type 0} (p q : A × B) → Some p ≡ Some q → p.1 ≡ q.1
+second-same {A} {B} p q h = ap (λ (x : A × B). x.1) (inside h)
+  where
+    inside : Some p ≡ Some q → p ≡ q
+    inside k = cc k
+
+-- ---- one component
+
+component-some : (limit : ℕ) (c : List ℕ) (v : Option ℕ) → IsComponent limit c v → 0 < length c
+component-some limit c v (wildcard b h) = omega arith
+component-some limit c v (number digits n h) = h.some
+
+-- it begins with a wildcard or a digit
+abbrev pub begins_component : List ℕ → Bool
+begins_component [] = false
+begins_component (b ∷ rest) = is_wildcard b || is_ascii_digit b
+
+pub begins-longer : (c t : List ℕ) → begins_component c ≡ true → begins_component (c ++ t) ≡ true
+begins-longer [] t h = cc h
+begins-longer (b ∷ c) t h = h
+
+component-begins : (limit : ℕ) (c : List ℕ) (v : Option ℕ) → IsComponent limit c v → begins_component c ≡ true
+component-begins limit c v (wildcard b h) = rw h refl
+component-begins limit c v (number digits n h) = digit digits h.some h.each
+  where
+    digit : (run : List ℕ) → 0 < length run → list_all is_ascii_digit run ≡ true → begins_component run ≡ true
+    digit [] s k = absurd (omega arith)
+    digit (b ∷ rest) s k = let d = and-left (is_ascii_digit b) (list_all is_ascii_digit rest) k in rw (digit-no_wildcard b d, d) refl
+
+pub components-begin : (limit : ℕ) (x : List ℕ) (p : Partial) → AreComponents limit x p → begins_component x ≡ true
+components-begin limit x p (one c a h) = component-begins limit c a h
+components-begin limit x p (two c d a b h k) = begins-longer c (46 ∷ d) (component-begins limit c a h)
+components-begin limit x p (three c d e pre build q h k l quiet m n) = begins-longer c _ (component-begins limit c q.major h)
+
+component-then : (limit : ℕ) (c more : List ℕ) (v : Option ℕ) → IsComponent limit c v → Quiet c more → component_front limit (c ++ more) ≡ Some (v, more)
+component-then limit c more v (wildcard b h) quiet = wildcard_front limit b more h
+component-then limit c more v (number digits n h) quiet =
+    let stop : begins is_ascii_digit more ≡ false = rw (digits-end digits (is_empty-false digits h.some) h.each) at quiet in
+    number-then limit digits more n (number-of limit digits n h) stop
+
+dotted-then : (limit : ℕ) (c more : List ℕ) (v : Option ℕ) → IsComponent limit c v → Quiet c more → dotted_front limit (46 ∷ (c ++ more)) ≡ Some (v, more)
+unfolding dotted_front
+dotted-then limit c more v h quiet = component-then limit c more v h quiet
+
+record Component (limit : ℕ) (x c r : List ℕ) (v : Option ℕ) : Type 0 where
+  pub split : x ≡ c ++ r
+  pub is : IsComponent limit c v
+  pub quiet : Quiet c r
+
+component-read : (limit : ℕ) (x : List ℕ) (v : Option ℕ) (r : List ℕ) → component_front limit x ≡ Some (v, r) → (c : List ℕ) × Component limit x c r v
+unfolding component_front
+component-read limit x v r h = elim (cases_Bool (begins_wildcard x)) [
+  | inl wild ↦ wild_case x wild (rw wild at h)
+  | inr other ↦
+      let n = bind-some (number_front limit x) (λ n. Some (Some n.0, n.1)) (v, r) (rw other at h) in
+      let run = take_while is_ascii_digit x in
+      let left = drop (prefix_len is_ascii_digit x) x in
+      let m = bind-some (number_of limit run) (λ k. Some (k, left)) n.0 n.1 in
+      let value : Some m.0 ≡ v = ap Some (first-same (m.0, left) n.0 m.2) ∙ first-same (Some n.0.0, n.0.1) (v, r) n.2 in
+      let rest : left ≡ r = second-same (m.0, left) n.0 m.2 ∙ second-same (Some n.0.0, n.0.1) (v, r) n.2 in (
+        run,
+        record {
+          split = sym (take-append-drop (prefix_len is_ascii_digit x) x) ∙ ap (λ (t : List ℕ). run ++ t) rest;
+          is = subst (λ (o : Option ℕ). IsComponent limit run o) value (number run m.0 (number-is limit run m.0 m.1));
+          quiet = quiet-before run r (subst (λ (t : List ℕ). begins is_ascii_digit t ≡ false) rest (run-ends x));
+        },
+      )
+]
+  where
+    wild_case : (x : List ℕ) → begins_wildcard x ≡ true → ◌≡◌ {A = Front (Option ℕ)} (Some (None, drop 1 x)) (Some (v, r)) → (c : List ℕ) × Component limit x c r v
+    wild_case [] w k = cc w
+    wild_case (b ∷ y) w k = (
+      b ∷ [],
+      record {
+        split = ap (λ (t : List ℕ). b ∷ t) (second-same (None, y) (v, r) k);
+        is = subst (λ (o : Option ℕ). IsComponent limit (b ∷ []) o) (first-same (None, y) (v, r) k) (wildcard b w);
+        quiet = rw (wildcard-no_digit b w) refl;
+      },
+    )
+
+dotted-read : (limit : ℕ) (x : List ℕ) (v : Option ℕ) (r : List ℕ) → dotted_front limit x ≡ Some (v, r) → (c : List ℕ) × (x ≡ 46 ∷ (c ++ r)) × Component limit (c ++ r) c r v
+unfolding dotted_front
+dotted-read limit [] v r h = cc h
+dotted-read limit (b ∷ x) v r h = elim (cases_Bool (b == 46)) [
+  | inl dot ↦
+      let c = component-read limit x v r (rw dot at h) in
+      (c.0, ap (λ (d : ℕ). d ∷ x) (eqb-true b 46 dot) ∙ ap (λ (t : List ℕ). 46 ∷ t) c.1.split, record { split = refl; is = c.1.is; quiet = c.1.quiet })
+  | inr other ↦ cc (rw other at h)
+]
+
+-- ---- what is read is written
+
+pub record Read (limit : ℕ) (x s left : List ℕ) (p : Partial) : Type 0 where
+  pub split : x ≡ s ++ left
+  pub is : AreComponents limit s p
+  pub quiet : Quiet s left
+
+patch-read : (limit : ℕ) (a b : Option ℕ) (x c d y : List ℕ) (o : Front (Option ℕ)) → dotted_front limit y ≡ o → x ≡ c ++ (46 ∷ (d ++ y)) → IsComponent limit c a
+    → IsComponent limit d b → Quiet d y → (s : List ℕ) × Read limit x s (patch_front a b y o).1 (patch_front a b y o).0
+patch-read limit a b x c d y None e whole h k quiet = (
+  c ++ (46 ∷ d),
+  record {
+    split = whole ∙ sym (append_assoc c (46 ∷ d) y);
+    is = two c d a b h k;
+    quiet = quiet-append c (46 ∷ d) y (omega arith) (quiet-append (46 ∷ []) d y (component-some limit d b k) quiet);
+  },
+)
+patch-read limit a b x c d y (Some o) e whole h k quiet =
+    let t = dotted-read limit y o.0 o.1 e in
+    let pre = pre-read o.1 in
+    let build = build-read (pre_release_front o.1).1 in
+    let left = (build_front (pre_release_front o.1).1).1 in
+    let q = pre.0 ++ build.0 in
+    let tail = t.0 ++ q in
+    let rest : o.1 ≡ q ++ left = pre.1.split ∙ (ap (λ (u : List ℕ). pre.0 ++ u) build.1.split ∙ sym (append_assoc pre.0 build.0 left)) in
+    let body : y ≡ 46 ∷ (tail ++ left) = t.1 ∙ (ap (λ (u : List ℕ). 46 ∷ (t.0 ++ u)) rest ∙ ap (λ (u : List ℕ). 46 ∷ u) (sym (append_assoc t.0 q left))) in
+    let inner : d ++ y ≡ (d ++ (46 ∷ tail)) ++ left = ap (λ (u : List ℕ). d ++ u) body ∙ sym (append_assoc d (46 ∷ tail) left) in
+    let third : Quiet t.0 (q ++ left) = subst (λ (u : List ℕ). Quiet t.0 u) rest t.2.quiet in
+    let behind : Quiet q left = quiet-both pre.0 build.0 left (subst (λ (u : List ℕ). Quiet pre.0 u) build.1.split pre.1.stop) build.1.stop in
+    let some : 0 < length tail = let one = component-some limit t.0 o.0 t.2.is in omega (arith, length-append t.0 q) in (
+      c ++ (46 ∷ (d ++ (46 ∷ tail))),
+      record {
+        split = whole ∙ (ap (λ (u : List ℕ). c ++ (46 ∷ u)) inner ∙ sym (append_assoc c (46 ∷ (d ++ (46 ∷ tail))) left));
+        is = three c d t.0 pre.0 build.0 (patch_front a b y (Some o)).0 h k t.2.is (quiet-front t.0 q left third) (pre.1.is build.0 build.1.goes build.1.pre) build.1.is;
+        quiet = quiet-append c (46 ∷ (d ++ (46 ∷ tail))) left (omega arith)
+            (quiet-append (46 ∷ d) (46 ∷ tail) left (omega arith) (quiet-append (46 ∷ []) tail left some (quiet-both t.0 q left third behind)));
+      },
+    )
+
+minor-read : (limit : ℕ) (a : Option ℕ) (x c y : List ℕ) (o : Front (Option ℕ)) → dotted_front limit y ≡ o → Component limit x c y a
+    → (s : List ℕ) × Read limit x s (minor_front limit a y o).1 (minor_front limit a y o).0
+minor-read limit a x c y None e m = (c, record { split = m.split; is = one c a m.is; quiet = m.quiet })
+minor-read limit a x c y (Some o) e m =
+    let t = dotted-read limit y o.0 o.1 e in
+    patch-read limit a o.0 x c t.0 o.1 (dotted_front limit o.1) refl (m.split ∙ ap (λ (u : List ℕ). c ++ u) t.1) m.is t.2.is t.2.quiet
+
+pub components-read : (limit : ℕ) (x : List ℕ) (a : Option ℕ × List ℕ) → component_front limit x ≡ Some a
+    → (s : List ℕ) × Read limit x s (minor_front limit a.0 a.1 (dotted_front limit a.1)).1 (minor_front limit a.0 a.1 (dotted_front limit a.1)).0
+components-read limit x a h =
+    let c = component-read limit x a.0 a.1 h in
+    minor-read limit a.0 x c.0 a.1 (dotted_front limit a.1) refl c.1
+
+-- ---- what is written is read: no more is left, and just that where nothing goes on there
+
+dotted_front-le : (limit : ℕ) (x : List ℕ) (v : Option ℕ) (r : List ℕ) → dotted_front limit x ≡ Some (v, r) → length r ≤ length x
+dotted_front-le limit x v r h = let c = dotted-read limit x v r h in omega (arith, ap length c.1, length-append c.0 r)
+
+patch_front-le : (limit : ℕ) (a b : Option ℕ) (x : List ℕ) (o : Front (Option ℕ)) → dotted_front limit x ≡ o → length (patch_front a b x o).1 ≤ length x
+patch_front-le limit a b x None h = omega arith
+patch_front-le limit a b x (Some c) h =
+    omega (arith, dotted_front-le limit x c.0 c.1 h, pre_release_front-le c.1, build_front-le (pre_release_front c.1).1)
+
+pub minor_front-le : (limit : ℕ) (a : Option ℕ) (x : List ℕ) (o : Front (Option ℕ)) → dotted_front limit x ≡ o → length (minor_front limit a x o).1 ≤ length x
+minor_front-le limit a x None h = omega arith
+minor_front-le limit a x (Some b) h =
+    omega (arith, dotted_front-le limit x b.0 b.1 h, patch_front-le limit a b.0 b.1 (dotted_front limit b.1) refl)
+
+pub component-shorter : (limit : ℕ) (x : List ℕ) (v : Option ℕ) (r : List ℕ) → component_front limit x ≡ Some (v, r) → length r < length x
+component-shorter limit x v r h =
+    let c = component-read limit x v r h in
+    let some = component-some limit c.0 v c.1.is in
+    omega (arith, ap length c.1.split, length-append c.0 r)
+
+pub record Passes (r : Partial × List ℕ) (p : Partial) (more : List ℕ) : Type 0 where
+  pub le : length r.1 ≤ length more
+  pub exact : Stop more → r ≡ (p, more)
+
+pub components-then : (limit : ℕ) (x more : List ℕ) (p : Partial) → AreComponents limit x p → Quiet x more
+    → (a : Option ℕ × List ℕ) × (component_front limit (x ++ more) ≡ Some a) × Passes (minor_front limit a.0 a.1 (dotted_front limit a.1)) p more
+components-then limit x more p (one c a h) quiet = (
+  (a, more),
+  component-then limit c more a h quiet,
+  record { le = minor_front-le limit a more (dotted_front limit more) refl; exact = λ stop. rw (stop.dot limit) refl },
+)
+components-then limit x more p (two c d a b h k) quiet =
+    let last = quiet-behind c d more (component-some limit d b k) quiet in (
+      (a, 46 ∷ (d ++ more)),
+      rw (append_assoc c (46 ∷ d) more) (component-then limit c (46 ∷ (d ++ more)) a h (quiet-before c (46 ∷ (d ++ more)) refl)),
+      rw (dotted-then limit d more b k last)
+          (record { le = patch_front-le limit a b more (dotted_front limit more) refl; exact = λ stop. rw (stop.dot limit) refl }),
+    )
+components-then limit x more p (three c d e pre build q h k l quiet_e m n) quiet =
+    let tail = e ++ (pre ++ build) in
+    let some : 0 < length tail = let one = component-some limit e q.patch l in omega (arith, length-append e (pre ++ build)) in
+    let last = quiet-behind d tail more some (quiet-behind c (d ++ (46 ∷ tail)) more (omega (arith, length-append d (46 ∷ tail))) quiet) in
+    let third : dotted_front limit (46 ∷ (tail ++ more)) ≡ Some (q.patch, (pre ++ build) ++ more) =
+    rw (append_assoc e (pre ++ build) more) (dotted-then limit e ((pre ++ build) ++ more) q.patch l (quiet-further e (pre ++ build) more quiet_e last)) in
+    let second : dotted_front limit (46 ∷ ((d ++ (46 ∷ tail)) ++ more)) ≡ Some (q.minor, 46 ∷ (tail ++ more)) =
+    rw (append_assoc d (46 ∷ tail) more) (dotted-then limit d (46 ∷ (tail ++ more)) q.minor k (quiet-before d (46 ∷ (tail ++ more)) refl)) in
+    let first : component_front limit ((c ++ (46 ∷ (d ++ (46 ∷ tail)))) ++ more) ≡ Some (q.major, 46 ∷ ((d ++ (46 ∷ tail)) ++ more)) =
+    rw (append_assoc c (46 ∷ (d ++ (46 ∷ tail))) more) (component-then limit c (46 ∷ ((d ++ (46 ∷ tail)) ++ more)) q.major h (quiet-before c (46 ∷ ((d ++ (46 ∷ tail)) ++ more)) refl)) in
+    let passed = qualifier-passed pre build more q.pre_release q.build m n in (
+      (q.major, 46 ∷ ((d ++ (46 ∷ tail)) ++ more)),
+      first,
+      rw (second, third) (record { le = passed.le; exact = λ stop. let r = passed.exact stop in rw (r.pre, r.build, r.rest) refl }),
+    )
