@@ -10,6 +10,8 @@ mod algebra;
 mod best;
 mod gate;
 mod least;
+mod least_held;
+mod least_of_all;
 mod lists;
 mod neighbours;
 mod outside;

@@ -1,7 +1,9 @@
 // Identifiers: what they are, their order, equality and hash.
 
 ghost use Rattle.std.specs.Prelude.{◌≡◌, ◌<◌, Some, refl, IfOk, OnErr, length};
-ghost use Rattle.semver_core.specs.Text.Identifiers.{IsText};
+ghost use Rattle.std.specs.List.{list_all};
+ghost use Rattle.semver_core.specs.Text.Characters.{is_identifier_char};
+ghost use Rattle.semver_core.specs.Text.Identifiers.{IsText, is_identifier, is_listed};
 ghost use Rattle.std.specs.Cmp.{eq_by_cmp_equiv, on_equiv, on_per, on_po, on_total};
 ghost use Rattle.std.specs.Cmp.{partial_equiv_from_equiv, po};
 ghost use Rattle.std.specs.Ordering.{is_eq, eq_by_cmp};
@@ -10,6 +12,7 @@ ghost use Rattle.semver_core.specs.Values.Order.{id_cmp};
 ghost use Rattle.semver_core.specs.Internal.OrderLaws.{id_alike, id_total};
 ghost use Rattle.semver_core.specs.Values.Views.{id_view, ids_view};
 
+use crate::scan;
 use std::alloc::{AllocError, Global};
 use std::cmp::Ordering;
 use std::default::MadeWith;
@@ -51,6 +54,29 @@ impl Identifier {
         }
         Ok(copy)
     }
+
+    /// Whether a text spells a list of identifiers: it is empty, or runs of one or more ASCII
+    /// letters, digits and `-` joined by dots, as `rc.1`. `Version::from_texts` requires it.
+    #[tactic(auto, unfolding(crate::specs::Text::Identifiers::is_listed))]
+    pub fn is_list(text: &[u8]) -> bool
+        ensures { result ≡ is_listed text.now }
+    {
+        text.is_empty() || text.split(|byte| *byte == b'.').all(is_spelled)
+    }
+}
+
+// Whether the text is one of an identifier.
+fn is_spelled(text: &[u8]) -> bool
+    ensures { result ≡ is_identifier text.now }
+{
+    !text.is_empty() && is_run(text)
+}
+
+// Whether each byte is a character of identifiers.
+fn is_run(text: &[u8]) -> bool
+    ensures { result ≡ list_all is_identifier_char text.now }
+{
+    text.iter().all(|byte| scan::is_identifier_char(*byte))
 }
 
 // What stands in a place of a list that is not used yet.

@@ -17,8 +17,8 @@ use Rattle.semver_core.specs.Internal.OrderLaws.{precedence_total}
 use Rattle.semver_core.specs.Values.Versions.{VersionValue, is_release}
 use Rattle.nodejs_semver.specs.Ranges.Gate.{lets_in, accepts}
 use Rattle.semver_core.specs.Lists.{is_empty}
-use Rattle.nodejs_semver.specs.Ranges.Least.{IsLeastOf, beyond, begins_with, build_by, least_build}
-use Rattle.nodejs_semver.specs.Internal.Candidates.{has_build, zero, bare, bare_release, after_cut, release_after, firsts, kept_marks, removed_marks, kept_firsts, removed_firsts, candidates, improves, better, least_of, is_reached, pre_after, patch_after}
+use Rattle.nodejs_semver.specs.Ranges.Least.{IsLeastOf, all_accept, beyond, begins_with, build_by, least_build}
+use Rattle.nodejs_semver.specs.Internal.Candidates.{has_build, zero, bare, bare_release, after_cut, release_after, firsts, list_marks, removed_marks, candidates, among, improves, better, least_of, is_reached, pre_after, patch_after}
 use Rattle.nodejs_semver.proofs.Choice.Keys.{triple_total, le_not_gt, lt_not_gt, not_gt_le, next_patch_above, next_pre_above, release_above}
 use Rattle.nodejs_semver.proofs.Choice.LeastPieces.{In, Each, candidate, accepts_same, lets_in_alike}
 
@@ -78,42 +78,25 @@ module _ (set : VersionValue → Bool) where
       fold_upto (better set best x) xs y (subst (λ (z : VersionValue). UpTo (better set best x) z) e (better_takes best x (ap set e ∙ k)))
   fold_takes best (x ∷ xs) y (inr h) k = fold_takes (better set best x) xs y h k
 
--- the least candidate beyond is the least version beyond
-pub least_beyond : (ks ls : List (Span VersionValue)) → IsLeastOf (beyond ks ls) (least_of (beyond ks ls) (candidates ks ls))
-least_beyond ks ls = by_answer (least_of (beyond ks ls) (candidates ks ls)) (fold_fine (beyond ks ls) None (candidates ks ls) tt) reached
-  where
-    chain : (best : Option VersionValue) (x v : VersionValue) → UpTo best x → is_gt (precedence x v) ≡ false → UpTo best v
-    chain None x v h k = absurd h
-    chain (Some b) x v h k = upto precedence_total b x v h k
+  -- the least version that a list names, where each version of the set has one of the list that is not above it
+  pub least_named : (xs : List VersionValue) → ((v : VersionValue) → set v ≡ true → (x : VersionValue) × (In x xs × (set x ≡ true) × (is_gt (precedence x v) ≡ false))) → IsLeastOf set (least_of set xs)
+  least_named xs f = by_answer (least_of set xs) (fold_fine None xs tt) (λ v h. let (x, k) = f v h in chain _ x v (fold_takes None xs x k.0 k.1) k.2)
+    where
+      chain : (best : Option VersionValue) (x v : VersionValue) → UpTo best x → is_gt (precedence x v) ≡ false → UpTo best v
+      chain None x v h k = absurd h
+      chain (Some b) x v h k = upto precedence_total b x v h k
 
-    reached : (v : VersionValue) → beyond ks ls v ≡ true → UpTo (least_of (beyond ks ls) (candidates ks ls)) v
-    reached v h =
-        let (x, k) = candidate ks ls v h in
-        chain _ x v (fold_takes (beyond ks ls) None (candidates ks ls) x k.found k.inside) k.below
+      none_so : (t : Bool) → (t ≡ true → ⊥) → t ≡ false
+      none_so true f = absurd (f refl)
+      none_so false f = refl
 
-    none_so : (t : Bool) → (t ≡ true → ⊥) → t ≡ false
-    none_so true f = absurd (f refl)
-    none_so false f = refl
+      by_answer : (r : Option VersionValue) → Fine set r → ((v : VersionValue) → set v ≡ true → UpTo r v) → IsLeastOf set r
+      by_answer None h f = λ v. none_so (set v) (f v)
+      by_answer (Some b) h f = (h, λ w e. not_gt_le _ (f w e))
 
-    by_answer : (r : Option VersionValue) → Fine (beyond ks ls) r → ((v : VersionValue) → beyond ks ls v ≡ true → UpTo r v) → IsLeastOf (beyond ks ls) r
-    by_answer None h f = λ v. none_so (beyond ks ls v) (f v)
-    by_answer (Some b) h f = (h, λ w e. not_gt_le _ (f w e))
-
--- the first versions past all marks, interval by interval
-flat_map-kept : (ss : List (Span VersionValue)) → flat_map firsts (flat_map kept_marks ss) ≡ flat_map kept_firsts ss
-flat_map-kept [] = refl
-flat_map-kept (s ∷ ss) = flat_map-append firsts (kept_marks s) (flat_map kept_marks ss) ∙ ap (λ xs. flat_map firsts (kept_marks s) ++ xs) (flat_map-kept ss)
-
-flat_map-removed : (ss : List (Span VersionValue)) → flat_map firsts (flat_map removed_marks ss) ≡ flat_map removed_firsts ss
-flat_map-removed [] = refl
-flat_map-removed (s ∷ ss) = flat_map-append firsts (removed_marks s) (flat_map removed_marks ss) ∙ ap (λ xs. flat_map firsts (removed_marks s) ++ xs) (flat_map-removed ss)
-
-pub fold-candidates : (set : VersionValue → Bool) (ks ls : List (Span VersionValue)) → fold (better set) (fold (better set) (better set None zero) (flat_map kept_firsts ks)) (flat_map removed_firsts ls) ≡ least_of set (candidates ks ls)
-fold-candidates set ks ls =
-    sym (fold-append (better set) (better set None zero) (flat_map kept_firsts ks) (flat_map removed_firsts ls))
-    ∙ ap (λ xs. fold (better set) (better set None zero) (xs ++ flat_map removed_firsts ls)) (sym (flat_map-kept ks))
-    ∙ ap (λ xs. fold (better set) (better set None zero) (flat_map firsts (flat_map kept_marks ks) ++ xs)) (sym (flat_map-removed ls))
-    ∙ ap (fold (better set) (better set None zero)) (sym (flat_map-append firsts (flat_map kept_marks ks) (flat_map removed_marks ls)))
+-- the least candidate of the set is its least version
+pub least_among : (ks : List (Span VersionValue)) (kss : List (List (Span VersionValue))) (ls : List (Span VersionValue)) → IsLeastOf (among ks kss ls) (least_of (among ks kss ls) (candidates (ks ∷ kss) ls))
+least_among ks kss ls = least_named (among ks kss ls) (candidates (ks ∷ kss) ls) (λ v h. let (x, k) = candidate ks kss ls v h in (x, (k.found, k.inside, k.below)))
 
 -- what the answer is, if all of the list and what was there before are so
 abbrev Has : (VersionValue → Type 0) → Option VersionValue → Type 0
@@ -151,12 +134,16 @@ candidates_bare : (ds : List (Cut VersionValue)) → Each (λ v. v.build ≡ [])
 candidates_bare [] = tt
 candidates_bare (d ∷ ds) = Each-append (λ v. v.build ≡ []) (firsts d) (flat_map firsts ds) (firsts_bare d) (candidates_bare ds)
 
-pub least_bare : (set : VersionValue → Bool) (ks ls : List (Span VersionValue)) (r : Option VersionValue) → r ≡ least_of set (candidates ks ls) → IfSome r (λ v. v.build ≡ [])
-least_bare set ks ls r e = as_if r (subst (Has (λ v. v.build ≡ [])) (sym e) (fold_has (λ v. v.build ≡ []) set None (candidates ks ls) tt (candidates_bare (Start ∷ (flat_map kept_marks ks ++ flat_map removed_marks ls)))))
+-- the least version that a list names has no build where none of the list has one
+pub list_bare : (set : VersionValue → Bool) (xs : List VersionValue) (r : Option VersionValue) → Each (λ v. v.build ≡ []) xs → r ≡ least_of set xs → IfSome r (λ v. v.build ≡ [])
+list_bare set xs r each e = as_if r (subst (Has (λ v. v.build ≡ [])) (sym e) (fold_has (λ v. v.build ≡ []) set None xs tt each))
   where
     as_if : (r : Option VersionValue) → Has (λ v. v.build ≡ []) r → IfSome r (λ v. v.build ≡ [])
     as_if None h = tt
     as_if (Some b) h = h
+
+pub least_bare : (set : VersionValue → Bool) (kss : List (List (Span VersionValue))) (ls : List (Span VersionValue)) (r : Option VersionValue) → r ≡ least_of set (candidates kss ls) → IfSome r (λ v. v.build ≡ [])
+least_bare set kss ls r e = list_bare set (candidates kss ls) r (candidates_bare (Start ∷ (flat_map list_marks kss ++ flat_map removed_marks ls))) e
 
 pub All-find : {X : Type 0} (P : X → Type 0) (p : X → Bool) (xs : List X) → All P xs → IfSome (find p xs) P
 All-find P p [] a = tt
@@ -219,11 +206,17 @@ pub none_accepted : (ks : List (Span VersionValue)) → ((v : VersionValue) → 
 none_accepted ks f v = sym (beyond-none ks v) ∙ f v
 
 -- a version with another build improves alike
-pub improves_bare : (best : Option VersionValue) (w : VersionValue) (ks ls : List (Span VersionValue)) → (improves best (bare w) && beyond ks ls (bare w)) ≡ (improves best w && beyond ks ls w)
-improves_bare best w ks ls =
-    ap (λ q. q && beyond ks ls (bare w)) (by_best best)
-    ∙ ap (λ q. improves best w && (q && not (accepts ls (bare w) false))) (accepts_built ks w [])
-    ∙ ap (λ q. improves best w && (accepts ks w false && not q)) (accepts_built ls w [])
+all_built : (kss : List (List (Span VersionValue))) (v : VersionValue) (b : List Id) → all_accept kss (record v { build = b }) ≡ all_accept kss v
+all_built [] v b = refl
+all_built (ks ∷ kss) v b = ap (λ q. q && all_accept kss (record v { build = b })) (accepts_built ks v b) ∙ ap (λ q. accepts ks v false && q) (all_built kss v b)
+
+pub improves_bare : (best : Option VersionValue) (w : VersionValue) (ks : List (Span VersionValue)) (kss : List (List (Span VersionValue))) (ls : List (Span VersionValue))
+    → (improves best (bare w) && among ks kss ls (bare w)) ≡ (improves best w && among ks kss ls w)
+improves_bare best w ks kss ls =
+    ap (λ q. q && among ks kss ls (bare w)) (by_best best)
+    ∙ ap (λ q. improves best w && (q && beyond ks ls (bare w))) (all_built kss w [])
+    ∙ ap (λ q. improves best w && (all_accept kss w && (q && not (accepts ls (bare w) false)))) (accepts_built ks w [])
+    ∙ ap (λ q. improves best w && (all_accept kss w && (accepts ks w false && not q))) (accepts_built ls w [])
   where
     by_best : (best : Option VersionValue) → improves best (bare w) ≡ improves best w
     by_best None = refl

@@ -13,8 +13,8 @@ use Rattle.semver_core.specs.Values.Order.{pre_cmp, precedence}
 use Rattle.semver_core.specs.Internal.OrderLaws.{precedence_total}
 use Rattle.semver_core.specs.Values.Versions.{VersionValue, is_release}
 use Rattle.nodejs_semver.specs.Ranges.Gate.{same_triple, names, lets_in, accepts}
-use Rattle.nodejs_semver.specs.Ranges.Least.{beyond}
-use Rattle.nodejs_semver.specs.Internal.Candidates.{zero, bare, bare_release, first_pre, pre_after, patch_after, after_cut, release_after, firsts, beside, below_at, below_named, kept_marks, removed_marks, candidates}
+use Rattle.nodejs_semver.specs.Ranges.Least.{all_accept, beyond}
+use Rattle.nodejs_semver.specs.Internal.Candidates.{zero, bare, bare_release, first_pre, pre_after, patch_after, after_cut, release_after, firsts, beside, below_at, below_named, kept_marks, list_marks, removed_marks, candidates, among}
 use Rattle.nodejs_semver.proofs.Choice.Keys.{triple_cmp, same_triple_is, triple_total, triple_upto, pre_decides, upto_by_both, then_not_gt, le_not_gt, not_gt_le, far_less, past_not_gt, not_gt_both, next_patch_least, next_patch_above, next_pre_above, release_above, pre_of_not_gt, next_not_empty, pre_next_least, first_pre_least, near_past, is_eq_is, empty_is, zero_first}
 
 -- an element of a list, and a fact of each
@@ -113,7 +113,7 @@ lets_in_alike s x v k = by_test (is_release v) refl
         ∙ ap (λ q. is_release v || (q || names s.upper x)) (names_alike s.lower x v (k.triple r))
         ∙ ap (λ q. is_release v || (names s.lower v || q)) (names_alike s.upper x v (k.triple r))
 
-or_true : (a b : Bool) → b ≡ true → (a || b) ≡ true
+pub or_true : (a b : Bool) → b ≡ true → (a || b) ≡ true
 or_true true b h = refl
 or_true false b h = h
 
@@ -235,13 +235,19 @@ or_cases : (a b : Bool) → (a || b) ≡ true → (a ≡ true) ⊎ (b ≡ true)
 or_cases true b h = inl refl
 or_cases false b h = inr h
 
-and_left : (a b : Bool) → (a && b) ≡ true → a ≡ true
+pub and_left : (a b : Bool) → (a && b) ≡ true → a ≡ true
 and_left true b h = refl
 and_left false b h = h
 
 and_right : (a b : Bool) → (a && b) ≡ true → b ≡ true
 and_right true b h = h
 and_right false b h = cc
+
+-- a && b && c, of which the last is not a
+regrouped : (r a b : Bool) → (r && (a && b)) ≡ true → ((a && r) && b) ≡ true
+regrouped true true b h = h
+regrouped true false b h = h
+regrouped false a b h = cc
 
 not_true : (a : Bool) → not a ≡ true → a ≡ false
 not_true true h = cc
@@ -340,6 +346,13 @@ module _ (v x : VersionValue) (g : Cut VersionValue) (past : is_past precedence 
     kept_held ss (Each-right _ (kept_marks s) (flat_map kept_marks ss) e),
   )
 
+  -- lists that accept v accept x
+  all_held : (gate : (s : Span VersionValue) → lets_in s v ≡ lets_in s x) (kss : List (List (Span VersionValue))) → Top v g (flat_map list_marks kss) → all_accept kss v ≡ true → all_accept kss x ≡ true
+  all_held gate [] e h = refl
+  all_held gate (ss ∷ kss) e h =
+      ap (λ q. q && all_accept kss x) (accepts_from ss x v gate (kept_held ss (Each-left _ (list_marks ss) (flat_map list_marks kss) e)) (and_left (accepts ss v false) (all_accept kss v) h))
+      ∙ all_held gate kss (Each-right _ (list_marks ss) (flat_map list_marks kss) e) (and_right (accepts ss v false) (all_accept kss v) h)
+
   -- a span that holds x holds v
   removed_held : (ss : List (Span VersionValue)) → Top v g (flat_map removed_marks ss) → Each (λ s. holds precedence s x ≡ true → holds precedence s v ≡ true) ss
   removed_held [] e = tt
@@ -350,22 +363,28 @@ module _ (v x : VersionValue) (g : Cut VersionValue) (past : is_past precedence 
     removed_held ss (Each-right _ (removed_marks s) (flat_map removed_marks ss) e),
   )
 
--- whatever is beyond, a candidate that is not above it is beyond too
-pub record Covers (ks ls : List (Span VersionValue)) (v x : VersionValue) : Type 0 where
-  pub found : In x (candidates ks ls)
-  pub inside : beyond ks ls x ≡ true
+-- whatever is in the set, a candidate that is not above it is in the set too
+pub record Covers (ks : List (Span VersionValue)) (kss : List (List (Span VersionValue))) (ls : List (Span VersionValue)) (v x : VersionValue) : Type 0 where
+  pub found : In x (candidates (ks ∷ kss) ls)
+  pub inside : among ks kss ls x ≡ true
   pub below : is_gt (precedence x v) ≡ false
 
-pub candidate : (ks ls : List (Span VersionValue)) (v : VersionValue) → beyond ks ls v ≡ true → (x : VersionValue) × Covers ks ls v x
-candidate ks ls v h =
-    let (g, k) = greatest precedence_total v Start (flat_map kept_marks ks ++ flat_map removed_marks ls) refl in
+pub candidate : (ks : List (Span VersionValue)) (kss : List (List (Span VersionValue))) (ls : List (Span VersionValue)) (v : VersionValue) → among ks kss ls v ≡ true → (x : VersionValue) × Covers ks kss ls v x
+candidate ks kss ls v h =
+    let (g, k) = greatest precedence_total v Start (kept_cuts ++ flat_map removed_marks ls) refl in
     by_kind g k (is_release v) refl
   where
-    kept : accepts ks v false ≡ true
-    kept = and_left (accepts ks v false) (not (accepts ls v false)) h
+    kept_cuts : List (Cut VersionValue)
+    kept_cuts = flat_map list_marks (ks ∷ kss)
+
+    accepted : (all_accept (ks ∷ kss) v && not (accepts ls v false)) ≡ true
+    accepted = regrouped (all_accept kss v) (accepts ks v false) (not (accepts ls v false)) h
+
+    kept : all_accept (ks ∷ kss) v ≡ true
+    kept = and_left (all_accept (ks ∷ kss) v) (not (accepts ls v false)) accepted
 
     gone : accepts ls v false ≡ false
-    gone = not_true (accepts ls v false) (and_right (accepts ks v false) (not (accepts ls v false)) h)
+    gone = not_true (accepts ls v false) (and_right (all_accept (ks ∷ kss) v) (not (accepts ls v false)) accepted)
 
     refuted : (a : Bool) → (a ≡ true → ⊥) → a ≡ false
     refuted true f = absurd (f refl)
@@ -374,26 +393,28 @@ candidate ks ls v h =
     clash : (a : Bool) → a ≡ false → a ≡ true → ⊥
     clash a h k = cc
 
-    inside : (a b : Bool) → a ≡ true → b ≡ false → (a && not b) ≡ true
-    inside a b h k = ap (λ q. q && not b) h ∙ ap not k
+    inside : (a r b : Bool) → (a && r) ≡ true → b ≡ false → (r && (a && not b)) ≡ true
+    inside true true b h k = ap not k
+    inside true false b h k = h
+    inside false r b h k = cc
 
-    done : (g : Cut VersionValue) → Greatest precedence_total v Start (flat_map kept_marks ks ++ flat_map removed_marks ls) g → (x : VersionValue) × Begins g v x → (x : VersionValue) × Covers ks ls v x
+    done : (g : Cut VersionValue) → Greatest precedence_total v Start (kept_cuts ++ flat_map removed_marks ls) g → (x : VersionValue) × Begins g v x → (x : VersionValue) × Covers ks kss ls v x
     done g k (x, b) =
         let gate = λ (s : Span VersionValue). lets_in_alike s x v b.alike in
-        let top_kept : Top v g (flat_map kept_marks ks) = Each-left _ (flat_map kept_marks ks) (flat_map removed_marks ls) k.tops in
-        let top_removed : Top v g (flat_map removed_marks ls) = Each-right _ (flat_map kept_marks ks) (flat_map removed_marks ls) k.tops in
-        let in_kept : accepts ks x false ≡ true = accepts_from ks x v (λ s. sym (gate s)) (kept_held v x g b.past b.below ks top_kept) kept in
+        let top_kept : Top v g kept_cuts = Each-left _ kept_cuts (flat_map removed_marks ls) k.tops in
+        let top_removed : Top v g (flat_map removed_marks ls) = Each-right _ kept_cuts (flat_map removed_marks ls) k.tops in
+        let in_kept : all_accept (ks ∷ kss) x ≡ true = all_held v x g b.past b.below (λ s. sym (gate s)) (ks ∷ kss) top_kept kept in
         let in_removed : accepts ls x false ≡ false = refuted (accepts ls x false) (λ t. clash (accepts ls v false) gone (accepts_from ls v x gate (removed_held v x g b.past b.below ls top_removed) t)) in (
           x,
           record {
-            found = In-flat_map firsts g x (Start ∷ (flat_map kept_marks ks ++ flat_map removed_marks ls)) k.found b.found;
-            inside = inside (accepts ks x false) (accepts ls x false) in_kept in_removed;
+            found = In-flat_map firsts g x (Start ∷ (kept_cuts ++ flat_map removed_marks ls)) k.found b.found;
+            inside = inside (accepts ks x false) (all_accept kss x) (accepts ls x false) in_kept in_removed;
             below = b.below;
           },
         )
 
-    by_kind : (g : Cut VersionValue) → Greatest precedence_total v Start (flat_map kept_marks ks ++ flat_map removed_marks ls) g → (r : Bool) → is_release v ≡ r → (x : VersionValue) × Covers ks ls v x
+    by_kind : (g : Cut VersionValue) → Greatest precedence_total v Start (kept_cuts ++ flat_map removed_marks ls) g → (r : Bool) → is_release v ≡ r → (x : VersionValue) × Covers ks kss ls v x
     by_kind g k true r = done g k (begins_release g v r k.past)
     by_kind g k false r =
-        let (w, n) = named_list ks v g r kept (Each-left _ (flat_map kept_marks ks) (flat_map removed_marks ls) k.tops) in
+        let (w, n) = named_list ks v g r (and_left (accepts ks v false) (all_accept kss v) kept) (Each-left _ (list_marks ks) (flat_map list_marks kss) (Each-left _ kept_cuts (flat_map removed_marks ls) k.tops)) in
         done g k (begins_pre g w v r n.triple n.above k.past)

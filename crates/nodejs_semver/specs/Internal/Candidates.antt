@@ -9,6 +9,7 @@ use Rattle.semver_core.specs.Values.Versions.{VersionValue, is_release}
 use Rattle.semver_core.specs.declared.cuts.bound.Bound.{Bound}
 use Rattle.semver_core.specs.declared.cuts.bound.Bound.TheVariants.{Unbounded, Before, After}
 use Rattle.semver_core.specs.Lists.{is_empty}
+use Rattle.nodejs_semver.specs.Ranges.Least.{all_accept, beyond}
 
 -- the versions without a build that come first somewhere
 abbrev pub zero : VersionValue
@@ -66,15 +67,16 @@ kept_marks s = beside s.lower ++ below_named s.upper
 abbrev pub removed_marks : Span VersionValue → List (Cut VersionValue)
 removed_marks s = beside s.upper
 
-abbrev pub kept_firsts : Span VersionValue → List VersionValue
-kept_firsts s = flat_map firsts (kept_marks s)
+abbrev pub list_marks : List (Span VersionValue) → List (Cut VersionValue)
+list_marks ss = flat_map kept_marks ss
 
-abbrev pub removed_firsts : Span VersionValue → List VersionValue
-removed_firsts s = flat_map firsts (removed_marks s)
+-- every version that can be the least that all lists accept, one or more, and the last list does not
+abbrev pub candidates : List (List (Span VersionValue)) → List (Span VersionValue) → List VersionValue
+candidates kss ls = flat_map firsts (Start ∷ (flat_map list_marks kss ++ flat_map removed_marks ls))
 
--- every version that can be the least beyond
-abbrev pub candidates : List (Span VersionValue) → List (Span VersionValue) → List VersionValue
-candidates ks ls = flat_map firsts (Start ∷ (flat_map kept_marks ks ++ flat_map removed_marks ls))
+-- the first list and each of the others accept the version, and the last list does not
+abbrev pub among : List (Span VersionValue) → List (List (Span VersionValue)) → List (Span VersionValue) → VersionValue → Bool
+among ks kss ls v = all_accept kss v && beyond ks ls v
 
 -- the least version of a set that a list names, the first of equal ones
 abbrev pub improves : Option VersionValue → VersionValue → Bool
@@ -95,6 +97,12 @@ Raisable (After w) = w.patch < 2 ^ 64 - 1
 
 abbrev pub IsRaisable : Span VersionValue → Type 0
 IsRaisable s = Raisable s.lower × Raisable s.upper
+
+-- the first version past the cut of a lower bound, pre-releases included
+abbrev pub first_past : Bound VersionValue → VersionValue
+first_past Unbounded = first_pre zero
+first_past (Before w) = bare w
+first_past (After w) = if is_release w then first_pre (patch_after w) else pre_after w
 
 -- the best so far is not above x: nothing from x on improves on it
 abbrev pub is_reached : Option VersionValue → VersionValue → Bool

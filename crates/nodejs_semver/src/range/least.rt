@@ -1,12 +1,12 @@
-// The least version that intervals accept, alone or beyond others.
+// The least version that lists of intervals all accept, alone or beyond another list.
 //
-// Let v be accepted by the first list and not by the second. Of the lower cuts of the first list,
-// the upper cuts of the second, and the cuts below the pre-releases that an upper bound of the
-// first list names, take the greatest that is not after v. The first version of v's kind past that
-// cut, a release or a pre-release of the same three numbers, is not above v, and is accepted by the
-// first list and not by the second either. So the least version is among these first versions:
-// these are the candidates, at most four for an interval of the first list, and two for one of the
-// second.
+// Let v be accepted by each list that is kept, one or more, and not by the one that is removed. Of
+// the lower cuts of the lists that are kept, the upper cuts of the removed one, and the cuts below
+// the pre-releases that an upper bound of a kept list names, take the greatest that is not after v.
+// The first version of v's kind past that cut, a release or a pre-release of the same three
+// numbers, is not above v, and is accepted by each kept list and not by the removed one either. So
+// the least version is among these first versions: these are the candidates, at most four for an
+// interval of a kept list, and two for one of the removed list.
 
 ghost use Rattle.nodejs_semver.specs.Ranges.Gate.{accepts, lets_in};
 ghost use Rattle.nodejs_semver.specs.Internal.Candidates as spec;
@@ -17,7 +17,7 @@ ghost use Rattle.std.specs.List.{flat_map, list_any};
 ghost use Rattle.std.specs.Option.{option_copied};
 ghost use Rattle.semver_core.specs.declared.cuts.bound.Bound.TheVariants.{After};
 ghost use Rattle.std.specs.Prelude.{All, IfOk, IfSome, OnOk, Some, [], false, find, fold};
-ghost use Rattle.std.specs.Prelude.{◌&&◌, ◌-◌, ◌<◌, ◌≡◌, ◌^◌};
+ghost use Rattle.std.specs.Prelude.{◌&&◌, ◌-◌, ◌<◌, ◌≡◌, ◌^◌, ◌∷◌};
 
 use crate::Range;
 use crate::range::gate::{accepts, accepts_one};
@@ -60,31 +60,34 @@ impl Range {
         ensures least { IfOk result (λ r. stated.IsLeastOf (stated.beyond self.now other.now) r) }
         ensures build { IfOk result (λ r. IfSome r (λ v. v.build ≡ [])) }
     {
-        least_beyond(alloc, self.intervals(), other.intervals())
+        least_among(alloc, self.intervals(), &[], other.intervals())
     }
 }
 
-// The search for the least version that `kept` accepts and `removed` does not: `best` is the least
-// candidate so far that is such a version.
+// The search for the least version that `kept` and each range of `also` accept and `removed` does
+// not: `best` is the least candidate so far that is such a version.
 #[derive(Drop)]
 struct Search<'a> {
     kept: &'a [Interval<Version>],
+    also: &'a [Range],
     removed: &'a [Interval<Version>],
     best: Option<Version>,
 }
 
 impl<'a> Search<'a> {
-    // Whether the version is below the best so far, and accepted by the first list and not by the
-    // second.
+    // Whether the version is below the best so far, and one of those that are searched for.
     fn improves(&self, version: &Version) -> bool
         ensures { result ≡ (spec.improves self.now.best version.now
-            && stated.beyond self.now.kept.now self.now.removed.now version.now) }
+            && spec.among self.now.kept.now self.now.also.now self.now.removed.now version.now) }
     {
         let is_below = match &self.best {
             None => true,
             Some(best) => version.cmp(best).is_lt(),
         };
-        is_below && accepts(self.kept, version, false) && !accepts(self.removed, version, false)
+        is_below
+            && satisfies_all(self.also, version)
+            && accepts(self.kept, version, false)
+            && !accepts(self.removed, version, false)
     }
 
     // Whether the best so far is not above the version: nothing from the version on improves on it.
@@ -99,7 +102,7 @@ impl<'a> Search<'a> {
 
     // Keeps the version where it improves on the best so far.
     fn consider(&mut self, version: Version)
-        ensures { let set = stated.beyond self.old.kept.now self.old.removed.now in
+        ensures { let set = spec.among self.old.kept.now self.old.also.now self.old.removed.now in
             self.new ≡ record self.old {
               best =
                   spec.better set self.old.best version;
@@ -114,7 +117,7 @@ impl<'a> Search<'a> {
     // improves.
     #[tactic(auto, using(crate::proofs::Choice::LeastOf::improves_bare))]
     fn consider_borrowed(&mut self, alloc: Global, version: &Version) -> Result<(), AllocError>
-        ensures { let set = stated.beyond self.old.kept.now self.old.removed.now in
+        ensures { let set = spec.among self.old.kept.now self.old.also.now self.old.removed.now in
             OnOk result (self.new ≡ record self.old {
               best =
                   spec.better set self.old.best (spec.bare version.now);
@@ -131,7 +134,7 @@ impl<'a> Search<'a> {
     #[inline(always)]
     #[tactic(auto, using(crate::proofs::Choice::LeastOf::reached_near))]
     fn consider_from(&mut self, alloc: Global, version: &Version) -> Result<(), AllocError>
-        ensures { let set = stated.beyond self.old.kept.now self.old.removed.now in
+        ensures { let set = spec.among self.old.kept.now self.old.also.now self.old.removed.now in
             OnOk result (self.new ≡ record self.old {
               best =
                   fold (spec.better set) self.old.best (spec.firsts (Beside version.now Near));
@@ -147,7 +150,7 @@ impl<'a> Search<'a> {
     // The same, whatever the best so far is.
     #[inline(never)]
     fn consider_near(&mut self, alloc: Global, version: &Version) -> Result<(), AllocError>
-        ensures { let set = stated.beyond self.old.kept.now self.old.removed.now in
+        ensures { let set = spec.among self.old.kept.now self.old.also.now self.old.removed.now in
             OnOk result (self.new ≡ record self.old {
               best =
                   fold (spec.better set) self.old.best (spec.firsts (Beside version.now Near));
@@ -164,7 +167,7 @@ impl<'a> Search<'a> {
     #[tactic(auto, using(crate::proofs::Choice::LeastOf::reached_far))]
     fn consider_after(&mut self, alloc: Global, version: &Version) -> Result<(), AllocError>
         requires { version.now.patch < 2 ^ 64 - 1 }
-        ensures { let set = stated.beyond self.old.kept.now self.old.removed.now in
+        ensures { let set = spec.among self.old.kept.now self.old.also.now self.old.removed.now in
             OnOk result (self.new ≡ record self.old {
               best =
                   fold (spec.better set) self.old.best (spec.firsts (Beside version.now Far));
@@ -185,7 +188,7 @@ impl<'a> Search<'a> {
     // Considers the first versions past the cut of a bound.
     fn consider_past(&mut self, alloc: Global, bound: &Bound<Version>) -> Result<(), AllocError>
         requires { spec.Raisable bound.now }
-        ensures { let set = stated.beyond self.old.kept.now self.old.removed.now in
+        ensures { let set = spec.among self.old.kept.now self.old.also.now self.old.removed.now in
             OnOk result (self.new ≡ record self.old {
               best =
                   fold (spec.better set) self.old.best
@@ -202,7 +205,7 @@ impl<'a> Search<'a> {
     // Considers the first versions from the first pre-release with these three numbers on. Mostly
     // the version is that pre-release, as in `<2.0.0-0`, and none is made.
     fn consider_first_pre(&mut self, alloc: Global, version: &Version) -> Result<(), AllocError>
-        ensures { let set = stated.beyond self.old.kept.now self.old.removed.now in
+        ensures { let set = spec.among self.old.kept.now self.old.also.now self.old.removed.now in
             OnOk result (self.new ≡ record self.old {
               best =
                   fold (spec.better set) self.old.best
@@ -217,7 +220,7 @@ impl<'a> Search<'a> {
 
     // Considers the first versions past the cut below the pre-releases that a bound names.
     fn consider_named(&mut self, alloc: Global, bound: &Bound<Version>) -> Result<(), AllocError>
-        ensures { let set = stated.beyond self.old.kept.now self.old.removed.now in
+        ensures { let set = spec.among self.old.kept.now self.old.also.now self.old.removed.now in
             OnOk result (self.new ≡ record self.old {
               best =
                   fold (spec.better set) self.old.best
@@ -232,32 +235,48 @@ impl<'a> Search<'a> {
         }
     }
 
-    // Considers all that the first list brings.
-    fn consider_kept(&mut self, alloc: Global) -> Result<(), AllocError>
-        requires { All spec.IsRaisable self.old.kept.now }
-        ensures { let set = stated.beyond self.old.kept.now self.old.removed.now in
+    // Considers all that a list brings which accepts the versions searched for.
+    fn consider_list(&mut self, alloc: Global, list: &[Interval<Version>]) -> Result<(), AllocError>
+        requires { All spec.IsRaisable list.now }
+        ensures { let set = spec.among self.old.kept.now self.old.also.now self.old.removed.now in
             OnOk result (self.new ≡ record self.old {
               best =
                   fold (spec.better set) self.old.best
-                  (flat_map spec.kept_firsts self.old.kept.now);
+                  (flat_map spec.firsts (spec.list_marks list.now));
             }) }
     {
-        let intervals = self.kept;
-        for interval in intervals {
+        for interval in list {
             self.consider_past(alloc, interval.lower())?;
             self.consider_named(alloc, interval.upper())?;
         }
         Ok(())
     }
 
-    // Considers all that the second list brings.
-    fn consider_removed(&mut self, alloc: Global) -> Result<(), AllocError>
-        requires { All spec.IsRaisable self.old.removed.now }
-        ensures { let set = stated.beyond self.old.kept.now self.old.removed.now in
+    // Considers all that the further ranges bring.
+    #[tactic(auto, using(crate::proofs::Choice::Raised::raisable))]
+    fn consider_also(&mut self, alloc: Global) -> Result<(), AllocError>
+        ensures { let set = spec.among self.old.kept.now self.old.also.now self.old.removed.now in
             OnOk result (self.new ≡ record self.old {
               best =
                   fold (spec.better set) self.old.best
-                  (flat_map spec.removed_firsts self.old.removed.now);
+                  (flat_map spec.firsts (flat_map spec.list_marks self.old.also.now));
+            }) }
+    {
+        let ranges = self.also;
+        for range in ranges {
+            self.consider_list(alloc, range.intervals())?;
+        }
+        Ok(())
+    }
+
+    // Considers all that the last list brings.
+    fn consider_removed(&mut self, alloc: Global) -> Result<(), AllocError>
+        requires { All spec.IsRaisable self.old.removed.now }
+        ensures { let set = spec.among self.old.kept.now self.old.also.now self.old.removed.now in
+            OnOk result (self.new ≡ record self.old {
+              best =
+                  fold (spec.better set) self.old.best
+                  (flat_map spec.firsts (flat_map spec.removed_marks self.old.removed.now));
             }) }
     {
         let intervals = self.removed;
@@ -271,39 +290,52 @@ impl<'a> Search<'a> {
     fn run(
         alloc: Global,
         kept: &'a [Interval<Version>],
+        also: &'a [Range],
         removed: &'a [Interval<Version>],
     ) -> Result<Option<Version>, AllocError>
         requires kept { All spec.IsRaisable kept.now }
         requires removed { All spec.IsRaisable removed.now }
         ensures { IfOk result (λ r.
-            r ≡ spec.least_of (stated.beyond kept.now removed.now)
-            (spec.candidates kept.now removed.now)) }
+            r ≡ spec.least_of (spec.among kept.now also.now removed.now)
+            (spec.candidates (kept.now ∷ also.now) removed.now)) }
     {
         let best = None;
         let mut search = Search {
             kept,
+            also,
             removed,
             best,
         };
         search.consider(Version::from((0u64, 0, 0)));
-        search.consider_kept(alloc)?;
+        search.consider_list(alloc, kept)?;
+        search.consider_also(alloc)?;
         search.consider_removed(alloc)?;
         Ok(search.best)
     }
 }
 
-// The least version that the first list accepts and the second does not, without a build.
-fn least_beyond(
+// Whether each of the ranges accepts the version.
+fn satisfies_all(ranges: &[Range], version: &Version) -> bool
+    ensures { result ≡ stated.all_accept ranges.now version.now }
+{
+    ranges.iter().all(|range| range.satisfies(version))
+}
+
+// The least version that the first list and each range accept and the last list does not, without a
+// build.
+pub(crate) fn least_among(
     alloc: Global,
     kept: &[Interval<Version>],
+    also: &[Range],
     removed: &[Interval<Version>],
 ) -> Result<Option<Version>, AllocError>
     requires kept { All spec.IsRaisable kept.now }
     requires removed { All spec.IsRaisable removed.now }
-    ensures least { IfOk result (λ r. stated.IsLeastOf (stated.beyond kept.now removed.now) r) }
+    ensures least { IfOk result (λ r.
+        stated.IsLeastOf (spec.among kept.now also.now removed.now) r) }
     ensures build { IfOk result (λ r. IfSome r (λ v. v.build ≡ [])) }
 {
-    Ok(Search::run(alloc, kept, removed)?)
+    Ok(Search::run(alloc, kept, also, removed)?)
 }
 
 // The first version after this one, without a build: the next patch of a release, and a pre-release
@@ -405,7 +437,7 @@ fn least_accepted(
     ensures build { IfOk result (λ r.
         IfSome r (λ v. v.build ≡ stated.least_build intervals.now v)) }
 {
-    match least_beyond(alloc, intervals, &[])? {
+    match least_among(alloc, intervals, &[], &[])? {
         None => Ok(None),
         Some(version) => {
             let built = with_least_build(alloc, version, intervals)?;

@@ -26,6 +26,31 @@ more_least [] ys h k = absurd (omega arith)
 more_least (x ∷ xs) [] h k = refl
 more_least (x ∷ xs) (y ∷ ys) h k = next_least (x ∷ xs) (y ∷ ys) k
 
+-- nothing lies between a version and the next, whatever their builds
+pub least_after_pre_release : (v u : VersionValue) → 0 < length v.pre_release → precedence v u ≡ Less → is_le (precedence (record v { pre_release = v.pre_release ++ Numeric 0 ∷ [] }) u) ≡ true
+least_after_pre_release v u some h = upto (below_cases v u h)
+  where
+    next : VersionValue
+    next = record v { pre_release = v.pre_release ++ Numeric 0 ∷ [] }
+
+    upto : Below v u → is_le (precedence (record v { pre_release = v.pre_release ++ Numeric 0 ∷ [] }) u) ≡ true
+    upto (by_major a) = upto_major next u a
+    upto (by_minor a b) = upto_minor next u a b
+    upto (by_patch a b c) = ap is_le (above_patch next u a b c)
+    upto (by_pre a b c d) = upto_patch next u (omega arith) (omega arith) (omega arith) (more_least v.pre_release u.pre_release some d)
+
+pub least_after_release : (v u : VersionValue) → v.pre_release ≡ [] → precedence v u ≡ Less → is_le (precedence (record v { patch = v.patch + 1; pre_release = Numeric 0 ∷ [] }) u) ≡ true
+least_after_release v u none h = upto (below_cases v u h)
+  where
+    next : VersionValue
+    next = record v { patch = v.patch + 1; pre_release = Numeric 0 ∷ [] }
+
+    upto : Below v u → is_le (precedence (record v { patch = v.patch + 1; pre_release = Numeric 0 ∷ [] }) u) ≡ true
+    upto (by_major a) = upto_major next u a
+    upto (by_minor a b) = upto_minor next u a b
+    upto (by_patch a b c) = upto_patch next u (omega arith) (omega arith) (omega arith) (zero_least u.pre_release)
+    upto (by_pre a b c d) = absurd (empty_not_below u.pre_release (ap (λ xs. pre_cmp xs u.pre_release) (sym none) ∙ d))
+
 pub next_of_pre_release : (v : VersionValue) → IsVersion v → 0 < length v.pre_release → IsNext v (record v { pre_release = v.pre_release ++ Numeric 0 ∷ [] })
 next_of_pre_release v is_version some = record {
   is_version = record {
@@ -35,18 +60,9 @@ next_of_pre_release v is_version some = record {
     pre_release = All-append IsId v.pre_release (Numeric 0 ∷ []) is_version.pre_release zero_alone;
     build = is_version.build;
   };
-  above = above_pre v next refl refl refl (more_above v.pre_release some);
-  least = λ u h. upto u (below_cases v u h);
+  above = above_pre v (record v { pre_release = v.pre_release ++ Numeric 0 ∷ [] }) refl refl refl (more_above v.pre_release some);
+  least = λ u h. least_after_pre_release v u some h;
 }
-  where
-    next : VersionValue
-    next = record v { pre_release = v.pre_release ++ Numeric 0 ∷ [] }
-
-    upto : (u : VersionValue) → Below v u → is_le (precedence (record v { pre_release = v.pre_release ++ Numeric 0 ∷ [] }) u) ≡ true
-    upto u (by_major a) = upto_major next u a
-    upto u (by_minor a b) = upto_minor next u a b
-    upto u (by_patch a b c) = ap is_le (above_patch next u a b c)
-    upto u (by_pre a b c d) = upto_patch next u (omega arith) (omega arith) (omega arith) (more_least v.pre_release u.pre_release some d)
 
 pub next_of_release : (v : VersionValue) → IsVersion v → v.pre_release ≡ [] → v.patch < 2 ^ 64 - 1 → IsNext v (record v { patch = v.patch + 1; pre_release = Numeric 0 ∷ [] })
 next_of_release v is_version none room = record {
@@ -57,18 +73,9 @@ next_of_release v is_version none room = record {
     pre_release = zero_alone;
     build = is_version.build;
   };
-  above = above_patch v next refl refl (omega arith);
-  least = λ u h. upto u (below_cases v u h);
+  above = above_patch v (record v { patch = v.patch + 1; pre_release = Numeric 0 ∷ [] }) refl refl (omega arith);
+  least = λ u h. least_after_release v u none h;
 }
   where
-    next : VersionValue
-    next = record v { patch = v.patch + 1; pre_release = Numeric 0 ∷ [] }
-
     raised : (n : ℕ) → n < 2 ^ 64 - 1 → n + 1 < 2 ^ 64
     raised n h = omega arith
-
-    upto : (u : VersionValue) → Below v u → is_le (precedence (record v { patch = v.patch + 1; pre_release = Numeric 0 ∷ [] }) u) ≡ true
-    upto u (by_major a) = upto_major next u a
-    upto u (by_minor a b) = upto_minor next u a b
-    upto u (by_patch a b c) = upto_patch next u (omega arith) (omega arith) (omega arith) (zero_least u.pre_release)
-    upto u (by_pre a b c d) = absurd (empty_not_below u.pre_release (ap (λ xs. pre_cmp xs u.pre_release) (sym none) ∙ d))

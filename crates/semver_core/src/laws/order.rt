@@ -1,8 +1,10 @@
 // What the comparisons of the program say, in the words of the definitions.
 
-ghost use Rattle.std.specs.Prelude.{◌≡◌, ◌↔◌, IsTrue};
+ghost use Rattle.std.specs.Ordering.{is_le};
+ghost use Rattle.std.specs.Prelude.{◌≡◌, ◌↔◌, ◌||◌, IsTrue, true};
 ghost use Rattle.std.specs.declared.cmp.Ordering.TheVariants.{Equal};
 ghost use Rattle.semver_core.specs.Values.Order.{id_cmp, precedence};
+ghost use Rattle.semver_core.specs.Values.Versions.{VersionValue};
 ghost use Rattle.semver_core.specs.Values.Views.{id_view};
 
 use crate::{Identifier, Version};
@@ -26,3 +28,19 @@ pub fn versions_in_order(first: &Version, second: &Version) -> (Ordering, bool)
 {
     (first.cmp(second), first == second)
 }
+
+/// The order of versions is total, and two versions tie in it exactly where their numbers and their
+/// pre-releases are equal. A caller that needs these facts in a proof calls this function, which
+/// does nothing at run time.
+pub fn total_order()
+    ensures reflexive { (v : VersionValue) → is_le (precedence v v) ≡ true }
+    ensures antisymmetric { (v w : VersionValue) → is_le (precedence v w) ≡ true
+        → is_le (precedence w v) ≡ true → precedence v w ≡ Equal }
+    ensures transitive { (u v w : VersionValue) → is_le (precedence u v) ≡ true
+        → is_le (precedence v w) ≡ true → is_le (precedence u w) ≡ true }
+    ensures total { (v w : VersionValue) →
+        (is_le (precedence v w) || is_le (precedence w v)) ≡ true }
+    ensures tied { (v w : VersionValue) → (precedence v w ≡ Equal)
+        ↔ ((v.major ≡ w.major) × (v.minor ≡ w.minor) × (v.patch ≡ w.patch)
+        × (v.pre_release ≡ w.pre_release)) }
+{}

@@ -9,8 +9,8 @@ use Rattle.nodejs_semver.specs.Ranges.Best.{IsMax}
 use Rattle.nodejs_semver.proofs.Choice.BestOf.{greater, greater_now, max_is}
 use Rattle.nodejs_semver.proofs.range.Range.max_satisfying.Goals as goal
 
-pub returns : goal.returns
-returns c =
+pub returns-clause-best : goal.returns-clause-best
+returns-clause-best c =
     let set : VersionValue → Bool = λ v. accepts c.args.self.now v false in
     let found : option_copied c.max.result ≡ reduce greater (filter set c.args.versions.now) =
     reduce_by_from_yields_List _ greater _ _ greater_now c.max.ensures.ran

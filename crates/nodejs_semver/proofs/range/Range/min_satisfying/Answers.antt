@@ -9,8 +9,8 @@ use Rattle.nodejs_semver.specs.Ranges.Best.{IsMin}
 use Rattle.nodejs_semver.proofs.Choice.BestOf.{lesser, lesser_now, min_is}
 use Rattle.nodejs_semver.proofs.range.Range.min_satisfying.Goals as goal
 
-pub returns : goal.returns
-returns c =
+pub returns-clause-best : goal.returns-clause-best
+returns-clause-best c =
     let set : VersionValue → Bool = λ v. accepts c.args.self.now v false in
     let found : option_copied c.min.result ≡ reduce lesser (filter set c.args.versions.now) =
     reduce_by_from_yields_List _ lesser _ _ lesser_now c.min.ensures.ran

@@ -1,0 +1,30 @@
+// The least version that several ranges all accept.
+
+ghost use Rattle.nodejs_semver.specs.Ranges.Least as stated;
+ghost use Rattle.std.specs.Prelude.{◌≡◌, [], IfOk, IfSome};
+
+use crate::Range;
+use crate::range::least::least_among;
+use semver_core::Version;
+use std::alloc::{AllocError, Global};
+
+impl Range {
+    /// The smallest version that each of the ranges accepts by `satisfies`, without a build.
+    /// Returns `None` exactly where no version is accepted by all. Of no ranges it is 0.0.0-0, the
+    /// smallest version. Fails only if allocation fails.
+    ///
+    /// It is not the smallest version of the intersection: of `>=1.2.3-a` and `>=1.0.0` it is
+    /// 1.2.3, while their intersection accepts 1.2.3-a, which the second range does not accept.
+    ///
+    /// Time grows at most with the square of the number of intervals of all ranges.
+    #[tactic(auto, using(crate::proofs::Choice::Raised::raisable))]
+    pub fn least_of_all(alloc: Global, ranges: &[Range]) -> Result<Option<Version>, AllocError>
+        ensures least { IfOk result (λ r. stated.IsLeastOf (stated.all_accept ranges.now) r) }
+        ensures build { IfOk result (λ r. IfSome r (λ v. v.build ≡ [])) }
+    {
+        match ranges {
+            [] => Ok(Some(Version::with_pre(alloc, 0, 0, 0, 0)?)),
+            [first, others @ ..] => Ok(least_among(alloc, first.intervals(), others, &[])?),
+        }
+    }
+}

@@ -1,0 +1,20 @@
+use Rattle.std.proofs.Common.{◌≡◌, refl, sym, ◌∙◌, ℕ, ◌<◌, List, [], ◌∷◌, length, eqb, arith, rules, tests}
+use Rattle.std.specs.List.{list_all}
+use Rattle.std.proofs.lemmas.Iterator.Search.{all_from_yields_List}
+use Rattle.std.proofs.lemmas.Iterator.Splits.{YieldsList-from_slice_split}
+use Rattle.semver_core.specs.Text.Identifiers.{is_identifier, is_listed, pieces}
+use Rattle.semver_core.proofs.identifier.Identifier.is_list.Goals as goal
+
+listed_by_pieces : (text : List ℕ) → 0 < length text → is_listed text ≡ list_all is_identifier (pieces text)
+unfolding is_listed
+listed_by_pieces [] h = absurd (omega arith)
+listed_by_pieces (c ∷ rest) h = refl
+
+pub returns-else-is_empty : goal.returns-else-is_empty
+returns-else-is_empty c =
+    let text = c.args.text.now in
+    let some : 0 < length text = search (rules, tests) in
+    all_from_yields_List is_identifier _ _ _ c.all.ensures.ran
+    (YieldsList-from_slice_split _ (λ b. eqb b 46) text c.split.ensures.rest c.split.ensures.done c.split.ensures.closure (λ x b q k. search (rules, tests)))
+    (λ x b q k. search (rules, tests))
+    ∙ sym (listed_by_pieces text some)
