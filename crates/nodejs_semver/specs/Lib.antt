@@ -11,3 +11,4 @@ pub use Rattle.semver_core.specs.Values.Order
 pub use Rattle.semver_core.specs.Values.Versions
 pub use Rattle.semver_core.specs.Printing.Text as VersionPrinting
 pub use Rattle.semver_core.specs.Text.Parsing
+pub use Rattle.semver_core.specs.Text.Identifiers

@@ -101,6 +101,12 @@ impl Version {
     /// A pre-release differs from a higher release by what was still to be released: by `Major`
     /// from 1.0.0-1 to any release above it. Elsewhere the first of the numbers that differs
     /// decides, and whether the higher version is a release.
+    ///
+    /// ```rust
+    /// let release = Version::from((1u64, 2, 3));
+    /// let beta = Version::parse(alloc, "1.3.0-beta")?;
+    /// assert_eq!(rt; release.diff(&beta), Some(VersionDiff::PreMinor));
+    /// ```
     #[tactic(auto, using(crate::proofs::Increments::Differences::difference_symmetric))]
     pub fn diff(&self, other: &Version) -> Option<VersionDiff>
         ensures value { result ≡ kind_between self.now other.now }

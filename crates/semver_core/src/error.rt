@@ -22,6 +22,7 @@ pub enum Failure<E> {
     Memory(AllocError),
 }
 
+/// `Memory`, so that `?` passes an allocation failure on.
 impl<E> From<AllocError> for Failure<E> {
     ghost use Rattle.semver_core.specs.declared.error.Failure.TheVariants.{Memory};
     ghost use Rattle.std.specs.Prelude.{◌≡◌};

@@ -79,13 +79,14 @@ fn is_run(text: &[u8]) -> bool
     text.iter().all(|byte| scan::is_identifier_char(*byte))
 }
 
-// What stands in a place of a list that is not used yet.
+/// What stands in a place of a list that is not used yet: the number 0.
 impl MadeWith<Global> for Identifier {
     fn made_with(_alloc: Global) -> Identifier {
         Identifier::Numeric(0)
     }
 }
 
+/// Equality of numbers by value and of texts by their bytes.
 impl PartialEq for Identifier {
     ghost eq = { λ a b. is_eq (id_cmp (id_view a) (id_view b)) };
 
@@ -96,10 +97,12 @@ impl PartialEq for Identifier {
     }
 }
 
+/// Equality is reflexive, symmetric and transitive.
 impl Eq for Identifier {
     ghost laws = { on_equiv id_view (eq_by_cmp_equiv id_total) };
 }
 
+/// The order of `cmp`.
 impl PartialOrd for Identifier {
     ghost partial_cmp = { λ a b. Some (id_cmp (id_view a) (id_view b)) };
 
@@ -110,6 +113,7 @@ impl PartialOrd for Identifier {
     }
 }
 
+/// SemVer 2.0.0, item 11: numbers by value and below all texts, texts by their bytes.
 impl Ord for Identifier {
     ghost cmp = { λ a b. id_cmp (id_view a) (id_view b) };
 
@@ -129,6 +133,7 @@ impl Ord for Identifier {
     }
 }
 
+/// The kind and the value, so that equal identifiers hash alike.
 impl Hash for Identifier {
     ghost hash_input = { λ a. id_writes (id_view a) };
 

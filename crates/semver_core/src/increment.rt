@@ -250,6 +250,12 @@ impl Version {
     /// already.
     ///
     /// Any call may also return `Memory`, if an allocation fails.
+    ///
+    /// ```rust
+    /// let release = Version::from((1u64, 2, 3));
+    /// let beta = release.inc(alloc, "prerelease", Some("beta"), None)?;
+    /// assert_eq!(rt; beta, Version::parse(alloc, "1.2.4-beta.0")?);
+    /// ```
     pub fn inc(
         &self,
         alloc: Global,

@@ -60,6 +60,12 @@ impl Version {
     ///
     /// Returns `Refused` exactly if the text is longer or has no version at its front, and `Memory`
     /// only if the version has a pre-release or build metadata.
+    ///
+    /// ```rust
+    /// let version = Version::parse(alloc, "v1.2.3-beta.1, the second beta")?;
+    /// assert_eq!(rt; version, Version::parse(alloc, "1.2.3-beta.1+another.build")?);
+    /// assert!(rt; Version::parse(alloc, "1.2").is_err());
+    /// ```
     #[inline(always)]
     pub fn parse(alloc: Global, text: &str) -> Result<Version, Failure<SemverError>>
         // What is read is a version of the text.

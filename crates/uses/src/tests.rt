@@ -1,3 +1,5 @@
+mod documented;
+
 use crate::index::Index;
 use crate::release;
 use crate::resolver::{self, Package, Release, Requirement};

@@ -1,11 +1,14 @@
 -- The version that is found in a list is the best one of those in the set.
-use Rattle.std.proofs.Common.{◌≡◌, refl, sym, ◌∙◌, ap, subst, Bool, true, false, ◌&&◌, ◌||◌, not, List, [], ◌∷◌, ◌++◌, Option, Some, None, if◌then◌else◌, Bor}
+use Rattle.std.proofs.Common.{◌≡◌, refl, sym, ◌∙◌, ap, subst, Bool, true, false, ◌&&◌, ◌||◌, not, List, [], ◌∷◌, ◌++◌, Option, Some, None, if◌then◌else◌, IfSome, IfNone, Bor}
 use Rattle.std.proofs.lemmas.List.{append-nil, append_assoc}
 use Rattle.std.specs.declared.cmp.Ordering.{Ordering}
 use Rattle.std.specs.declared.cmp.Ordering.TheVariants.{Less, Equal, Greater}
 use Rattle.std.specs.Ordering.{ordering_reverse, is_lt, is_le, is_ge, is_gt, max_by_ordering, min_by_ordering}
-use Rattle.std.specs.Cmp.{upto, alike_right}
-use Rattle.std.specs.List.{filter, fold, list_all, reduce}
+use Rattle.std.specs.Cmp.{upto, alike_right, tied_itself}
+use Rattle.std.specs.List.{All, filter, fold, list_all, reduce}
+use Rattle.std.specs.Option.{option_copied}
+use Rattle.std.proofs.lemmas.List.Elements.{All-append, All-cons, All-same, All-weaker}
+use Rattle.std.proofs.lemmas.List.Sums.{AllPass-from_list_all}
 use Rattle.semver_core.specs.Values.Order.{precedence}
 use Rattle.semver_core.specs.Internal.OrderLaws.{precedence_total}
 use Rattle.semver_core.specs.Values.Versions.{VersionValue}
@@ -256,3 +259,49 @@ max_is set list = subst (IsMax set list) (picked is_not_below greater set (λ x.
 
 pub min_is : (set : VersionValue → Bool) (list : List VersionValue) → IsMin set list (reduce lesser (filter set list))
 min_is set list = subst (IsMin set list) (picked is_below lesser set (λ x. refl) lesser_wins list) (chosen_stands _ _ is_below agree_min set list)
+
+-- what callers cite of the best: none of the set in the list beats it, and there is none where the set has no version of it
+module _ (in_front behind beaten : VersionValue → VersionValue → Bool) (front : (w v : VersionValue) → in_front w v ≡ true → beaten w v ≡ true) (back : (w v : VersionValue) → behind w v ≡ true → beaten w v ≡ true)
+    (tied : (v : VersionValue) → beaten v v ≡ true) (set : VersionValue → Bool) where
+  in_set_only : (s a b : Bool) → (a ≡ true → b ≡ true) → (not s || a) ≡ true → s ≡ true → b ≡ true
+  in_set_only true a b f h k = f h
+  in_set_only false a b f h k = cc
+
+  all_beaten : (list : List VersionValue) (v : VersionValue) → Stands in_front behind set list v → All (λ w. set w ≡ true → beaten w v ≡ true) list
+  all_beaten list v h =
+      All-same _ list (h.front ++ v ∷ h.back) h.divided
+      (All-append _ h.front (v ∷ h.back)
+      (All-weaker _ _ (λ w q. in_set_only (set w) (in_front w v) (beaten w v) (front w v) q) h.front (AllPass-from_list_all _ h.front h.before))
+      (All-cons _ v h.back (λ k. tied v) (All-weaker _ _ (λ w q. in_set_only (set w) (behind w v) (beaten w v) (back w v) q) h.back (AllPass-from_list_all _ h.back h.after))))
+
+  best_beats : (list : List VersionValue) (r : Option (Bor VersionValue)) → IsBest in_front behind set list (option_copied r) → IfSome r (λ v. All (λ w. set w ≡ true → beaten w v.now ≡ true) list)
+  best_beats list None h = tt
+  best_beats list (Some v) h = all_beaten list v.now h
+
+  best_none : (list : List VersionValue) (r : Option (Bor VersionValue)) → IsBest in_front behind set list (option_copied r) → IfNone r (All (λ w. set w ≡ false) list)
+  best_none list None h = All-weaker _ _ (λ w q. unset (set w) q) list (AllPass-from_list_all _ list h)
+    where
+      unset : (s : Bool) → not s ≡ true → s ≡ false
+      unset true h = cc
+      unset false h = refl
+  best_none list (Some v) h = tt
+
+le_of_lt : (r : Ordering) → is_lt r ≡ true → is_le r ≡ true
+le_of_lt Less h = refl
+le_of_lt Equal h = cc
+le_of_lt Greater h = cc
+
+tied_le : (v : VersionValue) → is_le (precedence v v) ≡ true
+tied_le v = ap is_le (tied_itself precedence_total v)
+
+pub max_beats : (set : VersionValue → Bool) (list : List VersionValue) (r : Option (Bor VersionValue)) → IsMax set list (option_copied r) → IfSome r (λ v. All (λ w. set w ≡ true → is_le (precedence w v.now) ≡ true) list)
+max_beats = best_beats _ _ (λ w v. is_le (precedence w v)) (λ w v h. h) (λ w v h. le_of_lt (precedence w v) h) tied_le
+
+pub min_beats : (set : VersionValue → Bool) (list : List VersionValue) (r : Option (Bor VersionValue)) → IsMin set list (option_copied r) → IfSome r (λ v. All (λ w. set w ≡ true → is_le (precedence v.now w) ≡ true) list)
+min_beats = best_beats _ _ (λ w v. is_le (precedence v w)) (λ w v h. le_of_lt (precedence v w) h) (λ w v h. h) tied_le
+
+pub max_none : (set : VersionValue → Bool) (list : List VersionValue) (r : Option (Bor VersionValue)) → IsMax set list (option_copied r) → IfNone r (All (λ w. set w ≡ false) list)
+max_none = best_none _ _ (λ w v. is_le (precedence w v)) (λ w v h. h) (λ w v h. le_of_lt (precedence w v) h) tied_le
+
+pub min_none : (set : VersionValue → Bool) (list : List VersionValue) (r : Option (Bor VersionValue)) → IsMin set list (option_copied r) → IfNone r (All (λ w. set w ≡ false) list)
+min_none = best_none _ _ (λ w v. is_le (precedence v w)) (λ w v h. le_of_lt (precedence v w) h) (λ w v h. h) tied_le

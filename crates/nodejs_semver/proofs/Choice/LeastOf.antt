@@ -1,5 +1,5 @@
 -- The first least version of a set among a list, which is the least of the set where each of its versions has one of the list below it.
-use Rattle.std.proofs.Common.{◌≡◌, ◌+◌, refl, sym, ◌∙◌, ap, subst, Bool, true, false, ◌&&◌, ◌||◌, not, List, [], ◌∷◌, ◌++◌, Option, Some, None, option_and_then, if◌then◌else◌, inl, inr, IfSome}
+use Rattle.std.proofs.Common.{◌≡◌, ◌+◌, refl, sym, ◌∙◌, ap, subst, Bool, true, false, ◌&&◌, ◌||◌, not, List, [], ◌∷◌, ◌++◌, Option, Some, None, option_and_then, if◌then◌else◌, inl, inr, IfSome, ◌<◌, length, get_or, drop, arith}
 use Rattle.std.specs.declared.cmp.Ordering.{Ordering}
 use Rattle.std.specs.declared.cmp.Ordering.TheVariants.{Less, Equal, Greater}
 use Rattle.std.specs.Ordering.{ordering_reverse, ordering_then, is_eq, is_lt, is_le, is_gt}
@@ -14,7 +14,8 @@ use Rattle.semver_core.proofs.CutLaws.{cut_total}
 use Rattle.semver_core.specs.Text.Identifiers.{Id, Numeric}
 use Rattle.semver_core.specs.Values.Order.{precedence}
 use Rattle.semver_core.specs.Internal.OrderLaws.{precedence_total}
-use Rattle.semver_core.specs.Values.Versions.{VersionValue, is_release}
+use Rattle.semver_core.specs.Values.Versions.{VersionValue, is_release, release_value}
+use Rattle.semver_core.proofs.Values.NextLaws.{first_of_all}
 use Rattle.nodejs_semver.specs.Ranges.Gate.{lets_in, accepts}
 use Rattle.semver_core.specs.Lists.{is_empty}
 use Rattle.nodejs_semver.specs.Ranges.Least.{IsLeastOf, all_accept, beyond, begins_with, build_by, least_build}
@@ -97,6 +98,22 @@ module _ (set : VersionValue → Bool) where
 -- the least candidate of the set is its least version
 pub least_among : (ks : List (Span VersionValue)) (kss : List (List (Span VersionValue))) (ls : List (Span VersionValue)) → IsLeastOf (among ks kss ls) (least_of (among ks kss ls) (candidates (ks ∷ kss) ls))
 least_among ks kss ls = least_named (among ks kss ls) (candidates (ks ∷ kss) ls) (λ v h. let (x, k) = candidate ks kss ls v h in (x, (k.found, k.inside, k.below)))
+
+-- of no lists it is the least version, and of one or more the least that the first and the others accept
+pub least_of_none : (lists : List (List (Span VersionValue))) (v : VersionValue) → length lists < 1 → v ≡ record (release_value 0 0 0) { pre_release = Numeric 0 ∷ [] } → IsLeastOf (all_accept lists) (Some v)
+least_of_none [] v n e = subst (λ (x : VersionValue). IsLeastOf (all_accept []) (Some x)) (sym e) (refl, λ w h. first_of_all w)
+least_of_none (ks ∷ kss) v n e = absurd (omega arith)
+
+pub least_of_lists : (lists : List (List (Span VersionValue))) (ks : List (Span VersionValue)) (r : Option VersionValue) → 0 < length lists → ks ≡ get_or lists 0 ks
+    → IsLeastOf (among ks (drop 1 lists) []) r → IsLeastOf (all_accept lists) r
+least_of_lists [] ks r n e h = absurd (omega arith)
+least_of_lists (first ∷ others) ks r n e h = subst (λ (set : VersionValue → Bool). IsLeastOf set r) (λ i v. same (all_accept others v) (accepts (e i) v false) i) h
+  where
+    same : (a b : Bool) → (a && (b && true)) ≡ (b && a)
+    same true true = refl
+    same true false = refl
+    same false true = refl
+    same false false = refl
 
 -- what the answer is, if all of the list and what was there before are so
 abbrev Has : (VersionValue → Type 0) → Option VersionValue → Type 0

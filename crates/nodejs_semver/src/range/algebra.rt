@@ -40,7 +40,16 @@ impl Range {
     /// allocation fails.
     ///
     /// Of equal lower bounds the other's is kept with its build, of equal upper bounds this
-    /// range's.
+    /// range's. The intersection may accept pre-releases that only one of the two ranges accepts,
+    /// since its bounds name them; for the smallest version that both accept, see `least_of_all`.
+    ///
+    /// ```rust
+    /// let one = Range::parse(alloc, ">=1.2.3-a")?;
+    /// let other = Range::parse(alloc, ">=1.0.0")?;
+    /// let both = one.intersect(alloc, &other)?;
+    /// // It accepts 1.2.3-a, which the second range does not accept.
+    /// assert_eq!(rt; both, Some(Range::parse(alloc, ">=1.2.3-a")?));
+    /// ```
     ///
     /// The list is not normalised: n intervals and m others make at most n times m intervals, and
     /// that many if all pairs meet. As measured, time grows with n times m, and memory with the
@@ -74,6 +83,13 @@ impl Range {
     /// A bound that comes from the other range carries that bound's build. Pre-releases that this
     /// range holds and does not accept may be accepted by the difference, whose bounds may name
     /// others; see `least_beyond`.
+    ///
+    /// ```rust
+    /// let one = Range::parse(alloc, "^1.2")?;
+    /// let other = Range::parse(alloc, "1.5.0")?;
+    /// let left = one.difference(alloc, &other)?;
+    /// assert_eq!(rt; left, Some(Range::parse(alloc, ">=1.2.0 <1.5.0 || >1.5.0 <2.0.0-0")?));
+    /// ```
     ///
     /// Each interval of this range is left in as many pieces as the other's have gaps in it: n
     /// intervals less m others make at most n times (m + 1) intervals. As measured, time grows with

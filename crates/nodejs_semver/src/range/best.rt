@@ -16,6 +16,12 @@ impl Range {
     ///
     /// Of equal versions, which differ in their builds alone, it is the last: `^1` chooses 1.2.0+b
     /// from 1.2.0+a and 1.2.0+b.
+    ///
+    /// ```rust
+    /// let range = Range::parse(alloc, "^1")?;
+    /// let versions = [Version::from((1u64, 2, 0)), Version::from((2u64, 0, 0))];
+    /// assert_eq!(rt; range.max_satisfying(&versions), Some(&versions[0]));
+    /// ```
     pub fn max_satisfying<'v>(&self, versions: &'v [Version]) -> Option<&'v Version>
         ensures best { IsMax (λ v. accepts self.now v false) versions.now (option_copied result) }
         // It is a version of the slice that the range accepts, and none that it accepts is above.
@@ -35,6 +41,12 @@ impl Range {
     /// where it accepts none.
     ///
     /// Of equal versions, which differ in their builds alone, it is the first.
+    ///
+    /// ```rust
+    /// let range = Range::parse(alloc, ">1.0.0")?;
+    /// let versions = [Version::from((1u64, 0, 0)), Version::from((1u64, 2, 0))];
+    /// assert_eq!(rt; range.min_satisfying(&versions), Some(&versions[1]));
+    /// ```
     pub fn min_satisfying<'v>(&self, versions: &'v [Version]) -> Option<&'v Version>
         ensures best { IsMin (λ v. accepts self.now v false) versions.now (option_copied result) }
         // It is a version of the slice that the range accepts, and none that it accepts is below.

@@ -36,6 +36,7 @@ impl Range {
     }
 }
 
+/// What `satisfies_with_prerelease` returns.
 impl Accepts for Range {
     ghost accepts = { accepts };
 

@@ -39,6 +39,12 @@ impl Range {
     /// equal results it is the one of the first interval.
     ///
     /// As measured, time grows at most with the square of the number of intervals.
+    ///
+    /// ```rust
+    /// let range = Range::parse(alloc, ">1.0.0 <1.0.1-5")?;
+    /// let smallest = range.min_version(alloc)?;
+    /// assert_eq!(rt; smallest, Some(Version::parse(alloc, "1.0.1-0")?));
+    /// ```
     #[tactic(auto, using(crate::proofs::Choice::Raised::raisable))]
     pub fn min_version(&self, alloc: Global) -> Result<Option<Version>, AllocError>
         ensures least { IfOk result (λ r. stated.IsLeastOf (λ v. accepts self.now v false) r) }
@@ -55,6 +61,13 @@ impl Range {
     /// 1.2.3-a, which the second range holds and does not accept.
     ///
     /// As measured, time grows at most with the square of the number of intervals of both ranges.
+    ///
+    /// ```rust
+    /// let wide = Range::parse(alloc, "^1")?;
+    /// let narrow = Range::parse(alloc, "^1.2")?;
+    /// assert_eq!(rt; wide.least_beyond(alloc, &narrow)?, Some(Version::from((1u64, 0, 0))));
+    /// assert_eq!(rt; narrow.least_beyond(alloc, &wide)?, None);
+    /// ```
     #[tactic(auto, using(crate::proofs::Choice::Raised::raisable))]
     pub fn least_beyond(&self, alloc: Global, other: &Range) -> Result<Option<Version>, AllocError>
         ensures least { IfOk result (λ r. stated.IsLeastOf (stated.beyond self.now other.now) r) }

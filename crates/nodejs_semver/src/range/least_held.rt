@@ -24,6 +24,14 @@ impl Range {
     /// `-0` of the next patch; and 0.0.0-0 without a lower bound.
     ///
     /// Time grows at most with the square of the number of intervals.
+    ///
+    /// ```rust
+    /// let range = Range::parse(alloc, ">1.0.0 <1.0.1-0")?;
+    /// assert_eq!(rt; range.min_version_with_prerelease(alloc)?, None);
+    /// let range = Range::parse(alloc, ">1.0.0")?;
+    /// let first = range.min_version_with_prerelease(alloc)?;
+    /// assert_eq!(rt; first, Some(Version::parse(alloc, "1.0.1-0")?));
+    /// ```
     #[tactic(auto, using(crate::proofs::Choice::Raised::raisable))]
     pub fn min_version_with_prerelease(&self, alloc: Global) -> Result<Option<Version>, AllocError>
         ensures least { IfOk result (λ r. stated.IsLeastOf (λ v. accepts self.now v true) r) }

@@ -17,6 +17,12 @@ impl Range {
     /// 1.2.3, while their intersection accepts 1.2.3-a, which the second range does not accept.
     ///
     /// Time grows at most with the square of the number of intervals of all ranges.
+    ///
+    /// ```rust
+    /// let ranges = [Range::parse(alloc, ">=1.2.3-a")?, Range::parse(alloc, ">=1.0.0")?];
+    /// let least = Range::least_of_all(alloc, &ranges)?;
+    /// assert_eq!(rt; least, Some(Version::from((1u64, 2, 3))));
+    /// ```
     #[tactic(auto, using(crate::proofs::Choice::Raised::raisable))]
     pub fn least_of_all(alloc: Global, ranges: &[Range]) -> Result<Option<Version>, AllocError>
         ensures least { IfOk result (λ r. stated.IsLeastOf (stated.all_accept ranges.now) r) }

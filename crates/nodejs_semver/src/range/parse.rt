@@ -25,6 +25,12 @@ impl Range {
     /// number above `MAX_SAFE_INTEGER` makes its word malformed, so that `>=9007199254740991.0.0
     /// <9007199254740992.0.0-0`, which `^9007199254740991` prints, reads as
     /// `>=9007199254740991.0.0`.
+    ///
+    /// ```rust
+    /// let range = Range::parse(alloc, "^1.2 || 3.0.0-rc.1")?;
+    /// assert_eq!(rt; range, Range::parse(alloc, ">=1.2.0 <2.0.0-0 || =v3.0.0-rc.1")?);
+    /// assert!(rt; Range::parse(alloc, "latest").is_err());
+    /// ```
     #[inline(always)]
     pub fn parse(alloc: Global, text: &str) -> Result<Range, Failure<SemverError>>
         // The intervals are those of the text, in order and with their builds.

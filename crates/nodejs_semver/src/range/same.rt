@@ -7,6 +7,7 @@ ghost use Rattle.nodejs_semver.specs.Internal.SameLaws.{range_equiv, range_alike
 use crate::Range;
 use std::hash::{Hash, Hasher};
 
+/// Equality of the lists of intervals.
 impl PartialEq for Range {
     ghost eq = { range_eq };
 
@@ -19,10 +20,12 @@ impl PartialEq for Range {
     }
 }
 
+/// Equality is reflexive, symmetric and transitive.
 impl Eq for Range {
     ghost laws = { range_equiv };
 }
 
+/// The intervals, so that equal ranges hash alike.
 impl Hash for Range {
     ghost hash_input = { range_writes };
 

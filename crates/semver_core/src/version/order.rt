@@ -23,7 +23,8 @@ fn cmp_pre(a: &[Identifier], b: &[Identifier]) -> Ordering
     }
 }
 
-/// Equal versions tie in the order.
+/// Equality of the three numbers and the pre-releases: versions are equal where they tie in the
+/// order.
 impl PartialEq for Version {
     ghost eq = { version_eq };
 
@@ -34,10 +35,12 @@ impl PartialEq for Version {
     }
 }
 
+/// Equality is reflexive, symmetric and transitive.
 impl Eq for Version {
     ghost laws = { eq_by_cmp_equiv precedence_total };
 }
 
+/// The order of `cmp`.
 impl PartialOrd for Version {
     ghost partial_cmp = { λ v w. Some (precedence v w) };
 
@@ -68,6 +71,7 @@ impl Ord for Version {
     }
 }
 
+/// The three numbers and the pre-release, so that equal versions hash alike.
 impl Hash for Version {
     ghost hash_input = { version_writes };
 

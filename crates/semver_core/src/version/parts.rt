@@ -139,8 +139,18 @@ impl Version {
     /// The version of three numbers and of the identifiers that two texts spell, joined by dots, as
     /// `rc.1`. An empty text spells none.
     ///
+    /// It requires that both texts spell lists, which `Identifier::is_list` tests.
+    ///
     /// Fails only if allocation fails. Two empty texts allocate nothing, and nor does the
     /// pre-release `0` alone.
+    ///
+    /// ```rust
+    /// let (pre_release, build) = (b"rc.1", b"exp");
+    /// if Identifier::is_list(pre_release) && Identifier::is_list(build) {
+    ///     let version = Version::from_texts(alloc, 1, 2, 3, pre_release, build)?;
+    ///     assert_eq!(rt; version, Version::parse(alloc, "1.2.3-rc.1+exp")?);
+    /// }
+    /// ```
     #[tactic(auto, using(crate::proofs::Text::Listed::listed_none))]
     #[inline(always)]
     pub fn from_texts(
@@ -207,6 +217,14 @@ impl Version {
     ///
     /// If allocation fails, the version is returned to the caller. A version without identifiers
     /// allocates nothing.
+    ///
+    /// ```rust
+    /// let version = Version::parse(alloc, "1.2.3-beta.1+exp")?;
+    /// match version.into_parts(alloc) {
+    ///     Ok(parts) => assert_eq!(rt; (parts.patch, parts.pre_release.len()), (3, 2)),
+    ///     Err(version) => assert!(rt; version.is_prerelease()),
+    /// }
+    /// ```
     pub fn into_parts(self, alloc: Global) -> Result<VersionParts, Version>
         ensures ok { IfOk result (λ p. parts_value p ≡ self) }
         ensures handed_back { IfErr result (λ v. v ≡ self) }
@@ -262,6 +280,7 @@ impl Version {
     }
 }
 
+/// A bound holds a version, in the order of versions.
 impl Point for Version {
     fn copy(&self, alloc: Global) -> Result<Version, AllocError> {
         Version::copy(self, alloc)

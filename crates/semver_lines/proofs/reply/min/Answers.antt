@@ -20,4 +20,4 @@ pub returns : goal.returns
 returns c =
     let first = c.in_ok-range.ensures c.args.r.now (c.parse-range.ensures.ok, c.parse-range.ensures.some, c.parse-range.ensures.refused) in
     let second = c.in_ok-versions.ensures in
-    read _ (first, second) (record { found = option_copied c.min_satisfying.result; is = rw c.deref.ensures.value at c.min_satisfying.ensures; printed = c.in_ok-version_or_none.ensures })
+    read _ (first, second) (record { found = option_copied c.min_satisfying.result; is = rw c.deref.ensures.value at c.min_satisfying.ensures.best; printed = c.in_ok-version_or_none.ensures })

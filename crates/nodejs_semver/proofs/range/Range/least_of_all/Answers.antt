@@ -1,17 +1,10 @@
-use Rattle.std.proofs.Common.{◌≡◌, refl, subst, Bool, true, false, ◌&&◌, [], ◌∷◌}
-use Rattle.nodejs_semver.specs.Ranges.Least.{IsLeastOf, all_accept}
-use Rattle.nodejs_semver.specs.Ranges.Gate.{accepts}
-use Rattle.semver_core.proofs.Values.NextLaws.{first_of_all}
+use Rattle.std.proofs.Common.{arith}
+use Rattle.nodejs_semver.proofs.Choice.LeastOf.{least_of_lists, least_of_none}
 use Rattle.nodejs_semver.proofs.range.Range.least_of_all.Goals as goal
 
-regrouped : (r a : Bool) → (r && (a && true)) ≡ (a && r)
-regrouped true true = refl
-regrouped true false = refl
-regrouped false true = refl
-regrouped false false = refl
-
 pub returns-in_ok-with_pre-in-empty-clause-least : goal.returns-in_ok-with_pre-in-empty-clause-least
-returns-in_ok-with_pre-in-empty-clause-least c = ?
+returns-in_ok-with_pre-in-empty-clause-least c = least_of_none c.args.ranges.now c.in_ok-with_pre-in-empty.field-0 (omega arith) c.in_ok-with_pre-in-empty.ensures.value
 
 pub returns-in_ok-least_among-in-len1-up-clause-least : goal.returns-in_ok-least_among-in-len1-up-clause-least
-returns-in_ok-least_among-in-len1-up-clause-least c = ?
+returns-in_ok-least_among-in-len1-up-clause-least c =
+    least_of_lists c.args.ranges.now c.intervals.result.now _ (omega arith) (rw c.intervals.ensures.value c.first-item.is) c.in_ok-least_among-in-len1-up.ensures.least
