@@ -269,17 +269,19 @@ module _ (in_front behind beaten : VersionValue → VersionValue → Bool) (fron
 
   all_beaten : (list : List VersionValue) (v : VersionValue) → Stands in_front behind set list v → All (λ w. set w ≡ true → beaten w v ≡ true) list
   all_beaten list v h =
-      All-same _ list (h.front ++ v ∷ h.back) h.divided
-      (All-append _ h.front (v ∷ h.back)
-      (All-weaker _ _ (λ w q. in_set_only (set w) (in_front w v) (beaten w v) (front w v) q) h.front (AllPass-from_list_all _ h.front h.before))
-      (All-cons _ v h.back (λ k. tied v) (All-weaker _ _ (λ w q. in_set_only (set w) (behind w v) (beaten w v) (back w v) q) h.back (AllPass-from_list_all _ h.back h.after))))
+      let Says : (VersionValue → VersionValue → Bool) → VersionValue → Type 0 = λ relation w. (not (set w) || relation w v) ≡ true in
+      let Beaten : VersionValue → Type 0 = λ w. set w ≡ true → beaten w v ≡ true in
+      All-same Beaten list (h.front ++ v ∷ h.back) h.divided
+      (All-append Beaten h.front (v ∷ h.back)
+      (All-weaker (Says in_front) Beaten (λ w q. in_set_only (set w) (in_front w v) (beaten w v) (front w v) q) h.front (AllPass-from_list_all _ h.front h.before))
+      (All-cons Beaten v h.back (λ k. tied v) (All-weaker (Says behind) Beaten (λ w q. in_set_only (set w) (behind w v) (beaten w v) (back w v) q) h.back (AllPass-from_list_all _ h.back h.after))))
 
   best_beats : (list : List VersionValue) (r : Option (Bor VersionValue)) → IsBest in_front behind set list (option_copied r) → IfSome r (λ v. All (λ w. set w ≡ true → beaten w v.now ≡ true) list)
   best_beats list None h = tt
   best_beats list (Some v) h = all_beaten list v.now h
 
   best_none : (list : List VersionValue) (r : Option (Bor VersionValue)) → IsBest in_front behind set list (option_copied r) → IfNone r (All (λ w. set w ≡ false) list)
-  best_none list None h = All-weaker _ _ (λ w q. unset (set w) q) list (AllPass-from_list_all _ list h)
+  best_none list None h = All-weaker (λ w. not (set w) ≡ true) (λ w. set w ≡ false) (λ w q. unset (set w) q) list (AllPass-from_list_all _ list h)
     where
       unset : (s : Bool) → not s ≡ true → s ≡ false
       unset true h = cc

@@ -1,11 +1,12 @@
 -- The first least version of a set among a list, which is the least of the set where each of its versions has one of the list below it.
-use Rattle.std.proofs.Common.{◌≡◌, ◌+◌, refl, sym, ◌∙◌, ap, subst, Bool, true, false, ◌&&◌, ◌||◌, not, List, [], ◌∷◌, ◌++◌, Option, Some, None, option_and_then, if◌then◌else◌, inl, inr, IfSome, ◌<◌, length, get_or, drop, arith}
+use Rattle.std.proofs.Common.{◌≡◌, ◌+◌, refl, sym, ◌∙◌, ap, subst, Bool, true, false, ◌&&◌, ◌||◌, not, List, [], ◌∷◌, ◌++◌, Option, Some, None, option_and_then, if◌then◌else◌, inl, inr, IfSome, ◌<◌, ◌-◌, length, get_or, take, drop, arith}
 use Rattle.std.specs.declared.cmp.Ordering.{Ordering}
 use Rattle.std.specs.declared.cmp.Ordering.TheVariants.{Less, Equal, Greater}
 use Rattle.std.specs.Ordering.{ordering_reverse, ordering_then, is_eq, is_lt, is_le, is_gt}
 use Rattle.std.specs.Cmp.{upto, tied_itself, alike_right}
 use Rattle.std.specs.List.{fold, flat_map, find, list_any, All}
 use Rattle.std.proofs.lemmas.List.Elements.{All-head, All-tail}
+use Rattle.std.proofs.lemmas.List.{take_rest}
 use Rattle.std.proofs.lemmas.Grind.{flat_map-append, fold-append}
 use Rattle.semver_core.specs.Cuts.{Span, Cut, Side, Start, Beside, End, Near, Far, is_past, holds, lower_cut, upper_cut}
 use Rattle.semver_core.specs.declared.cuts.bound.Bound.{Bound}
@@ -105,9 +106,10 @@ least_of_none [] v n e = subst (λ (x : VersionValue). IsLeastOf (all_accept [])
 least_of_none (ks ∷ kss) v n e = absurd (omega arith)
 
 pub least_of_lists : (lists : List (List (Span VersionValue))) (ks : List (Span VersionValue)) (r : Option VersionValue) → 0 < length lists → ks ≡ get_or lists 0 ks
-    → IsLeastOf (among ks (drop 1 lists) []) r → IsLeastOf (all_accept lists) r
+    → IsLeastOf (among ks (take (length lists - 1) (drop 1 lists)) []) r → IsLeastOf (all_accept lists) r
 least_of_lists [] ks r n e h = absurd (omega arith)
-least_of_lists (first ∷ others) ks r n e h = subst (λ (set : VersionValue → Bool). IsLeastOf set r) (λ i v. same (all_accept others v) (accepts (e i) v false) i) h
+least_of_lists (first ∷ others) ks r n e h = subst (λ (set : VersionValue → Bool). IsLeastOf set r) (λ i v. same (all_accept others v) (accepts (e i) v false) i)
+    (subst (λ (kss : List (List (Span VersionValue))). IsLeastOf (among ks kss []) r) (take_rest (first ∷ others) 1) h)
   where
     same : (a b : Bool) → (a && (b && true)) ≡ (b && a)
     same true true = refl
