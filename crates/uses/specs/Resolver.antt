@@ -4,7 +4,7 @@ use Rattle.std.specs.Option.{option_map_or}
 use Rattle.nodejs_semver.specs.Ranges.Gate.{accepts}
 use Rattle.uses.specs.declared.resolver.Requirement.{Requirement}
 use Rattle.uses.specs.declared.resolver.Release.{Release}
-use Rattle.uses.specs.declared.resolver.Package.{Package}
+use Rattle.std.specs.Global.{Vec}
 use Rattle.uses.specs.declared.resolver.Choice.{Choice}
 use Rattle.uses.specs.declared.resolver.Conflict.{Conflict}
 use Rattle.uses.specs.declared.resolver.Conflict.TheVariants.{Missing, Clash, TooMany, Memory}
@@ -18,17 +18,16 @@ abbrev pub IsSolution : List Requirement → List Choice → Type 0
 IsSolution root chosen = All (λ r. is_met chosen r ≡ true) root × All (λ c. All (λ r. is_met chosen r ≡ true) c.release.now.needs.items) chosen
 
 -- the releases of a package of the registry, none if it has no such package
-abbrev pub releases_of : List Package → ℕ → List Release
-releases_of registry package = option_map_or (λ p. p.releases.items) [] (slice_get registry package)
+abbrev pub releases_of : List (Vec Release) → ℕ → List Release
+releases_of registry package = option_map_or (λ releases. releases.items) [] (slice_get registry package)
 
 -- the choice is a release of the registry that its range accepts
-abbrev pub IsOf : List Package → Choice → Type 0
+abbrev pub IsOf : List (Vec Release) → Choice → Type 0
 IsOf registry c = Contains (releases_of registry c.package) c.release.now × (accepts c.range.now c.release.now.version false ≡ true)
 
--- no release of the package is accepted; the first range accepts one that the second rejects
-abbrev pub Explains : List Package → Conflict → Type 0
+-- no release of the package is accepted; or one that was chosen for its range is rejected by another
+abbrev pub Explains : List (Vec Release) → Conflict → Type 0
 Explains registry (Missing package range) = All (λ r. accepts range.now r.version false ≡ false) (releases_of registry package)
-Explains registry (Clash package first second) =
-    (r : Release) × Contains (releases_of registry package) r × (accepts first.now r.version false ≡ true) × (accepts second.now r.version false ≡ false)
+Explains registry (Clash choice range) = IsOf registry choice × (accepts range.now choice.release.now.version false ≡ false)
 Explains registry TooMany = ⊤
-Explains registry (Memory e) = ⊤
+Explains registry Memory = ⊤

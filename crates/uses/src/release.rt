@@ -4,7 +4,7 @@ ghost use Rattle.nodejs_semver.specs.Order.{precedence};
 ghost use Rattle.nodejs_semver.specs.Parsing.{Parses};
 ghost use Rattle.nodejs_semver.specs.Versions.{VersionValue};
 ghost use Rattle.std.specs.Ordering.{is_lt};
-ghost use Rattle.std.specs.Prelude.{◌≡◌, IfErr, IfOk, true};
+ghost use Rattle.std.specs.Prelude.{◌≡◌, IfErr, IfOk, MatchResult, false, true};
 ghost use Rattle.uses.specs.Release.{Explains};
 
 use nodejs_semver::{Failure, IncrementError, MAX_SAFE_INTEGER, Version};
@@ -21,7 +21,7 @@ pub enum Refusal {
     #[error("no next version: {0}")]
     NotIncremented(IncrementError),
     /// The next version by this word is not above the current one, as by `prerelease` with `alpha`
-    /// after `1.2.3-beta.0`.
+    /// after 1.2.3-beta.0.
     #[error("the next version would not be above the current one")]
     NotAbove,
     /// An allocation failed.
@@ -39,7 +39,8 @@ pub fn next(
 ) -> Result<Version, Refusal>
     ensures above { IfOk result (λ next. (v : VersionValue)
         × Parses MAX_SAFE_INTEGER current.now v × (is_lt (precedence v next) ≡ true)) }
-    ensures refused { IfErr result (Explains MAX_SAFE_INTEGER current.now word.now identifier.entry) }
+    ensures refused { IfErr result
+        (Explains MAX_SAFE_INTEGER current.now word.now identifier.entry) }
 {
     let version = match Version::parse(alloc, current) {
         Ok(version) => version,

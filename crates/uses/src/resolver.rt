@@ -1,85 +1,59 @@
 //! A resolver of dependencies over a registry in memory. It chooses releases one by one, each for a
 //! requirement that none of the chosen ones meets, and goes back where a choice leads to a clash.
 
-ghost use Rattle.nodejs_semver.specs.Ranges.Gate.{accepts};
-ghost use Rattle.std.specs.List.{find};
-ghost use Rattle.std.specs.Option.{option_copied};
-ghost use Rattle.std.specs.Prelude.{◌≡◌, ◌==◌, All, IfErr, IfNone, IfOk, IfSome, OnOk, false, true};
-ghost use Rattle.uses.specs.Resolver.{Explains, IsOf, IsSolution, is_met, releases_of};
+ghost use Rattle.std.specs.Prelude.{◌≡◌, ◌==◌, All, Contains, IfErr, IfNone, IfOk, IfSome};
+ghost use Rattle.std.specs.Prelude.{OnOk, false, find, true};
+ghost use Rattle.uses.specs.Resolver.{Explains, IsOf, IsSolution, is_met};
 
 use nodejs_semver::{Range, Version};
-use std::alloc::{AllocError, Global};
-use std::fmt;
+use std::alloc::Global;
+use thiserror::Error;
 
-/// A package, by its number in the registry, and the range of its versions that will do.
-#[derive(Drop)]
+/// What is required of a package, which is named by its number in the registry.
+#[derive(Debug, Drop)]
 pub struct Requirement {
-    /// The number of the package.
     pub package: usize,
-    /// The versions that will do.
     pub range: Range,
 }
 
-/// A version of a package, and what it requires of others.
-#[derive(Drop)]
+/// A version of a package, and what it needs of others.
+#[derive(Debug, Drop)]
 pub struct Release {
-    /// The version.
     pub version: Version,
-    /// What it requires.
     pub needs: Vec<Requirement>,
 }
 
-/// The releases of a package, those that are preferred first.
-#[derive(Drop)]
-pub struct Package {
-    /// The releases.
-    pub releases: Vec<Release>,
-}
-
 /// A release that was chosen for a package, and the range for which it was.
-#[derive(Clone, Copy)]
+#[derive(Clone, Copy, Debug)]
 pub struct Choice<'a> {
-    /// The number of the package.
     pub package: usize,
-    /// The release.
     pub release: &'a Release,
-    /// The range for which it was chosen.
     pub range: &'a Range,
 }
 
 /// Why a resolver returns no solution: what it met last.
-#[derive(Clone, Copy)]
+#[derive(Clone, Copy, Debug, Error)]
 pub enum Conflict<'a> {
     /// No release of the package is accepted by the range.
+    #[error("package {0}: no release satisfies {1}")]
     Missing(usize, &'a Range),
-    /// A release of the package was chosen for the first range, and the second one rejects it.
-    Clash(usize, &'a Range, &'a Range),
+    /// A release that was chosen for one range is rejected by this other range.
+    #[error("package {}: {} clashes with {}", .0.package, .0.range, .1)]
+    Clash(Choice<'a>, &'a Range),
     /// More packages would be needed than the caller allows.
+    #[error("too many packages")]
     TooMany,
     /// An allocation failed.
-    Memory(AllocError),
-}
-
-impl<'a> fmt::Display for Conflict<'a> {
-    fn fmt<W: fmt::Write>(&self, f: &mut fmt::Formatter<W>) -> fmt::Result {
-        match self {
-            Conflict::Missing(package, range) => {
-                write!(f, "package {package}: no release satisfies {range}")
-            }
-            Conflict::Clash(package, first, second) => {
-                write!(f, "package {package}: {first} clashes with {second}")
-            }
-            Conflict::TooMany => write!(f, "too many packages"),
-            Conflict::Memory(_) => write!(f, "out of memory"),
-        }
-    }
+    #[error("out of memory")]
+    Memory,
 }
 
 /// Releases of at most `limit` packages, so that each requirement of `root` and of each chosen
-/// release is met by the release that is chosen for its package.
+/// release is met by the release that is chosen for its package. The registry has the releases of
+/// each package, those that are preferred first.
 pub fn resolve<'a>(
     alloc: Global,
-    registry: &'a [Package],
+    registry: &'a [Vec<Release>],
     root: &'a [Requirement],
     limit: usize,
 ) -> Result<Vec<Choice<'a>>, Conflict<'a>>
@@ -94,7 +68,7 @@ pub fn resolve<'a>(
 
 // Extends the chosen releases to a solution by at most `left` more.
 fn search<'a>(
-    registry: &'a [Package],
+    registry: &'a [Vec<Release>],
     root: &'a [Requirement],
     chosen: &mut Vec<Choice<'a>>,
     left: usize,
@@ -109,13 +83,16 @@ fn search<'a>(
     };
     let (package, range) = (unmet.package, &unmet.range);
     if let Some(choice) = choice_for(chosen, package) {
-        return Err(Conflict::Clash(package, choice.range, range));
+        return Err(Conflict::Clash(choice, range));
     }
     if left == 0 {
         return Err(Conflict::TooMany);
     }
+    let Some(releases) = registry.get(package) else {
+        return Err(Conflict::Missing(package, range));
+    };
     let mut conflict = None;
-    for release in releases(registry, package) {
+    for release in releases {
         if range.satisfies(&release.version) {
             let choice = Choice {
                 package,
@@ -123,7 +100,7 @@ fn search<'a>(
                 range,
             };
             if chosen.push(choice).is_err() {
-                return Err(Conflict::Memory(AllocError));
+                return Err(Conflict::Memory);
             }
             match search(registry, root, chosen, left - 1) {
                 Ok(()) => return Ok(()),
@@ -135,21 +112,8 @@ fn search<'a>(
     Err(conflict.unwrap_or(Conflict::Missing(package, range)))
 }
 
-// The releases of a package: none if the registry has no package of this number.
-fn releases(registry: &[Package], package: usize) -> &[Release]
-    ensures { result.now ≡ releases_of registry.now package }
-{
-    match registry.get(package) {
-        Some(found) => &found.releases,
-        None => &[],
-    }
-}
-
 // The first requirement that no choice meets: of the root, and then of the chosen releases.
-fn first_unmet<'a>(
-    chosen: &[Choice<'a>],
-    root: &'a [Requirement],
-) -> Option<&'a Requirement>
+fn first_unmet<'a>(chosen: &[Choice<'a>], root: &'a [Requirement]) -> Option<&'a Requirement>
     ensures met { IfNone result (IsSolution root.now chosen.now) }
     ensures unmet { IfSome result (λ r. is_met chosen.now r.now ≡ false) }
 {
@@ -184,7 +148,8 @@ fn is_met(chosen: &[Choice], requirement: &Requirement) -> bool
 
 // The choice for a package.
 fn choice_for<'a>(chosen: &[Choice<'a>], package: usize) -> Option<Choice<'a>>
-    ensures { result ≡ find (λ c. c.package == package) chosen.now }
+    ensures found { result ≡ find (λ c. c.package == package) chosen.now }
+    ensures member { IfSome result (Contains chosen.now) }
 {
     chosen.iter().find(|choice| choice.package == package).copied()
 }

@@ -1,4 +1,4 @@
-// The examples of the documentation in the sources, each a test: `tools/readme --check` compares them.
+// The examples in the comments of the libraries: `tools/readme --check` compares them.
 
 use nodejs_semver::{Identifier, Range, Version, VersionDiff};
 use std::test::Fail;
