@@ -43,5 +43,8 @@ pub returns-clause-total : goal.returns-clause-total
 returns-clause-total c = λ v w. ap (λ r. is_le r || is_le (precedence w v)) (precedence_total.antisymm v w) ∙ one_way (precedence w v)
 
 pub returns-clause-tied : goal.returns-clause-tied
-returns-clause-tied c = λ v w. (same_key v w, λ e.
-    (λ i. precedence (record { major = e.0 i; minor = e.1 i; patch = e.2 i; pre_release = e.3 i; build = [] }) w) ∙ tied_itself precedence_total w)
+returns-clause-tied c = λ v w. (
+  same_key v w,
+  λ e.
+      (λ i. precedence (record { major = e.0 i; minor = e.1 i; patch = e.2 i; pre_release = e.3 i; build = [] }) w) ∙ tied_itself precedence_total w,
+)
