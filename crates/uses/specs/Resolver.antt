@@ -19,7 +19,7 @@ IsSolution root chosen = All (λ r. is_met chosen r ≡ true) root × All (λ c.
 
 -- the releases of a package of the registry, none if it has no such package
 abbrev pub releases_of : List (Vec Release) → ℕ → List Release
-releases_of registry package = option_map_or (λ releases. releases.items) [] (slice_get registry package)
+releases_of registry number = option_map_or (λ releases. releases.items) [] (slice_get registry number)
 
 -- the choice is a release of the registry that its range accepts
 abbrev pub IsOf : List (Vec Release) → Choice → Type 0
@@ -27,7 +27,7 @@ IsOf registry c = Contains (releases_of registry c.package) c.release.now × (ac
 
 -- no release of the package is accepted; or one that was chosen for its range is rejected by another
 abbrev pub Explains : List (Vec Release) → Conflict → Type 0
-Explains registry (Missing package range) = All (λ r. accepts range.now r.version false ≡ false) (releases_of registry package)
+Explains registry (Missing number range) = All (λ r. accepts range.now r.version false ≡ false) (releases_of registry number)
 Explains registry (Clash choice range) = IsOf registry choice × (accepts range.now choice.release.now.version false ≡ false)
 Explains registry TooMany = ⊤
 Explains registry Memory = ⊤

@@ -147,9 +147,9 @@ fn is_met(chosen: &[Choice], requirement: &Requirement) -> bool
 }
 
 // The choice for a package.
-fn choice_for<'a>(chosen: &[Choice<'a>], package: usize) -> Option<Choice<'a>>
-    ensures found { result ≡ find (λ c. c.package == package) chosen.now }
+fn choice_for<'a>(chosen: &[Choice<'a>], number: usize) -> Option<Choice<'a>>
+    ensures found { result ≡ find (λ c. c.package == number) chosen.now }
     ensures member { IfSome result (Contains chosen.now) }
 {
-    chosen.iter().find(|choice| choice.package == package).copied()
+    chosen.iter().find(|choice| choice.package == number).copied()
 }
