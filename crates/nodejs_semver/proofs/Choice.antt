@@ -1,5 +1,5 @@
 pub mod BestOf
-pub mod Keys
+pub mod Next
 pub mod LeastHeld
 pub mod LeastOf
 pub mod LeastPieces

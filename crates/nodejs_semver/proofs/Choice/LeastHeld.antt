@@ -1,8 +1,12 @@
 -- The least version that spans hold is the first past one of their lower cuts.
 use Rattle.std.proofs.Common.{◌≡◌, refl, sym, ◌∙◌, ap, subst, ℕ, ◌<◌, Bool, true, false, ◌&&◌, ◌||◌, not, List, [], ◌∷◌, length, map, inl, inr, if◌then◌else◌, Option, IfSome, arith}
+use Rattle.std.specs.declared.cmp.Ordering.{Ordering}
 use Rattle.std.specs.declared.cmp.Ordering.TheVariants.{Less, Equal, Greater}
 use Rattle.std.specs.Ordering.{ordering_then, is_le, is_gt}
-use Rattle.std.specs.Cmp.{tied_itself}
+use Rattle.std.proofs.lemmas.Bool.{and_from, cond_both, or_cases, or_left, or_right}
+use Rattle.std.proofs.lemmas.List.Elements.{All-cons, All-nil}
+use Rattle.std.specs.List.{All, list_any}
+use Rattle.std.specs.Cmp.{first_so, tied_itself}
 use Rattle.semver_core.specs.Cuts.{Span, holds, Near, Far, is_past, lower_cut, upper_cut}
 use Rattle.semver_core.specs.declared.cuts.bound.Bound.{Bound}
 use Rattle.semver_core.specs.declared.cuts.bound.Bound.TheVariants.{Unbounded, Before, After}
@@ -12,13 +16,20 @@ use Rattle.semver_core.specs.Internal.OrderLaws.{precedence_total}
 use Rattle.semver_core.specs.Values.Versions.{VersionValue, is_release}
 use Rattle.semver_core.specs.Lists.{is_empty}
 use Rattle.semver_core.specs.Internal.Successors.{above_patch}
+use Rattle.semver_core.proofs.CutLaws.{tells}
 use Rattle.semver_core.proofs.Values.NextLaws.{first_of_all, least_after_pre_release, least_after_release}
 use Rattle.nodejs_semver.specs.Ranges.Gate.{accepts}
 use Rattle.nodejs_semver.specs.Ranges.Least.{IsLeastOf}
 use Rattle.nodejs_semver.specs.Internal.Candidates.{first_pre, pre_after, patch_after, first_past, least_of}
-use Rattle.nodejs_semver.proofs.Choice.Keys.{empty_is, far_less, le_not_gt, next_patch_above, next_pre_above, past_not_gt}
-use Rattle.nodejs_semver.proofs.Choice.LeastPieces.{In, Each, past_up, and_left, or_true}
+use Rattle.nodejs_semver.proofs.Algebra.Gate.{past_order}
+use Rattle.nodejs_semver.proofs.Choice.Next.{empty_is, next_pre_above}
+use Rattle.nodejs_semver.proofs.Choice.LeastPieces.{far_less, past_up}
 use Rattle.nodejs_semver.proofs.Choice.LeastOf.{least_named, list_bare}
+
+le_not_gt : (r : Ordering) → is_le r ≡ true → is_gt r ≡ false
+le_not_gt Less h = refl
+le_not_gt Equal h = refl
+le_not_gt Greater h = cc
 
 -- the first version past a lower cut is past it, and not above any that is
 some_in : (xs : List Id) → is_empty xs ≡ false → 0 < length xs
@@ -39,12 +50,12 @@ past_lower (After w) = by_kind (is_release w) refl
 
 least_past : (b : Bound VersionValue) (v : VersionValue) → is_past precedence (lower_cut b) v ≡ true → is_gt (precedence (first_past b) v) ≡ false
 least_past Unbounded v h = le_not_gt _ (first_of_all v)
-least_past (Before w) v h = past_not_gt (precedence w v) Equal h
+least_past (Before w) v h = past_order w v Near h
 least_past (After w) v h = by_kind (is_release w) refl
   where
     by_kind : (r : Bool) → is_release w ≡ r → is_gt (precedence (if r then first_pre (patch_after w) else pre_after w) v) ≡ false
-    by_kind true k = le_not_gt _ (least_after_release w v (empty_is w.pre_release k) (far_less (precedence w v) h))
-    by_kind false k = le_not_gt _ (least_after_pre_release w v (some_in w.pre_release k) (far_less (precedence w v) h))
+    by_kind true k = le_not_gt _ (least_after_release w v (empty_is w.pre_release k) (far_less w v h))
+    by_kind false k = le_not_gt _ (least_after_pre_release w v (some_in w.pre_release k) (far_less w v h))
 
 -- the first version past the lower cut of a span that holds v is held as well
 held : (a b c d : Bool) → c ≡ true → (d ≡ true → b ≡ true) → (a && not b) ≡ true → (c && not d) ≡ true
@@ -54,46 +65,47 @@ held true false c false e f h = ap (λ q. q && true) e
 held false b c d e f h = cc
 
 least_in : (s : Span VersionValue) (v : VersionValue) → holds precedence s v ≡ true → is_gt (precedence (first_past s.lower) v) ≡ false
-least_in s v h = least_past s.lower v (and_left (is_past precedence (lower_cut s.lower) v) (not (is_past precedence (upper_cut s.upper) v)) h)
+least_in s v h = least_past s.lower v (first_so (is_past precedence (lower_cut s.lower) v) (not (is_past precedence (upper_cut s.upper) v)) h)
 
 first_held : (s : Span VersionValue) (v : VersionValue) → holds precedence s v ≡ true → holds precedence s (first_past s.lower) ≡ true
 first_held s v h =
     held (is_past precedence (lower_cut s.lower) v) (is_past precedence (upper_cut s.upper) v) (is_past precedence (lower_cut s.lower) (first_past s.lower)) (is_past precedence (upper_cut s.upper) (first_past s.lower))
     (past_lower s.lower)
-    (past_up precedence_total v (upper_cut s.upper) (first_past s.lower) (least_in s v h))
+    (past_up v (first_past s.lower) (least_in s v h) (upper_cut s.upper))
     h
 
 abbrev pub firsts_past : List (Span VersionValue) → List VersionValue
 firsts_past ss = map (λ s. first_past s.lower) ss
 
--- whatever is held, a first version that is not above it is held too
-candidate : (ss : List (Span VersionValue)) (v : VersionValue) → accepts ss v true ≡ true → (x : VersionValue) × (In x (firsts_past ss) × (accepts ss x true ≡ true) × (is_gt (precedence x v) ≡ false))
-candidate [] v h = cc
-candidate (s ∷ ss) v h = by_test (holds precedence s v) refl h (candidate ss v)
-  where
-    by_test : (p : Bool) → holds precedence s v ≡ p → ((p && true) || accepts ss v true) ≡ true
-        → (accepts ss v true ≡ true → (x : VersionValue) × (In x (firsts_past ss) × (accepts ss x true ≡ true) × (is_gt (precedence x v) ≡ false)))
-        → (x : VersionValue) × (In x (firsts_past (s ∷ ss)) × (accepts (s ∷ ss) x true ≡ true) × (is_gt (precedence x v) ≡ false))
-    by_test true e h f =
-        (first_past s.lower, (inl refl, ap (λ q. (q && true) || accepts ss (first_past s.lower) true) (first_held s v e), least_in s v e))
-    by_test false e h f = let (x, k) = f h in (x, (inr k.0, or_true (holds precedence s x && true) (accepts ss x true) k.1, k.2))
+-- whatever the spans hold, a first version that is not above it is in every set that has what they hold
+candidate : (set : VersionValue → Bool) (ss : List (Span VersionValue)) (v : VersionValue)
+    → ((x : VersionValue) → accepts ss x true ≡ true → set x ≡ true) → accepts ss v true ≡ true
+    → list_any (λ x. set x && is_le (precedence x v)) (firsts_past ss) ≡ true
+candidate set [] v f h = cc
+candidate set (s ∷ ss) v f h = elim (or_cases (holds precedence s v && true) (accepts ss v true) h) [
+  | inl k ↦
+      let x = first_past s.lower in
+      let held_v = first_so (holds precedence s v) true k in
+      or_left (set x && is_le (precedence x v)) _ (and_from (set x) (is_le (precedence x v))
+      (f x (or_left (holds precedence s x && true) (accepts ss x true) (ap (λ q. q && true) (first_held s v held_v))))
+      ((tells (precedence x v)).0 ∙ ap not (least_in s v held_v)))
+  | inr k ↦
+      or_right (set (first_past s.lower) && is_le (precedence (first_past s.lower) v)) _
+      (candidate set ss v (λ x e. f x (or_right (holds precedence s x && true) (accepts ss x true) e)) k)
+]
 
 -- the least first version that is held is the least version that is held, and it has no build
 pub least_held : (ss : List (Span VersionValue)) → IsLeastOf (λ v. accepts ss v true) (least_of (λ v. accepts ss v true) (firsts_past ss))
-least_held ss = least_named (λ v. accepts ss v true) (firsts_past ss) (candidate ss)
+least_held ss = least_named (λ v. accepts ss v true) (firsts_past ss) (λ v h. candidate (λ v. accepts ss v true) ss v (λ x e. e) h)
 
 past_bare : (b : Bound VersionValue) → (first_past b).build ≡ []
 past_bare Unbounded = refl
 past_bare (Before w) = refl
-past_bare (After w) = by_kind (is_release w)
-  where
-    by_kind : (r : Bool) → (if r then first_pre (patch_after w) else pre_after w).build ≡ []
-    by_kind true = refl
-    by_kind false = refl
+past_bare (After w) = cond_both (is_release w) (first_pre (patch_after w)) (pre_after w) (λ x. x.build ≡ []) (λ _. refl) (λ _. refl)
 
-all_bare : (ss : List (Span VersionValue)) → Each (λ v. v.build ≡ []) (firsts_past ss)
-all_bare [] = tt
-all_bare (s ∷ ss) = (past_bare s.lower, all_bare ss)
+bare_firsts : (ss : List (Span VersionValue)) → All (λ v. v.build ≡ []) (firsts_past ss)
+bare_firsts [] = All-nil (λ v. v.build ≡ [])
+bare_firsts (s ∷ ss) = All-cons (λ v. v.build ≡ []) (first_past s.lower) (firsts_past ss) (past_bare s.lower) (bare_firsts ss)
 
 pub held_bare : (ss : List (Span VersionValue)) (r : Option VersionValue) → r ≡ least_of (λ v. accepts ss v true) (firsts_past ss) → IfSome r (λ v. v.build ≡ [])
-held_bare ss r e = list_bare (λ v. accepts ss v true) (firsts_past ss) r (all_bare ss) e
+held_bare ss r e = list_bare (λ v. accepts ss v true) (firsts_past ss) r (bare_firsts ss) e
