@@ -1,5 +1,6 @@
 // The examples in the comments of the libraries: `tools/readme --check` compares them.
 
+use nodejs_semver::diagnosis::{Expected, VersionFlaw, version_flaw};
 use nodejs_semver::{Identifier, Range, Version, VersionDiff};
 use std::test::Fail;
 
@@ -136,5 +137,14 @@ fn min_version_with_prerelease(rt: HostRuntime) -> Result<(), Fail> {
     let range = Range::parse(alloc, ">1.0.0")?;
     let first = range.min_version_with_prerelease(alloc)?;
     assert_eq!(rt; first, Some(Version::parse(alloc, "1.0.1-0")?));
+    Ok(())
+}
+
+#[test]
+fn version_flaws(rt: HostRuntime) -> Result<(), Fail> {
+    assert_eq!(rt; version_flaw("1.2.3-rc.1"), None);
+    assert_eq!(rt; version_flaw("5.0.0.9 oops"), Some(VersionFlaw::Ignored { at: 5 }));
+    let digit = Expected::Digit;
+    assert_eq!(rt; version_flaw("1.x"), Some(VersionFlaw::Expected { what: digit, at: 2 }));
     Ok(())
 }
