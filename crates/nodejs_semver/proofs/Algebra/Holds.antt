@@ -20,7 +20,7 @@ use Rattle.semver_core.specs.Internal.Spaces.{trim}
 use Rattle.semver_core.specs.Lists.{is_empty, if_any}
 use Rattle.nodejs_semver.specs.Text.WrittenSet.{part_writes, run_writes, writes}
 use Rattle.nodejs_semver.proofs.Dividing.BarsDivide.{bars_divide}
-use Rattle.nodejs_semver.proofs.Reading.IdentifierLists.{and-left}
+use Rattle.nodejs_semver.proofs.Reading.Steps.{and-left}
 use Rattle.nodejs_semver.proofs.Dividing.RunLemmas.{run-holds}
 
 any-append : {A : Type 0} (p : A → Bool) (xs ys : List A) → list_any p (xs ++ ys) ≡ (list_any p xs || list_any p ys)

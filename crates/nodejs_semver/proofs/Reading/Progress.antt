@@ -8,8 +8,8 @@ use Rattle.nodejs_semver.specs.Internal.Words.{Reading, Sign, after_some_space, 
 use Rattle.nodejs_semver.specs.Internal.Fronts.{after_byte, component_front, dotted_front, drop_v, minor_front, partial_front}
 use Rattle.semver_core.specs.Internal.Reading.{◌>>?◌}
 use Rattle.nodejs_semver.specs.Text.PartialText.{Partial}
-use Rattle.nodejs_semver.proofs.Reading.Pieces.{bind-some}
-use Rattle.nodejs_semver.proofs.Reading.Components.{component-shorter, minor_front-le, second-same}
+use Rattle.nodejs_semver.proofs.Reading.Steps.{bind-some, inside, second-same}
+use Rattle.nodejs_semver.proofs.Reading.Components.{component-shorter, minor_front-le}
 use Rattle.semver_core.proofs.Text.Spaces.{after_spaces-end, drop_spaces-none, space_len-nil}
 
 pub spaces-le : (text : List ℕ) → length (drop_spaces text) ≤ length text
@@ -36,22 +36,16 @@ partial-shorter limit text x r h =
 
 some-space-le : (text r : List ℕ) → after_some_space text ≡ Some r → length r ≤ length text
 some-space-le text r h = elim (cases_Bool (nat_lt 0 (space_len text))) [
-  | inl some ↦ let e : drop_spaces text ≡ r = inside (drop_spaces text) r (rw some at h) in omega (arith, ap length e, spaces-le text)
+  | inl some ↦ let e : drop_spaces text ≡ r = inside (rw some at h) in omega (arith, ap length e, spaces-le text)
   | inr none ↦ cc (rw none at h)
 ]
-  where
-    inside : (s r : List ℕ) → Some s ≡ Some r → s ≡ r
-    inside s r k = cc k
 
 byte-le : (c : ℕ) (text r : List ℕ) → after_byte c text ≡ Some r → length r ≤ length text
 byte-le c [] r h = cc h
 byte-le c (b ∷ text) r h = elim (cases_Bool (b == c)) [
-  | inl same ↦ let e : text ≡ r = inside text r (rw same at h) in omega (arith, ap length e)
+  | inl same ↦ let e : text ≡ r = inside (rw same at h) in omega (arith, ap length e)
   | inr other ↦ cc (rw other at h)
 ]
-  where
-    inside : (s r : List ℕ) → Some s ≡ Some r → s ≡ r
-    inside s r k = cc k
 
 boundary-same : (w x : Word) (rest r : List ℕ) → at_boundary w rest ≡ Some (x, r) → rest ≡ r
 boundary-same w x rest r h = elim (cases_Bool (is_boundary rest)) [

@@ -18,10 +18,8 @@ use Rattle.semver_core.specs.Internal.Reading.{◌>>?◌}
 use Rattle.nodejs_semver.specs.Text.LongestText.{IsLongestPartial}
 use Rattle.nodejs_semver.specs.Text.WordText.{IsBehind, IsBoundary, IsFirstBoundary, IsForm, IsHyphen, IsSign, IsWhole, IsWordAt, SkipsBlank, above_sign, at_least_sign, at_most_sign, below_sign, caret_form, compare_form, equal_sign, formed, hyphen_form, no_form, plain_form, tilde_form, tilde_greater_form, Comparator, Word, above, at_least, at_most, below, caret, compare, equal, hyphen, malformed, plain, tilde}
 use Rattle.nodejs_semver.proofs.Reading.Boundaries.{from_boundary-nil, from_boundary-stop}
-use Rattle.nodejs_semver.proofs.Reading.Components.{second-same}
-use Rattle.nodejs_semver.proofs.Reading.NumberFront.{option-cases}
-use Rattle.nodejs_semver.proofs.Reading.PartialLaw.{inside, longest_are, spaced}
-use Rattle.nodejs_semver.proofs.Reading.Pieces.{bind-some}
+use Rattle.nodejs_semver.proofs.Reading.PartialLaw.{longest_are, spaced}
+use Rattle.nodejs_semver.proofs.Reading.Steps.{bind-some, inside, option-cases, second-same}
 use Rattle.nodejs_semver.proofs.Reading.Progress.{spaces-gone}
 use Rattle.nodejs_semver.proofs.Dividing.Trimmed.{dark-starts}
 

@@ -8,17 +8,13 @@ use Rattle.nodejs_semver.specs.Internal.CommonFronts.{bare_front, unbuilt}
 use Rattle.nodejs_semver.specs.Internal.Fronts.{component_front, dotted_front, Front, minor_front, partial_front}
 use Rattle.nodejs_semver.specs.Text.Common.{IsBare}
 use Rattle.nodejs_semver.specs.Text.PartialText.{Partial}
-use Rattle.nodejs_semver.proofs.Reading.Components.{Read, begins_component, components-begin, components-read, components-then}
-use Rattle.nodejs_semver.proofs.Reading.PartialLaw.{front-exact, inside}
-use Rattle.nodejs_semver.proofs.Reading.Pieces.{bind-some}
+use Rattle.nodejs_semver.proofs.Reading.Bytes.{begins_component}
+use Rattle.nodejs_semver.proofs.Reading.Components.{Read, components-begin, components-read, components-then}
+use Rattle.nodejs_semver.proofs.Reading.Steps.{bind-some, inside}
 use Rattle.nodejs_semver.proofs.Reading.Quiet.{Stop, quiet-before}
 
 pub bare-begins : (limit : ℕ) (x : List ℕ) (p : Partial) → IsBare limit x p → begins_component x ≡ true
 bare-begins limit x p h = components-begin limit x p h.components
-
--- it is the longest one
-pub longest-exact : (limit : ℕ) (x more : List ℕ) (p : Partial) → IsBare limit x p → Stop more → partial_front limit (x ++ more) ≡ Some (p, more)
-longest-exact limit x more p h stop = front-exact limit x more p h.components stop
 
 -- it is read at the front
 pub bare-exact : (limit : ℕ) (x more : List ℕ) (p : Partial) → IsBare limit x p → Stop more → bare_front limit (x ++ more) ≡ Some (p, more)
