@@ -170,10 +170,6 @@ part-is rest (Some a) s more h =
     let e : (a, rest) ≡ (s, more) = inside h in
     (ap (λ (x : Span VersionValue × List ℕ). Some x.0) e, ap (λ (x : Span VersionValue × List ℕ). x.1) e)
 
-read-exact : (limit : ℕ) (read : Front Word) (w : Word) (more : List ℕ) (s : Span VersionValue) → read ≡ Some (w, more) → table limit w ≡ Some s
-    → word_read limit read ≡ Some (s, more)
-read-exact limit read w more s h k = rw (h, k) refl
-
 read-sound : (limit : ℕ) (read : Front Word) (s : Span VersionValue) (more : List ℕ) → word_read limit read ≡ Some (s, more)
     → (w : Word) × (read ≡ Some (w, more)) × (table limit w ≡ Some s)
 read-sound limit read s more h =
@@ -200,14 +196,6 @@ sign-part : (limit b : ℕ) (rest : List ℕ) → is_sign b ≡ true → part_fr
 unfolding part_front
 sign-part limit b rest h = rw h refl
 
-tilde-part : (limit : ℕ) (rest : List ℕ) → part_front limit (126 ∷ rest) ≡ word_read limit (tilde_front limit rest)
-unfolding part_front
-tilde-part limit rest = refl
-
-caret-part : (limit : ℕ) (rest : List ℕ) → part_front limit (94 ∷ rest) ≡ word_read limit (caret_front limit rest)
-unfolding part_front
-caret-part limit rest = refl
-
 other-part : (limit b : ℕ) (rest : List ℕ) → is_sign b ≡ false → (b == 126) ≡ false → (b == 94) ≡ false → part_front limit (b ∷ rest) ≡ word_read limit (partials_front limit (b ∷ rest))
 unfolding part_front
 other-part limit b rest h k m = rw (h, k, m) refl
@@ -229,25 +217,21 @@ comparisons-part limit (b ∷ rest) h = sign-part limit b rest h
 
 word-exact : (limit : ℕ) (x : List ℕ) (w : Word) (s : Span VersionValue) (more : List ℕ) → IsCommonWord limit x w → table limit w ≡ Some s → Ends more
     → part_front limit (x ++ more) ≡ Some (s, more)
+unfolding part_front
 word-exact limit x w s more (plain_word text p h) bounds e =
-    partials-part limit (text ++ more) (begins-on is_component_byte text more (bare-begins limit text p h))
-    ∙ read-exact limit (partials_front limit (text ++ more)) (plain p) more s (plain-exact limit text more p h e.stop e.dash) bounds
+    let begins = begins-on is_component_byte text more (bare-begins limit text p h) in
+    partials-part limit (text ++ more) begins ∙ rw (plain-exact limit text more p h e.stop e.dash, bounds) refl
 word-exact limit x w s more (compare_word text word is) bounds e =
     comparisons-part limit (text ++ more) (begins-on is_sign text more (comparison-begins limit text word is))
-    ∙ one-comparison limit (text ++ more) s more
-    (read-exact limit (comparison_front limit (text ++ more)) word more s (comparison-exact limit text word more is e.stop) bounds) e.second
-word-exact limit x w s more (tilde_word text p h) bounds e =
-    tilde-part limit (text ++ more) ∙ read-exact limit (tilde_front limit (text ++ more)) (tilde false p) more s (tilde-exact limit text more p h e.stop) bounds
-word-exact limit x w s more (tilde_greater_word text p h) bounds e =
-    tilde-part limit (62 ∷ (text ++ more))
-    ∙ read-exact limit (tilde_front limit (62 ∷ (text ++ more))) (tilde true p) more s (tilde-greater-exact limit text more p h e.stop) bounds
-word-exact limit x w s more (caret_word text p h) bounds e =
-    caret-part limit (text ++ more) ∙ read-exact limit (caret_front limit (text ++ more)) (caret p) more s (caret-exact limit text more p h e.stop) bounds
+    ∙ one-comparison limit (text ++ more) s more (rw (comparison-exact limit text word more is e.stop, bounds) refl) e.second
+word-exact limit x w s more (tilde_word text p h) bounds e = rw (tilde-exact limit text more p h e.stop, bounds) refl
+word-exact limit x w s more (tilde_greater_word text p h) bounds e = rw (tilde-greater-exact limit text more p h e.stop, bounds) refl
+word-exact limit x w s more (caret_word text p h) bounds e = rw (caret-exact limit text more p h e.stop, bounds) refl
 word-exact limit x w s more (hyphen_word first second p q h k) bounds e =
     let behind = 32 ∷ 45 ∷ 32 ∷ (second ++ more) in
     ap (λ (t : List ℕ). part_front limit t) (append_assoc first (32 ∷ 45 ∷ 32 ∷ second) more)
     ∙ (partials-part limit (first ++ behind) (begins-on is_component_byte first behind (bare-begins limit first p h))
-    ∙ read-exact limit (partials_front limit (first ++ behind)) (hyphen p q) more s (hyphen-exact limit first second more p q h k e.stop) bounds)
+    ∙ rw (hyphen-exact limit first second more p q h k e.stop, bounds) refl)
 
 -- a part that ends there is read whole
 pub part-exact : (limit : ℕ) (x : List ℕ) (s : Span VersionValue) (more : List ℕ) → IsCommonPart limit x s → Ends more → part_front limit (x ++ more) ≡ Some (s, more)
@@ -258,10 +242,8 @@ part-exact limit x s more (two_comparisons u v a b c d both is other h k m) e =
     ap (λ (t : List ℕ). part_front limit t) (append_assoc u (32 ∷ v) more)
     ∙ (comparisons-part limit (u ++ behind) (begins-on is_sign u behind (comparison-begins limit u a is))
     ∙ two-comparisons limit (u ++ behind) c d both (v ++ more) more
-    (read-exact limit (comparison_front limit (u ++ behind)) a behind c (comparison-exact limit u a behind is (stop-space (v ++ more))) h)
-    second
-    (read-exact limit (comparison_front limit (v ++ more)) b more d (comparison-exact limit v b more other e.stop) k)
-    m)
+    (rw (comparison-exact limit u a behind is (stop-space (v ++ more)), h) refl) second
+    (rw (comparison-exact limit v b more other e.stop, k) refl) m)
 
 -- a part at the front
 abbrev pub Parted : ℕ → List ℕ → Span VersionValue → List ℕ → Type 0
