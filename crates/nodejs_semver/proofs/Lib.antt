@@ -1,7 +1,7 @@
 pub mod Algebra
 pub mod Bounds
 pub mod Choice
-pub mod Common
+pub mod Everyday
 pub mod Dividing
 pub mod Printing
 pub mod Reading
