@@ -27,9 +27,6 @@ past_other text i lt e = rw (drop-cons text i 0 lt, e) refl
 past_end : (text : List ℕ) (i : ℕ) → length text ≤ i → past 46 text i ≡ None
 past_end text i le = rw (drop_all i text le) refl
 
-ended_none : (v : ℕ) → digits_end v 0 ≡ None
-ended_none v = refl
-
 ended_some : (v at i : ℕ) → at < i → placed at (digits_end v (i - at)) ≡ Some (v, i)
 ended_some v at i lt = grind (arith, nat_tests)
 

@@ -2,7 +2,7 @@
 use Rattle.std.proofs.Common.{◌≡◌, ◌==◌, ◌<◌, ◌+◌, ℕ, Bool, true, false, List, [], ◌∷◌, ◌++◌, length, drop, take, Option, Some, None, refl, sym, ap, ◌∙◌, subst, arith, inl, inr, eqb, cond, append_assoc, add-zero}
 use Rattle.std.proofs.lemmas.Bool.{cases_Bool, eqb-true}
 use Rattle.semver_core.specs.Text.Characters.{begins, is_identifier_char, IsBlank}
-use Rattle.semver_core.specs.Text.VersionText.{HasNoVersion, HasOneReading, HasVersionWithIdentifiers, IsMark, IsPreRelease, IsBuild, Reads, begins_pre_release, begins_build}
+use Rattle.semver_core.specs.Text.VersionText.{HasNoVersion, HasVersionWithIdentifiers, IsMark, IsPreRelease, IsBuild, Reads, begins_pre_release, begins_build}
 use Rattle.semver_core.specs.Text.VersionText.{dashed, bare, no_pre_release, plus, no_build, no_mark, small_mark, capital_mark}
 use borrow.Author.Tests.{eq-eqb}
 use Rattle.std.specs.Option.{IsSomeAnd, IfSome, IfNone}
@@ -19,6 +19,7 @@ use Rattle.semver_core.specs.Text.Characters.{is_whitespace, BeginsBlank, IsAfte
 use Rattle.semver_core.specs.Text.Identifiers.{Id}
 use Rattle.semver_core.specs.Text.Numbers.{IsNumber, IsWholeNumber}
 use Rattle.semver_core.specs.Internal.Reading.{◌>>?◌, list_of, list_len, number_at, list_at, past, triple_at, or_nothing, pre_release_at, build_at, qualified, version_at, mark_len}
+use Rattle.semver_core.specs.Internal.Reading.{HasOneReading}
 use Rattle.semver_core.specs.Values.Versions.{VersionValue, HasIdentifiers}
 use Rattle.semver_core.proofs.Text.Pieces.{some_inside, rest_at, number_sound, number_complete, list_sound, list_complete, list_none, runs_begin}
 use Rattle.semver_core.proofs.Text.Runs.{drop_next}

@@ -9,9 +9,10 @@ use Rattle.std.specs.Option.{IsSomeAnd, IfSome, IfNone}
 use Rattle.semver_core.specs.Text.Characters.{begins, is_identifier_char, IsBlank}
 use Rattle.semver_core.specs.Text.Common.{IsCommon, IsUncommon}
 use Rattle.semver_core.specs.Internal.CommonReading.{small_len, at_end, whole_at, common_of}
-use Rattle.semver_core.specs.Text.VersionText.{HasVersionWithIdentifiers, HasNoVersion, HasOneReading, begins_pre_release, IsMark, Reads, begins_build, no_mark, small_mark, capital_mark}
+use Rattle.semver_core.specs.Text.VersionText.{HasVersionWithIdentifiers, HasNoVersion, begins_pre_release, IsMark, Reads, begins_build, no_mark, small_mark, capital_mark}
 use Rattle.semver_core.specs.Text.Identifiers.{Id}
 use Rattle.semver_core.specs.Internal.Reading.{triple_at, pre_release_at, build_at, lists_at, qualified, version_at}
+use Rattle.semver_core.specs.Internal.Reading.{HasOneReading}
 use Rattle.semver_core.specs.Values.Versions.{VersionValue, HasIdentifiers}
 use Rattle.semver_core.proofs.Text.Pieces.{some_inside}
 use Rattle.semver_core.proofs.Text.Texts.{rest_of, divided_at, bind_some, triple_complete, pre_complete, none_build, build_complete, number_begins, pick, none_pre, version_sound}
@@ -19,10 +20,6 @@ use Rattle.semver_core.proofs.Text.Texts.{rest_of, divided_at, bind_some, triple
 at_end_some : {A : Type 0} (rest : List ℕ) (x y : A) → at_end rest x ≡ Some y → (rest ≡ []) × (x ≡ y)
 at_end_some [] x y e = (refl, some_inside x y e)
 at_end_some (c ∷ rest) x y e = cc
-
-at_end_is : {A : Type 0} (rest : List ℕ) (x : A) → rest ≡ [] → at_end rest x ≡ Some x
-at_end_is [] x e = refl
-at_end_is (c ∷ rest) x e = cc
 
 front_is : (m : List ℕ) (c : ℕ) → m ≡ c ∷ [] → m ≡ 86 ∷ [] → c ≡ 86
 front_is m c e f = ap (λ l. get_or l 0 0) (sym e ∙ f)

@@ -9,7 +9,8 @@ ghost use Rattle.semver_core.specs.Text.VersionText.{HasVersionWithIdentifiers};
 ghost use Rattle.semver_core.specs.Internal.Reading.{past, triple_at, pre_release_at, build_at};
 ghost use Rattle.semver_core.specs.Internal.Reading.{list_from, lists_at, version_at, mark_len};
 ghost use Rattle.semver_core.specs.Values.Versions.{VersionValue, HasIdentifiers};
-ghost use Rattle.semver_core.specs.Values.Views.{ids_view, IsFull, build_of, pre_release_of};
+ghost use Rattle.semver_core.specs.Values.Views.{ids_view};
+ghost use Rattle.semver_core.specs.Internal.Inside.{IsFull, build_of, pre_release_of};
 
 use crate::version::lists::{Identifiers, Lists, Qualifier};
 use crate::{MAX_SAFE_INTEGER, Version, scan};
