@@ -133,7 +133,7 @@ pub fn number(text: &str, at: usize) -> Option<(u64, usize)>
         NoPieceAt (λ digits rest. IsWholeNumber MAX_SAFE_INTEGER digits rest n) text.now at) }
     ensures place { IfSome result (λ found. found.1 ≤ length text.now) }
 {
-    read_number(text, at)
+    number_in(text.as_bytes(), at)
 }
 
 /// `number` over the bytes of a text.
@@ -151,16 +151,7 @@ pub fn number_in(bytes: &[u8], at: usize) -> Option<(u64, usize)>
     digits(bytes, at)
 }
 
-// The same as a function of the text.
-#[inline(always)]
-pub(crate) fn read_number(text: &str, at: usize) -> Option<(u64, usize)>
-    requires { at ≤ length text.now }
-    ensures exact { result ≡ number_at MAX_SAFE_INTEGER text.now at }
-    ensures place { IfSome result (λ found. found.1 ≤ length text.now) }
-{
-    digits(text.as_bytes(), at)
-}
-
+// `number_in` as a function of the bytes.
 #[inline(always)]
 #[tactic(auto, using(crate::proofs::Text::Digits::digits_read))]
 pub(crate) fn digits(bytes: &[u8], at: usize) -> Option<(u64, usize)>

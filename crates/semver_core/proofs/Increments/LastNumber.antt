@@ -19,6 +19,8 @@ use Rattle.std.specs.Prelude.{suc, zero, ◌==◌, ◌^◌}
 use Rattle.std.proofs.lemmas.Grind.{common_steps}
 use Rattle.std.proofs.lemmas.List.{length-map}
 use Rattle.std.proofs.lemmas.Bool.Decides.{nat_tests}
+use Rattle.std.proofs.lemmas.Bool.{cases_lt}
+use Rattle.std.proofs.Common.{inl, inr}
 use Rattle.std.proofs.lemmas.Str.Parse.{parse_digits}
 use Rattle.std.specs.Char.{is_ascii_digit}
 use Rattle.std.specs.List.{list_all}
@@ -127,13 +129,6 @@ pub refill_set : (xs ws : List Identifier) (i : ℕ) (x : Identifier) → ws ≡
 refill_set xs ws i x e =
     rw e (ap (λ n. take n (set xs i x ++ drop (length (set xs i x)) xs)) (sym (length-set xs i x)) ∙ take-append_seam (set xs i x) (drop (length (set xs i x)) xs))
 
-differs : (m n : ℕ) → (m ≡ n → ⊥) → false ≡ (m == n)
-differs m n h = by (m == n) refl
-  where
-    by : (t : Bool) → (m == n) ≡ t → false ≡ t
-    by true e = absurd (h (grind (arith, nat_tests)))
-    by false e = refl
-
 -- one more part of a printed list
 pub part_more : (xs : List Id) (x : Id) → list_text (xs ++ x ∷ []) ≡ (if is_empty xs then id_text x else list_text xs ++ 46 ∷ id_text x)
 part_more [] x = refl
@@ -141,12 +136,9 @@ part_more (y ∷ []) x = refl
 part_more (y ∷ z ∷ xs) x = ap (λ t. id_text y ++ 46 ∷ t) (part_more (z ∷ xs) x) ∙ sym (append_assoc (id_text y) (46 ∷ list_text (z ∷ xs)) (46 ∷ id_text x))
 
 first_is : (xs : List Identifier) (i : ℕ) → i < length xs → is_empty (ids_view (take i xs)) ≡ (i == 0)
-first_is [] i lt = absurd (no_less i lt)
-  where
-    no_less : (i : ℕ) → i < 0 → ⊥
-    no_less i lt = omega (arith, lt)
+first_is [] i lt = absurd (omega (arith, lt))
 first_is (x ∷ xs) zero lt = refl
-first_is (x ∷ xs) (suc i) lt = differs (suc i) 0 (λ e. omega (arith, e))
+first_is (x ∷ xs) (suc i) lt = let more : (suc i == 0) ≡ false = grind (arith, nat_tests) in sym more
 
 pub text_so_far : (xs : List Identifier) (i : ℕ) (x : Identifier) (text more : List ℕ) → i < length xs → x ≡ get_or xs i x
     → text ≡ list_text (ids_view (take i xs))
@@ -176,17 +168,13 @@ by_raise : (list : List Id) (id : List ℕ) (base : IdentifierBase) → has_nume
 by_raise [] id base h = cc
 by_raise (x ∷ xs) id base h = rw h refl
 
-not_less : (m n : ℕ) → (m < n → ⊥) → n ≤ m
-not_less m n h = by (nat_lt m n) refl
-  where
-    by : (t : Bool) → nat_lt m n ≡ t → n ≤ m
-    by true e = absurd (h (grind (arith, nat_tests)))
-    by false e = grind (arith, nat_tests)
-
 pub value_run : {E : Type 0} (ds : List ℕ) (r : Result ℕ E) → ParsesUnsigned 64 10 ds r → list_all is_ascii_digit ds ≡ true → 0 < length ds
     → MatchResult r (λ n. digits_value 10 ds ≡ n) (λ _. 2 ^ 64 ≤ digits_value 10 ds)
 value_run {E} ds (Ok n) h d some = sym (parse_digits numerals {E = E} 64 ds (Ok n) h d).1
-value_run {E} ds (Err e) h d some = not_less (digits_value 10 ds) (2 ^ 64) (λ small. parse_digits numerals {E = E} 64 ds (Err e) h d (some, small))
+value_run {E} ds (Err e) h d some = elim (cases_lt (digits_value 10 ds) (2 ^ 64)) [
+  | inl small ↦ absurd (parse_digits numerals {E = E} 64 ds (Err e) h d (some, small))
+  | inr large ↦ large
+]
 
 -- an identifier matches the asked one
 pub asked_number : (wanted : List ℕ) (n : ℕ) → list_all is_ascii_digit wanted ≡ true → is_eq (id_cmp (Numeric n) (asked wanted)) ≡ (digits_value 10 wanted == n)

@@ -1,19 +1,15 @@
--- Three numbers, each dot looked at once.
+-- A number and the dot behind it, each byte looked at once.
 use Rattle.std.proofs.Common.{◌≡◌, ◌==◌, ◌<◌, ◌≤◌, ◌+◌, ◌-◌, ◌*◌, ℕ, true, false, List, length, drop, get_or, Option, Some, None, refl, arith, inl, inr, eqb}
 use Rattle.std.proofs.Math.Seq.{drop-cons}
 use Rattle.std.proofs.lemmas.Bool.{cases_Bool}
 use Rattle.std.proofs.lemmas.Bool.Decides.{nat_tests}
 use Rattle.std.proofs.lemmas.List.{drop_all}
 use Rattle.std.specs.Char.{is_ascii_digit}
-use Rattle.semver_core.specs.Internal.CommonReading.{part_at}
-use Rattle.semver_core.specs.Internal.Reading.{◌>>?◌, digits_from, digits_end, placed, number_at, past, triple_at}
+use Rattle.semver_core.specs.Internal.Reading.{◌>>?◌, digits_from, digits_end, part_at, placed, past}
 use Rattle.semver_core.proofs.Text.Digits.{digits_over, digits_step, digits_stop, digits_past}
 
 abbrev two : ℕ → ℕ → Option (ℕ × ℕ)
 two n x = Some (n, x)
-
-abbrev four : ℕ → ℕ → ℕ × ℕ → Option (ℕ × ℕ × ℕ × ℕ)
-four a b c = Some (a, b, c.0, c.1)
 
 abbrev with_dot : List ℕ → Option (ℕ × ℕ) → Option (ℕ × ℕ)
 with_dot text o = o >>? λ n. past 46 text n.1 >>? λ next. two n.0 next
@@ -62,30 +58,5 @@ part_over limit text v at i lt d big inv = rw (inv, digits_over limit v (i - at)
 
 pub part_past : (limit : ℕ) (text : List ℕ) (v at i : ℕ) → at ≤ i → length text ≤ i → digits_from limit 0 0 (drop at text) ≡ digits_from limit v (i - at) (drop i text) → part_at limit text at ≡ None
 part_past limit text v at i le past inv = rw (inv, digits_past limit v (i - at) text i past) (no_part text v at i le (past_end text i past))
-
--- three numbers by parts
-by_parts : (o : Option (ℕ × ℕ)) (P : ℕ → Option ℕ) (N : ℕ → Option (ℕ × ℕ))
-    → (o >>? λ a. P a.1 >>? λ s. N s >>? λ b. P b.1 >>? λ t. N t >>? λ c. four a.0 b.0 c)
-    ≡ ((o >>? λ n. P n.1 >>? λ x. two n.0 x) >>? λ a. (N a.1 >>? λ n. P n.1 >>? λ x. two n.0 x) >>? λ b. N b.1 >>? λ c. four a.0 b.0 c)
-by_parts None P N = refl
-by_parts (Some a) P N = second (P a.1)
-  where
-    third : (m : ℕ × ℕ) (o : Option ℕ) → (o >>? λ t. N t >>? λ c. four a.0 m.0 c) ≡ ((o >>? λ x. two m.0 x) >>? λ b. N b.1 >>? λ c. four a.0 b.0 c)
-    third m None = refl
-    third m (Some t) = refl
-
-    minor : (o : Option (ℕ × ℕ)) → (o >>? λ b. P b.1 >>? λ t. N t >>? λ c. four a.0 b.0 c)
-        ≡ ((o >>? λ n. P n.1 >>? λ x. two n.0 x) >>? λ b. N b.1 >>? λ c. four a.0 b.0 c)
-    minor None = refl
-    minor (Some m) = third m (P m.1)
-
-    second : (o : Option ℕ) → (o >>? λ s. N s >>? λ b. P b.1 >>? λ t. N t >>? λ c. four a.0 b.0 c)
-        ≡ ((o >>? λ x. two a.0 x) >>? λ y. (N y.1 >>? λ n. P n.1 >>? λ x. two n.0 x) >>? λ b. N b.1 >>? λ c. four y.0 b.0 c)
-    second None = refl
-    second (Some s) = minor (N s)
-
-pub triple_parts : (limit : ℕ) (text : List ℕ) (at : ℕ)
-    → triple_at limit text at ≡ (part_at limit text at >>? λ a. part_at limit text a.1 >>? λ b. number_at limit text b.1 >>? λ c. four a.0 b.0 c)
-triple_parts limit text at = by_parts (number_at limit text at) (λ i. past 46 text i) (λ i. number_at limit text i)
 
 pub ruleset part_read = (digits_step, part_dot, part_bare, part_other, part_over, part_past)

@@ -62,14 +62,14 @@ None >>? f = None
 abbrev pub past : ℕ → List ℕ → ℕ → Option ℕ
 past c text at = if begins (λ b. b == c) (drop at text) then Some (at + 1) else None
 
+-- a number with a dot behind it, and the place after the dot
+abbrev pub part_at : ℕ → List ℕ → ℕ → Option (ℕ × ℕ)
+part_at limit text at = number_at limit text at >>? λ n. past 46 text n.1 >>? λ next. Some (n.0, next)
+
 -- three numbers with dots between them, and the place after them
 abbrev pub triple_at : ℕ → List ℕ → ℕ → Option (ℕ × ℕ × ℕ × ℕ)
 triple_at limit text at =
-    number_at limit text at >>? λ major.
-    past 46 text major.1 >>? λ second.
-    number_at limit text second >>? λ minor.
-    past 46 text minor.1 >>? λ third.
-    number_at limit text third >>? λ patch.
+    part_at limit text at >>? λ major. part_at limit text major.1 >>? λ minor. number_at limit text minor.1 >>? λ patch.
     Some (major.0, minor.0, patch.0, patch.1)
 
 -- the list that was found, or none, and then nothing is skipped

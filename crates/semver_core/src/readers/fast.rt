@@ -4,9 +4,9 @@ ghost use Rattle.std.specs.Prelude.{◌||◌, ◌==◌, get_or, ◌≡◌, ◌�
 ghost use Rattle.std.specs.Prelude.{IfNone, IsSomeAnd, OnErr};
 ghost use Rattle.semver_core.specs.Text.Characters.{is_identifier_char};
 ghost use Rattle.semver_core.specs.Text.Common.{IsCommon, IsUncommon};
-ghost use Rattle.semver_core.specs.Internal.CommonReading.{small_len, part_at, whole_at, common_of};
+ghost use Rattle.semver_core.specs.Internal.CommonReading.{small_len, whole_at, common_of};
 ghost use Rattle.semver_core.specs.Text.VersionText.{HasVersionWithIdentifiers};
-ghost use Rattle.semver_core.specs.Internal.Reading.{qualified, triple_at, version_at};
+ghost use Rattle.semver_core.specs.Internal.Reading.{part_at, qualified, triple_at, version_at};
 ghost use Rattle.semver_core.specs.Values.Versions.{HasIdentifiers};
 
 use crate::readers::loose::lists_at;
@@ -52,8 +52,7 @@ fn part(bytes: &[u8], at: usize) -> Option<(u64, usize)>
 
 // Three numbers with dots between them, and the place behind them.
 #[inline(always)]
-#[tactic(auto, using(crate::proofs::Text::Dotted::triple_parts))]
-fn three(bytes: &[u8], at: usize) -> Option<(u64, u64, u64, usize)>
+pub(crate) fn three(bytes: &[u8], at: usize) -> Option<(u64, u64, u64, usize)>
     requires { at ≤ length bytes.now }
     ensures found { result ≡ triple_at MAX_SAFE_INTEGER bytes.now at }
     ensures place { IfSome result (λ found. found.3 ≤ length bytes.now) }

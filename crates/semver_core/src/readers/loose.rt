@@ -6,12 +6,13 @@ ghost use Rattle.std.specs.Prelude.{OnErr, OnSome};
 ghost use Rattle.semver_core.specs.Text.Characters.{begins, is_identifier_char, IsAfterBlank};
 ghost use Rattle.semver_core.specs.Text.VersionText.{Reads, HasNoVersion};
 ghost use Rattle.semver_core.specs.Text.VersionText.{HasVersionWithIdentifiers};
-ghost use Rattle.semver_core.specs.Internal.Reading.{past, triple_at, pre_release_at, build_at};
+ghost use Rattle.semver_core.specs.Internal.Reading.{past, pre_release_at, build_at};
 ghost use Rattle.semver_core.specs.Internal.Reading.{list_from, lists_at, version_at, mark_len};
 ghost use Rattle.semver_core.specs.Values.Versions.{VersionValue, HasIdentifiers};
 ghost use Rattle.semver_core.specs.Values.Views.{ids_view};
 ghost use Rattle.semver_core.specs.Internal.Inside.{IsFull, build_of, pre_release_of};
 
+use crate::readers::fast::three;
 use crate::version::lists::{Identifiers, Lists, Qualifier};
 use crate::{MAX_SAFE_INTEGER, Version, scan};
 use std::alloc::{AllocError, Global};
@@ -40,20 +41,6 @@ fn past(text: &str, at: usize, mark: u8) -> Option<usize>
     } else {
         None
     }
-}
-
-// Three numbers with dots between them, and the place after them.
-fn triple(text: &str, at: usize) -> Option<(u64, u64, u64, usize)>
-    requires { at ≤ length text.now }
-    ensures found { result ≡ triple_at MAX_SAFE_INTEGER text.now at }
-    ensures place { IfSome result (λ found. found.3 ≤ length text.now) }
-{
-    let (major, end) = scan::read_number(text, at)?;
-    let second = past(text, end, b'.')?;
-    let (minor, end) = scan::read_number(text, second)?;
-    let third = past(text, end, b'.')?;
-    let (patch, end) = scan::read_number(text, third)?;
-    Some((major, minor, patch, end))
 }
 
 // Where the identifiers of the pre-release at a place begin.
@@ -151,7 +138,7 @@ fn version_from(alloc: Global, text: &str, at: usize) -> Result<Option<Version>,
     ensures memory { OnErr result
         (IsSomeAnd (version_at MAX_SAFE_INTEGER text.now at) HasIdentifiers) }
 {
-    let Some((major, minor, patch, end)) = triple(text, at) else {
+    let Some((major, minor, patch, end)) = three(text.as_bytes(), at) else {
         return Ok(None);
     };
     let (qualifier, _) = lists_at(alloc, text, end)?;
