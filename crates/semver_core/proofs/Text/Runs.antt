@@ -123,7 +123,7 @@ prefix_some : (t : List ℕ) → begins is_identifier_char t ≡ true → 0 < pr
 prefix_some [] h = cc
 prefix_some (c ∷ rest) h = rw h (omega arith)
 
-ascii : (c : ℕ) → is_identifier_char c ≡ true → c < 128
+pub ascii : (c : ℕ) → is_identifier_char c ≡ true → c < 128
 ascii c h = grind (arith, nat_tests)
 
 -- a text may be cut after a run

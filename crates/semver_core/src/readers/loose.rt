@@ -19,24 +19,25 @@ use std::alloc::{AllocError, Global};
 
 #[inline(always)]
 #[tactic(auto, using(crate::proofs::Text::Runs::rest_from))]
-fn begins_with(text: &str, at: usize, mark: u8) -> bool
-    requires { at ≤ length text.now }
-    ensures { result ≡ begins (λ b. b == mark) (drop at text.now) }
+fn begins_with(bytes: &[u8], at: usize, mark: u8) -> bool
+    requires { at ≤ length bytes.now }
+    ensures { result ≡ begins (λ b. b == mark) (drop at bytes.now) }
 {
-    match &text.as_bytes()[at..] {
+    match &bytes[at..] {
         [byte, ..] => *byte == mark,
         [] => false,
     }
 }
 
+// The place behind a byte, if that is the mark.
 #[inline(always)]
 #[tactic(auto, using(crate::proofs::Text::Places::begins_before_end))]
-fn past(text: &str, at: usize, mark: u8) -> Option<usize>
-    requires { at ≤ length text.now }
-    ensures found { result ≡ past mark text.now at }
-    ensures place { IfSome result (λ next. next ≤ length text.now) }
+pub(crate) fn past(bytes: &[u8], at: usize, mark: u8) -> Option<usize>
+    requires { at ≤ length bytes.now }
+    ensures found { result ≡ past mark bytes.now at }
+    ensures place { IfSome result (λ next. next ≤ length bytes.now) }
 {
-    if begins_with(text, at, mark) {
+    if begins_with(bytes, at, mark) {
         Some(at + 1)
     } else {
         None
@@ -52,7 +53,7 @@ fn pre_release_start(text: &str, at: usize) -> Option<usize>
         begins is_identifier_char (drop start text.now) ≡ true) }
     ensures inside { IfSome result (λ start. start ≤ length text.now) }
 {
-    let start = match past(text, at, b'-') {
+    let start = match past(text.as_bytes(), at, b'-') {
         Some(next) => next,
         None => at,
     };
@@ -72,7 +73,7 @@ fn build_start(text: &str, at: usize) -> Option<usize>
         begins is_identifier_char (drop start text.now) ≡ true) }
     ensures inside { IfSome result (λ start. start ≤ length text.now) }
 {
-    let start = past(text, at, b'+')?;
+    let start = past(text.as_bytes(), at, b'+')?;
     if scan::begins_at(text, start) {
         Some(start)
     } else {
