@@ -23,7 +23,6 @@ use Rattle.semver_core.specs.Lists.{is_empty, if_any}
 use Rattle.nodejs_semver.specs.Text.WrittenSet.{part_writes, run_writes, writes}
 use Rattle.nodejs_semver.proofs.Dividing.BarsDivide.{bars_divide}
 use Rattle.nodejs_semver.proofs.Algebra.Accepting.{accepts-held}
-use Rattle.nodejs_semver.proofs.Reading.Steps.{and-left}
 use Rattle.nodejs_semver.proofs.Dividing.RunLemmas.{run-holds}
 
 runs-hold : {V : Type 0} {R : V → V → Ordering} → IsTotalOrder R → (v : V) (rs : List (Run V)) → list_holds R (map (interval_of R) rs) v ≡ list_any (run_writes R v) rs
