@@ -1,7 +1,8 @@
 pub mod Clauses
 pub mod Accepting
-pub mod ListSets
+pub mod FlatMaps
 pub mod Spans
+pub mod Triples
 pub mod Differences
 pub mod Gate
 pub mod Holds
