@@ -65,13 +65,6 @@ fn algebra(rt: &impl Print, alloc: Global, one: &str, other: &str) -> io::Result
         "Range::least_beyond",
         found(one.least_beyond(alloc, &other)),
         &one,
-    )?;
-    let ranges = [one, other];
-    show(
-        rt,
-        "Range::least_of_all",
-        found(Range::least_of_all(alloc, &ranges)),
-        &ranges[0],
     )
 }
 
@@ -84,12 +77,6 @@ fn choices(rt: &impl Print, alloc: Global, text: &str) -> io::Result<()> {
         rt,
         "Range::min_version",
         found(range.min_version(alloc)),
-        &range,
-    )?;
-    show(
-        rt,
-        "Range::min_version_with_prerelease",
-        found(range.min_version_with_prerelease(alloc)),
         &range,
     )
 }

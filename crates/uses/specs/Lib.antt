@@ -1,3 +1,0 @@
-pub mod Release
-pub mod Resolver
-pub mod Subset
