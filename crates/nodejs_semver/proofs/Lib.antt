@@ -2,6 +2,7 @@ pub mod Algebra
 pub mod Bounds
 pub mod Choice
 pub mod Common
+pub mod Diagnosing
 pub mod Dividing
 pub mod Printing
 pub mod Reading
