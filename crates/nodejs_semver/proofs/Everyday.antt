@@ -1,4 +1,5 @@
 pub mod Pieces
+pub mod Compact
 pub mod Words
 pub mod Bounds
 pub mod Parts

@@ -1,15 +1,15 @@
 -- The range that the fast reader makes of the intervals of a common text.
 use Rattle.std.proofs.Common.{◌≡◌, ℕ, ◌<◌, ◌+◌, List, [], ◌∷◌, length, refl, sym, ap, ◌∙◌, arith, true, Some, subst}
-use Rattle.std.specs.Prelude.{Option, IfNone, IfSome}
+use Rattle.std.specs.Prelude.{Option, IfSome}
 use Rattle.std.specs.List.{list_all}
 use Rattle.semver_core.specs.Cuts.{Span}
 use Rattle.semver_core.specs.Lists.{if_any}
 use Rattle.semver_core.specs.Values.Versions.{VersionValue}
-use Rattle.nodejs_semver.specs.Text.Common.{IsCommonRange, IsUncommon}
+use Rattle.nodejs_semver.specs.Text.Common.{IsCommonRange}
 use Rattle.nodejs_semver.specs.Text.Denotes.{denotes}
 use Rattle.nodejs_semver.specs.Ranges.View.{IsRange, is_range_span}
 use Rattle.nodejs_semver.proofs.Bounds.Table.{denotes-bounded}
-use Rattle.nodejs_semver.proofs.Common.Texts.{common_ranges_are_denoted, list-some}
+use Rattle.nodejs_semver.proofs.Everyday.Texts.{common_ranges_are_denoted, list-some}
 
 pub common_bounded : (limit : ℕ) (text : List ℕ) (list : List (Span VersionValue)) → IsCommonRange limit text list → list_all (is_range_span (limit + 1)) list ≡ true
 common_bounded limit text list h =
@@ -19,21 +19,11 @@ any-of : (list : List (Span VersionValue)) → 0 < length list → if_any list �
 any-of [] h = absurd (omega arith)
 any-of (s ∷ list) h = refl
 
-pub common_some : (limit : ℕ) (text : List ℕ) (list : List (Span VersionValue)) (o : Option (List (Span VersionValue))) → IsCommonRange limit text list → o ≡ if_any list
-    → IfSome o (λ range. IsCommonRange limit text range)
-common_some limit text list o h e =
-    subst (λ (q : Option (List (Span VersionValue))). IfSome q (λ range. IsCommonRange limit text range)) (sym (e ∙ any-of list (list-some limit text list h))) h
-
 pub common_denoted : (limit : ℕ) (text : List ℕ) (list : List (Span VersionValue)) (o : Option (List (Span VersionValue))) → IsCommonRange limit text list → o ≡ if_any list
     → IfSome o (λ range. range ≡ denotes limit text)
 common_denoted limit text list o h e =
     subst (λ (q : Option (List (Span VersionValue))). IfSome q (λ range. range ≡ denotes limit text)) (sym (e ∙ any-of list (list-some limit text list h)))
     (sym (common_ranges_are_denoted limit text list h).0)
-
-pub common_none : (limit : ℕ) (text : List ℕ) (list : List (Span VersionValue)) (o : Option (List (Span VersionValue))) → IsCommonRange limit text list → o ≡ if_any list
-    → IfNone o (IsUncommon limit text)
-common_none limit text list o h e =
-    subst (λ (q : Option (List (Span VersionValue))). IfNone q (IsUncommon limit text)) (sym (e ∙ any-of list (list-some limit text list h))) tt
 
 pub if-some : {A : Type 0} (P : A → Type 0) (o : Option A) (x : A) → o ≡ Some x → IfSome o P → P x
 if-some {A} P o x e h = subst (λ (q : Option A). IfSome q P) e h

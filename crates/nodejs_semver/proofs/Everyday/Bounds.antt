@@ -1,6 +1,8 @@
 -- The interval of a part and what follows it, as the fast reader makes them.
 use Rattle.std.proofs.Common.{◌≡◌, ℕ, List, [], ◌∷◌, ◌++◌, drop, refl, sym, ap, ◌∙◌, Bool, true, false, Some, None}
 use Rattle.std.specs.Prelude.{Option, if◌then◌else◌}
+use Rattle.std.proofs.lemmas.Option.{none-some}
+use Rattle.nodejs_semver.proofs.Reading.Steps.{inside}
 use Rattle.semver_core.specs.Cuts.{Span, interval, meet}
 use Rattle.semver_core.specs.Values.Order.{precedence}
 use Rattle.semver_core.specs.Values.Versions.{VersionValue}
@@ -31,19 +33,10 @@ Behind = Option (List ℕ) × List (Span VersionValue)
 abbrev pub behind : Option (List ℕ) → List (Span VersionValue) → Behind
 behind r list = (r, list)
 
-abbrev when : Bool → List ℕ → Option (List ℕ)
-when there rest = if there then Some rest else None
-
 pub passed-part : (there : Bool) (rest : List ℕ) (done new : List (Span VersionValue)) (o : Option (Span VersionValue)) (r : Option (List ℕ))
     → both_view there new ≡ pushed done o → r ≡ (if there then Some rest else None) → behind r new ≡ passed done (part_read rest o)
-passed-part there rest done new None r h e =
-    let t : there ≡ false = ap (λ (x : Bool × List (Span VersionValue)). x.0) h in
-    let n : new ≡ done = ap (λ (x : Bool × List (Span VersionValue)). x.1) h in
-    ap (λ (q : Option (List ℕ)). behind q new) (e ∙ ap (λ (b : Bool). when b rest) t) ∙ ap (λ (l : List (Span VersionValue)). behind None l) n
-passed-part there rest done new (Some s) r h e =
-    let t : there ≡ true = ap (λ (x : Bool × List (Span VersionValue)). x.0) h in
-    let n : new ≡ done ++ s ∷ [] = ap (λ (x : Bool × List (Span VersionValue)). x.1) h in
-    ap (λ (q : Option (List ℕ)). behind q new) (e ∙ ap (λ (b : Bool). when b rest) t) ∙ ap (λ (l : List (Span VersionValue)). behind (Some rest) l) n
+passed-part there rest done new None r h e = rw (e, ap (λ (x : Bool × List (Span VersionValue)). x.0) h, ap (λ (x : Bool × List (Span VersionValue)). x.1) h) refl
+passed-part there rest done new (Some s) r h e = rw (e, ap (λ (x : Bool × List (Span VersionValue)). x.0) h, ap (λ (x : Bool × List (Span VersionValue)). x.1) h) refl
 
 -- the step behind the first comparison
 abbrev behind-first : ℕ → Span VersionValue × List ℕ → Front (Span VersionValue)
@@ -52,38 +45,30 @@ behind-first limit s =
     then (word_read limit (comparison_front limit (drop 1 s.1)) >>? λ t. part_read t.1 (meet precedence s.0 t.0))
     else Some s
 
-front-is : (limit : ℕ) (text : List ℕ) (o : Front (Span VersionValue)) → o ≡ word_read limit (comparison_front limit text)
-    → comparisons_front limit text ≡ (o >>? λ s. behind-first limit s)
-unfolding comparisons_front
-front-is limit text o h = ap (λ (q : Front (Span VersionValue)). q >>? λ s. behind-first limit s) (sym h)
-
-no-second : (limit : ℕ) (rest : List ℕ) (o : Option (Span VersionValue)) → begins_second rest ≡ true → word_read limit (comparison_front limit (drop 1 rest)) ≡ None
-    → (part_read rest o >>? λ s. behind-first limit s) ≡ None
-no-second limit rest None h k = refl
-no-second limit rest (Some a) h k = rw (h, k) refl
-
 -- no second comparison is read
 pub none-second : (limit : ℕ) (text : List ℕ) (a : Span VersionValue) (rest : List ℕ)
     → part_read rest (interval precedence a) ≡ word_read limit (comparison_front limit text) → begins_second rest ≡ true
     → word_read limit (comparison_front limit (drop 1 rest)) ≡ None → comparisons_front limit text ≡ None
-none-second limit text a rest h second k =
-    front-is limit text (part_read rest (interval precedence a)) h ∙ no-second limit rest (interval precedence a) second k
-
-then-second : (limit : ℕ) (a : Span VersionValue) (rest more : List ℕ) (o : Option (Span VersionValue)) → part_read more o ≡ word_read limit (comparison_front limit (drop 1 rest))
-    → begins_second rest ≡ true → behind-first limit (a, rest) ≡ part_read more (o >>? λ b. meet precedence a b)
-then-second limit a rest more None h second = rw (second, sym h) refl
-then-second limit a rest more (Some b) h second = rw (second, sym h) refl
-
-two-read : (limit : ℕ) (rest more : List ℕ) (o p : Option (Span VersionValue)) → begins_second rest ≡ true → part_read more p ≡ word_read limit (comparison_front limit (drop 1 rest))
-    → (part_read rest o >>? λ s. behind-first limit s) ≡ part_read more (o >>? λ a. p >>? λ b. meet precedence a b)
-two-read limit rest more None p second k = refl
-two-read limit rest more (Some a) p second k = then-second limit a rest more p k second
+unfolding comparisons_front
+none-second limit text a rest h second k = rw (← h) (go (interval precedence a))
+  where
+    go : (o : Option (Span VersionValue)) → (part_read rest o >>? λ s. behind-first limit s) ≡ None
+    go None = refl
+    go (Some s) = rw (second, k) refl
 
 second-read : (limit : ℕ) (text : List ℕ) (a b : Span VersionValue) (rest more : List ℕ) → part_read rest (interval precedence a) ≡ word_read limit (comparison_front limit text)
     → begins_second rest ≡ true → part_read more (interval precedence b) ≡ word_read limit (comparison_front limit (drop 1 rest))
     → comparisons_front limit text ≡ part_read more (both_of a b)
-second-read limit text a b rest more h second k =
-    front-is limit text (part_read rest (interval precedence a)) h ∙ two-read limit rest more (interval precedence a) (interval precedence b) second k
+unfolding comparisons_front
+second-read limit text a b rest more h second k = rw (← h) (go (interval precedence a))
+  where
+    last : (s : Span VersionValue) (o : Option (Span VersionValue)) → (part_read more o >>? λ t. part_read t.1 (meet precedence s t.0)) ≡ part_read more (o >>? λ t. meet precedence s t)
+    last s None = refl
+    last s (Some t) = refl
+
+    go : (o : Option (Span VersionValue)) → (part_read rest o >>? λ s. behind-first limit s) ≡ part_read more (o >>? λ s. interval precedence b >>? λ t. meet precedence s t)
+    go None = refl
+    go (Some s) = rw (second, ← k) (last s (interval precedence b))
 
 -- two comparisons
 pub passed-second : (limit : ℕ) (text : List ℕ) (a b : Span VersionValue) (rest more : List ℕ) (there : Bool) (done new : List (Span VersionValue)) (r : Option (List ℕ))
@@ -102,23 +87,14 @@ pub record Added (done new : List (Span VersionValue)) (o : Front (Span VersionV
 
 pub passed-some : (done new : List (Span VersionValue)) (o : Front (Span VersionValue)) (r : Option (List ℕ)) (rest : List ℕ) → behind r new ≡ passed done o → r ≡ Some rest
     → Added done new o rest
-passed-some done new None r rest h e = absurd (clash (sym e ∙ ap (λ (x : Behind). x.0) h))
-  where
-    clash : Some rest ≡ None → ⊥
-    clash k = cc k
+passed-some done new None r rest h e = absurd (none-some rest (sym (ap (λ (x : Behind). x.0) h) ∙ e))
 passed-some done new (Some p) r rest h e =
     let same : p.1 ≡ rest = inside (sym (ap (λ (x : Behind). x.0) h) ∙ e) in
     record { interval_is = p.0; found = ap (λ (t : List ℕ). read_of p.0 t) same; list = ap (λ (x : Behind). x.1) h }
   where
-    inside : {t u : List ℕ} → Some t ≡ Some u → t ≡ u
-    inside k = cc k
-
     read_of : Span VersionValue → List ℕ → Front (Span VersionValue)
     read_of s t = Some (s, t)
 
 pub passed-none : (done new : List (Span VersionValue)) (o : Front (Span VersionValue)) (r : Option (List ℕ)) → behind r new ≡ passed done o → r ≡ None → o ≡ None
 passed-none done new None r h e = refl
-passed-none done new (Some p) r h e = absurd (clash (sym e ∙ ap (λ (x : Behind). x.0) h))
-  where
-    clash : None ≡ Some p.1 → ⊥
-    clash k = cc k
+passed-none done new (Some p) r h e = absurd (none-some p.1 (sym e ∙ ap (λ (x : Behind). x.0) h))

@@ -2,7 +2,7 @@
 use Rattle.std.proofs.Common.{◌≡◌, ◌⊎◌, ℕ, zero, suc, ◌<◌, ◌≤◌, List, [], ◌∷◌, ◌++◌, length, drop, refl, sym, ap, ◌∙◌, arith, Bool, true, false, Some, None, inl, inr, subst, append-nil, append_assoc, length-append}
 use Rattle.std.specs.Prelude.{◌↔◌, Option, ◌&&◌, ◌||◌, ◌==◌}
 use Rattle.std.specs.Char.{is_ascii_digit}
-use Rattle.std.proofs.lemmas.Bool.{cases_Bool, eqb-true}
+use Rattle.std.proofs.lemmas.Bool.{and_parts, cases_Bool, eqb-true}
 use Rattle.std.proofs.lemmas.Bool.Decides.{nat_tests}
 use Rattle.semver_core.specs.Text.Characters.{begins}
 use Rattle.semver_core.specs.Cuts.{Span, meet}
@@ -17,19 +17,13 @@ use Rattle.semver_core.specs.Internal.Reading.{◌>>?◌}
 use Rattle.nodejs_semver.specs.Text.Table.{table}
 use Rattle.nodejs_semver.specs.Text.WordText.{IsSign, above_sign, at_least_sign, at_most_sign, below_sign, equal_sign, Comparator, Word, above, at_least, at_most, below, caret, compare, equal, hyphen, plain, tilde}
 use Rattle.nodejs_semver.specs.Internal.Words.{comparator_at, tilde_sign}
-use Rattle.nodejs_semver.proofs.Common.Pieces.{bare-begins, bare-exact, bare-sound}
+use Rattle.nodejs_semver.proofs.Everyday.Pieces.{bare-begins, bare-exact, bare-sound}
 use Rattle.nodejs_semver.proofs.Reading.Quiet.{Stop, stop-bar, stop-nil, stop-space}
-use Rattle.nodejs_semver.proofs.Common.Texts.{is_solid, part-compact}
-use Rattle.nodejs_semver.proofs.Common.Words.{no-equal, no-greater}
-use Rattle.nodejs_semver.proofs.Reading.IdentifierLists.{and-left, and-right}
-use Rattle.nodejs_semver.proofs.Reading.Pieces.{bind-some}
-use Rattle.nodejs_semver.proofs.Reading.Components.{begins-longer, begins_component}
+use Rattle.nodejs_semver.proofs.Everyday.Texts.{part-tidy}
+use Rattle.nodejs_semver.proofs.Everyday.Words.{no-equal, no-greater, sign-begins}
+use Rattle.nodejs_semver.proofs.Reading.Bytes.{begins-on, begins-some, begins_component, is_component_byte, is_solid}
+use Rattle.nodejs_semver.proofs.Reading.Steps.{bind-some, inside}
 use Rattle.nodejs_semver.proofs.Reading.WordLaw.{Signed, byte-is, sign-is}
-use Rattle.nodejs_semver.proofs.Reading.PartialLaw.{inside}
-
--- the next step of a reading
-bind-of : {A B : Type 0} (o : Option A) (f : A → Option B) (x : A) → o ≡ Some x → (o >>? f) ≡ f x
-bind-of {A} {B} o f x h = ap (λ (q : Option A). q >>? f) h
 
 -- what may follow a part: the end, or bars with one space or none before them
 pub record Ends (more : List ℕ) : Type 0 where
@@ -67,7 +61,7 @@ comparator-of c sign text equal_sign h = refl
 comparison-exact : (limit : ℕ) (x : List ℕ) (w : Word) (more : List ℕ) → IsComparison limit x w → Stop more → comparison_front limit (x ++ more) ≡ Some (w, more)
 unfolding comparison_front
 comparison-exact limit x w more (comparison c sign text p is bare) stop =
-    let at = comparator-of c sign (text ++ more) is (begins-longer text more (bare-begins limit text p bare)) in
+    let at = comparator-of c sign (text ++ more) is (begins-on is_component_byte text more (bare-begins limit text p bare)) in
     rw (append_assoc sign text more, at, bare-exact limit text more p bare stop) refl
 
 -- a comparison at the front
@@ -106,7 +100,7 @@ tilde-found limit text greater rest p more h k = rw (h, k) refl
 
 tilde-exact : (limit : ℕ) (x more : List ℕ) (p : Partial) → IsBare limit x p → Stop more → tilde_front limit (x ++ more) ≡ Some (tilde false p, more)
 tilde-exact limit x more p h stop =
-    tilde-found limit (x ++ more) false (x ++ more) p more (no-greater (x ++ more) (begins-longer x more (bare-begins limit x p h))) (bare-exact limit x more p h stop)
+    tilde-found limit (x ++ more) false (x ++ more) p more (no-greater (x ++ more) (begins-on is_component_byte x more (bare-begins limit x p h))) (bare-exact limit x more p h stop)
 
 tilde-greater-exact : (limit : ℕ) (x more : List ℕ) (p : Partial) → IsBare limit x p → Stop more → tilde_front limit (62 ∷ (x ++ more)) ≡ Some (tilde true p, more)
 tilde-greater-exact limit x more p h stop = tilde-found limit (62 ∷ (x ++ more)) true (x ++ more) p more refl (bare-exact limit x more p h stop)
@@ -144,8 +138,9 @@ dash-is [] h = cc h
 dash-is (a ∷ []) h = cc h
 dash-is (a ∷ b ∷ []) h = cc h
 dash-is (a ∷ b ∷ c ∷ rest) h =
-    let later = and-right (a == 32) (b == 45 && c == 32) h in
-    rw (eqb-true a 32 (and-left (a == 32) (b == 45 && c == 32) h), eqb-true b 45 (and-left (b == 45) (c == 32) later), eqb-true c 32 (and-right (b == 45) (c == 32) later)) refl
+    let first = and_parts (a == 32) (b == 45 && c == 32) h in
+    let later = and_parts (b == 45) (c == 32) first.1 in
+    rw (eqb-true a 32 first.0, eqb-true b 45 later.0, eqb-true c 32 later.1) refl
 
 partials-sound : (limit : ℕ) (text : List ℕ) (w : Word) (more : List ℕ) → partials_front limit text ≡ Some (w, more) → Worded limit text w more
 unfolding partials_front
@@ -175,10 +170,6 @@ part-is rest (Some a) s more h =
     let e : (a, rest) ≡ (s, more) = inside h in
     (ap (λ (x : Span VersionValue × List ℕ). Some x.0) e, ap (λ (x : Span VersionValue × List ℕ). x.1) e)
 
-read-exact : (limit : ℕ) (read : Front Word) (w : Word) (more : List ℕ) (s : Span VersionValue) → read ≡ Some (w, more) → table limit w ≡ Some s
-    → word_read limit read ≡ Some (s, more)
-read-exact limit read w more s h k = rw (h, k) refl
-
 read-sound : (limit : ℕ) (read : Front Word) (s : Span VersionValue) (more : List ℕ) → word_read limit read ≡ Some (s, more)
     → (w : Word) × (read ≡ Some (w, more)) × (table limit w ≡ Some s)
 read-sound limit read s more h =
@@ -205,14 +196,6 @@ sign-part : (limit b : ℕ) (rest : List ℕ) → is_sign b ≡ true → part_fr
 unfolding part_front
 sign-part limit b rest h = rw h refl
 
-tilde-part : (limit : ℕ) (rest : List ℕ) → part_front limit (126 ∷ rest) ≡ word_read limit (tilde_front limit rest)
-unfolding part_front
-tilde-part limit rest = refl
-
-caret-part : (limit : ℕ) (rest : List ℕ) → part_front limit (94 ∷ rest) ≡ word_read limit (caret_front limit rest)
-unfolding part_front
-caret-part limit rest = refl
-
 other-part : (limit b : ℕ) (rest : List ℕ) → is_sign b ≡ false → (b == 126) ≡ false → (b == 94) ≡ false → part_front limit (b ∷ rest) ≡ word_read limit (partials_front limit (b ∷ rest))
 unfolding part_front
 other-part limit b rest h k m = rw (h, k, m) refl
@@ -226,18 +209,7 @@ partials-part limit (b ∷ rest) h = let o = component-other b h in other-part l
 
 -- a comparison begins with a sign
 comparison-begins : (limit : ℕ) (x : List ℕ) (w : Word) → IsComparison limit x w → begins is_sign x ≡ true
-comparison-begins limit x w (comparison c sign text p is bare) = by c sign is
-  where
-    by : (c : Comparator) (sign : List ℕ) → IsSign c sign → begins is_sign (sign ++ text) ≡ true
-    by c sign above_sign = refl
-    by c sign at_least_sign = refl
-    by c sign below_sign = refl
-    by c sign at_most_sign = refl
-    by c sign equal_sign = refl
-
-begins-on : (u v : List ℕ) → begins is_sign u ≡ true → begins is_sign (u ++ v) ≡ true
-begins-on [] v h = cc h
-begins-on (b ∷ u) v h = h
+comparison-begins limit x w (comparison c sign text p is bare) = (sign-begins c sign text is).0
 
 comparisons-part : (limit : ℕ) (text : List ℕ) → begins is_sign text ≡ true → part_front limit text ≡ comparisons_front limit text
 comparisons-part limit [] h = cc h
@@ -245,39 +217,33 @@ comparisons-part limit (b ∷ rest) h = sign-part limit b rest h
 
 word-exact : (limit : ℕ) (x : List ℕ) (w : Word) (s : Span VersionValue) (more : List ℕ) → IsCommonWord limit x w → table limit w ≡ Some s → Ends more
     → part_front limit (x ++ more) ≡ Some (s, more)
+unfolding part_front
 word-exact limit x w s more (plain_word text p h) bounds e =
-    partials-part limit (text ++ more) (begins-longer text more (bare-begins limit text p h))
-    ∙ read-exact limit (partials_front limit (text ++ more)) (plain p) more s (plain-exact limit text more p h e.stop e.dash) bounds
+    let begins = begins-on is_component_byte text more (bare-begins limit text p h) in
+    partials-part limit (text ++ more) begins ∙ rw (plain-exact limit text more p h e.stop e.dash, bounds) refl
 word-exact limit x w s more (compare_word text word is) bounds e =
-    comparisons-part limit (text ++ more) (begins-on text more (comparison-begins limit text word is))
-    ∙ one-comparison limit (text ++ more) s more
-    (read-exact limit (comparison_front limit (text ++ more)) word more s (comparison-exact limit text word more is e.stop) bounds) e.second
-word-exact limit x w s more (tilde_word text p h) bounds e =
-    tilde-part limit (text ++ more) ∙ read-exact limit (tilde_front limit (text ++ more)) (tilde false p) more s (tilde-exact limit text more p h e.stop) bounds
-word-exact limit x w s more (tilde_greater_word text p h) bounds e =
-    tilde-part limit (62 ∷ (text ++ more))
-    ∙ read-exact limit (tilde_front limit (62 ∷ (text ++ more))) (tilde true p) more s (tilde-greater-exact limit text more p h e.stop) bounds
-word-exact limit x w s more (caret_word text p h) bounds e =
-    caret-part limit (text ++ more) ∙ read-exact limit (caret_front limit (text ++ more)) (caret p) more s (caret-exact limit text more p h e.stop) bounds
+    comparisons-part limit (text ++ more) (begins-on is_sign text more (comparison-begins limit text word is))
+    ∙ one-comparison limit (text ++ more) s more (rw (comparison-exact limit text word more is e.stop, bounds) refl) e.second
+word-exact limit x w s more (tilde_word text p h) bounds e = rw (tilde-exact limit text more p h e.stop, bounds) refl
+word-exact limit x w s more (tilde_greater_word text p h) bounds e = rw (tilde-greater-exact limit text more p h e.stop, bounds) refl
+word-exact limit x w s more (caret_word text p h) bounds e = rw (caret-exact limit text more p h e.stop, bounds) refl
 word-exact limit x w s more (hyphen_word first second p q h k) bounds e =
     let behind = 32 ∷ 45 ∷ 32 ∷ (second ++ more) in
     ap (λ (t : List ℕ). part_front limit t) (append_assoc first (32 ∷ 45 ∷ 32 ∷ second) more)
-    ∙ (partials-part limit (first ++ behind) (begins-longer first behind (bare-begins limit first p h))
-    ∙ read-exact limit (partials_front limit (first ++ behind)) (hyphen p q) more s (hyphen-exact limit first second more p q h k e.stop) bounds)
+    ∙ (partials-part limit (first ++ behind) (begins-on is_component_byte first behind (bare-begins limit first p h))
+    ∙ rw (hyphen-exact limit first second more p q h k e.stop, bounds) refl)
 
 -- a part that ends there is read whole
 pub part-exact : (limit : ℕ) (x : List ℕ) (s : Span VersionValue) (more : List ℕ) → IsCommonPart limit x s → Ends more → part_front limit (x ++ more) ≡ Some (s, more)
 part-exact limit x s more (one_word text word span is bounds) e = word-exact limit text word span more is bounds e
 part-exact limit x s more (two_comparisons u v a b c d both is other h k m) e =
     let behind = 32 ∷ (v ++ more) in
-    let second = begins-on v more (comparison-begins limit v b other) in
+    let second = begins-on is_sign v more (comparison-begins limit v b other) in
     ap (λ (t : List ℕ). part_front limit t) (append_assoc u (32 ∷ v) more)
-    ∙ (comparisons-part limit (u ++ behind) (begins-on u behind (comparison-begins limit u a is))
+    ∙ (comparisons-part limit (u ++ behind) (begins-on is_sign u behind (comparison-begins limit u a is))
     ∙ two-comparisons limit (u ++ behind) c d both (v ++ more) more
-    (read-exact limit (comparison_front limit (u ++ behind)) a behind c (comparison-exact limit u a behind is (stop-space (v ++ more))) h)
-    second
-    (read-exact limit (comparison_front limit (v ++ more)) b more d (comparison-exact limit v b more other e.stop) k)
-    m)
+    (rw (comparison-exact limit u a behind is (stop-space (v ++ more)), h) refl) second
+    (rw (comparison-exact limit v b more other e.stop, k) refl) m)
 
 -- a part at the front
 abbrev pub Parted : ℕ → List ℕ → Span VersionValue → List ℕ → Type 0
@@ -288,7 +254,7 @@ worded-part limit text w s more bounds h = (h.0, h.1, one_word h.0 w s h.2 bound
 
 second-is : (text : List ℕ) → begins_second text ≡ true → text ≡ 32 ∷ drop 1 text
 second-is [] h = cc h
-second-is (a ∷ rest) h = rw (eqb-true a 32 (and-left (a == 32) (begins is_sign rest) h)) refl
+second-is (a ∷ rest) h = rw (eqb-true a 32 (and_parts (a == 32) (begins is_sign rest) h).0) refl
 
 comparisons-sound : (limit : ℕ) (text : List ℕ) (s : Span VersionValue) (more : List ℕ) → comparisons_front limit text ≡ Some (s, more) → Parted limit text s more
 unfolding comparisons_front
@@ -409,13 +375,9 @@ bars-exact before after next b a h =
 
 -- ---- all parts
 
-begins-part : (u v : List ℕ) → begins is_solid u ≡ true → begins is_solid (u ++ v) ≡ true
-begins-part [] v h = cc h
-begins-part (b ∷ u) v h = h
-
 range-begins : (limit : ℕ) (text : List ℕ) (list : List (Span VersionValue)) → IsCommonRange limit text list → begins is_solid text ≡ true
-range-begins limit text list (one_part part s is) = (part-compact limit part s is).front
-range-begins limit text list (more_parts part before after rest s others is b a more) = begins-part part _ (part-compact limit part s is).front
+range-begins limit text list (one_part part s is) = (part-tidy limit part s is).compact.front
+range-begins limit text list (more_parts part before after rest s others is b a more) = begins-on is_solid part _ (part-tidy limit part s is).compact.front
 
 empty-nil : (text : List ℕ) → is_empty text ≡ true → text ≡ []
 empty-nil [] h = refl
@@ -491,9 +453,6 @@ within-sound limit (suc n) text list h =
           subst (λ (l : List (Span VersionValue)). IsCommonRange limit text l) e
           (next-sound limit text p.0.0 p.0.1 next.0 tail.0 p.1 next.1 (within-sound limit n next.0 tail.0 tail.1))
     ]
-  where
-    inside : {t u : List (Span VersionValue)} → Some t ≡ Some u → t ≡ u
-    inside k = cc k
 
 within-last : (limit n : ℕ) (text : List ℕ) (s : Span VersionValue) → part_front limit text ≡ Some (s, []) → common_within limit (suc n) text ≡ Some (s ∷ [])
 unfolding common_within

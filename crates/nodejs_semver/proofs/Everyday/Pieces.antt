@@ -1,24 +1,20 @@
 -- A partial of a common text is read exactly, whatever may follow it there.
-use Rattle.std.proofs.Common.{◌≡◌, ℕ, List, [], ◌∷◌, ◌++◌, refl, ap, ◌∙◌, true, Some, inl, inr, subst}
+use Rattle.std.proofs.Common.{◌≡◌, ℕ, List, [], ◌∷◌, ◌++◌, refl, ap, ◌∙◌, true, Some, subst}
 use Rattle.std.specs.Prelude.{Option}
-use Rattle.std.proofs.lemmas.Bool.{cases_Bool}
+use Rattle.std.proofs.lemmas.Option.{cond_some}
 use Rattle.semver_core.specs.Internal.Reading.{◌>>?◌}
 use Rattle.semver_core.specs.Lists.{is_empty}
 use Rattle.nodejs_semver.specs.Internal.CommonFronts.{bare_front, unbuilt}
 use Rattle.nodejs_semver.specs.Internal.Fronts.{component_front, dotted_front, Front, minor_front, partial_front}
 use Rattle.nodejs_semver.specs.Text.Common.{IsBare}
 use Rattle.nodejs_semver.specs.Text.PartialText.{Partial}
-use Rattle.nodejs_semver.proofs.Reading.Components.{Read, begins_component, components-begin, components-read, components-then}
-use Rattle.nodejs_semver.proofs.Reading.PartialLaw.{front-exact, inside}
-use Rattle.nodejs_semver.proofs.Reading.Pieces.{bind-some}
+use Rattle.nodejs_semver.proofs.Reading.Bytes.{begins_component}
+use Rattle.nodejs_semver.proofs.Reading.Components.{Read, components-begin, components-read, components-then}
+use Rattle.nodejs_semver.proofs.Reading.Steps.{bind-some}
 use Rattle.nodejs_semver.proofs.Reading.Quiet.{Stop, quiet-before}
 
 pub bare-begins : (limit : ℕ) (x : List ℕ) (p : Partial) → IsBare limit x p → begins_component x ≡ true
 bare-begins limit x p h = components-begin limit x p h.components
-
--- it is the longest one
-pub longest-exact : (limit : ℕ) (x more : List ℕ) (p : Partial) → IsBare limit x p → Stop more → partial_front limit (x ++ more) ≡ Some (p, more)
-longest-exact limit x more p h stop = front-exact limit x more p h.components stop
 
 -- it is read at the front
 pub bare-exact : (limit : ℕ) (x more : List ℕ) (p : Partial) → IsBare limit x p → Stop more → bare_front limit (x ++ more) ≡ Some (p, more)
@@ -41,9 +37,7 @@ bare-sound limit text p more h =
     none (x ∷ l) k = cc k
 
     go : (r : Partial × List ℕ) (s : List ℕ) → Read limit text s r.1 r.0 → unbuilt r ≡ Some (p, more) → (x : List ℕ) × (text ≡ x ++ more) × IsBare limit x p
-    go r s k e = elim (cases_Bool (is_empty r.0.build)) [
-      | inl bare ↦
-          subst (λ (q : Partial × List ℕ). (x : List ℕ) × (text ≡ x ++ q.1) × IsBare limit x q.0) (inside (rw bare at e))
-          (s, k.split, record { components = k.is; no_build = none r.0.build bare })
-      | inr built ↦ cc (rw built at e)
-    ]
+    go r s k e =
+        let c = cond_some (is_empty r.0.build) r (p, more) e in
+        subst (λ (q : Partial × List ℕ). (x : List ℕ) × (text ≡ x ++ q.1) × IsBare limit x q.0) c.1
+        (s, k.split, record { components = k.is; no_build = none r.0.build c.0 })
