@@ -1,6 +1,6 @@
 -- What the intersection and the difference of two lists hold and accept, and that their intervals are those of a range.
 use Rattle.std.proofs.Common.{◌≡◌, refl, sym, ◌∙◌, ap, ℕ, ◌+◌, true, false, ◌&&◌, ◌||◌, not, List, [], ◌∷◌, Option, Some, None}
-use Rattle.std.specs.Cmp.{first_so, second_so}
+use Rattle.std.specs.Cmp.{first_so}
 use Rattle.std.specs.List.{list_all}
 use Rattle.semver_core.specs.Cuts.{Span, is_interval}
 use Rattle.semver_core.specs.Values.Order.{precedence}
@@ -10,9 +10,8 @@ use Rattle.semver_core.specs.declared.TheConstants.{MAX_SAFE_INTEGER}
 use Rattle.nodejs_semver.specs.Ranges.Gate.{accepts, option_accepts}
 use Rattle.nodejs_semver.specs.Ranges.Algebra.{intersection, difference, list_holds, option_list_holds, meets_of, minus}
 use Rattle.nodejs_semver.specs.Ranges.View.{IsRange, is_range_span, is_range_bound}
-use Rattle.nodejs_semver.proofs.Algebra.Accepting.{both_accept, one_accepts, kept_accepted, accepts-release, option_accepts-if_any}
-use Rattle.nodejs_semver.proofs.Algebra.Holds.{accepts-held}
-use Rattle.nodejs_semver.proofs.Algebra.ListSets.{list_holds-meets_of, list_holds-minus, option_list_holds-if_any}
+use Rattle.nodejs_semver.proofs.Algebra.Accepting.{accepts-held, accepts-minus, accepts-release, both_accept, list_holds-meets_of, list_holds-minus, one_accepts, option_accepts-if_any, option_list_holds-if_any}
+use Rattle.nodejs_semver.proofs.Algebra.FlatMaps.{all_weaker}
 use Rattle.nodejs_semver.proofs.Algebra.Spans.{fine-meets_of, fine-minus}
 
 option_accepts-held : (r : Option (List (Span VersionValue))) (v : VersionValue) → option_accepts r v true ≡ option_list_holds precedence r v
@@ -53,7 +52,7 @@ module _ (a b : List (Span VersionValue)) (r : Option (List (Span VersionValue))
   difference-all = cc (difference-set, option_accepts-held r v, accepts-held a v, accepts-held b v)
 
   pub difference-kept : accepts a v false ≡ true → list_holds precedence b v ≡ false → option_accepts r v false ≡ true
-  difference-kept h k = left_accepted ∙ kept_accepted a b v h k
+  difference-kept h k = left_accepted ∙ option_accepts-if_any (minus precedence a b) v false ∙ accepts-minus a b v h k
 
   pub difference-releases : is_release v ≡ true → option_accepts r v false ≡ (accepts a v false && not (accepts b v false))
   difference-releases k =
@@ -66,20 +65,18 @@ module _ (a b : List (Span VersionValue)) (r : Option (List (Span VersionValue))
 pub meets_of-valid : (a b xs ys found : List (Span VersionValue)) → IsRange MAX_SAFE_INTEGER a → IsRange MAX_SAFE_INTEGER b → xs ≡ a → ys ≡ b → found ≡ meets_of precedence xs ys → list_all (is_range_span (MAX_SAFE_INTEGER + 1)) found ≡ true
 meets_of-valid a b xs ys found h k p q e =
     ap (λ zs. list_all (is_range_span (MAX_SAFE_INTEGER + 1)) zs) e
-    ∙ fine-meets_of precedence (is_range_bound (MAX_SAFE_INTEGER + 1)) xs ys
+    ∙ fine-meets_of precedence_total (is_range_bound (MAX_SAFE_INTEGER + 1)) xs ys
     (ap (λ zs. list_all (is_range_span (MAX_SAFE_INTEGER + 1)) zs) p ∙ h.each) (ap (λ zs. list_all (is_range_span (MAX_SAFE_INTEGER + 1)) zs) q ∙ k.each)
 
 pub minus-valid : (a b xs ys left : List (Span VersionValue)) → IsRange MAX_SAFE_INTEGER a → IsRange MAX_SAFE_INTEGER b → xs ≡ a → ys ≡ b → left ≡ minus precedence xs ys → list_all (is_range_span (MAX_SAFE_INTEGER + 1)) left ≡ true
 minus-valid a b xs ys left h k p q e =
     ap (λ zs. list_all (is_range_span (MAX_SAFE_INTEGER + 1)) zs) e
-    ∙ fine-minus precedence (is_range_bound (MAX_SAFE_INTEGER + 1)) xs ys
+    ∙ fine-minus precedence_total (is_range_bound (MAX_SAFE_INTEGER + 1)) xs ys
     (ap (λ zs. list_all (is_range_span (MAX_SAFE_INTEGER + 1)) zs) p ∙ h.each) (ap (λ zs. list_all (is_range_span (MAX_SAFE_INTEGER + 1)) zs) q ∙ k.each)
 
 -- the spans of a range are intervals
-all_intervals : (n : ℕ) (ss : List (Span VersionValue)) → list_all (is_range_span n) ss ≡ true → list_all (is_interval precedence) ss ≡ true
-all_intervals n [] h = refl
-all_intervals n (s ∷ ss) h =
-    ap (λ q. q && list_all (is_interval precedence) ss) (first_so _ _ (first_so _ _ h)) ∙ all_intervals n ss (second_so _ _ h)
+pub all_intervals : (n : ℕ) (ss : List (Span VersionValue)) → list_all (is_range_span n) ss ≡ true → list_all (is_interval precedence) ss ≡ true
+all_intervals n = all_weaker (is_range_span n) (is_interval precedence) (λ s h. first_so _ _ h)
 
 pub range-intervals : (a xs : List (Span VersionValue)) → IsRange MAX_SAFE_INTEGER a → xs ≡ a → list_all (is_interval precedence) xs ≡ true
-range-intervals a xs h e = ap (λ l. list_all (is_interval precedence) l) e ∙ all_intervals (MAX_SAFE_INTEGER + 1) a h.each
+range-intervals a xs h e = all_intervals (MAX_SAFE_INTEGER + 1) xs (ap (list_all (is_range_span (MAX_SAFE_INTEGER + 1))) e ∙ h.each)

@@ -1,7 +1,9 @@
 -- What a range text's intervals hold is what the text writes.
-use Rattle.std.proofs.Common.{◌≡◌, ℕ, List, [], ◌∷◌, ◌++◌, refl, sym, ap, ap₂, ◌∙◌, true, false, Bool, map, Some}
+use Rattle.std.proofs.Common.{◌≡◌, ℕ, List, [], ◌∷◌, ◌++◌, refl, sym, ap, ap₂, ◌∙◌, true, false, Bool, map, Some, arith}
 use Rattle.std.specs.Prelude.{◌&&◌, ◌||◌, flat_map, if◌then◌else◌}
-use Rattle.std.specs.Cmp.{IsTotalOrder}
+use Rattle.std.proofs.lemmas.Bool.{cond_both, or_left}
+use Rattle.std.proofs.lemmas.List.Folds.{list_any-append}
+use Rattle.std.specs.Cmp.{IsTotalOrder, first_so}
 use Rattle.std.specs.List.{list_all, list_any}
 use Rattle.std.specs.declared.cmp.Ordering.{Ordering}
 use Rattle.semver_core.specs.Cuts.{Span, holds}
@@ -20,16 +22,8 @@ use Rattle.semver_core.specs.Internal.Spaces.{trim}
 use Rattle.semver_core.specs.Lists.{is_empty, if_any}
 use Rattle.nodejs_semver.specs.Text.WrittenSet.{part_writes, run_writes, writes}
 use Rattle.nodejs_semver.proofs.Dividing.BarsDivide.{bars_divide}
-use Rattle.nodejs_semver.proofs.Reading.Steps.{and-left}
+use Rattle.nodejs_semver.proofs.Algebra.Accepting.{accepts-held}
 use Rattle.nodejs_semver.proofs.Dividing.RunLemmas.{run-holds}
-
-any-append : {A : Type 0} (p : A → Bool) (xs ys : List A) → list_any p (xs ++ ys) ≡ (list_any p xs || list_any p ys)
-any-append p [] ys = refl
-any-append p (x ∷ xs) ys = ap (λ (b : Bool). p x || b) (any-append p xs ys) ∙ or-assoc (p x) (list_any p xs) (list_any p ys)
-  where
-    or-assoc : (a b c : Bool) → (a || (b || c)) ≡ ((a || b) || c)
-    or-assoc true b c = refl
-    or-assoc false b c = refl
 
 runs-hold : {V : Type 0} {R : V → V → Ordering} → IsTotalOrder R → (v : V) (rs : List (Run V)) → list_holds R (map (interval_of R) rs) v ≡ list_any (run_writes R v) rs
 runs-hold o v [] = refl
@@ -44,24 +38,20 @@ part-denoted limit v [] = refl
 part-denoted limit v (b ∷ part) = part-holds limit v (b ∷ part)
 
 or-across : (a b c d : Bool) → ((a || b) || (c || d)) ≡ ((a || c) || (b || d))
-or-across true b c d = refl
-or-across false true true d = refl
-or-across false true false d = refl
-or-across false false true d = refl
-or-across false false false d = refl
+or-across a b c d = grind arith
 
 parts-hold : (limit : ℕ) (v : VersionValue) (ps : List (List ℕ))
     → list_holds precedence (flat_map (part_denotes limit) ps) v ≡ (list_any is_empty ps || list_any (part_writes limit v) ps)
 parts-hold limit v [] = refl
 parts-hold limit v (p ∷ ps) =
-    any-append (λ s. holds precedence s v) (part_denotes limit p) (flat_map (part_denotes limit) ps)
+    list_any-append (λ s. holds precedence s v) (part_denotes limit p) (flat_map (part_denotes limit) ps)
     ∙ ap₂ (λ (s t : Bool). s || t) (part-denoted limit v p) (parts-hold limit v ps)
     ∙ or-across (is_empty p) (part_writes limit v p) (list_any is_empty ps) (list_any (part_writes limit v) ps)
 
 -- where all of some texts are empty, one is
 first-empty : (ps : List (List ℕ)) → (ps ≡ [] → ⊥) → list_all is_empty ps ≡ true → list_any is_empty ps ≡ true
 first-empty [] some h = absurd (some refl)
-first-empty (p ∷ ps) some h = ap (λ (b : Bool). b || list_any is_empty ps) (and-left (is_empty p) (list_all is_empty ps) h)
+first-empty (p ∷ ps) some h = or_left (is_empty p) (list_any is_empty ps) (first_so _ _ h)
 
 -- a text has a part or more
 parts-some : (text : List ℕ) → parts text ≡ [] → ⊥
@@ -71,26 +61,11 @@ parts-some text h = pieces-some text (cut_bars false text) (bars_divide text) h
     pieces-some whole pieces (one_piece piece free) h = cc h
     pieces-some whole pieces (more_pieces piece rest others free ended cut) h = cc h
 
-by-test : (b : Bool) (ss : List (Span VersionValue)) (w : Bool) (v : VersionValue) → (b ≡ true → w ≡ true) → list_holds precedence ss v ≡ w
-    → list_holds precedence (if b then any_version else ss) v ≡ w
-by-test true ss w v all h = sym (all refl)
-by-test false ss w v all h = h
-
 pub denotes_hold : (limit : ℕ) (text : List ℕ) (v : VersionValue) → list_holds precedence (denotes limit text) v ≡ writes limit text v
 denotes_hold limit text v =
     let ps = parts text in
-    by-test (list_all is_empty ps) (flat_map (part_denotes limit) ps) (writes limit text v) v
-    (λ (all : list_all is_empty ps ≡ true). ap (λ (b : Bool). b || list_any (part_writes limit v) ps) (first-empty ps (parts-some text) all))
-    (parts-hold limit v ps)
-
--- with pre-releases included, a range accepts what its intervals hold
-pub accepts-held : (ss : List (Span VersionValue)) (v : VersionValue) → accepts ss v true ≡ list_holds precedence ss v
-accepts-held [] v = refl
-accepts-held (s ∷ ss) v = ap₂ (λ (a b : Bool). a || b) (and-true (holds precedence s v)) (accepts-held ss v)
-  where
-    and-true : (b : Bool) → (b && true) ≡ b
-    and-true true = refl
-    and-true false = refl
+    cond_both (list_all is_empty ps) any_version (flat_map (part_denotes limit) ps) (λ ss. list_holds precedence ss v ≡ writes limit text v)
+    (λ all. sym (or_left (list_any is_empty ps) (list_any (part_writes limit v) ps) (first-empty ps (parts-some text) all))) (λ _. parts-hold limit v ps)
 
 any-is : (ss ts : List (Span VersionValue)) → Some ss ≡ if_any ts → ss ≡ ts
 any-is ss [] h = cc h

@@ -6,7 +6,7 @@ use Rattle.std.specs.Ordering.{ordering_reverse, ordering_then, is_le, is_gt, is
 use Rattle.std.specs.Cmp.{IsTotalOrder, upto, tied_itself, alike_right}
 use Rattle.std.specs.List.{flat_map}
 use Rattle.semver_core.specs.Cuts.{Span, holds, Cut, Side, Start, Beside, End, Near, Far, side_cmp, cut_cmp, lower_cut, upper_cut, is_past}
-use Rattle.semver_core.proofs.CutLaws.{cut_total, is_past-down}
+use Rattle.semver_core.proofs.CutLaws.{cut_total, gt_lt, is_past-down}
 use Rattle.semver_core.specs.declared.cuts.bound.Bound.{Bound}
 use Rattle.semver_core.specs.declared.cuts.bound.Bound.TheVariants.{Unbounded, Before, After}
 use Rattle.semver_core.specs.Values.Order.{pre_cmp, precedence}
@@ -312,7 +312,7 @@ named_list (s ∷ ss) v g k h e =
 -- x is past g, and not above v
 module _ (v x : VersionValue) (g : Cut VersionValue) (past : is_past precedence g x ≡ true) (below : is_gt (precedence x v) ≡ false) where
   mark_past : (d : Cut VersionValue) → (is_past precedence d v ≡ true → is_gt (cut_cmp precedence d g) ≡ false) → is_past precedence d v ≡ true → is_past precedence d x ≡ true
-  mark_past d f p = is_past-down precedence_total d g x (f p) past
+  mark_past d f p = is_past-down precedence_total d g x (sym (gt_lt precedence_total d g) ∙ f p) past
 
   lower_past : (b : Bound VersionValue) → Top v g (beside b) → is_past precedence (lower_cut b) v ≡ true → is_past precedence (lower_cut b) x ≡ true
   lower_past Unbounded e p = refl
