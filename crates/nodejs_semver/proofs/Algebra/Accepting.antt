@@ -28,13 +28,16 @@ module _ {V : Type 0} {R : V → V → Ordering} (o : IsTotalOrder R) where
   holds_option (Some s) v = or-false (holds R s v)
 
   -- what two lists have in common is the points that both hold
-  pub list_holds-meets_of : (ss ts : List (Span V)) (v : V) → list_holds R (meets_of R ss ts) v ≡ (list_holds R ss v && list_holds R ts v)
+  pub list_holds-meets_of : (ss ts : List (Span V)) (v : V) → list_holds R
+      (meets_of R ss ts) v ≡ (list_holds R ss v && list_holds R ts v)
   list_holds-meets_of ss ts v =
       any_flat _ _ ss
-      ∙ any_same _ _ (λ s. any_flat _ _ ts ∙ any_same _ (λ t. holds R s v && holds R t v) (λ t. holds_option (meet R s t) v ∙ option_holds-meet o s t v) ts) ss
+      ∙ any_same _ _ (λ s. any_flat _ _ ts ∙ any_same _ (λ t. holds R s v && holds R t v)
+          (λ t. holds_option (meet R s t) v ∙ option_holds-meet o s t v) ts) ss
       ∙ any_pairs (λ s. holds R s v) (λ t. holds R t v) ss ts
 
-  minus_one : (ss : List (Span V)) (t : Span V) (v : V) → list_holds R (flat_map (λ s. remainder R s t) ss) v ≡ (list_holds R ss v && not (holds R t v))
+  minus_one : (ss : List (Span V)) (t : Span V) (v : V) → list_holds R
+      (flat_map (λ s. remainder R s t) ss) v ≡ (list_holds R ss v && not (holds R t v))
   minus_one [] t v = refl
   minus_one (s ∷ ss) t v =
       list_any-append (λ s. holds R s v) (remainder R s t) (flat_map (λ s. remainder R s t) ss)
@@ -49,7 +52,8 @@ module _ {V : Type 0} {R : V → V → Ordering} (o : IsTotalOrder R) where
           ∙ rw (holds_option (remainders R s t).0 v, holds_option (remainders R s t).1 v) (remainders-hold o s t v)
 
   -- what is left of a list is the points that it holds and the other does not
-  pub list_holds-minus : (ss ts : List (Span V)) (v : V) → list_holds R (minus R ss ts) v ≡ (list_holds R ss v && not (list_holds R ts v))
+  pub list_holds-minus : (ss ts : List (Span V)) (v : V) → list_holds R
+      (minus R ss ts) v ≡ (list_holds R ss v && not (list_holds R ts v))
   list_holds-minus ss [] v = sym (and-true _)
   list_holds-minus ss (t ∷ ts) v =
       list_holds-minus (flat_map (λ s. remainder R s t) ss) ts v
@@ -59,7 +63,8 @@ module _ {V : Type 0} {R : V → V → Ordering} (o : IsTotalOrder R) where
       neither : (a b c : Bool) → ((a && not b) && not c) ≡ (a && not (b || c))
       neither a b c = grind arith
 
-pub option_list_holds-if_any : {V : Type 0} (R : V → V → Ordering) (ss : List (Span V)) (v : V) → option_list_holds R (if_any ss) v ≡ list_holds R ss v
+pub option_list_holds-if_any : {V : Type 0} (R : V → V → Ordering) (ss : List (Span V)) (v : V)
+    → option_list_holds R (if_any ss) v ≡ list_holds R ss v
 option_list_holds-if_any R [] v = refl
 option_list_holds-if_any R (s ∷ ss) v = refl
 
@@ -73,7 +78,8 @@ abbrev both : Span VersionValue → Span VersionValue → Span VersionValue
 both s t = record { lower = greater_lower precedence s.lower t.lower; upper = lesser_upper precedence s.upper t.upper }
 
 -- a test of what there is of a span, if it is an interval
-any_interval : (p : Span VersionValue → Bool) (s : Span VersionValue) → list_any p (option_to_list (interval precedence s)) ≡ (is_interval precedence s && p s)
+any_interval : (p : Span VersionValue → Bool) (s : Span VersionValue)
+    → list_any p (option_to_list (interval precedence s)) ≡ (is_interval precedence s && p s)
 any_interval p s =
     cond_both (is_interval precedence s) (Some s) None (λ m. list_any p (option_to_list m) ≡ (is_interval precedence s && p s))
     (λ h. rw h (or-false (p s))) (λ h. rw h refl)
@@ -89,52 +95,66 @@ lets_in_one s t v h =
     picked true b c h = or_left (names b v) (names c v) h
     picked false b c h = or_right (names b v) (names c v) h
 
-    either : (r a b c d l u : Bool) → (l ≡ true → (a || c) ≡ true) → (u ≡ true → (d || b) ≡ true) → (r || (l || u)) ≡ true → ((r || (a || b)) || (r || (c || d))) ≡ true
+    either : (r a b c d l u : Bool) → (l ≡ true → (a || c) ≡ true) → (u ≡ true → (d || b) ≡ true) → (r || (l || u)) ≡ true
+        → ((r || (a || b)) || (r || (c || d))) ≡ true
     either r a b c d l u f g h = grind arith
 
 -- what two spans have in common admits what both hold and one lets in
 admits-meet : (s t : Span VersionValue) (v : VersionValue)
-    → list_any (admits v) (option_to_list (meet precedence s t)) ≡ ((holds precedence s v && holds precedence t v) && (lets_in s v || lets_in t v))
+    → list_any (admits v) (option_to_list (meet precedence s t)) ≡ ((holds precedence s v && holds precedence t v) && (lets_in s
+        v || lets_in t v))
 admits-meet s t v =
     any_interval (admits v) (both s t)
-    ∙ exact _ _ _ _ _ _ held (sym (option_holds-interval precedence_total (both s t) v) ∙ option_holds-meet precedence_total s t v) (lets_in_one s t v) (lets_in-meet s t v)
+    ∙ exact _ _ _ _ _ _ held (sym (option_holds-interval precedence_total (both s t) v)
+        ∙ option_holds-meet precedence_total s t v) (lets_in_one s t v) (lets_in-meet s t v)
   where
-    exact : (i h l p q m : Bool) → (h ≡ true → i ≡ true) → h ≡ (p && q) → (l ≡ true → m ≡ true) → (p ≡ true → q ≡ true → m ≡ true → l ≡ true) → (i && (h && l)) ≡ ((p && q) && m)
+    exact : (i h l p q m : Bool) → (h ≡ true → i ≡ true) → h ≡ (p && q) → (l ≡ true → m ≡ true)
+        → (p ≡ true → q ≡ true → m ≡ true → l ≡ true) → (i && (h && l)) ≡ ((p && q) && m)
     exact i h l p q m f e g k = grind arith
 
     held : holds precedence (both s t) v ≡ true → is_interval precedence (both s t) ≡ true
-    held h = let (p, q) = and_parts _ _ h in past_below precedence_total (lower_cut (both s t).lower) (upper_cut (both s t).upper) v p (not-true _ q)
+    held h = let (p, q) = and_parts _ _ h in past_below precedence_total (lower_cut (both s t).lower)
+        (upper_cut (both s t).upper) v p (not-true _ q)
 
 accepts-meets_of : (ss ts : List (Span VersionValue)) (v : VersionValue)
-    → accepts (meets_of precedence ss ts) v false ≡ list_any (λ s. list_any (λ t. (holds precedence s v && holds precedence t v) && (lets_in s v || lets_in t v)) ts) ss
-accepts-meets_of ss ts v = any_flat (admits v) _ ss ∙ any_same _ _ (λ s. any_flat (admits v) _ ts ∙ any_same _ _ (λ t. admits-meet s t v) ts) ss
+    → accepts (meets_of precedence ss ts) v false ≡ list_any (λ s. list_any
+        (λ t. (holds precedence s v && holds precedence t v) && (lets_in s v || lets_in t v)) ts) ss
+accepts-meets_of ss ts v = any_flat (admits v) _ ss ∙ any_same _ _
+    (λ s. any_flat (admits v) _ ts ∙ any_same _ _ (λ t. admits-meet s t v) ts) ss
 
-pub option_accepts-if_any : (ss : List (Span VersionValue)) (v : VersionValue) (include : Bool) → option_accepts (if_any ss) v include ≡ accepts ss v include
+pub option_accepts-if_any : (ss : List (Span VersionValue)) (v : VersionValue) (include : Bool)
+    → option_accepts (if_any ss) v include ≡ accepts ss v include
 option_accepts-if_any [] v include = refl
 option_accepts-if_any (s ∷ ss) v include = refl
 
 -- the intersection accepts what both accept, and nothing that neither accepts
-pub both_accept : (ss ts : List (Span VersionValue)) (v : VersionValue) → accepts ss v false ≡ true → accepts ts v false ≡ true → option_accepts (if_any (meets_of precedence ss ts)) v false ≡ true
+pub both_accept : (ss ts : List (Span VersionValue)) (v : VersionValue) → accepts ss v false ≡ true → accepts ts v false ≡ true
+    → option_accepts (if_any (meets_of precedence ss ts)) v false ≡ true
 both_accept ss ts v h k =
     option_accepts-if_any (meets_of precedence ss ts) v false
     ∙ accepts-meets_of ss ts v
-    ∙ any_weaker (admits v) _ (λ s a. any_weaker (admits v) _ (λ t b. both_in (holds precedence s v) (lets_in s v) (holds precedence t v) (lets_in t v) a b) ts k) ss h
+    ∙ any_weaker (admits v) _ (λ s a. any_weaker (admits v) _
+        (λ t b. both_in (holds precedence s v) (lets_in s v) (holds precedence t v) (lets_in t v) a b) ts k) ss h
   where
     both_in : (p l q m : Bool) → (p && l) ≡ true → (q && m) ≡ true → ((p && q) && (l || m)) ≡ true
     both_in p l q m f g = grind arith
 
-pub one_accepts : (ss ts : List (Span VersionValue)) (v : VersionValue) → option_accepts (if_any (meets_of precedence ss ts)) v false ≡ true → (accepts ss v false || accepts ts v false) ≡ true
+pub one_accepts : (ss ts : List (Span VersionValue)) (v : VersionValue)
+    → option_accepts (if_any (meets_of precedence ss ts)) v false ≡ true → (accepts ss v false || accepts ts v false) ≡ true
 one_accepts ss ts v h =
-    any_either _ (admits v) (admits v) (λ s t. one_in (holds precedence s v) (lets_in s v) (holds precedence t v) (lets_in t v)) ss ts
+    any_either _ (admits v) (admits v) (λ s t. one_in (holds precedence s v) (lets_in s v) (holds precedence t v)
+        (lets_in t v)) ss ts
     (sym (option_accepts-if_any (meets_of precedence ss ts) v false ∙ accepts-meets_of ss ts v) ∙ h)
   where
     one_in : (p l q m : Bool) → ((p && q) && (l || m)) ≡ true → ((p && l) || (q && m)) ≡ true
     one_in p l q m h = grind arith
 
 -- what s admits and t does not hold, what t leaves of s admits
-remainder_admits : (s t : Span VersionValue) (v : VersionValue) → admits v s ≡ true → holds precedence t v ≡ false → list_any (admits v) (remainder precedence s t) ≡ true
+remainder_admits : (s t : Span VersionValue) (v : VersionValue) → admits v s ≡ true → holds precedence t v ≡ false
+    → list_any (admits v) (remainder precedence s t) ≡ true
 remainder_admits s t v h k =
-    remainders_by precedence_total s t (λ r. list_any (admits v) (option_to_list r.0 ++ option_to_list r.1) ≡ true) met (λ _. or_left (admits v s) false h)
+    remainders_by precedence_total s t (λ r. list_any (admits v) (option_to_list r.0 ++ option_to_list r.1) ≡ true) met
+        (λ _. or_left (admits v s) false h)
   where
     at : (is_past precedence (lower_cut s.lower) v ≡ true) × (is_past precedence (upper_cut s.upper) v ≡ false)
     at = let (p, q) = and_parts _ _ (and_parts (holds precedence s v) _ h).0 in (p, not-true _ q)
@@ -142,25 +162,33 @@ remainder_admits s t v h k =
     let_in : lets_in s v ≡ true
     let_in = (and_parts (holds precedence s v) _ h).1
 
-    kept : (p q r a b c : Bool) → p ≡ true → q ≡ false → (r || (a || b)) ≡ true → (b ≡ true → c ≡ true) → (((p && not q) && (r || (a || c))) || false) ≡ true
+    kept : (p q r a b c : Bool) → p ≡ true → q ≡ false → (r || (a || b)) ≡ true → (b ≡ true → c ≡ true)
+        → (((p && not q) && (r || (a || c))) || false) ≡ true
     kept p q r a b c f g l n = grind arith
 
-    kept_above : (p q r a b c : Bool) → p ≡ true → q ≡ false → (r || (a || b)) ≡ true → (r ≡ false → a ≡ true → c ≡ true) → (((p && not q) && (r || (c || b))) || false) ≡ true
+    kept_above : (p q r a b c : Bool) → p ≡ true → q ≡ false → (r || (a || b)) ≡ true → (r ≡ false → a ≡ true → c ≡ true)
+        → (((p && not q) && (r || (c || b))) || false) ≡ true
     kept_above p q r a b c f g l n = grind arith
 
-    below : lt precedence_total (lower_cut t.lower) (upper_cut s.upper) ≡ true → is_past precedence (lower_cut t.lower) v ≡ false → list_any (admits v) (option_to_list (left_below precedence s t)) ≡ true
+    below : lt precedence_total (lower_cut t.lower) (upper_cut s.upper) ≡ true
+        → is_past precedence (lower_cut t.lower) v ≡ false → list_any (admits v)
+        (option_to_list (left_below precedence s t)) ≡ true
     below m e =
         let i = past_below precedence_total (lower_cut s.lower) (lower_cut t.lower) v at.0 e in
         let turned = turned_lower precedence_total t.lower (lower_cut s.lower) i in
-        rw (i, turned) (kept _ _ (is_release v) (names s.lower v) (names s.upper v) _ at.0 e let_in (λ n. names_below s.upper t.lower v n m e))
+        rw (i, turned) (kept _ _ (is_release v) (names s.lower v) (names s.upper v) _ at.0 e let_in
+            (λ n. names_below s.upper t.lower v n m e))
 
-    above : lt precedence_total (lower_cut s.lower) (upper_cut t.upper) ≡ true → is_past precedence (upper_cut t.upper) v ≡ true → list_any (admits v) (option_to_list (left_above precedence s t)) ≡ true
+    above : lt precedence_total (lower_cut s.lower) (upper_cut t.upper) ≡ true → is_past precedence (upper_cut t.upper) v ≡ true
+        → list_any (admits v) (option_to_list (left_above precedence s t)) ≡ true
     above m e =
         let i = past_below precedence_total (upper_cut t.upper) (upper_cut s.upper) v e at.1 in
         let turned = turned_upper precedence_total t.upper (upper_cut s.upper) i in
-        rw (i, turned) (kept_above _ _ (is_release v) (names s.lower v) (names s.upper v) _ e at.1 let_in (λ r n. names_above s.lower t.upper v r n m e))
+        rw (i, turned) (kept_above _ _ (is_release v) (names s.lower v) (names s.upper v) _ e at.1 let_in
+            (λ r n. names_above s.lower t.upper v r n m e))
 
-    met : is_interval precedence (both s t) ≡ true → list_any (admits v) (option_to_list (left_below precedence s t) ++ option_to_list (left_above precedence s t)) ≡ true
+    met : is_interval precedence (both s t) ≡ true → list_any (admits v)
+        (option_to_list (left_below precedence s t) ++ option_to_list (left_above precedence s t)) ≡ true
     met m =
         let in_order = between_parts precedence_total s.lower t.lower s.upper t.upper m in
         let low = option_to_list (left_below precedence s t) in
@@ -168,18 +196,22 @@ remainder_admits s t v h k =
         list_any-append (admits v) low high
         ∙ elim (and_cases (is_past precedence (lower_cut t.lower) v) (not (is_past precedence (upper_cut t.upper) v)) k) [
           | inl e ↦ or_left (list_any (admits v) low) (list_any (admits v) high) (below in_order.1.0 e)
-          | inr e ↦ or_right (list_any (admits v) low) (list_any (admits v) high) (above in_order.0.1 (not-false (is_past precedence (upper_cut t.upper) v) e))
+          | inr e ↦ or_right (list_any (admits v) low) (list_any (admits v) high)
+              (above in_order.0.1 (not-false (is_past precedence (upper_cut t.upper) v) e))
         ]
 
 -- what one list accepts and the other does not hold, what is left accepts
-pub accepts-minus : (ss ts : List (Span VersionValue)) (v : VersionValue) → accepts ss v false ≡ true → list_holds precedence ts v ≡ false → accepts (minus precedence ss ts) v false ≡ true
+pub accepts-minus : (ss ts : List (Span VersionValue)) (v : VersionValue) → accepts ss v false ≡ true
+    → list_holds precedence ts v ≡ false → accepts (minus precedence ss ts) v false ≡ true
 accepts-minus ss [] v h k = h
 accepts-minus ss (t ∷ ts) v h k =
     let (here, there) = or_parts (holds precedence t v) (list_holds precedence ts v) k in
-    accepts-minus (flat_map (λ s. remainder precedence s t) ss) ts v (any_flat (admits v) _ ss ∙ any_weaker (admits v) _ (λ s a. remainder_admits s t v a here) ss h) there
+    accepts-minus (flat_map (λ s. remainder precedence s t) ss) ts v
+        (any_flat (admits v) _ ss ∙ any_weaker (admits v) _ (λ s a. remainder_admits s t v a here) ss h) there
 
 -- of releases a list accepts those that it holds, and all with pre-releases included
-pub accepts-release : (ss : List (Span VersionValue)) (v : VersionValue) → is_release v ≡ true → accepts ss v false ≡ list_holds precedence ss v
+pub accepts-release : (ss : List (Span VersionValue)) (v : VersionValue) → is_release v ≡ true
+    → accepts ss v false ≡ list_holds precedence ss v
 accepts-release ss v r = any_same _ _ (λ s. rw r (and-true (holds precedence s v))) ss
 
 pub accepts-held : (ss : List (Span VersionValue)) (v : VersionValue) → accepts ss v true ≡ list_holds precedence ss v
@@ -194,7 +226,8 @@ option_some : {A : Type 0} (m : Option A) → is_some m ≡ list_any (λ _. true
 option_some None = refl
 option_some (Some x) = refl
 
-pub meets_one-some : (ss ts : List (Span VersionValue)) → list_any (λ s. list_any (λ t. is_some (meet precedence s t)) ts) ss ≡ is_some (intersection ss ts)
+pub meets_one-some : (ss ts : List (Span VersionValue)) → list_any
+    (λ s. list_any (λ t. is_some (meet precedence s t)) ts) ss ≡ is_some (intersection ss ts)
 meets_one-some ss ts =
     any_same _ _ (λ s. any_same _ _ (λ t. option_some (meet precedence s t)) ts ∙ sym (any_flat (λ _. true) _ ts)) ss
     ∙ sym (if_any_some (meets_of precedence ss ts) ∙ any_flat (λ _. true) _ ss)

@@ -14,16 +14,19 @@ use Rattle.nodejs_semver.proofs.Algebra.Accepting.{accepts-held, accepts-minus, 
 use Rattle.nodejs_semver.proofs.Algebra.FlatMaps.{all_weaker}
 use Rattle.nodejs_semver.proofs.Algebra.Spans.{fine-meets_of, fine-minus}
 
-option_accepts-held : (r : Option (List (Span VersionValue))) (v : VersionValue) → option_accepts r v true ≡ option_list_holds precedence r v
+option_accepts-held : (r : Option (List (Span VersionValue))) (v : VersionValue)
+    → option_accepts r v true ≡ option_list_holds precedence r v
 option_accepts-held None v = refl
 option_accepts-held (Some ss) v = accepts-held ss v
 
-module _ (a b : List (Span VersionValue)) (r : Option (List (Span VersionValue))) (e : r ≡ intersection a b) (v : VersionValue) where
+module _ (a b : List (Span VersionValue)) (r : Option (List (Span VersionValue))) (e : r ≡ intersection a b)
+    (v : VersionValue) where
   accepted : option_accepts r v false ≡ option_accepts (intersection a b) v false
   accepted = ap (λ q. option_accepts q v false) e
 
   pub intersection-set : option_list_holds precedence r v ≡ (list_holds precedence a v && list_holds precedence b v)
-  intersection-set = ap (λ q. option_list_holds precedence q v) e ∙ option_list_holds-if_any precedence (meets_of precedence a b) v ∙ list_holds-meets_of precedence_total a b v
+  intersection-set = ap (λ q. option_list_holds precedence q v) e
+      ∙ option_list_holds-if_any precedence (meets_of precedence a b) v ∙ list_holds-meets_of precedence_total a b v
 
   pub intersection-all : option_accepts r v true ≡ (accepts a v true && accepts b v true)
   intersection-all = cc (intersection-set, option_accepts-held r v, accepts-held a v, accepts-held b v)
@@ -41,12 +44,14 @@ module _ (a b : List (Span VersionValue)) (r : Option (List (Span VersionValue))
       ∙ ap (λ q. q && list_holds precedence b v) (sym (accepts-release a v k))
       ∙ ap (λ q. accepts a v false && q) (sym (accepts-release b v k))
 
-module _ (a b : List (Span VersionValue)) (r : Option (List (Span VersionValue))) (e : r ≡ difference a b) (v : VersionValue) where
+module _ (a b : List (Span VersionValue)) (r : Option (List (Span VersionValue))) (e : r ≡ difference a b)
+    (v : VersionValue) where
   left_accepted : option_accepts r v false ≡ option_accepts (difference a b) v false
   left_accepted = ap (λ q. option_accepts q v false) e
 
   pub difference-set : option_list_holds precedence r v ≡ (list_holds precedence a v && not (list_holds precedence b v))
-  difference-set = ap (λ q. option_list_holds precedence q v) e ∙ option_list_holds-if_any precedence (minus precedence a b) v ∙ list_holds-minus precedence_total a b v
+  difference-set = ap (λ q. option_list_holds precedence q v) e ∙ option_list_holds-if_any precedence (minus precedence a b) v
+      ∙ list_holds-minus precedence_total a b v
 
   pub difference-all : option_accepts r v true ≡ (accepts a v true && not (accepts b v true))
   difference-all = cc (difference-set, option_accepts-held r v, accepts-held a v, accepts-held b v)
@@ -62,21 +67,28 @@ module _ (a b : List (Span VersionValue)) (r : Option (List (Span VersionValue))
       ∙ ap (λ q. accepts a v false && not q) (sym (accepts-release b v k))
 
 -- the lists of two ranges, by any other names, make intervals of a range
-pub meets_of-valid : (a b xs ys found : List (Span VersionValue)) → IsRange MAX_SAFE_INTEGER a → IsRange MAX_SAFE_INTEGER b → xs ≡ a → ys ≡ b → found ≡ meets_of precedence xs ys → list_all (is_range_span (MAX_SAFE_INTEGER + 1)) found ≡ true
+pub meets_of-valid : (a b xs ys found : List (Span VersionValue)) → IsRange MAX_SAFE_INTEGER a → IsRange MAX_SAFE_INTEGER b
+    → xs ≡ a → ys ≡ b → found ≡ meets_of precedence xs ys → list_all (is_range_span (MAX_SAFE_INTEGER + 1)) found ≡ true
 meets_of-valid a b xs ys found h k p q e =
     ap (λ zs. list_all (is_range_span (MAX_SAFE_INTEGER + 1)) zs) e
     ∙ fine-meets_of precedence_total (is_range_bound (MAX_SAFE_INTEGER + 1)) xs ys
-    (ap (λ zs. list_all (is_range_span (MAX_SAFE_INTEGER + 1)) zs) p ∙ h.each) (ap (λ zs. list_all (is_range_span (MAX_SAFE_INTEGER + 1)) zs) q ∙ k.each)
+    (ap (λ zs. list_all (is_range_span (MAX_SAFE_INTEGER + 1)) zs) p ∙ h.each)
+        (ap (λ zs. list_all (is_range_span (MAX_SAFE_INTEGER + 1)) zs) q ∙ k.each)
 
-pub minus-valid : (a b xs ys left : List (Span VersionValue)) → IsRange MAX_SAFE_INTEGER a → IsRange MAX_SAFE_INTEGER b → xs ≡ a → ys ≡ b → left ≡ minus precedence xs ys → list_all (is_range_span (MAX_SAFE_INTEGER + 1)) left ≡ true
+pub minus-valid : (a b xs ys left : List (Span VersionValue)) → IsRange MAX_SAFE_INTEGER a → IsRange MAX_SAFE_INTEGER b → xs ≡ a
+    → ys ≡ b → left ≡ minus precedence xs ys → list_all (is_range_span (MAX_SAFE_INTEGER + 1)) left ≡ true
 minus-valid a b xs ys left h k p q e =
     ap (λ zs. list_all (is_range_span (MAX_SAFE_INTEGER + 1)) zs) e
     ∙ fine-minus precedence_total (is_range_bound (MAX_SAFE_INTEGER + 1)) xs ys
-    (ap (λ zs. list_all (is_range_span (MAX_SAFE_INTEGER + 1)) zs) p ∙ h.each) (ap (λ zs. list_all (is_range_span (MAX_SAFE_INTEGER + 1)) zs) q ∙ k.each)
+    (ap (λ zs. list_all (is_range_span (MAX_SAFE_INTEGER + 1)) zs) p ∙ h.each)
+        (ap (λ zs. list_all (is_range_span (MAX_SAFE_INTEGER + 1)) zs) q ∙ k.each)
 
 -- the spans of a range are intervals
-pub all_intervals : (n : ℕ) (ss : List (Span VersionValue)) → list_all (is_range_span n) ss ≡ true → list_all (is_interval precedence) ss ≡ true
+pub all_intervals : (n : ℕ) (ss : List (Span VersionValue)) → list_all (is_range_span n) ss ≡ true
+    → list_all (is_interval precedence) ss ≡ true
 all_intervals n = all_weaker (is_range_span n) (is_interval precedence) (λ s h. first_so _ _ h)
 
-pub range-intervals : (a xs : List (Span VersionValue)) → IsRange MAX_SAFE_INTEGER a → xs ≡ a → list_all (is_interval precedence) xs ≡ true
-range-intervals a xs h e = all_intervals (MAX_SAFE_INTEGER + 1) xs (ap (list_all (is_range_span (MAX_SAFE_INTEGER + 1))) e ∙ h.each)
+pub range-intervals : (a xs : List (Span VersionValue)) → IsRange MAX_SAFE_INTEGER a → xs ≡ a
+    → list_all (is_interval precedence) xs ≡ true
+range-intervals a xs h e = all_intervals (MAX_SAFE_INTEGER + 1) xs
+    (ap (list_all (is_range_span (MAX_SAFE_INTEGER + 1))) e ∙ h.each)

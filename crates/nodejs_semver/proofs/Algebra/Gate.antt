@@ -1,4 +1,5 @@
--- The gate: a bound that names a version, and a tighter one on the same side of it that the version still lies past, both name it.
+-- The gate: a bound that names a version, and a tighter one on the same side of it that the version still lies past, both name
+-- it.
 use Rattle.std.proofs.Common.{◌≡◌, refl, sym, ◌∙◌, Bool, true, false, ◌||◌, inl, inr, arith}
 use Rattle.std.proofs.lemmas.Bool.{cases_Bool, cond_both, not-true}
 use Rattle.std.specs.Cmp.{alike_right, first_so, second_so, tied_back}
@@ -36,14 +37,16 @@ at_upper (After w) v = refl
 pub in_order : (w u : VersionValue) (s t : Side) → below (Beside u t) (Beside w s) ≡ false → is_gt (precedence w u) ≡ false
 in_order w u s t h = then_not_gt (precedence w u) (side_cmp s t) (gt_lt precedence_total (Beside w s) (Beside u t) ∙ h)
 
-past_order : (u v : VersionValue) (t : Side) → is_past precedence (Beside u t) v ≡ true → is_gt (precedence u v) ≡ false
+pub past_order : (u v : VersionValue) (t : Side) → is_past precedence (Beside u t) v ≡ true → is_gt (precedence u v) ≡ false
 past_order u v t h = in_order u v t Near (grind (arith, past_lt precedence_total (Beside u t) v))
 
 not_past_order : (u v : VersionValue) (t : Side) → is_past precedence (Beside u t) v ≡ false → is_gt (precedence v u) ≡ false
-not_past_order u v t h = in_order v u Near t (one_way precedence_total (Beside v Near) (Beside u t) (grind (arith, past_lt precedence_total (Beside u t) v)))
+not_past_order u v t h = in_order v u Near t (one_way precedence_total (Beside v Near) (Beside u t)
+    (grind (arith, past_lt precedence_total (Beside u t) v)))
 
 -- a cut that names v is not above another past which v lies
-lower_named : (c d : Cut VersionValue) (v : VersionValue) → is_release v ≡ false → cut_names c v ≡ true → below d c ≡ false → is_past precedence d v ≡ true → cut_names d v ≡ true
+lower_named : (c d : Cut VersionValue) (v : VersionValue) → is_release v ≡ false → cut_names c v ≡ true → below d c ≡ false
+    → is_past precedence d v ≡ true → cut_names d v ≡ true
 lower_named Start d v k n m h = cc
 lower_named End d v k n m h = cc
 lower_named (Beside w s) Start v k n m h = cc
@@ -54,7 +57,8 @@ lower_named (Beside w s) (Beside u t) v k n m h =
     named_from u v (pre_upto u v k tied up) tied
 
 -- or not below one past which v does not lie
-upper_named : (c d : Cut VersionValue) (v : VersionValue) → cut_names c v ≡ true → below c d ≡ false → is_past precedence d v ≡ false → cut_names d v ≡ true
+upper_named : (c d : Cut VersionValue) (v : VersionValue) → cut_names c v ≡ true → below c d ≡ false
+    → is_past precedence d v ≡ false → cut_names d v ≡ true
 upper_named Start d v n m h = cc
 upper_named End d v n m h = cc
 upper_named (Beside w s) Start v n m h = cc
@@ -66,23 +70,31 @@ upper_named (Beside w s) (Beside u t) v n m h =
     named_from u v (pre_upto u w pre same up) (sym (alike_right triple_total w v u tied) ∙ same)
 
 -- one of two bounds names v, and v lies between both: the one that is picked names it
-greater_names : (b c : Bound VersionValue) (v : VersionValue) → is_release v ≡ false → is_past precedence (lower_cut b) v ≡ true → is_past precedence (lower_cut c) v ≡ true
+greater_names : (b c : Bound VersionValue) (v : VersionValue) → is_release v ≡ false → is_past precedence (lower_cut b) v ≡ true
+    → is_past precedence (lower_cut c) v ≡ true
     → (names b v || names c v) ≡ true → names (greater_lower precedence b c) v ≡ true
 greater_names b c v k p q n =
     cond_both (is_gt (cut_cmp precedence (lower_cut b) (lower_cut c))) b c (λ d. names d v ≡ true)
-    (λ h. grind (arith, at_lower b v, at_lower c v, lower_named (lower_cut c) (lower_cut b) v k, one_way precedence_total (lower_cut c) (lower_cut b), gt_lt precedence_total (lower_cut b) (lower_cut c)))
-    (λ h. grind (arith, at_lower b v, at_lower c v, lower_named (lower_cut b) (lower_cut c) v k, gt_lt precedence_total (lower_cut b) (lower_cut c)))
+    (λ h. grind (arith, at_lower b v, at_lower c v, lower_named (lower_cut c) (lower_cut b) v k, one_way precedence_total
+        (lower_cut c) (lower_cut b), gt_lt precedence_total (lower_cut b) (lower_cut c)))
+    (λ h. grind (arith, at_lower b v, at_lower c v, lower_named (lower_cut b) (lower_cut c) v k, gt_lt precedence_total
+        (lower_cut b) (lower_cut c)))
 
-lesser_names : (b c : Bound VersionValue) (v : VersionValue) → is_past precedence (upper_cut b) v ≡ false → is_past precedence (upper_cut c) v ≡ false
+lesser_names : (b c : Bound VersionValue) (v : VersionValue) → is_past precedence (upper_cut b) v ≡ false
+    → is_past precedence (upper_cut c) v ≡ false
     → (names b v || names c v) ≡ true → names (lesser_upper precedence b c) v ≡ true
 lesser_names b c v p q n =
     cond_both (is_gt (cut_cmp precedence (upper_cut b) (upper_cut c))) c b (λ d. names d v ≡ true)
-    (λ h. grind (arith, at_upper b v, at_upper c v, upper_named (upper_cut b) (upper_cut c) v, one_way precedence_total (upper_cut c) (upper_cut b), gt_lt precedence_total (upper_cut b) (upper_cut c)))
-    (λ h. grind (arith, at_upper b v, at_upper c v, upper_named (upper_cut c) (upper_cut b) v, gt_lt precedence_total (upper_cut b) (upper_cut c)))
+    (λ h. grind (arith, at_upper b v, at_upper c v, upper_named (upper_cut b) (upper_cut c) v, one_way precedence_total
+        (upper_cut c) (upper_cut b), gt_lt precedence_total (upper_cut b) (upper_cut c)))
+    (λ h. grind (arith, at_upper b v, at_upper c v, upper_named (upper_cut c) (upper_cut b) v, gt_lt precedence_total
+        (upper_cut b) (upper_cut c)))
 
 -- what either of two spans lets in, where both hold it, what they have in common lets in
-pub lets_in-meet : (s t : Span VersionValue) (v : VersionValue) → holds precedence s v ≡ true → holds precedence t v ≡ true → (lets_in s v || lets_in t v) ≡ true
-    → lets_in (record { lower = greater_lower precedence s.lower t.lower; upper = lesser_upper precedence s.upper t.upper }) v ≡ true
+pub lets_in-meet : (s t : Span VersionValue) (v : VersionValue) → holds precedence s v ≡ true → holds precedence t v ≡ true
+    → (lets_in s v || lets_in t v) ≡ true
+    → lets_in (record { lower = greater_lower precedence s.lower t.lower; upper =
+        lesser_upper precedence s.upper t.upper }) v ≡ true
 lets_in-meet s t v h k n = elim (cases_Bool (is_release v)) [
   | inl r ↦ rw r refl
   | inr r ↦
@@ -91,14 +103,19 @@ lets_in-meet s t v h k n = elim (cases_Bool (is_release v)) [
       (lesser_names s.upper t.upper v (not-true _ (second_so _ _ h)) (not-true _ (second_so _ _ k))) (rw r at n))
 ]
   where
-    picked : (a b c d l u : Bool) → ((a || c) ≡ true → l ≡ true) → ((b || d) ≡ true → u ≡ true) → ((a || b) || (c || d)) ≡ true → (l || u) ≡ true
+    picked : (a b c d l u : Bool) → ((a || c) ≡ true → l ≡ true) → ((b || d) ≡ true → u ≡ true) → ((a || b) || (c || d)) ≡ true
+        → (l || u) ≡ true
     picked a b c d l u f g h = grind arith
 
 -- an upper bound that names v is above the lower bound of what is taken away, past which v does not lie: that one names v too
-pub names_below : (b c : Bound VersionValue) (v : VersionValue) → names b v ≡ true → below (lower_cut c) (upper_cut b) ≡ true → is_past precedence (lower_cut c) v ≡ false → names c v ≡ true
-names_below b c v n m h = at_lower c v ∙ upper_named (upper_cut b) (lower_cut c) v (sym (at_upper b v) ∙ n) (one_way precedence_total (lower_cut c) (upper_cut b) m) h
+pub names_below : (b c : Bound VersionValue) (v : VersionValue) → names b v ≡ true → below (lower_cut c) (upper_cut b) ≡ true
+    → is_past precedence (lower_cut c) v ≡ false → names c v ≡ true
+names_below b c v n m h = at_lower c v ∙ upper_named (upper_cut b) (lower_cut c) v (sym (at_upper b v) ∙ n)
+    (one_way precedence_total (lower_cut c) (upper_cut b) m) h
 
 -- and the same of a lower bound, the upper bound of what is taken away, and v past that
-pub names_above : (b c : Bound VersionValue) (v : VersionValue) → is_release v ≡ false → names b v ≡ true → below (lower_cut b) (upper_cut c) ≡ true → is_past precedence (upper_cut c) v ≡ true
+pub names_above : (b c : Bound VersionValue) (v : VersionValue) → is_release v ≡ false → names b v ≡ true
+    → below (lower_cut b) (upper_cut c) ≡ true → is_past precedence (upper_cut c) v ≡ true
     → names c v ≡ true
-names_above b c v k n m h = at_upper c v ∙ lower_named (lower_cut b) (upper_cut c) v k (sym (at_lower b v) ∙ n) (one_way precedence_total (lower_cut b) (upper_cut c) m) h
+names_above b c v k n m h = at_upper c v ∙ lower_named (lower_cut b) (upper_cut c) v k (sym (at_lower b v) ∙ n)
+    (one_way precedence_total (lower_cut b) (upper_cut c) m) h

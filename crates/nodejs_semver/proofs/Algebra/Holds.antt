@@ -25,15 +25,18 @@ use Rattle.nodejs_semver.proofs.Dividing.BarsDivide.{bars_divide}
 use Rattle.nodejs_semver.proofs.Algebra.Accepting.{accepts-held}
 use Rattle.nodejs_semver.proofs.Dividing.RunLemmas.{run-holds}
 
-runs-hold : {V : Type 0} {R : V → V → Ordering} → IsTotalOrder R → (v : V) (rs : List (Run V)) → list_holds R (map (interval_of R) rs) v ≡ list_any (run_writes R v) rs
+runs-hold : {V : Type 0} {R : V → V → Ordering} → IsTotalOrder R → (v : V) (rs : List (Run V))
+    → list_holds R (map (interval_of R) rs) v ≡ list_any (run_writes R v) rs
 runs-hold o v [] = refl
 runs-hold o v (r ∷ rs) = ap₂ (λ (s t : Bool). s || t) (run-holds o v r) (runs-hold o v rs)
 
-part-holds : (limit : ℕ) (v : VersionValue) (part : List ℕ) → list_holds precedence (part_intervals limit part) v ≡ part_writes limit v part
+part-holds : (limit : ℕ) (v : VersionValue) (part : List ℕ) → list_holds precedence
+    (part_intervals limit part) v ≡ part_writes limit v part
 part-holds limit v part = runs-hold precedence_total v (runs_of precedence (part_bounds limit part))
 
 -- an empty part holds every version, and any other what its words write
-part-denoted : (limit : ℕ) (v : VersionValue) (part : List ℕ) → list_holds precedence (part_denotes limit part) v ≡ (is_empty part || part_writes limit v part)
+part-denoted : (limit : ℕ) (v : VersionValue) (part : List ℕ)
+    → list_holds precedence (part_denotes limit part) v ≡ (is_empty part || part_writes limit v part)
 part-denoted limit v [] = refl
 part-denoted limit v (b ∷ part) = part-holds limit v (b ∷ part)
 
@@ -61,11 +64,14 @@ parts-some text h = pieces-some text (cut_bars false text) (bars_divide text) h
     pieces-some whole pieces (one_piece piece free) h = cc h
     pieces-some whole pieces (more_pieces piece rest others free ended cut) h = cc h
 
-pub denotes_hold : (limit : ℕ) (text : List ℕ) (v : VersionValue) → list_holds precedence (denotes limit text) v ≡ writes limit text v
+pub denotes_hold : (limit : ℕ) (text : List ℕ) (v : VersionValue)
+    → list_holds precedence (denotes limit text) v ≡ writes limit text v
 denotes_hold limit text v =
     let ps = parts text in
-    cond_both (list_all is_empty ps) any_version (flat_map (part_denotes limit) ps) (λ ss. list_holds precedence ss v ≡ writes limit text v)
-    (λ all. sym (or_left (list_any is_empty ps) (list_any (part_writes limit v) ps) (first-empty ps (parts-some text) all))) (λ _. parts-hold limit v ps)
+    cond_both (list_all is_empty ps) any_version (flat_map (part_denotes limit) ps)
+        (λ ss. list_holds precedence ss v ≡ writes limit text v)
+    (λ all. sym (or_left (list_any is_empty ps) (list_any (part_writes limit v) ps) (first-empty ps (parts-some text) all)))
+        (λ _. parts-hold limit v ps)
 
 any-is : (ss ts : List (Span VersionValue)) → Some ss ≡ if_any ts → ss ≡ ts
 any-is ss [] h = cc h
@@ -74,4 +80,5 @@ any-is ss (t ∷ ts) h = cc h
 pub accepted-written : (limit : ℕ) (text : List ℕ) (ss : List (Span VersionValue)) → Some ss ≡ if_any (denotes limit text)
     → (v : VersionValue) → accepts ss v true ≡ writes limit text v
 accepted-written limit text ss h v =
-    accepts-held ss v ∙ (ap (λ (ts : List (Span VersionValue)). list_holds precedence ts v) (any-is ss (denotes limit text) h) ∙ denotes_hold limit text v)
+    accepts-held ss v ∙ (ap (λ (ts : List (Span VersionValue)). list_holds precedence ts v) (any-is ss (denotes limit text) h)
+        ∙ denotes_hold limit text v)

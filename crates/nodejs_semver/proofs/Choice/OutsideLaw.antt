@@ -16,8 +16,10 @@ use Rattle.nodejs_semver.specs.Ranges.View.{IsRange, is_range_span, is_range_bou
 use Rattle.nodejs_semver.proofs.Algebra.Clauses.{all_intervals}
 
 -- what lies past the upper cut of an interval lies past its lower cut
-both_past : (s : Span VersionValue) (v : VersionValue) → is_interval precedence s ≡ true → is_past precedence (upper_cut s.upper) v ≡ true → is_past precedence (lower_cut s.lower) v ≡ true
-both_past s v h p = is_past-down precedence_total (lower_cut s.lower) (upper_cut s.upper) v (one_way precedence_total (lower_cut s.lower) (upper_cut s.upper) h) p
+both_past : (s : Span VersionValue) (v : VersionValue) → is_interval precedence s ≡ true
+    → is_past precedence (upper_cut s.upper) v ≡ true → is_past precedence (lower_cut s.lower) v ≡ true
+both_past s v h p = is_past-down precedence_total (lower_cut s.lower) (upper_cut s.upper) v
+    (one_way precedence_total (lower_cut s.lower) (upper_cut s.upper) h) p
 
 -- the ends of the line
 unbounded_below : (b : Bound VersionValue) (v : VersionValue) → is_bounded b ≡ false → is_past precedence (lower_cut b) v ≡ true
@@ -30,20 +32,24 @@ unbounded_above Unbounded v h = refl
 unbounded_above (Before w) v h = cc
 unbounded_above (After w) v h = cc
 
--- one span that does not hold the version: l and u say whether it lies past the lower and the upper cut, a and b whether there is a bound
+-- one span that does not hold the version: l and u say whether it lies past the lower and the upper cut, a and b whether there
+-- is a bound
 higher_one : (l u b : Bool) → (u ≡ true → l ≡ true) → (b ≡ false → u ≡ false) → (not ((l && not u) && true) && (b && l)) ≡ u
 higher_one l u b f g = grind arith
 
-lower_one : (l u a b : Bool) → (u ≡ true → l ≡ true) → (a ≡ false → l ≡ true) → (b ≡ false → u ≡ false) → (not ((l && not u) && true) && ((not a && not b) || (a && not u))) ≡ not l
+lower_one : (l u a b : Bool) → (u ≡ true → l ≡ true) → (a ≡ false → l ≡ true) → (b ≡ false → u ≡ false)
+    → (not ((l && not u) && true) && ((not a && not b) || (a && not u))) ≡ not l
 lower_one l u a b f g k = grind arith
 
 -- no span holds the version and each passes one test, where each passes another
-along : (held test other : Span VersionValue → Bool) (ok : Span VersionValue → Bool) → ((s : Span VersionValue) → ok s ≡ true → (not (held s) && test s) ≡ other s)
+along : (held test other : Span VersionValue → Bool) (ok : Span VersionValue → Bool)
+    → ((s : Span VersionValue) → ok s ≡ true → (not (held s) && test s) ≡ other s)
     → (ss : List (Span VersionValue)) → list_all ok ss ≡ true → (not (list_any held ss) && list_all test ss) ≡ list_all other ss
 along held test other ok each [] h = refl
 along held test other ok each (s ∷ ss) h =
     let (here, there) = and_parts (ok s) (list_all ok ss) h in
-    regroup (held s) (list_any held ss) (test s) (list_all test ss) ∙ ap₂ (λ a b. a && b) (each s here) (along held test other ok each ss there)
+    regroup (held s) (list_any held ss) (test s) (list_all test ss)
+        ∙ ap₂ (λ a b. a && b) (each s here) (along held test other ok each ss there)
   where
     regroup : (a b c d : Bool) → (not (a || b) && (c && d)) ≡ ((not a && c) && (not b && d))
     regroup a b c d = grind arith
@@ -51,25 +57,33 @@ along held test other ok each (s ∷ ss) h =
 higher_of : (ss : List (Span VersionValue)) (v : VersionValue) → list_all (is_interval precedence) ss ≡ true
     → is_outside Higher true ss v ≡ list_all (λ s. is_past precedence (upper_cut s.upper) v) ss
 higher_of ss v h =
-    along (λ s. holds precedence s v && true) (λ s. lies_below s v) (λ s. is_past precedence (upper_cut s.upper) v) (is_interval precedence) each ss h
+    along (λ s. holds precedence s v && true) (λ s. lies_below s v) (λ s. is_past precedence (upper_cut s.upper) v)
+        (is_interval precedence) each ss h
   where
-    each : (s : Span VersionValue) → is_interval precedence s ≡ true → (not (holds precedence s v && true) && lies_below s v) ≡ is_past precedence (upper_cut s.upper) v
+    each : (s : Span VersionValue) → is_interval precedence s ≡ true
+        → (not (holds precedence s v && true) && lies_below s v) ≡ is_past precedence (upper_cut s.upper) v
     each s e =
-        higher_one (is_past precedence (lower_cut s.lower) v) (is_past precedence (upper_cut s.upper) v) (is_bounded s.upper) (both_past s v e) (unbounded_above s.upper v)
+        higher_one (is_past precedence (lower_cut s.lower) v) (is_past precedence (upper_cut s.upper) v) (is_bounded s.upper)
+            (both_past s v e) (unbounded_above s.upper v)
 
 lower_of : (ss : List (Span VersionValue)) (v : VersionValue) → list_all (is_interval precedence) ss ≡ true
     → is_outside Lower true ss v ≡ list_all (λ s. not (is_past precedence (lower_cut s.lower) v)) ss
 lower_of ss v h =
-    along (λ s. holds precedence s v && true) (λ s. lies_above s v) (λ s. not (is_past precedence (lower_cut s.lower) v)) (is_interval precedence) each ss h
+    along (λ s. holds precedence s v && true) (λ s. lies_above s v) (λ s. not (is_past precedence (lower_cut s.lower) v))
+        (is_interval precedence) each ss h
   where
-    each : (s : Span VersionValue) → is_interval precedence s ≡ true → (not (holds precedence s v && true) && lies_above s v) ≡ not (is_past precedence (lower_cut s.lower) v)
+    each : (s : Span VersionValue) → is_interval precedence s ≡ true
+        → (not (holds precedence s v && true) && lies_above s v) ≡ not (is_past precedence (lower_cut s.lower) v)
     each s e =
-        lower_one (is_past precedence (lower_cut s.lower) v) (is_past precedence (upper_cut s.upper) v) (is_bounded s.lower) (is_bounded s.upper) (both_past s v e) (unbounded_below s.lower v) (unbounded_above s.upper v)
+        lower_one (is_past precedence (lower_cut s.lower) v) (is_past precedence (upper_cut s.upper) v) (is_bounded s.lower)
+            (is_bounded s.upper) (both_past s v e) (unbounded_below s.lower v) (unbounded_above s.upper v)
 
-pub higher_by_cuts : (d : OutsideDirection) (limit : ℕ) (ss : List (Span VersionValue)) (v : VersionValue) → IsRange limit ss → d ≡ Higher
+pub higher_by_cuts : (d : OutsideDirection) (limit : ℕ) (ss : List (Span VersionValue)) (v : VersionValue) → IsRange limit ss
+    → d ≡ Higher
     → is_outside d true ss v ≡ list_all (λ s. is_past precedence (upper_cut s.upper) v) ss
 higher_by_cuts d limit ss v h e = ap (λ d. is_outside d true ss v) e ∙ higher_of ss v (all_intervals (limit + 1) ss h.each)
 
-pub lower_by_cuts : (d : OutsideDirection) (limit : ℕ) (ss : List (Span VersionValue)) (v : VersionValue) → IsRange limit ss → d ≡ Lower
+pub lower_by_cuts : (d : OutsideDirection) (limit : ℕ) (ss : List (Span VersionValue)) (v : VersionValue) → IsRange limit ss
+    → d ≡ Lower
     → is_outside d true ss v ≡ list_all (λ s. not (is_past precedence (lower_cut s.lower) v)) ss
 lower_by_cuts d limit ss v h e = ap (λ d. is_outside d true ss v) e ∙ lower_of ss v (all_intervals (limit + 1) ss h.each)

@@ -47,14 +47,14 @@ numbers_are limit text n = (number-is limit text n, number-of limit text n)
 
 -- ---- at the front
 
-digits-taken : (run more : List ℕ) → list_all is_ascii_digit run ≡ true → begins is_ascii_digit more ≡ false → prefix_len is_ascii_digit (run ++ more) ≡ length run
+pub digits-taken : (run more : List ℕ) → list_all is_ascii_digit run ≡ true → begins is_ascii_digit more ≡ false → prefix_len is_ascii_digit (run ++ more) ≡ length run
 digits-taken [] [] h k = refl
 digits-taken [] (c ∷ more) h k = rw k refl
 digits-taken (b ∷ rest) more h k =
     let each = and_parts (is_ascii_digit b) (list_all is_ascii_digit rest) h in
     rw each.0 (omega (arith, digits-taken rest more each.1 k))
 
-run-ends : (x : List ℕ) → begins is_ascii_digit (drop (prefix_len is_ascii_digit x) x) ≡ false
+pub run-ends : (x : List ℕ) → begins is_ascii_digit (drop (prefix_len is_ascii_digit x) x) ≡ false
 run-ends [] = refl
 run-ends (b ∷ rest) = elim (cases_Bool (is_ascii_digit b)) [
   | inl digit ↦ let e : 1 + prefix_len is_ascii_digit rest ≡ suc (prefix_len is_ascii_digit rest) = omega arith in rw (digit, e) (run-ends rest)
