@@ -1,9 +1,7 @@
-use Rattle.std.proofs.Common.{ap, ◌∙◌}
 use Rattle.std.proofs.lemmas.Result.{err_from_is_err_and}
-use Rattle.semver_lines.specs.Names.{difference_word}
-use Rattle.semver_lines.specs.Replies.{IsVersionOf, read}
+use Rattle.semver_lines.specs.Replies.{IsVersionOf, both_read}
 use Rattle.semver_lines.proofs.Replies.{told_first, told_second}
-use Rattle.semver_lines.proofs.reply.diff.Goals as goal
+use Rattle.semver_lines.proofs.reply.on_versions.Goals as goal
 
 pub returns-in_err-version : goal.returns-in_err-version
 returns-in_err-version c =
@@ -20,4 +18,4 @@ pub returns : goal.returns
 returns c =
     let first = c.in_ok-version.ensures c.args.v.now (c.parse-version.ensures.ok, c.parse-version.ensures.refused) in
     let second = c.in_ok-other.ensures c.args.w.now (c.parse-other.ensures.ok, c.parse-other.ensures.refused) in
-    read _ (first, second) (c.in_ok-difference_word.ensures ∙ ap difference_word c.diff.ensures.value)
+    both_read _ _ first second c.in_ok-reply.ensures

@@ -1,9 +1,8 @@
 use Rattle.std.proofs.lemmas.Result.{err_from_is_err_and}
-use Rattle.std.specs.Option.{option_copied}
 use Rattle.semver_lines.specs.Lines.{fields}
-use Rattle.semver_lines.specs.Replies.{AreVersionsOf, IsRangeOf, read}
+use Rattle.semver_lines.specs.Replies.{AreVersionsOf, IsRangeOf, both_read}
 use Rattle.semver_lines.proofs.Replies.{told_first, told_listed}
-use Rattle.semver_lines.proofs.reply.min.Goals as goal
+use Rattle.semver_lines.proofs.reply.on_best.Goals as goal
 
 pub returns-in_err-range : goal.returns-in_err-range
 returns-in_err-range c =
@@ -19,5 +18,4 @@ returns-in_err-versions c =
 pub returns : goal.returns
 returns c =
     let first = c.in_ok-range.ensures c.args.r.now (c.parse-range.ensures.ok, c.parse-range.ensures.some, c.parse-range.ensures.refused) in
-    let second = c.in_ok-versions.ensures in
-    read _ (first, second) (record { found = option_copied c.min_satisfying.result; is = rw c.deref.ensures.value at c.min_satisfying.ensures; printed = c.in_ok-version_or_none.ensures })
+    both_read _ _ first c.in_ok-versions.ensures (rw c.deref.ensures.value at c.in_ok-reply.ensures)

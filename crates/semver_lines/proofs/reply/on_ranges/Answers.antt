@@ -1,9 +1,7 @@
-use Rattle.std.proofs.Common.{ap, ◌∙◌}
 use Rattle.std.proofs.lemmas.Result.{err_from_is_err_and}
-use Rattle.semver_lines.specs.Names.{version_or_none}
-use Rattle.semver_lines.specs.Replies.{IsRangeOf, read}
+use Rattle.semver_lines.specs.Replies.{IsRangeOf, both_read}
 use Rattle.semver_lines.proofs.Replies.{told_first, told_second}
-use Rattle.semver_lines.proofs.reply.beyond.Goals as goal
+use Rattle.semver_lines.proofs.reply.on_ranges.Goals as goal
 
 pub returns-in_err-range : goal.returns-in_err-range
 returns-in_err-range c =
@@ -20,4 +18,4 @@ pub returns : goal.returns
 returns c =
     let first = c.in_ok-range.ensures c.args.r.now (c.parse-range.ensures.ok, c.parse-range.ensures.some, c.parse-range.ensures.refused) in
     let second = c.in_ok-other.ensures c.args.s.now (c.parse-other.ensures.ok, c.parse-other.ensures.some, c.parse-other.ensures.refused) in
-    read _ (first, second) (record { found = c.in_ok-least.least; is = (c.in_ok-least.ensures.least, c.in_ok-least.ensures.build); printed = c.in_ok-version_or_none.ensures ∙ ap version_or_none c.as_ref.ensures.value })
+    both_read _ _ first second c.in_ok-reply.ensures

@@ -1,9 +1,9 @@
 use Rattle.std.proofs.Common.{ap, ◌∙◌}
 use Rattle.std.proofs.lemmas.Result.{err_from_is_err_and}
 use Rattle.semver_lines.specs.Names.{truth_word}
-use Rattle.semver_lines.specs.Replies.{IsRangeOf, IsVersionOf, read}
+use Rattle.semver_lines.specs.Replies.{IsRangeOf, IsVersionOf, both_read}
 use Rattle.semver_lines.proofs.Replies.{told_first, told_second}
-use Rattle.semver_lines.proofs.reply.pre.Goals as goal
+use Rattle.semver_lines.proofs.reply.on_match.Goals as goal
 
 pub returns-in_err-range : goal.returns-in_err-range
 returns-in_err-range c =
@@ -20,4 +20,4 @@ pub returns : goal.returns
 returns c =
     let first = c.in_ok-range.ensures c.args.r.now (c.parse-range.ensures.ok, c.parse-range.ensures.some, c.parse-range.ensures.refused) in
     let second = c.in_ok-version.ensures c.args.v.now (c.parse-version.ensures.ok, c.parse-version.ensures.refused) in
-    read _ (first, second) (c.truth_word.ensures ∙ ap truth_word c.satisfies_with_prerelease.ensures.gate)
+    both_read _ _ first second (c.truth_word.ensures ∙ ap truth_word c.reply.ensures)
