@@ -10,9 +10,10 @@ ghost use Rattle.nodejs_semver.specs.Internal.Readings.{pair_view, partial_front
 ghost use Rattle.nodejs_semver.specs.Internal.Readings.{partial_pair_view};
 ghost use Rattle.semver_core.specs.declared.TheConstants.{MAX_SAFE_INTEGER};
 
+use crate::readers::spaces::skip_spaces;
 use crate::readers::syntax::Partial;
 use semver_core::MAX_SAFE_INTEGER;
-use semver_core::scan::{begins_identifier, goes_on, number_in, skip_spaces};
+use semver_core::scan::{begins_identifier, goes_on, number_in};
 
 #[inline(always)]
 fn begins_wildcard(text: &[u8]) -> bool

@@ -2,7 +2,7 @@ use Rattle.std.proofs.Common.{ℕ, List, sym, ap, ◌∙◌, ◌<◌, arith, dro
 use Rattle.std.proofs.lemmas.List.{take_rest}
 use Rattle.semver_core.specs.Internal.Spaces.{space_len, drop_spaces}
 use Rattle.semver_core.proofs.Text.Spaces.{drop_spaces-more, drop_spaces-none}
-use Rattle.semver_core.proofs.scan.skip_spaces.Goals as goal
+use Rattle.nodejs_semver.proofs.readers.spaces.skip_spaces.Goals as goal
 
 pub returns-then-len-eq0 : goal.returns-then-len-eq0
 returns-then-len-eq0 c = sym (drop_spaces-none c.spaces.left.now (omega arith)) ∙ c.spaces.invariant

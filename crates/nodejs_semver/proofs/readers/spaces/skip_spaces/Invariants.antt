@@ -1,6 +1,6 @@
 use Rattle.std.proofs.Common.{◌≡◌, length}
 use Rattle.semver_core.specs.Internal.Spaces.{drop_spaces}
-use Rattle.semver_core.proofs.scan.skip_spaces.Given as goal
+use Rattle.nodejs_semver.proofs.readers.spaces.skip_spaces.Given as goal
 
 abbrev pub invariant-spaces : goal.invariant-spaces
 invariant-spaces l = drop_spaces l.left ≡ drop_spaces l.text

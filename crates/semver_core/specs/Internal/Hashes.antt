@@ -1,4 +1,4 @@
--- Statement: what the hash of an identifier and of a version reads. Build metadata is not hashed.
+-- For proofs: what the hash of an identifier and of a version reads. Build metadata is not hashed.
 use Rattle.std.specs.Prelude.{◌++◌}
 use Rattle.std.specs.Hash as fed
 use Rattle.std.specs.Hash.{HashWrites}
