@@ -5,7 +5,7 @@ use Rattle.std.specs.Hash as fed
 use Rattle.std.specs.Hash.{HashWrites}
 use Rattle.std.specs.Ordering.{eq_of_both, on}
 use Rattle.semver_core.specs.Cuts.{Span, bound_eq}
-use Rattle.semver_core.specs.Values.Hashes.{version_writes}
+use Rattle.semver_core.specs.Internal.Hashes.{version_writes}
 use Rattle.semver_core.specs.Values.Order.{version_eq}
 use Rattle.semver_core.specs.Values.Versions.{VersionValue}
 use Rattle.semver_core.specs.declared.cuts.bound.Bound.{Bound}

@@ -1,7 +1,7 @@
 use Rattle.std.proofs.Common.{◌<◌, length, arith}
 use Rattle.semver_core.specs.declared.TheConstants.{MAX_SAFE_INTEGER}
 use Rattle.nodejs_semver.proofs.Algebra.Holds.{accepted-written}
-use Rattle.nodejs_semver.proofs.Common.Whole.{denoted_range, denoted_some}
+use Rattle.nodejs_semver.proofs.Everyday.Whole.{denoted_range, denoted_some}
 use Rattle.nodejs_semver.proofs.range.Range.parse.Goals as goal
 
 pub invariant_of-result : goal.invariant_of-result
