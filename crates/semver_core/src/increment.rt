@@ -279,12 +279,15 @@ impl Version {
             result }
         // Without identifier and with base 0: the least version of the next major, minor or patch,
         // or Overflow.
-        ensures premajor { word.now ≡ codes "premajor" → IsPlain (option_copied identifier.entry) base
+        ensures premajor { word.now ≡ codes "premajor"
+            → IsPlain (option_copied identifier.entry) base
             → IfAnswered (IsLeastOrOverflow (λ w. w.major ≡ self.now.major + 1)) result }
-        ensures preminor { word.now ≡ codes "preminor" → IsPlain (option_copied identifier.entry) base
+        ensures preminor { word.now ≡ codes "preminor"
+            → IsPlain (option_copied identifier.entry) base
             → IfAnswered (IsLeastOrOverflow
             (λ w. (w.major ≡ self.now.major) × (w.minor ≡ self.now.minor + 1))) result }
-        ensures prepatch { word.now ≡ codes "prepatch" → IsPlain (option_copied identifier.entry) base
+        ensures prepatch { word.now ≡ codes "prepatch"
+            → IsPlain (option_copied identifier.entry) base
             → IfAnswered (IsLeastOrOverflow (λ w. (w.major ≡ self.now.major)
             × (w.minor ≡ self.now.minor) × (w.patch ≡ self.now.patch + 1))) result }
         // And the least version above, if the patch of a release can rise and a pre-release has no

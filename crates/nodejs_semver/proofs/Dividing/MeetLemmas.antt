@@ -58,4 +58,3 @@ module _ {V : Type 0} {R : V → V → Ordering} (o : IsTotalOrder R) where
   pub runs-joined : (bounds : List (Span V)) → joined R None bounds ≡ map (interval_of R) (runs_of R bounds)
   runs-joined [] = refl
   runs-joined (s ∷ rest) = sym (runs_from-joined (record { first = s; others = [] }) rest)
-

@@ -80,9 +80,9 @@ fn findings_of(alloc: Global, first: Range, second: &Range) -> Result<Findings, 
 pub struct FindingsAt {
     /// Whether the first range accepts the version, with pre-releases included.
     pub in_first: bool,
-    /// The same of what both ranges have in common.
+    /// Whether what both ranges have in common accepts it, with pre-releases included.
     pub in_both: bool,
-    /// The same of what the first range has and the second does not.
+    /// Whether what the first range has and the second does not accepts it, so too.
     pub in_first_alone: bool,
     /// The smallest version that the first range accepts.
     pub least: Option<Version>,

@@ -24,8 +24,8 @@ impl Range {
         accepts(self.intervals(), version, false)
     }
 
-    /// The same; with the flag, pre-releases are accepted like releases, so that the intervals
-    /// alone decide.
+    /// Whether the range accepts this version, as `satisfies` says; with the flag, pre-releases are
+    /// accepted like releases, so that the intervals alone decide.
     pub fn satisfies_with_prerelease(&self, version: &Version, include_prerelease: bool) -> bool
         ensures gate { result ≡ accepts self.now version.now include_prerelease }
         ensures set { IsTrue include_prerelease

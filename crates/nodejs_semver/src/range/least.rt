@@ -126,8 +126,8 @@ impl<'a> Search<'a> {
         }
     }
 
-    // The same of a version that is borrowed. It is copied, without its build, only where it
-    // improves.
+    // Keeps a copy of a borrowed version, without its build, where it improves on the best so far.
+    // Otherwise nothing is copied.
     #[tactic(auto, using(crate::proofs::Choice::LeastOf::improves_bare))]
     fn consider_borrowed(&mut self, alloc: Global, version: &Version) -> Result<(), AllocError>
         ensures { let set = spec.among self.old.kept.now self.old.also.now self.old.removed.now in
@@ -160,7 +160,7 @@ impl<'a> Search<'a> {
         }
     }
 
-    // The same, whatever the best so far is.
+    // Considers the first versions from this one on, whatever the best so far is.
     #[inline(never)]
     fn consider_near(&mut self, alloc: Global, version: &Version) -> Result<(), AllocError>
         ensures { let set = spec.among self.old.kept.now self.old.also.now self.old.removed.now in

@@ -100,7 +100,7 @@ fn complement(
     Ok(clip_each(alloc, &before, &after)?)
 }
 
-// The same of a few intervals, which are taken away one after another.
+// The complement of a few intervals, which are taken away one after another.
 fn complement_of_few(
     alloc: Global,
     intervals: &[Interval<Version>],

@@ -106,7 +106,8 @@ fn push_common(
     }
 }
 
-// The same; mostly the first comparison has a lower bound and the second an upper one.
+// Adds what two comparisons have in common, where that is an interval. Mostly the first one has a
+// lower bound and the second an upper one.
 #[tactic(auto, using(crate::proofs::Everyday::Bounds::half_open))]
 fn push_both(
     alloc: Global,

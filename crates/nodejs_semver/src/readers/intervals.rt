@@ -27,8 +27,8 @@ ghost use Rattle.semver_core.specs.declared.TheConstants.{MAX_SAFE_INTEGER};
 use crate::range::Intervals;
 use crate::readers::syntax::{BareVersion, Bounds, Partial, Sign};
 use crate::readers::{partial, spaces, table, words};
-use semver_core::cuts::{Bound, Interval};
 use semver_core::Version;
+use semver_core::cuts::{Bound, Interval};
 use std::alloc::{AllocError, Global};
 
 // The version of a bound. `bare` is passed by value: then the compiler keeps the numbers of a
@@ -163,7 +163,8 @@ fn push_hyphen_behind<'a>(
     Ok(Some((there, rest)))
 }
 
-// The same of a partial that has a sign or none. Mostly the part ends behind it.
+// Adds the interval of the hyphen word that begins with this partial, which has a sign or none,
+// where there is such a word. Mostly the part ends behind the partial.
 #[inline(always)]
 fn push_upper<'a>(
     alloc: Global,
@@ -231,7 +232,8 @@ fn push_word<'a>(
     Ok((there, rest))
 }
 
-// The same, and the text behind the word and its whitespace.
+// Adds the interval of the word at the front. Returns whether it has one, and the text behind the
+// word and its whitespace.
 fn push_next<'a>(
     alloc: Global,
     text: &'a [u8],

@@ -26,7 +26,7 @@ pub fn is_blank(text: &str) -> bool
     are_blank(Some(text))
 }
 
-// The same of a text that may be absent.
+// Whether each part of a text that may be absent is blank.
 fn are_blank(text: Option<&str>) -> bool
     ensures { result ≡ list_all is_empty (later_parts (rest_view text.entry)) }
 {

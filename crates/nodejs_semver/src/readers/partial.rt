@@ -47,7 +47,7 @@ pub(crate) fn component_front(text: &[u8]) -> Option<(Option<u64>, &[u8])>
     }
 }
 
-// The same behind a dot.
+// A wildcard or a number behind a dot.
 #[inline(always)]
 #[tactic(auto, unfolding(crate::specs::Internal::Fronts::dotted_front))]
 pub(crate) fn dotted_front(text: &[u8]) -> Option<(Option<u64>, &[u8])>
@@ -100,7 +100,7 @@ pub(crate) fn pre_release_front(text: &[u8]) -> (&[u8], &[u8])
     }
 }
 
-// The same of any text.
+// The text of the pre-release at the front of any text, and what stands behind it.
 #[inline(never)]
 #[tactic(auto, unfolding(crate::specs::Internal::Fronts::pre_release_front), using(crate::proofs::Reading::IdentifierLists::listed_nil))]
 fn written_pre_release(text: &[u8]) -> (&[u8], &[u8])
@@ -119,7 +119,7 @@ fn written_pre_release(text: &[u8]) -> (&[u8], &[u8])
     }
 }
 
-// The same of the build.
+// The text of the build at the front, and what stands behind it.
 #[tactic(auto, unfolding(crate::specs::Internal::Fronts::build_front), using(crate::proofs::Reading::IdentifierLists::listed_nil))]
 fn build_front(text: &[u8]) -> (&[u8], &[u8])
     ensures listed { is_listed result.0.now ≡ true }

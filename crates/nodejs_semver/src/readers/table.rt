@@ -180,6 +180,7 @@ impl<'a> Bounds<'a> {
     }
 }
 
+// `>1.2.3`
 #[inline(always)]
 #[tactic(auto, unfolding(crate::specs::Text::Table::table))]
 fn above<'a>(partial: &Partial<'a>) -> Bounds<'a>
@@ -193,6 +194,7 @@ fn above<'a>(partial: &Partial<'a>) -> Bounds<'a>
     }
 }
 
+// `<1.2.3`
 #[inline(always)]
 #[tactic(auto, unfolding(crate::specs::Text::Table::table))]
 fn below<'a>(partial: &Partial<'a>) -> Bounds<'a>
@@ -205,6 +207,7 @@ fn below<'a>(partial: &Partial<'a>) -> Bounds<'a>
     }
 }
 
+// `<=1.2.3`
 #[inline(always)]
 #[tactic(auto, unfolding(crate::specs::Text::Table::table))]
 fn at_most<'a>(partial: &Partial<'a>) -> Bounds<'a>
@@ -221,6 +224,7 @@ fn at_most<'a>(partial: &Partial<'a>) -> Bounds<'a>
     }
 }
 
+// `=1.2.3`
 #[inline(always)]
 #[tactic(auto, unfolding(crate::specs::Text::Table::table))]
 fn equal<'a>(partial: &Partial<'a>) -> Option<Bounds<'a>>
@@ -236,6 +240,7 @@ fn equal<'a>(partial: &Partial<'a>) -> Option<Bounds<'a>>
     }
 }
 
+/// `1.2.3`
 #[inline(always)]
 #[tactic(auto, unfolding(crate::specs::Text::Table::table))]
 pub(crate) fn plain<'a>(partial: &Partial<'a>) -> Option<Bounds<'a>>
@@ -250,6 +255,7 @@ pub(crate) fn plain<'a>(partial: &Partial<'a>) -> Option<Bounds<'a>>
     }
 }
 
+/// `~1.2.3`, and `~>1.2.3` where it is `greater`
 #[inline(always)]
 #[tactic(auto, unfolding(crate::specs::Text::Table::table))]
 pub(crate) fn tilde<'a>(greater: bool, partial: &Partial<'a>) -> Option<Bounds<'a>>
@@ -267,6 +273,7 @@ pub(crate) fn tilde<'a>(greater: bool, partial: &Partial<'a>) -> Option<Bounds<'
     }
 }
 
+/// `^0.2.3`
 #[inline(always)]
 #[tactic(auto, unfolding(crate::specs::Text::Table::table))]
 pub(crate) fn caret<'a>(partial: &Partial<'a>) -> Option<Bounds<'a>>
@@ -291,6 +298,7 @@ pub(crate) fn caret<'a>(partial: &Partial<'a>) -> Option<Bounds<'a>>
     }
 }
 
+/// `1.2.3 - 2.3.4`
 #[inline(always)]
 #[tactic(auto, unfolding(crate::specs::Text::Table::table))]
 pub(crate) fn hyphen<'a>(lower: &Partial<'a>, upper: &Partial<'a>) -> Bounds<'a>
@@ -306,6 +314,7 @@ pub(crate) fn hyphen<'a>(lower: &Partial<'a>, upper: &Partial<'a>) -> Bounds<'a>
     }
 }
 
+/// A comparator and a partial, such as `>=1.2.3`
 #[inline(always)]
 #[tactic(auto, unfolding(crate::specs::Text::Table::table))]
 pub(crate) fn compare<'a>(comparator: Comparator, partial: &Partial<'a>) -> Option<Bounds<'a>>

@@ -9,8 +9,8 @@ ghost use Rattle.nodejs_semver.specs.Internal.Words as Spec;
 ghost use Rattle.nodejs_semver.specs.Internal.Words.{is_boundary};
 ghost use Rattle.semver_core.specs.declared.TheConstants.{MAX_SAFE_INTEGER};
 
-use crate::readers::{partial, spaces};
 use crate::readers::syntax::{Comparator, Partial, Sign};
+use crate::readers::{partial, spaces};
 use semver_core::MAX_SAFE_INTEGER;
 
 /// Whether a word may end here.

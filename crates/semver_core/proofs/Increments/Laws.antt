@@ -322,8 +322,11 @@ module _ (v : VersionValue) (id : List ℕ) (base : IdentifierBase) (Up : Type 0
   steps bare some = by (advance v.pre_release id base) (λ up. advance_above v.pre_release id base (some up))
     where
       by : (r : Result (List Id) Fault) → (Up → AboveList v.pre_release r) → Rises v Up (r >>= λ list. Ok (record v { pre_release = identify id base list }))
-      by (Ok list) h = (refl, λ up. above_pre v (record v { pre_release = identify id base list }) refl refl refl
-          (rw (bare up) (pre_above v.pre_release list (some up) (h up))))
+      by (Ok list) h = (
+        refl,
+        λ up. above_pre v (record v { pre_release = identify id base list }) refl refl refl
+            (rw (bare up) (pre_above v.pre_release list (some up) (h up))),
+      )
       by (Err e) h = tt
 
   released : is_release v ≡ false → Rises v Up (Ok (release_of v))

@@ -65,18 +65,27 @@ encoded c = elim (cases_lt c 128) [
   | inl one ↦ record { first = c; tail = []; spelled = encode_ascii c one; inside = tt; lead = λ h. omega arith }
   | inr more ↦ elim (cases_lt c 2048) [
     | inl two ↦ record {
-        first = 192 + c / 64; tail = (128 + c % 64) ∷ []; spelled = rw (le-ltb c 128 more, lt-ltb c 2048 two) refl; inside = (omega arith, omega arith, tt); lead = λ h. omega arith;
-      }
+      first = 192 + c / 64;
+      tail = (128 + c % 64) ∷ [];
+      spelled = rw (le-ltb c 128 more, lt-ltb c 2048 two) refl;
+      inside = (omega arith, omega arith, tt);
+      lead = λ h. omega arith;
+    }
     | inr wide ↦ elim (cases_lt c 65536) [
       | inl three ↦ record {
-          first = 224 + c / 4096; tail = (128 + (c / 64) % 64) ∷ (128 + c % 64) ∷ []; spelled = rw (le-ltb c 128 more, le-ltb c 2048 wide, lt-ltb c 65536 three) refl;
-          inside = (omega arith, omega arith, (omega arith, omega arith, tt)); lead = λ h. omega arith;
-        }
+        first = 224 + c / 4096;
+        tail = (128 + (c / 64) % 64) ∷ (128 + c % 64) ∷ [];
+        spelled = rw (le-ltb c 128 more, le-ltb c 2048 wide, lt-ltb c 65536 three) refl;
+        inside = (omega arith, omega arith, (omega arith, omega arith, tt));
+        lead = λ h. omega arith;
+      }
       | inr four ↦ record {
-          first = 240 + c / 262144; tail = (128 + (c / 4096) % 64) ∷ (128 + (c / 64) % 64) ∷ (128 + c % 64) ∷ [];
-          spelled = rw (le-ltb c 128 more, le-ltb c 2048 wide, le-ltb c 65536 four) refl;
-          inside = (omega arith, omega arith, (omega arith, omega arith, (omega arith, omega arith, tt))); lead = λ h. omega arith;
-        }
+        first = 240 + c / 262144;
+        tail = (128 + (c / 4096) % 64) ∷ (128 + (c / 64) % 64) ∷ (128 + c % 64) ∷ [];
+        spelled = rw (le-ltb c 128 more, le-ltb c 2048 wide, le-ltb c 65536 four) refl;
+        inside = (omega arith, omega arith, (omega arith, omega arith, (omega arith, omega arith, tt)));
+        lead = λ h. omega arith;
+      }
     ]
   ]
 ]
