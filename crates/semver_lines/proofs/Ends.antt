@@ -7,7 +7,7 @@ use Rattle.std.specs.declared.alloc.AllocError.{AllocError}
 use Rattle.semver_lines.specs.Answers.{Answers}
 use Rattle.semver_lines.specs.Internal.LineCuts.{cut_lines, cut_rest}
 use Rattle.semver_lines.specs.Lines.{last_line}
-use Rattle.semver_lines.specs.Outcome.{AnswersFront, AnswersTorn, Ran}
+use Rattle.semver_lines.specs.Outcome.{AnswersFront, AnswersTorn, Ran, Writes}
 use Rattle.semver_lines.specs.Internal.Steps.{Finished, GrowsByAnswers, GrowsByFront, Stopped, Turned, WritesFront}
 use Rattle.semver_lines.specs.declared.run.RunFault.{RunFault}
 use Rattle.semver_lines.specs.declared.run.RunFault.TheVariants.{Memory, Read, Write}
@@ -23,72 +23,46 @@ turned_on a b c u v w p q r bytes more t s = record {
   kept = s.kept ∙ ap (λ l. cut_rest l more) t.kept ∙ sym (cut_rest-append p bytes more);
 }
 
--- a fault after what was read
-pub stopped_ran : (a b c u v w : Option (List ℕ)) (q bytes : List ℕ) → Turned a b u v [] q bytes → (fault : RunFault) → Stopped b c v w q fault → Ran (Err fault) a c u w
-stopped_ran a b c u v w q bytes t Read (kept, same) = record {
+-- a run that read these bytes and wrote these
+ran : (result : Result ⊤ RunFault) (a c u w : Option (List ℕ)) (bytes written : List ℕ) → Consumes a c bytes → Appends u w written
+    → Writes result c (cut_lines [] bytes) (cut_rest [] bytes) written → Ran result a c u w
+ran result a c u w bytes written consumed appended writes = record {
   read = bytes;
-  written = t.written;
-  consumed = Consumes-kept a b c bytes t.consumed kept;
-  appended = Appends-kept u v w t.written t.appended same;
+  written = written;
+  consumed = consumed;
+  appended = appended;
   lines = cut_lines [] bytes;
   rest = cut_rest [] bytes;
   has_lines = cut_has [] bytes refl;
-  writes = t.answers;
+  writes = writes;
 }
-stopped_ran a b c u v w q bytes t Memory (more, said, consumed, appended, front) = record {
-  read = bytes ++ more;
-  written = t.written ++ said;
-  consumed = Consumes-trans a b c bytes more t.consumed consumed;
-  appended = Appends-trans u v w t.written said t.appended appended;
-  lines = cut_lines [] (bytes ++ more);
-  rest = cut_rest [] (bytes ++ more);
-  has_lines = cut_has [] (bytes ++ more) refl;
-  writes = subst (λ l. AnswersFront l (t.written ++ said)) (lines_on [] q bytes more t.kept) (front_after (cut_lines [] bytes) (cut_lines q more) t.written said t.answers front);
-}
-stopped_ran a b c u v w q bytes t Write (more, said, consumed, appended, torn) = record {
-  read = bytes ++ more;
-  written = t.written ++ said;
-  consumed = Consumes-trans a b c bytes more t.consumed consumed;
-  appended = Appends-trans u v w t.written said t.appended appended;
-  lines = cut_lines [] (bytes ++ more);
-  rest = cut_rest [] (bytes ++ more);
-  has_lines = cut_has [] (bytes ++ more) refl;
-  writes = inl (subst (λ l. AnswersTorn l (t.written ++ said)) (lines_on [] q bytes more t.kept) (torn_after (cut_lines [] bytes) (cut_lines q more) t.written said t.answers torn));
-}
+
+-- a fault after what was read
+pub stopped_ran : (a b c u v w : Option (List ℕ)) (q bytes : List ℕ) → Turned a b u v [] q bytes → (fault : RunFault) → Stopped b c v w q fault → Ran (Err fault) a c u w
+stopped_ran a b c u v w q bytes t Read (kept, same) =
+    ran (Err Read) a c u w bytes t.written (Consumes-kept a b c bytes t.consumed kept)
+    (Appends-kept u v w t.written t.appended same) t.answers
+stopped_ran a b c u v w q bytes t Memory (more, said, consumed, appended, front) =
+    ran (Err Memory) a c u w (bytes ++ more) (t.written ++ said) (Consumes-trans a b c bytes more t.consumed consumed)
+    (Appends-trans u v w t.written said t.appended appended)
+    (rw (← lines_on [] q bytes more t.kept) (front_after (cut_lines [] bytes) (cut_lines q more) t.written said t.answers front))
+stopped_ran a b c u v w q bytes t Write (more, said, consumed, appended, torn) =
+    ran (Err Write) a c u w (bytes ++ more) (t.written ++ said) (Consumes-trans a b c bytes more t.consumed consumed)
+    (Appends-trans u v w t.written said t.appended appended)
+    (inl (rw (← lines_on [] q bytes more t.kept) (torn_after (cut_lines [] bytes) (cut_lines q more) t.written said t.answers torn)))
 
 -- the end of the input
 pub finished_ran : (a b u v w : Option (List ℕ)) (q bytes : List ℕ) → Turned a b u v [] q bytes → IsAtEnd b → (result : Result ⊤ RunFault) → Finished v w q result → Ran result a b u w
-finished_ran a b u v w q bytes t end (Ok done) (said, appended, answers) = record {
-  read = bytes;
-  written = t.written ++ said;
-  consumed = t.consumed;
-  appended = Appends-trans u v w t.written said t.appended appended;
-  lines = cut_lines [] bytes;
-  rest = cut_rest [] bytes;
-  has_lines = cut_has [] bytes refl;
-  writes = (end, subst (λ l. Answers (cut_lines [] bytes ++ last_line l) (t.written ++ said)) t.kept (Answers-append (cut_lines [] bytes) (last_line q) t.written said t.answers answers));
-}
+finished_ran a b u v w q bytes t end (Ok done) (said, appended, answers) =
+    ran (Ok done) a b u w bytes (t.written ++ said) t.consumed (Appends-trans u v w t.written said t.appended appended)
+    (end, rw (← t.kept) (Answers-append (cut_lines [] bytes) (last_line q) t.written said t.answers answers))
 finished_ran a b u v w q bytes t end (Err Read) h = absurd h
-finished_ran a b u v w q bytes t end (Err Memory) same = record {
-  read = bytes;
-  written = t.written;
-  consumed = t.consumed;
-  appended = Appends-kept u v w t.written t.appended same;
-  lines = cut_lines [] bytes;
-  rest = cut_rest [] bytes;
-  has_lines = cut_has [] bytes refl;
-  writes = front_all (cut_lines [] bytes) t.written t.answers;
-}
-finished_ran a b u v w q bytes t end (Err Write) (said, appended, torn) = record {
-  read = bytes;
-  written = t.written ++ said;
-  consumed = t.consumed;
-  appended = Appends-trans u v w t.written said t.appended appended;
-  lines = cut_lines [] bytes;
-  rest = cut_rest [] bytes;
-  has_lines = cut_has [] bytes refl;
-  writes = inr (end, subst (λ l. AnswersTorn (cut_lines [] bytes ++ last_line l) (t.written ++ said)) t.kept (torn_after (cut_lines [] bytes) (last_line q) t.written said t.answers torn));
-}
+finished_ran a b u v w q bytes t end (Err Memory) same =
+    ran (Err Memory) a b u w bytes t.written t.consumed (Appends-kept u v w t.written t.appended same)
+    (front_all (cut_lines [] bytes) t.written t.answers)
+finished_ran a b u v w q bytes t end (Err Write) (said, appended, torn) =
+    ran (Err Write) a b u w bytes (t.written ++ said) t.consumed (Appends-trans u v w t.written said t.appended appended)
+    (inr (end, rw (← t.kept) (torn_after (cut_lines [] bytes) (last_line q) t.written said t.answers torn)))
 
 -- an empty output that grew by the answers of a beginning of these lines
 told_front : (lines : List (List ℕ)) (old out : List ℕ) (taken : Result ⊤ AllocError) → old ≡ [] → OnOk taken (GrowsByAnswers lines old out) → OnErr taken (GrowsByFront lines old out) → AnswersFront lines out
