@@ -2,6 +2,8 @@ pub mod Parts
 pub mod RunsFrom
 pub mod Fronts
 pub mod Words
+pub mod Denotes
+pub mod Writes
 pub mod PartFronts
 pub mod Readings
 pub mod Meets

@@ -7,7 +7,7 @@ use Rattle.semver_core.specs.Cuts.{Span}
 use Rattle.semver_core.specs.Text.Parsing.{Parses, IsRefused}
 use Rattle.semver_core.specs.Values.Versions.{VersionValue}
 use Rattle.semver_core.specs.declared.TheConstants.{MAX_SAFE_INTEGER}
-use Rattle.nodejs_semver.specs.Text.Denotes.{denotes}
+use Rattle.nodejs_semver.specs.Internal.Denotes.{denotes}
 use Rattle.semver_lines.specs.Lines.{fields}
 use Rattle.semver_lines.specs.Names.{fault_word, version_or_none}
 use Rattle.semver_lines.specs.declared.fault.Fault.{Fault}

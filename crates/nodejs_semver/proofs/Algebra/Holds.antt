@@ -4,13 +4,14 @@ use Rattle.std.specs.Prelude.{◌&&◌, ◌||◌, flat_map, if◌then◌else◌}
 use Rattle.std.specs.Cmp.{IsTotalOrder}
 use Rattle.std.specs.List.{list_all, list_any}
 use Rattle.std.specs.declared.cmp.Ordering.{Ordering}
+use Rattle.std.proofs.lemmas.List.Folds.{list_any-append}
 use Rattle.semver_core.specs.Cuts.{Span, holds}
 use Rattle.nodejs_semver.specs.Ranges.Algebra.{list_holds}
 use Rattle.semver_core.specs.Values.Order.{precedence}
 use Rattle.semver_core.specs.Internal.OrderLaws.{precedence_total}
 use Rattle.semver_core.specs.Values.Versions.{VersionValue}
 use Rattle.nodejs_semver.specs.Ranges.Gate.{accepts}
-use Rattle.nodejs_semver.specs.Text.Denotes.{denotes, part_bounds, part_denotes, part_intervals}
+use Rattle.nodejs_semver.specs.Internal.Denotes.{denotes, part_bounds, part_denotes, part_intervals}
 use Rattle.nodejs_semver.specs.Internal.Parts.{cut_bars, parts}
 use Rattle.nodejs_semver.specs.Text.Bars.{IsCutAtBars, more_pieces, one_piece}
 use Rattle.nodejs_semver.specs.Ranges.View.{any_version}
@@ -18,50 +19,34 @@ use Rattle.nodejs_semver.specs.Text.Runs.{Run, interval_of}
 use Rattle.nodejs_semver.specs.Internal.RunsFrom.{runs_of}
 use Rattle.semver_core.specs.Internal.Spaces.{trim}
 use Rattle.semver_core.specs.Lists.{is_empty, if_any}
-use Rattle.nodejs_semver.specs.Text.WrittenSet.{part_writes, run_writes, writes}
+use Rattle.nodejs_semver.specs.Internal.Writes.{part_writes, writes}
+use Rattle.nodejs_semver.specs.Text.WrittenSet.{run_writes}
 use Rattle.nodejs_semver.proofs.Dividing.BarsDivide.{bars_divide}
 use Rattle.nodejs_semver.proofs.Reading.IdentifierLists.{and-left}
 use Rattle.nodejs_semver.proofs.Dividing.RunLemmas.{run-holds}
-
-any-append : {A : Type 0} (p : A → Bool) (xs ys : List A) → list_any p (xs ++ ys) ≡ (list_any p xs || list_any p ys)
-any-append p [] ys = refl
-any-append p (x ∷ xs) ys = ap (λ (b : Bool). p x || b) (any-append p xs ys) ∙ or-assoc (p x) (list_any p xs) (list_any p ys)
-  where
-    or-assoc : (a b c : Bool) → (a || (b || c)) ≡ ((a || b) || c)
-    or-assoc true b c = refl
-    or-assoc false b c = refl
 
 runs-hold : {V : Type 0} {R : V → V → Ordering} → IsTotalOrder R → (v : V) (rs : List (Run V)) → list_holds R (map (interval_of R) rs) v ≡ list_any (run_writes R v) rs
 runs-hold o v [] = refl
 runs-hold o v (r ∷ rs) = ap₂ (λ (s t : Bool). s || t) (run-holds o v r) (runs-hold o v rs)
 
-part-holds : (limit : ℕ) (v : VersionValue) (part : List ℕ) → list_holds precedence (part_intervals limit part) v ≡ part_writes limit v part
-part-holds limit v part = runs-hold precedence_total v (runs_of precedence (part_bounds limit part))
-
 -- an empty part holds every version, and any other what its words write
-part-denoted : (limit : ℕ) (v : VersionValue) (part : List ℕ) → list_holds precedence (part_denotes limit part) v ≡ (is_empty part || part_writes limit v part)
-part-denoted limit v [] = refl
-part-denoted limit v (b ∷ part) = part-holds limit v (b ∷ part)
-
-or-across : (a b c d : Bool) → ((a || b) || (c || d)) ≡ ((a || c) || (b || d))
-or-across true b c d = refl
-or-across false true true d = refl
-or-across false true false d = refl
-or-across false false true d = refl
-or-across false false false d = refl
+part-holds : (limit : ℕ) (v : VersionValue) (part : List ℕ) → list_holds precedence (part_denotes limit part) v ≡ part_writes limit v part
+part-holds limit v [] = refl
+part-holds limit v (b ∷ part) = runs-hold precedence_total v (runs_of precedence (part_bounds limit (b ∷ part)))
 
 parts-hold : (limit : ℕ) (v : VersionValue) (ps : List (List ℕ))
-    → list_holds precedence (flat_map (part_denotes limit) ps) v ≡ (list_any is_empty ps || list_any (part_writes limit v) ps)
+    → list_holds precedence (flat_map (part_denotes limit) ps) v ≡ list_any (part_writes limit v) ps
 parts-hold limit v [] = refl
 parts-hold limit v (p ∷ ps) =
-    any-append (λ s. holds precedence s v) (part_denotes limit p) (flat_map (part_denotes limit) ps)
-    ∙ ap₂ (λ (s t : Bool). s || t) (part-denoted limit v p) (parts-hold limit v ps)
-    ∙ or-across (is_empty p) (part_writes limit v p) (list_any is_empty ps) (list_any (part_writes limit v) ps)
+    list_any-append (λ s. holds precedence s v) (part_denotes limit p) (flat_map (part_denotes limit) ps)
+    ∙ ap₂ (λ (s t : Bool). s || t) (part-holds limit v p) (parts-hold limit v ps)
 
--- where all of some texts are empty, one is
-first-empty : (ps : List (List ℕ)) → (ps ≡ [] → ⊥) → list_all is_empty ps ≡ true → list_any is_empty ps ≡ true
-first-empty [] some h = absurd (some refl)
-first-empty (p ∷ ps) some h = ap (λ (b : Bool). b || list_any is_empty ps) (and-left (is_empty p) (list_all is_empty ps) h)
+-- where all of some parts are empty, the first writes every version
+first-empty : (limit : ℕ) (v : VersionValue) (ps : List (List ℕ)) → (ps ≡ [] → ⊥) → list_all is_empty ps ≡ true → list_any (part_writes limit v) ps ≡ true
+first-empty limit v [] some h = absurd (some refl)
+first-empty limit v (p ∷ ps) some h =
+    ap (λ (b : Bool). (b || list_any (run_writes precedence v) (runs_of precedence (part_bounds limit p))) || list_any (part_writes limit v) ps)
+    (and-left (is_empty p) (list_all is_empty ps) h)
 
 -- a text has a part or more
 parts-some : (text : List ℕ) → parts text ≡ [] → ⊥
@@ -80,7 +65,7 @@ pub denotes_hold : (limit : ℕ) (text : List ℕ) (v : VersionValue) → list_h
 denotes_hold limit text v =
     let ps = parts text in
     by-test (list_all is_empty ps) (flat_map (part_denotes limit) ps) (writes limit text v) v
-    (λ (all : list_all is_empty ps ≡ true). ap (λ (b : Bool). b || list_any (part_writes limit v) ps) (first-empty ps (parts-some text) all))
+    (first-empty limit v ps (parts-some text))
     (parts-hold limit v ps)
 
 -- with pre-releases included, a range accepts what its intervals hold

@@ -15,7 +15,7 @@ use Rattle.semver_core.specs.Lists.{is_empty}
 use Rattle.semver_core.specs.Values.Versions.{VersionValue}
 use Rattle.semver_core.proofs.Text.Spaces.{drop_spaces-none}
 use Rattle.nodejs_semver.specs.Text.Common.{IsBare, IsCommonPart, IsCommonRange, IsCommonWord, IsComparison, IsGap, caret_word, compare_word, comparison, hyphen_word, more_parts, one_part, one_word, plain_word, tilde_greater_word, tilde_word, two_comparisons}
-use Rattle.nodejs_semver.specs.Text.Denotes.{denotes, part_denotes, part_intervals}
+use Rattle.nodejs_semver.specs.Internal.Denotes.{denotes, part_denotes, part_intervals}
 use Rattle.nodejs_semver.specs.Text.PartialText.{Partial, is_wildcard, AreComponents, IsComponent, number, one, three, two, wildcard}
 use Rattle.nodejs_semver.specs.Internal.Fronts.{is_dot}
 use Rattle.nodejs_semver.specs.Internal.Parts.{cut_bars, parts}

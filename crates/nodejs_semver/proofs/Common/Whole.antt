@@ -6,7 +6,7 @@ use Rattle.semver_core.specs.Cuts.{Span}
 use Rattle.semver_core.specs.Lists.{if_any}
 use Rattle.semver_core.specs.Values.Versions.{VersionValue}
 use Rattle.nodejs_semver.specs.Text.Common.{IsCommonRange, IsUncommon}
-use Rattle.nodejs_semver.specs.Text.Denotes.{denotes}
+use Rattle.nodejs_semver.specs.Internal.Denotes.{denotes}
 use Rattle.nodejs_semver.specs.Ranges.View.{IsRange, is_range_span}
 use Rattle.nodejs_semver.proofs.Bounds.Table.{denotes-bounded}
 use Rattle.nodejs_semver.proofs.Common.Texts.{common_ranges_are_denoted, list-some}

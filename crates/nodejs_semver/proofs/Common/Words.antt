@@ -11,7 +11,7 @@ use Rattle.semver_core.specs.Internal.Spaces.{after_spaces, drop_spaces, space_l
 use Rattle.semver_core.specs.Values.Versions.{VersionValue}
 use Rattle.semver_core.proofs.Text.Spaces.{drop_spaces-none}
 use Rattle.nodejs_semver.specs.Text.Common.{IsBare, IsCommonPart, IsCommonWord, IsComparison, caret_word, compare_word, comparison, hyphen_word, one_word, plain_word, tilde_greater_word, tilde_word, two_comparisons}
-use Rattle.nodejs_semver.specs.Text.Denotes.{part_intervals}
+use Rattle.nodejs_semver.specs.Internal.Denotes.{part_intervals}
 use Rattle.nodejs_semver.specs.Internal.Fronts.{partial_front}
 use Rattle.nodejs_semver.specs.Internal.Meets.{joined, joined_from}
 use Rattle.nodejs_semver.specs.Text.PartialText.{Partial, is_wildcard}

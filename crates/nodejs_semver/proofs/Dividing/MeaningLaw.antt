@@ -7,17 +7,17 @@ use Rattle.std.proofs.lemmas.Bool.{cases_Bool}
 use Rattle.std.proofs.lemmas.List.{take_at, drop_at}
 use Rattle.std.proofs.lemmas.List.Folds.{list_all-append}
 use Rattle.std.proofs.lemmas.Str.{IsUtf8-drop, IsUtf8-take, IsCharBoundary-after_ascii, IsCharBoundary-before_ascii, len_utf8_bounds, length-encode}
-use Rattle.semver_core.specs.Text.Characters.{IsBlank, is_whitespace}
+use Rattle.semver_core.specs.Text.Characters.{IsBlank, IsTrim, is_whitespace}
 use Rattle.semver_core.specs.Cuts.{Span}
 use Rattle.semver_core.specs.Values.Order.{precedence}
 use Rattle.semver_core.specs.Internal.Spaces.{drop_spaces, space_len, trim}
 use Rattle.semver_core.specs.Lists.{is_empty}
 use Rattle.semver_core.specs.Values.Versions.{VersionValue}
 use Rattle.semver_core.proofs.Text.Trims.{middle_is_trim, trim_is_middle, trim_parts}
-use Rattle.nodejs_semver.specs.Text.Denotes.{denotes, part_bounds, part_denotes, part_intervals}
+use Rattle.nodejs_semver.specs.Internal.Denotes.{denotes, part_bounds, part_denotes, part_intervals}
 use Rattle.nodejs_semver.specs.Internal.Parts.{cut_bars}
 use Rattle.nodejs_semver.specs.Text.Bars.{IsCutAtBars, more_pieces, one_piece}
-use Rattle.nodejs_semver.specs.Text.Meaning.{AreAllIntervals, AreIntervals, AreWords, Means, blank_piece, next_piece, next_word, no_piece, no_word}
+use Rattle.nodejs_semver.specs.Text.Meaning.{AreAllIntervals, AreWords, HasRuns, Means, blank_piece, next_piece, next_word, no_piece, no_word}
 use Rattle.nodejs_semver.specs.Ranges.View.{any_version}
 use Rattle.nodejs_semver.specs.Text.Runs.{Run, interval_of}
 use Rattle.nodejs_semver.specs.Internal.RunsFrom.{runs_of}
@@ -62,29 +62,34 @@ words-read limit (suc n) (b ∷ rest) u h l =
     subst (λ (list : List Word). AreWords limit (b ∷ rest) list) (sym (words-step limit (b ∷ rest) (omega arith) h))
     (next_word b rest read.1 next read.0 (words limit next) is skipped more)
 
--- ---- the intervals of a piece
+pub words-law : (limit : ℕ) (text part : List ℕ) (list : List Word) → IsUtf8 text → IsTrim text part → (words limit part ≡ list) ↔ AreWords limit part list
+words-law limit text part list u trimmed =
+    let v = trim-utf8 text part u trimmed in
+    let dark = trim-starts text part trimmed in
+    (λ e. subst (λ (l : List Word). AreWords limit part l) e (words-read limit (length part) part v dark (omega arith)),
+    λ h. sym (words-once limit part list v dark h))
 
-piece-means : (limit : ℕ) (piece : List ℕ) → IsUtf8 piece → AreIntervals limit piece (part_intervals limit (trim piece))
-piece-means limit piece u =
+-- ---- the runs of a piece
+
+pub has-runs : (limit : ℕ) (piece : List ℕ) → IsUtf8 piece → HasRuns limit piece (runs_of precedence (part_bounds limit (trim piece)))
+has-runs limit piece u =
     let part = trim piece in
     let is = trim_is_middle piece u in
     record {
       part = part;
       words = words limit part;
-      runs = runs_of precedence (part_bounds limit part);
       trimmed = is;
       read = words-read limit (length part) part (trim-utf8 piece part u is) (trim-starts piece part is) (omega arith);
       divided = part_divides limit part;
-      spanned = refl;
     }
 
-piece-once : (limit : ℕ) (piece : List ℕ) (list : List (Span VersionValue)) → IsUtf8 piece → AreIntervals limit piece list → list ≡ part_intervals limit (trim piece)
-piece-once limit piece list u h =
-    h.spanned
-    ∙ ap (λ (rs : List (Run VersionValue)). map (interval_of precedence) rs) (runs_are (filter_map (table limit) h.words) h.runs h.divided)
-    ∙ ap (λ (ws : List Word). map (interval_of precedence) (runs_of precedence (filter_map (table limit) ws)))
+pub runs-once : (limit : ℕ) (piece : List ℕ) (runs : List (Run VersionValue)) → IsUtf8 piece → HasRuns limit piece runs
+    → runs ≡ runs_of precedence (part_bounds limit (trim piece))
+runs-once limit piece runs u h =
+    runs_are (filter_map (table limit) h.words) runs h.divided
+    ∙ ap (λ (ws : List Word). runs_of precedence (filter_map (table limit) ws))
     (words-once limit h.part h.words (trim-utf8 piece h.part u h.trimmed) (trim-starts piece h.part h.trimmed) h.read)
-    ∙ ap (λ (t : List ℕ). part_intervals limit t) (middle_is_trim piece h.part h.trimmed)
+    ∙ ap (λ (t : List ℕ). runs_of precedence (part_bounds limit t)) (middle_is_trim piece h.part h.trimmed)
 
 -- ---- the pieces of a text are UTF-8
 
@@ -102,7 +107,7 @@ utf8-bar piece t u =
     at_bar [] = refl
     at_bar (b ∷ p) = at_bar p
 
-pieces-utf8 : (text : List ℕ) (pieces : List (List ℕ)) → IsCutAtBars text pieces → IsUtf8 text → AllByRecursion IsUtf8 pieces
+pub pieces-utf8 : (text : List ℕ) (pieces : List (List ℕ)) → IsCutAtBars text pieces → IsUtf8 text → AllByRecursion IsUtf8 pieces
 pieces-utf8 text pieces (one_piece piece h) u = (u, tt)
 pieces-utf8 text pieces (more_pieces piece rest others h ended cut) u =
     let both = utf8-bar piece rest u in
@@ -119,12 +124,12 @@ no_characters [] h = refl
 no_characters (c ∷ cs) h =
     absurd (omega (arith, ap length h, length-append (encode_utf8 c) (encode_utf8_all cs), length-encode c, (len_utf8_bounds c).0))
 
-blank-empty : (piece : List ℕ) → IsBlank piece → is_empty (trim piece) ≡ true
+pub blank-empty : (piece : List ℕ) → IsBlank piece → is_empty (trim piece) ≡ true
 blank-empty piece h =
     ap (λ (t : List ℕ). is_empty (trim t)) (h.spelled ∙ ap (λ (cs : List ℕ). encode_utf8_all cs) (sym (append-nil h.characters)))
     ∙ ap (λ (t : List ℕ). is_empty t) (trim_parts h.characters [] [] h.each refl refl refl)
 
-empty-blank : (piece : List ℕ) → IsUtf8 piece → is_empty (trim piece) ≡ true → IsBlank piece
+pub empty-blank : (piece : List ℕ) → IsUtf8 piece → is_empty (trim piece) ≡ true → IsBlank piece
 empty-blank piece u h =
     let is = trim_is_middle piece u in
     let none : is.characters ≡ [] = no_characters is.characters (sym is.middle_is ∙ empty-is (trim piece) h) in
@@ -162,7 +167,8 @@ all-mean limit (piece ∷ pieces) u =
       | inl empty ↦ subst (λ (l : List (Span VersionValue)). AreAllIntervals limit (piece ∷ pieces) (l ++ others)) (sym (piece-denotes limit piece empty))
           (blank_piece piece pieces others (empty-blank piece u.0 empty) more)
       | inr some ↦ subst (λ (l : List (Span VersionValue)). AreAllIntervals limit (piece ∷ pieces) (l ++ others)) (sym (piece-words limit piece some))
-          (next_piece piece pieces (part_intervals limit (trim piece)) others (λ blank. cc (sym some ∙ blank-empty piece blank)) (piece-means limit piece u.0) more)
+          (next_piece piece pieces (runs_of precedence (part_bounds limit (trim piece))) others (λ blank. cc (sym some ∙ blank-empty piece blank))
+          (has-runs limit piece u.0) more)
     ]
 
 all-once : (limit : ℕ) (pieces : List (List ℕ)) (list : List (Span VersionValue)) → AllByRecursion IsUtf8 pieces → AreAllIntervals limit pieces list
@@ -171,12 +177,13 @@ all-once limit pieces list u no_piece = refl
 all-once limit pieces list u (blank_piece piece rest others blank more) =
     ap (λ (l : List (Span VersionValue)). l ++ others) (sym (piece-denotes limit piece (blank-empty piece blank)))
     ∙ ap (λ (l : List (Span VersionValue)). part_denotes limit (trim piece) ++ l) (all-once limit rest others u.1 more)
-all-once limit pieces list u (next_piece piece rest here others dark h more) =
+all-once limit pieces list u (next_piece piece rest runs others dark h more) =
     let some : is_empty (trim piece) ≡ false = elim (cases_Bool (is_empty (trim piece))) [
       | inl empty ↦ absurd (dark (empty-blank piece u.0 empty))
       | inr some ↦ some
     ] in
-    ap (λ (l : List (Span VersionValue)). l ++ others) (piece-once limit piece here u.0 h ∙ sym (piece-words limit piece some))
+    ap (λ (l : List (Span VersionValue)). l ++ others)
+    (ap (λ (rs : List (Run VersionValue)). map (interval_of precedence) rs) (runs-once limit piece runs u.0 h) ∙ sym (piece-words limit piece some))
     ∙ ap (λ (l : List (Span VersionValue)). part_denotes limit (trim piece) ++ l) (all-once limit rest others u.1 more)
 
 -- ---- the whole text

@@ -13,7 +13,7 @@ use Rattle.semver_core.specs.declared.cuts.bound.Bound.{Bound}
 use Rattle.semver_core.specs.declared.cuts.bound.Bound.TheVariants.{Unbounded, Before, After}
 use Rattle.nodejs_semver.specs.Printing.RoundTrip.{bounds_back}
 use Rattle.nodejs_semver.specs.Ranges.Outside.{is_bounded}
-use Rattle.nodejs_semver.specs.Text.Denotes.{part_intervals}
+use Rattle.nodejs_semver.specs.Internal.Denotes.{part_intervals}
 use Rattle.nodejs_semver.specs.Printing.Text.{bounds_text}
 use Rattle.nodejs_semver.specs.Text.Runs.{Run, interval_of, fits}
 use Rattle.nodejs_semver.specs.Internal.RunsFrom.{runs_from, runs_of}

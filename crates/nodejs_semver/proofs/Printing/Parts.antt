@@ -20,7 +20,7 @@ use Rattle.semver_core.proofs.Printing.Returns.{decimal_digits, decimal_some, id
 use Rattle.semver_core.proofs.Text.Spaces.{drop_spaces-none}
 use Rattle.nodejs_semver.specs.Printing.RoundTrip.{read_back}
 use Rattle.nodejs_semver.specs.Ranges.Outside.{is_bounded}
-use Rattle.nodejs_semver.specs.Text.Denotes.{part_denotes, denotes}
+use Rattle.nodejs_semver.specs.Internal.Denotes.{part_denotes, denotes}
 use Rattle.nodejs_semver.specs.Internal.Parts.{cut_bars, parts}
 use Rattle.nodejs_semver.specs.Printing.Text.{bounds_text, span_text, range_text}
 use Rattle.semver_core.specs.Values.Order.{version_eq}

@@ -8,7 +8,7 @@ use Rattle.semver_core.specs.Values.Versions.{VersionValue}
 use Rattle.semver_core.specs.declared.error.Failure.{Failure}
 use Rattle.semver_core.specs.declared.error.Failure.TheVariants.{Refused, Memory}
 use Rattle.nodejs_semver.specs.Printing.RoundTrip.{is_printable, read_back}
-use Rattle.nodejs_semver.specs.Text.Denotes.{denotes}
+use Rattle.nodejs_semver.specs.Internal.Denotes.{denotes}
 use Rattle.nodejs_semver.specs.Printing.Text.{range_text}
 use Rattle.nodejs_semver.specs.Ranges.Equality.{range_eq}
 use Rattle.nodejs_semver.proofs.Printing.Ranges.{reads_back, same_back, prints_again}

@@ -11,7 +11,7 @@ use Rattle.nodejs_semver.specs.Internal.Fronts.{build_front, component_front, do
 use Rattle.nodejs_semver.specs.Internal.Words.{is_boundary, word_at, words_within, from_boundary}
 use Rattle.nodejs_semver.specs.Text.Table.{table, lowest}
 use Rattle.nodejs_semver.specs.Internal.RunsFrom.{runs_from}
-use Rattle.nodejs_semver.specs.Text.Denotes.{denotes}
+use Rattle.nodejs_semver.specs.Internal.Denotes.{denotes}
 
 abbrev span : Bound VersionValue → Bound VersionValue → Span VersionValue
 span lower upper = record { lower = lower; upper = upper }

@@ -5,7 +5,7 @@ ghost use Rattle.std.specs.List.{list_all};
 ghost use Rattle.nodejs_semver.specs.Printing.RoundTrip.{is_printable, read_back};
 ghost use Rattle.nodejs_semver.specs.Printing.Text.{range_text};
 ghost use Rattle.nodejs_semver.specs.Ranges.Equality.{range_eq};
-ghost use Rattle.nodejs_semver.specs.Text.Denotes.{denotes};
+ghost use Rattle.nodejs_semver.specs.Internal.Denotes.{denotes};
 ghost use Rattle.semver_core.specs.Cuts.{Span};
 ghost use Rattle.semver_core.specs.Failures.{NeverRefused};
 ghost use Rattle.semver_core.specs.Values.Versions.{VersionValue};

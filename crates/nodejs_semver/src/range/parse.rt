@@ -2,8 +2,8 @@
 
 ghost use Rattle.std.specs.Prelude.{◌≡◌, ◌<◌, [], IfOk, OnOk, length, true};
 ghost use Rattle.nodejs_semver.specs.Ranges.Gate.{accepts};
-ghost use Rattle.nodejs_semver.specs.Text.Denotes.{denotes};
-ghost use Rattle.nodejs_semver.specs.Text.WrittenSet.{writes};
+ghost use Rattle.nodejs_semver.specs.Internal.Denotes.{denotes};
+ghost use Rattle.nodejs_semver.specs.Internal.Writes.{writes};
 ghost use Rattle.semver_core.specs.Failures.{RefusedOnlyIf};
 ghost use Rattle.semver_core.specs.Values.Versions.{VersionValue};
 

@@ -5,7 +5,7 @@ ghost use Rattle.std.specs.Prelude.{◌≡◌, ◌≤◌, [], if◌then◌else�
 ghost use Rattle.std.specs.Prelude.{IsTrue, None, Some, true};
 ghost use Rattle.nodejs_semver.specs.Internal.CommonFronts as Spec;
 ghost use Rattle.nodejs_semver.specs.Text.Common.{IsCommonRange, IsUncommon};
-ghost use Rattle.nodejs_semver.specs.Text.Denotes.{denotes};
+ghost use Rattle.nodejs_semver.specs.Internal.Denotes.{denotes};
 ghost use Rattle.nodejs_semver.specs.Internal.Fronts.{dotted_front};
 ghost use Rattle.nodejs_semver.specs.Internal.CommonViews.{between_view, both_view};
 ghost use Rattle.nodejs_semver.specs.Internal.CommonViews.{bounds_front_view, passed_view};

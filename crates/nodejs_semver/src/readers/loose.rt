@@ -2,7 +2,7 @@
 
 ghost use Rattle.std.specs.Prelude.{◌≡◌, ◌++◌, ◌∷◌, [], IfOk, OnOk, flat_map, false};
 ghost use Rattle.std.specs.List.{list_all};
-ghost use Rattle.nodejs_semver.specs.Text.Denotes.{denotes, part_denotes};
+ghost use Rattle.nodejs_semver.specs.Internal.Denotes.{denotes, part_denotes};
 ghost use Rattle.nodejs_semver.specs.Internal.PartFronts.{later_parts};
 ghost use Rattle.nodejs_semver.specs.Internal.Parts.{parts};
 ghost use Rattle.nodejs_semver.specs.Internal.Readings.{rest_view};

@@ -2,7 +2,7 @@ ghost use Rattle.std.specs.Prelude.{◌≡◌, ◌&&◌, ◌⊎◌, [], IfOk, tr
 ghost use Rattle.nodejs_semver.specs.Failures.{RefusedOnlyIf};
 ghost use Rattle.nodejs_semver.specs.Parsing.{IsRefused, Parses};
 ghost use Rattle.nodejs_semver.specs.Ranges.Gate.{accepts, option_accepts};
-ghost use Rattle.nodejs_semver.specs.Text.Denotes.{denotes};
+ghost use Rattle.nodejs_semver.specs.Internal.Denotes.{denotes};
 ghost use Rattle.nodejs_semver.specs.Text.WrittenSet.{writes};
 ghost use Rattle.nodejs_semver.specs.Versions.{VersionValue};
 

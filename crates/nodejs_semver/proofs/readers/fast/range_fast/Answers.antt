@@ -1,7 +1,7 @@
 use Rattle.std.proofs.Common.{◌≡◌, List, ℕ, rules, subst}
 use Rattle.std.specs.Prelude.{IfSome, IsTrue}
 use Rattle.semver_core.specs.declared.TheConstants.{MAX_SAFE_INTEGER}
-use Rattle.nodejs_semver.specs.Text.Denotes.{denotes}
+use Rattle.nodejs_semver.specs.Internal.Denotes.{denotes}
 use Rattle.nodejs_semver.proofs.Common.Whole.{common_bounded, common_denoted}
 use Rattle.nodejs_semver.proofs.readers.fast.range_fast.Goals as goal
 

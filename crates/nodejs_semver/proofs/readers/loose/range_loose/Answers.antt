@@ -5,7 +5,7 @@ use Rattle.semver_core.specs.Cuts.{Span}
 use Rattle.semver_core.specs.Values.Versions.{VersionValue}
 use Rattle.semver_core.specs.declared.TheConstants.{MAX_SAFE_INTEGER}
 use Rattle.nodejs_semver.specs.Internal.Parts.{parts}
-use Rattle.nodejs_semver.specs.Text.Denotes.{part_denotes}
+use Rattle.nodejs_semver.specs.Internal.Denotes.{part_denotes}
 use Rattle.nodejs_semver.specs.Ranges.View.{is_range_span}
 use Rattle.nodejs_semver.proofs.Bounds.Table.{all-bounded}
 use Rattle.nodejs_semver.proofs.readers.loose.range_loose.Goals as goal
