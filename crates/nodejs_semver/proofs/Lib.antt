@@ -6,3 +6,4 @@ pub mod Dividing
 pub mod Printing
 pub mod Reading
 pub mod Rows
+pub mod Sets

@@ -76,12 +76,3 @@ accepts-held (s ∷ ss) v = ap₂ (λ (a b : Bool). a || b) (and-true (holds pre
     and-true : (b : Bool) → (b && true) ≡ b
     and-true true = refl
     and-true false = refl
-
-any-is : (ss ts : List (Span VersionValue)) → Some ss ≡ if_any ts → ss ≡ ts
-any-is ss [] h = cc h
-any-is ss (t ∷ ts) h = cc h
-
-pub accepted-written : (limit : ℕ) (text : List ℕ) (ss : List (Span VersionValue)) → Some ss ≡ if_any (denotes limit text)
-    → (v : VersionValue) → accepts ss v true ≡ writes limit text v
-accepted-written limit text ss h v =
-    accepts-held ss v ∙ (ap (λ (ts : List (Span VersionValue)). list_holds precedence ts v) (any-is ss (denotes limit text) h) ∙ denotes_hold limit text v)

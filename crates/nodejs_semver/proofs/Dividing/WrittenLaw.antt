@@ -1,6 +1,6 @@
 -- What is computed of the versions that a text writes is what it writes.
 use Rattle.std.proofs.Common.{◌≡◌, ◌<◌, ℕ, zero, suc, List, [], ◌∷◌, length, get_or, ap, sym, ◌∙◌, true, false, inl, inr, Bool, arith, subst, refl}
-use Rattle.std.specs.Prelude.{◌↔◌, ◌||◌, IsUtf8, map}
+use Rattle.std.specs.Prelude.{◌↔◌, ◌||◌, IsTrue, IsUtf8, map}
 use Rattle.std.specs.List.{AllByRecursion, Any, list_any}
 use Rattle.std.proofs.lemmas.Bool.{cases_Bool, or_right}
 use Rattle.std.proofs.lemmas.List.Folds.{Any-from_list_any, list_any-from_Any}
@@ -8,7 +8,11 @@ use Rattle.semver_core.specs.Internal.Spaces.{trim}
 use Rattle.semver_core.specs.Lists.{is_empty}
 use Rattle.semver_core.specs.Values.Order.{precedence}
 use Rattle.semver_core.specs.Values.Versions.{VersionValue}
-use Rattle.nodejs_semver.specs.Internal.Denotes.{part_bounds}
+use Rattle.semver_core.specs.Cuts.{Span}
+use Rattle.nodejs_semver.specs.Internal.Denotes.{denotes, part_bounds}
+use Rattle.nodejs_semver.specs.Ranges.Algebra.{list_holds}
+use Rattle.nodejs_semver.specs.Ranges.Gate.{accepts}
+use Rattle.nodejs_semver.proofs.Algebra.Holds.{accepts-held, denotes_hold}
 use Rattle.nodejs_semver.specs.Internal.Parts.{cut_bars}
 use Rattle.nodejs_semver.specs.Internal.RunsFrom.{runs_of}
 use Rattle.nodejs_semver.specs.Internal.Writes.{part_writes, writes}
@@ -45,6 +49,7 @@ piece-written limit v piece u (inr (runs, has, some)) =
     or_right (is_empty (trim piece)) _ (ap (λ (rs : List (Run VersionValue)). list_any (run_writes precedence v) rs) (sym (runs-once limit piece runs u has)) ∙ some)
 
 pub written : (limit : ℕ) (text : List ℕ) (v : VersionValue) → IsUtf8 text → (writes limit text v ≡ true) ↔ Writes limit text v
+unfolding Writes
 written limit text v u = (
     λ h. let some = Any-from_list_any test here (sym (any-map (part_writes limit v) trim here) ∙ h) in
         (here, bars_divide text, (some.0, some.1, some.2, some.3, piece-writes limit v some.1 (at here (bars_divide text) some) some.4)),
@@ -60,3 +65,12 @@ written limit text v u = (
 
     at : {P : List ℕ → Type 0} (pieces : List (List ℕ)) → IsCutAtBars text pieces → (h : Any P pieces) → IsUtf8 h.1
     at pieces cut h = subst IsUtf8 h.3 (piece-at pieces (pieces-utf8 text pieces cut u) h.0 h.1 h.2)
+
+-- with pre-releases included, the intervals that a text means accept what it writes
+pub accepted_written : (limit : ℕ) (text : List ℕ) (list : List (Span VersionValue)) → IsUtf8 text → list ≡ denotes limit text
+    → (v : VersionValue) → IsTrue (accepts list v true) ↔ Writes limit text v
+accepted_written limit text list u h v =
+    let same : accepts list v true ≡ writes limit text v =
+    accepts-held list v ∙ (ap (λ (l : List (Span VersionValue)). list_holds precedence l v) h ∙ denotes_hold limit text v) in
+    let law = written limit text v u in
+    (λ e. law.0 (sym same ∙ e), λ w. same ∙ law.1 w)

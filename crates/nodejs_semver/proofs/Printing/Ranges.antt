@@ -63,10 +63,6 @@ pub reads_back : (limit : ℕ) (text : List ℕ) (list : List (Span VersionValue
 reads_back limit text [] small some h e = absurd (omega arith)
 reads_back limit text (s ∷ rest) small some h e = ap (denotes limit) e ∙ denotes_back limit s rest small (all_printable limit (s ∷ rest) h)
 
-pub reads_equal : (limit : ℕ) (text : List ℕ) (list : List (Span VersionValue)) → limit < 2 ^ 64 → 0 < length list → list_all (is_printable limit) list ≡ true
-    → text ≡ range_text list → range_eq (denotes limit text) list ≡ true
-reads_equal limit text list small some h e = ap (λ (l : List (Span VersionValue)). range_eq l list) (reads_back limit text list small some h e) ∙ same_back list
-
 -- what is read from a printed interval prints as the same text
 again : (lower upper : Bound VersionValue) → bounds_text (bounds_back lower upper).lower (bounds_back lower upper).upper ≡ bounds_text lower upper
 again Unbounded upper = refl

@@ -35,9 +35,12 @@ pub data AreAllIntervals (limit : ℕ) : List (List ℕ) → List (Span VersionV
       → (IsBlank piece → ⊥) → HasRuns limit piece runs → AreAllIntervals limit pieces others
       → AreAllIntervals limit (piece ∷ pieces) (map (interval_of precedence) runs ++ others)
 
+-- the text is whitespace and bars alone
+unfoldable pub IsBlankText : List ℕ → Type 0
+IsBlankText text = (pieces : List (List ℕ)) × IsCutAtBars text pieces × AllByRecursion IsBlank pieces
+
 -- the text means these intervals: one without bounds where all pieces are blank, and else those of its pieces in order
-pub record Means (limit : ℕ) (text : List ℕ) (list : List (Span VersionValue)) : Type 0 where
-  pub pieces : List (List ℕ)
-  pub cut : IsCutAtBars text pieces
-  pub where_blank : AllByRecursion IsBlank pieces → list ≡ any_version
-  pub elsewhere : (AllByRecursion IsBlank pieces → ⊥) → AreAllIntervals limit pieces list
+pub data Means (limit : ℕ) (text : List ℕ) : List (Span VersionValue) → Type 0 where
+  every_version : IsBlankText text → Means limit text any_version
+  all_intervals : (pieces : List (List ℕ)) (list : List (Span VersionValue)) → IsCutAtBars text pieces
+      → (AllByRecursion IsBlank pieces → ⊥) → AreAllIntervals limit pieces list → Means limit text list

@@ -39,5 +39,5 @@ PieceWrites limit v piece =
     IsBlank piece ⊎ ((runs : List (Run VersionValue)) × HasRuns limit piece runs × (list_any (run_writes precedence v) runs ≡ true))
 
 -- the text writes the version: some one of its pieces does
-abbrev pub Writes : ℕ → List ℕ → VersionValue → Type 0
+unfoldable pub Writes : ℕ → List ℕ → VersionValue → Type 0
 Writes limit text v = (pieces : List (List ℕ)) × IsCutAtBars text pieces × Any (PieceWrites limit v) pieces

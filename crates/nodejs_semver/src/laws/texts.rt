@@ -118,7 +118,6 @@ pub fn common_ranges()
 {}
 
 /// On a common text both readers return the same range; on another the fast one returns `None`.
-#[tactic(auto, using(crate::proofs::Common::Whole::fast_read))]
 pub fn both_readers(alloc: Global, text: &str) -> Result<Option<(Range, Option<Range>)>, AllocError>
     ensures same { IfOk result (λ found. IfSome found (λ both. Some both.0 ≡ both.1)) }
     ensures uncommon { IfOk result (λ found. IfNone found (IsUncommon MAX_SAFE_INTEGER text.now)) }
