@@ -65,9 +65,10 @@ words-read limit (suc n) (b ∷ rest) u h l =
 pub words-law : (limit : ℕ) (text part : List ℕ) (list : List Word) → IsUtf8 text → IsTrim text part → (words limit part ≡ list) ↔ AreWords limit part list
 words-law limit text part list u trimmed =
     let v = trim-utf8 text part u trimmed in
-    let dark = trim-starts text part trimmed in
-    (λ e. subst (λ (l : List Word). AreWords limit part l) e (words-read limit (length part) part v dark (omega arith)),
-    λ h. sym (words-once limit part list v dark h))
+    let dark = trim-starts text part trimmed in (
+      λ e. subst (λ (l : List Word). AreWords limit part l) e (words-read limit (length part) part v dark (omega arith)),
+      λ h. sym (words-once limit part list v dark h),
+    )
 
 -- ---- the runs of a piece
 
@@ -252,8 +253,9 @@ meant_none limit text (s ∷ rest) o u e h = subst (λ (q : Option (List (Span V
 pub blank_text : (text : List ℕ) → IsUtf8 text → IsTrue (list_all is_empty (parts text)) ↔ IsBlankText text
 unfolding IsBlankText
 blank_text text u = (
-    λ e. (cut_bars false text, bars_divide text, all-blank (cut_bars false text) (pieces-utf8 text (cut_bars false text) (bars_divide text) u) e),
-    λ blank. ap (λ (ps : List (List ℕ)). list_all is_empty (map trim ps)) (sym (bars_once text blank.0 blank.1)) ∙ all-empty blank.0 blank.2)
+  λ e. (cut_bars false text, bars_divide text, all-blank (cut_bars false text) (pieces-utf8 text (cut_bars false text) (bars_divide text) u) e),
+  λ blank. ap (λ (ps : List (List ℕ)). list_all is_empty (map trim ps)) (sym (bars_once text blank.0 blank.1)) ∙ all-empty blank.0 blank.2,
+)
 
 pub filled_text : (text : List ℕ) → IsUtf8 text → (IsBlankText text → ⊥) → list_all is_empty (parts text) ≡ false
 filled_text text u h = elim (cases_Bool (list_all is_empty (parts text))) [ inl blank ↦ absurd (h ((blank_text text u).0 blank)) | inr some ↦ some ]

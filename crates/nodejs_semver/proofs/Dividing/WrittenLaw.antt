@@ -51,11 +51,12 @@ piece-written limit v piece u (inr (runs, has, some)) =
 pub written : (limit : ℕ) (text : List ℕ) (v : VersionValue) → IsUtf8 text → (writes limit text v ≡ true) ↔ Writes limit text v
 unfolding Writes
 written limit text v u = (
-    λ h. let some = Any-from_list_any test here (sym (any-map (part_writes limit v) trim here) ∙ h) in
-        (here, bars_divide text, (some.0, some.1, some.2, some.3, piece-writes limit v some.1 (at here (bars_divide text) some) some.4)),
-    λ w. ap (λ (ps : List (List ℕ)). list_any (part_writes limit v) (map trim ps)) (sym (bars_once text w.0 w.1))
-        ∙ any-map (part_writes limit v) trim w.0
-        ∙ list_any-from_Any test w.0 (w.2.0, w.2.1, w.2.2, w.2.3, piece-written limit v w.2.1 (at w.0 w.1 w.2) w.2.4))
+  λ h. let some = Any-from_list_any test here (sym (any-map (part_writes limit v) trim here) ∙ h) in
+      (here, bars_divide text, (some.0, some.1, some.2, some.3, piece-writes limit v some.1 (at here (bars_divide text) some) some.4)),
+  λ w. ap (λ (ps : List (List ℕ)). list_any (part_writes limit v) (map trim ps)) (sym (bars_once text w.0 w.1))
+      ∙ any-map (part_writes limit v) trim w.0
+      ∙ list_any-from_Any test w.0 (w.2.0, w.2.1, w.2.2, w.2.3, piece-written limit v w.2.1 (at w.0 w.1 w.2) w.2.4),
+)
   where
     here : List (List ℕ)
     here = cut_bars false text

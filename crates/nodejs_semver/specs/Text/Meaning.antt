@@ -1,5 +1,5 @@
 -- Statement. What a range text means: a list of intervals. The text has a range exactly where that list is not empty.
-use Rattle.std.specs.Prelude.{◌≡◌, ℕ, List, [], ◌∷◌, ◌++◌, map, filter_map}
+use Rattle.std.specs.Prelude.{ℕ, List, [], ◌∷◌, ◌++◌, map, filter_map}
 use Rattle.std.specs.List.{AllByRecursion}
 use Rattle.semver_core.specs.Text.Characters.{IsBlank, IsTrim}
 use Rattle.semver_core.specs.Cuts.{Span}

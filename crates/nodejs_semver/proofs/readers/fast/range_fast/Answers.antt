@@ -1,4 +1,4 @@
-use Rattle.std.proofs.Common.{◌≡◌, List, ℕ, rules, subst}
+use Rattle.std.proofs.Common.{List, ℕ, rules, subst}
 use Rattle.std.specs.Prelude.{IfSome, IsTrue, IsUtf8}
 use Rattle.semver_core.specs.declared.TheConstants.{MAX_SAFE_INTEGER}
 use Rattle.nodejs_semver.specs.Text.Meaning.{Means}
@@ -15,5 +15,5 @@ returns-clause-denoted c =
     let there : IsTrue c.in_ok-read_common.field-0 = search rules in
     subst (λ (t : List ℕ). IsUtf8 t → IfSome c.from_intervals.result (Means MAX_SAFE_INTEGER t)) c.as_bytes.ensures.value
     (λ u. common_means MAX_SAFE_INTEGER c.as_bytes.result.now c.read_common.new.found.items c.from_intervals.result u
-        (c.in_ok-read_common.ensures.some there) c.from_intervals.ensures)
+    (c.in_ok-read_common.ensures.some there) c.from_intervals.ensures)
     c.utf8.text
