@@ -1,5 +1,6 @@
 pub mod Clauses
 pub mod Accepting
+pub mod FlatMaps
 pub mod ListSets
 pub mod Spans
 pub mod Differences

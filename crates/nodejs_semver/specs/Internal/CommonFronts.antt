@@ -58,9 +58,13 @@ part_read rest found = found >>? λ s. Some (s, rest)
 abbrev pub word_read : ℕ → Front Word → Front (Span VersionValue)
 word_read limit read = read >>? λ w. part_read w.1 (table limit w.0)
 
+-- what an interval has in common with that of two bounds
+abbrev pub common_with : Span VersionValue → Span VersionValue → Option (Span VersionValue)
+common_with s t = interval precedence t >>? λ b. meet precedence s b
+
 -- what the intervals of two pairs of bounds have in common
 abbrev pub both_of : Span VersionValue → Span VersionValue → Option (Span VersionValue)
-both_of s t = interval precedence s >>? λ a. interval precedence t >>? λ b. meet precedence a b
+both_of s t = interval precedence s >>? λ a. common_with a t
 
 abbrev pub is_sign : ℕ → Bool
 is_sign b = b == 60 || (b == 61 || b == 62)

@@ -10,7 +10,7 @@ ghost use Rattle.semver_core.specs.Failures.{RefusedOnlyIf};
 ghost use Rattle.semver_core.specs.Values.Versions.{VersionValue};
 
 use crate::{Failure, MAX_SAFE_INTEGER, Range, SemverError, Version};
-use std::alloc::Global;
+use std::alloc::{AllocError, Global};
 
 /// What the public calls return for two texts. No range stands for the empty set.
 #[derive(Debug, Drop)]
@@ -53,8 +53,21 @@ pub fn headline(alloc: Global, a: &str, b: &str) -> Result<Findings, Failure<Sem
 {
     let first = Range::parse(alloc, a)?;
     let second = Range::parse(alloc, b)?;
-    let both = first.intersect(alloc, &second)?;
-    let first_alone = first.difference(alloc, &second)?;
+    Ok(findings_of(alloc, first, &second)?)
+}
+
+// What the public calls return for two ranges.
+fn findings_of(alloc: Global, first: Range, second: &Range) -> Result<Findings, AllocError>
+    ensures first { IfOk result (λ found. found.first ≡ first) }
+    ensures both { IfOk result (λ found. (v : VersionValue) →
+        option_accepts found.both v true ≡ (accepts first v true && accepts second.now v true)) }
+    ensures first_alone { IfOk result (λ found. (v : VersionValue) →
+        option_accepts found.first_alone v true
+        ≡ (accepts first v true && not (accepts second.now v true))) }
+    ensures least { IfOk result (λ found. IsLeastOf (λ v. accepts first v false) found.least) }
+{
+    let both = first.intersect(alloc, second)?;
+    let first_alone = first.difference(alloc, second)?;
     let least = first.min_version(alloc)?;
     Ok(Findings {
         first,

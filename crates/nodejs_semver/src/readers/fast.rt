@@ -64,13 +64,24 @@ fn common_interval(
     ensures { IfOk result (λ both. both
         ≡ Spec.both_of (bounds_view first.entry) (bounds_view second.entry)) }
 {
-    let Some(first) = between(alloc, first)? else {
-        return Ok(None);
-    };
-    let Some(second) = between(alloc, second)? else {
-        return Ok(None);
-    };
-    Ok(first.intersect(alloc, &second)?)
+    match between(alloc, first)? {
+        Some(first) => common_with(alloc, &first, second),
+        None => Ok(None),
+    }
+}
+
+// What the interval has in common with that of the bounds.
+fn common_with(
+    alloc: Global,
+    first: &Interval<Version>,
+    second: Bounds<'_>,
+) -> Result<Option<Interval<Version>>, AllocError>
+    ensures { IfOk result (λ both. both ≡ Spec.common_with first.now (bounds_view second.entry)) }
+{
+    match between(alloc, second)? {
+        Some(second) => first.intersect(alloc, &second),
+        None => Ok(None),
+    }
 }
 
 // Adds what two comparisons have in common, where that is an interval.
