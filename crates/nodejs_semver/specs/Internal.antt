@@ -9,6 +9,7 @@ pub mod Readings
 pub mod Meets
 pub mod Candidates
 pub mod Along
+pub mod Hashes
 pub mod SameLaws
 pub mod CommonFronts
 pub mod CommonViews

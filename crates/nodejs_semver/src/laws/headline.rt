@@ -1,6 +1,7 @@
 // The headline of this crate. It rests on the contracts of the public calls alone.
 
-ghost use Rattle.std.specs.Prelude.{◌≡◌, ◌↔◌, ◌⊎◌, List, [], IfOk, IsTrue, OnOk, true, false};
+ghost use Rattle.std.specs.Prelude.{◌≡◌, ◌&&◌, ◌↔◌, ◌⊎◌, List, [], IfOk, IsTrue, OnOk, not, true};
+ghost use Rattle.std.specs.Prelude.{false};
 ghost use Rattle.nodejs_semver.specs.Ranges.Gate.{accepts, option_accepts};
 ghost use Rattle.nodejs_semver.specs.Ranges.Least.{IsLeastOf};
 ghost use Rattle.nodejs_semver.specs.Text.Meaning.{Means};
