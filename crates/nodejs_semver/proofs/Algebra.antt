@@ -1,8 +1,8 @@
 pub mod Clauses
 pub mod Accepting
 pub mod FlatMaps
-pub mod ListSets
 pub mod Spans
+pub mod Triples
 pub mod Differences
 pub mod Gate
 pub mod Holds

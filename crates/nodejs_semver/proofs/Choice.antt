@@ -1,5 +1,5 @@
 pub mod BestOf
-pub mod Keys
+pub mod Next
 pub mod LeastOf
 pub mod LeastPieces
 pub mod OutsideLaw

@@ -1,6 +1,6 @@
 -- What the intersection and the difference of two lists hold and accept, and that their intervals are those of a range.
 use Rattle.std.proofs.Common.{◌≡◌, refl, sym, ◌∙◌, ap, ℕ, ◌+◌, true, false, ◌&&◌, ◌||◌, not, List, [], ◌∷◌, Option, Some, None}
-use Rattle.std.specs.Cmp.{first_so, second_so}
+use Rattle.std.specs.Cmp.{first_so}
 use Rattle.std.specs.List.{list_all}
 use Rattle.semver_core.specs.Cuts.{Span, is_interval}
 use Rattle.semver_core.specs.Values.Order.{precedence}
@@ -10,21 +10,23 @@ use Rattle.semver_core.specs.declared.TheConstants.{MAX_SAFE_INTEGER}
 use Rattle.nodejs_semver.specs.Ranges.Gate.{accepts, option_accepts}
 use Rattle.nodejs_semver.specs.Ranges.Algebra.{intersection, difference, list_holds, option_list_holds, meets_of, minus}
 use Rattle.nodejs_semver.specs.Ranges.View.{IsRange, is_range_span, is_range_bound}
-use Rattle.nodejs_semver.proofs.Algebra.Accepting.{both_accept, one_accepts, kept_accepted, accepts-release, option_accepts-if_any}
-use Rattle.nodejs_semver.proofs.Algebra.Holds.{accepts-held}
-use Rattle.nodejs_semver.proofs.Algebra.ListSets.{list_holds-meets_of, list_holds-minus, option_list_holds-if_any}
+use Rattle.nodejs_semver.proofs.Algebra.Accepting.{accepts-held, accepts-minus, accepts-release, both_accept, list_holds-meets_of, list_holds-minus, one_accepts, option_accepts-if_any, option_list_holds-if_any}
+use Rattle.nodejs_semver.proofs.Algebra.FlatMaps.{all_weaker}
 use Rattle.nodejs_semver.proofs.Algebra.Spans.{fine-meets_of, fine-minus}
 
-option_accepts-held : (r : Option (List (Span VersionValue))) (v : VersionValue) → option_accepts r v true ≡ option_list_holds precedence r v
+option_accepts-held : (r : Option (List (Span VersionValue))) (v : VersionValue)
+    → option_accepts r v true ≡ option_list_holds precedence r v
 option_accepts-held None v = refl
 option_accepts-held (Some ss) v = accepts-held ss v
 
-module _ (a b : List (Span VersionValue)) (r : Option (List (Span VersionValue))) (e : r ≡ intersection a b) (v : VersionValue) where
+module _ (a b : List (Span VersionValue)) (r : Option (List (Span VersionValue))) (e : r ≡ intersection a b)
+    (v : VersionValue) where
   accepted : option_accepts r v false ≡ option_accepts (intersection a b) v false
   accepted = ap (λ q. option_accepts q v false) e
 
   pub intersection-set : option_list_holds precedence r v ≡ (list_holds precedence a v && list_holds precedence b v)
-  intersection-set = ap (λ q. option_list_holds precedence q v) e ∙ option_list_holds-if_any precedence (meets_of precedence a b) v ∙ list_holds-meets_of precedence_total a b v
+  intersection-set = ap (λ q. option_list_holds precedence q v) e
+      ∙ option_list_holds-if_any precedence (meets_of precedence a b) v ∙ list_holds-meets_of precedence_total a b v
 
   pub intersection-all : option_accepts r v true ≡ (accepts a v true && accepts b v true)
   intersection-all = cc (intersection-set, option_accepts-held r v, accepts-held a v, accepts-held b v)
@@ -42,18 +44,20 @@ module _ (a b : List (Span VersionValue)) (r : Option (List (Span VersionValue))
       ∙ ap (λ q. q && list_holds precedence b v) (sym (accepts-release a v k))
       ∙ ap (λ q. accepts a v false && q) (sym (accepts-release b v k))
 
-module _ (a b : List (Span VersionValue)) (r : Option (List (Span VersionValue))) (e : r ≡ difference a b) (v : VersionValue) where
+module _ (a b : List (Span VersionValue)) (r : Option (List (Span VersionValue))) (e : r ≡ difference a b)
+    (v : VersionValue) where
   left_accepted : option_accepts r v false ≡ option_accepts (difference a b) v false
   left_accepted = ap (λ q. option_accepts q v false) e
 
   pub difference-set : option_list_holds precedence r v ≡ (list_holds precedence a v && not (list_holds precedence b v))
-  difference-set = ap (λ q. option_list_holds precedence q v) e ∙ option_list_holds-if_any precedence (minus precedence a b) v ∙ list_holds-minus precedence_total a b v
+  difference-set = ap (λ q. option_list_holds precedence q v) e ∙ option_list_holds-if_any precedence (minus precedence a b) v
+      ∙ list_holds-minus precedence_total a b v
 
   pub difference-all : option_accepts r v true ≡ (accepts a v true && not (accepts b v true))
   difference-all = cc (difference-set, option_accepts-held r v, accepts-held a v, accepts-held b v)
 
   pub difference-kept : accepts a v false ≡ true → list_holds precedence b v ≡ false → option_accepts r v false ≡ true
-  difference-kept h k = left_accepted ∙ kept_accepted a b v h k
+  difference-kept h k = left_accepted ∙ option_accepts-if_any (minus precedence a b) v false ∙ accepts-minus a b v h k
 
   pub difference-releases : is_release v ≡ true → option_accepts r v false ≡ (accepts a v false && not (accepts b v false))
   difference-releases k =
@@ -63,23 +67,28 @@ module _ (a b : List (Span VersionValue)) (r : Option (List (Span VersionValue))
       ∙ ap (λ q. accepts a v false && not q) (sym (accepts-release b v k))
 
 -- the lists of two ranges, by any other names, make intervals of a range
-pub meets_of-valid : (a b xs ys found : List (Span VersionValue)) → IsRange MAX_SAFE_INTEGER a → IsRange MAX_SAFE_INTEGER b → xs ≡ a → ys ≡ b → found ≡ meets_of precedence xs ys → list_all (is_range_span (MAX_SAFE_INTEGER + 1)) found ≡ true
+pub meets_of-valid : (a b xs ys found : List (Span VersionValue)) → IsRange MAX_SAFE_INTEGER a → IsRange MAX_SAFE_INTEGER b
+    → xs ≡ a → ys ≡ b → found ≡ meets_of precedence xs ys → list_all (is_range_span (MAX_SAFE_INTEGER + 1)) found ≡ true
 meets_of-valid a b xs ys found h k p q e =
     ap (λ zs. list_all (is_range_span (MAX_SAFE_INTEGER + 1)) zs) e
-    ∙ fine-meets_of precedence (is_range_bound (MAX_SAFE_INTEGER + 1)) xs ys
-    (ap (λ zs. list_all (is_range_span (MAX_SAFE_INTEGER + 1)) zs) p ∙ h.each) (ap (λ zs. list_all (is_range_span (MAX_SAFE_INTEGER + 1)) zs) q ∙ k.each)
+    ∙ fine-meets_of precedence_total (is_range_bound (MAX_SAFE_INTEGER + 1)) xs ys
+    (ap (λ zs. list_all (is_range_span (MAX_SAFE_INTEGER + 1)) zs) p ∙ h.each)
+        (ap (λ zs. list_all (is_range_span (MAX_SAFE_INTEGER + 1)) zs) q ∙ k.each)
 
-pub minus-valid : (a b xs ys left : List (Span VersionValue)) → IsRange MAX_SAFE_INTEGER a → IsRange MAX_SAFE_INTEGER b → xs ≡ a → ys ≡ b → left ≡ minus precedence xs ys → list_all (is_range_span (MAX_SAFE_INTEGER + 1)) left ≡ true
+pub minus-valid : (a b xs ys left : List (Span VersionValue)) → IsRange MAX_SAFE_INTEGER a → IsRange MAX_SAFE_INTEGER b → xs ≡ a
+    → ys ≡ b → left ≡ minus precedence xs ys → list_all (is_range_span (MAX_SAFE_INTEGER + 1)) left ≡ true
 minus-valid a b xs ys left h k p q e =
     ap (λ zs. list_all (is_range_span (MAX_SAFE_INTEGER + 1)) zs) e
-    ∙ fine-minus precedence (is_range_bound (MAX_SAFE_INTEGER + 1)) xs ys
-    (ap (λ zs. list_all (is_range_span (MAX_SAFE_INTEGER + 1)) zs) p ∙ h.each) (ap (λ zs. list_all (is_range_span (MAX_SAFE_INTEGER + 1)) zs) q ∙ k.each)
+    ∙ fine-minus precedence_total (is_range_bound (MAX_SAFE_INTEGER + 1)) xs ys
+    (ap (λ zs. list_all (is_range_span (MAX_SAFE_INTEGER + 1)) zs) p ∙ h.each)
+        (ap (λ zs. list_all (is_range_span (MAX_SAFE_INTEGER + 1)) zs) q ∙ k.each)
 
 -- the spans of a range are intervals
-all_intervals : (n : ℕ) (ss : List (Span VersionValue)) → list_all (is_range_span n) ss ≡ true → list_all (is_interval precedence) ss ≡ true
-all_intervals n [] h = refl
-all_intervals n (s ∷ ss) h =
-    ap (λ q. q && list_all (is_interval precedence) ss) (first_so _ _ (first_so _ _ h)) ∙ all_intervals n ss (second_so _ _ h)
+pub all_intervals : (n : ℕ) (ss : List (Span VersionValue)) → list_all (is_range_span n) ss ≡ true
+    → list_all (is_interval precedence) ss ≡ true
+all_intervals n = all_weaker (is_range_span n) (is_interval precedence) (λ s h. first_so _ _ h)
 
-pub range-intervals : (a xs : List (Span VersionValue)) → IsRange MAX_SAFE_INTEGER a → xs ≡ a → list_all (is_interval precedence) xs ≡ true
-range-intervals a xs h e = ap (λ l. list_all (is_interval precedence) l) e ∙ all_intervals (MAX_SAFE_INTEGER + 1) a h.each
+pub range-intervals : (a xs : List (Span VersionValue)) → IsRange MAX_SAFE_INTEGER a → xs ≡ a
+    → list_all (is_interval precedence) xs ≡ true
+range-intervals a xs h e = all_intervals (MAX_SAFE_INTEGER + 1) xs
+    (ap (list_all (is_range_span (MAX_SAFE_INTEGER + 1))) e ∙ h.each)

@@ -1,11 +1,14 @@
--- Lists that are joined from a list for each element of another.
-use Rattle.std.proofs.Common.{◌≡◌, sym, ◌∙◌, ap, ℕ, ◌+◌, ◌<◌, List, [], ◌∷◌, ◌++◌, length, get_or, take}
+-- Lists that are joined from a list for each element of another, and tests of their elements.
+use Rattle.std.proofs.Common.{◌≡◌, refl, sym, ◌∙◌, ap, ap₂, ℕ, ◌+◌, ◌<◌, Bool, true, false, ◌&&◌, ◌||◌, List, [], ◌∷◌, ◌++◌, length, get_or, take, not, inl, inr, arith}
+use Rattle.std.proofs.lemmas.Bool.{and_parts, or_cases}
 use Rattle.std.proofs.lemmas.Grind.{flat_map-append}
 use Rattle.std.proofs.lemmas.List.{append-nil, take_more}
-use Rattle.std.specs.List.{flat_map}
+use Rattle.std.proofs.lemmas.List.Folds.{Any-from_list_any, list_all-append, list_any-append, list_any_at}
+use Rattle.std.specs.List.{flat_map, list_all, list_any}
 
 -- one more element, whose list was put at the end
-pub flat_step : {A B : Type 0} (f : A → List B) (xs : List A) (i : ℕ) (x : A) (old new : List B) → i < length xs → x ≡ get_or xs i x
+pub flat_step : {A B : Type 0} (f : A → List B) (xs : List A) (i : ℕ) (x : A) (old new : List B) → i < length xs
+    → x ≡ get_or xs i x
     → old ≡ flat_map f (take i xs) → new ≡ old ++ f x → new ≡ flat_map f (take (i + 1) xs)
 flat_step f xs i x old new h at e k =
     k
@@ -13,3 +16,71 @@ flat_step f xs i x old new h at e k =
     ∙ ap (λ l. flat_map f (take i xs) ++ l) (sym (append-nil (f x)))
     ∙ sym (flat_map-append f (take i xs) (x ∷ []))
     ∙ ap (flat_map f) (ap (λ y. take i xs ++ y ∷ []) at ∙ sym (take_more xs i x h))
+
+pub flat_flat : {A B C : Type 0} (f : B → List C) (g : A → List B) (xs : List A)
+    → flat_map f (flat_map g xs) ≡ flat_map (λ x. flat_map f (g x)) xs
+flat_flat f g [] = refl
+flat_flat f g (x ∷ xs) = flat_map-append f (g x) (flat_map g xs) ∙ ap (λ l. flat_map f (g x) ++ l) (flat_flat f g xs)
+
+pub flat_same : {A B : Type 0} (f g : A → List B) → ((x : A) → f x ≡ g x) → (xs : List A) → flat_map f xs ≡ flat_map g xs
+flat_same f g h [] = refl
+flat_same f g h (x ∷ xs) = ap₂ (λ k l. k ++ l) (h x) (flat_same f g h xs)
+
+-- tests of the elements
+pub any_flat : {A B : Type 0} (p : B → Bool) (f : A → List B) (xs : List A)
+    → list_any p (flat_map f xs) ≡ list_any (λ x. list_any p (f x)) xs
+any_flat p f [] = refl
+any_flat p f (x ∷ xs) = list_any-append p (f x) (flat_map f xs) ∙ ap (λ b. list_any p (f x) || b) (any_flat p f xs)
+
+pub all_flat : {A B : Type 0} (p : B → Bool) (f : A → List B) (xs : List A)
+    → list_all p (flat_map f xs) ≡ list_all (λ x. list_all p (f x)) xs
+all_flat p f [] = refl
+all_flat p f (x ∷ xs) = list_all-append p (f x) (flat_map f xs) ∙ ap (λ b. list_all p (f x) && b) (all_flat p f xs)
+
+pub any_same : {A : Type 0} (p q : A → Bool) → ((x : A) → p x ≡ q x) → (xs : List A) → list_any p xs ≡ list_any q xs
+any_same p q h [] = refl
+any_same p q h (x ∷ xs) = ap₂ (λ a b. a || b) (h x) (any_same p q h xs)
+
+pub any_weaker : {A : Type 0} (p q : A → Bool) → ((x : A) → p x ≡ true → q x ≡ true) → (xs : List A) → list_any p xs ≡ true
+    → list_any q xs ≡ true
+any_weaker p q h xs e =
+    let (i, x, l, at, k) = Any-from_list_any p xs e in
+    list_any_at q xs i x l (h _ (ap p at ∙ k))
+
+pub all_weaker : {A : Type 0} (p q : A → Bool) → ((x : A) → p x ≡ true → q x ≡ true) → (xs : List A) → list_all p xs ≡ true
+    → list_all q xs ≡ true
+all_weaker p q h [] e = refl
+all_weaker p q h (x ∷ xs) e = grind (arith, h x, all_weaker p q h xs)
+
+-- tests of pairs
+pub any_pairs : {A B : Type 0} (p : A → Bool) (q : B → Bool) (xs : List A) (ys : List B)
+    → list_any (λ x. list_any (λ y. p x && q y) ys) xs ≡ (list_any p xs && list_any q ys)
+any_pairs {B = B} p q [] ys = refl
+any_pairs {B = B} p q (x ∷ xs) ys = rw (any_pairs p q xs ys, row (p x) ys) (grind arith)
+  where
+    row : (a : Bool) (ys : List B) → list_any (λ y. a && q y) ys ≡ (a && list_any q ys)
+    row true ys = refl
+    row false [] = refl
+    row false (y ∷ ys) = row false ys
+
+pub any_either : {A B : Type 0} (r : A → B → Bool) (p : A → Bool) (q : B → Bool)
+    → ((x : A) (y : B) → r x y ≡ true → (p x || q y) ≡ true)
+    → (xs : List A) (ys : List B) → list_any (λ x. list_any (r x) ys) xs ≡ true → (list_any p xs || list_any q ys) ≡ true
+any_either r p q h xs ys e =
+    let (i, x, l, at, k) = Any-from_list_any (λ x. list_any (r x) ys) xs e in
+    let (j, y, m, bt, n) = Any-from_list_any (r x) ys k in
+    grind (arith, h x y n, λ (t : p x ≡ true). list_any_at p xs i x l (ap p at ∙ t), λ (t : q y ≡ true). list_any_at q ys j y m
+        (ap q bt ∙ t))
+
+-- an element that passes, where each that does passes another test, or where all do
+pub any_under : {A : Type 0} (p q : A → Bool) (xs : List A) → list_any p xs ≡ true → list_all (λ x. not (p x) || q x) xs ≡ true
+    → list_any q xs ≡ true
+any_under p q [] h k = h
+any_under p q (x ∷ xs) h k = grind (arith, any_under p q xs)
+
+pub pick_both : {A : Type 0} (p q : A → Bool) (xs : List A) → list_any p xs ≡ true → list_all q xs ≡ true → (x : A)
+    × ((p x ≡ true) × (q x ≡ true))
+pick_both p q [] h k = cc
+pick_both p q (x ∷ xs) h k =
+    let (here, there) = and_parts (q x) (list_all q xs) k in
+    elim (or_cases (p x) (list_any p xs) h) [ inl e ↦ (x, (e, here)) | inr e ↦ pick_both p q xs e there ]

@@ -1,36 +1,39 @@
 -- What a range text's intervals hold is what the text writes.
-use Rattle.std.proofs.Common.{◌≡◌, ℕ, List, [], ◌∷◌, refl, sym, ap, ap₂, ◌∙◌, true, false, Bool, map}
+use Rattle.std.proofs.Common.{◌≡◌, ℕ, List, [], ◌∷◌, ◌++◌, refl, sym, ap, ap₂, ◌∙◌, true, false, Bool, map, Some, arith}
 use Rattle.std.specs.Prelude.{◌&&◌, ◌||◌, flat_map, if◌then◌else◌}
-use Rattle.std.specs.Cmp.{IsTotalOrder}
+use Rattle.std.proofs.lemmas.Bool.{cond_both, or_left}
+use Rattle.std.proofs.lemmas.List.Folds.{list_any-append}
+use Rattle.std.specs.Cmp.{IsTotalOrder, first_so}
 use Rattle.std.specs.List.{list_all, list_any}
 use Rattle.std.specs.declared.cmp.Ordering.{Ordering}
-use Rattle.std.proofs.lemmas.List.Folds.{list_any-append}
 use Rattle.semver_core.specs.Cuts.{Span, holds}
 use Rattle.nodejs_semver.specs.Ranges.Algebra.{list_holds}
 use Rattle.semver_core.specs.Values.Order.{precedence}
 use Rattle.semver_core.specs.Internal.OrderLaws.{precedence_total}
 use Rattle.semver_core.specs.Values.Versions.{VersionValue}
 use Rattle.nodejs_semver.specs.Ranges.Gate.{accepts}
-use Rattle.nodejs_semver.specs.Internal.Denotes.{denotes, part_bounds, part_denotes}
+use Rattle.nodejs_semver.specs.Internal.Denotes.{denotes, part_bounds, part_denotes, part_intervals}
 use Rattle.nodejs_semver.specs.Internal.Parts.{cut_bars, parts}
 use Rattle.nodejs_semver.specs.Text.Bars.{IsCutAtBars, more_pieces, one_piece}
 use Rattle.nodejs_semver.specs.Ranges.View.{any_version}
 use Rattle.nodejs_semver.specs.Text.Runs.{Run, interval_of}
 use Rattle.nodejs_semver.specs.Internal.RunsFrom.{runs_of}
 use Rattle.semver_core.specs.Internal.Spaces.{trim}
-use Rattle.semver_core.specs.Lists.{is_empty}
+use Rattle.semver_core.specs.Lists.{is_empty, if_any}
 use Rattle.nodejs_semver.specs.Internal.Writes.{part_writes, writes}
 use Rattle.nodejs_semver.specs.Text.WrittenSet.{run_writes}
 use Rattle.nodejs_semver.proofs.Dividing.BarsDivide.{bars_divide}
-use Rattle.nodejs_semver.proofs.Reading.IdentifierLists.{and-left}
+use Rattle.nodejs_semver.proofs.Algebra.Accepting.{accepts-held}
 use Rattle.nodejs_semver.proofs.Dividing.RunLemmas.{run-holds}
 
-runs-hold : {V : Type 0} {R : V → V → Ordering} → IsTotalOrder R → (v : V) (rs : List (Run V)) → list_holds R (map (interval_of R) rs) v ≡ list_any (run_writes R v) rs
+runs-hold : {V : Type 0} {R : V → V → Ordering} → IsTotalOrder R → (v : V) (rs : List (Run V))
+    → list_holds R (map (interval_of R) rs) v ≡ list_any (run_writes R v) rs
 runs-hold o v [] = refl
 runs-hold o v (r ∷ rs) = ap₂ (λ (s t : Bool). s || t) (run-holds o v r) (runs-hold o v rs)
 
 -- an empty part holds every version, and any other what its words write
-part-holds : (limit : ℕ) (v : VersionValue) (part : List ℕ) → list_holds precedence (part_denotes limit part) v ≡ part_writes limit v part
+part-holds : (limit : ℕ) (v : VersionValue) (part : List ℕ)
+    → list_holds precedence (part_denotes limit part) v ≡ part_writes limit v part
 part-holds limit v [] = refl
 part-holds limit v (b ∷ part) = runs-hold precedence_total v (runs_of precedence (part_bounds limit (b ∷ part)))
 
@@ -42,11 +45,11 @@ parts-hold limit v (p ∷ ps) =
     ∙ ap₂ (λ (s t : Bool). s || t) (part-holds limit v p) (parts-hold limit v ps)
 
 -- where all of some parts are empty, the first writes every version
-first-empty : (limit : ℕ) (v : VersionValue) (ps : List (List ℕ)) → (ps ≡ [] → ⊥) → list_all is_empty ps ≡ true → list_any (part_writes limit v) ps ≡ true
+first-empty : (limit : ℕ) (v : VersionValue) (ps : List (List ℕ)) → (ps ≡ [] → ⊥)
+    → list_all is_empty ps ≡ true → list_any (part_writes limit v) ps ≡ true
 first-empty limit v [] some h = absurd (some refl)
 first-empty limit v (p ∷ ps) some h =
-    ap (λ (b : Bool). (b || list_any (run_writes precedence v) (runs_of precedence (part_bounds limit p))) || list_any (part_writes limit v) ps)
-    (and-left (is_empty p) (list_all is_empty ps) h)
+    or_left (part_writes limit v p) (list_any (part_writes limit v) ps) (or_left (is_empty p) _ (first_so _ _ h))
 
 -- a text has a part or more
 parts-some : (text : List ℕ) → parts text ≡ [] → ⊥
@@ -56,23 +59,11 @@ parts-some text h = pieces-some text (cut_bars false text) (bars_divide text) h
     pieces-some whole pieces (one_piece piece free) h = cc h
     pieces-some whole pieces (more_pieces piece rest others free ended cut) h = cc h
 
-by-test : (b : Bool) (ss : List (Span VersionValue)) (w : Bool) (v : VersionValue) → (b ≡ true → w ≡ true) → list_holds precedence ss v ≡ w
-    → list_holds precedence (if b then any_version else ss) v ≡ w
-by-test true ss w v all h = sym (all refl)
-by-test false ss w v all h = h
-
-pub denotes_hold : (limit : ℕ) (text : List ℕ) (v : VersionValue) → list_holds precedence (denotes limit text) v ≡ writes limit text v
+pub denotes_hold : (limit : ℕ) (text : List ℕ) (v : VersionValue)
+    → list_holds precedence (denotes limit text) v ≡ writes limit text v
 denotes_hold limit text v =
     let ps = parts text in
-    by-test (list_all is_empty ps) (flat_map (part_denotes limit) ps) (writes limit text v) v
-    (first-empty limit v ps (parts-some text))
-    (parts-hold limit v ps)
-
--- with pre-releases included, a range accepts what its intervals hold
-pub accepts-held : (ss : List (Span VersionValue)) (v : VersionValue) → accepts ss v true ≡ list_holds precedence ss v
-accepts-held [] v = refl
-accepts-held (s ∷ ss) v = ap₂ (λ (a b : Bool). a || b) (and-true (holds precedence s v)) (accepts-held ss v)
-  where
-    and-true : (b : Bool) → (b && true) ≡ b
-    and-true true = refl
-    and-true false = refl
+    cond_both (list_all is_empty ps) any_version (flat_map (part_denotes limit) ps)
+        (λ ss. list_holds precedence ss v ≡ writes limit text v)
+        (λ all. sym (first-empty limit v ps (parts-some text) all))
+        (λ _. parts-hold limit v ps)

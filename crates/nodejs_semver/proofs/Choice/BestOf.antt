@@ -1,215 +1,113 @@
 -- The version that is found in a list is the best one of those in the set.
-use Rattle.std.proofs.Common.{◌≡◌, refl, sym, ◌∙◌, ap, subst, Bool, true, false, ◌&&◌, ◌||◌, not, List, [], ◌∷◌, ◌++◌, Option, Some, None, if◌then◌else◌, Bor}
+use Rattle.std.proofs.Common.{◌≡◌, refl, sym, ◌∙◌, ap, Bool, true, false, ◌&&◌, ◌||◌, not, ◌⊎◌, inl, inr, List, [], ◌∷◌, ◌++◌, Bor}
+use Rattle.std.proofs.Math.Bool.{or-false}
+use Rattle.std.proofs.lemmas.Bool.{and_from, cases_Bool}
 use Rattle.std.proofs.lemmas.List.{append-nil, append_assoc}
+use Rattle.std.proofs.lemmas.List.Folds.{list_all-append}
+use Rattle.std.specs.List.{filter, fold, list_all, reduce}
+use Rattle.std.specs.Ordering.{ordering_reverse, is_lt, is_le, max_by_ordering, min_by_ordering}
 use Rattle.std.specs.declared.cmp.Ordering.{Ordering}
 use Rattle.std.specs.declared.cmp.Ordering.TheVariants.{Less, Equal, Greater}
-use Rattle.std.specs.Ordering.{ordering_reverse, is_lt, is_le, is_ge, is_gt, max_by_ordering, min_by_ordering}
-use Rattle.std.specs.Cmp.{upto, alike_right}
-use Rattle.std.specs.List.{filter, fold, list_all, reduce}
-use Rattle.semver_core.specs.Values.Order.{precedence}
+use Rattle.nodejs_semver.proofs.Algebra.FlatMaps.{all_weaker}
+use Rattle.nodejs_semver.proofs.Algebra.Triples.{le_of_lt, le_trans, lt_le}
 use Rattle.semver_core.specs.Internal.OrderLaws.{precedence_total}
+use Rattle.nodejs_semver.specs.Ranges.Best.{IsBest, IsMax, IsMin}
+use Rattle.semver_core.specs.Values.Order.{precedence}
 use Rattle.semver_core.specs.Values.Versions.{VersionValue}
-use Rattle.nodejs_semver.specs.Ranges.Best.{IsBest, IsMax, IsMin, Stands}
-use Rattle.nodejs_semver.proofs.Choice.Keys.{le_not_gt, not_gt_le, lt_not_gt}
 
--- the version takes the place of the best so far: a greater or an equal one does, or a lesser one
-abbrev is_not_below : VersionValue → Option VersionValue → Bool
-is_not_below v None = true
-is_not_below v (Some best) = is_ge (precedence v best)
+-- ---- a place in a filtered list is one in the list
 
-abbrev is_below : VersionValue → Option VersionValue → Bool
-is_below v None = true
-is_below v (Some best) = is_lt (precedence v best)
+all_filter : {X : Type 0} (set p : X → Bool) (xs : List X) → list_all (λ w. not (set w) || p w) xs ≡ list_all p (filter set xs)
+all_filter set p [] = refl
+all_filter set p (x ∷ xs) = elim (cases_Bool (set x)) [
+  | inl e ↦ rw e (ap (λ b. p x && b) (all_filter set p xs))
+  | inr e ↦ rw e (all_filter set p xs)
+]
 
--- the best so far and one more version
-abbrev kept : (VersionValue → Option VersionValue → Bool) → (VersionValue → Bool) → Option VersionValue → VersionValue → Option VersionValue
-kept wins set best v = if wins v best && set v then Some v else best
+record SplitAt {X : Type 0} (set : X → Bool) (list fs bs : List X) (v : X) : Type 0 where
+  pub front : List X
+  pub back : List X
+  pub divided : list ≡ front ++ v ∷ back
+  pub inside : set v ≡ true
+  pub fronts : filter set front ≡ fs
+  pub backs : filter set back ≡ bs
 
-abbrev chosen : (VersionValue → Option VersionValue → Bool) → (VersionValue → Bool) → List VersionValue → Option VersionValue
-chosen wins set list = fold (kept wins set) None list
-
--- two relations to the best so far, and a test that replaces it, which agree
-record Agree (in_front behind : VersionValue → VersionValue → Bool) (wins : VersionValue → Option VersionValue → Bool) : Type 0 where
-  pub first : (x : VersionValue) → wins x None ≡ true
-  pub loses : (x b : VersionValue) → wins x (Some b) ≡ false → behind x b ≡ true
-  pub passed : (w b x : VersionValue) → wins x (Some b) ≡ true → in_front w b ≡ true → in_front w x ≡ true
-  pub replaced : (b x : VersionValue) → wins x (Some b) ≡ true → in_front b x ≡ true
-  pub passed_behind : (w b x : VersionValue) → wins x (Some b) ≡ true → behind w b ≡ true → in_front w x ≡ true
-
-all-append : {X : Type 0} (p : X → Bool) (xs ys : List X) → list_all p xs ≡ true → list_all p ys ≡ true → list_all p (xs ++ ys) ≡ true
-all-append p [] ys h k = k
-all-append p (x ∷ xs) ys h k = by_test (p x) (list_all p xs) (all-append p xs ys) h
+split_at : {X : Type 0} (set : X → Bool) (list fs bs : List X) (v : X) → filter set list ≡ fs ++ v ∷ bs → SplitAt set list fs bs v
+split_at set [] [] bs v h = cc
+split_at set [] (f ∷ fs) bs v h = cc
+split_at set (x ∷ xs) fs bs v h = elim (cases_Bool (set x)) [
+  | inr e ↦
+      let s = split_at set xs fs bs v (rw e at h) in
+      record { front = x ∷ s.front; back = s.back; divided = ap (λ l. x ∷ l) s.divided; inside = s.inside; fronts =
+          rw e s.fronts; backs = s.backs }
+  | inl e ↦ taken fs e (rw e at h) (split_at set xs)
+]
   where
-    by_test : (t r : Bool) → (r ≡ true → list_all p ys ≡ true → list_all p (xs ++ ys) ≡ true) → (t && r) ≡ true → (t && list_all p (xs ++ ys)) ≡ true
-    by_test true r f h = f h k
-    by_test false r f h = cc
+    taken : (fs : List _) → set x ≡ true → (x ∷ filter set xs) ≡ fs ++ v ∷ bs
+        → ((fs bs : List _) (v : _) → filter set xs ≡ fs ++ v ∷ bs → SplitAt set xs fs bs v) → SplitAt set (x ∷ xs) fs bs v
+    taken [] e h more = record { front = []; back = xs; divided = ap (λ y. y ∷ xs) (cc h); inside = ap set (sym (cc h))
+        ∙ e; fronts = refl; backs = cc h }
+    taken (f ∷ fs) e h more =
+        let s = more fs bs v (cc h) in
+        record { front = x ∷ s.front; back = s.back; divided = ap (λ l. x ∷ l) s.divided; inside = s.inside; fronts = rw e
+            (ap (λ l. x ∷ l) s.fronts ∙ ap (λ y. y ∷ fs) (cc h)); backs = s.backs }
 
-all-weaker : {X : Type 0} (p q : X → Bool) (xs : List X) → ((x : X) → p x ≡ true → q x ≡ true) → list_all p xs ≡ true → list_all q xs ≡ true
-all-weaker p q [] f h = refl
-all-weaker p q (x ∷ xs) f h = by_test (p x) (list_all p xs) (f x) (all-weaker p q xs f) h
-  where
-    by_test : (t r : Bool) → (t ≡ true → q x ≡ true) → (r ≡ true → list_all q xs ≡ true) → (t && r) ≡ true → (q x && list_all q xs) ≡ true
-    by_test true r g k h = ap (λ u. u && list_all q xs) (g refl) ∙ k h
-    by_test false r g k h = cc
+-- ---- to pick one after another
 
-one : {X : Type 0} (p : X → Bool) (x : X) → p x ≡ true → list_all p (x ∷ []) ≡ true
-one p x h = ap (λ t. t && true) h
+-- what is picked of the best so far and the next: the next, which is then better than all that the best was better than, or the
+-- best
+record Picks (in_front behind : VersionValue → VersionValue → Bool)
+    (pick : VersionValue → VersionValue → VersionValue) : Type 0 where
+  pub choice : (b x : VersionValue) → ((pick b x ≡ x) × (in_front b x ≡ true)) ⊎ ((pick b x ≡ b) × (behind x b ≡ true))
+  pub passes : (w b x : VersionValue) → in_front b x ≡ true → in_front w b ≡ true → in_front w x ≡ true
+  pub weaker : (w b : VersionValue) (x : VersionValue) → in_front b x ≡ true → behind w b ≡ true → in_front w x ≡ true
 
--- what is said of each version of the set
-said : (s a b : Bool) → (a ≡ true → b ≡ true) → (not s || a) ≡ true → (not s || b) ≡ true
-said true a b f h = f h
-said false a b f h = refl
+module _ (in_front behind : VersionValue → VersionValue → Bool) (pick : VersionValue → VersionValue → VersionValue)
+    (picks : Picks in_front behind pick) where
+  record Placed (list : List VersionValue) (v : VersionValue) : Type 0 where
+    pub front : List VersionValue
+    pub back : List VersionValue
+    pub divided : list ≡ front ++ v ∷ back
+    pub before : list_all (λ w. in_front w v) front ≡ true
+    pub after : list_all (λ w. behind w v) back ≡ true
 
-outside : (s b : Bool) → s ≡ false → (not s || b) ≡ true
-outside true b h = cc
-outside false b h = refl
+  placed : (list front back : List VersionValue) (b : VersionValue) (xs : List VersionValue) → list ≡ (front ++ b ∷ back) ++ xs
+      → list_all (λ w. in_front w b) front ≡ true → list_all (λ w. behind w b) back ≡ true → Placed list (fold pick b xs)
+  placed list front back b [] e h k = record { front = front; back = back; divided = e
+      ∙ append-nil (front ++ b ∷ back); before = h; after = k }
+  placed list front back b (x ∷ xs) e h k = elim (picks.choice b x) [
+    | inl (is, t) ↦
+        rw is (placed list (front ++ b ∷ back) [] x xs (e ∙ sym (append_assoc (front ++ b ∷ back) (x ∷ []) xs))
+        (list_all-append (λ w. in_front w x) front (b ∷ back)
+        ∙ and_from (list_all (λ w. in_front w x) front) _ (all_weaker _ (λ w. in_front w x) (λ w. picks.passes w b x t) front h)
+        (and_from (in_front b x) _ t (all_weaker _ (λ w. in_front w x) (λ w. picks.weaker w b x t) back k))) refl)
+    | inr (is, t) ↦
+        rw is (placed list front (back ++ x ∷ []) b xs
+        (e ∙ sym (ap (λ l. l ++ xs) (sym (append_assoc front (b ∷ back) (x ∷ [])))
+            ∙ append_assoc (front ++ b ∷ back) (x ∷ []) xs)) h
+        (list_all-append (λ w. behind w b) back (x ∷ []) ∙ and_from (list_all (λ w. behind w b) back) _ k (rw t refl)))
+  ]
 
-in_set : (s b : Bool) → b ≡ true → (not s || b) ≡ true
-in_set true b h = h
-in_set false b h = refl
-
-or_first : (a b : Bool) → a ≡ true → (a || b) ≡ true
-or_first true b h = refl
-or_first false b h = cc
-
-both : (a b : Bool) → a ≡ true → b ≡ true → (a && b) ≡ true
-both true b h k = k
-both false b h k = h
-
-module _ (in_front behind : VersionValue → VersionValue → Bool) (wins : VersionValue → Option VersionValue → Bool) (agree : Agree in_front behind wins) (set : VersionValue → Bool) where
-  -- one more version at the end of the list
-  one_more : (list : List VersionValue) (best : Option VersionValue) (x : VersionValue) → IsBest in_front behind set list best → IsBest in_front behind set (list ++ x ∷ []) (kept wins set best x)
-  one_more list None x h = by_test (wins x None) (set x) (agree.first x) refl
+  best_is : (set : VersionValue → Bool) (list : List VersionValue)
+      → IsBest in_front behind set list (reduce pick (filter set list))
+  best_is set list = by_list (filter set list) refl
     where
-      by_test : (t s : Bool) → t ≡ true → set x ≡ s → IsBest in_front behind set (list ++ x ∷ []) (if t && s then Some x else None)
-      by_test true true e k = record {
-        front = list;
-        back = [];
-        divided = refl;
-        inside = k;
-        before = all-weaker (λ w. not (set w)) (λ w. not (set w) || in_front w x) list (λ w q. or_first (not (set w)) (in_front w x) q) h;
-        after = refl;
-      }
-      by_test true false e k = all-append (λ w. not (set w)) list (x ∷ []) h (one (λ w. not (set w)) x (ap not k))
-      by_test false s e k = cc
-  one_more list (Some b) x h = by_test (wins x (Some b)) (set x) refl refl
-    where
-      replaced_by : wins x (Some b) ≡ true → set x ≡ true → Stands in_front behind set (list ++ x ∷ []) x
-      replaced_by e k = record {
-        front = list;
-        back = [];
-        divided = refl;
-        inside = k;
-        before = subst (λ q. list_all (λ w. not (set w) || in_front w x) q ≡ true) (sym h.divided)
-            (all-append (λ w. not (set w) || in_front w x) h.front (b ∷ h.back)
-            (all-weaker (λ w. not (set w) || in_front w b) (λ w. not (set w) || in_front w x) h.front (λ w q. said (set w) (in_front w b) (in_front w x) (agree.passed w b x e) q) h.before)
-            (both (not (set b) || in_front b x) (list_all (λ w. not (set w) || in_front w x) h.back) (in_set (set b) (in_front b x) (agree.replaced b x e))
-            (all-weaker (λ w. not (set w) || behind w b) (λ w. not (set w) || in_front w x) h.back (λ w q. said (set w) (behind w b) (in_front w x) (agree.passed_behind w b x e) q) h.after)));
-        after = refl;
-      }
-
-      extended : (not (set x) || behind x b) ≡ true → Stands in_front behind set (list ++ x ∷ []) b
-      extended e = record {
-        front = h.front;
-        back = h.back ++ x ∷ [];
-        divided = ap (λ q. q ++ x ∷ []) h.divided ∙ append_assoc h.front (b ∷ h.back) (x ∷ []);
-        inside = h.inside;
-        before = h.before;
-        after = all-append (λ w. not (set w) || behind w b) h.back (x ∷ []) h.after (one (λ w. not (set w) || behind w b) x e);
-      }
-
-      by_test : (t s : Bool) → wins x (Some b) ≡ t → set x ≡ s → IsBest in_front behind set (list ++ x ∷ []) (if t && s then Some x else Some b)
-      by_test true true e k = replaced_by e k
-      by_test true false e k = extended (outside (set x) (behind x b) k)
-      by_test false s e k = extended (in_set (set x) (behind x b) (agree.loses x b e))
-
-  all_more : (done rest : List VersionValue) (best : Option VersionValue) → IsBest in_front behind set done best → IsBest in_front behind set (done ++ rest) (fold (kept wins set) best rest)
-  all_more done [] best h = subst (λ q. IsBest in_front behind set q best) (sym (append-nil done)) h
-  all_more done (x ∷ rest) best h =
-      subst (λ q. IsBest in_front behind set q (fold (kept wins set) (kept wins set best x) rest)) (append_assoc done (x ∷ []) rest)
-      (all_more (done ++ x ∷ []) rest (kept wins set best x) (one_more done best x h))
-
-  chosen_stands : (list : List VersionValue) → IsBest in_front behind set list (chosen wins set list)
-  chosen_stands list = all_more [] list None refl
-
-is_less : (r : Ordering) → is_lt r ≡ true → r ≡ Less
-is_less Less h = refl
-is_less Equal h = cc
-is_less Greater h = cc
-
-agree_max : Agree (λ w v. is_le (precedence w v)) (λ w v. is_lt (precedence w v)) is_not_below
-agree_max = record {
-  first = λ x. refl;
-  loses = λ x b h. not_ge (precedence x b) h;
-  passed = λ w b x e h. not_gt_le (precedence w x) (upto precedence_total w b x (le_not_gt (precedence w b) h) (turned b x e));
-  replaced = λ b x e. not_gt_le (precedence b x) (turned b x e);
-  passed_behind = λ w b x e h. not_gt_le (precedence w x) (upto precedence_total w b x (lt_not_gt (precedence w b) h) (turned b x e));
-}
-  where
-    not_ge : (r : Ordering) → is_ge r ≡ false → is_lt r ≡ true
-    not_ge Less h = refl
-    not_ge Equal h = cc
-    not_ge Greater h = cc
-
-    ge_turned : (r : Ordering) → is_ge r ≡ true → is_gt (ordering_reverse r) ≡ false
-    ge_turned Less h = cc
-    ge_turned Equal h = refl
-    ge_turned Greater h = refl
-
-    turned : (b x : VersionValue) → is_ge (precedence x b) ≡ true → is_gt (precedence b x) ≡ false
-    turned b x e = ap is_gt (precedence_total.antisymm b x) ∙ ge_turned (precedence x b) e
-
-agree_min : Agree (λ w v. is_lt (precedence v w)) (λ w v. is_le (precedence v w)) is_below
-agree_min = record {
-  first = λ x. refl;
-  loses = λ x b h. ap is_le (precedence_total.antisymm b x) ∙ not_lt (precedence x b) h;
-  passed = λ w b x e h. ap is_lt (precedence_total.trans x b w (is_less (precedence x b) e) (is_less (precedence b w) h));
-  replaced = λ b x e. e;
-  passed_behind = λ w b x e h. up w b x e (precedence b w) refl h;
-}
-  where
-    not_lt : (r : Ordering) → is_lt r ≡ false → is_le (ordering_reverse r) ≡ true
-    not_lt Less h = cc
-    not_lt Equal h = refl
-    not_lt Greater h = refl
-
-    up : (w b x : VersionValue) → is_lt (precedence x b) ≡ true → (r : Ordering) → precedence b w ≡ r → is_le r ≡ true → is_lt (precedence x w) ≡ true
-    up w b x e Less k h = ap is_lt (precedence_total.trans x b w (is_less (precedence x b) e) k)
-    up w b x e Equal k h = ap is_lt (sym (alike_right precedence_total b w x k)) ∙ e
-    up w b x e Greater k h = cc
-
--- to pick the best one of those in the set, one after another, is to choose
-module _ (wins : VersionValue → Option VersionValue → Bool) (pick : VersionValue → VersionValue → VersionValue) (set : VersionValue → Bool)
-    (first : (x : VersionValue) → wins x None ≡ true) (same : (b x : VersionValue) → pick b x ≡ (if wins x (Some b) then x else b)) where
-  picked_from : (b : VersionValue) (xs : List VersionValue) → Some (fold pick b (filter set xs)) ≡ fold (kept wins set) (Some b) xs
-  picked_from b [] = refl
-  picked_from b (x ∷ xs) = by_test (set x) (λ c. picked_from c xs)
-    where
-      by_win : (w : Bool) → ((c : VersionValue) → Some (fold pick c (filter set xs)) ≡ fold (kept wins set) (Some c) xs)
-          → Some (fold pick (if w then x else b) (filter set xs)) ≡ fold (kept wins set) (if w && true then Some x else Some b) xs
-      by_win true f = f x
-      by_win false f = f b
-
-      by_loss : (w : Bool) → ((c : VersionValue) → Some (fold pick c (filter set xs)) ≡ fold (kept wins set) (Some c) xs)
-          → Some (fold pick b (filter set xs)) ≡ fold (kept wins set) (if w && false then Some x else Some b) xs
-      by_loss true f = f b
-      by_loss false f = f b
-
-      by_test : (t : Bool) → ((c : VersionValue) → Some (fold pick c (filter set xs)) ≡ fold (kept wins set) (Some c) xs)
-          → Some (fold pick b (if t then x ∷ filter set xs else filter set xs)) ≡ fold (kept wins set) (if wins x (Some b) && t then Some x else Some b) xs
-      by_test true f = ap (λ (c : VersionValue). Some (fold pick c (filter set xs))) (same b x) ∙ by_win (wins x (Some b)) f
-      by_test false f = by_loss (wins x (Some b)) f
-
-  picked : (xs : List VersionValue) → chosen wins set xs ≡ reduce pick (filter set xs)
-  picked [] = refl
-  picked (x ∷ xs) = by_test (set x) (wins x None) (first x) (picked xs)
-    where
-      by_test : (t w : Bool) → w ≡ true → chosen wins set xs ≡ reduce pick (filter set xs)
-          → fold (kept wins set) (if w && t then Some x else None) xs ≡ reduce pick (if t then x ∷ filter set xs else filter set xs)
-      by_test true true e f = sym (picked_from x xs)
-      by_test true false e f = cc
-      by_test false true e f = f
-      by_test false false e f = f
+      by_list : (ys : List VersionValue) → filter set list ≡ ys → IsBest in_front behind set list (reduce pick ys)
+      by_list [] e = all_weaker (λ w. not (set w) || false) (λ w. not (set w)) (λ w h. sym (or-false _) ∙ h) list
+          (all_filter set (λ _. false) list ∙ ap (list_all (λ _. false)) e)
+      by_list (y ∷ ys) e =
+          let p = placed (y ∷ ys) [] [] y ys refl refl refl in
+          let s = split_at set list p.front p.back (fold pick y ys) (e ∙ p.divided) in
+          record {
+            front = s.front;
+            back = s.back;
+            divided = s.divided;
+            inside = s.inside;
+            before = all_filter set (λ w. in_front w (fold pick y ys)) s.front
+                ∙ ap (list_all (λ w. in_front w (fold pick y ys))) s.fronts ∙ p.before;
+            after = all_filter set (λ w. behind w (fold pick y ys)) s.back
+                ∙ ap (list_all (λ w. behind w (fold pick y ys))) s.backs ∙ p.after;
+          }
 
 -- the greater of two, the second of equal ones; and the lesser, the first of equal ones
 abbrev pub greater : VersionValue → VersionValue → VersionValue
@@ -217,22 +115,6 @@ greater b x = max_by_ordering (precedence b x) b x
 
 abbrev pub lesser : VersionValue → VersionValue → VersionValue
 lesser b x = min_by_ordering (precedence b x) b x
-
-greater_wins : (b x : VersionValue) → greater b x ≡ (if is_not_below x (Some b) then x else b)
-greater_wins b x = ap (λ r. max_by_ordering r b x) (precedence_total.antisymm b x) ∙ by_order (precedence x b)
-  where
-    by_order : (r : Ordering) → max_by_ordering (ordering_reverse r) b x ≡ (if is_ge r then x else b)
-    by_order Less = refl
-    by_order Equal = refl
-    by_order Greater = refl
-
-lesser_wins : (b x : VersionValue) → lesser b x ≡ (if is_below x (Some b) then x else b)
-lesser_wins b x = ap (λ r. min_by_ordering r b x) (precedence_total.antisymm b x) ∙ by_order (precedence x b)
-  where
-    by_order : (r : Ordering) → min_by_ordering (ordering_reverse r) b x ≡ (if is_lt r then x else b)
-    by_order Less = refl
-    by_order Equal = refl
-    by_order Greater = refl
 
 -- the same behind references
 pub greater_now : (p z : Bor VersionValue) → (max_by_ordering (precedence p.now z.now) p z).now ≡ greater p.now z.now
@@ -251,8 +133,33 @@ lesser_now p z = by_order (precedence p.now z.now)
     by_order Equal = refl
     by_order Greater = refl
 
+back_is : (b x : VersionValue) (r : Ordering) → precedence b x ≡ r → precedence x b ≡ ordering_reverse r
+back_is b x r e = precedence_total.antisymm x b ∙ ap ordering_reverse e
+
 pub max_is : (set : VersionValue → Bool) (list : List VersionValue) → IsMax set list (reduce greater (filter set list))
-max_is set list = subst (IsMax set list) (picked is_not_below greater set (λ x. refl) greater_wins list) (chosen_stands _ _ is_not_below agree_max set list)
+max_is = best_is _ _ greater (record {
+  choice = λ b x. by_cmp b x (precedence b x) refl;
+  passes = λ w b x t h. le_trans precedence_total w b x h t;
+  weaker = λ w b x t h. le_trans precedence_total w b x (le_of_lt (precedence w b) h) t;
+})
+  where
+    by_cmp : (b x : VersionValue) (r : Ordering) → precedence b x ≡ r
+        → ((max_by_ordering r b x ≡ x) × (is_le (precedence b x) ≡ true))
+        ⊎ ((max_by_ordering r b x ≡ b) × (is_lt (precedence x b) ≡ true))
+    by_cmp b x Less e = inl (refl, ap is_le e)
+    by_cmp b x Equal e = inl (refl, ap is_le e)
+    by_cmp b x Greater e = inr (refl, ap is_lt (back_is b x Greater e))
 
 pub min_is : (set : VersionValue → Bool) (list : List VersionValue) → IsMin set list (reduce lesser (filter set list))
-min_is set list = subst (IsMin set list) (picked is_below lesser set (λ x. refl) lesser_wins list) (chosen_stands _ _ is_below agree_min set list)
+min_is = best_is _ _ lesser (record {
+  choice = λ b x. by_cmp b x (precedence b x) refl;
+  passes = λ w b x t h. lt_le precedence_total x b w t (le_of_lt (precedence b w) h);
+  weaker = λ w b x t h. lt_le precedence_total x b w t h;
+})
+  where
+    by_cmp : (b x : VersionValue) (r : Ordering) → precedence b x ≡ r
+        → ((min_by_ordering r b x ≡ x) × (is_lt (precedence x b) ≡ true))
+        ⊎ ((min_by_ordering r b x ≡ b) × (is_le (precedence b x) ≡ true))
+    by_cmp b x Less e = inr (refl, ap is_le e)
+    by_cmp b x Equal e = inr (refl, ap is_le e)
+    by_cmp b x Greater e = inl (refl, ap is_lt (back_is b x Greater e))

@@ -1,297 +1,245 @@
--- The first least version of a set among a list, which is the least of the set where each of its versions has one of the list below it.
-use Rattle.std.proofs.Common.{◌≡◌, ◌+◌, refl, sym, ◌∙◌, ap, subst, Bool, true, false, ◌&&◌, ◌||◌, not, List, [], ◌∷◌, ◌++◌, Option, Some, None, option_and_then, if◌then◌else◌, inl, inr, IfSome}
-use Rattle.std.specs.declared.cmp.Ordering.{Ordering}
-use Rattle.std.specs.declared.cmp.Ordering.TheVariants.{Less, Equal, Greater}
-use Rattle.std.specs.Ordering.{ordering_reverse, ordering_then, is_eq, is_lt, is_le, is_gt}
-use Rattle.std.specs.Cmp.{upto, tied_itself, alike_right}
-use Rattle.std.specs.List.{fold, flat_map, find, list_any, All}
-use Rattle.std.proofs.lemmas.List.Elements.{All-head, All-tail}
-use Rattle.std.proofs.lemmas.Grind.{flat_map-append, fold-append}
+-- The first least version of a set among a list, which is the least of the set where each of its versions has one of the list
+-- below it.
+use Rattle.std.proofs.Common.{◌≡◌, ◌+◌, refl, sym, ◌∙◌, ap, ap₂, subst, Bool, true, false, ◌&&◌, ◌||◌, not, List, [], ◌∷◌, ◌++◌, Option, Some, None, option_and_then, if◌then◌else◌, IfSome, arith}
+use Rattle.std.proofs.Math.Bool.{and-true, or-false}
+use Rattle.std.proofs.lemmas.Bool.{cond_both, false≢true, or_parts}
+use Rattle.std.proofs.lemmas.Grind.{fold-append}
+use Rattle.std.proofs.lemmas.List.Concat.{flat_map-append}
+use Rattle.std.proofs.lemmas.List.Elements.{All-append, All-from_recursion, All-head, All-nil, All-tail}
+use Rattle.std.specs.Cmp.{first_so, second_so, tied_itself, alike_right}
+use Rattle.std.specs.List.{All, find, flat_map, fold, list_any}
+use Rattle.std.specs.declared.cmp.Ordering.TheVariants.{Equal}
+use Rattle.std.specs.Ordering.{ordering_then, is_eq, is_lt, is_le}
+use Rattle.semver_core.proofs.CutLaws.{cut_total, not_if}
+use Rattle.nodejs_semver.proofs.Algebra.FlatMaps.{any_same, flat_flat}
+use Rattle.nodejs_semver.proofs.Algebra.Triples.{le_of_lt, le_trans, lt_is, triple_total}
+use Rattle.nodejs_semver.proofs.Choice.LeastPieces.{candidate, lets_in_alike}
+use Rattle.nodejs_semver.proofs.Choice.Next.{next_patch_above, next_pre_above, release_above}
 use Rattle.semver_core.specs.Cuts.{Span, Cut, Side, Start, Beside, End, Near, Far, is_past, holds, lower_cut, upper_cut}
 use Rattle.semver_core.specs.declared.cuts.bound.Bound.{Bound}
 use Rattle.semver_core.specs.declared.cuts.bound.Bound.TheVariants.{Unbounded, Before, After}
-use Rattle.semver_core.proofs.CutLaws.{cut_total}
+use Rattle.nodejs_semver.specs.Internal.Candidates.{has_build, zero, bare, bare_release, after_cut, release_after, firsts, kept_marks, removed_marks, kept_firsts, removed_firsts, candidates, improves, better, least_of, is_reached}
+use Rattle.semver_core.specs.Internal.OrderLaws.{precedence_total}
+use Rattle.semver_core.specs.Lists.{is_empty}
+use Rattle.nodejs_semver.specs.Ranges.Gate.{lets_in, accepts}
+use Rattle.nodejs_semver.specs.Ranges.Least.{IsLeastOf, beyond, begins_with, build_by, least_build}
 use Rattle.semver_core.specs.Text.Identifiers.{Id, Numeric}
 use Rattle.semver_core.specs.Values.Order.{precedence}
-use Rattle.semver_core.specs.Internal.OrderLaws.{precedence_total}
 use Rattle.semver_core.specs.Values.Versions.{VersionValue, is_release}
-use Rattle.nodejs_semver.specs.Ranges.Gate.{lets_in, accepts}
-use Rattle.semver_core.specs.Lists.{is_empty}
-use Rattle.nodejs_semver.specs.Ranges.Least.{IsLeastOf, beyond, begins_with, build_by, least_build}
-use Rattle.nodejs_semver.specs.Internal.Candidates.{has_build, zero, bare, bare_release, after_cut, release_after, firsts, kept_marks, removed_marks, kept_firsts, removed_firsts, candidates, improves, better, least_of, is_reached, pre_after, patch_after}
-use Rattle.nodejs_semver.proofs.Choice.Keys.{triple_total, le_not_gt, lt_not_gt, not_gt_le, next_patch_above, next_pre_above, release_above}
-use Rattle.nodejs_semver.proofs.Choice.LeastPieces.{In, Each, candidate, accepts_same, lets_in_alike}
-
--- the answer is in the set
-abbrev Fine : (VersionValue → Bool) → Option VersionValue → Type 0
-Fine set None = Unit {0}
-Fine set (Some b) = set b ≡ true
-
--- the answer is not above x
-abbrev UpTo : Option VersionValue → VersionValue → Type 0
-UpTo None x = ⊥
-UpTo (Some b) x = is_gt (precedence b x) ≡ false
 
 module _ (set : VersionValue → Bool) where
-  better_fine : (best : Option VersionValue) (x : VersionValue) → Fine set best → Fine set (better set best x)
-  better_fine best x h = by_test (improves best x) (set x) refl
-    where
-      by_test : (i s : Bool) → set x ≡ s → Fine set (if i && s then Some x else best)
-      by_test true true e = e
-      by_test true false e = h
-      by_test false s e = h
+  -- ---- what is best so far is in the set, and no version of it that was seen is below
 
-  better_upto : (best : Option VersionValue) (x y : VersionValue) → UpTo best y → UpTo (better set best x) y
-  better_upto None x y h = absurd h
-  better_upto (Some b) x y h = by_test (is_lt (precedence x b)) (set x) refl
-    where
-      by_test : (i s : Bool) → is_lt (precedence x b) ≡ i → UpTo (if i && s then Some x else Some b) y
-      by_test true true e = upto precedence_total x b y (lt_not_gt _ e) h
-      by_test true false e = h
-      by_test false s e = h
+  better_fine : (best : Option VersionValue) (x : VersionValue) → IfSome best (λ b. set b ≡ true)
+      → IfSome (better set best x) (λ b. set b ≡ true)
+  better_fine best x h =
+      cond_both (improves best x && set x) (Some x) best (λ o. IfSome o (λ b. set b ≡ true))
+          (λ e. second_so (improves best x) (set x) e) (λ _. h)
 
-  better_takes : (best : Option VersionValue) (x : VersionValue) → set x ≡ true → UpTo (better set best x) x
-  better_takes None x h = subst (λ s. UpTo (if s then Some x else None) x) (sym h) (ap is_gt (tied_itself precedence_total x))
-  better_takes (Some b) x h = by_test (is_lt (precedence x b)) (set x) h refl
-    where
-      flipped : (r : Ordering) → is_lt r ≡ false → is_gt (ordering_reverse r) ≡ false
-      flipped Less h = cc
-      flipped Equal h = refl
-      flipped Greater h = refl
-
-      by_test : (i s : Bool) → s ≡ true → is_lt (precedence x b) ≡ i → UpTo (if i && s then Some x else Some b) x
-      by_test true true k e = ap is_gt (tied_itself precedence_total x)
-      by_test true false k e = cc
-      by_test false s k e = ap is_gt (precedence_total.antisymm b x) ∙ flipped (precedence x b) e
-
-  fold_fine : (best : Option VersionValue) (xs : List VersionValue) → Fine set best → Fine set (fold (better set) best xs)
+  fold_fine : (best : Option VersionValue) (xs : List VersionValue) → IfSome best (λ b. set b ≡ true)
+      → IfSome (fold (better set) best xs) (λ b. set b ≡ true)
   fold_fine best [] h = h
   fold_fine best (x ∷ xs) h = fold_fine (better set best x) xs (better_fine best x h)
 
-  fold_upto : (best : Option VersionValue) (xs : List VersionValue) (y : VersionValue) → UpTo best y → UpTo (fold (better set) best xs) y
-  fold_upto best [] y h = h
-  fold_upto best (x ∷ xs) y h = fold_upto (better set best x) xs y (better_upto best x y h)
+  -- v is reached by the best so far, or by x
+  reaches : (best : Option VersionValue) (x v : VersionValue) → (is_reached best v || (set x && is_le (precedence x v))) ≡ true
+      → is_reached (better set best x) v ≡ true
+  reaches None x v h =
+      cond_both (set x) (Some x) None (λ o. is_reached o v ≡ true) (λ e. second_so (set x) (is_le (precedence x v)) h)
+          (λ e. absurd (false≢true (rw e at h)))
+  reaches (Some b) x v h =
+      cond_both (is_lt (precedence x b) && set x) (Some x) (Some b) (λ o. is_reached o v ≡ true)
+      (λ e. replaced (is_le (precedence b v)) (set x) (is_le (precedence x v)) h
+          (λ k. le_trans precedence_total x b v (le_of_lt (precedence x b) (first_so _ _ e)) k))
+      (λ e. kept (is_le (precedence b v)) (set x) (is_le (precedence x v)) (is_le (precedence b x)) h
+          (rw (lt_is precedence_total x b) at e) (le_trans precedence_total b x v))
+    where
+      replaced : (r s l : Bool) → (r || (s && l)) ≡ true → (r ≡ true → l ≡ true) → l ≡ true
+      replaced r s l h f = grind arith
 
-  fold_takes : (best : Option VersionValue) (xs : List VersionValue) (y : VersionValue) → In y xs → set y ≡ true → UpTo (fold (better set) best xs) y
-  fold_takes best [] y h k = absurd h
-  fold_takes best (x ∷ xs) y (inl e) k =
-      fold_upto (better set best x) xs y (subst (λ (z : VersionValue). UpTo (better set best x) z) e (better_takes best x (ap set e ∙ k)))
-  fold_takes best (x ∷ xs) y (inr h) k = fold_takes (better set best x) xs y h k
+      kept : (r s l d : Bool) → (r || (s && l)) ≡ true → (not d && s) ≡ false → (d ≡ true → l ≡ true → r ≡ true) → r ≡ true
+      kept r s l d h e f = grind arith
+
+  fold_reaches : (best : Option VersionValue) (xs : List VersionValue) (v : VersionValue)
+      → (is_reached best v || list_any (λ x. set x && is_le (precedence x v)) xs) ≡ true
+      → is_reached (fold (better set) best xs) v ≡ true
+  fold_reaches best [] v h = sym (or-false _) ∙ h
+  fold_reaches best (x ∷ xs) v h =
+      fold_reaches (better set best x) xs v (shift (is_reached best v) (set x && is_le (precedence x v))
+          (list_any (λ x. set x && is_le (precedence x v)) xs) _ h (reaches best x v))
+    where
+      shift : (r a l q : Bool) → (r || (a || l)) ≡ true → ((r || a) ≡ true → q ≡ true) → (q || l) ≡ true
+      shift r a l q h f = grind arith
+
+  -- ---- nothing from w on improves on a best that is not above w
+
+  no_better : (best : Option VersionValue) (w x : VersionValue) → is_reached best w ≡ true → is_le (precedence w x) ≡ true
+      → better set best x ≡ best
+  no_better None w x h k = cc
+  no_better (Some b) w x h k = ap (λ q. if q && set x then Some x else Some b)
+      (lt_is precedence_total x b ∙ ap not (le_trans precedence_total b w x h k))
+
+  reached : (best : Option VersionValue) (w : VersionValue) (s : Side) → is_reached best w ≡ true
+      → fold (better set) best (firsts (Beside w s)) ≡ best
+  reached best w s h =
+      cond_both (is_release w) (release_after w s ∷ []) (after_cut w s ∷ bare_release w ∷ [])
+          (λ l. fold (better set) best l ≡ best)
+      (λ k. no_better best w (release_after w s) h (by_release s))
+      (λ k. ap (λ b. better set b (bare_release w)) (no_better best w (after_cut w s) h (by_pre s k))
+          ∙ no_better best w (bare_release w) h (ap is_le (release_above w k)))
+    where
+      by_release : (s : Side) → is_le (precedence w (release_after w s)) ≡ true
+      by_release Near = ap is_le (tied_itself precedence_total w)
+      by_release Far = ap is_le (next_patch_above w)
+
+      by_pre : (s : Side) → is_release w ≡ false → is_le (precedence w (after_cut w s)) ≡ true
+      by_pre Near k = ap is_le (tied_itself precedence_total w)
+      by_pre Far k = ap is_le (next_pre_above w k)
+
+  pub reached_near : (best : Option VersionValue) (w : VersionValue) → is_reached best w ≡ true
+      → fold (better set) best (firsts (Beside w Near)) ≡ best
+  reached_near best w h = reached best w Near h
+
+  pub reached_far : (best : Option VersionValue) (w : VersionValue) → is_reached best w ≡ true
+      → fold (better set) best (firsts (Beside w Far)) ≡ best
+  reached_far best w h = reached best w Far h
+
+  -- the first versions past all marks, interval by interval
+  pub fold-candidates : (ks ls : List (Span VersionValue)) → fold (better set)
+      (fold (better set) (better set None zero) (flat_map kept_firsts ks)) (flat_map removed_firsts ls) ≡ least_of set
+      (candidates ks ls)
+  fold-candidates ks ls =
+      sym (fold-append (better set) (better set None zero) (flat_map kept_firsts ks) (flat_map removed_firsts ls))
+      ∙ ap (fold (better set) (better set None zero)) (ap₂ (λ xs ys. xs ++ ys) (sym (flat_flat firsts kept_marks ks))
+          (sym (flat_flat firsts removed_marks ls))
+      ∙ sym (flat_map-append firsts (flat_map kept_marks ks) (flat_map removed_marks ls)))
 
 -- the least candidate beyond is the least version beyond
 pub least_beyond : (ks ls : List (Span VersionValue)) → IsLeastOf (beyond ks ls) (least_of (beyond ks ls) (candidates ks ls))
-least_beyond ks ls = by_answer (least_of (beyond ks ls) (candidates ks ls)) (fold_fine (beyond ks ls) None (candidates ks ls) tt) reached
+least_beyond ks ls =
+    by_answer (least_of (beyond ks ls) (candidates ks ls)) (fold_fine (beyond ks ls) None (candidates ks ls) tt)
+    (λ v h. fold_reaches (beyond ks ls) None (candidates ks ls) v (candidate ks ls v h))
   where
-    chain : (best : Option VersionValue) (x v : VersionValue) → UpTo best x → is_gt (precedence x v) ≡ false → UpTo best v
-    chain None x v h k = absurd h
-    chain (Some b) x v h k = upto precedence_total b x v h k
+    by_answer : (r : Option VersionValue) → IfSome r (λ b. beyond ks ls b ≡ true)
+        → ((v : VersionValue) → beyond ks ls v ≡ true → is_reached r v ≡ true) → IsLeastOf (beyond ks ls) r
+    by_answer None h f = λ v. not_if (beyond ks ls v) false (f v) refl
+    by_answer (Some b) h f = (h, f)
 
-    reached : (v : VersionValue) → beyond ks ls v ≡ true → UpTo (least_of (beyond ks ls) (candidates ks ls)) v
-    reached v h =
-        let (x, k) = candidate ks ls v h in
-        chain _ x v (fold_takes (beyond ks ls) None (candidates ks ls) x k.found k.inside) k.below
+-- ---- no candidate has a build
 
-    none_so : (t : Bool) → (t ≡ true → ⊥) → t ≡ false
-    none_so true f = absurd (f refl)
-    none_so false f = refl
+abbrev IsBare : VersionValue → Type 0
+IsBare v = v.build ≡ []
 
-    by_answer : (r : Option VersionValue) → Fine (beyond ks ls) r → ((v : VersionValue) → beyond ks ls v ≡ true → UpTo r v) → IsLeastOf (beyond ks ls) r
-    by_answer None h f = λ v. none_so (beyond ks ls v) (f v)
-    by_answer (Some b) h f = (h, λ w e. not_gt_le _ (f w e))
-
--- the first versions past all marks, interval by interval
-flat_map-kept : (ss : List (Span VersionValue)) → flat_map firsts (flat_map kept_marks ss) ≡ flat_map kept_firsts ss
-flat_map-kept [] = refl
-flat_map-kept (s ∷ ss) = flat_map-append firsts (kept_marks s) (flat_map kept_marks ss) ∙ ap (λ xs. flat_map firsts (kept_marks s) ++ xs) (flat_map-kept ss)
-
-flat_map-removed : (ss : List (Span VersionValue)) → flat_map firsts (flat_map removed_marks ss) ≡ flat_map removed_firsts ss
-flat_map-removed [] = refl
-flat_map-removed (s ∷ ss) = flat_map-append firsts (removed_marks s) (flat_map removed_marks ss) ∙ ap (λ xs. flat_map firsts (removed_marks s) ++ xs) (flat_map-removed ss)
-
-pub fold-candidates : (set : VersionValue → Bool) (ks ls : List (Span VersionValue)) → fold (better set) (fold (better set) (better set None zero) (flat_map kept_firsts ks)) (flat_map removed_firsts ls) ≡ least_of set (candidates ks ls)
-fold-candidates set ks ls =
-    sym (fold-append (better set) (better set None zero) (flat_map kept_firsts ks) (flat_map removed_firsts ls))
-    ∙ ap (λ xs. fold (better set) (better set None zero) (xs ++ flat_map removed_firsts ls)) (sym (flat_map-kept ks))
-    ∙ ap (λ xs. fold (better set) (better set None zero) (flat_map firsts (flat_map kept_marks ks) ++ xs)) (sym (flat_map-removed ls))
-    ∙ ap (fold (better set) (better set None zero)) (sym (flat_map-append firsts (flat_map kept_marks ks) (flat_map removed_marks ls)))
-
--- what the answer is, if all of the list and what was there before are so
-abbrev Has : (VersionValue → Type 0) → Option VersionValue → Type 0
-Has P None = Unit {0}
-Has P (Some b) = P b
-
-better_has : (P : VersionValue → Type 0) (set : VersionValue → Bool) (best : Option VersionValue) (x : VersionValue) → Has P best → P x → Has P (better set best x)
-better_has P set best x h k = by_test (improves best x && set x)
+firsts_bare : (g : Cut VersionValue) → All IsBare (firsts g)
+firsts_bare Start = All-from_recursion IsBare (firsts Start) (refl, tt)
+firsts_bare (Beside w s) =
+    cond_both (is_release w) (release_after w s ∷ []) (after_cut w s ∷ bare_release w ∷ []) (All IsBare)
+    (λ _. All-from_recursion IsBare (release_after w s ∷ []) (by_release s, tt))
+        (λ _. All-from_recursion IsBare (after_cut w s ∷ bare_release w ∷ []) (by_pre s, (refl, tt)))
   where
-    by_test : (t : Bool) → Has P (if t then Some x else best)
-    by_test true = k
-    by_test false = h
+    by_release : (s : Side) → IsBare (release_after w s)
+    by_release Near = refl
+    by_release Far = refl
 
-fold_has : (P : VersionValue → Type 0) (set : VersionValue → Bool) (best : Option VersionValue) (xs : List VersionValue) → Has P best → Each P xs → Has P (fold (better set) best xs)
-fold_has P set best [] h e = h
-fold_has P set best (x ∷ xs) h e = fold_has P set (better set best x) xs (better_has P set best x h e.0) e.1
+    by_pre : (s : Side) → IsBare (after_cut w s)
+    by_pre Near = refl
+    by_pre Far = refl
+firsts_bare End = All-nil IsBare
 
--- no candidate has a build
-firsts_bare : (g : Cut VersionValue) → Each (λ v. v.build ≡ []) (firsts g)
-firsts_bare Start = (refl, tt)
-firsts_bare (Beside w s) = by_test (is_release w) s
-  where
-    by_test : (r : Bool) (s : Side) → Each (λ v. v.build ≡ []) (if r then release_after w s ∷ [] else after_cut w s ∷ bare_release w ∷ [])
-    by_test true Near = (refl, tt)
-    by_test true Far = (refl, tt)
-    by_test false Near = (refl, (refl, tt))
-    by_test false Far = (refl, (refl, tt))
-firsts_bare End = tt
+all_bare : (ds : List (Cut VersionValue)) → All IsBare (flat_map firsts ds)
+all_bare [] = All-nil IsBare
+all_bare (d ∷ ds) = All-append IsBare (firsts d) (flat_map firsts ds) (firsts_bare d) (all_bare ds)
 
-Each-append : {X : Type 0} (P : X → Type 0) (xs ys : List X) → Each P xs → Each P ys → Each P (xs ++ ys)
-Each-append P [] ys e f = f
-Each-append P (x ∷ xs) ys e f = (e.0, Each-append P xs ys e.1 f)
+fold_bare : (set : VersionValue → Bool) (best : Option VersionValue) (xs : List VersionValue) → IfSome best IsBare
+    → All IsBare xs → IfSome (fold (better set) best xs) IsBare
+fold_bare set best [] h e = h
+fold_bare set best (x ∷ xs) h e =
+    fold_bare set (better set best x) xs (cond_both (improves best x && set x) (Some x) best (λ o. IfSome o IsBare)
+        (λ _. All-head IsBare x xs e) (λ _. h)) (All-tail IsBare x xs e)
 
-candidates_bare : (ds : List (Cut VersionValue)) → Each (λ v. v.build ≡ []) (flat_map firsts ds)
-candidates_bare [] = tt
-candidates_bare (d ∷ ds) = Each-append (λ v. v.build ≡ []) (firsts d) (flat_map firsts ds) (firsts_bare d) (candidates_bare ds)
-
-pub least_bare : (set : VersionValue → Bool) (ks ls : List (Span VersionValue)) (r : Option VersionValue) → r ≡ least_of set (candidates ks ls) → IfSome r (λ v. v.build ≡ [])
-least_bare set ks ls r e = as_if r (subst (Has (λ v. v.build ≡ [])) (sym e) (fold_has (λ v. v.build ≡ []) set None (candidates ks ls) tt (candidates_bare (Start ∷ (flat_map kept_marks ks ++ flat_map removed_marks ls)))))
-  where
-    as_if : (r : Option VersionValue) → Has (λ v. v.build ≡ []) r → IfSome r (λ v. v.build ≡ [])
-    as_if None h = tt
-    as_if (Some b) h = h
+pub least_bare : (set : VersionValue → Bool) (ks ls : List (Span VersionValue)) (r : Option VersionValue)
+    → r ≡ least_of set (candidates ks ls) → IfSome r (λ v. v.build ≡ [])
+least_bare set ks ls r e = subst (λ o. IfSome o IsBare) (sym e)
+    (fold_bare set None (candidates ks ls) tt (all_bare (Start ∷ (flat_map kept_marks ks ++ flat_map removed_marks ls))))
 
 pub All-find : {X : Type 0} (P : X → Type 0) (p : X → Bool) (xs : List X) → All P xs → IfSome (find p xs) P
 All-find P p [] a = tt
-All-find P p (x ∷ xs) a = by_test (p x) (All-find P p xs (All-tail P x xs a))
-  where
-    by_test : (t : Bool) → IfSome (find p xs) P → IfSome (if t then Some x else find p xs) P
-    by_test true r = All-head P x xs a
-    by_test false r = r
+All-find P p (x ∷ xs) a = cond_both (p x) (Some x) (find p xs) (λ o. IfSome o P) (λ _. All-head P x xs a)
+    (λ _. All-find P p xs (All-tail P x xs a))
 
--- nothing is removed by the empty list
-beyond-none : (ks : List (Span VersionValue)) (v : VersionValue) → beyond ks [] v ≡ accepts ks v false
-beyond-none ks v = both (accepts ks v false)
-  where
-    both : (t : Bool) → (t && true) ≡ t
-    both true = refl
-    both false = refl
+-- ---- a version with another build is accepted alike
 
--- a version with another build is accepted alike
-past_built : (d : Cut VersionValue) (v : VersionValue) (b : List Id) → is_past precedence d (record v { build = b }) ≡ is_past precedence d v
+past_built : (d : Cut VersionValue) (v : VersionValue) (b : List Id)
+    → is_past precedence d (record v { build = b }) ≡ is_past precedence d v
 past_built d v b =
-    ap is_le (alike_right (cut_total precedence_total) (Beside (record v { build = b }) Near) (Beside v Near) d (ap (λ r. ordering_then r Equal) (tied_itself precedence_total v)))
+    ap is_le (alike_right (cut_total precedence_total) (Beside (record v { build = b }) Near) (Beside v Near) d
+        (ap (λ r. ordering_then r Equal) (tied_itself precedence_total v)))
 
-holds_built : (s : Span VersionValue) (v : VersionValue) (b : List Id) → holds precedence s (record v { build = b }) ≡ holds precedence s v
-holds_built s v b =
-    ap (λ q. q && not (is_past precedence (upper_cut s.upper) (record v { build = b }))) (past_built (lower_cut s.lower) v b)
-    ∙ ap (λ q. is_past precedence (lower_cut s.lower) v && not q) (past_built (upper_cut s.upper) v b)
+admits_built : (s : Span VersionValue) (v : VersionValue) (b : List Id)
+    → (holds precedence s (record v { build = b }) && lets_in s (record v { build = b })) ≡ (holds precedence s v && lets_in s v)
+admits_built s v b =
+    ap₂ (λ p q. p && q) (ap₂ (λ p q. p && not q) (past_built (lower_cut s.lower) v b) (past_built (upper_cut s.upper) v b))
+    (lets_in_alike s (record v { build = b }) v (record { release = refl; triple = λ _. tied_itself triple_total v }))
 
-gate_built : (s : Span VersionValue) (v : VersionValue) (b : List Id) → lets_in s (record v { build = b }) ≡ lets_in s v
-gate_built s v b = lets_in_alike s (record v { build = b }) v (record { release = refl; triple = λ _. tied_itself triple_total v })
+accepts_built : (ks : List (Span VersionValue)) (v : VersionValue) (b : List Id)
+    → accepts ks (record v { build = b }) false ≡ accepts ks v false
+accepts_built ks v b = any_same _ _ (λ s. admits_built s v b) ks
 
-accepts_built : (ks : List (Span VersionValue)) (v : VersionValue) (b : List Id) → accepts ks (record v { build = b }) false ≡ accepts ks v false
-accepts_built ks v b = accepts_same ks (record v { build = b }) v (λ s. gate_built s v b) (λ s. holds_built s v b)
-
--- the least beyond nothing is the least that is accepted, whatever its build
-pub least_accepted : (ks : List (Span VersionValue)) (v : VersionValue) (b : List Id) → IsLeastOf (beyond ks []) (Some v) → IsLeastOf (λ w. accepts ks w false) (Some (record v { build = b }))
-least_accepted ks v b h =
-    (accepts_built ks v b ∙ sym (beyond-none ks v) ∙ h.0, λ w e. h.1 w (beyond-none ks w ∙ e))
-
-find_same : {X : Type 0} (p q : X → Bool) (xs : List X) → ((x : X) → p x ≡ q x) → find p xs ≡ find q xs
-find_same p q [] f = refl
-find_same p q (x ∷ xs) f = ap (λ t. if t then Some x else find p xs) (f x) ∙ ap (λ r. if q x then Some x else r) (find_same p q xs f)
-
--- the version with which the span begins that is found, if one is
-abbrev first_of : Option (Span VersionValue) → Option VersionValue
-first_of found = option_and_then (λ s. begins_with s.lower) found
-
-build_by_built : (x : Option VersionValue) (v : VersionValue) (b : List Id) → build_by x (record v { build = b }) ≡ build_by x v
-build_by_built None v b = refl
-build_by_built (Some x) v b = refl
-
-pub least_build_built : (ks : List (Span VersionValue)) (v : VersionValue) (b : List Id) → least_build ks (record v { build = b }) ≡ least_build ks v
-least_build_built ks v b =
-    ap (λ o. build_by (first_of o) (record v { build = b })) (find_same _ _ ks same)
-    ∙ build_by_built (first_of (find (λ s. holds precedence s v && lets_in s v) ks)) v b
-  where
-    same : (s : Span VersionValue) → (holds precedence s (record v { build = b }) && lets_in s (record v { build = b })) ≡ (holds precedence s v && lets_in s v)
-    same s = ap (λ q. q && lets_in s (record v { build = b })) (holds_built s v b) ∙ ap (λ q. holds precedence s v && q) (gate_built s v b)
-
-pub none_accepted : (ks : List (Span VersionValue)) → ((v : VersionValue) → beyond ks [] v ≡ false) → (v : VersionValue) → accepts ks v false ≡ false
-none_accepted ks f v = sym (beyond-none ks v) ∙ f v
-
--- a version with another build improves alike
-pub improves_bare : (best : Option VersionValue) (w : VersionValue) (ks ls : List (Span VersionValue)) → (improves best (bare w) && beyond ks ls (bare w)) ≡ (improves best w && beyond ks ls w)
-improves_bare best w ks ls =
-    ap (λ q. q && beyond ks ls (bare w)) (by_best best)
-    ∙ ap (λ q. improves best w && (q && not (accepts ls (bare w) false))) (accepts_built ks w [])
-    ∙ ap (λ q. improves best w && (accepts ks w false && not q)) (accepts_built ls w [])
+pub improves_bare : (best : Option VersionValue) (w : VersionValue) (ks ls : List (Span VersionValue))
+    → (improves best (bare w) && beyond ks ls (bare w)) ≡ (improves best w && beyond ks ls w)
+improves_bare best w ks ls = ap₂ (λ p q. p && q) (by_best best)
+    (ap₂ (λ p q. p && not q) (accepts_built ks w []) (accepts_built ls w []))
   where
     by_best : (best : Option VersionValue) → improves best (bare w) ≡ improves best w
     by_best None = refl
     by_best (Some b) = refl
 
--- nothing from w on improves on a best that is not above w
-no_better : (set : VersionValue → Bool) (best : Option VersionValue) (w x : VersionValue) → is_reached best w ≡ true → is_gt (precedence w x) ≡ false → better set best x ≡ best
-no_better set None w x h k = cc
-no_better set (Some b) w x h k =
-    ap (λ q. if q && set x then Some x else Some b)
-    (ap is_lt (precedence_total.antisymm x b) ∙ flipped (precedence b x) (upto precedence_total b w x (le_not_gt (precedence b w) h) k))
+-- the least beyond nothing is the least that is accepted, whatever its build
+pub least_accepted : (ks : List (Span VersionValue)) (v : VersionValue) (b : List Id) → IsLeastOf (beyond ks []) (Some v)
+    → IsLeastOf (λ w. accepts ks w false) (Some (record v { build = b }))
+least_accepted ks v b h = (accepts_built ks v b ∙ sym (and-true _) ∙ h.0, λ w e. h.1 w (and-true _ ∙ e))
+
+-- the version with which the span begins that is found, if one is
+abbrev first_of : Option (Span VersionValue) → Option VersionValue
+first_of found = option_and_then (λ s. begins_with s.lower) found
+
+find_same : {X : Type 0} (p q : X → Bool) (xs : List X) → ((x : X) → p x ≡ q x) → find p xs ≡ find q xs
+find_same p q [] f = refl
+find_same p q (x ∷ xs) f = ap₂ (λ t o. if t then Some x else o) (f x) (find_same p q xs f)
+
+pub least_build_built : (ks : List (Span VersionValue)) (v : VersionValue) (b : List Id)
+    → least_build ks (record v { build = b }) ≡ least_build ks v
+least_build_built ks v b =
+    ap (λ o. build_by (first_of o) (record v { build = b })) (find_same _ _ ks (λ s. admits_built s v b))
+    ∙ by_first (first_of (find (λ s. holds precedence s v && lets_in s v) ks))
   where
-    flipped : (r : Ordering) → is_gt r ≡ false → is_lt (ordering_reverse r) ≡ false
-    flipped Less h = refl
-    flipped Equal h = refl
-    flipped Greater h = cc
+    by_first : (x : Option VersionValue) → build_by x (record v { build = b }) ≡ build_by x v
+    by_first None = refl
+    by_first (Some x) = refl
 
-reached : (set : VersionValue → Bool) (best : Option VersionValue) (w : VersionValue) (s : Side) → is_reached best w ≡ true → fold (better set) best (firsts (Beside w s)) ≡ best
-reached set best w s h = by_kind (is_release w) s refl
-  where
-    two : (x y : VersionValue) → is_gt (precedence w x) ≡ false → is_gt (precedence w y) ≡ false → better set (better set best x) y ≡ best
-    two x y k l = ap (λ b. better set b y) (no_better set best w x h k) ∙ no_better set best w y h l
+-- ---- no build comes from a bound that has none
 
-    by_kind : (r : Bool) (s : Side) → is_release w ≡ r → fold (better set) best (if r then release_after w s ∷ [] else after_cut w s ∷ bare_release w ∷ []) ≡ best
-    by_kind true Near k = no_better set best w (bare w) h (ap is_gt (tied_itself precedence_total w))
-    by_kind true Far k = no_better set best w (patch_after w) h (ap is_gt (next_patch_above w))
-    by_kind false Near k = two (bare w) (bare_release w) (ap is_gt (tied_itself precedence_total w)) (ap is_gt (release_above w k))
-    by_kind false Far k = two (pre_after w) (bare_release w) (ap is_gt (next_pre_above w k)) (ap is_gt (release_above w k))
-
-pub reached_near : (set : VersionValue → Bool) (best : Option VersionValue) (w : VersionValue) → is_reached best w ≡ true → fold (better set) best (firsts (Beside w Near)) ≡ best
-reached_near set best w h = reached set best w Near h
-
-pub reached_far : (set : VersionValue → Bool) (best : Option VersionValue) (w : VersionValue) → is_reached best w ≡ true → fold (better set) best (firsts (Beside w Far)) ≡ best
-reached_far set best w h = reached set best w Far h
-
--- no build comes from a bound that has none
-unbuilt_list : (xs : List Id) → not (is_empty xs) ≡ false → xs ≡ []
-unbuilt_list [] h = refl
-unbuilt_list (x ∷ xs) h = cc h
-
-none_of : (b : Bool) (xs : List Id) → xs ≡ [] → (if b then xs else []) ≡ []
-none_of true xs h = h
+none_of : (b : Bool) (xs : List Id) → not (is_empty xs) ≡ false → (if b then xs else []) ≡ []
+none_of true [] h = refl
+none_of true (x ∷ xs) h = cc
 none_of false xs h = refl
 
 no_build : (b : Bound VersionValue) (v : VersionValue) → has_build b ≡ false → build_by (begins_with b) v ≡ []
 no_build Unbounded v h = refl
-no_build (Before w) v h = none_of (is_eq (precedence w v)) w.build (unbuilt_list w.build h)
-no_build (After w) v h = by_release (is_release w)
+no_build (Before w) v h = none_of (is_eq (precedence w v)) w.build h
+no_build (After w) v h =
+    cond_both (is_release w) (record w { patch = w.patch + 1; pre_release = [] })
+        (record w { pre_release = w.pre_release ++ Numeric 0 ∷ [] }) (λ x. build_by (Some x) v ≡ [])
+    (λ _. none_of _ w.build h) (λ _. none_of _ w.build h)
+
+pub unbuilt_stays : (ss : List (Span VersionValue)) (v : VersionValue) → v.build ≡ []
+    → list_any (λ s. has_build s.lower) ss ≡ false → v ≡ record v { build = least_build ss v }
+unbuilt_stays ss v bare h = ap (λ b. record v { build = b }) (bare ∙ sym (unbuilt ss h))
   where
-    by_release : (r : Bool) → build_by (Some (if r then record w { patch = w.patch + 1; pre_release = [] } else record w { pre_release = w.pre_release ++ Numeric 0 ∷ [] })) v ≡ []
-    by_release true = none_of _ w.build (unbuilt_list w.build h)
-    by_release false = none_of _ w.build (unbuilt_list w.build h)
-
-first_none : (a b : Bool) → (a || b) ≡ false → a ≡ false
-first_none true b h = cc h
-first_none false b h = refl
-
-second_none : (a b : Bool) → (a || b) ≡ false → b ≡ false
-second_none true b h = cc h
-second_none false b h = h
-
-unbuilt : (ss : List (Span VersionValue)) (v : VersionValue) → list_any (λ s. has_build s.lower) ss ≡ false → least_build ss v ≡ []
-unbuilt [] v h = refl
-unbuilt (s ∷ ss) v h = by_first (holds precedence s v && lets_in s v) (unbuilt ss v (second_none _ _ h))
-  where
-    by_first : (t : Bool) → least_build ss v ≡ [] → build_by (first_of (if t then Some s else find (λ s. holds precedence s v && lets_in s v) ss)) v ≡ []
-    by_first true more = no_build s.lower v (first_none _ _ h)
-    by_first false more = more
-
-pub unbuilt_stays : (ss : List (Span VersionValue)) (v : VersionValue) → v.build ≡ [] → list_any (λ s. has_build s.lower) ss ≡ false → v ≡ record v { build = least_build ss v }
-unbuilt_stays ss v bare h = ap (λ b. record v { build = b }) (bare ∙ sym (unbuilt ss v h))
+    unbuilt : (ss : List (Span VersionValue)) → list_any (λ s. has_build s.lower) ss ≡ false → least_build ss v ≡ []
+    unbuilt [] h = refl
+    unbuilt (s ∷ ss) h =
+        let (here, there) = or_parts (has_build s.lower) (list_any (λ s. has_build s.lower) ss) h in
+        cond_both (holds precedence s v && lets_in s v) (Some s) (find (λ s. holds precedence s v && lets_in s v) ss)
+            (λ o. build_by (first_of o) v ≡ [])
+        (λ _. no_build s.lower v here) (λ _. unbuilt ss there)

@@ -1,8 +1,9 @@
 -- A version that a range does not hold lies outside it exactly where each cut says so.
-use Rattle.std.proofs.Common.{◌≡◌, refl, ◌∙◌, ap, ℕ, ◌+◌, Bool, true, false, ◌&&◌, ◌||◌, not, List, [], ◌∷◌}
+use Rattle.std.proofs.Common.{◌≡◌, refl, ◌∙◌, ap, ap₂, arith, ℕ, ◌+◌, Bool, true, false, ◌&&◌, ◌||◌, not, List, [], ◌∷◌}
+use Rattle.std.proofs.lemmas.Bool.{and_parts}
 use Rattle.std.specs.List.{list_any, list_all}
 use Rattle.semver_core.specs.Cuts.{Span, is_interval, is_past, cut_cmp, lower_cut, upper_cut, holds}
-use Rattle.semver_core.proofs.CutLaws.{is_past-down}
+use Rattle.semver_core.proofs.CutLaws.{is_past-down, one_way}
 use Rattle.semver_core.specs.Values.Order.{precedence}
 use Rattle.semver_core.specs.Internal.OrderLaws.{precedence_total}
 use Rattle.semver_core.specs.Values.Versions.{VersionValue}
@@ -12,19 +13,13 @@ use Rattle.nodejs_semver.specs.Ranges.Outside.{is_bounded, lies_below, lies_abov
 use Rattle.nodejs_semver.specs.declared.range.outside.OutsideDirection.{OutsideDirection}
 use Rattle.nodejs_semver.specs.declared.range.outside.OutsideDirection.TheVariants.{Higher, Lower}
 use Rattle.nodejs_semver.specs.Ranges.View.{IsRange, is_range_span, is_range_bound}
-use Rattle.nodejs_semver.proofs.Choice.Keys.{lt_not_gt}
-
-and_left : (a b : Bool) → (a && b) ≡ true → a ≡ true
-and_left true b h = refl
-and_left false b h = h
-
-and_right : (a b : Bool) → (a && b) ≡ true → b ≡ true
-and_right true b h = h
-and_right false b h = cc
+use Rattle.nodejs_semver.proofs.Algebra.Clauses.{all_intervals}
 
 -- what lies past the upper cut of an interval lies past its lower cut
-both_past : (s : Span VersionValue) (v : VersionValue) → is_interval precedence s ≡ true → is_past precedence (upper_cut s.upper) v ≡ true → is_past precedence (lower_cut s.lower) v ≡ true
-both_past s v h p = is_past-down precedence_total (lower_cut s.lower) (upper_cut s.upper) v (lt_not_gt (cut_cmp precedence (lower_cut s.lower) (upper_cut s.upper)) h) p
+both_past : (s : Span VersionValue) (v : VersionValue) → is_interval precedence s ≡ true
+    → is_past precedence (upper_cut s.upper) v ≡ true → is_past precedence (lower_cut s.lower) v ≡ true
+both_past s v h p = is_past-down precedence_total (lower_cut s.lower) (upper_cut s.upper) v
+    (one_way precedence_total (lower_cut s.lower) (upper_cut s.upper) h) p
 
 -- the ends of the line
 unbounded_below : (b : Bound VersionValue) (v : VersionValue) → is_bounded b ≡ false → is_past precedence (lower_cut b) v ≡ true
@@ -37,74 +32,58 @@ unbounded_above Unbounded v h = refl
 unbounded_above (Before w) v h = cc
 unbounded_above (After w) v h = cc
 
--- one span that does not hold the version: l and u say whether it lies past the lower and the upper cut, a and b whether there is a bound
-higher_one : (l u b : Bool) → (u ≡ true → l ≡ true) → (b ≡ false → u ≡ false) → (not (l && not u) && (b && l)) ≡ u
-higher_one true true true f g = refl
-higher_one true true false f g = cc (g refl)
-higher_one true false b f g = refl
-higher_one false true b f g = cc (f refl)
-higher_one false false true f g = refl
-higher_one false false false f g = refl
+-- one span that does not hold the version: l and u say whether it lies past the lower and the upper cut, a and b whether there
+-- is a bound
+higher_one : (l u b : Bool) → (u ≡ true → l ≡ true) → (b ≡ false → u ≡ false) → (not ((l && not u) && true) && (b && l)) ≡ u
+higher_one l u b f g = grind arith
 
-lower_one : (l u a b : Bool) → (u ≡ true → l ≡ true) → (a ≡ false → l ≡ true) → (b ≡ false → u ≡ false) → (not (l && not u) && ((not a && not b) || (a && not u))) ≡ not l
-lower_one true true true b f g k = refl
-lower_one true true false true f g k = refl
-lower_one true true false false f g k = cc (k refl)
-lower_one true false a b f g k = refl
-lower_one false true a b f g k = cc (f refl)
-lower_one false false true b f g k = refl
-lower_one false false false b f g k = cc (g refl)
-
-and_true : (a : Bool) → (a && true) ≡ a
-and_true true = refl
-and_true false = refl
+lower_one : (l u a b : Bool) → (u ≡ true → l ≡ true) → (a ≡ false → l ≡ true) → (b ≡ false → u ≡ false)
+    → (not ((l && not u) && true) && ((not a && not b) || (a && not u))) ≡ not l
+lower_one l u a b f g k = grind arith
 
 -- no span holds the version and each passes one test, where each passes another
-along : (held test other : Span VersionValue → Bool) (ok : Span VersionValue → Bool) → ((s : Span VersionValue) → ok s ≡ true → (not (held s) && test s) ≡ other s)
+along : (held test other : Span VersionValue → Bool) (ok : Span VersionValue → Bool)
+    → ((s : Span VersionValue) → ok s ≡ true → (not (held s) && test s) ≡ other s)
     → (ss : List (Span VersionValue)) → list_all ok ss ≡ true → (not (list_any held ss) && list_all test ss) ≡ list_all other ss
 along held test other ok each [] h = refl
 along held test other ok each (s ∷ ss) h =
+    let (here, there) = and_parts (ok s) (list_all ok ss) h in
     regroup (held s) (list_any held ss) (test s) (list_all test ss)
-    ∙ ap (λ q. q && (not (list_any held ss) && list_all test ss)) (each s (and_left (ok s) (list_all ok ss) h))
-    ∙ ap (λ q. other s && q) (along held test other ok each ss (and_right (ok s) (list_all ok ss) h))
+        ∙ ap₂ (λ a b. a && b) (each s here) (along held test other ok each ss there)
   where
     regroup : (a b c d : Bool) → (not (a || b) && (c && d)) ≡ ((not a && c) && (not b && d))
-    regroup true b c d = refl
-    regroup false true true d = refl
-    regroup false true false d = refl
-    regroup false false c d = refl
+    regroup a b c d = grind arith
 
 higher_of : (ss : List (Span VersionValue)) (v : VersionValue) → list_all (is_interval precedence) ss ≡ true
     → is_outside Higher true ss v ≡ list_all (λ s. is_past precedence (upper_cut s.upper) v) ss
 higher_of ss v h =
-    along (λ s. holds precedence s v && true) (λ s. lies_below s v) (λ s. is_past precedence (upper_cut s.upper) v) (is_interval precedence) each ss h
+    along (λ s. holds precedence s v && true) (λ s. lies_below s v) (λ s. is_past precedence (upper_cut s.upper) v)
+        (is_interval precedence) each ss h
   where
-    each : (s : Span VersionValue) → is_interval precedence s ≡ true → (not (holds precedence s v && true) && lies_below s v) ≡ is_past precedence (upper_cut s.upper) v
+    each : (s : Span VersionValue) → is_interval precedence s ≡ true
+        → (not (holds precedence s v && true) && lies_below s v) ≡ is_past precedence (upper_cut s.upper) v
     each s e =
-        ap (λ q. not q && lies_below s v) (and_true (holds precedence s v))
-        ∙ higher_one (is_past precedence (lower_cut s.lower) v) (is_past precedence (upper_cut s.upper) v) (is_bounded s.upper) (both_past s v e) (unbounded_above s.upper v)
+        higher_one (is_past precedence (lower_cut s.lower) v) (is_past precedence (upper_cut s.upper) v) (is_bounded s.upper)
+            (both_past s v e) (unbounded_above s.upper v)
 
 lower_of : (ss : List (Span VersionValue)) (v : VersionValue) → list_all (is_interval precedence) ss ≡ true
     → is_outside Lower true ss v ≡ list_all (λ s. not (is_past precedence (lower_cut s.lower) v)) ss
 lower_of ss v h =
-    along (λ s. holds precedence s v && true) (λ s. lies_above s v) (λ s. not (is_past precedence (lower_cut s.lower) v)) (is_interval precedence) each ss h
+    along (λ s. holds precedence s v && true) (λ s. lies_above s v) (λ s. not (is_past precedence (lower_cut s.lower) v))
+        (is_interval precedence) each ss h
   where
-    each : (s : Span VersionValue) → is_interval precedence s ≡ true → (not (holds precedence s v && true) && lies_above s v) ≡ not (is_past precedence (lower_cut s.lower) v)
+    each : (s : Span VersionValue) → is_interval precedence s ≡ true
+        → (not (holds precedence s v && true) && lies_above s v) ≡ not (is_past precedence (lower_cut s.lower) v)
     each s e =
-        ap (λ q. not q && lies_above s v) (and_true (holds precedence s v))
-        ∙ lower_one (is_past precedence (lower_cut s.lower) v) (is_past precedence (upper_cut s.upper) v) (is_bounded s.lower) (is_bounded s.upper) (both_past s v e) (unbounded_below s.lower v) (unbounded_above s.upper v)
+        lower_one (is_past precedence (lower_cut s.lower) v) (is_past precedence (upper_cut s.upper) v) (is_bounded s.lower)
+            (is_bounded s.upper) (both_past s v e) (unbounded_below s.lower v) (unbounded_above s.upper v)
 
--- a range is a list of intervals
-intervals : (limit : ℕ) (ss : List (Span VersionValue)) → list_all (is_range_span limit) ss ≡ true → list_all (is_interval precedence) ss ≡ true
-intervals limit [] h = refl
-intervals limit (s ∷ ss) h =
-    ap (λ q. q && list_all (is_interval precedence) ss) (and_left (is_interval precedence s) (is_range_bound limit s.lower && is_range_bound limit s.upper) (and_left (is_range_span limit s) (list_all (is_range_span limit) ss) h))
-    ∙ intervals limit ss (and_right (is_range_span limit s) (list_all (is_range_span limit) ss) h)
-
-pub higher_by_cuts : (d : OutsideDirection) (limit : ℕ) (ss : List (Span VersionValue)) (v : VersionValue) → IsRange limit ss → d ≡ Higher
+pub higher_by_cuts : (d : OutsideDirection) (limit : ℕ) (ss : List (Span VersionValue)) (v : VersionValue) → IsRange limit ss
+    → d ≡ Higher
     → is_outside d true ss v ≡ list_all (λ s. is_past precedence (upper_cut s.upper) v) ss
-higher_by_cuts d limit ss v h e = ap (λ d. is_outside d true ss v) e ∙ higher_of ss v (intervals (limit + 1) ss h.each)
+higher_by_cuts d limit ss v h e = ap (λ d. is_outside d true ss v) e ∙ higher_of ss v (all_intervals (limit + 1) ss h.each)
 
-pub lower_by_cuts : (d : OutsideDirection) (limit : ℕ) (ss : List (Span VersionValue)) (v : VersionValue) → IsRange limit ss → d ≡ Lower
+pub lower_by_cuts : (d : OutsideDirection) (limit : ℕ) (ss : List (Span VersionValue)) (v : VersionValue) → IsRange limit ss
+    → d ≡ Lower
     → is_outside d true ss v ≡ list_all (λ s. not (is_past precedence (lower_cut s.lower) v)) ss
-lower_by_cuts d limit ss v h e = ap (λ d. is_outside d true ss v) e ∙ lower_of ss v (intervals (limit + 1) ss h.each)
+lower_by_cuts d limit ss v h e = ap (λ d. is_outside d true ss v) e ∙ lower_of ss v (all_intervals (limit + 1) ss h.each)

@@ -12,7 +12,8 @@ use Rattle.semver_core.specs.Cuts.{Span}
 use Rattle.nodejs_semver.specs.Internal.Denotes.{denotes, part_bounds}
 use Rattle.nodejs_semver.specs.Ranges.Algebra.{list_holds}
 use Rattle.nodejs_semver.specs.Ranges.Gate.{accepts}
-use Rattle.nodejs_semver.proofs.Algebra.Holds.{accepts-held, denotes_hold}
+use Rattle.nodejs_semver.proofs.Algebra.Accepting.{accepts-held}
+use Rattle.nodejs_semver.proofs.Algebra.Holds.{denotes_hold}
 use Rattle.nodejs_semver.specs.Internal.Parts.{cut_bars}
 use Rattle.nodejs_semver.specs.Internal.RunsFrom.{runs_of}
 use Rattle.nodejs_semver.specs.Internal.Writes.{part_writes, writes}
