@@ -1,8 +1,9 @@
 pub mod Algebra
 pub mod Bounds
 pub mod Choice
-pub mod Common
+pub mod Diagnosing
 pub mod Dividing
+pub mod Everyday
 pub mod Printing
 pub mod Reading
 pub mod Rows

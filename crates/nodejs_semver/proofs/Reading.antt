@@ -1,9 +1,8 @@
-pub mod DigitValues
-pub mod NumberFront
-pub mod NumberLaw
+pub mod Steps
+pub mod Bytes
+pub mod Numbers
 pub mod IdentifierLists
 pub mod Boundaries
-pub mod Pieces
 pub mod Quiet
 pub mod Qualifiers
 pub mod Components

@@ -1,4 +1,2 @@
-pub mod Texts
 pub mod Ranges
 pub mod Printed
-pub mod Common

@@ -11,5 +11,6 @@ pub mod Candidates
 pub mod Along
 pub mod Hashes
 pub mod SameLaws
+pub mod Stuck
 pub mod CommonFronts
 pub mod CommonViews

@@ -1,3 +1,4 @@
+pub mod Diagnosis
 pub mod Json
 pub mod Internal
 pub mod Printing

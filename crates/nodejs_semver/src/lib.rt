@@ -26,6 +26,7 @@
 //! shows how.
 #![tactic(auto)]
 
+pub mod diagnosis;
 pub mod json;
 pub mod laws;
 mod range;

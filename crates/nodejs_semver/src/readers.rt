@@ -5,6 +5,7 @@ mod fast;
 mod intervals;
 mod loose;
 mod partial;
+mod spaces;
 mod syntax;
 mod table;
 mod words;

@@ -11,6 +11,5 @@ pub mod Clauses
 pub mod Texts
 pub mod Whole
 pub mod OnePass
-pub mod Dotted
 pub mod LargerLimit
 pub mod Listed

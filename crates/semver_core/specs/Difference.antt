@@ -1,6 +1,5 @@
 -- Statement: what kind of difference there is between two versions.
 use Rattle.std.specs.Prelude.{◌==◌, ◌&&◌, not, ℕ, if◌then◌else◌, List, codes, Option, Some, None}
-use Rattle.std.specs.declared.cmp.Ordering.{Ordering}
 use Rattle.std.specs.declared.cmp.Ordering.TheVariants as order
 use Rattle.semver_core.specs.Values.Order.{precedence}
 use Rattle.semver_core.specs.Values.Versions.{VersionValue, is_release}
@@ -20,14 +19,9 @@ kind_up low high =
     else if not (low.patch == high.patch) then (if is_release high then Patch else PrePatch)
     else PreRelease
 
-abbrev pub kind_by : Ordering → VersionValue → VersionValue → Option VersionDiff
-kind_by order.Less v w = Some (kind_up v w)
-kind_by order.Equal v w = None
-kind_by order.Greater v w = Some (kind_up w v)
-
 -- none between equal versions
 abbrev pub kind_between : VersionValue → VersionValue → Option VersionDiff
-kind_between v w = kind_by (precedence v w) v w
+kind_between v w = elim (precedence v w) [ order.Less ↦ Some (kind_up v w) | order.Equal ↦ None | order.Greater ↦ Some (kind_up w v) ]
 
 -- the word of a kind
 abbrev pub kind_word : VersionDiff → List ℕ

@@ -3,5 +3,7 @@ pub mod IncrementSteps
 pub mod Successors
 pub mod OrderLaws
 pub mod Spaces
+pub mod Inside
+pub mod Hashes
 pub mod Readable
 pub mod CommonReading

@@ -1,11 +1,11 @@
 // Identifiers: what they are, their order, equality and hash.
 
-ghost use Rattle.std.specs.Prelude.{◌≡◌, ◌<◌, Some, refl, IfOk, OnErr, length};
-ghost use Rattle.semver_core.specs.Text.Identifiers.{IsText};
+ghost use Rattle.std.specs.Prelude.{◌≡◌, ◌≢◌, ◌<◌, ℕ, Some, refl, IfOk, OnErr, length};
+ghost use Rattle.semver_core.specs.Text.Identifiers.{Id, Numeric};
 ghost use Rattle.std.specs.Cmp.{eq_by_cmp_equiv, on_equiv, on_per, on_po, on_total};
 ghost use Rattle.std.specs.Cmp.{partial_equiv_from_equiv, po};
 ghost use Rattle.std.specs.Ordering.{is_eq, eq_by_cmp};
-ghost use Rattle.semver_core.specs.Values.Hashes.{id_writes};
+ghost use Rattle.semver_core.specs.Internal.Hashes.{id_writes};
 ghost use Rattle.semver_core.specs.Values.Order.{id_cmp};
 ghost use Rattle.semver_core.specs.Internal.OrderLaws.{id_alike, id_total};
 ghost use Rattle.semver_core.specs.Values.Views.{id_view, ids_view};
@@ -31,7 +31,7 @@ impl Identifier {
     /// A copy of the identifier. Fails only if allocation fails; copying a number never does.
     pub fn copy(&self, alloc: Global) -> Result<Identifier, AllocError>
         ensures whole { IfOk result (λ i. id_view i ≡ id_view self.now) }
-        ensures memory { OnErr result (IsText (id_view self.now)) }
+        ensures memory { OnErr result ((n : ℕ) → id_view self.now ≢ Numeric n) }
     {
         match self {
             Identifier::Numeric(number) => Ok(Identifier::Numeric(*number)),
@@ -55,6 +55,8 @@ impl Identifier {
 
 // What stands in a place of a list that is not used yet.
 impl MadeWith<Global> for Identifier {
+    ghost is_made_with = { λ id. id_view id ≡ Numeric 0 };
+
     fn made_with(_alloc: Global) -> Identifier {
         Identifier::Numeric(0)
     }

@@ -1,12 +1,12 @@
 // Increments: the next version by a word, as release tools ask for it.
 
-ghost use Rattle.std.specs.Prelude.{◌≡◌, IfOk, OnErr, codes, false};
+ghost use Rattle.std.specs.Prelude.{◌≡◌, ◌≢◌, ◌+◌, ◌-◌, ◌^◌, ◌<◌, [], IfOk, IsOkAnd, OnErr, codes};
+ghost use Rattle.std.specs.Prelude.{false, true};
+ghost use Rattle.std.specs.Option.{option_copied};
 ghost use Rattle.semver_core.specs.Increments.Table as spec;
-ghost use Rattle.semver_core.specs.Increments.Least.{CanStep, HasNoIdentifier, IsAbove};
-ghost use Rattle.semver_core.specs.Increments.Least.{IsLeastAnswer, IsLeastOrOverflow, IsNextMajor};
-ghost use Rattle.semver_core.specs.Increments.Least.{IsNextMinor, IsNextPatch, IsOfNextMajor};
-ghost use Rattle.semver_core.specs.Increments.Least.{IsOfNextMinor, IsOfNextPatch, IsPlain};
-ghost use Rattle.semver_core.specs.Increments.View.{HasText, IfAnswered, Returns, fault_of, given};
+ghost use Rattle.semver_core.specs.Increments.Least.{HasNoIdentifier, IsAbove, IsLeastOrOverflow};
+ghost use Rattle.semver_core.specs.Increments.Least.{IsLeastVersion, IsPlain};
+ghost use Rattle.semver_core.specs.Increments.View.{IfAnswered, Returns, fault_of};
 ghost use Rattle.semver_core.specs.Internal.IncrementSteps.{RefusedWith};
 ghost use Rattle.semver_core.specs.Values.Versions.{IsVersion, is_release};
 
@@ -104,7 +104,7 @@ impl IncrementError {
     /// A copy of the error. Fails only if allocation fails; copying `Overflow` never does.
     pub fn copy(&self, alloc: Global) -> Result<IncrementError, AllocError>
         ensures whole { IfOk result (λ e. fault_of e ≡ fault_of self.now) }
-        ensures memory { OnErr result (HasText (fault_of self.now)) }
+        ensures memory { OnErr result (fault_of self.now ≢ spec.Overflow) }
     {
         Ok(match self {
             IncrementError::InvalidIdentifier(text) => {
@@ -198,7 +198,7 @@ fn increment(
     base: Option<IdentifierBase>,
 ) -> Result<Version, Failure<IncrementError>>
     ensures { Returns
-        (spec.answer_of_inc version.now word.now (given identifier.entry) base) result }
+        (spec.answer_of_inc version.now word.now (option_copied identifier.entry) base) result }
 {
     by_checked_word(
         alloc,
@@ -259,27 +259,37 @@ impl Version {
     ) -> Result<Version, Failure<IncrementError>>
         // It returns what the table says.
         ensures value { Returns
-            (spec.answer_of_inc self.now word.now (given identifier.entry) base) result }
-        // The least release above of its kind, or Overflow where no version is one.
-        ensures patch { word.now ≡ codes "patch"
-            → IfAnswered (IsLeastOrOverflow (IsNextPatch self.now)) result }
-        ensures minor { word.now ≡ codes "minor"
-            → IfAnswered (IsLeastOrOverflow (IsNextMinor self.now)) result }
-        ensures major { word.now ≡ codes "major"
-            → IfAnswered (IsLeastOrOverflow (IsNextMajor self.now)) result }
+            (spec.answer_of_inc self.now word.now (option_copied identifier.entry) base) result }
+        // The least release above in the same major and minor, or Overflow where there is none.
+        ensures patch { word.now ≡ codes "patch" → IfAnswered (IsLeastOrOverflow
+            (λ w. IsAbove self.now w × (w.pre_release ≡ [])
+            × (w.major ≡ self.now.major) × (w.minor ≡ self.now.minor))) result }
+        // The least one above with patch 0 in the same major, and with minor and patch 0.
+        ensures minor { word.now ≡ codes "minor" → IfAnswered (IsLeastOrOverflow
+            (λ w. IsAbove self.now w × (w.pre_release ≡ [])
+            × (w.major ≡ self.now.major) × (w.patch ≡ 0))) result }
+        ensures major { word.now ≡ codes "major" → IfAnswered (IsLeastOrOverflow
+            (λ w. IsAbove self.now w × (w.pre_release ≡ []) × (w.minor ≡ 0) × (w.patch ≡ 0)))
+            result }
         // Without identifier and with base 0: the least version of the next major, minor or patch,
         // or Overflow.
-        ensures premajor { word.now ≡ codes "premajor" → IsPlain (given identifier.entry) base
-            → IfAnswered (IsLeastOrOverflow (IsOfNextMajor self.now)) result }
-        ensures preminor { word.now ≡ codes "preminor" → IsPlain (given identifier.entry) base
-            → IfAnswered (IsLeastOrOverflow (IsOfNextMinor self.now)) result }
-        ensures prepatch { word.now ≡ codes "prepatch" → IsPlain (given identifier.entry) base
-            → IfAnswered (IsLeastOrOverflow (IsOfNextPatch self.now)) result }
-        // And the least version above, where the patch can rise or the pre-release has no number.
-        ensures prerelease { word.now ≡ codes "prerelease" → IsPlain (given identifier.entry) base
-            → CanStep self.now → IfAnswered (IsLeastAnswer (IsAbove self.now)) result }
+        ensures premajor { word.now ≡ codes "premajor" → IsPlain (option_copied identifier.entry) base
+            → IfAnswered (IsLeastOrOverflow (λ w. w.major ≡ self.now.major + 1)) result }
+        ensures preminor { word.now ≡ codes "preminor" → IsPlain (option_copied identifier.entry) base
+            → IfAnswered (IsLeastOrOverflow
+            (λ w. (w.major ≡ self.now.major) × (w.minor ≡ self.now.minor + 1))) result }
+        ensures prepatch { word.now ≡ codes "prepatch" → IsPlain (option_copied identifier.entry) base
+            → IfAnswered (IsLeastOrOverflow (λ w. (w.major ≡ self.now.major)
+            × (w.minor ≡ self.now.minor) × (w.patch ≡ self.now.patch + 1))) result }
+        // And the least version above, if the patch of a release can rise and a pre-release has no
+        // number.
+        ensures prerelease { word.now ≡ codes "prerelease"
+            → IsPlain (option_copied identifier.entry) base
+            → (is_release self.now ≡ true → self.now.patch < 2 ^ 64 - 1)
+            → (is_release self.now ≡ false → spec.has_numeric self.now.pre_release ≡ false)
+            → IfAnswered (λ answer. IsOkAnd answer (IsLeastVersion (IsAbove self.now))) result }
         // Without an identifier the version rises, except by `pre` from a release.
-        ensures above { HasNoIdentifier (given identifier.entry)
+        ensures above { HasNoIdentifier (option_copied identifier.entry)
             → (word.now ≡ codes "pre" → is_release self.now ≡ false)
             → IfOk result (IsAbove self.now) }
         ensures build { IfOk result (λ next. next.build ≡ self.now.build) }

@@ -2,6 +2,7 @@
 //! anything, else; no caller needs this module.
 
 mod intervals;
+mod lists;
 mod next;
 mod order;
 mod printing;
@@ -9,6 +10,7 @@ mod reading;
 mod whitespace;
 
 pub use crate::laws::intervals::intervals_equal;
+pub use crate::laws::lists::divided_lists;
 pub use crate::laws::next::next_versions;
 pub use crate::laws::order::{identifiers_in_order, versions_in_order};
 pub use crate::laws::printing::{
@@ -17,4 +19,4 @@ pub use crate::laws::printing::{
 pub use crate::laws::reading::{
     both_readers, common_reads_alike, constants, larger_limits, one_reading,
 };
-pub use crate::laws::whitespace::whitespace_in_bytes;
+pub use crate::laws::whitespace::whitespace_ends;

@@ -16,20 +16,23 @@ ghost use Rattle.semver_core.specs.Text.Identifiers.{Id, identifier_of, goes_on,
 ghost use Rattle.semver_core.specs.Text.Identifiers.{IsLongestIdentifiers};
 ghost use Rattle.semver_core.specs.Text.Numbers.{IsWholeNumber};
 ghost use Rattle.semver_core.specs.Internal.Reading.{number_at, list_at};
-ghost use Rattle.semver_core.specs.Values.Views.{id_view, ids_view, list_view};
+ghost use Rattle.semver_core.specs.Values.Views.{id_view, ids_view};
+ghost use Rattle.semver_core.specs.Internal.Reading.{list_view};
 ghost use Rattle.semver_core.specs.Text.Characters.{IsTrim};
-ghost use Rattle.semver_core.specs.Internal.Spaces.{drop_end_spaces, drop_spaces, goes_on_with};
-ghost use Rattle.semver_core.specs.Internal.Spaces.{is_space_of_two, is_space_of_three, space_len};
+ghost use Rattle.semver_core.specs.Internal.Spaces.{drop_end_spaces};
+ghost use Rattle.std.specs.Str.Lossy.{utf8_valid_len};
 
 use crate::version::lists::Identifiers;
 use crate::{Identifier, MAX_SAFE_INTEGER};
 use smallvec::SmallVec;
 use std::alloc::{AllocError, Global};
 
-/// Returns the longest text at the front of some bytes, which is all of them where they are UTF-8.
+/// Returns the longest text at the front of some bytes, which is all of them where they are UTF-8:
+/// of the bytes `31 FF` it is `1`.
 #[tactic(auto, using(crate::proofs::Text::TextFront::text_fronts))]
 pub fn text_front(bytes: &[u8]) -> &str
-    ensures { IsUtf8 bytes.now → result.now ≡ bytes.now }
+    ensures longest { result.now ≡ take (utf8_valid_len bytes.now) bytes.now }
+    ensures whole { IsUtf8 bytes.now → result.now ≡ bytes.now }
 {
     match bytes.utf8_chunks().next() {
         Some(chunk) => chunk.valid(),
@@ -37,9 +40,9 @@ pub fn text_front(bytes: &[u8]) -> &str
     }
 }
 
-// Whether a code point is that of a whitespace character.
+/// Whether a code point is that of a whitespace character, as `skip_whitespace` lists them.
 #[inline(always)]
-fn is_whitespace_code(code: u32) -> bool
+pub fn is_whitespace_code(code: u32) -> bool
     ensures { result ≡ is_whitespace code }
 {
     matches!(code, 0x9..=0xD | 0x20 | 0xA0 | 0x1680 | 0x2000..=0x200A)
@@ -51,69 +54,6 @@ fn is_whitespace(character: char) -> bool
     ensures { result ≡ is_whitespace character }
 {
     is_whitespace_code(u32::from(character))
-}
-
-// Whether a byte goes on with a character.
-#[inline(always)]
-fn goes_on_with(byte: u8) -> bool
-    ensures { result ≡ goes_on_with byte }
-{
-    (0x80..=0xBF).contains(&byte)
-}
-
-#[inline(always)]
-fn is_space_of_two(a: u8, b: u8) -> bool
-    ensures { result ≡ is_space_of_two a b }
-{
-    (0xC0..=0xDF).contains(&a)
-        && goes_on_with(b)
-        && is_whitespace_code(u32::from(a % 32) * 64 + u32::from(b % 64))
-}
-
-#[inline(always)]
-fn is_space_of_three(a: u8, b: u8, c: u8) -> bool
-    ensures { result ≡ is_space_of_three a b c }
-{
-    (0xE0..=0xEF).contains(&a)
-        && goes_on_with(b)
-        && goes_on_with(c)
-        && is_whitespace_code((u32::from(a % 16) * 64 + u32::from(b % 64)) * 64 + u32::from(c % 64))
-}
-
-/// Returns how many bytes the whitespace character at the front of a text takes, and 0 where none
-/// stands there. Whitespace is what `skip_whitespace` skips.
-#[inline(always)]
-#[tactic(auto, unfolding(crate::specs::Internal::Spaces::space_len))]
-pub fn space_len(text: &[u8]) -> usize
-    ensures value { result ≡ space_len text.now }
-    ensures fits { result ≤ length text.now }
-{
-    match text {
-        [a, ..] if *a < 0x80 => {
-            if is_whitespace_code(u32::from(*a)) {
-                1
-            } else {
-                0
-            }
-        }
-        [a, b, ..] if is_space_of_two(*a, *b) => 2,
-        [a, b, c, ..] if is_space_of_three(*a, *b, *c) => 3,
-        _ => 0,
-    }
-}
-
-/// Returns the bytes of a text behind the whitespace at its front.
-pub fn skip_spaces(text: &[u8]) -> &[u8]
-    ensures { result.now ≡ drop_spaces text.now }
-{
-    let mut left = text;
-    'spaces: loop {
-        let len = space_len(left);
-        if len == 0 {
-            return left;
-        }
-        left = &left[len..];
-    }
 }
 
 /// Returns the place behind the whitespace that begins at a place, which is that place itself if no
@@ -193,7 +133,7 @@ pub fn number(text: &str, at: usize) -> Option<(u64, usize)>
         NoPieceAt (λ digits rest. IsWholeNumber MAX_SAFE_INTEGER digits rest n) text.now at) }
     ensures place { IfSome result (λ found. found.1 ≤ length text.now) }
 {
-    read_number(text, at)
+    number_in(text.as_bytes(), at)
 }
 
 /// `number` over the bytes of a text.
@@ -211,16 +151,7 @@ pub fn number_in(bytes: &[u8], at: usize) -> Option<(u64, usize)>
     digits(bytes, at)
 }
 
-// The same as a function of the text.
-#[inline(always)]
-pub(crate) fn read_number(text: &str, at: usize) -> Option<(u64, usize)>
-    requires { at ≤ length text.now }
-    ensures exact { result ≡ number_at MAX_SAFE_INTEGER text.now at }
-    ensures place { IfSome result (λ found. found.1 ≤ length text.now) }
-{
-    digits(text.as_bytes(), at)
-}
-
+// `number_in` as a function of the bytes.
 #[inline(always)]
 #[tactic(auto, using(crate::proofs::Text::Digits::digits_read))]
 pub(crate) fn digits(bytes: &[u8], at: usize) -> Option<(u64, usize)>

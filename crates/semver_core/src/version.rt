@@ -9,8 +9,9 @@ ghost use Rattle.semver_core.specs.Text.Parsing.{Parses, IsRefused, NeedsMemory}
 ghost use Rattle.semver_core.specs.Values.Versions.{VersionValue, HasIdentifiers, IsVersion, IsId};
 ghost use Rattle.semver_core.specs.Values.Versions.{is_release, release_value};
 ghost use Rattle.semver_core.specs.Internal.Reading.{qualified};
-ghost use Rattle.semver_core.specs.Values.Views.{ids_view, id_view, IsFull, build_of};
-ghost use Rattle.semver_core.specs.Values.Views.{pre_release_of};
+ghost use Rattle.semver_core.specs.Values.Views.{ids_view, id_view};
+ghost use Rattle.semver_core.specs.Internal.Inside.{IsFull, build_of};
+ghost use Rattle.semver_core.specs.Internal.Inside.{pre_release_of};
 
 pub mod accepts;
 mod convert;
@@ -43,7 +44,7 @@ impl Model for Version {
 
     ghost Value = { VersionValue };
 
-    ghost use Rattle.semver_core.specs.Values.Views.{value_of, IsValid};
+    ghost use Rattle.semver_core.specs.Internal.Inside.{value_of, IsValid};
 
     ghost view = { value_of };
 

@@ -5,7 +5,7 @@ use Rattle.std.proofs.Math.Seq.{get_or-append_seam}
 use Rattle.std.proofs.lemmas.Bool.{cases_Bool, eqb-true}
 use Rattle.std.proofs.lemmas.List.{get_or-take, length-append, length-take-le}
 use Rattle.std.proofs.lemmas.List.Elements.{All-from_get_or}
-use Rattle.std.proofs.lemmas.List.Splits.{slice_split_at, slice_split_none}
+use Rattle.std.proofs.lemmas.List.Splits.{length-slice_split, slice_split_at, slice_split_none}
 use Rattle.std.proofs.lemmas.List.Sums.{list_all-from_AllPass}
 use Rattle.std.proofs.lemmas.Str.{IsCharBoundary-after_ascii, IsCharBoundary-before_ascii}
 use Rattle.std.specs.Prelude.{IsCharBoundary, IsUtf8}
@@ -17,6 +17,10 @@ none_here b text i none = elim (cases_Bool (get_or text i 0 == b)) [
   | inl here ↦ absurd (none here)
   | inr other ↦ other
 ]
+
+-- a text has one field or more
+pub some_field : (text : List ℕ) → 0 < length (fields text)
+some_field text = omega (arith, length-slice_split (λ b. b == 59) text)
 
 -- a text with no `;` is one field
 pub one_field : (text : List ℕ) → IsFirstByte (is_byte 59) text None → fields text ≡ text ∷ []

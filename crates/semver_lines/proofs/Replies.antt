@@ -1,12 +1,15 @@
 -- What is replied to a question, from what its texts were read as.
-use Rattle.std.proofs.Common.{ℕ, List, Result, Ok, Err, refl, inl, inr}
+use Rattle.std.proofs.Common.{◌≡◌, ℕ, List, Option, Result, Ok, Err, IfOk, refl}
 use Rattle.std.specs.Borrow.{Bor}
 use Rattle.std.specs.Prelude.{Vec}
+use Rattle.std.specs.declared.alloc.AllocError.{AllocError}
 use Rattle.std.specs.declared.alloc.Global.{Global}
+use Rattle.semver_core.specs.Printing.Text.{version_text}
+use Rattle.semver_core.specs.Values.Versions.{VersionValue}
 use Rattle.semver_core.specs.declared.error.Failure.{Failure}
 use Rattle.semver_core.specs.declared.error.Failure.TheVariants.{Refused, Memory}
-use Rattle.semver_lines.specs.Names.{fault_word}
-use Rattle.semver_lines.specs.Replies.{Both, On, fault}
+use Rattle.semver_lines.specs.Names.{fault_word, or_none}
+use Rattle.semver_lines.specs.Replies.{On, OnBoth, SaysFound, fault, first_fault, second_fault}
 use Rattle.semver_lines.specs.Internal.Results.{IsReadAs, IsTold}
 use Rattle.semver_lines.specs.declared.fault.Fault.{Fault}
 
@@ -16,19 +19,19 @@ pub told_fault : {A : Type 0} (Reads : Result A Fault → Type 0) (Reply : A →
 told_fault Reads Reply (Refused why) h = fault why h refl
 told_fault Reads Reply (Memory error) h = tt
 
-pub told_first : {A B : Type 0} (First : Result A Fault → Type 0) (Second : Result B Fault → Type 0) (Reply : A × B → List ℕ → Type 0) (error : Failure Fault)
-    → IsReadAs (λ (value : Bor A). value.now) (Err error) First → IsTold (Err error) (On (Both First Second) Reply)
-told_first First Second Reply (Refused why) h = fault why (inl h) refl
+pub told_first : {A B : Type 0} (First : Result A Fault → Type 0) (Second : Result B Fault → Type 0) (Reply : A → B → List ℕ → Type 0) (error : Failure Fault)
+    → IsReadAs (λ (value : Bor A). value.now) (Err error) First → IsTold (Err error) (OnBoth First Second Reply)
+told_first First Second Reply (Refused why) h = first_fault why h refl
 told_first First Second Reply (Memory error) h = tt
 
-pub told_second : {A B : Type 0} (First : Result A Fault → Type 0) (Second : Result B Fault → Type 0) (Reply : A × B → List ℕ → Type 0) (a : A) (error : Failure Fault)
-    → First (Ok a) → IsReadAs (λ (value : Bor B). value.now) (Err error) Second → IsTold (Err error) (On (Both First Second) Reply)
-told_second First Second Reply a (Refused why) is h = fault why (inr (a, is, h)) refl
+pub told_second : {A B : Type 0} (First : Result A Fault → Type 0) (Second : Result B Fault → Type 0) (Reply : A → B → List ℕ → Type 0) (a : A) (error : Failure Fault)
+    → First (Ok a) → IsReadAs (λ (value : Bor B). value.now) (Err error) Second → IsTold (Err error) (OnBoth First Second Reply)
+told_second First Second Reply a (Refused why) is h = second_fault a why is h refl
 told_second First Second Reply a (Memory error) is h = tt
 
-pub told_listed : {A B : Type 0} (First : Result A Fault → Type 0) (Second : Result (List B) Fault → Type 0) (Reply : A × List B → List ℕ → Type 0) (a : A) (error : Failure Fault)
-    → First (Ok a) → IsReadAs (λ (list : Vec B Global). list.items) (Err error) Second → IsTold (Err error) (On (Both First Second) Reply)
-told_listed First Second Reply a (Refused why) is h = fault why (inr (a, is, h)) refl
+pub told_listed : {A B : Type 0} (First : Result A Fault → Type 0) (Second : Result (List B) Fault → Type 0) (Reply : A → List B → List ℕ → Type 0) (a : A) (error : Failure Fault)
+    → First (Ok a) → IsReadAs (λ (list : Vec B Global). list.items) (Err error) Second → IsTold (Err error) (OnBoth First Second Reply)
+told_listed First Second Reply a (Refused why) is h = second_fault a why is h refl
 told_listed First Second Reply a (Memory error) is h = tt
 
 -- what is told implies what is weaker
@@ -36,3 +39,9 @@ pub told_weaker : (P Q : List ℕ → Type 0) (result : Result (Bor (List ℕ)) 
 told_weaker P Q (Ok text) f h = f text.now h
 told_weaker P Q (Err (Refused why)) f h = f (fault_word why) h
 told_weaker P Q (Err (Memory error)) f h = tt
+
+-- the version that was found, printed
+pub says_found : (result : Result (Bor (List ℕ)) AllocError) (IsFound : Option VersionValue → Type 0) (found : Option VersionValue)
+    → IsFound found → IfOk result (λ text. text.now ≡ or_none version_text found) → IfOk result (λ text. SaysFound IsFound text.now)
+says_found (Ok text) IsFound found is printed = record { found = found; is = is; printed = printed }
+says_found (Err error) IsFound found is printed = tt

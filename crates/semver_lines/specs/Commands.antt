@@ -1,65 +1,113 @@
 -- Statement. The questions of the lines: the fields that ask each one, and what it is answered.
-use Rattle.std.specs.Prelude.{◌≡◌, ℕ, List, [], ◌∷◌, codes, IfSome, Some, None, true, false}
-use Rattle.semver_core.specs.Difference.{kind_between}
+use Rattle.std.specs.Prelude.{◌≡◌, ◌<◌, ℕ, Bool, List, [], ◌∷◌, codes, IfSome, Some, None, true, false, ⊤}
+use Rattle.semver_core.specs.Cuts.{Span}
+use Rattle.semver_core.specs.Difference.{kind_between, kind_word}
 use Rattle.semver_core.specs.Increments.Table.{answer_of_inc}
-use Rattle.semver_core.specs.Values.Order.{precedence}
 use Rattle.semver_core.specs.Printing.Text.{version_text}
+use Rattle.semver_core.specs.Values.Order.{precedence}
+use Rattle.semver_core.specs.Values.Versions.{VersionValue}
+use Rattle.semver_core.specs.declared.increment.IdentifierBase.TheVariants.{Value}
 use Rattle.nodejs_semver.specs.Ranges.Gate.{accepts}
 use Rattle.nodejs_semver.specs.Ranges.Best.{IsMax, IsMin}
 use Rattle.nodejs_semver.specs.Ranges.Least.{IsLeastOf, beyond, least_build}
-use Rattle.nodejs_semver.specs.Ranges.Algebra.{intersection}
-use Rattle.nodejs_semver.specs.Ranges.Algebra as lists
-use Rattle.nodejs_semver.specs.Ranges.Outside.{is_outside}
+use Rattle.nodejs_semver.specs.Ranges.Algebra.{difference, intersection}
+use Rattle.nodejs_semver.specs.Ranges.Outside.{direction_char, is_outside}
 use Rattle.nodejs_semver.specs.Printing.Text.{range_text}
 use Rattle.semver_lines.specs.Lines.{fields}
-use Rattle.semver_lines.specs.Names.{base_named, direction_named, difference_word, next_text, order_word, range_or_none, truth_word}
-use Rattle.semver_lines.specs.Replies.{IsVersionOf, IsRangeOf, TwoVersions, TwoRanges, RangeAndVersion, RangeAndVersions, On, Says, SaysFound}
+use Rattle.semver_lines.specs.Names.{base_word, next_text, or_none, order_word, truth_word}
+use Rattle.semver_lines.specs.Replies.{AreVersionsOf, IsVersionOf, IsRangeOf, On, OnBoth, Says, SaysFound}
+use Rattle.semver_lines.specs.declared.question.AboutBest.{AboutBest}
+use Rattle.semver_lines.specs.declared.question.AboutBest.TheVariants.{Max, Min}
+use Rattle.semver_lines.specs.declared.question.AboutMatch.{AboutMatch}
+use Rattle.semver_lines.specs.declared.question.AboutMatch.TheVariants.{Sat, Pre, Out}
+use Rattle.semver_lines.specs.declared.question.AboutRange.{AboutRange}
+use Rattle.semver_lines.specs.declared.question.AboutRange.TheVariants.{Print, Least}
+use Rattle.semver_lines.specs.declared.question.AboutRanges.{AboutRanges}
+use Rattle.semver_lines.specs.declared.question.AboutRanges.TheVariants.{And, Minus, Beyond}
+use Rattle.semver_lines.specs.declared.question.AboutVersion.{AboutVersion}
+use Rattle.semver_lines.specs.declared.question.AboutVersion.TheVariants.{Ver, Inc, IncWith, IncFrom}
+use Rattle.semver_lines.specs.declared.question.AboutVersions.{AboutVersions}
+use Rattle.semver_lines.specs.declared.question.AboutVersions.TheVariants.{Cmp, Diff}
 use Rattle.semver_lines.specs.declared.question.Question.{Question}
-use Rattle.semver_lines.specs.declared.question.Question.TheVariants.{Cmp, Ver, Diff, Inc, IncWith, IncFrom, Range, And, Minus, Least, Beyond, Sat, Pre, Out, Max, Min}
+use Rattle.semver_lines.specs.declared.question.Question.TheVariants.{Version, Versions, Range, Ranges, Match, Best}
+
+-- the first field of the line of a question
+abbrev pub command_of : Question → List ℕ
+command_of (Version v Ver) = codes "ver"
+command_of (Version v (Inc word)) = codes "inc"
+command_of (Version v (IncWith word id)) = codes "inc"
+command_of (Version v (IncFrom word id base)) = codes "inc"
+command_of (Versions texts Cmp) = codes "cmp"
+command_of (Versions texts Diff) = codes "diff"
+command_of (Range r Print) = codes "range"
+command_of (Range r Least) = codes "least"
+command_of (Ranges texts And) = codes "and"
+command_of (Ranges texts Minus) = codes "minus"
+command_of (Ranges texts Beyond) = codes "beyond"
+command_of (Match texts Sat) = codes "sat"
+command_of (Match texts Pre) = codes "pre"
+command_of (Match texts (Out side)) = codes "out"
+command_of (Best texts Max) = codes "max"
+command_of (Best texts Min) = codes "min"
+
+-- the fields behind it
+abbrev pub texts_of : Question → List (List ℕ)
+texts_of (Version v Ver) = v.now ∷ []
+texts_of (Version v (Inc word)) = v.now ∷ word.now ∷ []
+texts_of (Version v (IncWith word id)) = v.now ∷ word.now ∷ id.now ∷ []
+texts_of (Version v (IncFrom word id base)) = v.now ∷ word.now ∷ id.now ∷ base_word base ∷ []
+texts_of (Versions (v, w) asked) = v.now ∷ w.now ∷ []
+texts_of (Range r asked) = r.now ∷ []
+texts_of (Ranges (r, s) asked) = r.now ∷ s.now ∷ []
+texts_of (Match (r, v) Sat) = r.now ∷ v.now ∷ []
+texts_of (Match (r, v) Pre) = r.now ∷ v.now ∷ []
+texts_of (Match (r, v) (Out side)) = r.now ∷ v.now ∷ (direction_char side ∷ []) ∷ []
+texts_of (Best (r, vs) asked) = r.now ∷ fields vs.now
+
+-- a base is `false`, 0 or 1
+abbrev pub HasBase : Question → Type 0
+HasBase (Version v (IncFrom word id (Value n))) = n < 2
+HasBase question = ⊤
 
 -- a line with these fields asks this question
 abbrev pub Asks : List (List ℕ) → Question → Type 0
-Asks line (Cmp (v, w)) = line ≡ codes "cmp" ∷ v.now ∷ w.now ∷ []
-Asks line (Ver v) = line ≡ codes "ver" ∷ v.now ∷ []
-Asks line (Diff (v, w)) = line ≡ codes "diff" ∷ v.now ∷ w.now ∷ []
-Asks line (Inc (v, word)) = line ≡ codes "inc" ∷ v.now ∷ word.now ∷ []
-Asks line (IncWith (v, word, id)) = line ≡ codes "inc" ∷ v.now ∷ word.now ∷ id.now ∷ []
-Asks line (IncFrom (v, word, id) base) = (name : List ℕ) × (base_named name ≡ Some base)
-    × (line ≡ codes "inc" ∷ v.now ∷ word.now ∷ id.now ∷ name ∷ [])
-Asks line (Range r) = line ≡ codes "range" ∷ r.now ∷ []
-Asks line (And (r, s)) = line ≡ codes "and" ∷ r.now ∷ s.now ∷ []
-Asks line (Minus (r, s)) = line ≡ codes "minus" ∷ r.now ∷ s.now ∷ []
-Asks line (Least r) = line ≡ codes "least" ∷ r.now ∷ []
-Asks line (Beyond (r, s)) = line ≡ codes "beyond" ∷ r.now ∷ s.now ∷ []
-Asks line (Sat (r, v)) = line ≡ codes "sat" ∷ r.now ∷ v.now ∷ []
-Asks line (Pre (r, v)) = line ≡ codes "pre" ∷ r.now ∷ v.now ∷ []
-Asks line (Out (r, v) side) = (name : List ℕ) × (direction_named name ≡ Some side)
-    × (line ≡ codes "out" ∷ r.now ∷ v.now ∷ name ∷ [])
-Asks line (Max (r, vs)) = line ≡ codes "max" ∷ r.now ∷ fields vs.now
-Asks line (Min (r, vs)) = line ≡ codes "min" ∷ r.now ∷ fields vs.now
+Asks line question = (line ≡ command_of question ∷ texts_of question) × HasBase question
+
+-- the reply about a version, about two, about a range, about two, about a range and a version, about a range and some
+-- versions
+abbrev pub version_reply : AboutVersion → VersionValue → List ℕ
+version_reply Ver v = version_text v
+version_reply (Inc word) v = next_text (answer_of_inc v word.now None None)
+version_reply (IncWith word id) v = next_text (answer_of_inc v word.now (Some id.now) None)
+version_reply (IncFrom word id base) v = next_text (answer_of_inc v word.now (Some id.now) (Some base))
+
+abbrev pub versions_reply : AboutVersions → VersionValue → VersionValue → List ℕ
+versions_reply Cmp v w = order_word (precedence v w)
+versions_reply Diff v w = or_none kind_word (kind_between v w)
+
+abbrev pub RangeReply : AboutRange → List (Span VersionValue) → List ℕ → Type 0
+RangeReply Print r = Says (range_text r)
+RangeReply Least r = SaysFound (λ found. IsLeastOf (λ v. accepts r v false) found × IfSome found (λ v. v.build ≡ least_build r v))
+
+abbrev pub RangesReply : AboutRanges → List (Span VersionValue) → List (Span VersionValue) → List ℕ → Type 0
+RangesReply And r s = Says (or_none range_text (intersection r s))
+RangesReply Minus r s = Says (or_none range_text (difference r s))
+RangesReply Beyond r s = SaysFound (λ found. IsLeastOf (beyond r s) found × IfSome found (λ v. v.build ≡ []))
+
+abbrev pub match_reply : AboutMatch → List (Span VersionValue) → VersionValue → Bool
+match_reply Sat r v = accepts r v false
+match_reply Pre r v = accepts r v true
+match_reply (Out side) r v = is_outside side false r v
+
+abbrev pub BestReply : AboutBest → List (Span VersionValue) → List VersionValue → List ℕ → Type 0
+BestReply Max r vs = SaysFound (IsMax (λ v. accepts r v false) vs)
+BestReply Min r vs = SaysFound (IsMin (λ v. accepts r v false) vs)
 
 -- the answer to each question
 abbrev pub IsReply : Question → List ℕ → Type 0
-IsReply (Cmp texts) = On (TwoVersions texts) (λ vw. Says (order_word (precedence vw.0 vw.1)))
-IsReply (Ver v) = On (IsVersionOf v.now) (λ v. Says (version_text v))
-IsReply (Diff texts) = On (TwoVersions texts) (λ vw. Says (difference_word (kind_between vw.0 vw.1)))
-IsReply (Inc (v, word)) = On (IsVersionOf v.now) (λ v. Says (next_text (answer_of_inc v word.now None None)))
-IsReply (IncWith (v, word, id)) =
-    On (IsVersionOf v.now) (λ v. Says (next_text (answer_of_inc v word.now (Some id.now) None)))
-IsReply (IncFrom (v, word, id) base) =
-    On (IsVersionOf v.now) (λ v. Says (next_text (answer_of_inc v word.now (Some id.now) (Some base))))
-IsReply (Range r) = On (IsRangeOf r.now) (λ r. Says (range_text r))
-IsReply (And texts) = On (TwoRanges texts) (λ rs. Says (range_or_none (intersection rs.0 rs.1)))
-IsReply (Minus texts) = On (TwoRanges texts) (λ rs. Says (range_or_none (lists.difference rs.0 rs.1)))
-IsReply (Least r) = On (IsRangeOf r.now) (λ r. SaysFound (λ found.
-    IsLeastOf (λ v. accepts r v false) found × IfSome found (λ v. v.build ≡ least_build r v)))
-IsReply (Beyond texts) = On (TwoRanges texts) (λ rs. SaysFound (λ found.
-    IsLeastOf (beyond rs.0 rs.1) found × IfSome found (λ v. v.build ≡ [])))
-IsReply (Sat texts) = On (RangeAndVersion texts) (λ rv. Says (truth_word (accepts rv.0 rv.1 false)))
-IsReply (Pre texts) = On (RangeAndVersion texts) (λ rv. Says (truth_word (accepts rv.0 rv.1 true)))
-IsReply (Out texts side) =
-    On (RangeAndVersion texts) (λ rv. Says (truth_word (is_outside side false rv.0 rv.1)))
-IsReply (Max texts) =
-    On (RangeAndVersions texts) (λ rvs. SaysFound (IsMax (λ v. accepts rvs.0 v false) rvs.1))
-IsReply (Min texts) =
-    On (RangeAndVersions texts) (λ rvs. SaysFound (IsMin (λ v. accepts rvs.0 v false) rvs.1))
+IsReply (Version v asked) = On (IsVersionOf v.now) (λ v. Says (version_reply asked v))
+IsReply (Versions (v, w) asked) = OnBoth (IsVersionOf v.now) (IsVersionOf w.now) (λ v w. Says (versions_reply asked v w))
+IsReply (Range r asked) = On (IsRangeOf r.now) (RangeReply asked)
+IsReply (Ranges (r, s) asked) = OnBoth (IsRangeOf r.now) (IsRangeOf s.now) (RangesReply asked)
+IsReply (Match (r, v) asked) = OnBoth (IsRangeOf r.now) (IsVersionOf v.now) (λ r v. Says (truth_word (match_reply asked r v)))
+IsReply (Best (r, vs) asked) = OnBoth (IsRangeOf r.now) (AreVersionsOf (fields vs.now)) (BestReply asked)

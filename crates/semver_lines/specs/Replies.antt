@@ -1,15 +1,14 @@
 -- Statement. What the texts of a question are read as, and what is replied. The texts are read from the left, and the
 -- first that is no version, or no range, decides the error.
-use Rattle.std.specs.Prelude.{◌≡◌, ◌<◌, ◌⊎◌, ℕ, List, [], length, Option, Result, Ok, Err}
-use Rattle.std.specs.Borrow.{Bor}
+use Rattle.std.specs.Prelude.{◌≡◌, ◌<◌, ℕ, List, [], length, Option, Result, Ok, Err}
 use Rattle.std.specs.List.{AllZip, Any}
 use Rattle.semver_core.specs.Cuts.{Span}
+use Rattle.semver_core.specs.Printing.Text.{version_text}
 use Rattle.semver_core.specs.Text.Parsing.{Parses, IsRefused}
 use Rattle.semver_core.specs.Values.Versions.{VersionValue}
 use Rattle.semver_core.specs.declared.TheConstants.{MAX_SAFE_INTEGER}
 use Rattle.nodejs_semver.specs.Text.Meaning.{Means}
-use Rattle.semver_lines.specs.Lines.{fields}
-use Rattle.semver_lines.specs.Names.{fault_word, version_or_none}
+use Rattle.semver_lines.specs.Names.{fault_word, or_none}
 use Rattle.semver_lines.specs.declared.fault.Fault.{Fault}
 use Rattle.semver_lines.specs.declared.fault.Fault.TheVariants.{BadVersion, BadRange}
 
@@ -28,29 +27,16 @@ abbrev pub AreVersionsOf : List (List ℕ) → Result (List VersionValue) Fault 
 AreVersionsOf texts (Ok vs) = AllZip (Parses MAX_SAFE_INTEGER) texts vs
 AreVersionsOf texts (Err fault) = Any (IsRefused MAX_SAFE_INTEGER) texts × (fault ≡ BadVersion)
 
--- two readings, one after the other
-abbrev pub Both : {A B : Type 0} → (Result A Fault → Type 0) → (Result B Fault → Type 0) → Result (A × B) Fault → Type 0
-Both First Second (Ok ab) = First (Ok ab.0) × Second (Ok ab.1)
-Both {A = A} First Second (Err fault) = First (Err fault) ⊎ ((a : A) × First (Ok a) × Second (Err fault))
-
--- the two texts of a question
-abbrev pub TwoVersions : Bor (List ℕ) × Bor (List ℕ) → Result (VersionValue × VersionValue) Fault → Type 0
-TwoVersions texts = Both (IsVersionOf texts.0.now) (IsVersionOf texts.1.now)
-
-abbrev pub TwoRanges : Bor (List ℕ) × Bor (List ℕ) → Result (List (Span VersionValue) × List (Span VersionValue)) Fault → Type 0
-TwoRanges texts = Both (IsRangeOf texts.0.now) (IsRangeOf texts.1.now)
-
-abbrev pub RangeAndVersion : Bor (List ℕ) × Bor (List ℕ) → Result (List (Span VersionValue) × VersionValue) Fault → Type 0
-RangeAndVersion texts = Both (IsRangeOf texts.0.now) (IsVersionOf texts.1.now)
-
--- a range, and some versions that `;` parts
-abbrev pub RangeAndVersions : Bor (List ℕ) × Bor (List ℕ) → Result (List (Span VersionValue) × List VersionValue) Fault → Type 0
-RangeAndVersions texts = Both (IsRangeOf texts.0.now) (AreVersionsOf (fields texts.1.now))
-
 -- a reply about what was read, or the word of the error
 pub data On {A : Type 0} (Reads : Result A Fault → Type 0) (Reply : A → List ℕ → Type 0) (answer : List ℕ) : Type 0 where
   read : (value : A) → Reads (Ok value) → Reply value answer → On Reads Reply answer
   fault : (why : Fault) → Reads (Err why) → answer ≡ fault_word why → On Reads Reply answer
+
+-- a reply about two values that were read, or the word of the first error
+pub data OnBoth {A B : Type 0} (First : Result A Fault → Type 0) (Second : Result B Fault → Type 0) (Reply : A → B → List ℕ → Type 0) (answer : List ℕ) : Type 0 where
+  both_read : (a : A) (b : B) → First (Ok a) → Second (Ok b) → Reply a b answer → OnBoth First Second Reply answer
+  first_fault : (why : Fault) → First (Err why) → answer ≡ fault_word why → OnBoth First Second Reply answer
+  second_fault : (a : A) (why : Fault) → First (Ok a) → Second (Err why) → answer ≡ fault_word why → OnBoth First Second Reply answer
 
 -- the reply is this text
 abbrev pub Says : List ℕ → List ℕ → Type 0
@@ -60,4 +46,4 @@ Says text answer = answer ≡ text
 pub record SaysFound (IsFound : Option VersionValue → Type 0) (reply : List ℕ) : Type 0 where
   pub found : Option VersionValue
   pub is : IsFound found
-  pub printed : reply ≡ version_or_none found
+  pub printed : reply ≡ or_none version_text found

@@ -1,6 +1,6 @@
 // The fields of a line, which are cut at each `;`.
 
-ghost use Rattle.std.specs.Prelude.{◌≡◌, ◌≢◌, [], ◌∷◌, IfSome, IfNone, IsUtf8, length};
+ghost use Rattle.std.specs.Prelude.{◌≡◌, ◌≢◌, ◌<◌, [], ◌∷◌, IfSome, IfNone, IsUtf8, length};
 ghost use Rattle.semver_lines.specs.Lines.{fields};
 
 use memchr::memchr;
@@ -20,7 +20,7 @@ pub fn first(text: &str) -> Option<(&str, &str)>
 #[inline(always)]
 pub fn one(text: &str) -> Option<&str>
     ensures some { IfSome result (λ field. fields text.now ≡ field.now ∷ []) }
-    ensures none { IfNone result (length (fields text.now) ≢ 1) }
+    ensures none { IfNone result (1 < length (fields text.now)) }
 {
     match first(text) {
         Some(_) => None,

@@ -1,49 +1,87 @@
 // The questions that lines ask.
 
-ghost use Rattle.std.specs.Prelude.{◌≡◌};
-ghost use Rattle.semver_lines.specs.Names.{base_named, direction_named};
-
 use crate::command::Command;
 use crate::fields::{first, one, three, two};
 use nodejs_semver::{IdentifierBase, OutsideDirection};
 
-/// The question of a line. Its texts are fields of the line, not yet read.
+/// The question of a line, by what it is about. Its texts are fields of the line, not yet read.
 #[derive(Clone, Copy)]
 pub enum Question<'a> {
-    /// `cmp;V;W`: how the version V compares to the version W.
-    Cmp((&'a str, &'a str)),
-    /// `ver;V`: the version V, printed.
-    Ver(&'a str),
-    /// `diff;V;W`: the kind of difference between two versions, or `none`.
-    Diff((&'a str, &'a str)),
+    /// A question about a version.
+    Version(&'a str, AboutVersion<'a>),
+    /// A question about two versions.
+    Versions((&'a str, &'a str), AboutVersions),
+    /// A question about a range.
+    Range(&'a str, AboutRange),
+    /// A question about two ranges.
+    Ranges((&'a str, &'a str), AboutRanges),
+    /// A question about a range and a version.
+    Match((&'a str, &'a str), AboutMatch),
+    /// A question about a range and some versions, which are the fields of the second text.
+    Best((&'a str, &'a str), AboutBest),
+}
+
+/// What a line asks about a version V.
+#[derive(Clone, Copy)]
+pub enum AboutVersion<'a> {
+    /// `ver;V`: V, printed.
+    Ver,
     /// `inc;V;word`: the next version after V by a word.
-    Inc((&'a str, &'a str)),
-    /// `inc;V;word;identifier`: the same, with an identifier.
-    IncWith((&'a str, &'a str, &'a str)),
-    /// `inc;V;word;identifier;base`: the same, with a base, which is `false`, `0` or `1`.
-    IncFrom((&'a str, &'a str, &'a str), IdentifierBase),
-    /// `range;R`: the range R, printed.
-    Range(&'a str),
-    /// `and;R;S`: the intersection of two ranges, printed, or `none`.
-    And((&'a str, &'a str)),
-    /// `minus;R;S`: the difference of two ranges, printed, or `none`.
-    Minus((&'a str, &'a str)),
+    Inc(&'a str),
+    /// `inc;V;word;identifier`: the next version, with an identifier.
+    IncWith(&'a str, &'a str),
+    /// `inc;V;word;identifier;base`: the next version, with an identifier and a base, which is
+    /// `false`, `0` or `1`.
+    IncFrom(&'a str, &'a str, IdentifierBase),
+}
+
+/// What a line asks about two versions V and W.
+#[derive(Clone, Copy)]
+pub enum AboutVersions {
+    /// `cmp;V;W`: how V compares to W.
+    Cmp,
+    /// `diff;V;W`: the kind of their difference, or `none`.
+    Diff,
+}
+
+/// What a line asks about a range R.
+#[derive(Clone, Copy)]
+pub enum AboutRange {
+    /// `range;R`: R, printed.
+    Print,
     /// `least;R`: the smallest version that R accepts, or `none`.
-    Least(&'a str),
+    Least,
+}
+
+/// What a line asks about two ranges R and S.
+#[derive(Clone, Copy)]
+pub enum AboutRanges {
+    /// `and;R;S`: their intersection, printed, or `none`.
+    And,
+    /// `minus;R;S`: their difference, printed, or `none`.
+    Minus,
     /// `beyond;R;S`: the smallest version that R accepts and S does not, or `none`.
-    Beyond((&'a str, &'a str)),
+    Beyond,
+}
+
+/// What a line asks about a range R and a version V.
+#[derive(Clone, Copy)]
+pub enum AboutMatch {
     /// `sat;R;V`: whether R accepts V, by `satisfies`.
-    Sat((&'a str, &'a str)),
-    /// `pre;R;V`: the same, pre-releases included.
-    Pre((&'a str, &'a str)),
+    Sat,
+    /// `pre;R;V`: whether R accepts V, pre-releases included.
+    Pre,
     /// `out;R;V;>` and `out;R;V;<`: whether V lies above R, or below it.
-    Out((&'a str, &'a str), OutsideDirection),
-    /// `max;R;V;..`: the greatest of some versions that R accepts, or `none`. The second text holds
-    /// the versions.
-    Max((&'a str, &'a str)),
-    /// `min;R;V;..`: the smallest of some versions that R accepts, or `none`. The second text holds
-    /// the versions.
-    Min((&'a str, &'a str)),
+    Out(OutsideDirection),
+}
+
+/// What a line asks about a range R and some versions.
+#[derive(Clone, Copy)]
+pub enum AboutBest {
+    /// `max;R;V;..`: the greatest of the versions that R accepts, or `none`.
+    Max,
+    /// `min;R;V;..`: the smallest of the versions that R accepts, or `none`.
+    Min,
 }
 
 impl<'a> Question<'a> {
@@ -60,20 +98,20 @@ impl<'a> Question<'a> {
     {
         let (command, rest) = Command::of(text)?;
         match command {
-            Command::Cmp => Some(Question::Cmp(two(rest)?)),
-            Command::Ver => Some(Question::Ver(one(rest)?)),
-            Command::Diff => Some(Question::Diff(two(rest)?)),
+            Command::Cmp => Some(Question::Versions(two(rest)?, AboutVersions::Cmp)),
+            Command::Ver => Some(Question::Version(one(rest)?, AboutVersion::Ver)),
+            Command::Diff => Some(Question::Versions(two(rest)?, AboutVersions::Diff)),
             Command::Inc => Question::increment(rest),
-            Command::Range => Some(Question::Range(one(rest)?)),
-            Command::And => Some(Question::And(two(rest)?)),
-            Command::Minus => Some(Question::Minus(two(rest)?)),
-            Command::Least => Some(Question::Least(one(rest)?)),
-            Command::Beyond => Some(Question::Beyond(two(rest)?)),
-            Command::Sat => Some(Question::Sat(two(rest)?)),
-            Command::Pre => Some(Question::Pre(two(rest)?)),
+            Command::Range => Some(Question::Range(one(rest)?, AboutRange::Print)),
+            Command::And => Some(Question::Ranges(two(rest)?, AboutRanges::And)),
+            Command::Minus => Some(Question::Ranges(two(rest)?, AboutRanges::Minus)),
+            Command::Least => Some(Question::Range(one(rest)?, AboutRange::Least)),
+            Command::Beyond => Some(Question::Ranges(two(rest)?, AboutRanges::Beyond)),
+            Command::Sat => Some(Question::Match(two(rest)?, AboutMatch::Sat)),
+            Command::Pre => Some(Question::Match(two(rest)?, AboutMatch::Pre)),
             Command::Out => Question::outside(rest),
-            Command::Max => Some(Question::Max(first(rest)?)),
-            Command::Min => Some(Question::Min(first(rest)?)),
+            Command::Max => Some(Question::Best(first(rest)?, AboutBest::Max)),
+            Command::Min => Some(Question::Best(first(rest)?, AboutBest::Min)),
         }
     }
 
@@ -86,13 +124,18 @@ impl<'a> Question<'a> {
     {
         let (version, rest) = first(rest)?;
         let Some((word, rest)) = first(rest) else {
-            return Some(Question::Inc((version, rest)));
+            return Some(Question::Version(version, AboutVersion::Inc(rest)));
         };
         let Some((identifier, rest)) = first(rest) else {
-            return Some(Question::IncWith((version, word, rest)));
+            return Some(Question::Version(version, AboutVersion::IncWith(word, rest)));
         };
-        let base = base_named(one(rest)?)?;
-        Some(Question::IncFrom((version, word, identifier), base))
+        let base = match one(rest)? {
+            "false" => IdentifierBase::False,
+            "0" => IdentifierBase::Value(0),
+            "1" => IdentifierBase::Value(1),
+            _ => return None,
+        };
+        Some(Question::Version(version, AboutVersion::IncFrom(word, identifier, base)))
     }
 
     // The question of a line `out` with these fields behind the command.
@@ -103,30 +146,16 @@ impl<'a> Question<'a> {
             → Asks (codes "out" ∷ fields rest.now) question → ⊥) }
     {
         let (range, version, side) = three(rest)?;
-        let direction = direction_named(side)?;
-        Some(Question::Out((range, version), direction))
-    }
-}
-
-// The base of this name.
-fn base_named(name: &str) -> Option<IdentifierBase>
-    ensures { result ≡ base_named name.now }
-{
-    match name {
-        "false" => Some(IdentifierBase::False),
-        "0" => Some(IdentifierBase::Value(0)),
-        "1" => Some(IdentifierBase::Value(1)),
-        _ => None,
-    }
-}
-
-// The direction of this name.
-fn direction_named(name: &str) -> Option<OutsideDirection>
-    ensures { result ≡ direction_named name.now }
-{
-    match name {
-        ">" => Some(OutsideDirection::Higher),
-        "<" => Some(OutsideDirection::Lower),
-        _ => None,
+        match side {
+            ">" => Some(Question::Match(
+                (range, version),
+                AboutMatch::Out(OutsideDirection::Higher),
+            )),
+            "<" => Some(Question::Match(
+                (range, version),
+                AboutMatch::Out(OutsideDirection::Lower),
+            )),
+            _ => None,
+        }
     }
 }

@@ -1,22 +1,23 @@
-// The replies to questions. What is printed is printed to `room`. The reply to each question is a
-// function that is not inlined, so that a line pays for the locals of its own question alone.
+// The replies to questions. What is printed is printed to `room`. The function of each kind of
+// question reads its texts in place and is not inlined, so that a line pays for the locals of its
+// own kind alone; what is said of the values that were read stands in the method `reply`.
 
-ghost use Rattle.std.specs.Prelude.{Some};
-ghost use Rattle.semver_core.specs.Increments.Table.{answer_of_inc};
-ghost use Rattle.semver_lines.specs.Commands.{IsReply};
-ghost use Rattle.semver_lines.specs.Names.{next_text};
-ghost use Rattle.semver_lines.specs.Replies.{IsVersionOf, On, Says};
+ghost use Rattle.std.specs.Prelude.{◌≡◌, IfOk};
+ghost use Rattle.semver_lines.specs.Commands.{BestReply, IsReply, RangeReply, RangesReply};
+ghost use Rattle.semver_lines.specs.Commands.{match_reply, version_reply, versions_reply};
 ghost use Rattle.semver_lines.specs.Internal.Results.{IsTold};
 ghost use Rattle.semver_lines.specs.declared.question.Question.{Question};
 
 use crate::fault::Fault;
-use crate::question::Question;
+use crate::question::{
+    AboutBest, AboutMatch, AboutRange, AboutRanges, AboutVersion, AboutVersions, Question,
+};
 use crate::read::{range_of, version_of, versions};
 use crate::words::{
     difference_word, next_text, order_word, range_or_none, truth_word, version_or_none,
 };
-use nodejs_semver::{Failure, IdentifierBase, OutsideDirection, Range, Version};
-use std::alloc::Global;
+use nodejs_semver::{Failure, Range, Version};
+use std::alloc::{AllocError, Global};
 
 /// The reply to a question.
 #[inline(always)]
@@ -28,228 +29,212 @@ pub fn reply<'a>(
     ensures { IsTold result (IsReply question.entry) }
 {
     match question {
-        Question::Cmp((v, w)) => cmp(alloc, v, w),
-        Question::Ver(text) => ver(alloc, text, room),
-        Question::Diff((v, w)) => diff(alloc, v, w, room),
-        Question::Inc((v, word)) => inc(alloc, v, word, room),
-        Question::IncWith((v, word, id)) => inc_with(alloc, v, word, id, None, room),
-        Question::IncFrom((v, word, id), base) => { inc_with(alloc, v, word, id, Some(base), room) }
-        Question::Range(text) => normalised(alloc, text, room),
-        Question::And((r, s)) => and(alloc, r, s, room),
-        Question::Minus((r, s)) => minus(alloc, r, s, room),
-        Question::Least(text) => least(alloc, text, room),
-        Question::Beyond((r, s)) => beyond(alloc, r, s, room),
-        Question::Sat((r, v)) => sat(alloc, r, v),
-        Question::Pre((r, v)) => pre(alloc, r, v),
-        Question::Out((r, v), direction) => outside(alloc, r, v, direction),
-        Question::Max((r, vs)) => max(alloc, r, vs, room),
-        Question::Min((r, vs)) => min(alloc, r, vs, room),
+        Question::Version(v, asked) => on_version(alloc, v, asked, room),
+        Question::Versions((v, w), asked) => on_versions(alloc, v, w, asked, room),
+        Question::Range(r, asked) => on_range(alloc, r, asked, room),
+        Question::Ranges((r, s), asked) => on_ranges(alloc, r, s, asked, room),
+        Question::Match((r, v), asked) => on_match(alloc, r, v, asked),
+        Question::Best((r, vs), asked) => on_best(alloc, r, vs, asked, room),
     }
 }
 
 #[inline(never)]
-fn cmp(alloc: Global, v: &str, w: &str) -> Result<&'static str, Failure<Fault>>
-    ensures { IsTold result (IsReply (Question.Cmp (v.entry, w.entry))) }
+fn on_version<'a>(
+    alloc: Global,
+    v: &str,
+    asked: AboutVersion<'_>,
+    room: &'a mut String,
+) -> Result<&'a str, Failure<Fault>>
+    ensures { IsTold result (IsReply (Question.Version v.entry asked.entry)) }
 {
     let version = Version::parse(alloc, v);
     let version = version_of(&version)?;
-    let other = Version::parse(alloc, w);
-    let other = version_of(&other)?;
-    Ok(order_word(version.cmp(other)))
+    Ok(asked.reply(alloc, version, room)?)
 }
 
 #[inline(never)]
-fn ver<'a>(alloc: Global, text: &str, room: &'a mut String) -> Result<&'a str, Failure<Fault>>
-    ensures { IsTold result (IsReply (Question.Ver text.entry)) }
-{
-    let version = Version::parse(alloc, text);
-    let version = version_of(&version)?;
-    Ok(version_or_none(Some(version), room)?)
-}
-
-#[inline(never)]
-fn diff<'a>(
+fn on_versions<'a>(
     alloc: Global,
     v: &str,
     w: &str,
+    asked: AboutVersions,
     room: &'a mut String,
 ) -> Result<&'a str, Failure<Fault>>
-    ensures { IsTold result (IsReply (Question.Diff (v.entry, w.entry))) }
+    ensures { IsTold result (IsReply (Question.Versions (v.entry, w.entry) asked)) }
 {
     let version = Version::parse(alloc, v);
     let version = version_of(&version)?;
     let other = Version::parse(alloc, w);
     let other = version_of(&other)?;
-    Ok(difference_word(version.diff(other), room)?)
+    Ok(asked.reply(version, other, room)?)
 }
 
 #[inline(never)]
-fn inc<'a>(
+fn on_range<'a>(
     alloc: Global,
-    v: &str,
-    word: &str,
+    r: &str,
+    asked: AboutRange,
     room: &'a mut String,
 ) -> Result<&'a str, Failure<Fault>>
-    ensures { IsTold result (IsReply (Question.Inc (v.entry, word.entry))) }
-{
-    let version = Version::parse(alloc, v);
-    let version = version_of(&version)?;
-    Ok(next_text(&version.inc(alloc, word, None, None), room)?)
-}
-
-#[inline(never)]
-fn inc_with<'a>(
-    alloc: Global,
-    v: &str,
-    word: &str,
-    identifier: &str,
-    base: Option<IdentifierBase>,
-    room: &'a mut String,
-) -> Result<&'a str, Failure<Fault>>
-    ensures { IsTold result (On (IsVersionOf v.now)
-        (λ v. Says (next_text (answer_of_inc v word.now (Some identifier.now) base)))) }
-{
-    let version = Version::parse(alloc, v);
-    let version = version_of(&version)?;
-    Ok(next_text(&version.inc(alloc, word, Some(identifier), base), room)?)
-}
-
-#[inline(never)]
-fn normalised<'a>(
-    alloc: Global,
-    text: &str,
-    room: &'a mut String,
-) -> Result<&'a str, Failure<Fault>>
-    ensures { IsTold result (IsReply (Question.Range text.entry)) }
-{
-    let range = Range::parse(alloc, text);
-    let range = range_of(&range)?;
-    Ok(range_or_none(Some(range), room)?)
-}
-
-#[inline(never)]
-fn and<'a>(alloc: Global, r: &str, s: &str, room: &'a mut String) -> Result<&'a str, Failure<Fault>>
-    ensures { IsTold result (IsReply (Question.And (r.entry, s.entry))) }
+    ensures { IsTold result (IsReply (Question.Range r.entry asked)) }
 {
     let range = Range::parse(alloc, r);
     let range = range_of(&range)?;
-    let other = Range::parse(alloc, s);
-    let other = range_of(&other)?;
-    let common = range.intersect(alloc, other)?;
-    Ok(range_or_none(common.as_ref(), room)?)
+    Ok(asked.reply(alloc, range, room)?)
 }
 
 #[inline(never)]
-fn minus<'a>(
+fn on_ranges<'a>(
     alloc: Global,
     r: &str,
     s: &str,
+    asked: AboutRanges,
     room: &'a mut String,
 ) -> Result<&'a str, Failure<Fault>>
-    ensures { IsTold result (IsReply (Question.Minus (r.entry, s.entry))) }
+    ensures { IsTold result (IsReply (Question.Ranges (r.entry, s.entry) asked)) }
 {
     let range = Range::parse(alloc, r);
     let range = range_of(&range)?;
     let other = Range::parse(alloc, s);
     let other = range_of(&other)?;
-    let left = range.difference(alloc, other)?;
-    Ok(range_or_none(left.as_ref(), room)?)
+    Ok(asked.reply(alloc, range, other, room)?)
 }
 
 #[inline(never)]
-fn least<'a>(alloc: Global, text: &str, room: &'a mut String) -> Result<&'a str, Failure<Fault>>
-    ensures { IsTold result (IsReply (Question.Least text.entry)) }
-{
-    let range = Range::parse(alloc, text);
-    let range = range_of(&range)?;
-    let least = range.min_version(alloc)?;
-    Ok(version_or_none(least.as_ref(), room)?)
-}
-
-#[inline(never)]
-fn beyond<'a>(
-    alloc: Global,
-    r: &str,
-    s: &str,
-    room: &'a mut String,
-) -> Result<&'a str, Failure<Fault>>
-    ensures { IsTold result (IsReply (Question.Beyond (r.entry, s.entry))) }
-{
-    let range = Range::parse(alloc, r);
-    let range = range_of(&range)?;
-    let other = Range::parse(alloc, s);
-    let other = range_of(&other)?;
-    let least = range.least_beyond(alloc, other)?;
-    Ok(version_or_none(least.as_ref(), room)?)
-}
-
-#[inline(never)]
-fn sat(alloc: Global, r: &str, v: &str) -> Result<&'static str, Failure<Fault>>
-    ensures { IsTold result (IsReply (Question.Sat (r.entry, v.entry))) }
-{
-    let range = Range::parse(alloc, r);
-    let range = range_of(&range)?;
-    let version = Version::parse(alloc, v);
-    let version = version_of(&version)?;
-    Ok(truth_word(range.satisfies(version)))
-}
-
-#[inline(never)]
-fn pre(alloc: Global, r: &str, v: &str) -> Result<&'static str, Failure<Fault>>
-    ensures { IsTold result (IsReply (Question.Pre (r.entry, v.entry))) }
-{
-    let range = Range::parse(alloc, r);
-    let range = range_of(&range)?;
-    let version = Version::parse(alloc, v);
-    let version = version_of(&version)?;
-    Ok(truth_word(range.satisfies_with_prerelease(version, true)))
-}
-
-#[inline(never)]
-fn outside(
+fn on_match(
     alloc: Global,
     r: &str,
     v: &str,
-    direction: OutsideDirection,
+    asked: AboutMatch,
 ) -> Result<&'static str, Failure<Fault>>
-    ensures { IsTold result (IsReply (Question.Out (r.entry, v.entry) direction)) }
+    ensures { IsTold result (IsReply (Question.Match (r.entry, v.entry) asked)) }
 {
     let range = Range::parse(alloc, r);
     let range = range_of(&range)?;
     let version = Version::parse(alloc, v);
     let version = version_of(&version)?;
-    match range.outside(version, direction, false) {
-        Ok(is_outside) => Ok(truth_word(is_outside)),
-        Err(_) => unreachable!(),
+    Ok(truth_word(asked.reply(range, version)))
+}
+
+#[inline(never)]
+fn on_best<'a>(
+    alloc: Global,
+    r: &str,
+    vs: &str,
+    asked: AboutBest,
+    room: &'a mut String,
+) -> Result<&'a str, Failure<Fault>>
+    ensures { IsTold result (IsReply (Question.Best (r.entry, vs.entry) asked)) }
+{
+    let range = Range::parse(alloc, r);
+    let range = range_of(&range)?;
+    let versions = versions(alloc, vs)?;
+    Ok(asked.reply(range, &versions, room)?)
+}
+
+impl AboutVersion<'_> {
+    #[inline(always)]
+    fn reply<'a>(
+        self,
+        alloc: Global,
+        v: &Version,
+        room: &'a mut String,
+    ) -> Result<&'a str, AllocError>
+        ensures { IfOk result (λ text. text.now ≡ version_reply self.entry v.now) }
+    {
+        match self {
+            AboutVersion::Ver => version_or_none(Some(v), room),
+            AboutVersion::Inc(word) => next_text(&v.inc(alloc, word, None, None), room),
+            AboutVersion::IncWith(word, id) => next_text(&v.inc(alloc, word, Some(id), None), room),
+            AboutVersion::IncFrom(word, id, base) => {
+                next_text(&v.inc(alloc, word, Some(id), Some(base)), room)
+            }
+        }
     }
 }
 
-#[inline(never)]
-fn max<'a>(
-    alloc: Global,
-    r: &str,
-    vs: &str,
-    room: &'a mut String,
-) -> Result<&'a str, Failure<Fault>>
-    ensures { IsTold result (IsReply (Question.Max (r.entry, vs.entry))) }
-{
-    let range = Range::parse(alloc, r);
-    let range = range_of(&range)?;
-    let versions = versions(alloc, vs)?;
-    Ok(version_or_none(range.max_satisfying(&versions), room)?)
+impl AboutVersions {
+    #[inline(always)]
+    fn reply<'a>(
+        self,
+        v: &Version,
+        w: &Version,
+        room: &'a mut String,
+    ) -> Result<&'a str, AllocError>
+        ensures { IfOk result (λ text. text.now ≡ versions_reply self v.now w.now) }
+    {
+        match self {
+            AboutVersions::Cmp => Ok(order_word(v.cmp(w))),
+            AboutVersions::Diff => difference_word(v.diff(w), room),
+        }
+    }
 }
 
-#[inline(never)]
-fn min<'a>(
-    alloc: Global,
-    r: &str,
-    vs: &str,
-    room: &'a mut String,
-) -> Result<&'a str, Failure<Fault>>
-    ensures { IsTold result (IsReply (Question.Min (r.entry, vs.entry))) }
-{
-    let range = Range::parse(alloc, r);
-    let range = range_of(&range)?;
-    let versions = versions(alloc, vs)?;
-    Ok(version_or_none(range.min_satisfying(&versions), room)?)
+impl AboutRange {
+    #[inline(always)]
+    fn reply<'a>(
+        self,
+        alloc: Global,
+        r: &Range,
+        room: &'a mut String,
+    ) -> Result<&'a str, AllocError>
+        ensures { IfOk result (λ text. RangeReply self r.now text.now) }
+    {
+        match self {
+            AboutRange::Print => range_or_none(Some(r), room),
+            AboutRange::Least => version_or_none(r.min_version(alloc)?.as_ref(), room),
+        }
+    }
+}
+
+impl AboutRanges {
+    #[inline(always)]
+    fn reply<'a>(
+        self,
+        alloc: Global,
+        r: &Range,
+        s: &Range,
+        room: &'a mut String,
+    ) -> Result<&'a str, AllocError>
+        ensures { IfOk result (λ text. RangesReply self r.now s.now text.now) }
+    {
+        match self {
+            AboutRanges::And => range_or_none(r.intersect(alloc, s)?.as_ref(), room),
+            AboutRanges::Minus => range_or_none(r.difference(alloc, s)?.as_ref(), room),
+            AboutRanges::Beyond => version_or_none(r.least_beyond(alloc, s)?.as_ref(), room),
+        }
+    }
+}
+
+impl AboutMatch {
+    #[inline(always)]
+    fn reply(self, r: &Range, v: &Version) -> bool
+        ensures { result ≡ match_reply self r.now v.now }
+    {
+        match self {
+            AboutMatch::Sat => r.satisfies(v),
+            AboutMatch::Pre => r.satisfies_with_prerelease(v, true),
+            AboutMatch::Out(direction) => match r.outside(v, direction, false) {
+                Ok(is_outside) => is_outside,
+                Err(_) => unreachable!(),
+            },
+        }
+    }
+}
+
+impl AboutBest {
+    #[inline(always)]
+    fn reply<'a>(
+        self,
+        r: &Range,
+        vs: &[Version],
+        room: &'a mut String,
+    ) -> Result<&'a str, AllocError>
+        ensures { IfOk result (λ text. BestReply self r.now vs.now text.now) }
+    {
+        match self {
+            AboutBest::Max => version_or_none(r.max_satisfying(vs), room),
+            AboutBest::Min => version_or_none(r.min_satisfying(vs), room),
+        }
+    }
 }

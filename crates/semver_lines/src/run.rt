@@ -4,11 +4,13 @@ ghost use Rattle.std.specs.Prelude.{ℕ, List, ◌≡◌, ◌+◌, ◌<◌, ◌�
 ghost use Rattle.std.specs.Prelude.{drop, slice_index, IfSome, IfNone, IsUtf8, IfOk, IfErr, OnOk};
 ghost use Rattle.std.specs.Prelude.{OnErr, string_bytes};
 ghost use Rattle.std.specs.Io.KnownBytes.{Appends, Consumes, Keeps, IsAtEnd};
+ghost use Rattle.std.specs.Str.Lossy.{utf8_valid_len};
 ghost use Rattle.semver_lines.specs.Internal.LineCuts.{cut_lines, cut_rest};
 ghost use Rattle.semver_lines.specs.Lines.{last_line, no_feed};
 ghost use Rattle.semver_lines.specs.Outcome.{Ran};
 ghost use Rattle.semver_lines.specs.Internal.Steps.{Finished, GrowsByAnswers, GrowsByFront};
-ghost use Rattle.semver_lines.specs.Internal.Steps.{Stopped, Taken, Turned, WritesFront};
+ghost use Rattle.semver_lines.specs.Internal.Steps.{LeavesNoLine, Stopped, Taken, Turned};
+ghost use Rattle.semver_lines.specs.Internal.Steps.{WritesFront};
 
 use crate::answer::{answer_line, answer_text};
 use memchr::memchr;
@@ -117,7 +119,8 @@ fn first_feed(bytes: &[u8]) -> Option<usize>
 
 // The longest text at the front of some bytes.
 fn front_text(bytes: &[u8]) -> &str
-    ensures { (behind : List ℕ) × bytes.now ≡ result.now ++ behind }
+    ensures front { (behind : List ℕ) × bytes.now ≡ result.now ++ behind }
+    ensures longest { length result.now ≡ utf8_valid_len bytes.now }
 {
     match bytes.utf8_chunks().next() {
         Some(chunk) => chunk.valid(),
@@ -135,6 +138,7 @@ fn take_front<'a>(
 ) -> Result<&'a [u8], AllocError>
     ensures ok { IfOk result (λ rest.
         Taken [] bytes.now rest.now [] (string_bytes output.old) (string_bytes output.new)) }
+    ensures stop { IfOk result (λ rest. LeavesNoLine bytes.now rest.now) }
     ensures err { OnErr result
         (GrowsByFront (cut_lines [] bytes.now)
         (string_bytes output.old) (string_bytes output.new)) }
@@ -154,6 +158,7 @@ fn first_line(text: &str) -> Option<(&str, &str)>
     ensures some { IfSome result (λ cut. text.now ≡ cut.0.now ++ 10 ∷ cut.1.now) }
     ensures line { IfSome result (λ cut. no_feed cut.0.now ≡ true) }
     ensures utf8 { IfSome result (λ cut. IsUtf8 cut.1.now) }
+    ensures none { IfNone result (no_feed text.now ≡ true) }
 {
     let at = first_feed(text.as_bytes())?;
     Some((&text[..at], &text[at + 1..]))
@@ -178,8 +183,8 @@ fn write_out<W: Write>(writer: &mut W, bytes: &[u8]) -> Result<(), RunFault>
 }
 
 // The buffer that a read fills. No clause tells its length, so that no proof counts it out.
-fn room(alloc: Global) -> Result<Vec<u8>, AllocError>
-    ensures { IfOk result (λ room. 0 < length room.items) }
+fn read_buffer(alloc: Global) -> Result<Vec<u8>, AllocError>
+    ensures { IfOk result (λ buffer. 0 < length buffer.items) }
 {
     Vec::from_elem(alloc, 0u8, CHUNK)
 }
@@ -238,10 +243,10 @@ pub fn run<R: Read, W: Write>(alloc: Global, reader: &mut R, writer: &mut W) -> 
     ensures { Ran result (R.remaining reader.old) (R.remaining reader.new) (W.contents writer.old)
         (W.contents writer.new) }
 {
-    let Ok(mut room) = room(alloc) else {
+    let Ok(mut chunk) = read_buffer(alloc) else {
         return Err(RunFault::Memory);
     };
-    let buffer = room.as_mut_slice();
+    let buffer = chunk.as_mut_slice();
     let mut lines = Lines::new(alloc);
     'reads: for _ in 0..u64::MAX {
         let n = turn(alloc, reader, writer, buffer, &mut lines)?;

@@ -1,6 +1,7 @@
 mod algebra;
 mod calling;
 mod cuts;
+mod diagnosis;
 mod difference;
 mod ends;
 mod error;

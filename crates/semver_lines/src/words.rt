@@ -2,11 +2,14 @@
 
 ghost use Rattle.std.specs.Option.{option_copied};
 ghost use Rattle.std.specs.Prelude.{◌≡◌, IfOk, IfSome, Result};
+ghost use Rattle.semver_core.specs.Difference.{kind_word};
 ghost use Rattle.semver_core.specs.Increments.Table as increment;
 ghost use Rattle.semver_core.specs.Increments.View.{Returns, fault_of};
+ghost use Rattle.semver_core.specs.Printing.Text.{version_text};
 ghost use Rattle.semver_core.specs.Values.Versions.{VersionValue};
-ghost use Rattle.semver_lines.specs.Names.{difference_word, increment_fault_word, next_text};
-ghost use Rattle.semver_lines.specs.Names.{order_word, range_or_none, truth_word, version_or_none};
+ghost use Rattle.nodejs_semver.specs.Printing.Text.{range_text};
+ghost use Rattle.semver_lines.specs.Names.{increment_fault_word, next_text, or_none, order_word};
+ghost use Rattle.semver_lines.specs.Names.{truth_word};
 
 use nodejs_semver::{Failure, IncrementError, Range, Version, VersionDiff};
 use std::alloc::AllocError;
@@ -49,7 +52,7 @@ pub fn difference_word<'a>(
     kind: Option<VersionDiff>,
     room: &'a mut String,
 ) -> Result<&'a str, AllocError>
-    ensures { IfOk result (λ text. text.now ≡ difference_word kind) }
+    ensures { IfOk result (λ text. text.now ≡ or_none kind_word kind) }
 {
     match kind {
         Some(kind) => printed(&kind, room),
@@ -63,7 +66,7 @@ pub fn version_or_none<'a>(
     version: Option<&Version>,
     room: &'a mut String,
 ) -> Result<&'a str, AllocError>
-    ensures { IfOk result (λ text. text.now ≡ version_or_none (option_copied version.entry)) }
+    ensures { IfOk result (λ text. text.now ≡ or_none version_text (option_copied version.entry)) }
 {
     match version {
         Some(version) => printed(version, room),
@@ -74,7 +77,7 @@ pub fn version_or_none<'a>(
 /// A range, printed, or `none`.
 #[inline(always)]
 pub fn range_or_none<'a>(range: Option<&Range>, room: &'a mut String) -> Result<&'a str, AllocError>
-    ensures { IfOk result (λ text. text.now ≡ range_or_none (option_copied range.entry)) }
+    ensures { IfOk result (λ text. text.now ≡ or_none range_text (option_copied range.entry)) }
 {
     match range {
         Some(range) => printed(range, room),

@@ -17,7 +17,7 @@ use Rattle.nodejs_semver.specs.Internal.RunsFrom.{runs_of}
 use Rattle.nodejs_semver.specs.Text.Table.{table}
 use Rattle.nodejs_semver.specs.Internal.Words.{word_at, words_within}
 use Rattle.nodejs_semver.proofs.Bounds.Bounded.{word-fine}
-use Rattle.nodejs_semver.proofs.Reading.IdentifierLists.{and-both, and-left, and-right}
+use Rattle.nodejs_semver.proofs.Reading.Steps.{and-both, and-left, and-right}
 use Rattle.nodejs_semver.proofs.Dividing.RunsDivide.{part_divides}
 use Rattle.nodejs_semver.proofs.Bounds.TableRows.{are_bounds, table-bounded}
 

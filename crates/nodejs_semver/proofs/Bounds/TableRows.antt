@@ -18,7 +18,7 @@ use Rattle.nodejs_semver.specs.Ranges.View.{is_range_bound}
 use Rattle.nodejs_semver.specs.Text.Table.{lowest, row, table, version_of, without_build}
 use Rattle.nodejs_semver.specs.Text.WordText.{Comparator, Word, above, at_least, at_most, below, caret, compare, equal, hyphen, malformed, plain, tilde}
 use Rattle.nodejs_semver.proofs.Bounds.Bounded.{Fine, FineWord, Fits}
-use Rattle.nodejs_semver.proofs.Reading.IdentifierLists.{and-both}
+use Rattle.nodejs_semver.proofs.Reading.Steps.{and-both}
 
 -- ---- the versions of the table
 

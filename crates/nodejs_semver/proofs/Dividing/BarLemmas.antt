@@ -1,6 +1,6 @@
 -- The parts of a text, cut at its bars.
 use Rattle.semver_core.specs.Text.Characters.{begins}
-use Rattle.std.proofs.Common.{◌≡◌, ℕ, suc, ◌<◌, ◌≤◌, ◌+◌, List, [], ◌∷◌, length, drop, get_or, refl, sym, ap, ◌∙◌, arith, true, false, Some, None, inl, inr, subst, map, length-drop}
+use Rattle.std.proofs.Common.{◌≡◌, ℕ, suc, ◌<◌, ◌≤◌, ◌+◌, List, [], ◌∷◌, length, drop, get_or, refl, sym, ap, ◌∙◌, arith, true, false, Some, None, inl, inr, subst, map}
 use Rattle.std.specs.Prelude.{Option, nat_lt, IsCharBoundary, IsUtf8}
 use Rattle.std.proofs.lemmas.Bool.{eqb-true, cases_Bool, cases_lt, lt-ltb, le-ltb}
 use Rattle.std.proofs.lemmas.Str.{IsCharBoundary-after_ascii, IsCharBoundary-before_ascii}
@@ -9,7 +9,7 @@ use Rattle.nodejs_semver.specs.Internal.Parts.{cut_bars, parts}
 use Rattle.nodejs_semver.specs.Text.Bars.{is_bar}
 use Rattle.semver_core.specs.Internal.Spaces.{trim}
 use Rattle.nodejs_semver.specs.Internal.PartFronts.{bars_at, begins_bars, front_part, later_parts}
-use Rattle.nodejs_semver.proofs.Reading.IdentifierLists.{and-left, and-right}
+use Rattle.nodejs_semver.proofs.Reading.Steps.{and-left, and-right}
 
 pub bars_fit : (text : List ℕ) → bars_at text ≤ length text
 unfolding bars_at
@@ -127,16 +127,5 @@ parts-front text = ap (λ (ps : List (List ℕ)). map trim ps) (cut_bars-front t
     later : (o : Option (List ℕ)) → map trim (parts_after o) ≡ later_parts o
     later None = refl
     later (Some t) = refl
-
-pub rest-less : (text : List ℕ) (rest : List ℕ) → (front_part text).1 ≡ Some rest → length rest < length text
-rest-less text rest h = elim (cases_lt (bars_at text) (length text)) [
-  | inl less ↦
-      let e : drop (bars_at text + 2) text ≡ rest = inside (rw (lt-ltb _ _ less) at h) in
-      omega (arith, bars_room text less, ap length e, length-drop (bars_at text + 2) text)
-  | inr none ↦ cc (rw (le-ltb _ _ none) at h)
-]
-  where
-    inside : {t u : List ℕ} → Some t ≡ Some u → t ≡ u
-    inside k = cc k
 
 pub ruleset at_bars = (bars_fit, bars_room, bars_boundary, bars_behind)

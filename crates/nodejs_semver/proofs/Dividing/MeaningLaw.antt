@@ -25,7 +25,7 @@ use Rattle.nodejs_semver.specs.Text.Table.{table}
 use Rattle.nodejs_semver.specs.Text.WordText.{Word}
 use Rattle.nodejs_semver.specs.Internal.Words.{word_at, words}
 use Rattle.nodejs_semver.proofs.Dividing.BarsDivide.{bars_divide, bars_once}
-use Rattle.nodejs_semver.proofs.Reading.IdentifierLists.{and-both, and-left, and-right}
+use Rattle.nodejs_semver.proofs.Reading.Steps.{and-both, and-left, and-right}
 use Rattle.nodejs_semver.proofs.Dividing.PartSteps.{words-none}
 use Rattle.nodejs_semver.proofs.Reading.Progress.{spaces-gone, spaces-le, word-shorter, words-step}
 use Rattle.nodejs_semver.proofs.Dividing.RunsDivide.{part_divides}

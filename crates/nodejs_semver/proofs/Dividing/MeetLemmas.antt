@@ -59,5 +59,3 @@ module _ {V : Type 0} {R : V → V → Ordering} (o : IsTotalOrder R) where
   runs-joined [] = refl
   runs-joined (s ∷ rest) = sym (runs_from-joined (record { first = s; others = [] }) rest)
 
-  pub joined-none : (s : Span V) (rest : List (Span V)) → joined R None (s ∷ rest) ≡ joined R (Some s) rest
-  joined-none s rest = refl

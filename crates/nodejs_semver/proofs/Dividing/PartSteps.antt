@@ -45,16 +45,10 @@ pub read-starts : (limit : ℕ) (text after : List ℕ) (o : Option (Span Versio
 read-starts limit text after o e = ap (λ (p : Option (Span VersionValue) × List ℕ). space_len p.1) e ∙ rest-starts limit text
 
 pub read-is : (limit : ℕ) (text after : List ℕ) (o p : Option (Span VersionValue)) → p ≡ o → (o, after) ≡ next_at limit text → (p, after) ≡ next_at limit text
-read-is limit text after o p h e = ap (λ (q : Option (Span VersionValue)). two q after) h ∙ e
-  where
-    two : Option (Span VersionValue) → List ℕ → Option (Span VersionValue) × List ℕ
-    two q t = (q, t)
+read-is limit text after o p h e = rw h e
 
 pub read-next : (limit : ℕ) (text after : List ℕ) → after ≡ (next_at limit text).1 → ◌≡◌ {A = Option (Span VersionValue) × List ℕ} ((next_at limit text).0, after) (next_at limit text)
-read-next limit text after h = ap (λ (t : List ℕ). two (next_at limit text).0 t) h
-  where
-    two : Option (Span VersionValue) → List ℕ → Option (Span VersionValue) × List ℕ
-    two q t = (q, t)
+read-next limit text after h = rw h refl
 
 -- the bounds of the word at the front, before those of what follows
 pub bounds-step : (limit : ℕ) (text : List ℕ) → 0 < length text → space_len text ≡ 0
@@ -71,10 +65,13 @@ pub bounds-none : (limit : ℕ) (text after : List ℕ) → 0 < length text → 
 bounds-none limit text after some h e =
     bounds-step limit text some h ∙ ap (λ (p : Option (Span VersionValue) × List ℕ). cons_option p.0 (part_bounds limit p.1)) (sym e)
 
-bounds-end : (limit : ℕ) (text : List ℕ) → length text ≡ 0 → part_bounds limit text ≡ []
+pub words-none : (limit : ℕ) (text : List ℕ) → length text ≡ 0 → words limit text ≡ []
 unfolding words_within
-bounds-end limit [] h = refl
-bounds-end limit (b ∷ rest) h = absurd (omega arith)
+words-none limit [] h = refl
+words-none limit (b ∷ rest) h = absurd (omega arith)
+
+bounds-end : (limit : ℕ) (text : List ℕ) → length text ≡ 0 → part_bounds limit text ≡ []
+bounds-end limit text h = rw (words-none limit text h) refl
 
 -- the end of the part
 pub words-last : (limit : ℕ) (rest : List ℕ) (last : Span VersionValue) → length rest ≡ 0 → joined_from precedence last (part_bounds limit rest) ≡ last ∷ []
@@ -101,8 +98,3 @@ pub part-last : (limit : ℕ) (text after : List ℕ) (o : Option (Span VersionV
 part-last limit text after None some h none e =
     part-passes limit text after some h e ∙ ap (λ (l : List (Span VersionValue)). joined precedence None l) (bounds-end limit after none)
 part-last limit text after (Some s) some h none e = part-first limit text after s some h e ∙ words-last limit after s none
-
-pub words-none : (limit : ℕ) (text : List ℕ) → length text ≡ 0 → words limit text ≡ []
-unfolding words_within
-words-none limit [] h = refl
-words-none limit (b ∷ rest) h = absurd (omega arith)

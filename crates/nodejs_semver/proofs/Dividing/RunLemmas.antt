@@ -13,21 +13,6 @@ use Rattle.semver_core.proofs.CutLaws.{cut_total, is_past-greater_lower, is_past
 use Rattle.nodejs_semver.specs.Text.Runs.{Run, fits, greatest_lower, interval_of, least_upper, longer, run_items}
 use Rattle.nodejs_semver.specs.Text.WrittenSet.{is_above, is_below, run_writes}
 
--- the greater and the lesser of two, by a test
-pick_same : {A : Type 0} (t : Bool) (x : A) → (if t then x else x) ≡ x
-pick_same true x = refl
-pick_same false x = refl
-
-gt-is : (r : Ordering) → is_gt r ≡ true → r ≡ Greater
-gt-is Less h = cc
-gt-is Equal h = cc
-gt-is Greater h = refl
-
-lt-is : (r : Ordering) → is_lt r ≡ true → r ≡ Less
-lt-is Less h = refl
-lt-is Equal h = cc
-lt-is Greater h = cc
-
 gt-back : (r : Ordering) → is_gt r ≡ true → ordering_reverse r ≡ Less
 gt-back Less h = cc
 gt-back Equal h = cc

@@ -11,7 +11,7 @@ use Rattle.nodejs_semver.specs.Text.Table.{table}
 use Rattle.nodejs_semver.specs.Internal.Words.{words}
 use Rattle.nodejs_semver.specs.Text.Runs.{Run, fits, longer, run_items, AreLongest, AreRuns}
 use Rattle.nodejs_semver.specs.Internal.RunsFrom.{runs_from, runs_of}
-use Rattle.nodejs_semver.proofs.Reading.IdentifierLists.{and-left, and-right, and-both}
+use Rattle.nodejs_semver.proofs.Reading.Steps.{and-left, and-right, and-both}
 use Rattle.nodejs_semver.proofs.Dividing.MeetLemmas.{runs-goes, runs-stops}
 use Rattle.nodejs_semver.proofs.Bounds.TableRows.{table-interval}
 

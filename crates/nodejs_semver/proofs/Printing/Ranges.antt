@@ -1,8 +1,8 @@
 -- For proofs. Printed ranges come back.
-use Rattle.std.proofs.Common.{◌≡◌, ◌<◌, ◌^◌, ℕ, true, List, [], ◌∷◌, ◌++◌, length, map, refl, ap, ap₂, ◌∙◌, arith, inl, inr}
+use Rattle.std.proofs.Common.{◌≡◌, ◌<◌, ◌^◌, ℕ, true, List, [], ◌∷◌, ◌++◌, length, map, refl, ap, ap₂, ◌∙◌, append-nil, arith, inl, inr}
 use Rattle.std.specs.List.{AllByRecursion, list_all}
 use Rattle.std.specs.Prelude.{◌&&◌, ◌||◌}
-use Rattle.std.proofs.lemmas.Bool.{cases_Bool}
+use Rattle.std.proofs.lemmas.Bool.{and_from, and_parts, cases_Bool}
 use Rattle.semver_core.specs.Cuts.{Span, is_interval}
 use Rattle.semver_core.specs.Internal.Readable.{readable}
 use Rattle.semver_core.specs.Values.Order.{precedence, version_eq}
@@ -16,23 +16,23 @@ use Rattle.nodejs_semver.specs.Ranges.Outside.{is_bounded}
 use Rattle.nodejs_semver.specs.Ranges.View.{is_range_bound, is_range_span}
 use Rattle.nodejs_semver.specs.Internal.SameLaws.{bound_refl}
 use Rattle.nodejs_semver.specs.Ranges.Equality.{span_eq, range_eq}
-use Rattle.nodejs_semver.proofs.Reading.IdentifierLists.{and-left, and-right, and-both}
-use Rattle.nodejs_semver.proofs.Printing.Bounds.{IsReadableBound, IsPrintable, ties_self}
-use Rattle.nodejs_semver.proofs.Printing.Parts.{denotes_back}
+use Rattle.nodejs_semver.proofs.Everyday.Words.{Tidy}
+use Rattle.nodejs_semver.proofs.Everyday.Texts.{AreTidy, more_tidy, one_tidy, tidy-denotes}
+use Rattle.nodejs_semver.proofs.Printing.Bounds.{IsReadableBound, bounds_tidy, ties_self}
 
 bounds_same : (lower upper : Bound VersionValue) → span_eq (bounds_back lower upper) (record { lower = lower; upper = upper }) ≡ true
 bounds_same Unbounded upper = bound_refl upper
-bounds_same (After v) upper = and-both _ _ (ties_self v) (bound_refl upper)
-bounds_same (Before v) Unbounded = and-both _ _ (ties_self v) refl
-bounds_same (Before v) (Before w) = and-both _ _ (ties_self v) (ties_self w)
+bounds_same (After v) upper = and_from _ _ (ties_self v) (bound_refl upper)
+bounds_same (Before v) Unbounded = and_from _ _ (ties_self v) refl
+bounds_same (Before v) (Before w) = and_from _ _ (ties_self v) (ties_self w)
 bounds_same (Before v) (After w) = elim (cases_Bool (version_eq v w)) [
-  | inl same ↦ rw same (and-both _ _ (ties_self v) same)
-  | inr other ↦ rw other (and-both _ _ (ties_self v) (ties_self w))
+  | inl same ↦ rw same (and_from _ _ (ties_self v) same)
+  | inr other ↦ rw other (and_from _ _ (ties_self v) (ties_self w))
 ]
 
 pub same_back : (list : List (Span VersionValue)) → range_eq (map read_back list) list ≡ true
 same_back [] = refl
-same_back (s ∷ rest) = and-both (span_eq (read_back s) s) (range_eq (map read_back rest) rest) (bounds_same s.lower s.upper) (same_back rest)
+same_back (s ∷ rest) = and_from (span_eq (read_back s) s) (range_eq (map read_back rest) rest) (bounds_same s.lower s.upper) (same_back rest)
 
 -- the tests of a printable interval, as facts
 bound_readable : (limit : ℕ) (b : Bound VersionValue) → is_range_bound limit b ≡ true → IsReadableBound limit b
@@ -40,28 +40,27 @@ bound_readable limit Unbounded h = tt
 bound_readable limit (Before v) h = readable limit v h
 bound_readable limit (After v) h = readable limit v h
 
-printable : (limit : ℕ) (s : Span VersionValue) → is_printable limit s ≡ true → IsPrintable limit s
-printable limit s h =
-    let range = and-right (is_bounded s.lower || is_bounded s.upper) (is_range_span limit s) h in
-    let bounds = and-right (is_interval precedence s) (is_range_bound limit s.lower && is_range_bound limit s.upper) range in
-    record {
-      proper = and-left (is_interval precedence s) (is_range_bound limit s.lower && is_range_bound limit s.upper) range;
-      bounded = and-left (is_bounded s.lower || is_bounded s.upper) (is_range_span limit s) h;
-      lower = bound_readable limit s.lower (and-left (is_range_bound limit s.lower) (is_range_bound limit s.upper) bounds);
-      upper = bound_readable limit s.upper (and-right (is_range_bound limit s.lower) (is_range_bound limit s.upper) bounds);
-    }
+span_tidy : (limit : ℕ) (s : Span VersionValue) → limit < 2 ^ 64 → is_printable limit s ≡ true → Tidy limit (bounds_text s.lower s.upper) (read_back s)
+span_tidy limit s small h =
+    let both = and_parts (is_bounded s.lower || is_bounded s.upper) (is_range_span limit s) h in
+    let range = and_parts (is_interval precedence s) (is_range_bound limit s.lower && is_range_bound limit s.upper) both.1 in
+    let bounds = and_parts (is_range_bound limit s.lower) (is_range_bound limit s.upper) range.1 in
+    bounds_tidy limit s.lower s.upper small range.0 both.0 (bound_readable limit s.lower bounds.0) (bound_readable limit s.upper bounds.1)
 
-all_printable : (limit : ℕ) (list : List (Span VersionValue)) → list_all (is_printable limit) list ≡ true → AllByRecursion (IsPrintable limit) list
-all_printable limit [] h = tt
-all_printable limit (s ∷ rest) h = (
-  printable limit s (and-left (is_printable limit s) (list_all (is_printable limit) rest) h),
-  all_printable limit rest (and-right (is_printable limit s) (list_all (is_printable limit) rest) h),
-)
+-- a printed range is its intervals' texts between bars
+printed_tidy : (limit : ℕ) (s : Span VersionValue) (rest : List (Span VersionValue)) → limit < 2 ^ 64 → list_all (is_printable limit) (s ∷ rest) ≡ true
+    → AreTidy limit (range_text (s ∷ rest)) (map read_back (s ∷ rest))
+printed_tidy limit s [] small h =
+    rw (append-nil (bounds_text s.lower s.upper)) (one_tidy (bounds_text s.lower s.upper) (read_back s) (span_tidy limit s small (and_parts (is_printable limit s) true h).0))
+printed_tidy limit s (t ∷ rest) small h =
+    let each = and_parts (is_printable limit s) (list_all (is_printable limit) (t ∷ rest)) h in
+    more_tidy (bounds_text s.lower s.upper) [] [] (range_text (t ∷ rest)) (read_back s) (map read_back (t ∷ rest))
+    (span_tidy limit s small each.0) (inl refl) (inl refl) (printed_tidy limit t rest small each.1)
 
 pub reads_back : (limit : ℕ) (text : List ℕ) (list : List (Span VersionValue)) → limit < 2 ^ 64 → 0 < length list → list_all (is_printable limit) list ≡ true
     → text ≡ range_text list → denotes limit text ≡ map read_back list
 reads_back limit text [] small some h e = absurd (omega arith)
-reads_back limit text (s ∷ rest) small some h e = ap (denotes limit) e ∙ denotes_back limit s rest small (all_printable limit (s ∷ rest) h)
+reads_back limit text (s ∷ rest) small some h e = ap (denotes limit) e ∙ (tidy-denotes limit (range_text (s ∷ rest)) (map read_back (s ∷ rest)) (printed_tidy limit s rest small h)).0
 
 -- what is read from a printed interval prints as the same text
 again : (lower upper : Bound VersionValue) → bounds_text (bounds_back lower upper).lower (bounds_back lower upper).upper ≡ bounds_text lower upper

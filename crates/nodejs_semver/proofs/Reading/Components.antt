@@ -2,30 +2,15 @@
 use Rattle.std.proofs.Common.{◌≡◌, ℕ, ◌<◌, ◌≤◌, List, [], ◌∷◌, ◌++◌, length, drop, refl, sym, ap, ◌∙◌, arith, true, false, Some, None, inl, inr, subst, append_assoc, length-append}
 use Rattle.std.specs.Prelude.{Bool, Option, ◌||◌, ◌==◌}
 use Rattle.std.specs.Char.{is_ascii_digit}
-use Rattle.std.specs.List.{list_all, take_while, prefix_len}
 use Rattle.std.proofs.lemmas.Bool.{cases_Bool, eqb-true}
-use Rattle.std.proofs.lemmas.List.{take-append-drop}
 use Rattle.semver_core.specs.Text.Characters.{begins}
-use Rattle.nodejs_semver.specs.Internal.Fronts.{Front, begins_wildcard, build_front, component_front, dotted_front, minor_front, number_front, number_of, patch_front, pre_release_front}
+use Rattle.nodejs_semver.specs.Internal.Fronts.{Front, begins_wildcard, build_front, component_front, dotted_front, minor_front, number_front, patch_front, pre_release_front}
 use Rattle.nodejs_semver.specs.Text.PartialText.{AreComponents, IsComponent, Partial, is_wildcard, number, one, three, two, wildcard}
-use Rattle.nodejs_semver.proofs.Reading.DigitValues.{is_empty-false}
-use Rattle.nodejs_semver.proofs.Reading.IdentifierLists.{and-left}
-use Rattle.nodejs_semver.proofs.Reading.NumberLaw.{number-is, number-of}
-use Rattle.nodejs_semver.proofs.Reading.Pieces.{bind-some, digit-no_wildcard, digits-end, number-then, run-ends, wildcard-no_digit, wildcard_front}
+use Rattle.nodejs_semver.proofs.Reading.Bytes.{all-begin, all-end, begins-on, begins_component, is_component_byte}
+use Rattle.nodejs_semver.proofs.Reading.Numbers.{digit-no_wildcard, number-found, number-read, number_first, wildcard-no_digit}
 use Rattle.nodejs_semver.proofs.Reading.Qualifiers.{build-read, build_front-le, pre-read, pre_release_front-le, qualifier-passed}
 use Rattle.nodejs_semver.proofs.Reading.Quiet.{Quiet, Stop, quiet-append, quiet-before, quiet-behind, quiet-both, quiet-front, quiet-further}
-
-pub first-same : {A B : Type 0} (p q : A × B) → Some p ≡ Some q → p.0 ≡ q.0
-first-same {A} {B} p q h = ap (λ (x : A × B). x.0) (inside h)
-  where
-    inside : Some p ≡ Some q → p ≡ q
-    inside k = cc k
-
-pub second-same : {A B : Type 0} (p q : A × B) → Some p ≡ Some q → p.1 ≡ q.1
-second-same {A} {B} p q h = ap (λ (x : A × B). x.1) (inside h)
-  where
-    inside : Some p ≡ Some q → p ≡ q
-    inside k = cc k
+use Rattle.nodejs_semver.proofs.Reading.Steps.{bind-some, inside}
 
 -- ---- one component
 
@@ -34,32 +19,25 @@ component-some limit c v (wildcard b h) = omega arith
 component-some limit c v (number digits n h) = h.some
 
 -- it begins with a wildcard or a digit
-abbrev pub begins_component : List ℕ → Bool
-begins_component [] = false
-begins_component (b ∷ rest) = is_wildcard b || is_ascii_digit b
-
-pub begins-longer : (c t : List ℕ) → begins_component c ≡ true → begins_component (c ++ t) ≡ true
-begins-longer [] t h = cc h
-begins-longer (b ∷ c) t h = h
-
 component-begins : (limit : ℕ) (c : List ℕ) (v : Option ℕ) → IsComponent limit c v → begins_component c ≡ true
 component-begins limit c v (wildcard b h) = rw h refl
-component-begins limit c v (number digits n h) = digit digits h.some h.each
+component-begins limit c v (number digits n h) = digit digits (all-begin is_ascii_digit digits h.some h.each)
   where
-    digit : (run : List ℕ) → 0 < length run → list_all is_ascii_digit run ≡ true → begins_component run ≡ true
-    digit [] s k = absurd (omega arith)
-    digit (b ∷ rest) s k = let d = and-left (is_ascii_digit b) (list_all is_ascii_digit rest) k in rw (digit-no_wildcard b d, d) refl
+    digit : (run : List ℕ) → begins is_ascii_digit run ≡ true → begins_component run ≡ true
+    digit [] k = k
+    digit (b ∷ rest) k = rw (digit-no_wildcard b k, k) refl
 
 pub components-begin : (limit : ℕ) (x : List ℕ) (p : Partial) → AreComponents limit x p → begins_component x ≡ true
 components-begin limit x p (one c a h) = component-begins limit c a h
-components-begin limit x p (two c d a b h k) = begins-longer c (46 ∷ d) (component-begins limit c a h)
-components-begin limit x p (three c d e pre build q h k l quiet m n) = begins-longer c _ (component-begins limit c q.major h)
+components-begin limit x p (two c d a b h k) = begins-on is_component_byte c (46 ∷ d) (component-begins limit c a h)
+components-begin limit x p (three c d e pre build q h k l quiet m n) = begins-on is_component_byte c _ (component-begins limit c q.major h)
 
 component-then : (limit : ℕ) (c more : List ℕ) (v : Option ℕ) → IsComponent limit c v → Quiet c more → component_front limit (c ++ more) ≡ Some (v, more)
-component-then limit c more v (wildcard b h) quiet = wildcard_front limit b more h
+unfolding component_front
+component-then limit c more v (wildcard b h) quiet = rw h refl
 component-then limit c more v (number digits n h) quiet =
-    let stop : begins is_ascii_digit more ≡ false = rw (digits-end digits (is_empty-false digits h.some) h.each) at quiet in
-    number-then limit digits more n (number-of limit digits n h) stop
+    let stop : begins is_ascii_digit more ≡ false = rw (all-end is_ascii_digit digits h.some h.each) at quiet in
+    number_first limit (digits ++ more) more n (number-read limit digits more n h stop)
 
 dotted-then : (limit : ℕ) (c more : List ℕ) (v : Option ℕ) → IsComponent limit c v → Quiet c more → dotted_front limit (46 ∷ (c ++ more)) ≡ Some (v, more)
 unfolding dotted_front
@@ -76,30 +54,16 @@ component-read limit x v r h = elim (cases_Bool (begins_wildcard x)) [
   | inl wild ↦ wild_case x wild (rw wild at h)
   | inr other ↦
       let n = bind-some (number_front limit x) (λ n. Some (Some n.0, n.1)) (v, r) (rw other at h) in
-      let run = take_while is_ascii_digit x in
-      let left = drop (prefix_len is_ascii_digit x) x in
-      let m = bind-some (number_of limit run) (λ k. Some (k, left)) n.0 n.1 in
-      let value : Some m.0 ≡ v = ap Some (first-same (m.0, left) n.0 m.2) ∙ first-same (Some n.0.0, n.0.1) (v, r) n.2 in
-      let rest : left ≡ r = second-same (m.0, left) n.0 m.2 ∙ second-same (Some n.0.0, n.0.1) (v, r) n.2 in (
-        run,
-        record {
-          split = sym (take-append-drop (prefix_len is_ascii_digit x) x) ∙ ap (λ (t : List ℕ). run ++ t) rest;
-          is = subst (λ (o : Option ℕ). IsComponent limit run o) value (number run m.0 (number-is limit run m.0 m.1));
-          quiet = quiet-before run r (subst (λ (t : List ℕ). begins is_ascii_digit t ≡ false) rest (run-ends x));
-        },
-      )
+      let f = number-found limit x n.0.0 n.0.1 n.1 in
+      subst (λ (q : Option ℕ × List ℕ). (c : List ℕ) × Component limit x c q.1 q.0) (inside n.2)
+      (f.run, record { split = f.split; is = number f.run n.0.0 f.is; quiet = quiet-before f.run n.0.1 f.ended })
 ]
   where
     wild_case : (x : List ℕ) → begins_wildcard x ≡ true → ◌≡◌ {A = Front (Option ℕ)} (Some (None, drop 1 x)) (Some (v, r)) → (c : List ℕ) × Component limit x c r v
     wild_case [] w k = cc w
-    wild_case (b ∷ y) w k = (
-      b ∷ [],
-      record {
-        split = ap (λ (t : List ℕ). b ∷ t) (second-same (None, y) (v, r) k);
-        is = subst (λ (o : Option ℕ). IsComponent limit (b ∷ []) o) (first-same (None, y) (v, r) k) (wildcard b w);
-        quiet = rw (wildcard-no_digit b w) refl;
-      },
-    )
+    wild_case (b ∷ y) w k =
+        subst (λ (q : Option ℕ × List ℕ). (c : List ℕ) × Component limit (b ∷ y) c q.1 q.0) (inside k)
+        (b ∷ [], record { split = refl; is = wildcard b w; quiet = rw (wildcard-no_digit b w) refl })
 
 dotted-read : (limit : ℕ) (x : List ℕ) (v : Option ℕ) (r : List ℕ) → dotted_front limit x ≡ Some (v, r) → (c : List ℕ) × (x ≡ 46 ∷ (c ++ r)) × Component limit (c ++ r) c r v
 unfolding dotted_front

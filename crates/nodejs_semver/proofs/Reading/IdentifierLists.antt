@@ -1,238 +1,138 @@
 -- Identifiers joined by dots: the longest list at the front of a text.
-use Rattle.std.proofs.Common.{◌≡◌, ℕ, suc, ◌<◌, ◌≤◌, ◌+◌, List, [], ◌∷◌, ◌++◌, length, take, drop, get_or, refl, sym, ◌∙◌, arith, Bool, true, false, inl, inr}
-use Rattle.std.specs.Prelude.{◌&&◌, ◌||◌}
-use Rattle.std.specs.List.{list_all, slice_split, onto_first}
-use Rattle.std.proofs.lemmas.Bool.{cases_Bool, eqb-true, lt-ltb}
-use Rattle.std.proofs.lemmas.Bool.Decides.{nat_tests}
-use Rattle.std.proofs.lemmas.List.Splits.{slice_split-cons_yes, slice_split-cons_no}
-use Rattle.std.proofs.lemmas.List.{drop_more, drop_all}
-use Rattle.semver_core.specs.Text.Characters.{is_identifier_char}
-use Rattle.semver_core.specs.Text.Identifiers.{Numeric, is_identifier, goes_on, is_listed, listed}
-use Rattle.nodejs_semver.specs.Internal.Fronts.{is_dot, begins_identifier, run_on, list_len}
+use Rattle.std.proofs.Common.{◌≡◌, ℕ, ◌<◌, ◌≤◌, ◌+◌, List, [], ◌∷◌, ◌++◌, length, take, drop, get_or, refl, sym, ap, ◌∙◌, arith, true, false, inl, inr, subst, length-append, length-drop}
+use Rattle.std.specs.Prelude.{◌==◌, map}
+use Rattle.std.specs.List.{list_all, onto_first}
+use Rattle.std.proofs.lemmas.Bool.{cases_Bool, eqb-true}
+use Rattle.std.proofs.lemmas.List.{drop_more, drop_all, take_at, drop_at}
+use Rattle.semver_core.specs.Text.Characters.{begins, is_identifier_char}
+use Rattle.semver_core.specs.Text.Identifiers.{Id, IsIdentifiers, Numeric, goes_on, identifier_of, is_identifier, is_listed, listed, pieces}
+use Rattle.semver_core.specs.Internal.Reading.{list_len, list_of}
+use Rattle.semver_core.specs.Lists.{is_empty}
+use Rattle.semver_core.proofs.Text.Pieces.{first_char, list_ended, list_sound, runs_begin, runs_tail, tail_onto, tail_runs}
+use Rattle.nodejs_semver.specs.Internal.Fronts.{begins_identifier, front_len, split_list}
 
-pub and-left : (a b : Bool) → (a && b) ≡ true → a ≡ true
-and-left true b h = refl
-and-left false b h = cc h
+-- ---- what is read is a list
 
-pub and-right : (a b : Bool) → (a && b) ≡ true → b ≡ true
-and-right true b h = h
-and-right false b h = cc h
-
-pub and-both : (a b : Bool) → a ≡ true → b ≡ true → (a && b) ≡ true
-and-both a b e f = rw (e, f) refl
-
--- the first part, and the others
-abbrev head_of : List (List ℕ) → List ℕ
-head_of [] = []
-head_of (p ∷ ps) = p
-
-abbrev tail_of : List (List ℕ) → List (List ℕ)
-tail_of [] = []
-tail_of (p ∷ ps) = ps
-
-head-onto : (b : ℕ) (ps : List (List ℕ)) → head_of (onto_first b ps) ≡ b ∷ head_of ps
-head-onto b [] = refl
-head-onto b (p ∷ ps) = refl
-
-tail-onto : (b : ℕ) (ps : List (List ℕ)) → tail_of (onto_first b ps) ≡ tail_of ps
-tail-onto b [] = refl
-tail-onto b (p ∷ ps) = refl
-
-runs-onto : (b : ℕ) (ps : List (List ℕ)) → list_all is_identifier (onto_first b ps) ≡ (is_identifier_char b && list_all is_identifier_char (head_of ps) && list_all is_identifier (tail_of ps))
-runs-onto b [] = grind (arith, nat_tests)
-runs-onto b (p ∷ ps) = rw (lt-ltb 0 (length (b ∷ p)) (omega arith)) refl
-
--- each part is a run, but for the first, which may be empty
-unfoldable pub carries_on : List ℕ → Bool
-carries_on text = list_all is_identifier_char (head_of (slice_split is_dot text)) && list_all is_identifier (tail_of (slice_split is_dot text))
-
--- each part is a run
-unfoldable pub is_list : List ℕ → Bool
-is_list text = list_all is_identifier (slice_split is_dot text)
-
--- a dot is no character of identifiers
-dot-other : (b : ℕ) → is_dot b ≡ true → is_identifier_char b ≡ false
-dot-other b h = rw (eqb-true b 46 h) refl
-
-and-assoc : (a b c : Bool) → (a && b && c) ≡ (a && (b && c))
-and-assoc true b c = refl
-and-assoc false b c = refl
-
-pub carries_on-dot : (b : ℕ) (rest : List ℕ) → is_dot b ≡ true → carries_on (b ∷ rest) ≡ is_list rest
-unfolding carries_on is_list
-carries_on-dot b rest h = rw (slice_split-cons_yes is_dot b rest h) refl
-
-pub carries_on-other : (b : ℕ) (rest : List ℕ) → is_dot b ≡ false → carries_on (b ∷ rest) ≡ (is_identifier_char b && carries_on rest)
-unfolding carries_on
-carries_on-other b rest h =
-    let ps = slice_split is_dot rest in
-    rw (slice_split-cons_no is_dot b rest h, head-onto b ps, tail-onto b ps)
-    (and-assoc (is_identifier_char b) (list_all is_identifier_char (head_of ps)) (list_all is_identifier (tail_of ps)))
-
-pub is_list-dot : (b : ℕ) (rest : List ℕ) → is_dot b ≡ true → is_list (b ∷ rest) ≡ false
-unfolding is_list
-is_list-dot b rest h = rw (slice_split-cons_yes is_dot b rest h) refl
-
-pub is_list-other : (b : ℕ) (rest : List ℕ) → is_dot b ≡ false → is_list (b ∷ rest) ≡ (is_identifier_char b && carries_on rest)
-unfolding is_list carries_on
-is_list-other b rest h =
-    let ps = slice_split is_dot rest in
-    rw (slice_split-cons_no is_dot b rest h)
-    (runs-onto b ps ∙ and-assoc (is_identifier_char b) (list_all is_identifier_char (head_of ps)) (list_all is_identifier (tail_of ps)))
-
--- a list begins with a character of identifiers
-pub is_list-begins : (text : List ℕ) → is_list text ≡ true → begins_identifier text ≡ true
-unfolding is_list
-is_list-begins [] h = h
-is_list-begins (b ∷ rest) h = elim (cases_Bool (is_dot b)) [
-  | inl dot ↦ cc (sym (is_list-dot b rest dot) ∙ h)
-  | inr other ↦ and-left (is_identifier_char b) (carries_on rest) (sym (is_list-other b rest other) ∙ h)
-]
-
-pub is_list-carries_on : (text : List ℕ) → is_list text ≡ true → carries_on text ≡ true
-unfolding is_list
-is_list-carries_on [] h = cc h
-is_list-carries_on (b ∷ rest) h = elim (cases_Bool (is_dot b)) [
-  | inl dot ↦ cc (sym (is_list-dot b rest dot) ∙ h)
-  | inr other ↦ carries_on-other b rest other ∙ (sym (is_list-other b rest other) ∙ h)
-]
-
-carries_on-nil : carries_on [] ≡ true
-unfolding carries_on
-carries_on-nil = refl
-
-pub begins-append : (text more : List ℕ) → begins_identifier text ≡ true → begins_identifier (text ++ more) ≡ true
-begins-append [] more h = cc h
-begins-append (b ∷ rest) more h = h
-
-run_on-identifier : (b : ℕ) (rest : List ℕ) → is_identifier_char b ≡ true → run_on (b ∷ rest) ≡ suc (run_on rest)
-unfolding run_on
-run_on-identifier b rest h = rw h refl
-
-run_on-dot : (b : ℕ) (rest : List ℕ) → is_dot b ≡ true → begins_identifier rest ≡ true → run_on (b ∷ rest) ≡ suc (run_on rest)
-unfolding run_on
-run_on-dot b rest h k = rw (dot-other b h, h, k) refl
-
-run_on-none : (b : ℕ) (rest : List ℕ) → is_identifier_char b ≡ false → (is_dot b && begins_identifier rest) ≡ false → run_on (b ∷ rest) ≡ 0
-unfolding run_on
-run_on-none b rest h k = rw (h, k) refl
-
-run_on-nil : run_on [] ≡ 0
-unfolding run_on
-run_on-nil = refl
-
--- a text that goes on is skipped, whatever follows it
-pub run_on-append : (text more : List ℕ) → carries_on text ≡ true → run_on (text ++ more) ≡ length text + run_on more
-run_on-append [] more h = omega arith
-run_on-append (b ∷ rest) more h = elim (cases_Bool (is_dot b)) [
-  | inl dot ↦
-      let all : is_list rest ≡ true = sym (carries_on-dot b rest dot) ∙ h in
-      let more_of = run_on-append rest more (is_list-carries_on rest all) in
-      omega (arith, run_on-dot b (rest ++ more) dot (begins-append rest more (is_list-begins rest all)))
-  | inr other ↦
-      let all : (is_identifier_char b && carries_on rest) ≡ true = sym (carries_on-other b rest other) ∙ h in
-      let more_of = run_on-append rest more (and-right (is_identifier_char b) (carries_on rest) all) in
-      omega (arith, run_on-identifier b (rest ++ more) (and-left (is_identifier_char b) (carries_on rest) all))
-]
-
-is_list-cons : (b : ℕ) (rest : List ℕ) → is_identifier_char b ≡ true → carries_on rest ≡ true → is_list (b ∷ rest) ≡ true
-is_list-cons b rest one more = elim (cases_Bool (is_dot b)) [
-  | inl dot ↦ cc (sym one ∙ dot-other b dot)
-  | inr other ↦ is_list-other b rest other ∙ and-both (is_identifier_char b) (carries_on rest) one more
-]
-
--- what is taken behind a character of identifiers is a list
-run_on-list : (text : List ℕ) → begins_identifier text ≡ true → carries_on (take (run_on text) text) ≡ true → is_list (take (run_on text) text) ≡ true
-run_on-list [] h g = cc h
-run_on-list (b ∷ rest) h g =
-    let e = run_on-identifier b rest h in
-    elim (cases_Bool (is_dot b)) [
-      | inl dot ↦ cc (sym h ∙ dot-other b dot)
-      | inr other ↦ rw e (is_list-other b (take (run_on rest) rest) other ∙ (sym (carries_on-other b (take (run_on rest) rest) other) ∙ (rw e at g)))
-    ]
-
--- what is taken goes on
-run_on-carries_on : (text : List ℕ) → carries_on (take (run_on text) text) ≡ true
-run_on-carries_on [] = rw run_on-nil carries_on-nil
-run_on-carries_on (b ∷ rest) = elim (cases_Bool (is_identifier_char b)) [
-  | inl one ↦ rw (run_on-identifier b rest one) (is_list-carries_on _ (is_list-cons b (take (run_on rest) rest) one (run_on-carries_on rest)))
-  | inr no_run ↦ elim (cases_Bool (is_dot b && begins_identifier rest)) [
-    | inl both ↦
-        let dot = and-left (is_dot b) (begins_identifier rest) both in
-        let begins = and-right (is_dot b) (begins_identifier rest) both in
-        rw (run_on-dot b rest dot begins) (carries_on-dot b (take (run_on rest) rest) dot ∙ run_on-list rest begins (run_on-carries_on rest))
-    | inr none ↦ rw (run_on-none b rest no_run none) carries_on-nil
-  ]
-]
-
--- the longest list at the front is a list, and no list at the front is longer
-pub list_len-is_list : (text : List ℕ) → begins_identifier text ≡ true → is_list (take (list_len text) text) ≡ true
+list_len-le : (text : List ℕ) → list_len text ≤ length text
 unfolding list_len
-list_len-is_list text h = rw h (run_on-list text h (run_on-carries_on text))
-
-pub list_len-append : (text more : List ℕ) → is_list text ≡ true → list_len (text ++ more) ≡ length text + run_on more
-unfolding list_len
-list_len-append text more h =
-    rw (begins-append text more (is_list-begins text h)) (run_on-append text more (is_list-carries_on text h))
-
--- how much is taken is within the text
-pub run_on-le : (text : List ℕ) → run_on text ≤ length text
-unfolding run_on
-run_on-le [] = omega arith
-run_on-le (b ∷ rest) = elim (cases_Bool (is_identifier_char b || (is_dot b && begins_identifier rest))) [
-  | inl goes ↦ let less = run_on-le rest in rw goes (omega arith)
+list_len-le [] = omega arith
+list_len-le (b ∷ rest) = elim (cases_Bool (goes_on (b ∷ rest))) [
+  | inl goes ↦ let less = list_len-le rest in rw goes (omega arith)
   | inr stops ↦ rw stops (omega arith)
 ]
 
-pub list_len-le : (text : List ℕ) → list_len text ≤ length text
-unfolding list_len
-list_len-le text = elim (cases_Bool (begins_identifier text)) [
-  | inl some ↦ rw some (run_on-le text)
+pub front_len-fits : (text : List ℕ) → front_len text ≤ length text
+unfolding front_len
+front_len-fits text = elim (cases_Bool (begins_identifier text)) [
+  | inl some ↦ rw some (list_len-le text)
   | inr none ↦ rw none (omega arith)
 ]
 
-pub list_len_fits : (text : List ℕ) → list_len text ≤ length text
-list_len_fits text = list_len-le text
+-- the runs of the list at the front
+taken-runs : (text : List ℕ) → begins_identifier text ≡ true → list_all is_identifier (pieces (take (list_len text) text)) ≡ true
+taken-runs text h =
+    let n = list_len text in
+    let zero : 0 + n ≡ n = omega arith in
+    let read = (list_sound text 0 (list_of text) (0 + n) (rw h refl)).1 in
+    let whole : text ≡ read.0 ++ drop n text = read.1 ∙ ap (λ (k : ℕ). read.0 ++ drop k text) zero in
+    let size : length read.0 ≡ n = omega (arith, ap length whole, length-append read.0 (drop n text), length-drop n text, list_len-le text) in
+    subst (λ (t : List ℕ). list_all is_identifier (pieces t) ≡ true) (sym (take_at read.0 (drop n text) n size) ∙ ap (λ (t : List ℕ). take n t) (sym whole)) read.2.identifiers.runs
 
--- a loop that goes on at place i, and one that ends there
-pub run_on-more : (text : List ℕ) (i : ℕ) → i < length text → goes_on (drop i text) ≡ true → run_on (drop i text) ≡ suc (run_on (drop (i + 1) text))
-unfolding run_on
-run_on-more text i lt h =
+identifiers-are : (t : List ℕ) → list_all is_identifier (pieces t) ≡ true → IsIdentifiers t (listed t)
+unfolding listed
+identifiers-are [] h = cc h
+identifiers-are (b ∷ t) h = record { runs = h; spelled = refl }
+
+pub front-identifiers : (text : List ℕ) → begins_identifier text ≡ true → IsIdentifiers (take (front_len text) text) (listed (take (front_len text) text))
+unfolding front_len
+front-identifiers text h = rw h (identifiers-are (take (list_len text) text) (taken-runs text h))
+
+pub front-ended : (text : List ℕ) → begins_identifier text ≡ true → goes_on (drop (front_len text) text) ≡ false
+unfolding front_len
+front-ended text h = rw h (list_ended text)
+
+pub front_len-none : (text : List ℕ) → begins_identifier text ≡ false → front_len text ≡ 0
+unfolding front_len
+front_len-none text h = rw h refl
+
+-- ---- a written list is read, and what goes on behind it
+
+list_len-append : (s more : List ℕ) → tail_runs (pieces s) ≡ true → list_len (s ++ more) ≡ length s + list_len more
+unfolding list_len
+list_len-append [] more h = omega arith
+list_len-append (c ∷ s) more h = elim (cases_Bool (c == 46)) [
+  | inl dot ↦
+      let runs : list_all is_identifier (pieces s) ≡ true = rw dot at h in
+      rw (eqb-true c 46 dot, runs_begin s more runs, list_len-append s more (runs_tail (pieces s) runs)) (omega arith)
+  | inr other ↦
+      let split : tail_runs (onto_first c (pieces s)) ≡ true = rw other at h in
+      rw (first_char c (pieces s) split, list_len-append s more (tail_onto c (pieces s) split)) (omega arith)
+]
+
+written-len : (t more : List ℕ) (l : List Id) → IsIdentifiers t l → front_len (t ++ more) ≡ length t + list_len more
+unfolding front_len
+written-len t more l h = rw (runs_begin t more h.runs) (list_len-append t more (runs_tail (pieces t) h.runs))
+
+pub written-begins : (t more : List ℕ) (l : List Id) → IsIdentifiers t l → begins_identifier (t ++ more) ≡ true
+written-begins t more l h = runs_begin t more h.runs
+
+-- no less is read than it, and no more where nothing goes on
+pub written-le : (t more : List ℕ) (l : List Id) → IsIdentifiers t l → length (drop (front_len (t ++ more)) (t ++ more)) ≤ length more
+written-le t more l h = omega (arith, length-drop (front_len (t ++ more)) (t ++ more), length-append t more, written-len t more l h)
+
+pub written-exact : (t more : List ℕ) (l : List Id) → IsIdentifiers t l → list_len more ≡ 0 → split_list (t ++ more) ≡ (t, more)
+written-exact t more l h stop =
+    let size : front_len (t ++ more) ≡ length t = omega (arith, written-len t more l h, stop) in
+    rw (size, take_at t more (length t) refl, drop_at t more (length t) refl) refl
+
+pub written-spelled : (t : List ℕ) (l : List Id) → IsIdentifiers t l → listed t ≡ l
+unfolding listed
+written-spelled [] l h = cc h.runs
+written-spelled (b ∷ t) l h = sym h.spelled
+
+-- ---- the loop that counts: it goes on at a place, ends early, and ends with the text
+
+pub list_len-more : (text : List ℕ) (i : ℕ) → i < length text → goes_on (drop i text) ≡ true → list_len (drop i text) ≡ 1 + list_len (drop (i + 1) text)
+unfolding list_len
+list_len-more text i lt h =
     let goes : goes_on (get_or text i 0 ∷ drop (i + 1) text) ≡ true = rw (drop_more text i 0 lt) at h in
     rw (drop_more text i 0 lt, goes) refl
 
-pub run_on-stop : (text : List ℕ) → goes_on text ≡ false → run_on text ≡ 0
-unfolding run_on
-run_on-stop [] h = refl
-run_on-stop (b ∷ rest) h = rw h refl
-
--- the loop that counts, where it ends early, goes on, and ends with the text
-pub list_len-stop : (text : List ℕ) (i : ℕ) → begins_identifier text ≡ true → run_on text ≡ i + run_on (drop i text)
-    → goes_on (drop i text) ≡ false → i ≡ list_len text
+list_len-end : (text : List ℕ) → goes_on text ≡ false → list_len text ≡ 0
 unfolding list_len
-list_len-stop text i begins inv stop = rw begins (omega (arith, run_on-stop (drop i text) stop))
+list_len-end [] h = refl
+list_len-end (b ∷ rest) h = rw h refl
 
-pub list_len-whole : (text : List ℕ) (i : ℕ) → begins_identifier text ≡ true → run_on text ≡ i + run_on (drop i text)
-    → length text ≤ i → i ≤ length text → length text ≡ list_len text
-unfolding list_len
-list_len-whole text i begins inv all within = rw begins (omega (arith, rw (drop_all i text all) at inv, run_on-nil))
+pub front_len-is : (text : List ℕ) (i : ℕ) → begins_identifier text ≡ true → list_len text ≡ i + list_len (drop i text) → goes_on (drop i text) ≡ false → i ≡ front_len text
+unfolding front_len
+front_len-is text i begins inv stop = rw begins (omega (arith, list_len-end (drop i text) stop))
 
--- what is taken is empty or a list
-is_list-listed : (text : List ℕ) → is_list text ≡ true → is_listed text ≡ true
-unfolding is_list is_listed
-is_list-listed [] h = refl
-is_list-listed (b ∷ rest) h = h
+-- ---- what is taken is empty or a list
+
+is_listed-from : (t : List ℕ) (l : List Id) → IsIdentifiers t l → is_listed t ≡ true
+unfolding is_listed
+is_listed-from [] l h = refl
+is_listed-from (b ∷ t) l h = h.runs
 
 pub listed_nil : is_listed [] ≡ true
 unfolding is_listed
 listed_nil = refl
 
-pub listed_taken : (text : List ℕ) → is_listed (take (list_len text) text) ≡ true
-unfolding list_len
+pub listed_taken : (text : List ℕ) → is_listed (take (front_len text) text) ≡ true
 listed_taken text = elim (cases_Bool (begins_identifier text)) [
-  | inl some ↦ is_list-listed (take (list_len text) text) (list_len-is_list text some)
-  | inr none ↦ rw none listed_nil
+  | inl some ↦ is_listed-from (take (front_len text) text) (listed (take (front_len text) text)) (front-identifiers text some)
+  | inr none ↦ rw (front_len-none text none) listed_nil
 ]
+
+-- no list spells no identifiers
+pub listed_empty : (t : List ℕ) → is_empty (listed t) ≡ is_empty t
+unfolding listed
+listed_empty [] = refl
+listed_empty (b ∷ t) = elim (cases_Bool (b == 46)) [ inl dot ↦ rw dot refl | inr other ↦ rw other (first (pieces t)) ]
+  where
+    first : (ps : List (List ℕ)) → is_empty (map identifier_of (onto_first b ps)) ≡ false
+    first [] = refl
+    first (p ∷ ps) = refl
 
 -- the empty text, and `0`
 pub nothing_spelled : listed [] ≡ []
@@ -247,6 +147,6 @@ pub zero_spelled : listed (48 ∷ []) ≡ Numeric 0 ∷ []
 unfolding listed
 zero_spelled = refl
 
-pub ruleset listed_front = (list_len_fits, listed_taken)
+pub ruleset listed_front = (front_len-fits, listed_taken)
 
 pub ruleset short_lists = (listed_nil, nothing_spelled, zero_listed, zero_spelled)

@@ -3,7 +3,7 @@ use Rattle.std.proofs.Common.{◌≡◌, ◌⊎◌, ℕ, ◌<◌, ◌≤◌, Lis
 use Rattle.std.specs.Prelude.{◌==◌, ◌||◌, ◌↔◌, Option, IsUtf8, encode_utf8_all}
 use Rattle.std.specs.Char.{encode_utf8, is_ascii_digit}
 use Rattle.std.specs.List.{list_all}
-use Rattle.std.proofs.lemmas.Bool.{cases_Bool, eqb-true, lt-ltb}
+use Rattle.std.proofs.lemmas.Bool.{and_parts, cases_Bool, eqb-true}
 use Rattle.std.proofs.lemmas.Bool.Decides.{nat_tests}
 use Rattle.std.proofs.lemmas.List.{take_at, drop_at}
 use Rattle.std.proofs.lemmas.Str.{IsUtf8-drop, IsCharBoundary-after_ascii, encodes-append, len_utf8_bounds}
@@ -15,39 +15,23 @@ use Rattle.semver_core.proofs.Text.Trims.{drop_spaces-blank, fronted}
 use Rattle.nodejs_semver.specs.Internal.Fronts.{component_front, dotted_front, drop_v, minor_front, partial_front}
 use Rattle.nodejs_semver.specs.Text.LongestText.{BeginsPartial, IsLongestPartial}
 use Rattle.nodejs_semver.specs.Text.PartialText.{AreComponents, IsPartial, Partial, is_wildcard}
-use Rattle.nodejs_semver.proofs.Reading.IdentifierLists.{and-left}
-use Rattle.nodejs_semver.proofs.Reading.Components.{Passes, Read, begins_component, begins-longer, components-begin, components-read, components-then, first-same, second-same}
-use Rattle.nodejs_semver.proofs.Reading.Pieces.{bind-some}
+use Rattle.nodejs_semver.proofs.Reading.Steps.{bind-some, first-same, inside, second-same}
+use Rattle.nodejs_semver.proofs.Reading.Bytes.{begins-on, begins-some, begins_component, component-solid, is_component_byte, solid-dark}
+use Rattle.nodejs_semver.proofs.Reading.Components.{Passes, Read, components-begin, components-read, components-then}
 use Rattle.nodejs_semver.proofs.Reading.Quiet.{Quiet, Stop, quiet-append, quiet-before, quiet-last, stop-nil}
 use Rattle.nodejs_semver.proofs.Dividing.Trimmed.{dark-starts}
-
--- the value of an option that has one
-pub inside : {A : Type 0} {x y : A} → Some x ≡ Some y → x ≡ y
-inside h = cc h
 
 -- ---- a text that begins with a component has neither `v` nor whitespace in front
 
 begins-no_v : (b : ℕ) → (is_wildcard b || is_ascii_digit b) ≡ true → (b == 118) ≡ false
 begins-no_v b h = grind (arith, nat_tests)
 
-pub front-dark : (text : List ℕ) → begins_component text ≡ true → space_len text ≡ 0
-unfolding space_len
-front-dark [] h = cc h
-front-dark (b ∷ rest) h = rw (lt-ltb b 128 (low b h), dark b h) refl
-  where
-    low : (b : ℕ) → (is_wildcard b || is_ascii_digit b) ≡ true → b < 128
-    low b h = grind (arith, nat_tests)
+front-dark : (text : List ℕ) → begins_component text ≡ true → space_len text ≡ 0
+front-dark text h = solid-dark text (component-solid text h)
 
-    dark : (b : ℕ) → (is_wildcard b || is_ascii_digit b) ≡ true → is_whitespace b ≡ false
-    dark b h = grind (arith, nat_tests)
-
-pub front-kept : (text : List ℕ) → begins_component text ≡ true → drop_spaces (drop_v text) ≡ text
+front-kept : (text : List ℕ) → begins_component text ≡ true → drop_spaces (drop_v text) ≡ text
 front-kept [] h = cc h
 front-kept (b ∷ rest) h = rw (begins-no_v b h) (drop_spaces-none (b ∷ rest) (front-dark (b ∷ rest) h))
-
-pub front-some : (text : List ℕ) → begins_component text ≡ true → 0 < length text
-front-some [] h = cc h
-front-some (b ∷ rest) h = omega arith
 
 -- ---- the mark and the whitespace
 
@@ -67,7 +51,7 @@ unmarked : (cs text : List ℕ) → list_all is_whitespace cs ≡ true → begin
 unmarked [] [] each h = refl
 unmarked [] (b ∷ rest) each h = rw (begins-no_v b h) refl
 unmarked (c ∷ cs) text each h =
-    let white = space_len-white c (encode_utf8_all cs ++ text) (and-left (is_whitespace c) (list_all is_whitespace cs) each) in
+    let white = space_len-white c (encode_utf8_all cs ++ text) (and_parts (is_whitespace c) (list_all is_whitespace cs) each).0 in
     let same = append_assoc (encode_utf8 c) (encode_utf8_all cs) text in
     unmarked-blank (encode_utf8_all (c ∷ cs) ++ text) (rw same (omega (arith, white, (len_utf8_bounds c).0)))
 
@@ -138,7 +122,7 @@ front-begins limit text p rest u h =
     let m = marked text u in
     let b = spaced (drop_v text) m.behind in
     let s = front-read limit text p rest h in
-    let some = front-some s.0 (components-begin limit s.0 p s.1.is) in
+    let some = begins-some is_component_byte s.0 (components-begin limit s.0 p s.1.is) in
     let x = b.0 ++ s.0 in
     let behind : drop_v text ≡ x ++ rest = b.2 ∙ (ap (λ (t : List ℕ). b.0 ++ t) s.1.split ∙ sym (append_assoc b.0 s.0 rest)) in (
       m.mark ++ x,
@@ -156,12 +140,12 @@ front-passes limit t more p h quiet =
     let x = h.components in
     let begin = components-begin limit x p h.components_are in
     let whole : t ≡ (h.mark ++ h.blank) ++ x = h.divided ∙ sym (append_assoc h.mark h.blank x) in
-    let last : Quiet x more = quiet-last (h.mark ++ h.blank) x more (front-some x begin) (subst (λ (u : List ℕ). Quiet u more) whole quiet) in
+    let last : Quiet x more = quiet-last (h.mark ++ h.blank) x more (begins-some is_component_byte x begin) (subst (λ (u : List ℕ). Quiet u more) whole quiet) in
     let a = components-then limit x more p h.components_are last in
     let behind : t ++ more ≡ h.mark ++ (h.blank ++ (x ++ more)) =
     ap (λ (u : List ℕ). u ++ more) h.divided ∙ (append_assoc h.mark (h.blank ++ x) more ∙ ap (λ (u : List ℕ). h.mark ++ u) (append_assoc h.blank x more)) in
     let at : drop_spaces (drop_v (t ++ more)) ≡ x ++ more =
-    ap (λ (u : List ℕ). drop_spaces (drop_v u)) behind ∙ skipped h.mark h.blank (x ++ more) h.mark_is h.blank_is (begins-longer x more begin) in
+    ap (λ (u : List ℕ). drop_spaces (drop_v u)) behind ∙ skipped h.mark h.blank (x ++ more) h.mark_is h.blank_is (begins-on is_component_byte x more begin) in
     let read : component_front limit (drop_spaces (drop_v (t ++ more))) ≡ Some a.0 = ap (λ (u : List ℕ). component_front limit u) at ∙ a.1 in
     (minor_front limit a.0.0 a.0.1 (dotted_front limit a.0.1), rw read refl, a.2)
 

@@ -2,14 +2,15 @@
 use Rattle.std.proofs.Common.{◌≡◌, ℕ, zero, suc, ◌<◌, ◌≤◌, List, [], ◌∷◌, length, refl, ap, ◌∙◌, arith, Some, None, inl, inr, length-append, true, false, Bool}
 use Rattle.std.specs.Prelude.{Option, ◌==◌, if◌then◌else◌, nat_lt}
 use Rattle.std.proofs.lemmas.Bool.{cases_Bool}
+use Rattle.std.proofs.lemmas.Option.{cond_some}
 use Rattle.semver_core.specs.Internal.Spaces.{drop_spaces, space_len, after_spaces}
 use Rattle.nodejs_semver.specs.Text.WordText.{Word, Comparator, above, at_least, below, at_most, equal, hyphen}
 use Rattle.nodejs_semver.specs.Internal.Words.{Reading, Sign, after_some_space, at_boundary, behind_sign, careted, comparator_at, compared, comparing, from_boundary, is_boundary, or_else, or_equal, sign_at, signed_word, tilde_sign, tilded, unsigned, upper_of, word_at, word_behind, words, words_within}
 use Rattle.nodejs_semver.specs.Internal.Fronts.{after_byte, component_front, dotted_front, drop_v, minor_front, partial_front}
 use Rattle.semver_core.specs.Internal.Reading.{◌>>?◌}
 use Rattle.nodejs_semver.specs.Text.PartialText.{Partial}
-use Rattle.nodejs_semver.proofs.Reading.Pieces.{bind-some}
-use Rattle.nodejs_semver.proofs.Reading.Components.{component-shorter, minor_front-le, second-same}
+use Rattle.nodejs_semver.proofs.Reading.Steps.{bind-some, second-same}
+use Rattle.nodejs_semver.proofs.Reading.Components.{component-shorter, minor_front-le}
 use Rattle.semver_core.proofs.Text.Spaces.{after_spaces-end, drop_spaces-none, space_len-nil}
 
 pub spaces-le : (text : List ℕ) → length (drop_spaces text) ≤ length text
@@ -35,29 +36,14 @@ partial-shorter limit text x r h =
     v-le (b ∷ rest) = elim (cases_Bool (b == 118)) [ inl v ↦ rw v (omega arith) | inr other ↦ rw other (omega arith) ]
 
 some-space-le : (text r : List ℕ) → after_some_space text ≡ Some r → length r ≤ length text
-some-space-le text r h = elim (cases_Bool (nat_lt 0 (space_len text))) [
-  | inl some ↦ let e : drop_spaces text ≡ r = inside (drop_spaces text) r (rw some at h) in omega (arith, ap length e, spaces-le text)
-  | inr none ↦ cc (rw none at h)
-]
-  where
-    inside : (s r : List ℕ) → Some s ≡ Some r → s ≡ r
-    inside s r k = cc k
+some-space-le text r h = omega (arith, ap length (cond_some (nat_lt 0 (space_len text)) (drop_spaces text) r h).1, spaces-le text)
 
 byte-le : (c : ℕ) (text r : List ℕ) → after_byte c text ≡ Some r → length r ≤ length text
 byte-le c [] r h = cc h
-byte-le c (b ∷ text) r h = elim (cases_Bool (b == c)) [
-  | inl same ↦ let e : text ≡ r = inside text r (rw same at h) in omega (arith, ap length e)
-  | inr other ↦ cc (rw other at h)
-]
-  where
-    inside : (s r : List ℕ) → Some s ≡ Some r → s ≡ r
-    inside s r k = cc k
+byte-le c (b ∷ text) r h = omega (arith, ap length (cond_some (b == c) text r h).1)
 
 boundary-same : (w x : Word) (rest r : List ℕ) → at_boundary w rest ≡ Some (x, r) → rest ≡ r
-boundary-same w x rest r h = elim (cases_Bool (is_boundary rest)) [
-  | inl here ↦ second-same (w, rest) (x, r) (rw here at h)
-  | inr other ↦ cc (rw other at h)
-]
+boundary-same w x rest r h = ap (λ (y : Word × List ℕ). y.1) (cond_some (is_boundary rest) (w, rest) (x, r) h).1
 
 upper-le : (limit : ℕ) (s : Sign) (text : List ℕ) (q : Partial × List ℕ) → upper_of limit s text ≡ Some q → length q.1 ≤ length text
 upper-le limit unsigned text q h =
@@ -65,7 +51,7 @@ upper-le limit unsigned text q h =
     let gap = bind-some (after_byte 45 sign.0) _ q sign.2 in
     let second = bind-some (after_some_space gap.0) _ q gap.2 in
     let read = bind-some (partial_front limit second.0) _ q second.2 in
-    let same : read.0 ≡ q = ended read.0 read.2 in
+    let same : read.0 ≡ q = (cond_some (is_boundary read.0.1) read.0 q read.2).1 in
     omega (
       arith,
       some-space-le text sign.0 sign.1,
@@ -74,9 +60,6 @@ upper-le limit unsigned text q h =
       partial-shorter limit second.0 read.0.0 read.0.1 read.1,
       ap (λ (x : Partial × List ℕ). length x.1) same,
     )
-  where
-    ended : (r : Partial × List ℕ) → (if is_boundary r.1 then Some r else None) ≡ Some q → r ≡ q
-    ended r k = elim (cases_Bool (is_boundary r.1)) [ inl here ↦ cc (rw here at k) | inr other ↦ cc (rw other at k) ]
 upper-le limit (compared c) text q h = cc h
 upper-le limit (tilded greater) text q h = cc h
 upper-le limit careted text q h = cc h

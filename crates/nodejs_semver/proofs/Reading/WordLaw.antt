@@ -1,9 +1,10 @@
 -- The word that is computed is the one that is written.
 use Rattle.std.proofs.Common.{◌≡◌, ◌⊎◌, ℕ, ◌<◌, ◌≤◌, Bool, List, [], ◌∷◌, ◌++◌, length, drop, get_or, refl, sym, ap, ◌∙◌, arith, true, false, Some, None, inl, inr, subst, append_assoc, length-append}
-use Rattle.std.specs.Prelude.{◌↔◌, if◌then◌else◌, Option, IsUtf8, encode_utf8_all, ◌==◌, nat_lt, IsCharBoundary}
+use Rattle.std.specs.Prelude.{◌↔◌, ◌||◌, if◌then◌else◌, Option, IsUtf8, encode_utf8_all, ◌==◌, nat_lt, IsCharBoundary}
 use Rattle.std.specs.Char.{encode_utf8, is_ascii_digit}
 use Rattle.std.proofs.lemmas.Bool.{cases_Bool, cases_lt, eqb-true, lt-ltb}
 use Rattle.std.proofs.lemmas.Bool.Decides.{nat_tests}
+use Rattle.std.proofs.lemmas.Option.{cond_some}
 use Rattle.std.proofs.lemmas.List.{drop_at, take_at}
 use Rattle.std.proofs.lemmas.Str.{IsUtf8-drop, IsUtf8-past_char, IsCharBoundary-after_ascii, encodes-append, len_utf8_bounds, IsUtf8-nil, IsUtf8-take, IsCharBoundary-at_seam}
 use Rattle.semver_core.specs.Text.Characters.{BeginsBlank, IsTrim, is_whitespace}
@@ -17,11 +18,10 @@ use Rattle.nodejs_semver.specs.Text.PartialText.{Partial, is_wildcard}
 use Rattle.semver_core.specs.Internal.Reading.{◌>>?◌}
 use Rattle.nodejs_semver.specs.Text.LongestText.{IsLongestPartial}
 use Rattle.nodejs_semver.specs.Text.WordText.{IsBehind, IsBoundary, IsFirstBoundary, IsForm, IsHyphen, IsSign, IsWhole, IsWordAt, SkipsBlank, above_sign, at_least_sign, at_most_sign, below_sign, caret_form, compare_form, equal_sign, formed, hyphen_form, no_form, plain_form, tilde_form, tilde_greater_form, Comparator, Word, above, at_least, at_most, below, caret, compare, equal, hyphen, malformed, plain, tilde}
+use Rattle.nodejs_semver.proofs.Reading.Bytes.{is_solid, solid-dark}
 use Rattle.nodejs_semver.proofs.Reading.Boundaries.{from_boundary-nil, from_boundary-stop}
-use Rattle.nodejs_semver.proofs.Reading.Components.{second-same}
-use Rattle.nodejs_semver.proofs.Reading.NumberFront.{option-cases}
-use Rattle.nodejs_semver.proofs.Reading.PartialLaw.{inside, longest_are, spaced}
-use Rattle.nodejs_semver.proofs.Reading.Pieces.{bind-some}
+use Rattle.nodejs_semver.proofs.Reading.PartialLaw.{longest_are, spaced}
+use Rattle.nodejs_semver.proofs.Reading.Steps.{bind-some, inside, option-cases, second-same}
 use Rattle.nodejs_semver.proofs.Reading.Progress.{spaces-gone}
 
 -- ---- UTF-8 behind a byte, and behind characters
@@ -115,80 +115,63 @@ skips-of text rest u h =
     ∙ (drop_spaces-blank h.is.characters rest h.is.each ∙ drop_spaces-none rest none)
 
 some_space-is : (front text rest : List ℕ) → IsUtf8 (front ++ text) → after_some_space text ≡ Some rest → IsUtf8 text × BeginsBlank text × SkipsBlank text rest
-some_space-is front text rest u h = elim (cases_Bool (nat_lt 0 (space_len text))) [
-  | inl some ↦
-      let e : drop_spaces text ≡ rest = inside (rw some at h) in
-      let v = suffix-utf8 front text u (grind (arith, some, nat_tests)) in
-      (v, suffix-blank front text u (grind (arith, some, nat_tests)), subst (λ (t : List ℕ). SkipsBlank text t) e (skips-is text v))
-  | inr none ↦ cc (rw none at h)
-]
+some_space-is front text rest u h =
+    let p = cond_some (nat_lt 0 (space_len text)) (drop_spaces text) rest h in
+    let some : 0 < space_len text = grind (arith, p.0, nat_tests) in
+    let v = suffix-utf8 front text u some in
+    (v, suffix-blank front text u some, subst (λ (t : List ℕ). SkipsBlank text t) p.1 (skips-is text v))
 
 some_space-of : (text rest : List ℕ) → IsUtf8 text → BeginsBlank text → SkipsBlank text rest → after_some_space text ≡ Some rest
-some_space-of text rest u b h = rw (lt-ltb 0 (space_len text) (blank-len text b)) (ap (λ (t : List ℕ). some_of t) (skips-of text rest u h))
-  where
-    some_of : List ℕ → Option (List ℕ)
-    some_of t = Some t
+some_space-of text rest u b h = rw (lt-ltb 0 (space_len text) (blank-len text b), skips-of text rest u h) refl
 
 pub byte-is : (c : ℕ) (text rest : List ℕ) → after_byte c text ≡ Some rest → text ≡ c ∷ rest
 byte-is c [] rest h = cc h
-byte-is c (b ∷ text) rest h = elim (cases_Bool (b == c)) [
-  | inl same ↦ let e : text ≡ rest = inside (rw same at h) in ap (λ (t : List ℕ). b ∷ t) e ∙ ap (λ (d : ℕ). d ∷ rest) (eqb-true b c same)
-  | inr other ↦ cc (rw other at h)
-]
+byte-is c (b ∷ text) rest h = let p = cond_some (b == c) text rest h in rw (eqb-true b c p.0, p.1) refl
 
 -- ---- partials up to a boundary
 
 -- the word of a partial that ends there
 bounded-is : (limit : ℕ) (text : List ℕ) (p : Partial) (rest : List ℕ) (w : Word) (x : Word × List ℕ) → IsUtf8 text → IsLongestPartial limit text p rest
     → at_boundary w rest ≡ Some x → ((w, rest) ≡ x) × IsWhole limit text p rest
-bounded-is limit text p rest w x u read h = elim (cases_Bool (is_boundary rest)) [
-  | inl here ↦ (inside (rw here at h), record { read = read; ended = suffix-boundary read.front rest (subst (λ (t : List ℕ). IsUtf8 t) read.begins.divided u) here })
-  | inr other ↦ cc (rw other at h)
-]
+bounded-is limit text p rest w x u read h =
+    let b = cond_some (is_boundary rest) (w, rest) x h in
+    (b.1, record { read = read; ended = suffix-boundary read.front rest (subst (λ (t : List ℕ). IsUtf8 t) read.begins.divided u) b.0 })
 
--- no partial begins with one of these bytes
-none-at : (limit b : ℕ) (rest : List ℕ) → (b == 118) ≡ false → space_len (b ∷ rest) ≡ 0 → is_wildcard b ≡ false → is_ascii_digit b ≡ false
-    → partial_front limit (b ∷ rest) ≡ None
+-- no partial begins with a byte of a sign
+abbrev is_opening : ℕ → Bool
+is_opening b = b == 126 || b == 94 || b == 62 || b == 60 || b == 61
+
+opening-none : (limit b : ℕ) (rest : List ℕ) → is_opening b ≡ true → partial_front limit (b ∷ rest) ≡ None
 unfolding partial_front component_front number_of
-none-at limit b rest v s w d = rw (v, drop_spaces-none (b ∷ rest) s, w, d) refl
+opening-none limit b rest h =
+    let other = not_partial b h in
+    rw (other.0, drop_spaces-none (b ∷ rest) (solid-dark (b ∷ rest) other.1), other.2, other.3) refl
+  where
+    not_partial : (b : ℕ) → is_opening b ≡ true → ((b == 118) ≡ false) × (is_solid b ≡ true) × (is_wildcard b ≡ false) × (is_ascii_digit b ≡ false)
+    not_partial b k = (grind (arith, nat_tests), grind (arith, nat_tests), grind (arith, nat_tests), grind (arith, nat_tests))
 
-ascii-dark : (b : ℕ) (rest : List ℕ) → b < 128 → is_whitespace b ≡ false → space_len (b ∷ rest) ≡ 0
-unfolding space_len
-ascii-dark b rest l h = rw (lt-ltb b 128 l, h) refl
-
-none-60 : (limit : ℕ) (rest : List ℕ) → partial_front limit (60 ∷ rest) ≡ None
-none-60 limit rest = none-at limit 60 rest refl (ascii-dark 60 rest (omega arith) refl) refl refl
-
-none-61 : (limit : ℕ) (rest : List ℕ) → partial_front limit (61 ∷ rest) ≡ None
-none-61 limit rest = none-at limit 61 rest refl (ascii-dark 61 rest (omega arith) refl) refl refl
-
-none-62 : (limit : ℕ) (rest : List ℕ) → partial_front limit (62 ∷ rest) ≡ None
-none-62 limit rest = none-at limit 62 rest refl (ascii-dark 62 rest (omega arith) refl) refl refl
-
-none-94 : (limit : ℕ) (rest : List ℕ) → partial_front limit (94 ∷ rest) ≡ None
-none-94 limit rest = none-at limit 94 rest refl (ascii-dark 94 rest (omega arith) refl) refl refl
-
-none-126 : (limit : ℕ) (rest : List ℕ) → partial_front limit (126 ∷ rest) ≡ None
-none-126 limit rest = none-at limit 126 rest refl (ascii-dark 126 rest (omega arith) refl) refl refl
-
--- where a partial begins, another byte does
-other-byte : (limit c b : ℕ) (rest : List ℕ) (x : Partial × List ℕ) → ((t : List ℕ) → partial_front limit (c ∷ t) ≡ None)
-    → partial_front limit (b ∷ rest) ≡ Some x → (b == c) ≡ false
-other-byte limit c b rest x none h = elim (cases_Bool (b == c)) [
-  | inl same ↦ let here : partial_front limit (b ∷ rest) ≡ None = rw (eqb-true b c same) (none rest) in cc (sym here ∙ h)
+not-opening : (limit b : ℕ) (rest : List ℕ) (x : Partial × List ℕ) → partial_front limit (b ∷ rest) ≡ Some x → is_opening b ≡ false
+not-opening limit b rest x h = elim (cases_Bool (is_opening b)) [
+  | inl sign ↦ cc (sym (opening-none limit b rest sign) ∙ h)
   | inr other ↦ other
 ]
 
+record NoSign (b : ℕ) : Type 0 where
+  tilde : (b == 126) ≡ false
+  caret : (b == 94) ≡ false
+  greater : (b == 62) ≡ false
+  less : (b == 60) ≡ false
+  equal : (b == 61) ≡ false
+
+no-sign : (limit b : ℕ) (rest : List ℕ) (x : Partial × List ℕ) → partial_front limit (b ∷ rest) ≡ Some x → NoSign b
+no-sign limit b rest x h = tests b (not-opening limit b rest x h)
+  where
+    tests : (b : ℕ) → is_opening b ≡ false → NoSign b
+    tests b k = record { tilde = grind (arith, nat_tests); caret = grind (arith, nat_tests); greater = grind (arith, nat_tests); less = grind (arith, nat_tests); equal = grind (arith, nat_tests) }
+
 pub unsigned-at : (limit : ℕ) (text : List ℕ) (x : Partial × List ℕ) → partial_front limit text ≡ Some x → sign_at text ≡ (unsigned, text)
 unsigned-at limit [] x h = refl
-unsigned-at limit (b ∷ rest) x h =
-    rw (
-      other-byte limit 126 b rest x (none-126 limit) h,
-      other-byte limit 94 b rest x (none-94 limit) h,
-      other-byte limit 62 b rest x (none-62 limit) h,
-      other-byte limit 60 b rest x (none-60 limit) h,
-      other-byte limit 61 b rest x (none-61 limit) h,
-    ) refl
+unsigned-at limit (b ∷ rest) x h = let n = no-sign limit b rest x h in rw (n.tilde, n.caret, n.greater, n.less, n.equal) refl
 
 bind-of : {A B : Type 0} (o : Option A) (f : A → Option B) (x : A) → o ≡ Some x → (o >>? f) ≡ f x
 bind-of {A} {B} o f x h = ap (λ (p : Option A). p >>? f) h
@@ -208,7 +191,8 @@ hyphen-is limit text p before x u read h =
     let v = skips-utf8 gap.0 second.0 t.2 w in
     let q = bind-some (partial_front limit second.0) _ x second.2 in
     let there = (longest_are limit second.0 q.0.0 q.0.1 v).0 q.1 in
-    let last = ending q.0 q.2 there v in
+    let b = cond_some (is_boundary q.0.1) q.0 x q.2 in
+    let stop = suffix-boundary there.front q.0.1 (subst (λ (t : List ℕ). IsUtf8 t) there.begins.divided v) b.0 in
     record {
       before = before;
       after = gap.0;
@@ -216,18 +200,8 @@ hyphen-is limit text p before x u read h =
       space_before = s.1;
       dash = subst (λ (r : List ℕ). SkipsBlank before r) dash s.2;
       space_after = t.1;
-      second = record { start = second.0; skipped = t.2; is = last };
+      second = record { start = second.0; skipped = t.2; is = subst (λ (y : Partial × List ℕ). IsWhole limit second.0 y.0 y.1) b.1 (record { read = there; ended = stop }) };
     }
-  where
-    ending : {text : List ℕ} (q : Partial × List ℕ) → (if is_boundary q.1 then Some q else None) ≡ Some x → IsLongestPartial limit text q.0 q.1 → IsUtf8 text
-        → IsWhole limit text x.0 x.1
-    ending {text} q k there v = elim (cases_Bool (is_boundary q.1)) [
-      | inl here ↦
-          let e : q ≡ x = inside (rw here at k) in
-          let stop = suffix-boundary there.front q.1 (subst (λ (t : List ℕ). IsUtf8 t) there.begins.divided v) here in
-          subst (λ (y : Partial × List ℕ). IsWhole limit text y.0 y.1) e (record { read = there; ended = stop })
-      | inr other ↦ cc (rw other at k)
-    ]
 
 hyphen-of : (limit : ℕ) (text : List ℕ) (lower upper : Partial) (rest : List ℕ) → IsUtf8 text → (h : IsHyphen limit text lower upper rest)
     → upper_behind limit h.before ≡ Some (upper, rest)
@@ -397,12 +371,12 @@ form-as limit text s start p rest e f = ap (λ (y : Sign × List ℕ). behind_si
 alone : (one two : Comparator) (limit : ℕ) (text : List ℕ) (x : Partial × List ℕ) → partial_front limit (drop_spaces text) ≡ Some x → or_equal one two text ≡ (one, text)
 alone one two limit [] x h = refl
 alone one two limit (b ∷ text) x h = elim (cases_Bool (b == 61)) [
-  | inl same ↦
-      let dark : drop_spaces (b ∷ text) ≡ 61 ∷ text =
-      ap (λ (c : ℕ). drop_spaces (c ∷ text)) (eqb-true b 61 same) ∙ drop_spaces-none (61 ∷ text) (ascii-dark 61 text (omega arith) refl) in
-      cc (sym (ap (λ (t : List ℕ). partial_front limit t) dark ∙ none-61 limit text) ∙ h)
+  | inl same ↦ equal text (subst (λ (c : ℕ). partial_front limit (drop_spaces (c ∷ text)) ≡ Some x) (eqb-true b 61 same) h)
   | inr other ↦ rw other refl
 ]
+  where
+    equal : {A : Type 0} (text : List ℕ) → partial_front limit (drop_spaces (61 ∷ text)) ≡ Some x → A
+    equal text k = absurd (cc (sym (opening-none limit 61 text refl) ∙ ap (λ (t : List ℕ). partial_front limit t) (sym (drop_spaces-none (61 ∷ text) (solid-dark (61 ∷ text) refl))) ∙ k))
 
 pub compared-of : (limit : ℕ) (c : Comparator) (sign text : List ℕ) (x : Partial × List ℕ) → IsSign c sign → partial_front limit (drop_spaces text) ≡ Some x
     → sign_at (sign ++ text) ≡ (compared c, drop_spaces text)
@@ -414,7 +388,7 @@ compared-of limit c sign text x equal_sign h = refl
 
 no_greater : (limit : ℕ) (text : List ℕ) (x : Partial × List ℕ) → partial_front limit text ≡ Some x → tilde_sign text ≡ (false, text)
 no_greater limit [] x h = refl
-no_greater limit (b ∷ text) x h = rw (other-byte limit 62 b text x (none-62 limit) h) refl
+no_greater limit (b ∷ text) x h = rw ((no-sign limit b text x h).greater) refl
 
 form-of : (limit : ℕ) (text : List ℕ) (w : Word) (rest : List ℕ) → IsUtf8 text → IsForm limit text w rest → behind_sign limit (sign_at text) ≡ Some (w, rest)
 form-of limit text w rest u (hyphen_form t lower upper r h) =

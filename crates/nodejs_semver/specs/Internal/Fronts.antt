@@ -1,15 +1,15 @@
 -- For proofs and private contracts. What stands at the front of a text, read from the left: a number, a component, a
 -- qualifier, a partial. `partial_front` gives the partial of `IsLongestPartial`.
-use Rattle.std.specs.Prelude.{ℕ, suc, ◌==◌, ◌&&◌, not, nat_le, Bool, List, [], ◌∷◌, take, drop, Option, Some, None, if◌then◌else◌, take_while}
+use Rattle.std.specs.Prelude.{ℕ, ◌==◌, ◌&&◌, not, nat_le, Bool, List, [], ◌∷◌, take, drop, Option, Some, None, if◌then◌else◌, take_while}
 use Rattle.std.specs.Char.{is_ascii_digit}
 use Rattle.std.specs.List.{list_all, prefix_len}
 use Rattle.std.specs.Str.Parse.{digits_value}
 use Rattle.semver_core.specs.Lists.{is_empty}
 use Rattle.std.specs.Borrow.{Bor}
-use Rattle.semver_core.specs.Internal.Reading.{◌>>?◌}
+use Rattle.semver_core.specs.Internal.Reading.{◌>>?◌, list_len}
 use Rattle.nodejs_semver.specs.Text.PartialText.{Partial, is_wildcard}
 use Rattle.semver_core.specs.Internal.Spaces.{drop_spaces}
-use Rattle.semver_core.specs.Text.Identifiers.{goes_on, listed}
+use Rattle.semver_core.specs.Text.Identifiers.{listed}
 use Rattle.semver_core.specs.Text.Characters.{is_identifier_char, begins}
 
 -- a value and the text behind it
@@ -59,17 +59,12 @@ dotted_front limit text = after_byte 46 text >>? λ rest. component_front limit 
 abbrev pub begins_identifier : List ℕ → Bool
 begins_identifier text = begins is_identifier_char text
 
--- how far identifiers joined by dots go on
-unfoldable pub run_on : List ℕ → ℕ
-run_on [] = 0
-run_on (b ∷ rest) = if goes_on (b ∷ rest) then suc (run_on rest) else 0
-
 -- how many bytes the identifiers at the front take
-unfoldable pub list_len : List ℕ → ℕ
-list_len text = if begins_identifier text then run_on text else 0
+unfoldable pub front_len : List ℕ → ℕ
+front_len text = if begins_identifier text then list_len text else 0
 
 abbrev pub split_list : List ℕ → List ℕ × List ℕ
-split_list text = (take (list_len text) text, drop (list_len text) text)
+split_list text = (take (front_len text) text, drop (front_len text) text)
 
 abbrev pub begins_byte : ℕ → List ℕ → Bool
 begins_byte c text = begins (λ b. b == c) text

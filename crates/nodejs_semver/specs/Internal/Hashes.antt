@@ -4,7 +4,7 @@ use Rattle.std.specs.Prelude.{pos, ◌++◌, List}
 use Rattle.std.specs.Hash as fed
 use Rattle.std.specs.Hash.{HashWrites}
 use Rattle.semver_core.specs.Cuts.{Span}
-use Rattle.semver_core.specs.Values.Hashes.{version_writes}
+use Rattle.semver_core.specs.Internal.Hashes.{version_writes}
 use Rattle.semver_core.specs.Values.Versions.{VersionValue}
 use Rattle.semver_core.specs.declared.cuts.bound.Bound.{Bound}
 use Rattle.semver_core.specs.declared.cuts.bound.Bound.TheVariants.{Unbounded, Before, After}

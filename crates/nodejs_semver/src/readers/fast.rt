@@ -29,7 +29,7 @@ use std::alloc::{AllocError, Global};
 // The partial at the front. Neither `v` nor whitespace is skipped before it. A partial that has a
 // build is none of a common text.
 #[inline(always)]
-#[tactic(auto, unfolding(crate::specs::Internal::CommonFronts::bare_front), using(crate::proofs::Reading::Qualifiers::listed_empty))]
+#[tactic(auto, unfolding(crate::specs::Internal::CommonFronts::bare_front), using(crate::proofs::Reading::IdentifierLists::listed_empty))]
 fn bare_front(text: &[u8]) -> Option<(Partial<'_>, &[u8])>
     ensures { partial_front_view result ≡ Spec.bare_front MAX_SAFE_INTEGER text.now }
 {
@@ -107,7 +107,7 @@ fn push_common(
 }
 
 // The same; mostly the first comparison has a lower bound and the second an upper one.
-#[tactic(auto, using(crate::proofs::Common::Bounds::half_open))]
+#[tactic(auto, using(crate::proofs::Everyday::Bounds::half_open))]
 fn push_both(
     alloc: Global,
     first: Bounds<'_>,

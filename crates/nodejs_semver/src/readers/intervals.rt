@@ -26,9 +26,9 @@ ghost use Rattle.semver_core.specs.declared.TheConstants.{MAX_SAFE_INTEGER};
 
 use crate::range::Intervals;
 use crate::readers::syntax::{BareVersion, Bounds, Partial, Sign};
-use crate::readers::{partial, table, words};
+use crate::readers::{partial, spaces, table, words};
 use semver_core::cuts::{Bound, Interval};
-use semver_core::{Version, scan};
+use semver_core::Version;
 use std::alloc::{AllocError, Global};
 
 // The version of a bound. `bare` is passed by value: then the compiler keeps the numbers of a
@@ -243,7 +243,7 @@ fn push_next<'a>(
         ≡ found.old.items ++ option_to_list (next_at MAX_SAFE_INTEGER text.now).0) }
 {
     let (there, rest) = push_word(alloc, text, found)?;
-    Ok((there, scan::skip_spaces(rest)))
+    Ok((there, spaces::skip_spaces(rest)))
 }
 
 // Takes back the interval that was added last, where one was.

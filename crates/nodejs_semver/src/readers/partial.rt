@@ -10,9 +10,10 @@ ghost use Rattle.nodejs_semver.specs.Internal.Readings.{pair_view, partial_front
 ghost use Rattle.nodejs_semver.specs.Internal.Readings.{partial_pair_view};
 ghost use Rattle.semver_core.specs.declared.TheConstants.{MAX_SAFE_INTEGER};
 
+use crate::readers::spaces::skip_spaces;
 use crate::readers::syntax::Partial;
 use semver_core::MAX_SAFE_INTEGER;
-use semver_core::scan::{begins_identifier, goes_on, number_in, skip_spaces};
+use semver_core::scan::{begins_identifier, goes_on, number_in};
 
 #[inline(always)]
 fn begins_wildcard(text: &[u8]) -> bool
@@ -23,7 +24,7 @@ fn begins_wildcard(text: &[u8]) -> bool
 
 // The number at the front, a whole run of digits, and the text behind it.
 #[inline(always)]
-#[tactic(auto, using(crate::proofs::Reading::NumberFront::number_fronts))]
+#[tactic(auto, using(crate::proofs::Reading::Numbers::number_fronts))]
 fn number_front(text: &[u8]) -> Option<(u64, &[u8])>
     ensures value { front_view result ≡ Spec.number_front MAX_SAFE_INTEGER text.now }
     ensures small { IfSome result (λ found. found.0 ≤ MAX_SAFE_INTEGER) }
@@ -34,7 +35,7 @@ fn number_front(text: &[u8]) -> Option<(u64, &[u8])>
 
 // A wildcard or a number.
 #[inline(always)]
-#[tactic(auto, unfolding(crate::specs::Internal::Fronts::component_front), using(crate::proofs::Reading::NumberFront::number_first))]
+#[tactic(auto, unfolding(crate::specs::Internal::Fronts::component_front), using(crate::proofs::Reading::Numbers::number_first))]
 pub(crate) fn component_front(text: &[u8]) -> Option<(Option<u64>, &[u8])>
     ensures value { front_view result ≡ Spec.component_front MAX_SAFE_INTEGER text.now }
     ensures small { IfSome result (λ p. ForSome p.0 (λ n. n ≤ MAX_SAFE_INTEGER)) }
@@ -60,9 +61,9 @@ pub(crate) fn dotted_front(text: &[u8]) -> Option<(Option<u64>, &[u8])>
 }
 
 // How many bytes the identifiers at the front take.
-#[tactic(auto, unfolding(crate::specs::Internal::Fronts::list_len))]
+#[tactic(auto, unfolding(crate::specs::Internal::Fronts::front_len))]
 fn list_len(text: &[u8]) -> usize
-    ensures { result ≡ Spec.list_len text.now }
+    ensures { result ≡ Spec.front_len text.now }
 {
     if !begins_identifier(text) {
         return 0;
@@ -78,16 +79,16 @@ fn list_len(text: &[u8]) -> usize
 // The identifiers at the front, and what stands behind them.
 #[tactic(auto, using(crate::proofs::Reading::IdentifierLists::listed_front))]
 fn split_list(text: &[u8]) -> (&[u8], &[u8])
-    ensures front { result.0.now ≡ take (Spec.list_len text.now) text.now }
+    ensures front { result.0.now ≡ take (Spec.front_len text.now) text.now }
     ensures listed { is_listed result.0.now ≡ true }
-    ensures rest { result.1.now ≡ drop (Spec.list_len text.now) text.now }
+    ensures rest { result.1.now ≡ drop (Spec.front_len text.now) text.now }
 {
     text.split_at(list_len(text))
 }
 
 /// The text of the pre-release at the front, and what stands behind it. Mostly there is none.
 #[inline(always)]
-#[tactic(auto, unfolding(crate::specs::Internal::Fronts::pre_release_front, crate::specs::Internal::Fronts::list_len), using(crate::proofs::Reading::IdentifierLists::listed_nil))]
+#[tactic(auto, unfolding(crate::specs::Internal::Fronts::pre_release_front, crate::specs::Internal::Fronts::front_len), using(crate::proofs::Reading::IdentifierLists::listed_nil))]
 pub(crate) fn pre_release_front(text: &[u8]) -> (&[u8], &[u8])
     ensures listed { is_listed result.0.now ≡ true }
     ensures value { pair_view result ≡ Spec.pre_release_front text.now }

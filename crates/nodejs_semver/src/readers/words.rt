@@ -9,9 +9,9 @@ ghost use Rattle.nodejs_semver.specs.Internal.Words as Spec;
 ghost use Rattle.nodejs_semver.specs.Internal.Words.{is_boundary};
 ghost use Rattle.semver_core.specs.declared.TheConstants.{MAX_SAFE_INTEGER};
 
-use crate::readers::partial;
+use crate::readers::{partial, spaces};
 use crate::readers::syntax::{Comparator, Partial, Sign};
-use semver_core::{MAX_SAFE_INTEGER, scan};
+use semver_core::MAX_SAFE_INTEGER;
 
 /// Whether a word may end here.
 #[inline(always)]
@@ -19,7 +19,7 @@ use semver_core::{MAX_SAFE_INTEGER, scan};
 pub(crate) fn is_boundary(text: &[u8]) -> bool
     ensures { result ≡ is_boundary text.now }
 {
-    text.is_empty() || scan::space_len(text) > 0
+    text.is_empty() || spaces::space_len(text) > 0
 }
 
 // What follows one whitespace character or more.
@@ -27,8 +27,8 @@ pub(crate) fn is_boundary(text: &[u8]) -> bool
 fn after_some_space(text: &[u8]) -> Option<&[u8]>
     ensures { rest_view result ≡ Spec.after_some_space text.now }
 {
-    if scan::space_len(text) > 0 {
-        Some(scan::skip_spaces(text))
+    if spaces::space_len(text) > 0 {
+        Some(spaces::skip_spaces(text))
     } else {
         None
     }
@@ -94,12 +94,12 @@ pub(crate) fn sign_front(text: &[u8]) -> (Sign, &[u8])
 {
     match text {
         [b'~', rest @ ..] => {
-            let (greater, rest) = tilde_sign(scan::skip_spaces(rest));
-            (Sign::Tilde(greater), scan::skip_spaces(rest))
+            let (greater, rest) = tilde_sign(spaces::skip_spaces(rest));
+            (Sign::Tilde(greater), spaces::skip_spaces(rest))
         }
-        [b'^', rest @ ..] => (Sign::Caret, scan::skip_spaces(rest)),
+        [b'^', rest @ ..] => (Sign::Caret, spaces::skip_spaces(rest)),
         _ => match comparator_front(text) {
-            Some((comparator, rest)) => (Sign::Comparator(comparator), scan::skip_spaces(rest)),
+            Some((comparator, rest)) => (Sign::Comparator(comparator), spaces::skip_spaces(rest)),
             None => (Sign::Nothing, text),
         },
     }

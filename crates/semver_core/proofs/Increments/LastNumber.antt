@@ -5,9 +5,9 @@ use Rattle.std.proofs.Common.{drop}
 use Rattle.std.proofs.Math.Seq.{take-append_seam}
 use Rattle.std.proofs.lemmas.List.{length-set, take_all, take_more}
 use Rattle.std.specs.List.{refill}
-use Rattle.semver_core.proofs.Text.Runs.{ids_view_push}
+use Rattle.semver_core.proofs.Text.Runs.{ids_view_push, numerals}
 use Rattle.semver_core.specs.Text.Identifiers.{Id, Numeric, AlphaNumeric}
-use Rattle.semver_core.specs.Increments.Table.{has_numeric, list_text, advance, raise_last, one_more, Fault, ◌>>=◌}
+use Rattle.semver_core.specs.Increments.Table.{asked, has_numeric, is_kept, list_text, advance, raise_last, one_more, Fault, Overflow, ◌>>=◌}
 use Rattle.semver_core.specs.Lists.{is_empty}
 use Rattle.semver_core.specs.Internal.IncrementSteps.{IsLastNumber, Tracks}
 use Rattle.semver_core.specs.Printing.Text.{id_text}
@@ -19,12 +19,21 @@ use Rattle.std.specs.Prelude.{suc, zero, ◌==◌, ◌^◌}
 use Rattle.std.proofs.lemmas.Grind.{common_steps}
 use Rattle.std.proofs.lemmas.List.{length-map}
 use Rattle.std.proofs.lemmas.Bool.Decides.{nat_tests}
-use Rattle.std.proofs.lemmas.Str.Parse.{IsDigitsTest, IsNumeralModel, numerals_by_value, parse_digits}
+use Rattle.std.proofs.lemmas.Bool.{cases_lt}
+use Rattle.std.proofs.Common.{inl, inr}
+use Rattle.std.proofs.lemmas.Str.Parse.{parse_digits}
 use Rattle.std.specs.Char.{is_ascii_digit}
 use Rattle.std.specs.List.{list_all}
 use Rattle.std.specs.Prelude.{nat_lt}
 use Rattle.std.specs.Result.{MatchResult}
 use Rattle.std.specs.Str.Parse.{ParsesUnsigned, digits_value}
+use Rattle.std.specs.Ordering.{is_eq}
+use Rattle.std.specs.Prelude.{◌-◌, ◌↔◌, IsTrue}
+use Rattle.std.specs.Cmp.{Equal-is, tied_itself}
+use Rattle.semver_core.specs.Internal.OrderLaws.{id_same, id_total}
+use Rattle.std.proofs.lemmas.Map.Text.{is_eq-slice_cmp}
+use Rattle.std.specs.Str.{bytes_eq}
+use Rattle.semver_core.specs.Values.Order.{id_cmp}
 
 no_more : (xs : List Id) (text : List ℕ) → has_numeric xs ≡ false → has_numeric (xs ++ AlphaNumeric text ∷ []) ≡ false
 no_more [] text h = refl
@@ -60,6 +69,25 @@ raise_divided (AlphaNumeric text ∷ front) back n h =
     ap (λ r. r >>= λ list. Ok (AlphaNumeric text ∷ list)) (raise_divided front back n h) ∙ bind_twice (one_more n) (λ m. front ++ Numeric m ∷ back) (λ list. AlphaNumeric text ∷ list)
 raise_divided (Numeric k ∷ front) back n h = rw (has_it front back n)
     (ap (λ r. r >>= λ list. Ok (Numeric k ∷ list)) (raise_divided front back n h) ∙ bind_twice (one_more n) (λ m. front ++ Numeric m ∷ back) (λ list. Numeric k ∷ list))
+
+pub list_raised : (front back : List Id) (n : ℕ) → has_numeric back ≡ false → n < 2 ^ 64 - 1 → raise_last (front ++ Numeric n ∷ back) ≡ Ok (front ++ Numeric (n + 1) ∷ back)
+list_raised front back n h lt = let small : (n == 2 ^ 64 - 1) ≡ false = grind (arith, nat_tests) in raise_divided front back n h ∙ rw small refl
+
+pub list_overflows : (front back : List Id) → has_numeric back ≡ false → raise_last (front ++ Numeric (2 ^ 64 - 1) ∷ back) ≡ Err Overflow
+list_overflows front back h = raise_divided front back (2 ^ 64 - 1) h
+
+-- what is kept begins with what the identifier matches, and a number
+pub list_kept : (id : List ℕ) (list : List Id) → IsTrue (is_kept id list) ↔ ((n : ℕ) × (rest : List Id) × (list ≡ asked id ∷ Numeric n ∷ rest))
+list_kept id list = (there list, back)
+  where
+    there : (list : List Id) → IsTrue (is_kept id list) → (n : ℕ) × (rest : List Id) × (list ≡ asked id ∷ Numeric n ∷ rest)
+    there [] h = cc
+    there (x ∷ []) h = cc
+    there (x ∷ AlphaNumeric text ∷ rest) h = cc
+    there (x ∷ Numeric n ∷ rest) h = (n, rest, ap (λ y. y ∷ Numeric n ∷ rest) (id_same x (asked id) ((Equal-is (id_cmp x (asked id))).0 h)))
+
+    back : ((n : ℕ) × (rest : List Id) × (list ≡ asked id ∷ Numeric n ∷ rest)) → IsTrue (is_kept id list)
+    back p = rw p.2 (ap is_eq (tied_itself id_total (asked id)))
 
 set_divided : (front back : List Id) (x y : Id) → set (front ++ x ∷ back) (length front) y ≡ front ++ y ∷ back
 set_divided [] back x y = refl
@@ -101,19 +129,6 @@ pub refill_set : (xs ws : List Identifier) (i : ℕ) (x : Identifier) → ws ≡
 refill_set xs ws i x e =
     rw e (ap (λ n. take n (set xs i x ++ drop (length (set xs i x)) xs)) (sym (length-set xs i x)) ∙ take-append_seam (set xs i x) (drop (length (set xs i x)) xs))
 
-digits_test : IsDigitsTest (λ ds. list_all is_ascii_digit ds ≡ true)
-digits_test = search rules
-
-numerals : IsNumeralModel (λ ds. list_all is_ascii_digit ds ≡ true) (digits_value 10)
-numerals = numerals_by_value _ digits_test
-
-differs : (m n : ℕ) → (m ≡ n → ⊥) → false ≡ (m == n)
-differs m n h = by (m == n) refl
-  where
-    by : (t : Bool) → (m == n) ≡ t → false ≡ t
-    by true e = absurd (h (grind (arith, nat_tests)))
-    by false e = refl
-
 -- one more part of a printed list
 pub part_more : (xs : List Id) (x : Id) → list_text (xs ++ x ∷ []) ≡ (if is_empty xs then id_text x else list_text xs ++ 46 ∷ id_text x)
 part_more [] x = refl
@@ -121,12 +136,9 @@ part_more (y ∷ []) x = refl
 part_more (y ∷ z ∷ xs) x = ap (λ t. id_text y ++ 46 ∷ t) (part_more (z ∷ xs) x) ∙ sym (append_assoc (id_text y) (46 ∷ list_text (z ∷ xs)) (46 ∷ id_text x))
 
 first_is : (xs : List Identifier) (i : ℕ) → i < length xs → is_empty (ids_view (take i xs)) ≡ (i == 0)
-first_is [] i lt = absurd (no_less i lt)
-  where
-    no_less : (i : ℕ) → i < 0 → ⊥
-    no_less i lt = omega (arith, lt)
+first_is [] i lt = absurd (omega (arith, lt))
 first_is (x ∷ xs) zero lt = refl
-first_is (x ∷ xs) (suc i) lt = differs (suc i) 0 (λ e. omega (arith, e))
+first_is (x ∷ xs) (suc i) lt = let more : (suc i == 0) ≡ false = grind (arith, nat_tests) in sym more
 
 pub text_so_far : (xs : List Identifier) (i : ℕ) (x : Identifier) (text more : List ℕ) → i < length xs → x ≡ get_or xs i x
     → text ≡ list_text (ids_view (take i xs))
@@ -156,17 +168,28 @@ by_raise : (list : List Id) (id : List ℕ) (base : IdentifierBase) → has_nume
 by_raise [] id base h = cc
 by_raise (x ∷ xs) id base h = rw h refl
 
-not_less : (m n : ℕ) → (m < n → ⊥) → n ≤ m
-not_less m n h = by (nat_lt m n) refl
-  where
-    by : (t : Bool) → nat_lt m n ≡ t → n ≤ m
-    by true e = absurd (h (grind (arith, nat_tests)))
-    by false e = grind (arith, nat_tests)
-
 pub value_run : {E : Type 0} (ds : List ℕ) (r : Result ℕ E) → ParsesUnsigned 64 10 ds r → list_all is_ascii_digit ds ≡ true → 0 < length ds
     → MatchResult r (λ n. digits_value 10 ds ≡ n) (λ _. 2 ^ 64 ≤ digits_value 10 ds)
 value_run {E} ds (Ok n) h d some = sym (parse_digits numerals {E = E} 64 ds (Ok n) h d).1
-value_run {E} ds (Err e) h d some = not_less (digits_value 10 ds) (2 ^ 64) (λ small. parse_digits numerals {E = E} 64 ds (Err e) h d (some, small))
+value_run {E} ds (Err e) h d some = elim (cases_lt (digits_value 10 ds) (2 ^ 64)) [
+  | inl small ↦ absurd (parse_digits numerals {E = E} 64 ds (Err e) h d (some, small))
+  | inr large ↦ large
+]
+
+-- an identifier matches the asked one
+pub asked_number : (wanted : List ℕ) (n : ℕ) → list_all is_ascii_digit wanted ≡ true → is_eq (id_cmp (Numeric n) (asked wanted)) ≡ (digits_value 10 wanted == n)
+asked_number wanted n d = rw d (grind (arith, nat_tests))
+
+pub asked_other : (wanted : List ℕ) (n : ℕ) → list_all is_ascii_digit wanted ≡ false → is_eq (id_cmp (Numeric n) (asked wanted)) ≡ false
+asked_other wanted n d = rw d refl
+
+pub asked_text : (wanted text : List ℕ) → list_all is_ascii_digit wanted ≡ false → is_eq (id_cmp (AlphaNumeric text) (asked wanted)) ≡ bytes_eq text wanted
+asked_text wanted text d = rw d (is_eq-slice_cmp text wanted)
+
+pub asked_digits : (wanted text : List ℕ) → list_all is_ascii_digit wanted ≡ true → is_eq (id_cmp (AlphaNumeric text) (asked wanted)) ≡ false
+asked_digits wanted text d = rw d refl
+
+pub ruleset asked_matches = (asked_number, asked_other, asked_text, asked_digits)
 
 -- a list with a last number goes on by raising it
 pub advance_raises : (list : List Id) (id : List ℕ) (base : IdentifierBase) (i n : ℕ) → IsLastNumber list i n → advance list id base ≡ raise_last list

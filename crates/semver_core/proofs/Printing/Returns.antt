@@ -159,47 +159,6 @@ version_back limit v max h = record {
   build_is = build_back v.build h.build;
 }
 
--- a text that begins with a digit has no mark and no whitespace at its front
-no_mark_digit : (text : List ℕ) → begins is_ascii_digit text ≡ true → mark_len text ≡ 0
-no_mark_digit [] h = cc
-no_mark_digit (c ∷ rest) h = no_mark_at c rest (λ m. digit_no_mark c h m)
-
-at_front : (text : List ℕ) → IsUtf8 text → begins is_ascii_digit text ≡ true → IsAfterBlank text (mark_len text) 0
-at_front text u h =
-    let none = no_mark_digit text h in
-    rw none (record { after = omega arith; boundary = IsCharBoundary-start text u; blank = blank_back; ended = small_digit text h })
-
-version_digit : (limit : ℕ) (v : VersionValue) → limit < 2 ^ 64 → IsReadable limit v → begins is_ascii_digit (version_text v) ≡ true
-version_digit limit v max h =
-    let fits : v.major < 2 ^ 64 = omega (arith, h.major) in
-    number_begins (decimal v.major) _ (decimal_some v.major fits) (decimal_digits v.major fits)
-
--- the reader finds the printed version at the front of its text
-pub version_found : (limit : ℕ) (v : VersionValue) → limit < 2 ^ 64 → IsReadable limit v → version_at limit (version_text v) 0 ≡ Some v
-unfolding version_back
-version_found limit v max h = version_complete limit (version_text v) 0 v (version_back limit v max h) (version_back limit v max h).divided
-
--- and no other version is read there
-pub version_only : (limit : ℕ) (v w : VersionValue) → limit < 2 ^ 64 → IsUtf8 (version_text v) → IsReadable limit v → Reads limit (version_text v) w → w ≡ v
-version_only limit v w max u h r =
-    let front = at_front (version_text v) u (version_digit limit v max h) in
-    some_inside w v (sym (loose_at limit (version_text v) 0 w front r) ∙ version_found limit v max h)
-
 -- what comes back from a printed version
 pub printed_back : (limit : ℕ) (text : List ℕ) (v : VersionValue) → limit < 2 ^ 64 → text ≡ version_text v → is_readable limit v ≡ true → Reads limit text v
 printed_back limit text v max e h = subst (λ (t : List ℕ). Reads limit t v) (sym e) (version_back limit v max (readable limit v h))
-
-pub only_printed_back : (limit : ℕ) (text : List ℕ) (v w : VersionValue) → IsUtf8 text → limit < 2 ^ 64 → text ≡ version_text v → is_readable limit v ≡ true
-    → Reads limit text w → w ≡ v
-only_printed_back limit text v w u max e h r =
-    let same : IsUtf8 (version_text v) = subst (λ (t : List ℕ). IsUtf8 t) e u in
-    version_only limit v w max same (readable limit v h) (subst (λ (t : List ℕ). Reads limit t w) e r)
-
--- what is parsed from a printed version is that version
-pub parsed_back : (limit : ℕ) (v w : VersionValue) (text : List ℕ) → limit < 2 ^ 64 → IsUtf8 text → text ≡ version_text v → is_readable limit v ≡ true → Parses limit text w → w ≡ v
-parsed_back limit v w text max u e h p = only_printed_back limit text v w u max e h p.reads
-
--- a printed version of at most 256 bytes is parsed
-pub parses_back : (limit : ℕ) (v : VersionValue) (text : List ℕ) → limit < 2 ^ 64 → IsUtf8 text → text ≡ version_text v → length (version_text v) ≤ MAX_LENGTH → is_readable limit v ≡ true
-    → Parses limit text v
-parses_back limit v text max u e short h = record { short = rw e short; reads = printed_back limit text v max e h }

@@ -1,5 +1,6 @@
--- Worked rows, computed: which texts are common, and which are not.
-use Rattle.std.specs.Prelude.{ℕ, ◌≡◌, List, [], ◌∷◌, ◌++◌, Some, None, refl, codes}
+-- Worked rows, computed: which texts are common, and which are not. Some ten rows are one equation.
+use Rattle.std.specs.List.{list_any}
+use Rattle.std.specs.Prelude.{ℕ, ◌≡◌, Bool, false, List, [], ◌∷◌, ◌++◌, Some, is_some, map, refl, codes}
 use Rattle.std.specs.Char.{encode_utf8}
 use Rattle.semver_core.specs.Internal.CommonReading.{common_of}
 use Rattle.semver_core.specs.Text.Identifiers.{Id, Numeric, AlphaNumeric}
@@ -10,144 +11,48 @@ use Rattle.semver_core.specs.Values.Versions.{VersionValue, release_value}
 abbrev limit : ℕ
 limit = 9007199254740991
 
+-- each text is this version
+abbrev Read : List (List ℕ × VersionValue) → Type 0
+Read rows = map (λ row. common_of limit row.0) rows ≡ map (λ row. Some row.1) rows
+
 -- `1.2.3` with these identifiers
 abbrev of : List Id → List Id → VersionValue
 of pre build = record (release_value 1 2 3) { pre_release = pre; build = build }
 
-release : common_of limit (codes "1.2.3") ≡ Some (of [] [])
-unfolding digits_from list_len
-release = refl
+abbrev text : List ℕ → List Id
+text bytes = AlphaNumeric bytes ∷ []
 
-small_mark : common_of limit (codes "v1.2.3") ≡ Some (of [] [])
+common : Read (
+    (codes "1.2.3", of [] []) ∷
+    (codes "v1.2.3", of [] []) ∷
+    (codes "01.002.3", of [] []) ∷
+    (codes "1.2.3-alpha.1", of (AlphaNumeric (codes "alpha") ∷ Numeric 1 ∷ []) []) ∷
+    (codes "1.2.3+build.7", of [] (AlphaNumeric (codes "build") ∷ Numeric 7 ∷ [])) ∷
+    (codes "1.2.3-alpha.1+build.7", of (AlphaNumeric (codes "alpha") ∷ Numeric 1 ∷ []) (AlphaNumeric (codes "build") ∷ Numeric 7 ∷ [])) ∷
+    (codes "1.2.3beta", of (text (codes "beta")) []) ∷
+    (codes "1.2.3a+b", of (text (codes "a")) (text (codes "b"))) ∷
+    (codes "1.2.3--", of (text (codes "-")) []) ∷
+    (codes "1.2.3---", of (text (codes "--")) []) ∷
+    (codes "1.2.3-18446744073709551616", of (text (codes "18446744073709551616")) []) ∷ []
+    )
 unfolding digits_from list_len
-small_mark = refl
-
-leading_zeros : common_of limit (codes "01.002.3") ≡ Some (of [] [])
-unfolding digits_from list_len
-leading_zeros = refl
-
-pre_release : common_of limit (codes "1.2.3-alpha.1") ≡ Some (of (AlphaNumeric (codes "alpha") ∷ Numeric 1 ∷ []) [])
-unfolding digits_from list_len
-pre_release = refl
-
-build : common_of limit (codes "1.2.3+build.7") ≡ Some (of [] (AlphaNumeric (codes "build") ∷ Numeric 7 ∷ []))
-unfolding digits_from list_len
-build = refl
-
-both : common_of limit (codes "1.2.3-alpha.1+build.7") ≡ Some (of (AlphaNumeric (codes "alpha") ∷ Numeric 1 ∷ []) (AlphaNumeric (codes "build") ∷ Numeric 7 ∷ []))
-unfolding digits_from list_len
-both = refl
-
-bare : common_of limit (codes "1.2.3beta") ≡ Some (of (AlphaNumeric (codes "beta") ∷ []) [])
-unfolding digits_from list_len
-bare = refl
-
-bare_and_build : common_of limit (codes "1.2.3a+b") ≡ Some (of (AlphaNumeric (codes "a") ∷ []) (AlphaNumeric (codes "b") ∷ []))
-unfolding digits_from list_len
-bare_and_build = refl
-
-dashes : common_of limit (codes "1.2.3--") ≡ Some (of (AlphaNumeric (codes "-") ∷ []) [])
-unfolding digits_from list_len
-dashes = refl
-
-three_dashes : common_of limit (codes "1.2.3---") ≡ Some (of (AlphaNumeric (codes "--") ∷ []) [])
-unfolding digits_from list_len
-three_dashes = refl
-
-long_digits : common_of limit (codes "1.2.3-18446744073709551616") ≡ Some (of (AlphaNumeric (codes "18446744073709551616") ∷ []) [])
-unfolding digits_from list_len
-long_digits = refl
+common = refl
 
 -- not common, also where a version stands at the front
-empty : common_of limit (codes "") ≡ None
-unfolding digits_from list_len
-empty = refl
+is_common : List ℕ → Bool
+is_common text = is_some (common_of limit text)
 
-mark_alone : common_of limit (codes "v") ≡ None
-unfolding digits_from list_len
-mark_alone = refl
+uncommon-1 : list_any is_common (
+    codes "" ∷ codes "v" ∷ codes "1.2" ∷ codes "1..3" ∷ codes "vv1.2.3" ∷ codes "1.2.3.4" ∷ codes "V1.2.3" ∷
+    codes " 1.2.3" ∷ codes "v 1.2.3" ∷ codes "1.2.3-" ∷ codes "1.2.3+" ∷ codes "1.2.3." ∷ []
+    ) ≡ false
+unfolding is_common digits_from list_len
+uncommon-1 = refl
 
-two_numbers : common_of limit (codes "1.2") ≡ None
-unfolding digits_from list_len
-two_numbers = refl
-
-no_minor : common_of limit (codes "1..3") ≡ None
-unfolding digits_from list_len
-no_minor = refl
-
-two_marks : common_of limit (codes "vv1.2.3") ≡ None
-unfolding digits_from list_len
-two_marks = refl
-
-four_numbers : common_of limit (codes "1.2.3.4") ≡ None
-unfolding digits_from list_len
-four_numbers = refl
-
-capital_mark : common_of limit (codes "V1.2.3") ≡ None
-unfolding digits_from list_len
-capital_mark = refl
-
-space_before : common_of limit (codes " 1.2.3") ≡ None
-unfolding digits_from list_len
-space_before = refl
-
-space_behind_mark : common_of limit (codes "v 1.2.3") ≡ None
-unfolding digits_from list_len
-space_behind_mark = refl
-
-dash_alone : common_of limit (codes "1.2.3-") ≡ None
-unfolding digits_from list_len
-dash_alone = refl
-
-plus_alone : common_of limit (codes "1.2.3+") ≡ None
-unfolding digits_from list_len
-plus_alone = refl
-
-dot_behind : common_of limit (codes "1.2.3.") ≡ None
-unfolding digits_from list_len
-dot_behind = refl
-
-empty_pre_release : common_of limit (codes "1.2.3-+b") ≡ None
-unfolding digits_from list_len
-empty_pre_release = refl
-
-two_builds : common_of limit (codes "1.2.3+a+b") ≡ None
-unfolding digits_from list_len
-two_builds = refl
-
-two_dots : common_of limit (codes "1.2.3-a..b") ≡ None
-unfolding digits_from list_len
-two_dots = refl
-
-dot_behind_pre_release : common_of limit (codes "1.2.3-a.") ≡ None
-unfolding digits_from list_len
-dot_behind_pre_release = refl
-
-plus_behind_pre_release : common_of limit (codes "1.2.3-a+") ≡ None
-unfolding digits_from list_len
-plus_behind_pre_release = refl
-
-dot_before_build : common_of limit (codes "1.2.3-a.+b") ≡ None
-unfolding digits_from list_len
-dot_before_build = refl
-
-dot_behind_build : common_of limit (codes "1.2.3+a.") ≡ None
-unfolding digits_from list_len
-dot_behind_build = refl
-
-space_behind : common_of limit (codes "1.2.3 ") ≡ None
-unfolding digits_from list_len
-space_behind = refl
-
-space_behind_pre_release : common_of limit (codes "1.2.3-a ") ≡ None
-unfolding digits_from list_len
-space_behind_pre_release = refl
-
-past_the_limit : common_of limit (codes "1.2.9007199254740992") ≡ None
-unfolding digits_from list_len
-past_the_limit = refl
-
--- `1.2.3-` and `ł`, whose code ends in the byte of `A`
-letter_beyond : common_of limit (codes "1.2.3-" ++ encode_utf8 0x141) ≡ None
-unfolding digits_from list_len encode_utf8
-letter_beyond = refl
+-- the last but one is `1.2.3-` and `ł`, whose code ends in the byte of `A`
+uncommon-2 : list_any is_common (
+    codes "1.2.3-+b" ∷ codes "1.2.3+a+b" ∷ codes "1.2.3-a..b" ∷ codes "1.2.3-a." ∷ codes "1.2.3-a+" ∷ codes "1.2.3-a.+b" ∷
+    codes "1.2.3+a." ∷ codes "1.2.3 " ∷ codes "1.2.3-a " ∷ (codes "1.2.3-" ++ encode_utf8 0x141) ∷ codes "1.2.9007199254740992" ∷ []
+    ) ≡ false
+unfolding is_common digits_from list_len encode_utf8
+uncommon-2 = refl

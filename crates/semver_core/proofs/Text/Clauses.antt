@@ -4,7 +4,8 @@ use Rattle.std.proofs.Common.{Result, Ok, Err}
 use Rattle.std.specs.Result.{IfOk}
 use Rattle.std.specs.Prelude.{Vec}
 use Rattle.std.specs.declared.alloc.Global.{Global}
-use Rattle.semver_core.specs.Values.Views.{ids_view, list_view}
+use Rattle.semver_core.specs.Values.Views.{ids_view}
+use Rattle.semver_core.specs.Internal.Reading.{list_view}
 use Rattle.semver_core.specs.declared.identifier.Identifier.{Identifier}
 use Rattle.std.specs.Option.{IfSome, IfNone}
 use Rattle.semver_core.specs.Text.Characters.{IsPieceAt, NoPieceAt}

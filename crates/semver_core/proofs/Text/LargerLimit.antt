@@ -1,7 +1,8 @@
 -- For proofs. What a larger limit on numbers leaves as it is.
 use Rattle.std.proofs.Common.{◌≡◌, ◌≤◌, ℕ, List, arith}
-use Rattle.semver_core.specs.Text.VersionText.{HasOneReading, Reads}
+use Rattle.semver_core.specs.Text.VersionText.{Reads}
 use Rattle.semver_core.specs.Text.Numbers.{IsNumber, IsWholeNumber}
+use Rattle.semver_core.specs.Internal.Reading.{HasOneReading}
 use Rattle.semver_core.specs.Values.Versions.{VersionValue}
 
 number_kept : (small large : ℕ) (digits : List ℕ) (n : ℕ) → small ≤ large → IsNumber small digits n → IsNumber large digits n

@@ -13,10 +13,8 @@ use Rattle.semver_core.specs.Text.Identifiers.{Id, Numeric, identifier_of, IsLon
 use Rattle.semver_core.specs.Internal.Reading.{list_at}
 use Rattle.semver_core.specs.Values.Views.{id_view, ids_view}
 use Rattle.semver_core.specs.declared.identifier.Identifier.{Identifier}
+use Rattle.semver_core.proofs.Text.Runs.{ascii as small_char}
 use Rattle.semver_core.proofs.Text.Pieces.{first_char, list_complete, runs_begin, runs_tail, tail_onto, tail_runs}
-
-low : (c : ℕ) → is_identifier_char c ≡ true → c < 128
-low c h = grind (arith, nat_tests)
 
 ascii : (text : List ℕ) → tail_runs (pieces text) ≡ true → IsAscii text
 ascii [] h = IsAscii-nil
@@ -27,7 +25,7 @@ ascii (c ∷ rest) h = elim (cases_Bool (eqb c 46)) [
       IsAscii-cons c rest small (ascii rest (runs_tail (pieces rest) runs))
   | inr other ↦
       let split : tail_runs (onto_first c (pieces rest)) ≡ true = rw other at h in
-      IsAscii-cons c rest (low c (first_char c (pieces rest) split)) (ascii rest (tail_onto c (pieces rest) split))
+      IsAscii-cons c rest (small_char c (first_char c (pieces rest) split)) (ascii rest (tail_onto c (pieces rest) split))
 ]
 
 pub listed_utf8 : (text : List ℕ) → is_listed text ≡ true → IsUtf8 text

@@ -37,28 +37,8 @@ of_digits run d small =
     let fits : ltb (digits_value 10 run) (2 ^ 64) ≡ true = grind (arith, nat_tests) in
     rw (d, fits) refl
 
-of_long : (run : List ℕ) → list_all is_ascii_digit run ≡ true → (digits_value 10 run < 2 ^ 64 → ⊥) → identifier_of run ≡ AlphaNumeric run
-of_long run d big =
-    let over : ltb (digits_value 10 run) (2 ^ 64) ≡ false = grind (arith, nat_tests) in
-    rw (d, over) refl
-
-pub other_run : (run : List ℕ) → list_all is_ascii_digit run ≡ false → identifier_of run ≡ AlphaNumeric run
-other_run run d = rw d refl
-
-run_some : (run : List ℕ) → is_identifier run ≡ true → 0 < length run
-run_some run h = ltb-true 0 (length run) (first_so _ _ h)
-
 drop_one : (rest : List ℕ) (c n : ℕ) → drop (1 + n) (c ∷ rest) ≡ drop n rest
 drop_one rest c n = rw (add_comm 1 n, add-one n) refl
-
-pub numeric_run : {E : Type 0} (run : List ℕ) (r : Result ℕ E) → ParsesUnsigned 64 10 run r → list_all is_ascii_digit run ≡ true → is_identifier run ≡ true
-    → MatchResult r (λ n. identifier_of run ≡ Numeric n) (λ _. identifier_of run ≡ AlphaNumeric run)
-numeric_run {E} run (Ok n) h d some =
-    let p = parse_digits numerals {E = E} 64 run (Ok n) h d in
-    of_digits run d p.0.1 ∙ ap Numeric (sym p.1)
-numeric_run {E} run (Err e) h d some =
-    let p = parse_digits numerals {E = E} 64 run (Err e) h d in
-    of_long run d (λ small. p (run_some run some, small))
 
 -- the list goes over the run at its front, and then as the rest does
 list_len_run : (t : List ℕ) → list_len t ≡ prefix_len is_identifier_char t + list_len (drop (prefix_len is_identifier_char t) t)
@@ -139,24 +119,11 @@ list_next t h =
     let facts = list_next_at t dot.0 n refl dot.1 dot.2 in
     (rw next facts.0, rw next facts.1, rw next dot.2)
 
-all_prefix : (t : List ℕ) → list_all is_identifier_char (take (prefix_len is_identifier_char t) t) ≡ true
-all_prefix [] = refl
-all_prefix (c ∷ rest) = elim (cases_Bool (is_identifier_char c)) [
-  | inl passes ↦ rw (passes, add_comm 1 (prefix_len is_identifier_char rest), add-one (prefix_len is_identifier_char rest), passes) (all_prefix rest)
-  | inr fails ↦ rw fails refl
-]
-
 prefix_some : (t : List ℕ) → begins is_identifier_char t ≡ true → 0 < prefix_len is_identifier_char t
 prefix_some [] h = cc
 prefix_some (c ∷ rest) h = rw h (omega arith)
 
-pub run_is_run : (t : List ℕ) → begins is_identifier_char t ≡ true → is_identifier (take (prefix_len is_identifier_char t) t) ≡ true
-run_is_run t h =
-    let some : ltb 0 (length (take (prefix_len is_identifier_char t) t)) ≡ true =
-    grind (arith, nat_tests, prefix_some t h, length-prefix_len is_identifier_char t) in
-    rw (some, all_prefix t) refl
-
-ascii : (c : ℕ) → is_identifier_char c ≡ true → c < 128
+pub ascii : (c : ℕ) → is_identifier_char c ≡ true → c < 128
 ascii c h = grind (arith, nat_tests)
 
 -- a text may be cut after a run

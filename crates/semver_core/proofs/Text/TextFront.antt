@@ -1,20 +1,20 @@
--- Bytes that are UTF-8 are a text as a whole.
-use Rattle.std.proofs.Common.{◌≡◌, ℕ, List, [], ◌∷◌, ◌++◌, length, refl, sym, ap, ◌∙◌, arith, length-append, append-nil}
+-- The longest front of some bytes that is a text.
+use Rattle.std.proofs.Common.{◌≡◌, ℕ, List, [], ◌∷◌, ◌++◌, length, take, refl, sym, ap, ◌∙◌, arith}
 use Rattle.std.specs.Prelude.{IsUtf8}
 use Rattle.std.specs.Str.Lossy.{utf8_valid_len}
+use Rattle.std.proofs.lemmas.List.{take_at, take_all}
 use Rattle.std.proofs.lemmas.Str.{utf8_valid_len-IsUtf8}
 
-nothing : (xs : List ℕ) → length xs ≡ 0 → [] ≡ xs
-nothing [] e = refl
-nothing (x ∷ xs) e = absurd (omega (arith, e))
+pub no_front : (bytes : List ℕ) → length bytes ≡ 0 → [] ≡ take (utf8_valid_len bytes) bytes
+unfolding utf8_valid_len
+no_front [] e = refl
+no_front (x ∷ xs) e = absurd (omega (arith, e))
 
-pub none_is_all : (bytes : List ℕ) → length bytes ≡ 0 → [] ≡ bytes
-none_is_all bytes e = nothing bytes e
+pub front_is : (bytes valid invalid rest : List ℕ) → bytes ≡ valid ++ (invalid ++ rest) → length valid ≡ utf8_valid_len bytes
+    → valid ≡ take (utf8_valid_len bytes) bytes
+front_is bytes valid invalid rest parts size = sym (ap (take (utf8_valid_len bytes)) parts ∙ take_at valid (invalid ++ rest) (utf8_valid_len bytes) size)
 
-pub text_is_all : (bytes valid invalid rest : List ℕ) → bytes ≡ valid ++ (invalid ++ rest) → length valid ≡ utf8_valid_len bytes → IsUtf8 bytes → valid ≡ bytes
-text_is_all bytes valid invalid rest parts size u =
-    let all = utf8_valid_len-IsUtf8 bytes u in
-    let left : length (invalid ++ rest) ≡ 0 = omega (arith, ap length parts, length-append valid (invalid ++ rest), size, all) in
-    sym (append-nil valid) ∙ ap (λ t. valid ++ t) (nothing (invalid ++ rest) left) ∙ sym parts
+pub front_is_all : (bytes front : List ℕ) → front ≡ take (utf8_valid_len bytes) bytes → IsUtf8 bytes → front ≡ bytes
+front_is_all bytes front e u = e ∙ ap (λ n. take n bytes) (utf8_valid_len-IsUtf8 bytes u) ∙ take_all (length bytes) bytes (omega arith)
 
-pub ruleset text_fronts = (none_is_all, text_is_all)
+pub ruleset text_fronts = (no_front, front_is, front_is_all)

@@ -2,7 +2,7 @@
 use Rattle.std.proofs.Common.{◌≡◌, ◌==◌, ◌<◌, ◌+◌, ℕ, Bool, true, false, List, [], ◌∷◌, ◌++◌, length, drop, take, Option, Some, None, refl, sym, ap, ◌∙◌, subst, arith, inl, inr, eqb, cond, append_assoc, add-zero}
 use Rattle.std.proofs.lemmas.Bool.{cases_Bool, eqb-true}
 use Rattle.semver_core.specs.Text.Characters.{begins, is_identifier_char, IsBlank}
-use Rattle.semver_core.specs.Text.VersionText.{HasNoVersion, HasOneReading, HasVersionWithIdentifiers, IsMark, IsPreRelease, IsBuild, Reads, begins_pre_release, begins_build}
+use Rattle.semver_core.specs.Text.VersionText.{HasNoVersion, HasVersionWithIdentifiers, IsMark, IsPreRelease, IsBuild, Reads, begins_pre_release, begins_build}
 use Rattle.semver_core.specs.Text.VersionText.{dashed, bare, no_pre_release, plus, no_build, no_mark, small_mark, capital_mark}
 use borrow.Author.Tests.{eq-eqb}
 use Rattle.std.specs.Option.{IsSomeAnd, IfSome, IfNone}
@@ -18,7 +18,8 @@ use Rattle.std.specs.Prelude.{IsUtf8, IsCharBoundary, slice_range}
 use Rattle.semver_core.specs.Text.Characters.{is_whitespace, BeginsBlank, IsAfterBlank}
 use Rattle.semver_core.specs.Text.Identifiers.{Id}
 use Rattle.semver_core.specs.Text.Numbers.{IsNumber, IsWholeNumber}
-use Rattle.semver_core.specs.Internal.Reading.{◌>>?◌, list_of, list_len, number_at, list_at, past, triple_at, or_nothing, pre_release_at, build_at, qualified, version_at, mark_len}
+use Rattle.semver_core.specs.Internal.Reading.{◌>>?◌, list_of, list_len, number_at, list_at, part_at, past, triple_at, or_nothing, pre_release_at, build_at, qualified, version_at, mark_len}
+use Rattle.semver_core.specs.Internal.Reading.{HasOneReading}
 use Rattle.semver_core.specs.Values.Versions.{VersionValue, HasIdentifiers}
 use Rattle.semver_core.proofs.Text.Pieces.{some_inside, rest_at, number_sound, number_complete, list_sound, list_complete, list_none, runs_begin}
 use Rattle.semver_core.proofs.Text.Runs.{drop_next}
@@ -45,6 +46,24 @@ past_complete c text at rest e =
     let same : eqb c c ≡ true = eq-eqb c c refl in
     (rw (e, same) refl, drop_next at text rest c e)
 
+-- a number and the dot behind it
+part_sound : (limit : ℕ) (text : List ℕ) (at n next : ℕ) → part_at limit text at ≡ Some (n, next)
+    → (digits : List ℕ) × (drop at text ≡ digits ++ 46 ∷ drop next text) × IsNumber limit digits n
+part_sound limit text at n next e =
+    let found = bind_some (number_at limit text at) _ (n, next) e in
+    let dot = bind_some (past 46 text found.0.1) _ (n, next) found.2 in
+    let s = number_sound limit text at found.0.0 found.0.1 found.1 in
+    let same = some_inside (found.0.0, dot.0) (n, next) dot.2 in
+    let P : (ℕ × ℕ) → Type 0 = λ q. (digits : List ℕ) × (drop at text ≡ digits ++ 46 ∷ drop q.1 text) × IsNumber limit digits q.0 in
+    subst P same (s.0, s.1 ∙ ap (λ t. s.0 ++ t) (past_sound 46 text found.0.1 dot.0 dot.1), s.2.number)
+
+part_complete : (limit : ℕ) (text : List ℕ) (at n : ℕ) (digits rest : List ℕ) → drop at text ≡ digits ++ 46 ∷ rest → IsNumber limit digits n
+    → (part_at limit text at ≡ Some (n, at + length digits + 1)) × (drop (at + length digits + 1) text ≡ rest)
+part_complete limit text at n digits rest e is =
+    let a = number_complete limit text at n digits (46 ∷ rest) e (record { number = is; ended = refl }) in
+    let dot = past_complete 46 text (at + length digits) rest a.1 in
+    (rw (a.0, dot.0) refl, dot.1)
+
 record Triple (limit : ℕ) (text : List ℕ) (at M m p end : ℕ) : Type 0 where
   major : List ℕ
   minor : List ℕ
@@ -54,45 +73,33 @@ record Triple (limit : ℕ) (text : List ℕ) (at M m p end : ℕ) : Type 0 wher
   minor_is : IsNumber limit minor m
   patch_is : IsWholeNumber limit patch (drop end text) p
 
-triple_join : (limit : ℕ) (text : List ℕ) (at M a b m c d p end : ℕ) → number_at limit text at ≡ Some (M, a) → past 46 text a ≡ Some b → number_at limit text b ≡ Some (m, c)
-    → past 46 text c ≡ Some d → number_at limit text d ≡ Some (p, end) → Triple limit text at M m p end
-triple_join limit text at M a b m c d p end e f g h i =
-    let major = number_sound limit text at M a e in
-    let dot = past_sound 46 text a b f in
-    let minor = number_sound limit text b m c g in
-    let stop = past_sound 46 text c d h in
-    let patch = number_sound limit text d p end i in
-    record {
+triple_sound : (limit : ℕ) (text : List ℕ) (at : ℕ) (t : ℕ × ℕ × ℕ × ℕ) → triple_at limit text at ≡ Some t → Triple limit text at t.0 t.1 t.2 t.3
+triple_sound limit text at t e =
+    let a = bind_some (part_at limit text at) _ t e in
+    let b = bind_some (part_at limit text a.0.1) _ t a.2 in
+    let c = bind_some (number_at limit text b.0.1) _ t b.2 in
+    let major = part_sound limit text at a.0.0 a.0.1 a.1 in
+    let minor = part_sound limit text a.0.1 b.0.0 b.0.1 b.1 in
+    let patch = number_sound limit text b.0.1 c.0.0 c.0.1 c.1 in
+    let P : (ℕ × ℕ × ℕ × ℕ) → Type 0 = λ q. Triple limit text at q.0 q.1 q.2 q.3 in
+    subst P (some_inside (a.0.0, b.0.0, c.0.0, c.0.1) t c.2) (record {
       major = major.0;
       minor = minor.0;
       patch = patch.0;
-      divided = major.1 ∙ ap (λ t. major.0 ++ t) (dot ∙ ap (λ t. 46 ∷ t) (minor.1 ∙ ap (λ t. minor.0 ++ t) (stop ∙ ap (λ t. 46 ∷ t) patch.1)));
-      major_is = major.2.number;
-      minor_is = minor.2.number;
+      divided = major.1 ∙ ap (λ t. major.0 ++ 46 ∷ t) (minor.1 ∙ ap (λ t. minor.0 ++ 46 ∷ t) patch.1);
+      major_is = major.2;
+      minor_is = minor.2;
       patch_is = patch.2;
-    }
-
-triple_sound : (limit : ℕ) (text : List ℕ) (at : ℕ) (t : ℕ × ℕ × ℕ × ℕ) → triple_at limit text at ≡ Some t → Triple limit text at t.0 t.1 t.2 t.3
-triple_sound limit text at t e =
-    let a = bind_some (number_at limit text at) _ t e in
-    let b = bind_some (past 46 text a.0.1) _ t a.2 in
-    let c = bind_some (number_at limit text b.0) _ t b.2 in
-    let d = bind_some (past 46 text c.0.1) _ t c.2 in
-    let f = bind_some (number_at limit text d.0) _ t d.2 in
-    let P : (ℕ × ℕ × ℕ × ℕ) → Type 0 = λ q. Triple limit text at q.0 q.1 q.2 q.3 in
-    subst P (some_inside (a.0.0, c.0.0, f.0.0, f.0.1) t f.2)
-    (triple_join limit text at a.0.0 a.0.1 b.0 c.0.0 c.0.1 d.0 f.0.0 f.0.1 a.1 b.1 c.1 d.1 f.1)
+    })
 
 pub triple_complete : (limit : ℕ) (text : List ℕ) (at M m p : ℕ) (major minor patch rest : List ℕ) → drop at text ≡ major ++ 46 ∷ (minor ++ 46 ∷ (patch ++ rest))
     → IsNumber limit major M → IsNumber limit minor m → IsWholeNumber limit patch rest p
     → (end : ℕ) × (triple_at limit text at ≡ Some (M, m, p, end)) × (drop end text ≡ rest)
 triple_complete limit text at M m p major minor patch rest e f g h =
-    let a = number_complete limit text at M major (46 ∷ (minor ++ 46 ∷ (patch ++ rest))) e (record { number = f; ended = refl }) in
-    let dot = past_complete 46 text (at + length major) (minor ++ 46 ∷ (patch ++ rest)) a.1 in
-    let b = number_complete limit text (at + length major + 1) m minor (46 ∷ (patch ++ rest)) dot.1 (record { number = g; ended = refl }) in
-    let stop = past_complete 46 text (at + length major + 1 + length minor) (patch ++ rest) b.1 in
-    let c = number_complete limit text (at + length major + 1 + length minor + 1) p patch rest stop.1 h in
-    (at + length major + 1 + length minor + 1 + length patch, rw (a.0, dot.0, b.0, stop.0, c.0) refl, c.1)
+    let a = part_complete limit text at M major (minor ++ 46 ∷ (patch ++ rest)) e f in
+    let b = part_complete limit text (at + length major + 1) m minor (patch ++ rest) a.1 g in
+    let c = number_complete limit text (at + length major + 1 + length minor + 1) p patch rest b.1 h in
+    (at + length major + 1 + length minor + 1 + length patch, rw (a.0, b.0, c.0) refl, c.1)
 
 no_front : (c : ℕ) (s r : List ℕ) → begins (λ b. b == c) (s ++ r) ≡ false → begins (λ b. b == c) s ≡ false
 no_front c [] r h = refl
@@ -406,12 +413,14 @@ loose_at limit text start v a r =
 pub loose_none : (limit : ℕ) (text : List ℕ) (start : ℕ) → IsAfterBlank text (mark_len text) start → version_at limit text start ≡ None → HasNoVersion limit text
 loose_none limit text start a e v r = cc (e, loose_at limit text start v a r)
 
+-- a version that is read and has identifiers
+pub memory_read : (limit : ℕ) (text : List ℕ) (o : Option VersionValue) → ((v : VersionValue) → o ≡ Some v → Reads limit text v) → IsSomeAnd o HasIdentifiers
+    → HasVersionWithIdentifiers limit text
+memory_read limit text None f h = absurd h
+memory_read limit text (Some v) f h = (v, f v refl, h)
+
 pub loose_memory : (limit : ℕ) (text : List ℕ) (start : ℕ) → IsAfterBlank text (mark_len text) start → IsSomeAnd (version_at limit text start) HasIdentifiers → HasVersionWithIdentifiers limit text
-loose_memory limit text start a h = at_some (version_at limit text start) h (λ v e. loose_some limit text start v a e)
-  where
-    at_some : (o : Option VersionValue) → IsSomeAnd o HasIdentifiers → ((v : VersionValue) → o ≡ Some v → Reads limit text v) → HasVersionWithIdentifiers limit text
-    at_some None h f = absurd h
-    at_some (Some v) h f = (v, f v refl, h)
+loose_memory limit text start a h = memory_read limit text (version_at limit text start) (λ v e. loose_some limit text start v a e) h
 
 -- the three clauses of a reader whose answer is `version_at`
 pub found_some : (limit : ℕ) (text : List ℕ) (start : ℕ) (found : Option VersionValue) → IsAfterBlank text (mark_len text) start → found ≡ version_at limit text start → IfSome found (λ v. Reads limit text v)

@@ -1,6 +1,6 @@
 -- Serves proofs. The text without the whitespace round it, by bytes and by characters.
 use Rattle.std.proofs.Common.{◌≡◌, ℕ, ◌<◌, ◌≤◌, ◌-◌, ◌+◌, ◌/◌, ◌%◌, List, [], ◌∷◌, ◌++◌, length, get_or, take, drop, refl, sym, ap, ◌∙◌, subst, arith, true, false, inl, inr, append_assoc, length-append}
-use Rattle.std.specs.Prelude.{encode_utf8_all, IsCharBoundary, IsUtf8, reverse}
+use Rattle.std.specs.Prelude.{⊤, encode_utf8_all, IsCharBoundary, IsUtf8, reverse}
 use Rattle.std.specs.Char.{encode_utf8, len_utf8}
 use Rattle.std.specs.List.{list_all}
 use Rattle.std.proofs.Common.{append-nil}
@@ -47,59 +47,52 @@ keep_byte : (b : ℕ) (rest : List ℕ) → is_empty (drop_spaces (b ∷ rest)) 
 unfolding drop_end_spaces
 keep_byte b rest h = rw (h, drop_end_spaces) refl
 
-keep_inside : (b : ℕ) (rest : List ℕ) → 128 ≤ b → b < 192 → drop_end_spaces (b ∷ rest) ≡ b ∷ drop_end_spaces rest
-keep_inside b rest l h = keep_byte b rest (ap is_empty (drop_spaces-none (b ∷ rest) (space_len-inside b rest l h)))
+-- bytes that go on with a character, and a character as its first byte and these
+Inside : List ℕ → Type 0
+Inside [] = ⊤
+Inside (b ∷ rest) = (128 ≤ b) × (b < 192) × Inside rest
 
-keep_one : (c : ℕ) (rest : List ℕ) → c < 128 → is_empty (drop_spaces (encode_utf8 c ++ rest)) ≡ false
-    → drop_end_spaces (encode_utf8 c ++ rest) ≡ encode_utf8 c ++ drop_end_spaces rest
-keep_one c rest h some = rw (encode_ascii c h) (keep_byte c rest (rw (encode_ascii c h) at some))
+record Encoded (c : ℕ) : Type 0 where
+  first : ℕ
+  tail : List ℕ
+  spelled : encode_utf8 c ≡ first ∷ tail
+  inside : Inside tail
+  lead : 128 ≤ first → 192 ≤ first
 
-keep_two : (c : ℕ) (rest : List ℕ) → 128 ≤ c → c < 2048 → is_empty (drop_spaces (encode_utf8 c ++ rest)) ≡ false
-    → drop_end_spaces (encode_utf8 c ++ rest) ≡ encode_utf8 c ++ drop_end_spaces rest
-unfolding encode_utf8
-keep_two c rest l h some =
-    let a = 192 + c / 64 in
-    let b = 128 + c % 64 in
-    rw (le-ltb c 128 l, lt-ltb c 2048 h)
-    (keep_byte a (b ∷ rest) (rw (le-ltb c 128 l, lt-ltb c 2048 h) at some) ∙ ap (λ t. a ∷ t) (keep_inside b rest (omega arith) (omega arith)))
+encoded : (c : ℕ) → Encoded c
+unfolding encode_utf8 Inside
+encoded c = elim (cases_lt c 128) [
+  | inl one ↦ record { first = c; tail = []; spelled = encode_ascii c one; inside = tt; lead = λ h. omega arith }
+  | inr more ↦ elim (cases_lt c 2048) [
+    | inl two ↦ record {
+        first = 192 + c / 64; tail = (128 + c % 64) ∷ []; spelled = rw (le-ltb c 128 more, lt-ltb c 2048 two) refl; inside = (omega arith, omega arith, tt); lead = λ h. omega arith;
+      }
+    | inr wide ↦ elim (cases_lt c 65536) [
+      | inl three ↦ record {
+          first = 224 + c / 4096; tail = (128 + (c / 64) % 64) ∷ (128 + c % 64) ∷ []; spelled = rw (le-ltb c 128 more, le-ltb c 2048 wide, lt-ltb c 65536 three) refl;
+          inside = (omega arith, omega arith, (omega arith, omega arith, tt)); lead = λ h. omega arith;
+        }
+      | inr four ↦ record {
+          first = 240 + c / 262144; tail = (128 + (c / 4096) % 64) ∷ (128 + (c / 64) % 64) ∷ (128 + c % 64) ∷ [];
+          spelled = rw (le-ltb c 128 more, le-ltb c 2048 wide, le-ltb c 65536 four) refl;
+          inside = (omega arith, omega arith, (omega arith, omega arith, (omega arith, omega arith, tt))); lead = λ h. omega arith;
+        }
+    ]
+  ]
+]
 
-keep_three : (c : ℕ) (rest : List ℕ) → 2048 ≤ c → c < 65536 → is_empty (drop_spaces (encode_utf8 c ++ rest)) ≡ false
-    → drop_end_spaces (encode_utf8 c ++ rest) ≡ encode_utf8 c ++ drop_end_spaces rest
-unfolding encode_utf8
-keep_three c rest l h some =
-    let one : 128 ≤ c = omega arith in
-    let a = 224 + c / 4096 in
-    let b = 128 + (c / 64) % 64 in
-    let d = 128 + c % 64 in
-    rw (le-ltb c 128 one, le-ltb c 2048 l, lt-ltb c 65536 h)
-    (keep_byte a (b ∷ d ∷ rest) (rw (le-ltb c 128 one, le-ltb c 2048 l, lt-ltb c 65536 h) at some)
-    ∙ ap (λ t. a ∷ t) (keep_inside b (d ∷ rest) (omega arith) (omega arith) ∙ ap (λ t. b ∷ t) (keep_inside d rest (omega arith) (omega arith))))
-
-keep_four : (c : ℕ) (rest : List ℕ) → 65536 ≤ c → is_empty (drop_spaces (encode_utf8 c ++ rest)) ≡ false
-    → drop_end_spaces (encode_utf8 c ++ rest) ≡ encode_utf8 c ++ drop_end_spaces rest
-unfolding encode_utf8
-keep_four c rest l some =
-    let one : 128 ≤ c = omega arith in
-    let two : 2048 ≤ c = omega arith in
-    let a = 240 + c / 262144 in
-    let b = 128 + (c / 4096) % 64 in
-    let d = 128 + (c / 64) % 64 in
-    let e = 128 + c % 64 in
-    rw (le-ltb c 128 one, le-ltb c 2048 two, le-ltb c 65536 l)
-    (keep_byte a (b ∷ d ∷ e ∷ rest) (rw (le-ltb c 128 one, le-ltb c 2048 two, le-ltb c 65536 l) at some)
-    ∙ ap (λ t. a ∷ t) (keep_inside b (d ∷ e ∷ rest) (omega arith) (omega arith)
-    ∙ ap (λ t. b ∷ t) (keep_inside d (e ∷ rest) (omega arith) (omega arith) ∙ ap (λ t. d ∷ t) (keep_inside e rest (omega arith) (omega arith)))))
+keep_inside : (bs rest : List ℕ) → Inside bs → drop_end_spaces (bs ++ rest) ≡ bs ++ drop_end_spaces rest
+unfolding Inside
+keep_inside [] rest h = refl
+keep_inside (b ∷ bs) rest h =
+    keep_byte b (bs ++ rest) (ap is_empty (drop_spaces-none (b ∷ (bs ++ rest)) (space_len-inside b (bs ++ rest) h.0 h.1))) ∙ ap (λ t. b ∷ t) (keep_inside bs rest h.2)
 
 -- a character stays where more than whitespace is left
 keep_char : (c : ℕ) (rest : List ℕ) → is_empty (drop_spaces (encode_utf8 c ++ rest)) ≡ false
     → drop_end_spaces (encode_utf8 c ++ rest) ≡ encode_utf8 c ++ drop_end_spaces rest
-keep_char c rest some = elim (cases_lt c 128) [
-  | inl one ↦ keep_one c rest one some
-  | inr more ↦ elim (cases_lt c 2048) [
-    | inl two ↦ keep_two c rest more two some
-    | inr more ↦ elim (cases_lt c 65536) [ inl three ↦ keep_three c rest more three some | inr four ↦ keep_four c rest four some ]
-  ]
-]
+keep_char c rest some =
+    let e = encoded c in
+    rw e.spelled (keep_byte e.first (e.tail ++ rest) (rw e.spelled at some) ∙ ap (λ t. e.first ∷ t) (keep_inside e.tail rest e.inside))
 
 drop_end-all : (text : List ℕ) → drop_spaces text ≡ [] → drop_end_spaces text ≡ []
 unfolding drop_end_spaces
@@ -331,16 +324,7 @@ trim_in_two text rest middle start utf8 a r m =
 -- what stands before the last character
 
 lead_byte : (c : ℕ) → 128 ≤ get_or (encode_utf8 c) 0 0 → 192 ≤ get_or (encode_utf8 c) 0 0
-lead_byte c h = elim (cases_lt c 128) [
-  | inl one ↦ absurd (omega (arith, rw (encode_ascii c one) at h))
-  | inr more ↦ elim (cases_lt c 2048) [
-    | inl two ↦ unfold encode_utf8 in rw (le-ltb c 128 more, lt-ltb c 2048 two) (omega arith)
-    | inr wide ↦ elim (cases_lt c 65536) [
-      | inl three ↦ unfold encode_utf8 in rw (le-ltb c 128 more, le-ltb c 2048 wide, lt-ltb c 65536 three) (omega arith)
-      | inr four ↦ unfold encode_utf8 in rw (le-ltb c 128 more, le-ltb c 2048 wide, le-ltb c 65536 four) (omega arith)
-    ]
-  ]
-]
+lead_byte c h = let e = encoded c in rw e.spelled (e.lead (rw e.spelled at h))
 
 pub before_last : (text before : List ℕ) (c : ℕ) → IsUtf8 text → text ≡ before ++ encode_utf8 c → IsUtf8 before
 before_last text before c utf8 e =

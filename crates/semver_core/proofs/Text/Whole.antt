@@ -9,20 +9,17 @@ use Rattle.std.specs.Option.{IsSomeAnd, IfSome, IfNone}
 use Rattle.semver_core.specs.Text.Characters.{begins, is_identifier_char, IsBlank}
 use Rattle.semver_core.specs.Text.Common.{IsCommon, IsUncommon}
 use Rattle.semver_core.specs.Internal.CommonReading.{small_len, at_end, whole_at, common_of}
-use Rattle.semver_core.specs.Text.VersionText.{HasVersionWithIdentifiers, HasNoVersion, HasOneReading, begins_pre_release, IsMark, Reads, begins_build, no_mark, small_mark, capital_mark}
+use Rattle.semver_core.specs.Text.VersionText.{HasVersionWithIdentifiers, HasNoVersion, begins_pre_release, IsMark, Reads, begins_build, no_mark, small_mark, capital_mark}
 use Rattle.semver_core.specs.Text.Identifiers.{Id}
 use Rattle.semver_core.specs.Internal.Reading.{triple_at, pre_release_at, build_at, lists_at, qualified, version_at}
+use Rattle.semver_core.specs.Internal.Reading.{HasOneReading}
 use Rattle.semver_core.specs.Values.Versions.{VersionValue, HasIdentifiers}
 use Rattle.semver_core.proofs.Text.Pieces.{some_inside}
-use Rattle.semver_core.proofs.Text.Texts.{rest_of, divided_at, bind_some, triple_complete, pre_complete, none_build, build_complete, number_begins, pick, none_pre, version_sound}
+use Rattle.semver_core.proofs.Text.Texts.{memory_read, rest_of, divided_at, bind_some, triple_complete, pre_complete, none_build, build_complete, number_begins, pick, none_pre, version_sound}
 
 at_end_some : {A : Type 0} (rest : List ℕ) (x y : A) → at_end rest x ≡ Some y → (rest ≡ []) × (x ≡ y)
 at_end_some [] x y e = (refl, some_inside x y e)
 at_end_some (c ∷ rest) x y e = cc
-
-at_end_is : {A : Type 0} (rest : List ℕ) (x : A) → rest ≡ [] → at_end rest x ≡ Some x
-at_end_is [] x e = refl
-at_end_is (c ∷ rest) x e = cc
 
 front_is : (m : List ℕ) (c : ℕ) → m ≡ c ∷ [] → m ≡ 86 ∷ [] → c ≡ 86
 front_is m c e f = ap (λ l. get_or l 0 0) (sym e ∙ f)
@@ -106,15 +103,8 @@ alike limit text (Some v) (Some w) f l n one = ap Some (one limit w v l f.divisi
 
 -- ---- what the code finds
 
-nothing_left : (text : List ℕ) (end : ℕ) → length text ≤ end → drop end text ≡ []
-nothing_left text end le = drop_all end text le
-
 something_left : {A : Type 0} (text : List ℕ) (end : ℕ) (x : A) → end < length text → at_end (drop end text) x ≡ None
 something_left text end x lt = rw (drop-cons text end 0 lt) refl
-
-pub whole_found : (text : List ℕ) (major minor patch at next end : ℕ) (pre build : List Id) → (pre, next) ≡ pre_release_at text at → (build, end) ≡ build_at text next
-    → length text ≤ end → whole_at text (major, minor, patch, at) ≡ Some (record { major = major; minor = minor; patch = patch; pre_release = pre; build = build })
-whole_found text major minor patch at next end pre build e f le = rw (← e, ← f, nothing_left text end le) refl
 
 pub whole_left : (text : List ℕ) (major minor patch at next end : ℕ) (pre build : List Id) → (pre, next) ≡ pre_release_at text at → (build, end) ≡ build_at text next
     → end < length text → whole_at text (major, minor, patch, at) ≡ None
@@ -124,13 +114,14 @@ whole_left text major minor patch at next end pre build e f lt = rw (← e, ← 
 abbrev placed : List Id → ℕ → List Id × ℕ
 placed list end = (list, end)
 
--- the same of both lists at once
+-- both lists at once
 pub lists_found : (text : List ℕ) (major minor patch at end : ℕ) (pre build : List Id) → (pre, build, end) ≡ lists_at text at → length text ≤ end
     → whole_at text (major, minor, patch, at) ≡ Some (record { major = major; minor = minor; patch = patch; pre_release = pre; build = build })
 lists_found text major minor patch at end pre build e le =
     let next = (pre_release_at text at).1 in
-    whole_found text major minor patch at next end pre build
-    (ap (λ (l : List Id × List Id × ℕ). placed l.0 next) e) (ap (λ (l : List Id × List Id × ℕ). placed l.1 l.2) e) le
+    let first : (pre, next) ≡ pre_release_at text at = ap (λ (l : List Id × List Id × ℕ). placed l.0 next) e in
+    let second : (build, end) ≡ build_at text next = ap (λ (l : List Id × List Id × ℕ). placed l.1 l.2) e in
+    rw (← first, ← second, drop_all end text le) refl
 
 pub lists_left : (text : List ℕ) (major minor patch at end : ℕ) (pre build : List Id) → (pre, build, end) ≡ lists_at text at → end < length text
     → whole_at text (major, minor, patch, at) ≡ None
@@ -153,19 +144,15 @@ common_not limit text e = rw (← e) refl
 
 pub release_found : (limit : ℕ) (text : List ℕ) (major minor patch at : ℕ) → Some (major, minor, patch, at) ≡ triple_at limit text (small_len text) → length text ≤ at
     → common_of limit text ≡ Some (record { major = major; minor = minor; patch = patch; pre_release = []; build = [] })
-release_found limit text major minor patch at e le = common_is limit text (major, minor, patch, at) e ∙ release_at text major minor patch at (nothing_left text at le)
+release_found limit text major minor patch at e le = common_is limit text (major, minor, patch, at) e ∙ release_at text major minor patch at (drop_all at text le)
 
 pub memory_at : (limit : ℕ) (text : List ℕ) (t : ℕ × ℕ × ℕ × ℕ) → Some t ≡ triple_at limit text (small_len text) → HasIdentifiers (qualified text t)
     → IsSomeAnd (version_at limit text (small_len text)) HasIdentifiers
 memory_at limit text t e h = rw (← e) h
 
 pub common_memory : (limit : ℕ) (text : List ℕ) → IsSomeAnd (version_at limit text (small_len text)) HasIdentifiers → HasVersionWithIdentifiers limit text
-common_memory limit text h = at_some (version_at limit text (small_len text)) h (λ v e.
-    version_sound limit text (take (small_len text) text) [] (small_len text) v (sym (take-append-drop (small_len text) text)) (small_is text).0 nothing_blank e)
-  where
-    at_some : (o : Option VersionValue) → IsSomeAnd o HasIdentifiers → ((v : VersionValue) → o ≡ Some v → Reads limit text v) → HasVersionWithIdentifiers limit text
-    at_some None h f = absurd h
-    at_some (Some v) h f = (v, f v refl, h)
+common_memory limit text h = memory_read limit text (version_at limit text (small_len text)) (λ v e.
+    version_sound limit text (take (small_len text) text) [] (small_len text) v (sym (take-append-drop (small_len text) text)) (small_is text).0 nothing_blank e) h
 
 -- numbers at the front, with the lists behind them, are a version of the text
 pub front_read : (limit : ℕ) (text : List ℕ) (t : ℕ × ℕ × ℕ × ℕ) → Some t ≡ triple_at limit text (small_len text) → Reads limit text (qualified text t)

@@ -10,7 +10,7 @@ use Rattle.std.proofs.lemmas.List.Elements.{All-push}
 use Rattle.semver_core.proofs.Text.Runs.{ids_view_push}
 use Rattle.std.specs.Hash as fed
 use Rattle.std.specs.List.{flat_map}
-use Rattle.semver_core.specs.Values.Hashes.{id_writes}
+use Rattle.semver_core.specs.Internal.Hashes.{id_writes}
 use Rattle.semver_core.specs.Values.Order.{id_cmp, pre_cmp}
 use Rattle.semver_core.specs.Values.Views.{id_view, ids_view}
 use Rattle.semver_core.specs.declared.identifier.Identifier.{Identifier}

@@ -7,7 +7,9 @@ use Rattle.std.specs.Str.Parse.{digits_value}
 use Rattle.std.specs.Prelude.{nat_eq}
 use Rattle.semver_core.specs.Text.Identifiers.{Id, Numeric, AlphaNumeric, is_identifier, pieces}
 use Rattle.semver_core.specs.Printing.Text.{id_text, version_text}
+use Rattle.semver_core.specs.Values.Order.{id_cmp}
 use Rattle.semver_core.specs.Values.Versions.{VersionValue, is_release}
+use Rattle.std.specs.Ordering.{is_eq}
 use Rattle.semver_core.specs.declared.increment.IdentifierBase.{IdentifierBase}
 use Rattle.semver_core.specs.declared.increment.IdentifierBase.TheVariants.{False, Value}
 use Rattle.semver_core.specs.Lists.{is_empty}
@@ -68,23 +70,18 @@ abbrev pub advance : List Id → List ℕ → IdentifierBase → Result (List Id
 advance [] id base = Ok (Numeric (first_number base) ∷ [])
 advance (x ∷ xs) id base = if has_numeric (x ∷ xs) then raise_last (x ∷ xs) else counted (x ∷ xs) id base
 
-abbrev pub is_digits : List ℕ → Bool
-is_digits text = list_all is_ascii_digit text
-
--- an identifier of a list matches the one that was asked for: a number by its value, a text by its bytes
-abbrev pub matches_id : List ℕ → Id → Bool
-matches_id id (Numeric n) = is_digits id && digits_value 10 id == n
-matches_id id (AlphaNumeric text) = not (is_digits id) && bytes_eq text id
+-- the identifier that an asked one matches: the number that digits write, and any other text
+abbrev pub asked : List ℕ → Id
+asked id = if list_all is_ascii_digit id then Numeric (digits_value 10 id) else AlphaNumeric id
 
 -- the list begins with a match and then a number
 abbrev pub is_kept : List ℕ → List Id → Bool
-is_kept id (x ∷ y ∷ rest) = is_numeric y && matches_id id x
+is_kept id (x ∷ Numeric n ∷ rest) = is_eq (id_cmp x (asked id))
 is_kept id _ = false
 
 -- the list that an identifier begins, with a number unless the base is false
 abbrev pub begun : List ℕ → IdentifierBase → List Id
-begun id False = AlphaNumeric id ∷ []
-begun id (Value n) = AlphaNumeric id ∷ Numeric (first_number (Value n)) ∷ []
+begun id base = AlphaNumeric id ∷ (if is_false base then [] else Numeric (first_number base) ∷ [])
 
 -- the pre step, second half: with an identifier, a list that does not begin with it is begun anew
 abbrev pub identify : List ℕ → IdentifierBase → List Id → List Id
@@ -135,15 +132,11 @@ by_word word id base v =
     else if bytes_eq word (codes "release") then by_release v
     else Err (InvalidIncrementArgument word)
 
--- what is given as the identifier may be several, joined by dots
-abbrev pub is_identifiers : List ℕ → Bool
-is_identifiers id = list_all is_identifier (pieces id)
-
--- the two checks
+-- the two checks: what is given as the identifier may be several, joined by dots
 abbrev pub checked : List ℕ → IdentifierBase → Result ⊤ Fault
 checked id base =
     if is_empty id && is_false base then Err (InvalidIncrementArgument (codes "identifier is empty"))
-    else if is_empty id || is_identifiers id then Ok tt
+    else if is_empty id || list_all is_identifier (pieces id) then Ok tt
     else Err (InvalidIdentifier id)
 
 -- the checks where the word begins with `pre`, also where it is none of the words, and then the word's row

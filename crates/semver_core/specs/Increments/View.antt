@@ -1,7 +1,5 @@
--- Statement. What `inc` is given and returns, in the words of its table.
-use Rattle.std.specs.Prelude.{◌≡◌, ◌≢◌, ℕ, List, Option, Result, Ok, Err, ⊤, string_bytes}
-use denote.Ref.{Bor}
-use Rattle.std.specs.Option.{option_copied}
+-- Statement. What `inc` returns, in the words of its table.
+use Rattle.std.specs.Prelude.{◌≡◌, Result, Ok, Err, ⊤, string_bytes}
 use Rattle.semver_core.specs.Increments.Table as spec
 use Rattle.semver_core.specs.Increments.Table.{Fault}
 use Rattle.semver_core.specs.declared.error.Failure.{Failure}
@@ -15,14 +13,6 @@ fault_of (variant.InvalidIdentifier text) = spec.InvalidIdentifier (string_bytes
 fault_of (variant.InvalidIncrementArgument text) = spec.InvalidIncrementArgument (string_bytes text)
 fault_of (variant.NotAPrerelease text) = spec.NotAPrerelease (string_bytes text)
 fault_of variant.Overflow = spec.Overflow
-
--- the error has a text
-abbrev pub HasText : Fault → Type 0
-HasText fault = fault ≢ spec.Overflow
-
--- the identifier that is given, or none
-abbrev pub given : Option (Bor (List ℕ)) → Option (List ℕ)
-given id = option_copied id
 
 -- this holds of what the call returns, unless an allocation fails
 abbrev pub IfAnswered : {A : Type 0} → (Result A Fault → Type 0) → Result A (Failure IncrementError) → Type 0

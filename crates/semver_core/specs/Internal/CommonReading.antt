@@ -12,10 +12,6 @@ abbrev pub small_len : List ℕ → ℕ
 small_len [] = 0
 small_len (c ∷ rest) = if c == 118 then 1 else 0
 
--- a number with a dot behind it, and the place after the dot
-abbrev pub part_at : ℕ → List ℕ → ℕ → Option (ℕ × ℕ)
-part_at limit text at = number_at limit text at >>? λ n. past 46 text n.1 >>? λ next. Some (n.0, next)
-
 -- the value, where nothing is left
 abbrev pub at_end : {A : Type 0} → List ℕ → A → Option A
 at_end [] x = Some x

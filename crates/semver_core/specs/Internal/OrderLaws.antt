@@ -7,7 +7,7 @@ use Rattle.std.specs.FinMap.{IsAntisymmetric, nat_cmp-IsAntisymmetric, slice_cmp
 use Rattle.std.specs.declared.cmp.Ordering.{Ordering}
 use Rattle.std.specs.declared.cmp.Ordering.TheVariants.{Less, Equal, Greater}
 use Rattle.std.specs.Hash as fed
-use Rattle.semver_core.specs.Values.Hashes.{id_writes, version_writes}
+use Rattle.semver_core.specs.Internal.Hashes.{id_writes, version_writes}
 use Rattle.semver_core.specs.Text.Identifiers.{Id, Numeric, AlphaNumeric}
 use Rattle.semver_core.specs.Values.Order.{id_cmp, pre_cmp, precedence}
 use Rattle.semver_core.specs.Values.Versions.{VersionValue}

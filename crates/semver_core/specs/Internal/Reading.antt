@@ -1,10 +1,15 @@
 -- For proofs and private contracts: what a reader finds at the front of a text, as a function. It is proved to be what the
 -- grammar says.
-use Rattle.std.specs.Prelude.{ℕ, ◌+◌, ◌*◌, ◌==◌, ◌||◌, nat_lt, if◌then◌else◌, List, [], ◌∷◌, Option, Some, None, map, take, drop}
+use Rattle.std.specs.Prelude.{◌≡◌, ℕ, ◌+◌, ◌*◌, ◌==◌, ◌||◌, nat_lt, if◌then◌else◌, List, [], ◌∷◌, Option, Some, None, map, take, drop}
 use Rattle.std.specs.Char.{is_ascii_digit, digit_value}
 use Rattle.semver_core.specs.Text.Characters.{begins, is_identifier_char}
 use Rattle.semver_core.specs.Text.Identifiers.{Id, goes_on, identifier_of, pieces}
+use Rattle.semver_core.specs.Text.VersionText.{Reads}
 use Rattle.semver_core.specs.Values.Versions.{VersionValue}
+use Rattle.semver_core.specs.Values.Views.{ids_view}
+use Rattle.semver_core.specs.declared.identifier.Identifier.{Identifier}
+use Rattle.std.specs.declared.alloc.Global.{Global}
+use Rattle.std.specs.Prelude.{Vec}
 
 -- the digits have ended: their value and how many they were, where there was one
 abbrev pub digits_end : ℕ → ℕ → Option (ℕ × ℕ)
@@ -25,6 +30,11 @@ placed at (Some p) = Some (p.0, at + p.1)
 -- the number at a place, and the place after it
 abbrev pub number_at : ℕ → List ℕ → ℕ → Option (ℕ × ℕ)
 number_at limit text at = placed at (digits_from limit 0 0 (drop at text))
+
+-- a list that was found, and the place after it
+abbrev pub list_view : Option (Vec Identifier Global × ℕ) → Option (List Id × ℕ)
+list_view None = None
+list_view (Some p) = Some (ids_view p.0.items, p.1)
 
 -- how far the longest identifier list goes
 unfoldable pub list_len : List ℕ → ℕ
@@ -52,14 +62,14 @@ None >>? f = None
 abbrev pub past : ℕ → List ℕ → ℕ → Option ℕ
 past c text at = if begins (λ b. b == c) (drop at text) then Some (at + 1) else None
 
+-- a number with a dot behind it, and the place after the dot
+abbrev pub part_at : ℕ → List ℕ → ℕ → Option (ℕ × ℕ)
+part_at limit text at = number_at limit text at >>? λ n. past 46 text n.1 >>? λ next. Some (n.0, next)
+
 -- three numbers with dots between them, and the place after them
 abbrev pub triple_at : ℕ → List ℕ → ℕ → Option (ℕ × ℕ × ℕ × ℕ)
 triple_at limit text at =
-    number_at limit text at >>? λ major.
-    past 46 text major.1 >>? λ second.
-    number_at limit text second >>? λ minor.
-    past 46 text minor.1 >>? λ third.
-    number_at limit text third >>? λ patch.
+    part_at limit text at >>? λ major. part_at limit text major.1 >>? λ minor. number_at limit text minor.1 >>? λ patch.
     Some (major.0, minor.0, patch.0, patch.1)
 
 -- the list that was found, or none, and then nothing is skipped
@@ -102,3 +112,7 @@ version_at limit text at = triple_at limit text at >>? λ t. Some (qualified tex
 abbrev pub mark_len : List ℕ → ℕ
 mark_len [] = 0
 mark_len (c ∷ rest) = if c == 118 || c == 86 then 1 else 0
+
+-- whatever the limit on numbers is, one version at most stands at the front of the text
+abbrev pub HasOneReading : List ℕ → Type 0
+HasOneReading text = (limit : ℕ) (v w : VersionValue) → Reads limit text v → Reads limit text w → v ≡ w

@@ -1,5 +1,5 @@
--- Statement. Whitespace as the bytes of a text spell it. These words compute, so that what is said of range texts
--- computes too; that they are about characters is what the laws of SpaceLaws say.
+-- For proofs and private contracts: whitespace as the bytes of a text spell it, as functions. They are proved to be about
+-- its characters (`front_is_first_character`, `trim_is_middle`).
 use Rattle.std.specs.Prelude.{ℕ, zero, suc, ◌+◌, ◌*◌, ◌%◌, ◌&&◌, nat_lt, Bool, true, false, List, [], ◌∷◌, if◌then◌else◌}
 use Rattle.std.specs.Int.{is_in_range}
 use Rattle.semver_core.specs.Text.Characters.{is_whitespace}

@@ -65,12 +65,6 @@ less_first m n s h = ap (λ r. ordering_then r s) (less_nat m n h)
 pub less_second : (m n : ℕ) (s : Ordering) → m ≡ n → s ≡ Less → ordering_then (nat_cmp m n) s ≡ Less
 less_second m n s h k = ap (λ r. ordering_then r s) (same_nat m n h) ∙ k
 
-pub le_first : (m n : ℕ) (s : Ordering) → m < n → is_le (ordering_then (nat_cmp m n) s) ≡ true
-le_first m n s h = ap is_le (less_first m n s h)
-
-pub le_second : (m n : ℕ) (s : Ordering) → m ≡ n → is_le s ≡ true → is_le (ordering_then (nat_cmp m n) s) ≡ true
-le_second m n s h k = ap (λ r. is_le (ordering_then r s)) (same_nat m n h) ∙ k
-
 nat_upto : (m n : ℕ) → m ≤ n → is_le (nat_cmp m n) ≡ true
 nat_upto m n h = grind (arith, nat_tests)
 

@@ -1,5 +1,5 @@
 -- Statement: identifiers, and lists of them joined by dots.
-use Rattle.std.specs.Prelude.{◌≡◌, ◌==◌, ◌&&◌, ◌||◌, ◌^◌, nat_lt, ℕ, Bool, true, false, if◌then◌else◌, List, [], ◌∷◌, length, map, ⊤}
+use Rattle.std.specs.Prelude.{◌≡◌, ◌==◌, ◌&&◌, ◌||◌, ◌^◌, nat_lt, ℕ, Bool, true, false, if◌then◌else◌, List, [], ◌∷◌, length, map}
 use Rattle.std.specs.Char.{is_ascii_digit}
 use Rattle.std.specs.List.{list_all, slice_split}
 use Rattle.std.specs.Str.Parse.{digits_value}
@@ -50,8 +50,3 @@ goes_on (c ∷ rest) = is_identifier_char c || (c == 46 && begins is_identifier_
 pub record IsLongestIdentifiers (text rest : List ℕ) (list : List Id) : Type 0 where
   pub identifiers : IsIdentifiers text list
   pub ended : goes_on rest ≡ false
-
--- the identifier is a text
-abbrev pub IsText : Id → Type 0
-IsText (Numeric n) = ⊥
-IsText (AlphaNumeric text) = ⊤

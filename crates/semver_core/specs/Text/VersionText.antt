@@ -58,7 +58,3 @@ HasNoVersion limit text = (v : VersionValue) → Reads limit text v → ⊥
 -- a version with a pre-release or a build stands at the front of the text
 abbrev pub HasVersionWithIdentifiers : ℕ → List ℕ → Type 0
 HasVersionWithIdentifiers limit text = (v : VersionValue) × Reads limit text v × HasIdentifiers v
-
--- whatever the limit on numbers is, one version at most stands at the front of the text
-abbrev pub HasOneReading : List ℕ → Type 0
-HasOneReading text = (limit : ℕ) (v w : VersionValue) → Reads limit text v → Reads limit text w → v ≡ w

@@ -2,14 +2,17 @@
 
 ghost use Rattle.std.specs.Prelude.{◌≡◌, ◌∷◌, ◌++◌, [], ◌<◌, ◌==◌, IfOk, OnOk, length};
 ghost use Rattle.std.specs.Prelude.{string_bytes, set, true, if◌then◌else◌};
+ghost use Rattle.std.specs.Char.{is_ascii_digit};
 ghost use Rattle.std.specs.List.{list_all};
+ghost use Rattle.std.specs.Ordering.{is_eq};
 ghost use Rattle.std.specs.Str.{bytes_eq};
 ghost use Rattle.std.specs.Str.Parse.{digits_value};
 ghost use Rattle.semver_core.specs.Text.Characters.{is_identifier_char};
-ghost use Rattle.semver_core.specs.Text.Identifiers.{Numeric, is_identifier};
+ghost use Rattle.semver_core.specs.Text.Identifiers.{Numeric, is_identifier, pieces};
 ghost use Rattle.semver_core.specs.Increments.Table as spec;
 ghost use Rattle.semver_core.specs.Internal.IncrementSteps.{IsLastNumber, ReturnsList, Tracks};
 ghost use Rattle.semver_core.specs.Printing.Text as printed;
+ghost use Rattle.semver_core.specs.Values.Order.{id_cmp};
 ghost use Rattle.semver_core.specs.Values.Views.{id_view, ids_view};
 
 use crate::increment::{IdentifierBase, IncrementError, is_false, one_more, refused_argument};
@@ -194,20 +197,15 @@ fn is_kept(wanted: &str, list: &[Identifier]) -> bool
     ensures { result ≡ spec.is_kept wanted.now (ids_view list.now) }
 {
     match list {
-        [first, second, ..] => is_numeric(second) && matches_id(wanted, first),
+        [first, Identifier::Numeric(_), ..] => matches_id(wanted, first),
         _ => false,
     }
 }
 
-fn is_numeric(id: &Identifier) -> bool
-    ensures { result ≡ spec.is_numeric (id_view id.now) }
-{
-    matches!(id, Identifier::Numeric(_))
-}
-
+#[tactic(auto, using(crate::proofs::Increments::LastNumber::asked_matches))]
 fn matches_id(wanted: &str, id: &Identifier) -> bool
     requires { 0 < length wanted.now }
-    ensures { result ≡ spec.matches_id wanted.now (id_view id.now) }
+    ensures { result ≡ is_eq (id_cmp (id_view id.now) (spec.asked wanted.now)) }
 {
     match id {
         Identifier::Numeric(n) => is_digits(wanted.as_bytes()) && has_value(wanted, *n),
@@ -218,7 +216,7 @@ fn matches_id(wanted: &str, id: &Identifier) -> bool
 }
 
 fn is_digits(text: &[u8]) -> bool
-    ensures { result ≡ spec.is_digits text.now }
+    ensures { result ≡ list_all is_ascii_digit text.now }
 {
     text.iter().all(|b| b.is_ascii_digit())
 }
@@ -226,7 +224,7 @@ fn is_digits(text: &[u8]) -> bool
 #[tactic(auto, using(crate::proofs::Increments::LastNumber::value_run))]
 fn has_value(digits: &str, n: u64) -> bool
     requires some { 0 < length digits.now }
-    requires digits { spec.is_digits digits.now ≡ true }
+    requires digits { list_all is_ascii_digit digits.now ≡ true }
     ensures { result ≡ (digits_value 10 digits.now == n) }
 {
     match digits.parse::<u64>() {
@@ -249,7 +247,7 @@ fn is_identifier(piece: &[u8]) -> bool
 
 // Whether an identifier is runs joined by dots.
 pub(super) fn is_identifiers(id: &str) -> bool
-    ensures { result ≡ spec.is_identifiers id.now }
+    ensures { result ≡ list_all is_identifier (pieces id.now) }
 {
     id.split('.').all(|piece| is_identifier(piece.as_bytes()))
 }

@@ -8,6 +8,7 @@ ghost use Rattle.semver_core.specs.Text.VersionText.{Reads};
 ghost use Rattle.semver_core.specs.Values.Versions.{VersionValue};
 ghost use Rattle.semver_core.specs.Values.Views.{id_view};
 
+use crate::laws::reading::one_reading;
 use crate::{Failure, Identifier, MAX_LENGTH, MAX_SAFE_INTEGER, SemverError, Version};
 use std::alloc::{AllocError, Global};
 
@@ -21,7 +22,7 @@ pub fn printed_versions_come_back(text: &str)
     ensures only { (limit : ℕ) (v w : VersionValue) → limit < 2 ^ 64 → text.now ≡ version_text v
         → is_readable limit v ≡ true → Reads limit text.now w → w ≡ v }
 {
-    let _ = text;
+    one_reading(text);
 }
 
 /// A version that is printed and read again. It returns the version itself, build included, and
@@ -32,10 +33,10 @@ pub fn reread(alloc: Global, version: &Version) -> Result<Version, Failure<Semve
     ensures same { IfOk result (λ again. again ≡ version.now) }
     ensures never_refused { NeverRefused result }
 {
-    match version.to_string(alloc) {
-        Ok(text) => Version::parse(alloc, &text),
-        Err(error) => Err(Failure::Memory(error)),
-    }
+    let text = version.to_string(alloc)?;
+    let text = text.as_str();
+    printed_versions_come_back(text);
+    Version::parse(alloc, text)
 }
 
 /// Fill, width and precision change nothing of a printed version.

@@ -3,7 +3,7 @@
 
 ghost use Rattle.std.specs.Prelude.{◌≡◌, ◌≤◌, ℕ, IfNone, IfOk, IfSome, Some};
 ghost use Rattle.semver_core.specs.Text.Common.{IsCommon, IsUncommon};
-ghost use Rattle.semver_core.specs.Text.VersionText.{HasNoVersion, HasOneReading, Reads};
+ghost use Rattle.semver_core.specs.Text.VersionText.{HasNoVersion, Reads};
 ghost use Rattle.semver_core.specs.Values.Versions.{VersionValue};
 ghost use Rattle.semver_core.specs.declared.TheConstants.{MAX_SAFE_INTEGER};
 
@@ -22,7 +22,8 @@ pub fn constants() -> (u64, usize)
 
 /// Whatever the limit on numbers is, a text has one version at its front at most.
 pub fn one_reading(text: &str)
-    ensures { HasOneReading text.now }
+    ensures { (limit : ℕ) (v w : VersionValue)
+        → Reads limit text.now v → Reads limit text.now w → v ≡ w }
 {
     let _ = front_of_numbers(text);
 }

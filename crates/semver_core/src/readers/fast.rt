@@ -4,12 +4,12 @@ ghost use Rattle.std.specs.Prelude.{◌||◌, ◌==◌, get_or, ◌≡◌, ◌�
 ghost use Rattle.std.specs.Prelude.{IfNone, IsSomeAnd, OnErr};
 ghost use Rattle.semver_core.specs.Text.Characters.{is_identifier_char};
 ghost use Rattle.semver_core.specs.Text.Common.{IsCommon, IsUncommon};
-ghost use Rattle.semver_core.specs.Internal.CommonReading.{small_len, part_at, whole_at, common_of};
+ghost use Rattle.semver_core.specs.Internal.CommonReading.{small_len, whole_at, common_of};
 ghost use Rattle.semver_core.specs.Text.VersionText.{HasVersionWithIdentifiers};
-ghost use Rattle.semver_core.specs.Internal.Reading.{qualified, triple_at, version_at};
+ghost use Rattle.semver_core.specs.Internal.Reading.{part_at, qualified, triple_at, version_at};
 ghost use Rattle.semver_core.specs.Values.Versions.{HasIdentifiers};
 
-use crate::readers::loose::lists_at;
+use crate::readers::loose::{lists_at, past};
 use crate::{MAX_SAFE_INTEGER, Version, scan};
 use std::alloc::{AllocError, Global};
 
@@ -24,36 +24,21 @@ fn small_len(bytes: &[u8]) -> usize
     }
 }
 
-// A number with a dot behind it, and the place behind the dot. Each byte is looked at once.
+// A number with a dot behind it, and the place behind the dot.
 #[inline(always)]
-#[tactic(auto, using(crate::proofs::Text::Dotted::part_read))]
 fn part(bytes: &[u8], at: usize) -> Option<(u64, usize)>
     requires { at ≤ length bytes.now }
     ensures found { result ≡ part_at MAX_SAFE_INTEGER bytes.now at }
     ensures place { IfSome result (λ found. found.1 ≤ length bytes.now) }
 {
-    let mut value = 0u64;
-    'digits: for end in at..bytes.len() {
-        let byte = bytes[end];
-        if !byte.is_ascii_digit() {
-            return if byte == b'.' && at < end {
-                Some((value, end + 1))
-            } else {
-                None
-            };
-        }
-        value = value * 10 + u64::from(byte - b'0');
-        if value > MAX_SAFE_INTEGER {
-            return None;
-        }
-    }
-    None
+    let (number, end) = scan::digits(bytes, at)?;
+    let next = past(bytes, end, b'.')?;
+    Some((number, next))
 }
 
 // Three numbers with dots between them, and the place behind them.
 #[inline(always)]
-#[tactic(auto, using(crate::proofs::Text::Dotted::triple_parts))]
-fn three(bytes: &[u8], at: usize) -> Option<(u64, u64, u64, usize)>
+pub(crate) fn three(bytes: &[u8], at: usize) -> Option<(u64, u64, u64, usize)>
     requires { at ≤ length bytes.now }
     ensures found { result ≡ triple_at MAX_SAFE_INTEGER bytes.now at }
     ensures place { IfSome result (λ found. found.3 ≤ length bytes.now) }

@@ -6,53 +6,42 @@ ghost use Rattle.std.specs.Prelude.{OnErr, OnSome};
 ghost use Rattle.semver_core.specs.Text.Characters.{begins, is_identifier_char, IsAfterBlank};
 ghost use Rattle.semver_core.specs.Text.VersionText.{Reads, HasNoVersion};
 ghost use Rattle.semver_core.specs.Text.VersionText.{HasVersionWithIdentifiers};
-ghost use Rattle.semver_core.specs.Internal.Reading.{past, triple_at, pre_release_at, build_at};
+ghost use Rattle.semver_core.specs.Internal.Reading.{past, pre_release_at, build_at};
 ghost use Rattle.semver_core.specs.Internal.Reading.{list_from, lists_at, version_at, mark_len};
 ghost use Rattle.semver_core.specs.Values.Versions.{VersionValue, HasIdentifiers};
-ghost use Rattle.semver_core.specs.Values.Views.{ids_view, IsFull, build_of, pre_release_of};
+ghost use Rattle.semver_core.specs.Values.Views.{ids_view};
+ghost use Rattle.semver_core.specs.Internal.Inside.{IsFull, build_of, pre_release_of};
 
+use crate::readers::fast::three;
 use crate::version::lists::{Identifiers, Lists, Qualifier};
 use crate::{MAX_SAFE_INTEGER, Version, scan};
 use std::alloc::{AllocError, Global};
 
 #[inline(always)]
 #[tactic(auto, using(crate::proofs::Text::Runs::rest_from))]
-fn begins_with(text: &str, at: usize, mark: u8) -> bool
-    requires { at ≤ length text.now }
-    ensures { result ≡ begins (λ b. b == mark) (drop at text.now) }
+fn begins_with(bytes: &[u8], at: usize, mark: u8) -> bool
+    requires { at ≤ length bytes.now }
+    ensures { result ≡ begins (λ b. b == mark) (drop at bytes.now) }
 {
-    match &text.as_bytes()[at..] {
+    match &bytes[at..] {
         [byte, ..] => *byte == mark,
         [] => false,
     }
 }
 
+// The place behind a byte, if that is the mark.
 #[inline(always)]
 #[tactic(auto, using(crate::proofs::Text::Places::begins_before_end))]
-fn past(text: &str, at: usize, mark: u8) -> Option<usize>
-    requires { at ≤ length text.now }
-    ensures found { result ≡ past mark text.now at }
-    ensures place { IfSome result (λ next. next ≤ length text.now) }
+pub(crate) fn past(bytes: &[u8], at: usize, mark: u8) -> Option<usize>
+    requires { at ≤ length bytes.now }
+    ensures found { result ≡ past mark bytes.now at }
+    ensures place { IfSome result (λ next. next ≤ length bytes.now) }
 {
-    if begins_with(text, at, mark) {
+    if begins_with(bytes, at, mark) {
         Some(at + 1)
     } else {
         None
     }
-}
-
-// Three numbers with dots between them, and the place after them.
-fn triple(text: &str, at: usize) -> Option<(u64, u64, u64, usize)>
-    requires { at ≤ length text.now }
-    ensures found { result ≡ triple_at MAX_SAFE_INTEGER text.now at }
-    ensures place { IfSome result (λ found. found.3 ≤ length text.now) }
-{
-    let (major, end) = scan::read_number(text, at)?;
-    let second = past(text, end, b'.')?;
-    let (minor, end) = scan::read_number(text, second)?;
-    let third = past(text, end, b'.')?;
-    let (patch, end) = scan::read_number(text, third)?;
-    Some((major, minor, patch, end))
 }
 
 // Where the identifiers of the pre-release at a place begin.
@@ -64,7 +53,7 @@ fn pre_release_start(text: &str, at: usize) -> Option<usize>
         begins is_identifier_char (drop start text.now) ≡ true) }
     ensures inside { IfSome result (λ start. start ≤ length text.now) }
 {
-    let start = match past(text, at, b'-') {
+    let start = match past(text.as_bytes(), at, b'-') {
         Some(next) => next,
         None => at,
     };
@@ -84,7 +73,7 @@ fn build_start(text: &str, at: usize) -> Option<usize>
         begins is_identifier_char (drop start text.now) ≡ true) }
     ensures inside { IfSome result (λ start. start ≤ length text.now) }
 {
-    let start = past(text, at, b'+')?;
+    let start = past(text.as_bytes(), at, b'+')?;
     if scan::begins_at(text, start) {
         Some(start)
     } else {
@@ -150,7 +139,7 @@ fn version_from(alloc: Global, text: &str, at: usize) -> Result<Option<Version>,
     ensures memory { OnErr result
         (IsSomeAnd (version_at MAX_SAFE_INTEGER text.now at) HasIdentifiers) }
 {
-    let Some((major, minor, patch, end)) = triple(text, at) else {
+    let Some((major, minor, patch, end)) = three(text.as_bytes(), at) else {
         return Ok(None);
     };
     let (qualifier, _) = lists_at(alloc, text, end)?;

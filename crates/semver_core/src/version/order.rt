@@ -2,7 +2,7 @@
 
 ghost use Rattle.std.specs.Prelude.{◌≡◌, Some, refl};
 ghost use Rattle.std.specs.Cmp.{eq_by_cmp_equiv, partial_equiv_from_equiv, po};
-ghost use Rattle.semver_core.specs.Values.Hashes.{version_writes};
+ghost use Rattle.semver_core.specs.Internal.Hashes.{version_writes};
 ghost use Rattle.semver_core.specs.Values.Order.{precedence, pre_cmp, version_eq};
 ghost use Rattle.semver_core.specs.Internal.OrderLaws.{precedence_total, version_alike};
 ghost use Rattle.semver_core.specs.Values.Views.{ids_view};

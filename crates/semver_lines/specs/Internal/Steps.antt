@@ -1,9 +1,10 @@
 -- For proofs. What the steps of a run do.
-use Rattle.std.specs.Prelude.{◌≡◌, ◌<◌, ℕ, List, ◌++◌, length, Option, Result, Ok, Err, ⊤}
+use Rattle.std.specs.Prelude.{◌≡◌, ◌<◌, ◌+◌, ℕ, List, ◌++◌, length, true, Option, Result, Ok, Err, ⊤}
 use Rattle.std.specs.Io.KnownBytes.{Appends, Consumes, Keeps}
+use Rattle.std.specs.Str.Lossy.{utf8_valid_len}
 use Rattle.semver_lines.specs.Answers.{Answers, IsAnswer}
 use Rattle.semver_lines.specs.Internal.LineCuts.{cut_lines, cut_rest}
-use Rattle.semver_lines.specs.Lines.{ended, last_line}
+use Rattle.semver_lines.specs.Lines.{ended, last_line, no_feed}
 use Rattle.semver_lines.specs.Outcome.{AnswersFront, AnswersTorn}
 use Rattle.semver_lines.specs.declared.run.RunFault.{RunFault}
 use Rattle.semver_lines.specs.declared.run.RunFault.TheVariants.{Read, Write, Memory}
@@ -33,6 +34,14 @@ pub record Taken (pending chunk rest after old new : List ℕ) : Type 0 where
   pub divided : chunk ≡ taken ++ rest
   pub grown : GrowsByAnswers (cut_lines pending taken) old new
   pub kept : after ≡ cut_rest pending taken
+
+-- no line ends in what is left of the longest text at the front of these bytes
+pub record LeavesNoLine (bytes rest : List ℕ) : Type 0 where
+  pub text : List ℕ
+  pub more : List ℕ
+  pub divided : rest ≡ text ++ more
+  pub plain : no_feed text ≡ true
+  pub longest : length bytes + length text ≡ length rest + utf8_valid_len bytes
 
 -- a writer that tells its bytes got a front of these, and not all
 pub record WritesFront (held holds : Option (List ℕ)) (bytes : List ℕ) : Type 0 where

@@ -11,7 +11,8 @@ use std::test::Fail;
 
 #[test]
 fn laws_of_texts_of_versions(rt: HostRuntime) {
-    core_laws::whitespace_in_bytes();
+    core_laws::whitespace_ends();
+    core_laws::divided_lists();
     core_laws::next_versions();
     core_laws::one_reading("1.2.3");
     core_laws::larger_limits("1.2.900719925474099");

@@ -1,8 +1,8 @@
 use Rattle.semver_core.specs.declared.TheConstants.{MAX_SAFE_INTEGER}
 use Rattle.nodejs_semver.specs.Text.Common.{IsCommonRange}
-use Rattle.nodejs_semver.proofs.Common.Whole.{fast_read, if-some}
+use Rattle.nodejs_semver.proofs.Everyday.Whole.{fast_read, if-some}
 use Rattle.nodejs_semver.proofs.Dividing.MeaningLaw.{blank_text}
-use Rattle.nodejs_semver.proofs.Common.Texts.{common_ranges_are_denoted}
+use Rattle.nodejs_semver.proofs.Everyday.Texts.{common_ranges_are_denoted}
 use Rattle.nodejs_semver.proofs.laws.texts.both_readers.Goals as goal
 
 pub range_loose-requires : goal.range_loose-requires

@@ -2,7 +2,7 @@ use Rattle.std.proofs.Common.{◌≡◌, ◌<◌, [], length, arith, sym}
 use Rattle.semver_core.specs.declared.TheConstants.{MAX_SAFE_INTEGER}
 use Rattle.std.proofs.lemmas.Grind.{common_steps}
 use Rattle.nodejs_semver.specs.Internal.Denotes.{denotes}
-use Rattle.nodejs_semver.proofs.Common.Whole.{denoted_range}
+use Rattle.nodejs_semver.proofs.Everyday.Whole.{denoted_range}
 use Rattle.nodejs_semver.proofs.Dividing.MeaningLaw.{meant}
 use Rattle.nodejs_semver.proofs.Dividing.WrittenLaw.{accepted_written}
 use Rattle.nodejs_semver.proofs.range.Range.parse.Goals as goal

@@ -2,7 +2,7 @@ use Rattle.std.proofs.Common.{List, ℕ, rules, subst}
 use Rattle.std.specs.Prelude.{IsTrue}
 use Rattle.semver_core.specs.declared.TheConstants.{MAX_SAFE_INTEGER}
 use Rattle.nodejs_semver.specs.Text.Common.{IsCommonRange}
-use Rattle.nodejs_semver.proofs.Common.Whole.{common_list}
+use Rattle.nodejs_semver.proofs.Everyday.Whole.{common_list}
 use Rattle.nodejs_semver.proofs.range.parse.read.Goals as goal
 
 pub returns-else-not-branch : goal.returns-else-not-branch

@@ -7,7 +7,7 @@ use Rattle.nodejs_semver.specs.Internal.CommonFronts.{begins_second, comparison_
 use Rattle.nodejs_semver.specs.Internal.CommonViews.{bounds_front_view}
 use Rattle.nodejs_semver.specs.Internal.Fronts.{Front}
 use Rattle.nodejs_semver.specs.Internal.Readings.{bounds_view, rest_view}
-use Rattle.nodejs_semver.proofs.Common.Bounds.{none-second, passed-second}
+use Rattle.nodejs_semver.proofs.Everyday.Bounds.{none-second, passed-second}
 use Rattle.nodejs_semver.proofs.readers.fast.push_comparisons.Goals as goal
 
 pub returns-in_default-comparison : goal.returns-in_default-comparison

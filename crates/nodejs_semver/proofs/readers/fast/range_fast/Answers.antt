@@ -2,7 +2,7 @@ use Rattle.std.proofs.Common.{List, ℕ, rules, subst}
 use Rattle.std.specs.Prelude.{IfSome, IsTrue, IsUtf8}
 use Rattle.semver_core.specs.declared.TheConstants.{MAX_SAFE_INTEGER}
 use Rattle.nodejs_semver.specs.Text.Meaning.{Means}
-use Rattle.nodejs_semver.proofs.Common.Whole.{common_bounded, common_means}
+use Rattle.nodejs_semver.proofs.Everyday.Whole.{common_bounded, common_means}
 use Rattle.nodejs_semver.proofs.readers.fast.range_fast.Goals as goal
 
 pub from_intervals-requires : goal.from_intervals-requires

@@ -1,26 +1,27 @@
-use Rattle.std.proofs.Common.{◌≡◌, ◌<◌, length, arith, sym, ap, ◌∙◌}
+use Rattle.std.proofs.Common.{◌<◌, ◌≡◌, length, arith, refl, sym, ap, ◌∙◌}
 use Rattle.semver_core.specs.declared.TheConstants.{MAX_SAFE_INTEGER}
 use Rattle.nodejs_semver.specs.Internal.Readings.{rest_view}
-use Rattle.nodejs_semver.proofs.Common.Loop.{loop-complete, loop-ends, loop-no_bars, loop-no_part, loop-shorter, loop-sound}
+use Rattle.nodejs_semver.proofs.Everyday.Loop.{loop-ends, loop-goes, loop-no_bars, loop-no_part, loop-shorter, loop-starts}
 use Rattle.nodejs_semver.proofs.readers.fast.read_common.Goals as goal
+
+pub parts-init : goal.parts-init
+parts-init c = loop-starts MAX_SAFE_INTEGER c.args.text.now c.args.text.now c.args.found.now.items refl c.requires
 
 pub returns-in_default-clause-none : goal.returns-in_default-clause-none
 returns-in_default-clause-none c = λ _.
     loop-no_part MAX_SAFE_INTEGER c.args.text.now c.parts.found.items c.push_part.new.found.items c.parts.rest.now (rest_view c.in_ok-behind.field-0)
-    c.in_ok-behind.ensures (ap rest_view c.in_default.is) c.parts.invariant.complete
+    c.in_ok-behind.ensures (ap rest_view c.in_default.is) c.parts.invariant
 
 pub returns-then-is_empty-clause-some : goal.returns-then-is_empty-clause-some
 returns-then-is_empty-clause-some c = λ _.
-    let none : length c.in-Some.behind.now ≡ 0 = grind arith in
     loop-ends MAX_SAFE_INTEGER c.args.text.now c.parts.found.items c.push_part.new.found.items c.parts.rest.now c.in-Some.behind.now
-    (record { after = rest_view c.in_ok-behind.field-0; added = c.in_ok-behind.ensures; there = ap rest_view c.in-Some.is }) none c.parts.invariant.sound
+    (record { after = rest_view c.in_ok-behind.field-0; added = c.in_ok-behind.ensures; there = ap rest_view c.in-Some.is }) (grind arith) c.parts.invariant
 
 pub returns-in_default-after_bars-clause-none : goal.returns-in_default-after_bars-clause-none
 returns-in_default-after_bars-clause-none c = λ _.
-    let some : 0 < length c.in-Some.behind.now = grind arith in
     loop-no_bars MAX_SAFE_INTEGER c.args.text.now c.parts.found.items c.push_part.new.found.items c.parts.rest.now c.in-Some.behind.now
     (record { after = rest_view c.in_ok-behind.field-0; added = c.in_ok-behind.ensures; there = ap rest_view c.in-Some.is })
-    some (sym c.after_bars.ensures ∙ ap rest_view c.in_default-after_bars.is) c.parts.invariant.complete
+    (grind arith) (sym c.after_bars.ensures ∙ ap rest_view c.in_default-after_bars.is) c.parts.invariant
 
 pub parts-smaller : goal.parts-smaller
 parts-smaller c =
@@ -29,11 +30,7 @@ parts-smaller c =
     (sym c.after_bars.ensures ∙ ap rest_view c.in-Some-after_bars.is)
 
 pub parts-preserved : goal.parts-preserved
-parts-preserved c = rw c.reserve_for.ensures (record {
-  sound = loop-sound MAX_SAFE_INTEGER c.args.text.now c.parts.found.items c.push_part.new.found.items c.parts.rest.now c.in-Some.behind.now c.in-Some-after_bars.next.now
-      (record { after = rest_view c.in_ok-behind.field-0; added = c.in_ok-behind.ensures; there = ap rest_view c.in-Some.is })
-      (sym c.after_bars.ensures ∙ ap rest_view c.in-Some-after_bars.is) c.parts.invariant.sound;
-  complete = loop-complete MAX_SAFE_INTEGER c.args.text.now c.parts.found.items c.push_part.new.found.items c.parts.rest.now c.in-Some.behind.now c.in-Some-after_bars.next.now
-      (record { after = rest_view c.in_ok-behind.field-0; added = c.in_ok-behind.ensures; there = ap rest_view c.in-Some.is })
-      (sym c.after_bars.ensures ∙ ap rest_view c.in-Some-after_bars.is) c.parts.invariant.complete;
-})
+parts-preserved c = rw c.reserve_for.ensures
+    (loop-goes MAX_SAFE_INTEGER c.args.text.now c.parts.found.items c.push_part.new.found.items c.parts.rest.now c.in-Some.behind.now c.in-Some-after_bars.next.now
+    (record { after = rest_view c.in_ok-behind.field-0; added = c.in_ok-behind.ensures; there = ap rest_view c.in-Some.is })
+    (grind arith) (sym c.after_bars.ensures ∙ ap rest_view c.in-Some-after_bars.is) c.parts.invariant)

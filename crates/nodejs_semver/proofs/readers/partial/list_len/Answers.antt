@@ -1,26 +1,25 @@
-use Rattle.std.proofs.Common.{rules, ◌≡◌, ◌+◌, sym, ap, ◌∙◌, arith, drop, true, false, List, ℕ, suc}
-use Rattle.std.proofs.lemmas.List.{take_rest}
+use Rattle.std.proofs.Common.{rules, ◌≡◌, arith, drop, length, refl, true, false}
+use Rattle.std.proofs.lemmas.List.{take_rest, drop_all}
 use Rattle.semver_core.specs.Text.Identifiers.{goes_on}
-use Rattle.nodejs_semver.specs.Internal.Fronts.{begins_identifier, run_on}
-use Rattle.nodejs_semver.proofs.Reading.IdentifierLists.{list_len-stop, list_len-whole, run_on-more}
+use Rattle.nodejs_semver.specs.Internal.Fronts.{begins_identifier}
+use Rattle.nodejs_semver.proofs.Reading.IdentifierLists.{front_len-is, list_len-more}
 use Rattle.nodejs_semver.proofs.readers.partial.list_len.Goals as goal
 
 pub returns-then-not-goes_on : goal.returns-then-not-goes_on
 returns-then-not-goes_on c =
     let text = c.args.text.now in
-    let begins : begins_identifier text ≡ true = search rules in
-    let stop : goes_on (drop c.bytes.at text) ≡ false = ap (λ (t : List ℕ). goes_on t) (sym (take_rest text c.bytes.at)) ∙ grind arith in
-    list_len-stop text c.bytes.at begins c.bytes.invariant stop
+    let stop : goes_on (drop c.bytes.at text) ≡ false = rw (← take_rest text c.bytes.at) (grind arith) in
+    front_len-is text c.bytes.at (search rules) c.bytes.invariant stop
 
 pub bytes-preserved : goal.bytes-preserved
 bytes-preserved c =
     let text = c.args.text.now in
-    let goes : goes_on (drop c.bytes.at text) ≡ true = ap (λ (t : List ℕ). goes_on t) (sym (take_rest text c.bytes.at)) ∙ grind arith in
-    let more : run_on (drop c.bytes.at text) ≡ suc (run_on (drop (c.bytes.at + 1) text)) = run_on-more text c.bytes.at c.bytes-test.true goes in
-    omega arith
+    let goes : goes_on (drop c.bytes.at text) ≡ true = rw (← take_rest text c.bytes.at) (grind arith) in
+    omega (arith, list_len-more text c.bytes.at c.bytes-test.true goes)
 
 pub returns : goal.returns
 returns c =
     let text = c.args.text.now in
-    let begins : begins_identifier text ≡ true = search rules in
-    list_len-whole text c.bytes.at begins c.bytes.invariant (omega arith) (omega arith)
+    let end : c.bytes.at ≡ length text = omega arith in
+    let stop : goes_on (drop c.bytes.at text) ≡ false = rw (drop_all c.bytes.at text (omega arith)) refl in
+    rw (← end) (front_len-is text c.bytes.at (search rules) c.bytes.invariant stop)

@@ -2,7 +2,7 @@ use Rattle.std.proofs.Common.{List, ℕ, Some, sym, ap, ◌∙◌}
 use Rattle.std.proofs.lemmas.List.{take_rest}
 use Rattle.semver_core.specs.declared.TheConstants.{MAX_SAFE_INTEGER}
 use Rattle.nodejs_semver.specs.Internal.Fronts.{Front}
-use Rattle.nodejs_semver.proofs.Reading.NumberFront.{front_some}
+use Rattle.nodejs_semver.proofs.Reading.Numbers.{front_some}
 use Rattle.nodejs_semver.proofs.readers.partial.number_front.Goals as goal
 
 abbrev found : ℕ → List ℕ → Front ℕ

@@ -1,31 +1,31 @@
 -- Each clause follows from the table's answer.
-use Rattle.semver_core.specs.Increments.View.{given}
-use Rattle.semver_core.proofs.Increments.Clauses.{patch_clause, minor_clause, major_clause, premajor_clause, preminor_clause, prepatch_clause, prerelease_clause, above_clause, build_clause}
+use Rattle.std.proofs.Common.{◌≡◌, ◌+◌, codes}
+use Rattle.std.specs.Option.{option_copied}
+use Rattle.std.specs.Prelude.{IsOkAnd, unwrap_or, []}
+use Rattle.std.specs.Result.{IfOk}
+use Rattle.semver_core.specs.Increments.Least.{IsAbove, IsLeastOrOverflow, IsLeastVersion}
+use Rattle.semver_core.specs.declared.increment.IdentifierBase.TheVariants.{Value}
+use Rattle.semver_core.proofs.Increments.Clauses.{of_word, of_plain_word, above_of, build_of}
+use Rattle.semver_core.proofs.Increments.Laws.{IsNextPatch, IsNextMinor, IsNextMajor, patch_least, minor_least, major_least, premajor_least, preminor_least, prepatch_least, prerelease_least}
 use Rattle.semver_core.proofs.version.Version.inc.Goals as goal
 
-pub returns-clause-patch : goal.returns-clause-patch
-returns-clause-patch c = patch_clause c.args.self.now c.args.word.now (given c.args.identifier) c.args.base c.increment.result c.is_version.ensures c.increment.ensures
-
-pub returns-clause-minor : goal.returns-clause-minor
-returns-clause-minor c = minor_clause c.args.self.now c.args.word.now (given c.args.identifier) c.args.base c.increment.result c.is_version.ensures c.increment.ensures
-
-pub returns-clause-major : goal.returns-clause-major
-returns-clause-major c = major_clause c.args.self.now c.args.word.now (given c.args.identifier) c.args.base c.increment.result c.is_version.ensures c.increment.ensures
-
-pub returns-clause-premajor : goal.returns-clause-premajor
-returns-clause-premajor c = premajor_clause c.args.self.now c.args.word.now (given c.args.identifier) c.args.base c.increment.result c.is_version.ensures c.increment.ensures
-
-pub returns-clause-preminor : goal.returns-clause-preminor
-returns-clause-preminor c = preminor_clause c.args.self.now c.args.word.now (given c.args.identifier) c.args.base c.increment.result c.is_version.ensures c.increment.ensures
-
-pub returns-clause-prepatch : goal.returns-clause-prepatch
-returns-clause-prepatch c = prepatch_clause c.args.self.now c.args.word.now (given c.args.identifier) c.args.base c.increment.result c.is_version.ensures c.increment.ensures
-
-pub returns-clause-prerelease : goal.returns-clause-prerelease
-returns-clause-prerelease c = prerelease_clause c.args.self.now c.args.word.now (given c.args.identifier) c.args.base c.increment.result c.is_version.ensures c.increment.ensures
-
-pub returns-clause-above : goal.returns-clause-above
-returns-clause-above c = above_clause c.args.self.now c.args.word.now (given c.args.identifier) c.args.base c.increment.result c.increment.ensures
-
-pub returns-clause-build : goal.returns-clause-build
-returns-clause-build c = build_clause c.args.self.now c.args.word.now (given c.args.identifier) c.args.base c.increment.result c.increment.ensures
+pub returns : goal.returns
+returns c =
+    let v = c.args.self.now in
+    let id = option_copied c.args.identifier in
+    let base = c.args.base in
+    let k = c.is_version.ensures in
+    let word = of_word v c.args.word.now id base c.increment.result c.increment.ensures in
+    let plain = of_plain_word v c.args.word.now id base c.increment.result c.increment.ensures in
+    record {
+      value = c.increment.ensures;
+      patch = word (IsLeastOrOverflow (IsNextPatch v)) (codes "patch") (patch_least v (unwrap_or id []) (unwrap_or base (Value 0)) k);
+      minor = word (IsLeastOrOverflow (IsNextMinor v)) (codes "minor") (minor_least v (unwrap_or id []) (unwrap_or base (Value 0)) k);
+      major = word (IsLeastOrOverflow (IsNextMajor v)) (codes "major") (major_least v (unwrap_or id []) (unwrap_or base (Value 0)) k);
+      premajor = plain (IsLeastOrOverflow (λ w. w.major ≡ v.major + 1)) (codes "premajor") (premajor_least v [] (Value 0) k);
+      preminor = plain (IsLeastOrOverflow (λ w. (w.major ≡ v.major) × (w.minor ≡ v.minor + 1))) (codes "preminor") (preminor_least v [] (Value 0) k);
+      prepatch = plain (IsLeastOrOverflow (λ w. (w.major ≡ v.major) × (w.minor ≡ v.minor) × (w.patch ≡ v.patch + 1))) (codes "prepatch") (prepatch_least v [] (Value 0) k);
+      prerelease = λ e none rises no_number. plain (λ answer. IsOkAnd answer (IsLeastVersion (IsAbove v))) (codes "prerelease") (prerelease_least v k rises no_number) e none;
+      above = above_of v c.args.word.now id base c.increment.result c.increment.ensures;
+      build = build_of v c.args.word.now id base c.increment.result c.increment.ensures;
+    }

@@ -1,6 +1,8 @@
 use Rattle.std.proofs.Common.{refl}
 use Rattle.semver_core.specs.Internal.Spaces.{space_len, after_spaces, drop_end_spaces}
-use Rattle.nodejs_semver.specs.Internal.Partials.{number_of, partial_of, longest_within}
+use Rattle.semver_core.specs.Internal.Reading.{list_len}
+use Rattle.semver_core.specs.Text.Identifiers.{listed}
+use Rattle.nodejs_semver.specs.Internal.Fronts.{build_front, component_front, dotted_front, front_len, number_of, partial_front, pre_release_front}
 use Rattle.nodejs_semver.specs.Internal.Parts.{cut_bars}
 use Rattle.nodejs_semver.specs.Internal.RunsFrom.{runs_from}
 use Rattle.nodejs_semver.specs.Text.Table.{table}
@@ -8,5 +10,5 @@ use Rattle.nodejs_semver.specs.Internal.Words.{is_boundary, word_at, words_withi
 use Rattle.semver_lines.proofs.tests.print.reread_range_gives_an_equal_range.Goals as goal
 
 pub reread_range-requires : goal.reread_range-requires
-unfolding table is_boundary number_of space_len after_spaces drop_end_spaces cut_bars partial_of longest_within word_at words_within from_boundary runs_from
+unfolding table is_boundary number_of space_len after_spaces drop_end_spaces cut_bars partial_front component_front dotted_front pre_release_front build_front front_len list_len listed word_at words_within from_boundary runs_from
 reread_range-requires g c = rw c.in_ok-range.ensures.ok refl

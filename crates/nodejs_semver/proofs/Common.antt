@@ -1,7 +1,0 @@
-pub mod Pieces
-pub mod Words
-pub mod Bounds
-pub mod Parts
-pub mod Loop
-pub mod Texts
-pub mod Whole

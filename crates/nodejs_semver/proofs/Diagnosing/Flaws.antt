@@ -1,0 +1,277 @@
+-- Where the reader of numbers stops, the text is wrong there and has no version.
+use Rattle.std.proofs.Common.{◌≡◌, ◌<◌, ◌≤◌, ◌+◌, ◌-◌, ℕ, zero, suc, List, [], ◌∷◌, ◌++◌, length, drop, take, refl, sym, ap, ◌∙◌, subst, arith, inl, inr, true, false, eqb, Some, append_assoc, length-append, length-drop}
+use Rattle.std.specs.Prelude.{◌==◌, ◌↔◌, IsUtf8, slice_range, Option, None, MatchOption, IfSome}
+use Rattle.std.specs.Char.{encode_utf8, is_ascii_digit}
+use Rattle.std.specs.Str.Parse.{digits_value}
+use Rattle.std.proofs.lemmas.Bool.{cases_Bool, eqb-true}
+use Rattle.std.proofs.lemmas.Bool.Decides.{nat_tests}
+use Rattle.std.proofs.lemmas.List.{take-append-drop, drop-drop, drop_all}
+use Rattle.std.proofs.Math.Seq.{take-add, take-append_seam}
+use Rattle.semver_core.specs.Internal.Reading.{mark_len, triple_at, pre_release_at, build_at, qualified}
+use Rattle.semver_core.specs.Internal.Spaces.{space_len}
+use Rattle.semver_core.specs.Text.Characters.{begins, IsAfterBlank}
+use Rattle.semver_core.specs.Text.Identifiers.{Id}
+use Rattle.semver_core.specs.Text.Numbers.{IsNumber}
+use Rattle.semver_core.specs.Text.VersionText.{HasNoVersion, IsMark, Reads, no_mark, small_mark, capital_mark}
+use Rattle.semver_core.specs.Values.Versions.{VersionValue}
+use Rattle.semver_core.specs.declared.TheConstants.{MAX_LENGTH}
+use Rattle.semver_core.proofs.Text.Pieces.{some_inside}
+use Rattle.semver_core.proofs.Text.Runs.{drop_next}
+use Rattle.semver_core.proofs.Text.Texts.{build_complete, divided_at, number_begins, pre_complete, triple_complete}
+use Rattle.semver_core.proofs.Text.Trims.{after_blank_drops_spaces}
+use Rattle.nodejs_semver.proofs.Reading.Progress.{spaces-gone}
+use Rattle.nodejs_semver.specs.Diagnosis.VersionFlaws.{BeginsGreat, IsExact, IsExpectedAt, IsFlaw, IsFront, IsGreatAt, IsIgnoredFrom, IsWhole}
+use Rattle.nodejs_semver.specs.Internal.Stuck.{Stuck, begins_dot, at_great, at_digit, at_dot, later}
+use Rattle.nodejs_semver.proofs.Diagnosing.Numbers.{digits_once}
+use Rattle.nodejs_semver.proofs.Diagnosing.Fronts.{HasTail, Leads, Numbers, Place, begins_alike, first_numeral, lead_place, next_place, numeral_begins, numeral_once}
+use Rattle.nodejs_semver.specs.declared.diagnosis.versions.VersionFlaw.{VersionFlaw}
+use Rattle.nodejs_semver.specs.declared.diagnosis.versions.VersionFlaw.TheVariants as Flaw
+
+-- so many dots and zeros
+dots : ℕ → List ℕ
+dots zero = []
+dots (suc k) = 46 ∷ 48 ∷ dots k
+
+one : (limit c : ℕ) → 9 ≤ limit → is_ascii_digit c ≡ true → IsNumber limit (c ∷ []) (digits_value 10 (c ∷ []))
+one limit c nine h = record { some = omega arith; each = rw h refl; value = refl; safe = small c h }
+  where
+    small : (c : ℕ) → is_ascii_digit c ≡ true → digits_value 10 (c ∷ []) ≤ limit
+    small c h = grind (arith, nat_tests, nine)
+
+zeros : (limit k c : ℕ) → 9 ≤ limit → is_ascii_digit c ≡ true → Numbers limit k (c ∷ dots k) []
+unfolding dots
+zeros limit zero c nine h = record { digits = c ∷ []; n = digits_value 10 (c ∷ []); divided = refl; is = record { number = one limit c nine h; ended = refl } }
+zeros limit (suc k) c nine h = (
+  48 ∷ dots k,
+  record { digits = c ∷ []; n = digits_value 10 (c ∷ []); divided = refl; is = record { number = one limit c nine h; ended = refl } },
+  zeros limit k 48 nine refl,
+)
+
+-- ---- what is right at a place, and what is not
+
+right-digit : (limit : ℕ) (Starts : List ℕ → Type 0) (front : List ℕ) (k : ℕ) → 9 ≤ limit → Place limit Starts front k
+    → (c : ℕ) → is_ascii_digit c ≡ true → IsFront limit (front ++ c ∷ [])
+right-digit limit Starts front k nine p c h =
+    (dots k, subst (λ (t : List ℕ). IsWhole limit t) (sym (append_assoc front (c ∷ []) (dots k))) (p.whole (c ∷ dots k) (zeros limit k c nine h)))
+
+right-dot : (limit : ℕ) (Starts : List ℕ → Type 0) (front d : List ℕ) (n k : ℕ) → 9 ≤ limit → Place limit Starts front (suc k) → IsNumber limit d n
+    → (c : ℕ) → eqb c 46 ≡ true → IsFront limit ((front ++ d) ++ c ∷ [])
+right-dot limit Starts front d n k nine p number c h =
+    let rest = 48 ∷ dots k in
+    let joined : ((front ++ d) ++ c ∷ []) ++ rest ≡ front ++ (d ++ 46 ∷ rest) = rw (eqb-true c 46 h) (simp append_assoc) in (
+      rest,
+      subst (λ (t : List ℕ). IsWhole limit t) (sym joined)
+          (p.whole (d ++ 46 ∷ rest) (rest, record { digits = d; n = n; divided = refl; is = record { number = number; ended = refl } }, zeros limit k 48 nine refl)),
+    )
+
+no-digit : (limit : ℕ) (Starts : List ℕ → Type 0) (front : List ℕ) (k : ℕ) → Place limit Starts front k → (text : List ℕ) → Starts text
+    → begins is_ascii_digit text ≡ false → HasNoVersion limit (front ++ text)
+no-digit limit Starts front k p text s h = λ v r.
+    let tail = r.pre_release ++ (r.build ++ r.rest) in
+    let found = first_numeral limit k text tail (p.only text tail s (v, r, refl)) in
+    cc (sym h ∙ numeral_begins limit text found.0 found.1)
+
+no-great : (limit : ℕ) (Starts : List ℕ → Type 0) (front : List ℕ) (k : ℕ) → Place limit Starts front k → (text : List ℕ) → Starts text
+    → BeginsGreat limit text → HasNoVersion limit (front ++ text)
+no-great limit Starts front k p text s g = λ v r.
+    let tail = r.pre_release ++ (r.build ++ r.rest) in
+    let found = first_numeral limit k text tail (p.only text tail s (v, r, refl)) in
+    let m = found.1 in
+    let same = digits_once g.digits m.digits g.rest found.0 g.each m.is.number.each g.ended m.is.ended (sym g.divided ∙ m.divided) in
+    absurd (omega (arith, g.above, m.is.number.value, m.is.number.safe, ap (λ (d : List ℕ). digits_value 10 d) same.0))
+
+no-dot : (limit : ℕ) (Starts : List ℕ → Type 0) (front d : List ℕ) (n k : ℕ) → Place limit Starts front (suc k) → IsNumber limit d n → (text : List ℕ)
+    → begins is_ascii_digit text ≡ false → begins_dot text ≡ false → HasNoVersion limit ((front ++ d) ++ text)
+no-dot limit Starts front d n k p number text digit dot = λ v r.
+    let tail = r.pre_release ++ (r.build ++ r.rest) in
+    let h : HasTail limit (front ++ (d ++ text)) tail = subst (λ (t : List ℕ). HasTail limit t tail) (append_assoc front d text) (v, r, refl) in
+    let found = p.only (d ++ text) tail (p.digit (d ++ text) (number_begins d text number.some number.each)) h in
+    let same : text ≡ 46 ∷ found.0 = numeral_once limit d text (46 ∷ found.0) n (record { number = number; ended = digit }) found.1 in
+    cc (sym dot ∙ ap (λ (t : List ℕ). begins_dot t) same)
+
+-- ---- places
+
+-- the text up to the end of a piece
+cut : (text : List ℕ) (at end : ℕ) (piece : List ℕ) → at ≤ length text → end ≤ length text → drop at text ≡ piece ++ drop end text
+    → take end text ≡ take at text ++ piece
+cut text at end piece a e d =
+    let place : end ≡ at + length piece = omega (arith, ap length d, length-append piece (drop end text), length-drop at text, length-drop end text) in
+    ap (λ (n : ℕ). take n text) place ∙ (take-add at (length piece) text
+    ∙ ap (λ (t : List ℕ). take at text ++ t) (ap (λ (t : List ℕ). take (length piece) t) d ∙ take-append_seam piece (drop end text)))
+
+dot-next : (text : List ℕ) (at : ℕ) → begins_dot (drop at text) ≡ true → (drop at text ≡ 46 ∷ drop (at + 1) text) × (at + 1 ≤ length text)
+dot-next text at h = go (drop at text) refl h
+  where
+    go : (t : List ℕ) → drop at text ≡ t → begins_dot t ≡ true → (drop at text ≡ 46 ∷ drop (at + 1) text) × (at + 1 ≤ length text)
+    go [] e k = cc k
+    go (b ∷ t) e k = (
+      e ∙ (ap (λ (c : ℕ). c ∷ t) (eqb-true b 46 k) ∙ ap (λ (x : List ℕ). 46 ∷ x) (sym (drop_next at text t b e))),
+      omega (arith, ap length e, length-drop at text),
+    )
+
+here : (limit : ℕ) (text : List ℕ) (at : ℕ) → HasNoVersion limit (take at text ++ drop at text) → HasNoVersion limit text
+here limit text at h = subst (λ (t : List ℕ). HasNoVersion limit t) (take-append-drop at text) h
+
+-- a flaw of a text that is not too long, and has no version
+abbrev pub IsWrong : ℕ → List ℕ → VersionFlaw → Type 0
+IsWrong limit text (Flaw.NumberTooGreat at) = IsGreatAt limit text at
+IsWrong limit text (Flaw.Expected what at) = IsExpectedAt limit text what at
+IsWrong limit text _ = ⊥
+
+pub stuck_wrong : (limit : ℕ) (text : List ℕ) (Starts : List ℕ → Type 0) (k at : ℕ) (flaw : VersionFlaw) → 9 ≤ limit → at ≤ length text
+    → Place limit Starts (take at text) k → Starts (drop at text) → Stuck limit text k at flaw → IsWrong limit text flaw
+stuck_wrong limit text Starts k at flaw nine inside p s (at_great j a great) = record {
+  inside = inside;
+  right = right-digit limit Starts (take a text) j nine p;
+  great = great;
+  none = here limit text a (no-great limit Starts (take a text) j p (drop a text) s great);
+}
+stuck_wrong limit text Starts k at flaw nine inside p s (at_digit j a none) = record {
+  inside = inside;
+  right = right-digit limit Starts (take a text) j nine p;
+  wrong = λ c rest other e.
+      no-digit limit Starts (take a text) j p (encode_utf8 c ++ other) (p.local c rest other (subst Starts e s))
+      (begins_alike is_ascii_digit c other rest ∙ (ap (λ (t : List ℕ). begins is_ascii_digit t) (sym e) ∙ none));
+  none = here limit text a (no-digit limit Starts (take a text) j p (drop a text) s none);
+}
+stuck_wrong limit text Starts k at flaw nine inside p s (at_dot j a end found none) =
+    let m = found.piece in
+    let front : take end text ≡ take a text ++ m.piece = cut text a end m.piece inside found.inside m.divided in
+    record {
+      inside = found.inside;
+      right = λ c h. subst (λ (t : List ℕ). IsFront limit (t ++ c ∷ [])) (sym front) (right-dot limit Starts (take a text) m.piece found.n j nine p m.is.number c h);
+      wrong = λ c rest other e.
+          subst (λ (t : List ℕ). HasNoVersion limit (t ++ (encode_utf8 c ++ other))) (sym front)
+          (no-dot limit Starts (take a text) m.piece found.n j p m.is.number (encode_utf8 c ++ other)
+          (begins_alike is_ascii_digit c other rest ∙ (ap (λ (t : List ℕ). begins is_ascii_digit t) (sym e) ∙ m.is.ended))
+          (begins_alike (λ b. b == 46) c other rest ∙ (ap (λ (t : List ℕ). begins_dot t) (sym e) ∙ none)));
+      none = here limit text end (subst (λ (t : List ℕ). HasNoVersion limit (t ++ drop end text)) (sym front)
+          (no-dot limit Starts (take a text) m.piece found.n j p m.is.number (drop end text) m.is.ended none));
+    }
+stuck_wrong limit text Starts k at flaw nine inside p s (later j a end f found dot more) =
+    let m = found.piece in
+    let next = dot-next text end dot in
+    let piece = m.piece ++ 46 ∷ [] in
+    let divided : drop a text ≡ piece ++ drop (end + 1) text = m.divided ∙ (ap (λ (t : List ℕ). m.piece ++ t) next.0 ∙ sym (append_assoc m.piece (46 ∷ []) (drop (end + 1) text))) in
+    let front : take (end + 1) text ≡ take a text ++ piece = cut text a (end + 1) piece inside next.1 divided in
+    stuck_wrong limit text (λ _. Unit {0}) j (end + 1) f nine next.1
+    (subst (λ (t : List ℕ). Place limit (λ _. Unit {0}) t j) (sym front) (next_place limit Starts (take a text) m.piece found.n j p m.is.number)) tt more
+
+-- ---- behind the mark and the whitespace
+
+marked : (text : List ℕ) → IsMark (take (mark_len text) text)
+marked [] = no_mark
+marked (c ∷ rest) = elim (cases_Bool (eqb c 118)) [
+  | inl small ↦ rw (eqb-true c 118 small) small_mark
+  | inr other ↦ elim (cases_Bool (eqb c 86)) [
+    | inl capital ↦ rw (eqb-true c 86 capital) capital_mark
+    | inr none ↦ rw (other, none) no_mark
+  ]
+]
+
+unmarked : (text : List ℕ) (start : ℕ) → mark_len text ≤ start → take start text ≡ [] → mark_len (drop start text) ≡ 0
+unmarked [] start le e = ap (λ (t : List ℕ). mark_len t) (drop_all start [] (omega arith))
+unmarked (b ∷ text) zero le e = omega arith
+unmarked (b ∷ text) (suc start) le e = cc e
+
+record Begun (limit : ℕ) (text : List ℕ) (start : ℕ) : Type 0 where
+  inside : start ≤ length text
+  place : Place limit (Leads (take start text)) (take start text) 2
+  leads : Leads (take start text) (drop start text)
+  divided : text ≡ take (mark_len text) text ++ (slice_range text (mark_len text) start ++ drop start text)
+
+begun : (limit : ℕ) (text : List ℕ) (start : ℕ) → IsUtf8 text → IsAfterBlank text (mark_len text) start → Begun limit text start
+begun limit text start utf8 a =
+    let k = mark_len text in
+    let blank = slice_range text k start in
+    let place : k + (start - k) ≡ start = omega (arith, a.after) in
+    let rest : drop k text ≡ blank ++ drop start text =
+    sym (take-append-drop (start - k) (drop k text)) ∙ ap (λ (t : List ℕ). blank ++ t) (drop-drop (start - k) k text ∙ ap (λ (n : ℕ). drop n text) place) in
+    let front : take start text ≡ take k text ++ blank = cut text k start blank (omega (arith, a.after, a.boundary.0)) a.boundary.0 rest in
+    record {
+      inside = a.boundary.0;
+      place = subst (λ (t : List ℕ). Place limit (Leads t) t 2) (sym front) (lead_place limit (take k text) blank (marked text) a.blank);
+      leads = (ap (λ (t : List ℕ). space_len t) (after_blank_drops_spaces text k start utf8 a) ∙ spaces-gone 0 (drop k text), unmarked text start a.after);
+      divided = sym (take-append-drop k text) ∙ ap (λ (t : List ℕ). take k text ++ t) rest;
+    }
+
+-- ---- the answers
+
+-- the answer where the reader stops
+pub stuck_flaw : (limit : ℕ) (text : List ℕ) (start : ℕ) (flaw : VersionFlaw) → 9 ≤ limit → IsUtf8 text → IsAfterBlank text (mark_len text) start
+    → length text ≤ MAX_LENGTH → Stuck limit text 2 start flaw → IsFlaw limit text flaw × (IsExact limit text → ⊥)
+stuck_flaw limit text start flaw nine utf8 a short h =
+    let b = begun limit text start utf8 a in
+    go flaw (stuck_wrong limit text (Leads (take start text)) 2 start flaw nine b.inside b.place b.leads h)
+  where
+    go : (flaw : VersionFlaw) → IsWrong limit text flaw → IsFlaw limit text flaw × (IsExact limit text → ⊥)
+    go Flaw.TooLong w = absurd w
+    go (Flaw.NumberTooGreat at) w = ((short, w), λ e. w.none e.0 e.1.reads)
+    go (Flaw.Expected what at) w = ((short, w), λ e. w.none e.0 e.1.reads)
+    go (Flaw.Ignored at) w = absurd w
+
+-- three numbers were read, and the place is behind what goes on with them
+pub record Ended (limit : ℕ) (text : List ℕ) (start at : ℕ) : Type 0 where
+  pub numbers : ℕ × ℕ × ℕ × ℕ
+  pub triple : triple_at limit text start ≡ Some numbers
+  pub place : at ≡ (build_at text (pre_release_at text numbers.3).1).1
+
+-- a text is exact or has a flaw
+abbrev pub IsDecided : ℕ → List ℕ → Option VersionFlaw → Type 0
+IsDecided limit text found = MatchOption found (IsExact limit text) (λ flaw. IsFlaw limit text flaw × (IsExact limit text → ⊥))
+
+pub decided : (limit : ℕ) (text : List ℕ) (found : Option VersionFlaw) → IsDecided limit text found
+    → ((found ≡ None) ↔ IsExact limit text) × IfSome found (λ flaw. IsFlaw limit text flaw)
+decided limit text None h = ((λ e. h, λ e. refl), tt)
+decided limit text (Some flaw) h = ((λ e. cc e, λ e. absurd (h.1 e)), h.0)
+
+pub ended : (limit : ℕ) (text bytes : List ℕ) (start end next at : ℕ) → bytes ≡ text
+    → (t : ℕ × ℕ × ℕ × ℕ) × (triple_at limit bytes start ≡ Some t) × (t.3 ≡ end) → next ≡ (pre_release_at bytes end).1 → at ≡ (build_at bytes next).1
+    → Ended limit text start at
+ended limit text bytes start end next at same t pre build =
+    let e : Ended limit bytes start at = record {
+      numbers = t.0;
+      triple = t.1;
+      place = build ∙ ap (λ (n : ℕ). (build_at bytes n).1) (pre ∙ ap (λ (n : ℕ). (pre_release_at bytes n).1) (sym t.2));
+    } in
+    subst (λ (b : List ℕ). Ended limit b start at) same e
+
+pub whole_exact : (limit : ℕ) (text : List ℕ) (start at : ℕ) → IsUtf8 text → IsAfterBlank text (mark_len text) start → length text ≤ MAX_LENGTH
+    → Ended limit text start at → length text ≤ at → IsExact limit text
+whole_exact limit text start at utf8 a short e all =
+    let b = begun limit text start utf8 a in
+    let d = divided_at limit text (take (mark_len text) text) (slice_range text (mark_len text) start) start e.numbers b.divided (marked text) a.blank e.triple in
+    (qualified text e.numbers, record { short = short; reads = d.reads }, d.rest_is ∙ drop_all _ text (omega (arith, e.place)))
+
+pub ignored_behind : (limit : ℕ) (text : List ℕ) (start at : ℕ) → IsUtf8 text → IsAfterBlank text (mark_len text) start → length text ≤ MAX_LENGTH
+    → Ended limit text start at → at < length text → IsIgnoredFrom limit text at × (IsExact limit text → ⊥)
+ignored_behind limit text start at utf8 a short e some =
+    let b = begun limit text start utf8 a in
+    let d = divided_at limit text (take (mark_len text) text) (slice_range text (mark_len text) start) start e.numbers b.divided (marked text) a.blank e.triple in (
+      record {
+        version = qualified text e.numbers;
+        parses = record { short = short; reads = d.reads };
+        rest = d.rest_is ∙ ap (λ (n : ℕ). drop n text) (sym e.place);
+        some = some;
+      },
+      λ x. not b x.0 x.1.reads x.2,
+    )
+  where
+    not : Begun limit text start → (v : VersionValue) (r : Reads limit text v) → r.rest ≡ [] → ⊥
+    not b v r none =
+        let tail = r.pre_release ++ (r.build ++ r.rest) in
+        let n = b.place.only (drop start text) tail b.leads
+        (subst (λ (t : List ℕ). HasTail limit t tail) (sym (take-append-drop start text)) (v, r, refl)) in
+        let x = n.1 in
+        let y = n.2.1 in
+        let z = n.2.2 in
+        let three = triple_complete limit text start x.n y.n z.n x.digits y.digits z.digits tail
+        (x.divided ∙ ap (λ (t : List ℕ). x.digits ++ 46 ∷ t) (y.divided ∙ ap (λ (t : List ℕ). y.digits ++ 46 ∷ t) z.divided))
+        x.is.number y.is.number z.is in
+        let pre = pre_complete text three.0 r.pre_release (r.build ++ r.rest) v.pre_release three.2 r.pre_release_is in
+        let meta = build_complete text (three.0 + length r.pre_release) r.build r.rest v.build pre.1 r.build_is in
+        let same : e.numbers ≡ (x.n, y.n, z.n, three.0) = some_inside _ _ (sym e.triple ∙ three.1) in
+        let place : at ≡ three.0 + length r.pre_release + length r.build =
+        e.place ∙ (ap (λ (t : ℕ × ℕ × ℕ × ℕ). (build_at text (pre_release_at text t.3).1).1) same
+        ∙ (ap (λ (q : List Id × ℕ). (build_at text q.1).1) pre.0 ∙ ap (λ (q : List Id × ℕ). q.1) meta.0)) in
+        omega (arith, some, place, length-drop at text, ap length (ap (λ (m : ℕ). drop m text) place ∙ (meta.1 ∙ none)))

@@ -1,0 +1,100 @@
+-- The interval of a part and what follows it, as the fast reader makes them.
+use Rattle.std.proofs.Common.{◌≡◌, ℕ, List, [], ◌∷◌, ◌++◌, drop, refl, sym, ap, ◌∙◌, Bool, true, false, Some, None}
+use Rattle.std.specs.Prelude.{Option, if◌then◌else◌}
+use Rattle.std.proofs.lemmas.Option.{none-some}
+use Rattle.nodejs_semver.proofs.Reading.Steps.{inside}
+use Rattle.semver_core.specs.Cuts.{Span, interval, meet}
+use Rattle.semver_core.specs.Values.Order.{precedence}
+use Rattle.semver_core.specs.Values.Versions.{VersionValue}
+use Rattle.semver_core.specs.declared.cuts.bound.Bound.{Bound}
+use Rattle.semver_core.specs.declared.cuts.bound.Bound.TheVariants.{Unbounded, Before, After}
+use Rattle.nodejs_semver.specs.Internal.CommonFronts.{begins_second, both_of, comparison_front, comparisons_front, part_read, passed, pushed, word_read}
+use Rattle.nodejs_semver.specs.Internal.CommonViews.{both_view}
+use Rattle.nodejs_semver.specs.Internal.Fronts.{Front}
+use Rattle.semver_core.specs.Internal.Reading.{◌>>?◌}
+
+-- two comparisons of which the first has no upper and the second no lower bound
+pub half_open : (a b : Bound VersionValue)
+    → both_of (record { lower = a; upper = Unbounded }) (record { lower = Unbounded; upper = b }) ≡ interval precedence (record { lower = a; upper = b })
+half_open Unbounded Unbounded = refl
+half_open Unbounded (Before w) = refl
+half_open Unbounded (After w) = refl
+half_open (Before v) Unbounded = refl
+half_open (Before v) (Before w) = refl
+half_open (Before v) (After w) = refl
+half_open (After v) Unbounded = refl
+half_open (After v) (Before w) = refl
+half_open (After v) (After w) = refl
+
+-- what follows a part, and the list with its interval
+abbrev pub Behind : Type 0
+Behind = Option (List ℕ) × List (Span VersionValue)
+
+abbrev pub behind : Option (List ℕ) → List (Span VersionValue) → Behind
+behind r list = (r, list)
+
+pub passed-part : (there : Bool) (rest : List ℕ) (done new : List (Span VersionValue)) (o : Option (Span VersionValue)) (r : Option (List ℕ))
+    → both_view there new ≡ pushed done o → r ≡ (if there then Some rest else None) → behind r new ≡ passed done (part_read rest o)
+passed-part there rest done new None r h e = rw (e, ap (λ (x : Bool × List (Span VersionValue)). x.0) h, ap (λ (x : Bool × List (Span VersionValue)). x.1) h) refl
+passed-part there rest done new (Some s) r h e = rw (e, ap (λ (x : Bool × List (Span VersionValue)). x.0) h, ap (λ (x : Bool × List (Span VersionValue)). x.1) h) refl
+
+-- the step behind the first comparison
+abbrev behind-first : ℕ → Span VersionValue × List ℕ → Front (Span VersionValue)
+behind-first limit s =
+    if begins_second s.1
+    then (word_read limit (comparison_front limit (drop 1 s.1)) >>? λ t. part_read t.1 (meet precedence s.0 t.0))
+    else Some s
+
+-- no second comparison is read
+pub none-second : (limit : ℕ) (text : List ℕ) (a : Span VersionValue) (rest : List ℕ)
+    → part_read rest (interval precedence a) ≡ word_read limit (comparison_front limit text) → begins_second rest ≡ true
+    → word_read limit (comparison_front limit (drop 1 rest)) ≡ None → comparisons_front limit text ≡ None
+unfolding comparisons_front
+none-second limit text a rest h second k = rw (← h) (go (interval precedence a))
+  where
+    go : (o : Option (Span VersionValue)) → (part_read rest o >>? λ s. behind-first limit s) ≡ None
+    go None = refl
+    go (Some s) = rw (second, k) refl
+
+second-read : (limit : ℕ) (text : List ℕ) (a b : Span VersionValue) (rest more : List ℕ) → part_read rest (interval precedence a) ≡ word_read limit (comparison_front limit text)
+    → begins_second rest ≡ true → part_read more (interval precedence b) ≡ word_read limit (comparison_front limit (drop 1 rest))
+    → comparisons_front limit text ≡ part_read more (both_of a b)
+unfolding comparisons_front
+second-read limit text a b rest more h second k = rw (← h) (go (interval precedence a))
+  where
+    last : (s : Span VersionValue) (o : Option (Span VersionValue)) → (part_read more o >>? λ t. part_read t.1 (meet precedence s t.0)) ≡ part_read more (o >>? λ t. meet precedence s t)
+    last s None = refl
+    last s (Some t) = refl
+
+    go : (o : Option (Span VersionValue)) → (part_read rest o >>? λ s. behind-first limit s) ≡ part_read more (o >>? λ s. interval precedence b >>? λ t. meet precedence s t)
+    go None = refl
+    go (Some s) = rw (second, ← k) (last s (interval precedence b))
+
+-- two comparisons
+pub passed-second : (limit : ℕ) (text : List ℕ) (a b : Span VersionValue) (rest more : List ℕ) (there : Bool) (done new : List (Span VersionValue)) (r : Option (List ℕ))
+    → part_read rest (interval precedence a) ≡ word_read limit (comparison_front limit text) → begins_second rest ≡ true
+    → part_read more (interval precedence b) ≡ word_read limit (comparison_front limit (drop 1 rest))
+    → both_view there new ≡ pushed done (both_of a b) → r ≡ (if there then Some more else None) → behind r new ≡ passed done (comparisons_front limit text)
+passed-second limit text a b rest more there done new r h second k p e =
+    passed-part there more done new (both_of a b) r p e
+    ∙ ap (λ (o : Front (Span VersionValue)). passed done o) (sym (second-read limit text a b rest more h second k))
+
+-- what was added, and that nothing was
+pub record Added (done new : List (Span VersionValue)) (o : Front (Span VersionValue)) (rest : List ℕ) : Type 0 where
+  pub interval_is : Span VersionValue
+  pub found : o ≡ Some (interval_is, rest)
+  pub list : new ≡ done ++ interval_is ∷ []
+
+pub passed-some : (done new : List (Span VersionValue)) (o : Front (Span VersionValue)) (r : Option (List ℕ)) (rest : List ℕ) → behind r new ≡ passed done o → r ≡ Some rest
+    → Added done new o rest
+passed-some done new None r rest h e = absurd (none-some rest (sym (ap (λ (x : Behind). x.0) h) ∙ e))
+passed-some done new (Some p) r rest h e =
+    let same : p.1 ≡ rest = inside (sym (ap (λ (x : Behind). x.0) h) ∙ e) in
+    record { interval_is = p.0; found = ap (λ (t : List ℕ). read_of p.0 t) same; list = ap (λ (x : Behind). x.1) h }
+  where
+    read_of : Span VersionValue → List ℕ → Front (Span VersionValue)
+    read_of s t = Some (s, t)
+
+pub passed-none : (done new : List (Span VersionValue)) (o : Front (Span VersionValue)) (r : Option (List ℕ)) → behind r new ≡ passed done o → r ≡ None → o ≡ None
+passed-none done new None r h e = refl
+passed-none done new (Some p) r h e = absurd (none-some p.1 (sym e ∙ ap (λ (x : Behind). x.0) h))

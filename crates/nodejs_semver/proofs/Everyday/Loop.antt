@@ -1,0 +1,117 @@
+-- One part of a common text after another.
+use Rattle.std.proofs.Common.{◌≡◌, ℕ, zero, suc, ◌<◌, ◌≤◌, List, [], ◌∷◌, ◌++◌, length, refl, sym, ap, ◌∙◌, arith, true, false, Some, None, append_assoc}
+use Rattle.std.specs.Prelude.{Option}
+use Rattle.semver_core.specs.Cuts.{Span}
+use Rattle.semver_core.specs.Internal.Reading.{◌>>?◌}
+use Rattle.semver_core.specs.Lists.{is_empty}
+use Rattle.semver_core.specs.Values.Versions.{VersionValue}
+use Rattle.nodejs_semver.specs.Internal.CommonFronts.{after_bars, common_range, common_within, part_front, passed}
+use Rattle.nodejs_semver.specs.Text.Common.{IsCommonRange, IsUncommon}
+use Rattle.nodejs_semver.proofs.Everyday.Bounds.{Added, behind, passed-none, passed-some}
+use Rattle.nodejs_semver.proofs.Everyday.Parts.{common_ranges_are_read, next-shorter}
+
+-- the intervals that were found, and those that are read in what is left of the text, are those of the whole text
+pub record Reaches (limit : ℕ) (text : List ℕ) (found : List (Span VersionValue)) (rest : List ℕ) : Type 0 where
+  pub bytes : ℕ
+  pub room : length rest ≤ bytes
+  pub whole : (common_within limit bytes rest >>? λ tail. Some (found ++ tail)) ≡ common_range limit text
+
+pub loop-starts : (limit : ℕ) (text rest : List ℕ) (found : List (Span VersionValue)) → rest ≡ text → found ≡ [] → Reaches limit text found rest
+loop-starts limit text rest found e f = rw (e, f) (record { bytes = length text; room = omega arith; whole = go (common_range limit text) })
+  where
+    go : (o : Option (List (Span VersionValue))) → (o >>? λ tail. Some ([] ++ tail)) ≡ o
+    go None = refl
+    go (Some tail) = refl
+
+-- ---- one part
+
+stops-part : (limit n : ℕ) (rest : List ℕ) → part_front limit rest ≡ None → common_within limit n rest ≡ None
+unfolding common_within
+stops-part limit zero rest h = refl
+stops-part limit (suc n) rest h = rw h refl
+
+stops-bars : (limit n : ℕ) (rest left : List ℕ) (s : Span VersionValue) → part_front limit rest ≡ Some (s, left) → is_empty left ≡ false → after_bars left ≡ None
+    → common_within limit n rest ≡ None
+unfolding common_within
+stops-bars limit zero rest left s h e k = refl
+stops-bars limit (suc n) rest left s h e k = rw (h, e, k) refl
+
+ends-there : (limit n : ℕ) (rest left : List ℕ) (s : Span VersionValue) → length rest ≤ n → part_front limit rest ≡ Some (s, left) → is_empty left ≡ true
+    → common_within limit n rest ≡ Some (s ∷ [])
+unfolding common_within part_front
+ends-there limit zero [] left s l h e = cc h
+ends-there limit zero (b ∷ rest) left s l h e = absurd (omega arith)
+ends-there limit (suc n) rest left s l h e = rw (h, e) refl
+
+goes-on : (limit n : ℕ) (rest left next : List ℕ) (s : Span VersionValue) → length rest ≤ n → part_front limit rest ≡ Some (s, left) → is_empty left ≡ false
+    → after_bars left ≡ Some next → (m : ℕ) × (length next ≤ m) × (common_within limit n rest ≡ (common_within limit m next >>? λ list. Some (s ∷ list)))
+unfolding common_within part_front
+goes-on limit zero [] left next s l h e k = cc h
+goes-on limit zero (b ∷ rest) left next s l h e k = absurd (omega arith)
+goes-on limit (suc n) rest left next s l h e k = (n, omega (arith, next-shorter limit rest s left next h k), rw (h, e, k) refl)
+
+-- ---- the steps of the loop
+
+empty-of : (text : List ℕ) → length text ≡ 0 → is_empty text ≡ true
+empty-of [] h = refl
+empty-of (b ∷ text) h = absurd (omega arith)
+
+filled-of : (text : List ℕ) → 0 < length text → is_empty text ≡ false
+filled-of [] h = absurd (omega arith)
+filled-of (b ∷ text) h = refl
+
+-- no part, or no bars behind one: the text is no common one
+uncommon : (limit : ℕ) (text : List ℕ) (found : List (Span VersionValue)) (rest : List ℕ) (r : Reaches limit text found rest) → common_within limit r.bytes rest ≡ None → IsUncommon limit text
+uncommon limit text found rest r none = λ list h.
+    let nothing : None ≡ common_range limit text = sym (ap (λ (o : Option (List (Span VersionValue))). o >>? λ tail. Some (found ++ tail)) none) ∙ r.whole in
+    cc (nothing, (common_ranges_are_read limit text list).1 h)
+
+-- the reader was at a place, and its next step added a part
+pub record Step (limit : ℕ) (found new : List (Span VersionValue)) (rest left : List ℕ) : Type 0 where
+  pub after : Option (List ℕ)
+  pub added : behind after new ≡ passed found (part_front limit rest)
+  pub there : after ≡ Some left
+
+added-by : (limit : ℕ) (found new : List (Span VersionValue)) (rest left : List ℕ) → Step limit found new rest left → Added found new (part_front limit rest) left
+added-by limit found new rest left s = passed-some found new (part_front limit rest) s.after left s.added s.there
+
+pub loop-no_part : (limit : ℕ) (text : List ℕ) (found new : List (Span VersionValue)) (rest : List ℕ) (after : Option (List ℕ)) → behind after new ≡ passed found (part_front limit rest)
+    → after ≡ None → Reaches limit text found rest → IsUncommon limit text
+loop-no_part limit text found new rest after h e r =
+    uncommon limit text found rest r (stops-part limit r.bytes rest (passed-none found new (part_front limit rest) after h e))
+
+pub loop-no_bars : (limit : ℕ) (text : List ℕ) (found new : List (Span VersionValue)) (rest left : List ℕ) → Step limit found new rest left → 0 < length left → after_bars left ≡ None
+    → Reaches limit text found rest → IsUncommon limit text
+loop-no_bars limit text found new rest left s some bars r =
+    let a = added-by limit found new rest left s in
+    uncommon limit text found rest r (stops-bars limit r.bytes rest left a.interval_is a.found (filled-of left some) bars)
+
+pub loop-ends : (limit : ℕ) (text : List ℕ) (found new : List (Span VersionValue)) (rest left : List ℕ) → Step limit found new rest left → length left ≡ 0
+    → Reaches limit text found rest → IsCommonRange limit text new
+loop-ends limit text found new rest left s none r =
+    let a = added-by limit found new rest left s in
+    let last = ends-there limit r.bytes rest left a.interval_is r.room a.found (empty-of left none) in
+    let whole : Some (found ++ a.interval_is ∷ []) ≡ common_range limit text = sym (ap (λ (o : Option (List (Span VersionValue))). o >>? λ tail. Some (found ++ tail)) last) ∙ r.whole in
+    rw a.list ((common_ranges_are_read limit text (found ++ a.interval_is ∷ [])).0 (sym whole))
+
+pub loop-goes : (limit : ℕ) (text : List ℕ) (found new : List (Span VersionValue)) (rest left next : List ℕ) → Step limit found new rest left → 0 < length left
+    → after_bars left ≡ Some next → Reaches limit text found rest → Reaches limit text new next
+loop-goes limit text found new rest left next s some bars r =
+    let a = added-by limit found new rest left s in
+    let g = goes-on limit r.bytes rest left next a.interval_is r.room a.found (filled-of left some) bars in
+    rw a.list (record {
+      bytes = g.0;
+      room = g.1;
+      whole = grouped a.interval_is (common_within limit g.0 next)
+          ∙ sym (ap (λ (o : Option (List (Span VersionValue))). o >>? λ tail. Some (found ++ tail)) g.2) ∙ r.whole;
+    })
+  where
+    grouped : (i : Span VersionValue) (o : Option (List (Span VersionValue)))
+        → (o >>? λ tail. Some ((found ++ i ∷ []) ++ tail)) ≡ ((o >>? λ list. Some (i ∷ list)) >>? λ tail. Some (found ++ tail))
+    grouped i None = refl
+    grouped i (Some list) = ap Some (append_assoc found (i ∷ []) list)
+
+pub loop-shorter : (limit : ℕ) (found new : List (Span VersionValue)) (rest left next : List ℕ) → Step limit found new rest left → after_bars left ≡ Some next → length next < length rest
+loop-shorter limit found new rest left next s bars =
+    let a = added-by limit found new rest left s in
+    next-shorter limit rest a.interval_is left next a.found bars

@@ -1,0 +1,168 @@
+-- Everyday parts between bars denote their intervals: the parts are cut at the bars and are trimmed to themselves.
+use Rattle.std.proofs.Common.{◌≡◌, ℕ, ◌<◌, List, [], ◌∷◌, ◌++◌, length, map, refl, sym, ap, ◌∙◌, arith, Bool, true, false, inl, inr, append-nil, append_assoc, Some}
+use Rattle.std.specs.Prelude.{Option, ◌&&◌, ◌||◌, ◌==◌, flat_map}
+use Rattle.std.specs.List.{list_all, onto_first}
+use Rattle.std.proofs.lemmas.Bool.{and_parts, cases_Bool, eqb-true}
+use Rattle.std.proofs.lemmas.Bool.Decides.{nat_tests}
+use Rattle.semver_core.specs.Text.Characters.{begins, ends}
+use Rattle.semver_core.specs.Cuts.{Span}
+use Rattle.semver_core.specs.Internal.Spaces.{after_spaces, drop_end_spaces, drop_spaces, space_len, trim}
+use Rattle.semver_core.specs.Lists.{is_empty}
+use Rattle.semver_core.specs.Values.Versions.{VersionValue}
+use Rattle.semver_core.proofs.Text.Spaces.{drop_spaces-none}
+use Rattle.nodejs_semver.specs.Text.Common.{IsCommonPart, IsCommonRange, IsCommonWord, IsGap, caret_word, compare_word, comparison, hyphen_word, more_parts, one_part, one_word, plain_word, tilde_greater_word, tilde_word, two_comparisons}
+use Rattle.nodejs_semver.specs.Internal.Denotes.{denotes, part_denotes, part_intervals}
+use Rattle.nodejs_semver.specs.Internal.Parts.{cut_bars, parts}
+use Rattle.nodejs_semver.specs.Text.Bars.{is_bar}
+use Rattle.nodejs_semver.specs.Text.Table.{table}
+use Rattle.nodejs_semver.specs.Text.WordText.{Word}
+use Rattle.nodejs_semver.proofs.Everyday.Compact.{Compact, compact-partial, compact-signed, is_part_byte}
+use Rattle.nodejs_semver.proofs.Everyday.Words.{Tidy, caret-tidy, compared-tidy, hyphen-tidy, no-greater, plain-tidy, tilde-tidy, two-tidy}
+use Rattle.nodejs_semver.proofs.Reading.Bytes.{all-join, is_solid, solid-dark}
+use Rattle.nodejs_semver.proofs.Reading.Components.{components-begin}
+
+-- ---- trimming
+
+solid-kept : (b : ℕ) (rest : List ℕ) → is_solid b ≡ true → drop_spaces (b ∷ rest) ≡ b ∷ rest
+solid-kept b rest h = drop_spaces-none (b ∷ rest) (solid-dark (b ∷ rest) h)
+
+space-gone : (rest : List ℕ) → drop_spaces (32 ∷ rest) ≡ drop_spaces rest
+unfolding after_spaces space_len
+space-gone rest = refl
+
+-- more than spaces is left of what ends in a character
+left-over : (text gap : List ℕ) → list_all is_part_byte text ≡ true → ends is_solid text ≡ true → is_empty (drop_spaces (text ++ gap)) ≡ false
+left-over [] gap h e = cc e
+left-over (b ∷ []) gap h e = ap is_empty (solid-kept b gap e)
+left-over (b ∷ c ∷ text) gap h e = elim (cases_Bool (is_solid b)) [
+  | inl solid ↦ ap is_empty (solid-kept b ((c ∷ text) ++ gap) solid)
+  | inr other ↦
+      let each = and_parts (is_part_byte b) (list_all is_part_byte (c ∷ text)) h in
+      rw (eqb-true b 32 (rw other at each.0)) (ap is_empty (space-gone ((c ∷ text) ++ gap)) ∙ left-over (c ∷ text) gap each.1 e)
+]
+
+keep_byte : (b : ℕ) (rest : List ℕ) → is_empty (drop_spaces (b ∷ rest)) ≡ false → drop_end_spaces (b ∷ rest) ≡ b ∷ drop_end_spaces rest
+unfolding drop_end_spaces
+keep_byte b rest h = rw (h, drop_end_spaces) refl
+
+gap-gone : (gap : List ℕ) → IsGap gap → drop_end_spaces gap ≡ []
+unfolding drop_end_spaces after_spaces space_len
+gap-gone gap (inl none) = rw none refl
+gap-gone gap (inr space) = rw space refl
+
+end-kept : (text gap : List ℕ) → IsGap gap → list_all is_part_byte text ≡ true → ends is_solid text ≡ true → drop_end_spaces (text ++ gap) ≡ text
+end-kept [] gap g h e = cc e
+end-kept (b ∷ []) gap g h e = rw (keep_byte b gap (left-over (b ∷ []) gap h e), gap-gone gap g) refl
+end-kept (b ∷ c ∷ text) gap g h e =
+    rw (keep_byte b ((c ∷ text) ++ gap) (left-over (b ∷ c ∷ text) gap h e))
+    (ap (λ (t : List ℕ). b ∷ t) (end-kept (c ∷ text) gap g (and_parts (is_part_byte b) (list_all is_part_byte (c ∷ text)) h).1 e))
+
+front-kept : (text gap : List ℕ) → begins is_solid text ≡ true → drop_spaces (text ++ gap) ≡ text ++ gap
+front-kept [] gap h = cc h
+front-kept (b ∷ text) gap h = solid-kept b (text ++ gap) h
+
+gap-passed : (before text : List ℕ) → IsGap before → drop_spaces (before ++ text) ≡ drop_spaces text
+gap-passed before text (inl none) = rw none refl
+gap-passed before text (inr space) = rw space (space-gone text)
+
+-- a compact text with a space or none on each side is trimmed to itself
+compact-trim : (before text after : List ℕ) → IsGap before → IsGap after → Compact text → trim (before ++ (text ++ after)) ≡ text
+compact-trim before text after g k c = rw (gap-passed before (text ++ after) g, front-kept text after c.front) (end-kept text after k c.each c.end)
+
+-- ---- cutting at bars
+
+gap-bytes : (gap : List ℕ) → IsGap gap → list_all is_part_byte gap ≡ true
+gap-bytes gap (inl none) = rw none refl
+gap-bytes gap (inr space) = rw space refl
+
+no-bar : (b : ℕ) → is_part_byte b ≡ true → is_bar b ≡ false
+no-bar b h = grind (arith, nat_tests)
+
+cut-last : (piece : List ℕ) → list_all is_part_byte piece ≡ true → cut_bars false piece ≡ piece ∷ []
+unfolding cut_bars
+cut-last [] h = refl
+cut-last (b ∷ piece) h =
+    let each = and_parts (is_part_byte b) (list_all is_part_byte piece) h in
+    rw (no-bar b each.0, cut_bars) (ap (λ (ps : List (List ℕ)). onto_first b ps) (cut-last piece each.1))
+
+cut-first : (piece rest : List ℕ) → list_all is_part_byte piece ≡ true → cut_bars false (piece ++ 124 ∷ (124 ∷ rest)) ≡ piece ∷ cut_bars false rest
+unfolding cut_bars
+cut-first [] rest h = refl
+cut-first (b ∷ piece) rest h =
+    let each = and_parts (is_part_byte b) (list_all is_part_byte piece) h in
+    rw (no-bar b each.0, cut_bars) (ap (λ (ps : List (List ℕ)). onto_first b ps) (cut-first piece rest each.1))
+
+-- ---- the whole text
+
+-- parts with bars between them, and one space or none on each side of the bars
+pub data AreTidy (limit : ℕ) : List ℕ → List (Span VersionValue) → Type 0 where
+  one_tidy : (part : List ℕ) (s : Span VersionValue) → Tidy limit part s → AreTidy limit part (s ∷ [])
+  more_tidy : (part before after text : List ℕ) (s : Span VersionValue) (list : List (Span VersionValue)) → Tidy limit part s
+      → IsGap before → IsGap after → AreTidy limit text list → AreTidy limit (part ++ (before ++ 124 ∷ (124 ∷ (after ++ text)))) (s ∷ list)
+
+-- what the parts of a text are, where its first part is not empty
+record Denoted (limit : ℕ) (pieces : List (List ℕ)) (list : List (Span VersionValue)) : Type 0 where
+  intervals : flat_map (part_denotes limit) (map trim pieces) ≡ list
+  filled : list_all is_empty (map trim pieces) ≡ false
+
+front-filled : (text : List ℕ) → begins is_solid text ≡ true → is_empty text ≡ false
+front-filled [] h = cc h
+front-filled (b ∷ text) h = refl
+
+denoted-on : (limit : ℕ) (piece part : List ℕ) (pieces : List (List ℕ)) (s : Span VersionValue) (list : List (Span VersionValue)) → trim piece ≡ part → Tidy limit part s
+    → flat_map (part_denotes limit) (map trim pieces) ≡ list → Denoted limit (piece ∷ pieces) (s ∷ list)
+denoted-on limit piece part pieces s list t tidy h =
+    let filled = front-filled part tidy.compact.front in
+    record { intervals = rw (t, filled, tidy.intervals, h) refl; filled = rw (t, filled) refl }
+
+denoted : (limit : ℕ) (text : List ℕ) (list : List (Span VersionValue)) (gap : List ℕ) → IsGap gap → AreTidy limit text list → Denoted limit (cut_bars false (gap ++ text)) list
+denoted limit text list gap g (one_tidy part s tidy) =
+    let trimmed : trim (gap ++ part) ≡ part = rw append-nil at (compact-trim gap part [] g (inl refl) tidy.compact) in
+    rw (cut-last (gap ++ part) (all-join is_part_byte gap part (gap-bytes gap g) tidy.compact.each)) (denoted-on limit (gap ++ part) part [] s [] trimmed tidy refl)
+denoted limit text list gap g (more_tidy part before after rest s others tidy b a more) =
+    let piece = gap ++ (part ++ before) in
+    let behind = 124 ∷ (124 ∷ (after ++ rest)) in
+    let bytes = all-join is_part_byte gap (part ++ before) (gap-bytes gap g) (all-join is_part_byte part before tidy.compact.each (gap-bytes before b)) in
+    let whole : gap ++ (part ++ (before ++ behind)) ≡ piece ++ behind = sym (append_assoc gap (part ++ before) behind ∙ ap (λ (t : List ℕ). gap ++ t) (append_assoc part before behind)) in
+    let next = denoted limit rest others after a more in
+    rw (whole, cut-first piece (after ++ rest) bytes)
+    (denoted-on limit piece part (cut_bars false (after ++ rest)) s others (compact-trim gap part before g b tidy.compact) tidy next.intervals)
+
+pub tidy-denotes : (limit : ℕ) (text : List ℕ) (list : List (Span VersionValue)) → AreTidy limit text list
+    → (denotes limit text ≡ list) × (list_all is_empty (parts text) ≡ false)
+tidy-denotes limit text list h =
+    let d = denoted limit text list [] (inl refl) h in
+    (rw d.filled d.intervals, d.filled)
+
+-- ---- common texts
+
+word-tidy : (limit : ℕ) (x : List ℕ) (w : Word) (s : Span VersionValue) → IsCommonWord limit x w → table limit w ≡ Some s → Tidy limit x s
+word-tidy limit x w s (plain_word text p h) bounds = plain-tidy limit text p s h.components bounds
+word-tidy limit x w s (compare_word text word (comparison c sign rest p is h)) bounds = compared-tidy limit c sign rest p s is h.components bounds
+word-tidy limit x w s (tilde_word text p h) bounds =
+    let begins = components-begin limit text p h.components in
+    let c = compact-partial limit text p h.components in
+    tilde-tidy limit false text text p s (compact-signed 126 text refl c) (rw (drop_spaces-none text (solid-dark text c.front)) (no-greater text begins)) h.components bounds
+word-tidy limit x w s (tilde_greater_word text p h) bounds =
+    let c = compact-signed 62 text refl (compact-partial limit text p h.components) in
+    tilde-tidy limit true (62 ∷ text) text p s (compact-signed 126 (62 ∷ text) refl c) (rw (drop_spaces-none (62 ∷ text) (solid-dark (62 ∷ text) refl)) refl) h.components bounds
+word-tidy limit x w s (caret_word text p h) bounds = caret-tidy limit text p s h.components bounds
+word-tidy limit x w s (hyphen_word first second p q h k) bounds = hyphen-tidy limit first second p q s h.components k.components bounds
+
+pub part-tidy : (limit : ℕ) (x : List ℕ) (s : Span VersionValue) → IsCommonPart limit x s → Tidy limit x s
+part-tidy limit x s (one_word text word span is bounds) = word-tidy limit text word span is bounds
+part-tidy limit x s (two_comparisons u v a b c d both (comparison f sign t p is h) (comparison g sign' t' q is' k) e e' m) =
+    two-tidy limit f g sign sign' t t' p q c d both is h.components is' k.components e e' m
+
+common-tidy : (limit : ℕ) (text : List ℕ) (list : List (Span VersionValue)) → IsCommonRange limit text list → AreTidy limit text list
+common-tidy limit text list (one_part part s is) = one_tidy part s (part-tidy limit part s is)
+common-tidy limit text list (more_parts part before after rest s others is b a more) =
+    more_tidy part before after rest s others (part-tidy limit part s is) b a (common-tidy limit rest others more)
+
+pub list-some : (limit : ℕ) (text : List ℕ) (list : List (Span VersionValue)) → IsCommonRange limit text list → 0 < length list
+list-some limit text list (one_part part s is) = omega arith
+list-some limit text list (more_parts part before after rest s others is b a more) = omega arith
+
+pub common_ranges_are_denoted : (limit : ℕ) (text : List ℕ) (list : List (Span VersionValue)) → IsCommonRange limit text list
+    → (denotes limit text ≡ list) × (0 < length list) × (list_all is_empty (parts text) ≡ false)
+common_ranges_are_denoted limit text list h = let d = tidy-denotes limit text list (common-tidy limit text list h) in (d.0, list-some limit text list h, d.1)

@@ -1,0 +1,169 @@
+-- The words of an everyday part are what the range grammar reads in it.
+use Rattle.std.proofs.Common.{◌≡◌, ℕ, ◌<◌, List, [], ◌∷◌, ◌++◌, length, map, refl, sym, ap, ◌∙◌, arith, Bool, true, false, Some, subst, append-nil, append_assoc}
+use Rattle.std.specs.Prelude.{Option, ◌==◌, ◌||◌, filter_map}
+use Rattle.std.proofs.lemmas.Bool.Decides.{nat_tests}
+use Rattle.std.specs.Char.{is_ascii_digit}
+use Rattle.semver_core.specs.Cuts.{Span, meet}
+use Rattle.semver_core.specs.Text.Characters.{begins}
+use Rattle.semver_core.specs.Values.Order.{precedence}
+use Rattle.semver_core.specs.Internal.OrderLaws.{precedence_total}
+use Rattle.semver_core.specs.Internal.Spaces.{after_spaces, drop_spaces, space_len}
+use Rattle.semver_core.specs.Values.Versions.{VersionValue}
+use Rattle.semver_core.proofs.Text.Spaces.{drop_spaces-none}
+use Rattle.nodejs_semver.specs.Internal.Denotes.{part_intervals}
+use Rattle.nodejs_semver.specs.Internal.Fronts.{partial_front}
+use Rattle.nodejs_semver.specs.Internal.Meets.{joined_from}
+use Rattle.nodejs_semver.specs.Internal.RunsFrom.{runs_from}
+use Rattle.nodejs_semver.specs.Text.PartialText.{AreComponents, Partial, is_wildcard}
+use Rattle.nodejs_semver.specs.Text.Table.{table}
+use Rattle.nodejs_semver.specs.Text.WordText.{IsSign, above_sign, at_least_sign, at_most_sign, below_sign, equal_sign, Comparator, Word, caret, compare, hyphen, plain, tilde}
+use Rattle.nodejs_semver.specs.Internal.CommonFronts.{is_sign}
+use Rattle.nodejs_semver.specs.Internal.Words.{careted, compared, is_boundary, or_equal, tilde_sign, tilded, unsigned, word_at, words, words_within}
+use Rattle.nodejs_semver.proofs.Dividing.MeetLemmas.{joined-goes, runs-joined}
+use Rattle.nodejs_semver.proofs.Everyday.Compact.{Compact, compact-compared, compact-join, compact-partial, compact-signed, compact-spaced}
+use Rattle.nodejs_semver.proofs.Reading.Bytes.{begins-on, begins-some, begins_component, component-solid, ends-append, is_solid, solid-dark}
+use Rattle.nodejs_semver.proofs.Reading.Components.{components-begin}
+use Rattle.nodejs_semver.proofs.Reading.PartialLaw.{front-exact}
+use Rattle.nodejs_semver.proofs.Reading.Progress.{words-step}
+use Rattle.nodejs_semver.proofs.Reading.Quiet.{Stop, stop-nil, stop-space}
+use Rattle.nodejs_semver.proofs.Reading.SignLaw.{word-as}
+use Rattle.nodejs_semver.proofs.Reading.WordLaw.{compared-of, unsigned-at}
+
+-- where a component begins, no sign goes on
+component-no_sign : (b : ℕ) → (is_wildcard b || is_ascii_digit b) ≡ true → ((b == 61) ≡ false) × ((b == 62) ≡ false)
+component-no_sign b h = (grind (arith, nat_tests), grind (arith, nat_tests))
+
+pub no-equal : (one two : Comparator) (text : List ℕ) → begins_component text ≡ true → or_equal one two text ≡ (one, text)
+no-equal one two [] h = cc h
+no-equal one two (b ∷ rest) h = rw (component-no_sign b h).0 refl
+
+pub no-greater : (text : List ℕ) → begins_component text ≡ true → tilde_sign text ≡ (false, text)
+no-greater [] h = cc h
+no-greater (b ∷ rest) h = rw (component-no_sign b h).1 refl
+
+pub sign-begins : (c : Comparator) (sign text : List ℕ) → IsSign c sign → (begins is_sign (sign ++ text) ≡ true) × (begins is_solid (sign ++ text) ≡ true)
+sign-begins c sign text above_sign = (refl, refl)
+sign-begins c sign text at_least_sign = (refl, refl)
+sign-begins c sign text below_sign = (refl, refl)
+sign-begins c sign text at_most_sign = (refl, refl)
+sign-begins c sign text equal_sign = (refl, refl)
+
+-- ---- one word
+
+-- the word at the front of a text that begins with a visible character, and what follows it
+record ReadAt (limit : ℕ) (text : List ℕ) (w : Word) (more : List ℕ) : Type 0 where
+  front : begins is_solid text ≡ true
+  word : word_at limit text ≡ (w, more)
+
+-- the partial, and the same behind a sign, where whitespace might stand
+partial-spaced : (limit : ℕ) (x more : List ℕ) (p : Partial) → AreComponents limit x p → Stop more → partial_front limit (drop_spaces (x ++ more)) ≡ Some (p, more)
+partial-spaced limit x more p h stop =
+    let dark = solid-dark (x ++ more) (begins-on is_solid x more (component-solid x (components-begin limit x p h))) in
+    rw (drop_spaces-none (x ++ more) dark) (front-exact limit x more p h stop)
+
+partial-last : (limit : ℕ) (x : List ℕ) (p : Partial) → AreComponents limit x p → partial_front limit x ≡ Some (p, [])
+partial-last limit x p h = subst (λ (t : List ℕ). partial_front limit t ≡ Some (p, [])) (append-nil x) (front-exact limit x [] p h stop-nil)
+
+spaced-last : (limit : ℕ) (x : List ℕ) (p : Partial) → AreComponents limit x p → partial_front limit (drop_spaces x) ≡ Some (p, [])
+spaced-last limit x p h = subst (λ (t : List ℕ). partial_front limit (drop_spaces t) ≡ Some (p, [])) (append-nil x) (partial-spaced limit x [] p h stop-nil)
+
+compared-read : (limit : ℕ) (c : Comparator) (sign x more : List ℕ) (p : Partial) → IsSign c sign → AreComponents limit x p → Stop more → is_boundary more ≡ true
+    → ReadAt limit ((sign ++ x) ++ more) (compare c p) more
+compared-read limit c sign x more p is h stop end =
+    let read = partial-spaced limit x more p h stop in
+    let at = sym (compared-of limit c sign (x ++ more) (p, more) is read) in
+    rw (append_assoc sign x more)
+    (record {
+      front = (sign-begins c sign (x ++ more) is).1;
+      word = word-as limit (sign ++ (x ++ more)) (compared c, drop_spaces (x ++ more)) (Some (p, more)) at (sym read) ∙ rw end refl;
+    })
+
+-- ---- the words of a part, and its interval
+
+words-at : (limit : ℕ) (text : List ℕ) (w : Word) (more : List ℕ) → ReadAt limit text w more → words limit text ≡ w ∷ words limit (drop_spaces more)
+words-at limit text w more r =
+    words-step limit text (begins-some is_solid text r.front) (solid-dark text r.front) ∙ ap (λ (q : Word × List ℕ). q.0 ∷ words limit (drop_spaces q.1)) r.word
+
+one-word : (limit : ℕ) (text : List ℕ) (w : Word) → ReadAt limit text w [] → words limit text ≡ w ∷ []
+unfolding after_spaces words_within
+one-word limit text w r = words-at limit text w [] r
+
+space-gone : (z : List ℕ) → space_len z ≡ 0 → drop_spaces (32 ∷ z) ≡ z
+unfolding after_spaces space_len
+space-gone z h = drop_spaces-none z h
+
+two-words : (limit : ℕ) (text rest : List ℕ) (v w : Word) → ReadAt limit text v (32 ∷ rest) → ReadAt limit rest w [] → words limit text ≡ v ∷ w ∷ []
+two-words limit text rest v w r s = words-at limit text v (32 ∷ rest) r ∙ rw (space-gone rest (solid-dark rest s.front), one-word limit rest w s) refl
+
+-- a part that is trimmed to itself and has one interval
+pub record Tidy (limit : ℕ) (part : List ℕ) (s : Span VersionValue) : Type 0 where
+  pub compact : Compact part
+  pub intervals : part_intervals limit part ≡ s ∷ []
+
+word-tidy : (limit : ℕ) (x : List ℕ) (w : Word) (s : Span VersionValue) → Compact x → word_at limit x ≡ (w, []) → table limit w ≡ Some s → Tidy limit x s
+unfolding runs_from
+word-tidy limit x w s c word bounds = record { compact = c; intervals = rw (one-word limit x w (record { front = c.front; word = word }), bounds) refl }
+
+-- ---- the forms of a part
+
+pub plain-tidy : (limit : ℕ) (x : List ℕ) (p : Partial) (s : Span VersionValue) → AreComponents limit x p → table limit (plain p) ≡ Some s → Tidy limit x s
+unfolding is_boundary space_len
+plain-tidy limit x p s h bounds =
+    let read = partial-last limit x p h in
+    word-tidy limit x (plain p) s (compact-partial limit x p h) (word-as limit x (unsigned, x) (Some (p, [])) (sym (unsigned-at limit x (p, []) read)) (sym read)) bounds
+
+end-boundary : is_boundary [] ≡ true
+unfolding is_boundary
+end-boundary = refl
+
+last-compared : (limit : ℕ) (c : Comparator) (sign x : List ℕ) (p : Partial) → IsSign c sign → AreComponents limit x p → ReadAt limit (sign ++ x) (compare c p) []
+last-compared limit c sign x p is h =
+    subst (λ (t : List ℕ). ReadAt limit t (compare c p) []) (append-nil (sign ++ x)) (compared-read limit c sign x [] p is h stop-nil end-boundary)
+
+pub compared-tidy : (limit : ℕ) (c : Comparator) (sign x : List ℕ) (p : Partial) (s : Span VersionValue) → IsSign c sign → AreComponents limit x p
+    → table limit (compare c p) ≡ Some s → Tidy limit (sign ++ x) s
+compared-tidy limit c sign x p s is h bounds =
+    word-tidy limit (sign ++ x) (compare c p) s (compact-compared c sign x is (compact-partial limit x p h)) (last-compared limit c sign x p is h).word bounds
+
+pub tilde-tidy : (limit : ℕ) (greater : Bool) (rest x : List ℕ) (p : Partial) (s : Span VersionValue) → Compact (126 ∷ rest) → tilde_sign (drop_spaces rest) ≡ (greater, x)
+    → AreComponents limit x p → table limit (tilde greater p) ≡ Some s → Tidy limit (126 ∷ rest) s
+unfolding is_boundary space_len
+tilde-tidy limit greater rest x p s c sign h bounds =
+    word-tidy limit (126 ∷ rest) (tilde greater p) s c
+    (word-as limit (126 ∷ rest) (tilded greater, drop_spaces x) (Some (p, [])) (ap (λ (y : Bool × List ℕ). (tilded y.0, drop_spaces y.1)) (sym sign)) (sym (spaced-last limit x p h)))
+    bounds
+
+pub caret-tidy : (limit : ℕ) (x : List ℕ) (p : Partial) (s : Span VersionValue) → AreComponents limit x p → table limit (caret p) ≡ Some s → Tidy limit (94 ∷ x) s
+unfolding is_boundary space_len
+caret-tidy limit x p s h bounds =
+    word-tidy limit (94 ∷ x) (caret p) s (compact-signed 94 x refl (compact-partial limit x p h))
+    (word-as limit (94 ∷ x) (careted, drop_spaces x) (Some (p, [])) refl (sym (spaced-last limit x p h))) bounds
+
+pub hyphen-tidy : (limit : ℕ) (x y : List ℕ) (p q : Partial) (s : Span VersionValue) → AreComponents limit x p → AreComponents limit y q
+    → table limit (hyphen p q) ≡ Some s → Tidy limit (x ++ 32 ∷ (45 ∷ (32 ∷ y))) s
+unfolding is_boundary space_len after_spaces
+hyphen-tidy limit x y p q s h k bounds =
+    let behind = 32 ∷ 45 ∷ 32 ∷ y in
+    let last = compact-partial limit y q k in
+    let read = front-exact limit x behind p h (stop-space (45 ∷ 32 ∷ y)) in
+    word-tidy limit (x ++ behind) (hyphen p q) s
+    (compact-spaced x (45 ∷ 32 ∷ y) (compact-partial limit x p h) (compact-spaced (45 ∷ []) y (record { front = refl; each = refl; end = refl }) last))
+    (word-as limit (x ++ behind) (unsigned, x ++ behind) (Some (p, behind)) (sym (unsigned-at limit (x ++ behind) (p, behind) read)) (sym read)
+    ∙ rw (spaced-last limit y q k) refl) bounds
+
+space-boundary : (z : List ℕ) → is_boundary (32 ∷ z) ≡ true
+unfolding is_boundary space_len
+space-boundary z = refl
+
+pub two-tidy : (limit : ℕ) (c d : Comparator) (sign sign' x y : List ℕ) (p q : Partial) (s t both : Span VersionValue) → IsSign c sign → AreComponents limit x p
+    → IsSign d sign' → AreComponents limit y q → table limit (compare c p) ≡ Some s → table limit (compare d q) ≡ Some t → meet precedence s t ≡ Some both
+    → Tidy limit ((sign ++ x) ++ 32 ∷ (sign' ++ y)) both
+unfolding joined_from
+two-tidy limit c d sign sign' x y p q s t both is h is' k b b' m =
+    let rest = sign' ++ y in
+    let first = compared-read limit c sign x (32 ∷ rest) p is h (stop-space rest) (space-boundary rest) in
+    let each = two-words limit ((sign ++ x) ++ 32 ∷ rest) rest (compare c p) (compare d q) first (last-compared limit d sign' y q is' k) in
+    record {
+      compact = compact-spaced (sign ++ x) rest (compact-compared c sign x is (compact-partial limit x p h)) (compact-compared d sign' y is' (compact-partial limit y q k));
+      intervals = rw (each, b, b') (sym (runs-joined precedence_total (s ∷ t ∷ [])) ∙ joined-goes precedence s t both [] m);
+    }

@@ -1,0 +1,126 @@
+-- Numbers: as a whole text, and at the front of one.
+use Rattle.std.proofs.Common.{◌≡◌, ℕ, suc, ◌+◌, ◌<◌, ◌≤◌, List, [], ◌∷◌, ◌++◌, length, take, drop, refl, sym, ap, ◌∙◌, arith, true, false, Some, None, inl, inr, subst}
+use Rattle.std.specs.Prelude.{◌↔◌, ◌&&◌, Option, not, nat_le}
+use Rattle.std.specs.Char.{is_ascii_digit}
+use Rattle.std.specs.List.{list_all, take_while, prefix_len}
+use Rattle.std.specs.Str.Parse.{digits_value}
+use Rattle.std.proofs.lemmas.Bool.{and_parts, cases_Bool, le-leb, leb-true}
+use Rattle.std.proofs.lemmas.Bool.Decides.{nat_tests}
+use Rattle.std.proofs.lemmas.List.{take-append-drop, take_at, drop_at}
+use Rattle.std.proofs.lemmas.Option.{cond_some, some_pair_parts}
+use Rattle.semver_core.specs.Internal.Reading.{◌>>?◌}
+use Rattle.semver_core.specs.Lists.{is_empty}
+use Rattle.semver_core.specs.Text.Characters.{begins, IsPieceAt, NoPieceAt}
+use Rattle.semver_core.specs.Text.Numbers.{IsNumber, IsWholeNumber}
+use Rattle.nodejs_semver.specs.Internal.Fronts.{begins_wildcard, component_front, number_front, number_of}
+use Rattle.nodejs_semver.specs.Text.PartialText.{is_wildcard}
+use Rattle.nodejs_semver.proofs.Reading.Bytes.{all-begin}
+use Rattle.nodejs_semver.proofs.Reading.Steps.{bind-some, option-cases}
+
+-- ---- a whole text
+
+filled : (text : List ℕ) → not (is_empty text) ≡ true → 0 < length text
+filled [] h = cc h
+filled (b ∷ rest) h = omega arith
+
+not-empty : (text : List ℕ) → 0 < length text → not (is_empty text) ≡ true
+not-empty [] h = absurd (omega arith)
+not-empty (b ∷ rest) h = refl
+
+number-is : (limit : ℕ) (text : List ℕ) (n : ℕ) → number_of limit text ≡ Some n → IsNumber limit text n
+unfolding number_of
+number-is limit text n h =
+    let p = cond_some (not (is_empty text) && list_all is_ascii_digit text && nat_le (digits_value 10 text) limit) (digits_value 10 text) n h in
+    let all = and_parts (not (is_empty text) && list_all is_ascii_digit text) (nat_le (digits_value 10 text) limit) p.0 in
+    let front = and_parts (not (is_empty text)) (list_all is_ascii_digit text) all.0 in
+    let le = leb-true (digits_value 10 text) limit all.1 in
+    record { some = filled text front.0; each = front.1; value = sym p.1; safe = omega (arith, p.1) }
+
+number-of : (limit : ℕ) (text : List ℕ) (n : ℕ) → IsNumber limit text n → number_of limit text ≡ Some n
+unfolding number_of
+number-of limit text n h =
+    let small : digits_value 10 text ≤ limit = omega (arith, h.value, h.safe) in
+    rw (not-empty text h.some, h.each, le-leb (digits_value 10 text) limit small) (ap Some (sym h.value))
+
+pub numbers_are : (limit : ℕ) (text : List ℕ) (n : ℕ) → (number_of limit text ≡ Some n) ↔ IsNumber limit text n
+numbers_are limit text n = (number-is limit text n, number-of limit text n)
+
+-- ---- at the front
+
+pub digits-taken : (run more : List ℕ) → list_all is_ascii_digit run ≡ true → begins is_ascii_digit more ≡ false → prefix_len is_ascii_digit (run ++ more) ≡ length run
+digits-taken [] [] h k = refl
+digits-taken [] (c ∷ more) h k = rw k refl
+digits-taken (b ∷ rest) more h k =
+    let each = and_parts (is_ascii_digit b) (list_all is_ascii_digit rest) h in
+    rw each.0 (omega (arith, digits-taken rest more each.1 k))
+
+pub run-ends : (x : List ℕ) → begins is_ascii_digit (drop (prefix_len is_ascii_digit x) x) ≡ false
+run-ends [] = refl
+run-ends (b ∷ rest) = elim (cases_Bool (is_ascii_digit b)) [
+  | inl digit ↦ let e : 1 + prefix_len is_ascii_digit rest ≡ suc (prefix_len is_ascii_digit rest) = omega arith in rw (digit, e) (run-ends rest)
+  | inr other ↦ rw other other
+]
+
+-- a number is read that ends with its run of digits
+pub number-read : (limit : ℕ) (run more : List ℕ) (n : ℕ) → IsNumber limit run n → begins is_ascii_digit more ≡ false → number_front limit (run ++ more) ≡ Some (n, more)
+number-read limit run more n h stop =
+    rw (digits-taken run more h.each stop, take_at run more (length run) refl, drop_at run more (length run) refl, number-of limit run n h) refl
+
+-- and what is read is such a one
+pub record NumberAt (limit : ℕ) (text : List ℕ) (n : ℕ) (rest : List ℕ) : Type 0 where
+  pub run : List ℕ
+  pub split : text ≡ run ++ rest
+  pub is : IsNumber limit run n
+  pub ended : begins is_ascii_digit rest ≡ false
+
+pub number-found : (limit : ℕ) (text : List ℕ) (n : ℕ) (rest : List ℕ) → number_front limit text ≡ Some (n, rest) → NumberAt limit text n rest
+number-found limit text n rest h =
+    let run = take_while is_ascii_digit text in
+    let left = drop (prefix_len is_ascii_digit text) text in
+    let m = bind-some (number_of limit run) _ (n, rest) h in
+    let p = some_pair_parts m.0 n left rest m.2 in
+    record {
+      run = run;
+      split = sym (take-append-drop (prefix_len is_ascii_digit text) text) ∙ ap (λ (t : List ℕ). run ++ t) p.1;
+      is = subst (λ (k : ℕ). IsNumber limit run k) p.0 (number-is limit run m.0 m.1);
+      ended = subst (λ (t : List ℕ). begins is_ascii_digit t ≡ false) p.1 (run-ends text);
+    }
+
+-- ---- the number that the code finds
+
+pub front_some : (limit : ℕ) (text : List ℕ) (n end : ℕ) → IsPieceAt (λ digits rest. IsWholeNumber limit digits rest n) text 0 end
+    → number_front limit text ≡ Some (n, drop end text)
+front_some limit text n end s = ap (λ (t : List ℕ). number_front limit t) s.divided ∙ number-read limit s.piece (drop end text) n s.is.number s.is.ended
+
+pub front_small : (limit : ℕ) (text : List ℕ) (n end : ℕ) → IsPieceAt (λ digits rest. IsWholeNumber limit digits rest n) text 0 end → n ≤ limit
+front_small limit text n end s = s.is.number.safe
+
+pub front_none : (limit : ℕ) (text : List ℕ) → ((n : ℕ) → NoPieceAt (λ digits rest. IsWholeNumber limit digits rest n) text 0) → number_front limit text ≡ None
+front_none limit text none = elim (option-cases (number_front limit text)) [
+  | inl not ↦ not
+  | inr x ↦
+      let f = number-found limit text x.0.0 x.0.1 x.1 in
+      absurd (none x.0.0 f.run x.0.1 f.split (record { number = f.is; ended = f.ended }))
+]
+
+-- ---- wildcards and numbers
+
+pub wildcard-no_digit : (b : ℕ) → is_wildcard b ≡ true → is_ascii_digit b ≡ false
+wildcard-no_digit b h = grind (arith, nat_tests)
+
+pub digit-no_wildcard : (b : ℕ) → is_ascii_digit b ≡ true → is_wildcard b ≡ false
+digit-no_wildcard b h = grind (arith, nat_tests)
+
+-- where a number begins, no wildcard does, so that a component may be looked for as a number first
+number-no_wildcard : (run more : List ℕ) → begins is_ascii_digit run ≡ true → begins_wildcard (run ++ more) ≡ false
+number-no_wildcard [] more h = cc h
+number-no_wildcard (b ∷ run) more h = digit-no_wildcard b h
+
+pub number_first : (limit : ℕ) (text rest : List ℕ) (n : ℕ) → number_front limit text ≡ Some (n, rest) → component_front limit text ≡ Some (Some n, rest)
+unfolding component_front
+number_first limit text rest n h =
+    let f = number-found limit text n rest h in
+    let other : begins_wildcard text ≡ false = rw f.split (number-no_wildcard f.run rest (all-begin is_ascii_digit f.run f.is.some f.is.each)) in
+    rw (other, h) refl
+
+pub ruleset number_fronts = (front_some, front_none, front_small)

@@ -1,0 +1,69 @@
+-- Statement: what is wrong with a version text, and at which byte.
+use Rattle.std.specs.Prelude.{◌≡◌, ◌==◌, ◌<◌, ◌≤◌, ℕ, Bool, true, false, List, [], ◌∷◌, ◌++◌, length, take, drop}
+use Rattle.std.specs.Char.{encode_utf8, is_ascii_digit}
+use Rattle.std.specs.List.{list_all}
+use Rattle.std.specs.Str.Parse.{digits_value}
+use Rattle.semver_core.specs.Text.Characters.{begins}
+use Rattle.semver_core.specs.Text.Parsing.{Parses}
+use Rattle.semver_core.specs.Text.VersionText.{HasNoVersion, Reads}
+use Rattle.semver_core.specs.Values.Versions.{VersionValue}
+use Rattle.semver_core.specs.declared.TheConstants.{MAX_LENGTH}
+use Rattle.nodejs_semver.specs.declared.diagnosis.versions.Expected.{Expected}
+use Rattle.nodejs_semver.specs.declared.diagnosis.versions.Expected.TheVariants.{Digit, Dot}
+use Rattle.nodejs_semver.specs.declared.diagnosis.versions.VersionFlaw.{VersionFlaw}
+use Rattle.nodejs_semver.specs.declared.diagnosis.versions.VersionFlaw.TheVariants as Flaw
+
+-- the whole text is one version, which `parse` returns
+abbrev pub IsExact : ℕ → List ℕ → Type 0
+IsExact limit text = (v : VersionValue) × (p : Parses limit text v) × (p.reads.rest ≡ [])
+
+-- the text is a version as a whole, whatever its length
+abbrev pub IsWhole : ℕ → List ℕ → Type 0
+IsWhole limit text = (v : VersionValue) × (r : Reads limit text v) × (r.rest ≡ [])
+
+-- some version text begins with these bytes
+abbrev pub IsFront : ℕ → List ℕ → Type 0
+IsFront limit front = (behind : List ℕ) × IsWhole limit (front ++ behind)
+
+abbrev pub is_expected : Expected → ℕ → Bool
+is_expected Digit c = is_ascii_digit c
+is_expected Dot c = c == 46
+
+-- with each digit, or with the dot, at this place the bytes before it go on to a version text. With the character that
+-- stands there they don't, whatever follows; and the text itself has no version, which at its end is all there is to say.
+pub record IsExpectedAt (limit : ℕ) (text : List ℕ) (what : Expected) (at : ℕ) : Type 0 where
+  pub inside : at ≤ length text
+  pub right : (c : ℕ) → is_expected what c ≡ true → IsFront limit (take at text ++ c ∷ [])
+  pub wrong : (c : ℕ) (rest other : List ℕ) → drop at text ≡ encode_utf8 c ++ rest
+      → HasNoVersion limit (take at text ++ (encode_utf8 c ++ other))
+  pub none : HasNoVersion limit text
+
+-- a run of digits of a value above the limit
+pub record BeginsGreat (limit : ℕ) (text : List ℕ) : Type 0 where
+  pub digits : List ℕ
+  pub rest : List ℕ
+  pub divided : text ≡ digits ++ rest
+  pub each : list_all is_ascii_digit digits ≡ true
+  pub ended : begins is_ascii_digit rest ≡ false
+  pub above : limit < digits_value 10 digits
+
+-- a number is right at this place, but the one that begins there is above the limit
+pub record IsGreatAt (limit : ℕ) (text : List ℕ) (at : ℕ) : Type 0 where
+  pub inside : at ≤ length text
+  pub right : (c : ℕ) → is_ascii_digit c ≡ true → IsFront limit (take at text ++ c ∷ [])
+  pub great : BeginsGreat limit (drop at text)
+  pub none : HasNoVersion limit text
+
+-- a version ends at this place, and more follows it
+pub record IsIgnoredFrom (limit : ℕ) (text : List ℕ) (at : ℕ) : Type 0 where
+  pub version : VersionValue
+  pub parses : Parses limit text version
+  pub rest : parses.reads.rest ≡ drop at text
+  pub some : at < length text
+
+-- this is the flaw of a text
+abbrev pub IsFlaw : ℕ → List ℕ → VersionFlaw → Type 0
+IsFlaw limit text Flaw.TooLong = MAX_LENGTH < length text
+IsFlaw limit text (Flaw.NumberTooGreat at) = (length text ≤ MAX_LENGTH) × IsGreatAt limit text at
+IsFlaw limit text (Flaw.Expected what at) = (length text ≤ MAX_LENGTH) × IsExpectedAt limit text what at
+IsFlaw limit text (Flaw.Ignored at) = IsIgnoredFrom limit text at

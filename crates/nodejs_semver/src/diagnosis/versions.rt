@@ -1,0 +1,216 @@
+// What is wrong with a version text.
+
+ghost use Rattle.std.specs.Char.{is_ascii_digit};
+ghost use Rattle.std.specs.Prelude.{◌≡◌, ◌==◌, ◌+◌, ◌≤◌, ◌↔◌, ℕ, IfErr, IfOk, IfSome, Some, None, drop};
+ghost use Rattle.std.specs.Prelude.{false, length, true, MatchOption};
+ghost use Rattle.semver_core.specs.Internal.Reading.{build_at, list_at, list_len, mark_len, number_at};
+ghost use Rattle.semver_core.specs.Internal.Reading.{or_nothing, past, pre_release_at, triple_at};
+ghost use Rattle.semver_core.specs.Text.Characters.{begins, IsAfterBlank};
+ghost use Rattle.semver_core.specs.declared.TheConstants.{MAX_SAFE_INTEGER};
+ghost use Rattle.nodejs_semver.specs.Internal.Stuck.{IsNumberAt, Stuck, begins_dot};
+ghost use Rattle.nodejs_semver.specs.Diagnosis.VersionFlaws.{IsExact, IsFlaw};
+
+use semver_core::scan::{begins_identifier, goes_on, number_in, skip_whitespace};
+use semver_core::{MAX_LENGTH, MAX_SAFE_INTEGER};
+
+/// What a version text has to have at some place.
+#[derive(Clone, Copy, PartialEq, Eq, Debug)]
+pub enum Expected {
+    /// A digit, with which a number begins.
+    Digit,
+    /// The dot between two numbers.
+    Dot,
+}
+
+/// What is wrong with a version text. A place is a byte index.
+#[derive(Clone, Copy, PartialEq, Eq, Debug)]
+pub enum VersionFlaw {
+    /// The text is longer than `MAX_LENGTH` bytes.
+    TooLong,
+    /// A number above `MAX_SAFE_INTEGER` begins at this place.
+    NumberTooGreat { at: usize },
+    /// The bytes before this place begin a version text, and this would go on with it. What stands
+    /// there does not, or the text ends there.
+    Expected { what: Expected, at: usize },
+    /// The text has a version at its front, which `Version::parse` returns. From this place on it
+    /// is ignored.
+    Ignored { at: usize },
+}
+
+// How many bytes a `v` or `V` at the front takes.
+fn mark_len(bytes: &[u8]) -> usize
+    ensures { result ≡ mark_len bytes.now }
+{
+    match bytes {
+        [b'v', ..] => 1,
+        [b'V', ..] => 1,
+        _ => 0,
+    }
+}
+
+// The place behind the mark and the whitespace at the front.
+fn front_of_numbers(text: &str) -> usize
+    ensures { IsAfterBlank text.now (mark_len text.now) result }
+{
+    let mark = mark_len(text.as_bytes());
+    skip_whitespace(text, mark)
+}
+
+fn begins_digit(bytes: &[u8], at: usize) -> bool
+    requires { at ≤ length bytes.now }
+    ensures { result ≡ begins is_ascii_digit (drop at bytes.now) }
+{
+    match &bytes[at..] {
+        [byte, ..] => byte.is_ascii_digit(),
+        [] => false,
+    }
+}
+
+// The place behind the number at a place.
+#[tactic(auto, using(crate::proofs::Diagnosing::Numbers::stuck_great, crate::specs::Diagnosis::Stuck::at_digit))]
+fn number_end(bytes: &[u8], at: usize) -> Result<usize, VersionFlaw>
+    requires { at ≤ length bytes.now }
+    ensures found { IfOk result (λ end. IsNumberAt MAX_SAFE_INTEGER bytes.now at end) }
+    ensures stuck { IfErr result (λ flaw.
+        (k : ℕ) → Stuck MAX_SAFE_INTEGER bytes.now k at flaw) }
+{
+    match number_in(bytes, at) {
+        Some((_, end)) => Ok(end),
+        None if begins_digit(bytes, at) => Err(VersionFlaw::NumberTooGreat { at }),
+        None => Err(VersionFlaw::Expected {
+            what: Expected::Digit,
+            at,
+        }),
+    }
+}
+
+// The place behind the dot at a place.
+fn dot_end(bytes: &[u8], at: usize) -> Result<usize, VersionFlaw>
+    requires { at ≤ length bytes.now }
+    ensures found { IfOk result (λ end. (end ≡ at + 1) × (begins_dot (drop at bytes.now) ≡ true)) }
+    ensures place { IfOk result (λ end. end ≤ length bytes.now) }
+    ensures stuck { IfErr result (λ flaw. (flaw ≡ VersionFlaw.Expected Expected.Dot at)
+        × (begins_dot (drop at bytes.now) ≡ false)) }
+{
+    match &bytes[at..] {
+        [b'.', ..] => Ok(at + 1),
+        _ => Err(VersionFlaw::Expected {
+            what: Expected::Dot,
+            at,
+        }),
+    }
+}
+
+// The place behind three numbers with dots between them.
+#[tactic(auto, using(crate::proofs::Diagnosing::Numbers::numbers_stop))]
+fn numbers_end(bytes: &[u8], at: usize) -> Result<usize, VersionFlaw>
+    requires { at ≤ length bytes.now }
+    ensures place { IfOk result (λ end. end ≤ length bytes.now) }
+    ensures found { IfOk result (λ end. (t : ℕ × ℕ × ℕ × ℕ)
+        × (triple_at MAX_SAFE_INTEGER bytes.now at ≡ Some t) × (t.3 ≡ end)) }
+    ensures stuck { IfErr result (λ flaw. Stuck MAX_SAFE_INTEGER bytes.now 2 at flaw) }
+{
+    let major = number_end(bytes, at)?;
+    let first = dot_end(bytes, major)?;
+    let minor = number_end(bytes, first)?;
+    let second = dot_end(bytes, minor)?;
+    let patch = number_end(bytes, second)?;
+    Ok(patch)
+}
+
+// The place behind the identifiers that begin at a place, joined by dots.
+#[tactic(auto, using(crate::proofs::Diagnosing::Numbers::lists_end))]
+fn list_end(bytes: &[u8], start: usize) -> usize
+    requires { start ≤ length bytes.now }
+    ensures end { result ≡ start + list_len (drop start bytes.now) }
+    ensures place { result ≤ length bytes.now }
+{
+    'bytes: for end in start..bytes.len() {
+        if !goes_on(&bytes[end..]) {
+            return end;
+        }
+    }
+    bytes.len()
+}
+
+// The place behind the identifiers at another place, or this one if none begins there.
+fn list_end_or(bytes: &[u8], start: usize, at: usize) -> usize
+    requires inside { at ≤ length bytes.now }
+    requires start { start ≤ length bytes.now }
+    ensures end { result ≡ (or_nothing at (list_at bytes.now start)).1 }
+    ensures place { result ≤ length bytes.now }
+{
+    if begins_identifier(&bytes[start..]) {
+        list_end(bytes, start)
+    } else {
+        at
+    }
+}
+
+// The place behind the pre-release at a place.
+fn pre_release_end(bytes: &[u8], at: usize) -> usize
+    requires { at ≤ length bytes.now }
+    ensures end { result ≡ (pre_release_at bytes.now at).1 }
+    ensures place { result ≤ length bytes.now }
+{
+    match &bytes[at..] {
+        [b'-', ..] => list_end_or(bytes, at + 1, at),
+        _ => list_end_or(bytes, at, at),
+    }
+}
+
+// The place behind the build at a place.
+fn build_end(bytes: &[u8], at: usize) -> usize
+    requires { at ≤ length bytes.now }
+    ensures end { result ≡ (build_at bytes.now at).1 }
+    ensures place { result ≤ length bytes.now }
+{
+    match &bytes[at..] {
+        [b'+', ..] => list_end_or(bytes, at + 1, at),
+        _ => at,
+    }
+}
+
+// The flaw of a text that is not too long.
+fn flaw_within(text: &str) -> Option<VersionFlaw>
+    requires { length text.now ≤ MAX_LENGTH }
+    ensures { MatchOption result (IsExact MAX_SAFE_INTEGER text.now) (λ flaw.
+        IsFlaw MAX_SAFE_INTEGER text.now flaw × (IsExact MAX_SAFE_INTEGER text.now → ⊥)) }
+{
+    let bytes = text.as_bytes();
+    let end = match numbers_end(bytes, front_of_numbers(text)) {
+        Ok(end) => end,
+        Err(flaw) => return Some(flaw),
+    };
+    let at = build_end(bytes, pre_release_end(bytes, end));
+    if at < bytes.len() {
+        Some(VersionFlaw::Ignored { at })
+    } else {
+        None
+    }
+}
+
+/// Returns what is wrong with a version text, or `None` if the whole text is one version, which
+/// `Version::parse` then returns. Allocates nothing.
+///
+/// `Version::parse` rejects the text where the flaw is `TooLong`, `NumberTooGreat` or `Expected`,
+/// and ignores a part of it where that is `Ignored`.
+///
+/// ```rust
+/// assert_eq!(rt; version_flaw("1.2.3-rc.1"), None);
+/// assert_eq!(rt; version_flaw("5.0.0.9 oops"), Some(VersionFlaw::Ignored { at: 5 }));
+/// let digit = Expected::Digit;
+/// assert_eq!(rt; version_flaw("1.x"), Some(VersionFlaw::Expected { what: digit, at: 2 }));
+/// ```
+#[tactic(auto, using(crate::proofs::Diagnosing::Flaws::decided))]
+pub fn version_flaw(text: &str) -> Option<VersionFlaw>
+    // None exactly if the whole text is one version.
+    ensures none { (result ≡ None) ↔ IsExact MAX_SAFE_INTEGER text.now }
+    // What is returned is a flaw of the text.
+    ensures flaw { IfSome result (λ flaw. IsFlaw MAX_SAFE_INTEGER text.now flaw) }
+{
+    if text.len() > MAX_LENGTH {
+        return Some(VersionFlaw::TooLong);
+    }
+    flaw_within(text)
+}

@@ -1,9 +1,0 @@
-use Rattle.semver_core.specs.declared.TheConstants.{MAX_SAFE_INTEGER}
-use Rattle.semver_core.proofs.Text.Clauses.{number_found, number_none}
-use Rattle.semver_core.proofs.scan.number.Goals as goal
-
-pub returns-clause-found : goal.returns-clause-found
-returns-clause-found c = number_found MAX_SAFE_INTEGER c.args.text.now c.args.at c.read_number.result c.read_number.ensures.exact
-
-pub returns-clause-none : goal.returns-clause-none
-returns-clause-none c = number_none MAX_SAFE_INTEGER c.args.text.now c.args.at c.read_number.result c.read_number.ensures.exact
