@@ -7,3 +7,4 @@ pub mod MeetLemmas
 pub mod MeaningLaw
 pub mod PartSteps
 pub mod Trimmed
+pub mod WrittenLaw

@@ -7,3 +7,4 @@ pub mod Everyday
 pub mod Printing
 pub mod Reading
 pub mod Rows
+pub mod Sets

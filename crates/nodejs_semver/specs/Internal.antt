@@ -2,11 +2,15 @@ pub mod Parts
 pub mod RunsFrom
 pub mod Fronts
 pub mod Words
+pub mod Denotes
+pub mod Writes
 pub mod PartFronts
 pub mod Readings
 pub mod Meets
 pub mod Candidates
 pub mod Along
+pub mod Hashes
 pub mod SameLaws
+pub mod Stuck
 pub mod CommonFronts
 pub mod CommonViews

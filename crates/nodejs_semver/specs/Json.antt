@@ -1,8 +1,8 @@
 -- Statement: versions and ranges as JSON strings.
-use Rattle.std.specs.Prelude.{◌≡◌, ℕ, List, Option, IfSome, IsSomeAnd, Result, Ok, Err, [], ⊤, option_and_then}
+use Rattle.std.specs.Prelude.{ℕ, List, Option, IfSome, IsSomeAnd, Result, Ok, Err, [], ⊤, option_and_then}
 use Rattle.serde_json.specs.Find.{as_str}
 use Rattle.serde_json.specs.Read.{read}
-use Rattle.nodejs_semver.specs.Text.Denotes.{denotes}
+use Rattle.nodejs_semver.specs.Text.Meaning.{Means}
 use Rattle.semver_core.specs.Cuts.{Span}
 use Rattle.semver_core.specs.Text.Parsing.{Parses, IsRefused}
 use Rattle.semver_core.specs.Values.Versions.{VersionValue}
@@ -24,6 +24,6 @@ ReadsVersion found (Err (Memory e)) = ⊤
 
 -- the same of ranges
 abbrev pub ReadsRange : Option (List ℕ) → Result (List (Span VersionValue)) (Failure SemverError) → Type 0
-ReadsRange found (Ok ss) = IsSomeAnd found (λ text. ss ≡ denotes MAX_SAFE_INTEGER text)
-ReadsRange found (Err (Refused e)) = IfSome found (λ text. denotes MAX_SAFE_INTEGER text ≡ [])
+ReadsRange found (Ok ss) = IsSomeAnd found (λ text. Means MAX_SAFE_INTEGER text ss)
+ReadsRange found (Err (Refused e)) = IfSome found (λ text. Means MAX_SAFE_INTEGER text [])
 ReadsRange found (Err (Memory e)) = ⊤

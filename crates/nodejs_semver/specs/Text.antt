@@ -5,6 +5,5 @@ pub mod WordText
 pub mod Table
 pub mod Runs
 pub mod Meaning
-pub mod Denotes
 pub mod WrittenSet
 pub mod Common

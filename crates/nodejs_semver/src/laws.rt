@@ -10,5 +10,5 @@ pub use crate::laws::outside::outside_by_cuts;
 pub use crate::laws::printing::{printed_in_field, printed_ranges_come_back, reread_range};
 pub use crate::laws::texts::{
     both_readers, common_ranges, intervals_hold_what_is_written, longest_partials, numbers,
-    one_meaning, partials, parts, runs, words_at,
+    one_meaning, partials, parts, runs, words, words_at, written,
 };

@@ -7,7 +7,7 @@ use Rattle.semver_core.specs.Printing.Text.{version_text}
 use Rattle.semver_core.specs.Text.Parsing.{Parses, IsRefused}
 use Rattle.semver_core.specs.Values.Versions.{VersionValue}
 use Rattle.semver_core.specs.declared.TheConstants.{MAX_SAFE_INTEGER}
-use Rattle.nodejs_semver.specs.Text.Denotes.{denotes}
+use Rattle.nodejs_semver.specs.Text.Meaning.{Means}
 use Rattle.semver_lines.specs.Names.{fault_word, or_none}
 use Rattle.semver_lines.specs.declared.fault.Fault.{Fault}
 use Rattle.semver_lines.specs.declared.fault.Fault.TheVariants.{BadVersion, BadRange}
@@ -19,8 +19,8 @@ IsVersionOf text (Err fault) = IsRefused MAX_SAFE_INTEGER text × (fault ≡ Bad
 
 -- a text is read as this range, or as none
 abbrev pub IsRangeOf : List ℕ → Result (List (Span VersionValue)) Fault → Type 0
-IsRangeOf text (Ok ss) = (ss ≡ denotes MAX_SAFE_INTEGER text) × (0 < length ss)
-IsRangeOf text (Err fault) = (denotes MAX_SAFE_INTEGER text ≡ []) × (fault ≡ BadRange)
+IsRangeOf text (Ok ss) = Means MAX_SAFE_INTEGER text ss × (0 < length ss)
+IsRangeOf text (Err fault) = Means MAX_SAFE_INTEGER text [] × (fault ≡ BadRange)
 
 -- some texts are read as these versions, each as its own, or one of them as none
 abbrev pub AreVersionsOf : List (List ℕ) → Result (List VersionValue) Fault → Type 0

@@ -12,7 +12,7 @@ use Rattle.semver_core.specs.Values.Order.{precedence}
 use Rattle.semver_core.specs.Internal.OrderLaws.{precedence_total}
 use Rattle.semver_core.specs.Values.Versions.{VersionValue}
 use Rattle.nodejs_semver.specs.Ranges.Gate.{accepts}
-use Rattle.nodejs_semver.specs.Text.Denotes.{denotes, part_bounds, part_denotes, part_intervals}
+use Rattle.nodejs_semver.specs.Internal.Denotes.{denotes, part_bounds, part_denotes, part_intervals}
 use Rattle.nodejs_semver.specs.Internal.Parts.{cut_bars, parts}
 use Rattle.nodejs_semver.specs.Text.Bars.{IsCutAtBars, more_pieces, one_piece}
 use Rattle.nodejs_semver.specs.Ranges.View.{any_version}
@@ -20,7 +20,8 @@ use Rattle.nodejs_semver.specs.Text.Runs.{Run, interval_of}
 use Rattle.nodejs_semver.specs.Internal.RunsFrom.{runs_of}
 use Rattle.semver_core.specs.Internal.Spaces.{trim}
 use Rattle.semver_core.specs.Lists.{is_empty, if_any}
-use Rattle.nodejs_semver.specs.Text.WrittenSet.{part_writes, run_writes, writes}
+use Rattle.nodejs_semver.specs.Internal.Writes.{part_writes, writes}
+use Rattle.nodejs_semver.specs.Text.WrittenSet.{run_writes}
 use Rattle.nodejs_semver.proofs.Dividing.BarsDivide.{bars_divide}
 use Rattle.nodejs_semver.proofs.Algebra.Accepting.{accepts-held}
 use Rattle.nodejs_semver.proofs.Dividing.RunLemmas.{run-holds}
@@ -30,31 +31,25 @@ runs-hold : {V : Type 0} {R : V → V → Ordering} → IsTotalOrder R → (v : 
 runs-hold o v [] = refl
 runs-hold o v (r ∷ rs) = ap₂ (λ (s t : Bool). s || t) (run-holds o v r) (runs-hold o v rs)
 
-part-holds : (limit : ℕ) (v : VersionValue) (part : List ℕ) → list_holds precedence
-    (part_intervals limit part) v ≡ part_writes limit v part
-part-holds limit v part = runs-hold precedence_total v (runs_of precedence (part_bounds limit part))
-
 -- an empty part holds every version, and any other what its words write
-part-denoted : (limit : ℕ) (v : VersionValue) (part : List ℕ)
-    → list_holds precedence (part_denotes limit part) v ≡ (is_empty part || part_writes limit v part)
-part-denoted limit v [] = refl
-part-denoted limit v (b ∷ part) = part-holds limit v (b ∷ part)
-
-or-across : (a b c d : Bool) → ((a || b) || (c || d)) ≡ ((a || c) || (b || d))
-or-across a b c d = grind arith
+part-holds : (limit : ℕ) (v : VersionValue) (part : List ℕ)
+    → list_holds precedence (part_denotes limit part) v ≡ part_writes limit v part
+part-holds limit v [] = refl
+part-holds limit v (b ∷ part) = runs-hold precedence_total v (runs_of precedence (part_bounds limit (b ∷ part)))
 
 parts-hold : (limit : ℕ) (v : VersionValue) (ps : List (List ℕ))
-    → list_holds precedence (flat_map (part_denotes limit) ps) v ≡ (list_any is_empty ps || list_any (part_writes limit v) ps)
+    → list_holds precedence (flat_map (part_denotes limit) ps) v ≡ list_any (part_writes limit v) ps
 parts-hold limit v [] = refl
 parts-hold limit v (p ∷ ps) =
     list_any-append (λ s. holds precedence s v) (part_denotes limit p) (flat_map (part_denotes limit) ps)
-    ∙ ap₂ (λ (s t : Bool). s || t) (part-denoted limit v p) (parts-hold limit v ps)
-    ∙ or-across (is_empty p) (part_writes limit v p) (list_any is_empty ps) (list_any (part_writes limit v) ps)
+    ∙ ap₂ (λ (s t : Bool). s || t) (part-holds limit v p) (parts-hold limit v ps)
 
--- where all of some texts are empty, one is
-first-empty : (ps : List (List ℕ)) → (ps ≡ [] → ⊥) → list_all is_empty ps ≡ true → list_any is_empty ps ≡ true
-first-empty [] some h = absurd (some refl)
-first-empty (p ∷ ps) some h = or_left (is_empty p) (list_any is_empty ps) (first_so _ _ h)
+-- where all of some parts are empty, the first writes every version
+first-empty : (limit : ℕ) (v : VersionValue) (ps : List (List ℕ)) → (ps ≡ [] → ⊥)
+    → list_all is_empty ps ≡ true → list_any (part_writes limit v) ps ≡ true
+first-empty limit v [] some h = absurd (some refl)
+first-empty limit v (p ∷ ps) some h =
+    or_left (part_writes limit v p) (list_any (part_writes limit v) ps) (or_left (is_empty p) _ (first_so _ _ h))
 
 -- a text has a part or more
 parts-some : (text : List ℕ) → parts text ≡ [] → ⊥
@@ -70,15 +65,5 @@ denotes_hold limit text v =
     let ps = parts text in
     cond_both (list_all is_empty ps) any_version (flat_map (part_denotes limit) ps)
         (λ ss. list_holds precedence ss v ≡ writes limit text v)
-    (λ all. sym (or_left (list_any is_empty ps) (list_any (part_writes limit v) ps) (first-empty ps (parts-some text) all)))
+        (λ all. sym (first-empty limit v ps (parts-some text) all))
         (λ _. parts-hold limit v ps)
-
-any-is : (ss ts : List (Span VersionValue)) → Some ss ≡ if_any ts → ss ≡ ts
-any-is ss [] h = cc h
-any-is ss (t ∷ ts) h = cc h
-
-pub accepted-written : (limit : ℕ) (text : List ℕ) (ss : List (Span VersionValue)) → Some ss ≡ if_any (denotes limit text)
-    → (v : VersionValue) → accepts ss v true ≡ writes limit text v
-accepted-written limit text ss h v =
-    accepts-held ss v ∙ (ap (λ (ts : List (Span VersionValue)). list_holds precedence ts v) (any-is ss (denotes limit text) h)
-        ∙ denotes_hold limit text v)

@@ -21,7 +21,7 @@ use Rattle.semver_core.proofs.Text.Texts.{build_complete, divided_at, number_beg
 use Rattle.semver_core.proofs.Text.Trims.{after_blank_drops_spaces}
 use Rattle.nodejs_semver.proofs.Reading.Progress.{spaces-gone}
 use Rattle.nodejs_semver.specs.Diagnosis.VersionFlaws.{BeginsGreat, IsExact, IsExpectedAt, IsFlaw, IsFront, IsGreatAt, IsIgnoredFrom, IsWhole}
-use Rattle.nodejs_semver.specs.Diagnosis.Stuck.{Stuck, begins_dot, at_great, at_digit, at_dot, later}
+use Rattle.nodejs_semver.specs.Internal.Stuck.{Stuck, begins_dot, at_great, at_digit, at_dot, later}
 use Rattle.nodejs_semver.proofs.Diagnosing.Numbers.{digits_once}
 use Rattle.nodejs_semver.proofs.Diagnosing.Fronts.{HasTail, Leads, Numbers, Place, begins_alike, first_numeral, lead_place, next_place, numeral_begins, numeral_once}
 use Rattle.nodejs_semver.specs.declared.diagnosis.versions.VersionFlaw.{VersionFlaw}

@@ -1,23 +1,23 @@
 -- What a text denotes is its one meaning.
 use Rattle.std.proofs.Common.{◌≡◌, ℕ, zero, suc, ◌<◌, ◌≤◌, List, [], ◌∷◌, ◌++◌, length, get_or, refl, sym, ap, ◌∙◌, arith, true, false, inl, inr, subst, append-nil, length-append}
-use Rattle.std.specs.Prelude.{◌↔◌, IsUtf8, encode_utf8_all, map, filter_map, flat_map, if◌then◌else◌}
+use Rattle.std.specs.Prelude.{◌↔◌, IfNone, IfSome, IsTrue, IsUtf8, Option, encode_utf8_all, map, filter_map, flat_map, if◌then◌else◌}
 use Rattle.std.specs.Char.{encode_utf8}
 use Rattle.std.specs.List.{AllByRecursion, list_all}
 use Rattle.std.proofs.lemmas.Bool.{cases_Bool}
 use Rattle.std.proofs.lemmas.List.{take_at, drop_at}
 use Rattle.std.proofs.lemmas.List.Folds.{list_all-append}
 use Rattle.std.proofs.lemmas.Str.{IsUtf8-drop, IsUtf8-take, IsCharBoundary-after_ascii, IsCharBoundary-before_ascii, len_utf8_bounds, length-encode}
-use Rattle.semver_core.specs.Text.Characters.{IsBlank, is_whitespace}
+use Rattle.semver_core.specs.Text.Characters.{IsBlank, IsTrim, is_whitespace}
 use Rattle.semver_core.specs.Cuts.{Span}
 use Rattle.semver_core.specs.Values.Order.{precedence}
 use Rattle.semver_core.specs.Internal.Spaces.{drop_spaces, space_len, trim}
-use Rattle.semver_core.specs.Lists.{is_empty}
+use Rattle.semver_core.specs.Lists.{is_empty, if_any}
 use Rattle.semver_core.specs.Values.Versions.{VersionValue}
 use Rattle.semver_core.proofs.Text.Trims.{middle_is_trim, trim_is_middle, trim_parts}
-use Rattle.nodejs_semver.specs.Text.Denotes.{denotes, part_bounds, part_denotes, part_intervals}
-use Rattle.nodejs_semver.specs.Internal.Parts.{cut_bars}
+use Rattle.nodejs_semver.specs.Internal.Denotes.{denotes, part_bounds, part_denotes, part_intervals}
+use Rattle.nodejs_semver.specs.Internal.Parts.{cut_bars, parts}
 use Rattle.nodejs_semver.specs.Text.Bars.{IsCutAtBars, more_pieces, one_piece}
-use Rattle.nodejs_semver.specs.Text.Meaning.{AreAllIntervals, AreIntervals, AreWords, Means, blank_piece, next_piece, next_word, no_piece, no_word}
+use Rattle.nodejs_semver.specs.Text.Meaning.{AreAllIntervals, AreWords, HasRuns, IsBlankText, Means, all_intervals, blank_piece, every_version, next_piece, next_word, no_piece, no_word}
 use Rattle.nodejs_semver.specs.Ranges.View.{any_version}
 use Rattle.nodejs_semver.specs.Text.Runs.{Run, interval_of}
 use Rattle.nodejs_semver.specs.Internal.RunsFrom.{runs_of}
@@ -62,29 +62,35 @@ words-read limit (suc n) (b ∷ rest) u h l =
     subst (λ (list : List Word). AreWords limit (b ∷ rest) list) (sym (words-step limit (b ∷ rest) (omega arith) h))
     (next_word b rest read.1 next read.0 (words limit next) is skipped more)
 
--- ---- the intervals of a piece
+pub words-law : (limit : ℕ) (text part : List ℕ) (list : List Word) → IsUtf8 text → IsTrim text part → (words limit part ≡ list) ↔ AreWords limit part list
+words-law limit text part list u trimmed =
+    let v = trim-utf8 text part u trimmed in
+    let dark = trim-starts text part trimmed in (
+      λ e. subst (λ (l : List Word). AreWords limit part l) e (words-read limit (length part) part v dark (omega arith)),
+      λ h. sym (words-once limit part list v dark h),
+    )
 
-piece-means : (limit : ℕ) (piece : List ℕ) → IsUtf8 piece → AreIntervals limit piece (part_intervals limit (trim piece))
-piece-means limit piece u =
+-- ---- the runs of a piece
+
+pub has-runs : (limit : ℕ) (piece : List ℕ) → IsUtf8 piece → HasRuns limit piece (runs_of precedence (part_bounds limit (trim piece)))
+has-runs limit piece u =
     let part = trim piece in
     let is = trim_is_middle piece u in
     record {
       part = part;
       words = words limit part;
-      runs = runs_of precedence (part_bounds limit part);
       trimmed = is;
       read = words-read limit (length part) part (trim-utf8 piece part u is) (trim-starts piece part is) (omega arith);
       divided = part_divides limit part;
-      spanned = refl;
     }
 
-piece-once : (limit : ℕ) (piece : List ℕ) (list : List (Span VersionValue)) → IsUtf8 piece → AreIntervals limit piece list → list ≡ part_intervals limit (trim piece)
-piece-once limit piece list u h =
-    h.spanned
-    ∙ ap (λ (rs : List (Run VersionValue)). map (interval_of precedence) rs) (runs_are (filter_map (table limit) h.words) h.runs h.divided)
-    ∙ ap (λ (ws : List Word). map (interval_of precedence) (runs_of precedence (filter_map (table limit) ws)))
+pub runs-once : (limit : ℕ) (piece : List ℕ) (runs : List (Run VersionValue)) → IsUtf8 piece → HasRuns limit piece runs
+    → runs ≡ runs_of precedence (part_bounds limit (trim piece))
+runs-once limit piece runs u h =
+    runs_are (filter_map (table limit) h.words) runs h.divided
+    ∙ ap (λ (ws : List Word). runs_of precedence (filter_map (table limit) ws))
     (words-once limit h.part h.words (trim-utf8 piece h.part u h.trimmed) (trim-starts piece h.part h.trimmed) h.read)
-    ∙ ap (λ (t : List ℕ). part_intervals limit t) (middle_is_trim piece h.part h.trimmed)
+    ∙ ap (λ (t : List ℕ). runs_of precedence (part_bounds limit t)) (middle_is_trim piece h.part h.trimmed)
 
 -- ---- the pieces of a text are UTF-8
 
@@ -102,7 +108,7 @@ utf8-bar piece t u =
     at_bar [] = refl
     at_bar (b ∷ p) = at_bar p
 
-pieces-utf8 : (text : List ℕ) (pieces : List (List ℕ)) → IsCutAtBars text pieces → IsUtf8 text → AllByRecursion IsUtf8 pieces
+pub pieces-utf8 : (text : List ℕ) (pieces : List (List ℕ)) → IsCutAtBars text pieces → IsUtf8 text → AllByRecursion IsUtf8 pieces
 pieces-utf8 text pieces (one_piece piece h) u = (u, tt)
 pieces-utf8 text pieces (more_pieces piece rest others h ended cut) u =
     let both = utf8-bar piece rest u in
@@ -119,12 +125,12 @@ no_characters [] h = refl
 no_characters (c ∷ cs) h =
     absurd (omega (arith, ap length h, length-append (encode_utf8 c) (encode_utf8_all cs), length-encode c, (len_utf8_bounds c).0))
 
-blank-empty : (piece : List ℕ) → IsBlank piece → is_empty (trim piece) ≡ true
+pub blank-empty : (piece : List ℕ) → IsBlank piece → is_empty (trim piece) ≡ true
 blank-empty piece h =
     ap (λ (t : List ℕ). is_empty (trim t)) (h.spelled ∙ ap (λ (cs : List ℕ). encode_utf8_all cs) (sym (append-nil h.characters)))
     ∙ ap (λ (t : List ℕ). is_empty t) (trim_parts h.characters [] [] h.each refl refl refl)
 
-empty-blank : (piece : List ℕ) → IsUtf8 piece → is_empty (trim piece) ≡ true → IsBlank piece
+pub empty-blank : (piece : List ℕ) → IsUtf8 piece → is_empty (trim piece) ≡ true → IsBlank piece
 empty-blank piece u h =
     let is = trim_is_middle piece u in
     let none : is.characters ≡ [] = no_characters is.characters (sym is.middle_is ∙ empty-is (trim piece) h) in
@@ -162,7 +168,8 @@ all-mean limit (piece ∷ pieces) u =
       | inl empty ↦ subst (λ (l : List (Span VersionValue)). AreAllIntervals limit (piece ∷ pieces) (l ++ others)) (sym (piece-denotes limit piece empty))
           (blank_piece piece pieces others (empty-blank piece u.0 empty) more)
       | inr some ↦ subst (λ (l : List (Span VersionValue)). AreAllIntervals limit (piece ∷ pieces) (l ++ others)) (sym (piece-words limit piece some))
-          (next_piece piece pieces (part_intervals limit (trim piece)) others (λ blank. cc (sym some ∙ blank-empty piece blank)) (piece-means limit piece u.0) more)
+          (next_piece piece pieces (runs_of precedence (part_bounds limit (trim piece))) others (λ blank. cc (sym some ∙ blank-empty piece blank))
+          (has-runs limit piece u.0) more)
     ]
 
 all-once : (limit : ℕ) (pieces : List (List ℕ)) (list : List (Span VersionValue)) → AllByRecursion IsUtf8 pieces → AreAllIntervals limit pieces list
@@ -171,12 +178,13 @@ all-once limit pieces list u no_piece = refl
 all-once limit pieces list u (blank_piece piece rest others blank more) =
     ap (λ (l : List (Span VersionValue)). l ++ others) (sym (piece-denotes limit piece (blank-empty piece blank)))
     ∙ ap (λ (l : List (Span VersionValue)). part_denotes limit (trim piece) ++ l) (all-once limit rest others u.1 more)
-all-once limit pieces list u (next_piece piece rest here others dark h more) =
+all-once limit pieces list u (next_piece piece rest runs others dark h more) =
     let some : is_empty (trim piece) ≡ false = elim (cases_Bool (is_empty (trim piece))) [
       | inl empty ↦ absurd (dark (empty-blank piece u.0 empty))
       | inr some ↦ some
     ] in
-    ap (λ (l : List (Span VersionValue)). l ++ others) (piece-once limit piece here u.0 h ∙ sym (piece-words limit piece some))
+    ap (λ (l : List (Span VersionValue)). l ++ others)
+    (ap (λ (rs : List (Run VersionValue)). map (interval_of precedence) rs) (runs-once limit piece runs u.0 h) ∙ sym (piece-words limit piece some))
     ∙ ap (λ (l : List (Span VersionValue)). part_denotes limit (trim piece) ++ l) (all-once limit rest others u.1 more)
 
 -- ---- the whole text
@@ -185,34 +193,69 @@ all-once limit pieces list u (next_piece piece rest here others dark h more) =
 abbrev denoted : ℕ → List (List ℕ) → List (Span VersionValue)
 denoted limit pieces = if list_all is_empty (map trim pieces) then any_version else flat_map (part_denotes limit) (map trim pieces)
 
+denoted-blank : (limit : ℕ) (pieces : List (List ℕ)) → list_all is_empty (map trim pieces) ≡ true → denoted limit pieces ≡ any_version
+denoted-blank limit pieces h = rw h refl
+
+denoted-filled : (limit : ℕ) (pieces : List (List ℕ)) → list_all is_empty (map trim pieces) ≡ false → denoted limit pieces ≡ flat_map (part_denotes limit) (map trim pieces)
+denoted-filled limit pieces h = rw h refl
+
 means : (limit : ℕ) (text : List ℕ) (list : List (Span VersionValue)) → IsUtf8 text → denotes limit text ≡ list → Means limit text list
+unfolding IsBlankText
 means limit text list u e =
     let pieces = cut_bars false text in
     let cut = bars_divide text in
     let each = pieces-utf8 text pieces cut u in
-    subst (λ (l : List (Span VersionValue)). Means limit text l) e
-    (record { pieces = pieces; cut = cut; where_blank = λ blank. blank-case pieces (all-empty pieces blank); elsewhere = λ filled. filled-case pieces each filled })
-  where
-    blank-case : (pieces : List (List ℕ)) → list_all is_empty (map trim pieces) ≡ true → denoted limit pieces ≡ any_version
-    blank-case pieces h = rw h refl
-
-    filled-case : (pieces : List (List ℕ)) → AllByRecursion IsUtf8 pieces → (AllByRecursion IsBlank pieces → ⊥) → AreAllIntervals limit pieces (denoted limit pieces)
-    filled-case pieces each filled = elim (cases_Bool (list_all is_empty (map trim pieces))) [
-      | inl empty ↦ absurd (filled (all-blank pieces each empty))
-      | inr some ↦ rw some (all-mean limit pieces each)
-    ]
+    subst (λ (l : List (Span VersionValue)). Means limit text l) e (elim (cases_Bool (list_all is_empty (map trim pieces))) [
+      | inl empty ↦ subst (λ (l : List (Span VersionValue)). Means limit text l) (sym (denoted-blank limit pieces empty))
+          (every_version (pieces, cut, all-blank pieces each empty))
+      | inr some ↦ subst (λ (l : List (Span VersionValue)). Means limit text l) (sym (denoted-filled limit pieces some))
+          (all_intervals pieces _ cut (λ blank. cc (sym some ∙ all-empty pieces blank)) (all-mean limit pieces each))
+    ])
 
 one-meaning : (limit : ℕ) (text : List ℕ) (list : List (Span VersionValue)) → IsUtf8 text → Means limit text list → denotes limit text ≡ list
-one-meaning limit text list u h =
-    let each = pieces-utf8 text h.pieces h.cut u in
-    let here : denoted limit h.pieces ≡ list = elim (cases_Bool (list_all is_empty (map trim h.pieces))) [
-      | inl empty ↦ rw empty (sym (h.where_blank (all-blank h.pieces each empty)))
-      | inr some ↦ rw some (sym (all-once limit h.pieces list each (h.elsewhere (λ blank. clash h.pieces some (all-empty h.pieces blank)))))
+unfolding IsBlankText
+one-meaning limit text list u (every_version blank) =
+    ap (λ (ps : List (List ℕ)). denoted limit ps) (sym (bars_once text blank.0 blank.1)) ∙ denoted-blank limit blank.0 (all-empty blank.0 blank.2)
+one-meaning limit text list u (all_intervals pieces here cut filled all) =
+    let each = pieces-utf8 text pieces cut u in
+    let some : list_all is_empty (map trim pieces) ≡ false = elim (cases_Bool (list_all is_empty (map trim pieces))) [
+      | inl empty ↦ absurd (filled (all-blank pieces each empty))
+      | inr some ↦ some
     ] in
-    ap (λ (ps : List (List ℕ)). denoted limit ps) (sym (bars_once text h.pieces h.cut)) ∙ here
-  where
-    clash : (pieces : List (List ℕ)) → list_all is_empty (map trim pieces) ≡ false → list_all is_empty (map trim pieces) ≡ true → ⊥
-    clash pieces a b = cc (sym a ∙ b)
+    ap (λ (ps : List (List ℕ)). denoted limit ps) (sym (bars_once text pieces cut)) ∙ (denoted-filled limit pieces some ∙ sym (all-once limit pieces here each all))
 
 pub one_meaning : (limit : ℕ) (text : List ℕ) (list : List (Span VersionValue)) → IsUtf8 text → (denotes limit text ≡ list) ↔ Means limit text list
 one_meaning limit text list u = (means limit text list u, one-meaning limit text list u)
+
+-- what a reader has found is what the text means
+pub meant : (limit : ℕ) (text : List ℕ) (list : List (Span VersionValue)) → IsUtf8 text → list ≡ denotes limit text → Means limit text list
+meant limit text list u e = means limit text list u (sym e)
+
+pub same_meaning : (limit : ℕ) (text : List ℕ) (one other : List (Span VersionValue)) → IsUtf8 text → Means limit text one → Means limit text other → one ≡ other
+same_meaning limit text one other u h k = sym (one-meaning limit text one u h) ∙ one-meaning limit text other u k
+
+pub means_some : (limit : ℕ) (text : List ℕ) (list : List (Span VersionValue)) → IsUtf8 text → Means limit text list → 0 < length list → Means limit text [] → ⊥
+means_some limit text list u h some none = absurd (omega (arith, ap length (same_meaning limit text list [] u h none)))
+
+-- the list of a reader, where there may be none
+pub meant_some : (limit : ℕ) (text : List ℕ) (list : List (Span VersionValue)) (o : Option (List (Span VersionValue))) → IsUtf8 text → list ≡ denotes limit text → o ≡ if_any list
+    → IfSome o (λ range. Means limit text range × (0 < length range))
+meant_some limit text [] o u e h = subst (λ (q : Option (List (Span VersionValue))). IfSome q (λ range. Means limit text range × (0 < length range))) (sym h) tt
+meant_some limit text (s ∷ rest) o u e h =
+    subst (λ (q : Option (List (Span VersionValue))). IfSome q (λ range. Means limit text range × (0 < length range))) (sym h) (meant limit text (s ∷ rest) u e, omega arith)
+
+pub meant_none : (limit : ℕ) (text : List ℕ) (list : List (Span VersionValue)) (o : Option (List (Span VersionValue))) → IsUtf8 text → list ≡ denotes limit text → o ≡ if_any list
+    → IfNone o (Means limit text [])
+meant_none limit text [] o u e h = subst (λ (q : Option (List (Span VersionValue))). IfNone q (Means limit text [])) (sym h) (meant limit text [] u e)
+meant_none limit text (s ∷ rest) o u e h = subst (λ (q : Option (List (Span VersionValue))). IfNone q (Means limit text [])) (sym h) tt
+
+-- a text whose parts are all empty is blank
+pub blank_text : (text : List ℕ) → IsUtf8 text → IsTrue (list_all is_empty (parts text)) ↔ IsBlankText text
+unfolding IsBlankText
+blank_text text u = (
+  λ e. (cut_bars false text, bars_divide text, all-blank (cut_bars false text) (pieces-utf8 text (cut_bars false text) (bars_divide text) u) e),
+  λ blank. ap (λ (ps : List (List ℕ)). list_all is_empty (map trim ps)) (sym (bars_once text blank.0 blank.1)) ∙ all-empty blank.0 blank.2,
+)
+
+pub filled_text : (text : List ℕ) → IsUtf8 text → (IsBlankText text → ⊥) → list_all is_empty (parts text) ≡ false
+filled_text text u h = elim (cases_Bool (list_all is_empty (parts text))) [ inl blank ↦ absurd (h ((blank_text text u).0 blank)) | inr some ↦ some ]

@@ -11,7 +11,7 @@ use Rattle.semver_core.specs.Internal.Spaces.{space_len}
 use Rattle.nodejs_semver.specs.Text.WordText.{Word}
 use Rattle.nodejs_semver.specs.Internal.Words.{word_at, words, words_within}
 use Rattle.nodejs_semver.specs.Text.Table.{table}
-use Rattle.nodejs_semver.specs.Text.Denotes.{part_bounds, part_intervals}
+use Rattle.nodejs_semver.specs.Internal.Denotes.{part_bounds, part_intervals}
 use Rattle.nodejs_semver.specs.Internal.Meets.{joined, joined_from, next_at}
 use Rattle.nodejs_semver.proofs.Dividing.MeetLemmas.{joined-goes, joined-stops, runs-joined}
 use Rattle.nodejs_semver.proofs.Reading.Progress.{words-step, word-shorter, spaces-le, spaces-gone}

@@ -6,7 +6,7 @@ use Rattle.std.specs.declared.cmp.Ordering.{Ordering}
 use Rattle.std.proofs.lemmas.Bool.{cases_Bool}
 use Rattle.semver_core.specs.Cuts.{Span, is_interval}
 use Rattle.semver_core.specs.Values.Order.{precedence}
-use Rattle.nodejs_semver.specs.Text.Denotes.{part_bounds}
+use Rattle.nodejs_semver.specs.Internal.Denotes.{part_bounds}
 use Rattle.nodejs_semver.specs.Text.Table.{table}
 use Rattle.nodejs_semver.specs.Internal.Words.{words}
 use Rattle.nodejs_semver.specs.Text.Runs.{Run, fits, longer, run_items, AreLongest, AreRuns}

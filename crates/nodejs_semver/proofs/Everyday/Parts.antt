@@ -15,7 +15,7 @@ use Rattle.nodejs_semver.specs.Internal.Fronts.{after_byte, begins_byte, Front}
 use Rattle.nodejs_semver.specs.Text.PartialText.{Partial, is_wildcard}
 use Rattle.semver_core.specs.Internal.Reading.{◌>>?◌}
 use Rattle.nodejs_semver.specs.Text.Table.{table}
-use Rattle.nodejs_semver.specs.Text.WordText.{IsSign, above_sign, at_least_sign, at_most_sign, below_sign, equal_sign, Comparator, Word, above, at_least, at_most, below, caret, compare, equal, hyphen, plain, tilde}
+use Rattle.nodejs_semver.specs.Text.WordText.{IsSign, above_sign, at_least_sign, at_most_sign, below_sign, equal_sign, Comparator, Word, above, at_least, at_most, below, caret, hyphen, plain, tilde}
 use Rattle.nodejs_semver.specs.Internal.Words.{comparator_at, tilde_sign}
 use Rattle.nodejs_semver.proofs.Everyday.Pieces.{bare-begins, bare-exact, bare-sound}
 use Rattle.nodejs_semver.proofs.Reading.Quiet.{Stop, stop-bar, stop-nil, stop-space}

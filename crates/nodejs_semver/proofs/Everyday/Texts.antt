@@ -11,7 +11,7 @@ use Rattle.semver_core.specs.Lists.{is_empty}
 use Rattle.semver_core.specs.Values.Versions.{VersionValue}
 use Rattle.semver_core.proofs.Text.Spaces.{drop_spaces-none}
 use Rattle.nodejs_semver.specs.Text.Common.{IsCommonPart, IsCommonRange, IsCommonWord, IsGap, caret_word, compare_word, comparison, hyphen_word, more_parts, one_part, one_word, plain_word, tilde_greater_word, tilde_word, two_comparisons}
-use Rattle.nodejs_semver.specs.Text.Denotes.{denotes, part_denotes, part_intervals}
+use Rattle.nodejs_semver.specs.Internal.Denotes.{denotes, part_denotes, part_intervals}
 use Rattle.nodejs_semver.specs.Internal.Parts.{cut_bars, parts}
 use Rattle.nodejs_semver.specs.Text.Bars.{is_bar}
 use Rattle.nodejs_semver.specs.Text.Table.{table}

@@ -1,14 +1,16 @@
 -- The range that the fast reader makes of the intervals of a common text.
-use Rattle.std.proofs.Common.{◌≡◌, ℕ, ◌<◌, ◌+◌, List, [], ◌∷◌, length, refl, sym, ap, ◌∙◌, arith, true, Some, subst}
-use Rattle.std.specs.Prelude.{Option, IfSome}
+use Rattle.std.proofs.Common.{◌≡◌, ℕ, ◌<◌, ◌+◌, List, [], ◌∷◌, length, refl, sym, ap, ◌∙◌, arith, true, Some, None, subst}
+use Rattle.std.specs.Prelude.{Option, IfNone, IfSome, IsUtf8}
 use Rattle.std.specs.List.{list_all}
 use Rattle.semver_core.specs.Cuts.{Span}
 use Rattle.semver_core.specs.Lists.{if_any}
 use Rattle.semver_core.specs.Values.Versions.{VersionValue}
 use Rattle.nodejs_semver.specs.Text.Common.{IsCommonRange}
-use Rattle.nodejs_semver.specs.Text.Denotes.{denotes}
+use Rattle.nodejs_semver.specs.Internal.Denotes.{denotes}
+use Rattle.nodejs_semver.specs.Text.Meaning.{Means}
 use Rattle.nodejs_semver.specs.Ranges.View.{IsRange, is_range_span}
 use Rattle.nodejs_semver.proofs.Bounds.Table.{denotes-bounded}
+use Rattle.nodejs_semver.proofs.Dividing.MeaningLaw.{meant, one_meaning}
 use Rattle.nodejs_semver.proofs.Everyday.Texts.{common_ranges_are_denoted, list-some}
 
 pub common_bounded : (limit : ℕ) (text : List ℕ) (list : List (Span VersionValue)) → IsCommonRange limit text list → list_all (is_range_span (limit + 1)) list ≡ true
@@ -19,17 +21,17 @@ any-of : (list : List (Span VersionValue)) → 0 < length list → if_any list �
 any-of [] h = absurd (omega arith)
 any-of (s ∷ list) h = refl
 
-pub common_denoted : (limit : ℕ) (text : List ℕ) (list : List (Span VersionValue)) (o : Option (List (Span VersionValue))) → IsCommonRange limit text list → o ≡ if_any list
-    → IfSome o (λ range. range ≡ denotes limit text)
-common_denoted limit text list o h e =
-    subst (λ (q : Option (List (Span VersionValue))). IfSome q (λ range. range ≡ denotes limit text)) (sym (e ∙ any-of list (list-some limit text list h)))
-    (sym (common_ranges_are_denoted limit text list h).0)
+pub common_list : (limit : ℕ) (text : List ℕ) (list : List (Span VersionValue)) → IsCommonRange limit text list → list ≡ denotes limit text
+common_list limit text list h = sym (common_ranges_are_denoted limit text list h).0
+
+pub common_means : (limit : ℕ) (text : List ℕ) (list : List (Span VersionValue)) (o : Option (List (Span VersionValue))) → IsUtf8 text → IsCommonRange limit text list
+    → o ≡ if_any list → IfSome o (Means limit text)
+common_means limit text list o u h e =
+    subst (λ (q : Option (List (Span VersionValue))). IfSome q (Means limit text)) (sym (e ∙ any-of list (list-some limit text list h)))
+    (meant limit text list u (common_list limit text list h))
 
 pub if-some : {A : Type 0} (P : A → Type 0) (o : Option A) (x : A) → o ≡ Some x → IfSome o P → P x
 if-some {A} P o x e h = subst (λ (q : Option A). IfSome q P) e h
-
-pub common_list : (limit : ℕ) (text : List ℕ) (list : List (Span VersionValue)) → IsCommonRange limit text list → list ≡ denotes limit text
-common_list limit text list h = sym (common_ranges_are_denoted limit text list h).0
 
 -- the intervals that a text denotes are a range, where there are some
 pub denoted_range : (limit : ℕ) (text : List ℕ) (list : List (Span VersionValue)) → list ≡ denotes limit text → 0 < length list → IsRange limit list
@@ -38,9 +40,10 @@ denoted_range limit text list h some = record {
   each = ap (λ (l : List (Span VersionValue)). list_all (is_range_span (limit + 1)) l) h ∙ denotes-bounded limit text;
 }
 
-pub denoted_some : (limit : ℕ) (text : List ℕ) (list : List (Span VersionValue)) → list ≡ denotes limit text → 0 < length list → Some list ≡ if_any (denotes limit text)
-denoted_some limit text list h some = sym (any-of list some) ∙ ap (λ (l : List (Span VersionValue)). if_any l) h
-
--- the range of a common text
-pub fast_read : (limit : ℕ) (text : List ℕ) (list : List (Span VersionValue)) → IsCommonRange limit text list → Some list ≡ if_any (denotes limit text)
-fast_read limit text list h = denoted_some limit text list (common_list limit text list h) (list-some limit text list h)
+-- the loose reader returns the range of a common text
+pub fast_read : (limit : ℕ) (text : List ℕ) (list : List (Span VersionValue)) (o : Option (List (Span VersionValue))) → IsUtf8 text → IsCommonRange limit text list
+    → IfSome o (λ range. Means limit text range × (0 < length range)) → IfNone o (Means limit text []) → Some list ≡ o
+fast_read limit text list None u h some none =
+    let empty : list ≡ [] = common_list limit text list h ∙ (one_meaning limit text [] u).1 none in
+    absurd (omega (arith, ap length empty, list-some limit text list h))
+fast_read limit text list (Some range) u h some none = ap Some (common_list limit text list h ∙ (one_meaning limit text range u).1 some.0)

@@ -10,7 +10,7 @@ use Rattle.semver_core.specs.Internal.OrderLaws.{precedence_total}
 use Rattle.semver_core.specs.Internal.Spaces.{after_spaces, drop_spaces, space_len}
 use Rattle.semver_core.specs.Values.Versions.{VersionValue}
 use Rattle.semver_core.proofs.Text.Spaces.{drop_spaces-none}
-use Rattle.nodejs_semver.specs.Text.Denotes.{part_intervals}
+use Rattle.nodejs_semver.specs.Internal.Denotes.{part_intervals}
 use Rattle.nodejs_semver.specs.Internal.Fronts.{partial_front}
 use Rattle.nodejs_semver.specs.Internal.Meets.{joined_from}
 use Rattle.nodejs_semver.specs.Internal.RunsFrom.{runs_from}

@@ -10,7 +10,7 @@ use Rattle.semver_core.specs.Values.Versions.{VersionValue}
 use Rattle.semver_core.specs.declared.cuts.bound.Bound.{Bound}
 use Rattle.semver_core.specs.declared.cuts.bound.Bound.TheVariants.{Unbounded, Before, After}
 use Rattle.nodejs_semver.specs.Printing.RoundTrip.{is_printable, bounds_back, read_back}
-use Rattle.nodejs_semver.specs.Text.Denotes.{denotes}
+use Rattle.nodejs_semver.specs.Internal.Denotes.{denotes}
 use Rattle.nodejs_semver.specs.Printing.Text.{bounds_text, range_text}
 use Rattle.nodejs_semver.specs.Ranges.Outside.{is_bounded}
 use Rattle.nodejs_semver.specs.Ranges.View.{is_range_bound, is_range_span}
@@ -61,10 +61,6 @@ pub reads_back : (limit : ℕ) (text : List ℕ) (list : List (Span VersionValue
     → text ≡ range_text list → denotes limit text ≡ map read_back list
 reads_back limit text [] small some h e = absurd (omega arith)
 reads_back limit text (s ∷ rest) small some h e = ap (denotes limit) e ∙ (tidy-denotes limit (range_text (s ∷ rest)) (map read_back (s ∷ rest)) (printed_tidy limit s rest small h)).0
-
-pub reads_equal : (limit : ℕ) (text : List ℕ) (list : List (Span VersionValue)) → limit < 2 ^ 64 → 0 < length list → list_all (is_printable limit) list ≡ true
-    → text ≡ range_text list → range_eq (denotes limit text) list ≡ true
-reads_equal limit text list small some h e = ap (λ (l : List (Span VersionValue)). range_eq l list) (reads_back limit text list small some h e) ∙ same_back list
 
 -- what is read from a printed interval prints as the same text
 again : (lower upper : Bound VersionValue) → bounds_text (bounds_back lower upper).lower (bounds_back lower upper).upper ≡ bounds_text lower upper

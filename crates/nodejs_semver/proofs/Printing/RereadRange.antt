@@ -1,6 +1,6 @@
 -- For proofs. A range that is printed and parsed.
-use Rattle.std.proofs.Common.{◌≡◌, ◌<◌, ◌^◌, ℕ, true, List, [], ◌∷◌, length, map, ap, ◌∙◌, arith, Ok, Err, Result}
-use Rattle.std.specs.Prelude.{IfOk}
+use Rattle.std.proofs.Common.{◌≡◌, ◌<◌, ◌^◌, ℕ, true, List, [], ◌∷◌, length, map, ap, sym, ◌∙◌, arith, Ok, Err, Result}
+use Rattle.std.specs.Prelude.{IfOk, IsUtf8}
 use Rattle.std.specs.List.{list_all}
 use Rattle.semver_core.specs.Cuts.{Span}
 use Rattle.semver_core.specs.Failures.{NeverRefused, RefusedOnlyIf}
@@ -8,41 +8,45 @@ use Rattle.semver_core.specs.Values.Versions.{VersionValue}
 use Rattle.semver_core.specs.declared.error.Failure.{Failure}
 use Rattle.semver_core.specs.declared.error.Failure.TheVariants.{Refused, Memory}
 use Rattle.nodejs_semver.specs.Printing.RoundTrip.{is_printable, read_back}
-use Rattle.nodejs_semver.specs.Text.Denotes.{denotes}
+use Rattle.nodejs_semver.specs.Text.Meaning.{Means}
+use Rattle.nodejs_semver.proofs.Dividing.MeaningLaw.{one_meaning}
 use Rattle.nodejs_semver.specs.Printing.Text.{range_text}
 use Rattle.nodejs_semver.specs.Ranges.Equality.{range_eq}
 use Rattle.nodejs_semver.proofs.Printing.Ranges.{reads_back, same_back, prints_again}
 
 -- what is read from the text of a printable range
 pub record Reread (limit : ℕ) (text : List ℕ) (list : List (Span VersionValue)) : Type 0 where
+  pub utf8 : IsUtf8 text
   pub small : limit < 2 ^ 64
   pub some : 0 < length list
   pub printable : list_all (is_printable limit) list ≡ true
   pub printed : text ≡ range_text list
 
+is_back : (limit : ℕ) (text : List ℕ) (again list : List (Span VersionValue)) → Reread limit text list → Means limit text again → again ≡ map read_back list
+is_back limit text again list h m = sym ((one_meaning limit text again h.utf8).1 m) ∙ reads_back limit text list h.small h.some h.printable h.printed
+
 pub reread_builds : {E : Type 0} (limit : ℕ) (r : Result (List (Span VersionValue)) E) (text : List ℕ) (list : List (Span VersionValue)) → Reread limit text list
-    → IfOk r (λ again. again ≡ denotes limit text) → IfOk r (λ again. again ≡ map read_back list)
-reread_builds limit (Ok again) text list h e = e ∙ reads_back limit text list h.small h.some h.printable h.printed
-reread_builds limit (Err x) text list h e = tt
+    → IfOk r (Means limit text) → IfOk r (λ again. again ≡ map read_back list)
+reread_builds limit (Ok again) text list h m = is_back limit text again list h m
+reread_builds limit (Err x) text list h m = tt
 
 pub reread_equal : {E : Type 0} (limit : ℕ) (r : Result (List (Span VersionValue)) E) (text : List ℕ) (list : List (Span VersionValue)) → Reread limit text list
-    → IfOk r (λ again. again ≡ denotes limit text) → IfOk r (λ again. range_eq again list ≡ true)
-reread_equal limit (Ok again) text list h e =
-    ap (λ (l : List (Span VersionValue)). range_eq l list) (e ∙ reads_back limit text list h.small h.some h.printable h.printed) ∙ same_back list
-reread_equal limit (Err x) text list h e = tt
+    → IfOk r (Means limit text) → IfOk r (λ again. range_eq again list ≡ true)
+reread_equal limit (Ok again) text list h m = ap (λ (l : List (Span VersionValue)). range_eq l list) (is_back limit text again list h m) ∙ same_back list
+reread_equal limit (Err x) text list h m = tt
 
 pub reread_text : {E : Type 0} (limit : ℕ) (r : Result (List (Span VersionValue)) E) (text : List ℕ) (list : List (Span VersionValue)) → Reread limit text list
-    → IfOk r (λ again. again ≡ denotes limit text) → IfOk r (λ again. range_text again ≡ range_text list)
-reread_text limit (Ok again) text list h e = ap range_text (e ∙ reads_back limit text list h.small h.some h.printable h.printed) ∙ prints_again list
-reread_text limit (Err x) text list h e = tt
+    → IfOk r (Means limit text) → IfOk r (λ again. range_text again ≡ range_text list)
+reread_text limit (Ok again) text list h m = ap range_text (is_back limit text again list h m) ∙ prints_again list
+reread_text limit (Err x) text list h m = tt
 
 -- the text means some interval
-not_refused : (limit : ℕ) (text : List ℕ) (list : List (Span VersionValue)) → Reread limit text list → denotes limit text ≡ [] → ⊥
-not_refused limit text [] h e = absurd (omega (arith, h.some))
-not_refused limit text (s ∷ rest) h e = cc (e, reads_back limit text (s ∷ rest) h.small h.some h.printable h.printed)
+not_refused : (limit : ℕ) (text : List ℕ) (list : List (Span VersionValue)) → Reread limit text list → Means limit text [] → ⊥
+not_refused limit text [] h m = absurd (omega (arith, h.some))
+not_refused limit text (s ∷ rest) h m = cc (is_back limit text [] (s ∷ rest) h m)
 
 pub reread_read : {E : Type 0} (limit : ℕ) (r : Result (List (Span VersionValue)) (Failure E)) (text : List ℕ) (list : List (Span VersionValue)) → Reread limit text list
-    → RefusedOnlyIf {A = List (Span VersionValue)} {E = E} r (denotes limit text ≡ []) → NeverRefused {A = List (Span VersionValue)} {E = E} r
-reread_read limit (Ok again) text list h e = tt
-reread_read limit (Err (Refused x)) text list h e = not_refused limit text list h e
-reread_read limit (Err (Memory x)) text list h e = tt
+    → RefusedOnlyIf {A = List (Span VersionValue)} {E = E} r (Means limit text []) → NeverRefused {A = List (Span VersionValue)} {E = E} r
+reread_read limit (Ok again) text list h m = tt
+reread_read limit (Err (Refused x)) text list h m = not_refused limit text list h m
+reread_read limit (Err (Memory x)) text list h m = tt

@@ -11,7 +11,7 @@ use Rattle.semver_core.specs.Text.Characters.{BeginsBlank, IsTrim, is_whitespace
 use Rattle.semver_core.specs.Internal.Spaces.{drop_spaces, space_len}
 use Rattle.semver_core.proofs.Text.SpaceLaw.{space_len-dark, space_len-inside, space_len-white}
 use Rattle.semver_core.proofs.Text.Spaces.{drop_spaces-none, space_len-nil}
-use Rattle.semver_core.proofs.Text.Trims.{drop_spaces-blank, fronted}
+use Rattle.semver_core.proofs.Text.Trims.{drop_spaces-blank}
 use Rattle.nodejs_semver.specs.Internal.Words.{Reading, Sign, after_some_space, at_boundary, behind_sign, careted, comparator_at, compared, comparing, from_boundary, is_boundary, or_else, or_equal, or_malformed, sign_at, tilde_sign, tilded, unsigned, upper_behind, word_at, word_behind}
 use Rattle.nodejs_semver.specs.Internal.Fronts.{after_byte, component_front, number_of, partial_front}
 use Rattle.nodejs_semver.specs.Text.PartialText.{Partial, is_wildcard}
@@ -23,7 +23,6 @@ use Rattle.nodejs_semver.proofs.Reading.Boundaries.{from_boundary-nil, from_boun
 use Rattle.nodejs_semver.proofs.Reading.PartialLaw.{longest_are, spaced}
 use Rattle.nodejs_semver.proofs.Reading.Steps.{bind-some, inside, option-cases, second-same}
 use Rattle.nodejs_semver.proofs.Reading.Progress.{spaces-gone}
-use Rattle.nodejs_semver.proofs.Dividing.Trimmed.{dark-starts}
 
 -- ---- UTF-8 behind a byte, and behind characters
 

@@ -10,7 +10,8 @@ use Rattle.semver_core.specs.Internal.OrderLaws.{precedence_total, version_alike
 use Rattle.semver_core.specs.Values.Versions.{VersionValue}
 use Rattle.semver_core.specs.declared.cuts.bound.Bound.{Bound}
 use Rattle.semver_core.specs.declared.cuts.bound.Bound.TheVariants.{Unbounded, Before, After}
-use Rattle.nodejs_semver.specs.Ranges.Equality.{span_eq, range_eq, bound_writes, span_writes, range_writes}
+use Rattle.nodejs_semver.specs.Internal.Hashes.{bound_writes, span_writes, range_writes}
+use Rattle.nodejs_semver.specs.Ranges.Equality.{span_eq, range_eq}
 use Rattle.semver_core.specs.Values.Order.{version_eq}
 
 version_equiv : IsEquivalence version_eq

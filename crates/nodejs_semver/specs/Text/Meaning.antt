@@ -1,5 +1,5 @@
 -- Statement. What a range text means: a list of intervals. The text has a range exactly where that list is not empty.
-use Rattle.std.specs.Prelude.{◌≡◌, ℕ, List, [], ◌∷◌, ◌++◌, map, filter_map}
+use Rattle.std.specs.Prelude.{ℕ, List, [], ◌∷◌, ◌++◌, map, filter_map}
 use Rattle.std.specs.List.{AllByRecursion}
 use Rattle.semver_core.specs.Text.Characters.{IsBlank, IsTrim}
 use Rattle.semver_core.specs.Cuts.{Span}
@@ -17,27 +17,30 @@ pub data AreWords (limit : ℕ) : List ℕ → List Word → Type 0 where
   next_word : (b : ℕ) (text behind next : List ℕ) (word : Word) (others : List Word) → IsWordAt limit (b ∷ text) word behind
       → SkipsBlank behind next → AreWords limit next others → AreWords limit (b ∷ text) (word ∷ others)
 
--- the intervals of what stands between bars: of the part in it, the words' bounds, divided into runs
-pub record AreIntervals (limit : ℕ) (piece : List ℕ) (list : List (Span VersionValue)) : Type 0 where
+-- the runs of what stands between bars: the division of the bounds that the words of the part in it have
+pub record HasRuns (limit : ℕ) (piece : List ℕ) (runs : List (Run VersionValue)) : Type 0 where
   pub part : List ℕ
   pub words : List Word
-  pub runs : List (Run VersionValue)
   pub trimmed : IsTrim piece part
   pub read : AreWords limit part words
   pub divided : AreRuns precedence (filter_map (table limit) words) runs
-  pub spanned : list ≡ map (interval_of precedence) runs
 
--- the intervals of all pieces, one piece after another: one without bounds for a piece of whitespace alone
+-- the intervals of all pieces, one piece after another: one without bounds for a piece of whitespace alone, and else those of
+-- its runs
 pub data AreAllIntervals (limit : ℕ) : List (List ℕ) → List (Span VersionValue) → Type 0 where
   no_piece : AreAllIntervals limit [] []
   blank_piece : (piece : List ℕ) (pieces : List (List ℕ)) (others : List (Span VersionValue)) → IsBlank piece
       → AreAllIntervals limit pieces others → AreAllIntervals limit (piece ∷ pieces) (any_version ++ others)
-  next_piece : (piece : List ℕ) (pieces : List (List ℕ)) (list others : List (Span VersionValue)) → (IsBlank piece → ⊥)
-      → AreIntervals limit piece list → AreAllIntervals limit pieces others → AreAllIntervals limit (piece ∷ pieces) (list ++ others)
+  next_piece : (piece : List ℕ) (pieces : List (List ℕ)) (runs : List (Run VersionValue)) (others : List (Span VersionValue))
+      → (IsBlank piece → ⊥) → HasRuns limit piece runs → AreAllIntervals limit pieces others
+      → AreAllIntervals limit (piece ∷ pieces) (map (interval_of precedence) runs ++ others)
+
+-- the text is whitespace and bars alone
+unfoldable pub IsBlankText : List ℕ → Type 0
+IsBlankText text = (pieces : List (List ℕ)) × IsCutAtBars text pieces × AllByRecursion IsBlank pieces
 
 -- the text means these intervals: one without bounds where all pieces are blank, and else those of its pieces in order
-pub record Means (limit : ℕ) (text : List ℕ) (list : List (Span VersionValue)) : Type 0 where
-  pub pieces : List (List ℕ)
-  pub cut : IsCutAtBars text pieces
-  pub where_blank : AllByRecursion IsBlank pieces → list ≡ any_version
-  pub elsewhere : (AllByRecursion IsBlank pieces → ⊥) → AreAllIntervals limit pieces list
+pub data Means (limit : ℕ) (text : List ℕ) : List (Span VersionValue) → Type 0 where
+  every_version : IsBlankText text → Means limit text any_version
+  all_intervals : (pieces : List (List ℕ)) (list : List (Span VersionValue)) → IsCutAtBars text pieces
+      → (AllByRecursion IsBlank pieces → ⊥) → AreAllIntervals limit pieces list → Means limit text list

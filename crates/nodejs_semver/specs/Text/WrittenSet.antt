@@ -1,18 +1,17 @@
 -- Statement. The set of versions that a range text writes, by plain comparisons of versions.
-use Rattle.std.specs.Prelude.{ℕ, ◌&&◌, ◌||◌, not, Bool, true, List}
-use Rattle.std.specs.List.{list_all, list_any}
+use Rattle.std.specs.Prelude.{◌≡◌, ◌⊎◌, ℕ, ◌&&◌, not, Bool, true, List}
+use Rattle.std.specs.List.{Any, list_all, list_any}
 use Rattle.std.specs.Ordering.{is_lt}
 use Rattle.std.specs.declared.cmp.Ordering.{Ordering}
 use Rattle.semver_core.specs.Cuts.{Span}
 use Rattle.semver_core.specs.declared.cuts.bound.Bound.{Bound}
 use Rattle.semver_core.specs.declared.cuts.bound.Bound.TheVariants.{Unbounded, Before, After}
+use Rattle.semver_core.specs.Text.Characters.{IsBlank}
 use Rattle.semver_core.specs.Values.Order.{precedence}
 use Rattle.semver_core.specs.Values.Versions.{VersionValue}
-use Rattle.semver_core.specs.Lists.{is_empty}
-use Rattle.nodejs_semver.specs.Internal.Parts.{parts}
+use Rattle.nodejs_semver.specs.Text.Bars.{IsCutAtBars}
+use Rattle.nodejs_semver.specs.Text.Meaning.{HasRuns}
 use Rattle.nodejs_semver.specs.Text.Runs.{Run, run_items}
-use Rattle.nodejs_semver.specs.Internal.RunsFrom.{runs_of}
-use Rattle.nodejs_semver.specs.Text.Denotes.{part_bounds}
 
 -- the comparisons `>=w` and `>w` of a lower bound
 abbrev pub is_above : {V : Type 0} → (V → V → Ordering) → Bound V → V → Bool
@@ -34,9 +33,11 @@ word_writes R v s = is_above R s.lower v && is_below R s.upper v
 abbrev pub run_writes : {V : Type 0} → (V → V → Ordering) → V → Run V → Bool
 run_writes R v r = list_all (word_writes R v) (run_items r)
 
-abbrev pub part_writes : ℕ → VersionValue → List ℕ → Bool
-part_writes limit v part = list_any (run_writes precedence v) (runs_of precedence (part_bounds limit part))
+-- what stands between bars writes the version: it is whitespace alone, or the version is in what some one of its runs writes
+abbrev pub PieceWrites : ℕ → VersionValue → List ℕ → Type 0
+PieceWrites limit v piece =
+    IsBlank piece ⊎ ((runs : List (Run VersionValue)) × HasRuns limit piece runs × (list_any (run_writes precedence v) runs ≡ true))
 
--- a text with an empty part writes every version, and any other text the union of its runs
-abbrev pub writes : ℕ → List ℕ → VersionValue → Bool
-writes limit text v = list_any is_empty (parts text) || list_any (part_writes limit v) (parts text)
+-- the text writes the version: some one of its pieces does
+unfoldable pub Writes : ℕ → List ℕ → VersionValue → Type 0
+Writes limit text v = (pieces : List (List ℕ)) × IsCutAtBars text pieces × Any (PieceWrites limit v) pieces

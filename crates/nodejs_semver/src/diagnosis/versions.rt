@@ -7,7 +7,7 @@ ghost use Rattle.semver_core.specs.Internal.Reading.{build_at, list_at, list_len
 ghost use Rattle.semver_core.specs.Internal.Reading.{or_nothing, past, pre_release_at, triple_at};
 ghost use Rattle.semver_core.specs.Text.Characters.{begins, IsAfterBlank};
 ghost use Rattle.semver_core.specs.declared.TheConstants.{MAX_SAFE_INTEGER};
-ghost use Rattle.nodejs_semver.specs.Diagnosis.Stuck.{IsNumberAt, Stuck, begins_dot};
+ghost use Rattle.nodejs_semver.specs.Internal.Stuck.{IsNumberAt, Stuck, begins_dot};
 ghost use Rattle.nodejs_semver.specs.Diagnosis.VersionFlaws.{IsExact, IsFlaw};
 
 use semver_core::scan::{begins_identifier, goes_on, number_in, skip_whitespace};

@@ -1,10 +1,12 @@
 // The headline of this crate. It rests on the contracts of the public calls alone.
 
-ghost use Rattle.std.specs.Prelude.{◌≡◌, ◌<◌, ◌⊎◌, ◌&&◌, not, [], length, IfOk, OnOk, true, false};
+ghost use Rattle.std.specs.Prelude.{◌≡◌, ◌&&◌, ◌↔◌, ◌⊎◌, List, [], IfOk, IsTrue, OnOk, not, true};
+ghost use Rattle.std.specs.Prelude.{false};
 ghost use Rattle.nodejs_semver.specs.Ranges.Gate.{accepts, option_accepts};
-ghost use Rattle.nodejs_semver.specs.Text.Denotes.{denotes};
 ghost use Rattle.nodejs_semver.specs.Ranges.Least.{IsLeastOf};
-ghost use Rattle.nodejs_semver.specs.Text.WrittenSet.{writes};
+ghost use Rattle.nodejs_semver.specs.Text.Meaning.{Means};
+ghost use Rattle.nodejs_semver.specs.Text.WrittenSet.{Writes};
+ghost use Rattle.semver_core.specs.Cuts.{Span};
 ghost use Rattle.semver_core.specs.Failures.{RefusedOnlyIf};
 ghost use Rattle.semver_core.specs.Values.Versions.{VersionValue};
 
@@ -33,21 +35,22 @@ pub struct Findings {
 /// `Range::satisfies_with_prerelease` returns what `accepts` says here, and `satisfies` the same
 /// with false for the flag.
 pub fn headline(alloc: Global, a: &str, b: &str) -> Result<Findings, Failure<SemverError>>
-    ensures read { OnOk result ((0 < length (denotes MAX_SAFE_INTEGER a.now))
-        × (0 < length (denotes MAX_SAFE_INTEGER b.now))) }
+    ensures read { OnOk result ((Means MAX_SAFE_INTEGER a.now [] → ⊥)
+        × (Means MAX_SAFE_INTEGER b.now [] → ⊥)) }
     // The one other error is a failed allocation.
     ensures refused { RefusedOnlyIf result
-        ((denotes MAX_SAFE_INTEGER a.now ≡ []) ⊎ (denotes MAX_SAFE_INTEGER b.now ≡ [])) }
+        (Means MAX_SAFE_INTEGER a.now [] ⊎ Means MAX_SAFE_INTEGER b.now []) }
     ensures first { IfOk result (λ found. (v : VersionValue) →
-        accepts found.first v true ≡ writes MAX_SAFE_INTEGER a.now v) }
+        IsTrue (accepts found.first v true) ↔ Writes MAX_SAFE_INTEGER a.now v) }
     ensures both { IfOk result (λ found. (v : VersionValue) →
-        option_accepts found.both v true
-        ≡ (writes MAX_SAFE_INTEGER a.now v && writes MAX_SAFE_INTEGER b.now v)) }
+        IsTrue (option_accepts found.both v true)
+        ↔ (Writes MAX_SAFE_INTEGER a.now v × Writes MAX_SAFE_INTEGER b.now v)) }
     ensures first_alone { IfOk result (λ found. (v : VersionValue) →
-        option_accepts found.first_alone v true
-        ≡ (writes MAX_SAFE_INTEGER a.now v && not (writes MAX_SAFE_INTEGER b.now v))) }
-    ensures least { IfOk result (λ found.
-        IsLeastOf (λ v. accepts (denotes MAX_SAFE_INTEGER a.now) v false) found.least) }
+        IsTrue (option_accepts found.first_alone v true)
+        ↔ (Writes MAX_SAFE_INTEGER a.now v × (Writes MAX_SAFE_INTEGER b.now v → ⊥))) }
+    ensures least { IfOk result (λ found. (list : List (Span VersionValue)) →
+        Means MAX_SAFE_INTEGER a.now list
+        → IsLeastOf (λ v. accepts list v false) found.least) }
 {
     let first = Range::parse(alloc, a)?;
     let second = Range::parse(alloc, b)?;
@@ -95,22 +98,23 @@ pub fn headline_at(
     b: &str,
     version: &Version,
 ) -> Result<FindingsAt, Failure<SemverError>>
-    ensures read { OnOk result ((0 < length (denotes MAX_SAFE_INTEGER a.now))
-        × (0 < length (denotes MAX_SAFE_INTEGER b.now))) }
+    ensures read { OnOk result ((Means MAX_SAFE_INTEGER a.now [] → ⊥)
+        × (Means MAX_SAFE_INTEGER b.now [] → ⊥)) }
     ensures refused { RefusedOnlyIf result
-        ((denotes MAX_SAFE_INTEGER a.now ≡ []) ⊎ (denotes MAX_SAFE_INTEGER b.now ≡ [])) }
+        (Means MAX_SAFE_INTEGER a.now [] ⊎ Means MAX_SAFE_INTEGER b.now []) }
     ensures first { IfOk result (λ found.
-        found.in_first ≡ writes MAX_SAFE_INTEGER a.now version.now) }
+        IsTrue found.in_first ↔ Writes MAX_SAFE_INTEGER a.now version.now) }
     ensures both { IfOk result (λ found.
-        found.in_both
-        ≡ (writes MAX_SAFE_INTEGER a.now version.now
-        && writes MAX_SAFE_INTEGER b.now version.now)) }
+        IsTrue found.in_both
+        ↔ (Writes MAX_SAFE_INTEGER a.now version.now
+        × Writes MAX_SAFE_INTEGER b.now version.now)) }
     ensures first_alone { IfOk result (λ found.
-        found.in_first_alone
-        ≡ (writes MAX_SAFE_INTEGER a.now version.now
-        && not (writes MAX_SAFE_INTEGER b.now version.now))) }
-    ensures least { IfOk result (λ found.
-        IsLeastOf (λ v. accepts (denotes MAX_SAFE_INTEGER a.now) v false) found.least) }
+        IsTrue found.in_first_alone
+        ↔ (Writes MAX_SAFE_INTEGER a.now version.now
+        × (Writes MAX_SAFE_INTEGER b.now version.now → ⊥))) }
+    ensures least { IfOk result (λ found. (list : List (Span VersionValue)) →
+        Means MAX_SAFE_INTEGER a.now list
+        → IsLeastOf (λ v. accepts list v false) found.least) }
 {
     let found = headline(alloc, a, b)?;
     Ok(FindingsAt {

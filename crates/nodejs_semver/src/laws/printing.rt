@@ -5,7 +5,7 @@ ghost use Rattle.std.specs.List.{list_all};
 ghost use Rattle.nodejs_semver.specs.Printing.RoundTrip.{is_printable, read_back};
 ghost use Rattle.nodejs_semver.specs.Printing.Text.{range_text};
 ghost use Rattle.nodejs_semver.specs.Ranges.Equality.{range_eq};
-ghost use Rattle.nodejs_semver.specs.Text.Denotes.{denotes};
+ghost use Rattle.nodejs_semver.specs.Text.Meaning.{Means};
 ghost use Rattle.semver_core.specs.Cuts.{Span};
 ghost use Rattle.semver_core.specs.Failures.{NeverRefused};
 ghost use Rattle.semver_core.specs.Values.Versions.{VersionValue};
@@ -18,12 +18,12 @@ use std::alloc::{AllocError, Global};
 /// their own texts spell. Builds come back too, but where an interval prints as one version, that
 /// version stands for both ends.
 pub fn printed_ranges_come_back(text: &str)
-    ensures equal { (limit : ℕ) (list : List (Span VersionValue)) → limit < 2 ^ 64
+    ensures equal { (limit : ℕ) (list read : List (Span VersionValue)) → limit < 2 ^ 64
         → 0 < length list → list_all (is_printable limit) list ≡ true → text.now ≡ range_text list
-        → range_eq (denotes limit text.now) list ≡ true }
+        → Means limit text.now read → range_eq read list ≡ true }
     ensures builds { (limit : ℕ) (list : List (Span VersionValue)) → limit < 2 ^ 64
         → 0 < length list → list_all (is_printable limit) list ≡ true → text.now ≡ range_text list
-        → denotes limit text.now ≡ map read_back list }
+        → Means limit text.now (map read_back list) }
 {
     let _ = text;
 }

@@ -1,10 +1,11 @@
 // What is said of range texts.
 
 ghost use Rattle.std.specs.Prelude.{◌≡◌, ◌↔◌, ◌<◌, ℕ, false, IfNone, IfOk, IfSome, IsUtf8, List};
-ghost use Rattle.std.specs.Prelude.{[], Some, length};
+ghost use Rattle.std.specs.Prelude.{[], Some, length, true};
 ghost use Rattle.std.specs.List.{list_all};
 ghost use Rattle.semver_core.specs.Cuts.{Span};
 ghost use Rattle.semver_core.specs.Lists.{is_empty};
+ghost use Rattle.semver_core.specs.Text.Characters.{IsTrim};
 ghost use Rattle.semver_core.specs.Text.Numbers.{IsNumber};
 ghost use Rattle.semver_core.specs.Values.Order.{precedence};
 ghost use Rattle.semver_core.specs.Values.Versions.{VersionValue};
@@ -13,17 +14,18 @@ ghost use Rattle.nodejs_semver.specs.Internal.CommonFronts.{common_range};
 ghost use Rattle.nodejs_semver.specs.Internal.Fronts.{number_of, partial_front};
 ghost use Rattle.nodejs_semver.specs.Internal.Parts.{cut_bars, parts};
 ghost use Rattle.nodejs_semver.specs.Internal.RunsFrom.{runs_of};
-ghost use Rattle.nodejs_semver.specs.Internal.Words.{word_at};
+ghost use Rattle.nodejs_semver.specs.Internal.Words.{word_at, words};
+ghost use Rattle.nodejs_semver.specs.Internal.Writes.{writes};
 ghost use Rattle.nodejs_semver.specs.Ranges.Algebra.{list_holds};
 ghost use Rattle.nodejs_semver.specs.Text.Bars.{IsCutAtBars};
 ghost use Rattle.nodejs_semver.specs.Text.Common.{IsCommonRange, IsUncommon};
-ghost use Rattle.nodejs_semver.specs.Text.Denotes.{denotes, part_bounds};
+ghost use Rattle.nodejs_semver.specs.Internal.Denotes.{denotes, part_bounds};
 ghost use Rattle.nodejs_semver.specs.Text.LongestText.{IsLongestPartial};
-ghost use Rattle.nodejs_semver.specs.Text.Meaning.{Means};
+ghost use Rattle.nodejs_semver.specs.Text.Meaning.{AreWords, Means};
 ghost use Rattle.nodejs_semver.specs.Text.PartialText.{IsPartial, Partial};
 ghost use Rattle.nodejs_semver.specs.Text.Runs.{AreRuns, Run};
 ghost use Rattle.nodejs_semver.specs.Text.WordText.{IsWordAt, Word};
-ghost use Rattle.nodejs_semver.specs.Text.WrittenSet.{writes};
+ghost use Rattle.nodejs_semver.specs.Text.WrittenSet.{Writes};
 
 use crate::Range;
 use crate::readers::{range_fast, range_loose};
@@ -76,6 +78,19 @@ pub fn words_at()
         → (word_at limit text ≡ (word, rest)) ↔ IsWordAt limit text word rest }
 {}
 
+/// The words of a part, which is a trimmed text, are read one after another from the left.
+pub fn words()
+    ensures { (limit : ℕ) (text part : List ℕ) (list : List Word) → IsUtf8 text → IsTrim text part
+        → (words limit part ≡ list) ↔ AreWords limit part list }
+{}
+
+/// A range text writes a version where some one of its pieces is whitespace alone, or has a run of
+/// which the version satisfies all comparisons.
+pub fn written()
+    ensures { (limit : ℕ) (text : List ℕ) (v : VersionValue) → IsUtf8 text
+        → (writes limit text v ≡ true) ↔ Writes limit text v }
+{}
+
 /// With pre-releases included, the intervals of a range text hold exactly the versions that the
 /// text writes: those that satisfy, for some one run, all comparisons of its words.
 pub fn intervals_hold_what_is_written()
@@ -103,7 +118,6 @@ pub fn common_ranges()
 {}
 
 /// On a common text both readers return the same range; on another the fast one returns `None`.
-#[tactic(auto, using(crate::proofs::Everyday::Whole::fast_read))]
 pub fn both_readers(alloc: Global, text: &str) -> Result<Option<(Range, Option<Range>)>, AllocError>
     ensures same { IfOk result (λ found. IfSome found (λ both. Some both.0 ≡ both.1)) }
     ensures uncommon { IfOk result (λ found. IfNone found (IsUncommon MAX_SAFE_INTEGER text.now)) }

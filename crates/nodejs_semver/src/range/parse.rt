@@ -1,9 +1,10 @@
 // Ranges are read from their texts.
 
-ghost use Rattle.std.specs.Prelude.{◌≡◌, ◌<◌, [], IfOk, OnOk, length, true};
+ghost use Rattle.std.specs.Prelude.{◌≡◌, ◌↔◌, ◌<◌, [], IfOk, IsTrue, OnOk, length, true};
+ghost use Rattle.nodejs_semver.specs.Internal.Denotes.{denotes};
 ghost use Rattle.nodejs_semver.specs.Ranges.Gate.{accepts};
-ghost use Rattle.nodejs_semver.specs.Text.Denotes.{denotes};
-ghost use Rattle.nodejs_semver.specs.Text.WrittenSet.{writes};
+ghost use Rattle.nodejs_semver.specs.Text.Meaning.{Means};
+ghost use Rattle.nodejs_semver.specs.Text.WrittenSet.{Writes};
 ghost use Rattle.semver_core.specs.Failures.{RefusedOnlyIf};
 ghost use Rattle.semver_core.specs.Values.Versions.{VersionValue};
 
@@ -33,14 +34,14 @@ impl Range {
     /// ```
     #[inline(always)]
     pub fn parse(alloc: Global, text: &str) -> Result<Range, Failure<SemverError>>
-        // The intervals are those of the text, in order and with their builds.
-        ensures ok { IfOk result (λ range. range ≡ denotes MAX_SAFE_INTEGER text.now) }
-        ensures some { OnOk result (0 < length (denotes MAX_SAFE_INTEGER text.now)) }
-        // The text is rejected only if it has none. The one other error is a failed allocation.
-        ensures refused { RefusedOnlyIf result (denotes MAX_SAFE_INTEGER text.now ≡ []) }
+        // The intervals are those that the text means, in order and with their builds.
+        ensures ok { IfOk result (Means MAX_SAFE_INTEGER text.now) }
+        ensures some { IfOk result (λ range. 0 < length range) }
+        // The text is rejected only if it means none. The one other error is a failed allocation.
+        ensures refused { RefusedOnlyIf result (Means MAX_SAFE_INTEGER text.now []) }
         // With pre-releases included, the range accepts exactly the versions that the text writes.
-        ensures set { IfOk result (λ range.
-            (v : VersionValue) → accepts range v true ≡ writes MAX_SAFE_INTEGER text.now v) }
+        ensures set { IfOk result (λ range. (v : VersionValue) →
+            IsTrue (accepts range v true) ↔ Writes MAX_SAFE_INTEGER text.now v) }
     {
         let mut intervals = SmallVec::new(alloc);
         read(alloc, text, &mut intervals)?;

@@ -1,7 +1,8 @@
 // Equality and hash of ranges.
 
 ghost use Rattle.std.specs.Cmp.{partial_equiv_from_equiv};
-ghost use Rattle.nodejs_semver.specs.Ranges.Equality.{range_eq, range_writes};
+ghost use Rattle.nodejs_semver.specs.Internal.Hashes.{range_writes};
+ghost use Rattle.nodejs_semver.specs.Ranges.Equality.{range_eq};
 ghost use Rattle.nodejs_semver.specs.Internal.SameLaws.{range_equiv, range_alike};
 
 use crate::Range;

@@ -5,7 +5,7 @@ ghost use Rattle.std.specs.Prelude.{◌≡◌, ◌≤◌, [], if◌then◌else�
 ghost use Rattle.std.specs.Prelude.{IsTrue, None, Some, true};
 ghost use Rattle.nodejs_semver.specs.Internal.CommonFronts as Spec;
 ghost use Rattle.nodejs_semver.specs.Text.Common.{IsCommonRange, IsUncommon};
-ghost use Rattle.nodejs_semver.specs.Text.Denotes.{denotes};
+ghost use Rattle.nodejs_semver.specs.Text.Meaning.{Means};
 ghost use Rattle.nodejs_semver.specs.Internal.Fronts.{dotted_front};
 ghost use Rattle.nodejs_semver.specs.Internal.CommonViews.{between_view, both_view};
 ghost use Rattle.nodejs_semver.specs.Internal.CommonViews.{bounds_front_view, passed_view};
@@ -354,11 +354,11 @@ pub(crate) fn read_common(
 /// version in the text begins with `v` or has build metadata, and there is no other whitespace.
 /// `foo 1.2.3`, `v1.2.3` and `> 1` are not common texts; `Range::parse` reads them too.
 pub fn range_fast(alloc: Global, text: &str) -> Result<Option<Range>, AllocError>
-    // What is read is the meaning of a common text, which is what the text denotes.
+    // What is read is the meaning of a common text, which is what the text means.
     ensures some { IfOk result (λ found. IfSome found (λ range.
         IsCommonRange MAX_SAFE_INTEGER text.now range)) }
     ensures denoted { IfOk result (λ found. IfSome found (λ range.
-        range ≡ denotes MAX_SAFE_INTEGER text.now)) }
+        Means MAX_SAFE_INTEGER text.now range)) }
     // Nothing is read only where the text is no common one.
     ensures none { IfOk result (λ found. IfNone found (IsUncommon MAX_SAFE_INTEGER text.now)) }
 {

@@ -5,7 +5,7 @@ ghost use Rattle.std.specs.Option.{option_to_list};
 ghost use Rattle.std.specs.Prelude.{◌≡◌, ◌<◌, ◌++◌, ◌∷◌, [], List, Option, IfOk, OnOk, is_some};
 ghost use Rattle.std.specs.Prelude.{length, true};
 ghost use Rattle.semver_core.specs.Text.Identifiers.{is_listed, listed};
-ghost use Rattle.nodejs_semver.specs.Text.Denotes.{part_bounds, part_intervals};
+ghost use Rattle.nodejs_semver.specs.Internal.Denotes.{part_bounds, part_intervals};
 ghost use Rattle.nodejs_semver.specs.Internal.CommonFronts.{pushed};
 ghost use Rattle.nodejs_semver.specs.Internal.CommonViews.{between_view, both_view};
 ghost use Rattle.nodejs_semver.specs.Internal.Meets.{joined_from, next_at};

@@ -1,13 +1,14 @@
 // The reader of range texts, word by word.
 
-ghost use Rattle.std.specs.Prelude.{◌≡◌, ◌++◌, ◌∷◌, [], IfOk, OnOk, flat_map, false};
+ghost use Rattle.std.specs.Prelude.{◌≡◌, ◌↔◌, ◌<◌, ◌++◌, ◌∷◌, [], IfNone, IfOk, IfSome, IsTrue, OnOk};
+ghost use Rattle.std.specs.Prelude.{flat_map, length};
 ghost use Rattle.std.specs.List.{list_all};
-ghost use Rattle.nodejs_semver.specs.Text.Denotes.{denotes, part_denotes};
+ghost use Rattle.nodejs_semver.specs.Internal.Denotes.{denotes, part_denotes};
 ghost use Rattle.nodejs_semver.specs.Internal.PartFronts.{later_parts};
-ghost use Rattle.nodejs_semver.specs.Internal.Parts.{parts};
 ghost use Rattle.nodejs_semver.specs.Internal.Readings.{rest_view};
+ghost use Rattle.nodejs_semver.specs.Text.Meaning.{IsBlankText, Means};
 ghost use Rattle.semver_core.specs.Internal.Spaces.{space_len};
-ghost use Rattle.semver_core.specs.Lists.{is_empty, if_any};
+ghost use Rattle.semver_core.specs.Lists.{is_empty};
 
 use crate::Range;
 use crate::range::Intervals;
@@ -21,7 +22,7 @@ use std::alloc::{AllocError, Global};
 /// `||` and ` || `. Such a text names the range without bounds, `Range::any`; `range_loose` reads
 /// every other text.
 pub fn is_blank(text: &str) -> bool
-    ensures { result ≡ list_all is_empty (parts text.now) }
+    ensures { IsTrue result ↔ IsBlankText text.now }
 {
     are_blank(Some(text))
 }
@@ -103,8 +104,10 @@ pub(crate) fn read_any(
 /// word, and one to which the word table gives no interval, is ignored: `foo 1.2.3` is the range of
 /// `1.2.3`, and `foo` has none.
 pub fn range_loose(alloc: Global, text: &str) -> Result<Option<Range>, AllocError>
-    requires some_part { list_all is_empty (parts text.now) ≡ false }
-    ensures { IfOk result (λ found. found ≡ if_any (denotes MAX_SAFE_INTEGER text.now)) }
+    requires some_part { IsBlankText text.now → ⊥ }
+    ensures some { IfOk result (λ found. IfSome found (λ range.
+        Means MAX_SAFE_INTEGER text.now range × (0 < length range))) }
+    ensures none { IfOk result (λ found. IfNone found (Means MAX_SAFE_INTEGER text.now [])) }
 {
     let mut found = SmallVec::new(alloc);
     let (part, rest) = bars::next_part(text);

@@ -1,5 +1,5 @@
 -- For proofs. What the results of reading a question's texts, and of replying to it, say.
-use Rattle.std.specs.Prelude.{◌≡◌, ◌<◌, ◌++◌, ◌∷◌, ℕ, List, [], length, Result, Ok, Err, IfOk, OnOk, ⊤}
+use Rattle.std.specs.Prelude.{◌≡◌, ◌<◌, ◌++◌, ◌∷◌, ℕ, List, [], length, Result, Ok, Err, IfOk, ⊤}
 use Rattle.std.specs.Borrow.{Bor}
 use Rattle.semver_core.specs.Cuts.{Span}
 use Rattle.semver_core.specs.Failures.{RefusedOnlyIf}
@@ -7,7 +7,7 @@ use Rattle.semver_core.specs.Text.Parsing.{Parses, IsRefused}
 use Rattle.semver_core.specs.Values.Versions.{VersionValue}
 use Rattle.semver_core.specs.declared.TheConstants.{MAX_SAFE_INTEGER}
 use Rattle.semver_core.specs.declared.error.SemverError.{SemverError}
-use Rattle.nodejs_semver.specs.Text.Denotes.{denotes}
+use Rattle.nodejs_semver.specs.Text.Meaning.{Means}
 use Rattle.semver_core.specs.declared.error.Failure.{Failure}
 use Rattle.semver_core.specs.declared.error.Failure.TheVariants.{Refused, Memory}
 use Rattle.semver_lines.specs.Names.{fault_word}
@@ -19,7 +19,8 @@ abbrev pub ParsesVersion : List ℕ → Result VersionValue (Failure SemverError
 ParsesVersion text result = IfOk result (Parses MAX_SAFE_INTEGER text) × RefusedOnlyIf result (IsRefused MAX_SAFE_INTEGER text)
 
 abbrev pub ParsesRange : List ℕ → Result (List (Span VersionValue)) (Failure SemverError) → Type 0
-ParsesRange text result = IfOk result (λ ss. ss ≡ denotes MAX_SAFE_INTEGER text) × OnOk result (0 < length (denotes MAX_SAFE_INTEGER text)) × RefusedOnlyIf result (denotes MAX_SAFE_INTEGER text ≡ [])
+ParsesRange text result =
+    IfOk result (Means MAX_SAFE_INTEGER text) × IfOk result (λ ss. 0 < length ss) × RefusedOnlyIf result (Means MAX_SAFE_INTEGER text [])
 
 -- what was read, unless an allocation failed; `view` is how the statement sees it
 abbrev pub IsReadAs : {A B : Type 0} → (A → B) → Result A (Failure Fault) → (Result B Fault → Type 0) → Type 0

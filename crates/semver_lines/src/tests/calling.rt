@@ -1,9 +1,10 @@
-ghost use Rattle.std.specs.Prelude.{◌≡◌, ◌&&◌, ◌⊎◌, [], IfOk, true, false};
+ghost use Rattle.std.specs.Prelude.{◌≡◌, ◌↔◌, ◌⊎◌, [], IfOk, IsTrue, List, true, false};
+ghost use Rattle.nodejs_semver.specs.Cuts.{Span};
 ghost use Rattle.nodejs_semver.specs.Failures.{RefusedOnlyIf};
 ghost use Rattle.nodejs_semver.specs.Parsing.{IsRefused, Parses};
 ghost use Rattle.nodejs_semver.specs.Ranges.Gate.{accepts, option_accepts};
-ghost use Rattle.nodejs_semver.specs.Text.Denotes.{denotes};
-ghost use Rattle.nodejs_semver.specs.Text.WrittenSet.{writes};
+ghost use Rattle.nodejs_semver.specs.Text.Meaning.{Means};
+ghost use Rattle.nodejs_semver.specs.Text.WrittenSet.{Writes};
 ghost use Rattle.nodejs_semver.specs.Versions.{VersionValue};
 
 use nodejs_semver::{Failure, MAX_SAFE_INTEGER, Range, SemverError, Version};
@@ -12,9 +13,10 @@ use std::test::Fail;
 
 // Whether the version of a text satisfies the range of another text.
 fn admits(alloc: Global, range: &str, version: &str) -> Result<bool, Failure<SemverError>>
-    ensures ok { IfOk result (λ answer. (v : VersionValue) × Parses MAX_SAFE_INTEGER version.now v
-        × (answer ≡ accepts (denotes MAX_SAFE_INTEGER range.now) v false)) }
-    ensures refused { RefusedOnlyIf result ((denotes MAX_SAFE_INTEGER range.now ≡ [])
+    ensures ok { IfOk result (λ answer. (r : List (Span VersionValue)) × (v : VersionValue)
+        × Means MAX_SAFE_INTEGER range.now r × Parses MAX_SAFE_INTEGER version.now v
+        × (answer ≡ accepts r v false)) }
+    ensures refused { RefusedOnlyIf result (Means MAX_SAFE_INTEGER range.now []
         ⊎ IsRefused MAX_SAFE_INTEGER version.now) }
 {
     let range = Range::parse(alloc, range)?;
@@ -24,8 +26,8 @@ fn admits(alloc: Global, range: &str, version: &str) -> Result<bool, Failure<Sem
 
 // What two range texts have in common, or `None` if no version is in both.
 fn both(alloc: Global, one: &str, other: &str) -> Result<Option<Range>, Failure<SemverError>>
-    ensures { IfOk result (λ found. (v : VersionValue) → option_accepts found v true
-        ≡ (writes MAX_SAFE_INTEGER one.now v && writes MAX_SAFE_INTEGER other.now v)) }
+    ensures { IfOk result (λ found. (v : VersionValue) → IsTrue (option_accepts found v true)
+        ↔ (Writes MAX_SAFE_INTEGER one.now v × Writes MAX_SAFE_INTEGER other.now v)) }
 {
     let one = Range::parse(alloc, one)?;
     let other = Range::parse(alloc, other)?;

@@ -1,8 +1,13 @@
-use Rattle.nodejs_semver.proofs.Printing.Ranges.{reads_back, reads_equal}
+use Rattle.std.proofs.Common.{sym, ap, ◌∙◌}
+use Rattle.nodejs_semver.specs.Ranges.Equality.{range_eq}
+use Rattle.nodejs_semver.proofs.Dividing.MeaningLaw.{one_meaning}
+use Rattle.nodejs_semver.proofs.Printing.Ranges.{reads_back, same_back}
 use Rattle.nodejs_semver.proofs.laws.printing.printed_ranges_come_back.Goals as goal
 
 pub returns-clause-equal : goal.returns-clause-equal
-returns-clause-equal c = λ limit list. reads_equal limit c.args.text.now list
+returns-clause-equal c = λ limit list read small some h e means.
+    let text = c.args.text.now in
+    ap (λ l. range_eq l list) (sym ((one_meaning limit text read c.utf8.text).1 means) ∙ reads_back limit text list small some h e) ∙ same_back list
 
 pub returns-clause-builds : goal.returns-clause-builds
-returns-clause-builds c = λ limit list. reads_back limit c.args.text.now list
+returns-clause-builds c = λ limit list small some h e. (one_meaning limit c.args.text.now _ c.utf8.text).0 (reads_back limit c.args.text.now list small some h e)

@@ -5,6 +5,7 @@ use Rattle.nodejs_semver.proofs.laws.printing.reread_range.Goals as goal
 
 given : (c : goal.After-drop-text) → Reread MAX_SAFE_INTEGER c.deref.result.now c.args.range.now
 given c = record {
+  utf8 = c.deref.utf8;
   small = omega arith;
   some = c.intervals-intervals.ensures.valid.some;
   printable = c.requires;

@@ -1,7 +1,10 @@
-use Rattle.std.proofs.Common.{◌<◌, length, arith}
+use Rattle.std.proofs.Common.{◌≡◌, ◌<◌, [], length, arith, sym}
 use Rattle.semver_core.specs.declared.TheConstants.{MAX_SAFE_INTEGER}
-use Rattle.nodejs_semver.proofs.Algebra.Holds.{accepted-written}
-use Rattle.nodejs_semver.proofs.Everyday.Whole.{denoted_range, denoted_some}
+use Rattle.std.proofs.lemmas.Grind.{common_steps}
+use Rattle.nodejs_semver.specs.Internal.Denotes.{denotes}
+use Rattle.nodejs_semver.proofs.Everyday.Whole.{denoted_range}
+use Rattle.nodejs_semver.proofs.Dividing.MeaningLaw.{meant}
+use Rattle.nodejs_semver.proofs.Dividing.WrittenLaw.{accepted_written}
 use Rattle.nodejs_semver.proofs.range.Range.parse.Goals as goal
 
 pub invariant_of-result : goal.invariant_of-result
@@ -9,8 +12,13 @@ invariant_of-result c =
     let some : 0 < length c.read.new.found.items = grind arith in
     denoted_range MAX_SAFE_INTEGER c.args.text.now c.read.new.found.items c.in_ok-read.ensures some
 
+pub returns-clause-ok : goal.returns-clause-ok
+returns-clause-ok c = meant MAX_SAFE_INTEGER c.args.text.now c.read.new.found.items c.utf8.text c.in_ok-read.ensures
+
 pub returns-clause-set : goal.returns-clause-set
-returns-clause-set c =
-    let some : 0 < length c.read.new.found.items = grind arith in
-    accepted-written MAX_SAFE_INTEGER c.args.text.now c.read.new.found.items
-    (denoted_some MAX_SAFE_INTEGER c.args.text.now c.read.new.found.items c.in_ok-read.ensures some)
+returns-clause-set c = accepted_written MAX_SAFE_INTEGER c.args.text.now c.read.new.found.items c.utf8.text c.in_ok-read.ensures
+
+pub returns-then-is_empty-clause-refused : goal.returns-then-is_empty-clause-refused
+returns-then-is_empty-clause-refused c =
+    let none : denotes MAX_SAFE_INTEGER c.args.text.now ≡ [] = grind (arith, common_steps) in
+    meant MAX_SAFE_INTEGER c.args.text.now [] c.utf8.text (sym none)

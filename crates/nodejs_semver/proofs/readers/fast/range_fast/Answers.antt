@@ -1,8 +1,8 @@
-use Rattle.std.proofs.Common.{◌≡◌, List, ℕ, rules, subst}
-use Rattle.std.specs.Prelude.{IfSome, IsTrue}
+use Rattle.std.proofs.Common.{List, ℕ, rules, subst}
+use Rattle.std.specs.Prelude.{IfSome, IsTrue, IsUtf8}
 use Rattle.semver_core.specs.declared.TheConstants.{MAX_SAFE_INTEGER}
-use Rattle.nodejs_semver.specs.Text.Denotes.{denotes}
-use Rattle.nodejs_semver.proofs.Everyday.Whole.{common_bounded, common_denoted}
+use Rattle.nodejs_semver.specs.Text.Meaning.{Means}
+use Rattle.nodejs_semver.proofs.Everyday.Whole.{common_bounded, common_means}
 use Rattle.nodejs_semver.proofs.readers.fast.range_fast.Goals as goal
 
 pub from_intervals-requires : goal.from_intervals-requires
@@ -13,5 +13,7 @@ from_intervals-requires c =
 pub returns-clause-denoted : goal.returns-clause-denoted
 returns-clause-denoted c =
     let there : IsTrue c.in_ok-read_common.field-0 = search rules in
-    subst (λ (t : List ℕ). IfSome c.from_intervals.result (λ range. range ≡ denotes MAX_SAFE_INTEGER t)) c.as_bytes.ensures.value
-    (common_denoted MAX_SAFE_INTEGER c.as_bytes.result.now c.read_common.new.found.items c.from_intervals.result (c.in_ok-read_common.ensures.some there) c.from_intervals.ensures)
+    subst (λ (t : List ℕ). IsUtf8 t → IfSome c.from_intervals.result (Means MAX_SAFE_INTEGER t)) c.as_bytes.ensures.value
+    (λ u. common_means MAX_SAFE_INTEGER c.as_bytes.result.now c.read_common.new.found.items c.from_intervals.result u
+    (c.in_ok-read_common.ensures.some there) c.from_intervals.ensures)
+    c.utf8.text

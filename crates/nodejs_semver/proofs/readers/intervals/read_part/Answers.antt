@@ -4,7 +4,7 @@ use Rattle.semver_core.specs.Cuts.{Span}
 use Rattle.semver_core.specs.Values.Versions.{VersionValue}
 use Rattle.semver_core.specs.declared.TheConstants.{MAX_SAFE_INTEGER}
 use Rattle.nodejs_semver.specs.Internal.Meets.{next_at}
-use Rattle.nodejs_semver.specs.Text.Denotes.{part_intervals}
+use Rattle.nodejs_semver.specs.Internal.Denotes.{part_intervals}
 use Rattle.nodejs_semver.proofs.Dividing.PartSteps.{part-begins, part-first, part-last, part-passes, read-is, read-next, read-shorter, read-starts}
 use Rattle.nodejs_semver.proofs.readers.intervals.read_part.Goals as goal
 

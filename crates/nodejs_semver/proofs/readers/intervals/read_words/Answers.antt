@@ -4,7 +4,7 @@ use Rattle.semver_core.specs.Cuts.{Span}
 use Rattle.semver_core.specs.Values.Order.{precedence}
 use Rattle.semver_core.specs.Values.Versions.{VersionValue}
 use Rattle.semver_core.specs.declared.TheConstants.{MAX_SAFE_INTEGER}
-use Rattle.nodejs_semver.specs.Text.Denotes.{part_bounds}
+use Rattle.nodejs_semver.specs.Internal.Denotes.{part_bounds}
 use Rattle.nodejs_semver.specs.Internal.Meets.{joined_from}
 use Rattle.nodejs_semver.proofs.Dividing.PartSteps.{bounds-none, bounds-some, read-is, read-shorter, read-starts, words-last}
 use Rattle.nodejs_semver.proofs.readers.intervals.read_words.Goals as goal

@@ -1,7 +1,7 @@
 use Rattle.std.proofs.Common.{◌≡◌, ◌++◌, ◌∷◌}
 use Rattle.std.specs.Prelude.{flat_map}
 use Rattle.semver_core.specs.declared.TheConstants.{MAX_SAFE_INTEGER}
-use Rattle.nodejs_semver.specs.Text.Denotes.{part_denotes}
+use Rattle.nodejs_semver.specs.Internal.Denotes.{part_denotes}
 use Rattle.nodejs_semver.specs.Internal.PartFronts.{later_parts, left_over}
 use Rattle.nodejs_semver.specs.Internal.Readings.{rest_view}
 use Rattle.nodejs_semver.proofs.readers.loose.add_parts.Given as goal
