@@ -4,8 +4,9 @@
     tools/allocation_failures.py
 
 `allocation_failures` prints a line for each call: each one must be the line of `stdout`, or say `memory` in place of what
-the call returned, or that the values could not be made. `semver_lines` must write a beginning of its answers, whole ones,
-and exit with 1, or write them all and exit with 0. Prints how many requests each call makes.
+the call returned, or that the values could not be made. A call that is promised to allocate nothing must make no request:
+neither one that is refused nor one whose refusal it ignores. `semver_lines` must write a beginning of its answers, whole
+ones, and exit with 1, or write them all and exit with 0. Prints how many requests each call makes.
 """
 import collections, os, pathlib, re, shutil, subprocess, sys, tempfile
 
@@ -21,6 +22,9 @@ NEVER = [
     "Range::any: * from *",
     "IncrementError::copy: increment would overflow a version component"
     " from increment would overflow a version component",
+    "Identifier::copy_list: [] from 1.2.3",
+    "Range::parse: nothing from foo", "range_loose: nothing from foo", "range_fast: nothing from foo",
+    "Range::parse: * from ||", "range_fast: nothing from ||",
 ]
 
 # The calls whose line has another name: the call fails before the one that the line names.
@@ -102,34 +106,44 @@ def fault_of(lines, wanted, requests):
         return f"allocates: {missing[0]}"
     return None
 
+def faults_of_counts(wanted, counts):
+    """What is wrong with the numbers of requests up to each line: a call that is promised to make none makes one."""
+    if len(counts) != len(wanted) + 1:
+        return ["not one count of requests for each line"]
+    made = [after - before for before, after in zip([0, *counts], counts)]
+    return [f"makes {n} requests: {line}" for line, n in zip(wanted, made) if n and line in NEVER]
+
 def check_calls(shim, program, wanted):
     _, ample, log = run(shim, program, log=True)
     if ample.decode() != wanted:
         sys.exit("with ample memory the lines are not those of `stdout`")
     wanted = wanted.splitlines()
+    *_, log = counts = [int(count) for count in log.split()]
     requests = collections.Counter()
     bad = [f"`stdout` has no line: {line}" for line in NEVER if line not in wanted]
-    for at in range(1, int(log) + 1):
+    bad += faults_of_counts(wanted, counts)
+    for at in range(1, log + 1):
         status, out, _ = run(shim, program, at)
         fault = fault_of(out.decode().splitlines(), wanted, requests)
         if status != 0 or fault:
             bad.append(f"request {at}: status {status}, {fault}")
-    _, out, _ = run(shim, program, int(log) + 1)
+    _, out, _ = run(shim, program, log + 1)
     if out != ample:
         bad.append("a run that meets no failure differs")
-    return int(log), requests, bad
+    return log, requests, bad
 
 def check_lines(shim, program):
     status, ample, log = run(shim, program, log=True, text=LINES)
+    log = int(log.split()[-1])
     if status != 0 or ample != ANSWERS:
         sys.exit("with ample memory `semver_lines` does not write its answers")
     bad = []
-    for at in range(1, int(log) + 1):
+    for at in range(1, log + 1):
         status, out, said = run(shim, program, at, text=LINES)
         whole = ample.startswith(out) and (not out or out.endswith(b"\n"))
         if said or not whole or status != (0 if out == ample else 1):
             bad.append(f"request {at} of semver_lines: status {status}, {out!r}")
-    return int(log), bad
+    return log, bad
 
 def main():
     cc = shutil.which("cc")

@@ -1,6 +1,9 @@
 // Preloaded into a program: request REFUSE_AT for memory, counted from 1, is refused.
-// With REFUSE_LOG the number of requests is written to standard error at the end.
+// With REFUSE_LOG the number of requests so far is written to standard error at each line that the
+// program writes to standard output, and at the end.
+#define _GNU_SOURCE
 #include <stdlib.h>
+#include <sys/syscall.h>
 #include <unistd.h>
 
 extern void *__libc_malloc(size_t size);
@@ -21,7 +24,7 @@ void *malloc(size_t size) { return refuses() ? NULL : __libc_malloc(size); }
 
 void *realloc(void *block, size_t size) { return refuses() ? NULL : __libc_realloc(block, size); }
 
-__attribute__((destructor)) static void log_count(void) {
+static void log_count(void) {
     if (!getenv("REFUSE_LOG"))
         return;
     char text[24];
@@ -32,5 +35,13 @@ __attribute__((destructor)) static void log_count(void) {
         text[--at] = '0' + left % 10;
         left /= 10;
     } while (left);
-    (void)!write(2, text + at, sizeof text - at);
+    syscall(SYS_write, 2, text + at, sizeof text - at);
 }
+
+ssize_t write(int fd, const void *data, size_t size) {
+    if (fd == 1 && size && ((const char *)data)[size - 1] == '\n')
+        log_count();
+    return syscall(SYS_write, fd, data, size);
+}
+
+__attribute__((destructor)) static void log_last_count(void) { log_count(); }

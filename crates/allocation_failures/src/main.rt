@@ -3,6 +3,7 @@
 //! allocation after another failing.
 #![tactic(auto)]
 
+mod laws;
 mod ranges;
 mod show;
 mod texts;

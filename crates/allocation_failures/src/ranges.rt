@@ -1,6 +1,7 @@
 // The calls on ranges and on intervals.
 
-use crate::show::{Outcome, found, no_values, read, show};
+use crate::laws;
+use crate::show::{Both, Outcome, found, no_values, read, show};
 use nodejs_semver::cuts::{Bound, Interval};
 use nodejs_semver::readers::{is_blank, range_fast, range_loose};
 use nodejs_semver::{Range, Version};
@@ -25,6 +26,7 @@ pub fn show_all(rt: &impl Print, alloc: Global) -> io::Result<()> {
         algebra(rt, alloc, one, other)?;
     }
     choices(rt, alloc, THREE)?;
+    laws::show_all(rt, alloc, THREE, FIVE)?;
     for (one, other) in [
         ("1.0.0-a.1.b+c.2.d", "2.0.0-b.1.c+d.2.e"),
         ("1.5.0-c.1.d+e.2.f", "3.0.0-d.1.e+f.2.g"),
@@ -48,23 +50,27 @@ fn algebra(rt: &impl Print, alloc: Global, one: &str, other: &str) -> io::Result
     let Ok(other) = Range::parse(alloc, other) else {
         return no_values(rt, "algebra");
     };
+    let both = Both {
+        one: &one,
+        other: &other,
+    };
     show(
         rt,
         "Range::intersect",
         found(one.intersect(alloc, &other)),
-        &one,
+        &both,
     )?;
     show(
         rt,
         "Range::difference",
         found(one.difference(alloc, &other)),
-        &other,
+        &both,
     )?;
     show(
         rt,
         "Range::least_beyond",
         found(one.least_beyond(alloc, &other)),
-        &one,
+        &both,
     )
 }
 
@@ -106,6 +112,10 @@ fn intervals(rt: &impl Print, alloc: Global, lower: &str, upper: &str) -> io::Re
         one.intersect(alloc, &other),
         lower,
     )?;
+    show_interval(rt, "Interval::clip", one.clip(alloc, &other), lower)?;
+    if let Some(part) = one.common_part(&other) {
+        show_interval(rt, "Part::copy", part.copy(alloc).map(Some), lower)?;
+    }
     match one.subtract(alloc, &other) {
         Ok((below, above)) => {
             show_interval(rt, "Interval::subtract, below", Ok(below), lower)?;

@@ -3,7 +3,7 @@
 use nodejs_semver::Failure;
 use std::alloc::AllocError;
 use std::fmt::{Debug, Display};
-use std::io;
+use std::{fmt, io};
 
 /// What a call returned.
 #[derive(Drop)]
@@ -37,6 +37,21 @@ pub fn read<T, E: Drop>(returned: Result<T, Failure<E>>) -> Outcome<T> {
         Ok(value) => Outcome::Value(value),
         Err(Failure::Refused(_)) => Outcome::Nothing,
         Err(Failure::Memory(_)) => Outcome::Memory,
+    }
+}
+
+/// Two values that a call borrowed.
+#[derive(Clone, Copy)]
+pub struct Both<'a, B> {
+    pub one: &'a B,
+    pub other: &'a B,
+}
+
+impl<'a, B: Display> Display for Both<'a, B> {
+    fn fmt<W: fmt::Write>(&self, f: &mut fmt::Formatter<W>) -> fmt::Result {
+        let one = self.one;
+        let other = self.other;
+        write!(f, "{one} and {other}")
     }
 }
 

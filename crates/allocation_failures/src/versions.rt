@@ -2,7 +2,7 @@
 
 use crate::show::{Outcome, found, no_values, read, show, show_debug};
 use nodejs_semver::readers::{version_fast, version_loose};
-use nodejs_semver::{Failure, IncrementError, Version, VersionParts};
+use nodejs_semver::{Failure, Identifier, IncrementError, Version, VersionParts};
 use semver_core::scan;
 use std::alloc::Global;
 use std::io;
@@ -64,10 +64,7 @@ fn identifiers(rt: &impl Print, alloc: Global, text: &str, at: usize) -> io::Res
         return no_values(rt, "scan::identifiers");
     }
     match scan::identifiers(alloc, text, at) {
-        Ok(Some((list, end))) => println!(rt;
-            "scan::identifiers: {} to {end} from {text}",
-            list.len()
-        ),
+        Ok(Some((list, end))) => println!(rt; "scan::identifiers: {list:?} to {end} from {text}"),
         Ok(None) => println!(rt; "scan::identifiers: nothing from {text}"),
         Err(_) => println!(rt; "scan::identifiers: memory from {text}"),
     }
@@ -108,6 +105,12 @@ fn copy(rt: &impl Print, alloc: Global, text: &str) -> io::Result<()> {
         rt,
         "Version::copy",
         Outcome::from(version.copy(alloc)),
+        &version,
+    )?;
+    show_debug(
+        rt,
+        "Identifier::copy_list",
+        Outcome::from(Identifier::copy_list(alloc, version.pre_release())),
         &version,
     )?;
     for identifier in version.build() {

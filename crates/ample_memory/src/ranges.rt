@@ -1,0 +1,95 @@
+// The calls on ranges and on intervals.
+
+use crate::ample::Calls;
+use crate::{json, texts};
+use nodejs_semver::cuts::Interval;
+use nodejs_semver::laws::both_readers;
+use nodejs_semver::laws::headline::headline;
+use nodejs_semver::readers::{is_blank, range_fast, range_loose};
+use nodejs_semver::{Range, Version};
+use std::alloc::{AllocError, Global};
+
+/// Makes each call on ranges about ranges of so many intervals, with and without build metadata.
+pub fn ask_many(alloc: Global, calls: &mut Calls, count: usize) -> Result<(), AllocError> {
+    for behind in ["", "+b", " foo", " 1"] {
+        ask(alloc, calls, &texts::range(alloc, count, behind)?)?;
+    }
+    Ok(())
+}
+
+/// Makes each call on ranges about one of so many bytes: in one identifier, in one malformed word,
+/// in one number, and in whitespace.
+pub fn ask_long(alloc: Global, calls: &mut Calls, length: usize) -> Result<(), AllocError> {
+    for (beginning, letter) in [
+        ("^1.2.3-", 'a'),
+        ("1.2.3+", 'a'),
+        ("2.0.0-b - 1.0.0-", 'a'),
+        ("1 f", 'o'),
+        ("^0", '0'),
+        ("^1", '1'),
+        ("||1", ' '),
+        ("1", '|'),
+    ] {
+        ask(
+            alloc,
+            calls,
+            &texts::long(alloc, beginning, letter, length)?,
+        )?;
+    }
+    Ok(())
+}
+
+// Makes each call on ranges about that of a text.
+fn ask(alloc: Global, calls: &mut Calls, text: &str) -> Result<(), AllocError> {
+    calls.answered(headline(alloc, text, "^3 || 5.x"))?;
+    calls.made(both_readers(alloc, text))?;
+    calls.made(range_fast(alloc, text))?;
+    if !is_blank(text) {
+        calls.made(range_loose(alloc, text))?;
+    }
+    let Some(range) = calls.answered(Range::parse(alloc, text))? else {
+        return Ok(());
+    };
+    calls.made(range.copy(alloc))?;
+    calls.made(range.min_version(alloc))?;
+    json::ask_range(alloc, calls, &range)?;
+    for other in ["*", "^1.5.0-b+c || 3.2.x || ^7.0.0-0", "<0.0.0-0"] {
+        if let Some(other) = calls.answered(Range::parse(alloc, other))? {
+            pair(alloc, calls, &range, &other)?;
+            pair(alloc, calls, &other, &range)?;
+        }
+    }
+    Ok(())
+}
+
+// Makes each call on two ranges, and on their first intervals.
+fn pair(alloc: Global, calls: &mut Calls, one: &Range, other: &Range) -> Result<(), AllocError> {
+    calls.made(one.intersect(alloc, other))?;
+    calls.made(one.difference(alloc, other))?;
+    calls.made(one.least_beyond(alloc, other))?;
+    match (one.intervals().first(), other.intervals().first()) {
+        (Some(one), Some(other)) => intervals(alloc, calls, one, other),
+        _ => Ok(()),
+    }
+}
+
+// Makes each call on two intervals.
+fn intervals(
+    alloc: Global,
+    calls: &mut Calls,
+    one: &Interval<Version>,
+    other: &Interval<Version>,
+) -> Result<(), AllocError> {
+    calls.made(one.lower().copy(alloc))?;
+    calls.made(one.copy(alloc))?;
+    calls.made(one.intersect(alloc, other))?;
+    calls.made(one.clip(alloc, other))?;
+    calls.made(one.subtract(alloc, other))?;
+    match one.common_part(other) {
+        Some(part) => {
+            calls.made(part.copy(alloc))?;
+            Ok(())
+        }
+        None => Ok(()),
+    }
+}
