@@ -33,7 +33,7 @@ module _ {V : Type 0} {R : V → V → Ordering} (o : IsTotalOrder R) where
   list_holds-meets_of ss ts v =
       any_flat _ _ ss
       ∙ any_same _ _ (λ s. any_flat _ _ ts ∙ any_same _ (λ t. holds R s v && holds R t v)
-          (λ t. holds_option (meet R s t) v ∙ option_holds-meet o s t v) ts) ss
+      (λ t. holds_option (meet R s t) v ∙ option_holds-meet o s t v) ts) ss
       ∙ any_pairs (λ s. holds R s v) (λ t. holds R t v) ss ts
 
   minus_one : (ss : List (Span V)) (t : Span V) (v : V) → list_holds R
@@ -102,11 +102,11 @@ lets_in_one s t v h =
 -- what two spans have in common admits what both hold and one lets in
 admits-meet : (s t : Span VersionValue) (v : VersionValue)
     → list_any (admits v) (option_to_list (meet precedence s t)) ≡ ((holds precedence s v && holds precedence t v) && (lets_in s
-        v || lets_in t v))
+    v || lets_in t v))
 admits-meet s t v =
     any_interval (admits v) (both s t)
     ∙ exact _ _ _ _ _ _ held (sym (option_holds-interval precedence_total (both s t) v)
-        ∙ option_holds-meet precedence_total s t v) (lets_in_one s t v) (lets_in-meet s t v)
+    ∙ option_holds-meet precedence_total s t v) (lets_in_one s t v) (lets_in-meet s t v)
   where
     exact : (i h l p q m : Bool) → (h ≡ true → i ≡ true) → h ≡ (p && q) → (l ≡ true → m ≡ true)
         → (p ≡ true → q ≡ true → m ≡ true → l ≡ true) → (i && (h && l)) ≡ ((p && q) && m)
@@ -118,7 +118,7 @@ admits-meet s t v =
 
 accepts-meets_of : (ss ts : List (Span VersionValue)) (v : VersionValue)
     → accepts (meets_of precedence ss ts) v false ≡ list_any (λ s. list_any
-        (λ t. (holds precedence s v && holds precedence t v) && (lets_in s v || lets_in t v)) ts) ss
+    (λ t. (holds precedence s v && holds precedence t v) && (lets_in s v || lets_in t v)) ts) ss
 accepts-meets_of ss ts v = any_flat (admits v) _ ss ∙ any_same _ _
     (λ s. any_flat (admits v) _ ts ∙ any_same _ _ (λ t. admits-meet s t v) ts) ss
 
@@ -134,7 +134,7 @@ both_accept ss ts v h k =
     option_accepts-if_any (meets_of precedence ss ts) v false
     ∙ accepts-meets_of ss ts v
     ∙ any_weaker (admits v) _ (λ s a. any_weaker (admits v) _
-        (λ t b. both_in (holds precedence s v) (lets_in s v) (holds precedence t v) (lets_in t v) a b) ts k) ss h
+    (λ t b. both_in (holds precedence s v) (lets_in s v) (holds precedence t v) (lets_in t v) a b) ts k) ss h
   where
     both_in : (p l q m : Bool) → (p && l) ≡ true → (q && m) ≡ true → ((p && q) && (l || m)) ≡ true
     both_in p l q m f g = grind arith
@@ -143,7 +143,7 @@ pub one_accepts : (ss ts : List (Span VersionValue)) (v : VersionValue)
     → option_accepts (if_any (meets_of precedence ss ts)) v false ≡ true → (accepts ss v false || accepts ts v false) ≡ true
 one_accepts ss ts v h =
     any_either _ (admits v) (admits v) (λ s t. one_in (holds precedence s v) (lets_in s v) (holds precedence t v)
-        (lets_in t v)) ss ts
+    (lets_in t v)) ss ts
     (sym (option_accepts-if_any (meets_of precedence ss ts) v false ∙ accepts-meets_of ss ts v) ∙ h)
   where
     one_in : (p l q m : Bool) → ((p && q) && (l || m)) ≡ true → ((p && l) || (q && m)) ≡ true
@@ -154,7 +154,7 @@ remainder_admits : (s t : Span VersionValue) (v : VersionValue) → admits v s �
     → list_any (admits v) (remainder precedence s t) ≡ true
 remainder_admits s t v h k =
     remainders_by precedence_total s t (λ r. list_any (admits v) (option_to_list r.0 ++ option_to_list r.1) ≡ true) met
-        (λ _. or_left (admits v s) false h)
+    (λ _. or_left (admits v s) false h)
   where
     at : (is_past precedence (lower_cut s.lower) v ≡ true) × (is_past precedence (upper_cut s.upper) v ≡ false)
     at = let (p, q) = and_parts _ _ (and_parts (holds precedence s v) _ h).0 in (p, not-true _ q)
@@ -177,7 +177,7 @@ remainder_admits s t v h k =
         let i = past_below precedence_total (lower_cut s.lower) (lower_cut t.lower) v at.0 e in
         let turned = turned_lower precedence_total t.lower (lower_cut s.lower) i in
         rw (i, turned) (kept _ _ (is_release v) (names s.lower v) (names s.upper v) _ at.0 e let_in
-            (λ n. names_below s.upper t.lower v n m e))
+        (λ n. names_below s.upper t.lower v n m e))
 
     above : lt precedence_total (lower_cut s.lower) (upper_cut t.upper) ≡ true → is_past precedence (upper_cut t.upper) v ≡ true
         → list_any (admits v) (option_to_list (left_above precedence s t)) ≡ true
@@ -185,7 +185,7 @@ remainder_admits s t v h k =
         let i = past_below precedence_total (upper_cut t.upper) (upper_cut s.upper) v e at.1 in
         let turned = turned_upper precedence_total t.upper (upper_cut s.upper) i in
         rw (i, turned) (kept_above _ _ (is_release v) (names s.lower v) (names s.upper v) _ e at.1 let_in
-            (λ r n. names_above s.lower t.upper v r n m e))
+        (λ r n. names_above s.lower t.upper v r n m e))
 
     met : is_interval precedence (both s t) ≡ true → list_any (admits v)
         (option_to_list (left_below precedence s t) ++ option_to_list (left_above precedence s t)) ≡ true
@@ -207,7 +207,7 @@ accepts-minus ss [] v h k = h
 accepts-minus ss (t ∷ ts) v h k =
     let (here, there) = or_parts (holds precedence t v) (list_holds precedence ts v) k in
     accepts-minus (flat_map (λ s. remainder precedence s t) ss) ts v
-        (any_flat (admits v) _ ss ∙ any_weaker (admits v) _ (λ s a. remainder_admits s t v a here) ss h) there
+    (any_flat (admits v) _ ss ∙ any_weaker (admits v) _ (λ s a. remainder_admits s t v a here) ss h) there
 
 -- of releases a list accepts those that it holds, and all with pre-releases included
 pub accepts-release : (ss : List (Span VersionValue)) (v : VersionValue) → is_release v ≡ true

@@ -73,7 +73,7 @@ meets_of-valid a b xs ys found h k p q e =
     ap (λ zs. list_all (is_range_span (MAX_SAFE_INTEGER + 1)) zs) e
     ∙ fine-meets_of precedence_total (is_range_bound (MAX_SAFE_INTEGER + 1)) xs ys
     (ap (λ zs. list_all (is_range_span (MAX_SAFE_INTEGER + 1)) zs) p ∙ h.each)
-        (ap (λ zs. list_all (is_range_span (MAX_SAFE_INTEGER + 1)) zs) q ∙ k.each)
+    (ap (λ zs. list_all (is_range_span (MAX_SAFE_INTEGER + 1)) zs) q ∙ k.each)
 
 pub minus-valid : (a b xs ys left : List (Span VersionValue)) → IsRange MAX_SAFE_INTEGER a → IsRange MAX_SAFE_INTEGER b → xs ≡ a
     → ys ≡ b → left ≡ minus precedence xs ys → list_all (is_range_span (MAX_SAFE_INTEGER + 1)) left ≡ true
@@ -81,7 +81,7 @@ minus-valid a b xs ys left h k p q e =
     ap (λ zs. list_all (is_range_span (MAX_SAFE_INTEGER + 1)) zs) e
     ∙ fine-minus precedence_total (is_range_bound (MAX_SAFE_INTEGER + 1)) xs ys
     (ap (λ zs. list_all (is_range_span (MAX_SAFE_INTEGER + 1)) zs) p ∙ h.each)
-        (ap (λ zs. list_all (is_range_span (MAX_SAFE_INTEGER + 1)) zs) q ∙ k.each)
+    (ap (λ zs. list_all (is_range_span (MAX_SAFE_INTEGER + 1)) zs) q ∙ k.each)
 
 -- the spans of a range are intervals
 pub all_intervals : (n : ℕ) (ss : List (Span VersionValue)) → list_all (is_range_span n) ss ≡ true

@@ -48,9 +48,9 @@ module _ {A : Type 0} where
       → (m ≡ false → i ≡ true → met ≡ false)
       → (m ≡ true → i ≡ false → (lower ≡ false) × (upper ≡ false))
       → (m ≡ true → i ≡ true → met ≡ true → ((lower ≡ below) × (lower ≡ true → l2 ≡ l))
-          × ((upper ≡ above) × (upper ≡ true → u2 ≡ u)))
+      × ((upper ≡ above) × (upper ≡ true → u2 ≡ u)))
       → (m ≡ true → i ≡ true → met ≡ false → ((lower ≡ false) × ((upper ≡ true) × (u2 ≡ x)))
-          ⊎ ((lower ≡ true) × ((l2 ≡ x) × (upper ≡ false))))
+      ⊎ ((lower ≡ true) × ((l2 ≡ x) × (upper ≡ false))))
       → (if i then rest met below above x l u else []) ≡ (if m then (pick lower l2 ++ pick upper u2) else pick i x)
   cases_agree false false met below above lower upper x l u l2 u2 f1 f2 f3 f4 = refl
   cases_agree true false met below above lower upper x l u l2 u2 f1 f2 f3 f4 = ap (λ q. rest q below above x l u) (f1 refl refl)
@@ -58,7 +58,7 @@ module _ {A : Type 0} where
       sym (ap (λ q. pick q l2 ++ pick upper u2) (f2 refl refl).0 ∙ ap (λ q. pick q u2) (f2 refl refl).1)
   cases_agree true true true below above lower upper x l u l2 u2 f1 f2 f3 f4 =
       sym (ap (λ q. q ++ pick upper u2) (same lower below l2 l (f3 refl refl refl).0.0 (f3 refl refl refl).0.1)
-          ∙ ap (λ q. pick below l ++ q) (same upper above u2 u (f3 refl refl refl).1.0 (f3 refl refl refl).1.1))
+      ∙ ap (λ q. pick below l ++ q) (same upper above u2 u (f3 refl refl refl).1.0 (f3 refl refl refl).1.1))
     where
       same : (p q : Bool) (y z : A) → p ≡ q → (p ≡ true → y ≡ z) → pick p y ≡ pick q z
       same true q y z e h = ap (λ (w : A). w ∷ []) (h refl) ∙ ap (λ b. pick b z) e
@@ -105,8 +105,8 @@ module _ {V : Type 0} {R : V → V → Ordering} (o : IsTotalOrder R) where
       (part_above s t)
   remainder_rest s t =
       remainders_by o s t (λ r. (option_to_list r.0 ++ option_to_list r.1) ≡ rest (is_interval R (both s t))
-          (lt o (lower_cut s.lower) (lower_cut t.lower)) (lt o (upper_cut t.upper) (upper_cut s.upper)) s (part_below s t)
-          (part_above s t))
+      (lt o (lower_cut s.lower) (lower_cut t.lower)) (lt o (upper_cut t.upper) (upper_cut s.upper)) s (part_below s t)
+      (part_above s t))
       (λ h. rw h refl) (λ h. rw h refl)
 
   -- a span s, a piece c of the line, and what is taken away, t
@@ -185,18 +185,18 @@ module _ {V : Type 0} {R : V → V → Ordering} (o : IsTotalOrder R) where
     not_met h k = not_if _ _ (λ e.
         let p = in_met e in
         between_from o c.lower t.lower c.upper t.upper (in_clip k).0.1 p.0.0 p.1.1
-            (between_parts o x.lower t.lower x.upper t.upper e).1.1) h
+        (between_parts o x.lower t.lower x.upper t.upper e).1.1) h
 
     not_there : is_interval R (both c t) ≡ true → is_interval R x ≡ false → (lower ≡ false) × (upper ≡ false)
     not_there h k = (
       not_if lower _ (λ e.
           let p = in_lower e in
           between_from o c.lower s.lower s.upper c.upper p.0.0 (in_meet h).0.0 p.1.0
-              (lt_trans o sl tl cu p.1.1 (in_meet h).1.0)) k,
+          (lt_trans o sl tl cu p.1.1 (in_meet h).1.0)) k,
       not_if upper _ (λ e.
           let p = in_upper e in
           between_from o c.lower s.lower s.upper c.upper (lt_trans o cl tu su (in_meet h).0.1 p.0.0)
-              (in_meet h).0.0 p.1.0 p.1.1) k,
+          (in_meet h).0.0 p.1.0 p.1.1) k,
     )
 
     abbrev below : Bool
@@ -212,7 +212,7 @@ module _ {V : Type 0} {R : V → V → Ordering} (o : IsTotalOrder R) where
         let g = (in_met e).1.0 in (
           both_ways lower below (λ h. greater_below o c.lower s.lower tl ∙ and_from _ _ (in_lower h).0.1 (in_lower h).1.1)
               (λ h. let r = and_parts (lt o cl tl) (lt o sl tl) (sym (greater_below o c.lower s.lower tl) ∙ h) in
-                  lower_from q.0.0 r.0 q.1.0 r.1),
+              lower_from q.0.0 r.0 q.1.0 r.1),
           λ h. ap (λ (b : Bound V). record { lower = x.lower; upper = b })
               (upper_second s.upper t.lower (ap (λ a. lt o a su) (turned_lower o t.lower cl (in_lower h).0.1) ∙ g)),
         )
@@ -224,7 +224,7 @@ module _ {V : Type 0} {R : V → V → Ordering} (o : IsTotalOrder R) where
         let f = (in_met e).0.1 in (
           both_ways upper above (λ h. below_lesser o s.upper c.upper tu ∙ and_from _ _ (in_upper h).0.0 (in_upper h).0.1)
               (λ h. let r = and_parts (lt o tu su) (lt o tu cu) (sym (below_lesser o s.upper c.upper tu) ∙ h) in
-                  upper_from r.0 r.1 q.1.0 q.1.1),
+              upper_from r.0 r.1 q.1.0 q.1.1),
           λ h. ap (λ (b : Bound V). record { lower = b; upper = x.upper })
               (lower_first t.upper s.lower (ap (λ a. lt o sl a) (turned_upper o t.upper cu (in_upper h).0.1) ∙ f)),
         )
@@ -241,7 +241,7 @@ module _ {V : Type 0} {R : V → V → Ordering} (o : IsTotalOrder R) where
             upper_from (upto_below o tu sl su f i.1.0) reach i.1.0 i.1.1,
             ap (λ (b : Bound V). record { lower = b; upper = x.upper })
                 (lower_second t.upper s.lower (ap (λ a. lt o sl a) (turned_upper o t.upper cu reach) ∙ f)
-                    ∙ sym (lower_second c.lower s.lower (not_above o sl cl tu m.0.1 f))),
+                ∙ sym (lower_second c.lower s.lower (not_above o sl cl tu m.0.1 f))),
           ),
         )
 
@@ -255,7 +255,7 @@ module _ {V : Type 0} {R : V → V → Ordering} (o : IsTotalOrder R) where
           (
             ap (λ (b : Bound V). record { lower = x.lower; upper = b })
                 (upper_first s.upper t.lower (ap (λ a. lt o a su) (turned_lower o t.lower cl reach) ∙ g)
-                    ∙ sym (upper_first s.upper c.upper (not_below o tl cu su m.1.0 g))),
+                ∙ sym (upper_first s.upper c.upper (not_below o tl cu su m.1.0 g))),
             not_if upper _ (λ e. (in_upper e).0.0) (not_below o tl tu su m.1.1 g),
           ),
         )
@@ -269,8 +269,8 @@ module _ {V : Type 0} {R : V → V → Ordering} (o : IsTotalOrder R) where
         | inl g ↦
             let m = in_meet h in
             absurd (false≢true (sym n ∙ (between_from o x.lower t.lower x.upper t.upper k
-                (greater_below o c.lower s.lower tu ∙ and_from _ _ m.0.1 f)
-                (below_lesser o s.upper c.upper tl ∙ and_from _ _ g m.1.0) m.1.1)))
+            (greater_below o c.lower s.lower tu ∙ and_from _ _ m.0.1 f)
+            (below_lesser o s.upper c.upper tl ∙ and_from _ _ g m.1.0) m.1.1)))
       ]
     ]
 
@@ -280,15 +280,15 @@ module _ {V : Type 0} {R : V → V → Ordering} (o : IsTotalOrder R) where
         flat_pick (λ m. remainder R m t) (is_interval R x) x
         ∙ ap (λ l. if is_interval R x then l else []) (remainder_rest x t)
         ∙ cases_agree (is_interval R x) (is_interval R (both c t)) (is_interval R (both x t)) below above lower upper x
-            (part_below x t) (part_above x t) cut_below cut_above
+        (part_below x t) (part_above x t) cut_below cut_above
         not_met not_there (λ h k e. (met_lower k e, met_upper k e)) missed
         ∙ sym (ap (λ l. if is_interval R (both c t) then (l ++ pick upper cut_above) else pick (is_interval R x) x)
-            (nested (lt o cl tl) (is_interval R cut_below) cut_below))
+        (nested (lt o cl tl) (is_interval R cut_below) cut_below))
         ∙ sym (ap (λ l. if is_interval R (both c t) then ((if lt o cl tl then pick
-            (is_interval R cut_below) cut_below else []) ++ l) else pick (is_interval R x) x)
-            (nested (lt o tu cu) (is_interval R cut_above) cut_above))
+        (is_interval R cut_below) cut_below else []) ++ l) else pick (is_interval R x) x)
+        (nested (lt o tu cu) (is_interval R cut_above) cut_above))
         ∙ sym (flat_rest (λ d. option_to_list (clip R s d)) (is_interval R (both c t)) (lt o cl tl) (lt o tu cu) c
-            (part_below c t) (part_above c t))
+        (part_below c t) (part_above c t))
         ∙ sym (ap (λ l. clips l s) (remainder_rest c t))
 
   -- and so for lists
@@ -306,7 +306,7 @@ module _ {V : Type 0} {R : V → V → Ordering} (o : IsTotalOrder R) where
   minus_clips cs ss (t ∷ ts) =
       ap (λ l. minus R l ts)
       (flat_flat (λ s. remainder R s t) (clips cs) ss ∙ flat_same _ (clips (flat_map (λ c. remainder R c t) cs))
-          (λ s. clips_remainder s t cs) ss)
+      (λ s. clips_remainder s t cs) ss)
       ∙ minus_clips (flat_map (λ c. remainder R c t) cs) ss ts
 
   -- an interval lies within the whole line
@@ -324,9 +324,9 @@ module _ {V : Type 0} {R : V → V → Ordering} (o : IsTotalOrder R) where
   clips_whole s h =
       append-nil (option_to_list (clip R s whole))
       ∙ ap (λ (b : Bound V). pick (is_interval R (record { lower = b; upper = lesser_upper R s.upper Unbounded }))
-          (record { lower = b; upper = lesser_upper R s.upper Unbounded })) (first_whole s.lower)
+      (record { lower = b; upper = lesser_upper R s.upper Unbounded })) (first_whole s.lower)
       ∙ ap (λ (b : Bound V). pick (is_interval R (record { lower = s.lower; upper = b }))
-          (record { lower = s.lower; upper = b })) (second_whole s.upper)
+      (record { lower = s.lower; upper = b })) (second_whole s.upper)
       ∙ ap (λ i. pick i s) h
 
   all_whole : (ss : List (Span V)) → list_all (is_interval R) ss ≡ true → flat_map (clips (whole ∷ [])) ss ≡ ss
@@ -344,7 +344,7 @@ module _ {V : Type 0} {R : V → V → Ordering} (o : IsTotalOrder R) where
   along_remainder a c t cs h =
       subst (λ l. IsAlong R a (l ++ cs)) (sym (remainder_rest c t))
       (parts (is_interval R (both c t)) (lt o (lower_cut c.lower) (lower_cut t.lower))
-          (lt o (upper_cut t.upper) (upper_cut c.upper)) refl refl refl)
+      (lt o (upper_cut t.upper) (upper_cut c.upper)) refl refl refl)
     where
       parts : (m i j : Bool) → is_interval R (both c t) ≡ m → lt o (lower_cut c.lower) (lower_cut t.lower) ≡ i
           → lt o (upper_cut t.upper) (upper_cut c.upper) ≡ j
@@ -447,7 +447,7 @@ module _ {V : Type 0} {R : V → V → Ordering} (o : IsTotalOrder R) where
   pub parted : (s : Span V) (cs : List (Span V)) → IsAlong R Start cs → IsPartitionedBy (falls_short s) cs
   parted s cs h i j d l k e =
       ap not (not_if _ _ (λ p. below_upto o (lower_cut s.lower) (upper_cut (get_or cs i d).upper)
-          (upper_cut (get_or cs j d).upper) p (ends_rise Start cs i j d h l k)) (not-true _ e))
+      (upper_cut (get_or cs j d).upper) p (ends_rise Start cs i j d h l k)) (not-true _ e))
 
   -- nothing is cut where they are apart
   no_clip : (s c : Span V) → is_interval R (clipped s c) ≡ false → option_to_list (clip R s c) ≡ []
@@ -474,9 +474,9 @@ module _ {V : Type 0} {R : V → V → Ordering} (o : IsTotalOrder R) where
   none_past s b [] h k = refl
   none_past s b (c ∷ cs) h k =
       let low : lt o (lower_cut c.lower) (upper_cut s.upper) ≡ false = not_if _ _
-          (λ e. upto_below o b (lower_cut c.lower) (upper_cut s.upper) h.0 e) k in
+      (λ e. upto_below o b (lower_cut c.lower) (upper_cut s.upper) h.0 e) k in
       let up : lt o (upper_cut c.upper) (upper_cut s.upper) ≡ false = not_below o (lower_cut c.lower) (upper_cut c.upper)
-          (upper_cut s.upper) h.1.0 low in
+      (upper_cut s.upper) h.1.0 low in
       ap (λ l. l ++ clips cs s) (past_clip s c low) ∙ none_past s (upper_cut c.upper) cs h.1.1 up
 
   none_of : (s : Span V) (cs : List (Span V)) → lt o (lower_cut s.lower) (upper_cut s.upper) ≡ false → clips cs s ≡ []
@@ -490,7 +490,7 @@ module _ {V : Type 0} {R : V → V → Ordering} (o : IsTotalOrder R) where
 
   stop_at : (s : Span V) (a : Cut V) (es : List (Span V)) (i : ℕ) (d : Span V) → IsAlong R a es → i < length es
       → lt o (lower_cut s.lower) (upper_cut (get_or es i d).upper) ≡ true → clip R s (get_or es i d) ≡ None
-          → clips (take i es) s ≡ clips es s
+      → clips (take i es) s ≡ clips es s
   stop_at s a [] i d h k e n = absurd (omega arith)
   stop_at s a (c ∷ es) (suc i) d h k e n = ap (λ l. option_to_list (clip R s c) ++ l)
       (stop_at s (upper_cut c.upper) es i d h.1.1 (omega arith) e n)
@@ -500,9 +500,9 @@ module _ {V : Type 0} {R : V → V → Ordering} (o : IsTotalOrder R) where
         | inr f ↦ none_of s es f
         | inl t ↦
             let low : lt o (lower_cut c.lower) (upper_cut s.upper) ≡ false = not_if _ _
-                (λ p. between_from o c.lower s.lower s.upper c.upper p h.1.0 t e) apart in
+            (λ p. between_from o c.lower s.lower s.upper c.upper p h.1.0 t e) apart in
             none_past s (upper_cut c.upper) es h.1.1 (not_below o (lower_cut c.lower) (upper_cut c.upper)
-                (upper_cut s.upper) h.1.0 low)
+            (upper_cut s.upper) h.1.0 low)
       ])
 
   along_drop : (a : Cut V) (cs : List (Span V)) (r : ℕ) → IsAlong R a cs → IsAlong R a (drop r cs)
@@ -510,7 +510,7 @@ module _ {V : Type 0} {R : V → V → Ordering} (o : IsTotalOrder R) where
   along_drop a [] (suc r) h = tt
   along_drop a (c ∷ cs) (suc r) h =
       along_lower a (upper_cut c.upper) (drop r cs) (not_below o (lower_cut c.lower) (upper_cut c.upper) a h.1.0 h.0)
-          (along_drop (upper_cut c.upper) cs r h.1.1)
+      (along_drop (upper_cut c.upper) cs r h.1.1)
 
   -- the pieces from the first that does not fall short of s up to one that is past it, or to the last
   module _ (s : Span V) (cs : List (Span V)) (r : ℕ) (b : r ≤ length cs)
@@ -524,7 +524,7 @@ module _ {V : Type 0} {R : V → V → Ordering} (o : IsTotalOrder R) where
         let at : get_or (drop r cs) i d ≡ get_or cs (r + i) d = get_or-drop r cs i d in
         let short = p.1 (r + i) d (omega arith) (omega (arith, length-drop r cs)) in
         stop_at s Start (drop r cs) i d (along_drop Start cs r h) k
-            (ap (λ (q : Span V). lt o (lower_cut s.lower) (upper_cut q.upper)) at ∙ not-false _ short) n
+        (ap (λ (q : Span V). lt o (lower_cut s.lower) (upper_cut q.upper)) at ∙ not-false _ short) n
         ∙ sym (skipped s cs r p.0 b)
 
     none : (part : Option (Span V)) → is_some part ≡ false → part ≡ None
@@ -537,4 +537,4 @@ module _ {V : Type 0} {R : V → V → Ordering} (o : IsTotalOrder R) where
     clips-to_none near i d part e h k at is n =
         ap (λ l. clips (take i l) s) e
         ∙ to_none i d h (subst (λ l. i < length l) e k) (ap (λ l. clip R s (get_or l i d)) (sym e)
-            ∙ ap (λ q. clip R s q) (sym at) ∙ sym is ∙ none part n)
+        ∙ ap (λ q. clip R s q) (sym at) ∙ sym is ∙ none part n)

@@ -69,8 +69,13 @@ pub any_either : {A B : Type 0} (r : A → B → Bool) (p : A → Bool) (q : B �
 any_either r p q h xs ys e =
     let (i, x, l, at, k) = Any-from_list_any (λ x. list_any (r x) ys) xs e in
     let (j, y, m, bt, n) = Any-from_list_any (r x) ys k in
-    grind (arith, h x y n, λ (t : p x ≡ true). list_any_at p xs i x l (ap p at ∙ t), λ (t : q y ≡ true). list_any_at q ys j y m
-        (ap q bt ∙ t))
+    grind (
+      arith,
+      h x y n,
+      λ (t : p x ≡ true). list_any_at p xs i x l (ap p at ∙ t),
+      λ (t : q y ≡ true). list_any_at q ys j y m
+          (ap q bt ∙ t),
+    )
 
 -- an element that passes, where each that does passes another test, or where all do
 pub any_under : {A : Type 0} (p q : A → Bool) (xs : List A) → list_any p xs ≡ true → list_all (λ x. not (p x) || q x) xs ≡ true

@@ -64,6 +64,6 @@ pub denotes_hold : (limit : ℕ) (text : List ℕ) (v : VersionValue)
 denotes_hold limit text v =
     let ps = parts text in
     cond_both (list_all is_empty ps) any_version (flat_map (part_denotes limit) ps)
-        (λ ss. list_holds precedence ss v ≡ writes limit text v)
-        (λ all. sym (first-empty limit v ps (parts-some text) all))
-        (λ _. parts-hold limit v ps)
+    (λ ss. list_holds precedence ss v ≡ writes limit text v)
+    (λ all. sym (first-empty limit v ps (parts-some text) all))
+    (λ _. parts-hold limit v ps)

@@ -40,14 +40,14 @@ module _ {V : Type 0} {R : V → V → Ordering} (o : IsTotalOrder R) (F : Bound
   fine-left_below s t h k =
       cond_both (lt o (lower_cut s.lower) (lower_cut t.lower)) (Some (record { lower = s.lower; upper = t.lower })) None
       (λ m. list_all is_fine (option_to_list m) ≡ true) (λ i. rw (turned_lower o t.lower (lower_cut s.lower) i, i, h, k) refl)
-          (λ _. refl)
+      (λ _. refl)
 
   fine-left_above : (s t : Span V) → F t.upper ≡ true → F s.upper ≡ true
       → list_all is_fine (option_to_list (left_above R s t)) ≡ true
   fine-left_above s t h k =
       cond_both (lt o (upper_cut t.upper) (upper_cut s.upper)) (Some (record { lower = t.upper; upper = s.upper })) None
       (λ m. list_all is_fine (option_to_list m) ≡ true) (λ i. rw (turned_upper o t.upper (upper_cut s.upper) i, i, h, k) refl)
-          (λ _. refl)
+      (λ _. refl)
 
   fine-remainder : (s t : Span V) → is_fine s ≡ true → is_fine t ≡ true → list_all is_fine (remainder R s t) ≡ true
   fine-remainder s t h k =
@@ -56,14 +56,14 @@ module _ {V : Type 0} {R : V → V → Ordering} (o : IsTotalOrder R) (F : Bound
       remainders_by o s t (λ r. list_all is_fine (option_to_list r.0 ++ option_to_list r.1) ≡ true)
       (λ _. list_all-append is_fine (option_to_list (left_below R s t)) (option_to_list (left_above R s t))
       ∙ and_from (list_all is_fine (option_to_list (left_below R s t))) (list_all is_fine (option_to_list (left_above R s t)))
-          (fine-left_below s t a c) (fine-left_above s t d b))
+      (fine-left_below s t a c) (fine-left_above s t d b))
       (λ _. rw h refl)
 
   pub fine-meets_of : (ss ts : List (Span V)) → list_all is_fine ss ≡ true → list_all is_fine ts ≡ true
       → list_all is_fine (meets_of R ss ts) ≡ true
   fine-meets_of ss ts h k =
       all_flat is_fine _ ss ∙ all_weaker is_fine _ (λ s e. all_flat is_fine _ ts
-          ∙ all_weaker is_fine _ (λ t f. fine-meet s t e f) ts k) ss h
+      ∙ all_weaker is_fine _ (λ t f. fine-meet s t e f) ts k) ss h
 
   pub fine-minus : (ss ts : List (Span V)) → list_all is_fine ss ≡ true → list_all is_fine ts ≡ true
       → list_all is_fine (minus R ss ts) ≡ true
@@ -71,4 +71,4 @@ module _ {V : Type 0} {R : V → V → Ordering} (o : IsTotalOrder R) (F : Bound
   fine-minus ss (t ∷ ts) h k =
       let (first, rest) = and_parts (is_fine t) (list_all is_fine ts) k in
       fine-minus (flat_map (λ s. remainder R s t) ss) ts (all_flat is_fine _ ss
-          ∙ all_weaker is_fine _ (λ s e. fine-remainder s t e first) ss h) rest
+      ∙ all_weaker is_fine _ (λ s e. fine-remainder s t e first) ss h) rest

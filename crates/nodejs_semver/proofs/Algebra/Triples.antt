@@ -58,9 +58,14 @@ is_eq_is Greater h = cc
 -- equal numbers are tied ones
 pub same_triple_is : (v w : VersionValue) → same_triple v w ≡ is_eq (triple_cmp v w)
 same_triple_is v w =
-    cc (unsigned_ties v.major w.major, unsigned_ties v.minor w.minor, unsigned_ties v.patch w.patch,
-    is_eq-then (nat_cmp v.major w.major) (ordering_then (nat_cmp v.minor w.minor) (nat_cmp v.patch w.patch)), is_eq-then
-        (nat_cmp v.minor w.minor) (nat_cmp v.patch w.patch))
+    cc (
+      unsigned_ties v.major w.major,
+      unsigned_ties v.minor w.minor,
+      unsigned_ties v.patch w.patch,
+      is_eq-then (nat_cmp v.major w.major) (ordering_then (nat_cmp v.minor w.minor) (nat_cmp v.patch w.patch)),
+      is_eq-then
+          (nat_cmp v.minor w.minor) (nat_cmp v.patch w.patch),
+    )
 
 -- the order of versions goes by the three numbers, and then by the pre-release
 pub in_two_steps : (v w : VersionValue) → precedence v w ≡ ordering_then (triple_cmp v w) (pre_cmp v.pre_release w.pre_release)
@@ -90,7 +95,7 @@ pub triple_between : (w u v : VersionValue) → triple_cmp w v ≡ Equal → is_
     → is_gt (precedence u v) ≡ false → triple_cmp u v ≡ Equal
 triple_between w u v e h k =
     tied (triple_cmp w u) (triple_cmp u v) (triple_total.congr w v u e ∙ triple_total.antisymm v u) (triple_upto w u h)
-        (triple_upto u v k)
+    (triple_upto u v k)
   where
     tied : (r s : Ordering) → r ≡ ordering_reverse s → is_gt r ≡ false → is_gt s ≡ false → s ≡ Equal
     tied r Equal e h k = refl

@@ -38,19 +38,40 @@ split_at set [] (f ∷ fs) bs v h = cc
 split_at set (x ∷ xs) fs bs v h = elim (cases_Bool (set x)) [
   | inr e ↦
       let s = split_at set xs fs bs v (rw e at h) in
-      record { front = x ∷ s.front; back = s.back; divided = ap (λ l. x ∷ l) s.divided; inside = s.inside; fronts =
-          rw e s.fronts; backs = s.backs }
+      record {
+        front = x ∷ s.front;
+        back = s.back;
+        divided = ap (λ l. x ∷ l) s.divided;
+        inside = s.inside;
+        fronts =
+            rw e s.fronts;
+        backs = s.backs;
+      }
   | inl e ↦ taken fs e (rw e at h) (split_at set xs)
 ]
   where
     taken : (fs : List _) → set x ≡ true → (x ∷ filter set xs) ≡ fs ++ v ∷ bs
         → ((fs bs : List _) (v : _) → filter set xs ≡ fs ++ v ∷ bs → SplitAt set xs fs bs v) → SplitAt set (x ∷ xs) fs bs v
-    taken [] e h more = record { front = []; back = xs; divided = ap (λ y. y ∷ xs) (cc h); inside = ap set (sym (cc h))
-        ∙ e; fronts = refl; backs = cc h }
+    taken [] e h more = record {
+      front = [];
+      back = xs;
+      divided = ap (λ y. y ∷ xs) (cc h);
+      inside = ap set (sym (cc h))
+          ∙ e;
+      fronts = refl;
+      backs = cc h;
+    }
     taken (f ∷ fs) e h more =
         let s = more fs bs v (cc h) in
-        record { front = x ∷ s.front; back = s.back; divided = ap (λ l. x ∷ l) s.divided; inside = s.inside; fronts = rw e
-            (ap (λ l. x ∷ l) s.fronts ∙ ap (λ y. y ∷ fs) (cc h)); backs = s.backs }
+        record {
+          front = x ∷ s.front;
+          back = s.back;
+          divided = ap (λ l. x ∷ l) s.divided;
+          inside = s.inside;
+          fronts = rw e
+              (ap (λ l. x ∷ l) s.fronts ∙ ap (λ y. y ∷ fs) (cc h));
+          backs = s.backs;
+        }
 
 -- ---- to pick one after another
 
@@ -73,8 +94,14 @@ module _ (in_front behind : VersionValue → VersionValue → Bool) (pick : Vers
 
   placed : (list front back : List VersionValue) (b : VersionValue) (xs : List VersionValue) → list ≡ (front ++ b ∷ back) ++ xs
       → list_all (λ w. in_front w b) front ≡ true → list_all (λ w. behind w b) back ≡ true → Placed list (fold pick b xs)
-  placed list front back b [] e h k = record { front = front; back = back; divided = e
-      ∙ append-nil (front ++ b ∷ back); before = h; after = k }
+  placed list front back b [] e h k = record {
+    front = front;
+    back = back;
+    divided = e
+        ∙ append-nil (front ++ b ∷ back);
+    before = h;
+    after = k;
+  }
   placed list front back b (x ∷ xs) e h k = elim (picks.choice b x) [
     | inl (is, t) ↦
         rw is (placed list (front ++ b ∷ back) [] x xs (e ∙ sym (append_assoc (front ++ b ∷ back) (x ∷ []) xs))
@@ -84,7 +111,7 @@ module _ (in_front behind : VersionValue → VersionValue → Bool) (pick : Vers
     | inr (is, t) ↦
         rw is (placed list front (back ++ x ∷ []) b xs
         (e ∙ sym (ap (λ l. l ++ xs) (sym (append_assoc front (b ∷ back) (x ∷ [])))
-            ∙ append_assoc (front ++ b ∷ back) (x ∷ []) xs)) h
+        ∙ append_assoc (front ++ b ∷ back) (x ∷ []) xs)) h
         (list_all-append (λ w. behind w b) back (x ∷ []) ∙ and_from (list_all (λ w. behind w b) back) _ k (rw t refl)))
   ]
 

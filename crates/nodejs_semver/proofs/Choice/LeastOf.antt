@@ -34,7 +34,7 @@ module _ (set : VersionValue → Bool) where
       → IfSome (better set best x) (λ b. set b ≡ true)
   better_fine best x h =
       cond_both (improves best x && set x) (Some x) best (λ o. IfSome o (λ b. set b ≡ true))
-          (λ e. second_so (improves best x) (set x) e) (λ _. h)
+      (λ e. second_so (improves best x) (set x) e) (λ _. h)
 
   fold_fine : (best : Option VersionValue) (xs : List VersionValue) → IfSome best (λ b. set b ≡ true)
       → IfSome (fold (better set) best xs) (λ b. set b ≡ true)
@@ -46,13 +46,13 @@ module _ (set : VersionValue → Bool) where
       → is_reached (better set best x) v ≡ true
   reaches None x v h =
       cond_both (set x) (Some x) None (λ o. is_reached o v ≡ true) (λ e. second_so (set x) (is_le (precedence x v)) h)
-          (λ e. absurd (false≢true (rw e at h)))
+      (λ e. absurd (false≢true (rw e at h)))
   reaches (Some b) x v h =
       cond_both (is_lt (precedence x b) && set x) (Some x) (Some b) (λ o. is_reached o v ≡ true)
       (λ e. replaced (is_le (precedence b v)) (set x) (is_le (precedence x v)) h
-          (λ k. le_trans precedence_total x b v (le_of_lt (precedence x b) (first_so _ _ e)) k))
+      (λ k. le_trans precedence_total x b v (le_of_lt (precedence x b) (first_so _ _ e)) k))
       (λ e. kept (is_le (precedence b v)) (set x) (is_le (precedence x v)) (is_le (precedence b x)) h
-          (rw (lt_is precedence_total x b) at e) (le_trans precedence_total b x v))
+      (rw (lt_is precedence_total x b) at e) (le_trans precedence_total b x v))
     where
       replaced : (r s l : Bool) → (r || (s && l)) ≡ true → (r ≡ true → l ≡ true) → l ≡ true
       replaced r s l h f = grind arith
@@ -66,7 +66,7 @@ module _ (set : VersionValue → Bool) where
   fold_reaches best [] v h = sym (or-false _) ∙ h
   fold_reaches best (x ∷ xs) v h =
       fold_reaches (better set best x) xs v (shift (is_reached best v) (set x && is_le (precedence x v))
-          (list_any (λ x. set x && is_le (precedence x v)) xs) _ h (reaches best x v))
+      (list_any (λ x. set x && is_le (precedence x v)) xs) _ h (reaches best x v))
     where
       shift : (r a l q : Bool) → (r || (a || l)) ≡ true → ((r || a) ≡ true → q ≡ true) → (q || l) ≡ true
       shift r a l q h f = grind arith
@@ -83,10 +83,10 @@ module _ (set : VersionValue → Bool) where
       → fold (better set) best (firsts (Beside w s)) ≡ best
   reached best w s h =
       cond_both (is_release w) (release_after w s ∷ []) (after_cut w s ∷ bare_release w ∷ [])
-          (λ l. fold (better set) best l ≡ best)
+      (λ l. fold (better set) best l ≡ best)
       (λ k. no_better best w (release_after w s) h (by_release s))
       (λ k. ap (λ b. better set b (bare_release w)) (no_better best w (after_cut w s) h (by_pre s k))
-          ∙ no_better best w (bare_release w) h (ap is_le (release_above w k)))
+      ∙ no_better best w (bare_release w) h (ap is_le (release_above w k)))
     where
       by_release : (s : Side) → is_le (precedence w (release_after w s)) ≡ true
       by_release Near = ap is_le (tied_itself precedence_total w)
@@ -150,7 +150,7 @@ firsts_bare Start = All-from_recursion IsBare (firsts Start) (refl, tt)
 firsts_bare (Beside w s) =
     cond_both (is_release w) (release_after w s ∷ []) (after_cut w s ∷ bare_release w ∷ []) (All IsBare)
     (λ _. All-from_recursion IsBare (release_after w s ∷ []) (by_release s, tt))
-        (λ _. All-from_recursion IsBare (after_cut w s ∷ bare_release w ∷ []) (by_pre s, (refl, tt)))
+    (λ _. All-from_recursion IsBare (after_cut w s ∷ bare_release w ∷ []) (by_pre s, (refl, tt)))
   where
     by_release : (s : Side) → IsBare (release_after w s)
     by_release Near = refl
@@ -170,7 +170,7 @@ fold_bare : (set : VersionValue → Bool) (best : Option VersionValue) (xs : Lis
 fold_bare set best [] h e = h
 fold_bare set best (x ∷ xs) h e =
     fold_bare set (better set best x) xs (cond_both (improves best x && set x) (Some x) best (λ o. IfSome o IsBare)
-        (λ _. All-head IsBare x xs e) (λ _. h)) (All-tail IsBare x xs e)
+    (λ _. All-head IsBare x xs e) (λ _. h)) (All-tail IsBare x xs e)
 
 pub list_bare : (set : VersionValue → Bool) (xs : List VersionValue) (r : Option VersionValue) → All (λ v. v.build ≡ []) xs
     → r ≡ least_of set xs → IfSome r (λ v. v.build ≡ [])
@@ -192,7 +192,7 @@ past_built : (d : Cut VersionValue) (v : VersionValue) (b : List Id)
     → is_past precedence d (record v { build = b }) ≡ is_past precedence d v
 past_built d v b =
     ap is_le (alike_right (cut_total precedence_total) (Beside (record v { build = b }) Near) (Beside v Near) d
-        (ap (λ r. ordering_then r Equal) (tied_itself precedence_total v)))
+    (ap (λ r. ordering_then r Equal) (tied_itself precedence_total v)))
 
 admits_built : (s : Span VersionValue) (v : VersionValue) (b : List Id)
     → (holds precedence s (record v { build = b }) && lets_in s (record v { build = b })) ≡ (holds precedence s v && lets_in s v)
@@ -255,7 +255,7 @@ no_build Unbounded v h = refl
 no_build (Before w) v h = none_of (is_eq (precedence w v)) w.build h
 no_build (After w) v h =
     cond_both (is_release w) (record w { patch = w.patch + 1; pre_release = [] })
-        (record w { pre_release = w.pre_release ++ Numeric 0 ∷ [] }) (λ x. build_by (Some x) v ≡ [])
+    (record w { pre_release = w.pre_release ++ Numeric 0 ∷ [] }) (λ x. build_by (Some x) v ≡ [])
     (λ _. none_of _ w.build h) (λ _. none_of _ w.build h)
 
 pub unbuilt_stays : (ss : List (Span VersionValue)) (v : VersionValue) → v.build ≡ []
@@ -267,5 +267,5 @@ unbuilt_stays ss v bare h = ap (λ b. record v { build = b }) (bare ∙ sym (unb
     unbuilt (s ∷ ss) h =
         let (here, there) = or_parts (has_build s.lower) (list_any (λ s. has_build s.lower) ss) h in
         cond_both (holds precedence s v && lets_in s v) (Some s) (find (λ s. holds precedence s v && lets_in s v) ss)
-            (λ o. build_by (first_of o) v ≡ [])
+        (λ o. build_by (first_of o) v ≡ [])
         (λ _. no_build s.lower v here) (λ _. unbuilt ss there)

@@ -36,7 +36,7 @@ under_past v g d h p = not-true _ (rw p at h)
 greatest : (v : VersionValue) (P : Cut VersionValue → Bool) (c : Cut VersionValue) (ds : List (Cut VersionValue))
     → is_past precedence c v ≡ true
     → ((g : Cut VersionValue) → is_past precedence g v ≡ true → list_all (under v g) (c ∷ ds) ≡ true → P g ≡ true)
-        → list_any P (c ∷ ds) ≡ true
+    → list_any P (c ∷ ds) ≡ true
 greatest v P c [] h f = or_left (P c) false (f c h (rw (irreflexive precedence_total c, h) refl))
 greatest v P c (d ∷ ds) h f =
     by_test (is_past precedence d v) (below c d) refl refl (λ p. greatest v P d ds p) (greatest v P c ds h)
@@ -55,16 +55,16 @@ greatest v P c (d ∷ ds) h f =
 
     by_test : (p t : Bool) → is_past precedence d v ≡ p → below c d ≡ t
         → (is_past precedence d v ≡ true → ((g : Cut VersionValue) → is_past precedence g v ≡ true
-            → list_all (under v g) (d ∷ ds) ≡ true → P g ≡ true) → list_any P (d ∷ ds) ≡ true)
+        → list_all (under v g) (d ∷ ds) ≡ true → P g ≡ true) → list_any P (d ∷ ds) ≡ true)
         → (((g : Cut VersionValue) → is_past precedence g v ≡ true → list_all (under v g) (c ∷ ds) ≡ true → P g ≡ true)
-            → list_any P (c ∷ ds) ≡ true) → list_any P (c ∷ d ∷ ds) ≡ true
+        → list_any P (c ∷ ds) ≡ true) → list_any P (c ∷ d ∷ ds) ≡ true
     by_test true true p t from_d from_c =
         or_right (P c) (list_any P (d ∷ ds))
         (from_d p (λ g q top.
         f g q (and_from (under v g c) (list_all (under v g) (d ∷ ds))
-            (or_right (not (is_past precedence c v)) (not (below g c))
-            (ap not (not_above precedence_total g c d t (under_past v g d
-            (first_so (under v g d) (list_all (under v g) ds) top) p)))) top)))
+        (or_right (not (is_past precedence c v)) (not (below g c))
+        (ap not (not_above precedence_total g c d t (under_past v g d
+        (first_so (under v g d) (list_all (under v g) ds) top) p)))) top)))
     by_test true false p t from_d from_c = kept from_c (λ g e. or_right (not (is_past precedence d v)) (not (below g d))
         (ap not (chain precedence_total d c g t (under_past v g c e h))))
     by_test false t p e from_d from_c = kept from_c (λ g e. or_left (not (is_past precedence d v)) (not (below g d)) (ap not p))
@@ -134,8 +134,12 @@ begins_release (Beside w s) v k h P f =
     by_side : (s : Side) → is_past precedence (Beside w s) v ≡ true
         → (Begins (Beside w s) v (release_after w s) → P (release_after w s) ≡ true) → is_release w ≡ true
         → P (release_after w s) ≡ true
-    by_side Near h f r = f (record { past = past_near w (bare w) (tied_itself precedence_total w); below =
-        past_order w v Near h; alike = kind_of_release (bare w) v r k })
+    by_side Near h f r = f (record {
+      past = past_near w (bare w) (tied_itself precedence_total w);
+      below =
+          past_order w v Near h;
+      alike = kind_of_release (bare w) v r k;
+    })
     by_side Far h f r = f (record {
       past = past_less w (patch_after w) Far (next_patch_above w);
       below = next_patch_least w v (empty_is w.pre_release r) (empty_is v.pre_release k) (far_less w v h);
@@ -157,8 +161,12 @@ begins_pre (Beside u s) w v k e m h P f =
     by_side : (s : Side) → is_past precedence (Beside u s) v ≡ true
         → (Begins (Beside u s) v (after_cut u s) → P (after_cut u s) ≡ true) → triple_cmp u v ≡ Equal → is_release u ≡ false
         → P (after_cut u s) ≡ true
-    by_side Near h f t r = f (record { past = past_near u (bare u) (tied_itself precedence_total u); below =
-        past_order u v Near h; alike = record { release = r ∙ sym k; triple = λ _. t } })
+    by_side Near h f t r = f (record {
+      past = past_near u (bare u) (tied_itself precedence_total u);
+      below =
+          past_order u v Near h;
+      alike = record { release = r ∙ sym k; triple = λ _. t };
+    })
     by_side Far h f t r = f (record {
       past = past_less u (pre_after u) Far (next_pre_above u r);
       below = next_pre_least u v t r (far_less u v h);
@@ -177,10 +185,15 @@ named_lower : (w v : VersionValue) (s : Side) (g : Cut VersionValue) → named w
     → is_past precedence (Beside w s) v ≡ true → under v g (Beside w s) ≡ true → (x : VersionValue) × NamedBy v g x
 named_lower w v s g n p e =
     let (pre, tied) = named_parts w v n in
-    let first = first_pre_least w w (tied_itself triple_total w) pre in
-    (w, record { triple = tied; above = chain precedence_total (Beside (first_pre w) Near) (Beside w s) g
-        (sym (gt_lt precedence_total (Beside (first_pre w) Near) (Beside w s))
-        ∙ not_gt_then (precedence (first_pre w) w) (side_cmp Near s) first (by_side s)) (under_past v g (Beside w s) e p) })
+    let first = first_pre_least w w (tied_itself triple_total w) pre in (
+      w,
+      record {
+        triple = tied;
+        above = chain precedence_total (Beside (first_pre w) Near) (Beside w s) g
+            (sym (gt_lt precedence_total (Beside (first_pre w) Near) (Beside w s))
+            ∙ not_gt_then (precedence (first_pre w) w) (side_cmp Near s) first (by_side s)) (under_past v g (Beside w s) e p);
+      },
+    )
   where
     by_side : (s : Side) → is_gt (side_cmp Near s) ≡ false
     by_side Near = refl
@@ -204,7 +217,7 @@ named_span : (s : Span VersionValue) (v : VersionValue) (g : Cut VersionValue) �
 named_span s v g k h e =
     let (held, let_in) = and_parts (holds precedence s v) (lets_in s v) h in
     let (low, up) = and_parts (list_all (under v g) (beside s.lower)) _
-        (sym (list_all-append (under v g) (beside s.lower) (below_named s.upper)) ∙ e) in
+    (sym (list_all-append (under v g) (beside s.lower) (below_named s.upper)) ∙ e) in
     elim (or_cases (names s.lower v) (names s.upper v) (rw k at let_in)) [
       | inl n ↦ by_lower s.lower n (first_so _ _ held) low
       | inr n ↦ by_upper s.upper n up
@@ -258,8 +271,8 @@ module _ (v x : VersionValue) (g : Cut VersionValue) (b : Begins g v x) where
       any_under (λ s. holds precedence s v && lets_in s v) (λ s. holds precedence s x && lets_in s x) ss h
       (all_weaker (λ s. list_all (under v g) (kept_marks s)) _ (λ s e.
       admitted _ _ _ _ _ _ (lower_past s.lower (first_so _ _ (sym
-          (list_all-append (under v g) (beside s.lower) (below_named s.upper)) ∙ e))) (past_up v x b.below (upper_cut s.upper))
-          (sym (lets_in_alike s x v b.alike))) ss
+      (list_all-append (under v g) (beside s.lower) (below_named s.upper)) ∙ e))) (past_up v x b.below (upper_cut s.upper))
+      (sym (lets_in_alike s x v b.alike))) ss
       (sym (all_flat (under v g) kept_marks ss) ∙ top))
 
   all_accepted : (kss : List (List (Span VersionValue))) → list_all (under v g) (flat_map list_marks kss) ≡ true
@@ -267,7 +280,7 @@ module _ (v x : VersionValue) (g : Cut VersionValue) (b : Begins g v x) where
   all_accepted [] top h = refl
   all_accepted (ss ∷ kss) top h =
       let tops = and_parts (list_all (under v g) (list_marks ss)) _
-          (sym (list_all-append (under v g) (list_marks ss) (flat_map list_marks kss)) ∙ top) in
+      (sym (list_all-append (under v g) (list_marks ss) (flat_map list_marks kss)) ∙ top) in
       let both = and_parts (accepts ss v false) (all_accept kss v) h in
       and_from (accepts ss x false) (all_accept kss x) (kept_accept ss tops.0 both.0) (all_accepted kss tops.1 both.1)
 
@@ -300,23 +313,23 @@ candidate ks kss ls v h =
         → list_any found (firsts g) ≡ true
     at g past top =
         let tops = and_parts (list_all (under v g) (flat_map list_marks (ks ∷ kss))) _
-            (sym (list_all-append (under v g) (flat_map list_marks (ks ∷ kss)) (flat_map removed_marks ls))
-            ∙ second_so (under v g Start) (list_all (under v g) marks) top) in
+        (sym (list_all-append (under v g) (flat_map list_marks (ks ∷ kss)) (flat_map removed_marks ls))
+        ∙ second_so (under v g Start) (list_all (under v g) marks) top) in
         let kept = and_parts (list_all (under v g) (list_marks ks)) _
-            (sym (list_all-append (under v g) (list_marks ks) (flat_map list_marks kss)) ∙ tops.0) in
+        (sym (list_all-append (under v g) (list_marks ks) (flat_map list_marks kss)) ∙ tops.0) in
         let done : (x : VersionValue) → Begins g v x → found x ≡ true = λ x b.
         and_from (among ks kss ls x) (is_le (precedence x v))
         (among_too (all_accept kss v) (accepts ks v false) (accepts ls v false)
-            (all_accept kss x) (accepts ks x false) (accepts ls x false)
-            (all_accepted v x g b kss kept.1) (kept_accept v x g b ks kept.0) (removed_accept v x g b ls tops.1) h)
+        (all_accept kss x) (accepts ks x false) (accepts ls x false)
+        (all_accepted v x g b kss kept.1) (kept_accept v x g b ks kept.0) (removed_accept v x g b ls tops.1) h)
         ((tells (precedence x v)).0 ∙ ap not b.below) in
         elim (cases_Bool (is_release v)) [
           | inl r ↦ begins_release g v r past found done
           | inr r ↦
               let (s, (admitted, span)) = pick_both (λ s. holds precedence s v && lets_in s v)
-                  (λ s. list_all (under v g) (kept_marks s)) ks
-                  (first_so _ _ (second_so (all_accept kss v) _ h))
-                  (sym (all_flat (under v g) kept_marks ks) ∙ kept.0) in
+              (λ s. list_all (under v g) (kept_marks s)) ks
+              (first_so _ _ (second_so (all_accept kss v) _ h))
+              (sym (all_flat (under v g) kept_marks ks) ∙ kept.0) in
               let (w, n) = named_span s v g r admitted span in
               begins_pre g w v r n.triple n.above past found done
         ]

@@ -100,7 +100,7 @@ pub next_patch_least : (w v : VersionValue) → w.pre_release ≡ [] → v.pre_r
 next_patch_least w v e f h =
     upto_by_both (patch_after w) v
     (by_cmp (nat_cmp w.major v.major) (nat_cmp w.minor v.minor) w.patch v.patch
-        (then_less (triple_cmp w v) (sym (in_two_steps w v ∙ ap (ordering_then (triple_cmp w v)) both) ∙ h)))
+    (then_less (triple_cmp w v) (sym (in_two_steps w v ∙ ap (ordering_then (triple_cmp w v)) both) ∙ h)))
     (ap (λ ys. is_gt (pre_cmp [] ys)) f)
   where
     both : pre_cmp w.pre_release v.pre_release ≡ Equal

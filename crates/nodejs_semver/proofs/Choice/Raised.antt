@@ -18,7 +18,7 @@ module _ (limit : ℕ) (far : limit < 2 ^ 64 - 1) where
   small : (v : VersionValue) → is_readable limit v ≡ true → v.patch < 2 ^ 64 - 1
   small v h =
       let numbers = and_parts (nat_le v.major limit && (nat_le v.minor limit && nat_le v.patch limit))
-          (list_all is_normal v.pre_release && list_all is_normal v.build) h in
+      (list_all is_normal v.pre_release && list_all is_normal v.build) h in
       let rest = and_parts (nat_le v.major limit) (nat_le v.minor limit && nat_le v.patch limit) numbers.0 in
       let upto : v.patch ≤ limit = leb-true v.patch limit (and_parts (nat_le v.minor limit) (nat_le v.patch limit) rest.1).1 in
       omega arith
@@ -31,7 +31,7 @@ module _ (limit : ℕ) (far : limit < 2 ^ 64 - 1) where
   span_raisable : (s : Span VersionValue) → is_range_span limit s ≡ true → IsRaisable s
   span_raisable s h =
       let (low, up) = and_parts (is_range_bound limit s.lower) (is_range_bound limit s.upper)
-          (and_parts (is_interval precedence s) (is_range_bound limit s.lower && is_range_bound limit s.upper) h).1 in
+      (and_parts (is_interval precedence s) (is_range_bound limit s.lower && is_range_bound limit s.upper) h).1 in
       (bound_raisable s.lower low, bound_raisable s.upper up)
 
 pub raisable : (ss : List (Span VersionValue)) → IsRange MAX_SAFE_INTEGER ss → All IsRaisable ss

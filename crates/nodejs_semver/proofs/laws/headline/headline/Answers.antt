@@ -9,9 +9,10 @@ use Rattle.nodejs_semver.proofs.Sets.{both_written, first_written}
 use Rattle.nodejs_semver.proofs.laws.headline.headline.Goals as goal
 
 pub returns-clause-read : goal.returns-clause-read
-returns-clause-read c =
-    (means_some MAX_SAFE_INTEGER c.args.a.now c.in_ok-first.first c.utf8.a c.in_ok-first.ensures.ok c.in_ok-first.ensures.some,
-    means_some MAX_SAFE_INTEGER c.args.b.now c.in_ok-second.second c.utf8.b c.in_ok-second.ensures.ok c.in_ok-second.ensures.some)
+returns-clause-read c = (
+  means_some MAX_SAFE_INTEGER c.args.a.now c.in_ok-first.first c.utf8.a c.in_ok-first.ensures.ok c.in_ok-first.ensures.some,
+  means_some MAX_SAFE_INTEGER c.args.b.now c.in_ok-second.second c.utf8.b c.in_ok-second.ensures.ok c.in_ok-second.ensures.some,
+)
 
 pub returns-clause-both : goal.returns-clause-both
 returns-clause-both c = λ v.
