@@ -2,8 +2,10 @@
 
 use crate::finding::{Finding, Outcome};
 use crate::lock::{Dependency, Lock, dependencies};
+use crate::specifier::{is_address, is_tag};
 use crate::verdict::{Verdict, judge};
-use anyhow::{Context, Result, bail};
+use anyhow::Result;
+use nodejs_semver::diagnosis::version_flaw;
 use nodejs_semver::{Failure, Range, Version};
 use serde_json::Value;
 use std::alloc::Global;
@@ -43,16 +45,35 @@ fn locked_outcome<'a>(
     package: &'a Value,
     dependency: Dependency<'a>,
 ) -> Result<Outcome<'a>> {
-    let Some(range) = range(alloc, dependency.range)? else {
-        return Ok(Outcome::NoRange);
-    };
-    let text = locked_version(package, dependency.name)?;
-    let version = version(alloc, text).context(format_args!("{text:?}, which is locked"))?;
-    // To npm these ranges accept pre-releases too.
+    if is_address(dependency.range) {
+        return Ok(Outcome::Address);
+    }
+    // To npm these ranges accept every version, pre-releases too.
     if matches!(dependency.range.trim(), "" | "*") {
         return Ok(Outcome::Satisfied);
     }
-    match judge(alloc, &range, &version)? {
+    let Some(range) = range(alloc, dependency.range)? else {
+        return Ok(if is_tag(dependency.range) {
+            Outcome::Tag
+        } else {
+            Outcome::Unread
+        });
+    };
+    let Some(text) = package.get("version").and_then(Value::as_str) else {
+        return Ok(Outcome::Unversioned);
+    };
+    if let Some(flaw) = version_flaw(text) {
+        return Ok(Outcome::NoVersion {
+            version: text,
+            flaw,
+        });
+    }
+    version_outcome(alloc, &range, text)
+}
+
+// What the range says of a locked text that is one version as a whole.
+fn version_outcome<'a>(alloc: Global, range: &Range, text: &'a str) -> Result<Outcome<'a>> {
+    match judge(alloc, range, &version(alloc, text)?)? {
         Verdict::Accepted => Ok(Outcome::Satisfied),
         Verdict::Rejected(smallest) => Ok(Outcome::Rejected {
             version: text,
@@ -61,14 +82,7 @@ fn locked_outcome<'a>(
     }
 }
 
-fn locked_version<'a>(package: &'a Value, name: &str) -> Result<&'a str> {
-    match package.get("version").and_then(Value::as_str) {
-        Some(text) => Ok(text),
-        None => bail!("the locked package {name:?} has no text `version`"),
-    }
-}
-
-// The range of a text, or `None` if the text is not a version range but a tag or an address.
+// The range of a text, or `None` if nothing is read of it.
 fn range(alloc: Global, text: &str) -> Result<Option<Range>> {
     match Range::parse(alloc, text) {
         Ok(range) => Ok(Some(range)),

@@ -2,6 +2,7 @@
 
 use crate::lock::{Dependency, Lock};
 use nodejs_semver::Version;
+use nodejs_semver::diagnosis::VersionFlaw;
 use std::fmt;
 use std::process::ExitCode;
 
@@ -21,12 +22,23 @@ pub enum Outcome<'a> {
         version: &'a str,
         smallest: Option<Version>,
     },
+    /// The locked version is not one version as a whole.
+    NoVersion {
+        version: &'a str,
+        flaw: VersionFlaw,
+    },
+    /// The locked package has no text `version`.
+    Unversioned,
+    /// The range text is neither a range nor a tag nor an address.
+    Unread,
     /// No `node_modules` here or above has a package of this name.
     Missing,
     /// The same of a dependency that may be absent.
     Absent,
-    /// It is skipped, since its range text is not a version range but a tag or an address.
-    NoRange,
+    /// It is skipped, since its range text is a tag.
+    Tag,
+    /// It is skipped, since its range text is an address, or an alias.
+    Address,
     /// It is skipped, since the package is a link to a folder, as a workspace is.
     Link,
 }
@@ -57,10 +69,13 @@ impl Outcome<'_> {
     fn kind(&self) -> Kind {
         match self {
             Outcome::Satisfied => Kind::Satisfied,
-            Outcome::Rejected { .. } => Kind::Rejected,
+            Outcome::Rejected { .. }
+            | Outcome::NoVersion { .. }
+            | Outcome::Unversioned
+            | Outcome::Unread => Kind::Rejected,
             Outcome::Missing => Kind::Missing,
             Outcome::Absent => Kind::Absent,
-            Outcome::NoRange | Outcome::Link => Kind::Skipped,
+            Outcome::Tag | Outcome::Address | Outcome::Link => Kind::Skipped,
         }
     }
 }
@@ -92,9 +107,15 @@ impl fmt::Display for Finding<'_> {
                 version,
                 smallest: Some(smallest),
             } => write!(f, ", not {version}; {smallest} would do"),
+            Outcome::NoVersion { version, flaw } => {
+                write!(f, ", not {version}; no version: {flaw}")
+            }
+            Outcome::Unversioned => write!(f, ", not locked to a version"),
+            Outcome::Unread => write!(f, ", rejected: no range, tag or address"),
             Outcome::Missing => write!(f, ", missing"),
             Outcome::Absent => write!(f, ", absent"),
-            Outcome::NoRange => write!(f, ", skipped: not a version range"),
+            Outcome::Tag => write!(f, ", skipped: a tag"),
+            Outcome::Address => write!(f, ", skipped: an address"),
             Outcome::Link => write!(f, ", skipped: a link"),
         }
     }

@@ -1,16 +1,19 @@
 //! Checks a lock file of npm: reads a `package-lock.json` from standard input and names each
-//! dependency whose locked version its range rejects. It takes no arguments. It exits with 0 if
-//! every dependency is satisfied, absent by leave or skipped, and with 1 otherwise.
+//! dependency whose locked version its range rejects, each locked version that is not one version
+//! as a whole, with the byte where it goes wrong, and each range text of which nothing is read. It
+//! takes no arguments. It exits with 0 if every dependency is satisfied, absent by leave or
+//! skipped, and with 1 otherwise.
 //!
 //! It is meant to find what `npm ls --package-lock-only --all` finds, except that it knows neither
-//! `overrides`, which a lock file does not hold, nor `acceptDependencies`, and that it skips range
-//! texts which are not version ranges, and links. `tools/lock_check --npm` compares the two; that
-//! is no part of the tests.
+//! `overrides`, which a lock file does not hold, nor `acceptDependencies`, and that it skips tags,
+//! addresses and links. `tools/lock_check --npm` compares the two, and lists where they differ;
+//! that is no part of the tests.
 #![tactic(auto)]
 
 mod check;
 mod finding;
 mod lock;
+mod specifier;
 mod verdict;
 
 use crate::check::check;
@@ -18,11 +21,15 @@ use crate::finding::Counts;
 use crate::lock::Lock;
 use anyhow::{Context, Result};
 use serde_json::Value;
-use std::io;
 use std::process::ExitCode;
+use std::{env, io};
 
 fn main(rt: HostRuntime) -> Result<ExitCode> {
     let alloc = rt.alloc();
+    if env::args(&rt)?.nth(1).is_some() {
+        eprintln!(rt; "usage: lock_check < package-lock.json")?;
+        return Ok(ExitCode::FAILURE);
+    }
     let text = io::read_to_string(alloc, rt.stdin())?;
     let file = Value::from_str(alloc, &text).context("the input is not JSON")?;
     let lock = Lock::of_file(&file)?;

@@ -1,6 +1,7 @@
 // The kinds of texts, and what the two readers of a kind make of a text.
 
 use nodejs_semver::cuts::Bound;
+use nodejs_semver::diagnosis::{VersionFlaw, version_flaw};
 use nodejs_semver::readers::{is_blank, range_fast, range_loose, version_fast, version_loose};
 use nodejs_semver::{Range, Version};
 use std::alloc::{AllocError, Global};
@@ -14,6 +15,8 @@ pub enum Kind {
 }
 
 /// What the fast reader makes of a text: nothing, what the loose reader returns, or something else.
+/// The last stands also for a version text whose diagnosis does not fit what the loose reader
+/// returns.
 #[derive(Clone, Copy)]
 pub enum Comparison {
     NotRead,
@@ -43,11 +46,34 @@ impl fmt::Display for Kind {
 fn compare_versions(alloc: Global, text: &str) -> Result<Comparison, AllocError> {
     let fast = version_fast(alloc, text)?;
     let loose = version_loose(alloc, text)?;
+    if !is_told(alloc, text, &loose)? {
+        return Ok(Comparison::ReadOtherwise);
+    }
     Ok(match (&fast, &loose) {
         (None, _) => Comparison::NotRead,
         (Some(fast), Some(loose)) if is_same_version(fast, loose) => Comparison::ReadAlike,
         _ => Comparison::ReadOtherwise,
     })
+}
+
+// Whether the diagnosis of a text fits what the loose reader returns: a flaw that rejects the text
+// exactly if that is nothing, and a place behind the version exactly if the text ends further on.
+fn is_told(alloc: Global, text: &str, loose: &Option<Version>) -> Result<bool, AllocError> {
+    Ok(match (version_flaw(text), loose) {
+        (None, Some(_)) => true,
+        (Some(VersionFlaw::Ignored { at }), Some(version)) => match text.get(..at) {
+            Some(front) => is_exactly(alloc, front, version)?,
+            None => false,
+        },
+        (Some(VersionFlaw::NumberTooGreat { .. } | VersionFlaw::Expected { .. }), None) => true,
+        _ => false,
+    })
+}
+
+// Whether the whole text is this version.
+fn is_exactly(alloc: Global, text: &str, version: &Version) -> Result<bool, AllocError> {
+    let read = version_loose(alloc, text)?;
+    Ok(version_flaw(text).is_none() && read.is_some_and(|read| is_same_version(&read, version)))
 }
 
 // The loose reader cannot be asked about a blank text, and the fast one must not read it.
