@@ -1,17 +1,21 @@
 -- The version that is found in a list is the best one of those in the set.
-use Rattle.std.proofs.Common.{◌≡◌, refl, sym, ◌∙◌, ap, Bool, true, false, ◌&&◌, ◌||◌, not, ◌⊎◌, inl, inr, List, [], ◌∷◌, ◌++◌, Bor}
+use Rattle.std.proofs.Common.{◌≡◌, refl, sym, ◌∙◌, ap, Bool, true, false, ◌&&◌, ◌||◌, not, ◌⊎◌, inl, inr, List, [], ◌∷◌, ◌++◌, Option, Some, None, IfSome, IfNone, Bor}
 use Rattle.std.proofs.Math.Bool.{or-false}
 use Rattle.std.proofs.lemmas.Bool.{and_from, cases_Bool}
 use Rattle.std.proofs.lemmas.List.{append-nil, append_assoc}
 use Rattle.std.proofs.lemmas.List.Folds.{list_all-append}
-use Rattle.std.specs.List.{filter, fold, list_all, reduce}
+use Rattle.std.proofs.lemmas.List.Elements.{All-append, All-cons, All-same, All-weaker}
+use Rattle.std.proofs.lemmas.List.Sums.{AllPass-from_list_all}
+use Rattle.std.specs.Cmp.{tied_itself}
+use Rattle.std.specs.List.{All, filter, fold, list_all, reduce}
+use Rattle.std.specs.Option.{option_copied}
 use Rattle.std.specs.Ordering.{ordering_reverse, is_lt, is_le, max_by_ordering, min_by_ordering}
 use Rattle.std.specs.declared.cmp.Ordering.{Ordering}
 use Rattle.std.specs.declared.cmp.Ordering.TheVariants.{Less, Equal, Greater}
 use Rattle.nodejs_semver.proofs.Algebra.FlatMaps.{all_weaker}
 use Rattle.nodejs_semver.proofs.Algebra.Triples.{le_of_lt, le_trans, lt_le}
 use Rattle.semver_core.specs.Internal.OrderLaws.{precedence_total}
-use Rattle.nodejs_semver.specs.Ranges.Best.{IsBest, IsMax, IsMin}
+use Rattle.nodejs_semver.specs.Ranges.Best.{IsBest, IsMax, IsMin, Stands}
 use Rattle.semver_core.specs.Values.Order.{precedence}
 use Rattle.semver_core.specs.Values.Versions.{VersionValue}
 
@@ -190,3 +194,46 @@ min_is = best_is _ _ lesser (record {
     by_cmp b x Less e = inr (refl, ap is_le e)
     by_cmp b x Equal e = inr (refl, ap is_le e)
     by_cmp b x Greater e = inl (refl, ap is_lt (back_is b x Greater e))
+
+-- what callers cite of the best: none of the set in the list beats it, and there is none where the set has no version of it
+module _ (in_front behind beaten : VersionValue → VersionValue → Bool) (front : (w v : VersionValue) → in_front w v ≡ true → beaten w v ≡ true) (back : (w v : VersionValue) → behind w v ≡ true → beaten w v ≡ true)
+    (tied : (v : VersionValue) → beaten v v ≡ true) (set : VersionValue → Bool) where
+  in_set_only : (s a b : Bool) → (a ≡ true → b ≡ true) → (not s || a) ≡ true → s ≡ true → b ≡ true
+  in_set_only true a b f h k = f h
+  in_set_only false a b f h k = cc
+
+  all_beaten : (list : List VersionValue) (v : VersionValue) → Stands in_front behind set list v → All (λ w. set w ≡ true → beaten w v ≡ true) list
+  all_beaten list v h =
+      let Says : (VersionValue → VersionValue → Bool) → VersionValue → Type 0 = λ relation w. (not (set w) || relation w v) ≡ true in
+      let Beaten : VersionValue → Type 0 = λ w. set w ≡ true → beaten w v ≡ true in
+      All-same Beaten list (h.front ++ v ∷ h.back) h.divided
+      (All-append Beaten h.front (v ∷ h.back)
+      (All-weaker (Says in_front) Beaten (λ w q. in_set_only (set w) (in_front w v) (beaten w v) (front w v) q) h.front (AllPass-from_list_all _ h.front h.before))
+      (All-cons Beaten v h.back (λ k. tied v) (All-weaker (Says behind) Beaten (λ w q. in_set_only (set w) (behind w v) (beaten w v) (back w v) q) h.back (AllPass-from_list_all _ h.back h.after))))
+
+  best_beats : (list : List VersionValue) (r : Option (Bor VersionValue)) → IsBest in_front behind set list (option_copied r) → IfSome r (λ v. All (λ w. set w ≡ true → beaten w v.now ≡ true) list)
+  best_beats list None h = tt
+  best_beats list (Some v) h = all_beaten list v.now h
+
+  best_none : (list : List VersionValue) (r : Option (Bor VersionValue)) → IsBest in_front behind set list (option_copied r) → IfNone r (All (λ w. set w ≡ false) list)
+  best_none list None h = All-weaker (λ w. not (set w) ≡ true) (λ w. set w ≡ false) (λ w q. unset (set w) q) list (AllPass-from_list_all _ list h)
+    where
+      unset : (s : Bool) → not s ≡ true → s ≡ false
+      unset true h = cc
+      unset false h = refl
+  best_none list (Some v) h = tt
+
+tied_le : (v : VersionValue) → is_le (precedence v v) ≡ true
+tied_le v = ap is_le (tied_itself precedence_total v)
+
+pub max_beats : (set : VersionValue → Bool) (list : List VersionValue) (r : Option (Bor VersionValue)) → IsMax set list (option_copied r) → IfSome r (λ v. All (λ w. set w ≡ true → is_le (precedence w v.now) ≡ true) list)
+max_beats = best_beats _ _ (λ w v. is_le (precedence w v)) (λ w v h. h) (λ w v h. le_of_lt (precedence w v) h) tied_le
+
+pub min_beats : (set : VersionValue → Bool) (list : List VersionValue) (r : Option (Bor VersionValue)) → IsMin set list (option_copied r) → IfSome r (λ v. All (λ w. set w ≡ true → is_le (precedence v.now w) ≡ true) list)
+min_beats = best_beats _ _ (λ w v. is_le (precedence v w)) (λ w v h. le_of_lt (precedence v w) h) (λ w v h. h) tied_le
+
+pub max_none : (set : VersionValue → Bool) (list : List VersionValue) (r : Option (Bor VersionValue)) → IsMax set list (option_copied r) → IfNone r (All (λ w. set w ≡ false) list)
+max_none = best_none _ _ (λ w v. is_le (precedence w v)) (λ w v h. h) (λ w v h. le_of_lt (precedence w v) h) tied_le
+
+pub min_none : (set : VersionValue → Bool) (list : List VersionValue) (r : Option (Bor VersionValue)) → IsMin set list (option_copied r) → IfNone r (All (λ w. set w ≡ false) list)
+min_none = best_none _ _ (λ w v. is_le (precedence v w)) (λ w v h. le_of_lt (precedence v w) h) (λ w v h. h) tied_le

@@ -2,8 +2,10 @@
 
 ghost use Rattle.nodejs_semver.specs.Ranges.Gate.{accepts};
 ghost use Rattle.nodejs_semver.specs.Ranges.Best.{IsMax, IsMin};
+ghost use Rattle.semver_core.specs.Values.Order.{precedence};
 ghost use Rattle.std.specs.Option.{option_copied};
-ghost use Rattle.std.specs.Prelude.{false};
+ghost use Rattle.std.specs.Ordering.{is_le};
+ghost use Rattle.std.specs.Prelude.{◌≡◌, All, Contains, IfNone, IfSome, false, true};
 
 use crate::Range;
 use semver_core::Version;
@@ -14,8 +16,20 @@ impl Range {
     ///
     /// Of equal versions, which differ in their builds alone, it is the last: `^1` chooses 1.2.0+b
     /// from 1.2.0+a and 1.2.0+b.
+    ///
+    /// ```rust
+    /// let range = Range::parse(alloc, "^1")?;
+    /// let versions = [Version::from((1u64, 2, 0)), Version::from((2u64, 0, 0))];
+    /// assert_eq!(rt; range.max_satisfying(&versions), Some(&versions[0]));
+    /// ```
     pub fn max_satisfying<'v>(&self, versions: &'v [Version]) -> Option<&'v Version>
-        ensures { IsMax (λ v. accepts self.now v false) versions.now (option_copied result) }
+        ensures best { IsMax (λ v. accepts self.now v false) versions.now (option_copied result) }
+        // It is a version of the slice that the range accepts, and none that it accepts is above.
+        ensures member { IfSome result (λ v. Contains versions.now v.now) }
+        ensures accepted { IfSome result (λ v. accepts self.now v.now false ≡ true) }
+        ensures greatest { IfSome result (λ v. All (λ w.
+            accepts self.now w false ≡ true → is_le (precedence w v.now) ≡ true) versions.now) }
+        ensures none { IfNone result (All (λ w. accepts self.now w false ≡ false) versions.now) }
     {
         versions
             .iter()
@@ -27,8 +41,20 @@ impl Range {
     /// where it accepts none.
     ///
     /// Of equal versions, which differ in their builds alone, it is the first.
+    ///
+    /// ```rust
+    /// let range = Range::parse(alloc, ">1.0.0")?;
+    /// let versions = [Version::from((1u64, 0, 0)), Version::from((1u64, 2, 0))];
+    /// assert_eq!(rt; range.min_satisfying(&versions), Some(&versions[1]));
+    /// ```
     pub fn min_satisfying<'v>(&self, versions: &'v [Version]) -> Option<&'v Version>
-        ensures { IsMin (λ v. accepts self.now v false) versions.now (option_copied result) }
+        ensures best { IsMin (λ v. accepts self.now v false) versions.now (option_copied result) }
+        // It is a version of the slice that the range accepts, and none that it accepts is below.
+        ensures member { IfSome result (λ v. Contains versions.now v.now) }
+        ensures accepted { IfSome result (λ v. accepts self.now v.now false ≡ true) }
+        ensures smallest { IfSome result (λ v. All (λ w.
+            accepts self.now w false ≡ true → is_le (precedence v.now w) ≡ true) versions.now) }
+        ensures none { IfNone result (All (λ w. accepts self.now w false ≡ false) versions.now) }
     {
         versions
             .iter()

@@ -1,0 +1,14 @@
+-- Statement: whether one range accepts all that another accepts.
+use Rattle.std.specs.Prelude.{◌≡◌, true, false, List}
+use Rattle.nodejs_semver.specs.Cuts.{Span}
+use Rattle.nodejs_semver.specs.Versions.{VersionValue}
+use Rattle.nodejs_semver.specs.Ranges.Gate.{accepts}
+use Rattle.nodejs_semver.specs.Ranges.Least.{IsLeastOf, beyond}
+use Rattle.uses.specs.declared.subset.Answer.{Answer}
+use Rattle.uses.specs.declared.subset.Answer.TheVariants.{Subset, Witness}
+use Rattle.std.specs.Prelude.{Some}
+
+-- the second accepts what the first accepts; or this is the least version that the first accepts and the second does not
+abbrev pub IsAnswer : List (Span VersionValue) → List (Span VersionValue) → Answer → Type 0
+IsAnswer first second Subset = (v : VersionValue) → accepts first v false ≡ true → accepts second v false ≡ true
+IsAnswer first second (Witness w) = (accepts first w false ≡ true) × (accepts second w false ≡ false) × IsLeastOf (beyond first second) (Some w)

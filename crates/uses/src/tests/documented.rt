@@ -1,0 +1,171 @@
+// The examples in the comments of the libraries: `tools/readme --check` compares them.
+
+use nodejs_semver::diagnosis::{Expected, VersionFlaw, version_flaw};
+use nodejs_semver::{Identifier, Range, Version, VersionDiff};
+use std::test::Fail;
+
+#[test]
+fn version_parse(rt: HostRuntime) -> Result<(), Fail> {
+    let alloc = rt.alloc();
+    let version = Version::parse(alloc, "v1.2.3-beta.1, the second beta")?;
+    assert_eq!(rt;
+        version,
+        Version::parse(alloc, "1.2.3-beta.1+another.build")?
+    );
+    assert!(rt; Version::parse(alloc, "1.2").is_err());
+    Ok(())
+}
+
+#[test]
+fn from_texts(rt: HostRuntime) -> Result<(), Fail> {
+    let alloc = rt.alloc();
+    let (pre_release, build) = (b"rc.1", b"exp");
+    if Identifier::is_list(pre_release) && Identifier::is_list(build) {
+        let version = Version::from_texts(alloc, 1, 2, 3, pre_release, build)?;
+        assert_eq!(rt; version, Version::parse(alloc, "1.2.3-rc.1+exp")?);
+    }
+    Ok(())
+}
+
+#[test]
+fn into_parts(rt: HostRuntime) -> Result<(), Fail> {
+    let alloc = rt.alloc();
+    let version = Version::parse(alloc, "1.2.3-beta.1+exp")?;
+    match version.into_parts(alloc) {
+        Ok(parts) => assert_eq!(rt; (parts.patch, parts.pre_release.len()), (3, 2)),
+        Err(version) => assert!(rt; version.is_prerelease()),
+    }
+    Ok(())
+}
+
+#[test]
+fn diff(rt: HostRuntime) -> Result<(), Fail> {
+    let alloc = rt.alloc();
+    let release = Version::from((1u64, 2, 3));
+    let beta = Version::parse(alloc, "1.3.0-beta")?;
+    assert_eq!(rt; release.diff(&beta), Some(VersionDiff::PreMinor));
+    Ok(())
+}
+
+#[test]
+fn inc(rt: HostRuntime) -> Result<(), Fail> {
+    let alloc = rt.alloc();
+    let release = Version::from((1u64, 2, 3));
+    let beta = release.inc(alloc, "prerelease", Some("beta"), None)?;
+    assert_eq!(rt; beta, Version::parse(alloc, "1.2.4-beta.0")?);
+    Ok(())
+}
+
+#[test]
+fn range_parse(rt: HostRuntime) -> Result<(), Fail> {
+    let alloc = rt.alloc();
+    let range = Range::parse(alloc, "^1.2 || 3.0.0-rc.1")?;
+    assert_eq!(rt;
+        range,
+        Range::parse(alloc, ">=1.2.0 <2.0.0-0 || =v3.0.0-rc.1")?
+    );
+    assert!(rt; Range::parse(alloc, "latest").is_err());
+    Ok(())
+}
+
+#[test]
+fn intersect(rt: HostRuntime) -> Result<(), Fail> {
+    let alloc = rt.alloc();
+    let one = Range::parse(alloc, ">=1.2.3-a")?;
+    let other = Range::parse(alloc, ">=1.0.0")?;
+    let both = one.intersect(alloc, &other)?;
+    // It accepts 1.2.3-a, which the second range does not accept.
+    assert_eq!(rt; both, Some(Range::parse(alloc, ">=1.2.3-a")?));
+    Ok(())
+}
+
+#[test]
+fn difference(rt: HostRuntime) -> Result<(), Fail> {
+    let alloc = rt.alloc();
+    let one = Range::parse(alloc, "^1.2")?;
+    let other = Range::parse(alloc, "1.5.0")?;
+    let left = one.difference(alloc, &other)?;
+    assert_eq!(rt;
+        left,
+        Some(Range::parse(alloc, ">=1.2.0 <1.5.0 || >1.5.0 <2.0.0-0")?)
+    );
+    Ok(())
+}
+
+#[test]
+fn max_satisfying(rt: HostRuntime) -> Result<(), Fail> {
+    let alloc = rt.alloc();
+    let range = Range::parse(alloc, "^1")?;
+    let versions = [Version::from((1u64, 2, 0)), Version::from((2u64, 0, 0))];
+    assert_eq!(rt; range.max_satisfying(&versions), Some(&versions[0]));
+    Ok(())
+}
+
+#[test]
+fn min_satisfying(rt: HostRuntime) -> Result<(), Fail> {
+    let alloc = rt.alloc();
+    let range = Range::parse(alloc, ">1.0.0")?;
+    let versions = [Version::from((1u64, 0, 0)), Version::from((1u64, 2, 0))];
+    assert_eq!(rt; range.min_satisfying(&versions), Some(&versions[1]));
+    Ok(())
+}
+
+#[test]
+fn min_version(rt: HostRuntime) -> Result<(), Fail> {
+    let alloc = rt.alloc();
+    let range = Range::parse(alloc, ">1.0.0 <1.0.1-5")?;
+    let smallest = range.min_version(alloc)?;
+    assert_eq!(rt; smallest, Some(Version::parse(alloc, "1.0.1-0")?));
+    Ok(())
+}
+
+#[test]
+fn least_beyond(rt: HostRuntime) -> Result<(), Fail> {
+    let alloc = rt.alloc();
+    let wide = Range::parse(alloc, "^1")?;
+    let narrow = Range::parse(alloc, "^1.2")?;
+    assert_eq!(rt;
+        wide.least_beyond(alloc, &narrow)?,
+        Some(Version::from((1u64, 0, 0)))
+    );
+    assert_eq!(rt; narrow.least_beyond(alloc, &wide)?, None);
+    Ok(())
+}
+
+#[test]
+fn least_of_all(rt: HostRuntime) -> Result<(), Fail> {
+    let alloc = rt.alloc();
+    let ranges = [
+        Range::parse(alloc, ">=1.2.3-a")?,
+        Range::parse(alloc, ">=1.0.0")?,
+    ];
+    let least = Range::least_of_all(alloc, &ranges)?;
+    assert_eq!(rt; least, Some(Version::from((1u64, 2, 3))));
+    Ok(())
+}
+
+#[test]
+fn min_version_with_prerelease(rt: HostRuntime) -> Result<(), Fail> {
+    let alloc = rt.alloc();
+    let range = Range::parse(alloc, ">1.0.0 <1.0.1-0")?;
+    assert_eq!(rt; range.min_version_with_prerelease(alloc)?, None);
+    let range = Range::parse(alloc, ">1.0.0")?;
+    let first = range.min_version_with_prerelease(alloc)?;
+    assert_eq!(rt; first, Some(Version::parse(alloc, "1.0.1-0")?));
+    Ok(())
+}
+
+#[test]
+fn version_flaws(rt: HostRuntime) -> Result<(), Fail> {
+    assert_eq!(rt; version_flaw("1.2.3-rc.1"), None);
+    assert_eq!(rt;
+        version_flaw("5.0.0.9 oops"),
+        Some(VersionFlaw::Ignored { at: 5 })
+    );
+    let digit = Expected::Digit;
+    assert_eq!(rt;
+        version_flaw("1.x"),
+        Some(VersionFlaw::Expected { what: digit, at: 2 })
+    );
+    Ok(())
+}
