@@ -1,3 +1,2 @@
 pub mod Release
-pub mod Resolver
 pub mod Subset

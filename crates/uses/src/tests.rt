@@ -2,7 +2,6 @@ mod documented;
 
 use crate::index::Index;
 use crate::release;
-use crate::resolver::{self, Release, Requirement};
 use crate::subset::{self, Answer};
 use nodejs_semver::{Range, Version};
 use std::alloc::Global;
@@ -81,80 +80,6 @@ fn a_range_within_another(rt: HostRuntime) -> Result<(), Fail> {
             Answer::Witness(version) => format!(in alloc; "{version}")?,
         };
         assert_eq!(rt; said.as_str(), told, "{first} within {second}");
-    }
-    Ok(())
-}
-
-fn requirement(alloc: Global, package: usize, range: &str) -> Result<Requirement, Fail> {
-    let range = Range::parse(alloc, range)?;
-    Ok(Requirement { package, range })
-}
-
-fn release(alloc: Global, version: &str, needs: &[(usize, &str)]) -> Result<Release, Fail> {
-    let version = Version::parse(alloc, version)?;
-    let mut all = Vec::new(alloc);
-    for (package, range) in needs {
-        all.push(requirement(alloc, *package, range)?)?;
-    }
-    Ok(Release {
-        version,
-        needs: all,
-    })
-}
-
-fn package(alloc: Global, releases: [Release; 2]) -> Result<Vec<Release>, Fail> {
-    let mut all = Vec::new(alloc);
-    for release in releases {
-        all.push(release)?;
-    }
-    Ok(all)
-}
-
-#[test]
-fn a_choice_is_taken_back(rt: HostRuntime) -> Result<(), Fail> {
-    let alloc = rt.alloc();
-    // The newest release of package 0 wants 2.x of package 1, and the root wants 1.x of it.
-    let zero = [
-        release(alloc, "2.0.0", &[(1, "^2")])?,
-        release(alloc, "1.0.0", &[(1, "^1")])?,
-    ];
-    let one = [release(alloc, "2.1.0", &[])?, release(alloc, "1.1.0", &[])?];
-    let registry = [package(alloc, zero)?, package(alloc, one)?];
-    let root = [requirement(alloc, 0, "*")?, requirement(alloc, 1, "^1")?];
-    match resolver::resolve(alloc, &registry, &root, 2) {
-        Ok(chosen) => {
-            assert_eq!(rt; chosen.len(), 2);
-            for choice in &chosen {
-                assert_eq!(rt;
-                    choice.release.version.major(),
-                    1,
-                    "package {}",
-                    choice.package
-                );
-            }
-        }
-        Err(conflict) => assert!(rt; false, "{conflict}"),
-    }
-    for (number, range, told) in [
-        (
-            0,
-            "^2",
-            "package 1: >=1.0.0 <2.0.0-0 clashes with >=2.0.0 <3.0.0-0",
-        ),
-        (0, "^3", "package 0: no release satisfies >=3.0.0 <4.0.0-0"),
-        (7, "*", "package 7: no release satisfies >=0.0.0"),
-    ] {
-        let root = [
-            requirement(alloc, number, range)?,
-            requirement(alloc, 1, "^1")?,
-        ];
-        match resolver::resolve(alloc, &registry, &root, 2) {
-            Ok(_) => assert!(rt; false, "package {number} at {range}"),
-            Err(conflict) => {
-                let said = format!(in alloc; "{conflict}")?;
-                assert_eq!(rt; said.as_str(), told);
-            }
-        }
     }
     Ok(())
 }
