@@ -108,15 +108,6 @@ fn trim_end(text: &str) -> &str
     rest
 }
 
-// What a run of digits gives that ended after `count` of them.
-#[inline(always)]
-fn ended(value: u64, at: usize, end: usize) -> Option<(u64, usize)>
-    requires { at ≤ end }
-    ensures { result ≡ (if end == at then None else Some (value, end)) }
-{
-    if end == at { None } else { Some((value, end)) }
-}
-
 /// Returns the number at a place, and the place behind it: a whole run of ASCII digits, leading
 /// zeros allowed, of a value up to `MAX_SAFE_INTEGER`. A run of a greater value is not a number,
 /// and it is not cut short.
@@ -160,17 +151,15 @@ pub(crate) fn digits(bytes: &[u8], at: usize) -> Option<(u64, usize)>
     ensures place { IfSome result (λ found. found.1 ≤ length bytes.now) }
 {
     let mut value = 0u64;
-    'digits: for end in at..bytes.len() {
-        let byte = bytes[end];
-        if !byte.is_ascii_digit() {
-            return ended(value, at, end);
-        }
-        value = value * 10 + u64::from(byte - b'0');
+    let mut end = at;
+    'digits: while end < bytes.len() && bytes[end].is_ascii_digit() {
+        value = value * 10 + u64::from(bytes[end] - b'0');
         if value > MAX_SAFE_INTEGER {
             return None;
         }
+        end += 1;
     }
-    ended(value, at, bytes.len())
+    if end == at { None } else { Some((value, end)) }
 }
 
 /// Whether a byte is an ASCII letter, an ASCII digit or `-`, which identifiers are made of.
