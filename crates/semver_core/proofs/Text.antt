@@ -13,3 +13,4 @@ pub mod Whole
 pub mod OnePass
 pub mod LargerLimit
 pub mod Listed
+pub mod Firsts

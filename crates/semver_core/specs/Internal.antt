@@ -7,3 +7,4 @@ pub mod Inside
 pub mod Hashes
 pub mod Readable
 pub mod CommonReading
+pub mod Borrowed

@@ -5,6 +5,7 @@
 
 ghost use Rattle.std.specs.Prelude.{◌≡◌};
 
+mod borrowed;
 pub mod cuts;
 mod difference;
 mod error;
@@ -15,6 +16,7 @@ mod print;
 pub mod readers;
 mod version;
 
+pub use crate::borrowed::VersionRef;
 pub use crate::difference::{ReleaseType, VersionDiff};
 pub use crate::error::{Failure, NegativeNumber, SemverError};
 pub use crate::identifier::Identifier;
@@ -22,6 +24,7 @@ pub use crate::increment::{IdentifierBase, IncrementError};
 pub use crate::version::Version;
 pub use crate::version::accepts::Accepts;
 pub use crate::version::parts::VersionParts;
+pub use crate::version::versioned::Versioned;
 
 pub mod scan;
 

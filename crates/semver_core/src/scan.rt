@@ -205,7 +205,7 @@ pub(crate) fn begins_at(text: &str, at: usize) -> bool
 
 #[inline(always)]
 #[tactic(auto, using(crate::proofs::Text::Runs::rest_from))]
-fn goes_on_at(text: &str, at: usize) -> bool
+pub(crate) fn goes_on_at(text: &str, at: usize) -> bool
     requires { at ≤ length text.now }
     ensures { result ≡ goes_on (drop at text.now) }
 {
@@ -243,7 +243,7 @@ fn run_end(bytes: &[u8], start: usize) -> usize
 // Where the run at a place ends, and the number that it writes, in one pass.
 #[inline(always)]
 #[tactic(auto, using(crate::proofs::Text::OnePass::run_ends))]
-fn scan_run(bytes: &[u8], start: usize) -> (usize, Option<u64>)
+pub(crate) fn scan_run(bytes: &[u8], start: usize) -> (usize, Option<u64>)
     requires { start ≤ length bytes.now }
     ensures { result ≡ run_from (Some 0) start (drop start bytes.now) }
 {

@@ -18,6 +18,7 @@ mod convert;
 pub(crate) mod lists;
 mod order;
 pub mod parts;
+pub mod versioned;
 
 use crate::readers::{lists_at, numbers, version_loose};
 use crate::version::lists::Qualifier;

@@ -1,5 +1,5 @@
 -- What holds of the table's answers holds of what `inc` returns.
-use Rattle.std.proofs.Common.{◌≡◌, sym, ◌∙◌, ap, subst, false, List, [], ℕ, codes, Option}
+use Rattle.std.proofs.Common.{◌≡◌, sym, subst, false, List, [], ℕ, codes, Option}
 use Rattle.std.specs.Prelude.{Result, Ok, Err, unwrap_or, ⊤}
 use Rattle.std.specs.Result.{IfOk}
 use Rattle.semver_core.specs.Increments.Table.{Fault, answer_of_inc, incremented}

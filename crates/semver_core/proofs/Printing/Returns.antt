@@ -1,5 +1,5 @@
 -- Serves proofs: a printed version reads as itself.
-use Rattle.std.proofs.Common.{zero, suc, Some, refl, ◌≡◌, ◌<◌, ◌≤◌, ◌^◌, ◌==◌, ℕ, Bool, true, false, ltb, List, [], ◌∷◌, ◌++◌, length, map, sym, ap, ◌∙◌, arith, eqb, subst, append-nil}
+use Rattle.std.proofs.Common.{zero, suc, refl, ◌≡◌, ◌<◌, ◌≤◌, ◌^◌, ◌==◌, ℕ, Bool, true, false, ltb, List, [], ◌∷◌, ◌++◌, length, map, sym, ap, ◌∙◌, arith, eqb, subst, append-nil}
 use Rattle.std.specs.Prelude.{not}
 use Rattle.std.proofs.lemmas.Bool.{lt-ltb}
 use borrow.Author.Tests.{ltb-true}
@@ -19,14 +19,6 @@ use Rattle.semver_core.specs.Text.VersionText.{Reads, IsPreRelease, IsBuild, no_
 use Rattle.semver_core.specs.Printing.Text.{id_text, marked_list, version_text}
 use Rattle.semver_core.specs.Printing.RoundTrip.{is_normal, is_readable}
 use Rattle.semver_core.specs.Internal.Readable.{IsReadable, readable}
-use Rattle.semver_core.specs.declared.TheConstants.{MAX_LENGTH}
-use Rattle.semver_core.specs.Text.Parsing.{Parses}
-use Rattle.std.specs.Prelude.{IsUtf8}
-use Rattle.std.proofs.lemmas.Str.{IsCharBoundary-start}
-use Rattle.semver_core.specs.Text.Characters.{IsAfterBlank}
-use Rattle.semver_core.specs.Internal.Reading.{version_at, mark_len}
-use Rattle.semver_core.proofs.Text.Pieces.{some_inside}
-use Rattle.semver_core.proofs.Text.Texts.{version_complete, loose_at, small_digit, number_begins, no_mark_at, digit_no_mark}
 use Rattle.semver_core.proofs.Text.Runs.{not_dot, of_digits, numerals}
 
 -- ---- one identifier

@@ -1,5 +1,5 @@
 -- Worked rows of printing, computed, as one equation each.
-use Rattle.std.specs.Prelude.{◌≡◌, ℕ, Bool, List, [], ◌∷◌, true, false, codes, map, refl}
+use Rattle.std.specs.Prelude.{◌≡◌, ℕ, List, [], ◌∷◌, true, false, codes, map, refl}
 use Rattle.std.specs.Fmt.{digits}
 use Rattle.semver_core.specs.Text.Identifiers.{Id, Numeric, AlphaNumeric}
 use Rattle.semver_core.specs.Printing.RoundTrip.{is_normal}

@@ -157,13 +157,13 @@ runs_tail (p ∷ ps) h =
     rw (second_so (ltb 0 (length p)) (list_all is_identifier_char p) first, second_so (is_identifier p) (list_all is_identifier ps) h) refl
 
 -- a text of runs whose first character is one of identifiers
-begun_runs : (t : List ℕ) → begins is_identifier_char t ≡ true → tail_runs (pieces t) ≡ true → list_all is_identifier (pieces t) ≡ true
+pub begun_runs : (t : List ℕ) → begins is_identifier_char t ≡ true → tail_runs (pieces t) ≡ true → list_all is_identifier (pieces t) ≡ true
 begun_runs [] h t = cc
 begun_runs (c ∷ rest) h t =
     let split = pieces_cons c rest (not_dot c h) in
     rw split (onto_tail c (pieces rest) h (tail_onto c (pieces rest) (rw split at t)))
 
-begins_taken : (rest : List ℕ) → begins is_identifier_char rest ≡ true → begins is_identifier_char (take (list_len rest) rest) ≡ true
+pub begins_taken : (rest : List ℕ) → begins is_identifier_char rest ≡ true → begins is_identifier_char (take (list_len rest) rest) ≡ true
 unfolding list_len
 begins_taken [] h = cc
 begins_taken (c ∷ rest) h = rw (h, add_comm 1 (list_len rest), add-one (list_len rest)) h
@@ -188,7 +188,7 @@ taken_cons c rest before more = elim (cases_Bool (eqb c 46)) [
 ]
 
 -- what a longest list takes is runs, where the first may go on from before
-taken_runs : (t : List ℕ) → tail_runs (pieces (take (list_len t) t)) ≡ true
+pub taken_runs : (t : List ℕ) → tail_runs (pieces (take (list_len t) t)) ≡ true
 unfolding list_len
 taken_runs [] = refl
 taken_runs (c ∷ rest) = elim (cases_Bool (goes_on (c ∷ rest))) [

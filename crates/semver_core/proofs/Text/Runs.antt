@@ -1,8 +1,6 @@
 -- Runs of identifier characters, and lists of them.
-use Rattle.std.proofs.Common.{◌≡◌, ◌<◌, ◌≤◌, ◌+◌, ◌-◌, ◌^◌, ◌==◌, ℕ, true, false, List, [], ◌∷◌, ◌++◌, length, drop, take, get_or, map, refl, sym, ap, ◌∙◌, arith, Some, Ok, Err, Result, ltb, eqb, rules, inl, inr}
+use Rattle.std.proofs.Common.{◌≡◌, ◌<◌, ◌≤◌, ◌+◌, ◌-◌, ◌^◌, ◌==◌, ℕ, true, false, List, [], ◌∷◌, ◌++◌, length, drop, take, get_or, map, refl, sym, ap, ◌∙◌, arith, Some, ltb, eqb, rules, inl, inr}
 use Rattle.std.proofs.lemmas.Bool.{cases_Bool, eqb-true, cases_lt}
-use borrow.Author.Tests.{ltb-true}
-use Rattle.std.specs.Cmp.{first_so}
 use Rattle.std.proofs.Common.{add_comm, add-one, suc}
 use Rattle.std.proofs.Math.Seq.{take-add, drop-cons}
 use Rattle.std.proofs.lemmas.List.{get_or-take, length-take, length-drop}
@@ -13,14 +11,13 @@ use Rattle.std.proofs.lemmas.Str.{IsCharBoundary-after_ascii}
 use Rattle.std.specs.Str.{IsUtf8, IsCharBoundary}
 use Rattle.std.proofs.Common.{append_assoc, zero-add}
 use Rattle.std.proofs.lemmas.Bool.Decides.{nat_tests}
-use Rattle.std.proofs.lemmas.Str.Parse.{IsDigitsTest, IsNumeralModel, numerals_by_value, parse_digits}
+use Rattle.std.proofs.lemmas.Str.Parse.{IsDigitsTest, IsNumeralModel, numerals_by_value}
 use Rattle.std.proofs.lemmas.List.Splits.{slice_split_none, slice_split_at}
 use Rattle.std.specs.Char.{is_ascii_digit}
 use Rattle.std.specs.List.{list_all, prefix_len, All}
-use Rattle.std.specs.Result.{MatchResult}
-use Rattle.std.specs.Str.Parse.{ParsesUnsigned, digits_value}
+use Rattle.std.specs.Str.Parse.{digits_value}
 use Rattle.semver_core.specs.Text.Characters.{begins, is_identifier_char}
-use Rattle.semver_core.specs.Text.Identifiers.{Id, Numeric, AlphaNumeric, identifier_of, is_identifier, goes_on}
+use Rattle.semver_core.specs.Text.Identifiers.{Id, Numeric, identifier_of, goes_on}
 use Rattle.semver_core.specs.Internal.Reading.{list_len, list_of, list_at}
 use Rattle.semver_core.specs.Values.Views.{ids_view, id_view}
 use Rattle.semver_core.specs.declared.identifier.Identifier.{Identifier}
@@ -49,7 +46,7 @@ list_len_run (c ∷ rest) = elim (cases_Bool (is_identifier_char c)) [
   | inr fails ↦ let none : prefix_len is_identifier_char (c ∷ rest) ≡ 0 = rw fails refl in rw none (sym (zero-add (list_len (c ∷ rest))))
 ]
 
-list_len_stop : (t : List ℕ) → goes_on t ≡ false → list_len t ≡ 0
+pub list_len_stop : (t : List ℕ) → goes_on t ≡ false → list_len t ≡ 0
 unfolding list_len
 list_len_stop [] h = refl
 list_len_stop (c ∷ rest) h = rw h refl

@@ -1,7 +1,6 @@
 -- Serves proofs. Whitespace at the front of a text, byte by byte.
-use Rattle.std.proofs.Common.{◌≡◌, ℕ, zero, suc, ◌<◌, ◌≤◌, ◌+◌, List, [], ◌∷◌, length, drop, refl, sym, ap, ◌∙◌, arith, ltb, ◌++◌, subst, get_or, inl, inr, length-append}
-use Rattle.std.proofs.lemmas.Bool.{cases_Bool, lt-ltb}
-use Rattle.semver_core.specs.Internal.Spaces.{after_spaces, drop_spaces, space_len, space_len_two, space_len_three, is_space_of_two, is_space_of_three}
+use Rattle.std.proofs.Common.{◌≡◌, ℕ, zero, suc, ◌<◌, List, [], ◌∷◌, drop, refl, sym, ap, ◌∙◌, arith, ◌++◌}
+use Rattle.semver_core.specs.Internal.Spaces.{after_spaces, drop_spaces, space_len}
 
 -- bytes that belong to a whitespace character are skipped
 pub after_spaces-drop : (n : ℕ) (text : List ℕ) → after_spaces n text ≡ drop_spaces (drop n text)

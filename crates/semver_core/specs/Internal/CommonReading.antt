@@ -2,9 +2,10 @@
 -- what the statement of common texts says.
 use Rattle.std.specs.Prelude.{ℕ, ◌+◌, ◌*◌, ◌^◌, ◌&&◌, nat_lt, ◌==◌, if◌then◌else◌, List, [], ◌∷◌, Option, Some, None, drop}
 use Rattle.std.specs.Char.{is_ascii_digit, digit_value}
+use Rattle.std.specs.List.{prefix_len}
 use Rattle.semver_core.specs.Text.Characters.{is_identifier_char}
 use Rattle.semver_core.specs.Text.Identifiers.{Id, Numeric, AlphaNumeric}
-use Rattle.semver_core.specs.Internal.Reading.{◌>>?◌, number_at, past, triple_at, pre_release_at, build_at, qualified}
+use Rattle.semver_core.specs.Internal.Reading.{◌>>?◌, triple_at, pre_release_at, build_at, qualified}
 use Rattle.semver_core.specs.Values.Versions.{VersionValue}
 
 -- how many bytes a small `v` at the front takes
@@ -38,6 +39,10 @@ unfoldable pub run_from : Option ℕ → ℕ → List ℕ → ℕ × Option ℕ
 run_from number at [] = (at, number)
 run_from number at (c ∷ rest) = if is_identifier_char c
     then run_from (grown number c) (at + 1) rest else (at, number)
+
+-- how long the run at the front of a text is
+abbrev pub run_len : List ℕ → ℕ
+run_len text = prefix_len is_identifier_char text
 
 -- the number that a run writes
 unfoldable pub number_of_run : Option ℕ → List ℕ → Option ℕ

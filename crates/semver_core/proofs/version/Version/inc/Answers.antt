@@ -2,7 +2,6 @@
 use Rattle.std.proofs.Common.{◌≡◌, ◌+◌, codes}
 use Rattle.std.specs.Option.{option_copied}
 use Rattle.std.specs.Prelude.{IsOkAnd, unwrap_or, []}
-use Rattle.std.specs.Result.{IfOk}
 use Rattle.semver_core.specs.Increments.Least.{IsAbove, IsLeastOrOverflow, IsLeastVersion}
 use Rattle.semver_core.specs.declared.increment.IdentifierBase.TheVariants.{Value}
 use Rattle.semver_core.proofs.Increments.Clauses.{of_word, of_plain_word, above_of, build_of}

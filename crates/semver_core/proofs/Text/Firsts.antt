@@ -1,0 +1,150 @@
+-- A text that spells a list of identifiers spells the first one and then the others.
+use Rattle.std.proofs.Common.{◌≡◌, ℕ, ◌<◌, ◌≤◌, ◌+◌, List, [], ◌∷◌, length, drop, take, refl, sym, ap, ◌∙◌, arith, true, false, inl, inr, add-one, add_comm, zero-add, Option, Some}
+use Rattle.std.specs.Prelude.{◌==◌, eqb}
+use Rattle.semver_core.specs.Lists.{is_empty}
+use Rattle.std.specs.Cmp.Lexicographic.{slice_cmp}
+use Rattle.std.specs.declared.cmp.Ordering.TheVariants.{Less, Equal, Greater}
+use Rattle.semver_core.specs.Values.Order.{id_cmp, pre_cmp}
+use Rattle.semver_core.proofs.Text.Listed.{listed_none, listed_some}
+use Rattle.std.proofs.lemmas.Bool.Decides.{nat_tests}
+use Rattle.std.proofs.lemmas.Bool.{cases_Bool, eqb-true}
+use Rattle.std.specs.List.{list_all, onto_first}
+use Rattle.std.specs.Prelude.{map}
+use Rattle.semver_core.specs.Text.Identifiers.{Id, identifier_of, is_identifier, is_listed, listed, pieces}
+use Rattle.std.proofs.lemmas.List.{drop-drop}
+use Rattle.semver_core.specs.Internal.CommonReading.{number_of_run, run_from, run_len}
+use Rattle.semver_core.proofs.Text.OnePass.{run_found, scan_fits}
+use Rattle.semver_core.proofs.Text.Pieces.{first_char, runs_tail, tail_onto, tail_runs}
+
+-- what stands behind the first run and its dot
+abbrev pub others : List ℕ → List ℕ
+others text = drop (run_len text + 1) text
+
+abbrev pub later : List ℕ → List (List ℕ)
+later [] = []
+later (c ∷ rest) = pieces (c ∷ rest)
+
+later_some : (text : List ℕ) → list_all is_identifier (pieces text) ≡ true → later text ≡ pieces text
+later_some [] h = cc
+later_some (c ∷ rest) h = refl
+
+pub pieces_split : (text : List ℕ) → tail_runs (pieces text) ≡ true
+    → (pieces text ≡ take (run_len text) text ∷ later (others text)) × (list_all is_identifier (later (others text)) ≡ true)
+pieces_split [] h = (refl, refl)
+pieces_split (c ∷ rest) h = elim (cases_Bool (eqb c 46)) [
+  | inl dot ↦
+      let runs : list_all is_identifier (pieces rest) ≡ true = rw dot at h in
+      let is : c ≡ 46 = eqb-true c 46 dot in
+      let same = later_some rest runs in
+      rw is (rw same (refl, runs))
+  | inr other ↦
+      let split : tail_runs (onto_first c (pieces rest)) ≡ true = rw other at h in
+      let next = pieces_split rest (tail_onto c (pieces rest) split) in
+      let here = first_char c (pieces rest) split in
+      let taken : take (run_len (c ∷ rest)) (c ∷ rest) ≡ c ∷ take (run_len rest) rest = rw (here, add_comm 1 (run_len rest), add-one (run_len rest)) refl in
+      let len : run_len (c ∷ rest) + 1 ≡ run_len rest + 1 + 1 = rw here (omega arith) in
+      let dropped : others (c ∷ rest) ≡ others rest = rw (len, add-one (run_len rest + 1)) refl in
+      rw (taken, dropped, other, next.0) (refl, next.1)
+]
+
+listed_later : (text : List ℕ) → listed text ≡ map identifier_of (later text)
+unfolding listed
+listed_later [] = refl
+listed_later (c ∷ rest) = refl
+
+is_listed_later : (text : List ℕ) → is_listed text ≡ list_all is_identifier (later text)
+unfolding is_listed
+is_listed_later [] = refl
+is_listed_later (c ∷ rest) = refl
+
+pub listed_first : (text : List ℕ) → is_listed text ≡ true → 0 < length text
+    → (listed text ≡ identifier_of (take (run_len text) text) ∷ listed (others text)) × (is_listed (others text) ≡ true)
+listed_first [] h some = absurd (omega arith)
+listed_first (c ∷ rest) h some =
+    let runs : list_all is_identifier (pieces (c ∷ rest)) ≡ true = sym (is_listed_later (c ∷ rest)) ∙ h in
+    let split = pieces_split (c ∷ rest) (runs_tail (pieces (c ∷ rest)) runs) in (
+      listed_later (c ∷ rest) ∙ ap (map identifier_of) split.0 ∙ ap (λ l. identifier_of (take (run_len (c ∷ rest)) (c ∷ rest)) ∷ l) (sym (listed_later (others (c ∷ rest)))),
+      is_listed_later (others (c ∷ rest)) ∙ split.1,
+    )
+
+-- the run that `scan_run` found at the front
+pub front_run : (text : List ℕ) (r : ℕ × Option ℕ) → r ≡ run_from (Some 0) 0 (drop 0 text)
+    → (r.0 ≡ run_len text) × (r.1 ≡ number_of_run (Some 0) (take (run_len text) text))
+front_run text r e =
+    let both = e ∙ run_found (Some 0) 0 text in
+    (ap (λ (q : ℕ × Option ℕ). q.0) both ∙ zero-add (run_len text), ap (λ (q : ℕ × Option ℕ). q.1) both)
+
+pub front_end : (text : List ℕ) (r : ℕ × Option ℕ) → r ≡ run_from (Some 0) 0 (drop 0 text) → r.0 ≡ run_len text
+front_end text r e = (front_run text r e).0
+
+pub front_number : (text : List ℕ) (r : ℕ × Option ℕ) → r ≡ run_from (Some 0) 0 (drop 0 text) → r.1 ≡ number_of_run (Some 0) (take (run_len text) text)
+front_number text r e = (front_run text r e).1
+
+pub front_fits : (text : List ℕ) (r : ℕ × Option ℕ) → r ≡ run_from (Some 0) 0 (drop 0 text) → r.0 ≤ length text
+front_fits text r e = (scan_fits text 0 r e (omega arith)).1
+
+pub ruleset run_fronts = (front_end, front_number, front_fits)
+
+others_behind : (text : List ℕ) → drop 1 (drop (run_len text) text) ≡ others text
+others_behind text = drop-drop 1 (run_len text) text
+
+pub ids_first : (text : List ℕ) (n : ℕ) (id : Id) → n ≡ run_len text → is_listed text ≡ true → 0 < length text → id ≡ identifier_of (take n text)
+    → listed text ≡ id ∷ listed (drop 1 (drop n text))
+ids_first text n id e h some is = rw (is, e, others_behind text) (listed_first text h some).0
+
+pub ids_others : (text : List ℕ) (n : ℕ) → n ≡ run_len text → is_listed text ≡ true → 0 < length text → is_listed (drop 1 (drop n text)) ≡ true
+ids_others text n e h some = rw (e, others_behind text) (listed_first text h some).1
+
+pub ruleset firsts = (ids_first, ids_others)
+
+-- ---- the order of two texts
+
+spelled_some : (text : List ℕ) → (length text == 0) ≡ false → (id : Id) × ((ids : List Id) × (listed text ≡ id ∷ ids))
+spelled_some text some = inside (listed text) (listed_some text (grind (arith, nat_tests)))
+  where
+    inside : (ids : List Id) → 0 < length ids → (id : Id) × ((others : List Id) × (ids ≡ id ∷ others))
+    inside [] h = absurd (omega arith)
+    inside (id ∷ others) h = (id, (others, refl))
+
+none_spelled : (text : List ℕ) → (length text == 0) ≡ true → listed text ≡ []
+none_spelled text none = listed_none text (eqb-true (length text) 0 none)
+
+pub both_end : (a b : List ℕ) → (length a == 0) ≡ true → (length b == 0) ≡ true → Equal ≡ slice_cmp id_cmp (listed a) (listed b)
+both_end a b x y = rw (none_spelled a x, none_spelled b y) refl
+
+pub first_ends : (a b : List ℕ) → (length a == 0) ≡ true → (length b == 0) ≡ false → Less ≡ slice_cmp id_cmp (listed a) (listed b)
+first_ends a b x y = let s = spelled_some b y in rw (none_spelled a x, s.1.1) refl
+
+pub second_ends : (a b : List ℕ) → (length a == 0) ≡ false → (length b == 0) ≡ true → Greater ≡ slice_cmp id_cmp (listed a) (listed b)
+second_ends a b x y = let s = spelled_some a x in rw (s.1.1, none_spelled b y) refl
+
+pub ruleset compared = (both_end, first_ends, second_ends)
+
+pub no_pre : (a b : List ℕ) → (length a == 0) ≡ true → (length b == 0) ≡ true → Equal ≡ pre_cmp (listed a) (listed b)
+no_pre a b x y = rw (none_spelled a x, none_spelled b y) refl
+
+pub first_pre : (a b : List ℕ) → (length a == 0) ≡ false → (length b == 0) ≡ true → Less ≡ pre_cmp (listed a) (listed b)
+first_pre a b x y = let s = spelled_some a x in rw (s.1.1, none_spelled b y) refl
+
+pub second_pre : (a b : List ℕ) → (length a == 0) ≡ true → (length b == 0) ≡ false → Greater ≡ pre_cmp (listed a) (listed b)
+second_pre a b x y = let s = spelled_some b y in rw (none_spelled a x, s.1.1) refl
+
+pub both_pre : (a b : List ℕ) → (length a == 0) ≡ false → (length b == 0) ≡ false → slice_cmp id_cmp (listed a) (listed b) ≡ pre_cmp (listed a) (listed b)
+both_pre a b x y =
+    let s = spelled_some a x in
+    let t = spelled_some b y in
+    rw (s.1.1, t.1.1) refl
+
+pub ruleset pre_compared = (no_pre, first_pre, second_pre, both_pre)
+
+-- a text is empty where it spells none
+some_ids : (ids : List Id) → 0 < length ids → false ≡ is_empty ids
+some_ids [] h = absurd (omega arith)
+some_ids (id ∷ others) h = refl
+
+pub spelled_release : (text : List ℕ) → (length text == 0) ≡ is_empty (listed text)
+unfolding listed
+spelled_release [] = refl
+spelled_release (c ∷ rest) =
+    let some : (length (c ∷ rest) == 0) ≡ false = grind (arith, nat_tests) in
+    rw some (some_ids (listed (c ∷ rest)) (listed_some (c ∷ rest) (omega arith)))

@@ -1,0 +1,20 @@
+-- For proofs and private contracts: what the fields of a borrowed version hold.
+use Rattle.std.specs.Prelude.{◌≡◌, true}
+use Rattle.semver_core.specs.Text.Identifiers.{Id, Numeric, AlphaNumeric, is_listed, listed}
+use Rattle.semver_core.specs.Values.Versions.{VersionValue}
+use Rattle.semver_core.specs.declared.borrowed.VersionRef.TheInside.{Inside}
+use Rattle.semver_core.specs.declared.borrowed.order.IdRef.{IdRef}
+use Rattle.semver_core.specs.declared.borrowed.order.IdRef.TheVariants as variant
+
+-- the five values of the version
+abbrev pub borrowed_value : Inside → VersionValue
+borrowed_value v = record { major = v.major; minor = v.minor; patch = v.patch; pre_release = listed v.pre_release.now; build = listed v.build.now }
+
+-- both texts spell lists of identifiers
+pub record IsListed (v : Inside) : Type 0 where
+  pub pre_release : is_listed v.pre_release.now ≡ true
+  pub build : is_listed v.build.now ≡ true
+
+abbrev pub id_ref_view : IdRef → Id
+id_ref_view (variant.Numeric n) = Numeric n
+id_ref_view (variant.AlphaNumeric text) = AlphaNumeric text.now

@@ -1,0 +1,124 @@
+// Versions that borrow their text.
+
+ghost use Rattle.std.specs.Prelude.{◌≡◌, true};
+ghost use Rattle.semver_core.specs.Text.Identifiers.{is_listed, listed};
+ghost use Rattle.semver_core.specs.Values.Versions.{is_release};
+
+mod order;
+
+use crate::cuts::Point;
+use std::alloc::{AllocError, Global};
+use std::marker::Model;
+
+/// A version that borrows its text: three numbers, and the texts of its pre-release and of its
+/// build metadata, whose identifiers are read where they stand. So nothing is allocated.
+///
+/// In contracts it is the same five values as a [`Version`](crate::Version).
+#[derive(Debug, Drop)]
+pub struct VersionRef<'a> {
+    major: u64,
+    minor: u64,
+    patch: u64,
+    pre_release: &'a [u8],
+    build: &'a [u8],
+}
+
+impl<'a> Model for VersionRef<'a> {
+    ghost use Rattle.semver_core.specs.Values.Versions.{VersionValue};
+
+    ghost Value = { VersionValue };
+
+    ghost use Rattle.semver_core.specs.Internal.Borrowed.{IsListed, borrowed_value};
+
+    ghost view = { borrowed_value };
+
+    ghost invariant = { IsListed };
+}
+
+impl<'a> VersionRef<'a> {
+    /// The version of three numbers and of the identifiers that two texts spell, joined by dots, as
+    /// `rc.1`. An empty text spells none.
+    ///
+    /// It requires that both texts spell lists, which `Identifier::is_list` tests.
+    #[inline(always)]
+    pub fn from_texts(
+        major: u64,
+        minor: u64,
+        patch: u64,
+        pre_release: &'a [u8],
+        build: &'a [u8],
+    ) -> VersionRef<'a>
+        requires pre_release { is_listed pre_release.now ≡ true }
+        requires build { is_listed build.now ≡ true }
+        ensures { result ≡ record {
+          major = major;
+          minor = minor;
+          patch = patch;
+          pre_release = listed pre_release.now;
+          build = listed build.now;
+        } }
+    {
+        VersionRef {
+            major,
+            minor,
+            patch,
+            pre_release,
+            build,
+        }
+    }
+
+    /// The same version, which borrows the same text.
+    #[inline(always)]
+    pub fn copy(&self) -> VersionRef<'a>
+        ensures { result ≡ self.now }
+    {
+        VersionRef {
+            major: self.major,
+            minor: self.minor,
+            patch: self.patch,
+            pre_release: self.pre_release,
+            build: self.build,
+        }
+    }
+
+    /// The first number, which is raised for incompatible changes.
+    #[inline(always)]
+    pub fn major(&self) -> u64
+        ensures { result ≡ self.now.major }
+    {
+        self.major
+    }
+
+    /// The second number, which is raised for compatible additions.
+    #[inline(always)]
+    pub fn minor(&self) -> u64
+        ensures { result ≡ self.now.minor }
+    {
+        self.minor
+    }
+
+    /// The third number, which is raised for compatible fixes.
+    #[inline(always)]
+    pub fn patch(&self) -> u64
+        ensures { result ≡ self.now.patch }
+    {
+        self.patch
+    }
+
+    /// Whether the version is a release: it has no pre-release identifiers. Build metadata does not
+    /// count.
+    #[inline(always)]
+    #[tactic(auto, using(crate::proofs::Text::Firsts::spelled_release))]
+    pub fn is_release(&self) -> bool
+        ensures { result ≡ is_release self.now }
+    {
+        self.pre_release.is_empty()
+    }
+}
+
+/// A copy borrows the same text and never fails.
+impl<'a> Point for VersionRef<'a> {
+    fn copy(&self, _alloc: Global) -> Result<VersionRef<'a>, AllocError> {
+        Ok(VersionRef::copy(self))
+    }
+}

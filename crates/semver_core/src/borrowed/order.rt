@@ -1,0 +1,186 @@
+// The order of versions that borrow the texts of their identifiers.
+
+ghost use Rattle.std.specs.Cmp.{eq_by_cmp_equiv, partial_equiv_from_equiv, po};
+ghost use Rattle.std.specs.Cmp.Lexicographic.{slice_cmp};
+ghost use Rattle.std.specs.Ordering.{nat_cmp, ordering_then};
+ghost use Rattle.std.specs.Prelude.{◌≡◌, ◌<◌, ◌≤◌, ◌∷◌, Some, drop, length, refl, take, true};
+ghost use Rattle.semver_core.specs.Internal.OrderLaws.{precedence_total};
+ghost use Rattle.semver_core.specs.Internal.CommonReading.{number_of_run, run_len};
+ghost use Rattle.semver_core.specs.Text.Identifiers.{identifier_of, is_listed, listed};
+ghost use Rattle.semver_core.specs.Internal.Borrowed.{id_ref_view};
+ghost use Rattle.semver_core.specs.Values.Order.{id_cmp, pre_cmp, precedence, version_eq};
+
+use crate::{VersionRef, scan};
+use std::cmp::Ordering;
+
+// An identifier that borrows its text.
+#[derive(Clone, Copy)]
+pub(crate) enum IdRef<'a> {
+    Numeric(u64),
+    AlphaNumeric(&'a [u8]),
+}
+
+// How long the run at the front is, and the number that it writes.
+#[inline(always)]
+#[tactic(auto, using(crate::proofs::Text::Firsts::run_fronts))]
+fn run_front(text: &[u8]) -> (usize, Option<u64>)
+    ensures end { result.0 ≡ run_len text.now }
+    ensures number { result.1 ≡ number_of_run (Some 0) (take (run_len text.now) text.now) }
+    ensures fits { result.0 ≤ length text.now }
+{
+    scan::scan_run(text, 0)
+}
+
+// The identifier that a run spells, of this number.
+#[inline(always)]
+#[tactic(auto, using(crate::proofs::Text::OnePass::scanned))]
+fn run_id(run: &[u8], number: Option<u64>) -> IdRef<'_>
+    requires { number ≡ number_of_run (Some 0) run.now }
+    ensures { id_ref_view result ≡ identifier_of run.now }
+{
+    match number {
+        Some(value) => IdRef::Numeric(value),
+        None => IdRef::AlphaNumeric(run),
+    }
+}
+
+// The text behind its first character.
+#[inline(always)]
+fn behind_one(text: &[u8]) -> &[u8]
+    ensures { result.now ≡ drop 1 text.now }
+{
+    match text {
+        [_, rest @ ..] => rest,
+        [] => text,
+    }
+}
+
+// The first identifier of a text, and the text of the others.
+#[inline(always)]
+#[tactic(auto, using(crate::proofs::Text::Firsts::firsts))]
+fn first_id(text: &[u8]) -> (IdRef<'_>, &[u8])
+    requires listed { is_listed text.now ≡ true }
+    requires some { 0 < length text.now }
+    ensures list { listed text.now ≡ id_ref_view result.0 ∷ listed result.1.now }
+    ensures listed { is_listed result.1.now ≡ true }
+    ensures less { length result.1.now < length text.now }
+{
+    let (end, number) = run_front(text);
+    (run_id(&text[..end], number), behind_one(&text[end..]))
+}
+
+fn cmp_ids(a: IdRef<'_>, b: IdRef<'_>) -> Ordering
+    ensures { result ≡ id_cmp (id_ref_view a.entry) (id_ref_view b.entry) }
+{
+    match (a, b) {
+        (IdRef::Numeric(a), IdRef::Numeric(b)) => a.cmp(&b),
+        (IdRef::Numeric(_), IdRef::AlphaNumeric(_)) => Ordering::Less,
+        (IdRef::AlphaNumeric(_), IdRef::Numeric(_)) => Ordering::Greater,
+        (IdRef::AlphaNumeric(a), IdRef::AlphaNumeric(b)) => a.cmp(b),
+    }
+}
+
+// The order of two lists, identifier by identifier.
+
+#[tactic(auto, using(crate::proofs::Text::Firsts::compared))]
+fn cmp_lists(a: &[u8], b: &[u8]) -> Ordering
+    requires a { is_listed a.now ≡ true }
+    requires b { is_listed b.now ≡ true }
+    ensures { result ≡ slice_cmp id_cmp (listed a.now) (listed b.now) }
+{
+    let mut left = a;
+    let mut right = b;
+    'ids: loop {
+        match (left.is_empty(), right.is_empty()) {
+            (true, true) => return Ordering::Equal,
+            (true, false) => return Ordering::Less,
+            (false, true) => return Ordering::Greater,
+            (false, false) => {}
+        }
+        let (x, others) = first_id(left);
+        let (y, rest) = first_id(right);
+        let order = cmp_ids(x, y);
+        if order.is_ne() {
+            return order;
+        }
+        left = others;
+        right = rest;
+    }
+}
+
+#[inline(never)]
+#[tactic(auto, using(crate::proofs::Text::Firsts::pre_compared))]
+fn cmp_pre(a: &[u8], b: &[u8]) -> Ordering
+    requires a { is_listed a.now ≡ true }
+    requires b { is_listed b.now ≡ true }
+    ensures { result ≡ pre_cmp (listed a.now) (listed b.now) }
+{
+    match (a.is_empty(), b.is_empty()) {
+        (true, true) => Ordering::Equal,
+        (true, false) => Ordering::Greater,
+        (false, true) => Ordering::Less,
+        (false, false) => cmp_lists(a, b),
+    }
+}
+
+// The order of versions of the same first number.
+#[inline(always)]
+fn cmp_behind_major(v: &VersionRef<'_>, w: &VersionRef<'_>) -> Ordering
+    ensures { result ≡ ordering_then (nat_cmp v.now.minor w.now.minor)
+        (ordering_then (nat_cmp v.now.patch w.now.patch)
+        (pre_cmp v.now.pre_release w.now.pre_release)) }
+{
+    match v.minor.cmp(&w.minor) {
+        Ordering::Equal => match v.patch.cmp(&w.patch) {
+            Ordering::Equal => cmp_pre(v.pre_release, w.pre_release),
+            order => order,
+        },
+        order => order,
+    }
+}
+
+/// Equality of the three numbers and the pre-releases, as that of `Version`.
+impl<'a> PartialEq for VersionRef<'a> {
+    ghost eq = { version_eq };
+
+    ghost laws = { partial_equiv_from_equiv (eq_by_cmp_equiv precedence_total) };
+
+    fn eq(&self, other: &VersionRef<'a>) -> bool {
+        self.cmp(other).is_eq()
+    }
+}
+
+/// Equality is reflexive, symmetric and transitive.
+impl<'a> Eq for VersionRef<'a> {
+    ghost laws = { eq_by_cmp_equiv precedence_total };
+}
+
+/// The order of `cmp`.
+impl<'a> PartialOrd for VersionRef<'a> {
+    ghost partial_cmp = { λ v w. Some (precedence v w) };
+
+    ghost laws = { po precedence_total (λ x y. refl) };
+
+    fn partial_cmp(&self, other: &VersionRef<'a>) -> Option<Ordering> {
+        Some(self.cmp(other))
+    }
+}
+
+/// The precedence of SemVer 2.0.0, item 11, as that of `Version`.
+impl<'a> Ord for VersionRef<'a> {
+    ghost cmp = { precedence };
+
+    ghost total = { precedence_total };
+
+    ghost matches_partial_cmp = { λ v w. refl };
+
+    ghost matches_eq = { λ v w. refl };
+
+    #[inline(always)]
+    fn cmp(&self, other: &VersionRef<'a>) -> Ordering {
+        match self.major.cmp(&other.major) {
+            Ordering::Equal => cmp_behind_major(self, other),
+            order => order,
+        }
+    }
+}

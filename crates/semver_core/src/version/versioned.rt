@@ -1,0 +1,81 @@
+// What a version that owns its identifiers and one that borrows its text have in common.
+
+ghost use Rattle.std.specs.Prelude.{◌≡◌, refl};
+ghost use Rattle.semver_core.specs.Values.Order.{precedence};
+ghost use Rattle.semver_core.specs.Values.Versions.{VersionValue, is_release};
+
+use crate::cuts::Point;
+use crate::{Version, VersionRef};
+
+/// A version, whether it owns its identifiers or borrows its text.
+pub trait Versioned: Point {
+    /// The version as contracts see it.
+    ghost value: { Self → VersionValue };
+
+    /// The first number, which is raised for incompatible changes.
+    fn major(&self) -> u64
+        ensures { result ≡ (value self.now).major };
+
+    /// The second number, which is raised for compatible additions.
+    fn minor(&self) -> u64
+        ensures { result ≡ (value self.now).minor };
+
+    /// The third number, which is raised for compatible fixes.
+    fn patch(&self) -> u64
+        ensures { result ≡ (value self.now).patch };
+
+    /// Whether the version has no pre-release.
+    fn is_release(&self) -> bool
+        ensures { result ≡ is_release (value self.now) };
+
+    /// The order is the precedence of versions.
+    ghost ordered: { (v w : Self) → Self.cmp v w ≡ precedence (value v) (value w) };
+}
+
+impl Versioned for Version {
+    ghost value = { λ v. v };
+
+    ghost ordered = { λ v w. refl };
+
+    fn major(&self) -> u64 {
+        Version::major(self)
+    }
+
+    fn minor(&self) -> u64 {
+        Version::minor(self)
+    }
+
+    fn patch(&self) -> u64 {
+        Version::patch(self)
+    }
+
+    fn is_release(&self) -> bool {
+        Version::is_release(self)
+    }
+}
+
+impl<'a> Versioned for VersionRef<'a> {
+    ghost value = { λ v. v };
+
+    ghost ordered = { λ v w. refl };
+
+    #[inline(always)]
+    fn major(&self) -> u64 {
+        VersionRef::major(self)
+    }
+
+    #[inline(always)]
+    fn minor(&self) -> u64 {
+        VersionRef::minor(self)
+    }
+
+    #[inline(always)]
+    fn patch(&self) -> u64 {
+        VersionRef::patch(self)
+    }
+
+    #[inline(always)]
+    fn is_release(&self) -> bool {
+        VersionRef::is_release(self)
+    }
+}
