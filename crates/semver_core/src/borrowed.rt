@@ -1,11 +1,12 @@
 // Versions that borrow their text.
 
-ghost use Rattle.std.specs.Prelude.{◌≡◌, true};
+ghost use Rattle.std.specs.Prelude.{◌≡◌, ◌<◌, IfOk, OnErr, length, true};
 ghost use Rattle.semver_core.specs.Text.Identifiers.{is_listed, listed};
-ghost use Rattle.semver_core.specs.Values.Versions.{is_release};
+ghost use Rattle.semver_core.specs.Values.Versions.{HasIdentifiers, is_release};
 
 mod order;
 
+use crate::Version;
 use crate::cuts::Point;
 use std::alloc::{AllocError, Global};
 use std::marker::Model;
@@ -79,6 +80,16 @@ impl<'a> VersionRef<'a> {
             pre_release: self.pre_release,
             build: self.build,
         }
+    }
+
+    /// The version with identifiers of its own. Fails only if allocation fails, which happens only
+    /// where it has a pre-release or build metadata.
+    #[inline(always)]
+    pub fn to_version(&self, alloc: Global) -> Result<Version, AllocError>
+        ensures { IfOk result (λ v. v ≡ self.now) }
+    {
+        let (pre_release, build) = (self.pre_release, self.build);
+        Version::from_texts(alloc, self.major, self.minor, self.patch, pre_release, build)
     }
 
     /// The first number, which is raised for incompatible changes.
