@@ -32,8 +32,8 @@ pub mod laws;
 mod range;
 pub mod readers;
 
-pub use crate::range::{OutsideDirection, Range, RangeError};
+pub use crate::range::{OutsideDirection, Range, RangeError, RangeRef};
 pub use semver_core::{
     Accepts, Failure, Identifier, IdentifierBase, IncrementError, MAX_LENGTH, MAX_SAFE_INTEGER,
-    NegativeNumber, ReleaseType, SemverError, Version, VersionDiff, VersionParts, cuts,
+    NegativeNumber, ReleaseType, SemverError, Version, VersionDiff, VersionParts, VersionRef, cuts,
 };

@@ -8,6 +8,7 @@ ghost use Rattle.nodejs_semver.specs.Ranges.View.{IsRange, is_range_span, any_ve
 
 mod algebra;
 mod best;
+pub mod borrowed;
 mod gate;
 mod least;
 mod least_held;
@@ -19,6 +20,7 @@ mod parse;
 mod print;
 mod same;
 
+pub use crate::range::borrowed::RangeRef;
 pub use crate::range::outside::{OutsideDirection, RangeError};
 use semver_core::Version;
 use semver_core::cuts::Interval;
@@ -80,6 +82,14 @@ impl Range {
         ensures valid { IsRange MAX_SAFE_INTEGER self.now }
     {
         &self.intervals
+    }
+
+    // The range with versions of its own.
+    pub(crate) fn of_borrowed(alloc: Global, range: &RangeRef<'_>) -> Result<Range, AllocError>
+        ensures { IfOk result (λ r. r ≡ range.now) }
+    {
+        let intervals = borrowed::owned_intervals(alloc, range.intervals())?;
+        Ok(Range { intervals })
     }
 
     // The range of these intervals, or none where there is no interval.

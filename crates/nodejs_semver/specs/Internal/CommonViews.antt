@@ -6,9 +6,8 @@ use Rattle.semver_core.specs.Values.Order.{precedence}
 use Rattle.semver_core.specs.Values.Versions.{VersionValue}
 use Rattle.nodejs_semver.specs.Internal.CommonFronts.{part_read}
 use Rattle.nodejs_semver.specs.Internal.Fronts.{Front}
-use Rattle.nodejs_semver.specs.Internal.Readings.{bound_view, bounds_view, rest_view}
+use Rattle.nodejs_semver.specs.Internal.Readings.{bounds_view, rest_view}
 use Rattle.semver_core.specs.declared.cuts.bound.Bound.{Bound}
-use Rattle.nodejs_semver.specs.declared.readers.syntax.BareVersion.{BareVersion}
 use Rattle.nodejs_semver.specs.declared.readers.syntax.Bounds.{Bounds}
 
 -- the interval of the bounds, where they make one, and what follows the word
@@ -16,8 +15,8 @@ abbrev pub bounds_front_view : Option (Bounds × Bor (List ℕ)) → Front (Span
 bounds_front_view None = None
 bounds_front_view (Some p) = part_read p.1.now (interval precedence (bounds_view p.0))
 
-abbrev pub between_view : Bound BareVersion → Bound BareVersion → Span VersionValue
-between_view lower upper = record { lower = bound_view lower; upper = bound_view upper }
+abbrev pub between_view : Bound VersionValue → Bound VersionValue → Span VersionValue
+between_view lower upper = record { lower = lower; upper = upper }
 
 -- whether an interval was added, and the list
 abbrev pub both_view : Bool → List (Span VersionValue) → Bool × List (Span VersionValue)

@@ -3,8 +3,6 @@ use Rattle.std.specs.Prelude.{ℕ, Bool, List, Option, Some, None}
 use Rattle.std.specs.Borrow.{Bor}
 use Rattle.semver_core.specs.Text.Identifiers.{listed}
 use Rattle.semver_core.specs.Cuts.{Span}
-use Rattle.semver_core.specs.declared.cuts.bound.Bound.{Bound}
-use Rattle.semver_core.specs.declared.cuts.bound.Bound.TheVariants.{Unbounded, Before, After}
 use Rattle.semver_core.specs.Values.Versions.{VersionValue}
 use Rattle.nodejs_semver.specs.Internal.Fronts.{Front}
 use Rattle.nodejs_semver.specs.Text.PartialText as Spec
@@ -12,7 +10,6 @@ use Rattle.nodejs_semver.specs.Text.WordText as WordSpec
 use Rattle.nodejs_semver.specs.Internal.Words as SignSpec
 use Rattle.nodejs_semver.specs.Internal.Words.{unsigned, compared, tilded, careted}
 use Rattle.nodejs_semver.specs.Text.WordText.{at_least, above, equal, at_most, below}
-use Rattle.nodejs_semver.specs.declared.readers.syntax.BareVersion.{BareVersion}
 use Rattle.nodejs_semver.specs.declared.readers.syntax.Bounds.{Bounds}
 use Rattle.nodejs_semver.specs.declared.readers.syntax.Partial.{Partial}
 use Rattle.nodejs_semver.specs.declared.readers.syntax.Comparator.{Comparator}
@@ -61,22 +58,8 @@ sign_view Signs.Caret = careted
 abbrev pub sign_pair_view : Sign × Bor (List ℕ) → SignSpec.Sign × List ℕ
 sign_pair_view p = (sign_view p.0, p.1.now)
 
-abbrev pub bare_view : BareVersion → VersionValue
-bare_view v = record {
-  major = v.major;
-  minor = v.minor;
-  patch = v.patch;
-  pre_release = listed v.pre_release.now;
-  build = listed v.build.now;
-}
-
-abbrev pub bound_view : Bound BareVersion → Bound VersionValue
-bound_view Unbounded = Unbounded
-bound_view (Before v) = Before (bare_view v)
-bound_view (After v) = After (bare_view v)
-
 abbrev pub bounds_view : Bounds → Span VersionValue
-bounds_view b = record { lower = bound_view b.lower; upper = bound_view b.upper }
+bounds_view b = record { lower = b.lower; upper = b.upper }
 
 abbrev pub table_view : Option Bounds → Option (Span VersionValue)
 table_view None = None

@@ -8,11 +8,10 @@ ghost use Rattle.nodejs_semver.specs.Text.WrittenSet.{Writes};
 ghost use Rattle.semver_core.specs.Failures.{RefusedOnlyIf};
 ghost use Rattle.semver_core.specs.Values.Versions.{VersionValue};
 
-use crate::Range;
 use crate::range::Intervals;
+use crate::{Range, RangeRef};
 use crate::readers::{read_any, read_common};
-use semver_core::{Failure, MAX_SAFE_INTEGER, SemverError, Version};
-use smallvec::SmallVec;
+use semver_core::{Failure, MAX_SAFE_INTEGER, SemverError, VersionRef};
 use std::alloc::{AllocError, Global};
 
 impl Range {
@@ -43,23 +42,21 @@ impl Range {
         ensures set { IfOk result (λ range. (v : VersionValue) →
             IsTrue (accepts range v true) ↔ Writes MAX_SAFE_INTEGER text.now v) }
     {
-        let mut intervals = SmallVec::new(alloc);
-        read(alloc, text, &mut intervals)?;
-        if intervals.is_empty() {
-            return Err(Failure::Refused(SemverError));
-        }
-        Ok(Range { intervals })
+        Ok(RangeRef::parse(alloc, text)?.to_range(alloc)?)
     }
 }
 
 // Reads the intervals of a text into an empty list. Most texts are common ones.
 #[inline(never)]
-fn read(alloc: Global, text: &str, found: &mut Intervals<Version>) -> Result<(), AllocError>
+pub(crate) fn read<'a>(
+    text: &'a str,
+    found: &mut Intervals<VersionRef<'a>>,
+) -> Result<(), AllocError>
     requires { found.old.items ≡ [] }
     ensures { OnOk result (found.new.items ≡ denotes MAX_SAFE_INTEGER text.now) }
 {
-    if !read_common(alloc, text.as_bytes(), found)? {
-        read_any(alloc, text, found)?;
+    if !read_common(text.as_bytes(), found)? {
+        read_any(text, found)?;
     }
     Ok(())
 }

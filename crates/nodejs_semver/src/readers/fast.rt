@@ -16,13 +16,14 @@ ghost use Rattle.semver_core.specs.Cuts.{interval, is_interval};
 ghost use Rattle.semver_core.specs.Values.Order.{precedence};
 ghost use Rattle.semver_core.specs.declared.TheConstants.{MAX_SAFE_INTEGER};
 
-use crate::Range;
 use crate::range::Intervals;
+use crate::range::borrowed::owned;
+use crate::{Range, RangeRef};
 use crate::readers::intervals::{between, push, push_between, push_ordered};
-use crate::readers::syntax::{BareVersion, Bounds, Partial};
+use crate::readers::syntax::{Bounds, Partial};
 use crate::readers::{intervals, partial, table, words};
 use semver_core::cuts::{Bound, Interval};
-use semver_core::{MAX_SAFE_INTEGER, Version};
+use semver_core::{MAX_SAFE_INTEGER, VersionRef};
 use smallvec::SmallVec;
 use std::alloc::{AllocError, Global};
 
@@ -56,48 +57,28 @@ fn comparison(text: &[u8]) -> Option<(Bounds<'_>, &[u8])>
 }
 
 // What the intervals of two pairs of bounds have in common.
-fn common_interval(
-    alloc: Global,
-    first: Bounds<'_>,
-    second: Bounds<'_>,
-) -> Result<Option<Interval<Version>>, AllocError>
-    ensures { IfOk result (λ both. both
-        ≡ Spec.both_of (bounds_view first.entry) (bounds_view second.entry)) }
+fn common_interval<'a>(
+    first: Bounds<'a>,
+    second: Bounds<'a>,
+) -> Option<Interval<VersionRef<'a>>>
+    ensures { result ≡ Spec.both_of (bounds_view first.entry) (bounds_view second.entry) }
 {
-    match between(alloc, first)? {
-        Some(first) => common_with(alloc, &first, second),
-        None => Ok(None),
-    }
-}
-
-// What the interval has in common with that of the bounds.
-fn common_with(
-    alloc: Global,
-    first: &Interval<Version>,
-    second: Bounds<'_>,
-) -> Result<Option<Interval<Version>>, AllocError>
-    ensures { IfOk result (λ both. both ≡ Spec.common_with first.now (bounds_view second.entry)) }
-{
-    match between(alloc, second)? {
-        Some(second) => first.intersect(alloc, &second),
-        None => Ok(None),
-    }
+    between(first)?.into_intersection(between(second)?).ok()
 }
 
 // Adds what two comparisons have in common, where that is an interval.
 #[cold]
 #[inline(never)]
-fn push_common(
-    alloc: Global,
-    first: Bounds<'_>,
-    second: Bounds<'_>,
-    found: &mut Intervals<Version>,
+fn push_common<'a>(
+    first: Bounds<'a>,
+    second: Bounds<'a>,
+    found: &mut Intervals<VersionRef<'a>>,
 ) -> Result<bool, AllocError>
     ensures { let both = Spec.both_of (bounds_view first.entry) (bounds_view second.entry) in
         IfOk result (λ there. both_view there found.new.items
         ≡ Spec.pushed found.old.items both) }
 {
-    match common_interval(alloc, first, second)? {
+    match common_interval(first, second) {
         Some(interval) => {
             push(interval, found)?;
             Ok(true)
@@ -109,11 +90,10 @@ fn push_common(
 // Adds what two comparisons have in common, where that is an interval. Mostly the first one has a
 // lower bound and the second an upper one.
 #[tactic(auto, using(crate::proofs::Everyday::Bounds::half_open))]
-fn push_both(
-    alloc: Global,
-    first: Bounds<'_>,
-    second: Bounds<'_>,
-    found: &mut Intervals<Version>,
+fn push_both<'a>(
+    first: Bounds<'a>,
+    second: Bounds<'a>,
+    found: &mut Intervals<VersionRef<'a>>,
 ) -> Result<bool, AllocError>
     ensures { let both = Spec.both_of (bounds_view first.entry) (bounds_view second.entry) in
         IfOk result (λ there. both_view there found.new.items
@@ -121,9 +101,9 @@ fn push_both(
 {
     match (&first.upper, &second.lower) {
         (Bound::Unbounded, Bound::Unbounded) => {
-            push_between(alloc, first.lower, second.upper, found)
+            push_between(first.lower, second.upper, found)
         }
-        _ => push_common(alloc, first, second, found),
+        _ => push_common(first, second, found),
     }
 }
 
@@ -146,9 +126,8 @@ fn behind_part(there: bool, rest: &[u8]) -> Option<&[u8]>
 // Adds the interval of one comparison, or of two, and returns what follows them.
 #[tactic(auto, unfolding(crate::specs::Internal::CommonFronts::comparisons_front))]
 fn push_comparisons<'a>(
-    alloc: Global,
     text: &'a [u8],
-    found: &mut Intervals<Version>,
+    found: &mut Intervals<VersionRef<'a>>,
 ) -> Result<Option<&'a [u8]>, AllocError>
     ensures { IfOk result (λ rest. passed_view rest found.new.items
         ≡ Spec.passed found.old.items (Spec.comparisons_front MAX_SAFE_INTEGER text.now)) }
@@ -157,13 +136,13 @@ fn push_comparisons<'a>(
         return Ok(None);
     };
     if !begins_second(rest) {
-        let there = push_between(alloc, first.lower, first.upper, found)?;
+        let there = push_between(first.lower, first.upper, found)?;
         return Ok(behind_part(there, rest));
     }
     let Some((second, rest)) = comparison(&rest[1..]) else {
         return Ok(None);
     };
-    let there = push_both(alloc, first, second, found)?;
+    let there = push_both(first, second, found)?;
     Ok(behind_part(there, rest))
 }
 
@@ -171,10 +150,9 @@ fn push_comparisons<'a>(
 // are known to be in order.
 #[inline(always)]
 fn push_word<'a>(
-    alloc: Global,
-    bounds: Option<Bounds<'_>>,
+    bounds: Option<Bounds<'a>>,
     rest: &'a [u8],
-    found: &mut Intervals<Version>,
+    found: &mut Intervals<VersionRef<'a>>,
 ) -> Result<Option<&'a [u8]>, AllocError>
     requires { IfSome bounds (λ b. is_interval precedence (bounds_view b) ≡ true) }
     ensures { IfOk result (λ after. passed_view after found.new.items
@@ -183,16 +161,15 @@ fn push_word<'a>(
     let Some(bounds) = bounds else {
         return Ok(None);
     };
-    push_ordered(alloc, bounds, found)?;
+    push_ordered(bounds, found)?;
     Ok(Some(rest))
 }
 
 // Adds the interval of what stands behind a tilde, and returns what follows it.
 #[tactic(auto, unfolding(crate::specs::Internal::CommonFronts::tilde_front), using(crate::proofs::Bounds::TableReadings::ordered))]
 fn push_tilde<'a>(
-    alloc: Global,
     text: &'a [u8],
-    found: &mut Intervals<Version>,
+    found: &mut Intervals<VersionRef<'a>>,
 ) -> Result<Option<&'a [u8]>, AllocError>
     ensures { IfOk result (λ rest. passed_view rest found.new.items
         ≡ Spec.passed found.old.items
@@ -202,15 +179,14 @@ fn push_tilde<'a>(
     let Some((partial, rest)) = bare_front(rest) else {
         return Ok(None);
     };
-    push_word(alloc, table::tilde(greater, &partial), rest, found)
+    push_word(table::tilde(greater, &partial), rest, found)
 }
 
 // Adds the interval of what stands behind a caret, and returns what follows it.
 #[tactic(auto, unfolding(crate::specs::Internal::CommonFronts::caret_front), using(crate::proofs::Bounds::TableReadings::ordered))]
 fn push_caret<'a>(
-    alloc: Global,
     text: &'a [u8],
-    found: &mut Intervals<Version>,
+    found: &mut Intervals<VersionRef<'a>>,
 ) -> Result<Option<&'a [u8]>, AllocError>
     ensures { IfOk result (λ rest. passed_view rest found.new.items
         ≡ Spec.passed found.old.items
@@ -219,15 +195,14 @@ fn push_caret<'a>(
     let Some((partial, rest)) = bare_front(text) else {
         return Ok(None);
     };
-    push_word(alloc, table::caret(&partial), rest, found)
+    push_word(table::caret(&partial), rest, found)
 }
 
 // Adds the interval from a partial to the one at the front, and returns what follows it.
 fn push_hyphen<'a>(
-    alloc: Global,
-    lower: Partial<'_>,
+    lower: Partial<'a>,
     text: &'a [u8],
-    found: &mut Intervals<Version>,
+    found: &mut Intervals<VersionRef<'a>>,
 ) -> Result<Option<&'a [u8]>, AllocError>
     ensures { IfOk result (λ rest. passed_view rest found.new.items
         ≡ Spec.passed found.old.items
@@ -237,16 +212,15 @@ fn push_hyphen<'a>(
     let Some((upper, rest)) = bare_front(text) else {
         return Ok(None);
     };
-    let there = intervals::push_hyphen(alloc, lower, upper, found)?;
+    let there = intervals::push_hyphen(lower, upper, found)?;
     Ok(behind_part(there, rest))
 }
 
 // Adds the interval of one partial, or of two with a dash between them, and returns what follows.
 #[tactic(auto, unfolding(crate::specs::Internal::CommonFronts::partials_front), using(crate::proofs::Bounds::TableReadings::ordered))]
 fn push_partials<'a>(
-    alloc: Global,
     text: &'a [u8],
-    found: &mut Intervals<Version>,
+    found: &mut Intervals<VersionRef<'a>>,
 ) -> Result<Option<&'a [u8]>, AllocError>
     ensures { IfOk result (λ rest. passed_view rest found.new.items
         ≡ Spec.passed found.old.items
@@ -256,8 +230,8 @@ fn push_partials<'a>(
         return Ok(None);
     };
     match rest {
-        [b' ', b'-', b' ', second @ ..] => push_hyphen(alloc, partial, second, found),
-        _ => push_word(alloc, table::plain(&partial), rest, found),
+        [b' ', b'-', b' ', second @ ..] => push_hyphen(partial, second, found),
+        _ => push_word(table::plain(&partial), rest, found),
     }
 }
 
@@ -265,19 +239,18 @@ fn push_partials<'a>(
 #[inline(always)]
 #[tactic(auto, unfolding(crate::specs::Internal::CommonFronts::part_front))]
 fn push_part<'a>(
-    alloc: Global,
     text: &'a [u8],
-    found: &mut Intervals<Version>,
+    found: &mut Intervals<VersionRef<'a>>,
 ) -> Result<Option<&'a [u8]>, AllocError>
     ensures { IfOk result (λ rest. passed_view rest found.new.items
         ≡ Spec.passed found.old.items (Spec.part_front MAX_SAFE_INTEGER text.now)) }
 {
     match text {
         [] => Ok(None),
-        [b'<' | b'=' | b'>', ..] => push_comparisons(alloc, text, found),
-        [b'~', rest @ ..] => push_tilde(alloc, rest, found),
-        [b'^', rest @ ..] => push_caret(alloc, rest, found),
-        _ => push_partials(alloc, text, found),
+        [b'<' | b'=' | b'>', ..] => push_comparisons(text, found),
+        [b'~', rest @ ..] => push_tilde(rest, found),
+        [b'^', rest @ ..] => push_caret(rest, found),
+        _ => push_partials(text, found),
     }
 }
 
@@ -307,7 +280,7 @@ fn after_bars(text: &[u8]) -> Option<&[u8]>
 // Room for the intervals of a text, at most 31 at once. A part and its bars mostly take eight bytes
 // or more.
 #[inline(always)]
-fn reserve_for(text: &[u8], found: &mut Intervals<Version>) -> Result<(), AllocError>
+fn reserve_for<'a>(text: &'a [u8], found: &mut Intervals<VersionRef<'a>>) -> Result<(), AllocError>
     ensures { found.new.items ≡ found.old.items }
 {
     if found.len() == found.capacity() {
@@ -319,10 +292,9 @@ fn reserve_for(text: &[u8], found: &mut Intervals<Version>) -> Result<(), AllocE
 /// Adds the intervals of a common text, one for each part, to an empty list. It returns `false`
 /// exactly where the text is not a common one; then the list may hold some of them.
 #[inline(always)]
-pub(crate) fn read_common(
-    alloc: Global,
-    text: &[u8],
-    found: &mut Intervals<Version>,
+pub(crate) fn read_common<'a>(
+    text: &'a [u8],
+    found: &mut Intervals<VersionRef<'a>>,
 ) -> Result<bool, AllocError>
     requires { found.old.items ≡ [] }
     ensures some { IfOk result (λ there. IsTrue there
@@ -331,7 +303,7 @@ pub(crate) fn read_common(
 {
     let mut rest = text;
     'parts: loop {
-        let Some(behind) = push_part(alloc, rest, found)? else {
+        let Some(behind) = push_part(rest, found)? else {
             return Ok(false);
         };
         if behind.is_empty() {
@@ -363,8 +335,8 @@ pub fn range_fast(alloc: Global, text: &str) -> Result<Option<Range>, AllocError
     ensures none { IfOk result (λ found. IfNone found (IsUncommon MAX_SAFE_INTEGER text.now)) }
 {
     let mut found = SmallVec::new(alloc);
-    if !read_common(alloc, text.as_bytes(), &mut found)? {
+    if !read_common(text.as_bytes(), &mut found)? {
         return Ok(None);
     }
-    Ok(Range::from_intervals(found))
+    owned(alloc, RangeRef::from_intervals(found))
 }

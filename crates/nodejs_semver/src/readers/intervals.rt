@@ -1,5 +1,4 @@
-// The intervals of a part. Memory is taken here, where the versions of bounds are made, and not
-// while partials are read.
+// The intervals of a part. Memory is taken only where a list of intervals grows.
 
 ghost use Rattle.std.specs.Option.{option_to_list};
 ghost use Rattle.std.specs.Prelude.{◌≡◌, ◌<◌, ◌++◌, ◌∷◌, [], List, Option, IfOk, OnOk, is_some};
@@ -9,7 +8,7 @@ ghost use Rattle.nodejs_semver.specs.Internal.Denotes.{part_bounds, part_interva
 ghost use Rattle.nodejs_semver.specs.Internal.CommonFronts.{pushed};
 ghost use Rattle.nodejs_semver.specs.Internal.CommonViews.{between_view, both_view};
 ghost use Rattle.nodejs_semver.specs.Internal.Meets.{joined_from, next_at};
-ghost use Rattle.nodejs_semver.specs.Internal.Readings.{bare_view, bound_view, bounds_view};
+ghost use Rattle.nodejs_semver.specs.Internal.Readings.{bounds_view};
 ghost use Rattle.nodejs_semver.specs.Internal.Readings.{hyphen_pushed_view, next_view};
 ghost use Rattle.nodejs_semver.specs.Internal.Readings.{partial_view, sign_view, word_pushed_view};
 ghost use Rattle.nodejs_semver.specs.Internal.Words.{hyphen_pushed, signed_word, upper_behind};
@@ -25,63 +24,26 @@ ghost use Rattle.semver_core.specs.Values.Views.{ids_view};
 ghost use Rattle.semver_core.specs.declared.TheConstants.{MAX_SAFE_INTEGER};
 
 use crate::range::Intervals;
-use crate::readers::syntax::{BareVersion, Bounds, Partial, Sign};
+use crate::readers::syntax::{Bounds, Partial, Sign};
 use crate::readers::{partial, spaces, table, words};
-use semver_core::Version;
+use semver_core::VersionRef;
 use semver_core::cuts::{Bound, Interval};
-use std::alloc::{AllocError, Global};
-
-// The version of a bound. `bare` is passed by value: then the compiler keeps the numbers of a
-// release in registers.
-#[inline(always)]
-fn version(alloc: Global, bare: BareVersion<'_>) -> Result<Version, AllocError>
-    ensures { IfOk result (λ v. v ≡ bare_view bare.entry) }
-{
-    let (pre_release, build) = (bare.pre_release, bare.build);
-    Version::from_texts(
-        alloc,
-        bare.major,
-        bare.minor,
-        bare.patch,
-        pre_release,
-        build,
-    )
-}
-
-/// The bound with a version of its own.
-#[inline(always)]
-pub(crate) fn bound(
-    alloc: Global,
-    bare: Bound<BareVersion<'_>>,
-) -> Result<Bound<Version>, AllocError>
-    ensures { IfOk result (λ b. b ≡ bound_view bare.entry) }
-{
-    Ok(match bare {
-        Bound::Unbounded => Bound::Unbounded,
-        Bound::Before(bare) => Bound::Before(version(alloc, bare)?),
-        Bound::After(bare) => Bound::After(version(alloc, bare)?),
-    })
-}
+use std::alloc::AllocError;
 
 /// The interval of two bounds, where the lower cut is below the upper one.
-pub(crate) fn between(
-    alloc: Global,
-    bounds: Bounds<'_>,
-) -> Result<Option<Interval<Version>>, AllocError>
-    ensures { IfOk result (λ found. found ≡ interval precedence (bounds_view bounds.entry)) }
+pub(crate) fn between(bounds: Bounds<'_>) -> Option<Interval<VersionRef<'_>>>
+    ensures { result ≡ interval precedence (bounds_view bounds.entry) }
 {
-    let lower = bound(alloc, bounds.lower)?;
-    let upper = bound(alloc, bounds.upper)?;
-    Ok(Interval::new(lower, upper))
+    Interval::new(bounds.lower, bounds.upper)
 }
 
 /// Adds an interval at the end of a list. A list that outgrows its place mostly has more than two.
 #[inline(always)]
-pub(crate) fn push(
-    interval: Interval<Version>,
-    found: &mut Intervals<Version>,
+pub(crate) fn push<'a>(
+    interval: Interval<VersionRef<'a>>,
+    found: &mut Intervals<VersionRef<'a>>,
 ) -> Result<(), AllocError>
-    ensures { OnOk result (found.new.items ≡ found.old.items ++ interval ∷ []) }
+    ensures { OnOk result (found.new.items ≡ found.old.items ++ interval.entry ∷ []) }
 {
     if found.len() == found.capacity() {
         found.reserve(3)?;
@@ -92,34 +54,28 @@ pub(crate) fn push(
 
 /// Adds the interval of two bounds that are in order.
 #[inline(always)]
-pub(crate) fn push_ordered(
-    alloc: Global,
-    bounds: Bounds<'_>,
-    found: &mut Intervals<Version>,
+pub(crate) fn push_ordered<'a>(
+    bounds: Bounds<'a>,
+    found: &mut Intervals<VersionRef<'a>>,
 ) -> Result<(), AllocError>
     requires { is_interval precedence (bounds_view bounds) ≡ true }
     ensures { OnOk result (found.new.items ≡ found.old.items ++ bounds_view bounds.entry ∷ []) }
 {
-    let lower = bound(alloc, bounds.lower)?;
-    let upper = bound(alloc, bounds.upper)?;
-    push(Interval::of_ordered(lower, upper), found)
+    push(Interval::of_ordered(bounds.lower, bounds.upper), found)
 }
 
 /// Adds the interval of two bounds, where the lower cut is below the upper one, and returns whether
 /// it is.
 #[inline(always)]
-pub(crate) fn push_between(
-    alloc: Global,
-    lower: Bound<BareVersion<'_>>,
-    upper: Bound<BareVersion<'_>>,
-    found: &mut Intervals<Version>,
+pub(crate) fn push_between<'a>(
+    lower: Bound<VersionRef<'a>>,
+    upper: Bound<VersionRef<'a>>,
+    found: &mut Intervals<VersionRef<'a>>,
 ) -> Result<bool, AllocError>
     ensures { let s = between_view lower.entry upper.entry in
         IfOk result (λ there. both_view there found.new.items
         ≡ pushed found.old.items (interval precedence s)) }
 {
-    let lower = bound(alloc, lower)?;
-    let upper = bound(alloc, upper)?;
     let Some(interval) = Interval::new(lower, upper) else {
         return Ok(false);
     };
@@ -129,28 +85,26 @@ pub(crate) fn push_between(
 
 /// Adds the interval of a hyphen word, and returns whether it has one.
 #[inline(never)]
-pub(crate) fn push_hyphen(
-    alloc: Global,
-    lower: Partial<'_>,
-    upper: Partial<'_>,
-    found: &mut Intervals<Version>,
+pub(crate) fn push_hyphen<'a>(
+    lower: Partial<'a>,
+    upper: Partial<'a>,
+    found: &mut Intervals<VersionRef<'a>>,
 ) -> Result<bool, AllocError>
     ensures { let w = hyphen (partial_view lower.entry) (partial_view upper.entry) in
         IfOk result (λ there. both_view there found.new.items
         ≡ pushed found.old.items (table MAX_SAFE_INTEGER w)) }
 {
     let bounds = table::hyphen(&lower, &upper);
-    push_between(alloc, bounds.lower, bounds.upper, found)
+    push_between(bounds.lower, bounds.upper, found)
 }
 
 // Adds the interval of the hyphen word of a partial and the text behind it, where they make one.
 // Returns whether the word has an interval, and the text behind the word.
 #[inline(never)]
 fn push_hyphen_behind<'a>(
-    alloc: Global,
-    lower: Partial<'_>,
+    lower: Partial<'a>,
     text: &'a [u8],
-    found: &mut Intervals<Version>,
+    found: &mut Intervals<VersionRef<'a>>,
 ) -> Result<Option<(bool, &'a [u8])>, AllocError>
     ensures { let upper = upper_behind MAX_SAFE_INTEGER text.now in
         IfOk result (λ read. hyphen_pushed_view read found.new.items
@@ -159,7 +113,7 @@ fn push_hyphen_behind<'a>(
     let Some((upper, rest)) = words::upper_behind(text) else {
         return Ok(None);
     };
-    let there = push_hyphen(alloc, lower, upper, found)?;
+    let there = push_hyphen(lower, upper, found)?;
     Ok(Some((there, rest)))
 }
 
@@ -167,11 +121,10 @@ fn push_hyphen_behind<'a>(
 // where there is such a word. Mostly the part ends behind the partial.
 #[inline(always)]
 fn push_upper<'a>(
-    alloc: Global,
     sign: Sign,
-    lower: Partial<'_>,
+    lower: Partial<'a>,
     rest: &'a [u8],
-    found: &mut Intervals<Version>,
+    found: &mut Intervals<VersionRef<'a>>,
 ) -> Result<Option<(bool, &'a [u8])>, AllocError>
     ensures { let upper = upper_of MAX_SAFE_INTEGER (sign_view sign) rest.now in
         IfOk result (λ read. hyphen_pushed_view read found.new.items
@@ -179,7 +132,7 @@ fn push_upper<'a>(
 {
     match (sign, rest) {
         (_, []) => Ok(None),
-        (Sign::Nothing, _) => push_hyphen_behind(alloc, lower, rest, found),
+        (Sign::Nothing, _) => push_hyphen_behind(lower, rest, found),
         (Sign::Comparator(_) | Sign::Tilde(_) | Sign::Caret, _) => Ok(None),
     }
 }
@@ -187,11 +140,10 @@ fn push_upper<'a>(
 // Adds the interval of a word of one partial, and returns whether it has one.
 #[inline(always)]
 #[tactic(auto, using(crate::proofs::Bounds::TableReadings::settled))]
-fn push_signed(
-    alloc: Global,
+fn push_signed<'a>(
     sign: Sign,
-    partial: Partial<'_>,
-    found: &mut Intervals<Version>,
+    partial: Partial<'a>,
+    found: &mut Intervals<VersionRef<'a>>,
 ) -> Result<bool, AllocError>
     ensures { let w = signed_word (sign_view sign) (partial_view partial.entry) in
         IfOk result (λ there. both_view there found.new.items
@@ -199,7 +151,7 @@ fn push_signed(
 {
     match table::signed(sign, &partial) {
         Some(bounds) => {
-            push_ordered(alloc, bounds, found)?;
+            push_ordered(bounds, found)?;
             Ok(true)
         }
         None => Ok(false),
@@ -210,9 +162,8 @@ fn push_signed(
 // word.
 #[inline(always)]
 fn push_word<'a>(
-    alloc: Global,
     text: &'a [u8],
-    found: &mut Intervals<Version>,
+    found: &mut Intervals<VersionRef<'a>>,
 ) -> Result<(bool, &'a [u8]), AllocError>
     ensures { let w = word_at MAX_SAFE_INTEGER text.now in
         IfOk result (λ read. word_pushed_view read found.new.items
@@ -222,35 +173,34 @@ fn push_word<'a>(
     let Some((partial, rest)) = partial::partial_front(rest) else {
         return Ok((false, words::skip_to_boundary(text)));
     };
-    if let Some(read) = push_upper(alloc, sign, partial, rest, found)? {
+    if let Some(read) = push_upper(sign, partial, rest, found)? {
         return Ok(read);
     }
     if !words::is_boundary(rest) {
         return Ok((false, words::skip_to_boundary(text)));
     }
-    let there = push_signed(alloc, sign, partial, found)?;
+    let there = push_signed(sign, partial, found)?;
     Ok((there, rest))
 }
 
 // Adds the interval of the word at the front. Returns whether it has one, and the text behind the
 // word and its whitespace.
 fn push_next<'a>(
-    alloc: Global,
     text: &'a [u8],
-    found: &mut Intervals<Version>,
+    found: &mut Intervals<VersionRef<'a>>,
 ) -> Result<(bool, &'a [u8]), AllocError>
     ensures there { IfOk result (λ read. read.0 ≡ is_some (next_at MAX_SAFE_INTEGER text.now).0) }
     ensures rest { IfOk result (λ read. read.1.now ≡ (next_at MAX_SAFE_INTEGER text.now).1) }
     ensures found { OnOk result (found.new.items
         ≡ found.old.items ++ option_to_list (next_at MAX_SAFE_INTEGER text.now).0) }
 {
-    let (there, rest) = push_word(alloc, text, found)?;
+    let (there, rest) = push_word(text, found)?;
     Ok((there, spaces::skip_spaces(rest)))
 }
 
 // Takes back the interval that was added last, where one was.
 #[inline(always)]
-fn taken(there: bool, found: &mut Intervals<Version>) -> Option<Interval<Version>>
+fn taken<'a>(there: bool, found: &mut Intervals<VersionRef<'a>>) -> Option<Interval<VersionRef<'a>>>
     ensures { (front : List (Span VersionValue)) → (added : Option (Span VersionValue)) →
         there ≡ is_some added → found.old.items ≡ front ++ option_to_list added →
         (result ≡ added) × (found.new.items ≡ front) }
@@ -262,27 +212,26 @@ fn taken(there: bool, found: &mut Intervals<Version>) -> Option<Interval<Version
 // whitespace. The list has room for it for a while.
 #[inline(never)]
 fn next_interval<'a>(
-    alloc: Global,
     text: &'a [u8],
-    found: &mut Intervals<Version>,
-) -> Result<(Option<Interval<Version>>, &'a [u8]), AllocError>
+    found: &mut Intervals<VersionRef<'a>>,
+) -> Result<(Option<Interval<VersionRef<'a>>>, &'a [u8]), AllocError>
     ensures value { IfOk result (λ r. next_view r.0 r.1 ≡ next_at MAX_SAFE_INTEGER text.now) }
     ensures kept { OnOk result (found.new.items ≡ found.old.items) }
 {
-    let (there, rest) = push_next(alloc, text, found)?;
+    let (there, rest) = push_next(text, found)?;
     Ok((taken(there, found), rest))
 }
 
 // The running interval with one more: the intersection of both, or the next one alone, and then the
 // running one is finished.
-fn join(
-    running: Interval<Version>,
-    next: Interval<Version>,
-    finished: &mut Intervals<Version>,
-) -> Result<Interval<Version>, AllocError>
+fn join<'a>(
+    running: Interval<VersionRef<'a>>,
+    next: Interval<VersionRef<'a>>,
+    finished: &mut Intervals<VersionRef<'a>>,
+) -> Result<Interval<VersionRef<'a>>, AllocError>
     ensures { IfOk result (λ kept. (rest : List (Span VersionValue)) →
         finished.new.items ++ joined_from precedence kept rest
-        ≡ finished.old.items ++ joined_from precedence running (next ∷ rest)) }
+        ≡ finished.old.items ++ joined_from precedence running.entry (next.entry ∷ rest)) }
 {
     match running.into_intersection(next) {
         Ok(common) => Ok(common),
@@ -295,10 +244,9 @@ fn join(
 
 /// Adds the intervals of a part that whitespace does not begin. Most parts have one word, or one
 /// behind words without an interval.
-pub(crate) fn read_part(
-    alloc: Global,
-    part: &[u8],
-    found: &mut Intervals<Version>,
+pub(crate) fn read_part<'a>(
+    part: &'a [u8],
+    found: &mut Intervals<VersionRef<'a>>,
 ) -> Result<(), AllocError>
     requires some { 0 < length part.now }
     requires starts { space_len part.now ≡ 0 }
@@ -307,12 +255,12 @@ pub(crate) fn read_part(
 {
     let mut rest = part;
     'words: loop {
-        let (there, after) = push_next(alloc, rest, found)?;
+        let (there, after) = push_next(rest, found)?;
         if after.is_empty() {
             return Ok(());
         }
         if let Some(first) = taken(there, found) {
-            return read_words(alloc, first, after, found);
+            return read_words(first, after, found);
         }
         rest = after;
     }
@@ -320,20 +268,19 @@ pub(crate) fn read_part(
 
 // Adds the intervals of the words that follow the first one with an interval.
 #[inline(never)]
-fn read_words(
-    alloc: Global,
-    first: Interval<Version>,
-    text: &[u8],
-    found: &mut Intervals<Version>,
+fn read_words<'a>(
+    first: Interval<VersionRef<'a>>,
+    text: &'a [u8],
+    found: &mut Intervals<VersionRef<'a>>,
 ) -> Result<(), AllocError>
     requires { space_len text.now ≡ 0 }
     ensures { OnOk result (found.new.items ≡ found.old.items
-        ++ joined_from precedence first (part_bounds MAX_SAFE_INTEGER text.now)) }
+        ++ joined_from precedence first.entry (part_bounds MAX_SAFE_INTEGER text.now)) }
 {
     let mut running = first;
     let mut rest = text;
     'words: while !rest.is_empty() {
-        let (next, after) = next_interval(alloc, rest, found)?;
+        let (next, after) = next_interval(rest, found)?;
         rest = after;
         if let Some(next) = next {
             running = join(running, next, found)?;

@@ -10,11 +10,12 @@ ghost use Rattle.nodejs_semver.specs.Text.Meaning.{IsBlankText, Means};
 ghost use Rattle.semver_core.specs.Internal.Spaces.{space_len};
 ghost use Rattle.semver_core.specs.Lists.{is_empty};
 
-use crate::Range;
 use crate::range::Intervals;
+use crate::range::borrowed::owned;
+use crate::{Range, RangeRef};
 use crate::readers::{bars, intervals};
 use semver_core::cuts::Interval;
-use semver_core::{MAX_SAFE_INTEGER, Version};
+use semver_core::{MAX_SAFE_INTEGER, VersionRef};
 use smallvec::SmallVec;
 use std::alloc::{AllocError, Global};
 
@@ -44,7 +45,7 @@ fn are_blank(text: Option<&str>) -> bool
 
 // Adds what a part means: one interval without bounds where it is empty, and else the intervals of
 // its words.
-fn add_part(alloc: Global, part: &str, found: &mut Intervals<Version>) -> Result<(), AllocError>
+fn add_part<'a>(part: &'a str, found: &mut Intervals<VersionRef<'a>>) -> Result<(), AllocError>
     requires { space_len part.now ≡ 0 }
     ensures { OnOk result (
         found.new.items ≡ found.old.items ++ part_denotes MAX_SAFE_INTEGER part.now) }
@@ -52,27 +53,26 @@ fn add_part(alloc: Global, part: &str, found: &mut Intervals<Version>) -> Result
     if part.is_empty() {
         return intervals::push(Interval::default(), found);
     }
-    intervals::read_part(alloc, part.as_bytes(), found)
+    intervals::read_part(part.as_bytes(), found)
 }
 
 // Adds to an empty list what a part means, and what each part of the text behind it means. One
 // cursor goes through the text.
-fn add_parts(
-    alloc: Global,
-    first: &str,
-    behind: Option<&str>,
-    found: &mut Intervals<Version>,
+fn add_parts<'a>(
+    first: &'a str,
+    behind: Option<&'a str>,
+    found: &mut Intervals<VersionRef<'a>>,
 ) -> Result<(), AllocError>
     requires starts { space_len first.now ≡ 0 }
     requires empty { found.old.items ≡ [] }
     ensures { OnOk result (found.new.items ≡ flat_map (part_denotes MAX_SAFE_INTEGER)
         (first.now ∷ later_parts (rest_view behind.entry))) }
 {
-    add_part(alloc, first, found)?;
+    add_part(first, found)?;
     let mut rest = behind;
     'parts: while let Some(text) = rest {
         let (part, after) = bars::next_part(text);
-        add_part(alloc, part, found)?;
+        add_part(part, found)?;
         rest = after;
     }
     Ok(())
@@ -81,10 +81,9 @@ fn add_parts(
 /// Reads the intervals of a range text of any length into a list, in place of what it holds.
 #[cold]
 #[inline(never)]
-pub(crate) fn read_any(
-    alloc: Global,
-    text: &str,
-    found: &mut Intervals<Version>,
+pub(crate) fn read_any<'a>(
+    text: &'a str,
+    found: &mut Intervals<VersionRef<'a>>,
 ) -> Result<(), AllocError>
     ensures { OnOk result (found.new.items ≡ denotes MAX_SAFE_INTEGER text.now) }
 {
@@ -93,7 +92,7 @@ pub(crate) fn read_any(
     if part.is_empty() && are_blank(rest) {
         return intervals::push(Interval::default(), found);
     }
-    add_parts(alloc, part, rest, found)
+    add_parts(part, rest, found)
 }
 
 /// Reads a range text of any length. Returns `None` if no part has an interval; fails only if
@@ -111,6 +110,6 @@ pub fn range_loose(alloc: Global, text: &str) -> Result<Option<Range>, AllocErro
 {
     let mut found = SmallVec::new(alloc);
     let (part, rest) = bars::next_part(text);
-    add_parts(alloc, part, rest, &mut found)?;
-    Ok(Range::from_intervals(found))
+    add_parts(part, rest, &mut found)?;
+    owned(alloc, RangeRef::from_intervals(found))
 }

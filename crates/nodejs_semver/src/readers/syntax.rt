@@ -5,6 +5,7 @@ ghost use Rattle.std.specs.Prelude.{◌≡◌, ◌≤◌, true};
 ghost use Rattle.semver_core.specs.Text.Identifiers.{is_listed};
 ghost use Rattle.semver_core.specs.declared.TheConstants.{MAX_SAFE_INTEGER};
 
+use semver_core::VersionRef;
 use semver_core::cuts::Bound;
 
 /// A partial as it was read. A component is None where it is absent or a wildcard; the identifiers
@@ -42,21 +43,9 @@ pub(crate) enum Sign {
     Caret,
 }
 
-/// A version whose identifiers still stand as their text.
-#[derive(Clone, Copy)]
-pub(crate) struct BareVersion<'a> {
-    pub(crate) major: u64,
-    pub(crate) minor: u64,
-    pub(crate) patch: u64,
-    pub(crate) pre_release: &'a [u8],
-    pub(crate) build: &'a [u8],
-    ghost pre_release_listed: { is_listed pre_release.now ≡ true },
-    ghost build_listed: { is_listed build.now ≡ true },
-}
-
 /// The two bounds that the table gives a word.
 #[derive(Drop)]
 pub(crate) struct Bounds<'a> {
-    pub(crate) lower: Bound<BareVersion<'a>>,
-    pub(crate) upper: Bound<BareVersion<'a>>,
+    pub(crate) lower: Bound<VersionRef<'a>>,
+    pub(crate) upper: Bound<VersionRef<'a>>,
 }

@@ -1,7 +1,7 @@
 // The word table: the bounds of a word, by its form and the numbers of its partial.
 
 ghost use Rattle.std.specs.Prelude.{◌≡◌, ◌≤◌, ◌<◌, ◌+◌, ◌^◌, Some, length, unwrap_or};
-ghost use Rattle.nodejs_semver.specs.Internal.Readings.{bare_view, bounds_view, comparator_view};
+ghost use Rattle.nodejs_semver.specs.Internal.Readings.{bounds_view, comparator_view};
 ghost use Rattle.nodejs_semver.specs.Internal.Readings.{partial_view, sign_view, table_view};
 ghost use Rattle.nodejs_semver.specs.Internal.Words.{signed_word};
 ghost use Rattle.nodejs_semver.specs.Text.Table as Spec;
@@ -12,74 +12,63 @@ ghost use Rattle.semver_core.specs.Values.Order.{precedence};
 ghost use Rattle.semver_core.specs.Values.Versions.{release_value};
 ghost use Rattle.semver_core.specs.declared.TheConstants.{MAX_SAFE_INTEGER};
 
-use crate::readers::syntax::{BareVersion, Bounds, Comparator, Partial, Sign};
-use semver_core::MAX_SAFE_INTEGER;
+use crate::readers::syntax::{Bounds, Comparator, Partial, Sign};
+use semver_core::{MAX_SAFE_INTEGER, VersionRef};
 use semver_core::cuts::Bound;
 
 // `major.minor.patch`
 #[inline(always)]
 #[tactic(auto, using(crate::proofs::Reading::IdentifierLists::short_lists))]
-fn release(major: u64, minor: u64, patch: u64) -> BareVersion<'static>
-    ensures { bare_view result ≡ release_value major minor patch }
+fn release(major: u64, minor: u64, patch: u64) -> VersionRef<'static>
+    ensures { result ≡ release_value major minor patch }
 {
-    BareVersion {
-        major,
-        minor,
-        patch,
-        pre_release: b"",
-        build: b"",
-    }
+    VersionRef::from_texts(major, minor, patch, b"", b"")
 }
 
 // `major.minor.patch-0`
 #[inline(always)]
 #[tactic(auto, using(crate::proofs::Reading::IdentifierLists::short_lists))]
-fn lowest(major: u64, minor: u64, patch: u64) -> BareVersion<'static>
-    ensures { bare_view result ≡ Spec.lowest major minor patch }
+fn lowest(major: u64, minor: u64, patch: u64) -> VersionRef<'static>
+    ensures { result ≡ Spec.lowest major minor patch }
 {
-    BareVersion {
-        major,
-        minor,
-        patch,
-        pre_release: b"0",
-        build: b"",
-    }
+    VersionRef::from_texts(major, minor, patch, b"0", b"")
 }
 
 // The version of a partial, with 0 for what is absent or a wildcard.
 #[inline(always)]
-fn version_of<'a>(partial: &Partial<'a>) -> BareVersion<'a>
-    ensures { bare_view result ≡ Spec.version_of (partial_view partial.now) }
+fn version_of<'a>(partial: &Partial<'a>) -> VersionRef<'a>
+    ensures { result ≡ Spec.version_of (partial_view partial.now) }
 {
-    BareVersion {
-        major: partial.major.unwrap_or(0),
-        minor: partial.minor.unwrap_or(0),
-        patch: partial.patch.unwrap_or(0),
-        pre_release: partial.pre_release,
-        build: partial.build,
-    }
+    VersionRef::from_texts(
+        partial.major.unwrap_or(0),
+        partial.minor.unwrap_or(0),
+        partial.patch.unwrap_or(0),
+        partial.pre_release,
+        partial.build,
+    )
 }
 
+// The version of a partial, without its build.
 #[inline(always)]
 #[tactic(auto, using(crate::proofs::Reading::IdentifierLists::short_lists))]
-fn without_build(version: BareVersion<'_>) -> BareVersion<'_>
-    ensures { bare_view result ≡ Spec.without_build (bare_view version.entry) }
+fn version_without_build<'a>(partial: &Partial<'a>) -> VersionRef<'a>
+    ensures { result ≡ Spec.without_build (Spec.version_of (partial_view partial.now)) }
 {
-    BareVersion {
-        major: version.major,
-        minor: version.minor,
-        patch: version.patch,
-        pre_release: version.pre_release,
-        build: b"",
-    }
+    VersionRef::from_texts(
+        partial.major.unwrap_or(0),
+        partial.minor.unwrap_or(0),
+        partial.patch.unwrap_or(0),
+        partial.pre_release,
+        b"",
+    )
 }
 
 impl<'a> Bounds<'a> {
     // `>=version`
     #[inline(always)]
-    fn at_least(version: BareVersion<'a>) -> Bounds<'a>
+    fn at_least(version: VersionRef<'a>) -> Bounds<'a>
         ensures { bounds_view result
-            ≡ record { lower = Bound.Before (bare_view version.entry); upper = Bound.Unbounded } }
+            ≡ record { lower = Bound.Before version.entry; upper = Bound.Unbounded } }
     {
         Bounds {
             lower: Bound::Before(version),
@@ -89,9 +78,9 @@ impl<'a> Bounds<'a> {
 
     // `>version`
     #[inline(always)]
-    fn above(version: BareVersion<'a>) -> Bounds<'a>
+    fn above(version: VersionRef<'a>) -> Bounds<'a>
         ensures { bounds_view result
-            ≡ record { lower = Bound.After (bare_view version.entry); upper = Bound.Unbounded } }
+            ≡ record { lower = Bound.After version.entry; upper = Bound.Unbounded } }
     {
         Bounds {
             lower: Bound::After(version),
@@ -101,9 +90,9 @@ impl<'a> Bounds<'a> {
 
     // `<version`
     #[inline(always)]
-    fn below(version: BareVersion<'a>) -> Bounds<'a>
+    fn below(version: VersionRef<'a>) -> Bounds<'a>
         ensures { bounds_view result
-            ≡ record { lower = Bound.Unbounded; upper = Bound.Before (bare_view version.entry) } }
+            ≡ record { lower = Bound.Unbounded; upper = Bound.Before version.entry } }
     {
         Bounds {
             lower: Bound::Unbounded,
@@ -113,9 +102,9 @@ impl<'a> Bounds<'a> {
 
     // `<=version`
     #[inline(always)]
-    fn at_most(version: BareVersion<'a>) -> Bounds<'a>
+    fn at_most(version: VersionRef<'a>) -> Bounds<'a>
         ensures { bounds_view result
-            ≡ record { lower = Bound.Unbounded; upper = Bound.After (bare_view version.entry) } }
+            ≡ record { lower = Bound.Unbounded; upper = Bound.After version.entry } }
     {
         Bounds {
             lower: Bound::Unbounded,
@@ -125,11 +114,11 @@ impl<'a> Bounds<'a> {
 
     // `>=first <end`
     #[inline(always)]
-    fn between(first: BareVersion<'a>, end: BareVersion<'a>) -> Bounds<'a>
+    fn between(first: VersionRef<'a>, end: VersionRef<'a>) -> Bounds<'a>
         ensures { bounds_view result
             ≡ record {
-              lower = Bound.Before (bare_view first.entry);
-              upper = Bound.Before (bare_view end.entry);
+              lower = Bound.Before first.entry;
+              upper = Bound.Before end.entry;
             } }
     {
         Bounds {
@@ -140,11 +129,11 @@ impl<'a> Bounds<'a> {
 
     // `>=first <=last`
     #[inline(always)]
-    fn through(first: BareVersion<'a>, last: BareVersion<'a>) -> Bounds<'a>
+    fn through(first: VersionRef<'a>, last: VersionRef<'a>) -> Bounds<'a>
         ensures { bounds_view result
             ≡ record {
-              lower = Bound.Before (bare_view first.entry);
-              upper = Bound.After (bare_view last.entry);
+              lower = Bound.Before first.entry;
+              upper = Bound.After last.entry;
             } }
     {
         Bounds {
@@ -214,13 +203,11 @@ fn at_most<'a>(partial: &Partial<'a>) -> Bounds<'a>
     ensures { Some (bounds_view result)
         ≡ table MAX_SAFE_INTEGER (Words.compare Words.at_most (partial_view partial.now)) }
 {
-    let version = version_of(partial);
+    let major = partial.major.unwrap_or(0);
     match (partial.minor, partial.patch) {
-        (None, None) => {
-            Bounds::at_most(release(version.major, MAX_SAFE_INTEGER, MAX_SAFE_INTEGER))
-        }
-        (Some(minor), None) => Bounds::at_most(release(version.major, minor, MAX_SAFE_INTEGER)),
-        _ => Bounds::at_most(version),
+        (None, None) => Bounds::at_most(release(major, MAX_SAFE_INTEGER, MAX_SAFE_INTEGER)),
+        (Some(minor), None) => Bounds::at_most(release(major, minor, MAX_SAFE_INTEGER)),
+        _ => Bounds::at_most(version_of(partial)),
     }
 }
 
@@ -231,9 +218,9 @@ fn equal<'a>(partial: &Partial<'a>) -> Option<Bounds<'a>>
     ensures { table_view result
         ≡ table MAX_SAFE_INTEGER (Words.compare Words.equal (partial_view partial.now)) }
 {
-    let unbuilt = without_build(version_of(partial));
+    let unbuilt = version_without_build(partial);
     match (partial.major, partial.minor, partial.patch) {
-        (Some(_), Some(_), Some(_)) => Some(Bounds::through(unbuilt, unbuilt)),
+        (Some(_), Some(_), Some(_)) => Some(Bounds::through(unbuilt.copy(), unbuilt)),
         (Some(major), Some(minor), None) => Some(Bounds::whole_minor(major, minor)),
         (Some(major), None, _) => Some(Bounds::whole_major(major)),
         (None, _, _) => None,
@@ -251,7 +238,7 @@ pub(crate) fn plain<'a>(partial: &Partial<'a>) -> Option<Bounds<'a>>
         (None, _, _) => Some(Bounds::at_least(release(0, 0, 0))),
         (Some(major), None, _) => Some(Bounds::whole_major(major)),
         (Some(major), Some(minor), None) => Some(Bounds::whole_minor(major, minor)),
-        (Some(_), Some(_), Some(_)) => Some(Bounds::through(version, version)),
+        (Some(_), Some(_), Some(_)) => Some(Bounds::through(version.copy(), version)),
     }
 }
 
@@ -266,7 +253,7 @@ pub(crate) fn tilde<'a>(greater: bool, partial: &Partial<'a>) -> Option<Bounds<'
         (Some(major), None, _) => Some(Bounds::whole_major(major)),
         (Some(major), Some(minor), None) if !greater => Some(Bounds::whole_minor(major, minor)),
         (Some(major), Some(minor), _) => {
-            let version = without_build(version_of(partial));
+            let version = version_without_build(partial);
             Some(Bounds::between(version, lowest(major, minor + 1, 0)))
         }
         (None, _, _) => None,
@@ -279,7 +266,7 @@ pub(crate) fn tilde<'a>(greater: bool, partial: &Partial<'a>) -> Option<Bounds<'
 pub(crate) fn caret<'a>(partial: &Partial<'a>) -> Option<Bounds<'a>>
     ensures { table_view result ≡ table MAX_SAFE_INTEGER (Words.caret (partial_view partial.now)) }
 {
-    let version = without_build(version_of(partial));
+    let version = version_without_build(partial);
     match (partial.major, partial.minor, partial.patch) {
         (Some(major), None, None) => match major {
             0 => Some(Bounds::below(lowest(1, 0, 0))),

@@ -1,4 +1,5 @@
 use Rattle.std.proofs.Common.{◌≡◌, ◌+◌, ℕ, List, arith, ap, ◌∙◌}
+use Rattle.std.proofs.lemmas.Result.{IfOk-weaker}
 use Rattle.std.specs.List.{list_all}
 use Rattle.std.specs.Prelude.{flat_map}
 use Rattle.semver_core.specs.Cuts.{Span}
@@ -15,15 +16,17 @@ pub from_intervals-requires : goal.from_intervals-requires
 from_intervals-requires c =
     ap (λ (l : List (Span VersionValue)). list_all (is_range_span (MAX_SAFE_INTEGER + 1)) l) (c.in_ok-add_parts.ensures ∙ ap (λ (ps : List (List ℕ)). flat_map (part_denotes MAX_SAFE_INTEGER) ps) c.next_part.ensures.value) ∙ all-bounded MAX_SAFE_INTEGER (parts c.args.text.now)
 
-found-is : (c : goal.After-from_intervals) → c.add_parts.new.found.items ≡ denotes MAX_SAFE_INTEGER c.args.text.now
+found-is : (c : goal.After-owned) → c.add_parts.new.found.items ≡ denotes MAX_SAFE_INTEGER c.args.text.now
 found-is c =
     let some = filled_text c.args.text.now c.utf8.text c.requires.some_part in
     grind (arith, some, c.in_ok-add_parts.ensures, c.next_part.ensures.value)
 
 pub returns-clause-some : goal.returns-clause-some
 returns-clause-some c =
-    meant_some MAX_SAFE_INTEGER c.args.text.now c.add_parts.new.found.items c.from_intervals.result c.utf8.text (found-is c) c.from_intervals.ensures
+    IfOk-weaker c.owned.result (λ r. r ≡ c.from_intervals.result) _ (λ r e. rw e
+    (meant_some MAX_SAFE_INTEGER c.args.text.now c.add_parts.new.found.items c.from_intervals.result c.utf8.text (found-is c) c.from_intervals.ensures)) c.owned.ensures
 
 pub returns-clause-none : goal.returns-clause-none
 returns-clause-none c =
-    meant_none MAX_SAFE_INTEGER c.args.text.now c.add_parts.new.found.items c.from_intervals.result c.utf8.text (found-is c) c.from_intervals.ensures
+    IfOk-weaker c.owned.result (λ r. r ≡ c.from_intervals.result) _ (λ r e. rw e
+    (meant_none MAX_SAFE_INTEGER c.args.text.now c.add_parts.new.found.items c.from_intervals.result c.utf8.text (found-is c) c.from_intervals.ensures)) c.owned.ensures
