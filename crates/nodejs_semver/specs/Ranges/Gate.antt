@@ -10,11 +10,15 @@ use Rattle.semver_core.specs.declared.cuts.bound.Bound.TheVariants.{Unbounded, B
 abbrev pub same_triple : VersionValue → VersionValue → Bool
 same_triple v w = (v.major == w.major) && ((v.minor == w.minor) && (v.patch == w.patch))
 
+-- the bound has a version, which passes the test
+abbrev pub passes : {V : Type 0} → (V → Bool) → Bound V → Bool
+passes test Unbounded = false
+passes test (Before w) = test w
+passes test (After w) = test w
+
 -- the version of the bound is a pre-release of the same three numbers as v
 abbrev pub names : Bound VersionValue → VersionValue → Bool
-names Unbounded v = false
-names (Before w) v = not (is_release w) && same_triple w v
-names (After w) v = not (is_release w) && same_triple w v
+names b v = passes (λ w. not (is_release w) && same_triple w v) b
 
 -- a span lets in every release, and the pre-releases of three numbers of which it names one
 abbrev pub lets_in : Span VersionValue → VersionValue → Bool

@@ -5,16 +5,14 @@ use Rattle.semver_core.specs.Cuts.{Span, is_past, lower_cut, upper_cut}
 use Rattle.semver_core.specs.Values.Order.{precedence}
 use Rattle.semver_core.specs.Values.Versions.{VersionValue}
 use Rattle.semver_core.specs.declared.cuts.bound.Bound.{Bound}
-use Rattle.semver_core.specs.declared.cuts.bound.Bound.TheVariants.{Unbounded}
-use Rattle.nodejs_semver.specs.Ranges.Gate.{accepts}
+use Rattle.nodejs_semver.specs.Ranges.Gate.{accepts, passes}
 use Rattle.nodejs_semver.specs.declared.range.outside.OutsideDirection.{OutsideDirection}
 use Rattle.nodejs_semver.specs.declared.range.outside.OutsideDirection.TheVariants.{Higher, Lower}
 use Rattle.nodejs_semver.specs.declared.range.outside.RangeError.{RangeError}
 use Rattle.nodejs_semver.specs.declared.range.outside.RangeError.TheVariants.{InvalidOutsideDirection}
 
-abbrev pub is_bounded : Bound VersionValue → Bool
-is_bounded Unbounded = false
-is_bounded _ = true
+abbrev pub is_bounded : {V : Type 0} → Bound V → Bool
+is_bounded = passes (λ w. true)
 
 -- the span has an upper bound, and its lower cut is not after the version
 abbrev pub lies_below : Span VersionValue → VersionValue → Bool
@@ -25,10 +23,14 @@ abbrev pub lies_above : Span VersionValue → VersionValue → Bool
 lies_above s v = (not (is_bounded s.lower) && not (is_bounded s.upper))
     || (is_bounded s.lower && not (is_past precedence (upper_cut s.upper) v))
 
+-- the first for a version that lies above, the second for one that lies below
+abbrev pub facing : {A : Type 0} → OutsideDirection → A → A → A
+facing Higher above below = above
+facing Lower above below = below
+
 -- the version is not accepted, and each span lies on the other side
 abbrev pub is_outside : OutsideDirection → Bool → List (Span VersionValue) → VersionValue → Bool
-is_outside Higher include ss v = not (accepts ss v include) && list_all (λ s. lies_below s v) ss
-is_outside Lower include ss v = not (accepts ss v include) && list_all (λ s. lies_above s v) ss
+is_outside d include ss v = not (accepts ss v include) && list_all (λ s. facing d (lies_below s v) (lies_above s v)) ss
 
 -- the character of a direction, `>` or `<`
 abbrev pub direction_char : OutsideDirection → ℕ

@@ -5,12 +5,13 @@ ghost use Rattle.semver_core.specs.Cuts.{holds};
 ghost use Rattle.nodejs_semver.specs.Ranges.Algebra.{list_holds};
 ghost use Rattle.semver_core.specs.Values.Order.{precedence};
 ghost use Rattle.semver_core.specs.declared.TheConstants.{MAX_SAFE_INTEGER};
-ghost use Rattle.nodejs_semver.specs.Ranges.Gate.{accepts, lets_in, names};
+ghost use Rattle.nodejs_semver.specs.Internal.GateOf as of;
+ghost use Rattle.nodejs_semver.specs.Ranges.Gate.{accepts};
 ghost use Rattle.nodejs_semver.specs.Ranges.View.{IsRange};
 
-use crate::Range;
+use crate::{Range, RangeRef};
 use semver_core::cuts::{Bound, Interval};
-use semver_core::{Accepts, Version};
+use semver_core::{Accepts, Version, VersionRef, Versioned};
 
 impl Range {
     /// Whether the range accepts this version. A pre-release is accepted only if the interval that
@@ -36,6 +37,30 @@ impl Range {
     }
 }
 
+impl<'a> RangeRef<'a> {
+    /// Whether the range accepts this version, as `Range::satisfies` says.
+    pub fn satisfies(&self, version: &VersionRef<'_>) -> bool
+        ensures gate { result ≡ accepts self.now version.now false }
+        ensures valid { IsRange MAX_SAFE_INTEGER self.now }
+    {
+        accepts(self.intervals(), version, false)
+    }
+
+    /// Whether the range accepts this version, as `Range::satisfies_with_prerelease` says.
+    pub fn satisfies_with_prerelease(
+        &self,
+        version: &VersionRef<'_>,
+        include_prerelease: bool,
+    ) -> bool
+        ensures gate { result ≡ accepts self.now version.now include_prerelease }
+        ensures set { IsTrue include_prerelease
+            → result ≡ list_holds precedence self.now version.now }
+        ensures valid { IsRange MAX_SAFE_INTEGER self.now }
+    {
+        accepts(self.intervals(), version, include_prerelease)
+    }
+}
+
 /// What `satisfies_with_prerelease` returns.
 impl Accepts for Range {
     ghost accepts = { accepts };
@@ -46,46 +71,45 @@ impl Accepts for Range {
 }
 
 // Whether some one of the intervals holds the version and lets it in.
-pub(crate) fn accepts(
-    intervals: &[Interval<Version>],
-    version: &Version,
+pub(crate) fn accepts<V: Versioned>(
+    intervals: &[Interval<V>],
+    version: &V,
     include_prerelease: bool,
 ) -> bool
-    ensures { result ≡ accepts intervals.now version.now include_prerelease }
+    ensures { result ≡ of.accepts V.cmp V.value intervals.now version.now include_prerelease }
 {
     intervals.iter().any(|interval| accepts_one(interval, version, include_prerelease))
 }
 
 // Whether the interval holds the version and lets it in.
 #[inline(always)]
-pub(crate) fn accepts_one(
-    interval: &Interval<Version>,
-    version: &Version,
+pub(crate) fn accepts_one<V: Versioned>(
+    interval: &Interval<V>,
+    version: &V,
     include_prerelease: bool,
 ) -> bool
     ensures { result
-        ≡ (holds precedence interval.now version.now
-        && (include_prerelease || lets_in interval.now version.now)) }
+        ≡ of.accepts_one V.cmp V.value interval.now version.now include_prerelease }
 {
     interval.contains(version) && (include_prerelease || lets_in(interval, version))
 }
 
 // Whether the interval lets in the version, pre-releases not being included.
 #[inline]
-fn lets_in(interval: &Interval<Version>, version: &Version) -> bool
-    ensures { result ≡ lets_in interval.now version.now }
+fn lets_in<V: Versioned>(interval: &Interval<V>, version: &V) -> bool
+    ensures { result ≡ of.lets_in V.value interval.now version.now }
 {
-    !version.is_prerelease() || names(interval.lower(), version) || names(interval.upper(), version)
+    version.is_release() || names(interval.lower(), version) || names(interval.upper(), version)
 }
 
 // Whether the bound's version is a pre-release of the same three numbers.
-fn names(bound: &Bound<Version>, version: &Version) -> bool
-    ensures { result ≡ names bound.now version.now }
+fn names<V: Versioned>(bound: &Bound<V>, version: &V) -> bool
+    ensures { result ≡ of.names V.value bound.now version.now }
 {
     match bound {
         Bound::Unbounded => false,
         Bound::Before(named) | Bound::After(named) => {
-            named.is_prerelease()
+            !named.is_release()
                 && named.major() == version.major()
                 && named.minor() == version.minor()
                 && named.patch() == version.patch()

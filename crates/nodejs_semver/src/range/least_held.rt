@@ -6,7 +6,6 @@ ghost use Rattle.nodejs_semver.specs.Ranges.Least as stated;
 ghost use Rattle.std.specs.Prelude.{◌≡◌, [], IfOk, IfSome, true};
 
 use crate::Range;
-use crate::range::gate::accepts;
 use crate::range::neighbours::{bare, pre_after};
 use semver_core::Version;
 use semver_core::cuts::Bound;
@@ -45,7 +44,7 @@ impl Range {
                 None => true,
                 Some(best) => first.cmp(best).is_lt(),
             };
-            if is_below && accepts(intervals, &first, true) {
+            if is_below && self.satisfies_with_prerelease(&first, true) {
                 best = Some(first);
             }
         }

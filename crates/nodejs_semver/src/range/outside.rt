@@ -1,12 +1,14 @@
 // Versions that lie above or below a range.
 
+ghost use Rattle.nodejs_semver.specs.Internal.GateOf as of;
 ghost use Rattle.nodejs_semver.specs.Ranges.Outside as spec;
 ghost use Rattle.std.specs.List.{list_all};
 ghost use Rattle.std.specs.Prelude.{Ok, ◌≡◌};
 
-use crate::Range;
-use semver_core::Version;
-use semver_core::cuts::{Bound, Interval};
+use crate::range::gate::accepts;
+use crate::{Range, RangeRef};
+use semver_core::cuts::{Bound, Interval, Point};
+use semver_core::{Version, VersionRef, Versioned};
 use std::fmt;
 use thiserror::Error;
 
@@ -79,44 +81,72 @@ impl Range {
     ) -> Result<bool, RangeError>
         ensures { result ≡ Ok (spec.is_outside direction include_prerelease self.now version.now) }
     {
-        let is_accepted = self.satisfies_with_prerelease(version, include_prerelease);
-        Ok(match direction {
-            OutsideDirection::Higher => !is_accepted && lie_below(self.intervals(), version),
-            OutsideDirection::Lower => !is_accepted && lie_above(self.intervals(), version),
-        })
+        Ok(lies_outside(self.intervals(), version, direction, include_prerelease))
     }
 }
 
-fn lie_below(intervals: &[Interval<Version>], version: &Version) -> bool
-    ensures { result ≡ list_all (λ s. spec.lies_below s version.now) intervals.now }
+impl<'a> RangeRef<'a> {
+    /// Whether the version lies outside the range on this side, as `Range::outside` says. It never
+    /// returns an error.
+    pub fn outside(
+        &self,
+        version: &VersionRef<'_>,
+        direction: OutsideDirection,
+        include_prerelease: bool,
+    ) -> Result<bool, RangeError>
+        ensures { result ≡ Ok (spec.is_outside direction include_prerelease self.now version.now) }
+    {
+        Ok(lies_outside(self.intervals(), version, direction, include_prerelease))
+    }
+}
+
+// Whether the version is not accepted, and each interval lies on the other side.
+fn lies_outside<V: Versioned>(
+    intervals: &[Interval<V>],
+    version: &V,
+    direction: OutsideDirection,
+    include_prerelease: bool,
+) -> bool
+    ensures { result
+        ≡ of.is_outside V.cmp V.value direction include_prerelease intervals.now version.now }
+{
+    !accepts(intervals, version, include_prerelease)
+        && match direction {
+            OutsideDirection::Higher => lie_below(intervals, version),
+            OutsideDirection::Lower => lie_above(intervals, version),
+        }
+}
+
+fn lie_below<V: Point>(intervals: &[Interval<V>], version: &V) -> bool
+    ensures { result ≡ list_all (λ s. of.lies_below V.cmp s version.now) intervals.now }
 {
     intervals
         .iter()
         .all(|interval| lies_below(interval, version))
 }
 
-fn lie_above(intervals: &[Interval<Version>], version: &Version) -> bool
-    ensures { result ≡ list_all (λ s. spec.lies_above s version.now) intervals.now }
+fn lie_above<V: Point>(intervals: &[Interval<V>], version: &V) -> bool
+    ensures { result ≡ list_all (λ s. of.lies_above V.cmp s version.now) intervals.now }
 {
     intervals
         .iter()
         .all(|interval| lies_above(interval, version))
 }
 
-fn lies_below(interval: &Interval<Version>, version: &Version) -> bool
-    ensures { result ≡ spec.lies_below interval.now version.now }
+fn lies_below<V: Point>(interval: &Interval<V>, version: &V) -> bool
+    ensures { result ≡ of.lies_below V.cmp interval.now version.now }
 {
     is_bounded(interval.upper()) && interval.begins_below(version)
 }
 
-fn lies_above(interval: &Interval<Version>, version: &Version) -> bool
-    ensures { result ≡ spec.lies_above interval.now version.now }
+fn lies_above<V: Point>(interval: &Interval<V>, version: &V) -> bool
+    ensures { result ≡ of.lies_above V.cmp interval.now version.now }
 {
     (!is_bounded(interval.lower()) && !is_bounded(interval.upper()))
         || (is_bounded(interval.lower()) && !interval.ends_below(version))
 }
 
-fn is_bounded(bound: &Bound<Version>) -> bool
+fn is_bounded<V: Point>(bound: &Bound<V>) -> bool
     ensures { result ≡ spec.is_bounded bound.now }
 {
     match bound {
