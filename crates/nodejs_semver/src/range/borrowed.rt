@@ -93,10 +93,7 @@ impl<'a> RangeRef<'a> {
 }
 
 /// The range with versions of its own, if there is one.
-pub(crate) fn owned(
-    alloc: Global,
-    range: Option<RangeRef<'_>>,
-) -> Result<Option<Range>, AllocError>
+pub(crate) fn owned(alloc: Global, range: Option<RangeRef<'_>>) -> Result<Option<Range>, AllocError>
     ensures { IfOk result (λ r. r ≡ range.entry) }
 {
     match range {

@@ -5,22 +5,20 @@ ghost use Rattle.std.specs.List.{flat_map, list_all, list_any};
 ghost use Rattle.std.specs.Option.{option_to_list};
 ghost use Rattle.semver_core.specs.Clips.{clip};
 ghost use Rattle.semver_core.specs.Cuts.{Start, is_interval, meet, covers};
-ghost use Rattle.semver_core.specs.Values.Order.{precedence};
 ghost use Rattle.nodejs_semver.specs.Ranges.Algebra.{meets_of, minus, remainder};
 ghost use Rattle.semver_core.specs.declared.cuts.bound.Bound.TheVariants.{Unbounded};
 ghost use Rattle.nodejs_semver.specs.Internal.Along.{IsAlong};
 
-use semver_core::Version;
-use semver_core::cuts::{Interval, Part};
+use semver_core::cuts::{Interval, Part, Point};
 use std::alloc::{AllocError, Global};
 
 /// The intersections of all pairs, the first list outside.
-pub(crate) fn intersections(
+pub(crate) fn intersections<V: Point>(
     alloc: Global,
-    these: &[Interval<Version>],
-    others: &[Interval<Version>],
-) -> Result<Vec<Interval<Version>>, AllocError>
-    ensures { IfOk result (λ r. r.items ≡ meets_of precedence these.now others.now) }
+    these: &[Interval<V>],
+    others: &[Interval<V>],
+) -> Result<Vec<Interval<V>>, AllocError>
+    ensures { IfOk result (λ r. r.items ≡ meets_of V.cmp these.now others.now) }
 {
     let mut found = Vec::new(alloc);
     for interval in these {
@@ -36,13 +34,13 @@ pub(crate) fn intersections(
 /// complement's pieces, which stand in order along the line. For n intervals, m others and k
 /// results that is about n log m + m log m + k steps, which no clause promises; taking the others
 /// away one by one would copy each survivor m times.
-pub(crate) fn differences(
+pub(crate) fn differences<V: Point>(
     alloc: Global,
-    these: &[Interval<Version>],
-    others: &[Interval<Version>],
-) -> Result<Vec<Interval<Version>>, AllocError>
-    requires { list_all (is_interval precedence) these.now ≡ true }
-    ensures { IfOk result (λ r. r.items ≡ minus precedence these.now others.now) }
+    these: &[Interval<V>],
+    others: &[Interval<V>],
+) -> Result<Vec<Interval<V>>, AllocError>
+    requires { list_all (is_interval V.cmp) these.now ≡ true }
+    ensures { IfOk result (λ r. r.items ≡ minus V.cmp these.now others.now) }
 {
     if let [other] = others {
         return subtract_from_each(alloc, these, other);
@@ -52,29 +50,29 @@ pub(crate) fn differences(
 }
 
 /// Whether the interval meets one of the others.
-pub(crate) fn meets_one(interval: &Interval<Version>, others: &[Interval<Version>]) -> bool
-    ensures { result ≡ list_any (λ t. is_some (meet precedence interval.now t)) others.now }
+pub(crate) fn meets_one<V: Point>(interval: &Interval<V>, others: &[Interval<V>]) -> bool
+    ensures { result ≡ list_any (λ t. is_some (meet V.cmp interval.now t)) others.now }
 {
     others.iter().any(|other| interval.meets(other))
 }
 
 /// Whether the interval covers one of the others.
-pub(crate) fn covers_one(interval: &Interval<Version>, others: &[Interval<Version>]) -> bool
-    ensures { result ≡ list_any (λ t. covers precedence interval.now t) others.now }
+pub(crate) fn covers_one<V: Point>(interval: &Interval<V>, others: &[Interval<V>]) -> bool
+    ensures { result ≡ list_any (λ t. covers V.cmp interval.now t) others.now }
 {
     others.iter().any(|other| interval.covers(other))
 }
 
 // Puts what one interval has in common with each of the others at the end.
-fn push_intersections(
+fn push_intersections<V: Point>(
     alloc: Global,
-    parts: &mut Vec<Interval<Version>>,
-    interval: &Interval<Version>,
-    others: &[Interval<Version>],
+    parts: &mut Vec<Interval<V>>,
+    interval: &Interval<V>,
+    others: &[Interval<V>],
 ) -> Result<(), AllocError>
     ensures { OnOk result (parts.new.items
         ≡ parts.old.items
-        ++ flat_map (λ t. option_to_list (meet precedence interval.now t)) others.now) }
+        ++ flat_map (λ t. option_to_list (meet V.cmp interval.now t)) others.now) }
 {
     for other in others {
         push_part(alloc, parts, interval.common_part(other))?;
@@ -84,12 +82,12 @@ fn push_intersections(
 
 // The complement: what the intervals leave of the whole line, in order along it. It is found by
 // halves, so that each piece is copied about log m times for m intervals.
-fn complement(
+fn complement<V: Point>(
     alloc: Global,
-    intervals: &[Interval<Version>],
-) -> Result<Vec<Interval<Version>>, AllocError>
+    intervals: &[Interval<V>],
+) -> Result<Vec<Interval<V>>, AllocError>
     ensures { IfOk result (λ r. r.items
-        ≡ minus precedence (record { lower = Unbounded; upper = Unbounded } ∷ []) intervals.now) }
+        ≡ minus V.cmp (record { lower = Unbounded; upper = Unbounded } ∷ []) intervals.now) }
 {
     if intervals.len() < 4 {
         return complement_of_few(alloc, intervals);
@@ -101,12 +99,12 @@ fn complement(
 }
 
 // The complement of a few intervals, which are taken away one after another.
-fn complement_of_few(
+fn complement_of_few<V: Point>(
     alloc: Global,
-    intervals: &[Interval<Version>],
-) -> Result<Vec<Interval<Version>>, AllocError>
+    intervals: &[Interval<V>],
+) -> Result<Vec<Interval<V>>, AllocError>
     ensures { IfOk result (λ r. r.items
-        ≡ minus precedence (record { lower = Unbounded; upper = Unbounded } ∷ []) intervals.now) }
+        ≡ minus V.cmp (record { lower = Unbounded; upper = Unbounded } ∷ []) intervals.now) }
 {
     let mut left = Vec::new(alloc);
     left.push(Interval::default())?;
@@ -117,12 +115,12 @@ fn complement_of_few(
 }
 
 // What is left of each interval below and above one other.
-fn subtract_from_each(
+fn subtract_from_each<V: Point>(
     alloc: Global,
-    these: &[Interval<Version>],
-    other: &Interval<Version>,
-) -> Result<Vec<Interval<Version>>, AllocError>
-    ensures { IfOk result (λ r. r.items ≡ flat_map (λ s. remainder precedence s other.now) these.now) }
+    these: &[Interval<V>],
+    other: &Interval<V>,
+) -> Result<Vec<Interval<V>>, AllocError>
+    ensures { IfOk result (λ r. r.items ≡ flat_map (λ s. remainder V.cmp s other.now) these.now) }
 {
     let mut left = Vec::new(alloc);
     for interval in these {
@@ -134,14 +132,14 @@ fn subtract_from_each(
 }
 
 // What of each interval lies within each of the pieces, which stand in order along the line.
-fn clip_each(
+fn clip_each<V: Point>(
     alloc: Global,
-    these: &[Interval<Version>],
-    pieces: &[Interval<Version>],
-) -> Result<Vec<Interval<Version>>, AllocError>
-    requires { IsAlong precedence Start pieces.now }
+    these: &[Interval<V>],
+    pieces: &[Interval<V>],
+) -> Result<Vec<Interval<V>>, AllocError>
+    requires { IsAlong V.cmp Start pieces.now }
     ensures { IfOk result (λ r. r.items
-        ≡ flat_map (λ s. flat_map (λ t. option_to_list (clip precedence s t)) pieces.now) these.now) }
+        ≡ flat_map (λ s. flat_map (λ t. option_to_list (clip V.cmp s t)) pieces.now) these.now) }
 {
     let mut found = Vec::new(alloc);
     for interval in these {
@@ -152,16 +150,16 @@ fn clip_each(
 
 // Puts what of one interval lies within each of the pieces at the end. Those that do so stand
 // together.
-fn push_clipped(
+fn push_clipped<V: Point>(
     alloc: Global,
-    parts: &mut Vec<Interval<Version>>,
-    interval: &Interval<Version>,
-    pieces: &[Interval<Version>],
+    parts: &mut Vec<Interval<V>>,
+    interval: &Interval<V>,
+    pieces: &[Interval<V>],
 ) -> Result<(), AllocError>
-    requires { IsAlong precedence Start pieces.now }
+    requires { IsAlong V.cmp Start pieces.now }
     ensures { OnOk result (parts.new.items
         ≡ parts.old.items
-        ++ flat_map (λ t. option_to_list (clip precedence interval.now t)) pieces.now) }
+        ++ flat_map (λ t. option_to_list (clip V.cmp interval.now t)) pieces.now) }
 {
     let first = pieces.partition_point(|piece| !piece.reaches(interval));
     let (_, near) = pieces.split_at(first);
@@ -176,10 +174,10 @@ fn push_clipped(
 
 // Puts a copy of the part at the end, if there is one.
 #[inline(always)]
-fn push_part(
+fn push_part<V: Point>(
     alloc: Global,
-    parts: &mut Vec<Interval<Version>>,
-    part: Option<Part<Version>>,
+    parts: &mut Vec<Interval<V>>,
+    part: Option<Part<V>>,
 ) -> Result<(), AllocError>
     ensures { OnOk result (parts.new.items ≡ parts.old.items ++ option_to_list part.entry) }
 {
@@ -191,10 +189,10 @@ fn push_part(
 
 // Puts a copy of the part at the end.
 #[inline(never)]
-fn push_copy(
+fn push_copy<V: Point>(
     alloc: Global,
-    parts: &mut Vec<Interval<Version>>,
-    part: &Part<Version>,
+    parts: &mut Vec<Interval<V>>,
+    part: &Part<V>,
 ) -> Result<(), AllocError>
     ensures { OnOk result (parts.new.items ≡ parts.old.items ++ (part.now ∷ [])) }
 {

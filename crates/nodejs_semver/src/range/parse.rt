@@ -9,8 +9,8 @@ ghost use Rattle.semver_core.specs.Failures.{RefusedOnlyIf};
 ghost use Rattle.semver_core.specs.Values.Versions.{VersionValue};
 
 use crate::range::Intervals;
-use crate::{Range, RangeRef};
 use crate::readers::{read_any, read_common};
+use crate::{Range, RangeRef};
 use semver_core::{Failure, MAX_SAFE_INTEGER, SemverError, VersionRef};
 use std::alloc::{AllocError, Global};
 

@@ -18,10 +18,10 @@ ghost use Rattle.semver_core.specs.declared.TheConstants.{MAX_SAFE_INTEGER};
 
 use crate::range::Intervals;
 use crate::range::borrowed::owned;
-use crate::{Range, RangeRef};
 use crate::readers::intervals::{between, push, push_between, push_ordered};
 use crate::readers::syntax::{Bounds, Partial};
 use crate::readers::{intervals, partial, table, words};
+use crate::{Range, RangeRef};
 use semver_core::cuts::{Bound, Interval};
 use semver_core::{MAX_SAFE_INTEGER, VersionRef};
 use smallvec::SmallVec;
@@ -57,10 +57,7 @@ fn comparison(text: &[u8]) -> Option<(Bounds<'_>, &[u8])>
 }
 
 // What the intervals of two pairs of bounds have in common.
-fn common_interval<'a>(
-    first: Bounds<'a>,
-    second: Bounds<'a>,
-) -> Option<Interval<VersionRef<'a>>>
+fn common_interval<'a>(first: Bounds<'a>, second: Bounds<'a>) -> Option<Interval<VersionRef<'a>>>
     ensures { result ≡ Spec.both_of (bounds_view first.entry) (bounds_view second.entry) }
 {
     between(first)?.into_intersection(between(second)?).ok()
@@ -100,9 +97,7 @@ fn push_both<'a>(
         ≡ Spec.pushed found.old.items both) }
 {
     match (&first.upper, &second.lower) {
-        (Bound::Unbounded, Bound::Unbounded) => {
-            push_between(first.lower, second.upper, found)
-        }
+        (Bound::Unbounded, Bound::Unbounded) => { push_between(first.lower, second.upper, found) }
         _ => push_common(first, second, found),
     }
 }

@@ -12,8 +12,8 @@ ghost use Rattle.semver_core.specs.Lists.{is_empty};
 
 use crate::range::Intervals;
 use crate::range::borrowed::owned;
-use crate::{Range, RangeRef};
 use crate::readers::{bars, intervals};
+use crate::{Range, RangeRef};
 use semver_core::cuts::Interval;
 use semver_core::{MAX_SAFE_INTEGER, VersionRef};
 use smallvec::SmallVec;

@@ -13,8 +13,8 @@ ghost use Rattle.semver_core.specs.Values.Versions.{release_value};
 ghost use Rattle.semver_core.specs.declared.TheConstants.{MAX_SAFE_INTEGER};
 
 use crate::readers::syntax::{Bounds, Comparator, Partial, Sign};
-use semver_core::{MAX_SAFE_INTEGER, VersionRef};
 use semver_core::cuts::Bound;
+use semver_core::{MAX_SAFE_INTEGER, VersionRef};
 
 // `major.minor.patch`
 #[inline(always)]

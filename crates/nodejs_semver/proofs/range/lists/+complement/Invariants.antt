@@ -2,4 +2,4 @@ use Rattle.std.proofs.Common.{length}
 use Rattle.nodejs_semver.proofs.range.lists.+complement.Given as goal
 
 abbrev pub decreases-complement : goal.decreases-complement
-decreases-complement l = length l.intervals.now
+decreases-complement g l = length l.intervals.now

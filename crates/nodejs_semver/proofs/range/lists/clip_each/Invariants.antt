@@ -2,9 +2,8 @@ use Rattle.std.proofs.Common.{◌≡◌, take}
 use Rattle.std.specs.List.{flat_map}
 use Rattle.std.specs.Option.{option_to_list}
 use Rattle.semver_core.specs.Clips.{clip}
-use Rattle.semver_core.specs.Values.Order.{precedence}
 use Rattle.nodejs_semver.proofs.range.lists.clip_each.Given as goal
 
 abbrev pub invariant-loop-interval : goal.invariant-loop-interval
-invariant-loop-interval l =
-    l.found.items ≡ flat_map (λ s. flat_map (λ t. option_to_list (clip precedence s t)) l.pieces) (take l.interval-index l.these)
+invariant-loop-interval g l =
+    l.found.items ≡ flat_map (λ s. flat_map (λ t. option_to_list (clip g.V.Ord.cmp s t)) l.pieces) (take l.interval-index l.these)

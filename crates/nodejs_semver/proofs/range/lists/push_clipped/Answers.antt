@@ -1,20 +1,19 @@
 use Rattle.std.proofs.Common.{◌≡◌, ◌++◌, ◌∙◌, ap, false, is_some, rules}
 use Rattle.std.proofs.lemmas.List.Sorted.{IsPartitionPoint-from_clause}
-use Rattle.semver_core.specs.Internal.OrderLaws.{precedence_total}
 use Rattle.nodejs_semver.proofs.Algebra.Differences.{falls_short, parted, clips-to_end, clips-to_none}
 use Rattle.nodejs_semver.proofs.range.lists.push_clipped.Goals as goal
 
 pub returns : goal.returns
-returns c =
-    let o = precedence_total in
+returns g c =
+    let o = g.met.V.Ord.total in
     let point = IsPartitionPoint-from_clause (falls_short o c.args.interval.now) _ _ c.partition_point-first.ensures.partitioned (parted o c.args.interval.now c.args.pieces.now c.requires) (λ a r q k. search rules) in
     c.loop-piece.invariant
     ∙ ap (λ l. c.args.parts.now.items ++ l)
     (clips-to_end o c.args.interval.now c.args.pieces.now _ c.partition_point-first.ensures.bound point c.split_at.result.1.now _ c.split_at.ensures.back c.loop-piece-test.false)
 
 pub returns-in_default : goal.returns-in_default
-returns-in_default c =
-    let o = precedence_total in
+returns-in_default g c =
+    let o = g.met.V.Ord.total in
     let point = IsPartitionPoint-from_clause (falls_short o c.args.interval.now) _ _ c.partition_point-first.ensures.partitioned (parted o c.args.interval.now c.args.pieces.now c.requires) (λ a r q k. search rules) in
     let gone : is_some c.clipped_part.result ≡ false = search rules in
     c.loop-piece.invariant

@@ -2,10 +2,9 @@ use Rattle.std.proofs.Common.{◌≡◌, ◌++◌, take}
 use Rattle.std.specs.List.{flat_map}
 use Rattle.std.specs.Option.{option_to_list}
 use Rattle.semver_core.specs.Clips.{clip}
-use Rattle.semver_core.specs.Values.Order.{precedence}
 use Rattle.nodejs_semver.proofs.range.lists.push_clipped.Given as goal
 
 abbrev pub invariant-loop-piece : goal.invariant-loop-piece
-invariant-loop-piece l =
+invariant-loop-piece g l =
     l.parts.items
-    ≡ l.initial.parts.items ++ flat_map (λ t. option_to_list (clip precedence l.interval t)) (take l.piece-index l.near)
+    ≡ l.initial.parts.items ++ flat_map (λ t. option_to_list (clip g.V.Ord.cmp l.interval t)) (take l.piece-index l.near)

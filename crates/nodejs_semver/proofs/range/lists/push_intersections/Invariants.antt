@@ -2,10 +2,9 @@ use Rattle.std.proofs.Common.{◌≡◌, ◌++◌, take}
 use Rattle.std.specs.List.{flat_map}
 use Rattle.std.specs.Option.{option_to_list}
 use Rattle.semver_core.specs.Cuts.{meet}
-use Rattle.semver_core.specs.Values.Order.{precedence}
 use Rattle.nodejs_semver.proofs.range.lists.push_intersections.Given as goal
 
 abbrev pub invariant-loop-other : goal.invariant-loop-other
-invariant-loop-other l =
+invariant-loop-other g l =
     l.parts.items
-    ≡ l.initial.parts.items ++ flat_map (λ t. option_to_list (meet precedence l.interval t)) (take l.other-index l.others)
+    ≡ l.initial.parts.items ++ flat_map (λ t. option_to_list (meet g.V.Ord.cmp l.interval t)) (take l.other-index l.others)
