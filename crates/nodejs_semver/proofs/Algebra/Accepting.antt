@@ -226,8 +226,8 @@ option_some : {A : Type 0} (m : Option A) → is_some m ≡ list_any (λ _. true
 option_some None = refl
 option_some (Some x) = refl
 
-pub meets_one-some : (ss ts : List (Span VersionValue)) → list_any
-    (λ s. list_any (λ t. is_some (meet precedence s t)) ts) ss ≡ is_some (intersection ss ts)
-meets_one-some ss ts =
-    any_same _ _ (λ s. any_same _ _ (λ t. option_some (meet precedence s t)) ts ∙ sym (any_flat (λ _. true) _ ts)) ss
-    ∙ sym (if_any_some (meets_of precedence ss ts) ∙ any_flat (λ _. true) _ ss)
+pub meets_one_some : {V : Type 0} (R : V → V → Ordering) (ss ts : List (Span V)) → list_any
+    (λ s. list_any (λ t. is_some (meet R s t)) ts) ss ≡ is_some (if_any (meets_of R ss ts))
+meets_one_some R ss ts =
+    any_same _ _ (λ s. any_same _ _ (λ t. option_some (meet R s t)) ts ∙ sym (any_flat (λ _. true) _ ts)) ss
+    ∙ sym (if_any_some (meets_of R ss ts) ∙ any_flat (λ _. true) _ ss)

@@ -1,5 +1,7 @@
 -- What the intersection and the difference of two lists hold and accept, and that their intervals are those of a range.
 use Rattle.std.proofs.Common.{◌≡◌, refl, sym, ◌∙◌, ap, ℕ, ◌+◌, true, false, ◌&&◌, ◌||◌, not, List, [], ◌∷◌, Option, Some, None}
+use Rattle.std.proofs.lemmas.Result.{IfOk-weaker}
+use Rattle.std.specs.Prelude.{IfOk, Result}
 use Rattle.std.specs.Cmp.{first_so}
 use Rattle.std.specs.List.{list_all}
 use Rattle.semver_core.specs.Cuts.{Span, is_interval}
@@ -65,6 +67,40 @@ module _ (a b : List (Span VersionValue)) (r : Option (List (Span VersionValue))
       ∙ accepts-release (minus precedence a b) v k ∙ list_holds-minus precedence_total a b v
       ∙ ap (λ q. q && not (list_holds precedence b v)) (sym (accepts-release a v k))
       ∙ ap (λ q. accepts a v false && not q) (sym (accepts-release b v k))
+
+-- the same of a result
+module _ {E : Type 0} (a b : List (Span VersionValue)) (r : Result (Option (List (Span VersionValue))) E) (e : IfOk r (λ q. q ≡ intersection a b)) where
+  pub intersected-set : IfOk r (λ q. (v : VersionValue) → option_list_holds precedence q v ≡ (list_holds precedence a v && list_holds precedence b v))
+  intersected-set = IfOk-weaker r _ _ (λ q h v. intersection-set a b q h v) e
+
+  pub intersected-all : IfOk r (λ q. (v : VersionValue) → option_accepts q v true ≡ (accepts a v true && accepts b v true))
+  intersected-all = IfOk-weaker r _ _ (λ q h v. intersection-all a b q h v) e
+
+  pub intersected-both : IfOk r (λ q. (v : VersionValue) → accepts a v false ≡ true → accepts b v false ≡ true → option_accepts q v false ≡ true)
+  intersected-both = IfOk-weaker r _ _ (λ q h v. intersection-both a b q h v) e
+
+  pub intersected-one : IfOk r (λ q. (v : VersionValue) → option_accepts q v false ≡ true → (accepts a v false || accepts b v false) ≡ true)
+  intersected-one = IfOk-weaker r _ _ (λ q h v. intersection-one a b q h v) e
+
+  pub intersected-releases : IfOk r (λ q. (v : VersionValue) → is_release v ≡ true → option_accepts q v false ≡ (accepts a v false && accepts b v false))
+  intersected-releases = IfOk-weaker r _ _ (λ q h v. intersection-releases a b q h v) e
+
+module _ {E : Type 0} (a b : List (Span VersionValue)) (r : Result (Option (List (Span VersionValue))) E) (e : IfOk r (λ q. q ≡ difference a b)) where
+  pub left_over-set : IfOk r (λ q. (v : VersionValue) → option_list_holds precedence q v ≡ (list_holds precedence a v && not (list_holds precedence b v)))
+  left_over-set = IfOk-weaker r _ _ (λ q h v. difference-set a b q h v) e
+
+  pub left_over-all : IfOk r (λ q. (v : VersionValue) → option_accepts q v true ≡ (accepts a v true && not (accepts b v true)))
+  left_over-all = IfOk-weaker r _ _ (λ q h v. difference-all a b q h v) e
+
+  pub left_over-kept : IfOk r (λ q. (v : VersionValue) → accepts a v false ≡ true → list_holds precedence b v ≡ false → option_accepts q v false ≡ true)
+  left_over-kept = IfOk-weaker r _ _ (λ q h v. difference-kept a b q h v) e
+
+  pub left_over-releases : IfOk r (λ q. (v : VersionValue) → is_release v ≡ true → option_accepts q v false ≡ (accepts a v false && not (accepts b v false)))
+  left_over-releases = IfOk-weaker r _ _ (λ q h v. difference-releases a b q h v) e
+
+pub ruleset intersected = (intersected-set, intersected-all, intersected-both, intersected-one, intersected-releases)
+
+pub ruleset left_over = (left_over-set, left_over-all, left_over-kept, left_over-releases)
 
 -- the lists of two ranges, by any other names, make intervals of a range
 pub meets_of-valid : (a b xs ys found : List (Span VersionValue)) → IsRange MAX_SAFE_INTEGER a → IsRange MAX_SAFE_INTEGER b

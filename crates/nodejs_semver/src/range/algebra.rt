@@ -1,16 +1,14 @@
 // The set algebra of ranges.
 
 ghost use Rattle.std.specs.Prelude.{◌≡◌, ◌&&◌, ◌||◌, not, IfOk, true, false, is_some};
-ghost use Rattle.std.specs.List.{list_any};
-ghost use Rattle.semver_core.specs.Cuts.{meet};
 ghost use Rattle.semver_core.specs.Values.Order.{precedence};
 ghost use Rattle.semver_core.specs.Values.Versions.{VersionValue, is_release};
 ghost use Rattle.nodejs_semver.specs.Ranges.Gate.{accepts, option_accepts};
 ghost use Rattle.nodejs_semver.specs.Ranges.Algebra.{intersection, difference, covers_one};
 ghost use Rattle.nodejs_semver.specs.Ranges.Algebra.{list_holds, option_list_holds};
 
-use crate::Range;
 use crate::range::lists;
+use crate::{Range, RangeRef};
 use smallvec::SmallVec;
 use std::alloc::{AllocError, Global};
 
@@ -22,9 +20,7 @@ impl Range {
     pub fn allows_all(&self, other: &Range) -> bool
         ensures { result ≡ covers_one self.now other.now }
     {
-        self.intervals()
-            .iter()
-            .any(|interval| lists::covers_one(interval, other.intervals()))
+        lists::cover_somewhere(self.intervals(), other.intervals())
     }
 
     /// Whether some interval of this range meets some interval of the other: whether `intersect`
@@ -32,7 +28,7 @@ impl Range {
     pub fn allows_any(&self, other: &Range) -> bool
         ensures { result ≡ is_some (intersection self.now other.now) }
     {
-        self.has_meeting_pair(other)
+        lists::meet_somewhere(self.intervals(), other.intervals())
     }
 
     /// The intersection: what the pairs of intervals have in common, for each interval of this
@@ -54,6 +50,7 @@ impl Range {
     /// The list is not normalised: n intervals and m others make at most n times m intervals, and
     /// that many if all pairs meet. As measured, time grows with n times m, and memory with the
     /// number of intervals made.
+    #[tactic(auto, using(crate::proofs::Algebra::Clauses::intersected))]
     pub fn intersect(&self, alloc: Global, other: &Range) -> Result<Option<Range>, AllocError>
         ensures list { IfOk result (λ r. r ≡ intersection self.now other.now) }
         // It holds what both hold.
@@ -73,8 +70,7 @@ impl Range {
         ensures releases { IfOk result (λ r. (v : VersionValue) → is_release v ≡ true →
             option_accepts r v false ≡ (accepts self.now v false && accepts other.now v false)) }
     {
-        let found = lists::intersections(alloc, self.intervals(), other.intervals())?;
-        Ok(Range::from_intervals(SmallVec::from_vec(found)))
+        self.common(alloc, other)
     }
 
     /// The difference: what is left of each interval of this range, in order, once all of the
@@ -94,6 +90,7 @@ impl Range {
     /// Each interval of this range is left in as many pieces as the other's have gaps in it: n
     /// intervals less m others make at most n times (m + 1) intervals. As measured, time grows with
     /// the size of the result, and with m log m.
+    #[tactic(auto, using(crate::proofs::Algebra::Clauses::left_over))]
     pub fn difference(&self, alloc: Global, other: &Range) -> Result<Option<Range>, AllocError>
         ensures list { IfOk result (λ r. r ≡ difference self.now other.now) }
         // It holds what this range holds and the other does not.
@@ -111,17 +108,120 @@ impl Range {
             option_accepts r v false
             ≡ (accepts self.now v false && not (accepts other.now v false))) }
     {
+        self.remaining(alloc, other)
+    }
+
+    // What the pairs of intervals have in common.
+    fn common(&self, alloc: Global, other: &Range) -> Result<Option<Range>, AllocError>
+        ensures { IfOk result (λ r. r ≡ intersection self.now other.now) }
+    {
+        let found = lists::intersections(alloc, self.intervals(), other.intervals())?;
+        Ok(Range::from_intervals(SmallVec::from_vec(found)))
+    }
+
+    // What the other range leaves of this one.
+    fn remaining(&self, alloc: Global, other: &Range) -> Result<Option<Range>, AllocError>
+        ensures { IfOk result (λ r. r ≡ difference self.now other.now) }
+    {
         let left = lists::differences(alloc, self.intervals(), other.intervals())?;
         Ok(Range::from_intervals(SmallVec::from_vec(left)))
     }
+}
 
-    // Whether some pair of intervals meets.
-    fn has_meeting_pair(&self, other: &Range) -> bool
-        ensures { result
-            ≡ list_any (λ s. list_any (λ t. is_some (meet precedence s t)) other.now) self.now }
+impl<'a> RangeRef<'a> {
+    /// Whether some one interval of this range covers some one interval of the other, as
+    /// `Range::allows_all` says.
+    pub fn allows_all(&self, other: &RangeRef<'_>) -> bool
+        ensures { result ≡ covers_one self.now other.now }
     {
-        self.intervals()
-            .iter()
-            .any(|interval| lists::meets_one(interval, other.intervals()))
+        lists::cover_somewhere(self.intervals(), other.intervals())
+    }
+
+    /// Whether some interval of this range meets some interval of the other, as `Range::allows_any`
+    /// says.
+    pub fn allows_any(&self, other: &RangeRef<'_>) -> bool
+        ensures { result ≡ is_some (intersection self.now other.now) }
+    {
+        lists::meet_somewhere(self.intervals(), other.intervals())
+    }
+
+    /// The intersection, as `Range::intersect` says. Its bounds borrow the same texts: memory is
+    /// taken for the list alone.
+    #[tactic(auto, using(crate::proofs::Algebra::Clauses::intersected))]
+    pub fn intersect(
+        &self,
+        alloc: Global,
+        other: &RangeRef<'a>,
+    ) -> Result<Option<RangeRef<'a>>, AllocError>
+        ensures list { IfOk result (λ r. r ≡ intersection self.now other.now) }
+        // It holds what both hold.
+        ensures set { IfOk result (λ r. (v : VersionValue) →
+            option_list_holds precedence r v
+            ≡ (list_holds precedence self.now v && list_holds precedence other.now v)) }
+        // With pre-releases included it accepts what both accept.
+        ensures all { IfOk result (λ r. (v : VersionValue) →
+            option_accepts r v true ≡ (accepts self.now v true && accepts other.now v true)) }
+        // It accepts what both accept, and nothing that neither accepts.
+        ensures both { IfOk result (λ r. (v : VersionValue) →
+            accepts self.now v false ≡ true → accepts other.now v false ≡ true
+            → option_accepts r v false ≡ true) }
+        ensures one { IfOk result (λ r. (v : VersionValue) →
+            option_accepts r v false ≡ true
+            → (accepts self.now v false || accepts other.now v false) ≡ true) }
+        ensures releases { IfOk result (λ r. (v : VersionValue) → is_release v ≡ true →
+            option_accepts r v false ≡ (accepts self.now v false && accepts other.now v false)) }
+    {
+        self.common(alloc, other)
+    }
+
+    /// The difference, as `Range::difference` says. Its bounds borrow the same texts: memory is
+    /// taken for the list alone.
+    #[tactic(auto, using(crate::proofs::Algebra::Clauses::left_over))]
+    pub fn difference(
+        &self,
+        alloc: Global,
+        other: &RangeRef<'a>,
+    ) -> Result<Option<RangeRef<'a>>, AllocError>
+        ensures list { IfOk result (λ r. r ≡ difference self.now other.now) }
+        // It holds what this range holds and the other does not.
+        ensures set { IfOk result (λ r. (v : VersionValue) →
+            option_list_holds precedence r v
+            ≡ (list_holds precedence self.now v && not (list_holds precedence other.now v))) }
+        // With pre-releases included it accepts what this range accepts and the other does not.
+        ensures all { IfOk result (λ r. (v : VersionValue) →
+            option_accepts r v true ≡ (accepts self.now v true && not (accepts other.now v true))) }
+        // It accepts what this range accepts and the other does not hold.
+        ensures kept { IfOk result (λ r. (v : VersionValue) →
+            accepts self.now v false ≡ true → list_holds precedence other.now v ≡ false
+            → option_accepts r v false ≡ true) }
+        ensures releases { IfOk result (λ r. (v : VersionValue) → is_release v ≡ true →
+            option_accepts r v false
+            ≡ (accepts self.now v false && not (accepts other.now v false))) }
+    {
+        self.remaining(alloc, other)
+    }
+
+    // What the pairs of intervals have in common.
+    fn common(
+        &self,
+        alloc: Global,
+        other: &RangeRef<'a>,
+    ) -> Result<Option<RangeRef<'a>>, AllocError>
+        ensures { IfOk result (λ r. r ≡ intersection self.now other.now) }
+    {
+        let found = lists::intersections(alloc, self.intervals(), other.intervals())?;
+        Ok(RangeRef::from_intervals(SmallVec::from_vec(found)))
+    }
+
+    // What the other range leaves of this one.
+    fn remaining(
+        &self,
+        alloc: Global,
+        other: &RangeRef<'a>,
+    ) -> Result<Option<RangeRef<'a>>, AllocError>
+        ensures { IfOk result (λ r. r ≡ difference self.now other.now) }
+    {
+        let left = lists::differences(alloc, self.intervals(), other.intervals())?;
+        Ok(RangeRef::from_intervals(SmallVec::from_vec(left)))
     }
 }

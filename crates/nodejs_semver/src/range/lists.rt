@@ -5,6 +5,7 @@ ghost use Rattle.std.specs.List.{flat_map, list_all, list_any};
 ghost use Rattle.std.specs.Option.{option_to_list};
 ghost use Rattle.semver_core.specs.Clips.{clip};
 ghost use Rattle.semver_core.specs.Cuts.{Start, is_interval, meet, covers};
+ghost use Rattle.semver_core.specs.Lists.{if_any};
 ghost use Rattle.nodejs_semver.specs.Ranges.Algebra.{meets_of, minus, remainder};
 ghost use Rattle.semver_core.specs.declared.cuts.bound.Bound.TheVariants.{Unbounded};
 ghost use Rattle.nodejs_semver.specs.Internal.Along.{IsAlong};
@@ -49,15 +50,37 @@ pub(crate) fn differences<V: Point>(
     Ok(clip_each(alloc, these, &pieces)?)
 }
 
-/// Whether the interval meets one of the others.
-pub(crate) fn meets_one<V: Point>(interval: &Interval<V>, others: &[Interval<V>]) -> bool
+/// Whether some interval of the first list meets some interval of the second: whether they have an
+/// intersection.
+pub(crate) fn meet_somewhere<V: Point>(these: &[Interval<V>], others: &[Interval<V>]) -> bool
+    ensures { result ≡ is_some (if_any (meets_of V.cmp these.now others.now)) }
+{
+    has_meeting_pair(these, others)
+}
+
+// Whether some pair of intervals meets.
+fn has_meeting_pair<V: Point>(these: &[Interval<V>], others: &[Interval<V>]) -> bool
+    ensures { result ≡ list_any (λ s. list_any (λ t. is_some (meet V.cmp s t)) others.now) these.now }
+{
+    these.iter().any(|interval| meets_one(interval, others))
+}
+
+/// Whether some interval of the first list covers some interval of the second.
+pub(crate) fn cover_somewhere<V: Point>(these: &[Interval<V>], others: &[Interval<V>]) -> bool
+    ensures { result ≡ list_any (λ s. list_any (λ t. covers V.cmp s t) others.now) these.now }
+{
+    these.iter().any(|interval| covers_one(interval, others))
+}
+
+// Whether the interval meets one of the others.
+fn meets_one<V: Point>(interval: &Interval<V>, others: &[Interval<V>]) -> bool
     ensures { result ≡ list_any (λ t. is_some (meet V.cmp interval.now t)) others.now }
 {
     others.iter().any(|other| interval.meets(other))
 }
 
-/// Whether the interval covers one of the others.
-pub(crate) fn covers_one<V: Point>(interval: &Interval<V>, others: &[Interval<V>]) -> bool
+// Whether the interval covers one of the others.
+fn covers_one<V: Point>(interval: &Interval<V>, others: &[Interval<V>]) -> bool
     ensures { result ≡ list_any (λ t. covers V.cmp interval.now t) others.now }
 {
     others.iter().any(|other| interval.covers(other))
