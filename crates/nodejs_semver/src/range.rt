@@ -8,7 +8,6 @@ ghost use Rattle.nodejs_semver.specs.Ranges.View.{IsRange, is_range_span, any_ve
 
 mod algebra;
 mod best;
-pub mod borrowed;
 mod gate;
 mod least;
 mod least_held;
@@ -16,14 +15,14 @@ mod least_of_all;
 mod lists;
 mod neighbours;
 mod outside;
+pub(crate) mod owned;
 mod parse;
 mod print;
 mod same;
 
-pub use crate::range::borrowed::RangeRef;
 pub use crate::range::outside::{OutsideDirection, RangeError};
-use semver_core::Version;
 use semver_core::cuts::Interval;
+use semver_core::{Version, VersionRef};
 use smallvec::SmallVec;
 use std::alloc::{AllocError, Global};
 use std::marker::Model;
@@ -42,6 +41,29 @@ pub struct Range {
 }
 
 impl Model for Range {
+    ghost use Rattle.std.specs.Prelude.{List};
+    ghost use Rattle.semver_core.specs.Cuts.{Span};
+    ghost use Rattle.semver_core.specs.Values.Versions.{VersionValue};
+    ghost use Rattle.semver_core.specs.declared.TheConstants.{MAX_SAFE_INTEGER};
+    ghost use Rattle.nodejs_semver.specs.Ranges.View.{IsRange};
+
+    ghost Value = { List (Span VersionValue) };
+
+    ghost view = { λ r. r.intervals.items };
+
+    ghost invariant = { λ r. IsRange MAX_SAFE_INTEGER r.intervals.items };
+}
+
+/// A range that borrows its text: the versions of one or more intervals, whose bounds are read where
+/// they stand. One interval stands inline, so that most ranges allocate nothing.
+///
+/// In contracts it is the same list of intervals as a [`Range`](crate::Range).
+#[derive(Debug, Drop)]
+pub struct RangeRef<'a> {
+    intervals: Intervals<VersionRef<'a>>,
+}
+
+impl<'a> Model for RangeRef<'a> {
     ghost use Rattle.std.specs.Prelude.{List};
     ghost use Rattle.semver_core.specs.Cuts.{Span};
     ghost use Rattle.semver_core.specs.Values.Versions.{VersionValue};
@@ -88,7 +110,7 @@ impl Range {
     pub(crate) fn of_borrowed(alloc: Global, range: &RangeRef<'_>) -> Result<Range, AllocError>
         ensures { IfOk result (λ r. r ≡ range.now) }
     {
-        let intervals = borrowed::owned_intervals(alloc, range.intervals())?;
+        let intervals = owned::owned_intervals(alloc, range.intervals())?;
         Ok(Range { intervals })
     }
 
@@ -101,6 +123,28 @@ impl Range {
             None
         } else {
             Some(Range { intervals })
+        }
+    }
+}
+
+impl<'a> RangeRef<'a> {
+    /// The intervals, in the order in which the text names them: one or more, which may overlap.
+    pub fn intervals(&self) -> &[Interval<VersionRef<'a>>]
+        ensures value { result.now ≡ self.now }
+        ensures valid { IsRange MAX_SAFE_INTEGER self.now }
+    {
+        &self.intervals
+    }
+
+    // The range of these intervals, or none where there is no interval.
+    pub(crate) fn from_intervals(intervals: Intervals<VersionRef<'a>>) -> Option<RangeRef<'a>>
+        requires { list_all (is_range_span (MAX_SAFE_INTEGER + 1)) intervals.items ≡ true }
+        ensures { result ≡ if_any intervals.entry.items }
+    {
+        if intervals.is_empty() {
+            None
+        } else {
+            Some(RangeRef { intervals })
         }
     }
 }

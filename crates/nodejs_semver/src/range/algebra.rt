@@ -209,8 +209,8 @@ impl<'a> RangeRef<'a> {
     ) -> Result<Option<RangeRef<'a>>, AllocError>
         ensures { IfOk result (λ r. r ≡ intersection self.now other.now) }
     {
-        let found = lists::intersections(alloc, self.intervals(), other.intervals())?;
-        Ok(RangeRef::from_intervals(SmallVec::from_vec(found)))
+        let both = lists::intersections(alloc, self.intervals(), other.intervals())?;
+        Ok(RangeRef::from_intervals(SmallVec::from_vec(both)))
     }
 
     // What the other range leaves of this one.
@@ -221,7 +221,7 @@ impl<'a> RangeRef<'a> {
     ) -> Result<Option<RangeRef<'a>>, AllocError>
         ensures { IfOk result (λ r. r ≡ difference self.now other.now) }
     {
-        let left = lists::differences(alloc, self.intervals(), other.intervals())?;
-        Ok(RangeRef::from_intervals(SmallVec::from_vec(left)))
+        let pieces = lists::differences(alloc, self.intervals(), other.intervals())?;
+        Ok(RangeRef::from_intervals(SmallVec::from_vec(pieces)))
     }
 }

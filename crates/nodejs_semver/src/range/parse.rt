@@ -12,6 +12,7 @@ use crate::range::Intervals;
 use crate::readers::{read_any, read_common};
 use crate::{Range, RangeRef};
 use semver_core::{Failure, MAX_SAFE_INTEGER, SemverError, VersionRef};
+use smallvec::SmallVec;
 use std::alloc::{AllocError, Global};
 
 impl Range {
@@ -46,12 +47,31 @@ impl Range {
     }
 }
 
+impl<'a> RangeRef<'a> {
+    /// Reads a range text of any length, as `Range::parse` does. The range borrows the text.
+    #[inline(always)]
+    pub fn parse(alloc: Global, text: &'a str) -> Result<RangeRef<'a>, Failure<SemverError>>
+        // The intervals are those that the text means, in order and with their builds.
+        ensures ok { IfOk result (Means MAX_SAFE_INTEGER text.now) }
+        ensures some { IfOk result (λ range. 0 < length range) }
+        // The text is rejected only if it means none. The one other error is a failed allocation.
+        ensures refused { RefusedOnlyIf result (Means MAX_SAFE_INTEGER text.now []) }
+        // With pre-releases included, the range accepts exactly the versions that the text writes.
+        ensures set { IfOk result (λ range. (v : VersionValue) →
+            IsTrue (accepts range v true) ↔ Writes MAX_SAFE_INTEGER text.now v) }
+    {
+        let mut intervals = SmallVec::new(alloc);
+        read(text, &mut intervals)?;
+        if intervals.is_empty() {
+            return Err(Failure::Refused(SemverError));
+        }
+        Ok(RangeRef { intervals })
+    }
+}
+
 // Reads the intervals of a text into an empty list. Most texts are common ones.
 #[inline(never)]
-pub(crate) fn read<'a>(
-    text: &'a str,
-    found: &mut Intervals<VersionRef<'a>>,
-) -> Result<(), AllocError>
+fn read<'a>(text: &'a str, found: &mut Intervals<VersionRef<'a>>) -> Result<(), AllocError>
     requires { found.old.items ≡ [] }
     ensures { OnOk result (found.new.items ≡ denotes MAX_SAFE_INTEGER text.now) }
 {

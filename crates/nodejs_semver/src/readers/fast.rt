@@ -17,7 +17,7 @@ ghost use Rattle.semver_core.specs.Values.Order.{precedence};
 ghost use Rattle.semver_core.specs.declared.TheConstants.{MAX_SAFE_INTEGER};
 
 use crate::range::Intervals;
-use crate::range::borrowed::owned;
+use crate::range::owned::owned_range;
 use crate::readers::intervals::{between, push, push_between, push_ordered};
 use crate::readers::syntax::{Bounds, Partial};
 use crate::readers::{intervals, partial, table, words};
@@ -333,5 +333,5 @@ pub fn range_fast(alloc: Global, text: &str) -> Result<Option<Range>, AllocError
     if !read_common(text.as_bytes(), &mut found)? {
         return Ok(None);
     }
-    owned(alloc, RangeRef::from_intervals(found))
+    owned_range(alloc, RangeRef::from_intervals(found))
 }

@@ -11,7 +11,7 @@ ghost use Rattle.semver_core.specs.Internal.Spaces.{space_len};
 ghost use Rattle.semver_core.specs.Lists.{is_empty};
 
 use crate::range::Intervals;
-use crate::range::borrowed::owned;
+use crate::range::owned::owned_range;
 use crate::readers::{bars, intervals};
 use crate::{Range, RangeRef};
 use semver_core::cuts::Interval;
@@ -111,5 +111,5 @@ pub fn range_loose(alloc: Global, text: &str) -> Result<Option<Range>, AllocErro
     let mut found = SmallVec::new(alloc);
     let (part, rest) = bars::next_part(text);
     add_parts(part, rest, &mut found)?;
-    owned(alloc, RangeRef::from_intervals(found))
+    owned_range(alloc, RangeRef::from_intervals(found))
 }

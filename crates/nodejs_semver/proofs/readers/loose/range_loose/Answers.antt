@@ -16,17 +16,17 @@ pub from_intervals-requires : goal.from_intervals-requires
 from_intervals-requires c =
     ap (λ (l : List (Span VersionValue)). list_all (is_range_span (MAX_SAFE_INTEGER + 1)) l) (c.in_ok-add_parts.ensures ∙ ap (λ (ps : List (List ℕ)). flat_map (part_denotes MAX_SAFE_INTEGER) ps) c.next_part.ensures.value) ∙ all-bounded MAX_SAFE_INTEGER (parts c.args.text.now)
 
-found-is : (c : goal.After-owned) → c.add_parts.new.found.items ≡ denotes MAX_SAFE_INTEGER c.args.text.now
+found-is : (c : goal.After-owned_range) → c.add_parts.new.found.items ≡ denotes MAX_SAFE_INTEGER c.args.text.now
 found-is c =
     let some = filled_text c.args.text.now c.utf8.text c.requires.some_part in
     grind (arith, some, c.in_ok-add_parts.ensures, c.next_part.ensures.value)
 
 pub returns-clause-some : goal.returns-clause-some
 returns-clause-some c =
-    IfOk-weaker c.owned.result (λ r. r ≡ c.from_intervals.result) _ (λ r e. rw e
-    (meant_some MAX_SAFE_INTEGER c.args.text.now c.add_parts.new.found.items c.from_intervals.result c.utf8.text (found-is c) c.from_intervals.ensures)) c.owned.ensures
+    IfOk-weaker c.owned_range.result (λ r. r ≡ c.from_intervals.result) _ (λ r e. rw e
+    (meant_some MAX_SAFE_INTEGER c.args.text.now c.add_parts.new.found.items c.from_intervals.result c.utf8.text (found-is c) c.from_intervals.ensures)) c.owned_range.ensures
 
 pub returns-clause-none : goal.returns-clause-none
 returns-clause-none c =
-    IfOk-weaker c.owned.result (λ r. r ≡ c.from_intervals.result) _ (λ r e. rw e
-    (meant_none MAX_SAFE_INTEGER c.args.text.now c.add_parts.new.found.items c.from_intervals.result c.utf8.text (found-is c) c.from_intervals.ensures)) c.owned.ensures
+    IfOk-weaker c.owned_range.result (λ r. r ≡ c.from_intervals.result) _ (λ r e. rw e
+    (meant_none MAX_SAFE_INTEGER c.args.text.now c.add_parts.new.found.items c.from_intervals.result c.utf8.text (found-is c) c.from_intervals.ensures)) c.owned_range.ensures

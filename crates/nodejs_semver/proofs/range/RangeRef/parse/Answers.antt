@@ -5,7 +5,7 @@ use Rattle.nodejs_semver.specs.Internal.Denotes.{denotes}
 use Rattle.nodejs_semver.proofs.Everyday.Whole.{denoted_range}
 use Rattle.nodejs_semver.proofs.Dividing.MeaningLaw.{meant}
 use Rattle.nodejs_semver.proofs.Dividing.WrittenLaw.{accepted_written}
-use Rattle.nodejs_semver.proofs.range.borrowed.RangeRef.parse.Goals as goal
+use Rattle.nodejs_semver.proofs.range.RangeRef.parse.Goals as goal
 
 pub invariant_of-result : goal.invariant_of-result
 invariant_of-result c =

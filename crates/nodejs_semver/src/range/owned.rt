@@ -1,0 +1,71 @@
+// Borrowed ranges with versions of their own.
+
+ghost use Rattle.std.specs.Prelude.{◌≡◌, IfOk};
+
+use crate::range::Intervals;
+use crate::{Range, RangeRef};
+use semver_core::cuts::{Bound, Interval};
+use semver_core::{Version, VersionRef};
+use smallvec::SmallVec;
+use std::alloc::{AllocError, Global};
+
+impl<'a> RangeRef<'a> {
+    /// The same range with versions of its own. Fails only if allocation fails.
+    pub fn to_range(&self, alloc: Global) -> Result<Range, AllocError>
+        ensures { IfOk result (λ range. range ≡ self.now) }
+    {
+        Range::of_borrowed(alloc, self)
+    }
+}
+
+/// The range with versions of its own, if there is one.
+pub(crate) fn owned_range(
+    alloc: Global,
+    range: Option<RangeRef<'_>>,
+) -> Result<Option<Range>, AllocError>
+    ensures { IfOk result (λ r. r ≡ range.entry) }
+{
+    match range {
+        Some(range) => Ok(Some(range.to_range(alloc)?)),
+        None => Ok(None),
+    }
+}
+
+// The bound with a version of its own.
+#[inline(always)]
+fn owned_bound(alloc: Global, bound: &Bound<VersionRef<'_>>) -> Result<Bound<Version>, AllocError>
+    ensures { IfOk result (λ b. b ≡ bound.now) }
+{
+    Ok(match bound {
+        Bound::Unbounded => Bound::Unbounded,
+        Bound::Before(version) => Bound::Before(version.to_version(alloc)?),
+        Bound::After(version) => Bound::After(version.to_version(alloc)?),
+    })
+}
+
+// The interval with versions of its own.
+#[inline(always)]
+fn owned_interval(
+    alloc: Global,
+    interval: &Interval<VersionRef<'_>>,
+) -> Result<Interval<Version>, AllocError>
+    ensures { IfOk result (λ i. i ≡ interval.now) }
+{
+    let lower = owned_bound(alloc, interval.lower())?;
+    let upper = owned_bound(alloc, interval.upper())?;
+    Ok(Interval::of_ordered(lower, upper))
+}
+
+/// The intervals with versions of their own.
+pub(crate) fn owned_intervals(
+    alloc: Global,
+    intervals: &[Interval<VersionRef<'_>>],
+) -> Result<Intervals<Version>, AllocError>
+    ensures { IfOk result (λ owned. owned.items ≡ intervals.now) }
+{
+    let mut owned = SmallVec::with_capacity(alloc, intervals.len())?;
+    for interval in intervals {
+        owned.push(owned_interval(alloc, interval)?)?;
+    }
+    Ok(owned)
+}
