@@ -89,7 +89,14 @@ impl<'a> VersionRef<'a> {
         ensures { IfOk result (λ v. v ≡ self.now) }
     {
         let (pre_release, build) = (self.pre_release, self.build);
-        Version::from_texts(alloc, self.major, self.minor, self.patch, pre_release, build)
+        Version::from_texts(
+            alloc,
+            self.major,
+            self.minor,
+            self.patch,
+            pre_release,
+            build,
+        )
     }
 
     /// The first number, which is raised for incompatible changes.

@@ -15,7 +15,7 @@ use Rattle.semver_core.specs.Cuts.{Span, cut_cmp, lower_cut, upper_cut, is_past,
 use Rattle.semver_core.specs.declared.cuts.bound.Bound.{Bound}
 use Rattle.semver_core.specs.Internal.OrderLaws.{precedence_total}
 use Rattle.semver_core.specs.Lists.{if_any}
-use Rattle.nodejs_semver.specs.Ranges.Algebra.{intersection, list_holds, meets_of, minus, option_list_holds, remainder}
+use Rattle.nodejs_semver.specs.Ranges.Algebra.{list_holds, meets_of, minus, option_list_holds, remainder}
 use Rattle.nodejs_semver.specs.Ranges.Gate.{names, lets_in, accepts, option_accepts}
 use Rattle.semver_core.specs.Values.Order.{precedence}
 use Rattle.semver_core.specs.Values.Versions.{VersionValue, is_release}

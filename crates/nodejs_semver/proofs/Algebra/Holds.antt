@@ -1,29 +1,27 @@
 -- What a range text's intervals hold is what the text writes.
-use Rattle.std.proofs.Common.{◌≡◌, ℕ, List, [], ◌∷◌, ◌++◌, refl, sym, ap, ap₂, ◌∙◌, true, false, Bool, map, Some, arith}
-use Rattle.std.specs.Prelude.{◌&&◌, ◌||◌, flat_map, if◌then◌else◌}
+use Rattle.std.proofs.Common.{◌≡◌, ℕ, List, [], ◌∷◌, refl, sym, ap₂, ◌∙◌, true, false, Bool, map}
+use Rattle.std.specs.Prelude.{◌||◌, flat_map}
 use Rattle.std.proofs.lemmas.Bool.{cond_both, or_left}
 use Rattle.std.proofs.lemmas.List.Folds.{list_any-append}
 use Rattle.std.specs.Cmp.{IsTotalOrder, first_so}
 use Rattle.std.specs.List.{list_all, list_any}
 use Rattle.std.specs.declared.cmp.Ordering.{Ordering}
-use Rattle.semver_core.specs.Cuts.{Span, holds}
+use Rattle.semver_core.specs.Cuts.{holds}
 use Rattle.nodejs_semver.specs.Ranges.Algebra.{list_holds}
 use Rattle.semver_core.specs.Values.Order.{precedence}
 use Rattle.semver_core.specs.Internal.OrderLaws.{precedence_total}
 use Rattle.semver_core.specs.Values.Versions.{VersionValue}
-use Rattle.nodejs_semver.specs.Ranges.Gate.{accepts}
-use Rattle.nodejs_semver.specs.Internal.Denotes.{denotes, part_bounds, part_denotes, part_intervals}
+use Rattle.nodejs_semver.specs.Internal.Denotes.{denotes, part_bounds, part_denotes}
 use Rattle.nodejs_semver.specs.Internal.Parts.{cut_bars, parts}
 use Rattle.nodejs_semver.specs.Text.Bars.{IsCutAtBars, more_pieces, one_piece}
 use Rattle.nodejs_semver.specs.Ranges.View.{any_version}
 use Rattle.nodejs_semver.specs.Text.Runs.{Run, interval_of}
 use Rattle.nodejs_semver.specs.Internal.RunsFrom.{runs_of}
 use Rattle.semver_core.specs.Internal.Spaces.{trim}
-use Rattle.semver_core.specs.Lists.{is_empty, if_any}
+use Rattle.semver_core.specs.Lists.{is_empty}
 use Rattle.nodejs_semver.specs.Internal.Writes.{part_writes, writes}
 use Rattle.nodejs_semver.specs.Text.WrittenSet.{run_writes}
 use Rattle.nodejs_semver.proofs.Dividing.BarsDivide.{bars_divide}
-use Rattle.nodejs_semver.proofs.Algebra.Accepting.{accepts-held}
 use Rattle.nodejs_semver.proofs.Dividing.RunLemmas.{run-holds}
 
 runs-hold : {V : Type 0} {R : V → V → Ordering} → IsTotalOrder R → (v : V) (rs : List (Run V))

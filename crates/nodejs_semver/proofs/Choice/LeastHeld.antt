@@ -1,5 +1,5 @@
 -- The least version that spans hold is the first past one of their lower cuts.
-use Rattle.std.proofs.Common.{◌≡◌, refl, sym, ◌∙◌, ap, subst, ℕ, ◌<◌, Bool, true, false, ◌&&◌, ◌||◌, not, List, [], ◌∷◌, length, map, inl, inr, if◌then◌else◌, Option, IfSome, arith}
+use Rattle.std.proofs.Common.{◌≡◌, refl, ◌∙◌, ap, ◌<◌, Bool, true, false, ◌&&◌, not, List, [], ◌∷◌, length, map, inl, inr, if◌then◌else◌, Option, IfSome, arith}
 use Rattle.std.specs.declared.cmp.Ordering.{Ordering}
 use Rattle.std.specs.declared.cmp.Ordering.TheVariants.{Less, Equal, Greater}
 use Rattle.std.specs.Ordering.{ordering_then, is_le, is_gt}
@@ -7,7 +7,7 @@ use Rattle.std.proofs.lemmas.Bool.{and_from, cond_both, or_cases, or_left, or_ri
 use Rattle.std.proofs.lemmas.List.Elements.{All-cons, All-nil}
 use Rattle.std.specs.List.{All, list_any}
 use Rattle.std.specs.Cmp.{first_so, tied_itself}
-use Rattle.semver_core.specs.Cuts.{Span, holds, Near, Far, is_past, lower_cut, upper_cut}
+use Rattle.semver_core.specs.Cuts.{Span, holds, Near, is_past, lower_cut, upper_cut}
 use Rattle.semver_core.specs.declared.cuts.bound.Bound.{Bound}
 use Rattle.semver_core.specs.declared.cuts.bound.Bound.TheVariants.{Unbounded, Before, After}
 use Rattle.semver_core.specs.Text.Identifiers.{Id}

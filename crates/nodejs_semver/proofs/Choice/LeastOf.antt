@@ -18,7 +18,7 @@ use Rattle.nodejs_semver.proofs.Choice.Next.{next_patch_above, next_pre_above, r
 use Rattle.semver_core.specs.Cuts.{Span, Cut, Side, Start, Beside, End, Near, Far, is_past, holds, lower_cut, upper_cut}
 use Rattle.semver_core.specs.declared.cuts.bound.Bound.{Bound}
 use Rattle.semver_core.specs.declared.cuts.bound.Bound.TheVariants.{Unbounded, Before, After}
-use Rattle.nodejs_semver.specs.Internal.Candidates.{has_build, zero, bare, bare_release, after_cut, release_after, firsts, list_marks, removed_marks, candidates, among, improves, better, least_of, is_reached}
+use Rattle.nodejs_semver.specs.Internal.Candidates.{has_build, bare, bare_release, after_cut, release_after, firsts, list_marks, removed_marks, candidates, among, improves, better, least_of, is_reached}
 use Rattle.semver_core.specs.Internal.OrderLaws.{precedence_total}
 use Rattle.semver_core.specs.Lists.{is_empty}
 use Rattle.nodejs_semver.specs.Ranges.Gate.{lets_in, accepts}

@@ -2,7 +2,7 @@
 use Rattle.std.proofs.Common.{◌≡◌, refl, ◌∙◌, ap, ap₂, arith, ℕ, ◌+◌, Bool, true, false, ◌&&◌, ◌||◌, not, List, [], ◌∷◌}
 use Rattle.std.proofs.lemmas.Bool.{and_parts}
 use Rattle.std.specs.List.{list_any, list_all}
-use Rattle.semver_core.specs.Cuts.{Span, is_interval, is_past, cut_cmp, lower_cut, upper_cut, holds}
+use Rattle.semver_core.specs.Cuts.{Span, is_interval, is_past, lower_cut, upper_cut, holds}
 use Rattle.semver_core.proofs.CutLaws.{is_past-down, one_way}
 use Rattle.semver_core.specs.Values.Order.{precedence}
 use Rattle.semver_core.specs.Internal.OrderLaws.{precedence_total}
@@ -12,7 +12,7 @@ use Rattle.semver_core.specs.declared.cuts.bound.Bound.TheVariants.{Unbounded, B
 use Rattle.nodejs_semver.specs.Ranges.Outside.{is_bounded, lies_below, lies_above, is_outside}
 use Rattle.nodejs_semver.specs.declared.range.outside.OutsideDirection.{OutsideDirection}
 use Rattle.nodejs_semver.specs.declared.range.outside.OutsideDirection.TheVariants.{Higher, Lower}
-use Rattle.nodejs_semver.specs.Ranges.View.{IsRange, is_range_span, is_range_bound}
+use Rattle.nodejs_semver.specs.Ranges.View.{IsRange}
 use Rattle.nodejs_semver.proofs.Algebra.Clauses.{all_intervals}
 
 -- what lies past the upper cut of an interval lies past its lower cut

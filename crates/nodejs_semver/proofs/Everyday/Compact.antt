@@ -1,5 +1,5 @@
 -- The bytes of an everyday part: it is neither cut at bars nor trimmed.
-use Rattle.std.proofs.Common.{◌≡◌, ℕ, ◌<◌, List, [], ◌∷◌, ◌++◌, length, refl, sym, ap, ◌∙◌, arith, Bool, true, inl, inr, rules}
+use Rattle.std.proofs.Common.{◌≡◌, ℕ, List, [], ◌∷◌, ◌++◌, refl, ◌∙◌, arith, Bool, true, inl, inr}
 use Rattle.std.specs.Prelude.{Option, ◌==◌, ◌||◌}
 use Rattle.std.specs.Char.{is_ascii_digit}
 use Rattle.std.specs.List.{list_all, onto_first}
@@ -11,7 +11,7 @@ use Rattle.semver_core.specs.Text.VersionText.{IsBuild, IsPreRelease, bare, dash
 use Rattle.semver_core.proofs.Text.Pieces.{first_char, runs_tail, tail_onto, tail_runs}
 use Rattle.nodejs_semver.specs.Text.PartialText.{AreComponents, IsComponent, Partial, is_wildcard, number, one, three, two, wildcard}
 use Rattle.nodejs_semver.specs.Text.WordText.{Comparator, IsSign, above_sign, at_least_sign, at_most_sign, below_sign, equal_sign}
-use Rattle.nodejs_semver.proofs.Reading.Bytes.{all-begin, all-end, all-imply, all-join, begins-on, begins-some, component-solid, ends-append, ends-some, is_solid}
+use Rattle.nodejs_semver.proofs.Reading.Bytes.{all-end, all-imply, all-join, begins-on, begins-some, component-solid, ends-append, ends-some, is_solid}
 use Rattle.nodejs_semver.proofs.Reading.Components.{components-begin}
 
 -- a visible character other than the bar, or a space

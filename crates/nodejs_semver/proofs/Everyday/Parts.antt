@@ -21,7 +21,7 @@ use Rattle.nodejs_semver.proofs.Everyday.Pieces.{bare-begins, bare-exact, bare-s
 use Rattle.nodejs_semver.proofs.Reading.Quiet.{Stop, stop-bar, stop-nil, stop-space}
 use Rattle.nodejs_semver.proofs.Everyday.Texts.{part-tidy}
 use Rattle.nodejs_semver.proofs.Everyday.Words.{no-equal, no-greater, sign-begins}
-use Rattle.nodejs_semver.proofs.Reading.Bytes.{begins-on, begins-some, begins_component, is_component_byte, is_solid}
+use Rattle.nodejs_semver.proofs.Reading.Bytes.{begins-on, begins_component, is_component_byte, is_solid}
 use Rattle.nodejs_semver.proofs.Reading.Steps.{bind-some, inside}
 use Rattle.nodejs_semver.proofs.Reading.WordLaw.{Signed, byte-is, sign-is}
 

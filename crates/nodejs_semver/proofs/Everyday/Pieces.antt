@@ -5,7 +5,7 @@ use Rattle.std.proofs.lemmas.Option.{cond_some}
 use Rattle.semver_core.specs.Internal.Reading.{◌>>?◌}
 use Rattle.semver_core.specs.Lists.{is_empty}
 use Rattle.nodejs_semver.specs.Internal.CommonFronts.{bare_front, unbuilt}
-use Rattle.nodejs_semver.specs.Internal.Fronts.{component_front, dotted_front, Front, minor_front, partial_front}
+use Rattle.nodejs_semver.specs.Internal.Fronts.{component_front, dotted_front, Front, minor_front}
 use Rattle.nodejs_semver.specs.Text.Common.{IsBare}
 use Rattle.nodejs_semver.specs.Text.PartialText.{Partial}
 use Rattle.nodejs_semver.proofs.Reading.Bytes.{begins_component}

@@ -1,6 +1,6 @@
 -- The words of an everyday part are what the range grammar reads in it.
-use Rattle.std.proofs.Common.{◌≡◌, ℕ, ◌<◌, List, [], ◌∷◌, ◌++◌, length, map, refl, sym, ap, ◌∙◌, arith, Bool, true, false, Some, subst, append-nil, append_assoc}
-use Rattle.std.specs.Prelude.{Option, ◌==◌, ◌||◌, filter_map}
+use Rattle.std.proofs.Common.{◌≡◌, ℕ, List, [], ◌∷◌, ◌++◌, refl, sym, ap, ◌∙◌, arith, Bool, true, false, Some, subst, append-nil, append_assoc}
+use Rattle.std.specs.Prelude.{◌==◌, ◌||◌}
 use Rattle.std.proofs.lemmas.Bool.Decides.{nat_tests}
 use Rattle.std.specs.Char.{is_ascii_digit}
 use Rattle.semver_core.specs.Cuts.{Span, meet}
@@ -20,8 +20,8 @@ use Rattle.nodejs_semver.specs.Text.WordText.{IsSign, above_sign, at_least_sign,
 use Rattle.nodejs_semver.specs.Internal.CommonFronts.{is_sign}
 use Rattle.nodejs_semver.specs.Internal.Words.{careted, compared, is_boundary, or_equal, tilde_sign, tilded, unsigned, word_at, words, words_within}
 use Rattle.nodejs_semver.proofs.Dividing.MeetLemmas.{joined-goes, runs-joined}
-use Rattle.nodejs_semver.proofs.Everyday.Compact.{Compact, compact-compared, compact-join, compact-partial, compact-signed, compact-spaced}
-use Rattle.nodejs_semver.proofs.Reading.Bytes.{begins-on, begins-some, begins_component, component-solid, ends-append, is_solid, solid-dark}
+use Rattle.nodejs_semver.proofs.Everyday.Compact.{Compact, compact-compared, compact-partial, compact-signed, compact-spaced}
+use Rattle.nodejs_semver.proofs.Reading.Bytes.{begins-on, begins-some, begins_component, component-solid, is_solid, solid-dark}
 use Rattle.nodejs_semver.proofs.Reading.Components.{components-begin}
 use Rattle.nodejs_semver.proofs.Reading.PartialLaw.{front-exact}
 use Rattle.nodejs_semver.proofs.Reading.Progress.{words-step}

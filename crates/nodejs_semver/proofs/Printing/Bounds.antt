@@ -1,7 +1,6 @@
 -- For proofs. The text of an interval is a part that means it.
 use Rattle.std.proofs.Common.{◌≡◌, ◌<◌, ◌^◌, ◌||◌, ℕ, true, List, [], ◌∷◌, ◌++◌, refl, inl, inr, Some}
 use Rattle.std.specs.Cmp.{eq_by_cmp_equiv}
-use Rattle.std.specs.Prelude.{Option}
 use Rattle.std.proofs.lemmas.Bool.{cases_Bool}
 use Rattle.semver_core.specs.Cuts.{Span, is_interval, meet}
 use Rattle.semver_core.specs.Internal.Readable.{IsReadable}
@@ -15,7 +14,7 @@ use Rattle.nodejs_semver.specs.Printing.RoundTrip.{bounds_back}
 use Rattle.nodejs_semver.specs.Ranges.Outside.{is_bounded}
 use Rattle.nodejs_semver.specs.Printing.Text.{bounds_text}
 use Rattle.nodejs_semver.specs.Text.Table.{table}
-use Rattle.nodejs_semver.specs.Text.WordText.{Comparator, IsSign, above_sign, at_least_sign, at_most_sign, below_sign, plain, compare, at_least, above, equal, at_most, below}
+use Rattle.nodejs_semver.specs.Text.WordText.{Comparator, IsSign, above_sign, at_least_sign, at_most_sign, below_sign, compare, at_least, above, equal, at_most, below}
 use Rattle.nodejs_semver.proofs.Everyday.Words.{Tidy, compared-tidy, plain-tidy, two-tidy}
 use Rattle.nodejs_semver.proofs.Printing.Versions.{components_are, whole}
 

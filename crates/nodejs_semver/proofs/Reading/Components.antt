@@ -1,11 +1,11 @@
 -- The components of a partial at the front of a text: what is read is written there, and what is written is read.
 use Rattle.std.proofs.Common.{◌≡◌, ℕ, ◌<◌, ◌≤◌, List, [], ◌∷◌, ◌++◌, length, drop, refl, sym, ap, ◌∙◌, arith, true, false, Some, None, inl, inr, subst, append_assoc, length-append}
-use Rattle.std.specs.Prelude.{Bool, Option, ◌||◌, ◌==◌}
+use Rattle.std.specs.Prelude.{Option, ◌==◌}
 use Rattle.std.specs.Char.{is_ascii_digit}
 use Rattle.std.proofs.lemmas.Bool.{cases_Bool, eqb-true}
 use Rattle.semver_core.specs.Text.Characters.{begins}
 use Rattle.nodejs_semver.specs.Internal.Fronts.{Front, begins_wildcard, build_front, component_front, dotted_front, minor_front, number_front, patch_front, pre_release_front}
-use Rattle.nodejs_semver.specs.Text.PartialText.{AreComponents, IsComponent, Partial, is_wildcard, number, one, three, two, wildcard}
+use Rattle.nodejs_semver.specs.Text.PartialText.{AreComponents, IsComponent, Partial, number, one, three, two, wildcard}
 use Rattle.nodejs_semver.proofs.Reading.Bytes.{all-begin, all-end, begins-on, begins_component, is_component_byte}
 use Rattle.nodejs_semver.proofs.Reading.Numbers.{digit-no_wildcard, number-found, number-read, number_first, wildcard-no_digit}
 use Rattle.nodejs_semver.proofs.Reading.Qualifiers.{build-read, build_front-le, pre-read, pre_release_front-le, qualifier-passed}

@@ -3,8 +3,8 @@ use Rattle.std.proofs.Common.{◌≡◌, ℕ, ◌<◌, ◌≤◌, ◌+◌, List,
 use Rattle.std.specs.Prelude.{◌==◌, map}
 use Rattle.std.specs.List.{list_all, onto_first}
 use Rattle.std.proofs.lemmas.Bool.{cases_Bool, eqb-true}
-use Rattle.std.proofs.lemmas.List.{drop_more, drop_all, take_at, drop_at}
-use Rattle.semver_core.specs.Text.Characters.{begins, is_identifier_char}
+use Rattle.std.proofs.lemmas.List.{drop_more, take_at, drop_at}
+use Rattle.semver_core.specs.Text.Characters.{begins}
 use Rattle.semver_core.specs.Text.Identifiers.{Id, IsIdentifiers, Numeric, goes_on, identifier_of, is_identifier, is_listed, listed, pieces}
 use Rattle.semver_core.specs.Internal.Reading.{list_len, list_of}
 use Rattle.semver_core.specs.Lists.{is_empty}

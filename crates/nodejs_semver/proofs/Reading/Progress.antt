@@ -1,6 +1,6 @@
 -- Each word takes a byte or more, so the list of words is a recursion.
 use Rattle.std.proofs.Common.{◌≡◌, ℕ, zero, suc, ◌<◌, ◌≤◌, List, [], ◌∷◌, length, refl, ap, ◌∙◌, arith, Some, None, inl, inr, length-append, true, false, Bool}
-use Rattle.std.specs.Prelude.{Option, ◌==◌, if◌then◌else◌, nat_lt}
+use Rattle.std.specs.Prelude.{Option, ◌==◌, nat_lt}
 use Rattle.std.proofs.lemmas.Bool.{cases_Bool}
 use Rattle.std.proofs.lemmas.Option.{cond_some}
 use Rattle.semver_core.specs.Internal.Spaces.{drop_spaces, space_len, after_spaces}

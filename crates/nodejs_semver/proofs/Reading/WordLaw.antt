@@ -1,6 +1,6 @@
 -- The word that is computed is the one that is written.
 use Rattle.std.proofs.Common.{◌≡◌, ◌⊎◌, ℕ, ◌<◌, ◌≤◌, Bool, List, [], ◌∷◌, ◌++◌, length, drop, get_or, refl, sym, ap, ◌∙◌, arith, true, false, Some, None, inl, inr, subst, append_assoc, length-append}
-use Rattle.std.specs.Prelude.{◌↔◌, ◌||◌, if◌then◌else◌, Option, IsUtf8, encode_utf8_all, ◌==◌, nat_lt, IsCharBoundary}
+use Rattle.std.specs.Prelude.{◌↔◌, ◌||◌, Option, IsUtf8, encode_utf8_all, ◌==◌, nat_lt, IsCharBoundary}
 use Rattle.std.specs.Char.{encode_utf8, is_ascii_digit}
 use Rattle.std.proofs.lemmas.Bool.{cases_Bool, cases_lt, eqb-true, lt-ltb}
 use Rattle.std.proofs.lemmas.Bool.Decides.{nat_tests}

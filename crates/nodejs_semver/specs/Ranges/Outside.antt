@@ -1,5 +1,5 @@
 -- Statement: versions that lie outside a range, above or below it.
-use Rattle.std.specs.Prelude.{◌==◌, ℕ, Bool, true, false, ◌&&◌, ◌||◌, not, if◌then◌else◌, List, Result, Ok, Err}
+use Rattle.std.specs.Prelude.{◌==◌, ℕ, Bool, true, ◌&&◌, ◌||◌, not, if◌then◌else◌, List, Result, Ok, Err}
 use Rattle.std.specs.List.{list_all}
 use Rattle.semver_core.specs.Cuts.{Span, is_past, lower_cut, upper_cut}
 use Rattle.semver_core.specs.Values.Order.{precedence}

@@ -1,7 +1,6 @@
 use Rattle.std.proofs.Common.{rules, ◌≡◌, arith, drop, length, refl, true, false}
 use Rattle.std.proofs.lemmas.List.{take_rest, drop_all}
 use Rattle.semver_core.specs.Text.Identifiers.{goes_on}
-use Rattle.nodejs_semver.specs.Internal.Fronts.{begins_identifier}
 use Rattle.nodejs_semver.proofs.Reading.IdentifierLists.{front_len-is, list_len-more}
 use Rattle.nodejs_semver.proofs.readers.partial.list_len.Goals as goal
 
