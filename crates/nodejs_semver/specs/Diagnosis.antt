@@ -1,2 +1,3 @@
+pub mod IgnoredWords
 pub mod Messages
 pub mod VersionFlaws

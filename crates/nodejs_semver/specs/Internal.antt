@@ -15,3 +15,4 @@ pub mod SameLaws
 pub mod Stuck
 pub mod CommonFronts
 pub mod CommonViews
+pub mod Ignored

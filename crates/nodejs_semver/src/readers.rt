@@ -3,6 +3,7 @@
 mod bars;
 mod fast;
 mod intervals;
+mod kinds;
 mod loose;
 mod partial;
 mod spaces;
@@ -10,8 +11,11 @@ mod syntax;
 mod table;
 mod words;
 
+pub(crate) use crate::readers::bars::cut_part;
 pub use crate::readers::fast::range_fast;
 pub(crate) use crate::readers::fast::read_common;
+pub(crate) use crate::readers::kinds::ignored_front;
 pub(crate) use crate::readers::loose::read_any;
 pub use crate::readers::loose::{is_blank, range_loose};
+pub(crate) use crate::readers::spaces::skip_spaces;
 pub use semver_core::readers::{version_fast, version_loose};

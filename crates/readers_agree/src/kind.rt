@@ -1,5 +1,6 @@
 // The kinds of texts, and what the two readers of a kind make of a text.
 
+use crate::ignored;
 use nodejs_semver::cuts::Bound;
 use nodejs_semver::diagnosis::{VersionFlaw, version_flaw};
 use nodejs_semver::readers::{is_blank, range_fast, range_loose, version_fast, version_loose};
@@ -15,8 +16,7 @@ pub enum Kind {
 }
 
 /// What the fast reader makes of a text: nothing, what the loose reader returns, or something else.
-/// The last stands also for a version text whose diagnosis does not fit what the loose reader
-/// returns.
+/// The last stands also for a text whose diagnosis does not fit what the loose reader returns.
 #[derive(Clone, Copy)]
 pub enum Comparison {
     NotRead,
@@ -84,6 +84,9 @@ fn compare_ranges(alloc: Global, text: &str) -> Result<Comparison, AllocError> {
     } else {
         range_loose(alloc, text)?
     };
+    if !ignored::are_told(alloc, text)? {
+        return Ok(Comparison::ReadOtherwise);
+    }
     Ok(match (&fast, &loose) {
         (None, _) => Comparison::NotRead,
         (Some(fast), Some(loose)) if is_same_range(fast, loose) => Comparison::ReadAlike,
@@ -106,8 +109,8 @@ fn is_same_bound(one: &Bound<Version>, other: &Bound<Version>) -> bool {
     }
 }
 
-// Whether two ranges are equal and their bounds have equal builds, which `==` ignores.
-fn is_same_range(one: &Range, other: &Range) -> bool {
+/// Whether two ranges are equal and their bounds have equal builds, which `==` ignores.
+pub fn is_same_range(one: &Range, other: &Range) -> bool {
     one == other
         && one.intervals().iter().zip(other.intervals()).all(|(one, other)| {
             is_same_bound(one.lower(), other.lower()) && is_same_bound(one.upper(), other.upper())

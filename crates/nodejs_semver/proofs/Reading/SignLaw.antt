@@ -27,7 +27,7 @@ pub word_none : (limit : ℕ) (text : List ℕ) (s : Sign × List ℕ) (o : Opti
     → word_at limit text ≡ (malformed, from_boundary text)
 word_none limit text s o h k e = word-as limit text s o h k ∙ rw e refl
 
-word_hyphen : (limit : ℕ) (text : List ℕ) (s : Sign × List ℕ) (o : Option (Partial × List ℕ)) (p : Partial) (rest : List ℕ) (u : Option (Partial × List ℕ)) (q : Partial) (after : List ℕ)
+pub word_hyphen : (limit : ℕ) (text : List ℕ) (s : Sign × List ℕ) (o : Option (Partial × List ℕ)) (p : Partial) (rest : List ℕ) (u : Option (Partial × List ℕ)) (q : Partial) (after : List ℕ)
     → s ≡ sign_at text → o ≡ partial_front limit s.1 → o ≡ Some (p, rest) → u ≡ upper_of limit s.0 rest → u ≡ Some (q, after)
     → word_at limit text ≡ (hyphen p q, after)
 word_hyphen limit text s o p rest u q after h k e m n = word-as limit text s o h k ∙ rw (e, sym m, n) refl

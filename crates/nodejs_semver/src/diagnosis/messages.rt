@@ -1,10 +1,10 @@
-// How flaws print.
+// How flaws and ignored words print.
 
 ghost use Rattle.std.specs.Fmt.{DisplaysStyledOnOk, decimal};
-ghost use Rattle.std.specs.Prelude.{◌++◌, Some};
-ghost use Rattle.nodejs_semver.specs.Diagnosis.Messages.{flaw_text};
+ghost use Rattle.std.specs.Prelude.{◌≡◌, ◌++◌, Some};
+ghost use Rattle.nodejs_semver.specs.Diagnosis.Messages.{flaw_text, kind_text, word_text};
 
-use crate::diagnosis::{Expected, VersionFlaw};
+use crate::diagnosis::{Expected, IgnoredKind, IgnoredWord, VersionFlaw};
 use itoa::Buffer;
 use std::fmt;
 
@@ -40,5 +40,28 @@ impl fmt::Display for VersionFlaw {
             } => write_at("expected a dot at byte ", at, f),
             VersionFlaw::Ignored { at } => write_at("ignored from byte ", at, f),
         }
+    }
+}
+
+// What an ignored word is.
+fn kind_message(kind: IgnoredKind) -> &'static str
+    ensures { result.now ≡ kind_text kind }
+{
+    match kind {
+        IgnoredKind::Malformed => "ignored: malformed word at bytes ",
+        IgnoredKind::WithoutBounds => "ignored: word without bounds at bytes ",
+    }
+}
+
+/// An ignored word prints as its kind and its place, as in `ignored: malformed word at bytes 0 to
+/// 8`. Width, fill and precision change nothing.
+impl fmt::Display for IgnoredWord {
+    ghost output = { λ word. Some (word_text word) };
+
+    ghost styled_output = { λ word _. Some (word_text word) };
+
+    fn fmt<W: fmt::Write>(&self, f: &mut fmt::Formatter<W>) -> fmt::Result {
+        write_at(kind_message(self.kind), self.start, f)?;
+        write_at(" to ", self.end, f)
     }
 }

@@ -27,9 +27,9 @@ fn bars_at(text: &[u8]) -> usize
     text.len()
 }
 
-// The text before the first `||`, and the text behind it, where it is there.
+/// The text before the first `||`, and the text behind it, where it is there.
 #[tactic(auto, using(crate::proofs::Dividing::BarLemmas::at_bars))]
-fn cut_part(text: &str) -> (&str, Option<&str>)
+pub(crate) fn cut_part(text: &str) -> (&str, Option<&str>)
     ensures { part_view result ≡ Spec.front_part text.now }
 {
     let at = bars_at(text.as_bytes());

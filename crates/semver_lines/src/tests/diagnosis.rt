@@ -1,8 +1,10 @@
-// What is wrong with version texts, and how it prints.
+// What is wrong with version texts, what is ignored in range texts, and how both print.
 
 use crate::tests::prints;
-use nodejs_semver::Version;
-use nodejs_semver::diagnosis::{Expected, VersionFlaw, version_flaw};
+use nodejs_semver::diagnosis::{
+    Expected, IgnoredKind, IgnoredWord, VersionFlaw, ignored_words, version_flaw,
+};
+use nodejs_semver::{Range, Version};
 use std::test::Fail;
 
 // Texts that are one version as a whole.
@@ -114,4 +116,84 @@ fn a_text_of_257_bytes_is_too_long(rt: HostRuntime) -> Result<(), Fail> {
     text.push('X')?;
     assert_eq!(rt; version_flaw(&text), Some(VersionFlaw::TooLong));
     Ok(())
+}
+
+// Range texts of which a word or more is ignored, and the malformed words and those without bounds,
+// from the left.
+const TEXTS: &[(&str, &[(usize, usize, IgnoredKind)])] = &[
+    (">=1.0.0, <2.0.0", &[(0, 8, IgnoredKind::Malformed)]),
+    ("foo 1.2.3", &[(0, 3, IgnoredKind::Malformed)]),
+    ("1.2.3 foo", &[(6, 9, IgnoredKind::Malformed)]),
+    ("foo", &[(0, 3, IgnoredKind::Malformed)]),
+    ("^*", &[(0, 2, IgnoredKind::WithoutBounds)]),
+    ("=x 1", &[(0, 2, IgnoredKind::WithoutBounds)]),
+    ("2 - 1", &[(0, 5, IgnoredKind::WithoutBounds)]),
+    ("1.2.3-b - 1.2.3-a", &[(0, 17, IgnoredKind::WithoutBounds)]),
+    ("^0.x.1 || 2", &[(0, 6, IgnoredKind::WithoutBounds)]),
+    (
+        "1 || >= || \u{feff}~x ",
+        &[
+            (5, 7, IgnoredKind::Malformed),
+            (14, 16, IgnoredKind::WithoutBounds),
+        ],
+    ),
+    ("1|||2", &[(3, 5, IgnoredKind::Malformed)]),
+    (
+        "\u{141} 9007199254740992",
+        &[
+            (0, 2, IgnoredKind::Malformed),
+            (3, 19, IgnoredKind::Malformed),
+        ],
+    ),
+];
+
+// Range texts of which nothing is ignored.
+const WHOLE: &[&str] = &[
+    "",
+    " || ",
+    "1.2.3",
+    "^1.2 || >=3.0.0-rc.1 <4",
+    "~> 1 2 - 3",
+    "<*.1",
+    ">x",
+    "1.2.3-a - 1.2.3-b",
+];
+
+#[test]
+fn ignored_words_are_listed(rt: HostRuntime) {
+    for &(text, words) in TEXTS {
+        let mut found = ignored_words(text);
+        for &(start, end, kind) in words {
+            assert_eq!(rt;
+                found.next(),
+                Some(IgnoredWord { start, end, kind }),
+                "{text:?}"
+            );
+        }
+        assert_eq!(rt; found.next(), None, "{text:?}");
+    }
+}
+
+#[test]
+fn texts_that_are_read_whole_have_no_ignored_word(rt: HostRuntime) {
+    for &text in WHOLE {
+        assert_eq!(rt; ignored_words(text).next(), None, "{text:?}");
+        assert!(rt; Range::parse(rt.alloc(), text).is_ok(), "{text:?}");
+    }
+}
+
+#[test]
+fn ignored_words_print(rt: HostRuntime) {
+    let alloc = rt.alloc();
+    let mut words = ignored_words("^* foo");
+    let first = words.next().expect(&rt, "a first word");
+    assert!(rt;
+        prints(
+            alloc,
+            &first,
+            "ignored: word without bounds at bytes 0 to 2"
+        )
+    );
+    let second = words.next().expect(&rt, "a second word");
+    assert!(rt; prints(alloc, &second, "ignored: malformed word at bytes 3 to 6"));
 }

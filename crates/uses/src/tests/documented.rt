@@ -1,6 +1,8 @@
 // The examples in the comments of the libraries: `tools/readme --check` compares them.
 
-use nodejs_semver::diagnosis::{Expected, VersionFlaw, version_flaw};
+use nodejs_semver::diagnosis::{
+    Expected, IgnoredKind, IgnoredWord, VersionFlaw, ignored_words, version_flaw,
+};
 use nodejs_semver::{Identifier, Range, Version, VersionDiff};
 use std::test::Fail;
 
@@ -167,5 +169,21 @@ fn version_flaws(rt: HostRuntime) -> Result<(), Fail> {
         version_flaw("1.x"),
         Some(VersionFlaw::Expected { what: digit, at: 2 })
     );
+    Ok(())
+}
+
+#[test]
+fn ignored_range_words(rt: HostRuntime) -> Result<(), Fail> {
+    let mut words = ignored_words(">=1.0.0, <2.0.0");
+    let kind = IgnoredKind::Malformed;
+    assert_eq!(rt;
+        words.next(),
+        Some(IgnoredWord {
+            start: 0,
+            end: 8,
+            kind
+        })
+    );
+    assert_eq!(rt; words.next(), None);
     Ok(())
 }

@@ -1,0 +1,163 @@
+// The words of a range text that mean nothing.
+
+ghost use Rattle.std.specs.Iterator.{YieldsFirst, item_count};
+ghost use Rattle.std.specs.Prelude.{◌≡◌, ◌↔◌, ◌++◌, ◌+◌, ◌-◌, ◌<◌, ◌≤◌, [], Some, false, length};
+ghost use Rattle.semver_core.specs.Internal.Spaces.{drop_spaces, space_len, trim};
+ghost use Rattle.semver_core.specs.declared.TheConstants.{MAX_SAFE_INTEGER};
+ghost use Rattle.nodejs_semver.specs.Diagnosis.IgnoredWords.{AreIgnored, IsWhollyBounded};
+ghost use Rattle.nodejs_semver.specs.Diagnosis.IgnoredWords.{if_ignored};
+ghost use Rattle.nodejs_semver.specs.Internal.Ignored.{ignored_behind, left_list, left_size};
+ghost use Rattle.nodejs_semver.specs.Internal.Ignored.{option_list};
+
+use crate::diagnosis::left::Left;
+use crate::readers::{cut_part, ignored_front, skip_spaces};
+use semver_core::scan;
+use std::marker::Model;
+
+/// Why a word of a range text means nothing.
+#[derive(Clone, Copy, PartialEq, Eq, Debug)]
+pub enum IgnoredKind {
+    /// It has none of the forms of words, as `>=1.0.0,` and `foo`.
+    Malformed,
+    /// It has a form that names no versions, as `^*` and the reversed hyphen range `2 - 1`.
+    WithoutBounds,
+}
+
+/// A word of a range text that means nothing. A place is a byte index.
+#[derive(Clone, Copy, PartialEq, Eq, Debug)]
+pub struct IgnoredWord {
+    /// Where the word begins.
+    pub start: usize,
+    /// Where it ends: the place behind its last byte.
+    pub end: usize,
+    pub kind: IgnoredKind,
+}
+
+/// The ignored words of a range text, from the left: what `ignored_words` returns. To a contract it
+/// is the list of those that are left.
+#[derive(Drop)]
+pub struct IgnoredWords<'a> {
+    left: Left<'a>,
+}
+
+impl<'a> Model for IgnoredWords<'a> {
+    ghost use Rattle.std.specs.Prelude.{List};
+    ghost use Rattle.nodejs_semver.specs.Internal.Ignored.{left_list};
+    ghost use Rattle.nodejs_semver.specs.declared.diagnosis.ranges.IgnoredWord.{IgnoredWord};
+
+    ghost Value = { List IgnoredWord };
+
+    ghost view = { λ it. left_list it.left };
+}
+
+// Where a text begins without the whitespace around it, and that text.
+fn trimmed(text: &str) -> (usize, &str)
+    ensures start { result.0 ≡ length text.now - length (drop_spaces text.now) }
+    ensures middle { result.1.now ≡ trim text.now }
+    ensures starts { space_len result.1.now ≡ 0 }
+{
+    (scan::skip_whitespace(text, 0), scan::trim(text))
+}
+
+// What is left of a text that ends at a place, before any of its words is read.
+fn before_words(text: &str, end: usize) -> Left<'_>
+    requires { length text.now ≤ end }
+    ensures same { left_list result ≡ ignored_behind MAX_SAFE_INTEGER end (Some text.now) }
+    ensures less { left_size result ≤ length text.now }
+{
+    let (piece, behind) = cut_part(text);
+    let (start, part) = trimmed(piece);
+    Left {
+        part: part.as_bytes(),
+        part_end: end - text.len() + start + part.len(),
+        behind,
+        end,
+    }
+}
+
+// The word between two places, if it is ignored.
+fn if_ignored(kind: Option<IgnoredKind>, start: usize, end: usize) -> Option<IgnoredWord>
+    ensures { option_list result ≡ if_ignored kind start end }
+{
+    match kind {
+        Some(kind) => Some(IgnoredWord { start, end, kind }),
+        None => None,
+    }
+}
+
+// Reads the word at the front: returns it if it is ignored, and what is then left.
+fn read_word(left: Left<'_>) -> (Option<IgnoredWord>, Left<'_>)
+    requires { 0 < length left.part.now }
+    ensures same { left_list left.entry ≡ option_list result.0 ++ left_list result.1 }
+    ensures less { left_size result.1 < left_size left.entry }
+{
+    let (kind, rest) = ignored_front(left.part);
+    let start = left.part_end - left.part.len();
+    let end = left.part_end - rest.len();
+    let word = if_ignored(kind, start, end);
+    let rest = Left {
+        part: skip_spaces(rest),
+        part_end: left.part_end,
+        behind: left.behind,
+        end: left.end,
+    };
+    (word, rest)
+}
+
+// Reads up to the first word that is ignored: returns it if there is one, and what is then left.
+fn first_ignored(left: Left<'_>) -> (Option<IgnoredWord>, Left<'_>)
+    ensures { YieldsFirst left_list left.entry result.0 result.1 }
+{
+    let mut left = left;
+    'words: loop {
+        if left.part.is_empty() {
+            let Some(behind) = left.behind else {
+                return (None, left);
+            };
+            left = before_words(behind, left.end);
+        } else {
+            let (word, rest) = read_word(left);
+            if word.is_some() {
+                return (word, rest);
+            }
+            left = rest;
+        }
+    }
+}
+
+impl<'a> Iterator for IgnoredWords<'a> {
+    type Item = IgnoredWord;
+
+    ghost next_gives = { YieldsFirst (λ words. words) };
+
+    ghost remaining = { item_count (λ words. words) };
+
+    fn next(&mut self) -> Option<IgnoredWord> {
+        let (word, left) = first_ignored(self.left);
+        self.left = left;
+        word
+    }
+}
+
+/// Returns the words of a range text that mean nothing, from the left, each with its place. Allocates
+/// nothing.
+///
+/// `Range::parse` ignores these words: without them the text means the same, and it is rejected if
+/// all of its words are such. So `>=1.0.0, <2.0.0` is the range `<2.0.0`.
+///
+/// ```rust
+/// let mut words = ignored_words(">=1.0.0, <2.0.0");
+/// let kind = IgnoredKind::Malformed;
+/// assert_eq!(rt; words.next(), Some(IgnoredWord { start: 0, end: 8, kind }));
+/// assert_eq!(rt; words.next(), None);
+/// ```
+pub fn ignored_words(text: &str) -> IgnoredWords<'_>
+    // Exactly the ignored words of the text, in order.
+    ensures words { AreIgnored MAX_SAFE_INTEGER text.now result }
+    // None exactly if each word of the text has bounds.
+    ensures none { (result ≡ []) ↔ IsWhollyBounded MAX_SAFE_INTEGER text.now }
+{
+    IgnoredWords {
+        left: before_words(text, text.len()),
+    }
+}
