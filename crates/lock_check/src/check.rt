@@ -5,7 +5,7 @@ use crate::lock::{Dependency, Lock, dependencies};
 use crate::specifier::{is_address, is_tag};
 use crate::verdict::{Verdict, judge};
 use anyhow::Result;
-use nodejs_semver::diagnosis::version_flaw;
+use nodejs_semver::diagnosis::{IgnoredKind, ignored_words, version_flaw};
 use nodejs_semver::{Failure, Range, Version};
 use serde_json::Value;
 use std::alloc::Global;
@@ -52,6 +52,9 @@ fn locked_outcome<'a>(
     if matches!(dependency.range.trim(), "" | "*") {
         return Ok(Outcome::Satisfied);
     }
+    if has_word_without_bounds(dependency.range) {
+        return Ok(Outcome::Unbounded);
+    }
     let Some(range) = range(alloc, dependency.range)? else {
         return Ok(if is_tag(dependency.range) {
             Outcome::Tag
@@ -69,6 +72,11 @@ fn locked_outcome<'a>(
         });
     }
     version_outcome(alloc, &range, text)
+}
+
+// Whether some word of a range text has no bounds here. To npm `^*` is any version, and `2 - 1` none.
+fn has_word_without_bounds(text: &str) -> bool {
+    ignored_words(text).any(|word| word.kind == IgnoredKind::WithoutBounds)
 }
 
 // What the range says of a locked text that is one version as a whole.

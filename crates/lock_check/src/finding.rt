@@ -2,7 +2,7 @@
 
 use crate::lock::{Dependency, Lock};
 use nodejs_semver::Version;
-use nodejs_semver::diagnosis::VersionFlaw;
+use nodejs_semver::diagnosis::{IgnoredWords, VersionFlaw, ignored_words};
 use std::fmt;
 use std::process::ExitCode;
 
@@ -35,6 +35,8 @@ pub enum Outcome<'a> {
     Missing,
     /// The same of a dependency that may be absent.
     Absent,
+    /// It is skipped, since npm reads a word of its range text that is ignored here.
+    Unbounded,
     /// It is skipped, since its range text is a tag.
     Tag,
     /// It is skipped, since its range text is an address, or an alias.
@@ -75,7 +77,7 @@ impl Outcome<'_> {
             | Outcome::Unread => Kind::Rejected,
             Outcome::Missing => Kind::Missing,
             Outcome::Absent => Kind::Absent,
-            Outcome::Tag | Outcome::Address | Outcome::Link => Kind::Skipped,
+            Outcome::Unbounded | Outcome::Tag | Outcome::Address | Outcome::Link => Kind::Skipped,
         }
     }
 }
@@ -85,18 +87,39 @@ impl Finding<'_> {
     pub fn is_printed(&self) -> bool {
         !matches!(self.outcome, Outcome::Satisfied | Outcome::Absent)
     }
+
+    /// The ignored words of the range text, if it was read as a range.
+    pub fn ignored(&self) -> IgnoredWords<'_> {
+        ignored_words(match self.outcome {
+            Outcome::Satisfied
+            | Outcome::Rejected { .. }
+            | Outcome::NoVersion { .. }
+            | Outcome::Unversioned
+            | Outcome::Unbounded => self.dependency.range,
+            Outcome::Unread
+            | Outcome::Missing
+            | Outcome::Absent
+            | Outcome::Tag
+            | Outcome::Address
+            | Outcome::Link => "",
+        })
+    }
+}
+
+impl fmt::Display for Dependency<'_> {
+    fn fmt<W: fmt::Write>(&self, f: &mut fmt::Formatter<W>) -> fmt::Result {
+        let folder = if self.folder.is_empty() {
+            "."
+        } else {
+            self.folder
+        };
+        write!(f, "{folder} needs {} {}", self.name, self.range)
+    }
 }
 
 impl fmt::Display for Finding<'_> {
     fn fmt<W: fmt::Write>(&self, f: &mut fmt::Formatter<W>) -> fmt::Result {
-        let Dependency {
-            folder,
-            name,
-            range,
-            ..
-        } = self.dependency;
-        let folder = if folder.is_empty() { "." } else { folder };
-        write!(f, "{folder} needs {name} {range}")?;
+        write!(f, "{}", self.dependency)?;
         match &self.outcome {
             Outcome::Satisfied => write!(f, ", satisfied"),
             Outcome::Rejected {
@@ -114,6 +137,7 @@ impl fmt::Display for Finding<'_> {
             Outcome::Unread => write!(f, ", rejected: no range, tag or address"),
             Outcome::Missing => write!(f, ", missing"),
             Outcome::Absent => write!(f, ", absent"),
+            Outcome::Unbounded => write!(f, ", skipped: npm reads a word that is ignored here"),
             Outcome::Tag => write!(f, ", skipped: a tag"),
             Outcome::Address => write!(f, ", skipped: an address"),
             Outcome::Link => write!(f, ", skipped: a link"),
