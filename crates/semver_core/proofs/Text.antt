@@ -14,3 +14,4 @@ pub mod OnePass
 pub mod LargerLimit
 pub mod Listed
 pub mod Firsts
+pub mod Ends

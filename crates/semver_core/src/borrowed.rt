@@ -5,6 +5,7 @@ ghost use Rattle.semver_core.specs.Text.Identifiers.{is_listed, listed};
 ghost use Rattle.semver_core.specs.Values.Versions.{HasIdentifiers, is_release};
 
 mod order;
+mod read;
 
 use crate::Version;
 use crate::cuts::Point;

@@ -45,7 +45,7 @@ pub(crate) fn past(bytes: &[u8], at: usize, mark: u8) -> Option<usize>
 }
 
 // Where the identifiers of the pre-release at a place begin.
-fn pre_release_start(text: &str, at: usize) -> Option<usize>
+pub(crate) fn pre_release_start(text: &str, at: usize) -> Option<usize>
     requires { at ≤ length text.now }
     ensures found { pre_release_at text.now at ≡ list_from text.now at result }
     ensures some { OnSome result (0 < length (pre_release_at text.now at).0) }
@@ -65,7 +65,7 @@ fn pre_release_start(text: &str, at: usize) -> Option<usize>
 }
 
 // Where the identifiers of the build at a place begin.
-fn build_start(text: &str, at: usize) -> Option<usize>
+pub(crate) fn build_start(text: &str, at: usize) -> Option<usize>
     requires { at ≤ length text.now }
     ensures found { build_at text.now at ≡ list_from text.now at result }
     ensures some { OnSome result (0 < length (build_at text.now at).0) }

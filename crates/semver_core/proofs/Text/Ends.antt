@@ -1,0 +1,91 @@
+-- Where the identifiers that begin at a place end, and that what stands there spells them.
+use Rattle.std.proofs.Common.{◌≡◌, ℕ, ◌<◌, ◌≤◌, ◌+◌, ◌-◌, List, [], ◌∷◌, length, drop, take, get_or, refl, sym, ap, ◌∙◌, arith, true, false, add-one, Some}
+use Rattle.std.proofs.Math.Seq.{drop-cons}
+use Rattle.std.proofs.lemmas.List.{drop_all}
+use Rattle.std.specs.List.{list_all}
+use Rattle.std.specs.Prelude.{map}
+use Rattle.semver_core.specs.Text.Characters.{begins, is_identifier_char}
+use Rattle.semver_core.specs.Text.Identifiers.{goes_on, identifier_of, is_identifier, is_listed, listed, pieces}
+use Rattle.semver_core.specs.Internal.Reading.{list_from, list_len}
+use Rattle.semver_core.proofs.Text.Pieces.{begins_taken, begun_runs, taken_runs}
+use Rattle.semver_core.proofs.Text.Runs.{list_len_stop}
+use Rattle.std.specs.Prelude.{Result, Ok, Err, IfErr}
+use Rattle.semver_core.specs.Text.Parsing.{IsRefused, Parses}
+use Rattle.semver_core.specs.Text.VersionText.{HasNoVersion}
+use Rattle.semver_core.specs.Internal.CommonReading.{small_len}
+use Rattle.semver_core.specs.Internal.Reading.{qualified, triple_at}
+use Rattle.semver_core.specs.Values.Versions.{VersionValue, release_value}
+use Rattle.semver_core.specs.declared.TheConstants.{MAX_LENGTH}
+use Rattle.semver_core.proofs.Text.Whole.{front_read, release_read}
+
+-- the loop
+pub end_step : (xs : List ℕ) (i : ℕ) → i < length xs → goes_on (drop i xs) ≡ true → list_len (drop i xs) ≡ 1 + list_len (drop (i + 1) xs)
+unfolding list_len
+end_step xs i lt h = step (drop i xs) (drop (i + 1) xs) (drop-cons xs i 0 lt ∙ ap (λ l. get_or xs i 0 ∷ l) (sym (ap (λ n. drop n xs) (add-one i)))) h
+  where
+    step : (t rest : List ℕ) → t ≡ get_or xs i 0 ∷ rest → goes_on t ≡ true → list_len t ≡ 1 + list_len rest
+    step t rest e g = rw e (rw (rw e at g) refl)
+
+pub end_stop : (xs : List ℕ) (i : ℕ) → goes_on (drop i xs) ≡ false → list_len (drop i xs) ≡ 0
+end_stop xs i h = list_len_stop (drop i xs) h
+
+pub end_past : (xs : List ℕ) (i : ℕ) → length xs ≤ i → list_len (drop i xs) ≡ 0
+unfolding list_len
+end_past xs i le = rw (drop_all i xs le) refl
+
+pub ruleset list_ends = (end_step, end_stop, end_past)
+
+-- what stands there
+runs_taken : (t : List ℕ) → begins is_identifier_char t ≡ true → list_all is_identifier (pieces (take (list_len t) t)) ≡ true
+runs_taken t h = begun_runs (take (list_len t) t) (begins_taken t h) (taken_runs t)
+
+spelled : (s : List ℕ) → list_all is_identifier (pieces s) ≡ true → listed s ≡ map identifier_of (pieces s)
+unfolding listed
+spelled [] h = cc
+spelled (c ∷ rest) h = refl
+
+is_spelled : (s : List ℕ) → list_all is_identifier (pieces s) ≡ true → is_listed s ≡ true
+unfolding is_listed
+is_spelled [] h = cc
+is_spelled (c ∷ rest) h = h
+
+pub cut_listed : (text : List ℕ) (start end : ℕ) → end ≡ start + list_len (drop start text) → begins is_identifier_char (drop start text) ≡ true
+    → is_listed (take (end - start) (drop start text)) ≡ true
+cut_listed text start end e h =
+    let n : end - start ≡ list_len (drop start text) = omega (arith, e) in
+    rw n (is_spelled (take (list_len (drop start text)) (drop start text)) (runs_taken (drop start text) h))
+
+pub cut_found : (text : List ℕ) (at start end : ℕ) → end ≡ start + list_len (drop start text) → begins is_identifier_char (drop start text) ≡ true
+    → (listed (take (end - start) (drop start text)), end) ≡ list_from text at (Some start)
+cut_found text at start end e h =
+    let n : end - start ≡ list_len (drop start text) = omega (arith, e) in
+    rw (n, h, e, spelled (take (list_len (drop start text)) (drop start text)) (runs_taken (drop start text) h)) refl
+
+pub nothing_spelled : listed [] ≡ []
+unfolding listed
+nothing_spelled = refl
+
+pub nothing_listed : is_listed [] ≡ true
+unfolding is_listed
+nothing_listed = refl
+
+pub ruleset lists_cut = (cut_listed, cut_found, nothing_spelled, nothing_listed)
+
+-- ---- the clauses of the readers
+
+not_parsed : (limit : ℕ) (text : List ℕ) → HasNoVersion limit text → IsRefused limit text
+not_parsed limit text h = λ v p. h v p.reads
+
+pub refused_by : {A E : Type 0} (limit : ℕ) (text : List ℕ) (r : Result A E) → IfErr r (λ _. HasNoVersion limit text) → IfErr r (λ _. IsRefused limit text)
+refused_by limit text (Ok v) h = tt
+refused_by limit text (Err e) h = not_parsed limit text h
+
+pub behind_parses : (limit : ℕ) (text : List ℕ) (t : ℕ × ℕ × ℕ × ℕ) (v : VersionValue) → length text ≤ MAX_LENGTH → Some t ≡ triple_at limit text (small_len text) → v ≡ qualified text t → Parses limit text v
+behind_parses limit text t v short found is = record { short = short; reads = rw is (front_read limit text t found) }
+
+pub release_parses : (limit : ℕ) (text : List ℕ) (major minor patch end : ℕ) (v : VersionValue) → length text ≤ MAX_LENGTH
+    → Some (major, minor, patch, end) ≡ triple_at limit text (small_len text) → end ≡ length text → v ≡ release_value major minor patch → Parses limit text v
+release_parses limit text major minor patch end v short found whole is =
+    record { short = short; reads = rw is (release_read limit text major minor patch end found (omega (arith, whole))) }
+
+pub ruleset parsed = (refused_by, behind_parses, release_parses)
