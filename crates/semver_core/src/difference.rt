@@ -5,7 +5,7 @@ ghost use Rattle.std.specs.declared.cmp.Ordering.TheVariants.{Equal};
 ghost use Rattle.semver_core.specs.Difference.{kind_between, kind_up};
 ghost use Rattle.semver_core.specs.Values.Order.{precedence};
 
-use crate::Version;
+use crate::{Version, VersionRef, Versioned};
 use std::cmp::Ordering;
 use std::fmt;
 
@@ -56,8 +56,8 @@ impl fmt::Display for VersionDiff {
 }
 
 // The kind that a version and a higher one differ by.
-fn kind_up(low: &Version, high: &Version) -> VersionDiff
-    ensures { result ≡ kind_up low.now high.now }
+fn kind_up<V: Versioned>(low: &V, high: &V) -> VersionDiff
+    ensures { result ≡ kind_up (V.value low.now) (V.value high.now) }
 {
     let to_release = high.is_release();
     if !low.is_release() && to_release {
@@ -94,6 +94,25 @@ fn kind_up(low: &Version, high: &Version) -> VersionDiff
     }
 }
 
+// The order of two versions by their values.
+#[inline(always)]
+fn order<V: Versioned>(v: &V, w: &V) -> Ordering
+    ensures { result ≡ precedence (V.value v.now) (V.value w.now) }
+{
+    v.cmp(w)
+}
+
+// The kind that two versions differ by.
+fn kind_between<V: Versioned>(v: &V, w: &V) -> Option<VersionDiff>
+    ensures { result ≡ kind_between (V.value v.now) (V.value w.now) }
+{
+    match order(v, w) {
+        Ordering::Less => Some(kind_up(v, w)),
+        Ordering::Equal => None,
+        Ordering::Greater => Some(kind_up(w, v)),
+    }
+}
+
 impl Version {
     /// The kind of difference between this version and another, in either order: `None` exactly
     /// where they are equal, so that build metadata makes no difference.
@@ -113,10 +132,18 @@ impl Version {
         ensures none { IsNone result ↔ (precedence self.now other.now ≡ Equal) }
         ensures symmetric { result ≡ kind_between other.now self.now }
     {
-        match self.cmp(other) {
-            Ordering::Less => Some(kind_up(self, other)),
-            Ordering::Equal => None,
-            Ordering::Greater => Some(kind_up(other, self)),
-        }
+        kind_between(self, other)
+    }
+}
+
+impl<'a> VersionRef<'a> {
+    /// The kind of difference between this version and another, as `Version::diff` gives it.
+    #[tactic(auto, using(crate::proofs::Increments::Differences::difference_symmetric))]
+    pub fn diff(&self, other: &VersionRef<'_>) -> Option<VersionDiff>
+        ensures value { result ≡ kind_between self.now other.now }
+        ensures none { IsNone result ↔ (precedence self.now other.now ≡ Equal) }
+        ensures symmetric { result ≡ kind_between other.now self.now }
+    {
+        kind_between(self, other)
     }
 }
