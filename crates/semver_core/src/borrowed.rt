@@ -1,13 +1,15 @@
 // Versions that borrow their text.
 
-ghost use Rattle.std.specs.Prelude.{◌≡◌, ◌<◌, IfOk, OnErr, length, true};
+ghost use Rattle.std.specs.Prelude.{◌≡◌, ◌↔◌, ◌<◌, IfOk, IsTrue, OnErr, length, true};
 ghost use Rattle.semver_core.specs.Text.Identifiers.{is_listed, listed};
 ghost use Rattle.semver_core.specs.Values.Versions.{HasIdentifiers, is_release};
 
+pub mod identifier;
+pub mod identifiers;
 mod order;
 mod read;
 
-use crate::Version;
+use crate::{IdentifierRefs, Version};
 use crate::cuts::Point;
 use std::alloc::{AllocError, Global};
 use std::marker::Model;
@@ -84,10 +86,12 @@ impl<'a> VersionRef<'a> {
     }
 
     /// The version with identifiers of its own. Fails only if allocation fails, which happens only
-    /// where it has a pre-release or build metadata.
+    /// where it has a pre-release or build metadata; the pre-release `0` alone takes no memory.
     #[inline(always)]
+    #[tactic(auto, using(crate::proofs::Text::Listed::listed_some))]
     pub fn to_version(&self, alloc: Global) -> Result<Version, AllocError>
-        ensures { IfOk result (λ v. v ≡ self.now) }
+        ensures whole { IfOk result (λ v. v ≡ self.now) }
+        ensures memory { OnErr result (HasIdentifiers self.now) }
     {
         let (pre_release, build) = (self.pre_release, self.build);
         Version::from_texts(
@@ -122,6 +126,30 @@ impl<'a> VersionRef<'a> {
         ensures { result ≡ self.now.patch }
     {
         self.patch
+    }
+
+    /// The identifiers of the pre-release, one by one; none where the version is a release.
+    #[inline(always)]
+    pub fn pre_release(&self) -> IdentifierRefs<'a>
+        ensures { result ≡ self.now.pre_release }
+    {
+        IdentifierRefs::of_text(self.pre_release)
+    }
+
+    /// The identifiers of the build metadata, one by one, which no comparison looks at.
+    #[inline(always)]
+    pub fn build(&self) -> IdentifierRefs<'a>
+        ensures { result ≡ self.now.build }
+    {
+        IdentifierRefs::of_text(self.build)
+    }
+
+    /// Whether the version is a pre-release: its list of pre-release identifiers is not empty.
+    #[tactic(auto, using(crate::proofs::Text::Listed::listed_some, crate::proofs::Text::Listed::listed_none))]
+    pub fn is_prerelease(&self) -> bool
+        ensures { IsTrue result ↔ (0 < length self.now.pre_release) }
+    {
+        !self.pre_release.is_empty()
     }
 
     /// Whether the version is a release: it has no pre-release identifiers. Build metadata does not

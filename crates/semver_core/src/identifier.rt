@@ -126,12 +126,7 @@ impl Ord for Identifier {
     ghost matches_eq = { λ a b. refl };
 
     fn cmp(&self, other: &Identifier) -> Ordering {
-        match (self, other) {
-            (Identifier::Numeric(a), Identifier::Numeric(b)) => a.cmp(b),
-            (Identifier::Numeric(_), Identifier::AlphaNumeric(_)) => Ordering::Less,
-            (Identifier::AlphaNumeric(_), Identifier::Numeric(_)) => Ordering::Greater,
-            (Identifier::AlphaNumeric(a), Identifier::AlphaNumeric(b)) => a.cmp(b),
-        }
+        self.as_ref().cmp(&other.as_ref())
     }
 }
 
@@ -142,15 +137,6 @@ impl Hash for Identifier {
     ghost respects_eq = { λ a b e. id_alike (id_view a) (id_view b) e };
 
     fn hash<H: Hasher>(&self, state: &mut H) {
-        match self {
-            Identifier::Numeric(value) => {
-                state.write_u8(0);
-                value.hash(state);
-            }
-            Identifier::AlphaNumeric(text) => {
-                state.write_u8(1);
-                text.hash(state);
-            }
-        }
+        self.as_ref().hash(state);
     }
 }

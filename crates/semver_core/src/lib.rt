@@ -17,6 +17,8 @@ pub mod readers;
 mod version;
 
 pub use crate::borrowed::VersionRef;
+pub use crate::borrowed::identifier::IdentifierRef;
+pub use crate::borrowed::identifiers::IdentifierRefs;
 pub use crate::difference::{ReleaseType, VersionDiff};
 pub use crate::error::{Failure, NegativeNumber, SemverError};
 pub use crate::identifier::Identifier;

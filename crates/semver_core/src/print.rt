@@ -3,15 +3,15 @@
 ghost use Rattle.std.specs.Fmt.{DisplaysStyledOnOk, decimal};
 ghost use Rattle.std.specs.Prelude.{◌≡◌, ◌++◌, ◌∷◌, [], Some};
 ghost use Rattle.semver_core.specs.Printing.Text.{id_text, marked_list, version_text};
-ghost use Rattle.semver_core.specs.Values.Views.{id_view, ids_view};
+ghost use Rattle.semver_core.specs.Values.Views.{id_view};
 
-use crate::{Identifier, Version};
+use crate::{Identifier, IdentifierRefs, Version, VersionRef};
 use itoa::Buffer;
 use std::fmt;
 
 // A number in decimal. The length of a short one is known, so that it is copied without a call.
 #[inline(always)]
-fn write_number<W: fmt::Write>(number: u64, f: &mut fmt::Formatter<W>) -> fmt::Result
+pub(crate) fn write_number<W: fmt::Write>(number: u64, f: &mut fmt::Formatter<W>) -> fmt::Result
     ensures { DisplaysStyledOnOk W.write_str_gives f.old result (Some (decimal number)) f.new }
 {
     if number < 10 {
@@ -31,21 +31,22 @@ impl fmt::Display for Identifier {
     ghost styled_output = { λ id _. Some (id_text (id_view id)) };
 
     fn fmt<W: fmt::Write>(&self, f: &mut fmt::Formatter<W>) -> fmt::Result {
-        match self {
-            Identifier::Numeric(number) => write_number(*number, f),
-            Identifier::AlphaNumeric(text) => f.write_str(text),
-        }
+        fmt::Display::fmt(&self.as_ref(), f)
     }
 }
 
 // The identifiers, a dot before each.
-fn write_dotted<W: fmt::Write>(list: &[Identifier], f: &mut fmt::Formatter<W>) -> fmt::Result
+fn write_dotted<W: fmt::Write>(
+    ids: IdentifierRefs<'_>,
+    f: &mut fmt::Formatter<W>,
+) -> fmt::Result
     ensures { DisplaysStyledOnOk W.write_str_gives f.old result
-        (Some (marked_list (46 ∷ []) (ids_view list.now))) f.new }
+        (Some (marked_list (46 ∷ []) ids.entry)) f.new }
 {
-    for identifier in list {
+    let mut others = ids;
+    'ids: while let Some(id) = others.next() {
         f.write_str(".")?;
-        fmt::Display::fmt(identifier, f)?;
+        fmt::Display::fmt(&id, f)?;
     }
     Ok(())
 }
@@ -54,17 +55,18 @@ fn write_dotted<W: fmt::Write>(list: &[Identifier], f: &mut fmt::Formatter<W>) -
 #[inline(always)]
 fn write_list<W: fmt::Write>(
     mark: &str,
-    list: &[Identifier],
+    ids: IdentifierRefs<'_>,
     f: &mut fmt::Formatter<W>,
 ) -> fmt::Result
     ensures { DisplaysStyledOnOk W.write_str_gives f.old result
-        (Some (marked_list mark.now (ids_view list.now))) f.new }
+        (Some (marked_list mark.now ids.entry)) f.new }
 {
-    match list.split_first() {
+    let mut others = ids;
+    match others.next() {
         None => Ok(()),
-        Some((first, others)) => {
+        Some(first) => {
             f.write_str(mark)?;
-            fmt::Display::fmt(first, f)?;
+            fmt::Display::fmt(&first, f)?;
             write_dotted(others, f)
         }
     }
@@ -87,6 +89,28 @@ fn write_numbers<W: fmt::Write>(
     write_number(patch, f)
 }
 
+// The five values of a version.
+fn write_values<W: fmt::Write>(
+    major: u64,
+    minor: u64,
+    patch: u64,
+    pre_release: IdentifierRefs<'_>,
+    build: IdentifierRefs<'_>,
+    f: &mut fmt::Formatter<W>,
+) -> fmt::Result
+    ensures { DisplaysStyledOnOk W.write_str_gives f.old result (Some (version_text (record {
+      major = major;
+      minor = minor;
+      patch = patch;
+      pre_release = pre_release.entry;
+      build = build.entry;
+    }))) f.new }
+{
+    write_numbers(major, minor, patch, f)?;
+    write_list("-", pre_release, f)?;
+    write_list("+", build, f)
+}
+
 /// A version prints as `major.minor.patch`, then `-` and the pre-release where there is one, then
 /// `+` and the build where there is one, the identifiers of each joined by dots, as in
 /// `1.2.3-rc.1+build.7`. Width, fill and precision change nothing.
@@ -101,8 +125,19 @@ impl fmt::Display for Version {
     ghost styled_output = { λ v _. Some (version_text v) };
 
     fn fmt<W: fmt::Write>(&self, f: &mut fmt::Formatter<W>) -> fmt::Result {
-        write_numbers(self.major(), self.minor(), self.patch(), f)?;
-        write_list("-", self.pre_release(), f)?;
-        write_list("+", self.build(), f)
+        let pre_release = IdentifierRefs::of_items(self.pre_release());
+        let build = IdentifierRefs::of_items(self.build());
+        write_values(self.major(), self.minor(), self.patch(), pre_release, build, f)
+    }
+}
+
+/// Prints as the `Version` of the same five values: `01` of a text prints as `1`.
+impl<'a> fmt::Display for VersionRef<'a> {
+    ghost output = { λ v. Some (version_text v) };
+
+    ghost styled_output = { λ v _. Some (version_text v) };
+
+    fn fmt<W: fmt::Write>(&self, f: &mut fmt::Formatter<W>) -> fmt::Result {
+        write_values(self.major(), self.minor(), self.patch(), self.pre_release(), self.build(), f)
     }
 }

@@ -1,11 +1,12 @@
 -- A text that spells a list of identifiers is its own longest list.
-use Rattle.std.proofs.Common.{◌≡◌, ℕ, ◌<◌, ◌+◌, get_or, List, [], ◌∷◌, length, refl, sym, ap, ◌∙◌, arith, true, Some, inl, inr, append-nil}
-use Rattle.std.specs.Prelude.{IsUtf8, eqb}
+use Rattle.std.proofs.Common.{◌≡◌, ℕ, ◌<◌, ◌+◌, get_or, List, [], ◌∷◌, length, refl, sym, ap, ◌∙◌, arith, take, true, Some, inl, inr, append-nil}
+use Rattle.std.specs.Prelude.{◌==◌, IsUtf8, eqb}
 use Rattle.std.specs.Str.{IsAscii}
 use Rattle.std.proofs.lemmas.Bool.{cases_Bool, eqb-true}
-use Rattle.std.proofs.lemmas.Str.{IsUtf8-from_ascii}
+use Rattle.std.proofs.lemmas.Str.{IsAscii-take, IsUtf8-from_ascii}
 use Rattle.std.proofs.lemmas.Str.Ascii.{IsAscii-nil, IsAscii-cons}
-use Rattle.std.specs.List.{list_all, onto_first}
+use Rattle.std.specs.List.{count_by, list_all, onto_first}
+use Rattle.std.proofs.lemmas.List.Splits.{length-slice_split}
 use Rattle.std.proofs.lemmas.List.{length-map}
 use Rattle.semver_core.specs.Text.Characters.{begins, is_identifier_char}
 use Rattle.semver_core.specs.Text.Identifiers.{Id, Numeric, identifier_of, IsLongestIdentifiers, is_identifier, is_listed, listed, pieces}
@@ -27,10 +28,16 @@ ascii (c ∷ rest) h = elim (cases_Bool (eqb c 46)) [
       IsAscii-cons c rest (small_char c (first_char c (pieces rest) split)) (ascii rest (tail_onto c (pieces rest) split))
 ]
 
-pub listed_utf8 : (text : List ℕ) → is_listed text ≡ true → IsUtf8 text
+listed_ascii : (text : List ℕ) → is_listed text ≡ true → IsAscii text
 unfolding is_listed
-listed_utf8 [] h = IsUtf8-from_ascii [] IsAscii-nil
-listed_utf8 (c ∷ rest) h = IsUtf8-from_ascii (c ∷ rest) (ascii (c ∷ rest) (runs_tail (pieces (c ∷ rest)) h))
+listed_ascii [] h = IsAscii-nil
+listed_ascii (c ∷ rest) h = ascii (c ∷ rest) (runs_tail (pieces (c ∷ rest)) h)
+
+pub listed_utf8 : (text : List ℕ) → is_listed text ≡ true → IsUtf8 text
+listed_utf8 text h = IsUtf8-from_ascii text (listed_ascii text h)
+
+pub front_utf8 : (text : List ℕ) (n : ℕ) → is_listed text ≡ true → IsUtf8 (take n text)
+front_utf8 text n h = IsUtf8-from_ascii (take n text) (IsAscii-take text n (listed_ascii text h))
 
 pub listed_begins : (text : List ℕ) → is_listed text ≡ true → 0 < length text → begins is_identifier_char text ≡ true
 unfolding is_listed
@@ -63,21 +70,13 @@ listed_zero [] len e = cc
 listed_zero (c ∷ []) len e = rw e refl
 listed_zero (c ∷ d ∷ rest) len e = absurd (omega arith)
 
-split_some : (text : List ℕ) → 0 < length (pieces text)
-split_some [] = omega arith
-split_some (c ∷ rest) = elim (cases_Bool (eqb c 46)) [
-  | inl dot ↦ rw dot (omega arith)
-  | inr other ↦ rw other (onto_some c (pieces rest))
-]
-  where
-    onto_some : (c : ℕ) (ps : List (List ℕ)) → 0 < length (onto_first c ps)
-    onto_some c [] = omega arith
-    onto_some c (p ∷ ps) = omega arith
+pub listed_count : (text : List ℕ) → 0 < length text → length (listed text) ≡ count_by (λ c. c == 46) text + 1
+unfolding listed
+listed_count [] h = absurd (omega arith)
+listed_count (c ∷ rest) h = length-map (pieces (c ∷ rest)) identifier_of ∙ length-slice_split (λ c. c == 46) (c ∷ rest)
 
 pub listed_some : (text : List ℕ) → 0 < length text → 0 < length (listed text)
-unfolding listed
-listed_some [] h = absurd (omega arith)
-listed_some (c ∷ rest) h = rw (length-map (pieces (c ∷ rest)) identifier_of) (split_some (c ∷ rest))
+listed_some text h = omega (arith, listed_count text h)
 
 pub some_listed : (text : List ℕ) (ids : List Identifier) → 0 < length text → ids_view ids ≡ listed text → 0 < length ids
 some_listed text ids h e = rw (length-map ids id_view) at (rw (← e) at (listed_some text h))

@@ -2,15 +2,12 @@
 use Rattle.std.proofs.Common.{◌≡◌, ◌==◌, ◌++◌, ◌+◌, ℕ, false, List, [], ◌∷◌, length, refl, sym, ap, ◌∙◌}
 use Rattle.std.specs.Cmp.Lexicographic.{slice_cmp}
 use Rattle.std.specs.Ordering.{ordering_then}
-use Rattle.std.proofs.lemmas.List.{length-map, take_all, take_more}
+use Rattle.std.proofs.lemmas.List.{take_all, take_more}
 use Rattle.std.proofs.Common.{◌<◌, ◌≤◌, take, get_or}
 use Rattle.std.specs.List.{All}
 use Rattle.semver_core.specs.Values.Versions.{IsId}
 use Rattle.std.proofs.lemmas.List.Elements.{All-push}
 use Rattle.semver_core.proofs.Text.Runs.{ids_view_push}
-use Rattle.std.specs.Hash as fed
-use Rattle.std.specs.List.{flat_map}
-use Rattle.semver_core.specs.Internal.Hashes.{id_writes}
 use Rattle.semver_core.specs.Values.Order.{id_cmp, pre_cmp}
 use Rattle.semver_core.specs.Values.Views.{id_view, ids_view}
 use Rattle.semver_core.specs.declared.identifier.Identifier.{Identifier}
@@ -26,16 +23,6 @@ pub pre_view : (xs ys : List Identifier) → (length xs == 0) ≡ false → (len
 pre_view [] ys h k = cc
 pre_view (x ∷ xs) [] h k = cc
 pre_view (x ∷ xs) (y ∷ ys) h k = ids_view_cmp (x ∷ xs) (y ∷ ys)
-
-each_view : (xs : List Identifier) → flat_map (λ a. id_writes (id_view a)) xs ≡ flat_map id_writes (ids_view xs)
-each_view [] = refl
-each_view (x ∷ xs) = ap (λ l. id_writes (id_view x) ++ l) (each_view xs)
-
-ids_length : (xs : List Identifier) → length (ids_view xs) ≡ length xs
-ids_length xs = length-map xs id_view
-
-pub writes_view : (xs : List Identifier) → fed.slice (λ a. id_writes (id_view a)) xs ≡ fed.slice id_writes (ids_view xs)
-writes_view xs = rw (ids_length xs, each_view xs) refl
 
 -- with one more identifier, every identifier of a list is such
 pub ids_more : (xs : List Identifier) (i : ℕ) (x : Identifier) → i < length xs → x ≡ get_or xs i x → All IsId (ids_view (take i xs)) → IsId (id_view x)

@@ -1,5 +1,5 @@
 -- For proofs and private contracts: what the fields of a borrowed version hold.
-use Rattle.std.specs.Prelude.{◌≡◌, true}
+use Rattle.std.specs.Prelude.{◌≡◌, ⊤, true, IsUtf8}
 use Rattle.semver_core.specs.Text.Identifiers.{Id, Numeric, AlphaNumeric, is_listed, listed}
 use Rattle.semver_core.specs.Values.Versions.{VersionValue}
 use Rattle.semver_core.specs.declared.borrowed.VersionRef.TheInside.{Inside}
@@ -18,3 +18,8 @@ pub record IsListed (v : Inside) : Type 0 where
 abbrev pub id_ref_view : IdRef → Id
 id_ref_view (variant.Numeric n) = Numeric n
 id_ref_view (variant.AlphaNumeric text) = AlphaNumeric text.now
+
+-- the text of the identifier is UTF-8
+abbrev pub HasText : IdRef → Type 0
+HasText (variant.Numeric n) = ⊤
+HasText (variant.AlphaNumeric text) = IsUtf8 text.now

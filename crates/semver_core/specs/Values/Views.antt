@@ -4,11 +4,17 @@ use Rattle.semver_core.specs.Text.Identifiers.{Id, Numeric, AlphaNumeric}
 use Rattle.semver_core.specs.Values.Versions.{VersionValue}
 use Rattle.semver_core.specs.declared.identifier.Identifier.{Identifier}
 use Rattle.semver_core.specs.declared.identifier.Identifier.TheVariants as variant
+use Rattle.semver_core.specs.declared.borrowed.identifier.IdentifierRef.{IdentifierRef}
+use Rattle.semver_core.specs.declared.borrowed.identifier.IdentifierRef.TheVariants as lent
 use Rattle.semver_core.specs.declared.version.parts.VersionParts.{VersionParts}
 
 abbrev pub id_view : Identifier → Id
 id_view (variant.Numeric n) = Numeric n
 id_view (variant.AlphaNumeric text) = AlphaNumeric (string_bytes text)
+
+abbrev pub lent_id_view : IdentifierRef → Id
+lent_id_view (lent.Numeric n) = Numeric n
+lent_id_view (lent.AlphaNumeric text) = AlphaNumeric text.now
 
 abbrev pub ids_view : List Identifier → List Id
 ids_view list = map id_view list

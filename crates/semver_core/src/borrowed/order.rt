@@ -3,11 +3,12 @@
 ghost use Rattle.std.specs.Cmp.{eq_by_cmp_equiv, partial_equiv_from_equiv, po};
 ghost use Rattle.std.specs.Cmp.Lexicographic.{slice_cmp};
 ghost use Rattle.std.specs.Ordering.{nat_cmp, ordering_then};
-ghost use Rattle.std.specs.Prelude.{◌≡◌, ◌<◌, ◌≤◌, ◌∷◌, Some, drop, length, refl, take, true};
+ghost use Rattle.std.specs.Prelude.{◌≡◌, ◌<◌, ◌≤◌, ◌∷◌, IsUtf8, Some, drop, length, refl};
+ghost use Rattle.std.specs.Prelude.{take, true};
 ghost use Rattle.semver_core.specs.Internal.OrderLaws.{precedence_total};
 ghost use Rattle.semver_core.specs.Internal.CommonReading.{number_of_run, run_len};
 ghost use Rattle.semver_core.specs.Text.Identifiers.{identifier_of, is_listed, listed};
-ghost use Rattle.semver_core.specs.Internal.Borrowed.{id_ref_view};
+ghost use Rattle.semver_core.specs.Internal.Borrowed.{HasText, id_ref_view};
 ghost use Rattle.semver_core.specs.Values.Order.{id_cmp, pre_cmp, precedence, version_eq};
 
 use crate::{VersionRef, scan};
@@ -35,8 +36,10 @@ fn run_front(text: &[u8]) -> (usize, Option<u64>)
 #[inline(always)]
 #[tactic(auto, using(crate::proofs::Text::OnePass::scanned))]
 fn run_id(run: &[u8], number: Option<u64>) -> IdRef<'_>
-    requires { number ≡ number_of_run (Some 0) run.now }
-    ensures { id_ref_view result ≡ identifier_of run.now }
+    requires number { number ≡ number_of_run (Some 0) run.now }
+    requires text { IsUtf8 run.now }
+    ensures id { id_ref_view result ≡ identifier_of run.now }
+    ensures text { HasText result }
 {
     match number {
         Some(value) => IdRef::Numeric(value),
@@ -58,10 +61,11 @@ fn behind_one(text: &[u8]) -> &[u8]
 // The first identifier of a text, and the text of the others.
 #[inline(always)]
 #[tactic(auto, using(crate::proofs::Text::Firsts::firsts))]
-fn first_id(text: &[u8]) -> (IdRef<'_>, &[u8])
+pub(crate) fn first_id(text: &[u8]) -> (IdRef<'_>, &[u8])
     requires listed { is_listed text.now ≡ true }
     requires some { 0 < length text.now }
     ensures list { listed text.now ≡ id_ref_view result.0 ∷ listed result.1.now }
+    ensures text { HasText result.0 }
     ensures listed { is_listed result.1.now ≡ true }
     ensures less { length result.1.now < length text.now }
 {
@@ -69,7 +73,9 @@ fn first_id(text: &[u8]) -> (IdRef<'_>, &[u8])
     (run_id(&text[..end], number), behind_one(&text[end..]))
 }
 
-fn cmp_ids(a: IdRef<'_>, b: IdRef<'_>) -> Ordering
+// The order of two identifiers.
+#[inline(always)]
+pub(crate) fn cmp_ids(a: IdRef<'_>, b: IdRef<'_>) -> Ordering
     ensures { result ≡ id_cmp (id_ref_view a.entry) (id_ref_view b.entry) }
 {
     match (a, b) {

@@ -1,13 +1,15 @@
 // The order of versions, their equality and hash. Build metadata counts in none.
 
-ghost use Rattle.std.specs.Prelude.{◌≡◌, Some, refl};
+ghost use Rattle.std.specs.Prelude.{◌≡◌, ◌++◌, Some, refl};
+ghost use Rattle.std.specs.Hash as fed;
+ghost use Rattle.std.specs.List.{fold};
 ghost use Rattle.std.specs.Cmp.{eq_by_cmp_equiv, partial_equiv_from_equiv, po};
-ghost use Rattle.semver_core.specs.Internal.Hashes.{version_writes};
+ghost use Rattle.semver_core.specs.Internal.Hashes.{id_writes, version_writes};
 ghost use Rattle.semver_core.specs.Values.Order.{precedence, pre_cmp, version_eq};
 ghost use Rattle.semver_core.specs.Internal.OrderLaws.{precedence_total, version_alike};
 ghost use Rattle.semver_core.specs.Values.Views.{ids_view};
 
-use crate::{Identifier, Version};
+use crate::{Identifier, IdentifierRefs, Version, VersionRef};
 use std::cmp::Ordering;
 use std::hash::{Hash, Hasher};
 
@@ -77,11 +79,47 @@ impl Hash for Version {
 
     ghost respects_eq = { version_alike };
 
-    #[tactic(auto, using(crate::proofs::Values::Compared::writes_view))]
     fn hash<H: Hasher>(&self, state: &mut H) {
-        self.major().hash(state);
-        self.minor().hash(state);
-        self.patch().hash(state);
-        self.pre_release().hash(state);
+        let pre_release = IdentifierRefs::of_items(self.pre_release());
+        hash_values(self.major(), self.minor(), self.patch(), pre_release, state);
     }
+}
+
+/// The three numbers and the pre-release: the same as those of an equal `Version`.
+impl<'a> Hash for VersionRef<'a> {
+    ghost hash_input = { version_writes };
+
+    ghost respects_eq = { version_alike };
+
+    fn hash<H: Hasher>(&self, state: &mut H) {
+        hash_values(self.major(), self.minor(), self.patch(), self.pre_release(), state);
+    }
+}
+
+// Hashes identifiers as a slice of them is hashed.
+fn hash_ids<H: Hasher>(ids: IdentifierRefs<'_>, state: &mut H)
+    ensures { state.new ≡ fold H.write state.old (fed.slice id_writes ids.entry) }
+{
+    state.write_usize(ids.len());
+    let mut others = ids;
+    'ids: while let Some(id) = others.next() {
+        id.hash(state);
+    }
+}
+
+// Hashes what counts of a version.
+fn hash_values<H: Hasher>(
+    major: u64,
+    minor: u64,
+    patch: u64,
+    pre_release: IdentifierRefs<'_>,
+    state: &mut H,
+)
+    ensures { state.new ≡ fold H.write state.old (fed.u64 major ++ (fed.u64 minor
+        ++ (fed.u64 patch ++ fed.slice id_writes pre_release.entry))) }
+{
+    major.hash(state);
+    minor.hash(state);
+    patch.hash(state);
+    hash_ids(pre_release, state);
 }

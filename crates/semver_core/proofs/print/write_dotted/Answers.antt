@@ -1,18 +1,14 @@
-use Rattle.std.proofs.Common.{refl, ap, [], ◌∷◌}
-use Rattle.std.proofs.lemmas.List.{take_all}
-use Rattle.std.proofs.Output.{has_written_styled_append, has_written_styled_of_eq}
-use Rattle.semver_core.specs.Printing.Text.{marked_list}
-use Rattle.semver_core.specs.Values.Views.{ids_view}
+use Rattle.std.proofs.Common.{refl, ◌∷◌, ◌++◌}
+use Rattle.std.proofs.Output.{has_written_styled_append}
+use Rattle.semver_core.specs.Printing.Text.{id_text}
+use Rattle.semver_core.specs.Values.Views.{lent_id_view}
 use Rattle.semver_core.proofs.Printing.Prints.{dotted_step}
 use Rattle.semver_core.proofs.print.write_dotted.Goals as goal
 
-pub loop-identifier-preserved : goal.loop-identifier-preserved
-loop-identifier-preserved g c p =
-    let so_far = c.loop-identifier.invariant p in
-    let dot = c.in_ok-write_str.ensures.styled so_far.flush refl in
+pub ids-preserved : goal.ids-preserved
+ids-preserved g c flush =
+    let before = c.ids.invariant flush in
+    let dot = c.in_ok-write_str.ensures.styled before.1.flush refl in
     let now = has_written_styled_append _ _ _ _ _ _ dot (c.in_ok-fmt.ensures.styled dot.flush refl) in
-    has_written_styled_of_eq _ _ _ _ _ (dotted_step c.args.list.now c.loop-identifier.identifier-index _ c.loop-identifier-test.true c.identifier-item.is) (has_written_styled_append _ _ _ _ _ _ so_far now)
-
-pub returns : goal.returns
-returns g c p ok =
-    has_written_styled_of_eq _ _ _ _ _ (ap (λ l. marked_list (46 ∷ []) (ids_view l)) (take_all c.loop-identifier.identifier-index c.args.list.now c.loop-identifier-test.false)) (c.loop-identifier.invariant p)
+    (before.0 ++ (46 ∷ id_text (lent_id_view c.in-Some.id)), has_written_styled_append _ _ _ _ _ _ before.1 now,
+      dotted_step before.0 _ c.ids.others c.next.new.self (lent_id_view c.in-Some.id) c.in-Some.ensures.steps before.2)

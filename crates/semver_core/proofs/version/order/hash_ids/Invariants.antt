@@ -1,0 +1,11 @@
+use Rattle.std.proofs.Common.{◌≡◌, length}
+use Rattle.std.specs.List.{flat_map, fold}
+use Rattle.semver_core.specs.Internal.Hashes.{id_writes}
+use Rattle.semver_core.proofs.version.order.hash_ids.Given as goal
+
+abbrev pub invariant-ids : goal.invariant-ids
+invariant-ids g l =
+    fold g.H.Hasher.write l.state (flat_map id_writes l.others) ≡ fold g.H.Hasher.write l.initial.state (flat_map id_writes l.initial.others)
+
+abbrev pub decreases-ids : goal.decreases-ids
+decreases-ids g l = length l.others

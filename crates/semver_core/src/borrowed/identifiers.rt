@@ -1,0 +1,149 @@
+// Lists of identifiers, one by one.
+
+ghost use Rattle.std.specs.Iterator.{item_count, YieldsFirstBy};
+ghost use Rattle.std.specs.Prelude.{◌≡◌, ◌∷◌, [], IfNone, IfSome, length, true};
+ghost use Rattle.semver_core.specs.Internal.Borrowed.{HasText, id_ref_view};
+ghost use Rattle.semver_core.specs.Internal.Sources.{ids_of, IsSource};
+ghost use Rattle.semver_core.specs.Lists.{is_empty};
+ghost use Rattle.semver_core.specs.Text.Identifiers.{is_listed, listed};
+ghost use Rattle.semver_core.specs.Values.Views.{ids_view, lent_id_view};
+
+use crate::borrowed::order::{IdRef, first_id};
+use crate::{Identifier, IdentifierRef, scan};
+use std::marker::Model;
+
+// Where identifiers stand: as items, or joined by dots in a text.
+#[derive(Clone, Copy, Debug)]
+pub(crate) enum Source<'a> {
+    Items(&'a [Identifier]),
+    Text(&'a [u8]),
+}
+
+/// The identifiers of a list, one by one. In contracts it is the list of those that are left.
+#[derive(Debug, Drop)]
+pub struct IdentifierRefs<'a> {
+    source: Source<'a>,
+}
+
+impl<'a> Model for IdentifierRefs<'a> {
+    ghost use Rattle.std.specs.Prelude.{List};
+    ghost use Rattle.semver_core.specs.Text.Identifiers.{Id};
+    ghost use Rattle.semver_core.specs.Internal.Sources.{ids_of, IsSource};
+
+    ghost Value = { List Id };
+
+    ghost view = { λ ids. ids_of ids.source };
+
+    ghost invariant = { λ ids. IsSource ids.source };
+}
+
+impl<'a> IdentifierRefs<'a> {
+    // Those that stand as items.
+    #[inline(always)]
+    pub(crate) fn of_items(items: &'a [Identifier]) -> IdentifierRefs<'a>
+        ensures { result ≡ ids_view items.now }
+    {
+        let source = Source::Items(items);
+        IdentifierRefs { source }
+    }
+
+    // Those that a text spells.
+    #[inline(always)]
+    pub(crate) fn of_text(text: &'a [u8]) -> IdentifierRefs<'a>
+        requires { is_listed text.now ≡ true }
+        ensures { result ≡ listed text.now }
+    {
+        let source = Source::Text(text);
+        IdentifierRefs { source }
+    }
+
+    /// The same identifiers once more.
+    #[inline(always)]
+    pub fn copy(&self) -> IdentifierRefs<'a>
+        ensures { result ≡ self.now }
+    {
+        let source = self.source;
+        IdentifierRefs { source }
+    }
+
+    /// How many identifiers are left.
+    pub fn len(&self) -> usize
+        ensures { result ≡ length self.now }
+    {
+        match self.source {
+            Source::Items(items) => items.len(),
+            Source::Text(text) => count(text),
+        }
+    }
+
+    /// Whether no identifier is left.
+    pub fn is_empty(&self) -> bool
+        ensures { result ≡ is_empty self.now }
+    {
+        self.copy().next().is_none()
+    }
+}
+
+// How many identifiers a text spells.
+#[tactic(auto, using(crate::proofs::Text::Listed::listed_count, crate::proofs::Text::Listed::listed_none))]
+fn count(text: &[u8]) -> usize
+    ensures { result ≡ length (listed text.now) }
+{
+    if text.is_empty() {
+        return 0;
+    }
+    text.iter().filter(|byte| **byte == b'.').count() + 1
+}
+
+// The identifier with its text as such.
+#[inline(always)]
+fn with_text(id: IdRef<'_>) -> IdentifierRef<'_>
+    requires { HasText id }
+    ensures { lent_id_view result ≡ id_ref_view id.entry }
+{
+    match id {
+        IdRef::Numeric(number) => IdentifierRef::Numeric(number),
+        IdRef::AlphaNumeric(text) => IdentifierRef::AlphaNumeric(scan::text_front(text)),
+    }
+}
+
+// The first identifier, and where the others stand.
+#[inline(always)]
+#[tactic(auto, using(crate::proofs::Text::Listed::listed_none))]
+fn split_first(source: Source<'_>) -> Option<(IdentifierRef<'_>, Source<'_>)>
+    requires { IsSource source }
+    ensures none { IfNone result (ids_of source.entry ≡ []) }
+    ensures some { IfSome result (λ found.
+        ids_of source.entry ≡ lent_id_view found.0 ∷ ids_of found.1) }
+    ensures listed { IfSome result (λ found. IsSource found.1) }
+{
+    match source {
+        Source::Items(items) => {
+            let (first, others) = items.split_first()?;
+            Some((first.as_ref(), Source::Items(others)))
+        }
+        Source::Text(text) => {
+            if text.is_empty() {
+                return None;
+            }
+            let (first, others) = first_id(text);
+            Some((with_text(first), Source::Text(others)))
+        }
+    }
+}
+
+/// Each identifier once, in the order of the list.
+impl<'a> Iterator for IdentifierRefs<'a> {
+    type Item = IdentifierRef<'a>;
+
+    ghost next_gives = { YieldsFirstBy lent_id_view (λ ids. ids) };
+
+    ghost remaining = { item_count (λ ids. ids) };
+
+    #[inline(always)]
+    fn next(&mut self) -> Option<IdentifierRef<'a>> {
+        let (first, others) = split_first(self.source)?;
+        self.source = others;
+        Some(first)
+    }
+}
