@@ -121,8 +121,8 @@ impl<'a> VersionRef<'a> {
     /// where the text is longer or has no version at its front.
     ///
     /// ```rust
-    /// let beta = VersionRef::parse("v1.2.3-beta.1, the second beta").map_err(Failure::Refused)?;
-    /// assert!(rt; beta < VersionRef::parse("1.2.3+build").map_err(Failure::Refused)?);
+    /// let beta = VersionRef::parse("v1.2.3-beta.1, the second beta")?;
+    /// assert!(rt; beta < VersionRef::parse("1.2.3+build")?);
     /// assert!(rt; VersionRef::parse("1.2").is_err());
     /// ```
     #[inline(always)]

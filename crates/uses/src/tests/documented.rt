@@ -3,7 +3,7 @@
 use nodejs_semver::diagnosis::{
     Expected, IgnoredKind, IgnoredWord, VersionFlaw, ignored_words, version_flaw,
 };
-use nodejs_semver::{Identifier, Range, Version, VersionDiff};
+use nodejs_semver::{Identifier, Range, Version, VersionDiff, VersionRef};
 use std::test::Fail;
 
 #[test]
@@ -15,6 +15,14 @@ fn version_parse(rt: HostRuntime) -> Result<(), Fail> {
         Version::parse(alloc, "1.2.3-beta.1+another.build")?
     );
     assert!(rt; Version::parse(alloc, "1.2").is_err());
+    Ok(())
+}
+
+#[test]
+fn version_ref_parse(rt: HostRuntime) -> Result<(), Fail> {
+    let beta = VersionRef::parse("v1.2.3-beta.1, the second beta")?;
+    assert!(rt; beta < VersionRef::parse("1.2.3+build")?);
+    assert!(rt; VersionRef::parse("1.2").is_err());
     Ok(())
 }
 
