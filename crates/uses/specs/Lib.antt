@@ -1,2 +1,3 @@
 pub mod Release
 pub mod Subset
+pub mod Resolver

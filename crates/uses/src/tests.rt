@@ -2,9 +2,11 @@ mod documented;
 
 use crate::index::Index;
 use crate::release;
+use crate::resolver::{Package, Release, Requirement, resolve};
 use crate::subset::{self, Answer};
-use nodejs_semver::{Range, Version};
+use nodejs_semver::{Failure, Range, Version};
 use std::alloc::Global;
+use std::fmt::Write;
 use std::test::Fail;
 
 fn versions(alloc: Global, texts: &[&str]) -> Result<Vec<Version>, Fail> {
@@ -80,6 +82,80 @@ fn a_range_within_another(rt: HostRuntime) -> Result<(), Fail> {
             Answer::Witness(version) => format!(in alloc; "{version}")?,
         };
         assert_eq!(rt; said.as_str(), told, "{first} within {second}");
+    }
+    Ok(())
+}
+
+// Each requirement is a package and a range text.
+fn requirements(alloc: Global, asked: &[(usize, &str)]) -> Result<Vec<Requirement>, Fail> {
+    let mut requirements = Vec::new(alloc);
+    for (package, range) in asked {
+        requirements.push(Requirement {
+            package: *package,
+            range: Range::parse(alloc, range)?,
+        })?;
+    }
+    Ok(requirements)
+}
+
+fn release(alloc: Global, version: &str, asked: &[(usize, &str)]) -> Result<Release, Fail> {
+    Ok(Release {
+        version: Version::parse(alloc, version)?,
+        requirements: requirements(alloc, asked)?,
+    })
+}
+
+// Two programs, 0 and 1, that both need the library 2; the newest first.
+fn registry(alloc: Global) -> Result<Vec<Package>, Fail> {
+    let one = vec![in alloc;
+        release(alloc, "2.0.0", &[(2, "^2")])?,
+        release(alloc, "1.0.0", &[(2, "^1 || ^2")])?,
+    ]?;
+    let other = vec![in alloc; release(alloc, "1.0.0", &[(2, "^1.2")])?]?;
+    let library = vec![in alloc;
+        release(alloc, "2.0.0", &[])?,
+        release(alloc, "1.3.0-beta", &[])?,
+        release(alloc, "1.2.0", &[])?,
+    ]?;
+    Ok(vec![in alloc;
+        Package { releases: one },
+        Package { releases: other },
+        Package { releases: library },
+    ]?)
+}
+
+#[test]
+fn releases_for_all_requirements(rt: HostRuntime) -> Result<(), Fail> {
+    let alloc = rt.alloc();
+    let packages = registry(alloc)?;
+    for (asked, told) in [
+        (&[(0, "*"), (1, "*")][..], "0@1.0.0 1@1.0.0 2@1.2.0 "),
+        (&[(0, "*")][..], "0@2.0.0 2@2.0.0 "),
+        (
+            &[(0, "^2"), (1, "*")][..],
+            "package 2: >=2.0.0 <3.0.0-0 and >=1.2.0 <2.0.0-0 clash",
+        ),
+        (
+            &[(2, "^3")][..],
+            "package 2: no release satisfies >=3.0.0 <4.0.0-0",
+        ),
+        (&[(7, "*")][..], "package 7: no release satisfies >=0.0.0"),
+        (&[][..], ""),
+    ] {
+        let root = requirements(alloc, asked)?;
+        let mut said = String::new(alloc);
+        match resolve(alloc, &packages, &root) {
+            Ok(picks) => {
+                for (number, pick) in picks.iter().enumerate() {
+                    if let Some(pick) = pick {
+                        write!(said, "{number}@{} ", pick.release.version)?;
+                    }
+                }
+            }
+            Err(Failure::Refused(conflict)) => write!(said, "{conflict}")?,
+            Err(Failure::Memory(error)) => return Err(error.into()),
+        }
+        assert_eq!(rt; said.as_str(), told);
     }
     Ok(())
 }

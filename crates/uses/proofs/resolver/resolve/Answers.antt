@@ -1,0 +1,10 @@
+use Rattle.std.proofs.Common.{length, rules}
+use Rattle.uses.proofs.Plans.{Agrees-from_none}
+use Rattle.uses.proofs.resolver.resolve.Goals as goal
+
+pub returns-clause-failure : goal.returns-clause-failure
+returns-clause-failure c =
+    let same = c.in_ok-picks.ensures.items_if_clones_equal (search rules) in (
+      λ f plan. c.in-Err.ensures.none f plan (Agrees-from_none c.in_ok-picks.picks.items (length c.args.packages.now) f same),
+      c.in-Err.ensures.conflict,
+    )
