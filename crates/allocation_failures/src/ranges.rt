@@ -71,6 +71,17 @@ fn algebra(rt: &impl Print, alloc: Global, one: &str, other: &str) -> io::Result
         "Range::least_beyond",
         found(one.least_beyond(alloc, &other)),
         &both,
+    )?;
+    let ranges = [one, other];
+    let both = Both {
+        one: &ranges[0],
+        other: &ranges[1],
+    };
+    show(
+        rt,
+        "Range::least_of_all",
+        found(Range::least_of_all(alloc, &ranges)),
+        &both,
     )
 }
 
@@ -83,6 +94,12 @@ fn choices(rt: &impl Print, alloc: Global, text: &str) -> io::Result<()> {
         rt,
         "Range::min_version",
         found(range.min_version(alloc)),
+        &range,
+    )?;
+    show(
+        rt,
+        "Range::min_version_with_prerelease",
+        found(range.min_version_with_prerelease(alloc)),
         &range,
     )
 }

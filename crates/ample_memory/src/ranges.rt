@@ -52,6 +52,7 @@ fn ask(alloc: Global, calls: &mut Calls, text: &str) -> Result<(), AllocError> {
     };
     calls.made(range.copy(alloc))?;
     calls.made(range.min_version(alloc))?;
+    calls.made(range.min_version_with_prerelease(alloc))?;
     json::ask_range(alloc, calls, &range)?;
     for other in ["*", "^1.5.0-b+c || 3.2.x || ^7.0.0-0", "<0.0.0-0"] {
         if let Some(other) = calls.answered(Range::parse(alloc, other))? {
@@ -67,6 +68,8 @@ fn pair(alloc: Global, calls: &mut Calls, one: &Range, other: &Range) -> Result<
     calls.made(one.intersect(alloc, other))?;
     calls.made(one.difference(alloc, other))?;
     calls.made(one.least_beyond(alloc, other))?;
+    let ranges = [one.copy(alloc)?, other.copy(alloc)?];
+    calls.made(Range::least_of_all(alloc, &ranges))?;
     match (one.intervals().first(), other.intervals().first()) {
         (Some(one), Some(other)) => intervals(alloc, calls, one, other),
         _ => Ok(()),

@@ -1,4 +1,5 @@
 mod documented;
+mod laws;
 
 use crate::index::Index;
 use crate::release;
