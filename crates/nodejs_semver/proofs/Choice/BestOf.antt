@@ -6,7 +6,7 @@ use Rattle.std.proofs.lemmas.List.{append-nil, append_assoc}
 use Rattle.std.proofs.lemmas.List.Folds.{list_all-append}
 use Rattle.std.proofs.lemmas.List.Elements.{All-append, All-cons, All-same, All-weaker}
 use Rattle.std.proofs.lemmas.List.Sums.{AllPass-from_list_all}
-use Rattle.std.specs.Cmp.{tied_itself}
+use Rattle.std.specs.Cmp.{IsTotalOrder, tied_itself}
 use Rattle.std.specs.List.{All, filter, fold, list_all, reduce}
 use Rattle.std.specs.Option.{option_copied}
 use Rattle.std.specs.Ordering.{ordering_reverse, is_lt, is_le, max_by_ordering, min_by_ordering}
@@ -81,22 +81,21 @@ split_at set (x ∷ xs) fs bs v h = elim (cases_Bool (set x)) [
 
 -- what is picked of the best so far and the next: the next, which is then better than all that the best was better than, or the
 -- best
-record Picks (in_front behind : VersionValue → VersionValue → Bool)
-    (pick : VersionValue → VersionValue → VersionValue) : Type 0 where
-  pub choice : (b x : VersionValue) → ((pick b x ≡ x) × (in_front b x ≡ true)) ⊎ ((pick b x ≡ b) × (behind x b ≡ true))
-  pub passes : (w b x : VersionValue) → in_front b x ≡ true → in_front w b ≡ true → in_front w x ≡ true
-  pub weaker : (w b : VersionValue) (x : VersionValue) → in_front b x ≡ true → behind w b ≡ true → in_front w x ≡ true
+record Picks {V : Type 0} (in_front behind : V → V → Bool) (pick : V → V → V) : Type 0 where
+  pub choice : (b x : V) → ((pick b x ≡ x) × (in_front b x ≡ true)) ⊎ ((pick b x ≡ b) × (behind x b ≡ true))
+  pub passes : (w b x : V) → in_front b x ≡ true → in_front w b ≡ true → in_front w x ≡ true
+  pub weaker : (w b : V) (x : V) → in_front b x ≡ true → behind w b ≡ true → in_front w x ≡ true
 
-module _ (in_front behind : VersionValue → VersionValue → Bool) (pick : VersionValue → VersionValue → VersionValue)
+module _ {V : Type 0} (in_front behind : V → V → Bool) (pick : V → V → V)
     (picks : Picks in_front behind pick) where
-  record Placed (list : List VersionValue) (v : VersionValue) : Type 0 where
-    pub front : List VersionValue
-    pub back : List VersionValue
+  record Placed (list : List V) (v : V) : Type 0 where
+    pub front : List V
+    pub back : List V
     pub divided : list ≡ front ++ v ∷ back
     pub before : list_all (λ w. in_front w v) front ≡ true
     pub after : list_all (λ w. behind w v) back ≡ true
 
-  placed : (list front back : List VersionValue) (b : VersionValue) (xs : List VersionValue) → list ≡ (front ++ b ∷ back) ++ xs
+  placed : (list front back : List V) (b : V) (xs : List V) → list ≡ (front ++ b ∷ back) ++ xs
       → list_all (λ w. in_front w b) front ≡ true → list_all (λ w. behind w b) back ≡ true → Placed list (fold pick b xs)
   placed list front back b [] e h k = record {
     front = front;
@@ -119,11 +118,11 @@ module _ (in_front behind : VersionValue → VersionValue → Bool) (pick : Vers
         (list_all-append (λ w. behind w b) back (x ∷ []) ∙ and_from (list_all (λ w. behind w b) back) _ k (rw t refl)))
   ]
 
-  best_is : (set : VersionValue → Bool) (list : List VersionValue)
+  best_is : (set : V → Bool) (list : List V)
       → IsBest in_front behind set list (reduce pick (filter set list))
   best_is set list = by_list (filter set list) refl
     where
-      by_list : (ys : List VersionValue) → filter set list ≡ ys → IsBest in_front behind set list (reduce pick ys)
+      by_list : (ys : List V) → filter set list ≡ ys → IsBest in_front behind set list (reduce pick ys)
       by_list [] e = all_weaker (λ w. not (set w) || false) (λ w. not (set w)) (λ w h. sym (or-false _) ∙ h) list
           (all_filter set (λ _. false) list ∙ ap (list_all (λ _. false)) e)
       by_list (y ∷ ys) e =
@@ -141,81 +140,82 @@ module _ (in_front behind : VersionValue → VersionValue → Bool) (pick : Vers
           }
 
 -- the greater of two, the second of equal ones; and the lesser, the first of equal ones
-abbrev pub greater : VersionValue → VersionValue → VersionValue
-greater b x = max_by_ordering (precedence b x) b x
+abbrev pub greater : {V : Type 0} → (V → V → Ordering) → V → V → V
+greater R b x = max_by_ordering (R b x) b x
 
-abbrev pub lesser : VersionValue → VersionValue → VersionValue
-lesser b x = min_by_ordering (precedence b x) b x
+abbrev pub lesser : {V : Type 0} → (V → V → Ordering) → V → V → V
+lesser R b x = min_by_ordering (R b x) b x
 
 -- the same behind references
-pub greater_now : (p z : Bor VersionValue) → (max_by_ordering (precedence p.now z.now) p z).now ≡ greater p.now z.now
-greater_now p z = by_order (precedence p.now z.now)
+pub greater_now : {V : Type 0} (R : V → V → Ordering) (p z : Bor V) → (max_by_ordering (R p.now z.now) p z).now ≡ greater R p.now z.now
+greater_now R p z = by_order (R p.now z.now)
   where
     by_order : (r : Ordering) → (max_by_ordering r p z).now ≡ max_by_ordering r p.now z.now
     by_order Less = refl
     by_order Equal = refl
     by_order Greater = refl
 
-pub lesser_now : (p z : Bor VersionValue) → (min_by_ordering (precedence p.now z.now) p z).now ≡ lesser p.now z.now
-lesser_now p z = by_order (precedence p.now z.now)
+pub lesser_now : {V : Type 0} (R : V → V → Ordering) (p z : Bor V) → (min_by_ordering (R p.now z.now) p z).now ≡ lesser R p.now z.now
+lesser_now R p z = by_order (R p.now z.now)
   where
     by_order : (r : Ordering) → (min_by_ordering r p z).now ≡ min_by_ordering r p.now z.now
     by_order Less = refl
     by_order Equal = refl
     by_order Greater = refl
 
-back_is : (b x : VersionValue) (r : Ordering) → precedence b x ≡ r → precedence x b ≡ ordering_reverse r
-back_is b x r e = precedence_total.antisymm x b ∙ ap ordering_reverse e
+module _ {V : Type 0} {R : V → V → Ordering} (o : IsTotalOrder R) where
+  back_is : (b x : V) (r : Ordering) → R b x ≡ r → R x b ≡ ordering_reverse r
+  back_is b x r e = o.antisymm x b ∙ ap ordering_reverse e
 
-pub max_is : (set : VersionValue → Bool) (list : List VersionValue) → IsMax set list (reduce greater (filter set list))
-max_is = best_is _ _ greater (record {
-  choice = λ b x. by_cmp b x (precedence b x) refl;
-  passes = λ w b x t h. le_trans precedence_total w b x h t;
-  weaker = λ w b x t h. le_trans precedence_total w b x (le_of_lt (precedence w b) h) t;
-})
-  where
-    by_cmp : (b x : VersionValue) (r : Ordering) → precedence b x ≡ r
-        → ((max_by_ordering r b x ≡ x) × (is_le (precedence b x) ≡ true))
-        ⊎ ((max_by_ordering r b x ≡ b) × (is_lt (precedence x b) ≡ true))
-    by_cmp b x Less e = inl (refl, ap is_le e)
-    by_cmp b x Equal e = inl (refl, ap is_le e)
-    by_cmp b x Greater e = inr (refl, ap is_lt (back_is b x Greater e))
+  pub max_is : (set : V → Bool) (list : List V) → IsBest (λ w v. is_le (R w v)) (λ w v. is_lt (R w v)) set list (reduce (greater R) (filter set list))
+  max_is = best_is _ _ (greater R) (record {
+    choice = λ b x. by_cmp b x (R b x) refl;
+    passes = λ w b x t h. le_trans o w b x h t;
+    weaker = λ w b x t h. le_trans o w b x (le_of_lt (R w b) h) t;
+  })
+    where
+      by_cmp : (b x : V) (r : Ordering) → R b x ≡ r
+          → ((max_by_ordering r b x ≡ x) × (is_le (R b x) ≡ true))
+          ⊎ ((max_by_ordering r b x ≡ b) × (is_lt (R x b) ≡ true))
+      by_cmp b x Less e = inl (refl, ap is_le e)
+      by_cmp b x Equal e = inl (refl, ap is_le e)
+      by_cmp b x Greater e = inr (refl, ap is_lt (back_is b x Greater e))
 
-pub min_is : (set : VersionValue → Bool) (list : List VersionValue) → IsMin set list (reduce lesser (filter set list))
-min_is = best_is _ _ lesser (record {
-  choice = λ b x. by_cmp b x (precedence b x) refl;
-  passes = λ w b x t h. lt_le precedence_total x b w t (le_of_lt (precedence b w) h);
-  weaker = λ w b x t h. lt_le precedence_total x b w t h;
-})
-  where
-    by_cmp : (b x : VersionValue) (r : Ordering) → precedence b x ≡ r
-        → ((min_by_ordering r b x ≡ x) × (is_lt (precedence x b) ≡ true))
-        ⊎ ((min_by_ordering r b x ≡ b) × (is_le (precedence b x) ≡ true))
-    by_cmp b x Less e = inr (refl, ap is_le e)
-    by_cmp b x Equal e = inr (refl, ap is_le e)
-    by_cmp b x Greater e = inl (refl, ap is_lt (back_is b x Greater e))
+  pub min_is : (set : V → Bool) (list : List V) → IsBest (λ w v. is_lt (R v w)) (λ w v. is_le (R v w)) set list (reduce (lesser R) (filter set list))
+  min_is = best_is _ _ (lesser R) (record {
+    choice = λ b x. by_cmp b x (R b x) refl;
+    passes = λ w b x t h. lt_le o x b w t (le_of_lt (R b w) h);
+    weaker = λ w b x t h. lt_le o x b w t h;
+  })
+    where
+      by_cmp : (b x : V) (r : Ordering) → R b x ≡ r
+          → ((min_by_ordering r b x ≡ x) × (is_lt (R x b) ≡ true))
+          ⊎ ((min_by_ordering r b x ≡ b) × (is_le (R b x) ≡ true))
+      by_cmp b x Less e = inr (refl, ap is_le e)
+      by_cmp b x Equal e = inr (refl, ap is_le e)
+      by_cmp b x Greater e = inl (refl, ap is_lt (back_is b x Greater e))
 
 -- what callers cite of the best: none of the set in the list beats it, and there is none where the set has no version of it
-module _ (in_front behind beaten : VersionValue → VersionValue → Bool) (front : (w v : VersionValue) → in_front w v ≡ true → beaten w v ≡ true) (back : (w v : VersionValue) → behind w v ≡ true → beaten w v ≡ true)
-    (tied : (v : VersionValue) → beaten v v ≡ true) (set : VersionValue → Bool) where
+module _ {V : Type 0} (in_front behind beaten : V → V → Bool) (front : (w v : V) → in_front w v ≡ true → beaten w v ≡ true) (back : (w v : V) → behind w v ≡ true → beaten w v ≡ true)
+    (tied : (v : V) → beaten v v ≡ true) (set : V → Bool) where
   in_set_only : (s a b : Bool) → (a ≡ true → b ≡ true) → (not s || a) ≡ true → s ≡ true → b ≡ true
   in_set_only true a b f h k = f h
   in_set_only false a b f h k = cc
 
-  all_beaten : (list : List VersionValue) (v : VersionValue) → Stands in_front behind set list v → All (λ w. set w ≡ true → beaten w v ≡ true) list
+  all_beaten : (list : List V) (v : V) → Stands in_front behind set list v → All (λ w. set w ≡ true → beaten w v ≡ true) list
   all_beaten list v h =
-      let Says : (VersionValue → VersionValue → Bool) → VersionValue → Type 0 = λ relation w. (not (set w) || relation w v) ≡ true in
-      let Beaten : VersionValue → Type 0 = λ w. set w ≡ true → beaten w v ≡ true in
+      let Says : (V → V → Bool) → V → Type 0 = λ relation w. (not (set w) || relation w v) ≡ true in
+      let Beaten : V → Type 0 = λ w. set w ≡ true → beaten w v ≡ true in
       All-same Beaten list (h.front ++ v ∷ h.back) h.divided
       (All-append Beaten h.front (v ∷ h.back)
       (All-weaker (Says in_front) Beaten (λ w q. in_set_only (set w) (in_front w v) (beaten w v) (front w v) q) h.front (AllPass-from_list_all _ h.front h.before))
       (All-cons Beaten v h.back (λ k. tied v) (All-weaker (Says behind) Beaten (λ w q. in_set_only (set w) (behind w v) (beaten w v) (back w v) q) h.back (AllPass-from_list_all _ h.back h.after))))
 
-  best_beats : (list : List VersionValue) (r : Option (Bor VersionValue)) → IsBest in_front behind set list (option_copied r) → IfSome r (λ v. All (λ w. set w ≡ true → beaten w v.now ≡ true) list)
+  best_beats : (list : List V) (r : Option (Bor V)) → IsBest in_front behind set list (option_copied r) → IfSome r (λ v. All (λ w. set w ≡ true → beaten w v.now ≡ true) list)
   best_beats list None h = tt
   best_beats list (Some v) h = all_beaten list v.now h
 
-  best_none : (list : List VersionValue) (r : Option (Bor VersionValue)) → IsBest in_front behind set list (option_copied r) → IfNone r (All (λ w. set w ≡ false) list)
+  best_none : (list : List V) (r : Option (Bor V)) → IsBest in_front behind set list (option_copied r) → IfNone r (All (λ w. set w ≡ false) list)
   best_none list None h = All-weaker (λ w. not (set w) ≡ true) (λ w. set w ≡ false) (λ w q. unset (set w) q) list (AllPass-from_list_all _ list h)
     where
       unset : (s : Bool) → not s ≡ true → s ≡ false

@@ -7,16 +7,16 @@ use Rattle.semver_core.specs.Values.Versions.{VersionValue}
 
 -- v is in the set, and has a place in the list such that each version of the set in front of it, and each behind it, has
 -- this relation to it
-pub record Stands (in_front behind : VersionValue → VersionValue → Bool) (set : VersionValue → Bool) (list : List VersionValue) (v : VersionValue) : Type 0 where
-  pub front : List VersionValue
-  pub back : List VersionValue
+pub record Stands {V : Type 0} (in_front behind : V → V → Bool) (set : V → Bool) (list : List V) (v : V) : Type 0 where
+  pub front : List V
+  pub back : List V
   pub divided : list ≡ front ++ v ∷ back
   pub inside : set v ≡ true
   pub before : list_all (λ w. not (set w) || in_front w v) front ≡ true
   pub after : list_all (λ w. not (set w) || behind w v) back ≡ true
 
 -- the version that stands so, and None exactly where no version of the list is in the set
-abbrev pub IsBest : (in_front behind : VersionValue → VersionValue → Bool) → (VersionValue → Bool) → List VersionValue → Option VersionValue → Type 0
+abbrev pub IsBest : {V : Type 0} → (in_front behind : V → V → Bool) → (V → Bool) → List V → Option V → Type 0
 IsBest in_front behind set list None = list_all (λ w. not (set w)) list ≡ true
 IsBest in_front behind set list (Some v) = Stands in_front behind set list v
 

@@ -1,0 +1,18 @@
+use Rattle.std.proofs.Common.{◌≡◌, Bool, false, rules, tests, sym, subst}
+use Rattle.std.proofs.lemmas.Iterator.{YieldsList-from_slice}
+use Rattle.std.proofs.lemmas.Iterator.Consumers.{YieldsList-from_filter, reduce_by_from_yields_List}
+use Rattle.std.specs.List.{filter, reduce}
+use Rattle.std.specs.Option.{option_copied}
+use Rattle.std.specs.Ordering.{is_le, is_lt}
+use Rattle.nodejs_semver.specs.Internal.GateOf.{accepts}
+use Rattle.nodejs_semver.specs.Ranges.Best.{IsBest}
+use Rattle.nodejs_semver.proofs.Choice.BestOf.{greater, greater_now, max_is}
+use Rattle.nodejs_semver.proofs.range.best.greatest.Goals as goal
+
+pub returns-clause-best : goal.returns-clause-best
+returns-clause-best g c =
+    let set : _ → Bool = λ v. accepts g.V.Ord.cmp g.V.Versioned.value c.args.intervals.now v false in
+    let found : option_copied c.max.result ≡ reduce (greater g.V.Ord.cmp) (filter set c.args.versions.now) =
+    reduce_by_from_yields_List _ (greater g.V.Ord.cmp) _ _ (greater_now g.V.Ord.cmp) c.max.ensures.ran
+    (YieldsList-from_filter _ set (YieldsList-from_slice c.args.versions.now cc) c.filter.ensures.closure (λ x r q k. search (rules, tests))) in
+    subst (IsBest _ _ set c.args.versions.now) (sym found) (max_is g.met.V.Ord.total set c.args.versions.now)
