@@ -3,12 +3,14 @@
 ghost use Rattle.std.specs.Prelude.{◌≡◌, ◌↔◌, ◌<◌, [], IfOk, IsTrue, OnOk, length, true};
 ghost use Rattle.nodejs_semver.specs.Internal.Denotes.{denotes};
 ghost use Rattle.nodejs_semver.specs.Ranges.Gate.{accepts};
+ghost use Rattle.nodejs_semver.specs.Ranges.View.{IsRange};
 ghost use Rattle.nodejs_semver.specs.Text.Meaning.{Means};
 ghost use Rattle.nodejs_semver.specs.Text.WrittenSet.{Writes};
 ghost use Rattle.semver_core.specs.Failures.{RefusedOnlyIf};
 ghost use Rattle.semver_core.specs.Values.Versions.{VersionValue};
 
 use crate::range::Intervals;
+use crate::range::owned::owned_intervals;
 use crate::readers::{read_any, read_common};
 use crate::{Range, RangeRef};
 use semver_core::{Failure, MAX_SAFE_INTEGER, SemverError, VersionRef};
@@ -43,7 +45,10 @@ impl Range {
         ensures set { IfOk result (λ range. (v : VersionValue) →
             IsTrue (accepts range v true) ↔ Writes MAX_SAFE_INTEGER text.now v) }
     {
-        Ok(RangeRef::parse(alloc, text)?.to_range(alloc)?)
+        let mut borrowed = SmallVec::new(alloc);
+        read_some(text, &mut borrowed)?;
+        let intervals = owned_intervals(alloc, &borrowed)?;
+        Ok(Range { intervals })
     }
 }
 
@@ -61,12 +66,29 @@ impl<'a> RangeRef<'a> {
             IsTrue (accepts range v true) ↔ Writes MAX_SAFE_INTEGER text.now v) }
     {
         let mut intervals = SmallVec::new(alloc);
-        read(text, &mut intervals)?;
-        if intervals.is_empty() {
-            return Err(Failure::Refused(SemverError));
-        }
+        read_some(text, &mut intervals)?;
         Ok(RangeRef { intervals })
     }
+}
+
+// Reads the intervals of a text, one or more, into an empty list.
+#[inline(always)]
+fn read_some<'a>(
+    text: &'a str,
+    found: &mut Intervals<VersionRef<'a>>,
+) -> Result<(), Failure<SemverError>>
+    requires { found.old.items ≡ [] }
+    ensures range { OnOk result (IsRange MAX_SAFE_INTEGER found.new.items) }
+    ensures ok { OnOk result (Means MAX_SAFE_INTEGER text.now found.new.items) }
+    ensures refused { RefusedOnlyIf result (Means MAX_SAFE_INTEGER text.now []) }
+    ensures set { OnOk result ((v : VersionValue) →
+        IsTrue (accepts found.new.items v true) ↔ Writes MAX_SAFE_INTEGER text.now v) }
+{
+    read(text, found)?;
+    if found.is_empty() {
+        return Err(Failure::Refused(SemverError));
+    }
+    Ok(())
 }
 
 // Reads the intervals of a text into an empty list. Most texts are common ones.

@@ -5,10 +5,10 @@ use Rattle.nodejs_semver.specs.Internal.Denotes.{denotes}
 use Rattle.nodejs_semver.proofs.Everyday.Whole.{denoted_range}
 use Rattle.nodejs_semver.proofs.Dividing.MeaningLaw.{meant}
 use Rattle.nodejs_semver.proofs.Dividing.WrittenLaw.{accepted_written}
-use Rattle.nodejs_semver.proofs.range.RangeRef.parse.Goals as goal
+use Rattle.nodejs_semver.proofs.range.parse.read_some.Goals as goal
 
-pub invariant_of-result : goal.invariant_of-result
-invariant_of-result c =
+pub returns-clause-range : goal.returns-clause-range
+returns-clause-range c =
     let some : 0 < length c.read.new.found.items = grind arith in
     denoted_range MAX_SAFE_INTEGER c.args.text.now c.read.new.found.items c.in_ok-read.ensures some
 
