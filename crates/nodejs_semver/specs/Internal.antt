@@ -1,4 +1,4 @@
-pub mod GateOf
+pub mod AnyVersions
 pub mod Parts
 pub mod RunsFrom
 pub mod Fronts

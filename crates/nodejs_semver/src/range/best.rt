@@ -1,7 +1,7 @@
 // The best of a slice of versions.
 
 ghost use Rattle.nodejs_semver.specs.Ranges.Gate.{accepts};
-ghost use Rattle.nodejs_semver.specs.Internal.GateOf as of;
+ghost use Rattle.nodejs_semver.specs.Internal.AnyVersions as of;
 ghost use Rattle.nodejs_semver.specs.Ranges.Best.{IsBest, IsMax, IsMin};
 ghost use Rattle.semver_core.specs.Values.Order.{precedence};
 ghost use Rattle.std.specs.Option.{option_copied};

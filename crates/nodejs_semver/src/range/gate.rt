@@ -5,7 +5,7 @@ ghost use Rattle.semver_core.specs.Cuts.{holds};
 ghost use Rattle.nodejs_semver.specs.Ranges.Algebra.{list_holds};
 ghost use Rattle.semver_core.specs.Values.Order.{precedence};
 ghost use Rattle.semver_core.specs.declared.TheConstants.{MAX_SAFE_INTEGER};
-ghost use Rattle.nodejs_semver.specs.Internal.GateOf as of;
+ghost use Rattle.nodejs_semver.specs.Internal.AnyVersions as of;
 ghost use Rattle.nodejs_semver.specs.Ranges.Gate.{accepts};
 ghost use Rattle.nodejs_semver.specs.Ranges.View.{IsRange};
 

@@ -1,6 +1,6 @@
 // Versions that lie above or below a range.
 
-ghost use Rattle.nodejs_semver.specs.Internal.GateOf as of;
+ghost use Rattle.nodejs_semver.specs.Internal.AnyVersions as of;
 ghost use Rattle.nodejs_semver.specs.Ranges.Outside as spec;
 ghost use Rattle.std.specs.List.{list_all};
 ghost use Rattle.std.specs.Prelude.{Ok, ◌≡◌};

@@ -3,30 +3,34 @@
 ghost use Rattle.std.specs.Fmt.{DisplaysStyledOnOk};
 ghost use Rattle.std.specs.Prelude.{◌≡◌, ◌++◌, Some};
 ghost use Rattle.semver_core.specs.Printing.Text.{version_text};
-ghost use Rattle.nodejs_semver.specs.Printing.Text.{lower_text, upper_text, span_text, range_text};
+ghost use Rattle.nodejs_semver.specs.Internal.AnyVersions as of;
+ghost use Rattle.nodejs_semver.specs.Printing.Text.{lower_text, upper_text, range_text};
 
-use crate::Range;
-use semver_core::Version;
+use crate::{Range, RangeRef};
+use semver_core::Versioned;
 use semver_core::cuts::{Bound, Interval};
 use std::fmt;
 
 // A sign and a version.
-fn write_signed<W: fmt::Write>(
+fn write_signed<V: Versioned, W: fmt::Write>(
     sign: &str,
-    version: &Version,
+    version: &V,
     f: &mut fmt::Formatter<W>,
 ) -> fmt::Result
     ensures { DisplaysStyledOnOk W.write_str_gives f.old result
-        (Some (sign.now ++ version_text version.now)) f.new }
+        (Some (sign.now ++ version_text (V.value version.now))) f.new }
 {
     f.write_str(sign)?;
-    fmt::Display::fmt(version, f)
+    version.print(f)
 }
 
 // A lower bound: `>=v` or `>v`, and nothing where there is none.
-fn write_lower<W: fmt::Write>(bound: &Bound<Version>, f: &mut fmt::Formatter<W>) -> fmt::Result
+fn write_lower<V: Versioned, W: fmt::Write>(
+    bound: &Bound<V>,
+    f: &mut fmt::Formatter<W>,
+) -> fmt::Result
     ensures { DisplaysStyledOnOk W.write_str_gives f.old result
-        (Some (lower_text bound.now)) f.new }
+        (Some (lower_text (of.bound V.value bound.now))) f.new }
 {
     match bound {
         Bound::Unbounded => Ok(()),
@@ -36,9 +40,12 @@ fn write_lower<W: fmt::Write>(bound: &Bound<Version>, f: &mut fmt::Formatter<W>)
 }
 
 // An upper bound: `<v` or `<=v`, and nothing where there is none.
-fn write_upper<W: fmt::Write>(bound: &Bound<Version>, f: &mut fmt::Formatter<W>) -> fmt::Result
+fn write_upper<V: Versioned, W: fmt::Write>(
+    bound: &Bound<V>,
+    f: &mut fmt::Formatter<W>,
+) -> fmt::Result
     ensures { DisplaysStyledOnOk W.write_str_gives f.old result
-        (Some (upper_text bound.now)) f.new }
+        (Some (upper_text (of.bound V.value bound.now))) f.new }
 {
     match bound {
         Bound::Unbounded => Ok(()),
@@ -48,25 +55,42 @@ fn write_upper<W: fmt::Write>(bound: &Bound<Version>, f: &mut fmt::Formatter<W>)
 }
 
 // An interval: its bounds, or one version where they are `>=v` and `<=w` and v equals w.
-fn write_interval<W: fmt::Write>(
-    interval: &Interval<Version>,
+fn write_interval<V: Versioned, W: fmt::Write>(
+    interval: &Interval<V>,
     f: &mut fmt::Formatter<W>,
 ) -> fmt::Result
     ensures { DisplaysStyledOnOk W.write_str_gives f.old result
-        (Some (span_text interval.now)) f.new }
+        (Some (of.span_text V.value interval.now)) f.new }
 {
     let (lower, upper) = (interval.lower(), interval.upper());
     match (lower, upper) {
         (Bound::Unbounded, Bound::Unbounded) => f.write_str("*"),
         (Bound::Unbounded, _) => write_upper(upper, f),
         (_, Bound::Unbounded) => write_lower(lower, f),
-        (Bound::Before(v), Bound::After(w)) if v == w => fmt::Display::fmt(v, f),
+        (Bound::Before(v), Bound::After(w)) if v.cmp(w).is_eq() => v.print(f),
         (_, _) => {
             write_lower(lower, f)?;
             f.write_str(" ")?;
             write_upper(upper, f)
         }
     }
+}
+
+// Intervals joined by `||`.
+fn write_intervals<V: Versioned, W: fmt::Write>(
+    intervals: &[Interval<V>],
+    f: &mut fmt::Formatter<W>,
+) -> fmt::Result
+    ensures { DisplaysStyledOnOk W.write_str_gives f.old result
+        (Some (of.range_text V.value intervals.now)) f.new }
+{
+    let mut separator = "";
+    for interval in intervals {
+        f.write_str(separator)?;
+        write_interval(interval, f)?;
+        separator = "||";
+    }
+    Ok(())
 }
 
 /// A range prints its intervals joined by `||`, as in `>=1.2.0 <2.0.0-0||>=3.0.0-rc`. An interval
@@ -85,13 +109,20 @@ impl fmt::Display for Range {
 
     ghost styled_output = { λ r _. Some (range_text r) };
 
+    #[tactic(auto, using(crate::proofs::Printing::Steps::printed_same))]
     fn fmt<W: fmt::Write>(&self, f: &mut fmt::Formatter<W>) -> fmt::Result {
-        let mut separator = "";
-        for interval in self.intervals() {
-            f.write_str(separator)?;
-            write_interval(interval, f)?;
-            separator = "||";
-        }
-        Ok(())
+        write_intervals(self.intervals(), f)
+    }
+}
+
+/// Prints as the `Range` of the same intervals.
+impl<'a> fmt::Display for RangeRef<'a> {
+    ghost output = { λ r. Some (range_text r) };
+
+    ghost styled_output = { λ r _. Some (range_text r) };
+
+    #[tactic(auto, using(crate::proofs::Printing::Steps::printed_same))]
+    fn fmt<W: fmt::Write>(&self, f: &mut fmt::Formatter<W>) -> fmt::Result {
+        write_intervals(self.intervals(), f)
     }
 }

@@ -1,11 +1,14 @@
 // What a version that owns its identifiers and one that borrows its text have in common.
 
-ghost use Rattle.std.specs.Prelude.{◌≡◌, refl};
+ghost use Rattle.std.specs.Fmt.{DisplaysStyledOnOk};
+ghost use Rattle.std.specs.Prelude.{◌≡◌, Some, refl};
+ghost use Rattle.semver_core.specs.Printing.Text.{version_text};
 ghost use Rattle.semver_core.specs.Values.Order.{precedence};
 ghost use Rattle.semver_core.specs.Values.Versions.{VersionValue, is_release};
 
 use crate::cuts::Point;
 use crate::{Version, VersionRef};
+use std::fmt;
 
 /// A version, whether it owns its identifiers or borrows its text.
 pub trait Versioned: Point {
@@ -27,6 +30,11 @@ pub trait Versioned: Point {
     /// Whether the version has no pre-release.
     fn is_release(&self) -> bool
         ensures { result ≡ is_release (value self.now) };
+
+    /// Prints the version, as its `Display` does.
+    fn print<W: fmt::Write>(&self, f: &mut fmt::Formatter<W>) -> fmt::Result
+        ensures { DisplaysStyledOnOk W.write_str_gives f.old result
+            (Some (version_text (value self.now))) f.new };
 
     /// The order is the precedence of versions.
     ghost ordered: { (v w : Self) → Self.cmp v w ≡ precedence (value v) (value w) };
@@ -51,6 +59,10 @@ impl Versioned for Version {
 
     fn is_release(&self) -> bool {
         Version::is_release(self)
+    }
+
+    fn print<W: fmt::Write>(&self, f: &mut fmt::Formatter<W>) -> fmt::Result {
+        fmt::Display::fmt(self, f)
     }
 }
 
@@ -77,5 +89,9 @@ impl<'a> Versioned for VersionRef<'a> {
     #[inline(always)]
     fn is_release(&self) -> bool {
         VersionRef::is_release(self)
+    }
+
+    fn print<W: fmt::Write>(&self, f: &mut fmt::Formatter<W>) -> fmt::Result {
+        fmt::Display::fmt(self, f)
     }
 }

@@ -1,10 +1,12 @@
--- For private contracts: the gate over any kind of versions, by their order and their values.
-use Rattle.std.specs.Prelude.{Bool, ◌&&◌, ◌||◌, not, List}
-use Rattle.std.specs.List.{list_all, list_any}
+-- For private contracts: the questions of the statement over any kind of versions, by their order and their values.
+use Rattle.std.specs.Prelude.{ℕ, codes, Bool, ◌&&◌, ◌||◌, not, List}
+use Rattle.std.specs.List.{join_by, list_all, list_any}
 use Rattle.std.specs.declared.cmp.Ordering.{Ordering}
 use Rattle.semver_core.specs.Cuts.{Span, holds, is_past, lower_cut, upper_cut}
 use Rattle.semver_core.specs.Values.Versions.{VersionValue, is_release}
 use Rattle.semver_core.specs.declared.cuts.bound.Bound.{Bound}
+use Rattle.semver_core.specs.declared.cuts.bound.Bound.TheVariants.{Unbounded, Before, After}
+use Rattle.nodejs_semver.specs.Printing.Text.{bounds_text}
 use Rattle.nodejs_semver.specs.Ranges.Gate.{passes, same_triple}
 use Rattle.nodejs_semver.specs.Ranges.Outside.{facing, is_bounded}
 use Rattle.nodejs_semver.specs.declared.range.outside.OutsideDirection.{OutsideDirection}
@@ -30,3 +32,15 @@ lies_above R s v = (not (is_bounded s.lower) && not (is_bounded s.upper))
 
 abbrev pub is_outside : {V : Type 0} → (V → V → Ordering) → (V → VersionValue) → OutsideDirection → Bool → List (Span V) → V → Bool
 is_outside R value d include ss v = not (accepts R value ss v include) && list_all (λ s. facing d (lies_below R s v) (lies_above R s v)) ss
+
+-- the bound of the values
+abbrev pub bound : {V : Type 0} → (V → VersionValue) → Bound V → Bound VersionValue
+bound value Unbounded = Unbounded
+bound value (Before v) = Before (value v)
+bound value (After v) = After (value v)
+
+abbrev pub span_text : {V : Type 0} → (V → VersionValue) → Span V → List ℕ
+span_text value s = bounds_text (bound value s.lower) (bound value s.upper)
+
+abbrev pub range_text : {V : Type 0} → (V → VersionValue) → List (Span V) → List ℕ
+range_text value ss = join_by (span_text value) (codes "||") ss
