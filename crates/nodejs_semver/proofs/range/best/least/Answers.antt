@@ -3,7 +3,6 @@ use Rattle.std.proofs.lemmas.Iterator.{YieldsList-from_slice}
 use Rattle.std.proofs.lemmas.Iterator.Consumers.{YieldsList-from_filter, reduce_by_from_yields_List}
 use Rattle.std.specs.List.{filter, reduce}
 use Rattle.std.specs.Option.{option_copied}
-use Rattle.std.specs.Ordering.{is_le, is_lt}
 use Rattle.nodejs_semver.specs.Internal.AnyVersions.{accepts}
 use Rattle.nodejs_semver.specs.Ranges.Best.{IsBest}
 use Rattle.nodejs_semver.proofs.Choice.BestOf.{lesser, lesser_now, min_is}
