@@ -2,9 +2,9 @@
 //! of them reports an allocation failure.
 //!
 //! No contract can say that an allocation was really refused, so that a body which reports a
-//! failure in vain is proved. This program is what rejects it: versions of up to 1,000 identifiers,
-//! ranges of up to 1,000 intervals, texts of up to 2,000,000 bytes, the least and the greatest
-//! numbers. For each group it prints how many calls it made.
+//! failure without one is proved. This program is what rejects it: versions of up to 1,000
+//! identifiers, ranges of up to 1,000 intervals, texts of up to 2,000,000 bytes, the least and the
+//! greatest numbers. For each group it prints how many calls it made.
 #![tactic(auto)]
 
 mod ample;

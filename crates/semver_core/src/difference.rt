@@ -137,7 +137,7 @@ impl Version {
 }
 
 impl<'a> VersionRef<'a> {
-    /// The kind of difference between this version and another, as `Version::diff` gives it.
+    /// The kind of difference between this version and another, as `Version::diff` returns it.
     #[tactic(auto, using(crate::proofs::Increments::Differences::difference_symmetric))]
     pub fn diff(&self, other: &VersionRef<'_>) -> Option<VersionDiff>
         ensures value { result ≡ kind_between self.now other.now }

@@ -26,8 +26,8 @@ pub struct Findings {
     pub least: Option<Version>,
 }
 
-/// The headline, for all texts a and b and every version: `Range::parse` accepts exactly the texts
-/// to which the word grammar gives a range. With pre-releases included a's range accepts exactly
+/// The headline, for all texts a and b and every version: `Range::parse` accepts exactly the valid
+/// range texts, those with a meaning. With pre-releases included a's range accepts exactly
 /// what a writes, `intersect` exactly what both texts write, and `difference` exactly what a writes
 /// and b does not; no range stands for the empty set. `min_version` is the smallest version that
 /// `satisfies` accepts, and `None` exactly if there is none.

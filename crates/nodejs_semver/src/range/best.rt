@@ -106,7 +106,7 @@ fn greatest<'v, V: Versioned>(intervals: &[Interval<V>], versions: &'v [V]) -> O
         .max()
 }
 
-// The first of the least of the versions that the intervals accept.
+// The smallest of the versions that the intervals accept; on a tie, the first.
 fn least<'v, V: Versioned>(intervals: &[Interval<V>], versions: &'v [V]) -> Option<&'v V>
     ensures best { IsBest (λ w v. is_lt (V.cmp v w)) (λ w v. is_le (V.cmp v w))
         (λ v. of.accepts V.cmp V.value intervals.now v false) versions.now (option_copied result) }

@@ -34,7 +34,7 @@ impl Range {
     ///
     /// A result that comes from a lower bound has that bound's build: from `>=v` it is v itself,
     /// from `>v` the next patch where v is a release, and else v with one more identifier, the
-    /// number 0. So `>1.2.3+b` gives 1.2.4+b. A result that an upper bound alone lets in, as
+    /// number 0. So of `>1.2.3+b` it is 1.2.4+b. A result that an upper bound alone lets in, as
     /// 1.0.1-0 for `>1.0.0 <1.0.1-5`, or one of an interval without a lower bound, has no build. Of
     /// equal results it is the one of the first interval.
     ///

@@ -326,7 +326,7 @@ pub fn range_fast(alloc: Global, text: &str) -> Result<Option<Range>, AllocError
         IsCommonRange MAX_SAFE_INTEGER text.now range)) }
     ensures denoted { IfOk result (λ found. IfSome found (λ range.
         Means MAX_SAFE_INTEGER text.now range)) }
-    // Nothing is read only where the text is no common one.
+    // Nothing is read only where the text is not a common one.
     ensures none { IfOk result (λ found. IfNone found (IsUncommon MAX_SAFE_INTEGER text.now)) }
 {
     let mut found = SmallVec::new(alloc);

@@ -100,7 +100,7 @@ pub(crate) fn read_any<'a>(
 ///
 /// The text must not be blank: ask `is_blank` first. It is cut at `||`, and each part is read word
 /// by word (node-semver's range grammar). An empty part is one interval without bounds. A malformed
-/// word, and one to which the word table gives no interval, is ignored: `foo 1.2.3` is the range of
+/// word, and one without an interval in the word table, is ignored: `foo 1.2.3` is the range of
 /// `1.2.3`, and `foo` has none.
 pub fn range_loose(alloc: Global, text: &str) -> Result<Option<Range>, AllocError>
     requires some_part { IsBlankText text.now → ⊥ }

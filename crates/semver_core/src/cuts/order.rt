@@ -72,28 +72,28 @@ pub(crate) fn is_past_upper<V: Ord>(upper: &Bound<V>, point: &V) -> bool
     }
 }
 
-/// The lower bound that is further up, the second of equal ones.
+/// The lower bound that is further up; on a tie, the second.
 pub(crate) fn greater_lower<'b, V: Ord>(a: &'b Bound<V>, b: &'b Bound<V>) -> &'b Bound<V>
     ensures { result.now ≡ greater_lower V.cmp a.now b.now }
 {
     if lower_order(a, b).is_gt() { a } else { b }
 }
 
-/// The upper bound that is further down, the first of equal ones.
+/// The upper bound that is further down; on a tie, the first.
 pub(crate) fn lesser_upper<'b, V: Ord>(a: &'b Bound<V>, b: &'b Bound<V>) -> &'b Bound<V>
     ensures { result.now ≡ lesser_upper V.cmp a.now b.now }
 {
     if upper_order(a, b).is_gt() { b } else { a }
 }
 
-/// The lower bound that is further up, the second of equal ones. The other one is dropped.
+/// The lower bound that is further up; on a tie, the second. The other one is dropped.
 pub(crate) fn into_greater_lower<V: Ord + Drop>(a: Bound<V>, b: Bound<V>) -> Bound<V>
     ensures { result ≡ greater_lower V.cmp a b }
 {
     if lower_order(&a, &b).is_gt() { a } else { b }
 }
 
-/// The upper bound that is further down, the first of equal ones. The other one is dropped.
+/// The upper bound that is further down; on a tie, the first. The other one is dropped.
 pub(crate) fn into_lesser_upper<V: Ord + Drop>(a: Bound<V>, b: Bound<V>) -> Bound<V>
     ensures { result ≡ lesser_upper V.cmp a b }
 {
