@@ -40,6 +40,7 @@ pub struct Range {
     intervals: Intervals<Version>,
 }
 
+/// In clauses, a range is the list of its intervals.
 impl Model for Range {
     ghost use Rattle.std.specs.Prelude.{List};
     ghost use Rattle.semver_core.specs.Cuts.{Span};

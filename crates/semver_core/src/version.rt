@@ -40,6 +40,7 @@ pub struct Version {
     qualifier: Qualifier,
 }
 
+/// In clauses, a version is its five values.
 impl Model for Version {
     ghost use Rattle.semver_core.specs.Values.Versions.{VersionValue};
 

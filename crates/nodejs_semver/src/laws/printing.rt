@@ -14,9 +14,9 @@ use crate::{Failure, MAX_SAFE_INTEGER, Range, SemverError};
 use std::alloc::{AllocError, Global};
 
 /// Printed ranges come back: a text that is printed of one interval or more, none of which is `*`,
-/// reads as an equal range. Their versions have no number above the limit, and each identifier would
-/// parse back to itself. Builds come back too, but where an interval prints as one version, that
-/// version stands for both ends.
+/// reads as an equal range. Their versions have no number above the limit, and each identifier
+/// would parse back to itself. Builds come back too, but where an interval prints as one version,
+/// that version stands for both ends.
 pub fn printed_ranges_come_back(text: &str)
     ensures equal { (limit : ℕ) (list read : List (Span VersionValue)) → limit < 2 ^ 64
         → 0 < length list → list_all (is_printable limit) list ≡ true → text.now ≡ range_text list

@@ -28,6 +28,7 @@ pub struct Interval<V: Point> {
     upper: Bound<V>,
 }
 
+/// In clauses, an interval is its two bounds.
 impl<V: Point> Model for Interval<V> {
     ghost use Rattle.std.specs.Prelude.{◌≡◌, true};
     ghost use Rattle.semver_core.specs.Cuts.{Span, is_interval};

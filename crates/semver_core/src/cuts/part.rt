@@ -16,6 +16,7 @@ pub struct Part<'a, V: Point> {
     upper: &'a Bound<V>,
 }
 
+/// In clauses, a part is the two bounds that it borrows.
 impl<'a, V: Point> Model for Part<'a, V> {
     ghost use Rattle.std.specs.Prelude.{◌≡◌, true};
     ghost use Rattle.semver_core.specs.Cuts.{Span, is_interval};
