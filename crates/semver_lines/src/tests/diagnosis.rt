@@ -1,11 +1,29 @@
 // What is wrong with version texts, what is ignored in range texts, and how both print.
 
+ghost use Rattle.std.specs.Prelude.{◌↔◌, IsTrue};
+ghost use Rattle.nodejs_semver.specs.Diagnosis.IgnoredWords.{IsWhollyBounded};
+ghost use Rattle.nodejs_semver.specs.Diagnosis.VersionFlaws.{IsExact};
+
 use crate::tests::prints;
 use nodejs_semver::diagnosis::{
     Expected, IgnoredKind, IgnoredWord, VersionFlaw, ignored_words, version_flaw,
 };
-use nodejs_semver::{Range, Version};
+use nodejs_semver::{MAX_SAFE_INTEGER, Range, Version};
 use std::test::Fail;
+
+// Whether the whole text is one version.
+fn is_exact(text: &str) -> bool
+    ensures { IsTrue result ↔ IsExact MAX_SAFE_INTEGER text.now }
+{
+    version_flaw(text).is_none()
+}
+
+// Whether each word of a range text has bounds.
+fn is_read_whole(text: &str) -> bool
+    ensures { IsTrue result ↔ IsWhollyBounded MAX_SAFE_INTEGER text.now }
+{
+    ignored_words(text).next().is_none()
+}
 
 // Texts that are one version as a whole.
 const EXACT: &[&str] = &[
@@ -60,7 +78,7 @@ const GREAT: &[(&str, usize)] = &[
 #[test]
 fn a_text_that_is_one_version_has_no_flaw(rt: HostRuntime) {
     for &text in EXACT {
-        assert_eq!(rt; version_flaw(text), None, "{text:?}");
+        assert!(rt; is_exact(text), "{text:?}");
         assert!(rt; Version::parse(rt.alloc(), text).is_ok(), "{text:?}");
     }
 }
@@ -177,7 +195,7 @@ fn ignored_words_are_listed(rt: HostRuntime) {
 #[test]
 fn texts_that_are_read_whole_have_no_ignored_word(rt: HostRuntime) {
     for &text in WHOLE {
-        assert_eq!(rt; ignored_words(text).next(), None, "{text:?}");
+        assert!(rt; is_read_whole(text), "{text:?}");
         assert!(rt; Range::parse(rt.alloc(), text).is_ok(), "{text:?}");
     }
 }
