@@ -10,6 +10,7 @@ mod fast_versions;
 mod increment;
 mod json;
 mod laws;
+mod lent;
 mod lists;
 mod outside;
 mod print;
