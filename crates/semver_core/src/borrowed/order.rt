@@ -87,7 +87,6 @@ pub(crate) fn cmp_ids(a: IdRef<'_>, b: IdRef<'_>) -> Ordering
 }
 
 // The order of two lists, identifier by identifier.
-
 #[tactic(auto, using(crate::proofs::Text::Firsts::compared))]
 fn cmp_lists(a: &[u8], b: &[u8]) -> Ordering
     requires a { is_listed a.now ≡ true }
@@ -114,6 +113,7 @@ fn cmp_lists(a: &[u8], b: &[u8]) -> Ordering
     }
 }
 
+// The order of two pre-releases.
 #[inline(never)]
 #[tactic(auto, using(crate::proofs::Text::Firsts::pre_compared))]
 fn cmp_pre(a: &[u8], b: &[u8]) -> Ordering
