@@ -33,3 +33,15 @@ impl<E> From<AllocError> for Failure<E> {
         Failure::Memory(error)
     }
 }
+
+/// `Refused`, so that `?` passes the error of a borrowed reading on.
+impl From<SemverError> for Failure<SemverError> {
+    ghost use Rattle.semver_core.specs.declared.error.Failure.TheVariants.{Refused};
+    ghost use Rattle.std.specs.Prelude.{◌≡◌};
+
+    ghost from_gives = { λ error failure. failure ≡ Refused error };
+
+    fn from(error: SemverError) -> Failure<SemverError> {
+        Failure::Refused(error)
+    }
+}

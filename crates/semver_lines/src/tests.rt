@@ -1,4 +1,5 @@
 mod algebra;
+mod borrowed_ranges;
 mod calling;
 mod cuts;
 mod diagnosis;

@@ -43,7 +43,7 @@ impl<'a> RangeRef<'a> {
         ensures gate { result ≡ accepts self.now version.now false }
         ensures valid { IsRange MAX_SAFE_INTEGER self.now }
     {
-        accepts(self.intervals(), version, false)
+        self.satisfies_with_prerelease(version, false)
     }
 
     /// Whether the range accepts this version, as `Range::satisfies_with_prerelease` says.
