@@ -3,20 +3,34 @@
 ghost use Rattle.std.specs.Prelude.{ℕ, List};
 ghost use Rattle.semver_lines.specs.Lines.{fields};
 ghost use Rattle.semver_lines.specs.Replies.{AreVersionsOf, IsRangeOf, IsVersionOf};
-ghost use Rattle.semver_lines.specs.Internal.Results.{Appends, IsReadAs, ParsesRange};
+ghost use Rattle.semver_lines.specs.Internal.Results.{Appends, IsReadAs, ParsesOwned, ParsesRange};
 ghost use Rattle.semver_lines.specs.Internal.Results.{ParsesVersion};
 
 use crate::fault::Fault;
 use crate::fields::first;
-use nodejs_semver::{Failure, Range, SemverError, Version};
+use nodejs_semver::{Failure, RangeRef, SemverError, Version, VersionRef};
 use std::alloc::{AllocError, Global};
 
 /// The version that was parsed, where it stands.
 #[inline(always)]
-pub fn version_of(
+pub fn version_of<'p, 'a>(
+    parsed: &'p Result<VersionRef<'a>, SemverError>,
+) -> Result<&'p VersionRef<'a>, Failure<Fault>>
+    ensures { (text : List ℕ) → ParsesVersion text parsed.now
+        → IsReadAs (λ v. v.now) result (IsVersionOf text) }
+{
+    match parsed {
+        Ok(version) => Ok(version),
+        Err(SemverError) => Err(Failure::Refused(Fault::BadVersion)),
+    }
+}
+
+/// The version that was parsed with identifiers of its own, where it stands.
+#[inline(always)]
+pub fn owned_version_of(
     parsed: &Result<Version, Failure<SemverError>>,
 ) -> Result<&Version, Failure<Fault>>
-    ensures { (text : List ℕ) → ParsesVersion text parsed.now
+    ensures { (text : List ℕ) → ParsesOwned text parsed.now
         → IsReadAs (λ v. v.now) result (IsVersionOf text) }
 {
     match parsed {
@@ -28,7 +42,9 @@ pub fn version_of(
 
 /// The range that was parsed, where it stands.
 #[inline(always)]
-pub fn range_of(parsed: &Result<Range, Failure<SemverError>>) -> Result<&Range, Failure<Fault>>
+pub fn range_of<'p, 'a>(
+    parsed: &'p Result<RangeRef<'a>, Failure<SemverError>>,
+) -> Result<&'p RangeRef<'a>, Failure<Fault>>
     ensures { (text : List ℕ) → ParsesRange text parsed.now
         → IsReadAs (λ r. r.now) result (IsRangeOf text) }
 {
@@ -41,34 +57,29 @@ pub fn range_of(parsed: &Result<Range, Failure<SemverError>>) -> Result<&Range, 
 
 // Appends the version of a text.
 #[inline(always)]
-fn push_version(
-    alloc: Global,
-    text: &str,
-    versions: &mut Vec<Version>,
-) -> Result<(), Failure<Fault>>
+fn push_version<'a>(text: &'a str, versions: &mut Vec<VersionRef<'a>>) -> Result<(), Failure<Fault>>
     ensures { Appends result text.now versions.old.items versions.new.items }
 {
     // There is room before there is a version, so that it moves once.
     versions.reserve(1)?;
-    match Version::parse(alloc, text) {
+    match VersionRef::parse(text) {
         Ok(version) => versions.push_reserved(version),
-        Err(Failure::Refused(_)) => return Err(Failure::Refused(Fault::BadVersion)),
-        Err(Failure::Memory(error)) => return Err(Failure::Memory(error)),
+        Err(SemverError) => return Err(Failure::Refused(Fault::BadVersion)),
     }
     Ok(())
 }
 
 /// The versions of the fields of a text.
-pub fn versions(alloc: Global, texts: &str) -> Result<Vec<Version>, Failure<Fault>>
+pub fn versions(alloc: Global, texts: &str) -> Result<Vec<VersionRef<'_>>, Failure<Fault>>
     ensures { IsReadAs (λ vs. vs.items) result (AreVersionsOf (fields texts.now)) }
 {
     // A version takes five bytes at least, and a `;` parts it from the next.
     let mut versions = Vec::with_capacity(alloc, texts.len() / 6 + 1)?;
     let mut rest = texts;
     'fields: while let Some((text, behind)) = first(rest) {
-        push_version(alloc, text, &mut versions)?;
+        push_version(text, &mut versions)?;
         rest = behind;
     }
-    push_version(alloc, rest, &mut versions)?;
+    push_version(rest, &mut versions)?;
     Ok(versions)
 }

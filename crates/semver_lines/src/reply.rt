@@ -12,11 +12,12 @@ use crate::fault::Fault;
 use crate::question::{
     AboutBest, AboutMatch, AboutRange, AboutRanges, AboutVersion, AboutVersions, Question,
 };
-use crate::read::{range_of, version_of, versions};
+use crate::read::{owned_version_of, range_of, version_of, versions};
 use crate::words::{
-    difference_word, next_text, order_word, range_or_none, truth_word, version_or_none,
+    borrowed_or_none, difference_word, next_text, order_word, range_or_none, truth_word,
+    version_or_none,
 };
-use nodejs_semver::{Failure, Range, Version};
+use nodejs_semver::{Failure, RangeRef, Version, VersionRef};
 use std::alloc::{AllocError, Global};
 
 /// The reply to a question.
@@ -48,7 +49,7 @@ fn on_version<'a>(
     ensures { IsTold result (IsReply (Question.Version v.entry asked.entry)) }
 {
     let version = Version::parse(alloc, v);
-    let version = version_of(&version)?;
+    let version = owned_version_of(&version)?;
     Ok(asked.reply(alloc, version, room)?)
 }
 
@@ -62,9 +63,9 @@ fn on_versions<'a>(
 ) -> Result<&'a str, Failure<Fault>>
     ensures { IsTold result (IsReply (Question.Versions (v.entry, w.entry) asked)) }
 {
-    let version = Version::parse(alloc, v);
+    let version = VersionRef::parse(v);
     let version = version_of(&version)?;
-    let other = Version::parse(alloc, w);
+    let other = VersionRef::parse(w);
     let other = version_of(&other)?;
     Ok(asked.reply(version, other, room)?)
 }
@@ -78,24 +79,24 @@ fn on_range<'a>(
 ) -> Result<&'a str, Failure<Fault>>
     ensures { IsTold result (IsReply (Question.Range r.entry asked)) }
 {
-    let range = Range::parse(alloc, r);
+    let range = RangeRef::parse(alloc, r);
     let range = range_of(&range)?;
     Ok(asked.reply(alloc, range, room)?)
 }
 
 #[inline(never)]
-fn on_ranges<'a>(
+fn on_ranges<'a, 't>(
     alloc: Global,
-    r: &str,
-    s: &str,
+    r: &'t str,
+    s: &'t str,
     asked: AboutRanges,
     room: &'a mut String,
 ) -> Result<&'a str, Failure<Fault>>
     ensures { IsTold result (IsReply (Question.Ranges (r.entry, s.entry) asked)) }
 {
-    let range = Range::parse(alloc, r);
+    let range = RangeRef::parse(alloc, r);
     let range = range_of(&range)?;
-    let other = Range::parse(alloc, s);
+    let other = RangeRef::parse(alloc, s);
     let other = range_of(&other)?;
     Ok(asked.reply(alloc, range, other, room)?)
 }
@@ -109,24 +110,24 @@ fn on_match(
 ) -> Result<&'static str, Failure<Fault>>
     ensures { IsTold result (IsReply (Question.Match (r.entry, v.entry) asked)) }
 {
-    let range = Range::parse(alloc, r);
+    let range = RangeRef::parse(alloc, r);
     let range = range_of(&range)?;
-    let version = Version::parse(alloc, v);
+    let version = VersionRef::parse(v);
     let version = version_of(&version)?;
     Ok(truth_word(asked.reply(range, version)))
 }
 
 #[inline(never)]
-fn on_best<'a>(
+fn on_best<'a, 't>(
     alloc: Global,
-    r: &str,
-    vs: &str,
+    r: &'t str,
+    vs: &'t str,
     asked: AboutBest,
     room: &'a mut String,
 ) -> Result<&'a str, Failure<Fault>>
     ensures { IsTold result (IsReply (Question.Best (r.entry, vs.entry) asked)) }
 {
-    let range = Range::parse(alloc, r);
+    let range = RangeRef::parse(alloc, r);
     let range = range_of(&range)?;
     let versions = versions(alloc, vs)?;
     Ok(asked.reply(range, &versions, room)?)
@@ -157,8 +158,8 @@ impl AboutVersions {
     #[inline(always)]
     fn reply<'a>(
         self,
-        v: &Version,
-        w: &Version,
+        v: &VersionRef<'_>,
+        w: &VersionRef<'_>,
         room: &'a mut String,
     ) -> Result<&'a str, AllocError>
         ensures { IfOk result (λ text. text.now ≡ versions_reply self v.now w.now) }
@@ -175,7 +176,7 @@ impl AboutRange {
     fn reply<'a>(
         self,
         alloc: Global,
-        r: &Range,
+        r: &RangeRef<'_>,
         room: &'a mut String,
     ) -> Result<&'a str, AllocError>
         ensures { IfOk result (λ text. RangeReply self r.now text.now) }
@@ -189,11 +190,11 @@ impl AboutRange {
 
 impl AboutRanges {
     #[inline(always)]
-    fn reply<'a>(
+    fn reply<'a, 't>(
         self,
         alloc: Global,
-        r: &Range,
-        s: &Range,
+        r: &RangeRef<'t>,
+        s: &RangeRef<'t>,
         room: &'a mut String,
     ) -> Result<&'a str, AllocError>
         ensures { IfOk result (λ text. RangesReply self r.now s.now text.now) }
@@ -208,7 +209,7 @@ impl AboutRanges {
 
 impl AboutMatch {
     #[inline(always)]
-    fn reply(self, r: &Range, v: &Version) -> bool
+    fn reply(self, r: &RangeRef<'_>, v: &VersionRef<'_>) -> bool
         ensures { result ≡ match_reply self r.now v.now }
     {
         match self {
@@ -224,17 +225,17 @@ impl AboutMatch {
 
 impl AboutBest {
     #[inline(always)]
-    fn reply<'a>(
+    fn reply<'a, 't>(
         self,
-        r: &Range,
-        vs: &[Version],
+        r: &RangeRef<'t>,
+        vs: &[VersionRef<'t>],
         room: &'a mut String,
     ) -> Result<&'a str, AllocError>
         ensures { IfOk result (λ text. BestReply self r.now vs.now text.now) }
     {
         match self {
-            AboutBest::Max => version_or_none(r.max_satisfying(vs), room),
-            AboutBest::Min => version_or_none(r.min_satisfying(vs), room),
+            AboutBest::Max => borrowed_or_none(r.max_satisfying(vs), room),
+            AboutBest::Min => borrowed_or_none(r.min_satisfying(vs), room),
         }
     }
 }

@@ -11,7 +11,7 @@ ghost use Rattle.nodejs_semver.specs.Printing.Text.{range_text};
 ghost use Rattle.semver_lines.specs.Names.{increment_fault_word, next_text, or_none, order_word};
 ghost use Rattle.semver_lines.specs.Names.{truth_word};
 
-use nodejs_semver::{Failure, IncrementError, Range, Version, VersionDiff};
+use nodejs_semver::{Failure, IncrementError, RangeRef, Version, VersionDiff, VersionRef};
 use std::alloc::AllocError;
 use std::cmp::Ordering;
 use std::fmt::Display;
@@ -74,9 +74,26 @@ pub fn version_or_none<'a>(
     }
 }
 
+/// A borrowed version, printed, or `none`.
+#[inline(always)]
+pub fn borrowed_or_none<'a>(
+    version: Option<&VersionRef<'_>>,
+    room: &'a mut String,
+) -> Result<&'a str, AllocError>
+    ensures { IfOk result (λ text. text.now ≡ or_none version_text (option_copied version.entry)) }
+{
+    match version {
+        Some(version) => printed(version, room),
+        None => Ok("none"),
+    }
+}
+
 /// A range, printed, or `none`.
 #[inline(always)]
-pub fn range_or_none<'a>(range: Option<&Range>, room: &'a mut String) -> Result<&'a str, AllocError>
+pub fn range_or_none<'a>(
+    range: Option<&RangeRef<'_>>,
+    room: &'a mut String,
+) -> Result<&'a str, AllocError>
     ensures { IfOk result (λ text. text.now ≡ or_none range_text (option_copied range.entry)) }
 {
     match range {

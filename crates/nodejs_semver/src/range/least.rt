@@ -19,11 +19,11 @@ ghost use Rattle.semver_core.specs.declared.cuts.bound.Bound.TheVariants.{After}
 ghost use Rattle.std.specs.Prelude.{All, IfOk, IfSome, OnOk, Some, [], false, find, fold};
 ghost use Rattle.std.specs.Prelude.{◌&&◌, ◌-◌, ◌<◌, ◌≡◌, ◌^◌, ◌∷◌};
 
-use crate::Range;
 use crate::range::gate::{accepts, accepts_one};
 use crate::range::neighbours::{
     bare, bare_release, first_pre, is_first_pre, patch_after, pre_after, with_build,
 };
+use crate::{Range, RangeRef};
 use semver_core::Version;
 use semver_core::cuts::{Bound, Interval};
 use std::alloc::{AllocError, Global};
@@ -74,6 +74,33 @@ impl Range {
         ensures build { IfOk result (λ r. IfSome r (λ v. v.build ≡ [])) }
     {
         least_among(alloc, self.intervals(), &[], other.intervals())
+    }
+}
+
+impl<'a> RangeRef<'a> {
+    /// The smallest version that the range accepts, as `Range::min_version` says. Fails only if
+    /// allocation fails.
+    pub fn min_version(&self, alloc: Global) -> Result<Option<Version>, AllocError>
+        ensures least { IfOk result (λ r. stated.IsLeastOf (λ v. accepts self.now v false) r) }
+        ensures build { IfOk result (λ r. IfSome r (λ v. v.build ≡ stated.least_build self.now v)) }
+    {
+        let range = self.to_range(alloc)?;
+        range.min_version(alloc)
+    }
+
+    /// The smallest version that this range accepts and the other does not, as
+    /// `Range::least_beyond` says. Fails only if allocation fails.
+    pub fn least_beyond(
+        &self,
+        alloc: Global,
+        other: &RangeRef<'_>,
+    ) -> Result<Option<Version>, AllocError>
+        ensures least { IfOk result (λ r. stated.IsLeastOf (stated.beyond self.now other.now) r) }
+        ensures build { IfOk result (λ r. IfSome r (λ v. v.build ≡ [])) }
+    {
+        let range = self.to_range(alloc)?;
+        let removed = other.to_range(alloc)?;
+        range.least_beyond(alloc, &removed)
     }
 }
 

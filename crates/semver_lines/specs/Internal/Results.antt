@@ -1,5 +1,5 @@
 -- For proofs. What the results of reading a question's texts, and of replying to it, say.
-use Rattle.std.specs.Prelude.{◌≡◌, ◌<◌, ◌++◌, ◌∷◌, ℕ, List, [], length, Result, Ok, Err, IfOk, ⊤}
+use Rattle.std.specs.Prelude.{◌≡◌, ◌<◌, ◌++◌, ◌∷◌, ℕ, List, [], length, Result, Ok, Err, IfErr, IfOk, ⊤}
 use Rattle.std.specs.Borrow.{Bor}
 use Rattle.semver_core.specs.Cuts.{Span}
 use Rattle.semver_core.specs.Failures.{RefusedOnlyIf}
@@ -15,8 +15,11 @@ use Rattle.semver_lines.specs.Replies.{IsVersionOf}
 use Rattle.semver_lines.specs.declared.fault.Fault.{Fault}
 
 -- a text was parsed as a version, or as a range
-abbrev pub ParsesVersion : List ℕ → Result VersionValue (Failure SemverError) → Type 0
-ParsesVersion text result = IfOk result (Parses MAX_SAFE_INTEGER text) × RefusedOnlyIf result (IsRefused MAX_SAFE_INTEGER text)
+abbrev pub ParsesVersion : List ℕ → Result VersionValue SemverError → Type 0
+ParsesVersion text result = IfOk result (Parses MAX_SAFE_INTEGER text) × IfErr result (λ _. IsRefused MAX_SAFE_INTEGER text)
+
+abbrev pub ParsesOwned : List ℕ → Result VersionValue (Failure SemverError) → Type 0
+ParsesOwned text result = IfOk result (Parses MAX_SAFE_INTEGER text) × RefusedOnlyIf result (IsRefused MAX_SAFE_INTEGER text)
 
 abbrev pub ParsesRange : List ℕ → Result (List (Span VersionValue)) (Failure SemverError) → Type 0
 ParsesRange text result =
