@@ -2,7 +2,7 @@
 
 use crate::show::{Outcome, found, no_values, read, show, show_debug};
 use nodejs_semver::readers::{version_fast, version_loose};
-use nodejs_semver::{Failure, Identifier, IncrementError, Version, VersionParts};
+use nodejs_semver::{Failure, Identifier, IncrementError, Version, VersionParts, VersionRef};
 use semver_core::scan;
 use std::alloc::Global;
 use std::io;
@@ -25,6 +25,7 @@ pub fn show_all(rt: &impl Print, alloc: Global) -> io::Result<()> {
             &text,
         )?;
         show(rt, "version_fast", found(version_fast(alloc, text)), &text)?;
+        borrowed(rt, alloc, text)?;
     }
     show(
         rt,
@@ -51,6 +52,36 @@ pub fn show_all(rt: &impl Print, alloc: Global) -> io::Result<()> {
         }
     }
     errors(rt, alloc)
+}
+
+// The calls on a version that borrows its text: `to_version` alone may allocate.
+#[tactic(auto, unfolding(semver_core::specs::Text::Identifiers::is_listed))]
+fn borrowed(rt: &impl Print, alloc: Global, text: &str) -> io::Result<()> {
+    let call = "VersionRef::parse";
+    let Ok(version) = VersionRef::parse(text) else {
+        return show::<&str, &str>(rt, call, Outcome::Nothing, &text);
+    };
+    show(rt, call, Outcome::Value(version.copy()), &text)?;
+    let identifiers = version.pre_release().len();
+    show(
+        rt,
+        "VersionRef::pre_release",
+        Outcome::Value(identifiers),
+        &version,
+    )?;
+    let release = VersionRef::from_texts(1, 2, 3, b"", b"");
+    show_debug(
+        rt,
+        "VersionRef::diff",
+        Outcome::Value(version.diff(&release)),
+        &version,
+    )?;
+    show(
+        rt,
+        "VersionRef::to_version",
+        Outcome::from(version.to_version(alloc)),
+        &version,
+    )
 }
 
 #[tactic(auto, unfolding(semver_core::specs::Text::Identifiers::is_listed))]
