@@ -7,7 +7,7 @@ use Rattle.std.specs.declared.alloc.AllocError.{AllocError}
 use Rattle.semver_lines.specs.Answers.{Answers}
 use Rattle.semver_lines.specs.Internal.LineCuts.{cut_lines, cut_rest}
 use Rattle.semver_lines.specs.Lines.{last_line}
-use Rattle.semver_lines.specs.Outcome.{AnswersFront, AnswersTorn, Ran, Writes}
+use Rattle.semver_lines.specs.Outcome.{AnswersFront, Ran, Writes}
 use Rattle.semver_lines.specs.Internal.Steps.{Finished, GrowsByAnswers, GrowsByFront, Stopped, Turned, WritesFront}
 use Rattle.semver_lines.specs.declared.run.RunFault.{RunFault}
 use Rattle.semver_lines.specs.declared.run.RunFault.TheVariants.{Memory, Read, Write}

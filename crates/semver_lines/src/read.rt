@@ -3,12 +3,12 @@
 ghost use Rattle.std.specs.Prelude.{ℕ, List};
 ghost use Rattle.semver_lines.specs.Lines.{fields};
 ghost use Rattle.semver_lines.specs.Replies.{AreVersionsOf, IsRangeOf, IsVersionOf};
-ghost use Rattle.semver_lines.specs.Internal.Results.{Appends, IsReadAs, ParsesOwned, ParsesRange};
+ghost use Rattle.semver_lines.specs.Internal.Results.{Appends, IsReadAs, ParsesRange};
 ghost use Rattle.semver_lines.specs.Internal.Results.{ParsesVersion};
 
 use crate::fault::Fault;
 use crate::fields::first;
-use nodejs_semver::{Failure, RangeRef, SemverError, Version, VersionRef};
+use nodejs_semver::{Failure, RangeRef, SemverError, VersionRef};
 use std::alloc::{AllocError, Global};
 
 /// The version that was parsed, where it stands.
@@ -22,21 +22,6 @@ pub fn version_of<'p, 'a>(
     match parsed {
         Ok(version) => Ok(version),
         Err(SemverError) => Err(Failure::Refused(Fault::BadVersion)),
-    }
-}
-
-/// The version that was parsed with identifiers of its own, where it stands.
-#[inline(always)]
-pub fn owned_version_of(
-    parsed: &Result<Version, Failure<SemverError>>,
-) -> Result<&Version, Failure<Fault>>
-    ensures { (text : List ℕ) → ParsesOwned text parsed.now
-        → IsReadAs (λ v. v.now) result (IsVersionOf text) }
-{
-    match parsed {
-        Ok(version) => Ok(version),
-        Err(Failure::Refused(_)) => Err(Failure::Refused(Fault::BadVersion)),
-        Err(Failure::Memory(_)) => Err(Failure::Memory(AllocError)),
     }
 }
 

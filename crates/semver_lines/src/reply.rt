@@ -2,22 +2,25 @@
 // question reads its texts in place and is not inlined, so that a line pays for the locals of its
 // own kind alone; what is said of the values that were read stands in the method `reply`.
 
+ghost use Rattle.std.specs.Option.{option_copied};
 ghost use Rattle.std.specs.Prelude.{◌≡◌, IfOk};
+ghost use Rattle.semver_core.specs.Increments.Table.{answer_of_inc};
 ghost use Rattle.semver_lines.specs.Commands.{BestReply, IsReply, RangeReply, RangesReply};
 ghost use Rattle.semver_lines.specs.Commands.{match_reply, version_reply, versions_reply};
 ghost use Rattle.semver_lines.specs.Internal.Results.{IsTold};
+ghost use Rattle.semver_lines.specs.Names.{next_text};
 ghost use Rattle.semver_lines.specs.declared.question.Question.{Question};
 
 use crate::fault::Fault;
 use crate::question::{
     AboutBest, AboutMatch, AboutRange, AboutRanges, AboutVersion, AboutVersions, Question,
 };
-use crate::read::{owned_version_of, range_of, version_of, versions};
+use crate::read::{range_of, version_of, versions};
 use crate::words::{
     borrowed_or_none, difference_word, next_text, order_word, range_or_none, truth_word,
     version_or_none,
 };
-use nodejs_semver::{Failure, RangeRef, Version, VersionRef};
+use nodejs_semver::{Failure, IdentifierBase, RangeRef, VersionRef};
 use std::alloc::{AllocError, Global};
 
 /// The reply to a question.
@@ -48,8 +51,8 @@ fn on_version<'a>(
 ) -> Result<&'a str, Failure<Fault>>
     ensures { IsTold result (IsReply (Question.Version v.entry asked.entry)) }
 {
-    let version = Version::parse(alloc, v);
-    let version = owned_version_of(&version)?;
+    let version = VersionRef::parse(v);
+    let version = version_of(&version)?;
     Ok(asked.reply(alloc, version, room)?)
 }
 
@@ -138,20 +141,37 @@ impl AboutVersion<'_> {
     fn reply<'a>(
         self,
         alloc: Global,
-        v: &Version,
+        v: &VersionRef<'_>,
         room: &'a mut String,
     ) -> Result<&'a str, AllocError>
         ensures { IfOk result (λ text. text.now ≡ version_reply self.entry v.now) }
     {
         match self {
-            AboutVersion::Ver => version_or_none(Some(v), room),
-            AboutVersion::Inc(word) => next_text(&v.inc(alloc, word, None, None), room),
-            AboutVersion::IncWith(word, id) => next_text(&v.inc(alloc, word, Some(id), None), room),
+            AboutVersion::Ver => borrowed_or_none(Some(v), room),
+            AboutVersion::Inc(word) => next_of(alloc, v, word, None, None, room),
+            AboutVersion::IncWith(word, id) => next_of(alloc, v, word, Some(id), None, room),
             AboutVersion::IncFrom(word, id, base) => {
-                next_text(&v.inc(alloc, word, Some(id), Some(base)), room)
+                next_of(alloc, v, word, Some(id), Some(base), room)
             }
         }
     }
+}
+
+// The next version after a version, printed, or why there is none.
+#[inline(never)]
+fn next_of<'a>(
+    alloc: Global,
+    v: &VersionRef<'_>,
+    word: &str,
+    identifier: Option<&str>,
+    base: Option<IdentifierBase>,
+    room: &'a mut String,
+) -> Result<&'a str, AllocError>
+    ensures { let told = answer_of_inc v.now word.now (option_copied identifier.entry) base in
+        IfOk result (λ text. text.now ≡ next_text told) }
+{
+    let version = v.to_version(alloc)?;
+    next_text(&version.inc(alloc, word, identifier, base), room)
 }
 
 impl AboutVersions {

@@ -18,9 +18,6 @@ use Rattle.semver_lines.specs.declared.fault.Fault.{Fault}
 abbrev pub ParsesVersion : List ℕ → Result VersionValue SemverError → Type 0
 ParsesVersion text result = IfOk result (Parses MAX_SAFE_INTEGER text) × IfErr result (λ _. IsRefused MAX_SAFE_INTEGER text)
 
-abbrev pub ParsesOwned : List ℕ → Result VersionValue (Failure SemverError) → Type 0
-ParsesOwned text result = IfOk result (Parses MAX_SAFE_INTEGER text) × RefusedOnlyIf result (IsRefused MAX_SAFE_INTEGER text)
-
 abbrev pub ParsesRange : List ℕ → Result (List (Span VersionValue)) (Failure SemverError) → Type 0
 ParsesRange text result =
     IfOk result (Means MAX_SAFE_INTEGER text) × IfOk result (λ ss. 0 < length ss) × RefusedOnlyIf result (Means MAX_SAFE_INTEGER text [])
