@@ -116,6 +116,7 @@ struct Search<'a> {
 
 impl<'a> Search<'a> {
     // Whether the version is below the best so far, and one of those that are searched for.
+    #[inline(always)]
     fn improves(&self, version: &Version) -> bool
         ensures { result ≡ (spec.improves self.now.best version.now
             && spec.among self.now.kept.now self.now.also.now self.now.removed.now version.now) }
@@ -125,9 +126,9 @@ impl<'a> Search<'a> {
             Some(best) => version.cmp(best).is_lt(),
         };
         is_below
-            && satisfies_all(self.also, version)
             && accepts(self.kept, version, false)
             && !accepts(self.removed, version, false)
+            && satisfies_all(self.also, version)
     }
 
     // Whether the best so far is not above the version: nothing from the version on improves on it.
@@ -276,6 +277,7 @@ impl<'a> Search<'a> {
     }
 
     // Considers all that a list brings which accepts the versions searched for.
+    #[inline(always)]
     fn consider_list(&mut self, alloc: Global, list: &[Interval<Version>]) -> Result<(), AllocError>
         requires { All spec.IsRaisable list.now }
         ensures { let set = spec.among self.old.kept.now self.old.also.now self.old.removed.now in

@@ -119,9 +119,23 @@ fn written_pre_release(text: &[u8]) -> (&[u8], &[u8])
     }
 }
 
-// The text of the build at the front, and what stands behind it.
+// The text of the build at the front, and what stands behind it. Mostly there is none.
+#[inline(always)]
 #[tactic(auto, unfolding(crate::specs::Internal::Fronts::build_front), using(crate::proofs::Reading::IdentifierLists::listed_nil))]
 fn build_front(text: &[u8]) -> (&[u8], &[u8])
+    ensures listed { is_listed result.0.now ≡ true }
+    ensures value { pair_view result ≡ Spec.build_front text.now }
+{
+    match text {
+        [b'+', ..] => written_build(text),
+        _ => (&text[..0], text),
+    }
+}
+
+// The text of the build at the front of any text, and what stands behind it.
+#[inline(never)]
+#[tactic(auto, unfolding(crate::specs::Internal::Fronts::build_front), using(crate::proofs::Reading::IdentifierLists::listed_nil))]
+fn written_build(text: &[u8]) -> (&[u8], &[u8])
     ensures listed { is_listed result.0.now ≡ true }
     ensures value { pair_view result ≡ Spec.build_front text.now }
 {
