@@ -9,8 +9,8 @@ pub mod identifiers;
 mod order;
 mod read;
 
-use crate::{IdentifierRefs, Version};
 use crate::cuts::Point;
+use crate::{IdentifierRefs, Version};
 use std::alloc::{AllocError, Global};
 use std::marker::Model;
 

@@ -36,10 +36,7 @@ impl fmt::Display for Identifier {
 }
 
 // The identifiers, a dot before each.
-fn write_dotted<W: fmt::Write>(
-    ids: IdentifierRefs<'_>,
-    f: &mut fmt::Formatter<W>,
-) -> fmt::Result
+fn write_dotted<W: fmt::Write>(ids: IdentifierRefs<'_>, f: &mut fmt::Formatter<W>) -> fmt::Result
     ensures { DisplaysStyledOnOk W.write_str_gives f.old result
         (Some (marked_list (46 ∷ []) ids.entry)) f.new }
 {
@@ -127,7 +124,14 @@ impl fmt::Display for Version {
     fn fmt<W: fmt::Write>(&self, f: &mut fmt::Formatter<W>) -> fmt::Result {
         let pre_release = IdentifierRefs::of_items(self.pre_release());
         let build = IdentifierRefs::of_items(self.build());
-        write_values(self.major(), self.minor(), self.patch(), pre_release, build, f)
+        write_values(
+            self.major(),
+            self.minor(),
+            self.patch(),
+            pre_release,
+            build,
+            f,
+        )
     }
 }
 
@@ -138,6 +142,13 @@ impl<'a> fmt::Display for VersionRef<'a> {
     ghost styled_output = { λ v _. Some (version_text v) };
 
     fn fmt<W: fmt::Write>(&self, f: &mut fmt::Formatter<W>) -> fmt::Result {
-        write_values(self.major(), self.minor(), self.patch(), self.pre_release(), self.build(), f)
+        write_values(
+            self.major(),
+            self.minor(),
+            self.patch(),
+            self.pre_release(),
+            self.build(),
+            f,
+        )
     }
 }

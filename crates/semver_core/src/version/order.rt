@@ -92,7 +92,13 @@ impl<'a> Hash for VersionRef<'a> {
     ghost respects_eq = { version_alike };
 
     fn hash<H: Hasher>(&self, state: &mut H) {
-        hash_values(self.major(), self.minor(), self.patch(), self.pre_release(), state);
+        hash_values(
+            self.major(),
+            self.minor(),
+            self.patch(),
+            self.pre_release(),
+            state,
+        );
     }
 }
 
