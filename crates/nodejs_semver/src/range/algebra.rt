@@ -171,7 +171,7 @@ impl<'a> RangeRef<'a> {
         ensures releases { IfOk result (λ r. (v : VersionValue) → is_release v ≡ true →
             option_accepts r v false ≡ (accepts self.now v false && accepts other.now v false)) }
     {
-        self.common(alloc, other)
+        self.in_common(alloc, other)
     }
 
     /// The difference, as `Range::difference` says. Its bounds borrow the same texts: memory is
@@ -198,11 +198,11 @@ impl<'a> RangeRef<'a> {
             option_accepts r v false
             ≡ (accepts self.now v false && not (accepts other.now v false))) }
     {
-        self.remaining(alloc, other)
+        self.left_over(alloc, other)
     }
 
     // What the pairs of intervals have in common.
-    fn common(
+    fn in_common(
         &self,
         alloc: Global,
         other: &RangeRef<'a>,
@@ -214,7 +214,7 @@ impl<'a> RangeRef<'a> {
     }
 
     // What the other range leaves of this one.
-    fn remaining(
+    fn left_over(
         &self,
         alloc: Global,
         other: &RangeRef<'a>,

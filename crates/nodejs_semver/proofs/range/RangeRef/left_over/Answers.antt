@@ -3,7 +3,7 @@ use Rattle.semver_core.specs.Lists.{if_any}
 use Rattle.semver_core.specs.Values.Order.{precedence}
 use Rattle.nodejs_semver.specs.Ranges.Algebra.{minus}
 use Rattle.nodejs_semver.proofs.Algebra.Clauses.{minus-valid, range-intervals}
-use Rattle.nodejs_semver.proofs.range.RangeRef.remaining.Goals as goal
+use Rattle.nodejs_semver.proofs.range.RangeRef.left_over.Goals as goal
 
 pub differences-requires : goal.differences-requires
 differences-requires c = range-intervals c.args.self.now c.intervals.result.now c.intervals.ensures.valid c.intervals.ensures.value

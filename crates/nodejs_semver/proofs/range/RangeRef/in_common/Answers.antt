@@ -3,7 +3,7 @@ use Rattle.semver_core.specs.Lists.{if_any}
 use Rattle.semver_core.specs.Values.Order.{precedence}
 use Rattle.nodejs_semver.specs.Ranges.Algebra.{meets_of}
 use Rattle.nodejs_semver.proofs.Algebra.Clauses.{meets_of-valid}
-use Rattle.nodejs_semver.proofs.range.RangeRef.common.Goals as goal
+use Rattle.nodejs_semver.proofs.range.RangeRef.in_common.Goals as goal
 
 pub from_intervals-requires : goal.from_intervals-requires
 from_intervals-requires c =
