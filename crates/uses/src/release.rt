@@ -3,8 +3,10 @@
 ghost use Rattle.nodejs_semver.specs.Order.{precedence};
 ghost use Rattle.nodejs_semver.specs.Parsing.{Parses};
 ghost use Rattle.nodejs_semver.specs.Versions.{VersionValue};
+ghost use Rattle.semver_core.specs.Increments.Table.{answer_of_inc};
+ghost use Rattle.std.specs.Option.{option_copied};
 ghost use Rattle.std.specs.Ordering.{is_lt};
-ghost use Rattle.std.specs.Prelude.{◌≡◌, IfErr, IfOk, MatchResult, false, true};
+ghost use Rattle.std.specs.Prelude.{◌≡◌, IfErr, IfOk, MatchResult, None, Ok, false, true};
 ghost use Rattle.uses.specs.Release.{Explains};
 
 use nodejs_semver::{Failure, IncrementError, MAX_SAFE_INTEGER, Version};
@@ -38,7 +40,9 @@ pub fn next(
     identifier: Option<&str>,
 ) -> Result<Version, Refusal>
     ensures above { IfOk result (λ next. (v : VersionValue)
-        × Parses MAX_SAFE_INTEGER current.now v × (is_lt (precedence v next) ≡ true)) }
+        × Parses MAX_SAFE_INTEGER current.now v
+        × (answer_of_inc v word.now (option_copied identifier.entry) None ≡ Ok next)
+        × (is_lt (precedence v next) ≡ true)) }
     ensures refused { IfErr result
         (Explains MAX_SAFE_INTEGER current.now word.now identifier.entry) }
 {
