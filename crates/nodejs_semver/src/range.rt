@@ -64,6 +64,7 @@ pub struct RangeRef<'a> {
     intervals: Intervals<VersionRef<'a>>,
 }
 
+/// In clauses, a borrowed range is the list of its intervals, as an owned one is.
 impl<'a> Model for RangeRef<'a> {
     ghost use Rattle.std.specs.Prelude.{List};
     ghost use Rattle.semver_core.specs.Cuts.{Span};

@@ -40,6 +40,7 @@ pub struct IgnoredWords<'a> {
     left: Left<'a>,
 }
 
+/// In clauses, this is the list of the words that are still to come.
 impl<'a> Model for IgnoredWords<'a> {
     ghost use Rattle.std.specs.Prelude.{List};
     ghost use Rattle.nodejs_semver.specs.Internal.Ignored.{left_list};
@@ -125,6 +126,7 @@ fn first_ignored(left: Left<'_>) -> (Option<IgnoredWord>, Left<'_>)
     }
 }
 
+/// Each ignored word once, from the left. It takes no memory.
 impl<'a> Iterator for IgnoredWords<'a> {
     type Item = IgnoredWord;
 
