@@ -20,7 +20,8 @@ pub enum Command {
 }
 
 impl Command {
-    ghost use Rattle.std.specs.Prelude.{◌≡◌, ◌++◌, ◌∷◌, ◌+◌, length, drop, IfSome, IfNone};
+    ghost use Rattle.std.specs.Prelude.{◌≡◌, ◌≢◌, ◌++◌, ◌∷◌, ◌+◌, ℕ, List, []};
+    ghost use Rattle.std.specs.Prelude.{length, drop, IfSome, IfNone};
     ghost use Rattle.semver_lines.specs.Lines.{fields};
     ghost use Rattle.semver_lines.specs.Internal.CommandWords.{command_word, IsUnknown};
 
@@ -44,21 +45,37 @@ impl Command {
         ensures none { IfNone result (IsUnknown text.now) }
     {
         match text {
-            [b'c', b'm', b'p', b';', ..] => Some((Command::Cmp, 4)),
-            [b'v', b'e', b'r', b';', ..] => Some((Command::Ver, 4)),
-            [b'd', b'i', b'f', b'f', b';', ..] => Some((Command::Diff, 5)),
-            [b'i', b'n', b'c', b';', ..] => Some((Command::Inc, 4)),
-            [b'r', b'a', b'n', b'g', b'e', b';', ..] => Some((Command::Range, 6)),
-            [b'a', b'n', b'd', b';', ..] => Some((Command::And, 4)),
-            [b'm', b'i', b'n', b'u', b's', b';', ..] => Some((Command::Minus, 6)),
-            [b'l', b'e', b'a', b's', b't', b';', ..] => Some((Command::Least, 6)),
-            [b'b', b'e', b'y', b'o', b'n', b'd', b';', ..] => Some((Command::Beyond, 7)),
-            [b's', b'a', b't', b';', ..] => Some((Command::Sat, 4)),
-            [b'p', b'r', b'e', b';', ..] => Some((Command::Pre, 4)),
-            [b'o', b'u', b't', b';', ..] => Some((Command::Out, 4)),
-            [b'm', b'a', b'x', b';', ..] => Some((Command::Max, 4)),
-            [b'm', b'i', b'n', b';', ..] => Some((Command::Min, 4)),
+            [b'c', ..] => Command::Cmp.of_word(text, b"cmp;"),
+            [b'v', ..] => Command::Ver.of_word(text, b"ver;"),
+            [b'd', ..] => Command::Diff.of_word(text, b"diff;"),
+            [b'i', ..] => Command::Inc.of_word(text, b"inc;"),
+            [b'r', ..] => Command::Range.of_word(text, b"range;"),
+            [b'a', ..] => Command::And.of_word(text, b"and;"),
+            [b'l', ..] => Command::Least.of_word(text, b"least;"),
+            [b'b', ..] => Command::Beyond.of_word(text, b"beyond;"),
+            [b's', ..] => Command::Sat.of_word(text, b"sat;"),
+            [b'p', ..] => Command::Pre.of_word(text, b"pre;"),
+            [b'o', ..] => Command::Out.of_word(text, b"out;"),
+            [b'm', b'a', ..] => Command::Max.of_word(text, b"max;"),
+            [b'm', _, _, b'u', ..] => Command::Minus.of_word(text, b"minus;"),
+            [b'm', ..] => Command::Min.of_word(text, b"min;"),
             _ => None,
+        }
+    }
+
+    // The command, where a text begins with its word and a `;`.
+    #[inline(always)]
+    fn of_word(self, text: &[u8], word: &[u8]) -> Option<(Command, usize)>
+        requires { word.now ≡ command_word self ++ 59 ∷ [] }
+        ensures some { IfSome result (λ found.
+            text.now ≡ command_word found.0 ++ 59 ∷ drop found.1 text.now) }
+        ensures end { IfSome result (λ found. found.1 ≡ length (command_word found.0) + 1) }
+        ensures none { IfNone result ((rest : List ℕ) → text.now ≢ command_word self ++ 59 ∷ rest) }
+    {
+        if text.starts_with(word) {
+            Some((self, word.len()))
+        } else {
+            None
         }
     }
 }
