@@ -27,6 +27,7 @@ pub struct VersionRef<'a> {
     build: &'a [u8],
 }
 
+/// In clauses, a borrowed version is the five values of a `Version`.
 impl<'a> Model for VersionRef<'a> {
     ghost use Rattle.semver_core.specs.Values.Versions.{VersionValue};
 

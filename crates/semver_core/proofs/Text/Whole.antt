@@ -1,21 +1,21 @@
 -- The fast reader's answer is the common text's version.
-use Rattle.std.proofs.Common.{suc, ◌||◌, ◌≡◌, ◌==◌, ◌<◌, ◌≤◌, ◌+◌, ℕ, Bool, true, false, List, [], ◌∷◌, ◌++◌, length, drop, take, get_or, Option, Some, None, refl, sym, ap, ◌∙◌, subst, arith, inl, inr, eqb}
+use Rattle.std.proofs.Common.{◌≡◌, ◌<◌, ◌≤◌, ◌+◌, ℕ, true, false, List, [], ◌∷◌, ◌++◌, length, drop, take, get_or, Option, Some, None, refl, sym, ap, ◌∙◌, subst, arith, inl, inr, eqb}
 use Rattle.std.proofs.lemmas.Bool.{cases_Bool, eqb-true}
 use Rattle.std.proofs.lemmas.Bool.Decides.{nat_tests}
 use Rattle.std.proofs.lemmas.List.{take-append-drop, drop_all}
 use Rattle.std.proofs.Math.Seq.{drop-cons}
 use Rattle.std.specs.Char.{is_ascii_digit}
 use Rattle.std.specs.Option.{IsSomeAnd, IfSome, IfNone}
-use Rattle.semver_core.specs.Text.Characters.{begins, is_identifier_char, IsBlank}
+use Rattle.semver_core.specs.Text.Characters.{begins, IsBlank}
 use Rattle.semver_core.specs.Text.Common.{IsCommon, IsUncommon}
 use Rattle.semver_core.specs.Internal.CommonReading.{small_len, at_end, whole_at, common_of}
-use Rattle.semver_core.specs.Text.VersionText.{HasVersionWithIdentifiers, HasNoVersion, begins_pre_release, IsMark, Reads, begins_build, no_mark, small_mark, capital_mark}
+use Rattle.semver_core.specs.Text.VersionText.{HasVersionWithIdentifiers, HasNoVersion, IsMark, Reads, no_mark, small_mark, capital_mark}
 use Rattle.semver_core.specs.Text.Identifiers.{Id}
 use Rattle.semver_core.specs.Internal.Reading.{triple_at, pre_release_at, build_at, lists_at, qualified, version_at}
 use Rattle.semver_core.specs.Internal.Reading.{HasOneReading}
 use Rattle.semver_core.specs.Values.Versions.{VersionValue, HasIdentifiers}
 use Rattle.semver_core.proofs.Text.Pieces.{some_inside}
-use Rattle.semver_core.proofs.Text.Texts.{memory_read, rest_of, divided_at, bind_some, triple_complete, pre_complete, none_build, build_complete, number_begins, pick, none_pre, version_sound}
+use Rattle.semver_core.proofs.Text.Texts.{memory_read, rest_of, divided_at, bind_some, triple_complete, pre_complete, none_build, build_complete, number_begins, none_pre, version_sound}
 
 at_end_some : {A : Type 0} (rest : List ℕ) (x y : A) → at_end rest x ≡ Some y → (rest ≡ []) × (x ≡ y)
 at_end_some [] x y e = (refl, some_inside x y e)
@@ -106,7 +106,7 @@ alike limit text (Some v) (Some w) f l n one = ap Some (one limit w v l f.divisi
 something_left : {A : Type 0} (text : List ℕ) (end : ℕ) (x : A) → end < length text → at_end (drop end text) x ≡ None
 something_left text end x lt = rw (drop-cons text end 0 lt) refl
 
-pub whole_left : (text : List ℕ) (major minor patch at next end : ℕ) (pre build : List Id) → (pre, next) ≡ pre_release_at text at → (build, end) ≡ build_at text next
+whole_left : (text : List ℕ) (major minor patch at next end : ℕ) (pre build : List Id) → (pre, next) ≡ pre_release_at text at → (build, end) ≡ build_at text next
     → end < length text → whole_at text (major, minor, patch, at) ≡ None
 whole_left text major minor patch at next end pre build e f lt = rw (← e, ← f) (something_left text end _ lt)
 
@@ -136,19 +136,12 @@ release_at text major minor patch at none =
     let build : build_at text at ≡ ([], at) = none_build text at [] none refl in
     rw (pre, build, none) refl
 
-pub common_is : (limit : ℕ) (text : List ℕ) (t : ℕ × ℕ × ℕ × ℕ) → Some t ≡ triple_at limit text (small_len text) → common_of limit text ≡ whole_at text t
+common_is : (limit : ℕ) (text : List ℕ) (t : ℕ × ℕ × ℕ × ℕ) → Some t ≡ triple_at limit text (small_len text) → common_of limit text ≡ whole_at text t
 common_is limit text t e = rw (← e) refl
 
-pub common_not : (limit : ℕ) (text : List ℕ) → None ≡ triple_at limit text (small_len text) → common_of limit text ≡ None
-common_not limit text e = rw (← e) refl
-
-pub release_found : (limit : ℕ) (text : List ℕ) (major minor patch at : ℕ) → Some (major, minor, patch, at) ≡ triple_at limit text (small_len text) → length text ≤ at
+release_found : (limit : ℕ) (text : List ℕ) (major minor patch at : ℕ) → Some (major, minor, patch, at) ≡ triple_at limit text (small_len text) → length text ≤ at
     → common_of limit text ≡ Some (record { major = major; minor = minor; patch = patch; pre_release = []; build = [] })
 release_found limit text major minor patch at e le = common_is limit text (major, minor, patch, at) e ∙ release_at text major minor patch at (drop_all at text le)
-
-pub memory_at : (limit : ℕ) (text : List ℕ) (t : ℕ × ℕ × ℕ × ℕ) → Some t ≡ triple_at limit text (small_len text) → HasIdentifiers (qualified text t)
-    → IsSomeAnd (version_at limit text (small_len text)) HasIdentifiers
-memory_at limit text t e h = rw (← e) h
 
 pub common_memory : (limit : ℕ) (text : List ℕ) → IsSomeAnd (version_at limit text (small_len text)) HasIdentifiers → HasVersionWithIdentifiers limit text
 common_memory limit text h = memory_read limit text (version_at limit text (small_len text)) (λ v e.
@@ -164,36 +157,6 @@ pub release_read : (limit : ℕ) (text : List ℕ) (major minor patch at : ℕ) 
 release_read limit text major minor patch at e le =
     (common_sound limit text (record { major = major; minor = minor; patch = patch; pre_release = []; build = [] }) (release_found limit text major minor patch at e le)).division
 
-no_pre_byte : (c : ℕ) (r : List ℕ) → is_identifier_char c ≡ false → begins_pre_release (c ∷ r) ≡ false
-no_pre_byte c r h = elim (cases_Bool (eqb c 45)) [
-  | inl dash ↦ cc (rw (eqb-true c 45 dash) at h)
-  | inr other ↦ pick (eqb c 45) (begins is_identifier_char r) (is_identifier_char c) other h
-]
-
-or_left : (a b : Bool) → (a || b) ≡ false → a ≡ false
-or_left true b h = cc
-or_left false b h = refl
-
-or_right : (a b : Bool) → (a || b) ≡ false → b ≡ false
-or_right true b h = cc
-or_right false b h = h
-
--- behind the numbers stands what begins no qualifier
-pub not_qualifier : (limit : ℕ) (text : List ℕ) (major minor patch at : ℕ) → Some (major, minor, patch, at) ≡ triple_at limit text (small_len text) → at < length text
-    → (is_identifier_char (get_or text at 0) || get_or text at 0 == 43) ≡ false → common_of limit text ≡ None
-not_qualifier limit text major minor patch at e lt h =
-    let c = get_or text at 0 in
-    let rest : drop at text ≡ c ∷ drop (suc at) text = drop-cons text at 0 lt in
-    let pre = none_pre text at (c ∷ drop (suc at) text) rest (no_pre_byte c (drop (suc at) text) (or_left (is_identifier_char c) (c == 43) h)) in
-    let plain : begins_build (c ∷ drop (suc at) text) ≡ false = no_build_byte c (drop (suc at) text) (or_right (is_identifier_char c) (c == 43) h) in
-    let build = none_build text at (c ∷ drop (suc at) text) rest plain in
-    common_is limit text (major, minor, patch, at) e ∙ whole_left text major minor patch at at at [] [] (sym pre) (sym build) lt
-  where
-    no_build_byte : (c : ℕ) (r : List ℕ) → (c == 43) ≡ false → begins_build (c ∷ r) ≡ false
-    no_build_byte c r h = rw h refl
-
 pub ruleset lists_behind = (lists_found, lists_left)
-
-pub ruleset read_whole = (not_qualifier, release_found, common_is, common_not, memory_at)
 
 pub ruleset read_common = (common_some, common_none, common_memory)

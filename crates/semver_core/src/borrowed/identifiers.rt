@@ -25,6 +25,7 @@ pub struct IdentifierRefs<'a> {
     source: Source<'a>,
 }
 
+/// In clauses, the identifiers of a list are those that are left.
 impl<'a> Model for IdentifierRefs<'a> {
     ghost use Rattle.std.specs.Prelude.{List};
     ghost use Rattle.semver_core.specs.Text.Identifiers.{Id};

@@ -93,7 +93,6 @@ fn begins_qualifier(bytes: &[u8], at: usize) -> bool
 
 // The same as a function of the text.
 #[inline(always)]
-#[tactic(auto, using(crate::proofs::Text::Whole::read_whole))]
 fn read(alloc: Global, text: &str) -> Result<Option<Version>, AllocError>
     ensures found { IfOk result (λ found. found ≡ common_of MAX_SAFE_INTEGER text.now) }
     ensures memory { OnErr result

@@ -40,6 +40,7 @@ pub trait Versioned: Point {
     ghost ordered: { (v w : Self) → Self.cmp v w ≡ precedence (value v) (value w) };
 }
 
+/// A version is its own value.
 impl Versioned for Version {
     ghost value = { λ v. v };
 
@@ -66,6 +67,7 @@ impl Versioned for Version {
     }
 }
 
+/// A borrowed version is, in clauses, the value already.
 impl<'a> Versioned for VersionRef<'a> {
     ghost value = { λ v. v };
 
