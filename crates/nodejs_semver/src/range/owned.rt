@@ -1,6 +1,6 @@
 // Borrowed ranges with versions of their own.
 
-ghost use Rattle.std.specs.Prelude.{◌≡◌, IfOk};
+ghost use Rattle.std.specs.Prelude.{◌≡◌, ◌∷◌, [], IfOk};
 
 use crate::range::Intervals;
 use crate::{Range, RangeRef};
@@ -56,8 +56,34 @@ fn owned_interval(
     Ok(Interval::of_ordered(lower, upper))
 }
 
-/// The intervals with versions of their own.
+/// The one interval of a range with versions of its own, made in its place.
+#[inline(always)]
+pub(crate) fn owned_one(
+    alloc: Global,
+    interval: &Interval<VersionRef<'_>>,
+) -> Result<Intervals<Version>, AllocError>
+    ensures { IfOk result (λ owned. owned.items ≡ interval.now ∷ []) }
+{
+    Ok(SmallVec::from_buf(alloc, [owned_interval(alloc, interval)?]))
+}
+
+/// The intervals with versions of their own. Mostly there is one.
+#[inline(always)]
 pub(crate) fn owned_intervals(
+    alloc: Global,
+    intervals: &[Interval<VersionRef<'_>>],
+) -> Result<Intervals<Version>, AllocError>
+    ensures { IfOk result (λ owned. owned.items ≡ intervals.now) }
+{
+    match intervals {
+        [interval] => owned_one(alloc, interval),
+        _ => owned_list(alloc, intervals),
+    }
+}
+
+/// The same of any number of intervals.
+#[inline(never)]
+pub(crate) fn owned_list(
     alloc: Global,
     intervals: &[Interval<VersionRef<'_>>],
 ) -> Result<Intervals<Version>, AllocError>

@@ -6,13 +6,14 @@ ghost use Rattle.nodejs_semver.specs.Ranges.Gate.{accepts};
 ghost use Rattle.nodejs_semver.specs.Ranges.View.{IsRange};
 ghost use Rattle.nodejs_semver.specs.Text.Meaning.{Means};
 ghost use Rattle.nodejs_semver.specs.Text.WrittenSet.{Writes};
-ghost use Rattle.semver_core.specs.Failures.{RefusedOnlyIf};
+ghost use Rattle.semver_core.specs.Failures.{NeverRefused, RefusedOnlyIf};
 ghost use Rattle.semver_core.specs.Values.Versions.{VersionValue};
 
 use crate::range::Intervals;
-use crate::range::owned::owned_intervals;
+use crate::range::owned::{owned_list, owned_one};
 use crate::readers::{read_any, read_common};
 use crate::{Range, RangeRef};
+use semver_core::cuts::Interval;
 use semver_core::{Failure, MAX_SAFE_INTEGER, SemverError, VersionRef};
 use smallvec::SmallVec;
 use std::alloc::{AllocError, Global};
@@ -47,8 +48,7 @@ impl Range {
     {
         let mut borrowed = SmallVec::new(alloc);
         read_some(text, &mut borrowed)?;
-        let intervals = owned_intervals(alloc, &borrowed)?;
-        Ok(Range { intervals })
+        owned(alloc, &borrowed)
     }
 }
 
@@ -69,6 +69,40 @@ impl<'a> RangeRef<'a> {
         read_some(text, &mut intervals)?;
         Ok(RangeRef { intervals })
     }
+}
+
+// The range of these intervals, with versions of its own. Mostly there is one, and the range is made
+// where it is returned.
+#[inline(never)]
+fn owned(
+    alloc: Global,
+    intervals: &[Interval<VersionRef<'_>>],
+) -> Result<Range, Failure<SemverError>>
+    requires { IsRange MAX_SAFE_INTEGER intervals.now }
+    ensures ok { IfOk result (λ range. range ≡ intervals.now) }
+    ensures never { NeverRefused result }
+{
+    match intervals {
+        [interval] => {
+            let intervals = owned_one(alloc, interval)?;
+            Ok(Range { intervals })
+        }
+        _ => owned_many(alloc, intervals),
+    }
+}
+
+// The same of any number of intervals.
+#[inline(never)]
+fn owned_many(
+    alloc: Global,
+    intervals: &[Interval<VersionRef<'_>>],
+) -> Result<Range, Failure<SemverError>>
+    requires { IsRange MAX_SAFE_INTEGER intervals.now }
+    ensures ok { IfOk result (λ range. range ≡ intervals.now) }
+    ensures never { NeverRefused result }
+{
+    let intervals = owned_list(alloc, intervals)?;
+    Ok(Range { intervals })
 }
 
 // Reads the intervals of a text, one or more, into an empty list.

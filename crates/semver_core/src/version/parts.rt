@@ -187,7 +187,7 @@ impl Version {
     }
 
     // The same of texts of which one is not empty, or both.
-    #[inline(never)]
+    #[inline(always)]
     fn with_texts(
         alloc: Global,
         major: u64,
@@ -207,9 +207,7 @@ impl Version {
           build = listed build.now;
         }) }
     {
-        let mut lists = Lists::boxed(alloc)?;
-        scan::read_listed(alloc, pre_release, &mut lists.pre_release)?;
-        scan::read_listed(alloc, build, &mut lists.build)?;
+        let lists = lists_of_texts(alloc, pre_release, build)?;
         Ok(Version::from_parts(major, minor, patch, Qualifier::Lists(lists)))
     }
 
@@ -278,6 +276,30 @@ impl Version {
         };
         Ok(Version::from_parts(self.major, self.minor, self.patch, qualifier))
     }
+}
+
+// The lists that two texts spell. A pointer is returned, so that a version without lists is made
+// where it goes.
+#[inline(never)]
+fn lists_of_texts(
+    alloc: Global,
+    pre_release: &[u8],
+    build: &[u8],
+) -> Result<Box<Lists>, AllocError>
+    requires pre_release { is_listed pre_release.now ≡ true }
+    requires build { is_listed build.now ≡ true }
+    ensures pre_release { IfOk result (λ lists.
+        ids_view lists.value.pre_release.items ≡ listed pre_release.now) }
+    ensures build { IfOk result (λ lists. ids_view lists.value.build.items ≡ listed build.now) }
+    ensures first { IfOk result (λ lists.
+        0 < length pre_release.now → 0 < length lists.value.pre_release.items) }
+    ensures second { IfOk result (λ lists.
+        0 < length build.now → 0 < length lists.value.build.items) }
+{
+    let mut lists = Lists::boxed(alloc)?;
+    scan::read_listed(alloc, pre_release, &mut lists.pre_release)?;
+    scan::read_listed(alloc, build, &mut lists.build)?;
+    Ok(lists)
 }
 
 /// A bound holds a version, in the order of versions.
