@@ -1,5 +1,5 @@
 -- Lines that ask no question.
-use Rattle.std.proofs.Common.{◌≡◌, ◌∙◌, ℕ, List, [], ◌∷◌, ◌++◌, false, codes, get_or, length, arith, refl, sym, ap}
+use Rattle.std.proofs.Common.{rules, ◌≡◌, ◌∙◌, ℕ, List, [], ◌∷◌, ◌++◌, false, codes, get_or, length, arith, refl, sym, ap}
 use Rattle.std.proofs.lemmas.Bool.{false≢true}
 use Rattle.std.proofs.lemmas.List.Splits.{join_with_byte-slice_split}
 use Rattle.std.proofs.lemmas.Slice.Eq.{bytes_eq-Decides}
@@ -66,17 +66,4 @@ no_version word text ver range least (Best (r, vs) asked) asks = omega (arith, a
 
 -- the fields of a text that begins with a command
 pub known : (c : Command) (rest : List ℕ) → fields (command_word c ++ 59 ∷ rest) ≡ command_word c ∷ fields rest
-known command.Cmp rest = refl
-known command.Ver rest = refl
-known command.Diff rest = refl
-known command.Inc rest = refl
-known command.Range rest = refl
-known command.And rest = refl
-known command.Minus rest = refl
-known command.Least rest = refl
-known command.Beyond rest = refl
-known command.Sat rest = refl
-known command.Pre rest = refl
-known command.Out rest = refl
-known command.Max rest = refl
-known command.Min rest = refl
+known c rest = search rules

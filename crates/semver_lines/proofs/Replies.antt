@@ -9,7 +9,7 @@ use Rattle.semver_core.specs.Values.Versions.{VersionValue}
 use Rattle.semver_core.specs.declared.error.Failure.{Failure}
 use Rattle.semver_core.specs.declared.error.Failure.TheVariants.{Refused, Memory}
 use Rattle.semver_lines.specs.Names.{fault_word, or_none}
-use Rattle.semver_lines.specs.Replies.{On, OnBoth, SaysFound, fault, first_fault, second_fault}
+use Rattle.semver_lines.specs.Replies.{On, OnBoth, SaysFound, both_read, fault, first_fault, read, second_fault}
 use Rattle.semver_lines.specs.Internal.Results.{IsReadAs, IsTold}
 use Rattle.semver_lines.specs.declared.fault.Fault.{Fault}
 
@@ -33,6 +33,12 @@ pub told_listed : {A B : Type 0} (First : Result A Fault → Type 0) (Second : R
     → First (Ok a) → IsReadAs (λ (list : Vec B Global). list.items) (Err error) Second → IsTold (Err error) (OnBoth First Second Reply)
 told_listed First Second Reply a (Refused why) is h = second_fault a why is h refl
 told_listed First Second Reply a (Memory error) is h = tt
+
+-- what is said of a second text, behind a first that was read
+pub on_second : {A B : Type 0} (First : Result A Fault → Type 0) (Second : Result B Fault → Type 0) (Reply : A → B → List ℕ → Type 0) (a : A)
+    → First (Ok a) → (answer : List ℕ) → On Second (Reply a) answer → OnBoth First Second Reply answer
+on_second First Second Reply a is answer (read b of says) = both_read a b is of says
+on_second First Second Reply a is answer (fault why of says) = second_fault a why is of says
 
 -- what is told implies what is weaker
 pub told_weaker : (P Q : List ℕ → Type 0) (result : Result (Bor (List ℕ)) (Failure Fault)) → ((text : List ℕ) → P text → Q text) → IsTold result P → IsTold result Q

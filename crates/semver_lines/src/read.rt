@@ -25,11 +25,12 @@ pub fn version_of<'p, 'a>(
     }
 }
 
+/// A range that was parsed, or why there is none.
+pub type Parsed<'a> = Result<RangeRef<'a>, Failure<SemverError>>;
+
 /// The range that was parsed, where it stands.
 #[inline(always)]
-pub fn range_of<'p, 'a>(
-    parsed: &'p Result<RangeRef<'a>, Failure<SemverError>>,
-) -> Result<&'p RangeRef<'a>, Failure<Fault>>
+pub fn range_of<'p, 'a>(parsed: &'p Parsed<'a>) -> Result<&'p RangeRef<'a>, Failure<Fault>>
     ensures { (text : List ℕ) → ParsesRange text parsed.now
         → IsReadAs (λ r. r.now) result (IsRangeOf text) }
 {

@@ -3,19 +3,21 @@
 // own kind alone; what is said of the values that were read stands in the method `reply`.
 
 ghost use Rattle.std.specs.Option.{option_copied};
-ghost use Rattle.std.specs.Prelude.{◌≡◌, IfOk};
+ghost use Rattle.std.specs.Prelude.{◌≡◌, ℕ, List, IfOk};
 ghost use Rattle.semver_core.specs.Increments.Table.{answer_of_inc};
 ghost use Rattle.semver_lines.specs.Commands.{BestReply, IsReply, RangeReply, RangesReply};
 ghost use Rattle.semver_lines.specs.Commands.{match_reply, version_reply, versions_reply};
-ghost use Rattle.semver_lines.specs.Internal.Results.{IsTold};
+ghost use Rattle.semver_lines.specs.Internal.Results.{IsTold, ParsesRange};
+ghost use Rattle.semver_lines.specs.Lines.{fields};
 ghost use Rattle.semver_lines.specs.Names.{next_text};
+ghost use Rattle.semver_lines.specs.Replies.{AreVersionsOf, IsRangeOf, On, OnBoth};
 ghost use Rattle.semver_lines.specs.declared.question.Question.{Question};
 
 use crate::fault::Fault;
 use crate::question::{
     AboutBest, AboutMatch, AboutRange, AboutRanges, AboutVersion, AboutVersions, Question,
 };
-use crate::read::{range_of, version_of, versions};
+use crate::read::{Parsed, range_of, version_of, versions};
 use crate::words::{
     borrowed_or_none, difference_word, next_text, order_word, range_or_none, truth_word,
     version_or_none,
@@ -83,7 +85,21 @@ fn on_range<'a>(
     ensures { IsTold result (IsReply (Question.Range r.entry asked)) }
 {
     let range = RangeRef::parse(alloc, r);
-    let range = range_of(&range)?;
+    parsed_range(alloc, &range, asked, room)
+}
+
+// The reply about a range that was parsed. Its exits drop no range.
+#[inline(always)]
+fn parsed_range<'a>(
+    alloc: Global,
+    parsed: &Parsed<'_>,
+    asked: AboutRange,
+    room: &'a mut String,
+) -> Result<&'a str, Failure<Fault>>
+    ensures { (text : List ℕ) → ParsesRange text parsed.now
+        → IsTold result (On (IsRangeOf text) (RangeReply asked)) }
+{
+    let range = range_of(parsed)?;
     Ok(asked.reply(alloc, range, room)?)
 }
 
@@ -98,9 +114,37 @@ fn on_ranges<'a, 't>(
     ensures { IsTold result (IsReply (Question.Ranges (r.entry, s.entry) asked)) }
 {
     let range = RangeRef::parse(alloc, r);
-    let range = range_of(&range)?;
+    parsed_ranges(alloc, &range, s, asked, room)
+}
+
+#[inline(always)]
+fn parsed_ranges<'a, 't>(
+    alloc: Global,
+    parsed: &Parsed<'t>,
+    s: &'t str,
+    asked: AboutRanges,
+    room: &'a mut String,
+) -> Result<&'a str, Failure<Fault>>
+    ensures { (text : List ℕ) → ParsesRange text parsed.now
+        → IsTold result (OnBoth (IsRangeOf text) (IsRangeOf s.now) (RangesReply asked)) }
+{
+    let range = range_of(parsed)?;
     let other = RangeRef::parse(alloc, s);
-    let other = range_of(&other)?;
+    parsed_other(alloc, range, &other, asked, room)
+}
+
+#[inline(always)]
+fn parsed_other<'a, 't>(
+    alloc: Global,
+    range: &RangeRef<'t>,
+    parsed: &Parsed<'t>,
+    asked: AboutRanges,
+    room: &'a mut String,
+) -> Result<&'a str, Failure<Fault>>
+    ensures { (text : List ℕ) → ParsesRange text parsed.now
+        → IsTold result (On (IsRangeOf text) (RangesReply asked range.now)) }
+{
+    let other = range_of(parsed)?;
     Ok(asked.reply(alloc, range, other, room)?)
 }
 
@@ -131,7 +175,22 @@ fn on_best<'a, 't>(
     ensures { IsTold result (IsReply (Question.Best (r.entry, vs.entry) asked)) }
 {
     let range = RangeRef::parse(alloc, r);
-    let range = range_of(&range)?;
+    parsed_best(alloc, &range, vs, asked, room)
+}
+
+#[inline(always)]
+fn parsed_best<'a, 't>(
+    alloc: Global,
+    parsed: &Parsed<'t>,
+    vs: &'t str,
+    asked: AboutBest,
+    room: &'a mut String,
+) -> Result<&'a str, Failure<Fault>>
+    ensures { (text : List ℕ) → ParsesRange text parsed.now
+        → IsTold result
+        (OnBoth (IsRangeOf text) (AreVersionsOf (fields vs.now)) (BestReply asked)) }
+{
+    let range = range_of(parsed)?;
     let versions = versions(alloc, vs)?;
     Ok(asked.reply(range, &versions, room)?)
 }
