@@ -243,7 +243,6 @@ fn is_id(id: &Identifier)
 // Proof helper: likewise each identifier of a list. The loop has no effect, so that the compiler
 // drops it.
 #[inline(always)]
-#[tactic(auto, using(crate::proofs::Values::Compared::ids_compared))]
 fn are_ids(list: &[Identifier])
     ensures { All IsId (ids_view list.now) }
 {

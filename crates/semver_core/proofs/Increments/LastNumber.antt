@@ -195,5 +195,3 @@ pub advance_raises : (list : List Id) (id : List ℕ) (base : IdentifierBase) (i
 advance_raises list id base i n last = by_raise list id base (number_there list i n last)
 
 pub ruleset tracked = (tracks_number, tracks_text, tracks_whole)
-
-pub ruleset printed_list = (text_so_far, text_whole)

@@ -434,5 +434,3 @@ found_none limit text start (Some v) a e = tt
 -- one version at most stands at the front of a text
 pub one_reading : (text : List ℕ) (start : ℕ) → IsAfterBlank text (mark_len text) start → HasOneReading text
 one_reading text start a = λ limit v w r s. some_inside v w (sym (loose_at limit text start v a r) ∙ loose_at limit text start w a s)
-
-pub ruleset loosely_read = (found_some, found_none, loose_memory)

@@ -33,5 +33,3 @@ ids_more xs i x lt at before here =
 
 pub ids_all : (xs : List Identifier) (i : ℕ) → length xs ≤ i → All IsId (ids_view (take i xs)) → All IsId (ids_view xs)
 ids_all xs i le h = rw (take_all i xs le) at h
-
-pub ruleset ids_compared = (ids_more, ids_all)

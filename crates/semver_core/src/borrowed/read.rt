@@ -96,7 +96,6 @@ fn version_from(text: &str, at: usize) -> Option<VersionRef<'_>>
 }
 
 // The version at the front of a text of any length.
-#[tactic(auto, using(crate::proofs::Text::Texts::loosely_read))]
 fn version_loose(text: &str) -> Option<VersionRef<'_>>
     ensures some { IfSome result (λ v. Reads MAX_SAFE_INTEGER text.now v) }
     ensures none { IfNone result (HasNoVersion MAX_SAFE_INTEGER text.now) }

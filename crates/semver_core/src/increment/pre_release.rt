@@ -156,7 +156,6 @@ fn is_printed(alloc: Global, list: &[Identifier], id: &str) -> Result<bool, Allo
 }
 
 // A list printed, its identifiers joined by dots.
-#[tactic(auto, using(crate::proofs::Increments::LastNumber::printed_list))]
 fn list_text(alloc: Global, list: &[Identifier]) -> Result<String, AllocError>
     ensures { IfOk result (λ t. string_bytes t ≡ spec.list_text (ids_view list.now)) }
 {
