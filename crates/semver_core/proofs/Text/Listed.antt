@@ -81,4 +81,4 @@ listed_some text h = omega (arith, listed_count text h)
 pub some_listed : (text : List ℕ) (ids : List Identifier) → 0 < length text → ids_view ids ≡ listed text → 0 < length ids
 some_listed text ids h e = rw (length-map ids id_view) at (rw (← e) at (listed_some text h))
 
-pub ruleset listed_read = (listed_utf8, listed_begins, listed_all, listed_none, some_listed)
+pub ruleset listed_read = (listed_utf8, listed_begins, listed_none)

@@ -13,4 +13,5 @@ pub returns : goal.returns
 returns g c =
     let lower : c.greater_lower-lower.result.now ≡ greater_lower g.V.Ord.cmp c.args.other.now.lower c.args.self.now.lower = search rules in
     let upper : c.lesser_upper-upper.result.now ≡ lesser_upper g.V.Ord.cmp c.args.self.now.upper c.args.other.now.upper = search rules in
-    rw (c.of_ordered.ensures, lower, upper, clip-ordered g.met.V.Ord.total c.args.self.now c.args.other.now _ _ (search rules) refl refl) refl
+    rw (c.of_ordered.ensures, lower, upper,
+    clip-ordered g.met.V.Ord.total c.args.self.now c.args.other.now _ _ (search rules) refl refl) refl
