@@ -82,14 +82,25 @@ pub(crate) fn owned_intervals(
 }
 
 /// The same of any number of intervals.
-#[inline(never)]
+#[inline(always)]
 pub(crate) fn owned_list(
     alloc: Global,
     intervals: &[Interval<VersionRef<'_>>],
 ) -> Result<Intervals<Version>, AllocError>
     ensures { IfOk result (λ owned. owned.items ≡ intervals.now) }
 {
-    let mut owned = SmallVec::with_capacity(alloc, intervals.len())?;
+    Ok(SmallVec::from_vec(owned_vec(alloc, intervals)?))
+}
+
+// The intervals with versions of their own, as a vector, which is small where it is returned.
+#[inline(never)]
+fn owned_vec(
+    alloc: Global,
+    intervals: &[Interval<VersionRef<'_>>],
+) -> Result<Vec<Interval<Version>>, AllocError>
+    ensures { IfOk result (λ owned. owned.items ≡ intervals.now) }
+{
+    let mut owned = Vec::with_capacity(alloc, intervals.len())?;
     for interval in intervals {
         owned.push(owned_interval(alloc, interval)?)?;
     }

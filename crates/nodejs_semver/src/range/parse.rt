@@ -87,22 +87,11 @@ fn owned(
             let intervals = owned_one(alloc, interval)?;
             Ok(Range { intervals })
         }
-        _ => owned_many(alloc, intervals),
+        _ => {
+            let intervals = owned_list(alloc, intervals)?;
+            Ok(Range { intervals })
+        }
     }
-}
-
-// The same of any number of intervals.
-#[inline(never)]
-fn owned_many(
-    alloc: Global,
-    intervals: &[Interval<VersionRef<'_>>],
-) -> Result<Range, Failure<SemverError>>
-    requires { IsRange MAX_SAFE_INTEGER intervals.now }
-    ensures ok { IfOk result (λ range. range ≡ intervals.now) }
-    ensures never { NeverRefused result }
-{
-    let intervals = owned_list(alloc, intervals)?;
-    Ok(Range { intervals })
 }
 
 // Reads the intervals of a text, one or more, into an empty list.
