@@ -71,6 +71,11 @@ no-digit limit Starts front k p text s h = λ v r.
     let found = first_numeral limit k text tail (p.only text tail s (v, r, refl)) in
     cc (sym h ∙ numeral_begins limit text found.0 found.1)
 
+no-dot-yet : (limit : ℕ) (Starts : List ℕ → Type 0) (front : List ℕ) (k : ℕ) → Place limit Starts front k → IsFront limit (front ++ 46 ∷ []) → ⊥
+no-dot-yet limit Starts front k p f =
+    let w = subst (λ (t : List ℕ). IsWhole limit t) (append_assoc front (46 ∷ []) f.0) f.1 in
+    no-digit limit Starts front k p (46 ∷ f.0) (p.dot f.0) refl w.0 w.1
+
 no-great : (limit : ℕ) (Starts : List ℕ → Type 0) (front : List ℕ) (k : ℕ) → Place limit Starts front k → (text : List ℕ) → Starts text
     → BeginsGreat limit text → HasNoVersion limit (front ++ text)
 no-great limit Starts front k p text s g = λ v r.
@@ -125,6 +130,7 @@ stuck_wrong limit text Starts k at flaw nine inside p s (at_great j a great) = r
   right = right-digit limit Starts (take a text) j nine p;
   great = great;
   none = here limit text a (no-great limit Starts (take a text) j p (drop a text) s great);
+  no_dot = no-dot-yet limit Starts (take a text) j p;
 }
 stuck_wrong limit text Starts k at flaw nine inside p s (at_digit j a none) = record {
   inside = inside;
@@ -133,6 +139,7 @@ stuck_wrong limit text Starts k at flaw nine inside p s (at_digit j a none) = re
       no-digit limit Starts (take a text) j p (encode_utf8 c ++ other) (p.local c rest other (subst Starts e s))
       (begins_alike is_ascii_digit c other rest ∙ (ap (λ (t : List ℕ). begins is_ascii_digit t) (sym e) ∙ none));
   none = here limit text a (no-digit limit Starts (take a text) j p (drop a text) s none);
+  dot = λ f. absurd (no-dot-yet limit Starts (take a text) j p f);
 }
 stuck_wrong limit text Starts k at flaw nine inside p s (at_dot j a end found none) =
     let m = found.piece in
@@ -147,6 +154,7 @@ stuck_wrong limit text Starts k at flaw nine inside p s (at_dot j a end found no
           (begins_alike (λ b. b == 46) c other rest ∙ (ap (λ (t : List ℕ). begins_dot t) (sym e) ∙ none)));
       none = here limit text end (subst (λ (t : List ℕ). HasNoVersion limit (t ++ drop end text)) (sym front)
           (no-dot limit Starts (take a text) m.piece found.n j p m.is.number (drop end text) m.is.ended none));
+      dot = λ f. refl;
     }
 stuck_wrong limit text Starts k at flaw nine inside p s (later j a end f found dot more) =
     let m = found.piece in

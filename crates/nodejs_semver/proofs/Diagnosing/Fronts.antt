@@ -50,6 +50,7 @@ HasTail limit text tail = (v : VersionValue) × (r : Reads limit text v) × (tai
 pub record Place (limit : ℕ) (Starts : List ℕ → Type 0) (front : List ℕ) (k : ℕ) : Type 0 where
   pub local : (c : ℕ) (rest other : List ℕ) → Starts (encode_utf8 c ++ rest) → Starts (encode_utf8 c ++ other)
   pub digit : (text : List ℕ) → begins is_ascii_digit text ≡ true → Starts text
+  pub dot : (text : List ℕ) → Starts (46 ∷ text)
   pub only : (text tail : List ℕ) → Starts text → HasTail limit (front ++ text) tail → Numbers limit k text tail
   pub whole : (text : List ℕ) → Numbers limit k text [] → IsWhole limit (front ++ text)
 
@@ -106,6 +107,10 @@ digit_starts (c ∷ rest) h = (dark c rest h, no_mark_at c rest (λ m. clash c h
     dark : (c : ℕ) (rest : List ℕ) → is_ascii_digit c ≡ true → space_len (c ∷ rest) ≡ 0
     dark c rest h = rw (low c h, other c h) refl
 
+dot_starts : (text : List ℕ) → space_len (46 ∷ text) ≡ 0
+unfolding space_len
+dot_starts text = refl
+
 -- what follows them is found
 pub past_lead : (mark blank text : List ℕ) → IsMark mark → IsBlank blank → space_len text ≡ 0 → (mark ++ blank ≡ [] → mark_len text ≡ 0)
     → drop_spaces (drop (mark_len (mark ++ (blank ++ text))) (mark ++ (blank ++ text))) ≡ text
@@ -135,6 +140,7 @@ pub lead_place : (limit : ℕ) (mark blank : List ℕ) → IsMark mark → IsBla
 lead_place limit mark blank m b = record {
   local = λ c rest other s. (front_is_first_character c other ∙ (sym (front_is_first_character c rest) ∙ s.0), λ e. mark-alike c other rest ∙ s.1 e);
   digit = λ text h. let s = digit_starts text h in (s.0, λ e. s.1);
+  dot = λ text. (dot_starts text, λ e. refl);
   only = read;
   whole = written;
 }
@@ -198,6 +204,7 @@ pub next_place : (limit : ℕ) (Starts : List ℕ → Type 0) (front d : List �
 next_place limit Starts front d n k p number = record {
   local = λ c rest other s. tt;
   digit = λ text h. tt;
+  dot = λ text. tt;
   only = λ text tail s h.
       let found = p.only (d ++ 46 ∷ text) tail (p.digit (d ++ 46 ∷ text) (number_begins d (46 ∷ text) number.some number.each))
       (subst (λ (t : List ℕ). HasTail limit t tail) (joined text) h) in

@@ -31,12 +31,14 @@ is_expected Dot c = c == 46
 
 -- with each digit, or with the dot, at this place the bytes before it go on to a version text. With the character that
 -- stands there they don't, whatever follows; and the text itself has no version, which at its end is all there is to say.
+-- Where a dot is right, as behind a number, a dot is expected.
 pub record IsExpectedAt (limit : ℕ) (text : List ℕ) (what : Expected) (at : ℕ) : Type 0 where
   pub inside : at ≤ length text
   pub right : (c : ℕ) → is_expected what c ≡ true → IsFront limit (take at text ++ c ∷ [])
   pub wrong : (c : ℕ) (rest other : List ℕ) → drop at text ≡ encode_utf8 c ++ rest
       → HasNoVersion limit (take at text ++ (encode_utf8 c ++ other))
   pub none : HasNoVersion limit text
+  pub dot : IsFront limit (take at text ++ 46 ∷ []) → is_expected what 46 ≡ true
 
 -- a run of digits of a value above the limit
 pub record BeginsGreat (limit : ℕ) (text : List ℕ) : Type 0 where
@@ -47,12 +49,13 @@ pub record BeginsGreat (limit : ℕ) (text : List ℕ) : Type 0 where
   pub ended : begins is_ascii_digit rest ≡ false
   pub above : limit < digits_value 10 digits
 
--- a number is right at this place, but the one that begins there is above the limit
+-- a number is right at this place, and no dot, but the number that begins there is above the limit
 pub record IsGreatAt (limit : ℕ) (text : List ℕ) (at : ℕ) : Type 0 where
   pub inside : at ≤ length text
   pub right : (c : ℕ) → is_ascii_digit c ≡ true → IsFront limit (take at text ++ c ∷ [])
   pub great : BeginsGreat limit (drop at text)
   pub none : HasNoVersion limit text
+  pub no_dot : IsFront limit (take at text ++ 46 ∷ []) → ⊥
 
 -- a version ends at this place, and more follows it
 pub record IsIgnoredFrom (limit : ℕ) (text : List ℕ) (at : ℕ) : Type 0 where
