@@ -281,11 +281,7 @@ impl Version {
 // The lists that two texts spell. A pointer is returned, so that a version without lists is made
 // where it goes.
 #[inline(never)]
-fn lists_of_texts(
-    alloc: Global,
-    pre_release: &[u8],
-    build: &[u8],
-) -> Result<Box<Lists>, AllocError>
+fn lists_of_texts(alloc: Global, pre_release: &[u8], build: &[u8]) -> Result<Box<Lists>, AllocError>
     requires pre_release { is_listed pre_release.now ≡ true }
     requires build { is_listed build.now ≡ true }
     ensures pre_release { IfOk result (λ lists.
