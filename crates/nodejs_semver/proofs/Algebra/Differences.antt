@@ -4,14 +4,15 @@ use Rattle.std.proofs.lemmas.Bool.{and_from, and_parts, cases_Bool, not-false, n
 use Rattle.std.proofs.Math.Bool.{and-false, and-true}
 use Rattle.std.proofs.lemmas.Grind.{flat_map-append, fold-append}
 use Rattle.std.proofs.lemmas.List.{append-nil, take_all, get_or-drop}
-use Rattle.std.specs.Cmp.{IsTotalOrder, upto}
+use Rattle.std.specs.Cmp.{IsTotalOrder}
 use Rattle.std.specs.List.{AllWithin, flat_map, list_all}
 use Rattle.std.specs.List.Sorted.{IsPartitionedBy, IsPartitionPoint}
 use Rattle.std.specs.Option.{option_to_list}
-use Rattle.std.specs.Ordering.{is_lt, is_gt}
+use Rattle.std.specs.Ordering.{is_lt}
 use Rattle.std.specs.declared.cmp.Ordering.{Ordering}
-use Rattle.semver_core.proofs.CutLaws.{is_some-interval, between, cut_total, below_lesser, below_upto, between_from, between_parts, gt_lt, irreflexive, lt, lt_trans, greater_below, not_above, not_below, not_if, one_way, remainders_by, turned_lower, turned_upper, upto_below}
+use Rattle.semver_core.proofs.CutLaws.{is_some-interval, between, below_lesser, below_upto, between_from, between_parts, gt_lt, irreflexive, lt, lt_trans, greater_below, not_above, not_below, not_if, one_way, remainders_by, turned_lower, turned_upper, upto_below}
 use Rattle.nodejs_semver.proofs.Algebra.FlatMaps.{flat_flat, flat_same}
+use Rattle.nodejs_semver.proofs.Dividing.RunLemmas.{greater_assoc, lesser_assoc}
 use Rattle.semver_core.specs.Clips.{clip}
 use Rattle.semver_core.specs.Cuts.{Span, Cut, Start, cut_cmp, lower_cut, upper_cut, is_interval, greater_lower, lesser_upper}
 use Rattle.nodejs_semver.specs.Ranges.Algebra.{remainder, minus}
@@ -44,15 +45,6 @@ pick_when : {A : Type 0} (i : Bool) (x y : A) → (i ≡ true → x ≡ y) → p
 pick_when true x y h = ap (λ z. z ∷ []) (h refl)
 pick_when false x y h = refl
 
--- the second of two where g says so
-later_assoc : {A : Type 0} (g : A → A → Bool) → ((x y z : A) → g x y ≡ true → g y z ≡ true → g x z ≡ true)
-    → ((x y z : A) → g x y ≡ false → g y z ≡ false → g x z ≡ false) → (x y z : A)
-    → (let later : A → A → A = λ x y. if g x y then y else x in later (later x y) z ≡ later x (later y z))
-later_assoc g trans chained x y z = elim (cases_Bool (g x y)) [
-  | inl p ↦ elim (cases_Bool (g y z)) [ inl q ↦ rw (p, q, trans x y z p q) refl | inr q ↦ rw (p, q, p) refl ]
-  | inr p ↦ elim (cases_Bool (g y z)) [ inl q ↦ rw (p, q) refl | inr q ↦ rw (p, q, p, chained x y z p q) refl ]
-]
-
 all_five : (a b c d e : Bool) → (((a && b) && (c && d)) && e) ≡ ((a && (b && true)) && (c && (d && e)))
 all_five false b c d e = refl
 all_five true false c d e = refl
@@ -64,17 +56,6 @@ five_all a b c d true = and-true _
 five_all a b c d false = and-false _
 
 module _ {V : Type 0} {R : V → V → Ordering} (o : IsTotalOrder R) where
-  gt_trans : (a b c : Cut V) → is_gt (cut_cmp R a b) ≡ true → is_gt (cut_cmp R b c) ≡ true → is_gt (cut_cmp R a c) ≡ true
-  gt_trans a b c p q = gt_lt o a c ∙ lt_trans o c b a (sym (gt_lt o b c) ∙ q) (sym (gt_lt o a b) ∙ p)
-
-  lesser_assoc : (b c d : Bound V) → lesser_upper R (lesser_upper R b c) d ≡ lesser_upper R b (lesser_upper R c d)
-  lesser_assoc = later_assoc (λ b c. is_gt (cut_cmp R (upper_cut b) (upper_cut c))) (λ b c d. gt_trans _ _ _)
-      (λ b c d. upto (cut_total o) _ _ _)
-
-  greater_assoc : (b c d : Bound V) → greater_lower R (greater_lower R b c) d ≡ greater_lower R b (greater_lower R c d)
-  greater_assoc b c d = sym (later_assoc (λ c b. is_gt (cut_cmp R (lower_cut b) (lower_cut c)))
-      (λ b c d h k. gt_trans _ _ _ k h) (λ b c d h k. upto (cut_total o) _ _ _ k h) d c b)
-
   abbrev whole : Span V
   whole = record { lower = Unbounded; upper = Unbounded }
 
@@ -147,21 +128,38 @@ module _ {V : Type 0} {R : V → V → Ordering} (o : IsTotalOrder R) where
       ≡ clips (below c b) s
   clip_below s c b =
       clip_piece s c _ _ _ _ (ap (λ (u : Bound V). record { lower = greater_lower R c.lower s.lower; upper = u })
-      (lesser_assoc s.upper c.upper b))
-      (rw (between o c.lower s.lower s.upper c.upper, greater_below o c.lower s.lower (lower_cut b),
-      between o c.lower s.lower s.upper (lesser_upper R c.upper b), below_lesser o c.upper b, below_lesser o c.upper b)
-      (elim (cases_Bool (lt o (lower_cut c.lower) (lower_cut b))) [ inl h ↦ rw (turned_lower o b _ h, h)
-      (search all_five) | inr h ↦ rw h (and-false _) ]))
+      (lesser_assoc o s.upper c.upper b))
+      (rw (
+        between o c.lower s.lower s.upper c.upper,
+        greater_below o c.lower s.lower (lower_cut b),
+        between o c.lower s.lower s.upper (lesser_upper R c.upper b),
+        below_lesser o c.upper b,
+        below_lesser o c.upper b,
+      )
+      (elim (cases_Bool (lt o (lower_cut c.lower) (lower_cut b))) [
+        | inl h ↦ rw (turned_lower o b _ h, h)
+            (search all_five)
+        | inr h ↦ rw h (and-false _)
+      ]))
 
   clip_above : (s c : Span V) (b : Bound V) → (if is_interval R (clipped s c) then above (clipped s c) b else [])
       ≡ clips (above c b) s
   clip_above s c b =
       clip_piece s c _ _ _ _ (ap (λ (u : Bound V). record { lower = u; upper = lesser_upper R s.upper c.upper })
-      (sym (greater_assoc b c.lower s.lower)))
-      (rw (between o c.lower s.lower s.upper c.upper, below_lesser o s.upper c.upper (upper_cut b), between o
-      (greater_lower R b c.lower) s.lower s.upper c.upper, greater_below o b c.lower, greater_below o b c.lower)
-      (elim (cases_Bool (lt o (upper_cut b) (upper_cut c.upper))) [ inl h ↦ rw (turned_upper o b _ h, h)
-      (search five_all) | inr h ↦ rw (h, and-false (lt o (upper_cut b) (upper_cut s.upper)), and-false _) refl ]))
+      (sym (greater_assoc o b c.lower s.lower)))
+      (rw (
+        between o c.lower s.lower s.upper c.upper,
+        below_lesser o s.upper c.upper (upper_cut b),
+        between o
+            (greater_lower R b c.lower) s.lower s.upper c.upper,
+        greater_below o b c.lower,
+        greater_below o b c.lower,
+      )
+      (elim (cases_Bool (lt o (upper_cut b) (upper_cut c.upper))) [
+        | inl h ↦ rw (turned_upper o b _ h, h)
+            (search five_all)
+        | inr h ↦ rw (h, and-false (lt o (upper_cut b) (upper_cut s.upper)), and-false _) refl
+      ]))
 
   -- t leaves of what s cuts from c what s cuts from what t leaves of c
   unmet : (s t : Span V) → is_interval R (both s t) ≡ false → remainder R s t ≡ s ∷ []

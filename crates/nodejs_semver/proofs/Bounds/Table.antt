@@ -1,7 +1,7 @@
 -- For proofs. The bounds of what is read are such as a range may have.
-use Rattle.std.proofs.Common.{◌≡◌, ℕ, zero, suc, ◌+◌, List, [], ◌∷◌, length, map, refl, sym, ap, ◌∙◌, Bool, true, false, Some, None}
-use Rattle.std.specs.Prelude.{Option, flat_map, filter_map, if◌then◌else◌}
-use Rattle.std.specs.List.{AllByRecursion, cons_option, list_all}
+use Rattle.std.proofs.Common.{◌≡◌, ℕ, zero, suc, ◌+◌, List, [], ◌∷◌, length, map, refl, sym, ap, ◌∙◌, Bool, true, false}
+use Rattle.std.specs.Prelude.{flat_map, filter_map, if◌then◌else◌}
+use Rattle.std.specs.List.{AllByRecursion, list_all}
 use Rattle.std.proofs.lemmas.List.Folds.{list_all-append}
 use Rattle.semver_core.specs.Cuts.{Span}
 use Rattle.semver_core.specs.declared.cuts.bound.Bound.{Bound}
@@ -18,12 +18,8 @@ use Rattle.nodejs_semver.specs.Text.Table.{table}
 use Rattle.nodejs_semver.specs.Internal.Words.{word_at, words_within}
 use Rattle.nodejs_semver.proofs.Bounds.Bounded.{word-fine}
 use Rattle.nodejs_semver.proofs.Reading.Steps.{and-both, and-left, and-right}
-use Rattle.nodejs_semver.proofs.Dividing.RunsDivide.{part_divides}
+use Rattle.nodejs_semver.proofs.Dividing.RunsDivide.{all-cons, part_divides}
 use Rattle.nodejs_semver.proofs.Bounds.TableRows.{are_bounds, table-bounded}
-
-all-cons : {B : Type 0} (p : B → Bool) (o : Option B) (ys : List B) → ((b : B) → o ≡ Some b → p b ≡ true) → list_all p ys ≡ true → list_all p (cons_option o ys) ≡ true
-all-cons p None ys one rest = rest
-all-cons p (Some y) ys one rest = and-both (p y) (list_all p ys) (one y refl) rest
 
 words-bounded : (limit n : ℕ) (text : List ℕ) → list_all (are_bounds (limit + 1)) (filter_map (table limit) (words_within limit n text)) ≡ true
 unfolding words_within

@@ -1,6 +1,5 @@
 -- The version that is found in a list is the best one of those in the set.
-use Rattle.std.proofs.Common.{◌≡◌, refl, sym, ◌∙◌, ap, Bool, true, false, ◌&&◌, ◌||◌, not, ◌⊎◌, inl, inr, List, [], ◌∷◌, ◌++◌, Option, Some, None, IfSome, IfNone, Bor}
-use Rattle.std.proofs.Math.Bool.{or-false}
+use Rattle.std.proofs.Common.{arith, ◌≡◌, refl, sym, ◌∙◌, ap, Bool, true, false, ◌||◌, not, ◌⊎◌, inl, inr, List, [], ◌∷◌, ◌++◌, Option, Some, None, IfSome, IfNone, Bor}
 use Rattle.std.proofs.lemmas.Bool.{and_from, cases_Bool}
 use Rattle.std.proofs.lemmas.List.{append-nil, append_assoc}
 use Rattle.std.proofs.lemmas.List.Folds.{list_all-append}
@@ -19,64 +18,6 @@ use Rattle.nodejs_semver.specs.Ranges.Best.{IsBest, IsMax, IsMin, Stands}
 use Rattle.semver_core.specs.Values.Order.{precedence}
 use Rattle.semver_core.specs.Values.Versions.{VersionValue}
 
--- ---- a place in a filtered list is one in the list
-
-all_filter : {X : Type 0} (set p : X → Bool) (xs : List X) → list_all (λ w. not (set w) || p w) xs ≡ list_all p (filter set xs)
-all_filter set p [] = refl
-all_filter set p (x ∷ xs) = elim (cases_Bool (set x)) [
-  | inl e ↦ rw e (ap (λ b. p x && b) (all_filter set p xs))
-  | inr e ↦ rw e (all_filter set p xs)
-]
-
-record SplitAt {X : Type 0} (set : X → Bool) (list fs bs : List X) (v : X) : Type 0 where
-  pub front : List X
-  pub back : List X
-  pub divided : list ≡ front ++ v ∷ back
-  pub inside : set v ≡ true
-  pub fronts : filter set front ≡ fs
-  pub backs : filter set back ≡ bs
-
-split_at : {X : Type 0} (set : X → Bool) (list fs bs : List X) (v : X) → filter set list ≡ fs ++ v ∷ bs → SplitAt set list fs bs v
-split_at set [] [] bs v h = cc
-split_at set [] (f ∷ fs) bs v h = cc
-split_at set (x ∷ xs) fs bs v h = elim (cases_Bool (set x)) [
-  | inr e ↦
-      let s = split_at set xs fs bs v (rw e at h) in
-      record {
-        front = x ∷ s.front;
-        back = s.back;
-        divided = ap (λ l. x ∷ l) s.divided;
-        inside = s.inside;
-        fronts =
-            rw e s.fronts;
-        backs = s.backs;
-      }
-  | inl e ↦ taken fs e (rw e at h) (split_at set xs)
-]
-  where
-    taken : (fs : List _) → set x ≡ true → (x ∷ filter set xs) ≡ fs ++ v ∷ bs
-        → ((fs bs : List _) (v : _) → filter set xs ≡ fs ++ v ∷ bs → SplitAt set xs fs bs v) → SplitAt set (x ∷ xs) fs bs v
-    taken [] e h more = record {
-      front = [];
-      back = xs;
-      divided = ap (λ y. y ∷ xs) (cc h);
-      inside = ap set (sym (cc h))
-          ∙ e;
-      fronts = refl;
-      backs = cc h;
-    }
-    taken (f ∷ fs) e h more =
-        let s = more fs bs v (cc h) in
-        record {
-          front = x ∷ s.front;
-          back = s.back;
-          divided = ap (λ l. x ∷ l) s.divided;
-          inside = s.inside;
-          fronts = rw e
-              (ap (λ l. x ∷ l) s.fronts ∙ ap (λ y. y ∷ fs) (cc h));
-          backs = s.backs;
-        }
-
 -- ---- to pick one after another
 
 -- what is picked of the best so far and the next: the next, which is then better than all that the best was better than, or the
@@ -88,56 +29,44 @@ record Picks {V : Type 0} (in_front behind : V → V → Bool) (pick : V → V �
 
 module _ {V : Type 0} (in_front behind : V → V → Bool) (pick : V → V → V)
     (picks : Picks in_front behind pick) where
-  record Placed (list : List V) (v : V) : Type 0 where
-    pub front : List V
-    pub back : List V
-    pub divided : list ≡ front ++ v ∷ back
-    pub before : list_all (λ w. in_front w v) front ≡ true
-    pub after : list_all (λ w. behind w v) back ≡ true
+  -- what is picked of the best so far, whose place in the list is known, and the versions behind
+  placed : (set : V → Bool) (list front back : List V) (b : V) (xs : List V) → list ≡ (front ++ b ∷ back) ++ xs → set b ≡ true
+      → list_all (λ w. not (set w) || in_front w b) front ≡ true → list_all (λ w. not (set w) || behind w b) back ≡ true
+      → Stands in_front behind set list (fold pick b (filter set xs))
+  placed set list front back b [] e s h k =
+      record { front = front; back = back; divided = e ∙ append-nil (front ++ b ∷ back); inside = s; before = h; after = k }
+  placed set list front back b (x ∷ xs) e s h k =
+      let passed : (not (set x) || behind x b) ≡ true → Stands in_front behind set list (fold pick b (filter set xs)) = λ t.
+      placed set list front (back ++ x ∷ []) b xs
+      (e ∙ sym (ap (λ l. l ++ xs) (sym (append_assoc front (b ∷ back) (x ∷ []))) ∙ append_assoc (front ++ b ∷ back) (x ∷ []) xs))
+      s h (list_all-append (λ w. not (set w) || behind w b) back (x ∷ []) ∙ and_from _ _ k (rw t refl)) in
+      elim (cases_Bool (set x)) [
+        | inr out ↦ rw out (passed (rw out refl))
+        | inl in_set ↦ rw in_set (elim (picks.choice b x) [
+          | inl (is, t) ↦
+              rw (is, fold) (placed set list (front ++ b ∷ back) [] x xs
+              (e ∙ sym (append_assoc (front ++ b ∷ back) (x ∷ []) xs)) in_set
+              (list_all-append (λ w. not (set w) || in_front w x) front (b ∷ back)
+              ∙ and_from _ _ (all_weaker _ _ (λ w g. grind (arith, picks.passes w b x t)) front h)
+              (and_from _ _ (rw (s, t) refl) (all_weaker _ _ (λ w g. grind (arith, picks.weaker w b x t)) back k))) refl)
+          | inr (is, t) ↦ rw (is, fold) (passed (rw (in_set, t) refl))
+        ])
+      ]
 
-  placed : (list front back : List V) (b : V) (xs : List V) → list ≡ (front ++ b ∷ back) ++ xs
-      → list_all (λ w. in_front w b) front ≡ true → list_all (λ w. behind w b) back ≡ true → Placed list (fold pick b xs)
-  placed list front back b [] e h k = record {
-    front = front;
-    back = back;
-    divided = e
-        ∙ append-nil (front ++ b ∷ back);
-    before = h;
-    after = k;
-  }
-  placed list front back b (x ∷ xs) e h k = elim (picks.choice b x) [
-    | inl (is, t) ↦
-        rw is (placed list (front ++ b ∷ back) [] x xs (e ∙ sym (append_assoc (front ++ b ∷ back) (x ∷ []) xs))
-        (list_all-append (λ w. in_front w x) front (b ∷ back)
-        ∙ and_from (list_all (λ w. in_front w x) front) _ (all_weaker _ (λ w. in_front w x) (λ w. picks.passes w b x t) front h)
-        (and_from (in_front b x) _ t (all_weaker _ (λ w. in_front w x) (λ w. picks.weaker w b x t) back k))) refl)
-    | inr (is, t) ↦
-        rw is (placed list front (back ++ x ∷ []) b xs
-        (e ∙ sym (ap (λ l. l ++ xs) (sym (append_assoc front (b ∷ back) (x ∷ [])))
-        ∙ append_assoc (front ++ b ∷ back) (x ∷ []) xs)) h
-        (list_all-append (λ w. behind w b) back (x ∷ []) ∙ and_from (list_all (λ w. behind w b) back) _ k (rw t refl)))
-  ]
-
-  best_is : (set : V → Bool) (list : List V)
-      → IsBest in_front behind set list (reduce pick (filter set list))
-  best_is set list = by_list (filter set list) refl
+  best_is : (set : V → Bool) (list : List V) → IsBest in_front behind set list (reduce pick (filter set list))
+  best_is set list = from-here [] list refl refl
     where
-      by_list : (ys : List V) → filter set list ≡ ys → IsBest in_front behind set list (reduce pick ys)
-      by_list [] e = all_weaker (λ w. not (set w) || false) (λ w. not (set w)) (λ w h. sym (or-false _) ∙ h) list
-          (all_filter set (λ _. false) list ∙ ap (list_all (λ _. false)) e)
-      by_list (y ∷ ys) e =
-          let p = placed (y ∷ ys) [] [] y ys refl refl refl in
-          let s = split_at set list p.front p.back (fold pick y ys) (e ∙ p.divided) in
-          record {
-            front = s.front;
-            back = s.back;
-            divided = s.divided;
-            inside = s.inside;
-            before = all_filter set (λ w. in_front w (fold pick y ys)) s.front
-                ∙ ap (list_all (λ w. in_front w (fold pick y ys))) s.fronts ∙ p.before;
-            after = all_filter set (λ w. behind w (fold pick y ys)) s.back
-                ∙ ap (list_all (λ w. behind w (fold pick y ys))) s.backs ∙ p.after;
-          }
+      from-here : (front xs : List V) → list ≡ front ++ xs → list_all (λ w. not (set w)) front ≡ true
+          → IsBest in_front behind set list (reduce pick (filter set xs))
+      from-here front [] e h = ap (list_all (λ w. not (set w))) (e ∙ append-nil front) ∙ h
+      from-here front (x ∷ xs) e h = elim (cases_Bool (set x)) [
+        | inr out ↦
+            rw out (from-here (front ++ x ∷ []) xs (e ∙ sym (append_assoc front (x ∷ []) xs))
+            (list_all-append (λ w. not (set w)) front (x ∷ []) ∙ and_from _ _ h (rw out refl)))
+        | inl in_set ↦
+            rw in_set (placed set list front [] x xs (e ∙ sym (append_assoc front (x ∷ []) xs)) in_set
+            (all_weaker _ _ (λ w g. rw g refl) front h) refl)
+      ]
 
 -- the greater of two, the second of equal ones; and the lesser, the first of equal ones
 abbrev pub greater : {V : Type 0} → (V → V → Ordering) → V → V → V
@@ -147,21 +76,21 @@ abbrev pub lesser : {V : Type 0} → (V → V → Ordering) → V → V → V
 lesser R b x = min_by_ordering (R b x) b x
 
 -- the same behind references
-pub greater_now : {V : Type 0} (R : V → V → Ordering) (p z : Bor V) → (max_by_ordering (R p.now z.now) p z).now ≡ greater R p.now z.now
-greater_now R p z = by_order (R p.now z.now)
-  where
-    by_order : (r : Ordering) → (max_by_ordering r p z).now ≡ max_by_ordering r p.now z.now
-    by_order Less = refl
-    by_order Equal = refl
-    by_order Greater = refl
+pub greater_now : {V : Type 0} (R : V → V → Ordering) (p z : Bor V)
+    → (max_by_ordering (R p.now z.now) p z).now ≡ greater R p.now z.now
+greater_now R p z = elim (R p.now z.now) as (λ r. (max_by_ordering r p z).now ≡ max_by_ordering r p.now z.now) [
+  | Less ↦ refl
+  | Equal ↦ refl
+  | Greater ↦ refl
+]
 
-pub lesser_now : {V : Type 0} (R : V → V → Ordering) (p z : Bor V) → (min_by_ordering (R p.now z.now) p z).now ≡ lesser R p.now z.now
-lesser_now R p z = by_order (R p.now z.now)
-  where
-    by_order : (r : Ordering) → (min_by_ordering r p z).now ≡ min_by_ordering r p.now z.now
-    by_order Less = refl
-    by_order Equal = refl
-    by_order Greater = refl
+pub lesser_now : {V : Type 0} (R : V → V → Ordering) (p z : Bor V)
+    → (min_by_ordering (R p.now z.now) p z).now ≡ lesser R p.now z.now
+lesser_now R p z = elim (R p.now z.now) as (λ r. (min_by_ordering r p z).now ≡ min_by_ordering r p.now z.now) [
+  | Less ↦ refl
+  | Equal ↦ refl
+  | Greater ↦ refl
+]
 
 module _ {V : Type 0} {R : V → V → Ordering} (o : IsTotalOrder R) where
   back_is : (b x : V) (r : Ordering) → R b x ≡ r → R x b ≡ ordering_reverse r

@@ -1,6 +1,5 @@
 -- The least version that spans hold is the first past one of their lower cuts.
-use Rattle.std.proofs.Common.{◌≡◌, refl, ◌∙◌, ap, ◌<◌, Bool, true, false, ◌&&◌, not, List, [], ◌∷◌, length, map, inl, inr, if◌then◌else◌, Option, IfSome, arith}
-use Rattle.std.specs.declared.cmp.Ordering.{Ordering}
+use Rattle.std.proofs.Common.{◌≡◌, refl, ◌∙◌, ap, Bool, true, false, ◌&&◌, not, List, [], ◌∷◌, map, inl, inr, if◌then◌else◌, Option, IfSome, arith}
 use Rattle.std.specs.declared.cmp.Ordering.TheVariants.{Less, Equal, Greater}
 use Rattle.std.specs.Ordering.{ordering_then, is_le, is_gt}
 use Rattle.std.proofs.lemmas.Bool.{and_from, cond_both, or_cases, or_left, or_right}
@@ -10,32 +9,22 @@ use Rattle.std.specs.Cmp.{first_so, tied_itself}
 use Rattle.semver_core.specs.Cuts.{Span, holds, Near, is_past, lower_cut, upper_cut}
 use Rattle.semver_core.specs.declared.cuts.bound.Bound.{Bound}
 use Rattle.semver_core.specs.declared.cuts.bound.Bound.TheVariants.{Unbounded, Before, After}
-use Rattle.semver_core.specs.Text.Identifiers.{Id}
 use Rattle.semver_core.specs.Values.Order.{precedence}
 use Rattle.semver_core.specs.Internal.OrderLaws.{precedence_total}
 use Rattle.semver_core.specs.Values.Versions.{VersionValue, is_release}
-use Rattle.semver_core.specs.Lists.{is_empty}
 use Rattle.semver_core.specs.Internal.Successors.{above_patch}
 use Rattle.semver_core.proofs.CutLaws.{tells}
-use Rattle.semver_core.proofs.Values.NextLaws.{first_of_all, least_after_pre_release, least_after_release}
+use Rattle.semver_core.proofs.Values.NextLaws.{first_of_all, least_after_release}
 use Rattle.nodejs_semver.specs.Ranges.Gate.{accepts}
 use Rattle.nodejs_semver.specs.Ranges.Least.{IsLeastOf}
 use Rattle.nodejs_semver.specs.Internal.Candidates.{first_pre, pre_after, patch_after, first_past, least_of}
+use Rattle.nodejs_semver.proofs.Algebra.FlatMaps.{empty_is}
 use Rattle.nodejs_semver.proofs.Algebra.Gate.{past_order}
-use Rattle.nodejs_semver.proofs.Choice.Next.{empty_is, next_pre_above}
+use Rattle.nodejs_semver.proofs.Choice.Next.{le_not_gt, next_pre_above, next_pre_least}
 use Rattle.nodejs_semver.proofs.Choice.LeastPieces.{far_less, past_up}
 use Rattle.nodejs_semver.proofs.Choice.LeastOf.{least_named, list_bare}
 
-le_not_gt : (r : Ordering) → is_le r ≡ true → is_gt r ≡ false
-le_not_gt Less h = refl
-le_not_gt Equal h = refl
-le_not_gt Greater h = cc
-
 -- the first version past a lower cut is past it, and not above any that is
-some_in : (xs : List Id) → is_empty xs ≡ false → 0 < length xs
-some_in [] h = cc
-some_in (x ∷ xs) h = omega arith
-
 far_past : (w x : VersionValue) → precedence w x ≡ Less → is_le (ordering_then (precedence w x) Greater) ≡ true
 far_past w x h = ap (λ r. is_le (ordering_then r Greater)) h
 
@@ -55,7 +44,7 @@ least_past (After w) v h = by_kind (is_release w) refl
   where
     by_kind : (r : Bool) → is_release w ≡ r → is_gt (precedence (if r then first_pre (patch_after w) else pre_after w) v) ≡ false
     by_kind true k = le_not_gt _ (least_after_release w v (empty_is w.pre_release k) (far_less w v h))
-    by_kind false k = le_not_gt _ (least_after_pre_release w v (some_in w.pre_release k) (far_less w v h))
+    by_kind false k = next_pre_least w v k (far_less w v h)
 
 -- the first version past the lower cut of a span that holds v is held as well
 held : (a b c d : Bool) → c ≡ true → (d ≡ true → b ≡ true) → (a && not b) ≡ true → (c && not d) ≡ true

@@ -9,10 +9,10 @@ use Rattle.std.specs.Ordering.{ordering_then, is_le, is_gt, is_eq}
 use Rattle.std.specs.declared.cmp.Ordering.{Ordering}
 use Rattle.std.specs.declared.cmp.Ordering.TheVariants.{Less, Equal, Greater}
 use Rattle.semver_core.proofs.CutLaws.{chain, gt_lt, irreflexive, is_past-down, not_above, past_lt, tells}
-use Rattle.nodejs_semver.proofs.Algebra.FlatMaps.{all_flat, all_weaker, any_flat, any_under, pick_both}
+use Rattle.nodejs_semver.proofs.Algebra.FlatMaps.{empty_is, all_flat, all_weaker, any_flat, any_under, pick_both}
 use Rattle.nodejs_semver.proofs.Algebra.Gate.{below, in_order, past_order}
 use Rattle.nodejs_semver.proofs.Algebra.Triples.{named, named_parts, not_gt_then, pre_upto, same_triple_is, triple_between, triple_cmp, triple_total, triple_upto, upto_by_both}
-use Rattle.nodejs_semver.proofs.Choice.Next.{empty_is, first_pre_least, next_patch_above, next_patch_least, next_pre, next_pre_above, next_pre_least, release_above, zero_first}
+use Rattle.nodejs_semver.proofs.Choice.Next.{first_pre_least, next_patch_above, next_patch_least, next_pre, next_pre_above, next_pre_least, release_above, zero_first}
 use Rattle.semver_core.specs.Cuts.{Span, holds, Cut, Side, Start, Beside, End, Near, Far, side_cmp, cut_cmp, lower_cut, upper_cut, is_past}
 use Rattle.semver_core.specs.declared.cuts.bound.Bound.{Bound}
 use Rattle.semver_core.specs.declared.cuts.bound.Bound.TheVariants.{Unbounded, Before, After}
@@ -169,7 +169,7 @@ begins_pre (Beside u s) w v k e m h P f =
     })
     by_side Far h f t r = f (record {
       past = past_less u (pre_after u) Far (next_pre_above u r);
-      below = next_pre_least u v t r (far_less u v h);
+      below = next_pre_least u v r (far_less u v h);
       alike = record { release = next_pre u r ∙ sym k; triple = λ _. t };
     })
 
@@ -185,7 +185,7 @@ named_lower : (w v : VersionValue) (s : Side) (g : Cut VersionValue) → named w
     → is_past precedence (Beside w s) v ≡ true → under v g (Beside w s) ≡ true → (x : VersionValue) × NamedBy v g x
 named_lower w v s g n p e =
     let (pre, tied) = named_parts w v n in
-    let first = first_pre_least w w (tied_itself triple_total w) pre in (
+    let first = first_pre_least w w (tied_itself triple_total w) in (
       w,
       record {
         triple = tied;
@@ -209,7 +209,7 @@ named_upper w v g k n e =
   where
     past_up : triple_cmp w v ≡ Equal → is_past precedence (Beside (first_pre w) Near) v ≡ true
     past_up tied = (tells (cut_cmp precedence (Beside (first_pre w) Near) (Beside v Near))).0
-        ∙ ap not (not_gt_then (precedence (first_pre w) v) Equal (first_pre_least w v tied k) refl)
+        ∙ ap not (not_gt_then (precedence (first_pre w) v) Equal (first_pre_least w v tied) refl)
 
 named_span : (s : Span VersionValue) (v : VersionValue) (g : Cut VersionValue) → is_release v ≡ false
     → (holds precedence s v && lets_in s v) ≡ true → list_all (under v g) (kept_marks s) ≡ true

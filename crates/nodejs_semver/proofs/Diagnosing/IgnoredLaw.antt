@@ -14,6 +14,7 @@ use Rattle.nodejs_semver.specs.Internal.Words.{word_at, words, words_within}
 use Rattle.nodejs_semver.specs.Text.Table.{table}
 use Rattle.nodejs_semver.specs.Text.WordText.{Word, caret, compare, hyphen, malformed, plain, tilde}
 use Rattle.nodejs_semver.specs.declared.diagnosis.ranges.IgnoredWord.{IgnoredWord}
+use Rattle.nodejs_semver.proofs.Algebra.FlatMaps.{empty_is}
 use Rattle.nodejs_semver.proofs.Diagnosing.IgnoredParts.{ignored_nil, ignored_step}
 use Rattle.nodejs_semver.proofs.Dividing.BarsDivide.{bars_divide, bars_once}
 use Rattle.nodejs_semver.proofs.Dividing.MeaningLaw.{pieces-utf8, words-law}
@@ -161,12 +162,8 @@ none_ignored limit text list u e = (
     are-bounded limit (cut_bars false text) (pieces-utf8 text (cut_bars false text) (bars_divide text) u)
         (sym (all-empty limit 0 (cut_bars false text)) ∙ ap (λ (ws : List IgnoredWord). is_empty ws) (sym e ∙ none)),
   ),
-  λ w. nothing list
+  λ w. empty_is list
       (ap (λ (ws : List IgnoredWord). is_empty ws) e ∙ all-empty limit 0 (cut_bars false text)
       ∙ ap (λ (ps : List (List ℕ)). list_all (bounded limit) ps) (sym (bars_once text w.0 w.1))
       ∙ all-bounded limit w.0 (pieces-utf8 text w.0 w.1 u) w.2),
 )
-  where
-    nothing : (ws : List IgnoredWord) → is_empty ws ≡ true → ws ≡ []
-    nothing [] h = refl
-    nothing (w ∷ ws) h = cc h

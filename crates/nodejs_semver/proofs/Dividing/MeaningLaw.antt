@@ -24,6 +24,7 @@ use Rattle.nodejs_semver.specs.Internal.RunsFrom.{runs_of}
 use Rattle.nodejs_semver.specs.Text.Table.{table}
 use Rattle.nodejs_semver.specs.Text.WordText.{Word}
 use Rattle.nodejs_semver.specs.Internal.Words.{word_at, words}
+use Rattle.nodejs_semver.proofs.Algebra.FlatMaps.{empty_is}
 use Rattle.nodejs_semver.proofs.Dividing.BarsDivide.{bars_divide, bars_once}
 use Rattle.nodejs_semver.proofs.Reading.Steps.{and-both, and-left, and-right}
 use Rattle.nodejs_semver.proofs.Dividing.PartSteps.{words-none}
@@ -116,10 +117,6 @@ pieces-utf8 text pieces (more_pieces piece rest others h ended cut) u =
 
 -- ---- a piece is blank where nothing is left of it
 
-empty-is : (text : List ℕ) → is_empty text ≡ true → text ≡ []
-empty-is [] h = refl
-empty-is (b ∷ rest) h = cc h
-
 no_characters : (cs : List ℕ) → encode_utf8_all cs ≡ [] → cs ≡ []
 no_characters [] h = refl
 no_characters (c ∷ cs) h =
@@ -133,7 +130,7 @@ blank-empty piece h =
 pub empty-blank : (piece : List ℕ) → IsUtf8 piece → is_empty (trim piece) ≡ true → IsBlank piece
 empty-blank piece u h =
     let is = trim_is_middle piece u in
-    let none : is.characters ≡ [] = no_characters is.characters (sym is.middle_is ∙ empty-is (trim piece) h) in
+    let none : is.characters ≡ [] = no_characters is.characters (sym is.middle_is ∙ empty_is (trim piece) h) in
     record {
       characters = is.before ++ is.after;
       each = list_all-append is_whitespace is.before is.after ∙ and-both _ _ is.blank_before is.blank_after;
