@@ -5,3 +5,4 @@ pub mod LeastOf
 pub mod LeastPieces
 pub mod OutsideLaw
 pub mod Raised
+pub mod Starts

@@ -1,15 +1,16 @@
 -- For proofs and private contracts: the versions among which the least ones are found.
-use Rattle.std.specs.Prelude.{◌+◌, Bool, true, false, ◌&&◌, not, List, [], ◌∷◌, ◌++◌, if◌then◌else◌, Option, Some, None, fold, ⊤, ◌<◌, ◌^◌, ◌-◌}
+use Rattle.std.specs.Prelude.{◌≡◌, ◌+◌, Bool, true, false, ◌&&◌, not, List, [], ◌∷◌, ◌++◌, if◌then◌else◌, Option, Some, None, fold, ⊤, ◌<◌, ◌^◌, ◌-◌}
 use Rattle.std.specs.List.{flat_map}
 use Rattle.std.specs.Ordering.{is_le, is_lt}
-use Rattle.semver_core.specs.Cuts.{Span, Cut, Side, Start, Beside, End, Near, Far}
+use Rattle.semver_core.specs.Cuts.{Span, Cut, Side, Start, Beside, End, Near, Far, holds}
 use Rattle.semver_core.specs.Text.Identifiers.{Numeric}
 use Rattle.semver_core.specs.Values.Order.{precedence}
 use Rattle.semver_core.specs.Values.Versions.{VersionValue, is_release}
 use Rattle.semver_core.specs.declared.cuts.bound.Bound.{Bound}
 use Rattle.semver_core.specs.declared.cuts.bound.Bound.TheVariants.{Unbounded, Before, After}
 use Rattle.semver_core.specs.Lists.{is_empty}
-use Rattle.nodejs_semver.specs.Ranges.Least.{all_accept, beyond}
+use Rattle.nodejs_semver.specs.Ranges.Gate.{accepts, lets_in}
+use Rattle.nodejs_semver.specs.Ranges.Least.{IsLeastOf, all_accept, beyond, least_build}
 
 -- the versions without a build that come first somewhere
 abbrev pub zero : VersionValue
@@ -114,3 +115,21 @@ abbrev pub has_build : Bound VersionValue → Bool
 has_build Unbounded = false
 has_build (Before w) = not (is_empty w.build)
 has_build (After w) = not (is_empty w.build)
+
+-- the span begins with this version, and accepts it
+abbrev pub StartsWith : Span VersionValue → VersionValue → Type 0
+StartsWith s v = (s.lower ≡ Before v) × ((holds precedence s v && lets_in s v) ≡ true)
+
+-- the least version that the spans accept, with its build
+abbrev pub IsLeastBuilt : List (Span VersionValue) → VersionValue → Type 0
+IsLeastBuilt ss v = IsLeastOf (λ w. accepts ss w false) (Some v) × (v.build ≡ least_build ss v)
+
+-- the least so far, where there is one yet
+abbrev pub IsLeastSoFar : List (Span VersionValue) → Option VersionValue → Type 0
+IsLeastSoFar ss None = ss ≡ []
+IsLeastSoFar ss (Some v) = IsLeastBuilt ss v
+
+-- the best so far, or the next version where that is below it
+abbrev pub lesser : Option VersionValue → VersionValue → VersionValue
+lesser None next = next
+lesser (Some best) next = if is_le (precedence best next) then best else next

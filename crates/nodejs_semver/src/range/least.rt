@@ -24,8 +24,8 @@ use crate::range::neighbours::{
     bare, bare_release, first_pre, is_first_pre, patch_after, pre_after, with_build,
 };
 use crate::{Range, RangeRef};
-use semver_core::Version;
 use semver_core::cuts::{Bound, Interval};
+use semver_core::{Version, VersionRef};
 use std::alloc::{AllocError, Global};
 
 impl Range {
@@ -84,6 +84,10 @@ impl<'a> RangeRef<'a> {
         ensures least { IfOk result (λ r. stated.IsLeastOf (λ v. accepts self.now v false) r) }
         ensures build { IfOk result (λ r. IfSome r (λ v. v.build ≡ stated.least_build self.now v)) }
     {
+        if let Some(version) = least_start(self.intervals()) {
+            let found = version.to_version(alloc)?;
+            return Ok(Some(found));
+        }
         let range = self.to_range(alloc)?;
         range.min_version(alloc)
     }
@@ -102,6 +106,40 @@ impl<'a> RangeRef<'a> {
         let removed = other.to_range(alloc)?;
         range.least_beyond(alloc, &removed)
     }
+}
+
+// The version with which the interval begins, where the interval accepts it.
+#[inline(always)]
+fn start<'v, 'a>(interval: &'v Interval<VersionRef<'a>>) -> Option<&'v VersionRef<'a>>
+    ensures { IfSome result (λ v. spec.StartsWith interval.now v.now) }
+{
+    match interval.lower() {
+        Bound::Before(version) if accepts_one(interval, version, false) => Some(version),
+        _ => None,
+    }
+}
+
+// The best so far, or the next version where that is below it.
+#[inline(always)]
+fn lesser<'v, 'a>(best: Option<&'v VersionRef<'a>>, next: &'v VersionRef<'a>) -> &'v VersionRef<'a>
+    ensures { result.now ≡ spec.lesser (option_copied best.entry) next.now }
+{
+    match best {
+        Some(best) if best.cmp(next).is_le() => best,
+        _ => next,
+    }
+}
+
+// The least version that the intervals accept, where each of them begins with one that it accepts.
+// Most do, and then no version has to be made.
+fn least_start<'v, 'a>(intervals: &'v [Interval<VersionRef<'a>>]) -> Option<&'v VersionRef<'a>>
+    ensures { IfSome result (λ v. spec.IsLeastBuilt intervals.now v.now) }
+{
+    let mut least = None;
+    for interval in intervals {
+        least = Some(lesser(least, start(interval)?));
+    }
+    least
 }
 
 // The search for the least version that `kept` and each range of `also` accept and `removed` does

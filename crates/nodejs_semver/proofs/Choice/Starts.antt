@@ -1,0 +1,98 @@
+-- The least version of spans each of which begins with a version that it accepts.
+use Rattle.std.proofs.Common.{◌≡◌, sym, ◌∙◌, ap, subst, ℕ, ◌+◌, ◌<◌, Bool, true, false, ◌&&◌, ◌||◌, not, List, [], ◌∷◌, ◌++◌, Option, Some, None, if◌then◌else◌, length, get_or, take, inl, inr, refl, arith}
+use Rattle.std.proofs.Math.Bool.{or-false}
+use Rattle.std.proofs.lemmas.Bool.{cond_both, false≢true, or_cases, or_parts}
+use Rattle.std.proofs.lemmas.List.{take_more}
+use Rattle.std.proofs.lemmas.List.Folds.{find-append, list_any-append}
+use Rattle.std.specs.Cmp.{first_so, tied_itself}
+use Rattle.std.specs.List.{find, list_any}
+use Rattle.std.specs.Option.{option_or}
+use Rattle.std.specs.Prelude.{option_and_then}
+use Rattle.std.specs.declared.cmp.Ordering.{Ordering}
+use Rattle.std.specs.declared.cmp.Ordering.TheVariants.{Less, Equal, Greater}
+use Rattle.std.specs.Ordering.{ordering_then, is_eq, is_le, is_lt}
+use Rattle.semver_core.proofs.CutLaws.{not_if}
+use Rattle.semver_core.specs.Cuts.{Span, holds, is_past, lower_cut}
+use Rattle.semver_core.specs.Internal.OrderLaws.{precedence_total}
+use Rattle.semver_core.specs.Values.Order.{precedence}
+use Rattle.semver_core.specs.Values.Versions.{VersionValue}
+use Rattle.nodejs_semver.proofs.Algebra.Triples.{le_trans, lt_is, lt_le}
+use Rattle.nodejs_semver.specs.Internal.Candidates.{StartsWith, IsLeastBuilt, IsLeastSoFar, lesser}
+use Rattle.nodejs_semver.specs.Ranges.Gate.{accepts, lets_in}
+use Rattle.nodejs_semver.specs.Ranges.Least.{begins_with, build_by, least_build}
+
+-- what the span accepts is not below its start
+above_start : (s : Span VersionValue) (w x : VersionValue) → StartsWith s w → holds precedence s x ≡ true → is_le (precedence w x) ≡ true
+above_start s w x start h = near (precedence w x) (sym (ap (λ b. is_past precedence (lower_cut b) x) start.0) ∙ first_so _ _ h)
+  where
+    near : (r : Ordering) → is_le (ordering_then r Equal) ≡ true → is_le r ≡ true
+    near Less h = refl
+    near Equal h = refl
+    near Greater h = cc
+
+-- what one more span accepts
+one_more : (ss : List (Span VersionValue)) (s : Span VersionValue) (x : VersionValue)
+    → accepts (ss ++ s ∷ []) x false ≡ (accepts ss x false || (holds precedence s x && lets_in s x))
+one_more ss s x = list_any-append _ ss (s ∷ []) ∙ ap (λ t. accepts ss x false || t) (or-false _)
+
+-- the first that passes is found, and so in front of others
+find_none : {X : Type 0} (p : X → Bool) (xs : List X) → list_any p xs ≡ false → find p xs ≡ None
+find_none p [] h = refl
+find_none p (x ∷ xs) h =
+    let (here, there) = or_parts (p x) (list_any p xs) h in ap (λ t. if t then Some x else find p xs) here ∙ find_none p xs there
+
+find_some : {X : Type 0} (p : X → Bool) (xs : List X) (o : Option X) → list_any p xs ≡ true → option_or (find p xs) o ≡ find p xs
+find_some p [] o h = absurd (false≢true h)
+find_some p (x ∷ xs) o h =
+    cond_both (p x) (Some x) (find p xs) (λ f. option_or f o ≡ f) (λ _. refl) (λ e. find_some p xs o (ap (λ t. t || list_any p xs) (sym e) ∙ h))
+
+-- a start below all that was accepted so far is the least version
+fresh : (ss : List (Span VersionValue)) (s : Span VersionValue) (w : VersionValue) → StartsWith s w
+    → ((x : VersionValue) → accepts ss x false ≡ true → is_lt (precedence w x) ≡ true) → IsLeastBuilt (ss ++ s ∷ []) w
+fresh ss s w start above = ((one_more ss s w ∙ grind (arith, start.1), least), sym built)
+  where
+    least : (x : VersionValue) → accepts (ss ++ s ∷ []) x false ≡ true → is_le (precedence w x) ≡ true
+    least x h = elim (or_cases _ _ (sym (one_more ss s x) ∙ h))
+        [ inl k ↦ le_of (precedence w x) (above x k) | inr k ↦ above_start s w x start (first_so _ _ k) ]
+      where
+        le_of : (r : Ordering) → is_lt r ≡ true → is_le r ≡ true
+        le_of Less h = refl
+        le_of Equal h = refl
+        le_of Greater h = cc
+
+    fails : accepts ss w false ≡ false
+    fails = not_if _ _ (above w) (ap is_lt (tied_itself precedence_total w))
+
+    built : least_build (ss ++ s ∷ []) w ≡ w.build
+    built = ap (λ o. build_by (option_and_then (λ s. begins_with s.lower) o) w)
+        (find-append _ ss (s ∷ []) ∙ ap (λ o. option_or o (find (λ t. holds precedence t w && lets_in t w) (s ∷ []))) (find_none _ ss fails) ∙ ap (λ t. if t then Some s else None) start.1)
+        ∙ ap (λ b. build_by (begins_with b) w) start.0
+        ∙ ap (λ r. if is_eq r then w.build else []) (tied_itself precedence_total w)
+
+-- a least version stays so in front of a start that is not below it
+kept : (ss : List (Span VersionValue)) (s : Span VersionValue) (v w : VersionValue) → IsLeastBuilt ss v → StartsWith s w
+    → is_le (precedence v w) ≡ true → IsLeastBuilt (ss ++ s ∷ []) v
+kept ss s v w h start le = ((one_more ss s v ∙ grind (arith, h.0.0), least), built)
+  where
+    least : (x : VersionValue) → accepts (ss ++ s ∷ []) x false ≡ true → is_le (precedence v x) ≡ true
+    least x k = elim (or_cases _ _ (sym (one_more ss s x) ∙ k))
+        [ inl m ↦ h.0.1 x m | inr m ↦ le_trans precedence_total v w x le (above_start s w x start (first_so _ _ m)) ]
+
+    built : v.build ≡ least_build (ss ++ s ∷ []) v
+    built = h.1 ∙ ap (λ o. build_by (option_and_then (λ s. begins_with s.lower) o) v)
+        (sym (find-append _ ss (s ∷ []) ∙ find_some _ ss _ h.0.0))
+
+step : (ss : List (Span VersionValue)) (best : Option VersionValue) (s : Span VersionValue) (w : VersionValue)
+    → IsLeastSoFar ss best → StartsWith s w → IsLeastBuilt (ss ++ s ∷ []) (lesser best w)
+step ss None s w e start = fresh ss s w start (λ x h. absurd (false≢true (rw e at h)))
+step ss (Some b) s w h start =
+    cond_both (is_le (precedence b w)) b w (IsLeastBuilt (ss ++ s ∷ [])) (kept ss s b w h start)
+    (λ e. fresh ss s w start (λ x k. lt_le precedence_total w b x (lt_is precedence_total w b ∙ ap not e) (h.0.1 x k)))
+
+-- one more span, at its place
+pub one_further : (ss : List (Span VersionValue)) (i : ℕ) (best : Option VersionValue) (s : Span VersionValue) (w next : VersionValue)
+    → i < length ss → s ≡ get_or ss i s → IsLeastSoFar (take i ss) best → StartsWith s w → next ≡ lesser best w
+    → IsLeastBuilt (take (i + 1) ss) next
+one_further ss i best s w next fits at h start e =
+    subst (IsLeastBuilt (take (i + 1) ss)) (sym e) (subst (λ l. IsLeastBuilt l (lesser best w))
+    (ap (λ y. take i ss ++ y ∷ []) at ∙ sym (take_more ss i s fits)) (step (take i ss) best s w h start))
