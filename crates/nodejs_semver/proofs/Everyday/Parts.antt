@@ -1,8 +1,8 @@
 -- What the fast reader finds is the parts of a common text, and it finds each of them.
-use Rattle.std.proofs.Common.{◌≡◌, ◌⊎◌, ℕ, zero, suc, ◌<◌, ◌≤◌, List, [], ◌∷◌, ◌++◌, length, drop, refl, sym, ap, ◌∙◌, arith, Bool, true, false, Some, None, inl, inr, subst, append-nil, append_assoc, length-append}
-use Rattle.std.specs.Prelude.{◌↔◌, Option, ◌&&◌, ◌||◌, ◌==◌}
+use Rattle.std.proofs.Common.{◌≡◌, ◌⊎◌, ℕ, zero, suc, ◌<◌, ◌≤◌, List, [], ◌∷◌, ◌++◌, length, drop, refl, sym, ap, ◌∙◌, arith, Bool, true, false, Some, inl, inr, subst, append-nil, append_assoc, length-append}
+use Rattle.std.specs.Prelude.{◌↔◌, Option, ◌||◌, ◌==◌}
 use Rattle.std.specs.Char.{is_ascii_digit}
-use Rattle.std.proofs.lemmas.Bool.{and_parts, cases_Bool, eqb-true}
+use Rattle.std.proofs.lemmas.Bool.{cases_Bool, eqb-true}
 use Rattle.std.proofs.lemmas.Bool.Decides.{nat_tests}
 use Rattle.semver_core.specs.Text.Characters.{begins}
 use Rattle.semver_core.specs.Cuts.{Span, meet}
@@ -61,8 +61,7 @@ comparator-of c sign text equal_sign h = refl
 comparison-exact : (limit : ℕ) (x : List ℕ) (w : Word) (more : List ℕ) → IsComparison limit x w → Stop more → comparison_front limit (x ++ more) ≡ Some (w, more)
 unfolding comparison_front
 comparison-exact limit x w more (comparison c sign text p is bare) stop =
-    let at = comparator-of c sign (text ++ more) is (begins-on is_component_byte text more (bare-begins limit text p bare)) in
-    rw (append_assoc sign text more, at, bare-exact limit text more p bare stop) refl
+    grind (arith, comparator-of, bare-begins, append_assoc, bare-exact)
 
 -- a comparison at the front
 abbrev Compared : ℕ → List ℕ → Word → List ℕ → Type 0
@@ -130,17 +129,10 @@ plain-exact limit x more p h stop dash = rw (bare-exact limit x more p h stop, d
 hyphen-exact : (limit : ℕ) (x y more : List ℕ) (p q : Partial) → IsBare limit x p → IsBare limit y q → Stop more
     → partials_front limit (x ++ (32 ∷ 45 ∷ 32 ∷ (y ++ more))) ≡ Some (hyphen p q, more)
 unfolding partials_front
-hyphen-exact limit x y more p q h k stop =
-    rw (bare-exact limit x (32 ∷ 45 ∷ 32 ∷ (y ++ more)) p h (stop-space (45 ∷ 32 ∷ (y ++ more))), bare-exact limit y more q k stop) refl
+hyphen-exact limit x y more p q h k stop = grind (arith, bare-exact, stop-space)
 
 dash-is : (text : List ℕ) → begins_dash text ≡ true → text ≡ 32 ∷ 45 ∷ 32 ∷ drop 3 text
-dash-is [] h = cc h
-dash-is (a ∷ []) h = cc h
-dash-is (a ∷ b ∷ []) h = cc h
-dash-is (a ∷ b ∷ c ∷ rest) h =
-    let first = and_parts (a == 32) (b == 45 && c == 32) h in
-    let later = and_parts (b == 45) (c == 32) first.1 in
-    rw (eqb-true a 32 first.0, eqb-true b 45 later.0, eqb-true c 32 later.1) refl
+dash-is text h = grind arith
 
 partials-sound : (limit : ℕ) (text : List ℕ) (w : Word) (more : List ℕ) → partials_front limit text ≡ Some (w, more) → Worded limit text w more
 unfolding partials_front
@@ -165,20 +157,11 @@ partials-sound limit text w more h =
 -- ---- parts
 
 part-is : (rest : List ℕ) (o : Option (Span VersionValue)) (s : Span VersionValue) (more : List ℕ) → part_read rest o ≡ Some (s, more) → (o ≡ Some s) × (rest ≡ more)
-part-is rest None s more h = cc h
-part-is rest (Some a) s more h =
-    let e : (a, rest) ≡ (s, more) = inside h in
-    (ap (λ (x : Span VersionValue × List ℕ). Some x.0) e, ap (λ (x : Span VersionValue × List ℕ). x.1) e)
+part-is rest o s more h = grind arith
 
 read-sound : (limit : ℕ) (read : Front Word) (s : Span VersionValue) (more : List ℕ) → word_read limit read ≡ Some (s, more)
     → (w : Word) × (read ≡ Some (w, more)) × (table limit w ≡ Some s)
-read-sound limit read s more h =
-    let w = bind-some read (λ w. part_read w.1 (table limit w.0)) (s, more) h in
-    let p = part-is w.0.1 (table limit w.0.0) s more w.2 in
-    (w.0.0, w.1 ∙ ap (λ (r : List ℕ). pair_of w.0.0 r) p.1, p.0)
-  where
-    pair_of : Word → List ℕ → Front Word
-    pair_of w r = Some (w, r)
+read-sound limit read s more h = grind arith
 
 one-comparison : (limit : ℕ) (text : List ℕ) (s : Span VersionValue) (more : List ℕ) → word_read limit (comparison_front limit text) ≡ Some (s, more)
     → begins_second more ≡ false → comparisons_front limit text ≡ Some (s, more)
@@ -204,23 +187,19 @@ component-other : (b : ℕ) → (is_wildcard b || is_ascii_digit b) ≡ true →
 component-other b h = (grind (arith, nat_tests), grind (arith, nat_tests), grind (arith, nat_tests))
 
 partials-part : (limit : ℕ) (text : List ℕ) → begins_component text ≡ true → part_front limit text ≡ word_read limit (partials_front limit text)
-partials-part limit [] h = cc h
-partials-part limit (b ∷ rest) h = let o = component-other b h in other-part limit b rest o.0 o.1 o.2
+partials-part limit text h = grind (arith, component-other, other-part)
 
 -- a comparison begins with a sign
 comparison-begins : (limit : ℕ) (x : List ℕ) (w : Word) → IsComparison limit x w → begins is_sign x ≡ true
 comparison-begins limit x w (comparison c sign text p is bare) = (sign-begins c sign text is).0
 
 comparisons-part : (limit : ℕ) (text : List ℕ) → begins is_sign text ≡ true → part_front limit text ≡ comparisons_front limit text
-comparisons-part limit [] h = cc h
-comparisons-part limit (b ∷ rest) h = sign-part limit b rest h
+comparisons-part limit text h = grind (arith, sign-part)
 
 word-exact : (limit : ℕ) (x : List ℕ) (w : Word) (s : Span VersionValue) (more : List ℕ) → IsCommonWord limit x w → table limit w ≡ Some s → Ends more
     → part_front limit (x ++ more) ≡ Some (s, more)
 unfolding part_front
-word-exact limit x w s more (plain_word text p h) bounds e =
-    let begins = begins-on is_component_byte text more (bare-begins limit text p h) in
-    partials-part limit (text ++ more) begins ∙ rw (plain-exact limit text more p h e.stop e.dash, bounds) refl
+word-exact limit x w s more (plain_word text p h) bounds e = grind (arith, bare-begins, plain-exact)
 word-exact limit x w s more (compare_word text word is) bounds e =
     comparisons-part limit (text ++ more) (begins-on is_sign text more (comparison-begins limit text word is))
     ∙ one-comparison limit (text ++ more) s more (rw (comparison-exact limit text word more is e.stop, bounds) refl) e.second
@@ -228,10 +207,7 @@ word-exact limit x w s more (tilde_word text p h) bounds e = rw (tilde-exact lim
 word-exact limit x w s more (tilde_greater_word text p h) bounds e = rw (tilde-greater-exact limit text more p h e.stop, bounds) refl
 word-exact limit x w s more (caret_word text p h) bounds e = rw (caret-exact limit text more p h e.stop, bounds) refl
 word-exact limit x w s more (hyphen_word first second p q h k) bounds e =
-    let behind = 32 ∷ 45 ∷ 32 ∷ (second ++ more) in
-    ap (λ (t : List ℕ). part_front limit t) (append_assoc first (32 ∷ 45 ∷ 32 ∷ second) more)
-    ∙ (partials-part limit (first ++ behind) (begins-on is_component_byte first behind (bare-begins limit first p h))
-    ∙ rw (hyphen-exact limit first second more p q h k e.stop, bounds) refl)
+    grind (arith, append_assoc, partials-part, begins-on, bare-begins, hyphen-exact)
 
 -- a part that ends there is read whole
 pub part-exact : (limit : ℕ) (x : List ℕ) (s : Span VersionValue) (more : List ℕ) → IsCommonPart limit x s → Ends more → part_front limit (x ++ more) ≡ Some (s, more)
@@ -253,8 +229,7 @@ worded-part : (limit : ℕ) (text : List ℕ) (w : Word) (s : Span VersionValue)
 worded-part limit text w s more bounds h = (h.0, h.1, one_word h.0 w s h.2 bounds)
 
 second-is : (text : List ℕ) → begins_second text ≡ true → text ≡ 32 ∷ drop 1 text
-second-is [] h = cc h
-second-is (a ∷ rest) h = rw (eqb-true a 32 (and_parts (a == 32) (begins is_sign rest) h).0) refl
+second-is text h = grind arith
 
 comparisons-sound : (limit : ℕ) (text : List ℕ) (s : Span VersionValue) (more : List ℕ) → comparisons_front limit text ≡ Some (s, more) → Parted limit text s more
 unfolding comparisons_front
@@ -348,25 +323,17 @@ barred-ends more next h = subst (λ (t : List ℕ). Ends t) (sym h.divided) (by 
     by gap (inr space) = subst (λ (g : List ℕ). Ends (g ++ 124 ∷ rest)) (sym space) (ends-space rest)
 
 solid-no_space : (text : List ℕ) → begins is_solid text ≡ true → begins_byte 32 text ≡ false
-solid-no_space [] h = refl
-solid-no_space (b ∷ text) h = other b h
-  where
-    other : (b : ℕ) → is_solid b ≡ true → (b == 32) ≡ false
-    other b h = grind (arith, nat_tests)
+solid-no_space text h = grind arith
 
 gap-kept : (text : List ℕ) → begins_byte 32 text ≡ false → after_gap text ≡ text
 gap-kept text h = rw h refl
 
 gap-passed : (gap text : List ℕ) → IsGap gap → begins_byte 32 text ≡ false → after_gap (gap ++ text) ≡ text
-gap-passed gap text (inl none) h = ap (λ (g : List ℕ). after_gap (g ++ text)) none ∙ gap-kept text h
-gap-passed gap text (inr space) h = ap (λ (g : List ℕ). after_gap (g ++ text)) space
+gap-passed gap text h k = grind arith
 
 bars-found : (more one two next : List ℕ) → after_byte 124 (after_gap more) ≡ Some one → after_byte 124 one ≡ Some two → after_gap two ≡ next → after_bars more ≡ Some next
 unfolding after_bars
-bars-found more one two next h k e = rw (h, k) (ap (λ (t : List ℕ). some_text t) e)
-  where
-    some_text : List ℕ → Option (List ℕ)
-    some_text t = Some t
+bars-found more one two next h k e = grind arith
 
 bars-exact : (before after next : List ℕ) → IsGap before → IsGap after → begins is_solid next ≡ true → after_bars (before ++ 124 ∷ (124 ∷ (after ++ next))) ≡ Some next
 bars-exact before after next b a h =
@@ -376,12 +343,10 @@ bars-exact before after next b a h =
 -- ---- all parts
 
 range-begins : (limit : ℕ) (text : List ℕ) (list : List (Span VersionValue)) → IsCommonRange limit text list → begins is_solid text ≡ true
-range-begins limit text list (one_part part s is) = (part-tidy limit part s is).compact.front
-range-begins limit text list (more_parts part before after rest s others is b a more) = begins-on is_solid part _ (part-tidy limit part s is).compact.front
+range-begins limit text list h = grind (arith, part-tidy)
 
 empty-nil : (text : List ℕ) → is_empty text ≡ true → text ≡ []
-empty-nil [] h = refl
-empty-nil (b ∷ text) h = cc h
+empty-nil text h = grind arith
 
 -- the last part
 pub last-sound : (limit : ℕ) (text : List ℕ) (s : Span VersionValue) (more : List ℕ) → part_front limit text ≡ Some (s, more) → is_empty more ≡ true → IsCommonRange limit text (s ∷ [])
@@ -416,8 +381,7 @@ pub record Steps (limit : ℕ) (text : List ℕ) (list : List (Span VersionValue
       × (list ≡ interval ∷ tail) × IsCommonRange limit next tail
 
 gap-filled : (gap rest : List ℕ) → IsGap gap → is_empty (gap ++ 124 ∷ rest) ≡ false
-gap-filled gap rest (inl none) = ap (λ (g : List ℕ). is_empty (g ++ 124 ∷ rest)) none
-gap-filled gap rest (inr space) = ap (λ (g : List ℕ). is_empty (g ++ 124 ∷ rest)) space
+gap-filled gap rest h = grind arith
 
 pub steps : (limit : ℕ) (text : List ℕ) (list : List (Span VersionValue)) → IsCommonRange limit text list → Steps limit text list
 steps limit text list (one_part part s is) = record {
@@ -464,11 +428,7 @@ unfolding common_within
 within-next limit n text s more next tail h e k m = rw (h, e, k, m) refl
 
 within-exact : (limit n : ℕ) (text : List ℕ) (list : List (Span VersionValue)) → length text ≤ n → IsCommonRange limit text list → common_within limit n text ≡ Some list
-within-exact limit zero text list l h = absurd (nothing text (range-begins limit text list h) l)
-  where
-    nothing : (text : List ℕ) → begins is_solid text ≡ true → length text ≤ 0 → ⊥
-    nothing [] b l = cc b
-    nothing (b ∷ text) h l = absurd (omega arith)
+within-exact limit zero text list l h = grind (arith, range-begins)
 within-exact limit (suc n) text list l h =
     let s = steps limit text list h in
     elim s.others [

@@ -47,8 +47,7 @@ keep_byte b rest h = rw (h, drop_end_spaces) refl
 
 gap-gone : (gap : List ℕ) → IsGap gap → drop_end_spaces gap ≡ []
 unfolding drop_end_spaces after_spaces space_len
-gap-gone gap (inl none) = rw none refl
-gap-gone gap (inr space) = rw space refl
+gap-gone gap h = grind arith
 
 end-kept : (text gap : List ℕ) → IsGap gap → list_all is_part_byte text ≡ true → ends is_solid text ≡ true → drop_end_spaces (text ++ gap) ≡ text
 end-kept [] gap g h e = cc e
@@ -58,12 +57,10 @@ end-kept (b ∷ c ∷ text) gap g h e =
     (ap (λ (t : List ℕ). b ∷ t) (end-kept (c ∷ text) gap g (and_parts (is_part_byte b) (list_all is_part_byte (c ∷ text)) h).1 e))
 
 front-kept : (text gap : List ℕ) → begins is_solid text ≡ true → drop_spaces (text ++ gap) ≡ text ++ gap
-front-kept [] gap h = cc h
-front-kept (b ∷ text) gap h = solid-kept b (text ++ gap) h
+front-kept text gap h = grind (arith, solid-kept)
 
 gap-passed : (before text : List ℕ) → IsGap before → drop_spaces (before ++ text) ≡ drop_spaces text
-gap-passed before text (inl none) = rw none refl
-gap-passed before text (inr space) = rw space (space-gone text)
+gap-passed before text h = grind (arith, space-gone)
 
 -- a compact text with a space or none on each side is trimmed to itself
 compact-trim : (before text after : List ℕ) → IsGap before → IsGap after → Compact text → trim (before ++ (text ++ after)) ≡ text
@@ -72,8 +69,7 @@ compact-trim before text after g k c = rw (gap-passed before (text ++ after) g, 
 -- ---- cutting at bars
 
 gap-bytes : (gap : List ℕ) → IsGap gap → list_all is_part_byte gap ≡ true
-gap-bytes gap (inl none) = rw none refl
-gap-bytes gap (inr space) = rw space refl
+gap-bytes gap h = grind arith
 
 no-bar : (b : ℕ) → is_part_byte b ≡ true → is_bar b ≡ false
 no-bar b h = grind (arith, nat_tests)
@@ -106,14 +102,11 @@ record Denoted (limit : ℕ) (pieces : List (List ℕ)) (list : List (Span Versi
   filled : list_all is_empty (map trim pieces) ≡ false
 
 front-filled : (text : List ℕ) → begins is_solid text ≡ true → is_empty text ≡ false
-front-filled [] h = cc h
-front-filled (b ∷ text) h = refl
+front-filled text h = grind arith
 
 denoted-on : (limit : ℕ) (piece part : List ℕ) (pieces : List (List ℕ)) (s : Span VersionValue) (list : List (Span VersionValue)) → trim piece ≡ part → Tidy limit part s
     → flat_map (part_denotes limit) (map trim pieces) ≡ list → Denoted limit (piece ∷ pieces) (s ∷ list)
-denoted-on limit piece part pieces s list t tidy h =
-    let filled = front-filled part tidy.compact.front in
-    record { intervals = rw (t, filled, tidy.intervals, h) refl; filled = rw (t, filled) refl }
+denoted-on limit piece part pieces s list t tidy h = grind arith
 
 denoted : (limit : ℕ) (text : List ℕ) (list : List (Span VersionValue)) (gap : List ℕ) → IsGap gap → AreTidy limit text list → Denoted limit (cut_bars false (gap ++ text)) list
 denoted limit text list gap g (one_tidy part s tidy) =
@@ -140,12 +133,9 @@ word-tidy : (limit : ℕ) (x : List ℕ) (w : Word) (s : Span VersionValue) → 
 word-tidy limit x w s (plain_word text p h) bounds = plain-tidy limit text p s h.components bounds
 word-tidy limit x w s (compare_word text word (comparison c sign rest p is h)) bounds = compared-tidy limit c sign rest p s is h.components bounds
 word-tidy limit x w s (tilde_word text p h) bounds =
-    let begins = components-begin limit text p h.components in
-    let c = compact-partial limit text p h.components in
-    tilde-tidy limit false text text p s (compact-signed 126 text refl c) (rw (drop_spaces-none text (solid-dark text c.front)) (no-greater text begins)) h.components bounds
+    grind (arith, components-begin, compact-partial, tilde-tidy, drop_spaces-none, solid-dark, no-greater)
 word-tidy limit x w s (tilde_greater_word text p h) bounds =
-    let c = compact-signed 62 text refl (compact-partial limit text p h.components) in
-    tilde-tidy limit true (62 ∷ text) text p s (compact-signed 126 (62 ∷ text) refl c) (rw (drop_spaces-none (62 ∷ text) (solid-dark (62 ∷ text) refl)) refl) h.components bounds
+    search (arith, compact-signed, compact-partial, tilde-tidy, drop_spaces-none, solid-dark)
 word-tidy limit x w s (caret_word text p h) bounds = caret-tidy limit text p s h.components bounds
 word-tidy limit x w s (hyphen_word first second p q h k) bounds = hyphen-tidy limit first second p q s h.components k.components bounds
 
@@ -160,8 +150,7 @@ common-tidy limit text list (more_parts part before after rest s others is b a m
     more_tidy part before after rest s others (part-tidy limit part s is) b a (common-tidy limit rest others more)
 
 pub list-some : (limit : ℕ) (text : List ℕ) (list : List (Span VersionValue)) → IsCommonRange limit text list → 0 < length list
-list-some limit text list (one_part part s is) = omega arith
-list-some limit text list (more_parts part before after rest s others is b a more) = omega arith
+list-some limit text list h = grind arith
 
 pub common_ranges_are_denoted : (limit : ℕ) (text : List ℕ) (list : List (Span VersionValue)) → IsCommonRange limit text list
     → (denotes limit text ≡ list) × (0 < length list) × (list_all is_empty (parts text) ≡ false)

@@ -16,12 +16,12 @@ use Rattle.nodejs_semver.specs.Internal.Meets.{joined_from}
 use Rattle.nodejs_semver.specs.Internal.RunsFrom.{runs_from}
 use Rattle.nodejs_semver.specs.Text.PartialText.{AreComponents, Partial, is_wildcard}
 use Rattle.nodejs_semver.specs.Text.Table.{table}
-use Rattle.nodejs_semver.specs.Text.WordText.{IsSign, above_sign, at_least_sign, at_most_sign, below_sign, equal_sign, Comparator, Word, caret, compare, hyphen, plain, tilde}
+use Rattle.nodejs_semver.specs.Text.WordText.{IsSign, Comparator, Word, caret, compare, hyphen, plain, tilde}
 use Rattle.nodejs_semver.specs.Internal.CommonFronts.{is_sign}
 use Rattle.nodejs_semver.specs.Internal.Words.{careted, compared, is_boundary, or_equal, tilde_sign, tilded, unsigned, word_at, words, words_within}
 use Rattle.nodejs_semver.proofs.Dividing.MeetLemmas.{joined-goes, runs-joined}
 use Rattle.nodejs_semver.proofs.Everyday.Compact.{Compact, compact-compared, compact-partial, compact-signed, compact-spaced}
-use Rattle.nodejs_semver.proofs.Reading.Bytes.{begins-on, begins-some, begins_component, component-solid, is_solid, solid-dark}
+use Rattle.nodejs_semver.proofs.Reading.Bytes.{begins-on, begins_component, component-solid, is_solid, solid-dark}
 use Rattle.nodejs_semver.proofs.Reading.Components.{components-begin}
 use Rattle.nodejs_semver.proofs.Reading.PartialLaw.{front-exact}
 use Rattle.nodejs_semver.proofs.Reading.Progress.{words-step}
@@ -34,19 +34,13 @@ component-no_sign : (b : ℕ) → (is_wildcard b || is_ascii_digit b) ≡ true �
 component-no_sign b h = (grind (arith, nat_tests), grind (arith, nat_tests))
 
 pub no-equal : (one two : Comparator) (text : List ℕ) → begins_component text ≡ true → or_equal one two text ≡ (one, text)
-no-equal one two [] h = cc h
-no-equal one two (b ∷ rest) h = rw (component-no_sign b h).0 refl
+no-equal one two text h = grind arith
 
 pub no-greater : (text : List ℕ) → begins_component text ≡ true → tilde_sign text ≡ (false, text)
-no-greater [] h = cc h
-no-greater (b ∷ rest) h = rw (component-no_sign b h).1 refl
+no-greater text h = grind arith
 
 pub sign-begins : (c : Comparator) (sign text : List ℕ) → IsSign c sign → (begins is_sign (sign ++ text) ≡ true) × (begins is_solid (sign ++ text) ≡ true)
-sign-begins c sign text above_sign = (refl, refl)
-sign-begins c sign text at_least_sign = (refl, refl)
-sign-begins c sign text below_sign = (refl, refl)
-sign-begins c sign text at_most_sign = (refl, refl)
-sign-begins c sign text equal_sign = (refl, refl)
+sign-begins c sign text h = grind arith
 
 -- ---- one word
 
@@ -58,8 +52,7 @@ record ReadAt (limit : ℕ) (text : List ℕ) (w : Word) (more : List ℕ) : Typ
 -- the partial, and the same behind a sign, where whitespace might stand
 partial-spaced : (limit : ℕ) (x more : List ℕ) (p : Partial) → AreComponents limit x p → Stop more → partial_front limit (drop_spaces (x ++ more)) ≡ Some (p, more)
 partial-spaced limit x more p h stop =
-    let dark = solid-dark (x ++ more) (begins-on is_solid x more (component-solid x (components-begin limit x p h))) in
-    rw (drop_spaces-none (x ++ more) dark) (front-exact limit x more p h stop)
+    grind (arith, solid-dark, begins-on, component-solid, components-begin, drop_spaces-none, front-exact)
 
 partial-last : (limit : ℕ) (x : List ℕ) (p : Partial) → AreComponents limit x p → partial_front limit x ≡ Some (p, [])
 partial-last limit x p h = subst (λ (t : List ℕ). partial_front limit t ≡ Some (p, [])) (append-nil x) (front-exact limit x [] p h stop-nil)
@@ -81,8 +74,7 @@ compared-read limit c sign x more p is h stop end =
 -- ---- the words of a part, and its interval
 
 words-at : (limit : ℕ) (text : List ℕ) (w : Word) (more : List ℕ) → ReadAt limit text w more → words limit text ≡ w ∷ words limit (drop_spaces more)
-words-at limit text w more r =
-    words-step limit text (begins-some is_solid text r.front) (solid-dark text r.front) ∙ ap (λ (q : Word × List ℕ). q.0 ∷ words limit (drop_spaces q.1)) r.word
+words-at limit text w more r = grind (arith, words-step, solid-dark)
 
 one-word : (limit : ℕ) (text : List ℕ) (w : Word) → ReadAt limit text w [] → words limit text ≡ w ∷ []
 unfolding after_spaces words_within
@@ -122,8 +114,7 @@ last-compared limit c sign x p is h =
 
 pub compared-tidy : (limit : ℕ) (c : Comparator) (sign x : List ℕ) (p : Partial) (s : Span VersionValue) → IsSign c sign → AreComponents limit x p
     → table limit (compare c p) ≡ Some s → Tidy limit (sign ++ x) s
-compared-tidy limit c sign x p s is h bounds =
-    word-tidy limit (sign ++ x) (compare c p) s (compact-compared c sign x is (compact-partial limit x p h)) (last-compared limit c sign x p is h).word bounds
+compared-tidy limit c sign x p s is h bounds = grind (arith, word-tidy, compact-compared, compact-partial, last-compared)
 
 pub tilde-tidy : (limit : ℕ) (greater : Bool) (rest x : List ℕ) (p : Partial) (s : Span VersionValue) → Compact (126 ∷ rest) → tilde_sign (drop_spaces rest) ≡ (greater, x)
     → AreComponents limit x p → table limit (tilde greater p) ≡ Some s → Tidy limit (126 ∷ rest) s

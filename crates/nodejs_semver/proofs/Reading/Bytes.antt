@@ -1,22 +1,20 @@
 -- What the bytes of a text are: the first, the last, and all of them.
-use Rattle.std.proofs.Common.{◌≡◌, ℕ, ◌<◌, List, [], ◌∷◌, ◌++◌, length, refl, ◌∙◌, arith, Bool, true, false}
+use Rattle.std.proofs.Common.{◌≡◌, ℕ, ◌<◌, List, [], ◌∷◌, ◌++◌, length, refl, ◌∙◌, arith, Bool, true}
 use Rattle.std.specs.Prelude.{◌&&◌, ◌||◌, ◌==◌, not, nat_lt}
 use Rattle.std.specs.Char.{is_ascii_digit}
 use Rattle.std.specs.List.{list_all}
 use Rattle.std.proofs.lemmas.Bool.{and_from, and_parts}
 use Rattle.std.proofs.lemmas.Bool.Decides.{nat_tests}
 use Rattle.std.proofs.lemmas.List.Folds.{list_all-append}
-use Rattle.semver_core.specs.Text.Characters.{begins, ends, is_whitespace}
+use Rattle.semver_core.specs.Text.Characters.{begins, ends}
 use Rattle.semver_core.specs.Internal.Spaces.{space_len}
 use Rattle.nodejs_semver.specs.Text.PartialText.{is_wildcard}
 
 pub begins-on : (p : ℕ → Bool) (u v : List ℕ) → begins p u ≡ true → begins p (u ++ v) ≡ true
-begins-on p [] v h = cc h
-begins-on p (b ∷ u) v h = h
+begins-on p u v h = grind arith
 
 pub begins-some : (p : ℕ → Bool) (u : List ℕ) → begins p u ≡ true → 0 < length u
-begins-some p [] h = cc h
-begins-some p (b ∷ u) h = omega arith
+begins-some p u h = grind arith
 
 pub ends-some : (p : ℕ → Bool) (u : List ℕ) → ends p u ≡ true → 0 < length u
 ends-some p [] h = cc h
@@ -30,8 +28,7 @@ ends-append p (b ∷ []) (c ∷ v) h = refl
 ends-append p (b ∷ c ∷ u) v h = ends-append p (c ∷ u) v h
 
 pub all-begin : (p : ℕ → Bool) (u : List ℕ) → 0 < length u → list_all p u ≡ true → begins p u ≡ true
-all-begin p [] some h = absurd (omega arith)
-all-begin p (b ∷ u) some h = (and_parts (p b) (list_all p u) h).0
+all-begin p u h k = grind arith
 
 pub all-end : (p : ℕ → Bool) (u : List ℕ) → 0 < length u → list_all p u ≡ true → ends p u ≡ true
 all-end p [] some h = absurd (omega arith)
@@ -53,14 +50,7 @@ is_solid b = nat_lt 32 b && (nat_lt b 127 && not (b == 124))
 -- a text that begins with one does not begin with whitespace
 pub solid-dark : (text : List ℕ) → begins is_solid text ≡ true → space_len text ≡ 0
 unfolding space_len
-solid-dark [] h = cc h
-solid-dark (b ∷ rest) h = rw (low b h, dark b h) refl
-  where
-    low : (b : ℕ) → is_solid b ≡ true → nat_lt b 128 ≡ true
-    low b h = grind (arith, nat_tests)
-
-    dark : (b : ℕ) → is_solid b ≡ true → is_whitespace b ≡ false
-    dark b h = grind (arith, nat_tests)
+solid-dark text h = grind (arith, nat_tests)
 
 -- the text begins with a wildcard or a digit
 abbrev pub is_component_byte : ℕ → Bool
@@ -70,8 +60,4 @@ abbrev pub begins_component : List ℕ → Bool
 begins_component text = begins is_component_byte text
 
 pub component-solid : (text : List ℕ) → begins_component text ≡ true → begins is_solid text ≡ true
-component-solid [] h = h
-component-solid (b ∷ rest) h = byte b h
-  where
-    byte : (b : ℕ) → is_component_byte b ≡ true → is_solid b ≡ true
-    byte b h = grind (arith, nat_tests)
+component-solid text h = grind arith

@@ -1,13 +1,13 @@
 -- The components of a partial at the front of a text: what is read is written there, and what is written is read.
 use Rattle.std.proofs.Common.{◌≡◌, ℕ, ◌<◌, ◌≤◌, List, [], ◌∷◌, ◌++◌, length, drop, refl, sym, ap, ◌∙◌, arith, true, false, Some, None, inl, inr, subst, append_assoc, length-append}
-use Rattle.std.specs.Prelude.{Option, ◌==◌}
+use Rattle.std.specs.Prelude.{Option}
 use Rattle.std.specs.Char.{is_ascii_digit}
-use Rattle.std.proofs.lemmas.Bool.{cases_Bool, eqb-true}
+use Rattle.std.proofs.lemmas.Bool.{cases_Bool}
 use Rattle.semver_core.specs.Text.Characters.{begins}
 use Rattle.nodejs_semver.specs.Internal.Fronts.{Front, begins_wildcard, build_front, component_front, dotted_front, minor_front, number_front, patch_front, pre_release_front}
 use Rattle.nodejs_semver.specs.Text.PartialText.{AreComponents, IsComponent, Partial, number, one, three, two, wildcard}
-use Rattle.nodejs_semver.proofs.Reading.Bytes.{all-begin, all-end, begins-on, begins_component, is_component_byte}
-use Rattle.nodejs_semver.proofs.Reading.Numbers.{digit-no_wildcard, number-found, number-read, number_first, wildcard-no_digit}
+use Rattle.nodejs_semver.proofs.Reading.Bytes.{all-end, begins-on, begins_component}
+use Rattle.nodejs_semver.proofs.Reading.Numbers.{number-found, number-read, number_first, wildcard-no_digit}
 use Rattle.nodejs_semver.proofs.Reading.Qualifiers.{build-read, build_front-le, pre-read, pre_release_front-le, qualifier-passed}
 use Rattle.nodejs_semver.proofs.Reading.Quiet.{Quiet, Stop, quiet-append, quiet-before, quiet-behind, quiet-both, quiet-front, quiet-further}
 use Rattle.nodejs_semver.proofs.Reading.Steps.{bind-some, inside}
@@ -15,22 +15,14 @@ use Rattle.nodejs_semver.proofs.Reading.Steps.{bind-some, inside}
 -- ---- one component
 
 component-some : (limit : ℕ) (c : List ℕ) (v : Option ℕ) → IsComponent limit c v → 0 < length c
-component-some limit c v (wildcard b h) = omega arith
-component-some limit c v (number digits n h) = h.some
+component-some limit c v h = grind arith
 
 -- it begins with a wildcard or a digit
 component-begins : (limit : ℕ) (c : List ℕ) (v : Option ℕ) → IsComponent limit c v → begins_component c ≡ true
-component-begins limit c v (wildcard b h) = rw h refl
-component-begins limit c v (number digits n h) = digit digits (all-begin is_ascii_digit digits h.some h.each)
-  where
-    digit : (run : List ℕ) → begins is_ascii_digit run ≡ true → begins_component run ≡ true
-    digit [] k = k
-    digit (b ∷ rest) k = rw (digit-no_wildcard b k, k) refl
+component-begins limit c v h = grind arith
 
 pub components-begin : (limit : ℕ) (x : List ℕ) (p : Partial) → AreComponents limit x p → begins_component x ≡ true
-components-begin limit x p (one c a h) = component-begins limit c a h
-components-begin limit x p (two c d a b h k) = begins-on is_component_byte c (46 ∷ d) (component-begins limit c a h)
-components-begin limit x p (three c d e pre build q h k l quiet m n) = begins-on is_component_byte c _ (component-begins limit c q.major h)
+components-begin limit x p h = grind (arith, component-begins, begins-on)
 
 component-then : (limit : ℕ) (c more : List ℕ) (v : Option ℕ) → IsComponent limit c v → Quiet c more → component_front limit (c ++ more) ≡ Some (v, more)
 unfolding component_front
@@ -67,13 +59,7 @@ component-read limit x v r h = elim (cases_Bool (begins_wildcard x)) [
 
 dotted-read : (limit : ℕ) (x : List ℕ) (v : Option ℕ) (r : List ℕ) → dotted_front limit x ≡ Some (v, r) → (c : List ℕ) × (x ≡ 46 ∷ (c ++ r)) × Component limit (c ++ r) c r v
 unfolding dotted_front
-dotted-read limit [] v r h = cc h
-dotted-read limit (b ∷ x) v r h = elim (cases_Bool (b == 46)) [
-  | inl dot ↦
-      let c = component-read limit x v r (rw dot at h) in
-      (c.0, ap (λ (d : ℕ). d ∷ x) (eqb-true b 46 dot) ∙ ap (λ (t : List ℕ). 46 ∷ t) c.1.split, record { split = refl; is = c.1.is; quiet = c.1.quiet })
-  | inr other ↦ cc (rw other at h)
-]
+dotted-read limit x v r h = grind (arith, component-read)
 
 -- ---- what is read is written
 
@@ -143,10 +129,7 @@ minor_front-le limit a x (Some b) h =
     omega (arith, dotted_front-le limit x b.0 b.1 h, patch_front-le limit a b.0 b.1 (dotted_front limit b.1) refl)
 
 pub component-shorter : (limit : ℕ) (x : List ℕ) (v : Option ℕ) (r : List ℕ) → component_front limit x ≡ Some (v, r) → length r < length x
-component-shorter limit x v r h =
-    let c = component-read limit x v r h in
-    let some = component-some limit c.0 v c.1.is in
-    omega (arith, ap length c.1.split, length-append c.0 r)
+component-shorter limit x v r h = grind (arith, component-read, length-append)
 
 pub record Passes (r : Partial × List ℕ) (p : Partial) (more : List ℕ) : Type 0 where
   pub le : length r.1 ≤ length more

@@ -1,11 +1,11 @@
 -- Identifiers joined by dots: the longest list at the front of a text.
 use Rattle.std.proofs.Common.{◌≡◌, ℕ, ◌<◌, ◌≤◌, ◌+◌, List, [], ◌∷◌, ◌++◌, length, take, drop, get_or, refl, sym, ap, ◌∙◌, arith, true, false, inl, inr, subst, length-append, length-drop}
-use Rattle.std.specs.Prelude.{◌==◌, map}
+use Rattle.std.specs.Prelude.{◌==◌}
 use Rattle.std.specs.List.{list_all, onto_first}
 use Rattle.std.proofs.lemmas.Bool.{cases_Bool, eqb-true}
 use Rattle.std.proofs.lemmas.List.{drop_more, take_at, drop_at}
 use Rattle.semver_core.specs.Text.Characters.{begins}
-use Rattle.semver_core.specs.Text.Identifiers.{Id, IsIdentifiers, Numeric, goes_on, identifier_of, is_identifier, is_listed, listed, pieces}
+use Rattle.semver_core.specs.Text.Identifiers.{Id, IsIdentifiers, Numeric, goes_on, is_identifier, is_listed, listed, pieces}
 use Rattle.semver_core.specs.Internal.Reading.{list_len, list_of}
 use Rattle.semver_core.specs.Lists.{is_empty}
 use Rattle.semver_core.proofs.Text.Pieces.{first_char, list_ended, list_sound, runs_begin, runs_tail, tail_onto, tail_runs}
@@ -23,10 +23,7 @@ list_len-le (b ∷ rest) = elim (cases_Bool (goes_on (b ∷ rest))) [
 
 pub front_len-fits : (text : List ℕ) → front_len text ≤ length text
 unfolding front_len
-front_len-fits text = elim (cases_Bool (begins_identifier text)) [
-  | inl some ↦ rw some (list_len-le text)
-  | inr none ↦ rw none (omega arith)
-]
+front_len-fits text = grind (arith, list_len-le)
 
 -- the runs of the list at the front
 taken-runs : (text : List ℕ) → begins_identifier text ≡ true → list_all is_identifier (pieces (take (list_len text) text)) ≡ true
@@ -40,8 +37,7 @@ taken-runs text h =
 
 identifiers-are : (t : List ℕ) → list_all is_identifier (pieces t) ≡ true → IsIdentifiers t (listed t)
 unfolding listed
-identifiers-are [] h = cc h
-identifiers-are (b ∷ t) h = record { runs = h; spelled = refl }
+identifiers-are t h = grind arith
 
 pub front-identifiers : (text : List ℕ) → begins_identifier text ≡ true → IsIdentifiers (take (front_len text) text) (listed (take (front_len text) text))
 unfolding front_len
@@ -81,14 +77,11 @@ pub written-le : (t more : List ℕ) (l : List Id) → IsIdentifiers t l → len
 written-le t more l h = omega (arith, length-drop (front_len (t ++ more)) (t ++ more), length-append t more, written-len t more l h)
 
 pub written-exact : (t more : List ℕ) (l : List Id) → IsIdentifiers t l → list_len more ≡ 0 → split_list (t ++ more) ≡ (t, more)
-written-exact t more l h stop =
-    let size : front_len (t ++ more) ≡ length t = omega (arith, written-len t more l h, stop) in
-    rw (size, take_at t more (length t) refl, drop_at t more (length t) refl) refl
+written-exact t more l h stop = grind (arith, written-len, take_at, drop_at)
 
 pub written-spelled : (t : List ℕ) (l : List Id) → IsIdentifiers t l → listed t ≡ l
 unfolding listed
-written-spelled [] l h = cc h.runs
-written-spelled (b ∷ t) l h = sym h.spelled
+written-spelled t l h = grind arith
 
 -- ---- the loop that counts: it goes on at a place, ends early, and ends with the text
 
@@ -100,8 +93,7 @@ list_len-more text i lt h =
 
 list_len-end : (text : List ℕ) → goes_on text ≡ false → list_len text ≡ 0
 unfolding list_len
-list_len-end [] h = refl
-list_len-end (b ∷ rest) h = rw h refl
+list_len-end text h = grind arith
 
 pub front_len-is : (text : List ℕ) (i : ℕ) → begins_identifier text ≡ true → list_len text ≡ i + list_len (drop i text) → goes_on (drop i text) ≡ false → i ≡ front_len text
 unfolding front_len
@@ -111,28 +103,19 @@ front_len-is text i begins inv stop = rw begins (omega (arith, list_len-end (dro
 
 is_listed-from : (t : List ℕ) (l : List Id) → IsIdentifiers t l → is_listed t ≡ true
 unfolding is_listed
-is_listed-from [] l h = refl
-is_listed-from (b ∷ t) l h = h.runs
+is_listed-from t l h = grind arith
 
 pub listed_nil : is_listed [] ≡ true
 unfolding is_listed
 listed_nil = refl
 
 pub listed_taken : (text : List ℕ) → is_listed (take (front_len text) text) ≡ true
-listed_taken text = elim (cases_Bool (begins_identifier text)) [
-  | inl some ↦ is_listed-from (take (front_len text) text) (listed (take (front_len text) text)) (front-identifiers text some)
-  | inr none ↦ rw (front_len-none text none) listed_nil
-]
+listed_taken text = grind (arith, is_listed-from, front-identifiers, front_len-none, listed_nil)
 
 -- no list spells no identifiers
 pub listed_empty : (t : List ℕ) → is_empty (listed t) ≡ is_empty t
 unfolding listed
-listed_empty [] = refl
-listed_empty (b ∷ t) = elim (cases_Bool (b == 46)) [ inl dot ↦ rw dot refl | inr other ↦ rw other (first (pieces t)) ]
-  where
-    first : (ps : List (List ℕ)) → is_empty (map identifier_of (onto_first b ps)) ≡ false
-    first [] = refl
-    first (p ∷ ps) = refl
+listed_empty t = grind arith
 
 -- the empty text, and `0`
 pub nothing_spelled : listed [] ≡ []

@@ -1,45 +1,34 @@
 -- Numbers: as a whole text, and at the front of one.
-use Rattle.std.proofs.Common.{◌≡◌, ℕ, suc, ◌+◌, ◌<◌, ◌≤◌, List, [], ◌∷◌, ◌++◌, length, drop, refl, sym, ap, ◌∙◌, arith, true, false, Some, None, inl, inr, subst}
-use Rattle.std.specs.Prelude.{◌↔◌, ◌&&◌, not, nat_le}
+use Rattle.std.proofs.Common.{◌≡◌, ℕ, suc, ◌+◌, ◌<◌, ◌≤◌, List, [], ◌∷◌, ◌++◌, length, drop, refl, ap, ◌∙◌, arith, true, false, Some, None, inl, inr}
+use Rattle.std.specs.Prelude.{◌↔◌, not}
 use Rattle.std.specs.Char.{is_ascii_digit}
-use Rattle.std.specs.List.{list_all, take_while, prefix_len}
-use Rattle.std.specs.Str.Parse.{digits_value}
-use Rattle.std.proofs.lemmas.Bool.{and_parts, cases_Bool, le-leb, leb-true}
+use Rattle.std.specs.List.{list_all, prefix_len}
+use Rattle.std.proofs.lemmas.Bool.{and_parts, cases_Bool}
 use Rattle.std.proofs.lemmas.Bool.Decides.{nat_tests}
 use Rattle.std.proofs.lemmas.List.{take-append-drop, take_at, drop_at}
-use Rattle.std.proofs.lemmas.Option.{cond_some, some_pair_parts}
 use Rattle.semver_core.specs.Lists.{is_empty}
 use Rattle.semver_core.specs.Text.Characters.{begins, IsPieceAt, NoPieceAt}
 use Rattle.semver_core.specs.Text.Numbers.{IsNumber, IsWholeNumber}
 use Rattle.nodejs_semver.specs.Internal.Fronts.{begins_wildcard, component_front, number_front, number_of}
 use Rattle.nodejs_semver.specs.Text.PartialText.{is_wildcard}
 use Rattle.nodejs_semver.proofs.Reading.Bytes.{all-begin}
-use Rattle.nodejs_semver.proofs.Reading.Steps.{bind-some, option-cases}
+use Rattle.nodejs_semver.proofs.Reading.Steps.{option-cases}
 
 -- ---- a whole text
 
 filled : (text : List ℕ) → not (is_empty text) ≡ true → 0 < length text
-filled [] h = cc h
-filled (b ∷ rest) h = omega arith
+filled text h = grind arith
 
 not-empty : (text : List ℕ) → 0 < length text → not (is_empty text) ≡ true
-not-empty [] h = absurd (omega arith)
-not-empty (b ∷ rest) h = refl
+not-empty text h = grind arith
 
 number-is : (limit : ℕ) (text : List ℕ) (n : ℕ) → number_of limit text ≡ Some n → IsNumber limit text n
 unfolding number_of
-number-is limit text n h =
-    let p = cond_some (not (is_empty text) && list_all is_ascii_digit text && nat_le (digits_value 10 text) limit) (digits_value 10 text) n h in
-    let all = and_parts (not (is_empty text) && list_all is_ascii_digit text) (nat_le (digits_value 10 text) limit) p.0 in
-    let front = and_parts (not (is_empty text)) (list_all is_ascii_digit text) all.0 in
-    let le = leb-true (digits_value 10 text) limit all.1 in
-    record { some = filled text front.0; each = front.1; value = sym p.1; safe = omega (arith, p.1) }
+number-is limit text n h = grind arith
 
 number-of : (limit : ℕ) (text : List ℕ) (n : ℕ) → IsNumber limit text n → number_of limit text ≡ Some n
 unfolding number_of
-number-of limit text n h =
-    let small : digits_value 10 text ≤ limit = omega (arith, h.value, h.safe) in
-    rw (not-empty text h.some, h.each, le-leb (digits_value 10 text) limit small) (ap Some (sym h.value))
+number-of limit text n h = grind arith
 
 pub numbers_are : (limit : ℕ) (text : List ℕ) (n : ℕ) → (number_of limit text ≡ Some n) ↔ IsNumber limit text n
 numbers_are limit text n = (number-is limit text n, number-of limit text n)
@@ -62,8 +51,7 @@ run-ends (b ∷ rest) = elim (cases_Bool (is_ascii_digit b)) [
 
 -- a number is read that ends with its run of digits
 pub number-read : (limit : ℕ) (run more : List ℕ) (n : ℕ) → IsNumber limit run n → begins is_ascii_digit more ≡ false → number_front limit (run ++ more) ≡ Some (n, more)
-number-read limit run more n h stop =
-    rw (digits-taken run more h.each stop, take_at run more (length run) refl, drop_at run more (length run) refl, number-of limit run n h) refl
+number-read limit run more n h stop = grind (arith, digits-taken, take_at, drop_at, number-of)
 
 -- and what is read is such a one
 pub record NumberAt (limit : ℕ) (text : List ℕ) (n : ℕ) (rest : List ℕ) : Type 0 where
@@ -73,17 +61,7 @@ pub record NumberAt (limit : ℕ) (text : List ℕ) (n : ℕ) (rest : List ℕ) 
   pub ended : begins is_ascii_digit rest ≡ false
 
 pub number-found : (limit : ℕ) (text : List ℕ) (n : ℕ) (rest : List ℕ) → number_front limit text ≡ Some (n, rest) → NumberAt limit text n rest
-number-found limit text n rest h =
-    let run = take_while is_ascii_digit text in
-    let left = drop (prefix_len is_ascii_digit text) text in
-    let m = bind-some (number_of limit run) _ (n, rest) h in
-    let p = some_pair_parts m.0 n left rest m.2 in
-    record {
-      run = run;
-      split = sym (take-append-drop (prefix_len is_ascii_digit text) text) ∙ ap (λ (t : List ℕ). run ++ t) p.1;
-      is = subst (λ (k : ℕ). IsNumber limit run k) p.0 (number-is limit run m.0 m.1);
-      ended = subst (λ (t : List ℕ). begins is_ascii_digit t ≡ false) p.1 (run-ends text);
-    }
+number-found limit text n rest h = grind (arith, take-append-drop, number-is, run-ends)
 
 -- ---- the number that the code finds
 
@@ -112,8 +90,7 @@ digit-no_wildcard b h = grind (arith, nat_tests)
 
 -- where a number begins, no wildcard does, so that a component may be looked for as a number first
 number-no_wildcard : (run more : List ℕ) → begins is_ascii_digit run ≡ true → begins_wildcard (run ++ more) ≡ false
-number-no_wildcard [] more h = cc h
-number-no_wildcard (b ∷ run) more h = digit-no_wildcard b h
+number-no_wildcard run more h = grind arith
 
 pub number_first : (limit : ℕ) (text rest : List ℕ) (n : ℕ) → number_front limit text ≡ Some (n, rest) → component_front limit text ≡ Some (Some n, rest)
 unfolding component_front

@@ -1,12 +1,12 @@
 -- The partial that is read at the front of a text is the longest one that is written there.
 use Rattle.std.proofs.Common.{◌≡◌, ◌⊎◌, ℕ, ◌<◌, ◌≤◌, List, [], ◌∷◌, ◌++◌, length, take, drop, refl, sym, ap, ◌∙◌, arith, true, false, Some, inl, inr, subst, append-nil, append_assoc, length-append}
 use Rattle.std.specs.Prelude.{◌==◌, ◌||◌, ◌↔◌, Option, IsUtf8, encode_utf8_all}
-use Rattle.std.specs.Char.{encode_utf8, is_ascii_digit}
+use Rattle.std.specs.Char.{is_ascii_digit}
 use Rattle.std.specs.List.{list_all}
-use Rattle.std.proofs.lemmas.Bool.{and_parts, cases_Bool, eqb-true}
+use Rattle.std.proofs.lemmas.Bool.{cases_Bool, eqb-true}
 use Rattle.std.proofs.lemmas.Bool.Decides.{nat_tests}
 use Rattle.std.proofs.lemmas.List.{take_at, drop_at}
-use Rattle.std.proofs.lemmas.Str.{IsUtf8-drop, IsCharBoundary-after_ascii, encodes-append, len_utf8_bounds}
+use Rattle.std.proofs.lemmas.Str.{IsUtf8-drop, IsCharBoundary-after_ascii, encodes-append}
 use Rattle.semver_core.specs.Text.Characters.{is_whitespace, IsBlank}
 use Rattle.semver_core.specs.Internal.Spaces.{drop_spaces, space_len}
 use Rattle.semver_core.proofs.Text.SpaceLaw.{space_len-white}
@@ -15,7 +15,7 @@ use Rattle.semver_core.proofs.Text.Trims.{drop_spaces-blank, fronted}
 use Rattle.nodejs_semver.specs.Internal.Fronts.{component_front, dotted_front, drop_v, minor_front, partial_front}
 use Rattle.nodejs_semver.specs.Text.LongestText.{BeginsPartial, IsLongestPartial}
 use Rattle.nodejs_semver.specs.Text.PartialText.{AreComponents, IsPartial, Partial, is_wildcard}
-use Rattle.nodejs_semver.proofs.Reading.Steps.{bind-some, first-same, inside, second-same}
+use Rattle.nodejs_semver.proofs.Reading.Steps.{first-same, second-same}
 use Rattle.nodejs_semver.proofs.Reading.Bytes.{begins-on, begins-some, begins_component, component-solid, is_component_byte, solid-dark}
 use Rattle.nodejs_semver.proofs.Reading.Components.{Passes, Read, components-begin, components-read, components-then}
 use Rattle.nodejs_semver.proofs.Reading.Quiet.{Quiet, Stop, quiet-append, quiet-before, quiet-last, stop-nil}
@@ -30,8 +30,7 @@ front-dark : (text : List ℕ) → begins_component text ≡ true → space_len 
 front-dark text h = solid-dark text (component-solid text h)
 
 front-kept : (text : List ℕ) → begins_component text ≡ true → drop_spaces (drop_v text) ≡ text
-front-kept [] h = cc h
-front-kept (b ∷ rest) h = rw (begins-no_v b h) (drop_spaces-none (b ∷ rest) (front-dark (b ∷ rest) h))
+front-kept text h = grind (arith, drop_spaces-none, front-dark)
 
 -- ---- the mark and the whitespace
 
@@ -41,30 +40,15 @@ unfolding space_len
 v-dark rest = refl
 
 unmarked-blank : (text : List ℕ) → 0 < space_len text → drop_v text ≡ text
-unmarked-blank [] h = refl
-unmarked-blank (b ∷ rest) h = elim (cases_Bool (b == 118)) [
-  | inl v ↦ let some : 0 < space_len (118 ∷ rest) = rw (eqb-true b 118 v) at h in absurd (omega (arith, v-dark rest))
-  | inr other ↦ rw other refl
-]
+unmarked-blank text h = grind (arith, v-dark)
 
 unmarked : (cs text : List ℕ) → list_all is_whitespace cs ≡ true → begins_component text ≡ true → drop_v (encode_utf8_all cs ++ text) ≡ encode_utf8_all cs ++ text
 unmarked [] [] each h = refl
 unmarked [] (b ∷ rest) each h = rw (begins-no_v b h) refl
-unmarked (c ∷ cs) text each h =
-    let white = space_len-white c (encode_utf8_all cs ++ text) (and_parts (is_whitespace c) (list_all is_whitespace cs) each).0 in
-    let same = append_assoc (encode_utf8 c) (encode_utf8_all cs) text in
-    unmarked-blank (encode_utf8_all (c ∷ cs) ++ text) (rw same (omega (arith, white, (len_utf8_bounds c).0)))
+unmarked (c ∷ cs) text each h = grind (arith, space_len-white, append_assoc, unmarked-blank)
 
 skipped : (mark blank y : List ℕ) → (mark ≡ []) ⊎ (mark ≡ 118 ∷ []) → IsBlank blank → begins_component y ≡ true → drop_spaces (drop_v (mark ++ (blank ++ y))) ≡ y
-skipped mark blank y m b begin =
-    let body = blank ++ y in
-    let spelled : body ≡ encode_utf8_all b.characters ++ y = ap (λ (t : List ℕ). t ++ y) b.spelled in
-    let plain : drop_v body ≡ body = ap (λ (t : List ℕ). drop_v t) spelled ∙ (unmarked b.characters y b.each begin ∙ sym spelled) in
-    let behind : drop_v (mark ++ body) ≡ body = elim m [
-      | inl none ↦ ap (λ (t : List ℕ). drop_v (t ++ body)) none ∙ plain
-      | inr small ↦ ap (λ (t : List ℕ). drop_v (t ++ body)) small
-    ] in
-    ap (λ (t : List ℕ). drop_spaces t) (behind ∙ spelled) ∙ (drop_spaces-blank b.characters y b.each ∙ drop_spaces-none y (front-dark y begin))
+skipped mark blank y m b begin = grind (arith, unmarked, drop_spaces-blank, drop_spaces-none, front-dark)
 
 -- the mark, and the text behind it, which is UTF-8 again
 record Marked (text : List ℕ) : Type 0 where
@@ -110,11 +94,7 @@ spaced text u =
 pub front-read : (limit : ℕ) (text : List ℕ) (p : Partial) (rest : List ℕ) → partial_front limit text ≡ Some (p, rest)
     → (s : List ℕ) × Read limit (drop_spaces (drop_v text)) s rest p
 unfolding partial_front
-front-read limit text p rest h =
-    let body = drop_spaces (drop_v text) in
-    let a = bind-some (component_front limit body) (λ a. Some (minor_front limit a.0 a.1 (dotted_front limit a.1))) (p, rest) h in
-    let s = components-read limit body a.0 a.1 in
-    (s.0, subst (λ (r : Partial × List ℕ). Read limit body s.0 r.1 r.0) (inside a.2) s.1)
+front-read limit text p rest h = grind (arith, components-read)
 
 front-begins : (limit : ℕ) (text : List ℕ) (p : Partial) (rest : List ℕ) → IsUtf8 text → partial_front limit text ≡ Some (p, rest)
     → (front : List ℕ) × BeginsPartial limit text front p rest

@@ -1,13 +1,12 @@
 -- Each word takes a byte or more, so the list of words is a recursion.
-use Rattle.std.proofs.Common.{◌≡◌, ℕ, zero, suc, ◌<◌, ◌≤◌, List, [], ◌∷◌, length, refl, ap, ◌∙◌, arith, Some, None, inl, inr, length-append, true, false, Bool}
-use Rattle.std.specs.Prelude.{Option, ◌==◌, nat_lt}
+use Rattle.std.proofs.Common.{◌≡◌, ℕ, zero, suc, ◌<◌, ◌≤◌, List, [], ◌∷◌, length, refl, ap, ◌∙◌, arith, Some, None, inl, inr, length-append, false}
+use Rattle.std.specs.Prelude.{◌==◌, nat_lt}
 use Rattle.std.proofs.lemmas.Bool.{cases_Bool}
 use Rattle.std.proofs.lemmas.Option.{cond_some}
 use Rattle.semver_core.specs.Internal.Spaces.{drop_spaces, space_len, after_spaces}
-use Rattle.nodejs_semver.specs.Text.WordText.{Word, Comparator, above, at_least, below, at_most, equal, hyphen}
-use Rattle.nodejs_semver.specs.Internal.Words.{Reading, Sign, after_some_space, at_boundary, behind_sign, careted, comparator_at, compared, comparing, from_boundary, is_boundary, or_else, or_equal, sign_at, signed_word, tilde_sign, tilded, unsigned, upper_of, word_at, word_behind, words, words_within}
+use Rattle.nodejs_semver.specs.Text.WordText.{Word, Comparator}
+use Rattle.nodejs_semver.specs.Internal.Words.{Reading, Sign, after_some_space, at_boundary, behind_sign, careted, comparator_at, compared, from_boundary, is_boundary, or_equal, sign_at, tilde_sign, tilded, unsigned, upper_of, word_at, word_behind, words, words_within}
 use Rattle.nodejs_semver.specs.Internal.Fronts.{after_byte, component_front, dotted_front, drop_v, minor_front, partial_front}
-use Rattle.semver_core.specs.Internal.Reading.{◌>>?◌}
 use Rattle.nodejs_semver.specs.Text.PartialText.{Partial}
 use Rattle.nodejs_semver.proofs.Reading.Steps.{bind-some, second-same}
 use Rattle.nodejs_semver.proofs.Reading.Components.{component-shorter, minor_front-le}
@@ -39,8 +38,7 @@ some-space-le : (text r : List ℕ) → after_some_space text ≡ Some r → len
 some-space-le text r h = omega (arith, ap length (cond_some (nat_lt 0 (space_len text)) (drop_spaces text) r h).1, spaces-le text)
 
 byte-le : (c : ℕ) (text r : List ℕ) → after_byte c text ≡ Some r → length r ≤ length text
-byte-le c [] r h = cc h
-byte-le c (b ∷ text) r h = omega (arith, ap length (cond_some (b == c) text r h).1)
+byte-le c text r h = grind arith
 
 boundary-same : (w x : Word) (rest r : List ℕ) → at_boundary w rest ≡ Some (x, r) → rest ≡ r
 boundary-same w x rest r h = ap (λ (y : Word × List ℕ). y.1) (cond_some (is_boundary rest) (w, rest) (x, r) h).1
@@ -65,50 +63,19 @@ upper-le limit (tilded greater) text q h = cc h
 upper-le limit careted text q h = cc h
 
 word_behind-le : (limit : ℕ) (s : Sign) (p : Partial) (rest : List ℕ) (x : Word) (r : List ℕ) → word_behind limit s p rest ≡ Some (x, r) → length r ≤ length rest
-word_behind-le limit s p rest x r h = go (upper_of limit s rest) refl h
-  where
-    go : (o : Option (Partial × List ℕ)) → upper_of limit s rest ≡ o → or_else (o >>? λ q. Some (hyphen p q.0, q.1)) (at_boundary (signed_word s p) rest) ≡ Some (x, r)
-        → length r ≤ length rest
-    go (Some q) e k = omega (arith, upper-le limit s rest q e, ap length (second-same (hyphen p q.0, q.1) (x, r) k))
-    go None e k = omega (arith, ap length (boundary-same (signed_word s p) x rest r k))
+word_behind-le limit s p rest x r h = grind (arith, upper-le)
 
 or_equal-le : (one two : Comparator) (rest : List ℕ) → length (or_equal one two rest).1 ≤ length rest
-or_equal-le one two [] = omega arith
-or_equal-le one two (b ∷ rest) = elim (cases_Bool (b == 61)) [ inl e ↦ rw e (omega arith) | inr o ↦ rw o (omega arith) ]
+or_equal-le one two rest = grind arith
 
 comparator-le : (text : List ℕ) (c : Comparator × List ℕ) → comparator_at text ≡ Some c → length c.1 ≤ length text
-comparator-le [] c h = cc h
-comparator-le (b ∷ rest) c h = elim (cases_Bool (b == 62)) [
-  | inl more ↦ sized (or_equal above at_least rest) (or_equal-le above at_least rest) (rw more at h)
-  | inr a ↦ elim (cases_Bool (b == 60)) [
-    | inl less ↦ sized (or_equal below at_most rest) (or_equal-le below at_most rest) (rw (a, less) at h)
-    | inr o ↦ elim (cases_Bool (b == 61)) [
-      | inl same ↦ sized (equal, rest) (omega arith) (rw (a, o, same) at h)
-      | inr none ↦ cc (rw (a, o, none) at h)
-    ]
-  ]
-]
-  where
-    sized : (d : Comparator × List ℕ) → length d.1 ≤ length rest → Some d ≡ Some c → length c.1 ≤ length (b ∷ rest)
-    sized d l k = omega (arith, ap length (second-same d c k))
+comparator-le text c h = grind arith
 
 sign-le : (rest : List ℕ) → length (tilde_sign rest).1 ≤ length rest
-sign-le [] = omega arith
-sign-le (b ∷ rest) = elim (cases_Bool (b == 62)) [ inl e ↦ rw e (omega arith) | inr o ↦ rw o (omega arith) ]
+sign-le rest = grind arith
 
 sign_at-le : (text : List ℕ) → length (sign_at text).1 ≤ length text
-sign_at-le [] = omega arith
-sign_at-le (b ∷ rest) = elim (cases_Bool (b == 126)) [
-  | inl same ↦ rw same (omega (arith, spaces-le rest, sign-le (drop_spaces rest), spaces-le (tilde_sign (drop_spaces rest)).1))
-  | inr a ↦ elim (cases_Bool (b == 94)) [
-    | inl same ↦ rw (a, same) (omega (arith, spaces-le rest))
-    | inr c ↦ rw (a, c) (compared-le (comparator_at (b ∷ rest)) refl)
-  ]
-]
-  where
-    compared-le : (o : Option (Comparator × List ℕ)) → comparator_at (b ∷ rest) ≡ o → length (comparing o (b ∷ rest)).1 ≤ length (b ∷ rest)
-    compared-le None e = omega arith
-    compared-le (Some c) e = omega (arith, comparator-le (b ∷ rest) c e, spaces-le c.1)
+sign_at-le text = grind (arith, spaces-le, sign-le)
 
 form-shorter : (limit : ℕ) (text : List ℕ) (x : Word) (r : List ℕ) → behind_sign limit (sign_at text) ≡ Some (x, r) → length r < length text
 form-shorter limit text x r h =
@@ -119,11 +86,7 @@ form-shorter limit text x r h =
 boundary-le : (text : List ℕ) → length (from_boundary text) ≤ length text
 unfolding from_boundary
 boundary-le [] = omega arith
-boundary-le (b ∷ rest) = go (boundary-le rest) (is_boundary (b ∷ rest)) refl
-  where
-    go : length (from_boundary rest) ≤ length rest → (t : Bool) → is_boundary (b ∷ rest) ≡ t → length (from_boundary (b ∷ rest)) ≤ length (b ∷ rest)
-    go l true e = rw (e, from_boundary) (omega arith)
-    go l false e = rw (e, from_boundary) (omega arith)
+boundary-le (b ∷ rest) = grind (arith, boundary-le rest)
 
 no-boundary : (b : ℕ) (rest : List ℕ) → space_len (b ∷ rest) ≡ 0 → is_boundary (b ∷ rest) ≡ false
 unfolding is_boundary
@@ -168,10 +131,4 @@ words-enough limit (suc n) (suc m) (c ∷ text) h a b =
 pub words-step : (limit : ℕ) (text : List ℕ) → 0 < length text → space_len text ≡ 0
     → words limit text ≡ (word_at limit text).0 ∷ words limit (drop_spaces (word_at limit text).1)
 unfolding words_within
-words-step limit [] some h = absurd (omega arith)
-words-step limit (b ∷ rest) some h =
-    let after = drop_spaces (word_at limit (b ∷ rest)).1 in
-    let less = word-shorter limit b rest h in
-    let le = spaces-le (word_at limit (b ∷ rest)).1 in
-    ap (λ (l : List Word). (word_at limit (b ∷ rest)).0 ∷ l)
-    (words-enough limit (length rest) (length after) after (spaces-gone 0 (word_at limit (b ∷ rest)).1) (omega arith) (omega arith))
+words-step limit text h k = grind (arith, word-shorter, spaces-le, words-enough, spaces-gone)

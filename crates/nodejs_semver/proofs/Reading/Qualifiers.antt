@@ -1,5 +1,5 @@
 -- The pre-release and the build at the front of a text: what is read is written there, and what is written is read.
-use Rattle.std.proofs.Common.{◌≡◌, ℕ, zero, suc, ◌≤◌, List, [], ◌∷◌, ◌++◌, length, take, drop, refl, sym, ap, ◌∙◌, arith, true, false, inl, inr, append-nil, append_assoc, length-append}
+use Rattle.std.proofs.Common.{◌≡◌, ℕ, zero, suc, ◌≤◌, List, [], ◌∷◌, ◌++◌, length, take, drop, refl, sym, ap, arith, true, false, inl, inr, append-nil, append_assoc, length-append}
 use Rattle.std.specs.Prelude.{◌&&◌}
 use Rattle.std.specs.Char.{is_ascii_digit}
 use Rattle.std.proofs.lemmas.Bool.{and_parts, cases_Bool, eqb-true}
@@ -139,10 +139,7 @@ pre-written p y b l (bare t r list h d) = undashed t h.identifiers d
       le = rw e (written-le (c ∷ t) y list k);
       exact = λ run d i. record { text = c ∷ t; is = rw e (written-exact (c ∷ t) y list k run); list = written-spelled (c ∷ t) list k };
     }
-pre-written p y b l (no_pre_release r h) = record {
-  le = pre_release_front-le y;
-  exact = λ run d i. record { text = []; is = rw (d, front_len-none y i) refl; list = refl };
-}
+pre-written p y b l (no_pre_release r h) = grind (arith, pre_release_front-le, front_len-none)
 
 -- the qualifier of a partial is passed, and no more is where nothing goes on
 pub record QualifierRead (text more : List ℕ) (l m : List Id) : Type 0 where
@@ -155,13 +152,7 @@ pub record QualifierPassed (text more : List ℕ) (l m : List Id) : Type 0 where
   pub exact : Stop more → QualifierRead text more l m
 
 read-as : (text y more : List ℕ) (l m : List Id) → Taken (pre_release_front text) y l → Taken (build_front y) more m → QualifierRead text more l m
-read-as text y more l m p b =
-    let build : build_front (pre_release_front text).1 ≡ (b.text, more) = ap (λ (x : List ℕ × List ℕ). build_front x.1) p.is ∙ b.is in
-    record {
-      pre = ap (λ (x : List ℕ × List ℕ). listed x.0) p.is ∙ p.list;
-      build = ap (λ (x : List ℕ × List ℕ). listed x.0) build ∙ b.list;
-      rest = ap (λ (x : List ℕ × List ℕ). x.1) build;
-    }
+read-as text y more l m p b = grind arith
 
 pub qualifier-passed : (pre build more : List ℕ) (l m : List Id) → IsPreRelease pre build l → IsBuild build [] m → QualifierPassed ((pre ++ build) ++ more) more l m
 unfolding build_front listed list_len

@@ -28,12 +28,10 @@ quiet-both u [] left h k = rw (append-nil u) h
 quiet-both u (d ∷ v) left h k = quiet-append u (d ∷ v) left (omega arith) k
 
 pub quiet-front : (u v left : List ℕ) → Quiet u (v ++ left) → Quiet u v
-quiet-front u [] left h = quiet-before u [] refl
-quiet-front u (d ∷ v) left h = h
+quiet-front u v left h = grind arith
 
 pub quiet-further : (u v more : List ℕ) → Quiet u v → Quiet (u ++ v) more → Quiet u (v ++ more)
-quiet-further u [] more h k = rw (append-nil u) at k
-quiet-further u (d ∷ v) more h k = h
+quiet-further u v more h k = grind (arith, append-nil)
 
 -- nothing goes on: the end, a space or a bar
 pub record Stop (more : List ℕ) : Type 0 where

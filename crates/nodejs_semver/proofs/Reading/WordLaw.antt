@@ -1,7 +1,7 @@
 -- The word that is computed is the one that is written.
 use Rattle.std.proofs.Common.{◌≡◌, ◌⊎◌, ℕ, ◌<◌, ◌≤◌, Bool, List, [], ◌∷◌, ◌++◌, length, drop, get_or, refl, sym, ap, ◌∙◌, arith, true, false, Some, None, inl, inr, subst, append_assoc, length-append}
-use Rattle.std.specs.Prelude.{◌↔◌, ◌||◌, Option, IsUtf8, encode_utf8_all, ◌==◌, nat_lt, IsCharBoundary}
-use Rattle.std.specs.Char.{encode_utf8, is_ascii_digit}
+use Rattle.std.specs.Prelude.{IfSome, ◌↔◌, ◌||◌, Option, IsUtf8, encode_utf8_all, ◌==◌, nat_lt, IsCharBoundary}
+use Rattle.std.specs.Char.{encode_utf8}
 use Rattle.std.proofs.lemmas.Bool.{cases_Bool, cases_lt, eqb-true, lt-ltb}
 use Rattle.std.proofs.lemmas.Bool.Decides.{nat_tests}
 use Rattle.std.proofs.lemmas.Option.{cond_some}
@@ -14,11 +14,11 @@ use Rattle.semver_core.proofs.Text.Spaces.{drop_spaces-none, space_len-nil}
 use Rattle.semver_core.proofs.Text.Trims.{drop_spaces-blank}
 use Rattle.nodejs_semver.specs.Internal.Words.{Reading, Sign, after_some_space, at_boundary, behind_sign, careted, comparator_at, compared, comparing, from_boundary, is_boundary, or_else, or_equal, or_malformed, sign_at, tilde_sign, tilded, unsigned, upper_behind, word_at, word_behind}
 use Rattle.nodejs_semver.specs.Internal.Fronts.{after_byte, component_front, number_of, partial_front}
-use Rattle.nodejs_semver.specs.Text.PartialText.{Partial, is_wildcard}
+use Rattle.nodejs_semver.specs.Text.PartialText.{Partial}
 use Rattle.semver_core.specs.Internal.Reading.{◌>>?◌}
 use Rattle.nodejs_semver.specs.Text.LongestText.{IsLongestPartial}
-use Rattle.nodejs_semver.specs.Text.WordText.{IsBehind, IsBoundary, IsFirstBoundary, IsForm, IsHyphen, IsSign, IsWhole, IsWordAt, SkipsBlank, above_sign, at_least_sign, at_most_sign, below_sign, caret_form, compare_form, equal_sign, formed, hyphen_form, no_form, plain_form, tilde_form, tilde_greater_form, Comparator, Word, above, at_least, at_most, below, caret, compare, equal, hyphen, malformed, plain, tilde}
-use Rattle.nodejs_semver.proofs.Reading.Bytes.{is_solid, solid-dark}
+use Rattle.nodejs_semver.specs.Text.WordText.{IsBehind, IsBoundary, IsFirstBoundary, IsForm, IsHyphen, IsSign, IsWhole, IsWordAt, SkipsBlank, above_sign, at_least_sign, at_most_sign, below_sign, caret_form, compare_form, equal_sign, formed, hyphen_form, no_form, plain_form, tilde_form, tilde_greater_form, Comparator, Word, above, at_least, at_most, below, caret, compare, hyphen, malformed, plain, tilde}
+use Rattle.nodejs_semver.proofs.Reading.Bytes.{solid-dark}
 use Rattle.nodejs_semver.proofs.Reading.Boundaries.{from_boundary-nil, from_boundary-stop}
 use Rattle.nodejs_semver.proofs.Reading.PartialLaw.{longest_are, spaced}
 use Rattle.nodejs_semver.proofs.Reading.Steps.{bind-some, inside, option-cases, second-same}
@@ -88,9 +88,7 @@ rest-utf8 limit text p rest u h b = boundary-utf8 h.front rest (subst (λ (t : L
 
 boundary-of : (rest : List ℕ) → IsBoundary rest → is_boundary rest ≡ true
 unfolding is_boundary
-boundary-of rest (inl none) = rw none refl
-boundary-of [] (inr blank) = refl
-boundary-of (b ∷ rest) (inr blank) = lt-ltb 0 (space_len (b ∷ rest)) (blank-len (b ∷ rest) blank)
+boundary-of rest h = grind (arith, blank-len)
 
 -- ---- whitespace
 
@@ -125,8 +123,7 @@ some_space-of : (text rest : List ℕ) → IsUtf8 text → BeginsBlank text → 
 some_space-of text rest u b h = rw (lt-ltb 0 (space_len text) (blank-len text b), skips-of text rest u h) refl
 
 pub byte-is : (c : ℕ) (text rest : List ℕ) → after_byte c text ≡ Some rest → text ≡ c ∷ rest
-byte-is c [] rest h = cc h
-byte-is c (b ∷ text) rest h = let p = cond_some (b == c) text rest h in rw (eqb-true b c p.0, p.1) refl
+byte-is c text rest h = grind arith
 
 -- ---- partials up to a boundary
 
@@ -143,35 +140,10 @@ is_opening b = b == 126 || b == 94 || b == 62 || b == 60 || b == 61
 
 opening-none : (limit b : ℕ) (rest : List ℕ) → is_opening b ≡ true → partial_front limit (b ∷ rest) ≡ None
 unfolding partial_front component_front number_of
-opening-none limit b rest h =
-    let other = not_partial b h in
-    rw (other.0, drop_spaces-none (b ∷ rest) (solid-dark (b ∷ rest) other.1), other.2, other.3) refl
-  where
-    not_partial : (b : ℕ) → is_opening b ≡ true → ((b == 118) ≡ false) × (is_solid b ≡ true) × (is_wildcard b ≡ false) × (is_ascii_digit b ≡ false)
-    not_partial b k = (grind (arith, nat_tests), grind (arith, nat_tests), grind (arith, nat_tests), grind (arith, nat_tests))
-
-not-opening : (limit b : ℕ) (rest : List ℕ) (x : Partial × List ℕ) → partial_front limit (b ∷ rest) ≡ Some x → is_opening b ≡ false
-not-opening limit b rest x h = elim (cases_Bool (is_opening b)) [
-  | inl sign ↦ cc (sym (opening-none limit b rest sign) ∙ h)
-  | inr other ↦ other
-]
-
-record NoSign (b : ℕ) : Type 0 where
-  tilde : (b == 126) ≡ false
-  caret : (b == 94) ≡ false
-  greater : (b == 62) ≡ false
-  less : (b == 60) ≡ false
-  equal : (b == 61) ≡ false
-
-no-sign : (limit b : ℕ) (rest : List ℕ) (x : Partial × List ℕ) → partial_front limit (b ∷ rest) ≡ Some x → NoSign b
-no-sign limit b rest x h = tests b (not-opening limit b rest x h)
-  where
-    tests : (b : ℕ) → is_opening b ≡ false → NoSign b
-    tests b k = record { tilde = grind (arith, nat_tests); caret = grind (arith, nat_tests); greater = grind (arith, nat_tests); less = grind (arith, nat_tests); equal = grind (arith, nat_tests) }
+opening-none limit b rest h = grind (arith, nat_tests, drop_spaces-none, solid-dark)
 
 pub unsigned-at : (limit : ℕ) (text : List ℕ) (x : Partial × List ℕ) → partial_front limit text ≡ Some x → sign_at text ≡ (unsigned, text)
-unsigned-at limit [] x h = refl
-unsigned-at limit (b ∷ rest) x h = let n = no-sign limit b rest x h in rw (n.tilde, n.caret, n.greater, n.less, n.equal) refl
+unsigned-at limit text x h = grind (arith, nat_tests, opening-none)
 
 bind-of : {A B : Type 0} (o : Option A) (f : A → Option B) (x : A) → o ≡ Some x → (o >>? f) ≡ f x
 bind-of {A} {B} o f x h = ap (λ (p : Option A). p >>? f) h
@@ -226,31 +198,28 @@ or-equal : (one two : Comparator) (b : ℕ) (rest : List ℕ) → IsSign one (b 
     → (sign : List ℕ) × IsSign (or_equal one two rest).0 sign × (b ∷ rest ≡ sign ++ (or_equal one two rest).1)
 or-equal one two b [] s t = (b ∷ [], s, refl)
 or-equal one two b (d ∷ rest) s t = elim (cases_Bool (d == 61)) [
-  | inl same ↦ rw same (b ∷ 61 ∷ [], t, ap (λ (e : ℕ). b ∷ e ∷ rest) (eqb-true d 61 same))
+  | inl same ↦ rw same (b ∷ 61 ∷ [], t, rw (eqb-true d 61 same) refl)
   | inr other ↦ rw other (b ∷ [], s, refl)
 ]
 
 abbrev pub Signed : List ℕ → Comparator × List ℕ → Type 0
 Signed text c = (sign : List ℕ) × IsSign c.0 sign × (text ≡ sign ++ c.1)
 
-pub sign-is : (text : List ℕ) (c : Comparator × List ℕ) → comparator_at text ≡ Some c → Signed text c
-sign-is [] c h = cc h
-sign-is (b ∷ rest) c h = elim (cases_Bool (b == 62)) [
-  | inl more ↦
-      let e : or_equal above at_least rest ≡ c = inside (rw more at h) in
-      rw (eqb-true b 62 more) (subst (λ (d : Comparator × List ℕ). Signed (62 ∷ rest) d) e (or-equal above at_least 62 rest above_sign at_least_sign))
+sign-at : (text : List ℕ) → IfSome (comparator_at text) (Signed text)
+sign-at [] = tt
+sign-at (b ∷ rest) = elim (cases_Bool (b == 62)) [
+  | inl more ↦ rw more (rw (eqb-true b 62 more) (or-equal above at_least 62 rest above_sign at_least_sign))
   | inr other ↦ elim (cases_Bool (b == 60)) [
-    | inl less ↦
-        let e : or_equal below at_most rest ≡ c = inside (rw (other, less) at h) in
-        rw (eqb-true b 60 less) (subst (λ (d : Comparator × List ℕ). Signed (60 ∷ rest) d) e (or-equal below at_most 60 rest below_sign at_most_sign))
+    | inl less ↦ rw (other, less) (rw (eqb-true b 60 less) (or-equal below at_most 60 rest below_sign at_most_sign))
     | inr apart ↦ elim (cases_Bool (b == 61)) [
-      | inl same ↦
-          let e : (equal, rest) ≡ c = inside (rw (other, apart, same) at h) in
-          rw (eqb-true b 61 same) (subst (λ (d : Comparator × List ℕ). Signed (61 ∷ rest) d) e (61 ∷ [], equal_sign, refl))
-      | inr none ↦ cc (rw (other, apart, none) at h)
+      | inl same ↦ rw (other, apart, same) (rw (eqb-true b 61 same) (61 ∷ [], equal_sign, refl))
+      | inr none ↦ rw (other, apart, none) tt
     ]
   ]
 ]
+
+pub sign-is : (text : List ℕ) (c : Comparator × List ℕ) → comparator_at text ≡ Some c → Signed text c
+sign-is text c h = rw h at (sign-at text)
 
 sign-utf8 : (c : Comparator) (sign text : List ℕ) → IsSign c sign → IsUtf8 (sign ++ text) → IsUtf8 text
 sign-utf8 c sign text above_sign u = tail-utf8 62 text (omega arith) u
@@ -369,26 +338,14 @@ form-as : (limit : ℕ) (text : List ℕ) (s : Sign) (start : List ℕ) (p : Par
 form-as limit text s start p rest e f = ap (λ (y : Sign × List ℕ). behind_sign limit y) e ∙ rw f refl
 
 alone : (one two : Comparator) (limit : ℕ) (text : List ℕ) (x : Partial × List ℕ) → partial_front limit (drop_spaces text) ≡ Some x → or_equal one two text ≡ (one, text)
-alone one two limit [] x h = refl
-alone one two limit (b ∷ text) x h = elim (cases_Bool (b == 61)) [
-  | inl same ↦ equal text (subst (λ (c : ℕ). partial_front limit (drop_spaces (c ∷ text)) ≡ Some x) (eqb-true b 61 same) h)
-  | inr other ↦ rw other refl
-]
-  where
-    equal : {A : Type 0} (text : List ℕ) → partial_front limit (drop_spaces (61 ∷ text)) ≡ Some x → A
-    equal text k = absurd (cc (sym (opening-none limit 61 text refl) ∙ ap (λ (t : List ℕ). partial_front limit t) (sym (drop_spaces-none (61 ∷ text) (solid-dark (61 ∷ text) refl))) ∙ k))
+alone one two limit text x h = grind (arith, opening-none, drop_spaces-none, solid-dark)
 
 pub compared-of : (limit : ℕ) (c : Comparator) (sign text : List ℕ) (x : Partial × List ℕ) → IsSign c sign → partial_front limit (drop_spaces text) ≡ Some x
     → sign_at (sign ++ text) ≡ (compared c, drop_spaces text)
-compared-of limit c sign text x above_sign h = ap (λ (r : Comparator × List ℕ). comparing (Some r) []) (alone above at_least limit text x h)
-compared-of limit c sign text x at_least_sign h = refl
-compared-of limit c sign text x below_sign h = ap (λ (r : Comparator × List ℕ). comparing (Some r) []) (alone below at_most limit text x h)
-compared-of limit c sign text x at_most_sign h = refl
-compared-of limit c sign text x equal_sign h = refl
+compared-of limit c sign text x h k = grind (arith, alone)
 
 no_greater : (limit : ℕ) (text : List ℕ) (x : Partial × List ℕ) → partial_front limit text ≡ Some x → tilde_sign text ≡ (false, text)
-no_greater limit [] x h = refl
-no_greater limit (b ∷ text) x h = rw ((no-sign limit b text x h).greater) refl
+no_greater limit text x h = grind (arith, nat_tests, opening-none)
 
 form-of : (limit : ℕ) (text : List ℕ) (w : Word) (rest : List ℕ) → IsUtf8 text → IsForm limit text w rest → behind_sign limit (sign_at text) ≡ Some (w, rest)
 form-of limit text w rest u (hyphen_form t lower upper r h) =
@@ -433,9 +390,7 @@ unfolding from_boundary
 boundary-step b text h = rw (h, from_boundary) refl
 
 first-is : (front text : List ℕ) → IsUtf8 (front ++ text) → IsFirstBoundary text (from_boundary text)
-first-is front [] u =
-    subst (λ (r : List ℕ). IsFirstBoundary [] r) (sym from_boundary-nil)
-    (record { passed = []; divided = refl; boundary = inl refl; first = λ before after e h. omega arith })
+first-is front [] u = grind (arith, from_boundary-nil)
 first-is front (b ∷ text) u = elim (cases_Bool (is_boundary (b ∷ text))) [
   | inl here ↦
       subst (λ (r : List ℕ). IsFirstBoundary (b ∷ text) r) (sym (from_boundary-stop (b ∷ text) here))
