@@ -17,31 +17,23 @@ pub record Reaches (limit : ℕ) (text : List ℕ) (found : List (Span VersionVa
   pub whole : (common_within limit bytes rest >>? λ tail. Some (found ++ tail)) ≡ common_range limit text
 
 pub loop-starts : (limit : ℕ) (text rest : List ℕ) (found : List (Span VersionValue)) → rest ≡ text → found ≡ [] → Reaches limit text found rest
-loop-starts limit text rest found e f = rw (e, f) (record { bytes = length text; room = omega arith; whole = go (common_range limit text) })
-  where
-    go : (o : Option (List (Span VersionValue))) → (o >>? λ tail. Some ([] ++ tail)) ≡ o
-    go None = refl
-    go (Some tail) = refl
+loop-starts limit text rest found e f = grind arith
 
 -- ---- one part
 
 stops-part : (limit n : ℕ) (rest : List ℕ) → part_front limit rest ≡ None → common_within limit n rest ≡ None
 unfolding common_within
-stops-part limit zero rest h = refl
-stops-part limit (suc n) rest h = rw h refl
+stops-part limit n rest h = grind arith
 
 stops-bars : (limit n : ℕ) (rest left : List ℕ) (s : Span VersionValue) → part_front limit rest ≡ Some (s, left) → is_empty left ≡ false → after_bars left ≡ None
     → common_within limit n rest ≡ None
 unfolding common_within
-stops-bars limit zero rest left s h e k = refl
-stops-bars limit (suc n) rest left s h e k = rw (h, e, k) refl
+stops-bars limit n rest left s h k m = grind arith
 
 ends-there : (limit n : ℕ) (rest left : List ℕ) (s : Span VersionValue) → length rest ≤ n → part_front limit rest ≡ Some (s, left) → is_empty left ≡ true
     → common_within limit n rest ≡ Some (s ∷ [])
 unfolding common_within part_front
-ends-there limit zero [] left s l h e = cc h
-ends-there limit zero (b ∷ rest) left s l h e = absurd (omega arith)
-ends-there limit (suc n) rest left s l h e = rw (h, e) refl
+ends-there limit n rest left s h k m = grind arith
 
 goes-on : (limit n : ℕ) (rest left next : List ℕ) (s : Span VersionValue) → length rest ≤ n → part_front limit rest ≡ Some (s, left) → is_empty left ≡ false
     → after_bars left ≡ Some next → (m : ℕ) × (length next ≤ m) × (common_within limit n rest ≡ (common_within limit m next >>? λ list. Some (s ∷ list)))
@@ -53,18 +45,14 @@ goes-on limit (suc n) rest left next s l h e k = (n, omega (arith, next-shorter 
 -- ---- the steps of the loop
 
 empty-of : (text : List ℕ) → length text ≡ 0 → is_empty text ≡ true
-empty-of [] h = refl
-empty-of (b ∷ text) h = absurd (omega arith)
+empty-of text h = grind arith
 
 filled-of : (text : List ℕ) → 0 < length text → is_empty text ≡ false
-filled-of [] h = absurd (omega arith)
-filled-of (b ∷ text) h = refl
+filled-of text h = grind arith
 
 -- no part, or no bars behind one: the text is no common one
 uncommon : (limit : ℕ) (text : List ℕ) (found : List (Span VersionValue)) (rest : List ℕ) (r : Reaches limit text found rest) → common_within limit r.bytes rest ≡ None → IsUncommon limit text
-uncommon limit text found rest r none = λ list h.
-    let nothing : None ≡ common_range limit text = sym (ap (λ (o : Option (List (Span VersionValue))). o >>? λ tail. Some (found ++ tail)) none) ∙ r.whole in
-    cc (nothing, (common_ranges_are_read limit text list).1 h)
+uncommon limit text found rest r none = grind (arith, common_ranges_are_read)
 
 -- the reader was at a place, and its next step added a part
 pub record Step (limit : ℕ) (found new : List (Span VersionValue)) (rest left : List ℕ) : Type 0 where

@@ -1,16 +1,13 @@
 -- A partial of a common text is read exactly, whatever may follow it there.
-use Rattle.std.proofs.Common.{◌≡◌, ℕ, List, [], ◌∷◌, ◌++◌, refl, ap, ◌∙◌, true, Some, subst}
+use Rattle.std.proofs.Common.{arith, ◌≡◌, ℕ, List, ◌++◌, refl, ap, ◌∙◌, true, Some}
 use Rattle.std.specs.Prelude.{Option}
-use Rattle.std.proofs.lemmas.Option.{cond_some}
 use Rattle.semver_core.specs.Internal.Reading.{◌>>?◌}
-use Rattle.semver_core.specs.Lists.{is_empty}
 use Rattle.nodejs_semver.specs.Internal.CommonFronts.{bare_front, unbuilt}
-use Rattle.nodejs_semver.specs.Internal.Fronts.{component_front, dotted_front, Front, minor_front}
+use Rattle.nodejs_semver.specs.Internal.Fronts.{dotted_front, Front, minor_front}
 use Rattle.nodejs_semver.specs.Text.Common.{IsBare}
 use Rattle.nodejs_semver.specs.Text.PartialText.{Partial}
 use Rattle.nodejs_semver.proofs.Reading.Bytes.{begins_component}
-use Rattle.nodejs_semver.proofs.Reading.Components.{Read, components-begin, components-read, components-then}
-use Rattle.nodejs_semver.proofs.Reading.Steps.{bind-some}
+use Rattle.nodejs_semver.proofs.Reading.Components.{components-begin, components-read, components-then}
 use Rattle.nodejs_semver.proofs.Reading.Quiet.{Stop, quiet-before}
 
 pub bare-begins : (limit : ℕ) (x : List ℕ) (p : Partial) → IsBare limit x p → begins_component x ≡ true
@@ -27,17 +24,4 @@ bare-exact limit x more p h stop =
 -- and what is read there is one
 pub bare-sound : (limit : ℕ) (text : List ℕ) (p : Partial) (more : List ℕ) → bare_front limit text ≡ Some (p, more) → (x : List ℕ) × (text ≡ x ++ more) × IsBare limit x p
 unfolding bare_front
-bare-sound limit text p more h =
-    let a = bind-some (component_front limit text) (λ a. unbuilt (minor_front limit a.0 a.1 (dotted_front limit a.1))) (p, more) h in
-    let s = components-read limit text a.0 a.1 in
-    go (minor_front limit a.0.0 a.0.1 (dotted_front limit a.0.1)) s.0 s.1 a.2
-  where
-    none : {A : Type 0} (l : List A) → is_empty l ≡ true → l ≡ []
-    none [] k = refl
-    none (x ∷ l) k = cc k
-
-    go : (r : Partial × List ℕ) (s : List ℕ) → Read limit text s r.1 r.0 → unbuilt r ≡ Some (p, more) → (x : List ℕ) × (text ≡ x ++ more) × IsBare limit x p
-    go r s k e =
-        let c = cond_some (is_empty r.0.build) r (p, more) e in
-        subst (λ (q : Partial × List ℕ). (x : List ℕ) × (text ≡ x ++ q.1) × IsBare limit x q.0) c.1
-        (s, k.split, record { components = k.is; no_build = none r.0.build c.0 })
+bare-sound limit text p more h = grind (arith, components-read)

@@ -1,5 +1,5 @@
 -- The range that the fast reader makes of the intervals of a common text.
-use Rattle.std.proofs.Common.{◌≡◌, ℕ, ◌<◌, ◌+◌, List, [], ◌∷◌, length, refl, sym, ap, ◌∙◌, arith, true, Some, None, subst}
+use Rattle.std.proofs.Common.{◌≡◌, ℕ, ◌<◌, ◌+◌, List, [], length, sym, arith, true, Some, subst}
 use Rattle.std.specs.Prelude.{Option, IfNone, IfSome, IsUtf8}
 use Rattle.std.specs.List.{list_all}
 use Rattle.semver_core.specs.Cuts.{Span}
@@ -11,39 +11,29 @@ use Rattle.nodejs_semver.specs.Text.Meaning.{Means}
 use Rattle.nodejs_semver.specs.Ranges.View.{IsRange, is_range_span}
 use Rattle.nodejs_semver.proofs.Bounds.Table.{denotes-bounded}
 use Rattle.nodejs_semver.proofs.Dividing.MeaningLaw.{meant, one_meaning}
-use Rattle.nodejs_semver.proofs.Everyday.Texts.{common_ranges_are_denoted, list-some}
+use Rattle.nodejs_semver.proofs.Everyday.Texts.{common_ranges_are_denoted}
 
 pub common_bounded : (limit : ℕ) (text : List ℕ) (list : List (Span VersionValue)) → IsCommonRange limit text list → list_all (is_range_span (limit + 1)) list ≡ true
-common_bounded limit text list h =
-    ap (λ (l : List (Span VersionValue)). list_all (is_range_span (limit + 1)) l) (sym (common_ranges_are_denoted limit text list h).0) ∙ denotes-bounded limit text
+common_bounded limit text list h = grind (arith, common_ranges_are_denoted, denotes-bounded)
 
 any-of : (list : List (Span VersionValue)) → 0 < length list → if_any list ≡ Some list
-any-of [] h = absurd (omega arith)
-any-of (s ∷ list) h = refl
+any-of list h = grind arith
 
 pub common_list : (limit : ℕ) (text : List ℕ) (list : List (Span VersionValue)) → IsCommonRange limit text list → list ≡ denotes limit text
 common_list limit text list h = sym (common_ranges_are_denoted limit text list h).0
 
 pub common_means : (limit : ℕ) (text : List ℕ) (list : List (Span VersionValue)) (o : Option (List (Span VersionValue))) → IsUtf8 text → IsCommonRange limit text list
     → o ≡ if_any list → IfSome o (Means limit text)
-common_means limit text list o u h e =
-    subst (λ (q : Option (List (Span VersionValue))). IfSome q (Means limit text)) (sym (e ∙ any-of list (list-some limit text list h)))
-    (meant limit text list u (common_list limit text list h))
+common_means limit text list o u h e = grind (arith, meant, common_list)
 
 pub if-some : {A : Type 0} (P : A → Type 0) (o : Option A) (x : A) → o ≡ Some x → IfSome o P → P x
 if-some {A} P o x e h = subst (λ (q : Option A). IfSome q P) e h
 
 -- the intervals that a text denotes are a range, where there are some
 pub denoted_range : (limit : ℕ) (text : List ℕ) (list : List (Span VersionValue)) → list ≡ denotes limit text → 0 < length list → IsRange limit list
-denoted_range limit text list h some = record {
-  some = some;
-  each = ap (λ (l : List (Span VersionValue)). list_all (is_range_span (limit + 1)) l) h ∙ denotes-bounded limit text;
-}
+denoted_range limit text list h some = grind (arith, denotes-bounded)
 
 -- the loose reader returns the range of a common text
 pub fast_read : (limit : ℕ) (text : List ℕ) (list : List (Span VersionValue)) (o : Option (List (Span VersionValue))) → IsUtf8 text → IsCommonRange limit text list
     → IfSome o (λ range. Means limit text range × (0 < length range)) → IfNone o (Means limit text []) → Some list ≡ o
-fast_read limit text list None u h some none =
-    let empty : list ≡ [] = common_list limit text list h ∙ (one_meaning limit text [] u).1 none in
-    absurd (omega (arith, ap length empty, list-some limit text list h))
-fast_read limit text list (Some range) u h some none = ap Some (common_list limit text list h ∙ (one_meaning limit text range u).1 some.0)
+fast_read limit text list o h k m n = grind (arith, common_list, one_meaning)

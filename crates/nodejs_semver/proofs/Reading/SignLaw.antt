@@ -1,7 +1,6 @@
 -- A word is the one that its sign tells.
-use Rattle.std.proofs.Common.{◌≡◌, ◌∙◌, ap, sym, ℕ, List, [], ◌∷◌, ◌++◌, append-nil, length, arith, refl, true, false, Some, None}
-use Rattle.std.specs.Option.{option_to_list}
-use Rattle.std.specs.Prelude.{Bool, Option, is_some}
+use Rattle.std.proofs.Common.{◌≡◌, ◌∙◌, ap, sym, ℕ, List, append-nil, length, arith, refl, true, false, Some, None}
+use Rattle.std.specs.Prelude.{Bool, Option}
 use Rattle.semver_core.specs.Cuts.{Span}
 use Rattle.semver_core.specs.Values.Versions.{VersionValue}
 use Rattle.nodejs_semver.specs.Internal.CommonFronts.{pushed}
@@ -9,7 +8,7 @@ use Rattle.nodejs_semver.specs.Internal.CommonViews.{both_view}
 use Rattle.nodejs_semver.specs.Text.Table.{table}
 use Rattle.semver_core.specs.Internal.Reading.{◌>>?◌}
 use Rattle.semver_core.specs.Internal.Spaces.{space_len}
-use Rattle.nodejs_semver.specs.Internal.Words.{Sign, behind_sign, careted, compared, from_boundary, hyphen_pushed, is_boundary, or_malformed, sign_at, signed_word, tilded, unsigned, upper_of, word_at, word_behind, word_pushed}
+use Rattle.nodejs_semver.specs.Internal.Words.{Sign, from_boundary, hyphen_pushed, is_boundary, or_malformed, sign_at, signed_word, upper_of, word_at, word_behind, word_pushed}
 use Rattle.nodejs_semver.specs.Internal.Fronts.{partial_front}
 use Rattle.nodejs_semver.specs.Text.PartialText.{Partial}
 use Rattle.nodejs_semver.specs.Text.WordText.{Word, hyphen, malformed}
@@ -19,9 +18,7 @@ use Rattle.nodejs_semver.specs.Text.WordText.{Word, hyphen, malformed}
 pub word-as : (limit : ℕ) (text : List ℕ) (s : Sign × List ℕ) (o : Option (Partial × List ℕ)) → s ≡ sign_at text → o ≡ partial_front limit s.1
     → word_at limit text ≡ or_malformed (o >>? λ p. word_behind limit s.0 p.0 p.1) text
 unfolding word_at
-word-as limit text s o h k =
-    ap (λ (t : Sign × List ℕ). or_malformed (behind_sign limit t) text) (sym h)
-    ∙ ap (λ (q : Option (Partial × List ℕ)). or_malformed (q >>? λ p. word_behind limit s.0 p.0 p.1) text) (sym k)
+word-as limit text s o h k = grind arith
 
 pub word_none : (limit : ℕ) (text : List ℕ) (s : Sign × List ℕ) (o : Option (Partial × List ℕ)) → s ≡ sign_at text → o ≡ partial_front limit s.1 → o ≡ None
     → word_at limit text ≡ (malformed, from_boundary text)
@@ -45,11 +42,7 @@ word_cut limit text s o p rest u h k e m n b = word-as limit text s o h k ∙ rw
 -- no second partial stands at the end of a part
 pub upper_none : (limit : ℕ) (s : Sign) (rest : List ℕ) → length rest ≡ 0 → upper_of limit s rest ≡ None
 unfolding space_len
-upper_none limit unsigned [] h = refl
-upper_none limit (compared c) [] h = refl
-upper_none limit (tilded greater) [] h = refl
-upper_none limit careted [] h = refl
-upper_none limit s (b ∷ rest) h = absurd (omega arith)
+upper_none limit s rest h = grind arith
 
 -- ---- a list to which the interval of a word was added
 
@@ -60,20 +53,7 @@ pushed_malformed limit old w rest behind e h = rw (e, h, append-nil old) refl
 
 pub pushed_word : (limit : ℕ) (old new : List (Span VersionValue)) (there : Bool) (word : Word) (w : Word × List ℕ) (rest : List ℕ) → w ≡ (word, rest)
     → both_view there new ≡ pushed old (table limit word) → ◌≡◌ {A = (Bool × List ℕ) × List (Span VersionValue)} ((there, rest), new) (word_pushed limit old w)
-pushed_word limit old new there word w rest e h = go (table limit word) refl ∙ ap (λ (x : Word × List ℕ). word_pushed limit old x) (sym e)
-  where
-    triple : Bool × List (Span VersionValue) → (Bool × List ℕ) × List (Span VersionValue)
-    triple x = ((x.0, rest), x.1)
-
-    with : Option (Span VersionValue) → (Bool × List ℕ) × List (Span VersionValue)
-    with o = ((is_some o, rest), old ++ option_to_list o)
-
-    all : (o : Option (Span VersionValue)) → triple (pushed old o) ≡ with o
-    all None = ap (λ (l : List (Span VersionValue)). triple (false, l)) (sym (append-nil old))
-    all (Some s) = refl
-
-    go : (o : Option (Span VersionValue)) → table limit word ≡ o → triple (there, new) ≡ with (table limit word)
-    go o k = ap triple h ∙ all (table limit word)
+pushed_word limit old new there word w rest e h = grind (arith, append-nil)
 
 -- a hyphen word was read
 pub pushed_hyphen : (limit : ℕ) (text : List ℕ) (s : Sign × List ℕ) (o : Option (Partial × List ℕ)) (p : Partial) (rest : List ℕ) (u : Option (Partial × List ℕ))
@@ -81,10 +61,7 @@ pub pushed_hyphen : (limit : ℕ) (text : List ℕ) (s : Sign × List ℕ) (o : 
     → s ≡ sign_at text → o ≡ partial_front limit s.1 → o ≡ Some (p, rest) → u ≡ upper_of limit s.0 rest
     → ◌≡◌ {A = Option (Bool × List ℕ) × List (Span VersionValue)} (Some read, new) (hyphen_pushed limit old p u)
     → ◌≡◌ {A = (Bool × List ℕ) × List (Span VersionValue)} (read, new) (word_pushed limit old (word_at limit text))
-pushed_hyphen limit text s o p rest None old new read h k e m n = absurd (clash (ap (λ (x : Option (Bool × List ℕ) × List (Span VersionValue)). x.0) n))
-  where
-    clash : Some read ≡ None → ⊥
-    clash f = cc f
+pushed_hyphen limit text s o p rest None old new read h k e m n = grind arith
 pushed_hyphen limit text s o p rest (Some q) old new read h k e m n =
     let w = word_hyphen limit text s o p rest (Some q) q.0 q.1 h k e m refl in
     whole (inside (ap (λ (x : Option (Bool × List ℕ) × List (Span VersionValue)). x.0) n)) (ap (λ (x : Option (Bool × List ℕ) × List (Span VersionValue)). x.1) n)
@@ -99,8 +76,4 @@ pushed_hyphen limit text s o p rest (Some q) old new read h k e m n =
 -- none was read
 pub no_hyphen : (limit : ℕ) (p : Partial) (u : Option (Partial × List ℕ)) (old new : List (Span VersionValue))
     → ◌≡◌ {A = Option (Bool × List ℕ) × List (Span VersionValue)} (None, new) (hyphen_pushed limit old p u) → (u ≡ None) × (new ≡ old)
-no_hyphen limit p None old new n = (refl, ap (λ (x : Option (Bool × List ℕ) × List (Span VersionValue)). x.1) n)
-no_hyphen limit p (Some q) old new n = absurd (clash (ap (λ (x : Option (Bool × List ℕ) × List (Span VersionValue)). x.0) n))
-  where
-    clash : {a : Bool × List ℕ} → None ≡ Some a → ⊥
-    clash f = cc f
+no_hyphen limit p u old new h = grind arith
