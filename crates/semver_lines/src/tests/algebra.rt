@@ -1,8 +1,58 @@
 // The set algebra of ranges. The program's lines `and` and `minus` ask more of it.
 
-use super::prints;
+use super::is_range;
 use nodejs_semver::Range;
 use std::alloc::Global;
+
+// What two ranges give.
+#[derive(Clone, Copy)]
+enum Given {
+    // What the first answers to `allows_all` and to `allows_any` of the second.
+    Allowed(bool, bool),
+    // What both hold prints so.
+    Both(&'static str),
+    // What the second leaves of the first prints so.
+    Rest(&'static str),
+}
+
+fn gives_of(alloc: Global, first: &Range, second: &Range, given: Given) -> bool {
+    match given {
+        Given::Allowed(all, any) => {
+            first.allows_all(second) == all && first.allows_any(second) == any
+        }
+        Given::Both(text) => intersects_to(alloc, first, second, text),
+        Given::Rest(text) => leaves(alloc, first, second, text),
+    }
+}
+
+fn intersects_to(alloc: Global, first: &Range, second: &Range, text: &str) -> bool {
+    match first.intersect(alloc, second) {
+        Ok(both) => is_range(alloc, both, text),
+        Err(_) => false,
+    }
+}
+
+fn leaves(alloc: Global, first: &Range, second: &Range, text: &str) -> bool {
+    match first.difference(alloc, second) {
+        Ok(rest) => is_range(alloc, rest, text),
+        Err(_) => false,
+    }
+}
+
+fn second_gives(alloc: Global, first: &Range, second: &str, given: Given) -> bool {
+    match Range::parse(alloc, second) {
+        Ok(second) => gives_of(alloc, first, &second, given),
+        Err(_) => false,
+    }
+}
+
+// Whether the ranges of two texts give this.
+fn gives(alloc: Global, first: &str, second: &str, given: Given) -> bool {
+    match Range::parse(alloc, first) {
+        Ok(first) => second_gives(alloc, &first, second, given),
+        Err(_) => false,
+    }
+}
 
 // Two texts, whether the first range `allows_all` of the second, and whether it `allows_any` of it.
 const ALLOWED: &[(&str, &str, bool, bool)] = &[
@@ -15,26 +65,11 @@ const ALLOWED: &[(&str, &str, bool, bool)] = &[
     (">=1.2.3", "0.1 || <1.2.0", false, false),
 ];
 
-// Whether some interval of the range covers some interval of the text's, and whether one meets one.
-fn allows(alloc: Global, range: &Range, text: &str, all: bool, any: bool) -> bool {
-    match Range::parse(alloc, text) {
-        Ok(other) => range.allows_all(&other) == all && range.allows_any(&other) == any,
-        Err(_) => false,
-    }
-}
-
-fn texts_allow(alloc: Global, these: &str, others: &str, all: bool, any: bool) -> bool {
-    match Range::parse(alloc, these) {
-        Ok(range) => allows(alloc, &range, others, all, any),
-        Err(_) => false,
-    }
-}
-
 #[test]
 fn allows_all_and_allows_any_ask_for_one_pair(rt: HostRuntime) {
     for &(these, others, all, any) in ALLOWED {
         assert!(rt;
-            texts_allow(rt.alloc(), these, others, all, any),
+            gives(rt.alloc(), these, others, Given::Allowed(all, any)),
             "{these} and {others}"
         );
     }
@@ -44,54 +79,14 @@ const FIRST: &str = "<1 || 3 - 4";
 
 const SECOND: &str = "0.5 - 3.5.0";
 
-fn intersects_to(alloc: Global, first: &Range, second: &Range, text: &str) -> bool {
-    match first.intersect(alloc, second) {
-        Ok(Some(both)) => prints(alloc, &both, text),
-        _ => false,
-    }
-}
-
-fn second_intersects_to(alloc: Global, first: &Range, text: &str) -> bool {
-    match Range::parse(alloc, SECOND) {
-        Ok(second) => intersects_to(alloc, first, &second, text),
-        Err(_) => false,
-    }
-}
-
-fn both_intersect_to(alloc: Global, text: &str) -> bool {
-    match Range::parse(alloc, FIRST) {
-        Ok(first) => second_intersects_to(alloc, &first, text),
-        Err(_) => false,
-    }
-}
-
 #[test]
 fn intersect_keeps_every_pair(rt: HostRuntime) {
-    assert!(rt; both_intersect_to(rt.alloc(), ">=0.5.0 <1.0.0||>=3.0.0 <=3.5.0"));
-}
-
-fn leaves(alloc: Global, first: &Range, second: &Range, text: &str) -> bool {
-    match first.difference(alloc, second) {
-        Ok(Some(rest)) => prints(alloc, &rest, text),
-        _ => false,
-    }
-}
-
-fn second_leaves(alloc: Global, first: &Range, text: &str) -> bool {
-    match Range::parse(alloc, SECOND) {
-        Ok(second) => leaves(alloc, first, &second, text),
-        Err(_) => false,
-    }
-}
-
-fn is_left(alloc: Global, text: &str) -> bool {
-    match Range::parse(alloc, FIRST) {
-        Ok(first) => second_leaves(alloc, &first, text),
-        Err(_) => false,
-    }
+    let both = Given::Both(">=0.5.0 <1.0.0||>=3.0.0 <=3.5.0");
+    assert!(rt; gives(rt.alloc(), FIRST, SECOND, both));
 }
 
 #[test]
 fn difference_takes_every_interval_away(rt: HostRuntime) {
-    assert!(rt; is_left(rt.alloc(), "<0.5.0||>3.5.0 <5.0.0-0"));
+    let rest = Given::Rest("<0.5.0||>3.5.0 <5.0.0-0");
+    assert!(rt; gives(rt.alloc(), FIRST, SECOND, rest));
 }

@@ -2,9 +2,8 @@
 
 use nodejs_semver::Version;
 use nodejs_semver::cuts::{Bound, Interval, Part};
-use std::alloc::Global;
+use std::alloc::{AllocError, Global};
 use std::hash::{DefaultHasher, Hash, Hasher};
-use std::test::Fail;
 
 fn release(major: u8) -> Version {
     Version::from((major, 0, 0))
@@ -35,15 +34,56 @@ fn is_bound(bound: &Bound<Version>, end: End) -> bool {
     }
 }
 
+fn between(lower: End, upper: End) -> Option<Interval<Version>> {
+    Interval::new(bound(lower), bound(upper))
+}
+
 // `>=from <to`
 fn from_to(from: u8, to: u8) -> Option<Interval<Version>> {
-    Interval::new(bound(End::Before(from)), bound(End::Before(to)))
+    between(End::Before(from), End::Before(to))
 }
 
 // Whether the interval is the one from the first number to the second.
 fn spans(interval: &Interval<Version>, ends: (u8, u8)) -> bool {
     is_bound(interval.lower(), End::Before(ends.0))
         && is_bound(interval.upper(), End::Before(ends.1))
+}
+
+// What is asked of one interval.
+#[derive(Clone, Copy)]
+enum Question {
+    // Whether it has the ends that it was made of.
+    Ends,
+    Contains(u8),
+    Copies,
+    // Whether it equals the one between two numbers.
+    Equals((u8, u8)),
+    // Whether the copy of its lower end is that end.
+    CopiesLower,
+}
+
+// Whether there is an interval between the ends, and the answer is yes.
+fn is_true(alloc: Global, lower: End, upper: End, question: Question) -> bool {
+    match between(lower, upper) {
+        Some(interval) => answer(alloc, &interval, lower, upper, question),
+        None => false,
+    }
+}
+
+fn answer(
+    alloc: Global,
+    interval: &Interval<Version>,
+    lower: End,
+    upper: End,
+    question: Question,
+) -> bool {
+    match question {
+        Question::Ends => is_bound(interval.lower(), lower) && is_bound(interval.upper(), upper),
+        Question::Contains(major) => interval.contains(&release(major)),
+        Question::Copies => copies_equal(alloc, interval),
+        Question::Equals(ends) => equals(interval, ends),
+        Question::CopiesLower => copies_to(alloc, interval.lower(), lower),
+    }
 }
 
 // Whether the interval is the one between two numbers, or there is none where none is wanted.
@@ -65,18 +105,10 @@ const ENDS: &[(End, End, bool)] = &[
     (End::Open, End::Open, true),
 ];
 
-// Whether there is an interval with these ends.
-fn makes(lower: End, upper: End) -> bool {
-    match Interval::new(bound(lower), bound(upper)) {
-        Some(interval) => is_bound(interval.lower(), lower) && is_bound(interval.upper(), upper),
-        None => false,
-    }
-}
-
 #[test]
 fn new_wants_the_lower_cut_below_the_upper_one(rt: HostRuntime) {
     for &(lower, upper, wanted) in ENDS {
-        assert!(rt; makes(lower, upper) == wanted);
+        assert!(rt; is_true(rt.alloc(), lower, upper, Question::Ends) == wanted);
     }
 }
 
@@ -93,17 +125,14 @@ const POINTS: &[(End, End, u8, bool)] = &[
     (End::Open, End::Open, 0, true),
 ];
 
-fn contains(lower: End, upper: End, major: u8) -> bool {
-    match Interval::new(bound(lower), bound(upper)) {
-        Some(interval) => interval.contains(&release(major)),
-        None => false,
-    }
-}
-
 #[test]
 fn contains_the_points_between_the_cuts(rt: HostRuntime) {
     for &(lower, upper, major, wanted) in POINTS {
-        assert!(rt; contains(lower, upper, major) == wanted, "{major}");
+        let contains = Question::Contains(major);
+        assert!(rt;
+            is_true(rt.alloc(), lower, upper, contains) == wanted,
+            "{major}"
+        );
     }
 }
 
@@ -128,13 +157,20 @@ fn equals(interval: &Interval<Version>, ends: (u8, u8)) -> bool {
     }
 }
 
+fn copies_to(alloc: Global, bound: &Bound<Version>, end: End) -> bool {
+    match bound.copy(alloc) {
+        Ok(copy) => is_bound(&copy, end),
+        Err(_) => false,
+    }
+}
+
 #[test]
-fn copy_is_equal_and_hashes_alike(rt: HostRuntime) -> Result<(), Fail> {
-    let one = from_to(1, 2).ok_or("no interval")?;
-    assert!(rt; copies_equal(rt.alloc(), &one));
-    assert!(rt; equals(&one, (1, 2)) && !equals(&one, (1, 3)));
-    assert!(rt; is_bound(&one.lower().copy(rt.alloc())?, End::Before(1)));
-    Ok(())
+fn copy_is_equal_and_hashes_alike(rt: HostRuntime) {
+    let (lower, upper) = (End::Before(1), End::Before(2));
+    assert!(rt; is_true(rt.alloc(), lower, upper, Question::Copies));
+    assert!(rt; is_true(rt.alloc(), lower, upper, Question::Equals((1, 2))));
+    assert!(rt; !is_true(rt.alloc(), lower, upper, Question::Equals((1, 3))));
+    assert!(rt; is_true(rt.alloc(), lower, upper, Question::CopiesLower));
 }
 
 // Two intervals, what both hold, and what the second leaves of the first below it and above it.
@@ -212,8 +248,8 @@ fn holds(
     second: &Interval<Version>,
 ) -> bool {
     match call {
-        Call::Intersect => intersects(alloc, pair, first, second),
-        Call::Clip => clips(alloc, pair, first, second),
+        Call::Intersect => is_common(first.intersect(alloc, second), pair.both),
+        Call::Clip => is_common(first.clip(alloc, second), pair.both),
         Call::Subtract => subtracts(alloc, pair, first, second),
         Call::Parts => has_parts(alloc, pair, first, second),
         Call::Meets => first.meets(second) == pair.both.is_some(),
@@ -222,26 +258,12 @@ fn holds(
     }
 }
 
-fn intersects(
-    alloc: Global,
-    pair: &Pair,
-    first: &Interval<Version>,
-    second: &Interval<Version>,
+fn is_common(
+    found: Result<Option<Interval<Version>>, AllocError>,
+    wanted: Option<(u8, u8)>,
 ) -> bool {
-    match first.intersect(alloc, second) {
-        Ok(both) => is_wanted(&both, pair.both),
-        Err(_) => false,
-    }
-}
-
-fn clips(
-    alloc: Global,
-    pair: &Pair,
-    first: &Interval<Version>,
-    second: &Interval<Version>,
-) -> bool {
-    match first.clip(alloc, second) {
-        Ok(both) => is_wanted(&both, pair.both),
+    match found {
+        Ok(both) => is_wanted(&both, wanted),
         Err(_) => false,
     }
 }
@@ -253,7 +275,14 @@ fn subtracts(
     second: &Interval<Version>,
 ) -> bool {
     match first.subtract(alloc, second) {
-        Ok((below, above)) => is_wanted(&below, pair.below) && is_wanted(&above, pair.above),
+        Ok(rest) => is_wanted(&rest.0, pair.below) && is_wanted(&rest.1, pair.above),
+        Err(_) => false,
+    }
+}
+
+fn part_copies(alloc: Global, part: &Part<Version>, ends: (u8, u8)) -> bool {
+    match part.copy(alloc) {
+        Ok(copy) => spans(&copy, ends),
         Err(_) => false,
     }
 }
@@ -265,7 +294,7 @@ fn is_part(alloc: Global, part: Option<Part<Version>>, wanted: Option<(u8, u8)>)
         (Some(part), Some(ends)) => {
             is_bound(part.lower(), End::Before(ends.0))
                 && is_bound(part.upper(), End::Before(ends.1))
-                && part.copy(alloc).is_ok_and(|copy| spans(&copy, ends))
+                && part_copies(alloc, &part, ends)
         }
         (None, None) => true,
         (_, _) => false,
@@ -329,10 +358,14 @@ fn only_covers(interval: &Interval<Version>, ends: (u8, u8)) -> bool {
     }
 }
 
+fn all_covers(ends: (u8, u8)) -> bool {
+    only_covers(&Interval::default(), ends)
+}
+
 #[test]
 fn covers_where_the_other_lies_within(rt: HostRuntime) {
     for pair in PAIRS {
         assert!(rt; agrees(rt.alloc(), Call::Covers, pair));
     }
-    assert!(rt; only_covers(&Interval::default(), (1, 2)));
+    assert!(rt; all_covers((1, 2)));
 }

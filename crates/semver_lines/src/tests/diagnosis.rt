@@ -4,12 +4,12 @@ ghost use Rattle.std.specs.Prelude.{◌↔◌, IsTrue};
 ghost use Rattle.nodejs_semver.specs.Diagnosis.IgnoredWords.{IsWhollyBounded};
 ghost use Rattle.nodejs_semver.specs.Diagnosis.VersionFlaws.{IsExact};
 
-use crate::tests::prints;
+use super::{long_text, prints};
 use nodejs_semver::diagnosis::{
     Expected, IgnoredKind, IgnoredWord, VersionFlaw, ignored_words, version_flaw,
 };
 use nodejs_semver::{MAX_SAFE_INTEGER, Range, Version};
-use std::test::Fail;
+use std::alloc::Global;
 
 // Whether the whole text is one version.
 fn is_exact(text: &str) -> bool
@@ -75,39 +75,57 @@ const GREAT: &[(&str, usize)] = &[
     ("1.99999999999999999999", 2),
 ];
 
+// Whether the flaw is this one.
+fn has_flaw(text: &str, flaw: VersionFlaw) -> bool {
+    version_flaw(text) == Some(flaw)
+}
+
+fn is_version(alloc: Global, text: &str) -> bool {
+    match Version::parse(alloc, text) {
+        Ok(_) => true,
+        Err(_) => false,
+    }
+}
+
 #[test]
 fn a_text_that_is_one_version_has_no_flaw(rt: HostRuntime) {
     for &text in EXACT {
-        assert!(rt; is_exact(text), "{text:?}");
-        assert!(rt; Version::parse(rt.alloc(), text).is_ok(), "{text:?}");
+        assert!(rt; is_exact(text) && is_version(rt.alloc(), text), "{text:?}");
     }
+}
+
+fn is_ignored(alloc: Global, text: &str, at: usize) -> bool {
+    has_flaw(text, VersionFlaw::Ignored { at }) && is_version(alloc, text)
 }
 
 #[test]
 fn text_behind_a_version_is_ignored(rt: HostRuntime) {
     for &(text, at) in IGNORED {
-        let flaw = VersionFlaw::Ignored { at };
-        assert_eq!(rt; version_flaw(text), Some(flaw), "{text:?}");
-        assert!(rt; Version::parse(rt.alloc(), text).is_ok(), "{text:?}");
+        assert!(rt; is_ignored(rt.alloc(), text, at), "{text:?}");
     }
+}
+
+// Whether the text is no version, for this flaw, and the flaw prints so.
+fn is_rejected(alloc: Global, text: &str, flaw: VersionFlaw, message: &str) -> bool {
+    has_flaw(text, flaw) && prints(alloc, &flaw, message) && !is_version(alloc, text)
 }
 
 #[test]
 fn a_rejected_text_says_what_was_expected(rt: HostRuntime) {
     for &(text, what, at, message) in EXPECTED {
         let flaw = VersionFlaw::Expected { what, at };
-        assert_eq!(rt; version_flaw(text), Some(flaw), "{text:?}");
-        assert!(rt; prints(rt.alloc(), &flaw, message), "{text:?}");
-        assert!(rt; Version::parse(rt.alloc(), text).is_err(), "{text:?}");
+        assert!(rt; is_rejected(rt.alloc(), text, flaw, message), "{text:?}");
     }
+}
+
+fn is_too_great(alloc: Global, text: &str, at: usize) -> bool {
+    has_flaw(text, VersionFlaw::NumberTooGreat { at }) && !is_version(alloc, text)
 }
 
 #[test]
 fn a_number_above_the_limit_is_named(rt: HostRuntime) {
     for &(text, at) in GREAT {
-        let flaw = VersionFlaw::NumberTooGreat { at };
-        assert_eq!(rt; version_flaw(text), Some(flaw), "{text:?}");
-        assert!(rt; Version::parse(rt.alloc(), text).is_err(), "{text:?}");
+        assert!(rt; is_too_great(rt.alloc(), text, at), "{text:?}");
     }
 }
 
@@ -124,16 +142,18 @@ fn flaws_print(rt: HostRuntime) {
     );
 }
 
-#[test]
-fn a_text_of_257_bytes_is_too_long(rt: HostRuntime) -> Result<(), Fail> {
-    let mut text = String::from_str(rt.alloc(), "1.1.1-")?;
-    for _ in 0..250 {
-        text.push('X')?;
+// Whether the text of six bytes and so many `X` has this flaw, or none.
+fn long_has_flaw(alloc: Global, count: usize, flaw: Option<VersionFlaw>) -> bool {
+    match long_text(alloc, "1.1.1-", "X", count) {
+        Ok(text) => version_flaw(&text) == flaw,
+        Err(_) => false,
     }
-    assert_eq!(rt; version_flaw(&text), None);
-    text.push('X')?;
-    assert_eq!(rt; version_flaw(&text), Some(VersionFlaw::TooLong));
-    Ok(())
+}
+
+#[test]
+fn a_text_of_257_bytes_is_too_long(rt: HostRuntime) {
+    assert!(rt; long_has_flaw(rt.alloc(), 250, None));
+    assert!(rt; long_has_flaw(rt.alloc(), 251, Some(VersionFlaw::TooLong)));
 }
 
 // Range texts of which a word or more is ignored, and the malformed words and those without bounds,
@@ -177,26 +197,38 @@ const WHOLE: &[&str] = &[
     "1.2.3-a - 1.2.3-b",
 ];
 
+// Whether the ignored words of the text are these.
+fn ignores(text: &str, words: &[(usize, usize, IgnoredKind)]) -> bool {
+    let mut found = ignored_words(text);
+    for &(start, end, kind) in words {
+        if found.next() != Some(IgnoredWord { start, end, kind }) {
+            return false;
+        }
+    }
+    found.next() == None
+}
+
 #[test]
 fn ignored_words_are_listed(rt: HostRuntime) {
     for &(text, words) in TEXTS {
-        let mut found = ignored_words(text);
-        for &(start, end, kind) in words {
-            assert_eq!(rt;
-                found.next(),
-                Some(IgnoredWord { start, end, kind }),
-                "{text:?}"
-            );
-        }
-        assert_eq!(rt; found.next(), None, "{text:?}");
+        assert!(rt; ignores(text, words), "{text:?}");
+    }
+}
+
+fn is_range(alloc: Global, text: &str) -> bool {
+    match Range::parse(alloc, text) {
+        Ok(_) => true,
+        Err(_) => false,
     }
 }
 
 #[test]
 fn texts_that_are_read_whole_have_no_ignored_word(rt: HostRuntime) {
     for &text in WHOLE {
-        assert!(rt; is_read_whole(text), "{text:?}");
-        assert!(rt; Range::parse(rt.alloc(), text).is_ok(), "{text:?}");
+        assert!(rt;
+            is_read_whole(text) && is_range(rt.alloc(), text),
+            "{text:?}"
+        );
     }
 }
 

@@ -41,11 +41,16 @@ const INCREMENT_ERRORS: &[(&str, &str, &str)] = &[
     ("release", "", "version 1.2.3 is not a prerelease"),
 ];
 
-fn is_refused_with(alloc: Global, word: &str, identifier: &str, wanted: &str) -> bool {
-    match Version::from((1u8, 2, 3)).inc(alloc, word, Some(identifier), None) {
+fn refuses(alloc: Global, version: &Version, word: &str, identifier: &str, wanted: &str) -> bool {
+    match version.inc(alloc, word, Some(identifier), None) {
         Err(Failure::Refused(error)) => prints(alloc, &error, wanted),
         _ => false,
     }
+}
+
+fn is_refused_with(alloc: Global, word: &str, identifier: &str, wanted: &str) -> bool {
+    let version = Version::from((1u8, 2, 3));
+    refuses(alloc, &version, word, identifier, wanted)
 }
 
 #[test]

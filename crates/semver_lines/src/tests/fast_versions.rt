@@ -1,6 +1,7 @@
 // The fast reader: which texts it returns a version for, and that `parse` reads every text as
 // before.
 
+use super::{is_version, long_text, prints};
 use nodejs_semver::Version;
 use nodejs_semver::readers::{version_fast, version_loose};
 use std::alloc::Global;
@@ -49,58 +50,74 @@ const NONE: &[&str] = &[
     "1.2.9007199254740992",
 ];
 
-fn prints(alloc: Global, version: &Version, text: &str) -> bool {
-    matches!(version.to_string(alloc), Ok(printed) if printed.as_str() == text)
-}
-
 // Whether the fast reader returns the version that prints so.
 fn reads_fast(alloc: Global, text: &str, printed: &str) -> bool {
-    matches!(version_fast(alloc, text), Ok(Some(version)) if prints(alloc, &version, printed))
+    match version_fast(alloc, text) {
+        Ok(found) => is_version(alloc, found, printed),
+        Err(_) => false,
+    }
 }
 
 fn reads_loose(alloc: Global, text: &str, printed: &str) -> bool {
-    matches!(version_loose(alloc, text), Ok(Some(version)) if prints(alloc, &version, printed))
+    match version_loose(alloc, text) {
+        Ok(found) => is_version(alloc, found, printed),
+        Err(_) => false,
+    }
 }
 
 fn parses(alloc: Global, text: &str, printed: &str) -> bool {
-    matches!(Version::parse(alloc, text), Ok(version) if prints(alloc, &version, printed))
+    match Version::parse(alloc, text) {
+        Ok(version) => prints(alloc, &version, printed),
+        Err(_) => false,
+    }
 }
 
 fn is_uncommon(alloc: Global, text: &str) -> bool {
-    matches!(version_fast(alloc, text), Ok(None))
+    match version_fast(alloc, text) {
+        Ok(None) => true,
+        _ => false,
+    }
+}
+
+fn read_by_both(alloc: Global, text: &str, printed: &str) -> bool {
+    reads_fast(alloc, text, printed) && reads_loose(alloc, text, printed)
+}
+
+fn read_by_the_loose_one(alloc: Global, text: &str, printed: &str) -> bool {
+    is_uncommon(alloc, text) && reads_loose(alloc, text, printed)
 }
 
 #[test]
 fn common_texts_are_read_by_both(rt: HostRuntime) {
     for &(text, printed) in COMMON {
-        assert!(rt; reads_fast(rt.alloc(), text, printed), "{text:?}");
-        assert!(rt; reads_loose(rt.alloc(), text, printed), "{text:?}");
-        assert!(rt; parses(rt.alloc(), text, printed), "{text:?}");
+        assert!(rt;
+            read_by_both(rt.alloc(), text, printed) && parses(rt.alloc(), text, printed),
+            "{text:?}"
+        );
     }
 }
 
 #[test]
 fn other_texts_are_left_to_the_loose_reader(rt: HostRuntime) {
     for &(text, printed) in LOOSE {
-        assert!(rt; is_uncommon(rt.alloc(), text), "{text:?}");
-        assert!(rt; reads_loose(rt.alloc(), text, printed), "{text:?}");
-        assert!(rt; parses(rt.alloc(), text, printed), "{text:?}");
+        assert!(rt;
+            read_by_the_loose_one(rt.alloc(), text, printed) && parses(rt.alloc(), text, printed),
+            "{text:?}"
+        );
     }
     for &text in NONE {
         assert!(rt; is_uncommon(rt.alloc(), text), "{text:?}");
     }
 }
 
+fn long_is_read_by_both(alloc: Global, text: &str) -> bool {
+    read_by_both(alloc, text, text) && Version::parse(alloc, text).is_err()
+}
+
 // The readers have no limit of length; `parse` has one, which the text of 257 bytes exceeds.
 #[test]
 fn long_texts_are_read_by_both(rt: HostRuntime) -> Result<(), Fail> {
-    let alloc = rt.alloc();
-    let mut text = String::from_str(alloc, "1.1.1-")?;
-    for _ in 0..251 {
-        text.push('X')?;
-    }
-    assert!(rt; reads_fast(alloc, &text, &text));
-    assert!(rt; reads_loose(alloc, &text, &text));
-    assert!(rt; Version::parse(alloc, &text).is_err());
+    let text = long_text(rt.alloc(), "1.1.1-", "X", 251)?;
+    assert!(rt; long_is_read_by_both(rt.alloc(), &text));
     Ok(())
 }

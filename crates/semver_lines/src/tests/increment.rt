@@ -1,11 +1,36 @@
 // Increments that no line can ask: results that are not read again, 64-bit numbers and conversions.
 
-use super::prints;
+use super::{one_identifier, prints, text_identifier};
 use nodejs_semver::{Failure, Identifier, IdentifierBase, IncrementError, Version};
 use std::alloc::Global;
-use std::test::Fail;
 
-// Whether the next version prints as the text.
+// What is asked of a version.
+#[derive(Clone, Copy)]
+enum Question {
+    // Whether the next version by a word prints so.
+    LeadsTo(&'static str, &'static str),
+    // Whether the pre-release after the next one, both by an identifier, prints so.
+    LeadsTwiceTo(&'static str, &'static str),
+    // Whether the next version by a word has a number above 64 bits.
+    Overflows(&'static str),
+}
+
+// Whether there is a version, and the answer is yes.
+fn is_true(alloc: Global, version: Option<Version>, question: Question) -> bool {
+    match version {
+        Some(version) => answer(alloc, &version, question),
+        None => false,
+    }
+}
+
+fn answer(alloc: Global, version: &Version, question: Question) -> bool {
+    match question {
+        Question::LeadsTo(word, text) => leads_to(alloc, version, word, None, text),
+        Question::LeadsTwiceTo(identifier, text) => leads_twice(alloc, version, identifier, text),
+        Question::Overflows(word) => overflows(alloc, version, word),
+    }
+}
+
 fn leads_to(
     alloc: Global,
     version: &Version,
@@ -19,13 +44,33 @@ fn leads_to(
     }
 }
 
+fn leads_twice(alloc: Global, version: &Version, identifier: &str, text: &str) -> bool {
+    match version.inc(alloc, "prerelease", Some(identifier), None) {
+        Ok(next) => leads_to(alloc, &next, "prerelease", Some(identifier), text),
+        Err(_) => false,
+    }
+}
+
+fn overflows(alloc: Global, version: &Version, word: &str) -> bool {
+    match version.inc(alloc, word, None, None) {
+        Err(Failure::Refused(IncrementError::Overflow)) => true,
+        _ => false,
+    }
+}
+
+// The version of three numbers and one of a pre-release.
+fn with_pre(alloc: Global, major: u64, minor: u64, patch: u64, number: u64) -> Option<Version> {
+    match Version::with_pre(alloc, major, minor, patch, number) {
+        Ok(version) => Some(version),
+        Err(_) => None,
+    }
+}
+
 // The identifier `1` stands in a result as one `AlphaNumeric`, which `1` does not match.
 #[test]
-fn inc_of_a_result_that_is_not_read_again(rt: HostRuntime) -> Result<(), Fail> {
-    let version = Version::with_pre(rt.alloc(), 1, 2, 3, 0)?;
-    let next = version.inc(rt.alloc(), "prerelease", Some("1"), None)?;
-    assert!(rt; leads_to(rt.alloc(), &next, "prerelease", Some("1"), "1.2.3-1.0"));
-    Ok(())
+fn inc_of_a_result_that_is_not_read_again(rt: HostRuntime) {
+    let leads = Question::LeadsTwiceTo("1", "1.2.3-1.0");
+    assert!(rt; is_true(rt.alloc(), with_pre(rt.alloc(), 1, 2, 3, 0), leads));
 }
 
 const MAX: u64 = u64::MAX;
@@ -41,51 +86,33 @@ const OVERFLOWS: &[(u64, u64, u64, &str)] = &[
     (1, 2, MAX, "prerelease"),
 ];
 
-fn overflows(alloc: Global, version: &Version, word: &str) -> bool {
-    matches!(
-        version.inc(alloc, word, None, None),
-        Err(Failure::Refused(IncrementError::Overflow))
-    )
-}
-
 #[test]
-fn inc_returns_overflow_past_64_bits(rt: HostRuntime) -> Result<(), Fail> {
+fn inc_returns_overflow_past_64_bits(rt: HostRuntime) {
     for &(major, minor, patch, word) in OVERFLOWS {
-        let version = Version::from((major, minor, patch));
-        assert!(rt; overflows(rt.alloc(), &version, word), "{word}");
+        let version = Some(Version::from((major, minor, patch)));
+        assert!(rt;
+            is_true(rt.alloc(), version, Question::Overflows(word)),
+            "{word}"
+        );
     }
-    let last = Version::with_pre(rt.alloc(), 1, 2, 3, MAX)?;
-    assert!(rt; overflows(rt.alloc(), &last, "pre"));
-    Ok(())
+    let last = with_pre(rt.alloc(), 1, 2, 3, MAX);
+    assert!(rt; is_true(rt.alloc(), last, Question::Overflows("pre")));
+}
+
+// The version of `1`, the greatest number and `0`, with this text as its one identifier.
+fn great_minor(alloc: Global, identifier: &str) -> Option<Version> {
+    match one_identifier(alloc, text_identifier(alloc, identifier)) {
+        Some(pre_release) => Version::new(alloc, 1, MAX, 0, pre_release, Vec::new(alloc)).ok(),
+        None => None,
+    }
 }
 
 #[test]
-fn inc_keeps_the_greatest_number(rt: HostRuntime) -> Result<(), Fail> {
-    let version = Version::with_pre(rt.alloc(), MAX, 0, 0, 0)?;
-    assert!(rt;
-        leads_to(
-            rt.alloc(),
-            &version,
-            "major",
-            None,
-            "18446744073709551615.0.0"
-        )
-    );
-    let pre_release = vec![in rt.alloc();
-        Identifier::AlphaNumeric(String::from_str(rt.alloc(), "a")?),
-    ]?;
-    let none = Vec::new(rt.alloc());
-    let version = Version::new(rt.alloc(), 1, MAX, 0, pre_release, none).map_err(|_| "no memory")?;
-    assert!(rt;
-        leads_to(
-            rt.alloc(),
-            &version,
-            "minor",
-            None,
-            "1.18446744073709551615.0"
-        )
-    );
-    Ok(())
+fn inc_keeps_the_greatest_number(rt: HostRuntime) {
+    let major = Question::LeadsTo("major", "18446744073709551615.0.0");
+    assert!(rt; is_true(rt.alloc(), with_pre(rt.alloc(), MAX, 0, 0, 0), major));
+    let minor = Question::LeadsTo("minor", "1.18446744073709551615.0");
+    assert!(rt; is_true(rt.alloc(), great_minor(rt.alloc(), "a"), minor));
 }
 
 #[test]
@@ -105,12 +132,19 @@ fn copies_equal(alloc: Global, error: &IncrementError) -> bool {
     }
 }
 
+fn invalid_copies_equal(alloc: Global, identifier: &str) -> bool {
+    match String::from_str(alloc, identifier) {
+        Ok(text) => is_copied(alloc, &IncrementError::InvalidIdentifier(text)),
+        Err(_) => false,
+    }
+}
+
+fn is_copied(alloc: Global, error: &IncrementError) -> bool {
+    copies_equal(alloc, error) && *error != IncrementError::Overflow
+}
+
 #[test]
-fn copy_of_an_error_is_equal(rt: HostRuntime) -> Result<(), Fail> {
-    let overflow = IncrementError::Overflow;
-    let invalid = IncrementError::InvalidIdentifier(String::from_str(rt.alloc(), "a/b")?);
-    assert!(rt; copies_equal(rt.alloc(), &overflow));
-    assert!(rt; copies_equal(rt.alloc(), &invalid));
-    assert!(rt; invalid != overflow);
-    Ok(())
+fn copy_of_an_error_is_equal(rt: HostRuntime) {
+    assert!(rt; copies_equal(rt.alloc(), &IncrementError::Overflow));
+    assert!(rt; invalid_copies_equal(rt.alloc(), "a/b"));
 }

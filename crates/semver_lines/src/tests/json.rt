@@ -1,14 +1,13 @@
 // JSON values and texts of versions and ranges.
 
-use super::prints;
+use super::{long_text, one_identifier, prints, text_identifier};
 use nodejs_semver::json::{
     range_from_json_text, range_from_value, range_to_json_text, range_to_value,
     version_from_json_text, version_from_value, version_to_json_text, version_to_value,
 };
-use nodejs_semver::{Failure, Identifier, Range, SemverError, Version};
+use nodejs_semver::{Failure, Range, SemverError, Version};
 use serde_json::Value;
 use std::alloc::Global;
-use std::test::Fail;
 
 fn writes(alloc: Global, version: &Version, json: &str) -> bool {
     match version_to_json_text(alloc, version) {
@@ -27,27 +26,42 @@ fn reads(alloc: Global, json: &str, text: &str) -> bool {
 
 // Whether the JSON text is rejected, and not for an allocation failure.
 fn rejects(alloc: Global, json: &str) -> bool {
-    matches!(
-        version_from_json_text(alloc, json),
-        Err(Failure::Refused(SemverError))
-    )
+    match version_from_json_text(alloc, json) {
+        Err(Failure::Refused(SemverError)) => true,
+        _ => false,
+    }
+}
+
+fn text_writes(alloc: Global, text: &str, json: &str) -> bool {
+    match Version::parse(alloc, text) {
+        Ok(version) => writes(alloc, &version, json),
+        Err(_) => false,
+    }
 }
 
 #[test]
-fn version_to_json_text_has_quotes(rt: HostRuntime) -> Result<(), Fail> {
-    let version = Version::parse(rt.alloc(), "1.2.3-abc.123+build")?;
-    assert!(rt; writes(rt.alloc(), &version, "\"1.2.3-abc.123+build\""));
-    Ok(())
+fn version_to_json_text_has_quotes(rt: HostRuntime) {
+    assert!(rt; text_writes(rt.alloc(), "1.2.3-abc.123+build", "\"1.2.3-abc.123+build\""));
+}
+
+// The version 1.2.3 with this text as the one identifier of its pre-release.
+fn with_identifier(alloc: Global, text: &str) -> Option<Version> {
+    match one_identifier(alloc, text_identifier(alloc, text)) {
+        Some(pre_release) => Version::new(alloc, 1, 2, 3, pre_release, Vec::new(alloc)).ok(),
+        None => None,
+    }
+}
+
+fn identifier_writes(alloc: Global, text: &str, json: &str) -> bool {
+    match with_identifier(alloc, text) {
+        Some(version) => writes(alloc, &version, json),
+        None => false,
+    }
 }
 
 #[test]
-fn version_to_json_text_escapes_quotes(rt: HostRuntime) -> Result<(), Fail> {
-    let identifier = Identifier::AlphaNumeric(String::from_str(rt.alloc(), "a\"b")?);
-    let pre_release = vec![in rt.alloc(); identifier]?;
-    let none = Vec::new(rt.alloc());
-    let version = Version::new(rt.alloc(), 1, 2, 3, pre_release, none).map_err(|_| "no memory")?;
-    assert!(rt; writes(rt.alloc(), &version, "\"1.2.3-a\\\"b\""));
-    Ok(())
+fn version_to_json_text_escapes_quotes(rt: HostRuntime) {
+    assert!(rt; identifier_writes(rt.alloc(), "a\"b", "\"1.2.3-a\\\"b\""));
 }
 
 // JSON texts of version texts, and how the versions print.
@@ -86,14 +100,16 @@ fn version_from_json_text_rejects_other_values(rt: HostRuntime) {
     }
 }
 
-#[test]
-fn version_from_json_text_rejects_deep_arrays(rt: HostRuntime) -> Result<(), Fail> {
-    let mut deep = String::new(rt.alloc());
-    for _ in 0..200 {
-        deep.push('[')?;
+fn rejects_deep(alloc: Global, depth: usize) -> bool {
+    match long_text(alloc, "", "[", depth) {
+        Ok(deep) => rejects(alloc, &deep),
+        Err(_) => false,
     }
-    assert!(rt; rejects(rt.alloc(), &deep));
-    Ok(())
+}
+
+#[test]
+fn version_from_json_text_rejects_deep_arrays(rt: HostRuntime) {
+    assert!(rt; rejects_deep(rt.alloc(), 200));
 }
 
 fn range_writes(alloc: Global, range: &Range, json: &str) -> bool {
@@ -111,65 +127,106 @@ fn range_reads(alloc: Global, json: &str, range: &Range) -> bool {
     }
 }
 
-#[test]
-fn range_json_texts_come_back(rt: HostRuntime) -> Result<(), Fail> {
-    let range = Range::parse(rt.alloc(), "^1.2")?;
-    assert!(rt; range_writes(rt.alloc(), &range, "\">=1.2.0 <2.0.0-0\""));
-    assert!(rt; range_reads(rt.alloc(), "\">=1.2.0 <2.0.0-0\"", &range));
-    Ok(())
+fn range_comes_back(alloc: Global, text: &str, json: &str) -> bool {
+    match Range::parse(alloc, text) {
+        Ok(range) => range_writes(alloc, &range, json) && range_reads(alloc, json, &range),
+        Err(_) => false,
+    }
 }
 
 #[test]
-fn range_from_json_text_reads_the_empty_string_as_any(rt: HostRuntime) -> Result<(), Fail> {
-    assert!(rt; range_reads(rt.alloc(), "\"\"", &Range::any(rt.alloc())?));
-    assert!(rt;
-        matches!(
-            range_from_json_text(rt.alloc(), "\"foo\""),
-            Err(Failure::Refused(SemverError))
-        )
-    );
-    Ok(())
+fn range_json_texts_come_back(rt: HostRuntime) {
+    assert!(rt; range_comes_back(rt.alloc(), "^1.2", "\">=1.2.0 <2.0.0-0\""));
 }
 
-fn is_version_value(alloc: Global, value: &Value, text: &str) -> bool {
+fn any_reads(alloc: Global, json: &str) -> bool {
+    match Range::any(alloc) {
+        Ok(any) => range_reads(alloc, json, &any),
+        Err(_) => false,
+    }
+}
+
+// Whether the JSON text of a range is rejected, and not for an allocation failure.
+fn range_rejects(alloc: Global, json: &str) -> bool {
+    match range_from_json_text(alloc, json) {
+        Err(Failure::Refused(SemverError)) => true,
+        _ => false,
+    }
+}
+
+#[test]
+fn range_from_json_text_reads_the_empty_string_as_any(rt: HostRuntime) {
+    assert!(rt; any_reads(rt.alloc(), "\"\""));
+    assert!(rt; range_rejects(rt.alloc(), "\"foo\""));
+}
+
+fn value_reads(alloc: Global, value: &Value, text: &str) -> bool {
     match version_from_value(alloc, value) {
         Ok(version) => value.as_str() == Some(text) && prints(alloc, &version, text),
         Err(_) => false,
     }
 }
 
-#[test]
-fn version_values_come_back(rt: HostRuntime) -> Result<(), Fail> {
-    let version = Version::parse(rt.alloc(), "v1.2.3-a")?;
-    let value = version_to_value(rt.alloc(), &version)?;
-    assert!(rt; is_version_value(rt.alloc(), &value, "1.2.3-a"));
-    assert!(rt;
-        matches!(
-            version_from_value(rt.alloc(), &Value::Null),
-            Err(Failure::Refused(SemverError))
-        )
-    );
-    Ok(())
+fn value_comes_back(alloc: Global, version: &Version, text: &str) -> bool {
+    match version_to_value(alloc, version) {
+        Ok(value) => value_reads(alloc, &value, text),
+        Err(_) => false,
+    }
 }
 
-fn is_range_value(alloc: Global, value: &Value, range: &Range) -> bool {
+// Whether the version of a text has a JSON value of the other text, and that value the version.
+fn version_value_comes_back(alloc: Global, text: &str, printed: &str) -> bool {
+    match Version::parse(alloc, text) {
+        Ok(version) => value_comes_back(alloc, &version, printed),
+        Err(_) => false,
+    }
+}
+
+fn null_has_no_version(alloc: Global) -> bool {
+    match version_from_value(alloc, &Value::Null) {
+        Err(Failure::Refused(SemverError)) => true,
+        _ => false,
+    }
+}
+
+#[test]
+fn version_values_come_back(rt: HostRuntime) {
+    assert!(rt; version_value_comes_back(rt.alloc(), "v1.2.3-a", "1.2.3-a"));
+    assert!(rt; null_has_no_version(rt.alloc()));
+}
+
+fn value_reads_range(alloc: Global, value: &Value, range: &Range) -> bool {
     match range_from_value(alloc, value) {
         Ok(read) => read == *range,
         Err(_) => false,
     }
 }
 
+fn range_is_read_back(alloc: Global, range: &Range, text: &str) -> bool {
+    match range_to_value(alloc, range) {
+        Ok(value) => value.as_str() == Some(text) && value_reads_range(alloc, &value, range),
+        Err(_) => false,
+    }
+}
+
+// Whether the range of a text has a JSON value of the other text, and that value the range.
+fn range_value_comes_back(alloc: Global, text: &str, printed: &str) -> bool {
+    match Range::parse(alloc, text) {
+        Ok(range) => range_is_read_back(alloc, &range, printed),
+        Err(_) => false,
+    }
+}
+
+fn null_has_no_range(alloc: Global) -> bool {
+    match range_from_value(alloc, &Value::Null) {
+        Err(Failure::Refused(SemverError)) => true,
+        _ => false,
+    }
+}
+
 #[test]
-fn range_values_come_back(rt: HostRuntime) -> Result<(), Fail> {
-    let range = Range::parse(rt.alloc(), "1 || 2")?;
-    let value = range_to_value(rt.alloc(), &range)?;
-    assert_eq!(rt; value.as_str(), Some(">=1.0.0 <2.0.0-0||>=2.0.0 <3.0.0-0"));
-    assert!(rt; is_range_value(rt.alloc(), &value, &range));
-    assert!(rt;
-        matches!(
-            range_from_value(rt.alloc(), &Value::Null),
-            Err(Failure::Refused(SemverError))
-        )
-    );
-    Ok(())
+fn range_values_come_back(rt: HostRuntime) {
+    let printed = ">=1.0.0 <2.0.0-0||>=2.0.0 <3.0.0-0";
+    assert!(rt; range_value_comes_back(rt.alloc(), "1 || 2", printed));
+    assert!(rt; null_has_no_range(rt.alloc()));
 }

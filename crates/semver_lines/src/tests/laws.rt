@@ -1,13 +1,12 @@
 // Each law that is a function, called once with ample memory, and what it returns.
 
-use super::prints;
+use super::range_prints;
 use nodejs_semver::cuts::Interval;
-use nodejs_semver::laws::headline::{headline, headline_at};
+use nodejs_semver::laws::headline::{Findings, FindingsAt, headline, headline_at};
 use nodejs_semver::{Identifier, OutsideDirection, Range, Version, laws};
 use semver_core::laws as core_laws;
 use std::alloc::Global;
 use std::cmp::Ordering;
-use std::test::Fail;
 
 #[test]
 fn laws_of_texts_of_versions(rt: HostRuntime) {
@@ -21,16 +20,30 @@ fn laws_of_texts_of_versions(rt: HostRuntime) {
     assert!(rt; core_laws::constants() == (9_007_199_254_740_991, 256));
 }
 
-#[test]
-fn laws_of_the_order(rt: HostRuntime) -> Result<(), Fail> {
+fn everything_equals_itself() -> bool {
     let all = Interval::<Version>::default();
-    assert!(rt; core_laws::intervals_equal(&all, &all));
-    let (one, two) = (Identifier::Numeric(1), Identifier::Numeric(2));
-    assert!(rt; core_laws::identifiers_in_order(&one, &two) == (Ordering::Less, false));
-    let version = Version::parse(rt.alloc(), "1.2.3+a")?;
-    let same = Version::from((1u8, 2, 3));
-    assert!(rt; core_laws::versions_in_order(&version, &same) == (Ordering::Equal, true));
-    Ok(())
+    core_laws::intervals_equal(&all, &all)
+}
+
+fn ranks(alloc: Global, text: &str, release: &Version) -> Option<(Ordering, bool)> {
+    match Version::parse(alloc, text) {
+        Ok(version) => Some(core_laws::versions_in_order(&version, release)),
+        Err(_) => None,
+    }
+}
+
+// How the version of a text ranks beside 1.2.3.
+fn ranks_beside_a_release(alloc: Global, text: &str) -> Option<(Ordering, bool)> {
+    ranks(alloc, text, &Version::from((1u8, 2, 3)))
+}
+
+#[test]
+fn laws_of_the_order(rt: HostRuntime) {
+    assert!(rt; everything_equals_itself());
+    let (one, two) = (&Identifier::Numeric(1), &Identifier::Numeric(2));
+    assert!(rt; core_laws::identifiers_in_order(one, two) == (Ordering::Less, false));
+    let ranked = ranks_beside_a_release(rt.alloc(), "1.2.3+a");
+    assert!(rt; ranked == Some((Ordering::Equal, true)));
 }
 
 #[test]
@@ -48,20 +61,27 @@ fn laws_of_range_texts(rt: HostRuntime) {
     assert!(rt; true);
 }
 
+// Whether the version lies above the range, and not below it.
+fn is_above(range: &Range, version: &Version) -> bool {
+    laws::outside_by_cuts(range, version, OutsideDirection::Higher) == Ok(true)
+        && laws::outside_by_cuts(range, version, OutsideDirection::Lower) == Ok(false)
+}
+
+fn release_is_above(alloc: Global, text: &str, release: &Version) -> bool {
+    match Range::parse(alloc, text) {
+        Ok(range) => is_above(&range, release),
+        Err(_) => false,
+    }
+}
+
 #[test]
-fn outside_by_cuts_is_outside(rt: HostRuntime) -> Result<(), Fail> {
-    let range = Range::parse(rt.alloc(), "^1")?;
-    let version = Version::from((2u8, 0, 0));
-    let above = laws::outside_by_cuts(&range, &version, OutsideDirection::Higher);
-    assert!(rt; above == Ok(true));
-    let below = laws::outside_by_cuts(&range, &version, OutsideDirection::Lower);
-    assert!(rt; below == Ok(false));
-    Ok(())
+fn outside_by_cuts_is_outside(rt: HostRuntime) {
+    assert!(rt; release_is_above(rt.alloc(), "^1", &Version::from((2u8, 0, 0))));
 }
 
 fn is_printed(alloc: Global, range: &Option<Range>, text: &str) -> bool {
     match range {
-        Some(range) => prints(alloc, range, text),
+        Some(range) => range_prints(alloc, range, text),
         None => false,
     }
 }
@@ -73,21 +93,45 @@ fn is_one_oh_oh(version: &Option<Version>) -> bool {
     }
 }
 
-#[test]
-fn headline_finds_what_two_texts_say(rt: HostRuntime) -> Result<(), Fail> {
-    let found = headline(rt.alloc(), "^1", ">=1.5.0")?;
-    assert!(rt; prints(rt.alloc(), &found.first, ">=1.0.0 <2.0.0-0"));
-    assert!(rt; is_printed(rt.alloc(), &found.both, ">=1.5.0 <2.0.0-0"));
-    assert!(rt; is_printed(rt.alloc(), &found.first_alone, ">=1.0.0 <1.5.0"));
-    assert!(rt; is_one_oh_oh(&found.least));
-    Ok(())
+fn are_findings(alloc: Global, found: &Findings) -> bool {
+    range_prints(alloc, &found.first, ">=1.0.0 <2.0.0-0")
+        && is_printed(alloc, &found.both, ">=1.5.0 <2.0.0-0")
+        && is_printed(alloc, &found.first_alone, ">=1.0.0 <1.5.0")
+        && is_one_oh_oh(&found.least)
+}
+
+fn finds(alloc: Global, first: &str, second: &str) -> bool {
+    match headline(alloc, first, second) {
+        Ok(found) => are_findings(alloc, &found),
+        Err(_) => false,
+    }
 }
 
 #[test]
-fn headline_at_asks_for_one_version(rt: HostRuntime) -> Result<(), Fail> {
-    let version = Version::with_pre(rt.alloc(), 1, 6, 0, 1)?;
-    let found = headline_at(rt.alloc(), "^1", ">=1.5.0", &version)?;
-    assert!(rt; found.in_first && found.in_both && !found.in_first_alone);
-    assert!(rt; is_one_oh_oh(&found.least));
-    Ok(())
+fn headline_finds_what_two_texts_say(rt: HostRuntime) {
+    assert!(rt; finds(rt.alloc(), "^1", ">=1.5.0"));
+}
+
+fn are_findings_at(found: &FindingsAt) -> bool {
+    found.in_first && found.in_both && !found.in_first_alone && is_one_oh_oh(&found.least)
+}
+
+fn finds_at(alloc: Global, first: &str, second: &str, version: &Version) -> bool {
+    match headline_at(alloc, first, second, version) {
+        Ok(found) => are_findings_at(&found),
+        Err(_) => false,
+    }
+}
+
+// Whether 1.6.0-1 is in both ranges.
+fn finds_pre_release(alloc: Global, first: &str, second: &str) -> bool {
+    match Version::with_pre(alloc, 1, 6, 0, 1) {
+        Ok(version) => finds_at(alloc, first, second, &version),
+        Err(_) => false,
+    }
+}
+
+#[test]
+fn headline_at_asks_for_one_version(rt: HostRuntime) {
+    assert!(rt; finds_pre_release(rt.alloc(), "^1", ">=1.5.0"));
 }

@@ -5,7 +5,6 @@ use nodejs_semver::{IdentifierRef, IdentifierRefs, RangeRef, Version, VersionDif
 use std::alloc::Global;
 use std::cmp::Ordering;
 use std::hash::{DefaultHasher, Hash, Hasher};
-use std::test::Fail;
 
 // The chain of SemVer 2.0.0, item 11, and texts that are read as something else than they print.
 const TEXTS: &[&str] = &[
@@ -30,24 +29,48 @@ fn gives(mut ids: IdentifierRefs<'_>, wanted: &[IdentifierRef<'_>]) -> bool {
     ids.len() == wanted.len() && wanted.iter().all(|id| ids.next() == Some(*id))
 }
 
-#[test]
-fn the_five_values(rt: HostRuntime) -> Result<(), Fail> {
-    let version = VersionRef::parse("1.2.34-abc.123+1")?;
-    assert_eq!(rt;
-        (version.major(), version.minor(), version.patch()),
-        (1, 2, 34)
-    );
-    assert!(rt; version.is_prerelease() && !version.is_release());
-    let pre_release = [
+fn has_numbers(version: &VersionRef<'_>) -> bool {
+    version.major() == 1 && version.minor() == 2 && version.patch() == 34
+}
+
+fn has_lists(version: &VersionRef<'_>) -> bool {
+    let (text, number) = (
         IdentifierRef::AlphaNumeric("abc"),
         IdentifierRef::Numeric(123),
-    ];
-    assert!(rt; gives(version.pre_release(), &pre_release));
-    assert!(rt; gives(version.build(), &[IdentifierRef::Numeric(1)]));
-    assert!(rt; gives(version.copy().build(), &[IdentifierRef::Numeric(1)]));
-    assert!(rt; !version.pre_release().is_empty());
-    assert!(rt; VersionRef::parse("1.2.3+b")?.pre_release().is_empty());
-    Ok(())
+    );
+    gives(version.pre_release(), &[text, number])
+        && !version.pre_release().is_empty()
+        && gives(version.build(), &[IdentifierRef::Numeric(1)])
+}
+
+fn copies_build(version: &VersionRef<'_>) -> bool {
+    gives(version.copy().build(), &[IdentifierRef::Numeric(1)])
+}
+
+fn has_five_values(text: &str) -> bool {
+    match VersionRef::parse(text) {
+        Ok(version) => {
+            has_numbers(&version)
+                && version.is_prerelease()
+                && !version.is_release()
+                && has_lists(&version)
+                && copies_build(&version)
+        }
+        Err(_) => false,
+    }
+}
+
+fn has_no_pre_release(text: &str) -> bool {
+    match VersionRef::parse(text) {
+        Ok(version) => version.pre_release().is_empty(),
+        Err(_) => false,
+    }
+}
+
+#[test]
+fn the_five_values(rt: HostRuntime) {
+    assert!(rt; has_five_values("1.2.34-abc.123+1"));
+    assert!(rt; has_no_pre_release("1.2.3+b"));
 }
 
 #[test]
@@ -63,8 +86,8 @@ fn identifiers_are_in_order(rt: HostRuntime) {
         IdentifierRef::Numeric(11),
         IdentifierRef::AlphaNumeric("2a"),
     );
-    assert_eq!(rt; number.cmp(&text), Ordering::Less);
-    assert_eq!(rt; IdentifierRef::Numeric(2).cmp(&number), Ordering::Less);
+    assert!(rt; number.cmp(&text) == Ordering::Less);
+    assert!(rt; IdentifierRef::Numeric(2).cmp(&number) == Ordering::Less);
     assert!(rt; prints(rt.alloc(), &number, "11") && prints(rt.alloc(), &text, "2a"));
 }
 
@@ -74,68 +97,132 @@ fn hash_of<T: Hash>(value: &T) -> u64 {
     state.finish()
 }
 
-// Whether two texts compare, hash and differ alike, borrowed and not.
-fn agree(alloc: Global, one: &str, other: &str) -> Result<bool, Fail> {
-    let (borrowed, second) = (VersionRef::parse(one)?, VersionRef::parse(other)?);
-    let (owned, second_owned) = (Version::parse(alloc, one)?, Version::parse(alloc, other)?);
-    Ok(
-        borrowed.cmp(&second) == owned.cmp(&second_owned)
-            && (borrowed == second) == (owned == second_owned)
-            && borrowed.diff(&second) == owned.diff(&second_owned)
-            && hash_of(&borrowed) == hash_of(&owned),
-    )
+// Whether two versions compare, hash and differ alike, borrowed and not.
+fn are_alike(one: &VersionRef<'_>, other: &VersionRef<'_>, owned: (&Version, &Version)) -> bool {
+    one.cmp(other) == owned.0.cmp(owned.1)
+        && (one == other) == (owned.0 == owned.1)
+        && one.diff(other) == owned.0.diff(owned.1)
+        && hash_of(one) == hash_of(owned.0)
+}
+
+fn borrowed_agree(one: &str, other: &str, owned: (&Version, &Version)) -> bool {
+    match (VersionRef::parse(one), VersionRef::parse(other)) {
+        (Ok(one), Ok(other)) => are_alike(&one, &other, owned),
+        _ => false,
+    }
+}
+
+fn other_agrees(alloc: Global, one: &str, owned: &Version, other: &str) -> bool {
+    match Version::parse(alloc, other) {
+        Ok(owned_other) => borrowed_agree(one, other, (owned, &owned_other)),
+        Err(_) => false,
+    }
+}
+
+fn agree(alloc: Global, one: &str, other: &str) -> bool {
+    match Version::parse(alloc, one) {
+        Ok(owned) => other_agrees(alloc, one, &owned, other),
+        Err(_) => false,
+    }
 }
 
 #[test]
-fn both_kinds_agree(rt: HostRuntime) -> Result<(), Fail> {
+fn both_kinds_agree(rt: HostRuntime) {
     for one in TEXTS {
         for other in TEXTS {
-            assert!(rt; agree(rt.alloc(), one, other)?, "{one} {other}");
+            assert!(rt; agree(rt.alloc(), one, other), "{one} {other}");
         }
     }
-    Ok(())
+}
+
+// What is asked of two versions.
+#[derive(Clone, Copy)]
+enum Question {
+    // Whether the first is below the second.
+    Rise,
+    // Whether they are equal and hash alike, without a difference.
+    Same,
+    // Whether they differ so, either first.
+    Differ(VersionDiff),
+}
+
+fn answer(one: &VersionRef<'_>, other: &VersionRef<'_>, question: Question) -> bool {
+    match question {
+        Question::Rise => one < other,
+        Question::Same => {
+            one == other && hash_of(one) == hash_of(other) && one.diff(other) == None
+        }
+        Question::Differ(kind) => one.diff(other) == Some(kind) && other.diff(one) == Some(kind),
+    }
+}
+
+fn is_true(one: &str, other: &str, question: Question) -> bool {
+    match (VersionRef::parse(one), VersionRef::parse(other)) {
+        (Ok(one), Ok(other)) => answer(&one, &other, question),
+        _ => false,
+    }
 }
 
 #[test]
-fn the_chain_rises(rt: HostRuntime) -> Result<(), Fail> {
+fn the_chain_rises(rt: HostRuntime) {
     for pair in TEXTS[..8].windows(2) {
-        assert!(rt;
-            VersionRef::parse(pair[0])? < VersionRef::parse(pair[1])?,
-            "{}",
-            pair[0]
-        );
+        assert!(rt; is_true(pair[0], pair[1], Question::Rise), "{}", pair[0]);
     }
-    Ok(())
 }
 
 #[test]
-fn builds_do_not_count(rt: HostRuntime) -> Result<(), Fail> {
-    let (one, other) = (VersionRef::parse("1.2.3+a")?, VersionRef::parse("1.2.3+b")?);
-    assert!(rt; one == other && hash_of(&one) == hash_of(&other));
-    assert_eq!(rt; one.diff(&other), None);
-    let (release, beta) = (
-        VersionRef::parse("1.2.3")?,
-        VersionRef::parse("1.3.0-beta")?,
-    );
-    assert_eq!(rt; release.diff(&beta), Some(VersionDiff::PreMinor));
-    assert_eq!(rt; beta.diff(&release), Some(VersionDiff::PreMinor));
-    Ok(())
+fn builds_do_not_count(rt: HostRuntime) {
+    assert!(rt; is_true("1.2.3+a", "1.2.3+b", Question::Same));
+    let differ = Question::Differ(VersionDiff::PreMinor);
+    assert!(rt; is_true("1.2.3", "1.3.0-beta", differ));
+}
+
+fn borrowed_prints(alloc: Global, text: &str, printed: &str) -> bool {
+    match VersionRef::parse(text) {
+        Ok(version) => prints(alloc, &version, printed),
+        Err(_) => false,
+    }
+}
+
+// Whether the borrowed version prints as the text of the other one, and the other is that of the
+// text.
+fn owned_prints_alike(alloc: Global, version: &VersionRef<'_>, owned: &Version) -> bool {
+    match owned.to_string(alloc) {
+        Ok(printed) => prints(alloc, version, &printed),
+        Err(_) => false,
+    }
+}
+
+fn is_of_text(alloc: Global, owned: &Version, text: &str) -> bool {
+    match Version::parse(alloc, text) {
+        Ok(version) => *owned == version,
+        Err(_) => false,
+    }
+}
+
+fn owned_is_alike(alloc: Global, version: &VersionRef<'_>, text: &str) -> bool {
+    match version.to_version(alloc) {
+        Ok(owned) => {
+            owned_prints_alike(alloc, version, &owned) && is_of_text(alloc, &owned, text)
+        }
+        Err(_) => false,
+    }
+}
+
+// Whether the version of a text prints as a version of its own, which is that of the text.
+fn both_print_alike(alloc: Global, text: &str) -> bool {
+    match VersionRef::parse(text) {
+        Ok(version) => owned_is_alike(alloc, &version, text),
+        Err(_) => false,
+    }
 }
 
 #[test]
-fn both_kinds_print_alike(rt: HostRuntime) -> Result<(), Fail> {
-    let version = VersionRef::parse("V 1.2.3-007.-+007.a oops")?;
-    assert!(rt; prints(rt.alloc(), &version, "1.2.3-7.-+7.a"));
+fn both_kinds_print_alike(rt: HostRuntime) {
+    assert!(rt; borrowed_prints(rt.alloc(), "V 1.2.3-007.-+007.a oops", "1.2.3-7.-+7.a"));
     for text in TEXTS {
-        let borrowed = VersionRef::parse(text)?;
-        let owned = borrowed.to_version(rt.alloc())?;
-        assert_eq!(rt;
-            borrowed.to_string(rt.alloc())?,
-            owned.to_string(rt.alloc())?
-        );
-        assert_eq!(rt; owned, Version::parse(rt.alloc(), text)?);
+        assert!(rt; both_print_alike(rt.alloc(), text), "{text}");
     }
-    Ok(())
 }
 
 // The newest version of the lines that a range accepts. Nothing is allocated.
@@ -147,11 +234,26 @@ fn newest<'a>(range: &RangeRef<'_>, lines: &'a str) -> Option<VersionRef<'a>> {
         .max()
 }
 
+// Whether the newest of the lines is the version of this text, or there is none where none is
+// wanted.
+fn is_newest(range: &RangeRef<'_>, lines: &str, wanted: Option<&str>) -> bool {
+    match (newest(range, lines), wanted) {
+        (Some(version), Some(text)) => VersionRef::parse(text) == Ok(version),
+        (None, None) => true,
+        (_, _) => false,
+    }
+}
+
+fn finds_newest(alloc: Global, range: &str, lines: &str, wanted: Option<&str>) -> bool {
+    match RangeRef::parse(alloc, range) {
+        Ok(range) => is_newest(&range, lines, wanted),
+        Err(_) => false,
+    }
+}
+
 #[test]
-fn the_newest_line(rt: HostRuntime) -> Result<(), Fail> {
-    let range = RangeRef::parse(rt.alloc(), "^1.2.3")?;
+fn the_newest_line(rt: HostRuntime) {
     let lines = "1.2.2\n1.9.0\nyanked\n1.10.0-beta\n1.3.0\n2.0.0\n";
-    assert_eq!(rt; newest(&range, lines), Some(VersionRef::parse("1.9.0")?));
-    assert_eq!(rt; newest(&range, "2.0.0"), None);
-    Ok(())
+    assert!(rt; finds_newest(rt.alloc(), "^1.2.3", lines, Some("1.9.0")));
+    assert!(rt; finds_newest(rt.alloc(), "^1.2.3", "2.0.0", None));
 }

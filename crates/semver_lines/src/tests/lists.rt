@@ -1,9 +1,9 @@
 // Versions and ranges with as many identifiers and intervals as stand inline, and with more.
 
+use super::{prints, range_prints};
 use nodejs_semver::{Range, Version, VersionParts};
 use std::alloc::{AllocError, Global};
 use std::fmt::Write;
-use std::test::Fail;
 
 const IDENTIFIERS: &[usize] = &[0, 1, 2, 3, 20];
 
@@ -37,16 +37,9 @@ fn range_text(alloc: Global, count: usize) -> Result<String, AllocError> {
     Ok(text)
 }
 
-fn version_prints(alloc: Global, version: &Version, text: &str) -> bool {
-    match version.to_string(alloc) {
-        Ok(printed) => printed.as_str() == text,
-        Err(_) => false,
-    }
-}
-
 fn copy_prints(alloc: Global, version: &Version, text: &str) -> bool {
     match version.copy(alloc) {
-        Ok(copy) => version_prints(alloc, &copy, text),
+        Ok(copy) => prints(alloc, &copy, text),
         Err(_) => false,
     }
 }
@@ -60,7 +53,7 @@ fn parts_print(alloc: Global, parts: VersionParts, text: &str) -> bool {
         parts.pre_release,
         parts.build,
     ) {
-        Ok(version) => version_prints(alloc, &version, text),
+        Ok(version) => prints(alloc, &version, text),
         Err(_) => false,
     }
 }
@@ -78,7 +71,7 @@ fn version_is_kept(alloc: Global, text: &str, pre_release: usize, build: usize) 
         Ok(version) => {
             version.pre_release().len() == pre_release
                 && version.build().len() == build
-                && version_prints(alloc, &version, text)
+                && prints(alloc, &version, text)
                 && copy_prints(alloc, &version, text)
                 && rebuilt_prints(alloc, version, text)
         }
@@ -86,24 +79,23 @@ fn version_is_kept(alloc: Global, text: &str, pre_release: usize, build: usize) 
     }
 }
 
-#[test]
-fn versions_keep_their_identifiers(rt: HostRuntime) -> Result<(), Fail> {
-    for &pre_release in IDENTIFIERS {
-        for &build in IDENTIFIERS {
-            let text = version_text(rt.alloc(), pre_release, build)?;
-            assert!(rt;
-                version_is_kept(rt.alloc(), &text, pre_release, build),
-                "{text}"
-            );
-        }
+// Whether the version of so many identifiers keeps them.
+fn keeps_identifiers(alloc: Global, pre_release: usize, build: usize) -> bool {
+    match version_text(alloc, pre_release, build) {
+        Ok(text) => version_is_kept(alloc, &text, pre_release, build),
+        Err(_) => false,
     }
-    Ok(())
 }
 
-fn range_prints(alloc: Global, range: &Range, text: &str) -> bool {
-    match range.to_string(alloc) {
-        Ok(printed) => printed.as_str() == text,
-        Err(_) => false,
+#[test]
+fn versions_keep_their_identifiers(rt: HostRuntime) {
+    for &pre_release in IDENTIFIERS {
+        for &build in IDENTIFIERS {
+            assert!(rt;
+                keeps_identifiers(rt.alloc(), pre_release, build),
+                "{pre_release} and {build}"
+            );
+        }
     }
 }
 
@@ -122,11 +114,16 @@ fn range_is_kept(alloc: Global, text: &str) -> bool {
     }
 }
 
-#[test]
-fn ranges_keep_their_intervals(rt: HostRuntime) -> Result<(), Fail> {
-    for &count in INTERVALS {
-        let text = range_text(rt.alloc(), count)?;
-        assert!(rt; range_is_kept(rt.alloc(), &text), "{text}");
+fn keeps_intervals(alloc: Global, count: usize) -> bool {
+    match range_text(alloc, count) {
+        Ok(text) => range_is_kept(alloc, &text),
+        Err(_) => false,
     }
-    Ok(())
+}
+
+#[test]
+fn ranges_keep_their_intervals(rt: HostRuntime) {
+    for &count in INTERVALS {
+        assert!(rt; keeps_intervals(rt.alloc(), count), "{count}");
+    }
 }

@@ -1,12 +1,12 @@
 // What is printed where no line asks: with a width, of values made by hand, and read again.
 
-use super::prints;
+use super::{is_version, long_text, one_identifier, prints, text_identifier};
 use nodejs_semver::laws::{one_meaning, printed_in_field, reread_range};
 use nodejs_semver::{
     Failure, Identifier, OutsideDirection, Range, SemverError, Version, VersionDiff,
 };
 use semver_core::laws::{identifier_in_field, reread, version_in_field};
-use std::alloc::Global;
+use std::alloc::{AllocError, Global};
 use std::fmt::Display;
 use std::test::Fail;
 
@@ -32,73 +32,134 @@ const PRINTED: &[(Kind, &str)] = &[
 
 // Whether a value prints as this text in a wide field, in a narrow one with zeros, and cut to one
 // character.
-fn prints_as<D: Display>(alloc: Global, value: &D, text: &str) -> Result<bool, Fail> {
-    let printed = format!(in alloc; "{value:*>60}|{value:03}|{value:^.1}")?;
-    let wanted = format!(in alloc; "{text}|{text}|{text}")?;
-    Ok(printed == wanted)
+fn prints_as<D: Display>(alloc: Global, value: &D, text: &str) -> bool {
+    match format!(in alloc; "{value:*>60}|{value:03}|{value:^.1}") {
+        Ok(printed) => is_thrice(alloc, &printed, text),
+        Err(_) => false,
+    }
 }
 
-fn is_unstyled(alloc: Global, kind: Kind, text: &str) -> Result<bool, Fail> {
+fn is_thrice(alloc: Global, printed: &str, text: &str) -> bool {
+    match format!(in alloc; "{text}|{text}|{text}") {
+        Ok(wanted) => printed == wanted.as_str(),
+        Err(_) => false,
+    }
+}
+
+fn identifier_prints_as(alloc: Global, text: &str) -> bool {
+    match text_identifier(alloc, text) {
+        Some(identifier) => prints_as(alloc, &identifier, text),
+        None => false,
+    }
+}
+
+fn version_prints_as(alloc: Global, text: &str) -> bool {
+    match Version::parse(alloc, text) {
+        Ok(version) => prints_as(alloc, &version, text),
+        Err(_) => false,
+    }
+}
+
+fn range_prints_as(alloc: Global, text: &str) -> bool {
+    match Range::parse(alloc, text) {
+        Ok(range) => prints_as(alloc, &range, text),
+        Err(_) => false,
+    }
+}
+
+fn is_unstyled(alloc: Global, kind: Kind, text: &str) -> bool {
     match kind {
         Kind::Number => prints_as(alloc, &Identifier::Numeric(7), text),
-        Kind::Text => {
-            let identifier = Identifier::AlphaNumeric(String::from_str(alloc, text)?);
-            prints_as(alloc, &identifier, text)
-        }
-        Kind::Version => prints_as(alloc, &Version::parse(alloc, text)?, text),
+        Kind::Text => identifier_prints_as(alloc, text),
+        Kind::Version => version_prints_as(alloc, text),
         Kind::Difference => prints_as(alloc, &VersionDiff::PreMajor, text),
-        Kind::Range => prints_as(alloc, &Range::parse(alloc, text)?, text),
+        Kind::Range => range_prints_as(alloc, text),
         Kind::Direction => prints_as(alloc, &OutsideDirection::Higher, text),
     }
 }
 
 #[test]
-fn width_fill_and_precision_change_nothing(rt: HostRuntime) -> Result<(), Fail> {
+fn width_fill_and_precision_change_nothing(rt: HostRuntime) {
     for &(kind, text) in PRINTED {
-        assert!(rt; is_unstyled(rt.alloc(), kind, text)?, "{text}");
+        assert!(rt; is_unstyled(rt.alloc(), kind, text), "{text}");
     }
-    Ok(())
+}
+
+// Whether there is a text, and it is this one.
+fn is_text(printed: Result<String, AllocError>, text: &str) -> bool {
+    match printed {
+        Ok(printed) => printed.as_str() == text,
+        Err(_) => false,
+    }
+}
+
+fn range_in_field(alloc: Global, text: &str, printed: &str) -> bool {
+    match Range::parse(alloc, text) {
+        Ok(range) => is_text(printed_in_field(alloc, &range, 60, 1), printed),
+        Err(_) => false,
+    }
 }
 
 #[test]
-fn printed_in_field_ignores_width_and_precision(rt: HostRuntime) -> Result<(), Fail> {
-    let range = Range::parse(rt.alloc(), "^1.2")?;
-    let wide = printed_in_field(rt.alloc(), &range, 60, 1)?;
-    assert_eq!(rt; wide.as_str(), ">=1.2.0 <2.0.0-0");
-    Ok(())
+fn printed_in_field_ignores_width_and_precision(rt: HostRuntime) {
+    assert!(rt; range_in_field(rt.alloc(), "^1.2", ">=1.2.0 <2.0.0-0"));
+}
+
+fn is_same_in_field(alloc: Global, text: &str) -> bool {
+    match Version::parse(alloc, text) {
+        Ok(version) => is_text(version_in_field(alloc, &version, 60, 1), text),
+        Err(_) => false,
+    }
+}
+
+fn number_in_field(alloc: Global, number: u64, text: &str) -> bool {
+    is_text(
+        identifier_in_field(alloc, &Identifier::Numeric(number), 60, 1),
+        text,
+    )
 }
 
 #[test]
-fn versions_and_identifiers_in_a_field(rt: HostRuntime) -> Result<(), Fail> {
-    let version = Version::parse(rt.alloc(), "1.2.3-a")?;
-    let wide = version_in_field(rt.alloc(), &version, 60, 1)?;
-    assert_eq!(rt; wide.as_str(), "1.2.3-a");
-    let wide = identifier_in_field(rt.alloc(), &Identifier::Numeric(7), 60, 1)?;
-    assert_eq!(rt; wide.as_str(), "7");
-    Ok(())
+fn versions_and_identifiers_in_a_field(rt: HostRuntime) {
+    assert!(rt; is_same_in_field(rt.alloc(), "1.2.3-a"));
+    assert!(rt; number_in_field(rt.alloc(), 7, "7"));
+}
+
+fn number_prints(alloc: Global, number: u64, text: &str) -> bool {
+    prints(alloc, &Identifier::Numeric(number), text)
+}
+
+fn text_prints(alloc: Global, text: &str) -> bool {
+    match text_identifier(alloc, text) {
+        Some(identifier) => prints(alloc, &identifier, text),
+        None => false,
+    }
 }
 
 #[test]
-fn identifier_prints_its_number_or_text(rt: HostRuntime) -> Result<(), Fail> {
-    assert!(rt;
-        prints(
-            rt.alloc(),
-            &Identifier::Numeric(u64::MAX),
-            "18446744073709551615"
-        )
-    );
-    let text = Identifier::AlphaNumeric(String::from_str(rt.alloc(), "a b")?);
-    assert!(rt; prints(rt.alloc(), &text, "a b"));
-    Ok(())
+fn identifier_prints_its_number_or_text(rt: HostRuntime) {
+    assert!(rt; number_prints(rt.alloc(), u64::MAX, "18446744073709551615"));
+    assert!(rt; text_prints(rt.alloc(), "a b"));
+}
+
+// The version 1.2.3 with this number before its build.
+fn with_number(alloc: Global, number: u64, build: Vec<Identifier>) -> Option<Version> {
+    match one_identifier(alloc, Some(Identifier::Numeric(number))) {
+        Some(pre_release) => Version::new(alloc, 1, 2, 3, pre_release, build).ok(),
+        None => None,
+    }
+}
+
+fn made_by_hand(alloc: Global, number: u64, build: &str) -> Option<Version> {
+    match one_identifier(alloc, text_identifier(alloc, build)) {
+        Some(build) => with_number(alloc, number, build),
+        None => None,
+    }
 }
 
 #[test]
-fn version_made_by_hand_prints(rt: HostRuntime) -> Result<(), Fail> {
-    let pre_release = vec![in rt.alloc(); Identifier::Numeric(0)]?;
-    let build = vec![in rt.alloc(); Identifier::AlphaNumeric(String::from_str(rt.alloc(), "a")?)]?;
-    let version = Version::new(rt.alloc(), 1, 2, 3, pre_release, build).map_err(|_| "no memory")?;
-    assert!(rt; prints(rt.alloc(), &version, "1.2.3-0+a"));
-    Ok(())
+fn version_made_by_hand_prints(rt: HostRuntime) {
+    assert!(rt; is_version(rt.alloc(), made_by_hand(rt.alloc(), 0, "a"), "1.2.3-0+a"));
 }
 
 // How long the printed version of a text is.
@@ -116,34 +177,59 @@ fn length(alloc: Global, version: &Version) -> usize {
     }
 }
 
-#[test]
-fn version_may_print_a_text_that_is_too_long(rt: HostRuntime) -> Result<(), Fail> {
-    let no = "";
-    let text = format!(in rt.alloc(); "1.2.3{no:b>251}")?;
-    assert_eq!(rt; printed_length(rt.alloc(), &text), 257);
-    let printed = format!(in rt.alloc(); "1.2.3-{no:b>251}")?;
-    assert!(rt;
-        matches!(
-            Version::parse(rt.alloc(), &printed),
-            Err(Failure::Refused(SemverError))
-        )
-    );
-    Ok(())
+// How long the printed version of a text is that goes on with so many characters `b`.
+fn long_length(alloc: Global, front: &str, count: usize) -> usize {
+    match long_text(alloc, front, "b", count) {
+        Ok(text) => printed_length(alloc, &text),
+        Err(_) => 0,
+    }
+}
+
+// Whether such a text is rejected, and not for an allocation failure.
+fn long_is_rejected(alloc: Global, front: &str, count: usize) -> bool {
+    match long_text(alloc, front, "b", count) {
+        Ok(text) => is_rejected(alloc, &text),
+        Err(_) => false,
+    }
+}
+
+fn is_rejected(alloc: Global, text: &str) -> bool {
+    match Version::parse(alloc, text) {
+        Err(Failure::Refused(SemverError)) => true,
+        _ => false,
+    }
 }
 
 #[test]
-fn reread_gives_the_version(rt: HostRuntime) -> Result<(), Fail> {
+fn version_may_print_a_text_that_is_too_long(rt: HostRuntime) {
+    assert!(rt; long_length(rt.alloc(), "1.2.3", 251) == 257);
+    assert!(rt; long_is_rejected(rt.alloc(), "1.2.3-", 251));
+}
+
+fn is_again(again: Result<Version, Failure<SemverError>>, version: &Version) -> bool {
+    match again {
+        Ok(again) => *version == again,
+        Err(_) => false,
+    }
+}
+
+#[test]
+fn reread_gives_the_version(rt: HostRuntime) {
     let version = Version::from((1u64, 2u64, 3u64));
-    let again = reread(rt.alloc(), &version)?;
-    assert!(rt; version == again);
-    Ok(())
+    assert!(rt; is_again(reread(rt.alloc(), &version), &version));
+}
+
+fn is_range_again(again: Result<Range, Failure<SemverError>>, range: &Range) -> bool {
+    match again {
+        Ok(again) => *range == again,
+        Err(_) => false,
+    }
 }
 
 #[test]
 fn reread_range_gives_an_equal_range(rt: HostRuntime) -> Result<(), Fail> {
     one_meaning();
     let range = Range::parse(rt.alloc(), ">1.2.3")?;
-    let again = reread_range(rt.alloc(), &range)?;
-    assert!(rt; range == again);
+    assert!(rt; is_range_again(reread_range(rt.alloc(), &range), &range));
     Ok(())
 }

@@ -1,10 +1,9 @@
 // Ranges: what no line can ask of them.
 
-use super::prints;
+use super::{long_text, range_equals, range_prints};
 use nodejs_semver::{Range, Version};
 use std::alloc::Global;
 use std::hash::{DefaultHasher, Hash, Hasher};
-use std::test::Fail;
 
 fn hash_of(range: &Range) -> u64 {
     let mut state = DefaultHasher::new();
@@ -12,48 +11,83 @@ fn hash_of(range: &Range) -> u64 {
     state.finish()
 }
 
-fn equals(alloc: Global, range: &Range, text: &str) -> bool {
-    match Range::parse(alloc, text) {
-        Ok(other) => *range == other,
+// Whether the range holds every version.
+fn holds_all(alloc: Global, any: &Range, pre: &Version) -> bool {
+    any.satisfies(&Version::from((5u8, 0, 0)))
+        && !pre.satisfies(any)
+        && pre.satisfies_with_prerelease(any, true)
+        && range_equals(alloc, any, "")
+}
+
+fn any_holds(alloc: Global, pre: &Version) -> bool {
+    match Range::any(alloc) {
+        Ok(any) => holds_all(alloc, &any, pre),
+        Err(_) => false,
+    }
+}
+
+fn any_holds_all(alloc: Global) -> bool {
+    match Version::with_pre(alloc, 5, 0, 0, 1) {
+        Ok(pre) => any_holds(alloc, &pre),
         Err(_) => false,
     }
 }
 
 #[test]
-fn any_holds_every_version(rt: HostRuntime) -> Result<(), Fail> {
-    let any = Range::any(rt.alloc())?;
-    let pre = Version::with_pre(rt.alloc(), 5, 0, 0, 1)?;
-    assert!(rt; any.satisfies(&Version::from((5u8, 0, 0))));
-    assert!(rt; !pre.satisfies(&any));
-    assert!(rt; pre.satisfies_with_prerelease(&any, true));
-    assert!(rt; equals(rt.alloc(), &any, ""));
-    Ok(())
+fn any_holds_every_version(rt: HostRuntime) {
+    assert!(rt; any_holds_all(rt.alloc()));
 }
 
-// Whether the copy is equal, hashes alike and prints alike.
+// What is asked of a range.
+#[derive(Clone, Copy)]
+enum Question<'a> {
+    // Whether its copy is equal, hashes alike and prints so.
+    Copies(&'a str),
+    // Whether it equals the range of a text.
+    Equals(&'a str),
+    Differs(&'a str),
+    Prints(&'a str),
+}
+
 fn copies_equal(alloc: Global, range: &Range, text: &str) -> bool {
     match range.copy(alloc) {
         Ok(copy) => {
-            copy == *range && hash_of(&copy) == hash_of(range) && prints(alloc, &copy, text)
+            copy == *range && hash_of(&copy) == hash_of(range) && range_prints(alloc, &copy, text)
         }
         Err(_) => false,
     }
 }
 
+fn answer(alloc: Global, range: &Range, question: Question<'_>) -> bool {
+    match question {
+        Question::Copies(text) => copies_equal(alloc, range, text),
+        Question::Equals(text) => range_equals(alloc, range, text),
+        Question::Differs(text) => !range_equals(alloc, range, text),
+        Question::Prints(text) => range_prints(alloc, range, text),
+    }
+}
+
+// Whether the text is one of a range, and the answer is yes.
+fn is_true(alloc: Global, text: &str, question: Question<'_>) -> bool {
+    match Range::parse(alloc, text) {
+        Ok(range) => answer(alloc, &range, question),
+        Err(_) => false,
+    }
+}
+
+const BUILT: &str = ">=2.0.0+a <3.0.0-0 || 7.x";
+
 #[test]
-fn copy_is_the_whole_range(rt: HostRuntime) -> Result<(), Fail> {
-    let range = Range::parse(rt.alloc(), ">=2.0.0+a <3.0.0-0 || 7.x")?;
-    let text = ">=2.0.0+a <3.0.0-0||>=7.0.0 <8.0.0-0";
-    assert!(rt; copies_equal(rt.alloc(), &range, text));
-    Ok(())
+fn copy_is_the_whole_range(rt: HostRuntime) {
+    let copies = Question::Copies(">=2.0.0+a <3.0.0-0||>=7.0.0 <8.0.0-0");
+    assert!(rt; is_true(rt.alloc(), BUILT, copies));
 }
 
 #[test]
-fn eq_ignores_build_metadata(rt: HostRuntime) -> Result<(), Fail> {
-    let range = Range::parse(rt.alloc(), ">=2.0.0+a <3.0.0-0 || 7.x")?;
-    assert!(rt; equals(rt.alloc(), &range, ">=2.0.0+b <3.0.0-0 || 7.x"));
-    assert!(rt; !equals(rt.alloc(), &range, ">=2.0.0 <3.0.0-0"));
-    Ok(())
+fn eq_ignores_build_metadata(rt: HostRuntime) {
+    let equals = Question::Equals(">=2.0.0+b <3.0.0-0 || 7.x");
+    assert!(rt; is_true(rt.alloc(), BUILT, equals));
+    assert!(rt; is_true(rt.alloc(), BUILT, Question::Differs(">=2.0.0 <3.0.0-0")));
 }
 
 // Texts of equal ranges.
@@ -65,35 +99,31 @@ const ALIKE: &[(&str, &str)] = &[
     ("> > 1", ">=2.0.0"),
 ];
 
-fn reads_alike(alloc: Global, left: &str, right: &str) -> bool {
-    match Range::parse(alloc, left) {
-        Ok(range) => equals(alloc, &range, right),
-        Err(_) => false,
-    }
-}
-
 #[test]
 fn parse_reads_equal_ranges(rt: HostRuntime) {
     for &(left, right) in ALIKE {
-        assert!(rt; reads_alike(rt.alloc(), left, right), "{left}");
+        assert!(rt;
+            is_true(rt.alloc(), left, Question::Equals(right)),
+            "{left}"
+        );
     }
 }
 
 // The one whitespace character that no line can hold.
 #[test]
-fn parse_takes_a_line_feed_for_whitespace(rt: HostRuntime) -> Result<(), Fail> {
-    let range = Range::parse(rt.alloc(), ">=1.0.0\n<2.0.0")?;
-    assert!(rt; prints(rt.alloc(), &range, ">=1.0.0 <2.0.0"));
-    Ok(())
+fn parse_takes_a_line_feed_for_whitespace(rt: HostRuntime) {
+    let prints = Question::Prints(">=1.0.0 <2.0.0");
+    assert!(rt; is_true(rt.alloc(), ">=1.0.0\n<2.0.0", prints));
+}
+
+fn reads_words(alloc: Global, word: &str, again: &str, count: usize) -> bool {
+    match long_text(alloc, word, again, count) {
+        Ok(text) => is_true(alloc, &text, Question::Prints(word)),
+        Err(_) => false,
+    }
 }
 
 #[test]
-fn parse_reads_twenty_thousand_words(rt: HostRuntime) -> Result<(), Fail> {
-    let mut text = String::from_str(rt.alloc(), ">=0.0.0")?;
-    for _ in 1..20_000 {
-        text.push_str(" >=0.0.0")?;
-    }
-    let range = Range::parse(rt.alloc(), &text)?;
-    assert!(rt; prints(rt.alloc(), &range, ">=0.0.0"));
-    Ok(())
+fn parse_reads_twenty_thousand_words(rt: HostRuntime) {
+    assert!(rt; reads_words(rt.alloc(), ">=0.0.0", " >=0.0.0", 19_999));
 }

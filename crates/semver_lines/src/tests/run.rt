@@ -1,8 +1,9 @@
 // Runs over inputs of several lines, and what a run leaves where an end fails.
 
 use super::ends::{FailingReader, FailingWriter};
+use super::long_text;
 use crate::run::{RunFault, run};
-use std::alloc::Global;
+use std::alloc::{AllocError, Global};
 use std::io::ErrorKind;
 use std::test::Fail;
 
@@ -37,27 +38,32 @@ fn run_ends_a_line_at_each_line_feed(rt: HostRuntime) {
     }
 }
 
+// Whether a run over so many times two lines writes as many answers.
+fn tells_long(alloc: Global, input: &str, count: usize) -> bool {
+    match long_text(alloc, "", "less\nbad version\n", count) {
+        Ok(output) => tells(alloc, input.as_bytes(), output.as_bytes()),
+        Err(_) => false,
+    }
+}
+
 // An input of more than one chunk, in which lines lie across the chunks.
 #[test]
 fn run_answers_a_long_input(rt: HostRuntime) -> Result<(), Fail> {
-    let mut input = String::new(rt.alloc());
-    let mut output = String::new(rt.alloc());
-    for _ in 0..10_000 {
-        input.push_str("cmp;1.0.0;2.0.0\ncmp;2;1\n")?;
-        output.push_str("less\nbad version\n")?;
-    }
-    assert!(rt; tells(rt.alloc(), input.as_bytes(), output.as_bytes()));
+    let input = long_text(rt.alloc(), "", "cmp;1.0.0;2.0.0\ncmp;2;1\n", 10_000)?;
+    assert!(rt; tells_long(rt.alloc(), &input, 10_000));
     Ok(())
+}
+
+fn long_line(alloc: Global) -> Result<String, AllocError> {
+    let mut input = long_text(alloc, "cmp;1.0.0;", "x", 200_000)?;
+    input.push_str("\ncmp;1.0.0;2.0.0")?;
+    Ok(input)
 }
 
 // A line longer than a chunk, and one behind it.
 #[test]
 fn run_answers_a_long_line(rt: HostRuntime) -> Result<(), Fail> {
-    let mut input = String::from_str(rt.alloc(), "cmp;1.0.0;")?;
-    for _ in 0..200_000 {
-        input.push('x')?;
-    }
-    input.push_str("\ncmp;1.0.0;2.0.0")?;
+    let input = long_line(rt.alloc())?;
     assert!(rt; tells(rt.alloc(), input.as_bytes(), b"bad version\nless\n"));
     Ok(())
 }

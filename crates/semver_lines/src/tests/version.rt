@@ -1,10 +1,9 @@
 // Versions: what no line can ask of them.
 
-use super::prints;
+use super::{is_version, prints};
 use nodejs_semver::{Identifier, NegativeNumber, Version, VersionParts};
-use std::alloc::Global;
+use std::alloc::{AllocError, Global};
 use std::hash::{DefaultHasher, Hash, Hasher};
-use std::test::Fail;
 
 fn is_text(identifier: &Identifier, wanted: &str) -> bool {
     match identifier {
@@ -20,46 +19,76 @@ fn is_number(identifier: &Identifier, wanted: u64) -> bool {
     }
 }
 
-#[test]
-fn parse_reads_the_five_values(rt: HostRuntime) -> Result<(), Fail> {
-    let version = Version::parse(rt.alloc(), "1.2.34-abc.123+1")?;
-    assert_eq!(rt; version.major(), 1);
-    assert_eq!(rt; version.minor(), 2);
-    assert_eq!(rt; version.patch(), 34);
-    assert!(rt;
-        matches!(
-            version.pre_release(),
-            [first, second] if is_text(first, "abc") && is_number(second, 123)
-        )
-    );
-    assert!(rt; matches!(version.build(), [one] if is_number(one, 1)));
-    Ok(())
+// What is asked of a version.
+#[derive(Clone, Copy)]
+enum Question<'a> {
+    // Whether it is 1.2.34-abc.123+1.
+    HasFiveValues,
+    // Whether its pre-release is `rc` and `2-migration`.
+    KeepsDashes,
+    IsPrerelease,
+    IsNoPrerelease,
+    // Whether its copy prints so.
+    Copies(&'a str),
+    // Whether it equals and hashes like that of the text.
+    Ties(&'a str),
+    Differs(&'a str),
 }
 
-#[test]
-fn parse_keeps_dashes_in_identifiers(rt: HostRuntime) -> Result<(), Fail> {
-    let version = Version::parse(rt.alloc(), "1.0.0-rc.2-migration")?;
-    assert!(rt;
-        matches!(
-            version.pre_release(),
-            [first, second] if is_text(first, "rc") && is_text(second, "2-migration")
-        )
-    );
-    Ok(())
+fn answer(alloc: Global, version: &Version, question: Question<'_>) -> bool {
+    match question {
+        Question::HasFiveValues => has_numbers(version) && has_lists(version),
+        Question::KeepsDashes => keeps_dashes(version),
+        Question::IsPrerelease => version.is_prerelease(),
+        Question::IsNoPrerelease => !version.is_prerelease(),
+        Question::Copies(text) => is_version(alloc, version.copy(alloc).ok(), text),
+        Question::Ties(text) => ties(alloc, version, text),
+        Question::Differs(text) => !ties(alloc, version, text),
+    }
 }
 
-fn is_prerelease(alloc: Global, text: &str) -> bool {
+// Whether the text is one of a version, and the answer is yes.
+fn is_true(alloc: Global, text: &str, question: Question<'_>) -> bool {
     match Version::parse(alloc, text) {
-        Ok(version) => version.is_prerelease(),
+        Ok(version) => answer(alloc, &version, question),
         Err(_) => false,
     }
 }
 
+fn has_numbers(version: &Version) -> bool {
+    version.major() == 1 && version.minor() == 2 && version.patch() == 34
+}
+
+fn has_lists(version: &Version) -> bool {
+    match (version.pre_release(), version.build()) {
+        ([first, second], [one]) => {
+            is_text(first, "abc") && is_number(second, 123) && is_number(one, 1)
+        }
+        _ => false,
+    }
+}
+
+fn keeps_dashes(version: &Version) -> bool {
+    match version.pre_release() {
+        [first, second] => is_text(first, "rc") && is_text(second, "2-migration"),
+        _ => false,
+    }
+}
+
 #[test]
-fn is_prerelease_ignores_build_metadata(rt: HostRuntime) -> Result<(), Fail> {
-    assert!(rt; is_prerelease(rt.alloc(), "1.0.0-rc.2-migration"));
-    assert!(rt; !Version::parse(rt.alloc(), "1.0.0+rc")?.is_prerelease());
-    Ok(())
+fn parse_reads_the_five_values(rt: HostRuntime) {
+    assert!(rt; is_true(rt.alloc(), "1.2.34-abc.123+1", Question::HasFiveValues));
+}
+
+#[test]
+fn parse_keeps_dashes_in_identifiers(rt: HostRuntime) {
+    assert!(rt; is_true(rt.alloc(), "1.0.0-rc.2-migration", Question::KeepsDashes));
+}
+
+#[test]
+fn is_prerelease_ignores_build_metadata(rt: HostRuntime) {
+    assert!(rt; is_true(rt.alloc(), "1.0.0-rc.2-migration", Question::IsPrerelease));
+    assert!(rt; is_true(rt.alloc(), "1.0.0+rc", Question::IsNoPrerelease));
 }
 
 // Whether the parts of a version, and their copy, make a version of the same text, build included.
@@ -104,15 +133,12 @@ fn new_and_into_parts_keep_the_whole_value(rt: HostRuntime) {
 }
 
 #[test]
-fn copy_is_the_whole_value(rt: HostRuntime) -> Result<(), Fail> {
-    let version = Version::parse(rt.alloc(), "1.2.3-a.1+b")?;
-    let copy = version.copy(rt.alloc())?;
-    assert!(rt; prints(rt.alloc(), &copy, "1.2.3-a.1+b"));
-    Ok(())
+fn copy_is_the_whole_value(rt: HostRuntime) {
+    assert!(rt; is_true(rt.alloc(), "1.2.3-a.1+b", Question::Copies("1.2.3-a.1+b")));
 }
 
 // Whether this is the release 1.2.3.
-fn is_one_two_three(version: &Version) -> bool {
+fn is_one_two_three(version: Version) -> bool {
     version.major() == 1
         && version.minor() == 2
         && version.patch() == 3
@@ -122,45 +148,72 @@ fn is_one_two_three(version: &Version) -> bool {
 
 #[test]
 fn from_makes_the_release_of_three_numbers(rt: HostRuntime) {
-    assert!(rt; is_one_two_three(&Version::from((1u8, 2, 3))));
-    assert!(rt; is_one_two_three(&Version::from((1u16, 2, 3))));
-    assert!(rt; is_one_two_three(&Version::from((1u32, 2, 3))));
-    assert!(rt; is_one_two_three(&Version::from((1u64, 2, 3))));
-    assert!(rt; is_one_two_three(&Version::from((1usize, 2, 3))));
+    assert!(rt; is_one_two_three(Version::from((1u8, 2, 3))));
+    assert!(rt; is_one_two_three(Version::from((1u16, 2, 3))));
+    assert!(rt; is_one_two_three(Version::from((1u32, 2, 3))));
+    assert!(rt; is_one_two_three(Version::from((1u64, 2, 3))));
+    assert!(rt; is_one_two_three(Version::from((1usize, 2, 3))));
+}
+
+fn is_negative(made: Result<Version, NegativeNumber>) -> bool {
+    match made {
+        Ok(_) => false,
+        Err(NegativeNumber) => true,
+    }
 }
 
 #[test]
 fn try_from_rejects_negative_numbers(rt: HostRuntime) {
-    assert!(rt; matches!(Version::try_from((1i8, 2, -1)), Err(NegativeNumber)));
-    assert!(rt; matches!(Version::try_from((-1isize, 2, 1)), Err(NegativeNumber)));
+    assert!(rt; is_negative(Version::try_from((1i8, 2, -1))));
+    assert!(rt; is_negative(Version::try_from((-1isize, 2, 1))));
 }
 
-fn is_zero(version: &Version) -> bool {
-    version.major() == 0 && version.minor() == 0 && version.patch() == 0 && !version.is_prerelease()
+// Whether this is the release 0.0.0.
+fn is_zero(made: Result<Version, NegativeNumber>) -> bool {
+    match made {
+        Ok(version) => {
+            version.major() == 0
+                && version.minor() == 0
+                && version.patch() == 0
+                && !version.is_prerelease()
+        }
+        Err(_) => false,
+    }
 }
 
 #[test]
 fn try_from_makes_the_release_of_three_numbers(rt: HostRuntime) {
-    assert!(rt; matches!(Version::try_from((0i64, 0, 0)), Ok(v) if is_zero(&v)));
-    assert!(rt; matches!(Version::try_from((0i32, 0, 0)), Ok(v) if is_zero(&v)));
+    assert!(rt; is_zero(Version::try_from((0i64, 0, 0))));
+    assert!(rt; is_zero(Version::try_from((0i32, 0, 0))));
+}
+
+fn is_with_pre(alloc: Global, made: Result<Version, AllocError>, number: u64, text: &str) -> bool {
+    match made {
+        Ok(version) => has_pre(&version, number) && prints(alloc, &version, text),
+        Err(_) => false,
+    }
+}
+
+fn has_pre(version: &Version, number: u64) -> bool {
+    match version.pre_release() {
+        [one] => is_number(one, number),
+        _ => false,
+    }
 }
 
 #[test]
-fn with_pre_has_one_number(rt: HostRuntime) -> Result<(), Fail> {
-    let version = Version::with_pre(rt.alloc(), 1, 0, 0, 7)?;
-    assert!(rt; matches!(version.pre_release(), [one] if is_number(one, 7)));
-    assert!(rt; prints(rt.alloc(), &version, "1.0.0-7"));
-    Ok(())
+fn with_pre_has_one_number(rt: HostRuntime) {
+    let made = Version::with_pre(rt.alloc(), 1, 0, 0, 7);
+    assert!(rt; is_with_pre(rt.alloc(), made, 7, "1.0.0-7"));
 }
 
 #[test]
 #[tactic(auto, unfolding(semver_core::specs::Text::Identifiers::is_listed))]
-fn from_texts_reads_both_lists(rt: HostRuntime) -> Result<(), Fail> {
-    let version = Version::from_texts(rt.alloc(), 1, 2, 3, b"rc.1", b"a-b.007")?;
-    assert!(rt; prints(rt.alloc(), &version, "1.2.3-rc.1+a-b.7"));
-    let lowest = Version::from_texts(rt.alloc(), 2, 0, 0, b"0", b"")?;
-    assert!(rt; prints(rt.alloc(), &lowest, "2.0.0-0"));
-    Ok(())
+fn from_texts_reads_both_lists(rt: HostRuntime) {
+    let version = Version::from_texts(rt.alloc(), 1, 2, 3, b"rc.1", b"a-b.007").ok();
+    assert!(rt; is_version(rt.alloc(), version, "1.2.3-rc.1+a-b.7"));
+    let lowest = Version::from_texts(rt.alloc(), 2, 0, 0, b"0", b"").ok();
+    assert!(rt; is_version(rt.alloc(), lowest, "2.0.0-0"));
 }
 
 fn hash_of(version: &Version) -> u64 {
@@ -178,9 +231,7 @@ fn ties(alloc: Global, first: &Version, second: &str) -> bool {
 }
 
 #[test]
-fn eq_and_hash_ignore_build_metadata(rt: HostRuntime) -> Result<(), Fail> {
-    let version = Version::parse(rt.alloc(), "1.2.3-a+b")?;
-    assert!(rt; ties(rt.alloc(), &version, "1.2.3-a+c"));
-    assert!(rt; !ties(rt.alloc(), &version, "1.2.3-b"));
-    Ok(())
+fn eq_and_hash_ignore_build_metadata(rt: HostRuntime) {
+    assert!(rt; is_true(rt.alloc(), "1.2.3-a+b", Question::Ties("1.2.3-a+c")));
+    assert!(rt; is_true(rt.alloc(), "1.2.3-a+b", Question::Differs("1.2.3-b")));
 }
