@@ -46,12 +46,12 @@ mark_boundaries text at utf8 h =
     let low : get_or text at 0 < 128 = omega (arith, eqb-true (get_or text at 0) 59 h.1) in
     (IsCharBoundary-before_ascii text at h.0.high low, IsCharBoundary-after_ascii text at utf8 h.0.high low)
 
--- and behind a `;` that follows a word
-pub behind_mark : (text word rest : List ℕ) (end : ℕ) → IsUtf8 text → text ≡ word ++ 59 ∷ rest → end ≡ length word + 1 → IsCharBoundary text end
-behind_mark text word rest end utf8 split e =
-    let mark : get_or text (length word) 0 ≡ 59 = ap (λ l. get_or l (length word) 0) split ∙ get_or-append_seam word 59 rest 0 in
-    let inside : length word < length text = omega (arith, ap length split, length-append word (59 ∷ rest)) in
-    rw e (IsCharBoundary-after_ascii text (length word) utf8 inside (omega (arith, mark)))
+-- and behind an ASCII character that follows a word
+pub behind_mark : (text word rest : List ℕ) (b end : ℕ) → IsUtf8 text → text ≡ word ++ b ∷ rest → b < 128 → end ≡ length word + 1 → IsCharBoundary text end
+behind_mark text word rest b end utf8 split low e =
+    let mark : get_or text (length word) 0 ≡ b = ap (λ l. get_or l (length word) 0) split ∙ get_or-append_seam word b rest 0 in
+    let inside : length word < length text = omega (arith, ap length split, length-append word (b ∷ rest)) in
+    rw e (IsCharBoundary-after_ascii text (length word) utf8 inside (omega (arith, mark, low)))
 
 no_feed_by : (text : List ℕ) → ((i : ℕ) → i < length text → (get_or text i 0 == 10) ≡ true → ⊥) → no_feed text ≡ true
 no_feed_by text none = list_all-from_AllPass (λ b. not (b == 10)) text (All-from_get_or (λ b. not (b == 10) ≡ true) text 0 (λ i h. elim (cases_Bool (get_or text i 0 == 10)) [
@@ -74,8 +74,3 @@ found_feed text (Some at) h =
       feed,
       tt,
     )
-
--- a list by its length
-pub nil_by_len : (xs : List ℕ) (n : ℕ) → n ≡ length xs → (n == 0) ≡ true → xs ≡ []
-nil_by_len [] n e h = refl
-nil_by_len (x ∷ xs) n e h = let zero_long : n ≡ 0 = eqb-true n 0 h in absurd (omega arith)

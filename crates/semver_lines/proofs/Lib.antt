@@ -1,6 +1,5 @@
-pub mod Firsts
-pub mod CutLaws
 pub mod Told
+pub mod Firsts
 pub mod Taken
 pub mod Ends
 pub mod Replies

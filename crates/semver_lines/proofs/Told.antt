@@ -1,14 +1,14 @@
 -- Answers of lines, one part after another.
-use Rattle.std.proofs.Common.{◌≡◌, ◌<◌, ◌≤◌, ◌++◌, ◌∷◌, ◌∙◌, ℕ, List, [], length, take, drop, refl, sym, ap, subst, arith, append_assoc, append-nil, inl, inr}
+use Rattle.std.proofs.Common.{◌≡◌, ◌==◌, ◌<◌, ◌≤◌, ◌++◌, ◌∷◌, ◌∙◌, ℕ, false, List, [], length, take, drop, refl, sym, ap, subst, arith, append_assoc, append-nil, inl, inr}
 use Rattle.std.proofs.Math.Seq.{drop-append_seam, take-append_seam}
-use Rattle.std.proofs.lemmas.Bool.{cases_lt}
+use Rattle.std.proofs.lemmas.Bool.{cases_lt, false≢true}
 use Rattle.std.proofs.lemmas.Grind.{flat_map-append}
 use Rattle.std.proofs.lemmas.List.{drop-append-le, length-append, take-append-drop, take-append-le}
 use Rattle.std.specs.List.{AllZip, flat_map}
 use Rattle.semver_lines.specs.Answers.{Answers, IsAnswer}
-use Rattle.semver_lines.specs.Lines.{ended}
+use Rattle.semver_lines.specs.Internal.Steps.{GrowsByAnswer}
+use Rattle.semver_lines.specs.Lines.{ended, last_line}
 use Rattle.semver_lines.specs.Outcome.{AnswersFront, AnswersTorn}
-use Rattle.semver_lines.specs.Internal.Steps.{GrowsByAnswer, GrowsByAnswers, GrowsByFront}
 
 answered-append : (xs ys answers others : List (List ℕ)) → AllZip IsAnswer xs answers → AllZip IsAnswer ys others → AllZip IsAnswer (xs ++ ys) (answers ++ others)
 answered-append [] ys [] others h k = k
@@ -88,9 +88,9 @@ front_of part rest written left e h =
     sym (take-append-drop n part) ∙ ap (λ l. l ++ drop n part) same
 
 -- a front that ends behind the first part
-behind : (part rest written left : List ℕ) → part ++ rest ≡ written ++ left → length part ≤ length written
+parted : (part rest written left : List ℕ) → part ++ rest ≡ written ++ left → length part ≤ length written
     → (written ≡ part ++ drop (length part) written) × (rest ≡ drop (length part) written ++ left)
-behind part rest written left e h =
+parted part rest written left e h =
     let n = length part in
     (front_of written left part rest (sym e) h, sym (drop-append_seam part rest) ∙ ap (λ l. drop n l) e ∙ drop-append-le n written left h)
 
@@ -114,7 +114,7 @@ torn_at (l ∷ ls) (a ∷ answers) written left h e some = elim (cases_lt (lengt
     written_is = refl;
   }
   | inr ge ↦
-      let parts = behind (ended a) (flat_map ended answers) written left e ge in
+      let parts = parted (ended a) (flat_map ended answers) written left e ge in
       let rest = torn_at ls answers (drop (length (ended a)) written) left h.1 parts.1 some in
       subst (λ w. AnswersTorn (l ∷ ls) w) (sym parts.0) (torn_after (l ∷ []) ls (ended a) _ (Answers-one l a h.0) rest)
 ]
@@ -124,23 +124,7 @@ pub torn_front : (lines : List (List ℕ)) (output written left : List ℕ) → 
 torn_front lines output written left h e some =
     subst (λ l. AnswersTorn l written) (sym h.divided) (torn_more h.front h.rest written (torn_at h.front h.answers.answers written left h.answers.each (sym h.answers.output_is ∙ e) some))
 
--- an output that grows, step after step
-pub grows_one : (line old new : List ℕ) → GrowsByAnswer line old new → GrowsByAnswers (line ∷ []) old new
-grows_one line old new g = record { said = ended g.answer; answers = Answers-one line g.answer g.is_answer; grown = g.grown }
-
-pub grows_none : (out : List ℕ) → GrowsByAnswers [] out out
-grows_none out = record { said = []; answers = Answers-nil; grown = sym (append-nil out) }
-
-pub grows_on : (xs ys : List (List ℕ)) (a b c : List ℕ) → GrowsByAnswers xs a b → GrowsByAnswers ys b c → GrowsByAnswers (xs ++ ys) a c
-grows_on xs ys a b c g h = record {
-  said = g.said ++ h.said;
-  answers = Answers-append xs ys g.said h.said g.answers h.answers;
-  grown = h.grown ∙ ap (λ l. l ++ h.said) g.grown ∙ append_assoc a g.said h.said;
-}
-
-pub grows_front : (xs ys : List (List ℕ)) (a b : List ℕ) → GrowsByAnswers xs a b → GrowsByFront (xs ++ ys) a b
-grows_front xs ys a b g = record { said = g.said; answers = front_more xs ys g.said (front_all xs g.said g.answers); grown = g.grown }
-
--- nothing of it was answered
-pub front_none : (lines : List (List ℕ)) (old new : List ℕ) → new ≡ old → GrowsByFront lines old new
-front_none lines old new same = rw same (grows_front [] lines old old (grows_none old))
+-- the answer to a last line
+pub last_answer : (p old new : List ℕ) (n : ℕ) → old ≡ [] → n ≡ length p → (n == 0) ≡ false → GrowsByAnswer (p ++ []) old new → Answers (last_line p) new
+last_answer [] old new n empty long some g = absurd (false≢true (sym some ∙ ap (λ n. n == 0) long))
+last_answer (b ∷ p) old new n empty long some g = rw (g.grown, empty) (Answers-one (b ∷ p) g.answer (rw (append-nil p) at g.is_answer))

@@ -1,4 +1,3 @@
 pub mod CommandWords
-pub mod LineCuts
 pub mod Results
 pub mod Steps

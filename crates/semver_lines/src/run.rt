@@ -1,19 +1,18 @@
 // Answers each line of an input.
 
-ghost use Rattle.std.specs.Prelude.{ℕ, List, ◌≡◌, ◌+◌, ◌<◌, ◌≤◌, ◌++◌, ◌∷◌, [], true, length, take};
-ghost use Rattle.std.specs.Prelude.{drop, slice_index, IfSome, IfNone, IsUtf8, IfOk, IfErr, OnOk};
-ghost use Rattle.std.specs.Prelude.{OnErr, string_bytes};
+ghost use Rattle.std.specs.Prelude.{ℕ, List, ◌≡◌, ◌+◌, ◌<◌, ◌++◌, ◌∷◌, [], true, length, take, drop};
+ghost use Rattle.std.specs.Prelude.{slice_index, IfSome, IfNone, IsUtf8, IfOk, IfErr, OnOk, OnErr};
+ghost use Rattle.std.specs.Prelude.{string_bytes};
 ghost use Rattle.std.specs.Io.KnownBytes.{Appends, Consumes, Keeps, IsAtEnd};
-ghost use Rattle.std.specs.Str.Lossy.{utf8_valid_len};
-ghost use Rattle.semver_lines.specs.Internal.LineCuts.{cut_lines, cut_rest};
+ghost use Rattle.semver_lines.specs.Answers.{Answers};
 ghost use Rattle.semver_lines.specs.Lines.{last_line, no_feed};
 ghost use Rattle.semver_lines.specs.Outcome.{Ran};
-ghost use Rattle.semver_lines.specs.Internal.Steps.{Finished, GrowsByAnswers, GrowsByFront};
-ghost use Rattle.semver_lines.specs.Internal.Steps.{LeavesNoLine, Stopped, Taken, Turned};
-ghost use Rattle.semver_lines.specs.Internal.Steps.{WritesFront};
+ghost use Rattle.semver_lines.specs.Internal.Steps.{Finished, GrowsByAnswer, Stopped, Took};
+ghost use Rattle.semver_lines.specs.Internal.Steps.{Turned, WritesFront};
 
 use crate::answer::{answer_line, answer_text};
 use memchr::memchr;
+use semver_core::scan::text_front;
 use std::alloc::{AllocError, Global};
 use std::io::{Read, Write};
 
@@ -55,8 +54,7 @@ impl Lines {
 
     // Answers the pending line, which goes on with these bytes and then ends.
     fn end_line(&mut self, alloc: Global, bytes: &[u8]) -> Result<(), AllocError>
-        ensures ok { OnOk result
-            (GrowsByAnswers ((self.old.pending.items ++ bytes.now) ∷ [])
+        ensures ok { OnOk result (GrowsByAnswer (self.old.pending.items ++ bytes.now)
             (string_bytes self.old.output) (string_bytes self.new.output)) }
         ensures ended { OnOk result (self.new.pending.items ≡ []) }
         ensures err { OnErr result (string_bytes self.new.output ≡ string_bytes self.old.output) }
@@ -73,31 +71,36 @@ impl Lines {
 
     // Answers the lines that end in a chunk. What is left of it waits in `pending`.
     fn take(&mut self, alloc: Global, chunk: &[u8]) -> Result<(), AllocError>
-        ensures ok { OnOk result
-            (GrowsByAnswers (cut_lines self.old.pending.items chunk.now)
-            (string_bytes self.old.output) (string_bytes self.new.output)) }
-        ensures kept { OnOk result (self.new.pending.items
-            ≡ cut_rest self.old.pending.items chunk.now) }
-        ensures err { OnErr result
-            (GrowsByFront (cut_lines self.old.pending.items chunk.now)
-            (string_bytes self.old.output) (string_bytes self.new.output)) }
+        ensures { Took result self.old.pending.items chunk.now self.new.pending.items
+            (string_bytes self.new.output) }
     {
+        self.output.clear();
+        // The text at the front of what is left is checked to be UTF-8 once for all its lines.
+        let mut text = "";
         let mut rest = chunk;
-        // A line that goes on from `pending`, or that is no text, is answered by itself.
-        'lines: while let Some(at) = first_feed(rest) {
-            self.end_line(alloc, &rest[..at])?;
-            rest = take_front(alloc, &rest[at + 1..], &mut self.room, &mut self.output)?;
+        'lines: loop {
+            if let Some((line, behind)) = text_line(text) {
+                answer_text(alloc, line, &mut self.room, &mut self.output)?;
+                text = behind;
+            } else {
+                self.pending.extend_from_slice(text.as_bytes())?;
+                let Some((line, behind)) = first_line(rest) else {
+                    return self.pending.extend_from_slice(rest);
+                };
+                self.end_line(alloc, line)?;
+                let (front, back) = front_text(behind);
+                text = front;
+                rest = back;
+            }
         }
-        self.pending.extend_from_slice(rest)
     }
 
     // Answers a last line that has no line feed, if it is not empty.
     fn end(&mut self, alloc: Global) -> Result<(), AllocError>
-        ensures ok { OnOk result
-            (GrowsByAnswers (last_line self.old.pending.items) (string_bytes self.old.output)
-            (string_bytes self.new.output)) }
-        ensures err { OnErr result (string_bytes self.new.output ≡ string_bytes self.old.output) }
+        ensures { OnOk result
+            (Answers (last_line self.old.pending.items) (string_bytes self.new.output)) }
     {
+        self.output.clear();
         if self.pending.is_empty() {
             return Ok(());
         }
@@ -117,44 +120,20 @@ fn first_feed(bytes: &[u8]) -> Option<usize>
     memchr(b'\n', bytes)
 }
 
-// The longest text at the front of some bytes.
-fn front_text(bytes: &[u8]) -> &str
-    ensures front { (behind : List ℕ) × bytes.now ≡ result.now ++ behind }
-    ensures longest { length result.now ≡ utf8_valid_len bytes.now }
-{
-    match bytes.utf8_chunks().next() {
-        Some(chunk) => chunk.valid(),
-        None => "",
-    }
-}
-
-// Answers the lines that end in the text at the front of some bytes, which is checked to be UTF-8
-// once for all of them. Returns what stands behind these lines.
-fn take_front<'a>(
-    alloc: Global,
-    bytes: &'a [u8],
-    room: &mut String,
-    output: &mut String,
-) -> Result<&'a [u8], AllocError>
-    ensures ok { IfOk result (λ rest.
-        Taken [] bytes.now rest.now [] (string_bytes output.old) (string_bytes output.new)) }
-    ensures stop { IfOk result (λ rest. LeavesNoLine bytes.now rest.now) }
-    ensures err { OnErr result
-        (GrowsByFront (cut_lines [] bytes.now)
-        (string_bytes output.old) (string_bytes output.new)) }
-{
-    let front = front_text(bytes);
-    let mut text = front;
-    'lines: while let Some((line, behind)) = first_line(text) {
-        answer_text(alloc, line, room, output)?;
-        text = behind;
-    }
-    Ok(&bytes[front.len() - text.len()..])
-}
-
-// The first line, and the text behind its line feed; `None` where there is none.
+// The first line, and what stands behind its line feed; `None` where there is none.
 #[inline(always)]
-fn first_line(text: &str) -> Option<(&str, &str)>
+fn first_line(bytes: &[u8]) -> Option<(&[u8], &[u8])>
+    ensures some { IfSome result (λ cut. bytes.now ≡ cut.0.now ++ 10 ∷ cut.1.now) }
+    ensures line { IfSome result (λ cut. no_feed cut.0.now ≡ true) }
+    ensures none { IfNone result (no_feed bytes.now ≡ true) }
+{
+    let at = first_feed(bytes)?;
+    Some((&bytes[..at], &bytes[at + 1..]))
+}
+
+// The same of a text.
+#[inline(always)]
+fn text_line(text: &str) -> Option<(&str, &str)>
     ensures some { IfSome result (λ cut. text.now ≡ cut.0.now ++ 10 ∷ cut.1.now) }
     ensures line { IfSome result (λ cut. no_feed cut.0.now ≡ true) }
     ensures utf8 { IfSome result (λ cut. IsUtf8 cut.1.now) }
@@ -162,6 +141,15 @@ fn first_line(text: &str) -> Option<(&str, &str)>
 {
     let at = first_feed(text.as_bytes())?;
     Some((&text[..at], &text[at + 1..]))
+}
+
+// The longest text at the front of some bytes, and what stands behind it.
+fn front_text(bytes: &[u8]) -> (&str, &[u8])
+    ensures whole { bytes.now ≡ result.0.now ++ result.1.now }
+    ensures utf8 { IsUtf8 result.0.now }
+{
+    let text = text_front(bytes);
+    (text, &bytes[text.len()..])
 }
 
 // Writes these bytes by calls of `write` alone. A call that accepts no byte is an error.
@@ -199,7 +187,7 @@ fn turn<R: Read, W: Write>(
     lines: &mut Lines,
 ) -> Result<usize, RunFault>
     ensures ok { IfOk result (λ n.
-        Turned (R.remaining reader.old) (R.remaining reader.new) (W.contents writer.old)
+        Turned Answers (R.remaining reader.old) (R.remaining reader.new) (W.contents writer.old)
         (W.contents writer.new)
         lines.old.pending.items lines.new.pending.items (take n buffer.new)) }
     ensures end { IfOk result (λ n.
@@ -211,7 +199,6 @@ fn turn<R: Read, W: Write>(
     let Ok(n) = reader.read(buffer) else {
         return Err(RunFault::Read);
     };
-    lines.output.clear();
     let taken = lines.take(alloc, &buffer[..n]);
     write_out(writer, lines.output.as_bytes())?;
     match taken {
@@ -225,7 +212,6 @@ fn finish<W: Write>(alloc: Global, writer: &mut W, lines: &mut Lines) -> Result<
     ensures { Finished (W.contents writer.old)
         (W.contents writer.new) lines.old.pending.items result }
 {
-    lines.output.clear();
     match lines.end(alloc) {
         Ok(()) => write_out(writer, lines.output.as_bytes()),
         Err(_) => Err(RunFault::Memory),

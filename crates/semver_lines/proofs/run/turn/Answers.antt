@@ -6,4 +6,5 @@ use Rattle.semver_lines.proofs.run.turn.Goals as goal
 pub returns-in_err-write_out-clause-fault : goal.returns-in_err-write_out-clause-fault
 returns-in_err-write_out-clause-fault g c =
     let p = err_from_is_err_and c.from_residual.result c.from_residual.ensures.1 in
-    rw (p.1, p.2, c.in_err-write_out.ensures.fault) (turn_torn _ _ _ _ c.args.lines.now.pending.items (take c.in-Ok.n c.read.new.buf) _ _ _ c.take-taken.result c.in-Ok.ensures.bytes.0 c.clear.ensures.bytes c.take-taken.ensures.ok c.take-taken.ensures.err c.as_bytes.ensures.value c.in_err-write_out.ensures.err)
+    rw (p.1, p.2, c.in_err-write_out.ensures.fault)
+    (turn_torn _ _ _ _ c.args.lines.now.pending.items (take c.in-Ok.n c.read.new.buf) _ _ _ c.take-taken.result c.in-Ok.ensures.bytes.0 c.take-taken.ensures c.as_bytes.ensures.value c.in_err-write_out.ensures.err)

@@ -1,38 +1,43 @@
-use Rattle.std.proofs.Common.{◌+◌, [], take, drop, refl}
-use Rattle.std.proofs.lemmas.List.{take_rest}
+use Rattle.std.proofs.Common.{◌∷◌, ◌∙◌, sym, ap, arith, length, length-append, append_assoc, ◌++◌}
 use Rattle.std.proofs.lemmas.Result.{err_from_is_err_and}
-use Rattle.semver_lines.proofs.Taken.{Taken-line, Taken-trans, kept_end, take_end, take_stop, whether_err, whether_ok}
-use Rattle.semver_lines.proofs.Told.{front_none}
+use Rattle.semver_lines.proofs.Taken.{taken_line, taken_more, taken_stop, took_end}
 use Rattle.semver_lines.proofs.run.Lines.take.Goals as goal
 
-pub returns-in_err-end_line-clause-err : goal.returns-in_err-end_line-clause-err
-returns-in_err-end_line-clause-err c =
+pub returns-in_err-answer_text : goal.returns-in_err-answer_text
+returns-in_err-answer_text c =
     let p = err_from_is_err_and c.from_residual.result c.from_residual.ensures.1 in
-    rw p.1 (take_stop _ _ _ c.lines.rest.now _ _ _ c.lines.invariant (front_none _ _ _ c.in_err-end_line.ensures.err))
+    rw (p.1, c.in_err-answer_text.ensures.err) (taken_stop _ _ _ _ _ c.lines.invariant.2)
 
-pub returns-in_err-rest-clause-err : goal.returns-in_err-rest-clause-err
-returns-in_err-rest-clause-err c =
-    let rest = c.lines.rest.now in
-    let at = c.in-Some.at in
-    let p = err_from_is_err_and c.from_residual-in_err-rest.result c.from_residual-in_err-rest.ensures.1 in
-    let line = Taken-line _ _ rest (take at rest) (drop (at + 1) rest) _ _ c.in-Some.ensures.some c.in-Some.ensures.line c.in_ok-end_line.ensures.ok c.in_ok-end_line.ensures.ended in
-    let front = rw (take_rest rest (at + 1)) at c.in_err-rest.ensures.err in
-    rw p.1 (take_stop _ _ _ rest _ _ _ c.lines.invariant (take_stop _ [] rest _ _ _ _ (rw c.in_ok-end_line.ensures.ended at line) front))
+pub lines-preserved-in-Some : goal.lines-preserved-in-Some
+lines-preserved-in-Some c =
+    let (utf8, empty, t) = c.lines.invariant in
+    let cut = c.in-Some.ensures in
+    let line = c.in-Some.line.now in
+    let behind = c.in-Some.behind.now in
+    let none = empty (omega (arith, ap length cut.some, length-append line (10 ∷ behind))) in
+    let next = ap (λ l. l ++ c.lines.rest.now) cut.some ∙ append_assoc line (10 ∷ behind) c.lines.rest.now in
+    (cut.utf8, λ _. none, taken_line _ _ _ _ _ _ line _ _ t next cut.line (rw none c.in_ok-answer_text.ensures.ok) none)
+
+pub returns-in_err-extend_from_slice : goal.returns-in_err-extend_from_slice
+returns-in_err-extend_from_slice c =
+    let p = err_from_is_err_and c.from_residual-in_err-extend_from_slice.result c.from_residual-in_err-extend_from_slice.ensures.1 in
+    rw p.1 (taken_stop _ _ _ _ _ c.lines.invariant.2)
+
+pub returns-in_default-first_line : goal.returns-in_default-first_line
+returns-in_default-first_line c =
+    let more = taken_more _ _ _ c.lines.text.now c.lines.rest.now _ c.lines.invariant.2 c.in_default.ensures.none in
+    let last = c.extend_from_slice-in_default-first_line in
+    took_end last.result _ _ _ _ _ _ more c.in_default-first_line.ensures.none (rw (c.in_ok-extend_from_slice.ensures.items, c.as_bytes.ensures.value) at last.ensures.items)
+
+pub returns-in_err-end_line : goal.returns-in_err-end_line
+returns-in_err-end_line c =
+    let p = err_from_is_err_and c.from_residual-in_err-end_line.result c.from_residual-in_err-end_line.ensures.1 in
+    rw (p.1, c.in_err-end_line.ensures.err) (taken_stop _ _ _ _ _ c.lines.invariant.2)
 
 pub lines-preserved : goal.lines-preserved
 lines-preserved c =
-    let rest = c.lines.rest.now in
-    let at = c.in-Some.at in
-    let line = Taken-line _ _ rest (take at rest) (drop (at + 1) rest) _ _ c.in-Some.ensures.some c.in-Some.ensures.line c.in_ok-end_line.ensures.ok c.in_ok-end_line.ensures.ended in
-    let front = rw (take_rest rest (at + 1)) at c.in_ok-rest.ensures.ok in
-    rw c.in_ok-end_line.ensures.ended (Taken-trans _ _ _ _ rest _ _ _ _ c.lines.invariant (Taken-trans _ [] _ rest _ _ _ _ _ (rw c.in_ok-end_line.ensures.ended at line) front))
-
-pub returns-clause-ok : goal.returns-clause-ok
-returns-clause-ok c = whether_ok c.extend_from_slice.result (take_end _ _ _ c.lines.rest.now _ _ c.lines.invariant c.in_default.ensures.none).0
-
-pub returns-clause-kept : goal.returns-clause-kept
-returns-clause-kept c =
-    kept_end c.extend_from_slice.result c.lines.self.pending.items c.lines.rest.now _ _ c.extend_from_slice.ensures.items (take_end _ _ _ _ _ _ c.lines.invariant c.in_default.ensures.none).1
-
-pub returns-clause-err : goal.returns-clause-err
-returns-clause-err c = whether_err c.extend_from_slice.result (take_stop _ _ _ c.lines.rest.now _ _ _ c.lines.invariant (front_none _ _ _ refl))
+    let more = taken_more _ _ _ c.lines.text.now c.lines.rest.now _ c.lines.invariant.2 c.in_default.ensures.none in
+    let cut = c.in-Some-first_line.ensures in
+    let ended = c.in_ok-end_line.ensures in
+    let grown = rw (c.in_ok-extend_from_slice.ensures.items, c.as_bytes.ensures.value) at ended.ok in
+    (c.front_text.ensures.utf8, λ _. ended.ended, rw (sym c.front_text.ensures.whole) (taken_line _ _ _ _ _ _ c.in-Some-first_line.line.now _ _ more cut.some cut.line grown ended.ended))

@@ -1,6 +1,6 @@
 use Rattle.std.proofs.Common.{arith}
 use Rattle.std.proofs.lemmas.Str.{IsCharBoundary-after_ascii}
-use Rattle.semver_lines.proofs.run.first_line.Goals as goal
+use Rattle.semver_lines.proofs.run.text_line.Goals as goal
 
 pub range_from-requires : goal.range_from-requires
 range_from-requires c =
