@@ -1,5 +1,5 @@
 -- What the intersection and the difference of two lists hold and accept, and that their intervals are those of a range.
-use Rattle.std.proofs.Common.{◌≡◌, refl, sym, ◌∙◌, ap, ℕ, ◌+◌, true, false, ◌&&◌, ◌||◌, not, List, Option, Some, None}
+use Rattle.std.proofs.Common.{subst, ◌≡◌, refl, sym, ◌∙◌, ap, ℕ, ◌+◌, true, false, ◌&&◌, ◌||◌, not, List, Option, Some, None}
 use Rattle.std.proofs.lemmas.Result.{IfOk-weaker}
 use Rattle.std.specs.Prelude.{IfOk, Result}
 use Rattle.std.specs.Cmp.{first_so}
@@ -21,103 +21,80 @@ option_accepts-held : (r : Option (List (Span VersionValue))) (v : VersionValue)
 option_accepts-held None v = refl
 option_accepts-held (Some ss) v = accepts-held ss v
 
-module _ (a b : List (Span VersionValue)) (r : Option (List (Span VersionValue))) (e : r ≡ intersection a b)
-    (v : VersionValue) where
-  accepted : option_accepts r v false ≡ option_accepts (intersection a b) v false
-  accepted = ap (λ q. option_accepts q v false) e
+option_accepts-release : (r : Option (List (Span VersionValue))) (v : VersionValue) → is_release v ≡ true
+    → option_accepts r v false ≡ option_list_holds precedence r v
+option_accepts-release None v h = refl
+option_accepts-release (Some ss) v h = accepts-release ss v h
 
-  pub intersection-set : option_list_holds precedence r v ≡ (list_holds precedence a v && list_holds precedence b v)
-  intersection-set = ap (λ q. option_list_holds precedence q v) e
-      ∙ option_list_holds-if_any precedence (meets_of precedence a b) v ∙ list_holds-meets_of precedence_total a b v
+-- what holds of a list holds of a result that is this list
+of_result : {E : Type 0} (list : Option (List (Span VersionValue))) (r : Result (Option (List (Span VersionValue))) E)
+    → IfOk r (λ q. q ≡ list) → (P : Option (List (Span VersionValue)) → Type 0) → P list → IfOk r P
+of_result list r e P h = IfOk-weaker r _ P (λ q k. subst P (sym k) h) e
 
-  pub intersection-all : option_accepts r v true ≡ (accepts a v true && accepts b v true)
-  intersection-all = cc (intersection-set, option_accepts-held r v, accepts-held a v, accepts-held b v)
+intersection-set : (a b : List (Span VersionValue)) (v : VersionValue)
+    → option_list_holds precedence (intersection a b) v ≡ (list_holds precedence a v && list_holds precedence b v)
+intersection-set a b v =
+    option_list_holds-if_any precedence (meets_of precedence a b) v ∙ list_holds-meets_of precedence_total a b v
 
-  pub intersection-both : accepts a v false ≡ true → accepts b v false ≡ true → option_accepts r v false ≡ true
-  intersection-both h k = accepted ∙ both_accept a b v h k
+difference-set : (a b : List (Span VersionValue)) (v : VersionValue)
+    → option_list_holds precedence (difference a b) v ≡ (list_holds precedence a v && not (list_holds precedence b v))
+difference-set a b v =
+    option_list_holds-if_any precedence (minus precedence a b) v ∙ list_holds-minus precedence_total a b v
 
-  pub intersection-one : option_accepts r v false ≡ true → (accepts a v false || accepts b v false) ≡ true
-  intersection-one h = one_accepts a b v (sym accepted ∙ h)
-
-  pub intersection-releases : is_release v ≡ true → option_accepts r v false ≡ (accepts a v false && accepts b v false)
-  intersection-releases k =
-      accepted ∙ option_accepts-if_any (meets_of precedence a b) v false
-      ∙ accepts-release (meets_of precedence a b) v k ∙ list_holds-meets_of precedence_total a b v
-      ∙ ap (λ q. q && list_holds precedence b v) (sym (accepts-release a v k))
-      ∙ ap (λ q. accepts a v false && q) (sym (accepts-release b v k))
-
-module _ (a b : List (Span VersionValue)) (r : Option (List (Span VersionValue))) (e : r ≡ difference a b)
-    (v : VersionValue) where
-  left_accepted : option_accepts r v false ≡ option_accepts (difference a b) v false
-  left_accepted = ap (λ q. option_accepts q v false) e
-
-  pub difference-set : option_list_holds precedence r v ≡ (list_holds precedence a v && not (list_holds precedence b v))
-  difference-set = ap (λ q. option_list_holds precedence q v) e ∙ option_list_holds-if_any precedence (minus precedence a b) v
-      ∙ list_holds-minus precedence_total a b v
-
-  pub difference-all : option_accepts r v true ≡ (accepts a v true && not (accepts b v true))
-  difference-all = cc (difference-set, option_accepts-held r v, accepts-held a v, accepts-held b v)
-
-  pub difference-kept : accepts a v false ≡ true → list_holds precedence b v ≡ false → option_accepts r v false ≡ true
-  difference-kept h k = left_accepted ∙ option_accepts-if_any (minus precedence a b) v false ∙ accepts-minus a b v h k
-
-  pub difference-releases : is_release v ≡ true → option_accepts r v false ≡ (accepts a v false && not (accepts b v false))
-  difference-releases k =
-      left_accepted ∙ option_accepts-if_any (minus precedence a b) v false
-      ∙ accepts-release (minus precedence a b) v k ∙ list_holds-minus precedence_total a b v
-      ∙ ap (λ q. q && not (list_holds precedence b v)) (sym (accepts-release a v k))
-      ∙ ap (λ q. accepts a v false && not q) (sym (accepts-release b v k))
-
--- the same of a result
-module _ {E : Type 0} (a b : List (Span VersionValue)) (r : Result (Option (List (Span VersionValue))) E) (e : IfOk r (λ q. q ≡ intersection a b)) where
+module _ {E : Type 0} (a b : List (Span VersionValue)) (r : Result (Option (List (Span VersionValue))) E)
+    (e : IfOk r (λ q. q ≡ intersection a b)) where
   pub intersected-set : IfOk r (λ q. (v : VersionValue) → option_list_holds precedence q v ≡ (list_holds precedence a v && list_holds precedence b v))
-  intersected-set = IfOk-weaker r _ _ (λ q h v. intersection-set a b q h v) e
+  intersected-set = of_result _ r e _ (intersection-set a b)
 
   pub intersected-all : IfOk r (λ q. (v : VersionValue) → option_accepts q v true ≡ (accepts a v true && accepts b v true))
-  intersected-all = IfOk-weaker r _ _ (λ q h v. intersection-all a b q h v) e
+  intersected-all = of_result _ r e _ (λ v.
+      rw (option_accepts-held (intersection a b) v, accepts-held a v, accepts-held b v)
+      (intersection-set a b v))
 
   pub intersected-both : IfOk r (λ q. (v : VersionValue) → accepts a v false ≡ true → accepts b v false ≡ true → option_accepts q v false ≡ true)
-  intersected-both = IfOk-weaker r _ _ (λ q h v. intersection-both a b q h v) e
+  intersected-both = of_result _ r e _ (both_accept a b)
 
   pub intersected-one : IfOk r (λ q. (v : VersionValue) → option_accepts q v false ≡ true → (accepts a v false || accepts b v false) ≡ true)
-  intersected-one = IfOk-weaker r _ _ (λ q h v. intersection-one a b q h v) e
+  intersected-one = of_result _ r e _ (one_accepts a b)
 
   pub intersected-releases : IfOk r (λ q. (v : VersionValue) → is_release v ≡ true → option_accepts q v false ≡ (accepts a v false && accepts b v false))
-  intersected-releases = IfOk-weaker r _ _ (λ q h v. intersection-releases a b q h v) e
+  intersected-releases = of_result _ r e _ (λ v k.
+      rw (option_accepts-release (intersection a b) v k, accepts-release a v k, accepts-release b v k)
+      (intersection-set a b v))
 
-module _ {E : Type 0} (a b : List (Span VersionValue)) (r : Result (Option (List (Span VersionValue))) E) (e : IfOk r (λ q. q ≡ difference a b)) where
+module _ {E : Type 0} (a b : List (Span VersionValue)) (r : Result (Option (List (Span VersionValue))) E)
+    (e : IfOk r (λ q. q ≡ difference a b)) where
   pub left_over-set : IfOk r (λ q. (v : VersionValue) → option_list_holds precedence q v ≡ (list_holds precedence a v && not (list_holds precedence b v)))
-  left_over-set = IfOk-weaker r _ _ (λ q h v. difference-set a b q h v) e
+  left_over-set = of_result _ r e _ (difference-set a b)
 
   pub left_over-all : IfOk r (λ q. (v : VersionValue) → option_accepts q v true ≡ (accepts a v true && not (accepts b v true)))
-  left_over-all = IfOk-weaker r _ _ (λ q h v. difference-all a b q h v) e
+  left_over-all = of_result _ r e _ (λ v.
+      rw (option_accepts-held (difference a b) v, accepts-held a v, accepts-held b v)
+      (difference-set a b v))
 
   pub left_over-kept : IfOk r (λ q. (v : VersionValue) → accepts a v false ≡ true → list_holds precedence b v ≡ false → option_accepts q v false ≡ true)
-  left_over-kept = IfOk-weaker r _ _ (λ q h v. difference-kept a b q h v) e
+  left_over-kept = of_result _ r e _ (λ v h k. option_accepts-if_any (minus precedence a b) v false ∙ accepts-minus a b v h k)
 
   pub left_over-releases : IfOk r (λ q. (v : VersionValue) → is_release v ≡ true → option_accepts q v false ≡ (accepts a v false && not (accepts b v false)))
-  left_over-releases = IfOk-weaker r _ _ (λ q h v. difference-releases a b q h v) e
+  left_over-releases = of_result _ r e _ (λ v k.
+      rw (option_accepts-release (difference a b) v k, accepts-release a v k, accepts-release b v k)
+      (difference-set a b v))
 
 pub ruleset intersected = (intersected-set, intersected-all, intersected-both, intersected-one, intersected-releases)
 
 pub ruleset left_over = (left_over-set, left_over-all, left_over-kept, left_over-releases)
 
 -- the lists of two ranges, by any other names, make intervals of a range
-pub meets_of-valid : (a b xs ys found : List (Span VersionValue)) → IsRange MAX_SAFE_INTEGER a → IsRange MAX_SAFE_INTEGER b
-    → xs ≡ a → ys ≡ b → found ≡ meets_of precedence xs ys → list_all (is_range_span (MAX_SAFE_INTEGER + 1)) found ≡ true
-meets_of-valid a b xs ys found h k p q e =
-    ap (λ zs. list_all (is_range_span (MAX_SAFE_INTEGER + 1)) zs) e
-    ∙ fine-meets_of precedence_total (is_range_bound (MAX_SAFE_INTEGER + 1)) xs ys
-    (ap (λ zs. list_all (is_range_span (MAX_SAFE_INTEGER + 1)) zs) p ∙ h.each)
-    (ap (λ zs. list_all (is_range_span (MAX_SAFE_INTEGER + 1)) zs) q ∙ k.each)
+module _ (a b xs ys : List (Span VersionValue)) (h : IsRange MAX_SAFE_INTEGER a) (k : IsRange MAX_SAFE_INTEGER b)
+    (p : xs ≡ a) (q : ys ≡ b) where
+  pub meets_of-valid : (found : List (Span VersionValue)) → found ≡ meets_of precedence xs ys
+      → list_all (is_range_span (MAX_SAFE_INTEGER + 1)) found ≡ true
+  meets_of-valid found e =
+      rw (e, p, q) (fine-meets_of precedence_total (is_range_bound (MAX_SAFE_INTEGER + 1)) a b h.each k.each)
 
-pub minus-valid : (a b xs ys left : List (Span VersionValue)) → IsRange MAX_SAFE_INTEGER a → IsRange MAX_SAFE_INTEGER b → xs ≡ a
-    → ys ≡ b → left ≡ minus precedence xs ys → list_all (is_range_span (MAX_SAFE_INTEGER + 1)) left ≡ true
-minus-valid a b xs ys left h k p q e =
-    ap (λ zs. list_all (is_range_span (MAX_SAFE_INTEGER + 1)) zs) e
-    ∙ fine-minus precedence_total (is_range_bound (MAX_SAFE_INTEGER + 1)) xs ys
-    (ap (λ zs. list_all (is_range_span (MAX_SAFE_INTEGER + 1)) zs) p ∙ h.each)
-    (ap (λ zs. list_all (is_range_span (MAX_SAFE_INTEGER + 1)) zs) q ∙ k.each)
+  pub minus-valid : (left : List (Span VersionValue)) → left ≡ minus precedence xs ys
+      → list_all (is_range_span (MAX_SAFE_INTEGER + 1)) left ≡ true
+  minus-valid left e = rw (e, p, q) (fine-minus precedence_total (is_range_bound (MAX_SAFE_INTEGER + 1)) a b h.each k.each)
 
 -- the spans of a range are intervals
 pub all_intervals : (n : ℕ) (ss : List (Span VersionValue)) → list_all (is_range_span n) ss ≡ true

@@ -1,9 +1,9 @@
 -- For proofs. What the rows of the word table give: intervals, whose bounds are such as a range may have.
-use Rattle.std.proofs.Common.{◌≡◌, ℕ, zero, suc, ◌≤◌, ◌+◌, List, refl, sym, subst, arith, Bool, true, false, Some, None}
-use Rattle.std.specs.Prelude.{Option, ◌<◌, ◌&&◌, if◌then◌else◌, unwrap_or}
-use Rattle.std.specs.Cmp.{nat_cmp_is, tied_itself}
+use Rattle.std.proofs.Common.{◌≡◌, ℕ, zero, suc, ◌≤◌, ◌+◌, List, refl, subst, arith, Bool, true, false, Some, None}
+use Rattle.std.specs.Prelude.{Option, ◌&&◌, if◌then◌else◌, unwrap_or}
+use Rattle.std.specs.Cmp.{tied_itself}
 use Rattle.std.specs.List.{list_all}
-use Rattle.std.specs.declared.cmp.Ordering.TheVariants.{Less, Equal}
+use Rattle.std.specs.declared.cmp.Ordering.TheVariants.{Less}
 use Rattle.std.proofs.lemmas.Bool.{le-leb}
 use Rattle.semver_core.specs.Cuts.{Span, interval, is_interval}
 use Rattle.semver_core.specs.declared.cuts.bound.Bound.{Bound}
@@ -12,6 +12,7 @@ use Rattle.semver_core.specs.Printing.RoundTrip.{is_normal, is_readable}
 use Rattle.semver_core.specs.Text.Identifiers.{Id}
 use Rattle.semver_core.specs.Values.Order.{precedence}
 use Rattle.semver_core.specs.Internal.OrderLaws.{precedence_total}
+use Rattle.semver_core.specs.Internal.Successors.{above_major, above_minor, above_patch}
 use Rattle.semver_core.specs.Values.Versions.{VersionValue, release_value}
 use Rattle.nodejs_semver.specs.Text.PartialText.{Partial}
 use Rattle.nodejs_semver.specs.Ranges.View.{is_range_bound}
@@ -45,18 +46,6 @@ unbuilt-is : (limit : ℕ) (p : Partial) → Fine limit p → is_readable (limit
 unbuilt-is limit p f =
     bound-is (limit + 1) (without_build (version_of p)) (zeroed-le limit p.major f.major) (zeroed-le limit p.minor f.minor) (zeroed-le limit p.patch f.patch) f.pre_release refl
 
--- ---- their order
-
-major-less : (v w : VersionValue) → v.major < w.major → precedence v w ≡ Less
-major-less v w h = rw (sym (nat_cmp_is v.major w.major Less h)) refl
-
-minor-less : (v w : VersionValue) → v.major ≡ w.major → v.minor < w.minor → precedence v w ≡ Less
-minor-less v w e h = rw (sym (nat_cmp_is v.major w.major Equal e), sym (nat_cmp_is v.minor w.minor Less h)) refl
-
-patch-less : (v w : VersionValue) → v.major ≡ w.major → v.minor ≡ w.minor → v.patch < w.patch → precedence v w ≡ Less
-patch-less v w e f h =
-    rw (sym (nat_cmp_is v.major w.major Equal e), sym (nat_cmp_is v.minor w.minor Equal f), sym (nat_cmp_is v.patch w.patch Less h)) refl
-
 -- ---- the intervals of each form
 
 abbrev pub are_bounds : ℕ → Span VersionValue → Bool
@@ -89,21 +78,6 @@ module _ (limit : ℕ) (p : Partial) where
   exact-good : (v : VersionValue) → Bounds v → Good limit p (Some (record { lower = Before v; upper = After v }))
   exact-good v h = (rw (tied_itself precedence_total v) refl, λ f. and-both _ _ (h f) (h f))
 
-  from-version : Good limit p (Some (record { lower = Before (version_of p); upper = Unbounded }))
-  from-version = from-good (version_of p) (version-is limit p)
-
-  past-version : Good limit p (Some (record { lower = After (version_of p); upper = Unbounded }))
-  past-version = past-good (version_of p) (version-is limit p)
-
-  before-version : Good limit p (Some (record { lower = Unbounded; upper = Before (version_of p) }))
-  before-version = before-good (version_of p) (version-is limit p)
-
-  to-version : Good limit p (Some (record { lower = Unbounded; upper = After (version_of p) }))
-  to-version = to-good (version_of p) (version-is limit p)
-
-  exact-version : Good limit p (Some (record { lower = Before (version_of p); upper = After (version_of p) }))
-  exact-version = exact-good (version_of p) (version-is limit p)
-
   between-good : (v w : VersionValue) → precedence v w ≡ Less → Bounds v → Bounds w → Good limit p (Some (record { lower = Before v; upper = Before w }))
   between-good v w e h k = (rw e refl, λ f. and-both _ _ (h f) (k f))
 
@@ -111,13 +85,13 @@ module _ (limit : ℕ) (q : Partial) (x y : List Id) where
   -- whole major and minor versions
   major-good : (M : ℕ) (c : Option ℕ) → Good limit (made (Some M) None c x y) (Some (record { lower = Before (release_value M 0 0); upper = Before (lowest (M + 1) 0 0) }))
   major-good M c =
-      between-good limit (made (Some M) None c x y) (release_value M 0 0) (lowest (M + 1) 0 0) (major-less (release_value M 0 0) (lowest (M + 1) 0 0) (omega arith))
+      between-good limit (made (Some M) None c x y) (release_value M 0 0) (lowest (M + 1) 0 0) (above_major (release_value M 0 0) (lowest (M + 1) 0 0) (omega arith))
       (λ f. release-is (limit + 1) M 0 0 (omega (arith, f.major)) (omega arith) (omega arith))
       (λ f. lowest-is (limit + 1) (M + 1) 0 0 (omega (arith, f.major)) (omega arith) (omega arith))
 
   minor-good : (M m : ℕ) → Good limit (made (Some M) (Some m) None x y) (Some (record { lower = Before (release_value M m 0); upper = Before (lowest M (m + 1) 0) }))
   minor-good M m =
-      between-good limit (made (Some M) (Some m) None x y) (release_value M m 0) (lowest M (m + 1) 0) (minor-less (release_value M m 0) (lowest M (m + 1) 0) refl (omega arith))
+      between-good limit (made (Some M) (Some m) None x y) (release_value M m 0) (lowest M (m + 1) 0) (above_minor (release_value M m 0) (lowest M (m + 1) 0) refl (omega arith))
       (λ f. release-is (limit + 1) M m 0 (omega (arith, f.major)) (omega (arith, f.minor)) (omega arith))
       (λ f. lowest-is (limit + 1) M (m + 1) 0 (omega (arith, f.major)) (omega (arith, f.minor)) (omega arith))
 
@@ -126,45 +100,45 @@ module _ (limit : ℕ) (q : Partial) (x y : List Id) where
       → Good limit (made (Some M) (Some m) c x y) (Some (record { lower = Before (without_build (version_of (made (Some M) (Some m) c x y))); upper = Before (lowest M (m + 1) 0) }))
   next_minor-good M m c =
       let p = made (Some M) (Some m) c x y in
-      between-good limit p (without_build (version_of p)) (lowest M (m + 1) 0) (minor-less (version_of p) (lowest M (m + 1) 0) refl (omega arith)) (unbuilt-is limit p)
+      between-good limit p (without_build (version_of p)) (lowest M (m + 1) 0) (above_minor (version_of p) (lowest M (m + 1) 0) refl (omega arith)) (unbuilt-is limit p)
       (λ f. lowest-is (limit + 1) M (m + 1) 0 (omega (arith, f.major)) (omega (arith, f.minor)) (omega arith))
 
   next_major-good : (M : ℕ) (b c : Option ℕ)
       → Good limit (made (Some M) b c x y) (Some (record { lower = Before (without_build (version_of (made (Some M) b c x y))); upper = Before (lowest (M + 1) 0 0) }))
   next_major-good M b c =
       let p = made (Some M) b c x y in
-      between-good limit p (without_build (version_of p)) (lowest (M + 1) 0 0) (major-less (version_of p) (lowest (M + 1) 0 0) (omega arith)) (unbuilt-is limit p)
+      between-good limit p (without_build (version_of p)) (lowest (M + 1) 0 0) (above_major (version_of p) (lowest (M + 1) 0 0) (omega arith)) (unbuilt-is limit p)
       (λ f. lowest-is (limit + 1) (M + 1) 0 0 (omega (arith, f.major)) (omega arith) (omega arith))
 
   abbrev Rows : Word → Type 0
   Rows w = (a b c : Option ℕ) → Good limit (made a b c x y) (row limit w a b c (version_of (made a b c x y)))
 
   at_least-good : Rows (compare at_least q)
-  at_least-good a b c = from-version limit (made a b c x y)
+  at_least-good a b c = let w = made a b c x y in from-good limit w (version_of w) (version-is limit w)
 
   above-good : Rows (compare above q)
   above-good (Some M) (Some m) None =
       from-good limit (made (Some M) (Some m) None x y) (release_value M (m + 1) 0) (λ f. release-is (limit + 1) M (m + 1) 0 (omega (arith, f.major)) (omega (arith, f.minor)) (omega arith))
   above-good (Some M) None None =
       from-good limit (made (Some M) None None x y) (release_value (M + 1) 0 0) (λ f. release-is (limit + 1) (M + 1) 0 0 (omega (arith, f.major)) (omega arith) (omega arith))
-  above-good (Some M) (Some m) (Some p) = past-version limit (made (Some M) (Some m) (Some p) x y)
-  above-good (Some M) None (Some p) = past-version limit (made (Some M) None (Some p) x y)
-  above-good None b c = past-version limit (made None b c x y)
+  above-good (Some M) (Some m) (Some p) = let w = made (Some M) (Some m) (Some p) x y in past-good limit w (version_of w) (version-is limit w)
+  above-good (Some M) None (Some p) = let w = made (Some M) None (Some p) x y in past-good limit w (version_of w) (version-is limit w)
+  above-good None b c = let w = made None b c x y in past-good limit w (version_of w) (version-is limit w)
 
   below-good : Rows (compare below q)
   below-good (Some M) (Some m) None =
       before-good limit (made (Some M) (Some m) None x y) (lowest M m 0) (λ f. lowest-is (limit + 1) M m 0 (omega (arith, f.major)) (omega (arith, f.minor)) (omega arith))
-  below-good (Some M) (Some m) (Some p) = before-version limit (made (Some M) (Some m) (Some p) x y)
-  below-good (Some M) None c = before-version limit (made (Some M) None c x y)
-  below-good None b c = before-version limit (made None b c x y)
+  below-good (Some M) (Some m) (Some p) = let w = made (Some M) (Some m) (Some p) x y in before-good limit w (version_of w) (version-is limit w)
+  below-good (Some M) None c = let w = made (Some M) None c x y in before-good limit w (version_of w) (version-is limit w)
+  below-good None b c = let w = made None b c x y in before-good limit w (version_of w) (version-is limit w)
 
   at_most-good : Rows (compare at_most q)
   at_most-good a None None =
       to-good limit (made a None None x y) (release_value (unwrap_or a 0) limit limit) (λ f. release-is (limit + 1) (unwrap_or a 0) limit limit (zeroed-le limit a f.major) (omega arith) (omega arith))
   at_most-good a (Some m) None =
       to-good limit (made a (Some m) None x y) (release_value (unwrap_or a 0) m limit) (λ f. release-is (limit + 1) (unwrap_or a 0) m limit (zeroed-le limit a f.major) (omega (arith, f.minor)) (omega arith))
-  at_most-good a None (Some p) = to-version limit (made a None (Some p) x y)
-  at_most-good a (Some m) (Some p) = to-version limit (made a (Some m) (Some p) x y)
+  at_most-good a None (Some p) = let w = made a None (Some p) x y in to-good limit w (version_of w) (version-is limit w)
+  at_most-good a (Some m) (Some p) = let w = made a (Some m) (Some p) x y in to-good limit w (version_of w) (version-is limit w)
 
   equal-good : Rows (compare equal q)
   equal-good (Some M) (Some m) (Some p) = exact-good limit (made (Some M) (Some m) (Some p) x y) (without_build (version_of (made (Some M) (Some m) (Some p) x y))) (unbuilt-is limit (made (Some M) (Some m) (Some p) x y))
@@ -176,7 +150,7 @@ module _ (limit : ℕ) (q : Partial) (x y : List Id) where
   plain-good None b c = from-good limit (made None b c x y) (release_value 0 0 0) (λ f. release-is (limit + 1) 0 0 0 (omega arith) (omega arith) (omega arith))
   plain-good (Some M) None c = major-good M c
   plain-good (Some M) (Some m) None = minor-good M m
-  plain-good (Some M) (Some m) (Some p) = exact-version limit (made (Some M) (Some m) (Some p) x y)
+  plain-good (Some M) (Some m) (Some p) = let w = made (Some M) (Some m) (Some p) x y in exact-good limit w (version_of w) (version-is limit w)
 
   tilde-good : (greater : Bool) → Rows (tilde greater q)
   tilde-good greater (Some M) None c = major-good M c
@@ -190,12 +164,12 @@ module _ (limit : ℕ) (q : Partial) (x y : List Id) where
   caret-good (Some zero) (Some m) None = minor-good 0 m
   caret-good (Some (suc M)) None None = major-good (suc M) None
   caret-good (Some (suc M)) (Some m) None =
-      between-good limit (made (Some (suc M)) (Some m) None x y) (release_value (suc M) m 0) (lowest (suc M + 1) 0 0) (major-less (release_value (suc M) m 0) (lowest (suc M + 1) 0 0) (omega arith))
+      between-good limit (made (Some (suc M)) (Some m) None x y) (release_value (suc M) m 0) (lowest (suc M + 1) 0 0) (above_major (release_value (suc M) m 0) (lowest (suc M + 1) 0 0) (omega arith))
       (λ f. release-is (limit + 1) (suc M) m 0 (omega (arith, f.major)) (omega (arith, f.minor)) (omega arith))
       (λ f. lowest-is (limit + 1) (suc M + 1) 0 0 (omega (arith, f.major)) (omega arith) (omega arith))
   caret-good (Some zero) (Some zero) (Some p) =
       let w = made (Some zero) (Some zero) (Some p) x y in
-      between-good limit w (without_build (version_of w)) (lowest 0 0 (p + 1)) (patch-less (version_of w) (lowest 0 0 (p + 1)) refl refl (omega arith)) (unbuilt-is limit w)
+      between-good limit w (without_build (version_of w)) (lowest 0 0 (p + 1)) (above_patch (version_of w) (lowest 0 0 (p + 1)) refl refl (omega arith)) (unbuilt-is limit w)
       (λ f. lowest-is (limit + 1) 0 0 (p + 1) (omega arith) (omega arith) (omega (arith, f.patch)))
   caret-good (Some zero) (Some (suc m)) (Some p) = next_minor-good 0 (suc m) (Some p)
   caret-good (Some (suc M)) (Some m) (Some p) = next_major-good (suc M) (Some m) (Some p)
