@@ -117,9 +117,11 @@ pub fn common_ranges()
         → (common_range limit text ≡ Some list) ↔ IsCommonRange limit text list }
 {}
 
-/// On a common text both readers return the same range; on another the fast one returns `None`.
+/// On a common text both readers return its range; on another the fast one returns `None`.
 pub fn both_readers(alloc: Global, text: &str) -> Result<Option<(Range, Option<Range>)>, AllocError>
     ensures same { IfOk result (λ found. IfSome found (λ both. Some both.0 ≡ both.1)) }
+    ensures read { IfOk result (λ found. IfSome found (λ both.
+        IsCommonRange MAX_SAFE_INTEGER text.now both.0)) }
     ensures uncommon { IfOk result (λ found. IfNone found (IsUncommon MAX_SAFE_INTEGER text.now)) }
 {
     let fast = range_fast(alloc, text)?;

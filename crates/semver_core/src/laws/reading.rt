@@ -49,8 +49,9 @@ pub fn common_reads_alike(text: &str)
 }
 
 /// Returns what the fast reader and the loose reader return on one text: where the fast one returns
-/// a version, the loose one returns the same. The fast one returns none only on a text that is no
-/// common one, and the loose one only on a text that has no version.
+/// a version, the loose one returns the same, which is the version at the text's front. The fast one
+/// returns none only on a text that is no common one, and the loose one only on a text that has no
+/// version.
 ///
 /// Fails only if allocation fails.
 #[tactic(auto, using(crate::proofs::Text::Whole::alike))]
@@ -59,6 +60,7 @@ pub fn both_readers(
     text: &str,
 ) -> Result<(Option<Version>, Option<Version>), AllocError>
     ensures same { IfOk result (λ both. IfSome both.0 (λ v. both.1 ≡ Some v)) }
+    ensures read { IfOk result (λ both. IfSome both.1 (Reads MAX_SAFE_INTEGER text.now)) }
     ensures uncommon { IfOk result (λ both. IfNone both.0 (IsUncommon MAX_SAFE_INTEGER text.now)) }
     ensures unread { IfOk result (λ both. IfNone both.1 (HasNoVersion MAX_SAFE_INTEGER text.now)) }
 {
