@@ -1,5 +1,5 @@
 -- For proofs. Printed ranges come back.
-use Rattle.std.proofs.Common.{◌≡◌, ◌<◌, ◌^◌, ℕ, true, List, [], ◌∷◌, ◌++◌, length, map, refl, ap, ap₂, ◌∙◌, append-nil, arith, inl, inr}
+use Rattle.std.proofs.Common.{◌≡◌, ◌+◌, ◌<◌, ◌^◌, ℕ, true, List, [], ◌∷◌, ◌++◌, length, map, refl, ap, ap₂, ◌∙◌, append-nil, arith, inl, inr}
 use Rattle.std.specs.List.{list_all}
 use Rattle.std.specs.Prelude.{◌&&◌, ◌||◌}
 use Rattle.std.proofs.lemmas.Bool.{and_from, and_parts, cases_Bool}
@@ -9,11 +9,11 @@ use Rattle.semver_core.specs.Values.Order.{precedence, version_eq}
 use Rattle.semver_core.specs.Values.Versions.{VersionValue}
 use Rattle.semver_core.specs.declared.cuts.bound.Bound.{Bound}
 use Rattle.semver_core.specs.declared.cuts.bound.Bound.TheVariants.{Unbounded, Before, After}
-use Rattle.nodejs_semver.specs.Printing.RoundTrip.{is_printable, bounds_back, read_back}
+use Rattle.nodejs_semver.specs.Printing.RoundTrip.{is_printable, is_small, bounds_back, read_back}
 use Rattle.nodejs_semver.specs.Internal.Denotes.{denotes}
 use Rattle.nodejs_semver.specs.Printing.Text.{bounds_text, range_text}
 use Rattle.nodejs_semver.specs.Ranges.Outside.{is_bounded}
-use Rattle.nodejs_semver.specs.Ranges.View.{is_range_bound, is_range_span}
+use Rattle.nodejs_semver.specs.Ranges.View.{IsRange, is_range_bound, is_range_span}
 use Rattle.nodejs_semver.specs.Internal.SameLaws.{bound_refl}
 use Rattle.nodejs_semver.specs.Ranges.Equality.{span_eq, range_eq}
 use Rattle.nodejs_semver.proofs.Everyday.Words.{Tidy}
@@ -40,27 +40,40 @@ bound_readable limit Unbounded h = tt
 bound_readable limit (Before v) h = readable limit v h
 bound_readable limit (After v) h = readable limit v h
 
-span_tidy : (limit : ℕ) (s : Span VersionValue) → limit < 2 ^ 64 → is_printable limit s ≡ true → Tidy limit (bounds_text s.lower s.upper) (read_back s)
-span_tidy limit s small h =
-    let both = and_parts (is_bounded s.lower || is_bounded s.upper) (is_range_span limit s) h in
-    let range = and_parts (is_interval precedence s) (is_range_bound limit s.lower && is_range_bound limit s.upper) both.1 in
-    let bounds = and_parts (is_range_bound limit s.lower) (is_range_bound limit s.upper) range.1 in
-    bounds_tidy limit s.lower s.upper small range.0 both.0 (bound_readable limit s.lower bounds.0) (bound_readable limit s.upper bounds.1)
+-- a bound of a range, of small numbers
+small_bound : (limit : ℕ) (b : Bound VersionValue) → is_range_bound (limit + 1) b ≡ true → is_small limit b ≡ true → is_range_bound limit b ≡ true
+small_bound limit Unbounded h k = refl
+small_bound limit (Before v) h k = grind (arith, h, k)
+small_bound limit (After v) h k = grind (arith, h, k)
+
+span_tidy : (limit : ℕ) (s : Span VersionValue) → limit < 2 ^ 64 → is_range_span (limit + 1) s ≡ true → is_printable limit s ≡ true
+    → Tidy limit (bounds_text s.lower s.upper) (read_back s)
+span_tidy limit s below range h =
+    let both = and_parts (is_bounded s.lower || is_bounded s.upper) (is_small limit s.lower && is_small limit s.upper) h in
+    let small = and_parts (is_small limit s.lower) (is_small limit s.upper) both.1 in
+    let parts = and_parts (is_interval precedence s) (is_range_bound (limit + 1) s.lower && is_range_bound (limit + 1) s.upper) range in
+    let bounds = and_parts (is_range_bound (limit + 1) s.lower) (is_range_bound (limit + 1) s.upper) parts.1 in
+    bounds_tidy limit s.lower s.upper below parts.0 both.0 (bound_readable limit s.lower (small_bound limit s.lower bounds.0 small.0))
+    (bound_readable limit s.upper (small_bound limit s.upper bounds.1 small.1))
 
 -- a printed range is its intervals' texts between bars
-printed_tidy : (limit : ℕ) (s : Span VersionValue) (rest : List (Span VersionValue)) → limit < 2 ^ 64 → list_all (is_printable limit) (s ∷ rest) ≡ true
+printed_tidy : (limit : ℕ) (s : Span VersionValue) (rest : List (Span VersionValue)) → limit < 2 ^ 64
+    → list_all (is_range_span (limit + 1)) (s ∷ rest) ≡ true → list_all (is_printable limit) (s ∷ rest) ≡ true
     → AreTidy limit (range_text (s ∷ rest)) (map read_back (s ∷ rest))
-printed_tidy limit s [] small h =
-    rw (append-nil (bounds_text s.lower s.upper)) (one_tidy (bounds_text s.lower s.upper) (read_back s) (span_tidy limit s small (and_parts (is_printable limit s) true h).0))
-printed_tidy limit s (t ∷ rest) small h =
+printed_tidy limit s [] small range h =
+    rw (append-nil (bounds_text s.lower s.upper)) (one_tidy (bounds_text s.lower s.upper) (read_back s)
+    (span_tidy limit s small (and_parts (is_range_span (limit + 1) s) true range).0 (and_parts (is_printable limit s) true h).0))
+printed_tidy limit s (t ∷ rest) small range h =
     let each = and_parts (is_printable limit s) (list_all (is_printable limit) (t ∷ rest)) h in
+    let spans = and_parts (is_range_span (limit + 1) s) (list_all (is_range_span (limit + 1)) (t ∷ rest)) range in
     more_tidy (bounds_text s.lower s.upper) [] [] (range_text (t ∷ rest)) (read_back s) (map read_back (t ∷ rest))
-    (span_tidy limit s small each.0) (inl refl) (inl refl) (printed_tidy limit t rest small each.1)
+    (span_tidy limit s small spans.0 each.0) (inl refl) (inl refl) (printed_tidy limit t rest small spans.1 each.1)
 
-pub reads_back : (limit : ℕ) (text : List ℕ) (list : List (Span VersionValue)) → limit < 2 ^ 64 → 0 < length list → list_all (is_printable limit) list ≡ true
+pub reads_back : (limit : ℕ) (text : List ℕ) (list : List (Span VersionValue)) → limit < 2 ^ 64 → IsRange limit list → list_all (is_printable limit) list ≡ true
     → text ≡ range_text list → denotes limit text ≡ map read_back list
-reads_back limit text [] small some h e = absurd (omega arith)
-reads_back limit text (s ∷ rest) small some h e = ap (denotes limit) e ∙ (tidy-denotes limit (range_text (s ∷ rest)) (map read_back (s ∷ rest)) (printed_tidy limit s rest small h)).0
+reads_back limit text [] small range h e = absurd (omega (arith, range.some))
+reads_back limit text (s ∷ rest) small range h e =
+    ap (denotes limit) e ∙ (tidy-denotes limit (range_text (s ∷ rest)) (map read_back (s ∷ rest)) (printed_tidy limit s rest small range.each h)).0
 
 -- what is read from a printed interval prints as the same text
 again : (lower upper : Bound VersionValue) → bounds_text (bounds_back lower upper).lower (bounds_back lower upper).upper ≡ bounds_text lower upper

@@ -12,18 +12,19 @@ use Rattle.nodejs_semver.specs.Text.Meaning.{Means}
 use Rattle.nodejs_semver.proofs.Dividing.MeaningLaw.{one_meaning}
 use Rattle.nodejs_semver.specs.Printing.Text.{range_text}
 use Rattle.nodejs_semver.specs.Ranges.Equality.{range_eq}
+use Rattle.nodejs_semver.specs.Ranges.View.{IsRange}
 use Rattle.nodejs_semver.proofs.Printing.Ranges.{reads_back, same_back, prints_again}
 
 -- what is read from the text of a printable range
 pub record Reread (limit : ℕ) (text : List ℕ) (list : List (Span VersionValue)) : Type 0 where
   pub utf8 : IsUtf8 text
   pub small : limit < 2 ^ 64
-  pub some : 0 < length list
+  pub range : IsRange limit list
   pub printable : list_all (is_printable limit) list ≡ true
   pub printed : text ≡ range_text list
 
 is_back : (limit : ℕ) (text : List ℕ) (again list : List (Span VersionValue)) → Reread limit text list → Means limit text again → again ≡ map read_back list
-is_back limit text again list h m = sym ((one_meaning limit text again h.utf8).1 m) ∙ reads_back limit text list h.small h.some h.printable h.printed
+is_back limit text again list h m = sym ((one_meaning limit text again h.utf8).1 m) ∙ reads_back limit text list h.small h.range h.printable h.printed
 
 pub reread_builds : {E : Type 0} (limit : ℕ) (r : Result (List (Span VersionValue)) E) (text : List ℕ) (list : List (Span VersionValue)) → Reread limit text list
     → IfOk r (Means limit text) → IfOk r (λ again. again ≡ map read_back list)
@@ -42,7 +43,7 @@ reread_text limit (Err x) text list h m = tt
 
 -- the text means some interval
 not_refused : (limit : ℕ) (text : List ℕ) (list : List (Span VersionValue)) → Reread limit text list → Means limit text [] → ⊥
-not_refused limit text [] h m = absurd (omega (arith, h.some))
+not_refused limit text [] h m = absurd (omega (arith, h.range.some))
 not_refused limit text (s ∷ rest) h m = cc (is_back limit text [] (s ∷ rest) h m)
 
 pub reread_read : {E : Type 0} (limit : ℕ) (r : Result (List (Span VersionValue)) (Failure E)) (text : List ℕ) (list : List (Span VersionValue)) → Reread limit text list

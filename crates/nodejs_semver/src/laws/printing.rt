@@ -1,10 +1,11 @@
 // Printed ranges come back.
 
-ghost use Rattle.std.specs.Prelude.{◌≡◌, ◌<◌, ◌^◌, ℕ, IfOk, List, length, map, string_bytes, true};
+ghost use Rattle.std.specs.Prelude.{◌≡◌, ◌<◌, ◌^◌, ℕ, IfOk, List, map, string_bytes, true};
 ghost use Rattle.std.specs.List.{list_all};
 ghost use Rattle.nodejs_semver.specs.Printing.RoundTrip.{is_printable, read_back};
 ghost use Rattle.nodejs_semver.specs.Printing.Text.{range_text};
 ghost use Rattle.nodejs_semver.specs.Ranges.Equality.{range_eq};
+ghost use Rattle.nodejs_semver.specs.Ranges.View.{IsRange};
 ghost use Rattle.nodejs_semver.specs.Text.Meaning.{Means};
 ghost use Rattle.semver_core.specs.Cuts.{Span};
 ghost use Rattle.semver_core.specs.Failures.{NeverRefused};
@@ -13,16 +14,15 @@ ghost use Rattle.semver_core.specs.Values.Versions.{VersionValue};
 use crate::{Failure, MAX_SAFE_INTEGER, Range, SemverError};
 use std::alloc::{AllocError, Global};
 
-/// Printed ranges come back: a text that is printed of one interval or more, none of which is `*`,
-/// reads as an equal range. Their versions have no number above the limit, and each identifier
-/// would parse back to itself. Builds come back too, but where an interval prints as one version,
-/// that version stands for both ends.
+/// Printed ranges come back: the printed text of a range reads as an equal range where no interval
+/// is `*` and no number is above the limit. Builds come back too, but where an interval prints as
+/// one version, that version stands for both ends.
 pub fn printed_ranges_come_back(text: &str)
     ensures equal { (limit : ℕ) (list read : List (Span VersionValue)) → limit < 2 ^ 64
-        → 0 < length list → list_all (is_printable limit) list ≡ true → text.now ≡ range_text list
+        → IsRange limit list → list_all (is_printable limit) list ≡ true → text.now ≡ range_text list
         → Means limit text.now read → range_eq read list ≡ true }
     ensures builds { (limit : ℕ) (list : List (Span VersionValue)) → limit < 2 ^ 64
-        → 0 < length list → list_all (is_printable limit) list ≡ true → text.now ≡ range_text list
+        → IsRange limit list → list_all (is_printable limit) list ≡ true → text.now ≡ range_text list
         → Means limit text.now (map read_back list) }
 {
     let _ = text;

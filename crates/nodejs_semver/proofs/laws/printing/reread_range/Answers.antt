@@ -7,7 +7,7 @@ given : (c : goal.After-drop-text) → Reread MAX_SAFE_INTEGER c.deref.result.no
 given c = record {
   utf8 = c.deref.utf8;
   small = omega arith;
-  some = c.intervals-intervals.ensures.valid.some;
+  range = c.intervals-intervals.ensures.valid;
   printable = c.requires;
   printed = c.deref.ensures ∙ c.in-Ok.ensures.ok;
 }
