@@ -1,13 +1,11 @@
 -- The interval of a part and what follows it, as the fast reader makes them.
-use Rattle.std.proofs.Common.{◌≡◌, ℕ, List, [], ◌∷◌, ◌++◌, drop, refl, sym, ap, ◌∙◌, Bool, true, Some, None}
+use Rattle.std.proofs.Common.{arith, ◌≡◌, ℕ, List, [], ◌∷◌, ◌++◌, drop, refl, sym, ap, ◌∙◌, Bool, true, Some, None}
 use Rattle.std.specs.Prelude.{Option, if◌then◌else◌}
-use Rattle.std.proofs.lemmas.Option.{none-some}
-use Rattle.nodejs_semver.proofs.Reading.Steps.{inside}
 use Rattle.semver_core.specs.Cuts.{Span, interval, meet}
 use Rattle.semver_core.specs.Values.Order.{precedence}
 use Rattle.semver_core.specs.Values.Versions.{VersionValue}
 use Rattle.semver_core.specs.declared.cuts.bound.Bound.{Bound}
-use Rattle.semver_core.specs.declared.cuts.bound.Bound.TheVariants.{Unbounded, Before, After}
+use Rattle.semver_core.specs.declared.cuts.bound.Bound.TheVariants.{Unbounded}
 use Rattle.nodejs_semver.specs.Internal.CommonFronts.{begins_second, both_of, comparison_front, comparisons_front, part_read, passed, pushed, word_read}
 use Rattle.nodejs_semver.specs.Internal.CommonViews.{both_view}
 use Rattle.nodejs_semver.specs.Internal.Fronts.{Front}
@@ -16,15 +14,7 @@ use Rattle.semver_core.specs.Internal.Reading.{◌>>?◌}
 -- two comparisons of which the first has no upper and the second no lower bound
 pub half_open : (a b : Bound VersionValue)
     → both_of (record { lower = a; upper = Unbounded }) (record { lower = Unbounded; upper = b }) ≡ interval precedence (record { lower = a; upper = b })
-half_open Unbounded Unbounded = refl
-half_open Unbounded (Before w) = refl
-half_open Unbounded (After w) = refl
-half_open (Before v) Unbounded = refl
-half_open (Before v) (Before w) = refl
-half_open (Before v) (After w) = refl
-half_open (After v) Unbounded = refl
-half_open (After v) (Before w) = refl
-half_open (After v) (After w) = refl
+half_open a b = grind arith
 
 -- what follows a part, and the list with its interval
 abbrev pub Behind : Type 0
@@ -35,8 +25,7 @@ behind r list = (r, list)
 
 pub passed-part : (there : Bool) (rest : List ℕ) (done new : List (Span VersionValue)) (o : Option (Span VersionValue)) (r : Option (List ℕ))
     → both_view there new ≡ pushed done o → r ≡ (if there then Some rest else None) → behind r new ≡ passed done (part_read rest o)
-passed-part there rest done new None r h e = rw (e, ap (λ (x : Bool × List (Span VersionValue)). x.0) h, ap (λ (x : Bool × List (Span VersionValue)). x.1) h) refl
-passed-part there rest done new (Some s) r h e = rw (e, ap (λ (x : Bool × List (Span VersionValue)). x.0) h, ap (λ (x : Bool × List (Span VersionValue)). x.1) h) refl
+passed-part there rest done new o r h k = grind arith
 
 -- the step behind the first comparison
 abbrev behind-first : ℕ → Span VersionValue × List ℕ → Front (Span VersionValue)
@@ -87,14 +76,7 @@ pub record Added (done new : List (Span VersionValue)) (o : Front (Span VersionV
 
 pub passed-some : (done new : List (Span VersionValue)) (o : Front (Span VersionValue)) (r : Option (List ℕ)) (rest : List ℕ) → behind r new ≡ passed done o → r ≡ Some rest
     → Added done new o rest
-passed-some done new None r rest h e = absurd (none-some rest (sym (ap (λ (x : Behind). x.0) h) ∙ e))
-passed-some done new (Some p) r rest h e =
-    let same : p.1 ≡ rest = inside (sym (ap (λ (x : Behind). x.0) h) ∙ e) in
-    record { interval_is = p.0; found = ap (λ (t : List ℕ). read_of p.0 t) same; list = ap (λ (x : Behind). x.1) h }
-  where
-    read_of : Span VersionValue → List ℕ → Front (Span VersionValue)
-    read_of s t = Some (s, t)
+passed-some done new o r rest h k = grind arith
 
 pub passed-none : (done new : List (Span VersionValue)) (o : Front (Span VersionValue)) (r : Option (List ℕ)) → behind r new ≡ passed done o → r ≡ None → o ≡ None
-passed-none done new None r h e = refl
-passed-none done new (Some p) r h e = absurd (none-some p.1 (sym e ∙ ap (λ (x : Behind). x.0) h))
+passed-none done new o r h k = grind arith

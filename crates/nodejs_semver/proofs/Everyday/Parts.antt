@@ -23,7 +23,7 @@ use Rattle.nodejs_semver.proofs.Everyday.Texts.{part-tidy}
 use Rattle.nodejs_semver.proofs.Everyday.Words.{no-equal, no-greater, sign-begins}
 use Rattle.nodejs_semver.proofs.Reading.Bytes.{begins-on, begins_component, is_component_byte, is_solid}
 use Rattle.nodejs_semver.proofs.Reading.Steps.{bind-some, inside}
-use Rattle.nodejs_semver.proofs.Reading.WordLaw.{Signed, byte-is, sign-is}
+use Rattle.nodejs_semver.proofs.Reading.WordLaw.{Signed, sign-is}
 
 -- what may follow a part: the end, or bars with one space or none before them
 pub record Ends (more : List ℕ) : Type 0 where
@@ -213,13 +213,8 @@ word-exact limit x w s more (hyphen_word first second p q h k) bounds e =
 pub part-exact : (limit : ℕ) (x : List ℕ) (s : Span VersionValue) (more : List ℕ) → IsCommonPart limit x s → Ends more → part_front limit (x ++ more) ≡ Some (s, more)
 part-exact limit x s more (one_word text word span is bounds) e = word-exact limit text word span more is bounds e
 part-exact limit x s more (two_comparisons u v a b c d both is other h k m) e =
-    let behind = 32 ∷ (v ++ more) in
     let second = begins-on is_sign v more (comparison-begins limit v b other) in
-    ap (λ (t : List ℕ). part_front limit t) (append_assoc u (32 ∷ v) more)
-    ∙ (comparisons-part limit (u ++ behind) (begins-on is_sign u behind (comparison-begins limit u a is))
-    ∙ two-comparisons limit (u ++ behind) c d both (v ++ more) more
-    (rw (comparison-exact limit u a behind is (stop-space (v ++ more)), h) refl) second
-    (rw (comparison-exact limit v b more other e.stop, k) refl) m)
+    grind (arith, comparison-begins, append_assoc, comparisons-part, two-comparisons, comparison-exact, stop-space)
 
 -- a part at the front
 abbrev pub Parted : ℕ → List ℕ → Span VersionValue → List ℕ → Type 0
@@ -300,17 +295,7 @@ bars-sound more next h =
     let two = bind-some (after_byte 124 one.0) (λ t. Some (after_gap t)) next one.2 in
     let before = gap-is more in
     let after = gap-is two.0 in
-    let left : after_gap two.0 ≡ next = inside two.2 in
-    let first = byte-is 124 (after_gap more) one.0 one.1 in
-    let second = byte-is 124 one.0 two.0 two.1 in
-    record {
-      before = before.0;
-      after = after.0;
-      is_before = before.1;
-      is_after = after.1;
-      divided = before.2 ∙ ap (λ (t : List ℕ). before.0 ++ t)
-          (first ∙ ap (λ (t : List ℕ). 124 ∷ t) (second ∙ ap (λ (t : List ℕ). 124 ∷ t) (after.2 ∙ ap (λ (t : List ℕ). after.0 ++ t) left)));
-    }
+    grind arith
 
 pub barred-ends : (more next : List ℕ) → Barred more next → Ends more
 barred-ends more next h = subst (λ (t : List ℕ). Ends t) (sym h.divided) (by h.before h.is_before)
@@ -350,27 +335,21 @@ empty-nil text h = grind arith
 
 -- the last part
 pub last-sound : (limit : ℕ) (text : List ℕ) (s : Span VersionValue) (more : List ℕ) → part_front limit text ≡ Some (s, more) → is_empty more ≡ true → IsCommonRange limit text (s ∷ [])
-last-sound limit text s more h e =
-    let none = empty-nil more e in
-    let p = part-sound limit text s more h in
-    subst (λ (t : List ℕ). IsCommonRange limit t (s ∷ [])) (sym (p.1 ∙ (ap (λ (t : List ℕ). p.0 ++ t) none ∙ append-nil p.0))) (one_part p.0 s p.2)
+last-sound limit text s more h e = grind (arith, part-sound, append-nil, one_part)
 
 -- a part before others
 pub next-sound : (limit : ℕ) (text : List ℕ) (s : Span VersionValue) (more next : List ℕ) (list : List (Span VersionValue)) → part_front limit text ≡ Some (s, more)
     → after_bars more ≡ Some next → IsCommonRange limit next list → IsCommonRange limit text (s ∷ list)
 next-sound limit text s more next list h k r =
     let b = bars-sound more next k in
-    let p = part-sound limit text s more h in
-    subst (λ (t : List ℕ). IsCommonRange limit t (s ∷ list)) (sym (p.1 ∙ ap (λ (t : List ℕ). p.0 ++ t) b.divided))
-    (more_parts p.0 b.before b.after next s list p.2 b.is_before b.is_after r)
+    grind (arith, part-sound, more_parts)
 
 -- less is left behind the bars
 pub next-shorter : (limit : ℕ) (text : List ℕ) (s : Span VersionValue) (more next : List ℕ) → part_front limit text ≡ Some (s, more) → after_bars more ≡ Some next
     → length next < length text
 next-shorter limit text s more next h k =
     let b = bars-sound more next k in
-    let p = part-sound limit text s more h in
-    omega (arith, ap length p.1, length-append p.0 more, ap length b.divided, length-append b.before (124 ∷ (124 ∷ (b.after ++ next))), length-append b.after next)
+    grind (arith, part-sound, length-append)
 
 -- the first part of a common text, and the others
 pub record Steps (limit : ℕ) (text : List ℕ) (list : List (Span VersionValue)) : Type 0 where

@@ -115,11 +115,9 @@ denoted limit text list gap g (one_tidy part s tidy) =
 denoted limit text list gap g (more_tidy part before after rest s others tidy b a more) =
     let piece = gap ++ (part ++ before) in
     let behind = 124 ∷ (124 ∷ (after ++ rest)) in
-    let bytes = all-join is_part_byte gap (part ++ before) (gap-bytes gap g) (all-join is_part_byte part before tidy.compact.each (gap-bytes before b)) in
     let whole : gap ++ (part ++ (before ++ behind)) ≡ piece ++ behind = sym (append_assoc gap (part ++ before) behind ∙ ap (λ (t : List ℕ). gap ++ t) (append_assoc part before behind)) in
     let next = denoted limit rest others after a more in
-    rw (whole, cut-first piece (after ++ rest) bytes)
-    (denoted-on limit piece part (cut_bars false (after ++ rest)) s others (compact-trim gap part before g b tidy.compact) tidy next.intervals)
+    grind (arith, all-join, cut-first, compact-trim)
 
 pub tidy-denotes : (limit : ℕ) (text : List ℕ) (list : List (Span VersionValue)) → AreTidy limit text list
     → (denotes limit text ≡ list) × (list_all is_empty (parts text) ≡ false)

@@ -152,15 +152,9 @@ components-then limit x more p (two c d a b h k) quiet =
 components-then limit x more p (three c d e pre build q h k l quiet_e m n) quiet =
     let tail = e ++ (pre ++ build) in
     let some : 0 < length tail = let one = component-some limit e q.patch l in omega (arith, length-append e (pre ++ build)) in
-    let last = quiet-behind d tail more some (quiet-behind c (d ++ (46 ∷ tail)) more (omega (arith, length-append d (46 ∷ tail))) quiet) in
-    let third : dotted_front limit (46 ∷ (tail ++ more)) ≡ Some (q.patch, (pre ++ build) ++ more) =
-    rw (append_assoc e (pre ++ build) more) (dotted-then limit e ((pre ++ build) ++ more) q.patch l (quiet-further e (pre ++ build) more quiet_e last)) in
     let second : dotted_front limit (46 ∷ ((d ++ (46 ∷ tail)) ++ more)) ≡ Some (q.minor, 46 ∷ (tail ++ more)) =
     rw (append_assoc d (46 ∷ tail) more) (dotted-then limit d (46 ∷ (tail ++ more)) q.minor k (quiet-before d (46 ∷ (tail ++ more)) refl)) in
     let first : component_front limit ((c ++ (46 ∷ (d ++ (46 ∷ tail)))) ++ more) ≡ Some (q.major, 46 ∷ ((d ++ (46 ∷ tail)) ++ more)) =
     rw (append_assoc c (46 ∷ (d ++ (46 ∷ tail))) more) (component-then limit c (46 ∷ ((d ++ (46 ∷ tail)) ++ more)) q.major h (quiet-before c (46 ∷ ((d ++ (46 ∷ tail)) ++ more)) refl)) in
-    let passed = qualifier-passed pre build more q.pre_release q.build m n in (
-      (q.major, 46 ∷ ((d ++ (46 ∷ tail)) ++ more)),
-      first,
-      rw (second, third) (record { le = passed.le; exact = λ stop. let r = passed.exact stop in rw (r.pre, r.build, r.rest) refl }),
-    )
+    let passed = qualifier-passed pre build more q.pre_release q.build m n in
+    grind (arith, length-append, quiet-behind, append_assoc, dotted-then, quiet-further)

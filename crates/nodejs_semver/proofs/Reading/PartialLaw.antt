@@ -1,6 +1,6 @@
 -- The partial that is read at the front of a text is the longest one that is written there.
 use Rattle.std.proofs.Common.{◌≡◌, ◌⊎◌, ℕ, ◌<◌, ◌≤◌, List, [], ◌∷◌, ◌++◌, length, take, drop, refl, sym, ap, ◌∙◌, arith, true, false, Some, inl, inr, subst, append-nil, append_assoc, length-append}
-use Rattle.std.specs.Prelude.{◌==◌, ◌||◌, ◌↔◌, Option, IsUtf8, encode_utf8_all}
+use Rattle.std.specs.Prelude.{◌==◌, ◌||◌, ◌↔◌, IsUtf8, encode_utf8_all}
 use Rattle.std.specs.Char.{is_ascii_digit}
 use Rattle.std.specs.List.{list_all}
 use Rattle.std.proofs.lemmas.Bool.{cases_Bool, eqb-true}
@@ -12,11 +12,11 @@ use Rattle.semver_core.specs.Internal.Spaces.{drop_spaces, space_len}
 use Rattle.semver_core.proofs.Text.SpaceLaw.{space_len-white}
 use Rattle.semver_core.proofs.Text.Spaces.{drop_spaces-none}
 use Rattle.semver_core.proofs.Text.Trims.{drop_spaces-blank, fronted}
-use Rattle.nodejs_semver.specs.Internal.Fronts.{component_front, dotted_front, drop_v, minor_front, partial_front}
+use Rattle.nodejs_semver.specs.Internal.Fronts.{drop_v, partial_front}
 use Rattle.nodejs_semver.specs.Text.LongestText.{BeginsPartial, IsLongestPartial}
 use Rattle.nodejs_semver.specs.Text.PartialText.{AreComponents, IsPartial, Partial, is_wildcard}
 use Rattle.nodejs_semver.proofs.Reading.Steps.{first-same, second-same}
-use Rattle.nodejs_semver.proofs.Reading.Bytes.{begins-on, begins-some, begins_component, component-solid, is_component_byte, solid-dark}
+use Rattle.nodejs_semver.proofs.Reading.Bytes.{begins-some, begins_component, component-solid, is_component_byte, solid-dark}
 use Rattle.nodejs_semver.proofs.Reading.Components.{Passes, Read, components-begin, components-read, components-then}
 use Rattle.nodejs_semver.proofs.Reading.Quiet.{Quiet, Stop, quiet-append, quiet-before, quiet-last, stop-nil}
 use Rattle.nodejs_semver.proofs.Dividing.Trimmed.{dark-starts}
@@ -83,11 +83,8 @@ spaced text u =
     sym u.1.1 ∙ (ap (λ (t : List ℕ). encode_utf8_all t) f.divided ∙ encodes-append f.before f.rest) in
     let left : drop_spaces text ≡ encode_utf8_all f.rest =
     ap (λ (t : List ℕ). drop_spaces t) split
-    ∙ (drop_spaces-blank f.before (encode_utf8_all f.rest) f.blank ∙ drop_spaces-none (encode_utf8_all f.rest) (dark-starts f.rest f.dark)) in (
-      encode_utf8_all f.before,
-      record { characters = f.before; each = f.blank; spelled = refl },
-      split ∙ ap (λ (t : List ℕ). encode_utf8_all f.before ++ t) (sym left),
-    )
+    ∙ (drop_spaces-blank f.before (encode_utf8_all f.rest) f.blank ∙ drop_spaces-none (encode_utf8_all f.rest) (dark-starts f.rest f.dark)) in
+    grind arith
 
 -- ---- what is read is written, and what is written is read
 
@@ -121,13 +118,9 @@ front-passes limit t more p h quiet =
     let begin = components-begin limit x p h.components_are in
     let whole : t ≡ (h.mark ++ h.blank) ++ x = h.divided ∙ sym (append_assoc h.mark h.blank x) in
     let last : Quiet x more = quiet-last (h.mark ++ h.blank) x more (begins-some is_component_byte x begin) (subst (λ (u : List ℕ). Quiet u more) whole quiet) in
-    let a = components-then limit x more p h.components_are last in
     let behind : t ++ more ≡ h.mark ++ (h.blank ++ (x ++ more)) =
     ap (λ (u : List ℕ). u ++ more) h.divided ∙ (append_assoc h.mark (h.blank ++ x) more ∙ ap (λ (u : List ℕ). h.mark ++ u) (append_assoc h.blank x more)) in
-    let at : drop_spaces (drop_v (t ++ more)) ≡ x ++ more =
-    ap (λ (u : List ℕ). drop_spaces (drop_v u)) behind ∙ skipped h.mark h.blank (x ++ more) h.mark_is h.blank_is (begins-on is_component_byte x more begin) in
-    let read : component_front limit (drop_spaces (drop_v (t ++ more))) ≡ Some a.0 = ap (λ (u : List ℕ). component_front limit u) at ∙ a.1 in
-    (minor_front limit a.0.0 a.0.1 (dotted_front limit a.0.1), rw read refl, a.2)
+    grind (arith, components-then, skipped)
 
 -- components alone are read exactly where nothing goes on
 pub front-exact : (limit : ℕ) (x more : List ℕ) (p : Partial) → AreComponents limit x p → Stop more → partial_front limit (x ++ more) ≡ Some (p, more)
@@ -177,10 +170,7 @@ longest-of limit text p rest u h =
     let behind : far.0.1 ≡ rest = sym (drop_at near.0 far.0.1 n same) ∙ (ap (λ (t : List ℕ). drop n t) whole ∙ drop_at h.front rest n refl) in
     let value : far.0.0 ≡ p =
     first-same (far.0.0, []) (p, []) (sym (whole-of limit near.0 far.0.0 near.1.is) ∙ (ap (λ (t : List ℕ). partial_front limit t) front ∙ whole-of limit h.front p h.begins.is)) in
-    read ∙ paired value behind
-  where
-    paired : {q r : Partial} {s t : List ℕ} → q ≡ r → s ≡ t → ◌≡◌ {A = Option (Partial × List ℕ)} (Some (q, s)) (Some (r, t))
-    paired e f = cc
+    grind arith
 
 pub longest_are : (limit : ℕ) (text : List ℕ) (p : Partial) (rest : List ℕ) → IsUtf8 text
     → (partial_front limit text ≡ Some (p, rest)) ↔ IsLongestPartial limit text p rest

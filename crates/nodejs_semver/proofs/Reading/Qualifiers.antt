@@ -168,8 +168,4 @@ qualifier-passed pre build more l m h (plus z r list k) =
     })
 qualifier-passed pre build more l m h (no_build r k) =
     let p = pre-written pre more [] l h in
-    rw append-nil
-    (record {
-      le = omega (arith, p.le, build_front-le (pre_release_front (pre ++ more)).1);
-      exact = λ stop. read-as (pre ++ more) more more l [] (p.exact stop.run stop.dash stop.identifier) (record { text = []; is = rw stop.plus refl; list = refl });
-    })
+    grind (arith, append-nil, build_front-le)
