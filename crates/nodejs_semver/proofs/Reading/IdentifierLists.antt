@@ -1,5 +1,5 @@
 -- Identifiers joined by dots: the longest list at the front of a text.
-use Rattle.std.proofs.Common.{◌≡◌, ℕ, ◌<◌, ◌≤◌, ◌+◌, List, [], ◌∷◌, ◌++◌, length, take, drop, get_or, refl, sym, ap, ◌∙◌, arith, true, false, inl, inr, subst, length-append, length-drop}
+use Rattle.std.proofs.Common.{◌≡◌, ℕ, ◌<◌, ◌≤◌, ◌+◌, List, [], ◌∷◌, ◌++◌, length, take, drop, get_or, refl, arith, true, false, inl, inr, length-append, length-drop}
 use Rattle.std.specs.Prelude.{◌==◌}
 use Rattle.std.specs.List.{list_all, onto_first}
 use Rattle.std.proofs.lemmas.Bool.{cases_Bool, eqb-true}
@@ -31,9 +31,7 @@ taken-runs text h =
     let n = list_len text in
     let zero : 0 + n ≡ n = omega arith in
     let read = (list_sound text 0 (list_of text) (0 + n) (rw h refl)).1 in
-    let whole : text ≡ read.0 ++ drop n text = read.1 ∙ ap (λ (k : ℕ). read.0 ++ drop k text) zero in
-    let size : length read.0 ≡ n = omega (arith, ap length whole, length-append read.0 (drop n text), length-drop n text, list_len-le text) in
-    subst (λ (t : List ℕ). list_all is_identifier (pieces t) ≡ true) (sym (take_at read.0 (drop n text) n size) ∙ ap (λ (t : List ℕ). take n t) (sym whole)) read.2.identifiers.runs
+    grind (arith, length-append, length-drop, list_len-le, take_at)
 
 identifiers-are : (t : List ℕ) → list_all is_identifier (pieces t) ≡ true → IsIdentifiers t (listed t)
 unfolding listed

@@ -11,7 +11,6 @@ use Rattle.semver_core.specs.Text.Characters.{begins, IsPieceAt, NoPieceAt}
 use Rattle.semver_core.specs.Text.Numbers.{IsNumber, IsWholeNumber}
 use Rattle.nodejs_semver.specs.Internal.Fronts.{begins_wildcard, component_front, number_front, number_of}
 use Rattle.nodejs_semver.specs.Text.PartialText.{is_wildcard}
-use Rattle.nodejs_semver.proofs.Reading.Bytes.{all-begin}
 use Rattle.nodejs_semver.proofs.Reading.Steps.{option-cases}
 
 -- ---- a whole text
@@ -96,7 +95,6 @@ pub number_first : (limit : ℕ) (text rest : List ℕ) (n : ℕ) → number_fro
 unfolding component_front
 number_first limit text rest n h =
     let f = number-found limit text n rest h in
-    let other : begins_wildcard text ≡ false = rw f.split (number-no_wildcard f.run rest (all-begin is_ascii_digit f.run f.is.some f.is.each)) in
-    rw (other, h) refl
+    grind (arith, number-no_wildcard)
 
 pub ruleset number_fronts = (front_some, front_none, front_small)
