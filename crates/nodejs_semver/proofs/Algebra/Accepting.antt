@@ -162,30 +162,20 @@ remainder_admits s t v h k =
     let_in : lets_in s v ≡ true
     let_in = (and_parts (holds precedence s v) _ h).1
 
-    kept : (p q r a b c : Bool) → p ≡ true → q ≡ false → (r || (a || b)) ≡ true → (b ≡ true → c ≡ true)
-        → (((p && not q) && (r || (a || c))) || false) ≡ true
-    kept p q r a b c f g l n = grind arith
-
-    kept_above : (p q r a b c : Bool) → p ≡ true → q ≡ false → (r || (a || b)) ≡ true → (r ≡ false → a ≡ true → c ≡ true)
-        → (((p && not q) && (r || (c || b))) || false) ≡ true
-    kept_above p q r a b c f g l n = grind arith
-
     below : lt precedence_total (lower_cut t.lower) (upper_cut s.upper) ≡ true
         → is_past precedence (lower_cut t.lower) v ≡ false → list_any (admits v)
         (option_to_list (left_below precedence s t)) ≡ true
     below m e =
         let i = past_below precedence_total (lower_cut s.lower) (lower_cut t.lower) v at.0 e in
         let turned = turned_lower precedence_total t.lower (lower_cut s.lower) i in
-        rw (i, turned) (kept _ _ (is_release v) (names s.lower v) (names s.upper v) _ at.0 e let_in
-        (λ n. names_below s.upper t.lower v n m e))
+        rw (i, turned) (grind (arith, at, e, let_in, names_below s.upper t.lower v))
 
     above : lt precedence_total (lower_cut s.lower) (upper_cut t.upper) ≡ true → is_past precedence (upper_cut t.upper) v ≡ true
         → list_any (admits v) (option_to_list (left_above precedence s t)) ≡ true
     above m e =
         let i = past_below precedence_total (upper_cut t.upper) (upper_cut s.upper) v e at.1 in
         let turned = turned_upper precedence_total t.upper (upper_cut s.upper) i in
-        rw (i, turned) (kept_above _ _ (is_release v) (names s.lower v) (names s.upper v) _ e at.1 let_in
-        (λ r n. names_above s.lower t.upper v r n m e))
+        rw (i, turned) (grind (arith, at, e, let_in, names_above s.lower t.upper v))
 
     met : is_interval precedence (both s t) ≡ true → list_any (admits v)
         (option_to_list (left_below precedence s t) ++ option_to_list (left_above precedence s t)) ≡ true

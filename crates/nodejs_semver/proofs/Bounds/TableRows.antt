@@ -121,14 +121,17 @@ module _ (limit : ℕ) (q : Partial) (x y : List Id) where
       from-good limit (made (Some M) (Some m) None x y) (release_value M (m + 1) 0) (λ f. release-is (limit + 1) M (m + 1) 0 (omega (arith, f.major)) (omega (arith, f.minor)) (omega arith))
   above-good (Some M) None None =
       from-good limit (made (Some M) None None x y) (release_value (M + 1) 0 0) (λ f. release-is (limit + 1) (M + 1) 0 0 (omega (arith, f.major)) (omega arith) (omega arith))
-  above-good (Some M) (Some m) (Some p) = let w = made (Some M) (Some m) (Some p) x y in past-good limit w (version_of w) (version-is limit w)
-  above-good (Some M) None (Some p) = let w = made (Some M) None (Some p) x y in past-good limit w (version_of w) (version-is limit w)
+  above-good (Some M) (Some m) (Some p) =
+      let w = made (Some M) (Some m) (Some p) x y in past-good limit w (version_of w) (version-is limit w)
+  above-good (Some M) None (Some p) =
+      let w = made (Some M) None (Some p) x y in past-good limit w (version_of w) (version-is limit w)
   above-good None b c = let w = made None b c x y in past-good limit w (version_of w) (version-is limit w)
 
   below-good : Rows (compare below q)
   below-good (Some M) (Some m) None =
       before-good limit (made (Some M) (Some m) None x y) (lowest M m 0) (λ f. lowest-is (limit + 1) M m 0 (omega (arith, f.major)) (omega (arith, f.minor)) (omega arith))
-  below-good (Some M) (Some m) (Some p) = let w = made (Some M) (Some m) (Some p) x y in before-good limit w (version_of w) (version-is limit w)
+  below-good (Some M) (Some m) (Some p) =
+      let w = made (Some M) (Some m) (Some p) x y in before-good limit w (version_of w) (version-is limit w)
   below-good (Some M) None c = let w = made (Some M) None c x y in before-good limit w (version_of w) (version-is limit w)
   below-good None b c = let w = made None b c x y in before-good limit w (version_of w) (version-is limit w)
 
@@ -150,7 +153,8 @@ module _ (limit : ℕ) (q : Partial) (x y : List Id) where
   plain-good None b c = from-good limit (made None b c x y) (release_value 0 0 0) (λ f. release-is (limit + 1) 0 0 0 (omega arith) (omega arith) (omega arith))
   plain-good (Some M) None c = major-good M c
   plain-good (Some M) (Some m) None = minor-good M m
-  plain-good (Some M) (Some m) (Some p) = let w = made (Some M) (Some m) (Some p) x y in exact-good limit w (version_of w) (version-is limit w)
+  plain-good (Some M) (Some m) (Some p) =
+      let w = made (Some M) (Some m) (Some p) x y in exact-good limit w (version_of w) (version-is limit w)
 
   tilde-good : (greater : Bool) → Rows (tilde greater q)
   tilde-good greater (Some M) None c = major-good M c

@@ -18,7 +18,7 @@ use Rattle.nodejs_semver.proofs.Choice.Next.{next_patch_above, next_pre_above, r
 use Rattle.semver_core.specs.Cuts.{Span, Cut, Side, Start, Beside, End, Near, Far, is_past, holds, lower_cut, upper_cut}
 use Rattle.semver_core.specs.declared.cuts.bound.Bound.{Bound}
 use Rattle.semver_core.specs.declared.cuts.bound.Bound.TheVariants.{Unbounded, Before, After}
-use Rattle.nodejs_semver.specs.Internal.Candidates.{has_build, bare, bare_release, after_cut, release_after, firsts, list_marks, removed_marks, candidates, among, improves, better, least_of, is_reached}
+use Rattle.nodejs_semver.specs.Internal.Candidates.{patch_after, pre_after, has_build, bare, bare_release, after_cut, release_after, firsts, list_marks, removed_marks, candidates, among, improves, better, least_of, is_reached}
 use Rattle.semver_core.specs.Internal.OrderLaws.{precedence_total}
 use Rattle.semver_core.specs.Lists.{is_empty}
 use Rattle.nodejs_semver.specs.Ranges.Gate.{lets_in, accepts}
@@ -147,18 +147,12 @@ IsBare v = v.build ≡ []
 
 firsts_bare : (g : Cut VersionValue) → All IsBare (firsts g)
 firsts_bare Start = All-from_recursion IsBare (firsts Start) (refl, tt)
-firsts_bare (Beside w s) =
-    cond_both (is_release w) (release_after w s ∷ []) (after_cut w s ∷ bare_release w ∷ []) (All IsBare)
-    (λ _. All-from_recursion IsBare (release_after w s ∷ []) (by_release s, tt))
-    (λ _. All-from_recursion IsBare (after_cut w s ∷ bare_release w ∷ []) (by_pre s, (refl, tt)))
-  where
-    by_release : (s : Side) → IsBare (release_after w s)
-    by_release Near = refl
-    by_release Far = refl
-
-    by_pre : (s : Side) → IsBare (after_cut w s)
-    by_pre Near = refl
-    by_pre Far = refl
+firsts_bare (Beside w Near) = cond_both (is_release w) (bare w ∷ []) (bare w ∷ bare_release w ∷ []) (All IsBare)
+    (λ _. All-from_recursion IsBare (bare w ∷ []) (refl, tt))
+    (λ _. All-from_recursion IsBare (bare w ∷ bare_release w ∷ []) (refl, (refl, tt)))
+firsts_bare (Beside w Far) = cond_both (is_release w) (patch_after w ∷ []) (pre_after w ∷ bare_release w ∷ []) (All IsBare)
+    (λ _. All-from_recursion IsBare (patch_after w ∷ []) (refl, tt))
+    (λ _. All-from_recursion IsBare (pre_after w ∷ bare_release w ∷ []) (refl, (refl, tt)))
 firsts_bare End = All-nil IsBare
 
 all_bare : (ds : List (Cut VersionValue)) → All IsBare (flat_map firsts ds)

@@ -36,54 +36,38 @@ bound below v = record { lower = Unbounded; upper = Before v }
 bound at_most v = record { lower = Unbounded; upper = After v }
 bound equal v = record { lower = Before v; upper = After v }
 
--- such a comparator, with its sign
-record Printed (limit : ℕ) (c : Comparator) (sign : List ℕ) : Type 0 where
-  is : IsSign c sign
-  bounds : (v : VersionValue) → table limit (compare c (whole v)) ≡ Some (bound c v)
-
-printed-at_least : (limit : ℕ) → Printed limit at_least (62 ∷ 61 ∷ [])
-unfolding table
-printed-at_least limit = record { is = at_least_sign; bounds = λ v. refl }
-
-printed-above : (limit : ℕ) → Printed limit above (62 ∷ [])
-unfolding table
-printed-above limit = record { is = above_sign; bounds = λ v. refl }
-
-printed-below : (limit : ℕ) → Printed limit below (60 ∷ [])
-unfolding table
-printed-below limit = record { is = below_sign; bounds = λ v. refl }
-
-printed-at_most : (limit : ℕ) → Printed limit at_most (60 ∷ 61 ∷ [])
-unfolding table
-printed-at_most limit = record { is = at_most_sign; bounds = λ v. refl }
-
 alone : (limit : ℕ) (v : VersionValue) → limit < 2 ^ 64 → IsReadable limit v → Tidy limit (version_text v) (record { lower = Before v; upper = After v })
 unfolding table
 alone limit v small h = plain-tidy limit (version_text v) (whole v) _ (components_are limit v small h) refl
 
-one : (limit : ℕ) (c : Comparator) (sign : List ℕ) (v : VersionValue) → Printed limit c sign → limit < 2 ^ 64 → IsReadable limit v → Tidy limit (sign ++ version_text v) (bound c v)
-one limit c sign v p small h = compared-tidy limit c sign (version_text v) (whole v) (bound c v) p.is (components_are limit v small h) (p.bounds v)
+one : (limit : ℕ) (c : Comparator) (sign : List ℕ) (v : VersionValue) → IsSign c sign
+    → table limit (compare c (whole v)) ≡ Some (bound c v) → limit < 2 ^ 64 → IsReadable limit v
+    → Tidy limit (sign ++ version_text v) (bound c v)
+one limit c sign v is e small h = compared-tidy limit c sign (version_text v) (whole v) (bound c v) is (components_are limit v small h) e
 
-two : (limit : ℕ) (c d : Comparator) (sign sign' : List ℕ) (v w : VersionValue) (s : Span VersionValue) → Printed limit c sign → Printed limit d sign' → limit < 2 ^ 64
-    → IsReadable limit v → IsReadable limit w → meet precedence (bound c v) (bound d w) ≡ Some s → Tidy limit ((sign ++ version_text v) ++ 32 ∷ (sign' ++ version_text w)) s
-two limit c d sign sign' v w s p q small h k m =
+two : (limit : ℕ) (c d : Comparator) (sign sign' : List ℕ) (v w : VersionValue) (s : Span VersionValue) → IsSign c sign
+    → IsSign d sign' → table limit (compare c (whole v)) ≡ Some (bound c v) → table limit (compare d (whole w)) ≡ Some (bound d w)
+    → limit < 2 ^ 64 → IsReadable limit v → IsReadable limit w → meet precedence (bound c v) (bound d w) ≡ Some s
+    → Tidy limit ((sign ++ version_text v) ++ 32 ∷ (sign' ++ version_text w)) s
+two limit c d sign sign' v w s is is' e f small h k m =
     two-tidy limit c d sign sign' (version_text v) (version_text w) (whole v) (whole w) (bound c v) (bound d w) s
-    p.is (components_are limit v small h) q.is (components_are limit w small k) (p.bounds v) (q.bounds w) m
+    is (components_are limit v small h) is' (components_are limit w small k) e f m
 
 pub bounds_tidy : (limit : ℕ) (lower upper : Bound VersionValue) → limit < 2 ^ 64 → is_interval precedence (record { lower = lower; upper = upper }) ≡ true
     → (is_bounded lower || is_bounded upper) ≡ true → IsReadableBound limit lower → IsReadableBound limit upper
     → Tidy limit (bounds_text lower upper) (bounds_back lower upper)
+unfolding table
 bounds_tidy limit Unbounded Unbounded small p b h k = cc b
-bounds_tidy limit Unbounded (Before w) small p b h k = one limit below (60 ∷ []) w (printed-below limit) small k
-bounds_tidy limit Unbounded (After w) small p b h k = one limit at_most (60 ∷ 61 ∷ []) w (printed-at_most limit) small k
-bounds_tidy limit (Before v) Unbounded small p b h k = one limit at_least (62 ∷ 61 ∷ []) v (printed-at_least limit) small h
+bounds_tidy limit Unbounded (Before w) small p b h k = one limit below (60 ∷ []) w below_sign refl small k
+bounds_tidy limit Unbounded (After w) small p b h k = one limit at_most (60 ∷ 61 ∷ []) w at_most_sign refl small k
+bounds_tidy limit (Before v) Unbounded small p b h k = one limit at_least (62 ∷ 61 ∷ []) v at_least_sign refl small h
 bounds_tidy limit (Before v) (Before w) small p b h k =
-    two limit at_least below (62 ∷ 61 ∷ []) (60 ∷ []) v w _ (printed-at_least limit) (printed-below limit) small h k (rw p refl)
+    two limit at_least below (62 ∷ 61 ∷ []) (60 ∷ []) v w _ at_least_sign below_sign refl refl small h k (rw p refl)
 bounds_tidy limit (Before v) (After w) small p b h k = elim (cases_Bool (version_eq v w)) [
   | inl same ↦ rw same (alone limit v small h)
-  | inr other ↦ rw other (two limit at_least at_most (62 ∷ 61 ∷ []) (60 ∷ 61 ∷ []) v w _ (printed-at_least limit) (printed-at_most limit) small h k (rw p refl))
+  | inr other ↦ rw other (two limit at_least at_most (62 ∷ 61 ∷ []) (60 ∷ 61 ∷ []) v w _ at_least_sign at_most_sign refl refl small h k (rw p refl))
 ]
-bounds_tidy limit (After v) Unbounded small p b h k = one limit above (62 ∷ []) v (printed-above limit) small h
-bounds_tidy limit (After v) (Before w) small p b h k = two limit above below (62 ∷ []) (60 ∷ []) v w _ (printed-above limit) (printed-below limit) small h k (rw p refl)
+bounds_tidy limit (After v) Unbounded small p b h k = one limit above (62 ∷ []) v above_sign refl small h
+bounds_tidy limit (After v) (Before w) small p b h k = two limit above below (62 ∷ []) (60 ∷ []) v w _ above_sign below_sign refl refl small h k (rw p refl)
 bounds_tidy limit (After v) (After w) small p b h k =
-    two limit above at_most (62 ∷ []) (60 ∷ 61 ∷ []) v w _ (printed-above limit) (printed-at_most limit) small h k (rw p refl)
+    two limit above at_most (62 ∷ []) (60 ∷ 61 ∷ []) v w _ above_sign at_most_sign refl refl small h k (rw p refl)
