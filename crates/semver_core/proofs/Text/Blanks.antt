@@ -1,14 +1,10 @@
 -- Whitespace, character by character.
-use Rattle.std.proofs.Common.{◌≡◌, ◌≤◌, ◌+◌, ◌-◌, ℕ, true, false, List, [], ◌∷◌, ◌++◌, length, drop, take, refl, sym, ap, ◌∙◌, arith}
-use Rattle.std.proofs.Common.{length-append}
-use Rattle.std.proofs.lemmas.List.{drop_at}
-use Rattle.std.proofs.Common.{append-nil}
-use Rattle.std.proofs.lemmas.Str.{len_utf8_bounds}
+use Rattle.std.proofs.Common.{◌≡◌, ◌≤◌, ◌+◌, ◌-◌, ℕ, true, false, List, [], ◌∷◌, ◌++◌, length, drop, take, refl, sym, ap, ◌∙◌, arith, length-append, append-nil}
+use Rattle.std.proofs.lemmas.List.{drop_at, drop-drop, length-drop, take_at}
+use Rattle.std.proofs.lemmas.Str.{len_utf8_bounds, IsCharBoundary-past_char, IsUtf8-drop, encode_same, encodes-append, length-encode}
 use mathlib.Core.Bool.{true≢false}
 use Rattle.std.proofs.Math.Seq.{take-add}
-use Rattle.std.proofs.lemmas.List.{drop-drop, length-drop, take_at}
 use Rattle.std.proofs.lemmas.List.Folds.{list_all-append}
-use Rattle.std.proofs.lemmas.Str.{IsCharBoundary-past_char, IsUtf8-drop, encode_same, encodes-append, length-encode}
 use Rattle.std.specs.Char.{len_utf8, encode_utf8}
 use Rattle.std.specs.List.{list_all}
 use Rattle.std.specs.Prelude.{encode_utf8_all, IsCharBoundary, IsUtf8, slice_range}

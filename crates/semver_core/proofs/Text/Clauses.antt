@@ -1,17 +1,15 @@
 -- The clauses of the calls that read a piece, from what they compute.
-use Rattle.std.proofs.Common.{◌≡◌, ℕ, List, Option, Some, None, sym}
-use Rattle.std.proofs.Common.{Result, Ok, Err}
+use Rattle.std.proofs.Common.{◌≡◌, ℕ, List, Option, Some, None, sym, Result, Ok, Err}
 use Rattle.std.specs.Result.{IfOk}
 use Rattle.std.specs.Prelude.{Vec}
 use Rattle.std.specs.declared.alloc.Global.{Global}
 use Rattle.semver_core.specs.Values.Views.{ids_view}
-use Rattle.semver_core.specs.Internal.Reading.{list_view}
+use Rattle.semver_core.specs.Internal.Reading.{list_view, number_at, list_at}
 use Rattle.semver_core.specs.declared.identifier.Identifier.{Identifier}
 use Rattle.std.specs.Option.{IfSome, IfNone}
 use Rattle.semver_core.specs.Text.Characters.{IsPieceAt, NoPieceAt}
 use Rattle.semver_core.specs.Text.Identifiers.{Id, IsLongestIdentifiers}
 use Rattle.semver_core.specs.Text.Numbers.{IsWholeNumber}
-use Rattle.semver_core.specs.Internal.Reading.{number_at, list_at}
 use Rattle.semver_core.proofs.Text.Pieces.{number_sound, number_complete, list_sound, list_complete}
 
 pub number_found : (limit : ℕ) (text : List ℕ) (at : ℕ) (r : Option (ℕ × ℕ)) → r ≡ number_at limit text at

@@ -1,12 +1,11 @@
 -- What a loop over digits reads, step by step.
-use Rattle.std.proofs.Common.{◌≡◌, ◌<◌, ◌≤◌, ◌+◌, ◌-◌, ◌*◌, ℕ, true, false, List, length, drop, get_or, refl, arith, add-one, Some, None, ltb}
+use Rattle.std.proofs.Common.{◌≡◌, ◌<◌, ◌≤◌, ◌+◌, ◌-◌, ◌*◌, ℕ, true, false, List, length, drop, get_or, refl, arith, add-one, Some, None, ltb, ◌==◌, if◌then◌else◌}
 use Rattle.std.proofs.Math.Seq.{drop-cons}
 use Rattle.std.proofs.lemmas.Bool.Decides.{nat_tests}
 use Rattle.std.proofs.lemmas.Str.{digit_value_digit}
 use Rattle.std.specs.Int.{IsInRange}
 use Rattle.std.specs.Char.{is_ascii_digit, digit_value}
 use Rattle.semver_core.specs.Internal.Reading.{digits_from, digits_end, placed}
-use Rattle.std.proofs.Common.{◌==◌, if◌then◌else◌}
 use Rattle.std.proofs.lemmas.List.{drop_all}
 
 pub in_range : (c : ℕ) → is_ascii_digit c ≡ true → IsInRange 48 57 c

@@ -3,17 +3,15 @@ use Rattle.std.proofs.Common.{◌≡◌, ℕ, ◌<◌, ◌≤◌, ◌+◌, ◌-�
 use Rattle.std.proofs.Math.Seq.{drop-cons}
 use Rattle.std.proofs.lemmas.List.{drop_all}
 use Rattle.std.specs.List.{list_all}
-use Rattle.std.specs.Prelude.{map}
+use Rattle.std.specs.Prelude.{map, Result, Ok, Err, IfErr}
 use Rattle.semver_core.specs.Text.Characters.{begins, is_identifier_char}
 use Rattle.semver_core.specs.Text.Identifiers.{goes_on, identifier_of, is_identifier, is_listed, listed, pieces}
-use Rattle.semver_core.specs.Internal.Reading.{list_from, list_len}
+use Rattle.semver_core.specs.Internal.Reading.{list_from, list_len, qualified, triple_at}
 use Rattle.semver_core.proofs.Text.Pieces.{begins_taken, begun_runs, taken_runs}
 use Rattle.semver_core.proofs.Text.Runs.{list_len_stop}
-use Rattle.std.specs.Prelude.{Result, Ok, Err, IfErr}
 use Rattle.semver_core.specs.Text.Parsing.{IsRefused, Parses}
 use Rattle.semver_core.specs.Text.VersionText.{HasNoVersion}
 use Rattle.semver_core.specs.Internal.CommonReading.{small_len}
-use Rattle.semver_core.specs.Internal.Reading.{qualified, triple_at}
 use Rattle.semver_core.specs.Values.Versions.{VersionValue, release_value}
 use Rattle.semver_core.specs.declared.TheConstants.{MAX_LENGTH}
 use Rattle.semver_core.proofs.Text.Whole.{front_read, release_read}

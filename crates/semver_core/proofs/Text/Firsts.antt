@@ -1,6 +1,6 @@
 -- A text that spells a list of identifiers spells the first one and then the others.
 use Rattle.std.proofs.Common.{◌≡◌, ℕ, ◌<◌, ◌≤◌, ◌+◌, List, [], ◌∷◌, length, drop, take, refl, sym, ap, ◌∙◌, arith, true, false, inl, inr, add-one, add_comm, zero-add, Option, Some}
-use Rattle.std.specs.Prelude.{◌==◌, eqb}
+use Rattle.std.specs.Prelude.{◌==◌, eqb, map}
 use Rattle.semver_core.specs.Lists.{is_empty}
 use Rattle.std.specs.Cmp.Lexicographic.{slice_cmp}
 use Rattle.std.specs.declared.cmp.Ordering.TheVariants.{Less, Equal, Greater}
@@ -9,7 +9,6 @@ use Rattle.semver_core.proofs.Text.Listed.{listed_none, listed_some}
 use Rattle.std.proofs.lemmas.Bool.Decides.{nat_tests}
 use Rattle.std.proofs.lemmas.Bool.{cases_Bool, eqb-true}
 use Rattle.std.specs.List.{list_all, onto_first}
-use Rattle.std.specs.Prelude.{map}
 use Rattle.semver_core.specs.Text.Identifiers.{Id, identifier_of, is_identifier, is_listed, listed, pieces}
 use Rattle.std.proofs.lemmas.List.{drop-drop}
 use Rattle.semver_core.specs.Internal.CommonReading.{number_of_run, run_from, run_len}

@@ -1,8 +1,7 @@
 -- Places in a text.
-use Rattle.std.proofs.Common.{◌≡◌, ◌<◌, ℕ, Bool, true, List, length, drop, refl, inl, inr}
+use Rattle.std.proofs.Common.{◌≡◌, ◌<◌, ℕ, Bool, true, List, length, drop, refl, inl, inr, Some}
 use Rattle.std.proofs.lemmas.Bool.{cases_lt}
 use Rattle.std.proofs.lemmas.List.{drop_all}
-use Rattle.std.proofs.Common.{Some}
 use Rattle.semver_core.specs.Internal.Reading.{triple_at, version_at, qualified}
 use Rattle.semver_core.specs.Text.Characters.{begins}
 

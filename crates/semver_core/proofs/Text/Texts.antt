@@ -1,25 +1,21 @@
 -- A version is read exactly where the grammar has it.
-use Rattle.std.proofs.Common.{◌≡◌, ◌==◌, ◌<◌, ◌+◌, ℕ, Bool, true, false, List, [], ◌∷◌, ◌++◌, length, drop, take, Option, Some, None, refl, sym, ap, ◌∙◌, subst, arith, inl, inr, eqb, cond, append_assoc, add-zero}
+use Rattle.std.proofs.Common.{◌≡◌, ◌==◌, ◌<◌, ◌+◌, ℕ, Bool, true, false, List, [], ◌∷◌, ◌++◌, length, drop, take, Option, Some, None, refl, sym, ap, ◌∙◌, subst, arith, inl, inr, eqb, cond, append_assoc, add-zero, ◌||◌, ◌-◌}
 use Rattle.std.proofs.lemmas.Bool.{cases_Bool, eqb-true}
-use Rattle.semver_core.specs.Text.Characters.{begins, is_identifier_char, IsBlank}
-use Rattle.semver_core.specs.Text.VersionText.{HasNoVersion, HasVersionWithIdentifiers, IsMark, IsPreRelease, IsBuild, Reads, begins_pre_release, begins_build}
-use Rattle.semver_core.specs.Text.VersionText.{dashed, bare, no_pre_release, plus, no_build, no_mark, small_mark, capital_mark}
+use Rattle.semver_core.specs.Text.Characters.{begins, is_identifier_char, IsBlank, is_whitespace, BeginsBlank, IsAfterBlank, IsPieceAt}
+use Rattle.semver_core.specs.Text.VersionText.{HasNoVersion, HasVersionWithIdentifiers, IsMark, IsPreRelease, IsBuild, Reads, begins_pre_release, begins_build, dashed, bare, no_pre_release, plus, no_build, no_mark, small_mark, capital_mark}
 use borrow.Author.Tests.{eq-eqb}
 use Rattle.std.specs.Option.{IsSomeAnd, IfSome, IfNone}
 use Rattle.std.specs.Cmp.{first_so, second_so}
 use Rattle.std.specs.List.{list_all}
 use Rattle.std.specs.Char.{encode_utf8, is_ascii_digit}
-use Rattle.std.specs.Prelude.{encode_utf8_all}
+use Rattle.std.specs.Prelude.{encode_utf8_all, IsUtf8, IsCharBoundary, slice_range}
 use Rattle.std.proofs.lemmas.Str.{encode_same, char_from_byte, IsCharBoundary-start, IsCharBoundary-after_ascii}
 use Rattle.std.proofs.lemmas.Bool.Decides.{nat_tests}
-use Rattle.std.proofs.Common.{◌||◌, ◌-◌}
-use Rattle.std.proofs.lemmas.List.{drop-drop, take-append-drop}
-use Rattle.std.specs.Prelude.{IsUtf8, IsCharBoundary, slice_range}
-use Rattle.semver_core.specs.Text.Characters.{is_whitespace, BeginsBlank, IsAfterBlank}
-use Rattle.semver_core.specs.Text.Identifiers.{Id}
+use Rattle.std.proofs.lemmas.List.{take-append-drop}
+use Rattle.std.proofs.lemmas.List.Folds.{drop_split}
+use Rattle.semver_core.specs.Text.Identifiers.{Id, IsLongestIdentifiers}
 use Rattle.semver_core.specs.Text.Numbers.{IsNumber, IsWholeNumber}
-use Rattle.semver_core.specs.Internal.Reading.{◌>>?◌, list_of, list_len, number_at, list_at, part_at, past, triple_at, or_nothing, pre_release_at, build_at, qualified, version_at, mark_len}
-use Rattle.semver_core.specs.Internal.Reading.{HasOneReading}
+use Rattle.semver_core.specs.Internal.Reading.{◌>>?◌, list_of, list_len, number_at, list_at, part_at, past, triple_at, or_nothing, pre_release_at, build_at, qualified, version_at, mark_len, HasOneReading}
 use Rattle.semver_core.specs.Values.Versions.{VersionValue, HasIdentifiers}
 use Rattle.semver_core.proofs.Text.Pieces.{some_inside, rest_at, number_sound, number_complete, list_sound, list_complete, list_none, runs_begin}
 use Rattle.semver_core.proofs.Text.Runs.{drop_next}
@@ -32,13 +28,16 @@ past_front : (c : ℕ) (t : List ℕ) → begins (λ b. b == c) t ≡ true → (
 past_front c [] h = cc
 past_front c (b ∷ rest) h = (rest, ap (λ x. x ∷ rest) (eqb-true b c h))
 
+-- the text behind a character that stands at a place
+marked : (c : ℕ) (text : List ℕ) (at : ℕ) → begins (λ b. b == c) (drop at text) ≡ true → drop at text ≡ c ∷ drop (at + 1) text
+marked c text at h =
+    let front = past_front c (drop at text) h in
+    front.1 ∙ ap (λ l. c ∷ l) (sym (drop_next at text front.0 c front.1))
+
 past_sound : (c : ℕ) (text : List ℕ) (at next : ℕ) → past c text at ≡ Some next → drop at text ≡ c ∷ drop next text
 past_sound c text at next e = elim (cases_Bool (begins (λ b. b == c) (drop at text))) [
   | inr none ↦ cc (rw none at e)
-  | inl here ↦
-      let front = past_front c (drop at text) here in
-      let is : at + 1 ≡ next = some_inside (at + 1) next (rw here at e) in
-      front.1 ∙ ap (λ l. c ∷ l) (sym (rw (← is) (drop_next at text front.0 c front.1)))
+  | inl here ↦ rw (← some_inside (at + 1) next (rw here at e)) (marked c text at here)
 ]
 
 past_complete : (c : ℕ) (text : List ℕ) (at : ℕ) (rest : List ℕ) → drop at text ≡ c ∷ rest → (past c text at ≡ Some (at + 1)) × (drop (at + 1) text ≡ rest)
@@ -47,15 +46,13 @@ past_complete c text at rest e =
     (rw (e, same) refl, drop_next at text rest c e)
 
 -- a number and the dot behind it
-part_sound : (limit : ℕ) (text : List ℕ) (at n next : ℕ) → part_at limit text at ≡ Some (n, next)
-    → (digits : List ℕ) × (drop at text ≡ digits ++ 46 ∷ drop next text) × IsNumber limit digits n
-part_sound limit text at n next e =
-    let found = bind_some (number_at limit text at) _ (n, next) e in
-    let dot = bind_some (past 46 text found.0.1) _ (n, next) found.2 in
+part_sound : (limit : ℕ) (text : List ℕ) (at : ℕ) (q : ℕ × ℕ) → part_at limit text at ≡ Some q
+    → (digits : List ℕ) × (drop at text ≡ digits ++ 46 ∷ drop q.1 text) × IsNumber limit digits q.0
+part_sound limit text at q e =
+    let found = bind_some (number_at limit text at) _ q e in
+    let dot = bind_some (past 46 text found.0.1) _ q found.2 in
     let s = number_sound limit text at found.0.0 found.0.1 found.1 in
-    let same = some_inside (found.0.0, dot.0) (n, next) dot.2 in
-    let P : (ℕ × ℕ) → Type 0 = λ q. (digits : List ℕ) × (drop at text ≡ digits ++ 46 ∷ drop q.1 text) × IsNumber limit digits q.0 in
-    subst P same (s.0, s.1 ∙ ap (λ t. s.0 ++ t) (past_sound 46 text found.0.1 dot.0 dot.1), s.2.number)
+    rw (← some_inside _ q dot.2) (s.0, s.1 ∙ ap (λ t. s.0 ++ t) (past_sound 46 text found.0.1 dot.0 dot.1), s.2.number)
 
 part_complete : (limit : ℕ) (text : List ℕ) (at n : ℕ) (digits rest : List ℕ) → drop at text ≡ digits ++ 46 ∷ rest → IsNumber limit digits n
     → (part_at limit text at ≡ Some (n, at + length digits + 1)) × (drop (at + length digits + 1) text ≡ rest)
@@ -78,11 +75,10 @@ triple_sound limit text at t e =
     let a = bind_some (part_at limit text at) _ t e in
     let b = bind_some (part_at limit text a.0.1) _ t a.2 in
     let c = bind_some (number_at limit text b.0.1) _ t b.2 in
-    let major = part_sound limit text at a.0.0 a.0.1 a.1 in
-    let minor = part_sound limit text a.0.1 b.0.0 b.0.1 b.1 in
+    let major = part_sound limit text at a.0 a.1 in
+    let minor = part_sound limit text a.0.1 b.0 b.1 in
     let patch = number_sound limit text b.0.1 c.0.0 c.0.1 c.1 in
-    let P : (ℕ × ℕ × ℕ × ℕ) → Type 0 = λ q. Triple limit text at q.0 q.1 q.2 q.3 in
-    subst P (some_inside (a.0.0, b.0.0, c.0.0, c.0.1) t c.2) (record {
+    rw (← some_inside _ t c.2) (record {
       major = major.0;
       minor = minor.0;
       patch = patch.0;
@@ -105,84 +101,48 @@ no_front : (c : ℕ) (s r : List ℕ) → begins (λ b. b == c) (s ++ r) ≡ fal
 no_front c [] r h = refl
 no_front c (b ∷ s) r h = h
 
-pub pick : (b x y : Bool) → b ≡ false → y ≡ false → cond b x y ≡ false
-pick true x y h k = cc
-pick false x y h k = k
-
-pick_else : (b x y : Bool) → b ≡ false → cond b x y ≡ false → y ≡ false
-pick_else true x y h k = cc
-pick_else false x y h k = k
-
 no_pre : (t : List ℕ) → begins (λ b. b == 45) t ≡ false → begins is_identifier_char t ≡ false → begins_pre_release t ≡ false
 no_pre [] h k = refl
-no_pre (c ∷ rest) h k = pick (eqb c 45) (begins is_identifier_char rest) (is_identifier_char c) h k
+no_pre (c ∷ rest) h k = rw h (rw h at k)
 
--- the list at a place, by whether one begins there
-list_some : (text : List ℕ) (at : ℕ) → begins is_identifier_char (drop at text) ≡ true → (found : List Id × ℕ) × (list_at text at ≡ Some found)
-list_some text at h = ((list_of (drop at text), at + list_len (drop at text)), rw h refl)
+-- a list at a place, or none: what is said of either holds of what is found
+list_or_none : (text : List ℕ) (at start : ℕ) (lead : List ℕ) (Is : List ℕ → List ℕ → List Id → Type 0) → drop at text ≡ lead ++ drop start text
+    → ((s r : List ℕ) (ids : List Id) → drop start text ≡ s ++ r → IsLongestIdentifiers s r ids → Is (lead ++ s) r ids)
+    → (begins is_identifier_char (drop start text) ≡ false → Is [] (drop at text) [])
+    → let found = or_nothing at (list_at text start) in IsPieceAt (λ piece rest. Is piece rest found.0) text at found.1
+list_or_none text at start lead Is e some none = elim (cases_Bool (begins is_identifier_char (drop start text))) [
+  | inr stop ↦ rw (list_none text start stop) (record { piece = []; divided = refl; is = none stop })
+  | inl here ↦
+      let l = list_sound text start (list_of (drop start text)) (start + list_len (drop start text)) (rw here refl) in
+      rw here (record { piece = lead ++ l.1.0; divided = e ∙ ap (λ t. lead ++ t) l.1.1 ∙ sym (append_assoc lead l.1.0 _); is = some l.1.0 _ _ l.1.1 l.1.2 })
+]
 
-record Qualifier (text : List ℕ) (at end : ℕ) (Is : List ℕ → List ℕ → Type 0) : Type 0 where
-  piece : List ℕ
-  divided : drop at text ≡ piece ++ drop end text
-  piece_is : Is piece (drop end text)
-
-pre_sound : (text : List ℕ) (at : ℕ) → Qualifier text at (pre_release_at text at).1 (λ piece rest. IsPreRelease piece rest (pre_release_at text at).0)
+pre_sound : (text : List ℕ) (at : ℕ) → IsPieceAt (λ piece rest. IsPreRelease piece rest (pre_release_at text at).0) text at (pre_release_at text at).1
 pre_sound text at = elim (cases_Bool (begins (λ b. b == 45) (drop at text))) [
   | inl dash ↦
-      let front = past_front 45 (drop at text) dash in
-      let next : drop (at + 1) text ≡ front.0 = drop_next at text front.0 45 front.1 in
-      elim (cases_Bool (begins is_identifier_char (drop (at + 1) text))) [
-        | inl some ↦
-            let found = list_some text (at + 1) some in
-            let l = list_sound text (at + 1) found.0.0 found.0.1 found.1 in
-            let is : pre_release_at text at ≡ found.0 = rw (dash, found.1) refl in
-            rw is (record { piece = 45 ∷ l.1.0; divided = front.1 ∙ ap (λ t. 45 ∷ t) (sym next ∙ l.1.1); piece_is = dashed l.1.0 (drop found.0.1 text) found.0.0 l.1.2 })
-        | inr none ↦
-            let is : pre_release_at text at ≡ ([], at) = rw (dash, list_none text (at + 1) none) refl in
-            rw is (record { piece = []; divided = refl; piece_is = no_pre_release (drop at text) (rw (front.1, ← next) none) })
-      ]
-  | inr plain ↦ elim (cases_Bool (begins is_identifier_char (drop at text))) [
-    | inl some ↦
-        let found = list_some text at some in
-        let l = list_sound text at found.0.0 found.0.1 found.1 in
-        let is : pre_release_at text at ≡ found.0 = rw (plain, found.1) refl in
-        rw is (record { piece = l.1.0; divided = l.1.1; piece_is = bare l.1.0 (drop found.0.1 text) found.0.0 l.1.2 (no_front 45 l.1.0 (drop found.0.1 text) (rw l.1.1 at plain)) })
-    | inr none ↦
-        let is : pre_release_at text at ≡ ([], at) = rw (plain, list_none text at none) refl in
-        rw is (record { piece = []; divided = refl; piece_is = no_pre_release (drop at text) (no_pre (drop at text) plain none) })
-  ]
+      let front = marked 45 text at dash in
+      rw dash (list_or_none text at (at + 1) (45 ∷ []) IsPreRelease front (λ s r ids e l. dashed s r ids l) (λ none. no_pre_release (drop at text) (rw front none)))
+  | inr plain ↦
+      rw plain (list_or_none text at at [] IsPreRelease refl
+      (λ s r ids e l. bare s r ids l (no_front 45 s r (rw e at plain))) (λ none. no_pre_release (drop at text) (no_pre (drop at text) plain none)))
 ]
 
 no_plus : (t : List ℕ) → begins (λ b. b == 43) t ≡ false → begins_build t ≡ false
 no_plus [] h = refl
-no_plus (c ∷ rest) h = pick (eqb c 43) (begins is_identifier_char rest) false h refl
-
-pre_at_dash : (text : List ℕ) (at : ℕ) → begins (λ b. b == 45) (drop at text) ≡ true → pre_release_at text at ≡ or_nothing at (list_at text (at + 1))
-pre_at_dash text at h = rw h refl
-
-pre_at_plain : (text : List ℕ) (at : ℕ) → begins (λ b. b == 45) (drop at text) ≡ false → pre_release_at text at ≡ or_nothing at (list_at text at)
-pre_at_plain text at h = rw h refl
+no_plus (c ∷ rest) h = rw h refl
 
 -- nothing stands there
 pub none_pre : (text : List ℕ) (at : ℕ) (r : List ℕ) → drop at text ≡ r → begins_pre_release r ≡ false → pre_release_at text at ≡ ([], at)
-none_pre text at [] e none = pre_at_plain text at (rw e refl) ∙ ap (or_nothing at) (list_none text at (rw e refl))
+none_pre text at [] e none = rw (e, list_none text at (rw e refl)) refl
 none_pre text at (c ∷ r) e none = elim (cases_Bool (eqb c 45)) [
-  | inl dash ↦
-      let next : drop (at + 1) text ≡ r = drop_next at text r c e in
-      let stop : begins is_identifier_char (drop (at + 1) text) ≡ false = rw next (rw dash at none) in
-      pre_at_dash text at (rw e dash) ∙ ap (or_nothing at) (list_none text (at + 1) stop)
-  | inr plain ↦
-      let stop : begins is_identifier_char (drop at text) ≡ false = rw e (pick_else (eqb c 45) (begins is_identifier_char r) (is_identifier_char c) plain none) in
-      pre_at_plain text at (rw e plain) ∙ ap (or_nothing at) (list_none text at stop)
+  | inl dash ↦ rw (e, dash, list_none text (at + 1) (rw (drop_next at text r c e) (rw dash at none))) refl
+  | inr plain ↦ rw (e, plain, list_none text at (rw (e, plain) (rw plain at none))) refl
 ]
 
 pub none_build : (text : List ℕ) (at : ℕ) (r : List ℕ) → drop at text ≡ r → begins_build r ≡ false → build_at text at ≡ ([], at)
 none_build text at [] e none = rw e refl
 none_build text at (c ∷ r) e none = elim (cases_Bool (eqb c 43)) [
-  | inl mark ↦
-      let next : drop (at + 1) text ≡ r = drop_next at text r c e in
-      let stop : begins is_identifier_char (drop (at + 1) text) ≡ false = rw next (rw mark at none) in
-      rw (e, mark, list_none text (at + 1) stop) refl
+  | inl mark ↦ rw (e, mark, list_none text (at + 1) (rw (drop_next at text r c e) (rw mark at none))) refl
   | inr plain ↦ rw (e, plain) refl
 ]
 
@@ -190,24 +150,12 @@ no_dash : (s r : List ℕ) → begins is_identifier_char (s ++ []) ≡ true → 
 no_dash [] r h k = cc
 no_dash (c ∷ s) r h k = k
 
-build_sound : (text : List ℕ) (at : ℕ) → Qualifier text at (build_at text at).1 (λ piece rest. IsBuild piece rest (build_at text at).0)
+build_sound : (text : List ℕ) (at : ℕ) → IsPieceAt (λ piece rest. IsBuild piece rest (build_at text at).0) text at (build_at text at).1
 build_sound text at = elim (cases_Bool (begins (λ b. b == 43) (drop at text))) [
   | inl mark ↦
-      let front = past_front 43 (drop at text) mark in
-      let next : drop (at + 1) text ≡ front.0 = drop_next at text front.0 43 front.1 in
-      elim (cases_Bool (begins is_identifier_char (drop (at + 1) text))) [
-        | inl some ↦
-            let found = list_some text (at + 1) some in
-            let l = list_sound text (at + 1) found.0.0 found.0.1 found.1 in
-            let is : build_at text at ≡ found.0 = rw (mark, found.1) refl in
-            rw is (record { piece = 43 ∷ l.1.0; divided = front.1 ∙ ap (λ t. 43 ∷ t) (sym next ∙ l.1.1); piece_is = plus l.1.0 (drop found.0.1 text) found.0.0 l.1.2 })
-        | inr none ↦
-            let is : build_at text at ≡ ([], at) = rw (mark, list_none text (at + 1) none) refl in
-            rw is (record { piece = []; divided = refl; piece_is = no_build (drop at text) (rw (front.1, ← next) none) })
-      ]
-  | inr plain ↦
-      let is : build_at text at ≡ ([], at) = rw plain refl in
-      rw is (record { piece = []; divided = refl; piece_is = no_build (drop at text) (no_plus (drop at text) plain) })
+      let front = marked 43 text at mark in
+      rw mark (list_or_none text at (at + 1) (43 ∷ []) IsBuild front (λ s r ids e l. plus s r ids l) (λ none. no_build (drop at text) (rw front none)))
+  | inr plain ↦ rw plain (record { piece = []; divided = refl; is = no_build (drop at text) (no_plus (drop at text) plain) })
 ]
 
 pub pre_complete : (text : List ℕ) (at : ℕ) (piece rest : List ℕ) (ids : List Id) → drop at text ≡ piece ++ rest → IsPreRelease piece rest ids
@@ -231,10 +179,6 @@ build_complete text at piece rest ids e (plus s r l long) =
     let sum : at + 1 + length s ≡ at + length (43 ∷ s) = omega arith in
     (rw (e, found.0, sum) refl, rest_at text at (at + length (43 ∷ s)) (43 ∷ s) r e refl)
 build_complete text at piece rest ids e (no_build r none) = (rw add-zero (none_build text at r e none), rw add-zero e)
-
-qualified_is : (limit : ℕ) (text : List ℕ) (at : ℕ) (v : VersionValue) (end next : ℕ) → triple_at limit text at ≡ Some (v.major, v.minor, v.patch, end)
-    → pre_release_at text end ≡ (v.pre_release, next) → (build_at text next).0 ≡ v.build → version_at limit text at ≡ Some v
-qualified_is limit text at v end next e f g = rw (e, f, g) refl
 
 -- a division of a text, with this mark, this whitespace and this rest
 pub record Division (limit : ℕ) (text mark blank rest : List ℕ) (v : VersionValue) : Type 0 where
@@ -272,8 +216,8 @@ divided_at limit text mark blank at t divided m b e =
         major_is = three.major_is;
         minor_is = three.minor_is;
         patch_is = (let Q : List ℕ → Type 0 = λ r. IsWholeNumber limit three.patch r t.2 in subst Q tail three.patch_is);
-        pre_release_is = (let Q : List ℕ → Type 0 = λ r. IsPreRelease pre.piece r (pre_release_at text t.3).0 in subst Q meta.divided pre.piece_is);
-        build_is = meta.piece_is;
+        pre_release_is = (let Q : List ℕ → Type 0 = λ r. IsPreRelease pre.piece r (pre_release_at text t.3).0 in subst Q meta.divided pre.is);
+        build_is = meta.is;
       };
       mark_is = refl;
       blank_is = refl;
@@ -285,32 +229,29 @@ pub version_sound : (limit : ℕ) (text mark blank : List ℕ) (at : ℕ) (v : V
     → version_at limit text at ≡ Some v → Reads limit text v
 version_sound limit text mark blank at v divided m b e =
     let found = bind_some (triple_at limit text at) _ v e in
-    let P : VersionValue → Type 0 = λ w. Reads limit text w in
-    subst P (some_inside (qualified text found.0) v found.2) (divided_at limit text mark blank at found.0 divided m b found.1).reads
+    rw (← some_inside _ v found.2) (divided_at limit text mark blank at found.0 divided m b found.1).reads
 
--- a version of the text is found where its numbers begin
-pub version_complete : (limit : ℕ) (text : List ℕ) (at : ℕ) (v : VersionValue) (r : Reads limit text v)
-    → drop at text ≡ r.major ++ 46 ∷ (r.minor ++ 46 ∷ (r.patch ++ (r.pre_release ++ (r.build ++ r.rest)))) → version_at limit text at ≡ Some v
-version_complete limit text at v r e =
+-- the numbers, the identifiers and the rest of a version are found where its numbers begin
+pub read_at : (limit : ℕ) (text : List ℕ) (at : ℕ) (v : VersionValue) (r : Reads limit text v)
+    → drop at text ≡ r.major ++ 46 ∷ (r.minor ++ 46 ∷ (r.patch ++ (r.pre_release ++ (r.build ++ r.rest))))
+    → (t : ℕ × ℕ × ℕ × ℕ) × (triple_at limit text at ≡ Some t) × (qualified text t ≡ v) × (rest_of text t ≡ r.rest)
+read_at limit text at v r e =
     let three = triple_complete limit text at v.major v.minor v.patch r.major r.minor r.patch (r.pre_release ++ (r.build ++ r.rest)) e r.major_is r.minor_is r.patch_is in
     let pre = pre_complete text three.0 r.pre_release (r.build ++ r.rest) v.pre_release three.2 r.pre_release_is in
     let meta = build_complete text (three.0 + length r.pre_release) r.build r.rest v.build pre.1 r.build_is in
-    qualified_is limit text at v three.0 (three.0 + length r.pre_release) three.1 pre.0 (ap (λ (q : List Id × ℕ). q.0) meta.0)
+    ((v.major, v.minor, v.patch, three.0), three.1, rw (pre.0, meta.0) refl, rw (pre.0, meta.0) meta.1)
 
 -- ---- the mark and the whitespace
 
-digit_low : (c : ℕ) → is_ascii_digit c ≡ true → c < 128
-digit_low c h = grind (arith, nat_tests)
-
-no_digit_white : (c : ℕ) → is_ascii_digit c ≡ true → is_whitespace c ≡ true → ⊥
-no_digit_white c h k = grind (arith, nat_tests)
+plain_digit : (c : ℕ) → is_ascii_digit c ≡ true → (c < 128) × (is_whitespace c ≡ true → ⊥) × ((eqb c 118 || eqb c 86) ≡ true → ⊥)
+plain_digit c h = (grind (arith, nat_tests), λ white. grind (arith, nat_tests), λ mark. grind (arith, nat_tests))
 
 pub small_digit : (t : List ℕ) → begins is_ascii_digit t ≡ true → BeginsBlank t → ⊥
 small_digit [] h b = cc
 small_digit (c ∷ rest) h b =
-    let low : c < 128 = digit_low c h in
-    let same : b.character ≡ c = char_from_byte (c ∷ rest) b.rest b.character b.spelled low (omega arith) in
-    no_digit_white c h (ap is_whitespace (sym same) ∙ b.passes)
+    let plain = plain_digit c h in
+    let same : b.character ≡ c = char_from_byte (c ∷ rest) b.rest b.character b.spelled plain.0 (omega arith) in
+    plain.1 (ap is_whitespace (sym same) ∙ b.passes)
 
 one_blank : (cs ds D E : List ℕ) → list_all is_whitespace cs ≡ true → list_all is_whitespace ds ≡ true → (BeginsBlank D → ⊥) → (BeginsBlank E → ⊥)
     → encode_utf8_all cs ++ D ≡ encode_utf8_all ds ++ E → D ≡ E
@@ -324,8 +265,8 @@ one_blank (c ∷ cs) (d ∷ ds) D E a b no_d no_e e =
     (sym (append_assoc (encode_utf8 c) (encode_utf8_all cs) D) ∙ e ∙ append_assoc (encode_utf8 d) (encode_utf8_all ds) E) in
     one_blank cs ds D E (second_so (is_whitespace c) (list_all is_whitespace cs) a) (second_so (is_whitespace d) (list_all is_whitespace ds) b) no_d no_e same.1
 
-mark_low : (c : ℕ) → (eqb c 118 || eqb c 86) ≡ true → c < 128
-mark_low c h = grind (arith, nat_tests)
+plain_mark : (c : ℕ) → (eqb c 118 || eqb c 86) ≡ true → (c < 128) × (is_whitespace c ≡ true → ⊥)
+plain_mark c h = (grind (arith, nat_tests), λ white. grind (arith, nat_tests))
 
 -- a text may be cut after the mark
 pub mark_boundary : (text : List ℕ) (n : ℕ) → IsUtf8 text → n ≡ mark_len text → IsCharBoundary text n
@@ -333,8 +274,7 @@ mark_boundary [] n u e = rw e (IsCharBoundary-start [] u)
 mark_boundary (c ∷ rest) n u e = elim (cases_Bool (eqb c 118 || eqb c 86)) [
   | inl mark ↦
       let one : n ≡ 1 = rw mark at e in
-      let low : c < 128 = mark_low c mark in
-      rw one (IsCharBoundary-after_ascii (c ∷ rest) 0 u (omega arith) low)
+      rw one (IsCharBoundary-after_ascii (c ∷ rest) 0 u (omega arith) (plain_mark c mark).0)
   | inr none ↦ rw (rw none at e) (IsCharBoundary-start (c ∷ rest) u)
 ]
 
@@ -348,12 +288,6 @@ mark_is (c ∷ rest) = elim (cases_Bool (eqb c 118)) [
   ]
 ]
 
-pub digit_no_mark : (c : ℕ) → is_ascii_digit c ≡ true → (eqb c 118 || eqb c 86) ≡ true → ⊥
-digit_no_mark c h m = grind (arith, nat_tests)
-
-white_mark : (c : ℕ) → is_whitespace c ≡ true → (eqb c 118 || eqb c 86) ≡ true → ⊥
-white_mark c h m = grind (arith, nat_tests)
-
 pub no_mark_at : (c : ℕ) (t : List ℕ) → ((eqb c 118 || eqb c 86) ≡ true → ⊥) → mark_len (c ∷ t) ≡ 0
 no_mark_at c t never = elim (cases_Bool (eqb c 118 || eqb c 86)) [
   | inl mark ↦ absurd (never mark)
@@ -363,13 +297,13 @@ no_mark_at c t never = elim (cases_Bool (eqb c 118 || eqb c 86)) [
 white_no_mark : (t : List ℕ) (c : ℕ) (rest : List ℕ) → is_whitespace c ≡ true → t ≡ encode_utf8 c ++ rest → mark_len t ≡ 0
 white_no_mark [] c rest h e = refl
 white_no_mark (b ∷ t) c rest h e = no_mark_at b t (λ m.
-    let same : c ≡ b = char_from_byte (b ∷ t) rest c e (mark_low b m) (omega arith) in
-    white_mark c h (rw same m))
+    let plain = plain_mark b m in
+    plain.1 (ap is_whitespace (sym (char_from_byte (b ∷ t) rest c e plain.0 (omega arith))) ∙ h))
 
 -- whitespace and then a digit are no mark
 blank_no_mark : (cs D : List ℕ) → list_all is_whitespace cs ≡ true → begins is_ascii_digit D ≡ true → mark_len (encode_utf8_all cs ++ D) ≡ 0
 blank_no_mark [] [] a h = cc
-blank_no_mark [] (c ∷ D) a h = no_mark_at c D (λ m. digit_no_mark c h m)
+blank_no_mark [] (c ∷ D) a h = no_mark_at c D (plain_digit c h).2
 blank_no_mark (c ∷ cs) D a h =
     white_no_mark (encode_utf8_all (c ∷ cs) ++ D) c (encode_utf8_all cs ++ D) (first_so (is_whitespace c) (list_all is_whitespace cs) a)
     (append_assoc (encode_utf8 c) (encode_utf8_all cs) D)
@@ -388,27 +322,22 @@ number_begins (c ∷ d) r some each = first_so (is_ascii_digit c) (list_all is_a
 pub loose_some : (limit : ℕ) (text : List ℕ) (start : ℕ) (v : VersionValue) → IsAfterBlank text (mark_len text) start → version_at limit text start ≡ Some v → Reads limit text v
 loose_some limit text start v a e =
     let k = mark_len text in
-    let place : k + (start - k) ≡ start = omega (arith, a.after) in
-    let rest : drop k text ≡ take (start - k) (drop k text) ++ drop start text =
-    sym (take-append-drop (start - k) (drop k text)) ∙ ap (λ r. take (start - k) (drop k text) ++ r) (drop-drop (start - k) k text ∙ ap (λ n. drop n text) place) in
     version_sound limit text (take k text) (slice_range text k start) start v
-    (sym (take-append-drop k text) ∙ ap (λ r. take k text ++ r) rest) (mark_is text) a.blank e
+    (sym (take-append-drop k text) ∙ ap (λ r. take k text ++ r) (drop_split text k start a.after)) (mark_is text) a.blank e
 
 pub loose_at : (limit : ℕ) (text : List ℕ) (start : ℕ) (v : VersionValue) → IsAfterBlank text (mark_len text) start → Reads limit text v → version_at limit text start ≡ Some v
 loose_at limit text start v a r =
     let k = mark_len text in
     let D = r.major ++ 46 ∷ (r.minor ++ 46 ∷ (r.patch ++ (r.pre_release ++ (r.build ++ r.rest)))) in
-    let digit : begins is_ascii_digit D ≡ true = number_begins r.major (46 ∷ (r.minor ++ 46 ∷ (r.patch ++ (r.pre_release ++ (r.build ++ r.rest))))) r.major_is.some r.major_is.each in
+    let digit : begins is_ascii_digit D ≡ true = number_begins r.major _ r.major_is.some r.major_is.each in
     let blank : r.blank ≡ encode_utf8_all r.blank_is.characters = r.blank_is.spelled in
     let none : mark_len (r.blank ++ D) ≡ 0 = rw blank (blank_no_mark r.blank_is.characters D r.blank_is.each digit) in
     let marked : drop k text ≡ r.blank ++ D = past_mark text r.mark (r.blank ++ D) r.mark_is r.divided none in
-    let place : k + (start - k) ≡ start = omega (arith, a.after) in
-    let mine : drop k text ≡ slice_range text k start ++ drop start text =
-    sym (take-append-drop (start - k) (drop k text)) ∙ ap (λ t. take (start - k) (drop k text) ++ t) (drop-drop (start - k) k text ∙ ap (λ n. drop n text) place) in
     let both : encode_utf8_all a.blank.characters ++ drop start text ≡ encode_utf8_all r.blank_is.characters ++ D =
-    ap (λ t. t ++ drop start text) (sym a.blank.spelled) ∙ sym mine ∙ marked ∙ ap (λ t. t ++ D) blank in
-    version_complete limit text start v r
-    (one_blank a.blank.characters r.blank_is.characters (drop start text) D a.blank.each r.blank_is.each a.ended (small_digit D digit) both)
+    ap (λ t. t ++ drop start text) (sym a.blank.spelled) ∙ sym (drop_split text k start a.after) ∙ marked ∙ ap (λ t. t ++ D) blank in
+    let found = read_at limit text start v r
+    (one_blank a.blank.characters r.blank_is.characters (drop start text) D a.blank.each r.blank_is.each a.ended (small_digit D digit) both) in
+    rw (found.1, found.2) refl
 
 pub loose_none : (limit : ℕ) (text : List ℕ) (start : ℕ) → IsAfterBlank text (mark_len text) start → version_at limit text start ≡ None → HasNoVersion limit text
 loose_none limit text start a e v r = cc (e, loose_at limit text start v a r)

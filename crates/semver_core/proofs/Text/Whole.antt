@@ -11,11 +11,10 @@ use Rattle.semver_core.specs.Text.Common.{IsCommon, IsUncommon}
 use Rattle.semver_core.specs.Internal.CommonReading.{small_len, at_end, whole_at, common_of}
 use Rattle.semver_core.specs.Text.VersionText.{HasVersionWithIdentifiers, HasNoVersion, IsMark, Reads, no_mark, small_mark, capital_mark}
 use Rattle.semver_core.specs.Text.Identifiers.{Id}
-use Rattle.semver_core.specs.Internal.Reading.{triple_at, pre_release_at, build_at, lists_at, qualified, version_at}
-use Rattle.semver_core.specs.Internal.Reading.{HasOneReading}
+use Rattle.semver_core.specs.Internal.Reading.{triple_at, pre_release_at, build_at, lists_at, qualified, version_at, HasOneReading}
 use Rattle.semver_core.specs.Values.Versions.{VersionValue, HasIdentifiers}
 use Rattle.semver_core.proofs.Text.Pieces.{some_inside}
-use Rattle.semver_core.proofs.Text.Texts.{memory_read, rest_of, divided_at, bind_some, triple_complete, pre_complete, none_build, build_complete, number_begins, none_pre, version_sound}
+use Rattle.semver_core.proofs.Text.Texts.{memory_read, rest_of, divided_at, bind_some, none_build, number_begins, none_pre, read_at, version_sound}
 
 at_end_some : {A : Type 0} (rest : List ℕ) (x y : A) → at_end rest x ≡ Some y → (rest ≡ []) × (x ≡ y)
 at_end_some [] x y e = (refl, some_inside x y e)
@@ -48,8 +47,7 @@ common_sound limit text v e =
     let ended = at_end_some (rest_of text found.0) (qualified text found.0) v found.2 in
     let mark = small_is text in
     let d = divided_at limit text (take k text) [] k found.0 (sym (take-append-drop k text)) mark.0 nothing_blank found.1 in
-    let P : VersionValue → Type 0 = λ w. IsCommon limit text w in
-    subst P ended.1 (record {
+    rw (← ended.1) (record {
       division = d.reads;
       not_capital = λ capital. mark.1 (sym d.mark_is ∙ capital);
       no_blank = d.blank_is;
@@ -68,22 +66,15 @@ past_small text mark D no_mark s e h = rw (e, no_small D h) refl
 past_small text mark D small_mark s e h = rw e refl
 past_small text mark D capital_mark s e h = absurd (s refl)
 
-whole_is : (limit : ℕ) (text : List ℕ) (v : VersionValue) (end next last : ℕ) → triple_at limit text (small_len text) ≡ Some (v.major, v.minor, v.patch, end)
-    → pre_release_at text end ≡ (v.pre_release, next) → build_at text next ≡ (v.build, last) → drop last text ≡ [] → common_of limit text ≡ Some v
-whole_is limit text v end next last e f g h = rw (e, f, g, h) refl
-
 -- a common text's version is found
 pub common_complete : (limit : ℕ) (text : List ℕ) (v : VersionValue) → IsCommon limit text v → common_of limit text ≡ Some v
 common_complete limit text v c =
     let r = c.division in
     let D = r.major ++ 46 ∷ (r.minor ++ 46 ∷ (r.patch ++ (r.pre_release ++ (r.build ++ r.rest)))) in
-    let digit : begins is_ascii_digit D ≡ true = number_begins r.major (46 ∷ (r.minor ++ 46 ∷ (r.patch ++ (r.pre_release ++ (r.build ++ r.rest))))) r.major_is.some r.major_is.each in
+    let digit : begins is_ascii_digit D ≡ true = number_begins r.major _ r.major_is.some r.major_is.each in
     let divided : text ≡ r.mark ++ D = r.divided ∙ ap (λ b. r.mark ++ (b ++ D)) c.no_blank in
-    let marked : drop (small_len text) text ≡ D = past_small text r.mark D r.mark_is c.not_capital divided digit in
-    let three = triple_complete limit text (small_len text) v.major v.minor v.patch r.major r.minor r.patch (r.pre_release ++ (r.build ++ r.rest)) marked r.major_is r.minor_is r.patch_is in
-    let pre = pre_complete text three.0 r.pre_release (r.build ++ r.rest) v.pre_release three.2 r.pre_release_is in
-    let meta = build_complete text (three.0 + length r.pre_release) r.build r.rest v.build pre.1 r.build_is in
-    whole_is limit text v three.0 (three.0 + length r.pre_release) (three.0 + length r.pre_release + length r.build) three.1 pre.0 meta.0 (meta.1 ∙ c.no_rest)
+    let found = read_at limit text (small_len text) v r (past_small text r.mark D r.mark_is c.not_capital divided digit) in
+    rw (found.1, found.2, found.3, c.no_rest) refl
 
 -- the clauses of a reader whose answer is `common_of`
 pub common_some : (limit : ℕ) (text : List ℕ) (found : Option VersionValue) → found ≡ common_of limit text → IfSome found (λ v. IsCommon limit text v)

@@ -1,9 +1,8 @@
 -- Comparing and hashing the identifiers of the program is comparing and hashing what contracts see of them.
-use Rattle.std.proofs.Common.{◌≡◌, ◌==◌, ◌++◌, ◌+◌, ℕ, false, List, [], ◌∷◌, length, refl, sym, ap, ◌∙◌}
+use Rattle.std.proofs.Common.{◌≡◌, ◌==◌, ◌++◌, ◌+◌, ℕ, false, List, [], ◌∷◌, length, refl, sym, ap, ◌∙◌, ◌<◌, ◌≤◌, take, get_or}
 use Rattle.std.specs.Cmp.Lexicographic.{slice_cmp}
 use Rattle.std.specs.Ordering.{ordering_then}
 use Rattle.std.proofs.lemmas.List.{take_all, take_more}
-use Rattle.std.proofs.Common.{◌<◌, ◌≤◌, take, get_or}
 use Rattle.std.specs.List.{All}
 use Rattle.semver_core.specs.Values.Versions.{IsId}
 use Rattle.std.proofs.lemmas.List.Elements.{All-push}
