@@ -1,11 +1,13 @@
 -- Shared with the layers above: tests of what a comparison answers, the order of cuts, and the points of what two spans have in
 -- common or one leaves of another.
-use Rattle.std.proofs.Common.{◌≡◌, refl, sym, ◌∙◌, ap, Bool, true, false, ◌&&◌, ◌||◌, not, Option, Some, None, arith, is_some, inl, inr}
+use Rattle.std.proofs.Common.{◌≡◌, ℕ, subst, refl, sym, ◌∙◌, ap, Bool, true, false, ◌&&◌, ◌||◌, not, Option, Some, None, arith, is_some, inl, inr}
 use Rattle.std.proofs.lemmas.Bool.{and_parts, cases_Bool, cond_both}
 use Rattle.std.proofs.Math.Bool.{and_comm}
 use Rattle.std.specs.declared.cmp.Ordering.{Ordering}
 use Rattle.std.specs.declared.cmp.Ordering.TheVariants.{Less, Equal, Greater}
-use Rattle.std.specs.Ordering.{ordering_reverse, is_lt, is_le, is_gt, on, then_cmp}
+use Rattle.std.specs.Ordering.{nat_cmp, ordering_reverse, is_lt, is_le, is_gt, on, then_cmp}
+use Rattle.std.specs.Option.{option_cmp}
+use Rattle.std.specs.Cmp.Lexicographic.{options_total}
 use Rattle.std.specs.Cmp.{IsTotalOrder, upto, tied_itself, on_total, then_total, nat_cmp_total}
 use Rattle.semver_core.specs.Clips.{clip}
 use Rattle.semver_core.specs.Cuts.{Side, Near, side_cmp, side_index, Cut, Start, Beside, End, cut_cmp, is_past, lower_cut, upper_cut, Span, is_interval, interval, holds, greater_lower, lesser_upper, meet, left_below, left_above, remainders, option_holds}
@@ -29,51 +31,33 @@ lt_not_gt Equal h = cc
 lt_not_gt Greater h = cc
 
 module _ {V : Type 0} {R : V → V → Ordering} (o : IsTotalOrder R) where
-  beside_total : IsTotalOrder (then_cmp (on (λ (p : V × Side). p.0) R) (on (λ (p : V × Side). p.1) side_cmp))
-  beside_total = then_total (on_total (λ (p : V × Side). p.0) o) (on_total (λ (p : V × Side). p.1) (on_total side_index nat_cmp_total))
+  -- a cut by its place among the three kinds, and then by its point and its side
+  abbrev rank : Cut V → ℕ
+  rank Start = 0
+  rank (Beside v s) = 1
+  rank End = 2
 
-  cut_antisymm : (c d : Cut V) → cut_cmp R c d ≡ ordering_reverse (cut_cmp R d c)
-  cut_antisymm Start Start = refl
-  cut_antisymm Start (Beside w t) = refl
-  cut_antisymm Start End = refl
-  cut_antisymm (Beside v s) Start = refl
-  cut_antisymm (Beside v s) (Beside w t) = beside_total.antisymm (v, s) (w, t)
-  cut_antisymm (Beside v s) End = refl
-  cut_antisymm End Start = refl
-  cut_antisymm End (Beside w t) = refl
-  cut_antisymm End End = refl
+  abbrev beside : Cut V → Option (V × Side)
+  beside (Beside v s) = Some (v, s)
+  beside _ = None
 
-  cut_trans : (c d e : Cut V) → cut_cmp R c d ≡ Less → cut_cmp R d e ≡ Less → cut_cmp R c e ≡ Less
-  cut_trans Start d (Beside x u) h k = refl
-  cut_trans Start d End h k = refl
-  cut_trans Start Start Start h k = h
-  cut_trans Start (Beside w t) Start h k = cc
-  cut_trans Start End Start h k = cc
-  cut_trans (Beside v s) d End h k = refl
-  cut_trans (Beside v s) Start e h k = cc
-  cut_trans (Beside v s) (Beside w t) Start h k = cc
-  cut_trans (Beside v s) (Beside w t) (Beside x u) h k = beside_total.trans (v, s) (w, t) (x, u) h k
-  cut_trans (Beside v s) End Start h k = cc
-  cut_trans (Beside v s) End (Beside x u) h k = cc
-  cut_trans End Start e h k = cc
-  cut_trans End (Beside w t) e h k = cc
-  cut_trans End End e h k = cc
+  abbrev beside_cmp : V × Side → V × Side → Ordering
+  beside_cmp = then_cmp (on (λ (p : V × Side). p.0) R) (on (λ (p : V × Side). p.1) side_cmp)
 
-  cut_congr : (c d e : Cut V) → cut_cmp R c d ≡ Equal → cut_cmp R c e ≡ cut_cmp R d e
-  cut_congr Start Start e h = refl
-  cut_congr Start (Beside w t) e h = cc
-  cut_congr Start End e h = cc
-  cut_congr (Beside v s) Start e h = cc
-  cut_congr (Beside v s) (Beside w t) Start h = refl
-  cut_congr (Beside v s) (Beside w t) (Beside x u) h = beside_total.congr (v, s) (w, t) (x, u) h
-  cut_congr (Beside v s) (Beside w t) End h = refl
-  cut_congr (Beside v s) End e h = cc
-  cut_congr End Start e h = cc
-  cut_congr End (Beside w t) e h = cc
-  cut_congr End End e h = refl
+  keyed : (c d : Cut V) → then_cmp (on rank nat_cmp) (on beside (option_cmp beside_cmp)) c d ≡ cut_cmp R c d
+  keyed Start Start = refl
+  keyed Start (Beside w t) = refl
+  keyed Start End = refl
+  keyed (Beside v s) Start = refl
+  keyed (Beside v s) (Beside w t) = refl
+  keyed (Beside v s) End = refl
+  keyed End Start = refl
+  keyed End (Beside w t) = refl
+  keyed End End = refl
 
   pub cut_total : IsTotalOrder (cut_cmp R)
-  cut_total = record { antisymm = cut_antisymm; trans = cut_trans; congr = cut_congr }
+  cut_total = subst IsTotalOrder (λ i c d. keyed c d i) (then_total (on_total rank nat_cmp_total) (on_total beside (options_total
+      (then_total (on_total (λ (p : V × Side). p.0) o) (on_total (λ (p : V × Side). p.1) (on_total side_index nat_cmp_total))))))
 
   -- a is below b
   abbrev pub lt : Cut V → Cut V → Bool
@@ -131,12 +115,9 @@ module _ {V : Type 0} {R : V → V → Ordering} (o : IsTotalOrder R) where
       ≡ ((lt (lower_cut b) (upper_cut d) && lt (lower_cut b) (upper_cut e)) && (lt (lower_cut c) (upper_cut d) && lt (lower_cut c) (upper_cut e)))
   between b c d e = rw (greater_below b c, below_lesser d e, below_lesser d e) refl
 
-  four_parts : (a b c d : Bool) → ((a && b) && (c && d)) ≡ true → ((a ≡ true) × (b ≡ true)) × ((c ≡ true) × (d ≡ true))
-  four_parts a b c d h = let (p, q) = and_parts (a && b) (c && d) h in (and_parts a b p, and_parts c d q)
-
   pub between_parts : (b c d e : Bound V) → lt (lower_cut (greater_lower R b c)) (upper_cut (lesser_upper R d e)) ≡ true
       → ((lt (lower_cut b) (upper_cut d) ≡ true) × (lt (lower_cut b) (upper_cut e) ≡ true)) × ((lt (lower_cut c) (upper_cut d) ≡ true) × (lt (lower_cut c) (upper_cut e) ≡ true))
-  between_parts b c d e h = four_parts _ _ _ _ (sym (between b c d e) ∙ h)
+  between_parts b c d e h = let (p, q) = and_parts _ _ (sym (between b c d e) ∙ h) in (and_parts _ _ p, and_parts _ _ q)
 
   pub between_from : (b c d e : Bound V) → lt (lower_cut b) (upper_cut d) ≡ true → lt (lower_cut b) (upper_cut e) ≡ true → lt (lower_cut c) (upper_cut d) ≡ true → lt (lower_cut c) (upper_cut e) ≡ true
       → lt (lower_cut (greater_lower R b c)) (upper_cut (lesser_upper R d e)) ≡ true

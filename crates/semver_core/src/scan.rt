@@ -195,7 +195,7 @@ pub fn goes_on(text: &[u8]) -> bool
 }
 
 #[inline(always)]
-#[tactic(auto, using(crate::proofs::Text::Runs::rest_from))]
+#[tactic(auto, using(std::proofs::lemmas::List::take_rest))]
 pub(crate) fn begins_at(text: &str, at: usize) -> bool
     requires { at ≤ length text.now }
     ensures { result ≡ begins is_identifier_char (drop at text.now) }
@@ -204,7 +204,7 @@ pub(crate) fn begins_at(text: &str, at: usize) -> bool
 }
 
 #[inline(always)]
-#[tactic(auto, using(crate::proofs::Text::Runs::rest_from))]
+#[tactic(auto, using(std::proofs::lemmas::List::take_rest))]
 pub(crate) fn goes_on_at(text: &str, at: usize) -> bool
     requires { at ≤ length text.now }
     ensures { result ≡ goes_on (drop at text.now) }

@@ -1,7 +1,7 @@
 -- Serves proofs: a printed version reads as itself.
-use Rattle.std.proofs.Common.{zero, suc, refl, ◌≡◌, ◌<◌, ◌≤◌, ◌^◌, ◌==◌, ℕ, Bool, true, false, ltb, List, [], ◌∷◌, ◌++◌, length, map, sym, ap, ◌∙◌, arith, eqb, subst, append-nil}
+use Rattle.std.proofs.Common.{zero, suc, refl, ◌≡◌, ◌<◌, ◌≤◌, ◌^◌, ◌==◌, ℕ, true, false, ltb, List, [], ◌∷◌, ◌++◌, length, map, sym, ap, ◌∙◌, arith, eqb, subst, append-nil}
 use Rattle.std.specs.Prelude.{not}
-use Rattle.std.proofs.lemmas.Bool.{lt-ltb}
+use Rattle.std.proofs.lemmas.Bool.{and_parts, lt-ltb, not-true}
 use borrow.Author.Tests.{ltb-true}
 use Rattle.std.proofs.lemmas.Bool.Decides.{nat_tests}
 use Rattle.std.proofs.lemmas.Fmt.{decimal_is_IsNumeral, digits_decimal, digits_value-decimal}
@@ -11,7 +11,7 @@ use Rattle.std.specs.Fmt.{decimal}
 use Rattle.std.specs.Char.{is_ascii_digit}
 use Rattle.std.specs.List.{list_all, join_with_byte, All}
 use Rattle.std.specs.Str.Parse.{digits_value}
-use Rattle.semver_core.specs.Text.Characters.{begins, is_identifier_char, IsBlank}
+use Rattle.semver_core.specs.Text.Characters.{begins, is_identifier_char}
 use Rattle.semver_core.specs.Text.Identifiers.{Id, Numeric, AlphaNumeric, identifier_of, is_identifier, is_u64_text, pieces, goes_on, IsIdentifiers}
 use Rattle.semver_core.specs.Text.Numbers.{IsNumber}
 use Rattle.semver_core.specs.Values.Versions.{VersionValue}
@@ -48,13 +48,6 @@ decimal_identifier n small =
     let value = decimal_value n small in
     of_digits (decimal n) (decimal_digits n small) (rw value small) ∙ ap Numeric value
 
-not_so : (b : Bool) → not b ≡ true → b ≡ false
-not_so true h = cc
-not_so false h = refl
-
-text_identifier : (text : List ℕ) → not (is_u64_text text) ≡ true → identifier_of text ≡ AlphaNumeric text
-text_identifier text h = rw (not_so (is_u64_text text) h) refl
-
 -- the text of an identifier is a run that spells it
 pub id_run : (id : Id) → is_normal id ≡ true → is_identifier (id_text id) ≡ true
 id_run (Numeric n) h = decimal_run n (ltb-true n (2 ^ 64) h)
@@ -62,7 +55,7 @@ id_run (AlphaNumeric text) h = first_so (is_identifier text) (not (is_u64_text t
 
 pub id_spelled : (id : Id) → is_normal id ≡ true → identifier_of (id_text id) ≡ id
 id_spelled (Numeric n) h = decimal_identifier n (ltb-true n (2 ^ 64) h)
-id_spelled (AlphaNumeric text) h = text_identifier text (second_so (is_identifier text) (not (is_u64_text text)) h)
+id_spelled (AlphaNumeric text) h = rw (not-true (is_u64_text text) (and_parts (is_identifier text) _ h).1) refl
 
 -- ---- lists joined by dots
 
@@ -127,9 +120,6 @@ number_back limit n max small =
     let fits : n < 2 ^ 64 = omega arith in
     record { some = decimal_some n fits; each = decimal_digits n fits; value = sym (decimal_value n fits); safe = small }
 
-blank_back : IsBlank []
-blank_back = record { characters = []; each = refl; spelled = refl }
-
 -- a printed version reads as itself
 pub version_back : (limit : ℕ) (v : VersionValue) → limit < 2 ^ 64 → IsReadable limit v → Reads limit (version_text v) v
 version_back limit v max h = record {
@@ -143,7 +133,7 @@ version_back limit v max h = record {
   rest = [];
   divided = rw (append-nil (marked_list (43 ∷ []) v.build)) refl;
   mark_is = no_mark;
-  blank_is = blank_back;
+  blank_is = record { characters = []; each = refl; spelled = refl };
   major_is = number_back limit v.major max h.major;
   minor_is = number_back limit v.minor max h.minor;
   patch_is = record { number = number_back limit v.patch max h.patch; ended = no_digit v.pre_release v.build };

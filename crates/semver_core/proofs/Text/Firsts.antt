@@ -12,7 +12,7 @@ use Rattle.std.specs.List.{list_all, onto_first}
 use Rattle.semver_core.specs.Text.Identifiers.{Id, identifier_of, is_identifier, is_listed, listed, pieces}
 use Rattle.std.proofs.lemmas.List.{drop-drop}
 use Rattle.semver_core.specs.Internal.CommonReading.{number_of_run, run_from, run_len}
-use Rattle.semver_core.proofs.Text.OnePass.{run_found, scan_fits}
+use Rattle.semver_core.proofs.Text.OnePass.{scan_end, scan_fits}
 use Rattle.semver_core.proofs.Text.Pieces.{first_char, runs_tail, tail_onto, tail_runs}
 
 -- what stands behind the first run and its dot
@@ -67,32 +67,23 @@ listed_first (c ∷ rest) h some =
     )
 
 -- the run that `scan_run` found at the front
-pub front_run : (text : List ℕ) (r : ℕ × Option ℕ) → r ≡ run_from (Some 0) 0 (drop 0 text)
-    → (r.0 ≡ run_len text) × (r.1 ≡ number_of_run (Some 0) (take (run_len text) text))
-front_run text r e =
-    let both = e ∙ run_found (Some 0) 0 text in
-    (ap (λ (q : ℕ × Option ℕ). q.0) both ∙ zero-add (run_len text), ap (λ (q : ℕ × Option ℕ). q.1) both)
-
 pub front_end : (text : List ℕ) (r : ℕ × Option ℕ) → r ≡ run_from (Some 0) 0 (drop 0 text) → r.0 ≡ run_len text
-front_end text r e = (front_run text r e).0
+front_end text r e = (scan_end text 0 r e).0 ∙ zero-add (run_len text)
 
 pub front_number : (text : List ℕ) (r : ℕ × Option ℕ) → r ≡ run_from (Some 0) 0 (drop 0 text) → r.1 ≡ number_of_run (Some 0) (take (run_len text) text)
-front_number text r e = (front_run text r e).1
+front_number text r e = (scan_end text 0 r e).1
 
 pub front_fits : (text : List ℕ) (r : ℕ × Option ℕ) → r ≡ run_from (Some 0) 0 (drop 0 text) → r.0 ≤ length text
 front_fits text r e = (scan_fits text 0 r e (omega arith)).1
 
 pub ruleset run_fronts = (front_end, front_number, front_fits)
 
-others_behind : (text : List ℕ) → drop 1 (drop (run_len text) text) ≡ others text
-others_behind text = drop-drop 1 (run_len text) text
-
 pub ids_first : (text : List ℕ) (n : ℕ) (id : Id) → n ≡ run_len text → is_listed text ≡ true → 0 < length text → id ≡ identifier_of (take n text)
     → listed text ≡ id ∷ listed (drop 1 (drop n text))
-ids_first text n id e h some is = rw (is, e, others_behind text) (listed_first text h some).0
+ids_first text n id e h some is = rw (is, e, drop-drop 1 (run_len text) text) (listed_first text h some).0
 
 pub ids_others : (text : List ℕ) (n : ℕ) → n ≡ run_len text → is_listed text ≡ true → 0 < length text → is_listed (drop 1 (drop n text)) ≡ true
-ids_others text n e h some = rw (e, others_behind text) (listed_first text h some).1
+ids_others text n e h some = rw (e, drop-drop 1 (run_len text) text) (listed_first text h some).1
 
 pub ruleset firsts = (ids_first, ids_others)
 
@@ -137,13 +128,9 @@ both_pre a b x y =
 pub ruleset pre_compared = (no_pre, first_pre, second_pre, both_pre)
 
 -- a text is empty where it spells none
-some_ids : (ids : List Id) → 0 < length ids → false ≡ is_empty ids
-some_ids [] h = absurd (omega arith)
-some_ids (id ∷ others) h = refl
-
 pub spelled_release : (text : List ℕ) → (length text == 0) ≡ is_empty (listed text)
 unfolding listed
 spelled_release [] = refl
 spelled_release (c ∷ rest) =
     let some : (length (c ∷ rest) == 0) ≡ false = grind (arith, nat_tests) in
-    rw some (some_ids (listed (c ∷ rest)) (listed_some (c ∷ rest) (omega arith)))
+    rw (some, (spelled_some (c ∷ rest) some).1.1) refl

@@ -11,10 +11,8 @@ use Rattle.std.proofs.lemmas.List.{length-map}
 use Rattle.semver_core.specs.Text.Characters.{begins, is_identifier_char}
 use Rattle.semver_core.specs.Text.Identifiers.{Id, Numeric, identifier_of, IsLongestIdentifiers, is_identifier, is_listed, listed, pieces}
 use Rattle.semver_core.specs.Internal.Reading.{list_at}
-use Rattle.semver_core.specs.Values.Views.{id_view, ids_view}
-use Rattle.semver_core.specs.declared.identifier.Identifier.{Identifier}
 use Rattle.semver_core.proofs.Text.Runs.{ascii as small_char}
-use Rattle.semver_core.proofs.Text.Pieces.{first_char, list_complete, runs_begin, runs_tail, tail_onto, tail_runs}
+use Rattle.semver_core.proofs.Text.Pieces.{first_char, list_complete, runs_begin, runs_tail, some_inside, tail_onto, tail_runs}
 
 ascii : (text : List ℕ) → tail_runs (pieces text) ≡ true → IsAscii text
 ascii [] h = IsAscii-nil
@@ -51,13 +49,7 @@ listed_all (c ∷ rest) ids end h some e =
     let text = c ∷ rest in
     let whole : IsLongestIdentifiers text [] (listed text) = record { identifiers = record { runs = h; spelled = refl }; ended = refl } in
     let found = list_complete text 0 text [] (listed text) (sym (append-nil text)) whole in
-    first (ids, end) (listed text, 0 + length text) (e ∙ found.0)
-  where
-    inside : (p q : List Id × ℕ) → Some p ≡ Some q → p ≡ q
-    inside p q k = cc k
-
-    first : (p q : List Id × ℕ) → Some p ≡ Some q → p.0 ≡ q.0
-    first p q k = ap (λ (x : List Id × ℕ). x.0) (inside p q k)
+    ap (λ (x : List Id × ℕ). x.0) (some_inside (ids, end) (listed text, 0 + length text) (e ∙ found.0))
 
 pub listed_none : (text : List ℕ) → length text ≡ 0 → listed text ≡ []
 unfolding listed
@@ -77,8 +69,5 @@ listed_count (c ∷ rest) h = length-map (pieces (c ∷ rest)) identifier_of ∙
 
 pub listed_some : (text : List ℕ) → 0 < length text → 0 < length (listed text)
 listed_some text h = omega (arith, listed_count text h)
-
-pub some_listed : (text : List ℕ) (ids : List Identifier) → 0 < length text → ids_view ids ≡ listed text → 0 < length ids
-some_listed text ids h e = rw (length-map ids id_view) at (rw (← e) at (listed_some text h))
 
 pub ruleset listed_read = (listed_utf8, listed_begins, listed_none)

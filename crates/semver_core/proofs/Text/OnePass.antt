@@ -3,7 +3,7 @@ use Rattle.std.proofs.Common.{◌≡◌, ◌<◌, ◌≤◌, ◌+◌, ◌*◌, �
 use Rattle.std.proofs.Math.Seq.{drop-cons}
 use Rattle.std.proofs.lemmas.Bool.{cases_Bool}
 use Rattle.std.proofs.lemmas.Bool.Decides.{nat_tests}
-use Rattle.std.proofs.lemmas.List.{drop_all}
+use Rattle.std.proofs.lemmas.List.{drop_all, length-drop}
 use Rattle.std.specs.Cmp.{first_so, second_so}
 use Rattle.std.specs.Char.{is_ascii_digit, digit_value}
 use Rattle.std.specs.List.{list_all, prefix_len}
@@ -13,7 +13,8 @@ use Rattle.semver_core.specs.Internal.CommonReading.{grown, run_from, number_of_
 use Rattle.semver_core.specs.Text.Identifiers.{Numeric, AlphaNumeric, identifier_of}
 use Rattle.semver_core.proofs.Text.Digits.{digit_value-is}
 use Rattle.semver_core.proofs.Text.Pieces.{digits_grow}
-use Rattle.semver_core.proofs.Text.Runs.{run_length}
+use Rattle.std.proofs.lemmas.List.Sums.{prefix_len-le-length}
+use borrow.Author.Tests.{ltb-true}
 
 -- the loop
 pub run_step : (n : Option ℕ) (xs : List ℕ) (i : ℕ) → i < length xs → is_identifier_char (get_or xs i 0) ≡ true
@@ -74,16 +75,13 @@ of_other (Some v) (c ∷ run) d = elim (cases_Bool (is_ascii_digit c)) [
   | inl digit ↦ of_other (grown (Some v) c) run (rw digit at d)
 ]
 
-fits_value : (run : List ℕ) → ltb (digits_value 10 run) (2 ^ 64) ≡ true → digits_value_after 10 0 run < 2 ^ 64
-fits_value run h = grind (arith, nat_tests)
-
 -- the identifier that a run spells
 pub id_spelled : (run : List ℕ) → id_by (number_of_run (Some 0) run) run ≡ identifier_of run
 id_spelled run = elim (cases_Bool (list_all is_ascii_digit run)) [
   | inr other ↦ rw (of_other (Some 0) run other, other) refl
   | inl digits ↦
       elim (cases_Bool (ltb (digits_value 10 run) (2 ^ 64))) [
-        | inl fits ↦ rw (of_digits 0 run digits (fits_value run fits), digits, fits) refl
+        | inl fits ↦ rw (of_digits 0 run digits (ltb-true _ _ fits), digits, fits) refl
         | inr over ↦ rw (of_long 0 run (omega arith) digits over, digits, over) refl
       ]
 ]
@@ -110,8 +108,7 @@ pub scan_fits : (text : List ℕ) (start : ℕ) (r : ℕ × Option ℕ) → r �
     → (start ≤ r.0) × (r.0 ≤ length text)
 scan_fits text start r e le =
     let end = (scan_end text start r e).0 in
-    let room = (run_length text start le).1 in
-    (omega (arith, end), omega (arith, end, room))
+    (omega (arith, end), omega (arith, end, prefix_len-le-length is_identifier_char (drop start text), length-drop start text))
 
 pub scan_number : (run : List ℕ) (v : ℕ) → Some v ≡ number_of_run (Some 0) run → identifier_of run ≡ Numeric v
 scan_number run v e = sym (id_spelled run) ∙ ap (λ n. id_by n run) (sym e)

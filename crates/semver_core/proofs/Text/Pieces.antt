@@ -2,7 +2,7 @@
 use Rattle.std.proofs.Common.{◌≡◌, ◌&&◌, ◌<◌, ◌≤◌, ◌+◌, ◌*◌, ℕ, Bool, true, false, ltb, List, [], ◌∷◌, ◌++◌, length, drop, take, Option, Some, None, refl, sym, ap, ◌∙◌, arith, inl, inr, add-one, add_comm, zero-add, eqb}
 use Rattle.std.proofs.Math.Seq.{take-append_seam, drop-append_seam}
 use Rattle.semver_core.proofs.Text.Runs.{not_dot}
-use Rattle.std.proofs.lemmas.Bool.{cases_Bool, eqb-true, lt-ltb}
+use Rattle.std.proofs.lemmas.Bool.{and_parts, cases_Bool, eqb-true, lt-ltb}
 use Rattle.std.proofs.lemmas.Bool.Decides.{nat_tests}
 use Rattle.std.proofs.lemmas.List.{drop-drop, take-append-drop}
 use Rattle.std.specs.Cmp.{first_so, second_so}
@@ -19,13 +19,10 @@ pub some_inside : {A : Type 0} (x y : A) → Some x ≡ Some y → x ≡ y
 some_inside x y e = cc
 
 -- what a placed piece was
-placed_some : {A : Type 0} (at : ℕ) (found : Option (A × ℕ)) (x : A) (end : ℕ) → placed at found ≡ Some (x, end)
-    → (n : ℕ) × (found ≡ Some (x, n)) × (end ≡ at + n)
-placed_some at None x end e = cc
-placed_some {A} at (Some (y, n)) x end e =
-    let pair : (y, at + n) ≡ (x, end) = some_inside _ _ e in
-    let same : y ≡ x = ap (λ (q : A × ℕ). q.0) pair in
-    (n, ap (λ z. Some (z, n)) same, sym (ap (λ (q : A × ℕ). q.1) pair))
+placed_some : {A : Type 0} (at : ℕ) (found : Option (A × ℕ)) (q : A × ℕ) → placed at found ≡ Some q
+    → (n : ℕ) × (found ≡ Some (q.0, n)) × (q.1 ≡ at + n)
+placed_some at None q e = cc
+placed_some at (Some (y, n)) q e = rw (← some_inside _ q e) (n, refl, refl)
 
 -- what stands after a piece
 pub rest_at : (text : List ℕ) (at end : ℕ) (piece rest : List ℕ) → drop at text ≡ piece ++ rest → end ≡ at + length piece → drop end text ≡ rest
@@ -48,29 +45,32 @@ record Digits (limit : ℕ) (value count : ℕ) (text : List ℕ) (n m : ℕ) : 
   some : 0 < m
   safe : n ≤ limit
 
-ended_some : (v k n m : ℕ) → digits_end v k ≡ Some (n, m) → (v ≡ n) × (k ≡ m) × (0 < k)
-ended_some v k n m e = elim (cases_Bool (eqb k 0)) [
-  | inl none ↦ cc (rw none at e)
-  | inr other ↦
-      let pair = some_inside (v, k) (n, m) (rw other at e) in
-      (ap (λ (q : ℕ × ℕ). q.0) pair, ap (λ (q : ℕ × ℕ). q.1) pair, grind (arith, nat_tests))
-]
-
 end_some : (v k n : ℕ) → n ≡ k → 0 < k → digits_end v k ≡ Some (v, n)
 end_some v k n same some =
     let other : eqb k 0 ≡ false = grind (arith, nat_tests) in
     rw (other, same) refl
 
-stopped : (limit : ℕ) (v k n m : ℕ) (t : List ℕ) → begins is_ascii_digit t ≡ false → v ≤ limit → digits_end v k ≡ Some (n, m) → Digits limit v k t n m
-stopped limit v k n m t stop small e =
-    let p = ended_some v k n m e in
-    record { digits = []; rest = t; divided = refl; each = refl; spelled = sym p.0; counted = omega arith; ended = stop; some = omega arith; safe = omega arith }
+stopped : (limit v k : ℕ) (q : ℕ × ℕ) (t : List ℕ) → begins is_ascii_digit t ≡ false → v ≤ limit → digits_end v k ≡ Some q → Digits limit v k t q.0 q.1
+stopped limit v k q t stop small e = elim (cases_Bool (eqb k 0)) [
+  | inl none ↦ cc (rw none at e)
+  | inr other ↦ rw (← some_inside _ q (rw other at e)) (record {
+    digits = [];
+    rest = t;
+    divided = refl;
+    each = refl;
+    spelled = refl;
+    counted = omega arith;
+    ended = stop;
+    some = grind (arith, nat_tests);
+    safe = small;
+  })
+]
 
 digits_sound : (limit : ℕ) (v k : ℕ) (t : List ℕ) (n m : ℕ) → v ≤ limit → digits_from limit v k t ≡ Some (n, m) → Digits limit v k t n m
 unfolding digits_from
-digits_sound limit v k [] n m small e = stopped limit v k n m [] refl small e
+digits_sound limit v k [] n m small e = stopped limit v k (n, m) [] refl small e
 digits_sound limit v k (c ∷ rest) n m small e = elim (cases_Bool (is_ascii_digit c)) [
-  | inr other ↦ stopped limit v k n m (c ∷ rest) other small (rw other at e)
+  | inr other ↦ stopped limit v k (n, m) (c ∷ rest) other small (rw other at e)
   | inl digit ↦ elim (cases_Bool (ltb limit (v * 10 + digit_value c))) [
     | inl big ↦ cc (rw (digit, big) at e)
     | inr fits ↦
@@ -92,7 +92,7 @@ digits_sound limit v k (c ∷ rest) n m small e = elim (cases_Bool (is_ascii_dig
 pub number_sound : (limit : ℕ) (text : List ℕ) (at n end : ℕ) → number_at limit text at ≡ Some (n, end)
     → (digits : List ℕ) × (drop at text ≡ digits ++ drop end text) × IsWholeNumber limit digits (drop end text) n
 number_sound limit text at n end e =
-    let front = placed_some at (digits_from limit 0 0 (drop at text)) n end e in
+    let front = placed_some at (digits_from limit 0 0 (drop at text)) (n, end) e in
     let d = digits_sound limit 0 0 (drop at text) n front.0 (omega arith) front.1 in
     let count : front.0 ≡ length d.digits = omega (arith, d.counted) in
     let rest : drop end text ≡ d.rest = rest_at text at end d.digits d.rest d.divided (omega (arith, front.2)) in (
@@ -129,37 +129,27 @@ abbrev pub tail_runs : List (List ℕ) → Bool
 tail_runs [] = true
 tail_runs (first ∷ others) = list_all is_identifier_char first && list_all is_identifier others
 
-pieces_cons : (c : ℕ) (rest : List ℕ) → eqb c 46 ≡ false → pieces (c ∷ rest) ≡ onto_first c (pieces rest)
-pieces_cons c rest other = rw other refl
-
 run_from : (t : List ℕ) → 0 < length t → list_all is_identifier_char t ≡ true → is_identifier t ≡ true
 run_from t some each = rw (lt-ltb 0 (length t) some, each) refl
 
 pub onto_tail : (c : ℕ) (ps : List (List ℕ)) → is_identifier_char c ≡ true → tail_runs ps ≡ true → list_all is_identifier (onto_first c ps) ≡ true
 onto_tail c [] h t = rw h refl
 onto_tail c (p ∷ ps) h t =
-    let first = first_so (list_all is_identifier_char p) (list_all is_identifier ps) t in
-    let others = second_so (list_all is_identifier_char p) (list_all is_identifier ps) t in
-    rw (run_from (c ∷ p) (omega arith) (rw (h, first) refl), others) refl
+    let each = and_parts (list_all is_identifier_char p) (list_all is_identifier ps) t in
+    rw (run_from (c ∷ p) (omega arith) (rw (h, each.0) refl), each.1) refl
 
 pub tail_onto : (c : ℕ) (ps : List (List ℕ)) → tail_runs (onto_first c ps) ≡ true → tail_runs ps ≡ true
 tail_onto c [] t = refl
-tail_onto c (p ∷ ps) t =
-    let first = first_so (is_identifier_char c && list_all is_identifier_char p) (list_all is_identifier ps) t in
-    rw (second_so (is_identifier_char c) (list_all is_identifier_char p) first, second_so (is_identifier_char c && list_all is_identifier_char p) (list_all is_identifier ps) t) refl
+tail_onto c (p ∷ ps) t = grind arith
 
 pub runs_tail : (ps : List (List ℕ)) → list_all is_identifier ps ≡ true → tail_runs ps ≡ true
 runs_tail [] h = refl
-runs_tail (p ∷ ps) h =
-    let first = first_so (is_identifier p) (list_all is_identifier ps) h in
-    rw (second_so (ltb 0 (length p)) (list_all is_identifier_char p) first, second_so (is_identifier p) (list_all is_identifier ps) h) refl
+runs_tail (p ∷ ps) h = grind arith
 
 -- a text of runs whose first character is one of identifiers
 pub begun_runs : (t : List ℕ) → begins is_identifier_char t ≡ true → tail_runs (pieces t) ≡ true → list_all is_identifier (pieces t) ≡ true
 begun_runs [] h t = cc
-begun_runs (c ∷ rest) h t =
-    let split = pieces_cons c rest (not_dot c h) in
-    rw split (onto_tail c (pieces rest) h (tail_onto c (pieces rest) (rw split at t)))
+begun_runs (c ∷ rest) h t = rw (not_dot c h) (onto_tail c (pieces rest) h (tail_onto c (pieces rest) (rw (not_dot c h) at t)))
 
 pub begins_taken : (rest : List ℕ) → begins is_identifier_char rest ≡ true → begins is_identifier_char (take (list_len rest) rest) ≡ true
 unfolding list_len
@@ -173,18 +163,6 @@ goes_on_char c rest other more = elim (cases_Bool (is_identifier_char c)) [
   | inr fails ↦ cc (rw (fails, other) at more)
 ]
 
-goes_on_dot : (c : ℕ) (rest : List ℕ) → eqb c 46 ≡ true → goes_on (c ∷ rest) ≡ true → begins is_identifier_char rest ≡ true
-goes_on_dot c rest dot more = rw (eqb-true c 46 dot) at more
-
-cons_runs : (c : ℕ) (rest : List ℕ) → tail_runs (pieces rest) ≡ true → is_identifier_char c ≡ true → list_all is_identifier (pieces (c ∷ rest)) ≡ true
-cons_runs c rest t h = rw (pieces_cons c rest (not_dot c h)) (onto_tail c (pieces rest) h t)
-
-taken_cons : (c : ℕ) (rest : List ℕ) → tail_runs (pieces (take (list_len rest) rest)) ≡ true → goes_on (c ∷ rest) ≡ true → tail_runs (pieces (c ∷ take (list_len rest) rest)) ≡ true
-taken_cons c rest before more = elim (cases_Bool (eqb c 46)) [
-  | inr other ↦ runs_tail (pieces (c ∷ take (list_len rest) rest)) (cons_runs c (take (list_len rest) rest) before (goes_on_char c rest other more))
-  | inl dot ↦ rw dot (begun_runs (take (list_len rest) rest) (begins_taken rest (goes_on_dot c rest dot more)) before)
-]
-
 -- what a longest list takes is runs, where the first may go on from before
 pub taken_runs : (t : List ℕ) → tail_runs (pieces (take (list_len t) t)) ≡ true
 unfolding list_len
@@ -192,8 +170,13 @@ taken_runs [] = refl
 taken_runs (c ∷ rest) = elim (cases_Bool (goes_on (c ∷ rest))) [
   | inr stop ↦ rw stop refl
   | inl more ↦
-      let step : take (list_len (c ∷ rest)) (c ∷ rest) ≡ c ∷ take (list_len rest) rest = rw (more, add_comm 1 (list_len rest), add-one (list_len rest)) refl in
-      rw step (taken_cons c rest (taken_runs rest) more)
+      let taken = take (list_len rest) rest in
+      let step : take (list_len (c ∷ rest)) (c ∷ rest) ≡ c ∷ taken = rw (more, add_comm 1 (list_len rest), add-one (list_len rest)) refl in
+      rw step (elim (cases_Bool (eqb c 46)) [
+        | inr other ↦
+            rw other (runs_tail (onto_first c (pieces taken)) (onto_tail c (pieces taken) (goes_on_char c rest other more) (taken_runs rest)))
+        | inl dot ↦ rw dot (begun_runs taken (begins_taken rest (rw (eqb-true c 46 dot) at more)) (taken_runs rest))
+      ])
 ]
 
 pub list_ended : (t : List ℕ) → goes_on (drop (list_len t) t) ≡ false
@@ -229,9 +212,8 @@ list_sound text at ids end e = elim (cases_Bool (begins is_identifier_char (drop
 ]
 
 pub first_char : (c : ℕ) (ps : List (List ℕ)) → tail_runs (onto_first c ps) ≡ true → is_identifier_char c ≡ true
-first_char c [] t = first_so (is_identifier_char c) true (first_so (is_identifier_char c && true) true t)
-first_char c (p ∷ ps) t =
-    first_so (is_identifier_char c) (list_all is_identifier_char p) (first_so (is_identifier_char c && list_all is_identifier_char p) (list_all is_identifier ps) t)
+first_char c [] t = (and_parts _ _ (and_parts _ _ t).0).0
+first_char c (p ∷ ps) t = (and_parts _ _ (and_parts _ _ t).0).0
 
 pub runs_begin : (s r : List ℕ) → list_all is_identifier (pieces s) ≡ true → begins is_identifier_char (s ++ r) ≡ true
 runs_begin [] r h = cc

@@ -1,10 +1,9 @@
 -- Runs of identifier characters, and lists of them.
 use Rattle.std.proofs.Common.{◌≡◌, ◌<◌, ◌≤◌, ◌+◌, ◌-◌, ◌^◌, ◌==◌, ℕ, true, false, List, [], ◌∷◌, ◌++◌, length, drop, take, get_or, map, refl, sym, ap, ◌∙◌, arith, Some, ltb, eqb, rules, inl, inr, add_comm, add-one, suc, append_assoc, zero-add}
-use Rattle.std.proofs.lemmas.Bool.{cases_Bool, eqb-true, cases_lt}
+use Rattle.std.proofs.lemmas.Bool.{cases_Bool, eqb-true}
 use Rattle.std.proofs.Math.Seq.{take-add, drop-cons}
-use Rattle.std.proofs.lemmas.List.{get_or-take, length-take, length-drop, get_or-drop, drop-drop, take_rest, drop_all}
+use Rattle.std.proofs.lemmas.List.{get_or-take, length-take, length-drop, get_or-drop, drop-drop}
 use Rattle.std.proofs.lemmas.List.Sums.{prefix_len_passes, prefix_len-le-length}
-use Rattle.std.proofs.lemmas.List.Folds.{length-prefix_len}
 use Rattle.std.proofs.lemmas.Str.{IsCharBoundary-after_ascii}
 use Rattle.std.specs.Str.{IsUtf8, IsCharBoundary}
 use Rattle.std.proofs.lemmas.Bool.Decides.{nat_tests}
@@ -158,23 +157,6 @@ list_more text at start end before id whole ends is spelled more =
     (let sum : end + 1 ≡ start + (n + 1) = omega arith in rw sum (sym (drop-drop (n + 1) start text))) in
     let facts = list_next (drop start text) (rw rest at more) in
     (rw next facts.2, whole ∙ rw (next, facts.0, spelled, append_assoc) refl, rw next (omega (arith, facts.1)))
-
--- a slice to the end
-pub rest_from : (text : List ℕ) (at : ℕ) → take (length text - at) (drop at text) ≡ drop at text
-rest_from text at = take_rest text at
-
-pub run_length : (text : List ℕ) (start : ℕ) → start ≤ length text
-    → (length (take (prefix_len is_identifier_char (drop start text)) (drop start text)) ≡ prefix_len is_identifier_char (drop start text))
-    × (start + prefix_len is_identifier_char (drop start text) ≤ length text)
-run_length text start le =
-    let most = prefix_len-le-length is_identifier_char (drop start text) in
-    (length-prefix_len is_identifier_char (drop start text), omega (arith, length-drop start text))
-
-pub begins_inside : (text : List ℕ) (at : ℕ) → begins is_identifier_char (drop at text) ≡ true → at < length text
-begins_inside text at h = elim (cases_lt at (length text)) [
-  | inl inside ↦ inside
-  | inr past ↦ cc (rw (drop_all at text past) at h)
-]
 
 pub ids_view_push : (xs : List Identifier) (x : Identifier) → ids_view (xs ++ x ∷ []) ≡ ids_view xs ++ id_view x ∷ []
 ids_view_push [] x = refl

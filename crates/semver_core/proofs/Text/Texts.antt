@@ -1,7 +1,8 @@
 -- A version is read exactly where the grammar has it.
-use Rattle.std.proofs.Common.{◌≡◌, ◌==◌, ◌<◌, ◌+◌, ℕ, Bool, true, false, List, [], ◌∷◌, ◌++◌, length, drop, take, Option, Some, None, refl, sym, ap, ◌∙◌, subst, arith, inl, inr, eqb, cond, append_assoc, add-zero, ◌||◌, ◌-◌}
+use Rattle.std.proofs.Common.{◌≡◌, ◌==◌, ◌<◌, ◌+◌, ℕ, true, false, List, [], ◌∷◌, ◌++◌, length, drop, take, Option, Some, None, refl, sym, ap, ◌∙◌, subst, arith, inl, inr, eqb, append_assoc, add-zero, ◌||◌}
 use Rattle.std.proofs.lemmas.Bool.{cases_Bool, eqb-true}
-use Rattle.semver_core.specs.Text.Characters.{begins, is_identifier_char, IsBlank, is_whitespace, BeginsBlank, IsAfterBlank, IsPieceAt}
+use Rattle.semver_core.specs.Text.Characters.{begins, is_identifier_char, IsBlank, is_whitespace}
+use Rattle.semver_core.specs.Text.Characters.{BeginsBlank, IsAfterBlank, IsPieceAt}
 use Rattle.semver_core.specs.Text.VersionText.{HasNoVersion, HasVersionWithIdentifiers, IsMark, IsPreRelease, IsBuild, Reads, begins_pre_release, begins_build, dashed, bare, no_pre_release, plus, no_build, no_mark, small_mark, capital_mark}
 use borrow.Author.Tests.{eq-eqb}
 use Rattle.std.specs.Option.{IsSomeAnd, IfSome, IfNone}
@@ -106,7 +107,8 @@ no_pre [] h k = refl
 no_pre (c ∷ rest) h k = rw h (rw h at k)
 
 -- a list at a place, or none: what is said of either holds of what is found
-list_or_none : (text : List ℕ) (at start : ℕ) (lead : List ℕ) (Is : List ℕ → List ℕ → List Id → Type 0) → drop at text ≡ lead ++ drop start text
+list_or_none : (text : List ℕ) (at start : ℕ) (lead : List ℕ) (Is : List ℕ → List ℕ → List Id → Type 0)
+    → drop at text ≡ lead ++ drop start text
     → ((s r : List ℕ) (ids : List Id) → drop start text ≡ s ++ r → IsLongestIdentifiers s r ids → Is (lead ++ s) r ids)
     → (begins is_identifier_char (drop start text) ≡ false → Is [] (drop at text) [])
     → let found = or_nothing at (list_at text start) in IsPieceAt (λ piece rest. Is piece rest found.0) text at found.1
@@ -114,17 +116,21 @@ list_or_none text at start lead Is e some none = elim (cases_Bool (begins is_ide
   | inr stop ↦ rw (list_none text start stop) (record { piece = []; divided = refl; is = none stop })
   | inl here ↦
       let l = list_sound text start (list_of (drop start text)) (start + list_len (drop start text)) (rw here refl) in
-      rw here (record { piece = lead ++ l.1.0; divided = e ∙ ap (λ t. lead ++ t) l.1.1 ∙ sym (append_assoc lead l.1.0 _); is = some l.1.0 _ _ l.1.1 l.1.2 })
+      let divided = e ∙ ap (λ t. lead ++ t) l.1.1 ∙ sym (append_assoc lead l.1.0 _) in
+      rw here (record { piece = lead ++ l.1.0; divided = divided; is = some l.1.0 _ _ l.1.1 l.1.2 })
 ]
 
-pre_sound : (text : List ℕ) (at : ℕ) → IsPieceAt (λ piece rest. IsPreRelease piece rest (pre_release_at text at).0) text at (pre_release_at text at).1
+pre_sound : (text : List ℕ) (at : ℕ)
+    → IsPieceAt (λ piece rest. IsPreRelease piece rest (pre_release_at text at).0) text at (pre_release_at text at).1
 pre_sound text at = elim (cases_Bool (begins (λ b. b == 45) (drop at text))) [
   | inl dash ↦
       let front = marked 45 text at dash in
-      rw dash (list_or_none text at (at + 1) (45 ∷ []) IsPreRelease front (λ s r ids e l. dashed s r ids l) (λ none. no_pre_release (drop at text) (rw front none)))
+      rw dash (list_or_none text at (at + 1) (45 ∷ []) IsPreRelease front
+      (λ s r ids e l. dashed s r ids l) (λ none. no_pre_release (drop at text) (rw front none)))
   | inr plain ↦
       rw plain (list_or_none text at at [] IsPreRelease refl
-      (λ s r ids e l. bare s r ids l (no_front 45 s r (rw e at plain))) (λ none. no_pre_release (drop at text) (no_pre (drop at text) plain none)))
+      (λ s r ids e l. bare s r ids l (no_front 45 s r (rw e at plain)))
+      (λ none. no_pre_release (drop at text) (no_pre (drop at text) plain none)))
 ]
 
 no_plus : (t : List ℕ) → begins (λ b. b == 43) t ≡ false → begins_build t ≡ false
@@ -150,11 +156,13 @@ no_dash : (s r : List ℕ) → begins is_identifier_char (s ++ []) ≡ true → 
 no_dash [] r h k = cc
 no_dash (c ∷ s) r h k = k
 
-build_sound : (text : List ℕ) (at : ℕ) → IsPieceAt (λ piece rest. IsBuild piece rest (build_at text at).0) text at (build_at text at).1
+build_sound : (text : List ℕ) (at : ℕ)
+    → IsPieceAt (λ piece rest. IsBuild piece rest (build_at text at).0) text at (build_at text at).1
 build_sound text at = elim (cases_Bool (begins (λ b. b == 43) (drop at text))) [
   | inl mark ↦
       let front = marked 43 text at mark in
-      rw mark (list_or_none text at (at + 1) (43 ∷ []) IsBuild front (λ s r ids e l. plus s r ids l) (λ none. no_build (drop at text) (rw front none)))
+      rw mark (list_or_none text at (at + 1) (43 ∷ []) IsBuild front
+      (λ s r ids e l. plus s r ids l) (λ none. no_build (drop at text) (rw front none)))
   | inr plain ↦ rw plain (record { piece = []; divided = refl; is = no_build (drop at text) (no_plus (drop at text) plain) })
 ]
 

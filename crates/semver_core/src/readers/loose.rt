@@ -18,7 +18,7 @@ use crate::{MAX_SAFE_INTEGER, Version, scan};
 use std::alloc::{AllocError, Global};
 
 #[inline(always)]
-#[tactic(auto, using(crate::proofs::Text::Runs::rest_from))]
+#[tactic(auto, using(std::proofs::lemmas::List::take_rest))]
 fn begins_with(bytes: &[u8], at: usize, mark: u8) -> bool
     requires { at ≤ length bytes.now }
     ensures { result ≡ begins (λ b. b == mark) (drop at bytes.now) }

@@ -1,7 +1,7 @@
-use Rattle.std.proofs.Common.{◌≡◌, ◌∙◌, ap, arith, length}
+use Rattle.std.proofs.Common.{◌≡◌, ◌∙◌, arith}
 use Rattle.semver_core.specs.Printing.Text.{version_text}
 use Rattle.semver_core.specs.declared.TheConstants.{MAX_SAFE_INTEGER}
-use Rattle.semver_core.proofs.Printing.Reread.{reread_same, reread_read}
+use Rattle.semver_core.proofs.Printing.Reread.{reread_same}
 use Rattle.semver_core.proofs.laws.printing.reread.Goals as goal
 
 pub returns-clause-same : goal.returns-clause-same
@@ -9,11 +9,3 @@ returns-clause-same c =
     let is : c.as_str-text.result.now ≡ version_text c.args.version.now = c.as_str-text.ensures.value ∙ c.in_ok-text.ensures.ok in
     reread_same MAX_SAFE_INTEGER c.as_str-text.result.now c.parse.result c.args.version.now
     (λ w. c.printed_versions_come_back.ensures.only MAX_SAFE_INTEGER c.args.version.now w (omega arith) is c.requires.readable) c.parse.ensures.ok
-
-pub returns-clause-never_refused : goal.returns-clause-never_refused
-returns-clause-never_refused c =
-    let is : c.as_str-text.result.now ≡ version_text c.args.version.now = c.as_str-text.ensures.value ∙ c.in_ok-text.ensures.ok in
-    reread_read MAX_SAFE_INTEGER c.as_str-text.result.now c.parse.result c.args.version.now (record {
-      short = omega (arith, ap length is, c.requires.short);
-      reads = c.printed_versions_come_back.ensures.read MAX_SAFE_INTEGER c.args.version.now (omega arith) is c.requires.readable;
-    }) c.parse.ensures.refused

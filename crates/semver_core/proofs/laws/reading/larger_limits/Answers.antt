@@ -1,8 +1,5 @@
-use Rattle.semver_core.proofs.Text.LargerLimit.{keeps_reading, keeps_version}
+use Rattle.semver_core.proofs.Text.LargerLimit.{keeps_version}
 use Rattle.semver_core.proofs.laws.reading.larger_limits.Goals as goal
-
-pub returns-clause-read : goal.returns-clause-read
-returns-clause-read c = keeps_reading c.args.text.now
 
 pub returns-clause-same : goal.returns-clause-same
 returns-clause-same c = keeps_version c.args.text.now c.one_reading.ensures
