@@ -9,7 +9,7 @@ use Rattle.std.proofs.lemmas.List.Folds.{list_all-append}
 use Rattle.std.specs.Char.{len_utf8, encode_utf8}
 use Rattle.std.specs.List.{list_all}
 use Rattle.std.specs.Prelude.{encode_utf8_all, IsCharBoundary, IsUtf8, slice_range}
-use Rattle.semver_core.specs.Text.Characters.{is_whitespace, IsBlank, IsAfterBlank}
+use Rattle.semver_core.specs.Text.Characters.{is_whitespace, BeginsBlank, IsAfterBlank, IsBlank}
 
 -- how far whitespace has been passed
 pub record Passed (text : List ℕ) (at end : ℕ) (rest passed : List ℕ) : Type 0 where
@@ -46,26 +46,21 @@ passed_more text at end rest passed next c n u p e white is =
       each = rw (list_all-append, p.each, white) refl;
     }
 
-passed_blank : (text : List ℕ) (at end : ℕ) (rest passed : List ℕ) → Passed text at end rest passed → IsBlank (slice_range text at end)
-passed_blank text at end rest passed p = record { characters = passed; each = p.each; spelled = p.blank }
+after_passed : (text : List ℕ) (at end : ℕ) (rest passed : List ℕ) → Passed text at end rest passed
+    → (BeginsBlank (drop end text) → ⊥) → IsAfterBlank text at end
+after_passed text at end rest passed p never =
+    let blank : IsBlank (slice_range text at end) = record { characters = passed; each = p.each; spelled = p.blank } in
+    record { after = p.after; boundary = p.boundary; blank = blank; ended = never }
 
 pub passed_stop : (text : List ℕ) (at end : ℕ) (rest passed next : List ℕ) (c : ℕ) → Passed text at end rest passed → rest ≡ encode_utf8 c ++ next
     → is_whitespace c ≡ false → IsAfterBlank text at end
-passed_stop text at end rest passed next c p e dark = record {
-  after = p.after;
-  boundary = p.boundary;
-  blank = passed_blank text at end rest passed p;
-  ended = λ b. let same = encode_same c b.character next b.rest (sym (sym p.rest_is ∙ e) ∙ b.spelled) in
-      true≢false (sym b.passes ∙ ap is_whitespace (sym same.0) ∙ dark);
-}
+passed_stop text at end rest passed next c p e dark = after_passed text at end rest passed p (λ b.
+    let same = encode_same c b.character next b.rest (sym (sym p.rest_is ∙ e) ∙ b.spelled) in
+    true≢false (sym b.passes ∙ ap is_whitespace (sym same.0) ∙ dark))
 
 pub passed_end : (text : List ℕ) (at end : ℕ) (rest passed : List ℕ) → Passed text at end rest passed → length rest ≡ 0 → IsAfterBlank text at end
-passed_end text at end rest passed p none = record {
-  after = p.after;
-  boundary = p.boundary;
-  blank = passed_blank text at end rest passed p;
-  ended = λ b. let some = len_utf8_bounds b.character in
-      absurd (omega (arith, none, ap length (p.rest_is ∙ b.spelled), length-append (encode_utf8 b.character) b.rest, length-encode b.character, some.0));
-}
+passed_end text at end rest passed p none = after_passed text at end rest passed p (λ b.
+    let some = len_utf8_bounds b.character in
+    absurd (omega (arith, none, ap length (p.rest_is ∙ b.spelled), length-append (encode_utf8 b.character) b.rest, length-encode b.character, some.0)))
 
 pub ruleset passing = (passed_none, passed_more, passed_room, passed_stop, passed_end)

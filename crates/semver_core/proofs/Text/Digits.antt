@@ -3,16 +3,12 @@ use Rattle.std.proofs.Common.{◌≡◌, ◌<◌, ◌≤◌, ◌+◌, ◌-◌, �
 use Rattle.std.proofs.Math.Seq.{drop-cons}
 use Rattle.std.proofs.lemmas.Bool.Decides.{nat_tests}
 use Rattle.std.proofs.lemmas.Str.{digit_value_digit}
-use Rattle.std.specs.Int.{IsInRange}
 use Rattle.std.specs.Char.{is_ascii_digit, digit_value}
 use Rattle.semver_core.specs.Internal.Reading.{digits_from, digits_end, placed}
 use Rattle.std.proofs.lemmas.List.{drop_all}
 
-pub in_range : (c : ℕ) → is_ascii_digit c ≡ true → IsInRange 48 57 c
-in_range c h = grind (arith, nat_tests)
-
 pub digit_value-is : (c : ℕ) → is_ascii_digit c ≡ true → digit_value c ≡ c - 48
-digit_value-is c h = let e = digit_value_digit c (in_range c h) in omega arith
+digit_value-is c h = let e = digit_value_digit c (grind (arith, nat_tests)) in omega arith
 
 pub digits_step : (limit : ℕ) (v at : ℕ) (xs : List ℕ) (i : ℕ) → at ≤ i → i < length xs → is_ascii_digit (get_or xs i 0) ≡ true → v * 10 + (get_or xs i 0 - 48) ≤ limit
     → digits_from limit v (i - at) (drop i xs) ≡ digits_from limit (v * 10 + (get_or xs i 0 - 48)) (i + 1 - at) (drop (i + 1) xs)

@@ -1,5 +1,5 @@
 -- Where the identifiers that begin at a place end, and that what stands there spells them.
-use Rattle.std.proofs.Common.{◌≡◌, ℕ, ◌<◌, ◌≤◌, ◌+◌, ◌-◌, List, [], ◌∷◌, length, drop, take, get_or, refl, sym, ap, ◌∙◌, arith, true, false, add-one, Some}
+use Rattle.std.proofs.Common.{◌≡◌, ℕ, ◌<◌, ◌≤◌, ◌+◌, ◌-◌, List, [], ◌∷◌, length, drop, take, refl, arith, true, false, add-one, Some}
 use Rattle.std.proofs.Math.Seq.{drop-cons}
 use Rattle.std.proofs.lemmas.List.{drop_all}
 use Rattle.std.specs.List.{list_all}
@@ -19,10 +19,9 @@ use Rattle.semver_core.proofs.Text.Whole.{front_read, release_read}
 -- the loop
 pub end_step : (xs : List ℕ) (i : ℕ) → i < length xs → goes_on (drop i xs) ≡ true → list_len (drop i xs) ≡ 1 + list_len (drop (i + 1) xs)
 unfolding list_len
-end_step xs i lt h = step (drop i xs) (drop (i + 1) xs) (drop-cons xs i 0 lt ∙ ap (λ l. get_or xs i 0 ∷ l) (sym (ap (λ n. drop n xs) (add-one i)))) h
-  where
-    step : (t rest : List ℕ) → t ≡ get_or xs i 0 ∷ rest → goes_on t ≡ true → list_len t ≡ 1 + list_len rest
-    step t rest e g = rw e (rw (rw e at g) refl)
+end_step xs i lt h =
+    let more = rw (drop-cons xs i 0 lt) at h in
+    rw (drop-cons xs i 0 lt, add-one i, more) refl
 
 pub end_stop : (xs : List ℕ) (i : ℕ) → goes_on (drop i xs) ≡ false → list_len (drop i xs) ≡ 0
 end_stop xs i h = list_len_stop (drop i xs) h

@@ -174,7 +174,8 @@ taken_runs (c ∷ rest) = elim (cases_Bool (goes_on (c ∷ rest))) [
       let step : take (list_len (c ∷ rest)) (c ∷ rest) ≡ c ∷ taken = rw (more, add_comm 1 (list_len rest), add-one (list_len rest)) refl in
       rw step (elim (cases_Bool (eqb c 46)) [
         | inr other ↦
-            rw other (runs_tail (onto_first c (pieces taken)) (onto_tail c (pieces taken) (goes_on_char c rest other more) (taken_runs rest)))
+            rw other (runs_tail (onto_first c (pieces taken))
+            (onto_tail c (pieces taken) (goes_on_char c rest other more) (taken_runs rest)))
         | inl dot ↦ rw dot (begun_runs taken (begins_taken rest (rw (eqb-true c 46 dot) at more)) (taken_runs rest))
       ])
 ]

@@ -24,17 +24,8 @@ three_code c h l =
     let f : (c / 4096) * 64 + (c / 64) % 64 ≡ c / 64 = omega (arith, e) in
     rw (a, b, d, f) (omega arith)
 
-in_range : (lo hi c : ℕ) → lo ≤ c → c ≤ hi → is_in_range lo hi c ≡ true
-in_range lo hi c l h = rw (le-leb lo c l, le-leb c hi h) refl
-
-above_range : (lo hi c : ℕ) → hi < c → is_in_range lo hi c ≡ false
-above_range lo hi c h = grind (arith, nat_tests)
-
-below_range : (lo hi c : ℕ) → c < lo → is_in_range lo hi c ≡ false
-below_range lo hi c h = grind (arith, nat_tests)
-
 goes_on : (n : ℕ) → goes_on_with (128 + n % 64) ≡ true
-goes_on n = in_range 0x80 0xBF (128 + n % 64) (omega arith) (omega arith)
+goes_on n = rw (le-leb 0x80 (128 + n % 64) (omega arith), le-leb (128 + n % 64) 0xBF (omega arith)) refl
 
 -- whitespace has at most three bytes
 wide_is_dark : (c : ℕ) → 65536 ≤ c → is_whitespace c ≡ false
@@ -52,59 +43,46 @@ not_three a b (c ∷ rest) h = rw h refl
 two_bytes : (a b c : ℕ) (rest : List ℕ) → 192 ≤ a → a < 224 → goes_on_with b ≡ true → (a % 32) * 64 + b % 64 ≡ c
     → space_len (a ∷ b ∷ rest) ≡ (if is_whitespace c then 2 else 0)
 two_bytes a b c rest l h g e =
-    let first : is_in_range 0xC0 0xDF a ≡ true = in_range 0xC0 0xDF a l (omega arith) in
-    high a (b ∷ rest) (omega arith) ∙ rw (first, g, e, not_three a b rest (below_range 0xE0 0xEF a h)) refl
+    let first : is_in_range 0xC0 0xDF a ≡ true = grind (arith, nat_tests) in
+    high a (b ∷ rest) (omega arith) ∙ rw (first, g, e, not_three a b rest (grind (arith, nat_tests))) refl
 
 three_bytes : (a b c d : ℕ) (rest : List ℕ) → 224 ≤ a → a < 240 → goes_on_with b ≡ true → goes_on_with c ≡ true
     → ((a % 16) * 64 + b % 64) * 64 + c % 64 ≡ d → space_len (a ∷ b ∷ c ∷ rest) ≡ (if is_whitespace d then 3 else 0)
 three_bytes a b c d rest l h g k e =
-    let not_two : is_in_range 0xC0 0xDF a ≡ false = above_range 0xC0 0xDF a l in
-    let first : is_in_range 0xE0 0xEF a ≡ true = in_range 0xE0 0xEF a l (omega arith) in
+    let not_two : is_in_range 0xC0 0xDF a ≡ false = grind (arith, nat_tests) in
+    let first : is_in_range 0xE0 0xEF a ≡ true = grind (arith, nat_tests) in
     high a (b ∷ c ∷ rest) (omega arith) ∙ rw (not_two, first, g, k, e) refl
 
 four_bytes : (a b : ℕ) (rest : List ℕ) → 240 ≤ a → space_len (a ∷ b ∷ rest) ≡ 0
 four_bytes a b rest l =
-    let not_two : is_in_range 0xC0 0xDF a ≡ false = above_range 0xC0 0xDF a (omega arith) in
-    high a (b ∷ rest) (omega arith) ∙ rw not_two (not_three a b rest (above_range 0xE0 0xEF a l))
+    let not_two : is_in_range 0xC0 0xDF a ≡ false = grind (arith, nat_tests) in
+    high a (b ∷ rest) (omega arith) ∙ rw not_two (not_three a b rest (grind (arith, nat_tests)))
 
 -- a byte inside a character begins none
 pub space_len-inside : (b : ℕ) (rest : List ℕ) → 128 ≤ b → b < 192 → space_len (b ∷ rest) ≡ 0
 space_len-inside b [] l h = high b [] l
 space_len-inside b (c ∷ rest) l h =
-    let not_two : is_in_range 0xC0 0xDF b ≡ false = below_range 0xC0 0xDF b h in
-    high b (c ∷ rest) l ∙ rw not_two (not_three b c rest (below_range 0xE0 0xEF b (omega arith)))
+    let not_two : is_in_range 0xC0 0xDF b ≡ false = grind (arith, nat_tests) in
+    high b (c ∷ rest) l ∙ rw not_two (not_three b c rest (grind (arith, nat_tests)))
 
 -- the characters of one byte, of two, of three and of four
-front_one : (c : ℕ) (rest : List ℕ) → c < 128 → space_len (encode_utf8 c ++ rest) ≡ (if is_whitespace c then len_utf8 c else 0)
-unfolding space_len
-front_one c rest h = rw (encode_ascii c h, len_utf8_ascii c h, lt-ltb c 128 h) refl
-
-front_two : (c : ℕ) (rest : List ℕ) → 128 ≤ c → c < 2048 → space_len (encode_utf8 c ++ rest) ≡ (if is_whitespace c then len_utf8 c else 0)
-unfolding encode_utf8
-front_two c rest l h =
-    rw (le-ltb c 128 l, lt-ltb c 2048 h) (two_bytes (192 + c / 64) (128 + c % 64) c rest (omega arith) (omega arith) (goes_on c) (two_code c l h))
-
-front_three : (c : ℕ) (rest : List ℕ) → 2048 ≤ c → c < 65536 → space_len (encode_utf8 c ++ rest) ≡ (if is_whitespace c then len_utf8 c else 0)
-unfolding encode_utf8
-front_three c rest l h =
-    let low : 128 ≤ c = omega arith in
-    rw (le-ltb c 128 low, le-ltb c 2048 l, lt-ltb c 65536 h)
-    (three_bytes (224 + c / 4096) (128 + (c / 64) % 64) (128 + c % 64) c rest (omega arith) (omega arith) (goes_on (c / 64)) (goes_on c) (three_code c l h))
-
-front_four : (c : ℕ) (rest : List ℕ) → 65536 ≤ c → space_len (encode_utf8 c ++ rest) ≡ (if is_whitespace c then len_utf8 c else 0)
-unfolding encode_utf8
-front_four c rest l =
-    let one : 128 ≤ c = omega arith in
-    let two : 2048 ≤ c = omega arith in
-    rw (wide_is_dark c l, le-ltb c 128 one, le-ltb c 2048 two, le-ltb c 65536 l)
-    (four_bytes (240 + c / 262144) (128 + (c / 4096) % 64) ((128 + (c / 64) % 64) ∷ (128 + c % 64) ∷ rest) (omega arith))
-
 pub front_is_first_character : (c : ℕ) (rest : List ℕ) → space_len (encode_utf8 c ++ rest) ≡ (if is_whitespace c then len_utf8 c else 0)
+unfolding space_len encode_utf8
 front_is_first_character c rest = elim (cases_lt c 128) [
-  | inl one ↦ front_one c rest one
-  | inr more ↦ elim (cases_lt c 2048) [
-    | inl two ↦ front_two c rest more two
-    | inr more ↦ elim (cases_lt c 65536) [ inl three ↦ front_three c rest more three | inr four ↦ front_four c rest four ]
+  | inl one ↦ rw (encode_ascii c one, len_utf8_ascii c one, lt-ltb c 128 one) refl
+  | inr low ↦ elim (cases_lt c 2048) [
+    | inl two ↦
+        rw (le-ltb c 128 low, lt-ltb c 2048 two)
+        (two_bytes (192 + c / 64) (128 + c % 64) c rest (omega arith) (omega arith) (goes_on c) (two_code c low two))
+    | inr mid ↦ elim (cases_lt c 65536) [
+      | inl three ↦
+          rw (le-ltb c 128 low, le-ltb c 2048 mid, lt-ltb c 65536 three)
+          (three_bytes (224 + c / 4096) (128 + (c / 64) % 64) (128 + c % 64) c rest
+          (omega arith) (omega arith) (goes_on (c / 64)) (goes_on c) (three_code c mid three))
+      | inr four ↦
+          rw (wide_is_dark c four, le-ltb c 128 low, le-ltb c 2048 mid, le-ltb c 65536 four)
+          (four_bytes (240 + c / 262144) (128 + (c / 4096) % 64) ((128 + (c / 64) % 64) ∷ (128 + c % 64) ∷ rest) (omega arith))
+    ]
   ]
 ]
 

@@ -342,7 +342,8 @@ loose_at limit text start v a r =
     let none : mark_len (r.blank ++ D) ≡ 0 = rw blank (blank_no_mark r.blank_is.characters D r.blank_is.each digit) in
     let marked : drop k text ≡ r.blank ++ D = past_mark text r.mark (r.blank ++ D) r.mark_is r.divided none in
     let both : encode_utf8_all a.blank.characters ++ drop start text ≡ encode_utf8_all r.blank_is.characters ++ D =
-    ap (λ t. t ++ drop start text) (sym a.blank.spelled) ∙ sym (drop_split text k start a.after) ∙ marked ∙ ap (λ t. t ++ D) blank in
+    ap (λ t. t ++ drop start text) (sym a.blank.spelled) ∙ sym (drop_split text k start a.after)
+    ∙ marked ∙ ap (λ t. t ++ D) blank in
     let found = read_at limit text start v r
     (one_blank a.blank.characters r.blank_is.characters (drop start text) D a.blank.each r.blank_is.each a.ended (small_digit D digit) both) in
     rw (found.1, found.2) refl

@@ -1,11 +1,11 @@
 -- Serves proofs. The text without the whitespace round it, by bytes and by characters.
-use Rattle.std.proofs.Common.{◌≡◌, ℕ, ◌<◌, ◌≤◌, ◌-◌, ◌+◌, ◌/◌, ◌%◌, List, [], ◌∷◌, ◌++◌, length, get_or, take, drop, refl, sym, ap, ◌∙◌, subst, arith, true, false, inl, inr, append_assoc, length-append, append-nil}
+use Rattle.std.proofs.Common.{◌≡◌, ℕ, ◌<◌, ◌≤◌, ◌-◌, ◌+◌, ◌/◌, ◌%◌, List, [], ◌∷◌, ◌++◌, length, get_or, drop, refl, sym, ap, ◌∙◌, subst, arith, true, false, inl, inr, append_assoc, length-append, append-nil}
 use Rattle.std.specs.Prelude.{⊤, encode_utf8_all, IsCharBoundary, IsUtf8, reverse}
 use Rattle.std.specs.Char.{encode_utf8, len_utf8}
 use Rattle.std.specs.List.{list_all}
 use Rattle.std.proofs.lemmas.Bool.{and_parts, and_from, cases_Bool, cases_lt, lt-ltb, le-ltb}
-use Rattle.std.proofs.lemmas.List.{length-drop, take-append-drop, drop-drop, drop_at, reverse-append, length-reverse}
-use Rattle.std.proofs.lemmas.List.Folds.{list_all-append}
+use Rattle.std.proofs.lemmas.List.{length-drop, drop_at, reverse-append, length-reverse}
+use Rattle.std.proofs.lemmas.List.Folds.{drop_split, list_all-append}
 use Rattle.std.proofs.Math.Seq.{get_or-append_right, take-append_seam}
 use Rattle.std.proofs.lemmas.Str.{IsUtf8-drop, IsUtf8-take, encode_ascii, encodes-append, length-encode, len_utf8_bounds}
 use Rattle.semver_core.specs.Text.Characters.{is_whitespace, begins, IsTrim, BeginsBlank, IsAfterBlank}
@@ -181,18 +181,15 @@ pub record Fronted (cs : List ℕ) : Type 0 where
 pub fronted : (cs : List ℕ) → Fronted cs
 fronted [] = record { before = []; rest = []; divided = refl; blank = refl; dark = refl }
 fronted (c ∷ cs) = elim (cases_Bool (is_whitespace c)) [
-  | inl white ↦ white_on c cs white (fronted cs)
+  | inl white ↦ let f = fronted cs in record {
+    before = c ∷ f.before;
+    rest = f.rest;
+    divided = ap (λ t. c ∷ t) f.divided;
+    blank = and_from (is_whitespace c) (list_all is_whitespace f.before) white f.blank;
+    dark = f.dark;
+  }
   | inr dark ↦ record { before = []; rest = c ∷ cs; divided = refl; blank = refl; dark = dark }
 ]
-  where
-    white_on : (c : ℕ) (cs : List ℕ) → is_whitespace c ≡ true → Fronted cs → Fronted (c ∷ cs)
-    white_on c cs white f = record {
-      before = c ∷ f.before;
-      rest = f.rest;
-      divided = ap (λ t. c ∷ t) f.divided;
-      blank = and_from (is_whitespace c) (list_all is_whitespace f.before) white f.blank;
-      dark = f.dark;
-    }
 
 -- and into what ends with another character and whitespace
 pub record Ended (cs : List ℕ) : Type 0 where
@@ -204,17 +201,15 @@ pub record Ended (cs : List ℕ) : Type 0 where
 
 pub ended : (cs : List ℕ) → Ended cs
 ended [] = record { rest = []; after = []; divided = refl; blank = refl; dark = refl }
-ended (c ∷ cs) = more c cs (ended cs)
+ended (c ∷ cs) = let e = ended cs in go e.after e.blank e.rest e.divided e.dark
   where
-    more : (c : ℕ) (cs : List ℕ) → Ended cs → Ended (c ∷ cs)
-    more c cs e = go e.rest e.divided e.dark
-      where
-        go : (rest : List ℕ) → cs ≡ rest ++ e.after → begins is_whitespace (reverse rest) ≡ false → Ended (c ∷ cs)
-        go [] divided dark = elim (cases_Bool (is_whitespace c)) [
-          | inl white ↦ record { rest = []; after = c ∷ e.after; divided = ap (λ t. c ∷ t) divided; blank = and_from (is_whitespace c) (list_all is_whitespace e.after) white e.blank; dark = refl }
-          | inr dark ↦ record { rest = c ∷ []; after = e.after; divided = ap (λ t. c ∷ t) divided; blank = e.blank; dark = dark }
-        ]
-        go (d ∷ rest) divided dark = record { rest = c ∷ d ∷ rest; after = e.after; divided = ap (λ t. c ∷ t) divided; blank = e.blank; dark = ends_front c d rest ∙ dark }
+    go : (after : List ℕ) → list_all is_whitespace after ≡ true → (rest : List ℕ) → cs ≡ rest ++ after
+        → begins is_whitespace (reverse rest) ≡ false → Ended (c ∷ cs)
+    go after blank [] divided dark = elim (cases_Bool (is_whitespace c)) [
+      | inl white ↦ record { rest = []; after = c ∷ after; divided = ap (λ t. c ∷ t) divided; blank = and_from (is_whitespace c) (list_all is_whitespace after) white blank; dark = refl }
+      | inr dark ↦ record { rest = c ∷ []; after = after; divided = ap (λ t. c ∷ t) divided; blank = blank; dark = dark }
+    ]
+    go after blank (d ∷ rest) divided dark = record { rest = c ∷ d ∷ rest; after = after; divided = ap (λ t. c ∷ t) divided; blank = blank; dark = ends_front c d rest ∙ dark }
 
 begins_front : (cs after : List ℕ) → begins is_whitespace (cs ++ after) ≡ false → begins is_whitespace cs ≡ false
 begins_front [] after h = refl
@@ -258,12 +253,10 @@ dark_here text utf8 dark = go utf8.0 utf8.1.1
 
 pub after_blank_drops_spaces : (text : List ℕ) (at end : ℕ) → IsUtf8 text → IsAfterBlank text at end → drop end text ≡ drop_spaces (drop at text)
 after_blank_drops_spaces text at end utf8 a =
-    let place : at + (end - at) ≡ end = omega (arith, a.after) in
-    let whole = sym (take-append-drop (end - at) (drop at text)) ∙ ap (λ t. take (end - at) (drop at text) ++ t) (drop-drop (end - at) at text ∙ ap (λ n. drop n text) place) in
     sym (dark_here (drop end text) (IsUtf8-drop text end utf8 a.boundary) a.ended)
     ∙ sym (drop_spaces-blank a.blank.characters (drop end text) a.blank.each)
     ∙ ap (λ t. drop_spaces (t ++ drop end text)) (sym a.blank.spelled)
-    ∙ ap drop_spaces (sym whole)
+    ∙ ap drop_spaces (sym (drop_split text at end a.after))
 
 -- that place is where so much of the text is left
 pub after_blank-place : (text : List ℕ) (at end : ℕ) → IsUtf8 text → IsAfterBlank text at end → end ≡ length text - length (drop_spaces (drop at text))

@@ -11,7 +11,7 @@ use Rattle.semver_core.specs.Text.Common.{IsCommon, IsUncommon}
 use Rattle.semver_core.specs.Internal.CommonReading.{small_len, at_end, whole_at, common_of}
 use Rattle.semver_core.specs.Text.VersionText.{HasVersionWithIdentifiers, HasNoVersion, IsMark, Reads, no_mark, small_mark, capital_mark}
 use Rattle.semver_core.specs.Text.Identifiers.{Id}
-use Rattle.semver_core.specs.Internal.Reading.{triple_at, pre_release_at, build_at, lists_at, qualified, version_at, HasOneReading}
+use Rattle.semver_core.specs.Internal.Reading.{triple_at, lists_at, qualified, version_at, HasOneReading}
 use Rattle.semver_core.specs.Values.Versions.{VersionValue, HasIdentifiers}
 use Rattle.semver_core.proofs.Text.Pieces.{some_inside}
 use Rattle.semver_core.proofs.Text.Texts.{memory_read, rest_of, divided_at, bind_some, none_build, number_begins, none_pre, read_at, version_sound}
@@ -94,45 +94,20 @@ alike limit text (Some v) (Some w) f l n one = ap Some (one limit w v l f.divisi
 
 -- ---- what the code finds
 
-something_left : {A : Type 0} (text : List ℕ) (end : ℕ) (x : A) → end < length text → at_end (drop end text) x ≡ None
-something_left text end x lt = rw (drop-cons text end 0 lt) refl
+-- what both lists and the place behind them make
+abbrev whole_of : List ℕ → ℕ → ℕ → ℕ → List Id × List Id × ℕ → Option VersionValue
+whole_of text major minor patch l =
+    at_end (drop l.2 text) (record { major = major; minor = minor; patch = patch; pre_release = l.0; build = l.1 })
 
-whole_left : (text : List ℕ) (major minor patch at next end : ℕ) (pre build : List Id) → (pre, next) ≡ pre_release_at text at → (build, end) ≡ build_at text next
-    → end < length text → whole_at text (major, minor, patch, at) ≡ None
-whole_left text major minor patch at next end pre build e f lt = rw (← e, ← f) (something_left text end _ lt)
-
--- a list and the place after it
-abbrev placed : List Id → ℕ → List Id × ℕ
-placed list end = (list, end)
-
--- both lists at once
 pub lists_found : (text : List ℕ) (major minor patch at end : ℕ) (pre build : List Id) → (pre, build, end) ≡ lists_at text at → length text ≤ end
     → whole_at text (major, minor, patch, at) ≡ Some (record { major = major; minor = minor; patch = patch; pre_release = pre; build = build })
 lists_found text major minor patch at end pre build e le =
-    let next = (pre_release_at text at).1 in
-    let first : (pre, next) ≡ pre_release_at text at = ap (λ (l : List Id × List Id × ℕ). placed l.0 next) e in
-    let second : (build, end) ≡ build_at text next = ap (λ (l : List Id × List Id × ℕ). placed l.1 l.2) e in
-    rw (← first, ← second, drop_all end text le) refl
+    ap (whole_of text major minor patch) (sym e) ∙ rw (drop_all end text le) refl
 
 pub lists_left : (text : List ℕ) (major minor patch at end : ℕ) (pre build : List Id) → (pre, build, end) ≡ lists_at text at → end < length text
     → whole_at text (major, minor, patch, at) ≡ None
 lists_left text major minor patch at end pre build e lt =
-    let next = (pre_release_at text at).1 in
-    whole_left text major minor patch at next end pre build
-    (ap (λ (l : List Id × List Id × ℕ). placed l.0 next) e) (ap (λ (l : List Id × List Id × ℕ). placed l.1 l.2) e) lt
-
-release_at : (text : List ℕ) (major minor patch at : ℕ) → drop at text ≡ [] → whole_at text (major, minor, patch, at) ≡ Some (record { major = major; minor = minor; patch = patch; pre_release = []; build = [] })
-release_at text major minor patch at none =
-    let pre : pre_release_at text at ≡ ([], at) = none_pre text at [] none refl in
-    let build : build_at text at ≡ ([], at) = none_build text at [] none refl in
-    rw (pre, build, none) refl
-
-common_is : (limit : ℕ) (text : List ℕ) (t : ℕ × ℕ × ℕ × ℕ) → Some t ≡ triple_at limit text (small_len text) → common_of limit text ≡ whole_at text t
-common_is limit text t e = rw (← e) refl
-
-release_found : (limit : ℕ) (text : List ℕ) (major minor patch at : ℕ) → Some (major, minor, patch, at) ≡ triple_at limit text (small_len text) → length text ≤ at
-    → common_of limit text ≡ Some (record { major = major; minor = minor; patch = patch; pre_release = []; build = [] })
-release_found limit text major minor patch at e le = common_is limit text (major, minor, patch, at) e ∙ release_at text major minor patch at (drop_all at text le)
+    ap (whole_of text major minor patch) (sym e) ∙ rw (drop-cons text end 0 lt) refl
 
 pub common_memory : (limit : ℕ) (text : List ℕ) → IsSomeAnd (version_at limit text (small_len text)) HasIdentifiers → HasVersionWithIdentifiers limit text
 common_memory limit text h = memory_read limit text (version_at limit text (small_len text)) (λ v e.
@@ -146,7 +121,11 @@ front_read limit text t e =
 pub release_read : (limit : ℕ) (text : List ℕ) (major minor patch at : ℕ) → Some (major, minor, patch, at) ≡ triple_at limit text (small_len text) → length text ≤ at
     → Reads limit text (record { major = major; minor = minor; patch = patch; pre_release = []; build = [] })
 release_read limit text major minor patch at e le =
-    (common_sound limit text (record { major = major; minor = minor; patch = patch; pre_release = []; build = [] }) (release_found limit text major minor patch at e le)).division
+    let none = drop_all at text le in
+    let is : qualified text (major, minor, patch, at)
+    ≡ record { major = major; minor = minor; patch = patch; pre_release = []; build = [] } =
+    rw (none_pre text at [] none refl, none_build text at [] none refl) refl in
+    rw (← is) (front_read limit text (major, minor, patch, at) e)
 
 pub ruleset lists_behind = (lists_found, lists_left)
 
