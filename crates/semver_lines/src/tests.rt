@@ -21,48 +21,63 @@ mod run;
 mod scan;
 mod version;
 
-use nodejs_semver::{Identifier, Range, Version};
+use nodejs_semver::{Failure, Identifier, Range, SemverError, Version};
 use std::alloc::{AllocError, Global};
 use std::fmt::Display;
 
-// A test calls helpers that each own one value and lend it, and asserts what they return.
+// A function that owns several values is dear to prove, since each of its exits lets go of all of
+// them. So a test asserts what helpers return, and each of these owns one value and lends it.
 
 // Whether the value prints as this text.
 fn prints<T: Display>(alloc: Global, value: &T, text: &str) -> bool {
-    match value.to_string(alloc) {
-        Ok(printed) => printed.as_str() == text,
+    is_text(value.to_string(alloc), text)
+}
+
+// Whether there is a text, and it is this one.
+fn is_text(found: Result<String, AllocError>, text: &str) -> bool {
+    match found {
+        Ok(found) => found.as_str() == text,
         Err(_) => false,
     }
 }
 
 // Whether there is a version, and it prints as this text.
-fn is_version(alloc: Global, version: Option<Version>, text: &str) -> bool {
-    match version {
+fn is_version(alloc: Global, found: Option<Version>, text: &str) -> bool {
+    match found {
         Some(version) => prints(alloc, &version, text),
         None => false,
     }
 }
 
-// Whether there is a range, and it prints as this text.
-fn is_range(alloc: Global, range: Option<Range>, text: &str) -> bool {
-    match range {
-        Some(range) => range_prints(alloc, &range, text),
+// Whether there is a version, and it equals this one.
+fn is_same_version(found: Option<Version>, version: &Version) -> bool {
+    match found {
+        Some(found) => found == *version,
         None => false,
     }
 }
 
-fn range_prints(alloc: Global, range: &Range, text: &str) -> bool {
-    match range.to_string(alloc) {
-        Ok(printed) => printed.as_str() == text,
-        Err(_) => false,
+// Whether there is a range, and it prints as this text.
+fn is_range(alloc: Global, found: Option<Range>, text: &str) -> bool {
+    match found {
+        Some(range) => is_text(range.to_string(alloc), text),
+        None => false,
     }
 }
 
-// Whether the range equals the one of this text.
-fn range_equals(alloc: Global, range: &Range, text: &str) -> bool {
-    match Range::parse(alloc, text) {
-        Ok(other) => *range == other,
-        Err(_) => false,
+// Whether there is a range, and it equals this one.
+fn is_same_range(found: Option<Range>, range: &Range) -> bool {
+    match found {
+        Some(found) => found == *range,
+        None => false,
+    }
+}
+
+// Whether the error is a rejection, and no allocation failure.
+fn is_refused(error: Option<Failure<SemverError>>) -> bool {
+    match error {
+        Some(Failure::Refused(SemverError)) => true,
+        _ => false,
     }
 }
 
@@ -88,5 +103,21 @@ fn one_identifier(alloc: Global, identifier: Option<Identifier>) -> Option<Vec<I
     match identifier {
         Some(identifier) => vec![in alloc; identifier].ok(),
         None => None,
+    }
+}
+
+// The version that begins with 1 and has these numbers and lists.
+fn made_by_hand(
+    alloc: Global,
+    minor: u64,
+    patch: u64,
+    pre_release: Option<Vec<Identifier>>,
+    build: Option<Vec<Identifier>>,
+) -> Option<Version> {
+    match (pre_release, build) {
+        (Some(pre_release), Some(build)) => {
+            Version::new(alloc, 1, minor, patch, pre_release, build).ok()
+        }
+        (_, _) => None,
     }
 }

@@ -1,7 +1,7 @@
 // Ranges that borrow their text.
 
-use super::{prints, range_equals};
-use nodejs_semver::{OutsideDirection, RangeRef, SemverError, VersionRef};
+use super::{is_same_range, prints};
+use nodejs_semver::{OutsideDirection, Range, RangeRef, SemverError, VersionRef};
 use std::alloc::Global;
 
 // A range text and its printed text.
@@ -16,7 +16,7 @@ const PRINTED: &[(&str, &str)] = &[
 // Whether the range that owns what this one borrows equals that of the text.
 fn owned_equals(alloc: Global, range: &RangeRef<'_>, text: &str) -> bool {
     match range.to_range(alloc) {
-        Ok(owned) => range_equals(alloc, &owned, text),
+        Ok(owned) => is_same_range(Range::parse(alloc, text).ok(), &owned),
         Err(_) => false,
     }
 }

@@ -80,22 +80,19 @@ fn has_flaw(text: &str, flaw: VersionFlaw) -> bool {
     version_flaw(text) == Some(flaw)
 }
 
-fn is_version(alloc: Global, text: &str) -> bool {
-    match Version::parse(alloc, text) {
-        Ok(_) => true,
-        Err(_) => false,
-    }
+fn has_version(alloc: Global, text: &str) -> bool {
+    Version::parse(alloc, text).is_ok()
 }
 
 #[test]
 fn a_text_that_is_one_version_has_no_flaw(rt: HostRuntime) {
     for &text in EXACT {
-        assert!(rt; is_exact(text) && is_version(rt.alloc(), text), "{text:?}");
+        assert!(rt; is_exact(text) && has_version(rt.alloc(), text), "{text:?}");
     }
 }
 
 fn is_ignored(alloc: Global, text: &str, at: usize) -> bool {
-    has_flaw(text, VersionFlaw::Ignored { at }) && is_version(alloc, text)
+    has_flaw(text, VersionFlaw::Ignored { at }) && has_version(alloc, text)
 }
 
 #[test]
@@ -107,7 +104,7 @@ fn text_behind_a_version_is_ignored(rt: HostRuntime) {
 
 // Whether the text is no version, for this flaw, and the flaw prints so.
 fn is_rejected(alloc: Global, text: &str, flaw: VersionFlaw, message: &str) -> bool {
-    has_flaw(text, flaw) && prints(alloc, &flaw, message) && !is_version(alloc, text)
+    has_flaw(text, flaw) && prints(alloc, &flaw, message) && !has_version(alloc, text)
 }
 
 #[test]
@@ -119,7 +116,7 @@ fn a_rejected_text_says_what_was_expected(rt: HostRuntime) {
 }
 
 fn is_too_great(alloc: Global, text: &str, at: usize) -> bool {
-    has_flaw(text, VersionFlaw::NumberTooGreat { at }) && !is_version(alloc, text)
+    has_flaw(text, VersionFlaw::NumberTooGreat { at }) && !has_version(alloc, text)
 }
 
 #[test]
@@ -215,18 +212,15 @@ fn ignored_words_are_listed(rt: HostRuntime) {
     }
 }
 
-fn is_range(alloc: Global, text: &str) -> bool {
-    match Range::parse(alloc, text) {
-        Ok(_) => true,
-        Err(_) => false,
-    }
+fn has_range(alloc: Global, text: &str) -> bool {
+    Range::parse(alloc, text).is_ok()
 }
 
 #[test]
 fn texts_that_are_read_whole_have_no_ignored_word(rt: HostRuntime) {
     for &text in WHOLE {
         assert!(rt;
-            is_read_whole(text) && is_range(rt.alloc(), text),
+            is_read_whole(text) && has_range(rt.alloc(), text),
             "{text:?}"
         );
     }

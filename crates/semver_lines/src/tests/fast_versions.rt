@@ -1,7 +1,7 @@
 // The fast reader: which texts it returns a version for, and that `parse` reads every text as
 // before.
 
-use super::{is_version, long_text, prints};
+use super::{is_version, long_text};
 use nodejs_semver::Version;
 use nodejs_semver::readers::{version_fast, version_loose};
 use std::alloc::Global;
@@ -66,10 +66,7 @@ fn reads_loose(alloc: Global, text: &str, printed: &str) -> bool {
 }
 
 fn parses(alloc: Global, text: &str, printed: &str) -> bool {
-    match Version::parse(alloc, text) {
-        Ok(version) => prints(alloc, &version, printed),
-        Err(_) => false,
-    }
+    is_version(alloc, Version::parse(alloc, text).ok(), printed)
 }
 
 fn is_uncommon(alloc: Global, text: &str) -> bool {

@@ -1,6 +1,6 @@
 // Increments that no line can ask: results that are not read again, 64-bit numbers and conversions.
 
-use super::{one_identifier, prints, text_identifier};
+use super::{is_version, made_by_hand, one_identifier, text_identifier};
 use nodejs_semver::{Failure, Identifier, IdentifierBase, IncrementError, Version};
 use std::alloc::Global;
 
@@ -38,10 +38,7 @@ fn leads_to(
     identifier: Option<&str>,
     text: &str,
 ) -> bool {
-    match version.inc(alloc, word, identifier, None) {
-        Ok(next) => prints(alloc, &next, text),
-        Err(_) => false,
-    }
+    is_version(alloc, version.inc(alloc, word, identifier, None).ok(), text)
 }
 
 fn leads_twice(alloc: Global, version: &Version, identifier: &str, text: &str) -> bool {
@@ -58,19 +55,17 @@ fn overflows(alloc: Global, version: &Version, word: &str) -> bool {
     }
 }
 
-// The version of three numbers and one of a pre-release.
-fn with_pre(alloc: Global, major: u64, minor: u64, patch: u64, number: u64) -> Option<Version> {
-    match Version::with_pre(alloc, major, minor, patch, number) {
-        Ok(version) => Some(version),
-        Err(_) => None,
-    }
-}
-
 // The identifier `1` stands in a result as one `AlphaNumeric`, which `1` does not match.
 #[test]
 fn inc_of_a_result_that_is_not_read_again(rt: HostRuntime) {
     let leads = Question::LeadsTwiceTo("1", "1.2.3-1.0");
-    assert!(rt; is_true(rt.alloc(), with_pre(rt.alloc(), 1, 2, 3, 0), leads));
+    assert!(rt;
+        is_true(
+            rt.alloc(),
+            Version::with_pre(rt.alloc(), 1, 2, 3, 0).ok(),
+            leads
+        )
+    );
 }
 
 const MAX: u64 = u64::MAX;
@@ -95,22 +90,26 @@ fn inc_returns_overflow_past_64_bits(rt: HostRuntime) {
             "{word}"
         );
     }
-    let last = with_pre(rt.alloc(), 1, 2, 3, MAX);
+    let last = Version::with_pre(rt.alloc(), 1, 2, 3, MAX).ok();
     assert!(rt; is_true(rt.alloc(), last, Question::Overflows("pre")));
 }
 
 // The version of `1`, the greatest number and `0`, with this text as its one identifier.
 fn great_minor(alloc: Global, identifier: &str) -> Option<Version> {
-    match one_identifier(alloc, text_identifier(alloc, identifier)) {
-        Some(pre_release) => Version::new(alloc, 1, MAX, 0, pre_release, Vec::new(alloc)).ok(),
-        None => None,
-    }
+    let pre_release = one_identifier(alloc, text_identifier(alloc, identifier));
+    made_by_hand(alloc, MAX, 0, pre_release, Some(Vec::new(alloc)))
 }
 
 #[test]
 fn inc_keeps_the_greatest_number(rt: HostRuntime) {
     let major = Question::LeadsTo("major", "18446744073709551615.0.0");
-    assert!(rt; is_true(rt.alloc(), with_pre(rt.alloc(), MAX, 0, 0, 0), major));
+    assert!(rt;
+        is_true(
+            rt.alloc(),
+            Version::with_pre(rt.alloc(), MAX, 0, 0, 0).ok(),
+            major
+        )
+    );
     let minor = Question::LeadsTo("minor", "1.18446744073709551615.0");
     assert!(rt; is_true(rt.alloc(), great_minor(rt.alloc(), "a"), minor));
 }

@@ -1,67 +1,41 @@
 // JSON values and texts of versions and ranges.
 
-use super::{long_text, one_identifier, prints, text_identifier};
+use super::{
+    is_refused, is_same_range, is_text, is_version, long_text, made_by_hand, one_identifier,
+    text_identifier,
+};
 use nodejs_semver::json::{
     range_from_json_text, range_from_value, range_to_json_text, range_to_value,
     version_from_json_text, version_from_value, version_to_json_text, version_to_value,
 };
-use nodejs_semver::{Failure, Range, SemverError, Version};
+use nodejs_semver::{Range, Version};
 use serde_json::Value;
 use std::alloc::Global;
 
-fn writes(alloc: Global, version: &Version, json: &str) -> bool {
-    match version_to_json_text(alloc, version) {
-        Ok(text) => text.as_str() == json,
-        Err(_) => false,
-    }
-}
-
-// Whether the JSON text is that of a version that prints as the text.
-fn reads(alloc: Global, json: &str, text: &str) -> bool {
-    match version_from_json_text(alloc, json) {
-        Ok(version) => prints(alloc, &version, text),
-        Err(_) => false,
-    }
-}
-
-// Whether the JSON text is rejected, and not for an allocation failure.
-fn rejects(alloc: Global, json: &str) -> bool {
-    match version_from_json_text(alloc, json) {
-        Err(Failure::Refused(SemverError)) => true,
-        _ => false,
-    }
-}
-
-fn text_writes(alloc: Global, text: &str, json: &str) -> bool {
-    match Version::parse(alloc, text) {
-        Ok(version) => writes(alloc, &version, json),
-        Err(_) => false,
-    }
-}
-
-#[test]
-fn version_to_json_text_has_quotes(rt: HostRuntime) {
-    assert!(rt; text_writes(rt.alloc(), "1.2.3-abc.123+build", "\"1.2.3-abc.123+build\""));
-}
-
-// The version 1.2.3 with this text as the one identifier of its pre-release.
-fn with_identifier(alloc: Global, text: &str) -> Option<Version> {
-    match one_identifier(alloc, text_identifier(alloc, text)) {
-        Some(pre_release) => Version::new(alloc, 1, 2, 3, pre_release, Vec::new(alloc)).ok(),
-        None => None,
-    }
-}
-
-fn identifier_writes(alloc: Global, text: &str, json: &str) -> bool {
-    match with_identifier(alloc, text) {
-        Some(version) => writes(alloc, &version, json),
+// Whether there is a version, and its JSON text is this one.
+fn writes(alloc: Global, version: Option<Version>, json: &str) -> bool {
+    match version {
+        Some(version) => is_text(version_to_json_text(alloc, &version), json),
         None => false,
     }
 }
 
 #[test]
+fn version_to_json_text_has_quotes(rt: HostRuntime) {
+    let version = Version::parse(rt.alloc(), "1.2.3-abc.123+build").ok();
+    assert!(rt; writes(rt.alloc(), version, "\"1.2.3-abc.123+build\""));
+}
+
+// The version 1.2.3 with this text as the one identifier of its pre-release.
+fn with_identifier(alloc: Global, text: &str) -> Option<Version> {
+    let pre_release = one_identifier(alloc, text_identifier(alloc, text));
+    made_by_hand(alloc, 2, 3, pre_release, Some(Vec::new(alloc)))
+}
+
+#[test]
 fn version_to_json_text_escapes_quotes(rt: HostRuntime) {
-    assert!(rt; identifier_writes(rt.alloc(), "a\"b", "\"1.2.3-a\\\"b\""));
+    let version = with_identifier(rt.alloc(), "a\"b");
+    assert!(rt; writes(rt.alloc(), version, "\"1.2.3-a\\\"b\""));
 }
 
 // JSON texts of version texts, and how the versions print.
@@ -72,6 +46,11 @@ const READ: &[(&str, &str)] = &[
     (" \t\"1.2.3\"\n", "1.2.3"),
     ("\"1.2.3 \\ud83d\\ude00\"", "1.2.3"),
 ];
+
+// Whether the JSON text is that of a version that prints as the text.
+fn reads(alloc: Global, json: &str, text: &str) -> bool {
+    is_version(alloc, version_from_json_text(alloc, json).ok(), text)
+}
 
 #[test]
 fn version_from_json_text_reads_the_string(rt: HostRuntime) {
@@ -93,6 +72,10 @@ const REJECTED: &[&str] = &[
     "\"\\ud83d\"",
 ];
 
+fn rejects(alloc: Global, json: &str) -> bool {
+    is_refused(version_from_json_text(alloc, json).err())
+}
+
 #[test]
 fn version_from_json_text_rejects_other_values(rt: HostRuntime) {
     for &json in REJECTED {
@@ -112,24 +95,13 @@ fn version_from_json_text_rejects_deep_arrays(rt: HostRuntime) {
     assert!(rt; rejects_deep(rt.alloc(), 200));
 }
 
-fn range_writes(alloc: Global, range: &Range, json: &str) -> bool {
-    match range_to_json_text(alloc, range) {
-        Ok(text) => text.as_str() == json,
-        Err(_) => false,
-    }
-}
-
-// Whether the JSON text is that of a range equal to this one.
-fn range_reads(alloc: Global, json: &str, range: &Range) -> bool {
-    match range_from_json_text(alloc, json) {
-        Ok(read) => read == *range,
-        Err(_) => false,
-    }
-}
-
+// Whether the range of a text has this JSON text, and that is read as the range.
 fn range_comes_back(alloc: Global, text: &str, json: &str) -> bool {
     match Range::parse(alloc, text) {
-        Ok(range) => range_writes(alloc, &range, json) && range_reads(alloc, json, &range),
+        Ok(range) => {
+            is_text(range_to_json_text(alloc, &range), json)
+                && is_same_range(range_from_json_text(alloc, json).ok(), &range)
+        }
         Err(_) => false,
     }
 }
@@ -139,32 +111,22 @@ fn range_json_texts_come_back(rt: HostRuntime) {
     assert!(rt; range_comes_back(rt.alloc(), "^1.2", "\">=1.2.0 <2.0.0-0\""));
 }
 
-fn any_reads(alloc: Global, json: &str) -> bool {
+fn any_is_read(alloc: Global, json: &str) -> bool {
     match Range::any(alloc) {
-        Ok(any) => range_reads(alloc, json, &any),
+        Ok(any) => is_same_range(range_from_json_text(alloc, json).ok(), &any),
         Err(_) => false,
-    }
-}
-
-// Whether the JSON text of a range is rejected, and not for an allocation failure.
-fn range_rejects(alloc: Global, json: &str) -> bool {
-    match range_from_json_text(alloc, json) {
-        Err(Failure::Refused(SemverError)) => true,
-        _ => false,
     }
 }
 
 #[test]
 fn range_from_json_text_reads_the_empty_string_as_any(rt: HostRuntime) {
-    assert!(rt; any_reads(rt.alloc(), "\"\""));
-    assert!(rt; range_rejects(rt.alloc(), "\"foo\""));
+    assert!(rt; any_is_read(rt.alloc(), "\"\""));
+    assert!(rt; is_refused(range_from_json_text(rt.alloc(), "\"foo\"").err()));
 }
 
+// Whether the value is this string, and is read as a version of this text.
 fn value_reads(alloc: Global, value: &Value, text: &str) -> bool {
-    match version_from_value(alloc, value) {
-        Ok(version) => value.as_str() == Some(text) && prints(alloc, &version, text),
-        Err(_) => false,
-    }
+    value.as_str() == Some(text) && is_version(alloc, version_from_value(alloc, value).ok(), text)
 }
 
 fn value_comes_back(alloc: Global, version: &Version, text: &str) -> bool {
@@ -174,7 +136,6 @@ fn value_comes_back(alloc: Global, version: &Version, text: &str) -> bool {
     }
 }
 
-// Whether the version of a text has a JSON value of the other text, and that value the version.
 fn version_value_comes_back(alloc: Global, text: &str, printed: &str) -> bool {
     match Version::parse(alloc, text) {
         Ok(version) => value_comes_back(alloc, &version, printed),
@@ -182,45 +143,28 @@ fn version_value_comes_back(alloc: Global, text: &str, printed: &str) -> bool {
     }
 }
 
-fn null_has_no_version(alloc: Global) -> bool {
-    match version_from_value(alloc, &Value::Null) {
-        Err(Failure::Refused(SemverError)) => true,
-        _ => false,
-    }
-}
-
 #[test]
 fn version_values_come_back(rt: HostRuntime) {
     assert!(rt; version_value_comes_back(rt.alloc(), "v1.2.3-a", "1.2.3-a"));
-    assert!(rt; null_has_no_version(rt.alloc()));
+    assert!(rt; is_refused(version_from_value(rt.alloc(), &Value::Null).err()));
 }
 
-fn value_reads_range(alloc: Global, value: &Value, range: &Range) -> bool {
-    match range_from_value(alloc, value) {
-        Ok(read) => read == *range,
-        Err(_) => false,
-    }
+// Whether the value is this string, and is read as the range.
+fn value_reads_range(alloc: Global, value: &Value, range: &Range, text: &str) -> bool {
+    value.as_str() == Some(text) && is_same_range(range_from_value(alloc, value).ok(), range)
 }
 
-fn range_is_read_back(alloc: Global, range: &Range, text: &str) -> bool {
+fn value_of_range_comes_back(alloc: Global, range: &Range, text: &str) -> bool {
     match range_to_value(alloc, range) {
-        Ok(value) => value.as_str() == Some(text) && value_reads_range(alloc, &value, range),
+        Ok(value) => value_reads_range(alloc, &value, range, text),
         Err(_) => false,
     }
 }
 
-// Whether the range of a text has a JSON value of the other text, and that value the range.
 fn range_value_comes_back(alloc: Global, text: &str, printed: &str) -> bool {
     match Range::parse(alloc, text) {
-        Ok(range) => range_is_read_back(alloc, &range, printed),
+        Ok(range) => value_of_range_comes_back(alloc, &range, printed),
         Err(_) => false,
-    }
-}
-
-fn null_has_no_range(alloc: Global) -> bool {
-    match range_from_value(alloc, &Value::Null) {
-        Err(Failure::Refused(SemverError)) => true,
-        _ => false,
     }
 }
 
@@ -228,5 +172,5 @@ fn null_has_no_range(alloc: Global) -> bool {
 fn range_values_come_back(rt: HostRuntime) {
     let printed = ">=1.0.0 <2.0.0-0||>=2.0.0 <3.0.0-0";
     assert!(rt; range_value_comes_back(rt.alloc(), "1 || 2", printed));
-    assert!(rt; null_has_no_range(rt.alloc()));
+    assert!(rt; is_refused(range_from_value(rt.alloc(), &Value::Null).err()));
 }

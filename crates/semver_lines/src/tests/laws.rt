@@ -1,6 +1,6 @@
 // Each law that is a function, called once with ample memory, and what it returns.
 
-use super::range_prints;
+use super::is_text;
 use nodejs_semver::cuts::Interval;
 use nodejs_semver::laws::headline::{Findings, FindingsAt, headline, headline_at};
 use nodejs_semver::{Identifier, OutsideDirection, Range, Version, laws};
@@ -81,7 +81,7 @@ fn outside_by_cuts_is_outside(rt: HostRuntime) {
 
 fn is_printed(alloc: Global, range: &Option<Range>, text: &str) -> bool {
     match range {
-        Some(range) => range_prints(alloc, range, text),
+        Some(range) => is_text(range.to_string(alloc), text),
         None => false,
     }
 }
@@ -94,7 +94,7 @@ fn is_one_oh_oh(version: &Option<Version>) -> bool {
 }
 
 fn are_findings(alloc: Global, found: &Findings) -> bool {
-    range_prints(alloc, &found.first, ">=1.0.0 <2.0.0-0")
+    is_text(found.first.to_string(alloc), ">=1.0.0 <2.0.0-0")
         && is_printed(alloc, &found.both, ">=1.5.0 <2.0.0-0")
         && is_printed(alloc, &found.first_alone, ">=1.0.0 <1.5.0")
         && is_one_oh_oh(&found.least)

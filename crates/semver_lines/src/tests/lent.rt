@@ -1,6 +1,6 @@
 // Versions that borrow their text: each call once, and that they agree with versions of their own.
 
-use super::prints;
+use super::{is_same_version, prints};
 use nodejs_semver::{IdentifierRef, IdentifierRefs, RangeRef, Version, VersionDiff, VersionRef};
 use std::alloc::Global;
 use std::cmp::Ordering;
@@ -184,8 +184,7 @@ fn borrowed_prints(alloc: Global, text: &str, printed: &str) -> bool {
     }
 }
 
-// Whether the borrowed version prints as the text of the other one, and the other is that of the
-// text.
+// Whether the borrowed version prints as the other one.
 fn owned_prints_alike(alloc: Global, version: &VersionRef<'_>, owned: &Version) -> bool {
     match owned.to_string(alloc) {
         Ok(printed) => prints(alloc, version, &printed),
@@ -193,17 +192,11 @@ fn owned_prints_alike(alloc: Global, version: &VersionRef<'_>, owned: &Version) 
     }
 }
 
-fn is_of_text(alloc: Global, owned: &Version, text: &str) -> bool {
-    match Version::parse(alloc, text) {
-        Ok(version) => *owned == version,
-        Err(_) => false,
-    }
-}
-
 fn owned_is_alike(alloc: Global, version: &VersionRef<'_>, text: &str) -> bool {
     match version.to_version(alloc) {
         Ok(owned) => {
-            owned_prints_alike(alloc, version, &owned) && is_of_text(alloc, &owned, text)
+            owned_prints_alike(alloc, version, &owned)
+                && is_same_version(Version::parse(alloc, text).ok(), &owned)
         }
         Err(_) => false,
     }

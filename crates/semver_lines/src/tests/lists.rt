@@ -1,6 +1,6 @@
 // Versions and ranges with as many identifiers and intervals as stand inline, and with more.
 
-use super::{prints, range_prints};
+use super::{is_range, is_text, is_version, prints};
 use nodejs_semver::{Range, Version, VersionParts};
 use std::alloc::{AllocError, Global};
 use std::fmt::Write;
@@ -37,13 +37,6 @@ fn range_text(alloc: Global, count: usize) -> Result<String, AllocError> {
     Ok(text)
 }
 
-fn copy_prints(alloc: Global, version: &Version, text: &str) -> bool {
-    match version.copy(alloc) {
-        Ok(copy) => prints(alloc, &copy, text),
-        Err(_) => false,
-    }
-}
-
 fn parts_print(alloc: Global, parts: VersionParts, text: &str) -> bool {
     match Version::new(
         alloc,
@@ -72,7 +65,7 @@ fn version_is_kept(alloc: Global, text: &str, pre_release: usize, build: usize) 
             version.pre_release().len() == pre_release
                 && version.build().len() == build
                 && prints(alloc, &version, text)
-                && copy_prints(alloc, &version, text)
+                && is_version(alloc, version.copy(alloc).ok(), text)
                 && rebuilt_prints(alloc, version, text)
         }
         Err(_) => false,
@@ -99,17 +92,12 @@ fn versions_keep_their_identifiers(rt: HostRuntime) {
     }
 }
 
-fn range_copy_prints(alloc: Global, range: &Range, text: &str) -> bool {
-    match range.copy(alloc) {
-        Ok(copy) => range_prints(alloc, &copy, text),
-        Err(_) => false,
-    }
-}
-
 // Whether the range of a text prints as that text, copied too.
 fn range_is_kept(alloc: Global, text: &str) -> bool {
     match Range::parse(alloc, text) {
-        Ok(range) => range_prints(alloc, &range, text) && range_copy_prints(alloc, &range, text),
+        Ok(range) => {
+            is_text(range.to_string(alloc), text) && is_range(alloc, range.copy(alloc).ok(), text)
+        }
         Err(_) => false,
     }
 }

@@ -1,12 +1,13 @@
 // What is printed where no line asks: with a width, of values made by hand, and read again.
 
-use super::{is_version, long_text, one_identifier, prints, text_identifier};
-use nodejs_semver::laws::{one_meaning, printed_in_field, reread_range};
-use nodejs_semver::{
-    Failure, Identifier, OutsideDirection, Range, SemverError, Version, VersionDiff,
+use super::{
+    is_refused, is_same_range, is_same_version, is_text, is_version, long_text, made_by_hand,
+    one_identifier, prints, text_identifier,
 };
+use nodejs_semver::laws::{one_meaning, printed_in_field, reread_range};
+use nodejs_semver::{Identifier, OutsideDirection, Range, Version, VersionDiff};
 use semver_core::laws::{identifier_in_field, reread, version_in_field};
-use std::alloc::{AllocError, Global};
+use std::alloc::Global;
 use std::fmt::Display;
 use std::test::Fail;
 
@@ -85,14 +86,6 @@ fn width_fill_and_precision_change_nothing(rt: HostRuntime) {
     }
 }
 
-// Whether there is a text, and it is this one.
-fn is_text(printed: Result<String, AllocError>, text: &str) -> bool {
-    match printed {
-        Ok(printed) => printed.as_str() == text,
-        Err(_) => false,
-    }
-}
-
 fn range_in_field(alloc: Global, text: &str, printed: &str) -> bool {
     match Range::parse(alloc, text) {
         Ok(range) => is_text(printed_in_field(alloc, &range, 60, 1), printed),
@@ -142,24 +135,16 @@ fn identifier_prints_its_number_or_text(rt: HostRuntime) {
     assert!(rt; text_prints(rt.alloc(), "a b"));
 }
 
-// The version 1.2.3 with this number before its build.
-fn with_number(alloc: Global, number: u64, build: Vec<Identifier>) -> Option<Version> {
-    match one_identifier(alloc, Some(Identifier::Numeric(number))) {
-        Some(pre_release) => Version::new(alloc, 1, 2, 3, pre_release, build).ok(),
-        None => None,
-    }
-}
-
-fn made_by_hand(alloc: Global, number: u64, build: &str) -> Option<Version> {
-    match one_identifier(alloc, text_identifier(alloc, build)) {
-        Some(build) => with_number(alloc, number, build),
-        None => None,
-    }
+// The version 1.2.3-0 with this text as the one identifier of its build.
+fn with_build(alloc: Global, text: &str) -> Option<Version> {
+    let pre_release = one_identifier(alloc, Some(Identifier::Numeric(0)));
+    let build = one_identifier(alloc, text_identifier(alloc, text));
+    made_by_hand(alloc, 2, 3, pre_release, build)
 }
 
 #[test]
 fn version_made_by_hand_prints(rt: HostRuntime) {
-    assert!(rt; is_version(rt.alloc(), made_by_hand(rt.alloc(), 0, "a"), "1.2.3-0+a"));
+    assert!(rt; is_version(rt.alloc(), with_build(rt.alloc(), "a"), "1.2.3-0+a"));
 }
 
 // How long the printed version of a text is.
@@ -188,15 +173,8 @@ fn long_length(alloc: Global, front: &str, count: usize) -> usize {
 // Whether such a text is rejected, and not for an allocation failure.
 fn long_is_rejected(alloc: Global, front: &str, count: usize) -> bool {
     match long_text(alloc, front, "b", count) {
-        Ok(text) => is_rejected(alloc, &text),
+        Ok(text) => is_refused(Version::parse(alloc, &text).err()),
         Err(_) => false,
-    }
-}
-
-fn is_rejected(alloc: Global, text: &str) -> bool {
-    match Version::parse(alloc, text) {
-        Err(Failure::Refused(SemverError)) => true,
-        _ => false,
     }
 }
 
@@ -206,30 +184,16 @@ fn version_may_print_a_text_that_is_too_long(rt: HostRuntime) {
     assert!(rt; long_is_rejected(rt.alloc(), "1.2.3-", 251));
 }
 
-fn is_again(again: Result<Version, Failure<SemverError>>, version: &Version) -> bool {
-    match again {
-        Ok(again) => *version == again,
-        Err(_) => false,
-    }
-}
-
 #[test]
 fn reread_gives_the_version(rt: HostRuntime) {
     let version = Version::from((1u64, 2u64, 3u64));
-    assert!(rt; is_again(reread(rt.alloc(), &version), &version));
-}
-
-fn is_range_again(again: Result<Range, Failure<SemverError>>, range: &Range) -> bool {
-    match again {
-        Ok(again) => *range == again,
-        Err(_) => false,
-    }
+    assert!(rt; is_same_version(reread(rt.alloc(), &version).ok(), &version));
 }
 
 #[test]
 fn reread_range_gives_an_equal_range(rt: HostRuntime) -> Result<(), Fail> {
     one_meaning();
     let range = Range::parse(rt.alloc(), ">1.2.3")?;
-    assert!(rt; is_range_again(reread_range(rt.alloc(), &range), &range));
+    assert!(rt; is_same_range(reread_range(rt.alloc(), &range).ok(), &range));
     Ok(())
 }

@@ -1,6 +1,6 @@
 // Ranges: what no line can ask of them.
 
-use super::{long_text, range_equals, range_prints};
+use super::{is_same_range, is_text, long_text};
 use nodejs_semver::{Range, Version};
 use std::alloc::Global;
 use std::hash::{DefaultHasher, Hash, Hasher};
@@ -11,12 +11,17 @@ fn hash_of(range: &Range) -> u64 {
     state.finish()
 }
 
+// Whether the range equals the one of this text.
+fn equals(alloc: Global, range: &Range, text: &str) -> bool {
+    is_same_range(Range::parse(alloc, text).ok(), range)
+}
+
 // Whether the range holds every version.
 fn holds_all(alloc: Global, any: &Range, pre: &Version) -> bool {
     any.satisfies(&Version::from((5u8, 0, 0)))
         && !pre.satisfies(any)
         && pre.satisfies_with_prerelease(any, true)
-        && range_equals(alloc, any, "")
+        && equals(alloc, any, "")
 }
 
 fn any_holds(alloc: Global, pre: &Version) -> bool {
@@ -52,7 +57,9 @@ enum Question<'a> {
 fn copies_equal(alloc: Global, range: &Range, text: &str) -> bool {
     match range.copy(alloc) {
         Ok(copy) => {
-            copy == *range && hash_of(&copy) == hash_of(range) && range_prints(alloc, &copy, text)
+            copy == *range
+                && hash_of(&copy) == hash_of(range)
+                && is_text(copy.to_string(alloc), text)
         }
         Err(_) => false,
     }
@@ -61,9 +68,9 @@ fn copies_equal(alloc: Global, range: &Range, text: &str) -> bool {
 fn answer(alloc: Global, range: &Range, question: Question<'_>) -> bool {
     match question {
         Question::Copies(text) => copies_equal(alloc, range, text),
-        Question::Equals(text) => range_equals(alloc, range, text),
-        Question::Differs(text) => !range_equals(alloc, range, text),
-        Question::Prints(text) => range_prints(alloc, range, text),
+        Question::Equals(text) => equals(alloc, range, text),
+        Question::Differs(text) => !equals(alloc, range, text),
+        Question::Prints(text) => is_text(range.to_string(alloc), text),
     }
 }
 
