@@ -2,13 +2,23 @@ mod documented;
 mod laws;
 
 use crate::index::Index;
-use crate::release;
-use crate::resolver::{Package, Release, Requirement, resolve};
+use crate::release::{self, Refusal};
+use crate::resolver::{Package, Pick, Release, Requirement, resolve};
 use crate::subset::{self, Answer};
-use nodejs_semver::{Failure, Range, Version};
-use std::alloc::Global;
-use std::fmt::Write;
+use nodejs_semver::{Failure, Range, SemverError, Version};
+use std::alloc::{AllocError, Global};
+use std::fmt::{Display, Write};
 use std::test::Fail;
+
+// A test calls helpers that each own one value and lend it, and asserts what they return.
+
+// Whether the value prints as this text.
+fn prints<T: Display>(alloc: Global, value: &T, text: &str) -> bool {
+    match value.to_string(alloc) {
+        Ok(printed) => printed.as_str() == text,
+        Err(_) => false,
+    }
+}
 
 fn versions(alloc: Global, texts: &[&str]) -> Result<Vec<Version>, Fail> {
     let mut versions = Vec::new(alloc);
@@ -18,73 +28,108 @@ fn versions(alloc: Global, texts: &[&str]) -> Result<Vec<Version>, Fail> {
     Ok(versions)
 }
 
+fn index(alloc: Global, listed: &[&str], withdrawn: &[&str]) -> Result<Index, Fail> {
+    let listed = versions(alloc, listed)?;
+    Ok(Index::new(listed, versions(alloc, withdrawn)?)?)
+}
+
+fn equals(alloc: Global, version: &Version, text: &str) -> bool {
+    match Version::parse(alloc, text) {
+        Ok(other) => *version == other,
+        Err(_) => false,
+    }
+}
+
+// Whether the version is that of the text, or there is none where none is wanted.
+fn is_wanted(alloc: Global, found: Option<&Version>, wanted: Option<&str>) -> bool {
+    match (found, wanted) {
+        (Some(version), Some(text)) => equals(alloc, version, text),
+        (None, None) => true,
+        (_, _) => false,
+    }
+}
+
+// Whether this is the newest version of the index that the range of a text accepts.
+fn is_newest(alloc: Global, index: &Index, range: &str, wanted: Option<&str>) -> bool {
+    match Range::parse(alloc, range) {
+        Ok(range) => is_wanted(alloc, index.newest(&range), wanted),
+        Err(_) => false,
+    }
+}
+
 #[test]
 fn the_newest_listed_version(rt: HostRuntime) -> Result<(), Fail> {
-    let alloc = rt.alloc();
-    let listed = versions(alloc, &["1.4.0", "2.0.0", "1.2.3", "1.5.0-beta"])?;
-    let index = Index::new(listed, versions(alloc, &["1.9.0"])?)?;
-    let range = Range::parse(alloc, "^1.2")?;
-    assert_eq!(rt;
-        index.newest(&range),
-        Some(&Version::parse(alloc, "1.4.0")?)
-    );
-    assert_eq!(rt;
-        index.listed.first(),
-        Some(&Version::parse(alloc, "1.2.3")?)
-    );
-    assert_eq!(rt; index.newest(&Range::parse(alloc, "^3")?), None);
+    let listed = ["1.4.0", "2.0.0", "1.2.3", "1.5.0-beta"];
+    let index = index(rt.alloc(), &listed, &["1.9.0"])?;
+    assert!(rt; is_newest(rt.alloc(), &index, "^1.2", Some("1.4.0")));
+    assert!(rt; is_wanted(rt.alloc(), index.listed.first(), Some("1.2.3")));
+    assert!(rt; is_newest(rt.alloc(), &index, "^3", None));
     Ok(())
 }
 
-#[test]
-fn the_next_release(rt: HostRuntime) -> Result<(), Fail> {
-    let alloc = rt.alloc();
-    for (current, word, identifier, told) in [
-        ("1.2.3", "minor", None, "1.3.0"),
-        ("1.2.3-alpha.1", "prerelease", Some("beta"), "1.2.3-beta.0"),
-        (
-            "1.2.3-b",
-            "prerelease",
-            Some("a"),
-            "the next version would not be above the current one",
-        ),
-        (
-            "one",
-            "minor",
-            None,
-            "the current version is no version: write three numbers, as 1.2.3",
-        ),
-        (
-            "1.2.3",
-            "huge",
-            None,
-            "no next version: invalid increment argument: huge",
-        ),
-    ] {
-        let said = match release::next(alloc, current, word, identifier) {
-            Ok(version) => format!(in alloc; "{version}")?,
-            Err(refusal) => format!(in alloc; "{refusal}")?,
-        };
-        assert_eq!(rt; said.as_str(), told, "after {current}");
+// A version, a word and an identifier, and the next version or why there is none.
+const RELEASES: &[(&str, &str, Option<&str>, &str)] = &[
+    ("1.2.3", "minor", None, "1.3.0"),
+    ("1.2.3-alpha.1", "prerelease", Some("beta"), "1.2.3-beta.0"),
+    (
+        "1.2.3-b",
+        "prerelease",
+        Some("a"),
+        "the next version would not be above the current one",
+    ),
+    (
+        "one",
+        "minor",
+        None,
+        "the current version is no version: write three numbers, as 1.2.3",
+    ),
+    (
+        "1.2.3",
+        "huge",
+        None,
+        "no next version: invalid increment argument: huge",
+    ),
+];
+
+fn says(alloc: Global, next: Result<Version, Refusal>, told: &str) -> bool {
+    match next {
+        Ok(version) => prints(alloc, &version, told),
+        Err(refusal) => prints(alloc, &refusal, told),
     }
-    Ok(())
 }
 
 #[test]
-fn a_range_within_another(rt: HostRuntime) -> Result<(), Fail> {
-    let alloc = rt.alloc();
-    for (first, second, told) in [
-        ("^1.2", "^1", "none"),
-        ("^1", "^1.2", "1.0.0"),
-        (">=1.2.3-a", ">=1.0.0", "1.2.3-a"),
-    ] {
-        let said = match subset::compare(alloc, first, second)? {
-            Answer::Subset => "none".to_string(alloc)?,
-            Answer::Witness(version) => format!(in alloc; "{version}")?,
-        };
-        assert_eq!(rt; said.as_str(), told, "{first} within {second}");
+fn the_next_release(rt: HostRuntime) {
+    for &(current, word, identifier, told) in RELEASES {
+        let next = release::next(rt.alloc(), current, word, identifier);
+        assert!(rt; says(rt.alloc(), next, told), "after {current}");
     }
-    Ok(())
+}
+
+// Two range texts, and the smallest version that the first one alone accepts.
+const COMPARED: &[(&str, &str, &str)] = &[
+    ("^1.2", "^1", "none"),
+    ("^1", "^1.2", "1.0.0"),
+    (">=1.2.3-a", ">=1.0.0", "1.2.3-a"),
+];
+
+fn answers(alloc: Global, answer: Result<Answer, Failure<SemverError>>, told: &str) -> bool {
+    match answer {
+        Ok(Answer::Subset) => told == "none",
+        Ok(Answer::Witness(version)) => prints(alloc, &version, told),
+        Err(_) => false,
+    }
+}
+
+#[test]
+fn a_range_within_another(rt: HostRuntime) {
+    for &(first, second, told) in COMPARED {
+        let answer = subset::compare(rt.alloc(), first, second);
+        assert!(rt;
+            answers(rt.alloc(), answer, told),
+            "{first} within {second}"
+        );
+    }
 }
 
 // Each requirement is a package and a range text.
@@ -106,57 +151,85 @@ fn release(alloc: Global, version: &str, asked: &[(usize, &str)]) -> Result<Rele
     })
 }
 
-// Two programs, 0 and 1, that both need the library 2; the newest first.
+// Two programs, 0 and 1, that both need the library 2: the releases of each, the newest first.
+const REGISTRY: &[&[(&str, &[(usize, &str)])]] = &[
+    &[("2.0.0", &[(2, "^2")]), ("1.0.0", &[(2, "^1 || ^2")])],
+    &[("1.0.0", &[(2, "^1.2")])],
+    &[("2.0.0", &[]), ("1.3.0-beta", &[]), ("1.2.0", &[])],
+];
+
+fn package(alloc: Global, published: &[(&str, &[(usize, &str)])]) -> Result<Package, Fail> {
+    let mut releases = Vec::new(alloc);
+    for (version, asked) in published {
+        releases.push(release(alloc, version, asked)?)?;
+    }
+    Ok(Package { releases })
+}
+
 fn registry(alloc: Global) -> Result<Vec<Package>, Fail> {
-    let one = vec![in alloc;
-        release(alloc, "2.0.0", &[(2, "^2")])?,
-        release(alloc, "1.0.0", &[(2, "^1 || ^2")])?,
-    ]?;
-    let other = vec![in alloc; release(alloc, "1.0.0", &[(2, "^1.2")])?]?;
-    let library = vec![in alloc;
-        release(alloc, "2.0.0", &[])?,
-        release(alloc, "1.3.0-beta", &[])?,
-        release(alloc, "1.2.0", &[])?,
-    ]?;
-    Ok(vec![in alloc;
-        Package { releases: one },
-        Package { releases: other },
-        Package { releases: library },
-    ]?)
+    let mut packages = Vec::new(alloc);
+    for published in REGISTRY {
+        packages.push(package(alloc, published)?)?;
+    }
+    Ok(packages)
+}
+
+// Requirements of the root, and the releases that are picked or why there are none.
+const ASKED: &[(&[(usize, &str)], &str)] = &[
+    (&[(0, "*"), (1, "*")], "0@1.0.0 1@1.0.0 2@1.2.0 "),
+    (&[(0, "*")], "0@2.0.0 2@2.0.0 "),
+    (
+        &[(0, "^2"), (1, "*")],
+        "package 2: >=2.0.0 <3.0.0-0 and >=1.2.0 <2.0.0-0 clash",
+    ),
+    (
+        &[(2, "^3")],
+        "package 2: no release satisfies >=3.0.0 <4.0.0-0",
+    ),
+    (&[(7, "*")], "package 7: no release satisfies >=0.0.0"),
+    (&[], ""),
+];
+
+fn text_of(alloc: Global, picks: &[Option<Pick<'_>>]) -> Result<String, AllocError> {
+    let mut said = String::new(alloc);
+    for (number, pick) in picks.iter().enumerate() {
+        if let Some(pick) = pick {
+            write!(said, "{number}@{} ", pick.release.version)?;
+        }
+    }
+    Ok(said)
+}
+
+fn picks_print(alloc: Global, picks: &[Option<Pick<'_>>], told: &str) -> bool {
+    match text_of(alloc, picks) {
+        Ok(said) => said.as_str() == told,
+        Err(_) => false,
+    }
+}
+
+fn resolves(alloc: Global, packages: &[Package], root: &[Requirement], told: &str) -> bool {
+    match resolve(alloc, packages, root) {
+        Ok(picks) => picks_print(alloc, &picks, told),
+        Err(Failure::Refused(conflict)) => prints(alloc, &conflict, told),
+        Err(Failure::Memory(_)) => false,
+    }
+}
+
+fn tells(
+    alloc: Global,
+    packages: &[Package],
+    asked: &[(usize, &str)],
+    told: &str,
+) -> Result<bool, Fail> {
+    let root = requirements(alloc, asked)?;
+    Ok(resolves(alloc, packages, &root, told))
 }
 
 #[test]
 fn releases_for_all_requirements(rt: HostRuntime) -> Result<(), Fail> {
-    let alloc = rt.alloc();
-    let packages = registry(alloc)?;
-    for (asked, told) in [
-        (&[(0, "*"), (1, "*")][..], "0@1.0.0 1@1.0.0 2@1.2.0 "),
-        (&[(0, "*")][..], "0@2.0.0 2@2.0.0 "),
-        (
-            &[(0, "^2"), (1, "*")][..],
-            "package 2: >=2.0.0 <3.0.0-0 and >=1.2.0 <2.0.0-0 clash",
-        ),
-        (
-            &[(2, "^3")][..],
-            "package 2: no release satisfies >=3.0.0 <4.0.0-0",
-        ),
-        (&[(7, "*")][..], "package 7: no release satisfies >=0.0.0"),
-        (&[][..], ""),
-    ] {
-        let root = requirements(alloc, asked)?;
-        let mut said = String::new(alloc);
-        match resolve(alloc, &packages, &root) {
-            Ok(picks) => {
-                for (number, pick) in picks.iter().enumerate() {
-                    if let Some(pick) = pick {
-                        write!(said, "{number}@{} ", pick.release.version)?;
-                    }
-                }
-            }
-            Err(Failure::Refused(conflict)) => write!(said, "{conflict}")?,
-            Err(Failure::Memory(error)) => return Err(error.into()),
-        }
-        assert_eq!(rt; said.as_str(), told);
+    let packages = registry(rt.alloc())?;
+    for &(asked, told) in ASKED {
+        assert!(rt; tells(rt.alloc(), &packages, asked, told)?, "{told}");
     }
     Ok(())
 }
