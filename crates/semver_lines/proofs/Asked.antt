@@ -14,7 +14,7 @@ use Rattle.semver_lines.specs.declared.question.AboutBest.TheVariants.{Max, Min}
 use Rattle.semver_lines.specs.declared.question.AboutMatch.TheVariants.{Sat, Pre, Out}
 use Rattle.semver_lines.specs.declared.question.AboutRange.TheVariants.{Print, Least}
 use Rattle.semver_lines.specs.declared.question.AboutRanges.TheVariants.{And, Minus, Beyond}
-use Rattle.semver_lines.specs.declared.question.AboutVersion.TheVariants.{Ver, Inc, IncWith, IncFrom}
+use Rattle.semver_lines.specs.declared.question.AboutVersion.TheVariants.{Ver}
 use Rattle.semver_lines.specs.declared.question.AboutVersions.TheVariants.{Cmp, Diff}
 use Rattle.semver_lines.specs.declared.question.Question.{Question}
 use Rattle.semver_lines.specs.declared.question.Question.TheVariants.{Version, Versions, Range, Ranges, Match, Best}
@@ -27,9 +27,7 @@ asked_by text field rest none c e =
 
 pub unknown : (text : List ℕ) → IsUnknown text → (question : Question) → Asks (fields text) question → ⊥
 unknown text none (Version v Ver) asks = asked_by text _ _ none command.Ver asks.0
-unknown text none (Version v (Inc word)) asks = asked_by text _ _ none command.Inc asks.0
-unknown text none (Version v (IncWith word id)) asks = asked_by text _ _ none command.Inc asks.0
-unknown text none (Version v (IncFrom word id base)) asks = asked_by text _ _ none command.Inc asks.0
+unknown text none (Version v next) asks = asked_by text _ _ none command.Inc asks.0
 unknown text none (Versions texts Cmp) asks = asked_by text _ _ none command.Cmp asks.0
 unknown text none (Versions texts Diff) asks = asked_by text _ _ none command.Diff asks.0
 unknown text none (Range r Print) asks = asked_by text _ _ none command.Range asks.0
@@ -52,17 +50,11 @@ other word first texts others differs e =
 pub no_version : (word text : List ℕ) → bytes_eq word (codes "ver") ≡ false → bytes_eq word (codes "range") ≡ false
     → bytes_eq word (codes "least") ≡ false → (question : Question) → Asks (word ∷ text ∷ []) question → ⊥
 no_version word text ver range least (Version v Ver) asks = other word _ _ _ ver asks.0
-no_version word text ver range least (Version v (Inc next)) asks = omega (arith, ap length asks.0)
-no_version word text ver range least (Version v (IncWith next id)) asks = omega (arith, ap length asks.0)
-no_version word text ver range least (Version v (IncFrom next id base)) asks = omega (arith, ap length asks.0)
-no_version word text ver range least (Versions texts asked) asks = omega (arith, ap length asks.0)
 no_version word text ver range least (Range r Print) asks = other word _ _ _ range asks.0
 no_version word text ver range least (Range r Least) asks = other word _ _ _ least asks.0
-no_version word text ver range least (Ranges texts asked) asks = omega (arith, ap length asks.0)
 no_version word text ver range least (Match texts Sat) asks = omega (arith, ap length asks.0)
-no_version word text ver range least (Match texts Pre) asks = omega (arith, ap length asks.0)
-no_version word text ver range least (Match texts (Out side)) asks = omega (arith, ap length asks.0)
 no_version word text ver range least (Best (r, vs) asked) asks = omega (arith, ap length asks.0, some_field vs.now)
+no_version word text ver range least question asks = omega (arith, ap length asks.0)
 
 -- the fields of a text that begins with a command
 pub known : (c : Command) (rest : List ℕ) → fields (command_word c ++ 59 ∷ rest) ≡ command_word c ∷ fields rest

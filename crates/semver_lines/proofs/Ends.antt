@@ -82,7 +82,6 @@ turn_torn had left held holds p chunk after out bytes (Err error) read (rest, t)
 pub finish_written : (held holds : Option (List ℕ)) (p out bytes : List ℕ) (result : Result ⊤ RunFault) → Answers (last_line p) out → bytes ≡ out
     → OnOk result (Appends held holds bytes) → OnErr result (WritesFront held holds bytes) → IfErr result (λ fault. fault ≡ Write) → Finished held holds p result
 finish_written held holds p out bytes (Ok done) answers same all part fault = (bytes, all, rw same answers)
-finish_written held holds p out bytes (Err Read) answers same all part fault = cc
-finish_written held holds p out bytes (Err Memory) answers same all part fault = cc
 finish_written held holds p out bytes (Err Write) answers same all w fault =
     (w.front, w.appended, torn_front (last_line p) out w.front w.left (front_all (last_line p) out answers) (sym same ∙ w.divided) w.some_left)
+finish_written held holds p out bytes (Err other) answers same all part fault = cc

@@ -1,44 +1,31 @@
 -- What is replied to a question, from what its texts were read as.
 use Rattle.std.proofs.Common.{◌≡◌, ℕ, List, Option, Result, Ok, Err, IfOk, refl}
 use Rattle.std.specs.Borrow.{Bor}
-use Rattle.std.specs.Prelude.{Vec}
 use Rattle.std.specs.declared.alloc.AllocError.{AllocError}
-use Rattle.std.specs.declared.alloc.Global.{Global}
 use Rattle.semver_core.specs.Printing.Text.{version_text}
 use Rattle.semver_core.specs.Values.Versions.{VersionValue}
 use Rattle.semver_core.specs.declared.error.Failure.{Failure}
 use Rattle.semver_core.specs.declared.error.Failure.TheVariants.{Refused, Memory}
 use Rattle.semver_lines.specs.Names.{fault_word, or_none}
-use Rattle.semver_lines.specs.Replies.{On, OnBoth, SaysFound, both_read, fault, first_fault, read, second_fault}
-use Rattle.semver_lines.specs.Internal.Results.{IsReadAs, IsTold}
+use Rattle.semver_lines.specs.Replies.{On, OnBoth, SaysFound, fault, first_fault, second_fault}
+use Rattle.semver_lines.specs.Internal.Results.{IsFault, IsTold}
 use Rattle.semver_lines.specs.declared.fault.Fault.{Fault}
 
--- a text is none, or the first of two is, or the second, or one of several
+-- a text is none, or the first of two is
 pub told_fault : {A : Type 0} (Reads : Result A Fault → Type 0) (Reply : A → List ℕ → Type 0) (error : Failure Fault)
-    → IsReadAs (λ (value : Bor A). value.now) (Err error) Reads → IsTold (Err error) (On Reads Reply)
+    → IsFault error Reads → IsTold (Err error) (On Reads Reply)
 told_fault Reads Reply (Refused why) h = fault why h refl
 told_fault Reads Reply (Memory error) h = tt
 
 pub told_first : {A B : Type 0} (First : Result A Fault → Type 0) (Second : Result B Fault → Type 0) (Reply : A → B → List ℕ → Type 0) (error : Failure Fault)
-    → IsReadAs (λ (value : Bor A). value.now) (Err error) First → IsTold (Err error) (OnBoth First Second Reply)
+    → IsFault error First → IsTold (Err error) (OnBoth First Second Reply)
 told_first First Second Reply (Refused why) h = first_fault why h refl
 told_first First Second Reply (Memory error) h = tt
 
 pub told_second : {A B : Type 0} (First : Result A Fault → Type 0) (Second : Result B Fault → Type 0) (Reply : A → B → List ℕ → Type 0) (a : A) (error : Failure Fault)
-    → First (Ok a) → IsReadAs (λ (value : Bor B). value.now) (Err error) Second → IsTold (Err error) (OnBoth First Second Reply)
+    → First (Ok a) → IsFault error Second → IsTold (Err error) (OnBoth First Second Reply)
 told_second First Second Reply a (Refused why) is h = second_fault a why is h refl
 told_second First Second Reply a (Memory error) is h = tt
-
-pub told_listed : {A B : Type 0} (First : Result A Fault → Type 0) (Second : Result (List B) Fault → Type 0) (Reply : A → List B → List ℕ → Type 0) (a : A) (error : Failure Fault)
-    → First (Ok a) → IsReadAs (λ (list : Vec B Global). list.items) (Err error) Second → IsTold (Err error) (OnBoth First Second Reply)
-told_listed First Second Reply a (Refused why) is h = second_fault a why is h refl
-told_listed First Second Reply a (Memory error) is h = tt
-
--- what is said of a second text, behind a first that was read
-pub on_second : {A B : Type 0} (First : Result A Fault → Type 0) (Second : Result B Fault → Type 0) (Reply : A → B → List ℕ → Type 0) (a : A)
-    → First (Ok a) → (answer : List ℕ) → On Second (Reply a) answer → OnBoth First Second Reply answer
-on_second First Second Reply a is answer (read b of says) = both_read a b is of says
-on_second First Second Reply a is answer (fault why of says) = second_fault a why is of says
 
 -- what is told implies what is weaker
 pub told_weaker : (P Q : List ℕ → Type 0) (result : Result (Bor (List ℕ)) (Failure Fault)) → ((text : List ℕ) → P text → Q text) → IsTold result P → IsTold result Q

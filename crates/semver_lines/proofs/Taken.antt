@@ -9,7 +9,7 @@ use Rattle.std.specs.declared.alloc.AllocError.{AllocError}
 use Rattle.semver_lines.specs.Internal.Steps.{GrowsByAnswer, Taken, Told, Took}
 use Rattle.semver_lines.specs.Lines.{HasLines, ended, no_feed}
 use Rattle.semver_lines.specs.Outcome.{AnswersFront}
-use Rattle.semver_lines.proofs.Told.{Answers-append, Answers-one, front_more, front_all}
+use Rattle.semver_lines.proofs.Told.{Answers-append, Answers-one}
 
 -- some lines, and then the lines of what is left
 pub more_lines : (all left rest : List ℕ) (ls ms : List (List ℕ)) → all ≡ flat_map ended ls ++ left → list_all no_feed ls ≡ true → HasLines left ms rest → HasLines all (ls ++ ms) rest
@@ -62,7 +62,7 @@ taken_stop p bytes waits rest output t =
       record {
         lines = t.lines ++ more;
         has_lines = λ plain. more_lines (p ++ bytes) (waits ++ rest) behind t.lines more t.divided (t.each plain).0 h;
-        said = front_more t.lines more output (front_all t.lines output t.answers);
+        said = record { front = t.lines; rest = more; divided = refl; answers = t.answers };
       },
     )
 

@@ -10,11 +10,12 @@ use Rattle.semver_lines.specs.Internal.Steps.{GrowsByAnswer}
 use Rattle.semver_lines.specs.Lines.{ended, last_line}
 use Rattle.semver_lines.specs.Outcome.{AnswersFront, AnswersTorn}
 
-answered-append : (xs ys answers others : List (List ℕ)) → AllZip IsAnswer xs answers → AllZip IsAnswer ys others → AllZip IsAnswer (xs ++ ys) (answers ++ others)
-answered-append [] ys [] others h k = k
-answered-append [] ys (a ∷ answers) others h k = absurd h
-answered-append (x ∷ xs) ys [] others h k = absurd h
-answered-append (x ∷ xs) ys (a ∷ answers) others h k = (h.0, answered-append xs ys answers others h.1 k)
+-- two lists and what follows them, place by place
+pub AllZip-append : {A B : Type 0} (R : A → B → Type 0) (xs ys : List A) (vs ws : List B) → AllZip R xs vs → AllZip R ys ws → AllZip R (xs ++ ys) (vs ++ ws)
+AllZip-append R [] ys [] ws h k = k
+AllZip-append R [] ys (v ∷ vs) ws h k = absurd h
+AllZip-append R (x ∷ xs) ys [] ws h k = absurd h
+AllZip-append R (x ∷ xs) ys (v ∷ vs) ws h k = (h.0, AllZip-append R xs ys vs ws h.1 k)
 
 pub Answers-nil : Answers [] []
 Answers-nil = record { answers = []; each = tt; output_is = refl }
@@ -25,20 +26,12 @@ Answers-one line answer h = record { answers = answer ∷ []; each = (h, tt); ou
 pub Answers-append : (xs ys : List (List ℕ)) (a b : List ℕ) → Answers xs a → Answers ys b → Answers (xs ++ ys) (a ++ b)
 Answers-append xs ys a b h k = record {
   answers = h.answers ++ k.answers;
-  each = answered-append xs ys h.answers k.answers h.each k.each;
+  each = AllZip-append IsAnswer xs ys h.answers k.answers h.each k.each;
   output_is = rw (h.output_is, k.output_is) (sym (flat_map-append ended h.answers k.answers));
 }
 
 pub front_all : (xs : List (List ℕ)) (a : List ℕ) → Answers xs a → AnswersFront xs a
 front_all xs a h = record { front = xs; rest = []; divided = sym (append-nil xs); answers = h }
-
-pub front_more : (xs ys : List (List ℕ)) (a : List ℕ) → AnswersFront xs a → AnswersFront (xs ++ ys) a
-front_more xs ys a h = record {
-  front = h.front;
-  rest = h.rest ++ ys;
-  divided = ap (λ l. l ++ ys) h.divided ∙ append_assoc h.front h.rest ys;
-  answers = h.answers;
-}
 
 pub front_after : (xs ys : List (List ℕ)) (a b : List ℕ) → Answers xs a → AnswersFront ys b → AnswersFront (xs ++ ys) (a ++ b)
 front_after xs ys a b h k = record {
@@ -46,22 +39,6 @@ front_after xs ys a b h k = record {
   rest = k.rest;
   divided = ap (λ l. xs ++ l) k.divided ∙ sym (append_assoc xs k.front k.rest);
   answers = Answers-append xs k.front a b h k.answers;
-}
-
-pub torn_more : (xs ys : List (List ℕ)) (a : List ℕ) → AnswersTorn xs a → AnswersTorn (xs ++ ys) a
-torn_more xs ys a t = record {
-  front = t.front;
-  line = t.line;
-  rest = t.rest ++ ys;
-  divided = ap (λ l. l ++ ys) t.divided ∙ append_assoc t.front (t.line ∷ t.rest) ys;
-  output = t.output;
-  answers = t.answers;
-  answer = t.answer;
-  is_answer = t.is_answer;
-  begun = t.begun;
-  left = t.left;
-  torn = t.torn;
-  written_is = t.written_is;
 }
 
 pub torn_after : (xs ys : List (List ℕ)) (a b : List ℕ) → Answers xs a → AnswersTorn ys b → AnswersTorn (xs ++ ys) (a ++ b)
@@ -94,15 +71,15 @@ parted part rest written left e h =
     let n = length part in
     (front_of written left part rest (sym e) h, sym (drop-append_seam part rest) ∙ ap (λ l. drop n l) e ∙ drop-append-le n written left h)
 
-torn_at : (lines answers : List (List ℕ)) (written left : List ℕ) → AllZip IsAnswer lines answers → flat_map ended answers ≡ written ++ left → 0 < length left → AnswersTorn lines written
-torn_at [] [] written left h e some = absurd (omega (arith, ap length e, length-append written left))
-torn_at [] (a ∷ answers) written left h e some = absurd h
-torn_at (l ∷ ls) [] written left h e some = absurd h
-torn_at (l ∷ ls) (a ∷ answers) written left h e some = elim (cases_lt (length written) (length (ended a))) [
+torn_at : (lines rest answers : List (List ℕ)) (written left : List ℕ) → AllZip IsAnswer lines answers → flat_map ended answers ≡ written ++ left → 0 < length left → AnswersTorn (lines ++ rest) written
+torn_at [] rest [] written left h e some = absurd (omega (arith, ap length e, length-append written left))
+torn_at [] rest (a ∷ answers) written left h e some = absurd h
+torn_at (l ∷ ls) rest [] written left h e some = absurd h
+torn_at (l ∷ ls) rest (a ∷ answers) written left h e some = elim (cases_lt (length written) (length (ended a))) [
   | inl lt ↦ record {
     front = [];
     line = l;
-    rest = ls;
+    rest = ls ++ rest;
     divided = refl;
     output = [];
     answers = Answers-nil;
@@ -115,14 +92,14 @@ torn_at (l ∷ ls) (a ∷ answers) written left h e some = elim (cases_lt (lengt
   }
   | inr ge ↦
       let parts = parted (ended a) (flat_map ended answers) written left e ge in
-      let rest = torn_at ls answers (drop (length (ended a)) written) left h.1 parts.1 some in
-      subst (λ w. AnswersTorn (l ∷ ls) w) (sym parts.0) (torn_after (l ∷ []) ls (ended a) _ (Answers-one l a h.0) rest)
+      let more = torn_at ls rest answers (drop (length (ended a)) written) left h.1 parts.1 some in
+      subst (λ w. AnswersTorn (l ∷ ls ++ rest) w) (sym parts.0) (torn_after (l ∷ []) (ls ++ rest) (ended a) _ (Answers-one l a h.0) more)
 ]
 
 -- a front of the answers of a beginning of the lines, with some bytes left, breaks off within the answer of a line
 pub torn_front : (lines : List (List ℕ)) (output written left : List ℕ) → AnswersFront lines output → output ≡ written ++ left → 0 < length left → AnswersTorn lines written
 torn_front lines output written left h e some =
-    subst (λ l. AnswersTorn l written) (sym h.divided) (torn_more h.front h.rest written (torn_at h.front h.answers.answers written left h.answers.each (sym h.answers.output_is ∙ e) some))
+    subst (λ l. AnswersTorn l written) (sym h.divided) (torn_at h.front h.rest h.answers.answers written left h.answers.each (sym h.answers.output_is ∙ e) some)
 
 -- the answer to a last line
 pub last_answer : (p old new : List ℕ) (n : ℕ) → old ≡ [] → n ≡ length p → (n == 0) ≡ false → GrowsByAnswer (p ++ []) old new → Answers (last_line p) new

@@ -130,21 +130,7 @@ fn parsed_ranges<'a, 't>(
 {
     let range = range_of(parsed)?;
     let other = RangeRef::parse(alloc, s);
-    parsed_other(alloc, range, &other, asked, room)
-}
-
-#[inline(always)]
-fn parsed_other<'a, 't>(
-    alloc: Global,
-    range: &RangeRef<'t>,
-    parsed: &Parsed<'t>,
-    asked: AboutRanges,
-    room: &'a mut String,
-) -> Result<&'a str, Failure<Fault>>
-    ensures { (text : List ℕ) → ParsesRange text parsed.now
-        → IsTold result (On (IsRangeOf text) (RangesReply asked range.now)) }
-{
-    let other = range_of(parsed)?;
+    let other = range_of(&other)?;
     Ok(asked.reply(alloc, range, other, room)?)
 }
 

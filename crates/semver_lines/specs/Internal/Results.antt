@@ -22,11 +22,15 @@ abbrev pub ParsesRange : List ℕ → Result (List (Span VersionValue)) (Failure
 ParsesRange text result =
     IfOk result (Means MAX_SAFE_INTEGER text) × IfOk result (λ ss. 0 < length ss) × RefusedOnlyIf result (Means MAX_SAFE_INTEGER text [])
 
+-- a text is none, by this error, unless an allocation failed
+abbrev pub IsFault : {B : Type 0} → Failure Fault → (Result B Fault → Type 0) → Type 0
+IsFault (Refused fault) Reads = Reads (Err fault)
+IsFault (Memory error) Reads = ⊤
+
 -- what was read, unless an allocation failed; `view` is how the statement sees it
 abbrev pub IsReadAs : {A B : Type 0} → (A → B) → Result A (Failure Fault) → (Result B Fault → Type 0) → Type 0
 IsReadAs view (Ok value) Reads = Reads (Ok (view value))
-IsReadAs view (Err (Refused fault)) Reads = Reads (Err fault)
-IsReadAs view (Err (Memory error)) Reads = ⊤
+IsReadAs view (Err error) Reads = IsFault error Reads
 
 -- the version of a text was appended to a list, unless an allocation failed
 abbrev pub Appends : Result ⊤ (Failure Fault) → List ℕ → List VersionValue → List VersionValue → Type 0

@@ -1,7 +1,10 @@
 use Rattle.std.proofs.Common.{◌++◌, ◌∷◌, ◌∙◌, [], ap, append_assoc, sym}
 use Rattle.std.proofs.lemmas.Result.{err_from_is_err_and}
+use Rattle.semver_core.specs.Text.Parsing.{Parses}
+use Rattle.semver_core.specs.declared.TheConstants.{MAX_SAFE_INTEGER}
 use Rattle.semver_lines.specs.Lines.{fields}
-use Rattle.semver_lines.proofs.Several.{parse_one_more, refused_one}
+use Rattle.semver_lines.proofs.Several.{refused_one}
+use Rattle.semver_lines.proofs.Told.{AllZip-append}
 use Rattle.semver_lines.proofs.read.versions.Goals as goal
 
 pub returns-in_err-push_version : goal.returns-in_err-push_version
@@ -19,7 +22,7 @@ fields-preserved c =
       (
         done ++ text ∷ [],
         split ∙ ap (λ l. done ++ l) c.in-Some.ensures.some ∙ sym (append_assoc done (text ∷ []) (fields c.in-Some.behind.now)),
-        rw pushed (parse_one_more done c.fields.versions.items text v read parses),
+        rw pushed (AllZip-append (Parses MAX_SAFE_INTEGER) done (text ∷ []) c.fields.versions.items (v ∷ []) read (parses, tt)),
       ),
     )
 
@@ -33,4 +36,4 @@ pub returns : goal.returns
 returns c =
     let (utf8, (done, split, read)) = c.fields.invariant in
     let (v, parses, pushed) = c.in_ok-push_version-2.ensures in
-    rw (split, c.in_default.ensures.none, pushed) (parse_one_more done c.fields.versions.items c.fields.rest.now v read parses)
+    rw (split, c.in_default.ensures.none, pushed) (AllZip-append (Parses MAX_SAFE_INTEGER) done (c.fields.rest.now ∷ []) c.fields.versions.items (v ∷ []) read (parses, tt))

@@ -1,15 +1,11 @@
-use Rattle.std.proofs.Common.{◌≡◌, ℕ, ◌-◌, List, ◌++◌, length, take, drop, sym, ap, ◌∙◌, append_assoc, take-append-drop}
+use Rattle.std.proofs.Common.{◌++◌, ◌∙◌, take, refl, append_assoc, take-append-drop}
 use Rattle.std.proofs.lemmas.List.{take_rest}
 use Rattle.std.proofs.KnownBytes.{Appends-trans}
 use Rattle.semver_lines.proofs.run.write_out.Goals as goal
-
-moves_front : (all done rest : List ℕ) (n : ℕ) → all ≡ done ++ rest → all ≡ (done ++ take n rest) ++ take (length rest - n) (drop n rest)
-moves_front all done rest n e =
-    e ∙ ap (λ l. done ++ l) (sym (take-append-drop n rest)) ∙ sym (append_assoc done (take n rest) (drop n rest)) ∙ ap (λ l. (done ++ take n rest) ++ l) (sym (take_rest rest n))
 
 pub writes-preserved : goal.writes-preserved
 writes-preserved g c =
     let (done, split, appended) = c.writes.invariant in
     let rest = c.writes.rest.now in
     let n = c.in-Ok.n in
-    (done ++ take n rest, moves_front _ done rest n split, Appends-trans _ _ _ _ _ appended c.in-Ok.ensures.bytes)
+    (done ++ take n rest, split ∙ rw (take_rest, append_assoc, take-append-drop) refl, Appends-trans _ _ _ _ _ appended c.in-Ok.ensures.bytes)
