@@ -10,8 +10,8 @@ use Rattle.std.specs.Ordering.{is_gt}
 use Rattle.std.specs.declared.cmp.Ordering.{Ordering}
 use Rattle.semver_core.proofs.CutLaws.{between_parts, lt, option_holds-interval, option_holds-meet, past_below, remainders-hold, remainders_by, turned_lower, turned_upper}
 use Rattle.nodejs_semver.proofs.Algebra.FlatMaps.{any_either, any_flat, any_pairs, any_same, any_weaker}
-use Rattle.nodejs_semver.proofs.Algebra.Gate.{lets_in-meet, names_above, names_below}
-use Rattle.semver_core.specs.Cuts.{Span, cut_cmp, lower_cut, upper_cut, is_past, is_interval, interval, holds, greater_lower, lesser_upper, meet, left_below, left_above, option_holds, remainders}
+use Rattle.nodejs_semver.proofs.Algebra.Gate.{both, lets_in-meet, names_above, names_below}
+use Rattle.semver_core.specs.Cuts.{Span, cut_cmp, lower_cut, upper_cut, is_past, is_interval, interval, holds, meet, left_below, left_above, option_holds, remainders}
 use Rattle.semver_core.specs.declared.cuts.bound.Bound.{Bound}
 use Rattle.semver_core.specs.Internal.OrderLaws.{precedence_total}
 use Rattle.semver_core.specs.Lists.{if_any}
@@ -73,9 +73,6 @@ option_list_holds-if_any R (s ∷ ss) v = refl
 -- the span holds v and lets it in
 abbrev admits : VersionValue → Span VersionValue → Bool
 admits v s = holds precedence s v && lets_in s v
-
-abbrev both : Span VersionValue → Span VersionValue → Span VersionValue
-both s t = record { lower = greater_lower precedence s.lower t.lower; upper = lesser_upper precedence s.upper t.upper }
 
 -- a test of what there is of a span, if it is an interval
 any_interval : (p : Span VersionValue → Bool) (s : Span VersionValue)

@@ -1,6 +1,6 @@
 -- Lists that are joined from a list for each element of another, and tests of their elements.
 use Rattle.std.proofs.Common.{◌≡◌, refl, sym, ◌∙◌, ap, ap₂, ℕ, ◌+◌, ◌<◌, Bool, true, false, ◌&&◌, ◌||◌, List, [], ◌∷◌, ◌++◌, length, get_or, take, not, inl, inr, arith}
-use Rattle.std.proofs.lemmas.Bool.{and_parts, or_cases}
+use Rattle.std.proofs.lemmas.Bool.{and_parts, or_cases, or_left, or_right}
 use Rattle.std.proofs.lemmas.Grind.{flat_map-append}
 use Rattle.std.proofs.lemmas.List.{append-nil, take_more}
 use Rattle.std.proofs.lemmas.List.Folds.{Any-from_list_any, list_all-append, list_any-append, list_any_at}
@@ -74,13 +74,10 @@ pub any_either : {A B : Type 0} (r : A → B → Bool) (p : A → Bool) (q : B �
 any_either r p q h xs ys e =
     let (i, x, l, at, k) = Any-from_list_any (λ x. list_any (r x) ys) xs e in
     let (j, y, m, bt, n) = Any-from_list_any (r x) ys k in
-    grind (
-      arith,
-      h x y n,
-      λ (t : p x ≡ true). list_any_at p xs i x l (ap p at ∙ t),
-      λ (t : q y ≡ true). list_any_at q ys j y m
-          (ap q bt ∙ t),
-    )
+    elim (or_cases (p x) (q y) (h x y n)) [
+      | inl t ↦ or_left (list_any p xs) (list_any q ys) (list_any_at p xs i x l (ap p at ∙ t))
+      | inr t ↦ or_right (list_any p xs) (list_any q ys) (list_any_at q ys j y m (ap q bt ∙ t))
+    ]
 
 -- an element that passes, where each that does passes another test, or where all do
 pub any_under : {A : Type 0} (p q : A → Bool) (xs : List A) → list_any p xs ≡ true → list_all (λ x. not (p x) || q x) xs ≡ true

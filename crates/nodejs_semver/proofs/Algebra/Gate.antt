@@ -75,55 +75,25 @@ greater_names : (b c : Bound VersionValue) (v : VersionValue) → is_release v �
     → (names b v || names c v) ≡ true → names (greater_lower precedence b c) v ≡ true
 greater_names b c v k p q n =
     cond_both (is_gt (cut_cmp precedence (lower_cut b) (lower_cut c))) b c (λ d. names d v ≡ true)
-    (λ h. grind (
-      arith,
-      at_lower b v,
-      at_lower c v,
-      lower_named (lower_cut c) (lower_cut b) v k,
-      one_way precedence_total
-          (lower_cut c) (lower_cut b),
-      gt_lt precedence_total (lower_cut b) (lower_cut c),
-    ))
-    (λ h. grind (
-      arith,
-      at_lower b v,
-      at_lower c v,
-      lower_named (lower_cut b) (lower_cut c) v k,
-      gt_lt precedence_total
-          (lower_cut b) (lower_cut c),
-    ))
+    (λ h. grind (arith, at_lower, lower_named (lower_cut c) (lower_cut b) v k, one_way precedence_total, gt_lt precedence_total))
+    (λ h. grind (arith, at_lower, lower_named (lower_cut b) (lower_cut c) v k, gt_lt precedence_total))
 
 lesser_names : (b c : Bound VersionValue) (v : VersionValue) → is_past precedence (upper_cut b) v ≡ false
     → is_past precedence (upper_cut c) v ≡ false
     → (names b v || names c v) ≡ true → names (lesser_upper precedence b c) v ≡ true
 lesser_names b c v p q n =
     cond_both (is_gt (cut_cmp precedence (upper_cut b) (upper_cut c))) c b (λ d. names d v ≡ true)
-    (λ h. grind (
-      arith,
-      at_upper b v,
-      at_upper c v,
-      upper_named (upper_cut b) (upper_cut c) v,
-      one_way precedence_total
-          (upper_cut c) (upper_cut b),
-      gt_lt precedence_total (upper_cut b) (upper_cut c),
-    ))
-    (λ h. grind (
-      arith,
-      at_upper b v,
-      at_upper c v,
-      upper_named (upper_cut c) (upper_cut b) v,
-      gt_lt precedence_total
-          (upper_cut b) (upper_cut c),
-    ))
+    (λ h. grind (arith, at_upper, upper_named (upper_cut b) (upper_cut c) v, one_way precedence_total, gt_lt precedence_total))
+    (λ h. grind (arith, at_upper, upper_named (upper_cut c) (upper_cut b) v, gt_lt precedence_total))
+
+-- the bounds of what two spans have in common
+abbrev pub both : Span VersionValue → Span VersionValue → Span VersionValue
+both s t = record { lower = greater_lower precedence s.lower t.lower; upper = lesser_upper precedence s.upper t.upper }
 
 -- what either of two spans lets in, where both hold it, what they have in common lets in
 pub lets_in-meet : (s t : Span VersionValue) (v : VersionValue) → holds precedence s v ≡ true → holds precedence t v ≡ true
     → (lets_in s v || lets_in t v) ≡ true
-    → lets_in (record {
-      lower = greater_lower precedence s.lower t.lower;
-      upper =
-          lesser_upper precedence s.upper t.upper;
-    }) v ≡ true
+    → lets_in (both s t) v ≡ true
 lets_in-meet s t v h k n = elim (cases_Bool (is_release v)) [
   | inl r ↦ rw r refl
   | inr r ↦

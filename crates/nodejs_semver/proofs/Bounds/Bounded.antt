@@ -8,15 +8,13 @@ use Rattle.std.proofs.lemmas.Bool.{cases_Bool}
 use Rattle.semver_core.specs.Text.Identifiers.{Id, IsIdentifiers, identifier_of, is_identifier, is_u64_text, pieces}
 use Rattle.semver_core.specs.Printing.RoundTrip.{is_normal}
 use Rattle.nodejs_semver.specs.Text.PartialText.{AreComponents, IsComponent, Partial, number, one, three, two, wildcard}
-use Rattle.nodejs_semver.proofs.Reading.Steps.{first-same}
 use Rattle.nodejs_semver.specs.Internal.Words.{Reading, Sign, after_some_space, at_boundary, behind_sign, careted, compared, is_boundary, or_else, or_malformed, sign_at, signed_word, tilded, unsigned, upper_of, word_at, word_behind}
 use Rattle.nodejs_semver.specs.Internal.Fronts.{after_byte, partial_front}
 use Rattle.semver_core.specs.Internal.Reading.{◌>>?◌}
 use Rattle.nodejs_semver.specs.Text.WordText.{Word, caret, compare, hyphen, malformed, plain, tilde}
-use Rattle.nodejs_semver.proofs.Reading.Steps.{and-both, and-left, and-right}
+use Rattle.nodejs_semver.proofs.Reading.Steps.{and-both, and-left, and-right, bind-some, first-same}
 use Rattle.semver_core.specs.Text.VersionText.{IsBuild, IsPreRelease, bare, dashed, no_build, no_pre_release, plus}
 use Rattle.nodejs_semver.proofs.Reading.PartialLaw.{front-read}
-use Rattle.nodejs_semver.proofs.Reading.Steps.{bind-some}
 
 -- ---- identifiers
 

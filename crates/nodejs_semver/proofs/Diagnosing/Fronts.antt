@@ -59,19 +59,19 @@ pub record Place (limit : ℕ) (Starts : List ℕ → Type 0) (front : List ℕ)
 some-bytes : (c : ℕ) → 0 < length (encode_utf8 c)
 some-bytes c = omega (arith, length-encode c, (len_utf8_bounds c).0)
 
-pub begins_alike : (test : ℕ → Bool) (c : ℕ) (rest other : List ℕ) → begins test (encode_utf8 c ++ rest) ≡ begins test (encode_utf8 c ++ other)
-begins_alike test c rest other = go (encode_utf8 c) (some-bytes c)
+alike : {A : Type 0} (f : List ℕ → A) → ((b : ℕ) (x y : List ℕ) → f (b ∷ x) ≡ f (b ∷ y)) → (c : ℕ) (rest other : List ℕ)
+    → f (encode_utf8 c ++ rest) ≡ f (encode_utf8 c ++ other)
+alike f first c rest other = go (encode_utf8 c) (some-bytes c)
   where
-    go : (bytes : List ℕ) → 0 < length bytes → begins test (bytes ++ rest) ≡ begins test (bytes ++ other)
+    go : (bytes : List ℕ) → 0 < length bytes → f (bytes ++ rest) ≡ f (bytes ++ other)
     go [] h = absurd (omega arith)
-    go (b ∷ bytes) h = refl
+    go (b ∷ bytes) h = first b (bytes ++ rest) (bytes ++ other)
+
+pub begins_alike : (test : ℕ → Bool) (c : ℕ) (rest other : List ℕ) → begins test (encode_utf8 c ++ rest) ≡ begins test (encode_utf8 c ++ other)
+begins_alike test = alike (begins test) (λ b x y. refl)
 
 mark-alike : (c : ℕ) (rest other : List ℕ) → mark_len (encode_utf8 c ++ rest) ≡ mark_len (encode_utf8 c ++ other)
-mark-alike c rest other = go (encode_utf8 c) (some-bytes c)
-  where
-    go : (bytes : List ℕ) → 0 < length bytes → mark_len (bytes ++ rest) ≡ mark_len (bytes ++ other)
-    go [] h = absurd (omega arith)
-    go (b ∷ bytes) h = refl
+mark-alike = alike mark_len (λ b x y. refl)
 
 -- ---- the mark and the whitespace
 

@@ -3,7 +3,7 @@ use Rattle.std.proofs.Common.{◌≡◌, ℕ, zero, suc, ◌<◌, ◌≤◌, Lis
 use Rattle.std.specs.Prelude.{◌↔◌, IfNone, IfSome, IsTrue, IsUtf8, Option, encode_utf8_all, map, filter_map, flat_map, if◌then◌else◌}
 use Rattle.std.specs.Char.{encode_utf8}
 use Rattle.std.specs.List.{AllByRecursion, list_all}
-use Rattle.std.proofs.lemmas.Bool.{cases_Bool}
+use Rattle.std.proofs.lemmas.Bool.{cases_Bool, false_from_ne_true}
 use Rattle.std.proofs.lemmas.List.{take_at, drop_at}
 use Rattle.std.proofs.lemmas.List.Folds.{list_all-append}
 use Rattle.std.proofs.lemmas.Str.{IsUtf8-drop, IsUtf8-take, IsCharBoundary-after_ascii, IsCharBoundary-before_ascii, len_utf8_bounds, length-encode}
@@ -19,7 +19,7 @@ use Rattle.nodejs_semver.specs.Internal.Parts.{cut_bars, parts}
 use Rattle.nodejs_semver.specs.Text.Bars.{IsCutAtBars, more_pieces, one_piece}
 use Rattle.nodejs_semver.specs.Text.Meaning.{AreAllIntervals, AreWords, HasRuns, IsBlankText, Means, all_intervals, blank_piece, every_version, next_piece, next_word, no_piece, no_word}
 use Rattle.nodejs_semver.specs.Ranges.View.{any_version}
-use Rattle.nodejs_semver.specs.Text.Runs.{Run, interval_of}
+use Rattle.nodejs_semver.specs.Text.Runs.{Run}
 use Rattle.nodejs_semver.specs.Internal.RunsFrom.{runs_of}
 use Rattle.nodejs_semver.specs.Text.Table.{table}
 use Rattle.nodejs_semver.specs.Text.WordText.{Word}
@@ -149,52 +149,33 @@ all-blank (piece ∷ pieces) u h =
 
 -- ---- the intervals of all pieces
 
--- what one piece means
-piece-denotes : (limit : ℕ) (piece : List ℕ) → is_empty (trim piece) ≡ true → part_denotes limit (trim piece) ≡ any_version
-piece-denotes limit piece h = rw h refl
-
-piece-words : (limit : ℕ) (piece : List ℕ) → is_empty (trim piece) ≡ false → part_denotes limit (trim piece) ≡ part_intervals limit (trim piece)
-piece-words limit piece h = rw h refl
-
 all-mean : (limit : ℕ) (pieces : List (List ℕ)) → AllByRecursion IsUtf8 pieces → AreAllIntervals limit pieces (flat_map (part_denotes limit) (map trim pieces))
 all-mean limit [] u = no_piece
 all-mean limit (piece ∷ pieces) u =
     let others = flat_map (part_denotes limit) (map trim pieces) in
     let more = all-mean limit pieces u.1 in
     elim (cases_Bool (is_empty (trim piece))) [
-      | inl empty ↦ subst (λ (l : List (Span VersionValue)). AreAllIntervals limit (piece ∷ pieces) (l ++ others)) (sym (piece-denotes limit piece empty))
-          (blank_piece piece pieces others (empty-blank piece u.0 empty) more)
-      | inr some ↦ subst (λ (l : List (Span VersionValue)). AreAllIntervals limit (piece ∷ pieces) (l ++ others)) (sym (piece-words limit piece some))
-          (next_piece piece pieces (runs_of precedence (part_bounds limit (trim piece))) others (λ blank. cc (sym some ∙ blank-empty piece blank))
-          (has-runs limit piece u.0) more)
+      | inl empty ↦ rw empty (blank_piece piece pieces others (empty-blank piece u.0 empty) more)
+      | inr some ↦
+          rw some (next_piece piece pieces (runs_of precedence (part_bounds limit (trim piece))) others
+          (λ blank. cc (sym some ∙ blank-empty piece blank)) (has-runs limit piece u.0) more)
     ]
 
 all-once : (limit : ℕ) (pieces : List (List ℕ)) (list : List (Span VersionValue)) → AllByRecursion IsUtf8 pieces → AreAllIntervals limit pieces list
     → list ≡ flat_map (part_denotes limit) (map trim pieces)
 all-once limit pieces list u no_piece = refl
 all-once limit pieces list u (blank_piece piece rest others blank more) =
-    ap (λ (l : List (Span VersionValue)). l ++ others) (sym (piece-denotes limit piece (blank-empty piece blank)))
-    ∙ ap (λ (l : List (Span VersionValue)). part_denotes limit (trim piece) ++ l) (all-once limit rest others u.1 more)
+    rw (blank-empty piece blank) (ap (λ (l : List (Span VersionValue)). any_version ++ l) (all-once limit rest others u.1 more))
 all-once limit pieces list u (next_piece piece rest runs others dark h more) =
-    let some : is_empty (trim piece) ≡ false = elim (cases_Bool (is_empty (trim piece))) [
-      | inl empty ↦ absurd (dark (empty-blank piece u.0 empty))
-      | inr some ↦ some
-    ] in
-    ap (λ (l : List (Span VersionValue)). l ++ others)
-    (ap (λ (rs : List (Run VersionValue)). map (interval_of precedence) rs) (runs-once limit piece runs u.0 h) ∙ sym (piece-words limit piece some))
-    ∙ ap (λ (l : List (Span VersionValue)). part_denotes limit (trim piece) ++ l) (all-once limit rest others u.1 more)
+    let some : is_empty (trim piece) ≡ false = false_from_ne_true _ (λ e. dark (empty-blank piece u.0 e)) in
+    rw (runs-once limit piece runs u.0 h, some)
+    (ap (λ (l : List (Span VersionValue)). part_intervals limit (trim piece) ++ l) (all-once limit rest others u.1 more))
 
 -- ---- the whole text
 
 -- the intervals of a text by its pieces
 abbrev denoted : ℕ → List (List ℕ) → List (Span VersionValue)
 denoted limit pieces = if list_all is_empty (map trim pieces) then any_version else flat_map (part_denotes limit) (map trim pieces)
-
-denoted-blank : (limit : ℕ) (pieces : List (List ℕ)) → list_all is_empty (map trim pieces) ≡ true → denoted limit pieces ≡ any_version
-denoted-blank limit pieces h = rw h refl
-
-denoted-filled : (limit : ℕ) (pieces : List (List ℕ)) → list_all is_empty (map trim pieces) ≡ false → denoted limit pieces ≡ flat_map (part_denotes limit) (map trim pieces)
-denoted-filled limit pieces h = rw h refl
 
 means : (limit : ℕ) (text : List ℕ) (list : List (Span VersionValue)) → IsUtf8 text → denotes limit text ≡ list → Means limit text list
 unfolding IsBlankText
@@ -203,23 +184,20 @@ means limit text list u e =
     let cut = bars_divide text in
     let each = pieces-utf8 text pieces cut u in
     subst (λ (l : List (Span VersionValue)). Means limit text l) e (elim (cases_Bool (list_all is_empty (map trim pieces))) [
-      | inl empty ↦ subst (λ (l : List (Span VersionValue)). Means limit text l) (sym (denoted-blank limit pieces empty))
-          (every_version (pieces, cut, all-blank pieces each empty))
-      | inr some ↦ subst (λ (l : List (Span VersionValue)). Means limit text l) (sym (denoted-filled limit pieces some))
-          (all_intervals pieces _ cut (λ blank. cc (sym some ∙ all-empty pieces blank)) (all-mean limit pieces each))
+      | inl empty ↦ rw empty (every_version (pieces, cut, all-blank pieces each empty))
+      | inr some ↦
+          rw some (all_intervals pieces _ cut (λ blank. cc (sym some ∙ all-empty pieces blank)) (all-mean limit pieces each))
     ])
 
 one-meaning : (limit : ℕ) (text : List ℕ) (list : List (Span VersionValue)) → IsUtf8 text → Means limit text list → denotes limit text ≡ list
 unfolding IsBlankText
 one-meaning limit text list u (every_version blank) =
-    ap (λ (ps : List (List ℕ)). denoted limit ps) (sym (bars_once text blank.0 blank.1)) ∙ denoted-blank limit blank.0 (all-empty blank.0 blank.2)
+    ap (λ (ps : List (List ℕ)). denoted limit ps) (sym (bars_once text blank.0 blank.1)) ∙ rw (all-empty blank.0 blank.2) refl
 one-meaning limit text list u (all_intervals pieces here cut filled all) =
     let each = pieces-utf8 text pieces cut u in
-    let some : list_all is_empty (map trim pieces) ≡ false = elim (cases_Bool (list_all is_empty (map trim pieces))) [
-      | inl empty ↦ absurd (filled (all-blank pieces each empty))
-      | inr some ↦ some
-    ] in
-    ap (λ (ps : List (List ℕ)). denoted limit ps) (sym (bars_once text pieces cut)) ∙ (denoted-filled limit pieces some ∙ sym (all-once limit pieces here each all))
+    let some = false_from_ne_true (list_all is_empty (map trim pieces)) (λ e. filled (all-blank pieces each e)) in
+    ap (λ (ps : List (List ℕ)). denoted limit ps) (sym (bars_once text pieces cut))
+    ∙ rw some (sym (all-once limit pieces here each all))
 
 pub one_meaning : (limit : ℕ) (text : List ℕ) (list : List (Span VersionValue)) → IsUtf8 text → (denotes limit text ≡ list) ↔ Means limit text list
 one_meaning limit text list u = (means limit text list u, one-meaning limit text list u)
@@ -255,4 +233,4 @@ blank_text text u = (
 )
 
 pub filled_text : (text : List ℕ) → IsUtf8 text → (IsBlankText text → ⊥) → list_all is_empty (parts text) ≡ false
-filled_text text u h = elim (cases_Bool (list_all is_empty (parts text))) [ inl blank ↦ absurd (h ((blank_text text u).0 blank)) | inr some ↦ some ]
+filled_text text u h = false_from_ne_true _ (λ blank. h ((blank_text text u).0 blank))

@@ -28,21 +28,17 @@ join_stops running next done rest m =
     append_assoc done (running ∷ []) (joined_from precedence next rest)
     ∙ ap (λ (l : List (Span VersionValue)). done ++ l) (sym (joined-stops precedence running next rest m))
 
-pub rest-shorter : (limit : ℕ) (text : List ℕ) → 0 < length text → space_len text ≡ 0 → length (next_at limit text).1 < length text
-rest-shorter limit [] some h = absurd (omega arith)
-rest-shorter limit (b ∷ rest) some h = omega (arith, word-shorter limit b rest h, spaces-le (word_at limit (b ∷ rest)).1)
-
-pub rest-starts : (limit : ℕ) (text : List ℕ) → space_len (next_at limit text).1 ≡ 0
-rest-starts limit text = spaces-gone 0 (word_at limit text).1
-
--- the same of what was read
+-- what is left behind a word that was read
 pub read-shorter : (limit : ℕ) (text after : List ℕ) (o : Option (Span VersionValue)) → 0 < length text → space_len text ≡ 0
     → (o, after) ≡ next_at limit text → length after < length text
-read-shorter limit text after o some h e =
-    omega (arith, rest-shorter limit text some h, ap (λ (p : Option (Span VersionValue) × List ℕ). length p.1) e)
+read-shorter limit [] after o some h e = absurd (omega arith)
+read-shorter limit (b ∷ rest) after o some h e =
+    let le = spaces-le (word_at limit (b ∷ rest)).1 in
+    omega (arith, word-shorter limit b rest h, ap (λ (p : Option (Span VersionValue) × List ℕ). length p.1) e)
 
 pub read-starts : (limit : ℕ) (text after : List ℕ) (o : Option (Span VersionValue)) → (o, after) ≡ next_at limit text → space_len after ≡ 0
-read-starts limit text after o e = ap (λ (p : Option (Span VersionValue) × List ℕ). space_len p.1) e ∙ rest-starts limit text
+read-starts limit text after o e =
+    ap (λ (p : Option (Span VersionValue) × List ℕ). space_len p.1) e ∙ spaces-gone 0 (word_at limit text).1
 
 pub read-is : (limit : ℕ) (text after : List ℕ) (o p : Option (Span VersionValue)) → p ≡ o → (o, after) ≡ next_at limit text → (p, after) ≡ next_at limit text
 read-is limit text after o p h e = rw h e
@@ -51,19 +47,19 @@ pub read-next : (limit : ℕ) (text after : List ℕ) → after ≡ (next_at lim
 read-next limit text after h = rw h refl
 
 -- the bounds of the word at the front, before those of what follows
-pub bounds-step : (limit : ℕ) (text : List ℕ) → 0 < length text → space_len text ≡ 0
-    → part_bounds limit text ≡ cons_option (next_at limit text).0 (part_bounds limit (next_at limit text).1)
-bounds-step limit text some h = ap (λ (ws : List Word). filter_map (table limit) ws) (words-step limit text some h)
+bounds-step : (limit : ℕ) (text after : List ℕ) (o : Option (Span VersionValue)) → 0 < length text → space_len text ≡ 0
+    → (o, after) ≡ next_at limit text → part_bounds limit text ≡ cons_option o (part_bounds limit after)
+bounds-step limit text after o some h e =
+    ap (λ (ws : List Word). filter_map (table limit) ws) (words-step limit text some h)
+    ∙ ap (λ (p : Option (Span VersionValue) × List ℕ). cons_option p.0 (part_bounds limit p.1)) (sym e)
 
 pub bounds-some : (limit : ℕ) (text after : List ℕ) (s : Span VersionValue) → 0 < length text → space_len text ≡ 0
     → (Some s, after) ≡ next_at limit text → part_bounds limit text ≡ s ∷ part_bounds limit after
-bounds-some limit text after s some h e =
-    bounds-step limit text some h ∙ ap (λ (p : Option (Span VersionValue) × List ℕ). cons_option p.0 (part_bounds limit p.1)) (sym e)
+bounds-some limit text after s = bounds-step limit text after (Some s)
 
 pub bounds-none : (limit : ℕ) (text after : List ℕ) → 0 < length text → space_len text ≡ 0
     → ◌≡◌ {A = Option (Span VersionValue) × List ℕ} (None, after) (next_at limit text) → part_bounds limit text ≡ part_bounds limit after
-bounds-none limit text after some h e =
-    bounds-step limit text some h ∙ ap (λ (p : Option (Span VersionValue) × List ℕ). cons_option p.0 (part_bounds limit p.1)) (sym e)
+bounds-none limit text after = bounds-step limit text after None
 
 pub words-none : (limit : ℕ) (text : List ℕ) → length text ≡ 0 → words limit text ≡ []
 unfolding words_within

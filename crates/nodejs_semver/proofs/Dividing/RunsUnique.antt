@@ -1,5 +1,5 @@
 -- A part has one division into runs, and it is the one that is made from the left.
-use Rattle.std.proofs.Common.{◌≡◌, List, [], ◌∷◌, ◌++◌, refl, sym, ap, ◌∙◌, true, false, append_assoc, append-nil, subst}
+use Rattle.std.proofs.Common.{◌≡◌, List, [], ◌∷◌, ◌++◌, refl, sym, ap, ◌∙◌, true, append_assoc, append-nil, subst}
 use Rattle.std.specs.Prelude.{flat_map}
 use Rattle.std.specs.List.{AllByRecursion}
 use Rattle.std.specs.Cmp.{IsTotalOrder}
@@ -18,9 +18,6 @@ extended r xs = record { first = r.first; others = r.others ++ xs }
 abbrev single : {V : Type 0} → Span V → Run V
 single s = record { first = s; others = [] }
 
-head-same : {A : Type 0} (i j : A) (xs ys : List A) → i ∷ xs ≡ j ∷ ys → (i ≡ j) × (xs ≡ ys)
-head-same i j xs ys h = (cc h, cc h)
-
 module _ {V : Type 0} {R : V → V → Ordering} (o : IsTotalOrder R) where
   -- a run that fits with more words fits without them
   shrinks-all : (r : Run V) (xs : List (Span V)) → fits R (extended r xs) ≡ true → fits R r ≡ true
@@ -28,47 +25,43 @@ module _ {V : Type 0} {R : V → V → Ordering} (o : IsTotalOrder R) where
   shrinks-all r (x ∷ xs) h =
       fits-shrinks o r x (shrinks-all (longer r x) xs (subst (λ (l : List (Span V)). fits R (record { first = r.first; others = l }) ≡ true) (sym (append_assoc r.others (x ∷ []) xs)) h))
 
-  -- the runs that begin with the run under way, whose other words are xs
-  from-here : (bounds : List (Span V)) (r : Run V) (xs : List (Span V)) (rest : List (Run V)) → xs ++ flat_map run_items rest ≡ bounds
-      → fits R (extended r xs) ≡ true → AllByRecursion (λ r. fits R r ≡ true) rest → AreLongest R (extended r xs ∷ rest) → runs_from R r bounds ≡ extended r xs ∷ rest
-  unfolding runs_from
-  from-here [] r [] [] e one each longest = ap (λ (l : List (Span V)). record { first = r.first; others = l } ∷ []) (sym (append-nil r.others))
-  from-here [] r [] (s ∷ rest) e one each longest = cc e
-  from-here [] r (x ∷ xs) rest e one each longest = cc e
-  from-here (i ∷ bounds) r [] [] e one each longest = cc e
-  from-here (i ∷ bounds) r [] (s ∷ rest) e one each longest =
-      let same = head-same s.first i (s.others ++ flat_map run_items rest) bounds e in
-      let stop : fits R (longer r i) ≡ false =
-      subst (λ (l : List (Span V)). fits R (record { first = r.first; others = l ++ (i ∷ []) }) ≡ false) (append-nil r.others)
-      (subst (λ (j : Span V). fits R (longer (extended r []) j) ≡ false) same.0 longest.0) in
-      rw (stop, runs_from) (join (from-here bounds (single i) s.others rest same.1 (subst (λ (j : Span V). fits R (record { first = j; others = s.others }) ≡ true) same.0 each.0) each.1 (again same.0)) same.0)
-    where
-      join : runs_from R (single i) bounds ≡ record { first = i; others = s.others } ∷ rest → s.first ≡ i
-          → r ∷ runs_from R (single i) bounds ≡ extended r [] ∷ s ∷ rest
-      join k e =
-          ap (λ (l : List (Span V)). record { first = r.first; others = l } ∷ runs_from R (single i) bounds) (sym (append-nil r.others))
-          ∙ ap (λ (rs : List (Run V)). extended r [] ∷ rs) (k ∙ ap (λ (j : Span V). record { first = j; others = s.others } ∷ rest) (sym e))
+  with-none : (r : Run V) → extended r [] ≡ r
+  with-none r = ap (λ (l : List (Span V)). record { first = r.first; others = l }) (append-nil r.others)
 
-      again : s.first ≡ i → AreLongest R (record { first = i; others = s.others } ∷ rest)
-      again k = subst (λ (j : Span V). AreLongest R (record { first = j; others = s.others } ∷ rest)) k longest.1
-  from-here (i ∷ bounds) r (x ∷ xs) rest e one each longest =
-      let same = head-same x i (xs ++ flat_map run_items rest) bounds e in
-      let whole : extended r (x ∷ xs) ≡ extended (longer r i) xs =
-      ap (λ (j : Span V). extended r (j ∷ xs)) same.0 ∙ ap (λ (l : List (Span V)). record { first = r.first; others = l }) (sym (append_assoc r.others (i ∷ []) xs)) in
-      let fit : fits R (extended (longer r i) xs) ≡ true = subst (λ (q : Run V). fits R q ≡ true) whole one in
-      let goes : fits R (longer r i) ≡ true = shrinks-all (longer r i) xs fit in
-      rw (goes, runs_from)
-      (from-here bounds (longer r i) xs rest same.1 fit each (subst (λ (q : Run V). AreLongest R (q ∷ rest)) whole longest) ∙ ap (λ (q : Run V). q ∷ rest) (sym whole))
+  with-more : (r : Run V) (x : Span V) (xs : List (Span V)) → extended r (x ∷ xs) ≡ extended (longer r x) xs
+  with-more r x xs = ap (λ (l : List (Span V)). record { first = r.first; others = l }) (sym (append_assoc r.others (x ∷ []) xs))
+
+  -- the runs that begin with the run under way, whose other words are xs, where those that follow are what is made of them
+  from-run : (r : Run V) (xs : List (Span V)) (rest : List (Run V))
+      → ((r : Run V) → AreLongest R (r ∷ rest) → runs_from R r (flat_map run_items rest) ≡ r ∷ rest)
+      → fits R (extended r xs) ≡ true → AreLongest R (extended r xs ∷ rest)
+      → runs_from R r (xs ++ flat_map run_items rest) ≡ extended r xs ∷ rest
+  unfolding runs_from
+  from-run r [] rest last fit longest =
+      last r (subst (λ (q : Run V). AreLongest R (q ∷ rest)) (with-none r) longest)
+      ∙ ap (λ (q : Run V). q ∷ rest) (sym (with-none r))
+  from-run r (x ∷ xs) rest last fit longest =
+      let fits_on : fits R (extended (longer r x) xs) ≡ true = subst (λ (q : Run V). fits R q ≡ true) (with-more r x xs) fit in
+      rw (shrinks-all (longer r x) xs fits_on, runs_from)
+      (from-run (longer r x) xs rest last fits_on (subst (λ (q : Run V). AreLongest R (q ∷ rest)) (with-more r x xs) longest)
+      ∙ ap (λ (q : Run V). q ∷ rest) (sym (with-more r x xs)))
+
+  from-last : (r : Run V) (rest : List (Run V)) → AllByRecursion (λ r. fits R r ≡ true) rest → AreLongest R (r ∷ rest)
+      → runs_from R r (flat_map run_items rest) ≡ r ∷ rest
+  unfolding runs_from
+  from-last r [] each longest = refl
+  from-last r (s ∷ rest) each longest =
+      rw (longest.0, runs_from) (ap (λ (rs : List (Run V)). r ∷ rs)
+      (from-run (single s.first) s.others rest (λ q h. from-last q rest each.1 h) each.0 longest.1))
 
   pub runs-unique : (bounds : List (Span V)) (runs : List (Run V)) → AreRuns R bounds runs → runs ≡ runs_of R bounds
-  runs-unique [] [] h = refl
-  runs-unique [] (r ∷ rest) h = cc h.whole
-  runs-unique (i ∷ bounds) [] h = cc h.whole
-  runs-unique (i ∷ bounds) (r ∷ rest) h =
-      let same = head-same r.first i (r.others ++ flat_map run_items rest) bounds h.whole in
-      let start : runs_from R (single r.first) bounds ≡ r ∷ rest =
-      from-here bounds (single r.first) r.others rest same.1 h.each.0 h.each.1 h.longest in
-      sym (ap (λ (j : Span V). runs_from R (single j) bounds) (sym same.0) ∙ start)
+  runs-unique bounds runs h = of_whole runs h.each h.longest ∙ ap (λ (l : List (Span V)). runs_of R l) h.whole
+    where
+      of_whole : (runs : List (Run V)) → AllByRecursion (λ r. fits R r ≡ true) runs → AreLongest R runs
+          → runs ≡ runs_of R (flat_map run_items runs)
+      of_whole [] each longest = refl
+      of_whole (r ∷ rest) each longest =
+          sym (from-run (single r.first) r.others rest (λ q h. from-last q rest each.1 h) each.0 longest)
 
 pub runs_are : (bounds : List (Span VersionValue)) (runs : List (Run VersionValue)) → AreRuns precedence bounds runs → runs ≡ runs_of precedence bounds
 runs_are bounds runs h = runs-unique precedence_total bounds runs h

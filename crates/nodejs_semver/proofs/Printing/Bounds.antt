@@ -43,7 +43,8 @@ alone limit v small h = plain-tidy limit (version_text v) (whole v) _ (component
 one : (limit : ℕ) (c : Comparator) (sign : List ℕ) (v : VersionValue) → IsSign c sign
     → table limit (compare c (whole v)) ≡ Some (bound c v) → limit < 2 ^ 64 → IsReadable limit v
     → Tidy limit (sign ++ version_text v) (bound c v)
-one limit c sign v is e small h = compared-tidy limit c sign (version_text v) (whole v) (bound c v) is (components_are limit v small h) e
+one limit c sign v is e small h =
+    compared-tidy limit c sign (version_text v) (whole v) (bound c v) is (components_are limit v small h) e
 
 two : (limit : ℕ) (c d : Comparator) (sign sign' : List ℕ) (v w : VersionValue) (s : Span VersionValue) → IsSign c sign
     → IsSign d sign' → table limit (compare c (whole v)) ≡ Some (bound c v) → table limit (compare d (whole w)) ≡ Some (bound d w)

@@ -1,9 +1,8 @@
-use Rattle.std.proofs.Common.{arith}
+use Rattle.std.proofs.Common.{arith, refl}
 use Rattle.semver_core.specs.declared.TheConstants.{MAX_SAFE_INTEGER}
 use Rattle.nodejs_semver.specs.Internal.Ignored.{ignored_behind}
 use Rattle.nodejs_semver.specs.Internal.Readings.{rest_view}
 use Rattle.semver_core.specs.Internal.Spaces.{drop_spaces}
-use Rattle.std.proofs.Common.{refl}
 use Rattle.nodejs_semver.proofs.Diagnosing.IgnoredParts.{rest-sizes, word_read}
 use Rattle.nodejs_semver.proofs.diagnosis.ranges.read_word.Goals as goal
 
