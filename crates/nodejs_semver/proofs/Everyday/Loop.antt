@@ -1,5 +1,5 @@
 -- One part of a common text after another.
-use Rattle.std.proofs.Common.{◌≡◌, ℕ, zero, suc, ◌<◌, ◌≤◌, List, [], ◌∷◌, ◌++◌, length, refl, sym, ap, ◌∙◌, arith, true, false, Some, None, append_assoc}
+use Rattle.std.proofs.Common.{◌≡◌, ℕ, zero, suc, ◌<◌, ◌≤◌, List, [], ◌∷◌, ◌++◌, length, refl, arith, true, false, Some, None, append_assoc}
 use Rattle.std.specs.Prelude.{Option}
 use Rattle.semver_core.specs.Cuts.{Span}
 use Rattle.semver_core.specs.Internal.Reading.{◌>>?◌}
@@ -78,26 +78,14 @@ pub loop-ends : (limit : ℕ) (text : List ℕ) (found new : List (Span VersionV
     → Reaches limit text found rest → IsCommonRange limit text new
 loop-ends limit text found new rest left s none r =
     let a = added-by limit found new rest left s in
-    let last = ends-there limit r.bytes rest left a.interval_is r.room a.found (empty-of left none) in
-    let whole : Some (found ++ a.interval_is ∷ []) ≡ common_range limit text = sym (ap (λ (o : Option (List (Span VersionValue))). o >>? λ tail. Some (found ++ tail)) last) ∙ r.whole in
-    rw a.list ((common_ranges_are_read limit text (found ++ a.interval_is ∷ [])).0 (sym whole))
+    grind (arith, ends-there, common_ranges_are_read)
 
 pub loop-goes : (limit : ℕ) (text : List ℕ) (found new : List (Span VersionValue)) (rest left next : List ℕ) → Step limit found new rest left → 0 < length left
     → after_bars left ≡ Some next → Reaches limit text found rest → Reaches limit text new next
 loop-goes limit text found new rest left next s some bars r =
     let a = added-by limit found new rest left s in
     let g = goes-on limit r.bytes rest left next a.interval_is r.room a.found (filled-of left some) bars in
-    rw a.list (record {
-      bytes = g.0;
-      room = g.1;
-      whole = grouped a.interval_is (common_within limit g.0 next)
-          ∙ sym (ap (λ (o : Option (List (Span VersionValue))). o >>? λ tail. Some (found ++ tail)) g.2) ∙ r.whole;
-    })
-  where
-    grouped : (i : Span VersionValue) (o : Option (List (Span VersionValue)))
-        → (o >>? λ tail. Some ((found ++ i ∷ []) ++ tail)) ≡ ((o >>? λ list. Some (i ∷ list)) >>? λ tail. Some (found ++ tail))
-    grouped i None = refl
-    grouped i (Some list) = ap Some (append_assoc found (i ∷ []) list)
+    grind (arith, append_assoc)
 
 pub loop-shorter : (limit : ℕ) (found new : List (Span VersionValue)) (rest left next : List ℕ) → Step limit found new rest left → after_bars left ≡ Some next → length next < length rest
 loop-shorter limit found new rest left next s bars =

@@ -1,5 +1,5 @@
 -- A word is the one that its sign tells.
-use Rattle.std.proofs.Common.{◌≡◌, ◌∙◌, ap, sym, ℕ, List, append-nil, length, arith, refl, true, false, Some, None}
+use Rattle.std.proofs.Common.{◌≡◌, ◌∙◌, sym, ℕ, List, append-nil, length, arith, refl, true, false, Some, None}
 use Rattle.std.specs.Prelude.{Bool, Option}
 use Rattle.semver_core.specs.Cuts.{Span}
 use Rattle.semver_core.specs.Values.Versions.{VersionValue}
@@ -64,14 +64,7 @@ pub pushed_hyphen : (limit : ℕ) (text : List ℕ) (s : Sign × List ℕ) (o : 
 pushed_hyphen limit text s o p rest None old new read h k e m n = grind arith
 pushed_hyphen limit text s o p rest (Some q) old new read h k e m n =
     let w = word_hyphen limit text s o p rest (Some q) q.0 q.1 h k e m refl in
-    whole (inside (ap (λ (x : Option (Bool × List ℕ) × List (Span VersionValue)). x.0) n)) (ap (λ (x : Option (Bool × List ℕ) × List (Span VersionValue)). x.1) n)
-    ∙ ap (λ (x : Word × List ℕ). word_pushed limit old x) (sym w)
-  where
-    inside : {a b : Bool × List ℕ} → Some a ≡ Some b → a ≡ b
-    inside f = cc f
-
-    whole : {a b : Bool × List ℕ} {l m : List (Span VersionValue)} → a ≡ b → l ≡ m → ◌≡◌ {A = (Bool × List ℕ) × List (Span VersionValue)} (a, l) (b, m)
-    whole f g = rw (f, g) refl
+    grind arith
 
 -- none was read
 pub no_hyphen : (limit : ℕ) (p : Partial) (u : Option (Partial × List ℕ)) (old new : List (Span VersionValue))

@@ -215,7 +215,7 @@ behind-is limit text s x u none h =
     let b = bounded-is limit start p.0.0 p.0.1 (signed_word s p.0.0) x v read (rw (none p.0.1) at p.2) in
     (p.0.0, b.0, record { start = start; skipped = skips-is text u; is = b.1 })
 
-tilde-cases : (t : List ℕ) → (tilde_sign t ≡ (false, t)) ⊎ (y : List ℕ) × (t ≡ 62 ∷ y) × (tilde_sign t ≡ (true, y))
+pub tilde-cases : (t : List ℕ) → (tilde_sign t ≡ (false, t)) ⊎ (y : List ℕ) × (t ≡ 62 ∷ y) × (tilde_sign t ≡ (true, y))
 tilde-cases [] = inl refl
 tilde-cases (b ∷ t) = elim (cases_Bool (b == 62)) [
   | inl same ↦ inr (t, rw (eqb-true b 62 same) refl, rw same refl)
