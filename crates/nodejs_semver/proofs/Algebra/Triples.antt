@@ -5,7 +5,7 @@ use Rattle.semver_core.proofs.CutLaws.{lt_not_gt, not_if, tells}
 use Rattle.std.specs.declared.cmp.Ordering.{Ordering}
 use Rattle.std.specs.declared.cmp.Ordering.TheVariants.{Less, Equal, Greater}
 use Rattle.std.specs.Ordering.{ordering_reverse, ordering_then, is_gt, is_eq, on, then_cmp, nat_cmp, is_lt, is_le}
-use Rattle.std.specs.Cmp.{IsTotalOrder, upto, on_total, then_total, nat_cmp_total, unsigned_ties}
+use Rattle.std.specs.Cmp.{IsTotalOrder, upto, on_total, then_total, nat_cmp_total, unsigned_ties, tied_then}
 use Rattle.semver_core.specs.Lists.{is_empty}
 use Rattle.nodejs_semver.specs.Ranges.Gate.{same_triple}
 use Rattle.semver_core.specs.Text.Identifiers.{Id}
@@ -35,11 +35,6 @@ triple_total =
     (then_total (on_total (λ (v : VersionValue). v.minor) nat_cmp_total) (on_total (λ (v : VersionValue). v.patch) nat_cmp_total))
 
 -- answers in two steps
-is_eq-then : (r s : Ordering) → is_eq (ordering_then r s) ≡ (is_eq r && is_eq s)
-is_eq-then Less s = refl
-is_eq-then Equal s = refl
-is_eq-then Greater s = refl
-
 pub then_not_gt : (r s : Ordering) → is_gt (ordering_then r s) ≡ false → is_gt r ≡ false
 then_not_gt Less s h = refl
 then_not_gt Equal s h = refl
@@ -58,14 +53,9 @@ is_eq_is Greater h = cc
 -- equal numbers are tied ones
 pub same_triple_is : (v w : VersionValue) → same_triple v w ≡ is_eq (triple_cmp v w)
 same_triple_is v w =
-    cc (
-      unsigned_ties v.major w.major,
-      unsigned_ties v.minor w.minor,
-      unsigned_ties v.patch w.patch,
-      is_eq-then (nat_cmp v.major w.major) (ordering_then (nat_cmp v.minor w.minor) (nat_cmp v.patch w.patch)),
-      is_eq-then
-          (nat_cmp v.minor w.minor) (nat_cmp v.patch w.patch),
-    )
+    let three = tied_then (nat_cmp v.major w.major) (ordering_then (nat_cmp v.minor w.minor) (nat_cmp v.patch w.patch)) in
+    let two = tied_then (nat_cmp v.minor w.minor) (nat_cmp v.patch w.patch) in
+    cc (unsigned_ties v.major w.major, unsigned_ties v.minor w.minor, unsigned_ties v.patch w.patch)
 
 -- the order of versions goes by the three numbers, and then by the pre-release
 pub in_two_steps : (v w : VersionValue) → precedence v w ≡ ordering_then (triple_cmp v w) (pre_cmp v.pre_release w.pre_release)

@@ -86,15 +86,9 @@ FineWord limit malformed = Unit {0}
 
 boundary-word : (limit : ℕ) (w x : Word) (rest r : List ℕ) → FineWord limit w → at_boundary w rest ≡ Some (x, r) → FineWord limit x
 boundary-word limit w x rest r f h = elim (cases_Bool (is_boundary rest)) [
-  | inl here ↦ subst (λ (y : Word). FineWord limit y) (first (w, rest) (x, r) (rw here at h)) f
+  | inl here ↦ subst (λ (y : Word). FineWord limit y) (first-same (w, rest) (x, r) (rw here at h)) f
   | inr other ↦ cc (rw other at h)
 ]
-  where
-    inside : (y z : Word × List ℕ) → Some y ≡ Some z → y ≡ z
-    inside y z k = cc k
-
-    first : (y z : Word × List ℕ) → Some y ≡ Some z → y.0 ≡ z.0
-    first y z k = ap (λ (u : Word × List ℕ). u.0) (inside y z k)
 
 signed-fine : (limit : ℕ) (s : Sign) (p : Partial) → Fine limit p → FineWord limit (signed_word s p)
 signed-fine limit unsigned p f = f

@@ -135,10 +135,7 @@ least_of_lists (first ∷ others) ks r n e h =
     (subst (λ (kss : List (List (Span VersionValue))). IsLeastOf (among ks kss []) r) (take_rest (first ∷ others) 1) h)
   where
     same : (a b : Bool) → (a && (b && true)) ≡ (b && a)
-    same true true = refl
-    same true false = refl
-    same false true = refl
-    same false false = refl
+    same a b = grind arith
 
 -- ---- no candidate has a build
 

@@ -54,36 +54,22 @@ along held test other ok each (s ∷ ss) h =
     regroup : (a b c d : Bool) → (not (a || b) && (c && d)) ≡ ((not a && c) && (not b && d))
     regroup a b c d = grind arith
 
-higher_of : (ss : List (Span VersionValue)) (v : VersionValue) → list_all (is_interval precedence) ss ≡ true
-    → is_outside Higher true ss v ≡ list_all (λ s. is_past precedence (upper_cut s.upper) v) ss
-higher_of ss v h =
-    along (λ s. holds precedence s v && true) (λ s. lies_below s v) (λ s. is_past precedence (upper_cut s.upper) v)
-    (is_interval precedence) each ss h
-  where
-    each : (s : Span VersionValue) → is_interval precedence s ≡ true
-        → (not (holds precedence s v && true) && lies_below s v) ≡ is_past precedence (upper_cut s.upper) v
-    each s e =
-        higher_one (is_past precedence (lower_cut s.lower) v) (is_past precedence (upper_cut s.upper) v) (is_bounded s.upper)
-        (both_past s v e) (unbounded_above s.upper v)
-
-lower_of : (ss : List (Span VersionValue)) (v : VersionValue) → list_all (is_interval precedence) ss ≡ true
-    → is_outside Lower true ss v ≡ list_all (λ s. not (is_past precedence (lower_cut s.lower) v)) ss
-lower_of ss v h =
-    along (λ s. holds precedence s v && true) (λ s. lies_above s v) (λ s. not (is_past precedence (lower_cut s.lower) v))
-    (is_interval precedence) each ss h
-  where
-    each : (s : Span VersionValue) → is_interval precedence s ≡ true
-        → (not (holds precedence s v && true) && lies_above s v) ≡ not (is_past precedence (lower_cut s.lower) v)
-    each s e =
-        lower_one (is_past precedence (lower_cut s.lower) v) (is_past precedence (upper_cut s.upper) v) (is_bounded s.lower)
-        (is_bounded s.upper) (both_past s v e) (unbounded_below s.lower v) (unbounded_above s.upper v)
-
 pub higher_by_cuts : (d : OutsideDirection) (limit : ℕ) (ss : List (Span VersionValue)) (v : VersionValue) → IsRange limit ss
     → d ≡ Higher
     → is_outside d true ss v ≡ list_all (λ s. is_past precedence (upper_cut s.upper) v) ss
-higher_by_cuts d limit ss v h e = ap (λ d. is_outside d true ss v) e ∙ higher_of ss v (all_intervals (limit + 1) ss h.each)
+higher_by_cuts d limit ss v h e =
+    ap (λ d. is_outside d true ss v) e
+    ∙ along (λ s. holds precedence s v && true) (λ s. lies_below s v) (λ s. is_past precedence (upper_cut s.upper) v)
+    (is_interval precedence) (λ s i. higher_one (is_past precedence (lower_cut s.lower) v)
+    (is_past precedence (upper_cut s.upper) v) (is_bounded s.upper) (both_past s v i) (unbounded_above s.upper v)) ss
+    (all_intervals (limit + 1) ss h.each)
 
 pub lower_by_cuts : (d : OutsideDirection) (limit : ℕ) (ss : List (Span VersionValue)) (v : VersionValue) → IsRange limit ss
     → d ≡ Lower
     → is_outside d true ss v ≡ list_all (λ s. not (is_past precedence (lower_cut s.lower) v)) ss
-lower_by_cuts d limit ss v h e = ap (λ d. is_outside d true ss v) e ∙ lower_of ss v (all_intervals (limit + 1) ss h.each)
+lower_by_cuts d limit ss v h e =
+    ap (λ d. is_outside d true ss v) e
+    ∙ along (λ s. holds precedence s v && true) (λ s. lies_above s v) (λ s. not (is_past precedence (lower_cut s.lower) v))
+    (is_interval precedence) (λ s i. lower_one (is_past precedence (lower_cut s.lower) v)
+    (is_past precedence (upper_cut s.upper) v) (is_bounded s.lower) (is_bounded s.upper) (both_past s v i)
+    (unbounded_below s.lower v) (unbounded_above s.upper v)) ss (all_intervals (limit + 1) ss h.each)

@@ -1,7 +1,7 @@
 -- The patch of a bound of a range can be raised.
-use Rattle.std.proofs.Common.{◌≡◌, ℕ, ◌+◌, ◌-◌, ◌<◌, ◌≤◌, ◌^◌, true, ◌&&◌, List, nat_le, arith, lit<}
-use Rattle.std.specs.List.{list_all, All}
-use Rattle.std.proofs.lemmas.Bool.{and_parts, leb-true}
+use Rattle.std.proofs.Common.{◌≡◌, ℕ, ◌+◌, ◌-◌, ◌<◌, ◌^◌, true, ◌&&◌, List, arith, lit<}
+use Rattle.std.specs.List.{All}
+use Rattle.std.proofs.lemmas.Bool.{and_parts}
 use Rattle.std.proofs.lemmas.List.Elements.{All-weaker}
 use Rattle.std.proofs.lemmas.List.Sums.{AllPass-from_list_all}
 use Rattle.semver_core.specs.Cuts.{Span, is_interval}
@@ -11,22 +11,14 @@ use Rattle.semver_core.specs.declared.TheConstants.{MAX_SAFE_INTEGER}
 use Rattle.semver_core.specs.declared.cuts.bound.Bound.{Bound}
 use Rattle.semver_core.specs.declared.cuts.bound.Bound.TheVariants.{Unbounded, Before, After}
 use Rattle.nodejs_semver.specs.Ranges.View.{IsRange, is_range_bound, is_range_span}
-use Rattle.semver_core.specs.Printing.RoundTrip.{is_normal, is_readable}
 use Rattle.nodejs_semver.specs.Internal.Candidates.{Raisable, IsRaisable}
+use Rattle.semver_core.specs.Internal.Readable.{readable}
 
 module _ (limit : ℕ) (far : limit < 2 ^ 64 - 1) where
-  small : (v : VersionValue) → is_readable limit v ≡ true → v.patch < 2 ^ 64 - 1
-  small v h =
-      let numbers = and_parts (nat_le v.major limit && (nat_le v.minor limit && nat_le v.patch limit))
-      (list_all is_normal v.pre_release && list_all is_normal v.build) h in
-      let rest = and_parts (nat_le v.major limit) (nat_le v.minor limit && nat_le v.patch limit) numbers.0 in
-      let upto : v.patch ≤ limit = leb-true v.patch limit (and_parts (nat_le v.minor limit) (nat_le v.patch limit) rest.1).1 in
-      omega arith
-
   bound_raisable : (b : Bound VersionValue) → is_range_bound limit b ≡ true → Raisable b
   bound_raisable Unbounded h = tt
-  bound_raisable (Before v) h = small v h
-  bound_raisable (After v) h = small v h
+  bound_raisable (Before v) h = omega (arith, (readable limit v h).patch)
+  bound_raisable (After v) h = omega (arith, (readable limit v h).patch)
 
   span_raisable : (s : Span VersionValue) → is_range_span limit s ≡ true → IsRaisable s
   span_raisable s h =

@@ -23,7 +23,7 @@ use Rattle.nodejs_semver.proofs.Reading.Progress.{spaces-gone}
 use Rattle.nodejs_semver.specs.Diagnosis.VersionFlaws.{BeginsGreat, IsExact, IsExpectedAt, IsFlaw, IsFront, IsGreatAt, IsIgnoredFrom, IsWhole}
 use Rattle.nodejs_semver.specs.Internal.Stuck.{Stuck, begins_dot, at_great, at_digit, at_dot, later}
 use Rattle.nodejs_semver.proofs.Diagnosing.Numbers.{digits_once}
-use Rattle.nodejs_semver.proofs.Diagnosing.Fronts.{HasTail, Leads, Numbers, Place, begins_alike, first_numeral, lead_place, next_place, numeral_begins, numeral_once}
+use Rattle.nodejs_semver.proofs.Diagnosing.Fronts.{Numeral, HasTail, Leads, Numbers, Place, begins_alike, first_numeral, lead_place, next_place, numeral_begins, numeral_once}
 use Rattle.nodejs_semver.specs.declared.diagnosis.versions.VersionFlaw.{VersionFlaw}
 use Rattle.nodejs_semver.specs.declared.diagnosis.versions.VersionFlaw.TheVariants as Flaw
 
@@ -38,14 +38,15 @@ one limit c nine h = record { some = omega arith; each = rw h refl; value = refl
     small : (c : ℕ) → is_ascii_digit c ≡ true → digits_value 10 (c ∷ []) ≤ limit
     small c h = grind (arith, nat_tests, nine)
 
+numeral : (limit c : ℕ) (rest : List ℕ) → 9 ≤ limit → is_ascii_digit c ≡ true → begins is_ascii_digit rest ≡ false
+    → Numeral limit (c ∷ rest) rest
+numeral limit c rest nine h e =
+    record { digits = c ∷ []; n = _; divided = refl; is = record { number = one limit c nine h; ended = e } }
+
 zeros : (limit k c : ℕ) → 9 ≤ limit → is_ascii_digit c ≡ true → Numbers limit k (c ∷ dots k) []
 unfolding dots
-zeros limit zero c nine h = record { digits = c ∷ []; n = digits_value 10 (c ∷ []); divided = refl; is = record { number = one limit c nine h; ended = refl } }
-zeros limit (suc k) c nine h = (
-  48 ∷ dots k,
-  record { digits = c ∷ []; n = digits_value 10 (c ∷ []); divided = refl; is = record { number = one limit c nine h; ended = refl } },
-  zeros limit k 48 nine refl,
-)
+zeros limit zero c nine h = numeral limit c [] nine h refl
+zeros limit (suc k) c nine h = (48 ∷ dots k, numeral limit c (46 ∷ 48 ∷ dots k) nine h refl, zeros limit k 48 nine refl)
 
 -- ---- what is right at a place, and what is not
 
