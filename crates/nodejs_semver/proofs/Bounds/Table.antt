@@ -1,5 +1,6 @@
 -- For proofs. The bounds of what is read are such as a range may have.
 use Rattle.std.proofs.Common.{◌≡◌, ℕ, zero, suc, ◌+◌, List, [], ◌∷◌, length, map, refl, sym, ap, ◌∙◌, Bool, true, false}
+use Rattle.std.proofs.lemmas.Bool.{cond_both}
 use Rattle.std.specs.Prelude.{flat_map, filter_map, if◌then◌else◌}
 use Rattle.std.specs.List.{AllByRecursion, list_all}
 use Rattle.std.proofs.lemmas.List.Folds.{list_all-append}
@@ -37,8 +38,7 @@ part-bounded limit part = words-bounded limit (length part) part
 -- ---- the intervals of runs
 
 pick : (limit : ℕ) (t : Bool) (b c : Bound VersionValue) → is_range_bound limit b ≡ true → is_range_bound limit c ≡ true → is_range_bound limit (if t then b else c) ≡ true
-pick limit true b c f g = f
-pick limit false b c f g = g
+pick limit t b c f g = cond_both t b c (λ e. is_range_bound limit e ≡ true) (λ _. f) (λ _. g)
 
 lower-bounded : (limit : ℕ) (s : Span VersionValue) (ts : List (Span VersionValue)) → list_all (are_bounds limit) (s ∷ ts) ≡ true → is_range_bound limit (greatest_lower precedence s ts) ≡ true
 lower-bounded limit s [] h = and-left _ _ (and-left (are_bounds limit s) true h)

@@ -1,6 +1,6 @@
 -- The version that is found in a list is the best one of those in the set.
 use Rattle.std.proofs.Common.{arith, ◌≡◌, refl, sym, ◌∙◌, ap, Bool, true, false, ◌||◌, not, ◌⊎◌, inl, inr, List, [], ◌∷◌, ◌++◌, Option, Some, None, IfSome, IfNone, Bor}
-use Rattle.std.proofs.lemmas.Bool.{and_from, cases_Bool}
+use Rattle.std.proofs.lemmas.Bool.{and_from, cases_Bool, not-true}
 use Rattle.std.proofs.lemmas.List.{append-nil, append_assoc}
 use Rattle.std.proofs.lemmas.List.Folds.{list_all-append}
 use Rattle.std.proofs.lemmas.List.Elements.{All-append, All-cons, All-same, All-weaker}
@@ -128,8 +128,7 @@ module _ {V : Type 0} {R : V → V → Ordering} (o : IsTotalOrder R) where
 module _ {V : Type 0} (in_front behind beaten : V → V → Bool) (front : (w v : V) → in_front w v ≡ true → beaten w v ≡ true) (back : (w v : V) → behind w v ≡ true → beaten w v ≡ true)
     (tied : (v : V) → beaten v v ≡ true) (set : V → Bool) where
   in_set_only : (s a b : Bool) → (a ≡ true → b ≡ true) → (not s || a) ≡ true → s ≡ true → b ≡ true
-  in_set_only true a b f h k = f h
-  in_set_only false a b f h k = cc
+  in_set_only s a b f h k = grind arith
 
   all_beaten : (list : List V) (v : V) → Stands in_front behind set list v → All (λ w. set w ≡ true → beaten w v ≡ true) list
   all_beaten list v h =
@@ -145,11 +144,7 @@ module _ {V : Type 0} (in_front behind beaten : V → V → Bool) (front : (w v 
   best_beats list (Some v) h = all_beaten list v.now h
 
   best_none : (list : List V) (r : Option (Bor V)) → IsBest in_front behind set list (option_copied r) → IfNone r (All (λ w. set w ≡ false) list)
-  best_none list None h = All-weaker (λ w. not (set w) ≡ true) (λ w. set w ≡ false) (λ w q. unset (set w) q) list (AllPass-from_list_all _ list h)
-    where
-      unset : (s : Bool) → not s ≡ true → s ≡ false
-      unset true h = cc
-      unset false h = refl
+  best_none list None h = All-weaker (λ w. not (set w) ≡ true) (λ w. set w ≡ false) (λ w q. not-true (set w) q) list (AllPass-from_list_all _ list h)
   best_none list (Some v) h = tt
 
 tied_le : (v : VersionValue) → is_le (precedence v v) ≡ true

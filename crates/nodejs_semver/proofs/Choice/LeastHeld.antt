@@ -48,10 +48,7 @@ least_past (After w) v h = by_kind (is_release w) refl
 
 -- the first version past the lower cut of a span that holds v is held as well
 held : (a b c d : Bool) → c ≡ true → (d ≡ true → b ≡ true) → (a && not b) ≡ true → (c && not d) ≡ true
-held true true c d e f h = cc
-held true false c true e f h = cc (f refl)
-held true false c false e f h = ap (λ q. q && true) e
-held false b c d e f h = cc
+held a b c d e f h = grind arith
 
 least_in : (s : Span VersionValue) (v : VersionValue) → holds precedence s v ≡ true → is_gt (precedence (first_past s.lower) v) ≡ false
 least_in s v h = least_past s.lower v (first_so (is_past precedence (lower_cut s.lower) v) (not (is_past precedence (upper_cut s.upper) v)) h)

@@ -1,6 +1,7 @@
 -- For proofs. A text has one division at its bars, which is the one that `cut_bars` computes.
 use Rattle.semver_core.specs.Text.Characters.{begins, ends}
-use Rattle.std.proofs.Common.{◌≡◌, ℕ, List, [], ◌∷◌, ◌++◌, refl, sym, ap, ◌∙◌, inl, inr, true, false, Bool, subst}
+use Rattle.std.proofs.Math.Bool.{and-true}
+use Rattle.std.proofs.Common.{◌≡◌, ℕ, List, [], ◌∷◌, ◌++◌, refl, sym, ap, ◌∙◌, inl, inr, true, false, subst}
 use Rattle.std.specs.Prelude.{◌&&◌}
 use Rattle.std.specs.List.{onto_first}
 use Rattle.std.proofs.lemmas.Bool.{and_parts, and_right, cases_Bool, eqb-true, or_from, or_parts}
@@ -41,15 +42,11 @@ bars_once text pieces (more_pieces piece rest others h ended cut) =
 
 -- ---- this division
 
-alone : (a : Bool) → (a && true) ≡ false → a ≡ false
-alone true h = h
-alone false h = refl
-
 -- one byte more in front
 onto : (b : ℕ) (text : List ℕ) (pieces : List (List ℕ)) → (is_bar b && begins is_bar text) ≡ false → IsCutAtBars text pieces → IsCutAtBars (b ∷ text) (onto_first b pieces)
 onto b text pieces here (one_piece piece h) = one_piece (b ∷ piece) (or_from (is_bar b && begins is_bar piece) (has_bars piece) here h)
 onto b text pieces here (more_pieces [] rest others h ended cut) =
-    more_pieces (b ∷ []) rest others (or_from (is_bar b && false) false (and_right (is_bar b) false refl) refl) (alone (is_bar b) here) cut
+    more_pieces (b ∷ []) rest others (or_from (is_bar b && false) false (and_right (is_bar b) false refl) refl) (sym (and-true (is_bar b)) ∙ here) cut
 onto b text pieces here (more_pieces (c ∷ piece) rest others h ended cut) =
     more_pieces (b ∷ c ∷ piece) rest others (or_from (is_bar b && is_bar c) (has_bars (c ∷ piece)) here h) ended cut
 

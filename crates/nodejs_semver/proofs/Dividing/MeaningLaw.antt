@@ -215,14 +215,13 @@ means_some limit text list u h some none = absurd (omega (arith, ap length (same
 -- the list of a reader, where there may be none
 pub meant_some : (limit : ℕ) (text : List ℕ) (list : List (Span VersionValue)) (o : Option (List (Span VersionValue))) → IsUtf8 text → list ≡ denotes limit text → o ≡ if_any list
     → IfSome o (λ range. Means limit text range × (0 < length range))
-meant_some limit text [] o u e h = subst (λ (q : Option (List (Span VersionValue))). IfSome q (λ range. Means limit text range × (0 < length range))) (sym h) tt
-meant_some limit text (s ∷ rest) o u e h =
-    subst (λ (q : Option (List (Span VersionValue))). IfSome q (λ range. Means limit text range × (0 < length range))) (sym h) (meant limit text (s ∷ rest) u e, omega arith)
+meant_some limit text [] o u e h = rw h tt
+meant_some limit text (s ∷ rest) o u e h = rw h (meant limit text (s ∷ rest) u e, omega arith)
 
 pub meant_none : (limit : ℕ) (text : List ℕ) (list : List (Span VersionValue)) (o : Option (List (Span VersionValue))) → IsUtf8 text → list ≡ denotes limit text → o ≡ if_any list
     → IfNone o (Means limit text [])
-meant_none limit text [] o u e h = subst (λ (q : Option (List (Span VersionValue))). IfNone q (Means limit text [])) (sym h) (meant limit text [] u e)
-meant_none limit text (s ∷ rest) o u e h = subst (λ (q : Option (List (Span VersionValue))). IfNone q (Means limit text [])) (sym h) tt
+meant_none limit text [] o u e h = rw h (meant limit text [] u e)
+meant_none limit text (s ∷ rest) o u e h = rw h tt
 
 -- a text whose parts are all empty is blank
 pub blank_text : (text : List ℕ) → IsUtf8 text → IsTrue (list_all is_empty (parts text)) ↔ IsBlankText text

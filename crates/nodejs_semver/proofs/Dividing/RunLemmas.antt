@@ -72,8 +72,7 @@ module _ {V : Type 0} {R : V → V → Ordering} (o : IsTotalOrder R) where
   past-below (After w) v = ap not (past-above (After w) v)
 
   not-or : (a b : Bool) → not (a || b) ≡ (not a && not b)
-  not-or true b = refl
-  not-or false b = refl
+  not-or a b = grind arith
 
   above-all : (v : V) (s : Span V) (ts : List (Span V)) → is_past R (lower_cut (greatest_lower R s ts)) v ≡ list_all (λ k. is_above R k.lower v) (s ∷ ts)
   above-all v s [] = past-above s.lower v ∙ sym (and-true (is_above R s.lower v))

@@ -1,5 +1,6 @@
 -- For proofs. A range that is printed and parsed.
 use Rattle.std.proofs.Common.{◌≡◌, ◌<◌, ◌^◌, ℕ, true, List, [], ◌∷◌, map, ap, sym, ◌∙◌, arith, Ok, Err, Result}
+use Rattle.std.proofs.lemmas.Result.{IfOk-weaker}
 use Rattle.std.specs.Prelude.{IfOk, IsUtf8}
 use Rattle.std.specs.List.{list_all}
 use Rattle.semver_core.specs.Cuts.{Span}
@@ -28,18 +29,17 @@ is_back limit text again list h m = sym ((one_meaning limit text again h.utf8).1
 
 pub reread_builds : {E : Type 0} (limit : ℕ) (r : Result (List (Span VersionValue)) E) (text : List ℕ) (list : List (Span VersionValue)) → Reread limit text list
     → IfOk r (Means limit text) → IfOk r (λ again. again ≡ map read_back list)
-reread_builds limit (Ok again) text list h m = is_back limit text again list h m
-reread_builds limit (Err x) text list h m = tt
+reread_builds limit r text list h m = IfOk-weaker r _ _ (λ again n. is_back limit text again list h n) m
 
 pub reread_equal : {E : Type 0} (limit : ℕ) (r : Result (List (Span VersionValue)) E) (text : List ℕ) (list : List (Span VersionValue)) → Reread limit text list
     → IfOk r (Means limit text) → IfOk r (λ again. range_eq again list ≡ true)
-reread_equal limit (Ok again) text list h m = ap (λ (l : List (Span VersionValue)). range_eq l list) (is_back limit text again list h m) ∙ same_back list
-reread_equal limit (Err x) text list h m = tt
+reread_equal limit r text list h m = IfOk-weaker r _ _
+    (λ again n. ap (λ (l : List (Span VersionValue)). range_eq l list) (is_back limit text again list h n) ∙ same_back list) m
 
 pub reread_text : {E : Type 0} (limit : ℕ) (r : Result (List (Span VersionValue)) E) (text : List ℕ) (list : List (Span VersionValue)) → Reread limit text list
     → IfOk r (Means limit text) → IfOk r (λ again. range_text again ≡ range_text list)
-reread_text limit (Ok again) text list h m = ap range_text (is_back limit text again list h m) ∙ prints_again list
-reread_text limit (Err x) text list h m = tt
+reread_text limit r text list h m =
+    IfOk-weaker r _ _ (λ again n. ap range_text (is_back limit text again list h n) ∙ prints_again list) m
 
 -- the text means some interval
 not_refused : (limit : ℕ) (text : List ℕ) (list : List (Span VersionValue)) → Reread limit text list → Means limit text [] → ⊥
