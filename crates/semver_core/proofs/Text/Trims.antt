@@ -1,13 +1,13 @@
 -- Serves proofs. The text without the whitespace round it, by bytes and by characters.
-use Rattle.std.proofs.Common.{◌≡◌, ℕ, ◌<◌, ◌≤◌, ◌-◌, ◌+◌, ◌/◌, ◌%◌, List, [], ◌∷◌, ◌++◌, length, get_or, drop, refl, sym, ap, ◌∙◌, subst, arith, true, false, inl, inr, append_assoc, length-append, append-nil}
+use Rattle.std.proofs.Common.{◌≡◌, ℕ, ◌<◌, ◌≤◌, ◌-◌, ◌+◌, ◌/◌, ◌%◌, List, [], ◌∷◌, ◌++◌, length, drop, take, refl, sym, ap, ◌∙◌, subst, arith, true, false, inl, inr, append_assoc, append-nil}
 use Rattle.std.specs.Prelude.{⊤, encode_utf8_all, IsCharBoundary, IsUtf8, reverse}
-use Rattle.std.specs.Char.{encode_utf8, len_utf8}
+use Rattle.std.specs.Char.{encode_utf8, len_utf8, IsScalar}
 use Rattle.std.specs.List.{list_all}
 use Rattle.std.proofs.lemmas.Bool.{and_parts, and_from, cases_Bool, cases_lt, lt-ltb, le-ltb}
 use Rattle.std.proofs.lemmas.List.{length-drop, drop_at, reverse-append, length-reverse}
 use Rattle.std.proofs.lemmas.List.Folds.{drop_split, list_all-append}
-use Rattle.std.proofs.Math.Seq.{get_or-append_right, take-append_seam}
-use Rattle.std.proofs.lemmas.Str.{IsUtf8-drop, IsUtf8-take, encode_ascii, encodes-append, length-encode, len_utf8_bounds}
+use Rattle.std.proofs.Math.Seq.{take-append_seam}
+use Rattle.std.proofs.lemmas.Str.{IsCharBoundary-at_seam, IsUtf8-drop, IsUtf8-encode, IsUtf8-take, encode_ascii, encodes-append, length-encode, len_utf8_bounds}
 use Rattle.semver_core.specs.Text.Characters.{is_whitespace, begins, IsTrim, BeginsBlank, IsAfterBlank}
 use Rattle.semver_core.specs.Internal.Spaces.{space_len, after_spaces, drop_spaces, drop_end_spaces, trim}
 use Rattle.semver_core.specs.Lists.{is_empty}
@@ -56,19 +56,17 @@ record Encoded (c : ℕ) : Type 0 where
   tail : List ℕ
   spelled : encode_utf8 c ≡ first ∷ tail
   inside : Inside tail
-  lead : 128 ≤ first → 192 ≤ first
 
 encoded : (c : ℕ) → Encoded c
 unfolding encode_utf8 Inside
 encoded c = elim (cases_lt c 128) [
-  | inl one ↦ record { first = c; tail = []; spelled = encode_ascii c one; inside = tt; lead = λ h. omega arith }
+  | inl one ↦ record { first = c; tail = []; spelled = encode_ascii c one; inside = tt }
   | inr more ↦ elim (cases_lt c 2048) [
     | inl two ↦ record {
       first = 192 + c / 64;
       tail = (128 + c % 64) ∷ [];
       spelled = rw (le-ltb c 128 more, lt-ltb c 2048 two) refl;
       inside = (omega arith, omega arith, tt);
-      lead = λ h. omega arith;
     }
     | inr wide ↦ elim (cases_lt c 65536) [
       | inl three ↦ record {
@@ -76,14 +74,12 @@ encoded c = elim (cases_lt c 128) [
         tail = (128 + (c / 64) % 64) ∷ (128 + c % 64) ∷ [];
         spelled = rw (le-ltb c 128 more, le-ltb c 2048 wide, lt-ltb c 65536 three) refl;
         inside = (omega arith, omega arith, (omega arith, omega arith, tt));
-        lead = λ h. omega arith;
       }
       | inr four ↦ record {
         first = 240 + c / 262144;
         tail = (128 + (c / 4096) % 64) ∷ (128 + (c / 64) % 64) ∷ (128 + c % 64) ∷ [];
         spelled = rw (le-ltb c 128 more, le-ltb c 2048 wide, le-ltb c 65536 four) refl;
         inside = (omega arith, omega arith, (omega arith, omega arith, (omega arith, omega arith, tt)));
-        lead = λ h. omega arith;
       }
     ]
   ]
@@ -322,35 +318,22 @@ trim_in_two text rest middle start utf8 a r m =
     let value : middle ≡ trim text = m ∙ ap drop_end_spaces (r ∙ after_blank_drops_spaces text 0 start utf8 a) in
     subst (λ (t : List ℕ). IsTrim text t) (sym value) (trim_is_middle text utf8)
 
--- what stands before the last character
-
-lead_byte : (c : ℕ) → 128 ≤ get_or (encode_utf8 c) 0 0 → 192 ≤ get_or (encode_utf8 c) 0 0
-lead_byte c h = let e = encoded c in rw e.spelled (e.lead (rw e.spelled at h))
-
-pub before_last : (text before : List ℕ) (c : ℕ) → IsUtf8 text → text ≡ before ++ encode_utf8 c → IsUtf8 before
-before_last text before c utf8 e =
-    let whole : IsUtf8 (before ++ encode_utf8 c) = subst (λ (t : List ℕ). IsUtf8 t) e utf8 in
-    let none : length before - length before ≡ 0 = omega arith in
-    let first : get_or (before ++ encode_utf8 c) (length before) 0 ≡ get_or (encode_utf8 c) 0 0 =
-    get_or-append_right before (encode_utf8 c) (length before) 0 (omega arith) ∙ ap (λ n. get_or (encode_utf8 c) n 0) none in
-    let room : length before ≤ length (before ++ encode_utf8 c) = omega (arith, length-append before (encode_utf8 c)) in
-    let lead : 128 ≤ get_or (before ++ encode_utf8 c) (length before) 0 → 192 ≤ get_or (before ++ encode_utf8 c) (length before) 0 =
-    rw first (lead_byte c) in
-    subst (λ (t : List ℕ). IsUtf8 t) (take-append_seam before (encode_utf8 c)) (IsUtf8-take (before ++ encode_utf8 c) (length before) whole (room, λ _ high. lead high))
-
 -- what is left of a text whose end is skipped, character by character
 pub record Shortened (text rest : List ℕ) : Type 0 where
   pub utf8 : IsUtf8 rest
   pub same : drop_end_spaces rest ≡ drop_end_spaces text
 
-pub shortened_more : (text rest before : List ℕ) (c : ℕ) → Shortened text rest → rest ≡ before ++ encode_utf8 c → is_whitespace c ≡ true → Shortened text before
-shortened_more text rest before c s e white =
-    let utf8 = before_last rest before c s.utf8 e in
-    record { utf8 = utf8; same = drop_end-more rest before c utf8 e white ∙ s.same }
+pub shortened_more : (text rest before : List ℕ) (c : ℕ) → Shortened text rest → IsUtf8 before → rest ≡ before ++ encode_utf8 c → is_whitespace c ≡ true
+    → Shortened text before
+shortened_more text rest before c s utf8 e white = record { utf8 = utf8; same = drop_end-more rest before c utf8 e white ∙ s.same }
 
-pub shortened_stop : (text rest before : List ℕ) (c : ℕ) → Shortened text rest → rest ≡ before ++ encode_utf8 c → is_whitespace c ≡ false
+pub shortened_stop : (text rest before : List ℕ) (c : ℕ) → Shortened text rest → IsScalar c → rest ≡ before ++ encode_utf8 c → is_whitespace c ≡ false
     → rest ≡ drop_end_spaces text
-shortened_stop text rest before c s e dark = sym (drop_end-stop rest before c (before_last rest before c s.utf8 e) e dark) ∙ s.same
+shortened_stop text rest before c s scalar e dark =
+    let cut = IsCharBoundary-at_seam rest before (encode_utf8 c) e (IsUtf8-encode c scalar) in
+    let front : take (length before) rest ≡ before = ap (take (length before)) e ∙ take-append_seam before (encode_utf8 c) in
+    let utf8 = subst (λ (t : List ℕ). IsUtf8 t) front (IsUtf8-take rest (length before) s.utf8 cut) in
+    sym (drop_end-stop rest before c utf8 e dark) ∙ s.same
 
 pub shortened_out : (text rest : List ℕ) → Shortened text rest → length rest ≡ 0 → rest ≡ drop_end_spaces text
 shortened_out text rest s none = sym (drop_end-none rest none) ∙ s.same
