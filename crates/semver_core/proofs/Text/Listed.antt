@@ -12,6 +12,8 @@ use Rattle.semver_core.specs.Text.Characters.{begins, is_identifier_char}
 use Rattle.semver_core.specs.Text.Identifiers.{Id, Numeric, identifier_of, IsLongestIdentifiers, is_identifier, is_listed, listed, pieces}
 use Rattle.semver_core.specs.Internal.Reading.{list_at}
 use Rattle.semver_core.proofs.Text.Runs.{ascii as small_char}
+use Rattle.semver_core.specs.Values.Views.{id_view, ids_view}
+use Rattle.semver_core.specs.declared.identifier.Identifier.{Identifier}
 use Rattle.semver_core.proofs.Text.Pieces.{first_char, list_complete, runs_begin, runs_tail, some_inside, tail_onto, tail_runs}
 
 ascii : (text : List ℕ) → tail_runs (pieces text) ≡ true → IsAscii text
@@ -69,5 +71,8 @@ listed_count (c ∷ rest) h = length-map (pieces (c ∷ rest)) identifier_of ∙
 
 pub listed_some : (text : List ℕ) → 0 < length text → 0 < length (listed text)
 listed_some text h = omega (arith, listed_count text h)
+
+pub some_listed : (text : List ℕ) (ids : List Identifier) → 0 < length text → ids_view ids ≡ listed text → 0 < length ids
+some_listed text ids h e = rw (length-map ids id_view) at (rw (← e) at (listed_some text h))
 
 pub ruleset listed_read = (listed_utf8, listed_begins, listed_none)
