@@ -7,14 +7,16 @@ ghost use Rattle.semver_core.specs.Increments.Table as spec;
 ghost use Rattle.semver_core.specs.Increments.Least.{HasNoIdentifier, IsAbove, IsLeastOrOverflow};
 ghost use Rattle.semver_core.specs.Increments.Least.{IsLeastVersion, IsPlain};
 ghost use Rattle.semver_core.specs.Increments.View.{IfAnswered, Returns, fault_of};
-ghost use Rattle.semver_core.specs.Internal.IncrementSteps.{RefusedWith};
+ghost use Rattle.semver_core.specs.Internal.IncrementSteps.{RefusedWith, parts_ref_value};
 ghost use Rattle.semver_core.specs.Values.Versions.{IsVersion, is_release};
 
+use crate::increment::parts::PartsRef;
 use crate::increment::words::by_word;
-use crate::{Failure, Version};
+use crate::{Failure, Version, VersionRef};
 use std::alloc::{AllocError, Global};
 use thiserror::Error;
 
+mod parts;
 mod pre_release;
 mod words;
 
@@ -176,12 +178,12 @@ fn check(alloc: Global, id: &str, base: IdentifierBase) -> Result<(), Failure<In
 // The checks of a word that begins with `pre`, and then the word.
 fn by_checked_word(
     alloc: Global,
-    version: &Version,
+    version: &PartsRef<'_>,
     word: &str,
     id: &str,
     base: IdentifierBase,
 ) -> Result<Version, Failure<IncrementError>>
-    ensures { Returns (spec.incremented version.now word.now id.now base) result }
+    ensures { Returns (spec.incremented (parts_ref_value version.now) word.now id.now base) result }
 {
     if word.starts_with("pre") {
         check(alloc, id, base)?;
@@ -192,13 +194,14 @@ fn by_checked_word(
 // No identifier is an empty one, and no base is `Value(0)`.
 fn increment(
     alloc: Global,
-    version: &Version,
+    version: &PartsRef<'_>,
     word: &str,
     identifier: Option<&str>,
     base: Option<IdentifierBase>,
 ) -> Result<Version, Failure<IncrementError>>
     ensures { Returns
-        (spec.answer_of_inc version.now word.now (option_copied identifier.entry) base) result }
+        (spec.answer_of_inc (parts_ref_value version.now) word.now (option_copied identifier.entry)
+        base) result }
 {
     by_checked_word(
         alloc,
@@ -304,6 +307,29 @@ impl Version {
         ensures build { IfOk result (λ next. next.build ≡ self.now.build) }
     {
         is_version(self);
-        increment(alloc, self, word, identifier, base)
+        increment(alloc, &PartsRef::of(self), word, identifier, base)
+    }
+}
+
+impl<'a> VersionRef<'a> {
+    /// The next version by a word, as `Version::inc` returns it. It has identifiers of its own.
+    ///
+    /// ```rust
+    /// let release = VersionRef::parse("1.2.3")?;
+    /// let beta = release.inc(alloc, "prerelease", Some("beta"), None)?;
+    /// assert_eq!(rt; beta, Version::parse(alloc, "1.2.4-beta.0")?);
+    /// ```
+    pub fn inc(
+        &self,
+        alloc: Global,
+        word: &str,
+        identifier: Option<&str>,
+        base: Option<IdentifierBase>,
+    ) -> Result<Version, Failure<IncrementError>>
+        // It returns what the table says.
+        ensures value { Returns
+            (spec.answer_of_inc self.now word.now (option_copied identifier.entry) base) result }
+    {
+        increment(alloc, &PartsRef::of_borrowed(self), word, identifier, base)
     }
 }

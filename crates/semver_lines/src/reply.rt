@@ -215,8 +215,7 @@ fn next_of<'a>(
     ensures { let told = answer_of_inc v.now word.now (option_copied identifier.entry) base in
         IfOk result (λ text. text.now ≡ next_text told) }
 {
-    let version = v.to_version(alloc)?;
-    next_text(&version.inc(alloc, word, identifier, base), room)
+    next_text(&v.inc(alloc, word, identifier, base), room)
 }
 
 impl AboutVersions {

@@ -93,7 +93,7 @@ set_divided [] back x y = refl
 set_divided (z ∷ front) back x y = ap (λ l. z ∷ l) (set_divided front back x y)
 
 -- the last number rises where it stands
-pub raise_at : (list : List Id) (i n : ℕ) → IsLastNumber list i n → raise_last list ≡ (one_more n >>= λ m. Ok (set list i (Numeric m)))
+raise_at : (list : List Id) (i n : ℕ) → IsLastNumber list i n → raise_last list ≡ (one_more n >>= λ m. Ok (set list i (Numeric m)))
 raise_at list i n h = rw (h.divided, h.place) (raise_divided h.front h.back n h.ended ∙ sym (by (one_more n)))
   where
     by : (r : Result ℕ Fault) → (r >>= λ m. Ok (set (h.front ++ Numeric n ∷ h.back) (length h.front) (Numeric m))) ≡ (r >>= λ m. Ok (h.front ++ Numeric m ∷ h.back))
@@ -118,15 +118,19 @@ tracks_text xs i last text x lt at is h =
 pub tracks_whole : (xs : List Identifier) (i : ℕ) (last : Option (ℕ × ℕ)) → length xs ≤ i → Tracks (ids_view (take i xs)) last → Tracks (ids_view xs) last
 tracks_whole xs i last le h = rw (take_all i xs le) at h
 
-pub set_view : (xs : List Identifier) (i : ℕ) (x : Identifier) → set (ids_view xs) i (id_view x) ≡ ids_view (set xs i x)
+set_view : (xs : List Identifier) (i : ℕ) (x : Identifier) → set (ids_view xs) i (id_view x) ≡ ids_view (set xs i x)
 set_view [] i x = refl
 set_view (y ∷ ys) zero x = refl
 set_view (y ∷ ys) (suc i) x = ap (λ l. id_view y ∷ l) (set_view ys i x)
 
 -- a write at one place of a list, through a slice of it
-pub refill_set : (xs ws : List Identifier) (i : ℕ) (x : Identifier) → ws ≡ xs → refill (length xs) xs (set ws i x) ≡ set xs i x
+refill_set : (xs ws : List Identifier) (i : ℕ) (x : Identifier) → ws ≡ xs → refill (length xs) xs (set ws i x) ≡ set xs i x
 refill_set xs ws i x e =
     rw e (ap (λ n. take n (set xs i x ++ drop (length (set xs i x)) xs)) (sym (length-set xs i x)) ∙ take-append_seam (set xs i x) (drop (length (set xs i x)) xs))
+
+pub number_set : (xs ws : List Identifier) (i : ℕ) (x : Identifier) → ws ≡ xs
+    → ids_view (refill (length xs) xs (set ws i x)) ≡ set (ids_view xs) i (id_view x)
+number_set xs ws i x e = ap ids_view (refill_set xs ws i x e) ∙ sym (set_view xs i x)
 
 -- one more part of a printed list
 pub part_more : (xs : List Id) (x : Id) → list_text (xs ++ x ∷ []) ≡ (if is_empty xs then id_text x else list_text xs ++ 46 ∷ id_text x)
@@ -191,7 +195,8 @@ asked_digits wanted text d = rw d refl
 pub ruleset asked_matches = (asked_number, asked_other, asked_text, asked_digits)
 
 -- a list with a last number goes on by raising it
-pub advance_raises : (list : List Id) (id : List ℕ) (base : IdentifierBase) (i n : ℕ) → IsLastNumber list i n → advance list id base ≡ raise_last list
-advance_raises list id base i n last = by_raise list id base (number_there list i n last)
+pub advance_at : (list : List Id) (id : List ℕ) (base : IdentifierBase) (i n : ℕ) → IsLastNumber list i n
+    → advance list id base ≡ (one_more n >>= λ m. Ok (set list i (Numeric m)))
+advance_at list id base i n last = by_raise list id base (number_there list i n last) ∙ raise_at list i n last
 
 pub ruleset tracked = (tracks_number, tracks_text, tracks_whole)

@@ -1,7 +1,7 @@
 // Lists of identifiers, one by one.
 
 ghost use Rattle.std.specs.Iterator.{item_count, YieldsFirstBy};
-ghost use Rattle.std.specs.Prelude.{◌≡◌, ◌∷◌, [], IfNone, IfSome, length, true};
+ghost use Rattle.std.specs.Prelude.{◌≡◌, ◌∷◌, [], IfNone, IfSome, OnOk, length, true};
 ghost use Rattle.semver_core.specs.Internal.Borrowed.{HasText, id_ref_view};
 ghost use Rattle.semver_core.specs.Internal.Sources.{ids_of, IsSource};
 ghost use Rattle.semver_core.specs.Lists.{is_empty};
@@ -9,7 +9,10 @@ ghost use Rattle.semver_core.specs.Text.Identifiers.{is_listed, listed};
 ghost use Rattle.semver_core.specs.Values.Views.{ids_view, lent_id_view};
 
 use crate::borrowed::order::{IdRef, first_id};
+use crate::version::lists::Identifiers;
+use crate::version::parts::copy_into;
 use crate::{Identifier, IdentifierRef, scan};
+use std::alloc::{AllocError, Global};
 use std::marker::Model;
 
 // Where identifiers stand: as items, or joined by dots in a text.
@@ -78,10 +81,26 @@ impl<'a> IdentifierRefs<'a> {
     }
 
     /// Whether no identifier is left.
+    #[inline(always)]
+    #[tactic(auto, using(crate::proofs::Text::Firsts::spelled_release))]
     pub fn is_empty(&self) -> bool
         ensures { result ≡ is_empty self.now }
     {
-        self.copy().next().is_none()
+        match self.source {
+            Source::Items(items) => items.is_empty(),
+            Source::Text(text) => text.is_empty(),
+        }
+    }
+
+    // Fills an empty list with copies of the identifiers that are left.
+    pub(crate) fn copy_into(&self, alloc: Global, list: &mut Identifiers) -> Result<(), AllocError>
+        requires { list.old.items ≡ [] }
+        ensures { OnOk result (ids_view list.new.items ≡ self.now) }
+    {
+        match self.source {
+            Source::Items(items) => copy_into(alloc, items, list),
+            Source::Text(text) => scan::read_listed(alloc, text, list),
+        }
     }
 }
 

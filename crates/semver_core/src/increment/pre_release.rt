@@ -1,7 +1,7 @@
 // The pre step: how the pre-release list goes on.
 
 ghost use Rattle.std.specs.Prelude.{◌≡◌, ◌∷◌, ◌++◌, [], ◌<◌, ◌==◌, IfOk, OnOk, length};
-ghost use Rattle.std.specs.Prelude.{string_bytes, set, true, if◌then◌else◌};
+ghost use Rattle.std.specs.Prelude.{string_bytes, true, false, if◌then◌else◌};
 ghost use Rattle.std.specs.Char.{is_ascii_digit};
 ghost use Rattle.std.specs.List.{list_all};
 ghost use Rattle.std.specs.Ordering.{is_eq};
@@ -10,7 +10,8 @@ ghost use Rattle.std.specs.Str.Parse.{digits_value};
 ghost use Rattle.semver_core.specs.Text.Characters.{is_identifier_char};
 ghost use Rattle.semver_core.specs.Text.Identifiers.{Numeric, is_identifier, pieces};
 ghost use Rattle.semver_core.specs.Increments.Table as spec;
-ghost use Rattle.semver_core.specs.Internal.IncrementSteps.{IsLastNumber, ReturnsList, Tracks};
+ghost use Rattle.semver_core.specs.Increments.Table.{has_numeric};
+ghost use Rattle.semver_core.specs.Internal.IncrementSteps.{Steps, Tracks};
 ghost use Rattle.semver_core.specs.Printing.Text as printed;
 ghost use Rattle.semver_core.specs.Values.Order.{id_cmp};
 ghost use Rattle.semver_core.specs.Values.Views.{id_view, ids_view};
@@ -18,27 +19,25 @@ ghost use Rattle.semver_core.specs.Values.Views.{id_view, ids_view};
 use crate::increment::{IdentifierBase, IncrementError, is_false, one_more, refused_argument};
 use crate::scan::is_identifier_char;
 use crate::version::lists::Identifiers;
-use crate::version::parts::copy_list;
 use crate::{Failure, Identifier};
-use smallvec::SmallVec;
 use std::alloc::{AllocError, Global};
 use std::fmt::Write;
 
 // The first three steps: the last number rises, and a list without a number gets one.
-#[tactic(auto, using(crate::proofs::Increments::LastNumber::advance_raises))]
 pub(super) fn advance(
     alloc: Global,
-    list: &[Identifier],
+    list: &mut Identifiers,
     id: &str,
     base: IdentifierBase,
-) -> Result<Identifiers, Failure<IncrementError>>
-    ensures { ReturnsList (spec.advance (ids_view list.now) id.now base) result }
+) -> Result<(), Failure<IncrementError>>
+    ensures { Steps (spec.advance (ids_view list.old.items) id.now base) result
+        (ids_view list.new.items) }
 {
-    if list.is_empty() {
-        return Ok(number_alone(alloc, first_number(base))?);
-    }
     match last_number(list) {
-        Some((place, number)) => raise_last(alloc, list, place, number),
+        Some((place, number)) => {
+            list[place] = Identifier::Numeric(one_more(number)?);
+            Ok(())
+        }
         None => count(alloc, list, id, base),
     }
 }
@@ -46,17 +45,17 @@ pub(super) fn advance(
 // The fourth step: the list, or the one that the identifier begins.
 pub(super) fn identify(
     alloc: Global,
+    list: &mut Identifiers,
     id: &str,
     base: IdentifierBase,
-    list: Identifiers,
-) -> Result<Identifiers, AllocError>
-    ensures { IfOk result (λ v.
-        ids_view v.items ≡ spec.identify id.now base (ids_view list.items)) }
+) -> Result<(), AllocError>
+    ensures { OnOk result (ids_view list.new.items
+        ≡ spec.identify id.now base (ids_view list.old.items)) }
 {
-    if id.is_empty() || is_kept(id, &list) {
-        Ok(list)
+    if id.is_empty() || is_kept(id, list) {
+        Ok(())
     } else {
-        begun(alloc, id, base)
+        begin(alloc, list, id, base)
     }
 }
 
@@ -83,68 +82,29 @@ fn last_number(list: &[Identifier]) -> Option<(usize, u64)>
     last
 }
 
-// The list with another identifier at a place.
-fn replaced(
-    alloc: Global,
-    list: &[Identifier],
-    place: usize,
-    id: Identifier,
-) -> Result<Identifiers, AllocError>
-    requires { place < length list.now }
-    ensures { IfOk result (λ v. ids_view v.items ≡ set (ids_view list.now) place (id_view id)) }
-{
-    let mut copies = copy_list(alloc, list)?;
-    copies[place] = id;
-    Ok(copies)
-}
-
-// The list with its last number one more.
-#[tactic(auto, using(crate::proofs::Increments::LastNumber::raise_at))]
-fn raise_last(
-    alloc: Global,
-    list: &[Identifier],
-    place: usize,
-    number: u64,
-) -> Result<Identifiers, Failure<IncrementError>>
-    requires place { place < length list.now }
-    requires last { IsLastNumber (ids_view list.now) place number }
-    ensures { ReturnsList (spec.raise_last (ids_view list.now)) result }
-{
-    let more = one_more(number)?;
-    Ok(replaced(alloc, list, place, Identifier::Numeric(more))?)
-}
-
-// A list of one number.
-fn number_alone(alloc: Global, n: u64) -> Result<Identifiers, AllocError>
-    ensures { IfOk result (λ v. ids_view v.items ≡ Numeric n ∷ []) }
-{
-    let mut list = SmallVec::new(alloc);
-    list.push(Identifier::Numeric(n))?;
-    Ok(list)
-}
-
-// The list with a number after it.
-fn appended(alloc: Global, list: &[Identifier], n: u64) -> Result<Identifiers, AllocError>
-    ensures { IfOk result (λ v. ids_view v.items ≡ ids_view list.now ++ Numeric n ∷ []) }
-{
-    let mut copies = copy_list(alloc, list)?;
-    copies.push(Identifier::Numeric(n))?;
-    Ok(copies)
-}
-
-// The pre step of a list without a number.
+// The pre step of a list without a number: it gets one.
 fn count(
     alloc: Global,
-    list: &[Identifier],
+    list: &mut Identifiers,
     id: &str,
     base: IdentifierBase,
-) -> Result<Identifiers, Failure<IncrementError>>
-    ensures { ReturnsList (spec.counted (ids_view list.now) id.now base) result }
+) -> Result<(), Failure<IncrementError>>
+    requires { has_numeric (ids_view list.old.items) ≡ false }
+    ensures { Steps (spec.advance (ids_view list.old.items) id.now base) result
+        (ids_view list.new.items) }
 {
-    if is_false(base) && is_printed(alloc, list, id)? {
+    if !list.is_empty() && is_false(base) && is_printed(alloc, list, id)? {
         return Err(refused_argument(alloc, "identifier already exists"));
     }
-    Ok(appended(alloc, list, first_number(base))?)
+    Ok(push_number(list, first_number(base))?)
+}
+
+// One more number at the end of a list.
+fn push_number(list: &mut Identifiers, n: u64) -> Result<(), AllocError>
+    ensures { OnOk result (ids_view list.new.items ≡ ids_view list.old.items ++ Numeric n ∷ []) }
+{
+    list.push(Identifier::Numeric(n))?;
+    Ok(())
 }
 
 // Whether the list prints as this identifier.
@@ -178,16 +138,22 @@ fn push_part(text: &mut String, first: bool, id: &Identifier) -> Result<(), Allo
     write!(text, "{id}")
 }
 
-// The list that an identifier begins.
-fn begun(alloc: Global, id: &str, base: IdentifierBase) -> Result<Identifiers, AllocError>
-    ensures { IfOk result (λ v. ids_view v.items ≡ spec.begun id.now base) }
+// The list that an identifier begins, in place of another one.
+fn begin(
+    alloc: Global,
+    list: &mut Identifiers,
+    id: &str,
+    base: IdentifierBase,
+) -> Result<(), AllocError>
+    ensures { OnOk result (ids_view list.new.items ≡ spec.begun id.now base) }
 {
-    let mut list = SmallVec::new(alloc);
-    list.push(Identifier::AlphaNumeric(String::from_str(alloc, id)?))?;
-    if !is_false(base) {
-        list.push(Identifier::Numeric(first_number(base)))?;
+    let id = String::from_str(alloc, id)?;
+    list.clear();
+    list.push(Identifier::AlphaNumeric(id))?;
+    if is_false(base) {
+        return Ok(());
     }
-    Ok(list)
+    push_number(list, first_number(base))
 }
 
 // Whether the list begins with what the identifier matches, and then a number.

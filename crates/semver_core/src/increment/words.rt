@@ -1,36 +1,36 @@
 // The words of increments, a row each.
 
-ghost use Rattle.std.specs.Prelude.{◌≡◌, Ok};
+ghost use Rattle.std.specs.Prelude.{◌≡◌, ◌<◌, [], IfOk, Ok, OnOk, length};
 ghost use Rattle.semver_core.specs.Increments.Table as spec;
 ghost use Rattle.semver_core.specs.Increments.View.{Returns};
-ghost use Rattle.semver_core.specs.Values.Versions.{release_value};
+ghost use Rattle.semver_core.specs.Internal.IncrementSteps.{ReturnsParts, Steps, stepped};
+ghost use Rattle.semver_core.specs.Internal.IncrementSteps.{parts_ref_value};
 ghost use Rattle.semver_core.specs.Values.Views.{ids_view};
 
+use crate::increment::parts::PartsRef;
 use crate::increment::pre_release::{advance, identify};
 use crate::increment::{IdentifierBase, IncrementError, one_more, refused_argument};
-use crate::version::lists::Identifiers;
-use crate::version::parts::copy_list;
-use crate::{Failure, Version};
-use smallvec::SmallVec;
-use std::alloc::Global;
+use crate::version::lists::{Lists, Qualifier};
+use crate::{Failure, IdentifierRefs, Version};
+use std::alloc::{AllocError, Global};
 
 // The row of a word.
 pub(super) fn by_word(
     alloc: Global,
-    version: &Version,
+    version: &PartsRef<'_>,
     word: &str,
     id: &str,
     base: IdentifierBase,
 ) -> Result<Version, Failure<IncrementError>>
-    ensures { Returns (spec.by_word word.now id.now base version.now) result }
+    ensures { Returns (spec.by_word word.now id.now base (parts_ref_value version.now)) result }
 {
     match word {
         "major" => major(alloc, version),
         "minor" => minor(alloc, version),
         "patch" => patch(alloc, version),
-        "premajor" => pre_step(alloc, &next_major(alloc, version)?, id, base),
-        "preminor" => pre_step(alloc, &next_minor(alloc, version)?, id, base),
-        "prepatch" => pre_step(alloc, &next_patch(alloc, version)?, id, base),
+        "premajor" => pre_step(alloc, &next_major(version)?, id, base),
+        "preminor" => pre_step(alloc, &next_minor(version)?, id, base),
+        "prepatch" => pre_step(alloc, &next_patch(version)?, id, base),
         "prerelease" => prerelease(alloc, version, id, base),
         "pre" => pre_step(alloc, version, id, base),
         "release" => release(alloc, version),
@@ -38,31 +38,31 @@ pub(super) fn by_word(
     }
 }
 
-fn major(alloc: Global, version: &Version) -> Result<Version, Failure<IncrementError>>
-    ensures { Returns (spec.by_major version.now) result }
+fn major(alloc: Global, version: &PartsRef<'_>) -> Result<Version, Failure<IncrementError>>
+    ensures { Returns (spec.by_major (parts_ref_value version.now)) result }
 {
-    if version.minor() == 0 && version.patch() == 0 && !version.is_release() {
+    if version.minor == 0 && version.patch == 0 && !version.is_release() {
         release_of(alloc, version)
     } else {
-        next_major(alloc, version)
+        release_of(alloc, &next_major(version)?)
     }
 }
 
-fn minor(alloc: Global, version: &Version) -> Result<Version, Failure<IncrementError>>
-    ensures { Returns (spec.by_minor version.now) result }
+fn minor(alloc: Global, version: &PartsRef<'_>) -> Result<Version, Failure<IncrementError>>
+    ensures { Returns (spec.by_minor (parts_ref_value version.now)) result }
 {
-    if version.patch() == 0 && !version.is_release() {
+    if version.patch == 0 && !version.is_release() {
         release_of(alloc, version)
     } else {
-        next_minor(alloc, version)
+        release_of(alloc, &next_minor(version)?)
     }
 }
 
-fn patch(alloc: Global, version: &Version) -> Result<Version, Failure<IncrementError>>
-    ensures { Returns (spec.by_patch version.now) result }
+fn patch(alloc: Global, version: &PartsRef<'_>) -> Result<Version, Failure<IncrementError>>
+    ensures { Returns (spec.by_patch (parts_ref_value version.now)) result }
 {
     if version.is_release() {
-        next_patch(alloc, version)
+        release_of(alloc, &next_patch(version)?)
     } else {
         release_of(alloc, version)
     }
@@ -70,126 +70,113 @@ fn patch(alloc: Global, version: &Version) -> Result<Version, Failure<IncrementE
 
 fn prerelease(
     alloc: Global,
-    version: &Version,
+    version: &PartsRef<'_>,
     id: &str,
     base: IdentifierBase,
 ) -> Result<Version, Failure<IncrementError>>
-    ensures { Returns (spec.by_prerelease id.now base version.now) result }
+    ensures { Returns (spec.by_prerelease id.now base (parts_ref_value version.now)) result }
 {
     if version.is_release() {
-        pre_step(alloc, &next_patch(alloc, version)?, id, base)
+        pre_step(alloc, &next_patch(version)?, id, base)
     } else {
         pre_step(alloc, version, id, base)
     }
 }
 
-fn release(alloc: Global, version: &Version) -> Result<Version, Failure<IncrementError>>
-    ensures { Returns (spec.by_release version.now) result }
+fn release(alloc: Global, version: &PartsRef<'_>) -> Result<Version, Failure<IncrementError>>
+    ensures { Returns (spec.by_release (parts_ref_value version.now)) result }
 {
     if version.is_release() {
-        let text = version.to_string(alloc)?;
+        let text = release_of(alloc, version)?.to_string(alloc)?;
         Err(Failure::Refused(IncrementError::NotAPrerelease(text)))
     } else {
         release_of(alloc, version)
     }
 }
 
-// The version with these numbers, this pre-release and its own build.
-fn with_parts(
-    alloc: Global,
-    version: &Version,
-    major: u64,
-    minor: u64,
-    patch: u64,
-    pre_release: Identifiers,
-) -> Result<Version, Failure<IncrementError>>
-    ensures { Returns (Ok (record {
-      major = major;
-      minor = minor;
-      patch = patch;
-      pre_release = ids_view pre_release.items;
-      build = version.now.build;
-    })) result }
+// The next release of a kind. Its build stands where it stood.
+fn next_major<'a>(version: &PartsRef<'a>) -> Result<PartsRef<'a>, Failure<IncrementError>>
+    ensures { ReturnsParts (spec.next_major (parts_ref_value version.now)) result }
 {
-    let build = copy_list(alloc, version.build())?;
-    Ok(Version::from_lists(alloc, major, minor, patch, pre_release, build)?)
+    Ok(version.with_numbers(one_more(version.major)?, 0, 0))
 }
 
-// The release of these numbers with the version's own build.
-fn with_numbers(
-    alloc: Global,
-    version: &Version,
-    major: u64,
-    minor: u64,
-    patch: u64,
-) -> Result<Version, Failure<IncrementError>>
-    ensures { Returns
-        (Ok (record (release_value major minor patch) { build = version.now.build })) result }
+fn next_minor<'a>(version: &PartsRef<'a>) -> Result<PartsRef<'a>, Failure<IncrementError>>
+    ensures { ReturnsParts (spec.next_minor (parts_ref_value version.now)) result }
 {
-    if version.build().is_empty() {
-        return Ok(Version::release(major, minor, patch));
+    Ok(version.with_numbers(version.major, one_more(version.minor)?, 0))
+}
+
+fn next_patch<'a>(version: &PartsRef<'a>) -> Result<PartsRef<'a>, Failure<IncrementError>>
+    ensures { ReturnsParts (spec.next_patch (parts_ref_value version.now)) result }
+{
+    Ok(version.with_numbers(version.major, version.minor, one_more(version.patch)?))
+}
+
+// The release of the same numbers. Its build has identifiers of its own.
+fn release_of(alloc: Global, version: &PartsRef<'_>) -> Result<Version, Failure<IncrementError>>
+    ensures { Returns (Ok (spec.release_of (parts_ref_value version.now))) result }
+{
+    if version.build.is_empty() {
+        return Ok(Version::release(version.major, version.minor, version.patch));
     }
-    with_parts(alloc, version, major, minor, patch, SmallVec::new(alloc))
+    let lists = build_of(alloc, &version.build)?;
+    Ok(Version::from_parts(
+        version.major,
+        version.minor,
+        version.patch,
+        Qualifier::Lists(lists),
+    ))
 }
 
-fn release_of(alloc: Global, version: &Version) -> Result<Version, Failure<IncrementError>>
-    ensures { Returns (Ok (spec.release_of version.now)) result }
+// A build with identifiers of its own, and no pre-release.
+fn build_of(alloc: Global, build: &IdentifierRefs<'_>) -> Result<Box<Lists>, AllocError>
+    ensures pre_release { IfOk result (λ lists. lists.value.pre_release.items ≡ []) }
+    ensures build { IfOk result (λ lists. ids_view lists.value.build.items ≡ build.now) }
 {
-    with_numbers(
-        alloc,
-        version,
-        version.major(),
-        version.minor(),
-        version.patch(),
-    )
-}
-
-fn next_major(alloc: Global, version: &Version) -> Result<Version, Failure<IncrementError>>
-    ensures { Returns (spec.next_major version.now) result }
-{
-    with_numbers(alloc, version, one_more(version.major())?, 0, 0)
-}
-
-fn next_minor(alloc: Global, version: &Version) -> Result<Version, Failure<IncrementError>>
-    ensures { Returns (spec.next_minor version.now) result }
-{
-    with_numbers(
-        alloc,
-        version,
-        version.major(),
-        one_more(version.minor())?,
-        0,
-    )
-}
-
-fn next_patch(alloc: Global, version: &Version) -> Result<Version, Failure<IncrementError>>
-    ensures { Returns (spec.next_patch version.now) result }
-{
-    with_numbers(
-        alloc,
-        version,
-        version.major(),
-        version.minor(),
-        one_more(version.patch())?,
-    )
+    let mut lists = Lists::boxed(alloc)?;
+    build.copy_into(alloc, &mut lists.build)?;
+    Ok(lists)
 }
 
 fn pre_step(
     alloc: Global,
-    version: &Version,
+    version: &PartsRef<'_>,
     id: &str,
     base: IdentifierBase,
 ) -> Result<Version, Failure<IncrementError>>
-    ensures { Returns (spec.pre_step id.now base version.now) result }
+    ensures { Returns (spec.pre_step id.now base (parts_ref_value version.now)) result }
 {
-    let list = advance(alloc, version.pre_release(), id, base)?;
-    let list = identify(alloc, id, base, list)?;
-    with_parts(
-        alloc,
-        version,
-        version.major(),
-        version.minor(),
-        version.patch(),
-        list,
-    )
+    let mut lists = Lists::boxed(alloc)?;
+    step_lists(alloc, version, id, base, &mut lists)?;
+    Ok(Version::from_parts(
+        version.major,
+        version.minor,
+        version.patch,
+        Qualifier::Lists(lists),
+    ))
+}
+
+// Fills two empty lists with the pre-release after that of the version, and with its build.
+fn step_lists(
+    alloc: Global,
+    version: &PartsRef<'_>,
+    id: &str,
+    base: IdentifierBase,
+    lists: &mut Lists,
+) -> Result<(), Failure<IncrementError>>
+    requires pre_release { lists.old.pre_release.items ≡ [] }
+    requires build { lists.old.build.items ≡ [] }
+    ensures pre_release { Steps (stepped version.now.pre_release id.now base) result
+        (ids_view lists.new.pre_release.items) }
+    ensures build { OnOk result (ids_view lists.new.build.items ≡ version.now.build) }
+    ensures some { OnOk result (0 < length lists.new.pre_release.items) }
+{
+    version
+        .pre_release
+        .copy_into(alloc, &mut lists.pre_release)?;
+    advance(alloc, &mut lists.pre_release, id, base)?;
+    identify(alloc, &mut lists.pre_release, id, base)?;
+    version.build.copy_into(alloc, &mut lists.build)?;
+    Ok(())
 }

@@ -93,31 +93,6 @@ impl Version {
         Ok(Version::from_parts(major, minor, patch, Qualifier::Lists(lists)))
     }
 
-    // The version of these numbers and identifiers.
-    pub(crate) fn from_lists(
-        alloc: Global,
-        major: u64,
-        minor: u64,
-        patch: u64,
-        pre_release: Identifiers,
-        build: Identifiers,
-    ) -> Result<Version, AllocError>
-        ensures whole { IfOk result (λ v. v ≡ record {
-          major = major;
-          minor = minor;
-          patch = patch;
-          pre_release = ids_view pre_release.items;
-          build = ids_view build.items;
-        }) }
-        ensures memory { OnErr result ((0 < length pre_release.items) ⊎ (0 < length build.items)) }
-    {
-        if pre_release.is_empty() && build.is_empty() {
-            return Ok(Version::release(major, minor, patch));
-        }
-        let lists = Box::new(alloc, Lists { pre_release, build })?;
-        Ok(Version::from_parts(major, minor, patch, Qualifier::Lists(lists)))
-    }
-
     /// The pre-release `major.minor.patch-number`, with one identifier, which is numeric.
     ///
     /// Nothing is allocated, so it never fails.
@@ -305,18 +280,12 @@ impl Point for Version {
     }
 }
 
-// A copy of the identifiers, inline where they fit. An empty list allocates nothing.
-pub(crate) fn copy_list(alloc: Global, list: &[Identifier]) -> Result<Identifiers, AllocError>
-    ensures whole { IfOk result (λ copy. ids_view copy.items ≡ ids_view list.now) }
-    ensures memory { OnErr result (0 < length list.now) }
-{
-    let mut copy = SmallVec::new(alloc);
-    copy_into(alloc, list, &mut copy)?;
-    Ok(copy)
-}
-
 // Fills an empty list with copies of these identifiers. An empty list allocates nothing.
-fn copy_into(alloc: Global, from: &[Identifier], to: &mut Identifiers) -> Result<(), AllocError>
+pub(crate) fn copy_into(
+    alloc: Global,
+    from: &[Identifier],
+    to: &mut Identifiers,
+) -> Result<(), AllocError>
     requires { to.old.items ≡ [] }
     ensures whole { OnOk result (ids_view to.new.items ≡ ids_view from.now) }
     ensures memory { OnErr result (0 < length from.now) }

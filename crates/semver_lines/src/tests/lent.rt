@@ -218,6 +218,50 @@ fn both_kinds_print_alike(rt: HostRuntime) {
     }
 }
 
+fn leads_to(
+    alloc: Global,
+    version: &VersionRef<'_>,
+    asked: (&str, Option<&str>),
+    text: &str,
+) -> bool {
+    match version.inc(alloc, asked.0, asked.1, None) {
+        Ok(next) => prints(alloc, &next, text),
+        Err(_) => false,
+    }
+}
+
+fn rises(alloc: Global, text: &str, asked: (&str, Option<&str>), next: &str) -> bool {
+    match VersionRef::parse(text) {
+        Ok(version) => leads_to(alloc, &version, asked, next),
+        Err(_) => false,
+    }
+}
+
+// A list of the text goes on, is replaced by the identifier, or has no number yet.
+#[test]
+fn borrowed_versions_rise(rt: HostRuntime) {
+    let alloc = rt.alloc();
+    assert!(rt; rises(alloc, "1.2.3-rc.007+b.1", ("major", None), "2.0.0+b.1"));
+    assert!(rt;
+        rises(
+            alloc,
+            "1.2.3-rc.007+b.1",
+            ("prerelease", None),
+            "1.2.3-rc.8+b.1"
+        )
+    );
+    assert!(rt;
+        rises(
+            alloc,
+            "1.2.3-rc.7+b",
+            ("prerelease", Some("a")),
+            "1.2.3-a.0+b"
+        )
+    );
+    assert!(rt; rises(alloc, "1.2.3-rc.x", ("pre", Some("rc")), "1.2.3-rc.0"));
+    assert!(rt; rises(alloc, "1.2.3", ("preminor", Some("rc")), "1.3.0-rc.0"));
+}
+
 // The newest version of the lines that a range accepts. Nothing is allocated.
 fn newest<'a>(range: &RangeRef<'_>, lines: &'a str) -> Option<VersionRef<'a>> {
     lines

@@ -67,6 +67,15 @@ fn inc(rt: HostRuntime) -> Result<(), Fail> {
 }
 
 #[test]
+fn version_ref_inc(rt: HostRuntime) -> Result<(), Fail> {
+    let alloc = rt.alloc();
+    let release = VersionRef::parse("1.2.3")?;
+    let beta = release.inc(alloc, "prerelease", Some("beta"), None)?;
+    assert_eq!(rt; beta, Version::parse(alloc, "1.2.4-beta.0")?);
+    Ok(())
+}
+
+#[test]
 fn range_parse(rt: HostRuntime) -> Result<(), Fail> {
     let alloc = rt.alloc();
     let range = Range::parse(alloc, "^1.2 || 3.0.0-rc.1")?;

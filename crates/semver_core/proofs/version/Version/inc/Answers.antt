@@ -1,8 +1,11 @@
 -- Each clause follows from the table's answer.
-use Rattle.std.proofs.Common.{◌≡◌, ◌+◌, codes}
+use Rattle.std.proofs.Common.{◌≡◌, ◌+◌, codes, subst}
 use Rattle.std.specs.Option.{option_copied}
 use Rattle.std.specs.Prelude.{IsOkAnd, unwrap_or, []}
 use Rattle.semver_core.specs.Increments.Least.{IsAbove, IsLeastOrOverflow, IsLeastVersion}
+use Rattle.semver_core.specs.Increments.Table.{answer_of_inc}
+use Rattle.semver_core.specs.Increments.View.{Returns}
+use Rattle.semver_core.specs.Values.Versions.{VersionValue}
 use Rattle.semver_core.specs.declared.increment.IdentifierBase.TheVariants.{Value}
 use Rattle.semver_core.proofs.Increments.Clauses.{of_word, of_plain_word, above_of, build_of}
 use Rattle.semver_core.proofs.Increments.Laws.{IsNextPatch, IsNextMinor, IsNextMajor, patch_least, minor_least, major_least, premajor_least, preminor_least, prepatch_least, prerelease_least}
@@ -14,10 +17,12 @@ returns c =
     let id = option_copied c.args.identifier in
     let base = c.args.base in
     let k = c.is_version.ensures in
-    let word = of_word v c.args.word.now id base c.increment.result c.increment.ensures in
-    let plain = of_plain_word v c.args.word.now id base c.increment.result c.increment.ensures in
+    let told = subst (λ w. Returns {A = VersionValue} (answer_of_inc w c.args.word.now id base) c.increment.result)
+    c.of.ensures c.increment.ensures in
+    let word = of_word v c.args.word.now id base c.increment.result told in
+    let plain = of_plain_word v c.args.word.now id base c.increment.result told in
     record {
-      value = c.increment.ensures;
+      value = told;
       patch = word (IsLeastOrOverflow (IsNextPatch v)) (codes "patch") (patch_least v (unwrap_or id []) (unwrap_or base (Value 0)) k);
       minor = word (IsLeastOrOverflow (IsNextMinor v)) (codes "minor") (minor_least v (unwrap_or id []) (unwrap_or base (Value 0)) k);
       major = word (IsLeastOrOverflow (IsNextMajor v)) (codes "major") (major_least v (unwrap_or id []) (unwrap_or base (Value 0)) k);
@@ -25,6 +30,6 @@ returns c =
       preminor = plain (IsLeastOrOverflow (λ w. (w.major ≡ v.major) × (w.minor ≡ v.minor + 1))) (codes "preminor") (preminor_least v [] (Value 0) k);
       prepatch = plain (IsLeastOrOverflow (λ w. (w.major ≡ v.major) × (w.minor ≡ v.minor) × (w.patch ≡ v.patch + 1))) (codes "prepatch") (prepatch_least v [] (Value 0) k);
       prerelease = λ e none rises no_number. plain (λ answer. IsOkAnd answer (IsLeastVersion (IsAbove v))) (codes "prerelease") (prerelease_least v k rises no_number) e none;
-      above = above_of v c.args.word.now id base c.increment.result c.increment.ensures;
-      build = build_of v c.args.word.now id base c.increment.result c.increment.ensures;
+      above = above_of v c.args.word.now id base c.increment.result told;
+      build = build_of v c.args.word.now id base c.increment.result told;
     }

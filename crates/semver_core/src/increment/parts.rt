@@ -1,0 +1,67 @@
+// The version that a word is asked of.
+
+ghost use Rattle.std.specs.Prelude.{◌≡◌};
+ghost use Rattle.semver_core.specs.Internal.IncrementSteps.{parts_ref_value};
+ghost use Rattle.semver_core.specs.Values.Versions.{is_release, release_value};
+
+use crate::{IdentifierRefs, Version, VersionRef};
+
+// The five values of a version, its identifiers where they stand.
+#[derive(Drop)]
+pub(super) struct PartsRef<'a> {
+    pub(super) major: u64,
+    pub(super) minor: u64,
+    pub(super) patch: u64,
+    pub(super) pre_release: IdentifierRefs<'a>,
+    pub(super) build: IdentifierRefs<'a>,
+}
+
+impl<'a> PartsRef<'a> {
+    #[inline(always)]
+    pub(super) fn of(version: &'a Version) -> PartsRef<'a>
+        ensures { parts_ref_value result ≡ version.now }
+    {
+        PartsRef {
+            major: version.major(),
+            minor: version.minor(),
+            patch: version.patch(),
+            pre_release: IdentifierRefs::of_items(version.pre_release()),
+            build: IdentifierRefs::of_items(version.build()),
+        }
+    }
+
+    #[inline(always)]
+    pub(super) fn of_borrowed(version: &VersionRef<'a>) -> PartsRef<'a>
+        ensures { parts_ref_value result ≡ version.now }
+    {
+        PartsRef {
+            major: version.major(),
+            minor: version.minor(),
+            patch: version.patch(),
+            pre_release: version.pre_release(),
+            build: version.build(),
+        }
+    }
+
+    #[inline(always)]
+    pub(super) fn is_release(&self) -> bool
+        ensures { result ≡ is_release (parts_ref_value self.now) }
+    {
+        self.pre_release.is_empty()
+    }
+
+    // The release of these numbers with the same build.
+    #[inline(always)]
+    pub(super) fn with_numbers(&self, major: u64, minor: u64, patch: u64) -> PartsRef<'a>
+        ensures { parts_ref_value result
+            ≡ record (release_value major minor patch) { build = self.now.build } }
+    {
+        PartsRef {
+            major,
+            minor,
+            patch,
+            pre_release: IdentifierRefs::of_items(&[]),
+            build: self.build.copy(),
+        }
+    }
+}
