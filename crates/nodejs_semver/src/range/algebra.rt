@@ -41,8 +41,7 @@ impl Range {
     ///
     /// ```rust
     /// let one = Range::parse(alloc, ">=1.2.3-a")?;
-    /// let other = Range::parse(alloc, ">=1.0.0")?;
-    /// let both = one.intersect(alloc, &other)?;
+    /// let both = one.intersect(alloc, &Range::parse(alloc, ">=1.0.0")?)?;
     /// // It accepts 1.2.3-a, which the second range does not accept.
     /// assert_eq!(rt; both, Some(Range::parse(alloc, ">=1.2.3-a")?));
     /// ```
@@ -82,8 +81,7 @@ impl Range {
     ///
     /// ```rust
     /// let one = Range::parse(alloc, "^1.2")?;
-    /// let other = Range::parse(alloc, "1.5.0")?;
-    /// let left = one.difference(alloc, &other)?;
+    /// let left = one.difference(alloc, &Range::parse(alloc, "1.5.0")?)?;
     /// assert_eq!(rt; left, Some(Range::parse(alloc, ">=1.2.0 <1.5.0 || >1.5.0 <2.0.0-0")?));
     /// ```
     ///

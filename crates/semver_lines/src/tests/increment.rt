@@ -58,14 +58,9 @@ fn overflows(alloc: Global, version: &Version, word: &str) -> bool {
 // The identifier `1` stands in a result as one `AlphaNumeric`, which `1` does not match.
 #[test]
 fn inc_of_a_result_that_is_not_read_again(rt: HostRuntime) {
+    let version = Version::with_pre(rt.alloc(), 1, 2, 3, 0).ok();
     let leads = Question::LeadsTwiceTo("1", "1.2.3-1.0");
-    assert!(rt;
-        is_true(
-            rt.alloc(),
-            Version::with_pre(rt.alloc(), 1, 2, 3, 0).ok(),
-            leads
-        )
-    );
+    assert!(rt; is_true(rt.alloc(), version, leads));
 }
 
 const MAX: u64 = u64::MAX;
@@ -102,14 +97,9 @@ fn great_minor(alloc: Global, identifier: &str) -> Option<Version> {
 
 #[test]
 fn inc_keeps_the_greatest_number(rt: HostRuntime) {
+    let version = Version::with_pre(rt.alloc(), MAX, 0, 0, 0).ok();
     let major = Question::LeadsTo("major", "18446744073709551615.0.0");
-    assert!(rt;
-        is_true(
-            rt.alloc(),
-            Version::with_pre(rt.alloc(), MAX, 0, 0, 0).ok(),
-            major
-        )
-    );
+    assert!(rt; is_true(rt.alloc(), version, major));
     let minor = Question::LeadsTo("minor", "1.18446744073709551615.0");
     assert!(rt; is_true(rt.alloc(), great_minor(rt.alloc(), "a"), minor));
 }
