@@ -44,9 +44,6 @@ goes-on limit (suc n) rest left next s l h e k = (n, omega (arith, next-shorter 
 
 -- ---- the steps of the loop
 
-empty-of : (text : List ℕ) → length text ≡ 0 → is_empty text ≡ true
-empty-of text h = grind arith
-
 filled-of : (text : List ℕ) → 0 < length text → is_empty text ≡ false
 filled-of text h = grind arith
 

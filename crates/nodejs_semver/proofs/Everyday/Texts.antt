@@ -101,9 +101,6 @@ record Denoted (limit : ℕ) (pieces : List (List ℕ)) (list : List (Span Versi
   intervals : flat_map (part_denotes limit) (map trim pieces) ≡ list
   filled : list_all is_empty (map trim pieces) ≡ false
 
-front-filled : (text : List ℕ) → begins is_solid text ≡ true → is_empty text ≡ false
-front-filled text h = grind arith
-
 denoted-on : (limit : ℕ) (piece part : List ℕ) (pieces : List (List ℕ)) (s : Span VersionValue) (list : List (Span VersionValue)) → trim piece ≡ part → Tidy limit part s
     → flat_map (part_denotes limit) (map trim pieces) ≡ list → Denoted limit (piece ∷ pieces) (s ∷ list)
 denoted-on limit piece part pieces s list t tidy h = grind arith

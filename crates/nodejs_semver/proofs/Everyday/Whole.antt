@@ -16,9 +16,6 @@ use Rattle.nodejs_semver.proofs.Everyday.Texts.{common_ranges_are_denoted}
 pub common_bounded : (limit : ℕ) (text : List ℕ) (list : List (Span VersionValue)) → IsCommonRange limit text list → list_all (is_range_span (limit + 1)) list ≡ true
 common_bounded limit text list h = grind (arith, common_ranges_are_denoted, denotes-bounded)
 
-any-of : (list : List (Span VersionValue)) → 0 < length list → if_any list ≡ Some list
-any-of list h = grind arith
-
 pub common_list : (limit : ℕ) (text : List ℕ) (list : List (Span VersionValue)) → IsCommonRange limit text list → list ≡ denotes limit text
 common_list limit text list h = sym (common_ranges_are_denoted limit text list h).0
 

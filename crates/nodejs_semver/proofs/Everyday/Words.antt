@@ -1,8 +1,5 @@
 -- The words of an everyday part are what the range grammar reads in it.
-use Rattle.std.proofs.Common.{◌≡◌, ℕ, List, [], ◌∷◌, ◌++◌, refl, sym, ap, ◌∙◌, arith, Bool, true, false, Some, subst, append-nil, append_assoc}
-use Rattle.std.specs.Prelude.{◌==◌, ◌||◌}
-use Rattle.std.proofs.lemmas.Bool.Decides.{nat_tests}
-use Rattle.std.specs.Char.{is_ascii_digit}
+use Rattle.std.proofs.Common.{◌≡◌, ℕ, List, [], ◌∷◌, ◌++◌, refl, sym, ◌∙◌, arith, Bool, true, false, Some, append-nil, append_assoc}
 use Rattle.semver_core.specs.Cuts.{Span, meet}
 use Rattle.semver_core.specs.Text.Characters.{begins}
 use Rattle.semver_core.specs.Values.Order.{precedence}
@@ -14,11 +11,11 @@ use Rattle.nodejs_semver.specs.Internal.Denotes.{part_intervals}
 use Rattle.nodejs_semver.specs.Internal.Fronts.{partial_front}
 use Rattle.nodejs_semver.specs.Internal.Meets.{joined_from}
 use Rattle.nodejs_semver.specs.Internal.RunsFrom.{runs_from}
-use Rattle.nodejs_semver.specs.Text.PartialText.{AreComponents, Partial, is_wildcard}
+use Rattle.nodejs_semver.specs.Text.PartialText.{AreComponents, Partial}
 use Rattle.nodejs_semver.specs.Text.Table.{table}
 use Rattle.nodejs_semver.specs.Text.WordText.{IsSign, Comparator, Word, caret, compare, hyphen, plain, tilde}
 use Rattle.nodejs_semver.specs.Internal.CommonFronts.{is_sign}
-use Rattle.nodejs_semver.specs.Internal.Words.{careted, compared, is_boundary, or_equal, tilde_sign, tilded, unsigned, word_at, words, words_within}
+use Rattle.nodejs_semver.specs.Internal.Words.{is_boundary, or_equal, tilde_sign, word_at, words, words_within}
 use Rattle.nodejs_semver.proofs.Dividing.MeetLemmas.{joined-goes, runs-joined}
 use Rattle.nodejs_semver.proofs.Everyday.Compact.{Compact, compact-compared, compact-partial, compact-signed, compact-spaced}
 use Rattle.nodejs_semver.proofs.Reading.Bytes.{begins-on, begins_component, component-solid, is_solid, solid-dark}
@@ -26,13 +23,9 @@ use Rattle.nodejs_semver.proofs.Reading.Components.{components-begin}
 use Rattle.nodejs_semver.proofs.Reading.PartialLaw.{front-exact}
 use Rattle.nodejs_semver.proofs.Reading.Progress.{words-step}
 use Rattle.nodejs_semver.proofs.Reading.Quiet.{Stop, stop-nil, stop-space}
-use Rattle.nodejs_semver.proofs.Reading.SignLaw.{word-as}
 use Rattle.nodejs_semver.proofs.Reading.WordLaw.{compared-of, unsigned-at}
 
 -- where a component begins, no sign goes on
-component-no_sign : (b : ℕ) → (is_wildcard b || is_ascii_digit b) ≡ true → ((b == 61) ≡ false) × ((b == 62) ≡ false)
-component-no_sign b h = (grind (arith, nat_tests), grind (arith, nat_tests))
-
 pub no-equal : (one two : Comparator) (text : List ℕ) → begins_component text ≡ true → or_equal one two text ≡ (one, text)
 no-equal one two text h = grind arith
 
@@ -55,20 +48,20 @@ partial-spaced limit x more p h stop =
     grind (arith, solid-dark, begins-on, component-solid, components-begin, drop_spaces-none, front-exact)
 
 partial-last : (limit : ℕ) (x : List ℕ) (p : Partial) → AreComponents limit x p → partial_front limit x ≡ Some (p, [])
-partial-last limit x p h = subst (λ (t : List ℕ). partial_front limit t ≡ Some (p, [])) (append-nil x) (front-exact limit x [] p h stop-nil)
+partial-last limit x p h = rw append-nil at (front-exact limit x [] p h stop-nil)
 
 spaced-last : (limit : ℕ) (x : List ℕ) (p : Partial) → AreComponents limit x p → partial_front limit (drop_spaces x) ≡ Some (p, [])
-spaced-last limit x p h = subst (λ (t : List ℕ). partial_front limit (drop_spaces t) ≡ Some (p, [])) (append-nil x) (partial-spaced limit x [] p h stop-nil)
+spaced-last limit x p h = rw append-nil at (partial-spaced limit x [] p h stop-nil)
 
 compared-read : (limit : ℕ) (c : Comparator) (sign x more : List ℕ) (p : Partial) → IsSign c sign → AreComponents limit x p → Stop more → is_boundary more ≡ true
     → ReadAt limit ((sign ++ x) ++ more) (compare c p) more
+unfolding word_at
 compared-read limit c sign x more p is h stop end =
     let read = partial-spaced limit x more p h stop in
-    let at = sym (compared-of limit c sign (x ++ more) (p, more) is read) in
     rw (append_assoc sign x more)
     (record {
       front = (sign-begins c sign (x ++ more) is).1;
-      word = word-as limit (sign ++ (x ++ more)) (compared c, drop_spaces (x ++ more)) (Some (p, more)) at (sym read) ∙ rw end refl;
+      word = rw (compared-of limit c sign (x ++ more) (p, more) is read, read, end) refl;
     })
 
 -- ---- the words of a part, and its interval
@@ -99,18 +92,14 @@ word-tidy limit x w s c word bounds = record { compact = c; intervals = rw (one-
 -- ---- the forms of a part
 
 pub plain-tidy : (limit : ℕ) (x : List ℕ) (p : Partial) (s : Span VersionValue) → AreComponents limit x p → table limit (plain p) ≡ Some s → Tidy limit x s
-unfolding is_boundary space_len
+unfolding word_at is_boundary space_len
 plain-tidy limit x p s h bounds =
     let read = partial-last limit x p h in
-    word-tidy limit x (plain p) s (compact-partial limit x p h) (word-as limit x (unsigned, x) (Some (p, [])) (sym (unsigned-at limit x (p, []) read)) (sym read)) bounds
-
-end-boundary : is_boundary [] ≡ true
-unfolding is_boundary
-end-boundary = refl
+    word-tidy limit x (plain p) s (compact-partial limit x p h) (rw (unsigned-at limit x (p, []) read, read) refl) bounds
 
 last-compared : (limit : ℕ) (c : Comparator) (sign x : List ℕ) (p : Partial) → IsSign c sign → AreComponents limit x p → ReadAt limit (sign ++ x) (compare c p) []
-last-compared limit c sign x p is h =
-    subst (λ (t : List ℕ). ReadAt limit t (compare c p) []) (append-nil (sign ++ x)) (compared-read limit c sign x [] p is h stop-nil end-boundary)
+unfolding is_boundary
+last-compared limit c sign x p is h = rw append-nil at (compared-read limit c sign x [] p is h stop-nil refl)
 
 pub compared-tidy : (limit : ℕ) (c : Comparator) (sign x : List ℕ) (p : Partial) (s : Span VersionValue) → IsSign c sign → AreComponents limit x p
     → table limit (compare c p) ≡ Some s → Tidy limit (sign ++ x) s
@@ -118,41 +107,33 @@ compared-tidy limit c sign x p s is h bounds = grind (arith, word-tidy, compact-
 
 pub tilde-tidy : (limit : ℕ) (greater : Bool) (rest x : List ℕ) (p : Partial) (s : Span VersionValue) → Compact (126 ∷ rest) → tilde_sign (drop_spaces rest) ≡ (greater, x)
     → AreComponents limit x p → table limit (tilde greater p) ≡ Some s → Tidy limit (126 ∷ rest) s
-unfolding is_boundary space_len
+unfolding word_at is_boundary space_len
 tilde-tidy limit greater rest x p s c sign h bounds =
-    word-tidy limit (126 ∷ rest) (tilde greater p) s c
-    (word-as limit (126 ∷ rest) (tilded greater, drop_spaces x) (Some (p, [])) (ap (λ (y : Bool × List ℕ). (tilded y.0, drop_spaces y.1)) (sym sign)) (sym (spaced-last limit x p h)))
-    bounds
+    word-tidy limit (126 ∷ rest) (tilde greater p) s c (rw (sign, spaced-last limit x p h) refl) bounds
 
 pub caret-tidy : (limit : ℕ) (x : List ℕ) (p : Partial) (s : Span VersionValue) → AreComponents limit x p → table limit (caret p) ≡ Some s → Tidy limit (94 ∷ x) s
-unfolding is_boundary space_len
+unfolding word_at is_boundary space_len
 caret-tidy limit x p s h bounds =
-    word-tidy limit (94 ∷ x) (caret p) s (compact-signed 94 x refl (compact-partial limit x p h))
-    (word-as limit (94 ∷ x) (careted, drop_spaces x) (Some (p, [])) refl (sym (spaced-last limit x p h))) bounds
+    let whole = compact-signed 94 x refl (compact-partial limit x p h) in
+    word-tidy limit (94 ∷ x) (caret p) s whole (rw (spaced-last limit x p h) refl) bounds
 
 pub hyphen-tidy : (limit : ℕ) (x y : List ℕ) (p q : Partial) (s : Span VersionValue) → AreComponents limit x p → AreComponents limit y q
     → table limit (hyphen p q) ≡ Some s → Tidy limit (x ++ 32 ∷ (45 ∷ (32 ∷ y))) s
-unfolding is_boundary space_len after_spaces
+unfolding word_at is_boundary space_len after_spaces
 hyphen-tidy limit x y p q s h k bounds =
     let behind = 32 ∷ 45 ∷ 32 ∷ y in
-    let last = compact-partial limit y q k in
+    let dash = compact-spaced (45 ∷ []) y (record { front = refl; each = refl; end = refl }) (compact-partial limit y q k) in
     let read = front-exact limit x behind p h (stop-space (45 ∷ 32 ∷ y)) in
-    word-tidy limit (x ++ behind) (hyphen p q) s
-    (compact-spaced x (45 ∷ 32 ∷ y) (compact-partial limit x p h) (compact-spaced (45 ∷ []) y (record { front = refl; each = refl; end = refl }) last))
-    (word-as limit (x ++ behind) (unsigned, x ++ behind) (Some (p, behind)) (sym (unsigned-at limit (x ++ behind) (p, behind) read)) (sym read)
-    ∙ rw (spaced-last limit y q k) refl) bounds
-
-space-boundary : (z : List ℕ) → is_boundary (32 ∷ z) ≡ true
-unfolding is_boundary space_len
-space-boundary z = refl
+    word-tidy limit (x ++ behind) (hyphen p q) s (compact-spaced x (45 ∷ 32 ∷ y) (compact-partial limit x p h) dash)
+    (rw (unsigned-at limit (x ++ behind) (p, behind) read, read, spaced-last limit y q k) refl) bounds
 
 pub two-tidy : (limit : ℕ) (c d : Comparator) (sign sign' x y : List ℕ) (p q : Partial) (s t both : Span VersionValue) → IsSign c sign → AreComponents limit x p
     → IsSign d sign' → AreComponents limit y q → table limit (compare c p) ≡ Some s → table limit (compare d q) ≡ Some t → meet precedence s t ≡ Some both
     → Tidy limit ((sign ++ x) ++ 32 ∷ (sign' ++ y)) both
-unfolding joined_from
+unfolding joined_from is_boundary space_len
 two-tidy limit c d sign sign' x y p q s t both is h is' k b b' m =
     let rest = sign' ++ y in
-    let first = compared-read limit c sign x (32 ∷ rest) p is h (stop-space rest) (space-boundary rest) in
+    let first = compared-read limit c sign x (32 ∷ rest) p is h (stop-space rest) refl in
     let each = two-words limit ((sign ++ x) ++ 32 ∷ rest) rest (compare c p) (compare d q) first (last-compared limit d sign' y q is' k) in
     record {
       compact = compact-spaced (sign ++ x) rest (compact-compared c sign x is (compact-partial limit x p h)) (compact-compared d sign' y is' (compact-partial limit y q k));

@@ -27,9 +27,6 @@ ends-append p (b ∷ []) [] h = absurd (omega arith)
 ends-append p (b ∷ []) (c ∷ v) h = refl
 ends-append p (b ∷ c ∷ u) v h = ends-append p (c ∷ u) v h
 
-pub all-begin : (p : ℕ → Bool) (u : List ℕ) → 0 < length u → list_all p u ≡ true → begins p u ≡ true
-all-begin p u h k = grind arith
-
 pub all-end : (p : ℕ → Bool) (u : List ℕ) → 0 < length u → list_all p u ≡ true → ends p u ≡ true
 all-end p [] some h = absurd (omega arith)
 all-end p (b ∷ []) some h = (and_parts (p b) true h).0

@@ -1,5 +1,5 @@
 -- The components of a partial at the front of a text: what is read is written there, and what is written is read.
-use Rattle.std.proofs.Common.{◌≡◌, ℕ, ◌<◌, ◌≤◌, List, [], ◌∷◌, ◌++◌, length, drop, refl, sym, ap, ◌∙◌, arith, true, false, Some, None, inl, inr, subst, append_assoc, length-append}
+use Rattle.std.proofs.Common.{◌≡◌, ℕ, ◌<◌, ◌≤◌, List, [], ◌∷◌, ◌++◌, length, drop, refl, ap, ◌∙◌, arith, true, false, Some, None, inl, inr, append_assoc, length-append}
 use Rattle.std.specs.Prelude.{Option}
 use Rattle.std.specs.Char.{is_ascii_digit}
 use Rattle.std.proofs.lemmas.Bool.{cases_Bool}
@@ -9,7 +9,7 @@ use Rattle.nodejs_semver.specs.Text.PartialText.{AreComponents, IsComponent, Par
 use Rattle.nodejs_semver.proofs.Reading.Bytes.{all-end, begins-on, begins_component}
 use Rattle.nodejs_semver.proofs.Reading.Numbers.{number-found, number-read, number_first, wildcard-no_digit}
 use Rattle.nodejs_semver.proofs.Reading.Qualifiers.{build-read, build_front-le, pre-read, pre_release_front-le, qualifier-passed}
-use Rattle.nodejs_semver.proofs.Reading.Quiet.{Quiet, Stop, quiet-append, quiet-before, quiet-behind, quiet-both, quiet-front, quiet-further}
+use Rattle.nodejs_semver.proofs.Reading.Quiet.{quiet-dotted, Quiet, Stop, quiet-before, quiet-behind, quiet-both, quiet-front, quiet-further}
 use Rattle.nodejs_semver.proofs.Reading.Steps.{bind-some, inside}
 
 -- ---- one component
@@ -40,22 +40,23 @@ record Component (limit : ℕ) (x c r : List ℕ) (v : Option ℕ) : Type 0 wher
   pub is : IsComponent limit c v
   pub quiet : Quiet c r
 
-component-read : (limit : ℕ) (x : List ℕ) (v : Option ℕ) (r : List ℕ) → component_front limit x ≡ Some (v, r) → (c : List ℕ) × Component limit x c r v
+component-read : (limit : ℕ) (x : List ℕ) (a : Option ℕ × List ℕ) → component_front limit x ≡ Some a
+    → (c : List ℕ) × Component limit x c a.1 a.0
 unfolding component_front
-component-read limit x v r h = elim (cases_Bool (begins_wildcard x)) [
+component-read limit x a h = elim (cases_Bool (begins_wildcard x)) [
   | inl wild ↦ wild_case x wild (rw wild at h)
   | inr other ↦
-      let n = bind-some (number_front limit x) (λ n. Some (Some n.0, n.1)) (v, r) (rw other at h) in
+      let n = bind-some (number_front limit x) (λ n. Some (Some n.0, n.1)) a (rw other at h) in
       let f = number-found limit x n.0.0 n.0.1 n.1 in
-      subst (λ (q : Option ℕ × List ℕ). (c : List ℕ) × Component limit x c q.1 q.0) (inside n.2)
-      (f.run, record { split = f.split; is = number f.run n.0.0 f.is; quiet = quiet-before f.run n.0.1 f.ended })
+      let quiet = quiet-before f.run n.0.1 f.ended in
+      rw (← inside n.2) (f.run, record { split = f.split; is = number f.run n.0.0 f.is; quiet = quiet })
 ]
   where
-    wild_case : (x : List ℕ) → begins_wildcard x ≡ true → ◌≡◌ {A = Front (Option ℕ)} (Some (None, drop 1 x)) (Some (v, r)) → (c : List ℕ) × Component limit x c r v
+    wild_case : (x : List ℕ) → begins_wildcard x ≡ true → ◌≡◌ {A = Front (Option ℕ)} (Some (None, drop 1 x)) (Some a)
+        → (c : List ℕ) × Component limit x c a.1 a.0
     wild_case [] w k = cc w
     wild_case (b ∷ y) w k =
-        subst (λ (q : Option ℕ × List ℕ). (c : List ℕ) × Component limit (b ∷ y) c q.1 q.0) (inside k)
-        (b ∷ [], record { split = refl; is = wildcard b w; quiet = rw (wildcard-no_digit b w) refl })
+        rw (← inside k) (b ∷ [], record { split = refl; is = wildcard b w; quiet = rw (wildcard-no_digit b w) refl })
 
 dotted-read : (limit : ℕ) (x : List ℕ) (v : Option ℕ) (r : List ℕ) → dotted_front limit x ≡ Some (v, r) → (c : List ℕ) × (x ≡ 46 ∷ (c ++ r)) × Component limit (c ++ r) c r v
 unfolding dotted_front
@@ -70,14 +71,9 @@ pub record Read (limit : ℕ) (x s left : List ℕ) (p : Partial) : Type 0 where
 
 patch-read : (limit : ℕ) (a b : Option ℕ) (x c d y : List ℕ) (o : Front (Option ℕ)) → dotted_front limit y ≡ o → x ≡ c ++ (46 ∷ (d ++ y)) → IsComponent limit c a
     → IsComponent limit d b → Quiet d y → (s : List ℕ) × Read limit x s (patch_front a b y o).1 (patch_front a b y o).0
-patch-read limit a b x c d y None e whole h k quiet = (
-  c ++ (46 ∷ d),
-  record {
-    split = whole ∙ sym (append_assoc c (46 ∷ d) y);
-    is = two c d a b h k;
-    quiet = quiet-append c (46 ∷ d) y (omega arith) (quiet-append (46 ∷ []) d y (component-some limit d b k) quiet);
-  },
-)
+patch-read limit a b x c d y None e whole h k quiet =
+    let split = rw (← append_assoc c (46 ∷ d) y) at whole in
+    (c ++ (46 ∷ d), record { split = split; is = two c d a b h k; quiet = quiet-dotted c d y (component-some limit d b k) quiet })
 patch-read limit a b x c d y (Some o) e whole h k quiet =
     let t = dotted-read limit y o.0 o.1 e in
     let pre = pre-read o.1 in
@@ -85,18 +81,15 @@ patch-read limit a b x c d y (Some o) e whole h k quiet =
     let left = (build_front (pre_release_front o.1).1).1 in
     let q = pre.0 ++ build.0 in
     let tail = t.0 ++ q in
-    let rest : o.1 ≡ q ++ left = pre.1.split ∙ (ap (λ (u : List ℕ). pre.0 ++ u) build.1.split ∙ sym (append_assoc pre.0 build.0 left)) in
-    let body : y ≡ 46 ∷ (tail ++ left) = t.1 ∙ (ap (λ (u : List ℕ). 46 ∷ (t.0 ++ u)) rest ∙ ap (λ (u : List ℕ). 46 ∷ u) (sym (append_assoc t.0 q left))) in
-    let inner : d ++ y ≡ (d ++ (46 ∷ tail)) ++ left = ap (λ (u : List ℕ). d ++ u) body ∙ sym (append_assoc d (46 ∷ tail) left) in
-    let third : Quiet t.0 (q ++ left) = subst (λ (u : List ℕ). Quiet t.0 u) rest t.2.quiet in
-    let behind : Quiet q left = quiet-both pre.0 build.0 left (subst (λ (u : List ℕ). Quiet pre.0 u) build.1.split pre.1.stop) build.1.stop in
-    let some : 0 < length tail = let one = component-some limit t.0 o.0 t.2.is in omega (arith, length-append t.0 q) in (
+    let third : Quiet t.0 (q ++ left) = rw (append_assoc, ← build.1.split, ← pre.1.split) t.2.quiet in
+    let behind : Quiet q left = quiet-both pre.0 build.0 left (rw build.1.split at pre.1.stop) build.1.stop in
+    let some : 0 < length tail = grind (arith, component-some limit t.0 o.0 t.2.is, length-append t.0 q) in (
       c ++ (46 ∷ (d ++ (46 ∷ tail))),
       record {
-        split = whole ∙ (ap (λ (u : List ℕ). c ++ (46 ∷ u)) inner ∙ sym (append_assoc c (46 ∷ (d ++ (46 ∷ tail))) left));
+        split = simp append_assoc (cc (whole, t.1, pre.1.split, build.1.split));
         is = three c d t.0 pre.0 build.0 (patch_front a b y (Some o)).0 h k t.2.is (quiet-front t.0 q left third) (pre.1.is build.0 build.1.goes build.1.pre) build.1.is;
-        quiet = quiet-append c (46 ∷ (d ++ (46 ∷ tail))) left (omega arith)
-            (quiet-append (46 ∷ d) (46 ∷ tail) left (omega arith) (quiet-append (46 ∷ []) tail left some (quiet-both t.0 q left third behind)));
+        quiet = quiet-dotted c (d ++ (46 ∷ tail)) left (omega (arith, length-append d (46 ∷ tail)))
+            (quiet-dotted d tail left some (quiet-both t.0 q left third behind));
       },
     )
 
@@ -110,7 +103,7 @@ minor-read limit a x c y (Some o) e m =
 pub components-read : (limit : ℕ) (x : List ℕ) (a : Option ℕ × List ℕ) → component_front limit x ≡ Some a
     → (s : List ℕ) × Read limit x s (minor_front limit a.0 a.1 (dotted_front limit a.1)).1 (minor_front limit a.0 a.1 (dotted_front limit a.1)).0
 components-read limit x a h =
-    let c = component-read limit x a.0 a.1 h in
+    let c = component-read limit x a h in
     minor-read limit a.0 x c.0 a.1 (dotted_front limit a.1) refl c.1
 
 -- ---- what is written is read: no more is left, and just that where nothing goes on there

@@ -18,9 +18,6 @@ use Rattle.nodejs_semver.proofs.Reading.Steps.{option-cases}
 filled : (text : List ℕ) → not (is_empty text) ≡ true → 0 < length text
 filled text h = grind arith
 
-not-empty : (text : List ℕ) → 0 < length text → not (is_empty text) ≡ true
-not-empty text h = grind arith
-
 number-is : (limit : ℕ) (text : List ℕ) (n : ℕ) → number_of limit text ≡ Some n → IsNumber limit text n
 unfolding number_of
 number-is limit text n h = grind arith
@@ -83,9 +80,6 @@ front_none limit text none = elim (option-cases (number_front limit text)) [
 
 pub wildcard-no_digit : (b : ℕ) → is_wildcard b ≡ true → is_ascii_digit b ≡ false
 wildcard-no_digit b h = grind (arith, nat_tests)
-
-pub digit-no_wildcard : (b : ℕ) → is_ascii_digit b ≡ true → is_wildcard b ≡ false
-digit-no_wildcard b h = grind (arith, nat_tests)
 
 -- where a number begins, no wildcard does, so that a component may be looked for as a number first
 number-no_wildcard : (run more : List ℕ) → begins is_ascii_digit run ≡ true → begins_wildcard (run ++ more) ≡ false

@@ -1,7 +1,6 @@
 -- The partial that is read at the front of a text is the longest one that is written there.
-use Rattle.std.proofs.Common.{◌≡◌, ◌⊎◌, ℕ, ◌<◌, ◌≤◌, List, [], ◌∷◌, ◌++◌, length, take, drop, refl, sym, ap, ◌∙◌, arith, true, false, Some, inl, inr, subst, append-nil, append_assoc, length-append}
-use Rattle.std.specs.Prelude.{◌==◌, ◌||◌, ◌↔◌, IsUtf8, encode_utf8_all}
-use Rattle.std.specs.Char.{is_ascii_digit}
+use Rattle.std.proofs.Common.{◌≡◌, ◌⊎◌, ℕ, ◌<◌, ◌≤◌, List, [], ◌∷◌, ◌++◌, length, take, drop, refl, sym, ap, ◌∙◌, arith, true, Some, inl, inr, subst, append-nil, append_assoc, length-append}
+use Rattle.std.specs.Prelude.{◌==◌, ◌↔◌, IsUtf8, encode_utf8_all}
 use Rattle.std.specs.List.{list_all}
 use Rattle.std.proofs.lemmas.Bool.{cases_Bool, eqb-true}
 use Rattle.std.proofs.lemmas.Bool.Decides.{nat_tests}
@@ -14,17 +13,14 @@ use Rattle.semver_core.proofs.Text.Spaces.{drop_spaces-none}
 use Rattle.semver_core.proofs.Text.Trims.{drop_spaces-blank, fronted}
 use Rattle.nodejs_semver.specs.Internal.Fronts.{drop_v, partial_front}
 use Rattle.nodejs_semver.specs.Text.LongestText.{BeginsPartial, IsLongestPartial}
-use Rattle.nodejs_semver.specs.Text.PartialText.{AreComponents, IsPartial, Partial, is_wildcard}
+use Rattle.nodejs_semver.specs.Text.PartialText.{AreComponents, IsPartial, Partial}
 use Rattle.nodejs_semver.proofs.Reading.Steps.{first-same, second-same}
-use Rattle.nodejs_semver.proofs.Reading.Bytes.{begins-some, begins_component, component-solid, is_component_byte, solid-dark}
+use Rattle.nodejs_semver.proofs.Reading.Bytes.{begins-on, begins-some, begins_component, component-solid, is_component_byte, solid-dark}
 use Rattle.nodejs_semver.proofs.Reading.Components.{Passes, Read, components-begin, components-read, components-then}
 use Rattle.nodejs_semver.proofs.Reading.Quiet.{Quiet, Stop, quiet-append, quiet-before, quiet-last, stop-nil}
 use Rattle.nodejs_semver.proofs.Dividing.Trimmed.{dark-starts}
 
 -- ---- a text that begins with a component has neither `v` nor whitespace in front
-
-begins-no_v : (b : ℕ) → (is_wildcard b || is_ascii_digit b) ≡ true → (b == 118) ≡ false
-begins-no_v b h = grind (arith, nat_tests)
 
 front-dark : (text : List ℕ) → begins_component text ≡ true → space_len text ≡ 0
 front-dark text h = solid-dark text (component-solid text h)
@@ -44,35 +40,27 @@ unmarked-blank text h = grind (arith, v-dark)
 
 unmarked : (cs text : List ℕ) → list_all is_whitespace cs ≡ true → begins_component text ≡ true → drop_v (encode_utf8_all cs ++ text) ≡ encode_utf8_all cs ++ text
 unmarked [] [] each h = refl
-unmarked [] (b ∷ rest) each h = rw (begins-no_v b h) refl
+unmarked [] (b ∷ rest) each h = grind (arith, nat_tests)
 unmarked (c ∷ cs) text each h = grind (arith, space_len-white, append_assoc, unmarked-blank)
 
 skipped : (mark blank y : List ℕ) → (mark ≡ []) ⊎ (mark ≡ 118 ∷ []) → IsBlank blank → begins_component y ≡ true → drop_spaces (drop_v (mark ++ (blank ++ y))) ≡ y
 skipped mark blank y m b begin = grind (arith, unmarked, drop_spaces-blank, drop_spaces-none, front-dark)
 
 -- the mark, and the text behind it, which is UTF-8 again
-record Marked (text : List ℕ) : Type 0 where
+record Marked (text left : List ℕ) : Type 0 where
   mark : List ℕ
   is : (mark ≡ []) ⊎ (mark ≡ 118 ∷ [])
-  divided : text ≡ mark ++ drop_v text
-  behind : IsUtf8 (drop_v text)
+  divided : text ≡ mark ++ left
+  behind : IsUtf8 left
 
-marked : (text : List ℕ) → IsUtf8 text → Marked text
+marked : (text : List ℕ) → IsUtf8 text → Marked text (drop_v text)
 marked [] u = record { mark = []; is = inl refl; divided = refl; behind = u }
 marked (b ∷ rest) u = elim (cases_Bool (b == 118)) [
   | inl v ↦
       let is : b ≡ 118 = eqb-true b 118 v in
-      let gone : drop_v (b ∷ rest) ≡ rest = rw v refl in
       let behind : IsUtf8 rest = IsUtf8-drop (b ∷ rest) 1 u (IsCharBoundary-after_ascii (b ∷ rest) 0 u (omega arith) (omega arith)) in
-      record {
-        mark = 118 ∷ [];
-        is = inr refl;
-        divided = ap (λ (c : ℕ). c ∷ rest) is ∙ ap (λ (t : List ℕ). 118 ∷ t) (sym gone);
-        behind = subst (λ (t : List ℕ). IsUtf8 t) (sym gone) behind;
-      }
-  | inr other ↦
-      let same : drop_v (b ∷ rest) ≡ b ∷ rest = rw other refl in
-      record { mark = []; is = inl refl; divided = sym same; behind = subst (λ (t : List ℕ). IsUtf8 t) (sym same) u }
+      rw (v, is) (record { mark = 118 ∷ []; is = inr refl; divided = refl; behind = behind })
+  | inr other ↦ rw other (record { mark = []; is = inl refl; divided = refl; behind = u })
 ]
 
 -- the whitespace at the front
@@ -100,11 +88,10 @@ front-begins limit text p rest u h =
     let b = spaced (drop_v text) m.behind in
     let s = front-read limit text p rest h in
     let some = begins-some is_component_byte s.0 (components-begin limit s.0 p s.1.is) in
-    let x = b.0 ++ s.0 in
-    let behind : drop_v text ≡ x ++ rest = b.2 ∙ (ap (λ (t : List ℕ). b.0 ++ t) s.1.split ∙ sym (append_assoc b.0 s.0 rest)) in (
+    let x = b.0 ++ s.0 in (
       m.mark ++ x,
       record {
-        divided = m.divided ∙ (ap (λ (t : List ℕ). m.mark ++ t) behind ∙ sym (append_assoc m.mark x rest));
+        divided = simp append_assoc (cc (m.divided, b.2, s.1.split));
         is = record { mark = m.mark; blank = b.0; components = s.0; divided = refl; mark_is = m.is; blank_is = b.1; components_are = s.1.is };
         whole = quiet-append m.mark x rest (omega (arith, length-append b.0 s.0)) (quiet-append b.0 s.0 rest some s.1.quiet);
       },
@@ -116,31 +103,23 @@ unfolding partial_front
 front-passes limit t more p h quiet =
     let x = h.components in
     let begin = components-begin limit x p h.components_are in
-    let whole : t ≡ (h.mark ++ h.blank) ++ x = h.divided ∙ sym (append_assoc h.mark h.blank x) in
-    let last : Quiet x more = quiet-last (h.mark ++ h.blank) x more (begins-some is_component_byte x begin) (subst (λ (u : List ℕ). Quiet u more) whole quiet) in
-    let behind : t ++ more ≡ h.mark ++ (h.blank ++ (x ++ more)) =
-    ap (λ (u : List ℕ). u ++ more) h.divided ∙ (append_assoc h.mark (h.blank ++ x) more ∙ ap (λ (u : List ℕ). h.mark ++ u) (append_assoc h.blank x more)) in
+    let whole : t ≡ (h.mark ++ h.blank) ++ x = h.divided ∙ simp append_assoc in
+    let last : Quiet x more = quiet-last (h.mark ++ h.blank) x more (begins-some is_component_byte x begin) (rw whole at quiet) in
+    let behind : t ++ more ≡ h.mark ++ (h.blank ++ (x ++ more)) = ap (λ (u : List ℕ). u ++ more) h.divided ∙ simp append_assoc in
     grind (arith, components-then, skipped)
 
 -- components alone are read exactly where nothing goes on
 pub front-exact : (limit : ℕ) (x more : List ℕ) (p : Partial) → AreComponents limit x p → Stop more → partial_front limit (x ++ more) ≡ Some (p, more)
+unfolding partial_front
 front-exact limit x more p h stop =
-    let is : IsPartial limit x p = record {
-      mark = [];
-      blank = [];
-      components = x;
-      divided = refl;
-      mark_is = inl refl;
-      blank_is = record { characters = []; each = refl; spelled = refl };
-      components_are = h;
-    } in
-    let r = front-passes limit x more p is (quiet-before x more stop.digit) in
-    r.1 ∙ ap Some (r.2.exact stop)
+    let begins = begins-on is_component_byte x more (components-begin limit x p h) in
+    let a = components-then limit x more p h (quiet-before x more stop.digit) in
+    rw (front-kept (x ++ more) begins, a.1) (ap Some (a.2.exact stop))
 
 whole-of : (limit : ℕ) (t : List ℕ) (p : Partial) → IsPartial limit t p → partial_front limit t ≡ Some (p, [])
 whole-of limit t p h =
     let r = front-passes limit t [] p h (quiet-before t [] refl) in
-    subst (λ (u : List ℕ). partial_front limit u ≡ Some (p, [])) (append-nil t) (r.1 ∙ ap Some (r.2.exact stop-nil))
+    rw append-nil at (r.1 ∙ ap Some (r.2.exact stop-nil))
 
 pub partials_are : (limit : ℕ) (text : List ℕ) (p : Partial) → IsUtf8 text → (partial_front limit text ≡ Some (p, [])) ↔ IsPartial limit text p
 partials_are limit text p u = (λ h. let f = front-begins limit text p [] u h in subst (λ (t : List ℕ). IsPartial limit t p) (sym (f.1.divided ∙ append-nil f.0)) f.1.is, whole-of limit text p)

@@ -4,8 +4,8 @@ use Rattle.std.specs.Prelude.{◌==◌, nat_lt}
 use Rattle.std.proofs.lemmas.Bool.{cases_Bool}
 use Rattle.std.proofs.lemmas.Option.{cond_some}
 use Rattle.semver_core.specs.Internal.Spaces.{drop_spaces, space_len, after_spaces}
-use Rattle.nodejs_semver.specs.Text.WordText.{Word, Comparator}
-use Rattle.nodejs_semver.specs.Internal.Words.{Reading, Sign, after_some_space, at_boundary, behind_sign, careted, comparator_at, compared, from_boundary, is_boundary, or_equal, sign_at, tilde_sign, tilded, unsigned, upper_of, word_at, word_behind, words, words_within}
+use Rattle.nodejs_semver.specs.Text.WordText.{Word}
+use Rattle.nodejs_semver.specs.Internal.Words.{Reading, Sign, after_some_space, behind_sign, careted, compared, from_boundary, is_boundary, sign_at, tilde_sign, tilded, unsigned, upper_of, word_at, word_behind, words, words_within}
 use Rattle.nodejs_semver.specs.Internal.Fronts.{after_byte, component_front, dotted_front, drop_v, minor_front, partial_front}
 use Rattle.nodejs_semver.specs.Text.PartialText.{Partial}
 use Rattle.nodejs_semver.proofs.Reading.Steps.{bind-some, second-same}
@@ -40,9 +40,6 @@ some-space-le text r h = omega (arith, ap length (cond_some (nat_lt 0 (space_len
 byte-le : (c : ℕ) (text r : List ℕ) → after_byte c text ≡ Some r → length r ≤ length text
 byte-le c text r h = grind arith
 
-boundary-same : (w x : Word) (rest r : List ℕ) → at_boundary w rest ≡ Some (x, r) → rest ≡ r
-boundary-same w x rest r h = ap (λ (y : Word × List ℕ). y.1) (cond_some (is_boundary rest) (w, rest) (x, r) h).1
-
 upper-le : (limit : ℕ) (s : Sign) (text : List ℕ) (q : Partial × List ℕ) → upper_of limit s text ≡ Some q → length q.1 ≤ length text
 upper-le limit unsigned text q h =
     let sign = bind-some (after_some_space text) _ q h in
@@ -64,12 +61,6 @@ upper-le limit careted text q h = cc h
 
 word_behind-le : (limit : ℕ) (s : Sign) (p : Partial) (rest : List ℕ) (x : Word) (r : List ℕ) → word_behind limit s p rest ≡ Some (x, r) → length r ≤ length rest
 word_behind-le limit s p rest x r h = grind (arith, upper-le)
-
-or_equal-le : (one two : Comparator) (rest : List ℕ) → length (or_equal one two rest).1 ≤ length rest
-or_equal-le one two rest = grind arith
-
-comparator-le : (text : List ℕ) (c : Comparator × List ℕ) → comparator_at text ≡ Some c → length c.1 ≤ length text
-comparator-le text c h = grind arith
 
 sign-le : (rest : List ℕ) → length (tilde_sign rest).1 ≤ length rest
 sign-le rest = grind arith

@@ -1,11 +1,11 @@
 -- The pre-release and the build at the front of a text: what is read is written there, and what is written is read.
-use Rattle.std.proofs.Common.{◌≡◌, ℕ, zero, suc, ◌≤◌, List, [], ◌∷◌, ◌++◌, length, take, drop, refl, sym, ap, arith, true, false, inl, inr, append-nil, append_assoc, length-append}
+use Rattle.std.proofs.Common.{◌≡◌, ℕ, ◌≤◌, List, [], ◌∷◌, ◌++◌, length, take, drop, refl, sym, ap, arith, true, false, inl, inr, append-nil, append_assoc, length-append}
 use Rattle.std.specs.Prelude.{◌&&◌}
 use Rattle.std.specs.Char.{is_ascii_digit}
-use Rattle.std.proofs.lemmas.Bool.{and_parts, cases_Bool, eqb-true}
+use Rattle.std.proofs.lemmas.Bool.{and_parts, cases_Bool}
 use Rattle.std.proofs.lemmas.Bool.Decides.{nat_tests}
 use Rattle.std.proofs.lemmas.List.{take-append-drop}
-use Rattle.semver_core.specs.Text.Characters.{is_identifier_char, begins}
+use Rattle.semver_core.specs.Text.Characters.{begins}
 use Rattle.semver_core.specs.Text.Identifiers.{Id, IsIdentifiers, goes_on, listed}
 use Rattle.semver_core.specs.Text.VersionText.{IsBuild, IsPreRelease, begins_pre_release, dashed, bare, no_pre_release, plus, no_build}
 use Rattle.semver_core.specs.Internal.Reading.{list_len}
@@ -14,18 +14,12 @@ use Rattle.nodejs_semver.proofs.Reading.IdentifierLists.{front-ended, front-iden
 use Rattle.nodejs_semver.proofs.Reading.Quiet.{Quiet, Stop, quiet-before}
 
 -- no run of digits goes on behind the list at the front
+ended-digit : (text : List ℕ) → goes_on text ≡ false → begins is_ascii_digit text ≡ false
+ended-digit [] k = refl
+ended-digit (b ∷ rest) k = grind (arith, nat_tests)
+
 ended-quiet : (front text : List ℕ) → begins_identifier text ≡ true → Quiet front (drop (front_len text) text)
-ended-quiet front text h = quiet-before front (drop (front_len text) text) (no_digit (drop (front_len text) text) (front-ended text h))
-  where
-    no_digit : (text : List ℕ) → goes_on text ≡ false → begins is_ascii_digit text ≡ false
-    no_digit [] k = refl
-    no_digit (b ∷ rest) k = elim (cases_Bool (is_ascii_digit b)) [
-      | inl digit ↦ cc (rw (goes b digit) at k)
-      | inr other ↦ other
-    ]
-      where
-        goes : (b : ℕ) → is_ascii_digit b ≡ true → is_identifier_char b ≡ true
-        goes b d = grind (arith, nat_tests)
+ended-quiet front text h = let r = drop (front_len text) text in quiet-before front r (ended-digit r (front-ended text h))
 
 -- ---- what is read is written
 
@@ -45,6 +39,9 @@ dash-read y h = record {
   stop = ended-quiet (45 ∷ take (front_len y) y) y h;
 }
 
+begins-take : (n : ℕ) (x : List ℕ) → begins_byte 45 x ≡ false → begins_byte 45 (take n x) ≡ false
+begins-take n x h = grind arith
+
 bare-read : (x : List ℕ) → begins_byte 45 x ≡ false → begins_identifier x ≡ true → PreRead x (take (front_len x) x) (drop (front_len x) x) (take (front_len x) x)
 bare-read x d h = record {
   split = sym (take-append-drop (front_len x) x);
@@ -52,29 +49,22 @@ bare-read x d h = record {
       (record { identifiers = front-identifiers x h; ended = g }) (begins-take (front_len x) x d);
   stop = ended-quiet (take (front_len x) x) x h;
 }
-  where
-    begins-take : (n : ℕ) (x : List ℕ) → begins_byte 45 x ≡ false → begins_byte 45 (take n x) ≡ false
-    begins-take zero x h = refl
-    begins-take (suc n) [] h = refl
-    begins-take (suc n) (b ∷ x) h = h
+
+byte-begins : (c : ℕ) (x : List ℕ) → begins_byte c x ≡ true → x ≡ c ∷ drop 1 x
+byte-begins c x h = grind arith
 
 pub pre-read : (x : List ℕ) → (p : List ℕ) × PreRead x p (pre_release_front x).1 (pre_release_front x).0
 unfolding pre_release_front
 pre-read x = elim (cases_Bool (begins_byte 45 x)) [
-  | inl dash ↦ dashed_at x dash
-  | inr other ↦
-      rw other (elim (cases_Bool (begins_identifier x)) [
-        | inl some ↦ (take (front_len x) x, bare-read x other some)
-        | inr none ↦ rw (front_len-none x none) ([], nothing-read x)
-      ])
+  | inl dash ↦ let y = drop 1 x in elim (cases_Bool (begins_identifier y)) [
+    | inl some ↦ rw (dash, some, byte-begins 45 x dash) (45 ∷ take (front_len y) y, dash-read y some)
+    | inr none ↦ rw (dash, none) ([], nothing-read x)
+  ]
+  | inr other ↦ elim (cases_Bool (begins_identifier x)) [
+    | inl some ↦ rw other (take (front_len x) x, bare-read x other some)
+    | inr none ↦ rw (other, front_len-none x none) ([], nothing-read x)
+  ]
 ]
-  where
-    dashed_at : (x : List ℕ) → begins_byte 45 x ≡ true → (p : List ℕ) × PreRead x p (pre_release_front x).1 (pre_release_front x).0
-    dashed_at [] h = cc h
-    dashed_at (b ∷ y) h = elim (cases_Bool (begins_identifier y)) [
-      | inl some ↦ rw (h, some) (rw (eqb-true b 45 h) (45 ∷ take (front_len y) y, dash-read y some))
-      | inr none ↦ rw (h, none) ([], nothing-read (b ∷ y))
-    ]
 
 pub record BuildRead (y b left read : List ℕ) : Type 0 where
   pub split : y ≡ b ++ left
@@ -86,24 +76,22 @@ pub record BuildRead (y b left read : List ℕ) : Type 0 where
 pub build-read : (y : List ℕ) → (b : List ℕ) × BuildRead y b (build_front y).1 (build_front y).0
 unfolding build_front listed
 build-read y = elim (cases_Bool (begins_byte 43 y && begins_identifier (drop 1 y))) [
-  | inl both ↦ let each = and_parts (begins_byte 43 y) (begins_identifier (drop 1 y)) both in rw both (plussed y each.0 each.1)
+  | inl both ↦
+      let z = drop 1 y in
+      let front = take (front_len z) z in
+      let each = and_parts (begins_byte 43 y) (begins_identifier z) both in
+      rw (both, byte-begins 43 y each.0) (
+        43 ∷ front,
+        record {
+          split = ap (λ (t : List ℕ). 43 ∷ t) (sym (take-append-drop (front_len z) z));
+          is = plus front [] (listed front) (record { identifiers = front-identifiers z each.1; ended = refl });
+          goes = refl;
+          pre = refl;
+          stop = ended-quiet (43 ∷ front) z each.1;
+        },
+      )
   | inr none ↦ rw none ([], record { split = refl; is = no_build [] refl; goes = refl; pre = refl; stop = refl })
 ]
-  where
-    plussed : (y : List ℕ) → begins_byte 43 y ≡ true → begins_identifier (drop 1 y) ≡ true
-        → (b : List ℕ) × BuildRead y b (drop (front_len (drop 1 y)) (drop 1 y)) (take (front_len (drop 1 y)) (drop 1 y))
-    plussed [] h k = cc h
-    plussed (c ∷ z) h k =
-        rw (eqb-true c 43 h) (
-          43 ∷ take (front_len z) z,
-          record {
-            split = ap (λ (t : List ℕ). 43 ∷ t) (sym (take-append-drop (front_len z) z));
-            is = plus (take (front_len z) z) [] (listed (take (front_len z) z)) (record { identifiers = front-identifiers z k; ended = refl });
-            goes = refl;
-            pre = refl;
-            stop = ended-quiet (43 ∷ take (front_len z) z) z k;
-          },
-        )
 
 -- ---- what is written is read
 

@@ -23,6 +23,9 @@ quiet-behind c d more some h = quiet-last (46 ∷ []) d more some (quiet-last c 
 pub quiet-append : (u v left : List ℕ) → 0 < length v → Quiet v left → Quiet (u ++ v) left
 quiet-append u v left some h = rw (ends-append is_ascii_digit u v some) h
 
+pub quiet-dotted : (u v left : List ℕ) → 0 < length v → Quiet v left → Quiet (u ++ 46 ∷ v) left
+quiet-dotted u v left some h = quiet-append u (46 ∷ v) left (omega arith) (quiet-append (46 ∷ []) v left some h)
+
 pub quiet-both : (u v left : List ℕ) → Quiet u (v ++ left) → Quiet v left → Quiet (u ++ v) left
 quiet-both u [] left h k = rw (append-nil u) h
 quiet-both u (d ∷ v) left h k = quiet-append u (d ∷ v) left (omega arith) k
