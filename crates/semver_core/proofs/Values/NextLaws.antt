@@ -1,5 +1,5 @@
 -- The version after a pre-release, and after a release.
-use Rattle.std.proofs.Common.{◌≡◌, refl, sym, ◌∙◌, ap, ℕ, ◌+◌, ◌-◌, ◌<◌, ◌^◌, true, List, [], ◌∷◌, ◌++◌, length, arith, lit<}
+use Rattle.std.proofs.Common.{◌≡◌, refl, sym, ◌∙◌, ap, ◌+◌, ◌<◌, true, List, [], ◌∷◌, ◌++◌, length, arith, lit<}
 use Rattle.std.specs.List.{All}
 use Rattle.std.specs.Ordering.{is_le}
 use Rattle.std.specs.declared.cmp.Ordering.TheVariants.{Less}
@@ -63,19 +63,3 @@ next_of_pre_release v is_version some = record {
   above = above_pre v (record v { pre_release = v.pre_release ++ Numeric 0 ∷ [] }) refl refl refl (more_above v.pre_release some);
   least = λ u h. least_after_pre_release v u some h;
 }
-
-pub next_of_release : (v : VersionValue) → IsVersion v → v.pre_release ≡ [] → v.patch < 2 ^ 64 - 1 → IsNext v (record v { patch = v.patch + 1; pre_release = Numeric 0 ∷ [] })
-next_of_release v is_version none room = record {
-  is_version = record {
-    major = is_version.major;
-    minor = is_version.minor;
-    patch = raised v.patch room;
-    pre_release = zero_alone;
-    build = is_version.build;
-  };
-  above = above_patch v (record v { patch = v.patch + 1; pre_release = Numeric 0 ∷ [] }) refl refl (omega arith);
-  least = λ u h. least_after_release v u none h;
-}
-  where
-    raised : (n : ℕ) → n < 2 ^ 64 - 1 → n + 1 < 2 ^ 64
-    raised n h = omega arith
