@@ -1,13 +1,10 @@
 -- What two lists of spans hold and accept: their intersection, and what one leaves of the other.
-use Rattle.std.proofs.Common.{◌≡◌, refl, sym, ◌∙◌, ap, ap₂, Bool, true, false, ◌&&◌, ◌||◌, not, if◌then◌else◌, List, [], ◌∷◌, ◌++◌, Option, Some, None, is_some, inl, inr, arith}
+use Rattle.std.proofs.Common.{◌≡◌, refl, sym, ◌∙◌, ap, ap₂, Bool, true, false, ◌&&◌, ◌||◌, not, if◌then◌else◌, List, [], ◌∷◌, ◌++◌, Option, Some, None, is_some, inl, inr, arith, option_to_list, is_gt, Ordering}
 use Rattle.std.proofs.Math.Bool.{and-true, or-false}
 use Rattle.std.proofs.lemmas.Bool.{and_cases, and_parts, cond_both, not-false, not-true, or_left, or_parts, or_right}
 use Rattle.std.proofs.lemmas.List.Folds.{list_any-append}
 use Rattle.std.specs.Cmp.{IsTotalOrder}
 use Rattle.std.specs.List.{list_any, flat_map}
-use Rattle.std.specs.Option.{option_to_list}
-use Rattle.std.specs.Ordering.{is_gt}
-use Rattle.std.specs.declared.cmp.Ordering.{Ordering}
 use Rattle.semver_core.proofs.CutLaws.{between_parts, lt, option_holds-interval, option_holds-meet, past_below, remainders-hold, remainders_by, turned_lower, turned_upper}
 use Rattle.nodejs_semver.proofs.Algebra.FlatMaps.{any_either, any_flat, any_pairs, any_same, any_weaker}
 use Rattle.nodejs_semver.proofs.Algebra.Gate.{both, lets_in-meet, names_above, names_below}

@@ -1,15 +1,11 @@
 -- What is left of a list is what of each of its spans lies within what is left of the whole line.
-use Rattle.std.proofs.Common.{append_assoc, ap₂, ◌≡◌, refl, sym, ◌∙◌, ap, subst, ℕ, zero, suc, ◌+◌, ◌<◌, ◌≤◌, length, length-drop, get_or, take, drop, Bool, true, false, ◌&&◌, not, inl, inr, if◌then◌else◌, List, [], ◌∷◌, ◌++◌, Option, Some, None, is_some, arith}
+use Rattle.std.proofs.Common.{append_assoc, ap₂, ◌≡◌, refl, sym, ◌∙◌, ap, subst, ℕ, zero, suc, ◌+◌, ◌<◌, ◌≤◌, length, length-drop, get_or, take, drop, Bool, true, false, ◌&&◌, not, inl, inr, if◌then◌else◌, List, [], ◌∷◌, ◌++◌, Option, Some, None, is_some, arith, append-nil, take_all, get_or-drop, option_to_list, is_lt, Ordering}
 use Rattle.std.proofs.lemmas.Bool.{and_from, and_parts, cases_Bool, not-false, not-true}
 use Rattle.std.proofs.Math.Bool.{and-false, and-true}
 use Rattle.std.proofs.lemmas.Grind.{flat_map-append, fold-append}
-use Rattle.std.proofs.lemmas.List.{append-nil, take_all, get_or-drop}
 use Rattle.std.specs.Cmp.{IsTotalOrder}
 use Rattle.std.specs.List.{AllWithin, flat_map, list_all}
 use Rattle.std.specs.List.Sorted.{IsPartitionedBy, IsPartitionPoint}
-use Rattle.std.specs.Option.{option_to_list}
-use Rattle.std.specs.Ordering.{is_lt}
-use Rattle.std.specs.declared.cmp.Ordering.{Ordering}
 use Rattle.semver_core.proofs.CutLaws.{is_some-interval, between, below_lesser, below_upto, between_from, between_parts, gt_lt, irreflexive, lt, lt_trans, greater_below, not_above, not_below, not_if, one_way, remainders_by, turned_lower, turned_upper, upto_below}
 use Rattle.nodejs_semver.proofs.Algebra.FlatMaps.{flat_flat, flat_same}
 use Rattle.nodejs_semver.proofs.Dividing.RunLemmas.{greater_assoc, lesser_assoc}

@@ -1,9 +1,8 @@
 -- The gate: a bound that names a version, and a tighter one on the same side of it that the version still lies past, both name
 -- it.
-use Rattle.std.proofs.Common.{◌≡◌, refl, sym, ◌∙◌, Bool, true, false, ◌||◌, inl, inr, arith}
+use Rattle.std.proofs.Common.{◌≡◌, refl, sym, ◌∙◌, Bool, true, false, ◌||◌, inl, inr, arith, is_gt}
 use Rattle.std.proofs.lemmas.Bool.{cases_Bool, cond_both, not-true}
 use Rattle.std.specs.Cmp.{alike_right, first_so, second_so, tied_back}
-use Rattle.std.specs.Ordering.{is_gt}
 use Rattle.semver_core.proofs.CutLaws.{gt_lt, lt, one_way, past_lt}
 use Rattle.nodejs_semver.proofs.Algebra.Triples.{named, named_from, named_parts, pre_upto, then_not_gt, triple_between, triple_total}
 use Rattle.semver_core.specs.Cuts.{Span, holds, Side, Cut, Start, Beside, End, Near, side_cmp, cut_cmp, lower_cut, upper_cut, is_past, greater_lower, lesser_upper}

@@ -1,27 +1,23 @@
 -- What a range text's intervals hold is what the text writes.
-use Rattle.std.proofs.Common.{◌≡◌, ℕ, List, [], ◌∷◌, refl, sym, ap₂, ◌∙◌, true, false, Bool, map}
-use Rattle.std.specs.Prelude.{◌||◌, flat_map}
+use Rattle.std.proofs.Common.{◌≡◌, ℕ, List, [], ◌∷◌, refl, sym, ap₂, ◌∙◌, true, Bool, map, ◌||◌, flat_map, Ordering}
 use Rattle.std.proofs.lemmas.Bool.{cond_both, or_left}
 use Rattle.std.proofs.lemmas.List.Folds.{list_any-append}
 use Rattle.std.specs.Cmp.{IsTotalOrder, first_so}
 use Rattle.std.specs.List.{list_all, list_any}
-use Rattle.std.specs.declared.cmp.Ordering.{Ordering}
 use Rattle.semver_core.specs.Cuts.{holds}
 use Rattle.nodejs_semver.specs.Ranges.Algebra.{list_holds}
 use Rattle.semver_core.specs.Values.Order.{precedence}
 use Rattle.semver_core.specs.Internal.OrderLaws.{precedence_total}
 use Rattle.semver_core.specs.Values.Versions.{VersionValue}
 use Rattle.nodejs_semver.specs.Internal.Denotes.{denotes, part_bounds, part_denotes}
-use Rattle.nodejs_semver.specs.Internal.Parts.{cut_bars, parts}
-use Rattle.nodejs_semver.specs.Text.Bars.{IsCutAtBars, more_pieces, one_piece}
+use Rattle.nodejs_semver.specs.Internal.Parts.{parts}
 use Rattle.nodejs_semver.specs.Ranges.View.{any_version}
 use Rattle.nodejs_semver.specs.Text.Runs.{Run, interval_of}
 use Rattle.nodejs_semver.specs.Internal.RunsFrom.{runs_of}
-use Rattle.semver_core.specs.Internal.Spaces.{trim}
 use Rattle.semver_core.specs.Lists.{is_empty}
 use Rattle.nodejs_semver.specs.Internal.Writes.{part_writes, writes}
 use Rattle.nodejs_semver.specs.Text.WrittenSet.{run_writes}
-use Rattle.nodejs_semver.proofs.Dividing.BarsDivide.{bars_divide}
+use Rattle.nodejs_semver.proofs.Dividing.BarLemmas.{parts-front}
 use Rattle.nodejs_semver.proofs.Dividing.RunLemmas.{run-holds}
 
 runs-hold : {V : Type 0} {R : V → V → Ordering} → IsTotalOrder R → (v : V) (rs : List (Run V))
@@ -51,11 +47,7 @@ first-empty limit v (p ∷ ps) some h =
 
 -- a text has a part or more
 parts-some : (text : List ℕ) → parts text ≡ [] → ⊥
-parts-some text h = pieces-some text (cut_bars false text) (bars_divide text) h
-  where
-    pieces-some : (whole : List ℕ) (pieces : List (List ℕ)) → IsCutAtBars whole pieces → map trim pieces ≡ [] → ⊥
-    pieces-some whole pieces (one_piece piece free) h = cc h
-    pieces-some whole pieces (more_pieces piece rest others free ended cut) h = cc h
+parts-some text h = cc (sym (parts-front text) ∙ h)
 
 pub denotes_hold : (limit : ℕ) (text : List ℕ) (v : VersionValue)
     → list_holds precedence (denotes limit text) v ≡ writes limit text v

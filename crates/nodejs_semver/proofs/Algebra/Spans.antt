@@ -1,12 +1,9 @@
 -- What the set algebra makes of intervals whose bounds meet a test are such intervals again.
-use Rattle.std.proofs.Common.{◌≡◌, refl, ◌∙◌, Bool, true, ◌&&◌, List, [], ◌∷◌, ◌++◌, Some, None}
+use Rattle.std.proofs.Common.{◌≡◌, refl, ◌∙◌, Bool, true, ◌&&◌, List, [], ◌∷◌, ◌++◌, Some, None, option_to_list, is_gt, Ordering}
 use Rattle.std.proofs.lemmas.Bool.{and_from, and_parts, cond_both}
 use Rattle.std.proofs.lemmas.List.Folds.{list_all-append}
 use Rattle.std.specs.Cmp.{IsTotalOrder}
 use Rattle.std.specs.List.{list_all, flat_map}
-use Rattle.std.specs.Option.{option_to_list}
-use Rattle.std.specs.Ordering.{is_gt}
-use Rattle.std.specs.declared.cmp.Ordering.{Ordering}
 use Rattle.semver_core.proofs.CutLaws.{lt, remainders_by, turned_lower, turned_upper}
 use Rattle.nodejs_semver.proofs.Algebra.FlatMaps.{all_flat, all_weaker}
 use Rattle.semver_core.specs.Cuts.{Span, cut_cmp, lower_cut, upper_cut, is_interval, meet, left_below, left_above}

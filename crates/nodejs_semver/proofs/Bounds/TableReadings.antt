@@ -1,6 +1,5 @@
 -- For proofs. The bounds that the table gives a word that is no hyphen word make an interval.
-use Rattle.std.proofs.Common.{◌≡◌, ◌∙◌, ℕ, List, refl, sym, ap, true, Some, None}
-use Rattle.std.specs.Prelude.{Option, IfSome}
+use Rattle.std.proofs.Common.{◌≡◌, ◌∙◌, ℕ, List, refl, sym, ap, true, Some, None, Option, IfSome}
 use Rattle.semver_core.specs.Cuts.{Span, interval, is_interval}
 use Rattle.semver_core.specs.Values.Order.{precedence}
 use Rattle.semver_core.specs.Values.Versions.{VersionValue}

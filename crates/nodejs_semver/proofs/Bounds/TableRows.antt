@@ -1,10 +1,8 @@
 -- For proofs. What the rows of the word table give: intervals, whose bounds are such as a range may have.
-use Rattle.std.proofs.Common.{◌≡◌, ℕ, zero, suc, ◌≤◌, ◌+◌, List, refl, subst, arith, Bool, true, false, Some, None}
+use Rattle.std.proofs.Common.{◌≡◌, ℕ, zero, suc, ◌≤◌, ◌+◌, List, refl, subst, arith, Bool, true, false, Some, None, Less, le-leb}
 use Rattle.std.specs.Prelude.{Option, ◌&&◌, if◌then◌else◌, unwrap_or}
 use Rattle.std.specs.Cmp.{tied_itself}
 use Rattle.std.specs.List.{list_all}
-use Rattle.std.specs.declared.cmp.Ordering.TheVariants.{Less}
-use Rattle.std.proofs.lemmas.Bool.{le-leb}
 use Rattle.semver_core.specs.Cuts.{Span, interval, is_interval}
 use Rattle.semver_core.specs.declared.cuts.bound.Bound.{Bound}
 use Rattle.semver_core.specs.declared.cuts.bound.Bound.TheVariants.{Unbounded, Before, After}

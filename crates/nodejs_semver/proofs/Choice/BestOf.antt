@@ -1,16 +1,12 @@
 -- The version that is found in a list is the best one of those in the set.
-use Rattle.std.proofs.Common.{arith, ◌≡◌, refl, sym, ◌∙◌, ap, Bool, true, false, ◌||◌, not, ◌⊎◌, inl, inr, List, [], ◌∷◌, ◌++◌, Option, Some, None, IfSome, IfNone, Bor}
+use Rattle.std.proofs.Common.{arith, ◌≡◌, refl, sym, ◌∙◌, ap, Bool, true, false, ◌||◌, not, ◌⊎◌, inl, inr, List, [], ◌∷◌, ◌++◌, Option, Some, None, IfSome, IfNone, Bor, append-nil, append_assoc, option_copied, Ordering, Less, Equal, Greater}
 use Rattle.std.proofs.lemmas.Bool.{and_from, cases_Bool, not-true}
-use Rattle.std.proofs.lemmas.List.{append-nil, append_assoc}
 use Rattle.std.proofs.lemmas.List.Folds.{list_all-append}
 use Rattle.std.proofs.lemmas.List.Elements.{All-append, All-cons, All-same, All-weaker}
 use Rattle.std.proofs.lemmas.List.Sums.{AllPass-from_list_all}
 use Rattle.std.specs.Cmp.{IsTotalOrder, tied_itself}
 use Rattle.std.specs.List.{All, filter, fold, list_all, reduce}
-use Rattle.std.specs.Option.{option_copied}
 use Rattle.std.specs.Ordering.{ordering_reverse, is_lt, is_le, max_by_ordering, min_by_ordering}
-use Rattle.std.specs.declared.cmp.Ordering.{Ordering}
-use Rattle.std.specs.declared.cmp.Ordering.TheVariants.{Less, Equal, Greater}
 use Rattle.nodejs_semver.proofs.Algebra.FlatMaps.{all_weaker}
 use Rattle.nodejs_semver.proofs.Algebra.Triples.{le_of_lt, le_trans, lt_le}
 use Rattle.semver_core.specs.Internal.OrderLaws.{precedence_total}

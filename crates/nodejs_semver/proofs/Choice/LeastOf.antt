@@ -1,13 +1,12 @@
 -- The first least version of a set among a list, which is the least of the set where each of its versions has one of the list
 -- below it.
-use Rattle.std.proofs.Common.{◌≡◌, ◌+◌, refl, sym, ◌∙◌, ap, ap₂, subst, Bool, true, false, ◌&&◌, ◌||◌, not, List, [], ◌∷◌, ◌++◌, Option, Some, None, option_and_then, if◌then◌else◌, IfSome, ◌<◌, ◌-◌, length, get_or, take, drop, arith}
+use Rattle.std.proofs.Common.{◌≡◌, ◌+◌, refl, sym, ◌∙◌, ap, ap₂, subst, Bool, true, false, ◌&&◌, ◌||◌, not, List, [], ◌∷◌, ◌++◌, Option, Some, None, option_and_then, if◌then◌else◌, IfSome, ◌<◌, ◌-◌, length, get_or, take, drop, arith, Equal}
 use Rattle.std.proofs.Math.Bool.{and-true, or-false}
 use Rattle.std.proofs.lemmas.Bool.{cond_both, false≢true, or_parts}
 use Rattle.std.proofs.lemmas.List.{take_rest}
 use Rattle.std.proofs.lemmas.List.Elements.{All-append, All-from_recursion, All-head, All-nil, All-tail}
 use Rattle.std.specs.Cmp.{first_so, second_so, tied_itself, alike_right}
 use Rattle.std.specs.List.{All, find, flat_map, fold, list_any}
-use Rattle.std.specs.declared.cmp.Ordering.TheVariants.{Equal}
 use Rattle.std.specs.Ordering.{ordering_then, is_eq, is_lt, is_le}
 use Rattle.semver_core.proofs.CutLaws.{cut_total, not_if}
 use Rattle.semver_core.proofs.Values.NextLaws.{first_of_all}

@@ -1,13 +1,11 @@
 -- The least version beyond is the first of its kind past a mark: a lower cut of what is kept, an upper cut of what is removed,
 -- or the cut below the pre-releases that an upper bound of what is kept names.
-use Rattle.std.proofs.Common.{◌≡◌, refl, sym, ◌∙◌, ap, ap₂, Bool, true, false, ◌&&◌, ◌||◌, not, List, [], ◌∷◌, ◌++◌, inl, inr, arith}
+use Rattle.std.proofs.Common.{◌≡◌, refl, sym, ◌∙◌, ap, ap₂, Bool, true, false, ◌&&◌, ◌||◌, not, List, [], ◌∷◌, ◌++◌, inl, inr, arith, Ordering, Less, Equal, Greater}
 use Rattle.std.proofs.lemmas.Bool.{and_from, and_parts, cases_Bool, cond_both, not-true, or_cases, or_left, or_right}
 use Rattle.std.proofs.lemmas.List.Folds.{list_all-append}
 use Rattle.std.specs.Cmp.{alike_right, first_so, second_so, tied_itself}
 use Rattle.std.specs.List.{flat_map, list_all, list_any}
 use Rattle.std.specs.Ordering.{ordering_then, is_le, is_gt, is_eq}
-use Rattle.std.specs.declared.cmp.Ordering.{Ordering}
-use Rattle.std.specs.declared.cmp.Ordering.TheVariants.{Less, Equal, Greater}
 use Rattle.semver_core.proofs.CutLaws.{chain, gt_lt, irreflexive, is_past-down, not_above, past_lt, tells}
 use Rattle.nodejs_semver.proofs.Algebra.FlatMaps.{empty_is, all_flat, all_weaker, any_flat, any_under, pick_both}
 use Rattle.nodejs_semver.proofs.Algebra.Gate.{below, in_order, past_order}

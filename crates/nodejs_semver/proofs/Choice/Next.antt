@@ -1,7 +1,6 @@
 -- What comes next after a version, and first of all.
-use Rattle.std.proofs.Common.{refl, ◌≡◌, sym, ◌∙◌, ap, ◌<◌, true, false, List, [], ◌∷◌, ◌++◌, length, arith}
+use Rattle.std.proofs.Common.{refl, ◌≡◌, sym, ◌∙◌, ap, ◌<◌, true, false, List, [], ◌∷◌, ◌++◌, length, arith, is_gt, is_le}
 use Rattle.std.proofs.lemmas.Bool.{not-true}
-use Rattle.std.specs.Ordering.{is_gt, is_le}
 use Rattle.std.specs.declared.cmp.Ordering.{Ordering}
 use Rattle.std.specs.declared.cmp.Ordering.TheVariants.{Less, Equal}
 use Rattle.semver_core.proofs.CutLaws.{tells}

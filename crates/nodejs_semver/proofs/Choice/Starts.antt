@@ -1,5 +1,5 @@
 -- The least version of spans each of which begins with a version that it accepts.
-use Rattle.std.proofs.Common.{◌≡◌, sym, ◌∙◌, ap, subst, ℕ, ◌+◌, ◌<◌, Bool, true, false, ◌&&◌, ◌||◌, not, List, [], ◌∷◌, ◌++◌, Option, Some, None, if◌then◌else◌, length, get_or, take, inl, inr, refl, arith}
+use Rattle.std.proofs.Common.{◌≡◌, sym, ◌∙◌, ap, subst, ℕ, ◌+◌, ◌<◌, Bool, true, false, ◌&&◌, ◌||◌, not, List, [], ◌∷◌, ◌++◌, Option, Some, None, if◌then◌else◌, length, get_or, take, inl, inr, refl, arith, option_and_then, Ordering, Less, Equal, Greater}
 use Rattle.std.proofs.Math.Bool.{or-false}
 use Rattle.std.proofs.lemmas.Bool.{cond_both, false≢true, or_cases, or_parts}
 use Rattle.std.proofs.lemmas.List.{take_more}
@@ -7,9 +7,6 @@ use Rattle.std.proofs.lemmas.List.Folds.{find-append, list_any-append}
 use Rattle.std.specs.Cmp.{first_so, tied_itself}
 use Rattle.std.specs.List.{find, list_any}
 use Rattle.std.specs.Option.{option_or}
-use Rattle.std.specs.Prelude.{option_and_then}
-use Rattle.std.specs.declared.cmp.Ordering.{Ordering}
-use Rattle.std.specs.declared.cmp.Ordering.TheVariants.{Less, Equal, Greater}
 use Rattle.std.specs.Ordering.{ordering_then, is_eq, is_le, is_lt}
 use Rattle.semver_core.proofs.CutLaws.{not_if}
 use Rattle.semver_core.specs.Cuts.{Span, holds, is_past, lower_cut}

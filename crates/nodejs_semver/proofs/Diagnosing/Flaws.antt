@@ -1,6 +1,5 @@
 -- Where the reader of numbers stops, the text is wrong there and has no version.
-use Rattle.std.proofs.Common.{◌≡◌, ◌<◌, ◌≤◌, ◌+◌, ◌-◌, ℕ, zero, suc, List, [], ◌∷◌, ◌++◌, length, drop, take, refl, sym, ap, ◌∙◌, subst, arith, inl, inr, true, false, eqb, Some, append_assoc, length-append, length-drop}
-use Rattle.std.specs.Prelude.{◌==◌, ◌↔◌, IsUtf8, slice_range, Option, None, MatchOption, IfSome}
+use Rattle.std.proofs.Common.{◌≡◌, ◌<◌, ◌≤◌, ◌+◌, ◌-◌, ℕ, zero, suc, List, [], ◌∷◌, ◌++◌, length, drop, take, refl, sym, ap, ◌∙◌, subst, arith, inl, inr, true, false, eqb, Some, append_assoc, length-append, length-drop, ◌==◌, ◌↔◌, IsUtf8, slice_range, Option, None, MatchOption, IfSome}
 use Rattle.std.specs.Char.{encode_utf8, is_ascii_digit}
 use Rattle.std.specs.Str.Parse.{digits_value}
 use Rattle.std.proofs.lemmas.Bool.{cases_Bool, eqb-true}

@@ -1,6 +1,5 @@
 -- Which texts have a version, where so much of them was read.
-use Rattle.std.proofs.Common.{◌≡◌, ◌||◌, ◌<◌, ℕ, zero, suc, List, [], ◌∷◌, ◌++◌, length, drop, refl, sym, ap, ◌∙◌, subst, arith, true, false, Bool, eqb, append_assoc}
-use Rattle.std.specs.Prelude.{encode_utf8_all, nat_lt}
+use Rattle.std.proofs.Common.{◌≡◌, ◌||◌, ◌<◌, ℕ, zero, suc, List, [], ◌∷◌, ◌++◌, length, drop, refl, sym, ap, ◌∙◌, subst, arith, true, false, Bool, eqb, append_assoc, encode_utf8_all, nat_lt}
 use Rattle.std.specs.Char.{encode_utf8, is_ascii_digit}
 use Rattle.std.specs.Cmp.{first_so}
 use Rattle.std.specs.List.{list_all}

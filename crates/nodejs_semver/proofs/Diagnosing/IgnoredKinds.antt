@@ -1,6 +1,5 @@
 -- Why the word at the front of a part is ignored, by what was read of it.
-use Rattle.std.proofs.Common.{◌≡◌, ◌∙◌, ap, sym, ℕ, List, Bool, Some, refl}
-use Rattle.std.specs.Prelude.{Option, is_some}
+use Rattle.std.proofs.Common.{◌≡◌, ◌∙◌, ap, sym, ℕ, List, Bool, Some, refl, Option, is_some}
 use Rattle.nodejs_semver.specs.Diagnosis.IgnoredWords.{ignored_as, unless_bounded}
 use Rattle.nodejs_semver.specs.Internal.Ignored.{kind_at}
 use Rattle.nodejs_semver.specs.Internal.Words.{Sign, careted, compared, signed_word, tilded, unsigned, word_at}

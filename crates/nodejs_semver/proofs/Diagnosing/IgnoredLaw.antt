@@ -1,6 +1,5 @@
 -- What is computed of the ignored words of a text is what the statement says of them.
-use Rattle.std.proofs.Common.{◌≡◌, ◌≤◌, ◌+◌, ◌-◌, ℕ, zero, suc, List, [], ◌∷◌, ◌++◌, length, refl, sym, ap, ◌∙◌, arith, true, false, Bool, inl, inr, subst, length-append}
-use Rattle.std.specs.Prelude.{◌↔◌, ◌&&◌, ◌⊎◌, IsUtf8, encode_utf8_all, is_some}
+use Rattle.std.proofs.Common.{◌≡◌, ◌≤◌, ◌+◌, ◌-◌, ℕ, zero, suc, List, [], ◌∷◌, ◌++◌, length, refl, sym, ap, ◌∙◌, arith, true, false, Bool, inl, inr, subst, length-append, ◌↔◌, ◌&&◌, ◌⊎◌, IsUtf8, encode_utf8_all, is_some}
 use Rattle.std.specs.List.{AllByRecursion, list_all}
 use Rattle.std.proofs.lemmas.Str.{encodes-append}
 use Rattle.semver_core.specs.Internal.Spaces.{drop_spaces, space_len, trim}

@@ -1,8 +1,6 @@
 -- The ignored words of a part, word by word, and of a text, part by part.
-use Rattle.std.proofs.Common.{◌≡◌, ◌<◌, ◌≤◌, ◌+◌, ◌-◌, ℕ, zero, suc, List, [], ◌∷◌, ◌++◌, length, refl, sym, ap, ◌∙◌, arith, false, Some, None, inl, inr, subst, append_assoc}
-use Rattle.std.specs.Prelude.{Option}
+use Rattle.std.proofs.Common.{drop, ◌≡◌, ◌<◌, ◌≤◌, ◌+◌, ◌-◌, ℕ, zero, suc, List, [], ◌∷◌, ◌++◌, length, refl, sym, ap, ◌∙◌, arith, false, Some, None, inl, inr, subst, append_assoc, Option, length-drop, length-take-le}
 use Rattle.std.proofs.lemmas.Bool.{cases_Bool, cases_lt, lt-ltb, le-ltb}
-use Rattle.std.proofs.lemmas.List.{length-drop, length-take-le}
 use Rattle.semver_core.specs.Internal.Spaces.{drop_end_spaces, drop_spaces, space_len, trim}
 use Rattle.semver_core.specs.Lists.{is_empty}
 use Rattle.semver_core.specs.declared.TheConstants.{MAX_SAFE_INTEGER}
@@ -109,13 +107,10 @@ cut_sizes text = elim (cases_lt (bars_at text) (length text)) [
       rw (lt-ltb _ _ less) (record {
         front = omega arith;
         both = omega arith;
-        behind = λ t e. let same = inside e in omega (arith, ap length same);
+        behind = λ t e. let same : drop (bars_at text + 2) text ≡ t = cc e in omega (arith, ap length same);
       })
   | inr none ↦ rw (le-ltb _ _ none) (record { front = omega arith; both = omega arith; behind = λ t e. cc e })
 ]
-  where
-    inside : {s t : List ℕ} → Some s ≡ Some t → s ≡ t
-    inside h = cc h
 
 trim-le : (text : List ℕ) → length (drop_end_spaces text) ≤ length text
 unfolding drop_end_spaces

@@ -1,8 +1,7 @@
 -- For proofs. A text has one division at its bars, which is the one that `cut_bars` computes.
 use Rattle.semver_core.specs.Text.Characters.{begins, ends}
 use Rattle.std.proofs.Math.Bool.{and-true}
-use Rattle.std.proofs.Common.{◌≡◌, ℕ, List, [], ◌∷◌, ◌++◌, refl, sym, ap, ◌∙◌, inl, inr, true, false, subst}
-use Rattle.std.specs.Prelude.{◌&&◌}
+use Rattle.std.proofs.Common.{◌≡◌, ℕ, List, [], ◌∷◌, ◌++◌, refl, sym, ap, ◌∙◌, inl, inr, true, false, subst, ◌&&◌}
 use Rattle.std.specs.List.{onto_first}
 use Rattle.std.proofs.lemmas.Bool.{and_parts, and_right, cases_Bool, eqb-true, or_from, or_parts}
 use Rattle.nodejs_semver.specs.Internal.Parts.{cut_bars}

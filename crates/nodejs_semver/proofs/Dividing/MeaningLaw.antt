@@ -1,10 +1,7 @@
 -- What a text denotes is its one meaning.
-use Rattle.std.proofs.Common.{◌≡◌, ℕ, zero, suc, ◌<◌, ◌≤◌, List, [], ◌∷◌, ◌++◌, length, get_or, refl, sym, ap, ◌∙◌, arith, true, false, inl, inr, subst, append-nil, length-append}
-use Rattle.std.specs.Prelude.{◌↔◌, IfNone, IfSome, IsTrue, IsUtf8, Option, encode_utf8_all, map, filter_map, flat_map, if◌then◌else◌}
-use Rattle.std.specs.Char.{encode_utf8}
+use Rattle.std.proofs.Common.{◌≡◌, ℕ, zero, suc, ◌<◌, ◌≤◌, List, [], ◌∷◌, ◌++◌, length, get_or, refl, sym, ap, ◌∙◌, arith, true, false, inl, inr, subst, append-nil, length-append, ◌↔◌, IfNone, IfSome, IsTrue, IsUtf8, Option, encode_utf8_all, map, filter_map, flat_map, if◌then◌else◌, encode_utf8, take_at, drop_at}
 use Rattle.std.specs.List.{AllByRecursion, list_all}
 use Rattle.std.proofs.lemmas.Bool.{cases_Bool, false_from_ne_true}
-use Rattle.std.proofs.lemmas.List.{take_at, drop_at}
 use Rattle.std.proofs.lemmas.List.Folds.{list_all-append}
 use Rattle.std.proofs.lemmas.Str.{IsUtf8-drop, IsUtf8-take, IsCharBoundary-after_ascii, IsCharBoundary-before_ascii, len_utf8_bounds, length-encode}
 use Rattle.semver_core.specs.Text.Characters.{IsBlank, IsTrim, is_whitespace}

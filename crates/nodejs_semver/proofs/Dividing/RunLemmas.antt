@@ -1,12 +1,11 @@
 -- Runs: one word more, and what a run holds.
-use Rattle.std.proofs.Common.{◌≡◌, List, [], ◌∷◌, ◌++◌, refl, sym, ap, ap₂, ◌∙◌, true, false, Bool, inl, inr, arith}
+use Rattle.std.proofs.Common.{◌≡◌, List, [], ◌∷◌, ◌++◌, refl, sym, ap, ap₂, ◌∙◌, true, false, Bool, inl, inr, arith, Ordering}
 use Rattle.std.specs.Prelude.{◌&&◌, ◌||◌, not, if◌then◌else◌}
 use Rattle.std.specs.Cmp.{IsTotalOrder, upto}
 use Rattle.std.proofs.Math.Bool.{and-true, not-not}
 use Rattle.std.proofs.lemmas.Bool.{cases_Bool}
 use Rattle.std.specs.List.{list_all}
 use Rattle.std.specs.Ordering.{is_gt, is_le, is_lt, ordering_then}
-use Rattle.std.specs.declared.cmp.Ordering.{Ordering}
 use Rattle.std.specs.declared.cmp.Ordering.TheVariants.{Less, Equal, Greater}
 use Rattle.semver_core.specs.Cuts.{Cut, Beside, Near, Span, cut_cmp, greater_lower, holds, is_interval, is_past, lesser_upper, lower_cut, upper_cut}
 use Rattle.semver_core.specs.declared.cuts.bound.Bound.{Bound}

@@ -1,6 +1,5 @@
 -- A trimmed text does not begin with whitespace.
-use Rattle.std.proofs.Common.{◌≡◌, ℕ, List, [], ◌∷◌, ap, ◌∙◌, false, Bool}
-use Rattle.std.specs.Prelude.{encode_utf8_all, if◌then◌else◌}
+use Rattle.std.proofs.Common.{◌≡◌, ℕ, List, [], ◌∷◌, ap, ◌∙◌, false, Bool, encode_utf8_all, if◌then◌else◌}
 use Rattle.std.specs.Char.{len_utf8}
 use Rattle.semver_core.specs.Text.Characters.{IsTrim, begins, is_whitespace}
 use Rattle.semver_core.specs.Internal.Spaces.{space_len}

@@ -1,6 +1,5 @@
 -- For proofs. A printed version is the components of a partial.
-use Rattle.std.proofs.Common.{◌≡◌, ◌<◌, ◌≤◌, ◌^◌, ℕ, false, List, [], ◌∷◌, ◌++◌, refl, sym, arith, append-nil, Some}
-use Rattle.std.specs.Fmt.{decimal}
+use Rattle.std.proofs.Common.{◌≡◌, ◌<◌, ◌≤◌, ◌^◌, ℕ, false, List, [], ◌∷◌, ◌++◌, refl, sym, arith, append-nil, Some, decimal}
 use Rattle.std.specs.Char.{is_ascii_digit}
 use Rattle.semver_core.specs.Text.Characters.{begins}
 use Rattle.semver_core.specs.Text.Identifiers.{Id}

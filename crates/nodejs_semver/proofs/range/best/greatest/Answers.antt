@@ -1,8 +1,7 @@
-use Rattle.std.proofs.Common.{◌≡◌, Bool, false, rules, tests, sym, subst}
+use Rattle.std.proofs.Common.{◌≡◌, Bool, false, rules, tests, sym, subst, option_copied}
 use Rattle.std.proofs.lemmas.Iterator.{YieldsList-from_slice}
 use Rattle.std.proofs.lemmas.Iterator.Consumers.{YieldsList-from_filter, reduce_by_from_yields_List}
 use Rattle.std.specs.List.{filter, reduce}
-use Rattle.std.specs.Option.{option_copied}
 use Rattle.nodejs_semver.specs.Internal.AnyVersions.{accepts}
 use Rattle.nodejs_semver.specs.Ranges.Best.{IsBest}
 use Rattle.nodejs_semver.proofs.Choice.BestOf.{greater, greater_now, max_is}

@@ -1,5 +1,4 @@
-use Rattle.std.proofs.Common.{take}
-use Rattle.std.specs.Option.{option_copied}
+use Rattle.std.proofs.Common.{take, option_copied}
 use Rattle.nodejs_semver.specs.Internal.Candidates.{IsLeastSoFar}
 use Rattle.nodejs_semver.proofs.range.least.least_start.Given as goal
 

@@ -1,5 +1,4 @@
-use Rattle.std.proofs.Common.{sym}
-use Rattle.std.proofs.lemmas.List.{take-append-drop}
+use Rattle.std.proofs.Common.{sym, take-append-drop}
 use Rattle.nodejs_semver.proofs.Algebra.Differences.{along-gaps, gaps-joined}
 use Rattle.nodejs_semver.proofs.range.lists.+complement.Goals as goal
 

@@ -1,6 +1,4 @@
-use Rattle.std.proofs.Common.{◌≡◌, take}
-use Rattle.std.specs.List.{flat_map}
-use Rattle.std.specs.Option.{option_to_list}
+use Rattle.std.proofs.Common.{◌≡◌, take, flat_map, option_to_list}
 use Rattle.semver_core.specs.Clips.{clip}
 use Rattle.nodejs_semver.proofs.range.lists.clip_each.Given as goal
 

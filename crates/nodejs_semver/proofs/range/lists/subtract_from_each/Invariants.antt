@@ -1,5 +1,4 @@
-use Rattle.std.proofs.Common.{◌≡◌, take}
-use Rattle.std.specs.List.{flat_map}
+use Rattle.std.proofs.Common.{◌≡◌, take, flat_map}
 use Rattle.nodejs_semver.specs.Ranges.Algebra.{remainder}
 use Rattle.nodejs_semver.proofs.range.lists.subtract_from_each.Given as goal
 

@@ -1,5 +1,4 @@
-use Rattle.std.proofs.Common.{List, ℕ, rules, subst}
-use Rattle.std.specs.Prelude.{IsTrue}
+use Rattle.std.proofs.Common.{List, ℕ, rules, subst, IsTrue}
 use Rattle.semver_core.specs.declared.TheConstants.{MAX_SAFE_INTEGER}
 use Rattle.nodejs_semver.specs.Text.Common.{IsCommonRange}
 use Rattle.nodejs_semver.proofs.Everyday.Whole.{common_list}

@@ -1,7 +1,5 @@
-use Rattle.std.proofs.Common.{ap, refl, sym, ◌∙◌, List, ℕ, ◌++◌, append_assoc}
+use Rattle.std.proofs.Common.{ap, refl, sym, ◌∙◌, List, ℕ, ◌++◌, append_assoc, decimal, codes}
 use Rattle.std.proofs.Output.{has_written_styled_append, has_written_styled_of_eq}
-use Rattle.std.specs.Fmt.{decimal}
-use Rattle.std.specs.Prelude.{codes}
 use Rattle.nodejs_semver.specs.Diagnosis.Messages.{kind_text}
 use Rattle.nodejs_semver.proofs.diagnosis.messages.IgnoredWordDisplay.fmt.Goals as goal
 

@@ -1,5 +1,4 @@
-use Rattle.std.proofs.Common.{◌≡◌, take}
-use Rattle.std.specs.List.{fold, flat_map}
+use Rattle.std.proofs.Common.{◌≡◌, take, fold, flat_map}
 use Rattle.nodejs_semver.specs.Internal.Candidates.{among, better, firsts, removed_marks}
 use Rattle.nodejs_semver.proofs.range.least.Search.consider_removed.Given as goal
 
