@@ -30,6 +30,13 @@ NEVER = [
     "Identifier::copy_list: [] from 1.2.3",
     "Range::parse: nothing from foo", "range_loose: nothing from foo", "range_fast: nothing from foo",
     "Range::parse: * from ||", "range_fast: nothing from ||",
+    "RangeRef::parse: >=1.2.3-a.1.b <2.0.0-0 from ^1.2.3-a.1.b", "RangeRef::parse: nothing from foo", "RangeRef::parse: * from ||",
+    *(f"{call}: {answer} from >=1.2.3-a.1.b <2.0.0-0" for call, answer in [
+        ("RangeRef::satisfies", "true"), ("RangeRef::satisfies_with_prerelease", "true"), ("VersionRef::satisfies", "false"),
+        ("VersionRef::satisfies_with_prerelease", "true"), ("RangeRef::outside", "false"), ("RangeRef::allows_all", "true"),
+        ("RangeRef::allows_any", "true"), ("RangeRef::eq", "true"), ("RangeRef::max_satisfying", "true"),
+        ("RangeRef::min_satisfying", "true"),
+    ]),
 ]
 
 # The calls whose line has another name: the call fails before the one that the line names.

@@ -3,6 +3,7 @@
 //! allocation after another failing.
 #![tactic(auto)]
 
+mod borrowed;
 mod laws;
 mod ranges;
 mod show;

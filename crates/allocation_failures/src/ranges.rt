@@ -1,7 +1,7 @@
 // The calls on ranges and on intervals.
 
-use crate::laws;
 use crate::show::{Both, Outcome, found, no_values, read, show};
+use crate::{borrowed, laws};
 use nodejs_semver::cuts::{Bound, Interval};
 use nodejs_semver::readers::{is_blank, range_fast, range_loose};
 use nodejs_semver::{Range, Version};
@@ -26,6 +26,7 @@ pub fn show_all(rt: &impl Print, alloc: Global) -> io::Result<()> {
         algebra(rt, alloc, one, other)?;
     }
     choices(rt, alloc, THREE)?;
+    borrowed::show_all(rt, alloc, THREE, FIVE)?;
     laws::show_all(rt, alloc, THREE, FIVE)?;
     for (one, other) in [
         ("1.0.0-a.1.b+c.2.d", "2.0.0-b.1.c+d.2.e"),

@@ -8,6 +8,7 @@
 #![tactic(auto)]
 
 mod ample;
+mod borrowed;
 mod json;
 mod numbers;
 mod ranges;

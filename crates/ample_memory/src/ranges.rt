@@ -1,7 +1,7 @@
 // The calls on ranges and on intervals.
 
 use crate::ample::Calls;
-use crate::{json, texts};
+use crate::{borrowed, json, texts};
 use nodejs_semver::cuts::Interval;
 use nodejs_semver::laws::both_readers;
 use nodejs_semver::laws::headline::headline;
@@ -44,6 +44,7 @@ fn ask(alloc: Global, calls: &mut Calls, text: &str) -> Result<(), AllocError> {
     calls.answered(headline(alloc, text, "^3 || 5.x"))?;
     calls.made(both_readers(alloc, text))?;
     calls.made(range_fast(alloc, text))?;
+    borrowed::ask_range(alloc, calls, text)?;
     if !is_blank(text) {
         calls.made(range_loose(alloc, text))?;
     }

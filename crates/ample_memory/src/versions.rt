@@ -1,7 +1,7 @@
 // The calls on versions.
 
 use crate::ample::Calls;
-use crate::{json, texts};
+use crate::{borrowed, json, texts};
 use nodejs_semver::readers::{version_fast, version_loose};
 use nodejs_semver::{Identifier, IdentifierBase, Version, VersionParts};
 use semver_core::scan;
@@ -58,6 +58,7 @@ pub fn ask_long(alloc: Global, calls: &mut Calls, length: usize) -> Result<(), A
 fn ask(alloc: Global, calls: &mut Calls, text: &str, words: &[&str]) -> Result<(), AllocError> {
     calls.answered(Version::parse(alloc, text))?;
     calls.made(version_fast(alloc, text))?;
+    borrowed::ask_version(alloc, calls, text)?;
     for at in [0, text.len().min(6)] {
         calls.made(scan::identifiers(alloc, text, at))?;
     }

@@ -1,3 +1,4 @@
+pub mod AnyBest
 pub mod AnyVersions
 pub mod Parts
 pub mod RunsFrom
@@ -16,3 +17,4 @@ pub mod Stuck
 pub mod CommonFronts
 pub mod CommonViews
 pub mod Ignored
+pub mod Sets

@@ -1,12 +1,16 @@
 //! Versions and ranges as JSON: the string of the printed text.
 
-ghost use Rattle.std.specs.Prelude.{◌≡◌, IfOk, string_bytes};
+ghost use Rattle.std.specs.Prelude.{◌≡◌, IfOk, string_bytes, []};
 ghost use Rattle.serde_json.specs.Data.{string};
 ghost use Rattle.serde_json.specs.Find.{as_str};
 ghost use Rattle.serde_json.specs.View.{view};
 ghost use Rattle.serde_json.specs.Written.{compact_text};
-ghost use Rattle.nodejs_semver.specs.Json.{json_string, ReadsRange, ReadsVersion};
+ghost use Rattle.nodejs_semver.specs.Json.{json_string, ReadsString};
 ghost use Rattle.nodejs_semver.specs.Printing.Text.{range_text};
+ghost use Rattle.nodejs_semver.specs.Text.Meaning.{Means};
+ghost use Rattle.semver_core.specs.declared.TheConstants.{MAX_SAFE_INTEGER};
+ghost use Rattle.semver_core.specs.Failures.{NoValue};
+ghost use Rattle.semver_core.specs.Text.Parsing.{Parses};
 ghost use Rattle.semver_core.specs.Printing.Text.{version_text};
 
 use crate::Range;
@@ -24,7 +28,8 @@ pub fn version_to_value(alloc: Global, version: &Version) -> Result<Value, Alloc
 /// Reads the version of a JSON string, as `Version::parse` does. Returns `SemverError` if the value
 /// is not a string or its text has no version; the only other error is an allocation failure.
 pub fn version_from_value(alloc: Global, value: &Value) -> Result<Version, Failure<SemverError>>
-    ensures { ReadsVersion (as_str (view value.now)) result }
+    ensures { ReadsString (Parses MAX_SAFE_INTEGER)
+        (λ text. NoValue (Parses MAX_SAFE_INTEGER text)) (as_str (view value.now)) result }
 {
     match value.as_str() {
         Some(text) => Version::parse(alloc, text),
@@ -45,7 +50,8 @@ pub fn version_to_json_text(alloc: Global, version: &Version) -> Result<String, 
 /// the text is not one JSON value, the value is not a string, or the string has no version; the
 /// only other error is an allocation failure.
 pub fn version_from_json_text(alloc: Global, text: &str) -> Result<Version, Failure<SemverError>>
-    ensures { ReadsVersion (json_string text.now) result }
+    ensures { ReadsString (Parses MAX_SAFE_INTEGER)
+        (λ text. NoValue (Parses MAX_SAFE_INTEGER text)) (json_string text.now) result }
 {
     match Value::from_str(alloc, text) {
         Ok(value) => version_from_value(alloc, &value),
@@ -64,7 +70,8 @@ pub fn range_to_value(alloc: Global, range: &Range) -> Result<Value, AllocError>
 /// Reads the range of a JSON string, as `Range::parse` does. Returns `SemverError` if the value is
 /// not a string or its text has no range; the only other error is an allocation failure.
 pub fn range_from_value(alloc: Global, value: &Value) -> Result<Range, Failure<SemverError>>
-    ensures { ReadsRange (as_str (view value.now)) result }
+    ensures { ReadsString (Means MAX_SAFE_INTEGER)
+        (λ text. Means MAX_SAFE_INTEGER text []) (as_str (view value.now)) result }
 {
     match value.as_str() {
         Some(text) => Range::parse(alloc, text),
@@ -85,7 +92,8 @@ pub fn range_to_json_text(alloc: Global, range: &Range) -> Result<String, AllocE
 /// text is not one JSON value, the value is not a string, or the string has no range; the only
 /// other error is an allocation failure.
 pub fn range_from_json_text(alloc: Global, text: &str) -> Result<Range, Failure<SemverError>>
-    ensures { ReadsRange (json_string text.now) result }
+    ensures { ReadsString (Means MAX_SAFE_INTEGER)
+        (λ text. Means MAX_SAFE_INTEGER text []) (json_string text.now) result }
 {
     match Value::from_str(alloc, text) {
         Ok(value) => range_from_value(alloc, &value),

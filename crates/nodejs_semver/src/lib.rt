@@ -34,7 +34,7 @@ pub mod readers;
 
 pub use crate::range::{OutsideDirection, Range, RangeError, RangeRef};
 pub use semver_core::{
-    Accepts, Failure, Identifier, IdentifierBase, IdentifierRef, IdentifierRefs, IncrementError,
-    MAX_LENGTH, MAX_SAFE_INTEGER, NegativeNumber, ReleaseType, SemverError, Version, VersionDiff,
-    VersionParts, VersionRef, Versioned, cuts,
+    Accepts, AcceptsRef, Failure, Identifier, IdentifierBase, IdentifierRef, IdentifierRefs,
+    IncrementError, MAX_LENGTH, MAX_SAFE_INTEGER, NegativeNumber, ReleaseType, SemverError,
+    Version, VersionDiff, VersionParts, VersionRef, Versioned, cuts,
 };

@@ -2,9 +2,10 @@
 
 ghost use Rattle.std.specs.Prelude.{◌≡◌, ◌+◌, IfOk, IsOk, true};
 ghost use Rattle.std.specs.List.{list_all};
+ghost use Rattle.nodejs_semver.specs.Internal.Sets.{is_range_span};
 ghost use Rattle.semver_core.specs.declared.TheConstants.{MAX_SAFE_INTEGER};
 ghost use Rattle.semver_core.specs.Lists.{if_any};
-ghost use Rattle.nodejs_semver.specs.Ranges.View.{IsRange, is_range_span, any_version};
+ghost use Rattle.nodejs_semver.specs.Ranges.View.{IsRange, any_version};
 
 mod algebra;
 mod best;

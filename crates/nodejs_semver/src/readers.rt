@@ -2,6 +2,7 @@
 
 mod bars;
 mod fast;
+mod found;
 mod intervals;
 mod kinds;
 mod loose;
@@ -14,8 +15,8 @@ mod words;
 pub(crate) use crate::readers::bars::cut_part;
 pub use crate::readers::fast::range_fast;
 pub(crate) use crate::readers::fast::read_common;
+pub(crate) use crate::readers::found::Filled;
 pub(crate) use crate::readers::kinds::ignored_front;
-pub(crate) use crate::readers::loose::read_any;
 pub use crate::readers::loose::{is_blank, range_loose};
 pub(crate) use crate::readers::spaces::skip_spaces;
 pub use semver_core::readers::{version_fast, version_loose};

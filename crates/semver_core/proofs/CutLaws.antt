@@ -6,12 +6,13 @@ use Rattle.std.proofs.lemmas.Bool.{and_parts, cases_Bool, cond_both}
 use Rattle.std.proofs.Math.Bool.{and_comm}
 use Rattle.std.specs.declared.cmp.Ordering.{Ordering}
 use Rattle.std.specs.declared.cmp.Ordering.TheVariants.{Less, Equal, Greater}
-use Rattle.std.specs.Ordering.{nat_cmp, ordering_reverse, is_lt, is_le, is_gt, on, then_cmp}
+use Rattle.std.specs.Ordering.{nat_cmp, ordering_reverse, is_lt, is_le, is_gt, on, then_cmp, bool_cmp}
 use Rattle.std.specs.Option.{option_cmp}
 use Rattle.std.specs.Cmp.Lexicographic.{options_total}
-use Rattle.std.specs.Cmp.{IsTotalOrder, upto, tied_itself, on_total, then_total, nat_cmp_total}
+use Rattle.std.specs.Cmp.{IsTotalOrder, upto, tied_itself, on_total, then_total, nat_cmp_total, bool_cmp_total}
+use Rattle.semver_core.specs.Internal.Sides.{Near}
 use Rattle.semver_core.specs.Clips.{clip}
-use Rattle.semver_core.specs.Cuts.{Side, Near, side_cmp, side_index, Cut, Start, Beside, End, cut_cmp, is_past, lower_cut, upper_cut, Span, is_interval, interval, holds, greater_lower, lesser_upper, meet, left_below, left_above, remainders, option_holds}
+use Rattle.semver_core.specs.Cuts.{Cut, Start, Beside, End, cut_cmp, is_past, lower_cut, upper_cut, Span, is_interval, interval, holds, greater_lower, lesser_upper, meet, left_below, left_above, remainders, option_holds}
 use Rattle.semver_core.specs.declared.cuts.bound.Bound.{Bound}
 use Rattle.semver_core.specs.declared.cuts.bound.Bound.TheVariants.{Unbounded, Before, After}
 
@@ -38,12 +39,12 @@ module _ {V : Type 0} {R : V → V → Ordering} (o : IsTotalOrder R) where
   rank (Beside v s) = 1
   rank End = 2
 
-  abbrev beside : Cut V → Option (V × Side)
+  abbrev beside : Cut V → Option (V × Bool)
   beside (Beside v s) = Some (v, s)
   beside _ = None
 
-  abbrev beside_cmp : V × Side → V × Side → Ordering
-  beside_cmp = then_cmp (on (λ (p : V × Side). p.0) R) (on (λ (p : V × Side). p.1) side_cmp)
+  abbrev beside_cmp : V × Bool → V × Bool → Ordering
+  beside_cmp = then_cmp (on (λ (p : V × Bool). p.0) R) (on (λ (p : V × Bool). p.1) bool_cmp)
 
   keyed : (c d : Cut V) → then_cmp (on rank nat_cmp) (on beside (option_cmp beside_cmp)) c d ≡ cut_cmp R c d
   keyed Start Start = refl
@@ -58,7 +59,7 @@ module _ {V : Type 0} {R : V → V → Ordering} (o : IsTotalOrder R) where
 
   pub cut_total : IsTotalOrder (cut_cmp R)
   cut_total = subst IsTotalOrder (λ i c d. keyed c d i) (then_total (on_total rank nat_cmp_total) (on_total beside (options_total
-      (then_total (on_total (λ (p : V × Side). p.0) o) (on_total (λ (p : V × Side). p.1) (on_total side_index nat_cmp_total))))))
+      (then_total (on_total (λ (p : V × Bool). p.0) o) (on_total (λ (p : V × Bool). p.1) bool_cmp_total)))))
 
   -- a is below b
   abbrev pub lt : Cut V → Cut V → Bool

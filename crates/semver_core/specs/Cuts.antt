@@ -1,54 +1,38 @@
 -- Statement: cuts of a line of ordered points, and the spans between two cuts.
-use Rattle.std.specs.Prelude.{ℕ, Bool, true, false, ◌&&◌, not, if◌then◌else◌, Option, Some, None, is_some}
+use Rattle.std.specs.Prelude.{Bool, true, false, ◌&&◌, not, if◌then◌else◌, Option, Some, None, is_some}
 use Rattle.std.specs.declared.cmp.Ordering.{Ordering}
 use Rattle.std.specs.declared.cmp.Ordering.TheVariants.{Less, Equal, Greater}
-use Rattle.std.specs.Ordering.{ordering_then, on, nat_cmp, is_lt, is_le, is_gt}
+use Rattle.std.specs.Ordering.{ordering_then, bool_cmp, is_lt, is_le, is_gt}
 use Rattle.semver_core.specs.declared.cuts.bound.Bound.{Bound}
 use Rattle.semver_core.specs.declared.cuts.bound.Bound.TheVariants.{Unbounded, Before, After}
 
--- the side of a point on which a cut lies
-pub data Side : Type 0 where
-  Near : Side
-  Far : Side
-
--- near sides come first
-abbrev pub side_index : Side → ℕ
-side_index Near = 0
-side_index Far = 1
-
-abbrev pub side_cmp : Side → Side → Ordering
-side_cmp = on side_index nat_cmp
-
--- a place on the line: one of its ends, or just before (near) or just after (far) a point
+-- a place on the line: one of its ends, or just before (false) or just after (true) a point
 pub data Cut (V : Type 0) : Type 0 where
-  Start : Cut V
-  Beside : V → Side → Cut V
-  End : Cut V
+  Start End : Cut V
+  Beside : V → Bool → Cut V
 
--- the order of the cuts along the line: by the point, and then by the side
+-- the order of the cuts along the line: by the point, and just before it comes first
 abbrev pub cut_cmp : {V : Type 0} → (V → V → Ordering) → Cut V → Cut V → Ordering
 cut_cmp R Start Start = Equal
-cut_cmp R Start _ = Less
-cut_cmp R (Beside v s) Start = Greater
-cut_cmp R (Beside v s) (Beside w t) = ordering_then (R v w) (side_cmp s t)
-cut_cmp R (Beside v s) End = Less
 cut_cmp R End End = Equal
-cut_cmp R End _ = Greater
+cut_cmp R (Beside v after) (Beside w later) = ordering_then (R v w) (bool_cmp after later)
+cut_cmp R Start _ = Less
+cut_cmp R _ End = Less
+cut_cmp R _ _ = Greater
 
 -- the cut that a bound makes below an interval, and above it
 abbrev pub lower_cut : {V : Type 0} → Bound V → Cut V
 lower_cut Unbounded = Start
-lower_cut (Before v) = Beside v Near
-lower_cut (After v) = Beside v Far
+lower_cut (Before v) = Beside v false
+lower_cut (After v) = Beside v true
 
 abbrev pub upper_cut : {V : Type 0} → Bound V → Cut V
 upper_cut Unbounded = End
-upper_cut (Before v) = Beside v Near
-upper_cut (After v) = Beside v Far
+upper_cut b = lower_cut b
 
 -- whether the point lies past the cut: the cut is not above the place just before the point
 abbrev pub is_past : {V : Type 0} → (V → V → Ordering) → Cut V → V → Bool
-is_past R c v = is_le (cut_cmp R c (Beside v Near))
+is_past R c v = is_le (cut_cmp R c (Beside v false))
 
 -- bounds of one kind at equal points
 abbrev pub bound_eq : {V : Type 0} → (V → V → Bool) → Bound V → Bound V → Bool
@@ -89,8 +73,7 @@ lesser_upper R b c = if is_gt (cut_cmp R (upper_cut b) (upper_cut c)) then c els
 
 -- what two spans have in common
 abbrev pub meet : {V : Type 0} → (V → V → Ordering) → Span V → Span V → Option (Span V)
-meet R s t =
-    interval R (record { lower = greater_lower R s.lower t.lower; upper = lesser_upper R s.upper t.upper })
+meet R s t = interval R (record { lower = greater_lower R s.lower t.lower; upper = lesser_upper R s.upper t.upper })
 
 -- what is left of s below t, and above t: t's bound is turned round, and so stands for the same cut
 abbrev pub left_below : {V : Type 0} → (V → V → Ordering) → Span V → Span V → Option (Span V)

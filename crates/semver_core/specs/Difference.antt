@@ -8,8 +8,7 @@ use Rattle.semver_core.specs.declared.difference.VersionDiff.TheVariants.{Major,
 
 -- the kind, by the lower and the higher of two versions
 abbrev pub kind_up : VersionValue → VersionValue → VersionDiff
-kind_up low high =
-    if not (is_release low) && is_release high then
+kind_up low high = if not (is_release low) && is_release high then
     (if low.minor == 0 && low.patch == 0 then Major
     else if not (high.patch == 0) then Patch
     else if not (high.minor == 0) then Minor

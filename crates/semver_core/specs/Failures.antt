@@ -13,6 +13,6 @@ abbrev pub MemoryOnlyIf : {A E : Type 0} → Result A (Failure E) → Type 0 →
 MemoryOnlyIf (Err (Memory e)) P = P
 MemoryOnlyIf _ P = ⊤
 
--- the call never rejects its input: its one error is a failed allocation
-abbrev pub NeverRefused : {A E : Type 0} → Result A (Failure E) → Type 0
-NeverRefused {A} {E} result = RefusedOnlyIf {A = A} {E = E} result ⊥
+-- no value is so
+abbrev pub NoValue : {A : Type 0} → (A → Type 0) → Type 0
+NoValue {A} Is = (value : A) → Is value → ⊥

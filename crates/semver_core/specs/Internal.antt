@@ -4,6 +4,7 @@ pub mod Successors
 pub mod OrderLaws
 pub mod Spaces
 pub mod Inside
+pub mod Sides
 pub mod Sources
 pub mod Hashes
 pub mod Readable

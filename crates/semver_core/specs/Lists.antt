@@ -1,5 +1,5 @@
 -- Statement: words about lists of any kind.
-use Rattle.std.specs.Prelude.{Bool, true, false, List, [], ◌∷◌, Option, Some, None}
+use Rattle.std.specs.Prelude.{Bool, true, false, if◌then◌else◌, List, [], ◌∷◌, Option, Some, None}
 
 abbrev pub is_empty : {A : Type 0} → List A → Bool
 is_empty [] = true
@@ -7,5 +7,4 @@ is_empty (x ∷ rest) = false
 
 -- the list, if it is not empty
 abbrev pub if_any : {A : Type 0} → List A → Option (List A)
-if_any [] = None
-if_any (x ∷ xs) = Some (x ∷ xs)
+if_any list = if is_empty list then None else Some list

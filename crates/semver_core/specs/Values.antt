@@ -2,4 +2,3 @@ pub mod Versions
 pub mod Views
 pub mod Order
 pub mod Triples
-pub mod NextVersions

@@ -1,10 +1,10 @@
 // Increments: the next version by a word, as release tools ask for it.
 
-ghost use Rattle.std.specs.Prelude.{◌≡◌, ◌≢◌, ◌+◌, ◌-◌, ◌^◌, ◌<◌, [], IfOk, IsOkAnd, OnErr, codes};
+ghost use Rattle.std.specs.Prelude.{◌≡◌, ◌≢◌, ◌+◌, ◌-◌, ◌^◌, ◌<◌, [], IfOk, IsOkAnd, OnErr, codes, unwrap_or};
 ghost use Rattle.std.specs.Prelude.{false, true};
 ghost use Rattle.std.specs.Option.{option_copied};
 ghost use Rattle.semver_core.specs.Increments.Table as spec;
-ghost use Rattle.semver_core.specs.Increments.Least.{HasNoIdentifier, IsAbove, IsLeastOrOverflow};
+ghost use Rattle.semver_core.specs.Increments.Least.{IsAbove, IsLeastOrOverflow};
 ghost use Rattle.semver_core.specs.Increments.Least.{IsLeastVersion, IsPlain};
 ghost use Rattle.semver_core.specs.Increments.View.{IfAnswered, Returns, fault_of};
 ghost use Rattle.semver_core.specs.Internal.IncrementSteps.{RefusedWith, parts_ref_value};
@@ -301,7 +301,7 @@ impl Version {
             → (is_release self.now ≡ false → spec.has_numeric self.now.pre_release ≡ false)
             → IfAnswered (λ answer. IsOkAnd answer (IsLeastVersion (IsAbove self.now))) result }
         // Without an identifier the version rises, except by `pre` from a release.
-        ensures above { HasNoIdentifier (option_copied identifier.entry)
+        ensures above { (unwrap_or (option_copied identifier.entry) [] ≡ [])
             → (word.now ≡ codes "pre" → is_release self.now ≡ false)
             → IfOk result (IsAbove self.now) }
         ensures build { IfOk result (λ next. next.build ≡ self.now.build) }

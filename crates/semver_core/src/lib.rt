@@ -24,7 +24,7 @@ pub use crate::error::{Failure, NegativeNumber, SemverError};
 pub use crate::identifier::Identifier;
 pub use crate::increment::{IdentifierBase, IncrementError};
 pub use crate::version::Version;
-pub use crate::version::accepts::Accepts;
+pub use crate::version::accepts::{Accepts, AcceptsRef};
 pub use crate::version::parts::VersionParts;
 pub use crate::version::versioned::Versioned;
 

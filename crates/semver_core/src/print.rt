@@ -9,19 +9,44 @@ use crate::{Identifier, IdentifierRefs, Version, VersionRef};
 use itoa::Buffer;
 use std::fmt;
 
+// Each digit with a dot behind it.
+const DIGITS: &str = "0.1.2.3.4.5.6.7.8.9.";
+
 // A number in decimal. The length of a short one is known, so that it is copied without a call.
 #[inline(always)]
-pub(crate) fn write_number<W: fmt::Write>(number: u64, f: &mut fmt::Formatter<W>) -> fmt::Result
+fn write_decimal<W: fmt::Write>(number: u64, f: &mut fmt::Formatter<W>) -> fmt::Result
     ensures { DisplaysStyledOnOk W.write_str_gives f.old result (Some (decimal number)) f.new }
 {
     if number < 10 {
-        let digit = number as usize;
-        return f.write_str(&"0123456789"[digit..digit + 1]);
+        let at = 2 * number as usize;
+        return f.write_str(&DIGITS[at..at + 1]);
     }
     if number < 100 {
         return f.write_str(Buffer::new().format(number as u8));
     }
     f.write_str(Buffer::new().format(number))
+}
+
+// A number in decimal, where a call is less than what is written beside it.
+#[inline(never)]
+pub(crate) fn write_number<W: fmt::Write>(number: u64, f: &mut fmt::Formatter<W>) -> fmt::Result
+    ensures { DisplaysStyledOnOk W.write_str_gives f.old result (Some (decimal number)) f.new }
+{
+    write_decimal(number, f)
+}
+
+// A number in decimal and a dot. A digit is written together with the dot.
+#[inline(always)]
+fn write_dotted<W: fmt::Write>(number: u64, f: &mut fmt::Formatter<W>) -> fmt::Result
+    ensures { DisplaysStyledOnOk W.write_str_gives f.old result
+        (Some (decimal number ++ 46 ∷ [])) f.new }
+{
+    if number < 10 {
+        let at = 2 * number as usize;
+        return f.write_str(&DIGITS[at..at + 2]);
+    }
+    write_decimal(number, f)?;
+    f.write_str(".")
 }
 
 /// A number prints in decimal, and a text as it is. Width, fill and precision change nothing.
@@ -35,19 +60,6 @@ impl fmt::Display for Identifier {
     }
 }
 
-// The identifiers, a dot before each.
-fn write_dotted<W: fmt::Write>(ids: IdentifierRefs<'_>, f: &mut fmt::Formatter<W>) -> fmt::Result
-    ensures { DisplaysStyledOnOk W.write_str_gives f.old result
-        (Some (marked_list (46 ∷ []) ids.entry)) f.new }
-{
-    let mut others = ids;
-    'ids: while let Some(id) = others.next() {
-        f.write_str(".")?;
-        fmt::Display::fmt(&id, f)?;
-    }
-    Ok(())
-}
-
 // A mark and the identifiers joined by dots, or nothing where there are none.
 #[inline(always)]
 fn write_list<W: fmt::Write>(
@@ -58,18 +70,21 @@ fn write_list<W: fmt::Write>(
     ensures { DisplaysStyledOnOk W.write_str_gives f.old result
         (Some (marked_list mark.now ids.entry)) f.new }
 {
-    let mut others = ids;
-    match others.next() {
-        None => Ok(()),
-        Some(first) => {
-            f.write_str(mark)?;
-            fmt::Display::fmt(&first, f)?;
-            write_dotted(others, f)
-        }
+    if ids.is_empty() {
+        return Ok(());
     }
+    let mut sign = mark;
+    let mut others = ids;
+    'ids: while let Some(id) = others.next() {
+        f.write_str(sign)?;
+        fmt::Display::fmt(&id, f)?;
+        sign = ".";
+    }
+    Ok(())
 }
 
 // Three numbers with dots between them.
+#[inline(always)]
 fn write_numbers<W: fmt::Write>(
     major: u64,
     minor: u64,
@@ -79,31 +94,21 @@ fn write_numbers<W: fmt::Write>(
     ensures { DisplaysStyledOnOk W.write_str_gives f.old result
         (Some (decimal major ++ 46 ∷ (decimal minor ++ 46 ∷ decimal patch))) f.new }
 {
-    write_number(major, f)?;
-    f.write_str(".")?;
-    write_number(minor, f)?;
-    f.write_str(".")?;
-    write_number(patch, f)
+    write_dotted(major, f)?;
+    write_dotted(minor, f)?;
+    write_decimal(patch, f)
 }
 
-// The five values of a version.
-fn write_values<W: fmt::Write>(
-    major: u64,
-    minor: u64,
-    patch: u64,
+// The pre-release and the build metadata of a version.
+#[inline(always)]
+fn write_lists<W: fmt::Write>(
     pre_release: IdentifierRefs<'_>,
     build: IdentifierRefs<'_>,
     f: &mut fmt::Formatter<W>,
 ) -> fmt::Result
-    ensures { DisplaysStyledOnOk W.write_str_gives f.old result (Some (version_text (record {
-      major = major;
-      minor = minor;
-      patch = patch;
-      pre_release = pre_release.entry;
-      build = build.entry;
-    }))) f.new }
+    ensures { DisplaysStyledOnOk W.write_str_gives f.old result
+        (Some (marked_list (45 ∷ []) pre_release.entry ++ marked_list (43 ∷ []) build.entry)) f.new }
 {
-    write_numbers(major, minor, patch, f)?;
     write_list("-", pre_release, f)?;
     write_list("+", build, f)
 }
@@ -122,16 +127,10 @@ impl fmt::Display for Version {
     ghost styled_output = { λ v _. Some (version_text v) };
 
     fn fmt<W: fmt::Write>(&self, f: &mut fmt::Formatter<W>) -> fmt::Result {
+        write_numbers(self.major(), self.minor(), self.patch(), f)?;
         let pre_release = IdentifierRefs::of_items(self.pre_release());
         let build = IdentifierRefs::of_items(self.build());
-        write_values(
-            self.major(),
-            self.minor(),
-            self.patch(),
-            pre_release,
-            build,
-            f,
-        )
+        write_lists(pre_release, build, f)
     }
 }
 
@@ -142,13 +141,7 @@ impl<'a> fmt::Display for VersionRef<'a> {
     ghost styled_output = { λ v _. Some (version_text v) };
 
     fn fmt<W: fmt::Write>(&self, f: &mut fmt::Formatter<W>) -> fmt::Result {
-        write_values(
-            self.major(),
-            self.minor(),
-            self.patch(),
-            self.pre_release(),
-            self.build(),
-            f,
-        )
+        write_numbers(self.major(), self.minor(), self.patch(), f)?;
+        write_lists(self.pre_release(), self.build(), f)
     }
 }

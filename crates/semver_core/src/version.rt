@@ -2,10 +2,9 @@
 
 ghost use Rattle.std.specs.Prelude.{◌≡◌, ◌↔◌, Some, refl, IsTrue, IfOk, All, true, false, length};
 ghost use Rattle.std.specs.Prelude.{◌<◌, ◌≤◌};
-ghost use Rattle.semver_core.specs.Failures.{MemoryOnlyIf, NeverRefused, RefusedOnlyIf};
-ghost use Rattle.semver_core.specs.Text.VersionText.{Reads, HasNoVersion};
-ghost use Rattle.semver_core.specs.Text.VersionText.{HasVersionWithIdentifiers};
-ghost use Rattle.semver_core.specs.Text.Parsing.{Parses, IsRefused, NeedsMemory};
+ghost use Rattle.semver_core.specs.Failures.{MemoryOnlyIf, RefusedOnlyIf, NoValue};
+ghost use Rattle.semver_core.specs.Text.VersionText.{Reads};
+ghost use Rattle.semver_core.specs.Text.Parsing.{Parses};
 ghost use Rattle.semver_core.specs.Values.Versions.{VersionValue, HasIdentifiers, IsVersion, IsId};
 ghost use Rattle.semver_core.specs.Values.Versions.{is_release, release_value};
 ghost use Rattle.semver_core.specs.Internal.Reading.{qualified};
@@ -74,9 +73,9 @@ impl Version {
         // What is read is a version of the text.
         ensures ok { IfOk result (λ v. Parses MAX_SAFE_INTEGER text.now v) }
         // The text is rejected only if it is too long or has no version at its front.
-        ensures refused { RefusedOnlyIf result (IsRefused MAX_SAFE_INTEGER text.now) }
+        ensures refused { RefusedOnlyIf result (NoValue (Parses MAX_SAFE_INTEGER text.now)) }
         // Allocation fails only for a version with identifiers.
-        ensures memory { MemoryOnlyIf result (NeedsMemory MAX_SAFE_INTEGER text.now) }
+        ensures memory { MemoryOnlyIf result ((v : VersionValue) × Parses MAX_SAFE_INTEGER text.now v × HasIdentifiers v) }
     {
         if text.len() > MAX_LENGTH {
             return Err(Failure::Refused(SemverError));
@@ -206,7 +205,7 @@ fn parse_lists(
 ) -> Result<Version, Failure<SemverError>>
     requires { at ≤ length text.now }
     ensures ok { IfOk result (λ v. v ≡ qualified text.now (major, minor, patch, at)) }
-    ensures never { NeverRefused result }
+    ensures never { RefusedOnlyIf result ⊥ }
     ensures memory { MemoryOnlyIf result
         (HasIdentifiers (qualified text.now (major, minor, patch, at))) }
 {
@@ -220,8 +219,8 @@ fn parse_lists(
 #[inline(never)]
 fn parse_loose(alloc: Global, text: &str) -> Result<Version, Failure<SemverError>>
     ensures ok { IfOk result (λ v. Reads MAX_SAFE_INTEGER text.now v) }
-    ensures refused { RefusedOnlyIf result (HasNoVersion MAX_SAFE_INTEGER text.now) }
-    ensures memory { MemoryOnlyIf result (HasVersionWithIdentifiers MAX_SAFE_INTEGER text.now) }
+    ensures refused { RefusedOnlyIf result (NoValue (Reads MAX_SAFE_INTEGER text.now)) }
+    ensures memory { MemoryOnlyIf result ((v : VersionValue) × Reads MAX_SAFE_INTEGER text.now v × HasIdentifiers v) }
 {
     version_loose(alloc, text)?.ok_or(Failure::Refused(SemverError))
 }

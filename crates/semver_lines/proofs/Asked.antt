@@ -52,8 +52,14 @@ pub no_version : (word text : List ℕ) → bytes_eq word (codes "ver") ≡ fals
 no_version word text ver range least (Version v Ver) asks = other word _ _ _ ver asks.0
 no_version word text ver range least (Range r Print) asks = other word _ _ _ range asks.0
 no_version word text ver range least (Range r Least) asks = other word _ _ _ least asks.0
+no_version word text ver range least (Versions texts Cmp) asks = omega (arith, ap length asks.0)
+no_version word text ver range least (Versions texts Diff) asks = omega (arith, ap length asks.0)
+no_version word text ver range least (Ranges texts And) asks = omega (arith, ap length asks.0)
+no_version word text ver range least (Ranges texts Minus) asks = omega (arith, ap length asks.0)
+no_version word text ver range least (Ranges texts Beyond) asks = omega (arith, ap length asks.0)
 no_version word text ver range least (Match texts Sat) asks = omega (arith, ap length asks.0)
-no_version word text ver range least (Best (r, vs) asked) asks = omega (arith, ap length asks.0, some_field vs.now)
+no_version word text ver range least (Best (r, vs) Max) asks = omega (arith, ap length asks.0, some_field vs.now)
+no_version word text ver range least (Best (r, vs) Min) asks = omega (arith, ap length asks.0, some_field vs.now)
 no_version word text ver range least question asks = omega (arith, ap length asks.0)
 
 -- the fields of a text that begins with a command

@@ -62,7 +62,7 @@ taken_stop p bytes waits rest output t =
       record {
         lines = t.lines ++ more;
         has_lines = λ plain. more_lines (p ++ bytes) (waits ++ rest) behind t.lines more t.divided (t.each plain).0 h;
-        said = record { front = t.lines; rest = more; divided = refl; answers = t.answers };
+        said = (t.lines, more, refl, t.answers);
       },
     )
 

@@ -31,15 +31,11 @@ Answers-append xs ys a b h k = record {
 }
 
 pub front_all : (xs : List (List ℕ)) (a : List ℕ) → Answers xs a → AnswersFront xs a
-front_all xs a h = record { front = xs; rest = []; divided = sym (append-nil xs); answers = h }
+front_all xs a h = (xs, [], sym (append-nil xs), h)
 
 pub front_after : (xs ys : List (List ℕ)) (a b : List ℕ) → Answers xs a → AnswersFront ys b → AnswersFront (xs ++ ys) (a ++ b)
-front_after xs ys a b h k = record {
-  front = xs ++ k.front;
-  rest = k.rest;
-  divided = ap (λ l. xs ++ l) k.divided ∙ sym (append_assoc xs k.front k.rest);
-  answers = Answers-append xs k.front a b h k.answers;
-}
+front_after xs ys a b h k =
+    (xs ++ k.0, k.1, ap (λ l. xs ++ l) k.2 ∙ sym (append_assoc xs k.0 k.1), Answers-append xs k.0 a b h k.3)
 
 pub torn_after : (xs ys : List (List ℕ)) (a b : List ℕ) → Answers xs a → AnswersTorn ys b → AnswersTorn (xs ++ ys) (a ++ b)
 torn_after xs ys a b h t = record {
@@ -99,7 +95,7 @@ torn_at (l ∷ ls) rest (a ∷ answers) written left h e some = elim (cases_lt (
 -- a front of the answers of a beginning of the lines, with some bytes left, breaks off within the answer of a line
 pub torn_front : (lines : List (List ℕ)) (output written left : List ℕ) → AnswersFront lines output → output ≡ written ++ left → 0 < length left → AnswersTorn lines written
 torn_front lines output written left h e some =
-    subst (λ l. AnswersTorn l written) (sym h.divided) (torn_at h.front h.rest h.answers.answers written left h.answers.each (sym h.answers.output_is ∙ e) some)
+    subst (λ l. AnswersTorn l written) (sym h.2) (torn_at h.0 h.1 h.3.answers written left h.3.each (sym h.3.output_is ∙ e) some)
 
 -- the answer to a last line
 pub last_answer : (p old new : List ℕ) (n : ℕ) → old ≡ [] → n ≡ length p → (n == 0) ≡ false → GrowsByAnswer (p ++ []) old new → Answers (last_line p) new

@@ -15,7 +15,7 @@ use Rattle.nodejs_semver.specs.Ranges.Outside.{direction_char, is_outside}
 use Rattle.nodejs_semver.specs.Printing.Text.{range_text}
 use Rattle.semver_lines.specs.Lines.{fields}
 use Rattle.semver_lines.specs.Names.{base_word, next_text, or_none, order_word, truth_word}
-use Rattle.semver_lines.specs.Replies.{AreVersionsOf, IsVersionOf, IsRangeOf, On, OnBoth, Says, SaysFound}
+use Rattle.semver_lines.specs.Replies.{AreVersionsOf, IsVersionOf, IsRangeOf, On, Says, SaysFound}
 use Rattle.semver_lines.specs.declared.question.AboutBest.{AboutBest}
 use Rattle.semver_lines.specs.declared.question.AboutBest.TheVariants.{Max, Min}
 use Rattle.semver_lines.specs.declared.question.AboutMatch.{AboutMatch}
@@ -31,38 +31,24 @@ use Rattle.semver_lines.specs.declared.question.AboutVersions.TheVariants.{Cmp, 
 use Rattle.semver_lines.specs.declared.question.Question.{Question}
 use Rattle.semver_lines.specs.declared.question.Question.TheVariants.{Version, Versions, Range, Ranges, Match, Best}
 
--- the first field of the line of a question
-abbrev pub command_of : Question → List ℕ
-command_of (Version v Ver) = codes "ver"
-command_of (Version v (Inc word)) = codes "inc"
-command_of (Version v (IncWith word id)) = codes "inc"
-command_of (Version v (IncFrom word id base)) = codes "inc"
-command_of (Versions texts Cmp) = codes "cmp"
-command_of (Versions texts Diff) = codes "diff"
-command_of (Range r Print) = codes "range"
-command_of (Range r Least) = codes "least"
-command_of (Ranges texts And) = codes "and"
-command_of (Ranges texts Minus) = codes "minus"
-command_of (Ranges texts Beyond) = codes "beyond"
-command_of (Match texts Sat) = codes "sat"
-command_of (Match texts Pre) = codes "pre"
-command_of (Match texts (Out side)) = codes "out"
-command_of (Best texts Max) = codes "max"
-command_of (Best texts Min) = codes "min"
-
--- the fields behind it
-abbrev pub texts_of : Question → List (List ℕ)
-texts_of (Version v Ver) = v.now ∷ []
-texts_of (Version v (Inc word)) = v.now ∷ word.now ∷ []
-texts_of (Version v (IncWith word id)) = v.now ∷ word.now ∷ id.now ∷ []
-texts_of (Version v (IncFrom word id base)) = v.now ∷ word.now ∷ id.now ∷ base_word base ∷ []
-texts_of (Versions (v, w) asked) = v.now ∷ w.now ∷ []
-texts_of (Range r asked) = r.now ∷ []
-texts_of (Ranges (r, s) asked) = r.now ∷ s.now ∷ []
-texts_of (Match (r, v) Sat) = r.now ∷ v.now ∷ []
-texts_of (Match (r, v) Pre) = r.now ∷ v.now ∷ []
-texts_of (Match (r, v) (Out side)) = r.now ∷ v.now ∷ (direction_char side ∷ []) ∷ []
-texts_of (Best (r, vs) asked) = r.now ∷ fields vs.now
+-- the fields of the line that asks a question
+abbrev pub line_of : Question → List (List ℕ)
+line_of (Version v Ver) = codes "ver" ∷ v.now ∷ []
+line_of (Version v (Inc word)) = codes "inc" ∷ v.now ∷ word.now ∷ []
+line_of (Version v (IncWith word id)) = codes "inc" ∷ v.now ∷ word.now ∷ id.now ∷ []
+line_of (Version v (IncFrom word id base)) = codes "inc" ∷ v.now ∷ word.now ∷ id.now ∷ base_word base ∷ []
+line_of (Versions (v, w) Cmp) = codes "cmp" ∷ v.now ∷ w.now ∷ []
+line_of (Versions (v, w) Diff) = codes "diff" ∷ v.now ∷ w.now ∷ []
+line_of (Range r Print) = codes "range" ∷ r.now ∷ []
+line_of (Range r Least) = codes "least" ∷ r.now ∷ []
+line_of (Ranges (r, s) And) = codes "and" ∷ r.now ∷ s.now ∷ []
+line_of (Ranges (r, s) Minus) = codes "minus" ∷ r.now ∷ s.now ∷ []
+line_of (Ranges (r, s) Beyond) = codes "beyond" ∷ r.now ∷ s.now ∷ []
+line_of (Match (r, v) Sat) = codes "sat" ∷ r.now ∷ v.now ∷ []
+line_of (Match (r, v) Pre) = codes "pre" ∷ r.now ∷ v.now ∷ []
+line_of (Match (r, v) (Out side)) = codes "out" ∷ r.now ∷ v.now ∷ (direction_char side ∷ []) ∷ []
+line_of (Best (r, vs) Max) = codes "max" ∷ r.now ∷ fields vs.now
+line_of (Best (r, vs) Min) = codes "min" ∷ r.now ∷ fields vs.now
 
 -- a base is `false`, 0 or 1
 abbrev pub HasBase : Question → Type 0
@@ -71,7 +57,7 @@ HasBase question = ⊤
 
 -- a line with these fields asks this question
 abbrev pub Asks : List (List ℕ) → Question → Type 0
-Asks line question = (line ≡ command_of question ∷ texts_of question) × HasBase question
+Asks line question = (line ≡ line_of question) × HasBase question
 
 -- the reply about a version, about two, about a range, about two, about a range and a version, about a range and some
 -- versions
@@ -106,8 +92,8 @@ BestReply Min r vs = SaysFound (IsMin (λ v. accepts r v false) vs)
 -- the answer to each question
 abbrev pub IsReply : Question → List ℕ → Type 0
 IsReply (Version v asked) = On (IsVersionOf v.now) (λ v. Says (version_reply asked v))
-IsReply (Versions (v, w) asked) = OnBoth (IsVersionOf v.now) (IsVersionOf w.now) (λ v w. Says (versions_reply asked v w))
+IsReply (Versions (v, w) asked) = On (IsVersionOf v.now) (λ v. On (IsVersionOf w.now) (λ w. Says (versions_reply asked v w)))
 IsReply (Range r asked) = On (IsRangeOf r.now) (RangeReply asked)
-IsReply (Ranges (r, s) asked) = OnBoth (IsRangeOf r.now) (IsRangeOf s.now) (RangesReply asked)
-IsReply (Match (r, v) asked) = OnBoth (IsRangeOf r.now) (IsVersionOf v.now) (λ r v. Says (truth_word (match_reply asked r v)))
-IsReply (Best (r, vs) asked) = OnBoth (IsRangeOf r.now) (AreVersionsOf (fields vs.now)) (BestReply asked)
+IsReply (Ranges (r, s) asked) = On (IsRangeOf r.now) (λ r. On (IsRangeOf s.now) (RangesReply asked r))
+IsReply (Match (r, v) asked) = On (IsRangeOf r.now) (λ r. On (IsVersionOf v.now) (λ v. Says (truth_word (match_reply asked r v))))
+IsReply (Best (r, vs) asked) = On (IsRangeOf r.now) (λ r. On (AreVersionsOf (fields vs.now)) (BestReply asked r))

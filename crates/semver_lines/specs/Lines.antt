@@ -1,6 +1,7 @@
 -- Statement. The lines of an input, and the fields of a line.
-use Rattle.std.specs.Prelude.{◌≡◌, ◌==◌, ℕ, Bool, true, not, List, [], ◌∷◌, ◌++◌}
+use Rattle.std.specs.Prelude.{◌≡◌, ◌==◌, ℕ, Bool, true, not, if◌then◌else◌, List, [], ◌∷◌, ◌++◌}
 use Rattle.std.specs.List.{list_all, flat_map, slice_split}
+use Rattle.semver_core.specs.Lists.{is_empty}
 
 -- a line feed stands nowhere in the text
 abbrev pub no_feed : List ℕ → Bool
@@ -18,8 +19,7 @@ pub record HasLines (input : List ℕ) (lines : List (List ℕ)) (rest : List �
 
 -- a last line without a line feed counts where it is not empty
 abbrev pub last_line : List ℕ → List (List ℕ)
-last_line [] = []
-last_line (b ∷ rest) = (b ∷ rest) ∷ []
+last_line rest = if is_empty rest then [] else rest ∷ []
 
 -- the fields of a line, cut at each `;`
 abbrev pub fields : List ℕ → List (List ℕ)

@@ -23,8 +23,7 @@ fault_word BadRange = codes "bad range"
 
 -- whether it is so
 abbrev pub truth_word : Bool → List ℕ
-truth_word true = codes "true"
-truth_word false = codes "false"
+truth_word is_so = if is_so then codes "true" else codes "false"
 
 -- how the first of two versions compares to the second
 abbrev pub order_word : Ordering → List ℕ
@@ -37,14 +36,10 @@ abbrev pub or_none : {A : Type 0} → (A → List ℕ) → Option A → List ℕ
 or_none text None = codes "none"
 or_none text (Some value) = text value
 
--- why a version has no next one
-abbrev pub increment_fault_word : increment.Fault → List ℕ
-increment_fault_word (increment.InvalidIncrementArgument text) = codes "bad argument"
-increment_fault_word (increment.InvalidIdentifier text) = codes "bad identifier"
-increment_fault_word (increment.NotAPrerelease text) = codes "not a prerelease"
-increment_fault_word increment.Overflow = codes "overflow"
-
 -- the next version, printed, or why there is none
 abbrev pub next_text : Result VersionValue increment.Fault → List ℕ
 next_text (Ok v) = version_text v
-next_text (Err fault) = increment_fault_word fault
+next_text (Err (increment.InvalidIncrementArgument text)) = codes "bad argument"
+next_text (Err (increment.InvalidIdentifier text)) = codes "bad identifier"
+next_text (Err (increment.NotAPrerelease text)) = codes "not a prerelease"
+next_text (Err increment.Overflow) = codes "overflow"

@@ -7,11 +7,8 @@ use Rattle.semver_lines.specs.declared.run.RunFault.{RunFault}
 use Rattle.semver_lines.specs.declared.run.RunFault.TheVariants.{Read, Write, Memory}
 
 -- the answers of a beginning of these lines
-pub record AnswersFront (all : List (List ℕ)) (written : List ℕ) : Type 0 where
-  pub front : List (List ℕ)
-  pub rest : List (List ℕ)
-  pub divided : all ≡ front ++ rest
-  pub answers : Answers front written
+abbrev pub AnswersFront : List (List ℕ) → List ℕ → Type 0
+AnswersFront all written = (front rest : List (List ℕ)) × (all ≡ front ++ rest) × Answers front written
 
 -- the answers of a beginning of these lines, and then a front of the next line's answer
 pub record AnswersTorn (all : List (List ℕ)) (written : List ℕ) : Type 0 where

@@ -2,9 +2,10 @@
 -- first that is no version, or no range, decides the error.
 use Rattle.std.specs.Prelude.{◌≡◌, ◌<◌, ℕ, List, [], length, Option, Result, Ok, Err}
 use Rattle.std.specs.List.{AllZip, Any}
+use Rattle.semver_core.specs.Failures.{NoValue}
 use Rattle.semver_core.specs.Cuts.{Span}
 use Rattle.semver_core.specs.Printing.Text.{version_text}
-use Rattle.semver_core.specs.Text.Parsing.{Parses, IsRefused}
+use Rattle.semver_core.specs.Text.Parsing.{Parses}
 use Rattle.semver_core.specs.Values.Versions.{VersionValue}
 use Rattle.semver_core.specs.declared.TheConstants.{MAX_SAFE_INTEGER}
 use Rattle.nodejs_semver.specs.Text.Meaning.{Means}
@@ -15,7 +16,7 @@ use Rattle.semver_lines.specs.declared.fault.Fault.TheVariants.{BadVersion, BadR
 -- a text is read as this version, or as none
 abbrev pub IsVersionOf : List ℕ → Result VersionValue Fault → Type 0
 IsVersionOf text (Ok v) = Parses MAX_SAFE_INTEGER text v
-IsVersionOf text (Err fault) = IsRefused MAX_SAFE_INTEGER text × (fault ≡ BadVersion)
+IsVersionOf text (Err fault) = NoValue (Parses MAX_SAFE_INTEGER text) × (fault ≡ BadVersion)
 
 -- a text is read as this range, or as none
 abbrev pub IsRangeOf : List ℕ → Result (List (Span VersionValue)) Fault → Type 0
@@ -25,25 +26,17 @@ IsRangeOf text (Err fault) = Means MAX_SAFE_INTEGER text [] × (fault ≡ BadRan
 -- some texts are read as these versions, each as its own, or one of them as none
 abbrev pub AreVersionsOf : List (List ℕ) → Result (List VersionValue) Fault → Type 0
 AreVersionsOf texts (Ok vs) = AllZip (Parses MAX_SAFE_INTEGER) texts vs
-AreVersionsOf texts (Err fault) = Any (IsRefused MAX_SAFE_INTEGER) texts × (fault ≡ BadVersion)
+AreVersionsOf texts (Err fault) = Any (λ text. NoValue (Parses MAX_SAFE_INTEGER text)) texts × (fault ≡ BadVersion)
 
 -- a reply about what was read, or the word of the error
 pub data On {A : Type 0} (Reads : Result A Fault → Type 0) (Reply : A → List ℕ → Type 0) (answer : List ℕ) : Type 0 where
   read : (value : A) → Reads (Ok value) → Reply value answer → On Reads Reply answer
   fault : (why : Fault) → Reads (Err why) → answer ≡ fault_word why → On Reads Reply answer
 
--- a reply about two values that were read, or the word of the first error
-pub data OnBoth {A B : Type 0} (First : Result A Fault → Type 0) (Second : Result B Fault → Type 0) (Reply : A → B → List ℕ → Type 0) (answer : List ℕ) : Type 0 where
-  both_read : (a : A) (b : B) → First (Ok a) → Second (Ok b) → Reply a b answer → OnBoth First Second Reply answer
-  first_fault : (why : Fault) → First (Err why) → answer ≡ fault_word why → OnBoth First Second Reply answer
-  second_fault : (a : A) (why : Fault) → First (Ok a) → Second (Err why) → answer ≡ fault_word why → OnBoth First Second Reply answer
-
 -- the reply is this text
 abbrev pub Says : List ℕ → List ℕ → Type 0
 Says text answer = answer ≡ text
 
 -- the reply is the version that is so found, printed, or `none` where none is
-pub record SaysFound (IsFound : Option VersionValue → Type 0) (reply : List ℕ) : Type 0 where
-  pub found : Option VersionValue
-  pub is : IsFound found
-  pub printed : reply ≡ or_none version_text found
+abbrev pub SaysFound : (Option VersionValue → Type 0) → List ℕ → Type 0
+SaysFound IsFound reply = (found : Option VersionValue) × IsFound found × (reply ≡ or_none version_text found)

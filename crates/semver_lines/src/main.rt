@@ -4,6 +4,7 @@
 #![tactic(auto)]
 
 mod answer;
+mod best;
 mod command;
 mod fault;
 mod fields;

@@ -10,14 +10,15 @@ ghost use Rattle.semver_lines.specs.Commands.{match_reply, version_reply, versio
 ghost use Rattle.semver_lines.specs.Internal.Results.{IsTold, ParsesRange};
 ghost use Rattle.semver_lines.specs.Lines.{fields};
 ghost use Rattle.semver_lines.specs.Names.{next_text};
-ghost use Rattle.semver_lines.specs.Replies.{AreVersionsOf, IsRangeOf, On, OnBoth};
+ghost use Rattle.semver_lines.specs.Replies.{AreVersionsOf, IsRangeOf, On};
 ghost use Rattle.semver_lines.specs.declared.question.Question.{Question};
 
+use crate::best::best_of;
 use crate::fault::Fault;
 use crate::question::{
     AboutBest, AboutMatch, AboutRange, AboutRanges, AboutVersion, AboutVersions, Question,
 };
-use crate::read::{Parsed, range_of, version_of, versions};
+use crate::read::{Parsed, range_of, version_of};
 use crate::words::{
     borrowed_or_none, difference_word, next_text, order_word, range_or_none, truth_word,
     version_or_none,
@@ -126,7 +127,8 @@ fn parsed_ranges<'a, 't>(
     room: &'a mut String,
 ) -> Result<&'a str, Failure<Fault>>
     ensures { (text : List ℕ) → ParsesRange text parsed.now
-        → IsTold result (OnBoth (IsRangeOf text) (IsRangeOf s.now) (RangesReply asked)) }
+        → IsTold result (On (IsRangeOf text)
+        (λ range. On (IsRangeOf s.now) (RangesReply asked range))) }
 {
     let range = range_of(parsed)?;
     let other = RangeRef::parse(alloc, s);
@@ -151,34 +153,33 @@ fn on_match(
 }
 
 #[inline(never)]
-fn on_best<'a, 't>(
+fn on_best<'a>(
     alloc: Global,
-    r: &'t str,
-    vs: &'t str,
+    r: &str,
+    vs: &str,
     asked: AboutBest,
     room: &'a mut String,
 ) -> Result<&'a str, Failure<Fault>>
     ensures { IsTold result (IsReply (Question.Best (r.entry, vs.entry) asked)) }
 {
     let range = RangeRef::parse(alloc, r);
-    parsed_best(alloc, &range, vs, asked, room)
+    parsed_best(&range, vs, asked, room)
 }
 
 #[inline(always)]
-fn parsed_best<'a, 't>(
-    alloc: Global,
-    parsed: &Parsed<'t>,
-    vs: &'t str,
+fn parsed_best<'a>(
+    parsed: &Parsed<'_>,
+    vs: &str,
     asked: AboutBest,
     room: &'a mut String,
 ) -> Result<&'a str, Failure<Fault>>
     ensures { (text : List ℕ) → ParsesRange text parsed.now
-        → IsTold result
-        (OnBoth (IsRangeOf text) (AreVersionsOf (fields vs.now)) (BestReply asked)) }
+        → IsTold result (On (IsRangeOf text)
+        (λ range. On (AreVersionsOf (fields vs.now)) (BestReply asked range))) }
 {
     let range = range_of(parsed)?;
-    let versions = versions(alloc, vs)?;
-    Ok(asked.reply(range, &versions, room)?)
+    let best = best_of(asked, range, vs)?;
+    Ok(borrowed_or_none(best.as_ref(), room)?)
 }
 
 impl AboutVersion<'_> {
@@ -283,23 +284,6 @@ impl AboutMatch {
                 Ok(is_outside) => is_outside,
                 Err(_) => unreachable!(),
             },
-        }
-    }
-}
-
-impl AboutBest {
-    #[inline(always)]
-    fn reply<'a, 't>(
-        self,
-        r: &RangeRef<'t>,
-        vs: &[VersionRef<'t>],
-        room: &'a mut String,
-    ) -> Result<&'a str, AllocError>
-        ensures { IfOk result (λ text. BestReply self r.now vs.now text.now) }
-    {
-        match self {
-            AboutBest::Max => borrowed_or_none(r.max_satisfying(vs), room),
-            AboutBest::Min => borrowed_or_none(r.min_satisfying(vs), room),
         }
     }
 }

@@ -8,7 +8,7 @@ ghost use Rattle.semver_core.specs.Increments.View.{Returns, fault_of};
 ghost use Rattle.semver_core.specs.Printing.Text.{version_text};
 ghost use Rattle.semver_core.specs.Values.Versions.{VersionValue};
 ghost use Rattle.nodejs_semver.specs.Printing.Text.{range_text};
-ghost use Rattle.semver_lines.specs.Names.{increment_fault_word, next_text, or_none, order_word};
+ghost use Rattle.semver_lines.specs.Names.{next_text, or_none, order_word};
 ghost use Rattle.semver_lines.specs.Names.{truth_word};
 
 use nodejs_semver::{Failure, IncrementError, RangeRef, Version, VersionDiff, VersionRef};
@@ -103,7 +103,7 @@ pub fn range_or_none<'a>(
 }
 
 fn increment_fault_word(fault: &IncrementError) -> &'static str
-    ensures { result.now ≡ increment_fault_word (fault_of fault.now) }
+    ensures { result.now ≡ next_text (Err (fault_of fault.now)) }
 {
     match fault {
         IncrementError::InvalidIncrementArgument(_) => "bad argument",

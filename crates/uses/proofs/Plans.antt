@@ -1,4 +1,5 @@
 -- Picks on the way to a plan: one more pick keeps what is asked, met and taken.
+use Rattle.uses.specs.Internal.Search.{Agrees, HasNoPlan, IsPlan}
 use Rattle.std.proofs.Common.{◌≡◌, ◌≢◌, ap, subst, refl, sym, ◌∙◌, ℕ, ◌+◌, ◌<◌, ◌≤◌, ◌⊎◌, inl, inr, List, [], length, replicate}
 use Rattle.std.proofs.Common.{take, set, get_or, slice_index_or}
 use Rattle.std.proofs.Common.{Option, None, Some, IfNone, IfSome, All, Contains, true, false, arith, get_or-set_other}
@@ -13,7 +14,7 @@ use Rattle.nodejs_semver.specs.Ranges.Gate.{accepts}
 use Rattle.std.proofs.lemmas.List.{get_or-replicate, get_or_past, length-replicate, get_or_read, length-set, set-get_or, set-set}
 use Rattle.std.proofs.lemmas.Option.{none-some, same_Some, slice_get-get_or, slice_get_past}
 use Rattle.std.proofs.lemmas.List.Elements.{All-contains, All-more}
-use Rattle.uses.specs.Resolver.{Agrees, HasNoPlan, IsAsked, IsConflict, IsMet, IsPlan, IsPicked, MeetsAll, release_at}
+use Rattle.uses.specs.Resolver.{IsAsked, IsConflict, IsMet, IsPicked, MeetsAll, release_at}
 use Rattle.uses.specs.Resolver.{releases_of}
 use Rattle.uses.specs.declared.resolver.Conflict.{Conflict}
 use Rattle.uses.specs.declared.resolver.Conflict.TheVariants.{Unmatched, Clash}

@@ -1,3 +1,4 @@
 pub mod Release
 pub mod Subset
 pub mod Resolver
+pub mod Internal

@@ -4,8 +4,9 @@ use Rattle.std.specs.Option.{option_copied}
 use Rattle.std.specs.Ordering.{is_lt}
 use denote.Ref.{Bor}
 use Rattle.nodejs_semver.specs.Order.{precedence}
-use Rattle.nodejs_semver.specs.Parsing.{Parses, IsRefused}
+use Rattle.nodejs_semver.specs.Parsing.{Parses}
 use Rattle.nodejs_semver.specs.Versions.{VersionValue}
+use Rattle.semver_core.specs.Failures.{NoValue}
 use Rattle.semver_core.specs.Increments.Table.{answer_of_inc}
 use Rattle.semver_core.specs.Increments.View.{fault_of}
 use Rattle.uses.specs.declared.release.Refusal.{Refusal}
@@ -13,7 +14,7 @@ use Rattle.uses.specs.declared.release.Refusal.TheVariants.{NotAVersion, NotIncr
 
 -- what a refusal says of the text of the current version, the word and the identifier
 abbrev pub Explains : ℕ → List ℕ → List ℕ → Option (Bor (List ℕ)) → Refusal → Type 0
-Explains limit current word id NotAVersion = IsRefused limit current
+Explains limit current word id NotAVersion = NoValue (Parses limit current)
 Explains limit current word id (NotIncremented e) = (v : VersionValue) × Parses limit current v × (answer_of_inc v word (option_copied id) None ≡ Err (fault_of e))
 Explains limit current word id NotAbove = (v w : VersionValue) × Parses limit current v × (answer_of_inc v word (option_copied id) None ≡ Ok w) × (is_lt (precedence v w) ≡ false)
 Explains limit current word id Memory = ⊤

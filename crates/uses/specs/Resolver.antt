@@ -28,34 +28,23 @@ IsAsked root f q = Contains root q ⊎ ((p : ℕ) × (r : Release) × (f p ≡ S
 abbrev pub IsMet : (ℕ → Option Release) → Requirement → Type 0
 IsMet f q = (r : Release) × (f q.package ≡ Some r) × (accepts q.range r.version false ≡ true)
 
+-- f takes releases that meet the requirements of the root and their own
 abbrev pub MeetsAll : List Requirement → (ℕ → Option Release) → Type 0
 MeetsAll root f = (q : Requirement) → IsAsked root f q → IsMet f q
 
-abbrev pub IsUnmet : List Requirement → (ℕ → Option Release) → Requirement → Type 0
-IsUnmet root f q = IsAsked root f q × ¬ (IsMet f q)
-
--- f takes releases that meet the requirements of the root and their own
-abbrev pub IsPlan : List Package → List Requirement → (ℕ → Option Release) → Type 0
-IsPlan packages root f = IsChoice packages f × MeetsAll root f
-
 -- some releases ask for the package, and none of its releases has a version in the range; or they ask for it twice, and what
--- is taken
--- of it meets the first requirement and not the second
+-- is taken of it meets the first requirement and not the second
 abbrev pub IsConflict : List Package → List Requirement → Conflict → Type 0
 IsConflict packages root (Unmatched q) = (f : ℕ → Option Release) × IsChoice packages f × IsAsked root f q.now
     × All (λ r. accepts q.now.range r.version false ≡ false) (releases_of packages q.now.package)
 IsConflict packages root (Clash q s) = (f : ℕ → Option Release) × IsChoice packages f × IsAsked root f q.now
     × IsAsked root f s.now × (q.now.package ≡ s.now.package) × IsMet f q.now × ¬ (IsMet f s.now)
 
--- there is no plan, and this is a conflict
+-- no choice meets all requirements, and this is a conflict
 abbrev pub IsFailure : List Package → List Requirement → Failure Conflict → Type 0
-IsFailure packages root (Refused conflict) = ((f : ℕ → Option Release) → ¬ (IsPlan packages root f))
+IsFailure packages root (Refused conflict) = ((f : ℕ → Option Release) → ¬ (IsChoice packages f × MeetsAll root f))
     × IsConflict packages root conflict
 IsFailure packages root (Memory error) = ⊤
-
--- g takes what f takes, and maybe more
-abbrev pub Agrees : (ℕ → Option Release) → (ℕ → Option Release) → Type 0
-Agrees f g = (p : ℕ) (r : Release) → f p ≡ Some r → g p ≡ Some r
 
 -- the release that a list of picks takes of each package
 abbrev pub release_at : List (Option Pick) → ℕ → Option Release
@@ -67,7 +56,3 @@ pub record IsPicked (packages : List Package) (root : List Requirement) (picks :
   pub choice : IsChoice packages (release_at picks)
   pub asked : (p : ℕ) (pick : Pick) → slice_index_or picks p None ≡ Some pick → (pick.requirement.now.package ≡ p)
       × IsAsked root (release_at picks) pick.requirement.now × IsMet (release_at picks) pick.requirement.now
-
--- no plan takes these releases, and maybe more
-abbrev pub HasNoPlan : List Package → List Requirement → List (Option Pick) → Type 0
-HasNoPlan packages root picks = (f : ℕ → Option Release) → IsPlan packages root f → ¬ (Agrees (release_at picks) f)

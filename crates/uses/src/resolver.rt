@@ -1,9 +1,10 @@
 //! A resolver: a release of each package that is needed, so that every requirement is met.
 
+ghost use Rattle.uses.specs.Internal.Search.{IsUnmet, HasNoPlan};
 ghost use Rattle.std.specs.Prelude.{◌≡◌, All, Contains, IfErr, IfNone, IfOk, IfSome};
 ghost use Rattle.std.specs.Prelude.{slice_index_or};
-ghost use Rattle.uses.specs.Resolver.{HasNoPlan, IsConflict, IsFailure, IsMet, IsPicked};
-ghost use Rattle.uses.specs.Resolver.{IsUnmet, MeetsAll, release_at};
+ghost use Rattle.uses.specs.Resolver.{IsConflict, IsFailure, IsMet, IsPicked};
+ghost use Rattle.uses.specs.Resolver.{MeetsAll, release_at};
 
 use nodejs_semver::{Failure, Range, Version};
 use std::alloc::Global;

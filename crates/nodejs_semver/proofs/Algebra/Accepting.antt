@@ -1,19 +1,20 @@
 -- What two lists of spans hold and accept: their intersection, and what one leaves of the other.
-use Rattle.std.proofs.Common.{◌≡◌, refl, sym, ◌∙◌, ap, ap₂, Bool, true, false, ◌&&◌, ◌||◌, not, if◌then◌else◌, List, [], ◌∷◌, ◌++◌, Option, Some, None, is_some, inl, inr, arith, option_to_list, is_gt, Ordering}
-use Rattle.std.proofs.Math.Bool.{and-true, or-false}
-use Rattle.std.proofs.lemmas.Bool.{and_cases, and_parts, cond_both, not-false, not-true, or_left, or_parts, or_right}
+use Rattle.std.proofs.Common.{◌≡◌, refl, sym, ◌∙◌, ap, Bool, true, false, ◌&&◌, ◌||◌, not, if◌then◌else◌, List, [], ◌∷◌, ◌++◌, Option, is_some, arith, option_to_list, is_gt, Ordering}
+use Rattle.std.proofs.Math.Bool.{and-true}
+use Rattle.std.proofs.lemmas.Bool.{and_cases, and_parts, not-false, not-true, or_left, or_parts, or_right}
 use Rattle.std.proofs.lemmas.List.Folds.{list_any-append}
 use Rattle.std.specs.Cmp.{IsTotalOrder}
 use Rattle.std.specs.List.{list_any, flat_map}
+use Rattle.nodejs_semver.specs.Internal.Sets.{option_list_holds, option_accepts, meets_of, minus}
 use Rattle.semver_core.proofs.CutLaws.{between_parts, lt, option_holds-interval, option_holds-meet, past_below, remainders-hold, remainders_by, turned_lower, turned_upper}
 use Rattle.nodejs_semver.proofs.Algebra.FlatMaps.{any_either, any_flat, any_pairs, any_same, any_weaker}
 use Rattle.nodejs_semver.proofs.Algebra.Gate.{both, lets_in-meet, names_above, names_below}
-use Rattle.semver_core.specs.Cuts.{Span, cut_cmp, lower_cut, upper_cut, is_past, is_interval, interval, holds, meet, left_below, left_above, option_holds, remainders}
+use Rattle.semver_core.specs.Cuts.{Span, cut_cmp, lower_cut, upper_cut, is_past, is_interval, interval, holds, meet, left_below, left_above, option_holds}
 use Rattle.semver_core.specs.declared.cuts.bound.Bound.{Bound}
 use Rattle.semver_core.specs.Internal.OrderLaws.{precedence_total}
 use Rattle.semver_core.specs.Lists.{if_any}
-use Rattle.nodejs_semver.specs.Ranges.Algebra.{list_holds, meets_of, minus, option_list_holds, remainder}
-use Rattle.nodejs_semver.specs.Ranges.Gate.{names, lets_in, accepts, option_accepts}
+use Rattle.nodejs_semver.specs.Ranges.Algebra.{list_holds, remainder}
+use Rattle.nodejs_semver.specs.Ranges.Gate.{names, lets_in, accepts}
 use Rattle.semver_core.specs.Values.Order.{precedence}
 use Rattle.semver_core.specs.Values.Versions.{VersionValue, is_release}
 
@@ -21,8 +22,7 @@ use Rattle.semver_core.specs.Values.Versions.{VersionValue, is_release}
 
 module _ {V : Type 0} {R : V → V → Ordering} (o : IsTotalOrder R) where
   holds_option : (m : Option (Span V)) (v : V) → list_holds R (option_to_list m) v ≡ option_holds R m v
-  holds_option None v = refl
-  holds_option (Some s) v = or-false (holds R s v)
+  holds_option m v = grind arith
 
   -- what two lists have in common is the points that both hold
   pub list_holds-meets_of : (ss ts : List (Span V)) (v : V) → list_holds R
@@ -36,17 +36,13 @@ module _ {V : Type 0} {R : V → V → Ordering} (o : IsTotalOrder R) where
   minus_one : (ss : List (Span V)) (t : Span V) (v : V) → list_holds R
       (flat_map (λ s. remainder R s t) ss) v ≡ (list_holds R ss v && not (holds R t v))
   minus_one [] t v = refl
-  minus_one (s ∷ ss) t v =
-      list_any-append (λ s. holds R s v) (remainder R s t) (flat_map (λ s. remainder R s t) ss)
-      ∙ ap₂ (λ a b. a || b) left (minus_one ss t v) ∙ spread (holds R s v) (list_holds R ss v) (not (holds R t v))
+  minus_one (s ∷ ss) t v = grind (arith, list_any-append, left, spread, minus_one ss t v)
     where
       spread : (a b c : Bool) → ((a && c) || (b && c)) ≡ ((a || b) && c)
       spread a b c = grind arith
 
       left : list_holds R (remainder R s t) v ≡ (holds R s v && not (holds R t v))
-      left =
-          list_any-append (λ s. holds R s v) (option_to_list (remainders R s t).0) (option_to_list (remainders R s t).1)
-          ∙ rw (holds_option (remainders R s t).0 v, holds_option (remainders R s t).1 v) (remainders-hold o s t v)
+      left = grind (arith, list_any-append, holds_option, remainders-hold)
 
   -- what is left of a list is the points that it holds and the other does not
   pub list_holds-minus : (ss ts : List (Span V)) (v : V) → list_holds R
@@ -62,8 +58,7 @@ module _ {V : Type 0} {R : V → V → Ordering} (o : IsTotalOrder R) where
 
 pub option_list_holds-if_any : {V : Type 0} (R : V → V → Ordering) (ss : List (Span V)) (v : V)
     → option_list_holds R (if_any ss) v ≡ list_holds R ss v
-option_list_holds-if_any R [] v = refl
-option_list_holds-if_any R (s ∷ ss) v = refl
+option_list_holds-if_any R ss v = grind arith
 
 -- ---- the gate
 
@@ -74,9 +69,7 @@ admits v s = holds precedence s v && lets_in s v
 -- a test of what there is of a span, if it is an interval
 any_interval : (p : Span VersionValue → Bool) (s : Span VersionValue)
     → list_any p (option_to_list (interval precedence s)) ≡ (is_interval precedence s && p s)
-any_interval p s =
-    cond_both (is_interval precedence s) (Some s) None (λ m. list_any p (option_to_list m) ≡ (is_interval precedence s && p s))
-    (λ h. rw h (or-false (p s))) (λ h. rw h refl)
+any_interval p s = grind arith
 
 -- what is let in by what two spans have in common, one of them lets in
 lets_in_one : (s t : Span VersionValue) (v : VersionValue) → lets_in (both s t) v ≡ true → (lets_in s v || lets_in t v) ≡ true
@@ -86,8 +79,7 @@ lets_in_one s t v h =
     (picked (is_gt (cut_cmp precedence (upper_cut s.upper) (upper_cut t.upper))) t.upper s.upper) h
   where
     picked : (i : Bool) (b c : Bound VersionValue) → names (if i then b else c) v ≡ true → (names b v || names c v) ≡ true
-    picked true b c h = or_left (names b v) (names c v) h
-    picked false b c h = or_right (names b v) (names c v) h
+    picked i b c h = grind arith
 
     either : (r a b c d l u : Bool) → (l ≡ true → (a || c) ≡ true) → (u ≡ true → (d || b) ≡ true) → (r || (l || u)) ≡ true
         → ((r || (a || b)) || (r || (c || d))) ≡ true
@@ -107,8 +99,7 @@ admits-meet s t v =
     exact i h l p q m f e g k = grind arith
 
     held : holds precedence (both s t) v ≡ true → is_interval precedence (both s t) ≡ true
-    held h = let (p, q) = and_parts _ _ h in past_below precedence_total (lower_cut (both s t).lower)
-        (upper_cut (both s t).upper) v p (not-true _ q)
+    held h = grind (arith, and_parts, past_below, precedence_total, both, not-true)
 
 accepts-meets_of : (ss ts : List (Span VersionValue)) (v : VersionValue)
     → accepts (meets_of precedence ss ts) v false ≡ list_any (λ s. list_any
@@ -118,17 +109,12 @@ accepts-meets_of ss ts v = any_flat (admits v) _ ss ∙ any_same _ _
 
 pub option_accepts-if_any : (ss : List (Span VersionValue)) (v : VersionValue) (include : Bool)
     → option_accepts (if_any ss) v include ≡ accepts ss v include
-option_accepts-if_any [] v include = refl
-option_accepts-if_any (s ∷ ss) v include = refl
+option_accepts-if_any ss v include = grind arith
 
 -- the intersection accepts what both accept, and nothing that neither accepts
 pub both_accept : (ss ts : List (Span VersionValue)) (v : VersionValue) → accepts ss v false ≡ true → accepts ts v false ≡ true
     → option_accepts (if_any (meets_of precedence ss ts)) v false ≡ true
-both_accept ss ts v h k =
-    option_accepts-if_any (meets_of precedence ss ts) v false
-    ∙ accepts-meets_of ss ts v
-    ∙ any_weaker (admits v) _ (λ s a. any_weaker (admits v) _
-    (λ t b. both_in (holds precedence s v) (lets_in s v) (holds precedence t v) (lets_in t v) a b) ts k) ss h
+both_accept ss ts v h k = grind (arith, option_accepts-if_any, accepts-meets_of, any_weaker, both_in)
   where
     both_in : (p l q m : Bool) → (p && l) ≡ true → (q && m) ≡ true → ((p && q) && (l || m)) ≡ true
     both_in p l q m f g = grind arith
@@ -173,16 +159,7 @@ remainder_admits s t v h k =
 
     met : is_interval precedence (both s t) ≡ true → list_any (admits v)
         (option_to_list (left_below precedence s t) ++ option_to_list (left_above precedence s t)) ≡ true
-    met m =
-        let in_order = between_parts precedence_total s.lower t.lower s.upper t.upper m in
-        let low = option_to_list (left_below precedence s t) in
-        let high = option_to_list (left_above precedence s t) in
-        list_any-append (admits v) low high
-        ∙ elim (and_cases (is_past precedence (lower_cut t.lower) v) (not (is_past precedence (upper_cut t.upper) v)) k) [
-          | inl e ↦ or_left (list_any (admits v) low) (list_any (admits v) high) (below in_order.1.0 e)
-          | inr e ↦ or_right (list_any (admits v) low) (list_any (admits v) high)
-              (above in_order.0.1 (not-false (is_past precedence (upper_cut t.upper) v) e))
-        ]
+    met m = grind (arith, between_parts, precedence_total, list_any-append, and_cases, or_left, below, or_right, above, not-false)
 
 -- what one list accepts and the other does not hold, what is left accepts
 pub accepts-minus : (ss ts : List (Span VersionValue)) (v : VersionValue) → accepts ss v false ≡ true
@@ -203,15 +180,11 @@ accepts-held ss v = any_same _ _ (λ s. and-true (holds precedence s v)) ss
 
 -- there is an intersection exactly where some pair meets
 if_any_some : {A : Type 0} (xs : List A) → is_some (if_any xs) ≡ list_any (λ _. true) xs
-if_any_some [] = refl
-if_any_some (x ∷ xs) = refl
+if_any_some xs = grind arith
 
 option_some : {A : Type 0} (m : Option A) → is_some m ≡ list_any (λ _. true) (option_to_list m)
-option_some None = refl
-option_some (Some x) = refl
+option_some m = grind arith
 
 pub meets_one_some : {V : Type 0} (R : V → V → Ordering) (ss ts : List (Span V)) → list_any
     (λ s. list_any (λ t. is_some (meet R s t)) ts) ss ≡ is_some (if_any (meets_of R ss ts))
-meets_one_some R ss ts =
-    any_same _ _ (λ s. any_same _ _ (λ t. option_some (meet R s t)) ts ∙ sym (any_flat (λ _. true) _ ts)) ss
-    ∙ sym (if_any_some (meets_of R ss ts) ∙ any_flat (λ _. true) _ ss)
+meets_one_some R ss ts = grind (arith, any_same, option_some, any_flat, if_any_some)

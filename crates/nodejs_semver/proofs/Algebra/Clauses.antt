@@ -1,30 +1,29 @@
 -- What the intersection and the difference of two lists hold and accept, and that their intervals are those of a range.
-use Rattle.std.proofs.Common.{subst, ◌≡◌, refl, sym, ◌∙◌, ap, ℕ, ◌+◌, true, false, ◌&&◌, ◌||◌, not, List, Option, Some, None}
+use Rattle.std.proofs.Common.{ap, subst, ◌≡◌, sym, ◌∙◌, ℕ, ◌+◌, true, false, ◌&&◌, ◌||◌, not, List, Option, arith}
 use Rattle.std.proofs.lemmas.Result.{IfOk-weaker}
 use Rattle.std.specs.Prelude.{IfOk, Result}
 use Rattle.std.specs.Cmp.{first_so}
 use Rattle.std.specs.List.{list_all}
+use Rattle.nodejs_semver.specs.Internal.Sets.{option_list_holds, option_accepts, meets_of, minus, is_range_span}
 use Rattle.semver_core.specs.Cuts.{Span, is_interval}
 use Rattle.semver_core.specs.Values.Order.{precedence}
 use Rattle.semver_core.specs.Internal.OrderLaws.{precedence_total}
 use Rattle.semver_core.specs.Values.Versions.{VersionValue, is_release}
 use Rattle.semver_core.specs.declared.TheConstants.{MAX_SAFE_INTEGER}
-use Rattle.nodejs_semver.specs.Ranges.Gate.{accepts, option_accepts}
-use Rattle.nodejs_semver.specs.Ranges.Algebra.{intersection, difference, list_holds, option_list_holds, meets_of, minus}
-use Rattle.nodejs_semver.specs.Ranges.View.{IsRange, is_range_span, is_range_bound}
+use Rattle.nodejs_semver.specs.Ranges.Gate.{accepts}
+use Rattle.nodejs_semver.specs.Ranges.Algebra.{intersection, difference, list_holds}
+use Rattle.nodejs_semver.specs.Ranges.View.{IsRange, is_range_bound}
 use Rattle.nodejs_semver.proofs.Algebra.Accepting.{accepts-held, accepts-minus, accepts-release, both_accept, list_holds-meets_of, list_holds-minus, one_accepts, option_accepts-if_any, option_list_holds-if_any}
 use Rattle.nodejs_semver.proofs.Algebra.FlatMaps.{all_weaker}
 use Rattle.nodejs_semver.proofs.Algebra.Spans.{fine-meets_of, fine-minus}
 
 option_accepts-held : (r : Option (List (Span VersionValue))) (v : VersionValue)
     → option_accepts r v true ≡ option_list_holds precedence r v
-option_accepts-held None v = refl
-option_accepts-held (Some ss) v = accepts-held ss v
+option_accepts-held r v = grind (arith, accepts-held)
 
 option_accepts-release : (r : Option (List (Span VersionValue))) (v : VersionValue) → is_release v ≡ true
     → option_accepts r v false ≡ option_list_holds precedence r v
-option_accepts-release None v h = refl
-option_accepts-release (Some ss) v h = accepts-release ss v h
+option_accepts-release r v h = grind (arith, accepts-release)
 
 -- what holds of a list holds of a result that is this list
 of_result : {E : Type 0} (list : Option (List (Span VersionValue))) (r : Result (Option (List (Span VersionValue))) E)
@@ -33,13 +32,11 @@ of_result list r e P h = IfOk-weaker r _ P (λ q k. subst P (sym k) h) e
 
 intersection-set : (a b : List (Span VersionValue)) (v : VersionValue)
     → option_list_holds precedence (intersection a b) v ≡ (list_holds precedence a v && list_holds precedence b v)
-intersection-set a b v =
-    option_list_holds-if_any precedence (meets_of precedence a b) v ∙ list_holds-meets_of precedence_total a b v
+intersection-set a b v = option_list_holds-if_any precedence (meets_of precedence a b) v ∙ list_holds-meets_of precedence_total a b v
 
 difference-set : (a b : List (Span VersionValue)) (v : VersionValue)
     → option_list_holds precedence (difference a b) v ≡ (list_holds precedence a v && not (list_holds precedence b v))
-difference-set a b v =
-    option_list_holds-if_any precedence (minus precedence a b) v ∙ list_holds-minus precedence_total a b v
+difference-set a b v = option_list_holds-if_any precedence (minus precedence a b) v ∙ list_holds-minus precedence_total a b v
 
 module _ {E : Type 0} (a b : List (Span VersionValue)) (r : Result (Option (List (Span VersionValue))) E)
     (e : IfOk r (λ q. q ≡ intersection a b)) where
@@ -103,5 +100,4 @@ all_intervals n = all_weaker (is_range_span n) (is_interval precedence) (λ s h.
 
 pub range-intervals : (a xs : List (Span VersionValue)) → IsRange MAX_SAFE_INTEGER a → xs ≡ a
     → list_all (is_interval precedence) xs ≡ true
-range-intervals a xs h e = all_intervals (MAX_SAFE_INTEGER + 1) xs
-    (ap (list_all (is_range_span (MAX_SAFE_INTEGER + 1))) e ∙ h.each)
+range-intervals a xs h e = all_intervals (MAX_SAFE_INTEGER + 1) xs (ap (list_all (is_range_span (MAX_SAFE_INTEGER + 1))) e ∙ h.each)

@@ -1,19 +1,20 @@
 -- What is left of a list is what of each of its spans lies within what is left of the whole line.
 use Rattle.std.proofs.Common.{append_assoc, ap₂, ◌≡◌, refl, sym, ◌∙◌, ap, subst, ℕ, zero, suc, ◌+◌, ◌<◌, ◌≤◌, length, length-drop, get_or, take, drop, Bool, true, false, ◌&&◌, not, inl, inr, if◌then◌else◌, List, [], ◌∷◌, ◌++◌, Option, Some, None, is_some, arith, append-nil, take_all, get_or-drop, option_to_list, is_lt, Ordering}
 use Rattle.std.proofs.lemmas.Bool.{and_from, and_parts, cases_Bool, not-false, not-true}
-use Rattle.std.proofs.Math.Bool.{and-false, and-true}
+use Rattle.std.proofs.Math.Bool.{and-false}
 use Rattle.std.proofs.lemmas.Grind.{flat_map-append, fold-append}
 use Rattle.std.specs.Cmp.{IsTotalOrder}
 use Rattle.std.specs.List.{AllWithin, flat_map, list_all}
 use Rattle.std.specs.List.Sorted.{IsPartitionedBy, IsPartitionPoint}
+use Rattle.nodejs_semver.specs.Internal.Sets.{minus}
 use Rattle.semver_core.proofs.CutLaws.{is_some-interval, between, below_lesser, below_upto, between_from, between_parts, gt_lt, irreflexive, lt, lt_trans, greater_below, not_above, not_below, not_if, one_way, remainders_by, turned_lower, turned_upper, upto_below}
 use Rattle.nodejs_semver.proofs.Algebra.FlatMaps.{flat_flat, flat_same}
 use Rattle.nodejs_semver.proofs.Dividing.RunLemmas.{greater_assoc, lesser_assoc}
 use Rattle.semver_core.specs.Clips.{clip}
 use Rattle.semver_core.specs.Cuts.{Span, Cut, Start, cut_cmp, lower_cut, upper_cut, is_interval, greater_lower, lesser_upper}
-use Rattle.nodejs_semver.specs.Ranges.Algebra.{remainder, minus}
+use Rattle.nodejs_semver.specs.Ranges.Algebra.{remainder}
 use Rattle.semver_core.specs.declared.cuts.bound.Bound.{Bound}
-use Rattle.semver_core.specs.declared.cuts.bound.Bound.TheVariants.{Unbounded, Before, After}
+use Rattle.semver_core.specs.declared.cuts.bound.Bound.TheVariants.{Unbounded}
 use Rattle.nodejs_semver.specs.Internal.Along.{IsAlong}
 
 -- one element or none
@@ -21,35 +22,26 @@ abbrev pick : {A : Type 0} → Bool → A → List A
 pick i x = option_to_list (if i then Some x else None)
 
 flat_pick : {A B : Type 0} (f : A → List B) (i : Bool) (x : A) → flat_map f (pick i x) ≡ (if i then f x else [])
-flat_pick f true x = append-nil (f x)
-flat_pick f false x = refl
+flat_pick f i x = grind (arith, append-nil)
 
 nested : {A : Type 0} (i j : Bool) (x : A) → (if i then pick j x else []) ≡ pick (i && j) x
-nested true j x = refl
-nested false j x = refl
+nested i j x = grind arith
 
 single : {A : Type 0} (i : Bool) (x : A) → (if i then x ∷ [] else []) ≡ pick i x ++ []
-single true x = refl
-single false x = refl
+single i x = grind arith
 
 in_two : {A : Type 0} (i : Bool) (l m n : List A) → (i ≡ true → l ≡ m ++ n)
     → (if i then l else []) ≡ (if i then m else []) ++ (if i then n else [])
-in_two true l m n h = h refl
-in_two false l m n h = refl
+in_two i l m n h = grind arith
 
 pick_when : {A : Type 0} (i : Bool) (x y : A) → (i ≡ true → x ≡ y) → pick i x ≡ pick i y
-pick_when true x y h = ap (λ z. z ∷ []) (h refl)
-pick_when false x y h = refl
+pick_when i x y h = grind arith
 
 all_five : (a b c d e : Bool) → (((a && b) && (c && d)) && e) ≡ ((a && (b && true)) && (c && (d && e)))
-all_five false b c d e = refl
-all_five true false c d e = refl
-all_five true true false d e = refl
-all_five true true true d e = refl
+all_five a b c d e = grind arith
 
 five_all : (a b c d e : Bool) → (((a && b) && (c && d)) && (e && true)) ≡ (((e && a) && b) && (c && d))
-five_all a b c d true = and-true _
-five_all a b c d false = and-false _
+five_all a b c d e = grind arith
 
 module _ {V : Type 0} {R : V → V → Ordering} (o : IsTotalOrder R) where
   abbrev whole : Span V
@@ -80,13 +72,11 @@ module _ {V : Type 0} {R : V → V → Ordering} (o : IsTotalOrder R) where
 
   left_lower : (s t : Span V) → lt o (lower_cut s.lower) (lower_cut t.lower) ≡ true
       → lesser_upper R s.upper t.lower ≡ (if lt o (lower_cut t.lower) (upper_cut s.upper) then t.lower else s.upper)
-  left_lower s t h = ap (λ i. if i then t.lower else s.upper)
-      (gt_lt o (upper_cut s.upper) (upper_cut t.lower) ∙ ap (λ a. lt o a (upper_cut s.upper)) (turned_lower o t.lower _ h))
+  left_lower s t h = grind (arith, gt_lt, turned_lower)
 
   left_upper : (s t : Span V) → lt o (upper_cut t.upper) (upper_cut s.upper) ≡ true
       → greater_lower R t.upper s.lower ≡ (if lt o (lower_cut s.lower) (upper_cut t.upper) then t.upper else s.lower)
-  left_upper s t h = ap (λ i. if i then t.upper else s.lower)
-      (gt_lt o (lower_cut t.upper) (lower_cut s.lower) ∙ ap (lt o (lower_cut s.lower)) (turned_upper o t.upper _ h))
+  left_upper s t h = grind (arith, gt_lt, turned_upper)
 
   remainder_is : (s t : Span V) → is_interval R s ≡ true → is_interval R t ≡ true
       → remainder R s t ≡ below s t.lower ++ above s t.upper
@@ -117,8 +107,7 @@ module _ {V : Type 0} {R : V → V → Ordering} (o : IsTotalOrder R) where
   clip_piece : (s c y z : Span V) (i j : Bool) → z ≡ clipped s y
       → (is_interval R (clipped s c) && i) ≡ (j && is_interval R (clipped s y))
       → (if is_interval R (clipped s c) then pick i z else []) ≡ clips (pick j y) s
-  clip_piece s c y z i j e f =
-      nested _ i z ∙ ap₂ pick f e ∙ sym (flat_pick (λ d. option_to_list (clip R s d)) j y ∙ nested j _ (clipped s y))
+  clip_piece s c y z i j e f = grind (arith, nested, flat_pick)
 
   clip_below : (s c : Span V) (b : Bound V) → (if is_interval R (clipped s c) then below (clipped s c) b else [])
       ≡ clips (below c b) s
@@ -133,8 +122,7 @@ module _ {V : Type 0} {R : V → V → Ordering} (o : IsTotalOrder R) where
         below_lesser o c.upper b,
       )
       (elim (cases_Bool (lt o (lower_cut c.lower) (lower_cut b))) [
-        | inl h ↦ rw (turned_lower o b _ h, h)
-            (search all_five)
+        | inl h ↦ rw (turned_lower o b _ h, h) (search all_five)
         | inr h ↦ rw h (and-false _)
       ]))
 
@@ -146,14 +134,12 @@ module _ {V : Type 0} {R : V → V → Ordering} (o : IsTotalOrder R) where
       (rw (
         between o c.lower s.lower s.upper c.upper,
         below_lesser o s.upper c.upper (upper_cut b),
-        between o
-            (greater_lower R b c.lower) s.lower s.upper c.upper,
+        between o (greater_lower R b c.lower) s.lower s.upper c.upper,
         greater_below o b c.lower,
         greater_below o b c.lower,
       )
       (elim (cases_Bool (lt o (upper_cut b) (upper_cut c.upper))) [
-        | inl h ↦ rw (turned_upper o b _ h, h)
-            (search five_all)
+        | inl h ↦ rw (turned_upper o b _ h, h) (search five_all)
         | inr h ↦ rw (h, and-false (lt o (upper_cut b) (upper_cut s.upper)), and-false _) refl
       ]))
 
@@ -197,14 +183,10 @@ module _ {V : Type 0} {R : V → V → Ordering} (o : IsTotalOrder R) where
 
   -- an interval lies within the whole line
   first_whole : (b : Bound V) → greater_lower R Unbounded b ≡ b
-  first_whole Unbounded = refl
-  first_whole (Before v) = refl
-  first_whole (After v) = refl
+  first_whole b = grind arith
 
   second_whole : (b : Bound V) → lesser_upper R b Unbounded ≡ b
-  second_whole Unbounded = refl
-  second_whole (Before v) = refl
-  second_whole (After v) = refl
+  second_whole b = grind arith
 
   clips_whole : (s : Span V) → is_interval R s ≡ true → clips (whole ∷ []) s ≡ s ∷ []
   clips_whole s h = rw (first_whole s.lower, second_whole s.upper, h) refl
@@ -223,15 +205,7 @@ module _ {V : Type 0} {R : V → V → Ordering} (o : IsTotalOrder R) where
   along_above : (b : Cut V) (c t : Span V) (cs : List (Span V)) → is_interval R c ≡ true → IsAlong R (upper_cut c.upper) cs
       → lt o (upper_cut c.upper) b ≡ false → (lt o (upper_cut t.upper) b && lt o (lower_cut c.lower) b) ≡ false
       → IsAlong R b (above c t.upper ++ cs)
-  along_above b c t cs h k p q = elim (cases_Bool (lt o (upper_cut t.upper) (upper_cut c.upper))) [
-    | inr f ↦ rw f (along_lower b (upper_cut c.upper) cs p k)
-    | inl i ↦
-        let turned = turned_upper o t.upper _ i in
-        rw i (
-          greater_below o t.upper c.lower b ∙ rw turned q,
-          (greater_below o t.upper c.lower (upper_cut c.upper) ∙ rw (turned, i, h) refl, k),
-        )
-  ]
+  along_above b c t cs h k p q = grind (arith, along_lower, turned_upper, greater_below)
 
   along_remainder : (a : Cut V) (c t : Span V) (cs : List (Span V)) → IsAlong R a (c ∷ cs) → IsAlong R a (remainder R c t ++ cs)
   along_remainder a c t cs h = elim (cases_Bool (is_interval R t)) [
@@ -263,8 +237,7 @@ module _ {V : Type 0} {R : V → V → Ordering} (o : IsTotalOrder R) where
   along_remainders : (a : Cut V) (cs : List (Span V)) (t : Span V) → IsAlong R a cs
       → IsAlong R a (flat_map (λ c. remainder R c t) cs)
   along_remainders a [] t h = tt
-  along_remainders a (c ∷ cs) t h =
-      along_remainder a c t (flat_map (λ c. remainder R c t) cs) (h.0, (h.1.0, along_remainders (upper_cut c.upper) cs t h.1.1))
+  along_remainders a (c ∷ cs) t h = grind (arith, along_remainder, along_remainders (upper_cut c.upper) cs t h.1.1)
 
   along_minus : (a : Cut V) (cs ts : List (Span V)) → IsAlong R a cs → IsAlong R a (minus R cs ts)
   along_minus a cs [] h = h
@@ -306,11 +279,7 @@ module _ {V : Type 0} {R : V → V → Ordering} (o : IsTotalOrder R) where
   ends_past a (c ∷ cs) (suc j) d h k =
       let n = ends_past (upper_cut c.upper) cs j d h.1.1 (omega arith) in
       not_if _ _ (λ e. lt_trans o (lower_cut c.lower) (upper_cut c.upper) a h.1.0
-      (refute_le e n)) h.0
-    where
-      refute_le : lt o (upper_cut (get_or cs j d).upper) a ≡ true
-          → lt o (upper_cut (get_or cs j d).upper) (upper_cut c.upper) ≡ false → lt o (upper_cut c.upper) a ≡ true
-      refute_le e n = upto_below o (upper_cut c.upper) (upper_cut (get_or cs j d).upper) a n e
+      (upto_below o (upper_cut c.upper) (upper_cut (get_or cs j d).upper) a n e)) h.0
 
   ends_rise : (a : Cut V) (cs : List (Span V)) (i j : ℕ) (d : Span V) → IsAlong R a cs → i ≤ j → j < length cs
       → lt o (upper_cut (get_or cs j d).upper) (upper_cut (get_or cs i d).upper) ≡ false
@@ -325,9 +294,7 @@ module _ {V : Type 0} {R : V → V → Ordering} (o : IsTotalOrder R) where
   falls_short s c = not (is_lt (cut_cmp R (lower_cut s.lower) (upper_cut c.upper)))
 
   pub parted : (s : Span V) (cs : List (Span V)) → IsAlong R Start cs → IsPartitionedBy (falls_short s) cs
-  parted s cs h i j d l k e =
-      ap not (not_if _ _ (λ p. below_upto o (lower_cut s.lower) (upper_cut (get_or cs i d).upper)
-      (upper_cut (get_or cs j d).upper) p (ends_rise Start cs i j d h l k)) (not-true _ e))
+  parted s cs h i j d l k e = grind (arith, below_upto, ends_rise)
 
   -- nothing is cut where they are apart
   no_clip : (s c : Span V) → is_interval R (clipped s c) ≡ false → option_to_list (clip R s c) ≡ []
@@ -384,9 +351,7 @@ module _ {V : Type 0} {R : V → V → Ordering} (o : IsTotalOrder R) where
   along_drop : (a : Cut V) (cs : List (Span V)) (r : ℕ) → IsAlong R a cs → IsAlong R a (drop r cs)
   along_drop a cs zero h = h
   along_drop a [] (suc r) h = tt
-  along_drop a (c ∷ cs) (suc r) h =
-      along_lower a (upper_cut c.upper) (drop r cs) (not_below o (lower_cut c.lower) (upper_cut c.upper) a h.1.0 h.0)
-      (along_drop (upper_cut c.upper) cs r h.1.1)
+  along_drop a (c ∷ cs) (suc r) h = grind (arith, along_lower, not_below, along_drop (upper_cut c.upper) cs r h.1.1)
 
   -- the pieces from the first that does not fall short of s up to one that is past it, or to the last
   module _ (s : Span V) (cs : List (Span V)) (r : ℕ) (b : r ≤ length cs)
@@ -407,7 +372,4 @@ module _ {V : Type 0} {R : V → V → Ordering} (o : IsTotalOrder R) where
     pub clips-to_none : (near : List (Span V)) (i : ℕ) (d : Span V) (part : Option (Span V)) → near ≡ drop r cs
         → IsAlong R Start cs → i < length near
         → d ≡ get_or near i d → part ≡ clip R s d → is_some part ≡ false → clips (take i near) s ≡ clips cs s
-    clips-to_none near i d part e h k at is n =
-        ap (λ l. clips (take i l) s) e
-        ∙ to_none i d h (subst (λ l. i < length l) e k)
-        (ap is_some (ap (λ l. clip R s (get_or l i d)) (sym e) ∙ ap (λ q. clip R s q) (sym at) ∙ sym is) ∙ n)
+    clips-to_none near i d part e h k at is n = grind (arith, to_none)

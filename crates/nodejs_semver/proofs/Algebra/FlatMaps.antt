@@ -1,6 +1,6 @@
 -- Lists that are joined from a list for each element of another, and tests of their elements.
 use Rattle.std.proofs.Common.{◌≡◌, refl, sym, ◌∙◌, ap, ap₂, ℕ, ◌+◌, ◌<◌, Bool, true, false, ◌&&◌, ◌||◌, List, [], ◌∷◌, ◌++◌, length, get_or, take, not, inl, inr, arith}
-use Rattle.std.proofs.lemmas.Bool.{and_parts, or_cases, or_left, or_right}
+use Rattle.std.proofs.lemmas.Bool.{and_parts, or_cases}
 use Rattle.std.proofs.lemmas.Grind.{flat_map-append}
 use Rattle.std.proofs.lemmas.List.{append-nil, take_more}
 use Rattle.std.proofs.lemmas.List.Folds.{Any-from_list_any, list_all-append, list_any-append, list_any_at}
@@ -8,8 +8,7 @@ use Rattle.semver_core.specs.Lists.{is_empty}
 use Rattle.std.specs.List.{flat_map, list_all, list_any}
 
 pub empty_is : {A : Type 0} (xs : List A) → is_empty xs ≡ true → xs ≡ []
-empty_is [] h = refl
-empty_is (x ∷ xs) h = cc
+empty_is xs h = grind arith
 
 -- one more element, whose list was put at the end
 pub flat_step : {A B : Type 0} (f : A → List B) (xs : List A) (i : ℕ) (x : A) (old new : List B) → i < length xs
@@ -48,9 +47,7 @@ any_same p q h (x ∷ xs) = ap₂ (λ a b. a || b) (h x) (any_same p q h xs)
 
 pub any_weaker : {A : Type 0} (p q : A → Bool) → ((x : A) → p x ≡ true → q x ≡ true) → (xs : List A) → list_any p xs ≡ true
     → list_any q xs ≡ true
-any_weaker p q h xs e =
-    let (i, x, l, at, k) = Any-from_list_any p xs e in
-    list_any_at q xs i x l (h _ (ap p at ∙ k))
+any_weaker p q h xs e = grind (arith, Any-from_list_any, list_any_at)
 
 pub all_weaker : {A : Type 0} (p q : A → Bool) → ((x : A) → p x ≡ true → q x ≡ true) → (xs : List A) → list_all p xs ≡ true
     → list_all q xs ≡ true
@@ -71,13 +68,7 @@ any_pairs {B = B} p q (x ∷ xs) ys = rw (any_pairs p q xs ys, row (p x) ys) (gr
 pub any_either : {A B : Type 0} (r : A → B → Bool) (p : A → Bool) (q : B → Bool)
     → ((x : A) (y : B) → r x y ≡ true → (p x || q y) ≡ true)
     → (xs : List A) (ys : List B) → list_any (λ x. list_any (r x) ys) xs ≡ true → (list_any p xs || list_any q ys) ≡ true
-any_either r p q h xs ys e =
-    let (i, x, l, at, k) = Any-from_list_any (λ x. list_any (r x) ys) xs e in
-    let (j, y, m, bt, n) = Any-from_list_any (r x) ys k in
-    elim (or_cases (p x) (q y) (h x y n)) [
-      | inl t ↦ or_left (list_any p xs) (list_any q ys) (list_any_at p xs i x l (ap p at ∙ t))
-      | inr t ↦ or_right (list_any p xs) (list_any q ys) (list_any_at q ys j y m (ap q bt ∙ t))
-    ]
+any_either r p q h xs ys e = grind (arith, Any-from_list_any, list_any_at)
 
 -- an element that passes, where each that does passes another test, or where all do
 pub any_under : {A : Type 0} (p q : A → Bool) (xs : List A) → list_any p xs ≡ true → list_all (λ x. not (p x) || q x) xs ≡ true

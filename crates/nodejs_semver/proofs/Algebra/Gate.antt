@@ -3,11 +3,12 @@
 use Rattle.std.proofs.Common.{◌≡◌, refl, sym, ◌∙◌, Bool, true, false, ◌||◌, inl, inr, arith, is_gt}
 use Rattle.std.proofs.lemmas.Bool.{cases_Bool, cond_both, not-true}
 use Rattle.std.specs.Cmp.{alike_right, first_so, second_so, tied_back}
+use Rattle.std.specs.Ordering.{bool_cmp}
+use Rattle.semver_core.specs.Internal.Sides.{Near}
 use Rattle.semver_core.proofs.CutLaws.{gt_lt, lt, one_way, past_lt}
 use Rattle.nodejs_semver.proofs.Algebra.Triples.{named, named_from, named_parts, pre_upto, then_not_gt, triple_between, triple_total}
-use Rattle.semver_core.specs.Cuts.{Span, holds, Side, Cut, Start, Beside, End, Near, side_cmp, cut_cmp, lower_cut, upper_cut, is_past, greater_lower, lesser_upper}
+use Rattle.semver_core.specs.Cuts.{Span, holds, Cut, Start, Beside, End, cut_cmp, lower_cut, upper_cut, is_past, greater_lower, lesser_upper}
 use Rattle.semver_core.specs.declared.cuts.bound.Bound.{Bound}
-use Rattle.semver_core.specs.declared.cuts.bound.Bound.TheVariants.{Unbounded, Before, After}
 use Rattle.semver_core.specs.Internal.OrderLaws.{precedence_total}
 use Rattle.nodejs_semver.specs.Ranges.Gate.{names, lets_in}
 use Rattle.semver_core.specs.Values.Order.{precedence}
@@ -23,37 +24,26 @@ cut_names (Beside w s) v = named w v
 cut_names End v = false
 
 at_lower : (b : Bound VersionValue) (v : VersionValue) → names b v ≡ cut_names (lower_cut b) v
-at_lower Unbounded v = refl
-at_lower (Before w) v = refl
-at_lower (After w) v = refl
+at_lower b v = grind arith
 
 at_upper : (b : Bound VersionValue) (v : VersionValue) → names b v ≡ cut_names (upper_cut b) v
-at_upper Unbounded v = refl
-at_upper (Before w) v = refl
-at_upper (After w) v = refl
+at_upper b v = grind arith
 
 -- the points of two cuts stand in the order of the cuts
-pub in_order : (w u : VersionValue) (s t : Side) → below (Beside u t) (Beside w s) ≡ false → is_gt (precedence w u) ≡ false
-in_order w u s t h = then_not_gt (precedence w u) (side_cmp s t) (gt_lt precedence_total (Beside w s) (Beside u t) ∙ h)
+pub in_order : (w u : VersionValue) (s t : Bool) → below (Beside u t) (Beside w s) ≡ false → is_gt (precedence w u) ≡ false
+in_order w u s t h = then_not_gt (precedence w u) (bool_cmp s t) (gt_lt precedence_total (Beside w s) (Beside u t) ∙ h)
 
-pub past_order : (u v : VersionValue) (t : Side) → is_past precedence (Beside u t) v ≡ true → is_gt (precedence u v) ≡ false
+pub past_order : (u v : VersionValue) (t : Bool) → is_past precedence (Beside u t) v ≡ true → is_gt (precedence u v) ≡ false
 past_order u v t h = in_order u v t Near (grind (arith, past_lt precedence_total (Beside u t) v))
 
-not_past_order : (u v : VersionValue) (t : Side) → is_past precedence (Beside u t) v ≡ false → is_gt (precedence v u) ≡ false
+not_past_order : (u v : VersionValue) (t : Bool) → is_past precedence (Beside u t) v ≡ false → is_gt (precedence v u) ≡ false
 not_past_order u v t h = in_order v u Near t (one_way precedence_total (Beside v Near) (Beside u t)
     (grind (arith, past_lt precedence_total (Beside u t) v)))
 
 -- a cut that names v is not above another past which v lies
 lower_named : (c d : Cut VersionValue) (v : VersionValue) → is_release v ≡ false → cut_names c v ≡ true → below d c ≡ false
     → is_past precedence d v ≡ true → cut_names d v ≡ true
-lower_named Start d v k n m h = cc
-lower_named End d v k n m h = cc
-lower_named (Beside w s) Start v k n m h = cc
-lower_named (Beside w s) End v k n m h = cc
-lower_named (Beside w s) (Beside u t) v k n m h =
-    let up = past_order u v t h in
-    let tied = triple_between w u v (named_parts w v n).1 (in_order w u s t m) up in
-    named_from u v (pre_upto u v k tied up) tied
+lower_named c d v k n m h = grind (arith, past_order, triple_between, named_parts, in_order, named_from, pre_upto)
 
 -- or not below one past which v does not lie
 upper_named : (c d : Cut VersionValue) (v : VersionValue) → cut_names c v ≡ true → below c d ≡ false
@@ -108,12 +98,10 @@ lets_in-meet s t v h k n = elim (cases_Bool (is_release v)) [
 -- an upper bound that names v is above the lower bound of what is taken away, past which v does not lie: that one names v too
 pub names_below : (b c : Bound VersionValue) (v : VersionValue) → names b v ≡ true → below (lower_cut c) (upper_cut b) ≡ true
     → is_past precedence (lower_cut c) v ≡ false → names c v ≡ true
-names_below b c v n m h = at_lower c v ∙ upper_named (upper_cut b) (lower_cut c) v (sym (at_upper b v) ∙ n)
-    (one_way precedence_total (lower_cut c) (upper_cut b) m) h
+names_below b c v n m h = grind (arith, at_lower, upper_named, at_upper, one_way, precedence_total)
 
 -- and the same of a lower bound, the upper bound of what is taken away, and v past that
 pub names_above : (b c : Bound VersionValue) (v : VersionValue) → is_release v ≡ false → names b v ≡ true
     → below (lower_cut b) (upper_cut c) ≡ true → is_past precedence (upper_cut c) v ≡ true
     → names c v ≡ true
-names_above b c v k n m h = at_upper c v ∙ lower_named (lower_cut b) (upper_cut c) v k (sym (at_lower b v) ∙ n)
-    (one_way precedence_total (lower_cut b) (upper_cut c) m) h
+names_above b c v k n m h = grind (arith, at_upper, lower_named, at_lower, one_way, precedence_total)

@@ -1,19 +1,15 @@
 -- What a range text's intervals hold is what the text writes.
-use Rattle.std.proofs.Common.{◌≡◌, ℕ, List, [], ◌∷◌, refl, sym, ap₂, ◌∙◌, true, Bool, map, ◌||◌, flat_map, Ordering}
-use Rattle.std.proofs.lemmas.Bool.{cond_both, or_left}
+use Rattle.std.proofs.Common.{◌≡◌, ℕ, List, [], ◌∷◌, refl, sym, ap₂, ◌∙◌, true, Bool, map, ◌||◌, flat_map, Ordering, arith}
 use Rattle.std.proofs.lemmas.List.Folds.{list_any-append}
-use Rattle.std.specs.Cmp.{IsTotalOrder, first_so}
+use Rattle.std.specs.Cmp.{IsTotalOrder}
 use Rattle.std.specs.List.{list_all, list_any}
-use Rattle.semver_core.specs.Cuts.{holds}
 use Rattle.nodejs_semver.specs.Ranges.Algebra.{list_holds}
 use Rattle.semver_core.specs.Values.Order.{precedence}
 use Rattle.semver_core.specs.Internal.OrderLaws.{precedence_total}
 use Rattle.semver_core.specs.Values.Versions.{VersionValue}
-use Rattle.nodejs_semver.specs.Internal.Denotes.{denotes, part_bounds, part_denotes}
+use Rattle.nodejs_semver.specs.Internal.Denotes.{denotes, part_denotes}
 use Rattle.nodejs_semver.specs.Internal.Parts.{parts}
-use Rattle.nodejs_semver.specs.Ranges.View.{any_version}
 use Rattle.nodejs_semver.specs.Text.Runs.{Run, interval_of}
-use Rattle.nodejs_semver.specs.Internal.RunsFrom.{runs_of}
 use Rattle.semver_core.specs.Lists.{is_empty}
 use Rattle.nodejs_semver.specs.Internal.Writes.{part_writes, writes}
 use Rattle.nodejs_semver.specs.Text.WrittenSet.{run_writes}
@@ -25,25 +21,16 @@ runs-hold : {V : Type 0} {R : V → V → Ordering} → IsTotalOrder R → (v : 
 runs-hold o v [] = refl
 runs-hold o v (r ∷ rs) = ap₂ (λ (s t : Bool). s || t) (run-holds o v r) (runs-hold o v rs)
 
--- an empty part holds every version, and any other what its words write
-part-holds : (limit : ℕ) (v : VersionValue) (part : List ℕ)
-    → list_holds precedence (part_denotes limit part) v ≡ part_writes limit v part
-part-holds limit v [] = refl
-part-holds limit v (b ∷ part) = runs-hold precedence_total v (runs_of precedence (part_bounds limit (b ∷ part)))
-
 parts-hold : (limit : ℕ) (v : VersionValue) (ps : List (List ℕ))
     → list_holds precedence (flat_map (part_denotes limit) ps) v ≡ list_any (part_writes limit v) ps
 parts-hold limit v [] = refl
-parts-hold limit v (p ∷ ps) =
-    list_any-append (λ s. holds precedence s v) (part_denotes limit p) (flat_map (part_denotes limit) ps)
-    ∙ ap₂ (λ (s t : Bool). s || t) (part-holds limit v p) (parts-hold limit v ps)
+parts-hold limit v (p ∷ ps) = grind (arith, list_any-append, runs-hold, precedence_total, parts-hold limit v ps)
 
 -- where all of some parts are empty, the first writes every version
 first-empty : (limit : ℕ) (v : VersionValue) (ps : List (List ℕ)) → (ps ≡ [] → ⊥)
     → list_all is_empty ps ≡ true → list_any (part_writes limit v) ps ≡ true
 first-empty limit v [] some h = absurd (some refl)
-first-empty limit v (p ∷ ps) some h =
-    or_left (part_writes limit v p) (list_any (part_writes limit v) ps) (or_left (is_empty p) _ (first_so _ _ h))
+first-empty limit v (p ∷ ps) some h = grind arith
 
 -- a text has a part or more
 parts-some : (text : List ℕ) → parts text ≡ [] → ⊥
@@ -51,9 +38,4 @@ parts-some text h = cc (sym (parts-front text) ∙ h)
 
 pub denotes_hold : (limit : ℕ) (text : List ℕ) (v : VersionValue)
     → list_holds precedence (denotes limit text) v ≡ writes limit text v
-denotes_hold limit text v =
-    let ps = parts text in
-    cond_both (list_all is_empty ps) any_version (flat_map (part_denotes limit) ps)
-    (λ ss. list_holds precedence ss v ≡ writes limit text v)
-    (λ all. sym (first-empty limit v ps (parts-some text) all))
-    (λ _. parts-hold limit v ps)
+denotes_hold limit text v = grind (arith, first-empty, parts-some, parts-hold)

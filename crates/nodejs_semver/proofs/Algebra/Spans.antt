@@ -1,14 +1,16 @@
 -- What the set algebra makes of intervals whose bounds meet a test are such intervals again.
 use Rattle.std.proofs.Common.{◌≡◌, refl, ◌∙◌, Bool, true, ◌&&◌, List, [], ◌∷◌, ◌++◌, Some, None, option_to_list, is_gt, Ordering}
+use Rattle.std.proofs.Common.{arith}
 use Rattle.std.proofs.lemmas.Bool.{and_from, and_parts, cond_both}
 use Rattle.std.proofs.lemmas.List.Folds.{list_all-append}
 use Rattle.std.specs.Cmp.{IsTotalOrder}
 use Rattle.std.specs.List.{list_all, flat_map}
-use Rattle.semver_core.proofs.CutLaws.{lt, remainders_by, turned_lower, turned_upper}
+use Rattle.nodejs_semver.specs.Internal.Sets.{meets_of, minus}
+use Rattle.semver_core.proofs.CutLaws.{remainders_by, turned_lower, turned_upper}
 use Rattle.nodejs_semver.proofs.Algebra.FlatMaps.{all_flat, all_weaker}
 use Rattle.semver_core.specs.Cuts.{Span, cut_cmp, lower_cut, upper_cut, is_interval, meet, left_below, left_above}
 use Rattle.semver_core.specs.declared.cuts.bound.Bound.{Bound}
-use Rattle.nodejs_semver.specs.Ranges.Algebra.{remainder, meets_of, minus}
+use Rattle.nodejs_semver.specs.Ranges.Algebra.{remainder}
 
 module _ {V : Type 0} {R : V → V → Ordering} (o : IsTotalOrder R) (F : Bound V → Bool) where
   -- an interval with such bounds
@@ -34,17 +36,11 @@ module _ {V : Type 0} {R : V → V → Ordering} (o : IsTotalOrder R) (F : Bound
   -- what is left below t begins below t's lower cut, which its upper bound makes again; and so above t
   fine-left_below : (s t : Span V) → F s.lower ≡ true → F t.lower ≡ true
       → list_all is_fine (option_to_list (left_below R s t)) ≡ true
-  fine-left_below s t h k =
-      cond_both (lt o (lower_cut s.lower) (lower_cut t.lower)) (Some (record { lower = s.lower; upper = t.lower })) None
-      (λ m. list_all is_fine (option_to_list m) ≡ true) (λ i. rw (turned_lower o t.lower (lower_cut s.lower) i, i, h, k) refl)
-      (λ _. refl)
+  fine-left_below s t h k = grind (arith, turned_lower)
 
   fine-left_above : (s t : Span V) → F t.upper ≡ true → F s.upper ≡ true
       → list_all is_fine (option_to_list (left_above R s t)) ≡ true
-  fine-left_above s t h k =
-      cond_both (lt o (upper_cut t.upper) (upper_cut s.upper)) (Some (record { lower = t.upper; upper = s.upper })) None
-      (λ m. list_all is_fine (option_to_list m) ≡ true) (λ i. rw (turned_upper o t.upper (upper_cut s.upper) i, i, h, k) refl)
-      (λ _. refl)
+  fine-left_above s t h k = grind (arith, turned_upper)
 
   fine-remainder : (s t : Span V) → is_fine s ≡ true → is_fine t ≡ true → list_all is_fine (remainder R s t) ≡ true
   fine-remainder s t h k =
@@ -58,9 +54,7 @@ module _ {V : Type 0} {R : V → V → Ordering} (o : IsTotalOrder R) (F : Bound
 
   pub fine-meets_of : (ss ts : List (Span V)) → list_all is_fine ss ≡ true → list_all is_fine ts ≡ true
       → list_all is_fine (meets_of R ss ts) ≡ true
-  fine-meets_of ss ts h k =
-      all_flat is_fine _ ss ∙ all_weaker is_fine _ (λ s e. all_flat is_fine _ ts
-      ∙ all_weaker is_fine _ (λ t f. fine-meet s t e f) ts k) ss h
+  fine-meets_of ss ts h k = grind (arith, all_flat, all_weaker, fine-meet)
 
   pub fine-minus : (ss ts : List (Span V)) → list_all is_fine ss ≡ true → list_all is_fine ts ≡ true
       → list_all is_fine (minus R ss ts) ≡ true

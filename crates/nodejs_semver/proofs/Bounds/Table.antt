@@ -1,26 +1,24 @@
 -- For proofs. The bounds of what is read are such as a range may have.
-use Rattle.std.proofs.Common.{◌≡◌, ℕ, zero, suc, ◌+◌, List, [], ◌∷◌, length, map, refl, sym, ap, ◌∙◌, Bool, true, false}
-use Rattle.std.proofs.lemmas.Bool.{cond_both}
+use Rattle.std.proofs.Common.{◌≡◌, ℕ, zero, suc, ◌+◌, List, [], ◌∷◌, length, map, refl, sym, ◌∙◌, Bool, true, arith}
+use Rattle.std.proofs.lemmas.Bool.{cond_both, and_from}
 use Rattle.std.specs.Prelude.{flat_map, filter_map, if◌then◌else◌}
 use Rattle.std.specs.List.{AllByRecursion, list_all}
 use Rattle.std.proofs.lemmas.List.Folds.{list_all-append}
+use Rattle.nodejs_semver.specs.Internal.Sets.{is_range_span}
 use Rattle.semver_core.specs.Cuts.{Span}
 use Rattle.semver_core.specs.declared.cuts.bound.Bound.{Bound}
 use Rattle.semver_core.specs.Values.Order.{precedence}
 use Rattle.semver_core.specs.Internal.Spaces.{drop_spaces}
-use Rattle.semver_core.specs.Lists.{is_empty}
 use Rattle.semver_core.specs.Values.Versions.{VersionValue}
-use Rattle.nodejs_semver.specs.Internal.Denotes.{denotes, part_bounds, part_denotes, part_intervals}
-use Rattle.nodejs_semver.specs.Internal.Parts.{parts}
-use Rattle.nodejs_semver.specs.Ranges.View.{any_version, is_range_bound, is_range_span}
+use Rattle.nodejs_semver.specs.Internal.Denotes.{denotes, part_bounds, part_denotes}
+use Rattle.nodejs_semver.specs.Ranges.View.{is_range_bound}
 use Rattle.nodejs_semver.specs.Text.Runs.{Run, fits, greatest_lower, interval_of, least_upper, run_items}
-use Rattle.nodejs_semver.specs.Internal.RunsFrom.{runs_of}
 use Rattle.nodejs_semver.specs.Text.Table.{table}
 use Rattle.nodejs_semver.specs.Internal.Words.{word_at, words_within}
 use Rattle.nodejs_semver.proofs.Bounds.Bounded.{word-fine}
-use Rattle.nodejs_semver.proofs.Reading.Steps.{and-both, and-left, and-right}
 use Rattle.nodejs_semver.proofs.Dividing.RunsDivide.{all-cons, part_divides}
 use Rattle.nodejs_semver.proofs.Bounds.TableRows.{are_bounds, table-bounded}
+use Rattle.std.specs.Cmp.{first_so, second_so}
 
 words-bounded : (limit n : ℕ) (text : List ℕ) → list_all (are_bounds (limit + 1)) (filter_map (table limit) (words_within limit n text)) ≡ true
 unfolding words_within
@@ -41,48 +39,32 @@ pick : (limit : ℕ) (t : Bool) (b c : Bound VersionValue) → is_range_bound li
 pick limit t b c f g = cond_both t b c (λ e. is_range_bound limit e ≡ true) (λ _. f) (λ _. g)
 
 lower-bounded : (limit : ℕ) (s : Span VersionValue) (ts : List (Span VersionValue)) → list_all (are_bounds limit) (s ∷ ts) ≡ true → is_range_bound limit (greatest_lower precedence s ts) ≡ true
-lower-bounded limit s [] h = and-left _ _ (and-left (are_bounds limit s) true h)
+lower-bounded limit s [] h = first_so _ _ (first_so (are_bounds limit s) true h)
 lower-bounded limit s (t ∷ rest) h =
-    pick limit _ s.lower (greatest_lower precedence t rest) (and-left _ _ (and-left (are_bounds limit s) (list_all (are_bounds limit) (t ∷ rest)) h))
-    (lower-bounded limit t rest (and-right (are_bounds limit s) (list_all (are_bounds limit) (t ∷ rest)) h))
+    pick limit _ s.lower (greatest_lower precedence t rest) (first_so _ _ (first_so (are_bounds limit s) (list_all (are_bounds limit) (t ∷ rest)) h))
+    (lower-bounded limit t rest (second_so (are_bounds limit s) (list_all (are_bounds limit) (t ∷ rest)) h))
 
 upper-bounded : (limit : ℕ) (s : Span VersionValue) (ts : List (Span VersionValue)) → list_all (are_bounds limit) (s ∷ ts) ≡ true → is_range_bound limit (least_upper precedence s ts) ≡ true
-upper-bounded limit s [] h = and-right (is_range_bound limit s.lower) (is_range_bound limit s.upper) (and-left (are_bounds limit s) true h)
+upper-bounded limit s [] h = second_so (is_range_bound limit s.lower) (is_range_bound limit s.upper) (first_so (are_bounds limit s) true h)
 upper-bounded limit s (t ∷ rest) h =
-    pick limit _ (least_upper precedence t rest) s.upper (upper-bounded limit t rest (and-right (are_bounds limit s) (list_all (are_bounds limit) (t ∷ rest)) h))
-    (and-right (is_range_bound limit s.lower) (is_range_bound limit s.upper) (and-left (are_bounds limit s) (list_all (are_bounds limit) (t ∷ rest)) h))
+    pick limit _ (least_upper precedence t rest) s.upper (upper-bounded limit t rest (second_so (are_bounds limit s) (list_all (are_bounds limit) (t ∷ rest)) h))
+    (second_so (is_range_bound limit s.lower) (is_range_bound limit s.upper) (first_so (are_bounds limit s) (list_all (are_bounds limit) (t ∷ rest)) h))
 
 run-bounded : (limit : ℕ) (r : Run VersionValue) → list_all (are_bounds limit) (run_items r) ≡ true → fits precedence r ≡ true → is_range_span limit (interval_of precedence r) ≡ true
-run-bounded limit r h one = and-both _ _ one (and-both _ _ (lower-bounded limit r.first r.others h) (upper-bounded limit r.first r.others h))
+run-bounded limit r h one = and_from _ _ one (and_from _ _ (lower-bounded limit r.first r.others h) (upper-bounded limit r.first r.others h))
 
 runs-bounded : (limit : ℕ) (runs : List (Run VersionValue)) → list_all (are_bounds limit) (flat_map run_items runs) ≡ true → AllByRecursion (λ r. fits precedence r ≡ true) runs
     → list_all (is_range_span limit) (map (interval_of precedence) runs) ≡ true
 runs-bounded limit [] h each = refl
 runs-bounded limit (r ∷ rest) h each =
     let both = sym (list_all-append (are_bounds limit) (run_items r) (flat_map run_items rest)) ∙ h in
-    and-both (is_range_span limit (interval_of precedence r)) (list_all (is_range_span limit) (map (interval_of precedence) rest))
-    (run-bounded limit r (and-left (list_all (are_bounds limit) (run_items r)) (list_all (are_bounds limit) (flat_map run_items rest)) both) each.0)
-    (runs-bounded limit rest (and-right (list_all (are_bounds limit) (run_items r)) (list_all (are_bounds limit) (flat_map run_items rest)) both) each.1)
-
-pub intervals-bounded : (limit : ℕ) (part : List ℕ) → list_all (is_range_span (limit + 1)) (part_intervals limit part) ≡ true
-intervals-bounded limit part =
-    let runs = part_divides limit part in
-    runs-bounded (limit + 1) (runs_of precedence (part_bounds limit part))
-    (ap (λ (l : List (Span VersionValue)). list_all (are_bounds (limit + 1)) l) runs.whole ∙ part-bounded limit part) runs.each
-
-part-denotes-bounded : (limit : ℕ) (part : List ℕ) → list_all (is_range_span (limit + 1)) (part_denotes limit part) ≡ true
-part-denotes-bounded limit [] = refl
-part-denotes-bounded limit (b ∷ part) = intervals-bounded limit (b ∷ part)
+    and_from (is_range_span limit (interval_of precedence r)) (list_all (is_range_span limit) (map (interval_of precedence) rest))
+    (run-bounded limit r (first_so (list_all (are_bounds limit) (run_items r)) (list_all (are_bounds limit) (flat_map run_items rest)) both) each.0)
+    (runs-bounded limit rest (second_so (list_all (are_bounds limit) (run_items r)) (list_all (are_bounds limit) (flat_map run_items rest)) both) each.1)
 
 pub all-bounded : (limit : ℕ) (ps : List (List ℕ)) → list_all (is_range_span (limit + 1)) (flat_map (part_denotes limit) ps) ≡ true
 all-bounded limit [] = refl
-all-bounded limit (p ∷ ps) =
-    list_all-append (is_range_span (limit + 1)) (part_denotes limit p) (flat_map (part_denotes limit) ps)
-    ∙ and-both _ _ (part-denotes-bounded limit p) (all-bounded limit ps)
+all-bounded limit (p ∷ ps) = grind (arith, list_all-append, part_divides, runs-bounded, part-bounded, all-bounded limit ps)
 
 pub denotes-bounded : (limit : ℕ) (text : List ℕ) → list_all (is_range_span (limit + 1)) (denotes limit text) ≡ true
-denotes-bounded limit text = by_test (list_all is_empty (parts text))
-  where
-    by_test : (b : Bool) → list_all (is_range_span (limit + 1)) (if b then any_version else flat_map (part_denotes limit) (parts text)) ≡ true
-    by_test true = refl
-    by_test false = all-bounded limit (parts text)
+denotes-bounded limit text = grind (arith, all-bounded)

@@ -1,5 +1,5 @@
 -- For proofs. The bounds that the table gives a word that is no hyphen word make an interval.
-use Rattle.std.proofs.Common.{◌≡◌, ◌∙◌, ℕ, List, refl, sym, ap, true, Some, None, Option, IfSome}
+use Rattle.std.proofs.Common.{◌≡◌, ℕ, List, refl, sym, true, Some, Option, IfSome, arith}
 use Rattle.semver_core.specs.Cuts.{Span, interval, is_interval}
 use Rattle.semver_core.specs.Values.Order.{precedence}
 use Rattle.semver_core.specs.Values.Versions.{VersionValue}
@@ -17,10 +17,8 @@ pub settled : (limit : ℕ) (w : Word) (b : Bounds) → table_view (Some b) ≡ 
 settled limit w b e = table-interval limit w (bounds_view b) (sym e)
 
 pub ordered : (limit : ℕ) (w : Word) (o : Option Bounds) → table_view o ≡ table limit w → IfSome o (λ b. is_interval precedence (bounds_view b) ≡ true)
-ordered limit w None e = tt
-ordered limit w (Some b) e = settled limit w b e
+ordered limit w o e = grind (arith, settled)
 
 pub compared : (limit : ℕ) (w : Word) (b : Bounds) (rest : List ℕ) → table_view (Some b) ≡ table limit w
     → part_read rest (interval precedence (bounds_view b)) ≡ part_read rest (table limit w)
-compared limit w b rest e =
-    ap (λ (o : Option (Span VersionValue)). part_read rest o) (kept (bounds_view b) (settled limit w b e) ∙ e)
+compared limit w b rest e = grind (arith, kept, settled)

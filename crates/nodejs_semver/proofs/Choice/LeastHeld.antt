@@ -1,11 +1,12 @@
 -- The least version that spans hold is the first past one of their lower cuts.
-use Rattle.std.proofs.Common.{◌≡◌, refl, ◌∙◌, ap, Bool, true, false, ◌&&◌, not, List, [], ◌∷◌, map, inl, inr, if◌then◌else◌, Option, IfSome, arith, Less, Equal, Greater}
-use Rattle.std.specs.Ordering.{ordering_then, is_le, is_gt}
-use Rattle.std.proofs.lemmas.Bool.{and_from, cond_both, or_cases, or_left, or_right}
+use Rattle.std.proofs.Common.{◌≡◌, refl, ◌∙◌, ap, Bool, true, false, ◌&&◌, not, List, [], ◌∷◌, map, inl, inr, if◌then◌else◌, Option, IfSome, arith}
+use Rattle.std.specs.Ordering.{is_le, is_gt}
+use Rattle.std.proofs.lemmas.Bool.{and_from, or_cases, or_left, or_right}
 use Rattle.std.proofs.lemmas.List.Elements.{All-cons, All-nil}
 use Rattle.std.specs.List.{All, list_any}
 use Rattle.std.specs.Cmp.{first_so, tied_itself}
-use Rattle.semver_core.specs.Cuts.{Span, holds, Near, is_past, lower_cut, upper_cut}
+use Rattle.semver_core.specs.Internal.Sides.{Near, Far}
+use Rattle.semver_core.specs.Cuts.{Span, holds, is_past, lower_cut, upper_cut, Beside}
 use Rattle.semver_core.specs.declared.cuts.bound.Bound.{Bound}
 use Rattle.semver_core.specs.declared.cuts.bound.Bound.TheVariants.{Unbounded, Before, After}
 use Rattle.semver_core.specs.Values.Order.{precedence}
@@ -20,21 +21,18 @@ use Rattle.nodejs_semver.specs.Internal.Candidates.{first_pre, pre_after, patch_
 use Rattle.nodejs_semver.proofs.Algebra.FlatMaps.{empty_is}
 use Rattle.nodejs_semver.proofs.Algebra.Gate.{past_order}
 use Rattle.nodejs_semver.proofs.Choice.Next.{le_not_gt, next_pre_above, next_pre_least}
-use Rattle.nodejs_semver.proofs.Choice.LeastPieces.{far_less, past_up}
+use Rattle.nodejs_semver.proofs.Choice.LeastPieces.{far_less, past_up, past_less, past_near}
 use Rattle.nodejs_semver.proofs.Choice.LeastOf.{least_named, list_bare}
 
 -- the first version past a lower cut is past it, and not above any that is
-far_past : (w x : VersionValue) → precedence w x ≡ Less → is_le (ordering_then (precedence w x) Greater) ≡ true
-far_past w x h = ap (λ r. is_le (ordering_then r Greater)) h
-
 past_lower : (b : Bound VersionValue) → is_past precedence (lower_cut b) (first_past b) ≡ true
 past_lower Unbounded = refl
-past_lower (Before w) = ap (λ q. is_le (ordering_then q Equal)) (tied_itself precedence_total w)
+past_lower (Before w) = past_near w w (tied_itself precedence_total w)
 past_lower (After w) = by_kind (is_release w) refl
   where
-    by_kind : (r : Bool) → is_release w ≡ r → is_le (ordering_then (precedence w (if r then first_pre (patch_after w) else pre_after w)) Greater) ≡ true
-    by_kind true k = far_past w (first_pre (patch_after w)) (above_patch w (first_pre (patch_after w)) refl refl (omega arith))
-    by_kind false k = far_past w (pre_after w) (next_pre_above w k)
+    by_kind : (r : Bool) → is_release w ≡ r
+        → is_past precedence (Beside w Far) (if r then first_pre (patch_after w) else pre_after w) ≡ true
+    by_kind r k = grind (arith, past_less, above_patch, next_pre_above)
 
 least_past : (b : Bound VersionValue) (v : VersionValue) → is_past precedence (lower_cut b) v ≡ true → is_gt (precedence (first_past b) v) ≡ false
 least_past Unbounded v h = le_not_gt _ (first_of_all v)
@@ -42,8 +40,7 @@ least_past (Before w) v h = past_order w v Near h
 least_past (After w) v h = by_kind (is_release w) refl
   where
     by_kind : (r : Bool) → is_release w ≡ r → is_gt (precedence (if r then first_pre (patch_after w) else pre_after w) v) ≡ false
-    by_kind true k = le_not_gt _ (least_after_release w v (empty_is w.pre_release k) (far_less w v h))
-    by_kind false k = next_pre_least w v k (far_less w v h)
+    by_kind r k = grind (arith, le_not_gt, least_after_release, empty_is, far_less, next_pre_least)
 
 -- the first version past the lower cut of a span that holds v is held as well
 held : (a b c d : Bool) → c ≡ true → (d ≡ true → b ≡ true) → (a && not b) ≡ true → (c && not d) ≡ true
@@ -84,9 +81,7 @@ pub least_held : (ss : List (Span VersionValue)) → IsLeastOf (λ v. accepts ss
 least_held ss = least_named (λ v. accepts ss v true) (firsts_past ss) (λ v h. candidate (λ v. accepts ss v true) ss v (λ x e. e) h)
 
 past_bare : (b : Bound VersionValue) → (first_past b).build ≡ []
-past_bare Unbounded = refl
-past_bare (Before w) = refl
-past_bare (After w) = cond_both (is_release w) (first_pre (patch_after w)) (pre_after w) (λ x. x.build ≡ []) (λ _. refl) (λ _. refl)
+past_bare b = grind arith
 
 bare_firsts : (ss : List (Span VersionValue)) → All (λ v. v.build ≡ []) (firsts_past ss)
 bare_firsts [] = All-nil (λ v. v.build ≡ [])

@@ -1,27 +1,26 @@
 -- The first least version of a set among a list, which is the least of the set where each of its versions has one of the list
 -- below it.
-use Rattle.std.proofs.Common.{◌≡◌, ◌+◌, refl, sym, ◌∙◌, ap, ap₂, subst, Bool, true, false, ◌&&◌, ◌||◌, not, List, [], ◌∷◌, ◌++◌, Option, Some, None, option_and_then, if◌then◌else◌, IfSome, ◌<◌, ◌-◌, length, get_or, take, drop, arith, Equal}
+use Rattle.std.proofs.Common.{◌≡◌, refl, sym, ◌∙◌, ap, ap₂, subst, Bool, true, false, ◌&&◌, ◌||◌, not, List, [], ◌∷◌, ◌++◌, Option, Some, None, option_and_then, if◌then◌else◌, IfSome, ◌<◌, ◌-◌, length, get_or, take, drop, arith}
 use Rattle.std.proofs.Math.Bool.{and-true, or-false}
-use Rattle.std.proofs.lemmas.Bool.{cond_both, false≢true, or_parts}
+use Rattle.std.proofs.lemmas.Bool.{cond_both, or_parts}
 use Rattle.std.proofs.lemmas.List.{take_rest}
 use Rattle.std.proofs.lemmas.List.Elements.{All-append, All-from_recursion, All-head, All-nil, All-tail}
-use Rattle.std.specs.Cmp.{first_so, second_so, tied_itself, alike_right}
+use Rattle.std.specs.Cmp.{first_so, tied_itself, alike_right}
 use Rattle.std.specs.List.{All, find, flat_map, fold, list_any}
-use Rattle.std.specs.Ordering.{ordering_then, is_eq, is_lt, is_le}
-use Rattle.semver_core.proofs.CutLaws.{cut_total, not_if}
+use Rattle.std.specs.Ordering.{is_lt, is_le}
+use Rattle.semver_core.specs.Internal.Sides.{Near, Far}
+use Rattle.semver_core.proofs.CutLaws.{cut_total}
 use Rattle.semver_core.proofs.Values.NextLaws.{first_of_all}
 use Rattle.nodejs_semver.proofs.Algebra.FlatMaps.{any_same}
 use Rattle.nodejs_semver.proofs.Algebra.Triples.{le_of_lt, le_trans, lt_is, triple_total}
 use Rattle.nodejs_semver.proofs.Choice.LeastPieces.{candidate, lets_in_alike}
 use Rattle.nodejs_semver.proofs.Choice.Next.{next_patch_above, next_pre_above, release_above}
-use Rattle.semver_core.specs.Cuts.{Span, Cut, Side, Start, Beside, End, Near, Far, is_past, holds, lower_cut, upper_cut}
+use Rattle.semver_core.specs.Cuts.{Span, Cut, Start, Beside, holds}
 use Rattle.semver_core.specs.declared.cuts.bound.Bound.{Bound}
-use Rattle.semver_core.specs.declared.cuts.bound.Bound.TheVariants.{Unbounded, Before, After}
-use Rattle.nodejs_semver.specs.Internal.Candidates.{patch_after, pre_after, has_build, bare, bare_release, after_cut, release_after, firsts, list_marks, removed_marks, candidates, among, improves, better, least_of, is_reached}
+use Rattle.nodejs_semver.specs.Internal.Candidates.{has_build, bare, after_cut, release_after, firsts, list_marks, removed_marks, candidates, among, improves, better, least_of, is_reached, all_accept}
 use Rattle.semver_core.specs.Internal.OrderLaws.{precedence_total}
-use Rattle.semver_core.specs.Lists.{is_empty}
 use Rattle.nodejs_semver.specs.Ranges.Gate.{lets_in, accepts}
-use Rattle.nodejs_semver.specs.Ranges.Least.{IsLeastOf, all_accept, beyond, begins_with, build_by, least_build}
+use Rattle.nodejs_semver.specs.Ranges.Least.{IsLeastOf, beyond, begins_with, build_by, least_build}
 use Rattle.semver_core.specs.Text.Identifiers.{Id, Numeric}
 use Rattle.semver_core.specs.Values.Order.{precedence}
 use Rattle.semver_core.specs.Values.Versions.{VersionValue, is_release, release_value}
@@ -31,9 +30,7 @@ module _ (set : VersionValue → Bool) where
 
   better_fine : (best : Option VersionValue) (x : VersionValue) → IfSome best (λ b. set b ≡ true)
       → IfSome (better set best x) (λ b. set b ≡ true)
-  better_fine best x h =
-      cond_both (improves best x && set x) (Some x) best (λ o. IfSome o (λ b. set b ≡ true))
-      (λ e. second_so (improves best x) (set x) e) (λ _. h)
+  better_fine best x h = grind arith
 
   fold_fine : (best : Option VersionValue) (xs : List VersionValue) → IfSome best (λ b. set b ≡ true)
       → IfSome (fold (better set) best xs) (λ b. set b ≡ true)
@@ -43,9 +40,7 @@ module _ (set : VersionValue → Bool) where
   -- v is reached by the best so far, or by x
   reaches : (best : Option VersionValue) (x v : VersionValue) → (is_reached best v || (set x && is_le (precedence x v))) ≡ true
       → is_reached (better set best x) v ≡ true
-  reaches None x v h =
-      cond_both (set x) (Some x) None (λ o. is_reached o v ≡ true) (λ e. second_so (set x) (is_le (precedence x v)) h)
-      (λ e. absurd (false≢true (rw e at h)))
+  reaches None x v h = grind arith
   reaches (Some b) x v h =
       cond_both (is_lt (precedence x b) && set x) (Some x) (Some b) (λ o. is_reached o v ≡ true)
       (λ e. replaced (is_le (precedence b v)) (set x) (is_le (precedence x v)) h
@@ -78,20 +73,15 @@ module _ (set : VersionValue → Bool) where
   no_better (Some b) w x h k = ap (λ q. if q && set x then Some x else Some b)
       (lt_is precedence_total x b ∙ ap not (le_trans precedence_total b w x h k))
 
-  reached : (best : Option VersionValue) (w : VersionValue) (s : Side) → is_reached best w ≡ true
+  reached : (best : Option VersionValue) (w : VersionValue) (s : Bool) → is_reached best w ≡ true
       → fold (better set) best (firsts (Beside w s)) ≡ best
-  reached best w s h =
-      cond_both (is_release w) (release_after w s ∷ []) (after_cut w s ∷ bare_release w ∷ [])
-      (λ l. fold (better set) best l ≡ best)
-      (λ k. no_better best w (release_after w s) h (by_release s))
-      (λ k. ap (λ b. better set b (bare_release w)) (no_better best w (after_cut w s) h (by_pre s k))
-      ∙ no_better best w (bare_release w) h (ap is_le (release_above w k)))
+  reached best w s h = grind (arith, no_better, by_release, by_pre, release_above)
     where
-      by_release : (s : Side) → is_le (precedence w (release_after w s)) ≡ true
+      by_release : (s : Bool) → is_le (precedence w (release_after w s)) ≡ true
       by_release Near = ap is_le (tied_itself precedence_total w)
       by_release Far = ap is_le (next_patch_above w)
 
-      by_pre : (s : Side) → is_release w ≡ false → is_le (precedence w (after_cut w s)) ≡ true
+      by_pre : (s : Bool) → is_release w ≡ false → is_le (precedence w (after_cut w s)) ≡ true
       by_pre Near k = ap is_le (tied_itself precedence_total w)
       by_pre Far k = ap is_le (next_pre_above w k)
 
@@ -111,8 +101,7 @@ module _ (set : VersionValue → Bool) where
     where
       by_answer : (r : Option VersionValue) → IfSome r (λ b. set b ≡ true)
           → ((v : VersionValue) → set v ≡ true → is_reached r v ≡ true) → IsLeastOf set r
-      by_answer None h f = λ v. not_if (set v) false (f v) refl
-      by_answer (Some b) h f = (h, f)
+      by_answer r h f = grind arith
 
 -- the least candidate of the set is its least version
 pub least_among : (ks : List (Span VersionValue)) (kss : List (List (Span VersionValue))) (ls : List (Span VersionValue))
@@ -141,19 +130,9 @@ least_of_lists (first ∷ others) ks r n e h =
 abbrev IsBare : VersionValue → Type 0
 IsBare v = v.build ≡ []
 
-firsts_bare : (g : Cut VersionValue) → All IsBare (firsts g)
-firsts_bare Start = All-from_recursion IsBare (firsts Start) (refl, tt)
-firsts_bare (Beside w Near) = cond_both (is_release w) (bare w ∷ []) (bare w ∷ bare_release w ∷ []) (All IsBare)
-    (λ _. All-from_recursion IsBare (bare w ∷ []) (refl, tt))
-    (λ _. All-from_recursion IsBare (bare w ∷ bare_release w ∷ []) (refl, (refl, tt)))
-firsts_bare (Beside w Far) = cond_both (is_release w) (patch_after w ∷ []) (pre_after w ∷ bare_release w ∷ []) (All IsBare)
-    (λ _. All-from_recursion IsBare (patch_after w ∷ []) (refl, tt))
-    (λ _. All-from_recursion IsBare (pre_after w ∷ bare_release w ∷ []) (refl, (refl, tt)))
-firsts_bare End = All-nil IsBare
-
 all_bare : (ds : List (Cut VersionValue)) → All IsBare (flat_map firsts ds)
 all_bare [] = All-nil IsBare
-all_bare (d ∷ ds) = All-append IsBare (firsts d) (flat_map firsts ds) (firsts_bare d) (all_bare ds)
+all_bare (d ∷ ds) = grind (arith, All-append, All-from_recursion, all_bare ds)
 
 fold_bare : (set : VersionValue → Bool) (best : Option VersionValue) (xs : List VersionValue) → IfSome best IsBare
     → All IsBare xs → IfSome (fold (better set) best xs) IsBare
@@ -171,24 +150,11 @@ pub least_bare : (set : VersionValue → Bool) (kss : List (List (Span VersionVa
 least_bare set kss ls r e =
     list_bare set (candidates kss ls) r (all_bare (Start ∷ (flat_map list_marks kss ++ flat_map removed_marks ls))) e
 
-pub All-find : {X : Type 0} (P : X → Type 0) (p : X → Bool) (xs : List X) → All P xs → IfSome (find p xs) P
-All-find P p [] a = tt
-All-find P p (x ∷ xs) a = cond_both (p x) (Some x) (find p xs) (λ o. IfSome o P) (λ _. All-head P x xs a)
-    (λ _. All-find P p xs (All-tail P x xs a))
-
 -- ---- a version with another build is accepted alike
-
-past_built : (d : Cut VersionValue) (v : VersionValue) (b : List Id)
-    → is_past precedence d (record v { build = b }) ≡ is_past precedence d v
-past_built d v b =
-    ap is_le (alike_right (cut_total precedence_total) (Beside (record v { build = b }) Near) (Beside v Near) d
-    (ap (λ r. ordering_then r Equal) (tied_itself precedence_total v)))
 
 admits_built : (s : Span VersionValue) (v : VersionValue) (b : List Id)
     → (holds precedence s (record v { build = b }) && lets_in s (record v { build = b })) ≡ (holds precedence s v && lets_in s v)
-admits_built s v b =
-    ap₂ (λ p q. p && q) (ap₂ (λ p q. p && not q) (past_built (lower_cut s.lower) v b) (past_built (upper_cut s.upper) v b))
-    (lets_in_alike s (record v { build = b }) v (record { release = refl; triple = λ _. tied_itself triple_total v }))
+admits_built s v b = grind (arith, alike_right, cut_total, precedence_total, lets_in_alike, tied_itself, triple_total)
 
 accepts_built : (ks : List (Span VersionValue)) (v : VersionValue) (b : List Id)
     → accepts ks (record v { build = b }) false ≡ accepts ks v false
@@ -202,13 +168,7 @@ all_built (ks ∷ kss) v b = ap₂ (λ p q. p && q) (accepts_built ks v b) (all_
 pub improves_bare : (best : Option VersionValue) (w : VersionValue) (ks : List (Span VersionValue))
     (kss : List (List (Span VersionValue))) (ls : List (Span VersionValue))
     → (improves best (bare w) && among ks kss ls (bare w)) ≡ (improves best w && among ks kss ls w)
-improves_bare best w ks kss ls = ap₂ (λ p q. p && q) (by_best best)
-    (ap₂ (λ p q. p && q) (all_built kss w [])
-    (ap₂ (λ p q. p && not q) (accepts_built ks w []) (accepts_built ls w [])))
-  where
-    by_best : (best : Option VersionValue) → improves best (bare w) ≡ improves best w
-    by_best None = refl
-    by_best (Some b) = refl
+improves_bare best w ks kss ls = grind (arith, all_built, accepts_built)
 
 -- the least beyond nothing is the least that is accepted, whatever its build
 pub least_accepted : (ks : List (Span VersionValue)) (v : VersionValue) (b : List Id) → IsLeastOf (beyond ks []) (Some v)
@@ -225,28 +185,12 @@ find_same p q (x ∷ xs) f = ap₂ (λ t o. if t then Some x else o) (f x) (find
 
 pub least_build_built : (ks : List (Span VersionValue)) (v : VersionValue) (b : List Id)
     → least_build ks (record v { build = b }) ≡ least_build ks v
-least_build_built ks v b =
-    ap (λ o. build_by (first_of o) (record v { build = b })) (find_same _ _ ks (λ s. admits_built s v b))
-    ∙ by_first (first_of (find (λ s. holds precedence s v && lets_in s v) ks))
-  where
-    by_first : (x : Option VersionValue) → build_by x (record v { build = b }) ≡ build_by x v
-    by_first None = refl
-    by_first (Some x) = refl
+least_build_built ks v b = grind (arith, find_same, admits_built)
 
 -- ---- no build comes from a bound that has none
 
-none_of : (b : Bool) (xs : List Id) → not (is_empty xs) ≡ false → (if b then xs else []) ≡ []
-none_of true [] h = refl
-none_of true (x ∷ xs) h = cc
-none_of false xs h = refl
-
 no_build : (b : Bound VersionValue) (v : VersionValue) → has_build b ≡ false → build_by (begins_with b) v ≡ []
-no_build Unbounded v h = refl
-no_build (Before w) v h = none_of (is_eq (precedence w v)) w.build h
-no_build (After w) v h =
-    cond_both (is_release w) (record w { patch = w.patch + 1; pre_release = [] })
-    (record w { pre_release = w.pre_release ++ Numeric 0 ∷ [] }) (λ x. build_by (Some x) v ≡ [])
-    (λ _. none_of _ w.build h) (λ _. none_of _ w.build h)
+no_build b v h = grind arith
 
 pub unbuilt_stays : (ss : List (Span VersionValue)) (v : VersionValue) → v.build ≡ []
     → list_any (λ s. has_build s.lower) ss ≡ false → v ≡ record v { build = least_build ss v }

@@ -1,23 +1,23 @@
 -- The least version beyond is the first of its kind past a mark: a lower cut of what is kept, an upper cut of what is removed,
 -- or the cut below the pre-releases that an upper bound of what is kept names.
-use Rattle.std.proofs.Common.{◌≡◌, refl, sym, ◌∙◌, ap, ap₂, Bool, true, false, ◌&&◌, ◌||◌, not, List, [], ◌∷◌, ◌++◌, inl, inr, arith, Ordering, Less, Equal, Greater}
+use Rattle.std.proofs.Common.{◌≡◌, refl, sym, ◌∙◌, ap, Bool, true, false, ◌&&◌, ◌||◌, not, List, [], ◌∷◌, ◌++◌, inl, inr, arith, Less, Equal}
 use Rattle.std.proofs.lemmas.Bool.{and_from, and_parts, cases_Bool, cond_both, not-true, or_cases, or_left, or_right}
 use Rattle.std.proofs.lemmas.List.Folds.{list_all-append}
 use Rattle.std.specs.Cmp.{alike_right, first_so, second_so, tied_itself}
 use Rattle.std.specs.List.{flat_map, list_all, list_any}
-use Rattle.std.specs.Ordering.{ordering_then, is_le, is_gt, is_eq}
+use Rattle.std.specs.Ordering.{ordering_then, is_le, is_gt, bool_cmp}
+use Rattle.semver_core.specs.Internal.Sides.{Near, Far}
 use Rattle.semver_core.proofs.CutLaws.{chain, gt_lt, irreflexive, is_past-down, not_above, past_lt, tells}
 use Rattle.nodejs_semver.proofs.Algebra.FlatMaps.{empty_is, all_flat, all_weaker, any_flat, any_under, pick_both}
 use Rattle.nodejs_semver.proofs.Algebra.Gate.{below, in_order, past_order}
 use Rattle.nodejs_semver.proofs.Algebra.Triples.{named, named_parts, not_gt_then, pre_upto, same_triple_is, triple_between, triple_cmp, triple_total, triple_upto, upto_by_both}
 use Rattle.nodejs_semver.proofs.Choice.Next.{first_pre_least, next_patch_above, next_patch_least, next_pre, next_pre_above, next_pre_least, release_above, zero_first}
-use Rattle.semver_core.specs.Cuts.{Span, holds, Cut, Side, Start, Beside, End, Near, Far, side_cmp, cut_cmp, lower_cut, upper_cut, is_past}
+use Rattle.semver_core.specs.Cuts.{Span, holds, Cut, Start, Beside, End, lower_cut, upper_cut, is_past}
 use Rattle.semver_core.specs.declared.cuts.bound.Bound.{Bound}
 use Rattle.semver_core.specs.declared.cuts.bound.Bound.TheVariants.{Unbounded, Before, After}
-use Rattle.nodejs_semver.specs.Internal.Candidates.{zero, bare, bare_release, first_pre, pre_after, patch_after, after_cut, release_after, firsts, beside, below_at, below_named, kept_marks, list_marks, removed_marks, candidates, among}
+use Rattle.nodejs_semver.specs.Internal.Candidates.{bare, bare_release, first_pre, pre_after, patch_after, after_cut, release_after, firsts, beside, below_at, below_named, kept_marks, list_marks, removed_marks, candidates, among, all_accept}
 use Rattle.semver_core.specs.Internal.OrderLaws.{precedence_total}
 use Rattle.nodejs_semver.specs.Ranges.Gate.{names, lets_in, accepts}
-use Rattle.nodejs_semver.specs.Ranges.Least.{all_accept}
 use Rattle.semver_core.specs.Values.Order.{pre_cmp, precedence}
 use Rattle.semver_core.specs.Values.Versions.{VersionValue, is_release}
 
@@ -39,17 +39,10 @@ greatest v P c [] h f = or_left (P c) false (f c h (rw (irreflexive precedence_t
 greatest v P c (d ∷ ds) h f =
     by_test (is_past precedence d v) (below c d) refl refl (λ p. greatest v P d ds p) (greatest v P c ds h)
   where
-    skip : (a b c : Bool) → (a || c) ≡ true → (a || (b || c)) ≡ true
-    skip a b c h = grind arith
-
     kept : (((g : Cut VersionValue) → is_past precedence g v ≡ true → list_all (under v g) (c ∷ ds) ≡ true → P g ≡ true)
         → list_any P (c ∷ ds) ≡ true)
         → ((g : Cut VersionValue) → under v g c ≡ true → under v g d ≡ true) → list_any P (c ∷ d ∷ ds) ≡ true
-    kept rest more =
-        skip (P c) (P d) (list_any P ds)
-        (rest (λ g q top.
-        let (first, others) = and_parts (under v g c) (list_all (under v g) ds) top in
-        f g q (and_from (under v g c) _ first (and_from (under v g d) _ (more g first) others))))
+    kept rest more = grind (arith, and_parts, and_from)
 
     by_test : (p t : Bool) → is_past precedence d v ≡ p → below c d ≡ t
         → (is_past precedence d v ≡ true → ((g : Cut VersionValue) → is_past precedence g v ≡ true
@@ -57,12 +50,7 @@ greatest v P c (d ∷ ds) h f =
         → (((g : Cut VersionValue) → is_past precedence g v ≡ true → list_all (under v g) (c ∷ ds) ≡ true → P g ≡ true)
         → list_any P (c ∷ ds) ≡ true) → list_any P (c ∷ d ∷ ds) ≡ true
     by_test true true p t from_d from_c =
-        or_right (P c) (list_any P (d ∷ ds))
-        (from_d p (λ g q top.
-        f g q (and_from (under v g c) (list_all (under v g) (d ∷ ds))
-        (or_right (not (is_past precedence c v)) (not (below g c))
-        (ap not (not_above precedence_total g c d t (under_past v g d
-        (first_so (under v g d) (list_all (under v g) ds) top) p)))) top)))
+        grind (arith, or_right, and_from, below, not_above, precedence_total, under_past, first_so)
     by_test true false p t from_d from_c = kept from_c (λ g e. or_right (not (is_past precedence d v)) (not (below g d))
         (ap not (chain precedence_total d c g t (under_past v g c e h))))
     by_test false t p e from_d from_c = kept from_c (λ g e. or_left (not (is_past precedence d v)) (not (below g d)) (ap not p))
@@ -74,19 +62,8 @@ pub record Alike (x v : VersionValue) : Type 0 where
   pub release : is_release x ≡ is_release v
   pub triple : is_release v ≡ false → triple_cmp x v ≡ Equal
 
-names_alike : (b : Bound VersionValue) (x v : VersionValue) → triple_cmp x v ≡ Equal → names b x ≡ names b v
-names_alike Unbounded x v e = refl
-names_alike (Before w) x v e = ap (λ q. not (is_release w) && q)
-    (same_triple_is w x ∙ ap is_eq (alike_right triple_total x v w e) ∙ sym (same_triple_is w v))
-names_alike (After w) x v e = ap (λ q. not (is_release w) && q)
-    (same_triple_is w x ∙ ap is_eq (alike_right triple_total x v w e) ∙ sym (same_triple_is w v))
-
 pub lets_in_alike : (s : Span VersionValue) (x v : VersionValue) → Alike x v → lets_in s x ≡ lets_in s v
-lets_in_alike s x v k = elim (cases_Bool (is_release v)) [
-  | inl r ↦ rw (k.release, r) refl
-  | inr r ↦ ap₂ (λ a b. a || b) k.release (ap₂ (λ a b. a || b) (names_alike s.lower x v (k.triple r))
-      (names_alike s.upper x v (k.triple r)))
-]
+lets_in_alike s x v k = grind (arith, same_triple_is, alike_right, triple_total)
 
 kind_of_release : (x v : VersionValue) → is_release x ≡ true → is_release v ≡ true → Alike x v
 kind_of_release x v h k = record { release = h ∙ sym k; triple = λ e. cc }
@@ -99,29 +76,28 @@ pub record Begins (g : Cut VersionValue) (v x : VersionValue) : Type 0 where
   pub below : is_gt (precedence x v) ≡ false
   pub alike : Alike x v
 
-past_near : (w x : VersionValue) → precedence w x ≡ Equal → is_past precedence (Beside w Near) x ≡ true
+pub past_near : (w x : VersionValue) → precedence w x ≡ Equal → is_past precedence (Beside w Near) x ≡ true
 past_near w x e = ap (λ q. is_le (ordering_then q Equal)) e
 
-past_less : (w x : VersionValue) (s : Side) → precedence w x ≡ Less → is_past precedence (Beside w s) x ≡ true
-past_less w x s e = ap (λ q. is_le (ordering_then q (side_cmp s Near))) e
+pub past_less : (w x : VersionValue) (s : Bool) → precedence w x ≡ Less → is_past precedence (Beside w s) x ≡ true
+past_less w x s e = ap (λ q. is_le (ordering_then q (bool_cmp s Near))) e
 
 -- what lies past the far side of a point is above the point
 pub far_less : (w v : VersionValue) → is_past precedence (Beside w Far) v ≡ true → precedence w v ≡ Less
-far_less w v h = by_cmp (precedence w v) h
-  where
-    by_cmp : (r : Ordering) → is_le (ordering_then r Greater) ≡ true → r ≡ Less
-    by_cmp Less h = refl
-    by_cmp Equal h = cc
-    by_cmp Greater h = cc
+far_less w v h = grind arith
+
+near_begins : (w v : VersionValue) → is_past precedence (Beside w Near) v ≡ true → Alike (bare w) v
+    → Begins (Beside w Near) v (bare w)
+near_begins w v h k =
+    record { past = past_near w (bare w) (tied_itself precedence_total w); below = past_order w v Near h; alike = k }
 
 begins_release : (g : Cut VersionValue) (v : VersionValue) → is_release v ≡ true → is_past precedence g v ≡ true
     → (P : VersionValue → Bool) → ((x : VersionValue) → Begins g v x → P x ≡ true) → list_any P (firsts g) ≡ true
-begins_release Start v k h P f = or_left (P zero) false (f zero
-    (record { past = refl; below = zero_first v (empty_is v.pre_release k); alike = kind_of_release zero v refl k }))
+begins_release Start v k h P f = grind (arith, zero_first, empty_is, kind_of_release)
 begins_release End v k h P f = cc
 begins_release (Beside w s) v k h P f =
     cond_both (is_release w) (release_after w s ∷ []) (after_cut w s ∷ bare_release w ∷ []) (λ l. list_any P l ≡ true)
-    (λ r. or_left (P (release_after w s)) false (by_side s h (f _) r))
+    (λ r. or_left (P (release_after w s)) false (f (release_after w s) (by_side s h r)))
     (λ r. or_right (P (after_cut w s)) _ (or_left (P (bare_release w)) false (f (bare_release w) (record {
       past = past_less w (bare_release w) s (release_above w r);
       below = upto_by_both (bare_release w) v (triple_upto w v (past_order w v s h))
@@ -129,20 +105,14 @@ begins_release (Beside w s) v k h P f =
       alike = kind_of_release (bare_release w) v refl k;
     }))))
   where
-    by_side : (s : Side) → is_past precedence (Beside w s) v ≡ true
-        → (Begins (Beside w s) v (release_after w s) → P (release_after w s) ≡ true) → is_release w ≡ true
-        → P (release_after w s) ≡ true
-    by_side Near h f r = f (record {
-      past = past_near w (bare w) (tied_itself precedence_total w);
-      below =
-          past_order w v Near h;
-      alike = kind_of_release (bare w) v r k;
-    })
-    by_side Far h f r = f (record {
+    by_side : (s : Bool) → is_past precedence (Beside w s) v ≡ true → is_release w ≡ true
+        → Begins (Beside w s) v (release_after w s)
+    by_side Near h r = near_begins w v h (kind_of_release (bare w) v r k)
+    by_side Far h r = record {
       past = past_less w (patch_after w) Far (next_patch_above w);
       below = next_patch_least w v (empty_is w.pre_release r) (empty_is v.pre_release k) (far_less w v h);
       alike = kind_of_release (patch_after w) v refl k;
-    })
+    }
 
 -- a mark not below the pre-releases of v's triple is beside one of them, if v lies past it
 begins_pre : (g : Cut VersionValue) (w v : VersionValue) → is_release v ≡ false → triple_cmp w v ≡ Equal
@@ -154,22 +124,16 @@ begins_pre (Beside u s) w v k e m h P f =
     let up = past_order u v s h in
     let tied = triple_between (first_pre w) u v e (in_order (first_pre w) u Near s m) up in
     let pre = pre_upto u v k tied up in
-    rw pre (or_left (P (after_cut u s)) _ (by_side s h (f _) tied pre))
+    rw pre (or_left (P (after_cut u s)) _ (f (after_cut u s) (by_side s h tied pre)))
   where
-    by_side : (s : Side) → is_past precedence (Beside u s) v ≡ true
-        → (Begins (Beside u s) v (after_cut u s) → P (after_cut u s) ≡ true) → triple_cmp u v ≡ Equal → is_release u ≡ false
-        → P (after_cut u s) ≡ true
-    by_side Near h f t r = f (record {
-      past = past_near u (bare u) (tied_itself precedence_total u);
-      below =
-          past_order u v Near h;
-      alike = record { release = r ∙ sym k; triple = λ _. t };
-    })
-    by_side Far h f t r = f (record {
+    by_side : (s : Bool) → is_past precedence (Beside u s) v ≡ true → triple_cmp u v ≡ Equal → is_release u ≡ false
+        → Begins (Beside u s) v (after_cut u s)
+    by_side Near h t r = near_begins u v h (record { release = r ∙ sym k; triple = λ _. t })
+    by_side Far h t r = record {
       past = past_less u (pre_after u) Far (next_pre_above u r);
       below = next_pre_least u v r (far_less u v h);
       alike = record { release = next_pre u r ∙ sym k; triple = λ _. t };
-    })
+    }
 
 -- ---- the span that lets a pre-release in names the triple
 
@@ -179,7 +143,7 @@ record NamedBy (v : VersionValue) (g : Cut VersionValue) (w : VersionValue) : Ty
   pub above : below g (Beside (first_pre w) Near) ≡ false
 
 -- by a lower bound, past which v lies
-named_lower : (w v : VersionValue) (s : Side) (g : Cut VersionValue) → named w v ≡ true
+named_lower : (w v : VersionValue) (s : Bool) (g : Cut VersionValue) → named w v ≡ true
     → is_past precedence (Beside w s) v ≡ true → under v g (Beside w s) ≡ true → (x : VersionValue) × NamedBy v g x
 named_lower w v s g n p e =
     let (pre, tied) = named_parts w v n in
@@ -189,25 +153,20 @@ named_lower w v s g n p e =
         triple = tied;
         above = chain precedence_total (Beside (first_pre w) Near) (Beside w s) g
             (sym (gt_lt precedence_total (Beside (first_pre w) Near) (Beside w s))
-            ∙ not_gt_then (precedence (first_pre w) w) (side_cmp Near s) first (by_side s)) (under_past v g (Beside w s) e p);
+            ∙ not_gt_then (precedence (first_pre w) w) (bool_cmp Near s) first (by_side s)) (under_past v g (Beside w s) e p);
       },
     )
   where
-    by_side : (s : Side) → is_gt (side_cmp Near s) ≡ false
-    by_side Near = refl
-    by_side Far = refl
+    by_side : (s : Bool) → is_gt (bool_cmp Near s) ≡ false
+    by_side s = grind arith
 
 -- by an upper bound, with the cut below the pre-releases that it names
 named_upper : (w v : VersionValue) (g : Cut VersionValue) → is_release v ≡ false → named w v ≡ true
     → list_all (under v g) (below_at w) ≡ true → (x : VersionValue) × NamedBy v g x
-named_upper w v g k n e =
-    let (pre, tied) = named_parts w v n in
-    let at : (under v g (Beside (first_pre w) Near) && true) ≡ true = rw pre at e in
-    (w, record { triple = tied; above = under_past v g (Beside (first_pre w) Near) (first_so _ _ at) (past_up tied) })
+named_upper w v g k n e = grind (arith, named_parts, under_past, past_up)
   where
     past_up : triple_cmp w v ≡ Equal → is_past precedence (Beside (first_pre w) Near) v ≡ true
-    past_up tied = (tells (cut_cmp precedence (Beside (first_pre w) Near) (Beside v Near))).0
-        ∙ ap not (not_gt_then (precedence (first_pre w) v) Equal (first_pre_least w v tied) refl)
+    past_up tied = grind (arith, tells, not_gt_then, first_pre_least)
 
 named_span : (s : Span VersionValue) (v : VersionValue) (g : Cut VersionValue) → is_release v ≡ false
     → (holds precedence s v && lets_in s v) ≡ true → list_all (under v g) (kept_marks s) ≡ true
@@ -249,15 +208,11 @@ module _ (v x : VersionValue) (g : Cut VersionValue) (b : Begins g v x) where
 
   lower_past : (c : Bound VersionValue) → list_all (under v g) (beside c) ≡ true → is_past precedence (lower_cut c) v ≡ true
       → is_past precedence (lower_cut c) x ≡ true
-  lower_past Unbounded e p = refl
-  lower_past (Before w) e p = mark_past (Beside w Near) (first_so _ _ e) p
-  lower_past (After w) e p = mark_past (Beside w Far) (first_so _ _ e) p
+  lower_past c e p = grind (arith, mark_past, first_so)
 
   upper_past : (c : Bound VersionValue) → list_all (under v g) (beside c) ≡ true → is_past precedence (upper_cut c) v ≡ true
       → is_past precedence (upper_cut c) x ≡ true
-  upper_past Unbounded e p = cc
-  upper_past (Before w) e p = mark_past (Beside w Near) (first_so _ _ e) p
-  upper_past (After w) e p = mark_past (Beside w Far) (first_so _ _ e) p
+  upper_past c e p = grind (arith, mark_past, first_so)
 
   admitted : (p q l p' q' l' : Bool) → (p ≡ true → p' ≡ true) → (q' ≡ true → q ≡ true) → l ≡ l'
       → (not ((p && not q) && l) || ((p' && not q') && l')) ≡ true

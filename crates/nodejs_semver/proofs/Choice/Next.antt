@@ -1,5 +1,5 @@
 -- What comes next after a version, and first of all.
-use Rattle.std.proofs.Common.{refl, ◌≡◌, sym, ◌∙◌, ap, ◌<◌, true, false, List, [], ◌∷◌, ◌++◌, length, arith, is_gt, is_le}
+use Rattle.std.proofs.Common.{refl, ◌≡◌, sym, ◌∙◌, ap, ◌<◌, true, false, List, [], length, arith, is_gt, is_le}
 use Rattle.std.proofs.lemmas.Bool.{not-true}
 use Rattle.std.specs.declared.cmp.Ordering.{Ordering}
 use Rattle.std.specs.declared.cmp.Ordering.TheVariants.{Less, Equal}
@@ -7,18 +7,17 @@ use Rattle.semver_core.proofs.CutLaws.{tells}
 use Rattle.semver_core.proofs.Values.NextLaws.{least_after_pre_release}
 use Rattle.nodejs_semver.proofs.Algebra.Triples.{triple_cmp, upto_by_both}
 use Rattle.nodejs_semver.specs.Internal.Candidates.{zero, bare_release, first_pre, pre_after, patch_after}
-use Rattle.semver_core.specs.Internal.Successors.{Below, by_major, by_minor, by_patch, by_pre, above_patch, above_pre, below_cases, below_more, upto_major, upto_minor, upto_patch, zero_least}
+use Rattle.semver_core.specs.Internal.Successors.{Below, above_patch, above_pre, below_cases, below_more, upto_major, upto_minor, upto_patch, zero_least}
 use Rattle.semver_core.specs.Lists.{is_empty}
-use Rattle.semver_core.specs.Text.Identifiers.{Id, Numeric}
-use Rattle.semver_core.specs.Values.Order.{pre_cmp, precedence}
+use Rattle.semver_core.specs.Text.Identifiers.{Id}
+use Rattle.semver_core.specs.Values.Order.{precedence}
 use Rattle.semver_core.specs.Values.Versions.{VersionValue, is_release}
 
 pub le_not_gt : (r : Ordering) → is_le r ≡ true → is_gt r ≡ false
 le_not_gt r h = not-true _ (sym (tells r).0 ∙ h)
 
 pub some_in : (xs : List Id) → is_empty xs ≡ false → 0 < length xs
-some_in [] h = cc
-some_in (x ∷ xs) h = omega arith
+some_in xs h = grind arith
 
 -- Numeric 0 alone is the least pre-release
 pub first_pre_least : (w v : VersionValue) → triple_cmp w v ≡ Equal → is_gt (precedence (first_pre w) v) ≡ false
@@ -26,29 +25,17 @@ first_pre_least w v e = upto_by_both (first_pre w) v (ap is_gt e) (le_not_gt _ (
 
 -- the list with Numeric 0 after it is above it, and not above what is above it
 pub next_pre : (w : VersionValue) → is_release w ≡ false → is_release (pre_after w) ≡ false
-next_pre w k = by_list w.pre_release
-  where
-    by_list : (xs : List Id) → is_empty (xs ++ Numeric 0 ∷ []) ≡ false
-    by_list [] = refl
-    by_list (x ∷ xs) = refl
+next_pre w k = grind arith
 
 pub next_pre_above : (w : VersionValue) → is_release w ≡ false → precedence w (pre_after w) ≡ Less
-next_pre_above w k = above_pre w (pre_after w) refl refl refl (by_list w.pre_release k)
-  where
-    by_list : (xs : List Id) → is_empty xs ≡ false → pre_cmp xs (xs ++ Numeric 0 ∷ []) ≡ Less
-    by_list [] h = cc
-    by_list (x ∷ xs) h = below_more (x ∷ xs) (Numeric 0) []
+next_pre_above w k = grind (arith, above_pre, below_more)
 
 pub next_pre_least : (w v : VersionValue) → is_release w ≡ false → precedence w v ≡ Less
     → is_gt (precedence (pre_after w) v) ≡ false
 next_pre_least w v k h = le_not_gt _ (least_after_pre_release w v (some_in w.pre_release k) h)
 
 pub release_above : (w : VersionValue) → is_release w ≡ false → precedence w (bare_release w) ≡ Less
-release_above w k = above_pre w (bare_release w) refl refl refl (by_list w.pre_release k)
-  where
-    by_list : (xs : List Id) → is_empty xs ≡ false → pre_cmp xs [] ≡ Less
-    by_list [] h = cc
-    by_list (x ∷ xs) h = refl
+release_above w k = grind (arith, above_pre)
 
 pub next_patch_above : (w : VersionValue) → precedence w (patch_after w) ≡ Less
 next_patch_above w = above_patch w (patch_after w) refl refl (omega arith)
@@ -59,13 +46,8 @@ pub next_patch_least : (w v : VersionValue) → w.pre_release ≡ [] → v.pre_r
 next_patch_least w v e f h = le_not_gt _ (by_part (below_cases w v h))
   where
     by_part : Below w v → is_le (precedence (patch_after w) v) ≡ true
-    by_part (by_major a) = upto_major (patch_after w) v a
-    by_part (by_minor a b) = upto_minor (patch_after w) v a b
-    by_part (by_patch a b c) =
-        upto_patch (patch_after w) v (omega arith) (omega arith) (omega arith) (ap (λ ys. is_le (pre_cmp [] ys)) f)
-    by_part (by_pre a b c d) = cc (ap (λ xs. pre_cmp xs v.pre_release) e ∙ ap (pre_cmp []) f)
+    by_part h = grind (arith, upto_major, upto_minor, upto_patch)
 
 -- 0.0.0 is the least release
 pub zero_first : (v : VersionValue) → v.pre_release ≡ [] → is_gt (precedence zero v) ≡ false
-zero_first v e =
-    le_not_gt _ (upto_patch zero v (omega arith) (omega arith) (omega arith) (ap (λ ys. is_le (pre_cmp [] ys)) e))
+zero_first v e = grind (arith, le_not_gt, upto_patch)

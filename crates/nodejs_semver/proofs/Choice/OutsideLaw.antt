@@ -8,7 +8,6 @@ use Rattle.semver_core.specs.Values.Order.{precedence}
 use Rattle.semver_core.specs.Internal.OrderLaws.{precedence_total}
 use Rattle.semver_core.specs.Values.Versions.{VersionValue}
 use Rattle.semver_core.specs.declared.cuts.bound.Bound.{Bound}
-use Rattle.semver_core.specs.declared.cuts.bound.Bound.TheVariants.{Unbounded, Before, After}
 use Rattle.nodejs_semver.specs.Ranges.Outside.{is_bounded, lies_below, lies_above, is_outside}
 use Rattle.nodejs_semver.specs.declared.range.outside.OutsideDirection.{OutsideDirection}
 use Rattle.nodejs_semver.specs.declared.range.outside.OutsideDirection.TheVariants.{Higher, Lower}
@@ -18,19 +17,14 @@ use Rattle.nodejs_semver.proofs.Algebra.Clauses.{all_intervals}
 -- what lies past the upper cut of an interval lies past its lower cut
 both_past : (s : Span VersionValue) (v : VersionValue) → is_interval precedence s ≡ true
     → is_past precedence (upper_cut s.upper) v ≡ true → is_past precedence (lower_cut s.lower) v ≡ true
-both_past s v h p = is_past-down precedence_total (lower_cut s.lower) (upper_cut s.upper) v
-    (one_way precedence_total (lower_cut s.lower) (upper_cut s.upper) h) p
+both_past s v h p = grind (arith, is_past-down, precedence_total, one_way)
 
 -- the ends of the line
 unbounded_below : (b : Bound VersionValue) (v : VersionValue) → is_bounded b ≡ false → is_past precedence (lower_cut b) v ≡ true
-unbounded_below Unbounded v h = refl
-unbounded_below (Before w) v h = cc
-unbounded_below (After w) v h = cc
+unbounded_below b v h = grind arith
 
 unbounded_above : (b : Bound VersionValue) (v : VersionValue) → is_bounded b ≡ false → is_past precedence (upper_cut b) v ≡ false
-unbounded_above Unbounded v h = refl
-unbounded_above (Before w) v h = cc
-unbounded_above (After w) v h = cc
+unbounded_above b v h = grind arith
 
 -- one span that does not hold the version: l and u say whether it lies past the lower and the upper cut, a and b whether there
 -- is a bound

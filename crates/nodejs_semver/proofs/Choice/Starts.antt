@@ -1,5 +1,5 @@
 -- The least version of spans each of which begins with a version that it accepts.
-use Rattle.std.proofs.Common.{◌≡◌, sym, ◌∙◌, ap, subst, ℕ, ◌+◌, ◌<◌, Bool, true, false, ◌&&◌, ◌||◌, not, List, [], ◌∷◌, ◌++◌, Option, Some, None, if◌then◌else◌, length, get_or, take, inl, inr, refl, arith, option_and_then, Ordering, Less, Equal, Greater}
+use Rattle.std.proofs.Common.{◌≡◌, sym, ◌∙◌, ap, subst, ℕ, ◌+◌, ◌<◌, Bool, true, false, ◌&&◌, ◌||◌, not, List, [], ◌∷◌, ◌++◌, Option, Some, None, if◌then◌else◌, length, get_or, take, inl, inr, refl, arith}
 use Rattle.std.proofs.Math.Bool.{or-false}
 use Rattle.std.proofs.lemmas.Bool.{cond_both, false≢true, or_cases, or_parts}
 use Rattle.std.proofs.lemmas.List.{take_more}
@@ -7,25 +7,24 @@ use Rattle.std.proofs.lemmas.List.Folds.{find-append, list_any-append}
 use Rattle.std.specs.Cmp.{first_so, tied_itself}
 use Rattle.std.specs.List.{find, list_any}
 use Rattle.std.specs.Option.{option_or}
-use Rattle.std.specs.Ordering.{ordering_then, is_eq, is_le, is_lt}
-use Rattle.semver_core.proofs.CutLaws.{not_if}
+use Rattle.std.specs.Ordering.{is_le, is_lt}
+use Rattle.semver_core.specs.Internal.Sides.{Near}
+use Rattle.semver_core.proofs.CutLaws.{not_if, tells}
 use Rattle.semver_core.specs.Cuts.{Span, holds, is_past, lower_cut}
 use Rattle.semver_core.specs.Internal.OrderLaws.{precedence_total}
 use Rattle.semver_core.specs.Values.Order.{precedence}
 use Rattle.semver_core.specs.Values.Versions.{VersionValue}
-use Rattle.nodejs_semver.proofs.Algebra.Triples.{le_trans, lt_is, lt_le}
+use Rattle.nodejs_semver.proofs.Algebra.Triples.{le_trans, lt_is, lt_le, le_of_lt}
 use Rattle.nodejs_semver.specs.Internal.Candidates.{StartsWith, IsLeastBuilt, IsLeastSoFar, lesser}
 use Rattle.nodejs_semver.specs.Ranges.Gate.{accepts, lets_in}
-use Rattle.nodejs_semver.specs.Ranges.Least.{begins_with, build_by, least_build}
+use Rattle.nodejs_semver.specs.Ranges.Least.{least_build}
+use Rattle.nodejs_semver.proofs.Algebra.Gate.{past_order}
 
 -- what the span accepts is not below its start
 above_start : (s : Span VersionValue) (w x : VersionValue) → StartsWith s w → holds precedence s x ≡ true → is_le (precedence w x) ≡ true
-above_start s w x start h = near (precedence w x) (sym (ap (λ b. is_past precedence (lower_cut b) x) start.0) ∙ first_so _ _ h)
-  where
-    near : (r : Ordering) → is_le (ordering_then r Equal) ≡ true → is_le r ≡ true
-    near Less h = refl
-    near Equal h = refl
-    near Greater h = cc
+above_start s w x start h =
+    (tells (precedence w x)).0
+    ∙ ap not (past_order w x Near (sym (ap (λ b. is_past precedence (lower_cut b) x) start.0) ∙ first_so _ _ h))
 
 -- what one more span accepts
 one_more : (ss : List (Span VersionValue)) (s : Span VersionValue) (x : VersionValue)
@@ -49,22 +48,13 @@ fresh : (ss : List (Span VersionValue)) (s : Span VersionValue) (w : VersionValu
 fresh ss s w start above = ((one_more ss s w ∙ grind (arith, start.1), least), sym built)
   where
     least : (x : VersionValue) → accepts (ss ++ s ∷ []) x false ≡ true → is_le (precedence w x) ≡ true
-    least x h = elim (or_cases _ _ (sym (one_more ss s x) ∙ h))
-        [ inl k ↦ le_of (precedence w x) (above x k) | inr k ↦ above_start s w x start (first_so _ _ k) ]
-      where
-        le_of : (r : Ordering) → is_lt r ≡ true → is_le r ≡ true
-        le_of Less h = refl
-        le_of Equal h = refl
-        le_of Greater h = cc
+    least x h = grind (arith, or_cases, one_more, le_of_lt, above_start, first_so)
 
     fails : accepts ss w false ≡ false
     fails = not_if _ _ (above w) (ap is_lt (tied_itself precedence_total w))
 
     built : least_build (ss ++ s ∷ []) w ≡ w.build
-    built = ap (λ o. build_by (option_and_then (λ s. begins_with s.lower) o) w)
-        (find-append _ ss (s ∷ []) ∙ ap (λ o. option_or o (find (λ t. holds precedence t w && lets_in t w) (s ∷ []))) (find_none _ ss fails) ∙ ap (λ t. if t then Some s else None) start.1)
-        ∙ ap (λ b. build_by (begins_with b) w) start.0
-        ∙ ap (λ r. if is_eq r then w.build else []) (tied_itself precedence_total w)
+    built = grind (arith, find-append, find_none, fails, tied_itself, precedence_total)
 
 -- a least version stays so in front of a start that is not below it
 kept : (ss : List (Span VersionValue)) (s : Span VersionValue) (v w : VersionValue) → IsLeastBuilt ss v → StartsWith s w
@@ -76,8 +66,7 @@ kept ss s v w h start le = ((one_more ss s v ∙ grind (arith, h.0.0), least), b
         [ inl m ↦ h.0.1 x m | inr m ↦ le_trans precedence_total v w x le (above_start s w x start (first_so _ _ m)) ]
 
     built : v.build ≡ least_build (ss ++ s ∷ []) v
-    built = h.1 ∙ ap (λ o. build_by (option_and_then (λ s. begins_with s.lower) o) v)
-        (sym (find-append _ ss (s ∷ []) ∙ find_some _ ss _ h.0.0))
+    built = grind (arith, find-append, find_some)
 
 step : (ss : List (Span VersionValue)) (best : Option VersionValue) (s : Span VersionValue) (w : VersionValue)
     → IsLeastSoFar ss best → StartsWith s w → IsLeastBuilt (ss ++ s ∷ []) (lesser best w)

@@ -6,12 +6,13 @@ use Rattle.std.proofs.lemmas.Bool.{cases_Bool, eqb-true}
 use Rattle.std.proofs.lemmas.Bool.Decides.{nat_tests}
 use Rattle.std.proofs.lemmas.List.{take-append-drop, drop-drop, drop_all}
 use Rattle.std.proofs.Math.Seq.{take-add, take-append_seam}
+use Rattle.semver_core.specs.Failures.{NoValue}
 use Rattle.semver_core.specs.Internal.Reading.{mark_len, triple_at, pre_release_at, build_at, qualified}
 use Rattle.semver_core.specs.Internal.Spaces.{space_len}
 use Rattle.semver_core.specs.Text.Characters.{begins, IsAfterBlank}
 use Rattle.semver_core.specs.Text.Identifiers.{Id}
 use Rattle.semver_core.specs.Text.Numbers.{IsNumber}
-use Rattle.semver_core.specs.Text.VersionText.{HasNoVersion, IsMark, Reads, no_mark, small_mark, capital_mark}
+use Rattle.semver_core.specs.Text.VersionText.{IsMark, Reads, no_mark, small_mark, capital_mark}
 use Rattle.semver_core.specs.Values.Versions.{VersionValue}
 use Rattle.semver_core.specs.declared.TheConstants.{MAX_LENGTH}
 use Rattle.semver_core.proofs.Text.Pieces.{some_inside}
@@ -19,8 +20,8 @@ use Rattle.semver_core.proofs.Text.Runs.{drop_next}
 use Rattle.semver_core.proofs.Text.Texts.{build_complete, divided_at, number_begins, pre_complete, triple_complete}
 use Rattle.semver_core.proofs.Text.Trims.{after_blank_drops_spaces}
 use Rattle.nodejs_semver.proofs.Reading.Progress.{spaces-gone}
-use Rattle.nodejs_semver.specs.Diagnosis.VersionFlaws.{BeginsGreat, IsExact, IsExpectedAt, IsFlaw, IsFront, IsGreatAt, IsIgnoredFrom, IsWhole}
-use Rattle.nodejs_semver.specs.Internal.Stuck.{Stuck, begins_dot, at_great, at_digit, at_dot, later}
+use Rattle.nodejs_semver.specs.Diagnosis.VersionFlaws.{BeginsGreat, IsExact, IsExpectedAt, IsFlaw, IsFront, IsGreatAt}
+use Rattle.nodejs_semver.specs.Internal.Stuck.{Stuck, begins_dot, at_great, at_digit, at_dot, later, IsWhole}
 use Rattle.nodejs_semver.proofs.Diagnosing.Numbers.{digits_once}
 use Rattle.nodejs_semver.proofs.Diagnosing.Fronts.{Numeral, HasTail, Leads, Numbers, Place, begins_alike, first_numeral, lead_place, next_place, numeral_begins, numeral_once}
 use Rattle.nodejs_semver.specs.declared.diagnosis.versions.VersionFlaw.{VersionFlaw}
@@ -32,10 +33,7 @@ dots zero = []
 dots (suc k) = 46 ∷ 48 ∷ dots k
 
 one : (limit c : ℕ) → 9 ≤ limit → is_ascii_digit c ≡ true → IsNumber limit (c ∷ []) (digits_value 10 (c ∷ []))
-one limit c nine h = record { some = omega arith; each = rw h refl; value = refl; safe = small c h }
-  where
-    small : (c : ℕ) → is_ascii_digit c ≡ true → digits_value 10 (c ∷ []) ≤ limit
-    small c h = grind (arith, nat_tests, nine)
+one limit c nine h = grind (arith, nat_tests)
 
 numeral : (limit c : ℕ) (rest : List ℕ) → 9 ≤ limit → is_ascii_digit c ≡ true → begins is_ascii_digit rest ≡ false
     → Numeral limit (c ∷ rest) rest
@@ -65,7 +63,7 @@ right-dot limit Starts front d n k nine p number c h =
     )
 
 no-digit : (limit : ℕ) (Starts : List ℕ → Type 0) (front : List ℕ) (k : ℕ) → Place limit Starts front k → (text : List ℕ) → Starts text
-    → begins is_ascii_digit text ≡ false → HasNoVersion limit (front ++ text)
+    → begins is_ascii_digit text ≡ false → NoValue (Reads limit (front ++ text))
 no-digit limit Starts front k p text s h = λ v r.
     let tail = r.pre_release ++ (r.build ++ r.rest) in
     let found = first_numeral limit k text tail (p.only text tail s (v, r, refl)) in
@@ -77,7 +75,7 @@ no-dot-yet limit Starts front k p f =
     no-digit limit Starts front k p (46 ∷ f.0) (p.dot f.0) refl w.0 w.1
 
 no-great : (limit : ℕ) (Starts : List ℕ → Type 0) (front : List ℕ) (k : ℕ) → Place limit Starts front k → (text : List ℕ) → Starts text
-    → BeginsGreat limit text → HasNoVersion limit (front ++ text)
+    → BeginsGreat limit text → NoValue (Reads limit (front ++ text))
 no-great limit Starts front k p text s g = λ v r.
     let tail = r.pre_release ++ (r.build ++ r.rest) in
     let found = first_numeral limit k text tail (p.only text tail s (v, r, refl)) in
@@ -86,7 +84,7 @@ no-great limit Starts front k p text s g = λ v r.
     absurd (omega (arith, g.above, m.is.number.value, m.is.number.safe, ap (λ (d : List ℕ). digits_value 10 d) same.0))
 
 no-dot : (limit : ℕ) (Starts : List ℕ → Type 0) (front d : List ℕ) (n k : ℕ) → Place limit Starts front (suc k) → IsNumber limit d n → (text : List ℕ)
-    → begins is_ascii_digit text ≡ false → begins_dot text ≡ false → HasNoVersion limit ((front ++ d) ++ text)
+    → begins is_ascii_digit text ≡ false → begins_dot text ≡ false → NoValue (Reads limit ((front ++ d) ++ text))
 no-dot limit Starts front d n k p number text digit dot = λ v r.
     let tail = r.pre_release ++ (r.build ++ r.rest) in
     let h : HasTail limit (front ++ (d ++ text)) tail = subst (λ (t : List ℕ). HasTail limit t tail) (append_assoc front d text) (v, r, refl) in
@@ -114,8 +112,8 @@ dot-next text at h = go (drop at text) refl h
       omega (arith, ap length e, length-drop at text),
     )
 
-here : (limit : ℕ) (text : List ℕ) (at : ℕ) → HasNoVersion limit (take at text ++ drop at text) → HasNoVersion limit text
-here limit text at h = subst (λ (t : List ℕ). HasNoVersion limit t) (take-append-drop at text) h
+here : (limit : ℕ) (text : List ℕ) (at : ℕ) → NoValue (Reads limit (take at text ++ drop at text)) → NoValue (Reads limit text)
+here limit text at h = subst (λ (t : List ℕ). NoValue (Reads limit t)) (take-append-drop at text) h
 
 -- a flaw of a text that is not too long, and has no version
 abbrev pub IsWrong : ℕ → List ℕ → VersionFlaw → Type 0
@@ -148,11 +146,11 @@ stuck_wrong limit text Starts k at flaw nine inside p s (at_dot j a end found no
       inside = found.inside;
       right = λ c h. subst (λ (t : List ℕ). IsFront limit (t ++ c ∷ [])) (sym front) (right-dot limit Starts (take a text) m.piece found.n j nine p m.is.number c h);
       wrong = λ c rest other e.
-          subst (λ (t : List ℕ). HasNoVersion limit (t ++ (encode_utf8 c ++ other))) (sym front)
+          subst (λ (t : List ℕ). NoValue (Reads limit (t ++ (encode_utf8 c ++ other)))) (sym front)
           (no-dot limit Starts (take a text) m.piece found.n j p m.is.number (encode_utf8 c ++ other)
           (begins_alike is_ascii_digit c other rest ∙ (ap (λ (t : List ℕ). begins is_ascii_digit t) (sym e) ∙ m.is.ended))
           (begins_alike (λ b. b == 46) c other rest ∙ (ap (λ (t : List ℕ). begins_dot t) (sym e) ∙ none)));
-      none = here limit text end (subst (λ (t : List ℕ). HasNoVersion limit (t ++ drop end text)) (sym front)
+      none = here limit text end (subst (λ (t : List ℕ). NoValue (Reads limit (t ++ drop end text))) (sym front)
           (no-dot limit Starts (take a text) m.piece found.n j p m.is.number (drop end text) m.is.ended none));
       dot = λ f. refl;
     }
@@ -178,9 +176,7 @@ marked (c ∷ rest) = elim (cases_Bool (eqb c 118)) [
 ]
 
 unmarked : (text : List ℕ) (start : ℕ) → mark_len text ≤ start → take start text ≡ [] → mark_len (drop start text) ≡ 0
-unmarked [] start le e = ap (λ (t : List ℕ). mark_len t) (drop_all start [] (omega arith))
-unmarked (b ∷ text) zero le e = omega arith
-unmarked (b ∷ text) (suc start) le e = cc e
+unmarked text start le e = grind (arith, drop_all)
 
 record Begun (limit : ℕ) (text : List ℕ) (start : ℕ) : Type 0 where
   inside : start ≤ length text
@@ -230,19 +226,12 @@ IsDecided limit text found = MatchOption found (IsExact limit text) (λ flaw. Is
 
 pub decided : (limit : ℕ) (text : List ℕ) (found : Option VersionFlaw) → IsDecided limit text found
     → ((found ≡ None) ↔ IsExact limit text) × IfSome found (λ flaw. IsFlaw limit text flaw)
-decided limit text None h = ((λ e. h, λ e. refl), tt)
-decided limit text (Some flaw) h = ((λ e. cc e, λ e. absurd (h.1 e)), h.0)
+decided limit text found h = grind arith
 
 pub ended : (limit : ℕ) (text bytes : List ℕ) (start end next at : ℕ) → bytes ≡ text
     → (t : ℕ × ℕ × ℕ × ℕ) × (triple_at limit bytes start ≡ Some t) × (t.3 ≡ end) → next ≡ (pre_release_at bytes end).1 → at ≡ (build_at bytes next).1
     → Ended limit text start at
-ended limit text bytes start end next at same t pre build =
-    let e : Ended limit bytes start at = record {
-      numbers = t.0;
-      triple = t.1;
-      place = build ∙ ap (λ (n : ℕ). (build_at bytes n).1) (pre ∙ ap (λ (n : ℕ). (pre_release_at bytes n).1) (sym t.2));
-    } in
-    subst (λ (b : List ℕ). Ended limit b start at) same e
+ended limit text bytes start end next at same t pre build = grind arith
 
 pub whole_exact : (limit : ℕ) (text : List ℕ) (start at : ℕ) → IsUtf8 text → IsAfterBlank text (mark_len text) start → length text ≤ MAX_LENGTH
     → Ended limit text start at → length text ≤ at → IsExact limit text
@@ -252,16 +241,11 @@ whole_exact limit text start at utf8 a short e all =
     (qualified text e.numbers, record { short = short; reads = d.reads }, d.rest_is ∙ drop_all _ text (omega (arith, e.place)))
 
 pub ignored_behind : (limit : ℕ) (text : List ℕ) (start at : ℕ) → IsUtf8 text → IsAfterBlank text (mark_len text) start → length text ≤ MAX_LENGTH
-    → Ended limit text start at → at < length text → IsIgnoredFrom limit text at × (IsExact limit text → ⊥)
+    → Ended limit text start at → at < length text → IsFlaw limit text (Flaw.Ignored at) × (IsExact limit text → ⊥)
 ignored_behind limit text start at utf8 a short e some =
     let b = begun limit text start utf8 a in
     let d = divided_at limit text (take (mark_len text) text) (slice_range text (mark_len text) start) start e.numbers b.divided (marked text) a.blank e.triple in (
-      record {
-        version = qualified text e.numbers;
-        parses = record { short = short; reads = d.reads };
-        rest = d.rest_is ∙ ap (λ (n : ℕ). drop n text) (sym e.place);
-        some = some;
-      },
+      (qualified text e.numbers, record { short = short; reads = d.reads }, d.rest_is ∙ ap (λ (n : ℕ). drop n text) (sym e.place), some),
       λ x. not b x.0 x.1.reads x.2,
     )
   where

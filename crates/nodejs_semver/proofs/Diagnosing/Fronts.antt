@@ -1,10 +1,10 @@
 -- Which texts have a version, where so much of them was read.
-use Rattle.std.proofs.Common.{◌≡◌, ◌||◌, ◌<◌, ℕ, zero, suc, List, [], ◌∷◌, ◌++◌, length, drop, refl, sym, ap, ◌∙◌, subst, arith, true, false, Bool, eqb, append_assoc, encode_utf8_all, nat_lt}
+use Rattle.std.proofs.Common.{◌≡◌, ◌||◌, ◌<◌, ℕ, zero, suc, List, [], ◌∷◌, ◌++◌, length, drop, refl, sym, ap, ◌∙◌, subst, arith, true, Bool, eqb, append_assoc, encode_utf8_all}
 use Rattle.std.specs.Char.{encode_utf8, is_ascii_digit}
-use Rattle.std.specs.Cmp.{first_so}
 use Rattle.std.specs.List.{list_all}
 use Rattle.std.proofs.lemmas.Bool.Decides.{nat_tests}
 use Rattle.std.proofs.lemmas.Str.{char_from_byte, length-encode, len_utf8_bounds}
+use Rattle.nodejs_semver.specs.Internal.Stuck.{IsWhole}
 use Rattle.semver_core.specs.Internal.Reading.{mark_len}
 use Rattle.semver_core.specs.Internal.Spaces.{drop_spaces, space_len}
 use Rattle.semver_core.specs.Text.Characters.{begins, is_whitespace, IsBlank}
@@ -15,7 +15,6 @@ use Rattle.semver_core.proofs.Text.Texts.{no_mark_at, number_begins}
 use Rattle.semver_core.proofs.Text.SpaceLaw.{front_is_first_character}
 use Rattle.semver_core.proofs.Text.Spaces.{drop_spaces-none}
 use Rattle.semver_core.proofs.Text.Trims.{drop_spaces-blank}
-use Rattle.nodejs_semver.specs.Diagnosis.VersionFlaws.{IsWhole}
 use Rattle.nodejs_semver.proofs.Diagnosing.Numbers.{digits_once}
 
 -- the text is a number and what follows it
@@ -34,8 +33,7 @@ pub numeral_begins : (limit : ℕ) (text rest : List ℕ) → Numeral limit text
 numeral_begins limit text rest n = rw n.divided (number_begins n.digits rest n.is.number.some n.is.number.each)
 
 pub first_numeral : (limit k : ℕ) (text rest : List ℕ) → Numbers limit k text rest → (next : List ℕ) × Numeral limit text next
-first_numeral limit zero text rest h = (rest, h)
-first_numeral limit (suc k) text rest h = (46 ∷ h.0, h.1)
+first_numeral limit k text rest h = grind arith
 
 -- what follows a number is one text
 pub numeral_once : (limit : ℕ) (d x rest : List ℕ) (n : ℕ) → IsWholeNumber limit d x n → Numeral limit (d ++ x) rest → x ≡ rest
@@ -91,20 +89,7 @@ white-unmarked c rest h = go (encode_utf8 c ++ rest) refl
 
 pub digit_starts : (text : List ℕ) → begins is_ascii_digit text ≡ true → (space_len text ≡ 0) × (mark_len text ≡ 0)
 unfolding space_len
-digit_starts [] h = cc h
-digit_starts (c ∷ rest) h = (dark c rest h, no_mark_at c rest (λ m. clash c h m))
-  where
-    clash : (c : ℕ) → is_ascii_digit c ≡ true → (eqb c 118 || eqb c 86) ≡ true → ⊥
-    clash c h m = grind (arith, nat_tests)
-
-    low : (c : ℕ) → is_ascii_digit c ≡ true → nat_lt c 0x80 ≡ true
-    low c h = grind (arith, nat_tests)
-
-    other : (c : ℕ) → is_ascii_digit c ≡ true → is_whitespace c ≡ false
-    other c h = grind (arith, nat_tests)
-
-    dark : (c : ℕ) (rest : List ℕ) → is_ascii_digit c ≡ true → space_len (c ∷ rest) ≡ 0
-    dark c rest h = rw (low c h, other c h) refl
+digit_starts text h = grind (arith, no_mark_at, nat_tests)
 
 dot_starts : (text : List ℕ) → space_len (46 ∷ text) ≡ 0
 unfolding space_len
@@ -120,10 +105,7 @@ past_lead mark blank text m b dark unmarked = go mark m unmarked
 
     none : (cs : List ℕ) → list_all is_whitespace cs ≡ true → blank ≡ encode_utf8_all cs → (blank ≡ [] → mark_len text ≡ 0) → mark_len (blank ++ text) ≡ 0
     none [] each e u = ap (λ (t : List ℕ). mark_len (t ++ text)) e ∙ u e
-    none (c ∷ cs) each e u =
-        ap (λ (t : List ℕ). mark_len (t ++ text)) e
-        ∙ (ap (λ (t : List ℕ). mark_len t) (append_assoc (encode_utf8 c) (encode_utf8_all cs) text)
-        ∙ white-unmarked c (encode_utf8_all cs ++ text) (first_so (is_whitespace c) (list_all is_whitespace cs) each))
+    none (c ∷ cs) each e u = grind (arith, append_assoc, white-unmarked)
 
     go : (mark : List ℕ) → IsMark mark → (mark ++ blank ≡ [] → mark_len text ≡ 0) → drop_spaces (drop (mark_len (mark ++ (blank ++ text))) (mark ++ (blank ++ text))) ≡ text
     go mark no_mark u = rw (none b.characters b.each b.spelled u) spaces
@@ -136,13 +118,7 @@ Leads front text = (space_len text ≡ 0) × (front ≡ [] → mark_len text ≡
 
 -- behind the mark and the whitespace three numbers are right
 pub lead_place : (limit : ℕ) (mark blank : List ℕ) → IsMark mark → IsBlank blank → Place limit (Leads (mark ++ blank)) (mark ++ blank) 2
-lead_place limit mark blank m b = record {
-  local = λ c rest other s. (front_is_first_character c other ∙ (sym (front_is_first_character c rest) ∙ s.0), λ e. mark-alike c other rest ∙ s.1 e);
-  digit = λ text h. let s = digit_starts text h in (s.0, λ e. s.1);
-  dot = λ text. (dot_starts text, λ e. refl);
-  only = read;
-  whole = written;
-}
+lead_place limit mark blank m b = grind (arith, front_is_first_character, mark-alike, digit_starts, dot_starts, read, written)
   where
     read : (text tail : List ℕ) → Leads (mark ++ blank) text → HasTail limit ((mark ++ blank) ++ text) tail → Numbers limit 2 text tail
     read text tail s h =

@@ -1,8 +1,8 @@
 -- Why the word at the front of a part is ignored, by what was read of it.
-use Rattle.std.proofs.Common.{◌≡◌, ◌∙◌, ap, sym, ℕ, List, Bool, Some, refl, Option, is_some}
-use Rattle.nodejs_semver.specs.Diagnosis.IgnoredWords.{ignored_as, unless_bounded}
-use Rattle.nodejs_semver.specs.Internal.Ignored.{kind_at}
-use Rattle.nodejs_semver.specs.Internal.Words.{Sign, careted, compared, signed_word, tilded, unsigned, word_at}
+use Rattle.std.proofs.Common.{◌≡◌, ◌∙◌, ap, ℕ, List, Bool, Some, refl, Option, is_some, arith}
+use Rattle.nodejs_semver.specs.Diagnosis.IgnoredWords.{ignored_as}
+use Rattle.nodejs_semver.specs.Internal.Ignored.{kind_at, unless_bounded}
+use Rattle.nodejs_semver.specs.Internal.Words.{Sign, signed_word, word_at}
 use Rattle.nodejs_semver.specs.Text.PartialText.{Partial}
 use Rattle.nodejs_semver.specs.Text.Table.{table}
 use Rattle.nodejs_semver.specs.Text.WordText.{Word, hyphen, malformed}
@@ -12,16 +12,9 @@ use Rattle.nodejs_semver.specs.declared.diagnosis.ranges.IgnoredKind.TheVariants
 abbrev Kind : Type 0
 Kind = Option IgnoredKind × List ℕ
 
-signed_as : (limit : ℕ) (s : Sign) (p : Partial) → ignored_as limit (signed_word s p) ≡ unless_bounded (is_some (table limit (signed_word s p)))
-signed_as limit unsigned p = refl
-signed_as limit (compared c) p = refl
-signed_as limit (tilded greater) p = refl
-signed_as limit careted p = refl
-
 at_word : (limit : ℕ) (text : List ℕ) (kind : Option IgnoredKind) (w : Word × List ℕ) → word_at limit text ≡ w → kind ≡ ignored_as limit w.0
     → ◌≡◌ {A = Kind} (kind, w.1) (kind_at limit text)
-at_word limit text kind w e h =
-    ap (λ (k : Option IgnoredKind). (k, w.1)) h ∙ ap (λ (x : Word × List ℕ). (ignored_as limit x.0, x.1)) (sym e)
+at_word limit text kind w e h = grind arith
 
 pub at_malformed : (limit : ℕ) (text rest behind : List ℕ) → word_at limit text ≡ (malformed, behind) → rest ≡ behind
     → ◌≡◌ {A = Kind} (Some Malformed, rest) (kind_at limit text)
@@ -33,5 +26,4 @@ at_hyphen limit text rest p q kind bounded e h k = at_word limit text kind (hyph
 
 pub at_signed : (limit : ℕ) (text rest : List ℕ) (s : Sign) (p : Partial) (kind : Option IgnoredKind) (bounded : Bool) → word_at limit text ≡ (signed_word s p, rest)
     → bounded ≡ is_some (table limit (signed_word s p)) → kind ≡ unless_bounded bounded → ◌≡◌ {A = Kind} (kind, rest) (kind_at limit text)
-at_signed limit text rest s p kind bounded e h k =
-    at_word limit text kind (signed_word s p, rest) e (k ∙ (ap unless_bounded h ∙ sym (signed_as limit s p)))
+at_signed limit text rest s p kind bounded e h k = grind (arith, at_word)

@@ -4,14 +4,14 @@ use Rattle.std.specs.List.{AllByRecursion, list_all}
 use Rattle.std.proofs.lemmas.Str.{encodes-append}
 use Rattle.semver_core.specs.Internal.Spaces.{drop_spaces, space_len, trim}
 use Rattle.semver_core.specs.Lists.{is_empty}
-use Rattle.semver_core.specs.Text.Characters.{IsTrim, begins, is_whitespace}
+use Rattle.semver_core.specs.Text.Characters.{IsTrim}
 use Rattle.semver_core.proofs.Text.Trims.{drop_spaces-blank, drop_spaces-dark, middle_is_trim, trim_is_middle}
-use Rattle.nodejs_semver.specs.Diagnosis.IgnoredWords.{AreAllIgnored, AreIgnored, AreIgnoredOf, IsBounded, IsWhollyBounded, if_ignored, ignored_as, next_piece, next_word, no_piece, no_word, unless_bounded}
+use Rattle.nodejs_semver.specs.Diagnosis.IgnoredWords.{AreAllIgnored, AreIgnored, AreIgnoredOf, IsBounded, IsWhollyBounded, if_ignored, ignored_as, next_piece, next_word, no_piece, no_word}
 use Rattle.nodejs_semver.specs.Internal.Ignored.{all_ignored, ignored_of, ignored_within, part_end}
 use Rattle.nodejs_semver.specs.Internal.Parts.{cut_bars}
 use Rattle.nodejs_semver.specs.Internal.Words.{word_at, words, words_within}
 use Rattle.nodejs_semver.specs.Text.Table.{table}
-use Rattle.nodejs_semver.specs.Text.WordText.{Word, caret, compare, hyphen, malformed, plain, tilde}
+use Rattle.nodejs_semver.specs.Text.WordText.{Word}
 use Rattle.nodejs_semver.specs.declared.diagnosis.ranges.IgnoredWord.{IgnoredWord}
 use Rattle.nodejs_semver.proofs.Algebra.FlatMaps.{empty_is}
 use Rattle.nodejs_semver.proofs.Diagnosing.IgnoredParts.{ignored_nil, ignored_step}
@@ -19,8 +19,9 @@ use Rattle.nodejs_semver.proofs.Dividing.BarsDivide.{bars_divide, bars_once}
 use Rattle.nodejs_semver.proofs.Dividing.MeaningLaw.{pieces-utf8, words-law}
 use Rattle.nodejs_semver.proofs.Dividing.Trimmed.{trim-starts}
 use Rattle.nodejs_semver.proofs.Reading.Progress.{spaces-gone, spaces-le, word-shorter}
-use Rattle.nodejs_semver.proofs.Reading.Steps.{and-both, and-left, and-right}
 use Rattle.nodejs_semver.proofs.Reading.WordLaw.{skips-is, skips-utf8, trim-utf8, word-utf8, words_are}
+use Rattle.std.specs.Cmp.{first_so, second_so}
+use Rattle.std.proofs.lemmas.Bool.{and_from}
 
 -- ---- they are the ignored words
 
@@ -41,17 +42,7 @@ ignored-read limit place (suc n) (b ∷ rest) u h l =
 
 -- where a part begins in its piece, unless it is empty
 part-begins : (piece part : List ℕ) (t : IsTrim piece part) → (part ≡ []) ⊎ (length piece - length (drop_spaces piece) ≡ length (encode_utf8_all t.before))
-part-begins piece part t = go t.characters refl
-  where
-    go : (cs : List ℕ) → t.characters ≡ cs → (part ≡ []) ⊎ (length piece - length (drop_spaces piece) ≡ length (encode_utf8_all t.before))
-    go [] e = inl (t.middle_is ∙ ap (λ (x : List ℕ). encode_utf8_all x) e)
-    go (c ∷ cs) e =
-        let rest = encode_utf8_all ((c ∷ cs) ++ t.after) in
-        let whole : piece ≡ encode_utf8_all t.before ++ rest =
-        t.divided ∙ ap (λ (x : List ℕ). encode_utf8_all (t.before ++ (x ++ t.after))) e ∙ encodes-append t.before ((c ∷ cs) ++ t.after) in
-        let dark : is_whitespace c ≡ false = ap (λ (x : List ℕ). begins is_whitespace x) (sym e) ∙ t.begins_dark in
-        let left : drop_spaces piece ≡ rest = ap drop_spaces whole ∙ drop_spaces-blank t.before rest t.blank_before ∙ drop_spaces-dark c (encode_utf8_all (cs ++ t.after)) dark in
-        inr (omega (arith, ap length whole, ap length left, length-append (encode_utf8_all t.before) rest))
+part-begins piece part t = grind (arith, encodes-append, drop_spaces-blank, drop_spaces-dark, length-append)
 
 piece-read : (limit place : ℕ) (piece : List ℕ) → IsUtf8 piece → (t : IsTrim piece (trim piece))
     → AreIgnoredOf limit (place + length (encode_utf8_all t.before) + length (trim piece)) (trim piece) (ignored_of limit (part_end place piece) (trim piece))
@@ -82,22 +73,12 @@ all-read limit place (piece ∷ pieces) u =
 abbrev has_bounds : ℕ → Word → Bool
 has_bounds limit word = is_some (table limit word)
 
-unless-empty : (b : Bool) (start end : ℕ) → is_empty (if_ignored (unless_bounded b) start end) ≡ b
-unless-empty true start end = refl
-unless-empty false start end = refl
-
 if-empty : (limit : ℕ) (word : Word) (start end : ℕ) → is_empty (if_ignored (ignored_as limit word) start end) ≡ has_bounds limit word
 unfolding table
-if-empty limit (hyphen p q) start end = unless-empty (has_bounds limit (hyphen p q)) start end
-if-empty limit (plain p) start end = unless-empty (has_bounds limit (plain p)) start end
-if-empty limit (compare c p) start end = unless-empty (has_bounds limit (compare c p)) start end
-if-empty limit (tilde greater p) start end = unless-empty (has_bounds limit (tilde greater p)) start end
-if-empty limit (caret p) start end = unless-empty (has_bounds limit (caret p)) start end
-if-empty limit malformed start end = refl
+if-empty limit word start end = grind arith
 
 append-empty : (xs ys : List IgnoredWord) → is_empty (xs ++ ys) ≡ (is_empty xs && is_empty ys)
-append-empty [] ys = refl
-append-empty (x ∷ xs) ys = refl
+append-empty xs ys = grind arith
 
 within-empty : (limit place n : ℕ) (text : List ℕ) → is_empty (ignored_within limit place n text) ≡ list_all (has_bounds limit) (words_within limit n text)
 unfolding ignored_within words_within
@@ -117,31 +98,27 @@ all-empty : (limit place : ℕ) (pieces : List (List ℕ)) → is_empty (all_ign
 unfolding all_ignored
 all-empty limit place [] = refl
 all-empty limit place (piece ∷ pieces) =
-    let others = all_ignored limit (place + length piece + 2) pieces in
-    append-empty (ignored_of limit (part_end place piece) (trim piece)) others
-    ∙ (ap (λ (e : Bool). e && is_empty others) (within-empty limit (part_end place piece) (length (trim piece)) (trim piece))
-    ∙ ap (λ (e : Bool). bounded limit piece && e) (all-empty limit (place + length piece + 2) pieces))
+    grind (arith, append-empty, within-empty, all-empty limit (place + length piece + 2) pieces)
 
 are-bounded : (limit : ℕ) (pieces : List (List ℕ)) → AllByRecursion IsUtf8 pieces → list_all (bounded limit) pieces ≡ true → AllByRecursion (IsBounded limit) pieces
 are-bounded limit [] u h = tt
 are-bounded limit (piece ∷ pieces) u h =
     let t = trim_is_middle piece u.0 in
-    let one : IsBounded limit piece = record {
-      part = trim piece;
-      words = words limit (trim piece);
-      trimmed = t;
-      read = (words-law limit piece (trim piece) (words limit (trim piece)) u.0 t).0 refl;
-      bounded = and-left (bounded limit piece) (list_all (bounded limit) pieces) h;
-    } in
-    (one, are-bounded limit pieces u.1 (and-right (bounded limit piece) (list_all (bounded limit) pieces) h))
+    let read = (words-law limit piece (trim piece) (words limit (trim piece)) u.0 t).0 refl in
+    let one : IsBounded limit piece = (
+      words limit (trim piece),
+      (trim piece, t, read),
+      first_so (bounded limit piece) (list_all (bounded limit) pieces) h,
+    ) in
+    (one, are-bounded limit pieces u.1 (second_so (bounded limit piece) (list_all (bounded limit) pieces) h))
 
 all-bounded : (limit : ℕ) (pieces : List (List ℕ)) → AllByRecursion IsUtf8 pieces → AllByRecursion (IsBounded limit) pieces → list_all (bounded limit) pieces ≡ true
 all-bounded limit [] u h = refl
 all-bounded limit (piece ∷ pieces) u h =
     let b = h.0 in
-    and-both (bounded limit piece) (list_all (bounded limit) pieces)
-    (ap (λ (t : List ℕ). list_all (has_bounds limit) (words limit t)) (sym (middle_is_trim piece b.part b.trimmed))
-    ∙ ap (list_all (has_bounds limit)) ((words-law limit piece b.part b.words u.0 b.trimmed).1 b.read) ∙ b.bounded)
+    and_from (bounded limit piece) (list_all (bounded limit) pieces)
+    (ap (λ (t : List ℕ). list_all (has_bounds limit) (words limit t)) (sym (middle_is_trim piece b.1.0 b.1.1))
+    ∙ ap (list_all (has_bounds limit)) ((words-law limit piece b.1.0 b.0 u.0 b.1.1).1 b.1.2) ∙ b.2)
     (all-bounded limit pieces u.1 h.1)
 
 -- ---- the clauses

@@ -1,13 +1,10 @@
 -- The ignored words of a part, word by word, and of a text, part by part.
-use Rattle.std.proofs.Common.{drop, ◌≡◌, ◌<◌, ◌≤◌, ◌+◌, ◌-◌, ℕ, zero, suc, List, [], ◌∷◌, ◌++◌, length, refl, sym, ap, ◌∙◌, arith, false, Some, None, inl, inr, subst, append_assoc, Option, length-drop, length-take-le}
-use Rattle.std.proofs.lemmas.Bool.{cases_Bool, cases_lt, lt-ltb, le-ltb}
+use Rattle.std.proofs.Common.{◌≡◌, ◌<◌, ◌≤◌, ◌+◌, ◌-◌, ℕ, zero, suc, List, [], ◌∷◌, ◌++◌, length, refl, sym, ap, ◌∙◌, arith, Some, subst, append_assoc, Option, length-drop, length-take-le}
 use Rattle.semver_core.specs.Internal.Spaces.{drop_end_spaces, drop_spaces, space_len, trim}
-use Rattle.semver_core.specs.Lists.{is_empty}
 use Rattle.semver_core.specs.declared.TheConstants.{MAX_SAFE_INTEGER}
 use Rattle.nodejs_semver.specs.Diagnosis.IgnoredWords.{if_ignored}
 use Rattle.nodejs_semver.specs.Internal.Ignored.{all_ignored, ignored_behind, ignored_of, ignored_within, kind_at, left_list, option_list, part_end}
-use Rattle.nodejs_semver.specs.Internal.PartFronts.{bars_at, front_part, left_over}
-use Rattle.nodejs_semver.specs.Internal.Parts.{cut_bars}
+use Rattle.nodejs_semver.specs.Internal.PartFronts.{front_part, left_over}
 use Rattle.nodejs_semver.specs.Internal.Readings.{rest_view}
 use Rattle.nodejs_semver.specs.declared.diagnosis.left.Left.{Left}
 use Rattle.nodejs_semver.specs.declared.diagnosis.ranges.IgnoredKind.{IgnoredKind}
@@ -38,18 +35,11 @@ pub ignored_step : (limit place : ℕ) (text : List ℕ) → 0 < length text →
     → ignored_of limit place text ≡ if_ignored (kind_at limit text).0 (place - length text) (place - length (kind_at limit text).1)
     ++ ignored_of limit place (drop_spaces (kind_at limit text).1)
 unfolding ignored_within
-ignored_step limit place [] some h = absurd (omega arith)
-ignored_step limit place (b ∷ rest) some h =
-    let read = kind_at limit (b ∷ rest) in
-    let less = word-shorter limit b rest h in
-    let le = spaces-le read.1 in
-    ap (λ (l : List IgnoredWord). if_ignored read.0 (place - length (b ∷ rest)) (place - length read.1) ++ l)
-    (ignored_enough limit place (length rest) (length (drop_spaces read.1)) (drop_spaces read.1) (spaces-gone 0 read.1) (omega arith) (omega arith))
+ignored_step limit place text some h = grind (arith, word-shorter, spaces-le, ignored_enough, spaces-gone)
 
 pub ignored_nil : (limit place : ℕ) (text : List ℕ) → length text ≡ 0 → ignored_of limit place text ≡ []
 unfolding ignored_within
-ignored_nil limit place [] h = refl
-ignored_nil limit place (b ∷ rest) h = absurd (omega arith)
+ignored_nil limit place text h = grind arith
 
 behind-shorter : (limit : ℕ) (text : List ℕ) → 0 < length text → space_len text ≡ 0 → length (kind_at limit text).1 < length text
 behind-shorter limit [] some h = absurd (omega arith)
@@ -57,9 +47,7 @@ behind-shorter limit (b ∷ rest) some h = word-shorter limit b rest h
 
 -- the part has ended
 pub part_over : (l : Left) (o : Option (List ℕ)) → length l.part.now ≡ 0 → rest_view l.behind ≡ o → left_list l ≡ ignored_behind MAX_SAFE_INTEGER l.end o
-part_over l o none e =
-    ap (λ (words : List IgnoredWord). words ++ ignored_behind MAX_SAFE_INTEGER l.end (rest_view l.behind)) (ignored_nil MAX_SAFE_INTEGER l.part_end l.part.now none)
-    ∙ ap (λ (t : Option (List ℕ)). ignored_behind MAX_SAFE_INTEGER l.end t) e
+part_over l o none e = grind (arith, ignored_nil)
 
 abbrev Kind : Type 0
 Kind = Option IgnoredKind × List ℕ
@@ -69,28 +57,13 @@ pub word_read : (limit place : ℕ) (part rest next : List ℕ) (kind : Option I
     → 0 < length part → space_len part ≡ 0 → ◌≡◌ {A = Kind} (kind, rest) (kind_at limit part) → next ≡ drop_spaces rest
     → option_list word ≡ if_ignored kind (place - length part) (place - length rest)
     → ignored_of limit place part ++ others ≡ option_list word ++ (ignored_of limit place next ++ others)
-word_read limit place part rest next kind word others some h e n w =
-    ap (λ (l : List IgnoredWord). l ++ others)
-    (ignored_step limit place part some h
-    ∙ ap (λ (k : Kind). if_ignored k.0 (place - length part) (place - length k.1) ++ ignored_of limit place (drop_spaces k.1)) (sym e)
-    ∙ ap (λ (l : List IgnoredWord). l ++ ignored_of limit place (drop_spaces rest)) (sym w)
-    ∙ ap (λ (t : List ℕ). option_list word ++ ignored_of limit place t) (sym n))
-    ∙ append_assoc (option_list word) (ignored_of limit place next) others
+word_read limit place part rest next kind word others some h e n w = grind (arith, ignored_step, append_assoc)
 
 pub rest-sizes : (limit : ℕ) (part rest next : List ℕ) (kind : Option IgnoredKind) → 0 < length part → space_len part ≡ 0
     → ◌≡◌ {A = Kind} (kind, rest) (kind_at limit part) → next ≡ drop_spaces rest → (length rest < length part) × (length next ≤ length rest) × (space_len next ≡ 0)
-rest-sizes limit part rest next kind some h e n = (
-  omega (arith, behind-shorter limit part some h, ap (λ (k : Kind). length k.1) e),
-  omega (arith, spaces-le rest, ap length n),
-  ap (λ (t : List ℕ). space_len t) n ∙ spaces-gone 0 rest,
-)
+rest-sizes limit part rest next kind some h e n = grind (arith, behind-shorter, spaces-le, spaces-gone)
 
 -- ---- the parts of a text
-
--- the pieces behind the first one
-abbrev after : Option (List ℕ) → List (List ℕ)
-after None = []
-after (Some t) = cut_bars false t
 
 -- the front part and the text behind it fill the text
 pub record Sizes (text : List ℕ) (cut : List ℕ × Option (List ℕ)) : Type 0 where
@@ -99,26 +72,12 @@ pub record Sizes (text : List ℕ) (cut : List ℕ × Option (List ℕ)) : Type 
   pub behind : (t : List ℕ) → cut.1 ≡ Some t → length cut.0 + 2 + length t ≡ length text
 
 cut_sizes : (text : List ℕ) → Sizes text (front_part text)
-cut_sizes text = elim (cases_lt (bars_at text) (length text)) [
-  | inl less ↦
-      let room = bars_room text less in
-      let front = length-take-le (bars_at text) text (omega arith) in
-      let back = length-drop (bars_at text + 2) text in
-      rw (lt-ltb _ _ less) (record {
-        front = omega arith;
-        both = omega arith;
-        behind = λ t e. let same : drop (bars_at text + 2) text ≡ t = cc e in omega (arith, ap length same);
-      })
-  | inr none ↦ rw (le-ltb _ _ none) (record { front = omega arith; both = omega arith; behind = λ t e. cc e })
-]
+cut_sizes text = grind (arith, bars_room, length-take-le, length-drop)
 
 trim-le : (text : List ℕ) → length (drop_end_spaces text) ≤ length text
 unfolding drop_end_spaces
 trim-le [] = omega arith
-trim-le (b ∷ rest) = elim (cases_Bool (is_empty (drop_spaces (b ∷ rest)))) [
-  | inl all ↦ rw (all, drop_end_spaces) (omega arith)
-  | inr some ↦ let le = trim-le rest in rw (some, drop_end_spaces) (omega arith)
-]
+trim-le (b ∷ rest) = grind (arith, trim-le rest)
 
 pub part_ends : (place start : ℕ) (piece part : List ℕ) → start ≡ length piece - length (drop_spaces piece) → part ≡ trim piece
     → place + start + length part ≡ part_end place piece
@@ -135,15 +94,4 @@ sizes_of text cut e = subst (λ (c : List ℕ × Option (List ℕ)). Sizes text 
 pub all_step : (limit end : ℕ) (text : List ℕ) (cut : List ℕ × Option (List ℕ)) → cut ≡ front_part text → length text ≤ end
     → ignored_behind limit end (Some text) ≡ ignored_of limit (part_end (end - length text) cut.0) (trim cut.0) ++ ignored_behind limit end cut.1
 unfolding all_ignored
-all_step limit end text cut e le =
-    let place = end - length text in
-    ap (all_ignored limit place) (cut_bars-front text)
-    ∙ (ap (λ (l : List IgnoredWord). ignored_of limit (part_end place (front_part text).0) (trim (front_part text).0) ++ l) (later (front_part text).1 refl)
-    ∙ ap (λ (c : List ℕ × Option (List ℕ)). ignored_of limit (part_end place c.0) (trim c.0) ++ ignored_behind limit end c.1) (sym e))
-  where
-    later : (o : Option (List ℕ)) → (front_part text).1 ≡ o → all_ignored limit (end - length text + length (front_part text).0 + 2) (after o) ≡ ignored_behind limit end o
-    later None k = refl
-    later (Some t) k =
-        let sizes = (cut_sizes text).behind t k in
-        let place : end - length text + length (front_part text).0 + 2 ≡ end - length t = omega arith in
-        ap (λ (n : ℕ). all_ignored limit n (cut_bars false t)) place
+all_step limit end text cut e le = grind (arith, cut_bars-front, cut_sizes)

@@ -1,19 +1,21 @@
 -- Numbers and lists of identifiers, read up to the place behind them.
-use Rattle.std.proofs.Common.{◌≡◌, ◌<◌, ◌≤◌, ◌+◌, ◌-◌, ℕ, List, [], ◌∷◌, ◌++◌, length, drop, take, get_or, refl, sym, ap, ◌∙◌, arith, inl, inr, true, false, Some, suc, length-append, length-drop, Option}
+use Rattle.std.proofs.Common.{◌≡◌, ◌<◌, ◌≤◌, ◌+◌, ◌-◌, ℕ, List, [], ◌∷◌, ◌++◌, length, drop, take, refl, sym, ap, ◌∙◌, arith, inl, inr, true, false, Some, suc, length-append, length-drop, Option}
 use Rattle.std.specs.Char.{is_ascii_digit}
 use Rattle.std.specs.List.{list_all, prefix_len}
 use Rattle.std.specs.Str.Parse.{digits_value}
 use Rattle.std.proofs.lemmas.Bool.{cases_Bool, cases_lt}
-use Rattle.std.proofs.lemmas.List.{take-append-drop, take_at, drop_at, take_rest, drop_more, drop_all}
+use Rattle.std.proofs.lemmas.List.{take-append-drop, take_at, drop_at, take_rest}
 use Rattle.semver_core.specs.Internal.Reading.{list_len, number_at, triple_at}
 use Rattle.semver_core.specs.Text.Characters.{begins, IsPieceAt, NoPieceAt}
 use Rattle.semver_core.specs.Text.Identifiers.{goes_on}
 use Rattle.semver_core.specs.Text.Numbers.{IsWholeNumber}
 use Rattle.semver_core.proofs.Text.Pieces.{number_complete}
 use Rattle.nodejs_semver.specs.Diagnosis.VersionFlaws.{BeginsGreat}
-use Rattle.nodejs_semver.specs.Internal.Stuck.{IsNumberAt, Stuck, begins_dot, at_great, at_digit, at_dot, later}
+use Rattle.nodejs_semver.specs.Internal.Stuck.{IsNumberAt, Stuck, begins_dot, at_great, at_dot, later}
 use Rattle.nodejs_semver.proofs.Reading.Numbers.{digits-taken, run-ends}
 use Rattle.nodejs_semver.specs.declared.diagnosis.versions.VersionFlaw.TheVariants as Flaw
+use Rattle.semver_core.proofs.Text.Ends.{end_past, end_step}
+use Rattle.semver_core.proofs.Text.Runs.{list_len_stop}
 
 -- the run of digits at the front of a text
 run-digits : (text : List ℕ) → list_all is_ascii_digit (take (prefix_len is_ascii_digit text) text) ≡ true
@@ -24,8 +26,7 @@ run-digits (b ∷ rest) = elim (cases_Bool (is_ascii_digit b)) [
 ]
 
 run-some : (text : List ℕ) → begins is_ascii_digit text ≡ true → 0 < length (take (prefix_len is_ascii_digit text) text)
-run-some [] h = cc h
-run-some (b ∷ rest) h = let e : 1 + prefix_len is_ascii_digit rest ≡ suc (prefix_len is_ascii_digit rest) = omega arith in rw (h, e) (omega arith)
+run-some text h = grind arith
 
 -- it is above the limit where it is no number
 pub begins_great : (limit : ℕ) (text : List ℕ) (at : ℕ) → begins is_ascii_digit (drop at text) ≡ true
@@ -86,22 +87,11 @@ stuck_great limit text at some none k = at_great k at (begins_great limit text a
 -- identifiers go on, or end
 pub list_goes : (text : List ℕ) (at : ℕ) → at < length text → goes_on (take (length text - at) (drop at text)) ≡ true
     → at + list_len (drop at text) ≡ (at + 1) + list_len (drop (at + 1) text)
-unfolding list_len
-list_goes text at lt h =
-    let goes : goes_on (get_or text at 0 ∷ drop (at + 1) text) ≡ true = rw (take_rest text at, drop_more text at 0 lt) at h in
-    rw (drop_more text at 0 lt, goes) (omega arith)
-
-no-list : (t : List ℕ) → goes_on t ≡ false → list_len t ≡ 0
-unfolding list_len
-no-list [] h = refl
-no-list (b ∷ rest) h = rw h refl
+list_goes text at lt h = omega (arith, end_step text at lt (rw (take_rest text at) at h))
 
 pub list_stops : (text : List ℕ) (at : ℕ) → goes_on (take (length text - at) (drop at text)) ≡ false → list_len (drop at text) ≡ 0
-list_stops text at h = no-list (drop at text) (rw (take_rest text at) at h)
+list_stops text at h = list_len_stop (drop at text) (rw (take_rest text at) at h)
 
-pub list_all_read : (text : List ℕ) (at : ℕ) → length text ≤ at → list_len (drop at text) ≡ 0
-list_all_read text at h = rw (drop_all at text h) (no-list [] refl)
-
-pub ruleset lists_end = (list_goes, list_stops, list_all_read)
+pub ruleset lists_end = (list_goes, list_stops, end_past)
 
 pub ruleset numbers_stop = (at_dot, later, triple_found)

@@ -1,6 +1,6 @@
 -- The parts of a text, cut at its bars.
 use Rattle.semver_core.specs.Text.Characters.{begins}
-use Rattle.std.proofs.Common.{◌≡◌, ℕ, suc, ◌<◌, ◌≤◌, ◌+◌, List, [], ◌∷◌, length, drop, get_or, refl, sym, ap, ◌∙◌, arith, true, false, Some, None, inl, inr, subst, map, Option, nat_lt, IsCharBoundary, IsUtf8}
+use Rattle.std.proofs.Common.{◌≡◌, ℕ, suc, ◌<◌, ◌≤◌, ◌+◌, List, [], ◌∷◌, length, drop, get_or, refl, ap, ◌∙◌, arith, true, false, Some, None, inl, inr, subst, Option, nat_lt, IsCharBoundary, IsUtf8}
 use Rattle.std.proofs.lemmas.Bool.{eqb-true, cases_Bool, cases_lt, lt-ltb, le-ltb}
 use Rattle.std.proofs.lemmas.Str.{IsCharBoundary-after_ascii, IsCharBoundary-before_ascii}
 use Rattle.std.proofs.lemmas.List.{drop_more, get_or-drop}
@@ -8,33 +8,28 @@ use Rattle.nodejs_semver.specs.Internal.Parts.{cut_bars, parts}
 use Rattle.nodejs_semver.specs.Text.Bars.{is_bar}
 use Rattle.semver_core.specs.Internal.Spaces.{trim}
 use Rattle.nodejs_semver.specs.Internal.PartFronts.{bars_at, begins_bars, front_part, later_parts}
-use Rattle.nodejs_semver.proofs.Reading.Steps.{and-left, and-right}
+use Rattle.std.specs.Cmp.{second_so}
 
 pub bars_fit : (text : List ℕ) → bars_at text ≤ length text
 unfolding bars_at
 bars_fit [] = omega arith
-bars_fit (b ∷ rest) = elim (cases_Bool (begins_bars (b ∷ rest))) [
-  | inl here ↦ rw here (omega arith)
-  | inr other ↦ let more = bars_fit rest in rw other (omega arith)
-]
+bars_fit (b ∷ rest) = grind (arith, bars_fit rest)
 
 begins_bar-some : (text : List ℕ) → begins is_bar text ≡ true → 0 < length text
-begins_bar-some [] h = cc h
-begins_bar-some (b ∷ rest) h = omega arith
+begins_bar-some text h = grind arith
 
 -- where bars stand, both fit
 pub bars_room : (text : List ℕ) → bars_at text < length text → bars_at text + 2 ≤ length text
 unfolding bars_at
 bars_room [] h = absurd (omega arith)
 bars_room (b ∷ rest) h = elim (cases_Bool (begins_bars (b ∷ rest))) [
-  | inl here ↦ let some = begins_bar-some rest (and-right (is_bar b) (begins is_bar rest) here) in rw here (omega arith)
+  | inl here ↦ let some = begins_bar-some rest (second_so (is_bar b) (begins is_bar rest) here) in rw here (omega arith)
   | inr other ↦ let less : suc (bars_at rest) < length (b ∷ rest) = rw other at h in let more = bars_room rest (omega arith) in rw other (omega arith)
 ]
 
 pub bars_at-stop : (text : List ℕ) → begins_bars text ≡ true → bars_at text ≡ 0
 unfolding bars_at
-bars_at-stop [] h = refl
-bars_at-stop (b ∷ rest) h = rw h refl
+bars_at-stop text h = grind arith
 
 pub bars_at-more : (text : List ℕ) (i : ℕ) → i < length text → begins_bars (drop i text) ≡ false → bars_at (drop i text) ≡ suc (bars_at (drop (i + 1) text))
 unfolding bars_at
@@ -47,7 +42,7 @@ unfolding bars_at
 bars_at-nil = refl
 
 -- what a list of parts has after its first one
-abbrev parts_after : Option (List ℕ) → List (List ℕ)
+abbrev pub parts_after : Option (List ℕ) → List (List ℕ)
 parts_after None = []
 parts_after (Some t) = cut_bars false t
 
@@ -72,22 +67,14 @@ cut_bars-front (b ∷ rest) = elim (cases_Bool (begins_bars (b ∷ rest))) [
 ]
   where
     at_bars : (rest : List ℕ) → begins_bars (b ∷ rest) ≡ true → cut_bars false (b ∷ rest) ≡ (front_part (b ∷ rest)).0 ∷ parts_after (front_part (b ∷ rest)).1
-    at_bars [] h = cc (and-right (is_bar b) false h)
-    at_bars (c ∷ r) h =
-        let yes : nat_lt 0 (length (b ∷ c ∷ r)) ≡ true = lt-ltb 0 (length (b ∷ c ∷ r)) (omega arith) in
-        rw (h, cut_bars, yes) refl
+    at_bars rest h = grind arith
 
 -- bars are ASCII, so a text may be cut at them
 bar-low : (b : ℕ) → is_bar b ≡ true → b < 128
 bar-low b h = let e = eqb-true b 124 h in omega arith
 
-begins_bar-low : (text : List ℕ) → begins is_bar text ≡ true → get_or text 0 0 < 128
-begins_bar-low [] h = cc h
-begins_bar-low (b ∷ rest) h = bar-low b h
-
 here-low : (text : List ℕ) → begins_bars text ≡ true → (get_or text 0 0 < 128) × (get_or text 1 0 < 128)
-here-low [] h = cc h
-here-low (b ∷ rest) h = (bar-low b (and-left (is_bar b) (begins is_bar rest) h), begins_bar-low rest (and-right (is_bar b) (begins is_bar rest) h))
+here-low text h = grind (arith, bar-low)
 
 bars-begin : (text : List ℕ) → bars_at text < length text → begins_bars (drop (bars_at text) text) ≡ true
 unfolding bars_at
@@ -107,9 +94,7 @@ bars-low text h =
     (omega (arith, low.0, one), omega (arith, low.1, two))
 
 pub bars_boundary : (text : List ℕ) (at : ℕ) → at ≡ bars_at text → at < length text → IsCharBoundary text at
-bars_boundary text at e h =
-    let less : bars_at text < length text = omega arith in
-    subst (λ (n : ℕ). IsCharBoundary text n) (sym e) (IsCharBoundary-before_ascii text (bars_at text) less (bars-low text less).0)
+bars_boundary text at e h = grind (arith, IsCharBoundary-before_ascii, bars-low)
 
 pub bars_behind : (text : List ℕ) (at : ℕ) → IsUtf8 text → at ≡ bars_at text → at < length text → IsCharBoundary text (at + 2)
 bars_behind text at u e h =
@@ -121,10 +106,6 @@ bars_behind text at u e h =
 
 -- the parts are the one at the front, trimmed, and those of what follows
 pub parts-front : (text : List ℕ) → parts text ≡ trim (front_part text).0 ∷ later_parts (front_part text).1
-parts-front text = ap (λ (ps : List (List ℕ)). map trim ps) (cut_bars-front text) ∙ ap (λ (ps : List (List ℕ)). trim (front_part text).0 ∷ ps) (later (front_part text).1)
-  where
-    later : (o : Option (List ℕ)) → map trim (parts_after o) ≡ later_parts o
-    later None = refl
-    later (Some t) = refl
+parts-front text = grind (arith, cut_bars-front)
 
 pub ruleset at_bars = (bars_fit, bars_room, bars_boundary, bars_behind)

@@ -1,7 +1,7 @@
 -- For proofs. A text has one division at its bars, which is the one that `cut_bars` computes.
 use Rattle.semver_core.specs.Text.Characters.{begins, ends}
 use Rattle.std.proofs.Math.Bool.{and-true}
-use Rattle.std.proofs.Common.{◌≡◌, ℕ, List, [], ◌∷◌, ◌++◌, refl, sym, ap, ◌∙◌, inl, inr, true, false, subst, ◌&&◌}
+use Rattle.std.proofs.Common.{◌≡◌, ℕ, List, [], ◌∷◌, ◌++◌, refl, sym, ap, ◌∙◌, inl, inr, true, false, subst, ◌&&◌, arith}
 use Rattle.std.specs.List.{onto_first}
 use Rattle.std.proofs.lemmas.Bool.{and_parts, and_right, cases_Bool, eqb-true, or_from, or_parts}
 use Rattle.nodejs_semver.specs.Internal.Parts.{cut_bars}
@@ -19,12 +19,10 @@ whole-piece (b ∷ rest) h =
 -- a piece that ends before bars
 piece-ended : (b : ℕ) (rest t : List ℕ) → (is_bar b && begins is_bar rest) ≡ false → ends is_bar (b ∷ rest) ≡ false
     → (is_bar b && begins is_bar (rest ++ 124 ∷ t)) ≡ false
-piece-ended b [] t here ends = rw ends refl
-piece-ended b (c ∷ rest) t here ends = here
+piece-ended b rest t here ends = grind arith
 
 ends-rest : (b : ℕ) (rest : List ℕ) → ends is_bar (b ∷ rest) ≡ false → ends is_bar rest ≡ false
-ends-rest b [] h = refl
-ends-rest b (c ∷ rest) h = h
+ends-rest b rest h = grind arith
 
 front-piece : (piece t : List ℕ) → has_bars piece ≡ false → ends is_bar piece ≡ false
     → cut_bars false (piece ++ 124 ∷ (124 ∷ t)) ≡ piece ∷ cut_bars false t
@@ -36,8 +34,7 @@ front-piece (b ∷ rest) t h ends =
 
 pub bars_once : (text : List ℕ) (pieces : List (List ℕ)) → IsCutAtBars text pieces → pieces ≡ cut_bars false text
 bars_once text pieces (one_piece piece h) = sym (whole-piece piece h)
-bars_once text pieces (more_pieces piece rest others h ended cut) =
-    ap (λ (ps : List (List ℕ)). piece ∷ ps) (bars_once rest others cut) ∙ sym (front-piece piece rest h ended)
+bars_once text pieces (more_pieces piece rest others h ended cut) = grind (arith, front-piece, bars_once rest others cut)
 
 -- ---- this division
 

@@ -1,7 +1,7 @@
 -- What a text denotes is its one meaning.
-use Rattle.std.proofs.Common.{◌≡◌, ℕ, zero, suc, ◌<◌, ◌≤◌, List, [], ◌∷◌, ◌++◌, length, get_or, refl, sym, ap, ◌∙◌, arith, true, false, inl, inr, subst, append-nil, length-append, ◌↔◌, IfNone, IfSome, IsTrue, IsUtf8, Option, encode_utf8_all, map, filter_map, flat_map, if◌then◌else◌, encode_utf8, take_at, drop_at}
+use Rattle.std.proofs.Common.{◌≡◌, ℕ, zero, suc, ◌<◌, ◌≤◌, List, [], ◌∷◌, ◌++◌, length, get_or, refl, sym, ap, ◌∙◌, arith, true, false, inl, inr, subst, append-nil, length-append, ◌↔◌, IfNone, IfSome, IsTrue, IsUtf8, Option, encode_utf8_all, map, filter_map, flat_map, encode_utf8, take_at, drop_at}
 use Rattle.std.specs.List.{AllByRecursion, list_all}
-use Rattle.std.proofs.lemmas.Bool.{cases_Bool, false_from_ne_true}
+use Rattle.std.proofs.lemmas.Bool.{cases_Bool, false_from_ne_true, and_from}
 use Rattle.std.proofs.lemmas.List.Folds.{list_all-append}
 use Rattle.std.proofs.lemmas.Str.{IsUtf8-drop, IsUtf8-take, IsCharBoundary-after_ascii, IsCharBoundary-before_ascii, len_utf8_bounds, length-encode}
 use Rattle.semver_core.specs.Text.Characters.{IsBlank, IsTrim, is_whitespace}
@@ -23,13 +23,13 @@ use Rattle.nodejs_semver.specs.Text.WordText.{Word}
 use Rattle.nodejs_semver.specs.Internal.Words.{word_at, words}
 use Rattle.nodejs_semver.proofs.Algebra.FlatMaps.{empty_is}
 use Rattle.nodejs_semver.proofs.Dividing.BarsDivide.{bars_divide, bars_once}
-use Rattle.nodejs_semver.proofs.Reading.Steps.{and-both, and-left, and-right}
 use Rattle.nodejs_semver.proofs.Dividing.PartSteps.{words-none}
 use Rattle.nodejs_semver.proofs.Reading.Progress.{spaces-gone, spaces-le, word-shorter, words-step}
 use Rattle.nodejs_semver.proofs.Dividing.RunsDivide.{part_divides}
 use Rattle.nodejs_semver.proofs.Dividing.RunsUnique.{runs_are}
 use Rattle.nodejs_semver.proofs.Dividing.Trimmed.{trim-starts}
 use Rattle.nodejs_semver.proofs.Reading.WordLaw.{skips-is, skips-of, skips-utf8, trim-utf8, word-utf8, words_are}
+use Rattle.std.specs.Cmp.{first_so, second_so}
 
 -- ---- the words of a part
 
@@ -74,21 +74,16 @@ pub has-runs : (limit : ℕ) (piece : List ℕ) → IsUtf8 piece → HasRuns lim
 has-runs limit piece u =
     let part = trim piece in
     let is = trim_is_middle piece u in
-    record {
-      part = part;
-      words = words limit part;
-      trimmed = is;
-      read = words-read limit (length part) part (trim-utf8 piece part u is) (trim-starts piece part is) (omega arith);
-      divided = part_divides limit part;
-    }
+    let read = words-read limit (length part) part (trim-utf8 piece part u is) (trim-starts piece part is) (omega arith) in
+    (words limit part, (part, is, read), part_divides limit part)
 
 pub runs-once : (limit : ℕ) (piece : List ℕ) (runs : List (Run VersionValue)) → IsUtf8 piece → HasRuns limit piece runs
     → runs ≡ runs_of precedence (part_bounds limit (trim piece))
 runs-once limit piece runs u h =
-    runs_are (filter_map (table limit) h.words) runs h.divided
+    runs_are (filter_map (table limit) h.0) runs h.2
     ∙ ap (λ (ws : List Word). runs_of precedence (filter_map (table limit) ws))
-    (words-once limit h.part h.words (trim-utf8 piece h.part u h.trimmed) (trim-starts piece h.part h.trimmed) h.read)
-    ∙ ap (λ (t : List ℕ). runs_of precedence (part_bounds limit t)) (middle_is_trim piece h.part h.trimmed)
+    (words-once limit h.1.0 h.0 (trim-utf8 piece h.1.0 u h.1.1) (trim-starts piece h.1.0 h.1.1) h.1.2)
+    ∙ ap (λ (t : List ℕ). runs_of precedence (part_bounds limit t)) (middle_is_trim piece h.1.0 h.1.1)
 
 -- ---- the pieces of a text are UTF-8
 
@@ -130,19 +125,19 @@ empty-blank piece u h =
     let none : is.characters ≡ [] = no_characters is.characters (sym is.middle_is ∙ empty_is (trim piece) h) in
     record {
       characters = is.before ++ is.after;
-      each = list_all-append is_whitespace is.before is.after ∙ and-both _ _ is.blank_before is.blank_after;
+      each = list_all-append is_whitespace is.before is.after ∙ and_from _ _ is.blank_before is.blank_after;
       spelled = is.divided ∙ ap (λ (cs : List ℕ). encode_utf8_all (is.before ++ (cs ++ is.after))) none;
     }
 
 all-empty : (pieces : List (List ℕ)) → AllByRecursion IsBlank pieces → list_all is_empty (map trim pieces) ≡ true
 all-empty [] h = refl
-all-empty (piece ∷ pieces) h = and-both (is_empty (trim piece)) (list_all is_empty (map trim pieces)) (blank-empty piece h.0) (all-empty pieces h.1)
+all-empty (piece ∷ pieces) h = and_from (is_empty (trim piece)) (list_all is_empty (map trim pieces)) (blank-empty piece h.0) (all-empty pieces h.1)
 
 all-blank : (pieces : List (List ℕ)) → AllByRecursion IsUtf8 pieces → list_all is_empty (map trim pieces) ≡ true → AllByRecursion IsBlank pieces
 all-blank [] u h = tt
 all-blank (piece ∷ pieces) u h =
     let rest = list_all is_empty (map trim pieces) in
-    (empty-blank piece u.0 (and-left (is_empty (trim piece)) rest h), all-blank pieces u.1 (and-right (is_empty (trim piece)) rest h))
+    (empty-blank piece u.0 (first_so (is_empty (trim piece)) rest h), all-blank pieces u.1 (second_so (is_empty (trim piece)) rest h))
 
 -- ---- the intervals of all pieces
 
@@ -170,10 +165,6 @@ all-once limit pieces list u (next_piece piece rest runs others dark h more) =
 
 -- ---- the whole text
 
--- the intervals of a text by its pieces
-abbrev denoted : ℕ → List (List ℕ) → List (Span VersionValue)
-denoted limit pieces = if list_all is_empty (map trim pieces) then any_version else flat_map (part_denotes limit) (map trim pieces)
-
 means : (limit : ℕ) (text : List ℕ) (list : List (Span VersionValue)) → IsUtf8 text → denotes limit text ≡ list → Means limit text list
 unfolding IsBlankText
 means limit text list u e =
@@ -188,13 +179,7 @@ means limit text list u e =
 
 one-meaning : (limit : ℕ) (text : List ℕ) (list : List (Span VersionValue)) → IsUtf8 text → Means limit text list → denotes limit text ≡ list
 unfolding IsBlankText
-one-meaning limit text list u (every_version blank) =
-    ap (λ (ps : List (List ℕ)). denoted limit ps) (sym (bars_once text blank.0 blank.1)) ∙ rw (all-empty blank.0 blank.2) refl
-one-meaning limit text list u (all_intervals pieces here cut filled all) =
-    let each = pieces-utf8 text pieces cut u in
-    let some = false_from_ne_true (list_all is_empty (map trim pieces)) (λ e. filled (all-blank pieces each e)) in
-    ap (λ (ps : List (List ℕ)). denoted limit ps) (sym (bars_once text pieces cut))
-    ∙ rw some (sym (all-once limit pieces here each all))
+one-meaning limit text list u h = grind (arith, bars_once, all-empty, pieces-utf8, false_from_ne_true, all-blank, all-once)
 
 pub one_meaning : (limit : ℕ) (text : List ℕ) (list : List (Span VersionValue)) → IsUtf8 text → (denotes limit text ≡ list) ↔ Means limit text list
 one_meaning limit text list u = (means limit text list u, one-meaning limit text list u)
@@ -212,13 +197,11 @@ means_some limit text list u h some none = absurd (omega (arith, ap length (same
 -- the list of a reader, where there may be none
 pub meant_some : (limit : ℕ) (text : List ℕ) (list : List (Span VersionValue)) (o : Option (List (Span VersionValue))) → IsUtf8 text → list ≡ denotes limit text → o ≡ if_any list
     → IfSome o (λ range. Means limit text range × (0 < length range))
-meant_some limit text [] o u e h = rw h tt
-meant_some limit text (s ∷ rest) o u e h = rw h (meant limit text (s ∷ rest) u e, omega arith)
+meant_some limit text list o u e h = grind (arith, meant)
 
 pub meant_none : (limit : ℕ) (text : List ℕ) (list : List (Span VersionValue)) (o : Option (List (Span VersionValue))) → IsUtf8 text → list ≡ denotes limit text → o ≡ if_any list
     → IfNone o (Means limit text [])
-meant_none limit text [] o u e h = rw h (meant limit text [] u e)
-meant_none limit text (s ∷ rest) o u e h = rw h tt
+meant_none limit text list o u e h = grind (arith, meant)
 
 -- a text whose parts are all empty is blank
 pub blank_text : (text : List ℕ) → IsUtf8 text → IsTrue (list_all is_empty (parts text)) ↔ IsBlankText text

@@ -1,10 +1,11 @@
 -- The running intervals are those of the runs.
 use Rattle.std.proofs.Common.{◌≡◌, List, [], ◌∷◌, refl, sym, ap, ◌∙◌, true, false, map, inl, inr, Some, None, Option, Ordering}
+use Rattle.std.proofs.Common.{arith}
 use Rattle.std.specs.Cmp.{IsTotalOrder}
 use Rattle.std.proofs.lemmas.Bool.{cases_Bool}
-use Rattle.semver_core.specs.Cuts.{Span, is_interval, meet}
-use Rattle.nodejs_semver.specs.Text.Runs.{Run, fits, longer, interval_of}
-use Rattle.nodejs_semver.specs.Internal.RunsFrom.{runs_from, runs_of}
+use Rattle.semver_core.specs.Cuts.{Span, meet}
+use Rattle.nodejs_semver.specs.Text.Runs.{Run, fits, interval_of}
+use Rattle.nodejs_semver.specs.Internal.RunsFrom.{runs_from, runs_of, longer}
 use Rattle.nodejs_semver.specs.Internal.Meets.{joined, joined_from}
 use Rattle.nodejs_semver.proofs.Dividing.RunLemmas.{longer-is}
 
@@ -28,15 +29,10 @@ module _ {V : Type 0} (R : V → V → Ordering) where
 module _ {V : Type 0} {R : V → V → Ordering} (o : IsTotalOrder R) where
   -- a run with one word more is met by that word
   meets-fit : (r : Run V) (s : Span V) → fits R (longer r s) ≡ true → meet R (interval_of R r) s ≡ Some (interval_of R (longer r s))
-  meets-fit r s h =
-      let e = longer-is o r s in
-      let goes = sym (ap (λ (i : Span V). is_interval R i) e) ∙ h in
-      rw goes (ap Some (sym e))
+  meets-fit r s h = grind (arith, longer-is)
 
   meets-stop : (r : Run V) (s : Span V) → fits R (longer r s) ≡ false → meet R (interval_of R r) s ≡ None
-  meets-stop r s h =
-      let stops = sym (ap (λ (i : Span V). is_interval R i) (longer-is o r s)) ∙ h in
-      rw stops refl
+  meets-stop r s h = grind (arith, longer-is)
 
   runs_from-joined : (r : Run V) (is : List (Span V)) → map (interval_of R) (runs_from R r is) ≡ joined_from R (interval_of R r) is
   unfolding runs_from joined_from
@@ -54,5 +50,4 @@ module _ {V : Type 0} {R : V → V → Ordering} (o : IsTotalOrder R) where
 
   -- what the reader of a part computes is the intervals of its runs
   pub runs-joined : (bounds : List (Span V)) → joined R None bounds ≡ map (interval_of R) (runs_of R bounds)
-  runs-joined [] = refl
-  runs-joined (s ∷ rest) = sym (runs_from-joined (record { first = s; others = [] }) rest)
+  runs-joined bounds = grind (arith, runs_from-joined)

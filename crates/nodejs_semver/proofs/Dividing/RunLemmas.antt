@@ -1,50 +1,41 @@
 -- Runs: one word more, and what a run holds.
-use Rattle.std.proofs.Common.{◌≡◌, List, [], ◌∷◌, ◌++◌, refl, sym, ap, ap₂, ◌∙◌, true, false, Bool, inl, inr, arith, Ordering}
-use Rattle.std.specs.Prelude.{◌&&◌, ◌||◌, not, if◌then◌else◌}
+use Rattle.std.proofs.Common.{◌≡◌, List, [], ◌∷◌, ◌++◌, refl, sym, ap, ap₂, ◌∙◌, true, false, Bool, arith, Ordering}
+use Rattle.std.specs.Prelude.{◌&&◌, not, if◌then◌else◌}
 use Rattle.std.specs.Cmp.{IsTotalOrder, upto}
 use Rattle.std.proofs.Math.Bool.{and-true, not-not}
-use Rattle.std.proofs.lemmas.Bool.{cases_Bool}
 use Rattle.std.specs.List.{list_all}
-use Rattle.std.specs.Ordering.{is_gt, is_le, is_lt, ordering_then}
-use Rattle.std.specs.declared.cmp.Ordering.TheVariants.{Less, Equal, Greater}
-use Rattle.semver_core.specs.Cuts.{Cut, Beside, Near, Span, cut_cmp, greater_lower, holds, is_interval, is_past, lesser_upper, lower_cut, upper_cut}
+use Rattle.std.specs.Ordering.{is_gt}
+use Rattle.nodejs_semver.specs.Internal.RunsFrom.{longer}
+use Rattle.semver_core.specs.Cuts.{Cut, Span, cut_cmp, greater_lower, holds, is_past, lesser_upper, lower_cut, upper_cut}
 use Rattle.semver_core.specs.declared.cuts.bound.Bound.{Bound}
-use Rattle.semver_core.specs.declared.cuts.bound.Bound.TheVariants.{Unbounded, Before, After}
 use Rattle.semver_core.proofs.CutLaws.{between_parts, cut_total, gt_lt, lt_trans, past_lt, is_past-greater_lower, is_past-lesser_upper}
-use Rattle.nodejs_semver.specs.Text.Runs.{Run, fits, greatest_lower, interval_of, least_upper, longer, run_items}
+use Rattle.nodejs_semver.specs.Text.Runs.{Run, fits, greatest_lower, interval_of, least_upper}
 use Rattle.nodejs_semver.specs.Text.WrittenSet.{is_above, is_below, run_writes}
 
 -- the second of two where g says so
 later_assoc : {A : Type 0} (g : A → A → Bool) → ((x y z : A) → g x y ≡ true → g y z ≡ true → g x z ≡ true)
     → ((x y z : A) → g x y ≡ false → g y z ≡ false → g x z ≡ false) → (x y z : A)
     → (let later : A → A → A = λ x y. if g x y then y else x in later (later x y) z ≡ later x (later y z))
-later_assoc g trans chained x y z = elim (cases_Bool (g x y)) [
-  | inl p ↦ elim (cases_Bool (g y z)) [ inl q ↦ rw (p, q, trans x y z p q) refl | inr q ↦ rw (p, q, p) refl ]
-  | inr p ↦ elim (cases_Bool (g y z)) [ inl q ↦ rw (p, q) refl | inr q ↦ rw (p, q, p, chained x y z p q) refl ]
-]
+later_assoc g trans chained x y z = grind arith
 
 module _ {V : Type 0} {R : V → V → Ordering} (o : IsTotalOrder R) where
   gt_trans : (a b c : Cut V) → is_gt (cut_cmp R a b) ≡ true → is_gt (cut_cmp R b c) ≡ true → is_gt (cut_cmp R a c) ≡ true
   gt_trans a b c p q = gt_lt o a c ∙ lt_trans o c b a (sym (gt_lt o b c) ∙ q) (sym (gt_lt o a b) ∙ p)
 
   pub lesser_assoc : (b c d : Bound V) → lesser_upper R (lesser_upper R b c) d ≡ lesser_upper R b (lesser_upper R c d)
-  lesser_assoc = later_assoc (λ b c. is_gt (cut_cmp R (upper_cut b) (upper_cut c))) (λ b c d. gt_trans _ _ _)
-      (λ b c d. upto (cut_total o) _ _ _)
+  lesser_assoc = grind (arith, later_assoc, gt_trans, upto, cut_total)
 
   pub greater_assoc : (b c d : Bound V) → greater_lower R (greater_lower R b c) d ≡ greater_lower R b (greater_lower R c d)
-  greater_assoc b c d = sym (later_assoc (λ c b. is_gt (cut_cmp R (lower_cut b) (lower_cut c)))
-      (λ b c d h k. gt_trans _ _ _ k h) (λ b c d h k. upto (cut_total o) _ _ _ k h) d c b)
+  greater_assoc b c d = grind (arith, later_assoc, gt_trans, upto, cut_total)
 
   -- the greatest lower bound with one word more, and the least upper bound
   greatest-push : (s : Span V) (ts : List (Span V)) (u : Span V) → greatest_lower R s (ts ++ u ∷ []) ≡ greater_lower R (greatest_lower R s ts) u.lower
   greatest-push s [] u = refl
-  greatest-push s (t ∷ rest) u = ap (λ (b : Bound V). greater_lower R s.lower b) (greatest-push t rest u)
-      ∙ sym (greater_assoc s.lower (greatest_lower R t rest) u.lower)
+  greatest-push s (t ∷ rest) u = grind (arith, greater_assoc, greatest-push t rest u)
 
   least-push : (s : Span V) (ts : List (Span V)) (u : Span V) → least_upper R s (ts ++ u ∷ []) ≡ lesser_upper R (least_upper R s ts) u.upper
   least-push s [] u = refl
-  least-push s (t ∷ rest) u = ap (λ (b : Bound V). lesser_upper R s.upper b) (least-push t rest u)
-      ∙ sym (lesser_assoc s.upper (least_upper R t rest) u.upper)
+  least-push s (t ∷ rest) u = grind (arith, lesser_assoc, least-push t rest u)
 
   -- the interval of a run with one word more
   pub longer-is : (r : Run V) (s : Span V)
@@ -53,38 +44,22 @@ module _ {V : Type 0} {R : V → V → Ordering} (o : IsTotalOrder R) where
 
   -- a run that fits with one word more fits without it
   pub fits-shrinks : (r : Run V) (s : Span V) → fits R (longer r s) ≡ true → fits R r ≡ true
-  fits-shrinks r s h =
-      (between_parts o (interval_of R r).lower s.lower (interval_of R r).upper s.upper
-      (sym (ap (λ (i : Span V). is_interval R i) (longer-is r s)) ∙ h)).0.0
+  fits-shrinks r s h = grind (arith, between_parts, longer-is)
 
   -- a point past a lower cut passes the comparison of the bound, and so below an upper cut
   past-above : (b : Bound V) (v : V) → is_past R (lower_cut b) v ≡ is_above R b v
-  past-above Unbounded v = refl
-  past-above (Before w) v = past_lt o (Beside w Near) v
-      ∙ elim (R v w) as (λ r. not (is_lt (ordering_then r Equal)) ≡ not (is_lt r)) [ Less ↦ refl | Equal ↦ refl | Greater ↦ refl ]
-  past-above (After w) v =
-      elim (R w v) as (λ r. is_le (ordering_then r Greater) ≡ is_lt r) [ Less ↦ refl | Equal ↦ refl | Greater ↦ refl ]
+  past-above b v = grind (arith, past_lt)
 
   past-below : (b : Bound V) (v : V) → not (is_past R (upper_cut b) v) ≡ is_below R b v
-  past-below Unbounded v = refl
-  past-below (Before w) v = ap not (past-above (Before w) v) ∙ not-not (is_lt (R v w))
-  past-below (After w) v = ap not (past-above (After w) v)
-
-  not-or : (a b : Bool) → not (a || b) ≡ (not a && not b)
-  not-or a b = grind arith
+  past-below b v = grind (arith, past-above, not-not)
 
   above-all : (v : V) (s : Span V) (ts : List (Span V)) → is_past R (lower_cut (greatest_lower R s ts)) v ≡ list_all (λ k. is_above R k.lower v) (s ∷ ts)
   above-all v s [] = past-above s.lower v ∙ sym (and-true (is_above R s.lower v))
-  above-all v s (t ∷ rest) =
-      is_past-greater_lower o s.lower (greatest_lower R t rest) v
-      ∙ ap₂ (λ (a b : Bool). a && b) (past-above s.lower v) (above-all v t rest)
+  above-all v s (t ∷ rest) = grind (arith, is_past-greater_lower, past-above, above-all v t rest)
 
   below-all : (v : V) (s : Span V) (ts : List (Span V)) → not (is_past R (upper_cut (least_upper R s ts)) v) ≡ list_all (λ k. is_below R k.upper v) (s ∷ ts)
   below-all v s [] = past-below s.upper v ∙ sym (and-true (is_below R s.upper v))
-  below-all v s (t ∷ rest) =
-      ap not (is_past-lesser_upper o s.upper (least_upper R t rest) v)
-      ∙ (not-or (is_past R (upper_cut s.upper) v) (is_past R (upper_cut (least_upper R t rest)) v)
-      ∙ ap₂ (λ (a b : Bool). a && b) (past-below s.upper v) (below-all v t rest))
+  below-all v s (t ∷ rest) = grind (arith, is_past-lesser_upper, past-below, below-all v t rest)
 
   all-both : (p q : Span V → Bool) (ss : List (Span V)) → (list_all p ss && list_all q ss) ≡ list_all (λ s. p s && q s) ss
   all-both p q [] = refl
@@ -95,6 +70,4 @@ module _ {V : Type 0} {R : V → V → Ordering} (o : IsTotalOrder R) where
 
   -- the interval of a run holds what every word of the run writes
   pub run-holds : (v : V) (r : Run V) → holds R (interval_of R r) v ≡ run_writes R v r
-  run-holds v r =
-      ap₂ (λ (a b : Bool). a && b) (above-all v r.first r.others) (below-all v r.first r.others)
-      ∙ all-both (λ k. is_above R k.lower v) (λ k. is_below R k.upper v) (run_items r)
+  run-holds v r = grind (arith, above-all, below-all, all-both)

@@ -1,5 +1,5 @@
 -- What is made from the left is a division into runs.
-use Rattle.std.proofs.Common.{◌≡◌, ℕ, List, [], ◌∷◌, ◌++◌, refl, sym, ap, ◌∙◌, inl, inr, true, false, Bool, append_assoc, subst, Some, None, flat_map, filter_map, Option, Ordering}
+use Rattle.std.proofs.Common.{◌≡◌, ℕ, List, [], ◌∷◌, ◌++◌, refl, sym, ap, ◌∙◌, inl, inr, true, false, Bool, append_assoc, subst, Some, flat_map, filter_map, Option, Ordering, arith}
 use Rattle.std.specs.List.{AllByRecursion, list_all, cons_option}
 use Rattle.std.proofs.lemmas.Bool.{and_parts, cases_Bool}
 use Rattle.semver_core.specs.Cuts.{Span, is_interval}
@@ -7,13 +7,12 @@ use Rattle.semver_core.specs.Values.Order.{precedence}
 use Rattle.nodejs_semver.specs.Internal.Denotes.{part_bounds}
 use Rattle.nodejs_semver.specs.Text.Table.{table}
 use Rattle.nodejs_semver.specs.Internal.Words.{words}
-use Rattle.nodejs_semver.specs.Text.Runs.{Run, fits, longer, run_items, AreLongest, AreRuns}
-use Rattle.nodejs_semver.specs.Internal.RunsFrom.{runs_from, runs_of}
-use Rattle.nodejs_semver.proofs.Reading.Steps.{and-both}
+use Rattle.nodejs_semver.specs.Text.Runs.{Run, fits, run_items, AreLongest, AreRuns}
+use Rattle.nodejs_semver.specs.Internal.RunsFrom.{runs_from, runs_of, longer}
 use Rattle.nodejs_semver.proofs.Dividing.MeetLemmas.{runs-goes, runs-stops}
 use Rattle.nodejs_semver.proofs.Bounds.TableRows.{table-interval}
 
-abbrev single : {V : Type 0} → Span V → Run V
+abbrev pub single : {V : Type 0} → Span V → Run V
 single s = record { first = s; others = [] }
 
 module _ {V : Type 0} (R : V → V → Ordering) where
@@ -61,8 +60,7 @@ module _ {V : Type 0} (R : V → V → Ordering) where
 
 pub all-cons : {B : Type 0} (p : B → Bool) (o : Option B) (ys : List B) → ((b : B) → o ≡ Some b → p b ≡ true)
     → list_all p ys ≡ true → list_all p (cons_option o ys) ≡ true
-all-cons p None ys one rest = rest
-all-cons p (Some y) ys one rest = and-both (p y) (list_all p ys) (one y refl) rest
+all-cons p o ys one rest = grind arith
 
 pub filtered-each : {A B : Type 0} (p : B → Bool) (f : A → Option B) → ((a : A) (b : B) → f a ≡ Some b → p b ≡ true) → (xs : List A) → list_all p (filter_map f xs) ≡ true
 filtered-each p f each [] = refl

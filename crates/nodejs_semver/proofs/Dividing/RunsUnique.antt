@@ -1,5 +1,6 @@
 -- A part has one division into runs, and it is the one that is made from the left.
 use Rattle.std.proofs.Common.{◌≡◌, List, [], ◌∷◌, ◌++◌, refl, sym, ap, ◌∙◌, true, append_assoc, append-nil, subst, flat_map}
+use Rattle.std.proofs.Common.{arith}
 use Rattle.std.specs.List.{AllByRecursion}
 use Rattle.std.specs.Cmp.{IsTotalOrder}
 use Rattle.std.specs.declared.cmp.Ordering.{Ordering}
@@ -7,15 +8,13 @@ use Rattle.semver_core.specs.Cuts.{Span}
 use Rattle.semver_core.specs.Values.Order.{precedence}
 use Rattle.semver_core.specs.Internal.OrderLaws.{precedence_total}
 use Rattle.semver_core.specs.Values.Versions.{VersionValue}
-use Rattle.nodejs_semver.specs.Text.Runs.{Run, fits, longer, run_items, AreLongest, AreRuns}
-use Rattle.nodejs_semver.specs.Internal.RunsFrom.{runs_from, runs_of}
+use Rattle.nodejs_semver.specs.Text.Runs.{Run, fits, run_items, AreLongest, AreRuns}
+use Rattle.nodejs_semver.specs.Internal.RunsFrom.{runs_from, runs_of, longer}
 use Rattle.nodejs_semver.proofs.Dividing.RunLemmas.{fits-shrinks}
+use Rattle.nodejs_semver.proofs.Dividing.RunsDivide.{single}
 
 abbrev extended : {V : Type 0} → Run V → List (Span V) → Run V
 extended r xs = record { first = r.first; others = r.others ++ xs }
-
-abbrev single : {V : Type 0} → Span V → Run V
-single s = record { first = s; others = [] }
 
 module _ {V : Type 0} {R : V → V → Ordering} (o : IsTotalOrder R) where
   -- a run that fits with more words fits without them
@@ -36,9 +35,7 @@ module _ {V : Type 0} {R : V → V → Ordering} (o : IsTotalOrder R) where
       → fits R (extended r xs) ≡ true → AreLongest R (extended r xs ∷ rest)
       → runs_from R r (xs ++ flat_map run_items rest) ≡ extended r xs ∷ rest
   unfolding runs_from
-  from-run r [] rest last fit longest =
-      last r (subst (λ (q : Run V). AreLongest R (q ∷ rest)) (with-none r) longest)
-      ∙ ap (λ (q : Run V). q ∷ rest) (sym (with-none r))
+  from-run r [] rest last fit longest = grind (arith, with-none)
   from-run r (x ∷ xs) rest last fit longest =
       let fits_on : fits R (extended (longer r x) xs) ≡ true = subst (λ (q : Run V). fits R q ≡ true) (with-more r x xs) fit in
       rw (shrinks-all (longer r x) xs fits_on, runs_from)
@@ -59,8 +56,7 @@ module _ {V : Type 0} {R : V → V → Ordering} (o : IsTotalOrder R) where
       of_whole : (runs : List (Run V)) → AllByRecursion (λ r. fits R r ≡ true) runs → AreLongest R runs
           → runs ≡ runs_of R (flat_map run_items runs)
       of_whole [] each longest = refl
-      of_whole (r ∷ rest) each longest =
-          sym (from-run (single r.first) r.others rest (λ q h. from-last q rest each.1 h) each.0 longest)
+      of_whole (r ∷ rest) each longest = grind (arith, from-run, from-last)
 
 pub runs_are : (bounds : List (Span VersionValue)) (runs : List (Run VersionValue)) → AreRuns precedence bounds runs → runs ≡ runs_of precedence bounds
 runs_are bounds runs h = runs-unique precedence_total bounds runs h

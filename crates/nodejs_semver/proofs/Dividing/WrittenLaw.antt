@@ -39,12 +39,10 @@ piece-writes limit v piece u h = elim (cases_Bool (is_empty (trim piece))) [
 ]
   where
     behind : (b : Bool) → b ≡ false → {c : Bool} → (b || c) ≡ true → c ≡ true
-    behind true e h = cc e
-    behind false e h = h
+    behind b e h = grind arith
 
 piece-written : (limit : ℕ) (v : VersionValue) (piece : List ℕ) → IsUtf8 piece → PieceWrites limit v piece → part_writes limit v (trim piece) ≡ true
-piece-written limit v piece u (inl blank) =
-    ap (λ (b : Bool). b || list_any (run_writes precedence v) (runs_of precedence (part_bounds limit (trim piece)))) (blank-empty piece blank)
+piece-written limit v piece u (inl blank) = grind (arith, blank-empty)
 piece-written limit v piece u (inr (runs, has, some)) =
     or_right (is_empty (trim piece)) _ (ap (λ (rs : List (Run VersionValue)). list_any (run_writes precedence v) rs) (sym (runs-once limit piece runs u has)) ∙ some)
 

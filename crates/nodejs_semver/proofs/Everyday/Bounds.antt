@@ -1,5 +1,5 @@
 -- The interval of a part and what follows it, as the fast reader makes them.
-use Rattle.std.proofs.Common.{arith, ◌≡◌, ℕ, List, [], ◌∷◌, ◌++◌, drop, refl, sym, ap, ◌∙◌, Bool, true, Some, None}
+use Rattle.std.proofs.Common.{arith, ◌≡◌, ℕ, List, [], ◌∷◌, ◌++◌, drop, sym, ap, ◌∙◌, Bool, true, Some, None}
 use Rattle.std.specs.Prelude.{Option, if◌then◌else◌}
 use Rattle.semver_core.specs.Cuts.{Span, interval, meet}
 use Rattle.semver_core.specs.Values.Order.{precedence}
@@ -42,8 +42,7 @@ unfolding comparisons_front
 none-second limit text a rest h second k = rw (← h) (go (interval precedence a))
   where
     go : (o : Option (Span VersionValue)) → (part_read rest o >>? λ s. behind-first limit s) ≡ None
-    go None = refl
-    go (Some s) = rw (second, k) refl
+    go o = grind arith
 
 second-read : (limit : ℕ) (text : List ℕ) (a b : Span VersionValue) (rest more : List ℕ) → part_read rest (interval precedence a) ≡ word_read limit (comparison_front limit text)
     → begins_second rest ≡ true → part_read more (interval precedence b) ≡ word_read limit (comparison_front limit (drop 1 rest))
@@ -52,12 +51,10 @@ unfolding comparisons_front
 second-read limit text a b rest more h second k = rw (← h) (go (interval precedence a))
   where
     last : (s : Span VersionValue) (o : Option (Span VersionValue)) → (part_read more o >>? λ t. part_read t.1 (meet precedence s t.0)) ≡ part_read more (o >>? λ t. meet precedence s t)
-    last s None = refl
-    last s (Some t) = refl
+    last s o = grind arith
 
     go : (o : Option (Span VersionValue)) → (part_read rest o >>? λ s. behind-first limit s) ≡ part_read more (o >>? λ s. interval precedence b >>? λ t. meet precedence s t)
-    go None = refl
-    go (Some s) = rw (second, ← k) (last s (interval precedence b))
+    go o = grind (arith, last)
 
 -- two comparisons
 pub passed-second : (limit : ℕ) (text : List ℕ) (a b : Span VersionValue) (rest more : List ℕ) (there : Bool) (done new : List (Span VersionValue)) (r : Option (List ℕ))

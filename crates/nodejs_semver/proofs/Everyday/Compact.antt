@@ -10,8 +10,9 @@ use Rattle.semver_core.specs.Text.VersionText.{IsBuild, IsPreRelease}
 use Rattle.semver_core.proofs.Text.Pieces.{first_char, runs_tail, tail_onto, tail_runs}
 use Rattle.nodejs_semver.specs.Text.PartialText.{AreComponents, IsComponent, Partial}
 use Rattle.nodejs_semver.specs.Text.WordText.{Comparator, IsSign}
-use Rattle.nodejs_semver.proofs.Reading.Bytes.{all-end, all-imply, all-join, ends-append, ends-some, is_solid}
+use Rattle.nodejs_semver.proofs.Reading.Bytes.{all-end, all-join, ends-append, ends-some, is_solid}
 use Rattle.nodejs_semver.proofs.Reading.Components.{components-begin}
+use Rattle.nodejs_semver.proofs.Algebra.FlatMaps.{all_weaker}
 
 -- a visible character other than the bar, or a space
 abbrev pub is_part_byte : ℕ → Bool
@@ -47,7 +48,7 @@ list-solid : (text : List ℕ) (l : List Id) → IsIdentifiers text l → list_a
 list-solid text l h = identifiers-solid text (runs_tail (pieces text) h.runs)
 
 number-solid : (limit : ℕ) (x : List ℕ) (v : Option ℕ) → IsComponent limit x v → list_all is_solid x ≡ true
-number-solid limit x v h = grind (arith, all-imply)
+number-solid limit x v h = grind (arith, all_weaker)
 
 pre-solid : (p rest : List ℕ) (l : List Id) → IsPreRelease p rest l → list_all is_solid p ≡ true
 pre-solid p rest l h = grind (arith, list-solid)
@@ -68,7 +69,7 @@ pub compact-spaced : (u v : List ℕ) → Compact u → Compact v → Compact (u
 compact-spaced u v c d = compact-join u (32 ∷ v) c.front c.each d.each (ends-append is_solid (32 ∷ []) v (ends-some is_solid v d.end) ∙ d.end)
 
 pub compact-partial : (limit : ℕ) (x : List ℕ) (p : Partial) → AreComponents limit x p → Compact x
-compact-partial limit x p h = grind (arith, components-solid, components-begin, all-imply, all-end)
+compact-partial limit x p h = grind (arith, components-solid, components-begin, all_weaker, all-end)
 
 pub compact-signed : (b : ℕ) (text : List ℕ) → is_solid b ≡ true → Compact text → Compact (b ∷ text)
 compact-signed b text h c = compact-join (b ∷ []) text h (and_from (is_part_byte b) true (solid-part b h) refl) c.each c.end

@@ -1,12 +1,13 @@
 -- One part of a common text after another.
 use Rattle.std.proofs.Common.{◌≡◌, ℕ, zero, suc, ◌<◌, ◌≤◌, List, [], ◌∷◌, ◌++◌, length, refl, arith, true, false, Some, None, append_assoc}
 use Rattle.std.specs.Prelude.{Option}
+use Rattle.semver_core.specs.Failures.{NoValue}
 use Rattle.semver_core.specs.Cuts.{Span}
 use Rattle.semver_core.specs.Internal.Reading.{◌>>?◌}
 use Rattle.semver_core.specs.Lists.{is_empty}
 use Rattle.semver_core.specs.Values.Versions.{VersionValue}
 use Rattle.nodejs_semver.specs.Internal.CommonFronts.{after_bars, common_range, common_within, part_front, passed}
-use Rattle.nodejs_semver.specs.Text.Common.{IsCommonRange, IsUncommon}
+use Rattle.nodejs_semver.specs.Text.Common.{IsCommonRange}
 use Rattle.nodejs_semver.proofs.Everyday.Bounds.{Added, behind, passed-none, passed-some}
 use Rattle.nodejs_semver.proofs.Everyday.Parts.{common_ranges_are_read, next-shorter}
 
@@ -48,7 +49,7 @@ filled-of : (text : List ℕ) → 0 < length text → is_empty text ≡ false
 filled-of text h = grind arith
 
 -- no part, or no bars behind one: the text is no common one
-uncommon : (limit : ℕ) (text : List ℕ) (found : List (Span VersionValue)) (rest : List ℕ) (r : Reaches limit text found rest) → common_within limit r.bytes rest ≡ None → IsUncommon limit text
+uncommon : (limit : ℕ) (text : List ℕ) (found : List (Span VersionValue)) (rest : List ℕ) (r : Reaches limit text found rest) → common_within limit r.bytes rest ≡ None → NoValue (IsCommonRange limit text)
 uncommon limit text found rest r none = grind (arith, common_ranges_are_read)
 
 -- the reader was at a place, and its next step added a part
@@ -61,12 +62,12 @@ added-by : (limit : ℕ) (found new : List (Span VersionValue)) (rest left : Lis
 added-by limit found new rest left s = passed-some found new (part_front limit rest) s.after left s.added s.there
 
 pub loop-no_part : (limit : ℕ) (text : List ℕ) (found new : List (Span VersionValue)) (rest : List ℕ) (after : Option (List ℕ)) → behind after new ≡ passed found (part_front limit rest)
-    → after ≡ None → Reaches limit text found rest → IsUncommon limit text
+    → after ≡ None → Reaches limit text found rest → NoValue (IsCommonRange limit text)
 loop-no_part limit text found new rest after h e r =
     uncommon limit text found rest r (stops-part limit r.bytes rest (passed-none found new (part_front limit rest) after h e))
 
 pub loop-no_bars : (limit : ℕ) (text : List ℕ) (found new : List (Span VersionValue)) (rest left : List ℕ) → Step limit found new rest left → 0 < length left → after_bars left ≡ None
-    → Reaches limit text found rest → IsUncommon limit text
+    → Reaches limit text found rest → NoValue (IsCommonRange limit text)
 loop-no_bars limit text found new rest left s some bars r =
     let a = added-by limit found new rest left s in
     uncommon limit text found rest r (stops-bars limit r.bytes rest left a.interval_is a.found (filled-of left some) bars)

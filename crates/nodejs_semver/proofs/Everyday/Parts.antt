@@ -20,9 +20,10 @@ use Rattle.nodejs_semver.proofs.Everyday.Pieces.{bare-begins, bare-exact, bare-s
 use Rattle.nodejs_semver.proofs.Reading.Quiet.{Stop, stop-bar, stop-nil, stop-space}
 use Rattle.nodejs_semver.proofs.Everyday.Texts.{part-tidy}
 use Rattle.nodejs_semver.proofs.Everyday.Words.{no-equal, no-greater, sign-begins}
-use Rattle.nodejs_semver.proofs.Reading.Bytes.{begins-on, begins_component, is_component_byte, is_solid}
-use Rattle.nodejs_semver.proofs.Reading.Steps.{bind-some, inside}
+use Rattle.nodejs_semver.proofs.Reading.Bytes.{begins-on, begins_component, is_solid}
 use Rattle.nodejs_semver.proofs.Reading.WordLaw.{tilde-cases, Signed, sign-is}
+use Rattle.std.proofs.lemmas.Option.{same_Some}
+use Rattle.semver_core.proofs.Text.Texts.{bind_some}
 
 -- what may follow a part: the end, or bars with one space or none before them
 pub record Ends (more : List ℕ) : Type 0 where
@@ -50,8 +51,7 @@ comparator-of c sign text equal_sign h = refl
 
 comparison-exact : (limit : ℕ) (x : List ℕ) (w : Word) (more : List ℕ) → IsComparison limit x w → Stop more → comparison_front limit (x ++ more) ≡ Some (w, more)
 unfolding comparison_front
-comparison-exact limit x w more (comparison c sign text p is bare) stop =
-    grind (arith, comparator-of, bare-begins, append_assoc, bare-exact)
+comparison-exact limit x w more h stop = grind (arith, comparator-of, bare-begins, append_assoc, bare-exact)
 
 -- a comparison at the front
 abbrev Compared : ℕ → List ℕ → Word × List ℕ → Type 0
@@ -60,11 +60,11 @@ Compared limit text r = (x : List ℕ) × (text ≡ x ++ r.1) × IsComparison li
 comparison-sound : (limit : ℕ) (text : List ℕ) (r : Word × List ℕ) → comparison_front limit text ≡ Some r → Compared limit text r
 unfolding comparison_front
 comparison-sound limit text r h =
-    let c = bind-some (comparator_at text) _ r h in
-    let p = bind-some (bare_front limit c.0.1) _ r c.2 in
+    let c = bind_some (comparator_at text) _ r h in
+    let p = bind_some (bare_front limit c.0.1) _ r c.2 in
     let s : Signed text c.0 = sign-is text c.0 c.1 in
     let b = bare-sound limit c.0.1 p.0.0 p.0.1 p.1 in
-    rw (← inside p.2) (s.0 ++ b.0, rw (append_assoc, ← b.1) s.2, comparison c.0.0 s.0 b.0 p.0.0 s.1 b.2)
+    rw (← same_Some _ _ p.2) (s.0 ++ b.0, rw (append_assoc, ← b.1) s.2, comparison c.0.0 s.0 b.0 p.0.0 s.1 b.2)
 
 -- a word at the front
 abbrev Worded : ℕ → List ℕ → Word × List ℕ → Type 0
@@ -73,9 +73,9 @@ Worded limit text r = (x : List ℕ) × (text ≡ x ++ r.1) × IsCommonWord limi
 caret-sound : (limit : ℕ) (text : List ℕ) (r : Word × List ℕ) → caret_front limit text ≡ Some r → Worded limit (94 ∷ text) r
 unfolding caret_front
 caret-sound limit text r h =
-    let p = bind-some (bare_front limit text) _ r h in
+    let p = bind_some (bare_front limit text) _ r h in
     let b = bare-sound limit text p.0.0 p.0.1 p.1 in
-    rw (← inside p.2) (94 ∷ b.0, rw (← b.1) refl, caret_word b.0 p.0.0 b.2)
+    rw (← same_Some _ _ p.2) (94 ∷ b.0, rw (← b.1) refl, caret_word b.0 p.0.0 b.2)
 
 -- what stands behind a tilde
 tilde-by : (limit : ℕ) (text : List ℕ) (p : Partial) (x more : List ℕ) → (tilde_sign text).1 ≡ x ++ more → IsBare limit x p
@@ -88,9 +88,9 @@ tilde-by limit text p x more e h = elim (tilde-cases text) [
 tilde-sound : (limit : ℕ) (text : List ℕ) (r : Word × List ℕ) → tilde_front limit text ≡ Some r → Worded limit (126 ∷ text) r
 unfolding tilde_front
 tilde-sound limit text r h =
-    let p = bind-some (bare_front limit (tilde_sign text).1) _ r h in
+    let p = bind_some (bare_front limit (tilde_sign text).1) _ r h in
     let b = bare-sound limit (tilde_sign text).1 p.0.0 p.0.1 p.1 in
-    rw (← inside p.2) (tilde-by limit text p.0.0 b.0 p.0.1 b.1 b.2)
+    rw (← same_Some _ _ p.2) (tilde-by limit text p.0.0 b.0 p.0.1 b.1 b.2)
 
 dash-is : (text : List ℕ) → begins_dash text ≡ true → text ≡ 32 ∷ 45 ∷ 32 ∷ drop 3 text
 dash-is text h = grind arith
@@ -98,16 +98,16 @@ dash-is text h = grind arith
 partials-sound : (limit : ℕ) (text : List ℕ) (r : Word × List ℕ) → partials_front limit text ≡ Some r → Worded limit text r
 unfolding partials_front
 partials-sound limit text r h =
-    let p = bind-some (bare_front limit text) _ r h in
+    let p = bind_some (bare_front limit text) _ r h in
     let a = bare-sound limit text p.0.0 p.0.1 p.1 in
     elim (cases_Bool (begins_dash p.0.1)) [
       | inl dash ↦
-          let q = bind-some (bare_front limit (drop 3 p.0.1)) (λ q. Some (hyphen p.0.0 q.0, q.1)) r (rw dash at p.2) in
+          let q = bind_some (bare_front limit (drop 3 p.0.1)) (λ q. Some (hyphen p.0.0 q.0, q.1)) r (rw dash at p.2) in
           let b = bare-sound limit (drop 3 p.0.1) q.0.0 q.0.1 q.1 in
           let whole = a.1 ∙ ap (λ (t : List ℕ). a.0 ++ t) (dash-is p.0.1 dash ∙ ap (λ (t : List ℕ). 32 ∷ 45 ∷ 32 ∷ t) b.1) in
-          rw (← inside q.2) (a.0 ++ (32 ∷ 45 ∷ 32 ∷ b.0), rw append_assoc whole, hyphen_word a.0 b.0 p.0.0 q.0.0 a.2 b.2)
+          rw (← same_Some _ _ q.2) (a.0 ++ (32 ∷ 45 ∷ 32 ∷ b.0), rw append_assoc whole, hyphen_word a.0 b.0 p.0.0 q.0.0 a.2 b.2)
       | inr none ↦
-          let last : (plain p.0.0, p.0.1) ≡ r = inside (rw none at p.2) in
+          let last : (plain p.0.0, p.0.1) ≡ r = same_Some _ _ (rw none at p.2) in
           rw (← last) (a.0, a.1, plain_word a.0 p.0.0 a.2)
     ]
 
@@ -137,35 +137,21 @@ comparisons-part limit text h = grind arith
 word-exact : (limit : ℕ) (x : List ℕ) (w : Word) (s : Span VersionValue) (more : List ℕ) → IsCommonWord limit x w → table limit w ≡ Some s → Ends more
     → part_front limit (x ++ more) ≡ Some (s, more)
 unfolding part_front tilde_front caret_front partials_front comparisons_front
-word-exact limit x w s more (plain_word text p h) bounds e =
-    let begins = begins-on is_component_byte text more (bare-begins limit text p h) in
-    rw (partials-part limit (text ++ more) begins, bare-exact limit text more p h e.stop, e.dash, bounds) refl
+word-exact limit x w s more (plain_word text p h) bounds e = grind (arith, begins-on, bare-begins, partials-part, bare-exact)
 word-exact limit x w s more (compare_word text word is) bounds e =
-    let begins = begins-on is_sign text more (comparison-begins limit text word is) in
-    rw (comparisons-part limit (text ++ more) begins, comparison-exact limit text word more is e.stop, bounds, e.second) refl
-word-exact limit x w s more (tilde_word text p h) bounds e =
-    let begins = begins-on is_component_byte text more (bare-begins limit text p h) in
-    rw (no-greater (text ++ more) begins, bare-exact limit text more p h e.stop, bounds) refl
+    grind (arith, begins-on, comparison-begins, comparisons-part, comparison-exact)
+word-exact limit x w s more (tilde_word text p h) bounds e = grind (arith, begins-on, bare-begins, no-greater, bare-exact)
 word-exact limit x w s more (tilde_greater_word text p h) bounds e = rw (bare-exact limit text more p h e.stop, bounds) refl
 word-exact limit x w s more (caret_word text p h) bounds e = rw (bare-exact limit text more p h e.stop, bounds) refl
 word-exact limit x w s more (hyphen_word u v p q h k) bounds e =
-    let behind = 32 ∷ 45 ∷ 32 ∷ (v ++ more) in
-    let begins = begins-on is_component_byte u behind (bare-begins limit u p h) in
-    let first = bare-exact limit u behind p h (stop-space (45 ∷ 32 ∷ (v ++ more))) in
-    rw (append_assoc u (32 ∷ 45 ∷ 32 ∷ v) more, partials-part limit (u ++ behind) begins, first)
-    (rw (bare-exact limit v more q k e.stop, bounds) refl)
+    grind (arith, begins-on, bare-begins, bare-exact, stop-space, append_assoc, partials-part)
 
 -- a part that ends there is read whole
 pub part-exact : (limit : ℕ) (x : List ℕ) (s : Span VersionValue) (more : List ℕ) → IsCommonPart limit x s → Ends more → part_front limit (x ++ more) ≡ Some (s, more)
 unfolding comparisons_front
 part-exact limit x s more (one_word text word span is bounds) e = word-exact limit text word span more is bounds e
 part-exact limit x s more (two_comparisons u v a b c d both is other h k m) e =
-    let behind = 32 ∷ (v ++ more) in
-    let begins = begins-on is_sign u behind (comparison-begins limit u a is) in
-    let first = comparison-exact limit u a behind is (stop-space (v ++ more)) in
-    let second = begins-on is_sign v more (comparison-begins limit v b other) in
-    rw (append_assoc u (32 ∷ v) more, comparisons-part limit (u ++ behind) begins, first, h)
-    (rw (second, comparison-exact limit v b more other e.stop, k, m) refl)
+    grind (arith, begins-on, comparison-begins, comparison-exact, stop-space, append_assoc, comparisons-part)
 
 -- a part at the front
 abbrev pub Parted : ℕ → List ℕ → Span VersionValue × List ℕ → Type 0
@@ -185,14 +171,14 @@ comparisons-sound : (limit : ℕ) (text : List ℕ) (r : Span VersionValue × Li
     → Parted limit text r
 unfolding comparisons_front
 comparisons-sound limit text r h =
-    let a = bind-some (word_read limit (comparison_front limit text)) _ r h in
+    let a = bind_some (word_read limit (comparison_front limit text)) _ r h in
     let v = read-sound limit (comparison_front limit text) a.0 a.1 in
     let one = comparison-sound limit text (v.0, a.0.1) v.1 in
     elim (cases_Bool (begins_second a.0.1)) [
       | inl second ↦
           let rest = drop 1 a.0.1 in
           let read = word_read limit (comparison_front limit rest) in
-          let b = bind-some read (λ t. part_read t.1 (meet precedence a.0.0 t.0)) r (rw second at a.2) in
+          let b = bind_some read (λ t. part_read t.1 (meet precedence a.0.0 t.0)) r (rw second at a.2) in
           let w = read-sound limit (comparison_front limit rest) b.0 b.1 in
           let two = comparison-sound limit rest (w.0, b.0.1) w.1 in
           let p = part-is b.0.1 (meet precedence a.0.0 b.0.0) r b.2 in
@@ -201,7 +187,7 @@ comparisons-sound limit text r h =
           let is = two_comparisons one.0 two.0 v.0 w.0 a.0.0 b.0.0 r.0 one.2 two.2 v.2 w.2 p.0 in
           (one.0 ++ (32 ∷ two.0), rw append_assoc whole, is)
       | inr none ↦
-          let last : a.0 ≡ r = inside (rw none at a.2) in
+          let last : a.0 ≡ r = same_Some _ _ (rw none at a.2) in
           rw (← last) (one.0, one.1, one_word one.0 v.0 a.0.0 (compare_word one.0 v.0 one.2) v.2)
     ]
 
@@ -247,8 +233,8 @@ gap-is (b ∷ text) = elim (cases_Bool (b == 32)) [
 pub bars-sound : (more next : List ℕ) → after_bars more ≡ Some next → Barred more next
 unfolding after_bars
 bars-sound more next h =
-    let one = bind-some (after_byte 124 (after_gap more)) _ next h in
-    let two = bind-some (after_byte 124 one.0) (λ t. Some (after_gap t)) next one.2 in
+    let one = bind_some (after_byte 124 (after_gap more)) _ next h in
+    let two = bind_some (after_byte 124 one.0) (λ t. Some (after_gap t)) next one.2 in
     let before = gap-is more in
     let after = gap-is two.0 in
     grind arith
@@ -294,15 +280,15 @@ within-sound : (limit n : ℕ) (text : List ℕ) (list : List (Span VersionValue
 unfolding common_within
 within-sound limit zero text list h = cc h
 within-sound limit (suc n) text list h =
-    let p = bind-some (part_front limit text) _ list h in
+    let p = bind_some (part_front limit text) _ list h in
     elim (cases_Bool (is_empty p.0.1)) [
       | inl none ↦
-          let e : p.0.0 ∷ [] ≡ list = inside (rw none at p.2) in
+          let e : p.0.0 ∷ [] ≡ list = same_Some _ _ (rw none at p.2) in
           rw (← e) (last-sound limit text p.0.0 p.0.1 p.1 none)
       | inr some ↦
-          let next = bind-some (after_bars p.0.1) (λ next. common_within limit n next >>? λ tail. Some (onto p.0.0 tail)) list (rw some at p.2) in
-          let tail = bind-some (common_within limit n next.0) (λ tail. Some (onto p.0.0 tail)) list next.2 in
-          let e : p.0.0 ∷ tail.0 ≡ list = inside tail.2 in
+          let next = bind_some (after_bars p.0.1) (λ next. common_within limit n next >>? λ tail. Some (onto p.0.0 tail)) list (rw some at p.2) in
+          let tail = bind_some (common_within limit n next.0) (λ tail. Some (onto p.0.0 tail)) list next.2 in
+          let e : p.0.0 ∷ tail.0 ≡ list = same_Some _ _ tail.2 in
           rw (← e) (next-sound limit text p.0.0 p.0.1 next.0 tail.0 p.1 next.1 (within-sound limit n next.0 tail.0 tail.1))
     ]
 

@@ -17,7 +17,7 @@ use Rattle.nodejs_semver.specs.Text.Bars.{is_bar}
 use Rattle.nodejs_semver.specs.Text.Table.{table}
 use Rattle.nodejs_semver.specs.Text.WordText.{Word}
 use Rattle.nodejs_semver.proofs.Everyday.Compact.{Compact, compact-partial, compact-signed, is_part_byte}
-use Rattle.nodejs_semver.proofs.Everyday.Words.{Tidy, caret-tidy, compared-tidy, hyphen-tidy, no-greater, plain-tidy, tilde-tidy, two-tidy}
+use Rattle.nodejs_semver.proofs.Everyday.Words.{Tidy, caret-tidy, compared-tidy, hyphen-tidy, no-greater, plain-tidy, tilde-tidy, two-tidy, space-gone}
 use Rattle.nodejs_semver.proofs.Reading.Bytes.{all-join, is_solid, solid-dark}
 use Rattle.nodejs_semver.proofs.Reading.Components.{components-begin}
 
@@ -25,10 +25,6 @@ use Rattle.nodejs_semver.proofs.Reading.Components.{components-begin}
 
 solid-kept : (b : ℕ) (rest : List ℕ) → is_solid b ≡ true → drop_spaces (b ∷ rest) ≡ b ∷ rest
 solid-kept b rest h = drop_spaces-none (b ∷ rest) (solid-dark (b ∷ rest) h)
-
-space-gone : (rest : List ℕ) → drop_spaces (32 ∷ rest) ≡ drop_spaces rest
-unfolding after_spaces space_len
-space-gone rest = refl
 
 -- more than spaces is left of what ends in a character
 left-over : (text gap : List ℕ) → list_all is_part_byte text ≡ true → ends is_solid text ≡ true → is_empty (drop_spaces (text ++ gap)) ≡ false

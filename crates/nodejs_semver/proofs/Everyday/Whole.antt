@@ -1,14 +1,15 @@
 -- The range that the fast reader makes of the intervals of a common text.
-use Rattle.std.proofs.Common.{◌≡◌, ℕ, ◌<◌, ◌+◌, List, [], length, sym, arith, true, Some, subst}
+use Rattle.std.proofs.Common.{ap, ◌≡◌, ◌∙◌, ℕ, ◌<◌, ◌+◌, List, [], length, sym, arith, true, Some, subst}
 use Rattle.std.specs.Prelude.{Option, IfNone, IfSome, IsUtf8}
 use Rattle.std.specs.List.{list_all}
+use Rattle.nodejs_semver.specs.Internal.Sets.{is_range_span}
 use Rattle.semver_core.specs.Cuts.{Span}
 use Rattle.semver_core.specs.Lists.{if_any}
 use Rattle.semver_core.specs.Values.Versions.{VersionValue}
 use Rattle.nodejs_semver.specs.Text.Common.{IsCommonRange}
 use Rattle.nodejs_semver.specs.Internal.Denotes.{denotes}
 use Rattle.nodejs_semver.specs.Text.Meaning.{Means}
-use Rattle.nodejs_semver.specs.Ranges.View.{IsRange, is_range_span}
+use Rattle.nodejs_semver.specs.Ranges.View.{IsRange}
 use Rattle.nodejs_semver.proofs.Bounds.Table.{denotes-bounded}
 use Rattle.nodejs_semver.proofs.Dividing.MeaningLaw.{meant, one_meaning}
 use Rattle.nodejs_semver.proofs.Everyday.Texts.{common_ranges_are_denoted}
@@ -28,7 +29,8 @@ if-some {A} P o x e h = subst (λ (q : Option A). IfSome q P) e h
 
 -- the intervals that a text denotes are a range, where there are some
 pub denoted_range : (limit : ℕ) (text : List ℕ) (list : List (Span VersionValue)) → list ≡ denotes limit text → 0 < length list → IsRange limit list
-denoted_range limit text list h some = grind (arith, denotes-bounded)
+denoted_range limit text list h some =
+    record { some = some; each = ap (list_all (is_range_span (limit + 1))) h ∙ denotes-bounded limit text }
 
 -- the loose reader returns the range of a common text
 pub fast_read : (limit : ℕ) (text : List ℕ) (list : List (Span VersionValue)) (o : Option (List (Span VersionValue))) → IsUtf8 text → IsCommonRange limit text list

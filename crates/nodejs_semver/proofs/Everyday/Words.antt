@@ -73,12 +73,12 @@ one-word : (limit : ℕ) (text : List ℕ) (w : Word) → ReadAt limit text w []
 unfolding after_spaces words_within
 one-word limit text w r = words-at limit text w [] r
 
-space-gone : (z : List ℕ) → space_len z ≡ 0 → drop_spaces (32 ∷ z) ≡ z
+pub space-gone : (rest : List ℕ) → drop_spaces (32 ∷ rest) ≡ drop_spaces rest
 unfolding after_spaces space_len
-space-gone z h = drop_spaces-none z h
+space-gone rest = refl
 
 two-words : (limit : ℕ) (text rest : List ℕ) (v w : Word) → ReadAt limit text v (32 ∷ rest) → ReadAt limit rest w [] → words limit text ≡ v ∷ w ∷ []
-two-words limit text rest v w r s = words-at limit text v (32 ∷ rest) r ∙ rw (space-gone rest (solid-dark rest s.front), one-word limit rest w s) refl
+two-words limit text rest v w r s = words-at limit text v (32 ∷ rest) r ∙ rw (space-gone rest, drop_spaces-none rest (solid-dark rest s.front), one-word limit rest w s) refl
 
 -- a part that is trimmed to itself and has one interval
 pub record Tidy (limit : ℕ) (part : List ℕ) (s : Span VersionValue) : Type 0 where
@@ -93,9 +93,7 @@ word-tidy limit x w s c word bounds = record { compact = c; intervals = rw (one-
 
 pub plain-tidy : (limit : ℕ) (x : List ℕ) (p : Partial) (s : Span VersionValue) → AreComponents limit x p → table limit (plain p) ≡ Some s → Tidy limit x s
 unfolding word_at is_boundary space_len
-plain-tidy limit x p s h bounds =
-    let read = partial-last limit x p h in
-    word-tidy limit x (plain p) s (compact-partial limit x p h) (rw (unsigned-at limit x (p, []) read, read) refl) bounds
+plain-tidy limit x p s h bounds = grind (arith, partial-last, word-tidy, compact-partial, unsigned-at)
 
 last-compared : (limit : ℕ) (c : Comparator) (sign x : List ℕ) (p : Partial) → IsSign c sign → AreComponents limit x p → ReadAt limit (sign ++ x) (compare c p) []
 unfolding is_boundary

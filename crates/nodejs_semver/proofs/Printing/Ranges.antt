@@ -1,10 +1,10 @@
 -- For proofs. Printed ranges come back.
-use Rattle.std.proofs.Common.{◌≡◌, ◌+◌, ◌<◌, ◌^◌, ℕ, true, List, [], ◌∷◌, ◌++◌, map, refl, ap, ap₂, ◌∙◌, append-nil, arith, inl, inr, ◌&&◌, ◌||◌}
+use Rattle.std.proofs.Common.{◌≡◌, ◌+◌, ◌<◌, ◌^◌, ℕ, true, List, [], ◌∷◌, ◌++◌, map, refl, ap, ap₂, ◌∙◌, append-nil, arith, inl, ◌&&◌, ◌||◌}
 use Rattle.std.specs.List.{list_all}
-use Rattle.std.proofs.lemmas.Bool.{and_from, and_parts, cases_Bool}
+use Rattle.std.proofs.lemmas.Bool.{and_from, and_parts}
+use Rattle.nodejs_semver.specs.Internal.Sets.{is_range_span, span_eq}
 use Rattle.semver_core.specs.Cuts.{Span, is_interval}
-use Rattle.semver_core.specs.Internal.Readable.{readable}
-use Rattle.semver_core.specs.Values.Order.{precedence, version_eq}
+use Rattle.semver_core.specs.Values.Order.{precedence}
 use Rattle.semver_core.specs.Values.Versions.{VersionValue}
 use Rattle.semver_core.specs.declared.cuts.bound.Bound.{Bound}
 use Rattle.semver_core.specs.declared.cuts.bound.Bound.TheVariants.{Unbounded, Before, After}
@@ -12,9 +12,9 @@ use Rattle.nodejs_semver.specs.Printing.RoundTrip.{is_printable, is_small, bound
 use Rattle.nodejs_semver.specs.Internal.Denotes.{denotes}
 use Rattle.nodejs_semver.specs.Printing.Text.{bounds_text, range_text}
 use Rattle.nodejs_semver.specs.Ranges.Outside.{is_bounded}
-use Rattle.nodejs_semver.specs.Ranges.View.{IsRange, is_range_bound, is_range_span}
+use Rattle.nodejs_semver.specs.Ranges.View.{IsRange, is_range_bound}
 use Rattle.nodejs_semver.specs.Internal.SameLaws.{bound_refl}
-use Rattle.nodejs_semver.specs.Ranges.Equality.{span_eq, range_eq}
+use Rattle.nodejs_semver.specs.Ranges.Equality.{range_eq}
 use Rattle.nodejs_semver.proofs.Everyday.Words.{Tidy}
 use Rattle.nodejs_semver.proofs.Everyday.Texts.{AreTidy, more_tidy, one_tidy, tidy-denotes}
 use Rattle.nodejs_semver.proofs.Printing.Bounds.{IsReadableBound, bounds_tidy, ties_self}
@@ -24,10 +24,7 @@ bounds_same Unbounded upper = bound_refl upper
 bounds_same (After v) upper = and_from _ _ (ties_self v) (bound_refl upper)
 bounds_same (Before v) Unbounded = and_from _ _ (ties_self v) refl
 bounds_same (Before v) (Before w) = and_from _ _ (ties_self v) (ties_self w)
-bounds_same (Before v) (After w) = elim (cases_Bool (version_eq v w)) [
-  | inl same ↦ rw same (and_from _ _ (ties_self v) same)
-  | inr other ↦ rw other (and_from _ _ (ties_self v) (ties_self w))
-]
+bounds_same (Before v) (After w) = grind (arith, ties_self)
 
 pub same_back : (list : List (Span VersionValue)) → range_eq (map read_back list) list ≡ true
 same_back [] = refl
@@ -35,15 +32,11 @@ same_back (s ∷ rest) = and_from (span_eq (read_back s) s) (range_eq (map read_
 
 -- the tests of a printable interval, as facts
 bound_readable : (limit : ℕ) (b : Bound VersionValue) → is_range_bound limit b ≡ true → IsReadableBound limit b
-bound_readable limit Unbounded h = tt
-bound_readable limit (Before v) h = readable limit v h
-bound_readable limit (After v) h = readable limit v h
+bound_readable limit b h = grind arith
 
 -- a bound of a range, of small numbers
 small_bound : (limit : ℕ) (b : Bound VersionValue) → is_range_bound (limit + 1) b ≡ true → is_small limit b ≡ true → is_range_bound limit b ≡ true
-small_bound limit Unbounded h k = refl
-small_bound limit (Before v) h k = grind (arith, h, k)
-small_bound limit (After v) h k = grind (arith, h, k)
+small_bound limit b h k = grind arith
 
 span_tidy : (limit : ℕ) (s : Span VersionValue) → limit < 2 ^ 64 → is_range_span (limit + 1) s ≡ true → is_printable limit s ≡ true
     → Tidy limit (bounds_text s.lower s.upper) (read_back s)
@@ -59,9 +52,7 @@ span_tidy limit s below range h =
 printed_tidy : (limit : ℕ) (s : Span VersionValue) (rest : List (Span VersionValue)) → limit < 2 ^ 64
     → list_all (is_range_span (limit + 1)) (s ∷ rest) ≡ true → list_all (is_printable limit) (s ∷ rest) ≡ true
     → AreTidy limit (range_text (s ∷ rest)) (map read_back (s ∷ rest))
-printed_tidy limit s [] small range h =
-    rw (append-nil (bounds_text s.lower s.upper)) (one_tidy (bounds_text s.lower s.upper) (read_back s)
-    (span_tidy limit s small (and_parts (is_range_span (limit + 1) s) true range).0 (and_parts (is_printable limit s) true h).0))
+printed_tidy limit s [] small range h = grind (arith, append-nil, one_tidy, span_tidy, and_parts)
 printed_tidy limit s (t ∷ rest) small range h =
     let each = and_parts (is_printable limit s) (list_all (is_printable limit) (t ∷ rest)) h in
     let spans = and_parts (is_range_span (limit + 1) s) (list_all (is_range_span (limit + 1)) (t ∷ rest)) range in
@@ -80,10 +71,7 @@ again Unbounded upper = refl
 again (After v) upper = refl
 again (Before v) Unbounded = refl
 again (Before v) (Before w) = refl
-again (Before v) (After w) = elim (cases_Bool (version_eq v w)) [
-  | inl same ↦ rw (same, ties_self v) refl
-  | inr other ↦ rw (other, other) refl
-]
+again (Before v) (After w) = grind (arith, ties_self)
 
 -- and so does a range
 pub prints_again : (list : List (Span VersionValue)) → range_text (map read_back list) ≡ range_text list

@@ -1,12 +1,11 @@
 -- For proofs. A range that is printed and parsed.
-use Rattle.std.proofs.Common.{◌≡◌, ◌<◌, ◌^◌, ℕ, true, List, [], ◌∷◌, map, ap, sym, ◌∙◌, arith, Ok, Err, Result, IfOk, IsUtf8}
+use Rattle.std.proofs.Common.{◌≡◌, ◌<◌, ◌^◌, ℕ, true, List, [], ◌∷◌, map, ap, sym, ◌∙◌, arith, Result, IfOk, IsUtf8}
 use Rattle.std.proofs.lemmas.Result.{IfOk-weaker}
 use Rattle.std.specs.List.{list_all}
 use Rattle.semver_core.specs.Cuts.{Span}
-use Rattle.semver_core.specs.Failures.{NeverRefused, RefusedOnlyIf}
+use Rattle.semver_core.specs.Failures.{RefusedOnlyIf}
 use Rattle.semver_core.specs.Values.Versions.{VersionValue}
 use Rattle.semver_core.specs.declared.error.Failure.{Failure}
-use Rattle.semver_core.specs.declared.error.Failure.TheVariants.{Refused, Memory}
 use Rattle.nodejs_semver.specs.Printing.RoundTrip.{is_printable, read_back}
 use Rattle.nodejs_semver.specs.Text.Meaning.{Means}
 use Rattle.nodejs_semver.proofs.Dividing.MeaningLaw.{one_meaning}
@@ -46,7 +45,5 @@ not_refused limit text [] h m = absurd (omega (arith, h.range.some))
 not_refused limit text (s ∷ rest) h m = cc (is_back limit text [] (s ∷ rest) h m)
 
 pub reread_read : {E : Type 0} (limit : ℕ) (r : Result (List (Span VersionValue)) (Failure E)) (text : List ℕ) (list : List (Span VersionValue)) → Reread limit text list
-    → RefusedOnlyIf {A = List (Span VersionValue)} {E = E} r (Means limit text []) → NeverRefused {A = List (Span VersionValue)} {E = E} r
-reread_read limit (Ok again) text list h m = tt
-reread_read limit (Err (Refused x)) text list h m = not_refused limit text list h m
-reread_read limit (Err (Memory x)) text list h m = tt
+    → RefusedOnlyIf {A = List (Span VersionValue)} {E = E} r (Means limit text []) → RefusedOnlyIf {A = List (Span VersionValue)} {E = E} r ⊥
+reread_read limit r text list h m = grind (arith, not_refused)

@@ -1,5 +1,5 @@
 -- For proofs. A printed version is the components of a partial.
-use Rattle.std.proofs.Common.{◌≡◌, ◌<◌, ◌≤◌, ◌^◌, ℕ, false, List, [], ◌∷◌, ◌++◌, refl, sym, arith, append-nil, Some, decimal}
+use Rattle.std.proofs.Common.{◌≡◌, ◌<◌, ◌≤◌, ◌^◌, ℕ, false, List, [], ◌∷◌, ◌++◌, arith, append-nil, Some, decimal}
 use Rattle.std.specs.Char.{is_ascii_digit}
 use Rattle.semver_core.specs.Text.Characters.{begins}
 use Rattle.semver_core.specs.Text.Identifiers.{Id}
@@ -17,14 +17,10 @@ abbrev pub whole : VersionValue → Partial
 whole v = record { major = Some v.major; minor = Some v.minor; patch = Some v.patch; pre_release = v.pre_release; build = v.build }
 
 number_is : (limit n : ℕ) → limit < 2 ^ 64 → n ≤ limit → IsNumber limit (decimal n) n
-number_is limit n fits small =
-    let low : n < 2 ^ 64 = omega arith in
-    record { some = decimal_some n low; each = decimal_digits n low; value = sym (decimal_value n low); safe = small }
+number_is limit n fits small = grind (arith, decimal_some, decimal_digits, decimal_value)
 
 no_digit : (ids builds : List Id) → begins is_ascii_digit (marked_list (45 ∷ []) ids ++ marked_list (43 ∷ []) builds) ≡ false
-no_digit (id ∷ ids) builds = refl
-no_digit [] (b ∷ bs) = refl
-no_digit [] [] = refl
+no_digit ids builds = grind arith
 
 pub components_are : (limit : ℕ) (v : VersionValue) → limit < 2 ^ 64 → IsReadable limit v → AreComponents limit (version_text v) (whole v)
 components_are limit v fits h =

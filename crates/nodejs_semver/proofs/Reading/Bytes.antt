@@ -6,9 +6,9 @@ use Rattle.std.specs.List.{list_all}
 use Rattle.std.proofs.lemmas.Bool.{and_from, and_parts}
 use Rattle.std.proofs.lemmas.Bool.Decides.{nat_tests}
 use Rattle.std.proofs.lemmas.List.Folds.{list_all-append}
+use Rattle.nodejs_semver.specs.Internal.Fronts.{is_wildcard}
 use Rattle.semver_core.specs.Text.Characters.{begins, ends}
 use Rattle.semver_core.specs.Internal.Spaces.{space_len}
-use Rattle.nodejs_semver.specs.Text.PartialText.{is_wildcard}
 
 pub begins-on : (p : ℕ → Bool) (u v : List ℕ) → begins p u ≡ true → begins p (u ++ v) ≡ true
 begins-on p u v h = grind arith
@@ -31,10 +31,6 @@ pub all-end : (p : ℕ → Bool) (u : List ℕ) → 0 < length u → list_all p 
 all-end p [] some h = absurd (omega arith)
 all-end p (b ∷ []) some h = (and_parts (p b) true h).0
 all-end p (b ∷ c ∷ u) some h = all-end p (c ∷ u) (omega arith) (and_parts (p b) (list_all p (c ∷ u)) h).1
-
-pub all-imply : (p q : ℕ → Bool) → ((b : ℕ) → p b ≡ true → q b ≡ true) → (u : List ℕ) → list_all p u ≡ true → list_all q u ≡ true
-all-imply p q f [] h = refl
-all-imply p q f (b ∷ u) h = let each = and_parts (p b) (list_all p u) h in and_from (q b) (list_all q u) (f b each.0) (all-imply p q f u each.1)
 
 pub all-join : (p : ℕ → Bool) (u v : List ℕ) → list_all p u ≡ true → list_all p v ≡ true → list_all p (u ++ v) ≡ true
 all-join p u v h k = list_all-append p u v ∙ and_from (list_all p u) (list_all p v) h k

@@ -10,19 +10,16 @@ use Rattle.nodejs_semver.proofs.Reading.Bytes.{all-end, begins-on, begins_compon
 use Rattle.nodejs_semver.proofs.Reading.Numbers.{number-found, number-read, number_first, wildcard-no_digit}
 use Rattle.nodejs_semver.proofs.Reading.Qualifiers.{build-read, build_front-le, pre-read, pre_release_front-le, qualifier-passed}
 use Rattle.nodejs_semver.proofs.Reading.Quiet.{quiet-dotted, Quiet, Stop, quiet-before, quiet-behind, quiet-both, quiet-front, quiet-further}
-use Rattle.nodejs_semver.proofs.Reading.Steps.{bind-some, inside}
+use Rattle.std.proofs.lemmas.Option.{same_Some}
+use Rattle.semver_core.proofs.Text.Texts.{bind_some}
 
 -- ---- one component
 
 component-some : (limit : ℕ) (c : List ℕ) (v : Option ℕ) → IsComponent limit c v → 0 < length c
 component-some limit c v h = grind arith
 
--- it begins with a wildcard or a digit
-component-begins : (limit : ℕ) (c : List ℕ) (v : Option ℕ) → IsComponent limit c v → begins_component c ≡ true
-component-begins limit c v h = grind arith
-
 pub components-begin : (limit : ℕ) (x : List ℕ) (p : Partial) → AreComponents limit x p → begins_component x ≡ true
-components-begin limit x p h = grind (arith, component-begins, begins-on)
+components-begin limit x p h = grind (arith, begins-on)
 
 component-then : (limit : ℕ) (c more : List ℕ) (v : Option ℕ) → IsComponent limit c v → Quiet c more → component_front limit (c ++ more) ≡ Some (v, more)
 unfolding component_front
@@ -46,17 +43,17 @@ unfolding component_front
 component-read limit x a h = elim (cases_Bool (begins_wildcard x)) [
   | inl wild ↦ wild_case x wild (rw wild at h)
   | inr other ↦
-      let n = bind-some (number_front limit x) (λ n. Some (Some n.0, n.1)) a (rw other at h) in
+      let n = bind_some (number_front limit x) (λ n. Some (Some n.0, n.1)) a (rw other at h) in
       let f = number-found limit x n.0.0 n.0.1 n.1 in
       let quiet = quiet-before f.run n.0.1 f.ended in
-      rw (← inside n.2) (f.run, record { split = f.split; is = number f.run n.0.0 f.is; quiet = quiet })
+      rw (← same_Some _ _ n.2) (f.run, record { split = f.split; is = number f.run n.0.0 f.is; quiet = quiet })
 ]
   where
     wild_case : (x : List ℕ) → begins_wildcard x ≡ true → ◌≡◌ {A = Front (Option ℕ)} (Some (None, drop 1 x)) (Some a)
         → (c : List ℕ) × Component limit x c a.1 a.0
     wild_case [] w k = cc w
     wild_case (b ∷ y) w k =
-        rw (← inside k) (b ∷ [], record { split = refl; is = wildcard b w; quiet = rw (wildcard-no_digit b w) refl })
+        rw (← same_Some _ _ k) (b ∷ [], record { split = refl; is = wildcard b w; quiet = rw (wildcard-no_digit b w) refl })
 
 dotted-read : (limit : ℕ) (x : List ℕ) (v : Option ℕ) (r : List ℕ) → dotted_front limit x ≡ Some (v, r) → (c : List ℕ) × (x ≡ 46 ∷ (c ++ r)) × Component limit (c ++ r) c r v
 unfolding dotted_front

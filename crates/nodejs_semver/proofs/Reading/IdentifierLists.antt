@@ -1,25 +1,23 @@
 -- Identifiers joined by dots: the longest list at the front of a text.
-use Rattle.std.proofs.Common.{◌≡◌, ℕ, ◌<◌, ◌≤◌, ◌+◌, List, [], ◌∷◌, ◌++◌, length, take, drop, get_or, refl, arith, true, false, inl, inr, length-append, length-drop}
+use Rattle.std.proofs.Common.{◌≡◌, ℕ, ◌≤◌, ◌+◌, List, [], ◌∷◌, ◌++◌, length, take, drop, refl, arith, true, false, inl, inr, length-append, length-drop}
 use Rattle.std.specs.Prelude.{◌==◌}
 use Rattle.std.specs.List.{list_all, onto_first}
 use Rattle.std.proofs.lemmas.Bool.{cases_Bool, eqb-true}
-use Rattle.std.proofs.lemmas.List.{drop_more, take_at, drop_at}
+use Rattle.std.proofs.lemmas.List.{take_at, drop_at}
 use Rattle.semver_core.specs.Text.Characters.{begins}
 use Rattle.semver_core.specs.Text.Identifiers.{Id, IsIdentifiers, Numeric, goes_on, is_identifier, is_listed, listed, pieces}
 use Rattle.semver_core.specs.Internal.Reading.{list_len, list_of}
 use Rattle.semver_core.specs.Lists.{is_empty}
 use Rattle.semver_core.proofs.Text.Pieces.{first_char, list_ended, list_sound, runs_begin, runs_tail, tail_onto, tail_runs}
 use Rattle.nodejs_semver.specs.Internal.Fronts.{begins_identifier, front_len, split_list}
+use Rattle.semver_core.proofs.Text.Runs.{list_len_stop}
 
 -- ---- what is read is a list
 
 list_len-le : (text : List ℕ) → list_len text ≤ length text
 unfolding list_len
 list_len-le [] = omega arith
-list_len-le (b ∷ rest) = elim (cases_Bool (goes_on (b ∷ rest))) [
-  | inl goes ↦ let less = list_len-le rest in rw goes (omega arith)
-  | inr stops ↦ rw stops (omega arith)
-]
+list_len-le (b ∷ rest) = grind (arith, list_len-le rest)
 
 pub front_len-fits : (text : List ℕ) → front_len text ≤ length text
 unfolding front_len
@@ -81,21 +79,11 @@ pub written-spelled : (t : List ℕ) (l : List Id) → IsIdentifiers t l → lis
 unfolding listed
 written-spelled t l h = grind arith
 
--- ---- the loop that counts: it goes on at a place, ends early, and ends with the text
-
-pub list_len-more : (text : List ℕ) (i : ℕ) → i < length text → goes_on (drop i text) ≡ true → list_len (drop i text) ≡ 1 + list_len (drop (i + 1) text)
-unfolding list_len
-list_len-more text i lt h =
-    let goes : goes_on (get_or text i 0 ∷ drop (i + 1) text) ≡ true = rw (drop_more text i 0 lt) at h in
-    rw (drop_more text i 0 lt, goes) refl
-
-list_len-end : (text : List ℕ) → goes_on text ≡ false → list_len text ≡ 0
-unfolding list_len
-list_len-end text h = grind arith
+-- ---- the end of the loop that counts
 
 pub front_len-is : (text : List ℕ) (i : ℕ) → begins_identifier text ≡ true → list_len text ≡ i + list_len (drop i text) → goes_on (drop i text) ≡ false → i ≡ front_len text
 unfolding front_len
-front_len-is text i begins inv stop = rw begins (omega (arith, list_len-end (drop i text) stop))
+front_len-is text i begins inv stop = rw begins (omega (arith, list_len_stop (drop i text) stop))
 
 -- ---- what is taken is empty or a list
 

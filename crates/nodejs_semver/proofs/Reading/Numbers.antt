@@ -1,22 +1,17 @@
 -- Numbers: as a whole text, and at the front of one.
-use Rattle.std.proofs.Common.{◌≡◌, ℕ, suc, ◌+◌, ◌<◌, ◌≤◌, List, [], ◌∷◌, ◌++◌, length, drop, refl, ap, ◌∙◌, arith, true, false, Some, None, inl, inr}
+use Rattle.std.proofs.Common.{◌≡◌, ℕ, suc, ◌+◌, ◌≤◌, List, [], ◌∷◌, ◌++◌, length, drop, refl, ap, ◌∙◌, arith, true, false, Some, None, inl, inr}
 use Rattle.std.specs.Prelude.{◌↔◌, not}
 use Rattle.std.specs.Char.{is_ascii_digit}
 use Rattle.std.specs.List.{list_all, prefix_len}
 use Rattle.std.proofs.lemmas.Bool.{and_parts, cases_Bool}
 use Rattle.std.proofs.lemmas.Bool.Decides.{nat_tests}
 use Rattle.std.proofs.lemmas.List.{take-append-drop, take_at, drop_at}
-use Rattle.semver_core.specs.Lists.{is_empty}
 use Rattle.semver_core.specs.Text.Characters.{begins, IsPieceAt, NoPieceAt}
 use Rattle.semver_core.specs.Text.Numbers.{IsNumber, IsWholeNumber}
-use Rattle.nodejs_semver.specs.Internal.Fronts.{begins_wildcard, component_front, number_front, number_of}
-use Rattle.nodejs_semver.specs.Text.PartialText.{is_wildcard}
+use Rattle.nodejs_semver.specs.Internal.Fronts.{begins_wildcard, component_front, number_front, number_of, is_wildcard}
 use Rattle.nodejs_semver.proofs.Reading.Steps.{option-cases}
 
 -- ---- a whole text
-
-filled : (text : List ℕ) → not (is_empty text) ≡ true → 0 < length text
-filled text h = grind arith
 
 number-is : (limit : ℕ) (text : List ℕ) (n : ℕ) → number_of limit text ≡ Some n → IsNumber limit text n
 unfolding number_of

@@ -14,11 +14,11 @@ use Rattle.semver_core.proofs.Text.Trims.{drop_spaces-blank, fronted}
 use Rattle.nodejs_semver.specs.Internal.Fronts.{drop_v, partial_front}
 use Rattle.nodejs_semver.specs.Text.LongestText.{BeginsPartial, IsLongestPartial}
 use Rattle.nodejs_semver.specs.Text.PartialText.{AreComponents, IsPartial, Partial}
-use Rattle.nodejs_semver.proofs.Reading.Steps.{first-same, second-same}
 use Rattle.nodejs_semver.proofs.Reading.Bytes.{begins-on, begins-some, begins_component, component-solid, is_component_byte, solid-dark}
 use Rattle.nodejs_semver.proofs.Reading.Components.{Passes, Read, components-begin, components-read, components-then}
 use Rattle.nodejs_semver.proofs.Reading.Quiet.{Quiet, Stop, quiet-append, quiet-before, quiet-last, stop-nil}
 use Rattle.nodejs_semver.proofs.Dividing.Trimmed.{dark-starts}
+use Rattle.std.proofs.lemmas.Option.{same_Some}
 
 -- ---- a text that begins with a component has neither `v` nor whitespace in front
 
@@ -42,9 +42,6 @@ unmarked : (cs text : List ℕ) → list_all is_whitespace cs ≡ true → begin
 unmarked [] [] each h = refl
 unmarked [] (b ∷ rest) each h = grind (arith, nat_tests)
 unmarked (c ∷ cs) text each h = grind (arith, space_len-white, append_assoc, unmarked-blank)
-
-skipped : (mark blank y : List ℕ) → (mark ≡ []) ⊎ (mark ≡ 118 ∷ []) → IsBlank blank → begins_component y ≡ true → drop_spaces (drop_v (mark ++ (blank ++ y))) ≡ y
-skipped mark blank y m b begin = grind (arith, unmarked, drop_spaces-blank, drop_spaces-none, front-dark)
 
 -- the mark, and the text behind it, which is UTF-8 again
 record Marked (text left : List ℕ) : Type 0 where
@@ -106,7 +103,7 @@ front-passes limit t more p h quiet =
     let whole : t ≡ (h.mark ++ h.blank) ++ x = h.divided ∙ simp append_assoc in
     let last : Quiet x more = quiet-last (h.mark ++ h.blank) x more (begins-some is_component_byte x begin) (rw whole at quiet) in
     let behind : t ++ more ≡ h.mark ++ (h.blank ++ (x ++ more)) = ap (λ (u : List ℕ). u ++ more) h.divided ∙ simp append_assoc in
-    grind (arith, components-then, skipped)
+    grind (arith, components-then, unmarked, drop_spaces-blank, drop_spaces-none, front-dark)
 
 -- components alone are read exactly where nothing goes on
 pub front-exact : (limit : ℕ) (x more : List ℕ) (p : Partial) → AreComponents limit x p → Stop more → partial_front limit (x ++ more) ≡ Some (p, more)
@@ -133,8 +130,8 @@ longest-is limit text p rest u h = let f = front-begins limit text p rest u h in
         → length other ≤ length front
     no_longer front whole other q behind k =
         let far = front-passes limit other behind q k.is k.whole in
-        let same : rest ≡ far.0.1 = second-same (p, rest) far.0 (sym h ∙ (ap (λ (t : List ℕ). partial_front limit t) k.divided ∙ far.1)) in
-        omega (arith, far.2.le, ap length same, ap length whole, ap length k.divided, length-append front rest, length-append other behind)
+        let same = same_Some (p, rest) far.0 (sym h ∙ (ap (λ (t : List ℕ). partial_front limit t) k.divided ∙ far.1)) in
+        omega (arith, far.2.le, ap (λ (q : Partial × List ℕ). length q.1) same, ap length whole, ap length k.divided, length-append front rest, length-append other behind)
 
 longest-of : (limit : ℕ) (text : List ℕ) (p : Partial) (rest : List ℕ) → IsUtf8 text → IsLongestPartial limit text p rest → partial_front limit text ≡ Some (p, rest)
 longest-of limit text p rest u h =
@@ -148,7 +145,7 @@ longest-of limit text p rest u h =
     let front : near.0 ≡ h.front = sym (take_at near.0 far.0.1 n same) ∙ (ap (λ (t : List ℕ). take n t) whole ∙ take_at h.front rest n refl) in
     let behind : far.0.1 ≡ rest = sym (drop_at near.0 far.0.1 n same) ∙ (ap (λ (t : List ℕ). drop n t) whole ∙ drop_at h.front rest n refl) in
     let value : far.0.0 ≡ p =
-    first-same (far.0.0, []) (p, []) (sym (whole-of limit near.0 far.0.0 near.1.is) ∙ (ap (λ (t : List ℕ). partial_front limit t) front ∙ whole-of limit h.front p h.begins.is)) in
+    ap (λ (q : Partial × List ℕ). q.0) (same_Some (far.0.0, []) (p, []) (sym (whole-of limit near.0 far.0.0 near.1.is) ∙ (ap (λ (t : List ℕ). partial_front limit t) front ∙ whole-of limit h.front p h.begins.is))) in
     grind arith
 
 pub longest_are : (limit : ℕ) (text : List ℕ) (p : Partial) (rest : List ℕ) → IsUtf8 text

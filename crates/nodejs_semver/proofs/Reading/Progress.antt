@@ -1,16 +1,15 @@
 -- Each word takes a byte or more, so the list of words is a recursion.
-use Rattle.std.proofs.Common.{◌≡◌, ℕ, zero, suc, ◌<◌, ◌≤◌, List, [], ◌∷◌, length, refl, ap, ◌∙◌, arith, Some, None, inl, inr, length-append, false}
-use Rattle.std.specs.Prelude.{◌==◌, nat_lt}
-use Rattle.std.proofs.lemmas.Bool.{cases_Bool}
-use Rattle.std.proofs.lemmas.Option.{cond_some}
+use Rattle.std.proofs.Common.{◌≡◌, ℕ, zero, suc, ◌<◌, ◌≤◌, List, [], ◌∷◌, length, refl, ap, arith, Some, None, length-append, false}
+use Rattle.std.specs.Prelude.{nat_lt}
+use Rattle.std.proofs.lemmas.Option.{cond_some, same_Some}
 use Rattle.semver_core.specs.Internal.Spaces.{drop_spaces, space_len, after_spaces}
 use Rattle.nodejs_semver.specs.Text.WordText.{Word}
 use Rattle.nodejs_semver.specs.Internal.Words.{Reading, Sign, after_some_space, behind_sign, careted, compared, from_boundary, is_boundary, sign_at, tilde_sign, tilded, unsigned, upper_of, word_at, word_behind, words, words_within}
 use Rattle.nodejs_semver.specs.Internal.Fronts.{after_byte, component_front, dotted_front, drop_v, minor_front, partial_front}
 use Rattle.nodejs_semver.specs.Text.PartialText.{Partial}
-use Rattle.nodejs_semver.proofs.Reading.Steps.{bind-some, second-same}
 use Rattle.nodejs_semver.proofs.Reading.Components.{component-shorter, minor_front-le}
 use Rattle.semver_core.proofs.Text.Spaces.{after_spaces-end, drop_spaces-none, space_len-nil}
+use Rattle.semver_core.proofs.Text.Texts.{bind_some}
 
 pub spaces-le : (text : List ℕ) → length (drop_spaces text) ≤ length text
 spaces-le text = let e = after_spaces-end 0 text in omega (arith, ap length e.1, length-append e.0 (drop_spaces text))
@@ -19,20 +18,19 @@ partial-shorter : (limit : ℕ) (text : List ℕ) (x : Partial) (r : List ℕ) �
 unfolding partial_front
 partial-shorter limit text x r h =
     let body = drop_spaces (drop_v text) in
-    let a = bind-some (component_front limit body) (λ a. Some (minor_front limit a.0 a.1 (dotted_front limit a.1))) (x, r) h in
-    let same = second-same (minor_front limit a.0.0 a.0.1 (dotted_front limit a.0.1)) (x, r) a.2 in
+    let a = bind_some (component_front limit body) (λ a. Some (minor_front limit a.0 a.1 (dotted_front limit a.1))) (x, r) h in
+    let same = same_Some (minor_front limit a.0.0 a.0.1 (dotted_front limit a.0.1)) (x, r) a.2 in
     omega (
       arith,
       component-shorter limit body a.0.0 a.0.1 a.1,
       minor_front-le limit a.0.0 a.0.1 (dotted_front limit a.0.1) refl,
       spaces-le (drop_v text),
       v-le text,
-      ap length same,
+      ap (λ (q : Partial × List ℕ). length q.1) same,
     )
   where
     v-le : (text : List ℕ) → length (drop_v text) ≤ length text
-    v-le [] = omega arith
-    v-le (b ∷ rest) = elim (cases_Bool (b == 118)) [ inl v ↦ rw v (omega arith) | inr other ↦ rw other (omega arith) ]
+    v-le text = grind arith
 
 some-space-le : (text r : List ℕ) → after_some_space text ≡ Some r → length r ≤ length text
 some-space-le text r h = omega (arith, ap length (cond_some (nat_lt 0 (space_len text)) (drop_spaces text) r h).1, spaces-le text)
@@ -42,10 +40,10 @@ byte-le c text r h = grind arith
 
 upper-le : (limit : ℕ) (s : Sign) (text : List ℕ) (q : Partial × List ℕ) → upper_of limit s text ≡ Some q → length q.1 ≤ length text
 upper-le limit unsigned text q h =
-    let sign = bind-some (after_some_space text) _ q h in
-    let gap = bind-some (after_byte 45 sign.0) _ q sign.2 in
-    let second = bind-some (after_some_space gap.0) _ q gap.2 in
-    let read = bind-some (partial_front limit second.0) _ q second.2 in
+    let sign = bind_some (after_some_space text) _ q h in
+    let gap = bind_some (after_byte 45 sign.0) _ q sign.2 in
+    let second = bind_some (after_some_space gap.0) _ q gap.2 in
+    let read = bind_some (partial_front limit second.0) _ q second.2 in
     let same : read.0 ≡ q = (cond_some (is_boundary read.0.1) read.0 q read.2).1 in
     omega (
       arith,
@@ -71,7 +69,7 @@ sign_at-le text = grind (arith, spaces-le, sign-le)
 form-shorter : (limit : ℕ) (text : List ℕ) (x : Word) (r : List ℕ) → behind_sign limit (sign_at text) ≡ Some (x, r) → length r < length text
 form-shorter limit text x r h =
     let s = sign_at text in
-    let p = bind-some (partial_front limit s.1) (λ p. word_behind limit s.0 p.0 p.1) (x, r) h in
+    let p = bind_some (partial_front limit s.1) (λ p. word_behind limit s.0 p.0 p.1) (x, r) h in
     omega (arith, sign_at-le text, partial-shorter limit s.1 p.0.0 p.0.1 p.1, word_behind-le limit s.0 p.0.0 p.0.1 x r p.2)
 
 boundary-le : (text : List ℕ) → length (from_boundary text) ≤ length text
@@ -100,8 +98,7 @@ spaces-gone (suc n) (b ∷ rest) = spaces-gone n rest
 spaces-gone zero (b ∷ rest) = go (λ n. spaces-gone n rest) (space_len (b ∷ rest)) refl
   where
     go : ((n : ℕ) → space_len (after_spaces n rest) ≡ 0) → (n : ℕ) → space_len (b ∷ rest) ≡ n → space_len (after_spaces 0 (b ∷ rest)) ≡ 0
-    go f zero e = ap (λ (t : List ℕ). space_len t) (drop_spaces-none (b ∷ rest) e) ∙ e
-    go f (suc n) e = rw (e, after_spaces) (f n)
+    go f n e = grind (arith, drop_spaces-none)
 
 -- how many words are allowed for does not matter, where there is room for each byte
 pub words-enough : (limit n m : ℕ) (text : List ℕ) → space_len text ≡ 0 → length text ≤ n → length text ≤ m → words_within limit n text ≡ words_within limit m text

@@ -15,8 +15,7 @@ use Rattle.nodejs_semver.proofs.Reading.Quiet.{Quiet, Stop, quiet-before}
 
 -- no run of digits goes on behind the list at the front
 ended-digit : (text : List ℕ) → goes_on text ≡ false → begins is_ascii_digit text ≡ false
-ended-digit [] k = refl
-ended-digit (b ∷ rest) k = grind (arith, nat_tests)
+ended-digit text k = grind (arith, nat_tests)
 
 ended-quiet : (front text : List ℕ) → begins_identifier text ≡ true → Quiet front (drop (front_len text) text)
 ended-quiet front text h = let r = drop (front_len text) text in quiet-before front r (ended-digit r (front-ended text h))

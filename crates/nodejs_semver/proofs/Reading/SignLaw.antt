@@ -1,5 +1,5 @@
 -- A word is the one that its sign tells.
-use Rattle.std.proofs.Common.{◌≡◌, ◌∙◌, sym, ℕ, List, append-nil, length, arith, refl, true, false, Some, None}
+use Rattle.std.proofs.Common.{◌≡◌, ◌∙◌, sym, ℕ, List, append-nil, length, arith, refl, false, Some, None}
 use Rattle.std.specs.Prelude.{Bool, Option}
 use Rattle.semver_core.specs.Cuts.{Span}
 use Rattle.semver_core.specs.Values.Versions.{VersionValue}
@@ -8,7 +8,7 @@ use Rattle.nodejs_semver.specs.Internal.CommonViews.{both_view}
 use Rattle.nodejs_semver.specs.Text.Table.{table}
 use Rattle.semver_core.specs.Internal.Reading.{◌>>?◌}
 use Rattle.semver_core.specs.Internal.Spaces.{space_len}
-use Rattle.nodejs_semver.specs.Internal.Words.{Sign, from_boundary, hyphen_pushed, is_boundary, or_malformed, sign_at, signed_word, upper_of, word_at, word_behind, word_pushed}
+use Rattle.nodejs_semver.specs.Internal.Words.{Sign, hyphen_pushed, or_malformed, sign_at, upper_of, word_at, word_behind, word_pushed}
 use Rattle.nodejs_semver.specs.Internal.Fronts.{partial_front}
 use Rattle.nodejs_semver.specs.Text.PartialText.{Partial}
 use Rattle.nodejs_semver.specs.Text.WordText.{Word, hyphen, malformed}
@@ -19,25 +19,6 @@ pub word-as : (limit : ℕ) (text : List ℕ) (s : Sign × List ℕ) (o : Option
     → word_at limit text ≡ or_malformed (o >>? λ p. word_behind limit s.0 p.0 p.1) text
 unfolding word_at
 word-as limit text s o h k = grind arith
-
-pub word_none : (limit : ℕ) (text : List ℕ) (s : Sign × List ℕ) (o : Option (Partial × List ℕ)) → s ≡ sign_at text → o ≡ partial_front limit s.1 → o ≡ None
-    → word_at limit text ≡ (malformed, from_boundary text)
-word_none limit text s o h k e = word-as limit text s o h k ∙ rw e refl
-
-pub word_hyphen : (limit : ℕ) (text : List ℕ) (s : Sign × List ℕ) (o : Option (Partial × List ℕ)) (p : Partial) (rest : List ℕ) (u : Option (Partial × List ℕ)) (q : Partial) (after : List ℕ)
-    → s ≡ sign_at text → o ≡ partial_front limit s.1 → o ≡ Some (p, rest) → u ≡ upper_of limit s.0 rest → u ≡ Some (q, after)
-    → word_at limit text ≡ (hyphen p q, after)
-word_hyphen limit text s o p rest u q after h k e m n = word-as limit text s o h k ∙ rw (e, sym m, n) refl
-
-pub word_signed : (limit : ℕ) (text : List ℕ) (s : Sign × List ℕ) (o : Option (Partial × List ℕ)) (p : Partial) (rest : List ℕ) (u : Option (Partial × List ℕ))
-    → s ≡ sign_at text → o ≡ partial_front limit s.1 → o ≡ Some (p, rest) → u ≡ upper_of limit s.0 rest → u ≡ None → is_boundary rest ≡ true
-    → word_at limit text ≡ (signed_word s.0 p, rest)
-word_signed limit text s o p rest u h k e m n b = word-as limit text s o h k ∙ rw (e, sym m, n, b) refl
-
-pub word_cut : (limit : ℕ) (text : List ℕ) (s : Sign × List ℕ) (o : Option (Partial × List ℕ)) (p : Partial) (rest : List ℕ) (u : Option (Partial × List ℕ))
-    → s ≡ sign_at text → o ≡ partial_front limit s.1 → o ≡ Some (p, rest) → u ≡ upper_of limit s.0 rest → u ≡ None → is_boundary rest ≡ false
-    → word_at limit text ≡ (malformed, from_boundary text)
-word_cut limit text s o p rest u h k e m n b = word-as limit text s o h k ∙ rw (e, sym m, n, b) refl
 
 -- no second partial stands at the end of a part
 pub upper_none : (limit : ℕ) (s : Sign) (rest : List ℕ) → length rest ≡ 0 → upper_of limit s rest ≡ None
@@ -63,7 +44,7 @@ pub pushed_hyphen : (limit : ℕ) (text : List ℕ) (s : Sign × List ℕ) (o : 
     → ◌≡◌ {A = (Bool × List ℕ) × List (Span VersionValue)} (read, new) (word_pushed limit old (word_at limit text))
 pushed_hyphen limit text s o p rest None old new read h k e m n = grind arith
 pushed_hyphen limit text s o p rest (Some q) old new read h k e m n =
-    let w = word_hyphen limit text s o p rest (Some q) q.0 q.1 h k e m refl in
+    let w : word_at limit text ≡ (hyphen p q.0, q.1) = word-as limit text s o h k ∙ rw (e, sym m) refl in
     grind arith
 
 -- none was read

@@ -5,7 +5,7 @@ use Rattle.std.specs.Char.{encode_utf8}
 use Rattle.std.proofs.Math.Seq.{get_or-append_seam}
 use Rattle.std.proofs.lemmas.Bool.{cases_Bool, eqb-true, lt-ltb}
 use Rattle.std.proofs.lemmas.Bool.Decides.{nat_tests}
-use Rattle.std.proofs.lemmas.Option.{cond_some}
+use Rattle.std.proofs.lemmas.Option.{cond_some, same_Some}
 use Rattle.std.proofs.lemmas.List.{drop_at, take_at}
 use Rattle.std.proofs.lemmas.Str.{IsUtf8-drop, IsUtf8-past_char, IsCharBoundary-after_ascii, encodes-append, len_utf8_bounds, IsUtf8-nil, IsUtf8-take, IsCharBoundary-at_seam}
 use Rattle.semver_core.specs.Text.Characters.{BeginsBlank, IsTrim}
@@ -19,10 +19,11 @@ use Rattle.nodejs_semver.specs.Text.PartialText.{Partial}
 use Rattle.nodejs_semver.specs.Text.LongestText.{IsLongestPartial}
 use Rattle.nodejs_semver.specs.Text.WordText.{IsBehind, IsBoundary, IsFirstBoundary, IsForm, IsHyphen, IsSign, IsWhole, IsWordAt, SkipsBlank, above_sign, at_least_sign, at_most_sign, below_sign, caret_form, compare_form, equal_sign, formed, hyphen_form, no_form, plain_form, tilde_form, tilde_greater_form, Comparator, Word, hyphen, plain}
 use Rattle.nodejs_semver.proofs.Reading.Bytes.{solid-dark}
-use Rattle.nodejs_semver.proofs.Reading.Boundaries.{from_boundary-nil, from_boundary-stop}
+use Rattle.nodejs_semver.proofs.Reading.Boundaries.{from_boundary-nil, from_boundary-stop, from_boundary-more}
 use Rattle.nodejs_semver.proofs.Reading.PartialLaw.{longest_are, spaced}
-use Rattle.nodejs_semver.proofs.Reading.Steps.{bind-some, inside, option-cases, second-same}
+use Rattle.nodejs_semver.proofs.Reading.Steps.{option-cases}
 use Rattle.nodejs_semver.proofs.Reading.Progress.{spaces-gone}
+use Rattle.semver_core.proofs.Text.Texts.{bind_some}
 
 -- ---- UTF-8 behind a byte, and behind characters
 
@@ -54,9 +55,7 @@ suffix-blank front rest u h = let v = suffix-utf8 front rest u h in first v.0 v.
   where
     first : (cs : List ℕ) → encode_utf8_all cs ≡ rest → BeginsBlank rest
     first [] e = absurd (omega (arith, h, ap space_len (sym e) ∙ space_len-nil))
-    first (c ∷ cs) e =
-        let rest = encode_utf8_all cs in
-        record { character = c; rest = rest; passes = grind (arith, space_len-dark c rest); spelled = sym e }
+    first (c ∷ cs) e = grind (arith, space_len-dark)
 
 blank-len : (text : List ℕ) → BeginsBlank text → 0 < space_len text
 blank-len text h = omega (arith, ap space_len h.spelled ∙ space_len-white h.character h.rest h.passes, (len_utf8_bounds h.character).0)
@@ -127,15 +126,15 @@ unsigned-at limit text x h = grind (arith, nat_tests, opening-none)
 hyphen-is : (limit : ℕ) (text : List ℕ) (p : Partial) (before : List ℕ) (x : Partial × List ℕ) → IsUtf8 text → IsLongestPartial limit text p before
     → upper_behind limit before ≡ Some x → IsHyphen limit text p x.0 x.1
 hyphen-is limit text p before x u read h =
-    let sign = bind-some (after_some_space before) _ x h in
+    let sign = bind_some (after_some_space before) _ x h in
     let s = some_space-is read.front before sign.0 (subst (λ (t : List ℕ). IsUtf8 t) read.begins.divided u) sign.1 in
-    let gap = bind-some (after_byte 45 sign.0) _ x sign.2 in
+    let gap = bind_some (after_byte 45 sign.0) _ x sign.2 in
     let dash = byte-is 45 sign.0 gap.0 gap.1 in
     let w = tail-utf8 45 gap.0 (omega arith) (subst (λ (t : List ℕ). IsUtf8 t) dash (skips-utf8 before sign.0 s.2 s.0)) in
-    let second = bind-some (after_some_space gap.0) _ x gap.2 in
+    let second = bind_some (after_some_space gap.0) _ x gap.2 in
     let t = some_space-is [] gap.0 second.0 w second.1 in
     let v = skips-utf8 gap.0 second.0 t.2 w in
-    let q = bind-some (partial_front limit second.0) _ x second.2 in
+    let q = bind_some (partial_front limit second.0) _ x second.2 in
     let there = (longest_are limit second.0 q.0.0 q.0.1 v).0 q.1 in
     let b = cond_some (is_boundary q.0.1) q.0 x q.2 in
     let stop = suffix-boundary there.front q.0.1 (subst (λ (t : List ℕ). IsUtf8 t) there.begins.divided v) b.0 in
@@ -146,11 +145,11 @@ hyphen-of : (limit : ℕ) (text : List ℕ) (lower upper : Partial) (rest : List
 hyphen-of limit text lower upper rest u h =
     let v = rest-utf8 limit text lower h.before u h.first (inr h.space_before) in
     let w = tail-utf8 45 h.after (omega arith) (skips-utf8 h.before (45 ∷ h.after) h.dash v) in
-    let z = skips-utf8 h.after h.second.start h.second.skipped w in
-    let read = (longest_are limit h.second.start upper rest z).1 h.second.is.read in
+    let z = skips-utf8 h.after h.second.0 h.second.1 w in
+    let read = (longest_are limit h.second.0 upper rest z).1 h.second.2.read in
     rw (lt-ltb 0 (space_len h.before) (blank-len h.before h.space_before), skips-of h.before (45 ∷ h.after) v h.dash)
-    (rw (lt-ltb 0 (space_len h.after) (blank-len h.after h.space_after), skips-of h.after h.second.start w h.second.skipped)
-    (rw (read, boundary-of rest h.second.is.ended) refl))
+    (rw (lt-ltb 0 (space_len h.after) (blank-len h.after h.space_after), skips-of h.after h.second.0 w h.second.1)
+    (rw (read, boundary-of rest h.second.2.ended) refl))
 
 -- ---- signs
 
@@ -187,40 +186,36 @@ spaces-again text = drop_spaces-none (drop_spaces text) (spaces-gone 0 text)
 plain-is : (limit : ℕ) (text : List ℕ) (x : Word × List ℕ) → IsUtf8 text → behind_sign limit (unsigned, text) ≡ Some x
     → IsForm limit text x.0 x.1
 plain-is limit text x u h =
-    let p = bind-some (partial_front limit text) _ x h in
+    let p = bind_some (partial_front limit text) _ x h in
     let read = (longest_are limit text p.0.0 p.0.1 u).0 p.1 in
     elim (option-cases (upper_behind limit p.0.1)) [
       | inl none ↦
           let b = bounded-is limit text p.0.0 p.0.1 (plain p.0.0) x u read (rw none at p.2) in
           rw b.0 (plain_form text p.0.0 x.1 b.1 (no_hyphen p.0.0 p.0.1 p.1 none))
       | inr q ↦
-          let e : (hyphen p.0.0 q.0.0, q.0.1) ≡ x = inside (rw q.1 at p.2) in
+          let e : (hyphen p.0.0 q.0.0, q.0.1) ≡ x = same_Some _ _ (rw q.1 at p.2) in
           rw (← e) (hyphen_form text p.0.0 q.0.0 q.0.1 (hyphen-is limit text p.0.0 p.0.1 q.0 u read q.1))
     ]
   where
     no_hyphen : (p : Partial) (rest : List ℕ) → partial_front limit text ≡ Some (p, rest) → upper_behind limit rest ≡ None
         → (lower upper : Partial) (other : List ℕ) → IsHyphen limit text lower upper other → ⊥
     no_hyphen p rest e none lower upper other j =
-        let same = second-same (p, rest) (lower, j.before) (sym e ∙ (longest_are limit text lower j.before u).1 j.first) in
-        cc (sym none ∙ (ap (λ (t : List ℕ). upper_behind limit t) same ∙ hyphen-of limit text lower upper other u j))
+        let same = same_Some (p, rest) (lower, j.before) (sym e ∙ (longest_are limit text lower j.before u).1 j.first) in
+        cc (sym none ∙ (ap (λ (t : Partial × List ℕ). upper_behind limit t.1) same ∙ hyphen-of limit text lower upper other u j))
 
 -- the partial behind a sign and whitespace
 behind-is : (limit : ℕ) (text : List ℕ) (s : Sign) (x : Word × List ℕ) → IsUtf8 text → ((r : List ℕ) → upper_of limit s r ≡ None)
     → behind_sign limit (s, drop_spaces text) ≡ Some x → (p : Partial) × (x.0 ≡ signed_word s p) × IsBehind limit text p x.1
 behind-is limit text s x u none h =
     let start = drop_spaces text in
-    let p = bind-some (partial_front limit start) _ x h in
+    let p = bind_some (partial_front limit start) _ x h in
     let v = skips-utf8 text start (skips-is text u) u in
     let read = (longest_are limit start p.0.0 p.0.1 v).0 p.1 in
     let b = bounded-is limit start p.0.0 p.0.1 (signed_word s p.0.0) x v read (rw (none p.0.1) at p.2) in
-    (p.0.0, b.0, record { start = start; skipped = skips-is text u; is = b.1 })
+    (p.0.0, b.0, (start, skips-is text u, b.1))
 
 pub tilde-cases : (t : List ℕ) → (tilde_sign t ≡ (false, t)) ⊎ (y : List ℕ) × (t ≡ 62 ∷ y) × (tilde_sign t ≡ (true, y))
-tilde-cases [] = inl refl
-tilde-cases (b ∷ t) = elim (cases_Bool (b == 62)) [
-  | inl same ↦ inr (t, rw (eqb-true b 62 same) refl, rw same refl)
-  | inr other ↦ inl (rw other refl)
-]
+tilde-cases t = grind (arith, eqb-true)
 
 tilde-is : (limit : ℕ) (rest : List ℕ) (x : Word × List ℕ) → IsUtf8 rest
     → behind_sign limit (tilded (tilde_sign (drop_spaces rest)).0, drop_spaces (tilde_sign (drop_spaces rest)).1) ≡ Some x
@@ -265,8 +260,8 @@ form-is limit (b ∷ rest) x u h = elim (cases_Bool (b == 126)) [
 behind-read : (limit : ℕ) (text : List ℕ) (p : Partial) (rest : List ℕ) → IsUtf8 text → IsBehind limit text p rest
     → partial_front limit (drop_spaces text) ≡ Some (p, rest)
 behind-read limit text p rest u h =
-    ap (λ (t : List ℕ). partial_front limit t) (skips-of text h.start u h.skipped)
-    ∙ (longest_are limit h.start p rest (skips-utf8 text h.start h.skipped u)).1 h.is.read
+    ap (λ (t : List ℕ). partial_front limit t) (skips-of text h.0 u h.1)
+    ∙ (longest_are limit h.0 p rest (skips-utf8 text h.0 h.1 u)).1 h.2.read
 
 alone : (one two : Comparator) (limit : ℕ) (text : List ℕ) (x : Partial × List ℕ) → partial_front limit (drop_spaces text) ≡ Some x → or_equal one two text ≡ (one, text)
 alone one two limit text x h = grind (arith, opening-none, drop_spaces-none, solid-dark)
@@ -291,22 +286,18 @@ form-of limit text w rest u (plain_form t p r h none) =
     rw (unsigned-at limit t (p, r) read, read, alone, boundary-of r h.ended) refl
 form-of limit text w rest u (compare_form c sign t p r s h) =
     let read = behind-read limit t p r (sign-utf8 c sign t s u) h in
-    rw (compared-of limit c sign t (p, r) s read, read, boundary-of r h.is.ended) refl
+    rw (compared-of limit c sign t (p, r) s read, read, boundary-of r h.2.ended) refl
 form-of limit text w rest u (tilde_form t p r h) =
     let read = behind-read limit t p r (tail-utf8 126 t (omega arith) u) h in
-    rw (no_greater limit (drop_spaces t) (p, r) read, spaces-again t, read, boundary-of r h.is.ended) refl
+    rw (no_greater limit (drop_spaces t) (p, r) read, spaces-again t, read, boundary-of r h.2.ended) refl
 form-of limit text w rest u (tilde_greater_form t behind p r s h) =
     let v = tail-utf8 126 t (omega arith) u in
     let read = behind-read limit behind p r (tail-utf8 62 behind (omega arith) (skips-utf8 t (62 ∷ behind) s v)) h in
-    rw (skips-of t (62 ∷ behind) v s, read, boundary-of r h.is.ended) refl
+    rw (skips-of t (62 ∷ behind) v s, read, boundary-of r h.2.ended) refl
 form-of limit text w rest u (caret_form t p r h) =
-    rw (behind-read limit t p r (tail-utf8 94 t (omega arith) u) h, boundary-of r h.is.ended) refl
+    rw (behind-read limit t p r (tail-utf8 94 t (omega arith) u) h, boundary-of r h.2.ended) refl
 
 -- ---- the next boundary
-
-boundary-step : (b : ℕ) (text : List ℕ) → is_boundary (b ∷ text) ≡ false → from_boundary (b ∷ text) ≡ from_boundary text
-unfolding from_boundary
-boundary-step b text h = rw (h, from_boundary) refl
 
 first-is : (front text : List ℕ) → IsUtf8 (front ++ text) → IsFirstBoundary text (from_boundary text)
 first-is front [] u = grind (arith, from_boundary-nil)
@@ -315,7 +306,9 @@ first-is front (b ∷ text) u = elim (cases_Bool (is_boundary (b ∷ text))) [
       let stop = suffix-boundary front (b ∷ text) u here in
       rw (from_boundary-stop (b ∷ text) here)
       (record { passed = []; divided = refl; boundary = stop; first = λ before after e h. omega arith })
-  | inr goes ↦ rw (boundary-step b text goes) (longer goes (first-is (front ++ (b ∷ [])) text (rw append_assoc u)))
+  | inr goes ↦
+      rw (from_boundary-more (b ∷ text) 0 (omega arith) goes)
+      (longer goes (first-is (front ++ (b ∷ [])) text (rw append_assoc u)))
 ]
   where
     longer : is_boundary (b ∷ text) ≡ false → IsFirstBoundary text (from_boundary text) → IsFirstBoundary (b ∷ text) (from_boundary text)
@@ -357,7 +350,7 @@ whole-utf8 : (limit : ℕ) (text : List ℕ) (p : Partial) (rest : List ℕ) →
 whole-utf8 limit text p rest u h = rest-utf8 limit text p rest u h.read h.ended
 
 behind-utf8 : (limit : ℕ) (text : List ℕ) (p : Partial) (rest : List ℕ) → IsUtf8 text → IsBehind limit text p rest → IsUtf8 rest
-behind-utf8 limit text p rest u h = whole-utf8 limit h.start p rest (skips-utf8 text h.start h.skipped u) h.is
+behind-utf8 limit text p rest u h = whole-utf8 limit h.0 p rest (skips-utf8 text h.0 h.1 u) h.2
 
 form-utf8 : (limit : ℕ) (text : List ℕ) (w : Word) (rest : List ℕ) → IsUtf8 text → IsForm limit text w rest → IsUtf8 rest
 form-utf8 limit text w rest u (hyphen_form t lower upper r h) =

@@ -1,23 +1,19 @@
 -- Statement: the words of a range text that mean nothing, with their places and kinds.
-use Rattle.std.specs.Prelude.{◌≡◌, ℕ, ◌+◌, ◌-◌, Bool, true, false, List, [], ◌∷◌, ◌++◌, Option, Some, None, encode_utf8_all, is_some, length}
+use Rattle.std.specs.Prelude.{◌≡◌, ℕ, ◌+◌, ◌-◌, true, if◌then◌else◌, List, [], ◌∷◌, ◌++◌, Option, Some, None, encode_utf8_all, is_some, length}
 use Rattle.std.specs.List.{AllByRecursion, list_all}
 use Rattle.semver_core.specs.Text.Characters.{IsTrim}
 use Rattle.nodejs_semver.specs.Text.Bars.{IsCutAtBars}
-use Rattle.nodejs_semver.specs.Text.Meaning.{AreWords}
+use Rattle.nodejs_semver.specs.Text.Meaning.{HasWords}
 use Rattle.nodejs_semver.specs.Text.Table.{table}
 use Rattle.nodejs_semver.specs.Text.WordText.{IsWordAt, SkipsBlank, Word, malformed}
 use Rattle.nodejs_semver.specs.declared.diagnosis.ranges.IgnoredKind.{IgnoredKind}
 use Rattle.nodejs_semver.specs.declared.diagnosis.ranges.IgnoredKind.TheVariants.{Malformed, WithoutBounds}
 use Rattle.nodejs_semver.specs.declared.diagnosis.ranges.IgnoredWord.{IgnoredWord}
 
-abbrev pub unless_bounded : Bool → Option IgnoredKind
-unless_bounded true = None
-unless_bounded false = Some WithoutBounds
-
 -- why a word means nothing: it is malformed, or it has a form but the table gives it no bounds
 abbrev pub ignored_as : ℕ → Word → Option IgnoredKind
 ignored_as limit malformed = Some Malformed
-ignored_as limit word = unless_bounded (is_some (table limit word))
+ignored_as limit word = if is_some (table limit word) then None else Some WithoutBounds
 
 -- the word between two places, if it is ignored
 abbrev pub if_ignored : Option IgnoredKind → ℕ → ℕ → List IgnoredWord
@@ -44,12 +40,8 @@ abbrev pub AreIgnored : ℕ → List ℕ → List IgnoredWord → Type 0
 AreIgnored limit text words = (pieces : List (List ℕ)) × IsCutAtBars text pieces × AreAllIgnored limit 0 pieces words
 
 -- each word of what stands between bars has bounds
-pub record IsBounded (limit : ℕ) (piece : List ℕ) : Type 0 where
-  pub part : List ℕ
-  pub words : List Word
-  pub trimmed : IsTrim piece part
-  pub read : AreWords limit part words
-  pub bounded : list_all (λ word. is_some (table limit word)) words ≡ true
+abbrev pub IsBounded : ℕ → List ℕ → Type 0
+IsBounded limit piece = (ws : List Word) × HasWords limit piece ws × (list_all (λ word. is_some (table limit word)) ws ≡ true)
 
 -- each word of the range text has bounds
 abbrev pub IsWhollyBounded : ℕ → List ℕ → Type 0

@@ -3,9 +3,10 @@ use Rattle.std.specs.Prelude.{◌≡◌, ◌==◌, ◌<◌, ◌≤◌, ℕ, Bool
 use Rattle.std.specs.Char.{encode_utf8, is_ascii_digit}
 use Rattle.std.specs.List.{list_all}
 use Rattle.std.specs.Str.Parse.{digits_value}
+use Rattle.semver_core.specs.Failures.{NoValue}
 use Rattle.semver_core.specs.Text.Characters.{begins}
 use Rattle.semver_core.specs.Text.Parsing.{Parses}
-use Rattle.semver_core.specs.Text.VersionText.{HasNoVersion, Reads}
+use Rattle.semver_core.specs.Text.VersionText.{Reads}
 use Rattle.semver_core.specs.Values.Versions.{VersionValue}
 use Rattle.semver_core.specs.declared.TheConstants.{MAX_LENGTH}
 use Rattle.nodejs_semver.specs.declared.diagnosis.versions.Expected.{Expected}
@@ -17,13 +18,9 @@ use Rattle.nodejs_semver.specs.declared.diagnosis.versions.VersionFlaw.TheVarian
 abbrev pub IsExact : ℕ → List ℕ → Type 0
 IsExact limit text = (v : VersionValue) × (p : Parses limit text v) × (p.reads.rest ≡ [])
 
--- the text is a version as a whole, whatever its length
-abbrev pub IsWhole : ℕ → List ℕ → Type 0
-IsWhole limit text = (v : VersionValue) × (r : Reads limit text v) × (r.rest ≡ [])
-
--- some version text begins with these bytes
+-- some text that is a version as a whole, whatever its length, begins with these bytes
 abbrev pub IsFront : ℕ → List ℕ → Type 0
-IsFront limit front = (behind : List ℕ) × IsWhole limit (front ++ behind)
+IsFront limit front = (behind : List ℕ) × ((v : VersionValue) × (r : Reads limit (front ++ behind) v) × (r.rest ≡ []))
 
 abbrev pub is_expected : Expected → ℕ → Bool
 is_expected Digit c = is_ascii_digit c
@@ -36,8 +33,8 @@ pub record IsExpectedAt (limit : ℕ) (text : List ℕ) (what : Expected) (at : 
   pub inside : at ≤ length text
   pub right : (c : ℕ) → is_expected what c ≡ true → IsFront limit (take at text ++ c ∷ [])
   pub wrong : (c : ℕ) (rest other : List ℕ) → drop at text ≡ encode_utf8 c ++ rest
-      → HasNoVersion limit (take at text ++ (encode_utf8 c ++ other))
-  pub none : HasNoVersion limit text
+      → NoValue (Reads limit (take at text ++ (encode_utf8 c ++ other)))
+  pub none : NoValue (Reads limit text)
   pub dot : IsFront limit (take at text ++ 46 ∷ []) → is_expected what 46 ≡ true
 
 -- a run of digits of a value above the limit
@@ -54,19 +51,12 @@ pub record IsGreatAt (limit : ℕ) (text : List ℕ) (at : ℕ) : Type 0 where
   pub inside : at ≤ length text
   pub right : (c : ℕ) → is_ascii_digit c ≡ true → IsFront limit (take at text ++ c ∷ [])
   pub great : BeginsGreat limit (drop at text)
-  pub none : HasNoVersion limit text
+  pub none : NoValue (Reads limit text)
   pub no_dot : IsFront limit (take at text ++ 46 ∷ []) → ⊥
 
--- a version ends at this place, and more follows it
-pub record IsIgnoredFrom (limit : ℕ) (text : List ℕ) (at : ℕ) : Type 0 where
-  pub version : VersionValue
-  pub parses : Parses limit text version
-  pub rest : parses.reads.rest ≡ drop at text
-  pub some : at < length text
-
--- this is the flaw of a text
+-- this is the flaw of a text; one is that a version ends at a place, and more follows it
 abbrev pub IsFlaw : ℕ → List ℕ → VersionFlaw → Type 0
 IsFlaw limit text Flaw.TooLong = MAX_LENGTH < length text
 IsFlaw limit text (Flaw.NumberTooGreat at) = (length text ≤ MAX_LENGTH) × IsGreatAt limit text at
 IsFlaw limit text (Flaw.Expected what at) = (length text ≤ MAX_LENGTH) × IsExpectedAt limit text what at
-IsFlaw limit text (Flaw.Ignored at) = IsIgnoredFrom limit text at
+IsFlaw limit text (Flaw.Ignored at) = (v : VersionValue) × (p : Parses limit text v) × (p.reads.rest ≡ drop at text) × (at < length text)

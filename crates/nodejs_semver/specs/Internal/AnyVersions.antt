@@ -2,14 +2,16 @@
 use Rattle.std.specs.Prelude.{ℕ, codes, Bool, ◌&&◌, ◌||◌, not, List}
 use Rattle.std.specs.List.{join_by, list_all, list_any}
 use Rattle.std.specs.declared.cmp.Ordering.{Ordering}
+use Rattle.nodejs_semver.specs.Internal.Sets.{same_triple}
 use Rattle.semver_core.specs.Cuts.{Span, holds, is_past, lower_cut, upper_cut}
 use Rattle.semver_core.specs.Values.Versions.{VersionValue, is_release}
 use Rattle.semver_core.specs.declared.cuts.bound.Bound.{Bound}
 use Rattle.semver_core.specs.declared.cuts.bound.Bound.TheVariants.{Unbounded, Before, After}
 use Rattle.nodejs_semver.specs.Printing.Text.{bounds_text}
-use Rattle.nodejs_semver.specs.Ranges.Gate.{passes, same_triple}
-use Rattle.nodejs_semver.specs.Ranges.Outside.{facing, is_bounded}
+use Rattle.nodejs_semver.specs.Ranges.Gate.{passes}
+use Rattle.nodejs_semver.specs.Ranges.Outside.{is_bounded}
 use Rattle.nodejs_semver.specs.declared.range.outside.OutsideDirection.{OutsideDirection}
+use Rattle.nodejs_semver.specs.declared.range.outside.OutsideDirection.TheVariants.{Higher, Lower}
 
 abbrev pub names : {V : Type 0} → (V → VersionValue) → Bound V → V → Bool
 names value b v = passes (λ w. not (is_release (value w)) && same_triple (value w) (value v)) b
@@ -31,7 +33,8 @@ lies_above R s v = (not (is_bounded s.lower) && not (is_bounded s.upper))
     || (is_bounded s.lower && not (is_past R (upper_cut s.upper) v))
 
 abbrev pub is_outside : {V : Type 0} → (V → V → Ordering) → (V → VersionValue) → OutsideDirection → Bool → List (Span V) → V → Bool
-is_outside R value d include ss v = not (accepts R value ss v include) && list_all (λ s. facing d (lies_below R s v) (lies_above R s v)) ss
+is_outside R value d include ss v = not (accepts R value ss v include)
+    && list_all (λ s. elim d [ Higher ↦ lies_below R s v | Lower ↦ lies_above R s v ]) ss
 
 -- the bound of the values
 abbrev pub bound : {V : Type 0} → (V → VersionValue) → Bound V → Bound VersionValue

@@ -1,8 +1,9 @@
 -- For proofs and private contracts: the versions among which the least ones are found.
 use Rattle.std.specs.Prelude.{◌≡◌, ◌+◌, Bool, true, false, ◌&&◌, not, List, [], ◌∷◌, ◌++◌, if◌then◌else◌, Option, Some, None, fold, ⊤, ◌<◌, ◌^◌, ◌-◌}
-use Rattle.std.specs.List.{flat_map}
+use Rattle.std.specs.List.{flat_map, list_all}
 use Rattle.std.specs.Ordering.{is_le, is_lt}
-use Rattle.semver_core.specs.Cuts.{Span, Cut, Side, Start, Beside, End, Near, Far, holds}
+use Rattle.semver_core.specs.Internal.Sides.{Near, Far}
+use Rattle.semver_core.specs.Cuts.{Span, Cut, Start, Beside, End, holds}
 use Rattle.semver_core.specs.Text.Identifiers.{Numeric}
 use Rattle.semver_core.specs.Values.Order.{precedence}
 use Rattle.semver_core.specs.Values.Versions.{VersionValue, is_release}
@@ -10,7 +11,7 @@ use Rattle.semver_core.specs.declared.cuts.bound.Bound.{Bound}
 use Rattle.semver_core.specs.declared.cuts.bound.Bound.TheVariants.{Unbounded, Before, After}
 use Rattle.semver_core.specs.Lists.{is_empty}
 use Rattle.nodejs_semver.specs.Ranges.Gate.{accepts, lets_in}
-use Rattle.nodejs_semver.specs.Ranges.Least.{IsLeastOf, all_accept, beyond, least_build}
+use Rattle.nodejs_semver.specs.Ranges.Least.{IsLeastOf, beyond, least_build}
 
 -- the versions without a build that come first somewhere
 abbrev pub zero : VersionValue
@@ -32,11 +33,11 @@ abbrev pub patch_after : VersionValue → VersionValue
 patch_after w = record w { patch = w.patch + 1; pre_release = []; build = [] }
 
 -- the first version and the first release past a cut beside w
-abbrev pub after_cut : VersionValue → Side → VersionValue
+abbrev pub after_cut : VersionValue → Bool → VersionValue
 after_cut w Near = bare w
 after_cut w Far = pre_after w
 
-abbrev pub release_after : VersionValue → Side → VersionValue
+abbrev pub release_after : VersionValue → Bool → VersionValue
 release_after w Near = bare w
 release_after w Far = patch_after w
 
@@ -74,6 +75,10 @@ list_marks ss = flat_map kept_marks ss
 -- every version that can be the least that all lists accept, one or more, and the last list does not
 abbrev pub candidates : List (List (Span VersionValue)) → List (Span VersionValue) → List VersionValue
 candidates kss ls = flat_map firsts (Start ∷ (flat_map list_marks kss ++ flat_map removed_marks ls))
+
+-- each of the lists accepts the version
+abbrev pub all_accept : List (List (Span VersionValue)) → VersionValue → Bool
+all_accept lists v = list_all (λ ss. accepts ss v false) lists
 
 -- the first list and each of the others accept the version, and the last list does not
 abbrev pub among : List (Span VersionValue) → List (List (Span VersionValue)) → List (Span VersionValue) → VersionValue → Bool

@@ -1,16 +1,20 @@
 -- For proofs and private contracts. What stands at the front of a text, read from the left: a number, a component, a
 -- qualifier, a partial. `partial_front` gives the partial of `IsLongestPartial`.
-use Rattle.std.specs.Prelude.{ℕ, ◌==◌, ◌&&◌, not, nat_le, Bool, List, [], ◌∷◌, take, drop, Option, Some, None, if◌then◌else◌, take_while}
+use Rattle.std.specs.Prelude.{ℕ, ◌==◌, ◌&&◌, ◌||◌, not, nat_le, Bool, List, [], ◌∷◌, take, drop, Option, Some, None, if◌then◌else◌, take_while}
 use Rattle.std.specs.Char.{is_ascii_digit}
 use Rattle.std.specs.List.{list_all, prefix_len}
 use Rattle.std.specs.Str.Parse.{digits_value}
 use Rattle.semver_core.specs.Lists.{is_empty}
 use Rattle.std.specs.Borrow.{Bor}
 use Rattle.semver_core.specs.Internal.Reading.{◌>>?◌, list_len}
-use Rattle.nodejs_semver.specs.Text.PartialText.{Partial, is_wildcard}
+use Rattle.nodejs_semver.specs.Text.PartialText.{Partial}
 use Rattle.semver_core.specs.Internal.Spaces.{drop_spaces}
 use Rattle.semver_core.specs.Text.Identifiers.{listed}
 use Rattle.semver_core.specs.Text.Characters.{is_identifier_char, begins}
+
+-- `x`, `X` or `*`
+abbrev pub is_wildcard : ℕ → Bool
+is_wildcard b = b == 120 || b == 88 || b == 42
 
 -- a value and the text behind it
 abbrev pub Front : Type 0 → Type 0

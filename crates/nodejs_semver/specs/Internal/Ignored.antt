@@ -1,5 +1,5 @@
 -- For proofs and private contracts. The ignored words of a range text, computed.
-use Rattle.std.specs.Prelude.{ℕ, zero, suc, ◌+◌, ◌-◌, false, List, [], ◌∷◌, ◌++◌, Option, Some, None, length}
+use Rattle.std.specs.Prelude.{ℕ, zero, suc, ◌+◌, ◌-◌, Bool, false, if◌then◌else◌, List, [], ◌∷◌, ◌++◌, Option, Some, None, length}
 use Rattle.std.specs.Borrow.{Bor}
 use Rattle.semver_core.specs.Internal.Spaces.{drop_spaces, trim}
 use Rattle.semver_core.specs.declared.TheConstants.{MAX_SAFE_INTEGER}
@@ -10,7 +10,12 @@ use Rattle.nodejs_semver.specs.Internal.Readings.{rest_view}
 use Rattle.nodejs_semver.specs.Internal.Words.{word_at}
 use Rattle.nodejs_semver.specs.declared.diagnosis.left.Left.{Left}
 use Rattle.nodejs_semver.specs.declared.diagnosis.ranges.IgnoredKind.{IgnoredKind}
+use Rattle.nodejs_semver.specs.declared.diagnosis.ranges.IgnoredKind.TheVariants.{WithoutBounds}
 use Rattle.nodejs_semver.specs.declared.diagnosis.ranges.IgnoredWord.{IgnoredWord}
+
+-- why a word that has a form is ignored, if it is
+abbrev pub unless_bounded : Bool → Option IgnoredKind
+unless_bounded bounded = if bounded then None else Some WithoutBounds
 
 -- why the word at the front is ignored, if it is, and what follows it
 abbrev pub kind_at : ℕ → List ℕ → Option IgnoredKind × List ℕ

@@ -1,8 +1,12 @@
 -- For proofs. The runs of a part, computed: `runs_of` gives the division of `AreRuns`.
-use Rattle.std.specs.Prelude.{true, false, List, [], ◌∷◌}
+use Rattle.std.specs.Prelude.{true, false, List, [], ◌∷◌, ◌++◌}
 use Rattle.std.specs.declared.cmp.Ordering.{Ordering}
 use Rattle.semver_core.specs.Cuts.{Span}
-use Rattle.nodejs_semver.specs.Text.Runs.{Run, fits, longer}
+use Rattle.nodejs_semver.specs.Text.Runs.{Run, fits}
+
+-- a run with one word more
+abbrev pub longer : {V : Type 0} → Run V → Span V → Run V
+longer r s = record r { others = r.others ++ s ∷ [] }
 
 -- the runs, the first one being under way
 unfoldable pub runs_from : {V : Type 0} → (V → V → Ordering) → Run V → List (Span V) → List (Run V)

@@ -5,13 +5,14 @@ use Rattle.std.specs.Cmp.{IsEquivalence, eq_by_cmp_equiv, and_equiv, on_equiv}
 use Rattle.std.specs.Cmp.Lexicographic.{lists_equiv}
 use Rattle.std.specs.Hash as fed
 use Rattle.std.specs.Hash.{Alike, items_Alike, and-Alike, on_Alike}
+use Rattle.nodejs_semver.specs.Internal.Sets.{span_eq}
 use Rattle.semver_core.specs.Cuts.{Span, bound_eq}
 use Rattle.semver_core.specs.Internal.OrderLaws.{precedence_total, version_alike}
 use Rattle.semver_core.specs.Values.Versions.{VersionValue}
 use Rattle.semver_core.specs.declared.cuts.bound.Bound.{Bound}
 use Rattle.semver_core.specs.declared.cuts.bound.Bound.TheVariants.{Unbounded, Before, After}
 use Rattle.nodejs_semver.specs.Internal.Hashes.{bound_writes, span_writes, range_writes}
-use Rattle.nodejs_semver.specs.Ranges.Equality.{span_eq, range_eq}
+use Rattle.nodejs_semver.specs.Ranges.Equality.{range_eq}
 use Rattle.semver_core.specs.Values.Order.{version_eq}
 
 version_equiv : IsEquivalence version_eq

@@ -1,8 +1,10 @@
 -- For proofs and private contracts: where the reader of numbers stops.
-use Rattle.std.specs.Prelude.{◌≡◌, ◌==◌, ◌+◌, ◌≤◌, ℕ, suc, Bool, true, false, List, drop, length}
+use Rattle.std.specs.Prelude.{◌≡◌, ◌==◌, ◌+◌, ◌≤◌, ℕ, suc, Bool, true, false, List, [], drop, length}
 use Rattle.std.specs.Char.{is_ascii_digit}
 use Rattle.semver_core.specs.Text.Characters.{begins, IsPieceAt}
 use Rattle.semver_core.specs.Text.Numbers.{IsWholeNumber}
+use Rattle.semver_core.specs.Text.VersionText.{Reads}
+use Rattle.semver_core.specs.Values.Versions.{VersionValue}
 use Rattle.nodejs_semver.specs.Diagnosis.VersionFlaws.{BeginsGreat}
 use Rattle.nodejs_semver.specs.declared.diagnosis.versions.Expected.TheVariants.{Digit, Dot}
 use Rattle.nodejs_semver.specs.declared.diagnosis.versions.VersionFlaw.{VersionFlaw}
@@ -13,6 +15,10 @@ pub record IsNumberAt (limit : ℕ) (text : List ℕ) (at end : ℕ) : Type 0 wh
   pub n : ℕ
   pub piece : IsPieceAt (λ digits rest. IsWholeNumber limit digits rest n) text at end
   pub inside : end ≤ length text
+
+-- the text is a version as a whole, whatever its length
+abbrev pub IsWhole : ℕ → List ℕ → Type 0
+IsWhole limit text = (v : VersionValue) × (r : Reads limit text v) × (r.rest ≡ [])
 
 abbrev pub begins_dot : List ℕ → Bool
 begins_dot text = begins (λ b. b == 46) text

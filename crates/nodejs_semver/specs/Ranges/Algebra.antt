@@ -1,5 +1,5 @@
 -- Statement: the lists of intervals that the set operations return, in order and with the builds of their bounds.
-use Rattle.std.specs.Prelude.{Bool, false, List, ◌++◌, Option, Some, None}
+use Rattle.std.specs.Prelude.{Bool, List, ◌++◌, Option}
 use Rattle.std.specs.List.{list_any, flat_map, fold}
 use Rattle.std.specs.Option.{option_to_list}
 use Rattle.std.specs.declared.cmp.Ordering.{Ordering}
@@ -12,30 +12,17 @@ use Rattle.semver_core.specs.Values.Versions.{VersionValue}
 abbrev pub list_holds : {V : Type 0} → (V → V → Ordering) → List (Span V) → V → Bool
 list_holds R ss v = list_any (λ s. holds R s v) ss
 
--- the same where there may be no list, which stands for the empty set
-abbrev pub option_list_holds : {V : Type 0} → (V → V → Ordering) → Option (List (Span V)) → V → Bool
-option_list_holds R None v = false
-option_list_holds R (Some ss) v = list_holds R ss v
+-- the intersections of all pairs, the first list outside; none where no pair meets
+abbrev pub intersection : List (Span VersionValue) → List (Span VersionValue) → Option (List (Span VersionValue))
+intersection ss ts = if_any (flat_map (λ s. flat_map (λ t. option_to_list (meet precedence s t)) ts) ss)
 
--- what the pairs of two lists have in common, the first list outside
-abbrev pub meets_of : {V : Type 0} → (V → V → Ordering) → List (Span V) → List (Span V) → List (Span V)
-meets_of R ss ts = flat_map (λ s. flat_map (λ t. option_to_list (meet R s t)) ts) ss
-
--- the remainder of s as a list
+-- the remainder of one span by another, as a list
 abbrev pub remainder : {V : Type 0} → (V → V → Ordering) → Span V → Span V → List (Span V)
 remainder R s t = option_to_list (remainders R s t).0 ++ option_to_list (remainders R s t).1
 
--- each of ss with the remainders by ts taken one after another
-abbrev pub minus : {V : Type 0} → (V → V → Ordering) → List (Span V) → List (Span V) → List (Span V)
-minus R ss ts = fold (λ left t. flat_map (λ s. remainder R s t) left) ss ts
-
--- the intersections of all pairs, the first list outside; none where no pair meets
-abbrev pub intersection : List (Span VersionValue) → List (Span VersionValue) → Option (List (Span VersionValue))
-intersection ss ts = if_any (meets_of precedence ss ts)
-
--- what is left of the first list, the second taken away one after another; none where nothing is left
+-- what is left of the first list, the spans of the second taken away one after another; none where nothing is left
 abbrev pub difference : List (Span VersionValue) → List (Span VersionValue) → Option (List (Span VersionValue))
-difference ss ts = if_any (minus precedence ss ts)
+difference ss ts = if_any (fold (λ left t. flat_map (λ s. remainder precedence s t) left) ss ts)
 
 -- some one span of the first list covers some one span of the second
 abbrev pub covers_one : List (Span VersionValue) → List (Span VersionValue) → Bool

@@ -6,10 +6,6 @@ use Rattle.semver_core.specs.Cuts.{Span, bound_eq}
 use Rattle.semver_core.specs.Values.Order.{version_eq}
 use Rattle.semver_core.specs.Values.Versions.{VersionValue}
 
--- equal lower bounds and equal upper bounds
-abbrev pub span_eq : Span VersionValue → Span VersionValue → Bool
-span_eq = eq_of_both (on (λ s. s.lower) (bound_eq version_eq)) (on (λ s. s.upper) (bound_eq version_eq))
-
--- as many intervals, and each equal to the one in its place
+-- as many intervals, and each with bounds equal to those of the one in its place
 abbrev pub range_eq : List (Span VersionValue) → List (Span VersionValue) → Bool
-range_eq = pointwise span_eq
+range_eq = pointwise (eq_of_both (on (λ s. s.lower) (bound_eq version_eq)) (on (λ s. s.upper) (bound_eq version_eq)))

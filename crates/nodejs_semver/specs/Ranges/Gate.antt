@@ -1,14 +1,11 @@
 -- Statement: which versions a range accepts.
-use Rattle.std.specs.Prelude.{◌==◌, Bool, false, ◌&&◌, ◌||◌, not, List, Option, Some, None}
+use Rattle.std.specs.Prelude.{◌==◌, Bool, false, ◌&&◌, ◌||◌, not, List}
 use Rattle.std.specs.List.{list_any}
 use Rattle.semver_core.specs.Cuts.{Span, holds}
 use Rattle.semver_core.specs.Values.Order.{precedence}
 use Rattle.semver_core.specs.Values.Versions.{VersionValue, is_release}
 use Rattle.semver_core.specs.declared.cuts.bound.Bound.{Bound}
 use Rattle.semver_core.specs.declared.cuts.bound.Bound.TheVariants.{Unbounded, Before, After}
-
-abbrev pub same_triple : VersionValue → VersionValue → Bool
-same_triple v w = (v.major == w.major) && ((v.minor == w.minor) && (v.patch == w.patch))
 
 -- the bound has a version, which passes the test
 abbrev pub passes : {V : Type 0} → (V → Bool) → Bound V → Bool
@@ -18,7 +15,7 @@ passes test (After w) = test w
 
 -- the version of the bound is a pre-release of the same three numbers as v
 abbrev pub names : Bound VersionValue → VersionValue → Bool
-names b v = passes (λ w. not (is_release w) && same_triple w v) b
+names b v = passes (λ w. not (is_release w) && ((w.major == v.major) && ((w.minor == v.minor) && (w.patch == v.patch)))) b
 
 -- a span lets in every release, and the pre-releases of three numbers of which it names one
 abbrev pub lets_in : Span VersionValue → VersionValue → Bool
@@ -27,8 +24,3 @@ lets_in s v = is_release v || (names s.lower v || names s.upper v)
 -- some one span holds v and lets it in; where pre-releases are included it only has to hold v
 abbrev pub accepts : List (Span VersionValue) → VersionValue → Bool → Bool
 accepts ss v include = list_any (λ s. holds precedence s v && (include || lets_in s v)) ss
-
--- the same where there may be no range, which stands for one that accepts nothing
-abbrev pub option_accepts : Option (List (Span VersionValue)) → VersionValue → Bool → Bool
-option_accepts None v include = false
-option_accepts (Some ss) v include = accepts ss v include

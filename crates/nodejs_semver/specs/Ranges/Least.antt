@@ -1,6 +1,5 @@
 -- Statement: the least version that a range accepts, the least that it accepts and another does not, and the least that several accept.
 use Rattle.std.specs.Prelude.{◌≡◌, ◌+◌, Bool, true, false, ◌&&◌, not, List, [], ◌∷◌, ◌++◌, if◌then◌else◌, Option, Some, None, find, option_and_then}
-use Rattle.std.specs.List.{list_all}
 use Rattle.std.specs.Ordering.{is_le}
 use Rattle.semver_core.specs.Cuts.{Span, holds}
 use Rattle.semver_core.specs.Text.Identifiers.{Id, Numeric}
@@ -18,10 +17,6 @@ IsLeastOf set (Some v) = (set v ≡ true) × ((w : VersionValue) → set w ≡ t
 -- the first list accepts the version, and the second does not
 abbrev pub beyond : List (Span VersionValue) → List (Span VersionValue) → VersionValue → Bool
 beyond kept removed v = accepts kept v false && not (accepts removed v false)
-
--- each of the lists accepts the version
-abbrev pub all_accept : List (List (Span VersionValue)) → VersionValue → Bool
-all_accept lists v = list_all (λ ss. accepts ss v false) lists
 
 -- the version with which the spans of this lower bound begin, with the bound's build: that of `>=w` itself; of `>w` the
 -- next patch of a release, and a pre-release with one more identifier, the number 0

@@ -23,14 +23,10 @@ abbrev pub lies_above : Span VersionValue → VersionValue → Bool
 lies_above s v = (not (is_bounded s.lower) && not (is_bounded s.upper))
     || (is_bounded s.lower && not (is_past precedence (upper_cut s.upper) v))
 
--- the first for a version that lies above, the second for one that lies below
-abbrev pub facing : {A : Type 0} → OutsideDirection → A → A → A
-facing Higher above below = above
-facing Lower above below = below
-
 -- the version is not accepted, and each span lies on the other side
 abbrev pub is_outside : OutsideDirection → Bool → List (Span VersionValue) → VersionValue → Bool
-is_outside d include ss v = not (accepts ss v include) && list_all (λ s. facing d (lies_below s v) (lies_above s v)) ss
+is_outside d include ss v = not (accepts ss v include)
+    && list_all (λ s. elim d [ Higher ↦ lies_below s v | Lower ↦ lies_above s v ]) ss
 
 -- the character of a direction, `>` or `<`
 abbrev pub direction_char : OutsideDirection → ℕ

@@ -14,14 +14,12 @@ is_range_bound limit Unbounded = true
 is_range_bound limit (Before v) = is_readable limit v
 is_range_bound limit (After v) = is_readable limit v
 
--- the lower cut is below the upper one, and both bounds are such
-abbrev pub is_range_span : ℕ → Span VersionValue → Bool
-is_range_span limit s = is_interval precedence s && (is_range_bound limit s.lower && is_range_bound limit s.upper)
-
--- the intervals of a range: one or more; no number of a bound is above the limit by more than one
+-- the intervals of a range: one or more, each with its lower cut below its upper one; no number of a bound is above the limit by
+-- more than one
 pub record IsRange (limit : ℕ) (ss : List (Span VersionValue)) : Type 0 where
   pub some : 0 < length ss
-  pub each : list_all (is_range_span (limit + 1)) ss ≡ true
+  pub each : list_all (λ s. is_interval precedence s
+      && (is_range_bound (limit + 1) s.lower && is_range_bound (limit + 1) s.upper)) ss ≡ true
 
 -- the range of all versions: one interval without bounds
 abbrev pub any_version : List (Span VersionValue)

@@ -45,7 +45,3 @@ pub data IsCommonRange (limit : ℕ) : List ℕ → List (Span VersionValue) →
   more_parts : (part before after text : List ℕ) (s : Span VersionValue) (list : List (Span VersionValue)) → IsCommonPart limit part s
       → IsGap before → IsGap after → IsCommonRange limit text list
       → IsCommonRange limit (part ++ (before ++ 124 ∷ (124 ∷ (after ++ text)))) (s ∷ list)
-
--- the text is no common one
-abbrev pub IsUncommon : ℕ → List ℕ → Type 0
-IsUncommon limit text = (list : List (Span VersionValue)) → IsCommonRange limit text list → ⊥

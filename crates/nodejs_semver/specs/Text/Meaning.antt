@@ -17,13 +17,13 @@ pub data AreWords (limit : ℕ) : List ℕ → List Word → Type 0 where
   next_word : (b : ℕ) (text behind next : List ℕ) (word : Word) (others : List Word) → IsWordAt limit (b ∷ text) word behind
       → SkipsBlank behind next → AreWords limit next others → AreWords limit (b ∷ text) (word ∷ others)
 
--- the runs of what stands between bars: the division of the bounds that the words of the part in it have
-pub record HasRuns (limit : ℕ) (piece : List ℕ) (runs : List (Run VersionValue)) : Type 0 where
-  pub part : List ℕ
-  pub words : List Word
-  pub trimmed : IsTrim piece part
-  pub read : AreWords limit part words
-  pub divided : AreRuns precedence (filter_map (table limit) words) runs
+-- the words of what stands between bars: those of the part in it
+abbrev pub HasWords : ℕ → List ℕ → List Word → Type 0
+HasWords limit piece words = (part : List ℕ) × IsTrim piece part × AreWords limit part words
+
+-- its runs: the division of the bounds that its words have
+abbrev pub HasRuns : ℕ → List ℕ → List (Run VersionValue) → Type 0
+HasRuns limit piece runs = (ws : List Word) × HasWords limit piece ws × AreRuns precedence (filter_map (table limit) ws) runs
 
 -- the intervals of all pieces, one piece after another: one without bounds for a piece of whitespace alone, and else those of
 -- its runs

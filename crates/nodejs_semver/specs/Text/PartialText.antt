@@ -1,6 +1,6 @@
 -- Statement. A partial: a version whose components may be absent or wildcards, and what it is as a text, in the words of the
 -- version grammar. The greatest number that a text may write is the parameter `limit`.
-use Rattle.std.specs.Prelude.{◌≡◌, ◌⊎◌, ◌==◌, ◌&&◌, ◌||◌, ℕ, Bool, true, false, List, [], ◌∷◌, ◌++◌, Option, Some, None}
+use Rattle.std.specs.Prelude.{◌≡◌, ◌⊎◌, ◌==◌, ◌&&◌, ◌||◌, ℕ, true, false, List, [], ◌∷◌, ◌++◌, Option, Some, None}
 use Rattle.std.specs.Char.{is_ascii_digit}
 use Rattle.semver_core.specs.Text.Characters.{begins, ends, IsBlank}
 use Rattle.semver_core.specs.Text.VersionText.{IsPreRelease, IsBuild}
@@ -15,13 +15,9 @@ pub record Partial : Type 0 where
   pub pre_release : List Id
   pub build : List Id
 
--- `x`, `X` or `*`
-abbrev pub is_wildcard : ℕ → Bool
-is_wildcard b = b == 120 || b == 88 || b == 42
-
--- a component: a wildcard or a number
+-- a component: a wildcard, which is `x`, `X` or `*`, or a number
 pub data IsComponent (limit : ℕ) : List ℕ → Option ℕ → Type 0 where
-  wildcard : (b : ℕ) → is_wildcard b ≡ true → IsComponent limit (b ∷ []) None
+  wildcard : (b : ℕ) → (b == 120 || b == 88 || b == 42) ≡ true → IsComponent limit (b ∷ []) None
   number : (digits : List ℕ) (n : ℕ) → IsNumber limit digits n → IsComponent limit digits (Some n)
 
 -- one to three components joined by dots. Behind the third, whose run of digits does not go on there, stand a pre-release and

@@ -32,13 +32,9 @@ interval_of R r = record { lower = greatest_lower R r.first r.others; upper = le
 abbrev pub fits : {V : Type 0} → (V → V → Ordering) → Run V → Bool
 fits R r = is_interval R (interval_of R r)
 
--- a run with one word more
-abbrev pub longer : {V : Type 0} → Run V → Span V → Run V
-longer r s = record { first = r.first; others = r.others ++ s ∷ [] }
-
 -- no run can take the first word of the next one
 abbrev pub AreLongest : {V : Type 0} → (V → V → Ordering) → List (Run V) → Type 0
-AreLongest R (r ∷ s ∷ rest) = (fits R (longer r s.first) ≡ false) × AreLongest R (s ∷ rest)
+AreLongest R (r ∷ s ∷ rest) = (fits R (record r { others = r.others ++ s.first ∷ [] }) ≡ false) × AreLongest R (s ∷ rest)
 AreLongest R _ = Unit {0}
 
 -- the division of a part's bounds into runs, of which there is one

@@ -27,9 +27,6 @@ infix 5 ◌&◌
 abbrev pub ◌&◌ : Span VersionValue → Span VersionValue → Span VersionValue
 s & t = record { lower = s.lower; upper = t.upper }
 
-abbrev pub exactly : VersionValue → Span VersionValue
-exactly v = >= v & <= v
-
 -- `M.m.p-0`, the least of the versions with these three numbers
 abbrev pub lowest : ℕ → ℕ → ℕ → VersionValue
 lowest M m p = record (release_value M m p) { pre_release = Numeric 0 ∷ [] }
@@ -57,18 +54,16 @@ row MAX (compare below _) _ _ _ V = Some (< V)
 row MAX (compare at_most _) _ None None V = Some (<= (release_value V.major MAX MAX))
 row MAX (compare at_most _) _ (Some m) None V = Some (<= (release_value V.major m MAX))
 row MAX (compare at_most _) _ _ _ V = Some (<= V)
-row MAX (compare equal _) (Some M) (Some m) (Some p) V = Some (exactly (without_build V))
+row MAX (compare equal _) (Some M) (Some m) (Some p) V = Some (>= (without_build V) & <= (without_build V))
 row MAX (compare equal _) (Some M) (Some m) None V = Some (>= (release_value M m 0) & < (lowest M (m + 1) 0))
 row MAX (compare equal _) (Some M) None _ V = Some (>= (release_value M 0 0) & < (lowest (M + 1) 0 0))
-row MAX (compare equal _) None _ _ V = None
 row MAX (plain _) None _ _ V = Some (>= (release_value 0 0 0))
 row MAX (plain _) (Some M) None _ V = Some (>= (release_value M 0 0) & < (lowest (M + 1) 0 0))
 row MAX (plain _) (Some M) (Some m) None V = Some (>= (release_value M m 0) & < (lowest M (m + 1) 0))
-row MAX (plain _) (Some M) (Some m) (Some p) V = Some (exactly V)
+row MAX (plain _) (Some M) (Some m) (Some p) V = Some (>= V & <= V)
 row MAX (tilde _ _) (Some M) None _ V = Some (>= (release_value M 0 0) & < (lowest (M + 1) 0 0))
 row MAX (tilde false _) (Some M) (Some m) None V = Some (>= (release_value M m 0) & < (lowest M (m + 1) 0))
 row MAX (tilde _ _) (Some M) (Some m) _ V = Some (>= (without_build V) & < (lowest M (m + 1) 0))
-row MAX (tilde _ _) None _ _ V = None
 row MAX (caret _) (Some zero) None None V = Some (< (lowest 1 0 0))
 row MAX (caret _) (Some zero) (Some m) None V = Some (>= (release_value 0 m 0) & < (lowest 0 (m + 1) 0))
 row MAX (caret _) (Some M) None None V = Some (>= (release_value M 0 0) & < (lowest (M + 1) 0 0))
@@ -76,22 +71,17 @@ row MAX (caret _) (Some M) (Some m) None V = Some (>= (release_value M m 0) & < 
 row MAX (caret _) (Some zero) (Some zero) (Some p) V = Some (>= (without_build V) & < (lowest 0 0 (p + 1)))
 row MAX (caret _) (Some zero) (Some m) (Some p) V = Some (>= (without_build V) & < (lowest 0 (m + 1) 0))
 row MAX (caret _) (Some M) (Some m) (Some p) V = Some (>= (without_build V) & < (lowest (M + 1) 0 0))
-row MAX (caret _) _ _ _ V = None
 row MAX (hyphen q _) None None None V = from_partial q (< (lowest 0 0 0))
 row MAX (hyphen q _) (Some M) None None V = from_partial q (< (lowest (M + 1) 0 0))
 row MAX (hyphen q _) (Some M) (Some m) None V = from_partial q (< (lowest M (m + 1) 0))
 row MAX (hyphen q _) _ _ _ V = from_partial q (<= V)
-row MAX malformed _ _ _ V = None
-
--- the row of a word by a partial of it
-abbrev pub row_of : ℕ → Word → Partial → Option (Span VersionValue)
-row_of limit word p = row limit word p.major p.minor p.patch (version_of p)
+row MAX _ _ _ _ V = None
 
 -- the interval that the table gives a word
 unfoldable pub table : ℕ → Word → Option (Span VersionValue)
-table limit (hyphen p q) = row_of limit (hyphen p q) q
-table limit (plain p) = row_of limit (plain p) p
-table limit (compare c p) = row_of limit (compare c p) p
-table limit (tilde greater p) = row_of limit (tilde greater p) p
-table limit (caret p) = row_of limit (caret p) p
+table limit (hyphen p q) = row limit (hyphen p q) q.major q.minor q.patch (version_of q)
+table limit (plain p) = row limit (plain p) p.major p.minor p.patch (version_of p)
+table limit (compare c p) = row limit (compare c p) p.major p.minor p.patch (version_of p)
+table limit (tilde greater p) = row limit (tilde greater p) p.major p.minor p.patch (version_of p)
+table limit (caret p) = row limit (caret p) p.major p.minor p.patch (version_of p)
 table limit malformed = None

@@ -6,19 +6,14 @@ use Rattle.nodejs_semver.specs.Text.PartialText.{Partial}
 
 -- the comparators `>=`, `>`, `=`, `<=` and `<`
 pub data Comparator : Type 0 where
-  at_least : Comparator
-  above : Comparator
-  equal : Comparator
-  at_most : Comparator
-  below : Comparator
+  at_least above equal at_most below : Comparator
 
 -- the forms of words. Of a tilde it is said whether `>` stands behind it.
 pub data Word : Type 0 where
   hyphen : Partial → Partial → Word
-  plain : Partial → Word
+  plain caret : Partial → Word
   compare : Comparator → Partial → Word
   tilde : Bool → Partial → Word
-  caret : Partial → Word
   malformed : Word
 
 -- a boundary is the end or whitespace
@@ -46,10 +41,8 @@ pub record IsWhole (limit : ℕ) (text : List ℕ) (p : Partial) (rest : List �
   pub ended : IsBoundary rest
 
 -- whitespace or none, and such a partial
-pub record IsBehind (limit : ℕ) (text : List ℕ) (p : Partial) (rest : List ℕ) : Type 0 where
-  pub start : List ℕ
-  pub skipped : SkipsBlank text start
-  pub is : IsWhole limit start p rest
+abbrev pub IsBehind : ℕ → List ℕ → Partial → List ℕ → Type 0
+IsBehind limit text p rest = (start : List ℕ) × SkipsBlank text start × IsWhole limit start p rest
 
 -- a partial, whitespace, `-`, whitespace and a partial up to a boundary
 pub record IsHyphen (limit : ℕ) (text : List ℕ) (lower upper : Partial) (rest : List ℕ) : Type 0 where

@@ -3,7 +3,6 @@ use Rattle.std.specs.Prelude.{◌≡◌, ◌⊎◌, ℕ, ◌&&◌, not, Bool, tr
 use Rattle.std.specs.List.{Any, list_all, list_any}
 use Rattle.std.specs.Ordering.{is_lt}
 use Rattle.std.specs.declared.cmp.Ordering.{Ordering}
-use Rattle.semver_core.specs.Cuts.{Span}
 use Rattle.semver_core.specs.declared.cuts.bound.Bound.{Bound}
 use Rattle.semver_core.specs.declared.cuts.bound.Bound.TheVariants.{Unbounded, Before, After}
 use Rattle.semver_core.specs.Text.Characters.{IsBlank}
@@ -25,13 +24,9 @@ is_below R Unbounded v = true
 is_below R (Before w) v = is_lt (R v w)
 is_below R (After w) v = not (is_lt (R w v))
 
--- the set of a word: what satisfies its comparisons
-abbrev pub word_writes : {V : Type 0} → (V → V → Ordering) → V → Span V → Bool
-word_writes R v s = is_above R s.lower v && is_below R s.upper v
-
--- a run writes what every word of it writes
+-- a run writes what satisfies the comparisons of every word of it
 abbrev pub run_writes : {V : Type 0} → (V → V → Ordering) → V → Run V → Bool
-run_writes R v r = list_all (word_writes R v) (run_items r)
+run_writes R v r = list_all (λ s. is_above R s.lower v && is_below R s.upper v) (run_items r)
 
 -- what stands between bars writes the version: it is whitespace alone, or the version is in what some one of its runs writes
 abbrev pub PieceWrites : ℕ → VersionValue → List ℕ → Type 0

@@ -1,8 +1,8 @@
 // The headline of this crate. It rests on the contracts of the public calls alone.
 
-ghost use Rattle.std.specs.Prelude.{◌≡◌, ◌&&◌, ◌↔◌, ◌⊎◌, List, [], IfOk, IsTrue, OnOk, not, true};
+ghost use Rattle.std.specs.Prelude.{◌≡◌, ◌&&◌, ◌↔◌, ◌⊎◌, List, [], IfOk, IsTrue, OnOk, not, true, unwrap_or};
 ghost use Rattle.std.specs.Prelude.{false};
-ghost use Rattle.nodejs_semver.specs.Ranges.Gate.{accepts, option_accepts};
+ghost use Rattle.nodejs_semver.specs.Ranges.Gate.{accepts};
 ghost use Rattle.nodejs_semver.specs.Ranges.Least.{IsLeastOf};
 ghost use Rattle.nodejs_semver.specs.Text.Meaning.{Means};
 ghost use Rattle.nodejs_semver.specs.Text.WrittenSet.{Writes};
@@ -43,10 +43,10 @@ pub fn headline(alloc: Global, a: &str, b: &str) -> Result<Findings, Failure<Sem
     ensures first { IfOk result (λ found. (v : VersionValue) →
         IsTrue (accepts found.first v true) ↔ Writes MAX_SAFE_INTEGER a.now v) }
     ensures both { IfOk result (λ found. (v : VersionValue) →
-        IsTrue (option_accepts found.both v true)
+        IsTrue (accepts (unwrap_or found.both []) v true)
         ↔ (Writes MAX_SAFE_INTEGER a.now v × Writes MAX_SAFE_INTEGER b.now v)) }
     ensures first_alone { IfOk result (λ found. (v : VersionValue) →
-        IsTrue (option_accepts found.first_alone v true)
+        IsTrue (accepts (unwrap_or found.first_alone []) v true)
         ↔ (Writes MAX_SAFE_INTEGER a.now v × (Writes MAX_SAFE_INTEGER b.now v → ⊥))) }
     ensures least { IfOk result (λ found. (list : List (Span VersionValue)) →
         Means MAX_SAFE_INTEGER a.now list
@@ -61,9 +61,9 @@ pub fn headline(alloc: Global, a: &str, b: &str) -> Result<Findings, Failure<Sem
 fn findings_of(alloc: Global, first: Range, second: &Range) -> Result<Findings, AllocError>
     ensures first { IfOk result (λ found. found.first ≡ first) }
     ensures both { IfOk result (λ found. (v : VersionValue) →
-        option_accepts found.both v true ≡ (accepts first v true && accepts second.now v true)) }
+        accepts (unwrap_or found.both []) v true ≡ (accepts first v true && accepts second.now v true)) }
     ensures first_alone { IfOk result (λ found. (v : VersionValue) →
-        option_accepts found.first_alone v true
+        accepts (unwrap_or found.first_alone []) v true
         ≡ (accepts first v true && not (accepts second.now v true))) }
     ensures least { IfOk result (λ found. IsLeastOf (λ v. accepts first v false) found.least) }
 {
@@ -127,7 +127,7 @@ pub fn headline_at(
 
 // Whether there is a range that accepts the version, with pre-releases included.
 fn is_in(range: &Option<Range>, version: &Version) -> bool
-    ensures { result ≡ option_accepts range.now version.now true }
+    ensures { result ≡ accepts (unwrap_or range.now []) version.now true }
 {
     match range {
         None => false,

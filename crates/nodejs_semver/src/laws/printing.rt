@@ -7,8 +7,8 @@ ghost use Rattle.nodejs_semver.specs.Printing.Text.{range_text};
 ghost use Rattle.nodejs_semver.specs.Ranges.Equality.{range_eq};
 ghost use Rattle.nodejs_semver.specs.Ranges.View.{IsRange};
 ghost use Rattle.nodejs_semver.specs.Text.Meaning.{Means};
+ghost use Rattle.semver_core.specs.Failures.{RefusedOnlyIf};
 ghost use Rattle.semver_core.specs.Cuts.{Span};
-ghost use Rattle.semver_core.specs.Failures.{NeverRefused};
 ghost use Rattle.semver_core.specs.Values.Versions.{VersionValue};
 
 use crate::{Failure, MAX_SAFE_INTEGER, Range, SemverError};
@@ -39,7 +39,7 @@ pub fn reread_range(alloc: Global, range: &Range) -> Result<Range, Failure<Semve
     ensures equal { IfOk result (λ again. range_eq again range.now ≡ true) }
     ensures builds { IfOk result (λ again. again ≡ map read_back range.now) }
     ensures text { IfOk result (λ again. range_text again ≡ range_text range.now) }
-    ensures never_refused { NeverRefused result }
+    ensures never_refused { RefusedOnlyIf result ⊥ }
 {
     // Proof helper: a range has an interval. The call has no effect at run time.
     let _intervals = range.intervals();

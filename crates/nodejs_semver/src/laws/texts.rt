@@ -3,6 +3,7 @@
 ghost use Rattle.std.specs.Prelude.{◌≡◌, ◌↔◌, ◌<◌, ℕ, false, IfNone, IfOk, IfSome, IsUtf8, List};
 ghost use Rattle.std.specs.Prelude.{[], Some, length, true};
 ghost use Rattle.std.specs.List.{list_all};
+ghost use Rattle.semver_core.specs.Failures.{NoValue};
 ghost use Rattle.semver_core.specs.Cuts.{Span};
 ghost use Rattle.semver_core.specs.Lists.{is_empty};
 ghost use Rattle.semver_core.specs.Text.Characters.{IsTrim};
@@ -18,7 +19,7 @@ ghost use Rattle.nodejs_semver.specs.Internal.Words.{word_at, words};
 ghost use Rattle.nodejs_semver.specs.Internal.Writes.{writes};
 ghost use Rattle.nodejs_semver.specs.Ranges.Algebra.{list_holds};
 ghost use Rattle.nodejs_semver.specs.Text.Bars.{IsCutAtBars};
-ghost use Rattle.nodejs_semver.specs.Text.Common.{IsCommonRange, IsUncommon};
+ghost use Rattle.nodejs_semver.specs.Text.Common.{IsCommonRange};
 ghost use Rattle.nodejs_semver.specs.Internal.Denotes.{denotes, part_bounds};
 ghost use Rattle.nodejs_semver.specs.Text.LongestText.{IsLongestPartial};
 ghost use Rattle.nodejs_semver.specs.Text.Meaning.{AreWords, Means};
@@ -122,7 +123,7 @@ pub fn both_readers(alloc: Global, text: &str) -> Result<Option<(Range, Option<R
     ensures same { IfOk result (λ found. IfSome found (λ both. Some both.0 ≡ both.1)) }
     ensures read { IfOk result (λ found. IfSome found (λ both.
         IsCommonRange MAX_SAFE_INTEGER text.now both.0)) }
-    ensures uncommon { IfOk result (λ found. IfNone found (IsUncommon MAX_SAFE_INTEGER text.now)) }
+    ensures uncommon { IfOk result (λ found. IfNone found (NoValue (IsCommonRange MAX_SAFE_INTEGER text.now))) }
 {
     let fast = range_fast(alloc, text)?;
     match fast {

@@ -1,11 +1,11 @@
 // The set algebra of ranges.
 
-ghost use Rattle.std.specs.Prelude.{◌≡◌, ◌&&◌, ◌||◌, not, IfOk, true, false, is_some};
+ghost use Rattle.std.specs.Prelude.{◌≡◌, ◌&&◌, ◌||◌, not, IfOk, true, false, is_some, unwrap_or, []};
 ghost use Rattle.semver_core.specs.Values.Order.{precedence};
 ghost use Rattle.semver_core.specs.Values.Versions.{VersionValue, is_release};
-ghost use Rattle.nodejs_semver.specs.Ranges.Gate.{accepts, option_accepts};
+ghost use Rattle.nodejs_semver.specs.Ranges.Gate.{accepts};
 ghost use Rattle.nodejs_semver.specs.Ranges.Algebra.{intersection, difference, covers_one};
-ghost use Rattle.nodejs_semver.specs.Ranges.Algebra.{list_holds, option_list_holds};
+ghost use Rattle.nodejs_semver.specs.Ranges.Algebra.{list_holds};
 
 use crate::range::lists;
 use crate::{Range, RangeRef};
@@ -54,20 +54,20 @@ impl Range {
         ensures list { IfOk result (λ r. r ≡ intersection self.now other.now) }
         // It holds what both hold.
         ensures set { IfOk result (λ r. (v : VersionValue) →
-            option_list_holds precedence r v
+            list_holds precedence (unwrap_or r []) v
             ≡ (list_holds precedence self.now v && list_holds precedence other.now v)) }
         // With pre-releases included it accepts what both accept.
         ensures all { IfOk result (λ r. (v : VersionValue) →
-            option_accepts r v true ≡ (accepts self.now v true && accepts other.now v true)) }
+            accepts (unwrap_or r []) v true ≡ (accepts self.now v true && accepts other.now v true)) }
         // It accepts what both accept, and nothing that neither accepts.
         ensures both { IfOk result (λ r. (v : VersionValue) →
             accepts self.now v false ≡ true → accepts other.now v false ≡ true
-            → option_accepts r v false ≡ true) }
+            → accepts (unwrap_or r []) v false ≡ true) }
         ensures one { IfOk result (λ r. (v : VersionValue) →
-            option_accepts r v false ≡ true
+            accepts (unwrap_or r []) v false ≡ true
             → (accepts self.now v false || accepts other.now v false) ≡ true) }
         ensures releases { IfOk result (λ r. (v : VersionValue) → is_release v ≡ true →
-            option_accepts r v false ≡ (accepts self.now v false && accepts other.now v false)) }
+            accepts (unwrap_or r []) v false ≡ (accepts self.now v false && accepts other.now v false)) }
     {
         self.common(alloc, other)
     }
@@ -93,17 +93,17 @@ impl Range {
         ensures list { IfOk result (λ r. r ≡ difference self.now other.now) }
         // It holds what this range holds and the other does not.
         ensures set { IfOk result (λ r. (v : VersionValue) →
-            option_list_holds precedence r v
+            list_holds precedence (unwrap_or r []) v
             ≡ (list_holds precedence self.now v && not (list_holds precedence other.now v))) }
         // With pre-releases included it accepts what this range accepts and the other does not.
         ensures all { IfOk result (λ r. (v : VersionValue) →
-            option_accepts r v true ≡ (accepts self.now v true && not (accepts other.now v true))) }
+            accepts (unwrap_or r []) v true ≡ (accepts self.now v true && not (accepts other.now v true))) }
         // It accepts what this range accepts and the other does not hold.
         ensures kept { IfOk result (λ r. (v : VersionValue) →
             accepts self.now v false ≡ true → list_holds precedence other.now v ≡ false
-            → option_accepts r v false ≡ true) }
+            → accepts (unwrap_or r []) v false ≡ true) }
         ensures releases { IfOk result (λ r. (v : VersionValue) → is_release v ≡ true →
-            option_accepts r v false
+            accepts (unwrap_or r []) v false
             ≡ (accepts self.now v false && not (accepts other.now v false))) }
     {
         self.remaining(alloc, other)
@@ -154,20 +154,20 @@ impl<'a> RangeRef<'a> {
         ensures list { IfOk result (λ r. r ≡ intersection self.now other.now) }
         // It holds what both hold.
         ensures set { IfOk result (λ r. (v : VersionValue) →
-            option_list_holds precedence r v
+            list_holds precedence (unwrap_or r []) v
             ≡ (list_holds precedence self.now v && list_holds precedence other.now v)) }
         // With pre-releases included it accepts what both accept.
         ensures all { IfOk result (λ r. (v : VersionValue) →
-            option_accepts r v true ≡ (accepts self.now v true && accepts other.now v true)) }
+            accepts (unwrap_or r []) v true ≡ (accepts self.now v true && accepts other.now v true)) }
         // It accepts what both accept, and nothing that neither accepts.
         ensures both { IfOk result (λ r. (v : VersionValue) →
             accepts self.now v false ≡ true → accepts other.now v false ≡ true
-            → option_accepts r v false ≡ true) }
+            → accepts (unwrap_or r []) v false ≡ true) }
         ensures one { IfOk result (λ r. (v : VersionValue) →
-            option_accepts r v false ≡ true
+            accepts (unwrap_or r []) v false ≡ true
             → (accepts self.now v false || accepts other.now v false) ≡ true) }
         ensures releases { IfOk result (λ r. (v : VersionValue) → is_release v ≡ true →
-            option_accepts r v false ≡ (accepts self.now v false && accepts other.now v false)) }
+            accepts (unwrap_or r []) v false ≡ (accepts self.now v false && accepts other.now v false)) }
     {
         self.in_common(alloc, other)
     }
@@ -183,17 +183,17 @@ impl<'a> RangeRef<'a> {
         ensures list { IfOk result (λ r. r ≡ difference self.now other.now) }
         // It holds what this range holds and the other does not.
         ensures set { IfOk result (λ r. (v : VersionValue) →
-            option_list_holds precedence r v
+            list_holds precedence (unwrap_or r []) v
             ≡ (list_holds precedence self.now v && not (list_holds precedence other.now v))) }
         // With pre-releases included it accepts what this range accepts and the other does not.
         ensures all { IfOk result (λ r. (v : VersionValue) →
-            option_accepts r v true ≡ (accepts self.now v true && not (accepts other.now v true))) }
+            accepts (unwrap_or r []) v true ≡ (accepts self.now v true && not (accepts other.now v true))) }
         // It accepts what this range accepts and the other does not hold.
         ensures kept { IfOk result (λ r. (v : VersionValue) →
             accepts self.now v false ≡ true → list_holds precedence other.now v ≡ false
-            → option_accepts r v false ≡ true) }
+            → accepts (unwrap_or r []) v false ≡ true) }
         ensures releases { IfOk result (λ r. (v : VersionValue) → is_release v ≡ true →
-            option_accepts r v false
+            accepts (unwrap_or r []) v false
             ≡ (accepts self.now v false && not (accepts other.now v false))) }
     {
         self.left_over(alloc, other)

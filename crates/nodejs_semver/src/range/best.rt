@@ -1,12 +1,15 @@
-// The best of a slice of versions.
+// The best of the versions of a slice, or of versions that come one after another.
 
 ghost use Rattle.nodejs_semver.specs.Ranges.Gate.{accepts};
-ghost use Rattle.nodejs_semver.specs.Internal.AnyVersions as of;
-ghost use Rattle.nodejs_semver.specs.Ranges.Best.{IsBest, IsMax, IsMin};
+ghost use Rattle.nodejs_semver.specs.Internal.AnyBest as of;
+ghost use Rattle.nodejs_semver.specs.Internal.AnyVersions as any;
+ghost use Rattle.nodejs_semver.specs.Ranges.Best.{IsMax, IsMin};
 ghost use Rattle.semver_core.specs.Values.Order.{precedence};
+ghost use Rattle.semver_core.specs.Values.Versions.{VersionValue};
 ghost use Rattle.std.specs.Option.{option_copied};
-ghost use Rattle.std.specs.Ordering.{is_le, is_lt};
-ghost use Rattle.std.specs.Prelude.{◌≡◌, All, Contains, IfNone, IfSome, false, true};
+ghost use Rattle.std.specs.Ordering.{is_le};
+ghost use Rattle.std.specs.Prelude.{◌≡◌, ◌++◌, ◌∷◌, [], List, All, Contains, IfNone, IfSome, Some};
+ghost use Rattle.std.specs.Prelude.{false, true, if◌then◌else◌};
 
 use crate::range::gate::accepts;
 use crate::{Range, RangeRef};
@@ -25,7 +28,6 @@ impl Range {
     /// let versions = [Version::from((1u64, 2, 0)), Version::from((2u64, 0, 0))];
     /// assert_eq!(rt; range.max_satisfying(&versions), Some(&versions[0]));
     /// ```
-    #[tactic(auto, using(crate::proofs::Choice::BestOf::max_none))]
     pub fn max_satisfying<'v>(&self, versions: &'v [Version]) -> Option<&'v Version>
         ensures best { IsMax (λ v. accepts self.now v false) versions.now (option_copied result) }
         // It is a version of the slice that the range accepts, and none that it accepts is above.
@@ -48,7 +50,6 @@ impl Range {
     /// let versions = [Version::from((1u64, 0, 0)), Version::from((1u64, 2, 0))];
     /// assert_eq!(rt; range.min_satisfying(&versions), Some(&versions[1]));
     /// ```
-    #[tactic(auto, using(crate::proofs::Choice::BestOf::min_none))]
     pub fn min_satisfying<'v>(&self, versions: &'v [Version]) -> Option<&'v Version>
         ensures best { IsMin (λ v. accepts self.now v false) versions.now (option_copied result) }
         // It is a version of the slice that the range accepts, and none that it accepts is below.
@@ -60,11 +61,51 @@ impl Range {
     {
         least(self.intervals(), versions)
     }
+
+    /// Whether a version takes the place of the best so far: the range accepts it by `satisfies`,
+    /// and the best is not above it. So what `max_satisfying` finds in a list is found as the
+    /// versions come, and no list is kept.
+    ///
+    /// ```rust
+    /// let range = Range::parse(alloc, "^1")?;
+    /// let mut best = None;
+    /// for text in ["1.2.0", "1.4.0", "2.0.0", "1.3.0"] {
+    ///     let version = Version::parse(alloc, text)?;
+    ///     if range.is_new_max(&version, best.as_ref()) {
+    ///         best = Some(version);
+    ///     }
+    /// }
+    /// assert_eq!(rt; best, Some(Version::from((1u64, 4, 0))));
+    /// ```
+    pub fn is_new_max(&self, version: &Version, best: Option<&Version>) -> bool
+        ensures { (list : List VersionValue)
+            → IsMax (λ v. accepts self.now v false) list (option_copied best.entry)
+            → IsMax (λ v. accepts self.now v false) (list ++ version.now ∷ [])
+            (if result then Some version.now else option_copied best.entry) }
+    {
+        is_new_max(self.intervals(), version, best)
+    }
+
+    /// Whether a version takes the place of the best so far in `min_satisfying`: the range accepts
+    /// it by `satisfies`, and the best is above it.
+    ///
+    /// ```rust
+    /// let range = Range::parse(alloc, "^1")?;
+    /// let best = Version::from((1u64, 4, 0));
+    /// assert!(rt; range.is_new_min(&Version::from((1u64, 2, 0)), Some(&best)));
+    /// ```
+    pub fn is_new_min(&self, version: &Version, best: Option<&Version>) -> bool
+        ensures { (list : List VersionValue)
+            → IsMin (λ v. accepts self.now v false) list (option_copied best.entry)
+            → IsMin (λ v. accepts self.now v false) (list ++ version.now ∷ [])
+            (if result then Some version.now else option_copied best.entry) }
+    {
+        is_new_min(self.intervals(), version, best)
+    }
 }
 
 impl<'a> RangeRef<'a> {
     /// The greatest of the versions that the range accepts, as `Range::max_satisfying` says.
-    #[tactic(auto, using(crate::proofs::Choice::BestOf::max_none))]
     pub fn max_satisfying<'v>(&self, versions: &'v [VersionRef<'a>]) -> Option<&'v VersionRef<'a>>
         ensures best { IsMax (λ v. accepts self.now v false) versions.now (option_copied result) }
         // It is a version of the slice that the range accepts, and none that it accepts is above.
@@ -78,7 +119,6 @@ impl<'a> RangeRef<'a> {
     }
 
     /// The smallest of the versions that the range accepts, as `Range::min_satisfying` says.
-    #[tactic(auto, using(crate::proofs::Choice::BestOf::min_none))]
     pub fn min_satisfying<'v>(&self, versions: &'v [VersionRef<'a>]) -> Option<&'v VersionRef<'a>>
         ensures best { IsMin (λ v. accepts self.now v false) versions.now (option_copied result) }
         // It is a version of the slice that the range accepts, and none that it accepts is below.
@@ -90,32 +130,84 @@ impl<'a> RangeRef<'a> {
     {
         least(self.intervals(), versions)
     }
+
+    /// Whether a version takes the place of the best so far, as `Range::is_new_max` says.
+    #[inline(always)]
+    pub fn is_new_max(&self, version: &VersionRef<'_>, best: Option<&VersionRef<'_>>) -> bool
+        ensures { (list : List VersionValue)
+            → IsMax (λ v. accepts self.now v false) list (option_copied best.entry)
+            → IsMax (λ v. accepts self.now v false) (list ++ version.now ∷ [])
+            (if result then Some version.now else option_copied best.entry) }
+    {
+        is_new_max(self.intervals(), version, best)
+    }
+
+    /// Whether a version takes the place of the best so far, as `Range::is_new_min` says.
+    #[inline(always)]
+    pub fn is_new_min(&self, version: &VersionRef<'_>, best: Option<&VersionRef<'_>>) -> bool
+        ensures { (list : List VersionValue)
+            → IsMin (λ v. accepts self.now v false) list (option_copied best.entry)
+            → IsMin (λ v. accepts self.now v false) (list ++ version.now ∷ [])
+            (if result then Some version.now else option_copied best.entry) }
+    {
+        is_new_min(self.intervals(), version, best)
+    }
 }
 
 // The last of the greatest of the versions that the intervals accept.
 fn greatest<'v, V: Versioned>(intervals: &[Interval<V>], versions: &'v [V]) -> Option<&'v V>
-    ensures best { IsBest (λ w v. is_le (V.cmp w v)) (λ w v. is_lt (V.cmp w v))
-        (λ v. of.accepts V.cmp V.value intervals.now v false) versions.now (option_copied result) }
-    ensures member { IfSome result (λ v. Contains versions.now v.now) }
-    ensures accepted { IfSome result (λ v.
-        of.accepts V.cmp V.value intervals.now v.now false ≡ true) }
+    ensures { of.IsMax V.cmp (λ v. any.accepts V.cmp V.value intervals.now v false) versions.now
+        (option_copied result) }
 {
-    versions
-        .iter()
-        .filter(|version| accepts(intervals, version, false))
-        .max()
+    let mut best = None;
+    for version in versions {
+        if is_new_max(intervals, version, best) {
+            best = Some(version);
+        }
+    }
+    best
 }
 
 // The smallest of the versions that the intervals accept; on a tie, the first.
 fn least<'v, V: Versioned>(intervals: &[Interval<V>], versions: &'v [V]) -> Option<&'v V>
-    ensures best { IsBest (λ w v. is_lt (V.cmp v w)) (λ w v. is_le (V.cmp v w))
-        (λ v. of.accepts V.cmp V.value intervals.now v false) versions.now (option_copied result) }
-    ensures member { IfSome result (λ v. Contains versions.now v.now) }
-    ensures accepted { IfSome result (λ v.
-        of.accepts V.cmp V.value intervals.now v.now false ≡ true) }
+    ensures { of.IsMin V.cmp (λ v. any.accepts V.cmp V.value intervals.now v false) versions.now
+        (option_copied result) }
 {
-    versions
-        .iter()
-        .filter(|version| accepts(intervals, version, false))
-        .min()
+    let mut best = None;
+    for version in versions {
+        if is_new_min(intervals, version, best) {
+            best = Some(version);
+        }
+    }
+    best
+}
+
+// Whether the intervals accept a version, and the best so far is not above it.
+#[inline(always)]
+fn is_new_max<V: Versioned>(intervals: &[Interval<V>], version: &V, best: Option<&V>) -> bool
+    ensures { (list : List V)
+        → of.IsMax V.cmp (λ v. any.accepts V.cmp V.value intervals.now v false) list
+        (option_copied best.entry)
+        → of.IsMax V.cmp (λ v. any.accepts V.cmp V.value intervals.now v false)
+        (list ++ version.now ∷ []) (if result then Some version.now else option_copied best.entry) }
+{
+    match best {
+        Some(best) => best.cmp(version).is_le() && accepts(intervals, version, false),
+        None => accepts(intervals, version, false),
+    }
+}
+
+// Whether the intervals accept a version, and the best so far is above it.
+#[inline(always)]
+fn is_new_min<V: Versioned>(intervals: &[Interval<V>], version: &V, best: Option<&V>) -> bool
+    ensures { (list : List V)
+        → of.IsMin V.cmp (λ v. any.accepts V.cmp V.value intervals.now v false) list
+        (option_copied best.entry)
+        → of.IsMin V.cmp (λ v. any.accepts V.cmp V.value intervals.now v false)
+        (list ++ version.now ∷ []) (if result then Some version.now else option_copied best.entry) }
+{
+    match best {
+        Some(best) => version.cmp(best).is_lt() && accepts(intervals, version, false),
+        None => accepts(intervals, version, false),
+    }
 }

@@ -11,7 +11,7 @@ ghost use Rattle.nodejs_semver.specs.Ranges.View.{IsRange};
 
 use crate::{Range, RangeRef};
 use semver_core::cuts::{Bound, Interval};
-use semver_core::{Accepts, Version, VersionRef, Versioned};
+use semver_core::{Accepts, AcceptsRef, Version, VersionRef, Versioned};
 
 impl Range {
     /// Whether the range accepts this version. A pre-release is accepted only if the interval that
@@ -66,6 +66,15 @@ impl Accepts for Range {
     ghost accepts = { accepts };
 
     fn accepts(&self, version: &Version, include_prerelease: bool) -> bool {
+        self.satisfies_with_prerelease(version, include_prerelease)
+    }
+}
+
+/// What `satisfies_with_prerelease` returns.
+impl<'a> AcceptsRef for RangeRef<'a> {
+    ghost accepts = { accepts };
+
+    fn accepts(&self, version: &VersionRef<'_>, include_prerelease: bool) -> bool {
         self.satisfies_with_prerelease(version, include_prerelease)
     }
 }

@@ -11,7 +11,8 @@
 ghost use Rattle.nodejs_semver.specs.Ranges.Gate.{accepts, lets_in};
 ghost use Rattle.nodejs_semver.specs.Internal.Candidates as spec;
 ghost use Rattle.nodejs_semver.specs.Ranges.Least as stated;
-ghost use Rattle.semver_core.specs.Cuts.{Beside, Far, Near, holds};
+ghost use Rattle.semver_core.specs.Internal.Sides.{Near, Far};
+ghost use Rattle.semver_core.specs.Cuts.{Beside, holds};
 ghost use Rattle.semver_core.specs.Values.Order.{precedence};
 ghost use Rattle.std.specs.List.{flat_map, list_any};
 ghost use Rattle.std.specs.Option.{option_copied};
@@ -396,7 +397,7 @@ impl<'a> Search<'a> {
 
 // Whether each of the ranges accepts the version.
 fn satisfies_all(ranges: &[Range], version: &Version) -> bool
-    ensures { result ≡ stated.all_accept ranges.now version.now }
+    ensures { result ≡ spec.all_accept ranges.now version.now }
 {
     ranges.iter().all(|range| range.satisfies(version))
 }

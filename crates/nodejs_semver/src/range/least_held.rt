@@ -5,8 +5,8 @@ ghost use Rattle.nodejs_semver.specs.Ranges.Gate.{accepts};
 ghost use Rattle.nodejs_semver.specs.Ranges.Least as stated;
 ghost use Rattle.std.specs.Prelude.{◌≡◌, [], IfOk, IfSome, true};
 
-use crate::Range;
 use crate::range::neighbours::{bare, pre_after};
+use crate::{Range, RangeRef};
 use semver_core::Version;
 use semver_core::cuts::Bound;
 use std::alloc::{AllocError, Global};
@@ -48,6 +48,18 @@ impl Range {
             }
         }
         Ok(best)
+    }
+}
+
+impl<'a> RangeRef<'a> {
+    /// The smallest version that the range accepts with pre-releases included, as
+    /// `Range::min_version_with_prerelease` says. Fails only if allocation fails.
+    pub fn min_version_with_prerelease(&self, alloc: Global) -> Result<Option<Version>, AllocError>
+        ensures least { IfOk result (λ r. stated.IsLeastOf (λ v. accepts self.now v true) r) }
+        ensures build { IfOk result (λ r. IfSome r (λ v. v.build ≡ [])) }
+    {
+        let range = self.to_range(alloc)?;
+        range.min_version_with_prerelease(alloc)
     }
 }
 

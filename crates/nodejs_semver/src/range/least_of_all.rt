@@ -1,7 +1,9 @@
 // The least version that several ranges all accept.
 
+ghost use Rattle.std.specs.List.{list_all};
+ghost use Rattle.nodejs_semver.specs.Ranges.Gate.{accepts};
 ghost use Rattle.nodejs_semver.specs.Ranges.Least as stated;
-ghost use Rattle.std.specs.Prelude.{◌≡◌, [], IfOk, IfSome};
+ghost use Rattle.std.specs.Prelude.{◌≡◌, [], IfOk, IfSome, false};
 
 use crate::Range;
 use crate::range::least::least_among;
@@ -25,7 +27,8 @@ impl Range {
     /// ```
     #[tactic(auto, using(crate::proofs::Choice::Raised::raisable))]
     pub fn least_of_all(alloc: Global, ranges: &[Range]) -> Result<Option<Version>, AllocError>
-        ensures least { IfOk result (λ r. stated.IsLeastOf (stated.all_accept ranges.now) r) }
+        ensures least { IfOk result (λ r. stated.IsLeastOf
+            (λ v. list_all (λ range. accepts range v false) ranges.now) r) }
         ensures build { IfOk result (λ r. IfSome r (λ v. v.build ≡ [])) }
     {
         match ranges {

@@ -3,10 +3,11 @@
 ghost use Rattle.std.specs.Prelude.{◌≡◌, [], ◌∷◌, ◌++◌, IfOk, OnOk, is_some, true};
 ghost use Rattle.std.specs.List.{flat_map, list_all, list_any};
 ghost use Rattle.std.specs.Option.{option_to_list};
+ghost use Rattle.nodejs_semver.specs.Internal.Sets.{meets_of, minus};
 ghost use Rattle.semver_core.specs.Clips.{clip};
 ghost use Rattle.semver_core.specs.Cuts.{Start, is_interval, meet, covers};
 ghost use Rattle.semver_core.specs.Lists.{if_any};
-ghost use Rattle.nodejs_semver.specs.Ranges.Algebra.{meets_of, minus, remainder};
+ghost use Rattle.nodejs_semver.specs.Ranges.Algebra.{remainder};
 ghost use Rattle.semver_core.specs.declared.cuts.bound.Bound.TheVariants.{Unbounded};
 ghost use Rattle.nodejs_semver.specs.Internal.Along.{IsAlong};
 

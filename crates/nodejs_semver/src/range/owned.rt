@@ -43,9 +43,9 @@ fn owned_bound(alloc: Global, bound: &Bound<VersionRef<'_>>) -> Result<Bound<Ver
     })
 }
 
-// The interval with versions of its own.
+/// The interval with versions of its own.
 #[inline(always)]
-fn owned_interval(
+pub(crate) fn owned_interval(
     alloc: Global,
     interval: &Interval<VersionRef<'_>>,
 ) -> Result<Interval<Version>, AllocError>

@@ -6,15 +6,12 @@ ghost use Rattle.nodejs_semver.specs.Ranges.Gate.{accepts};
 ghost use Rattle.nodejs_semver.specs.Ranges.View.{IsRange};
 ghost use Rattle.nodejs_semver.specs.Text.Meaning.{Means};
 ghost use Rattle.nodejs_semver.specs.Text.WrittenSet.{Writes};
-ghost use Rattle.semver_core.specs.Failures.{NeverRefused, RefusedOnlyIf};
+ghost use Rattle.semver_core.specs.Failures.{RefusedOnlyIf};
 ghost use Rattle.semver_core.specs.Values.Versions.{VersionValue};
 
-use crate::range::Intervals;
-use crate::range::owned::{owned_list, owned_one};
-use crate::readers::{read_any, read_common};
+use crate::readers::{Filled, read_common};
 use crate::{Range, RangeRef};
-use semver_core::cuts::Interval;
-use semver_core::{Failure, MAX_SAFE_INTEGER, SemverError, VersionRef};
+use semver_core::{Failure, MAX_SAFE_INTEGER, SemverError};
 use smallvec::SmallVec;
 use std::alloc::{AllocError, Global};
 
@@ -46,9 +43,9 @@ impl Range {
         ensures set { IfOk result (λ range. (v : VersionValue) →
             IsTrue (accepts range v true) ↔ Writes MAX_SAFE_INTEGER text.now v) }
     {
-        let mut borrowed = SmallVec::new(alloc);
-        read_some(text, &mut borrowed)?;
-        owned(alloc, &borrowed)
+        let mut intervals = SmallVec::new(alloc);
+        read_some(text, &mut intervals)?;
+        Ok(Range { intervals })
     }
 }
 
@@ -71,41 +68,15 @@ impl<'a> RangeRef<'a> {
     }
 }
 
-// The range of these intervals, with versions of its own. Mostly there is one, and the range is made
-// where it is returned.
-#[inline(never)]
-fn owned(
-    alloc: Global,
-    intervals: &[Interval<VersionRef<'_>>],
-) -> Result<Range, Failure<SemverError>>
-    requires { IsRange MAX_SAFE_INTEGER intervals.now }
-    ensures ok { IfOk result (λ range. range ≡ intervals.now) }
-    ensures never { NeverRefused result }
-{
-    match intervals {
-        [interval] => {
-            let intervals = owned_one(alloc, interval)?;
-            Ok(Range { intervals })
-        }
-        _ => {
-            let intervals = owned_list(alloc, intervals)?;
-            Ok(Range { intervals })
-        }
-    }
-}
-
 // Reads the intervals of a text, one or more, into an empty list.
 #[inline(always)]
-fn read_some<'a>(
-    text: &'a str,
-    found: &mut Intervals<VersionRef<'a>>,
-) -> Result<(), Failure<SemverError>>
-    requires { found.old.items ≡ [] }
-    ensures range { OnOk result (IsRange MAX_SAFE_INTEGER found.new.items) }
-    ensures ok { OnOk result (Means MAX_SAFE_INTEGER text.now found.new.items) }
+fn read_some<'a, S: Filled<'a>>(text: &'a str, found: &mut S) -> Result<(), Failure<SemverError>>
+    requires { S.items found.old ≡ [] }
+    ensures range { OnOk result (IsRange MAX_SAFE_INTEGER (S.items found.new)) }
+    ensures ok { OnOk result (Means MAX_SAFE_INTEGER text.now (S.items found.new)) }
     ensures refused { RefusedOnlyIf result (Means MAX_SAFE_INTEGER text.now []) }
     ensures set { OnOk result ((v : VersionValue) →
-        IsTrue (accepts found.new.items v true) ↔ Writes MAX_SAFE_INTEGER text.now v) }
+        IsTrue (accepts (S.items found.new) v true) ↔ Writes MAX_SAFE_INTEGER text.now v) }
 {
     read(text, found)?;
     if found.is_empty() {
@@ -116,12 +87,12 @@ fn read_some<'a>(
 
 // Reads the intervals of a text into an empty list. Most texts are common ones.
 #[inline(never)]
-fn read<'a>(text: &'a str, found: &mut Intervals<VersionRef<'a>>) -> Result<(), AllocError>
-    requires { found.old.items ≡ [] }
-    ensures { OnOk result (found.new.items ≡ denotes MAX_SAFE_INTEGER text.now) }
+fn read<'a, S: Filled<'a>>(text: &'a str, found: &mut S) -> Result<(), AllocError>
+    requires { S.items found.old ≡ [] }
+    ensures { OnOk result (S.items found.new ≡ denotes MAX_SAFE_INTEGER text.now) }
 {
     if !read_common(text.as_bytes(), found)? {
-        read_any(text, found)?;
+        found.read_any(text)?;
     }
     Ok(())
 }

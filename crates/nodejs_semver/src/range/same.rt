@@ -5,7 +5,7 @@ ghost use Rattle.nodejs_semver.specs.Internal.Hashes.{range_writes};
 ghost use Rattle.nodejs_semver.specs.Ranges.Equality.{range_eq};
 ghost use Rattle.nodejs_semver.specs.Internal.SameLaws.{range_equiv, range_alike};
 
-use crate::Range;
+use crate::{Range, RangeRef};
 use std::hash::{Hash, Hasher};
 
 /// Equality of the lists of intervals.
@@ -28,6 +28,33 @@ impl Eq for Range {
 
 /// The intervals, so that equal ranges hash alike.
 impl Hash for Range {
+    ghost hash_input = { range_writes };
+
+    ghost respects_eq = { range_alike };
+
+    fn hash<H: Hasher>(&self, state: &mut H) {
+        self.intervals().hash(state);
+    }
+}
+
+/// Equality of the lists of intervals, as that of `Range`.
+impl<'a> PartialEq for RangeRef<'a> {
+    ghost eq = { range_eq };
+
+    ghost laws = { partial_equiv_from_equiv range_equiv };
+
+    fn eq(&self, other: &RangeRef<'a>) -> bool {
+        self.intervals() == other.intervals()
+    }
+}
+
+/// Equality is reflexive, symmetric and transitive.
+impl<'a> Eq for RangeRef<'a> {
+    ghost laws = { range_equiv };
+}
+
+/// The intervals: the same as those of an equal `Range`.
+impl<'a> Hash for RangeRef<'a> {
     ghost hash_input = { range_writes };
 
     ghost respects_eq = { range_alike };

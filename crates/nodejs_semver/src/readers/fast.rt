@@ -4,7 +4,7 @@ ghost use Rattle.std.specs.Option.{ForSome};
 ghost use Rattle.std.specs.Prelude.{◌≡◌, ◌≤◌, [], if◌then◌else◌, IfNone, IfOk, IfSome, IsFalse};
 ghost use Rattle.std.specs.Prelude.{IsTrue, None, Some, true};
 ghost use Rattle.nodejs_semver.specs.Internal.CommonFronts as Spec;
-ghost use Rattle.nodejs_semver.specs.Text.Common.{IsCommonRange, IsUncommon};
+ghost use Rattle.nodejs_semver.specs.Text.Common.{IsCommonRange};
 ghost use Rattle.nodejs_semver.specs.Text.Meaning.{Means};
 ghost use Rattle.nodejs_semver.specs.Internal.Fronts.{dotted_front};
 ghost use Rattle.nodejs_semver.specs.Internal.CommonViews.{between_view, both_view};
@@ -12,13 +12,14 @@ ghost use Rattle.nodejs_semver.specs.Internal.CommonViews.{bounds_front_view, pa
 ghost use Rattle.nodejs_semver.specs.Internal.Readings.{bounds_view, partial_front_view};
 ghost use Rattle.nodejs_semver.specs.Internal.Readings.{partial_pair_view, partial_view, rest_view};
 ghost use Rattle.nodejs_semver.specs.Internal.Readings.{table_view};
+ghost use Rattle.semver_core.specs.Failures.{NoValue};
 ghost use Rattle.semver_core.specs.Cuts.{interval, is_interval};
 ghost use Rattle.semver_core.specs.Values.Order.{precedence};
 ghost use Rattle.semver_core.specs.declared.TheConstants.{MAX_SAFE_INTEGER};
 
-use crate::range::Intervals;
 use crate::range::owned::owned_range;
-use crate::readers::intervals::{between, push, push_between, push_ordered};
+use crate::readers::found::Found;
+use crate::readers::intervals::{between, push_between, push_ordered};
 use crate::readers::syntax::{Bounds, Partial};
 use crate::readers::{intervals, partial, table, words};
 use crate::{Range, RangeRef};
@@ -66,18 +67,18 @@ fn common_interval<'a>(first: Bounds<'a>, second: Bounds<'a>) -> Option<Interval
 // Adds what two comparisons have in common, where that is an interval.
 #[cold]
 #[inline(never)]
-fn push_common<'a>(
+fn push_common<'a, S: Found<'a>>(
     first: Bounds<'a>,
     second: Bounds<'a>,
-    found: &mut Intervals<VersionRef<'a>>,
+    found: &mut S,
 ) -> Result<bool, AllocError>
     ensures { let both = Spec.both_of (bounds_view first.entry) (bounds_view second.entry) in
-        IfOk result (λ there. both_view there found.new.items
-        ≡ Spec.pushed found.old.items both) }
+        IfOk result (λ there. both_view there (S.items found.new)
+        ≡ Spec.pushed (S.items found.old) both) }
 {
     match common_interval(first, second) {
         Some(interval) => {
-            push(interval, found)?;
+            found.add(interval)?;
             Ok(true)
         }
         None => Ok(false),
@@ -87,14 +88,14 @@ fn push_common<'a>(
 // Adds what two comparisons have in common, where that is an interval. Mostly the first one has a
 // lower bound and the second an upper one.
 #[tactic(auto, using(crate::proofs::Everyday::Bounds::half_open))]
-fn push_both<'a>(
+fn push_both<'a, S: Found<'a>>(
     first: Bounds<'a>,
     second: Bounds<'a>,
-    found: &mut Intervals<VersionRef<'a>>,
+    found: &mut S,
 ) -> Result<bool, AllocError>
     ensures { let both = Spec.both_of (bounds_view first.entry) (bounds_view second.entry) in
-        IfOk result (λ there. both_view there found.new.items
-        ≡ Spec.pushed found.old.items both) }
+        IfOk result (λ there. both_view there (S.items found.new)
+        ≡ Spec.pushed (S.items found.old) both) }
 {
     match (&first.upper, &second.lower) {
         (Bound::Unbounded, Bound::Unbounded) => { push_between(first.lower, second.upper, found) }
@@ -120,12 +121,12 @@ fn behind_part(there: bool, rest: &[u8]) -> Option<&[u8]>
 
 // Adds the interval of one comparison, or of two, and returns what follows them.
 #[tactic(auto, unfolding(crate::specs::Internal::CommonFronts::comparisons_front))]
-fn push_comparisons<'a>(
+fn push_comparisons<'a, S: Found<'a>>(
     text: &'a [u8],
-    found: &mut Intervals<VersionRef<'a>>,
+    found: &mut S,
 ) -> Result<Option<&'a [u8]>, AllocError>
-    ensures { IfOk result (λ rest. passed_view rest found.new.items
-        ≡ Spec.passed found.old.items (Spec.comparisons_front MAX_SAFE_INTEGER text.now)) }
+    ensures { IfOk result (λ rest. passed_view rest (S.items found.new)
+        ≡ Spec.passed (S.items found.old) (Spec.comparisons_front MAX_SAFE_INTEGER text.now)) }
 {
     let Some((first, rest)) = comparison(text) else {
         return Ok(None);
@@ -144,14 +145,14 @@ fn push_comparisons<'a>(
 // Adds the interval of a word that has these bounds, and returns what follows the word. The bounds
 // are known to be in order.
 #[inline(always)]
-fn push_word<'a>(
+fn push_word<'a, S: Found<'a>>(
     bounds: Option<Bounds<'a>>,
     rest: &'a [u8],
-    found: &mut Intervals<VersionRef<'a>>,
+    found: &mut S,
 ) -> Result<Option<&'a [u8]>, AllocError>
     requires { IfSome bounds (λ b. is_interval precedence (bounds_view b) ≡ true) }
-    ensures { IfOk result (λ after. passed_view after found.new.items
-        ≡ Spec.passed found.old.items (Spec.part_read rest.now (table_view bounds.entry))) }
+    ensures { IfOk result (λ after. passed_view after (S.items found.new)
+        ≡ Spec.passed (S.items found.old) (Spec.part_read rest.now (table_view bounds.entry))) }
 {
     let Some(bounds) = bounds else {
         return Ok(None);
@@ -162,12 +163,12 @@ fn push_word<'a>(
 
 // Adds the interval of what stands behind a tilde, and returns what follows it.
 #[tactic(auto, unfolding(crate::specs::Internal::CommonFronts::tilde_front), using(crate::proofs::Bounds::TableReadings::ordered))]
-fn push_tilde<'a>(
+fn push_tilde<'a, S: Found<'a>>(
     text: &'a [u8],
-    found: &mut Intervals<VersionRef<'a>>,
+    found: &mut S,
 ) -> Result<Option<&'a [u8]>, AllocError>
-    ensures { IfOk result (λ rest. passed_view rest found.new.items
-        ≡ Spec.passed found.old.items
+    ensures { IfOk result (λ rest. passed_view rest (S.items found.new)
+        ≡ Spec.passed (S.items found.old)
         (Spec.word_read MAX_SAFE_INTEGER (Spec.tilde_front MAX_SAFE_INTEGER text.now))) }
 {
     let (greater, rest) = words::tilde_sign(text);
@@ -179,12 +180,12 @@ fn push_tilde<'a>(
 
 // Adds the interval of what stands behind a caret, and returns what follows it.
 #[tactic(auto, unfolding(crate::specs::Internal::CommonFronts::caret_front), using(crate::proofs::Bounds::TableReadings::ordered))]
-fn push_caret<'a>(
+fn push_caret<'a, S: Found<'a>>(
     text: &'a [u8],
-    found: &mut Intervals<VersionRef<'a>>,
+    found: &mut S,
 ) -> Result<Option<&'a [u8]>, AllocError>
-    ensures { IfOk result (λ rest. passed_view rest found.new.items
-        ≡ Spec.passed found.old.items
+    ensures { IfOk result (λ rest. passed_view rest (S.items found.new)
+        ≡ Spec.passed (S.items found.old)
         (Spec.word_read MAX_SAFE_INTEGER (Spec.caret_front MAX_SAFE_INTEGER text.now))) }
 {
     let Some((partial, rest)) = bare_front(text) else {
@@ -194,13 +195,13 @@ fn push_caret<'a>(
 }
 
 // Adds the interval from a partial to the one at the front, and returns what follows it.
-fn push_hyphen<'a>(
+fn push_hyphen<'a, S: Found<'a>>(
     lower: Partial<'a>,
     text: &'a [u8],
-    found: &mut Intervals<VersionRef<'a>>,
+    found: &mut S,
 ) -> Result<Option<&'a [u8]>, AllocError>
-    ensures { IfOk result (λ rest. passed_view rest found.new.items
-        ≡ Spec.passed found.old.items
+    ensures { IfOk result (λ rest. passed_view rest (S.items found.new)
+        ≡ Spec.passed (S.items found.old)
         (Spec.word_read MAX_SAFE_INTEGER
         (Spec.upper_front MAX_SAFE_INTEGER (partial_view lower.entry) text.now))) }
 {
@@ -213,12 +214,12 @@ fn push_hyphen<'a>(
 
 // Adds the interval of one partial, or of two with a dash between them, and returns what follows.
 #[tactic(auto, unfolding(crate::specs::Internal::CommonFronts::partials_front), using(crate::proofs::Bounds::TableReadings::ordered))]
-fn push_partials<'a>(
+fn push_partials<'a, S: Found<'a>>(
     text: &'a [u8],
-    found: &mut Intervals<VersionRef<'a>>,
+    found: &mut S,
 ) -> Result<Option<&'a [u8]>, AllocError>
-    ensures { IfOk result (λ rest. passed_view rest found.new.items
-        ≡ Spec.passed found.old.items
+    ensures { IfOk result (λ rest. passed_view rest (S.items found.new)
+        ≡ Spec.passed (S.items found.old)
         (Spec.word_read MAX_SAFE_INTEGER (Spec.partials_front MAX_SAFE_INTEGER text.now))) }
 {
     let Some((partial, rest)) = bare_front(text) else {
@@ -233,12 +234,12 @@ fn push_partials<'a>(
 // Adds the interval of the part at the front, and returns what follows the part.
 #[inline(always)]
 #[tactic(auto, unfolding(crate::specs::Internal::CommonFronts::part_front))]
-fn push_part<'a>(
+fn push_part<'a, S: Found<'a>>(
     text: &'a [u8],
-    found: &mut Intervals<VersionRef<'a>>,
+    found: &mut S,
 ) -> Result<Option<&'a [u8]>, AllocError>
-    ensures { IfOk result (λ rest. passed_view rest found.new.items
-        ≡ Spec.passed found.old.items (Spec.part_front MAX_SAFE_INTEGER text.now)) }
+    ensures { IfOk result (λ rest. passed_view rest (S.items found.new)
+        ≡ Spec.passed (S.items found.old) (Spec.part_front MAX_SAFE_INTEGER text.now)) }
 {
     match text {
         [] => Ok(None),
@@ -272,29 +273,17 @@ fn after_bars(text: &[u8]) -> Option<&[u8]>
     }
 }
 
-// Room for the intervals of a text, at most 31 at once. A part and its bars mostly take eight bytes
-// or more.
-#[inline(always)]
-fn reserve_for<'a>(text: &'a [u8], found: &mut Intervals<VersionRef<'a>>) -> Result<(), AllocError>
-    ensures { found.new.items ≡ found.old.items }
-{
-    if found.len() == found.capacity() {
-        found.reserve((text.len() / 8).min(30) + 1)?;
-    }
-    Ok(())
-}
-
 /// Adds the intervals of a common text, one for each part, to an empty list. It returns `false`
 /// exactly where the text is not a common one; then the list may hold some of them.
 #[inline(always)]
-pub(crate) fn read_common<'a>(
+pub(crate) fn read_common<'a, S: Found<'a>>(
     text: &'a [u8],
-    found: &mut Intervals<VersionRef<'a>>,
+    found: &mut S,
 ) -> Result<bool, AllocError>
-    requires { found.old.items ≡ [] }
+    requires { S.items found.old ≡ [] }
     ensures some { IfOk result (λ there. IsTrue there
-        → IsCommonRange MAX_SAFE_INTEGER text.now found.new.items) }
-    ensures none { IfOk result (λ there. IsFalse there → IsUncommon MAX_SAFE_INTEGER text.now) }
+        → IsCommonRange MAX_SAFE_INTEGER text.now (S.items found.new)) }
+    ensures none { IfOk result (λ there. IsFalse there → NoValue (IsCommonRange MAX_SAFE_INTEGER text.now)) }
 {
     let mut rest = text;
     'parts: loop {
@@ -307,7 +296,7 @@ pub(crate) fn read_common<'a>(
         let Some(next) = after_bars(behind) else {
             return Ok(false);
         };
-        reserve_for(next, found)?;
+        found.reserve_for(next)?;
         rest = next;
     }
 }
@@ -327,7 +316,7 @@ pub fn range_fast(alloc: Global, text: &str) -> Result<Option<Range>, AllocError
     ensures denoted { IfOk result (λ found. IfSome found (λ range.
         Means MAX_SAFE_INTEGER text.now range)) }
     // Nothing is read only where the text is not a common one.
-    ensures none { IfOk result (λ found. IfNone found (IsUncommon MAX_SAFE_INTEGER text.now)) }
+    ensures none { IfOk result (λ found. IfNone found (NoValue (IsCommonRange MAX_SAFE_INTEGER text.now))) }
 {
     let mut found = SmallVec::new(alloc);
     if !read_common(text.as_bytes(), &mut found)? {

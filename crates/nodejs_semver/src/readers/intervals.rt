@@ -24,6 +24,7 @@ ghost use Rattle.semver_core.specs.Values.Views.{ids_view};
 ghost use Rattle.semver_core.specs.declared.TheConstants.{MAX_SAFE_INTEGER};
 
 use crate::range::Intervals;
+use crate::readers::found::Found;
 use crate::readers::syntax::{Bounds, Partial, Sign};
 use crate::readers::{partial, spaces, table, words};
 use semver_core::VersionRef;
@@ -37,62 +38,47 @@ pub(crate) fn between(bounds: Bounds<'_>) -> Option<Interval<VersionRef<'_>>>
     Interval::new(bounds.lower, bounds.upper)
 }
 
-/// Adds an interval at the end of a list. A list that outgrows its place mostly has more than two.
-#[inline(always)]
-pub(crate) fn push<'a>(
-    interval: Interval<VersionRef<'a>>,
-    found: &mut Intervals<VersionRef<'a>>,
-) -> Result<(), AllocError>
-    ensures { OnOk result (found.new.items ≡ found.old.items ++ interval.entry ∷ []) }
-{
-    if found.len() == found.capacity() {
-        found.reserve(3)?;
-    }
-    found.push_reserved(interval);
-    Ok(())
-}
-
 /// Adds the interval of two bounds that are in order.
 #[inline(always)]
-pub(crate) fn push_ordered<'a>(
+pub(crate) fn push_ordered<'a, S: Found<'a>>(
     bounds: Bounds<'a>,
-    found: &mut Intervals<VersionRef<'a>>,
+    found: &mut S,
 ) -> Result<(), AllocError>
     requires { is_interval precedence (bounds_view bounds) ≡ true }
-    ensures { OnOk result (found.new.items ≡ found.old.items ++ bounds_view bounds.entry ∷ []) }
+    ensures { OnOk result ((S.items found.new) ≡ (S.items found.old) ++ bounds_view bounds.entry ∷ []) }
 {
-    push(Interval::of_ordered(bounds.lower, bounds.upper), found)
+    found.add(Interval::of_ordered(bounds.lower, bounds.upper))
 }
 
 /// Adds the interval of two bounds, where the lower cut is below the upper one, and returns whether
 /// it is.
 #[inline(always)]
-pub(crate) fn push_between<'a>(
+pub(crate) fn push_between<'a, S: Found<'a>>(
     lower: Bound<VersionRef<'a>>,
     upper: Bound<VersionRef<'a>>,
-    found: &mut Intervals<VersionRef<'a>>,
+    found: &mut S,
 ) -> Result<bool, AllocError>
     ensures { let s = between_view lower.entry upper.entry in
-        IfOk result (λ there. both_view there found.new.items
-        ≡ pushed found.old.items (interval precedence s)) }
+        IfOk result (λ there. both_view there (S.items found.new)
+        ≡ pushed (S.items found.old) (interval precedence s)) }
 {
     let Some(interval) = Interval::new(lower, upper) else {
         return Ok(false);
     };
-    push(interval, found)?;
+    found.add(interval)?;
     Ok(true)
 }
 
 /// Adds the interval of a hyphen word, and returns whether it has one.
 #[inline(never)]
-pub(crate) fn push_hyphen<'a>(
+pub(crate) fn push_hyphen<'a, S: Found<'a>>(
     lower: Partial<'a>,
     upper: Partial<'a>,
-    found: &mut Intervals<VersionRef<'a>>,
+    found: &mut S,
 ) -> Result<bool, AllocError>
     ensures { let w = hyphen (partial_view lower.entry) (partial_view upper.entry) in
-        IfOk result (λ there. both_view there found.new.items
-        ≡ pushed found.old.items (table MAX_SAFE_INTEGER w)) }
+        IfOk result (λ there. both_view there (S.items found.new)
+        ≡ pushed (S.items found.old) (table MAX_SAFE_INTEGER w)) }
 {
     let bounds = table::hyphen(&lower, &upper);
     push_between(bounds.lower, bounds.upper, found)
@@ -236,7 +222,7 @@ fn join<'a>(
     match running.into_intersection(next) {
         Ok(common) => Ok(common),
         Err((running, next)) => {
-            push(running, finished)?;
+            finished.add(running)?;
             Ok(next)
         }
     }
@@ -286,5 +272,5 @@ fn read_words<'a>(
             running = join(running, next, found)?;
         }
     }
-    push(running, found)
+    found.add(running)
 }

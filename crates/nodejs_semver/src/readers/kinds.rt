@@ -1,8 +1,7 @@
 // Why the word at the front of a part is ignored, if it is. Nothing is allocated.
 
 ghost use Rattle.std.specs.Prelude.{◌≡◌, is_some};
-ghost use Rattle.nodejs_semver.specs.Diagnosis.IgnoredWords.{unless_bounded};
-ghost use Rattle.nodejs_semver.specs.Internal.Ignored.{kind_at, kind_view};
+ghost use Rattle.nodejs_semver.specs.Internal.Ignored.{kind_at, kind_view, unless_bounded};
 ghost use Rattle.nodejs_semver.specs.Internal.Readings.{partial_front_view, partial_view, sign_view};
 ghost use Rattle.nodejs_semver.specs.Internal.Words.{signed_word, upper_of};
 ghost use Rattle.nodejs_semver.specs.Text.Table.{table};

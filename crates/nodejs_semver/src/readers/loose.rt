@@ -12,6 +12,7 @@ ghost use Rattle.semver_core.specs.Lists.{is_empty};
 
 use crate::range::Intervals;
 use crate::range::owned::owned_range;
+use crate::readers::found::Found;
 use crate::readers::{bars, intervals};
 use crate::{Range, RangeRef};
 use semver_core::cuts::Interval;
@@ -51,7 +52,7 @@ fn add_part<'a>(part: &'a str, found: &mut Intervals<VersionRef<'a>>) -> Result<
         found.new.items ≡ found.old.items ++ part_denotes MAX_SAFE_INTEGER part.now) }
 {
     if part.is_empty() {
-        return intervals::push(Interval::default(), found);
+        return found.add(Interval::default());
     }
     intervals::read_part(part.as_bytes(), found)
 }
@@ -90,7 +91,7 @@ pub(crate) fn read_any<'a>(
     found.clear();
     let (part, rest) = bars::next_part(text);
     if part.is_empty() && are_blank(rest) {
-        return intervals::push(Interval::default(), found);
+        return found.add(Interval::default());
     }
     add_parts(part, rest, found)
 }

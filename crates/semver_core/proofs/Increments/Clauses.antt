@@ -3,7 +3,7 @@ use Rattle.std.proofs.Common.{◌≡◌, sym, subst, false, List, [], ℕ, codes
 use Rattle.std.specs.Prelude.{Result, Ok, Err, unwrap_or, ⊤}
 use Rattle.std.specs.Result.{IfOk}
 use Rattle.semver_core.specs.Increments.Table.{Fault, answer_of_inc, incremented}
-use Rattle.semver_core.specs.Increments.Least.{HasNoIdentifier, IsAbove, IsPlain}
+use Rattle.semver_core.specs.Increments.Least.{IsAbove, IsPlain}
 use Rattle.semver_core.specs.Increments.View.{IfAnswered, Returns}
 use Rattle.semver_core.specs.Values.Versions.{VersionValue, is_release}
 use Rattle.semver_core.specs.declared.error.Failure.{Failure}
@@ -35,7 +35,7 @@ module _ (v : VersionValue) (word : List ℕ) (id : Option (List ℕ)) (base : O
 -- the version rises without an identifier, and keeps its build
 pub above_of : (v : VersionValue) (word : List ℕ) (id : Option (List ℕ)) (base : Option IdentifierBase) (r : Result VersionValue (Failure IncrementError))
     → Returns {A = VersionValue} (answer_of_inc v word id base) r
-    → HasNoIdentifier id → (word ≡ codes "pre" → is_release v ≡ false) → IfOk r (IsAbove v)
+    → (unwrap_or id [] ≡ []) → (word ≡ codes "pre" → is_release v ≡ false) → IfOk r (IsAbove v)
 above_of v word id base (Ok w) h none can =
     (increment_rises v (unwrap_or id []) (unwrap_or base (Value 0)) ⊤ word w (λ _. none) (λ _. can) h).1 tt
 above_of v word id base (Err e) h none can = tt

@@ -7,7 +7,8 @@ use Rattle.std.proofs.lemmas.List.{length-set, take_all, take_more}
 use Rattle.std.specs.List.{refill}
 use Rattle.semver_core.proofs.Text.Runs.{ids_view_push, numerals}
 use Rattle.semver_core.specs.Text.Identifiers.{Id, Numeric, AlphaNumeric}
-use Rattle.semver_core.specs.Increments.Table.{asked, has_numeric, is_kept, list_text, advance, raise_last, one_more, Fault, Overflow, ◌>>=◌}
+use Rattle.semver_core.specs.Internal.IncrementSteps.{list_text}
+use Rattle.semver_core.specs.Increments.Table.{asked, has_numeric, is_kept, advance, raise_last, one_more, Fault, Overflow, ◌>>=◌}
 use Rattle.semver_core.specs.Lists.{is_empty}
 use Rattle.semver_core.specs.Internal.IncrementSteps.{IsLastNumber, Tracks}
 use Rattle.semver_core.specs.Printing.Text.{id_text}

@@ -11,7 +11,8 @@ use Rattle.std.specs.Cmp.Lexicographic.{slice_cmp}
 use Rattle.std.proofs.lemmas.Bool.Decides.{nat_tests}
 use Rattle.std.proofs.lemmas.List.Elements.{All-nil, All-push, All-cons}
 use Rattle.semver_core.specs.Text.Identifiers.{Id, Numeric, AlphaNumeric}
-use Rattle.semver_core.specs.Increments.Table.{checked, incremented, by_word, Fault, Overflow, InvalidIncrementArgument, is_false, list_text, one_more, next_major, next_minor, next_patch, pre_step, release_of, has_numeric, raise_last, advance, counted, identify, first_number, ◌>>=◌}
+use Rattle.semver_core.specs.Increments.Table.{checked, incremented, by_word, Fault, Overflow, InvalidIncrementArgument, is_false, one_more, next_major, next_minor, next_patch, pre_step, release_of, has_numeric, raise_last, advance, identify, first_number, ◌>>=◌}
+use Rattle.semver_core.specs.Internal.IncrementSteps.{list_text}
 use Rattle.semver_core.specs.Lists.{is_empty}
 use Rattle.std.specs.Cmp.{tied_itself}
 use Rattle.std.specs.Str.{bytes_eq}
@@ -78,7 +79,7 @@ least_release : (These : VersionValue → Type 0) (r : VersionValue) → r.pre_r
 least_release These r e k this upto = record {
   is_version = k;
   inside = this;
-  least = λ w good t. let u = upto w t in upto_patch r w u.1 u.2 u.3 (rw (e, u.0) refl);
+  least = λ w t. let u = upto w t in upto_patch r w u.1 u.2 u.3 (rw (e, u.0) refl);
 }
 
 -- the releases above a version in the same major and minor, those with patch 0 in the same major, and those with minor and patch 0
@@ -183,7 +184,7 @@ module _ (v : VersionValue) (id : List ℕ) (base : IdentifierBase) (k : IsVersi
   first_least These a b c p q r this upto = record {
     is_version = first a b c p q r;
     inside = this;
-    least = λ w good t. let u = upto w t in
+    least = λ w t. let u = upto w t in
         upto_patch (record { major = a; minor = b; patch = c; pre_release = Numeric 0 ∷ []; build = v.build }) w u.0 u.1 u.2 (zero_least w.pre_release);
   }
 
@@ -251,12 +252,12 @@ prerelease_least v k rises none =
     (λ other. record {
       is_version = first v [] (Value 0) k v.major v.minor (v.patch + 1) k.major k.minor (omega (arith, k.patch, other));
       inside = above_patch v (next_pre v) refl refl (omega arith);
-      least = λ w good this. after_release v w (none_left v.pre_release h) (below_cases v w this);
+      least = λ w this. after_release v w (none_left v.pre_release h) (below_cases v w this);
     }))
     (λ h. rw (advance_zero v.pre_release h (none h)) (record {
       is_version = record { major = k.major; minor = k.minor; patch = k.patch; pre_release = All-push IsId v.pre_release (Numeric 0) k.pre_release (omega arith); build = k.build };
       inside = above_pre v (more_pre v) refl refl refl (pre_above v.pre_release (v.pre_release ++ Numeric 0 ∷ []) h (below_more v.pre_release (Numeric 0) []));
-      least = λ w good this. after_pre v w h (below_cases v w this);
+      least = λ w this. after_pre v w h (below_cases v w this);
     }))
 
 -- a list that goes on is above itself
@@ -278,7 +279,7 @@ raise_above (Numeric n ∷ xs) h = pick (AboveList (Numeric n ∷ xs)) (has_nume
 
 advance_above : (xs : List Id) (text : List ℕ) (base : IdentifierBase) → is_empty xs ≡ false → AboveList xs (advance xs text base)
 advance_above [] text base s = cc
-advance_above (x ∷ xs) text base s = pick (AboveList (x ∷ xs)) (has_numeric (x ∷ xs)) (raise_last (x ∷ xs)) (counted (x ∷ xs) text base)
+advance_above (x ∷ xs) text base s = pick (AboveList (x ∷ xs)) (has_numeric (x ∷ xs)) (raise_last (x ∷ xs)) _
     (raise_above (x ∷ xs))
     (λ h. pick (AboveList (x ∷ xs)) (is_false base && bytes_eq text (list_text (x ∷ xs))) (Err (InvalidIncrementArgument (codes "identifier already exists")))
     (Ok (x ∷ xs ++ Numeric (first_number base) ∷ [])) (λ e. tt) (λ e. below_more (x ∷ xs) (Numeric (first_number base)) []))

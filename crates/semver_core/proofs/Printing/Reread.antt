@@ -1,8 +1,8 @@
 -- Serves proofs: a version that is printed and parsed.
 use Rattle.std.proofs.Common.{◌≡◌, List, ℕ, Ok, Err, Result}
 use Rattle.std.specs.Prelude.{IfOk}
-use Rattle.semver_core.specs.Failures.{NeverRefused, RefusedOnlyIf}
-use Rattle.semver_core.specs.Text.Parsing.{Parses, IsRefused}
+use Rattle.semver_core.specs.Failures.{RefusedOnlyIf, NoValue}
+use Rattle.semver_core.specs.Text.Parsing.{Parses}
 use Rattle.semver_core.specs.Text.VersionText.{Reads}
 use Rattle.semver_core.specs.Values.Versions.{VersionValue}
 use Rattle.semver_core.specs.declared.error.Failure.{Failure}
@@ -14,7 +14,7 @@ reread_same limit text (Ok w) v only p = only w p.reads
 reread_same limit text (Err x) v only p = tt
 
 pub reread_read : {E : Type 0} (limit : ℕ) (text : List ℕ) (r : Result VersionValue (Failure E)) (v : VersionValue) → Parses limit text v
-    → RefusedOnlyIf {A = VersionValue} {E = E} r (IsRefused limit text) → NeverRefused {A = VersionValue} {E = E} r
+    → RefusedOnlyIf {A = VersionValue} {E = E} r (NoValue (Parses limit text)) → RefusedOnlyIf {A = VersionValue} {E = E} r ⊥
 reread_read limit text (Ok w) v h p = tt
 reread_read limit text (Err (Refused x)) v h p = p v h
 reread_read limit text (Err (Memory x)) v h p = tt

@@ -4,13 +4,14 @@ use Rattle.std.proofs.Math.Seq.{drop-cons}
 use Rattle.std.proofs.lemmas.List.{drop_all}
 use Rattle.std.specs.List.{list_all}
 use Rattle.std.specs.Prelude.{map, Result, Ok, Err, IfErr}
+use Rattle.semver_core.specs.Text.VersionText.{Reads}
+use Rattle.semver_core.specs.Failures.{NoValue}
 use Rattle.semver_core.specs.Text.Characters.{begins, is_identifier_char}
 use Rattle.semver_core.specs.Text.Identifiers.{goes_on, identifier_of, is_identifier, is_listed, listed, pieces}
 use Rattle.semver_core.specs.Internal.Reading.{list_from, list_len, qualified, triple_at}
 use Rattle.semver_core.proofs.Text.Pieces.{begins_taken, begun_runs, taken_runs}
 use Rattle.semver_core.proofs.Text.Runs.{list_len_stop}
-use Rattle.semver_core.specs.Text.Parsing.{IsRefused, Parses}
-use Rattle.semver_core.specs.Text.VersionText.{HasNoVersion}
+use Rattle.semver_core.specs.Text.Parsing.{Parses}
 use Rattle.semver_core.specs.Internal.CommonReading.{small_len}
 use Rattle.semver_core.specs.Values.Versions.{VersionValue, release_value}
 use Rattle.semver_core.specs.declared.TheConstants.{MAX_LENGTH}
@@ -70,10 +71,10 @@ pub ruleset lists_cut = (cut_listed, cut_found, nothing_spelled, nothing_listed)
 
 -- ---- the clauses of the readers
 
-not_parsed : (limit : ℕ) (text : List ℕ) → HasNoVersion limit text → IsRefused limit text
+not_parsed : (limit : ℕ) (text : List ℕ) → NoValue (Reads limit text) → NoValue (Parses limit text)
 not_parsed limit text h = λ v p. h v p.reads
 
-pub refused_by : {A E : Type 0} (limit : ℕ) (text : List ℕ) (r : Result A E) → IfErr r (λ _. HasNoVersion limit text) → IfErr r (λ _. IsRefused limit text)
+pub refused_by : {A E : Type 0} (limit : ℕ) (text : List ℕ) (r : Result A E) → IfErr r (λ _. NoValue (Reads limit text)) → IfErr r (λ _. NoValue (Parses limit text))
 refused_by limit text (Ok v) h = tt
 refused_by limit text (Err e) h = not_parsed limit text h
 

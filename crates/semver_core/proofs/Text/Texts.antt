@@ -1,9 +1,10 @@
 -- A version is read exactly where the grammar has it.
 use Rattle.std.proofs.Common.{◌≡◌, ◌==◌, ◌<◌, ◌+◌, ℕ, true, false, List, [], ◌∷◌, ◌++◌, length, drop, take, Option, Some, None, refl, sym, ap, ◌∙◌, subst, arith, inl, inr, eqb, append_assoc, add-zero, ◌||◌}
 use Rattle.std.proofs.lemmas.Bool.{cases_Bool, eqb-true}
+use Rattle.semver_core.specs.Failures.{NoValue}
 use Rattle.semver_core.specs.Text.Characters.{begins, is_identifier_char, IsBlank, is_whitespace}
 use Rattle.semver_core.specs.Text.Characters.{BeginsBlank, IsAfterBlank, IsPieceAt}
-use Rattle.semver_core.specs.Text.VersionText.{HasNoVersion, HasVersionWithIdentifiers, IsMark, IsPreRelease, IsBuild, Reads, begins_pre_release, begins_build, dashed, bare, no_pre_release, plus, no_build, no_mark, small_mark, capital_mark}
+use Rattle.semver_core.specs.Text.VersionText.{IsMark, IsPreRelease, IsBuild, Reads, begins_pre_release, begins_build, dashed, bare, no_pre_release, plus, no_build, no_mark, small_mark, capital_mark}
 use borrow.Author.Tests.{eq-eqb}
 use Rattle.std.specs.Option.{IsSomeAnd, IfSome, IfNone}
 use Rattle.std.specs.Cmp.{first_so, second_so}
@@ -348,16 +349,16 @@ loose_at limit text start v a r =
     (one_blank a.blank.characters r.blank_is.characters (drop start text) D a.blank.each r.blank_is.each a.ended (small_digit D digit) both) in
     rw (found.1, found.2) refl
 
-pub loose_none : (limit : ℕ) (text : List ℕ) (start : ℕ) → IsAfterBlank text (mark_len text) start → version_at limit text start ≡ None → HasNoVersion limit text
+pub loose_none : (limit : ℕ) (text : List ℕ) (start : ℕ) → IsAfterBlank text (mark_len text) start → version_at limit text start ≡ None → NoValue (Reads limit text)
 loose_none limit text start a e v r = cc (e, loose_at limit text start v a r)
 
 -- a version that is read and has identifiers
 pub memory_read : (limit : ℕ) (text : List ℕ) (o : Option VersionValue) → ((v : VersionValue) → o ≡ Some v → Reads limit text v) → IsSomeAnd o HasIdentifiers
-    → HasVersionWithIdentifiers limit text
+    → (v : VersionValue) × Reads limit text v × HasIdentifiers v
 memory_read limit text None f h = absurd h
 memory_read limit text (Some v) f h = (v, f v refl, h)
 
-pub loose_memory : (limit : ℕ) (text : List ℕ) (start : ℕ) → IsAfterBlank text (mark_len text) start → IsSomeAnd (version_at limit text start) HasIdentifiers → HasVersionWithIdentifiers limit text
+pub loose_memory : (limit : ℕ) (text : List ℕ) (start : ℕ) → IsAfterBlank text (mark_len text) start → IsSomeAnd (version_at limit text start) HasIdentifiers → (v : VersionValue) × Reads limit text v × HasIdentifiers v
 loose_memory limit text start a h = memory_read limit text (version_at limit text start) (λ v e. loose_some limit text start v a e) h
 
 -- the three clauses of a reader whose answer is `version_at`
@@ -365,7 +366,7 @@ pub found_some : (limit : ℕ) (text : List ℕ) (start : ℕ) (found : Option V
 found_some limit text start None a e = tt
 found_some limit text start (Some v) a e = loose_some limit text start v a (sym e)
 
-pub found_none : (limit : ℕ) (text : List ℕ) (start : ℕ) (found : Option VersionValue) → IsAfterBlank text (mark_len text) start → found ≡ version_at limit text start → IfNone found (HasNoVersion limit text)
+pub found_none : (limit : ℕ) (text : List ℕ) (start : ℕ) (found : Option VersionValue) → IsAfterBlank text (mark_len text) start → found ≡ version_at limit text start → IfNone found (NoValue (Reads limit text))
 found_none limit text start None a e = loose_none limit text start a (sym e)
 found_none limit text start (Some v) a e = tt
 

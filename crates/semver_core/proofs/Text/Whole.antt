@@ -6,10 +6,11 @@ use Rattle.std.proofs.lemmas.List.{take-append-drop, drop_all}
 use Rattle.std.proofs.Math.Seq.{drop-cons}
 use Rattle.std.specs.Char.{is_ascii_digit}
 use Rattle.std.specs.Option.{IsSomeAnd, IfSome, IfNone}
+use Rattle.semver_core.specs.Failures.{NoValue}
 use Rattle.semver_core.specs.Text.Characters.{begins, IsBlank}
-use Rattle.semver_core.specs.Text.Common.{IsCommon, IsUncommon}
+use Rattle.semver_core.specs.Text.Common.{IsCommon}
 use Rattle.semver_core.specs.Internal.CommonReading.{small_len, at_end, whole_at, common_of}
-use Rattle.semver_core.specs.Text.VersionText.{HasVersionWithIdentifiers, HasNoVersion, IsMark, Reads, no_mark, small_mark, capital_mark}
+use Rattle.semver_core.specs.Text.VersionText.{IsMark, Reads, no_mark, small_mark, capital_mark}
 use Rattle.semver_core.specs.Text.Identifiers.{Id}
 use Rattle.semver_core.specs.Internal.Reading.{triple_at, lists_at, qualified, version_at, HasOneReading}
 use Rattle.semver_core.specs.Values.Versions.{VersionValue, HasIdentifiers}
@@ -47,12 +48,7 @@ common_sound limit text v e =
     let ended = at_end_some (rest_of text found.0) (qualified text found.0) v found.2 in
     let mark = small_is text in
     let d = divided_at limit text (take k text) [] k found.0 (sym (take-append-drop k text)) mark.0 nothing_blank found.1 in
-    rw (← ended.1) (record {
-      division = d.reads;
-      not_capital = λ capital. mark.1 (sym d.mark_is ∙ capital);
-      no_blank = d.blank_is;
-      no_rest = d.rest_is ∙ ended.0;
-    })
+    rw (← ended.1) (d.reads, λ capital. mark.1 (sym d.mark_is ∙ capital), d.blank_is, d.rest_is ∙ ended.0)
 
 digit_no_small : (c : ℕ) → is_ascii_digit c ≡ true → eqb c 118 ≡ false
 digit_no_small c h = grind (arith, nat_tests)
@@ -69,28 +65,28 @@ past_small text mark D capital_mark s e h = absurd (s refl)
 -- a common text's version is found
 pub common_complete : (limit : ℕ) (text : List ℕ) (v : VersionValue) → IsCommon limit text v → common_of limit text ≡ Some v
 common_complete limit text v c =
-    let r = c.division in
+    let r = c.0 in
     let D = r.major ++ 46 ∷ (r.minor ++ 46 ∷ (r.patch ++ (r.pre_release ++ (r.build ++ r.rest)))) in
     let digit : begins is_ascii_digit D ≡ true = number_begins r.major _ r.major_is.some r.major_is.each in
-    let divided : text ≡ r.mark ++ D = r.divided ∙ ap (λ b. r.mark ++ (b ++ D)) c.no_blank in
-    let found = read_at limit text (small_len text) v r (past_small text r.mark D r.mark_is c.not_capital divided digit) in
-    rw (found.1, found.2, found.3, c.no_rest) refl
+    let divided : text ≡ r.mark ++ D = r.divided ∙ ap (λ b. r.mark ++ (b ++ D)) c.2 in
+    let found = read_at limit text (small_len text) v r (past_small text r.mark D r.mark_is c.1 divided digit) in
+    rw (found.1, found.2, found.3, c.3) refl
 
 -- the clauses of a reader whose answer is `common_of`
 pub common_some : (limit : ℕ) (text : List ℕ) (found : Option VersionValue) → found ≡ common_of limit text → IfSome found (λ v. IsCommon limit text v)
 common_some limit text None e = tt
 common_some limit text (Some v) e = common_sound limit text v (sym e)
 
-pub common_none : (limit : ℕ) (text : List ℕ) (found : Option VersionValue) → found ≡ common_of limit text → IfNone found (IsUncommon limit text)
+pub common_none : (limit : ℕ) (text : List ℕ) (found : Option VersionValue) → found ≡ common_of limit text → IfNone found (NoValue (IsCommon limit text))
 common_none limit text None e = λ v c. cc (e, common_complete limit text v c)
 common_none limit text (Some v) e = tt
 
 -- both readers on one text
 pub alike : (limit : ℕ) (text : List ℕ) (fast loose : Option VersionValue) → IfSome fast (λ v. IsCommon limit text v) → IfSome loose (λ v. Reads limit text v)
-    → IfNone loose (HasNoVersion limit text) → HasOneReading text → IfSome fast (λ v. loose ≡ Some v)
+    → IfNone loose (NoValue (Reads limit text)) → HasOneReading text → IfSome fast (λ v. loose ≡ Some v)
 alike limit text None loose f l n one = tt
-alike limit text (Some v) None f l n one = absurd (n v f.division)
-alike limit text (Some v) (Some w) f l n one = ap Some (one limit w v l f.division)
+alike limit text (Some v) None f l n one = absurd (n v f.0)
+alike limit text (Some v) (Some w) f l n one = ap Some (one limit w v l f.0)
 
 -- ---- what the code finds
 
@@ -109,7 +105,7 @@ pub lists_left : (text : List ℕ) (major minor patch at end : ℕ) (pre build :
 lists_left text major minor patch at end pre build e lt =
     ap (whole_of text major minor patch) (sym e) ∙ rw (drop-cons text end 0 lt) refl
 
-pub common_memory : (limit : ℕ) (text : List ℕ) → IsSomeAnd (version_at limit text (small_len text)) HasIdentifiers → HasVersionWithIdentifiers limit text
+pub common_memory : (limit : ℕ) (text : List ℕ) → IsSomeAnd (version_at limit text (small_len text)) HasIdentifiers → (v : VersionValue) × Reads limit text v × HasIdentifiers v
 common_memory limit text h = memory_read limit text (version_at limit text (small_len text)) (λ v e.
     version_sound limit text (take (small_len text) text) [] (small_len text) v (sym (take-append-drop (small_len text) text)) (small_is text).0 nothing_blank e) h
 

@@ -5,7 +5,7 @@ use Rattle.std.specs.Ordering.{is_le}
 use Rattle.std.specs.declared.cmp.Ordering.TheVariants.{Less}
 use Rattle.std.proofs.lemmas.List.Elements.{All-append, All-cons, All-nil}
 use Rattle.semver_core.specs.Text.Identifiers.{Id, Numeric}
-use Rattle.semver_core.specs.Values.NextVersions.{IsNext}
+use Rattle.semver_core.specs.Increments.Least.{IsAbove, IsLeastVersion}
 use Rattle.semver_core.specs.Values.Order.{pre_cmp, precedence}
 use Rattle.semver_core.specs.Internal.Successors.{Below, by_major, by_minor, by_patch, by_pre, below_cases, below_more, next_least, zero_least, empty_not_below, above_patch, above_pre, upto_major, upto_minor, upto_patch}
 use Rattle.semver_core.specs.Values.Versions.{VersionValue, IsId, IsVersion, release_value}
@@ -51,7 +51,7 @@ least_after_release v u none h = upto (below_cases v u h)
     upto (by_patch a b c) = upto_patch next u (omega arith) (omega arith) (omega arith) (zero_least u.pre_release)
     upto (by_pre a b c d) = absurd (empty_not_below u.pre_release (ap (λ xs. pre_cmp xs u.pre_release) (sym none) ∙ d))
 
-pub next_of_pre_release : (v : VersionValue) → IsVersion v → 0 < length v.pre_release → IsNext v (record v { pre_release = v.pre_release ++ Numeric 0 ∷ [] })
+pub next_of_pre_release : (v : VersionValue) → IsVersion v → 0 < length v.pre_release → IsLeastVersion (IsAbove v) (record v { pre_release = v.pre_release ++ Numeric 0 ∷ [] })
 next_of_pre_release v is_version some = record {
   is_version = record {
     major = is_version.major;
@@ -60,6 +60,6 @@ next_of_pre_release v is_version some = record {
     pre_release = All-append IsId v.pre_release (Numeric 0 ∷ []) is_version.pre_release zero_alone;
     build = is_version.build;
   };
-  above = above_pre v (record v { pre_release = v.pre_release ++ Numeric 0 ∷ [] }) refl refl refl (more_above v.pre_release some);
+  inside = above_pre v (record v { pre_release = v.pre_release ++ Numeric 0 ∷ [] }) refl refl refl (more_above v.pre_release some);
   least = λ u h. least_after_pre_release v u some h;
 }

@@ -12,7 +12,7 @@ use Rattle.semver_core.specs.declared.increment.IdentifierBase.TheVariants.{Valu
 pub record IsLeastVersion (These : VersionValue → Type 0) (v : VersionValue) : Type 0 where
   pub is_version : IsVersion v
   pub inside : These v
-  pub least : (w : VersionValue) → IsVersion w → These w → is_le (precedence v w) ≡ true
+  pub least : (w : VersionValue) → These w → is_le (precedence v w) ≡ true
 
 -- what is returned is the least of these, or Overflow where there is none
 abbrev pub IsLeastOrOverflow : (VersionValue → Type 0) → Result VersionValue Fault → Type 0
@@ -23,10 +23,6 @@ IsLeastOrOverflow These (Err _) = ⊥
 abbrev pub IsAbove : VersionValue → VersionValue → Type 0
 IsAbove v w = precedence v w ≡ Less
 
--- no identifier, or an empty one
-abbrev pub HasNoIdentifier : Option (List ℕ) → Type 0
-HasNoIdentifier id = unwrap_or id [] ≡ []
-
--- no identifier, and the base 0 or none
+-- no identifier or an empty one, and the base 0 or none
 abbrev pub IsPlain : Option (List ℕ) → Option IdentifierBase → Type 0
-IsPlain id base = HasNoIdentifier id × (unwrap_or base (Value 0) ≡ Value 0)
+IsPlain id base = (unwrap_or id [] ≡ []) × (unwrap_or base (Value 0) ≡ Value 0)

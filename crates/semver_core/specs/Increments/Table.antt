@@ -16,9 +16,7 @@ use Rattle.semver_core.specs.Lists.{is_empty}
 
 -- why a version is not incremented, with the text that the error holds
 pub data Fault : Type 0 where
-  InvalidIdentifier : List ℕ → Fault
-  InvalidIncrementArgument : List ℕ → Fault
-  NotAPrerelease : List ℕ → Fault
+  InvalidIdentifier InvalidIncrementArgument NotAPrerelease : List ℕ → Fault
   Overflow : Fault
 
 -- the first step, and with its value the second
@@ -40,35 +38,25 @@ first_number (Value n) = if n == 0 then 0 else 1
 abbrev pub one_more : ℕ → Result ℕ Fault
 one_more n = if n == 2 ^ 64 - 1 then Err Overflow else Ok (n + 1)
 
-abbrev pub is_numeric : Id → Bool
-is_numeric (Numeric n) = true
-is_numeric (AlphaNumeric text) = false
-
+-- some identifier of a list is a number
 abbrev pub has_numeric : List Id → Bool
-has_numeric list = list_any is_numeric list
+has_numeric list = list_any (λ id. elim id [ Numeric n ↦ true | AlphaNumeric text ↦ false ]) list
 
 -- the last number of a list rises by one
 abbrev pub raise_last : List Id → Result (List Id) Fault
 raise_last [] = Ok []
 raise_last (AlphaNumeric text ∷ rest) = raise_last rest >>= λ list. Ok (AlphaNumeric text ∷ list)
-raise_last (Numeric n ∷ rest) = if has_numeric rest
-    then (raise_last rest >>= λ list. Ok (Numeric n ∷ list))
+raise_last (Numeric n ∷ rest) = if has_numeric rest then (raise_last rest >>= λ list. Ok (Numeric n ∷ list))
     else (one_more n >>= λ more. Ok (Numeric more ∷ rest))
 
--- a list printed and joined by dots
-abbrev pub list_text : List Id → List ℕ
-list_text list = join_with_byte 46 (map id_text list)
-
--- a list without a number gets one at its end, unless the base is false and the identifier is the list itself
-abbrev pub counted : List Id → List ℕ → IdentifierBase → Result (List Id) Fault
-counted list id base = if is_false base && bytes_eq id (list_text list)
-    then Err (InvalidIncrementArgument (codes "identifier already exists"))
-    else Ok (list ++ Numeric (first_number base) ∷ [])
-
--- the pre step, first half: an empty list becomes a number, a last number rises, another list gets a number
+-- the pre step, first half: an empty list becomes a number, and a last number rises; a list without a number gets one at its
+-- end, unless the base is false and the identifier is that list, printed and joined by dots
 abbrev pub advance : List Id → List ℕ → IdentifierBase → Result (List Id) Fault
 advance [] id base = Ok (Numeric (first_number base) ∷ [])
-advance (x ∷ xs) id base = if has_numeric (x ∷ xs) then raise_last (x ∷ xs) else counted (x ∷ xs) id base
+advance (x ∷ xs) id base = if has_numeric (x ∷ xs) then raise_last (x ∷ xs)
+    else if is_false base && bytes_eq id (join_with_byte 46 (map id_text (x ∷ xs)))
+    then Err (InvalidIncrementArgument (codes "identifier already exists"))
+    else Ok ((x ∷ xs) ++ Numeric (first_number base) ∷ [])
 
 -- the identifier that an asked one matches: the number that digits write, and any other text
 abbrev pub asked : List ℕ → Id
@@ -79,13 +67,11 @@ abbrev pub is_kept : List ℕ → List Id → Bool
 is_kept id (x ∷ Numeric n ∷ rest) = is_eq (id_cmp x (asked id))
 is_kept id _ = false
 
--- the list that an identifier begins, with a number unless the base is false
-abbrev pub begun : List ℕ → IdentifierBase → List Id
-begun id base = AlphaNumeric id ∷ (if is_false base then [] else Numeric (first_number base) ∷ [])
-
--- the pre step, second half: with an identifier, a list that does not begin with it is begun anew
+-- the pre step, second half: with an identifier, a list that does not begin with it is begun anew, with a number unless the base
+-- is false
 abbrev pub identify : List ℕ → IdentifierBase → List Id → List Id
-identify id base list = if is_empty id || is_kept id list then list else begun id base
+identify id base list = if is_empty id || is_kept id list then list
+    else AlphaNumeric id ∷ (if is_false base then [] else Numeric (first_number base) ∷ [])
 
 abbrev pub pre_step : List ℕ → IdentifierBase → VersionValue → Result VersionValue Fault
 pre_step id base v = advance v.pre_release id base >>= λ list. Ok (record v { pre_release = identify id base list })
@@ -104,38 +90,24 @@ abbrev pub next_patch : VersionValue → Result VersionValue Fault
 next_patch v = one_more v.patch >>= λ n. Ok (record v { patch = n; pre_release = [] })
 
 -- the rows of the words
-abbrev pub by_major : VersionValue → Result VersionValue Fault
-by_major v = if v.minor == 0 && (v.patch == 0 && not (is_release v)) then Ok (release_of v) else next_major v
-
-abbrev pub by_minor : VersionValue → Result VersionValue Fault
-by_minor v = if v.patch == 0 && not (is_release v) then Ok (release_of v) else next_minor v
-
-abbrev pub by_patch : VersionValue → Result VersionValue Fault
-by_patch v = if is_release v then next_patch v else Ok (release_of v)
-
-abbrev pub by_prerelease : List ℕ → IdentifierBase → VersionValue → Result VersionValue Fault
-by_prerelease id base v = if is_release v then (next_patch v >>= pre_step id base) else pre_step id base v
-
-abbrev pub by_release : VersionValue → Result VersionValue Fault
-by_release v = if is_release v then Err (NotAPrerelease (version_text v)) else Ok (release_of v)
-
 abbrev pub by_word : List ℕ → List ℕ → IdentifierBase → VersionValue → Result VersionValue Fault
-by_word word id base v =
-    if bytes_eq word (codes "major") then by_major v
-    else if bytes_eq word (codes "minor") then by_minor v
-    else if bytes_eq word (codes "patch") then by_patch v
+by_word word id base v = if bytes_eq word (codes "major")
+    then (if v.minor == 0 && (v.patch == 0 && not (is_release v)) then Ok (release_of v) else next_major v)
+    else if bytes_eq word (codes "minor") then (if v.patch == 0 && not (is_release v) then Ok (release_of v) else next_minor v)
+    else if bytes_eq word (codes "patch") then (if is_release v then next_patch v else Ok (release_of v))
     else if bytes_eq word (codes "premajor") then (next_major v >>= pre_step id base)
     else if bytes_eq word (codes "preminor") then (next_minor v >>= pre_step id base)
     else if bytes_eq word (codes "prepatch") then (next_patch v >>= pre_step id base)
-    else if bytes_eq word (codes "prerelease") then by_prerelease id base v
+    else if bytes_eq word (codes "prerelease")
+    then (if is_release v then (next_patch v >>= pre_step id base) else pre_step id base v)
     else if bytes_eq word (codes "pre") then pre_step id base v
-    else if bytes_eq word (codes "release") then by_release v
+    else if bytes_eq word (codes "release")
+    then (if is_release v then Err (NotAPrerelease (version_text v)) else Ok (release_of v))
     else Err (InvalidIncrementArgument word)
 
 -- the two checks: what is given as the identifier may be several, joined by dots
 abbrev pub checked : List ℕ → IdentifierBase → Result ⊤ Fault
-checked id base =
-    if is_empty id && is_false base then Err (InvalidIncrementArgument (codes "identifier is empty"))
+checked id base = if is_empty id && is_false base then Err (InvalidIncrementArgument (codes "identifier is empty"))
     else if is_empty id || list_all is_identifier (pieces id) then Ok tt
     else Err (InvalidIdentifier id)
 

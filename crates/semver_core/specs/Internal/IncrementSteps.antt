@@ -1,9 +1,11 @@
 -- For proofs and private contracts: what the steps of `inc` say to one another.
-use Rattle.std.specs.Prelude.{◌≡◌, ℕ, List, ◌∷◌, ◌++◌, length, Option, Some, None, Result, Ok, Err, ⊤, false}
-use Rattle.semver_core.specs.Text.Identifiers.{Id, Numeric}
-use Rattle.semver_core.specs.Increments.Table.{◌>>=◌, Fault, advance, has_numeric, identify}
+use Rattle.std.specs.Prelude.{◌≡◌, ◌==◌, ◌&&◌, not, if◌then◌else◌, ℕ, List, [], ◌∷◌, ◌++◌, length, map, Option, Some, None, Result, Ok, Err, ⊤, false}
+use Rattle.std.specs.List.{join_with_byte}
+use Rattle.semver_core.specs.Text.Identifiers.{Id, Numeric, AlphaNumeric}
+use Rattle.semver_core.specs.Increments.Table.{◌>>=◌, Fault, NotAPrerelease, advance, first_number, has_numeric, identify, is_false, next_major, next_minor, next_patch, pre_step, release_of}
 use Rattle.semver_core.specs.Increments.View.{fault_of}
-use Rattle.semver_core.specs.Values.Versions.{VersionValue}
+use Rattle.semver_core.specs.Printing.Text.{id_text, version_text}
+use Rattle.semver_core.specs.Values.Versions.{VersionValue, is_release}
 use Rattle.semver_core.specs.declared.error.Failure.{Failure}
 use Rattle.semver_core.specs.declared.error.Failure.TheVariants.{Refused, Memory}
 use Rattle.semver_core.specs.declared.increment.IdentifierBase.{IdentifierBase}
@@ -19,6 +21,30 @@ abbrev pub ReturnsParts : Result VersionValue Fault → Result PartsRef (Failure
 ReturnsParts expected (Ok parts) = expected ≡ Ok (parts_ref_value parts)
 ReturnsParts expected (Err (Refused e)) = expected ≡ Err (fault_of e)
 ReturnsParts expected (Err (Memory e)) = ⊤
+
+-- the rows of the words that have one each
+abbrev pub by_major : VersionValue → Result VersionValue Fault
+by_major v = if v.minor == 0 && (v.patch == 0 && not (is_release v)) then Ok (release_of v) else next_major v
+
+abbrev pub by_minor : VersionValue → Result VersionValue Fault
+by_minor v = if v.patch == 0 && not (is_release v) then Ok (release_of v) else next_minor v
+
+abbrev pub by_patch : VersionValue → Result VersionValue Fault
+by_patch v = if is_release v then next_patch v else Ok (release_of v)
+
+abbrev pub by_prerelease : List ℕ → IdentifierBase → VersionValue → Result VersionValue Fault
+by_prerelease id base v = if is_release v then (next_patch v >>= pre_step id base) else pre_step id base v
+
+abbrev pub by_release : VersionValue → Result VersionValue Fault
+by_release v = if is_release v then Err (NotAPrerelease (version_text v)) else Ok (release_of v)
+
+-- a list printed and joined by dots
+abbrev pub list_text : List Id → List ℕ
+list_text list = join_with_byte 46 (map id_text list)
+
+-- the list that an identifier begins
+abbrev pub begun : List ℕ → IdentifierBase → List Id
+begun id base = AlphaNumeric id ∷ (if is_false base then [] else Numeric (first_number base) ∷ [])
 
 -- both halves of the pre step
 abbrev pub stepped : List Id → List ℕ → IdentifierBase → Result (List Id) Fault

@@ -3,7 +3,7 @@ use Rattle.std.specs.Prelude.{◌≡◌, ◌==◌, if◌then◌else◌, ℕ, Boo
 use Rattle.semver_core.specs.Text.Characters.{begins, is_identifier_char, IsBlank}
 use Rattle.semver_core.specs.Text.Identifiers.{Id, IsLongestIdentifiers}
 use Rattle.semver_core.specs.Text.Numbers.{IsNumber, IsWholeNumber}
-use Rattle.semver_core.specs.Values.Versions.{VersionValue, HasIdentifiers}
+use Rattle.semver_core.specs.Values.Versions.{VersionValue}
 
 -- `v`, `V` or nothing
 pub data IsMark : List ℕ → Type 0 where
@@ -50,11 +50,3 @@ pub record Reads (limit : ℕ) (text : List ℕ) (v : VersionValue) : Type 0 whe
   pub patch_is : IsWholeNumber limit patch (pre_release ++ (build ++ rest)) v.patch
   pub pre_release_is : IsPreRelease pre_release (build ++ rest) v.pre_release
   pub build_is : IsBuild build rest v.build
-
--- no version stands at the front of the text
-abbrev pub HasNoVersion : ℕ → List ℕ → Type 0
-HasNoVersion limit text = (v : VersionValue) → Reads limit text v → ⊥
-
--- a version with a pre-release or a build stands at the front of the text
-abbrev pub HasVersionWithIdentifiers : ℕ → List ℕ → Type 0
-HasVersionWithIdentifiers limit text = (v : VersionValue) × Reads limit text v × HasIdentifiers v

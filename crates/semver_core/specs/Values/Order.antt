@@ -3,7 +3,7 @@ use Rattle.std.specs.Prelude.{Bool, List, [], ◌∷◌}
 use Rattle.std.specs.Cmp.Lexicographic.{slice_cmp}
 use Rattle.std.specs.Ordering.{eq_by_cmp, nat_cmp, on, then_cmp}
 use Rattle.std.specs.declared.cmp.Ordering.{Ordering}
-use Rattle.std.specs.declared.cmp.Ordering.TheVariants.{Less, Equal, Greater}
+use Rattle.std.specs.declared.cmp.Ordering.TheVariants.{Less, Greater}
 use Rattle.semver_core.specs.Text.Identifiers.{Id, Numeric, AlphaNumeric}
 use Rattle.semver_core.specs.Values.Versions.{VersionValue}
 
@@ -16,10 +16,9 @@ id_cmp (AlphaNumeric s) (AlphaNumeric t) = slice_cmp nat_cmp s t
 
 -- a pre-release is below its release, whose list is empty; two lists go identifier by identifier
 abbrev pub pre_cmp : List Id → List Id → Ordering
-pre_cmp [] [] = Equal
 pre_cmp [] (y ∷ ys) = Greater
 pre_cmp (x ∷ xs) [] = Less
-pre_cmp (x ∷ xs) (y ∷ ys) = slice_cmp id_cmp (x ∷ xs) (y ∷ ys)
+pre_cmp xs ys = slice_cmp id_cmp xs ys
 
 -- major, minor and patch as numbers, and then the pre-release
 abbrev pub precedence : VersionValue → VersionValue → Ordering

@@ -124,6 +124,7 @@ impl<'a> fmt::Display for IdentifierRef<'a> {
 
     ghost styled_output = { λ id _. Some (id_text (lent_id_view id)) };
 
+    #[inline(always)]
     fn fmt<W: fmt::Write>(&self, f: &mut fmt::Formatter<W>) -> fmt::Result {
         match self {
             IdentifierRef::Numeric(number) => write_number(*number, f),

@@ -2,10 +2,11 @@
 
 ghost use Rattle.std.specs.Prelude.{◌≡◌, ◌≤◌, ◌+◌, true, length, drop, IfErr, IfNone};
 ghost use Rattle.std.specs.Prelude.{IfOk, IfSome};
+ghost use Rattle.semver_core.specs.Failures.{NoValue};
 ghost use Rattle.semver_core.specs.Text.Characters.{begins, is_identifier_char};
 ghost use Rattle.semver_core.specs.Text.Identifiers.{is_listed, listed};
-ghost use Rattle.semver_core.specs.Text.Parsing.{IsRefused, Parses};
-ghost use Rattle.semver_core.specs.Text.VersionText.{HasNoVersion, Reads};
+ghost use Rattle.semver_core.specs.Text.Parsing.{Parses};
+ghost use Rattle.semver_core.specs.Text.VersionText.{Reads};
 ghost use Rattle.semver_core.specs.Internal.Reading.{list_from, list_len, lists_at, qualified};
 ghost use Rattle.semver_core.specs.Internal.Reading.{version_at};
 ghost use Rattle.semver_core.specs.Values.Versions.{release_value};
@@ -98,7 +99,7 @@ fn version_from(text: &str, at: usize) -> Option<VersionRef<'_>>
 // The version at the front of a text of any length.
 fn version_loose(text: &str) -> Option<VersionRef<'_>>
     ensures some { IfSome result (λ v. Reads MAX_SAFE_INTEGER text.now v) }
-    ensures none { IfNone result (HasNoVersion MAX_SAFE_INTEGER text.now) }
+    ensures none { IfNone result (NoValue (Reads MAX_SAFE_INTEGER text.now)) }
 {
     version_from(text, front_of_numbers(text))
 }
@@ -109,7 +110,7 @@ fn version_loose(text: &str) -> Option<VersionRef<'_>>
 #[inline(never)]
 fn parse_loose(text: &str) -> Result<VersionRef<'_>, SemverError>
     ensures ok { IfOk result (λ v. Reads MAX_SAFE_INTEGER text.now v) }
-    ensures refused { IfErr result (λ _. HasNoVersion MAX_SAFE_INTEGER text.now) }
+    ensures refused { IfErr result (λ _. NoValue (Reads MAX_SAFE_INTEGER text.now)) }
 {
     version_loose(text).ok_or(SemverError)
 }
@@ -130,7 +131,7 @@ impl<'a> VersionRef<'a> {
         // What is read is a version of the text.
         ensures ok { IfOk result (λ v. Parses MAX_SAFE_INTEGER text.now v) }
         // The text is rejected only if it is too long or has no version at its front.
-        ensures refused { IfErr result (λ _. IsRefused MAX_SAFE_INTEGER text.now) }
+        ensures refused { IfErr result (λ _. NoValue (Parses MAX_SAFE_INTEGER text.now)) }
     {
         if text.len() > MAX_LENGTH {
             return Err(SemverError);

@@ -11,7 +11,7 @@ ghost use Rattle.semver_core.specs.Text.Characters.{is_identifier_char};
 ghost use Rattle.semver_core.specs.Text.Identifiers.{Numeric, is_identifier, pieces};
 ghost use Rattle.semver_core.specs.Increments.Table as spec;
 ghost use Rattle.semver_core.specs.Increments.Table.{has_numeric};
-ghost use Rattle.semver_core.specs.Internal.IncrementSteps.{Steps, Tracks};
+ghost use Rattle.semver_core.specs.Internal.IncrementSteps.{Steps, Tracks, begun, list_text};
 ghost use Rattle.semver_core.specs.Printing.Text as printed;
 ghost use Rattle.semver_core.specs.Values.Order.{id_cmp};
 ghost use Rattle.semver_core.specs.Values.Views.{id_view, ids_view};
@@ -109,7 +109,7 @@ fn push_number(list: &mut Identifiers, n: u64) -> Result<(), AllocError>
 
 // Whether the list prints as this identifier.
 fn is_printed(alloc: Global, list: &[Identifier], id: &str) -> Result<bool, AllocError>
-    ensures { IfOk result (λ b. b ≡ bytes_eq id.now (spec.list_text (ids_view list.now))) }
+    ensures { IfOk result (λ b. b ≡ bytes_eq id.now (list_text (ids_view list.now))) }
 {
     let text = list_text(alloc, list)?;
     Ok(id == text.as_str())
@@ -117,7 +117,7 @@ fn is_printed(alloc: Global, list: &[Identifier], id: &str) -> Result<bool, Allo
 
 // A list printed, its identifiers joined by dots.
 fn list_text(alloc: Global, list: &[Identifier]) -> Result<String, AllocError>
-    ensures { IfOk result (λ t. string_bytes t ≡ spec.list_text (ids_view list.now)) }
+    ensures { IfOk result (λ t. string_bytes t ≡ list_text (ids_view list.now)) }
 {
     let mut text = String::new(alloc);
     'parts: for (place, id) in list.iter().enumerate() {
@@ -145,7 +145,7 @@ fn begin(
     id: &str,
     base: IdentifierBase,
 ) -> Result<(), AllocError>
-    ensures { OnOk result (ids_view list.new.items ≡ spec.begun id.now base) }
+    ensures { OnOk result (ids_view list.new.items ≡ begun id.now base) }
 {
     let id = String::from_str(alloc, id)?;
     list.clear();

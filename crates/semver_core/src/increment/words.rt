@@ -3,6 +3,7 @@
 ghost use Rattle.std.specs.Prelude.{◌≡◌, ◌<◌, [], IfOk, Ok, OnOk, length};
 ghost use Rattle.semver_core.specs.Increments.Table as spec;
 ghost use Rattle.semver_core.specs.Increments.View.{Returns};
+ghost use Rattle.semver_core.specs.Internal.IncrementSteps as steps;
 ghost use Rattle.semver_core.specs.Internal.IncrementSteps.{ReturnsParts, Steps, stepped};
 ghost use Rattle.semver_core.specs.Internal.IncrementSteps.{parts_ref_value};
 ghost use Rattle.semver_core.specs.Values.Views.{ids_view};
@@ -39,7 +40,7 @@ pub(super) fn by_word(
 }
 
 fn major(alloc: Global, version: &PartsRef<'_>) -> Result<Version, Failure<IncrementError>>
-    ensures { Returns (spec.by_major (parts_ref_value version.now)) result }
+    ensures { Returns (steps.by_major (parts_ref_value version.now)) result }
 {
     if version.minor == 0 && version.patch == 0 && !version.is_release() {
         release_of(alloc, version)
@@ -49,7 +50,7 @@ fn major(alloc: Global, version: &PartsRef<'_>) -> Result<Version, Failure<Incre
 }
 
 fn minor(alloc: Global, version: &PartsRef<'_>) -> Result<Version, Failure<IncrementError>>
-    ensures { Returns (spec.by_minor (parts_ref_value version.now)) result }
+    ensures { Returns (steps.by_minor (parts_ref_value version.now)) result }
 {
     if version.patch == 0 && !version.is_release() {
         release_of(alloc, version)
@@ -59,7 +60,7 @@ fn minor(alloc: Global, version: &PartsRef<'_>) -> Result<Version, Failure<Incre
 }
 
 fn patch(alloc: Global, version: &PartsRef<'_>) -> Result<Version, Failure<IncrementError>>
-    ensures { Returns (spec.by_patch (parts_ref_value version.now)) result }
+    ensures { Returns (steps.by_patch (parts_ref_value version.now)) result }
 {
     if version.is_release() {
         release_of(alloc, &next_patch(version)?)
@@ -74,7 +75,7 @@ fn prerelease(
     id: &str,
     base: IdentifierBase,
 ) -> Result<Version, Failure<IncrementError>>
-    ensures { Returns (spec.by_prerelease id.now base (parts_ref_value version.now)) result }
+    ensures { Returns (steps.by_prerelease id.now base (parts_ref_value version.now)) result }
 {
     if version.is_release() {
         pre_step(alloc, &next_patch(version)?, id, base)
@@ -84,7 +85,7 @@ fn prerelease(
 }
 
 fn release(alloc: Global, version: &PartsRef<'_>) -> Result<Version, Failure<IncrementError>>
-    ensures { Returns (spec.by_release (parts_ref_value version.now)) result }
+    ensures { Returns (steps.by_release (parts_ref_value version.now)) result }
 {
     if version.is_release() {
         let text = release_of(alloc, version)?.to_string(alloc)?;

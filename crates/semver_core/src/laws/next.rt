@@ -2,8 +2,8 @@
 
 ghost use Rattle.std.specs.Prelude.{◌≡◌, ◌+◌, ◌-◌, ◌<◌, ◌^◌, true, [], ◌∷◌, ◌++◌, length};
 ghost use Rattle.std.specs.Ordering.{is_le};
+ghost use Rattle.semver_core.specs.Increments.Least.{IsAbove, IsLeastVersion};
 ghost use Rattle.semver_core.specs.Text.Identifiers.{Numeric};
-ghost use Rattle.semver_core.specs.Values.NextVersions.{IsNext};
 ghost use Rattle.semver_core.specs.Values.Order.{precedence};
 ghost use Rattle.semver_core.specs.Values.Versions.{VersionValue, IsVersion, release_value};
 
@@ -14,8 +14,10 @@ pub fn next_versions()
     ensures first { (v : VersionValue) → is_le (precedence
         (record (release_value 0 0 0) { pre_release = Numeric 0 ∷ [] }) v) ≡ true }
     ensures pre_release { (v : VersionValue) → IsVersion v → 0 < length v.pre_release
-        → IsNext v (record v { pre_release = v.pre_release ++ Numeric 0 ∷ [] }) }
+        → IsLeastVersion (IsAbove v)
+        (record v { pre_release = v.pre_release ++ Numeric 0 ∷ [] }) }
     ensures release { (v : VersionValue) → IsVersion v → v.pre_release ≡ []
         → v.patch < 2 ^ 64 - 1
-        → IsNext v (record v { patch = v.patch + 1; pre_release = Numeric 0 ∷ [] }) }
+        → IsLeastVersion (IsAbove v)
+        (record v { patch = v.patch + 1; pre_release = Numeric 0 ∷ [] }) }
 {}

@@ -1,7 +1,7 @@
 // Printed versions come back.
 
 ghost use Rattle.std.specs.Prelude.{◌≡◌, ◌<◌, ◌≤◌, ◌^◌, ℕ, IfOk, length, string_bytes, true};
-ghost use Rattle.semver_core.specs.Failures.{NeverRefused};
+ghost use Rattle.semver_core.specs.Failures.{RefusedOnlyIf};
 ghost use Rattle.semver_core.specs.Printing.RoundTrip.{is_readable};
 ghost use Rattle.semver_core.specs.Printing.Text.{id_text, version_text};
 ghost use Rattle.semver_core.specs.Text.VersionText.{Reads};
@@ -31,7 +31,7 @@ pub fn reread(alloc: Global, version: &Version) -> Result<Version, Failure<Semve
     requires readable { is_readable MAX_SAFE_INTEGER version.now ≡ true }
     requires short { length (version_text version.now) ≤ MAX_LENGTH }
     ensures same { IfOk result (λ again. again ≡ version.now) }
-    ensures never_refused { NeverRefused result }
+    ensures never_refused { RefusedOnlyIf result ⊥ }
 {
     let text = version.to_string(alloc)?;
     let text = text.as_str();

@@ -2,8 +2,9 @@
 // reader reads it.
 
 ghost use Rattle.std.specs.Prelude.{◌≡◌, ◌≤◌, ℕ, IfNone, IfOk, IfSome, Some};
-ghost use Rattle.semver_core.specs.Text.Common.{IsCommon, IsUncommon};
-ghost use Rattle.semver_core.specs.Text.VersionText.{HasNoVersion, Reads};
+ghost use Rattle.semver_core.specs.Failures.{NoValue};
+ghost use Rattle.semver_core.specs.Text.Common.{IsCommon};
+ghost use Rattle.semver_core.specs.Text.VersionText.{Reads};
 ghost use Rattle.semver_core.specs.Values.Versions.{VersionValue};
 ghost use Rattle.semver_core.specs.declared.TheConstants.{MAX_SAFE_INTEGER};
 
@@ -61,8 +62,8 @@ pub fn both_readers(
 ) -> Result<(Option<Version>, Option<Version>), AllocError>
     ensures same { IfOk result (λ both. IfSome both.0 (λ v. both.1 ≡ Some v)) }
     ensures read { IfOk result (λ both. IfSome both.1 (Reads MAX_SAFE_INTEGER text.now)) }
-    ensures uncommon { IfOk result (λ both. IfNone both.0 (IsUncommon MAX_SAFE_INTEGER text.now)) }
-    ensures unread { IfOk result (λ both. IfNone both.1 (HasNoVersion MAX_SAFE_INTEGER text.now)) }
+    ensures uncommon { IfOk result (λ both. IfNone both.0 (NoValue (IsCommon MAX_SAFE_INTEGER text.now))) }
+    ensures unread { IfOk result (λ both. IfNone both.1 (NoValue (Reads MAX_SAFE_INTEGER text.now))) }
 {
     one_reading(text);
     let fast = version_fast(alloc, text)?;

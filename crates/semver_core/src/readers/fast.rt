@@ -2,12 +2,13 @@
 
 ghost use Rattle.std.specs.Prelude.{◌||◌, ◌==◌, get_or, ◌≡◌, ◌≤◌, ◌<◌, length, IfOk, IfSome};
 ghost use Rattle.std.specs.Prelude.{IfNone, IsSomeAnd, OnErr};
+ghost use Rattle.semver_core.specs.Text.VersionText.{Reads};
+ghost use Rattle.semver_core.specs.Failures.{NoValue};
 ghost use Rattle.semver_core.specs.Text.Characters.{is_identifier_char};
-ghost use Rattle.semver_core.specs.Text.Common.{IsCommon, IsUncommon};
+ghost use Rattle.semver_core.specs.Text.Common.{IsCommon};
 ghost use Rattle.semver_core.specs.Internal.CommonReading.{small_len, whole_at, common_of};
-ghost use Rattle.semver_core.specs.Text.VersionText.{HasVersionWithIdentifiers};
 ghost use Rattle.semver_core.specs.Internal.Reading.{part_at, qualified, triple_at, version_at};
-ghost use Rattle.semver_core.specs.Values.Versions.{HasIdentifiers};
+ghost use Rattle.semver_core.specs.Values.Versions.{HasIdentifiers, VersionValue};
 
 use crate::readers::loose::{lists_at, past};
 use crate::{MAX_SAFE_INTEGER, Version, scan};
@@ -126,9 +127,9 @@ pub fn version_fast(alloc: Global, text: &str) -> Result<Option<Version>, AllocE
     // The version is the one that the whole text is.
     ensures some { IfOk result (λ found. IfSome found (λ v. IsCommon MAX_SAFE_INTEGER text.now v)) }
     // Every common text is read.
-    ensures none { IfOk result (λ found. IfNone found (IsUncommon MAX_SAFE_INTEGER text.now)) }
+    ensures none { IfOk result (λ found. IfNone found (NoValue (IsCommon MAX_SAFE_INTEGER text.now))) }
     // Allocation fails only where the text has a version with identifiers.
-    ensures memory { OnErr result (HasVersionWithIdentifiers MAX_SAFE_INTEGER text.now) }
+    ensures memory { OnErr result ((v : VersionValue) × Reads MAX_SAFE_INTEGER text.now v × HasIdentifiers v) }
 {
     read(alloc, text)
 }

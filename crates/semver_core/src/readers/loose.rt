@@ -3,9 +3,9 @@
 ghost use Rattle.std.specs.Prelude.{◌≡◌, ◌==◌, ◌≤◌, ◌<◌, ◌+◌, ◌⊎◌, [], true, length, drop, None};
 ghost use Rattle.std.specs.Prelude.{Some, Option, IfOk, IfSome, IfNone, IsSomeAnd, IsCharBoundary};
 ghost use Rattle.std.specs.Prelude.{OnErr, OnSome};
+ghost use Rattle.semver_core.specs.Failures.{NoValue};
 ghost use Rattle.semver_core.specs.Text.Characters.{begins, is_identifier_char, IsAfterBlank};
-ghost use Rattle.semver_core.specs.Text.VersionText.{Reads, HasNoVersion};
-ghost use Rattle.semver_core.specs.Text.VersionText.{HasVersionWithIdentifiers};
+ghost use Rattle.semver_core.specs.Text.VersionText.{Reads};
 ghost use Rattle.semver_core.specs.Internal.Reading.{past, pre_release_at, build_at};
 ghost use Rattle.semver_core.specs.Internal.Reading.{list_from, lists_at, version_at, mark_len};
 ghost use Rattle.semver_core.specs.Values.Versions.{VersionValue, HasIdentifiers};
@@ -182,9 +182,9 @@ pub fn version_loose(alloc: Global, text: &str) -> Result<Option<Version>, Alloc
     // What is read is a version of the text.
     ensures some { IfOk result (λ found. IfSome found (λ v. Reads MAX_SAFE_INTEGER text.now v)) }
     // Nothing is read only where the text has none.
-    ensures none { IfOk result (λ found. IfNone found (HasNoVersion MAX_SAFE_INTEGER text.now)) }
+    ensures none { IfOk result (λ found. IfNone found (NoValue (Reads MAX_SAFE_INTEGER text.now))) }
     // Allocation fails only where the text has a version with identifiers.
-    ensures memory { OnErr result (HasVersionWithIdentifiers MAX_SAFE_INTEGER text.now) }
+    ensures memory { OnErr result ((v : VersionValue) × Reads MAX_SAFE_INTEGER text.now v × HasIdentifiers v) }
 {
     version_from(alloc, text, front_of_numbers(text))
 }

@@ -3,7 +3,7 @@
 ghost use Rattle.std.specs.Prelude.{◌≡◌, Bool, true, false};
 ghost use Rattle.semver_core.specs.Values.Versions.{VersionValue};
 
-use crate::Version;
+use crate::{Version, VersionRef};
 
 /// A set of versions that is asked one by one, as a range is.
 ///
@@ -36,6 +36,17 @@ pub trait Accepts {
         ensures { result ≡ accepts self.now version.now include_prerelease };
 }
 
+/// A set of versions that is asked about borrowed ones, as a borrowed range is. An impl needs what
+/// one of [`Accepts`] needs.
+pub trait AcceptsRef {
+    /// Whether the set accepts a version; the flag includes pre-releases.
+    ghost accepts: { Self → VersionValue → Bool → Bool };
+
+    /// Whether the set accepts this version, as `Accepts::accepts` says.
+    fn accepts(&self, version: &VersionRef<'_>, include_prerelease: bool) -> bool
+        ensures { result ≡ accepts self.now version.now include_prerelease };
+}
+
 impl Version {
     /// Whether the set accepts this version, pre-releases not being included: `set.accepts(version,
     /// false)`. For a range see its own `satisfies`, which is the same question the other way
@@ -48,6 +59,27 @@ impl Version {
 
     /// The same with the caller's flag: `set.accepts(version, include_prerelease)`.
     pub fn satisfies_with_prerelease<R: Accepts>(&self, range: &R, include_prerelease: bool) -> bool
+        ensures { result ≡ R.accepts range.now self.now include_prerelease }
+    {
+        range.accepts(self, include_prerelease)
+    }
+}
+
+impl<'a> VersionRef<'a> {
+    /// Whether the set accepts this version, pre-releases not being included, as
+    /// `Version::satisfies` says.
+    pub fn satisfies<R: AcceptsRef>(&self, range: &R) -> bool
+        ensures { result ≡ R.accepts range.now self.now false }
+    {
+        self.satisfies_with_prerelease(range, false)
+    }
+
+    /// The same with the caller's flag: `set.accepts(version, include_prerelease)`.
+    pub fn satisfies_with_prerelease<R: AcceptsRef>(
+        &self,
+        range: &R,
+        include_prerelease: bool,
+    ) -> bool
         ensures { result ≡ R.accepts range.now self.now include_prerelease }
     {
         range.accepts(self, include_prerelease)

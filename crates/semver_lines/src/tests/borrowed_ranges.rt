@@ -1,7 +1,8 @@
 // Ranges that borrow their text.
 
+use super::lent::hash_of;
 use super::{is_same_range, prints};
-use nodejs_semver::{OutsideDirection, Range, RangeRef, SemverError, VersionRef};
+use nodejs_semver::{OutsideDirection, Range, RangeRef, SemverError, Version, VersionRef};
 use std::alloc::Global;
 
 // A range text and its printed text.
@@ -51,6 +52,9 @@ fn accepts<'a>(range: &RangeRef<'a>, versions: &[VersionRef<'a>; 4]) -> bool {
         && !range.satisfies(&versions[1])
         && range.satisfies_with_prerelease(&versions[1], true)
         && range.outside(&versions[3], OutsideDirection::Higher, false) == Ok(true)
+        && versions[0].satisfies(range)
+        && !versions[1].satisfies(range)
+        && versions[1].satisfies_with_prerelease(range, true)
 }
 
 fn chooses<'a>(range: &RangeRef<'a>, versions: &[VersionRef<'a>; 4]) -> bool {
@@ -75,6 +79,33 @@ fn text_accepts_and_chooses(alloc: Global, text: &str) -> bool {
 #[test]
 fn borrowed_ranges_answer(rt: HostRuntime) {
     assert!(rt; text_accepts_and_chooses(rt.alloc(), ">=1.2.3-a <2"));
+}
+
+fn are_equal(alloc: Global, one: &str, other: &str) -> bool {
+    match (RangeRef::parse(alloc, one), RangeRef::parse(alloc, other)) {
+        (Ok(one), Ok(other)) => one == other && hash_of(&one) == hash_of(&other),
+        _ => false,
+    }
+}
+
+#[test]
+fn borrowed_ranges_are_equal_by_their_bounds(rt: HostRuntime) {
+    assert!(rt; are_equal(rt.alloc(), "^1.2 || 3.x", "^1.2.0||>=3.0.0 <4.0.0-0"));
+    assert!(rt; are_equal(rt.alloc(), ">=1.2.3+a", ">= v1.2.3+b"));
+    assert!(rt; !are_equal(rt.alloc(), ">=1.2.3", ">1.2.3"));
+    assert!(rt; !are_equal(rt.alloc(), "^1.2 || 3.x", "^1.2"));
+}
+
+fn first_held(alloc: Global, text: &str) -> Option<Version> {
+    let range = RangeRef::parse(alloc, text).ok()?;
+    range.min_version_with_prerelease(alloc).ok()?
+}
+
+#[test]
+fn borrowed_ranges_have_a_first_version(rt: HostRuntime) {
+    let alloc = rt.alloc();
+    assert!(rt; first_held(alloc, ">1.0.0") == Version::parse(alloc, "1.0.1-0").ok());
+    assert!(rt; first_held(alloc, ">1.0.0 <1.0.1-0").is_none());
 }
 
 fn is_printed(alloc: Global, range: Option<RangeRef<'_>>, text: &str) -> bool {

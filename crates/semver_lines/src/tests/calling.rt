@@ -1,8 +1,8 @@
-ghost use Rattle.std.specs.Prelude.{◌≡◌, ◌↔◌, ◌⊎◌, [], IfOk, IsTrue, List, true, false};
+ghost use Rattle.std.specs.Prelude.{◌≡◌, ◌↔◌, ◌⊎◌, [], IfOk, IsTrue, List, true, false, unwrap_or};
 ghost use Rattle.nodejs_semver.specs.Cuts.{Span};
-ghost use Rattle.nodejs_semver.specs.Failures.{RefusedOnlyIf};
-ghost use Rattle.nodejs_semver.specs.Parsing.{IsRefused, Parses};
-ghost use Rattle.nodejs_semver.specs.Ranges.Gate.{accepts, option_accepts};
+ghost use Rattle.nodejs_semver.specs.Failures.{NoValue, RefusedOnlyIf};
+ghost use Rattle.nodejs_semver.specs.Parsing.{Parses};
+ghost use Rattle.nodejs_semver.specs.Ranges.Gate.{accepts};
 ghost use Rattle.nodejs_semver.specs.Text.Meaning.{Means};
 ghost use Rattle.nodejs_semver.specs.Text.WrittenSet.{Writes};
 ghost use Rattle.nodejs_semver.specs.Versions.{VersionValue};
@@ -17,7 +17,7 @@ fn admits(alloc: Global, range: &str, version: &str) -> Result<bool, Failure<Sem
         × Means MAX_SAFE_INTEGER range.now r × Parses MAX_SAFE_INTEGER version.now v
         × (answer ≡ accepts r v false)) }
     ensures refused { RefusedOnlyIf result (Means MAX_SAFE_INTEGER range.now []
-        ⊎ IsRefused MAX_SAFE_INTEGER version.now) }
+        ⊎ NoValue (Parses MAX_SAFE_INTEGER version.now)) }
 {
     let range = Range::parse(alloc, range)?;
     let version = Version::parse(alloc, version)?;
@@ -26,7 +26,7 @@ fn admits(alloc: Global, range: &str, version: &str) -> Result<bool, Failure<Sem
 
 // What two range texts have in common, or `None` if no version is in both.
 fn both(alloc: Global, one: &str, other: &str) -> Result<Option<Range>, Failure<SemverError>>
-    ensures { IfOk result (λ found. (v : VersionValue) → IsTrue (option_accepts found v true)
+    ensures { IfOk result (λ found. (v : VersionValue) → IsTrue (accepts (unwrap_or found []) v true)
         ↔ (Writes MAX_SAFE_INTEGER one.now v × Writes MAX_SAFE_INTEGER other.now v)) }
 {
     let one = Range::parse(alloc, one)?;

@@ -91,7 +91,7 @@ fn identifiers_are_in_order(rt: HostRuntime) {
     assert!(rt; prints(rt.alloc(), &number, "11") && prints(rt.alloc(), &text, "2a"));
 }
 
-fn hash_of<T: Hash>(value: &T) -> u64 {
+pub fn hash_of<T: Hash>(value: &T) -> u64 {
     let mut state = DefaultHasher::new();
     value.hash(&mut state);
     state.finish()

@@ -128,6 +128,30 @@ fn min_satisfying(rt: HostRuntime) -> Result<(), Fail> {
 }
 
 #[test]
+fn is_new_max(rt: HostRuntime) -> Result<(), Fail> {
+    let alloc = rt.alloc();
+    let range = Range::parse(alloc, "^1")?;
+    let mut best = None;
+    for text in ["1.2.0", "1.4.0", "2.0.0", "1.3.0"] {
+        let version = Version::parse(alloc, text)?;
+        if range.is_new_max(&version, best.as_ref()) {
+            best = Some(version);
+        }
+    }
+    assert_eq!(rt; best, Some(Version::from((1u64, 4, 0))));
+    Ok(())
+}
+
+#[test]
+fn is_new_min(rt: HostRuntime) -> Result<(), Fail> {
+    let alloc = rt.alloc();
+    let range = Range::parse(alloc, "^1")?;
+    let best = Version::from((1u64, 4, 0));
+    assert!(rt; range.is_new_min(&Version::from((1u64, 2, 0)), Some(&best)));
+    Ok(())
+}
+
+#[test]
 fn min_version(rt: HostRuntime) -> Result<(), Fail> {
     let alloc = rt.alloc();
     let range = Range::parse(alloc, ">1.0.0 <1.0.1-5")?;

@@ -1,16 +1,13 @@
-use Rattle.std.proofs.Common.{refl, ◌∷◌, ◌++◌}
-use Rattle.std.proofs.Output.{has_written_styled_append}
-use Rattle.semver_core.specs.Printing.Text.{id_text}
-use Rattle.semver_core.specs.Values.Views.{lent_id_view}
-use Rattle.semver_core.proofs.Printing.Prints.{dotted_step}
+use Rattle.std.proofs.Common.{refl, rules, ◌∙◌}
+use Rattle.std.proofs.Output.{has_written_styled_append, has_written_styled_of_eq}
+use Rattle.semver_core.proofs.Printing.Prints.{digit_text}
 use Rattle.semver_core.proofs.print.write_dotted.Goals as goal
 
-pub ids-preserved : goal.ids-preserved
-ids-preserved g c flush =
-    let before = c.ids.invariant flush in
-    let dot = c.in_ok-write_str.ensures.styled before.1.flush refl in
-    let now = has_written_styled_append _ _ _ _ _ _ dot (c.in_ok-fmt.ensures.styled dot.flush refl) in (
-      before.0 ++ (46 ∷ id_text (lent_id_view c.in-Some.id)),
-      has_written_styled_append _ _ _ _ _ _ before.1 now,
-      dotted_step before.0 _ c.ids.others c.next.new.self (lent_id_view c.in-Some.id) c.in-Some.ensures.steps before.2,
-    )
+pub returns-then-number-lt10 : goal.returns-then-number-lt10
+returns-then-number-lt10 g c flush ok =
+    has_written_styled_of_eq _ _ _ _ _ (c.range.ensures.value ∙ (digit_text c.args.number (search rules)).1) (c.write_str.ensures.styled flush ok)
+
+pub returns : goal.returns
+returns g c flush ok =
+    let number = c.in_ok-write_decimal.ensures flush refl in
+    has_written_styled_append _ _ _ _ _ _ number (c.write_str-2.ensures.styled number.flush ok)

@@ -1,21 +1,17 @@
-use Rattle.std.proofs.lemmas.Result.{err_from_is_err_and}
-use Rattle.semver_lines.specs.Replies.{IsVersionOf, both_read}
-use Rattle.semver_lines.proofs.Replies.{told_first, told_second}
+use Rattle.semver_lines.specs.Replies.{IsVersionOf, read}
+use Rattle.semver_lines.proofs.Replies.{told_err, told_fault, told_second}
 use Rattle.semver_lines.proofs.reply.on_versions.Goals as goal
 
 pub returns-in_err-version : goal.returns-in_err-version
-returns-in_err-version c =
-    let p = err_from_is_err_and c.from_residual.result c.from_residual.ensures.1 in
-    rw (p.1, p.2) (told_first (IsVersionOf c.args.v.now) (IsVersionOf c.args.w.now) _ _ (c.in_err-version.ensures c.args.v.now (c.parse-version.ensures.ok, c.parse-version.ensures.refused)))
+returns-in_err-version c = told_err _ _ _ c.from_residual.ensures.1 (told_fault (IsVersionOf c.args.v.now) _ _ (c.in_err-version.ensures c.args.v.now (c.parse-version.ensures.ok, c.parse-version.ensures.refused)))
 
 pub returns-in_err-other : goal.returns-in_err-other
 returns-in_err-other c =
-    let p = err_from_is_err_and c.from_residual-in_err-other.result c.from_residual-in_err-other.ensures.1 in
     let first = c.in_ok-version.ensures c.args.v.now (c.parse-version.ensures.ok, c.parse-version.ensures.refused) in
-    rw (p.1, p.2) (told_second (IsVersionOf c.args.v.now) (IsVersionOf c.args.w.now) _ _ _ first (c.in_err-other.ensures c.args.w.now (c.parse-other.ensures.ok, c.parse-other.ensures.refused)))
+    told_err _ _ _ c.from_residual-in_err-other.ensures.1 (told_second (IsVersionOf c.args.v.now) (IsVersionOf c.args.w.now) _ _ _ first (c.in_err-other.ensures c.args.w.now (c.parse-other.ensures.ok, c.parse-other.ensures.refused)))
 
 pub returns : goal.returns
 returns c =
     let first = c.in_ok-version.ensures c.args.v.now (c.parse-version.ensures.ok, c.parse-version.ensures.refused) in
     let second = c.in_ok-other.ensures c.args.w.now (c.parse-other.ensures.ok, c.parse-other.ensures.refused) in
-    both_read _ _ first second c.in_ok-reply.ensures
+    read _ first (read _ second c.in_ok-reply.ensures)

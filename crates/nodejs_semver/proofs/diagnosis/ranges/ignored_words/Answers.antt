@@ -1,4 +1,4 @@
-use Rattle.std.proofs.Common.{◌≡◌, ◌∙◌, ◌-◌, ℕ, ap, arith, false, length}
+use Rattle.std.proofs.Common.{◌≡◌, arith, false}
 use Rattle.semver_core.specs.declared.TheConstants.{MAX_SAFE_INTEGER}
 use Rattle.nodejs_semver.specs.Internal.Ignored.{all_ignored, left_list}
 use Rattle.nodejs_semver.specs.Internal.Parts.{cut_bars}
@@ -6,9 +6,7 @@ use Rattle.nodejs_semver.proofs.Diagnosing.IgnoredLaw.{are_ignored, none_ignored
 use Rattle.nodejs_semver.proofs.diagnosis.ranges.ignored_words.Goals as goal
 
 computed : (c : goal.After-before_words) → left_list c.before_words.result ≡ all_ignored MAX_SAFE_INTEGER 0 (cut_bars false c.args.text.now)
-computed c =
-    let none : length c.args.text.now - length c.args.text.now ≡ 0 = omega arith in
-    c.before_words.ensures.same ∙ ap (λ (n : ℕ). all_ignored MAX_SAFE_INTEGER n (cut_bars false c.args.text.now)) none
+computed c = grind arith
 
 pub returns-clause-words : goal.returns-clause-words
 returns-clause-words c = are_ignored MAX_SAFE_INTEGER c.args.text.now (left_list c.before_words.result) c.utf8.text (computed c)

@@ -1,7 +1,5 @@
 use Rattle.std.proofs.Common.{arith, refl}
 use Rattle.semver_core.specs.declared.TheConstants.{MAX_SAFE_INTEGER}
-use Rattle.nodejs_semver.specs.Internal.Ignored.{ignored_behind}
-use Rattle.nodejs_semver.specs.Internal.Readings.{rest_view}
 use Rattle.semver_core.specs.Internal.Spaces.{drop_spaces}
 use Rattle.nodejs_semver.proofs.Diagnosing.IgnoredParts.{rest-sizes, word_read}
 use Rattle.nodejs_semver.proofs.diagnosis.ranges.read_word.Goals as goal
@@ -22,10 +20,7 @@ invariant_of-rest c =
     record { starts = sizes.2; part_fits = omega (arith, sizes.0, sizes.1, c.args.left.part_fits); behind_fits = c.args.left.behind_fits }
 
 pub returns-clause-same : goal.returns-clause-same
-returns-clause-same c =
-    let front = c.ignored_front-kind in
-    word_read MAX_SAFE_INTEGER c.args.left.part_end c.args.left.part.now front.result.1.now c.skip_spaces.result.now front.result.0 c.if_ignored-word.result
-    (ignored_behind MAX_SAFE_INTEGER c.args.left.end (rest_view c.args.left.behind)) c.requires c.args.left.starts front.ensures c.skip_spaces.ensures c.if_ignored-word.ensures
+returns-clause-same c = grind (arith, word_read)
 
 pub returns-clause-less : goal.returns-clause-less
 returns-clause-less c =

@@ -1,8 +1,9 @@
 use Rattle.std.proofs.Common.{List, true, false, subst}
+use Rattle.nodejs_semver.specs.Internal.Sets.{option_accepts}
 use Rattle.semver_core.specs.Cuts.{Span}
 use Rattle.semver_core.specs.Values.Versions.{VersionValue}
 use Rattle.semver_core.specs.declared.TheConstants.{MAX_SAFE_INTEGER}
-use Rattle.nodejs_semver.specs.Ranges.Gate.{accepts, option_accepts}
+use Rattle.nodejs_semver.specs.Ranges.Gate.{accepts}
 use Rattle.nodejs_semver.specs.Ranges.Least.{IsLeastOf}
 use Rattle.nodejs_semver.proofs.Dividing.MeaningLaw.{means_some, same_meaning}
 use Rattle.nodejs_semver.proofs.Sets.{both_written, first_written}

@@ -1,11 +1,8 @@
-use Rattle.nodejs_semver.proofs.Choice.BestOf.{max_beats}
+use Rattle.nodejs_semver.proofs.Choice.BestOf.{max_says}
 use Rattle.nodejs_semver.proofs.range.RangeRef.max_satisfying.Goals as goal
 
-pub returns-clause-best : goal.returns-clause-best
-returns-clause-best c = rw c.intervals.ensures.value at c.greatest.ensures.best
-
-pub returns-clause-accepted : goal.returns-clause-accepted
-returns-clause-accepted c = rw c.intervals.ensures.value at c.greatest.ensures.accepted
-
-pub returns-clause-greatest : goal.returns-clause-greatest
-returns-clause-greatest c = max_beats _ c.args.versions.now c.greatest.result (returns-clause-best c)
+pub returns : goal.returns
+returns c =
+    let best = rw c.intervals.ensures.value at c.greatest.ensures in
+    let (member, accepted, greatest, none) = max_says _ c.args.versions.now c.greatest.result best in
+    record { best = best; member = member; accepted = accepted; greatest = greatest; none = none }

@@ -1,16 +1,19 @@
-use Rattle.std.proofs.Common.{◌≡◌, Bool, false, rules, tests, sym, subst, option_copied}
-use Rattle.std.proofs.lemmas.Iterator.{YieldsList-from_slice}
-use Rattle.std.proofs.lemmas.Iterator.Consumers.{YieldsList-from_filter, reduce_by_from_yields_List}
-use Rattle.std.specs.List.{filter, reduce}
-use Rattle.nodejs_semver.specs.Internal.AnyVersions.{accepts}
-use Rattle.nodejs_semver.specs.Ranges.Best.{IsBest}
-use Rattle.nodejs_semver.proofs.Choice.BestOf.{lesser, lesser_now, min_is}
+use Rattle.std.proofs.Common.{◌≤◌, length, refl, arith, option_copied}
+use Rattle.std.proofs.lemmas.List.{take_all}
+use Rattle.nodejs_semver.proofs.Choice.BestOf.{one_further}
 use Rattle.nodejs_semver.proofs.range.best.least.Goals as goal
+use Rattle.nodejs_semver.proofs.range.best.least.Goals.{then-is_new_min, else-is_new_min}
 
-pub returns-clause-best : goal.returns-clause-best
-returns-clause-best g c =
-    let set : _ → Bool = λ v. accepts g.V.Ord.cmp g.V.Versioned.value c.args.intervals.now v false in
-    let found : option_copied c.min.result ≡ reduce (lesser g.V.Ord.cmp) (filter set c.args.versions.now) =
-    reduce_by_from_yields_List _ (lesser g.V.Ord.cmp) _ _ (lesser_now g.V.Ord.cmp) c.min.ensures.ran
-    (YieldsList-from_filter _ set (YieldsList-from_slice c.args.versions.now cc) c.filter.ensures.closure (λ x r q k. search (rules, tests))) in
-    subst (IsBest _ _ set c.args.versions.now) (sym found) (min_is g.met.V.Ord.total set c.args.versions.now)
+pub loop-version-preserved : goal.loop-version-preserved
+loop-version-preserved g c =
+    let more = c.is_new_min.ensures _ c.loop-version.invariant in
+    one_further _ _ _ c.args.versions.now c.loop-version.version-index c.version-item.result c.is_new_min.result (option_copied c.loop-version.best) (option_copied c.if-is_new_min.best) c.loop-version-test.true c.version-item.is more
+    (elim c.if-is_new_min.branch [
+      | then-is_new_min w ↦ rw (w.best-is, w.if-is_new_min.true) refl
+      | else-is_new_min w ↦ rw (w.best-is, w.if-is_new_min.false) refl
+    ])
+
+pub returns : goal.returns
+returns g c =
+    let all : length c.args.versions.now ≤ c.loop-version.version-index = omega arith in
+    rw (take_all c.loop-version.version-index c.args.versions.now all) at c.loop-version.invariant

@@ -1,5 +1,5 @@
+use Rattle.nodejs_semver.specs.Internal.Sets.{minus}
 use Rattle.std.proofs.Common.{◌≡◌, take}
-use Rattle.nodejs_semver.specs.Ranges.Algebra.{minus}
 use Rattle.nodejs_semver.proofs.range.lists.complement_of_few.Given as goal
 
 abbrev pub invariant-loop-interval : goal.invariant-loop-interval

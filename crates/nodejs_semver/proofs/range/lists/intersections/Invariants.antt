@@ -1,5 +1,5 @@
+use Rattle.nodejs_semver.specs.Internal.Sets.{meets_of}
 use Rattle.std.proofs.Common.{◌≡◌, take}
-use Rattle.nodejs_semver.specs.Ranges.Algebra.{meets_of}
 use Rattle.nodejs_semver.proofs.range.lists.intersections.Given as goal
 
 abbrev pub invariant-loop-interval : goal.invariant-loop-interval

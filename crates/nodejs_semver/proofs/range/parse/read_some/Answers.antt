@@ -8,17 +8,17 @@ use Rattle.nodejs_semver.proofs.Dividing.WrittenLaw.{accepted_written}
 use Rattle.nodejs_semver.proofs.range.parse.read_some.Goals as goal
 
 pub returns-clause-range : goal.returns-clause-range
-returns-clause-range c =
-    let some : 0 < length c.read.new.found.items = grind arith in
-    denoted_range MAX_SAFE_INTEGER c.args.text.now c.read.new.found.items c.in_ok-read.ensures some
+returns-clause-range g c =
+    let some : 0 < length (g.S.Found.items c.read.new.found) = grind arith in
+    denoted_range MAX_SAFE_INTEGER c.args.text.now (g.S.Found.items c.read.new.found) c.in_ok-read.ensures some
 
 pub returns-clause-ok : goal.returns-clause-ok
-returns-clause-ok c = meant MAX_SAFE_INTEGER c.args.text.now c.read.new.found.items c.utf8.text c.in_ok-read.ensures
+returns-clause-ok g c = meant MAX_SAFE_INTEGER c.args.text.now (g.S.Found.items c.read.new.found) c.utf8.text c.in_ok-read.ensures
 
 pub returns-clause-set : goal.returns-clause-set
-returns-clause-set c = accepted_written MAX_SAFE_INTEGER c.args.text.now c.read.new.found.items c.utf8.text c.in_ok-read.ensures
+returns-clause-set g c = accepted_written MAX_SAFE_INTEGER c.args.text.now (g.S.Found.items c.read.new.found) c.utf8.text c.in_ok-read.ensures
 
 pub returns-then-is_empty-clause-refused : goal.returns-then-is_empty-clause-refused
-returns-then-is_empty-clause-refused c =
+returns-then-is_empty-clause-refused g c =
     let none : denotes MAX_SAFE_INTEGER c.args.text.now ≡ [] = grind (arith, common_steps) in
     meant MAX_SAFE_INTEGER c.args.text.now [] c.utf8.text (sym none)

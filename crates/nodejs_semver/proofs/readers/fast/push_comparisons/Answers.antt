@@ -11,10 +11,10 @@ use Rattle.nodejs_semver.proofs.Everyday.Bounds.{none-second, passed-second}
 use Rattle.nodejs_semver.proofs.readers.fast.push_comparisons.Goals as goal
 
 pub returns-in_default-comparison : goal.returns-in_default-comparison
-returns-in_default-comparison c =
+returns-in_default-comparison g c =
     let rest = c.in-Some.rest.now in
     let second : begins_second rest ≡ true = search rules in
-    ap (λ (o : Front (Span VersionValue)). passed c.args.found.now.items o)
+    ap (λ (o : Front (Span VersionValue)). passed (g.S.Found.items c.args.found.now) o)
     (sym (none-second MAX_SAFE_INTEGER c.args.text.now (bounds_view c.in-Some.first) rest
     (sym (ap bounds_front_view c.in-Some.is) ∙ c.comparison.ensures)
     second
@@ -22,11 +22,11 @@ returns-in_default-comparison c =
     ∙ (sym c.comparison-2.ensures ∙ ap bounds_front_view c.in_default-comparison.is))))
 
 pub returns : goal.returns
-returns c =
+returns g c =
     let rest = c.in-Some.rest.now in
     let second : begins_second rest ≡ true = search rules in
     passed-second MAX_SAFE_INTEGER c.args.text.now (bounds_view c.in-Some.first) (bounds_view c.in-Some-comparison.second) rest c.in-Some-comparison.rest.now
-    c.in_ok-there-2.there c.args.found.now.items c.push_both.new.found.items (rest_view c.behind_part-2.result)
+    c.in_ok-there-2.there (g.S.Found.items c.args.found.now) (g.S.Found.items c.push_both.new.found) (rest_view c.behind_part-2.result)
     (sym (ap bounds_front_view c.in-Some.is) ∙ c.comparison.ensures)
     second
     (sym (ap bounds_front_view c.in-Some-comparison.is)

@@ -5,32 +5,32 @@ use Rattle.nodejs_semver.proofs.Everyday.Loop.{loop-ends, loop-goes, loop-no_bar
 use Rattle.nodejs_semver.proofs.readers.fast.read_common.Goals as goal
 
 pub parts-init : goal.parts-init
-parts-init c = loop-starts MAX_SAFE_INTEGER c.args.text.now c.args.text.now c.args.found.now.items refl c.requires
+parts-init g c = loop-starts MAX_SAFE_INTEGER c.args.text.now c.args.text.now (g.S.Found.items c.args.found.now) refl c.requires
 
 pub returns-in_default-clause-none : goal.returns-in_default-clause-none
-returns-in_default-clause-none c = λ _.
-    loop-no_part MAX_SAFE_INTEGER c.args.text.now c.parts.found.items c.push_part.new.found.items c.parts.rest.now (rest_view c.in_ok-behind.field-0)
+returns-in_default-clause-none g c = λ _.
+    loop-no_part MAX_SAFE_INTEGER c.args.text.now (g.S.Found.items c.parts.found) (g.S.Found.items c.push_part.new.found) c.parts.rest.now (rest_view c.in_ok-behind.field-0)
     c.in_ok-behind.ensures (ap rest_view c.in_default.is) c.parts.invariant
 
 pub returns-then-is_empty-clause-some : goal.returns-then-is_empty-clause-some
-returns-then-is_empty-clause-some c = λ _.
-    loop-ends MAX_SAFE_INTEGER c.args.text.now c.parts.found.items c.push_part.new.found.items c.parts.rest.now c.in-Some.behind.now
+returns-then-is_empty-clause-some g c = λ _.
+    loop-ends MAX_SAFE_INTEGER c.args.text.now (g.S.Found.items c.parts.found) (g.S.Found.items c.push_part.new.found) c.parts.rest.now c.in-Some.behind.now
     (record { after = rest_view c.in_ok-behind.field-0; added = c.in_ok-behind.ensures; there = ap rest_view c.in-Some.is }) (grind arith) c.parts.invariant
 
 pub returns-in_default-after_bars-clause-none : goal.returns-in_default-after_bars-clause-none
-returns-in_default-after_bars-clause-none c = λ _.
-    loop-no_bars MAX_SAFE_INTEGER c.args.text.now c.parts.found.items c.push_part.new.found.items c.parts.rest.now c.in-Some.behind.now
+returns-in_default-after_bars-clause-none g c = λ _.
+    loop-no_bars MAX_SAFE_INTEGER c.args.text.now (g.S.Found.items c.parts.found) (g.S.Found.items c.push_part.new.found) c.parts.rest.now c.in-Some.behind.now
     (record { after = rest_view c.in_ok-behind.field-0; added = c.in_ok-behind.ensures; there = ap rest_view c.in-Some.is })
     (grind arith) (sym c.after_bars.ensures ∙ ap rest_view c.in_default-after_bars.is) c.parts.invariant
 
 pub parts-smaller : goal.parts-smaller
-parts-smaller c =
-    loop-shorter MAX_SAFE_INTEGER c.parts.found.items c.push_part.new.found.items c.parts.rest.now c.in-Some.behind.now c.in-Some-after_bars.next.now
+parts-smaller g c =
+    loop-shorter MAX_SAFE_INTEGER (g.S.Found.items c.parts.found) (g.S.Found.items c.push_part.new.found) c.parts.rest.now c.in-Some.behind.now c.in-Some-after_bars.next.now
     (record { after = rest_view c.in_ok-behind.field-0; added = c.in_ok-behind.ensures; there = ap rest_view c.in-Some.is })
     (sym c.after_bars.ensures ∙ ap rest_view c.in-Some-after_bars.is)
 
 pub parts-preserved : goal.parts-preserved
-parts-preserved c = rw c.reserve_for.ensures
-    (loop-goes MAX_SAFE_INTEGER c.args.text.now c.parts.found.items c.push_part.new.found.items c.parts.rest.now c.in-Some.behind.now c.in-Some-after_bars.next.now
+parts-preserved g c = rw c.reserve_for.ensures
+    (loop-goes MAX_SAFE_INTEGER c.args.text.now (g.S.Found.items c.parts.found) (g.S.Found.items c.push_part.new.found) c.parts.rest.now c.in-Some.behind.now c.in-Some-after_bars.next.now
     (record { after = rest_view c.in_ok-behind.field-0; added = c.in_ok-behind.ensures; there = ap rest_view c.in-Some.is })
     (grind arith) (sym c.after_bars.ensures ∙ ap rest_view c.in-Some-after_bars.is) c.parts.invariant)

@@ -5,7 +5,7 @@ use Rattle.nodejs_semver.proofs.readers.fast.read_common.Given as goal
 
 -- what was found, and what is read in the rest of the text, is what is read in the text
 abbrev pub invariant-parts : goal.invariant-parts
-invariant-parts l = Reaches MAX_SAFE_INTEGER l.text l.found.items l.rest
+invariant-parts g l = Reaches MAX_SAFE_INTEGER l.text (g.S.Found.items l.found) l.rest
 
 abbrev pub decreases-parts : goal.decreases-parts
-decreases-parts l = length l.rest
+decreases-parts g l = length l.rest

@@ -1,6 +1,5 @@
-use Rattle.std.proofs.Common.{Bool, List, ℕ, ap, ◌∙◌}
+use Rattle.std.proofs.Common.{Bool, List, ℕ, ap, arith}
 use Rattle.semver_core.specs.Cuts.{Span}
-use Rattle.semver_core.specs.Internal.Spaces.{drop_spaces}
 use Rattle.semver_core.specs.Values.Versions.{VersionValue}
 use Rattle.nodejs_semver.proofs.readers.intervals.push_next.Goals as goal
 
@@ -8,8 +7,7 @@ pub returns-clause-there : goal.returns-clause-there
 returns-clause-there c = ap (λ (x : (Bool × List ℕ) × List (Span VersionValue)). x.0.0) c.in_ok-there.ensures
 
 pub returns-clause-rest : goal.returns-clause-rest
-returns-clause-rest c =
-    c.skip_spaces.ensures ∙ ap (λ (x : (Bool × List ℕ) × List (Span VersionValue)). drop_spaces x.0.1) c.in_ok-there.ensures
+returns-clause-rest c = grind arith
 
 pub returns-clause-found : goal.returns-clause-found
 returns-clause-found c = ap (λ (x : (Bool × List ℕ) × List (Span VersionValue)). x.1) c.in_ok-there.ensures

@@ -8,14 +8,16 @@ use Rattle.nodejs_semver.specs.Internal.CommonFronts.{pushed}
 use Rattle.nodejs_semver.specs.Internal.Readings.{hyphen_pushed_view, partial_front_view, partial_view, sign_pair_view, sign_view, word_pushed_view}
 use Rattle.nodejs_semver.specs.Internal.Words.{signed_word, upper_of, from_boundary, is_boundary, word_at}
 use Rattle.nodejs_semver.specs.Text.Table.{table}
-use Rattle.nodejs_semver.proofs.Reading.SignLaw.{no_hyphen, pushed_hyphen, pushed_malformed, pushed_word, word_cut, word_none, word_signed}
+use Rattle.nodejs_semver.proofs.Reading.SignLaw.{no_hyphen, pushed_hyphen, pushed_malformed, pushed_word, word-as}
 use Rattle.nodejs_semver.proofs.readers.intervals.push_word.Goals as goal
+use Rattle.nodejs_semver.specs.Text.WordText.{malformed}
 
 pub returns-in_default : goal.returns-in_default
 returns-in_default c =
     let text = c.args.text.now in
-    let word = word_none MAX_SAFE_INTEGER text (sign_pair_view c.sign_front-sign.result) (partial_front_view c.partial_front.result)
-    c.sign_front-sign.ensures c.partial_front.ensures (ap partial_front_view c.in_default.is) in
+    let word : word_at MAX_SAFE_INTEGER text ≡ (malformed, from_boundary text) =
+    word-as MAX_SAFE_INTEGER text (sign_pair_view c.sign_front-sign.result) (partial_front_view c.partial_front.result)
+    c.sign_front-sign.ensures c.partial_front.ensures ∙ rw (ap partial_front_view c.in_default.is) refl in
     pushed_malformed MAX_SAFE_INTEGER c.args.found.now.items (word_at MAX_SAFE_INTEGER text) c.skip_to_boundary.result.now (from_boundary text) word c.skip_to_boundary.ensures
 
 pub returns-in-Some-2 : goal.returns-in-Some-2
@@ -32,8 +34,9 @@ returns-then-not-is_boundary c =
     let none = no_hyphen MAX_SAFE_INTEGER (partial_view c.in-Some.partial) upper c.args.found.now.items c.push_upper.new.found.items
     (sym (ap (λ (o : Option (Bool × Bor (List ℕ))). hyphen_pushed_view o c.push_upper.new.found.items) c.in_default-2.is) ∙ c.in_ok-read.ensures) in
     let goes : is_boundary c.in-Some.rest.now ≡ false = search rules in
-    let word = word_cut MAX_SAFE_INTEGER text (sign_pair_view c.sign_front-sign.result) (partial_front_view c.partial_front.result) (partial_view c.in-Some.partial) c.in-Some.rest.now upper
-    c.sign_front-sign.ensures c.partial_front.ensures (ap partial_front_view c.in-Some.is) refl none.0 goes in
+    let word : word_at MAX_SAFE_INTEGER text ≡ (malformed, from_boundary text) =
+    word-as MAX_SAFE_INTEGER text (sign_pair_view c.sign_front-sign.result) (partial_front_view c.partial_front.result)
+    c.sign_front-sign.ensures c.partial_front.ensures ∙ rw (ap partial_front_view c.in-Some.is, none.0, goes) refl in
     ap (λ (l : List (Span VersionValue)). word_pushed_view (false, c.skip_to_boundary-then-not-is_boundary.result) l) none.1
     ∙ pushed_malformed MAX_SAFE_INTEGER c.args.found.now.items (word_at MAX_SAFE_INTEGER text) c.skip_to_boundary-then-not-is_boundary.result.now (from_boundary text) word
     c.skip_to_boundary-then-not-is_boundary.ensures
@@ -47,8 +50,9 @@ returns c =
     let none = no_hyphen MAX_SAFE_INTEGER partial upper c.args.found.now.items c.push_upper.new.found.items
     (sym (ap (λ (o : Option (Bool × Bor (List ℕ))). hyphen_pushed_view o c.push_upper.new.found.items) c.in_default-2.is) ∙ c.in_ok-read.ensures) in
     let ends : is_boundary c.in-Some.rest.now ≡ true = search rules in
-    let word = word_signed MAX_SAFE_INTEGER text (sign_pair_view c.sign_front-sign.result) (partial_front_view c.partial_front.result) partial c.in-Some.rest.now upper
-    c.sign_front-sign.ensures c.partial_front.ensures (ap partial_front_view c.in-Some.is) refl none.0 ends in
+    let word : word_at MAX_SAFE_INTEGER text ≡ (signed_word sign partial, c.in-Some.rest.now) =
+    word-as MAX_SAFE_INTEGER text (sign_pair_view c.sign_front-sign.result) (partial_front_view c.partial_front.result)
+    c.sign_front-sign.ensures c.partial_front.ensures ∙ rw (ap partial_front_view c.in-Some.is, none.0, ends) refl in
     pushed_word MAX_SAFE_INTEGER c.args.found.now.items c.push_signed.new.found.items c.in_ok-there.there (signed_word sign partial) (word_at MAX_SAFE_INTEGER text)
     c.in-Some.rest.now word
     (c.in_ok-there.ensures ∙ ap (λ (l : List (Span VersionValue)). pushed l (table MAX_SAFE_INTEGER (signed_word sign partial))) none.1)

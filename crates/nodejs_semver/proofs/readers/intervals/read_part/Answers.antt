@@ -1,20 +1,15 @@
-use Rattle.std.proofs.Common.{◌≡◌, ◌++◌, List, length, sym, ap, ◌∙◌, arith, subst, refl, Some, None}
+use Rattle.std.proofs.Common.{◌≡◌, ◌++◌, List, length, sym, ap, ◌∙◌, arith, subst, Some, None}
 use Rattle.std.specs.Prelude.{OnOk}
 use Rattle.semver_core.specs.Cuts.{Span}
 use Rattle.semver_core.specs.Values.Versions.{VersionValue}
 use Rattle.semver_core.specs.declared.TheConstants.{MAX_SAFE_INTEGER}
 use Rattle.nodejs_semver.specs.Internal.Meets.{next_at}
 use Rattle.nodejs_semver.specs.Internal.Denotes.{part_intervals}
-use Rattle.nodejs_semver.proofs.Dividing.PartSteps.{part-begins, part-first, part-last, part-passes, read-is, read-next, read-shorter, read-starts}
+use Rattle.nodejs_semver.proofs.Dividing.PartSteps.{part-begins, part-last, part-step, read-is, read-next, read-shorter, read-starts}
 use Rattle.nodejs_semver.proofs.readers.intervals.read_part.Goals as goal
 
 pub words-init : goal.words-init
-words-init c = record {
-  same = refl;
-  whole = part-begins MAX_SAFE_INTEGER c.args.part.now;
-  some = c.requires.some;
-  starts = c.requires.starts;
-}
+words-init c = grind (arith, part-begins)
 
 pub returns-then-is_empty : goal.returns-then-is_empty
 returns-then-is_empty c =
@@ -40,7 +35,7 @@ returns-in-Some c =
     let taken = c.taken.ensures c.words.found.items (next_at MAX_SAFE_INTEGER rest).0 c.in_ok-there.ensures.there c.in_ok-there.ensures.found in
     let read = read-is MAX_SAFE_INTEGER rest after (next_at MAX_SAFE_INTEGER rest).0 (Some c.in-Some.first) (sym c.in-Some.is ∙ taken.0)
     (read-next MAX_SAFE_INTEGER rest after c.in_ok-there.ensures.rest) in
-    let first = part-first MAX_SAFE_INTEGER rest after c.in-Some.first c.words.invariant.some c.words.invariant.starts read in
+    let first = part-step MAX_SAFE_INTEGER rest after _ c.words.invariant.some c.words.invariant.starts read in
     subst (λ (l : List (Span VersionValue)). OnOk c.read_words.result (c.read_words.new.found.items ≡ l))
     (ap (λ (l : List (Span VersionValue)). c.taken.new.found.items ++ l) (sym first ∙ c.words.invariant.whole)
     ∙ ap (λ (l : List (Span VersionValue)). l ++ part_intervals MAX_SAFE_INTEGER c.args.part.now) (taken.1 ∙ c.words.invariant.same))
@@ -62,7 +57,7 @@ words-preserved c =
     let read = read-is MAX_SAFE_INTEGER rest after (next_at MAX_SAFE_INTEGER rest).0 None (sym c.in_default.is ∙ taken.0) next in
     record {
       same = taken.1 ∙ c.words.invariant.same;
-      whole = sym (part-passes MAX_SAFE_INTEGER rest after c.words.invariant.some c.words.invariant.starts read) ∙ c.words.invariant.whole;
+      whole = sym (part-step MAX_SAFE_INTEGER rest after None c.words.invariant.some c.words.invariant.starts read) ∙ c.words.invariant.whole;
       some = grind arith;
       starts = read-starts MAX_SAFE_INTEGER rest after (next_at MAX_SAFE_INTEGER rest).0 next;
     }

@@ -2,12 +2,12 @@ use Rattle.std.proofs.Common.{◌≡◌, ◌+◌, ℕ, List, arith, ap, ◌∙�
 use Rattle.std.proofs.lemmas.Result.{IfOk-weaker}
 use Rattle.std.specs.List.{list_all}
 use Rattle.std.specs.Prelude.{flat_map}
+use Rattle.nodejs_semver.specs.Internal.Sets.{is_range_span}
 use Rattle.semver_core.specs.Cuts.{Span}
 use Rattle.semver_core.specs.Values.Versions.{VersionValue}
 use Rattle.semver_core.specs.declared.TheConstants.{MAX_SAFE_INTEGER}
 use Rattle.nodejs_semver.specs.Internal.Parts.{parts}
 use Rattle.nodejs_semver.specs.Internal.Denotes.{denotes, part_denotes}
-use Rattle.nodejs_semver.specs.Ranges.View.{is_range_span}
 use Rattle.nodejs_semver.proofs.Bounds.Table.{all-bounded}
 use Rattle.nodejs_semver.proofs.Dividing.MeaningLaw.{filled_text, meant_none, meant_some}
 use Rattle.nodejs_semver.proofs.readers.loose.range_loose.Goals as goal
@@ -17,9 +17,7 @@ from_intervals-requires c =
     ap (λ (l : List (Span VersionValue)). list_all (is_range_span (MAX_SAFE_INTEGER + 1)) l) (c.in_ok-add_parts.ensures ∙ ap (λ (ps : List (List ℕ)). flat_map (part_denotes MAX_SAFE_INTEGER) ps) c.next_part.ensures.value) ∙ all-bounded MAX_SAFE_INTEGER (parts c.args.text.now)
 
 found-is : (c : goal.After-owned_range) → c.add_parts.new.found.items ≡ denotes MAX_SAFE_INTEGER c.args.text.now
-found-is c =
-    let some = filled_text c.args.text.now c.utf8.text c.requires.some_part in
-    grind (arith, some, c.in_ok-add_parts.ensures, c.next_part.ensures.value)
+found-is c = grind (arith, filled_text)
 
 pub returns-clause-some : goal.returns-clause-some
 returns-clause-some c =
@@ -27,6 +25,4 @@ returns-clause-some c =
     (meant_some MAX_SAFE_INTEGER c.args.text.now c.add_parts.new.found.items c.from_intervals.result c.utf8.text (found-is c) c.from_intervals.ensures)) c.owned_range.ensures
 
 pub returns-clause-none : goal.returns-clause-none
-returns-clause-none c =
-    IfOk-weaker c.owned_range.result (λ r. r ≡ c.from_intervals.result) _ (λ r e. rw e
-    (meant_none MAX_SAFE_INTEGER c.args.text.now c.add_parts.new.found.items c.from_intervals.result c.utf8.text (found-is c) c.from_intervals.ensures)) c.owned_range.ensures
+returns-clause-none c = grind (arith, IfOk-weaker, meant_none)

@@ -1,0 +1,15 @@
+use Rattle.std.proofs.Common.{◌≡◌, ℕ, List, ◌++◌, length}
+use denote.Text.{Utf8}
+use denote.Shadow.{shadow}
+use Rattle.std.specs.Fmt.{HasWrittenStyled, IsFlush}
+use Rattle.semver_core.specs.Printing.Text.{marked_list}
+use Rattle.semver_core.proofs.print.write_list.Given as goal
+
+abbrev pub invariant-ids : goal.invariant-ids
+invariant-ids g l =
+    (text : shadow (Utf8 l.sign))
+    × (IsFlush l.initial.f → (so_far : List ℕ) × HasWrittenStyled g.W.Write.write_str_gives l.initial.f so_far l.f
+    × (so_far ++ marked_list l.sign l.others ≡ marked_list l.initial.sign l.initial.others))
+
+abbrev pub decreases-ids : goal.decreases-ids
+decreases-ids g l = length l.others

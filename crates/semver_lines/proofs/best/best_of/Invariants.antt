@@ -1,0 +1,12 @@
+use Rattle.std.proofs.Common.{◌≡◌, ◌++◌, List, ℕ, length}
+use Rattle.std.specs.Prelude.{IsUtf8}
+use Rattle.semver_lines.specs.Internal.Results.{FindsBest}
+use Rattle.semver_lines.specs.Lines.{fields}
+use Rattle.semver_lines.proofs.best.best_of.Given as goal
+
+-- the best so far is that of the fields so far
+abbrev pub invariant-fields : goal.invariant-fields
+invariant-fields l = IsUtf8 l.rest × ((done : List (List ℕ)) × (fields l.initial.rest ≡ done ++ fields l.rest) × FindsBest l.asked l.range done l.best)
+
+abbrev pub decreases-fields : goal.decreases-fields
+decreases-fields l = length (fields l.rest)
