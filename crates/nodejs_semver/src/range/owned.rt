@@ -56,9 +56,9 @@ pub(crate) fn owned_interval(
     Ok(Interval::of_ordered(lower, upper))
 }
 
-/// The one interval of a range with versions of its own, made in its place.
+// The one interval of a range with versions of its own, made in its place.
 #[inline(always)]
-pub(crate) fn owned_one(
+fn owned_one(
     alloc: Global,
     interval: &Interval<VersionRef<'_>>,
 ) -> Result<Intervals<Version>, AllocError>
@@ -81,9 +81,9 @@ pub(crate) fn owned_intervals(
     }
 }
 
-/// The same of any number of intervals.
+// The same of any number of intervals.
 #[inline(always)]
-pub(crate) fn owned_list(
+fn owned_list(
     alloc: Global,
     intervals: &[Interval<VersionRef<'_>>],
 ) -> Result<Intervals<Version>, AllocError>
