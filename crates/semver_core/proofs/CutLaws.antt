@@ -17,7 +17,8 @@ use Rattle.semver_core.specs.declared.cuts.bound.Bound.{Bound}
 use Rattle.semver_core.specs.declared.cuts.bound.Bound.TheVariants.{Unbounded, Before, After}
 
 -- what the tests of an answer say together
-pub tells : (r : Ordering) → (is_le r ≡ not (is_gt r)) × ((is_gt (ordering_reverse r) ≡ is_lt r) × (is_lt (ordering_reverse r) ≡ is_gt r))
+pub tells : (r : Ordering) → (is_le r ≡ not (is_gt r))
+    × ((is_gt (ordering_reverse r) ≡ is_lt r) × (is_lt (ordering_reverse r) ≡ is_gt r))
 tells Less = (refl, (refl, refl))
 tells Equal = (refl, (refl, refl))
 tells Greater = (refl, (refl, refl))
@@ -94,19 +95,22 @@ module _ {V : Type 0} {R : V → V → Ordering} (o : IsTotalOrder R) where
   irreflexive a = ap is_lt (tied_itself cut_total a)
 
   -- the bound that is picked against any cut
-  pub greater_below : (b c : Bound V) (x : Cut V) → lt (lower_cut (greater_lower R b c)) x ≡ (lt (lower_cut b) x && lt (lower_cut c) x)
+  pub greater_below : (b c : Bound V) (x : Cut V)
+      → lt (lower_cut (greater_lower R b c)) x ≡ (lt (lower_cut b) x && lt (lower_cut c) x)
   greater_below b c x = elim (cases_Bool (is_gt (cut_cmp R (lower_cut b) (lower_cut c)))) [
     | inl h ↦ rw h (grind (arith, gt_lt (lower_cut b) (lower_cut c), lt_trans (lower_cut c) (lower_cut b) x))
     | inr h ↦ rw h (grind (arith, gt_lt (lower_cut b) (lower_cut c), upto_below (lower_cut b) (lower_cut c) x))
   ]
 
-  pub below_greater : (b c : Bound V) (x : Cut V) → lt x (lower_cut (greater_lower R b c)) ≡ (lt x (lower_cut b) || lt x (lower_cut c))
+  pub below_greater : (b c : Bound V) (x : Cut V)
+      → lt x (lower_cut (greater_lower R b c)) ≡ (lt x (lower_cut b) || lt x (lower_cut c))
   below_greater b c x = elim (cases_Bool (is_gt (cut_cmp R (lower_cut b) (lower_cut c)))) [
     | inl h ↦ rw h (grind (arith, gt_lt (lower_cut b) (lower_cut c), lt_trans x (lower_cut c) (lower_cut b)))
     | inr h ↦ rw h (grind (arith, gt_lt (lower_cut b) (lower_cut c), below_upto x (lower_cut b) (lower_cut c)))
   ]
 
-  pub below_lesser : (b c : Bound V) (x : Cut V) → lt x (upper_cut (lesser_upper R b c)) ≡ (lt x (upper_cut b) && lt x (upper_cut c))
+  pub below_lesser : (b c : Bound V) (x : Cut V)
+      → lt x (upper_cut (lesser_upper R b c)) ≡ (lt x (upper_cut b) && lt x (upper_cut c))
   below_lesser b c x = elim (cases_Bool (is_gt (cut_cmp R (upper_cut b) (upper_cut c)))) [
     | inl h ↦ rw h (grind (arith, gt_lt (upper_cut b) (upper_cut c), lt_trans x (upper_cut c) (upper_cut b)))
     | inr h ↦ rw h (grind (arith, gt_lt (upper_cut b) (upper_cut c), below_upto x (upper_cut b) (upper_cut c)))
@@ -114,14 +118,17 @@ module _ {V : Type 0} {R : V → V → Ordering} (o : IsTotalOrder R) where
 
   -- the greater of two lower bounds and the lesser of two upper ones are in order where all four are
   pub between : (b c d e : Bound V) → lt (lower_cut (greater_lower R b c)) (upper_cut (lesser_upper R d e))
-      ≡ ((lt (lower_cut b) (upper_cut d) && lt (lower_cut b) (upper_cut e)) && (lt (lower_cut c) (upper_cut d) && lt (lower_cut c) (upper_cut e)))
+      ≡ ((lt (lower_cut b) (upper_cut d) && lt (lower_cut b) (upper_cut e))
+      && (lt (lower_cut c) (upper_cut d) && lt (lower_cut c) (upper_cut e)))
   between b c d e = rw (greater_below b c, below_lesser d e, below_lesser d e) refl
 
   pub between_parts : (b c d e : Bound V) → lt (lower_cut (greater_lower R b c)) (upper_cut (lesser_upper R d e)) ≡ true
-      → ((lt (lower_cut b) (upper_cut d) ≡ true) × (lt (lower_cut b) (upper_cut e) ≡ true)) × ((lt (lower_cut c) (upper_cut d) ≡ true) × (lt (lower_cut c) (upper_cut e) ≡ true))
+      → ((lt (lower_cut b) (upper_cut d) ≡ true) × (lt (lower_cut b) (upper_cut e) ≡ true))
+      × ((lt (lower_cut c) (upper_cut d) ≡ true) × (lt (lower_cut c) (upper_cut e) ≡ true))
   between_parts b c d e h = let (p, q) = and_parts _ _ (sym (between b c d e) ∙ h) in (and_parts _ _ p, and_parts _ _ q)
 
-  pub between_from : (b c d e : Bound V) → lt (lower_cut b) (upper_cut d) ≡ true → lt (lower_cut b) (upper_cut e) ≡ true → lt (lower_cut c) (upper_cut d) ≡ true → lt (lower_cut c) (upper_cut e) ≡ true
+  pub between_from : (b c d e : Bound V) → lt (lower_cut b) (upper_cut d) ≡ true → lt (lower_cut b) (upper_cut e) ≡ true
+      → lt (lower_cut c) (upper_cut d) ≡ true → lt (lower_cut c) (upper_cut e) ≡ true
       → lt (lower_cut (greater_lower R b c)) (upper_cut (lesser_upper R d e)) ≡ true
   between_from b c d e h k m n = between b c d e ∙ rw (h, k, m, n) refl
 
@@ -150,12 +157,13 @@ module _ {V : Type 0} {R : V → V → Ordering} (o : IsTotalOrder R) where
 
   -- and an interval is clipped to what it meets
   pub clip-meets : (s t : Span V) → is_some (clip R s t) ≡ is_some (meet R s t)
-  clip-meets s t =
-      is_some-interval _ ∙ between t.lower s.lower s.upper t.upper ∙ sym (is_some-interval _ ∙ between s.lower t.lower s.upper t.upper ∙ and_comm (lt (lower_cut s.lower) (upper_cut s.upper) && lt (lower_cut s.lower) (upper_cut t.upper)) _)
+  clip-meets s t = is_some-interval _ ∙ between t.lower s.lower s.upper t.upper
+      ∙ sym (is_some-interval _ ∙ between s.lower t.lower s.upper t.upper
+      ∙ and_comm (lt (lower_cut s.lower) (upper_cut s.upper) && lt (lower_cut s.lower) (upper_cut t.upper)) _)
 
   -- where it meets, its bounds are in order
-  pub clip-ordered : (s t : Span V) (b c : Bound V) → is_some (meet R s t) ≡ true → b ≡ greater_lower R t.lower s.lower → c ≡ lesser_upper R s.upper t.upper
-      → is_interval R (record { lower = b; upper = c }) ≡ true
+  pub clip-ordered : (s t : Span V) (b c : Bound V) → is_some (meet R s t) ≡ true → b ≡ greater_lower R t.lower s.lower
+      → c ≡ lesser_upper R s.upper t.upper → is_interval R (record { lower = b; upper = c }) ≡ true
   clip-ordered s t b c h e f = rw (e, f) (sym (is_some-interval _) ∙ clip-meets s t ∙ h)
 
   -- ---- points
@@ -173,10 +181,12 @@ module _ {V : Type 0} {R : V → V → Ordering} (o : IsTotalOrder R) where
   past_below c d v h k = upto_below c (Beside v Near) d (grind (arith, past_lt c v)) (grind (arith, past_lt d v))
 
   pub is_past-greater_lower : (b c : Bound V) (v : V) → is_past R (lower_cut (greater_lower R b c)) v ≡ (is_past R (lower_cut b) v && is_past R (lower_cut c) v)
-  is_past-greater_lower b c v = past_lt _ v ∙ rw (below_greater b c (Beside v Near), past_lt (lower_cut b) v, past_lt (lower_cut c) v) (grind arith)
+  is_past-greater_lower b c v =
+      past_lt _ v ∙ rw (below_greater b c (Beside v Near), past_lt (lower_cut b) v, past_lt (lower_cut c) v) (grind arith)
 
   pub is_past-lesser_upper : (b c : Bound V) (v : V) → is_past R (upper_cut (lesser_upper R b c)) v ≡ (is_past R (upper_cut b) v || is_past R (upper_cut c) v)
-  is_past-lesser_upper b c v = past_lt _ v ∙ rw (below_lesser b c (Beside v Near), past_lt (upper_cut b) v, past_lt (upper_cut c) v) (grind arith)
+  is_past-lesser_upper b c v =
+      past_lt _ v ∙ rw (below_lesser b c (Beside v Near), past_lt (upper_cut b) v, past_lt (upper_cut c) v) (grind arith)
 
   -- a span holds nothing where it is no interval
   pub option_holds-interval : (s : Span V) (v : V) → option_holds R (interval R s) v ≡ holds R s v
@@ -186,12 +196,12 @@ module _ {V : Type 0} {R : V → V → Ordering} (o : IsTotalOrder R) where
 
   -- what two spans have in common is the points of both, with the bounds of either
   pub option_holds-meet : (s t : Span V) (v : V) → option_holds R (meet R s t) v ≡ (holds R s v && holds R t v)
-  option_holds-meet s t v =
-      option_holds-interval _ v ∙ rw (is_past-greater_lower s.lower t.lower v, is_past-lesser_upper s.upper t.upper v) (grind arith)
+  option_holds-meet s t v = option_holds-interval _ v
+      ∙ rw (is_past-greater_lower s.lower t.lower v, is_past-lesser_upper s.upper t.upper v) (grind arith)
 
   pub option_holds-clip : (s t : Span V) (v : V) → option_holds R (clip R s t) v ≡ (holds R s v && holds R t v)
-  option_holds-clip s t v =
-      option_holds-interval _ v ∙ rw (is_past-greater_lower t.lower s.lower v, is_past-lesser_upper s.upper t.upper v) (grind arith)
+  option_holds-clip s t v = option_holds-interval _ v
+      ∙ rw (is_past-greater_lower t.lower s.lower v, is_past-lesser_upper s.upper t.upper v) (grind arith)
 
   -- what is left below is past the lower cut of the first, and not past that of the second; and what is left above
   option_holds-left_below : (s t : Span V) (v : V) → option_holds R (left_below R s t) v ≡ (is_past R (lower_cut s.lower) v && not (is_past R (lower_cut t.lower) v))
@@ -208,18 +218,25 @@ module _ {V : Type 0} {R : V → V → Ordering} (o : IsTotalOrder R) where
       (λ h. rw (turned_upper t.upper (upper_cut s.upper) h) refl)
       (λ h. grind (arith, is_past-down (upper_cut s.upper) (upper_cut t.upper) v))
 
-  two_parts : (a b c d : Bool) → ((b || d) ≡ true → (a && c) ≡ true) → ((a && not c) || (d && not b)) ≡ ((a && not b) && not (c && not d))
+  two_parts : (a b c d : Bool) → ((b || d) ≡ true → (a && c) ≡ true)
+      → ((a && not c) || (d && not b)) ≡ ((a && not b) && not (c && not d))
   two_parts a b c d h = grind arith
+
+  -- the bounds of what two spans have in common
+  abbrev common : Span V → Span V → Span V
+  common s t = record { lower = greater_lower R s.lower t.lower; upper = lesser_upper R s.upper t.upper }
 
   -- what one span leaves of another, by whether they have something in common
   pub remainders_by : (s t : Span V) (P : Option (Span V) × Option (Span V) → Type 0)
-      → (is_interval R (record { lower = greater_lower R s.lower t.lower; upper = lesser_upper R s.upper t.upper }) ≡ true → P (left_below R s t, left_above R s t))
-      → (is_interval R (record { lower = greater_lower R s.lower t.lower; upper = lesser_upper R s.upper t.upper }) ≡ false → P (Some s, None)) → P (remainders R s t)
-  remainders_by s t P f g = cond_both (is_some (meet R s t)) _ _ P (λ h. f (sym (is_some-interval _) ∙ h)) (λ h. g (sym (is_some-interval _) ∙ h))
+      → (is_interval R (common s t) ≡ true → P (left_below R s t, left_above R s t))
+      → (is_interval R (common s t) ≡ false → P (Some s, None)) → P (remainders R s t)
+  remainders_by s t P f g =
+      cond_both (is_some (meet R s t)) _ _ P (λ h. f (sym (is_some-interval _) ∙ h)) (λ h. g (sym (is_some-interval _) ∙ h))
 
   pub remainders-hold : (s t : Span V) (v : V) → (option_holds R (remainders R s t).0 v || option_holds R (remainders R s t).1 v) ≡ (holds R s v && not (holds R t v))
   remainders-hold s t v =
       remainders_by s t (λ r. (option_holds R r.0 v || option_holds R r.1 v) ≡ (holds R s v && not (holds R t v)))
       (λ h. rw (option_holds-left_below s t v, option_holds-left_above s t v)
-      (two_parts _ _ _ _ (λ e. sym (is_past-greater_lower s.lower t.lower v) ∙ is_past-down _ _ v (one_way _ _ h) (is_past-lesser_upper s.upper t.upper v ∙ e))))
-      (λ h. grind (arith, option_holds-meet s t v, option_holds-interval (record { lower = greater_lower R s.lower t.lower; upper = lesser_upper R s.upper t.upper }) v))
+      (two_parts _ _ _ _ (λ e. sym (is_past-greater_lower s.lower t.lower v)
+      ∙ is_past-down _ _ v (one_way _ _ h) (is_past-lesser_upper s.upper t.upper v ∙ e))))
+      (λ h. grind (arith, option_holds-meet s t v, option_holds-interval (common s t) v))

@@ -70,21 +70,23 @@ raise_divided (AlphaNumeric text ∷ front) back n h =
 raise_divided (Numeric k ∷ front) back n h = rw (has_it front back n)
     (ap (λ r. r >>= λ list. Ok (Numeric k ∷ list)) (raise_divided front back n h) ∙ bind_twice (one_more n) (λ m. front ++ Numeric m ∷ back) (λ list. Numeric k ∷ list))
 
-pub list_raised : (front back : List Id) (n : ℕ) → has_numeric back ≡ false → n < 2 ^ 64 - 1 → raise_last (front ++ Numeric n ∷ back) ≡ Ok (front ++ Numeric (n + 1) ∷ back)
-list_raised front back n h lt = let small : (n == 2 ^ 64 - 1) ≡ false = grind (arith, nat_tests) in raise_divided front back n h ∙ rw small refl
+pub list_raised : (front back : List Id) (n : ℕ) → has_numeric back ≡ false → n < 2 ^ 64 - 1
+    → raise_last (front ++ Numeric n ∷ back) ≡ Ok (front ++ Numeric (n + 1) ∷ back)
+list_raised xs ys n h lt = let e : (n == 2 ^ 64 - 1) ≡ false = grind (arith, nat_tests) in raise_divided xs ys n h ∙ rw e refl
 
-pub list_overflows : (front back : List Id) → has_numeric back ≡ false → raise_last (front ++ Numeric (2 ^ 64 - 1) ∷ back) ≡ Err Overflow
-list_overflows front back h = raise_divided front back (2 ^ 64 - 1) h
+pub list_overflows : (xs ys : List Id) → has_numeric ys ≡ false → raise_last (xs ++ Numeric (2 ^ 64 - 1) ∷ ys) ≡ Err Overflow
+list_overflows xs ys h = raise_divided xs ys (2 ^ 64 - 1) h
 
 -- what is kept begins with what the identifier matches, and a number
-pub list_kept : (id : List ℕ) (list : List Id) → IsTrue (is_kept id list) ↔ ((n : ℕ) × (rest : List Id) × (list ≡ asked id ∷ Numeric n ∷ rest))
+pub list_kept : (id : List ℕ) (list : List Id) → IsTrue (is_kept id list)
+    ↔ ((n : ℕ) × (rest : List Id) × (list ≡ asked id ∷ Numeric n ∷ rest))
 list_kept id list = (there list, back)
   where
     there : (list : List Id) → IsTrue (is_kept id list) → (n : ℕ) × (rest : List Id) × (list ≡ asked id ∷ Numeric n ∷ rest)
     there [] h = cc
     there (x ∷ []) h = cc
     there (x ∷ AlphaNumeric text ∷ rest) h = cc
-    there (x ∷ Numeric n ∷ rest) h = (n, rest, ap (λ y. y ∷ Numeric n ∷ rest) (id_same x (asked id) ((Equal-is (id_cmp x (asked id))).0 h)))
+    there (x ∷ Numeric n ∷ rest) h = (n, rest, ap (λ y. y ∷ Numeric n ∷ rest) (id_same x (asked id) ((Equal-is _).0 h)))
 
     back : ((n : ℕ) × (rest : List Id) × (list ≡ asked id ∷ Numeric n ∷ rest)) → IsTrue (is_kept id list)
     back p = rw p.2 (ap is_eq (tied_itself id_total (asked id)))
@@ -94,8 +96,8 @@ set_divided [] back x y = refl
 set_divided (z ∷ front) back x y = ap (λ l. z ∷ l) (set_divided front back x y)
 
 -- the last number rises where it stands
-raise_at : (list : List Id) (i n : ℕ) → IsLastNumber list i n → raise_last list ≡ (one_more n >>= λ m. Ok (set list i (Numeric m)))
-raise_at list i n h = rw (h.divided, h.place) (raise_divided h.front h.back n h.ended ∙ sym (by (one_more n)))
+raise_at : (xs : List Id) (i n : ℕ) → IsLastNumber xs i n → raise_last xs ≡ (one_more n >>= λ m. Ok (set xs i (Numeric m)))
+raise_at xs i n h = rw (h.divided, h.place) (raise_divided h.front h.back n h.ended ∙ sym (by (one_more n)))
   where
     by : (r : Result ℕ Fault) → (r >>= λ m. Ok (set (h.front ++ Numeric n ∷ h.back) (length h.front) (Numeric m))) ≡ (r >>= λ m. Ok (h.front ++ Numeric m ∷ h.back))
     by (Ok m) = ap Ok (set_divided h.front h.back (Numeric n) (Numeric m))
@@ -181,16 +183,20 @@ value_run {E} ds (Err e) h d some = elim (cases_lt (digits_value 10 ds) (2 ^ 64)
 ]
 
 -- an identifier matches the asked one
-pub asked_number : (wanted : List ℕ) (n : ℕ) → list_all is_ascii_digit wanted ≡ true → is_eq (id_cmp (Numeric n) (asked wanted)) ≡ (digits_value 10 wanted == n)
+pub asked_number : (wanted : List ℕ) (n : ℕ) → list_all is_ascii_digit wanted ≡ true
+    → is_eq (id_cmp (Numeric n) (asked wanted)) ≡ (digits_value 10 wanted == n)
 asked_number wanted n d = rw d (grind (arith, nat_tests))
 
-pub asked_other : (wanted : List ℕ) (n : ℕ) → list_all is_ascii_digit wanted ≡ false → is_eq (id_cmp (Numeric n) (asked wanted)) ≡ false
+pub asked_other : (wanted : List ℕ) (n : ℕ) → list_all is_ascii_digit wanted ≡ false
+    → is_eq (id_cmp (Numeric n) (asked wanted)) ≡ false
 asked_other wanted n d = rw d refl
 
-pub asked_text : (wanted text : List ℕ) → list_all is_ascii_digit wanted ≡ false → is_eq (id_cmp (AlphaNumeric text) (asked wanted)) ≡ bytes_eq text wanted
+pub asked_text : (wanted text : List ℕ) → list_all is_ascii_digit wanted ≡ false
+    → is_eq (id_cmp (AlphaNumeric text) (asked wanted)) ≡ bytes_eq text wanted
 asked_text wanted text d = rw d (is_eq-slice_cmp text wanted)
 
-pub asked_digits : (wanted text : List ℕ) → list_all is_ascii_digit wanted ≡ true → is_eq (id_cmp (AlphaNumeric text) (asked wanted)) ≡ false
+pub asked_digits : (wanted text : List ℕ) → list_all is_ascii_digit wanted ≡ true
+    → is_eq (id_cmp (AlphaNumeric text) (asked wanted)) ≡ false
 asked_digits wanted text d = rw d refl
 
 pub ruleset asked_matches = (asked_number, asked_other, asked_text, asked_digits)

@@ -32,7 +32,8 @@ pick P false x y f g = g refl
 by_one : (P : Result VersionValue Fault → Type 0) (n : ℕ) (f : ℕ → Result VersionValue Fault)
     → (n ≡ 2 ^ 64 - 1 → P (Err Overflow)) → ((n ≡ 2 ^ 64 - 1 → ⊥) → P (f (n + 1))) → P (one_more n >>= f)
 by_one P n f none some =
-    pick (λ r. P (r >>= f)) (n == 2 ^ 64 - 1) (Err Overflow) (Ok (n + 1)) (λ h. none (grind (arith, nat_tests))) (λ h. some (grind (arith, nat_tests)))
+    pick (λ r. P (r >>= f)) (n == 2 ^ 64 - 1) (Err Overflow) (Ok (n + 1)) (λ h. none (grind (arith, nat_tests)))
+    (λ h. some (grind (arith, nat_tests)))
 
 none_left : (xs : List Id) → is_empty xs ≡ true → xs ≡ []
 none_left [] h = refl
@@ -82,7 +83,7 @@ least_release These r e k this upto = record {
   least = λ w t. let u = upto w t in upto_patch r w u.1 u.2 u.3 (rw (e, u.0) refl);
 }
 
--- the releases above a version in the same major and minor, those with patch 0 in the same major, and those with minor and patch 0
+-- the releases above a version: in the same major and minor, in the same major with patch 0, and with minor and patch 0
 abbrev pub IsNextPatch : VersionValue → VersionValue → Type 0
 IsNextPatch v w = IsAbove v w × (w.pre_release ≡ []) × (w.major ≡ v.major) × (w.minor ≡ v.minor)
 
@@ -92,13 +93,20 @@ IsNextMinor v w = IsAbove v w × (w.pre_release ≡ []) × (w.major ≡ v.major)
 abbrev pub IsNextMajor : VersionValue → VersionValue → Type 0
 IsNextMajor v w = IsAbove v w × (w.pre_release ≡ []) × (w.minor ≡ 0) × (w.patch ≡ 0)
 
+-- the versions of the next minor, and of the next patch
+abbrev pub IsMinorAbove : VersionValue → VersionValue → Type 0
+IsMinorAbove v w = (w.major ≡ v.major) × (w.minor ≡ v.minor + 1)
+
+abbrev pub IsPatchAbove : VersionValue → VersionValue → Type 0
+IsPatchAbove v w = (w.major ≡ v.major) × (w.minor ≡ v.minor) × (w.patch ≡ v.patch + 1)
+
 module _ (v : VersionValue) (id : List ℕ) (base : IdentifierBase) (k : IsVersion v) where
   is_released : (a b c : ℕ) → a < 2 ^ 64 → b < 2 ^ 64 → c < 2 ^ 64
       → IsVersion (record { major = a; minor = b; patch = c; pre_release = []; build = v.build })
   is_released a b c p q r = record { major = p; minor = q; patch = r; pre_release = All-nil IsId; build = k.build }
 
-  bounds : (w : VersionValue) → IsAbove v w
-      → (v.major ≤ w.major) × (w.major ≡ v.major → v.minor ≤ w.minor) × (w.major ≡ v.major → w.minor ≡ v.minor → v.patch ≤ w.patch)
+  bounds : (w : VersionValue) → IsAbove v w → (v.major ≤ w.major) × (w.major ≡ v.major → v.minor ≤ w.minor)
+      × (w.major ≡ v.major → w.minor ≡ v.minor → v.patch ≤ w.patch)
   bounds w h = upto v w (below_cases v w h)
 
   pub patch_least : IsLeastOrOverflow (IsNextPatch v) (incremented v (codes "patch") id base)
@@ -115,14 +123,12 @@ module _ (v : VersionValue) (id : List ℕ) (base : IdentifierBase) (k : IsVersi
     where
       past : is_release v ≡ true → (w : VersionValue) → IsNextPatch v w → v.patch < w.patch
       past h w t =
-          let le = (bounds w t.0).2 t.2 t.3 in
           let ne = apart v w (none_left v.pre_release h) (below_cases v w t.0) t.2 t.3 in
-          omega (arith, le, ne)
+          omega (arith, (bounds w t.0).2 t.2 t.3, ne)
 
   pub minor_least : IsLeastOrOverflow (IsNextMinor v) (incremented v (codes "minor") id base)
   minor_least = pick (IsLeastOrOverflow (IsNextMinor v)) (v.patch == 0 && not (is_release v)) (Ok (release_of v)) (next_minor v)
-      (λ h.
-      let both = and_parts (v.patch == 0) (not (is_release v)) h in
+      (λ h. let both = and_parts (v.patch == 0) (not (is_release v)) h in
       let zero : v.patch ≡ 0 = grind (arith, nat_tests, both.0) in
       least_release (IsNextMinor v) (release_of v) refl (is_released v.major v.minor v.patch k.major k.minor k.patch)
       (release_up v (some_left v.pre_release both.1), refl, refl, zero)
@@ -137,15 +143,14 @@ module _ (v : VersionValue) (id : List ℕ) (base : IdentifierBase) (k : IsVersi
       past : (v.patch == 0 && not (is_release v)) ≡ false → (w : VersionValue) → IsNextMinor v w → v.minor < w.minor
       past h w t =
           let b = bounds w t.0 in
-          let le = b.1 t.2 in
-          let ne : w.minor ≡ v.minor → ⊥ = λ e.
-          let zero : v.patch ≡ 0 = omega (arith, b.2 t.2 e, t.3) in
-          apart v w (none_kept v.pre_release (none_else v.patch (not (is_release v)) h zero)) (below_cases v w t.0) t.2 e (omega (arith, zero, t.3)) in
-          omega (arith, le, ne)
+          let ne : w.minor ≡ v.minor → ⊥ = λ e. let zero : v.patch ≡ 0 = omega (arith, b.2 t.2 e, t.3) in
+          let none = none_kept v.pre_release (none_else v.patch (not (is_release v)) h zero) in
+          apart v w none (below_cases v w t.0) t.2 e (omega (arith, zero, t.3)) in
+          omega (arith, b.1 t.2, ne)
 
   pub major_least : IsLeastOrOverflow (IsNextMajor v) (incremented v (codes "major") id base)
-  major_least = pick (IsLeastOrOverflow (IsNextMajor v)) (v.minor == 0 && (v.patch == 0 && not (is_release v))) (Ok (release_of v)) (next_major v)
-      (λ h.
+  major_least = pick (IsLeastOrOverflow (IsNextMajor v)) (v.minor == 0 && (v.patch == 0 && not (is_release v)))
+      (Ok (release_of v)) (next_major v) (λ h.
       let first = and_parts (v.minor == 0) (v.patch == 0 && not (is_release v)) h in
       let both = and_parts (v.patch == 0) (not (is_release v)) first.1 in
       let minor : v.minor ≡ 0 = grind (arith, nat_tests, first.0) in
@@ -153,61 +158,60 @@ module _ (v : VersionValue) (id : List ℕ) (base : IdentifierBase) (k : IsVersi
       least_release (IsNextMajor v) (release_of v) refl (is_released v.major v.minor v.patch k.major k.minor k.patch)
       (release_up v (some_left v.pre_release both.1), refl, minor, patch)
       (λ w t. (t.1, (bounds w t.0).0, omega (arith, minor), omega (arith, patch))))
-      (λ h. by_one (IsLeastOrOverflow (IsNextMajor v)) v.major (λ n. Ok (record v { major = n; minor = 0; patch = 0; pre_release = [] }))
+      (λ h. by_one (IsLeastOrOverflow (IsNextMajor v)) v.major
+      (λ n. Ok (record v { major = n; minor = 0; patch = 0; pre_release = [] }))
       (λ e w good t. let p = past h w t in omega (arith, good.major))
       (λ other. least_release (IsNextMajor v) (record v { major = v.major + 1; minor = 0; patch = 0; pre_release = [] }) refl
       (is_released (v.major + 1) 0 0 (omega (arith, k.major, other)) (omega arith) (omega arith))
       (above_major v (record v { major = v.major + 1; minor = 0; patch = 0; pre_release = [] }) (omega arith), refl, refl, refl)
       (λ w t. let p = past h w t in (t.1, omega arith, omega arith, omega arith))))
     where
-      past : (v.minor == 0 && (v.patch == 0 && not (is_release v))) ≡ false → (w : VersionValue) → IsNextMajor v w → v.major < w.major
+      past : (v.minor == 0 && (v.patch == 0 && not (is_release v))) ≡ false → (w : _) → IsNextMajor v w → v.major < w.major
       past h w t =
           let b = bounds w t.0 in
-          let le = b.0 in
-          let ne : w.major ≡ v.major → ⊥ = λ e.
-          let minor : v.minor ≡ 0 = omega (arith, b.1 e, t.2) in
-          let patch : v.patch ≡ 0 = omega (arith, b.2 e (omega (arith, minor, t.2)), t.3) in
-          let none = none_else v.patch (not (is_release v)) (none_else v.minor (v.patch == 0 && not (is_release v)) h minor) patch in
-          apart v w (none_kept v.pre_release none) (below_cases v w t.0) e (omega (arith, minor, t.2)) (omega (arith, patch, t.3)) in
-          omega (arith, le, ne)
+          let ne : w.major ≡ v.major → ⊥ = λ e. let minor : v.minor ≡ 0 = omega (arith, b.1 e, t.2) in
+          let same : w.minor ≡ v.minor = omega (arith, minor, t.2) in
+          let patch : v.patch ≡ 0 = omega (arith, b.2 e same, t.3) in
+          let some = none_else v.minor (v.patch == 0 && not (is_release v)) h minor in
+          let none = none_kept v.pre_release (none_else v.patch (not (is_release v)) some patch) in
+          apart v w none (below_cases v w t.0) e same (omega (arith, patch, t.3)) in
+          omega (arith, b.0, ne)
 
   -- the first pre-release of some numbers
-  first : (a b c : ℕ) → a < 2 ^ 64 → b < 2 ^ 64 → c < 2 ^ 64
-      → IsVersion (record { major = a; minor = b; patch = c; pre_release = Numeric 0 ∷ []; build = v.build })
-  first a b c p q r = record { major = p; minor = q; patch = r; pre_release = All-cons IsId (Numeric 0) [] (omega arith) (All-nil IsId); build = k.build }
+  abbrev first_of : ℕ → ℕ → ℕ → VersionValue
+  first_of a b c = record { major = a; minor = b; patch = c; pre_release = Numeric 0 ∷ []; build = v.build }
+
+  first : (a b c : ℕ) → a < 2 ^ 64 → b < 2 ^ 64 → c < 2 ^ 64 → IsVersion (first_of a b c)
+  first a b c p q r =
+      let zero = All-cons IsId (Numeric 0) [] (omega arith) (All-nil IsId) in
+      record { major = p; minor = q; patch = r; pre_release = zero; build = k.build }
 
   -- the least version of these numbers or greater ones is a first pre-release
-  first_least : (These : VersionValue → Type 0) (a b c : ℕ) → a < 2 ^ 64 → b < 2 ^ 64 → c < 2 ^ 64
-      → These (record { major = a; minor = b; patch = c; pre_release = Numeric 0 ∷ []; build = v.build })
-      → ((w : VersionValue) → These w → (a ≤ w.major) × (b ≤ w.minor) × (c ≤ w.patch))
-      → IsLeastVersion These (record { major = a; minor = b; patch = c; pre_release = Numeric 0 ∷ []; build = v.build })
+  first_least : (These : VersionValue → Type 0) (a b c : ℕ) → a < 2 ^ 64 → b < 2 ^ 64 → c < 2 ^ 64 → These (first_of a b c)
+      → ((w : VersionValue) → These w → (a ≤ w.major) × (b ≤ w.minor) × (c ≤ w.patch)) → IsLeastVersion These (first_of a b c)
   first_least These a b c p q r this upto = record {
     is_version = first a b c p q r;
     inside = this;
-    least = λ w t. let u = upto w t in
-        upto_patch (record { major = a; minor = b; patch = c; pre_release = Numeric 0 ∷ []; build = v.build }) w u.0 u.1 u.2 (zero_least w.pre_release);
+    least = λ w t. let u = upto w t in upto_patch (first_of a b c) w u.0 u.1 u.2 (zero_least w.pre_release);
   }
 
   pub premajor_least : IsLeastOrOverflow (λ w. w.major ≡ v.major + 1) (incremented v (codes "premajor") [] (Value 0))
   premajor_least = by_one (λ r. IsLeastOrOverflow (λ w. w.major ≡ v.major + 1) (r >>= pre_step [] (Value 0))) v.major
-      (λ n. Ok (record v { major = n; minor = 0; patch = 0; pre_release = [] }))
-      (λ e w good t. omega (arith, good.major))
-      (λ other. first_least (λ w. w.major ≡ v.major + 1) (v.major + 1) 0 0 (omega (arith, k.major, other)) (omega arith) (omega arith) refl
-      (λ w t. (omega arith, omega arith, omega arith)))
+      (λ n. Ok (record v { major = n; minor = 0; patch = 0; pre_release = [] })) (λ e w good t. omega (arith, good.major))
+      (λ other. first_least (λ w. w.major ≡ v.major + 1) (v.major + 1) 0 0 (omega (arith, k.major, other)) (omega arith)
+      (omega arith) refl (λ w t. (omega arith, omega arith, omega arith)))
 
-  pub preminor_least : IsLeastOrOverflow (λ w. (w.major ≡ v.major) × (w.minor ≡ v.minor + 1)) (incremented v (codes "preminor") [] (Value 0))
-  preminor_least = by_one (λ r. IsLeastOrOverflow (λ w. (w.major ≡ v.major) × (w.minor ≡ v.minor + 1)) (r >>= pre_step [] (Value 0))) v.minor
-      (λ n. Ok (record v { minor = n; patch = 0; pre_release = [] }))
-      (λ e w good t. omega (arith, good.minor, t.1))
-      (λ other. first_least (λ w. (w.major ≡ v.major) × (w.minor ≡ v.minor + 1)) v.major (v.minor + 1) 0 k.major (omega (arith, k.minor, other)) (omega arith) (refl, refl)
-      (λ w t. (omega (arith, t.0), omega (arith, t.1), omega arith)))
+  pub preminor_least : IsLeastOrOverflow (IsMinorAbove v) (incremented v (codes "preminor") [] (Value 0))
+  preminor_least = by_one (λ r. IsLeastOrOverflow (IsMinorAbove v) (r >>= pre_step [] (Value 0))) v.minor
+      (λ n. Ok (record v { minor = n; patch = 0; pre_release = [] })) (λ e w good t. omega (arith, good.minor, t.1))
+      (λ other. first_least (IsMinorAbove v) v.major (v.minor + 1) 0 k.major (omega (arith, k.minor, other)) (omega arith)
+      (refl, refl) (λ w t. (omega (arith, t.0), omega (arith, t.1), omega arith)))
 
-  pub prepatch_least : IsLeastOrOverflow (λ w. (w.major ≡ v.major) × (w.minor ≡ v.minor) × (w.patch ≡ v.patch + 1)) (incremented v (codes "prepatch") [] (Value 0))
-  prepatch_least = by_one (λ r. IsLeastOrOverflow (λ w. (w.major ≡ v.major) × (w.minor ≡ v.minor) × (w.patch ≡ v.patch + 1)) (r >>= pre_step [] (Value 0))) v.patch
-      (λ n. Ok (record v { patch = n; pre_release = [] }))
-      (λ e w good t. omega (arith, good.patch, t.2))
-      (λ other. first_least (λ w. (w.major ≡ v.major) × (w.minor ≡ v.minor) × (w.patch ≡ v.patch + 1)) v.major v.minor (v.patch + 1)
-      k.major k.minor (omega (arith, k.patch, other)) (refl, refl, refl) (λ w t. (omega (arith, t.0), omega (arith, t.1), omega (arith, t.2))))
+  pub prepatch_least : IsLeastOrOverflow (IsPatchAbove v) (incremented v (codes "prepatch") [] (Value 0))
+  prepatch_least = by_one (λ r. IsLeastOrOverflow (IsPatchAbove v) (r >>= pre_step [] (Value 0))) v.patch
+      (λ n. Ok (record v { patch = n; pre_release = [] })) (λ e w good t. omega (arith, good.patch, t.2))
+      (λ other. first_least (IsPatchAbove v) v.major v.minor (v.patch + 1) k.major k.minor (omega (arith, k.patch, other))
+      (refl, refl, refl) (λ w t. (omega (arith, t.0), omega (arith, t.1), omega (arith, t.2))))
 
 -- the first pre-release of the next patch, and a pre-release with the number 0 behind it
 abbrev next_pre : VersionValue → VersionValue
@@ -220,7 +224,8 @@ more_pre v = record v { pre_release = v.pre_release ++ Numeric 0 ∷ [] }
 after_release : (v w : VersionValue) → v.pre_release ≡ [] → Below v w → is_le (precedence (next_pre v) w) ≡ true
 after_release v w e (by_major lt) = upto_major (next_pre v) w lt
 after_release v w e (by_minor a lt) = upto_minor (next_pre v) w a lt
-after_release v w e (by_patch a b lt) = upto_patch (next_pre v) w (omega (arith, a)) (omega (arith, b)) (omega (arith, lt)) (zero_least w.pre_release)
+after_release v w e (by_patch a b lt) =
+    upto_patch (next_pre v) w (omega (arith, a)) (omega (arith, b)) (omega (arith, lt)) (zero_least w.pre_release)
 after_release v w e (by_pre a b c h) = absurd (empty_not_below w.pre_release (rw e at h))
 
 pre_next : (xs ys : List Id) → is_empty xs ≡ false → pre_cmp xs ys ≡ Less → is_le (pre_cmp (xs ++ Numeric 0 ∷ []) ys) ≡ true
@@ -232,7 +237,8 @@ after_pre : (v w : VersionValue) → is_release v ≡ false → Below v w → is
 after_pre v w s (by_major lt) = upto_major (more_pre v) w lt
 after_pre v w s (by_minor a lt) = upto_minor (more_pre v) w a lt
 after_pre v w s (by_patch a b lt) = ap is_le (above_patch (more_pre v) w a b lt)
-after_pre v w s (by_pre a b c h) = upto_patch (more_pre v) w (omega (arith, a)) (omega (arith, b)) (omega (arith, c)) (pre_next v.pre_release w.pre_release s h)
+after_pre v w s (by_pre a b c h) =
+    upto_patch (more_pre v) w (omega (arith, a)) (omega (arith, b)) (omega (arith, c)) (pre_next v.pre_release w.pre_release s h)
 
 pre_above : (xs ys : List Id) → is_empty xs ≡ false → slice_cmp id_cmp xs ys ≡ Less → pre_cmp xs ys ≡ Less
 pre_above [] ys s h = cc
@@ -243,20 +249,22 @@ advance_zero : (xs : List Id) → is_empty xs ≡ false → has_numeric xs ≡ f
 advance_zero [] s n = cc
 advance_zero (x ∷ xs) s n = rw n refl
 
-pub prerelease_least : (v : VersionValue) → IsVersion v → (is_release v ≡ true → v.patch < 2 ^ 64 - 1) → (is_release v ≡ false → has_numeric v.pre_release ≡ false)
+pub prerelease_least : (v : VersionValue) → IsVersion v → (is_release v ≡ true → v.patch < 2 ^ 64 - 1)
+    → (is_release v ≡ false → has_numeric v.pre_release ≡ false)
     → IsOkAnd (incremented v (codes "prerelease") [] (Value 0)) (IsLeastVersion (IsAbove v))
 prerelease_least v k rises none =
-    pick (λ r. IsOkAnd r (IsLeastVersion (IsAbove v))) (is_release v) (next_patch v >>= pre_step [] (Value 0)) (pre_step [] (Value 0) v)
-    (λ h. by_one (λ r. IsOkAnd (r >>= pre_step [] (Value 0)) (IsLeastVersion (IsAbove v))) v.patch (λ n. Ok (record v { patch = n; pre_release = [] }))
-    (λ e. let room = rises h in omega (arith, e, room))
-    (λ other. record {
+    pick (λ r. IsOkAnd r (IsLeastVersion (IsAbove v))) (is_release v) (next_patch v >>= pre_step [] (Value 0))
+    (pre_step [] (Value 0) v) (λ h. by_one (λ r. IsOkAnd (r >>= pre_step [] (Value 0)) (IsLeastVersion (IsAbove v))) v.patch
+    (λ n. Ok (record v { patch = n; pre_release = [] })) (λ e. omega (arith, e, rises h)) (λ other. record {
       is_version = first v [] (Value 0) k v.major v.minor (v.patch + 1) k.major k.minor (omega (arith, k.patch, other));
       inside = above_patch v (next_pre v) refl refl (omega arith);
       least = λ w this. after_release v w (none_left v.pre_release h) (below_cases v w this);
     }))
-    (λ h. rw (advance_zero v.pre_release h (none h)) (record {
-      is_version = record { major = k.major; minor = k.minor; patch = k.patch; pre_release = All-push IsId v.pre_release (Numeric 0) k.pre_release (omega arith); build = k.build };
-      inside = above_pre v (more_pre v) refl refl refl (pre_above v.pre_release (v.pre_release ++ Numeric 0 ∷ []) h (below_more v.pre_release (Numeric 0) []));
+    (λ h. let more = All-push IsId v.pre_release (Numeric 0) k.pre_release (omega arith) in
+    rw (advance_zero v.pre_release h (none h)) (record {
+      is_version = record { major = k.major; minor = k.minor; patch = k.patch; pre_release = more; build = k.build };
+      inside = above_pre v (more_pre v) refl refl refl
+          (pre_above v.pre_release (v.pre_release ++ Numeric 0 ∷ []) h (below_more v.pre_release (Numeric 0) []));
       least = λ w this. after_pre v w h (below_cases v w this);
     }))
 
@@ -281,7 +289,8 @@ advance_above : (xs : List Id) (text : List ℕ) (base : IdentifierBase) → is_
 advance_above [] text base s = cc
 advance_above (x ∷ xs) text base s = pick (AboveList (x ∷ xs)) (has_numeric (x ∷ xs)) (raise_last (x ∷ xs)) _
     (raise_above (x ∷ xs))
-    (λ h. pick (AboveList (x ∷ xs)) (is_false base && bytes_eq text (list_text (x ∷ xs))) (Err (InvalidIncrementArgument (codes "identifier already exists")))
+    (λ h. pick (AboveList (x ∷ xs)) (is_false base && bytes_eq text (list_text (x ∷ xs)))
+    (Err (InvalidIncrementArgument (codes "identifier already exists")))
     (Ok (x ∷ xs ++ Numeric (first_number base) ∷ [])) (λ e. tt) (λ e. below_more (x ∷ xs) (Numeric (first_number base)) []))
 
 -- what is returned has the build of the version, and is above it where Up holds
@@ -291,7 +300,8 @@ Rises v Up (Err e) = ⊤
 
 module _ (v : VersionValue) (id : List ℕ) (base : IdentifierBase) (Up : Type 0) where
   -- the pre step of a version that is above by its numbers
-  risen : (w : VersionValue) → w.build ≡ v.build → ((pre : List Id) → IsAbove v (record w { pre_release = pre })) → Rises v Up (pre_step id base w)
+  risen : (w : VersionValue) → w.build ≡ v.build → ((pre : List Id) → IsAbove v (record w { pre_release = pre }))
+      → Rises v Up (pre_step id base w)
   risen w e above = by (advance w.pre_release id base)
     where
       by : (r : Result (List Id) Fault) → Rises v Up (r >>= λ list. Ok (record w { pre_release = identify id base list }))
@@ -299,7 +309,8 @@ module _ (v : VersionValue) (id : List ℕ) (base : IdentifierBase) (Up : Type 0
       by (Err e) = tt
 
   -- a number that rises, without the pre step and with it
-  rises : (n : ℕ) (f : ℕ → VersionValue) → (f (n + 1)).build ≡ v.build → ((pre : List Id) → IsAbove v (record (f (n + 1)) { pre_release = pre }))
+  rises : (n : ℕ) (f : ℕ → VersionValue) → (f (n + 1)).build ≡ v.build
+      → ((pre : List Id) → IsAbove v (record (f (n + 1)) { pre_release = pre }))
       → Rises v Up (one_more n >>= λ m. Ok (f m)) × Rises v Up ((one_more n >>= λ m. Ok (f m)) >>= pre_step id base)
   rises n f e above = (
     by_one (Rises v Up) n (λ m. Ok (f m)) (λ o. tt) (λ o. (e, λ up. above (f (n + 1)).pre_release)),
@@ -322,35 +333,39 @@ module _ (v : VersionValue) (id : List ℕ) (base : IdentifierBase) (Up : Type 0
   steps : (Up → id ≡ []) → (Up → is_release v ≡ false) → Rises v Up (pre_step id base v)
   steps bare some = by (advance v.pre_release id base) (λ up. advance_above v.pre_release id base (some up))
     where
-      by : (r : Result (List Id) Fault) → (Up → AboveList v.pre_release r) → Rises v Up (r >>= λ list. Ok (record v { pre_release = identify id base list }))
-      by (Ok list) h = (
-        refl,
-        λ up. above_pre v (record v { pre_release = identify id base list }) refl refl refl
-            (rw (bare up) (pre_above v.pre_release list (some up) (h up))),
-      )
+      by : (r : Result (List Id) Fault) → (Up → AboveList v.pre_release r)
+          → Rises v Up (r >>= λ list. Ok (record v { pre_release = identify id base list }))
+      by (Ok list) h =
+          let w : VersionValue = record v { pre_release = identify id base list } in
+          (refl, λ up. above_pre v w refl refl refl (rw (bare up) (pre_above v.pre_release list (some up) (h up))))
       by (Err e) h = tt
 
   released : is_release v ≡ false → Rises v Up (Ok (release_of v))
   released h = (refl, λ up. release_up v h)
 
-  word_rises : (word : List ℕ) → (Up → id ≡ []) → (Up → word ≡ codes "pre" → is_release v ≡ false) → Rises v Up (by_word word id base v)
+  word_rises : (word : List ℕ) → (Up → id ≡ []) → (Up → word ≡ codes "pre" → is_release v ≡ false)
+      → Rises v Up (by_word word id base v)
   word_rises word bare some =
       let P = Rises v Up in
       pick P (bytes_eq word (codes "major")) _ _ (λ h. pick P (v.minor == 0 && (v.patch == 0 && not (is_release v))) _ _
-      (λ t. released (some_left v.pre_release (and_parts (v.patch == 0) (not (is_release v)) (and_parts (v.minor == 0) (v.patch == 0 && not (is_release v)) t).1).1)) (λ t. major.0)) (λ h.
+      (λ t. released (some_left v.pre_release
+      (and_parts (v.patch == 0) (not (is_release v)) (and_parts (v.minor == 0) (v.patch == 0 && not (is_release v)) t).1).1))
+      (λ t. major.0)) (λ h.
       pick P (bytes_eq word (codes "minor")) _ _ (λ h. pick P (v.patch == 0 && not (is_release v)) _ _
       (λ t. released (some_left v.pre_release (and_parts (v.patch == 0) (not (is_release v)) t).1)) (λ t. minor.0)) (λ h.
       pick P (bytes_eq word (codes "patch")) _ _ (λ h. pick P (is_release v) _ _ (λ t. patch.0) released) (λ h.
       pick P (bytes_eq word (codes "premajor")) _ _ (λ h. major.1) (λ h.
       pick P (bytes_eq word (codes "preminor")) _ _ (λ h. minor.1) (λ h.
       pick P (bytes_eq word (codes "prepatch")) _ _ (λ h. patch.1) (λ h.
-      pick P (bytes_eq word (codes "prerelease")) _ _ (λ h. pick P (is_release v) _ _ (λ t. patch.1) (λ t. steps bare (λ up. t))) (λ h.
+      pick P (bytes_eq word (codes "prerelease")) _ _ (λ h. pick P (is_release v) _ _ (λ t. patch.1) (λ t. steps bare (λ up. t)))
+      (λ h.
       pick P (bytes_eq word (codes "pre")) _ _ (λ h. steps bare (λ up. some up ((bytes_eq-Decides word (codes "pre")).0 h))) (λ h.
       pick P (bytes_eq word (codes "release")) _ _ (λ h. pick P (is_release v) _ _ (λ t. tt) released) (λ h. tt)))))))))
 
   pub increment_rises : (word : List ℕ) (w : VersionValue) → (Up → id ≡ []) → (Up → word ≡ codes "pre" → is_release v ≡ false)
       → incremented v word id base ≡ Ok w → (w.build ≡ v.build) × (Up → IsAbove v w)
-  increment_rises word w bare some is = subst (Rises v Up) is (by (if starts_with nat_eq word (codes "pre") then checked id base else Ok tt))
+  increment_rises word w bare some is =
+      subst (Rises v Up) is (by (if starts_with nat_eq word (codes "pre") then checked id base else Ok tt))
     where
       by : (r : Result ⊤ Fault) → Rises v Up (r >>= λ _. by_word word id base v)
       by (Ok t) = word_rises word bare some

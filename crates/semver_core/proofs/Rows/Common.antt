@@ -26,9 +26,9 @@ common : Read (
     (codes "1.2.3", of [] []) ∷
     (codes "v1.2.3", of [] []) ∷
     (codes "01.002.3", of [] []) ∷
-    (codes "1.2.3-alpha.1", of (AlphaNumeric (codes "alpha") ∷ Numeric 1 ∷ []) []) ∷
-    (codes "1.2.3+build.7", of [] (AlphaNumeric (codes "build") ∷ Numeric 7 ∷ [])) ∷
-    (codes "1.2.3-alpha.1+build.7", of (AlphaNumeric (codes "alpha") ∷ Numeric 1 ∷ []) (AlphaNumeric (codes "build") ∷ Numeric 7 ∷ [])) ∷
+    (codes "1.2.3-alpha.1", of (text (codes "alpha") ++ Numeric 1 ∷ []) []) ∷
+    (codes "1.2.3+build.7", of [] (text (codes "build") ++ Numeric 7 ∷ [])) ∷
+    (codes "1.2.3-alpha.1+build.7", of (text (codes "alpha") ++ Numeric 1 ∷ []) (text (codes "build") ++ Numeric 7 ∷ [])) ∷
     (codes "1.2.3beta", of (text (codes "beta")) []) ∷
     (codes "1.2.3a+b", of (text (codes "a")) (text (codes "b"))) ∷
     (codes "1.2.3--", of (text (codes "-")) []) ∷
@@ -52,7 +52,8 @@ uncommon-1 = refl
 -- the last but one is `1.2.3-` and `ł`, whose code ends in the byte of `A`
 uncommon-2 : list_any is_common (
     codes "1.2.3-+b" ∷ codes "1.2.3+a+b" ∷ codes "1.2.3-a..b" ∷ codes "1.2.3-a." ∷ codes "1.2.3-a+" ∷ codes "1.2.3-a.+b" ∷
-    codes "1.2.3+a." ∷ codes "1.2.3 " ∷ codes "1.2.3-a " ∷ (codes "1.2.3-" ++ encode_utf8 0x141) ∷ codes "1.2.9007199254740992" ∷ []
+    codes "1.2.3+a." ∷ codes "1.2.3 " ∷ codes "1.2.3-a " ∷
+    (codes "1.2.3-" ++ encode_utf8 0x141) ∷ codes "1.2.9007199254740992" ∷ []
     ) ≡ false
 unfolding is_common digits_from list_len encode_utf8
 uncommon-2 = refl

@@ -22,6 +22,7 @@ unfolding digits
 print = refl
 
 -- a text of digits reads as a number where it fits 64 bits, and a dot reads as two identifiers
-normal : map (λ text. is_normal (AlphaNumeric text)) (codes "18446744073709551616" ∷ codes "--" ∷ codes "12" ∷ codes "007" ∷ codes "a.b" ∷ codes "" ∷ [])
+normal : map (λ text. is_normal (AlphaNumeric text))
+    (codes "18446744073709551616" ∷ codes "--" ∷ codes "12" ∷ codes "007" ∷ codes "a.b" ∷ codes "" ∷ [])
     ≡ true ∷ true ∷ false ∷ false ∷ false ∷ false ∷ []
 normal = refl

@@ -15,7 +15,8 @@ letter_beyond : is_identifier_char 0x141 ≡ false
 letter_beyond = refl
 
 -- digits alone are a number up to 2^64 - 1, and a text from there on
-identifiers : map identifier_of (codes "007" ∷ codes "18446744073709551615" ∷ codes "18446744073709551616" ∷ pieces (codes "rc.2-migration"))
+identifiers : map identifier_of
+    (codes "007" ∷ codes "18446744073709551615" ∷ codes "18446744073709551616" ∷ pieces (codes "rc.2-migration"))
     ≡ Numeric 7 ∷ Numeric 18446744073709551615 ∷ AlphaNumeric (codes "18446744073709551616")
     ∷ AlphaNumeric (codes "rc") ∷ AlphaNumeric (codes "2-migration") ∷ []
 identifiers = refl

@@ -60,7 +60,8 @@ passed_stop text at end rest passed next c p e dark = after_passed text at end r
 
 pub passed_end : (text : List ℕ) (at end : ℕ) (rest passed : List ℕ) → Passed text at end rest passed → length rest ≡ 0 → IsAfterBlank text at end
 passed_end text at end rest passed p none = after_passed text at end rest passed p (λ b.
-    let some = len_utf8_bounds b.character in
-    absurd (omega (arith, none, ap length (p.rest_is ∙ b.spelled), length-append (encode_utf8 b.character) b.rest, length-encode b.character, some.0)))
+    let size = length-append (encode_utf8 b.character) b.rest in
+    let some = (len_utf8_bounds b.character).0 in
+    absurd (omega (arith, none, ap length (p.rest_is ∙ b.spelled), size, length-encode b.character, some)))
 
 pub ruleset passing = (passed_none, passed_more, passed_room, passed_stop, passed_end)

@@ -18,7 +18,8 @@ use Rattle.semver_core.specs.declared.TheConstants.{MAX_LENGTH}
 use Rattle.semver_core.proofs.Text.Whole.{front_read, release_read}
 
 -- the loop
-pub end_step : (xs : List ℕ) (i : ℕ) → i < length xs → goes_on (drop i xs) ≡ true → list_len (drop i xs) ≡ 1 + list_len (drop (i + 1) xs)
+pub end_step : (xs : List ℕ) (i : ℕ) → i < length xs → goes_on (drop i xs) ≡ true
+    → list_len (drop i xs) ≡ 1 + list_len (drop (i + 1) xs)
 unfolding list_len
 end_step xs i lt h =
     let more = rw (drop-cons xs i 0 lt) at h in
@@ -47,13 +48,14 @@ unfolding is_listed
 is_spelled [] h = cc
 is_spelled (c ∷ rest) h = h
 
-pub cut_listed : (text : List ℕ) (start end : ℕ) → end ≡ start + list_len (drop start text) → begins is_identifier_char (drop start text) ≡ true
-    → is_listed (take (end - start) (drop start text)) ≡ true
+pub cut_listed : (text : List ℕ) (start end : ℕ) → end ≡ start + list_len (drop start text)
+    → begins is_identifier_char (drop start text) ≡ true → is_listed (take (end - start) (drop start text)) ≡ true
 cut_listed text start end e h =
     let n : end - start ≡ list_len (drop start text) = omega (arith, e) in
     rw n (is_spelled (take (list_len (drop start text)) (drop start text)) (runs_taken (drop start text) h))
 
-pub cut_found : (text : List ℕ) (at start end : ℕ) → end ≡ start + list_len (drop start text) → begins is_identifier_char (drop start text) ≡ true
+pub cut_found : (text : List ℕ) (at start end : ℕ) → end ≡ start + list_len (drop start text)
+    → begins is_identifier_char (drop start text) ≡ true
     → (listed (take (end - start) (drop start text)), end) ≡ list_from text at (Some start)
 cut_found text at start end e h =
     let n : end - start ≡ list_len (drop start text) = omega (arith, e) in
@@ -74,15 +76,18 @@ pub ruleset lists_cut = (cut_listed, cut_found, nothing_spelled, nothing_listed)
 not_parsed : (limit : ℕ) (text : List ℕ) → NoValue (Reads limit text) → NoValue (Parses limit text)
 not_parsed limit text h = λ v p. h v p.reads
 
-pub refused_by : {A E : Type 0} (limit : ℕ) (text : List ℕ) (r : Result A E) → IfErr r (λ _. NoValue (Reads limit text)) → IfErr r (λ _. NoValue (Parses limit text))
+pub refused_by : {A E : Type 0} (limit : ℕ) (text : List ℕ) (r : Result A E) → IfErr r (λ _. NoValue (Reads limit text))
+    → IfErr r (λ _. NoValue (Parses limit text))
 refused_by limit text (Ok v) h = tt
 refused_by limit text (Err e) h = not_parsed limit text h
 
-pub behind_parses : (limit : ℕ) (text : List ℕ) (t : ℕ × ℕ × ℕ × ℕ) (v : VersionValue) → length text ≤ MAX_LENGTH → Some t ≡ triple_at limit text (small_len text) → v ≡ qualified text t → Parses limit text v
+pub behind_parses : (limit : ℕ) (text : List ℕ) (t : ℕ × ℕ × ℕ × ℕ) (v : VersionValue) → length text ≤ MAX_LENGTH
+    → Some t ≡ triple_at limit text (small_len text) → v ≡ qualified text t → Parses limit text v
 behind_parses limit text t v short found is = record { short = short; reads = rw is (front_read limit text t found) }
 
 pub release_parses : (limit : ℕ) (text : List ℕ) (major minor patch end : ℕ) (v : VersionValue) → length text ≤ MAX_LENGTH
-    → Some (major, minor, patch, end) ≡ triple_at limit text (small_len text) → end ≡ length text → v ≡ release_value major minor patch → Parses limit text v
+    → Some (major, minor, patch, end) ≡ triple_at limit text (small_len text) → end ≡ length text
+    → v ≡ release_value major minor patch → Parses limit text v
 release_parses limit text major minor patch end v short found whole is =
     record { short = short; reads = rw is (release_read limit text major minor patch end found (omega (arith, whole))) }
 

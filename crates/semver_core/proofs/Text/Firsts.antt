@@ -40,7 +40,7 @@ pieces_split (c ∷ rest) h = elim (cases_Bool (eqb c 46)) [
       let split : tail_runs (onto_first c (pieces rest)) ≡ true = rw other at h in
       let next = pieces_split rest (tail_onto c (pieces rest) split) in
       let here = first_char c (pieces rest) split in
-      let taken : take (run_len (c ∷ rest)) (c ∷ rest) ≡ c ∷ take (run_len rest) rest = rw (here, add_comm 1 (run_len rest), add-one (run_len rest)) refl in
+      let taken : take (run_len (c ∷ rest)) (c ∷ rest) ≡ c ∷ take (run_len rest) rest = rw (here, add_comm 1, add-one) refl in
       let len : run_len (c ∷ rest) + 1 ≡ run_len rest + 1 + 1 = rw here (omega arith) in
       let dropped : others (c ∷ rest) ≡ others rest = rw (len, add-one (run_len rest + 1)) refl in
       rw (taken, dropped, other, next.0) (refl, next.1)
@@ -62,7 +62,8 @@ listed_first [] h some = absurd (omega arith)
 listed_first (c ∷ rest) h some =
     let runs : list_all is_identifier (pieces (c ∷ rest)) ≡ true = sym (is_listed_later (c ∷ rest)) ∙ h in
     let split = pieces_split (c ∷ rest) (runs_tail (pieces (c ∷ rest)) runs) in (
-      listed_later (c ∷ rest) ∙ ap (map identifier_of) split.0 ∙ ap (λ l. identifier_of (take (run_len (c ∷ rest)) (c ∷ rest)) ∷ l) (sym (listed_later (others (c ∷ rest)))),
+      listed_later (c ∷ rest) ∙ ap (map identifier_of) split.0
+          ∙ ap (λ l. identifier_of (take (run_len (c ∷ rest)) (c ∷ rest)) ∷ l) (sym (listed_later (others (c ∷ rest)))),
       is_listed_later (others (c ∷ rest)) ∙ split.1,
     )
 
@@ -70,7 +71,8 @@ listed_first (c ∷ rest) h some =
 pub front_end : (text : List ℕ) (r : ℕ × Option ℕ) → r ≡ run_from (Some 0) 0 (drop 0 text) → r.0 ≡ run_len text
 front_end text r e = (scan_end text 0 r e).0 ∙ zero-add (run_len text)
 
-pub front_number : (text : List ℕ) (r : ℕ × Option ℕ) → r ≡ run_from (Some 0) 0 (drop 0 text) → r.1 ≡ number_of_run (Some 0) (take (run_len text) text)
+pub front_number : (text : List ℕ) (r : ℕ × Option ℕ) → r ≡ run_from (Some 0) 0 (drop 0 text)
+    → r.1 ≡ number_of_run (Some 0) (take (run_len text) text)
 front_number text r e = (scan_end text 0 r e).1
 
 pub front_fits : (text : List ℕ) (r : ℕ × Option ℕ) → r ≡ run_from (Some 0) 0 (drop 0 text) → r.0 ≤ length text
@@ -78,11 +80,12 @@ front_fits text r e = (scan_fits text 0 r e (omega arith)).1
 
 pub ruleset run_fronts = (front_end, front_number, front_fits)
 
-pub ids_first : (text : List ℕ) (n : ℕ) (id : Id) → n ≡ run_len text → is_listed text ≡ true → 0 < length text → id ≡ identifier_of (take n text)
-    → listed text ≡ id ∷ listed (drop 1 (drop n text))
+pub ids_first : (text : List ℕ) (n : ℕ) (id : Id) → n ≡ run_len text → is_listed text ≡ true → 0 < length text
+    → id ≡ identifier_of (take n text) → listed text ≡ id ∷ listed (drop 1 (drop n text))
 ids_first text n id e h some is = rw (is, e, drop-drop 1 (run_len text) text) (listed_first text h some).0
 
-pub ids_others : (text : List ℕ) (n : ℕ) → n ≡ run_len text → is_listed text ≡ true → 0 < length text → is_listed (drop 1 (drop n text)) ≡ true
+pub ids_others : (text : List ℕ) (n : ℕ) → n ≡ run_len text → is_listed text ≡ true → 0 < length text
+    → is_listed (drop 1 (drop n text)) ≡ true
 ids_others text n e h some = rw (e, drop-drop 1 (run_len text) text) (listed_first text h some).1
 
 pub ruleset firsts = (ids_first, ids_others)
@@ -105,7 +108,8 @@ both_end a b x y = rw (none_spelled a x, none_spelled b y) refl
 pub first_ends : (a b : List ℕ) → (length a == 0) ≡ true → (length b == 0) ≡ false → Less ≡ slice_cmp id_cmp (listed a) (listed b)
 first_ends a b x y = let s = spelled_some b y in rw (none_spelled a x, s.1.1) refl
 
-pub second_ends : (a b : List ℕ) → (length a == 0) ≡ false → (length b == 0) ≡ true → Greater ≡ slice_cmp id_cmp (listed a) (listed b)
+pub second_ends : (a b : List ℕ) → (length a == 0) ≡ false → (length b == 0) ≡ true
+    → Greater ≡ slice_cmp id_cmp (listed a) (listed b)
 second_ends a b x y = let s = spelled_some a x in rw (s.1.1, none_spelled b y) refl
 
 pub ruleset compared = (both_end, first_ends, second_ends)
@@ -119,7 +123,8 @@ first_pre a b x y = let s = spelled_some a x in rw (s.1.1, none_spelled b y) ref
 pub second_pre : (a b : List ℕ) → (length a == 0) ≡ true → (length b == 0) ≡ false → Greater ≡ pre_cmp (listed a) (listed b)
 second_pre a b x y = let s = spelled_some b y in rw (none_spelled a x, s.1.1) refl
 
-pub both_pre : (a b : List ℕ) → (length a == 0) ≡ false → (length b == 0) ≡ false → slice_cmp id_cmp (listed a) (listed b) ≡ pre_cmp (listed a) (listed b)
+pub both_pre : (a b : List ℕ) → (length a == 0) ≡ false → (length b == 0) ≡ false
+    → slice_cmp id_cmp (listed a) (listed b) ≡ pre_cmp (listed a) (listed b)
 both_pre a b x y =
     let s = spelled_some a x in
     let t = spelled_some b y in

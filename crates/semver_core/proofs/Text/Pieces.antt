@@ -12,7 +12,7 @@ use Rattle.std.specs.Str.Parse.{digits_value_after}
 use borrow.Author.Tests.{ltb-false, le-ltb}
 use Rattle.semver_core.specs.Text.Characters.{begins, is_identifier_char}
 use Rattle.semver_core.specs.Text.Identifiers.{Id, is_identifier, pieces, goes_on, IsLongestIdentifiers}
-use Rattle.semver_core.specs.Text.Numbers.{IsWholeNumber}
+use Rattle.semver_core.specs.Text.Numbers.{IsNumber, IsWholeNumber}
 use Rattle.semver_core.specs.Internal.Reading.{digits_end, digits_from, list_len, list_of, placed, number_at, list_at}
 
 pub some_inside : {A : Type 0} (x y : A) → Some x ≡ Some y → x ≡ y
@@ -50,7 +50,8 @@ end_some v k n same some =
     let other : eqb k 0 ≡ false = grind (arith, nat_tests) in
     rw (other, same) refl
 
-stopped : (limit v k : ℕ) (q : ℕ × ℕ) (t : List ℕ) → begins is_ascii_digit t ≡ false → v ≤ limit → digits_end v k ≡ Some q → Digits limit v k t q.0 q.1
+stopped : (limit v k : ℕ) (q : ℕ × ℕ) (t : List ℕ) → begins is_ascii_digit t ≡ false → v ≤ limit → digits_end v k ≡ Some q
+    → Digits limit v k t q.0 q.1
 stopped limit v k q t stop small e = elim (cases_Bool (eqb k 0)) [
   | inl none ↦ cc (rw none at e)
   | inr other ↦ rw (← some_inside _ q (rw other at e)) (record {
@@ -95,14 +96,10 @@ number_sound limit text at n end e =
     let front = placed_some at (digits_from limit 0 0 (drop at text)) (n, end) e in
     let d = digits_sound limit 0 0 (drop at text) n front.0 (omega arith) front.1 in
     let count : front.0 ≡ length d.digits = omega (arith, d.counted) in
-    let rest : drop end text ≡ d.rest = rest_at text at end d.digits d.rest d.divided (omega (arith, front.2)) in (
-      d.digits,
-      d.divided ∙ rw rest refl,
-      record {
-        number = record { some = omega (arith, d.some); each = d.each; value = d.spelled; safe = d.safe };
-        ended = rw rest d.ended;
-      },
-    )
+    let rest : drop end text ≡ d.rest = rest_at text at end d.digits d.rest d.divided (omega (arith, front.2)) in
+    let number : IsNumber limit d.digits n =
+    record { some = omega (arith, d.some); each = d.each; value = d.spelled; safe = d.safe } in
+    (d.digits, d.divided ∙ rw rest refl, record { number = number; ended = rw rest d.ended })
 
 digits_complete : (limit : ℕ) (v k : ℕ) (d r : List ℕ) → list_all is_ascii_digit d ≡ true → begins is_ascii_digit r ≡ false → 0 < k + length d
     → digits_value_after 10 v d ≤ limit → digits_from limit v k (d ++ r) ≡ Some (digits_value_after 10 v d, k + length d)
@@ -147,11 +144,13 @@ runs_tail [] h = refl
 runs_tail (p ∷ ps) h = grind arith
 
 -- a text of runs whose first character is one of identifiers
-pub begun_runs : (t : List ℕ) → begins is_identifier_char t ≡ true → tail_runs (pieces t) ≡ true → list_all is_identifier (pieces t) ≡ true
+pub begun_runs : (t : List ℕ) → begins is_identifier_char t ≡ true → tail_runs (pieces t) ≡ true
+    → list_all is_identifier (pieces t) ≡ true
 begun_runs [] h t = cc
 begun_runs (c ∷ rest) h t = rw (not_dot c h) (onto_tail c (pieces rest) h (tail_onto c (pieces rest) (rw (not_dot c h) at t)))
 
-pub begins_taken : (rest : List ℕ) → begins is_identifier_char rest ≡ true → begins is_identifier_char (take (list_len rest) rest) ≡ true
+pub begins_taken : (rest : List ℕ) → begins is_identifier_char rest ≡ true
+    → begins is_identifier_char (take (list_len rest) rest) ≡ true
 unfolding list_len
 begins_taken [] h = cc
 begins_taken (c ∷ rest) h = rw (h, add_comm 1 (list_len rest), add-one (list_len rest)) h
@@ -171,7 +170,7 @@ taken_runs (c ∷ rest) = elim (cases_Bool (goes_on (c ∷ rest))) [
   | inr stop ↦ rw stop refl
   | inl more ↦
       let taken = take (list_len rest) rest in
-      let step : take (list_len (c ∷ rest)) (c ∷ rest) ≡ c ∷ taken = rw (more, add_comm 1 (list_len rest), add-one (list_len rest)) refl in
+      let step : take (list_len (c ∷ rest)) (c ∷ rest) ≡ c ∷ taken = rw (more, add_comm 1 (list_len rest), add-one) refl in
       rw step (elim (cases_Bool (eqb c 46)) [
         | inr other ↦
             rw other (runs_tail (onto_first c (pieces taken))
@@ -199,17 +198,11 @@ list_sound text at ids end e = elim (cases_Bool (begins is_identifier_char (drop
       let pair = some_inside (list_of t, at + list_len t) (ids, end) (rw some at e) in
       let spelled : list_of t ≡ ids = ap (λ (q : List Id × ℕ). q.0) pair in
       let place : at + list_len t ≡ end = ap (λ (q : List Id × ℕ). q.1) pair in
-      let rest : drop end text ≡ drop (list_len t) t = rw (← place) (sym (drop-drop (list_len t) at text)) in (
-        some,
-        (
-          take (list_len t) t,
-          rw rest (sym (take-append-drop (list_len t) t)),
-          record {
-            identifiers = record { runs = begun_runs (take (list_len t) t) (begins_taken t some) (taken_runs t); spelled = sym spelled };
-            ended = rw rest (list_ended t);
-          },
-        ),
-      )
+      let rest : drop end text ≡ drop (list_len t) t = rw (← place) (sym (drop-drop (list_len t) at text)) in
+      let runs = begun_runs (take (list_len t) t) (begins_taken t some) (taken_runs t) in
+      let longest : IsLongestIdentifiers (take (list_len t) t) (drop end text) ids =
+      record { identifiers = record { runs = runs; spelled = sym spelled }; ended = rw rest (list_ended t) } in
+      (some, (take (list_len t) t, rw rest (sym (take-append-drop (list_len t) t)), longest))
 ]
 
 pub first_char : (c : ℕ) (ps : List (List ℕ)) → tail_runs (onto_first c ps) ≡ true → is_identifier_char c ≡ true

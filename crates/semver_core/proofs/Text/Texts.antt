@@ -56,7 +56,8 @@ part_sound limit text at q e =
     let s = number_sound limit text at found.0.0 found.0.1 found.1 in
     rw (← some_inside _ q dot.2) (s.0, s.1 ∙ ap (λ t. s.0 ++ t) (past_sound 46 text found.0.1 dot.0 dot.1), s.2.number)
 
-part_complete : (limit : ℕ) (text : List ℕ) (at n : ℕ) (digits rest : List ℕ) → drop at text ≡ digits ++ 46 ∷ rest → IsNumber limit digits n
+part_complete : (limit : ℕ) (text : List ℕ) (at n : ℕ) (digits rest : List ℕ) → drop at text ≡ digits ++ 46 ∷ rest
+    → IsNumber limit digits n
     → (part_at limit text at ≡ Some (n, at + length digits + 1)) × (drop (at + length digits + 1) text ≡ rest)
 part_complete limit text at n digits rest e is =
     let a = number_complete limit text at n digits (46 ∷ rest) e (record { number = is; ended = refl }) in
@@ -207,8 +208,7 @@ divided_at limit text mark blank at t divided m b e =
     let three = triple_sound limit text at t e in
     let pre = pre_sound text t.3 in
     let meta = build_sound text (pre_release_at text t.3).1 in
-    let tail : drop t.3 text ≡ pre.piece ++ (meta.piece ++ rest_of text t) =
-    pre.divided ∙ ap (λ r. pre.piece ++ r) meta.divided in
+    let tail = pre.divided ∙ ap (λ r. pre.piece ++ r) meta.divided in
     record {
       reads = record {
         mark = mark;
@@ -225,7 +225,7 @@ divided_at limit text mark blank at t divided m b e =
         major_is = three.major_is;
         minor_is = three.minor_is;
         patch_is = (let Q : List ℕ → Type 0 = λ r. IsWholeNumber limit three.patch r t.2 in subst Q tail three.patch_is);
-        pre_release_is = (let Q : List ℕ → Type 0 = λ r. IsPreRelease pre.piece r (pre_release_at text t.3).0 in subst Q meta.divided pre.is);
+        pre_release_is = subst (λ (r : List ℕ). IsPreRelease pre.piece r (pre_release_at text t.3).0) meta.divided pre.is;
         build_is = meta.is;
       };
       mark_is = refl;
@@ -343,30 +343,31 @@ loose_at limit text start v a r =
     let none : mark_len (r.blank ++ D) ≡ 0 = rw blank (blank_no_mark r.blank_is.characters D r.blank_is.each digit) in
     let marked : drop k text ≡ r.blank ++ D = past_mark text r.mark (r.blank ++ D) r.mark_is r.divided none in
     let both : encode_utf8_all a.blank.characters ++ drop start text ≡ encode_utf8_all r.blank_is.characters ++ D =
-    ap (λ t. t ++ drop start text) (sym a.blank.spelled) ∙ sym (drop_split text k start a.after)
-    ∙ marked ∙ ap (λ t. t ++ D) blank in
-    let found = read_at limit text start v r
-    (one_blank a.blank.characters r.blank_is.characters (drop start text) D a.blank.each r.blank_is.each a.ended (small_digit D digit) both) in
-    rw (found.1, found.2) refl
+    ap (λ t. t ++ drop start text) (sym a.blank.spelled) ∙ sym (drop_split _ k _ a.after) ∙ marked ∙ ap (λ t. t ++ D) blank in
+    let here = read_at limit text start v r (one_blank _ _ _ D a.blank.each r.blank_is.each a.ended (small_digit D digit) both) in
+    rw (here.1, here.2) refl
 
-pub loose_none : (limit : ℕ) (text : List ℕ) (start : ℕ) → IsAfterBlank text (mark_len text) start → version_at limit text start ≡ None → NoValue (Reads limit text)
+pub loose_none : (limit : ℕ) (text : List ℕ) (start : ℕ) → IsAfterBlank text (mark_len text) start
+    → version_at limit text start ≡ None → NoValue (Reads limit text)
 loose_none limit text start a e v r = cc (e, loose_at limit text start v a r)
 
 -- a version that is read and has identifiers
-pub memory_read : (limit : ℕ) (text : List ℕ) (o : Option VersionValue) → ((v : VersionValue) → o ≡ Some v → Reads limit text v) → IsSomeAnd o HasIdentifiers
-    → (v : VersionValue) × Reads limit text v × HasIdentifiers v
+pub memory_read : (limit : ℕ) (text : List ℕ) (o : Option VersionValue) → ((v : VersionValue) → o ≡ Some v → Reads limit text v)
+    → IsSomeAnd o HasIdentifiers → (v : VersionValue) × Reads limit text v × HasIdentifiers v
 memory_read limit text None f h = absurd h
 memory_read limit text (Some v) f h = (v, f v refl, h)
 
-pub loose_memory : (limit : ℕ) (text : List ℕ) (start : ℕ) → IsAfterBlank text (mark_len text) start → IsSomeAnd (version_at limit text start) HasIdentifiers → (v : VersionValue) × Reads limit text v × HasIdentifiers v
-loose_memory limit text start a h = memory_read limit text (version_at limit text start) (λ v e. loose_some limit text start v a e) h
+pub loose_memory : (limit : ℕ) (text : List ℕ) (start : ℕ) → IsAfterBlank text (mark_len text) start
+    → IsSomeAnd (version_at limit text start) HasIdentifiers → (v : VersionValue) × Reads limit text v × HasIdentifiers v
+loose_memory limit text start a = memory_read limit text (version_at limit text start) (λ v e. loose_some limit text start v a e)
 
 -- the three clauses of a reader whose answer is `version_at`
 pub found_some : (limit : ℕ) (text : List ℕ) (start : ℕ) (found : Option VersionValue) → IsAfterBlank text (mark_len text) start → found ≡ version_at limit text start → IfSome found (λ v. Reads limit text v)
 found_some limit text start None a e = tt
 found_some limit text start (Some v) a e = loose_some limit text start v a (sym e)
 
-pub found_none : (limit : ℕ) (text : List ℕ) (start : ℕ) (found : Option VersionValue) → IsAfterBlank text (mark_len text) start → found ≡ version_at limit text start → IfNone found (NoValue (Reads limit text))
+pub found_none : (limit : ℕ) (text : List ℕ) (start : ℕ) (found : Option VersionValue) → IsAfterBlank text (mark_len text) start
+    → found ≡ version_at limit text start → IfNone found (NoValue (Reads limit text))
 found_none limit text start None a e = loose_none limit text start a (sym e)
 found_none limit text start (Some v) a e = tt
 

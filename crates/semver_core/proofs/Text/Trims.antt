@@ -89,14 +89,15 @@ keep_inside : (bs rest : List ℕ) → Inside bs → drop_end_spaces (bs ++ rest
 unfolding Inside
 keep_inside [] rest h = refl
 keep_inside (b ∷ bs) rest h =
-    keep_byte b (bs ++ rest) (ap is_empty (drop_spaces-none (b ∷ (bs ++ rest)) (space_len-inside b (bs ++ rest) h.0 h.1))) ∙ ap (λ t. b ∷ t) (keep_inside bs rest h.2)
+    keep_byte b (bs ++ rest) (ap is_empty (drop_spaces-none (b ∷ (bs ++ rest)) (space_len-inside b (bs ++ rest) h.0 h.1)))
+    ∙ ap (λ t. b ∷ t) (keep_inside bs rest h.2)
 
 -- a character stays where more than whitespace is left
 keep_char : (c : ℕ) (rest : List ℕ) → is_empty (drop_spaces (encode_utf8 c ++ rest)) ≡ false
     → drop_end_spaces (encode_utf8 c ++ rest) ≡ encode_utf8 c ++ drop_end_spaces rest
-keep_char c rest some =
+keep_char c xs h =
     let e = encoded c in
-    rw e.spelled (keep_byte e.first (e.tail ++ rest) (rw e.spelled at some) ∙ ap (λ t. e.first ∷ t) (keep_inside e.tail rest e.inside))
+    rw e.spelled (keep_byte e.first (e.tail ++ xs) (rw e.spelled at h) ∙ ap (λ t. e.first ∷ t) (keep_inside e.tail xs e.inside))
 
 drop_end-all : (text : List ℕ) → drop_spaces text ≡ [] → drop_end_spaces text ≡ []
 unfolding drop_end_spaces
@@ -177,13 +178,10 @@ pub record Fronted (cs : List ℕ) : Type 0 where
 pub fronted : (cs : List ℕ) → Fronted cs
 fronted [] = record { before = []; rest = []; divided = refl; blank = refl; dark = refl }
 fronted (c ∷ cs) = elim (cases_Bool (is_whitespace c)) [
-  | inl white ↦ let f = fronted cs in record {
-    before = c ∷ f.before;
-    rest = f.rest;
-    divided = ap (λ t. c ∷ t) f.divided;
-    blank = and_from (is_whitespace c) (list_all is_whitespace f.before) white f.blank;
-    dark = f.dark;
-  }
+  | inl white ↦
+      let f = fronted cs in
+      let blank = and_from (is_whitespace c) (list_all is_whitespace f.before) white f.blank in
+      record { before = c ∷ f.before; rest = f.rest; divided = ap (λ t. c ∷ t) f.divided; blank = blank; dark = f.dark }
   | inr dark ↦ record { before = []; rest = c ∷ cs; divided = refl; blank = refl; dark = dark }
 ]
 
@@ -202,10 +200,13 @@ ended (c ∷ cs) = let e = ended cs in go e.after e.blank e.rest e.divided e.dar
     go : (after : List ℕ) → list_all is_whitespace after ≡ true → (rest : List ℕ) → cs ≡ rest ++ after
         → begins is_whitespace (reverse rest) ≡ false → Ended (c ∷ cs)
     go after blank [] divided dark = elim (cases_Bool (is_whitespace c)) [
-      | inl white ↦ record { rest = []; after = c ∷ after; divided = ap (λ t. c ∷ t) divided; blank = and_from (is_whitespace c) (list_all is_whitespace after) white blank; dark = refl }
+      | inl white ↦
+          let all = and_from (is_whitespace c) (list_all is_whitespace after) white blank in
+          record { rest = []; after = c ∷ after; divided = ap (λ t. c ∷ t) divided; blank = all; dark = refl }
       | inr dark ↦ record { rest = c ∷ []; after = after; divided = ap (λ t. c ∷ t) divided; blank = blank; dark = dark }
     ]
-    go after blank (d ∷ rest) divided dark = record { rest = c ∷ d ∷ rest; after = after; divided = ap (λ t. c ∷ t) divided; blank = blank; dark = ends_front c d rest ∙ dark }
+    go after blank (d ∷ xs) e dark =
+        record { rest = c ∷ d ∷ xs; after = after; divided = ap (λ t. c ∷ t) e; blank = blank; dark = ends_front c d xs ∙ dark }
 
 begins_front : (cs after : List ℕ) → begins is_whitespace (cs ++ after) ≡ false → begins is_whitespace cs ≡ false
 begins_front [] after h = refl
@@ -323,12 +324,12 @@ pub record Shortened (text rest : List ℕ) : Type 0 where
   pub utf8 : IsUtf8 rest
   pub same : drop_end_spaces rest ≡ drop_end_spaces text
 
-pub shortened_more : (text rest before : List ℕ) (c : ℕ) → Shortened text rest → IsUtf8 before → rest ≡ before ++ encode_utf8 c → is_whitespace c ≡ true
-    → Shortened text before
-shortened_more text rest before c s utf8 e white = record { utf8 = utf8; same = drop_end-more rest before c utf8 e white ∙ s.same }
+pub shortened_more : (text rest before : List ℕ) (c : ℕ) → Shortened text rest → IsUtf8 before → rest ≡ before ++ encode_utf8 c
+    → is_whitespace c ≡ true → Shortened text before
+shortened_more text rest before c s u e white = record { utf8 = u; same = drop_end-more rest before c u e white ∙ s.same }
 
-pub shortened_stop : (text rest before : List ℕ) (c : ℕ) → Shortened text rest → IsScalar c → rest ≡ before ++ encode_utf8 c → is_whitespace c ≡ false
-    → rest ≡ drop_end_spaces text
+pub shortened_stop : (text rest before : List ℕ) (c : ℕ) → Shortened text rest → IsScalar c → rest ≡ before ++ encode_utf8 c
+    → is_whitespace c ≡ false → rest ≡ drop_end_spaces text
 shortened_stop text rest before c s scalar e dark =
     let cut = IsCharBoundary-at_seam rest before (encode_utf8 c) e (IsUtf8-encode c scalar) in
     let front : take (length before) rest ≡ before = ap (take (length before)) e ∙ take-append_seam before (encode_utf8 c) in

@@ -77,7 +77,8 @@ pub common_some : (limit : ℕ) (text : List ℕ) (found : Option VersionValue) 
 common_some limit text None e = tt
 common_some limit text (Some v) e = common_sound limit text v (sym e)
 
-pub common_none : (limit : ℕ) (text : List ℕ) (found : Option VersionValue) → found ≡ common_of limit text → IfNone found (NoValue (IsCommon limit text))
+pub common_none : (limit : ℕ) (text : List ℕ) (found : Option VersionValue) → found ≡ common_of limit text
+    → IfNone found (NoValue (IsCommon limit text))
 common_none limit text None e = λ v c. cc (e, common_complete limit text v c)
 common_none limit text (Some v) e = tt
 
@@ -105,9 +106,11 @@ pub lists_left : (text : List ℕ) (major minor patch at end : ℕ) (pre build :
 lists_left text major minor patch at end pre build e lt =
     ap (whole_of text major minor patch) (sym e) ∙ rw (drop-cons text end 0 lt) refl
 
-pub common_memory : (limit : ℕ) (text : List ℕ) → IsSomeAnd (version_at limit text (small_len text)) HasIdentifiers → (v : VersionValue) × Reads limit text v × HasIdentifiers v
+pub common_memory : (limit : ℕ) (text : List ℕ) → IsSomeAnd (version_at limit text (small_len text)) HasIdentifiers
+    → (v : VersionValue) × Reads limit text v × HasIdentifiers v
 common_memory limit text h = memory_read limit text (version_at limit text (small_len text)) (λ v e.
-    version_sound limit text (take (small_len text) text) [] (small_len text) v (sym (take-append-drop (small_len text) text)) (small_is text).0 nothing_blank e) h
+    version_sound limit text (take (small_len text) text) [] (small_len text) v (sym (take-append-drop (small_len text) text))
+    (small_is text).0 nothing_blank e) h
 
 -- numbers at the front, with the lists behind them, are a version of the text
 pub front_read : (limit : ℕ) (text : List ℕ) (t : ℕ × ℕ × ℕ × ℕ) → Some t ≡ triple_at limit text (small_len text) → Reads limit text (qualified text t)

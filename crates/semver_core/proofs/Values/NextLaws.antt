@@ -27,7 +27,8 @@ more_least (x ∷ xs) [] h k = refl
 more_least (x ∷ xs) (y ∷ ys) h k = next_least (x ∷ xs) (y ∷ ys) k
 
 -- nothing lies between a version and the next, whatever their builds
-pub least_after_pre_release : (v u : VersionValue) → 0 < length v.pre_release → precedence v u ≡ Less → is_le (precedence (record v { pre_release = v.pre_release ++ Numeric 0 ∷ [] }) u) ≡ true
+pub least_after_pre_release : (v u : VersionValue) → 0 < length v.pre_release → precedence v u ≡ Less
+    → is_le (precedence (record v { pre_release = v.pre_release ++ Numeric 0 ∷ [] }) u) ≡ true
 least_after_pre_release v u some h = upto (below_cases v u h)
   where
     next : VersionValue
@@ -37,9 +38,11 @@ least_after_pre_release v u some h = upto (below_cases v u h)
     upto (by_major a) = upto_major next u a
     upto (by_minor a b) = upto_minor next u a b
     upto (by_patch a b c) = ap is_le (above_patch next u a b c)
-    upto (by_pre a b c d) = upto_patch next u (omega arith) (omega arith) (omega arith) (more_least v.pre_release u.pre_release some d)
+    upto (by_pre a b c d) =
+        upto_patch next u (omega arith) (omega arith) (omega arith) (more_least v.pre_release u.pre_release some d)
 
-pub least_after_release : (v u : VersionValue) → v.pre_release ≡ [] → precedence v u ≡ Less → is_le (precedence (record v { patch = v.patch + 1; pre_release = Numeric 0 ∷ [] }) u) ≡ true
+pub least_after_release : (v u : VersionValue) → v.pre_release ≡ [] → precedence v u ≡ Less
+    → is_le (precedence (record v { patch = v.patch + 1; pre_release = Numeric 0 ∷ [] }) u) ≡ true
 least_after_release v u none h = upto (below_cases v u h)
   where
     next : VersionValue
@@ -51,7 +54,8 @@ least_after_release v u none h = upto (below_cases v u h)
     upto (by_patch a b c) = upto_patch next u (omega arith) (omega arith) (omega arith) (zero_least u.pre_release)
     upto (by_pre a b c d) = absurd (empty_not_below u.pre_release (ap (λ xs. pre_cmp xs u.pre_release) (sym none) ∙ d))
 
-pub next_of_pre_release : (v : VersionValue) → IsVersion v → 0 < length v.pre_release → IsLeastVersion (IsAbove v) (record v { pre_release = v.pre_release ++ Numeric 0 ∷ [] })
+pub next_of_pre_release : (v : VersionValue) → IsVersion v → 0 < length v.pre_release
+    → IsLeastVersion (IsAbove v) (record v { pre_release = v.pre_release ++ Numeric 0 ∷ [] })
 next_of_pre_release v is_version some = record {
   is_version = record {
     major = is_version.major;
@@ -60,6 +64,7 @@ next_of_pre_release v is_version some = record {
     pre_release = All-append IsId v.pre_release (Numeric 0 ∷ []) is_version.pre_release zero_alone;
     build = is_version.build;
   };
-  inside = above_pre v (record v { pre_release = v.pre_release ++ Numeric 0 ∷ [] }) refl refl refl (more_above v.pre_release some);
+  inside = above_pre v (record v { pre_release = v.pre_release ++ Numeric 0 ∷ [] }) refl refl refl
+      (more_above v.pre_release some);
   least = λ u h. least_after_pre_release v u some h;
 }

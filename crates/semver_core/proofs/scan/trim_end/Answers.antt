@@ -5,13 +5,13 @@ use Rattle.semver_core.proofs.scan.trim_end.Goals as goal
 
 pub returns-then-not-is_whitespace : goal.returns-then-not-is_whitespace
 returns-then-not-is_whitespace c =
-    shortened_stop c.args.text.now c.spaces.rest.now c.next_back.new.self.rest.now c.in-Some.character c.spaces.invariant.shortened (search rules)
-    (sym c.spaces.invariant.left ∙ c.in-Some.ensures.steps) (sym c.if-not-is_whitespace.ensures)
+    shortened_stop c.args.text.now c.spaces.rest.now c.next_back.new.self.rest.now c.in-Some.character c.spaces.invariant.shortened
+    (search rules) (sym c.spaces.invariant.left ∙ c.in-Some.ensures.steps) (sym c.if-not-is_whitespace.ensures)
 
 pub spaces-preserved : goal.spaces-preserved
 spaces-preserved c = record {
   shortened =
-      shortened_more c.args.text.now c.spaces.rest.now c.as_str-rest.result.now c.in-Some.character c.spaces.invariant.shortened c.as_str-rest.utf8
+      shortened_more c.args.text.now c.spaces.rest.now _ c.in-Some.character c.spaces.invariant.shortened c.as_str-rest.utf8
       (sym c.spaces.invariant.left ∙ c.in-Some.ensures.steps ∙ ap (λ t. t ++ encode_utf8 c.in-Some.character) (sym c.as_str-rest.ensures))
       (sym c.if-not-is_whitespace.ensures);
   left = sym c.as_str-rest.ensures;

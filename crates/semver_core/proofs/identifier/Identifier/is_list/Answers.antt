@@ -15,6 +15,6 @@ returns-else-is_empty c =
     let text = c.args.text.now in
     let some : 0 < length text = search (rules, tests) in
     all_from_yields_List is_identifier _ _ _ c.all.ensures.ran
-    (YieldsList-from_slice_split _ (λ b. eqb b 46) text c.split.ensures.rest c.split.ensures.done c.split.ensures.closure (λ x b q k. search (rules, tests)))
-    (λ x b q k. search (rules, tests))
+    (YieldsList-from_slice_split _ (λ b. eqb b 46) text c.split.ensures.rest c.split.ensures.done c.split.ensures.closure
+    (λ x b q k. search (rules, tests))) (λ x b q k. search (rules, tests))
     ∙ sym (listed_by_pieces text some)

@@ -24,6 +24,7 @@ returns c = record {
   tied = λ v w. (
     same_key v w,
     λ e.
-        (λ i. precedence (record { major = e.0 i; minor = e.1 i; patch = e.2 i; pre_release = e.3 i; build = [] }) w) ∙ tied_itself precedence_total w,
+        (λ i. precedence (record { major = e.0 i; minor = e.1 i; patch = e.2 i; pre_release = e.3 i; build = [] }) w)
+        ∙ tied_itself precedence_total w,
   );
 }

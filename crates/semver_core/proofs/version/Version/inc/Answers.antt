@@ -8,7 +8,7 @@ use Rattle.semver_core.specs.Increments.View.{Returns}
 use Rattle.semver_core.specs.Values.Versions.{VersionValue}
 use Rattle.semver_core.specs.declared.increment.IdentifierBase.TheVariants.{Value}
 use Rattle.semver_core.proofs.Increments.Clauses.{of_word, of_plain_word, above_of, build_of}
-use Rattle.semver_core.proofs.Increments.Laws.{IsNextPatch, IsNextMinor, IsNextMajor, patch_least, minor_least, major_least, premajor_least, preminor_least, prepatch_least, prerelease_least}
+use Rattle.semver_core.proofs.Increments.Laws.{IsNextPatch, IsNextMinor, IsNextMajor, IsMinorAbove, IsPatchAbove, patch_least, minor_least, major_least, premajor_least, preminor_least, prepatch_least, prerelease_least}
 use Rattle.semver_core.proofs.version.Version.inc.Goals as goal
 
 pub returns : goal.returns
@@ -16,6 +16,8 @@ returns c =
     let v = c.args.self.now in
     let id = option_copied c.args.identifier in
     let base = c.args.base in
+    let name = unwrap_or id [] in
+    let start = unwrap_or base (Value 0) in
     let k = c.is_version.ensures in
     let told = subst (λ w. Returns {A = VersionValue} (answer_of_inc w c.args.word.now id base) c.increment.result)
     c.of.ensures c.increment.ensures in
@@ -23,13 +25,14 @@ returns c =
     let plain = of_plain_word v c.args.word.now id base c.increment.result told in
     record {
       value = told;
-      patch = word (IsLeastOrOverflow (IsNextPatch v)) (codes "patch") (patch_least v (unwrap_or id []) (unwrap_or base (Value 0)) k);
-      minor = word (IsLeastOrOverflow (IsNextMinor v)) (codes "minor") (minor_least v (unwrap_or id []) (unwrap_or base (Value 0)) k);
-      major = word (IsLeastOrOverflow (IsNextMajor v)) (codes "major") (major_least v (unwrap_or id []) (unwrap_or base (Value 0)) k);
+      patch = word (IsLeastOrOverflow (IsNextPatch v)) (codes "patch") (patch_least v name start k);
+      minor = word (IsLeastOrOverflow (IsNextMinor v)) (codes "minor") (minor_least v name start k);
+      major = word (IsLeastOrOverflow (IsNextMajor v)) (codes "major") (major_least v name start k);
       premajor = plain (IsLeastOrOverflow (λ w. w.major ≡ v.major + 1)) (codes "premajor") (premajor_least v [] (Value 0) k);
-      preminor = plain (IsLeastOrOverflow (λ w. (w.major ≡ v.major) × (w.minor ≡ v.minor + 1))) (codes "preminor") (preminor_least v [] (Value 0) k);
-      prepatch = plain (IsLeastOrOverflow (λ w. (w.major ≡ v.major) × (w.minor ≡ v.minor) × (w.patch ≡ v.patch + 1))) (codes "prepatch") (prepatch_least v [] (Value 0) k);
-      prerelease = λ e none rises no_number. plain (λ answer. IsOkAnd answer (IsLeastVersion (IsAbove v))) (codes "prerelease") (prerelease_least v k rises no_number) e none;
+      preminor = plain (IsLeastOrOverflow (IsMinorAbove v)) (codes "preminor") (preminor_least v [] (Value 0) k);
+      prepatch = plain (IsLeastOrOverflow (IsPatchAbove v)) (codes "prepatch") (prepatch_least v [] (Value 0) k);
+      prerelease = λ e none rises no_number. plain (λ answer. IsOkAnd answer (IsLeastVersion (IsAbove v))) (codes "prerelease")
+          (prerelease_least v k rises no_number) e none;
       above = above_of v c.args.word.now id base c.increment.result told;
       build = build_of v c.args.word.now id base c.increment.result told;
     }

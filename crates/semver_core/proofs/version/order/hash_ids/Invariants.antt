@@ -5,7 +5,8 @@ use Rattle.semver_core.proofs.version.order.hash_ids.Given as goal
 
 abbrev pub invariant-ids : goal.invariant-ids
 invariant-ids g l =
-    fold g.H.Hasher.write l.state (flat_map id_writes l.others) ≡ fold g.H.Hasher.write l.initial.state (flat_map id_writes l.initial.others)
+    fold g.H.Hasher.write l.state (flat_map id_writes l.others)
+    ≡ fold g.H.Hasher.write l.initial.state (flat_map id_writes l.initial.others)
 
 abbrev pub decreases-ids : goal.decreases-ids
 decreases-ids g l = length l.others
