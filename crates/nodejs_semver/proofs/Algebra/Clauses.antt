@@ -32,7 +32,8 @@ of_result list r e P h = IfOk-weaker r _ P (λ q k. subst P (sym k) h) e
 
 intersection-set : (a b : List (Span VersionValue)) (v : VersionValue)
     → option_list_holds precedence (intersection a b) v ≡ (list_holds precedence a v && list_holds precedence b v)
-intersection-set a b v = option_list_holds-if_any precedence (meets_of precedence a b) v ∙ list_holds-meets_of precedence_total a b v
+intersection-set a b v =
+    option_list_holds-if_any precedence (meets_of precedence a b) v ∙ list_holds-meets_of precedence_total a b v
 
 difference-set : (a b : List (Span VersionValue)) (v : VersionValue)
     → option_list_holds precedence (difference a b) v ≡ (list_holds precedence a v && not (list_holds precedence b v))
@@ -40,7 +41,8 @@ difference-set a b v = option_list_holds-if_any precedence (minus precedence a b
 
 module _ {E : Type 0} (a b : List (Span VersionValue)) (r : Result (Option (List (Span VersionValue))) E)
     (e : IfOk r (λ q. q ≡ intersection a b)) where
-  pub intersected-set : IfOk r (λ q. (v : VersionValue) → option_list_holds precedence q v ≡ (list_holds precedence a v && list_holds precedence b v))
+  pub intersected-set : IfOk r
+      (λ q. (v : VersionValue) → option_list_holds precedence q v ≡ (list_holds precedence a v && list_holds precedence b v))
   intersected-set = of_result _ r e _ (intersection-set a b)
 
   pub intersected-all : IfOk r (λ q. (v : VersionValue) → option_accepts q v true ≡ (accepts a v true && accepts b v true))
@@ -48,20 +50,25 @@ module _ {E : Type 0} (a b : List (Span VersionValue)) (r : Result (Option (List
       rw (option_accepts-held (intersection a b) v, accepts-held a v, accepts-held b v)
       (intersection-set a b v))
 
-  pub intersected-both : IfOk r (λ q. (v : VersionValue) → accepts a v false ≡ true → accepts b v false ≡ true → option_accepts q v false ≡ true)
+  pub intersected-both : IfOk r
+      (λ q. (v : VersionValue) → accepts a v false ≡ true → accepts b v false ≡ true → option_accepts q v false ≡ true)
   intersected-both = of_result _ r e _ (both_accept a b)
 
-  pub intersected-one : IfOk r (λ q. (v : VersionValue) → option_accepts q v false ≡ true → (accepts a v false || accepts b v false) ≡ true)
+  pub intersected-one : IfOk r
+      (λ q. (v : VersionValue) → option_accepts q v false ≡ true → (accepts a v false || accepts b v false) ≡ true)
   intersected-one = of_result _ r e _ (one_accepts a b)
 
-  pub intersected-releases : IfOk r (λ q. (v : VersionValue) → is_release v ≡ true → option_accepts q v false ≡ (accepts a v false && accepts b v false))
+  pub intersected-releases : IfOk r
+      (λ q. (v : VersionValue) → is_release v ≡ true → option_accepts q v false ≡ (accepts a v false && accepts b v false))
   intersected-releases = of_result _ r e _ (λ v k.
       rw (option_accepts-release (intersection a b) v k, accepts-release a v k, accepts-release b v k)
       (intersection-set a b v))
 
 module _ {E : Type 0} (a b : List (Span VersionValue)) (r : Result (Option (List (Span VersionValue))) E)
     (e : IfOk r (λ q. q ≡ difference a b)) where
-  pub left_over-set : IfOk r (λ q. (v : VersionValue) → option_list_holds precedence q v ≡ (list_holds precedence a v && not (list_holds precedence b v)))
+  pub left_over-set : IfOk r
+      (λ q. (v : VersionValue)
+      → option_list_holds precedence q v ≡ (list_holds precedence a v && not (list_holds precedence b v)))
   left_over-set = of_result _ r e _ (difference-set a b)
 
   pub left_over-all : IfOk r (λ q. (v : VersionValue) → option_accepts q v true ≡ (accepts a v true && not (accepts b v true)))
@@ -69,10 +76,12 @@ module _ {E : Type 0} (a b : List (Span VersionValue)) (r : Result (Option (List
       rw (option_accepts-held (difference a b) v, accepts-held a v, accepts-held b v)
       (difference-set a b v))
 
-  pub left_over-kept : IfOk r (λ q. (v : VersionValue) → accepts a v false ≡ true → list_holds precedence b v ≡ false → option_accepts q v false ≡ true)
+  pub left_over-kept : IfOk r
+      (λ q. (v : VersionValue) → accepts a v false ≡ true → list_holds precedence b v ≡ false → option_accepts q v false ≡ true)
   left_over-kept = of_result _ r e _ (λ v h k. option_accepts-if_any (minus precedence a b) v false ∙ accepts-minus a b v h k)
 
-  pub left_over-releases : IfOk r (λ q. (v : VersionValue) → is_release v ≡ true → option_accepts q v false ≡ (accepts a v false && not (accepts b v false)))
+  pub left_over-releases : IfOk r
+      (λ q. (v : VersionValue) → is_release v ≡ true → option_accepts q v false ≡ (accepts a v false && not (accepts b v false)))
   left_over-releases = of_result _ r e _ (λ v k.
       rw (option_accepts-release (difference a b) v k, accepts-release a v k, accepts-release b v k)
       (difference-set a b v))
@@ -100,4 +109,5 @@ all_intervals n = all_weaker (is_range_span n) (is_interval precedence) (λ s h.
 
 pub range-intervals : (a xs : List (Span VersionValue)) → IsRange MAX_SAFE_INTEGER a → xs ≡ a
     → list_all (is_interval precedence) xs ≡ true
-range-intervals a xs h e = all_intervals (MAX_SAFE_INTEGER + 1) xs (ap (list_all (is_range_span (MAX_SAFE_INTEGER + 1))) e ∙ h.each)
+range-intervals a xs h e =
+    all_intervals (MAX_SAFE_INTEGER + 1) xs (ap (list_all (is_range_span (MAX_SAFE_INTEGER + 1))) e ∙ h.each)

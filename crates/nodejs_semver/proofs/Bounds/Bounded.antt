@@ -25,7 +25,8 @@ runs-normal : (runs : List (List ℕ)) → list_all is_identifier runs ≡ true 
 runs-normal [] h = refl
 runs-normal (run ∷ rest) h =
     and_from (is_normal (identifier_of run)) (list_all is_normal (map identifier_of rest))
-    (run-normal run (first_so (is_identifier run) (list_all is_identifier rest) h)) (runs-normal rest (second_so (is_identifier run) (list_all is_identifier rest) h))
+    (run-normal run (first_so (is_identifier run) (list_all is_identifier rest) h))
+    (runs-normal rest (second_so (is_identifier run) (list_all is_identifier rest) h))
 
 identifiers-normal : (text : List ℕ) (ids : List Id) → IsIdentifiers text ids → list_all is_normal ids ≡ true
 identifiers-normal text ids h = rw h.spelled (runs-normal (pieces text) h.runs)

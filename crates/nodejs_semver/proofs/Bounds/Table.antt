@@ -41,17 +41,22 @@ pick limit t b c f g = cond_both t b c (λ e. is_range_bound limit e ≡ true) (
 lower-bounded : (limit : ℕ) (s : Span VersionValue) (ts : List (Span VersionValue)) → list_all (are_bounds limit) (s ∷ ts) ≡ true → is_range_bound limit (greatest_lower precedence s ts) ≡ true
 lower-bounded limit s [] h = first_so _ _ (first_so (are_bounds limit s) true h)
 lower-bounded limit s (t ∷ rest) h =
-    pick limit _ s.lower (greatest_lower precedence t rest) (first_so _ _ (first_so (are_bounds limit s) (list_all (are_bounds limit) (t ∷ rest)) h))
+    pick limit _ s.lower (greatest_lower precedence t rest)
+    (first_so _ _ (first_so (are_bounds limit s) (list_all (are_bounds limit) (t ∷ rest)) h))
     (lower-bounded limit t rest (second_so (are_bounds limit s) (list_all (are_bounds limit) (t ∷ rest)) h))
 
 upper-bounded : (limit : ℕ) (s : Span VersionValue) (ts : List (Span VersionValue)) → list_all (are_bounds limit) (s ∷ ts) ≡ true → is_range_bound limit (least_upper precedence s ts) ≡ true
-upper-bounded limit s [] h = second_so (is_range_bound limit s.lower) (is_range_bound limit s.upper) (first_so (are_bounds limit s) true h)
+upper-bounded limit s [] h =
+    second_so (is_range_bound limit s.lower) (is_range_bound limit s.upper) (first_so (are_bounds limit s) true h)
 upper-bounded limit s (t ∷ rest) h =
-    pick limit _ (least_upper precedence t rest) s.upper (upper-bounded limit t rest (second_so (are_bounds limit s) (list_all (are_bounds limit) (t ∷ rest)) h))
-    (second_so (is_range_bound limit s.lower) (is_range_bound limit s.upper) (first_so (are_bounds limit s) (list_all (are_bounds limit) (t ∷ rest)) h))
+    pick limit _ (least_upper precedence t rest) s.upper
+    (upper-bounded limit t rest (second_so (are_bounds limit s) (list_all (are_bounds limit) (t ∷ rest)) h))
+    (second_so (is_range_bound limit s.lower) (is_range_bound limit s.upper)
+    (first_so (are_bounds limit s) (list_all (are_bounds limit) (t ∷ rest)) h))
 
 run-bounded : (limit : ℕ) (r : Run VersionValue) → list_all (are_bounds limit) (run_items r) ≡ true → fits precedence r ≡ true → is_range_span limit (interval_of precedence r) ≡ true
-run-bounded limit r h one = and_from _ _ one (and_from _ _ (lower-bounded limit r.first r.others h) (upper-bounded limit r.first r.others h))
+run-bounded limit r h one =
+    and_from _ _ one (and_from _ _ (lower-bounded limit r.first r.others h) (upper-bounded limit r.first r.others h))
 
 runs-bounded : (limit : ℕ) (runs : List (Run VersionValue)) → list_all (are_bounds limit) (flat_map run_items runs) ≡ true → AllByRecursion (λ r. fits precedence r ≡ true) runs
     → list_all (is_range_span limit) (map (interval_of precedence) runs) ≡ true
@@ -59,8 +64,12 @@ runs-bounded limit [] h each = refl
 runs-bounded limit (r ∷ rest) h each =
     let both = sym (list_all-append (are_bounds limit) (run_items r) (flat_map run_items rest)) ∙ h in
     and_from (is_range_span limit (interval_of precedence r)) (list_all (is_range_span limit) (map (interval_of precedence) rest))
-    (run-bounded limit r (first_so (list_all (are_bounds limit) (run_items r)) (list_all (are_bounds limit) (flat_map run_items rest)) both) each.0)
-    (runs-bounded limit rest (second_so (list_all (are_bounds limit) (run_items r)) (list_all (are_bounds limit) (flat_map run_items rest)) both) each.1)
+    (run-bounded limit r
+    (first_so (list_all (are_bounds limit) (run_items r))
+    (list_all (are_bounds limit) (flat_map run_items rest)) both) each.0)
+    (runs-bounded limit rest
+    (second_so (list_all (are_bounds limit) (run_items r))
+    (list_all (are_bounds limit) (flat_map run_items rest)) both) each.1)
 
 pub all-bounded : (limit : ℕ) (ps : List (List ℕ)) → list_all (is_range_span (limit + 1)) (flat_map (part_denotes limit) ps) ≡ true
 all-bounded limit [] = refl

@@ -90,8 +90,10 @@ module _ (limit : ℕ) (q : Partial) (x y : List Id) where
   at_most-good a b c = grind (arith, version-is, release-is, zeroed-le)
 
   equal-good : Rows (compare equal q)
-  equal-good (Some M) (Some m) (Some p) = let w = made (Some M) (Some m) (Some p) x y in
-      (rw (tied_itself precedence_total (without_build (version_of w))) refl, λ f. and_from _ _ (unbuilt-is limit w f) (unbuilt-is limit w f))
+  equal-good (Some M) (Some m) (Some p) = let w = made (Some M) (Some m) (Some p) x y in (
+    rw (tied_itself precedence_total (without_build (version_of w))) refl,
+    λ f. and_from _ _ (unbuilt-is limit w f) (unbuilt-is limit w f),
+  )
   equal-good (Some M) (Some m) None = minor-good M m
   equal-good (Some M) None c = major-good M c
   equal-good None b c = tt
@@ -132,7 +134,8 @@ Tested limit p q t = (is_interval precedence t ≡ true) × (Fine limit p → Fi
 upper-good : (limit : ℕ) (p q : Partial) (b : Bound VersionValue) (t : Span VersionValue) → (Fine limit q → is_range_bound (limit + 1) b ≡ true)
     → interval precedence (record { lower = Before (version_of p); upper = b }) ≡ Some t → Tested limit p q t
 upper-good limit p q b t h e =
-    tested (record { lower = Before (version_of p); upper = b }) t (Tested limit p q) e (λ i. (i, λ f g. and_from _ _ (version-is limit p f) (h g)))
+    tested (record { lower = Before (version_of p); upper = b }) t (Tested limit p q) e
+    (λ i. (i, λ f g. and_from _ _ (version-is limit p f) (h g)))
 
 hyphen-good : (limit : ℕ) (p : Partial) (a b c : Option ℕ) (x y : List Id) (t : Span VersionValue)
     → row limit (hyphen p (made a b c x y)) a b c (version_of (made a b c x y)) ≡ Some t → Tested limit p (made a b c x y) t
@@ -142,9 +145,12 @@ hyphen-good limit p (Some M) None None x y t e =
     upper-good limit p (made (Some M) None None x y) (Before (lowest (M + 1) 0 0)) t (λ f. lowest-is (limit + 1) (M + 1) 0 0 (omega (arith, f.major)) (omega arith) (omega arith)) e
 hyphen-good limit p (Some M) (Some m) None x y t e =
     upper-good limit p (made (Some M) (Some m) None x y) (Before (lowest M (m + 1) 0)) t (λ f. lowest-is (limit + 1) M (m + 1) 0 (omega (arith, f.major)) (omega (arith, f.minor)) (omega arith)) e
-hyphen-good limit p None None (Some n) x y t e = let q = made None None (Some n) x y in upper-good limit p q (After (version_of q)) t (version-is limit q) e
-hyphen-good limit p None (Some m) c x y t e = let q = made None (Some m) c x y in upper-good limit p q (After (version_of q)) t (version-is limit q) e
-hyphen-good limit p (Some M) None (Some n) x y t e = let q = made (Some M) None (Some n) x y in upper-good limit p q (After (version_of q)) t (version-is limit q) e
+hyphen-good limit p None None (Some n) x y t e = let q = made None None (Some n) x y in
+    upper-good limit p q (After (version_of q)) t (version-is limit q) e
+hyphen-good limit p None (Some m) c x y t e = let q = made None (Some m) c x y in
+    upper-good limit p q (After (version_of q)) t (version-is limit q) e
+hyphen-good limit p (Some M) None (Some n) x y t e = let q = made (Some M) None (Some n) x y in
+    upper-good limit p q (After (version_of q)) t (version-is limit q) e
 hyphen-good limit p (Some M) (Some m) (Some n) x y t e =
     let q = made (Some M) (Some m) (Some n) x y in upper-good limit p q (After (version_of q)) t (version-is limit q) e
 

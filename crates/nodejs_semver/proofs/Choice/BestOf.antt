@@ -31,7 +31,8 @@ module _ {V : Type 0} (in_front behind : V → V → Bool) (ranks : Ranks in_fro
   one_more : (best : Option V) (x : V) (new : Bool) → new ≡ takes in_front set best x → IsBest in_front behind set list best
       → IsBest in_front behind set (list ++ x ∷ []) (if new then Some x else best)
   one_more None x new is h = rw is (elim (cases_Bool (set x)) [
-    | inl s ↦ rw s (record { front = list; back = []; divided = refl; inside = s; before = all_weaker _ _ (λ w g. rw g refl) list h; after = refl })
+    | inl s ↦ rw s (record
+        { front = list; back = []; divided = refl; inside = s; before = all_weaker _ _ (λ w g. rw g refl) list h; after = refl })
     | inr s ↦ rw s (list_all-append (λ w. not (set w)) list (x ∷ []) ∙ and_from _ _ h (rw s refl))
   ])
   one_more (Some b) x new is h =
@@ -52,16 +53,19 @@ module _ {V : Type 0} (in_front behind : V → V → Bool) (ranks : Ranks in_fro
             back = [];
             divided = refl;
             inside = s;
-            before = ap (list_all (λ w. not (set w) || in_front w x)) h.divided ∙ list_all-append (λ w. not (set w) || in_front w x) h.front (b ∷ h.back)
+            before = ap (list_all (λ w. not (set w) || in_front w x)) h.divided
+                ∙ list_all-append (λ w. not (set w) || in_front w x) h.front (b ∷ h.back)
                 ∙ and_from _ _ (all_weaker _ _ (λ w g. grind (arith, ranks.passes w b x better)) h.front h.before)
-                (and_from _ _ (rw (h.inside, better) refl) (all_weaker _ _ (λ w g. grind (arith, ranks.weaker w b x better)) h.back h.after));
+                (and_from _ _ (rw (h.inside, better) refl)
+                (all_weaker _ _ (λ w g. grind (arith, ranks.weaker w b x better)) h.back h.after));
             after = refl;
           })
         ]
       ])
 
 module _ {V : Type 0} {R : V → V → Ordering} (o : IsTotalOrder R) where
-  pub max_more : (set : V → Bool) (list : List V) (best : Option V) (x : V) (new : Bool) → new ≡ takes (λ b x. is_le (R b x)) set best x
+  pub max_more : (set : V → Bool) (list : List V) (best : Option V) (x : V) (new : Bool)
+      → new ≡ takes (λ b x. is_le (R b x)) set best x
       → of.IsMax R set list best → of.IsMax R set (list ++ x ∷ []) (if new then Some x else best)
   max_more = one_more _ _ (record {
     passes = λ w b x t h. le_trans o w b x h t;
@@ -69,7 +73,8 @@ module _ {V : Type 0} {R : V → V → Ordering} (o : IsTotalOrder R) where
     other = λ b x e. lt_is o x b ∙ ap not e;
   })
 
-  pub min_more : (set : V → Bool) (list : List V) (best : Option V) (x : V) (new : Bool) → new ≡ takes (λ b x. is_lt (R x b)) set best x
+  pub min_more : (set : V → Bool) (list : List V) (best : Option V) (x : V) (new : Bool)
+      → new ≡ takes (λ b x. is_lt (R x b)) set best x
       → of.IsMin R set list best → of.IsMin R set (list ++ x ∷ []) (if new then Some x else best)
   min_more = one_more _ _ (record {
     passes = λ w b x t h. lt_le o x b w t (le_of_lt (R b w) h);
@@ -78,11 +83,13 @@ module _ {V : Type 0} {R : V → V → Ordering} (o : IsTotalOrder R) where
   })
 
 -- the best so far of a loop over the list, one place further
-pub one_further : {V : Type 0} (in_front behind : V → V → Bool) (set : V → Bool) (list : List V) (i : ℕ) (x : V) (new : Bool) (best next : Option V)
+pub one_further : {V : Type 0} (in_front behind : V → V → Bool) (set : V → Bool) (list : List V) (i : ℕ) (x : V) (new : Bool)
+    (best next : Option V)
     → i < length list → x ≡ get_or list i x → IsBest in_front behind set (take i list ++ x ∷ []) (if new then Some x else best)
     → next ≡ (if new then Some x else best) → IsBest in_front behind set (take (i + 1) list) next
 one_further in_front behind set list i x new best next within at h is =
-    rw (is, take_more list i x within) (subst (λ y. IsBest in_front behind set (take i list ++ y ∷ []) (if new then Some x else best)) at h)
+    rw (is, take_more list i x within)
+    (subst (λ y. IsBest in_front behind set (take i list ++ y ∷ []) (if new then Some x else best)) at h)
 
 -- what callers cite of the best: it is a version of the list that is in the set, and none of the set in the list beats it; and
 -- there is none where no version of the list is in the set
@@ -90,7 +97,8 @@ abbrev pub Says : {V : Type 0} → (V → V → Bool) → (V → Bool) → List 
 Says beaten set list r = IfSome r (λ v. Contains list v.now) × IfSome r (λ v. set v.now ≡ true)
     × IfSome r (λ v. All (λ w. set w ≡ true → beaten w v.now ≡ true) list) × IfNone r (All (λ w. set w ≡ false) list)
 
-module _ {V : Type 0} (in_front behind beaten : V → V → Bool) (front : (w v : V) → in_front w v ≡ true → beaten w v ≡ true) (back : (w v : V) → behind w v ≡ true → beaten w v ≡ true)
+module _ {V : Type 0} (in_front behind beaten : V → V → Bool) (front : (w v : V) → in_front w v ≡ true → beaten w v ≡ true)
+    (back : (w v : V) → behind w v ≡ true → beaten w v ≡ true)
     (tied : (v : V) → beaten v v ≡ true) (set : V → Bool) where
   in_set_only : (s a b : Bool) → (a ≡ true → b ≡ true) → (not s || a) ≡ true → s ≡ true → b ≡ true
   in_set_only s a b f h k = grind arith
@@ -101,12 +109,20 @@ module _ {V : Type 0} (in_front behind beaten : V → V → Bool) (front : (w v 
       let Beaten : V → Type 0 = λ w. set w ≡ true → beaten w v ≡ true in
       All-same Beaten list (h.front ++ v ∷ h.back) h.divided
       (All-append Beaten h.front (v ∷ h.back)
-      (All-weaker (Says in_front) Beaten (λ w q. in_set_only (set w) (in_front w v) (beaten w v) (front w v) q) h.front (AllPass-from_list_all _ h.front h.before))
-      (All-cons Beaten v h.back (λ k. tied v) (All-weaker (Says behind) Beaten (λ w q. in_set_only (set w) (behind w v) (beaten w v) (back w v) q) h.back (AllPass-from_list_all _ h.back h.after))))
+      (All-weaker (Says in_front) Beaten (λ w q. in_set_only (set w) (in_front w v) (beaten w v) (front w v) q) h.front
+      (AllPass-from_list_all _ h.front h.before))
+      (All-cons Beaten v h.back (λ k. tied v)
+      (All-weaker (Says behind) Beaten (λ w q. in_set_only (set w) (behind w v) (beaten w v) (back w v) q) h.back
+      (AllPass-from_list_all _ h.back h.after))))
 
   best_says : (list : List V) (r : Option (Bor V)) → IsBest in_front behind set list (option_copied r) → Says beaten set list r
-  best_says list None h =
-      (tt, tt, tt, All-weaker (λ w. not (set w) ≡ true) (λ w. set w ≡ false) (λ w q. not-true (set w) q) list (AllPass-from_list_all _ list h))
+  best_says list None h = (
+    tt,
+    tt,
+    tt,
+    All-weaker (λ w. not (set w) ≡ true) (λ w. set w ≡ false) (λ w q. not-true (set w) q) list
+        (AllPass-from_list_all _ list h),
+  )
   best_says list (Some v) h =
       let member = Contains-append_right h.front (v.now ∷ h.back) v.now (0, omega arith, refl) in
       (subst (λ l. Contains l v.now) (sym h.divided) member, h.inside, all_beaten list v.now h, tt)
@@ -114,10 +130,12 @@ module _ {V : Type 0} (in_front behind beaten : V → V → Bool) (front : (w v 
 tied_le : (v : VersionValue) → is_le (precedence v v) ≡ true
 tied_le v = ap is_le (tied_itself precedence_total v)
 
-pub max_says : (set : VersionValue → Bool) (list : List VersionValue) (r : Option (Bor VersionValue)) → IsMax set list (option_copied r)
+pub max_says : (set : VersionValue → Bool) (list : List VersionValue) (r : Option (Bor VersionValue))
+    → IsMax set list (option_copied r)
     → Says (λ w v. is_le (precedence w v)) set list r
 max_says = best_says _ _ _ (λ w v h. h) (λ w v h. le_of_lt (precedence w v) h) tied_le
 
-pub min_says : (set : VersionValue → Bool) (list : List VersionValue) (r : Option (Bor VersionValue)) → IsMin set list (option_copied r)
+pub min_says : (set : VersionValue → Bool) (list : List VersionValue) (r : Option (Bor VersionValue))
+    → IsMin set list (option_copied r)
     → Says (λ w v. is_le (precedence v w)) set list r
 min_says = best_says _ _ _ (λ w v h. le_of_lt (precedence v w) h) (λ w v h. h) tied_le

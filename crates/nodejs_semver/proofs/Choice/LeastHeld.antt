@@ -34,7 +34,8 @@ past_lower (After w) = by_kind (is_release w) refl
         → is_past precedence (Beside w Far) (if r then first_pre (patch_after w) else pre_after w) ≡ true
     by_kind r k = grind (arith, past_less, above_patch, next_pre_above)
 
-least_past : (b : Bound VersionValue) (v : VersionValue) → is_past precedence (lower_cut b) v ≡ true → is_gt (precedence (first_past b) v) ≡ false
+least_past : (b : Bound VersionValue) (v : VersionValue) → is_past precedence (lower_cut b) v ≡ true
+    → is_gt (precedence (first_past b) v) ≡ false
 least_past Unbounded v h = le_not_gt _ (first_of_all v)
 least_past (Before w) v h = past_order w v Near h
 least_past (After w) v h = by_kind (is_release w) refl
@@ -46,12 +47,17 @@ least_past (After w) v h = by_kind (is_release w) refl
 held : (a b c d : Bool) → c ≡ true → (d ≡ true → b ≡ true) → (a && not b) ≡ true → (c && not d) ≡ true
 held a b c d e f h = grind arith
 
-least_in : (s : Span VersionValue) (v : VersionValue) → holds precedence s v ≡ true → is_gt (precedence (first_past s.lower) v) ≡ false
-least_in s v h = least_past s.lower v (first_so (is_past precedence (lower_cut s.lower) v) (not (is_past precedence (upper_cut s.upper) v)) h)
+least_in : (s : Span VersionValue) (v : VersionValue) → holds precedence s v ≡ true
+    → is_gt (precedence (first_past s.lower) v) ≡ false
+least_in s v h = least_past s.lower v
+    (first_so (is_past precedence (lower_cut s.lower) v) (not (is_past precedence (upper_cut s.upper) v)) h)
 
-first_held : (s : Span VersionValue) (v : VersionValue) → holds precedence s v ≡ true → holds precedence s (first_past s.lower) ≡ true
+first_held : (s : Span VersionValue) (v : VersionValue) → holds precedence s v ≡ true
+    → holds precedence s (first_past s.lower) ≡ true
 first_held s v h =
-    held (is_past precedence (lower_cut s.lower) v) (is_past precedence (upper_cut s.upper) v) (is_past precedence (lower_cut s.lower) (first_past s.lower)) (is_past precedence (upper_cut s.upper) (first_past s.lower))
+    held (is_past precedence (lower_cut s.lower) v) (is_past precedence (upper_cut s.upper) v)
+    (is_past precedence (lower_cut s.lower) (first_past s.lower))
+    (is_past precedence (upper_cut s.upper) (first_past s.lower))
     (past_lower s.lower)
     (past_up v (first_past s.lower) (least_in s v h) (upper_cut s.upper))
     h
@@ -77,8 +83,10 @@ candidate set (s ∷ ss) v f h = elim (or_cases (holds precedence s v && true) (
 ]
 
 -- the least first version that is held is the least version that is held, and it has no build
-pub least_held : (ss : List (Span VersionValue)) → IsLeastOf (λ v. accepts ss v true) (least_of (λ v. accepts ss v true) (firsts_past ss))
-least_held ss = least_named (λ v. accepts ss v true) (firsts_past ss) (λ v h. candidate (λ v. accepts ss v true) ss v (λ x e. e) h)
+pub least_held : (ss : List (Span VersionValue))
+    → IsLeastOf (λ v. accepts ss v true) (least_of (λ v. accepts ss v true) (firsts_past ss))
+least_held ss = least_named (λ v. accepts ss v true) (firsts_past ss)
+    (λ v h. candidate (λ v. accepts ss v true) ss v (λ x e. e) h)
 
 past_bare : (b : Bound VersionValue) → (first_past b).build ≡ []
 past_bare b = grind arith
@@ -87,5 +95,6 @@ bare_firsts : (ss : List (Span VersionValue)) → All (λ v. v.build ≡ []) (fi
 bare_firsts [] = All-nil (λ v. v.build ≡ [])
 bare_firsts (s ∷ ss) = All-cons (λ v. v.build ≡ []) (first_past s.lower) (firsts_past ss) (past_bare s.lower) (bare_firsts ss)
 
-pub held_bare : (ss : List (Span VersionValue)) (r : Option VersionValue) → r ≡ least_of (λ v. accepts ss v true) (firsts_past ss) → IfSome r (λ v. v.build ≡ [])
+pub held_bare : (ss : List (Span VersionValue)) (r : Option VersionValue) → r ≡ least_of (λ v. accepts ss v true) (firsts_past ss)
+    → IfSome r (λ v. v.build ≡ [])
 held_bare ss r e = list_bare (λ v. accepts ss v true) (firsts_past ss) r (bare_firsts ss) e

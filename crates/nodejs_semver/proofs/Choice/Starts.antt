@@ -21,7 +21,8 @@ use Rattle.nodejs_semver.specs.Ranges.Least.{least_build}
 use Rattle.nodejs_semver.proofs.Algebra.Gate.{past_order}
 
 -- what the span accepts is not below its start
-above_start : (s : Span VersionValue) (w x : VersionValue) → StartsWith s w → holds precedence s x ≡ true → is_le (precedence w x) ≡ true
+above_start : (s : Span VersionValue) (w x : VersionValue) → StartsWith s w → holds precedence s x ≡ true
+    → is_le (precedence w x) ≡ true
 above_start s w x start h =
     (tells (precedence w x)).0
     ∙ ap not (past_order w x Near (sym (ap (λ b. is_past precedence (lower_cut b) x) start.0) ∙ first_so _ _ h))
@@ -40,7 +41,8 @@ find_none p (x ∷ xs) h =
 find_some : {X : Type 0} (p : X → Bool) (xs : List X) (o : Option X) → list_any p xs ≡ true → option_or (find p xs) o ≡ find p xs
 find_some p [] o h = absurd (false≢true h)
 find_some p (x ∷ xs) o h =
-    cond_both (p x) (Some x) (find p xs) (λ f. option_or f o ≡ f) (λ _. refl) (λ e. find_some p xs o (ap (λ t. t || list_any p xs) (sym e) ∙ h))
+    cond_both (p x) (Some x) (find p xs) (λ f. option_or f o ≡ f) (λ _. refl)
+    (λ e. find_some p xs o (ap (λ t. t || list_any p xs) (sym e) ∙ h))
 
 -- a start below all that was accepted so far is the least version
 fresh : (ss : List (Span VersionValue)) (s : Span VersionValue) (w : VersionValue) → StartsWith s w
@@ -76,7 +78,8 @@ step ss (Some b) s w h start =
     (λ e. fresh ss s w start (λ x k. lt_le precedence_total w b x (lt_is precedence_total w b ∙ ap not e) (h.0.1 x k)))
 
 -- one more span, at its place
-pub one_further : (ss : List (Span VersionValue)) (i : ℕ) (best : Option VersionValue) (s : Span VersionValue) (w next : VersionValue)
+pub one_further : (ss : List (Span VersionValue)) (i : ℕ) (best : Option VersionValue) (s : Span VersionValue)
+    (w next : VersionValue)
     → i < length ss → s ≡ get_or ss i s → IsLeastSoFar (take i ss) best → StartsWith s w → next ≡ lesser best w
     → IsLeastBuilt (take (i + 1) ss) next
 one_further ss i best s w next fits at h start e =

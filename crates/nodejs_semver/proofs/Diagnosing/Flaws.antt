@@ -49,47 +49,62 @@ zeros limit (suc k) c nine h = (48 ∷ dots k, numeral limit c (46 ∷ 48 ∷ do
 
 right-digit : (limit : ℕ) (Starts : List ℕ → Type 0) (front : List ℕ) (k : ℕ) → 9 ≤ limit → Place limit Starts front k
     → (c : ℕ) → is_ascii_digit c ≡ true → IsFront limit (front ++ c ∷ [])
-right-digit limit Starts front k nine p c h =
-    (dots k, subst (λ (t : List ℕ). IsWhole limit t) (sym (append_assoc front (c ∷ []) (dots k))) (p.whole (c ∷ dots k) (zeros limit k c nine h)))
+right-digit limit Starts front k nine p c h = (
+  dots k,
+  subst (λ (t : List ℕ). IsWhole limit t) (sym (append_assoc front (c ∷ []) (dots k)))
+      (p.whole (c ∷ dots k) (zeros limit k c nine h)),
+)
 
-right-dot : (limit : ℕ) (Starts : List ℕ → Type 0) (front d : List ℕ) (n k : ℕ) → 9 ≤ limit → Place limit Starts front (suc k) → IsNumber limit d n
+right-dot : (limit : ℕ) (Starts : List ℕ → Type 0) (front d : List ℕ) (n k : ℕ) → 9 ≤ limit → Place limit Starts front (suc k)
+    → IsNumber limit d n
     → (c : ℕ) → eqb c 46 ≡ true → IsFront limit ((front ++ d) ++ c ∷ [])
 right-dot limit Starts front d n k nine p number c h =
     let rest = 48 ∷ dots k in
     let joined : ((front ++ d) ++ c ∷ []) ++ rest ≡ front ++ (d ++ 46 ∷ rest) = rw (eqb-true c 46 h) (simp append_assoc) in (
       rest,
       subst (λ (t : List ℕ). IsWhole limit t) (sym joined)
-          (p.whole (d ++ 46 ∷ rest) (rest, record { digits = d; n = n; divided = refl; is = record { number = number; ended = refl } }, zeros limit k 48 nine refl)),
+          (p.whole (d ++ 46 ∷ rest) (
+            rest,
+            record { digits = d; n = n; divided = refl; is = record { number = number; ended = refl } },
+            zeros limit k 48 nine refl,
+          )),
     )
 
-no-digit : (limit : ℕ) (Starts : List ℕ → Type 0) (front : List ℕ) (k : ℕ) → Place limit Starts front k → (text : List ℕ) → Starts text
+no-digit : (limit : ℕ) (Starts : List ℕ → Type 0) (front : List ℕ) (k : ℕ) → Place limit Starts front k → (text : List ℕ)
+    → Starts text
     → begins is_ascii_digit text ≡ false → NoValue (Reads limit (front ++ text))
 no-digit limit Starts front k p text s h = λ v r.
     let tail = r.pre_release ++ (r.build ++ r.rest) in
     let found = first_numeral limit k text tail (p.only text tail s (v, r, refl)) in
     cc (sym h ∙ numeral_begins limit text found.0 found.1)
 
-no-dot-yet : (limit : ℕ) (Starts : List ℕ → Type 0) (front : List ℕ) (k : ℕ) → Place limit Starts front k → IsFront limit (front ++ 46 ∷ []) → ⊥
+no-dot-yet : (limit : ℕ) (Starts : List ℕ → Type 0) (front : List ℕ) (k : ℕ) → Place limit Starts front k
+    → IsFront limit (front ++ 46 ∷ []) → ⊥
 no-dot-yet limit Starts front k p f =
     let w = subst (λ (t : List ℕ). IsWhole limit t) (append_assoc front (46 ∷ []) f.0) f.1 in
     no-digit limit Starts front k p (46 ∷ f.0) (p.dot f.0) refl w.0 w.1
 
-no-great : (limit : ℕ) (Starts : List ℕ → Type 0) (front : List ℕ) (k : ℕ) → Place limit Starts front k → (text : List ℕ) → Starts text
+no-great : (limit : ℕ) (Starts : List ℕ → Type 0) (front : List ℕ) (k : ℕ) → Place limit Starts front k → (text : List ℕ)
+    → Starts text
     → BeginsGreat limit text → NoValue (Reads limit (front ++ text))
 no-great limit Starts front k p text s g = λ v r.
     let tail = r.pre_release ++ (r.build ++ r.rest) in
     let found = first_numeral limit k text tail (p.only text tail s (v, r, refl)) in
     let m = found.1 in
-    let same = digits_once g.digits m.digits g.rest found.0 g.each m.is.number.each g.ended m.is.ended (sym g.divided ∙ m.divided) in
+    let same = digits_once g.digits m.digits g.rest found.0 g.each m.is.number.each g.ended m.is.ended
+    (sym g.divided ∙ m.divided) in
     absurd (omega (arith, g.above, m.is.number.value, m.is.number.safe, ap (λ (d : List ℕ). digits_value 10 d) same.0))
 
-no-dot : (limit : ℕ) (Starts : List ℕ → Type 0) (front d : List ℕ) (n k : ℕ) → Place limit Starts front (suc k) → IsNumber limit d n → (text : List ℕ)
+no-dot : (limit : ℕ) (Starts : List ℕ → Type 0) (front d : List ℕ) (n k : ℕ) → Place limit Starts front (suc k)
+    → IsNumber limit d n → (text : List ℕ)
     → begins is_ascii_digit text ≡ false → begins_dot text ≡ false → NoValue (Reads limit ((front ++ d) ++ text))
 no-dot limit Starts front d n k p number text digit dot = λ v r.
     let tail = r.pre_release ++ (r.build ++ r.rest) in
-    let h : HasTail limit (front ++ (d ++ text)) tail = subst (λ (t : List ℕ). HasTail limit t tail) (append_assoc front d text) (v, r, refl) in
+    let h : HasTail limit (front ++ (d ++ text)) tail =
+    subst (λ (t : List ℕ). HasTail limit t tail) (append_assoc front d text) (v, r, refl) in
     let found = p.only (d ++ text) tail (p.digit (d ++ text) (number_begins d text number.some number.each)) h in
-    let same : text ≡ 46 ∷ found.0 = numeral_once limit d text (46 ∷ found.0) n (record { number = number; ended = digit }) found.1 in
+    let same : text ≡ 46 ∷ found.0 =
+    numeral_once limit d text (46 ∷ found.0) n (record { number = number; ended = digit }) found.1 in
     cc (sym dot ∙ ap (λ (t : List ℕ). begins_dot t) same)
 
 -- ---- places
@@ -98,11 +113,14 @@ no-dot limit Starts front d n k p number text digit dot = λ v r.
 cut : (text : List ℕ) (at end : ℕ) (piece : List ℕ) → at ≤ length text → end ≤ length text → drop at text ≡ piece ++ drop end text
     → take end text ≡ take at text ++ piece
 cut text at end piece a e d =
-    let place : end ≡ at + length piece = omega (arith, ap length d, length-append piece (drop end text), length-drop at text, length-drop end text) in
+    let place : end ≡ at + length piece =
+    omega (arith, ap length d, length-append piece (drop end text), length-drop at text, length-drop end text) in
     ap (λ (n : ℕ). take n text) place ∙ (take-add at (length piece) text
-    ∙ ap (λ (t : List ℕ). take at text ++ t) (ap (λ (t : List ℕ). take (length piece) t) d ∙ take-append_seam piece (drop end text)))
+    ∙ ap (λ (t : List ℕ). take at text ++ t)
+    (ap (λ (t : List ℕ). take (length piece) t) d ∙ take-append_seam piece (drop end text)))
 
-dot-next : (text : List ℕ) (at : ℕ) → begins_dot (drop at text) ≡ true → (drop at text ≡ 46 ∷ drop (at + 1) text) × (at + 1 ≤ length text)
+dot-next : (text : List ℕ) (at : ℕ) → begins_dot (drop at text) ≡ true → (drop at text ≡ 46 ∷ drop (at + 1) text)
+    × (at + 1 ≤ length text)
 dot-next text at h = go (drop at text) refl h
   where
     go : (t : List ℕ) → drop at text ≡ t → begins_dot t ≡ true → (drop at text ≡ 46 ∷ drop (at + 1) text) × (at + 1 ≤ length text)
@@ -121,7 +139,8 @@ IsWrong limit text (Flaw.NumberTooGreat at) = IsGreatAt limit text at
 IsWrong limit text (Flaw.Expected what at) = IsExpectedAt limit text what at
 IsWrong limit text _ = ⊥
 
-pub stuck_wrong : (limit : ℕ) (text : List ℕ) (Starts : List ℕ → Type 0) (k at : ℕ) (flaw : VersionFlaw) → 9 ≤ limit → at ≤ length text
+pub stuck_wrong : (limit : ℕ) (text : List ℕ) (Starts : List ℕ → Type 0) (k at : ℕ) (flaw : VersionFlaw) → 9 ≤ limit
+    → at ≤ length text
     → Place limit Starts (take at text) k → Starts (drop at text) → Stuck limit text k at flaw → IsWrong limit text flaw
 stuck_wrong limit text Starts k at flaw nine inside p s (at_great j a great) = record {
   inside = inside;
@@ -144,7 +163,8 @@ stuck_wrong limit text Starts k at flaw nine inside p s (at_dot j a end found no
     let front : take end text ≡ take a text ++ m.piece = cut text a end m.piece inside found.inside m.divided in
     record {
       inside = found.inside;
-      right = λ c h. subst (λ (t : List ℕ). IsFront limit (t ++ c ∷ [])) (sym front) (right-dot limit Starts (take a text) m.piece found.n j nine p m.is.number c h);
+      right = λ c h. subst (λ (t : List ℕ). IsFront limit (t ++ c ∷ [])) (sym front)
+          (right-dot limit Starts (take a text) m.piece found.n j nine p m.is.number c h);
       wrong = λ c rest other e.
           subst (λ (t : List ℕ). NoValue (Reads limit (t ++ (encode_utf8 c ++ other)))) (sym front)
           (no-dot limit Starts (take a text) m.piece found.n j p m.is.number (encode_utf8 c ++ other)
@@ -158,10 +178,12 @@ stuck_wrong limit text Starts k at flaw nine inside p s (later j a end f found d
     let m = found.piece in
     let next = dot-next text end dot in
     let piece = m.piece ++ 46 ∷ [] in
-    let divided : drop a text ≡ piece ++ drop (end + 1) text = m.divided ∙ (ap (λ (t : List ℕ). m.piece ++ t) next.0 ∙ sym (append_assoc m.piece (46 ∷ []) (drop (end + 1) text))) in
+    let divided : drop a text ≡ piece ++ drop (end + 1) text =
+    m.divided ∙ (ap (λ (t : List ℕ). m.piece ++ t) next.0 ∙ sym (append_assoc m.piece (46 ∷ []) (drop (end + 1) text))) in
     let front : take (end + 1) text ≡ take a text ++ piece = cut text a (end + 1) piece inside next.1 divided in
     stuck_wrong limit text (λ _. Unit {0}) j (end + 1) f nine next.1
-    (subst (λ (t : List ℕ). Place limit (λ _. Unit {0}) t j) (sym front) (next_place limit Starts (take a text) m.piece found.n j p m.is.number)) tt more
+    (subst (λ (t : List ℕ). Place limit (λ _. Unit {0}) t j) (sym front)
+    (next_place limit Starts (take a text) m.piece found.n j p m.is.number)) tt more
 
 -- ---- behind the mark and the whitespace
 
@@ -190,19 +212,26 @@ begun limit text start utf8 a =
     let blank = slice_range text k start in
     let place : k + (start - k) ≡ start = omega (arith, a.after) in
     let rest : drop k text ≡ blank ++ drop start text =
-    sym (take-append-drop (start - k) (drop k text)) ∙ ap (λ (t : List ℕ). blank ++ t) (drop-drop (start - k) k text ∙ ap (λ (n : ℕ). drop n text) place) in
-    let front : take start text ≡ take k text ++ blank = cut text k start blank (omega (arith, a.after, a.boundary.0)) a.boundary.0 rest in
+    sym (take-append-drop (start - k) (drop k text))
+    ∙ ap (λ (t : List ℕ). blank ++ t) (drop-drop (start - k) k text ∙ ap (λ (n : ℕ). drop n text) place) in
+    let front : take start text ≡ take k text ++ blank =
+    cut text k start blank (omega (arith, a.after, a.boundary.0)) a.boundary.0 rest in
     record {
       inside = a.boundary.0;
-      place = subst (λ (t : List ℕ). Place limit (Leads t) t 2) (sym front) (lead_place limit (take k text) blank (marked text) a.blank);
-      leads = (ap (λ (t : List ℕ). space_len t) (after_blank_drops_spaces text k start utf8 a) ∙ spaces-gone 0 (drop k text), unmarked text start a.after);
+      place = subst (λ (t : List ℕ). Place limit (Leads t) t 2) (sym front)
+          (lead_place limit (take k text) blank (marked text) a.blank);
+      leads = (
+        ap (λ (t : List ℕ). space_len t) (after_blank_drops_spaces text k start utf8 a) ∙ spaces-gone 0 (drop k text),
+        unmarked text start a.after,
+      );
       divided = sym (take-append-drop k text) ∙ ap (λ (t : List ℕ). take k text ++ t) rest;
     }
 
 -- ---- the answers
 
 -- the answer where the reader stops
-pub stuck_flaw : (limit : ℕ) (text : List ℕ) (start : ℕ) (flaw : VersionFlaw) → 9 ≤ limit → IsUtf8 text → IsAfterBlank text (mark_len text) start
+pub stuck_flaw : (limit : ℕ) (text : List ℕ) (start : ℕ) (flaw : VersionFlaw) → 9 ≤ limit → IsUtf8 text
+    → IsAfterBlank text (mark_len text) start
     → length text ≤ MAX_LENGTH → Stuck limit text 2 start flaw → IsFlaw limit text flaw × (IsExact limit text → ⊥)
 stuck_flaw limit text start flaw nine utf8 a short h =
     let b = begun limit text start utf8 a in
@@ -229,23 +258,33 @@ pub decided : (limit : ℕ) (text : List ℕ) (found : Option VersionFlaw) → I
 decided limit text found h = grind arith
 
 pub ended : (limit : ℕ) (text bytes : List ℕ) (start end next at : ℕ) → bytes ≡ text
-    → (t : ℕ × ℕ × ℕ × ℕ) × (triple_at limit bytes start ≡ Some t) × (t.3 ≡ end) → next ≡ (pre_release_at bytes end).1 → at ≡ (build_at bytes next).1
+    → (t : ℕ × ℕ × ℕ × ℕ) × (triple_at limit bytes start ≡ Some t) × (t.3 ≡ end) → next ≡ (pre_release_at bytes end).1
+    → at ≡ (build_at bytes next).1
     → Ended limit text start at
 ended limit text bytes start end next at same t pre build = grind arith
 
-pub whole_exact : (limit : ℕ) (text : List ℕ) (start at : ℕ) → IsUtf8 text → IsAfterBlank text (mark_len text) start → length text ≤ MAX_LENGTH
+pub whole_exact : (limit : ℕ) (text : List ℕ) (start at : ℕ) → IsUtf8 text → IsAfterBlank text (mark_len text) start
+    → length text ≤ MAX_LENGTH
     → Ended limit text start at → length text ≤ at → IsExact limit text
 whole_exact limit text start at utf8 a short e all =
     let b = begun limit text start utf8 a in
-    let d = divided_at limit text (take (mark_len text) text) (slice_range text (mark_len text) start) start e.numbers b.divided (marked text) a.blank e.triple in
+    let d = divided_at limit text (take (mark_len text) text) (slice_range text (mark_len text) start) start e.numbers b.divided
+    (marked text) a.blank e.triple in
     (qualified text e.numbers, record { short = short; reads = d.reads }, d.rest_is ∙ drop_all _ text (omega (arith, e.place)))
 
-pub ignored_behind : (limit : ℕ) (text : List ℕ) (start at : ℕ) → IsUtf8 text → IsAfterBlank text (mark_len text) start → length text ≤ MAX_LENGTH
+pub ignored_behind : (limit : ℕ) (text : List ℕ) (start at : ℕ) → IsUtf8 text → IsAfterBlank text (mark_len text) start
+    → length text ≤ MAX_LENGTH
     → Ended limit text start at → at < length text → IsFlaw limit text (Flaw.Ignored at) × (IsExact limit text → ⊥)
 ignored_behind limit text start at utf8 a short e some =
     let b = begun limit text start utf8 a in
-    let d = divided_at limit text (take (mark_len text) text) (slice_range text (mark_len text) start) start e.numbers b.divided (marked text) a.blank e.triple in (
-      (qualified text e.numbers, record { short = short; reads = d.reads }, d.rest_is ∙ ap (λ (n : ℕ). drop n text) (sym e.place), some),
+    let d = divided_at limit text (take (mark_len text) text) (slice_range text (mark_len text) start) start e.numbers b.divided
+    (marked text) a.blank e.triple in (
+      (
+        qualified text e.numbers,
+        record { short = short; reads = d.reads },
+        d.rest_is ∙ ap (λ (n : ℕ). drop n text) (sym e.place),
+        some,
+      ),
       λ x. not b x.0 x.1.reads x.2,
     )
   where

@@ -64,7 +64,8 @@ alike f first c rest other = go (encode_utf8 c) (some-bytes c)
     go [] h = absurd (omega arith)
     go (b ∷ bytes) h = first b (bytes ++ rest) (bytes ++ other)
 
-pub begins_alike : (test : ℕ → Bool) (c : ℕ) (rest other : List ℕ) → begins test (encode_utf8 c ++ rest) ≡ begins test (encode_utf8 c ++ other)
+pub begins_alike : (test : ℕ → Bool) (c : ℕ) (rest other : List ℕ)
+    → begins test (encode_utf8 c ++ rest) ≡ begins test (encode_utf8 c ++ other)
 begins_alike test = alike (begins test) (λ b x y. refl)
 
 mark-alike : (c : ℕ) (rest other : List ℕ) → mark_len (encode_utf8 c ++ rest) ≡ mark_len (encode_utf8 c ++ other)
@@ -96,18 +97,21 @@ unfolding space_len
 dot_starts text = refl
 
 -- what follows them is found
-pub past_lead : (mark blank text : List ℕ) → IsMark mark → IsBlank blank → space_len text ≡ 0 → (mark ++ blank ≡ [] → mark_len text ≡ 0)
+pub past_lead : (mark blank text : List ℕ) → IsMark mark → IsBlank blank → space_len text ≡ 0
+    → (mark ++ blank ≡ [] → mark_len text ≡ 0)
     → drop_spaces (drop (mark_len (mark ++ (blank ++ text))) (mark ++ (blank ++ text))) ≡ text
 past_lead mark blank text m b dark unmarked = go mark m unmarked
   where
     spaces : drop_spaces (blank ++ text) ≡ text
     spaces = rw b.spelled (drop_spaces-blank b.characters text b.each ∙ drop_spaces-none text dark)
 
-    none : (cs : List ℕ) → list_all is_whitespace cs ≡ true → blank ≡ encode_utf8_all cs → (blank ≡ [] → mark_len text ≡ 0) → mark_len (blank ++ text) ≡ 0
+    none : (cs : List ℕ) → list_all is_whitespace cs ≡ true → blank ≡ encode_utf8_all cs → (blank ≡ [] → mark_len text ≡ 0)
+        → mark_len (blank ++ text) ≡ 0
     none [] each e u = ap (λ (t : List ℕ). mark_len (t ++ text)) e ∙ u e
     none (c ∷ cs) each e u = grind (arith, append_assoc, white-unmarked)
 
-    go : (mark : List ℕ) → IsMark mark → (mark ++ blank ≡ [] → mark_len text ≡ 0) → drop_spaces (drop (mark_len (mark ++ (blank ++ text))) (mark ++ (blank ++ text))) ≡ text
+    go : (mark : List ℕ) → IsMark mark → (mark ++ blank ≡ [] → mark_len text ≡ 0)
+        → drop_spaces (drop (mark_len (mark ++ (blank ++ text))) (mark ++ (blank ++ text))) ≡ text
     go mark no_mark u = rw (none b.characters b.each b.spelled u) spaces
     go mark small_mark u = spaces
     go mark capital_mark u = spaces
@@ -117,10 +121,12 @@ abbrev pub Leads : List ℕ → List ℕ → Type 0
 Leads front text = (space_len text ≡ 0) × (front ≡ [] → mark_len text ≡ 0)
 
 -- behind the mark and the whitespace three numbers are right
-pub lead_place : (limit : ℕ) (mark blank : List ℕ) → IsMark mark → IsBlank blank → Place limit (Leads (mark ++ blank)) (mark ++ blank) 2
+pub lead_place : (limit : ℕ) (mark blank : List ℕ) → IsMark mark → IsBlank blank
+    → Place limit (Leads (mark ++ blank)) (mark ++ blank) 2
 lead_place limit mark blank m b = grind (arith, front_is_first_character, mark-alike, digit_starts, dot_starts, read, written)
   where
-    read : (text tail : List ℕ) → Leads (mark ++ blank) text → HasTail limit ((mark ++ blank) ++ text) tail → Numbers limit 2 text tail
+    read : (text tail : List ℕ) → Leads (mark ++ blank) text → HasTail limit ((mark ++ blank) ++ text) tail
+        → Numbers limit 2 text tail
     read text tail s h =
         let r = h.1 in
         let third = r.patch ++ (r.pre_release ++ (r.build ++ r.rest)) in
@@ -161,7 +167,8 @@ lead_place limit mark blank m b = grind (arith, front_is_first_character, mark-a
             build = [];
             rest = [];
             divided = append_assoc mark blank text ∙ ap (λ (t : List ℕ). mark ++ (blank ++ t))
-                (x.divided ∙ ap (λ (t : List ℕ). x.digits ++ 46 ∷ t) (y.divided ∙ ap (λ (t : List ℕ). y.digits ++ 46 ∷ t) z.divided));
+                (x.divided ∙ ap (λ (t : List ℕ). x.digits ++ 46 ∷ t)
+                (y.divided ∙ ap (λ (t : List ℕ). y.digits ++ 46 ∷ t) z.divided));
             mark_is = m;
             blank_is = b;
             major_is = x.is.number;
@@ -174,7 +181,8 @@ lead_place limit mark blank m b = grind (arith, front_is_first_character, mark-a
         )
 
 -- behind the first number and its dot, one fewer
-pub next_place : (limit : ℕ) (Starts : List ℕ → Type 0) (front d : List ℕ) (n k : ℕ) → Place limit Starts front (suc k) → IsNumber limit d n
+pub next_place : (limit : ℕ) (Starts : List ℕ → Type 0) (front d : List ℕ) (n k : ℕ) → Place limit Starts front (suc k)
+    → IsNumber limit d n
     → Place limit (λ _. Unit {0}) (front ++ (d ++ 46 ∷ [])) k
 next_place limit Starts front d n k p number = record {
   local = λ c rest other s. tt;
@@ -187,7 +195,8 @@ next_place limit Starts front d n k p number = record {
       subst (λ (t : List ℕ). Numbers limit k t tail) (sym (ap (λ (t : List ℕ). drop 1 t) same)) found.2;
   whole = λ text h.
       subst (λ (t : List ℕ). IsWhole limit t) (sym (joined text))
-      (p.whole (d ++ 46 ∷ text) (text, record { digits = d; n = n; divided = refl; is = record { number = number; ended = refl } }, h));
+      (p.whole (d ++ 46 ∷ text)
+      (text, record { digits = d; n = n; divided = refl; is = record { number = number; ended = refl } }, h));
 }
   where
     joined : (text : List ℕ) → (front ++ (d ++ 46 ∷ [])) ++ text ≡ front ++ (d ++ 46 ∷ text)

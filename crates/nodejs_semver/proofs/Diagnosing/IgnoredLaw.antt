@@ -25,8 +25,10 @@ use Rattle.std.proofs.lemmas.Bool.{and_from}
 
 -- ---- they are the ignored words
 
-ignored-read : (limit place n : ℕ) (text : List ℕ) → IsUtf8 text → space_len text ≡ 0 → length text ≤ n → AreIgnoredOf limit place text (ignored_of limit place text)
-ignored-read limit place n [] u h l = subst (λ (ws : List IgnoredWord). AreIgnoredOf limit place [] ws) (sym (ignored_nil limit place [] refl)) no_word
+ignored-read : (limit place n : ℕ) (text : List ℕ) → IsUtf8 text → space_len text ≡ 0 → length text ≤ n
+    → AreIgnoredOf limit place text (ignored_of limit place text)
+ignored-read limit place n [] u h l =
+    subst (λ (ws : List IgnoredWord). AreIgnoredOf limit place [] ws) (sym (ignored_nil limit place [] refl)) no_word
 ignored-read limit place zero (b ∷ rest) u h l = absurd (omega arith)
 ignored-read limit place (suc n) (b ∷ rest) u h l =
     let read = word_at limit (b ∷ rest) in
@@ -37,35 +39,43 @@ ignored-read limit place (suc n) (b ∷ rest) u h l =
     let less = word-shorter limit b rest h in
     let le = spaces-le read.1 in
     let more = ignored-read limit place n next (skips-utf8 read.1 next skipped v) (spaces-gone 0 read.1) (omega arith) in
-    subst (λ (ws : List IgnoredWord). AreIgnoredOf limit place (b ∷ rest) ws) (sym (ignored_step limit place (b ∷ rest) (omega arith) h))
+    subst (λ (ws : List IgnoredWord). AreIgnoredOf limit place (b ∷ rest) ws)
+    (sym (ignored_step limit place (b ∷ rest) (omega arith) h))
     (next_word b rest read.1 next read.0 (ignored_of limit place next) is skipped more)
 
 -- where a part begins in its piece, unless it is empty
-part-begins : (piece part : List ℕ) (t : IsTrim piece part) → (part ≡ []) ⊎ (length piece - length (drop_spaces piece) ≡ length (encode_utf8_all t.before))
+part-begins : (piece part : List ℕ) (t : IsTrim piece part) → (part ≡ [])
+    ⊎ (length piece - length (drop_spaces piece) ≡ length (encode_utf8_all t.before))
 part-begins piece part t = grind (arith, encodes-append, drop_spaces-blank, drop_spaces-dark, length-append)
 
 piece-read : (limit place : ℕ) (piece : List ℕ) → IsUtf8 piece → (t : IsTrim piece (trim piece))
-    → AreIgnoredOf limit (place + length (encode_utf8_all t.before) + length (trim piece)) (trim piece) (ignored_of limit (part_end place piece) (trim piece))
+    → AreIgnoredOf limit (place + length (encode_utf8_all t.before) + length (trim piece)) (trim piece)
+    (ignored_of limit (part_end place piece) (trim piece))
 piece-read limit place piece u t = elim (part-begins piece (trim piece) t) [
   | inl none ↦
       let length-none : length (trim piece) ≡ 0 = ap length none in
       subst (λ (ws : List IgnoredWord). AreIgnoredOf limit end (trim piece) ws)
-      (ignored_nil limit end (trim piece) length-none ∙ sym (ignored_nil limit (part_end place piece) (trim piece) length-none)) (read end)
-  | inr same ↦ subst (λ (n : ℕ). AreIgnoredOf limit (place + n + length (trim piece)) (trim piece) (ignored_of limit (part_end place piece) (trim piece))) same (read (part_end place piece))
+      (ignored_nil limit end (trim piece) length-none ∙ sym (ignored_nil limit (part_end place piece) (trim piece) length-none))
+      (read end)
+  | inr same ↦ subst (λ (n : ℕ). AreIgnoredOf limit (place + n + length (trim piece)) (trim piece)
+      (ignored_of limit (part_end place piece) (trim piece))) same (read (part_end place piece))
 ]
   where
     end : ℕ
     end = place + length (encode_utf8_all t.before) + length (trim piece)
 
     read : (at : ℕ) → AreIgnoredOf limit at (trim piece) (ignored_of limit at (trim piece))
-    read at = ignored-read limit at (length (trim piece)) (trim piece) (trim-utf8 piece (trim piece) u t) (trim-starts piece (trim piece) t) (omega arith)
+    read at = ignored-read limit at (length (trim piece)) (trim piece) (trim-utf8 piece (trim piece) u t)
+        (trim-starts piece (trim piece) t) (omega arith)
 
-all-read : (limit place : ℕ) (pieces : List (List ℕ)) → AllByRecursion IsUtf8 pieces → AreAllIgnored limit place pieces (all_ignored limit place pieces)
+all-read : (limit place : ℕ) (pieces : List (List ℕ)) → AllByRecursion IsUtf8 pieces
+    → AreAllIgnored limit place pieces (all_ignored limit place pieces)
 unfolding all_ignored
 all-read limit place [] u = no_piece place
 all-read limit place (piece ∷ pieces) u =
     let t = trim_is_middle piece u.0 in
-    next_piece place piece (trim piece) pieces (ignored_of limit (part_end place piece) (trim piece)) (all_ignored limit (place + length piece + 2) pieces)
+    next_piece place piece (trim piece) pieces (ignored_of limit (part_end place piece) (trim piece))
+    (all_ignored limit (place + length piece + 2) pieces)
     t (piece-read limit place piece u.0 t) (all-read limit (place + length piece + 2) pieces u.1)
 
 -- ---- there are none exactly if each word has bounds
@@ -73,14 +83,16 @@ all-read limit place (piece ∷ pieces) u =
 abbrev has_bounds : ℕ → Word → Bool
 has_bounds limit word = is_some (table limit word)
 
-if-empty : (limit : ℕ) (word : Word) (start end : ℕ) → is_empty (if_ignored (ignored_as limit word) start end) ≡ has_bounds limit word
+if-empty : (limit : ℕ) (word : Word) (start end : ℕ)
+    → is_empty (if_ignored (ignored_as limit word) start end) ≡ has_bounds limit word
 unfolding table
 if-empty limit word start end = grind arith
 
 append-empty : (xs ys : List IgnoredWord) → is_empty (xs ++ ys) ≡ (is_empty xs && is_empty ys)
 append-empty xs ys = grind arith
 
-within-empty : (limit place n : ℕ) (text : List ℕ) → is_empty (ignored_within limit place n text) ≡ list_all (has_bounds limit) (words_within limit n text)
+within-empty : (limit place n : ℕ) (text : List ℕ)
+    → is_empty (ignored_within limit place n text) ≡ list_all (has_bounds limit) (words_within limit n text)
 unfolding ignored_within words_within
 within-empty limit place zero text = refl
 within-empty limit place (suc n) [] = refl
@@ -94,13 +106,15 @@ within-empty limit place (suc n) (b ∷ text) =
 abbrev bounded : ℕ → List ℕ → Bool
 bounded limit piece = list_all (has_bounds limit) (words limit (trim piece))
 
-all-empty : (limit place : ℕ) (pieces : List (List ℕ)) → is_empty (all_ignored limit place pieces) ≡ list_all (bounded limit) pieces
+all-empty : (limit place : ℕ) (pieces : List (List ℕ))
+    → is_empty (all_ignored limit place pieces) ≡ list_all (bounded limit) pieces
 unfolding all_ignored
 all-empty limit place [] = refl
 all-empty limit place (piece ∷ pieces) =
     grind (arith, append-empty, within-empty, all-empty limit (place + length piece + 2) pieces)
 
-are-bounded : (limit : ℕ) (pieces : List (List ℕ)) → AllByRecursion IsUtf8 pieces → list_all (bounded limit) pieces ≡ true → AllByRecursion (IsBounded limit) pieces
+are-bounded : (limit : ℕ) (pieces : List (List ℕ)) → AllByRecursion IsUtf8 pieces → list_all (bounded limit) pieces ≡ true
+    → AllByRecursion (IsBounded limit) pieces
 are-bounded limit [] u h = tt
 are-bounded limit (piece ∷ pieces) u h =
     let t = trim_is_middle piece u.0 in
@@ -112,7 +126,8 @@ are-bounded limit (piece ∷ pieces) u h =
     ) in
     (one, are-bounded limit pieces u.1 (second_so (bounded limit piece) (list_all (bounded limit) pieces) h))
 
-all-bounded : (limit : ℕ) (pieces : List (List ℕ)) → AllByRecursion IsUtf8 pieces → AllByRecursion (IsBounded limit) pieces → list_all (bounded limit) pieces ≡ true
+all-bounded : (limit : ℕ) (pieces : List (List ℕ)) → AllByRecursion IsUtf8 pieces → AllByRecursion (IsBounded limit) pieces
+    → list_all (bounded limit) pieces ≡ true
 all-bounded limit [] u h = refl
 all-bounded limit (piece ∷ pieces) u h =
     let b = h.0 in
@@ -123,14 +138,17 @@ all-bounded limit (piece ∷ pieces) u h =
 
 -- ---- the clauses
 
-pub are_ignored : (limit : ℕ) (text : List ℕ) (list : List IgnoredWord) → IsUtf8 text → list ≡ all_ignored limit 0 (cut_bars false text) → AreIgnored limit text list
+pub are_ignored : (limit : ℕ) (text : List ℕ) (list : List IgnoredWord) → IsUtf8 text
+    → list ≡ all_ignored limit 0 (cut_bars false text) → AreIgnored limit text list
 are_ignored limit text list u e = (
   cut_bars false text,
   bars_divide text,
-  subst (λ (ws : List IgnoredWord). AreAllIgnored limit 0 (cut_bars false text) ws) (sym e) (all-read limit 0 (cut_bars false text) (pieces-utf8 text (cut_bars false text) (bars_divide text) u)),
+  subst (λ (ws : List IgnoredWord). AreAllIgnored limit 0 (cut_bars false text) ws) (sym e)
+      (all-read limit 0 (cut_bars false text) (pieces-utf8 text (cut_bars false text) (bars_divide text) u)),
 )
 
-pub none_ignored : (limit : ℕ) (text : List ℕ) (list : List IgnoredWord) → IsUtf8 text → list ≡ all_ignored limit 0 (cut_bars false text) → (list ≡ []) ↔ IsWhollyBounded limit text
+pub none_ignored : (limit : ℕ) (text : List ℕ) (list : List IgnoredWord) → IsUtf8 text
+    → list ≡ all_ignored limit 0 (cut_bars false text) → (list ≡ []) ↔ IsWhollyBounded limit text
 none_ignored limit text list u e = (
   λ none. (
     cut_bars false text,

@@ -32,7 +32,8 @@ ignored_enough limit place (suc n) (suc m) (c ∷ text) h a b =
     (ignored_enough limit place n m (drop_spaces read.1) (spaces-gone 0 read.1) (omega arith) (omega arith))
 
 pub ignored_step : (limit place : ℕ) (text : List ℕ) → 0 < length text → space_len text ≡ 0
-    → ignored_of limit place text ≡ if_ignored (kind_at limit text).0 (place - length text) (place - length (kind_at limit text).1)
+    → ignored_of limit place text
+    ≡ if_ignored (kind_at limit text).0 (place - length text) (place - length (kind_at limit text).1)
     ++ ignored_of limit place (drop_spaces (kind_at limit text).1)
 unfolding ignored_within
 ignored_step limit place text some h = grind (arith, word-shorter, spaces-le, ignored_enough, spaces-gone)
@@ -46,21 +47,24 @@ behind-shorter limit [] some h = absurd (omega arith)
 behind-shorter limit (b ∷ rest) some h = word-shorter limit b rest h
 
 -- the part has ended
-pub part_over : (l : Left) (o : Option (List ℕ)) → length l.part.now ≡ 0 → rest_view l.behind ≡ o → left_list l ≡ ignored_behind MAX_SAFE_INTEGER l.end o
+pub part_over : (l : Left) (o : Option (List ℕ)) → length l.part.now ≡ 0 → rest_view l.behind ≡ o
+    → left_list l ≡ ignored_behind MAX_SAFE_INTEGER l.end o
 part_over l o none e = grind (arith, ignored_nil)
 
 abbrev Kind : Type 0
 Kind = Option IgnoredKind × List ℕ
 
 -- one word was read
-pub word_read : (limit place : ℕ) (part rest next : List ℕ) (kind : Option IgnoredKind) (word : Option IgnoredWord) (others : List IgnoredWord)
+pub word_read : (limit place : ℕ) (part rest next : List ℕ) (kind : Option IgnoredKind) (word : Option IgnoredWord)
+    (others : List IgnoredWord)
     → 0 < length part → space_len part ≡ 0 → ◌≡◌ {A = Kind} (kind, rest) (kind_at limit part) → next ≡ drop_spaces rest
     → option_list word ≡ if_ignored kind (place - length part) (place - length rest)
     → ignored_of limit place part ++ others ≡ option_list word ++ (ignored_of limit place next ++ others)
 word_read limit place part rest next kind word others some h e n w = grind (arith, ignored_step, append_assoc)
 
 pub rest-sizes : (limit : ℕ) (part rest next : List ℕ) (kind : Option IgnoredKind) → 0 < length part → space_len part ≡ 0
-    → ◌≡◌ {A = Kind} (kind, rest) (kind_at limit part) → next ≡ drop_spaces rest → (length rest < length part) × (length next ≤ length rest) × (space_len next ≡ 0)
+    → ◌≡◌ {A = Kind} (kind, rest) (kind_at limit part) → next ≡ drop_spaces rest → (length rest < length part)
+    × (length next ≤ length rest) × (space_len next ≡ 0)
 rest-sizes limit part rest next kind some h e n = grind (arith, behind-shorter, spaces-le, spaces-gone)
 
 -- ---- the parts of a text
@@ -81,7 +85,9 @@ trim-le (b ∷ rest) = grind (arith, trim-le rest)
 
 pub part_ends : (place start : ℕ) (piece part : List ℕ) → start ≡ length piece - length (drop_spaces piece) → part ≡ trim piece
     → place + start + length part ≡ part_end place piece
-part_ends place start piece part h e = ap (λ (n : ℕ). place + n + length part) h ∙ ap (λ (t : List ℕ). place + (length piece - length (drop_spaces piece)) + length t) e
+part_ends place start piece part h e =
+    ap (λ (n : ℕ). place + n + length part) h
+    ∙ ap (λ (t : List ℕ). place + (length piece - length (drop_spaces piece)) + length t) e
 
 pub part_fits : (piece : List ℕ) (place : ℕ) → part_end place piece ≤ place + length piece
 part_fits piece place = omega (arith, trim-le (drop_spaces piece), spaces-le piece)
@@ -92,6 +98,7 @@ sizes_of text cut e = subst (λ (c : List ℕ × Option (List ℕ)). Sizes text 
 
 -- those of a text are those of the part at its front and of the text behind
 pub all_step : (limit end : ℕ) (text : List ℕ) (cut : List ℕ × Option (List ℕ)) → cut ≡ front_part text → length text ≤ end
-    → ignored_behind limit end (Some text) ≡ ignored_of limit (part_end (end - length text) cut.0) (trim cut.0) ++ ignored_behind limit end cut.1
+    → ignored_behind limit end (Some text)
+    ≡ ignored_of limit (part_end (end - length text) cut.0) (trim cut.0) ++ ignored_behind limit end cut.1
 unfolding all_ignored
 all_step limit end text cut e le = grind (arith, cut_bars-front, cut_sizes)

@@ -21,7 +21,8 @@ use Rattle.semver_core.proofs.Text.Runs.{list_len_stop}
 run-digits : (text : List ℕ) → list_all is_ascii_digit (take (prefix_len is_ascii_digit text) text) ≡ true
 run-digits [] = refl
 run-digits (b ∷ rest) = elim (cases_Bool (is_ascii_digit b)) [
-  | inl digit ↦ let e : 1 + prefix_len is_ascii_digit rest ≡ suc (prefix_len is_ascii_digit rest) = omega arith in rw (digit, e) (rw digit (run-digits rest))
+  | inl digit ↦ let e : 1 + prefix_len is_ascii_digit rest ≡ suc (prefix_len is_ascii_digit rest) = omega arith in
+      rw (digit, e) (rw digit (run-digits rest))
   | inr other ↦ rw other refl
 ]
 
@@ -37,7 +38,8 @@ begins_great limit text at some none =
     let run = take len y in
     let divided : y ≡ run ++ drop len y = sym (take-append-drop len y) in
     elim (cases_lt limit (digits_value 10 run)) [
-      | inl above ↦ record { digits = run; rest = drop len y; divided = divided; each = run-digits y; ended = run-ends y; above = above }
+      | inl above ↦ record
+          { digits = run; rest = drop len y; divided = divided; each = run-digits y; ended = run-ends y; above = above }
       | inr safe ↦ absurd (none (digits_value 10 run) run (drop len y) divided (record {
         number = record { some = run-some y some; each = run-digits y; value = refl; safe = safe };
         ended = run-ends y;
@@ -45,33 +47,46 @@ begins_great limit text at some none =
     ]
 
 -- two runs of digits at the front of a text are one
-pub digits_once : (d e x y : List ℕ) → list_all is_ascii_digit d ≡ true → list_all is_ascii_digit e ≡ true → begins is_ascii_digit x ≡ false
+pub digits_once : (d e x y : List ℕ) → list_all is_ascii_digit d ≡ true → list_all is_ascii_digit e ≡ true
+    → begins is_ascii_digit x ≡ false
     → begins is_ascii_digit y ≡ false → d ++ x ≡ e ++ y → (d ≡ e) × (x ≡ y)
 digits_once d e x y a b f g same =
-    let len : length d ≡ length e = sym (digits-taken d x a f) ∙ (ap (λ (t : List ℕ). prefix_len is_ascii_digit t) same ∙ digits-taken e y b g) in (
+    let len : length d ≡ length e =
+    sym (digits-taken d x a f) ∙ (ap (λ (t : List ℕ). prefix_len is_ascii_digit t) same ∙ digits-taken e y b g) in (
       sym (take_at d x (length d) refl) ∙ (ap (λ (t : List ℕ). take (length d) t) same ∙ take_at e y (length d) (sym len)),
       sym (drop_at d x (length d) refl) ∙ (ap (λ (t : List ℕ). drop (length d) t) same ∙ drop_at e y (length d) (sym len)),
     )
 
 -- a number that was found ends behind its digits
-pub number_found : (limit : ℕ) (text : List ℕ) (at n end : ℕ) → IsPieceAt (λ digits rest. IsWholeNumber limit digits rest n) text at end → end ≤ length text
+pub number_found : (limit : ℕ) (text : List ℕ) (at n end : ℕ)
+    → IsPieceAt (λ digits rest. IsWholeNumber limit digits rest n) text at end → end ≤ length text
     → IsNumberAt limit text at end
 number_found limit text at n end s e = record { n = n; piece = s; inside = e }
 
-number-is : (limit : ℕ) (text : List ℕ) (at end : ℕ) → at ≤ length text → (s : IsNumberAt limit text at end) → number_at limit text at ≡ Some (s.n, end)
+number-is : (limit : ℕ) (text : List ℕ) (at end : ℕ) → at ≤ length text → (s : IsNumberAt limit text at end)
+    → number_at limit text at ≡ Some (s.n, end)
 number-is limit text at end inside s =
     let p = s.piece in
     let found = number_complete limit text at s.n p.piece (drop end text) p.divided p.is in
     let place : at + length p.piece ≡ end =
-    omega (arith, s.inside, ap length p.divided, length-append p.piece (drop end text), length-drop at text, length-drop end text) in
+    omega (
+      arith,
+      s.inside,
+      ap length p.divided,
+      length-append p.piece (drop end text),
+      length-drop at text,
+      length-drop end text,
+    ) in
     found.0 ∙ ap (λ (m : ℕ). found_at s.n m) place
   where
     found_at : ℕ → ℕ → Option (ℕ × ℕ)
     found_at n m = Some (n, m)
 
 -- three of them
-pub triple_found : (limit : ℕ) (text : List ℕ) (at a b end : ℕ) → at ≤ length text → IsNumberAt limit text at a → begins_dot (drop a text) ≡ true
-    → a + 1 ≤ length text → IsNumberAt limit text (a + 1) b → begins_dot (drop b text) ≡ true → b + 1 ≤ length text → IsNumberAt limit text (b + 1) end
+pub triple_found : (limit : ℕ) (text : List ℕ) (at a b end : ℕ) → at ≤ length text → IsNumberAt limit text at a
+    → begins_dot (drop a text) ≡ true
+    → a + 1 ≤ length text → IsNumberAt limit text (a + 1) b → begins_dot (drop b text) ≡ true → b + 1 ≤ length text
+    → IsNumberAt limit text (b + 1) end
     → (t : ℕ × ℕ × ℕ × ℕ) × (triple_at limit text at ≡ Some t) × (t.3 ≡ end)
 triple_found limit text at a b end i m d j n e k p =
     let first = number-is limit text at a i m in
@@ -81,7 +96,8 @@ triple_found limit text at a b end i m d j n e k p =
 
 -- where the reader stops
 pub stuck_great : (limit : ℕ) (text : List ℕ) (at : ℕ) → begins is_ascii_digit (drop at text) ≡ true
-    → ((n : ℕ) → NoPieceAt (λ digits rest. IsWholeNumber limit digits rest n) text at) → (k : ℕ) → Stuck limit text k at (Flaw.NumberTooGreat at)
+    → ((n : ℕ) → NoPieceAt (λ digits rest. IsWholeNumber limit digits rest n) text at) → (k : ℕ)
+    → Stuck limit text k at (Flaw.NumberTooGreat at)
 stuck_great limit text at some none k = at_great k at (begins_great limit text at some none)
 
 -- identifiers go on, or end

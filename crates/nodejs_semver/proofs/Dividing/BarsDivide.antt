@@ -30,7 +30,8 @@ unfolding cut_bars
 front-piece [] t h ends = refl
 front-piece (b ∷ rest) t h ends =
     let none = or_parts (is_bar b && begins is_bar rest) (has_bars rest) h in
-    rw (piece-ended b rest (124 ∷ t) none.0 ends, cut_bars) (ap (λ (ps : List (List ℕ)). onto_first b ps) (front-piece rest t none.1 (ends-rest b rest ends)))
+    rw (piece-ended b rest (124 ∷ t) none.0 ends, cut_bars)
+    (ap (λ (ps : List (List ℕ)). onto_first b ps) (front-piece rest t none.1 (ends-rest b rest ends)))
 
 pub bars_once : (text : List ℕ) (pieces : List (List ℕ)) → IsCutAtBars text pieces → pieces ≡ cut_bars false text
 bars_once text pieces (one_piece piece h) = sym (whole-piece piece h)
@@ -40,9 +41,11 @@ bars_once text pieces (more_pieces piece rest others h ended cut) = grind (arith
 
 -- one byte more in front
 onto : (b : ℕ) (text : List ℕ) (pieces : List (List ℕ)) → (is_bar b && begins is_bar text) ≡ false → IsCutAtBars text pieces → IsCutAtBars (b ∷ text) (onto_first b pieces)
-onto b text pieces here (one_piece piece h) = one_piece (b ∷ piece) (or_from (is_bar b && begins is_bar piece) (has_bars piece) here h)
+onto b text pieces here (one_piece piece h) =
+    one_piece (b ∷ piece) (or_from (is_bar b && begins is_bar piece) (has_bars piece) here h)
 onto b text pieces here (more_pieces [] rest others h ended cut) =
-    more_pieces (b ∷ []) rest others (or_from (is_bar b && false) false (and_right (is_bar b) false refl) refl) (sym (and-true (is_bar b)) ∙ here) cut
+    more_pieces (b ∷ []) rest others (or_from (is_bar b && false) false (and_right (is_bar b) false refl) refl)
+    (sym (and-true (is_bar b)) ∙ here) cut
 onto b text pieces here (more_pieces (c ∷ piece) rest others h ended cut) =
     more_pieces (b ∷ c ∷ piece) rest others (or_from (is_bar b && is_bar c) (has_bars (c ∷ piece)) here h) ended cut
 
@@ -58,7 +61,8 @@ bars_divide (b ∷ []) =
 bars_divide (b ∷ c ∷ t) = elim (cases_Bool (is_bar b && is_bar c)) [
   | inl here ↦
       subst (λ (ps : List (List ℕ)). IsCutAtBars (b ∷ (c ∷ t)) ps) (sym (rw (here, cut_bars) refl))
-      (subst (λ (text : List ℕ). IsCutAtBars text ([] ∷ cut_bars false t)) (bars-first b c t (and_parts (is_bar b) (is_bar c) here).0 (and_parts (is_bar b) (is_bar c) here).1)
+      (subst (λ (text : List ℕ). IsCutAtBars text ([] ∷ cut_bars false t))
+      (bars-first b c t (and_parts (is_bar b) (is_bar c) here).0 (and_parts (is_bar b) (is_bar c) here).1)
       (more_pieces [] t (cut_bars false t) refl refl (bars_divide t)))
   | inr other ↦
       subst (λ (ps : List (List ℕ)). IsCutAtBars (b ∷ (c ∷ t)) ps) (sym (rw (other, cut_bars) refl)) (onto b (c ∷ t) (cut_bars false (c ∷ t)) other (bars_divide (c ∷ t)))

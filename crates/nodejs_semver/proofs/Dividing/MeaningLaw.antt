@@ -60,7 +60,8 @@ words-read limit (suc n) (b ∷ rest) u h l =
     subst (λ (list : List Word). AreWords limit (b ∷ rest) list) (sym (words-step limit (b ∷ rest) (omega arith) h))
     (next_word b rest read.1 next read.0 (words limit next) is skipped more)
 
-pub words-law : (limit : ℕ) (text part : List ℕ) (list : List Word) → IsUtf8 text → IsTrim text part → (words limit part ≡ list) ↔ AreWords limit part list
+pub words-law : (limit : ℕ) (text part : List ℕ) (list : List Word) → IsUtf8 text → IsTrim text part → (words limit part ≡ list)
+    ↔ AreWords limit part list
 words-law limit text part list u trimmed =
     let v = trim-utf8 text part u trimmed in
     let dark = trim-starts text part trimmed in (
@@ -70,7 +71,8 @@ words-law limit text part list u trimmed =
 
 -- ---- the runs of a piece
 
-pub has-runs : (limit : ℕ) (piece : List ℕ) → IsUtf8 piece → HasRuns limit piece (runs_of precedence (part_bounds limit (trim piece)))
+pub has-runs : (limit : ℕ) (piece : List ℕ) → IsUtf8 piece
+    → HasRuns limit piece (runs_of precedence (part_bounds limit (trim piece)))
 has-runs limit piece u =
     let part = trim piece in
     let is = trim_is_middle piece u in
@@ -131,13 +133,16 @@ empty-blank piece u h =
 
 all-empty : (pieces : List (List ℕ)) → AllByRecursion IsBlank pieces → list_all is_empty (map trim pieces) ≡ true
 all-empty [] h = refl
-all-empty (piece ∷ pieces) h = and_from (is_empty (trim piece)) (list_all is_empty (map trim pieces)) (blank-empty piece h.0) (all-empty pieces h.1)
+all-empty (piece ∷ pieces) h =
+    and_from (is_empty (trim piece)) (list_all is_empty (map trim pieces)) (blank-empty piece h.0) (all-empty pieces h.1)
 
 all-blank : (pieces : List (List ℕ)) → AllByRecursion IsUtf8 pieces → list_all is_empty (map trim pieces) ≡ true → AllByRecursion IsBlank pieces
 all-blank [] u h = tt
 all-blank (piece ∷ pieces) u h =
-    let rest = list_all is_empty (map trim pieces) in
-    (empty-blank piece u.0 (first_so (is_empty (trim piece)) rest h), all-blank pieces u.1 (second_so (is_empty (trim piece)) rest h))
+    let rest = list_all is_empty (map trim pieces) in (
+      empty-blank piece u.0 (first_so (is_empty (trim piece)) rest h),
+      all-blank pieces u.1 (second_so (is_empty (trim piece)) rest h),
+    )
 
 -- ---- the intervals of all pieces
 
@@ -185,21 +190,26 @@ pub one_meaning : (limit : ℕ) (text : List ℕ) (list : List (Span VersionValu
 one_meaning limit text list u = (means limit text list u, one-meaning limit text list u)
 
 -- what a reader has found is what the text means
-pub meant : (limit : ℕ) (text : List ℕ) (list : List (Span VersionValue)) → IsUtf8 text → list ≡ denotes limit text → Means limit text list
+pub meant : (limit : ℕ) (text : List ℕ) (list : List (Span VersionValue)) → IsUtf8 text → list ≡ denotes limit text
+    → Means limit text list
 meant limit text list u e = means limit text list u (sym e)
 
-pub same_meaning : (limit : ℕ) (text : List ℕ) (one other : List (Span VersionValue)) → IsUtf8 text → Means limit text one → Means limit text other → one ≡ other
+pub same_meaning : (limit : ℕ) (text : List ℕ) (one other : List (Span VersionValue)) → IsUtf8 text → Means limit text one
+    → Means limit text other → one ≡ other
 same_meaning limit text one other u h k = sym (one-meaning limit text one u h) ∙ one-meaning limit text other u k
 
-pub means_some : (limit : ℕ) (text : List ℕ) (list : List (Span VersionValue)) → IsUtf8 text → Means limit text list → 0 < length list → Means limit text [] → ⊥
+pub means_some : (limit : ℕ) (text : List ℕ) (list : List (Span VersionValue)) → IsUtf8 text → Means limit text list
+    → 0 < length list → Means limit text [] → ⊥
 means_some limit text list u h some none = absurd (omega (arith, ap length (same_meaning limit text list [] u h none)))
 
 -- the list of a reader, where there may be none
-pub meant_some : (limit : ℕ) (text : List ℕ) (list : List (Span VersionValue)) (o : Option (List (Span VersionValue))) → IsUtf8 text → list ≡ denotes limit text → o ≡ if_any list
+pub meant_some : (limit : ℕ) (text : List ℕ) (list : List (Span VersionValue)) (o : Option (List (Span VersionValue)))
+    → IsUtf8 text → list ≡ denotes limit text → o ≡ if_any list
     → IfSome o (λ range. Means limit text range × (0 < length range))
 meant_some limit text list o u e h = grind (arith, meant)
 
-pub meant_none : (limit : ℕ) (text : List ℕ) (list : List (Span VersionValue)) (o : Option (List (Span VersionValue))) → IsUtf8 text → list ≡ denotes limit text → o ≡ if_any list
+pub meant_none : (limit : ℕ) (text : List ℕ) (list : List (Span VersionValue)) (o : Option (List (Span VersionValue)))
+    → IsUtf8 text → list ≡ denotes limit text → o ≡ if_any list
     → IfNone o (Means limit text [])
 meant_none limit text list o u e h = grind (arith, meant)
 
@@ -207,8 +217,13 @@ meant_none limit text list o u e h = grind (arith, meant)
 pub blank_text : (text : List ℕ) → IsUtf8 text → IsTrue (list_all is_empty (parts text)) ↔ IsBlankText text
 unfolding IsBlankText
 blank_text text u = (
-  λ e. (cut_bars false text, bars_divide text, all-blank (cut_bars false text) (pieces-utf8 text (cut_bars false text) (bars_divide text) u) e),
-  λ blank. ap (λ (ps : List (List ℕ)). list_all is_empty (map trim ps)) (sym (bars_once text blank.0 blank.1)) ∙ all-empty blank.0 blank.2,
+  λ e. (
+    cut_bars false text,
+    bars_divide text,
+    all-blank (cut_bars false text) (pieces-utf8 text (cut_bars false text) (bars_divide text) u) e,
+  ),
+  λ blank. ap (λ (ps : List (List ℕ)). list_all is_empty (map trim ps)) (sym (bars_once text blank.0 blank.1))
+      ∙ all-empty blank.0 blank.2,
 )
 
 pub filled_text : (text : List ℕ) → IsUtf8 text → (IsBlankText text → ⊥) → list_all is_empty (parts text) ≡ false

@@ -63,11 +63,13 @@ part-begins limit part = runs-joined precedence_total (part_bounds limit part)
 pub part-step : (limit : ℕ) (text after : List ℕ) (o : Option (Span VersionValue)) → 0 < length text → space_len text ≡ 0
     → (o, after) ≡ next_at limit text
     → joined precedence None (part_bounds limit text) ≡ joined precedence None (cons_option o (part_bounds limit after))
-part-step limit text after o some h e = ap (λ (l : List (Span VersionValue)). joined precedence None l) (bounds-step limit text after o some h e)
+part-step limit text after o some h e =
+    ap (λ (l : List (Span VersionValue)). joined precedence None l) (bounds-step limit text after o some h e)
 
 -- a last word before which no word had one
 pub part-last : (limit : ℕ) (text after : List ℕ) (o : Option (Span VersionValue)) → 0 < length text → space_len text ≡ 0 → length after ≡ 0
     → (o, after) ≡ next_at limit text → joined precedence None (part_bounds limit text) ≡ option_to_list o
 part-last limit text after None some h none e =
-    part-step limit text after None some h e ∙ ap (λ (l : List (Span VersionValue)). joined precedence None l) (bounds-end limit after none)
+    part-step limit text after None some h e
+    ∙ ap (λ (l : List (Span VersionValue)). joined precedence None l) (bounds-end limit after none)
 part-last limit text after (Some s) some h none e = part-step limit text after (Some s) some h e ∙ words-last limit after s none

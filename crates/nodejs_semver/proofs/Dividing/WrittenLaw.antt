@@ -22,7 +22,8 @@ use Rattle.nodejs_semver.specs.Text.WrittenSet.{PieceWrites, Writes, run_writes}
 use Rattle.nodejs_semver.proofs.Dividing.BarsDivide.{bars_divide, bars_once}
 use Rattle.nodejs_semver.proofs.Dividing.MeaningLaw.{blank-empty, empty-blank, has-runs, pieces-utf8, runs-once}
 
-piece-at : (pieces : List (List ℕ)) → AllByRecursion IsUtf8 pieces → (k : ℕ) (d : List ℕ) → k < length pieces → IsUtf8 (get_or pieces k d)
+piece-at : (pieces : List (List ℕ)) → AllByRecursion IsUtf8 pieces → (k : ℕ) (d : List ℕ) → k < length pieces
+    → IsUtf8 (get_or pieces k d)
 piece-at [] u k d h = absurd (omega arith)
 piece-at (piece ∷ pieces) u zero d h = u.0
 piece-at (piece ∷ pieces) u (suc k) d h = piece-at pieces u.1 k d (omega arith)
@@ -32,25 +33,36 @@ any-map p f [] = refl
 any-map p f (x ∷ xs) = ap (λ (b : Bool). p (f x) || b) (any-map p f xs)
 
 -- one piece
-piece-writes : (limit : ℕ) (v : VersionValue) (piece : List ℕ) → IsUtf8 piece → part_writes limit v (trim piece) ≡ true → PieceWrites limit v piece
+piece-writes : (limit : ℕ) (v : VersionValue) (piece : List ℕ) → IsUtf8 piece → part_writes limit v (trim piece) ≡ true
+    → PieceWrites limit v piece
 piece-writes limit v piece u h = elim (cases_Bool (is_empty (trim piece))) [
   | inl empty ↦ inl (empty-blank piece u empty)
-  | inr some ↦ inr (runs_of precedence (part_bounds limit (trim piece)), has-runs limit piece u, behind (is_empty (trim piece)) some h)
+  | inr some ↦ inr (
+    runs_of precedence (part_bounds limit (trim piece)),
+    has-runs limit piece u,
+    behind (is_empty (trim piece)) some h,
+  )
 ]
   where
     behind : (b : Bool) → b ≡ false → {c : Bool} → (b || c) ≡ true → c ≡ true
     behind b e h = grind arith
 
-piece-written : (limit : ℕ) (v : VersionValue) (piece : List ℕ) → IsUtf8 piece → PieceWrites limit v piece → part_writes limit v (trim piece) ≡ true
+piece-written : (limit : ℕ) (v : VersionValue) (piece : List ℕ) → IsUtf8 piece → PieceWrites limit v piece
+    → part_writes limit v (trim piece) ≡ true
 piece-written limit v piece u (inl blank) = grind (arith, blank-empty)
 piece-written limit v piece u (inr (runs, has, some)) =
-    or_right (is_empty (trim piece)) _ (ap (λ (rs : List (Run VersionValue)). list_any (run_writes precedence v) rs) (sym (runs-once limit piece runs u has)) ∙ some)
+    or_right (is_empty (trim piece)) _
+    (ap (λ (rs : List (Run VersionValue)). list_any (run_writes precedence v) rs) (sym (runs-once limit piece runs u has))
+    ∙ some)
 
 pub written : (limit : ℕ) (text : List ℕ) (v : VersionValue) → IsUtf8 text → (writes limit text v ≡ true) ↔ Writes limit text v
 unfolding Writes
 written limit text v u = (
-  λ h. let some = Any-from_list_any test here (sym (any-map (part_writes limit v) trim here) ∙ h) in
-      (here, bars_divide text, (some.0, some.1, some.2, some.3, piece-writes limit v some.1 (at here (bars_divide text) some) some.4)),
+  λ h. let some = Any-from_list_any test here (sym (any-map (part_writes limit v) trim here) ∙ h) in (
+    here,
+    bars_divide text,
+    (some.0, some.1, some.2, some.3, piece-writes limit v some.1 (at here (bars_divide text) some) some.4),
+  ),
   λ w. ap (λ (ps : List (List ℕ)). list_any (part_writes limit v) (map trim ps)) (sym (bars_once text w.0 w.1))
       ∙ any-map (part_writes limit v) trim w.0
       ∙ list_any-from_Any test w.0 (w.2.0, w.2.1, w.2.2, w.2.3, piece-written limit v w.2.1 (at w.0 w.1 w.2) w.2.4),

@@ -50,10 +50,13 @@ second-read : (limit : ℕ) (text : List ℕ) (a b : Span VersionValue) (rest mo
 unfolding comparisons_front
 second-read limit text a b rest more h second k = rw (← h) (go (interval precedence a))
   where
-    last : (s : Span VersionValue) (o : Option (Span VersionValue)) → (part_read more o >>? λ t. part_read t.1 (meet precedence s t.0)) ≡ part_read more (o >>? λ t. meet precedence s t)
+    last : (s : Span VersionValue) (o : Option (Span VersionValue))
+        → (part_read more o >>? λ t. part_read t.1 (meet precedence s t.0)) ≡ part_read more (o >>? λ t. meet precedence s t)
     last s o = grind arith
 
-    go : (o : Option (Span VersionValue)) → (part_read rest o >>? λ s. behind-first limit s) ≡ part_read more (o >>? λ s. interval precedence b >>? λ t. meet precedence s t)
+    go : (o : Option (Span VersionValue))
+        → (part_read rest o >>? λ s. behind-first limit s)
+        ≡ part_read more (o >>? λ s. interval precedence b >>? λ t. meet precedence s t)
     go o = grind (arith, last)
 
 -- two comparisons

@@ -32,10 +32,12 @@ pub record Compact (text : List ℕ) : Type 0 where
 identifiers-solid : (text : List ℕ) → tail_runs (pieces text) ≡ true → list_all is_solid text ≡ true
 identifiers-solid [] h = refl
 identifiers-solid (b ∷ rest) h = elim (cases_Bool (b == 46)) [
-  | inl dot ↦ and_from (is_solid b) (list_all is_solid rest) (solid-dot b dot) (identifiers-solid rest (runs_tail (pieces rest) (rw dot at h)))
+  | inl dot ↦ and_from (is_solid b) (list_all is_solid rest) (solid-dot b dot)
+      (identifiers-solid rest (runs_tail (pieces rest) (rw dot at h)))
   | inr other ↦
       let split : tail_runs (onto_first b (pieces rest)) ≡ true = rw other at h in
-      and_from (is_solid b) (list_all is_solid rest) (solid-char b (first_char b (pieces rest) split)) (identifiers-solid rest (tail_onto b (pieces rest) split))
+      and_from (is_solid b) (list_all is_solid rest) (solid-char b (first_char b (pieces rest) split))
+      (identifiers-solid rest (tail_onto b (pieces rest) split))
 ]
   where
     solid-dot : (b : ℕ) → (b == 46) ≡ true → is_solid b ≡ true
@@ -62,11 +64,13 @@ components-solid limit x p h = grind (arith, number-solid, all-join, pre-solid, 
 -- ---- compact texts
 
 -- a part of two words, and one of a single word
-pub compact-join : (u v : List ℕ) → begins is_solid u ≡ true → list_all is_part_byte u ≡ true → list_all is_part_byte v ≡ true → ends is_solid v ≡ true → Compact (u ++ v)
+pub compact-join : (u v : List ℕ) → begins is_solid u ≡ true → list_all is_part_byte u ≡ true → list_all is_part_byte v ≡ true
+    → ends is_solid v ≡ true → Compact (u ++ v)
 compact-join u v b h k e = grind (arith, all-join, ends-append, ends-some)
 
 pub compact-spaced : (u v : List ℕ) → Compact u → Compact v → Compact (u ++ 32 ∷ v)
-compact-spaced u v c d = compact-join u (32 ∷ v) c.front c.each d.each (ends-append is_solid (32 ∷ []) v (ends-some is_solid v d.end) ∙ d.end)
+compact-spaced u v c d =
+    compact-join u (32 ∷ v) c.front c.each d.each (ends-append is_solid (32 ∷ []) v (ends-some is_solid v d.end) ∙ d.end)
 
 pub compact-partial : (limit : ℕ) (x : List ℕ) (p : Partial) → AreComponents limit x p → Compact x
 compact-partial limit x p h = grind (arith, components-solid, components-begin, all_weaker, all-end)

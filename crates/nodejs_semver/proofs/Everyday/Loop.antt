@@ -17,7 +17,8 @@ pub record Reaches (limit : ℕ) (text : List ℕ) (found : List (Span VersionVa
   pub room : length rest ≤ bytes
   pub whole : (common_within limit bytes rest >>? λ tail. Some (found ++ tail)) ≡ common_range limit text
 
-pub loop-starts : (limit : ℕ) (text rest : List ℕ) (found : List (Span VersionValue)) → rest ≡ text → found ≡ [] → Reaches limit text found rest
+pub loop-starts : (limit : ℕ) (text rest : List ℕ) (found : List (Span VersionValue)) → rest ≡ text → found ≡ []
+    → Reaches limit text found rest
 loop-starts limit text rest found e f = grind arith
 
 -- ---- one part
@@ -26,18 +27,22 @@ stops-part : (limit n : ℕ) (rest : List ℕ) → part_front limit rest ≡ Non
 unfolding common_within
 stops-part limit n rest h = grind arith
 
-stops-bars : (limit n : ℕ) (rest left : List ℕ) (s : Span VersionValue) → part_front limit rest ≡ Some (s, left) → is_empty left ≡ false → after_bars left ≡ None
+stops-bars : (limit n : ℕ) (rest left : List ℕ) (s : Span VersionValue) → part_front limit rest ≡ Some (s, left)
+    → is_empty left ≡ false → after_bars left ≡ None
     → common_within limit n rest ≡ None
 unfolding common_within
 stops-bars limit n rest left s h k m = grind arith
 
-ends-there : (limit n : ℕ) (rest left : List ℕ) (s : Span VersionValue) → length rest ≤ n → part_front limit rest ≡ Some (s, left) → is_empty left ≡ true
+ends-there : (limit n : ℕ) (rest left : List ℕ) (s : Span VersionValue) → length rest ≤ n → part_front limit rest ≡ Some (s, left)
+    → is_empty left ≡ true
     → common_within limit n rest ≡ Some (s ∷ [])
 unfolding common_within part_front
 ends-there limit n rest left s h k m = grind arith
 
-goes-on : (limit n : ℕ) (rest left next : List ℕ) (s : Span VersionValue) → length rest ≤ n → part_front limit rest ≡ Some (s, left) → is_empty left ≡ false
-    → after_bars left ≡ Some next → (m : ℕ) × (length next ≤ m) × (common_within limit n rest ≡ (common_within limit m next >>? λ list. Some (s ∷ list)))
+goes-on : (limit n : ℕ) (rest left next : List ℕ) (s : Span VersionValue) → length rest ≤ n
+    → part_front limit rest ≡ Some (s, left) → is_empty left ≡ false
+    → after_bars left ≡ Some next → (m : ℕ) × (length next ≤ m)
+    × (common_within limit n rest ≡ (common_within limit m next >>? λ list. Some (s ∷ list)))
 unfolding common_within part_front
 goes-on limit zero [] left next s l h e k = cc h
 goes-on limit zero (b ∷ rest) left next s l h e k = absurd (omega arith)
@@ -49,7 +54,8 @@ filled-of : (text : List ℕ) → 0 < length text → is_empty text ≡ false
 filled-of text h = grind arith
 
 -- no part, or no bars behind one: the text is no common one
-uncommon : (limit : ℕ) (text : List ℕ) (found : List (Span VersionValue)) (rest : List ℕ) (r : Reaches limit text found rest) → common_within limit r.bytes rest ≡ None → NoValue (IsCommonRange limit text)
+uncommon : (limit : ℕ) (text : List ℕ) (found : List (Span VersionValue)) (rest : List ℕ) (r : Reaches limit text found rest)
+    → common_within limit r.bytes rest ≡ None → NoValue (IsCommonRange limit text)
 uncommon limit text found rest r none = grind (arith, common_ranges_are_read)
 
 -- the reader was at a place, and its next step added a part
@@ -58,7 +64,8 @@ pub record Step (limit : ℕ) (found new : List (Span VersionValue)) (rest left 
   pub added : behind after new ≡ passed found (part_front limit rest)
   pub there : after ≡ Some left
 
-added-by : (limit : ℕ) (found new : List (Span VersionValue)) (rest left : List ℕ) → Step limit found new rest left → Added found new (part_front limit rest) left
+added-by : (limit : ℕ) (found new : List (Span VersionValue)) (rest left : List ℕ) → Step limit found new rest left
+    → Added found new (part_front limit rest) left
 added-by limit found new rest left s = passed-some found new (part_front limit rest) s.after left s.added s.there
 
 pub loop-no_part : (limit : ℕ) (text : List ℕ) (found new : List (Span VersionValue)) (rest : List ℕ) (after : Option (List ℕ)) → behind after new ≡ passed found (part_front limit rest)
@@ -78,7 +85,8 @@ loop-ends limit text found new rest left s none r =
     let a = added-by limit found new rest left s in
     grind (arith, ends-there, common_ranges_are_read)
 
-pub loop-goes : (limit : ℕ) (text : List ℕ) (found new : List (Span VersionValue)) (rest left next : List ℕ) → Step limit found new rest left → 0 < length left
+pub loop-goes : (limit : ℕ) (text : List ℕ) (found new : List (Span VersionValue)) (rest left next : List ℕ)
+    → Step limit found new rest left → 0 < length left
     → after_bars left ≡ Some next → Reaches limit text found rest → Reaches limit text new next
 loop-goes limit text found new rest left next s some bars r =
     let a = added-by limit found new rest left s in

@@ -42,7 +42,8 @@ ends-space z = record { stop = stop-space (124 ∷ z); second = refl; dash = gri
 
 -- ---- words
 
-comparator-of : (c : Comparator) (sign text : List ℕ) → IsSign c sign → begins_component text ≡ true → comparator_at (sign ++ text) ≡ Some (c, text)
+comparator-of : (c : Comparator) (sign text : List ℕ) → IsSign c sign → begins_component text ≡ true
+    → comparator_at (sign ++ text) ≡ Some (c, text)
 comparator-of c sign text above_sign h = ap Some (no-equal above at_least text h)
 comparator-of c sign text at_least_sign h = refl
 comparator-of c sign text below_sign h = ap Some (no-equal below at_most text h)
@@ -286,7 +287,8 @@ within-sound limit (suc n) text list h =
           let e : p.0.0 ∷ [] ≡ list = same_Some _ _ (rw none at p.2) in
           rw (← e) (last-sound limit text p.0.0 p.0.1 p.1 none)
       | inr some ↦
-          let next = bind_some (after_bars p.0.1) (λ next. common_within limit n next >>? λ tail. Some (onto p.0.0 tail)) list (rw some at p.2) in
+          let next = bind_some (after_bars p.0.1) (λ next. common_within limit n next >>? λ tail. Some (onto p.0.0 tail)) list
+          (rw some at p.2) in
           let tail = bind_some (common_within limit n next.0) (λ tail. Some (onto p.0.0 tail)) list next.2 in
           let e : p.0.0 ∷ tail.0 ≡ list = same_Some _ _ tail.2 in
           rw (← e) (next-sound limit text p.0.0 p.0.1 next.0 tail.0 p.1 next.1 (within-sound limit n next.0 tail.0 tail.1))

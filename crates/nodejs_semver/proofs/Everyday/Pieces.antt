@@ -22,6 +22,7 @@ bare-exact limit x more p h stop =
     ∙ (ap (λ (q : Partial × List ℕ). unbuilt q) (a.2.exact stop) ∙ rw h.no_build refl)
 
 -- and what is read there is one
-pub bare-sound : (limit : ℕ) (text : List ℕ) (p : Partial) (more : List ℕ) → bare_front limit text ≡ Some (p, more) → (x : List ℕ) × (text ≡ x ++ more) × IsBare limit x p
+pub bare-sound : (limit : ℕ) (text : List ℕ) (p : Partial) (more : List ℕ) → bare_front limit text ≡ Some (p, more) → (x : List ℕ)
+    × (text ≡ x ++ more) × IsBare limit x p
 unfolding bare_front
 bare-sound limit text p more h = grind (arith, components-read)

@@ -27,7 +27,8 @@ solid-kept : (b : ℕ) (rest : List ℕ) → is_solid b ≡ true → drop_spaces
 solid-kept b rest h = drop_spaces-none (b ∷ rest) (solid-dark (b ∷ rest) h)
 
 -- more than spaces is left of what ends in a character
-left-over : (text gap : List ℕ) → list_all is_part_byte text ≡ true → ends is_solid text ≡ true → is_empty (drop_spaces (text ++ gap)) ≡ false
+left-over : (text gap : List ℕ) → list_all is_part_byte text ≡ true → ends is_solid text ≡ true
+    → is_empty (drop_spaces (text ++ gap)) ≡ false
 left-over [] gap h e = cc e
 left-over (b ∷ []) gap h e = ap is_empty (solid-kept b gap e)
 left-over (b ∷ c ∷ text) gap h e = elim (cases_Bool (is_solid b)) [
@@ -45,7 +46,8 @@ gap-gone : (gap : List ℕ) → IsGap gap → drop_end_spaces gap ≡ []
 unfolding drop_end_spaces after_spaces space_len
 gap-gone gap h = grind arith
 
-end-kept : (text gap : List ℕ) → IsGap gap → list_all is_part_byte text ≡ true → ends is_solid text ≡ true → drop_end_spaces (text ++ gap) ≡ text
+end-kept : (text gap : List ℕ) → IsGap gap → list_all is_part_byte text ≡ true → ends is_solid text ≡ true
+    → drop_end_spaces (text ++ gap) ≡ text
 end-kept [] gap g h e = cc e
 end-kept (b ∷ []) gap g h e = rw (keep_byte b gap (left-over (b ∷ []) gap h e), gap-gone gap g) refl
 end-kept (b ∷ c ∷ text) gap g h e =
@@ -60,7 +62,8 @@ gap-passed before text h = grind (arith, space-gone)
 
 -- a compact text with a space or none on each side is trimmed to itself
 compact-trim : (before text after : List ℕ) → IsGap before → IsGap after → Compact text → trim (before ++ (text ++ after)) ≡ text
-compact-trim before text after g k c = rw (gap-passed before (text ++ after) g, front-kept text after c.front) (end-kept text after k c.each c.end)
+compact-trim before text after g k c =
+    rw (gap-passed before (text ++ after) g, front-kept text after c.front) (end-kept text after k c.each c.end)
 
 -- ---- cutting at bars
 
@@ -90,25 +93,30 @@ cut-first (b ∷ piece) rest h =
 pub data AreTidy (limit : ℕ) : List ℕ → List (Span VersionValue) → Type 0 where
   one_tidy : (part : List ℕ) (s : Span VersionValue) → Tidy limit part s → AreTidy limit part (s ∷ [])
   more_tidy : (part before after text : List ℕ) (s : Span VersionValue) (list : List (Span VersionValue)) → Tidy limit part s
-      → IsGap before → IsGap after → AreTidy limit text list → AreTidy limit (part ++ (before ++ 124 ∷ (124 ∷ (after ++ text)))) (s ∷ list)
+      → IsGap before → IsGap after → AreTidy limit text list
+      → AreTidy limit (part ++ (before ++ 124 ∷ (124 ∷ (after ++ text)))) (s ∷ list)
 
 -- what the parts of a text are, where its first part is not empty
 record Denoted (limit : ℕ) (pieces : List (List ℕ)) (list : List (Span VersionValue)) : Type 0 where
   intervals : flat_map (part_denotes limit) (map trim pieces) ≡ list
   filled : list_all is_empty (map trim pieces) ≡ false
 
-denoted-on : (limit : ℕ) (piece part : List ℕ) (pieces : List (List ℕ)) (s : Span VersionValue) (list : List (Span VersionValue)) → trim piece ≡ part → Tidy limit part s
+denoted-on : (limit : ℕ) (piece part : List ℕ) (pieces : List (List ℕ)) (s : Span VersionValue) (list : List (Span VersionValue))
+    → trim piece ≡ part → Tidy limit part s
     → flat_map (part_denotes limit) (map trim pieces) ≡ list → Denoted limit (piece ∷ pieces) (s ∷ list)
 denoted-on limit piece part pieces s list t tidy h = grind arith
 
-denoted : (limit : ℕ) (text : List ℕ) (list : List (Span VersionValue)) (gap : List ℕ) → IsGap gap → AreTidy limit text list → Denoted limit (cut_bars false (gap ++ text)) list
+denoted : (limit : ℕ) (text : List ℕ) (list : List (Span VersionValue)) (gap : List ℕ) → IsGap gap → AreTidy limit text list
+    → Denoted limit (cut_bars false (gap ++ text)) list
 denoted limit text list gap g (one_tidy part s tidy) =
     let trimmed : trim (gap ++ part) ≡ part = rw append-nil at (compact-trim gap part [] g (inl refl) tidy.compact) in
-    rw (cut-last (gap ++ part) (all-join is_part_byte gap part (gap-bytes gap g) tidy.compact.each)) (denoted-on limit (gap ++ part) part [] s [] trimmed tidy refl)
+    rw (cut-last (gap ++ part) (all-join is_part_byte gap part (gap-bytes gap g) tidy.compact.each))
+    (denoted-on limit (gap ++ part) part [] s [] trimmed tidy refl)
 denoted limit text list gap g (more_tidy part before after rest s others tidy b a more) =
     let piece = gap ++ (part ++ before) in
     let behind = 124 ∷ (124 ∷ (after ++ rest)) in
-    let whole : gap ++ (part ++ (before ++ behind)) ≡ piece ++ behind = sym (append_assoc gap (part ++ before) behind ∙ ap (λ (t : List ℕ). gap ++ t) (append_assoc part before behind)) in
+    let whole : gap ++ (part ++ (before ++ behind)) ≡ piece ++ behind =
+    sym (append_assoc gap (part ++ before) behind ∙ ap (λ (t : List ℕ). gap ++ t) (append_assoc part before behind)) in
     let next = denoted limit rest others after a more in
     grind (arith, all-join, cut-first, compact-trim)
 
@@ -120,22 +128,26 @@ tidy-denotes limit text list h =
 
 -- ---- common texts
 
-word-tidy : (limit : ℕ) (x : List ℕ) (w : Word) (s : Span VersionValue) → IsCommonWord limit x w → table limit w ≡ Some s → Tidy limit x s
+word-tidy : (limit : ℕ) (x : List ℕ) (w : Word) (s : Span VersionValue) → IsCommonWord limit x w → table limit w ≡ Some s
+    → Tidy limit x s
 word-tidy limit x w s (plain_word text p h) bounds = plain-tidy limit text p s h.components bounds
-word-tidy limit x w s (compare_word text word (comparison c sign rest p is h)) bounds = compared-tidy limit c sign rest p s is h.components bounds
+word-tidy limit x w s (compare_word text word (comparison c sign rest p is h)) bounds =
+    compared-tidy limit c sign rest p s is h.components bounds
 word-tidy limit x w s (tilde_word text p h) bounds =
     grind (arith, components-begin, compact-partial, tilde-tidy, drop_spaces-none, solid-dark, no-greater)
 word-tidy limit x w s (tilde_greater_word text p h) bounds =
     search (arith, compact-signed, compact-partial, tilde-tidy, drop_spaces-none, solid-dark)
 word-tidy limit x w s (caret_word text p h) bounds = caret-tidy limit text p s h.components bounds
-word-tidy limit x w s (hyphen_word first second p q h k) bounds = hyphen-tidy limit first second p q s h.components k.components bounds
+word-tidy limit x w s (hyphen_word first second p q h k) bounds =
+    hyphen-tidy limit first second p q s h.components k.components bounds
 
 pub part-tidy : (limit : ℕ) (x : List ℕ) (s : Span VersionValue) → IsCommonPart limit x s → Tidy limit x s
 part-tidy limit x s (one_word text word span is bounds) = word-tidy limit text word span is bounds
 part-tidy limit x s (two_comparisons u v a b c d both (comparison f sign t p is h) (comparison g sign' t' q is' k) e e' m) =
     two-tidy limit f g sign sign' t t' p q c d both is h.components is' k.components e e' m
 
-common-tidy : (limit : ℕ) (text : List ℕ) (list : List (Span VersionValue)) → IsCommonRange limit text list → AreTidy limit text list
+common-tidy : (limit : ℕ) (text : List ℕ) (list : List (Span VersionValue)) → IsCommonRange limit text list
+    → AreTidy limit text list
 common-tidy limit text list (one_part part s is) = one_tidy part s (part-tidy limit part s is)
 common-tidy limit text list (more_parts part before after rest s others is b a more) =
     more_tidy part before after rest s others (part-tidy limit part s is) b a (common-tidy limit rest others more)
@@ -145,4 +157,5 @@ list-some limit text list h = grind arith
 
 pub common_ranges_are_denoted : (limit : ℕ) (text : List ℕ) (list : List (Span VersionValue)) → IsCommonRange limit text list
     → (denotes limit text ≡ list) × (0 < length list) × (list_all is_empty (parts text) ≡ false)
-common_ranges_are_denoted limit text list h = let d = tidy-denotes limit text list (common-tidy limit text list h) in (d.0, list-some limit text list h, d.1)
+common_ranges_are_denoted limit text list h = let d =
+    tidy-denotes limit text list (common-tidy limit text list h) in (d.0, list-some limit text list h, d.1)

@@ -20,7 +20,8 @@ common_bounded limit text list h = grind (arith, common_ranges_are_denoted, deno
 pub common_list : (limit : ℕ) (text : List ℕ) (list : List (Span VersionValue)) → IsCommonRange limit text list → list ≡ denotes limit text
 common_list limit text list h = sym (common_ranges_are_denoted limit text list h).0
 
-pub common_means : (limit : ℕ) (text : List ℕ) (list : List (Span VersionValue)) (o : Option (List (Span VersionValue))) → IsUtf8 text → IsCommonRange limit text list
+pub common_means : (limit : ℕ) (text : List ℕ) (list : List (Span VersionValue)) (o : Option (List (Span VersionValue)))
+    → IsUtf8 text → IsCommonRange limit text list
     → o ≡ if_any list → IfSome o (Means limit text)
 common_means limit text list o u h e = grind (arith, meant, common_list)
 
@@ -33,6 +34,7 @@ denoted_range limit text list h some =
     record { some = some; each = ap (list_all (is_range_span (limit + 1))) h ∙ denotes-bounded limit text }
 
 -- the loose reader returns the range of a common text
-pub fast_read : (limit : ℕ) (text : List ℕ) (list : List (Span VersionValue)) (o : Option (List (Span VersionValue))) → IsUtf8 text → IsCommonRange limit text list
+pub fast_read : (limit : ℕ) (text : List ℕ) (list : List (Span VersionValue)) (o : Option (List (Span VersionValue)))
+    → IsUtf8 text → IsCommonRange limit text list
     → IfSome o (λ range. Means limit text range × (0 < length range)) → IfNone o (Means limit text []) → Some list ≡ o
 fast_read limit text list o h k m n = grind (arith, common_list, one_meaning)

@@ -32,7 +32,8 @@ no-equal one two text h = grind arith
 pub no-greater : (text : List ℕ) → begins_component text ≡ true → tilde_sign text ≡ (false, text)
 no-greater text h = grind arith
 
-pub sign-begins : (c : Comparator) (sign text : List ℕ) → IsSign c sign → (begins is_sign (sign ++ text) ≡ true) × (begins is_solid (sign ++ text) ≡ true)
+pub sign-begins : (c : Comparator) (sign text : List ℕ) → IsSign c sign → (begins is_sign (sign ++ text) ≡ true)
+    × (begins is_solid (sign ++ text) ≡ true)
 sign-begins c sign text h = grind arith
 
 -- ---- one word
@@ -43,17 +44,20 @@ record ReadAt (limit : ℕ) (text : List ℕ) (w : Word) (more : List ℕ) : Typ
   word : word_at limit text ≡ (w, more)
 
 -- the partial, and the same behind a sign, where whitespace might stand
-partial-spaced : (limit : ℕ) (x more : List ℕ) (p : Partial) → AreComponents limit x p → Stop more → partial_front limit (drop_spaces (x ++ more)) ≡ Some (p, more)
+partial-spaced : (limit : ℕ) (x more : List ℕ) (p : Partial) → AreComponents limit x p → Stop more
+    → partial_front limit (drop_spaces (x ++ more)) ≡ Some (p, more)
 partial-spaced limit x more p h stop =
     grind (arith, solid-dark, begins-on, component-solid, components-begin, drop_spaces-none, front-exact)
 
 partial-last : (limit : ℕ) (x : List ℕ) (p : Partial) → AreComponents limit x p → partial_front limit x ≡ Some (p, [])
 partial-last limit x p h = rw append-nil at (front-exact limit x [] p h stop-nil)
 
-spaced-last : (limit : ℕ) (x : List ℕ) (p : Partial) → AreComponents limit x p → partial_front limit (drop_spaces x) ≡ Some (p, [])
+spaced-last : (limit : ℕ) (x : List ℕ) (p : Partial) → AreComponents limit x p
+    → partial_front limit (drop_spaces x) ≡ Some (p, [])
 spaced-last limit x p h = rw append-nil at (partial-spaced limit x [] p h stop-nil)
 
-compared-read : (limit : ℕ) (c : Comparator) (sign x more : List ℕ) (p : Partial) → IsSign c sign → AreComponents limit x p → Stop more → is_boundary more ≡ true
+compared-read : (limit : ℕ) (c : Comparator) (sign x more : List ℕ) (p : Partial) → IsSign c sign → AreComponents limit x p
+    → Stop more → is_boundary more ≡ true
     → ReadAt limit ((sign ++ x) ++ more) (compare c p) more
 unfolding word_at
 compared-read limit c sign x more p is h stop end =
@@ -66,7 +70,8 @@ compared-read limit c sign x more p is h stop end =
 
 -- ---- the words of a part, and its interval
 
-words-at : (limit : ℕ) (text : List ℕ) (w : Word) (more : List ℕ) → ReadAt limit text w more → words limit text ≡ w ∷ words limit (drop_spaces more)
+words-at : (limit : ℕ) (text : List ℕ) (w : Word) (more : List ℕ) → ReadAt limit text w more
+    → words limit text ≡ w ∷ words limit (drop_spaces more)
 words-at limit text w more r = grind (arith, words-step, solid-dark)
 
 one-word : (limit : ℕ) (text : List ℕ) (w : Word) → ReadAt limit text w [] → words limit text ≡ w ∷ []
@@ -77,45 +82,56 @@ pub space-gone : (rest : List ℕ) → drop_spaces (32 ∷ rest) ≡ drop_spaces
 unfolding after_spaces space_len
 space-gone rest = refl
 
-two-words : (limit : ℕ) (text rest : List ℕ) (v w : Word) → ReadAt limit text v (32 ∷ rest) → ReadAt limit rest w [] → words limit text ≡ v ∷ w ∷ []
-two-words limit text rest v w r s = words-at limit text v (32 ∷ rest) r ∙ rw (space-gone rest, drop_spaces-none rest (solid-dark rest s.front), one-word limit rest w s) refl
+two-words : (limit : ℕ) (text rest : List ℕ) (v w : Word) → ReadAt limit text v (32 ∷ rest) → ReadAt limit rest w []
+    → words limit text ≡ v ∷ w ∷ []
+two-words limit text rest v w r s =
+    words-at limit text v (32 ∷ rest) r
+    ∙ rw (space-gone rest, drop_spaces-none rest (solid-dark rest s.front), one-word limit rest w s) refl
 
 -- a part that is trimmed to itself and has one interval
 pub record Tidy (limit : ℕ) (part : List ℕ) (s : Span VersionValue) : Type 0 where
   pub compact : Compact part
   pub intervals : part_intervals limit part ≡ s ∷ []
 
-word-tidy : (limit : ℕ) (x : List ℕ) (w : Word) (s : Span VersionValue) → Compact x → word_at limit x ≡ (w, []) → table limit w ≡ Some s → Tidy limit x s
+word-tidy : (limit : ℕ) (x : List ℕ) (w : Word) (s : Span VersionValue) → Compact x → word_at limit x ≡ (w, [])
+    → table limit w ≡ Some s → Tidy limit x s
 unfolding runs_from
-word-tidy limit x w s c word bounds = record { compact = c; intervals = rw (one-word limit x w (record { front = c.front; word = word }), bounds) refl }
+word-tidy limit x w s c word bounds =
+    record { compact = c; intervals = rw (one-word limit x w (record { front = c.front; word = word }), bounds) refl }
 
 -- ---- the forms of a part
 
-pub plain-tidy : (limit : ℕ) (x : List ℕ) (p : Partial) (s : Span VersionValue) → AreComponents limit x p → table limit (plain p) ≡ Some s → Tidy limit x s
+pub plain-tidy : (limit : ℕ) (x : List ℕ) (p : Partial) (s : Span VersionValue) → AreComponents limit x p
+    → table limit (plain p) ≡ Some s → Tidy limit x s
 unfolding word_at is_boundary space_len
 plain-tidy limit x p s h bounds = grind (arith, partial-last, word-tidy, compact-partial, unsigned-at)
 
-last-compared : (limit : ℕ) (c : Comparator) (sign x : List ℕ) (p : Partial) → IsSign c sign → AreComponents limit x p → ReadAt limit (sign ++ x) (compare c p) []
+last-compared : (limit : ℕ) (c : Comparator) (sign x : List ℕ) (p : Partial) → IsSign c sign → AreComponents limit x p
+    → ReadAt limit (sign ++ x) (compare c p) []
 unfolding is_boundary
 last-compared limit c sign x p is h = rw append-nil at (compared-read limit c sign x [] p is h stop-nil refl)
 
-pub compared-tidy : (limit : ℕ) (c : Comparator) (sign x : List ℕ) (p : Partial) (s : Span VersionValue) → IsSign c sign → AreComponents limit x p
+pub compared-tidy : (limit : ℕ) (c : Comparator) (sign x : List ℕ) (p : Partial) (s : Span VersionValue) → IsSign c sign
+    → AreComponents limit x p
     → table limit (compare c p) ≡ Some s → Tidy limit (sign ++ x) s
 compared-tidy limit c sign x p s is h bounds = grind (arith, word-tidy, compact-compared, compact-partial, last-compared)
 
-pub tilde-tidy : (limit : ℕ) (greater : Bool) (rest x : List ℕ) (p : Partial) (s : Span VersionValue) → Compact (126 ∷ rest) → tilde_sign (drop_spaces rest) ≡ (greater, x)
+pub tilde-tidy : (limit : ℕ) (greater : Bool) (rest x : List ℕ) (p : Partial) (s : Span VersionValue) → Compact (126 ∷ rest)
+    → tilde_sign (drop_spaces rest) ≡ (greater, x)
     → AreComponents limit x p → table limit (tilde greater p) ≡ Some s → Tidy limit (126 ∷ rest) s
 unfolding word_at is_boundary space_len
 tilde-tidy limit greater rest x p s c sign h bounds =
     word-tidy limit (126 ∷ rest) (tilde greater p) s c (rw (sign, spaced-last limit x p h) refl) bounds
 
-pub caret-tidy : (limit : ℕ) (x : List ℕ) (p : Partial) (s : Span VersionValue) → AreComponents limit x p → table limit (caret p) ≡ Some s → Tidy limit (94 ∷ x) s
+pub caret-tidy : (limit : ℕ) (x : List ℕ) (p : Partial) (s : Span VersionValue) → AreComponents limit x p
+    → table limit (caret p) ≡ Some s → Tidy limit (94 ∷ x) s
 unfolding word_at is_boundary space_len
 caret-tidy limit x p s h bounds =
     let whole = compact-signed 94 x refl (compact-partial limit x p h) in
     word-tidy limit (94 ∷ x) (caret p) s whole (rw (spaced-last limit x p h) refl) bounds
 
-pub hyphen-tidy : (limit : ℕ) (x y : List ℕ) (p q : Partial) (s : Span VersionValue) → AreComponents limit x p → AreComponents limit y q
+pub hyphen-tidy : (limit : ℕ) (x y : List ℕ) (p q : Partial) (s : Span VersionValue) → AreComponents limit x p
+    → AreComponents limit y q
     → table limit (hyphen p q) ≡ Some s → Tidy limit (x ++ 32 ∷ (45 ∷ (32 ∷ y))) s
 unfolding word_at is_boundary space_len after_spaces
 hyphen-tidy limit x y p q s h k bounds =
@@ -125,15 +141,19 @@ hyphen-tidy limit x y p q s h k bounds =
     word-tidy limit (x ++ behind) (hyphen p q) s (compact-spaced x (45 ∷ 32 ∷ y) (compact-partial limit x p h) dash)
     (rw (unsigned-at limit (x ++ behind) (p, behind) read, read, spaced-last limit y q k) refl) bounds
 
-pub two-tidy : (limit : ℕ) (c d : Comparator) (sign sign' x y : List ℕ) (p q : Partial) (s t both : Span VersionValue) → IsSign c sign → AreComponents limit x p
-    → IsSign d sign' → AreComponents limit y q → table limit (compare c p) ≡ Some s → table limit (compare d q) ≡ Some t → meet precedence s t ≡ Some both
+pub two-tidy : (limit : ℕ) (c d : Comparator) (sign sign' x y : List ℕ) (p q : Partial) (s t both : Span VersionValue)
+    → IsSign c sign → AreComponents limit x p
+    → IsSign d sign' → AreComponents limit y q → table limit (compare c p) ≡ Some s → table limit (compare d q) ≡ Some t
+    → meet precedence s t ≡ Some both
     → Tidy limit ((sign ++ x) ++ 32 ∷ (sign' ++ y)) both
 unfolding joined_from is_boundary space_len
 two-tidy limit c d sign sign' x y p q s t both is h is' k b b' m =
     let rest = sign' ++ y in
     let first = compared-read limit c sign x (32 ∷ rest) p is h (stop-space rest) refl in
-    let each = two-words limit ((sign ++ x) ++ 32 ∷ rest) rest (compare c p) (compare d q) first (last-compared limit d sign' y q is' k) in
+    let each = two-words limit ((sign ++ x) ++ 32 ∷ rest) rest (compare c p) (compare d q) first
+    (last-compared limit d sign' y q is' k) in
     record {
-      compact = compact-spaced (sign ++ x) rest (compact-compared c sign x is (compact-partial limit x p h)) (compact-compared d sign' y is' (compact-partial limit y q k));
+      compact = compact-spaced (sign ++ x) rest (compact-compared c sign x is (compact-partial limit x p h))
+          (compact-compared d sign' y is' (compact-partial limit y q k));
       intervals = rw (each, b, b') (sym (runs-joined precedence_total (s ∷ t ∷ [])) ∙ joined-goes precedence s t both [] m);
     }

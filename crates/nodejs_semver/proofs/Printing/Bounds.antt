@@ -36,7 +36,8 @@ bound below v = record { lower = Unbounded; upper = Before v }
 bound at_most v = record { lower = Unbounded; upper = After v }
 bound equal v = record { lower = Before v; upper = After v }
 
-alone : (limit : ℕ) (v : VersionValue) → limit < 2 ^ 64 → IsReadable limit v → Tidy limit (version_text v) (record { lower = Before v; upper = After v })
+alone : (limit : ℕ) (v : VersionValue) → limit < 2 ^ 64 → IsReadable limit v
+    → Tidy limit (version_text v) (record { lower = Before v; upper = After v })
 unfolding table
 alone limit v small h = plain-tidy limit (version_text v) (whole v) _ (components_are limit v small h) refl
 
@@ -54,7 +55,8 @@ two limit c d sign sign' v w s is is' e f small h k m =
     two-tidy limit c d sign sign' (version_text v) (version_text w) (whole v) (whole w) (bound c v) (bound d w) s
     is (components_are limit v small h) is' (components_are limit w small k) e f m
 
-pub bounds_tidy : (limit : ℕ) (lower upper : Bound VersionValue) → limit < 2 ^ 64 → is_interval precedence (record { lower = lower; upper = upper }) ≡ true
+pub bounds_tidy : (limit : ℕ) (lower upper : Bound VersionValue) → limit < 2 ^ 64
+    → is_interval precedence (record { lower = lower; upper = upper }) ≡ true
     → (is_bounded lower || is_bounded upper) ≡ true → IsReadableBound limit lower → IsReadableBound limit upper
     → Tidy limit (bounds_text lower upper) (bounds_back lower upper)
 unfolding table
@@ -66,9 +68,11 @@ bounds_tidy limit (Before v) (Before w) small p b h k =
     two limit at_least below (62 ∷ 61 ∷ []) (60 ∷ []) v w _ at_least_sign below_sign refl refl small h k (rw p refl)
 bounds_tidy limit (Before v) (After w) small p b h k = elim (cases_Bool (version_eq v w)) [
   | inl same ↦ rw same (alone limit v small h)
-  | inr other ↦ rw other (two limit at_least at_most (62 ∷ 61 ∷ []) (60 ∷ 61 ∷ []) v w _ at_least_sign at_most_sign refl refl small h k (rw p refl))
+  | inr other ↦ rw other
+      (two limit at_least at_most (62 ∷ 61 ∷ []) (60 ∷ 61 ∷ []) v w _ at_least_sign at_most_sign refl refl small h k (rw p refl))
 ]
 bounds_tidy limit (After v) Unbounded small p b h k = one limit above (62 ∷ []) v above_sign refl small h
-bounds_tidy limit (After v) (Before w) small p b h k = two limit above below (62 ∷ []) (60 ∷ []) v w _ above_sign below_sign refl refl small h k (rw p refl)
+bounds_tidy limit (After v) (Before w) small p b h k =
+    two limit above below (62 ∷ []) (60 ∷ []) v w _ above_sign below_sign refl refl small h k (rw p refl)
 bounds_tidy limit (After v) (After w) small p b h k =
     two limit above at_most (62 ∷ []) (60 ∷ 61 ∷ []) v w _ above_sign at_most_sign refl refl small h k (rw p refl)

@@ -28,24 +28,29 @@ bounds_same (Before v) (After w) = grind (arith, ties_self)
 
 pub same_back : (list : List (Span VersionValue)) → range_eq (map read_back list) list ≡ true
 same_back [] = refl
-same_back (s ∷ rest) = and_from (span_eq (read_back s) s) (range_eq (map read_back rest) rest) (bounds_same s.lower s.upper) (same_back rest)
+same_back (s ∷ rest) =
+    and_from (span_eq (read_back s) s) (range_eq (map read_back rest) rest) (bounds_same s.lower s.upper) (same_back rest)
 
 -- the tests of a printable interval, as facts
 bound_readable : (limit : ℕ) (b : Bound VersionValue) → is_range_bound limit b ≡ true → IsReadableBound limit b
 bound_readable limit b h = grind arith
 
 -- a bound of a range, of small numbers
-small_bound : (limit : ℕ) (b : Bound VersionValue) → is_range_bound (limit + 1) b ≡ true → is_small limit b ≡ true → is_range_bound limit b ≡ true
+small_bound : (limit : ℕ) (b : Bound VersionValue) → is_range_bound (limit + 1) b ≡ true → is_small limit b ≡ true
+    → is_range_bound limit b ≡ true
 small_bound limit b h k = grind arith
 
-span_tidy : (limit : ℕ) (s : Span VersionValue) → limit < 2 ^ 64 → is_range_span (limit + 1) s ≡ true → is_printable limit s ≡ true
+span_tidy : (limit : ℕ) (s : Span VersionValue) → limit < 2 ^ 64 → is_range_span (limit + 1) s ≡ true
+    → is_printable limit s ≡ true
     → Tidy limit (bounds_text s.lower s.upper) (read_back s)
 span_tidy limit s below range h =
     let both = and_parts (is_bounded s.lower || is_bounded s.upper) (is_small limit s.lower && is_small limit s.upper) h in
     let small = and_parts (is_small limit s.lower) (is_small limit s.upper) both.1 in
-    let parts = and_parts (is_interval precedence s) (is_range_bound (limit + 1) s.lower && is_range_bound (limit + 1) s.upper) range in
+    let parts = and_parts (is_interval precedence s)
+    (is_range_bound (limit + 1) s.lower && is_range_bound (limit + 1) s.upper) range in
     let bounds = and_parts (is_range_bound (limit + 1) s.lower) (is_range_bound (limit + 1) s.upper) parts.1 in
-    bounds_tidy limit s.lower s.upper below parts.0 both.0 (bound_readable limit s.lower (small_bound limit s.lower bounds.0 small.0))
+    bounds_tidy limit s.lower s.upper below parts.0 both.0
+    (bound_readable limit s.lower (small_bound limit s.lower bounds.0 small.0))
     (bound_readable limit s.upper (small_bound limit s.upper bounds.1 small.1))
 
 -- a printed range is its intervals' texts between bars
@@ -59,11 +64,13 @@ printed_tidy limit s (t ∷ rest) small range h =
     more_tidy (bounds_text s.lower s.upper) [] [] (range_text (t ∷ rest)) (read_back s) (map read_back (t ∷ rest))
     (span_tidy limit s small spans.0 each.0) (inl refl) (inl refl) (printed_tidy limit t rest small spans.1 each.1)
 
-pub reads_back : (limit : ℕ) (text : List ℕ) (list : List (Span VersionValue)) → limit < 2 ^ 64 → IsRange limit list → list_all (is_printable limit) list ≡ true
+pub reads_back : (limit : ℕ) (text : List ℕ) (list : List (Span VersionValue)) → limit < 2 ^ 64 → IsRange limit list
+    → list_all (is_printable limit) list ≡ true
     → text ≡ range_text list → denotes limit text ≡ map read_back list
 reads_back limit text [] small range h e = absurd (omega (arith, range.some))
 reads_back limit text (s ∷ rest) small range h e =
-    ap (denotes limit) e ∙ (tidy-denotes limit (range_text (s ∷ rest)) (map read_back (s ∷ rest)) (printed_tidy limit s rest small range.each h)).0
+    ap (denotes limit) e
+    ∙ (tidy-denotes limit (range_text (s ∷ rest)) (map read_back (s ∷ rest)) (printed_tidy limit s rest small range.each h)).0
 
 -- what is read from a printed interval prints as the same text
 again : (lower upper : Bound VersionValue) → bounds_text (bounds_back lower upper).lower (bounds_back lower upper).upper ≡ bounds_text lower upper

@@ -22,8 +22,10 @@ pub record Reread (limit : ℕ) (text : List ℕ) (list : List (Span VersionValu
   pub printable : list_all (is_printable limit) list ≡ true
   pub printed : text ≡ range_text list
 
-is_back : (limit : ℕ) (text : List ℕ) (again list : List (Span VersionValue)) → Reread limit text list → Means limit text again → again ≡ map read_back list
-is_back limit text again list h m = sym ((one_meaning limit text again h.utf8).1 m) ∙ reads_back limit text list h.small h.range h.printable h.printed
+is_back : (limit : ℕ) (text : List ℕ) (again list : List (Span VersionValue)) → Reread limit text list → Means limit text again
+    → again ≡ map read_back list
+is_back limit text again list h m =
+    sym ((one_meaning limit text again h.utf8).1 m) ∙ reads_back limit text list h.small h.range h.printable h.printed
 
 pub reread_builds : {E : Type 0} (limit : ℕ) (r : Result (List (Span VersionValue)) E) (text : List ℕ) (list : List (Span VersionValue)) → Reread limit text list
     → IfOk r (Means limit text) → IfOk r (λ again. again ≡ map read_back list)
@@ -45,5 +47,6 @@ not_refused limit text [] h m = absurd (omega (arith, h.range.some))
 not_refused limit text (s ∷ rest) h m = cc (is_back limit text [] (s ∷ rest) h m)
 
 pub reread_read : {E : Type 0} (limit : ℕ) (r : Result (List (Span VersionValue)) (Failure E)) (text : List ℕ) (list : List (Span VersionValue)) → Reread limit text list
-    → RefusedOnlyIf {A = List (Span VersionValue)} {E = E} r (Means limit text []) → RefusedOnlyIf {A = List (Span VersionValue)} {E = E} r ⊥
+    → RefusedOnlyIf {A = List (Span VersionValue)} {E = E} r (Means limit text [])
+    → RefusedOnlyIf {A = List (Span VersionValue)} {E = E} r ⊥
 reread_read limit r text list h m = grind (arith, not_refused)

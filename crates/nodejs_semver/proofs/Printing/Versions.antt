@@ -22,7 +22,8 @@ number_is limit n fits small = grind (arith, decimal_some, decimal_digits, decim
 no_digit : (ids builds : List Id) → begins is_ascii_digit (marked_list (45 ∷ []) ids ++ marked_list (43 ∷ []) builds) ≡ false
 no_digit ids builds = grind arith
 
-pub components_are : (limit : ℕ) (v : VersionValue) → limit < 2 ^ 64 → IsReadable limit v → AreComponents limit (version_text v) (whole v)
+pub components_are : (limit : ℕ) (v : VersionValue) → limit < 2 ^ 64 → IsReadable limit v
+    → AreComponents limit (version_text v) (whole v)
 components_are limit v fits h =
     let pre = marked_list (45 ∷ []) v.pre_release in
     let build = marked_list (43 ∷ []) v.build in

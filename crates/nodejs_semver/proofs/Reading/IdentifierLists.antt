@@ -35,7 +35,8 @@ identifiers-are : (t : List ℕ) → list_all is_identifier (pieces t) ≡ true 
 unfolding listed
 identifiers-are t h = grind arith
 
-pub front-identifiers : (text : List ℕ) → begins_identifier text ≡ true → IsIdentifiers (take (front_len text) text) (listed (take (front_len text) text))
+pub front-identifiers : (text : List ℕ) → begins_identifier text ≡ true
+    → IsIdentifiers (take (front_len text) text) (listed (take (front_len text) text))
 unfolding front_len
 front-identifiers text h = rw h (identifiers-are (take (list_len text) text) (taken-runs text h))
 
@@ -69,8 +70,10 @@ pub written-begins : (t more : List ℕ) (l : List Id) → IsIdentifiers t l →
 written-begins t more l h = runs_begin t more h.runs
 
 -- no less is read than it, and no more where nothing goes on
-pub written-le : (t more : List ℕ) (l : List Id) → IsIdentifiers t l → length (drop (front_len (t ++ more)) (t ++ more)) ≤ length more
-written-le t more l h = omega (arith, length-drop (front_len (t ++ more)) (t ++ more), length-append t more, written-len t more l h)
+pub written-le : (t more : List ℕ) (l : List Id) → IsIdentifiers t l
+    → length (drop (front_len (t ++ more)) (t ++ more)) ≤ length more
+written-le t more l h =
+    omega (arith, length-drop (front_len (t ++ more)) (t ++ more), length-append t more, written-len t more l h)
 
 pub written-exact : (t more : List ℕ) (l : List Id) → IsIdentifiers t l → list_len more ≡ 0 → split_list (t ++ more) ≡ (t, more)
 written-exact t more l h stop = grind (arith, written-len, take_at, drop_at)
@@ -81,7 +84,8 @@ written-spelled t l h = grind arith
 
 -- ---- the end of the loop that counts
 
-pub front_len-is : (text : List ℕ) (i : ℕ) → begins_identifier text ≡ true → list_len text ≡ i + list_len (drop i text) → goes_on (drop i text) ≡ false → i ≡ front_len text
+pub front_len-is : (text : List ℕ) (i : ℕ) → begins_identifier text ≡ true → list_len text ≡ i + list_len (drop i text)
+    → goes_on (drop i text) ≡ false → i ≡ front_len text
 unfolding front_len
 front_len-is text i begins inv stop = rw begins (omega (arith, list_len_stop (drop i text) stop))
 

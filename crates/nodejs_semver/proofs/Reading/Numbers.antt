@@ -26,7 +26,8 @@ numbers_are limit text n = (number-is limit text n, number-of limit text n)
 
 -- ---- at the front
 
-pub digits-taken : (run more : List ℕ) → list_all is_ascii_digit run ≡ true → begins is_ascii_digit more ≡ false → prefix_len is_ascii_digit (run ++ more) ≡ length run
+pub digits-taken : (run more : List ℕ) → list_all is_ascii_digit run ≡ true → begins is_ascii_digit more ≡ false
+    → prefix_len is_ascii_digit (run ++ more) ≡ length run
 digits-taken [] [] h k = refl
 digits-taken [] (c ∷ more) h k = rw k refl
 digits-taken (b ∷ rest) more h k =
@@ -41,7 +42,8 @@ run-ends (b ∷ rest) = elim (cases_Bool (is_ascii_digit b)) [
 ]
 
 -- a number is read that ends with its run of digits
-pub number-read : (limit : ℕ) (run more : List ℕ) (n : ℕ) → IsNumber limit run n → begins is_ascii_digit more ≡ false → number_front limit (run ++ more) ≡ Some (n, more)
+pub number-read : (limit : ℕ) (run more : List ℕ) (n : ℕ) → IsNumber limit run n → begins is_ascii_digit more ≡ false
+    → number_front limit (run ++ more) ≡ Some (n, more)
 number-read limit run more n h stop = grind (arith, digits-taken, take_at, drop_at, number-of)
 
 -- and what is read is such a one
@@ -51,14 +53,16 @@ pub record NumberAt (limit : ℕ) (text : List ℕ) (n : ℕ) (rest : List ℕ) 
   pub is : IsNumber limit run n
   pub ended : begins is_ascii_digit rest ≡ false
 
-pub number-found : (limit : ℕ) (text : List ℕ) (n : ℕ) (rest : List ℕ) → number_front limit text ≡ Some (n, rest) → NumberAt limit text n rest
+pub number-found : (limit : ℕ) (text : List ℕ) (n : ℕ) (rest : List ℕ) → number_front limit text ≡ Some (n, rest)
+    → NumberAt limit text n rest
 number-found limit text n rest h = grind (arith, take-append-drop, number-is, run-ends)
 
 -- ---- the number that the code finds
 
 pub front_some : (limit : ℕ) (text : List ℕ) (n end : ℕ) → IsPieceAt (λ digits rest. IsWholeNumber limit digits rest n) text 0 end
     → number_front limit text ≡ Some (n, drop end text)
-front_some limit text n end s = ap (λ (t : List ℕ). number_front limit t) s.divided ∙ number-read limit s.piece (drop end text) n s.is.number s.is.ended
+front_some limit text n end s =
+    ap (λ (t : List ℕ). number_front limit t) s.divided ∙ number-read limit s.piece (drop end text) n s.is.number s.is.ended
 
 pub front_small : (limit : ℕ) (text : List ℕ) (n end : ℕ) → IsPieceAt (λ digits rest. IsWholeNumber limit digits rest n) text 0 end → n ≤ limit
 front_small limit text n end s = s.is.number.safe
@@ -80,7 +84,8 @@ wildcard-no_digit b h = grind (arith, nat_tests)
 number-no_wildcard : (run more : List ℕ) → begins is_ascii_digit run ≡ true → begins_wildcard (run ++ more) ≡ false
 number-no_wildcard run more h = grind arith
 
-pub number_first : (limit : ℕ) (text rest : List ℕ) (n : ℕ) → number_front limit text ≡ Some (n, rest) → component_front limit text ≡ Some (Some n, rest)
+pub number_first : (limit : ℕ) (text rest : List ℕ) (n : ℕ) → number_front limit text ≡ Some (n, rest)
+    → component_front limit text ≡ Some (Some n, rest)
 unfolding component_front
 number_first limit text rest n h =
     let f = number-found limit text n rest h in

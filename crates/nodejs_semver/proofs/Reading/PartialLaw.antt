@@ -68,7 +68,8 @@ spaced text u =
     sym u.1.1 ∙ (ap (λ (t : List ℕ). encode_utf8_all t) f.divided ∙ encodes-append f.before f.rest) in
     let left : drop_spaces text ≡ encode_utf8_all f.rest =
     ap (λ (t : List ℕ). drop_spaces t) split
-    ∙ (drop_spaces-blank f.before (encode_utf8_all f.rest) f.blank ∙ drop_spaces-none (encode_utf8_all f.rest) (dark-starts f.rest f.dark)) in
+    ∙ (drop_spaces-blank f.before (encode_utf8_all f.rest) f.blank
+    ∙ drop_spaces-none (encode_utf8_all f.rest) (dark-starts f.rest f.dark)) in
     grind arith
 
 -- ---- what is read is written, and what is written is read
@@ -89,7 +90,16 @@ front-begins limit text p rest u h =
       m.mark ++ x,
       record {
         divided = simp append_assoc (cc (m.divided, b.2, s.1.split));
-        is = record { mark = m.mark; blank = b.0; components = s.0; divided = refl; mark_is = m.is; blank_is = b.1; components_are = s.1.is };
+        is = record {
+          mark = m.mark;
+          blank = b.0;
+          components = s.0;
+          divided = refl;
+          mark_is = m.is;
+          blank_is =
+              b.1;
+          components_are = s.1.is;
+        };
         whole = quiet-append m.mark x rest (omega (arith, length-append b.0 s.0)) (quiet-append b.0 s.0 rest some s.1.quiet);
       },
     )
@@ -106,7 +116,8 @@ front-passes limit t more p h quiet =
     grind (arith, components-then, unmarked, drop_spaces-blank, drop_spaces-none, front-dark)
 
 -- components alone are read exactly where nothing goes on
-pub front-exact : (limit : ℕ) (x more : List ℕ) (p : Partial) → AreComponents limit x p → Stop more → partial_front limit (x ++ more) ≡ Some (p, more)
+pub front-exact : (limit : ℕ) (x more : List ℕ) (p : Partial) → AreComponents limit x p → Stop more
+    → partial_front limit (x ++ more) ≡ Some (p, more)
 unfolding partial_front
 front-exact limit x more p h stop =
     let begins = begins-on is_component_byte x more (components-begin limit x p h) in
@@ -118,34 +129,64 @@ whole-of limit t p h =
     let r = front-passes limit t [] p h (quiet-before t [] refl) in
     rw append-nil at (r.1 ∙ ap Some (r.2.exact stop-nil))
 
-pub partials_are : (limit : ℕ) (text : List ℕ) (p : Partial) → IsUtf8 text → (partial_front limit text ≡ Some (p, [])) ↔ IsPartial limit text p
-partials_are limit text p u = (λ h. let f = front-begins limit text p [] u h in subst (λ (t : List ℕ). IsPartial limit t p) (sym (f.1.divided ∙ append-nil f.0)) f.1.is, whole-of limit text p)
+pub partials_are : (limit : ℕ) (text : List ℕ) (p : Partial) → IsUtf8 text → (partial_front limit text ≡ Some (p, []))
+    ↔ IsPartial limit text p
+partials_are limit text p u = (
+  λ h. let f = front-begins limit text p [] u h in
+      subst (λ (t : List ℕ). IsPartial limit t p) (sym (f.1.divided ∙ append-nil f.0)) f.1.is,
+  whole-of limit text p,
+)
 
 -- ---- the longest partial
 
-longest-is : (limit : ℕ) (text : List ℕ) (p : Partial) (rest : List ℕ) → IsUtf8 text → partial_front limit text ≡ Some (p, rest) → IsLongestPartial limit text p rest
-longest-is limit text p rest u h = let f = front-begins limit text p rest u h in record { front = f.0; begins = f.1; longest = no_longer f.0 f.1.divided }
+longest-is : (limit : ℕ) (text : List ℕ) (p : Partial) (rest : List ℕ) → IsUtf8 text → partial_front limit text ≡ Some (p, rest)
+    → IsLongestPartial limit text p rest
+longest-is limit text p rest u h = let f = front-begins limit text p rest u h in
+    record { front = f.0; begins = f.1; longest = no_longer f.0 f.1.divided }
   where
-    no_longer : (front : List ℕ) → text ≡ front ++ rest → (other : List ℕ) (q : Partial) (behind : List ℕ) → BeginsPartial limit text other q behind
+    no_longer : (front : List ℕ) → text ≡ front ++ rest → (other : List ℕ) (q : Partial) (behind : List ℕ)
+        → BeginsPartial limit text other q behind
         → length other ≤ length front
     no_longer front whole other q behind k =
         let far = front-passes limit other behind q k.is k.whole in
         let same = same_Some (p, rest) far.0 (sym h ∙ (ap (λ (t : List ℕ). partial_front limit t) k.divided ∙ far.1)) in
-        omega (arith, far.2.le, ap (λ (q : Partial × List ℕ). length q.1) same, ap length whole, ap length k.divided, length-append front rest, length-append other behind)
+        omega (
+          arith,
+          far.2.le,
+          ap (λ (q : Partial × List ℕ). length q.1) same,
+          ap length whole,
+          ap length k.divided,
+          length-append front rest,
+          length-append other behind,
+        )
 
-longest-of : (limit : ℕ) (text : List ℕ) (p : Partial) (rest : List ℕ) → IsUtf8 text → IsLongestPartial limit text p rest → partial_front limit text ≡ Some (p, rest)
+longest-of : (limit : ℕ) (text : List ℕ) (p : Partial) (rest : List ℕ) → IsUtf8 text → IsLongestPartial limit text p rest
+    → partial_front limit text ≡ Some (p, rest)
 longest-of limit text p rest u h =
     let far = front-passes limit h.front rest p h.begins.is h.begins.whole in
     let read : partial_front limit text ≡ Some far.0 = ap (λ (t : List ℕ). partial_front limit t) h.begins.divided ∙ far.1 in
     let near = front-begins limit text far.0.0 far.0.1 u read in
     let n = length h.front in
     let same : length near.0 ≡ n =
-    omega (arith, h.longest near.0 far.0.0 far.0.1 near.1, far.2.le, ap length h.begins.divided, ap length near.1.divided, length-append h.front rest, length-append near.0 far.0.1) in
+    omega (
+      arith,
+      h.longest near.0 far.0.0 far.0.1 near.1,
+      far.2.le,
+      ap length h.begins.divided,
+      ap length near.1.divided,
+      length-append h.front rest,
+      length-append near.0 far.0.1,
+    ) in
     let whole : near.0 ++ far.0.1 ≡ h.front ++ rest = sym near.1.divided ∙ h.begins.divided in
-    let front : near.0 ≡ h.front = sym (take_at near.0 far.0.1 n same) ∙ (ap (λ (t : List ℕ). take n t) whole ∙ take_at h.front rest n refl) in
-    let behind : far.0.1 ≡ rest = sym (drop_at near.0 far.0.1 n same) ∙ (ap (λ (t : List ℕ). drop n t) whole ∙ drop_at h.front rest n refl) in
+    let front : near.0 ≡ h.front =
+    sym (take_at near.0 far.0.1 n same) ∙ (ap (λ (t : List ℕ). take n t) whole ∙ take_at h.front rest n refl) in
+    let behind : far.0.1 ≡ rest =
+    sym (drop_at near.0 far.0.1 n same) ∙ (ap (λ (t : List ℕ). drop n t) whole ∙ drop_at h.front rest n refl) in
     let value : far.0.0 ≡ p =
-    ap (λ (q : Partial × List ℕ). q.0) (same_Some (far.0.0, []) (p, []) (sym (whole-of limit near.0 far.0.0 near.1.is) ∙ (ap (λ (t : List ℕ). partial_front limit t) front ∙ whole-of limit h.front p h.begins.is))) in
+    ap (λ (q : Partial × List ℕ). q.0)
+    (same_Some (far.0.0, []) (p, [])
+    (sym (whole-of limit near.0 far.0.0 near.1.is)
+    ∙ (ap (λ (t : List ℕ). partial_front limit t) front ∙ whole-of limit h.front p h.begins.is))) in
     grind arith
 
 pub longest_are : (limit : ℕ) (text : List ℕ) (p : Partial) (rest : List ℕ) → IsUtf8 text

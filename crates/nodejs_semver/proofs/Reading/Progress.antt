@@ -14,7 +14,8 @@ use Rattle.semver_core.proofs.Text.Texts.{bind_some}
 pub spaces-le : (text : List ℕ) → length (drop_spaces text) ≤ length text
 spaces-le text = let e = after_spaces-end 0 text in omega (arith, ap length e.1, length-append e.0 (drop_spaces text))
 
-partial-shorter : (limit : ℕ) (text : List ℕ) (x : Partial) (r : List ℕ) → partial_front limit text ≡ Some (x, r) → length r < length text
+partial-shorter : (limit : ℕ) (text : List ℕ) (x : Partial) (r : List ℕ) → partial_front limit text ≡ Some (x, r)
+    → length r < length text
 unfolding partial_front
 partial-shorter limit text x r h =
     let body = drop_spaces (drop_v text) in
@@ -38,7 +39,8 @@ some-space-le text r h = omega (arith, ap length (cond_some (nat_lt 0 (space_len
 byte-le : (c : ℕ) (text r : List ℕ) → after_byte c text ≡ Some r → length r ≤ length text
 byte-le c text r h = grind arith
 
-upper-le : (limit : ℕ) (s : Sign) (text : List ℕ) (q : Partial × List ℕ) → upper_of limit s text ≡ Some q → length q.1 ≤ length text
+upper-le : (limit : ℕ) (s : Sign) (text : List ℕ) (q : Partial × List ℕ) → upper_of limit s text ≡ Some q
+    → length q.1 ≤ length text
 upper-le limit unsigned text q h =
     let sign = bind_some (after_some_space text) _ q h in
     let gap = bind_some (after_byte 45 sign.0) _ q sign.2 in
@@ -57,7 +59,8 @@ upper-le limit (compared c) text q h = cc h
 upper-le limit (tilded greater) text q h = cc h
 upper-le limit careted text q h = cc h
 
-word_behind-le : (limit : ℕ) (s : Sign) (p : Partial) (rest : List ℕ) (x : Word) (r : List ℕ) → word_behind limit s p rest ≡ Some (x, r) → length r ≤ length rest
+word_behind-le : (limit : ℕ) (s : Sign) (p : Partial) (rest : List ℕ) (x : Word) (r : List ℕ)
+    → word_behind limit s p rest ≡ Some (x, r) → length r ≤ length rest
 word_behind-le limit s p rest x r h = grind (arith, upper-le)
 
 sign-le : (rest : List ℕ) → length (tilde_sign rest).1 ≤ length rest
@@ -66,7 +69,8 @@ sign-le rest = grind arith
 sign_at-le : (text : List ℕ) → length (sign_at text).1 ≤ length text
 sign_at-le text = grind (arith, spaces-le, sign-le)
 
-form-shorter : (limit : ℕ) (text : List ℕ) (x : Word) (r : List ℕ) → behind_sign limit (sign_at text) ≡ Some (x, r) → length r < length text
+form-shorter : (limit : ℕ) (text : List ℕ) (x : Word) (r : List ℕ) → behind_sign limit (sign_at text) ≡ Some (x, r)
+    → length r < length text
 form-shorter limit text x r h =
     let s = sign_at text in
     let p = bind_some (partial_front limit s.1) (λ p. word_behind limit s.0 p.0 p.1) (x, r) h in

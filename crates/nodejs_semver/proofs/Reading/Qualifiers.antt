@@ -31,17 +31,20 @@ nothing-read : (x : List ℕ) → PreRead x [] x []
 unfolding listed
 nothing-read x = record { split = refl; is = λ b g h. no_pre_release b h; stop = refl }
 
-dash-read : (y : List ℕ) → begins_identifier y ≡ true → PreRead (45 ∷ y) (45 ∷ take (front_len y) y) (drop (front_len y) y) (take (front_len y) y)
+dash-read : (y : List ℕ) → begins_identifier y ≡ true
+    → PreRead (45 ∷ y) (45 ∷ take (front_len y) y) (drop (front_len y) y) (take (front_len y) y)
 dash-read y h = record {
   split = ap (λ (t : List ℕ). 45 ∷ t) (sym (take-append-drop (front_len y) y));
-  is = λ b g k. dashed (take (front_len y) y) b (listed (take (front_len y) y)) (record { identifiers = front-identifiers y h; ended = g });
+  is = λ b g k. dashed (take (front_len y) y) b (listed (take (front_len y) y))
+      (record { identifiers = front-identifiers y h; ended = g });
   stop = ended-quiet (45 ∷ take (front_len y) y) y h;
 }
 
 begins-take : (n : ℕ) (x : List ℕ) → begins_byte 45 x ≡ false → begins_byte 45 (take n x) ≡ false
 begins-take n x h = grind arith
 
-bare-read : (x : List ℕ) → begins_byte 45 x ≡ false → begins_identifier x ≡ true → PreRead x (take (front_len x) x) (drop (front_len x) x) (take (front_len x) x)
+bare-read : (x : List ℕ) → begins_byte 45 x ≡ false → begins_identifier x ≡ true
+    → PreRead x (take (front_len x) x) (drop (front_len x) x) (take (front_len x) x)
 bare-read x d h = record {
   split = sym (take-append-drop (front_len x) x);
   is = λ b g k. bare (take (front_len x) x) b (listed (take (front_len x) x))
@@ -116,7 +119,8 @@ pre-written p y b l (dashed t r list h) =
     let begins = written-begins t y list h.identifiers in
     record {
       le = rw begins (written-le t y list h.identifiers);
-      exact = λ run d i. record { text = t; is = rw begins (written-exact t y list h.identifiers run); list = written-spelled t list h.identifiers };
+      exact = λ run d i. record
+          { text = t; is = rw begins (written-exact t y list h.identifiers run); list = written-spelled t list h.identifiers };
     }
 pre-written p y b l (bare t r list h d) = undashed t h.identifiers d
   where
@@ -124,7 +128,8 @@ pre-written p y b l (bare t r list h d) = undashed t h.identifiers d
     undashed [] k e = cc k.runs
     undashed (c ∷ t) k e = record {
       le = rw e (written-le (c ∷ t) y list k);
-      exact = λ run d i. record { text = c ∷ t; is = rw e (written-exact (c ∷ t) y list k run); list = written-spelled (c ∷ t) list k };
+      exact = λ run d i. record
+          { text = c ∷ t; is = rw e (written-exact (c ∷ t) y list k run); list = written-spelled (c ∷ t) list k };
     }
 pre-written p y b l (no_pre_release r h) = grind (arith, pre_release_front-le, front_len-none)
 
@@ -138,10 +143,12 @@ pub record QualifierPassed (text more : List ℕ) (l m : List Id) : Type 0 where
   pub le : length (build_front (pre_release_front text).1).1 ≤ length more
   pub exact : Stop more → QualifierRead text more l m
 
-read-as : (text y more : List ℕ) (l m : List Id) → Taken (pre_release_front text) y l → Taken (build_front y) more m → QualifierRead text more l m
+read-as : (text y more : List ℕ) (l m : List Id) → Taken (pre_release_front text) y l → Taken (build_front y) more m
+    → QualifierRead text more l m
 read-as text y more l m p b = grind arith
 
-pub qualifier-passed : (pre build more : List ℕ) (l m : List Id) → IsPreRelease pre build l → IsBuild build [] m → QualifierPassed ((pre ++ build) ++ more) more l m
+pub qualifier-passed : (pre build more : List ℕ) (l m : List Id) → IsPreRelease pre build l → IsBuild build [] m
+    → QualifierPassed ((pre ++ build) ++ more) more l m
 unfolding build_front listed list_len
 qualifier-passed pre build more l m h (plus z r list k) =
     let p = (pre-written pre (43 ∷ (z ++ more)) (43 ∷ z) l h).exact refl refl refl in
@@ -151,7 +158,12 @@ qualifier-passed pre build more l m h (plus z r list k) =
     (record {
       le = rw (p.is, begins) (written-le z more list k.identifiers);
       exact = λ stop. read-as (pre ++ (43 ∷ (z ++ more))) (43 ∷ (z ++ more)) more l list p
-          (record { text = z; is = rw begins (written-exact z more list k.identifiers stop.run); list = written-spelled z list k.identifiers });
+          (record {
+            text = z;
+            is = rw begins (written-exact z more list k.identifiers stop.run);
+            list =
+                written-spelled z list k.identifiers;
+          });
     })
 qualifier-passed pre build more l m h (no_build r k) =
     let p = pre-written pre more [] l h in

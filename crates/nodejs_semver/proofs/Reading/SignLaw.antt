@@ -15,7 +15,8 @@ use Rattle.nodejs_semver.specs.Text.WordText.{Word, hyphen, malformed}
 
 -- ---- the word at the front of a text, by what was read of it
 
-pub word-as : (limit : ℕ) (text : List ℕ) (s : Sign × List ℕ) (o : Option (Partial × List ℕ)) → s ≡ sign_at text → o ≡ partial_front limit s.1
+pub word-as : (limit : ℕ) (text : List ℕ) (s : Sign × List ℕ) (o : Option (Partial × List ℕ)) → s ≡ sign_at text
+    → o ≡ partial_front limit s.1
     → word_at limit text ≡ or_malformed (o >>? λ p. word_behind limit s.0 p.0 p.1) text
 unfolding word_at
 word-as limit text s o h k = grind arith

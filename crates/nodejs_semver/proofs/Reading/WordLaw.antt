@@ -69,7 +69,8 @@ boundary-utf8 : (front rest : List ℕ) → IsUtf8 (front ++ rest) → IsBoundar
 boundary-utf8 front rest u (inl empty) = rw empty IsUtf8-nil
 boundary-utf8 front rest u (inr blank) = suffix-utf8 front rest u (blank-len rest blank)
 
-rest-utf8 : (limit : ℕ) (text : List ℕ) (p : Partial) (rest : List ℕ) → IsUtf8 text → IsLongestPartial limit text p rest → IsBoundary rest → IsUtf8 rest
+rest-utf8 : (limit : ℕ) (text : List ℕ) (p : Partial) (rest : List ℕ) → IsUtf8 text → IsLongestPartial limit text p rest
+    → IsBoundary rest → IsUtf8 rest
 rest-utf8 limit text p rest u h b = boundary-utf8 h.front rest (subst (λ (t : List ℕ). IsUtf8 t) h.begins.divided u) b
 
 boundary-of : (rest : List ℕ) → IsBoundary rest → is_boundary rest ≡ true
@@ -94,7 +95,8 @@ skips-of text rest u h =
     let none : space_len rest ≡ 0 = grind (arith, h.ended, suffix-blank [] rest v) in
     grind (arith, drop_spaces-blank, drop_spaces-none)
 
-some_space-is : (front text rest : List ℕ) → IsUtf8 (front ++ text) → after_some_space text ≡ Some rest → IsUtf8 text × BeginsBlank text × SkipsBlank text rest
+some_space-is : (front text rest : List ℕ) → IsUtf8 (front ++ text) → after_some_space text ≡ Some rest → IsUtf8 text
+    × BeginsBlank text × SkipsBlank text rest
 some_space-is front text rest u h = grind (arith, nat_tests, suffix-utf8 front text, suffix-blank front text, skips-is)
 
 pub byte-is : (c : ℕ) (text rest : List ℕ) → after_byte c text ≡ Some rest → text ≡ c ∷ rest
@@ -103,7 +105,8 @@ byte-is c text rest h = grind arith
 -- ---- partials up to a boundary
 
 -- the word of a partial that ends there
-bounded-is : (limit : ℕ) (text : List ℕ) (p : Partial) (rest : List ℕ) (w : Word) (x : Word × List ℕ) → IsUtf8 text → IsLongestPartial limit text p rest
+bounded-is : (limit : ℕ) (text : List ℕ) (p : Partial) (rest : List ℕ) (w : Word) (x : Word × List ℕ) → IsUtf8 text
+    → IsLongestPartial limit text p rest
     → at_boundary w rest ≡ Some x → (x.0 ≡ w) × IsWhole limit text p x.1
 bounded-is limit text p rest w x u read h =
     let b = cond_some (is_boundary rest) (w, rest) x h in
@@ -118,12 +121,14 @@ opening-none : (limit b : ℕ) (rest : List ℕ) → is_opening b ≡ true → p
 unfolding partial_front component_front number_of
 opening-none limit b rest h = grind (arith, nat_tests, drop_spaces-none, solid-dark)
 
-pub unsigned-at : (limit : ℕ) (text : List ℕ) (x : Partial × List ℕ) → partial_front limit text ≡ Some x → sign_at text ≡ (unsigned, text)
+pub unsigned-at : (limit : ℕ) (text : List ℕ) (x : Partial × List ℕ) → partial_front limit text ≡ Some x
+    → sign_at text ≡ (unsigned, text)
 unsigned-at limit text x h = grind (arith, nat_tests, opening-none)
 
 -- ---- hyphens
 
-hyphen-is : (limit : ℕ) (text : List ℕ) (p : Partial) (before : List ℕ) (x : Partial × List ℕ) → IsUtf8 text → IsLongestPartial limit text p before
+hyphen-is : (limit : ℕ) (text : List ℕ) (p : Partial) (before : List ℕ) (x : Partial × List ℕ) → IsUtf8 text
+    → IsLongestPartial limit text p before
     → upper_behind limit before ≡ Some x → IsHyphen limit text p x.0 x.1
 hyphen-is limit text p before x u read h =
     let sign = bind_some (after_some_space before) _ x h in
@@ -140,7 +145,8 @@ hyphen-is limit text p before x u read h =
     let stop = suffix-boundary there.front q.0.1 (subst (λ (t : List ℕ). IsUtf8 t) there.begins.divided v) b.0 in
     grind arith
 
-hyphen-of : (limit : ℕ) (text : List ℕ) (lower upper : Partial) (rest : List ℕ) → IsUtf8 text → (h : IsHyphen limit text lower upper rest)
+hyphen-of : (limit : ℕ) (text : List ℕ) (lower upper : Partial) (rest : List ℕ) → IsUtf8 text
+    → (h : IsHyphen limit text lower upper rest)
     → upper_behind limit h.before ≡ Some (upper, rest)
 hyphen-of limit text lower upper rest u h =
     let v = rest-utf8 limit text lower h.before u h.first (inr h.space_before) in
@@ -263,17 +269,21 @@ behind-read limit text p rest u h =
     ap (λ (t : List ℕ). partial_front limit t) (skips-of text h.0 u h.1)
     ∙ (longest_are limit h.0 p rest (skips-utf8 text h.0 h.1 u)).1 h.2.read
 
-alone : (one two : Comparator) (limit : ℕ) (text : List ℕ) (x : Partial × List ℕ) → partial_front limit (drop_spaces text) ≡ Some x → or_equal one two text ≡ (one, text)
+alone : (one two : Comparator) (limit : ℕ) (text : List ℕ) (x : Partial × List ℕ)
+    → partial_front limit (drop_spaces text) ≡ Some x → or_equal one two text ≡ (one, text)
 alone one two limit text x h = grind (arith, opening-none, drop_spaces-none, solid-dark)
 
-pub compared-of : (limit : ℕ) (c : Comparator) (sign text : List ℕ) (x : Partial × List ℕ) → IsSign c sign → partial_front limit (drop_spaces text) ≡ Some x
+pub compared-of : (limit : ℕ) (c : Comparator) (sign text : List ℕ) (x : Partial × List ℕ) → IsSign c sign
+    → partial_front limit (drop_spaces text) ≡ Some x
     → sign_at (sign ++ text) ≡ (compared c, drop_spaces text)
 compared-of limit c sign text x h k = grind (arith, alone)
 
-no_greater : (limit : ℕ) (text : List ℕ) (x : Partial × List ℕ) → partial_front limit text ≡ Some x → tilde_sign text ≡ (false, text)
+no_greater : (limit : ℕ) (text : List ℕ) (x : Partial × List ℕ) → partial_front limit text ≡ Some x
+    → tilde_sign text ≡ (false, text)
 no_greater limit text x h = grind (arith, nat_tests, opening-none)
 
-form-of : (limit : ℕ) (text : List ℕ) (w : Word) (rest : List ℕ) → IsUtf8 text → IsForm limit text w rest → behind_sign limit (sign_at text) ≡ Some (w, rest)
+form-of : (limit : ℕ) (text : List ℕ) (w : Word) (rest : List ℕ) → IsUtf8 text → IsForm limit text w rest
+    → behind_sign limit (sign_at text) ≡ Some (w, rest)
 form-of limit text w rest u (hyphen_form t lower upper r h) =
     let read = (longest_are limit t lower h.before u).1 h.first in
     rw (unsigned-at limit t (lower, h.before) read, read, hyphen-of limit t lower upper r u h) refl
@@ -365,7 +375,8 @@ form-utf8 limit text w rest u (caret_form t p r h) = behind-utf8 limit t p r (ta
 
 pub word-utf8 : (limit : ℕ) (text : List ℕ) (w : Word) (rest : List ℕ) → IsUtf8 text → IsWordAt limit text w rest → IsUtf8 rest
 word-utf8 limit text w rest u (formed t v r h) = form-utf8 limit t v r u h
-word-utf8 limit text w rest u (no_form t r none h) = boundary-utf8 h.passed r (subst (λ (s : List ℕ). IsUtf8 s) h.divided u) h.boundary
+word-utf8 limit text w rest u (no_form t r none h) =
+    boundary-utf8 h.passed r (subst (λ (s : List ℕ). IsUtf8 s) h.divided u) h.boundary
 
 -- what is trimmed is UTF-8
 pub trim-utf8 : (text middle : List ℕ) → IsUtf8 text → IsTrim text middle → IsUtf8 middle

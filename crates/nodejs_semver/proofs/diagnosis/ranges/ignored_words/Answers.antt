@@ -5,7 +5,8 @@ use Rattle.nodejs_semver.specs.Internal.Parts.{cut_bars}
 use Rattle.nodejs_semver.proofs.Diagnosing.IgnoredLaw.{are_ignored, none_ignored}
 use Rattle.nodejs_semver.proofs.diagnosis.ranges.ignored_words.Goals as goal
 
-computed : (c : goal.After-before_words) → left_list c.before_words.result ≡ all_ignored MAX_SAFE_INTEGER 0 (cut_bars false c.args.text.now)
+computed : (c : goal.After-before_words)
+    → left_list c.before_words.result ≡ all_ignored MAX_SAFE_INTEGER 0 (cut_bars false c.args.text.now)
 computed c = grind arith
 
 pub returns-clause-words : goal.returns-clause-words

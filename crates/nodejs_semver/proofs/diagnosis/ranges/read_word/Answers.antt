@@ -10,14 +10,21 @@ overflow_sub-end c =
     omega (
       arith,
       c.args.left.part_fits,
-      (rest-sizes MAX_SAFE_INTEGER c.args.left.part.now front.result.1.now (drop_spaces front.result.1.now) front.result.0 c.requires c.args.left.starts front.ensures refl).0,
+      (rest-sizes MAX_SAFE_INTEGER c.args.left.part.now front.result.1.now
+          (drop_spaces front.result.1.now) front.result.0 c.requires c.args.left.starts front.ensures refl).0,
     )
 
 pub invariant_of-rest : goal.invariant_of-rest
 invariant_of-rest c =
     let front = c.ignored_front-kind in
-    let sizes = rest-sizes MAX_SAFE_INTEGER c.args.left.part.now front.result.1.now c.skip_spaces.result.now front.result.0 c.requires c.args.left.starts front.ensures c.skip_spaces.ensures in
-    record { starts = sizes.2; part_fits = omega (arith, sizes.0, sizes.1, c.args.left.part_fits); behind_fits = c.args.left.behind_fits }
+    let sizes =
+    rest-sizes MAX_SAFE_INTEGER c.args.left.part.now front.result.1.now c.skip_spaces.result.now front.result.0 c.requires c.args.left.starts front.ensures c.skip_spaces.ensures in
+    record {
+      starts = sizes.2;
+      part_fits = omega (arith, sizes.0, sizes.1, c.args.left.part_fits);
+      behind_fits =
+          c.args.left.behind_fits;
+    }
 
 pub returns-clause-same : goal.returns-clause-same
 returns-clause-same c = grind (arith, word_read)
@@ -25,5 +32,6 @@ returns-clause-same c = grind (arith, word_read)
 pub returns-clause-less : goal.returns-clause-less
 returns-clause-less c =
     let front = c.ignored_front-kind in
-    let sizes = rest-sizes MAX_SAFE_INTEGER c.args.left.part.now front.result.1.now c.skip_spaces.result.now front.result.0 c.requires c.args.left.starts front.ensures c.skip_spaces.ensures in
+    let sizes =
+    rest-sizes MAX_SAFE_INTEGER c.args.left.part.now front.result.1.now c.skip_spaces.result.now front.result.0 c.requires c.args.left.starts front.ensures c.skip_spaces.ensures in
     omega (arith, sizes.0, sizes.1)

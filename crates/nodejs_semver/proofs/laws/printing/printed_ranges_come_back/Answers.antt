@@ -7,7 +7,10 @@ use Rattle.nodejs_semver.proofs.laws.printing.printed_ranges_come_back.Goals as 
 pub returns-clause-equal : goal.returns-clause-equal
 returns-clause-equal c = λ limit list read small range h e means.
     let text = c.args.text.now in
-    ap (λ l. range_eq l list) (sym ((one_meaning limit text read c.utf8.text).1 means) ∙ reads_back limit text list small range h e) ∙ same_back list
+    ap (λ l. range_eq l list)
+    (sym ((one_meaning limit text read c.utf8.text).1 means) ∙ reads_back limit text list small range h e) ∙ same_back list
 
 pub returns-clause-builds : goal.returns-clause-builds
-returns-clause-builds c = λ limit list small range h e. (one_meaning limit c.args.text.now _ c.utf8.text).0 (reads_back limit c.args.text.now list small range h e)
+returns-clause-builds c =
+    λ limit list small range h e. (one_meaning limit c.args.text.now _ c.utf8.text).0
+    (reads_back limit c.args.text.now list small range h e)

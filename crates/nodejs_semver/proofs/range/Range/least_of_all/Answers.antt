@@ -3,8 +3,10 @@ use Rattle.nodejs_semver.proofs.Choice.LeastOf.{least_of_lists, least_of_none}
 use Rattle.nodejs_semver.proofs.range.Range.least_of_all.Goals as goal
 
 pub returns-in_ok-with_pre-in-empty-clause-least : goal.returns-in_ok-with_pre-in-empty-clause-least
-returns-in_ok-with_pre-in-empty-clause-least c = least_of_none c.args.ranges.now c.in_ok-with_pre-in-empty.field-0 (omega arith) c.in_ok-with_pre-in-empty.ensures.value
+returns-in_ok-with_pre-in-empty-clause-least c =
+    least_of_none c.args.ranges.now c.in_ok-with_pre-in-empty.field-0 (omega arith) c.in_ok-with_pre-in-empty.ensures.value
 
 pub returns-in_ok-least_among-in-len1-up-clause-least : goal.returns-in_ok-least_among-in-len1-up-clause-least
 returns-in_ok-least_among-in-len1-up-clause-least c =
-    least_of_lists c.args.ranges.now c.intervals.result.now _ (omega arith) (rw c.intervals.ensures.value c.first-item.is) c.in_ok-least_among-in-len1-up.ensures.least
+    least_of_lists c.args.ranges.now c.intervals.result.now _ (omega arith)
+    (rw c.intervals.ensures.value c.first-item.is) c.in_ok-least_among-in-len1-up.ensures.least

@@ -7,7 +7,8 @@ use Rattle.nodejs_semver.proofs.range.best.greatest.Goals.{then-is_new_max, else
 pub loop-version-preserved : goal.loop-version-preserved
 loop-version-preserved g c =
     let more = c.is_new_max.ensures _ c.loop-version.invariant in
-    one_further _ _ _ c.args.versions.now c.loop-version.version-index c.version-item.result c.is_new_max.result (option_copied c.loop-version.best) (option_copied c.if-is_new_max.best) c.loop-version-test.true c.version-item.is more
+    one_further _ _ _ c.args.versions.now c.loop-version.version-index c.version-item.result c.is_new_max.result
+    (option_copied c.loop-version.best) (option_copied c.if-is_new_max.best) c.loop-version-test.true c.version-item.is more
     (elim c.if-is_new_max.branch [
       | then-is_new_max w ↦ rw (w.best-is, w.if-is_new_max.true) refl
       | else-is_new_max w ↦ rw (w.best-is, w.if-is_new_max.false) refl

@@ -5,4 +5,5 @@ use Rattle.nodejs_semver.proofs.range.best.greatest.Given as goal
 
 abbrev pub invariant-loop-version : goal.invariant-loop-version
 invariant-loop-version g l =
-    of.IsMax g.V.Ord.cmp (λ v. accepts g.V.Ord.cmp g.V.Versioned.value l.intervals v false) (take l.version-index l.versions) (option_copied l.best)
+    of.IsMax g.V.Ord.cmp (λ v. accepts g.V.Ord.cmp g.V.Versioned.value l.intervals v false) (take l.version-index l.versions)
+    (option_copied l.best)

@@ -8,7 +8,8 @@ use Rattle.nodejs_semver.proofs.range.least.least_accepted.Goals as goal
 pub returns-in_ok-built-in-Some-clause-least : goal.returns-in_ok-built-in-Some-clause-least
 returns-in_ok-built-in-Some-clause-least c =
     let kept = c.args.intervals.now in
-    let h : IsLeastOf (beyond kept []) (Some c.in-Some.version) = subst (IsLeastOf (beyond kept [])) c.in-Some.is c.in_ok-least_among.ensures.least in
+    let h : IsLeastOf (beyond kept []) (Some c.in-Some.version) =
+    subst (IsLeastOf (beyond kept [])) c.in-Some.is c.in_ok-least_among.ensures.least in
     subst (λ (x : VersionValue). IsLeastOf (λ v. accepts kept v false) (Some x)) (sym c.in_ok-built-in-Some.ensures) (least_accepted kept c.in-Some.version _ h)
 
 pub returns-in_ok-built-in-Some-clause-build : goal.returns-in_ok-built-in-Some-clause-build

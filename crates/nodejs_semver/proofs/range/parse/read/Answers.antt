@@ -8,5 +8,6 @@ pub returns-else-not-branch : goal.returns-else-not-branch
 returns-else-not-branch g c =
     let there : IsTrue c.in_ok-read_common.field-0 = search rules in
     let common : IsCommonRange MAX_SAFE_INTEGER c.args.text.now (g.S.Found.items c.read_common.new.found) =
-    subst (λ (t : List ℕ). IsCommonRange MAX_SAFE_INTEGER t (g.S.Found.items c.read_common.new.found)) c.as_bytes.ensures.value (c.in_ok-read_common.ensures.some there) in
+    subst (λ (t : List ℕ). IsCommonRange MAX_SAFE_INTEGER t (g.S.Found.items c.read_common.new.found)) c.as_bytes.ensures.value
+    (c.in_ok-read_common.ensures.some there) in
     common_list MAX_SAFE_INTEGER c.args.text.now (g.S.Found.items c.read_common.new.found) common

@@ -16,7 +16,8 @@ pub returns-clause-ok : goal.returns-clause-ok
 returns-clause-ok g c = meant MAX_SAFE_INTEGER c.args.text.now (g.S.Found.items c.read.new.found) c.utf8.text c.in_ok-read.ensures
 
 pub returns-clause-set : goal.returns-clause-set
-returns-clause-set g c = accepted_written MAX_SAFE_INTEGER c.args.text.now (g.S.Found.items c.read.new.found) c.utf8.text c.in_ok-read.ensures
+returns-clause-set g c =
+    accepted_written MAX_SAFE_INTEGER c.args.text.now (g.S.Found.items c.read.new.found) c.utf8.text c.in_ok-read.ensures
 
 pub returns-then-is_empty-clause-refused : goal.returns-then-is_empty-clause-refused
 returns-then-is_empty-clause-refused g c =

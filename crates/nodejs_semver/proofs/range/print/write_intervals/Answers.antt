@@ -12,6 +12,7 @@ loop-interval-preserved g c =
           let so_far = c.loop-interval.invariant.2 p in
           let bars = c.in_ok-write_str.ensures.styled so_far.flush refl in
           let now = has_written_styled_append _ _ _ _ _ _ bars (c.in_ok-write_interval.ensures bars.flush refl) in
-          has_written_styled_of_eq _ _ _ _ _ (range_step _ _ i _ _ c.loop-interval-test.true c.loop-interval.invariant.1 c.interval-item.is)
+          has_written_styled_of_eq _ _ _ _ _
+          (range_step _ _ i _ _ c.loop-interval-test.true c.loop-interval.invariant.1 c.interval-item.is)
           (has_written_styled_append _ _ _ _ _ _ so_far now),
     )

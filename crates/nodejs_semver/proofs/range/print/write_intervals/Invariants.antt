@@ -10,4 +10,6 @@ abbrev pub invariant-loop-interval : goal.invariant-loop-interval
 invariant-loop-interval g l =
     (text : shadow (Utf8 l.separator))
     × (separator : l.separator ≡ bars_after (take l.interval-index l.intervals))
-    × (IsFlush l.initial.f → HasWrittenStyled g.W.Write.write_str_gives l.initial.f (range_text g.V.Versioned.value (take l.interval-index l.intervals)) l.f)
+    × (IsFlush l.initial.f
+    → HasWrittenStyled g.W.Write.write_str_gives l.initial.f
+    (range_text g.V.Versioned.value (take l.interval-index l.intervals)) l.f)

@@ -26,7 +26,8 @@ returns g c =
     let rest = c.in-Some.rest.now in
     let second : begins_second rest ≡ true = search rules in
     passed-second MAX_SAFE_INTEGER c.args.text.now (bounds_view c.in-Some.first) (bounds_view c.in-Some-comparison.second) rest c.in-Some-comparison.rest.now
-    c.in_ok-there-2.there (g.S.Found.items c.args.found.now) (g.S.Found.items c.push_both.new.found) (rest_view c.behind_part-2.result)
+    c.in_ok-there-2.there (g.S.Found.items c.args.found.now) (g.S.Found.items c.push_both.new.found)
+    (rest_view c.behind_part-2.result)
     (sym (ap bounds_front_view c.in-Some.is) ∙ c.comparison.ensures)
     second
     (sym (ap bounds_front_view c.in-Some-comparison.is)

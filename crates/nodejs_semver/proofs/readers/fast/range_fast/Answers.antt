@@ -14,7 +14,8 @@ from_intervals-requires c =
 pub returns-clause-denoted : goal.returns-clause-denoted
 returns-clause-denoted c =
     let there : IsTrue c.in_ok-read_common.field-0 = search rules in
-    IfOk-weaker c.owned_range.result (λ r. r ≡ c.from_intervals.result) (λ r. IfSome r (Means MAX_SAFE_INTEGER c.args.text.now)) (λ r e. rw e
+    IfOk-weaker c.owned_range.result (λ r. r ≡ c.from_intervals.result) (λ r. IfSome r (Means MAX_SAFE_INTEGER c.args.text.now))
+    (λ r e. rw e
     (subst (λ (t : List ℕ). IsUtf8 t → IfSome c.from_intervals.result (Means MAX_SAFE_INTEGER t)) c.as_bytes.ensures.value
     (λ u. common_means MAX_SAFE_INTEGER c.as_bytes.result.now c.read_common.new.found.items c.from_intervals.result u
     (c.in_ok-read_common.ensures.some there) c.from_intervals.ensures)

@@ -22,7 +22,8 @@ returns-in_default c =
 
 pub returns-in-Some-2 : goal.returns-in-Some-2
 returns-in-Some-2 c =
-    pushed_hyphen MAX_SAFE_INTEGER c.args.text.now (sign_pair_view c.sign_front-sign.result) (partial_front_view c.partial_front.result) (partial_view c.in-Some.partial) c.in-Some.rest.now
+    pushed_hyphen MAX_SAFE_INTEGER c.args.text.now (sign_pair_view c.sign_front-sign.result)
+    (partial_front_view c.partial_front.result) (partial_view c.in-Some.partial) c.in-Some.rest.now
     (upper_of MAX_SAFE_INTEGER (sign_view c.sign_front-sign.result.0) c.in-Some.rest.now) c.args.found.now.items c.push_upper.new.found.items (c.in-Some-2.read.0, c.in-Some-2.read.1.now)
     c.sign_front-sign.ensures c.partial_front.ensures (ap partial_front_view c.in-Some.is) refl
     (sym (ap (λ (o : Option (Bool × Bor (List ℕ))). hyphen_pushed_view o c.push_upper.new.found.items) c.in-Some-2.is) ∙ c.in_ok-read.ensures)

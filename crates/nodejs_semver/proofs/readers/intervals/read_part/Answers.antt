@@ -57,7 +57,8 @@ words-preserved c =
     let read = read-is MAX_SAFE_INTEGER rest after (next_at MAX_SAFE_INTEGER rest).0 None (sym c.in_default.is ∙ taken.0) next in
     record {
       same = taken.1 ∙ c.words.invariant.same;
-      whole = sym (part-step MAX_SAFE_INTEGER rest after None c.words.invariant.some c.words.invariant.starts read) ∙ c.words.invariant.whole;
+      whole = sym (part-step MAX_SAFE_INTEGER rest after None c.words.invariant.some c.words.invariant.starts read)
+          ∙ c.words.invariant.whole;
       some = grind arith;
       starts = read-starts MAX_SAFE_INTEGER rest after (next_at MAX_SAFE_INTEGER rest).0 next;
     }

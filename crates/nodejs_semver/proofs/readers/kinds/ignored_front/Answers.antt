@@ -17,7 +17,8 @@ returns-in_default c =
 pub returns-in-Some-upper_of : goal.returns-in-Some-upper_of
 returns-in-Some-upper_of c =
     let text = c.args.text.now in
-    at_hyphen MAX_SAFE_INTEGER text c.in-Some-upper_of.rest.now (partial_view c.in-Some.partial) (partial_view c.in-Some-upper_of.upper) c.unless_bounded.result c.is_hyphen_bounded.result
+    at_hyphen MAX_SAFE_INTEGER text c.in-Some-upper_of.rest.now (partial_view c.in-Some.partial)
+    (partial_view c.in-Some-upper_of.upper) c.unless_bounded.result c.is_hyphen_bounded.result
     (word-as MAX_SAFE_INTEGER text (sign_pair_view c.sign_front-sign.result) (partial_front_view c.partial_front.result)
     c.sign_front-sign.ensures c.partial_front.ensures
     ∙ rw (ap partial_front_view c.in-Some.is, sym c.upper_of.ensures, ap partial_front_view c.in-Some-upper_of.is) refl)
@@ -37,7 +38,8 @@ pub returns : goal.returns
 returns c =
     let text = c.args.text.now in
     let ends : is_boundary c.in-Some.rest.now ≡ true = search rules in
-    at_signed MAX_SAFE_INTEGER text c.in-Some.rest.now (sign_view c.sign_front-sign.result.0) (partial_view c.in-Some.partial) c.unless_bounded-2.result c.is_bounded.result
+    at_signed MAX_SAFE_INTEGER text c.in-Some.rest.now (sign_view c.sign_front-sign.result.0)
+    (partial_view c.in-Some.partial) c.unless_bounded-2.result c.is_bounded.result
     (word-as MAX_SAFE_INTEGER text (sign_pair_view c.sign_front-sign.result) (partial_front_view c.partial_front.result)
     c.sign_front-sign.ensures c.partial_front.ensures
     ∙ rw (ap partial_front_view c.in-Some.is, sym c.upper_of.ensures, ap partial_front_view c.in_default-upper_of.is, ends) refl)

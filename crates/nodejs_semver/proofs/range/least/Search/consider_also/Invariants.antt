@@ -5,4 +5,8 @@ use Rattle.nodejs_semver.proofs.range.least.Search.consider_also.Given as goal
 abbrev pub invariant-loop-range : goal.invariant-loop-range
 invariant-loop-range l =
     let s = l.initial.self in
-    l.self ≡ record s { best = fold (better (among s.kept.now s.also.now s.removed.now)) s.best (flat_map firsts (flat_map list_marks (take l.range-index l.ranges))) }
+    l.self ≡ record s {
+      best =
+          fold (better (among s.kept.now s.also.now s.removed.now)) s.best
+          (flat_map firsts (flat_map list_marks (take l.range-index l.ranges)));
+    }

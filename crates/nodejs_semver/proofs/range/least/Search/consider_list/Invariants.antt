@@ -5,4 +5,8 @@ use Rattle.nodejs_semver.proofs.range.least.Search.consider_list.Given as goal
 abbrev pub invariant-loop-interval : goal.invariant-loop-interval
 invariant-loop-interval l =
     let s = l.initial.self in
-    l.self ≡ record s { best = fold (better (among s.kept.now s.also.now s.removed.now)) s.best (flat_map firsts (list_marks (take l.interval-index l.list))) }
+    l.self ≡ record s {
+      best =
+          fold (better (among s.kept.now s.also.now s.removed.now)) s.best
+          (flat_map firsts (list_marks (take l.interval-index l.list)));
+    }

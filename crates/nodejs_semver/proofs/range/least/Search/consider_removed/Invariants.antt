@@ -5,4 +5,8 @@ use Rattle.nodejs_semver.proofs.range.least.Search.consider_removed.Given as goa
 abbrev pub invariant-loop-interval : goal.invariant-loop-interval
 invariant-loop-interval l =
     let s = l.initial.self in
-    l.self ≡ record s { best = fold (better (among s.kept.now s.also.now s.removed.now)) s.best (flat_map firsts (flat_map removed_marks (take l.interval-index l.intervals))) }
+    l.self ≡ record s {
+      best =
+          fold (better (among s.kept.now s.also.now s.removed.now)) s.best
+          (flat_map firsts (flat_map removed_marks (take l.interval-index l.intervals)));
+    }
