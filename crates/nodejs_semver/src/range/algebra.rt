@@ -114,7 +114,7 @@ impl Range {
         ensures { IfOk result (λ r. r ≡ intersection self.now other.now) }
     {
         let found = lists::intersections(alloc, self.intervals(), other.intervals())?;
-        Ok(Range::from_intervals(SmallVec::from_vec(found)))
+        Ok(Range::from_intervals(found))
     }
 
     // What the other range leaves of this one.
@@ -122,7 +122,7 @@ impl Range {
         ensures { IfOk result (λ r. r ≡ difference self.now other.now) }
     {
         let left = lists::differences(alloc, self.intervals(), other.intervals())?;
-        Ok(Range::from_intervals(SmallVec::from_vec(left)))
+        Ok(Range::from_intervals(left))
     }
 }
 

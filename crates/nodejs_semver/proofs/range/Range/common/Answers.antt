@@ -4,11 +4,11 @@ use Rattle.nodejs_semver.proofs.range.Range.common.Goals as goal
 
 pub from_intervals-requires : goal.from_intervals-requires
 from_intervals-requires c =
-    rw c.from_vec.ensures.items (meets_of-valid c.args.self.now c.args.other.now c.intervals.result.now c.intervals-2.result.now
+    meets_of-valid c.args.self.now c.args.other.now c.intervals.result.now c.intervals-2.result.now
     c.intervals.ensures.valid c.intervals-2.ensures.valid c.intervals.ensures.value c.intervals-2.ensures.value
-    _ c.in_ok-found.ensures)
+    _ c.in_ok-found.ensures
 
 pub returns : goal.returns
 returns c =
-    rw (c.from_intervals.ensures, c.from_vec.ensures.items, c.in_ok-found.ensures)
+    rw (c.from_intervals.ensures, c.in_ok-found.ensures)
     (rw (c.intervals.ensures.value, c.intervals-2.ensures.value) refl)

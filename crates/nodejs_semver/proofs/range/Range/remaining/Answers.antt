@@ -7,11 +7,11 @@ differences-requires c = range-intervals c.args.self.now c.intervals.result.now 
 
 pub from_intervals-requires : goal.from_intervals-requires
 from_intervals-requires c =
-    rw c.from_vec.ensures.items (minus-valid c.args.self.now c.args.other.now c.intervals.result.now c.intervals-2.result.now
+    minus-valid c.args.self.now c.args.other.now c.intervals.result.now c.intervals-2.result.now
     c.intervals.ensures.valid c.intervals-2.ensures.valid c.intervals.ensures.value c.intervals-2.ensures.value
-    _ c.in_ok-left.ensures)
+    _ c.in_ok-left.ensures
 
 pub returns : goal.returns
 returns c =
-    rw (c.from_intervals.ensures, c.from_vec.ensures.items, c.in_ok-left.ensures)
+    rw (c.from_intervals.ensures, c.in_ok-left.ensures)
     (rw (c.intervals.ensures.value, c.intervals-2.ensures.value) refl)
