@@ -1,15 +1,15 @@
 -- The versions that `inc` returns: they are the least ones, above the version, and keep its build.
-use Rattle.std.proofs.Common.{◌≡◌, refl, ◌∙◌, ap, subst, ℕ, ◌+◌, ◌-◌, ◌^◌, ◌<◌, ◌≤◌, ◌==◌, ◌&&◌, not, Bool, true, false, List, [], ◌∷◌, ◌++◌, arith, if◌then◌else◌, codes}
+use Rattle.std.proofs.Common.{◌≡◌, refl, ◌∙◌, ap, subst, ℕ, ◌+◌, ◌-◌, ◌^◌, ◌<◌, ◌≤◌, ◌==◌, ◌&&◌, not, Bool, true, false, List, [], ◌∷◌, ◌++◌, length, arith, if◌then◌else◌, codes}
 use Rattle.std.specs.Prelude.{Result, Ok, Err, IsOkAnd, ⊤}
 use Rattle.std.proofs.lemmas.Bool.{and_parts}
 use Rattle.std.proofs.lemmas.Slice.Eq.{bytes_eq-Decides}
 use Rattle.std.specs.List.{starts_with}
 use Rattle.std.specs.Prelude.{nat_eq}
 use Rattle.std.specs.declared.cmp.Ordering.TheVariants.{Less}
-use Rattle.std.specs.Ordering.{ordering_then, is_le}
+use Rattle.std.specs.Ordering.{ordering_then}
 use Rattle.std.specs.Cmp.Lexicographic.{slice_cmp}
 use Rattle.std.proofs.lemmas.Bool.Decides.{nat_tests}
-use Rattle.std.proofs.lemmas.List.Elements.{All-nil, All-push, All-cons}
+use Rattle.std.proofs.lemmas.List.Elements.{All-nil, All-cons}
 use Rattle.semver_core.specs.Text.Identifiers.{Id, Numeric, AlphaNumeric}
 use Rattle.semver_core.specs.Increments.Table.{checked, incremented, by_word, Fault, Overflow, InvalidIncrementArgument, is_false, one_more, next_major, next_minor, next_patch, pre_step, release_of, has_numeric, raise_last, advance, identify, first_number, ◌>>=◌}
 use Rattle.semver_core.specs.Internal.IncrementSteps.{list_text}
@@ -18,8 +18,9 @@ use Rattle.std.specs.Cmp.{tied_itself}
 use Rattle.std.specs.Str.{bytes_eq}
 use Rattle.semver_core.specs.Internal.OrderLaws.{id_total}
 use Rattle.semver_core.specs.Increments.Least.{IsLeastOrOverflow, IsLeastVersion, IsAbove}
-use Rattle.semver_core.specs.Values.Order.{id_cmp, pre_cmp, precedence}
-use Rattle.semver_core.specs.Internal.Successors.{Below, by_major, by_minor, by_patch, by_pre, below_cases, less_first, above_major, above_minor, above_patch, above_pre, upto_major, upto_minor, upto_patch, zero_least, below_more, next_least, empty_not_below}
+use Rattle.semver_core.specs.Values.Order.{id_cmp, pre_cmp}
+use Rattle.semver_core.specs.Internal.Successors.{Below, by_major, by_minor, by_patch, by_pre, below_cases, less_first, above_major, above_minor, above_patch, above_pre, upto_patch, zero_least, below_more, empty_not_below}
+use Rattle.semver_core.proofs.Values.NextLaws.{least_after_release, next_of_pre_release}
 use Rattle.semver_core.specs.Values.Versions.{VersionValue, IsVersion, IsId, is_release}
 use Rattle.semver_core.specs.declared.increment.IdentifierBase.{IdentifierBase}
 use Rattle.semver_core.specs.declared.increment.IdentifierBase.TheVariants.{Value}
@@ -38,6 +39,10 @@ by_one P n f none some =
 none_left : (xs : List Id) → is_empty xs ≡ true → xs ≡ []
 none_left [] h = refl
 none_left (x ∷ xs) h = cc
+
+filled : (xs : List Id) → is_empty xs ≡ false → 0 < length xs
+filled [] h = cc
+filled (x ∷ xs) h = omega arith
 
 some_left : (xs : List Id) → not (is_empty xs) ≡ true → is_empty xs ≡ false
 some_left [] h = cc
@@ -213,33 +218,6 @@ module _ (v : VersionValue) (id : List ℕ) (base : IdentifierBase) (k : IsVersi
       (λ other. first_least (IsPatchAbove v) v.major v.minor (v.patch + 1) k.major k.minor (omega (arith, k.patch, other))
       (refl, refl, refl) (λ w t. (omega (arith, t.0), omega (arith, t.1), omega (arith, t.2))))
 
--- the first pre-release of the next patch, and a pre-release with the number 0 behind it
-abbrev next_pre : VersionValue → VersionValue
-next_pre v = record v { patch = v.patch + 1; pre_release = Numeric 0 ∷ [] }
-
-abbrev more_pre : VersionValue → VersionValue
-more_pre v = record v { pre_release = v.pre_release ++ Numeric 0 ∷ [] }
-
--- what is above a version is not below these
-after_release : (v w : VersionValue) → v.pre_release ≡ [] → Below v w → is_le (precedence (next_pre v) w) ≡ true
-after_release v w e (by_major lt) = upto_major (next_pre v) w lt
-after_release v w e (by_minor a lt) = upto_minor (next_pre v) w a lt
-after_release v w e (by_patch a b lt) =
-    upto_patch (next_pre v) w (omega (arith, a)) (omega (arith, b)) (omega (arith, lt)) (zero_least w.pre_release)
-after_release v w e (by_pre a b c h) = absurd (empty_not_below w.pre_release (rw e at h))
-
-pre_next : (xs ys : List Id) → is_empty xs ≡ false → pre_cmp xs ys ≡ Less → is_le (pre_cmp (xs ++ Numeric 0 ∷ []) ys) ≡ true
-pre_next [] ys s h = cc
-pre_next (x ∷ xs) [] s h = refl
-pre_next (x ∷ xs) (y ∷ ys) s h = next_least (x ∷ xs) (y ∷ ys) h
-
-after_pre : (v w : VersionValue) → is_release v ≡ false → Below v w → is_le (precedence (more_pre v) w) ≡ true
-after_pre v w s (by_major lt) = upto_major (more_pre v) w lt
-after_pre v w s (by_minor a lt) = upto_minor (more_pre v) w a lt
-after_pre v w s (by_patch a b lt) = ap is_le (above_patch (more_pre v) w a b lt)
-after_pre v w s (by_pre a b c h) =
-    upto_patch (more_pre v) w (omega (arith, a)) (omega (arith, b)) (omega (arith, c)) (pre_next v.pre_release w.pre_release s h)
-
 pre_above : (xs ys : List Id) → is_empty xs ≡ false → slice_cmp id_cmp xs ys ≡ Less → pre_cmp xs ys ≡ Less
 pre_above [] ys s h = cc
 pre_above (x ∷ xs) [] s h = refl
@@ -257,16 +235,10 @@ prerelease_least v k rises none =
     (pre_step [] (Value 0) v) (λ h. by_one (λ r. IsOkAnd (r >>= pre_step [] (Value 0)) (IsLeastVersion (IsAbove v))) v.patch
     (λ n. Ok (record v { patch = n; pre_release = [] })) (λ e. omega (arith, e, rises h)) (λ other. record {
       is_version = first v [] (Value 0) k v.major v.minor (v.patch + 1) k.major k.minor (omega (arith, k.patch, other));
-      inside = above_patch v (next_pre v) refl refl (omega arith);
-      least = λ w this. after_release v w (none_left v.pre_release h) (below_cases v w this);
+      inside = above_patch v (record v { patch = v.patch + 1; pre_release = Numeric 0 ∷ [] }) refl refl (omega arith);
+      least = λ w this. least_after_release v w (none_left v.pre_release h) this;
     }))
-    (λ h. let more = All-push IsId v.pre_release (Numeric 0) k.pre_release (omega arith) in
-    rw (advance_zero v.pre_release h (none h)) (record {
-      is_version = record { major = k.major; minor = k.minor; patch = k.patch; pre_release = more; build = k.build };
-      inside = above_pre v (more_pre v) refl refl refl
-          (pre_above v.pre_release (v.pre_release ++ Numeric 0 ∷ []) h (below_more v.pre_release (Numeric 0) []));
-      least = λ w this. after_pre v w h (below_cases v w this);
-    }))
+    (λ h. rw (advance_zero v.pre_release h (none h)) (next_of_pre_release v k (filled v.pre_release h)))
 
 -- a list that goes on is above itself
 abbrev AboveList : List Id → Result (List Id) Fault → Type 0
