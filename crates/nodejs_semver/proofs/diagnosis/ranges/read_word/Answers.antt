@@ -18,7 +18,8 @@ pub invariant_of-rest : goal.invariant_of-rest
 invariant_of-rest c =
     let front = c.ignored_front-kind in
     let sizes =
-    rest-sizes MAX_SAFE_INTEGER c.args.left.part.now front.result.1.now c.skip_spaces.result.now front.result.0 c.requires c.args.left.starts front.ensures c.skip_spaces.ensures in
+    rest-sizes MAX_SAFE_INTEGER c.args.left.part.now front.result.1.now c.skip_spaces.result.now front.result.0 c.requires
+    c.args.left.starts front.ensures c.skip_spaces.ensures in
     record {
       starts = sizes.2;
       part_fits = omega (arith, sizes.0, sizes.1, c.args.left.part_fits);
@@ -33,5 +34,6 @@ pub returns-clause-less : goal.returns-clause-less
 returns-clause-less c =
     let front = c.ignored_front-kind in
     let sizes =
-    rest-sizes MAX_SAFE_INTEGER c.args.left.part.now front.result.1.now c.skip_spaces.result.now front.result.0 c.requires c.args.left.starts front.ensures c.skip_spaces.ensures in
+    rest-sizes MAX_SAFE_INTEGER c.args.left.part.now front.result.1.now c.skip_spaces.result.now front.result.0 c.requires
+    c.args.left.starts front.ensures c.skip_spaces.ensures in
     omega (arith, sizes.0, sizes.1)

@@ -30,4 +30,5 @@ returns-clause-first_alone c = λ v.
 pub returns-clause-least : goal.returns-clause-least
 returns-clause-least c = λ list means.
     subst (λ (l : List (Span VersionValue)). IsLeastOf (λ v. accepts l v false) c.in_ok-findings_of.field-0.least)
-    (same_meaning MAX_SAFE_INTEGER c.args.a.now c.in_ok-first.first list c.utf8.a c.in_ok-first.ensures.ok means) c.in_ok-findings_of.ensures.least
+    (same_meaning MAX_SAFE_INTEGER c.args.a.now c.in_ok-first.first list c.utf8.a c.in_ok-first.ensures.ok means)
+    c.in_ok-findings_of.ensures.least

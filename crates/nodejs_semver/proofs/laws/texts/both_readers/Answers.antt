@@ -11,7 +11,8 @@ range_loose-requires c = record {
     (blank_text c.args.text.now c.utf8.text).1 blank,
     (common_ranges_are_denoted MAX_SAFE_INTEGER c.args.text.now c.in-Some.fast
         (if-some
-        (λ range. IsCommonRange MAX_SAFE_INTEGER c.args.text.now range) c.in_ok-fast.fast c.in-Some.fast c.in-Some.is c.in_ok-fast.ensures.some)).2,
+        (λ range. IsCommonRange MAX_SAFE_INTEGER c.args.text.now range) c.in_ok-fast.fast c.in-Some.fast c.in-Some.is
+        c.in_ok-fast.ensures.some)).2,
   );
 }
 
@@ -19,5 +20,6 @@ pub returns-in_ok-loose-in-Some-clause-same : goal.returns-in_ok-loose-in-Some-c
 returns-in_ok-loose-in-Some-clause-same c =
     fast_read MAX_SAFE_INTEGER c.args.text.now c.in-Some.fast c.in_ok-loose-in-Some.loose c.utf8.text
     (if-some
-    (λ range. IsCommonRange MAX_SAFE_INTEGER c.args.text.now range) c.in_ok-fast.fast c.in-Some.fast c.in-Some.is c.in_ok-fast.ensures.some)
+    (λ range. IsCommonRange MAX_SAFE_INTEGER c.args.text.now range) c.in_ok-fast.fast c.in-Some.fast c.in-Some.is
+    c.in_ok-fast.ensures.some)
     c.in_ok-loose-in-Some.ensures.some c.in_ok-loose-in-Some.ensures.none

@@ -3,4 +3,5 @@ use Rattle.nodejs_semver.proofs.range.lists.intersections.Goals as goal
 
 pub loop-interval-preserved : goal.loop-interval-preserved
 loop-interval-preserved g c =
-    flat_step _ c.args.these.now _ c.interval-item.result _ _ c.loop-interval-test.true c.interval-item.is c.loop-interval.invariant c.in_ok-push_intersections.ensures
+    flat_step _ c.args.these.now _ c.interval-item.result _ _ c.loop-interval-test.true c.interval-item.is
+    c.loop-interval.invariant c.in_ok-push_intersections.ensures
