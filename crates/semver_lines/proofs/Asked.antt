@@ -21,9 +21,9 @@ use Rattle.semver_lines.specs.declared.question.Question.TheVariants.{Version, V
 use Rattle.semver_lines.proofs.Firsts.{some_field}
 
 -- a text that begins with no command asks nothing, since a question has a text behind its command
-asked_by : (text field : List ℕ) (rest : List (List ℕ)) → IsUnknown text → (c : Command) → fields text ≡ command_word c ∷ field ∷ rest → ⊥
-asked_by text field rest none c e =
-    none c (join_with_byte 59 (field ∷ rest)) (sym (join_with_byte-slice_split 59 text) ∙ ap (join_with_byte 59) e)
+asked_by : (t a : List ℕ) (rest : List (List ℕ)) → IsUnknown t → (c : Command) → fields t ≡ command_word c ∷ a ∷ rest → ⊥
+asked_by t a rest none c e =
+    none c (join_with_byte 59 (a ∷ rest)) (sym (join_with_byte-slice_split 59 t) ∙ ap (join_with_byte 59) e)
 
 pub unknown : (text : List ℕ) → IsUnknown text → (question : Question) → Asks (fields text) question → ⊥
 unknown text none (Version v Ver) asks = asked_by text _ _ none command.Ver asks.0
@@ -53,10 +53,7 @@ no_version word text ver range least (Version v Ver) asks = other word _ _ _ ver
 no_version word text ver range least (Range r Print) asks = other word _ _ _ range asks.0
 no_version word text ver range least (Range r Least) asks = other word _ _ _ least asks.0
 no_version word text ver range least (Versions texts Cmp) asks = omega (arith, ap length asks.0)
-no_version word text ver range least (Versions texts Diff) asks = omega (arith, ap length asks.0)
 no_version word text ver range least (Ranges texts And) asks = omega (arith, ap length asks.0)
-no_version word text ver range least (Ranges texts Minus) asks = omega (arith, ap length asks.0)
-no_version word text ver range least (Ranges texts Beyond) asks = omega (arith, ap length asks.0)
 no_version word text ver range least (Match texts Sat) asks = omega (arith, ap length asks.0)
 no_version word text ver range least (Best (r, vs) Max) asks = omega (arith, ap length asks.0, some_field vs.now)
 no_version word text ver range least (Best (r, vs) Min) asks = omega (arith, ap length asks.0, some_field vs.now)

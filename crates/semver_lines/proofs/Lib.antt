@@ -1,7 +1,4 @@
-pub mod Told
+pub mod Steps
 pub mod Firsts
-pub mod Taken
-pub mod Ends
 pub mod Replies
-pub mod Several
 pub mod Asked

@@ -1,33 +1,29 @@
--- What is replied to a question, from what its texts were read as.
-use Rattle.std.proofs.Common.{◌≡◌, ℕ, List, Option, Result, Ok, Err, IfOk, IsErrAnd, refl}
+-- What is replied to a question, from what its texts were read as, and the versions of several texts.
+use Rattle.std.proofs.Common.{◌≡◌, ◌∷◌, ◌++◌, ℕ, List, [], Option, None, Result, Ok, Err, IsErrAnd, arith, length, length-append, refl}
+use Rattle.std.proofs.Math.Seq.{get_or-append_seam}
 use Rattle.std.specs.Borrow.{Bor}
-use Rattle.std.specs.declared.alloc.AllocError.{AllocError}
+use Rattle.semver_core.specs.Cuts.{Span}
 use Rattle.semver_core.specs.Printing.Text.{version_text}
+use Rattle.semver_core.specs.Text.Parsing.{Parses}
 use Rattle.semver_core.specs.Values.Versions.{VersionValue}
+use Rattle.semver_core.specs.declared.TheConstants.{MAX_SAFE_INTEGER}
 use Rattle.semver_core.specs.declared.error.Failure.{Failure}
 use Rattle.semver_core.specs.declared.error.Failure.TheVariants.{Refused, Memory}
+use Rattle.semver_lines.specs.Commands.{BestReply}
 use Rattle.semver_lines.specs.Names.{fault_word, or_none}
-use Rattle.semver_lines.specs.Replies.{On, SaysFound, fault, read}
-use Rattle.semver_lines.specs.Internal.Results.{IsFault, IsTold}
+use Rattle.semver_lines.specs.Replies.{AreVersionsOf, IsVersionOf, On, fault, read}
+use Rattle.semver_lines.specs.Internal.Results.{FindsBest, IsBestOf, IsFault, IsTold}
 use Rattle.semver_lines.specs.declared.fault.Fault.{Fault}
+use Rattle.semver_lines.specs.declared.question.AboutBest.{AboutBest}
+use Rattle.semver_lines.specs.declared.question.AboutBest.TheVariants.{Max, Min}
+use Rattle.semver_lines.proofs.Steps.{AllZip-append}
 
--- a text is none
+-- a text is none, and a call's error that says so is the reply of its caller
 pub told_fault : {A : Type 0} (Reads : Result A Fault → Type 0) (Reply : A → List ℕ → Type 0) (error : Failure Fault)
-    → IsFault error Reads → IsTold (Err error) (On Reads Reply)
-told_fault Reads Reply (Refused why) h = fault why h refl
-told_fault Reads Reply (Memory error) h = tt
-
--- the first of two texts is read, and the second is none
-pub told_second : {A B : Type 0} (First : Result A Fault → Type 0) (Second : Result B Fault → Type 0) (Reply : A → B → List ℕ → Type 0) (a : A) (error : Failure Fault)
-    → First (Ok a) → IsFault error Second → IsTold (Err error) (On First (λ a. On Second (Reply a)))
-told_second First Second Reply a (Refused why) is h = read a is (fault why h refl)
-told_second First Second Reply a (Memory error) is h = tt
-
--- the error of a call is the reply of its caller
-pub told_err : (Reply : List ℕ → Type 0) (result : Result (Bor (List ℕ)) (Failure Fault)) (error : Failure Fault)
-    → IsErrAnd result (λ e. e ≡ error) → IsTold (Err error) Reply → IsTold result Reply
-told_err Reply (Ok text) error is h = absurd is
-told_err Reply (Err e) error is h = rw is h
+    (r : Result (Bor (List ℕ)) (Failure Fault)) → IsErrAnd r (λ e. e ≡ error) → IsFault error Reads → IsTold r (On Reads Reply)
+told_fault Reads Reply error (Ok text) is h = absurd is
+told_fault Reads Reply (Refused why) (Err e) is h = rw is (fault why h refl)
+told_fault Reads Reply (Memory error) (Err e) is h = rw is tt
 
 -- what is told implies what is weaker
 pub told_weaker : (P Q : List ℕ → Type 0) (result : Result (Bor (List ℕ)) (Failure Fault)) → ((text : List ℕ) → P text → Q text) → IsTold result P → IsTold result Q
@@ -35,8 +31,37 @@ told_weaker P Q (Ok text) f h = f text.now h
 told_weaker P Q (Err (Refused why)) f h = f (fault_word why) h
 told_weaker P Q (Err (Memory error)) f h = tt
 
--- the version that was found, printed
-pub says_found : (result : Result (Bor (List ℕ)) AllocError) (IsFound : Option VersionValue → Type 0) (found : Option VersionValue)
-    → IsFound found → IfOk result (λ text. text.now ≡ or_none version_text found) → IfOk result (λ text. SaysFound IsFound text.now)
-says_found (Ok text) IsFound found is printed = (found, is, printed)
-says_found (Err error) IsFound found is printed = tt
+-- the first of two texts is read, and the second is none
+pub told_second : {A B : Type 0} (First : Result A Fault → Type 0) (Second : Result B Fault → Type 0)
+    (Reply : A → B → List ℕ → Type 0) (a : A) (error : Failure Fault) (r : Result (Bor (List ℕ)) (Failure Fault)) → First (Ok a)
+    → IsErrAnd r (λ e. e ≡ error) → IsFault error Second → IsTold r (On First (λ a. On Second (Reply a)))
+told_second First Second Reply a error r first is h =
+    told_weaker (On Second (Reply a)) _ r (λ text. read a first) (told_fault Second (Reply a) error r is h)
+
+-- one of the texts has none
+pub refused_one : (front : List (List ℕ)) (text : List ℕ) (back : List (List ℕ)) (error : Failure Fault)
+    → IsFault error (IsVersionOf text) → IsFault error (AreVersionsOf (front ++ text ∷ back))
+refused_one front text back (Refused why) r =
+    ((length front, text, omega (arith, length-append front (text ∷ back)), get_or-append_seam front text back text, r.0), r.1)
+refused_one front text back (Memory error) r = tt
+
+-- of no texts there is no best, and of one more it is what takes its place, or itself
+pub finds_none : (asked : AboutBest) (r : List (Span VersionValue)) → FindsBest asked r [] None
+finds_none asked r =
+    record { versions = []; read = tt; is = elim asked as (λ a. IsBestOf a r [] None) [ Max ↦ refl | Min ↦ refl ] }
+
+pub finds_more : (asked : AboutBest) (r : List (Span VersionValue)) (texts : List (List ℕ)) (text : List ℕ)
+    (best next : Option VersionValue) (v : VersionValue) → Parses MAX_SAFE_INTEGER text v
+    → ((list : List VersionValue) → IsBestOf asked r list best → IsBestOf asked r (list ++ v ∷ []) next)
+    → FindsBest asked r texts best → FindsBest asked r (texts ++ text ∷ []) next
+finds_more asked r texts text best next v parses more f = record {
+  versions = f.versions ++ v ∷ [];
+  read = AllZip-append (Parses MAX_SAFE_INTEGER) texts (text ∷ []) f.versions (v ∷ []) f.read (parses, tt);
+  is = more f.versions f.is;
+}
+
+-- the best of the versions, printed
+pub best_reply : (asked : AboutBest) (r : List (Span VersionValue)) (vs : List VersionValue) (best : Option VersionValue)
+    (text : List ℕ) → IsBestOf asked r vs best → text ≡ or_none version_text best → BestReply asked r vs text
+best_reply Max r vs best text is printed = (best, is, printed)
+best_reply Min r vs best text is printed = (best, is, printed)

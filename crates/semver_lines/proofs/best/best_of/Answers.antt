@@ -1,7 +1,6 @@
-use Rattle.std.proofs.Common.{◌++◌, ◌∷◌, ◌∙◌, [], ap, append_assoc, refl, sym}
+use Rattle.std.proofs.Common.{◌++◌, ◌∷◌, [], append_assoc, refl}
 use Rattle.std.proofs.lemmas.Result.{err_from_is_err_and}
-use Rattle.semver_lines.specs.Lines.{fields}
-use Rattle.semver_lines.proofs.Several.{finds_none, refused_one}
+use Rattle.semver_lines.proofs.Replies.{finds_none, refused_one}
 use Rattle.semver_lines.proofs.best.best_of.Goals as goal
 
 pub fields-init : goal.fields-init
@@ -11,19 +10,19 @@ pub returns-in_err-keep_better-clause-fault : goal.returns-in_err-keep_better-cl
 returns-in_err-keep_better-clause-fault c =
     let (utf8, (done, split, found)) = c.fields.invariant in
     let p = err_from_is_err_and c.from_residual.result c.from_residual.ensures.1 in
-    rw (p.1, p.2) (refused_one _ done c.in-Some.text.now _ _ (split ∙ ap (λ l. done ++ l) c.in-Some.ensures.some) c.in_err-keep_better.ensures.fault)
+    rw (p.1, p.2, split, c.in-Some.ensures.some) (refused_one done c.in-Some.text.now _ _ c.in_err-keep_better.ensures.fault)
 
 pub fields-preserved : goal.fields-preserved
 fields-preserved c =
-    let (utf8, (done, split, found)) = c.fields.invariant in
-    let further = split ∙ ap (λ l. done ++ l) c.in-Some.ensures.some ∙ sym (append_assoc done (c.in-Some.text.now ∷ []) (fields c.in-Some.behind.now)) in
-    (c.in-Some.ensures.utf8, (done ++ c.in-Some.text.now ∷ [], further, c.in_ok-keep_better.ensures.best done found))
+    let (utf8, (d, e, found)) = c.fields.invariant in
+    let s = c.in-Some in
+    (s.ensures.utf8, (d ++ s.text.now ∷ [], rw (e, s.ensures.some, append_assoc) refl, c.in_ok-keep_better.ensures.best d found))
 
 pub returns-in_err-keep_better-2-clause-fault : goal.returns-in_err-keep_better-2-clause-fault
 returns-in_err-keep_better-2-clause-fault c =
     let (utf8, (done, split, found)) = c.fields.invariant in
     let p = err_from_is_err_and c.from_residual-in_err-keep_better-2.result c.from_residual-in_err-keep_better-2.ensures.1 in
-    rw (p.1, p.2) (refused_one _ done c.fields.rest.now [] _ (split ∙ ap (λ l. done ++ l) c.in_default.ensures.none) c.in_err-keep_better-2.ensures.fault)
+    rw (p.1, p.2, split, c.in_default.ensures.none) (refused_one done c.fields.rest.now [] _ c.in_err-keep_better-2.ensures.fault)
 
 pub returns-clause-best : goal.returns-clause-best
 returns-clause-best c =

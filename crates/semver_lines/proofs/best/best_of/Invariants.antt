@@ -6,7 +6,8 @@ use Rattle.semver_lines.proofs.best.best_of.Given as goal
 
 -- the best so far is that of the fields so far
 abbrev pub invariant-fields : goal.invariant-fields
-invariant-fields l = IsUtf8 l.rest × ((done : List (List ℕ)) × (fields l.initial.rest ≡ done ++ fields l.rest) × FindsBest l.asked l.range done l.best)
+invariant-fields l =
+    IsUtf8 l.rest × ((d : List (List ℕ)) × (fields l.initial.rest ≡ d ++ fields l.rest) × FindsBest l.asked l.range d l.best)
 
 abbrev pub decreases-fields : goal.decreases-fields
 decreases-fields l = length (fields l.rest)

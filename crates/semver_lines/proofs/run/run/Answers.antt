@@ -3,8 +3,7 @@ use Rattle.std.proofs.KnownBytes.{Keeps-refl}
 use Rattle.std.proofs.lemmas.Result.{err_from_is_err_and}
 use Rattle.semver_lines.specs.Answers.{Answers}
 use Rattle.semver_lines.specs.declared.run.RunFault.TheVariants.{Read}
-use Rattle.semver_lines.proofs.Ends.{finished_ran, stopped_ran, turned_on}
-use Rattle.semver_lines.proofs.Told.{Answers-append}
+use Rattle.semver_lines.proofs.Steps.{Answers-append, finished_ran, stopped_ran, turned_on}
 use Rattle.semver_lines.proofs.run.run.Goals as goal
 
 pub returns-in_err-n : goal.returns-in_err-n
@@ -23,9 +22,10 @@ returns-then-n-eq0 g c =
 
 pub reads-preserved : goal.reads-preserved
 reads-preserved g c =
-    let (full, (bytes, so_far)) = c.reads.invariant in
+    let (full, (bs, so_far)) = c.reads.invariant in
     let more = take c.in_ok-n.n c.turn.new.buffer in
-    (omega (arith, c.turn.auto.buffer, full), (bytes ++ more, turned_on Answers Answers-append _ _ _ _ _ _ [] c.reads.lines.pending.items _ bytes more so_far c.in_ok-n.ensures.ok))
+    let t = turned_on Answers Answers-append _ _ _ _ _ _ [] c.reads.lines.pending.items _ bs more so_far c.in_ok-n.ensures.ok in
+    (omega (arith, c.turn.auto.buffer, full), (bs ++ more, t))
 
 pub returns : goal.returns
 returns g c =

@@ -5,4 +5,5 @@ use Rattle.semver_lines.proofs.run.run.Given as goal
 
 abbrev pub invariant-reads : goal.invariant-reads
 invariant-reads g l = (0 < length l.buffer) × ((bytes : List ℕ)
-    × Turned Answers (g.R.Read.remaining l.initial.reader) (g.R.Read.remaining l.reader) (g.W.Write.contents l.initial.writer) (g.W.Write.contents l.writer) [] l.lines.pending.items bytes)
+    × Turned Answers (g.R.Read.remaining l.initial.reader) (g.R.Read.remaining l.reader) (g.W.Write.contents l.initial.writer)
+    (g.W.Write.contents l.writer) [] l.lines.pending.items bytes)

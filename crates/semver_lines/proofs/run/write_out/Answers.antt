@@ -6,6 +6,5 @@ use Rattle.semver_lines.proofs.run.write_out.Goals as goal
 pub writes-preserved : goal.writes-preserved
 writes-preserved g c =
     let (done, split, appended) = c.writes.invariant in
-    let rest = c.writes.rest.now in
-    let n = c.in-Ok.n in
-    (done ++ take n rest, split ∙ rw (take_rest, append_assoc, take-append-drop) refl, Appends-trans _ _ _ _ _ appended c.in-Ok.ensures.bytes)
+    let more = Appends-trans _ _ _ _ _ appended c.in-Ok.ensures.bytes in
+    (done ++ take c.in-Ok.n c.writes.rest.now, split ∙ rw (take_rest, append_assoc, take-append-drop) refl, more)

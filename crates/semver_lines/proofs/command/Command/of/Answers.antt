@@ -7,7 +7,8 @@ use Rattle.semver_lines.proofs.command.Command.of.Goals as goal
 
 pub range_from-requires : goal.range_from-requires
 range_from-requires c =
-    λ _. behind_mark c.args.text.now (command_word c.in_ok-command.command) _ 59 c.in_ok-command.end c.utf8.text (rw c.as_bytes.ensures.value at c.in_ok-command.ensures.some) (omega arith) c.in_ok-command.ensures.end
+    λ _. behind_mark c.args.text.now (command_word c.in_ok-command.command) _ 59 c.in_ok-command.end c.utf8.text
+    (rw c.as_bytes.ensures.value at c.in_ok-command.ensures.some) (omega arith) c.in_ok-command.ensures.end
 
 pub returns-clause-some : goal.returns-clause-some
 returns-clause-some c =

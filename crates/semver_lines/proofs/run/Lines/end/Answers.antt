@@ -1,6 +1,6 @@
 use Rattle.std.proofs.Common.{sym, ◌∙◌}
 use Rattle.std.proofs.lemmas.Result.{on_ok_weaker}
-use Rattle.semver_lines.proofs.Told.{last_answer}
+use Rattle.semver_lines.proofs.Steps.{last_answer}
 use Rattle.semver_lines.proofs.run.Lines.end.Goals as goal
 
 pub returns : goal.returns

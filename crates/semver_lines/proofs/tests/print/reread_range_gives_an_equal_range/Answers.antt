@@ -13,5 +13,7 @@ use Rattle.nodejs_semver.specs.Internal.Words.{is_boundary, word_at, words_withi
 use Rattle.semver_lines.proofs.tests.print.reread_range_gives_an_equal_range.Goals as goal
 
 pub reread_range-requires : goal.reread_range-requires
-unfolding table is_boundary number_of space_len after_spaces drop_end_spaces cut_bars partial_front component_front dotted_front pre_release_front build_front front_len list_len listed word_at words_within from_boundary runs_from encode
-reread_range-requires g c = rw (sym ((c.one_meaning.ensures MAX_SAFE_INTEGER _ _ (codes ">1.2.3", (refl, refl))).1 c.in_ok-range.ensures.ok)) refl
+unfolding table is_boundary number_of space_len after_spaces drop_end_spaces cut_bars partial_front component_front dotted_front
+    pre_release_front build_front front_len list_len listed word_at words_within from_boundary runs_from encode
+reread_range-requires g c =
+    rw (sym ((c.one_meaning.ensures MAX_SAFE_INTEGER _ _ (codes ">1.2.3", (refl, refl))).1 c.in_ok-range.ensures.ok)) refl
