@@ -106,8 +106,8 @@ fn write_lists<W: fmt::Write>(
     build: IdentifierRefs<'_>,
     f: &mut fmt::Formatter<W>,
 ) -> fmt::Result
-    ensures { DisplaysStyledOnOk W.write_str_gives f.old result
-        (Some (marked_list (45 ∷ []) pre_release.entry ++ marked_list (43 ∷ []) build.entry)) f.new }
+    ensures { DisplaysStyledOnOk W.write_str_gives f.old result (Some
+        (marked_list (45 ∷ []) pre_release.entry ++ marked_list (43 ∷ []) build.entry)) f.new }
 {
     write_list("-", pre_release, f)?;
     write_list("+", build, f)

@@ -75,7 +75,8 @@ impl Version {
         // The text is rejected only if it is too long or has no version at its front.
         ensures refused { RefusedOnlyIf result (NoValue (Parses MAX_SAFE_INTEGER text.now)) }
         // Allocation fails only for a version with identifiers.
-        ensures memory { MemoryOnlyIf result ((v : VersionValue) × Parses MAX_SAFE_INTEGER text.now v × HasIdentifiers v) }
+        ensures memory { MemoryOnlyIf result
+            ((v : VersionValue) × Parses MAX_SAFE_INTEGER text.now v × HasIdentifiers v) }
     {
         if text.len() > MAX_LENGTH {
             return Err(Failure::Refused(SemverError));
@@ -220,7 +221,8 @@ fn parse_lists(
 fn parse_loose(alloc: Global, text: &str) -> Result<Version, Failure<SemverError>>
     ensures ok { IfOk result (λ v. Reads MAX_SAFE_INTEGER text.now v) }
     ensures refused { RefusedOnlyIf result (NoValue (Reads MAX_SAFE_INTEGER text.now)) }
-    ensures memory { MemoryOnlyIf result ((v : VersionValue) × Reads MAX_SAFE_INTEGER text.now v × HasIdentifiers v) }
+    ensures memory { MemoryOnlyIf result
+        ((v : VersionValue) × Reads MAX_SAFE_INTEGER text.now v × HasIdentifiers v) }
 {
     version_loose(alloc, text)?.ok_or(Failure::Refused(SemverError))
 }

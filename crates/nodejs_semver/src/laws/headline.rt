@@ -61,7 +61,8 @@ pub fn headline(alloc: Global, a: &str, b: &str) -> Result<Findings, Failure<Sem
 fn findings_of(alloc: Global, first: Range, second: &Range) -> Result<Findings, AllocError>
     ensures first { IfOk result (λ found. found.first ≡ first) }
     ensures both { IfOk result (λ found. (v : VersionValue) →
-        accepts (unwrap_or found.both []) v true ≡ (accepts first v true && accepts second.now v true)) }
+        accepts (unwrap_or found.both []) v true
+        ≡ (accepts first v true && accepts second.now v true)) }
     ensures first_alone { IfOk result (λ found. (v : VersionValue) →
         accepts (unwrap_or found.first_alone []) v true
         ≡ (accepts first v true && not (accepts second.now v true))) }

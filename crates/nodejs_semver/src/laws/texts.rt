@@ -123,7 +123,8 @@ pub fn both_readers(alloc: Global, text: &str) -> Result<Option<(Range, Option<R
     ensures same { IfOk result (λ found. IfSome found (λ both. Some both.0 ≡ both.1)) }
     ensures read { IfOk result (λ found. IfSome found (λ both.
         IsCommonRange MAX_SAFE_INTEGER text.now both.0)) }
-    ensures uncommon { IfOk result (λ found. IfNone found (NoValue (IsCommonRange MAX_SAFE_INTEGER text.now))) }
+    ensures uncommon { IfOk result (λ found.
+        IfNone found (NoValue (IsCommonRange MAX_SAFE_INTEGER text.now))) }
 {
     let fast = range_fast(alloc, text)?;
     match fast {

@@ -58,7 +58,8 @@ impl Range {
             ≡ (list_holds precedence self.now v && list_holds precedence other.now v)) }
         // With pre-releases included it accepts what both accept.
         ensures all { IfOk result (λ r. (v : VersionValue) →
-            accepts (unwrap_or r []) v true ≡ (accepts self.now v true && accepts other.now v true)) }
+            accepts (unwrap_or r []) v true
+            ≡ (accepts self.now v true && accepts other.now v true)) }
         // It accepts what both accept, and nothing that neither accepts.
         ensures both { IfOk result (λ r. (v : VersionValue) →
             accepts self.now v false ≡ true → accepts other.now v false ≡ true
@@ -67,7 +68,8 @@ impl Range {
             accepts (unwrap_or r []) v false ≡ true
             → (accepts self.now v false || accepts other.now v false) ≡ true) }
         ensures releases { IfOk result (λ r. (v : VersionValue) → is_release v ≡ true →
-            accepts (unwrap_or r []) v false ≡ (accepts self.now v false && accepts other.now v false)) }
+            accepts (unwrap_or r []) v false
+            ≡ (accepts self.now v false && accepts other.now v false)) }
     {
         self.common(alloc, other)
     }
@@ -97,7 +99,8 @@ impl Range {
             ≡ (list_holds precedence self.now v && not (list_holds precedence other.now v))) }
         // With pre-releases included it accepts what this range accepts and the other does not.
         ensures all { IfOk result (λ r. (v : VersionValue) →
-            accepts (unwrap_or r []) v true ≡ (accepts self.now v true && not (accepts other.now v true))) }
+            accepts (unwrap_or r []) v true
+            ≡ (accepts self.now v true && not (accepts other.now v true))) }
         // It accepts what this range accepts and the other does not hold.
         ensures kept { IfOk result (λ r. (v : VersionValue) →
             accepts self.now v false ≡ true → list_holds precedence other.now v ≡ false
@@ -158,7 +161,8 @@ impl<'a> RangeRef<'a> {
             ≡ (list_holds precedence self.now v && list_holds precedence other.now v)) }
         // With pre-releases included it accepts what both accept.
         ensures all { IfOk result (λ r. (v : VersionValue) →
-            accepts (unwrap_or r []) v true ≡ (accepts self.now v true && accepts other.now v true)) }
+            accepts (unwrap_or r []) v true
+            ≡ (accepts self.now v true && accepts other.now v true)) }
         // It accepts what both accept, and nothing that neither accepts.
         ensures both { IfOk result (λ r. (v : VersionValue) →
             accepts self.now v false ≡ true → accepts other.now v false ≡ true
@@ -167,7 +171,8 @@ impl<'a> RangeRef<'a> {
             accepts (unwrap_or r []) v false ≡ true
             → (accepts self.now v false || accepts other.now v false) ≡ true) }
         ensures releases { IfOk result (λ r. (v : VersionValue) → is_release v ≡ true →
-            accepts (unwrap_or r []) v false ≡ (accepts self.now v false && accepts other.now v false)) }
+            accepts (unwrap_or r []) v false
+            ≡ (accepts self.now v false && accepts other.now v false)) }
     {
         self.in_common(alloc, other)
     }
@@ -187,7 +192,8 @@ impl<'a> RangeRef<'a> {
             ≡ (list_holds precedence self.now v && not (list_holds precedence other.now v))) }
         // With pre-releases included it accepts what this range accepts and the other does not.
         ensures all { IfOk result (λ r. (v : VersionValue) →
-            accepts (unwrap_or r []) v true ≡ (accepts self.now v true && not (accepts other.now v true))) }
+            accepts (unwrap_or r []) v true
+            ≡ (accepts self.now v true && not (accepts other.now v true))) }
         // It accepts what this range accepts and the other does not hold.
         ensures kept { IfOk result (λ r. (v : VersionValue) →
             accepts self.now v false ≡ true → list_holds precedence other.now v ≡ false

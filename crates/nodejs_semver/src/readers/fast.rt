@@ -283,7 +283,8 @@ pub(crate) fn read_common<'a, S: Found<'a>>(
     requires { S.items found.old ≡ [] }
     ensures some { IfOk result (λ there. IsTrue there
         → IsCommonRange MAX_SAFE_INTEGER text.now (S.items found.new)) }
-    ensures none { IfOk result (λ there. IsFalse there → NoValue (IsCommonRange MAX_SAFE_INTEGER text.now)) }
+    ensures none { IfOk result (λ there. IsFalse there
+        → NoValue (IsCommonRange MAX_SAFE_INTEGER text.now)) }
 {
     let mut rest = text;
     'parts: loop {
@@ -316,7 +317,8 @@ pub fn range_fast(alloc: Global, text: &str) -> Result<Option<Range>, AllocError
     ensures denoted { IfOk result (λ found. IfSome found (λ range.
         Means MAX_SAFE_INTEGER text.now range)) }
     // Nothing is read only where the text is not a common one.
-    ensures none { IfOk result (λ found. IfNone found (NoValue (IsCommonRange MAX_SAFE_INTEGER text.now))) }
+    ensures none { IfOk result (λ found.
+        IfNone found (NoValue (IsCommonRange MAX_SAFE_INTEGER text.now))) }
 {
     let mut found = SmallVec::new(alloc);
     if !read_common(text.as_bytes(), &mut found)? {

@@ -45,7 +45,8 @@ pub(crate) fn push_ordered<'a, S: Found<'a>>(
     found: &mut S,
 ) -> Result<(), AllocError>
     requires { is_interval precedence (bounds_view bounds) ≡ true }
-    ensures { OnOk result ((S.items found.new) ≡ (S.items found.old) ++ bounds_view bounds.entry ∷ []) }
+    ensures { OnOk result
+        (S.items found.new ≡ S.items found.old ++ bounds_view bounds.entry ∷ []) }
 {
     found.add(Interval::of_ordered(bounds.lower, bounds.upper))
 }

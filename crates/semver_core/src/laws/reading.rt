@@ -62,8 +62,10 @@ pub fn both_readers(
 ) -> Result<(Option<Version>, Option<Version>), AllocError>
     ensures same { IfOk result (λ both. IfSome both.0 (λ v. both.1 ≡ Some v)) }
     ensures read { IfOk result (λ both. IfSome both.1 (Reads MAX_SAFE_INTEGER text.now)) }
-    ensures uncommon { IfOk result (λ both. IfNone both.0 (NoValue (IsCommon MAX_SAFE_INTEGER text.now))) }
-    ensures unread { IfOk result (λ both. IfNone both.1 (NoValue (Reads MAX_SAFE_INTEGER text.now))) }
+    ensures uncommon { IfOk result (λ both.
+        IfNone both.0 (NoValue (IsCommon MAX_SAFE_INTEGER text.now))) }
+    ensures unread { IfOk result (λ both.
+        IfNone both.1 (NoValue (Reads MAX_SAFE_INTEGER text.now))) }
 {
     one_reading(text);
     let fast = version_fast(alloc, text)?;

@@ -127,9 +127,11 @@ pub fn version_fast(alloc: Global, text: &str) -> Result<Option<Version>, AllocE
     // The version is the one that the whole text is.
     ensures some { IfOk result (λ found. IfSome found (λ v. IsCommon MAX_SAFE_INTEGER text.now v)) }
     // Every common text is read.
-    ensures none { IfOk result (λ found. IfNone found (NoValue (IsCommon MAX_SAFE_INTEGER text.now))) }
+    ensures none { IfOk result (λ found.
+        IfNone found (NoValue (IsCommon MAX_SAFE_INTEGER text.now))) }
     // Allocation fails only where the text has a version with identifiers.
-    ensures memory { OnErr result ((v : VersionValue) × Reads MAX_SAFE_INTEGER text.now v × HasIdentifiers v) }
+    ensures memory { OnErr result
+        ((v : VersionValue) × Reads MAX_SAFE_INTEGER text.now v × HasIdentifiers v) }
 {
     read(alloc, text)
 }

@@ -184,7 +184,8 @@ pub fn version_loose(alloc: Global, text: &str) -> Result<Option<Version>, Alloc
     // Nothing is read only where the text has none.
     ensures none { IfOk result (λ found. IfNone found (NoValue (Reads MAX_SAFE_INTEGER text.now))) }
     // Allocation fails only where the text has a version with identifiers.
-    ensures memory { OnErr result ((v : VersionValue) × Reads MAX_SAFE_INTEGER text.now v × HasIdentifiers v) }
+    ensures memory { OnErr result
+        ((v : VersionValue) × Reads MAX_SAFE_INTEGER text.now v × HasIdentifiers v) }
 {
     version_from(alloc, text, front_of_numbers(text))
 }

@@ -26,7 +26,8 @@ fn admits(alloc: Global, range: &str, version: &str) -> Result<bool, Failure<Sem
 
 // What two range texts have in common, or `None` if no version is in both.
 fn both(alloc: Global, one: &str, other: &str) -> Result<Option<Range>, Failure<SemverError>>
-    ensures { IfOk result (λ found. (v : VersionValue) → IsTrue (accepts (unwrap_or found []) v true)
+    ensures { IfOk result (λ found. (v : VersionValue) →
+        IsTrue (accepts (unwrap_or found []) v true)
         ↔ (Writes MAX_SAFE_INTEGER one.now v × Writes MAX_SAFE_INTEGER other.now v)) }
 {
     let one = Range::parse(alloc, one)?;
