@@ -1,6 +1,6 @@
 //! Versions and ranges as JSON: the string of the printed text.
 
-ghost use Rattle.std.specs.Prelude.{◌≡◌, IfOk, string_bytes, []};
+ghost use Rattle.std.specs.Prelude.{◌≡◌, IfOk, IsSomeAnd, IsTrue, is_some, string_bytes, []};
 ghost use Rattle.serde_json.specs.Data.{string};
 ghost use Rattle.serde_json.specs.Find.{as_str};
 ghost use Rattle.serde_json.specs.View.{view};
@@ -9,9 +9,10 @@ ghost use Rattle.nodejs_semver.specs.Json.{json_string, ReadsString};
 ghost use Rattle.nodejs_semver.specs.Printing.Text.{range_text};
 ghost use Rattle.nodejs_semver.specs.Text.Meaning.{Means};
 ghost use Rattle.semver_core.specs.declared.TheConstants.{MAX_SAFE_INTEGER};
-ghost use Rattle.semver_core.specs.Failures.{NoValue};
+ghost use Rattle.semver_core.specs.Failures.{MemoryOnlyIf, NoValue};
 ghost use Rattle.semver_core.specs.Text.Parsing.{Parses};
 ghost use Rattle.semver_core.specs.Printing.Text.{version_text};
+ghost use Rattle.semver_core.specs.Values.Versions.{HasIdentifiers, VersionValue};
 
 use crate::Range;
 use semver_core::{Failure, SemverError, Version};
@@ -28,8 +29,11 @@ pub fn version_to_value(alloc: Global, version: &Version) -> Result<Value, Alloc
 /// Reads the version of a JSON string, as `Version::parse` does. Returns `SemverError` if the value
 /// is not a string or its text has no version; the only other error is an allocation failure.
 pub fn version_from_value(alloc: Global, value: &Value) -> Result<Version, Failure<SemverError>>
-    ensures { ReadsString (Parses MAX_SAFE_INTEGER)
+    ensures reads { ReadsString (Parses MAX_SAFE_INTEGER)
         (λ text. NoValue (Parses MAX_SAFE_INTEGER text)) (as_str (view value.now)) result }
+    // Allocation fails only for a string with a version that has identifiers.
+    ensures memory { MemoryOnlyIf result (IsSomeAnd (as_str (view value.now)) (λ text.
+        (v : VersionValue) × Parses MAX_SAFE_INTEGER text v × HasIdentifiers v)) }
 {
     match value.as_str() {
         Some(text) => Version::parse(alloc, text),
@@ -70,8 +74,10 @@ pub fn range_to_value(alloc: Global, range: &Range) -> Result<Value, AllocError>
 /// Reads the range of a JSON string, as `Range::parse` does. Returns `SemverError` if the value is
 /// not a string or its text has no range; the only other error is an allocation failure.
 pub fn range_from_value(alloc: Global, value: &Value) -> Result<Range, Failure<SemverError>>
-    ensures { ReadsString (Means MAX_SAFE_INTEGER)
+    ensures reads { ReadsString (Means MAX_SAFE_INTEGER)
         (λ text. Means MAX_SAFE_INTEGER text []) (as_str (view value.now)) result }
+    // Allocation fails only for a string.
+    ensures memory { MemoryOnlyIf result (IsTrue (is_some (as_str (view value.now)))) }
 {
     match value.as_str() {
         Some(text) => Range::parse(alloc, text),

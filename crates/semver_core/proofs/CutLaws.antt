@@ -1,6 +1,7 @@
 -- Shared with the layers above: tests of what a comparison answers, the order of cuts, and the points of what two spans have in
 -- common or one leaves of another.
-use Rattle.std.proofs.Common.{◌≡◌, refl, sym, ◌∙◌, ap, Bool, true, false, ◌&&◌, ◌||◌, not, Option, Some, None, arith, is_some, inl, inr}
+use Rattle.std.proofs.Common.{◌≡◌, refl, sym, ◌∙◌, ap, Bool, true, false, ◌&&◌, ◌||◌, not}
+use Rattle.std.proofs.Common.{Option, Some, None, arith, is_some, inl, inr}
 use Rattle.std.proofs.Common.{ℕ, subst}
 use Rattle.std.proofs.lemmas.Bool.{and_parts, cases_Bool, cond_both}
 use Rattle.std.proofs.Math.Bool.{and_comm}
@@ -12,7 +13,8 @@ use Rattle.std.specs.Cmp.Lexicographic.{options_total}
 use Rattle.std.specs.Cmp.{IsTotalOrder, upto, tied_itself, on_total, then_total, nat_cmp_total, bool_cmp_total}
 use Rattle.semver_core.specs.Internal.Sides.{Near}
 use Rattle.semver_core.specs.Clips.{clip}
-use Rattle.semver_core.specs.Cuts.{Cut, Start, Beside, End, cut_cmp, is_past, lower_cut, upper_cut, Span, is_interval, interval, holds, greater_lower, lesser_upper, meet, left_below, left_above, remainders, option_holds}
+use Rattle.semver_core.specs.Cuts.{Cut, Start, Beside, End, cut_cmp, is_past, lower_cut, upper_cut, Span, is_interval, interval}
+use Rattle.semver_core.specs.Cuts.{holds, greater_lower, lesser_upper, meet, left_below, left_above, remainders, option_holds}
 use Rattle.semver_core.specs.declared.cuts.bound.Bound.{Bound}
 use Rattle.semver_core.specs.declared.cuts.bound.Bound.TheVariants.{Unbounded, Before, After}
 

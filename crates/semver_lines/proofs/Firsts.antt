@@ -1,5 +1,6 @@
 -- The first `;` of a text, and the first line feed of an input.
-use Rattle.std.proofs.Common.{◌≡◌, ◌==◌, ◌<◌, ◌+◌, ◌∙◌, ◌++◌, ◌∷◌, ℕ, suc, true, false, not, List, [], Option, Some, None, IfSome, IfNone, length, take, drop, get_or, refl, ap, arith}
+use Rattle.std.proofs.Common.{◌≡◌, ◌==◌, ◌<◌, ◌+◌, ◌∙◌, ◌++◌, ◌∷◌, ℕ, suc, true, false, not, List, [], Option, Some}
+use Rattle.std.proofs.Common.{None, IfSome, IfNone, length, take, drop, get_or, refl, ap, arith}
 use Rattle.memchr.specs.Find.{IsFirstByte, is_byte}
 use Rattle.std.proofs.Math.Seq.{get_or-append_seam, split_at}
 use Rattle.std.proofs.lemmas.Bool.{eqb-true, false_from_ne_true}

@@ -1,5 +1,6 @@
 -- What is replied to a question, from what its texts were read as, and the versions of several texts.
-use Rattle.std.proofs.Common.{◌≡◌, ◌∷◌, ◌++◌, ℕ, List, [], Option, None, Result, Ok, Err, IsErrAnd, arith, length, length-append, refl}
+use Rattle.std.proofs.Common.{◌≡◌, ◌∷◌, ◌++◌, ℕ, List, [], Option, None, Result, Ok, Err}
+use Rattle.std.proofs.Common.{IsErrAnd, arith, length, length-append, refl}
 use Rattle.std.proofs.Math.Seq.{get_or-append_seam}
 use Rattle.std.specs.Borrow.{Bor}
 use Rattle.semver_core.specs.Cuts.{Span}

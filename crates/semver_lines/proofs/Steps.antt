@@ -1,5 +1,7 @@
 -- Answers of lines, one part after another, how a chunk is cut into lines, and what the steps of a run leave.
-use Rattle.std.proofs.Common.{◌≡◌, ◌==◌, ◌<◌, ◌≤◌, ◌++◌, ◌∷◌, ◌∙◌, ◌⊎◌, ℕ, true, false, List, [], Option, Result, Ok, Err, IfErr, OnErr, OnOk, is_ok, if◌then◌else◌, length, take, drop, refl, sym, ap, arith, append_assoc, append-nil, inl, inr}
+use Rattle.std.proofs.Common.{◌≡◌, ◌==◌, ◌<◌, ◌≤◌, ◌++◌, ◌∷◌, ◌∙◌, ◌⊎◌, ℕ, true, false, List, [], Option, Result}
+use Rattle.std.proofs.Common.{Ok, Err, IfErr, OnErr, OnOk, is_ok, if◌then◌else◌, length, take, drop, refl, sym}
+use Rattle.std.proofs.Common.{ap, arith, append_assoc, append-nil, inl, inr}
 use Rattle.std.proofs.KnownBytes.{Appends-kept, Appends-trans, Consumes-kept, Consumes-trans}
 use Rattle.std.proofs.Math.Seq.{drop-append_seam, take-append_seam}
 use Rattle.std.proofs.lemmas.Bool.{cases_Bool, cases_lt, eqb-true, false≢true}

@@ -15,6 +15,8 @@ use Rattle.uses.specs.declared.release.Refusal.TheVariants.{NotAVersion, NotIncr
 -- what a refusal says of the text of the current version, the word and the identifier
 abbrev pub Explains : ℕ → List ℕ → List ℕ → Option (Bor (List ℕ)) → Refusal → Type 0
 Explains limit current word id NotAVersion = NoValue (Parses limit current)
-Explains limit current word id (NotIncremented e) = (v : VersionValue) × Parses limit current v × (answer_of_inc v word (option_copied id) None ≡ Err (fault_of e))
-Explains limit current word id NotAbove = (v w : VersionValue) × Parses limit current v × (answer_of_inc v word (option_copied id) None ≡ Ok w) × (is_lt (precedence v w) ≡ false)
+Explains limit current word id (NotIncremented e) = (v : VersionValue) × Parses limit current v
+    × (answer_of_inc v word (option_copied id) None ≡ Err (fault_of e))
+Explains limit current word id NotAbove = (v w : VersionValue) × Parses limit current v
+    × (answer_of_inc v word (option_copied id) None ≡ Ok w) × (is_lt (precedence v w) ≡ false)
 Explains limit current word id Memory = ⊤

@@ -11,4 +11,5 @@ use Rattle.std.specs.Prelude.{Some}
 -- the second accepts what the first accepts; or this is the least version that the first accepts and the second does not
 abbrev pub IsAnswer : List (Span VersionValue) → List (Span VersionValue) → Answer → Type 0
 IsAnswer first second Subset = (v : VersionValue) → accepts first v false ≡ true → accepts second v false ≡ true
-IsAnswer first second (Witness w) = (accepts first w false ≡ true) × (accepts second w false ≡ false) × IsLeastOf (beyond first second) (Some w)
+IsAnswer first second (Witness w) = (accepts first w false ≡ true) × (accepts second w false ≡ false)
+    × IsLeastOf (beyond first second) (Some w)

@@ -1,15 +1,18 @@
 -- What two lists of spans hold and accept: their intersection, and what one leaves of the other.
-use Rattle.std.proofs.Common.{◌≡◌, refl, sym, ◌∙◌, ap, Bool, true, false, ◌&&◌, ◌||◌, not, if◌then◌else◌, List, [], ◌∷◌, ◌++◌, Option, is_some, arith, option_to_list, is_gt, Ordering}
+use Rattle.std.proofs.Common.{◌≡◌, refl, sym, ◌∙◌, ap, Bool, true, false, ◌&&◌, ◌||◌, not, if◌then◌else◌, List, []}
+use Rattle.std.proofs.Common.{◌∷◌, ◌++◌, Option, is_some, arith, option_to_list, is_gt, Ordering}
 use Rattle.std.proofs.Math.Bool.{and-true}
 use Rattle.std.proofs.lemmas.Bool.{and_cases, and_parts, not-false, not-true, or_left, or_parts, or_right}
 use Rattle.std.proofs.lemmas.List.Folds.{list_any-append}
 use Rattle.std.specs.Cmp.{IsTotalOrder}
 use Rattle.std.specs.List.{list_any, flat_map}
 use Rattle.nodejs_semver.specs.Internal.Sets.{option_list_holds, option_accepts, meets_of, minus}
-use Rattle.semver_core.proofs.CutLaws.{between_parts, lt, option_holds-interval, option_holds-meet, past_below, remainders-hold, remainders_by, turned_lower, turned_upper}
+use Rattle.semver_core.proofs.CutLaws.{between_parts, lt, option_holds-interval, option_holds-meet, past_below}
+use Rattle.semver_core.proofs.CutLaws.{remainders-hold, remainders_by, turned_lower, turned_upper}
 use Rattle.nodejs_semver.proofs.Algebra.FlatMaps.{any_either, any_flat, any_pairs, any_same, any_weaker}
 use Rattle.nodejs_semver.proofs.Algebra.Gate.{both, lets_in-meet, names_above, names_below}
-use Rattle.semver_core.specs.Cuts.{Span, cut_cmp, lower_cut, upper_cut, is_past, is_interval, interval, holds, meet, left_below, left_above, option_holds}
+use Rattle.semver_core.specs.Cuts.{Span, cut_cmp, lower_cut, upper_cut, is_past, is_interval, interval}
+use Rattle.semver_core.specs.Cuts.{holds, meet, left_below, left_above, option_holds}
 use Rattle.semver_core.specs.declared.cuts.bound.Bound.{Bound}
 use Rattle.semver_core.specs.Internal.OrderLaws.{precedence_total}
 use Rattle.semver_core.specs.Lists.{if_any}

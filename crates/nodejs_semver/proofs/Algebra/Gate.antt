@@ -6,8 +6,10 @@ use Rattle.std.specs.Cmp.{alike_right, first_so, second_so, tied_back}
 use Rattle.std.specs.Ordering.{bool_cmp}
 use Rattle.semver_core.specs.Internal.Sides.{Near}
 use Rattle.semver_core.proofs.CutLaws.{gt_lt, lt, one_way, past_lt}
-use Rattle.nodejs_semver.proofs.Algebra.Triples.{named, named_from, named_parts, pre_upto, then_not_gt, triple_between, triple_total}
-use Rattle.semver_core.specs.Cuts.{Span, holds, Cut, Start, Beside, End, cut_cmp, lower_cut, upper_cut, is_past, greater_lower, lesser_upper}
+use Rattle.nodejs_semver.proofs.Algebra.Triples.{named, named_from, named_parts, pre_upto, then_not_gt}
+use Rattle.nodejs_semver.proofs.Algebra.Triples.{triple_between, triple_total}
+use Rattle.semver_core.specs.Cuts.{Span, holds, Cut, Start, Beside, End, cut_cmp, lower_cut}
+use Rattle.semver_core.specs.Cuts.{upper_cut, is_past, greater_lower, lesser_upper}
 use Rattle.semver_core.specs.declared.cuts.bound.Bound.{Bound}
 use Rattle.semver_core.specs.Internal.OrderLaws.{precedence_total}
 use Rattle.nodejs_semver.specs.Ranges.Gate.{names, lets_in}

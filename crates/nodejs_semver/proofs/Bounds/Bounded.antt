@@ -6,7 +6,8 @@ use Rattle.std.proofs.lemmas.Bool.{and_from}
 use Rattle.semver_core.specs.Text.Identifiers.{Id, IsIdentifiers, identifier_of, is_identifier, pieces}
 use Rattle.semver_core.specs.Printing.RoundTrip.{is_normal}
 use Rattle.nodejs_semver.specs.Text.PartialText.{AreComponents, IsComponent, Partial}
-use Rattle.nodejs_semver.specs.Internal.Words.{Reading, Sign, at_boundary, behind_sign, or_else, or_malformed, sign_at, signed_word, upper_of, word_at, word_behind}
+use Rattle.nodejs_semver.specs.Internal.Words.{Reading, Sign, at_boundary, behind_sign, or_else, or_malformed}
+use Rattle.nodejs_semver.specs.Internal.Words.{sign_at, signed_word, upper_of, word_at, word_behind}
 use Rattle.nodejs_semver.specs.Internal.Fronts.{partial_front}
 use Rattle.semver_core.specs.Internal.Reading.{◌>>?◌}
 use Rattle.nodejs_semver.specs.Text.WordText.{Word, caret, compare, hyphen, malformed, plain, tilde}

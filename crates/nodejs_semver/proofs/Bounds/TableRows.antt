@@ -15,7 +15,8 @@ use Rattle.semver_core.specs.Values.Versions.{VersionValue, release_value}
 use Rattle.nodejs_semver.specs.Text.PartialText.{Partial}
 use Rattle.nodejs_semver.specs.Ranges.View.{is_range_bound}
 use Rattle.nodejs_semver.specs.Text.Table.{lowest, row, table, version_of, without_build}
-use Rattle.nodejs_semver.specs.Text.WordText.{Comparator, Word, at_most, below, caret, compare, equal, hyphen, malformed, plain, tilde, above}
+use Rattle.nodejs_semver.specs.Text.WordText.{Comparator, Word, at_most, below, caret, compare, equal}
+use Rattle.nodejs_semver.specs.Text.WordText.{hyphen, malformed, plain, tilde, above}
 use Rattle.nodejs_semver.proofs.Bounds.Bounded.{Fine, FineWord, Fits}
 use Rattle.std.proofs.lemmas.Bool.{and_from}
 

@@ -1,5 +1,7 @@
 -- The version that is found in a list is the best one of those in the set.
-use Rattle.std.proofs.Common.{arith, ◌<◌, ◌+◌, ℕ, length, take, get_or, subst, ◌≡◌, refl, sym, ◌∙◌, ap, Bool, true, false, ◌&&◌, ◌||◌, not, if◌then◌else◌, inl, inr, List, [], ◌∷◌, ◌++◌, Option, Some, None, IfSome, IfNone, Bor, append_assoc, option_copied, Ordering}
+use Rattle.std.proofs.Common.{arith, ◌<◌, ◌+◌, ℕ, length, take, get_or, subst, ◌≡◌, refl, sym, ◌∙◌, ap, Bool, true}
+use Rattle.std.proofs.Common.{false, ◌&&◌, ◌||◌, not, if◌then◌else◌, inl, inr, List, [], ◌∷◌, ◌++◌, Option, Some, None}
+use Rattle.std.proofs.Common.{IfSome, IfNone, Bor, append_assoc, option_copied, Ordering}
 use Rattle.std.proofs.lemmas.Bool.{and_from, cases_Bool, not-true}
 use Rattle.std.proofs.lemmas.List.{take_more}
 use Rattle.std.proofs.lemmas.List.Folds.{list_all-append}

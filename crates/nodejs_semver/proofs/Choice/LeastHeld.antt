@@ -1,5 +1,6 @@
 -- The least version that spans hold is the first past one of their lower cuts.
-use Rattle.std.proofs.Common.{◌≡◌, refl, ◌∙◌, ap, Bool, true, false, ◌&&◌, not, List, [], ◌∷◌, map, inl, inr, if◌then◌else◌, Option, IfSome, arith}
+use Rattle.std.proofs.Common.{◌≡◌, refl, ◌∙◌, ap, Bool, true, false, ◌&&◌, not, List, [], ◌∷◌, map}
+use Rattle.std.proofs.Common.{inl, inr, if◌then◌else◌, Option, IfSome, arith}
 use Rattle.std.specs.Ordering.{is_le, is_gt}
 use Rattle.std.proofs.lemmas.Bool.{and_from, or_cases, or_left, or_right}
 use Rattle.std.proofs.lemmas.List.Elements.{All-cons, All-nil}

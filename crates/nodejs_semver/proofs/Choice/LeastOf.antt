@@ -1,6 +1,8 @@
 -- The first least version of a set among a list, which is the least of the set where each of its versions has one of the list
 -- below it.
-use Rattle.std.proofs.Common.{◌≡◌, refl, sym, ◌∙◌, ap, ap₂, subst, Bool, true, false, ◌&&◌, ◌||◌, not, List, [], ◌∷◌, ◌++◌, Option, Some, None, option_and_then, if◌then◌else◌, IfSome, ◌<◌, ◌-◌, length, get_or, take, drop, arith}
+use Rattle.std.proofs.Common.{◌≡◌, refl, sym, ◌∙◌, ap, ap₂, subst, Bool, true, false, ◌&&◌, ◌||◌, not, List}
+use Rattle.std.proofs.Common.{[], ◌∷◌, ◌++◌, Option, Some, None, option_and_then, if◌then◌else◌, IfSome}
+use Rattle.std.proofs.Common.{◌<◌, ◌-◌, length, get_or, take, drop, arith}
 use Rattle.std.proofs.Math.Bool.{and-true, or-false}
 use Rattle.std.proofs.lemmas.Bool.{cond_both, or_parts}
 use Rattle.std.proofs.lemmas.List.{take_rest}
@@ -17,7 +19,8 @@ use Rattle.nodejs_semver.proofs.Choice.LeastPieces.{candidate, lets_in_alike}
 use Rattle.nodejs_semver.proofs.Choice.Next.{next_patch_above, next_pre_above, release_above}
 use Rattle.semver_core.specs.Cuts.{Span, Cut, Start, Beside, holds}
 use Rattle.semver_core.specs.declared.cuts.bound.Bound.{Bound}
-use Rattle.nodejs_semver.specs.Internal.Candidates.{has_build, bare, after_cut, release_after, firsts, list_marks, removed_marks, candidates, among, improves, better, least_of, is_reached, all_accept}
+use Rattle.nodejs_semver.specs.Internal.Candidates.{has_build, bare, after_cut, release_after, firsts, list_marks, removed_marks}
+use Rattle.nodejs_semver.specs.Internal.Candidates.{candidates, among, improves, better, least_of, is_reached, all_accept}
 use Rattle.semver_core.specs.Internal.OrderLaws.{precedence_total}
 use Rattle.nodejs_semver.specs.Ranges.Gate.{lets_in, accepts}
 use Rattle.nodejs_semver.specs.Ranges.Least.{IsLeastOf, beyond, begins_with, build_by, least_build}

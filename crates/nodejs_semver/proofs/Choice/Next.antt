@@ -7,7 +7,8 @@ use Rattle.semver_core.proofs.CutLaws.{tells}
 use Rattle.semver_core.proofs.Values.NextLaws.{least_after_pre_release}
 use Rattle.nodejs_semver.proofs.Algebra.Triples.{triple_cmp, upto_by_both}
 use Rattle.nodejs_semver.specs.Internal.Candidates.{zero, bare_release, first_pre, pre_after, patch_after}
-use Rattle.semver_core.specs.Internal.Successors.{Below, above_patch, above_pre, below_cases, below_more, upto_major, upto_minor, upto_patch, zero_least}
+use Rattle.semver_core.specs.Internal.Successors.{Below, above_patch, above_pre, below_cases, below_more}
+use Rattle.semver_core.specs.Internal.Successors.{upto_major, upto_minor, upto_patch, zero_least}
 use Rattle.semver_core.specs.Lists.{is_empty}
 use Rattle.semver_core.specs.Text.Identifiers.{Id}
 use Rattle.semver_core.specs.Values.Order.{precedence}

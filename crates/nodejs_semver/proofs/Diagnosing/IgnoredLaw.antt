@@ -1,12 +1,14 @@
 -- What is computed of the ignored words of a text is what the statement says of them.
-use Rattle.std.proofs.Common.{◌≡◌, ◌≤◌, ◌+◌, ◌-◌, ℕ, zero, suc, List, [], ◌∷◌, ◌++◌, length, refl, sym, ap, ◌∙◌, arith, true, false, Bool, inl, inr, subst, length-append, ◌↔◌, ◌&&◌, ◌⊎◌, IsUtf8, encode_utf8_all, is_some}
+use Rattle.std.proofs.Common.{◌≡◌, ◌≤◌, ◌+◌, ◌-◌, ℕ, zero, suc, List, [], ◌∷◌, ◌++◌, length, refl, sym, ap, ◌∙◌, arith, true}
+use Rattle.std.proofs.Common.{false, Bool, inl, inr, subst, length-append, ◌↔◌, ◌&&◌, ◌⊎◌, IsUtf8, encode_utf8_all, is_some}
 use Rattle.std.specs.List.{AllByRecursion, list_all}
 use Rattle.std.proofs.lemmas.Str.{encodes-append}
 use Rattle.semver_core.specs.Internal.Spaces.{drop_spaces, space_len, trim}
 use Rattle.semver_core.specs.Lists.{is_empty}
 use Rattle.semver_core.specs.Text.Characters.{IsTrim}
 use Rattle.semver_core.proofs.Text.Trims.{drop_spaces-blank, drop_spaces-dark, middle_is_trim, trim_is_middle}
-use Rattle.nodejs_semver.specs.Diagnosis.IgnoredWords.{AreAllIgnored, AreIgnored, AreIgnoredOf, IsBounded, IsWhollyBounded, if_ignored, ignored_as, next_piece, next_word, no_piece, no_word}
+use Rattle.nodejs_semver.specs.Diagnosis.IgnoredWords.{AreAllIgnored, AreIgnored, AreIgnoredOf, IsBounded, IsWhollyBounded}
+use Rattle.nodejs_semver.specs.Diagnosis.IgnoredWords.{if_ignored, ignored_as, next_piece, next_word, no_piece, no_word}
 use Rattle.nodejs_semver.specs.Internal.Ignored.{all_ignored, ignored_of, ignored_within, part_end}
 use Rattle.nodejs_semver.specs.Internal.Parts.{cut_bars}
 use Rattle.nodejs_semver.specs.Internal.Words.{word_at, words, words_within}

@@ -1,9 +1,11 @@
 -- The ignored words of a part, word by word, and of a text, part by part.
-use Rattle.std.proofs.Common.{◌≡◌, ◌<◌, ◌≤◌, ◌+◌, ◌-◌, ℕ, zero, suc, List, [], ◌∷◌, ◌++◌, length, refl, sym, ap, ◌∙◌, arith, Some, subst, append_assoc, Option, length-drop, length-take-le}
+use Rattle.std.proofs.Common.{◌≡◌, ◌<◌, ◌≤◌, ◌+◌, ◌-◌, ℕ, zero, suc, List, [], ◌∷◌, ◌++◌, length, refl, sym, ap, ◌∙◌}
+use Rattle.std.proofs.Common.{arith, Some, subst, append_assoc, Option, length-drop, length-take-le}
 use Rattle.semver_core.specs.Internal.Spaces.{drop_end_spaces, drop_spaces, space_len, trim}
 use Rattle.semver_core.specs.declared.TheConstants.{MAX_SAFE_INTEGER}
 use Rattle.nodejs_semver.specs.Diagnosis.IgnoredWords.{if_ignored}
-use Rattle.nodejs_semver.specs.Internal.Ignored.{all_ignored, ignored_behind, ignored_of, ignored_within, kind_at, left_list, option_list, part_end}
+use Rattle.nodejs_semver.specs.Internal.Ignored.{all_ignored, ignored_behind, ignored_of, ignored_within}
+use Rattle.nodejs_semver.specs.Internal.Ignored.{kind_at, left_list, option_list, part_end}
 use Rattle.nodejs_semver.specs.Internal.PartFronts.{front_part, left_over}
 use Rattle.nodejs_semver.specs.Internal.Readings.{rest_view}
 use Rattle.nodejs_semver.specs.declared.diagnosis.left.Left.{Left}

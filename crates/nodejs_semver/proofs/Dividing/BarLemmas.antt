@@ -1,6 +1,7 @@
 -- The parts of a text, cut at its bars.
 use Rattle.semver_core.specs.Text.Characters.{begins}
-use Rattle.std.proofs.Common.{◌≡◌, ℕ, suc, ◌<◌, ◌≤◌, ◌+◌, List, [], ◌∷◌, length, drop, get_or, refl, ap, ◌∙◌, arith, true, false, Some, None, inl, inr, subst, Option, nat_lt, IsCharBoundary, IsUtf8}
+use Rattle.std.proofs.Common.{◌≡◌, ℕ, suc, ◌<◌, ◌≤◌, ◌+◌, List, [], ◌∷◌, length, drop, get_or, refl, ap, ◌∙◌, arith, true}
+use Rattle.std.proofs.Common.{false, Some, None, inl, inr, subst, Option, nat_lt, IsCharBoundary, IsUtf8}
 use Rattle.std.proofs.lemmas.Bool.{eqb-true, cases_Bool, cases_lt, lt-ltb, le-ltb}
 use Rattle.std.proofs.lemmas.Str.{IsCharBoundary-after_ascii, IsCharBoundary-before_ascii}
 use Rattle.std.proofs.lemmas.List.{drop_more, get_or-drop}

@@ -1,5 +1,7 @@
 -- What a text denotes is its one meaning.
-use Rattle.std.proofs.Common.{◌≡◌, ℕ, zero, suc, ◌<◌, ◌≤◌, List, [], ◌∷◌, ◌++◌, length, get_or, refl, sym, ap, ◌∙◌, arith, true, false, inl, inr, subst, append-nil, length-append, ◌↔◌, IfNone, IfSome, IsTrue, IsUtf8, Option, encode_utf8_all, map, filter_map, flat_map, encode_utf8, take_at, drop_at}
+use Rattle.std.proofs.Common.{◌≡◌, ℕ, zero, suc, ◌<◌, ◌≤◌, List, [], ◌∷◌, ◌++◌, length, get_or, refl, sym, ap, ◌∙◌, arith, true}
+use Rattle.std.proofs.Common.{false, inl, inr, subst, append-nil, length-append, ◌↔◌, IfNone, IfSome, IsTrue, IsUtf8, Option}
+use Rattle.std.proofs.Common.{encode_utf8_all, map, filter_map, flat_map, encode_utf8, take_at, drop_at}
 use Rattle.std.specs.List.{AllByRecursion, list_all}
 use Rattle.std.proofs.lemmas.Bool.{cases_Bool, false_from_ne_true, and_from}
 use Rattle.std.proofs.lemmas.List.Folds.{list_all-append}
@@ -14,7 +16,8 @@ use Rattle.semver_core.proofs.Text.Trims.{middle_is_trim, trim_is_middle, trim_p
 use Rattle.nodejs_semver.specs.Internal.Denotes.{denotes, part_bounds, part_denotes, part_intervals}
 use Rattle.nodejs_semver.specs.Internal.Parts.{cut_bars, parts}
 use Rattle.nodejs_semver.specs.Text.Bars.{IsCutAtBars, more_pieces, one_piece}
-use Rattle.nodejs_semver.specs.Text.Meaning.{AreAllIntervals, AreWords, HasRuns, IsBlankText, Means, all_intervals, blank_piece, every_version, next_piece, next_word, no_piece, no_word}
+use Rattle.nodejs_semver.specs.Text.Meaning.{AreAllIntervals, AreWords, HasRuns, IsBlankText, Means, all_intervals}
+use Rattle.nodejs_semver.specs.Text.Meaning.{blank_piece, every_version, next_piece, next_word, no_piece, no_word}
 use Rattle.nodejs_semver.specs.Ranges.View.{any_version}
 use Rattle.nodejs_semver.specs.Text.Runs.{Run}
 use Rattle.nodejs_semver.specs.Internal.RunsFrom.{runs_of}

@@ -8,7 +8,8 @@ use Rattle.std.specs.Ordering.{is_gt}
 use Rattle.nodejs_semver.specs.Internal.RunsFrom.{longer}
 use Rattle.semver_core.specs.Cuts.{Cut, Span, cut_cmp, greater_lower, holds, is_past, lesser_upper, lower_cut, upper_cut}
 use Rattle.semver_core.specs.declared.cuts.bound.Bound.{Bound}
-use Rattle.semver_core.proofs.CutLaws.{between_parts, cut_total, gt_lt, lt_trans, past_lt, is_past-greater_lower, is_past-lesser_upper}
+use Rattle.semver_core.proofs.CutLaws.{between_parts, cut_total, gt_lt, lt_trans, past_lt}
+use Rattle.semver_core.proofs.CutLaws.{is_past-greater_lower, is_past-lesser_upper}
 use Rattle.nodejs_semver.specs.Text.Runs.{Run, fits, greatest_lower, interval_of, least_upper}
 use Rattle.nodejs_semver.specs.Text.WrittenSet.{is_above, is_below, run_writes}
 

@@ -1,5 +1,6 @@
 -- What is made from the left is a division into runs.
-use Rattle.std.proofs.Common.{◌≡◌, ℕ, List, [], ◌∷◌, ◌++◌, refl, sym, ap, ◌∙◌, inl, inr, true, false, Bool, append_assoc, subst, Some, flat_map, filter_map, Option, Ordering, arith}
+use Rattle.std.proofs.Common.{◌≡◌, ℕ, List, [], ◌∷◌, ◌++◌, refl, sym, ap, ◌∙◌, inl, inr, true, false, Bool}
+use Rattle.std.proofs.Common.{append_assoc, subst, Some, flat_map, filter_map, Option, Ordering, arith}
 use Rattle.std.specs.List.{AllByRecursion, list_all, cons_option}
 use Rattle.std.proofs.lemmas.Bool.{and_parts, cases_Bool}
 use Rattle.semver_core.specs.Cuts.{Span, is_interval}

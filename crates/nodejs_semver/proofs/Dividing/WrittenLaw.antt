@@ -1,5 +1,6 @@
 -- What is computed of the versions that a text writes is what it writes.
-use Rattle.std.proofs.Common.{◌≡◌, ◌<◌, ℕ, zero, suc, List, [], ◌∷◌, length, get_or, ap, sym, ◌∙◌, true, false, inl, inr, Bool, arith, subst, refl, ◌↔◌, ◌||◌, IsTrue, IsUtf8, map}
+use Rattle.std.proofs.Common.{◌≡◌, ◌<◌, ℕ, zero, suc, List, [], ◌∷◌, length, get_or, ap, sym, ◌∙◌, true, false, inl}
+use Rattle.std.proofs.Common.{inr, Bool, arith, subst, refl, ◌↔◌, ◌||◌, IsTrue, IsUtf8, map}
 use Rattle.std.specs.List.{AllByRecursion, Any, list_any}
 use Rattle.std.proofs.lemmas.Bool.{cases_Bool, or_right}
 use Rattle.std.proofs.lemmas.List.Folds.{Any-from_list_any, list_any-from_Any}

@@ -1,5 +1,6 @@
 -- One part of a common text after another.
-use Rattle.std.proofs.Common.{◌≡◌, ℕ, zero, suc, ◌<◌, ◌≤◌, List, [], ◌∷◌, ◌++◌, length, refl, arith, true, false, Some, None, append_assoc}
+use Rattle.std.proofs.Common.{◌≡◌, ℕ, zero, suc, ◌<◌, ◌≤◌, List, [], ◌∷◌, ◌++◌, length, refl}
+use Rattle.std.proofs.Common.{arith, true, false, Some, None, append_assoc}
 use Rattle.std.specs.Prelude.{Option}
 use Rattle.semver_core.specs.Failures.{NoValue}
 use Rattle.semver_core.specs.Cuts.{Span}

@@ -1,5 +1,6 @@
 -- What the fast reader finds is the parts of a common text, and it finds each of them.
-use Rattle.std.proofs.Common.{◌≡◌, ℕ, zero, suc, ◌<◌, ◌≤◌, List, [], ◌∷◌, ◌++◌, length, drop, refl, ap, ◌∙◌, arith, true, false, Some, inl, inr, append-nil, append_assoc, length-append}
+use Rattle.std.proofs.Common.{◌≡◌, ℕ, zero, suc, ◌<◌, ◌≤◌, List, [], ◌∷◌, ◌++◌, length, drop, refl, ap, ◌∙◌, arith}
+use Rattle.std.proofs.Common.{true, false, Some, inl, inr, append-nil, append_assoc, length-append}
 use Rattle.std.specs.Prelude.{◌↔◌, Option, ◌==◌}
 use Rattle.std.proofs.lemmas.Bool.{cases_Bool, eqb-true}
 use Rattle.std.proofs.lemmas.Bool.Decides.{nat_tests}
@@ -14,7 +15,8 @@ use Rattle.nodejs_semver.specs.Internal.Fronts.{after_byte, Front}
 use Rattle.nodejs_semver.specs.Text.PartialText.{Partial}
 use Rattle.semver_core.specs.Internal.Reading.{◌>>?◌}
 use Rattle.nodejs_semver.specs.Text.Table.{table}
-use Rattle.nodejs_semver.specs.Text.WordText.{IsSign, above_sign, at_least_sign, at_most_sign, below_sign, equal_sign, Comparator, Word, above, at_least, at_most, below, hyphen, plain, tilde}
+use Rattle.nodejs_semver.specs.Text.WordText.{IsSign, above_sign, at_least_sign, at_most_sign, below_sign, equal_sign, Comparator}
+use Rattle.nodejs_semver.specs.Text.WordText.{Word, above, at_least, at_most, below, hyphen, plain, tilde}
 use Rattle.nodejs_semver.specs.Internal.Words.{comparator_at, tilde_sign}
 use Rattle.nodejs_semver.proofs.Everyday.Pieces.{bare-begins, bare-exact, bare-sound}
 use Rattle.nodejs_semver.proofs.Reading.Quiet.{Stop, stop-bar, stop-nil, stop-space}

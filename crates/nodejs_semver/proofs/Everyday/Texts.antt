@@ -1,5 +1,6 @@
 -- Everyday parts between bars denote their intervals: the parts are cut at the bars and are trimmed to themselves.
-use Rattle.std.proofs.Common.{◌≡◌, ℕ, ◌<◌, List, [], ◌∷◌, ◌++◌, length, map, refl, sym, ap, ◌∙◌, arith, true, false, inl, inr, append-nil, append_assoc, Some}
+use Rattle.std.proofs.Common.{◌≡◌, ℕ, ◌<◌, List, [], ◌∷◌, ◌++◌, length, map, refl, sym, ap, ◌∙◌, arith}
+use Rattle.std.proofs.Common.{true, false, inl, inr, append-nil, append_assoc, Some}
 use Rattle.std.specs.Prelude.{flat_map}
 use Rattle.std.specs.List.{list_all, onto_first}
 use Rattle.std.proofs.lemmas.Bool.{and_parts, cases_Bool, eqb-true}
@@ -10,14 +11,17 @@ use Rattle.semver_core.specs.Internal.Spaces.{after_spaces, drop_end_spaces, dro
 use Rattle.semver_core.specs.Lists.{is_empty}
 use Rattle.semver_core.specs.Values.Versions.{VersionValue}
 use Rattle.semver_core.proofs.Text.Spaces.{drop_spaces-none}
-use Rattle.nodejs_semver.specs.Text.Common.{IsCommonPart, IsCommonRange, IsCommonWord, IsGap, caret_word, compare_word, comparison, hyphen_word, more_parts, one_part, one_word, plain_word, tilde_greater_word, tilde_word, two_comparisons}
+use Rattle.nodejs_semver.specs.Text.Common.{IsCommonPart, IsCommonRange, IsCommonWord, IsGap, caret_word, compare_word}
+use Rattle.nodejs_semver.specs.Text.Common.{comparison, hyphen_word, more_parts, one_part, one_word, plain_word}
+use Rattle.nodejs_semver.specs.Text.Common.{tilde_greater_word, tilde_word, two_comparisons}
 use Rattle.nodejs_semver.specs.Internal.Denotes.{denotes, part_denotes}
 use Rattle.nodejs_semver.specs.Internal.Parts.{cut_bars, parts}
 use Rattle.nodejs_semver.specs.Text.Bars.{is_bar}
 use Rattle.nodejs_semver.specs.Text.Table.{table}
 use Rattle.nodejs_semver.specs.Text.WordText.{Word}
 use Rattle.nodejs_semver.proofs.Everyday.Compact.{Compact, compact-partial, compact-signed, is_part_byte}
-use Rattle.nodejs_semver.proofs.Everyday.Words.{Tidy, caret-tidy, compared-tidy, hyphen-tidy, no-greater, plain-tidy, tilde-tidy, two-tidy, space-gone}
+use Rattle.nodejs_semver.proofs.Everyday.Words.{Tidy, caret-tidy, compared-tidy, hyphen-tidy, no-greater}
+use Rattle.nodejs_semver.proofs.Everyday.Words.{plain-tidy, tilde-tidy, two-tidy, space-gone}
 use Rattle.nodejs_semver.proofs.Reading.Bytes.{all-join, is_solid, solid-dark}
 use Rattle.nodejs_semver.proofs.Reading.Components.{components-begin}
 

@@ -14,7 +14,8 @@ use Rattle.nodejs_semver.specs.Printing.RoundTrip.{bounds_back}
 use Rattle.nodejs_semver.specs.Ranges.Outside.{is_bounded}
 use Rattle.nodejs_semver.specs.Printing.Text.{bounds_text}
 use Rattle.nodejs_semver.specs.Text.Table.{table}
-use Rattle.nodejs_semver.specs.Text.WordText.{Comparator, IsSign, above_sign, at_least_sign, at_most_sign, below_sign, compare, at_least, above, equal, at_most, below}
+use Rattle.nodejs_semver.specs.Text.WordText.{Comparator, IsSign, above_sign, at_least_sign, at_most_sign, below_sign}
+use Rattle.nodejs_semver.specs.Text.WordText.{compare, at_least, above, equal, at_most, below}
 use Rattle.nodejs_semver.proofs.Everyday.Words.{Tidy, compared-tidy, plain-tidy, two-tidy}
 use Rattle.nodejs_semver.proofs.Printing.Versions.{components_are, whole}
 

@@ -1,10 +1,13 @@
 -- Each word takes a byte or more, so the list of words is a recursion.
-use Rattle.std.proofs.Common.{◌≡◌, ℕ, zero, suc, ◌<◌, ◌≤◌, List, [], ◌∷◌, length, refl, ap, arith, Some, None, length-append, false}
+use Rattle.std.proofs.Common.{◌≡◌, ℕ, zero, suc, ◌<◌, ◌≤◌, List, [], ◌∷◌, length, refl, ap}
+use Rattle.std.proofs.Common.{arith, Some, None, length-append, false}
 use Rattle.std.specs.Prelude.{nat_lt}
 use Rattle.std.proofs.lemmas.Option.{cond_some, same_Some}
 use Rattle.semver_core.specs.Internal.Spaces.{drop_spaces, space_len, after_spaces}
 use Rattle.nodejs_semver.specs.Text.WordText.{Word}
-use Rattle.nodejs_semver.specs.Internal.Words.{Reading, Sign, after_some_space, behind_sign, careted, compared, from_boundary, is_boundary, sign_at, tilde_sign, tilded, unsigned, upper_of, word_at, word_behind, words, words_within}
+use Rattle.nodejs_semver.specs.Internal.Words.{Reading, Sign, after_some_space, behind_sign, careted, compared}
+use Rattle.nodejs_semver.specs.Internal.Words.{from_boundary, is_boundary, sign_at, tilde_sign, tilded, unsigned}
+use Rattle.nodejs_semver.specs.Internal.Words.{upper_of, word_at, word_behind, words, words_within}
 use Rattle.nodejs_semver.specs.Internal.Fronts.{after_byte, component_front, dotted_front, drop_v, minor_front, partial_front}
 use Rattle.nodejs_semver.specs.Text.PartialText.{Partial}
 use Rattle.nodejs_semver.proofs.Reading.Components.{component-shorter, minor_front-le}

@@ -1,5 +1,6 @@
 -- The pre-release and the build at the front of a text: what is read is written there, and what is written is read.
-use Rattle.std.proofs.Common.{◌≡◌, ℕ, ◌≤◌, List, [], ◌∷◌, ◌++◌, length, take, drop, refl, sym, ap, arith, true, false, inl, inr, append-nil, append_assoc, length-append}
+use Rattle.std.proofs.Common.{◌≡◌, ℕ, ◌≤◌, List, [], ◌∷◌, ◌++◌, length, take, drop, refl, sym, ap, arith, true}
+use Rattle.std.proofs.Common.{false, inl, inr, append-nil, append_assoc, length-append}
 use Rattle.std.specs.Prelude.{◌&&◌}
 use Rattle.std.specs.Char.{is_ascii_digit}
 use Rattle.std.proofs.lemmas.Bool.{and_parts, cases_Bool}
@@ -10,7 +11,8 @@ use Rattle.semver_core.specs.Text.Identifiers.{Id, IsIdentifiers, goes_on, liste
 use Rattle.semver_core.specs.Text.VersionText.{IsBuild, IsPreRelease, begins_pre_release, dashed, bare, no_pre_release, plus, no_build}
 use Rattle.semver_core.specs.Internal.Reading.{list_len}
 use Rattle.nodejs_semver.specs.Internal.Fronts.{begins_byte, begins_identifier, build_front, front_len, pre_release_front}
-use Rattle.nodejs_semver.proofs.Reading.IdentifierLists.{front-ended, front-identifiers, front_len-none, written-begins, written-exact, written-le, written-spelled}
+use Rattle.nodejs_semver.proofs.Reading.IdentifierLists.{front-ended, front-identifiers, front_len-none, written-begins}
+use Rattle.nodejs_semver.proofs.Reading.IdentifierLists.{written-exact, written-le, written-spelled}
 use Rattle.nodejs_semver.proofs.Reading.Quiet.{Quiet, Stop, quiet-before}
 
 -- no run of digits goes on behind the list at the front

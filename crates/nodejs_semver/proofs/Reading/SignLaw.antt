@@ -8,7 +8,8 @@ use Rattle.nodejs_semver.specs.Internal.CommonViews.{both_view}
 use Rattle.nodejs_semver.specs.Text.Table.{table}
 use Rattle.semver_core.specs.Internal.Reading.{◌>>?◌}
 use Rattle.semver_core.specs.Internal.Spaces.{space_len}
-use Rattle.nodejs_semver.specs.Internal.Words.{Sign, hyphen_pushed, or_malformed, sign_at, upper_of, word_at, word_behind, word_pushed}
+use Rattle.nodejs_semver.specs.Internal.Words.{Sign, hyphen_pushed, or_malformed, sign_at, upper_of}
+use Rattle.nodejs_semver.specs.Internal.Words.{word_at, word_behind, word_pushed}
 use Rattle.nodejs_semver.specs.Internal.Fronts.{partial_front}
 use Rattle.nodejs_semver.specs.Text.PartialText.{Partial}
 use Rattle.nodejs_semver.specs.Text.WordText.{Word, hyphen, malformed}

@@ -1,5 +1,6 @@
 -- The word that is computed is the one that is written.
-use Rattle.std.proofs.Common.{◌≡◌, ◌⊎◌, ℕ, ◌<◌, ◌≤◌, Bool, List, [], ◌∷◌, ◌++◌, length, drop, refl, sym, ap, ◌∙◌, arith, true, false, Some, None, inl, inr, subst, append_assoc, length-append}
+use Rattle.std.proofs.Common.{◌≡◌, ◌⊎◌, ℕ, ◌<◌, ◌≤◌, Bool, List, [], ◌∷◌, ◌++◌, length, drop, refl, sym, ap, ◌∙◌, arith}
+use Rattle.std.proofs.Common.{true, false, Some, None, inl, inr, subst, append_assoc, length-append}
 use Rattle.std.specs.Prelude.{IfSome, ◌↔◌, ◌||◌, Option, IsUtf8, encode_utf8_all, ◌==◌, IsCharBoundary}
 use Rattle.std.specs.Char.{encode_utf8}
 use Rattle.std.proofs.Math.Seq.{get_or-append_seam}
@@ -13,11 +14,16 @@ use Rattle.semver_core.specs.Internal.Spaces.{drop_spaces, space_len}
 use Rattle.semver_core.proofs.Text.SpaceLaw.{space_len-dark, space_len-inside, space_len-white}
 use Rattle.semver_core.proofs.Text.Spaces.{drop_spaces-none, space_len-nil}
 use Rattle.semver_core.proofs.Text.Trims.{drop_spaces-blank}
-use Rattle.nodejs_semver.specs.Internal.Words.{upper_of, signed_word, Sign, after_some_space, at_boundary, behind_sign, careted, comparator_at, compared, comparing, from_boundary, is_boundary, or_equal, sign_at, tilde_sign, tilded, unsigned, upper_behind, word_at}
+use Rattle.nodejs_semver.specs.Internal.Words.{upper_of, signed_word, Sign, after_some_space, at_boundary, behind_sign, careted}
+use Rattle.nodejs_semver.specs.Internal.Words.{comparator_at, compared, comparing, from_boundary, is_boundary, or_equal, sign_at}
+use Rattle.nodejs_semver.specs.Internal.Words.{tilde_sign, tilded, unsigned, upper_behind, word_at}
 use Rattle.nodejs_semver.specs.Internal.Fronts.{after_byte, component_front, number_of, partial_front}
 use Rattle.nodejs_semver.specs.Text.PartialText.{Partial}
 use Rattle.nodejs_semver.specs.Text.LongestText.{IsLongestPartial}
-use Rattle.nodejs_semver.specs.Text.WordText.{IsBehind, IsBoundary, IsFirstBoundary, IsForm, IsHyphen, IsSign, IsWhole, IsWordAt, SkipsBlank, above_sign, at_least_sign, at_most_sign, below_sign, caret_form, compare_form, equal_sign, formed, hyphen_form, no_form, plain_form, tilde_form, tilde_greater_form, Comparator, Word, hyphen, plain}
+use Rattle.nodejs_semver.specs.Text.WordText.{IsBehind, IsBoundary, IsFirstBoundary, IsForm, IsHyphen, IsSign, IsWhole, IsWordAt}
+use Rattle.nodejs_semver.specs.Text.WordText.{SkipsBlank, above_sign, at_least_sign, at_most_sign, below_sign, caret_form}
+use Rattle.nodejs_semver.specs.Text.WordText.{compare_form, equal_sign, formed, hyphen_form, no_form, plain_form, tilde_form}
+use Rattle.nodejs_semver.specs.Text.WordText.{tilde_greater_form, Comparator, Word, hyphen, plain}
 use Rattle.nodejs_semver.proofs.Reading.Bytes.{solid-dark}
 use Rattle.nodejs_semver.proofs.Reading.Boundaries.{from_boundary-nil, from_boundary-stop, from_boundary-more}
 use Rattle.nodejs_semver.proofs.Reading.PartialLaw.{longest_are, spaced}

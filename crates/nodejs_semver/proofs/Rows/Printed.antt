@@ -9,7 +9,8 @@ use Rattle.semver_core.specs.Values.Versions.{VersionValue, release_value}
 use Rattle.semver_core.specs.declared.cuts.bound.Bound.{Bound}
 use Rattle.semver_core.specs.declared.cuts.bound.Bound.TheVariants.{Unbounded, Before, After}
 use Rattle.nodejs_semver.specs.Internal.Denotes.{denotes}
-use Rattle.nodejs_semver.specs.Internal.Fronts.{build_front, component_front, dotted_front, front_len, number_of, partial_front, pre_release_front}
+use Rattle.nodejs_semver.specs.Internal.Fronts.{build_front, component_front, dotted_front, front_len}
+use Rattle.nodejs_semver.specs.Internal.Fronts.{number_of, partial_front, pre_release_front}
 use Rattle.nodejs_semver.specs.Internal.Parts.{cut_bars}
 use Rattle.nodejs_semver.specs.Printing.Text.{range_text}
 use Rattle.nodejs_semver.specs.Internal.RunsFrom.{runs_from}

@@ -1,5 +1,6 @@
 -- Statement: the words of a range text that mean nothing, with their places and kinds.
-use Rattle.std.specs.Prelude.{◌≡◌, ℕ, ◌+◌, ◌-◌, true, if◌then◌else◌, List, [], ◌∷◌, ◌++◌, Option, Some, None, encode_utf8_all, is_some, length}
+use Rattle.std.specs.Prelude.{◌≡◌, ℕ, ◌+◌, ◌-◌, true, if◌then◌else◌, List, [], ◌∷◌, ◌++◌, Option}
+use Rattle.std.specs.Prelude.{Some, None, encode_utf8_all, is_some, length}
 use Rattle.std.specs.List.{AllByRecursion, list_all}
 use Rattle.semver_core.specs.Text.Characters.{IsTrim}
 use Rattle.nodejs_semver.specs.Text.Bars.{IsCutAtBars}
@@ -23,17 +24,17 @@ if_ignored (Some kind) start end = record { start = start; end = end; kind = kin
 -- the ignored words of a part, from the left. The part ends at this place of the text.
 pub data AreIgnoredOf (limit place : ℕ) : List ℕ → List IgnoredWord → Type 0 where
   no_word : AreIgnoredOf limit place [] []
-  next_word : (b : ℕ) (text behind next : List ℕ) (word : Word) (others : List IgnoredWord) → IsWordAt limit (b ∷ text) word behind
-      → SkipsBlank behind next → AreIgnoredOf limit place next others
-      → AreIgnoredOf limit place (b ∷ text) (if_ignored (ignored_as limit word) (place - length (b ∷ text)) (place - length behind) ++ others)
+  next_word : (b : ℕ) (text behind next : List ℕ) (word : Word) (others : List IgnoredWord)
+      → IsWordAt limit (b ∷ text) word behind → SkipsBlank behind next → AreIgnoredOf limit place next others
+      → AreIgnoredOf limit place (b ∷ text)
+      (if_ignored (ignored_as limit word) (place - length (b ∷ text)) (place - length behind) ++ others)
 
 -- those of all pieces, one piece after another. The first piece begins at this place of the text.
 pub data AreAllIgnored (limit : ℕ) : ℕ → List (List ℕ) → List IgnoredWord → Type 0 where
   no_piece : (place : ℕ) → AreAllIgnored limit place [] []
-  next_piece : (place : ℕ) (piece part : List ℕ) (pieces : List (List ℕ)) (words others : List IgnoredWord) (trimmed : IsTrim piece part)
-      → AreIgnoredOf limit (place + length (encode_utf8_all trimmed.before) + length part) part words
-      → AreAllIgnored limit (place + length piece + 2) pieces others
-      → AreAllIgnored limit place (piece ∷ pieces) (words ++ others)
+  next_piece : (place : ℕ) (piece part : List ℕ) (pieces : List (List ℕ)) (words more : List IgnoredWord)
+      (trim : IsTrim piece part) → AreIgnoredOf limit (place + length (encode_utf8_all trim.before) + length part) part words
+      → AreAllIgnored limit (place + length piece + 2) pieces more → AreAllIgnored limit place (piece ∷ pieces) (words ++ more)
 
 -- these are the ignored words of a range text, from the left
 abbrev pub AreIgnored : ℕ → List ℕ → List IgnoredWord → Type 0

@@ -59,4 +59,5 @@ abbrev pub IsFlaw : ℕ → List ℕ → VersionFlaw → Type 0
 IsFlaw limit text Flaw.TooLong = MAX_LENGTH < length text
 IsFlaw limit text (Flaw.NumberTooGreat at) = (length text ≤ MAX_LENGTH) × IsGreatAt limit text at
 IsFlaw limit text (Flaw.Expected what at) = (length text ≤ MAX_LENGTH) × IsExpectedAt limit text what at
-IsFlaw limit text (Flaw.Ignored at) = (v : VersionValue) × (p : Parses limit text v) × (p.reads.rest ≡ drop at text) × (at < length text)
+IsFlaw limit text (Flaw.Ignored at) = (v : VersionValue) × (p : Parses limit text v)
+    × (p.reads.rest ≡ drop at text) × (at < length text)

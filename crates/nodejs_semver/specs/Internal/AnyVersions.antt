@@ -32,7 +32,8 @@ abbrev pub lies_above : {V : Type 0} → (V → V → Ordering) → Span V → V
 lies_above R s v = (not (is_bounded s.lower) && not (is_bounded s.upper))
     || (is_bounded s.lower && not (is_past R (upper_cut s.upper) v))
 
-abbrev pub is_outside : {V : Type 0} → (V → V → Ordering) → (V → VersionValue) → OutsideDirection → Bool → List (Span V) → V → Bool
+abbrev pub is_outside : {V : Type 0} → (V → V → Ordering) → (V → VersionValue)
+    → OutsideDirection → Bool → List (Span V) → V → Bool
 is_outside R value d include ss v = not (accepts R value ss v include)
     && list_all (λ s. elim d [ Higher ↦ lies_below R s v | Lower ↦ lies_above R s v ]) ss
 

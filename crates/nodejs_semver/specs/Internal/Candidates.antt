@@ -1,5 +1,6 @@
 -- For proofs and private contracts: the versions among which the least ones are found.
-use Rattle.std.specs.Prelude.{◌≡◌, ◌+◌, Bool, true, false, ◌&&◌, not, List, [], ◌∷◌, ◌++◌, if◌then◌else◌, Option, Some, None, fold, ⊤, ◌<◌, ◌^◌, ◌-◌}
+use Rattle.std.specs.Prelude.{◌≡◌, ◌+◌, Bool, true, false, ◌&&◌, not, List, [], ◌∷◌, ◌++◌}
+use Rattle.std.specs.Prelude.{if◌then◌else◌, Option, Some, None, fold, ⊤, ◌<◌, ◌^◌, ◌-◌}
 use Rattle.std.specs.List.{flat_map, list_all}
 use Rattle.std.specs.Ordering.{is_le, is_lt}
 use Rattle.semver_core.specs.Internal.Sides.{Near, Far}

@@ -27,6 +27,7 @@ begins_dot text = begins (λ b. b == 46) text
 pub data Stuck (limit : ℕ) (text : List ℕ) : ℕ → ℕ → VersionFlaw → Type 0 where
   at_great : (k at : ℕ) → BeginsGreat limit (drop at text) → Stuck limit text k at (Flaw.NumberTooGreat at)
   at_digit : (k at : ℕ) → begins is_ascii_digit (drop at text) ≡ false → Stuck limit text k at (Flaw.Expected Digit at)
-  at_dot : (k at end : ℕ) → IsNumberAt limit text at end → begins_dot (drop end text) ≡ false → Stuck limit text (suc k) at (Flaw.Expected Dot end)
-  later : (k at end : ℕ) (flaw : VersionFlaw) → IsNumberAt limit text at end → begins_dot (drop end text) ≡ true → Stuck limit text k (end + 1) flaw
-      → Stuck limit text (suc k) at flaw
+  at_dot : (k at end : ℕ) → IsNumberAt limit text at end → begins_dot (drop end text) ≡ false
+      → Stuck limit text (suc k) at (Flaw.Expected Dot end)
+  later : (k at end : ℕ) (flaw : VersionFlaw) → IsNumberAt limit text at end → begins_dot (drop end text) ≡ true
+      → Stuck limit text k (end + 1) flaw → Stuck limit text (suc k) at flaw

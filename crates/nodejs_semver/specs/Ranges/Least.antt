@@ -1,4 +1,5 @@
--- Statement: the least version that a range accepts, the least that it accepts and another does not, and the least that several accept.
+-- Statement: the least version that a range accepts, the least that it accepts and another does not, and the least that several
+-- accept.
 use Rattle.std.specs.Prelude.{◌≡◌, ◌+◌, Bool, true, false, ◌&&◌, not, List, [], ◌∷◌, ◌++◌, if◌then◌else◌, Option, Some, None, find, option_and_then}
 use Rattle.std.specs.Ordering.{is_le}
 use Rattle.semver_core.specs.Cuts.{Span, holds}

@@ -30,8 +30,8 @@ run_writes R v r = list_all (λ s. is_above R s.lower v && is_below R s.upper v)
 
 -- what stands between bars writes the version: it is whitespace alone, or the version is in what some one of its runs writes
 abbrev pub PieceWrites : ℕ → VersionValue → List ℕ → Type 0
-PieceWrites limit v piece =
-    IsBlank piece ⊎ ((runs : List (Run VersionValue)) × HasRuns limit piece runs × (list_any (run_writes precedence v) runs ≡ true))
+PieceWrites limit v piece = IsBlank piece
+    ⊎ ((runs : List (Run VersionValue)) × HasRuns limit piece runs × (list_any (run_writes precedence v) runs ≡ true))
 
 -- the text writes the version: some one of its pieces does
 unfoldable pub Writes : ℕ → List ℕ → VersionValue → Type 0

@@ -1,5 +1,6 @@
 -- The last number of a list.
-use Rattle.std.proofs.Common.{◌≡◌, refl, sym, ap, ◌∙◌, ℕ, ◌+◌, ◌<◌, ◌≤◌, Bool, true, false, List, [], ◌∷◌, ◌++◌, length, take, get_or, append_assoc, arith}
+use Rattle.std.proofs.Common.{◌≡◌, refl, sym, ap, ◌∙◌, ℕ, ◌+◌, ◌<◌, ◌≤◌, Bool, true, false, List, []}
+use Rattle.std.proofs.Common.{◌∷◌, ◌++◌, length, take, get_or, append_assoc, arith}
 use Rattle.std.specs.Prelude.{Option, Some, None, set, Result, Ok, Err}
 use Rattle.std.proofs.Common.{drop}
 use Rattle.std.proofs.Math.Seq.{take-append_seam}

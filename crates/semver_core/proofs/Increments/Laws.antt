@@ -1,5 +1,6 @@
 -- The versions that `inc` returns: they are the least ones, above the version, and keep its build.
-use Rattle.std.proofs.Common.{◌≡◌, refl, ◌∙◌, ap, subst, ℕ, ◌+◌, ◌-◌, ◌^◌, ◌<◌, ◌≤◌, ◌==◌, ◌&&◌, not, Bool, true, false, List, [], ◌∷◌, ◌++◌, length, arith, if◌then◌else◌, codes}
+use Rattle.std.proofs.Common.{◌≡◌, refl, ◌∙◌, ap, subst, ℕ, ◌+◌, ◌-◌, ◌^◌, ◌<◌, ◌≤◌, ◌==◌, ◌&&◌, not, Bool, true}
+use Rattle.std.proofs.Common.{false, List, [], ◌∷◌, ◌++◌, length, arith, if◌then◌else◌, codes}
 use Rattle.std.specs.Prelude.{Result, Ok, Err, IsOkAnd, ⊤}
 use Rattle.std.proofs.lemmas.Bool.{and_parts}
 use Rattle.std.proofs.lemmas.Slice.Eq.{bytes_eq-Decides}
@@ -11,7 +12,9 @@ use Rattle.std.specs.Cmp.Lexicographic.{slice_cmp}
 use Rattle.std.proofs.lemmas.Bool.Decides.{nat_tests}
 use Rattle.std.proofs.lemmas.List.Elements.{All-nil, All-cons}
 use Rattle.semver_core.specs.Text.Identifiers.{Id, Numeric, AlphaNumeric}
-use Rattle.semver_core.specs.Increments.Table.{checked, incremented, by_word, Fault, Overflow, InvalidIncrementArgument, is_false, one_more, next_major, next_minor, next_patch, pre_step, release_of, has_numeric, raise_last, advance, identify, first_number, ◌>>=◌}
+use Rattle.semver_core.specs.Increments.Table.{checked, incremented, by_word, Fault, Overflow, InvalidIncrementArgument, is_false}
+use Rattle.semver_core.specs.Increments.Table.{one_more, next_major, next_minor, next_patch, pre_step, release_of, has_numeric}
+use Rattle.semver_core.specs.Increments.Table.{raise_last, advance, identify, first_number, ◌>>=◌}
 use Rattle.semver_core.specs.Internal.IncrementSteps.{list_text}
 use Rattle.semver_core.specs.Lists.{is_empty}
 use Rattle.std.specs.Cmp.{tied_itself}
@@ -19,7 +22,9 @@ use Rattle.std.specs.Str.{bytes_eq}
 use Rattle.semver_core.specs.Internal.OrderLaws.{id_total}
 use Rattle.semver_core.specs.Increments.Least.{IsLeastOrOverflow, IsLeastVersion, IsAbove}
 use Rattle.semver_core.specs.Values.Order.{id_cmp, pre_cmp}
-use Rattle.semver_core.specs.Internal.Successors.{Below, by_major, by_minor, by_patch, by_pre, below_cases, less_first, above_major, above_minor, above_patch, above_pre, upto_patch, zero_least, below_more, empty_not_below}
+use Rattle.semver_core.specs.Internal.Successors.{Below, by_major, by_minor, by_patch, by_pre, below_cases, less_first}
+use Rattle.semver_core.specs.Internal.Successors.{above_major, above_minor, above_patch, above_pre, upto_patch}
+use Rattle.semver_core.specs.Internal.Successors.{zero_least, below_more, empty_not_below}
 use Rattle.semver_core.proofs.Values.NextLaws.{least_after_release, next_of_pre_release}
 use Rattle.semver_core.specs.Values.Versions.{VersionValue, IsVersion, IsId, is_release}
 use Rattle.semver_core.specs.declared.increment.IdentifierBase.{IdentifierBase}

@@ -1,5 +1,6 @@
 -- Serves proofs: what a loop over identifiers has written.
-use Rattle.std.proofs.Common.{◌≡◌, ◌<◌, ◌+◌, ◌*◌, ℕ, zero, suc, List, [], ◌∷◌, ◌++◌, arith, refl, ap, ◌∙◌, append_assoc, append-nil}
+use Rattle.std.proofs.Common.{◌≡◌, ◌<◌, ◌+◌, ◌*◌, ℕ, zero, suc, List, [], ◌∷◌, ◌++◌, arith}
+use Rattle.std.proofs.Common.{refl, ap, ◌∙◌, append_assoc, append-nil}
 use Rattle.std.specs.Fmt.{decimal, digits}
 use Rattle.std.specs.List.{slice_range}
 use Rattle.std.specs.Prelude.{codes}

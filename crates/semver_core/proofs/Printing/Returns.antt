@@ -1,5 +1,6 @@
 -- Serves proofs: a printed version reads as itself.
-use Rattle.std.proofs.Common.{zero, suc, refl, ◌≡◌, ◌<◌, ◌≤◌, ◌^◌, ◌==◌, ℕ, true, false, ltb, List, [], ◌∷◌, ◌++◌, length, map, sym, ap, ◌∙◌, arith, eqb, subst, append-nil}
+use Rattle.std.proofs.Common.{zero, suc, refl, ◌≡◌, ◌<◌, ◌≤◌, ◌^◌, ◌==◌, ℕ, true, false, ltb, List, [], ◌∷◌}
+use Rattle.std.proofs.Common.{◌++◌, length, map, sym, ap, ◌∙◌, arith, eqb, subst, append-nil}
 use Rattle.std.specs.Prelude.{not}
 use Rattle.std.proofs.lemmas.Bool.{and_parts, lt-ltb, not-true}
 use borrow.Author.Tests.{ltb-true}

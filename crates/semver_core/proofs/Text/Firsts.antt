@@ -1,5 +1,6 @@
 -- A text that spells a list of identifiers spells the first one and then the others.
-use Rattle.std.proofs.Common.{◌≡◌, ℕ, ◌<◌, ◌≤◌, ◌+◌, List, [], ◌∷◌, length, drop, take, refl, sym, ap, ◌∙◌, arith, true, false, inl, inr, add-one, add_comm, zero-add, Option, Some}
+use Rattle.std.proofs.Common.{◌≡◌, ℕ, ◌<◌, ◌≤◌, ◌+◌, List, [], ◌∷◌, length, drop, take, refl, sym, ap, ◌∙◌, arith}
+use Rattle.std.proofs.Common.{true, false, inl, inr, add-one, add_comm, zero-add, Option, Some}
 use Rattle.std.specs.Prelude.{◌==◌, eqb, map}
 use Rattle.semver_core.specs.Lists.{is_empty}
 use Rattle.std.specs.Cmp.Lexicographic.{slice_cmp}

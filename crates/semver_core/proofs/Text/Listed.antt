@@ -1,5 +1,6 @@
 -- A text that spells a list of identifiers is its own longest list.
-use Rattle.std.proofs.Common.{◌≡◌, ℕ, ◌<◌, ◌+◌, get_or, List, [], ◌∷◌, length, refl, sym, ap, ◌∙◌, arith, take, true, Some, inl, inr, append-nil}
+use Rattle.std.proofs.Common.{◌≡◌, ℕ, ◌<◌, ◌+◌, get_or, List, [], ◌∷◌, length, refl, sym, ap, ◌∙◌}
+use Rattle.std.proofs.Common.{arith, take, true, Some, inl, inr, append-nil}
 use Rattle.std.specs.Prelude.{◌==◌, IsUtf8, eqb}
 use Rattle.std.specs.Str.{IsAscii}
 use Rattle.std.proofs.lemmas.Bool.{cases_Bool, eqb-true}

@@ -1,5 +1,7 @@
 -- Runs of identifier characters, and lists of them.
-use Rattle.std.proofs.Common.{◌≡◌, ◌<◌, ◌≤◌, ◌+◌, ◌-◌, ◌^◌, ◌==◌, ℕ, true, false, List, [], ◌∷◌, ◌++◌, length, drop, take, get_or, map, refl, sym, ap, ◌∙◌, arith, Some, ltb, eqb, rules, inl, inr, add_comm, add-one, suc, append_assoc, zero-add}
+use Rattle.std.proofs.Common.{◌≡◌, ◌<◌, ◌≤◌, ◌+◌, ◌-◌, ◌^◌, ◌==◌, ℕ, true, false, List, [], ◌∷◌, ◌++◌, length}
+use Rattle.std.proofs.Common.{drop, take, get_or, map, refl, sym, ap, ◌∙◌, arith, Some, ltb, eqb, rules, inl}
+use Rattle.std.proofs.Common.{inr, add_comm, add-one, suc, append_assoc, zero-add}
 use Rattle.std.proofs.lemmas.Bool.{cases_Bool, eqb-true}
 use Rattle.std.proofs.Math.Seq.{take-add, drop-cons}
 use Rattle.std.proofs.lemmas.List.{get_or-take, length-take, length-drop, get_or-drop, drop-drop}

@@ -1,5 +1,6 @@
 -- Serves proofs. The text without the whitespace round it, by bytes and by characters.
-use Rattle.std.proofs.Common.{◌≡◌, ℕ, ◌<◌, ◌≤◌, ◌-◌, ◌+◌, ◌/◌, ◌%◌, List, [], ◌∷◌, ◌++◌, length, drop, take, refl, sym, ap, ◌∙◌, subst, arith, true, false, inl, inr, append_assoc, append-nil}
+use Rattle.std.proofs.Common.{◌≡◌, ℕ, ◌<◌, ◌≤◌, ◌-◌, ◌+◌, ◌/◌, ◌%◌, List, [], ◌∷◌, ◌++◌, length, drop, take, refl, sym, ap}
+use Rattle.std.proofs.Common.{◌∙◌, subst, arith, true, false, inl, inr, append_assoc, append-nil}
 use Rattle.std.specs.Prelude.{⊤, encode_utf8_all, IsCharBoundary, IsUtf8, reverse}
 use Rattle.std.specs.Char.{encode_utf8, len_utf8, IsScalar}
 use Rattle.std.specs.List.{list_all}
@@ -7,7 +8,8 @@ use Rattle.std.proofs.lemmas.Bool.{and_parts, and_from, cases_Bool, cases_lt, lt
 use Rattle.std.proofs.lemmas.List.{length-drop, drop_at, reverse-append, length-reverse}
 use Rattle.std.proofs.lemmas.List.Folds.{drop_split, list_all-append}
 use Rattle.std.proofs.Math.Seq.{take-append_seam}
-use Rattle.std.proofs.lemmas.Str.{IsCharBoundary-at_seam, IsUtf8-drop, IsUtf8-encode, IsUtf8-take, encode_ascii, encodes-append, length-encode, len_utf8_bounds}
+use Rattle.std.proofs.lemmas.Str.{IsCharBoundary-at_seam, IsUtf8-drop, IsUtf8-encode, IsUtf8-take}
+use Rattle.std.proofs.lemmas.Str.{encode_ascii, encodes-append, length-encode, len_utf8_bounds}
 use Rattle.semver_core.specs.Text.Characters.{is_whitespace, begins, IsTrim, BeginsBlank, IsAfterBlank}
 use Rattle.semver_core.specs.Internal.Spaces.{space_len, after_spaces, drop_spaces, drop_end_spaces, trim}
 use Rattle.semver_core.specs.Lists.{is_empty}

@@ -1,5 +1,6 @@
 -- The fast reader's answer is the common text's version.
-use Rattle.std.proofs.Common.{◌≡◌, ◌<◌, ◌≤◌, ℕ, true, false, List, [], ◌∷◌, ◌++◌, length, drop, take, get_or, Option, Some, None, refl, sym, ap, ◌∙◌, arith, inl, inr, eqb}
+use Rattle.std.proofs.Common.{◌≡◌, ◌<◌, ◌≤◌, ℕ, true, false, List, [], ◌∷◌, ◌++◌, length, drop, take, get_or}
+use Rattle.std.proofs.Common.{Option, Some, None, refl, sym, ap, ◌∙◌, arith, inl, inr, eqb}
 use Rattle.std.proofs.lemmas.Bool.{cases_Bool, eqb-true}
 use Rattle.std.proofs.lemmas.Bool.Decides.{nat_tests}
 use Rattle.std.proofs.lemmas.List.{take-append-drop, drop_all}
@@ -15,7 +16,8 @@ use Rattle.semver_core.specs.Text.Identifiers.{Id}
 use Rattle.semver_core.specs.Internal.Reading.{triple_at, lists_at, qualified, version_at, HasOneReading}
 use Rattle.semver_core.specs.Values.Versions.{VersionValue, HasIdentifiers}
 use Rattle.semver_core.proofs.Text.Pieces.{some_inside}
-use Rattle.semver_core.proofs.Text.Texts.{memory_read, rest_of, divided_at, bind_some, none_build, number_begins, none_pre, read_at, version_sound}
+use Rattle.semver_core.proofs.Text.Texts.{memory_read, rest_of, divided_at, bind_some, none_build}
+use Rattle.semver_core.proofs.Text.Texts.{number_begins, none_pre, read_at, version_sound}
 
 at_end_some : {A : Type 0} (rest : List ℕ) (x y : A) → at_end rest x ≡ Some y → (rest ≡ []) × (x ≡ y)
 at_end_some [] x y e = (refl, some_inside x y e)

@@ -108,8 +108,7 @@ by_word word id base v = if bytes_eq word (codes "major")
 -- the two checks: what is given as the identifier may be several, joined by dots
 abbrev pub checked : List ℕ → IdentifierBase → Result ⊤ Fault
 checked id base = if is_empty id && is_false base then Err (InvalidIncrementArgument (codes "identifier is empty"))
-    else if is_empty id || list_all is_identifier (pieces id) then Ok tt
-    else Err (InvalidIdentifier id)
+    else if is_empty id || list_all is_identifier (pieces id) then Ok tt else Err (InvalidIdentifier id)
 
 -- the checks where the word begins with `pre`, also where it is none of the words, and then the word's row
 abbrev pub incremented : VersionValue → List ℕ → List ℕ → IdentifierBase → Result VersionValue Fault

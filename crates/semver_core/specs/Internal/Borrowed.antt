@@ -8,7 +8,13 @@ use Rattle.semver_core.specs.declared.borrowed.order.IdRef.TheVariants as varian
 
 -- the five values of the version
 abbrev pub borrowed_value : Inside → VersionValue
-borrowed_value v = record { major = v.major; minor = v.minor; patch = v.patch; pre_release = listed v.pre_release.now; build = listed v.build.now }
+borrowed_value v = record {
+  major = v.major;
+  minor = v.minor;
+  patch = v.patch;
+  pre_release = listed v.pre_release.now;
+  build = listed v.build.now;
+}
 
 -- both texts spell lists of identifiers
 pub record IsListed (v : Inside) : Type 0 where

@@ -1,8 +1,10 @@
 -- For proofs and private contracts: what the steps of `inc` say to one another.
-use Rattle.std.specs.Prelude.{◌≡◌, ◌==◌, ◌&&◌, not, if◌then◌else◌, ℕ, List, [], ◌∷◌, ◌++◌, length, map, Option, Some, None, Result, Ok, Err, ⊤, false}
+use Rattle.std.specs.Prelude.{◌≡◌, ◌==◌, ◌&&◌, not, if◌then◌else◌, ℕ, List, [], ◌∷◌, ◌++◌, length}
+use Rattle.std.specs.Prelude.{map, Option, Some, None, Result, Ok, Err, ⊤, false}
 use Rattle.std.specs.List.{join_with_byte}
 use Rattle.semver_core.specs.Text.Identifiers.{Id, Numeric, AlphaNumeric}
-use Rattle.semver_core.specs.Increments.Table.{◌>>=◌, Fault, NotAPrerelease, advance, first_number, has_numeric, identify, is_false, next_major, next_minor, next_patch, pre_step, release_of}
+use Rattle.semver_core.specs.Increments.Table.{◌>>=◌, Fault, NotAPrerelease, advance, first_number, has_numeric, identify}
+use Rattle.semver_core.specs.Increments.Table.{is_false, next_major, next_minor, next_patch, pre_step, release_of}
 use Rattle.semver_core.specs.Increments.View.{fault_of}
 use Rattle.semver_core.specs.Printing.Text.{id_text, version_text}
 use Rattle.semver_core.specs.Values.Versions.{VersionValue, is_release}

@@ -20,11 +20,12 @@ use Rattle.semver_lines.specs.declared.question.AboutBest.TheVariants.{Max, Min}
 
 -- a text was parsed as a version, or as a range
 abbrev pub ParsesVersion : List ℕ → Result VersionValue SemverError → Type 0
-ParsesVersion text result = IfOk result (Parses MAX_SAFE_INTEGER text) × IfErr result (λ _. NoValue (Parses MAX_SAFE_INTEGER text))
+ParsesVersion text result =
+    IfOk result (Parses MAX_SAFE_INTEGER text) × IfErr result (λ _. NoValue (Parses MAX_SAFE_INTEGER text))
 
 abbrev pub ParsesRange : List ℕ → Result (List (Span VersionValue)) (Failure SemverError) → Type 0
-ParsesRange text result =
-    IfOk result (Means MAX_SAFE_INTEGER text) × IfOk result (λ ss. 0 < length ss) × RefusedOnlyIf result (Means MAX_SAFE_INTEGER text [])
+ParsesRange text result = IfOk result (Means MAX_SAFE_INTEGER text) × IfOk result (λ ss. 0 < length ss)
+    × RefusedOnlyIf result (Means MAX_SAFE_INTEGER text [])
 
 -- a text is none, by this error, unless an allocation failed
 abbrev pub IsFault : {B : Type 0} → Failure Fault → (Result B Fault → Type 0) → Type 0
@@ -42,7 +43,8 @@ IsBestOf Max r = IsMax (λ v. accepts r v false)
 IsBestOf Min r = IsMin (λ v. accepts r v false)
 
 -- some texts are read as versions, of which this is the best
-pub record FindsBest (asked : AboutBest) (r : List (Span VersionValue)) (texts : List (List ℕ)) (best : Option VersionValue) : Type 0 where
+pub record FindsBest (asked : AboutBest) (r : List (Span VersionValue)) (texts : List (List ℕ))
+    (best : Option VersionValue) : Type 0 where
   pub versions : List VersionValue
   pub read : AreVersionsOf texts (Ok versions)
   pub is : IsBestOf asked r versions best

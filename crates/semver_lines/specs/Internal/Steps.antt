@@ -43,7 +43,8 @@ pub record WritesFront (held holds : Option (List ℕ)) (bytes : List ℕ) : Typ
   pub appended : Appends held holds front
 
 -- these bytes were read, and what is said of the lines that end in them was written
-pub record Turned (Said : List (List ℕ) → List ℕ → Type 0) (had left held holds : Option (List ℕ)) (pending after bytes : List ℕ) : Type 0 where
+pub record Turned (Said : List (List ℕ) → List ℕ → Type 0) (had left held holds : Option (List ℕ))
+    (pending after bytes : List ℕ) : Type 0 where
   pub written : List ℕ
   pub consumed : Consumes had left bytes
   pub appended : Appends held holds written

@@ -1,6 +1,8 @@
 use Rattle.std.proofs.Common.{refl, rules}
 use Rattle.std.proofs.Output.{has_written_styled_append, has_written_styled_of_eq}
-use Rattle.nodejs_semver.proofs.range.print.write_interval.Goals.{in_default-via-in-Before-After+else-is_eq, in_default-via-in-Before+in_default, in_default-via-in_default+in_default}
+use Rattle.nodejs_semver.proofs.range.print.write_interval.Goals.{in_default-via-in-Before-After+else-is_eq}
+use Rattle.nodejs_semver.proofs.range.print.write_interval.Goals.{in_default-via-in-Before+in_default}
+use Rattle.nodejs_semver.proofs.range.print.write_interval.Goals.{in_default-via-in_default+in_default}
 use Rattle.nodejs_semver.proofs.range.print.write_interval.Goals as goal
 
 pub returns-in_ok-write_str-in_default : goal.returns-in_ok-write_str-in_default

@@ -5,7 +5,8 @@ use Rattle.semver_core.specs.Values.Versions.{VersionValue}
 use Rattle.semver_core.specs.declared.TheConstants.{MAX_SAFE_INTEGER}
 use Rattle.nodejs_semver.specs.Internal.Meets.{next_at}
 use Rattle.nodejs_semver.specs.Internal.Denotes.{part_intervals}
-use Rattle.nodejs_semver.proofs.Dividing.PartSteps.{part-begins, part-last, part-step, read-is, read-next, read-shorter, read-starts}
+use Rattle.nodejs_semver.proofs.Dividing.PartSteps.{part-begins, part-last, part-step, read-is}
+use Rattle.nodejs_semver.proofs.Dividing.PartSteps.{read-next, read-shorter, read-starts}
 use Rattle.nodejs_semver.proofs.readers.intervals.read_part.Goals as goal
 
 pub words-init : goal.words-init

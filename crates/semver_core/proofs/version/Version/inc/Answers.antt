@@ -8,7 +8,9 @@ use Rattle.semver_core.specs.Increments.View.{Returns}
 use Rattle.semver_core.specs.Values.Versions.{VersionValue}
 use Rattle.semver_core.specs.declared.increment.IdentifierBase.TheVariants.{Value}
 use Rattle.semver_core.proofs.Increments.Clauses.{of_word, of_plain_word, above_of, build_of}
-use Rattle.semver_core.proofs.Increments.Laws.{IsNextPatch, IsNextMinor, IsNextMajor, IsMinorAbove, IsPatchAbove, patch_least, minor_least, major_least, premajor_least, preminor_least, prepatch_least, prerelease_least}
+use Rattle.semver_core.proofs.Increments.Laws.{IsNextPatch, IsNextMinor, IsNextMajor, IsMinorAbove, IsPatchAbove}
+use Rattle.semver_core.proofs.Increments.Laws.{patch_least, minor_least, major_least, premajor_least}
+use Rattle.semver_core.proofs.Increments.Laws.{preminor_least, prepatch_least, prerelease_least}
 use Rattle.semver_core.proofs.version.Version.inc.Goals as goal
 
 pub returns : goal.returns

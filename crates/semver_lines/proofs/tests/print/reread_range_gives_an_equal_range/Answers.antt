@@ -5,7 +5,8 @@ use Rattle.semver_core.specs.declared.TheConstants.{MAX_SAFE_INTEGER}
 use Rattle.semver_core.specs.Internal.Spaces.{space_len, after_spaces, drop_end_spaces}
 use Rattle.semver_core.specs.Internal.Reading.{list_len}
 use Rattle.semver_core.specs.Text.Identifiers.{listed}
-use Rattle.nodejs_semver.specs.Internal.Fronts.{build_front, component_front, dotted_front, front_len, number_of, partial_front, pre_release_front}
+use Rattle.nodejs_semver.specs.Internal.Fronts.{build_front, component_front, dotted_front, front_len}
+use Rattle.nodejs_semver.specs.Internal.Fronts.{number_of, partial_front, pre_release_front}
 use Rattle.nodejs_semver.specs.Internal.Parts.{cut_bars}
 use Rattle.nodejs_semver.specs.Internal.RunsFrom.{runs_from}
 use Rattle.nodejs_semver.specs.Text.Table.{table}
