@@ -40,6 +40,9 @@ fn main(rt: HostRuntime) -> io::Result<()> {
         ranges::ask_many(alloc, &mut calls, count)?;
         println!(rt; "{count} intervals: {calls}")?;
     }
+    let mut calls = Calls::new();
+    ranges::ask_empty(alloc, &mut calls)?;
+    println!(rt; "ranges that accept no version: {calls}")?;
     for length in texts::LENGTHS {
         let mut calls = Calls::new();
         ranges::ask_long(alloc, &mut calls, length)?;

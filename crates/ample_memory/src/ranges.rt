@@ -39,6 +39,18 @@ pub fn ask_long(alloc: Global, calls: &mut Calls, length: usize) -> Result<(), A
     Ok(())
 }
 
+/// Makes each call on ranges about ranges that accept no version.
+pub fn ask_empty(alloc: Global, calls: &mut Calls) -> Result<(), AllocError> {
+    for text in [
+        "<0.0.0",
+        ">1.0.0 <1.0.1-0",
+        "<0.0.0||>1.0.0 <1.0.1-0||>1.0.0-a <1.0.0-a.0",
+    ] {
+        ask(alloc, calls, text)?;
+    }
+    Ok(())
+}
+
 // Makes each call on ranges about that of a text.
 fn ask(alloc: Global, calls: &mut Calls, text: &str) -> Result<(), AllocError> {
     calls.answered(headline(alloc, text, "^3 || 5.x"))?;

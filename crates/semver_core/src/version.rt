@@ -15,7 +15,7 @@ ghost use Rattle.semver_core.specs.Internal.Inside.{pre_release_of};
 pub mod accepts;
 mod convert;
 pub(crate) mod lists;
-mod order;
+pub(crate) mod order;
 pub mod parts;
 pub mod versioned;
 

@@ -2,7 +2,6 @@
 
 ghost use Rattle.std.specs.Cmp.{eq_by_cmp_equiv, partial_equiv_from_equiv, po};
 ghost use Rattle.std.specs.Cmp.Lexicographic.{slice_cmp};
-ghost use Rattle.std.specs.Ordering.{nat_cmp, ordering_then};
 ghost use Rattle.std.specs.Prelude.{◌≡◌, ◌<◌, ◌≤◌, ◌∷◌, IsUtf8, Some, drop, length, refl};
 ghost use Rattle.std.specs.Prelude.{take, true};
 ghost use Rattle.semver_core.specs.Internal.OrderLaws.{precedence_total};
@@ -11,6 +10,7 @@ ghost use Rattle.semver_core.specs.Text.Identifiers.{identifier_of, is_listed, l
 ghost use Rattle.semver_core.specs.Internal.Borrowed.{HasText, id_ref_view};
 ghost use Rattle.semver_core.specs.Values.Order.{id_cmp, pre_cmp, precedence, version_eq};
 
+use crate::version::order::{Compared, by_precedence};
 use crate::{VersionRef, scan};
 use std::cmp::Ordering;
 
@@ -129,19 +129,27 @@ fn cmp_pre(a: &[u8], b: &[u8]) -> Ordering
     }
 }
 
-// The order of versions of the same first number.
-#[inline(always)]
-fn cmp_behind_major(v: &VersionRef<'_>, w: &VersionRef<'_>) -> Ordering
-    ensures { result ≡ ordering_then (nat_cmp v.now.minor w.now.minor)
-        (ordering_then (nat_cmp v.now.patch w.now.patch)
-        (pre_cmp v.now.pre_release w.now.pre_release)) }
-{
-    match v.minor.cmp(&w.minor) {
-        Ordering::Equal => match v.patch.cmp(&w.patch) {
-            Ordering::Equal => cmp_pre(v.pre_release, w.pre_release),
-            order => order,
-        },
-        order => order,
+impl<'a> Compared for VersionRef<'a> {
+    ghost seen = { λ v. v };
+
+    #[inline(always)]
+    fn first(&self) -> u64 {
+        self.major
+    }
+
+    #[inline(always)]
+    fn second(&self) -> u64 {
+        self.minor
+    }
+
+    #[inline(always)]
+    fn third(&self) -> u64 {
+        self.patch
+    }
+
+    #[inline(always)]
+    fn cmp_pre_release(&self, other: &VersionRef<'a>) -> Ordering {
+        cmp_pre(self.pre_release, other.pre_release)
     }
 }
 
@@ -184,9 +192,6 @@ impl<'a> Ord for VersionRef<'a> {
 
     #[inline(always)]
     fn cmp(&self, other: &VersionRef<'a>) -> Ordering {
-        match self.major.cmp(&other.major) {
-            Ordering::Equal => cmp_behind_major(self, other),
-            order => order,
-        }
+        by_precedence(self, other)
     }
 }

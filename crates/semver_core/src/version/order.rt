@@ -5,7 +5,9 @@ ghost use Rattle.std.specs.Hash as fed;
 ghost use Rattle.std.specs.List.{fold};
 ghost use Rattle.std.specs.Cmp.{eq_by_cmp_equiv, partial_equiv_from_equiv, po};
 ghost use Rattle.semver_core.specs.Internal.Hashes.{id_writes, version_writes};
+ghost use Rattle.std.specs.Ordering.{nat_cmp, ordering_then};
 ghost use Rattle.semver_core.specs.Values.Order.{precedence, pre_cmp, version_eq};
+ghost use Rattle.semver_core.specs.Values.Versions.{VersionValue};
 ghost use Rattle.semver_core.specs.Internal.OrderLaws.{precedence_total, version_alike};
 ghost use Rattle.semver_core.specs.Values.Views.{ids_view};
 
@@ -13,6 +15,77 @@ use crate::{Identifier, IdentifierRefs, Version, VersionRef};
 use std::cmp::Ordering;
 use std::hash::{Hash, Hasher};
 
+// What the order looks at in a version, whether it owns its identifiers or borrows its text.
+pub(crate) trait Compared {
+    // The version as contracts see it.
+    ghost seen: { Self → VersionValue };
+
+    fn first(&self) -> u64
+        ensures { result ≡ (seen self.now).major };
+
+    fn second(&self) -> u64
+        ensures { result ≡ (seen self.now).minor };
+
+    fn third(&self) -> u64
+        ensures { result ≡ (seen self.now).patch };
+
+    fn cmp_pre_release(&self, other: &Self) -> Ordering
+        ensures { result ≡ pre_cmp (seen self.now).pre_release (seen other.now).pre_release };
+}
+
+// The precedence of SemVer 2.0.0, item 11: the three numbers, then a pre-release below its release,
+// then the identifiers of two pre-releases one by one.
+#[inline(always)]
+pub(crate) fn by_precedence<V: Compared>(v: &V, w: &V) -> Ordering
+    ensures { result ≡ precedence (V.seen v.now) (V.seen w.now) }
+{
+    match v.first().cmp(&w.first()) {
+        Ordering::Equal => by_minor(v, w),
+        order => order,
+    }
+}
+
+// The order of versions of the same first number.
+#[inline(always)]
+fn by_minor<V: Compared>(v: &V, w: &V) -> Ordering
+    ensures { result ≡ ordering_then (nat_cmp (V.seen v.now).minor (V.seen w.now).minor)
+        (ordering_then (nat_cmp (V.seen v.now).patch (V.seen w.now).patch)
+        (pre_cmp (V.seen v.now).pre_release (V.seen w.now).pre_release)) }
+{
+    match v.second().cmp(&w.second()) {
+        Ordering::Equal => match v.third().cmp(&w.third()) {
+            Ordering::Equal => v.cmp_pre_release(w),
+            order => order,
+        },
+        order => order,
+    }
+}
+
+impl Compared for Version {
+    ghost seen = { λ v. v };
+
+    #[inline(always)]
+    fn first(&self) -> u64 {
+        self.major()
+    }
+
+    #[inline(always)]
+    fn second(&self) -> u64 {
+        self.minor()
+    }
+
+    #[inline(always)]
+    fn third(&self) -> u64 {
+        self.patch()
+    }
+
+    #[inline(always)]
+    fn cmp_pre_release(&self, other: &Version) -> Ordering {
+        cmp_pre(self.pre_release(), other.pre_release())
+    }
+}
+
+#[inline(never)]
 #[tactic(auto, using(crate::proofs::Values::Compared::pre_view))]
 fn cmp_pre(a: &[Identifier], b: &[Identifier]) -> Ordering
     ensures { result ≡ pre_cmp (ids_view a.now) (ids_view b.now) }
@@ -64,12 +137,9 @@ impl Ord for Version {
 
     ghost matches_eq = { λ v w. refl };
 
+    #[inline(always)]
     fn cmp(&self, other: &Version) -> Ordering {
-        self.major()
-            .cmp(&other.major())
-            .then_with(|| self.minor().cmp(&other.minor()))
-            .then_with(|| self.patch().cmp(&other.patch()))
-            .then_with(|| cmp_pre(self.pre_release(), other.pre_release()))
+        by_precedence(self, other)
     }
 }
 
