@@ -1,14 +1,16 @@
 // Increments: the next version by a word, as release tools ask for it.
 
 ghost use Rattle.std.specs.Prelude.{◌≡◌, ◌≢◌, ◌+◌, ◌-◌, ◌^◌, ◌<◌, [], IfOk, IsOkAnd, OnErr, codes, unwrap_or};
-ghost use Rattle.std.specs.Prelude.{false, true};
+ghost use Rattle.std.specs.Prelude.{Err, false, true};
 ghost use Rattle.std.specs.Option.{option_copied};
+ghost use Rattle.semver_core.specs.Failures.{MemoryOnlyIf};
 ghost use Rattle.semver_core.specs.Increments.Table as spec;
 ghost use Rattle.semver_core.specs.Increments.Least.{IsAbove, IsLeastOrOverflow};
 ghost use Rattle.semver_core.specs.Increments.Least.{IsLeastVersion, IsPlain};
 ghost use Rattle.semver_core.specs.Increments.View.{IfAnswered, Returns, fault_of};
-ghost use Rattle.semver_core.specs.Internal.IncrementSteps.{RefusedWith, parts_ref_value};
-ghost use Rattle.semver_core.specs.Values.Versions.{IsVersion, is_release};
+ghost use Rattle.semver_core.specs.Internal.IncrementSteps.{MayAllocate, RefusedWith};
+ghost use Rattle.semver_core.specs.Internal.IncrementSteps.{parts_ref_value};
+ghost use Rattle.semver_core.specs.Values.Versions.{HasIdentifiers, IsVersion, is_release};
 
 use crate::increment::parts::PartsRef;
 use crate::increment::words::by_word;
@@ -125,7 +127,8 @@ impl IncrementError {
 
 // One more, in 64 bits.
 fn one_more(n: u64) -> Result<u64, Failure<IncrementError>>
-    ensures { Returns (spec.one_more n) result }
+    ensures value { Returns (spec.one_more n) result }
+    ensures memory { MemoryOnlyIf result ⊥ }
 {
     match n.checked_add(1) {
         Some(more) => Ok(more),
@@ -164,7 +167,8 @@ fn refused_identifier(alloc: Global, id: &str) -> Failure<IncrementError>
 
 // The two checks of a word that begins with `pre`.
 fn check(alloc: Global, id: &str, base: IdentifierBase) -> Result<(), Failure<IncrementError>>
-    ensures { Returns (spec.checked id.now base) result }
+    ensures value { Returns (spec.checked id.now base) result }
+    ensures memory { MemoryOnlyIf result (MayAllocate (λ none. ⊥) (spec.checked id.now base)) }
 {
     if id.is_empty() && is_false(base) {
         Err(refused_argument(alloc, "identifier is empty"))
@@ -176,6 +180,7 @@ fn check(alloc: Global, id: &str, base: IdentifierBase) -> Result<(), Failure<In
 }
 
 // The checks of a word that begins with `pre`, and then the word.
+#[tactic(auto, using(crate::proofs::Increments::Memory::may_after))]
 fn by_checked_word(
     alloc: Global,
     version: &PartsRef<'_>,
@@ -183,7 +188,10 @@ fn by_checked_word(
     id: &str,
     base: IdentifierBase,
 ) -> Result<Version, Failure<IncrementError>>
-    ensures { Returns (spec.incremented (parts_ref_value version.now) word.now id.now base) result }
+    ensures value { Returns
+        (spec.incremented (parts_ref_value version.now) word.now id.now base) result }
+    ensures memory { MemoryOnlyIf result (MayAllocate HasIdentifiers
+        (spec.incremented (parts_ref_value version.now) word.now id.now base)) }
 {
     if word.starts_with("pre") {
         check(alloc, id, base)?;
@@ -199,9 +207,12 @@ fn increment(
     identifier: Option<&str>,
     base: Option<IdentifierBase>,
 ) -> Result<Version, Failure<IncrementError>>
-    ensures { Returns
+    ensures value { Returns
         (spec.answer_of_inc (parts_ref_value version.now) word.now (option_copied identifier.entry)
         base) result }
+    ensures memory { MemoryOnlyIf result (MayAllocate HasIdentifiers
+        (spec.answer_of_inc (parts_ref_value version.now) word.now (option_copied identifier.entry)
+        base)) }
 {
     by_checked_word(
         alloc,
@@ -252,7 +263,9 @@ impl Version {
     /// - `InvalidIncrementArgument` if the base is `False` and the identifier is the whole list
     /// already.
     ///
-    /// Any call may also return `Memory`, if an allocation fails.
+    /// If an allocation fails, it returns `Memory` in their place or in place of the version. That
+    /// happens only if the next version has a pre-release or build metadata, or if the error holds
+    /// a text: never in place of `Overflow`.
     ///
     /// ```rust
     /// let release = Version::from((1u64, 2, 3));
@@ -269,6 +282,11 @@ impl Version {
         // It returns what the table says.
         ensures value { Returns
             (spec.answer_of_inc self.now word.now (option_copied identifier.entry) base) result }
+        // Allocation fails only for a version with identifiers or for an error that holds a text,
+        // and never in place of `Overflow`.
+        ensures memory { let answer = spec.answer_of_inc self.now word.now
+            (option_copied identifier.entry) base in
+            MemoryOnlyIf result ((answer ≢ Err spec.Overflow) × IfOk answer HasIdentifiers) }
         // The least release above in the same major and minor, or Overflow where there is none.
         ensures patch { word.now ≡ codes "patch" → IfAnswered (IsLeastOrOverflow
             (λ w. IsAbove self.now w × (w.pre_release ≡ [])
@@ -319,6 +337,7 @@ impl<'a> VersionRef<'a> {
     /// let beta = release.inc(alloc, "prerelease", Some("beta"), None)?;
     /// assert_eq!(rt; beta, Version::parse(alloc, "1.2.4-beta.0")?);
     /// ```
+    #[tactic(auto, using(crate::proofs::Increments::Memory::memory_of))]
     pub fn inc(
         &self,
         alloc: Global,
@@ -329,6 +348,11 @@ impl<'a> VersionRef<'a> {
         // It returns what the table says.
         ensures value { Returns
             (spec.answer_of_inc self.now word.now (option_copied identifier.entry) base) result }
+        // Allocation fails only for a version with identifiers or for an error that holds a text,
+        // and never in place of `Overflow`.
+        ensures memory { let answer = spec.answer_of_inc self.now word.now
+            (option_copied identifier.entry) base in
+            MemoryOnlyIf result ((answer ≢ Err spec.Overflow) × IfOk answer HasIdentifiers) }
     {
         increment(alloc, &PartsRef::of_borrowed(self), word, identifier, base)
     }

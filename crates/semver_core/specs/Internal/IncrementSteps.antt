@@ -1,10 +1,10 @@
 -- For proofs and private contracts: what the steps of `inc` say to one another.
 use Rattle.std.specs.Prelude.{◌≡◌, ◌==◌, ◌&&◌, not, if◌then◌else◌, ℕ, List, [], ◌∷◌, ◌++◌, length}
-use Rattle.std.specs.Prelude.{map, Option, Some, None, Result, Ok, Err, ⊤, false}
+use Rattle.std.specs.Prelude.{map, Bool, Option, Some, None, Result, Ok, Err, ⊤, ◌-◌, ◌^◌, false}
 use Rattle.std.specs.List.{join_with_byte}
 use Rattle.semver_core.specs.Text.Identifiers.{Id, Numeric, AlphaNumeric}
-use Rattle.semver_core.specs.Increments.Table.{◌>>=◌, Fault, NotAPrerelease, advance, first_number, has_numeric, identify}
-use Rattle.semver_core.specs.Increments.Table.{is_false, next_major, next_minor, next_patch, pre_step, release_of}
+use Rattle.semver_core.specs.Increments.Table.{◌>>=◌, Fault, NotAPrerelease, Overflow, advance, first_number, has_numeric}
+use Rattle.semver_core.specs.Increments.Table.{identify, is_false, next_major, next_minor, next_patch, pre_step, release_of}
 use Rattle.semver_core.specs.Increments.View.{fault_of}
 use Rattle.semver_core.specs.Printing.Text.{id_text, version_text}
 use Rattle.semver_core.specs.Values.Versions.{VersionValue, is_release}
@@ -75,3 +75,20 @@ pub record IsLastNumber (list : List Id) (i n : ℕ) : Type 0 where
 abbrev pub Tracks : List Id → Option (ℕ × ℕ) → Type 0
 Tracks list None = has_numeric list ≡ false
 Tracks list (Some p) = IsLastNumber list p.0 p.1
+
+-- an allocation may fail where this is the answer: it is not `Overflow`, and P holds of its value
+abbrev pub MayAllocate : {A : Type 0} → (A → Type 0) → Result A Fault → Type 0
+MayAllocate P (Ok value) = P value
+MayAllocate P (Err Overflow) = ⊥
+MayAllocate P (Err fault) = ⊤
+
+-- it is the error of this answer, or an allocation failure and the answer is not `Overflow`
+abbrev pub FailsWith : {A : Type 0} → Result A Fault → Failure IncrementError → Type 0
+FailsWith answer (Refused e) = answer ≡ Err (fault_of e)
+FailsWith answer (Memory e) = MayAllocate (λ value. ⊤) answer
+
+-- whether the last number of a list is the largest one; `before` for a list without a number
+abbrev pub ends_at_max : Bool → List Id → Bool
+ends_at_max before [] = before
+ends_at_max before (Numeric n ∷ rest) = ends_at_max (n == 2 ^ 64 - 1) rest
+ends_at_max before (AlphaNumeric text ∷ rest) = ends_at_max before rest

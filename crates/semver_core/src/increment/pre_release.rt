@@ -1,17 +1,19 @@
 // The pre step: how the pre-release list goes on.
 
 ghost use Rattle.std.specs.Prelude.{◌≡◌, ◌∷◌, ◌++◌, [], ◌<◌, ◌==◌, IfOk, OnOk, length};
-ghost use Rattle.std.specs.Prelude.{string_bytes, true, false, if◌then◌else◌};
+ghost use Rattle.std.specs.Prelude.{string_bytes, true, false, if◌then◌else◌, ⊤};
 ghost use Rattle.std.specs.Char.{is_ascii_digit};
 ghost use Rattle.std.specs.List.{list_all};
 ghost use Rattle.std.specs.Ordering.{is_eq};
 ghost use Rattle.std.specs.Str.{bytes_eq};
 ghost use Rattle.std.specs.Str.Parse.{digits_value};
+ghost use Rattle.semver_core.specs.Failures.{MemoryOnlyIf};
 ghost use Rattle.semver_core.specs.Text.Characters.{is_identifier_char};
 ghost use Rattle.semver_core.specs.Text.Identifiers.{Numeric, is_identifier, pieces};
 ghost use Rattle.semver_core.specs.Increments.Table as spec;
 ghost use Rattle.semver_core.specs.Increments.Table.{has_numeric};
-ghost use Rattle.semver_core.specs.Internal.IncrementSteps.{Steps, Tracks, begun, list_text};
+ghost use Rattle.semver_core.specs.Internal.IncrementSteps.{FailsWith, MayAllocate, Steps, Tracks};
+ghost use Rattle.semver_core.specs.Internal.IncrementSteps.{begun, ends_at_max, list_text};
 ghost use Rattle.semver_core.specs.Printing.Text as printed;
 ghost use Rattle.semver_core.specs.Values.Order.{id_cmp};
 ghost use Rattle.semver_core.specs.Values.Views.{id_view, ids_view};
@@ -19,7 +21,7 @@ ghost use Rattle.semver_core.specs.Values.Views.{id_view, ids_view};
 use crate::increment::{IdentifierBase, IncrementError, is_false, one_more, refused_argument};
 use crate::scan::is_identifier_char;
 use crate::version::lists::Identifiers;
-use crate::{Failure, Identifier};
+use crate::{Failure, Identifier, IdentifierRef, IdentifierRefs};
 use std::alloc::{AllocError, Global};
 use std::fmt::Write;
 
@@ -30,8 +32,10 @@ pub(super) fn advance(
     id: &str,
     base: IdentifierBase,
 ) -> Result<(), Failure<IncrementError>>
-    ensures { Steps (spec.advance (ids_view list.old.items) id.now base) result
+    ensures value { Steps (spec.advance (ids_view list.old.items) id.now base) result
         (ids_view list.new.items) }
+    ensures memory { MemoryOnlyIf result (MayAllocate (λ list. ⊤)
+        (spec.advance (ids_view list.old.items) id.now base)) }
 {
     match last_number(list) {
         Some((place, number)) => {
@@ -57,6 +61,38 @@ pub(super) fn identify(
     } else {
         begin(alloc, list, id, base)
     }
+}
+
+// The error where an allocation failed before the last number of a list was to rise: `Overflow` if
+// that number is `u64::MAX`.
+#[cold]
+#[inline(never)]
+#[tactic(auto, using(crate::proofs::Increments::Memory::ends_overflows, crate::proofs::Increments::Memory::ends_below))]
+pub(super) fn unless_overflow(
+    ids: &IdentifierRefs<'_>,
+    error: AllocError,
+) -> Failure<IncrementError>
+    ensures { FailsWith (spec.raise_last ids.now) result }
+{
+    if ends_at_max(ids.copy()) {
+        Failure::Refused(IncrementError::Overflow)
+    } else {
+        Failure::Memory(error)
+    }
+}
+
+// Whether the last number of a list is `u64::MAX`.
+fn ends_at_max(ids: IdentifierRefs<'_>) -> bool
+    ensures { result ≡ ends_at_max false ids.entry }
+{
+    let mut at_max = false;
+    let mut others = ids;
+    'ids: while let Some(id) = others.next() {
+        if let IdentifierRef::Numeric(n) = id {
+            at_max = n == u64::MAX;
+        }
+    }
+    at_max
 }
 
 fn first_number(base: IdentifierBase) -> u64
@@ -90,8 +126,10 @@ fn count(
     base: IdentifierBase,
 ) -> Result<(), Failure<IncrementError>>
     requires { has_numeric (ids_view list.old.items) ≡ false }
-    ensures { Steps (spec.advance (ids_view list.old.items) id.now base) result
+    ensures value { Steps (spec.advance (ids_view list.old.items) id.now base) result
         (ids_view list.new.items) }
+    ensures memory { MemoryOnlyIf result (MayAllocate (λ list. ⊤)
+        (spec.advance (ids_view list.old.items) id.now base)) }
 {
     if !list.is_empty() && is_false(base) && is_printed(alloc, list, id)? {
         return Err(refused_argument(alloc, "identifier already exists"));

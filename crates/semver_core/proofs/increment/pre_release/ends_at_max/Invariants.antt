@@ -1,0 +1,9 @@
+use Rattle.std.proofs.Common.{◌≡◌, length, false}
+use Rattle.semver_core.specs.Internal.IncrementSteps.{ends_at_max}
+use Rattle.semver_core.proofs.increment.pre_release.ends_at_max.Given as goal
+
+abbrev pub invariant-ids : goal.invariant-ids
+invariant-ids l = ends_at_max l.at_max l.others ≡ ends_at_max false l.fn.ids
+
+abbrev pub decreases-ids : goal.decreases-ids
+decreases-ids l = length l.others
