@@ -1,11 +1,13 @@
 -- What the intersection and the difference of two lists hold and accept, and that their intervals are those of a range.
-use Rattle.std.proofs.Common.{ap, subst, ◌≡◌, sym, ◌∙◌, ℕ, ◌+◌, true, false, ◌&&◌, ◌||◌, not, List, Option, arith}
+use Rattle.std.proofs.Common.{ap, subst, ◌≡◌, ◌≢◌, refl, sym, ◌∙◌, ℕ, ◌+◌, ◌<◌, ◌⊎◌, inl, inr, true, false, ◌&&◌, ◌||◌, not}
+use Rattle.std.proofs.Common.{List, [], ◌∷◌, length, Option, IsTrue, is_some, arith}
 use Rattle.std.proofs.lemmas.Result.{IfOk-weaker}
 use Rattle.std.specs.Prelude.{IfOk, Result}
 use Rattle.std.specs.Cmp.{first_so}
 use Rattle.std.specs.List.{list_all}
 use Rattle.nodejs_semver.specs.Internal.Sets.{option_list_holds, option_accepts, meets_of, minus, is_range_span}
 use Rattle.semver_core.specs.Cuts.{Span, is_interval}
+use Rattle.semver_core.specs.Lists.{if_any}
 use Rattle.semver_core.specs.Values.Order.{precedence}
 use Rattle.semver_core.specs.Internal.OrderLaws.{precedence_total}
 use Rattle.semver_core.specs.Values.Versions.{VersionValue, is_release}
@@ -92,6 +94,15 @@ pub ruleset intersected = (intersected-set, intersected-all, intersected-both, i
 
 pub ruleset left_over = (left_over-set, left_over-all, left_over-kept, left_over-releases)
 
+-- lists of one or more elements
+any_some : {A : Type 0} (xs : List A) → 0 < length xs → IsTrue (is_some (if_any xs))
+any_some xs h = grind arith
+
+several : {A : Type 0} (xs : List A) → 0 < length xs → length xs ≢ 1 → 1 < length xs
+several [] h n = absurd (omega arith)
+several (x ∷ []) h n = absurd (n refl)
+several (x ∷ y ∷ xs) h n = omega arith
+
 -- the lists of two ranges, by any other names, make intervals of a range
 module _ (a b xs ys : List (Span VersionValue)) (h : IsRange MAX_SAFE_INTEGER a) (k : IsRange MAX_SAFE_INTEGER b)
     (p : xs ≡ a) (q : ys ≡ b) where
@@ -103,6 +114,20 @@ module _ (a b xs ys : List (Span VersionValue)) (h : IsRange MAX_SAFE_INTEGER a)
   pub minus-valid : (left : List (Span VersionValue)) → left ≡ minus precedence xs ys
       → list_all (is_range_span (MAX_SAFE_INTEGER + 1)) left ≡ true
   minus-valid left e = rw (e, p, q) (fine-minus precedence_total (is_range_bound (MAX_SAFE_INTEGER + 1)) a b h.each k.each)
+
+  -- where the lists have an intersection or a difference, the ranges do
+  pub meets_of-some : 0 < length (meets_of precedence xs ys) → IsTrue (is_some (intersection a b))
+  meets_of-some e = any_some (meets_of precedence a b)
+      (subst (λ l. 0 < length (meets_of precedence l b)) p (subst (λ l. 0 < length (meets_of precedence xs l)) q e))
+
+  pub minus-some : (0 < length (minus precedence xs ys)) ⊎ (length ys ≢ 1)
+      → IsTrue (is_some (difference a b)) ⊎ (1 < length b)
+  minus-some e = elim e [
+    | inl left ↦
+        inl (any_some (minus precedence a b)
+        (subst (λ l. 0 < length (minus precedence l b)) p (subst (λ l. 0 < length (minus precedence xs l)) q left)))
+    | inr other ↦ inr (several b k.some (subst (λ l. length l ≢ 1) q other))
+  ]
 
 -- the spans of a range are intervals
 pub all_intervals : (n : ℕ) (ss : List (Span VersionValue)) → list_all (is_range_span n) ss ≡ true

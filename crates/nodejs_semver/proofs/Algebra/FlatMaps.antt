@@ -1,10 +1,11 @@
 -- Lists that are joined from a list for each element of another, and tests of their elements.
 use Rattle.std.proofs.Common.{◌≡◌, refl, sym, ◌∙◌, ap, ap₂, ℕ, ◌+◌, ◌<◌, Bool, true, false, ◌&&◌, ◌||◌, List}
-use Rattle.std.proofs.Common.{[], ◌∷◌, ◌++◌, length, get_or, take, not, inl, inr, arith}
+use Rattle.std.proofs.Common.{[], ◌∷◌, ◌++◌, length, get_or, take, not, inl, inr, arith, Option, is_some}
+use Rattle.std.proofs.Common.{option_to_list, Result, Ok, Err, OnErr}
 use Rattle.std.proofs.lemmas.Bool.{and_parts, or_cases}
 use Rattle.std.proofs.lemmas.Grind.{flat_map-append}
-use Rattle.std.proofs.lemmas.List.{append-nil, take_more}
-use Rattle.std.proofs.lemmas.List.Folds.{Any-from_list_any, list_all-append, list_any-append, list_any_at}
+use Rattle.std.proofs.lemmas.List.{append-nil, length-append, take_more}
+use Rattle.std.proofs.lemmas.List.Folds.{Any-from_list_any, length-flat_map-take, list_all-append, list_any-append, list_any_at}
 use Rattle.semver_core.specs.Lists.{is_empty}
 use Rattle.std.specs.List.{flat_map, list_all, list_any}
 
@@ -30,6 +31,27 @@ flat_flat f g (x ∷ xs) = flat_map-append f (g x) (flat_map g xs) ∙ ap (λ l.
 pub flat_same : {A B : Type 0} (f g : A → List B) → ((x : A) → f x ≡ g x) → (xs : List A) → flat_map f xs ≡ flat_map g xs
 flat_same f g h [] = refl
 flat_same f g h (x ∷ xs) = ap₂ (λ k l. k ++ l) (h x) (flat_same f g h xs)
+
+-- what holds in any case holds of a failure
+pub on_err : {T E P : Type 0} (r : Result T E) → P → OnErr r P
+on_err (Ok x) p = tt
+on_err (Err e) p = p
+
+-- the joined list has an element where one of the lists does
+pub flat_some : {A B : Type 0} (f : A → List B) (xs : List A) (i : ℕ) (x : A) → i < length xs → x ≡ get_or xs i x
+    → 0 < length (f x) → 0 < length (flat_map f xs)
+flat_some f xs i x h at k = omega (arith, length-flat_map-take f xs i x h, ap (λ y. length (f y)) at, k)
+
+pub part_some : {A : Type 0} (part found : Option A) → part ≡ found → is_some part ≡ true → 0 < length (option_to_list found)
+part_some part found e h = grind arith
+
+pub first_some : {A : Type 0} (parts found : Option A × Option A) → parts ≡ found → is_some parts.0 ≡ true
+    → 0 < length (option_to_list found.0 ++ option_to_list found.1)
+first_some parts found e h = grind (arith, length-append)
+
+pub second_some : {A : Type 0} (parts found : Option A × Option A) → parts ≡ found → is_some parts.1 ≡ true
+    → 0 < length (option_to_list found.0 ++ option_to_list found.1)
+second_some parts found e h = grind (arith, length-append)
 
 -- tests of the elements
 pub any_flat : {A B : Type 0} (p : B → Bool) (f : A → List B) (xs : List A)

@@ -1,6 +1,7 @@
 // The set algebra of ranges.
 
-ghost use Rattle.std.specs.Prelude.{◌≡◌, ◌&&◌, ◌||◌, not, IfOk, true, false, is_some, unwrap_or, []};
+ghost use Rattle.std.specs.Prelude.{◌≡◌, ◌<◌, ◌⊎◌, ◌&&◌, ◌||◌, not, true, false, unwrap_or};
+ghost use Rattle.std.specs.Prelude.{IfOk, OnErr, IsTrue, is_some, [], length};
 ghost use Rattle.semver_core.specs.Values.Order.{precedence};
 ghost use Rattle.semver_core.specs.Values.Versions.{VersionValue, is_release};
 ghost use Rattle.nodejs_semver.specs.Ranges.Gate.{accepts};
@@ -33,7 +34,7 @@ impl Range {
 
     /// The intersection: what the pairs of intervals have in common, for each interval of this
     /// range in order with each of the other's. Returns `None` if no pair meets. Fails only if
-    /// allocation fails.
+    /// allocation fails; where no pair meets it never does.
     ///
     /// Of equal lower bounds the other's is kept with its build, of equal upper bounds this
     /// range's. The intersection may accept pre-releases that only one of the two ranges accepts,
@@ -70,12 +71,15 @@ impl Range {
         ensures releases { IfOk result (λ r. (v : VersionValue) → is_release v ≡ true →
             accepts (unwrap_or r []) v false
             ≡ (accepts self.now v false && accepts other.now v false)) }
+        // Allocation fails only if there is an intersection, never in place of `None`.
+        ensures memory { OnErr result (IsTrue (is_some (intersection self.now other.now))) }
     {
         self.common(alloc, other)
     }
 
     /// The difference: what is left of each interval of this range, in order, once all of the
-    /// other's are taken away. Returns `None` if nothing is left. Fails only if allocation fails.
+    /// other's are taken away. Returns `None` if nothing is left. Fails only if allocation fails;
+    /// where nothing is left and the other range has one interval it never does.
     ///
     /// A bound that comes from the other range carries that bound's build. Pre-releases that this
     /// range holds and does not accept may be accepted by the difference, whose bounds may name
@@ -108,13 +112,18 @@ impl Range {
         ensures releases { IfOk result (λ r. (v : VersionValue) → is_release v ≡ true →
             accepts (unwrap_or r []) v false
             ≡ (accepts self.now v false && not (accepts other.now v false))) }
+        // Allocation fails only if something is left, or if the other range has several intervals,
+        // whose complement is made first.
+        ensures memory { OnErr result
+            (IsTrue (is_some (difference self.now other.now)) ⊎ (1 < length other.now)) }
     {
         self.remaining(alloc, other)
     }
 
     // What the pairs of intervals have in common.
     fn common(&self, alloc: Global, other: &Range) -> Result<Option<Range>, AllocError>
-        ensures { IfOk result (λ r. r ≡ intersection self.now other.now) }
+        ensures list { IfOk result (λ r. r ≡ intersection self.now other.now) }
+        ensures memory { OnErr result (IsTrue (is_some (intersection self.now other.now))) }
     {
         let found = lists::intersections(alloc, self.intervals(), other.intervals())?;
         Ok(Range::from_intervals(found))
@@ -122,7 +131,9 @@ impl Range {
 
     // What the other range leaves of this one.
     fn remaining(&self, alloc: Global, other: &Range) -> Result<Option<Range>, AllocError>
-        ensures { IfOk result (λ r. r ≡ difference self.now other.now) }
+        ensures list { IfOk result (λ r. r ≡ difference self.now other.now) }
+        ensures memory { OnErr result
+            (IsTrue (is_some (difference self.now other.now)) ⊎ (1 < length other.now)) }
     {
         let left = lists::differences(alloc, self.intervals(), other.intervals())?;
         Ok(Range::from_intervals(left))
@@ -147,7 +158,8 @@ impl<'a> RangeRef<'a> {
     }
 
     /// The intersection, as `Range::intersect` says. Its bounds borrow the same texts: memory is
-    /// taken for the list alone.
+    /// taken for the list alone. Fails only if allocation fails; where no pair of intervals meets
+    /// it never does.
     #[tactic(auto, using(crate::proofs::Algebra::Clauses::intersected))]
     pub fn intersect(
         &self,
@@ -173,12 +185,15 @@ impl<'a> RangeRef<'a> {
         ensures releases { IfOk result (λ r. (v : VersionValue) → is_release v ≡ true →
             accepts (unwrap_or r []) v false
             ≡ (accepts self.now v false && accepts other.now v false)) }
+        // Allocation fails only if there is an intersection, never in place of `None`.
+        ensures memory { OnErr result (IsTrue (is_some (intersection self.now other.now))) }
     {
         self.in_common(alloc, other)
     }
 
     /// The difference, as `Range::difference` says. Its bounds borrow the same texts: memory is
-    /// taken for the list alone.
+    /// taken for the list alone. Fails only if allocation fails; where nothing is left and the
+    /// other range has one interval it never does.
     #[tactic(auto, using(crate::proofs::Algebra::Clauses::left_over))]
     pub fn difference(
         &self,
@@ -201,6 +216,10 @@ impl<'a> RangeRef<'a> {
         ensures releases { IfOk result (λ r. (v : VersionValue) → is_release v ≡ true →
             accepts (unwrap_or r []) v false
             ≡ (accepts self.now v false && not (accepts other.now v false))) }
+        // Allocation fails only if something is left, or if the other range has several intervals,
+        // whose complement is made first.
+        ensures memory { OnErr result
+            (IsTrue (is_some (difference self.now other.now)) ⊎ (1 < length other.now)) }
     {
         self.left_over(alloc, other)
     }
@@ -211,7 +230,8 @@ impl<'a> RangeRef<'a> {
         alloc: Global,
         other: &RangeRef<'a>,
     ) -> Result<Option<RangeRef<'a>>, AllocError>
-        ensures { IfOk result (λ r. r ≡ intersection self.now other.now) }
+        ensures list { IfOk result (λ r. r ≡ intersection self.now other.now) }
+        ensures memory { OnErr result (IsTrue (is_some (intersection self.now other.now))) }
     {
         let both = lists::intersections(alloc, self.intervals(), other.intervals())?;
         Ok(RangeRef::from_intervals(SmallVec::from_vec(both)))
@@ -223,7 +243,9 @@ impl<'a> RangeRef<'a> {
         alloc: Global,
         other: &RangeRef<'a>,
     ) -> Result<Option<RangeRef<'a>>, AllocError>
-        ensures { IfOk result (λ r. r ≡ difference self.now other.now) }
+        ensures list { IfOk result (λ r. r ≡ difference self.now other.now) }
+        ensures memory { OnErr result
+            (IsTrue (is_some (difference self.now other.now)) ⊎ (1 < length other.now)) }
     {
         let pieces = lists::differences(alloc, self.intervals(), other.intervals())?;
         Ok(RangeRef::from_intervals(SmallVec::from_vec(pieces)))

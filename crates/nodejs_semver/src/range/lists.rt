@@ -1,6 +1,7 @@
 // Lists of intervals: what two of them have in common, and what one leaves of another.
 
-ghost use Rattle.std.specs.Prelude.{◌≡◌, [], ◌∷◌, ◌++◌, IfOk, OnOk, is_some, true};
+ghost use Rattle.std.specs.Prelude.{◌≡◌, ◌≢◌, ◌<◌, ◌⊎◌, [], ◌∷◌, ◌++◌, IfOk, OnOk, OnErr};
+ghost use Rattle.std.specs.Prelude.{IsTrue, is_some, length, true};
 ghost use Rattle.std.specs.List.{flat_map, list_all, list_any};
 ghost use Rattle.std.specs.Option.{option_to_list};
 ghost use Rattle.nodejs_semver.specs.Internal.Sets.{meets_of, minus};
@@ -20,7 +21,8 @@ pub(crate) fn intersections<V: Point>(
     these: &[Interval<V>],
     others: &[Interval<V>],
 ) -> Result<Vec<Interval<V>>, AllocError>
-    ensures { IfOk result (λ r. r.items ≡ meets_of V.cmp these.now others.now) }
+    ensures items { IfOk result (λ r. r.items ≡ meets_of V.cmp these.now others.now) }
+    ensures memory { OnErr result (0 < length (meets_of V.cmp these.now others.now)) }
 {
     let mut found = Vec::new(alloc);
     for interval in these {
@@ -42,7 +44,10 @@ pub(crate) fn differences<V: Point>(
     others: &[Interval<V>],
 ) -> Result<Vec<Interval<V>>, AllocError>
     requires { list_all (is_interval V.cmp) these.now ≡ true }
-    ensures { IfOk result (λ r. r.items ≡ minus V.cmp these.now others.now) }
+    ensures items { IfOk result (λ r. r.items ≡ minus V.cmp these.now others.now) }
+    // The complement of one other interval is not made.
+    ensures memory { OnErr result
+        ((0 < length (minus V.cmp these.now others.now)) ⊎ (length others.now ≢ 1)) }
 {
     if let [other] = others {
         return subtract_from_each(alloc, these, other);
@@ -94,9 +99,11 @@ fn push_intersections<V: Point>(
     interval: &Interval<V>,
     others: &[Interval<V>],
 ) -> Result<(), AllocError>
-    ensures { OnOk result (parts.new.items
+    ensures items { OnOk result (parts.new.items
         ≡ parts.old.items
         ++ flat_map (λ t. option_to_list (meet V.cmp interval.now t)) others.now) }
+    ensures memory { OnErr result
+        (0 < length (flat_map (λ t. option_to_list (meet V.cmp interval.now t)) others.now)) }
 {
     for other in others {
         push_part(alloc, parts, interval.common_part(other))?;
@@ -144,7 +151,10 @@ fn subtract_from_each<V: Point>(
     these: &[Interval<V>],
     other: &Interval<V>,
 ) -> Result<Vec<Interval<V>>, AllocError>
-    ensures { IfOk result (λ r. r.items ≡ flat_map (λ s. remainder V.cmp s other.now) these.now) }
+    ensures items { IfOk result (λ r. r.items
+        ≡ flat_map (λ s. remainder V.cmp s other.now) these.now) }
+    ensures memory { OnErr result
+        (0 < length (flat_map (λ s. remainder V.cmp s other.now) these.now)) }
 {
     let mut left = Vec::new(alloc);
     for interval in these {
@@ -203,7 +213,8 @@ fn push_part<V: Point>(
     parts: &mut Vec<Interval<V>>,
     part: Option<Part<V>>,
 ) -> Result<(), AllocError>
-    ensures { OnOk result (parts.new.items ≡ parts.old.items ++ option_to_list part.entry) }
+    ensures items { OnOk result (parts.new.items ≡ parts.old.items ++ option_to_list part.entry) }
+    ensures memory { OnErr result (IsTrue (is_some part.entry)) }
 {
     match part {
         Some(part) => push_copy(alloc, parts, &part),

@@ -1,7 +1,12 @@
-use Rattle.nodejs_semver.proofs.Algebra.FlatMaps.{flat_step}
+use Rattle.nodejs_semver.proofs.Algebra.FlatMaps.{flat_some, flat_step, on_err}
 use Rattle.nodejs_semver.proofs.range.lists.intersections.Goals as goal
 
 pub loop-interval-preserved : goal.loop-interval-preserved
 loop-interval-preserved g c =
     flat_step _ c.args.these.now _ c.interval-item.result _ _ c.loop-interval-test.true c.interval-item.is
-    c.loop-interval.invariant c.in_ok-push_intersections.ensures
+    c.loop-interval.invariant c.in_ok-push_intersections.ensures.items
+
+pub returns-in_err-push_intersections-clause-memory : goal.returns-in_err-push_intersections-clause-memory
+returns-in_err-push_intersections-clause-memory g c =
+    on_err c.from_residual.result (flat_some _ c.args.these.now _ c.interval-item.result c.loop-interval-test.true
+    c.interval-item.is c.in_err-push_intersections.ensures.memory)

@@ -1,6 +1,12 @@
 use Rattle.std.proofs.Common.{arith}
 use Rattle.std.proofs.lemmas.Grind.{common_steps}
+use Rattle.nodejs_semver.proofs.Algebra.FlatMaps.{flat_some, on_err, part_some}
 use Rattle.nodejs_semver.proofs.range.lists.push_intersections.Goals as goal
 
 pub loop-other-preserved : goal.loop-other-preserved
 loop-other-preserved g c = grind (arith, common_steps)
+
+pub returns-in_err-push_part-clause-memory : goal.returns-in_err-push_part-clause-memory
+returns-in_err-push_part-clause-memory g c =
+    on_err c.from_residual.result (flat_some _ c.args.others.now _ c.other-item.result c.loop-other-test.true c.other-item.is
+    (part_some _ _ c.common_part.ensures c.in_err-push_part.ensures.memory))
