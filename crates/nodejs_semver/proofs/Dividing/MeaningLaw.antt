@@ -1,7 +1,7 @@
 -- What a text denotes is its one meaning.
 use Rattle.std.proofs.Common.{◌≡◌, ℕ, zero, suc, ◌<◌, ◌≤◌, List, [], ◌∷◌, ◌++◌, length, get_or, refl, sym, ap, ◌∙◌, arith, true}
-use Rattle.std.proofs.Common.{false, inl, inr, subst, append-nil, length-append, ◌↔◌, IfNone, IfSome, IsTrue, IsUtf8, Option}
-use Rattle.std.proofs.Common.{encode_utf8_all, map, filter_map, flat_map, encode_utf8, take_at, drop_at}
+use Rattle.std.proofs.Common.{false, inl, inr, subst, append-nil, length-append, ◌↔◌, IfNone, IfSome, IsSome, IsTrue, IsUtf8}
+use Rattle.std.proofs.Common.{Option, encode_utf8_all, map, filter_map, flat_map, encode_utf8, take_at, drop_at}
 use Rattle.std.specs.List.{AllByRecursion, list_all}
 use Rattle.std.proofs.lemmas.Bool.{cases_Bool, false_from_ne_true, and_from}
 use Rattle.std.proofs.lemmas.List.Folds.{list_all-append}
@@ -205,6 +205,20 @@ pub means_some : (limit : ℕ) (text : List ℕ) (list : List (Span VersionValue
     → 0 < length list → Means limit text [] → ⊥
 means_some limit text list u h some none = absurd (omega (arith, ap length (same_meaning limit text list [] u h none)))
 
+-- what a text means has as many intervals as what it denotes
+pub meant_longer : (limit n : ℕ) (text : List ℕ) → IsUtf8 text → n < length (denotes limit text)
+    → (list : List (Span VersionValue)) → Means limit text list → n < length list
+meant_longer limit n text u long list h =
+    subst (λ (l : List (Span VersionValue)). n < length l) (one-meaning limit text list u h) long
+
+pub never_none : (limit : ℕ) (text : List ℕ) → IsUtf8 text → 0 < length (denotes limit text) → Means limit text [] → ⊥
+never_none limit text u some none = absurd (omega (arith, meant_longer limit 0 text u some [] none))
+
+pub never_none_of : (limit : ℕ) (text : List ℕ) (list : List (Span VersionValue)) (o : Option (List (Span VersionValue)))
+    → IsUtf8 text → list ≡ denotes limit text → o ≡ if_any list → IsSome o → Means limit text [] → ⊥
+never_none_of limit text [] o u e h some none = absurd (grind (arith, h, some))
+never_none_of limit text (s ∷ rest) o u e h some none = absurd (omega (arith, ap length (e ∙ one-meaning limit text [] u none)))
+
 -- the list of a reader, where there may be none
 pub meant_some : (limit : ℕ) (text : List ℕ) (list : List (Span VersionValue)) (o : Option (List (Span VersionValue)))
     → IsUtf8 text → list ≡ denotes limit text → o ≡ if_any list
@@ -231,3 +245,8 @@ blank_text text u = (
 
 pub filled_text : (text : List ℕ) → IsUtf8 text → (IsBlankText text → ⊥) → list_all is_empty (parts text) ≡ false
 filled_text text u h = false_from_ne_true _ (λ blank. h ((blank_text text u).0 blank))
+
+-- what the parts of a text mean that is not blank
+pub filled_denotes : (limit : ℕ) (text : List ℕ) (ps : List (List ℕ)) → IsUtf8 text → (IsBlankText text → ⊥) → ps ≡ parts text
+    → flat_map (part_denotes limit) ps ≡ denotes limit text
+filled_denotes limit text ps u h e = rw (e, filled_text text u h) refl

@@ -1,5 +1,6 @@
 -- One word of a part after another.
 use Rattle.std.proofs.Common.{◌≡◌, ℕ, ◌<◌, List, [], ◌∷◌, ◌++◌, length, ap, ◌∙◌, arith, Some, None, append_assoc, refl}
+use Rattle.std.proofs.Common.{length-append}
 use Rattle.std.specs.Prelude.{Option}
 use Rattle.std.specs.List.{cons_option}
 use Rattle.std.specs.Option.{option_to_list}
@@ -73,3 +74,46 @@ part-last limit text after None some h none e =
     part-step limit text after None some h e
     ∙ ap (λ (l : List (Span VersionValue)). joined precedence None l) (bounds-end limit after none)
 part-last limit text after (Some s) some h none e = part-step limit text after (Some s) some h e ∙ words-last limit after s none
+
+-- ---- lists that are to have two intervals or more
+
+-- a running interval is never lost
+some-behind : (o : Option (Span VersionValue)) (running next : Span VersionValue) (rest : List (Span VersionValue))
+    → meet precedence running next ≡ o → ((s : Span VersionValue) → 0 < length (joined_from precedence s rest))
+    → 0 < length (joined_from precedence running (next ∷ rest))
+some-behind (Some common) running next rest m behind = rw (joined-goes precedence running next common rest m) (behind common)
+some-behind None running next rest m behind = rw (joined-stops precedence running next rest m) (omega arith)
+
+joined-some : (running : Span VersionValue) (rest : List (Span VersionValue)) → 0 < length (joined_from precedence running rest)
+unfolding joined_from
+joined-some running [] = omega arith
+joined-some running (next ∷ rest) =
+    some-behind (meet precedence running next) running next rest refl (λ s. joined-some s rest)
+
+pub longer_joined : (found : List (Span VersionValue)) (running : Span VersionValue) (rest : List (Span VersionValue))
+    → 0 < length found → 1 < length (found ++ joined_from precedence running rest)
+longer_joined found running rest some =
+    omega (arith, length-append found (joined_from precedence running rest), joined-some running rest)
+
+-- one interval more, where there is one
+pub had_one : (found : List (Span VersionValue)) (o : Option (Span VersionValue)) → 1 < length (found ++ option_to_list o)
+    → 0 < length found
+had_one found None long = omega (arith, length-append {A = Span VersionValue} found [])
+had_one found (Some s) long = omega (arith, length-append found (s ∷ []))
+
+-- the intervals of a part are no fewer than those of its first word
+pub longer_part : (limit : ℕ) (part rest : List ℕ) (old found : List (Span VersionValue)) → found ≡ old
+    → joined precedence None (part_bounds limit rest) ≡ part_intervals limit part
+    → 0 < length rest → space_len rest ≡ 0
+    → 1 < length (found ++ option_to_list (next_at limit rest).0) → 1 < length (old ++ part_intervals limit part)
+longer_part limit part rest old found same whole some starts long =
+    let next = next_at limit rest in
+    let step = part-step limit rest next.1 next.0 some starts refl in
+    rw (← whole, step, ← same) (at next.0 (part_bounds limit next.1) long)
+  where
+    at : (o : Option (Span VersionValue)) (bounds : List (Span VersionValue)) → 1 < length (found ++ option_to_list o)
+        → 1 < length (found ++ joined precedence None (cons_option o bounds))
+    at None bounds more =
+        omega (arith, length-append {A = Span VersionValue} found [], length-append found (joined precedence None bounds))
+    at (Some s) bounds more =
+        omega (arith, length-append found (s ∷ []), length-append found (joined_from precedence s bounds), joined-some s bounds)

@@ -1,5 +1,7 @@
 -- A word is the one that its sign tells.
-use Rattle.std.proofs.Common.{◌≡◌, ◌∙◌, sym, ℕ, List, append-nil, length, arith, refl, false, Some, None}
+use Rattle.std.proofs.Common.{◌≡◌, ◌∙◌, ◌<◌, ◌++◌, sym, ℕ, List, append-nil, length, length-append, arith, refl, false, true}
+use Rattle.std.proofs.Common.{Some, None, subst}
+use Rattle.std.specs.Option.{option_to_list}
 use Rattle.std.specs.Prelude.{Bool, Option}
 use Rattle.semver_core.specs.Cuts.{Span}
 use Rattle.semver_core.specs.Values.Versions.{VersionValue}
@@ -8,7 +10,7 @@ use Rattle.nodejs_semver.specs.Internal.CommonViews.{both_view}
 use Rattle.nodejs_semver.specs.Text.Table.{table}
 use Rattle.semver_core.specs.Internal.Reading.{◌>>?◌}
 use Rattle.semver_core.specs.Internal.Spaces.{space_len}
-use Rattle.nodejs_semver.specs.Internal.Words.{Sign, hyphen_pushed, or_malformed, sign_at, upper_of}
+use Rattle.nodejs_semver.specs.Internal.Words.{Sign, hyphen_pushed, is_boundary, or_malformed, sign_at, signed_word, upper_of}
 use Rattle.nodejs_semver.specs.Internal.Words.{word_at, word_behind, word_pushed}
 use Rattle.nodejs_semver.specs.Internal.Fronts.{partial_front}
 use Rattle.nodejs_semver.specs.Text.PartialText.{Partial}
@@ -53,3 +55,30 @@ pushed_hyphen limit text s o p rest (Some q) old new read h k e m n =
 pub no_hyphen : (limit : ℕ) (p : Partial) (u : Option (Partial × List ℕ)) (old new : List (Span VersionValue))
     → ◌≡◌ {A = Option (Bool × List ℕ) × List (Span VersionValue)} (None, new) (hyphen_pushed limit old p u) → (u ≡ None) × (new ≡ old)
 no_hyphen limit p u old new h = grind arith
+
+-- ---- a list that is to have two intervals or more
+
+-- that has them with the interval of a hyphen word, where one is read
+pub longer_hyphen : (limit : ℕ) (text : List ℕ) (s : Sign × List ℕ) (o : Option (Partial × List ℕ)) (p : Partial) (rest : List ℕ)
+    (u : Option (Partial × List ℕ)) (old : List (Span VersionValue))
+    → s ≡ sign_at text → o ≡ partial_front limit s.1 → o ≡ Some (p, rest) → u ≡ upper_of limit s.0 rest
+    → 1 < length (hyphen_pushed limit old p u).1 → 1 < length (word_pushed limit old (word_at limit text)).1
+longer_hyphen limit text s o p rest None old h k e m long =
+    omega (arith, length-append old (option_to_list (table limit (word_at limit text).0)))
+longer_hyphen limit text s o p rest (Some q) old h k e m long =
+    let w : word_at limit text ≡ (hyphen p q.0, q.1) = word-as limit text s o h k ∙ rw (e, sym m) refl in
+    rw w long
+
+-- that has them with the interval of the word of one partial
+pub longer_signed : (limit : ℕ) (text : List ℕ) (s : Sign × List ℕ) (o : Option (Partial × List ℕ)) (p : Partial) (rest : List ℕ)
+    (old new : List (Span VersionValue))
+    → s ≡ sign_at text → o ≡ partial_front limit s.1 → o ≡ Some (p, rest)
+    → ◌≡◌ {A = Option (Bool × List ℕ) × List (Span VersionValue)} (None, new)
+    (hyphen_pushed limit old p (upper_of limit s.0 rest))
+    → is_boundary rest ≡ true → 1 < length (new ++ option_to_list (table limit (signed_word s.0 p)))
+    → 1 < length (word_pushed limit old (word_at limit text)).1
+longer_signed limit text s o p rest old new h k e m ends long =
+    let none = no_hyphen limit p (upper_of limit s.0 rest) old new m in
+    let w : word_at limit text ≡ (signed_word s.0 p, rest) = word-as limit text s o h k ∙ rw (e, none.0, ends) refl in
+    let interval = option_to_list (table limit (signed_word s.0 p)) in
+    rw w (subst (λ (l : List (Span VersionValue)). 1 < length (l ++ interval)) none.1 long)

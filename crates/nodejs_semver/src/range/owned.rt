@@ -1,6 +1,6 @@
 // Borrowed ranges with versions of their own.
 
-ghost use Rattle.std.specs.Prelude.{◌≡◌, ◌∷◌, [], IfOk};
+ghost use Rattle.std.specs.Prelude.{◌≡◌, ◌<◌, ◌∷◌, [], IfOk, IsSome, OnErr, length};
 
 use crate::range::Intervals;
 use crate::{Range, RangeRef};
@@ -23,7 +23,8 @@ pub(crate) fn owned_range(
     alloc: Global,
     range: Option<RangeRef<'_>>,
 ) -> Result<Option<Range>, AllocError>
-    ensures { IfOk result (λ r. r ≡ range.entry) }
+    ensures same { IfOk result (λ r. r ≡ range.entry) }
+    ensures memory { OnErr result (IsSome range.entry) }
 {
     match range {
         Some(range) => Ok(Some(range.to_range(alloc)?)),
@@ -73,7 +74,8 @@ pub(crate) fn owned_intervals(
     alloc: Global,
     intervals: &[Interval<VersionRef<'_>>],
 ) -> Result<Intervals<Version>, AllocError>
-    ensures { IfOk result (λ owned. owned.items ≡ intervals.now) }
+    ensures same { IfOk result (λ owned. owned.items ≡ intervals.now) }
+    ensures memory { OnErr result (0 < length intervals.now) }
 {
     match intervals {
         [interval] => owned_one(alloc, interval),
@@ -87,7 +89,8 @@ fn owned_list(
     alloc: Global,
     intervals: &[Interval<VersionRef<'_>>],
 ) -> Result<Intervals<Version>, AllocError>
-    ensures { IfOk result (λ owned. owned.items ≡ intervals.now) }
+    ensures same { IfOk result (λ owned. owned.items ≡ intervals.now) }
+    ensures memory { OnErr result (0 < length intervals.now) }
 {
     Ok(SmallVec::from_vec(owned_vec(alloc, intervals)?))
 }
@@ -98,7 +101,8 @@ fn owned_vec(
     alloc: Global,
     intervals: &[Interval<VersionRef<'_>>],
 ) -> Result<Vec<Interval<Version>>, AllocError>
-    ensures { IfOk result (λ owned. owned.items ≡ intervals.now) }
+    ensures same { IfOk result (λ owned. owned.items ≡ intervals.now) }
+    ensures memory { OnErr result (0 < length intervals.now) }
 {
     let mut owned = Vec::with_capacity(alloc, intervals.len())?;
     for interval in intervals {

@@ -1,12 +1,14 @@
 // Ranges are read from their texts.
 
-ghost use Rattle.std.specs.Prelude.{◌≡◌, ◌↔◌, ◌<◌, [], IfOk, IsTrue, OnOk, length, true};
+ghost use Rattle.std.specs.Prelude.{◌≡◌, ◌↔◌, ◌<◌, [], IfOk, IsTrue, List, OnErr, OnOk, length};
+ghost use Rattle.std.specs.Prelude.{true};
 ghost use Rattle.nodejs_semver.specs.Internal.Denotes.{denotes};
 ghost use Rattle.nodejs_semver.specs.Ranges.Gate.{accepts};
 ghost use Rattle.nodejs_semver.specs.Ranges.View.{IsRange};
 ghost use Rattle.nodejs_semver.specs.Text.Meaning.{Means};
 ghost use Rattle.nodejs_semver.specs.Text.WrittenSet.{Writes};
-ghost use Rattle.semver_core.specs.Failures.{RefusedOnlyIf};
+ghost use Rattle.semver_core.specs.Cuts.{Span};
+ghost use Rattle.semver_core.specs.Failures.{MemoryOnlyIf, RefusedOnlyIf};
 ghost use Rattle.semver_core.specs.Values.Versions.{VersionValue};
 
 use crate::readers::{Filled, read_common};
@@ -27,6 +29,9 @@ impl Range {
     /// <9007199254740992.0.0-0`, which `^9007199254740991` prints, reads as
     /// `>=9007199254740991.0.0`.
     ///
+    /// The one other error is an allocation failure, which is never returned for a text that is to
+    /// be rejected.
+    ///
     /// ```rust
     /// let range = Range::parse(alloc, "^1.2 || 3.0.0-rc.1")?;
     /// assert_eq!(rt; range, Range::parse(alloc, ">=1.2.0 <2.0.0-0 || =v3.0.0-rc.1")?);
@@ -39,6 +44,8 @@ impl Range {
         ensures some { IfOk result (λ range. 0 < length range) }
         // The text is rejected only if it means none. The one other error is a failed allocation.
         ensures refused { RefusedOnlyIf result (Means MAX_SAFE_INTEGER text.now []) }
+        // Allocation never fails in place of a rejection.
+        ensures memory { MemoryOnlyIf result (Means MAX_SAFE_INTEGER text.now [] → ⊥) }
         // With pre-releases included, the range accepts exactly the versions that the text writes.
         ensures set { IfOk result (λ range. (v : VersionValue) →
             IsTrue (accepts range v true) ↔ Writes MAX_SAFE_INTEGER text.now v) }
@@ -50,7 +57,8 @@ impl Range {
 }
 
 impl<'a> RangeRef<'a> {
-    /// Reads a range text of any length, as `Range::parse` does. The range borrows the text.
+    /// Reads a range text of any length, as `Range::parse` does. The range borrows the text. One
+    /// interval stands inline, so that allocation fails only if the text means two or more.
     #[inline(always)]
     pub fn parse(alloc: Global, text: &'a str) -> Result<RangeRef<'a>, Failure<SemverError>>
         // The intervals are those that the text means, in order and with their builds.
@@ -58,6 +66,9 @@ impl<'a> RangeRef<'a> {
         ensures some { IfOk result (λ range. 0 < length range) }
         // The text is rejected only if it means none. The one other error is a failed allocation.
         ensures refused { RefusedOnlyIf result (Means MAX_SAFE_INTEGER text.now []) }
+        // Allocation fails only if the text means two intervals or more.
+        ensures memory { MemoryOnlyIf result ((r : List (Span VersionValue)) →
+            Means MAX_SAFE_INTEGER text.now r → 1 < length r) }
         // With pre-releases included, the range accepts exactly the versions that the text writes.
         ensures set { IfOk result (λ range. (v : VersionValue) →
             IsTrue (accepts range v true) ↔ Writes MAX_SAFE_INTEGER text.now v) }
@@ -75,6 +86,8 @@ fn read_some<'a, S: Filled<'a>>(text: &'a str, found: &mut S) -> Result<(), Fail
     ensures range { OnOk result (IsRange MAX_SAFE_INTEGER (S.items found.new)) }
     ensures ok { OnOk result (Means MAX_SAFE_INTEGER text.now (S.items found.new)) }
     ensures refused { RefusedOnlyIf result (Means MAX_SAFE_INTEGER text.now []) }
+    ensures memory { MemoryOnlyIf result ((r : List (Span VersionValue)) →
+        Means MAX_SAFE_INTEGER text.now r → S.room < length r) }
     ensures set { OnOk result ((v : VersionValue) →
         IsTrue (accepts (S.items found.new) v true) ↔ Writes MAX_SAFE_INTEGER text.now v) }
 {
@@ -85,14 +98,17 @@ fn read_some<'a, S: Filled<'a>>(text: &'a str, found: &mut S) -> Result<(), Fail
     Ok(())
 }
 
-// Reads the intervals of a text into an empty list. Most texts are common ones.
+// Reads the intervals of a text into an empty list. Most texts are common ones. Where the fast
+// reader fails to allocate, the text may have no interval, as `1.2.3-a_`, or only one, as
+// `1.2.3||1.2.4_`. So the loose reader decides there too.
 #[inline(never)]
 fn read<'a, S: Filled<'a>>(text: &'a str, found: &mut S) -> Result<(), AllocError>
     requires { S.items found.old ≡ [] }
-    ensures { OnOk result (S.items found.new ≡ denotes MAX_SAFE_INTEGER text.now) }
+    ensures read { OnOk result (S.items found.new ≡ denotes MAX_SAFE_INTEGER text.now) }
+    ensures memory { OnErr result (S.room < length (denotes MAX_SAFE_INTEGER text.now)) }
 {
-    if !read_common(text.as_bytes(), found)? {
-        found.read_any(text)?;
+    match read_common(text.as_bytes(), found) {
+        Ok(true) => Ok(()),
+        Ok(false) | Err(_) => found.read_any(text),
     }
-    Ok(())
 }

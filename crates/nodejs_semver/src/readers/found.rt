@@ -1,6 +1,6 @@
 // Lists of intervals that the readers fill.
 
-ghost use Rattle.std.specs.Prelude.{◌≡◌, ◌++◌, ◌∷◌, [], List, OnOk};
+ghost use Rattle.std.specs.Prelude.{◌≡◌, ◌<◌, ◌≤◌, ◌++◌, ◌∷◌, [], ℕ, List, OnErr, OnOk, length};
 ghost use Rattle.nodejs_semver.specs.Internal.Denotes.{denotes};
 ghost use Rattle.semver_core.specs.Cuts.{Span};
 ghost use Rattle.semver_core.specs.Lists.{is_empty};
@@ -21,9 +21,13 @@ pub(crate) trait Found<'a> {
     /// The intervals as contracts see them.
     ghost items: { Self → List (Span VersionValue) };
 
+    /// How many intervals it holds without an allocation.
+    ghost room: { ℕ };
+
     /// Adds an interval at the end.
     fn add(&mut self, interval: Interval<VersionRef<'a>>) -> Result<(), AllocError>
-        ensures { OnOk result (items self.new ≡ items self.old ++ interval.entry ∷ []) };
+        ensures added { OnOk result (items self.new ≡ items self.old ++ interval.entry ∷ []) }
+        ensures memory { OnErr result (room ≤ length (items self.old)) };
 
     /// Makes room for the intervals of a text.
     fn reserve_for(&mut self, text: &[u8]) -> Result<(), AllocError>
@@ -38,13 +42,16 @@ pub(crate) trait Filled<'a>: Found<'a> {
 
     /// Reads the intervals of a range text of any length, in place of what the list holds.
     fn read_any(&mut self, text: &'a str) -> Result<(), AllocError>
-        ensures { OnOk result (Self.items self.new ≡ denotes MAX_SAFE_INTEGER text.now) };
+        ensures read { OnOk result (Self.items self.new ≡ denotes MAX_SAFE_INTEGER text.now) }
+        ensures memory { OnErr result (Self.room < length (denotes MAX_SAFE_INTEGER text.now)) };
 }
 
-// Adds an interval at the end. A list that outgrows its place mostly has more than two.
+// Adds an interval at the end. A list that outgrows its place mostly has more than two. The first
+// interval stands inline.
 #[inline(always)]
 fn push<V: Point>(interval: Interval<V>, found: &mut Intervals<V>) -> Result<(), AllocError>
-    ensures { OnOk result (found.new.items ≡ found.old.items ++ interval ∷ []) }
+    ensures added { OnOk result (found.new.items ≡ found.old.items ++ interval ∷ []) }
+    ensures memory { OnErr result (0 < length found.old.items) }
 {
     if found.len() == found.capacity() {
         found.reserve(3)?;
@@ -69,6 +76,8 @@ fn make_room<V: Point>(text: &[u8], found: &mut Intervals<V>) -> Result<(), Allo
 impl<'a> Found<'a> for Intervals<VersionRef<'a>> {
     ghost items = { λ found. found.items };
 
+    ghost room = { 1 };
+
     #[inline(always)]
     fn add(&mut self, interval: Interval<VersionRef<'a>>) -> Result<(), AllocError> {
         push(interval, self)
@@ -83,6 +92,8 @@ impl<'a> Found<'a> for Intervals<VersionRef<'a>> {
 /// Intervals with versions of their own, each made where it is added.
 impl<'a> Found<'a> for Intervals<Version> {
     ghost items = { λ found. found.items };
+
+    ghost room = { 0 };
 
     #[inline(always)]
     fn add(&mut self, interval: Interval<VersionRef<'a>>) -> Result<(), AllocError> {

@@ -1,8 +1,8 @@
 // The intervals of a part. Memory is taken only where a list of intervals grows.
 
 ghost use Rattle.std.specs.Option.{option_to_list};
-ghost use Rattle.std.specs.Prelude.{◌≡◌, ◌<◌, ◌++◌, ◌∷◌, [], List, Option, IfOk, OnOk, is_some};
-ghost use Rattle.std.specs.Prelude.{length, true};
+ghost use Rattle.std.specs.Prelude.{◌≡◌, ◌<◌, ◌≤◌, ◌++◌, ◌∷◌, [], List, Option, IfOk, OnErr, OnOk};
+ghost use Rattle.std.specs.Prelude.{is_some, length, true};
 ghost use Rattle.semver_core.specs.Text.Identifiers.{is_listed, listed};
 ghost use Rattle.nodejs_semver.specs.Internal.Denotes.{part_bounds, part_intervals};
 ghost use Rattle.nodejs_semver.specs.Internal.CommonFronts.{pushed};
@@ -45,8 +45,9 @@ pub(crate) fn push_ordered<'a, S: Found<'a>>(
     found: &mut S,
 ) -> Result<(), AllocError>
     requires { is_interval precedence (bounds_view bounds) ≡ true }
-    ensures { OnOk result
+    ensures added { OnOk result
         (S.items found.new ≡ S.items found.old ++ bounds_view bounds.entry ∷ []) }
+    ensures memory { OnErr result (S.room ≤ length (S.items found.old)) }
 {
     found.add(Interval::of_ordered(bounds.lower, bounds.upper))
 }
@@ -59,9 +60,11 @@ pub(crate) fn push_between<'a, S: Found<'a>>(
     upper: Bound<VersionRef<'a>>,
     found: &mut S,
 ) -> Result<bool, AllocError>
-    ensures { let s = between_view lower.entry upper.entry in
+    ensures added { let s = between_view lower.entry upper.entry in
         IfOk result (λ there. both_view there (S.items found.new)
         ≡ pushed (S.items found.old) (interval precedence s)) }
+    ensures memory { let s = between_view lower.entry upper.entry in OnErr result
+        (S.room < length (S.items found.old ++ option_to_list (interval precedence s))) }
 {
     let Some(interval) = Interval::new(lower, upper) else {
         return Ok(false);
@@ -77,9 +80,12 @@ pub(crate) fn push_hyphen<'a, S: Found<'a>>(
     upper: Partial<'a>,
     found: &mut S,
 ) -> Result<bool, AllocError>
-    ensures { let w = hyphen (partial_view lower.entry) (partial_view upper.entry) in
+    ensures added { let w = hyphen (partial_view lower.entry) (partial_view upper.entry) in
         IfOk result (λ there. both_view there (S.items found.new)
         ≡ pushed (S.items found.old) (table MAX_SAFE_INTEGER w)) }
+    ensures memory { let w = hyphen (partial_view lower.entry) (partial_view upper.entry) in
+        OnErr result (S.room
+        < length (S.items found.old ++ option_to_list (table MAX_SAFE_INTEGER w))) }
 {
     let bounds = table::hyphen(&lower, &upper);
     push_between(bounds.lower, bounds.upper, found)
@@ -93,9 +99,12 @@ fn push_hyphen_behind<'a>(
     text: &'a [u8],
     found: &mut Intervals<VersionRef<'a>>,
 ) -> Result<Option<(bool, &'a [u8])>, AllocError>
-    ensures { let upper = upper_behind MAX_SAFE_INTEGER text.now in
+    ensures added { let upper = upper_behind MAX_SAFE_INTEGER text.now in
         IfOk result (λ read. hyphen_pushed_view read found.new.items
         ≡ hyphen_pushed MAX_SAFE_INTEGER found.old.items (partial_view lower.entry) upper) }
+    ensures memory { let upper = upper_behind MAX_SAFE_INTEGER text.now in
+        OnErr result (1 < length (hyphen_pushed MAX_SAFE_INTEGER found.old.items
+        (partial_view lower.entry) upper).1) }
 {
     let Some((upper, rest)) = words::upper_behind(text) else {
         return Ok(None);
@@ -113,9 +122,12 @@ fn push_upper<'a>(
     rest: &'a [u8],
     found: &mut Intervals<VersionRef<'a>>,
 ) -> Result<Option<(bool, &'a [u8])>, AllocError>
-    ensures { let upper = upper_of MAX_SAFE_INTEGER (sign_view sign) rest.now in
+    ensures added { let upper = upper_of MAX_SAFE_INTEGER (sign_view sign) rest.now in
         IfOk result (λ read. hyphen_pushed_view read found.new.items
         ≡ hyphen_pushed MAX_SAFE_INTEGER found.old.items (partial_view lower.entry) upper) }
+    ensures memory { let upper = upper_of MAX_SAFE_INTEGER (sign_view sign) rest.now in
+        OnErr result (1 < length (hyphen_pushed MAX_SAFE_INTEGER found.old.items
+        (partial_view lower.entry) upper).1) }
 {
     match (sign, rest) {
         (_, []) => Ok(None),
@@ -132,9 +144,12 @@ fn push_signed<'a>(
     partial: Partial<'a>,
     found: &mut Intervals<VersionRef<'a>>,
 ) -> Result<bool, AllocError>
-    ensures { let w = signed_word (sign_view sign) (partial_view partial.entry) in
+    ensures added { let w = signed_word (sign_view sign) (partial_view partial.entry) in
         IfOk result (λ there. both_view there found.new.items
         ≡ pushed found.old.items (table MAX_SAFE_INTEGER w)) }
+    ensures memory { let w = signed_word (sign_view sign) (partial_view partial.entry) in
+        OnErr result
+        (1 < length (found.old.items ++ option_to_list (table MAX_SAFE_INTEGER w))) }
 {
     match table::signed(sign, &partial) {
         Some(bounds) => {
@@ -152,9 +167,11 @@ fn push_word<'a>(
     text: &'a [u8],
     found: &mut Intervals<VersionRef<'a>>,
 ) -> Result<(bool, &'a [u8]), AllocError>
-    ensures { let w = word_at MAX_SAFE_INTEGER text.now in
+    ensures added { let w = word_at MAX_SAFE_INTEGER text.now in
         IfOk result (λ read. word_pushed_view read found.new.items
         ≡ word_pushed MAX_SAFE_INTEGER found.old.items w) }
+    ensures memory { let w = word_at MAX_SAFE_INTEGER text.now in
+        OnErr result (1 < length (word_pushed MAX_SAFE_INTEGER found.old.items w).1) }
 {
     let (sign, rest) = words::sign_front(text);
     let Some((partial, rest)) = partial::partial_front(rest) else {
@@ -180,6 +197,8 @@ fn push_next<'a>(
     ensures rest { IfOk result (λ read. read.1.now ≡ (next_at MAX_SAFE_INTEGER text.now).1) }
     ensures found { OnOk result (found.new.items
         ≡ found.old.items ++ option_to_list (next_at MAX_SAFE_INTEGER text.now).0) }
+    ensures memory { OnErr result (1
+        < length (found.old.items ++ option_to_list (next_at MAX_SAFE_INTEGER text.now).0)) }
 {
     let (there, rest) = push_word(text, found)?;
     Ok((there, spaces::skip_spaces(rest)))
@@ -204,6 +223,8 @@ fn next_interval<'a>(
 ) -> Result<(Option<Interval<VersionRef<'a>>>, &'a [u8]), AllocError>
     ensures value { IfOk result (λ r. next_view r.0 r.1 ≡ next_at MAX_SAFE_INTEGER text.now) }
     ensures kept { OnOk result (found.new.items ≡ found.old.items) }
+    ensures memory { OnErr result (1
+        < length (found.old.items ++ option_to_list (next_at MAX_SAFE_INTEGER text.now).0)) }
 {
     let (there, rest) = push_next(text, found)?;
     Ok((taken(there, found), rest))
@@ -216,9 +237,10 @@ fn join<'a>(
     next: Interval<VersionRef<'a>>,
     finished: &mut Intervals<VersionRef<'a>>,
 ) -> Result<Interval<VersionRef<'a>>, AllocError>
-    ensures { IfOk result (λ kept. (rest : List (Span VersionValue)) →
+    ensures joined { IfOk result (λ kept. (rest : List (Span VersionValue)) →
         finished.new.items ++ joined_from precedence kept rest
         ≡ finished.old.items ++ joined_from precedence running.entry (next.entry ∷ rest)) }
+    ensures memory { OnErr result (0 < length finished.old.items) }
 {
     match running.into_intersection(next) {
         Ok(common) => Ok(common),
@@ -237,8 +259,10 @@ pub(crate) fn read_part<'a>(
 ) -> Result<(), AllocError>
     requires some { 0 < length part.now }
     requires starts { space_len part.now ≡ 0 }
-    ensures { OnOk result (found.new.items ≡ found.old.items
+    ensures added { OnOk result (found.new.items ≡ found.old.items
         ++ part_intervals MAX_SAFE_INTEGER part.now) }
+    ensures memory { OnErr result
+        (1 < length (found.old.items ++ part_intervals MAX_SAFE_INTEGER part.now)) }
 {
     let mut rest = part;
     'words: loop {
@@ -261,8 +285,10 @@ fn read_words<'a>(
     found: &mut Intervals<VersionRef<'a>>,
 ) -> Result<(), AllocError>
     requires { space_len text.now ≡ 0 }
-    ensures { OnOk result (found.new.items ≡ found.old.items
+    ensures added { OnOk result (found.new.items ≡ found.old.items
         ++ joined_from precedence first.entry (part_bounds MAX_SAFE_INTEGER text.now)) }
+    ensures memory { OnErr result (1 < length (found.old.items
+        ++ joined_from precedence first.entry (part_bounds MAX_SAFE_INTEGER text.now))) }
 {
     let mut running = first;
     let mut rest = text;

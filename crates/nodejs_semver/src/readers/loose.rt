@@ -1,7 +1,7 @@
 // The reader of range texts, word by word.
 
 ghost use Rattle.std.specs.Prelude.{◌≡◌, ◌↔◌, ◌<◌, ◌++◌, ◌∷◌, [], IfNone, IfOk, IfSome, IsTrue, OnOk};
-ghost use Rattle.std.specs.Prelude.{flat_map, length};
+ghost use Rattle.std.specs.Prelude.{OnErr, flat_map, length};
 ghost use Rattle.std.specs.List.{list_all};
 ghost use Rattle.nodejs_semver.specs.Internal.Denotes.{denotes, part_denotes};
 ghost use Rattle.nodejs_semver.specs.Internal.PartFronts.{later_parts};
@@ -48,8 +48,10 @@ fn are_blank(text: Option<&str>) -> bool
 // its words.
 fn add_part<'a>(part: &'a str, found: &mut Intervals<VersionRef<'a>>) -> Result<(), AllocError>
     requires { space_len part.now ≡ 0 }
-    ensures { OnOk result (
+    ensures added { OnOk result (
         found.new.items ≡ found.old.items ++ part_denotes MAX_SAFE_INTEGER part.now) }
+    ensures memory { OnErr result
+        (1 < length (found.old.items ++ part_denotes MAX_SAFE_INTEGER part.now)) }
 {
     if part.is_empty() {
         return found.add(Interval::default());
@@ -66,8 +68,10 @@ fn add_parts<'a>(
 ) -> Result<(), AllocError>
     requires starts { space_len first.now ≡ 0 }
     requires empty { found.old.items ≡ [] }
-    ensures { OnOk result (found.new.items ≡ flat_map (part_denotes MAX_SAFE_INTEGER)
+    ensures added { OnOk result (found.new.items ≡ flat_map (part_denotes MAX_SAFE_INTEGER)
         (first.now ∷ later_parts (rest_view behind.entry))) }
+    ensures memory { OnErr result (1 < length (flat_map (part_denotes MAX_SAFE_INTEGER)
+        (first.now ∷ later_parts (rest_view behind.entry)))) }
 {
     add_part(first, found)?;
     let mut rest = behind;
@@ -79,14 +83,16 @@ fn add_parts<'a>(
     Ok(())
 }
 
-/// Reads the intervals of a range text of any length into a list, in place of what it holds.
+/// Reads the intervals of a range text of any length into a list, in place of what it holds. Fails
+/// only if allocation fails, and then the text has two intervals or more.
 #[cold]
 #[inline(never)]
 pub(crate) fn read_any<'a>(
     text: &'a str,
     found: &mut Intervals<VersionRef<'a>>,
 ) -> Result<(), AllocError>
-    ensures { OnOk result (found.new.items ≡ denotes MAX_SAFE_INTEGER text.now) }
+    ensures read { OnOk result (found.new.items ≡ denotes MAX_SAFE_INTEGER text.now) }
+    ensures memory { OnErr result (1 < length (denotes MAX_SAFE_INTEGER text.now)) }
 {
     found.clear();
     let (part, rest) = bars::next_part(text);
@@ -97,7 +103,7 @@ pub(crate) fn read_any<'a>(
 }
 
 /// Reads a range text of any length. Returns `None` if no part has an interval; fails only if
-/// allocation fails.
+/// allocation fails, and never in place of `None`.
 ///
 /// The text must not be blank: ask `is_blank` first. It is cut at `||`, and each part is read word
 /// by word (node-semver's range grammar). An empty part is one interval without bounds. A malformed
@@ -108,6 +114,8 @@ pub fn range_loose(alloc: Global, text: &str) -> Result<Option<Range>, AllocErro
     ensures some { IfOk result (λ found. IfSome found (λ range.
         Means MAX_SAFE_INTEGER text.now range × (0 < length range))) }
     ensures none { IfOk result (λ found. IfNone found (Means MAX_SAFE_INTEGER text.now [])) }
+    // Allocation never fails in place of `None`.
+    ensures memory { OnErr result (Means MAX_SAFE_INTEGER text.now [] → ⊥) }
 {
     let mut found = SmallVec::new(alloc);
     let (part, rest) = bars::next_part(text);

@@ -4,10 +4,10 @@ use Rattle.nodejs_semver.specs.Text.Common.{IsCommonRange}
 use Rattle.nodejs_semver.proofs.Everyday.Whole.{common_list}
 use Rattle.nodejs_semver.proofs.range.parse.read.Goals as goal
 
-pub returns-else-not-branch : goal.returns-else-not-branch
-returns-else-not-branch g c =
-    let there : IsTrue c.in_ok-read_common.field-0 = search rules in
+pub returns-in-Ok-true-clause-read : goal.returns-in-Ok-true-clause-read
+returns-in-Ok-true-clause-read g c =
+    let there : IsTrue c.in-Ok-true.field-0 = search rules in
     let common : IsCommonRange MAX_SAFE_INTEGER c.args.text.now (g.S.Found.items c.read_common.new.found) =
     subst (λ (t : List ℕ). IsCommonRange MAX_SAFE_INTEGER t (g.S.Found.items c.read_common.new.found)) c.as_bytes.ensures.value
-    (c.in_ok-read_common.ensures.some there) in
+    (c.in-Ok-true.ensures.some there) in
     common_list MAX_SAFE_INTEGER c.args.text.now (g.S.Found.items c.read_common.new.found) common

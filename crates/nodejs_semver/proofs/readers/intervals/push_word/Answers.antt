@@ -1,4 +1,5 @@
 use Rattle.std.proofs.Common.{◌≡◌, ◌∙◌, sym, true, false, ap, rules, refl, Bool, ℕ, List}
+use Rattle.std.proofs.lemmas.Result.{MatchResult-from_err}
 use Rattle.std.specs.Borrow.{Bor}
 use Rattle.std.specs.Prelude.{Option}
 use Rattle.semver_core.specs.Cuts.{Span}
@@ -8,32 +9,35 @@ use Rattle.nodejs_semver.specs.Internal.CommonFronts.{pushed}
 use Rattle.nodejs_semver.specs.Internal.Readings.{hyphen_pushed_view, partial_front_view, partial_view, sign_pair_view, sign_view, word_pushed_view}
 use Rattle.nodejs_semver.specs.Internal.Words.{signed_word, upper_of, from_boundary, is_boundary, word_at}
 use Rattle.nodejs_semver.specs.Text.Table.{table}
-use Rattle.nodejs_semver.proofs.Reading.SignLaw.{no_hyphen, pushed_hyphen, pushed_malformed, pushed_word, word-as}
+use Rattle.nodejs_semver.proofs.Reading.SignLaw.{longer_hyphen, longer_signed, no_hyphen, pushed_hyphen, pushed_malformed}
+use Rattle.nodejs_semver.proofs.Reading.SignLaw.{pushed_word, word-as}
 use Rattle.nodejs_semver.proofs.readers.intervals.push_word.Goals as goal
 use Rattle.nodejs_semver.specs.Text.WordText.{malformed}
 
-pub returns-in_default : goal.returns-in_default
-returns-in_default c =
+pub returns-in_default-clause-added : goal.returns-in_default-clause-added
+returns-in_default-clause-added c =
     let text = c.args.text.now in
     let word : word_at MAX_SAFE_INTEGER text ≡ (malformed, from_boundary text) =
     word-as MAX_SAFE_INTEGER text (sign_pair_view c.sign_front-sign.result) (partial_front_view c.partial_front.result)
     c.sign_front-sign.ensures c.partial_front.ensures ∙ rw (ap partial_front_view c.in_default.is) refl in
     pushed_malformed MAX_SAFE_INTEGER c.args.found.now.items (word_at MAX_SAFE_INTEGER text) c.skip_to_boundary.result.now (from_boundary text) word c.skip_to_boundary.ensures
 
-pub returns-in-Some-2 : goal.returns-in-Some-2
-returns-in-Some-2 c =
+pub returns-in-Some-2-clause-added : goal.returns-in-Some-2-clause-added
+returns-in-Some-2-clause-added c =
     pushed_hyphen MAX_SAFE_INTEGER c.args.text.now (sign_pair_view c.sign_front-sign.result)
     (partial_front_view c.partial_front.result) (partial_view c.in-Some.partial) c.in-Some.rest.now
     (upper_of MAX_SAFE_INTEGER (sign_view c.sign_front-sign.result.0) c.in-Some.rest.now) c.args.found.now.items c.push_upper.new.found.items (c.in-Some-2.read.0, c.in-Some-2.read.1.now)
     c.sign_front-sign.ensures c.partial_front.ensures (ap partial_front_view c.in-Some.is) refl
-    (sym (ap (λ (o : Option (Bool × Bor (List ℕ))). hyphen_pushed_view o c.push_upper.new.found.items) c.in-Some-2.is) ∙ c.in_ok-read.ensures)
+    (sym (ap (λ (o : Option (Bool × Bor (List ℕ))). hyphen_pushed_view o c.push_upper.new.found.items) c.in-Some-2.is)
+    ∙ c.in_ok-read.ensures.added)
 
-pub returns-then-not-is_boundary : goal.returns-then-not-is_boundary
-returns-then-not-is_boundary c =
+pub returns-then-not-is_boundary-clause-added : goal.returns-then-not-is_boundary-clause-added
+returns-then-not-is_boundary-clause-added c =
     let text = c.args.text.now in
     let upper = upper_of MAX_SAFE_INTEGER (sign_view c.sign_front-sign.result.0) c.in-Some.rest.now in
     let none = no_hyphen MAX_SAFE_INTEGER (partial_view c.in-Some.partial) upper c.args.found.now.items c.push_upper.new.found.items
-    (sym (ap (λ (o : Option (Bool × Bor (List ℕ))). hyphen_pushed_view o c.push_upper.new.found.items) c.in_default-2.is) ∙ c.in_ok-read.ensures) in
+    (sym (ap (λ (o : Option (Bool × Bor (List ℕ))). hyphen_pushed_view o c.push_upper.new.found.items) c.in_default-2.is)
+    ∙ c.in_ok-read.ensures.added) in
     let goes : is_boundary c.in-Some.rest.now ≡ false = search rules in
     let word : word_at MAX_SAFE_INTEGER text ≡ (malformed, from_boundary text) =
     word-as MAX_SAFE_INTEGER text (sign_pair_view c.sign_front-sign.result) (partial_front_view c.partial_front.result)
@@ -42,18 +46,39 @@ returns-then-not-is_boundary c =
     ∙ pushed_malformed MAX_SAFE_INTEGER c.args.found.now.items (word_at MAX_SAFE_INTEGER text) c.skip_to_boundary-then-not-is_boundary.result.now (from_boundary text) word
     c.skip_to_boundary-then-not-is_boundary.ensures
 
-pub returns : goal.returns
-returns c =
+pub returns-clause-added : goal.returns-clause-added
+returns-clause-added c =
     let text = c.args.text.now in
     let sign = sign_view c.sign_front-sign.result.0 in
     let partial = partial_view c.in-Some.partial in
     let upper = upper_of MAX_SAFE_INTEGER sign c.in-Some.rest.now in
     let none = no_hyphen MAX_SAFE_INTEGER partial upper c.args.found.now.items c.push_upper.new.found.items
-    (sym (ap (λ (o : Option (Bool × Bor (List ℕ))). hyphen_pushed_view o c.push_upper.new.found.items) c.in_default-2.is) ∙ c.in_ok-read.ensures) in
+    (sym (ap (λ (o : Option (Bool × Bor (List ℕ))). hyphen_pushed_view o c.push_upper.new.found.items) c.in_default-2.is)
+    ∙ c.in_ok-read.ensures.added) in
     let ends : is_boundary c.in-Some.rest.now ≡ true = search rules in
     let word : word_at MAX_SAFE_INTEGER text ≡ (signed_word sign partial, c.in-Some.rest.now) =
     word-as MAX_SAFE_INTEGER text (sign_pair_view c.sign_front-sign.result) (partial_front_view c.partial_front.result)
     c.sign_front-sign.ensures c.partial_front.ensures ∙ rw (ap partial_front_view c.in-Some.is, none.0, ends) refl in
     pushed_word MAX_SAFE_INTEGER c.args.found.now.items c.push_signed.new.found.items c.in_ok-there.there (signed_word sign partial) (word_at MAX_SAFE_INTEGER text)
     c.in-Some.rest.now word
-    (c.in_ok-there.ensures ∙ ap (λ (l : List (Span VersionValue)). pushed l (table MAX_SAFE_INTEGER (signed_word sign partial))) none.1)
+    (c.in_ok-there.ensures.added
+    ∙ ap (λ (l : List (Span VersionValue)). pushed l (table MAX_SAFE_INTEGER (signed_word sign partial))) none.1)
+
+pub returns-in_err-read-clause-memory : goal.returns-in_err-read-clause-memory
+returns-in_err-read-clause-memory c =
+    MatchResult-from_err c.from_residual.result _ _ c.from_residual.ensures.0 (λ _.
+    longer_hyphen MAX_SAFE_INTEGER c.args.text.now (sign_pair_view c.sign_front-sign.result)
+    (partial_front_view c.partial_front.result) (partial_view c.in-Some.partial) c.in-Some.rest.now
+    (upper_of MAX_SAFE_INTEGER (sign_view c.sign_front-sign.result.0) c.in-Some.rest.now) c.args.found.now.items
+    c.sign_front-sign.ensures c.partial_front.ensures (ap partial_front_view c.in-Some.is) refl c.in_err-read.ensures.memory)
+
+pub returns-in_err-there-clause-memory : goal.returns-in_err-there-clause-memory
+returns-in_err-there-clause-memory c =
+    let ends : is_boundary c.in-Some.rest.now ≡ true = search rules in
+    MatchResult-from_err c.from_residual-in_err-there.result _ _ c.from_residual-in_err-there.ensures.0 (λ _.
+    longer_signed MAX_SAFE_INTEGER c.args.text.now (sign_pair_view c.sign_front-sign.result)
+    (partial_front_view c.partial_front.result) (partial_view c.in-Some.partial) c.in-Some.rest.now c.args.found.now.items
+    c.push_upper.new.found.items c.sign_front-sign.ensures c.partial_front.ensures (ap partial_front_view c.in-Some.is)
+    (sym (ap (λ (o : Option (Bool × Bor (List ℕ))). hyphen_pushed_view o c.push_upper.new.found.items) c.in_default-2.is)
+    ∙ c.in_ok-read.ensures.added)
+    ends c.in_err-there.ensures.memory)

@@ -1,19 +1,21 @@
-use Rattle.std.proofs.Common.{◌≡◌, ◌++◌, List, length, sym, ap, ◌∙◌, arith, subst, Some, None}
-use Rattle.std.specs.Prelude.{OnOk}
+use Rattle.std.proofs.Common.{◌≡◌, ◌<◌, ◌++◌, List, length, sym, ap, ◌∙◌, arith, subst, Some, None}
+use Rattle.std.proofs.lemmas.Result.{MatchResult-from_err}
+use Rattle.std.specs.Prelude.{OnErr, OnOk}
 use Rattle.semver_core.specs.Cuts.{Span}
 use Rattle.semver_core.specs.Values.Versions.{VersionValue}
 use Rattle.semver_core.specs.declared.TheConstants.{MAX_SAFE_INTEGER}
-use Rattle.nodejs_semver.specs.Internal.Meets.{next_at}
-use Rattle.nodejs_semver.specs.Internal.Denotes.{part_intervals}
-use Rattle.nodejs_semver.proofs.Dividing.PartSteps.{part-begins, part-last, part-step, read-is}
+use Rattle.semver_core.specs.Values.Order.{precedence}
+use Rattle.nodejs_semver.specs.Internal.Meets.{joined_from, next_at}
+use Rattle.nodejs_semver.specs.Internal.Denotes.{part_bounds, part_intervals}
+use Rattle.nodejs_semver.proofs.Dividing.PartSteps.{longer_part, part-begins, part-last, part-step, read-is}
 use Rattle.nodejs_semver.proofs.Dividing.PartSteps.{read-next, read-shorter, read-starts}
 use Rattle.nodejs_semver.proofs.readers.intervals.read_part.Goals as goal
 
 pub words-init : goal.words-init
 words-init c = grind (arith, part-begins)
 
-pub returns-then-is_empty : goal.returns-then-is_empty
-returns-then-is_empty c =
+pub returns-then-is_empty-clause-added : goal.returns-then-is_empty-clause-added
+returns-then-is_empty-clause-added c =
     let rest = c.words.rest.now in
     let after = c.in_ok-there.after.now in
     let none : length after ≡ 0 = grind arith in
@@ -29,18 +31,35 @@ read_words-requires c =
     let after = c.in_ok-there.after.now in
     read-starts MAX_SAFE_INTEGER rest after (next_at MAX_SAFE_INTEGER rest).0 (read-next MAX_SAFE_INTEGER rest after c.in_ok-there.ensures.rest)
 
-pub returns-in-Some : goal.returns-in-Some
-returns-in-Some c =
+-- what the running interval and those behind it add is the intervals of the part
+whole-at : (c : goal.After-read_words) → c.taken.new.found.items
+    ++ joined_from precedence c.in-Some.first (part_bounds MAX_SAFE_INTEGER c.in_ok-there.after.now)
+    ≡ c.args.found.now.items ++ part_intervals MAX_SAFE_INTEGER c.args.part.now
+whole-at c =
     let rest = c.words.rest.now in
     let after = c.in_ok-there.after.now in
     let taken = c.taken.ensures c.words.found.items (next_at MAX_SAFE_INTEGER rest).0 c.in_ok-there.ensures.there c.in_ok-there.ensures.found in
     let read = read-is MAX_SAFE_INTEGER rest after (next_at MAX_SAFE_INTEGER rest).0 (Some c.in-Some.first) (sym c.in-Some.is ∙ taken.0)
     (read-next MAX_SAFE_INTEGER rest after c.in_ok-there.ensures.rest) in
     let first = part-step MAX_SAFE_INTEGER rest after _ c.words.invariant.some c.words.invariant.starts read in
-    subst (λ (l : List (Span VersionValue)). OnOk c.read_words.result (c.read_words.new.found.items ≡ l))
-    (ap (λ (l : List (Span VersionValue)). c.taken.new.found.items ++ l) (sym first ∙ c.words.invariant.whole)
-    ∙ ap (λ (l : List (Span VersionValue)). l ++ part_intervals MAX_SAFE_INTEGER c.args.part.now) (taken.1 ∙ c.words.invariant.same))
-    c.read_words.ensures
+    ap (λ (l : List (Span VersionValue)). c.taken.new.found.items ++ l) (sym first ∙ c.words.invariant.whole)
+    ∙ ap (λ (l : List (Span VersionValue)). l ++ part_intervals MAX_SAFE_INTEGER c.args.part.now)
+    (taken.1 ∙ c.words.invariant.same)
+
+pub returns-in-Some-clause-added : goal.returns-in-Some-clause-added
+returns-in-Some-clause-added c =
+    subst (λ (l : List (Span VersionValue)). OnOk c.read_words.result (c.read_words.new.found.items ≡ l)) (whole-at c)
+    c.read_words.ensures.added
+
+pub returns-in-Some-clause-memory : goal.returns-in-Some-clause-memory
+returns-in-Some-clause-memory c =
+    subst (λ (l : List (Span VersionValue)). OnErr c.read_words.result (1 < length l)) (whole-at c) c.read_words.ensures.memory
+
+pub returns-in_err-there-clause-memory : goal.returns-in_err-there-clause-memory
+returns-in_err-there-clause-memory c =
+    MatchResult-from_err c.from_residual.result _ _ c.from_residual.ensures.0 (λ _.
+    longer_part MAX_SAFE_INTEGER c.args.part.now c.words.rest.now c.args.found.now.items c.words.found.items
+    c.words.invariant.same c.words.invariant.whole c.words.invariant.some c.words.invariant.starts c.in_err-there.ensures.memory)
 
 pub words-smaller : goal.words-smaller
 words-smaller c =

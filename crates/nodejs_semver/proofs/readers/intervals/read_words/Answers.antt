@@ -1,12 +1,14 @@
 use Rattle.std.proofs.Common.{◌≡◌, ◌<◌, ◌++◌, ◌∷◌, List, length, sym, ap, ◌∙◌, arith, subst, Some, None}
+use Rattle.std.proofs.lemmas.Result.{MatchResult-from_err, on_err_weaker}
 use Rattle.std.specs.Prelude.{OnOk}
 use Rattle.semver_core.specs.Cuts.{Span}
 use Rattle.semver_core.specs.Values.Order.{precedence}
 use Rattle.semver_core.specs.Values.Versions.{VersionValue}
 use Rattle.semver_core.specs.declared.TheConstants.{MAX_SAFE_INTEGER}
 use Rattle.nodejs_semver.specs.Internal.Denotes.{part_bounds}
-use Rattle.nodejs_semver.specs.Internal.Meets.{joined_from}
-use Rattle.nodejs_semver.proofs.Dividing.PartSteps.{bounds-step, read-is, read-shorter, read-starts, words-last}
+use Rattle.nodejs_semver.specs.Internal.Meets.{joined_from, next_at}
+use Rattle.nodejs_semver.proofs.Dividing.PartSteps.{bounds-step, had_one, longer_joined, read-is, read-shorter, read-starts}
+use Rattle.nodejs_semver.proofs.Dividing.PartSteps.{words-last}
 use Rattle.nodejs_semver.proofs.readers.intervals.read_words.Goals as goal
 
 pub words-smaller-in-Some : goal.words-smaller-in-Some
@@ -27,7 +29,7 @@ words-preserved-in-Some c =
     let read = read-is MAX_SAFE_INTEGER rest after c.in_ok-next.next (Some c.in-Some.next) (sym c.in-Some.is) c.in_ok-next.ensures.value in
     let bounds = bounds-step MAX_SAFE_INTEGER rest after (Some c.in-Some.next) some c.words.invariant.starts read in
     record {
-      whole = c.in_ok-running.ensures (part_bounds MAX_SAFE_INTEGER after)
+      whole = c.in_ok-running.ensures.joined (part_bounds MAX_SAFE_INTEGER after)
           ∙ (ap (λ (l : List (Span VersionValue)). l ++ joined_from precedence c.words.running (c.in-Some.next ∷ part_bounds MAX_SAFE_INTEGER after)) c.in_ok-next.ensures.kept
           ∙ (ap (λ (l : List (Span VersionValue)). c.words.found.items ++ joined_from precedence c.words.running l) (sym bounds) ∙ c.words.invariant.whole));
       starts = read-starts MAX_SAFE_INTEGER rest after c.in_ok-next.next c.in_ok-next.ensures.value;
@@ -46,9 +48,29 @@ words-preserved c =
       starts = read-starts MAX_SAFE_INTEGER rest after c.in_ok-next.next c.in_ok-next.ensures.value;
     }
 
-pub returns : goal.returns
-returns c =
+pub returns-clause-added : goal.returns-clause-added
+returns-clause-added c =
     let none : length c.words.rest.now ≡ 0 = grind arith in
     let last = words-last MAX_SAFE_INTEGER c.words.rest.now c.words.running none in
     subst (λ (l : List (Span VersionValue)). OnOk c.add.result (c.add.new.self.items ≡ l))
-    (ap (λ (l : List (Span VersionValue)). c.words.found.items ++ l) (sym last) ∙ c.words.invariant.whole) c.add.ensures
+    (ap (λ (l : List (Span VersionValue)). c.words.found.items ++ l) (sym last) ∙ c.words.invariant.whole) c.add.ensures.added
+
+-- the list is to have one interval more than it has, at least
+pub returns-clause-memory : goal.returns-clause-memory
+returns-clause-memory c =
+    on_err_weaker c.add.result (λ some. rw (← c.words.invariant.whole)
+    (longer_joined c.words.found.items c.words.running (part_bounds MAX_SAFE_INTEGER c.words.rest.now) some)) c.add.ensures.memory
+
+pub returns-in_err-next-clause-memory : goal.returns-in_err-next-clause-memory
+returns-in_err-next-clause-memory c =
+    MatchResult-from_err c.from_residual.result _ _ c.from_residual.ensures.0 (λ _. rw (← c.words.invariant.whole)
+    (longer_joined c.words.found.items c.words.running (part_bounds MAX_SAFE_INTEGER c.words.rest.now)
+    (had_one c.words.found.items (next_at MAX_SAFE_INTEGER c.words.rest.now).0 c.in_err-next.ensures.memory)))
+
+pub returns-in_err-running-clause-memory : goal.returns-in_err-running-clause-memory
+returns-in_err-running-clause-memory c =
+    let some : 0 < length c.words.found.items =
+    omega (arith, c.in_err-running.ensures.memory, ap length c.in_ok-next.ensures.kept) in
+    MatchResult-from_err c.from_residual-in_err-running.result _ _ c.from_residual-in_err-running.ensures.0 (λ _.
+    rw (← c.words.invariant.whole)
+    (longer_joined c.words.found.items c.words.running (part_bounds MAX_SAFE_INTEGER c.words.rest.now) some))
