@@ -1,8 +1,10 @@
 pub mod BestOf
+pub mod Named
 pub mod Next
 pub mod LeastHeld
 pub mod LeastOf
 pub mod LeastPieces
+pub mod Memory
 pub mod OutsideLaw
 pub mod Raised
 pub mod Starts

@@ -1,8 +1,8 @@
 // Ranges: lists of intervals of versions.
 
-ghost use Rattle.std.specs.Prelude.{◌≡◌, ◌+◌, IfOk, IsOk, true};
-ghost use Rattle.std.specs.List.{list_all};
-ghost use Rattle.nodejs_semver.specs.Internal.Sets.{is_range_span};
+ghost use Rattle.std.specs.Prelude.{◌≡◌, ◌+◌, ◌<◌, ◌⊎◌, IfOk, IsOk, OnErr, length, true};
+ghost use Rattle.std.specs.List.{list_all, list_any};
+ghost use Rattle.nodejs_semver.specs.Internal.Sets.{bounds_identifiers, is_range_span};
 ghost use Rattle.semver_core.specs.declared.TheConstants.{MAX_SAFE_INTEGER};
 ghost use Rattle.semver_core.specs.Lists.{if_any};
 ghost use Rattle.nodejs_semver.specs.Ranges.View.{IsRange, any_version};
@@ -111,7 +111,9 @@ impl Range {
 
     // The range with versions of its own.
     pub(crate) fn of_borrowed(alloc: Global, range: &RangeRef<'_>) -> Result<Range, AllocError>
-        ensures { IfOk result (λ r. r ≡ range.now) }
+        ensures whole { IfOk result (λ r. r ≡ range.now) }
+        ensures memory { OnErr result ((1 < length range.now)
+            ⊎ (list_any bounds_identifiers range.now ≡ true)) }
     {
         let intervals = owned::owned_intervals(alloc, range.intervals())?;
         Ok(Range { intervals })

@@ -5,7 +5,7 @@ use Rattle.std.specs.Ordering.{is_le, is_gt}
 use Rattle.std.proofs.lemmas.Bool.{and_from, or_cases, or_left, or_right}
 use Rattle.std.proofs.lemmas.List.Elements.{All-cons, All-nil}
 use Rattle.std.specs.List.{All, list_any}
-use Rattle.std.specs.Cmp.{first_so, tied_itself}
+use Rattle.std.specs.Cmp.{first_so, tied_itself, alike_right}
 use Rattle.semver_core.specs.Internal.Sides.{Near, Far}
 use Rattle.semver_core.specs.Cuts.{Span, holds, is_past, lower_cut, upper_cut, Beside}
 use Rattle.semver_core.specs.declared.cuts.bound.Bound.{Bound}
@@ -14,12 +14,13 @@ use Rattle.semver_core.specs.Values.Order.{precedence}
 use Rattle.semver_core.specs.Internal.OrderLaws.{precedence_total}
 use Rattle.semver_core.specs.Values.Versions.{VersionValue, is_release}
 use Rattle.semver_core.specs.Internal.Successors.{above_patch}
-use Rattle.semver_core.proofs.CutLaws.{tells}
+use Rattle.semver_core.proofs.CutLaws.{cut_total, tells}
 use Rattle.semver_core.proofs.Values.NextLaws.{first_of_all, least_after_release}
 use Rattle.nodejs_semver.specs.Ranges.Gate.{accepts}
 use Rattle.nodejs_semver.specs.Ranges.Least.{IsLeastOf}
-use Rattle.nodejs_semver.specs.Internal.Candidates.{first_pre, pre_after, patch_after, first_past, least_of}
-use Rattle.nodejs_semver.proofs.Algebra.FlatMaps.{empty_is}
+use Rattle.nodejs_semver.specs.Internal.Candidates.{bare, first_pre, pre_after, patch_after, first_past, improves, least_of}
+use Rattle.nodejs_semver.proofs.Algebra.FlatMaps.{any_same, empty_is}
+use Rattle.nodejs_semver.proofs.Algebra.Triples.{triple_total}
 use Rattle.nodejs_semver.proofs.Algebra.Gate.{past_order}
 use Rattle.nodejs_semver.proofs.Choice.Next.{le_not_gt, next_pre_above, next_pre_least}
 use Rattle.nodejs_semver.proofs.Choice.LeastPieces.{far_less, past_up, past_less, past_near}
@@ -99,3 +100,14 @@ bare_firsts (s ∷ ss) = All-cons (λ v. v.build ≡ []) (first_past s.lower) (f
 pub held_bare : (ss : List (Span VersionValue)) (r : Option VersionValue) → r ≡ least_of (λ v. accepts ss v true) (firsts_past ss)
     → IfSome r (λ v. v.build ≡ [])
 held_bare ss r e = list_bare (λ v. accepts ss v true) (firsts_past ss) r (bare_firsts ss) e
+
+-- a version without its build improves on the best so far, and is held, as it does and is with it
+pub improves_bare : (best : Option VersionValue) (w : VersionValue) (ss : List (Span VersionValue))
+    → (improves best (bare w) && accepts ss (bare w) true) ≡ (improves best w && accepts ss w true)
+improves_bare best w ss = grind (arith, held_built)
+  where
+    one_built : (s : Span VersionValue) → (holds precedence s (bare w) && true) ≡ (holds precedence s w && true)
+    one_built s = grind (arith, alike_right, cut_total, precedence_total, tied_itself, triple_total)
+
+    held_built : accepts ss (bare w) true ≡ accepts ss w true
+    held_built = any_same _ _ one_built ss

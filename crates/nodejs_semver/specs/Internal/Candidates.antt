@@ -1,7 +1,7 @@
 -- For proofs and private contracts: the versions among which the least ones are found.
 use Rattle.std.specs.Prelude.{◌≡◌, ◌+◌, Bool, true, false, ◌&&◌, not, List, [], ◌∷◌, ◌++◌}
-use Rattle.std.specs.Prelude.{if◌then◌else◌, Option, Some, None, fold, ⊤, ◌<◌, ◌^◌, ◌-◌}
-use Rattle.std.specs.List.{flat_map, list_all}
+use Rattle.std.specs.Prelude.{if◌then◌else◌, Option, Some, None, fold, ⊤, ◌<◌, ◌^◌, ◌-◌, ◌⊎◌}
+use Rattle.std.specs.List.{Any, flat_map, list_all}
 use Rattle.std.specs.Ordering.{is_le, is_lt}
 use Rattle.semver_core.specs.Internal.Sides.{Near, Far}
 use Rattle.semver_core.specs.Cuts.{Span, Cut, Start, Beside, End, holds}
@@ -139,3 +139,21 @@ IsLeastSoFar ss (Some v) = IsLeastBuilt ss v
 abbrev pub lesser : Option VersionValue → VersionValue → VersionValue
 lesser None next = next
 lesser (Some best) next = if is_le (precedence best next) then best else next
+
+-- there is such a version
+abbrev pub Finds : List (Span VersionValue) → List (List (Span VersionValue)) → List (Span VersionValue) → Type 0
+Finds ks kss ls = (v : VersionValue) × (among ks kss ls v ≡ true)
+
+-- the bound is `>v` of a pre-release v: the version after v is made before it is known to be in the set
+abbrev pub IsAfterPre : Bound VersionValue → Type 0
+IsAfterPre b = (v : VersionValue) × (b ≡ After v) × (is_release v ≡ false)
+
+abbrev pub BeginsAfterPre : List (Span VersionValue) → Type 0
+BeginsAfterPre ss = Any (λ s. IsAfterPre s.lower) ss
+
+abbrev pub EndsAfterPre : List (Span VersionValue) → Type 0
+EndsAfterPre ss = Any (λ s. IsAfterPre s.upper) ss
+
+-- when the search may allocate: it finds a version, or has to make one to try it
+abbrev pub MayAllocate : List (Span VersionValue) → List (List (Span VersionValue)) → List (Span VersionValue) → Type 0
+MayAllocate ks kss ls = Finds ks kss ls ⊎ BeginsAfterPre ks ⊎ Any BeginsAfterPre kss ⊎ EndsAfterPre ls

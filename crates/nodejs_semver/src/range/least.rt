@@ -8,17 +8,20 @@
 // the least version is among these first versions: these are the candidates, at most four for an
 // interval of a kept list, and two for one of the removed list.
 
-ghost use Rattle.nodejs_semver.specs.Ranges.Gate.{accepts, lets_in};
+ghost use Rattle.nodejs_semver.specs.Ranges.Gate.{accepts, lets_in, passes};
 ghost use Rattle.nodejs_semver.specs.Internal.Candidates as spec;
 ghost use Rattle.nodejs_semver.specs.Ranges.Least as stated;
 ghost use Rattle.semver_core.specs.Internal.Sides.{Near, Far};
 ghost use Rattle.semver_core.specs.Cuts.{Beside, holds};
+ghost use Rattle.semver_core.specs.Lists.{is_empty};
 ghost use Rattle.semver_core.specs.Values.Order.{precedence};
-ghost use Rattle.std.specs.List.{flat_map, list_any};
+ghost use Rattle.semver_core.specs.Values.Versions.{VersionValue, is_release};
+ghost use Rattle.std.specs.List.{Any, flat_map, list_any};
 ghost use Rattle.std.specs.Option.{option_copied};
 ghost use Rattle.semver_core.specs.declared.cuts.bound.Bound.TheVariants.{After};
-ghost use Rattle.std.specs.Prelude.{All, IfOk, IfSome, OnOk, Some, [], false, find, fold};
-ghost use Rattle.std.specs.Prelude.{◌&&◌, ◌-◌, ◌<◌, ◌≡◌, ◌^◌, ◌∷◌};
+ghost use Rattle.std.specs.Prelude.{All, IfOk, IfSome, OnErr, OnOk, Some, [], false, true};
+ghost use Rattle.std.specs.Prelude.{find, fold, length, not};
+ghost use Rattle.std.specs.Prelude.{◌&&◌, ◌||◌, ◌-◌, ◌<◌, ◌≡◌, ◌^◌, ◌∷◌, ◌⊎◌};
 
 use crate::range::gate::{accepts, accepts_one};
 use crate::range::neighbours::{
@@ -31,7 +34,11 @@ use std::alloc::{AllocError, Global};
 
 impl Range {
     /// The smallest version that the range accepts by `satisfies`. Returns `None` exactly where it
-    /// accepts no version at all, as `>1.0.0 <1.0.1-0`. Fails only if allocation fails.
+    /// accepts no version at all, as `>1.0.0 <1.0.1-0`.
+    ///
+    /// Fails only if allocation fails, which happens only where the range accepts a version, or
+    /// where it has a lower bound `>v` of a pre-release v: then v with one more identifier is made
+    /// before it is known to be accepted.
     ///
     /// A result that comes from a lower bound has that bound's build: from `>=v` it is v itself,
     /// from `>v` the next patch where v is a release, and else v with one more identifier, the
@@ -50,13 +57,19 @@ impl Range {
     pub fn min_version(&self, alloc: Global) -> Result<Option<Version>, AllocError>
         ensures least { IfOk result (λ r. stated.IsLeastOf (λ v. accepts self.now v false) r) }
         ensures build { IfOk result (λ r. IfSome r (λ v. v.build ≡ stated.least_build self.now v)) }
+        ensures memory { OnErr result (((v : VersionValue) × (accepts self.now v false ≡ true))
+            ⊎ Any (λ s. (v : VersionValue) × (s.lower ≡ After v) × (is_release v ≡ false))
+            self.now) }
     {
         least_accepted(alloc, self.intervals())
     }
 
     /// The smallest version that this range accepts by `satisfies` and the other does not, without
     /// a build. Returns `None` exactly where the other accepts every version that this one accepts.
-    /// Fails only if allocation fails.
+    ///
+    /// Fails only if allocation fails, which happens only where there is such a version, or where
+    /// this range has a lower bound `>v` of a pre-release v, or the other an upper bound `<=v` of
+    /// one: then v with one more identifier is made before it is known to be such a version.
     ///
     /// It is not the smallest version of the difference of the two: `>=1.2.3-a` beyond `>=1.0.0` is
     /// 1.2.3-a, which the second range holds and does not accept.
@@ -73,6 +86,11 @@ impl Range {
     pub fn least_beyond(&self, alloc: Global, other: &Range) -> Result<Option<Version>, AllocError>
         ensures least { IfOk result (λ r. stated.IsLeastOf (stated.beyond self.now other.now) r) }
         ensures build { IfOk result (λ r. IfSome r (λ v. v.build ≡ [])) }
+        ensures memory { OnErr result
+            (((v : VersionValue) × (stated.beyond self.now other.now v ≡ true))
+            ⊎ Any (λ s. (v : VersionValue) × (s.lower ≡ After v) × (is_release v ≡ false)) self.now
+            ⊎ Any (λ s. (v : VersionValue) × (s.upper ≡ After v) × (is_release v ≡ false))
+            other.now) }
     {
         least_among(alloc, self.intervals(), &[], other.intervals())
     }
@@ -80,10 +98,15 @@ impl Range {
 
 impl<'a> RangeRef<'a> {
     /// The smallest version that the range accepts, as `Range::min_version` says. Fails only if
-    /// allocation fails.
+    /// allocation fails, which happens only where the range accepts a version, or where
+    /// `RangeRef::to_range` may fail.
     pub fn min_version(&self, alloc: Global) -> Result<Option<Version>, AllocError>
         ensures least { IfOk result (λ r. stated.IsLeastOf (λ v. accepts self.now v false) r) }
         ensures build { IfOk result (λ r. IfSome r (λ v. v.build ≡ stated.least_build self.now v)) }
+        ensures memory { let named = passes (λ v. not (is_release v && is_empty v.build)) in
+            OnErr result (((v : VersionValue) × (accepts self.now v false ≡ true))
+            ⊎ (1 < length self.now)
+            ⊎ (list_any (λ s. named s.lower || named s.upper) self.now ≡ true)) }
     {
         if let Some(version) = least_start(self.intervals()) {
             let found = version.to_version(alloc)?;
@@ -94,7 +117,8 @@ impl<'a> RangeRef<'a> {
     }
 
     /// The smallest version that this range accepts and the other does not, as
-    /// `Range::least_beyond` says. Fails only if allocation fails.
+    /// `Range::least_beyond` says. Fails only if allocation fails, which happens only where there
+    /// is such a version, or where `RangeRef::to_range` may fail for one of the two.
     pub fn least_beyond(
         &self,
         alloc: Global,
@@ -102,6 +126,12 @@ impl<'a> RangeRef<'a> {
     ) -> Result<Option<Version>, AllocError>
         ensures least { IfOk result (λ r. stated.IsLeastOf (stated.beyond self.now other.now) r) }
         ensures build { IfOk result (λ r. IfSome r (λ v. v.build ≡ [])) }
+        ensures memory { let named = passes (λ v. not (is_release v && is_empty v.build)) in
+            OnErr result (((v : VersionValue) × (stated.beyond self.now other.now v ≡ true))
+            ⊎ (1 < length self.now)
+            ⊎ (list_any (λ s. named s.lower || named s.upper) self.now ≡ true)
+            ⊎ (1 < length other.now)
+            ⊎ (list_any (λ s. named s.lower || named s.upper) other.now ≡ true)) }
     {
         let range = self.to_range(alloc)?;
         let removed = other.to_range(alloc)?;
@@ -197,11 +227,14 @@ impl<'a> Search<'a> {
     // Otherwise nothing is copied.
     #[tactic(auto, using(crate::proofs::Choice::LeastOf::improves_bare))]
     fn consider_borrowed(&mut self, alloc: Global, version: &Version) -> Result<(), AllocError>
-        ensures { let set = spec.among self.old.kept.now self.old.also.now self.old.removed.now in
+        ensures best { let set =
+            spec.among self.old.kept.now self.old.also.now self.old.removed.now in
             OnOk result (self.new ≡ record self.old {
               best =
                   spec.better set self.old.best (spec.bare version.now);
             }) }
+        ensures memory { OnErr result
+            (spec.Finds self.old.kept.now self.old.also.now self.old.removed.now) }
     {
         if self.improves(version) {
             let found = bare(alloc, version)?;
@@ -214,11 +247,14 @@ impl<'a> Search<'a> {
     #[inline(always)]
     #[tactic(auto, using(crate::proofs::Choice::LeastOf::reached_near))]
     fn consider_from(&mut self, alloc: Global, version: &Version) -> Result<(), AllocError>
-        ensures { let set = spec.among self.old.kept.now self.old.also.now self.old.removed.now in
+        ensures best { let set =
+            spec.among self.old.kept.now self.old.also.now self.old.removed.now in
             OnOk result (self.new ≡ record self.old {
               best =
                   fold (spec.better set) self.old.best (spec.firsts (Beside version.now Near));
             }) }
+        ensures memory { OnErr result
+            (spec.Finds self.old.kept.now self.old.also.now self.old.removed.now) }
     {
         if self.is_reached(version) {
             Ok(())
@@ -230,11 +266,14 @@ impl<'a> Search<'a> {
     // Considers the first versions from this one on, whatever the best so far is.
     #[inline(never)]
     fn consider_near(&mut self, alloc: Global, version: &Version) -> Result<(), AllocError>
-        ensures { let set = spec.among self.old.kept.now self.old.also.now self.old.removed.now in
+        ensures best { let set =
+            spec.among self.old.kept.now self.old.also.now self.old.removed.now in
             OnOk result (self.new ≡ record self.old {
               best =
                   fold (spec.better set) self.old.best (spec.firsts (Beside version.now Near));
             }) }
+        ensures memory { OnErr result
+            (spec.Finds self.old.kept.now self.old.also.now self.old.removed.now) }
     {
         self.consider_borrowed(alloc, version)?;
         if !version.is_release() {
@@ -243,15 +282,18 @@ impl<'a> Search<'a> {
         Ok(())
     }
 
-    // Considers the first versions after this one.
+    // Considers the first versions after this one. That after a pre-release is made before it is
+    // known to improve on the best so far.
     #[tactic(auto, using(crate::proofs::Choice::LeastOf::reached_far))]
     fn consider_after(&mut self, alloc: Global, version: &Version) -> Result<(), AllocError>
         requires { version.now.patch < 2 ^ 64 - 1 }
-        ensures { let set = spec.among self.old.kept.now self.old.also.now self.old.removed.now in
+        ensures best { let set =
+            spec.among self.old.kept.now self.old.also.now self.old.removed.now in
             OnOk result (self.new ≡ record self.old {
               best =
                   fold (spec.better set) self.old.best (spec.firsts (Beside version.now Far));
             }) }
+        ensures memory { OnErr result (is_release version.now ≡ false) }
     {
         if self.is_reached(version) {
             return Ok(());
@@ -268,12 +310,16 @@ impl<'a> Search<'a> {
     // Considers the first versions past the cut of a bound.
     fn consider_past(&mut self, alloc: Global, bound: &Bound<Version>) -> Result<(), AllocError>
         requires { spec.Raisable bound.now }
-        ensures { let set = spec.among self.old.kept.now self.old.also.now self.old.removed.now in
+        ensures best { let set =
+            spec.among self.old.kept.now self.old.also.now self.old.removed.now in
             OnOk result (self.new ≡ record self.old {
               best =
                   fold (spec.better set) self.old.best
                   (flat_map spec.firsts (spec.beside bound.now));
             }) }
+        ensures memory { OnErr result
+            (spec.Finds self.old.kept.now self.old.also.now self.old.removed.now
+            ⊎ spec.IsAfterPre bound.now) }
     {
         match bound {
             Bound::Unbounded => Ok(()),
@@ -285,12 +331,15 @@ impl<'a> Search<'a> {
     // Considers the first versions from the first pre-release with these three numbers on. Mostly
     // the version is that pre-release, as in `<2.0.0-0`, and none is made.
     fn consider_first_pre(&mut self, alloc: Global, version: &Version) -> Result<(), AllocError>
-        ensures { let set = spec.among self.old.kept.now self.old.also.now self.old.removed.now in
+        ensures best { let set =
+            spec.among self.old.kept.now self.old.also.now self.old.removed.now in
             OnOk result (self.new ≡ record self.old {
               best =
                   fold (spec.better set) self.old.best
                   (spec.firsts (Beside (spec.first_pre version.now) Near));
             }) }
+        ensures memory { OnErr result
+            (spec.Finds self.old.kept.now self.old.also.now self.old.removed.now) }
     {
         if is_first_pre(version) {
             return self.consider_from(alloc, version);
@@ -300,12 +349,15 @@ impl<'a> Search<'a> {
 
     // Considers the first versions past the cut below the pre-releases that a bound names.
     fn consider_named(&mut self, alloc: Global, bound: &Bound<Version>) -> Result<(), AllocError>
-        ensures { let set = spec.among self.old.kept.now self.old.also.now self.old.removed.now in
+        ensures best { let set =
+            spec.among self.old.kept.now self.old.also.now self.old.removed.now in
             OnOk result (self.new ≡ record self.old {
               best =
                   fold (spec.better set) self.old.best
                   (flat_map spec.firsts (spec.below_named bound.now));
             }) }
+        ensures memory { OnErr result
+            (spec.Finds self.old.kept.now self.old.also.now self.old.removed.now) }
     {
         match bound {
             Bound::Before(version) | Bound::After(version) if !version.is_release() => {
@@ -319,12 +371,16 @@ impl<'a> Search<'a> {
     #[inline(always)]
     fn consider_list(&mut self, alloc: Global, list: &[Interval<Version>]) -> Result<(), AllocError>
         requires { All spec.IsRaisable list.now }
-        ensures { let set = spec.among self.old.kept.now self.old.also.now self.old.removed.now in
+        ensures best { let set =
+            spec.among self.old.kept.now self.old.also.now self.old.removed.now in
             OnOk result (self.new ≡ record self.old {
               best =
                   fold (spec.better set) self.old.best
                   (flat_map spec.firsts (spec.list_marks list.now));
             }) }
+        ensures memory { OnErr result
+            (spec.Finds self.old.kept.now self.old.also.now self.old.removed.now
+            ⊎ spec.BeginsAfterPre list.now) }
     {
         for interval in list {
             self.consider_past(alloc, interval.lower())?;
@@ -336,12 +392,16 @@ impl<'a> Search<'a> {
     // Considers all that the further ranges bring.
     #[tactic(auto, using(crate::proofs::Choice::Raised::raisable))]
     fn consider_also(&mut self, alloc: Global) -> Result<(), AllocError>
-        ensures { let set = spec.among self.old.kept.now self.old.also.now self.old.removed.now in
+        ensures best { let set =
+            spec.among self.old.kept.now self.old.also.now self.old.removed.now in
             OnOk result (self.new ≡ record self.old {
               best =
                   fold (spec.better set) self.old.best
                   (flat_map spec.firsts (flat_map spec.list_marks self.old.also.now));
             }) }
+        ensures memory { OnErr result
+            (spec.Finds self.old.kept.now self.old.also.now self.old.removed.now
+            ⊎ Any spec.BeginsAfterPre self.old.also.now) }
     {
         let ranges = self.also;
         for range in ranges {
@@ -353,12 +413,16 @@ impl<'a> Search<'a> {
     // Considers all that the last list brings.
     fn consider_removed(&mut self, alloc: Global) -> Result<(), AllocError>
         requires { All spec.IsRaisable self.old.removed.now }
-        ensures { let set = spec.among self.old.kept.now self.old.also.now self.old.removed.now in
+        ensures best { let set =
+            spec.among self.old.kept.now self.old.also.now self.old.removed.now in
             OnOk result (self.new ≡ record self.old {
               best =
                   fold (spec.better set) self.old.best
                   (flat_map spec.firsts (flat_map spec.removed_marks self.old.removed.now));
             }) }
+        ensures memory { OnErr result
+            (spec.Finds self.old.kept.now self.old.also.now self.old.removed.now
+            ⊎ spec.EndsAfterPre self.old.removed.now) }
     {
         let intervals = self.removed;
         for interval in intervals {
@@ -376,9 +440,10 @@ impl<'a> Search<'a> {
     ) -> Result<Option<Version>, AllocError>
         requires kept { All spec.IsRaisable kept.now }
         requires removed { All spec.IsRaisable removed.now }
-        ensures { IfOk result (λ r.
+        ensures best { IfOk result (λ r.
             r ≡ spec.least_of (spec.among kept.now also.now removed.now)
             (spec.candidates (kept.now ∷ also.now) removed.now)) }
+        ensures memory { OnErr result (spec.MayAllocate kept.now also.now removed.now) }
     {
         let best = None;
         let mut search = Search {
@@ -415,6 +480,7 @@ pub(crate) fn least_among(
     ensures least { IfOk result (λ r.
         stated.IsLeastOf (spec.among kept.now also.now removed.now) r) }
     ensures build { IfOk result (λ r. IfSome r (λ v. v.build ≡ [])) }
+    ensures memory { OnErr result (spec.MayAllocate kept.now also.now removed.now) }
 {
     Ok(Search::run(alloc, kept, also, removed)?)
 }
@@ -517,6 +583,8 @@ fn least_accepted(
     ensures least { IfOk result (λ r. stated.IsLeastOf (λ v. accepts intervals.now v false) r) }
     ensures build { IfOk result (λ r.
         IfSome r (λ v. v.build ≡ stated.least_build intervals.now v)) }
+    ensures memory { OnErr result (((v : VersionValue) × (accepts intervals.now v false ≡ true))
+        ⊎ spec.BeginsAfterPre intervals.now) }
 {
     match least_among(alloc, intervals, &[], &[])? {
         None => Ok(None),

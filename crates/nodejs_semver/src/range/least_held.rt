@@ -1,9 +1,14 @@
 // The least version of a range with pre-releases included.
 
 ghost use Rattle.nodejs_semver.specs.Internal.Candidates as spec;
-ghost use Rattle.nodejs_semver.specs.Ranges.Gate.{accepts};
+ghost use Rattle.nodejs_semver.specs.Ranges.Gate.{accepts, passes};
 ghost use Rattle.nodejs_semver.specs.Ranges.Least as stated;
-ghost use Rattle.std.specs.Prelude.{◌≡◌, [], IfOk, IfSome, true};
+ghost use Rattle.semver_core.specs.Values.Versions.{VersionValue, is_release};
+ghost use Rattle.semver_core.specs.declared.cuts.bound.Bound.TheVariants.{After};
+ghost use Rattle.semver_core.specs.Lists.{is_empty};
+ghost use Rattle.std.specs.List.{Any, list_any};
+ghost use Rattle.std.specs.Prelude.{◌≡◌, ◌&&◌, ◌||◌, ◌-◌, ◌<◌, ◌^◌, ◌⊎◌, []};
+ghost use Rattle.std.specs.Prelude.{IfOk, IfSome, OnErr, OnOk, false, length, not, true};
 
 use crate::range::neighbours::{bare, pre_after};
 use crate::{Range, RangeRef};
@@ -14,7 +19,11 @@ use std::alloc::{AllocError, Global};
 impl Range {
     /// The smallest version that the range accepts with pre-releases included, as
     /// `satisfies_with_prerelease` does, without a build. Returns `None` exactly where the range
-    /// holds no version, as `>1.0.0 <1.0.1-0`. Fails only if allocation fails.
+    /// holds no version, as `>1.0.0 <1.0.1-0`.
+    ///
+    /// Fails only if allocation fails, which happens only where the range holds a version, or where
+    /// it has a lower bound `>v` of a pre-release v: then v with one more identifier is made before
+    /// it is known to be held.
     ///
     /// There is one in every range that holds a version, although the order has endless descending
     /// chains, as 1.0.0-b, 1.0.0-ab, 1.0.0-aab and so on: what an interval holds begins at its
@@ -34,18 +43,14 @@ impl Range {
     pub fn min_version_with_prerelease(&self, alloc: Global) -> Result<Option<Version>, AllocError>
         ensures least { IfOk result (λ r. stated.IsLeastOf (λ v. accepts self.now v true) r) }
         ensures build { IfOk result (λ r. IfSome r (λ v. v.build ≡ [])) }
+        ensures memory { OnErr result (((v : VersionValue) × (accepts self.now v true ≡ true))
+            ⊎ Any (λ s. (v : VersionValue) × (s.lower ≡ After v) × (is_release v ≡ false))
+            self.now) }
     {
         let intervals = self.intervals();
         let mut best: Option<Version> = None;
         for interval in intervals {
-            let first = first_past(alloc, interval.lower())?;
-            let is_below = match &best {
-                None => true,
-                Some(best) => first.cmp(best).is_lt(),
-            };
-            if is_below && self.satisfies_with_prerelease(&first, true) {
-                best = Some(first);
-            }
+            consider_past(self, alloc, &mut best, interval.lower())?;
         }
         Ok(best)
     }
@@ -53,28 +58,80 @@ impl Range {
 
 impl<'a> RangeRef<'a> {
     /// The smallest version that the range accepts with pre-releases included, as
-    /// `Range::min_version_with_prerelease` says. Fails only if allocation fails.
+    /// `Range::min_version_with_prerelease` says. Fails only if allocation fails, which happens
+    /// only where the range holds a version, or where `RangeRef::to_range` may fail.
     pub fn min_version_with_prerelease(&self, alloc: Global) -> Result<Option<Version>, AllocError>
         ensures least { IfOk result (λ r. stated.IsLeastOf (λ v. accepts self.now v true) r) }
         ensures build { IfOk result (λ r. IfSome r (λ v. v.build ≡ [])) }
+        ensures memory { let named = passes (λ v. not (is_release v && is_empty v.build)) in
+            OnErr result (((v : VersionValue) × (accepts self.now v true ≡ true))
+            ⊎ (1 < length self.now)
+            ⊎ (list_any (λ s. named s.lower || named s.upper) self.now ≡ true)) }
     {
         let range = self.to_range(alloc)?;
         range.min_version_with_prerelease(alloc)
     }
 }
 
-// The first version past the cut of a lower bound, pre-releases included.
-fn first_past(alloc: Global, bound: &Bound<Version>) -> Result<Version, AllocError>
+// Whether the version is below the best so far, and the range holds it.
+fn improves(range: &Range, best: &Option<Version>, version: &Version) -> bool
+    ensures { result ≡ (spec.improves best.now version.now && accepts range.now version.now true) }
+{
+    let is_below = match best {
+        None => true,
+        Some(best) => version.cmp(best).is_lt(),
+    };
+    is_below && range.satisfies_with_prerelease(version, true)
+}
+
+// Keeps the version where it improves on the best so far.
+fn consider(range: &Range, best: &mut Option<Version>, version: Version)
+    ensures { best.new ≡ spec.better (λ v. accepts range.now v true) best.old version }
+{
+    if improves(range, best, &version) {
+        *best = Some(version);
+    }
+}
+
+// Considers the first version past the cut of a lower bound. That of `>=v` is copied only where it
+// improves on the best so far.
+#[tactic(auto, using(crate::proofs::Choice::LeastHeld::improves_bare))]
+fn consider_past(
+    range: &Range,
+    alloc: Global,
+    best: &mut Option<Version>,
+    bound: &Bound<Version>,
+) -> Result<(), AllocError>
     requires { spec.Raisable bound.now }
-    ensures { IfOk result (λ v. v ≡ spec.first_past bound.now) }
+    ensures best { OnOk result
+        (best.new ≡ spec.better (λ v. accepts range.now v true) best.old
+        (spec.first_past bound.now)) }
+    ensures memory { OnErr result (((v : VersionValue) × (accepts range.now v true ≡ true))
+        ⊎ spec.IsAfterPre bound.now) }
 {
     match bound {
-        Bound::Unbounded => Ok(Version::with_pre(alloc, 0, 0, 0, 0)?),
-        Bound::Before(version) => Ok(bare(alloc, version)?),
-        Bound::After(version) if version.is_release() => {
-            let (major, minor, patch) = (version.major(), version.minor(), version.patch());
-            Ok(Version::with_pre(alloc, major, minor, patch + 1, 0)?)
+        Bound::Unbounded => consider(range, best, Version::with_pre(alloc, 0, 0, 0, 0)?),
+        Bound::Before(version) => {
+            if improves(range, best, version) {
+                let found = bare(alloc, version)?;
+                *best = Some(found);
+            }
         }
-        Bound::After(version) => Ok(pre_after(alloc, version)?),
+        Bound::After(version) => consider(range, best, first_after(alloc, version)?),
+    }
+    Ok(())
+}
+
+// The first version after this one, pre-releases included.
+fn first_after(alloc: Global, version: &Version) -> Result<Version, AllocError>
+    requires { version.now.patch < 2 ^ 64 - 1 }
+    ensures value { IfOk result (λ v. v ≡ spec.first_past (After version.now)) }
+    ensures memory { OnErr result (is_release version.now ≡ false) }
+{
+    if version.is_release() {
+        let (major, minor, patch) = (version.major(), version.minor(), version.patch());
+        Ok(Version::with_pre(alloc, major, minor, patch + 1, 0)?)
+    } else {
+        Ok(pre_after(alloc, version)?)
     }
 }

@@ -1,6 +1,6 @@
 // Versions beside another one.
 
-ghost use Rattle.std.specs.Prelude.{◌≡◌, ◌+◌, ◌-◌, ◌<◌, ◌^◌, [], ◌∷◌, IfOk, IsTrue};
+ghost use Rattle.std.specs.Prelude.{◌≡◌, ◌+◌, ◌-◌, ◌<◌, ◌^◌, [], ◌∷◌, IfOk, IsOk, IsTrue};
 ghost use Rattle.nodejs_semver.specs.Internal.Candidates as spec;
 ghost use Rattle.semver_core.specs.Text.Identifiers.{Numeric};
 ghost use Rattle.semver_core.specs.Values.Views.{ids_view, parts_value};
@@ -25,7 +25,8 @@ pub(crate) fn patch_after(version: &Version) -> Version
 
 // The first pre-release of the same three numbers.
 pub(crate) fn first_pre(alloc: Global, version: &Version) -> Result<Version, AllocError>
-    ensures { IfOk result (λ v. v ≡ spec.first_pre version.now) }
+    ensures value { IfOk result (λ v. v ≡ spec.first_pre version.now) }
+    ensures succeeds { IsOk result }
 {
     Version::with_pre(alloc, version.major(), version.minor(), version.patch(), 0)
 }

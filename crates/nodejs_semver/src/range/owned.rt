@@ -1,6 +1,12 @@
 // Borrowed ranges with versions of their own.
 
-ghost use Rattle.std.specs.Prelude.{◌≡◌, ◌<◌, ◌∷◌, [], IfOk, IsSome, OnErr, length};
+ghost use Rattle.nodejs_semver.specs.Internal.Sets as spec;
+ghost use Rattle.nodejs_semver.specs.Ranges.Gate.{passes};
+ghost use Rattle.semver_core.specs.Lists.{is_empty};
+ghost use Rattle.semver_core.specs.Values.Versions.{is_release};
+ghost use Rattle.std.specs.List.{list_any};
+ghost use Rattle.std.specs.Prelude.{◌≡◌, ◌≢◌, ◌<◌, ◌∷◌, ◌&&◌, ◌||◌, ◌⊎◌, [], IfOk, IsSome, OnErr};
+ghost use Rattle.std.specs.Prelude.{length, not, true};
 
 use crate::range::Intervals;
 use crate::{Range, RangeRef};
@@ -10,9 +16,13 @@ use smallvec::SmallVec;
 use std::alloc::{AllocError, Global};
 
 impl<'a> RangeRef<'a> {
-    /// The same range with versions of its own. Fails only if allocation fails.
+    /// The same range with versions of its own. Fails only if allocation fails, which happens only
+    /// where it has more than one interval, or a bound with a pre-release or build metadata.
     pub fn to_range(&self, alloc: Global) -> Result<Range, AllocError>
-        ensures { IfOk result (λ range. range ≡ self.now) }
+        ensures whole { IfOk result (λ range. range ≡ self.now) }
+        ensures memory { let named = passes (λ v. not (is_release v && is_empty v.build)) in
+            OnErr result ((1 < length self.now)
+            ⊎ (list_any (λ s. named s.lower || named s.upper) self.now ≡ true)) }
     {
         Range::of_borrowed(alloc, self)
     }
@@ -23,7 +33,7 @@ pub(crate) fn owned_range(
     alloc: Global,
     range: Option<RangeRef<'_>>,
 ) -> Result<Option<Range>, AllocError>
-    ensures same { IfOk result (λ r. r ≡ range.entry) }
+    ensures whole { IfOk result (λ r. r ≡ range.entry) }
     ensures memory { OnErr result (IsSome range.entry) }
 {
     match range {
@@ -35,7 +45,8 @@ pub(crate) fn owned_range(
 // The bound with a version of its own.
 #[inline(always)]
 fn owned_bound(alloc: Global, bound: &Bound<VersionRef<'_>>) -> Result<Bound<Version>, AllocError>
-    ensures { IfOk result (λ b. b ≡ bound.now) }
+    ensures whole { IfOk result (λ b. b ≡ bound.now) }
+    ensures memory { OnErr result (passes spec.has_identifiers bound.now ≡ true) }
 {
     Ok(match bound {
         Bound::Unbounded => Bound::Unbounded,
@@ -50,7 +61,8 @@ pub(crate) fn owned_interval(
     alloc: Global,
     interval: &Interval<VersionRef<'_>>,
 ) -> Result<Interval<Version>, AllocError>
-    ensures { IfOk result (λ i. i ≡ interval.now) }
+    ensures whole { IfOk result (λ i. i ≡ interval.now) }
+    ensures memory { OnErr result (spec.bounds_identifiers interval.now ≡ true) }
 {
     let lower = owned_bound(alloc, interval.lower())?;
     let upper = owned_bound(alloc, interval.upper())?;
@@ -63,7 +75,8 @@ fn owned_one(
     alloc: Global,
     interval: &Interval<VersionRef<'_>>,
 ) -> Result<Intervals<Version>, AllocError>
-    ensures { IfOk result (λ owned. owned.items ≡ interval.now ∷ []) }
+    ensures whole { IfOk result (λ owned. owned.items ≡ interval.now ∷ []) }
+    ensures memory { OnErr result (spec.bounds_identifiers interval.now ≡ true) }
 {
     Ok(SmallVec::from_buf(alloc, [owned_interval(alloc, interval)?]))
 }
@@ -74,8 +87,10 @@ pub(crate) fn owned_intervals(
     alloc: Global,
     intervals: &[Interval<VersionRef<'_>>],
 ) -> Result<Intervals<Version>, AllocError>
-    ensures same { IfOk result (λ owned. owned.items ≡ intervals.now) }
-    ensures memory { OnErr result (0 < length intervals.now) }
+    ensures whole { IfOk result (λ owned. owned.items ≡ intervals.now) }
+    ensures some { OnErr result (0 < length intervals.now) }
+    ensures memory { OnErr result ((length intervals.now ≢ 1)
+        ⊎ (list_any spec.bounds_identifiers intervals.now ≡ true)) }
 {
     match intervals {
         [interval] => owned_one(alloc, interval),
@@ -89,7 +104,7 @@ fn owned_list(
     alloc: Global,
     intervals: &[Interval<VersionRef<'_>>],
 ) -> Result<Intervals<Version>, AllocError>
-    ensures same { IfOk result (λ owned. owned.items ≡ intervals.now) }
+    ensures whole { IfOk result (λ owned. owned.items ≡ intervals.now) }
     ensures memory { OnErr result (0 < length intervals.now) }
 {
     Ok(SmallVec::from_vec(owned_vec(alloc, intervals)?))
@@ -101,7 +116,7 @@ fn owned_vec(
     alloc: Global,
     intervals: &[Interval<VersionRef<'_>>],
 ) -> Result<Vec<Interval<Version>>, AllocError>
-    ensures same { IfOk result (λ owned. owned.items ≡ intervals.now) }
+    ensures whole { IfOk result (λ owned. owned.items ≡ intervals.now) }
     ensures memory { OnErr result (0 < length intervals.now) }
 {
     let mut owned = Vec::with_capacity(alloc, intervals.len())?;

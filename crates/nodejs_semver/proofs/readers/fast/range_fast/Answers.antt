@@ -19,4 +19,4 @@ returns-clause-denoted c =
     (subst (λ (t : List ℕ). IsUtf8 t → IfSome c.from_intervals.result (Means MAX_SAFE_INTEGER t)) c.as_bytes.ensures.value
     (λ u. common_means MAX_SAFE_INTEGER c.as_bytes.result.now c.read_common.new.found.items c.from_intervals.result u
     (c.in_ok-read_common.ensures.some there) c.from_intervals.ensures)
-    c.utf8.text)) c.owned_range.ensures.same
+    c.utf8.text)) c.owned_range.ensures.whole

@@ -27,7 +27,7 @@ pub returns-clause-some : goal.returns-clause-some
 returns-clause-some c =
     IfOk-weaker c.owned_range.result (λ r. r ≡ c.from_intervals.result) _ (λ r e. rw e
     (meant_some MAX_SAFE_INTEGER c.args.text.now c.add_parts.new.found.items c.from_intervals.result c.utf8.text
-    (found-is c) c.from_intervals.ensures)) c.owned_range.ensures.same
+    (found-is c) c.from_intervals.ensures)) c.owned_range.ensures.whole
 
 pub returns-clause-none : goal.returns-clause-none
 returns-clause-none c = grind (arith, IfOk-weaker, meant_none)
