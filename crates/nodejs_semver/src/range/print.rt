@@ -1,6 +1,7 @@
 // How ranges print.
 
 ghost use Rattle.std.specs.Fmt.{DisplaysStyledOnOk};
+ghost use Rattle.std.specs.Ordering.{is_eq};
 ghost use Rattle.std.specs.Prelude.{◌≡◌, ◌++◌, Some};
 ghost use Rattle.semver_core.specs.Printing.Text.{version_text};
 ghost use Rattle.nodejs_semver.specs.Internal.AnyVersions as of;
@@ -54,6 +55,14 @@ fn write_upper<V: Versioned, W: fmt::Write>(
     }
 }
 
+// Whether the versions are equal. It is not inlined: `write_interval` then takes less.
+#[inline(never)]
+fn are_equal<V: Versioned>(v: &V, w: &V) -> bool
+    ensures { result ≡ is_eq (V.cmp v.now w.now) }
+{
+    v.cmp(w).is_eq()
+}
+
 // An interval: its bounds, or one version where they are `>=v` and `<=w` and v equals w.
 fn write_interval<V: Versioned, W: fmt::Write>(
     interval: &Interval<V>,
@@ -67,7 +76,7 @@ fn write_interval<V: Versioned, W: fmt::Write>(
         (Bound::Unbounded, Bound::Unbounded) => f.write_str("*"),
         (Bound::Unbounded, _) => write_upper(upper, f),
         (_, Bound::Unbounded) => write_lower(lower, f),
-        (Bound::Before(v), Bound::After(w)) if v.cmp(w).is_eq() => v.print(f),
+        (Bound::Before(v), Bound::After(w)) if are_equal(v, w) => v.print(f),
         (_, _) => {
             write_lower(lower, f)?;
             f.write_str(" ")?;

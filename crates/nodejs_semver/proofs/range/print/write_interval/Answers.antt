@@ -1,6 +1,6 @@
 use Rattle.std.proofs.Common.{refl, rules}
 use Rattle.std.proofs.Output.{has_written_styled_append, has_written_styled_of_eq}
-use Rattle.nodejs_semver.proofs.range.print.write_interval.Goals.{in_default-via-in-Before-After+else-is_eq}
+use Rattle.nodejs_semver.proofs.range.print.write_interval.Goals.{in_default-via-in-Before-After+else-are_equal}
 use Rattle.nodejs_semver.proofs.range.print.write_interval.Goals.{in_default-via-in-Before+in_default}
 use Rattle.nodejs_semver.proofs.range.print.write_interval.Goals.{in_default-via-in_default+in_default}
 use Rattle.nodejs_semver.proofs.range.print.write_interval.Goals as goal
@@ -11,7 +11,7 @@ returns-in_ok-write_str-in_default g c flush ok =
     let space = c.in_ok-write_str-in_default.ensures.styled lower.flush refl in
     let upper = c.write_upper-in_default.ensures space.flush ok in
     has_written_styled_of_eq _ _ _ _ _ (elim c.in_default.branch [
-      | in_default-via-in-Before-After+else-is_eq w ↦ search rules
+      | in_default-via-in-Before-After+else-are_equal w ↦ search rules
       | in_default-via-in-Before+in_default w ↦ search rules
       | in_default-via-in_default+in_default w ↦ search rules
     ])
