@@ -1,22 +1,34 @@
 -- One part of a common text after another.
 use Rattle.std.proofs.Common.{◌≡◌, ℕ, zero, suc, ◌<◌, ◌≤◌, List, [], ◌∷◌, ◌++◌, length, refl}
-use Rattle.std.proofs.Common.{arith, true, false, Some, None, append_assoc}
-use Rattle.std.specs.Prelude.{Option}
+use Rattle.std.proofs.Common.{arith, true, false, Some, None, append_assoc, inl, inr, subst, sym}
+use Rattle.std.specs.Prelude.{◌⊎◌, IfSome, Option}
 use Rattle.semver_core.specs.Failures.{NoValue}
 use Rattle.semver_core.specs.Cuts.{Span}
 use Rattle.semver_core.specs.Internal.Reading.{◌>>?◌}
-use Rattle.semver_core.specs.Lists.{is_empty}
+use Rattle.semver_core.specs.Lists.{if_any, is_empty}
 use Rattle.semver_core.specs.Values.Versions.{VersionValue}
 use Rattle.nodejs_semver.specs.Internal.CommonFronts.{after_bars, common_range, common_within, part_front, passed}
-use Rattle.nodejs_semver.specs.Text.Common.{IsCommonRange}
+use Rattle.nodejs_semver.specs.Text.Bars.{has_bars}
+use Rattle.nodejs_semver.specs.Text.Common.{IsCommonRange, more_parts, one_part}
 use Rattle.nodejs_semver.proofs.Everyday.Bounds.{Added, behind, passed-none, passed-some}
-use Rattle.nodejs_semver.proofs.Everyday.Parts.{common_ranges_are_read, next-shorter}
+use Rattle.nodejs_semver.proofs.Everyday.Parts.{bars-sound, common_ranges_are_read, next-shorter, part-sound}
+
+abbrev HasBars : List ℕ → Type 0
+HasBars text = has_bars text ≡ true
+
+behind-bars : (front rest : List ℕ) → HasBars rest → HasBars (front ++ rest)
+behind-bars [] rest h = h
+behind-bars (b ∷ front) rest h =
+    let more = behind-bars front rest h in
+    grind (arith, more)
 
 -- the intervals that were found, and those that are read in what is left of the text, are those of the whole text
 pub record Reaches (limit : ℕ) (text : List ℕ) (found : List (Span VersionValue)) (rest : List ℕ) : Type 0 where
   pub bytes : ℕ
   pub room : length rest ≤ bytes
   pub whole : (common_within limit bytes rest >>? λ tail. Some (found ++ tail)) ≡ common_range limit text
+  pub some : (found ≡ []) ⊎ HasBars text
+  pub within : HasBars rest → HasBars text
 
 pub loop-starts : (limit : ℕ) (text rest : List ℕ) (found : List (Span VersionValue)) → rest ≡ text → found ≡ []
     → Reaches limit text found rest
@@ -86,13 +98,46 @@ loop-ends limit text found new rest left s none r =
     let a = added-by limit found new rest left s in
     grind (arith, ends-there, common_ranges_are_read)
 
+-- bars stand behind a part
+bars-there : (limit : ℕ) (rest left next : List ℕ) (s : Span VersionValue) → part_front limit rest ≡ Some (s, left)
+    → after_bars left ≡ Some next → HasBars rest
+bars-there limit rest left next s h k =
+    let p = part-sound limit rest (s, left) h in
+    let b = bars-sound left next k in
+    let there : HasBars left = subst HasBars (sym b.divided) (behind-bars b.before _ refl) in
+    subst HasBars (sym p.1) (behind-bars p.0 left there)
+
+pub loop-bars : (limit : ℕ) (text : List ℕ) (found new : List (Span VersionValue)) (rest left next : List ℕ)
+    → Step limit found new rest left → after_bars left ≡ Some next → Reaches limit text found rest → HasBars text
+loop-bars limit text found new rest left next s bars r =
+    let a = added-by limit found new rest left s in
+    r.within (bars-there limit rest left next a.interval_is a.found bars)
+
+-- two parts or more have bars between them
+several-bars : (limit : ℕ) (text : List ℕ) (list : List (Span VersionValue)) → IsCommonRange limit text list → 1 < length list
+    → HasBars text
+several-bars limit text list (one_part t s is) h = absurd (omega arith)
+several-bars limit text list (more_parts part before after t s others is b a more) h = behind-bars part _ (behind-bars before _ refl)
+
+never-empty : (limit : ℕ) (text : List ℕ) → IsCommonRange limit text [] → ⊥
+never-empty limit text h = grind (arith, h)
+
+-- what needs memory in a common text
+pub common_memory : (Named : List (Span VersionValue) → Type 0) (limit : ℕ) (text : List ℕ) (list : List (Span VersionValue))
+    → IsCommonRange limit text list → IfSome (if_any list) (λ r. (1 < length r) ⊎ Named r)
+    → HasBars text ⊎ ((r : List (Span VersionValue)) × IsCommonRange limit text r × Named r)
+common_memory Named limit text (s ∷ list) is (inl several) = inl (several-bars limit text (s ∷ list) is several)
+common_memory Named limit text (s ∷ list) is (inr named) = inr (s ∷ list, is, named)
+common_memory Named limit text [] is h = absurd (never-empty limit text is)
+
 pub loop-goes : (limit : ℕ) (text : List ℕ) (found new : List (Span VersionValue)) (rest left next : List ℕ)
     → Step limit found new rest left → 0 < length left
     → after_bars left ≡ Some next → Reaches limit text found rest → Reaches limit text new next
 loop-goes limit text found new rest left next s some bars r =
     let a = added-by limit found new rest left s in
     let g = goes-on limit r.bytes rest left next a.interval_is r.room a.found (filled-of left some) bars in
-    grind (arith, append_assoc)
+    let b = loop-bars limit text found new rest left next s bars r in
+    grind (arith, append_assoc, b)
 
 pub loop-shorter : (limit : ℕ) (found new : List (Span VersionValue)) (rest left next : List ℕ) → Step limit found new rest left → after_bars left ≡ Some next → length next < length rest
 loop-shorter limit found new rest left next s bars =

@@ -5,7 +5,7 @@ ghost use Rattle.nodejs_semver.specs.Ranges.Gate.{passes};
 ghost use Rattle.semver_core.specs.Lists.{is_empty};
 ghost use Rattle.semver_core.specs.Values.Versions.{is_release};
 ghost use Rattle.std.specs.List.{list_any};
-ghost use Rattle.std.specs.Prelude.{◌≡◌, ◌≢◌, ◌<◌, ◌∷◌, ◌&&◌, ◌||◌, ◌⊎◌, [], IfOk, IsSome, OnErr};
+ghost use Rattle.std.specs.Prelude.{◌≡◌, ◌≢◌, ◌<◌, ◌∷◌, ◌&&◌, ◌||◌, ◌⊎◌, [], IfOk, IfSome, IsSome, OnErr};
 ghost use Rattle.std.specs.Prelude.{length, not, true};
 
 use crate::range::Intervals;
@@ -34,7 +34,10 @@ pub(crate) fn owned_range(
     range: Option<RangeRef<'_>>,
 ) -> Result<Option<Range>, AllocError>
     ensures whole { IfOk result (λ r. r ≡ range.entry) }
-    ensures memory { OnErr result (IsSome range.entry) }
+    ensures some { OnErr result (IsSome range.entry) }
+    ensures memory { let named = passes (λ v. not (is_release v && is_empty v.build)) in
+        OnErr result (IfSome range.entry (λ r. (1 < length r)
+        ⊎ (list_any (λ s. named s.lower || named s.upper) r ≡ true))) }
 {
     match range {
         Some(range) => Ok(Some(range.to_range(alloc)?)),

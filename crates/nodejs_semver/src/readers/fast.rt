@@ -1,9 +1,11 @@
 // The reader of common range texts, in one pass from the left.
 
 ghost use Rattle.std.specs.Option.{ForSome};
-ghost use Rattle.std.specs.Prelude.{◌≡◌, ◌≤◌, [], if◌then◌else◌, IfNone, IfOk, IfSome, IsFalse};
-ghost use Rattle.std.specs.Prelude.{IsTrue, None, Some, true};
+ghost use Rattle.std.specs.List.{list_any};
+ghost use Rattle.std.specs.Prelude.{◌≡◌, ◌≤◌, ◌&&◌, ◌||◌, ◌⊎◌, [], if◌then◌else◌, IfNone, IfOk, IfSome};
+ghost use Rattle.std.specs.Prelude.{IsFalse, IsTrue, List, None, OnErr, Some, length, not, true};
 ghost use Rattle.nodejs_semver.specs.Internal.CommonFronts as Spec;
+ghost use Rattle.nodejs_semver.specs.Text.Bars.{has_bars};
 ghost use Rattle.nodejs_semver.specs.Text.Common.{IsCommonRange};
 ghost use Rattle.nodejs_semver.specs.Text.Meaning.{Means};
 ghost use Rattle.nodejs_semver.specs.Internal.Fronts.{dotted_front};
@@ -13,8 +15,11 @@ ghost use Rattle.nodejs_semver.specs.Internal.Readings.{bounds_view, partial_fro
 ghost use Rattle.nodejs_semver.specs.Internal.Readings.{partial_pair_view, partial_view, rest_view};
 ghost use Rattle.nodejs_semver.specs.Internal.Readings.{table_view};
 ghost use Rattle.semver_core.specs.Failures.{NoValue};
-ghost use Rattle.semver_core.specs.Cuts.{interval, is_interval};
+ghost use Rattle.nodejs_semver.specs.Ranges.Gate.{passes};
+ghost use Rattle.semver_core.specs.Cuts.{Span, interval, is_interval};
+ghost use Rattle.semver_core.specs.Lists.{is_empty};
 ghost use Rattle.semver_core.specs.Values.Order.{precedence};
+ghost use Rattle.semver_core.specs.Values.Versions.{VersionValue, is_release};
 ghost use Rattle.semver_core.specs.declared.TheConstants.{MAX_SAFE_INTEGER};
 
 use crate::range::owned::owned_range;
@@ -72,9 +77,10 @@ fn push_common<'a, S: Found<'a>>(
     second: Bounds<'a>,
     found: &mut S,
 ) -> Result<bool, AllocError>
-    ensures { let both = Spec.both_of (bounds_view first.entry) (bounds_view second.entry) in
+    ensures added { let both = Spec.both_of (bounds_view first.entry) (bounds_view second.entry) in
         IfOk result (λ there. both_view there (S.items found.new)
         ≡ Spec.pushed (S.items found.old) both) }
+    ensures full { OnErr result (S.room ≤ length (S.items found.old)) }
 {
     match common_interval(first, second) {
         Some(interval) => {
@@ -93,9 +99,10 @@ fn push_both<'a, S: Found<'a>>(
     second: Bounds<'a>,
     found: &mut S,
 ) -> Result<bool, AllocError>
-    ensures { let both = Spec.both_of (bounds_view first.entry) (bounds_view second.entry) in
+    ensures added { let both = Spec.both_of (bounds_view first.entry) (bounds_view second.entry) in
         IfOk result (λ there. both_view there (S.items found.new)
         ≡ Spec.pushed (S.items found.old) both) }
+    ensures full { OnErr result (S.room ≤ length (S.items found.old)) }
 {
     match (&first.upper, &second.lower) {
         (Bound::Unbounded, Bound::Unbounded) => { push_between(first.lower, second.upper, found) }
@@ -125,8 +132,9 @@ fn push_comparisons<'a, S: Found<'a>>(
     text: &'a [u8],
     found: &mut S,
 ) -> Result<Option<&'a [u8]>, AllocError>
-    ensures { IfOk result (λ rest. passed_view rest (S.items found.new)
+    ensures added { IfOk result (λ rest. passed_view rest (S.items found.new)
         ≡ Spec.passed (S.items found.old) (Spec.comparisons_front MAX_SAFE_INTEGER text.now)) }
+    ensures full { OnErr result (S.room ≤ length (S.items found.old)) }
 {
     let Some((first, rest)) = comparison(text) else {
         return Ok(None);
@@ -151,8 +159,9 @@ fn push_word<'a, S: Found<'a>>(
     found: &mut S,
 ) -> Result<Option<&'a [u8]>, AllocError>
     requires { IfSome bounds (λ b. is_interval precedence (bounds_view b) ≡ true) }
-    ensures { IfOk result (λ after. passed_view after (S.items found.new)
+    ensures added { IfOk result (λ after. passed_view after (S.items found.new)
         ≡ Spec.passed (S.items found.old) (Spec.part_read rest.now (table_view bounds.entry))) }
+    ensures full { OnErr result (S.room ≤ length (S.items found.old)) }
 {
     let Some(bounds) = bounds else {
         return Ok(None);
@@ -167,9 +176,10 @@ fn push_tilde<'a, S: Found<'a>>(
     text: &'a [u8],
     found: &mut S,
 ) -> Result<Option<&'a [u8]>, AllocError>
-    ensures { IfOk result (λ rest. passed_view rest (S.items found.new)
+    ensures added { IfOk result (λ rest. passed_view rest (S.items found.new)
         ≡ Spec.passed (S.items found.old)
         (Spec.word_read MAX_SAFE_INTEGER (Spec.tilde_front MAX_SAFE_INTEGER text.now))) }
+    ensures full { OnErr result (S.room ≤ length (S.items found.old)) }
 {
     let (greater, rest) = words::tilde_sign(text);
     let Some((partial, rest)) = bare_front(rest) else {
@@ -184,9 +194,10 @@ fn push_caret<'a, S: Found<'a>>(
     text: &'a [u8],
     found: &mut S,
 ) -> Result<Option<&'a [u8]>, AllocError>
-    ensures { IfOk result (λ rest. passed_view rest (S.items found.new)
+    ensures added { IfOk result (λ rest. passed_view rest (S.items found.new)
         ≡ Spec.passed (S.items found.old)
         (Spec.word_read MAX_SAFE_INTEGER (Spec.caret_front MAX_SAFE_INTEGER text.now))) }
+    ensures full { OnErr result (S.room ≤ length (S.items found.old)) }
 {
     let Some((partial, rest)) = bare_front(text) else {
         return Ok(None);
@@ -200,10 +211,11 @@ fn push_hyphen<'a, S: Found<'a>>(
     text: &'a [u8],
     found: &mut S,
 ) -> Result<Option<&'a [u8]>, AllocError>
-    ensures { IfOk result (λ rest. passed_view rest (S.items found.new)
+    ensures added { IfOk result (λ rest. passed_view rest (S.items found.new)
         ≡ Spec.passed (S.items found.old)
         (Spec.word_read MAX_SAFE_INTEGER
         (Spec.upper_front MAX_SAFE_INTEGER (partial_view lower.entry) text.now))) }
+    ensures full { OnErr result (S.room ≤ length (S.items found.old)) }
 {
     let Some((upper, rest)) = bare_front(text) else {
         return Ok(None);
@@ -218,9 +230,10 @@ fn push_partials<'a, S: Found<'a>>(
     text: &'a [u8],
     found: &mut S,
 ) -> Result<Option<&'a [u8]>, AllocError>
-    ensures { IfOk result (λ rest. passed_view rest (S.items found.new)
+    ensures added { IfOk result (λ rest. passed_view rest (S.items found.new)
         ≡ Spec.passed (S.items found.old)
         (Spec.word_read MAX_SAFE_INTEGER (Spec.partials_front MAX_SAFE_INTEGER text.now))) }
+    ensures full { OnErr result (S.room ≤ length (S.items found.old)) }
 {
     let Some((partial, rest)) = bare_front(text) else {
         return Ok(None);
@@ -238,8 +251,9 @@ fn push_part<'a, S: Found<'a>>(
     text: &'a [u8],
     found: &mut S,
 ) -> Result<Option<&'a [u8]>, AllocError>
-    ensures { IfOk result (λ rest. passed_view rest (S.items found.new)
+    ensures added { IfOk result (λ rest. passed_view rest (S.items found.new)
         ≡ Spec.passed (S.items found.old) (Spec.part_front MAX_SAFE_INTEGER text.now)) }
+    ensures full { OnErr result (S.room ≤ length (S.items found.old)) }
 {
     match text {
         [] => Ok(None),
@@ -285,6 +299,8 @@ pub(crate) fn read_common<'a, S: Found<'a>>(
         → IsCommonRange MAX_SAFE_INTEGER text.now (S.items found.new)) }
     ensures none { IfOk result (λ there. IsFalse there
         → NoValue (IsCommonRange MAX_SAFE_INTEGER text.now)) }
+    ensures memory { OnErr result
+        ((S.room ≤ 0) ⊎ (has_bars text.now ≡ true)) }
 {
     let mut rest = text;
     'parts: loop {
@@ -319,6 +335,11 @@ pub fn range_fast(alloc: Global, text: &str) -> Result<Option<Range>, AllocError
     // Nothing is read only where the text is not a common one.
     ensures none { IfOk result (λ found.
         IfNone found (NoValue (IsCommonRange MAX_SAFE_INTEGER text.now))) }
+    // Allocation fails only where the text has bars, or is a common one with identifiers.
+    ensures memory { let named = passes (λ v. not (is_release v && is_empty v.build)) in
+        OnErr result ((has_bars text.now ≡ true)
+        ⊎ ((r : List (Span VersionValue)) × IsCommonRange MAX_SAFE_INTEGER text.now r
+        × list_any (λ s. named s.lower || named s.upper) r ≡ true)) }
 {
     let mut found = SmallVec::new(alloc);
     if !read_common(text.as_bytes(), &mut found)? {

@@ -65,6 +65,7 @@ pub(crate) fn push_between<'a, S: Found<'a>>(
         ≡ pushed (S.items found.old) (interval precedence s)) }
     ensures memory { let s = between_view lower.entry upper.entry in OnErr result
         (S.room < length (S.items found.old ++ option_to_list (interval precedence s))) }
+    ensures full { OnErr result (S.room ≤ length (S.items found.old)) }
 {
     let Some(interval) = Interval::new(lower, upper) else {
         return Ok(false);
@@ -86,6 +87,7 @@ pub(crate) fn push_hyphen<'a, S: Found<'a>>(
     ensures memory { let w = hyphen (partial_view lower.entry) (partial_view upper.entry) in
         OnErr result (S.room
         < length (S.items found.old ++ option_to_list (table MAX_SAFE_INTEGER w))) }
+    ensures full { OnErr result (S.room ≤ length (S.items found.old)) }
 {
     let bounds = table::hyphen(&lower, &upper);
     push_between(bounds.lower, bounds.upper, found)

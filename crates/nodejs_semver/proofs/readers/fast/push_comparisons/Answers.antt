@@ -10,8 +10,8 @@ use Rattle.nodejs_semver.specs.Internal.Readings.{bounds_view, rest_view}
 use Rattle.nodejs_semver.proofs.Everyday.Bounds.{none-second, passed-second}
 use Rattle.nodejs_semver.proofs.readers.fast.push_comparisons.Goals as goal
 
-pub returns-in_default-comparison : goal.returns-in_default-comparison
-returns-in_default-comparison g c =
+pub returns-in_default-comparison-clause-added : goal.returns-in_default-comparison-clause-added
+returns-in_default-comparison-clause-added g c =
     let rest = c.in-Some.rest.now in
     let second : begins_second rest ≡ true = search rules in
     ap (λ (o : Front (Span VersionValue)). passed (g.S.Found.items c.args.found.now) o)
@@ -21,8 +21,8 @@ returns-in_default-comparison g c =
     (ap (λ (t : List ℕ). word_read MAX_SAFE_INTEGER (comparison_front MAX_SAFE_INTEGER t)) (sym (take_rest rest 1))
     ∙ (sym c.comparison-2.ensures ∙ ap bounds_front_view c.in_default-comparison.is))))
 
-pub returns : goal.returns
-returns g c =
+pub returns-clause-added : goal.returns-clause-added
+returns-clause-added g c =
     let rest = c.in-Some.rest.now in
     let second : begins_second rest ≡ true = search rules in
     passed-second MAX_SAFE_INTEGER c.args.text.now (bounds_view c.in-Some.first) (bounds_view c.in-Some-comparison.second) rest c.in-Some-comparison.rest.now
@@ -32,4 +32,4 @@ returns g c =
     second
     (sym (ap bounds_front_view c.in-Some-comparison.is)
     ∙ (c.comparison-2.ensures ∙ ap (λ (t : List ℕ). word_read MAX_SAFE_INTEGER (comparison_front MAX_SAFE_INTEGER t)) (take_rest rest 1)))
-    c.in_ok-there-2.ensures c.behind_part-2.ensures
+    c.in_ok-there-2.ensures.added c.behind_part-2.ensures

@@ -1,8 +1,9 @@
 use Rattle.std.proofs.Common.{◌≡◌, List, ℕ, rules, subst}
-use Rattle.std.proofs.lemmas.Result.{IfOk-weaker}
+use Rattle.std.proofs.lemmas.Result.{IfOk-weaker, on_err_weaker}
 use Rattle.std.specs.Prelude.{IfSome, IsTrue, IsUtf8}
 use Rattle.semver_core.specs.declared.TheConstants.{MAX_SAFE_INTEGER}
 use Rattle.nodejs_semver.specs.Text.Meaning.{Means}
+use Rattle.nodejs_semver.proofs.Everyday.Loop.{common_memory}
 use Rattle.nodejs_semver.proofs.Everyday.Whole.{common_bounded, common_means}
 use Rattle.nodejs_semver.proofs.readers.fast.range_fast.Goals as goal
 
@@ -20,3 +21,10 @@ returns-clause-denoted c =
     (λ u. common_means MAX_SAFE_INTEGER c.as_bytes.result.now c.read_common.new.found.items c.from_intervals.result u
     (c.in_ok-read_common.ensures.some there) c.from_intervals.ensures)
     c.utf8.text)) c.owned_range.ensures.whole
+
+pub returns-clause-memory : goal.returns-clause-memory
+returns-clause-memory c =
+    let there : IsTrue c.in_ok-read_common.field-0 = search rules in
+    on_err_weaker c.owned_range.result
+    (λ m. rw c.as_bytes.ensures.value at (common_memory _ MAX_SAFE_INTEGER c.as_bytes.result.now c.read_common.new.found.items
+    (c.in_ok-read_common.ensures.some there) (rw c.from_intervals.ensures at m))) c.owned_range.ensures.memory

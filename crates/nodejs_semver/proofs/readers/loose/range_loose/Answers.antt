@@ -35,7 +35,7 @@ returns-clause-none c = grind (arith, IfOk-weaker, meant_none)
 pub returns-clause-memory : goal.returns-clause-memory
 returns-clause-memory c =
     on_err_weaker c.owned_range.result (never_none_of MAX_SAFE_INTEGER c.args.text.now c.add_parts.new.found.items
-    c.from_intervals.result c.utf8.text (found-is c) c.from_intervals.ensures) c.owned_range.ensures.memory
+    c.from_intervals.result c.utf8.text (found-is c) c.from_intervals.ensures) c.owned_range.ensures.some
 
 pub returns-in_err-add_parts-clause-memory : goal.returns-in_err-add_parts-clause-memory
 returns-in_err-add_parts-clause-memory c =
