@@ -6,10 +6,6 @@ use Rattle.semver_lines.specs.Lines.{HasLines, ended, last_line}
 use Rattle.semver_lines.specs.declared.run.RunFault.{RunFault}
 use Rattle.semver_lines.specs.declared.run.RunFault.TheVariants.{Read, Write, Memory}
 
--- the answers of a beginning of these lines
-abbrev pub AnswersFront : List (List ℕ) → List ℕ → Type 0
-AnswersFront all written = (front rest : List (List ℕ)) × (all ≡ front ++ rest) × Answers front written
-
 -- the answers of a beginning of these lines, and then a front of the next line's answer
 pub record AnswersTorn (all : List (List ℕ)) (written : List ℕ) : Type 0 where
   pub front : List (List ℕ)
@@ -30,7 +26,7 @@ pub record AnswersTorn (all : List (List ℕ)) (written : List ℕ) : Type 0 whe
 abbrev pub Writes : Result ⊤ RunFault → Option (List ℕ) → List (List ℕ) → List ℕ → List ℕ → Type 0
 Writes (Ok done) left lines rest written = IsAtEnd left × Answers (lines ++ last_line rest) written
 Writes (Err Read) left lines rest written = Answers lines written
-Writes (Err Memory) left lines rest written = AnswersFront lines written
+Writes (Err Memory) left lines rest written = (front more : List (List ℕ)) × (lines ≡ front ++ more) × Answers front written
 Writes (Err Write) left lines rest written = AnswersTorn lines written ⊎ (IsAtEnd left × AnswersTorn (lines ++ last_line rest) written)
 
 -- A run with this result, of a reader that had and has these bytes left and a writer that held and holds these, where

@@ -1,6 +1,6 @@
 -- When the least version of several ranges may need memory: what the search says of the first and of the others, said of all.
 use Rattle.std.proofs.Common.{◌≡◌, refl, subst, Bool, true, false, ◌&&◌, ◌⊎◌, ◌+◌, ◌-◌, ◌<◌}
-use Rattle.std.proofs.Common.{List, [], ◌∷◌, length, get_or, take, drop, inl, inr, Result, Ok, Err, OnErr, arith}
+use Rattle.std.proofs.Common.{List, [], ◌∷◌, length, get_or, take, drop, inl, inr, arith}
 use Rattle.std.proofs.lemmas.Grind.{common_steps}
 use Rattle.std.proofs.lemmas.List.{take_rest}
 use Rattle.std.specs.List.{Any}
@@ -8,10 +8,6 @@ use Rattle.semver_core.specs.Cuts.{Span}
 use Rattle.semver_core.specs.Values.Versions.{VersionValue}
 use Rattle.nodejs_semver.specs.Internal.Candidates.{all_accept, BeginsAfterPre, Finds, MayAllocate}
 use Rattle.nodejs_semver.specs.Ranges.Gate.{accepts}
-
-pub on_err : {T E P : Type 0} (r : Result T E) → P → OnErr r P
-on_err (Ok x) p = tt
-on_err (Err e) p = p
 
 Any-here : {X : Type 0} (P : X → Type 0) (x : X) (xs : List X) → P x → Any P (x ∷ xs)
 Any-here P x xs h = (0, x, omega arith, refl, h)

@@ -1,5 +1,5 @@
 -- A bound after a pre-release has identifiers, so that a range which has one allocates where it is copied.
-use Rattle.std.proofs.Common.{◌≡◌, ◌<◌, ◌⊎◌, true, List, length, inl, inr, arith}
+use Rattle.std.proofs.Common.{◌≡◌, ◌⊎◌, true, List, inl, inr, arith}
 use Rattle.std.proofs.lemmas.Bool.{or_left, or_right}
 use Rattle.std.proofs.lemmas.List.Folds.{list_any-from_Any}
 use Rattle.std.specs.List.{list_any}
@@ -9,6 +9,7 @@ use Rattle.semver_core.specs.declared.cuts.bound.Bound.{Bound}
 use Rattle.nodejs_semver.specs.Internal.Candidates.{IsAfterPre, BeginsAfterPre, EndsAfterPre}
 use Rattle.nodejs_semver.specs.Internal.Sets.{has_identifiers, bounds_identifiers}
 use Rattle.nodejs_semver.specs.Ranges.Gate.{passes}
+use Rattle.nodejs_semver.specs.Ranges.View.{TakesMemory}
 
 after_named : (b : Bound VersionValue) → IsAfterPre b → passes has_identifiers b ≡ true
 after_named b h = grind (arith, h.1, h.2)
@@ -24,11 +25,11 @@ ends_named ss h =
     (h.0, h.1, h.2, h.3, or_right (passes has_identifiers h.1.lower) _ (after_named h.1.upper h.4))
 
 pub two_named : (P : Type 0) (ss ts : List (Span VersionValue)) → (P ⊎ BeginsAfterPre ss ⊎ EndsAfterPre ts)
-    → P ⊎ (1 < length ss) ⊎ (list_any bounds_identifiers ss ≡ true) ⊎ (1 < length ts) ⊎ (list_any bounds_identifiers ts ≡ true)
+    → P ⊎ TakesMemory ss ⊎ TakesMemory ts
 two_named P ss ts h = elim h [
   | inl p ↦ inl p
   | inr q ↦ elim q [
-    | inl b ↦ inr (inr (inl (begins_named ss b)))
-    | inr e ↦ inr (inr (inr (inr (ends_named ts e))))
+    | inl b ↦ inr (inl (inr (begins_named ss b)))
+    | inr e ↦ inr (inr (inr (ends_named ts e)))
   ]
 ]

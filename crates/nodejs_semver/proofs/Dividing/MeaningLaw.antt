@@ -1,8 +1,12 @@
 -- What a text denotes is its one meaning.
 use Rattle.std.proofs.Common.{◌≡◌, ℕ, zero, suc, ◌<◌, ◌≤◌, List, [], ◌∷◌, ◌++◌, length, get_or, refl, sym, ap, ◌∙◌, arith, true}
-use Rattle.std.proofs.Common.{false, inl, inr, subst, append-nil, length-append, ◌↔◌, IfNone, IfSome, IsSome, IsTrue, IsUtf8}
+use Rattle.std.proofs.Common.{false, inl, inr, subst, append-nil, length-append, ◌↔◌, IfNone, IfSome, IsSomeAnd, IsTrue, IsUtf8}
 use Rattle.std.proofs.Common.{Option, encode_utf8_all, map, filter_map, flat_map, encode_utf8, take_at, drop_at}
-use Rattle.std.specs.List.{AllByRecursion, list_all}
+use Rattle.std.specs.List.{AllByRecursion, list_all, list_any}
+use Rattle.std.specs.Prelude.{◌⊎◌, Result, Ok, Err}
+use Rattle.semver_core.specs.Failures.{MemoryOnlyIf}
+use Rattle.semver_core.specs.declared.error.Failure.{Failure}
+use Rattle.semver_core.specs.declared.error.Failure.TheVariants.{Refused, Memory}
 use Rattle.std.proofs.lemmas.Bool.{cases_Bool, false_from_ne_true, and_from}
 use Rattle.std.proofs.lemmas.List.Folds.{list_all-append}
 use Rattle.std.proofs.lemmas.Str.{IsUtf8-drop, IsUtf8-take, IsCharBoundary-after_ascii, IsCharBoundary-before_ascii, len_utf8_bounds, length-encode}
@@ -205,19 +209,29 @@ pub means_some : (limit : ℕ) (text : List ℕ) (list : List (Span VersionValue
     → 0 < length list → Means limit text [] → ⊥
 means_some limit text list u h some none = absurd (omega (arith, ap length (same_meaning limit text list [] u h none)))
 
--- what a text means has as many intervals as what it denotes
-pub meant_longer : (limit n : ℕ) (text : List ℕ) → IsUtf8 text → n < length (denotes limit text)
-    → (list : List (Span VersionValue)) → Means limit text list → n < length list
-meant_longer limit n text u long list h =
-    subst (λ (l : List (Span VersionValue)). n < length l) (one-meaning limit text list u h) long
+-- what holds of the list that a text denotes holds of what it means
+pub meant_so : (P : List (Span VersionValue) → Type 0) (limit : ℕ) (text : List ℕ) → IsUtf8 text → P (denotes limit text)
+    → (list : List (Span VersionValue)) → Means limit text list → P list
+meant_so P limit text u p list h = subst P (one-meaning limit text list u h) p
 
-pub never_none : (limit : ℕ) (text : List ℕ) → IsUtf8 text → 0 < length (denotes limit text) → Means limit text [] → ⊥
-never_none limit text u some none = absurd (omega (arith, meant_longer limit 0 text u some [] none))
+-- where no interval takes memory by itself, it takes two
+several : (list : List (Span VersionValue)) → (1 < length list) ⊎ (list_any (λ s. false) list ≡ true) → 1 < length list
+several list (inl longer) = longer
+several [] (inr one) = cc one
+several (s ∷ list) (inr one) = omega (arith, several list (inr one))
 
-pub never_none_of : (limit : ℕ) (text : List ℕ) (list : List (Span VersionValue)) (o : Option (List (Span VersionValue)))
-    → IsUtf8 text → list ≡ denotes limit text → o ≡ if_any list → IsSome o → Means limit text [] → ⊥
-never_none_of limit text [] o u e h some none = absurd (grind (arith, h, some))
-never_none_of limit text (s ∷ rest) o u e h some none = absurd (omega (arith, ap length (e ∙ one-meaning limit text [] u none)))
+pub only_several : {A E : Type 0} (r : Result A (Failure E)) (Of : List (Span VersionValue) → Type 0)
+    → MemoryOnlyIf r ((list : List (Span VersionValue)) → Of list → (1 < length list) ⊎ (list_any (λ s. false) list ≡ true))
+    → MemoryOnlyIf r ((list : List (Span VersionValue)) → Of list → 1 < length list)
+only_several (Ok x) Of h = tt
+only_several (Err (Refused e)) Of h = tt
+only_several (Err (Memory e)) Of h = λ list is. several list (h list is)
+
+-- the same of the list of a reader, where there may be none
+pub found_so : (P : List (Span VersionValue) → Type 0) (limit : ℕ) (text : List ℕ) (list : List (Span VersionValue))
+    → IsUtf8 text → list ≡ denotes limit text → IsSomeAnd (if_any list) P → (r : List (Span VersionValue)) → Means limit text r → P r
+found_so P limit text [] u e h = elim h [ ]
+found_so P limit text (s ∷ rest) u e h = meant_so P limit text u (subst P e h)
 
 -- the list of a reader, where there may be none
 pub meant_some : (limit : ℕ) (text : List ℕ) (list : List (Span VersionValue)) (o : Option (List (Span VersionValue)))

@@ -1,7 +1,7 @@
 -- One part of a common text after another.
 use Rattle.std.proofs.Common.{◌≡◌, ℕ, zero, suc, ◌<◌, ◌≤◌, List, [], ◌∷◌, ◌++◌, length, refl}
-use Rattle.std.proofs.Common.{arith, true, false, Some, None, append_assoc, inl, inr, subst, sym}
-use Rattle.std.specs.Prelude.{◌⊎◌, IfSome, Option}
+use Rattle.std.proofs.Common.{arith, true, false, Some, None, append_assoc, subst, sym}
+use Rattle.std.specs.Prelude.{◌⊎◌, IsSomeAnd, Option}
 use Rattle.semver_core.specs.Failures.{NoValue}
 use Rattle.semver_core.specs.Cuts.{Span}
 use Rattle.semver_core.specs.Internal.Reading.{◌>>?◌}
@@ -9,7 +9,7 @@ use Rattle.semver_core.specs.Lists.{if_any, is_empty}
 use Rattle.semver_core.specs.Values.Versions.{VersionValue}
 use Rattle.nodejs_semver.specs.Internal.CommonFronts.{after_bars, common_range, common_within, part_front, passed}
 use Rattle.nodejs_semver.specs.Text.Bars.{has_bars}
-use Rattle.nodejs_semver.specs.Text.Common.{IsCommonRange, more_parts, one_part}
+use Rattle.nodejs_semver.specs.Text.Common.{IsCommonRange}
 use Rattle.nodejs_semver.proofs.Everyday.Bounds.{Added, behind, passed-none, passed-some}
 use Rattle.nodejs_semver.proofs.Everyday.Parts.{bars-sound, common_ranges_are_read, next-shorter, part-sound}
 
@@ -113,22 +113,11 @@ loop-bars limit text found new rest left next s bars r =
     let a = added-by limit found new rest left s in
     r.within (bars-there limit rest left next a.interval_is a.found bars)
 
--- two parts or more have bars between them
-several-bars : (limit : ℕ) (text : List ℕ) (list : List (Span VersionValue)) → IsCommonRange limit text list → 1 < length list
-    → HasBars text
-several-bars limit text list (one_part t s is) h = absurd (omega arith)
-several-bars limit text list (more_parts part before after t s others is b a more) h = behind-bars part _ (behind-bars before _ refl)
-
-never-empty : (limit : ℕ) (text : List ℕ) → IsCommonRange limit text [] → ⊥
-never-empty limit text h = grind (arith, h)
-
--- what needs memory in a common text
-pub common_memory : (Named : List (Span VersionValue) → Type 0) (limit : ℕ) (text : List ℕ) (list : List (Span VersionValue))
-    → IsCommonRange limit text list → IfSome (if_any list) (λ r. (1 < length r) ⊎ Named r)
-    → HasBars text ⊎ ((r : List (Span VersionValue)) × IsCommonRange limit text r × Named r)
-common_memory Named limit text (s ∷ list) is (inl several) = inl (several-bars limit text (s ∷ list) is several)
-common_memory Named limit text (s ∷ list) is (inr named) = inr (s ∷ list, is, named)
-common_memory Named limit text [] is h = absurd (never-empty limit text is)
+-- what holds of the list of a common text holds of a list that it means
+pub common_so : (P : List (Span VersionValue) → Type 0) (limit : ℕ) (text : List ℕ) (list : List (Span VersionValue))
+    → IsCommonRange limit text list → IsSomeAnd (if_any list) P → (r : List (Span VersionValue)) × IsCommonRange limit text r × P r
+common_so P limit text [] is h = elim is [ ]
+common_so P limit text (s ∷ list) is h = (s ∷ list, is, h)
 
 pub loop-goes : (limit : ℕ) (text : List ℕ) (found new : List (Span VersionValue)) (rest left next : List ℕ)
     → Step limit found new rest left → 0 < length left

@@ -9,7 +9,7 @@ use Rattle.semver_core.specs.Values.Order.{precedence}
 use Rattle.semver_core.specs.Values.Versions.{VersionValue}
 use Rattle.semver_core.specs.declared.cuts.bound.Bound.{Bound}
 use Rattle.semver_core.specs.declared.cuts.bound.Bound.TheVariants.{Unbounded, Before, After}
-use Rattle.nodejs_semver.specs.Printing.RoundTrip.{is_printable, is_small, bounds_back, read_back}
+use Rattle.nodejs_semver.specs.Printing.RoundTrip.{is_printable, is_small, bounds_back}
 use Rattle.nodejs_semver.specs.Internal.Denotes.{denotes}
 use Rattle.nodejs_semver.specs.Printing.Text.{bounds_text, range_text}
 use Rattle.nodejs_semver.specs.Ranges.Outside.{is_bounded}
@@ -26,6 +26,10 @@ bounds_same (After v) upper = and_from _ _ (ties_self v) (bound_refl upper)
 bounds_same (Before v) Unbounded = and_from _ _ (ties_self v) refl
 bounds_same (Before v) (Before w) = and_from _ _ (ties_self v) (ties_self w)
 bounds_same (Before v) (After w) = grind (arith, ties_self)
+
+-- the interval that is read from a printed one
+abbrev pub read_back : Span VersionValue → Span VersionValue
+read_back s = bounds_back s.lower s.upper
 
 pub same_back : (list : List (Span VersionValue)) → range_eq (map read_back list) list ≡ true
 same_back [] = refl

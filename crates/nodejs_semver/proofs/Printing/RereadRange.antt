@@ -6,13 +6,13 @@ use Rattle.semver_core.specs.Cuts.{Span}
 use Rattle.semver_core.specs.Failures.{RefusedOnlyIf}
 use Rattle.semver_core.specs.Values.Versions.{VersionValue}
 use Rattle.semver_core.specs.declared.error.Failure.{Failure}
-use Rattle.nodejs_semver.specs.Printing.RoundTrip.{is_printable, read_back}
+use Rattle.nodejs_semver.specs.Printing.RoundTrip.{is_printable}
 use Rattle.nodejs_semver.specs.Text.Meaning.{Means}
 use Rattle.nodejs_semver.proofs.Dividing.MeaningLaw.{one_meaning}
 use Rattle.nodejs_semver.specs.Printing.Text.{range_text}
 use Rattle.nodejs_semver.specs.Ranges.Equality.{range_eq}
 use Rattle.nodejs_semver.specs.Ranges.View.{IsRange}
-use Rattle.nodejs_semver.proofs.Printing.Ranges.{reads_back, same_back, prints_again}
+use Rattle.nodejs_semver.proofs.Printing.Ranges.{prints_again, read_back, reads_back, same_back}
 
 -- what is read from the text of a printable range
 pub record Reread (limit : ℕ) (text : List ℕ) (list : List (Span VersionValue)) : Type 0 where

@@ -21,6 +21,3 @@ is_printable limit s = (is_bounded s.lower || is_bounded s.upper) && (is_small l
 abbrev pub bounds_back : Bound VersionValue → Bound VersionValue → Span VersionValue
 bounds_back (Before v) (After w) = if version_eq v w then record { lower = Before v; upper = After v } else record { lower = Before v; upper = After w }
 bounds_back lower upper = record { lower = lower; upper = upper }
-
-abbrev pub read_back : Span VersionValue → Span VersionValue
-read_back s = bounds_back s.lower s.upper

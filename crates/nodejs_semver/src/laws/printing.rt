@@ -2,7 +2,7 @@
 
 ghost use Rattle.std.specs.Prelude.{◌≡◌, ◌<◌, ◌^◌, ℕ, IfOk, List, map, string_bytes, true};
 ghost use Rattle.std.specs.List.{list_all};
-ghost use Rattle.nodejs_semver.specs.Printing.RoundTrip.{is_printable, read_back};
+ghost use Rattle.nodejs_semver.specs.Printing.RoundTrip.{bounds_back, is_printable};
 ghost use Rattle.nodejs_semver.specs.Printing.Text.{range_text};
 ghost use Rattle.nodejs_semver.specs.Ranges.Equality.{range_eq};
 ghost use Rattle.nodejs_semver.specs.Ranges.View.{IsRange};
@@ -23,7 +23,7 @@ pub fn printed_ranges_come_back(text: &str)
         → Means limit text.now read → range_eq read list ≡ true }
     ensures builds { (limit : ℕ) (list : List (Span VersionValue)) → limit < 2 ^ 64
         → IsRange limit list → list_all (is_printable limit) list ≡ true → text.now ≡ range_text list
-        → Means limit text.now (map read_back list) }
+        → Means limit text.now (map (λ s. bounds_back s.lower s.upper) list) }
 {
     let _ = text;
 }
@@ -37,7 +37,8 @@ pub fn printed_ranges_come_back(text: &str)
 pub fn reread_range(alloc: Global, range: &Range) -> Result<Range, Failure<SemverError>>
     requires { list_all (is_printable MAX_SAFE_INTEGER) range.now ≡ true }
     ensures equal { IfOk result (λ again. range_eq again range.now ≡ true) }
-    ensures builds { IfOk result (λ again. again ≡ map read_back range.now) }
+    ensures builds { IfOk result (λ again.
+        again ≡ map (λ s. bounds_back s.lower s.upper) range.now) }
     ensures text { IfOk result (λ again. range_text again ≡ range_text range.now) }
     ensures never_refused { RefusedOnlyIf result ⊥ }
 {

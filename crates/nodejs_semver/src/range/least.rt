@@ -8,9 +8,10 @@
 // the least version is among these first versions: these are the candidates, at most four for an
 // interval of a kept list, and two for one of the removed list.
 
-ghost use Rattle.nodejs_semver.specs.Ranges.Gate.{accepts, lets_in, passes};
+ghost use Rattle.nodejs_semver.specs.Ranges.Gate.{accepts, lets_in};
 ghost use Rattle.nodejs_semver.specs.Internal.Candidates as spec;
 ghost use Rattle.nodejs_semver.specs.Ranges.Least as stated;
+ghost use Rattle.nodejs_semver.specs.Ranges.View.{TakesMemory};
 ghost use Rattle.semver_core.specs.Internal.Sides.{Near, Far};
 ghost use Rattle.semver_core.specs.Cuts.{Beside, holds};
 ghost use Rattle.semver_core.specs.Lists.{is_empty};
@@ -20,8 +21,8 @@ ghost use Rattle.std.specs.List.{Any, flat_map, list_any};
 ghost use Rattle.std.specs.Option.{option_copied};
 ghost use Rattle.semver_core.specs.declared.cuts.bound.Bound.TheVariants.{After};
 ghost use Rattle.std.specs.Prelude.{All, IfOk, IfSome, OnErr, OnOk, Some, [], false, true};
-ghost use Rattle.std.specs.Prelude.{find, fold, length, not};
-ghost use Rattle.std.specs.Prelude.{◌&&◌, ◌||◌, ◌-◌, ◌<◌, ◌≡◌, ◌^◌, ◌∷◌, ◌⊎◌};
+ghost use Rattle.std.specs.Prelude.{find, fold};
+ghost use Rattle.std.specs.Prelude.{◌&&◌, ◌-◌, ◌<◌, ◌≡◌, ◌^◌, ◌∷◌, ◌⊎◌};
 
 use crate::range::gate::{accepts, accepts_one};
 use crate::range::neighbours::{
@@ -103,10 +104,8 @@ impl<'a> RangeRef<'a> {
     pub fn min_version(&self, alloc: Global) -> Result<Option<Version>, AllocError>
         ensures least { IfOk result (λ r. stated.IsLeastOf (λ v. accepts self.now v false) r) }
         ensures build { IfOk result (λ r. IfSome r (λ v. v.build ≡ stated.least_build self.now v)) }
-        ensures memory { let named = passes (λ v. not (is_release v && is_empty v.build)) in
-            OnErr result (((v : VersionValue) × (accepts self.now v false ≡ true))
-            ⊎ (1 < length self.now)
-            ⊎ (list_any (λ s. named s.lower || named s.upper) self.now ≡ true)) }
+        ensures memory { OnErr result (((v : VersionValue) × (accepts self.now v false ≡ true))
+            ⊎ TakesMemory self.now) }
     {
         if let Some(version) = least_start(self.intervals()) {
             let found = version.to_version(alloc)?;
@@ -126,12 +125,9 @@ impl<'a> RangeRef<'a> {
     ) -> Result<Option<Version>, AllocError>
         ensures least { IfOk result (λ r. stated.IsLeastOf (stated.beyond self.now other.now) r) }
         ensures build { IfOk result (λ r. IfSome r (λ v. v.build ≡ [])) }
-        ensures memory { let named = passes (λ v. not (is_release v && is_empty v.build)) in
-            OnErr result (((v : VersionValue) × (stated.beyond self.now other.now v ≡ true))
-            ⊎ (1 < length self.now)
-            ⊎ (list_any (λ s. named s.lower || named s.upper) self.now ≡ true)
-            ⊎ (1 < length other.now)
-            ⊎ (list_any (λ s. named s.lower || named s.upper) other.now ≡ true)) }
+        ensures memory { OnErr result
+            (((v : VersionValue) × (stated.beyond self.now other.now v ≡ true))
+            ⊎ TakesMemory self.now ⊎ TakesMemory other.now) }
     {
         let range = self.to_range(alloc)?;
         let removed = other.to_range(alloc)?;

@@ -1,14 +1,14 @@
 // The least version of a range with pre-releases included.
 
 ghost use Rattle.nodejs_semver.specs.Internal.Candidates as spec;
-ghost use Rattle.nodejs_semver.specs.Ranges.Gate.{accepts, passes};
+ghost use Rattle.nodejs_semver.specs.Ranges.Gate.{accepts};
 ghost use Rattle.nodejs_semver.specs.Ranges.Least as stated;
+ghost use Rattle.nodejs_semver.specs.Ranges.View.{TakesMemory};
 ghost use Rattle.semver_core.specs.Values.Versions.{VersionValue, is_release};
 ghost use Rattle.semver_core.specs.declared.cuts.bound.Bound.TheVariants.{After};
-ghost use Rattle.semver_core.specs.Lists.{is_empty};
-ghost use Rattle.std.specs.List.{Any, list_any};
-ghost use Rattle.std.specs.Prelude.{◌≡◌, ◌&&◌, ◌||◌, ◌-◌, ◌<◌, ◌^◌, ◌⊎◌, []};
-ghost use Rattle.std.specs.Prelude.{IfOk, IfSome, OnErr, OnOk, false, length, not, true};
+ghost use Rattle.std.specs.List.{Any};
+ghost use Rattle.std.specs.Prelude.{◌≡◌, ◌&&◌, ◌-◌, ◌<◌, ◌^◌, ◌⊎◌, []};
+ghost use Rattle.std.specs.Prelude.{IfOk, IfSome, OnErr, OnOk, false, true};
 
 use crate::range::neighbours::{bare, pre_after};
 use crate::{Range, RangeRef};
@@ -63,10 +63,8 @@ impl<'a> RangeRef<'a> {
     pub fn min_version_with_prerelease(&self, alloc: Global) -> Result<Option<Version>, AllocError>
         ensures least { IfOk result (λ r. stated.IsLeastOf (λ v. accepts self.now v true) r) }
         ensures build { IfOk result (λ r. IfSome r (λ v. v.build ≡ [])) }
-        ensures memory { let named = passes (λ v. not (is_release v && is_empty v.build)) in
-            OnErr result (((v : VersionValue) × (accepts self.now v true ≡ true))
-            ⊎ (1 < length self.now)
-            ⊎ (list_any (λ s. named s.lower || named s.upper) self.now ≡ true)) }
+        ensures memory { OnErr result (((v : VersionValue) × (accepts self.now v true ≡ true))
+            ⊎ TakesMemory self.now) }
     {
         let range = self.to_range(alloc)?;
         range.min_version_with_prerelease(alloc)

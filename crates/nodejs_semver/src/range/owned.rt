@@ -2,11 +2,9 @@
 
 ghost use Rattle.nodejs_semver.specs.Internal.Sets as spec;
 ghost use Rattle.nodejs_semver.specs.Ranges.Gate.{passes};
-ghost use Rattle.semver_core.specs.Lists.{is_empty};
-ghost use Rattle.semver_core.specs.Values.Versions.{is_release};
+ghost use Rattle.nodejs_semver.specs.Ranges.View.{TakesMemory};
 ghost use Rattle.std.specs.List.{list_any};
-ghost use Rattle.std.specs.Prelude.{◌≡◌, ◌≢◌, ◌<◌, ◌∷◌, ◌&&◌, ◌||◌, ◌⊎◌, [], IfOk, IfSome, IsSome, OnErr};
-ghost use Rattle.std.specs.Prelude.{length, not, true};
+ghost use Rattle.std.specs.Prelude.{◌≡◌, ◌≢◌, ◌<◌, ◌∷◌, ◌⊎◌, [], IfOk, IsSomeAnd, OnErr, length, true};
 
 use crate::range::Intervals;
 use crate::{Range, RangeRef};
@@ -20,9 +18,7 @@ impl<'a> RangeRef<'a> {
     /// where it has more than one interval, or a bound with a pre-release or build metadata.
     pub fn to_range(&self, alloc: Global) -> Result<Range, AllocError>
         ensures whole { IfOk result (λ range. range ≡ self.now) }
-        ensures memory { let named = passes (λ v. not (is_release v && is_empty v.build)) in
-            OnErr result ((1 < length self.now)
-            ⊎ (list_any (λ s. named s.lower || named s.upper) self.now ≡ true)) }
+        ensures memory { OnErr result (TakesMemory self.now) }
     {
         Range::of_borrowed(alloc, self)
     }
@@ -34,10 +30,7 @@ pub(crate) fn owned_range(
     range: Option<RangeRef<'_>>,
 ) -> Result<Option<Range>, AllocError>
     ensures whole { IfOk result (λ r. r ≡ range.entry) }
-    ensures some { OnErr result (IsSome range.entry) }
-    ensures memory { let named = passes (λ v. not (is_release v && is_empty v.build)) in
-        OnErr result (IfSome range.entry (λ r. (1 < length r)
-        ⊎ (list_any (λ s. named s.lower || named s.upper) r ≡ true))) }
+    ensures memory { OnErr result (IsSomeAnd range.entry TakesMemory) }
 {
     match range {
         Some(range) => Ok(Some(range.to_range(alloc)?)),

@@ -1,10 +1,11 @@
 // Ranges are read from their texts.
 
-ghost use Rattle.std.specs.Prelude.{◌≡◌, ◌↔◌, ◌<◌, [], IfOk, IsTrue, List, OnErr, OnOk, length};
+ghost use Rattle.std.specs.Prelude.{◌≡◌, ◌↔◌, ◌<◌, ◌⊎◌, [], IfOk, IsTrue, List, OnErr, OnOk, length};
+ghost use Rattle.std.specs.List.{list_any};
 ghost use Rattle.std.specs.Prelude.{true};
 ghost use Rattle.nodejs_semver.specs.Internal.Denotes.{denotes};
 ghost use Rattle.nodejs_semver.specs.Ranges.Gate.{accepts};
-ghost use Rattle.nodejs_semver.specs.Ranges.View.{IsRange};
+ghost use Rattle.nodejs_semver.specs.Ranges.View.{IsRange, TakesMemory};
 ghost use Rattle.nodejs_semver.specs.Text.Meaning.{Means};
 ghost use Rattle.nodejs_semver.specs.Text.WrittenSet.{Writes};
 ghost use Rattle.semver_core.specs.Cuts.{Span};
@@ -29,8 +30,9 @@ impl Range {
     /// <9007199254740992.0.0-0`, which `^9007199254740991` prints, reads as
     /// `>=9007199254740991.0.0`.
     ///
-    /// The one other error is an allocation failure, which is never returned for a text that is to
-    /// be rejected.
+    /// The one other error is an allocation failure. It is never returned for a text that is to be
+    /// rejected, nor for one that means one interval whose bounds have neither a pre-release nor
+    /// build metadata, as `>=1.2.3 <2.0.0`.
     ///
     /// ```rust
     /// let range = Range::parse(alloc, "^1.2 || 3.0.0-rc.1")?;
@@ -44,8 +46,9 @@ impl Range {
         ensures some { IfOk result (λ range. 0 < length range) }
         // The text is rejected only if it means none. The one other error is a failed allocation.
         ensures refused { RefusedOnlyIf result (Means MAX_SAFE_INTEGER text.now []) }
-        // Allocation never fails in place of a rejection.
-        ensures memory { MemoryOnlyIf result (Means MAX_SAFE_INTEGER text.now [] → ⊥) }
+        // Allocation fails only if the text means two intervals or more, or one with identifiers.
+        ensures memory { MemoryOnlyIf result ((r : List (Span VersionValue)) →
+            Means MAX_SAFE_INTEGER text.now r → TakesMemory r) }
         // With pre-releases included, the range accepts exactly the versions that the text writes.
         ensures set { IfOk result (λ range. (v : VersionValue) →
             IsTrue (accepts range v true) ↔ Writes MAX_SAFE_INTEGER text.now v) }
@@ -87,7 +90,7 @@ fn read_some<'a, S: Filled<'a>>(text: &'a str, found: &mut S) -> Result<(), Fail
     ensures ok { OnOk result (Means MAX_SAFE_INTEGER text.now (S.items found.new)) }
     ensures refused { RefusedOnlyIf result (Means MAX_SAFE_INTEGER text.now []) }
     ensures memory { MemoryOnlyIf result ((r : List (Span VersionValue)) →
-        Means MAX_SAFE_INTEGER text.now r → S.room < length r) }
+        Means MAX_SAFE_INTEGER text.now r → (1 < length r) ⊎ (list_any S.takes r ≡ true)) }
     ensures set { OnOk result ((v : VersionValue) →
         IsTrue (accepts (S.items found.new) v true) ↔ Writes MAX_SAFE_INTEGER text.now v) }
 {
@@ -105,7 +108,8 @@ fn read_some<'a, S: Filled<'a>>(text: &'a str, found: &mut S) -> Result<(), Fail
 fn read<'a, S: Filled<'a>>(text: &'a str, found: &mut S) -> Result<(), AllocError>
     requires { S.items found.old ≡ [] }
     ensures read { OnOk result (S.items found.new ≡ denotes MAX_SAFE_INTEGER text.now) }
-    ensures memory { OnErr result (S.room < length (denotes MAX_SAFE_INTEGER text.now)) }
+    ensures memory { OnErr result ((1 < length (denotes MAX_SAFE_INTEGER text.now))
+        ⊎ (list_any S.takes (denotes MAX_SAFE_INTEGER text.now) ≡ true)) }
 {
     match read_common(text.as_bytes(), found) {
         Ok(true) => Ok(()),

@@ -1,9 +1,8 @@
 // The reader of common range texts, in one pass from the left.
 
 ghost use Rattle.std.specs.Option.{ForSome};
-ghost use Rattle.std.specs.List.{list_any};
-ghost use Rattle.std.specs.Prelude.{◌≡◌, ◌≤◌, ◌&&◌, ◌||◌, ◌⊎◌, [], if◌then◌else◌, IfNone, IfOk, IfSome};
-ghost use Rattle.std.specs.Prelude.{IsFalse, IsTrue, List, None, OnErr, Some, length, not, true};
+ghost use Rattle.std.specs.Prelude.{◌≡◌, ◌≤◌, ◌⊎◌, [], if◌then◌else◌, IfNone, IfOk, IfSome};
+ghost use Rattle.std.specs.Prelude.{IsFalse, IsTrue, List, None, OnErr, Some, length, true};
 ghost use Rattle.nodejs_semver.specs.Internal.CommonFronts as Spec;
 ghost use Rattle.nodejs_semver.specs.Text.Bars.{has_bars};
 ghost use Rattle.nodejs_semver.specs.Text.Common.{IsCommonRange};
@@ -15,11 +14,10 @@ ghost use Rattle.nodejs_semver.specs.Internal.Readings.{bounds_view, partial_fro
 ghost use Rattle.nodejs_semver.specs.Internal.Readings.{partial_pair_view, partial_view, rest_view};
 ghost use Rattle.nodejs_semver.specs.Internal.Readings.{table_view};
 ghost use Rattle.semver_core.specs.Failures.{NoValue};
-ghost use Rattle.nodejs_semver.specs.Ranges.Gate.{passes};
+ghost use Rattle.nodejs_semver.specs.Ranges.View.{TakesMemory};
 ghost use Rattle.semver_core.specs.Cuts.{Span, interval, is_interval};
-ghost use Rattle.semver_core.specs.Lists.{is_empty};
 ghost use Rattle.semver_core.specs.Values.Order.{precedence};
-ghost use Rattle.semver_core.specs.Values.Versions.{VersionValue, is_release};
+ghost use Rattle.semver_core.specs.Values.Versions.{VersionValue};
 ghost use Rattle.semver_core.specs.declared.TheConstants.{MAX_SAFE_INTEGER};
 
 use crate::range::owned::owned_range;
@@ -335,11 +333,11 @@ pub fn range_fast(alloc: Global, text: &str) -> Result<Option<Range>, AllocError
     // Nothing is read only where the text is not a common one.
     ensures none { IfOk result (λ found.
         IfNone found (NoValue (IsCommonRange MAX_SAFE_INTEGER text.now))) }
-    // Allocation fails only where the text has bars, or is a common one with identifiers.
-    ensures memory { let named = passes (λ v. not (is_release v && is_empty v.build)) in
-        OnErr result ((has_bars text.now ≡ true)
+    // Allocation fails only where the text has bars, or is a common one of which a bound has
+    // identifiers.
+    ensures memory { OnErr result ((has_bars text.now ≡ true)
         ⊎ ((r : List (Span VersionValue)) × IsCommonRange MAX_SAFE_INTEGER text.now r
-        × list_any (λ s. named s.lower || named s.upper) r ≡ true)) }
+        × TakesMemory r)) }
 {
     let mut found = SmallVec::new(alloc);
     if !read_common(text.as_bytes(), &mut found)? {

@@ -1,7 +1,10 @@
 // Lists of intervals that the readers fill.
 
-ghost use Rattle.std.specs.Prelude.{◌≡◌, ◌<◌, ◌≤◌, ◌++◌, ◌∷◌, [], ℕ, List, OnErr, OnOk, length};
+ghost use Rattle.std.specs.List.{list_any};
+ghost use Rattle.std.specs.Prelude.{◌≡◌, ◌<◌, ◌≤◌, ◌++◌, ◌∷◌, ◌⊎◌, [], ℕ, Bool, List, OnErr, OnOk};
+ghost use Rattle.std.specs.Prelude.{false, length, true};
 ghost use Rattle.nodejs_semver.specs.Internal.Denotes.{denotes};
+ghost use Rattle.nodejs_semver.specs.Internal.Sets as spec;
 ghost use Rattle.semver_core.specs.Cuts.{Span};
 ghost use Rattle.semver_core.specs.Lists.{is_empty};
 ghost use Rattle.semver_core.specs.Values.Versions.{VersionValue};
@@ -36,6 +39,9 @@ pub(crate) trait Found<'a> {
 
 /// A list that any reader fills.
 pub(crate) trait Filled<'a>: Found<'a> {
+    /// Whether one interval takes memory.
+    ghost takes: { Span VersionValue → Bool };
+
     /// Whether there is no interval.
     fn is_empty(&self) -> bool
         ensures { result ≡ is_empty (Self.items self.now) };
@@ -43,7 +49,8 @@ pub(crate) trait Filled<'a>: Found<'a> {
     /// Reads the intervals of a range text of any length, in place of what the list holds.
     fn read_any(&mut self, text: &'a str) -> Result<(), AllocError>
         ensures read { OnOk result (Self.items self.new ≡ denotes MAX_SAFE_INTEGER text.now) }
-        ensures memory { OnErr result (Self.room < length (denotes MAX_SAFE_INTEGER text.now)) };
+        ensures memory { OnErr result ((1 < length (denotes MAX_SAFE_INTEGER text.now))
+            ⊎ (list_any takes (denotes MAX_SAFE_INTEGER text.now) ≡ true)) };
 }
 
 // Adds an interval at the end. A list that outgrows its place mostly has more than two. The first
@@ -109,6 +116,8 @@ impl<'a> Found<'a> for Intervals<Version> {
 
 /// The loose reader adds to such a list.
 impl<'a> Filled<'a> for Intervals<VersionRef<'a>> {
+    ghost takes = { λ s. false };
+
     #[inline(always)]
     fn is_empty(&self) -> bool {
         SmallVec::is_empty(self)
@@ -122,6 +131,8 @@ impl<'a> Filled<'a> for Intervals<VersionRef<'a>> {
 
 /// What the loose reader finds is copied.
 impl<'a> Filled<'a> for Intervals<Version> {
+    ghost takes = { spec.bounds_identifiers };
+
     #[inline(always)]
     fn is_empty(&self) -> bool {
         SmallVec::is_empty(self)

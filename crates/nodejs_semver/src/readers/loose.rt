@@ -1,14 +1,17 @@
 // The reader of range texts, word by word.
 
 ghost use Rattle.std.specs.Prelude.{◌≡◌, ◌↔◌, ◌<◌, ◌++◌, ◌∷◌, [], IfNone, IfOk, IfSome, IsTrue, OnOk};
-ghost use Rattle.std.specs.Prelude.{OnErr, flat_map, length};
+ghost use Rattle.std.specs.Prelude.{List, OnErr, flat_map, length};
 ghost use Rattle.std.specs.List.{list_all};
 ghost use Rattle.nodejs_semver.specs.Internal.Denotes.{denotes, part_denotes};
 ghost use Rattle.nodejs_semver.specs.Internal.PartFronts.{later_parts};
 ghost use Rattle.nodejs_semver.specs.Internal.Readings.{rest_view};
+ghost use Rattle.nodejs_semver.specs.Ranges.View.{TakesMemory};
 ghost use Rattle.nodejs_semver.specs.Text.Meaning.{IsBlankText, Means};
+ghost use Rattle.semver_core.specs.Cuts.{Span};
 ghost use Rattle.semver_core.specs.Internal.Spaces.{space_len};
 ghost use Rattle.semver_core.specs.Lists.{is_empty};
+ghost use Rattle.semver_core.specs.Values.Versions.{VersionValue};
 
 use crate::range::Intervals;
 use crate::range::owned::owned_range;
@@ -103,7 +106,8 @@ pub(crate) fn read_any<'a>(
 }
 
 /// Reads a range text of any length. Returns `None` if no part has an interval; fails only if
-/// allocation fails, and never in place of `None`.
+/// allocation fails, which it does not in place of `None`, nor of one interval whose bounds have
+/// neither a pre-release nor build metadata.
 ///
 /// The text must not be blank: ask `is_blank` first. It is cut at `||`, and each part is read word
 /// by word (node-semver's range grammar). An empty part is one interval without bounds. A malformed
@@ -114,8 +118,9 @@ pub fn range_loose(alloc: Global, text: &str) -> Result<Option<Range>, AllocErro
     ensures some { IfOk result (λ found. IfSome found (λ range.
         Means MAX_SAFE_INTEGER text.now range × (0 < length range))) }
     ensures none { IfOk result (λ found. IfNone found (Means MAX_SAFE_INTEGER text.now [])) }
-    // Allocation never fails in place of `None`.
-    ensures memory { OnErr result (Means MAX_SAFE_INTEGER text.now [] → ⊥) }
+    // Allocation fails only if the text means two intervals or more, or one with identifiers.
+    ensures memory { OnErr result ((r : List (Span VersionValue)) →
+        Means MAX_SAFE_INTEGER text.now r → TakesMemory r) }
 {
     let mut found = SmallVec::new(alloc);
     let (part, rest) = bars::next_part(text);

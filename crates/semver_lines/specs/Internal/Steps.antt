@@ -5,9 +5,13 @@ use Rattle.std.specs.List.{list_all, flat_map}
 use Rattle.std.specs.declared.alloc.AllocError.{AllocError}
 use Rattle.semver_lines.specs.Answers.{Answers, IsAnswer}
 use Rattle.semver_lines.specs.Lines.{HasLines, ended, last_line, no_feed}
-use Rattle.semver_lines.specs.Outcome.{AnswersFront, AnswersTorn}
+use Rattle.semver_lines.specs.Outcome.{AnswersTorn}
 use Rattle.semver_lines.specs.declared.run.RunFault.{RunFault}
 use Rattle.semver_lines.specs.declared.run.RunFault.TheVariants.{Read, Write, Memory}
+
+-- the answers of a beginning of these lines
+abbrev pub AnswersFront : List (List ℕ) → List ℕ → Type 0
+AnswersFront all written = (front rest : List (List ℕ)) × (all ≡ front ++ rest) × Answers front written
 
 -- the output grew by the answer to this line, with a line feed
 pub record GrowsByAnswer (line old new : List ℕ) : Type 0 where

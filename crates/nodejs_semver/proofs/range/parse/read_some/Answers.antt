@@ -1,9 +1,10 @@
-use Rattle.std.proofs.Common.{◌≡◌, ◌<◌, [], length, arith, sym}
+use Rattle.std.proofs.Common.{◌≡◌, ◌<◌, ◌⊎◌, [], length, arith, sym, true}
 use Rattle.semver_core.specs.declared.TheConstants.{MAX_SAFE_INTEGER}
 use Rattle.std.proofs.lemmas.Grind.{common_steps}
+use Rattle.std.specs.List.{list_any}
 use Rattle.nodejs_semver.specs.Internal.Denotes.{denotes}
 use Rattle.nodejs_semver.proofs.Everyday.Whole.{denoted_range}
-use Rattle.nodejs_semver.proofs.Dividing.MeaningLaw.{meant, meant_longer}
+use Rattle.nodejs_semver.proofs.Dividing.MeaningLaw.{meant, meant_so}
 use Rattle.nodejs_semver.proofs.Dividing.WrittenLaw.{accepted_written}
 use Rattle.std.proofs.Common.{rules}
 use Rattle.nodejs_semver.proofs.range.parse.read_some.Goals as goal
@@ -29,4 +30,4 @@ returns-then-is_empty-clause-refused g c =
 pub returns-in_err-read-clause-memory : goal.returns-in_err-read-clause-memory
 returns-in_err-read-clause-memory g c =
     let e = c.from_residual.ensures in
-    let h = meant_longer MAX_SAFE_INTEGER g.S.Found.room c.args.text.now c.utf8.text c.in_err-read.ensures.memory in search rules
+    let h = meant_so (λ r. (1 < length r) ⊎ (list_any g.S.Filled.takes r ≡ true)) MAX_SAFE_INTEGER c.args.text.now c.utf8.text c.in_err-read.ensures.memory in search rules

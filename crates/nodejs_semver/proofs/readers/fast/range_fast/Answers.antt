@@ -1,9 +1,9 @@
-use Rattle.std.proofs.Common.{◌≡◌, List, ℕ, rules, subst}
+use Rattle.std.proofs.Common.{◌≡◌, List, ℕ, inr, rules, subst}
 use Rattle.std.proofs.lemmas.Result.{IfOk-weaker, on_err_weaker}
 use Rattle.std.specs.Prelude.{IfSome, IsTrue, IsUtf8}
 use Rattle.semver_core.specs.declared.TheConstants.{MAX_SAFE_INTEGER}
 use Rattle.nodejs_semver.specs.Text.Meaning.{Means}
-use Rattle.nodejs_semver.proofs.Everyday.Loop.{common_memory}
+use Rattle.nodejs_semver.proofs.Everyday.Loop.{common_so}
 use Rattle.nodejs_semver.proofs.Everyday.Whole.{common_bounded, common_means}
 use Rattle.nodejs_semver.proofs.readers.fast.range_fast.Goals as goal
 
@@ -26,5 +26,5 @@ pub returns-clause-memory : goal.returns-clause-memory
 returns-clause-memory c =
     let there : IsTrue c.in_ok-read_common.field-0 = search rules in
     on_err_weaker c.owned_range.result
-    (λ m. rw c.as_bytes.ensures.value at (common_memory _ MAX_SAFE_INTEGER c.as_bytes.result.now c.read_common.new.found.items
-    (c.in_ok-read_common.ensures.some there) (rw c.from_intervals.ensures at m))) c.owned_range.ensures.memory
+    (λ m. inr (rw c.as_bytes.ensures.value at (common_so _ MAX_SAFE_INTEGER c.as_bytes.result.now c.read_common.new.found.items
+    (c.in_ok-read_common.ensures.some there) (rw c.from_intervals.ensures at m)))) c.owned_range.ensures.memory

@@ -1,4 +1,4 @@
-use Rattle.std.proofs.Common.{◌≡◌, ◌+◌, ℕ, List, arith, ap, length, ◌∙◌}
+use Rattle.std.proofs.Common.{◌≡◌, ◌+◌, ℕ, List, arith, ap, inl, length, ◌∙◌}
 use Rattle.std.proofs.lemmas.Result.{IfOk-weaker, MatchResult-from_err, on_err_weaker}
 use Rattle.std.specs.List.{list_all}
 use Rattle.std.specs.Prelude.{flat_map}
@@ -9,8 +9,7 @@ use Rattle.semver_core.specs.declared.TheConstants.{MAX_SAFE_INTEGER}
 use Rattle.nodejs_semver.specs.Internal.Parts.{parts}
 use Rattle.nodejs_semver.specs.Internal.Denotes.{denotes, part_denotes}
 use Rattle.nodejs_semver.proofs.Bounds.Table.{all-bounded}
-use Rattle.nodejs_semver.proofs.Dividing.MeaningLaw.{filled_denotes, filled_text, meant_none, meant_some, never_none}
-use Rattle.nodejs_semver.proofs.Dividing.MeaningLaw.{never_none_of}
+use Rattle.nodejs_semver.proofs.Dividing.MeaningLaw.{filled_denotes, filled_text, found_so, meant_none, meant_so, meant_some}
 use Rattle.nodejs_semver.proofs.readers.loose.range_loose.Goals as goal
 
 pub from_intervals-requires : goal.from_intervals-requires
@@ -34,12 +33,11 @@ returns-clause-none c = grind (arith, IfOk-weaker, meant_none)
 
 pub returns-clause-memory : goal.returns-clause-memory
 returns-clause-memory c =
-    on_err_weaker c.owned_range.result (never_none_of MAX_SAFE_INTEGER c.args.text.now c.add_parts.new.found.items
-    c.from_intervals.result c.utf8.text (found-is c) c.from_intervals.ensures) c.owned_range.ensures.some
+    on_err_weaker c.owned_range.result (λ m. found_so _ MAX_SAFE_INTEGER c.args.text.now c.add_parts.new.found.items c.utf8.text
+    (found-is c) (rw c.from_intervals.ensures at m)) c.owned_range.ensures.memory
 
 pub returns-in_err-add_parts-clause-memory : goal.returns-in_err-add_parts-clause-memory
 returns-in_err-add_parts-clause-memory c =
     let whole = filled_denotes MAX_SAFE_INTEGER c.args.text.now _ c.utf8.text c.requires.some_part c.next_part.ensures.value in
     MatchResult-from_err c.from_residual.result _ _ c.from_residual.ensures.0 (λ _.
-    never_none MAX_SAFE_INTEGER c.args.text.now c.utf8.text
-    (omega (arith, c.in_err-add_parts.ensures.memory, ap length whole)))
+    meant_so _ MAX_SAFE_INTEGER c.args.text.now c.utf8.text (inl (omega (arith, c.in_err-add_parts.ensures.memory, ap length whole))))
