@@ -19,6 +19,31 @@ impl Calls {
         returned
     }
 
+    /// Counts a call, and drops its value. An allocation failure is an error.
+    pub fn asked<T: Drop>(&mut self, returned: Result<T, AllocError>) -> Result<(), AllocError> {
+        self.made(returned)?;
+        Ok(())
+    }
+
+    /// Counts a call, and drops its two values. An allocation failure is an error.
+    pub fn asked_two<A: Drop, B: Drop>(
+        &mut self,
+        returned: Result<(A, B), AllocError>,
+    ) -> Result<(), AllocError> {
+        let (_, _) = self.made(returned)?;
+        Ok(())
+    }
+
+    /// Counts a call that may reject its input, and drops its answer. An allocation failure is an
+    /// error.
+    pub fn tried<T: Drop, E: Drop>(
+        &mut self,
+        returned: Result<T, Failure<E>>,
+    ) -> Result<(), AllocError> {
+        self.answered(returned)?;
+        Ok(())
+    }
+
     /// Counts a call that may reject its input, and returns its value, if there is one. An
     /// allocation failure is an error.
     pub fn answered<T, E: Drop>(

@@ -9,9 +9,9 @@ pub fn ask_version(alloc: Global, calls: &mut Calls, text: &str) -> Result<(), A
     let Ok(version) = calls.made(VersionRef::parse(text)) else {
         return Ok(());
     };
-    calls.made(version.to_version(alloc))?;
+    calls.asked(version.to_version(alloc))?;
     for word in ["major", "prerelease", "premajor"] {
-        calls.answered(version.inc(alloc, word, Some("beta"), None))?;
+        calls.tried(version.inc(alloc, word, Some("beta"), None))?;
     }
     Ok(())
 }
@@ -21,9 +21,9 @@ pub fn ask_range(alloc: Global, calls: &mut Calls, text: &str) -> Result<(), All
     let Some(range) = calls.answered(RangeRef::parse(alloc, text))? else {
         return Ok(());
     };
-    calls.made(range.to_range(alloc))?;
-    calls.made(range.min_version(alloc))?;
-    calls.made(range.min_version_with_prerelease(alloc))?;
+    calls.asked(range.to_range(alloc))?;
+    calls.asked(range.min_version(alloc))?;
+    calls.asked(range.min_version_with_prerelease(alloc))?;
     for other in ["*", "^1.5.0-b+c || 3.2.x || ^7.0.0-0", "<0.0.0-0"] {
         if let Some(other) = calls.answered(RangeRef::parse(alloc, other))? {
             pair(alloc, calls, &range, &other)?;
@@ -40,8 +40,8 @@ fn pair<'a>(
     one: &RangeRef<'a>,
     other: &RangeRef<'a>,
 ) -> Result<(), AllocError> {
-    calls.made(one.intersect(alloc, other))?;
-    calls.made(one.difference(alloc, other))?;
-    calls.made(one.least_beyond(alloc, other))?;
+    calls.asked(one.intersect(alloc, other))?;
+    calls.asked(one.difference(alloc, other))?;
+    calls.asked(one.least_beyond(alloc, other))?;
     Ok(())
 }

@@ -13,11 +13,11 @@ const WRONG: [&str; 6] = ["12", "1.5", "[1, {}]", "null", "\"1.2", "{\"a\": \"^1
 /// Makes each call on the JSON value and text of a version.
 pub fn ask_version(alloc: Global, calls: &mut Calls, version: &Version) -> Result<(), AllocError> {
     let value = calls.made(version_to_value(alloc, version))?;
-    calls.answered(version_from_value(alloc, &value))?;
+    calls.tried(version_from_value(alloc, &value))?;
     let text = calls.made(version_to_json_text(alloc, version))?;
-    calls.answered(version_from_json_text(alloc, &text))?;
+    calls.tried(version_from_json_text(alloc, &text))?;
     for wrong in WRONG {
-        calls.answered(version_from_json_text(alloc, wrong))?;
+        calls.tried(version_from_json_text(alloc, wrong))?;
     }
     Ok(())
 }
@@ -25,11 +25,11 @@ pub fn ask_version(alloc: Global, calls: &mut Calls, version: &Version) -> Resul
 /// Makes each call on the JSON value and text of a range.
 pub fn ask_range(alloc: Global, calls: &mut Calls, range: &Range) -> Result<(), AllocError> {
     let value = calls.made(range_to_value(alloc, range))?;
-    calls.answered(range_from_value(alloc, &value))?;
+    calls.tried(range_from_value(alloc, &value))?;
     let text = calls.made(range_to_json_text(alloc, range))?;
-    calls.answered(range_from_json_text(alloc, &text))?;
+    calls.tried(range_from_json_text(alloc, &text))?;
     for wrong in WRONG {
-        calls.answered(range_from_json_text(alloc, wrong))?;
+        calls.tried(range_from_json_text(alloc, wrong))?;
     }
     Ok(())
 }

@@ -53,19 +53,19 @@ pub fn ask_empty(alloc: Global, calls: &mut Calls) -> Result<(), AllocError> {
 
 // Makes each call on ranges about that of a text.
 fn ask(alloc: Global, calls: &mut Calls, text: &str) -> Result<(), AllocError> {
-    calls.answered(headline(alloc, text, "^3 || 5.x"))?;
+    calls.tried(headline(alloc, text, "^3 || 5.x"))?;
     calls.made(both_readers(alloc, text))?;
-    calls.made(range_fast(alloc, text))?;
+    calls.asked(range_fast(alloc, text))?;
     borrowed::ask_range(alloc, calls, text)?;
     if !is_blank(text) {
-        calls.made(range_loose(alloc, text))?;
+        calls.asked(range_loose(alloc, text))?;
     }
     let Some(range) = calls.answered(Range::parse(alloc, text))? else {
         return Ok(());
     };
-    calls.made(range.copy(alloc))?;
-    calls.made(range.min_version(alloc))?;
-    calls.made(range.min_version_with_prerelease(alloc))?;
+    calls.asked(range.copy(alloc))?;
+    calls.asked(range.min_version(alloc))?;
+    calls.asked(range.min_version_with_prerelease(alloc))?;
     json::ask_range(alloc, calls, &range)?;
     for other in ["*", "^1.5.0-b+c || 3.2.x || ^7.0.0-0", "<0.0.0-0"] {
         if let Some(other) = calls.answered(Range::parse(alloc, other))? {
@@ -78,11 +78,11 @@ fn ask(alloc: Global, calls: &mut Calls, text: &str) -> Result<(), AllocError> {
 
 // Makes each call on two ranges, and on their first intervals.
 fn pair(alloc: Global, calls: &mut Calls, one: &Range, other: &Range) -> Result<(), AllocError> {
-    calls.made(one.intersect(alloc, other))?;
-    calls.made(one.difference(alloc, other))?;
-    calls.made(one.least_beyond(alloc, other))?;
+    calls.asked(one.intersect(alloc, other))?;
+    calls.asked(one.difference(alloc, other))?;
+    calls.asked(one.least_beyond(alloc, other))?;
     let ranges = [one.copy(alloc)?, other.copy(alloc)?];
-    calls.made(Range::least_of_all(alloc, &ranges))?;
+    calls.asked(Range::least_of_all(alloc, &ranges))?;
     match (one.intervals().first(), other.intervals().first()) {
         (Some(one), Some(other)) => intervals(alloc, calls, one, other),
         _ => Ok(()),
@@ -96,14 +96,14 @@ fn intervals(
     one: &Interval<Version>,
     other: &Interval<Version>,
 ) -> Result<(), AllocError> {
-    calls.made(one.lower().copy(alloc))?;
-    calls.made(one.copy(alloc))?;
-    calls.made(one.intersect(alloc, other))?;
-    calls.made(one.clip(alloc, other))?;
-    calls.made(one.subtract(alloc, other))?;
+    calls.asked(one.lower().copy(alloc))?;
+    calls.asked(one.copy(alloc))?;
+    calls.asked(one.intersect(alloc, other))?;
+    calls.asked(one.clip(alloc, other))?;
+    calls.asked_two(one.subtract(alloc, other))?;
     match one.common_part(other) {
         Some(part) => {
-            calls.made(part.copy(alloc))?;
+            calls.asked(part.copy(alloc))?;
             Ok(())
         }
         None => Ok(()),

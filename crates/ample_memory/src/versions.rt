@@ -56,8 +56,8 @@ pub fn ask_long(alloc: Global, calls: &mut Calls, length: usize) -> Result<(), A
 
 // Makes each call on versions about that of a text.
 fn ask(alloc: Global, calls: &mut Calls, text: &str, words: &[&str]) -> Result<(), AllocError> {
-    calls.answered(Version::parse(alloc, text))?;
-    calls.made(version_fast(alloc, text))?;
+    calls.tried(Version::parse(alloc, text))?;
+    calls.asked(version_fast(alloc, text))?;
     borrowed::ask_version(alloc, calls, text)?;
     for at in [0, text.len().min(6)] {
         calls.made(scan::identifiers(alloc, text, at))?;
@@ -75,14 +75,14 @@ pub fn ask_about(
     version: Version,
     words: &[&str],
 ) -> Result<(), AllocError> {
-    calls.made(version.copy(alloc))?;
+    calls.asked(version.copy(alloc))?;
     for &word in words {
         inc(alloc, calls, &version, word)?;
     }
     for identifier in version.build() {
-        calls.made(identifier.copy(alloc))?;
+        calls.asked(identifier.copy(alloc))?;
     }
-    calls.made(Identifier::copy_list(alloc, version.pre_release()))?;
+    calls.asked(Identifier::copy_list(alloc, version.pre_release()))?;
     json::ask_version(alloc, calls, &version)?;
     match calls.made(version.into_parts(alloc)) {
         Ok(parts) => rebuild(alloc, calls, parts),
@@ -92,7 +92,7 @@ pub fn ask_about(
 
 // Copies the parts of a version, and makes it again.
 fn rebuild(alloc: Global, calls: &mut Calls, parts: VersionParts) -> Result<(), AllocError> {
-    calls.made(parts.copy(alloc))?;
+    calls.asked(parts.copy(alloc))?;
     let VersionParts {
         major,
         minor,
@@ -112,7 +112,7 @@ fn inc(alloc: Global, calls: &mut Calls, version: &Version, word: &str) -> Resul
         for base in BASES {
             let next = version.inc(alloc, word, Some(identifier), Some(base));
             if let Some(error) = calls.rejected(next)? {
-                calls.made(error.copy(alloc))?;
+                calls.asked(error.copy(alloc))?;
             }
         }
     }
