@@ -74,7 +74,8 @@ fn locked_outcome<'a>(
     version_outcome(alloc, &range, text)
 }
 
-// Whether some word of a range text has no bounds here. To npm `^*` is any version, and `2 - 1` none.
+// Whether some word of a range text has no bounds here. To npm `^*` is any version, and `2 - 1`
+// none.
 fn has_word_without_bounds(text: &str) -> bool {
     ignored_words(text).any(|word| word.kind == IgnoredKind::WithoutBounds)
 }

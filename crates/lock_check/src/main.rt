@@ -6,7 +6,8 @@
 //!
 //! It also names each word of a range that is ignored, with its place; this does not count as a
 //! finding. npm ignores malformed words too, as `>=1.0.0,` in `>=1.0.0, <2.0.0`. A word that has a
-//! form but no bounds here, as `^*`, has bounds to npm, so a dependency with such a word is skipped.
+//! form but no bounds here, as `^*`, has bounds to npm, so a dependency with such a word is
+//! skipped.
 //!
 //! It is meant to find what `npm ls --package-lock-only --all` finds, except that it knows neither
 //! `overrides`, which a lock file does not hold, nor `acceptDependencies`, and that it skips tags,

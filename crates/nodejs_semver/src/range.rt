@@ -56,8 +56,8 @@ impl Model for Range {
     ghost invariant = { λ r. IsRange MAX_SAFE_INTEGER r.intervals.items };
 }
 
-/// A range that borrows its text: the versions of one or more intervals, whose bounds are read where
-/// they stand. One interval stands inline, so that most ranges allocate nothing.
+/// A range that borrows its text: the versions of one or more intervals, whose bounds are read
+/// where they stand. One interval stands inline, so that most ranges allocate nothing.
 ///
 /// In contracts it is the same list of intervals as a [`Range`](crate::Range).
 #[derive(Debug, Drop)]

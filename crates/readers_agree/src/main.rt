@@ -1,6 +1,6 @@
 //! Asks the fast and the loose reader of versions, and those of ranges, about the same texts: where
-//! the fast one returns a value, the loose one must return the same. What `diagnosis` says of a text
-//! must fit too: the flaw of a version text, and the ignored words of a range text.
+//! the fast one returns a value, the loose one must return the same. What `diagnosis` says of a
+//! text must fit too: the flaw of a version text, and the ignored words of a range text.
 //!
 //! The texts are all of one to four characters over a small alphabet, and a million that a grammar
 //! makes and one edit damages. For each kind of text the program prints how many it asked about and

@@ -1,7 +1,7 @@
 // Increments: the next version by a word, as release tools ask for it.
 
-ghost use Rattle.std.specs.Prelude.{◌≡◌, ◌≢◌, ◌+◌, ◌-◌, ◌^◌, ◌<◌, [], IfOk, IsOkAnd, OnErr, codes, unwrap_or};
-ghost use Rattle.std.specs.Prelude.{Err, false, true};
+ghost use Rattle.std.specs.Prelude.{◌≡◌, ◌≢◌, ◌+◌, ◌-◌, ◌^◌, ◌<◌, []};
+ghost use Rattle.std.specs.Prelude.{Err, IfOk, IsOkAnd, OnErr, codes, false, true, unwrap_or};
 ghost use Rattle.std.specs.Option.{option_copied};
 ghost use Rattle.semver_core.specs.Failures.{MemoryOnlyIf};
 ghost use Rattle.semver_core.specs.Increments.Table as spec;

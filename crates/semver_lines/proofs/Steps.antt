@@ -13,7 +13,8 @@ use Rattle.std.specs.Io.KnownBytes.{Appends, Consumes, IsAtEnd}
 use Rattle.std.specs.List.{AllZip, flat_map, list_all}
 use Rattle.std.specs.declared.alloc.AllocError.{AllocError}
 use Rattle.semver_lines.specs.Answers.{Answers, IsAnswer}
-use Rattle.semver_lines.specs.Internal.Steps.{AnswersFront, Finished, GrowsByAnswer, Stopped, Taken, Told, Took, Turned, WritesFront}
+use Rattle.semver_lines.specs.Internal.Steps.{AnswersFront, Finished, GrowsByAnswer, Stopped, Taken}
+use Rattle.semver_lines.specs.Internal.Steps.{Told, Took, Turned, WritesFront}
 use Rattle.semver_lines.specs.Lines.{HasLines, ended, last_line, no_feed}
 use Rattle.semver_lines.specs.Outcome.{AnswersTorn, Ran, Writes}
 use Rattle.semver_lines.specs.declared.run.RunFault.{RunFault}

@@ -1,8 +1,8 @@
 // Answers each line of an input.
 
-ghost use Rattle.std.specs.Prelude.{ℕ, List, ◌≡◌, ◌+◌, ◌<◌, ◌++◌, ◌∷◌, [], true, length, take, drop};
+ghost use Rattle.std.specs.Prelude.{◌≡◌, ◌+◌, ◌<◌, ◌++◌, ◌∷◌, []};
+ghost use Rattle.std.specs.Prelude.{ℕ, List, true, length, take, drop, string_bytes};
 ghost use Rattle.std.specs.Prelude.{slice_index, IfSome, IfNone, IsUtf8, IfOk, IfErr, OnOk, OnErr};
-ghost use Rattle.std.specs.Prelude.{string_bytes};
 ghost use Rattle.std.specs.Io.KnownBytes.{Appends, Consumes, Keeps, IsAtEnd};
 ghost use Rattle.semver_lines.specs.Answers.{Answers};
 ghost use Rattle.semver_lines.specs.Lines.{last_line, no_feed};

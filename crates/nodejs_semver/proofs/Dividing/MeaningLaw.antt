@@ -229,7 +229,8 @@ only_several (Err (Memory e)) Of h = λ list is. several list (h list is)
 
 -- the same of the list of a reader, where there may be none
 pub found_so : (P : List (Span VersionValue) → Type 0) (limit : ℕ) (text : List ℕ) (list : List (Span VersionValue))
-    → IsUtf8 text → list ≡ denotes limit text → IsSomeAnd (if_any list) P → (r : List (Span VersionValue)) → Means limit text r → P r
+    → IsUtf8 text → list ≡ denotes limit text → IsSomeAnd (if_any list) P
+    → (r : List (Span VersionValue)) → Means limit text r → P r
 found_so P limit text [] u e h = elim h [ ]
 found_so P limit text (s ∷ rest) u e h = meant_so P limit text u (subst P e h)
 

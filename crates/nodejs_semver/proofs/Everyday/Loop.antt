@@ -115,7 +115,8 @@ loop-bars limit text found new rest left next s bars r =
 
 -- what holds of the list of a common text holds of a list that it means
 pub common_so : (P : List (Span VersionValue) → Type 0) (limit : ℕ) (text : List ℕ) (list : List (Span VersionValue))
-    → IsCommonRange limit text list → IsSomeAnd (if_any list) P → (r : List (Span VersionValue)) × IsCommonRange limit text r × P r
+    → IsCommonRange limit text list → IsSomeAnd (if_any list) P
+    → (r : List (Span VersionValue)) × IsCommonRange limit text r × P r
 common_so P limit text [] is h = elim is [ ]
 common_so P limit text (s ∷ list) is h = (s ∷ list, is, h)
 

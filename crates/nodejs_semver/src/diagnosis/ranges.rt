@@ -141,8 +141,8 @@ impl<'a> Iterator for IgnoredWords<'a> {
     }
 }
 
-/// Returns the words of a range text that mean nothing, from the left, each with its place. Allocates
-/// nothing.
+/// Returns the words of a range text that mean nothing, from the left, each with its place.
+/// Allocates nothing.
 ///
 /// `Range::parse` ignores these words: without them the text means the same, and it is rejected if
 /// all of its words are such. So `>=1.0.0, <2.0.0` is the range `<2.0.0`.

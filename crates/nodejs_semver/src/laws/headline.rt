@@ -1,7 +1,7 @@
 // The headline of this crate. It rests on the contracts of the public calls alone.
 
-ghost use Rattle.std.specs.Prelude.{◌≡◌, ◌&&◌, ◌↔◌, ◌⊎◌, List, [], IfOk, IsTrue, OnOk, not, true, unwrap_or};
-ghost use Rattle.std.specs.Prelude.{false};
+ghost use Rattle.std.specs.Prelude.{◌≡◌, ◌&&◌, ◌↔◌, ◌⊎◌, []};
+ghost use Rattle.std.specs.Prelude.{List, IfOk, IsTrue, OnOk, false, not, true, unwrap_or};
 ghost use Rattle.nodejs_semver.specs.Ranges.Gate.{accepts};
 ghost use Rattle.nodejs_semver.specs.Ranges.Least.{IsLeastOf};
 ghost use Rattle.nodejs_semver.specs.Text.Meaning.{Means};

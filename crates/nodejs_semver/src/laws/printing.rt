@@ -19,10 +19,11 @@ use std::alloc::{AllocError, Global};
 /// one version, that version stands for both ends.
 pub fn printed_ranges_come_back(text: &str)
     ensures equal { (limit : ℕ) (list read : List (Span VersionValue)) → limit < 2 ^ 64
-        → IsRange limit list → list_all (is_printable limit) list ≡ true → text.now ≡ range_text list
-        → Means limit text.now read → range_eq read list ≡ true }
+        → IsRange limit list → list_all (is_printable limit) list ≡ true
+        → text.now ≡ range_text list → Means limit text.now read → range_eq read list ≡ true }
     ensures builds { (limit : ℕ) (list : List (Span VersionValue)) → limit < 2 ^ 64
-        → IsRange limit list → list_all (is_printable limit) list ≡ true → text.now ≡ range_text list
+        → IsRange limit list → list_all (is_printable limit) list ≡ true
+        → text.now ≡ range_text list
         → Means limit text.now (map (λ s. bounds_back s.lower s.upper) list) }
 {
     let _ = text;

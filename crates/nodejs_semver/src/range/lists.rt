@@ -66,7 +66,8 @@ pub(crate) fn meet_somewhere<V: Point>(these: &[Interval<V>], others: &[Interval
 
 // Whether some pair of intervals meets.
 fn has_meeting_pair<V: Point>(these: &[Interval<V>], others: &[Interval<V>]) -> bool
-    ensures { result ≡ list_any (λ s. list_any (λ t. is_some (meet V.cmp s t)) others.now) these.now }
+    ensures { result
+        ≡ list_any (λ s. list_any (λ t. is_some (meet V.cmp s t)) others.now) these.now }
 {
     these.iter().any(|interval| meets_one(interval, others))
 }

@@ -4,7 +4,8 @@ ghost use Rattle.nodejs_semver.specs.Internal.Sets as spec;
 ghost use Rattle.nodejs_semver.specs.Ranges.Gate.{passes};
 ghost use Rattle.nodejs_semver.specs.Ranges.View.{TakesMemory};
 ghost use Rattle.std.specs.List.{list_any};
-ghost use Rattle.std.specs.Prelude.{◌≡◌, ◌≢◌, ◌<◌, ◌∷◌, ◌⊎◌, [], IfOk, IsSomeAnd, OnErr, length, true};
+ghost use Rattle.std.specs.Prelude.{◌≡◌, ◌≢◌, ◌<◌, ◌∷◌, ◌⊎◌, []};
+ghost use Rattle.std.specs.Prelude.{IfOk, IsSomeAnd, OnErr, length, true};
 
 use crate::range::Intervals;
 use crate::{Range, RangeRef};

@@ -2,7 +2,8 @@
 
 ghost use Rattle.std.specs.Prelude.{◌≡◌, is_some};
 ghost use Rattle.nodejs_semver.specs.Internal.Ignored.{kind_at, kind_view, unless_bounded};
-ghost use Rattle.nodejs_semver.specs.Internal.Readings.{partial_front_view, partial_view, sign_view};
+ghost use Rattle.nodejs_semver.specs.Internal.Readings.{partial_front_view};
+ghost use Rattle.nodejs_semver.specs.Internal.Readings.{partial_view, sign_view};
 ghost use Rattle.nodejs_semver.specs.Internal.Words.{signed_word, upper_of};
 ghost use Rattle.nodejs_semver.specs.Text.Table.{table};
 ghost use Rattle.nodejs_semver.specs.Text.WordText.{hyphen};

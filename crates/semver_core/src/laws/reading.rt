@@ -50,9 +50,9 @@ pub fn common_reads_alike(text: &str)
 }
 
 /// Returns what the fast reader and the loose reader return on one text: where the fast one returns
-/// a version, the loose one returns the same, which is the version at the text's front. The fast one
-/// returns none only on a text that is no common one, and the loose one only on a text that has no
-/// version.
+/// a version, the loose one returns the same, which is the version at the text's front. The fast
+/// one returns none only on a text that is no common one, and the loose one only on a text that has
+/// no version.
 ///
 /// Fails only if allocation fails.
 #[tactic(auto, using(crate::proofs::Text::Whole::alike))]

@@ -13,5 +13,6 @@ returns-in_err-read_some-clause-memory c =
     let e = c.from_residual.ensures in
     let h : MemoryOnlyIf {A = ⊤} (Err c.in_err-read_some.field-0.0)
     ((r : List (Span VersionValue)) → Means MAX_SAFE_INTEGER c.args.text.now r → 1 < length r) =
-    only_several {A = ⊤} (Err c.in_err-read_some.field-0.0) (Means MAX_SAFE_INTEGER c.args.text.now) c.in_err-read_some.ensures.memory in
+    only_several {A = ⊤} (Err c.in_err-read_some.field-0.0) (Means MAX_SAFE_INTEGER c.args.text.now)
+    c.in_err-read_some.ensures.memory in
     search rules

@@ -40,4 +40,5 @@ pub returns-in_err-add_parts-clause-memory : goal.returns-in_err-add_parts-claus
 returns-in_err-add_parts-clause-memory c =
     let whole = filled_denotes MAX_SAFE_INTEGER c.args.text.now _ c.utf8.text c.requires.some_part c.next_part.ensures.value in
     MatchResult-from_err c.from_residual.result _ _ c.from_residual.ensures.0 (λ _.
-    meant_so _ MAX_SAFE_INTEGER c.args.text.now c.utf8.text (inl (omega (arith, c.in_err-add_parts.ensures.memory, ap length whole))))
+    meant_so _ MAX_SAFE_INTEGER c.args.text.now c.utf8.text
+    (inl (omega (arith, c.in_err-add_parts.ensures.memory, ap length whole))))
