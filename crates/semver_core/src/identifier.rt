@@ -3,10 +3,10 @@
 ghost use Rattle.std.specs.List.{list_all};
 ghost use Rattle.std.specs.Prelude.{◌≡◌, ◌≢◌, ◌<◌, ℕ, Some, refl, IfOk, OnErr, length};
 ghost use Rattle.semver_core.specs.Text.Characters.{is_identifier_char};
-ghost use Rattle.semver_core.specs.Text.Identifiers.{Id, Numeric, is_identifier, is_listed};
+ghost use Rattle.semver_core.specs.Text.Identifiers.{Numeric, is_identifier, is_listed};
 ghost use Rattle.std.specs.Cmp.{eq_by_cmp_equiv, on_equiv, on_per, on_po, on_total};
 ghost use Rattle.std.specs.Cmp.{partial_equiv_from_equiv, po};
-ghost use Rattle.std.specs.Ordering.{is_eq, eq_by_cmp};
+ghost use Rattle.std.specs.Ordering.{is_eq};
 ghost use Rattle.semver_core.specs.Internal.Hashes.{id_writes};
 ghost use Rattle.semver_core.specs.Values.Order.{id_cmp};
 ghost use Rattle.semver_core.specs.Internal.OrderLaws.{id_alike, id_total};

@@ -1,6 +1,6 @@
 // Versions: five values.
 
-ghost use Rattle.std.specs.Prelude.{◌≡◌, ◌↔◌, Some, refl, IsTrue, IfOk, All, true, false, length};
+ghost use Rattle.std.specs.Prelude.{◌≡◌, ◌↔◌, Some, IsTrue, IfOk, All, length};
 ghost use Rattle.std.specs.Prelude.{◌<◌, ◌≤◌};
 ghost use Rattle.semver_core.specs.Failures.{MemoryOnlyIf, RefusedOnlyIf, NoValue};
 ghost use Rattle.semver_core.specs.Text.VersionText.{Reads};

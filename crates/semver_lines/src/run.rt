@@ -1,9 +1,9 @@
 // Answers each line of an input.
 
 ghost use Rattle.std.specs.Prelude.{◌≡◌, ◌+◌, ◌<◌, ◌++◌, ◌∷◌, []};
-ghost use Rattle.std.specs.Prelude.{ℕ, List, true, length, take, drop, string_bytes};
+ghost use Rattle.std.specs.Prelude.{true, length, take, drop, string_bytes};
 ghost use Rattle.std.specs.Prelude.{slice_index, IfSome, IfNone, IsUtf8, IfOk, IfErr, OnOk, OnErr};
-ghost use Rattle.std.specs.Io.KnownBytes.{Appends, Consumes, Keeps, IsAtEnd};
+ghost use Rattle.std.specs.Io.KnownBytes.{Appends, IsAtEnd};
 ghost use Rattle.semver_lines.specs.Answers.{Answers};
 ghost use Rattle.semver_lines.specs.Lines.{last_line, no_feed};
 ghost use Rattle.semver_lines.specs.Outcome.{Ran};

@@ -4,7 +4,7 @@ ghost use Rattle.nodejs_semver.specs.Cuts.{Span};
 ghost use Rattle.nodejs_semver.specs.Failures.{RefusedOnlyIf};
 ghost use Rattle.nodejs_semver.specs.Text.Meaning.{Means};
 ghost use Rattle.nodejs_semver.specs.Versions.{VersionValue};
-ghost use Rattle.std.specs.Prelude.{◌≡◌, ◌⊎◌, [], IfOk, List};
+ghost use Rattle.std.specs.Prelude.{◌⊎◌, [], IfOk, List};
 ghost use Rattle.uses.specs.Subset.{IsAnswer};
 
 use nodejs_semver::{Failure, MAX_SAFE_INTEGER, Range, SemverError, Version};

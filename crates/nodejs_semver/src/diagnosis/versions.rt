@@ -1,12 +1,11 @@
 // What is wrong with a version text.
 
 ghost use Rattle.std.specs.Char.{is_ascii_digit};
-ghost use Rattle.std.specs.Prelude.{◌≡◌, ◌==◌, ◌+◌, ◌≤◌, ◌↔◌};
+ghost use Rattle.std.specs.Prelude.{◌≡◌, ◌+◌, ◌≤◌, ◌↔◌};
 ghost use Rattle.std.specs.Prelude.{ℕ, IfErr, IfOk, IfSome, Some, None, drop};
 ghost use Rattle.std.specs.Prelude.{false, length, true, MatchOption};
-ghost use Rattle.semver_core.specs.Internal.Reading.{build_at, list_at};
-ghost use Rattle.semver_core.specs.Internal.Reading.{list_len, mark_len, number_at};
-ghost use Rattle.semver_core.specs.Internal.Reading.{or_nothing, past, pre_release_at, triple_at};
+ghost use Rattle.semver_core.specs.Internal.Reading.{build_at, list_at, list_len, mark_len};
+ghost use Rattle.semver_core.specs.Internal.Reading.{or_nothing, pre_release_at, triple_at};
 ghost use Rattle.semver_core.specs.Text.Characters.{begins, IsAfterBlank};
 ghost use Rattle.semver_core.specs.declared.TheConstants.{MAX_SAFE_INTEGER};
 ghost use Rattle.nodejs_semver.specs.Internal.Stuck.{IsNumberAt, Stuck, begins_dot};

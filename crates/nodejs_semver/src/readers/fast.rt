@@ -1,17 +1,15 @@
 // The reader of common range texts, in one pass from the left.
 
-ghost use Rattle.std.specs.Option.{ForSome};
 ghost use Rattle.std.specs.Prelude.{◌≡◌, ◌≤◌, ◌⊎◌, [], if◌then◌else◌, IfNone, IfOk, IfSome};
 ghost use Rattle.std.specs.Prelude.{IsFalse, IsTrue, List, None, OnErr, Some, length, true};
 ghost use Rattle.nodejs_semver.specs.Internal.CommonFronts as Spec;
 ghost use Rattle.nodejs_semver.specs.Text.Bars.{has_bars};
 ghost use Rattle.nodejs_semver.specs.Text.Common.{IsCommonRange};
 ghost use Rattle.nodejs_semver.specs.Text.Meaning.{Means};
-ghost use Rattle.nodejs_semver.specs.Internal.Fronts.{dotted_front};
-ghost use Rattle.nodejs_semver.specs.Internal.CommonViews.{between_view, both_view};
+ghost use Rattle.nodejs_semver.specs.Internal.CommonViews.{both_view};
 ghost use Rattle.nodejs_semver.specs.Internal.CommonViews.{bounds_front_view, passed_view};
 ghost use Rattle.nodejs_semver.specs.Internal.Readings.{bounds_view, partial_front_view};
-ghost use Rattle.nodejs_semver.specs.Internal.Readings.{partial_pair_view, partial_view, rest_view};
+ghost use Rattle.nodejs_semver.specs.Internal.Readings.{partial_view, rest_view};
 ghost use Rattle.nodejs_semver.specs.Internal.Readings.{table_view};
 ghost use Rattle.semver_core.specs.Failures.{NoValue};
 ghost use Rattle.nodejs_semver.specs.Ranges.View.{TakesMemory};

@@ -3,7 +3,6 @@
 ghost use Rattle.std.specs.Option.{option_to_list};
 ghost use Rattle.std.specs.Prelude.{◌≡◌, ◌<◌, ◌≤◌, ◌++◌, ◌∷◌, [], List, Option, IfOk, OnErr, OnOk};
 ghost use Rattle.std.specs.Prelude.{is_some, length, true};
-ghost use Rattle.semver_core.specs.Text.Identifiers.{is_listed, listed};
 ghost use Rattle.nodejs_semver.specs.Internal.Denotes.{part_bounds, part_intervals};
 ghost use Rattle.nodejs_semver.specs.Internal.CommonFronts.{pushed};
 ghost use Rattle.nodejs_semver.specs.Internal.CommonViews.{between_view, both_view};
@@ -20,7 +19,6 @@ ghost use Rattle.semver_core.specs.Internal.Spaces.{space_len};
 ghost use Rattle.semver_core.specs.Cuts.{Span, interval, is_interval};
 ghost use Rattle.semver_core.specs.Values.Order.{precedence};
 ghost use Rattle.semver_core.specs.Values.Versions.{VersionValue};
-ghost use Rattle.semver_core.specs.Values.Views.{ids_view};
 ghost use Rattle.semver_core.specs.declared.TheConstants.{MAX_SAFE_INTEGER};
 
 use crate::range::Intervals;

@@ -1,10 +1,9 @@
 // A partial: a version whose components may be absent or wildcards.
 
 ghost use Rattle.std.specs.Option.{ForSome};
-ghost use Rattle.std.specs.Prelude.{IfSome, ◌≡◌, ◌≤◌, ◌+◌, length, take, drop, true};
+ghost use Rattle.std.specs.Prelude.{IfSome, ◌≡◌, ◌≤◌, ◌+◌, take, drop, true};
 ghost use Rattle.nodejs_semver.specs.Internal.Fronts as Spec;
 ghost use Rattle.nodejs_semver.specs.Internal.Fronts.{drop_v, front_view};
-ghost use Rattle.semver_core.specs.Text.Characters.{is_identifier_char};
 ghost use Rattle.semver_core.specs.Text.Identifiers.{goes_on, is_listed};
 ghost use Rattle.nodejs_semver.specs.Internal.Readings.{pair_view, partial_front_view};
 ghost use Rattle.nodejs_semver.specs.Internal.Readings.{partial_pair_view};

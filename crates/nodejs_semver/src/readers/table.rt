@@ -1,6 +1,6 @@
 // The word table: the bounds of a word, by its form and the numbers of its partial.
 
-ghost use Rattle.std.specs.Prelude.{◌≡◌, ◌≤◌, ◌<◌, ◌+◌, ◌^◌, Some, length, unwrap_or};
+ghost use Rattle.std.specs.Prelude.{◌≡◌, ◌≤◌, ◌<◌, ◌+◌, ◌^◌, Some, unwrap_or};
 ghost use Rattle.nodejs_semver.specs.Internal.Readings.{bounds_view, comparator_view};
 ghost use Rattle.nodejs_semver.specs.Internal.Readings.{partial_view, sign_view, table_view};
 ghost use Rattle.nodejs_semver.specs.Internal.Words.{signed_word};

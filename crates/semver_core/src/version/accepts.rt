@@ -1,6 +1,6 @@
 // Versions ask a set whether it accepts them.
 
-ghost use Rattle.std.specs.Prelude.{◌≡◌, Bool, true, false};
+ghost use Rattle.std.specs.Prelude.{◌≡◌, Bool, false};
 ghost use Rattle.semver_core.specs.Values.Versions.{VersionValue};
 
 use crate::{Version, VersionRef};
