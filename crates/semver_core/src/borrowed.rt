@@ -146,7 +146,7 @@ impl<'a> VersionRef<'a> {
     }
 
     /// Whether the version is a pre-release: its list of pre-release identifiers is not empty.
-    #[tactic(auto, using(crate::proofs::Text::Listed::listed_some, crate::proofs::Text::Listed::listed_none))]
+    #[tactic(auto, using(crate::proofs::Text::Listed::listed_counts))]
     pub fn is_prerelease(&self) -> bool
         ensures { IsTrue result ↔ (0 < length self.now.pre_release) }
     {

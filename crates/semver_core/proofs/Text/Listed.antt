@@ -77,3 +77,5 @@ pub some_listed : (text : List ℕ) (ids : List Identifier) → 0 < length text 
 some_listed text ids h e = rw (length-map ids id_view) at (rw (← e) at (listed_some text h))
 
 pub ruleset listed_read = (listed_utf8, listed_begins, listed_none)
+
+pub ruleset listed_counts = (listed_count, listed_none)

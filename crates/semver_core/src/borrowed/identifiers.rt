@@ -105,7 +105,7 @@ impl<'a> IdentifierRefs<'a> {
 }
 
 // How many identifiers a text spells.
-#[tactic(auto, using(crate::proofs::Text::Listed::listed_count, crate::proofs::Text::Listed::listed_none))]
+#[tactic(auto, using(crate::proofs::Text::Listed::listed_counts))]
 fn count(text: &[u8]) -> usize
     ensures { result ≡ length (listed text.now) }
 {

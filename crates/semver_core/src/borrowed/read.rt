@@ -70,7 +70,7 @@ fn lists_at(text: &str, at: usize) -> (&[u8], &[u8])
 
 // The release of three numbers.
 #[inline(always)]
-#[tactic(auto, using(crate::proofs::Text::Ends::nothing_listed, crate::proofs::Text::Ends::nothing_spelled))]
+#[tactic(auto, using(crate::proofs::Text::Ends::lists_cut))]
 fn release(major: u64, minor: u64, patch: u64) -> VersionRef<'static>
     ensures { result ≡ release_value major minor patch }
 {

@@ -67,7 +67,6 @@ pub(super) fn identify(
 // that number is `u64::MAX`.
 #[cold]
 #[inline(never)]
-#[tactic(auto, using(crate::proofs::Increments::Memory::ends_overflows, crate::proofs::Increments::Memory::ends_below))]
 pub(super) fn unless_overflow(
     ids: &IdentifierRefs<'_>,
     error: AllocError,
