@@ -168,6 +168,10 @@ module _ {V : Type 0} {R : V → V → Ordering} (o : IsTotalOrder R) where
       → c ≡ lesser_upper R s.upper t.upper → is_interval R (record { lower = b; upper = c }) ≡ true
   clip-ordered s t b c h e f = rw (e, f) (sym (is_some-interval _) ∙ clip-meets s t ∙ h)
 
+  -- the bounds of a span that is an interval
+  pub bounded : (s r : Span V) → is_some (interval R s) ≡ true → r ≡ s → Some r ≡ interval R s
+  bounded s r h e = let is : is_interval R s ≡ true = sym (is_some-interval s) ∙ h in rw (e, is) refl
+
   -- ---- points
 
   -- a point lies past a cut that is not above the place just before it

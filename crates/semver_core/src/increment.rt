@@ -337,7 +337,6 @@ impl<'a> VersionRef<'a> {
     /// let beta = release.inc(alloc, "prerelease", Some("beta"), None)?;
     /// assert_eq!(rt; beta, Version::parse(alloc, "1.2.4-beta.0")?);
     /// ```
-    #[tactic(auto, using(crate::proofs::Increments::Memory::memory_of))]
     pub fn inc(
         &self,
         alloc: Global,

@@ -1,0 +1,7 @@
+use Rattle.semver_core.proofs.Increments.Memory.{memory_of}
+use Rattle.semver_core.proofs.borrowed.VersionRef.inc.Goals as goal
+
+pub returns : goal.returns
+returns c =
+    rw (← c.of_borrowed.ensures)
+    (record { value = c.increment.ensures.value; memory = memory_of _ _ c.increment.ensures.memory })
