@@ -278,7 +278,6 @@ fn run_in(text: &str, start: usize) -> (usize, Option<u64>)
 
 // The identifier at a place where a run begins, and the place behind it.
 #[inline(always)]
-#[tactic(auto, using(crate::proofs::Text::OnePass::scanned))]
 fn read_run(alloc: Global, text: &str, start: usize) -> Result<(Identifier, usize), AllocError>
     requires place { start ≤ length text.now }
     requires here { begins is_identifier_char (drop start text.now) ≡ true }
