@@ -10,4 +10,5 @@ of_ordered-requires g c =
 pub returns : goal.returns
 returns g c =
     bounded g.met.V.Ord.total _ _ (sym c.if-not-meets.ensures)
-    (c.of_ordered.ensures ∙ rw (c.greater_lower-lower.ensures, c.lesser_upper-upper.ensures, ← c.self.view_is, ← c.other.view_is) refl)
+    (c.of_ordered.ensures
+    ∙ rw (c.greater_lower-lower.ensures, c.lesser_upper-upper.ensures, ← c.self.view_is, ← c.other.view_is) refl)
