@@ -57,7 +57,8 @@ impl TryFrom<char> for OutsideDirection {
 #[derive(Clone, Copy, PartialEq, Eq, Debug, Error)]
 pub enum RangeError {
     /// The character names no side of a range.
-    #[error("outside() only supports checking whether a version is above or below a range, found `{0}`")]
+    #[error("outside() only supports checking whether a version is above or below a range, \
+             found `{0}`")]
     InvalidOutsideDirection(char),
     /// Kept for callers that match on it: no call returns it.
     #[error("outside() could not determine comparator bounds for this range")]

@@ -31,5 +31,5 @@ pub returns-in_err-read-clause-memory : goal.returns-in_err-read-clause-memory
 returns-in_err-read-clause-memory g c =
     let e = c.from_residual.ensures in
     let h = meant_so (λ r. (1 < length r) ⊎ (list_any g.S.Filled.takes r ≡ true)) MAX_SAFE_INTEGER c.args.text.now
-        c.utf8.text c.in_err-read.ensures.memory in
+    c.utf8.text c.in_err-read.ensures.memory in
     search rules
