@@ -1,5 +1,5 @@
 -- The interval of a part and what follows it, as the fast reader makes them.
-use Rattle.std.proofs.Common.{arith, ◌≡◌, ℕ, List, [], ◌∷◌, ◌++◌, drop, sym, ap, ◌∙◌, Bool, true, Some, None}
+use Rattle.std.proofs.Common.{arith, ◌≡◌, ℕ, List, [], ◌∷◌, ◌++◌, drop, sym, ap, ◌∙◌, Bool, true, false, Some, None}
 use Rattle.std.specs.Prelude.{Option, if◌then◌else◌}
 use Rattle.semver_core.specs.Cuts.{Span, interval, meet}
 use Rattle.semver_core.specs.Values.Order.{precedence}
@@ -33,6 +33,16 @@ behind-first limit s =
     if begins_second s.1
     then (word_read limit (comparison_front limit (drop 1 s.1)) >>? λ t. part_read t.1 (meet precedence s.0 t.0))
     else Some s
+
+-- one comparison
+pub first-read : (limit : ℕ) (text : List ℕ) (a : Span VersionValue) (rest : List ℕ)
+    → part_read rest (interval precedence a) ≡ word_read limit (comparison_front limit text) → begins_second rest ≡ false
+    → part_read rest (interval precedence a) ≡ comparisons_front limit text
+unfolding comparisons_front
+first-read limit text a rest h second = rw (← h) (go (interval precedence a))
+  where
+    go : (o : Option (Span VersionValue)) → part_read rest o ≡ (part_read rest o >>? λ s. behind-first limit s)
+    go o = grind arith
 
 -- no second comparison is read
 pub none-second : (limit : ℕ) (text : List ℕ) (a : Span VersionValue) (rest : List ℕ)

@@ -1,14 +1,26 @@
-use Rattle.std.proofs.Common.{◌≡◌, rules, List, ℕ, sym, ap, ◌∙◌, true}
+use Rattle.std.proofs.Common.{◌≡◌, rules, List, ℕ, sym, ap, ◌∙◌, true, refl}
 use Rattle.std.proofs.lemmas.List.{take_rest}
 use Rattle.semver_core.specs.Cuts.{Span}
 use Rattle.semver_core.specs.Values.Versions.{VersionValue}
 use Rattle.semver_core.specs.declared.TheConstants.{MAX_SAFE_INTEGER}
-use Rattle.nodejs_semver.specs.Internal.CommonFronts.{begins_second, comparison_front, passed, word_read}
+use Rattle.nodejs_semver.specs.Internal.CommonFronts.{begins_second, comparison_front, comparisons_front, passed, word_read}
 use Rattle.nodejs_semver.specs.Internal.CommonViews.{bounds_front_view}
 use Rattle.nodejs_semver.specs.Internal.Fronts.{Front}
 use Rattle.nodejs_semver.specs.Internal.Readings.{bounds_view, rest_view}
-use Rattle.nodejs_semver.proofs.Everyday.Bounds.{none-second, passed-second}
+use Rattle.nodejs_semver.proofs.Everyday.Bounds.{first-read, none-second, passed-part, passed-second}
 use Rattle.nodejs_semver.proofs.readers.fast.push_comparisons.Goals as goal
+
+pub returns-in_default-clause-added : goal.returns-in_default-clause-added
+unfolding comparisons_front
+returns-in_default-clause-added g c = rw (sym c.comparison.ensures ∙ ap bounds_front_view c.in_default.is) refl
+
+pub returns-then-not-begins_second-clause-added : goal.returns-then-not-begins_second-clause-added
+returns-then-not-begins_second-clause-added g c =
+    passed-part c.in_ok-there.there c.in-Some.rest.now (g.S.Found.items c.args.found.now) _ _ _ c.in_ok-there.ensures.added
+    c.behind_part.ensures
+    ∙ ap (λ (o : Front (Span VersionValue)). passed (g.S.Found.items c.args.found.now) o)
+    (first-read MAX_SAFE_INTEGER c.args.text.now (bounds_view c.in-Some.first) c.in-Some.rest.now
+    (sym (ap bounds_front_view c.in-Some.is) ∙ c.comparison.ensures) (search rules))
 
 pub returns-in_default-comparison-clause-added : goal.returns-in_default-comparison-clause-added
 returns-in_default-comparison-clause-added g c =
