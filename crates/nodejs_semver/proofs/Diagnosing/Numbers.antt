@@ -12,7 +12,7 @@ use Rattle.semver_core.specs.Text.Identifiers.{goes_on}
 use Rattle.semver_core.specs.Text.Numbers.{IsWholeNumber}
 use Rattle.semver_core.proofs.Text.Pieces.{number_complete}
 use Rattle.nodejs_semver.specs.Diagnosis.VersionFlaws.{BeginsGreat}
-use Rattle.nodejs_semver.specs.Internal.Stuck.{IsNumberAt, Stuck, begins_dot, at_great, at_dot, later}
+use Rattle.nodejs_semver.specs.Internal.Stuck.{IsNumberAt, Stuck, begins_dot, at_digit, at_great, at_dot, later}
 use Rattle.nodejs_semver.proofs.Reading.Numbers.{digits-taken, run-ends}
 use Rattle.nodejs_semver.specs.declared.diagnosis.versions.VersionFlaw.TheVariants as Flaw
 use Rattle.semver_core.proofs.Text.Ends.{end_past, end_step}
@@ -110,5 +110,7 @@ pub list_stops : (text : List ℕ) (at : ℕ) → goes_on (take (length text - a
 list_stops text at h = list_len_stop (drop at text) (rw (take_rest text at) at h)
 
 pub ruleset lists_end = (list_goes, list_stops, end_past)
+
+pub ruleset number_stops = (at_digit, stuck_great)
 
 pub ruleset numbers_stop = (at_dot, later, triple_found)

@@ -68,7 +68,7 @@ fn begins_digit(bytes: &[u8], at: usize) -> bool
 }
 
 // The place behind the number at a place.
-#[tactic(auto, using(crate::proofs::Diagnosing::Numbers::stuck_great, crate::specs::Internal::Stuck::at_digit))]
+#[tactic(auto, using(crate::proofs::Diagnosing::Numbers::number_stops))]
 fn number_end(bytes: &[u8], at: usize) -> Result<usize, VersionFlaw>
     requires { at ≤ length bytes.now }
     ensures found { IfOk result (λ end. IsNumberAt MAX_SAFE_INTEGER bytes.now at end) }

@@ -32,7 +32,7 @@ use std::alloc::{AllocError, Global};
 // The partial at the front. Neither `v` nor whitespace is skipped before it. A partial that has a
 // build is none of a common text.
 #[inline(always)]
-#[tactic(auto, unfolding(crate::specs::Internal::CommonFronts::bare_front), using(crate::proofs::Reading::IdentifierLists::listed_empty))]
+#[tactic(auto, unfolding(crate::specs::Internal::CommonFronts::bare_front))]
 fn bare_front(text: &[u8]) -> Option<(Partial<'_>, &[u8])>
     ensures { partial_front_view result ≡ Spec.bare_front MAX_SAFE_INTEGER text.now }
 {
@@ -47,7 +47,7 @@ fn bare_front(text: &[u8]) -> Option<(Partial<'_>, &[u8])>
 
 // The bounds of a comparator and a partial.
 #[inline(always)]
-#[tactic(auto, unfolding(crate::specs::Internal::CommonFronts::comparison_front), using(crate::proofs::Bounds::TableReadings::compared))]
+#[tactic(auto, unfolding(crate::specs::Internal::CommonFronts::comparison_front))]
 fn comparison(text: &[u8]) -> Option<(Bounds<'_>, &[u8])>
     ensures { bounds_front_view result
         ≡ Spec.word_read MAX_SAFE_INTEGER (Spec.comparison_front MAX_SAFE_INTEGER text.now) }
@@ -167,7 +167,7 @@ fn push_word<'a, S: Found<'a>>(
 }
 
 // Adds the interval of what stands behind a tilde, and returns what follows it.
-#[tactic(auto, unfolding(crate::specs::Internal::CommonFronts::tilde_front), using(crate::proofs::Bounds::TableReadings::ordered))]
+#[tactic(auto, unfolding(crate::specs::Internal::CommonFronts::tilde_front))]
 fn push_tilde<'a, S: Found<'a>>(
     text: &'a [u8],
     found: &mut S,
@@ -185,7 +185,7 @@ fn push_tilde<'a, S: Found<'a>>(
 }
 
 // Adds the interval of what stands behind a caret, and returns what follows it.
-#[tactic(auto, unfolding(crate::specs::Internal::CommonFronts::caret_front), using(crate::proofs::Bounds::TableReadings::ordered))]
+#[tactic(auto, unfolding(crate::specs::Internal::CommonFronts::caret_front))]
 fn push_caret<'a, S: Found<'a>>(
     text: &'a [u8],
     found: &mut S,
@@ -221,7 +221,7 @@ fn push_hyphen<'a, S: Found<'a>>(
 }
 
 // Adds the interval of one partial, or of two with a dash between them, and returns what follows.
-#[tactic(auto, unfolding(crate::specs::Internal::CommonFronts::partials_front), using(crate::proofs::Bounds::TableReadings::ordered))]
+#[tactic(auto, unfolding(crate::specs::Internal::CommonFronts::partials_front))]
 fn push_partials<'a, S: Found<'a>>(
     text: &'a [u8],
     found: &mut S,

@@ -1,7 +1,7 @@
 // A partial: a version whose components may be absent or wildcards.
 
 ghost use Rattle.std.specs.Option.{ForSome};
-ghost use Rattle.std.specs.Prelude.{IfSome, ◌≡◌, ◌≤◌, ◌+◌, take, drop, true};
+ghost use Rattle.std.specs.Prelude.{IfSome, ◌≡◌, ◌≤◌, ◌+◌, [], take, drop, true};
 ghost use Rattle.nodejs_semver.specs.Internal.Fronts as Spec;
 ghost use Rattle.nodejs_semver.specs.Internal.Fronts.{drop_v, front_view};
 ghost use Rattle.semver_core.specs.Text.Identifiers.{goes_on, is_listed};
@@ -34,7 +34,7 @@ fn number_front(text: &[u8]) -> Option<(u64, &[u8])>
 
 // A wildcard or a number.
 #[inline(always)]
-#[tactic(auto, unfolding(crate::specs::Internal::Fronts::component_front), using(crate::proofs::Reading::Numbers::number_first))]
+#[tactic(auto, unfolding(crate::specs::Internal::Fronts::component_front))]
 pub(crate) fn component_front(text: &[u8]) -> Option<(Option<u64>, &[u8])>
     ensures value { front_view result ≡ Spec.component_front MAX_SAFE_INTEGER text.now }
     ensures small { IfSome result (λ p. ForSome p.0 (λ n. n ≤ MAX_SAFE_INTEGER)) }
@@ -85,9 +85,19 @@ fn split_list(text: &[u8]) -> (&[u8], &[u8])
     text.split_at(list_len(text))
 }
 
+// The front of a text where no identifiers stand.
+#[inline(always)]
+#[tactic(auto, using(crate::proofs::Reading::IdentifierLists::listed_nil))]
+fn no_list(text: &[u8]) -> &[u8]
+    ensures nothing { result.now ≡ [] }
+    ensures listed { is_listed result.now ≡ true }
+{
+    &text[..0]
+}
+
 /// The text of the pre-release at the front, and what stands behind it. Mostly there is none.
 #[inline(always)]
-#[tactic(auto, unfolding(crate::specs::Internal::Fronts::pre_release_front, crate::specs::Internal::Fronts::front_len), using(crate::proofs::Reading::IdentifierLists::listed_nil))]
+#[tactic(auto, unfolding(crate::specs::Internal::Fronts::pre_release_front))]
 pub(crate) fn pre_release_front(text: &[u8]) -> (&[u8], &[u8])
     ensures listed { is_listed result.0.now ≡ true }
     ensures value { pair_view result ≡ Spec.pre_release_front text.now }
@@ -95,13 +105,13 @@ pub(crate) fn pre_release_front(text: &[u8]) -> (&[u8], &[u8])
     if begins_identifier(text) {
         written_pre_release(text)
     } else {
-        (&text[..0], text)
+        (no_list(text), text)
     }
 }
 
 // The text of the pre-release at the front of any text, and what stands behind it.
 #[inline(never)]
-#[tactic(auto, unfolding(crate::specs::Internal::Fronts::pre_release_front), using(crate::proofs::Reading::IdentifierLists::listed_nil))]
+#[tactic(auto, unfolding(crate::specs::Internal::Fronts::pre_release_front))]
 fn written_pre_release(text: &[u8]) -> (&[u8], &[u8])
     ensures listed { is_listed result.0.now ≡ true }
     ensures value { pair_view result ≡ Spec.pre_release_front text.now }
@@ -111,7 +121,7 @@ fn written_pre_release(text: &[u8]) -> (&[u8], &[u8])
             if begins_identifier(rest) {
                 split_list(rest)
             } else {
-                (&text[..0], text)
+                (no_list(text), text)
             }
         }
         _ => split_list(text),
@@ -120,27 +130,27 @@ fn written_pre_release(text: &[u8]) -> (&[u8], &[u8])
 
 // The text of the build at the front, and what stands behind it. Mostly there is none.
 #[inline(always)]
-#[tactic(auto, unfolding(crate::specs::Internal::Fronts::build_front), using(crate::proofs::Reading::IdentifierLists::listed_nil))]
+#[tactic(auto, unfolding(crate::specs::Internal::Fronts::build_front))]
 fn build_front(text: &[u8]) -> (&[u8], &[u8])
     ensures listed { is_listed result.0.now ≡ true }
     ensures value { pair_view result ≡ Spec.build_front text.now }
 {
     match text {
         [b'+', ..] => written_build(text),
-        _ => (&text[..0], text),
+        _ => (no_list(text), text),
     }
 }
 
 // The text of the build at the front of any text, and what stands behind it.
 #[inline(never)]
-#[tactic(auto, unfolding(crate::specs::Internal::Fronts::build_front), using(crate::proofs::Reading::IdentifierLists::listed_nil))]
+#[tactic(auto, unfolding(crate::specs::Internal::Fronts::build_front))]
 fn written_build(text: &[u8]) -> (&[u8], &[u8])
     ensures listed { is_listed result.0.now ≡ true }
     ensures value { pair_view result ≡ Spec.build_front text.now }
 {
     match text {
         [b'+', rest @ ..] if begins_identifier(rest) => split_list(rest),
-        _ => (&text[..0], text),
+        _ => (no_list(text), text),
     }
 }
 
@@ -163,8 +173,8 @@ fn patch_front<'a>(
                 major,
                 minor,
                 patch: None,
-                pre_release: &text[..0],
-                build: &text[..0],
+                pre_release: no_list(text),
+                build: no_list(text),
             },
             text,
         );
@@ -199,8 +209,8 @@ pub(crate) fn minor_front(major: Option<u64>, text: &[u8]) -> (Partial<'_>, &[u8
                 major,
                 minor: None,
                 patch: None,
-                pre_release: &text[..0],
-                build: &text[..0],
+                pre_release: no_list(text),
+                build: no_list(text),
             },
             text,
         ),
