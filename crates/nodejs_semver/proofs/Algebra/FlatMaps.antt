@@ -1,5 +1,5 @@
 -- Lists that are joined from a list for each element of another, and tests of their elements.
-use Rattle.std.proofs.Common.{◌≡◌, refl, sym, ◌∙◌, ap, ap₂, ℕ, ◌+◌, ◌<◌, Bool, true, false, ◌&&◌, ◌||◌, List}
+use Rattle.std.proofs.Common.{append_assoc, ◌≡◌, refl, sym, ◌∙◌, ap, ap₂, ℕ, ◌+◌, ◌<◌, Bool, true, false, ◌&&◌, ◌||◌, List}
 use Rattle.std.proofs.Common.{[], ◌∷◌, ◌++◌, length, get_or, take, not, inl, inr, arith, Option, is_some}
 use Rattle.std.proofs.Common.{option_to_list, Result, Ok, Err, OnErr}
 use Rattle.std.proofs.lemmas.Bool.{and_parts, or_cases}
@@ -22,6 +22,13 @@ flat_step f xs i x old new h at e k =
     ∙ ap (λ l. flat_map f (take i xs) ++ l) (sym (append-nil (f x)))
     ∙ sym (flat_map-append f (take i xs) (x ∷ []))
     ∙ ap (flat_map f) (ap (λ y. take i xs ++ y ∷ []) at ∙ sym (take_more xs i x h))
+
+-- the same behind a front
+pub flat_behind : {A B : Type 0} (f : A → List B) (xs : List A) (i : ℕ) (x : A) (front old new part : List B) → i < length xs
+    → x ≡ get_or xs i x → part ≡ f x
+    → old ≡ front ++ flat_map f (take i xs) → new ≡ old ++ part → new ≡ front ++ flat_map f (take (i + 1) xs)
+flat_behind f xs i x front old new part h at p e k =
+    k ∙ ap₂ (λ l m. l ++ m) e p ∙ append_assoc front _ _ ∙ ap (λ l. front ++ l) (flat_step f xs i x _ _ h at refl refl)
 
 pub flat_flat : {A B C : Type 0} (f : B → List C) (g : A → List B) (xs : List A)
     → flat_map f (flat_map g xs) ≡ flat_map (λ x. flat_map f (g x)) xs

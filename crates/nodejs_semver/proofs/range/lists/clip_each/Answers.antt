@@ -1,5 +1,4 @@
-use Rattle.std.proofs.Common.{ap, ◌∙◌, take_all, flat_map, option_to_list}
-use Rattle.semver_core.specs.Clips.{clip}
+use Rattle.std.proofs.Common.{take_all}
 use Rattle.nodejs_semver.proofs.Algebra.FlatMaps.{flat_step}
 use Rattle.nodejs_semver.proofs.range.lists.clip_each.Goals as goal
 
@@ -9,7 +8,4 @@ loop-interval-preserved g c =
     c.loop-interval.invariant c.in_ok-push_clipped.ensures
 
 pub returns : goal.returns
-returns g c =
-    c.loop-interval.invariant
-    ∙ ap (flat_map (λ s. flat_map (λ t. option_to_list (clip g.V.Ord.cmp s t)) c.args.pieces.now))
-    (take_all c.loop-interval.interval-index c.args.these.now c.loop-interval-test.false)
+returns g c = rw (take_all _ c.args.these.now c.loop-interval-test.false) at c.loop-interval.invariant

@@ -15,6 +15,5 @@ loop-interval-preserved g c =
 
 pub returns : goal.returns
 returns g c =
-    c.loop-interval.invariant
-    ∙ ap (minus g.V.Ord.cmp c.push.new.self.items) (take_all _ c.args.intervals.now c.loop-interval-test.false)
+    rw (take_all _ c.args.intervals.now c.loop-interval-test.false) at c.loop-interval.invariant
     ∙ ap (λ l. minus g.V.Ord.cmp l c.args.intervals.now) (search rules)

@@ -1,6 +1,7 @@
-use Rattle.std.proofs.Common.{◌≡◌, ◌++◌, ◌∙◌, ap, false, is_some, rules}
+use Rattle.std.proofs.Common.{◌≡◌, ◌++◌, ◌∙◌, ap, false, is_some, option_to_list, rules, sym}
 use Rattle.std.proofs.lemmas.List.Sorted.{IsPartitionPoint-from_clause}
 use Rattle.nodejs_semver.proofs.Algebra.Differences.{falls_short, parted, clips-to_end, clips-to_none}
+use Rattle.nodejs_semver.proofs.Algebra.FlatMaps.{flat_behind}
 use Rattle.nodejs_semver.proofs.range.lists.push_clipped.Goals as goal
 
 pub returns : goal.returns
@@ -19,3 +20,9 @@ returns-in_default g c =
     c.loop-piece.invariant
     ∙ ap (λ l. c.args.parts.now.items ++ l)
     (clips-to_none o c.args.interval.now c.args.pieces.now _ c.partition_point-first.ensures.bound point c.split_at.result.1.now _ c.piece-item.result c.clipped_part.result c.split_at.ensures.back c.requires c.loop-piece-test.true c.piece-item.is c.clipped_part.ensures gone)
+
+pub loop-piece-preserved : goal.loop-piece-preserved
+loop-piece-preserved g c =
+    flat_behind _ c.split_at.result.1.now _ c.piece-item.result c.args.parts.now.items _ _ _ c.loop-piece-test.true
+    c.piece-item.is (ap option_to_list (sym c.in-Some.is ∙ c.clipped_part.ensures)) c.loop-piece.invariant
+    c.in_ok-push_copy.ensures
