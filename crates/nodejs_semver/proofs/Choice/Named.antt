@@ -24,6 +24,9 @@ ends_named ss h =
     list_any-from_Any bounds_identifiers ss
     (h.0, h.1, h.2, h.3, or_right (passes has_identifiers h.1.lower) _ (after_named h.1.upper h.4))
 
+pub one_named : (P : Type 0) (ss : List (Span VersionValue)) → (P ⊎ BeginsAfterPre ss) → P ⊎ TakesMemory ss
+one_named P ss h = elim h [ inl p ↦ inl p | inr b ↦ inr (inr (begins_named ss b)) ]
+
 pub two_named : (P : Type 0) (ss ts : List (Span VersionValue)) → (P ⊎ BeginsAfterPre ss ⊎ EndsAfterPre ts)
     → P ⊎ TakesMemory ss ⊎ TakesMemory ts
 two_named P ss ts h = elim h [
