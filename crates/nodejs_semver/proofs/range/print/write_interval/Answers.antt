@@ -1,4 +1,4 @@
-use Rattle.std.proofs.Common.{refl, rules}
+use Rattle.std.proofs.Common.{◌∙◌, ap, is_eq, refl, rules, sym}
 use Rattle.std.proofs.Output.{has_written_styled_append, has_written_styled_of_eq}
 use Rattle.nodejs_semver.proofs.range.print.write_interval.Goals.{in_default-via-in-Before-After+else-are_equal}
 use Rattle.nodejs_semver.proofs.range.print.write_interval.Goals.{in_default-via-in-Before+in_default}
@@ -16,3 +16,16 @@ returns-in_ok-write_str-in_default g c flush ok =
       | in_default-via-in_default+in_default w ↦ search rules
     ])
     (has_written_styled_append _ _ _ _ _ _ lower (has_written_styled_append _ _ _ _ _ _ space upper))
+
+pub returns-in-Before-After : goal.returns-in-Before-After
+returns-in-Before-After g c flush ok =
+    has_written_styled_of_eq _ _ _ _ _
+    (rw (sym c.lower-lower.ensures.value ∙ c.in-Before-After.is-0, sym c.upper-upper.ensures ∙ c.in-Before-After.is-1)
+    (rw (ap is_eq (sym (g.met.V.Versioned.ordered c.in-Before-After.v c.in-Before-After.w)) ∙ sym c.if-are_equal.ensures) refl))
+    (c.print.ensures flush ok)
+
+pub returns-in-Unbounded-default : goal.returns-in-Unbounded-default
+returns-in-Unbounded-default g c flush ok = has_written_styled_of_eq _ _ _ _ _ (search rules) (c.write_upper.ensures flush ok)
+
+pub returns-in_default-Unbounded : goal.returns-in_default-Unbounded
+returns-in_default-Unbounded g c flush ok = has_written_styled_of_eq _ _ _ _ _ (search rules) (c.write_lower.ensures flush ok)
