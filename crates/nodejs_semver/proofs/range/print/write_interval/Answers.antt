@@ -23,9 +23,3 @@ returns-in-Before-After g c flush ok =
     (rw (sym c.lower-lower.ensures.value ∙ c.in-Before-After.is-0, sym c.upper-upper.ensures ∙ c.in-Before-After.is-1)
     (rw (ap is_eq (sym (g.met.V.Versioned.ordered c.in-Before-After.v c.in-Before-After.w)) ∙ sym c.if-are_equal.ensures) refl))
     (c.print.ensures flush ok)
-
-pub returns-in-Unbounded-default : goal.returns-in-Unbounded-default
-returns-in-Unbounded-default g c flush ok = has_written_styled_of_eq _ _ _ _ _ (search rules) (c.write_upper.ensures flush ok)
-
-pub returns-in_default-Unbounded : goal.returns-in_default-Unbounded
-returns-in_default-Unbounded g c flush ok = has_written_styled_of_eq _ _ _ _ _ (search rules) (c.write_lower.ensures flush ok)
