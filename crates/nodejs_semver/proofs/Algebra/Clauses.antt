@@ -15,9 +15,8 @@ use Rattle.semver_core.specs.declared.TheConstants.{MAX_SAFE_INTEGER}
 use Rattle.nodejs_semver.specs.Ranges.Gate.{accepts}
 use Rattle.nodejs_semver.specs.Ranges.Algebra.{intersection, difference, list_holds}
 use Rattle.nodejs_semver.specs.Ranges.View.{IsRange, is_range_bound}
-use Rattle.nodejs_semver.proofs.Algebra.Accepting.{accepts-held, accepts-minus, accepts-release, both_accept}
-use Rattle.nodejs_semver.proofs.Algebra.Accepting.{list_holds-meets_of, list_holds-minus, one_accepts}
-use Rattle.nodejs_semver.proofs.Algebra.Accepting.{option_accepts-if_any, option_list_holds-if_any}
+use Rattle.nodejs_semver.proofs.Algebra.Accepting.{accepts-held, accepts-minus, accepts-release, both_accept, list_holds-meets_of}
+use Rattle.nodejs_semver.proofs.Algebra.Accepting.{list_holds-minus, one_accepts, option_accepts-if_any, option_list_holds-if_any}
 use Rattle.nodejs_semver.proofs.Algebra.FlatMaps.{all_weaker}
 use Rattle.nodejs_semver.proofs.Algebra.Spans.{fine-meets_of, fine-minus}
 

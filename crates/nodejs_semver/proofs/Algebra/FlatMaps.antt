@@ -14,8 +14,7 @@ empty_is xs h = grind arith
 
 -- one more element, whose list was put at the end
 pub flat_step : {A B : Type 0} (f : A → List B) (xs : List A) (i : ℕ) (x : A) (old new : List B) → i < length xs
-    → x ≡ get_or xs i x
-    → old ≡ flat_map f (take i xs) → new ≡ old ++ f x → new ≡ flat_map f (take (i + 1) xs)
+    → x ≡ get_or xs i x → old ≡ flat_map f (take i xs) → new ≡ old ++ f x → new ≡ flat_map f (take (i + 1) xs)
 flat_step f xs i x old new h at e k =
     k
     ∙ ap (λ l. l ++ f x) e

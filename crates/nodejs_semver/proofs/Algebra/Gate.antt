@@ -62,16 +62,14 @@ upper_named (Beside w s) (Beside u t) v n m h =
 
 -- one of two bounds names v, and v lies between both: the one that is picked names it
 greater_names : (b c : Bound VersionValue) (v : VersionValue) → is_release v ≡ false → is_past precedence (lower_cut b) v ≡ true
-    → is_past precedence (lower_cut c) v ≡ true
-    → (names b v || names c v) ≡ true → names (greater_lower precedence b c) v ≡ true
+    → is_past precedence (lower_cut c) v ≡ true → (names b v || names c v) ≡ true → names (greater_lower precedence b c) v ≡ true
 greater_names b c v k p q n =
     cond_both (is_gt (cut_cmp precedence (lower_cut b) (lower_cut c))) b c (λ d. names d v ≡ true)
     (λ h. grind (arith, at_lower, lower_named (lower_cut c) (lower_cut b) v k, one_way precedence_total, gt_lt precedence_total))
     (λ h. grind (arith, at_lower, lower_named (lower_cut b) (lower_cut c) v k, gt_lt precedence_total))
 
 lesser_names : (b c : Bound VersionValue) (v : VersionValue) → is_past precedence (upper_cut b) v ≡ false
-    → is_past precedence (upper_cut c) v ≡ false
-    → (names b v || names c v) ≡ true → names (lesser_upper precedence b c) v ≡ true
+    → is_past precedence (upper_cut c) v ≡ false → (names b v || names c v) ≡ true → names (lesser_upper precedence b c) v ≡ true
 lesser_names b c v p q n =
     cond_both (is_gt (cut_cmp precedence (upper_cut b) (upper_cut c))) c b (λ d. names d v ≡ true)
     (λ h. grind (arith, at_upper, upper_named (upper_cut b) (upper_cut c) v, one_way precedence_total, gt_lt precedence_total))
@@ -83,8 +81,7 @@ both s t = record { lower = greater_lower precedence s.lower t.lower; upper = le
 
 -- what either of two spans lets in, where both hold it, what they have in common lets in
 pub lets_in-meet : (s t : Span VersionValue) (v : VersionValue) → holds precedence s v ≡ true → holds precedence t v ≡ true
-    → (lets_in s v || lets_in t v) ≡ true
-    → lets_in (both s t) v ≡ true
+    → (lets_in s v || lets_in t v) ≡ true → lets_in (both s t) v ≡ true
 lets_in-meet s t v h k n = elim (cases_Bool (is_release v)) [
   | inl r ↦ rw r refl
   | inr r ↦
@@ -104,6 +101,5 @@ names_below b c v n m h = grind (arith, at_lower, upper_named, at_upper, one_way
 
 -- and the same of a lower bound, the upper bound of what is taken away, and v past that
 pub names_above : (b c : Bound VersionValue) (v : VersionValue) → is_release v ≡ false → names b v ≡ true
-    → below (lower_cut b) (upper_cut c) ≡ true → is_past precedence (upper_cut c) v ≡ true
-    → names c v ≡ true
+    → below (lower_cut b) (upper_cut c) ≡ true → is_past precedence (upper_cut c) v ≡ true → names c v ≡ true
 names_above b c v k n m h = grind (arith, at_upper, lower_named, at_lower, one_way, precedence_total)

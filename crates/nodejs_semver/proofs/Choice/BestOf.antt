@@ -133,11 +133,9 @@ tied_le : (v : VersionValue) → is_le (precedence v v) ≡ true
 tied_le v = ap is_le (tied_itself precedence_total v)
 
 pub max_says : (set : VersionValue → Bool) (list : List VersionValue) (r : Option (Bor VersionValue))
-    → IsMax set list (option_copied r)
-    → Says (λ w v. is_le (precedence w v)) set list r
+    → IsMax set list (option_copied r) → Says (λ w v. is_le (precedence w v)) set list r
 max_says = best_says _ _ _ (λ w v h. h) (λ w v h. le_of_lt (precedence w v) h) tied_le
 
 pub min_says : (set : VersionValue → Bool) (list : List VersionValue) (r : Option (Bor VersionValue))
-    → IsMin set list (option_copied r)
-    → Says (λ w v. is_le (precedence v w)) set list r
+    → IsMin set list (option_copied r) → Says (λ w v. is_le (precedence v w)) set list r
 min_says = best_says _ _ _ (λ w v h. le_of_lt (precedence v w) h) (λ w v h. h) tied_le

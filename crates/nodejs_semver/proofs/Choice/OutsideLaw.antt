@@ -49,8 +49,7 @@ along held test other ok each (s ∷ ss) h =
     regroup a b c d = grind arith
 
 pub higher_by_cuts : (d : OutsideDirection) (limit : ℕ) (ss : List (Span VersionValue)) (v : VersionValue) → IsRange limit ss
-    → d ≡ Higher
-    → is_outside d true ss v ≡ list_all (λ s. is_past precedence (upper_cut s.upper) v) ss
+    → d ≡ Higher → is_outside d true ss v ≡ list_all (λ s. is_past precedence (upper_cut s.upper) v) ss
 higher_by_cuts d limit ss v h e =
     ap (λ d. is_outside d true ss v) e
     ∙ along (λ s. holds precedence s v && true) (λ s. lies_below s v) (λ s. is_past precedence (upper_cut s.upper) v)
@@ -59,8 +58,7 @@ higher_by_cuts d limit ss v h e =
     (all_intervals (limit + 1) ss h.each)
 
 pub lower_by_cuts : (d : OutsideDirection) (limit : ℕ) (ss : List (Span VersionValue)) (v : VersionValue) → IsRange limit ss
-    → d ≡ Lower
-    → is_outside d true ss v ≡ list_all (λ s. not (is_past precedence (lower_cut s.lower) v)) ss
+    → d ≡ Lower → is_outside d true ss v ≡ list_all (λ s. not (is_past precedence (lower_cut s.lower) v)) ss
 lower_by_cuts d limit ss v h e =
     ap (λ d. is_outside d true ss v) e
     ∙ along (λ s. holds precedence s v && true) (λ s. lies_above s v) (λ s. not (is_past precedence (lower_cut s.lower) v))

@@ -59,8 +59,7 @@ right-digit limit Starts front k nine p c h = (
 )
 
 right-dot : (limit : ℕ) (Starts : List ℕ → Type 0) (front d : List ℕ) (n k : ℕ) → 9 ≤ limit → Place limit Starts front (suc k)
-    → IsNumber limit d n
-    → (c : ℕ) → eqb c 46 ≡ true → IsFront limit ((front ++ d) ++ c ∷ [])
+    → IsNumber limit d n → (c : ℕ) → eqb c 46 ≡ true → IsFront limit ((front ++ d) ++ c ∷ [])
 right-dot limit Starts front d n k nine p number c h =
     let rest = 48 ∷ dots k in
     let joined : ((front ++ d) ++ c ∷ []) ++ rest ≡ front ++ (d ++ 46 ∷ rest) = rw (eqb-true c 46 h) (simp append_assoc) in (
@@ -74,8 +73,7 @@ right-dot limit Starts front d n k nine p number c h =
     )
 
 no-digit : (limit : ℕ) (Starts : List ℕ → Type 0) (front : List ℕ) (k : ℕ) → Place limit Starts front k → (text : List ℕ)
-    → Starts text
-    → begins is_ascii_digit text ≡ false → NoValue (Reads limit (front ++ text))
+    → Starts text → begins is_ascii_digit text ≡ false → NoValue (Reads limit (front ++ text))
 no-digit limit Starts front k p text s h = λ v r.
     let tail = r.pre_release ++ (r.build ++ r.rest) in
     let found = first_numeral limit k text tail (p.only text tail s (v, r, refl)) in
@@ -88,8 +86,7 @@ no-dot-yet limit Starts front k p f =
     no-digit limit Starts front k p (46 ∷ f.0) (p.dot f.0) refl w.0 w.1
 
 no-great : (limit : ℕ) (Starts : List ℕ → Type 0) (front : List ℕ) (k : ℕ) → Place limit Starts front k → (text : List ℕ)
-    → Starts text
-    → BeginsGreat limit text → NoValue (Reads limit (front ++ text))
+    → Starts text → BeginsGreat limit text → NoValue (Reads limit (front ++ text))
 no-great limit Starts front k p text s g = λ v r.
     let tail = r.pre_release ++ (r.build ++ r.rest) in
     let found = first_numeral limit k text tail (p.only text tail s (v, r, refl)) in
@@ -262,13 +259,11 @@ decided limit text found h = grind arith
 
 pub ended : (limit : ℕ) (text bytes : List ℕ) (start end next at : ℕ) → bytes ≡ text
     → (t : ℕ × ℕ × ℕ × ℕ) × (triple_at limit bytes start ≡ Some t) × (t.3 ≡ end) → next ≡ (pre_release_at bytes end).1
-    → at ≡ (build_at bytes next).1
-    → Ended limit text start at
+    → at ≡ (build_at bytes next).1 → Ended limit text start at
 ended limit text bytes start end next at same t pre build = grind arith
 
 pub whole_exact : (limit : ℕ) (text : List ℕ) (start at : ℕ) → IsUtf8 text → IsAfterBlank text (mark_len text) start
-    → length text ≤ MAX_LENGTH
-    → Ended limit text start at → length text ≤ at → IsExact limit text
+    → length text ≤ MAX_LENGTH → Ended limit text start at → length text ≤ at → IsExact limit text
 whole_exact limit text start at utf8 a short e all =
     let b = begun limit text start utf8 a in
     let d = divided_at limit text (take (mark_len text) text) (slice_range text (mark_len text) start) start e.numbers b.divided

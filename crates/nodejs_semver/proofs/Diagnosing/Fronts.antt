@@ -183,8 +183,7 @@ lead_place limit mark blank m b = grind (arith, front_is_first_character, mark-a
 
 -- behind the first number and its dot, one fewer
 pub next_place : (limit : ℕ) (Starts : List ℕ → Type 0) (front d : List ℕ) (n k : ℕ) → Place limit Starts front (suc k)
-    → IsNumber limit d n
-    → Place limit (λ _. Unit {0}) (front ++ (d ++ 46 ∷ [])) k
+    → IsNumber limit d n → Place limit (λ _. Unit {0}) (front ++ (d ++ 46 ∷ [])) k
 next_place limit Starts front d n k p number = record {
   local = λ c rest other s. tt;
   digit = λ text h. tt;

@@ -13,8 +13,7 @@ abbrev Kind : Type 0
 Kind = Option IgnoredKind × List ℕ
 
 at_word : (limit : ℕ) (text : List ℕ) (kind : Option IgnoredKind) (w : Word × List ℕ) → word_at limit text ≡ w
-    → kind ≡ ignored_as limit w.0
-    → ◌≡◌ {A = Kind} (kind, w.1) (kind_at limit text)
+    → kind ≡ ignored_as limit w.0 → ◌≡◌ {A = Kind} (kind, w.1) (kind_at limit text)
 at_word limit text kind w e h = grind arith
 
 pub at_malformed : (limit : ℕ) (text rest behind : List ℕ) → word_at limit text ≡ (malformed, behind) → rest ≡ behind
@@ -23,8 +22,7 @@ at_malformed limit text rest behind e h =
     ap (λ (t : List ℕ). (Some Malformed, t)) h ∙ at_word limit text (Some Malformed) (malformed, behind) e refl
 
 pub at_hyphen : (limit : ℕ) (text rest : List ℕ) (p q : Partial) (kind : Option IgnoredKind) (bounded : Bool)
-    → word_at limit text ≡ (hyphen p q, rest)
-    → bounded ≡ is_some (table limit (hyphen p q)) → kind ≡ unless_bounded bounded
+    → word_at limit text ≡ (hyphen p q, rest) → bounded ≡ is_some (table limit (hyphen p q)) → kind ≡ unless_bounded bounded
     → ◌≡◌ {A = Kind} (kind, rest) (kind_at limit text)
 at_hyphen limit text rest p q kind bounded e h k = at_word limit text kind (hyphen p q, rest) e (k ∙ ap unless_bounded h)
 

@@ -33,8 +33,7 @@ ignored_enough limit place (suc n) (suc m) (c ∷ text) h a b =
     ap (λ (l : List IgnoredWord). if_ignored read.0 (place - length (c ∷ text)) (place - length read.1) ++ l)
     (ignored_enough limit place n m (drop_spaces read.1) (spaces-gone 0 read.1) (omega arith) (omega arith))
 
-pub ignored_step : (limit place : ℕ) (text : List ℕ) → 0 < length text → space_len text ≡ 0
-    → ignored_of limit place text
+pub ignored_step : (limit place : ℕ) (text : List ℕ) → 0 < length text → space_len text ≡ 0 → ignored_of limit place text
     ≡ if_ignored (kind_at limit text).0 (place - length text) (place - length (kind_at limit text).1)
     ++ ignored_of limit place (drop_spaces (kind_at limit text).1)
 unfolding ignored_within

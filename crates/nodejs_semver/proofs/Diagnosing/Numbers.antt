@@ -49,8 +49,7 @@ begins_great limit text at some none =
 
 -- two runs of digits at the front of a text are one
 pub digits_once : (d e x y : List ℕ) → list_all is_ascii_digit d ≡ true → list_all is_ascii_digit e ≡ true
-    → begins is_ascii_digit x ≡ false
-    → begins is_ascii_digit y ≡ false → d ++ x ≡ e ++ y → (d ≡ e) × (x ≡ y)
+    → begins is_ascii_digit x ≡ false → begins is_ascii_digit y ≡ false → d ++ x ≡ e ++ y → (d ≡ e) × (x ≡ y)
 digits_once d e x y a b f g same =
     let len : length d ≡ length e =
     sym (digits-taken d x a f) ∙ (ap (λ (t : List ℕ). prefix_len is_ascii_digit t) same ∙ digits-taken e y b g) in (
@@ -60,8 +59,7 @@ digits_once d e x y a b f g same =
 
 -- a number that was found ends behind its digits
 pub number_found : (limit : ℕ) (text : List ℕ) (at n end : ℕ)
-    → IsPieceAt (λ digits rest. IsWholeNumber limit digits rest n) text at end → end ≤ length text
-    → IsNumberAt limit text at end
+    → IsPieceAt (λ digits rest. IsWholeNumber limit digits rest n) text at end → end ≤ length text → IsNumberAt limit text at end
 number_found limit text at n end s e = record { n = n; piece = s; inside = e }
 
 number-is : (limit : ℕ) (text : List ℕ) (at end : ℕ) → at ≤ length text → (s : IsNumberAt limit text at end)
@@ -87,8 +85,7 @@ number-is limit text at end inside s =
 pub triple_found : (limit : ℕ) (text : List ℕ) (at a b end : ℕ) → at ≤ length text → IsNumberAt limit text at a
     → begins_dot (drop a text) ≡ true
     → a + 1 ≤ length text → IsNumberAt limit text (a + 1) b → begins_dot (drop b text) ≡ true → b + 1 ≤ length text
-    → IsNumberAt limit text (b + 1) end
-    → (t : ℕ × ℕ × ℕ × ℕ) × (triple_at limit text at ≡ Some t) × (t.3 ≡ end)
+    → IsNumberAt limit text (b + 1) end → (t : ℕ × ℕ × ℕ × ℕ) × (triple_at limit text at ≡ Some t) × (t.3 ≡ end)
 triple_found limit text at a b end i m d j n e k p =
     let first = number-is limit text at a i m in
     let second = number-is limit text (a + 1) b j n in

@@ -236,13 +236,11 @@ found_so P limit text (s ∷ rest) u e h = meant_so P limit text u (subst P e h)
 
 -- the list of a reader, where there may be none
 pub meant_some : (limit : ℕ) (text : List ℕ) (list : List (Span VersionValue)) (o : Option (List (Span VersionValue)))
-    → IsUtf8 text → list ≡ denotes limit text → o ≡ if_any list
-    → IfSome o (λ range. Means limit text range × (0 < length range))
+    → IsUtf8 text → list ≡ denotes limit text → o ≡ if_any list → IfSome o (λ range. Means limit text range × (0 < length range))
 meant_some limit text list o u e h = grind (arith, meant)
 
 pub meant_none : (limit : ℕ) (text : List ℕ) (list : List (Span VersionValue)) (o : Option (List (Span VersionValue)))
-    → IsUtf8 text → list ≡ denotes limit text → o ≡ if_any list
-    → IfNone o (Means limit text [])
+    → IsUtf8 text → list ≡ denotes limit text → o ≡ if_any list → IfNone o (Means limit text [])
 meant_none limit text list o u e h = grind (arith, meant)
 
 -- a text whose parts are all empty is blank

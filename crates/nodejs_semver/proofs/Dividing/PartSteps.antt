@@ -103,8 +103,7 @@ had_one found (Some s) long = omega (arith, length-append found (s ∷ []))
 
 -- the intervals of a part are no fewer than those of its first word
 pub longer_part : (limit : ℕ) (part rest : List ℕ) (old found : List (Span VersionValue)) → found ≡ old
-    → joined precedence None (part_bounds limit rest) ≡ part_intervals limit part
-    → 0 < length rest → space_len rest ≡ 0
+    → joined precedence None (part_bounds limit rest) ≡ part_intervals limit part → 0 < length rest → space_len rest ≡ 0
     → 1 < length (found ++ option_to_list (next_at limit rest).0) → 1 < length (old ++ part_intervals limit part)
 longer_part limit part rest old found same whole some starts long =
     let next = next_at limit rest in

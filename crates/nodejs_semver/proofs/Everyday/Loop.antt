@@ -41,20 +41,17 @@ unfolding common_within
 stops-part limit n rest h = grind arith
 
 stops-bars : (limit n : ℕ) (rest left : List ℕ) (s : Span VersionValue) → part_front limit rest ≡ Some (s, left)
-    → is_empty left ≡ false → after_bars left ≡ None
-    → common_within limit n rest ≡ None
+    → is_empty left ≡ false → after_bars left ≡ None → common_within limit n rest ≡ None
 unfolding common_within
 stops-bars limit n rest left s h k m = grind arith
 
 ends-there : (limit n : ℕ) (rest left : List ℕ) (s : Span VersionValue) → length rest ≤ n → part_front limit rest ≡ Some (s, left)
-    → is_empty left ≡ true
-    → common_within limit n rest ≡ Some (s ∷ [])
+    → is_empty left ≡ true → common_within limit n rest ≡ Some (s ∷ [])
 unfolding common_within part_front
 ends-there limit n rest left s h k m = grind arith
 
 goes-on : (limit n : ℕ) (rest left next : List ℕ) (s : Span VersionValue) → length rest ≤ n
-    → part_front limit rest ≡ Some (s, left) → is_empty left ≡ false
-    → after_bars left ≡ Some next → (m : ℕ) × (length next ≤ m)
+    → part_front limit rest ≡ Some (s, left) → is_empty left ≡ false → after_bars left ≡ Some next → (m : ℕ) × (length next ≤ m)
     × (common_within limit n rest ≡ (common_within limit m next >>? λ list. Some (s ∷ list)))
 unfolding common_within part_front
 goes-on limit zero [] left next s l h e k = cc h

@@ -21,8 +21,7 @@ pub common_list : (limit : ℕ) (text : List ℕ) (list : List (Span VersionValu
 common_list limit text list h = sym (common_ranges_are_denoted limit text list h).0
 
 pub common_means : (limit : ℕ) (text : List ℕ) (list : List (Span VersionValue)) (o : Option (List (Span VersionValue)))
-    → IsUtf8 text → IsCommonRange limit text list
-    → o ≡ if_any list → IfSome o (Means limit text)
+    → IsUtf8 text → IsCommonRange limit text list → o ≡ if_any list → IfSome o (Means limit text)
 common_means limit text list o u h e = grind (arith, meant, common_list)
 
 pub if-some : {A : Type 0} (P : A → Type 0) (o : Option A) (x : A) → o ≡ Some x → IfSome o P → P x

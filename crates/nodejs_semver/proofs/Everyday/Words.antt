@@ -58,8 +58,7 @@ spaced-last : (limit : ℕ) (x : List ℕ) (p : Partial) → AreComponents limit
 spaced-last limit x p h = rw append-nil at (partial-spaced limit x [] p h stop-nil)
 
 compared-read : (limit : ℕ) (c : Comparator) (sign x more : List ℕ) (p : Partial) → IsSign c sign → AreComponents limit x p
-    → Stop more → is_boundary more ≡ true
-    → ReadAt limit ((sign ++ x) ++ more) (compare c p) more
+    → Stop more → is_boundary more ≡ true → ReadAt limit ((sign ++ x) ++ more) (compare c p) more
 unfolding word_at
 compared-read limit c sign x more p is h stop end =
     let read = partial-spaced limit x more p h stop in
@@ -113,8 +112,7 @@ unfolding is_boundary
 last-compared limit c sign x p is h = rw append-nil at (compared-read limit c sign x [] p is h stop-nil refl)
 
 pub compared-tidy : (limit : ℕ) (c : Comparator) (sign x : List ℕ) (p : Partial) (s : Span VersionValue) → IsSign c sign
-    → AreComponents limit x p
-    → table limit (compare c p) ≡ Some s → Tidy limit (sign ++ x) s
+    → AreComponents limit x p → table limit (compare c p) ≡ Some s → Tidy limit (sign ++ x) s
 compared-tidy limit c sign x p s is h bounds = grind (arith, word-tidy, compact-compared, compact-partial, last-compared)
 
 pub tilde-tidy : (limit : ℕ) (greater : Bool) (rest x : List ℕ) (p : Partial) (s : Span VersionValue) → Compact (126 ∷ rest)
@@ -132,8 +130,7 @@ caret-tidy limit x p s h bounds =
     word-tidy limit (94 ∷ x) (caret p) s whole (rw (spaced-last limit x p h) refl) bounds
 
 pub hyphen-tidy : (limit : ℕ) (x y : List ℕ) (p q : Partial) (s : Span VersionValue) → AreComponents limit x p
-    → AreComponents limit y q
-    → table limit (hyphen p q) ≡ Some s → Tidy limit (x ++ 32 ∷ (45 ∷ (32 ∷ y))) s
+    → AreComponents limit y q → table limit (hyphen p q) ≡ Some s → Tidy limit (x ++ 32 ∷ (45 ∷ (32 ∷ y))) s
 unfolding word_at is_boundary space_len after_spaces
 hyphen-tidy limit x y p q s h k bounds =
     let behind = 32 ∷ 45 ∷ 32 ∷ y in
@@ -145,8 +142,7 @@ hyphen-tidy limit x y p q s h k bounds =
 pub two-tidy : (limit : ℕ) (c d : Comparator) (sign sign' x y : List ℕ) (p q : Partial) (s t both : Span VersionValue)
     → IsSign c sign → AreComponents limit x p
     → IsSign d sign' → AreComponents limit y q → table limit (compare c p) ≡ Some s → table limit (compare d q) ≡ Some t
-    → meet precedence s t ≡ Some both
-    → Tidy limit ((sign ++ x) ++ 32 ∷ (sign' ++ y)) both
+    → meet precedence s t ≡ Some both → Tidy limit ((sign ++ x) ++ 32 ∷ (sign' ++ y)) both
 unfolding joined_from is_boundary space_len
 two-tidy limit c d sign sign' x y p q s t both is h is' k b b' m =
     let rest = sign' ++ y in

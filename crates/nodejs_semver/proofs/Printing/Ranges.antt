@@ -46,8 +46,7 @@ small_bound : (limit : ℕ) (b : Bound VersionValue) → is_range_bound (limit +
 small_bound limit b h k = grind arith
 
 span_tidy : (limit : ℕ) (s : Span VersionValue) → limit < 2 ^ 64 → is_range_span (limit + 1) s ≡ true
-    → is_printable limit s ≡ true
-    → Tidy limit (bounds_text s.lower s.upper) (read_back s)
+    → is_printable limit s ≡ true → Tidy limit (bounds_text s.lower s.upper) (read_back s)
 span_tidy limit s below range h =
     let both = and_parts (is_bounded s.lower || is_bounded s.upper) (is_small limit s.lower && is_small limit s.upper) h in
     let small = and_parts (is_small limit s.lower) (is_small limit s.upper) both.1 in
@@ -70,8 +69,7 @@ printed_tidy limit s (t ∷ rest) small range h =
     (span_tidy limit s small spans.0 each.0) (inl refl) (inl refl) (printed_tidy limit t rest small spans.1 each.1)
 
 pub reads_back : (limit : ℕ) (text : List ℕ) (list : List (Span VersionValue)) → limit < 2 ^ 64 → IsRange limit list
-    → list_all (is_printable limit) list ≡ true
-    → text ≡ range_text list → denotes limit text ≡ map read_back list
+    → list_all (is_printable limit) list ≡ true → text ≡ range_text list → denotes limit text ≡ map read_back list
 reads_back limit text [] small range h e = absurd (omega (arith, range.some))
 reads_back limit text (s ∷ rest) small range h e =
     ap (denotes limit) e

@@ -99,8 +99,7 @@ patch-read limit a b x c d y (Some o) e whole h k quiet =
     )
 
 minor-read : (limit : ℕ) (a : Option ℕ) (x c y : List ℕ) (o : Front (Option ℕ)) → dotted_front limit y ≡ o
-    → Component limit x c y a
-    → (s : List ℕ) × Read limit x s (minor_front limit a y o).1 (minor_front limit a y o).0
+    → Component limit x c y a → (s : List ℕ) × Read limit x s (minor_front limit a y o).1 (minor_front limit a y o).0
 minor-read limit a x c y None e m = (c, record { split = m.split; is = one c a m.is; quiet = m.quiet })
 minor-read limit a x c y (Some o) e m =
     let t = dotted-read limit y o.0 o.1 e in

@@ -19,8 +19,7 @@ use Rattle.nodejs_semver.specs.Text.WordText.{Word, hyphen, malformed}
 -- ---- the word at the front of a text, by what was read of it
 
 pub word-as : (limit : ℕ) (text : List ℕ) (s : Sign × List ℕ) (o : Option (Partial × List ℕ)) → s ≡ sign_at text
-    → o ≡ partial_front limit s.1
-    → word_at limit text ≡ or_malformed (o >>? λ p. word_behind limit s.0 p.0 p.1) text
+    → o ≡ partial_front limit s.1 → word_at limit text ≡ or_malformed (o >>? λ p. word_behind limit s.0 p.0 p.1) text
 unfolding word_at
 word-as limit text s o h k = grind arith
 
@@ -71,8 +70,7 @@ longer_hyphen limit text s o p rest (Some q) old h k e m long =
 
 -- that has them with the interval of the word of one partial
 pub longer_signed : (limit : ℕ) (text : List ℕ) (s : Sign × List ℕ) (o : Option (Partial × List ℕ)) (p : Partial) (rest : List ℕ)
-    (old new : List (Span VersionValue))
-    → s ≡ sign_at text → o ≡ partial_front limit s.1 → o ≡ Some (p, rest)
+    (old new : List (Span VersionValue)) → s ≡ sign_at text → o ≡ partial_front limit s.1 → o ≡ Some (p, rest)
     → ◌≡◌ {A = Option (Bool × List ℕ) × List (Span VersionValue)} (None, new)
     (hyphen_pushed limit old p (upper_of limit s.0 rest))
     → is_boundary rest ≡ true → 1 < length (new ++ option_to_list (table limit (signed_word s.0 p)))

@@ -112,8 +112,7 @@ byte-is c text rest h = grind arith
 
 -- the word of a partial that ends there
 bounded-is : (limit : ℕ) (text : List ℕ) (p : Partial) (rest : List ℕ) (w : Word) (x : Word × List ℕ) → IsUtf8 text
-    → IsLongestPartial limit text p rest
-    → at_boundary w rest ≡ Some x → (x.0 ≡ w) × IsWhole limit text p x.1
+    → IsLongestPartial limit text p rest → at_boundary w rest ≡ Some x → (x.0 ≡ w) × IsWhole limit text p x.1
 bounded-is limit text p rest w x u read h =
     let b = cond_some (is_boundary rest) (w, rest) x h in
     let stop = suffix-boundary read.front rest (rw read.begins.divided at u) b.0 in
@@ -134,8 +133,7 @@ unsigned-at limit text x h = grind (arith, nat_tests, opening-none)
 -- ---- hyphens
 
 hyphen-is : (limit : ℕ) (text : List ℕ) (p : Partial) (before : List ℕ) (x : Partial × List ℕ) → IsUtf8 text
-    → IsLongestPartial limit text p before
-    → upper_behind limit before ≡ Some x → IsHyphen limit text p x.0 x.1
+    → IsLongestPartial limit text p before → upper_behind limit before ≡ Some x → IsHyphen limit text p x.0 x.1
 hyphen-is limit text p before x u read h =
     let sign = bind_some (after_some_space before) _ x h in
     let s = some_space-is read.front before sign.0 (subst (λ (t : List ℕ). IsUtf8 t) read.begins.divided u) sign.1 in
@@ -152,8 +150,7 @@ hyphen-is limit text p before x u read h =
     grind arith
 
 hyphen-of : (limit : ℕ) (text : List ℕ) (lower upper : Partial) (rest : List ℕ) → IsUtf8 text
-    → (h : IsHyphen limit text lower upper rest)
-    → upper_behind limit h.before ≡ Some (upper, rest)
+    → (h : IsHyphen limit text lower upper rest) → upper_behind limit h.before ≡ Some (upper, rest)
 hyphen-of limit text lower upper rest u h =
     let v = rest-utf8 limit text lower h.before u h.first (inr h.space_before) in
     let w = tail-utf8 45 h.after (omega arith) (skips-utf8 h.before (45 ∷ h.after) h.dash v) in
@@ -280,8 +277,7 @@ alone : (one two : Comparator) (limit : ℕ) (text : List ℕ) (x : Partial × L
 alone one two limit text x h = grind (arith, opening-none, drop_spaces-none, solid-dark)
 
 pub compared-of : (limit : ℕ) (c : Comparator) (sign text : List ℕ) (x : Partial × List ℕ) → IsSign c sign
-    → partial_front limit (drop_spaces text) ≡ Some x
-    → sign_at (sign ++ text) ≡ (compared c, drop_spaces text)
+    → partial_front limit (drop_spaces text) ≡ Some x → sign_at (sign ++ text) ≡ (compared c, drop_spaces text)
 compared-of limit c sign text x h k = grind (arith, alone)
 
 no_greater : (limit : ℕ) (text : List ℕ) (x : Partial × List ℕ) → partial_front limit text ≡ Some x

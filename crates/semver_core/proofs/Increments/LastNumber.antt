@@ -1,35 +1,27 @@
 -- The last number of a list.
-use Rattle.std.proofs.Common.{◌≡◌, refl, sym, ap, ◌∙◌, ℕ, ◌+◌, ◌<◌, ◌≤◌, Bool, true, false, List, []}
-use Rattle.std.proofs.Common.{◌∷◌, ◌++◌, length, take, get_or, append_assoc, arith}
-use Rattle.std.specs.Prelude.{Option, Some, None, set, Result, Ok, Err}
-use Rattle.std.proofs.Common.{drop}
+use Rattle.std.proofs.Common.{◌≡◌, refl, sym, ap, ◌∙◌, ℕ, ◌+◌, ◌<◌, ◌≤◌, Bool, true, false, List, [], ◌∷◌, ◌++◌, length, take}
+use Rattle.std.proofs.Common.{get_or, append_assoc, arith, drop, inl, inr}
+use Rattle.std.specs.Prelude.{Option, Some, None, set, Result, Ok, Err, if◌then◌else◌, suc, zero, ◌==◌, ◌^◌, ◌-◌, ◌↔◌, IsTrue}
 use Rattle.std.proofs.Math.Seq.{take-append_seam}
-use Rattle.std.proofs.lemmas.List.{length-set, take_all, take_more}
-use Rattle.std.specs.List.{refill}
+use Rattle.std.proofs.lemmas.List.{length-set, take_all, take_more, length-map}
+use Rattle.std.specs.List.{refill, list_all}
 use Rattle.semver_core.proofs.Text.Runs.{ids_view_push, numerals}
 use Rattle.semver_core.specs.Text.Identifiers.{Id, Numeric, AlphaNumeric}
-use Rattle.semver_core.specs.Internal.IncrementSteps.{list_text}
+use Rattle.semver_core.specs.Internal.IncrementSteps.{list_text, IsLastNumber, Tracks}
 use Rattle.semver_core.specs.Increments.Table.{asked, has_numeric, is_kept, advance, raise_last, one_more, Fault, Overflow, ◌>>=◌}
 use Rattle.semver_core.specs.Lists.{is_empty}
-use Rattle.semver_core.specs.Internal.IncrementSteps.{IsLastNumber, Tracks}
 use Rattle.semver_core.specs.Printing.Text.{id_text}
 use Rattle.semver_core.specs.declared.increment.IdentifierBase.{IdentifierBase}
-use Rattle.std.specs.Prelude.{if◌then◌else◌}
 use Rattle.semver_core.specs.Values.Views.{id_view, ids_view}
 use Rattle.semver_core.specs.declared.identifier.Identifier.{Identifier}
-use Rattle.std.specs.Prelude.{suc, zero, ◌==◌, ◌^◌}
 use Rattle.std.proofs.lemmas.Grind.{common_steps}
-use Rattle.std.proofs.lemmas.List.{length-map}
 use Rattle.std.proofs.lemmas.Bool.Decides.{nat_tests}
 use Rattle.std.proofs.lemmas.Bool.{cases_lt}
-use Rattle.std.proofs.Common.{inl, inr}
 use Rattle.std.proofs.lemmas.Str.Parse.{parse_digits}
 use Rattle.std.specs.Char.{is_ascii_digit}
-use Rattle.std.specs.List.{list_all}
 use Rattle.std.specs.Result.{MatchResult}
 use Rattle.std.specs.Str.Parse.{ParsesUnsigned, digits_value}
 use Rattle.std.specs.Ordering.{is_eq}
-use Rattle.std.specs.Prelude.{◌-◌, ◌↔◌, IsTrue}
 use Rattle.std.specs.Cmp.{Equal-is, tied_itself}
 use Rattle.semver_core.specs.Internal.OrderLaws.{id_same, id_total}
 use Rattle.std.proofs.lemmas.Map.Text.{is_eq-slice_cmp}

@@ -1,4 +1,4 @@
-use Rattle.std.proofs.Common.{◌≡◌, ◌<◌, ◌⊎◌, [], length, arith, sym, true}
+use Rattle.std.proofs.Common.{◌≡◌, ◌<◌, ◌⊎◌, [], length, arith, sym, true, rules}
 use Rattle.semver_core.specs.declared.TheConstants.{MAX_SAFE_INTEGER}
 use Rattle.std.proofs.lemmas.Grind.{common_steps}
 use Rattle.std.specs.List.{list_any}
@@ -6,7 +6,6 @@ use Rattle.nodejs_semver.specs.Internal.Denotes.{denotes}
 use Rattle.nodejs_semver.proofs.Everyday.Whole.{denoted_range}
 use Rattle.nodejs_semver.proofs.Dividing.MeaningLaw.{meant, meant_so}
 use Rattle.nodejs_semver.proofs.Dividing.WrittenLaw.{accepted_written}
-use Rattle.std.proofs.Common.{rules}
 use Rattle.nodejs_semver.proofs.range.parse.read_some.Goals as goal
 
 pub returns-clause-range : goal.returns-clause-range
