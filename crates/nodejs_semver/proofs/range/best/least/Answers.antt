@@ -1,5 +1,4 @@
-use Rattle.std.proofs.Common.{◌≤◌, length, refl, arith, option_copied}
-use Rattle.std.proofs.lemmas.List.{take_all}
+use Rattle.std.proofs.Common.{refl, option_copied, take_all}
 use Rattle.nodejs_semver.proofs.Choice.BestOf.{one_further}
 use Rattle.nodejs_semver.proofs.range.best.least.Goals as goal
 use Rattle.nodejs_semver.proofs.range.best.least.Goals.{then-is_new_min, else-is_new_min}
@@ -15,6 +14,4 @@ loop-version-preserved g c =
     ])
 
 pub returns : goal.returns
-returns g c =
-    let all : length c.args.versions.now ≤ c.loop-version.version-index = omega arith in
-    rw (take_all c.loop-version.version-index c.args.versions.now all) at c.loop-version.invariant
+returns g c = rw (take_all _ c.args.versions.now c.loop-version-test.false) at c.loop-version.invariant
