@@ -1,3 +1,4 @@
+use Rattle.std.proofs.Common.{take_all}
 use Rattle.nodejs_semver.proofs.Algebra.FlatMaps.{flat_step}
 use Rattle.nodejs_semver.proofs.range.lists.clip_each.Goals as goal
 
@@ -5,3 +6,6 @@ pub loop-interval-preserved : goal.loop-interval-preserved
 loop-interval-preserved g c =
     flat_step _ c.args.these.now _ c.interval-item.result _ _ c.loop-interval-test.true c.interval-item.is
     c.loop-interval.invariant c.in_ok-push_clipped.ensures
+
+pub returns : goal.returns
+returns g c = rw (take_all _ c.args.these.now c.loop-interval-test.false) at c.loop-interval.invariant

@@ -1,3 +1,4 @@
+use Rattle.std.proofs.Common.{take_all}
 use Rattle.nodejs_semver.proofs.Algebra.FlatMaps.{flat_some, flat_step, on_err}
 use Rattle.nodejs_semver.proofs.range.lists.intersections.Goals as goal
 
@@ -10,3 +11,6 @@ pub returns-in_err-push_intersections-clause-memory : goal.returns-in_err-push_i
 returns-in_err-push_intersections-clause-memory g c =
     on_err c.from_residual.result (flat_some _ c.args.these.now _ c.interval-item.result c.loop-interval-test.true
     c.interval-item.is c.in_err-push_intersections.ensures.memory)
+
+pub returns-clause-items : goal.returns-clause-items
+returns-clause-items g c = rw (take_all _ c.args.these.now c.loop-interval-test.false) at c.loop-interval.invariant

@@ -1,4 +1,4 @@
-use Rattle.std.proofs.Common.{ap, option_to_list}
+use Rattle.std.proofs.Common.{ap, option_to_list, take_all}
 use Rattle.nodejs_semver.proofs.Algebra.FlatMaps.{flat_behind, flat_some, on_err, part_some}
 use Rattle.nodejs_semver.proofs.range.lists.push_intersections.Goals as goal
 
@@ -11,3 +11,6 @@ pub returns-in_err-push_part-clause-memory : goal.returns-in_err-push_part-claus
 returns-in_err-push_part-clause-memory g c =
     on_err c.from_residual.result (flat_some _ c.args.others.now _ c.other-item.result c.loop-other-test.true c.other-item.is
     (part_some _ _ c.common_part.ensures c.in_err-push_part.ensures.memory))
+
+pub returns-clause-items : goal.returns-clause-items
+returns-clause-items g c = rw (take_all _ c.args.others.now c.loop-other-test.false) at c.loop-other.invariant
