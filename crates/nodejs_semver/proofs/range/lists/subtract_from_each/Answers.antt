@@ -25,4 +25,5 @@ both_put parts found old one two p e k = grind (arith, append_assoc)
 pub loop-interval-preserved : goal.loop-interval-preserved
 loop-interval-preserved g c =
     flat_step _ c.args.these.now _ c.interval-item.result _ _ c.loop-interval-test.true c.interval-item.is
-    c.loop-interval.invariant (both_put _ _ _ _ _ c.remaining_parts-below.ensures c.in_ok-push_part.ensures.items c.in_ok-push_part-2.ensures.items)
+    c.loop-interval.invariant (both_put _ _ _ _ _ c.remaining_parts-below.ensures c.in_ok-push_part.ensures.items
+    c.in_ok-push_part-2.ensures.items)
