@@ -25,10 +25,21 @@ impl Calls {
         Ok(())
     }
 
-    /// Counts a call, and drops its two values. An allocation failure is an error.
-    pub fn asked_two<A: Drop, B: Drop>(
+    /// Counts a call that may find nothing, and drops what it found. An allocation failure is an
+    /// error.
+    pub fn found<T: Drop>(
         &mut self,
-        returned: Result<(A, B), AllocError>,
+        returned: Result<Option<T>, AllocError>,
+    ) -> Result<(), AllocError> {
+        self.made(returned)?;
+        Ok(())
+    }
+
+    /// Counts a call that may find two values, and drops what it found. An allocation failure is an
+    /// error.
+    pub fn found_two<T: Drop>(
+        &mut self,
+        returned: Result<(Option<T>, Option<T>), AllocError>,
     ) -> Result<(), AllocError> {
         let (_, _) = self.made(returned)?;
         Ok(())

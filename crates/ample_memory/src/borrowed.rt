@@ -22,8 +22,8 @@ pub fn ask_range(alloc: Global, calls: &mut Calls, text: &str) -> Result<(), All
         return Ok(());
     };
     calls.asked(range.to_range(alloc))?;
-    calls.asked(range.min_version(alloc))?;
-    calls.asked(range.min_version_with_prerelease(alloc))?;
+    calls.found(range.min_version(alloc))?;
+    calls.found(range.min_version_with_prerelease(alloc))?;
     for other in ["*", "^1.5.0-b+c || 3.2.x || ^7.0.0-0", "<0.0.0-0"] {
         if let Some(other) = calls.answered(RangeRef::parse(alloc, other))? {
             pair(alloc, calls, &range, &other)?;
@@ -40,8 +40,8 @@ fn pair<'a>(
     one: &RangeRef<'a>,
     other: &RangeRef<'a>,
 ) -> Result<(), AllocError> {
-    calls.asked(one.intersect(alloc, other))?;
-    calls.asked(one.difference(alloc, other))?;
-    calls.asked(one.least_beyond(alloc, other))?;
+    calls.found(one.intersect(alloc, other))?;
+    calls.found(one.difference(alloc, other))?;
+    calls.found(one.least_beyond(alloc, other))?;
     Ok(())
 }

@@ -2,11 +2,11 @@
 
 use crate::ample::Calls;
 use crate::{borrowed, json, texts};
-use nodejs_semver::cuts::Interval;
+use nodejs_semver::Range;
+use nodejs_semver::cuts::{Interval, Point};
 use nodejs_semver::laws::both_readers;
 use nodejs_semver::laws::headline::headline;
 use nodejs_semver::readers::{is_blank, range_fast, range_loose};
-use nodejs_semver::{Range, Version};
 use std::alloc::{AllocError, Global};
 
 /// Makes each call on ranges about ranges of so many intervals, with and without build metadata.
@@ -55,17 +55,17 @@ pub fn ask_empty(alloc: Global, calls: &mut Calls) -> Result<(), AllocError> {
 fn ask(alloc: Global, calls: &mut Calls, text: &str) -> Result<(), AllocError> {
     calls.tried(headline(alloc, text, "^3 || 5.x"))?;
     calls.made(both_readers(alloc, text))?;
-    calls.asked(range_fast(alloc, text))?;
+    calls.found(range_fast(alloc, text))?;
     borrowed::ask_range(alloc, calls, text)?;
     if !is_blank(text) {
-        calls.asked(range_loose(alloc, text))?;
+        calls.found(range_loose(alloc, text))?;
     }
     let Some(range) = calls.answered(Range::parse(alloc, text))? else {
         return Ok(());
     };
     calls.asked(range.copy(alloc))?;
-    calls.asked(range.min_version(alloc))?;
-    calls.asked(range.min_version_with_prerelease(alloc))?;
+    calls.found(range.min_version(alloc))?;
+    calls.found(range.min_version_with_prerelease(alloc))?;
     json::ask_range(alloc, calls, &range)?;
     for other in ["*", "^1.5.0-b+c || 3.2.x || ^7.0.0-0", "<0.0.0-0"] {
         if let Some(other) = calls.answered(Range::parse(alloc, other))? {
@@ -78,11 +78,11 @@ fn ask(alloc: Global, calls: &mut Calls, text: &str) -> Result<(), AllocError> {
 
 // Makes each call on two ranges, and on their first intervals.
 fn pair(alloc: Global, calls: &mut Calls, one: &Range, other: &Range) -> Result<(), AllocError> {
-    calls.asked(one.intersect(alloc, other))?;
-    calls.asked(one.difference(alloc, other))?;
-    calls.asked(one.least_beyond(alloc, other))?;
+    calls.found(one.intersect(alloc, other))?;
+    calls.found(one.difference(alloc, other))?;
+    calls.found(one.least_beyond(alloc, other))?;
     let ranges = [one.copy(alloc)?, other.copy(alloc)?];
-    calls.asked(Range::least_of_all(alloc, &ranges))?;
+    calls.found(Range::least_of_all(alloc, &ranges))?;
     match (one.intervals().first(), other.intervals().first()) {
         (Some(one), Some(other)) => intervals(alloc, calls, one, other),
         _ => Ok(()),
@@ -90,17 +90,17 @@ fn pair(alloc: Global, calls: &mut Calls, one: &Range, other: &Range) -> Result<
 }
 
 // Makes each call on two intervals.
-fn intervals(
+fn intervals<V: Point>(
     alloc: Global,
     calls: &mut Calls,
-    one: &Interval<Version>,
-    other: &Interval<Version>,
+    one: &Interval<V>,
+    other: &Interval<V>,
 ) -> Result<(), AllocError> {
     calls.asked(one.lower().copy(alloc))?;
     calls.asked(one.copy(alloc))?;
-    calls.asked(one.intersect(alloc, other))?;
-    calls.asked(one.clip(alloc, other))?;
-    calls.asked_two(one.subtract(alloc, other))?;
+    calls.found(one.intersect(alloc, other))?;
+    calls.found(one.clip(alloc, other))?;
+    calls.found_two(one.subtract(alloc, other))?;
     match one.common_part(other) {
         Some(part) => {
             calls.asked(part.copy(alloc))?;

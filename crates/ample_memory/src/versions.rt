@@ -57,7 +57,7 @@ pub fn ask_long(alloc: Global, calls: &mut Calls, length: usize) -> Result<(), A
 // Makes each call on versions about that of a text.
 fn ask(alloc: Global, calls: &mut Calls, text: &str, words: &[&str]) -> Result<(), AllocError> {
     calls.tried(Version::parse(alloc, text))?;
-    calls.asked(version_fast(alloc, text))?;
+    calls.found(version_fast(alloc, text))?;
     borrowed::ask_version(alloc, calls, text)?;
     for at in [0, text.len().min(6)] {
         calls.made(scan::identifiers(alloc, text, at))?;
