@@ -25,13 +25,19 @@ pub fn show_all(rt: &impl Print, alloc: Global, one: &str, other: &str) -> io::R
 
 // The calls that allocate nothing.
 fn questions(rt: &impl Print, alloc: Global, text: &str) -> io::Result<()> {
-    let Ok(range) = RangeRef::parse(alloc, text) else {
-        return no_values(rt, "questions");
-    };
-    let (Ok(beta), Ok(next)) = (
-        VersionRef::parse("1.2.3-b.2"),
-        VersionRef::parse("1.3.0-b.2"),
-    ) else {
+    match RangeRef::parse(alloc, text) {
+        Ok(range) => answers(rt, &range, "1.2.3-b.2", "1.3.0-b.2"),
+        Err(_) => no_values(rt, "questions"),
+    }
+}
+
+fn answers<'a>(
+    rt: &impl Print,
+    range: &RangeRef<'a>,
+    beta: &'a str,
+    next: &'a str,
+) -> io::Result<()> {
+    let (Ok(beta), Ok(next)) = (VersionRef::parse(beta), VersionRef::parse(next)) else {
         return no_values(rt, "questions");
     };
     let answers = [
@@ -40,88 +46,108 @@ fn questions(rt: &impl Print, alloc: Global, text: &str) -> io::Result<()> {
             "RangeRef::satisfies_with_prerelease",
             range.satisfies_with_prerelease(&next, true),
         ),
-        ("VersionRef::satisfies", next.satisfies(&range)),
+        ("VersionRef::satisfies", next.satisfies(range)),
         (
             "VersionRef::satisfies_with_prerelease",
-            next.satisfies_with_prerelease(&range, true),
+            next.satisfies_with_prerelease(range, true),
         ),
         (
             "RangeRef::outside",
             range.outside(&beta, OutsideDirection::Higher, false) == Ok(true),
         ),
-        ("RangeRef::allows_all", range.allows_all(&range)),
-        ("RangeRef::allows_any", range.allows_any(&range)),
-        ("RangeRef::eq", range == range),
+        // The borrow checker takes no reference twice in one call.
+        ("RangeRef::allows_all", range.allows_all(&*range)),
+        ("RangeRef::allows_any", range.allows_any(&*range)),
+        ("RangeRef::eq", *range == *range),
     ];
     for (call, answer) in answers {
-        show(rt, call, Outcome::Value(answer), &range)?;
+        show(rt, call, Outcome::Value(answer), range)?;
     }
     let versions = [beta, next];
     show_debug(
         rt,
         "RangeRef::max_satisfying",
         Outcome::Value(range.max_satisfying(&versions).is_some()),
-        &range,
+        range,
     )?;
     show_debug(
         rt,
         "RangeRef::min_satisfying",
         Outcome::Value(range.min_satisfying(&versions).is_some()),
-        &range,
+        range,
     )
 }
 
 fn algebra(rt: &impl Print, alloc: Global, one: &str, other: &str) -> io::Result<()> {
-    let Ok(one) = RangeRef::parse(alloc, one) else {
-        return no_values(rt, "borrowed algebra");
-    };
-    let Ok(other) = RangeRef::parse(alloc, other) else {
-        return no_values(rt, "borrowed algebra");
-    };
-    let both = Both {
-        one: &one,
-        other: &other,
-    };
+    match RangeRef::parse(alloc, one) {
+        Ok(one) => beside(rt, alloc, &one, other),
+        Err(_) => no_values(rt, "borrowed algebra"),
+    }
+}
+
+fn beside<'a>(
+    rt: &impl Print,
+    alloc: Global,
+    one: &RangeRef<'a>,
+    other: &'a str,
+) -> io::Result<()> {
+    match RangeRef::parse(alloc, other) {
+        Ok(other) => pair(rt, alloc, one, &other),
+        Err(_) => no_values(rt, "borrowed algebra"),
+    }
+}
+
+fn pair<'a>(
+    rt: &impl Print,
+    alloc: Global,
+    one: &RangeRef<'a>,
+    other: &RangeRef<'a>,
+) -> io::Result<()> {
+    let both = Both { one, other };
     show(
         rt,
         "RangeRef::intersect",
-        found(one.intersect(alloc, &other)),
+        found(one.intersect(alloc, other)),
         &both,
     )?;
     show(
         rt,
         "RangeRef::difference",
-        found(one.difference(alloc, &other)),
+        found(one.difference(alloc, other)),
         &both,
     )?;
     show(
         rt,
         "RangeRef::least_beyond",
-        found(one.least_beyond(alloc, &other)),
+        found(one.least_beyond(alloc, other)),
         &both,
     )
 }
 
 fn choices(rt: &impl Print, alloc: Global, text: &str) -> io::Result<()> {
-    let Ok(range) = RangeRef::parse(alloc, text) else {
-        return no_values(rt, "borrowed choices");
-    };
+    match RangeRef::parse(alloc, text) {
+        Ok(range) => choices_of(rt, alloc, &range),
+        Err(_) => no_values(rt, "borrowed choices"),
+    }
+}
+
+fn choices_of(rt: &impl Print, alloc: Global, range: &RangeRef<'_>) -> io::Result<()> {
     show(
         rt,
         "RangeRef::to_range",
         Outcome::from(range.to_range(alloc)),
-        &range,
+        range,
     )?;
     show(
         rt,
         "RangeRef::min_version",
         found(range.min_version(alloc)),
-        &range,
+        range,
     )?;
     show(
         rt,
         "RangeRef::min_version_with_prerelease",
         found(range.min_version_with_prerelease(alloc)),
-        &range,
+        range,
     )
 }

@@ -45,63 +45,69 @@ fn readers(rt: &impl Print, alloc: Global, text: &str) -> io::Result<()> {
 }
 
 fn algebra(rt: &impl Print, alloc: Global, one: &str, other: &str) -> io::Result<()> {
-    let Ok(one) = Range::parse(alloc, one) else {
-        return no_values(rt, "algebra");
-    };
-    let Ok(other) = Range::parse(alloc, other) else {
-        return no_values(rt, "algebra");
-    };
-    let both = Both {
-        one: &one,
-        other: &other,
-    };
+    match Range::parse(alloc, one) {
+        Ok(one) => beside(rt, alloc, one, other),
+        Err(_) => no_values(rt, "algebra"),
+    }
+}
+
+fn beside(rt: &impl Print, alloc: Global, one: Range, other: &str) -> io::Result<()> {
+    match Range::parse(alloc, other) {
+        Ok(other) => pair(rt, alloc, &[one, other]),
+        Err(_) => no_values(rt, "algebra"),
+    }
+}
+
+fn pair(rt: &impl Print, alloc: Global, ranges: &[Range; 2]) -> io::Result<()> {
+    let one = &ranges[0];
+    let other = &ranges[1];
+    let both = Both { one, other };
     show(
         rt,
         "Range::intersect",
-        found(one.intersect(alloc, &other)),
+        found(one.intersect(alloc, other)),
         &both,
     )?;
     show(
         rt,
         "Range::difference",
-        found(one.difference(alloc, &other)),
+        found(one.difference(alloc, other)),
         &both,
     )?;
     show(
         rt,
         "Range::least_beyond",
-        found(one.least_beyond(alloc, &other)),
+        found(one.least_beyond(alloc, other)),
         &both,
     )?;
-    let ranges = [one, other];
-    let both = Both {
-        one: &ranges[0],
-        other: &ranges[1],
-    };
     show(
         rt,
         "Range::least_of_all",
-        found(Range::least_of_all(alloc, &ranges)),
+        found(Range::least_of_all(alloc, ranges)),
         &both,
     )
 }
 
 fn choices(rt: &impl Print, alloc: Global, text: &str) -> io::Result<()> {
-    let Ok(range) = Range::parse(alloc, text) else {
-        return no_values(rt, "choices");
-    };
-    show(rt, "Range::copy", Outcome::from(range.copy(alloc)), &range)?;
+    match Range::parse(alloc, text) {
+        Ok(range) => choices_of(rt, alloc, &range),
+        Err(_) => no_values(rt, "choices"),
+    }
+}
+
+fn choices_of(rt: &impl Print, alloc: Global, range: &Range) -> io::Result<()> {
+    show(rt, "Range::copy", Outcome::from(range.copy(alloc)), range)?;
     show(
         rt,
         "Range::min_version",
         found(range.min_version(alloc)),
-        &range,
+        range,
     )?;
     show(
         rt,
         "Range::min_version_with_prerelease",
         found(range.min_version_with_prerelease(alloc)),
-        &range,
+        range,
     )
 }
 

@@ -22,6 +22,16 @@ impl<T> From<Result<T, AllocError>> for Outcome<T> {
     }
 }
 
+impl<T: Display> Display for Outcome<T> {
+    fn fmt<W: fmt::Write>(&self, f: &mut fmt::Formatter<W>) -> fmt::Result {
+        match self {
+            Outcome::Value(value) => write!(f, "{value}"),
+            Outcome::Nothing => f.write_str("nothing"),
+            Outcome::Memory => f.write_str("memory"),
+        }
+    }
+}
+
 /// The outcome of a call that may find nothing.
 pub fn found<T>(returned: Result<Option<T>, AllocError>) -> Outcome<T> {
     match returned {
@@ -55,6 +65,17 @@ impl<'a, B: Display> Display for Both<'a, B> {
     }
 }
 
+/// A value that has no text of its own: its `Debug` is printed.
+#[derive(Drop)]
+struct Debugged<T>(T);
+
+impl<T: Debug> Display for Debugged<T> {
+    fn fmt<W: fmt::Write>(&self, f: &mut fmt::Formatter<W>) -> fmt::Result {
+        let value = &self.0;
+        write!(f, "{value:?}")
+    }
+}
+
 /// Prints what a call returned, and what it borrowed or gave back.
 pub fn show<T: Display + Drop, B: Display>(
     rt: &impl Print,
@@ -62,11 +83,7 @@ pub fn show<T: Display + Drop, B: Display>(
     outcome: Outcome<T>,
     borrowed: &B,
 ) -> io::Result<()> {
-    match outcome {
-        Outcome::Value(value) => println!(rt; "{call}: {value} from {borrowed}"),
-        Outcome::Nothing => println!(rt; "{call}: nothing from {borrowed}"),
-        Outcome::Memory => println!(rt; "{call}: memory from {borrowed}"),
-    }
+    println!(rt; "{call}: {outcome} from {borrowed}")
 }
 
 /// The same, of a value that has no text of its own.
@@ -76,11 +93,12 @@ pub fn show_debug<T: Debug + Drop, B: Display>(
     outcome: Outcome<T>,
     borrowed: &B,
 ) -> io::Result<()> {
-    match outcome {
-        Outcome::Value(value) => println!(rt; "{call}: {value:?} from {borrowed}"),
-        Outcome::Nothing => println!(rt; "{call}: nothing from {borrowed}"),
-        Outcome::Memory => println!(rt; "{call}: memory from {borrowed}"),
-    }
+    let outcome = match outcome {
+        Outcome::Value(value) => Outcome::Value(Debugged(value)),
+        Outcome::Nothing => Outcome::Nothing,
+        Outcome::Memory => Outcome::Memory,
+    };
+    show(rt, call, outcome, borrowed)
 }
 
 /// Prints that the values which a call needs could not be made.
