@@ -1,6 +1,7 @@
 // The calls on versions and ranges that borrow their text.
 
 use crate::ample::Calls;
+use crate::ranges::OTHERS;
 use nodejs_semver::{RangeRef, VersionRef};
 use std::alloc::{AllocError, Global};
 
@@ -18,19 +19,35 @@ pub fn ask_version(alloc: Global, calls: &mut Calls, text: &str) -> Result<(), A
 
 /// Makes each call that may allocate on the range that borrows this text.
 pub fn ask_range(alloc: Global, calls: &mut Calls, text: &str) -> Result<(), AllocError> {
-    let Some(range) = calls.answered(RangeRef::parse(alloc, text))? else {
-        return Ok(());
-    };
+    match calls.answered(RangeRef::parse(alloc, text))? {
+        Some(range) => about(alloc, calls, &range),
+        None => Ok(()),
+    }
+}
+
+// Makes each call that may allocate on a range.
+fn about<'a>(alloc: Global, calls: &mut Calls, range: &RangeRef<'a>) -> Result<(), AllocError> {
     calls.asked(range.to_range(alloc))?;
     calls.found(range.min_version(alloc))?;
     calls.found(range.min_version_with_prerelease(alloc))?;
-    for other in ["*", "^1.5.0-b+c || 3.2.x || ^7.0.0-0", "<0.0.0-0"] {
-        if let Some(other) = calls.answered(RangeRef::parse(alloc, other))? {
-            pair(alloc, calls, &range, &other)?;
-            pair(alloc, calls, &other, &range)?;
-        }
+    for other in OTHERS {
+        beside(alloc, calls, range, other)?;
     }
     Ok(())
+}
+
+// Makes each call that may allocate on two ranges, in both orders.
+fn beside<'a>(
+    alloc: Global,
+    calls: &mut Calls,
+    one: &RangeRef<'a>,
+    other: &'a str,
+) -> Result<(), AllocError> {
+    let Some(other) = calls.answered(RangeRef::parse(alloc, other))? else {
+        return Ok(());
+    };
+    pair(alloc, calls, one, &other)?;
+    pair(alloc, calls, &other, one)
 }
 
 // Makes each call on two ranges.

@@ -9,6 +9,9 @@ use nodejs_semver::laws::headline::headline;
 use nodejs_semver::readers::{is_blank, range_fast, range_loose};
 use std::alloc::{AllocError, Global};
 
+/// The ranges beside which each range is asked.
+pub const OTHERS: [&str; 3] = ["*", "^1.5.0-b+c || 3.2.x || ^7.0.0-0", "<0.0.0-0"];
+
 /// Makes each call on ranges about ranges of so many intervals, with and without build metadata.
 pub fn ask_many(alloc: Global, calls: &mut Calls, count: usize) -> Result<(), AllocError> {
     for behind in ["", "+b", " foo", " 1"] {
@@ -54,26 +57,37 @@ pub fn ask_empty(alloc: Global, calls: &mut Calls) -> Result<(), AllocError> {
 // Makes each call on ranges about that of a text.
 fn ask(alloc: Global, calls: &mut Calls, text: &str) -> Result<(), AllocError> {
     calls.tried(headline(alloc, text, "^3 || 5.x"))?;
-    calls.made(both_readers(alloc, text))?;
+    calls.found(both_readers(alloc, text))?;
     calls.found(range_fast(alloc, text))?;
     borrowed::ask_range(alloc, calls, text)?;
     if !is_blank(text) {
         calls.found(range_loose(alloc, text))?;
     }
-    let Some(range) = calls.answered(Range::parse(alloc, text))? else {
-        return Ok(());
-    };
+    match calls.answered(Range::parse(alloc, text))? {
+        Some(range) => about(alloc, calls, &range),
+        None => Ok(()),
+    }
+}
+
+// Makes each call on a range.
+fn about(alloc: Global, calls: &mut Calls, range: &Range) -> Result<(), AllocError> {
     calls.asked(range.copy(alloc))?;
     calls.found(range.min_version(alloc))?;
     calls.found(range.min_version_with_prerelease(alloc))?;
-    json::ask_range(alloc, calls, &range)?;
-    for other in ["*", "^1.5.0-b+c || 3.2.x || ^7.0.0-0", "<0.0.0-0"] {
-        if let Some(other) = calls.answered(Range::parse(alloc, other))? {
-            pair(alloc, calls, &range, &other)?;
-            pair(alloc, calls, &other, &range)?;
-        }
+    json::ask_range(alloc, calls, range)?;
+    for other in OTHERS {
+        beside(alloc, calls, range, other)?;
     }
     Ok(())
+}
+
+// Makes each call on two ranges, in both orders.
+fn beside(alloc: Global, calls: &mut Calls, one: &Range, other: &str) -> Result<(), AllocError> {
+    let Some(other) = calls.answered(Range::parse(alloc, other))? else {
+        return Ok(());
+    };
+    pair(alloc, calls, one, &other)?;
+    pair(alloc, calls, &other, one)
 }
 
 // Makes each call on two ranges, and on their first intervals.

@@ -60,7 +60,7 @@ fn ask(alloc: Global, calls: &mut Calls, text: &str, words: &[&str]) -> Result<(
     calls.found(version_fast(alloc, text))?;
     borrowed::ask_version(alloc, calls, text)?;
     for at in [0, text.len().min(6)] {
-        calls.made(scan::identifiers(alloc, text, at))?;
+        calls.found(scan::identifiers(alloc, text, at))?;
     }
     match calls.made(version_loose(alloc, text))? {
         Some(version) => ask_about(alloc, calls, version, words),
