@@ -41,34 +41,18 @@ fn is_text(found: Result<String, AllocError>, text: &str) -> bool {
     }
 }
 
-// Whether there is a version, and it prints as this text.
-fn is_version(alloc: Global, found: Option<Version>, text: &str) -> bool {
+// Whether there is a value, and it prints as this text.
+fn found_prints<T: Display + Drop>(alloc: Global, found: Option<T>, text: &str) -> bool {
     match found {
-        Some(version) => prints(alloc, &version, text),
+        Some(value) => prints(alloc, &value, text),
         None => false,
     }
 }
 
-// Whether there is a version, and it equals this one.
-fn is_same_version(found: Option<Version>, version: &Version) -> bool {
+// Whether there is a value, and it equals this one.
+fn is_same<T: PartialEq + Drop>(found: Option<T>, value: &T) -> bool {
     match found {
-        Some(found) => found == *version,
-        None => false,
-    }
-}
-
-// Whether there is a range, and it prints as this text.
-fn is_range(alloc: Global, found: Option<Range>, text: &str) -> bool {
-    match found {
-        Some(range) => is_text(range.to_string(alloc), text),
-        None => false,
-    }
-}
-
-// Whether there is a range, and it equals this one.
-fn is_same_range(found: Option<Range>, range: &Range) -> bool {
-    match found {
-        Some(found) => found == *range,
+        Some(found) => found == *value,
         None => false,
     }
 }

@@ -1,6 +1,6 @@
 // The set algebra of ranges. The program's lines `and` and `minus` ask more of it.
 
-use super::is_range;
+use super::found_prints;
 use nodejs_semver::Range;
 use std::alloc::Global;
 
@@ -27,14 +27,14 @@ fn gives_of(alloc: Global, first: &Range, second: &Range, given: Given) -> bool 
 
 fn intersects_to(alloc: Global, first: &Range, second: &Range, text: &str) -> bool {
     match first.intersect(alloc, second) {
-        Ok(both) => is_range(alloc, both, text),
+        Ok(both) => found_prints(alloc, both, text),
         Err(_) => false,
     }
 }
 
 fn leaves(alloc: Global, first: &Range, second: &Range, text: &str) -> bool {
     match first.difference(alloc, second) {
-        Ok(rest) => is_range(alloc, rest, text),
+        Ok(rest) => found_prints(alloc, rest, text),
         Err(_) => false,
     }
 }

@@ -1,7 +1,7 @@
 // Ranges that borrow their text.
 
 use super::lent::hash_of;
-use super::{is_same_range, prints};
+use super::{is_same, prints};
 use nodejs_semver::{OutsideDirection, Range, RangeRef, SemverError, Version, VersionRef};
 use std::alloc::Global;
 
@@ -17,7 +17,7 @@ const PRINTED: &[(&str, &str)] = &[
 // Whether the range that owns what this one borrows equals that of the text.
 fn owned_equals(alloc: Global, range: &RangeRef<'_>, text: &str) -> bool {
     match range.to_range(alloc) {
-        Ok(owned) => is_same_range(Range::parse(alloc, text).ok(), &owned),
+        Ok(owned) => is_same(Range::parse(alloc, text).ok(), &owned),
         Err(_) => false,
     }
 }

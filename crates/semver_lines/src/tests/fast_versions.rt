@@ -1,7 +1,7 @@
 // The fast reader: which texts it returns a version for, and that `parse` reads every text as
 // before.
 
-use super::{is_version, long_text};
+use super::{found_prints, long_text};
 use nodejs_semver::Version;
 use nodejs_semver::readers::{version_fast, version_loose};
 use std::alloc::Global;
@@ -53,20 +53,20 @@ const NONE: &[&str] = &[
 // Whether the fast reader returns the version that prints so.
 fn reads_fast(alloc: Global, text: &str, printed: &str) -> bool {
     match version_fast(alloc, text) {
-        Ok(found) => is_version(alloc, found, printed),
+        Ok(found) => found_prints(alloc, found, printed),
         Err(_) => false,
     }
 }
 
 fn reads_loose(alloc: Global, text: &str, printed: &str) -> bool {
     match version_loose(alloc, text) {
-        Ok(found) => is_version(alloc, found, printed),
+        Ok(found) => found_prints(alloc, found, printed),
         Err(_) => false,
     }
 }
 
 fn parses(alloc: Global, text: &str, printed: &str) -> bool {
-    is_version(alloc, Version::parse(alloc, text).ok(), printed)
+    found_prints(alloc, Version::parse(alloc, text).ok(), printed)
 }
 
 fn is_uncommon(alloc: Global, text: &str) -> bool {

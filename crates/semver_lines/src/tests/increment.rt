@@ -1,6 +1,6 @@
 // Increments that no line can ask: results that are not read again, 64-bit numbers and conversions.
 
-use super::{is_version, made_by_hand, one_identifier, text_identifier};
+use super::{found_prints, made_by_hand, one_identifier, text_identifier};
 use nodejs_semver::{Failure, Identifier, IdentifierBase, IncrementError, Version};
 use std::alloc::Global;
 
@@ -38,7 +38,7 @@ fn leads_to(
     identifier: Option<&str>,
     text: &str,
 ) -> bool {
-    is_version(alloc, version.inc(alloc, word, identifier, None).ok(), text)
+    found_prints(alloc, version.inc(alloc, word, identifier, None).ok(), text)
 }
 
 fn leads_twice(alloc: Global, version: &Version, identifier: &str, text: &str) -> bool {

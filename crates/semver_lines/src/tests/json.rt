@@ -1,7 +1,7 @@
 // JSON values and texts of versions and ranges.
 
 use super::{
-    is_refused, is_same_range, is_text, is_version, long_text, made_by_hand, one_identifier,
+    found_prints, is_refused, is_same, is_text, long_text, made_by_hand, one_identifier,
     text_identifier,
 };
 use nodejs_semver::json::{
@@ -49,7 +49,7 @@ const READ: &[(&str, &str)] = &[
 
 // Whether the JSON text is that of a version that prints as the text.
 fn reads(alloc: Global, json: &str, text: &str) -> bool {
-    is_version(alloc, version_from_json_text(alloc, json).ok(), text)
+    found_prints(alloc, version_from_json_text(alloc, json).ok(), text)
 }
 
 #[test]
@@ -100,7 +100,7 @@ fn range_comes_back(alloc: Global, text: &str, json: &str) -> bool {
     match Range::parse(alloc, text) {
         Ok(range) => {
             is_text(range_to_json_text(alloc, &range), json)
-                && is_same_range(range_from_json_text(alloc, json).ok(), &range)
+                && is_same(range_from_json_text(alloc, json).ok(), &range)
         }
         Err(_) => false,
     }
@@ -113,7 +113,7 @@ fn range_json_texts_come_back(rt: HostRuntime) {
 
 fn any_is_read(alloc: Global, json: &str) -> bool {
     match Range::any(alloc) {
-        Ok(any) => is_same_range(range_from_json_text(alloc, json).ok(), &any),
+        Ok(any) => is_same(range_from_json_text(alloc, json).ok(), &any),
         Err(_) => false,
     }
 }
@@ -126,7 +126,7 @@ fn range_from_json_text_reads_the_empty_string_as_any(rt: HostRuntime) {
 
 // Whether the value is this string, and is read as a version of this text.
 fn value_reads(alloc: Global, value: &Value, text: &str) -> bool {
-    value.as_str() == Some(text) && is_version(alloc, version_from_value(alloc, value).ok(), text)
+    value.as_str() == Some(text) && found_prints(alloc, version_from_value(alloc, value).ok(), text)
 }
 
 fn value_comes_back(alloc: Global, version: &Version, text: &str) -> bool {
@@ -151,7 +151,7 @@ fn version_values_come_back(rt: HostRuntime) {
 
 // Whether the value is this string, and is read as the range.
 fn value_reads_range(alloc: Global, value: &Value, range: &Range, text: &str) -> bool {
-    value.as_str() == Some(text) && is_same_range(range_from_value(alloc, value).ok(), range)
+    value.as_str() == Some(text) && is_same(range_from_value(alloc, value).ok(), range)
 }
 
 fn value_of_range_comes_back(alloc: Global, range: &Range, text: &str) -> bool {

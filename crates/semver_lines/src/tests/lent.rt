@@ -1,6 +1,6 @@
 // Versions that borrow their text: each call once, and that they agree with versions of their own.
 
-use super::{is_same_version, prints};
+use super::{is_same, prints};
 use nodejs_semver::{IdentifierRef, IdentifierRefs, RangeRef, Version, VersionDiff, VersionRef};
 use std::alloc::Global;
 use std::cmp::Ordering;
@@ -196,7 +196,7 @@ fn owned_is_alike(alloc: Global, version: &VersionRef<'_>, text: &str) -> bool {
     match version.to_version(alloc) {
         Ok(owned) => {
             owned_prints_alike(alloc, version, &owned)
-                && is_same_version(Version::parse(alloc, text).ok(), &owned)
+                && is_same(Version::parse(alloc, text).ok(), &owned)
         }
         Err(_) => false,
     }

@@ -1,6 +1,6 @@
 // Versions and ranges with as many identifiers and intervals as stand inline, and with more.
 
-use super::{is_range, is_text, is_version, prints};
+use super::{found_prints, is_text, prints};
 use nodejs_semver::{Range, Version, VersionParts};
 use std::alloc::{AllocError, Global};
 use std::fmt::Write;
@@ -65,7 +65,7 @@ fn version_is_kept(alloc: Global, text: &str, pre_release: usize, build: usize) 
             version.pre_release().len() == pre_release
                 && version.build().len() == build
                 && prints(alloc, &version, text)
-                && is_version(alloc, version.copy(alloc).ok(), text)
+                && found_prints(alloc, version.copy(alloc).ok(), text)
                 && rebuilt_prints(alloc, version, text)
         }
         Err(_) => false,
@@ -96,7 +96,8 @@ fn versions_keep_their_identifiers(rt: HostRuntime) {
 fn range_is_kept(alloc: Global, text: &str) -> bool {
     match Range::parse(alloc, text) {
         Ok(range) => {
-            is_text(range.to_string(alloc), text) && is_range(alloc, range.copy(alloc).ok(), text)
+            is_text(range.to_string(alloc), text)
+                && found_prints(alloc, range.copy(alloc).ok(), text)
         }
         Err(_) => false,
     }

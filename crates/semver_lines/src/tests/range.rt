@@ -1,6 +1,6 @@
 // Ranges: what no line can ask of them.
 
-use super::{is_same_range, is_text, long_text};
+use super::{is_same, is_text, long_text};
 use nodejs_semver::{Range, Version};
 use std::alloc::Global;
 use std::hash::{DefaultHasher, Hash, Hasher};
@@ -13,7 +13,7 @@ fn hash_of(range: &Range) -> u64 {
 
 // Whether the range equals the one of this text.
 fn equals(alloc: Global, range: &Range, text: &str) -> bool {
-    is_same_range(Range::parse(alloc, text).ok(), range)
+    is_same(Range::parse(alloc, text).ok(), range)
 }
 
 // Whether the range holds every version.

@@ -1,6 +1,6 @@
 // Versions: what no line can ask of them.
 
-use super::{is_version, prints};
+use super::{found_prints, prints};
 use nodejs_semver::{Identifier, NegativeNumber, Version, VersionParts};
 use std::alloc::{AllocError, Global};
 use std::hash::{DefaultHasher, Hash, Hasher};
@@ -41,7 +41,7 @@ fn answer(alloc: Global, version: &Version, question: Question<'_>) -> bool {
         Question::KeepsDashes => keeps_dashes(version),
         Question::IsPrerelease => version.is_prerelease(),
         Question::IsNoPrerelease => !version.is_prerelease(),
-        Question::Copies(text) => is_version(alloc, version.copy(alloc).ok(), text),
+        Question::Copies(text) => found_prints(alloc, version.copy(alloc).ok(), text),
         Question::Ties(text) => ties(alloc, version, text),
         Question::Differs(text) => !ties(alloc, version, text),
     }
@@ -211,9 +211,9 @@ fn with_pre_has_one_number(rt: HostRuntime) {
 #[tactic(auto, unfolding(semver_core::specs::Text::Identifiers::is_listed))]
 fn from_texts_reads_both_lists(rt: HostRuntime) {
     let version = Version::from_texts(rt.alloc(), 1, 2, 3, b"rc.1", b"a-b.007").ok();
-    assert!(rt; is_version(rt.alloc(), version, "1.2.3-rc.1+a-b.7"));
+    assert!(rt; found_prints(rt.alloc(), version, "1.2.3-rc.1+a-b.7"));
     let lowest = Version::from_texts(rt.alloc(), 2, 0, 0, b"0", b"").ok();
-    assert!(rt; is_version(rt.alloc(), lowest, "2.0.0-0"));
+    assert!(rt; found_prints(rt.alloc(), lowest, "2.0.0-0"));
 }
 
 fn hash_of(version: &Version) -> u64 {
