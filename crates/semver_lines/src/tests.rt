@@ -21,7 +21,7 @@ mod run;
 mod scan;
 mod version;
 
-use nodejs_semver::{Failure, Identifier, Range, SemverError, Version};
+use nodejs_semver::{Failure, Identifier, SemverError, Version};
 use std::alloc::{AllocError, Global};
 use std::fmt::Display;
 
