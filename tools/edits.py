@@ -1,0 +1,146 @@
+"""The wrong bodies of the crates: files crates/NAME/wrong_bodies/CALL__MISTAKE.edit, and their rows in docs/WRONG_BODIES.md.
+
+An edit is a file of lines 'file: PATH', 'old: TEXT' and 'new: TEXT'. Each old text stands in its file once, and the new one takes its
+place; a further pair applies to what the earlier ones made."""
+import glob
+import os
+import re
+import shutil
+import subprocess
+
+TOP = os.path.realpath(os.path.join(os.path.dirname(os.path.realpath(__file__)), ".."))
+PAGE = "docs/WRONG_BODIES.md"
+HEADER = re.compile(r"^( *)(?:#\[[^\n]*\] )?(?:pub(?:\([^)]*\))? )?(?:const )?(?:unsafe )?fn (\w+)", re.M)
+
+
+def text_of(path):
+    with open(path, encoding="utf-8") as file:
+        return file.read()
+
+
+def write(path, text):
+    with open(path, "w", encoding="utf-8") as file:
+        file.write(text)
+
+
+def copied(room):
+    """Copies the files of the repository, as they stand, into a folder."""
+    listed = ["git", "-C", TOP, "ls-files", "-z", "--cached", "--others", "--exclude-standard"]
+    names = subprocess.run(listed, stdout=subprocess.PIPE, check=True).stdout.decode().split("\0")
+    for name in filter(None, names):
+        if os.path.exists(f"{TOP}/{name}"):
+            os.makedirs(os.path.dirname(f"{room}/{name}"), exist_ok=True)
+            shutil.copyfile(f"{TOP}/{name}", f"{room}/{name}")
+    # The toolchain looks for the top of a repository.
+    os.makedirs(f"{room}/.git", exist_ok=True)
+
+
+class Place:
+    """A function of a crate: the modules it stands in, and the type and the trait of its impl block."""
+
+    def __init__(self, crate, folder, file, above):
+        """The place of the last function that begins in a text, which is the front of a file."""
+        head = HEADER.findall(above)[-1]
+        self.name, block = head[1], re.findall(r"^impl\b.*?(?=\{|where|$)", above, re.M) if head[0] else []
+        self.module = [it for it in file[len("src/") : -len(".rt")].split("/") if it not in ("lib", "main")]
+        self.crate, self.owner, self.trait = crate, "", ""
+        if block:
+            words = re.sub(r"<[^<>]*(?:<[^<>]*>[^<>]*)*>", "", block[-1][len("impl") :]).strip().split(" for ")
+            self.owner = words[-1].strip().split("::")[-1]
+            self.trait = words[0].strip().split("::")[-1] if len(words) > 1 else ""
+        if self.owner and not self.trait:
+            # A check names the methods of a type by the module of that type.
+            self.module = self.home_of(self.owner, folder)
+
+    def home_of(self, owner, folder):
+        declared = re.compile(rf"^(?:pub(?:\([^)]*\))? )?(?:struct|enum|trait|union) {owner}\b", re.M)
+        for path in sorted(glob.glob(f"{folder}/src/**/*.rt", recursive=True)):
+            if declared.search(text_of(path)):
+                home = os.path.relpath(path, f"{folder}/src")[: -len(".rt")].split("/")
+                return [it for it in home if it not in ("lib", "main")]
+        return self.module
+
+    def __eq__(self, other):
+        return str(self) == str(other)
+
+    def __hash__(self):
+        return hash(str(self))
+
+    def __str__(self):
+        return "::".join(filter(None, [*self.module, f"{self.owner}{self.trait}", self.name]))
+
+    def only(self):
+        """The word for `rt check --only`: the function, or the impl block of a trait."""
+        words = [self.crate, *self.module, f"{self.owner}{self.trait}"]
+        return "::".join(filter(None, words if self.trait else [*words, self.name]))
+
+    def is_named(self, path):
+        """Whether a check names by this path the function, or a closure in it."""
+        head = re.escape("::".join([self.crate, *self.module])) + "::(?:fn::)?"
+        owner = rf"{self.owner}{self.trait and rf'{self.trait}[A-Za-z0-9]*'}::" if self.owner else ""
+        return re.match(rf"{head}{owner}{self.name}(?:$|::)", path) is not None
+
+
+class Edit:
+    """A wrong body: its pairs of texts, and the functions that they stand in."""
+
+    def __init__(self, crate, path):
+        self.crate, self.path, self.name = crate, path, os.path.basename(path)[: -len(".edit")]
+        self.pairs, self.places, file, old = [], [], "", ""
+        for line in filter(None, text_of(path).splitlines()):
+            key, _, value = line.partition(": ")
+            if key == "file":
+                file = value
+            elif key == "old":
+                old = value
+            elif key.rstrip(":") == "new":
+                self.pairs.append((file, old, value))
+        texts = {}
+        for file, old, new in self.pairs:
+            text = texts.setdefault(file, text_of(f"{self.folder(TOP)}/{file}"))
+            if text.count(old) != 1:
+                raise SystemExit(f"{self}: the text stands {text.count(old)} times: {old}")
+            self.places += [it for it in [self.place_of(file, text, old)] if it and it not in self.places]
+            texts[file] = text.replace(old, new)
+
+    def __str__(self):
+        return f"{self.crate}/{self.name}"
+
+    def folder(self, top):
+        return f"{top}/crates/{self.crate}"
+
+    def place_of(self, file, text, old):
+        """The function that a text stands in, or None where it stands beside the functions."""
+        above = text[: text.index(old)] + old
+        heads = [*HEADER.finditer(above)]
+        if not file.endswith(".rt") or not heads:
+            return None
+        closed = re.search(rf"^{heads[-1][1]}}}$", above[heads[-1].start() : text.index(old)], re.M)
+        return None if closed else Place(self.crate, self.folder(TOP), file, above)
+
+    def applied(self, texts, folder):
+        """Returns the texts, by their paths in the crate, with this edit made; None where it meets another edit's change."""
+        texts = dict(texts)
+        for file, old, new in self.pairs:
+            if texts.setdefault(file, text_of(f"{folder}/{file}")).count(old) != 1:
+                return None
+            texts[file] = texts[file].replace(old, new)
+        return texts
+
+
+def edits():
+    """Returns the wrong bodies of all crates, by crate and name."""
+    paths = sorted(glob.glob(f"{TOP}/crates/*/wrong_bodies/*.edit"))
+    return {str(it): it for it in (Edit(os.path.relpath(path, TOP).split("/")[1], path) for path in paths)}
+
+
+def rows():
+    """Returns the rows of the page, in order: the crate with the name, the example, and the clause that rejects the body."""
+    crate, found = "", []
+    for line in text_of(f"{TOP}/{PAGE}").splitlines():
+        if heading := re.match(r"## `(\w+)`$", line):
+            crate = heading[1]
+        elif row := re.match(r"\| `(\w+)`(?: \\\*)? \|", line):
+            cells = [it.strip().replace("\\|", "|") for it in re.split(r"(?<!\\)\|", line)]
+            found.append((f"{crate}/{row[1]}", cells[3], cells[4]))
+    return found
