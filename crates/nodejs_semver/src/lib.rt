@@ -36,5 +36,5 @@ pub use crate::range::{OutsideDirection, Range, RangeError, RangeRef};
 pub use semver_core::{
     Accepts, AcceptsRef, Failure, Identifier, IdentifierBase, IdentifierRef, IdentifierRefs,
     IncrementError, MAX_LENGTH, MAX_SAFE_INTEGER, NegativeNumber, ReleaseType, SemverError,
-    Version, VersionDiff, VersionParts, VersionRef, Versioned, cuts,
+    Version, VersionDiff, VersionParts, VersionPoint, VersionRef, Versioned, cuts,
 };

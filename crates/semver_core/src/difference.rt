@@ -94,19 +94,11 @@ fn kind_up<V: Versioned>(low: &V, high: &V) -> VersionDiff
     }
 }
 
-// The order of two versions by their values.
-#[inline(always)]
-fn order<V: Versioned>(v: &V, w: &V) -> Ordering
-    ensures { result ≡ precedence (V.value v.now) (V.value w.now) }
-{
-    v.cmp(w)
-}
-
 // The kind that two versions differ by.
 fn kind_between<V: Versioned>(v: &V, w: &V) -> Option<VersionDiff>
     ensures { result ≡ kind_between (V.value v.now) (V.value w.now) }
 {
-    match order(v, w) {
+    match v.cmp_precedence(w) {
         Ordering::Less => Some(kind_up(v, w)),
         Ordering::Equal => None,
         Ordering::Greater => Some(kind_up(w, v)),

@@ -353,6 +353,6 @@ impl<'a> VersionRef<'a> {
             (option_copied identifier.entry) base in
             MemoryOnlyIf result ((answer ≢ Err spec.Overflow) × IfOk answer HasIdentifiers) }
     {
-        increment(alloc, &PartsRef::of_borrowed(self), word, identifier, base)
+        increment(alloc, &PartsRef::of(self), word, identifier, base)
     }
 }

@@ -26,7 +26,7 @@ pub use crate::increment::{IdentifierBase, IncrementError};
 pub use crate::version::Version;
 pub use crate::version::accepts::{Accepts, AcceptsRef};
 pub use crate::version::parts::VersionParts;
-pub use crate::version::versioned::Versioned;
+pub use crate::version::versioned::{VersionPoint, Versioned};
 
 pub mod scan;
 

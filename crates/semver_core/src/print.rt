@@ -5,7 +5,7 @@ ghost use Rattle.std.specs.Prelude.{◌++◌, ◌∷◌, [], Some};
 ghost use Rattle.semver_core.specs.Printing.Text.{id_text, marked_list, version_text};
 ghost use Rattle.semver_core.specs.Values.Views.{id_view};
 
-use crate::{Identifier, IdentifierRefs, Version, VersionRef};
+use crate::{Identifier, IdentifierRefs, Version, VersionRef, Versioned};
 use itoa::Buffer;
 use std::fmt;
 
@@ -85,7 +85,7 @@ fn write_list<W: fmt::Write>(
 
 // Three numbers with dots between them.
 #[inline(always)]
-fn write_numbers<W: fmt::Write>(
+pub(crate) fn write_numbers<W: fmt::Write>(
     major: u64,
     minor: u64,
     patch: u64,
@@ -101,7 +101,7 @@ fn write_numbers<W: fmt::Write>(
 
 // The pre-release and the build metadata of a version.
 #[inline(always)]
-fn write_lists<W: fmt::Write>(
+pub(crate) fn write_lists<W: fmt::Write>(
     pre_release: IdentifierRefs<'_>,
     build: IdentifierRefs<'_>,
     f: &mut fmt::Formatter<W>,
@@ -127,10 +127,7 @@ impl fmt::Display for Version {
     ghost styled_output = { λ v _. Some (version_text v) };
 
     fn fmt<W: fmt::Write>(&self, f: &mut fmt::Formatter<W>) -> fmt::Result {
-        write_numbers(self.major(), self.minor(), self.patch(), f)?;
-        let pre_release = IdentifierRefs::of_items(self.pre_release());
-        let build = IdentifierRefs::of_items(self.build());
-        write_lists(pre_release, build, f)
+        self.print(f)
     }
 }
 
@@ -141,7 +138,6 @@ impl<'a> fmt::Display for VersionRef<'a> {
     ghost styled_output = { λ v _. Some (version_text v) };
 
     fn fmt<W: fmt::Write>(&self, f: &mut fmt::Formatter<W>) -> fmt::Result {
-        write_numbers(self.major(), self.minor(), self.patch(), f)?;
-        write_lists(self.pre_release(), self.build(), f)
+        self.print(f)
     }
 }

@@ -14,7 +14,7 @@ ghost use Rattle.std.specs.Prelude.{false, true, if◌then◌else◌};
 use crate::range::gate::accepts;
 use crate::{Range, RangeRef};
 use semver_core::cuts::Interval;
-use semver_core::{Version, VersionRef, Versioned};
+use semver_core::{Version, VersionPoint, VersionRef};
 
 impl Range {
     /// The greatest of the versions that the range accepts by `satisfies`. Returns `None` exactly
@@ -155,7 +155,7 @@ impl<'a> RangeRef<'a> {
 }
 
 // The last of the greatest of the versions that the intervals accept.
-fn greatest<'v, V: Versioned>(intervals: &[Interval<V>], versions: &'v [V]) -> Option<&'v V>
+fn greatest<'v, V: VersionPoint>(intervals: &[Interval<V>], versions: &'v [V]) -> Option<&'v V>
     ensures { of.IsMax V.cmp (λ v. any.accepts V.cmp V.value intervals.now v false) versions.now
         (option_copied result) }
 {
@@ -169,7 +169,7 @@ fn greatest<'v, V: Versioned>(intervals: &[Interval<V>], versions: &'v [V]) -> O
 }
 
 // The smallest of the versions that the intervals accept; on a tie, the first.
-fn least<'v, V: Versioned>(intervals: &[Interval<V>], versions: &'v [V]) -> Option<&'v V>
+fn least<'v, V: VersionPoint>(intervals: &[Interval<V>], versions: &'v [V]) -> Option<&'v V>
     ensures { of.IsMin V.cmp (λ v. any.accepts V.cmp V.value intervals.now v false) versions.now
         (option_copied result) }
 {
@@ -184,7 +184,7 @@ fn least<'v, V: Versioned>(intervals: &[Interval<V>], versions: &'v [V]) -> Opti
 
 // Whether the intervals accept a version, and the best so far is not above it.
 #[inline(always)]
-fn is_new_max<V: Versioned>(intervals: &[Interval<V>], version: &V, best: Option<&V>) -> bool
+fn is_new_max<V: VersionPoint>(intervals: &[Interval<V>], version: &V, best: Option<&V>) -> bool
     ensures { (list : List V)
         → of.IsMax V.cmp (λ v. any.accepts V.cmp V.value intervals.now v false) list
         (option_copied best.entry)
@@ -199,7 +199,7 @@ fn is_new_max<V: Versioned>(intervals: &[Interval<V>], version: &V, best: Option
 
 // Whether the intervals accept a version, and the best so far is above it.
 #[inline(always)]
-fn is_new_min<V: Versioned>(intervals: &[Interval<V>], version: &V, best: Option<&V>) -> bool
+fn is_new_min<V: VersionPoint>(intervals: &[Interval<V>], version: &V, best: Option<&V>) -> bool
     ensures { (list : List V)
         → of.IsMin V.cmp (λ v. any.accepts V.cmp V.value intervals.now v false) list
         (option_copied best.entry)

@@ -11,7 +11,7 @@ ghost use Rattle.nodejs_semver.specs.Ranges.View.{IsRange};
 
 use crate::{Range, RangeRef};
 use semver_core::cuts::{Bound, Interval};
-use semver_core::{Accepts, AcceptsRef, Version, VersionRef, Versioned};
+use semver_core::{Accepts, AcceptsRef, Version, VersionPoint, VersionRef};
 
 impl Range {
     /// Whether the range accepts this version. A pre-release is accepted only if the interval that
@@ -80,7 +80,7 @@ impl<'a> AcceptsRef for RangeRef<'a> {
 }
 
 // Whether some one of the intervals holds the version and lets it in.
-pub(crate) fn accepts<V: Versioned>(
+pub(crate) fn accepts<V: VersionPoint>(
     intervals: &[Interval<V>],
     version: &V,
     include_prerelease: bool,
@@ -92,7 +92,7 @@ pub(crate) fn accepts<V: Versioned>(
 
 // Whether the interval holds the version and lets it in.
 #[inline(always)]
-pub(crate) fn accepts_one<V: Versioned>(
+pub(crate) fn accepts_one<V: VersionPoint>(
     interval: &Interval<V>,
     version: &V,
     include_prerelease: bool,
@@ -105,14 +105,14 @@ pub(crate) fn accepts_one<V: Versioned>(
 
 // Whether the interval lets in the version, pre-releases not being included.
 #[inline]
-fn lets_in<V: Versioned>(interval: &Interval<V>, version: &V) -> bool
+fn lets_in<V: VersionPoint>(interval: &Interval<V>, version: &V) -> bool
     ensures { result ≡ of.lets_in V.value interval.now version.now }
 {
     version.is_release() || names(interval.lower(), version) || names(interval.upper(), version)
 }
 
 // Whether the bound's version is a pre-release of the same three numbers.
-fn names<V: Versioned>(bound: &Bound<V>, version: &V) -> bool
+fn names<V: VersionPoint>(bound: &Bound<V>, version: &V) -> bool
     ensures { result ≡ of.names V.value bound.now version.now }
 {
     match bound {

@@ -8,7 +8,7 @@ ghost use Rattle.std.specs.Prelude.{Ok, ◌≡◌};
 use crate::range::gate::accepts;
 use crate::{Range, RangeRef};
 use semver_core::cuts::{Bound, Interval, Point};
-use semver_core::{Version, VersionRef, Versioned};
+use semver_core::{Version, VersionPoint, VersionRef};
 use std::fmt;
 use thiserror::Error;
 
@@ -102,7 +102,7 @@ impl<'a> RangeRef<'a> {
 }
 
 // Whether the version is not accepted, and each interval lies on the other side.
-fn lies_outside<V: Versioned>(
+fn lies_outside<V: VersionPoint>(
     intervals: &[Interval<V>],
     version: &V,
     direction: OutsideDirection,

@@ -8,12 +8,12 @@ ghost use Rattle.nodejs_semver.specs.Internal.AnyVersions as of;
 ghost use Rattle.nodejs_semver.specs.Printing.Text.{lower_text, upper_text, range_text};
 
 use crate::{Range, RangeRef};
-use semver_core::Versioned;
+use semver_core::VersionPoint;
 use semver_core::cuts::{Bound, Interval};
 use std::fmt;
 
 // A sign and a version.
-fn write_signed<V: Versioned, W: fmt::Write>(
+fn write_signed<V: VersionPoint, W: fmt::Write>(
     sign: &str,
     version: &V,
     f: &mut fmt::Formatter<W>,
@@ -26,7 +26,7 @@ fn write_signed<V: Versioned, W: fmt::Write>(
 }
 
 // A lower bound: `>=v` or `>v`, and nothing where there is none.
-fn write_lower<V: Versioned, W: fmt::Write>(
+fn write_lower<V: VersionPoint, W: fmt::Write>(
     bound: &Bound<V>,
     f: &mut fmt::Formatter<W>,
 ) -> fmt::Result
@@ -41,7 +41,7 @@ fn write_lower<V: Versioned, W: fmt::Write>(
 }
 
 // An upper bound: `<v` or `<=v`, and nothing where there is none.
-fn write_upper<V: Versioned, W: fmt::Write>(
+fn write_upper<V: VersionPoint, W: fmt::Write>(
     bound: &Bound<V>,
     f: &mut fmt::Formatter<W>,
 ) -> fmt::Result
@@ -57,14 +57,14 @@ fn write_upper<V: Versioned, W: fmt::Write>(
 
 // Whether the versions are equal. It is not inlined: `write_interval` then takes less.
 #[inline(never)]
-fn are_equal<V: Versioned>(v: &V, w: &V) -> bool
+fn are_equal<V: VersionPoint>(v: &V, w: &V) -> bool
     ensures { result ≡ is_eq (V.cmp v.now w.now) }
 {
     v.cmp(w).is_eq()
 }
 
 // An interval: its bounds, or one version where they are `>=v` and `<=w` and v equals w.
-fn write_interval<V: Versioned, W: fmt::Write>(
+fn write_interval<V: VersionPoint, W: fmt::Write>(
     interval: &Interval<V>,
     f: &mut fmt::Formatter<W>,
 ) -> fmt::Result
@@ -86,7 +86,7 @@ fn write_interval<V: Versioned, W: fmt::Write>(
 }
 
 // Intervals joined by `||`.
-fn write_intervals<V: Versioned, W: fmt::Write>(
+fn write_intervals<V: VersionPoint, W: fmt::Write>(
     intervals: &[Interval<V>],
     f: &mut fmt::Formatter<W>,
 ) -> fmt::Result

@@ -5,7 +5,7 @@ use Rattle.std.specs.Prelude.{◌==◌, eqb, map}
 use Rattle.semver_core.specs.Lists.{is_empty}
 use Rattle.std.specs.Cmp.Lexicographic.{slice_cmp}
 use Rattle.std.specs.declared.cmp.Ordering.TheVariants.{Less, Equal, Greater}
-use Rattle.semver_core.specs.Values.Order.{id_cmp, pre_cmp}
+use Rattle.semver_core.specs.Values.Order.{id_cmp}
 use Rattle.semver_core.proofs.Text.Listed.{listed_none, listed_some}
 use Rattle.std.proofs.lemmas.Bool.Decides.{nat_tests}
 use Rattle.std.proofs.lemmas.Bool.{cases_Bool, eqb-true}
@@ -114,24 +114,6 @@ pub second_ends : (a b : List ℕ) → (length a == 0) ≡ false → (length b =
 second_ends a b x y = let s = spelled_some a x in rw (s.1.1, none_spelled b y) refl
 
 pub ruleset compared = (both_end, first_ends, second_ends)
-
-pub no_pre : (a b : List ℕ) → (length a == 0) ≡ true → (length b == 0) ≡ true → Equal ≡ pre_cmp (listed a) (listed b)
-no_pre a b x y = rw (none_spelled a x, none_spelled b y) refl
-
-pub first_pre : (a b : List ℕ) → (length a == 0) ≡ false → (length b == 0) ≡ true → Less ≡ pre_cmp (listed a) (listed b)
-first_pre a b x y = let s = spelled_some a x in rw (s.1.1, none_spelled b y) refl
-
-pub second_pre : (a b : List ℕ) → (length a == 0) ≡ true → (length b == 0) ≡ false → Greater ≡ pre_cmp (listed a) (listed b)
-second_pre a b x y = let s = spelled_some b y in rw (none_spelled a x, s.1.1) refl
-
-pub both_pre : (a b : List ℕ) → (length a == 0) ≡ false → (length b == 0) ≡ false
-    → slice_cmp id_cmp (listed a) (listed b) ≡ pre_cmp (listed a) (listed b)
-both_pre a b x y =
-    let s = spelled_some a x in
-    let t = spelled_some b y in
-    rw (s.1.1, t.1.1) refl
-
-pub ruleset pre_compared = (no_pre, first_pre, second_pre, both_pre)
 
 -- a text is empty where it spells none
 pub spelled_release : (text : List ℕ) → (length text == 0) ≡ is_empty (listed text)

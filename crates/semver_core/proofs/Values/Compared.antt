@@ -1,19 +1,38 @@
--- Comparing and hashing the identifiers of the program is comparing and hashing what contracts see of them.
-use Rattle.std.proofs.Common.{◌≡◌, ◌==◌, false, List, [], ◌∷◌, length, refl, ap}
+-- Comparing the identifiers of the program is comparing what contracts see of them.
+use Rattle.std.proofs.Common.{◌≡◌, true, false, List, [], ◌∷◌, refl, ap}
 use Rattle.std.specs.Cmp.Lexicographic.{slice_cmp}
 use Rattle.std.specs.Ordering.{ordering_then}
+use Rattle.std.specs.declared.cmp.Ordering.TheVariants.{Less, Equal, Greater}
+use Rattle.semver_core.specs.Lists.{is_empty}
+use Rattle.semver_core.specs.Text.Identifiers.{Id}
 use Rattle.semver_core.specs.Values.Order.{id_cmp, pre_cmp}
 use Rattle.semver_core.specs.Values.Views.{id_view, ids_view}
 use Rattle.semver_core.specs.declared.identifier.Identifier.{Identifier}
 
-ids_view_cmp : (xs ys : List Identifier) → slice_cmp (λ a b. id_cmp (id_view a) (id_view b)) xs ys ≡ slice_cmp id_cmp (ids_view xs) (ids_view ys)
+pub ids_view_cmp : (xs ys : List Identifier) → slice_cmp (λ a b. id_cmp (id_view a) (id_view b)) xs ys ≡ slice_cmp id_cmp (ids_view xs) (ids_view ys)
 ids_view_cmp [] [] = refl
 ids_view_cmp [] (y ∷ ys) = refl
 ids_view_cmp (x ∷ xs) [] = refl
 ids_view_cmp (x ∷ xs) (y ∷ ys) = ap (ordering_then (id_cmp (id_view x) (id_view y))) (ids_view_cmp xs ys)
 
-pub pre_view : (xs ys : List Identifier) → (length xs == 0) ≡ false → (length ys == 0) ≡ false
-    → slice_cmp (λ a b. id_cmp (id_view a) (id_view b)) xs ys ≡ pre_cmp (ids_view xs) (ids_view ys)
-pre_view [] ys h k = cc
-pre_view (x ∷ xs) [] h k = cc
-pre_view (x ∷ xs) (y ∷ ys) h k = ids_view_cmp (x ∷ xs) (y ∷ ys)
+pub no_pre : (xs ys : List Id) → is_empty xs ≡ true → is_empty ys ≡ true → Equal ≡ pre_cmp xs ys
+no_pre [] [] h k = refl
+no_pre [] (y ∷ ys) h k = cc
+no_pre (x ∷ xs) ys h k = cc
+
+pub first_pre : (xs ys : List Id) → is_empty xs ≡ false → is_empty ys ≡ true → Less ≡ pre_cmp xs ys
+first_pre [] ys h k = cc
+first_pre (x ∷ xs) [] h k = refl
+first_pre (x ∷ xs) (y ∷ ys) h k = cc
+
+pub second_pre : (xs ys : List Id) → is_empty xs ≡ true → is_empty ys ≡ false → Greater ≡ pre_cmp xs ys
+second_pre [] [] h k = cc
+second_pre [] (y ∷ ys) h k = refl
+second_pre (x ∷ xs) ys h k = cc
+
+pub both_pre : (xs ys : List Id) → is_empty xs ≡ false → is_empty ys ≡ false → slice_cmp id_cmp xs ys ≡ pre_cmp xs ys
+both_pre [] ys h k = cc
+both_pre (x ∷ xs) [] h k = cc
+both_pre (x ∷ xs) (y ∷ ys) h k = refl
+
+pub ruleset pre_compared = (no_pre, first_pre, second_pre, both_pre)

@@ -1,18 +1,21 @@
 // Lists of identifiers, one by one.
 
+ghost use Rattle.std.specs.Cmp.Lexicographic.{slice_cmp};
 ghost use Rattle.std.specs.Iterator.{item_count, YieldsFirstBy};
 ghost use Rattle.std.specs.Prelude.{◌≡◌, ◌∷◌, [], IfNone, IfSome, OnOk, length, true};
 ghost use Rattle.semver_core.specs.Internal.Borrowed.{HasText, id_ref_view};
 ghost use Rattle.semver_core.specs.Internal.Sources.{ids_of, IsSource};
 ghost use Rattle.semver_core.specs.Lists.{is_empty};
 ghost use Rattle.semver_core.specs.Text.Identifiers.{is_listed, listed};
+ghost use Rattle.semver_core.specs.Values.Order.{id_cmp};
 ghost use Rattle.semver_core.specs.Values.Views.{ids_view, lent_id_view};
 
-use crate::borrowed::order::{IdRef, first_id};
+use crate::borrowed::order::{IdRef, cmp_texts, first_id};
 use crate::version::lists::Identifiers;
 use crate::version::parts::copy_into;
 use crate::{Identifier, IdentifierRef, scan};
 use std::alloc::{AllocError, Global};
+use std::cmp::Ordering;
 use std::marker::Model;
 
 // Where identifiers stand: as items, or joined by dots in a text.
@@ -165,5 +168,39 @@ impl<'a> Iterator for IdentifierRefs<'a> {
         let (first, others) = split_first(self.source)?;
         self.source = others;
         Some(first)
+    }
+}
+
+// The order of two lists, identifier by identifier.
+#[inline(always)]
+#[tactic(auto, using(crate::proofs::Values::Compared::ids_view_cmp))]
+pub(crate) fn cmp_lists(a: IdentifierRefs<'_>, b: IdentifierRefs<'_>) -> Ordering
+    ensures { result ≡ slice_cmp id_cmp a.entry b.entry }
+{
+    match (a.source, b.source) {
+        (Source::Items(items), Source::Items(others)) => items.cmp(others),
+        (Source::Text(text), Source::Text(other)) => cmp_texts(text, other),
+        _ => cmp_mixed(a, b),
+    }
+}
+
+// The order of two lists of which one stands as items and the other in a text.
+fn cmp_mixed(a: IdentifierRefs<'_>, b: IdentifierRefs<'_>) -> Ordering
+    ensures { result ≡ slice_cmp id_cmp a.entry b.entry }
+{
+    let mut left = a;
+    let mut right = b;
+    'ids: loop {
+        match (left.next(), right.next()) {
+            (None, None) => return Ordering::Equal,
+            (None, Some(_)) => return Ordering::Less,
+            (Some(_), None) => return Ordering::Greater,
+            (Some(x), Some(y)) => {
+                let order = x.cmp(&y);
+                if order.is_ne() {
+                    return order;
+                }
+            }
+        }
     }
 }

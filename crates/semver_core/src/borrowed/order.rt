@@ -1,17 +1,14 @@
-// The order of versions that borrow the texts of their identifiers.
+// Identifiers that stand in a text, joined by dots, and their order.
 
-ghost use Rattle.std.specs.Cmp.{eq_by_cmp_equiv, partial_equiv_from_equiv, po};
 ghost use Rattle.std.specs.Cmp.Lexicographic.{slice_cmp};
-ghost use Rattle.std.specs.Prelude.{◌≡◌, ◌<◌, ◌≤◌, ◌∷◌, IsUtf8, Some, drop, length, refl};
+ghost use Rattle.std.specs.Prelude.{◌≡◌, ◌<◌, ◌≤◌, ◌∷◌, IsUtf8, Some, drop, length};
 ghost use Rattle.std.specs.Prelude.{take, true};
-ghost use Rattle.semver_core.specs.Internal.OrderLaws.{precedence_total};
 ghost use Rattle.semver_core.specs.Internal.CommonReading.{number_of_run, run_len};
 ghost use Rattle.semver_core.specs.Text.Identifiers.{identifier_of, is_listed, listed};
 ghost use Rattle.semver_core.specs.Internal.Borrowed.{HasText, id_ref_view};
-ghost use Rattle.semver_core.specs.Values.Order.{id_cmp, pre_cmp, precedence, version_eq};
+ghost use Rattle.semver_core.specs.Values.Order.{id_cmp};
 
-use crate::version::order::{Compared, by_precedence};
-use crate::{VersionRef, scan};
+use crate::scan;
 use std::cmp::Ordering;
 
 // An identifier that borrows its text.
@@ -86,9 +83,9 @@ pub(crate) fn cmp_ids(a: IdRef<'_>, b: IdRef<'_>) -> Ordering
     }
 }
 
-// The order of two lists, identifier by identifier.
+// The order of the lists that two texts spell, identifier by identifier.
 #[tactic(auto, using(crate::proofs::Text::Firsts::compared))]
-fn cmp_lists(a: &[u8], b: &[u8]) -> Ordering
+pub(crate) fn cmp_texts(a: &[u8], b: &[u8]) -> Ordering
     requires a { is_listed a.now ≡ true }
     requires b { is_listed b.now ≡ true }
     ensures { result ≡ slice_cmp id_cmp (listed a.now) (listed b.now) }
@@ -110,88 +107,5 @@ fn cmp_lists(a: &[u8], b: &[u8]) -> Ordering
         }
         left = others;
         right = rest;
-    }
-}
-
-// The order of two pre-releases.
-#[inline(never)]
-#[tactic(auto, using(crate::proofs::Text::Firsts::pre_compared))]
-fn cmp_pre(a: &[u8], b: &[u8]) -> Ordering
-    requires a { is_listed a.now ≡ true }
-    requires b { is_listed b.now ≡ true }
-    ensures { result ≡ pre_cmp (listed a.now) (listed b.now) }
-{
-    match (a.is_empty(), b.is_empty()) {
-        (true, true) => Ordering::Equal,
-        (true, false) => Ordering::Greater,
-        (false, true) => Ordering::Less,
-        (false, false) => cmp_lists(a, b),
-    }
-}
-
-impl<'a> Compared for VersionRef<'a> {
-    ghost seen = { λ v. v };
-
-    #[inline(always)]
-    fn first(&self) -> u64 {
-        self.major
-    }
-
-    #[inline(always)]
-    fn second(&self) -> u64 {
-        self.minor
-    }
-
-    #[inline(always)]
-    fn third(&self) -> u64 {
-        self.patch
-    }
-
-    #[inline(always)]
-    fn cmp_pre_release(&self, other: &VersionRef<'a>) -> Ordering {
-        cmp_pre(self.pre_release, other.pre_release)
-    }
-}
-
-/// Equality of the three numbers and the pre-releases, as that of `Version`.
-impl<'a> PartialEq for VersionRef<'a> {
-    ghost eq = { version_eq };
-
-    ghost laws = { partial_equiv_from_equiv (eq_by_cmp_equiv precedence_total) };
-
-    fn eq(&self, other: &VersionRef<'a>) -> bool {
-        self.cmp(other).is_eq()
-    }
-}
-
-/// Equality is reflexive, symmetric and transitive.
-impl<'a> Eq for VersionRef<'a> {
-    ghost laws = { eq_by_cmp_equiv precedence_total };
-}
-
-/// The order of `cmp`.
-impl<'a> PartialOrd for VersionRef<'a> {
-    ghost partial_cmp = { λ v w. Some (precedence v w) };
-
-    ghost laws = { po precedence_total (λ x y. refl) };
-
-    fn partial_cmp(&self, other: &VersionRef<'a>) -> Option<Ordering> {
-        Some(self.cmp(other))
-    }
-}
-
-/// The precedence of SemVer 2.0.0, item 11, as that of `Version`.
-impl<'a> Ord for VersionRef<'a> {
-    ghost cmp = { precedence };
-
-    ghost total = { precedence_total };
-
-    ghost matches_partial_cmp = { λ v w. refl };
-
-    ghost matches_eq = { λ v w. refl };
-
-    #[inline(always)]
-    fn cmp(&self, other: &VersionRef<'a>) -> Ordering {
-        by_precedence(self, other)
     }
 }

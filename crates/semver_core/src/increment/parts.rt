@@ -4,7 +4,7 @@ ghost use Rattle.std.specs.Prelude.{◌≡◌};
 ghost use Rattle.semver_core.specs.Internal.IncrementSteps.{parts_ref_value};
 ghost use Rattle.semver_core.specs.Values.Versions.{is_release, release_value};
 
-use crate::{IdentifierRefs, Version, VersionRef};
+use crate::{IdentifierRefs, Versioned};
 
 // The five values of a version, its identifiers where they stand.
 #[derive(Drop)]
@@ -18,21 +18,8 @@ pub(super) struct PartsRef<'a> {
 
 impl<'a> PartsRef<'a> {
     #[inline(always)]
-    pub(super) fn of(version: &'a Version) -> PartsRef<'a>
-        ensures { parts_ref_value result ≡ version.now }
-    {
-        PartsRef {
-            major: version.major(),
-            minor: version.minor(),
-            patch: version.patch(),
-            pre_release: IdentifierRefs::of_items(version.pre_release()),
-            build: IdentifierRefs::of_items(version.build()),
-        }
-    }
-
-    #[inline(always)]
-    pub(super) fn of_borrowed(version: &VersionRef<'a>) -> PartsRef<'a>
-        ensures { parts_ref_value result ≡ version.now }
+    pub(super) fn of<V: Versioned>(version: &'a V) -> PartsRef<'a>
+        ensures { parts_ref_value result ≡ V.value version.now }
     {
         PartsRef {
             major: version.major(),

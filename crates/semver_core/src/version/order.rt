@@ -1,100 +1,37 @@
 // The order of versions, their equality and hash. Build metadata counts in none.
 
-ghost use Rattle.std.specs.Prelude.{◌≡◌, ◌++◌, Some, refl};
+ghost use Rattle.std.specs.Prelude.{◌≡◌, Some, refl};
 ghost use Rattle.std.specs.Hash as fed;
 ghost use Rattle.std.specs.List.{fold};
 ghost use Rattle.std.specs.Cmp.{eq_by_cmp_equiv, partial_equiv_from_equiv, po};
 ghost use Rattle.semver_core.specs.Internal.Hashes.{id_writes, version_writes};
-ghost use Rattle.std.specs.Ordering.{nat_cmp, ordering_then};
-ghost use Rattle.semver_core.specs.Values.Order.{precedence, pre_cmp, version_eq};
-ghost use Rattle.semver_core.specs.Values.Versions.{VersionValue};
+ghost use Rattle.semver_core.specs.Values.Order.{pre_cmp, precedence, version_eq};
 ghost use Rattle.semver_core.specs.Internal.OrderLaws.{precedence_total, version_alike};
-ghost use Rattle.semver_core.specs.Values.Views.{ids_view};
 
-use crate::{Identifier, IdentifierRefs, Version, VersionRef};
+use crate::borrowed::identifiers::cmp_lists;
+use crate::{IdentifierRefs, Version, VersionRef, Versioned};
 use std::cmp::Ordering;
 use std::hash::{Hash, Hasher};
 
-// What the order looks at in a version, whether it owns its identifiers or borrows its text.
-pub(crate) trait Compared {
-    // The version as contracts see it.
-    ghost seen: { Self → VersionValue };
-
-    fn first(&self) -> u64
-        ensures { result ≡ (seen self.now).major };
-
-    fn second(&self) -> u64
-        ensures { result ≡ (seen self.now).minor };
-
-    fn third(&self) -> u64
-        ensures { result ≡ (seen self.now).patch };
-
-    fn cmp_pre_release(&self, other: &Self) -> Ordering
-        ensures { result ≡ pre_cmp (seen self.now).pre_release (seen other.now).pre_release };
-}
-
-// The precedence of SemVer 2.0.0, item 11: the three numbers, then a pre-release below its release,
-// then the identifiers of two pre-releases one by one.
-#[inline(always)]
-pub(crate) fn by_precedence<V: Compared>(v: &V, w: &V) -> Ordering
-    ensures { result ≡ precedence (V.seen v.now) (V.seen w.now) }
-{
-    match v.first().cmp(&w.first()) {
-        Ordering::Equal => by_minor(v, w),
-        order => order,
-    }
-}
-
-// The order of versions of the same first number.
-#[inline(always)]
-fn by_minor<V: Compared>(v: &V, w: &V) -> Ordering
-    ensures { result ≡ ordering_then (nat_cmp (V.seen v.now).minor (V.seen w.now).minor)
-        (ordering_then (nat_cmp (V.seen v.now).patch (V.seen w.now).patch)
-        (pre_cmp (V.seen v.now).pre_release (V.seen w.now).pre_release)) }
-{
-    match v.second().cmp(&w.second()) {
-        Ordering::Equal => match v.third().cmp(&w.third()) {
-            Ordering::Equal => v.cmp_pre_release(w),
-            order => order,
-        },
-        order => order,
-    }
-}
-
-impl Compared for Version {
-    ghost seen = { λ v. v };
-
-    #[inline(always)]
-    fn first(&self) -> u64 {
-        self.major()
-    }
-
-    #[inline(always)]
-    fn second(&self) -> u64 {
-        self.minor()
-    }
-
-    #[inline(always)]
-    fn third(&self) -> u64 {
-        self.patch()
-    }
-
-    #[inline(always)]
-    fn cmp_pre_release(&self, other: &Version) -> Ordering {
-        cmp_pre(self.pre_release(), other.pre_release())
-    }
-}
-
+// The order of the pre-releases of two versions of any kinds.
 #[inline(never)]
-#[tactic(auto, using(crate::proofs::Values::Compared::pre_view))]
-fn cmp_pre(a: &[Identifier], b: &[Identifier]) -> Ordering
-    ensures { result ≡ pre_cmp (ids_view a.now) (ids_view b.now) }
+pub(crate) fn cmp_pre<V: Versioned, W: Versioned>(v: &V, w: &W) -> Ordering
+    ensures { result ≡ pre_cmp (V.value v.now).pre_release (W.value w.now).pre_release }
+{
+    cmp_pre_lists(v.pre_release(), w.pre_release())
+}
+
+// The order of two pre-releases.
+#[inline(always)]
+#[tactic(auto, using(crate::proofs::Values::Compared::pre_compared))]
+fn cmp_pre_lists(a: IdentifierRefs<'_>, b: IdentifierRefs<'_>) -> Ordering
+    ensures { result ≡ pre_cmp a.entry b.entry }
 {
     match (a.is_empty(), b.is_empty()) {
         (true, true) => Ordering::Equal,
         (true, false) => Ordering::Greater,
         (false, true) => Ordering::Less,
-        (false, false) => a.cmp(b),
+        (false, false) => cmp_lists(a, b),
     }
 }
 
@@ -139,7 +76,50 @@ impl Ord for Version {
 
     #[inline(always)]
     fn cmp(&self, other: &Version) -> Ordering {
-        by_precedence(self, other)
+        self.cmp_precedence(other)
+    }
+}
+
+/// Equality of the three numbers and the pre-releases, as that of `Version`.
+impl<'a> PartialEq for VersionRef<'a> {
+    ghost eq = { version_eq };
+
+    ghost laws = { partial_equiv_from_equiv (eq_by_cmp_equiv precedence_total) };
+
+    fn eq(&self, other: &VersionRef<'a>) -> bool {
+        self.cmp(other).is_eq()
+    }
+}
+
+/// Equality is reflexive, symmetric and transitive.
+impl<'a> Eq for VersionRef<'a> {
+    ghost laws = { eq_by_cmp_equiv precedence_total };
+}
+
+/// The order of `cmp`.
+impl<'a> PartialOrd for VersionRef<'a> {
+    ghost partial_cmp = { λ v w. Some (precedence v w) };
+
+    ghost laws = { po precedence_total (λ x y. refl) };
+
+    fn partial_cmp(&self, other: &VersionRef<'a>) -> Option<Ordering> {
+        Some(self.cmp(other))
+    }
+}
+
+/// The precedence of SemVer 2.0.0, item 11, as that of `Version`.
+impl<'a> Ord for VersionRef<'a> {
+    ghost cmp = { precedence };
+
+    ghost total = { precedence_total };
+
+    ghost matches_partial_cmp = { λ v w. refl };
+
+    ghost matches_eq = { λ v w. refl };
+
+    #[inline(always)]
+    fn cmp(&self, other: &VersionRef<'a>) -> Ordering {
+        self.cmp_precedence(other)
     }
 }
 
@@ -150,8 +130,7 @@ impl Hash for Version {
     ghost respects_eq = { version_alike };
 
     fn hash<H: Hasher>(&self, state: &mut H) {
-        let pre_release = IdentifierRefs::of_items(self.pre_release());
-        hash_values(self.major(), self.minor(), self.patch(), pre_release, state);
+        hash_version(self, state);
     }
 }
 
@@ -162,13 +141,7 @@ impl<'a> Hash for VersionRef<'a> {
     ghost respects_eq = { version_alike };
 
     fn hash<H: Hasher>(&self, state: &mut H) {
-        hash_values(
-            self.major(),
-            self.minor(),
-            self.patch(),
-            self.pre_release(),
-            state,
-        );
+        hash_version(self, state);
     }
 }
 
@@ -184,18 +157,11 @@ fn hash_ids<H: Hasher>(ids: IdentifierRefs<'_>, state: &mut H)
 }
 
 // Hashes what counts of a version.
-fn hash_values<H: Hasher>(
-    major: u64,
-    minor: u64,
-    patch: u64,
-    pre_release: IdentifierRefs<'_>,
-    state: &mut H,
-)
-    ensures { state.new ≡ fold H.write state.old (fed.u64 major ++ (fed.u64 minor
-        ++ (fed.u64 patch ++ fed.slice id_writes pre_release.entry))) }
+fn hash_version<V: Versioned, H: Hasher>(version: &V, state: &mut H)
+    ensures { state.new ≡ fold H.write state.old (version_writes (V.value version.now)) }
 {
-    major.hash(state);
-    minor.hash(state);
-    patch.hash(state);
-    hash_ids(pre_release, state);
+    version.major().hash(state);
+    version.minor().hash(state);
+    version.patch().hash(state);
+    hash_ids(version.pre_release(), state);
 }

@@ -1,4 +1,4 @@
-// What a version that owns its identifiers and one that borrows its text have in common.
+// What versions of every kind have in common, and what is written once for all of them.
 
 ghost use Rattle.std.specs.Fmt.{DisplaysStyledOnOk};
 ghost use Rattle.std.specs.Prelude.{◌≡◌, Some, refl};
@@ -7,11 +7,14 @@ ghost use Rattle.semver_core.specs.Values.Order.{precedence};
 ghost use Rattle.semver_core.specs.Values.Versions.{VersionValue, is_release};
 
 use crate::cuts::Point;
-use crate::{Version, VersionRef};
+use crate::print::{write_lists, write_numbers};
+use crate::version::order::cmp_pre;
+use crate::{IdentifierRefs, Version, VersionRef};
+use std::cmp::Ordering;
 use std::fmt;
 
-/// A version, whether it owns its identifiers or borrows its text.
-pub trait Versioned: Point {
+/// A version of any kind: one that owns its identifiers, or one that borrows its text.
+pub trait Versioned {
     /// The version as contracts see it.
     ghost value: { Self → VersionValue };
 
@@ -27,24 +30,61 @@ pub trait Versioned: Point {
     fn patch(&self) -> u64
         ensures { result ≡ (value self.now).patch };
 
+    /// The identifiers of the pre-release, where they stand; none where the version is a release.
+    fn pre_release(&self) -> IdentifierRefs<'_>
+        ensures { result ≡ (value self.now).pre_release };
+
+    /// The identifiers of the build metadata, where they stand.
+    fn build(&self) -> IdentifierRefs<'_>
+        ensures { result ≡ (value self.now).build };
+
     /// Whether the version has no pre-release.
-    fn is_release(&self) -> bool
-        ensures { result ≡ is_release (value self.now) };
+    #[inline(always)]
+    final fn is_release(&self) -> bool
+        ensures { result ≡ is_release (value self.now) }
+    {
+        self.pre_release().is_empty()
+    }
+
+    /// The precedence of SemVer 2.0.0, item 11, of two versions of any kinds: the three numbers,
+    /// then a pre-release below its release, then the identifiers of two pre-releases one by one.
+    /// The identifiers are looked at only where the numbers are equal.
+    #[inline(always)]
+    final fn cmp_precedence<W: Versioned>(&self, other: &W) -> Ordering
+        ensures { result ≡ precedence (value self.now) (W.value other.now) }
+    {
+        match self.major().cmp(&other.major()) {
+            Ordering::Equal => match self.minor().cmp(&other.minor()) {
+                Ordering::Equal => match self.patch().cmp(&other.patch()) {
+                    Ordering::Equal => cmp_pre(self, other),
+                    order => order,
+                },
+                order => order,
+            },
+            order => order,
+        }
+    }
 
     /// Prints the version, as its `Display` does.
-    fn print<W: fmt::Write>(&self, f: &mut fmt::Formatter<W>) -> fmt::Result
+    final fn print<W: fmt::Write>(&self, f: &mut fmt::Formatter<W>) -> fmt::Result
         ensures { DisplaysStyledOnOk W.write_str_gives f.old result
-            (Some (version_text (value self.now))) f.new };
+            (Some (version_text (value self.now))) f.new }
+    {
+        write_numbers(self.major(), self.minor(), self.patch(), f)?;
+        write_lists(self.pre_release(), self.build(), f)
+    }
+}
 
+/// A kind of version whose own order, that of the bounds of intervals, is the precedence of
+/// versions.
+pub trait VersionPoint: Versioned + Point {
     /// The order is the precedence of versions.
-    ghost ordered: { (v w : Self) → Self.cmp v w ≡ precedence (value v) (value w) };
+    ghost ordered: { (v w : Self) → Self.cmp v w ≡ precedence (Self.value v) (Self.value w) };
 }
 
 /// A version is its own value.
 impl Versioned for Version {
     ghost value = { λ v. v };
-
-    ghost ordered = { λ v w. refl };
 
     fn major(&self) -> u64 {
         Version::major(self)
@@ -58,20 +98,24 @@ impl Versioned for Version {
         Version::patch(self)
     }
 
-    fn is_release(&self) -> bool {
-        Version::is_release(self)
+    #[inline(always)]
+    fn pre_release(&self) -> IdentifierRefs<'_> {
+        IdentifierRefs::of_items(Version::pre_release(self))
     }
 
-    fn print<W: fmt::Write>(&self, f: &mut fmt::Formatter<W>) -> fmt::Result {
-        fmt::Display::fmt(self, f)
+    #[inline(always)]
+    fn build(&self) -> IdentifierRefs<'_> {
+        IdentifierRefs::of_items(Version::build(self))
     }
+}
+
+impl VersionPoint for Version {
+    ghost ordered = { λ v w. refl };
 }
 
 /// A borrowed version is, in clauses, the value already.
 impl<'a> Versioned for VersionRef<'a> {
     ghost value = { λ v. v };
-
-    ghost ordered = { λ v w. refl };
 
     #[inline(always)]
     fn major(&self) -> u64 {
@@ -89,11 +133,16 @@ impl<'a> Versioned for VersionRef<'a> {
     }
 
     #[inline(always)]
-    fn is_release(&self) -> bool {
-        VersionRef::is_release(self)
+    fn pre_release(&self) -> IdentifierRefs<'_> {
+        VersionRef::pre_release(self)
     }
 
-    fn print<W: fmt::Write>(&self, f: &mut fmt::Formatter<W>) -> fmt::Result {
-        fmt::Display::fmt(self, f)
+    #[inline(always)]
+    fn build(&self) -> IdentifierRefs<'_> {
+        VersionRef::build(self)
     }
+}
+
+impl<'a> VersionPoint for VersionRef<'a> {
+    ghost ordered = { λ v w. refl };
 }

@@ -1,7 +1,9 @@
 // Versions that borrow their text: each call once, and that they agree with versions of their own.
 
 use super::{is_same, prints};
-use nodejs_semver::{IdentifierRef, IdentifierRefs, RangeRef, Version, VersionDiff, VersionRef};
+use nodejs_semver::{
+    IdentifierRef, IdentifierRefs, RangeRef, Version, VersionDiff, VersionRef, Versioned,
+};
 use std::alloc::Global;
 use std::cmp::Ordering;
 use std::hash::{DefaultHasher, Hash, Hasher};
@@ -97,9 +99,11 @@ pub fn hash_of<T: Hash>(value: &T) -> u64 {
     state.finish()
 }
 
-// Whether two versions compare, hash and differ alike, borrowed and not.
+// Whether two versions compare, hash and differ alike, borrowed and not, and one of each kind.
 fn are_alike(one: &VersionRef<'_>, other: &VersionRef<'_>, owned: (&Version, &Version)) -> bool {
     one.cmp(other) == owned.0.cmp(owned.1)
+        && one.cmp(other) == one.cmp_precedence(owned.1)
+        && one.cmp(other) == owned.0.cmp_precedence(other)
         && (one == other) == (owned.0 == owned.1)
         && one.diff(other) == owned.0.diff(owned.1)
         && hash_of(one) == hash_of(owned.0)

@@ -3,5 +3,5 @@ use Rattle.semver_core.proofs.borrowed.VersionRef.inc.Goals as goal
 
 pub returns : goal.returns
 returns c =
-    rw (← c.of_borrowed.ensures)
+    rw (← c.of.ensures)
     (record { value = c.increment.ensures.value; memory = memory_of _ _ c.increment.ensures.memory })

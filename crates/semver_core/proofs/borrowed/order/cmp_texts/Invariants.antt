@@ -2,7 +2,7 @@ use Rattle.std.proofs.Common.{◌≡◌, length, true}
 use Rattle.std.specs.Cmp.Lexicographic.{slice_cmp}
 use Rattle.semver_core.specs.Text.Identifiers.{is_listed, listed}
 use Rattle.semver_core.specs.Values.Order.{id_cmp}
-use Rattle.semver_core.proofs.borrowed.order.cmp_lists.Given as goal
+use Rattle.semver_core.proofs.borrowed.order.cmp_texts.Given as goal
 
 abbrev pub invariant-ids : goal.invariant-ids
 invariant-ids l = record {
