@@ -10,7 +10,8 @@ import subprocess
 
 TOP = os.path.realpath(os.path.join(os.path.dirname(os.path.realpath(__file__)), ".."))
 PAGE = "docs/WRONG_BODIES.md"
-HEADER = re.compile(r"^( *)(?:#\[[^\n]*\] )?(?:pub(?:\([^)]*\))? )?(?:const )?(?:unsafe )?fn (\w+)", re.M)
+HEADER = re.compile(r"^( *)(?:#\[[^\n]*\] )?(?:pub(?:\([^)]*\))? )?(?:final )?(?:const )?(?:unsafe )?fn (\w+)", re.M)
+BLOCK = re.compile(r"^(?:impl\b.*?(?=\{|where|$)|(?:pub(?:\([^)]*\))? )?trait \w+)", re.M)
 
 
 def text_of(path):
@@ -41,11 +42,11 @@ class Place:
     def __init__(self, crate, folder, file, above):
         """The place of the last function that begins in a text, which is the front of a file."""
         head = HEADER.findall(above)[-1]
-        self.name, block = head[1], re.findall(r"^impl\b.*?(?=\{|where|$)", above, re.M) if head[0] else []
+        self.name, block = head[1], BLOCK.findall(above) if head[0] else []
         self.module = [it for it in file[len("src/") : -len(".rt")].split("/") if it not in ("lib", "main")]
         self.crate, self.owner, self.trait = crate, "", ""
         if block:
-            words = re.sub(r"<[^<>]*(?:<[^<>]*>[^<>]*)*>", "", block[-1][len("impl") :]).strip().split(" for ")
+            words = re.sub(r"^(?:impl|.*?\btrait)\b|<[^<>]*(?:<[^<>]*>[^<>]*)*>", "", block[-1]).strip().split(" for ")
             self.owner = words[-1].strip().split("::")[-1]
             self.trait = words[0].strip().split("::")[-1] if len(words) > 1 else ""
         if self.owner and not self.trait:
