@@ -2,17 +2,13 @@
 //! anything, else; no caller needs this module.
 
 mod intervals;
-mod lists;
-mod next;
 mod order;
 mod printing;
 mod reading;
 mod whitespace;
 
 pub use crate::laws::intervals::intervals_equal;
-pub use crate::laws::lists::divided_lists;
-pub use crate::laws::next::next_versions;
-pub use crate::laws::order::{identifiers_in_order, total_order, versions_in_order};
+pub use crate::laws::order::{identifiers_in_order, order_and_increments, versions_in_order};
 pub use crate::laws::printing::{
     identifier_in_field, printed_versions_come_back, reread, version_in_field,
 };

@@ -261,7 +261,7 @@ pub(crate) fn scan_run(bytes: &[u8], start: usize) -> (usize, Option<u64>)
     (bytes.len(), Some(number))
 }
 
-// The same in a text, where a run begins at the place.
+// Where the run that begins at a place of a text ends, and the number that it writes, if any.
 #[inline(always)]
 fn run_in(text: &str, start: usize) -> (usize, Option<u64>)
     requires place { start ≤ length text.now }
@@ -324,7 +324,7 @@ pub fn identifiers(
     read_list(alloc, text, at)
 }
 
-// The same as a function of the text.
+// The list at a place and the place behind it, or nothing, as `list_at` computes it from the text.
 pub(crate) fn read_list(
     alloc: Global,
     text: &str,

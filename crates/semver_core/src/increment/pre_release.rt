@@ -47,7 +47,7 @@ pub(super) fn advance(
 }
 
 // The fourth step: the list, or the one that the identifier begins.
-pub(super) fn identify(
+pub(super) fn put_identifier(
     alloc: Global,
     list: &mut Identifiers,
     id: &str,
@@ -59,7 +59,7 @@ pub(super) fn identify(
     if id.is_empty() || is_kept(id, list) {
         Ok(())
     } else {
-        begin(alloc, list, id, base)
+        new_list(alloc, list, id, base)
     }
 }
 
@@ -176,7 +176,7 @@ fn push_part(text: &mut String, first: bool, id: &Identifier) -> Result<(), Allo
 }
 
 // The list that an identifier begins, in place of another one.
-fn begin(
+fn new_list(
     alloc: Global,
     list: &mut Identifiers,
     id: &str,

@@ -11,7 +11,7 @@ ghost use Rattle.semver_core.specs.Values.Versions.{HasIdentifiers};
 ghost use Rattle.semver_core.specs.Values.Views.{ids_view};
 
 use crate::increment::parts::PartsRef;
-use crate::increment::pre_release::{advance, identify, unless_overflow};
+use crate::increment::pre_release::{advance, put_identifier, unless_overflow};
 use crate::increment::{IdentifierBase, IncrementError, one_more, refused_argument};
 use crate::version::lists::{Lists, Qualifier};
 use crate::{Failure, IdentifierRefs, Version};
@@ -213,7 +213,7 @@ fn step_lists(
         (spec.advance version.now.pre_release id.now base)) }
 {
     advance(alloc, &mut lists.pre_release, id, base)?;
-    identify(alloc, &mut lists.pre_release, id, base)?;
+    put_identifier(alloc, &mut lists.pre_release, id, base)?;
     version.build.copy_into(alloc, &mut lists.build)?;
     Ok(())
 }

@@ -1,10 +1,15 @@
-// What the comparisons of the program say, in the words of the definitions.
+// What the comparisons of the program say, in the words of the definitions, and laws of the order.
 
 ghost use Rattle.std.specs.Ordering.{is_le};
-ghost use Rattle.std.specs.Prelude.{◌≡◌, ◌↔◌, ◌||◌, IsTrue, true};
+ghost use Rattle.std.specs.Prelude.{◌≡◌, ◌↔◌, ◌||◌, ◌<◌, ◌+◌, ◌-◌, ◌^◌, ◌∷◌, ◌++◌, [], ℕ, List};
+ghost use Rattle.std.specs.Prelude.{Err, IsTrue, Ok, false, length, true};
 ghost use Rattle.std.specs.declared.cmp.Ordering.TheVariants.{Equal};
+ghost use Rattle.semver_core.specs.Increments.Least.{IsAbove, IsLeastVersion};
+ghost use Rattle.semver_core.specs.Increments.Table.{Overflow, asked, has_numeric, is_kept};
+ghost use Rattle.semver_core.specs.Increments.Table.{raise_last};
+ghost use Rattle.semver_core.specs.Text.Identifiers.{Id, Numeric};
 ghost use Rattle.semver_core.specs.Values.Order.{id_cmp, precedence};
-ghost use Rattle.semver_core.specs.Values.Versions.{VersionValue};
+ghost use Rattle.semver_core.specs.Values.Versions.{VersionValue, IsVersion, release_value};
 ghost use Rattle.semver_core.specs.Values.Views.{id_view};
 
 use crate::{Identifier, Version};
@@ -30,9 +35,19 @@ pub fn versions_in_order(first: &Version, second: &Version) -> (Ordering, bool)
 }
 
 /// The order of versions is total, and two versions tie in it exactly where their numbers and their
-/// pre-releases are equal. A caller that needs these facts in a proof calls this function, which
-/// does nothing at run time.
-pub fn total_order()
+/// pre-releases are equal.
+///
+/// The smallest version is 0.0.0-0: it is not above any version. Nothing lies between a pre-release
+/// and the one with one more identifier, the number 0, nor between a release and the pre-release 0
+/// of the next patch, if there is one.
+///
+/// How `inc` goes on with a pre-release list, by dividing it: the last number of a list rises by
+/// one, which overflows at the greatest number of 64 bits; what stands before it and behind it
+/// stays. A list is kept under an identifier exactly if it is what the identifier matches, a
+/// number, and any rest.
+///
+/// A caller that needs these facts in a proof calls this function, which does nothing at run time.
+pub fn order_and_increments()
     ensures reflexive { (v : VersionValue) → is_le (precedence v v) ≡ true }
     ensures antisymmetric { (v w : VersionValue) → is_le (precedence v w) ≡ true
         → is_le (precedence w v) ≡ true → precedence v w ≡ Equal }
@@ -43,4 +58,19 @@ pub fn total_order()
     ensures tied { (v w : VersionValue) → (precedence v w ≡ Equal)
         ↔ ((v.major ≡ w.major) × (v.minor ≡ w.minor) × (v.patch ≡ w.patch)
         × (v.pre_release ≡ w.pre_release)) }
+    ensures first { (v : VersionValue) → is_le (precedence
+        (record (release_value 0 0 0) { pre_release = Numeric 0 ∷ [] }) v) ≡ true }
+    ensures pre_release { (v : VersionValue) → IsVersion v → 0 < length v.pre_release
+        → IsLeastVersion (IsAbove v)
+        (record v { pre_release = v.pre_release ++ Numeric 0 ∷ [] }) }
+    ensures release { (v : VersionValue) → IsVersion v → v.pre_release ≡ []
+        → v.patch < 2 ^ 64 - 1
+        → IsLeastVersion (IsAbove v)
+        (record v { patch = v.patch + 1; pre_release = Numeric 0 ∷ [] }) }
+    ensures raised { (front back : List Id) (n : ℕ) → has_numeric back ≡ false → n < 2 ^ 64 - 1
+        → raise_last (front ++ Numeric n ∷ back) ≡ Ok (front ++ Numeric (n + 1) ∷ back) }
+    ensures overflow { (front back : List Id) → has_numeric back ≡ false
+        → raise_last (front ++ Numeric (2 ^ 64 - 1) ∷ back) ≡ Err Overflow }
+    ensures kept { (id : List ℕ) (list : List Id) → IsTrue (is_kept id list)
+        ↔ ((n : ℕ) × (rest : List Id) × (list ≡ asked id ∷ Numeric n ∷ rest)) }
 {}

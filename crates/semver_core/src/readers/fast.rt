@@ -27,7 +27,7 @@ fn small_len(bytes: &[u8]) -> usize
 
 // A number with a dot behind it, and the place behind the dot.
 #[inline(always)]
-fn part(bytes: &[u8], at: usize) -> Option<(u64, usize)>
+fn number_and_dot(bytes: &[u8], at: usize) -> Option<(u64, usize)>
     requires { at ≤ length bytes.now }
     ensures found { result ≡ part_at MAX_SAFE_INTEGER bytes.now at }
     ensures place { IfSome result (λ found. found.1 ≤ length bytes.now) }
@@ -44,8 +44,8 @@ pub(crate) fn three(bytes: &[u8], at: usize) -> Option<(u64, u64, u64, usize)>
     ensures found { result ≡ triple_at MAX_SAFE_INTEGER bytes.now at }
     ensures place { IfSome result (λ found. found.3 ≤ length bytes.now) }
 {
-    let (major, second) = part(bytes, at)?;
-    let (minor, third) = part(bytes, second)?;
+    let (major, second) = number_and_dot(bytes, at)?;
+    let (minor, third) = number_and_dot(bytes, second)?;
     let (patch, end) = scan::digits(bytes, third)?;
     Some((major, minor, patch, end))
 }
@@ -64,7 +64,7 @@ pub(crate) fn numbers(text: &str) -> Option<(u64, u64, u64, usize)>
 // The version of three numbers and the qualifier that goes from a place to the end of the text.
 #[inline(never)]
 #[tactic(auto, using(crate::proofs::Text::Whole::lists_behind))]
-fn qualified(
+fn version_of_whole(
     alloc: Global,
     text: &str,
     major: u64,
@@ -92,7 +92,7 @@ fn begins_qualifier(bytes: &[u8], at: usize) -> bool
     scan::is_identifier_char(bytes[at]) || bytes[at] == b'+'
 }
 
-// The same as a function of the text.
+// The version of a common text, or nothing, as `common_of` computes it from the text.
 #[inline(always)]
 fn read(alloc: Global, text: &str) -> Result<Option<Version>, AllocError>
     ensures found { IfOk result (λ found. found ≡ common_of MAX_SAFE_INTEGER text.now) }
@@ -108,7 +108,7 @@ fn read(alloc: Global, text: &str) -> Result<Option<Version>, AllocError>
     if !begins_qualifier(text.as_bytes(), end) {
         return Ok(None);
     }
-    qualified(alloc, text, major, minor, patch, end)
+    version_of_whole(alloc, text, major, minor, patch, end)
 }
 
 /// Reads a common version text, of any length: `v` or nothing, three numbers joined by dots, a

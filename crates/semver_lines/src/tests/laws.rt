@@ -11,8 +11,7 @@ use std::cmp::Ordering;
 #[test]
 fn laws_of_texts_of_versions(rt: HostRuntime) {
     core_laws::whitespace_ends();
-    core_laws::divided_lists();
-    core_laws::next_versions();
+    core_laws::order_and_increments();
     core_laws::one_reading("1.2.3");
     core_laws::larger_limits("1.2.900719925474099");
     core_laws::common_reads_alike("1.2.3-a");

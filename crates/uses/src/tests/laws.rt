@@ -5,14 +5,14 @@ ghost use Rattle.std.specs.Ordering.{is_le};
 ghost use Rattle.std.specs.Prelude.{◌≡◌, IsTrue, true};
 
 use nodejs_semver::{Version, laws};
-use semver_core::laws::total_order;
+use semver_core::laws::order_and_increments;
 use std::test::Fail;
 
 // Whether three versions rise. If they do, then the first is not above the last.
 fn rise(one: &Version, other: &Version, last: &Version) -> bool
     ensures { IsTrue result → is_le (precedence one.now last.now) ≡ true }
 {
-    total_order();
+    order_and_increments();
     one <= other && other <= last
 }
 

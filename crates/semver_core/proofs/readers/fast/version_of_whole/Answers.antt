@@ -1,6 +1,6 @@
 use Rattle.std.proofs.Common.{sym}
 use Rattle.semver_core.proofs.Text.Whole.{lists_left}
-use Rattle.semver_core.proofs.readers.fast.qualified.Goals as goal
+use Rattle.semver_core.proofs.readers.fast.version_of_whole.Goals as goal
 
 pub returns-then-end-text-clause-found : goal.returns-then-end-text-clause-found
 returns-then-end-text-clause-found c =
