@@ -9,7 +9,8 @@ use Rattle.semver_core.specs.Values.Order.{id_cmp, pre_cmp}
 use Rattle.semver_core.specs.Values.Views.{id_view, ids_view}
 use Rattle.semver_core.specs.declared.identifier.Identifier.{Identifier}
 
-pub ids_view_cmp : (xs ys : List Identifier) → slice_cmp (λ a b. id_cmp (id_view a) (id_view b)) xs ys ≡ slice_cmp id_cmp (ids_view xs) (ids_view ys)
+pub ids_view_cmp : (xs ys : List Identifier)
+    → slice_cmp (λ a b. id_cmp (id_view a) (id_view b)) xs ys ≡ slice_cmp id_cmp (ids_view xs) (ids_view ys)
 ids_view_cmp [] [] = refl
 ids_view_cmp [] (y ∷ ys) = refl
 ids_view_cmp (x ∷ xs) [] = refl

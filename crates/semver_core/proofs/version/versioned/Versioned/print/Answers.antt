@@ -6,5 +6,6 @@ pub returns : goal.returns
 returns g c flush ok =
     let numbers = c.in_ok-write_numbers.ensures flush refl in
     has_written_styled_of_eq _ _ _ _ _
-    (rw (c.major.ensures, c.minor.ensures, c.patch.ensures, c.pre_release.ensures, c.build.ensures) (simp append_assoc (search rules)))
+    (rw (c.major.ensures, c.minor.ensures, c.patch.ensures, c.pre_release.ensures, c.build.ensures)
+    (simp append_assoc (search rules)))
     (has_written_styled_append _ _ _ _ _ _ numbers (c.write_lists.ensures numbers.flush ok))
