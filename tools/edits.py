@@ -103,6 +103,7 @@ class Edit:
                 raise SystemExit(f"{self}: the text stands {text.count(old)} times: {old}")
             self.places += [it for it in [self.place_of(file, text, old)] if it and it not in self.places]
             texts[file] = text.replace(old, new)
+        self.is_alone = not self.places
 
     def __str__(self):
         return f"{self.crate}/{self.name}"
