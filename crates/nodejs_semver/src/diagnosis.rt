@@ -3,9 +3,9 @@
 //! The grammar is lenient: `5.0.0.9 oops` is the version 5.0.0, and `>=1.0.0, <2.0.0` is the range
 //! `<2.0.0`. `parse` does not say so; the calls here do. They allocate nothing.
 
-mod left;
 mod messages;
 mod ranges;
+mod unread;
 mod versions;
 
 pub use crate::diagnosis::ranges::{IgnoredKind, IgnoredWord, IgnoredWords, ignored_words};

@@ -8,7 +8,4 @@ mod texts;
 
 pub use crate::laws::outside::outside_by_cuts;
 pub use crate::laws::printing::{printed_in_field, printed_ranges_come_back, reread_range};
-pub use crate::laws::texts::{
-    both_readers, common_ranges, intervals_hold_what_is_written, longest_partials, numbers,
-    one_meaning, partials, parts, runs, words, words_at, written,
-};
+pub use crate::laws::texts::{both_readers, grammar, meaning};

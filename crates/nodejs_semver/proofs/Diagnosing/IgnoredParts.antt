@@ -8,7 +8,7 @@ use Rattle.nodejs_semver.specs.Internal.Ignored.{all_ignored, ignored_behind, ig
 use Rattle.nodejs_semver.specs.Internal.Ignored.{kind_at, left_list, option_list, part_end}
 use Rattle.nodejs_semver.specs.Internal.PartFronts.{front_part, left_over}
 use Rattle.nodejs_semver.specs.Internal.Readings.{rest_view}
-use Rattle.nodejs_semver.specs.declared.diagnosis.left.Left.{Left}
+use Rattle.nodejs_semver.specs.declared.diagnosis.unread.Unread.{Unread}
 use Rattle.nodejs_semver.specs.declared.diagnosis.ranges.IgnoredKind.{IgnoredKind}
 use Rattle.nodejs_semver.specs.declared.diagnosis.ranges.IgnoredWord.{IgnoredWord}
 use Rattle.nodejs_semver.proofs.Dividing.BarLemmas.{bars_room, cut_bars-front}
@@ -48,7 +48,7 @@ behind-shorter limit [] some h = absurd (omega arith)
 behind-shorter limit (b ∷ rest) some h = word-shorter limit b rest h
 
 -- the part has ended
-pub part_over : (l : Left) (o : Option (List ℕ)) → length l.part.now ≡ 0 → rest_view l.behind ≡ o
+pub part_over : (l : Unread) (o : Option (List ℕ)) → length l.part.now ≡ 0 → rest_view l.behind ≡ o
     → left_list l ≡ ignored_behind MAX_SAFE_INTEGER l.end o
 part_over l o none e = grind (arith, ignored_nil)
 

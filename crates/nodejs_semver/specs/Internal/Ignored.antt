@@ -8,7 +8,7 @@ use Rattle.nodejs_semver.specs.Internal.PartFronts.{left_over}
 use Rattle.nodejs_semver.specs.Internal.Parts.{cut_bars}
 use Rattle.nodejs_semver.specs.Internal.Readings.{rest_view}
 use Rattle.nodejs_semver.specs.Internal.Words.{word_at}
-use Rattle.nodejs_semver.specs.declared.diagnosis.left.Left.{Left}
+use Rattle.nodejs_semver.specs.declared.diagnosis.unread.Unread.{Unread}
 use Rattle.nodejs_semver.specs.declared.diagnosis.ranges.IgnoredKind.{IgnoredKind}
 use Rattle.nodejs_semver.specs.declared.diagnosis.ranges.IgnoredKind.TheVariants.{WithoutBounds}
 use Rattle.nodejs_semver.specs.declared.diagnosis.ranges.IgnoredWord.{IgnoredWord}
@@ -51,10 +51,10 @@ ignored_behind limit place None = []
 ignored_behind limit place (Some text) = all_ignored limit (place - length text) (cut_bars false text)
 
 -- those of what is left, and its size
-abbrev pub left_list : Left → List IgnoredWord
+abbrev pub left_list : Unread → List IgnoredWord
 left_list l = ignored_of MAX_SAFE_INTEGER l.part_end l.part.now ++ ignored_behind MAX_SAFE_INTEGER l.end (rest_view l.behind)
 
-abbrev pub left_size : Left → ℕ
+abbrev pub left_size : Unread → ℕ
 left_size l = length l.part.now + left_over (rest_view l.behind)
 
 abbrev pub option_list : Option IgnoredWord → List IgnoredWord

@@ -9,7 +9,7 @@ ghost use Rattle.nodejs_semver.specs.Diagnosis.IgnoredWords.{if_ignored};
 ghost use Rattle.nodejs_semver.specs.Internal.Ignored.{ignored_behind, left_list, left_size};
 ghost use Rattle.nodejs_semver.specs.Internal.Ignored.{option_list};
 
-use crate::diagnosis::left::Left;
+use crate::diagnosis::unread::Unread;
 use crate::readers::{cut_part, ignored_front, skip_spaces};
 use semver_core::scan;
 use std::marker::Model;
@@ -37,7 +37,7 @@ pub struct IgnoredWord {
 /// is the list of those that are left.
 #[derive(Drop)]
 pub struct IgnoredWords<'a> {
-    left: Left<'a>,
+    left: Unread<'a>,
 }
 
 /// In clauses, this is the list of the words that are still to come.
@@ -61,14 +61,14 @@ fn trimmed(text: &str) -> (usize, &str)
 }
 
 // What is left of a text that ends at a place, before any of its words is read.
-fn before_words(text: &str, end: usize) -> Left<'_>
+fn before_words(text: &str, end: usize) -> Unread<'_>
     requires { length text.now ≤ end }
     ensures same { left_list result ≡ ignored_behind MAX_SAFE_INTEGER end (Some text.now) }
     ensures less { left_size result ≤ length text.now }
 {
     let (piece, behind) = cut_part(text);
     let (start, part) = trimmed(piece);
-    Left {
+    Unread {
         part: part.as_bytes(),
         part_end: end - text.len() + start + part.len(),
         behind,
@@ -87,7 +87,7 @@ fn if_ignored(kind: Option<IgnoredKind>, start: usize, end: usize) -> Option<Ign
 }
 
 // Reads the word at the front: returns it if it is ignored, and what is then left.
-fn read_word(left: Left<'_>) -> (Option<IgnoredWord>, Left<'_>)
+fn read_word(left: Unread<'_>) -> (Option<IgnoredWord>, Unread<'_>)
     requires { 0 < length left.part.now }
     ensures same { left_list left.entry ≡ option_list result.0 ++ left_list result.1 }
     ensures less { left_size result.1 < left_size left.entry }
@@ -96,7 +96,7 @@ fn read_word(left: Left<'_>) -> (Option<IgnoredWord>, Left<'_>)
     let start = left.part_end - left.part.len();
     let end = left.part_end - rest.len();
     let word = if_ignored(kind, start, end);
-    let rest = Left {
+    let rest = Unread {
         part: skip_spaces(rest),
         part_end: left.part_end,
         behind: left.behind,
@@ -106,7 +106,7 @@ fn read_word(left: Left<'_>) -> (Option<IgnoredWord>, Left<'_>)
 }
 
 // Reads up to the first word that is ignored: returns it if there is one, and what is then left.
-fn first_ignored(left: Left<'_>) -> (Option<IgnoredWord>, Left<'_>)
+fn first_ignored(left: Unread<'_>) -> (Option<IgnoredWord>, Unread<'_>)
     ensures { YieldsFirst left_list left.entry result.0 result.1 }
 {
     let mut left = left;

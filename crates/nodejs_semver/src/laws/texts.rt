@@ -32,84 +32,69 @@ use crate::Range;
 use crate::readers::{range_fast, range_loose};
 use std::alloc::{AllocError, Global};
 
-/// A range text has one division at its bars: pieces whose joining by `||` is the text, of which
-/// none contains `||` and only the last may end in `|`. So `1|||2` has the pieces `1` and `|2`.
-pub fn parts()
+/// How a range text is written: each relation has one solution, which is the one that is computed.
+///
+/// A range text has one division at its bars (`divided`, `once`): pieces whose joining by `||` is
+/// the text, of which none contains `||` and only the last may end in `|`. So `1|||2` has the
+/// pieces `1` and `|2`.
+///
+/// - `numbers`: the number of a whole text is the decimal value of its digits, leading zeros
+///   allowed, up to the limit.
+/// - `partials`: a text is a partial where it is a `v` or nothing, whitespace or none and one to
+///   three components joined by dots, with a pre-release and a build behind the third, as versions
+///   have them. The numbers have the limit as a parameter.
+/// - `longest_partials`: at the front of a text the longest partial is read: one that cuts no run
+///   of digits, of which none at the front is longer.
+/// - `words_at`: the word at the front of a text is one of the forms, or a malformed word where
+///   none of them stands there.
+/// - `words`: the words of a part, which is a trimmed text, are read one after another from the
+///   left.
+pub fn grammar()
     ensures divided { (text : List ℕ) → IsCutAtBars text (cut_bars false text) }
     ensures once { (text : List ℕ) (pieces : List (List ℕ)) → IsCutAtBars text pieces
         → pieces ≡ cut_bars false text }
+    ensures numbers { (limit : ℕ) (text : List ℕ) (n : ℕ)
+        → (number_of limit text ≡ Some n) ↔ IsNumber limit text n }
+    ensures partials { (limit : ℕ) (text : List ℕ) (p : Partial) → IsUtf8 text
+        → (partial_front limit text ≡ Some (p, [])) ↔ IsPartial limit text p }
+    ensures longest_partials { (limit : ℕ) (text : List ℕ) (p : Partial) (rest : List ℕ)
+        → IsUtf8 text
+        → (partial_front limit text ≡ Some (p, rest)) ↔ IsLongestPartial limit text p rest }
+    ensures words_at { (limit : ℕ) (text : List ℕ) (word : Word) (rest : List ℕ) → IsUtf8 text
+        → (word_at limit text ≡ (word, rest)) ↔ IsWordAt limit text word rest }
+    ensures words { (limit : ℕ) (text part : List ℕ) (list : List Word) → IsUtf8 text
+        → IsTrim text part → (words limit part ≡ list) ↔ AreWords limit part list }
 {}
 
-/// The bounds of a part's words have one division into runs: consecutive and not empty, each with
-/// its lower cut below its upper cut, and none that keeps that with the first word of the next one.
-/// So `>2 <1` has two runs of one word.
-pub fn runs()
+/// What a range text means: each relation has one solution, which is the one that is computed.
+///
+/// The bounds of a part's words have one division into runs (`divided`, `once`): consecutive and
+/// not empty, each with its lower cut below its upper cut, and none that keeps that with the first
+/// word of the next one. So `>2 <1` has two runs of one word.
+///
+/// - `one_meaning`: a range text has one meaning: it is cut at its bars, each piece is trimmed and
+///   read as words, and the bounds of these are divided into runs, whose intervals stand one after
+///   another. A text of whitespace and bars alone means every version.
+/// - `written`: a range text writes a version where some one of its pieces is whitespace alone, or
+///   has a run of which the version satisfies all comparisons.
+/// - `intervals_hold_what_is_written`: with pre-releases included, the intervals of a range text
+///   hold exactly the versions that the text writes: those that satisfy, for some one run, all
+///   comparisons of its words.
+///
+/// A common range text has a range: it denotes its intervals, of which there is one or more, and
+/// some part of it is not empty (`denoted`). The common texts and their intervals are computed
+/// (`read`).
+pub fn meaning()
     ensures divided { (limit : ℕ) (part : List ℕ) → AreRuns precedence
         (part_bounds limit part) (runs_of precedence (part_bounds limit part)) }
     ensures once { (bounds : List (Span VersionValue)) (runs : List (Run VersionValue))
         → AreRuns precedence bounds runs → runs ≡ runs_of precedence bounds }
-{}
-
-/// The number of a whole text is the decimal value of its digits, leading zeros allowed, up to the
-/// limit.
-pub fn numbers()
-    ensures { (limit : ℕ) (text : List ℕ) (n : ℕ)
-        → (number_of limit text ≡ Some n) ↔ IsNumber limit text n }
-{}
-
-/// A text is a partial where it is a `v` or nothing, whitespace or none and one to three components
-/// joined by dots, with a pre-release and a build behind the third, as versions have them. The
-/// numbers have the limit as a parameter.
-pub fn partials()
-    ensures { (limit : ℕ) (text : List ℕ) (p : Partial) → IsUtf8 text
-        → (partial_front limit text ≡ Some (p, [])) ↔ IsPartial limit text p }
-{}
-
-/// At the front of a text the longest partial is read: one that cuts no run of digits, of which
-/// none at the front is longer.
-pub fn longest_partials()
-    ensures { (limit : ℕ) (text : List ℕ) (p : Partial) (rest : List ℕ) → IsUtf8 text
-        → (partial_front limit text ≡ Some (p, rest)) ↔ IsLongestPartial limit text p rest }
-{}
-
-/// The word at the front of a text is one of the forms, or a malformed word where none of them
-/// stands there.
-pub fn words_at()
-    ensures { (limit : ℕ) (text : List ℕ) (word : Word) (rest : List ℕ) → IsUtf8 text
-        → (word_at limit text ≡ (word, rest)) ↔ IsWordAt limit text word rest }
-{}
-
-/// The words of a part, which is a trimmed text, are read one after another from the left.
-pub fn words()
-    ensures { (limit : ℕ) (text part : List ℕ) (list : List Word) → IsUtf8 text → IsTrim text part
-        → (words limit part ≡ list) ↔ AreWords limit part list }
-{}
-
-/// A range text writes a version where some one of its pieces is whitespace alone, or has a run of
-/// which the version satisfies all comparisons.
-pub fn written()
-    ensures { (limit : ℕ) (text : List ℕ) (v : VersionValue) → IsUtf8 text
+    ensures one_meaning { (limit : ℕ) (text : List ℕ) (list : List (Span VersionValue))
+        → IsUtf8 text → (denotes limit text ≡ list) ↔ Means limit text list }
+    ensures written { (limit : ℕ) (text : List ℕ) (v : VersionValue) → IsUtf8 text
         → (writes limit text v ≡ true) ↔ Writes limit text v }
-{}
-
-/// With pre-releases included, the intervals of a range text hold exactly the versions that the
-/// text writes: those that satisfy, for some one run, all comparisons of its words.
-pub fn intervals_hold_what_is_written()
-    ensures { (limit : ℕ) (text : List ℕ) (v : VersionValue)
+    ensures intervals_hold_what_is_written { (limit : ℕ) (text : List ℕ) (v : VersionValue)
         → list_holds precedence (denotes limit text) v ≡ writes limit text v }
-{}
-
-/// A range text has one meaning: it is cut at its bars, each piece is trimmed and read as words,
-/// and the bounds of these are divided into runs, whose intervals stand one after another. A text
-/// of whitespace and bars alone means every version.
-pub fn one_meaning()
-    ensures { (limit : ℕ) (text : List ℕ) (list : List (Span VersionValue)) → IsUtf8 text
-        → (denotes limit text ≡ list) ↔ Means limit text list }
-{}
-
-/// A common range text has a range: it denotes its intervals, of which there is one or more, and
-/// some part of it is not empty. The common texts and their intervals are computed.
-pub fn common_ranges()
     ensures denoted { (limit : ℕ) (text : List ℕ) (list : List (Span VersionValue))
         → IsCommonRange limit text list
         → (denotes limit text ≡ list) × (0 < length list)

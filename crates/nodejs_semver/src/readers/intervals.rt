@@ -206,7 +206,10 @@ fn push_next<'a>(
 
 // Takes back the interval that was added last, where one was.
 #[inline(always)]
-fn taken<'a>(there: bool, found: &mut Intervals<VersionRef<'a>>) -> Option<Interval<VersionRef<'a>>>
+fn take_last<'a>(
+    there: bool,
+    found: &mut Intervals<VersionRef<'a>>,
+) -> Option<Interval<VersionRef<'a>>>
     ensures { (front : List (Span VersionValue)) → (added : Option (Span VersionValue)) →
         there ≡ is_some added → found.old.items ≡ front ++ option_to_list added →
         (result ≡ added) × (found.new.items ≡ front) }
@@ -227,12 +230,12 @@ fn next_interval<'a>(
         < length (found.old.items ++ option_to_list (next_at MAX_SAFE_INTEGER text.now).0)) }
 {
     let (there, rest) = push_next(text, found)?;
-    Ok((taken(there, found), rest))
+    Ok((take_last(there, found), rest))
 }
 
 // The running interval with one more: the intersection of both, or the next one alone, and then the
 // running one is finished.
-fn join<'a>(
+fn meet_or_finish<'a>(
     running: Interval<VersionRef<'a>>,
     next: Interval<VersionRef<'a>>,
     finished: &mut Intervals<VersionRef<'a>>,
@@ -270,7 +273,7 @@ pub(crate) fn read_part<'a>(
         if after.is_empty() {
             return Ok(());
         }
-        if let Some(first) = taken(there, found) {
+        if let Some(first) = take_last(there, found) {
             return read_words(first, after, found);
         }
         rest = after;
@@ -296,7 +299,7 @@ fn read_words<'a>(
         let (next, after) = next_interval(rest, found)?;
         rest = after;
         if let Some(next) = next {
-            running = join(running, next, found)?;
+            running = meet_or_finish(running, next, found)?;
         }
     }
     found.add(running)

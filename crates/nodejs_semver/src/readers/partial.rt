@@ -32,7 +32,7 @@ fn number_front(text: &[u8]) -> Option<(u64, &[u8])>
     Some((value, &text[end..]))
 }
 
-// A wildcard or a number.
+// A wildcard or a number, which is looked for first since most components are numbers.
 #[inline(always)]
 #[tactic(auto, unfolding(crate::specs::Internal::Fronts::component_front))]
 pub(crate) fn component_front(text: &[u8]) -> Option<(Option<u64>, &[u8])>

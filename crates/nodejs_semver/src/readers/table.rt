@@ -172,7 +172,7 @@ impl<'a> Bounds<'a> {
 // `>1.2.3`
 #[inline(always)]
 #[tactic(auto, unfolding(crate::specs::Text::Table::table))]
-fn above<'a>(partial: &Partial<'a>) -> Bounds<'a>
+fn row_above<'a>(partial: &Partial<'a>) -> Bounds<'a>
     ensures { Some (bounds_view result)
         ≡ table MAX_SAFE_INTEGER (Words.compare Words.above (partial_view partial.now)) }
 {
@@ -186,7 +186,7 @@ fn above<'a>(partial: &Partial<'a>) -> Bounds<'a>
 // `<1.2.3`
 #[inline(always)]
 #[tactic(auto, unfolding(crate::specs::Text::Table::table))]
-fn below<'a>(partial: &Partial<'a>) -> Bounds<'a>
+fn row_below<'a>(partial: &Partial<'a>) -> Bounds<'a>
     ensures { Some (bounds_view result)
         ≡ table MAX_SAFE_INTEGER (Words.compare Words.below (partial_view partial.now)) }
 {
@@ -199,7 +199,7 @@ fn below<'a>(partial: &Partial<'a>) -> Bounds<'a>
 // `<=1.2.3`
 #[inline(always)]
 #[tactic(auto, unfolding(crate::specs::Text::Table::table))]
-fn at_most<'a>(partial: &Partial<'a>) -> Bounds<'a>
+fn row_at_most<'a>(partial: &Partial<'a>) -> Bounds<'a>
     ensures { Some (bounds_view result)
         ≡ table MAX_SAFE_INTEGER (Words.compare Words.at_most (partial_view partial.now)) }
 {
@@ -311,10 +311,10 @@ pub(crate) fn compare<'a>(comparator: Comparator, partial: &Partial<'a>) -> Opti
 {
     match comparator {
         Comparator::AtLeast => Some(Bounds::at_least(version_of(partial))),
-        Comparator::Above => Some(above(partial)),
+        Comparator::Above => Some(row_above(partial)),
         Comparator::Equal => equal(partial),
-        Comparator::AtMost => Some(at_most(partial)),
-        Comparator::Below => Some(below(partial)),
+        Comparator::AtMost => Some(row_at_most(partial)),
+        Comparator::Below => Some(row_below(partial)),
     }
 }
 

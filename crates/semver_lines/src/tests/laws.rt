@@ -47,15 +47,8 @@ fn laws_of_the_order(rt: HostRuntime) {
 
 #[test]
 fn laws_of_range_texts(rt: HostRuntime) {
-    laws::parts();
-    laws::runs();
-    laws::numbers();
-    laws::partials();
-    laws::longest_partials();
-    laws::words_at();
-    laws::intervals_hold_what_is_written();
-    laws::one_meaning();
-    laws::common_ranges();
+    laws::grammar();
+    laws::meaning();
     laws::printed_ranges_come_back(">1.2.3");
     assert!(rt; true);
 }

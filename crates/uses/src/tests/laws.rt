@@ -28,7 +28,7 @@ fn versions_that_rise(rt: HostRuntime) -> Result<(), Fail> {
 
 #[test]
 fn laws_of_words(rt: HostRuntime) {
-    laws::words();
-    laws::written();
+    laws::grammar();
+    laws::meaning();
     assert!(rt; true);
 }

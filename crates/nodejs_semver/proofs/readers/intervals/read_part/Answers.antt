@@ -32,17 +32,17 @@ read_words-requires c =
     read-starts MAX_SAFE_INTEGER rest after (next_at MAX_SAFE_INTEGER rest).0 (read-next MAX_SAFE_INTEGER rest after c.in_ok-there.ensures.rest)
 
 -- what the running interval and those behind it add is the intervals of the part
-whole-at : (c : goal.After-read_words) → c.taken.new.found.items
+whole-at : (c : goal.After-read_words) → c.take_last.new.found.items
     ++ joined_from precedence c.in-Some.first (part_bounds MAX_SAFE_INTEGER c.in_ok-there.after.now)
     ≡ c.args.found.now.items ++ part_intervals MAX_SAFE_INTEGER c.args.part.now
 whole-at c =
     let rest = c.words.rest.now in
     let after = c.in_ok-there.after.now in
-    let taken = c.taken.ensures c.words.found.items (next_at MAX_SAFE_INTEGER rest).0 c.in_ok-there.ensures.there c.in_ok-there.ensures.found in
+    let taken = c.take_last.ensures c.words.found.items (next_at MAX_SAFE_INTEGER rest).0 c.in_ok-there.ensures.there c.in_ok-there.ensures.found in
     let read = read-is MAX_SAFE_INTEGER rest after (next_at MAX_SAFE_INTEGER rest).0 (Some c.in-Some.first) (sym c.in-Some.is ∙ taken.0)
     (read-next MAX_SAFE_INTEGER rest after c.in_ok-there.ensures.rest) in
     let first = part-step MAX_SAFE_INTEGER rest after _ c.words.invariant.some c.words.invariant.starts read in
-    ap (λ (l : List (Span VersionValue)). c.taken.new.found.items ++ l) (sym first ∙ c.words.invariant.whole)
+    ap (λ (l : List (Span VersionValue)). c.take_last.new.found.items ++ l) (sym first ∙ c.words.invariant.whole)
     ∙ ap (λ (l : List (Span VersionValue)). l ++ part_intervals MAX_SAFE_INTEGER c.args.part.now)
     (taken.1 ∙ c.words.invariant.same)
 
@@ -73,7 +73,7 @@ words-preserved c =
     let rest = c.words.rest.now in
     let after = c.in_ok-there.after.now in
     let next = read-next MAX_SAFE_INTEGER rest after c.in_ok-there.ensures.rest in
-    let taken = c.taken.ensures c.words.found.items (next_at MAX_SAFE_INTEGER rest).0 c.in_ok-there.ensures.there c.in_ok-there.ensures.found in
+    let taken = c.take_last.ensures c.words.found.items (next_at MAX_SAFE_INTEGER rest).0 c.in_ok-there.ensures.there c.in_ok-there.ensures.found in
     let read = read-is MAX_SAFE_INTEGER rest after (next_at MAX_SAFE_INTEGER rest).0 None (sym c.in_default.is ∙ taken.0) next in
     record {
       same = taken.1 ∙ c.words.invariant.same;

@@ -17,4 +17,4 @@ pub reread_range-requires : goal.reread_range-requires
 unfolding table is_boundary number_of space_len after_spaces drop_end_spaces cut_bars partial_front component_front dotted_front
     pre_release_front build_front front_len list_len listed word_at words_within from_boundary runs_from encode
 reread_range-requires g c =
-    rw (sym ((c.one_meaning.ensures MAX_SAFE_INTEGER _ _ (codes ">1.2.3", (refl, refl))).1 c.in_ok-range.ensures.ok)) refl
+    rw (sym ((c.meaning.ensures.one_meaning MAX_SAFE_INTEGER _ _ (codes ">1.2.3", (refl, refl))).1 c.in_ok-range.ensures.ok)) refl

@@ -6,7 +6,7 @@ ghost use Rattle.semver_core.specs.Internal.Spaces.{space_len};
 
 /// What is left of a text: a part of it, and the text behind the bars that follow the part.
 #[derive(Clone, Copy)]
-pub(crate) struct Left<'a> {
+pub(crate) struct Unread<'a> {
     /// Nothing, or a word is at its front.
     pub(crate) part: &'a [u8],
     /// Where the part ends in the text.

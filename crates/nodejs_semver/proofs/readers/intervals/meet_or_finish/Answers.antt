@@ -4,7 +4,7 @@ use Rattle.semver_core.specs.Values.Order.{precedence}
 use Rattle.semver_core.specs.Values.Versions.{VersionValue}
 use Rattle.nodejs_semver.specs.Internal.Meets.{joined_from}
 use Rattle.nodejs_semver.proofs.Dividing.PartSteps.{join_goes, join_stops}
-use Rattle.nodejs_semver.proofs.readers.intervals.join.Goals as goal
+use Rattle.nodejs_semver.proofs.readers.intervals.meet_or_finish.Goals as goal
 
 pub returns-in-Ok-clause-joined : goal.returns-in-Ok-clause-joined
 returns-in-Ok-clause-joined c = λ rest.
