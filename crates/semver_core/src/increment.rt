@@ -10,11 +10,11 @@ ghost use Rattle.semver_core.specs.Increments.Least.{IsLeastVersion, IsPlain};
 ghost use Rattle.semver_core.specs.Increments.View.{IfAnswered, Returns, fault_of};
 ghost use Rattle.semver_core.specs.Internal.IncrementSteps.{MayAllocate, RefusedWith};
 ghost use Rattle.semver_core.specs.Internal.IncrementSteps.{parts_ref_value};
-ghost use Rattle.semver_core.specs.Values.Versions.{HasIdentifiers, IsVersion, is_release};
+ghost use Rattle.semver_core.specs.Values.Versions.{HasIdentifiers, is_release};
 
 use crate::increment::parts::PartsRef;
 use crate::increment::words::by_word;
-use crate::{Failure, Version, VersionRef};
+use crate::{Failure, Identifier, Version, VersionRef};
 use std::alloc::{AllocError, Global};
 use thiserror::Error;
 
@@ -155,51 +155,25 @@ fn refused_argument(alloc: Global, text: &str) -> Failure<IncrementError>
     }
 }
 
-// The error for an identifier, with its text.
-fn refused_identifier(alloc: Global, id: &str) -> Failure<IncrementError>
-    ensures { RefusedWith (spec.InvalidIdentifier id.now) result }
-{
-    match String::from_str(alloc, id) {
-        Ok(id) => Failure::Refused(IncrementError::InvalidIdentifier(id)),
-        Err(error) => Failure::Memory(error),
-    }
-}
-
 // The two checks of a word that begins with `pre`.
+#[tactic(auto, unfolding(crate::specs::Text::Identifiers::is_listed))]
 fn check(alloc: Global, id: &str, base: IdentifierBase) -> Result<(), Failure<IncrementError>>
     ensures value { Returns (spec.checked id.now base) result }
     ensures memory { MemoryOnlyIf result (MayAllocate (λ none. ⊥) (spec.checked id.now base)) }
 {
     if id.is_empty() && is_false(base) {
         Err(refused_argument(alloc, "identifier is empty"))
-    } else if id.is_empty() || pre_release::is_identifiers(id) {
+    } else if Identifier::is_list(id.as_bytes()) {
         Ok(())
     } else {
-        Err(refused_identifier(alloc, id))
+        let id = String::from_str(alloc, id)?;
+        Err(Failure::Refused(IncrementError::InvalidIdentifier(id)))
     }
 }
 
-// The checks of a word that begins with `pre`, and then the word.
+// The checks of a word that begins with `pre`, and then the word. No identifier is an empty one, and
+// no base is `Value(0)`.
 #[tactic(auto, using(crate::proofs::Increments::Memory::may_after))]
-fn by_checked_word(
-    alloc: Global,
-    version: &PartsRef<'_>,
-    word: &str,
-    id: &str,
-    base: IdentifierBase,
-) -> Result<Version, Failure<IncrementError>>
-    ensures value { Returns
-        (spec.incremented (parts_ref_value version.now) word.now id.now base) result }
-    ensures memory { MemoryOnlyIf result (MayAllocate HasIdentifiers
-        (spec.incremented (parts_ref_value version.now) word.now id.now base)) }
-{
-    if word.starts_with("pre") {
-        check(alloc, id, base)?;
-    }
-    by_word(alloc, version, word, id, base)
-}
-
-// No identifier is an empty one, and no base is `Value(0)`.
 fn increment(
     alloc: Global,
     version: &PartsRef<'_>,
@@ -214,22 +188,12 @@ fn increment(
         (spec.answer_of_inc (parts_ref_value version.now) word.now (option_copied identifier.entry)
         base)) }
 {
-    by_checked_word(
-        alloc,
-        version,
-        word,
-        identifier.unwrap_or(""),
-        base.unwrap_or_default(),
-    )
-}
-
-// Proof helper: every `Version` satisfies `IsVersion`. The read of a number has no effect at run
-// time.
-#[inline(always)]
-fn is_version(version: &Version)
-    ensures { IsVersion version.now }
-{
-    let _major = version.major();
+    let id = identifier.unwrap_or("");
+    let base = base.unwrap_or_default();
+    if word.starts_with("pre") {
+        check(alloc, id, base)?;
+    }
+    by_word(alloc, version, word, id, base)
 }
 
 impl Version {
@@ -324,7 +288,8 @@ impl Version {
             → IfOk result (IsAbove self.now) }
         ensures build { IfOk result (λ next. next.build ≡ self.now.build) }
     {
-        is_version(self);
+        // For the proof alone: every `Version` satisfies `IsVersion`.
+        let _major = self.major();
         increment(alloc, &PartsRef::of(self), word, identifier, base)
     }
 }

@@ -14,7 +14,7 @@ const DIGITS: &str = "0.1.2.3.4.5.6.7.8.9.";
 
 // A number in decimal. The length of a short one is known, so that it is copied without a call.
 #[inline(always)]
-fn write_decimal<W: fmt::Write>(number: u64, f: &mut fmt::Formatter<W>) -> fmt::Result
+pub(crate) fn write_decimal<W: fmt::Write>(number: u64, f: &mut fmt::Formatter<W>) -> fmt::Result
     ensures { DisplaysStyledOnOk W.write_str_gives f.old result (Some (decimal number)) f.new }
 {
     if number < 10 {
@@ -37,7 +37,7 @@ pub(crate) fn write_number<W: fmt::Write>(number: u64, f: &mut fmt::Formatter<W>
 
 // A number in decimal and a dot. A digit is written together with the dot.
 #[inline(always)]
-fn write_dotted<W: fmt::Write>(number: u64, f: &mut fmt::Formatter<W>) -> fmt::Result
+pub(crate) fn write_dotted<W: fmt::Write>(number: u64, f: &mut fmt::Formatter<W>) -> fmt::Result
     ensures { DisplaysStyledOnOk W.write_str_gives f.old result
         (Some (decimal number ++ 46 ∷ [])) f.new }
 {
@@ -62,7 +62,7 @@ impl fmt::Display for Identifier {
 
 // A mark and the identifiers joined by dots, or nothing where there are none.
 #[inline(always)]
-fn write_list<W: fmt::Write>(
+pub(crate) fn write_list<W: fmt::Write>(
     mark: &str,
     ids: IdentifierRefs<'_>,
     f: &mut fmt::Formatter<W>,
@@ -81,36 +81,6 @@ fn write_list<W: fmt::Write>(
         sign = ".";
     }
     Ok(())
-}
-
-// Three numbers with dots between them.
-#[inline(always)]
-pub(crate) fn write_numbers<W: fmt::Write>(
-    major: u64,
-    minor: u64,
-    patch: u64,
-    f: &mut fmt::Formatter<W>,
-) -> fmt::Result
-    ensures { DisplaysStyledOnOk W.write_str_gives f.old result
-        (Some (decimal major ++ 46 ∷ (decimal minor ++ 46 ∷ decimal patch))) f.new }
-{
-    write_dotted(major, f)?;
-    write_dotted(minor, f)?;
-    write_decimal(patch, f)
-}
-
-// The pre-release and the build metadata of a version.
-#[inline(always)]
-pub(crate) fn write_lists<W: fmt::Write>(
-    pre_release: IdentifierRefs<'_>,
-    build: IdentifierRefs<'_>,
-    f: &mut fmt::Formatter<W>,
-) -> fmt::Result
-    ensures { DisplaysStyledOnOk W.write_str_gives f.old result (Some
-        (marked_list (45 ∷ []) pre_release.entry ++ marked_list (43 ∷ []) build.entry)) f.new }
-{
-    write_list("-", pre_release, f)?;
-    write_list("+", build, f)
 }
 
 /// A version prints as `major.minor.patch`, then `-` and the pre-release where there is one, then

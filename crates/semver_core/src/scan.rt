@@ -17,7 +17,6 @@ ghost use Rattle.semver_core.specs.Text.Identifiers.{IsLongestIdentifiers};
 ghost use Rattle.semver_core.specs.Text.Numbers.{IsWholeNumber};
 ghost use Rattle.semver_core.specs.Internal.Reading.{number_at, list_at};
 ghost use Rattle.semver_core.specs.Values.Views.{id_view, ids_view};
-ghost use Rattle.semver_core.specs.Internal.Reading.{list_view};
 ghost use Rattle.semver_core.specs.Text.Characters.{IsTrim};
 ghost use Rattle.semver_core.specs.Internal.Spaces.{drop_end_spaces};
 ghost use Rattle.std.specs.Str.Lossy.{utf8_valid_len};
@@ -261,21 +260,6 @@ pub(crate) fn scan_run(bytes: &[u8], start: usize) -> (usize, Option<u64>)
     (bytes.len(), Some(number))
 }
 
-// Where the run that begins at a place of a text ends, and the number that it writes, if any.
-#[inline(always)]
-fn run_in(text: &str, start: usize) -> (usize, Option<u64>)
-    requires place { start ≤ length text.now }
-    requires here { begins is_identifier_char (drop start text.now) ≡ true }
-    ensures end { result.0 ≡ start + prefix_len is_identifier_char (drop start text.now) }
-    ensures number { result.1 ≡ number_of_run (Some 0)
-        (take (prefix_len is_identifier_char (drop start text.now)) (drop start text.now)) }
-    ensures after { start ≤ result.0 }
-    ensures fits { result.0 ≤ length text.now }
-    ensures boundary { IsCharBoundary text.now result.0 }
-{
-    scan_run(text.as_bytes(), start)
-}
-
 // The identifier at a place where a run begins, and the place behind it.
 #[inline(always)]
 fn read_run(alloc: Global, text: &str, start: usize) -> Result<(Identifier, usize), AllocError>
@@ -288,7 +272,7 @@ fn read_run(alloc: Global, text: &str, start: usize) -> Result<(Identifier, usiz
     ensures after { IfOk result (λ found. start ≤ found.1) }
     ensures fits { IfOk result (λ found. found.1 ≤ length text.now) }
 {
-    let (end, number) = run_in(text, start);
+    let (end, number) = scan_run(text.as_bytes(), start);
     match number {
         Some(value) => Ok((Identifier::Numeric(value), end)),
         None => Ok((
@@ -319,20 +303,6 @@ pub fn identifiers(
         NoPieceAt (λ piece rest. IsLongestIdentifiers piece rest ids) text.now at)) }
     ensures place { IfOk result (λ found. IfSome found (λ list. list.1 ≤ length text.now)) }
     // Allocation fails only where a list begins.
-    ensures memory { OnErr result (begins is_identifier_char (drop at text.now) ≡ true) }
-{
-    read_list(alloc, text, at)
-}
-
-// The list at a place and the place behind it, or nothing, as `list_at` computes it from the text.
-pub(crate) fn read_list(
-    alloc: Global,
-    text: &str,
-    at: usize,
-) -> Result<Option<(Vec<Identifier>, usize)>, AllocError>
-    requires { at ≤ length text.now }
-    ensures place { IfOk result (λ found. IfSome found (λ list. list.1 ≤ length text.now)) }
-    ensures exact { IfOk result (λ found. list_view found ≡ list_at text.now at) }
     ensures memory { OnErr result (begins is_identifier_char (drop at text.now) ≡ true) }
 {
     if !begins_at(text, at) {

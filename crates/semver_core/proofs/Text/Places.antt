@@ -1,7 +1,7 @@
 -- Places in a text.
 use Rattle.std.proofs.Common.{◌≡◌, ◌<◌, ℕ, Bool, true, List, length, drop, inl, inr}
 use Rattle.std.proofs.lemmas.Bool.{cases_lt}
-use Rattle.std.proofs.lemmas.List.{drop_all}
+use Rattle.std.proofs.lemmas.List.{drop_all, take_rest}
 use Rattle.semver_core.specs.Text.Characters.{begins}
 
 pub begins_before_end : (test : ℕ → Bool) (text : List ℕ) (at : ℕ) → begins test (drop at text) ≡ true → at < length text
@@ -9,3 +9,5 @@ begins_before_end test text at h = elim (cases_lt at (length text)) [
   | inl inside ↦ inside
   | inr past ↦ cc (rw (drop_all at text past) at h)
 ]
+
+pub ruleset places = (begins_before_end, take_rest)

@@ -3,7 +3,6 @@
 ghost use Rattle.std.specs.Cmp.Lexicographic.{slice_cmp};
 ghost use Rattle.std.specs.Iterator.{item_count, YieldsFirstBy};
 ghost use Rattle.std.specs.Prelude.{◌≡◌, ◌∷◌, [], IfNone, IfSome, OnOk, length, true};
-ghost use Rattle.semver_core.specs.Internal.Borrowed.{HasText, id_ref_view};
 ghost use Rattle.semver_core.specs.Internal.Sources.{ids_of, IsSource};
 ghost use Rattle.semver_core.specs.Lists.{is_empty};
 ghost use Rattle.semver_core.specs.Text.Identifiers.{is_listed, listed};
@@ -118,18 +117,6 @@ fn count(text: &[u8]) -> usize
     text.iter().filter(|byte| **byte == b'.').count() + 1
 }
 
-// The identifier with its text as such.
-#[inline(always)]
-fn with_text(id: IdRef<'_>) -> IdentifierRef<'_>
-    requires { HasText id }
-    ensures { lent_id_view result ≡ id_ref_view id.entry }
-{
-    match id {
-        IdRef::Numeric(number) => IdentifierRef::Numeric(number),
-        IdRef::AlphaNumeric(text) => IdentifierRef::AlphaNumeric(scan::text_front(text)),
-    }
-}
-
 // The first identifier, and where the others stand.
 #[inline(always)]
 #[tactic(auto, using(crate::proofs::Text::Listed::listed_none))]
@@ -150,7 +137,11 @@ fn split_first(source: Source<'_>) -> Option<(IdentifierRef<'_>, Source<'_>)>
                 return None;
             }
             let (first, others) = first_id(text);
-            Some((with_text(first), Source::Text(others)))
+            let first = match first {
+                IdRef::Numeric(number) => IdentifierRef::Numeric(number),
+                IdRef::AlphaNumeric(text) => IdentifierRef::AlphaNumeric(scan::text_front(text)),
+            };
+            Some((first, Source::Text(others)))
         }
     }
 }

@@ -1,14 +1,13 @@
 // Reads versions that borrow their text.
 
-ghost use Rattle.std.specs.Prelude.{◌≡◌, ◌≤◌, ◌+◌, true, length, drop, IfErr, IfNone};
-ghost use Rattle.std.specs.Prelude.{IfOk, IfSome};
+ghost use Rattle.std.specs.Prelude.{◌≡◌, ◌≤◌, ◌+◌, true, length, drop, IfErr, IfOk};
+ghost use Rattle.std.specs.Prelude.{IfSome};
 ghost use Rattle.semver_core.specs.Failures.{NoValue};
 ghost use Rattle.semver_core.specs.Text.Characters.{begins, is_identifier_char};
 ghost use Rattle.semver_core.specs.Text.Identifiers.{is_listed, listed};
 ghost use Rattle.semver_core.specs.Text.Parsing.{Parses};
 ghost use Rattle.semver_core.specs.Text.VersionText.{Reads};
 ghost use Rattle.semver_core.specs.Internal.Reading.{list_from, list_len, lists_at, qualified};
-ghost use Rattle.semver_core.specs.Internal.Reading.{version_at};
 ghost use Rattle.semver_core.specs.Values.Versions.{release_value};
 
 use crate::readers::{build_start, front_of_numbers, numbers, pre_release_start, three};
@@ -87,32 +86,19 @@ fn version_behind(text: &str, major: u64, minor: u64, patch: u64, at: usize) -> 
     VersionRef::from_texts(major, minor, patch, pre_release, build)
 }
 
-// The version at a place where its numbers begin.
-fn version_from(text: &str, at: usize) -> Option<VersionRef<'_>>
-    requires { at ≤ length text.now }
-    ensures { result ≡ version_at MAX_SAFE_INTEGER text.now at }
-{
-    let (major, minor, patch, end) = three(text.as_bytes(), at)?;
-    Some(version_behind(text, major, minor, patch, end))
-}
-
-// The version at the front of a text of any length.
-fn version_loose(text: &str) -> Option<VersionRef<'_>>
-    ensures some { IfSome result (λ v. Reads MAX_SAFE_INTEGER text.now v) }
-    ensures none { IfNone result (NoValue (Reads MAX_SAFE_INTEGER text.now)) }
-{
-    version_from(text, front_of_numbers(text))
-}
-
-// The same for `VersionRef::parse`, where the text does not begin with the numbers or with `v` and
-// the numbers.
+// Reads the version at the front of a text of any length, for `VersionRef::parse` where the text
+// does not begin with the numbers or with `v` and the numbers.
 #[cold]
 #[inline(never)]
 fn parse_loose(text: &str) -> Result<VersionRef<'_>, SemverError>
     ensures ok { IfOk result (λ v. Reads MAX_SAFE_INTEGER text.now v) }
     ensures refused { IfErr result (λ _. NoValue (Reads MAX_SAFE_INTEGER text.now)) }
 {
-    version_loose(text).ok_or(SemverError)
+    let at = front_of_numbers(text);
+    let Some((major, minor, patch, end)) = three(text.as_bytes(), at) else {
+        return Err(SemverError);
+    };
+    Ok(version_behind(text, major, minor, patch, end))
 }
 
 impl<'a> VersionRef<'a> {

@@ -8,18 +8,16 @@ ghost use Rattle.std.specs.Ordering.{is_eq};
 ghost use Rattle.std.specs.Str.{bytes_eq};
 ghost use Rattle.std.specs.Str.Parse.{digits_value};
 ghost use Rattle.semver_core.specs.Failures.{MemoryOnlyIf};
-ghost use Rattle.semver_core.specs.Text.Characters.{is_identifier_char};
-ghost use Rattle.semver_core.specs.Text.Identifiers.{Numeric, is_identifier, pieces};
+ghost use Rattle.semver_core.specs.Text.Identifiers.{Numeric};
 ghost use Rattle.semver_core.specs.Increments.Table as spec;
 ghost use Rattle.semver_core.specs.Increments.Table.{has_numeric};
 ghost use Rattle.semver_core.specs.Internal.IncrementSteps.{FailsWith, MayAllocate, Steps, Tracks};
-ghost use Rattle.semver_core.specs.Internal.IncrementSteps.{begun, ends_at_max, list_text};
+ghost use Rattle.semver_core.specs.Internal.IncrementSteps.{begun, list_text};
 ghost use Rattle.semver_core.specs.Printing.Text as printed;
 ghost use Rattle.semver_core.specs.Values.Order.{id_cmp};
 ghost use Rattle.semver_core.specs.Values.Views.{id_view, ids_view};
 
 use crate::increment::{IdentifierBase, IncrementError, is_false, one_more, refused_argument};
-use crate::scan::is_identifier_char;
 use crate::version::lists::Identifiers;
 use crate::{Failure, Identifier, IdentifierRef, IdentifierRefs};
 use std::alloc::{AllocError, Global};
@@ -73,25 +71,18 @@ pub(super) fn unless_overflow(
 ) -> Failure<IncrementError>
     ensures { FailsWith (spec.raise_last ids.now) result }
 {
-    if ends_at_max(ids.copy()) {
-        Failure::Refused(IncrementError::Overflow)
-    } else {
-        Failure::Memory(error)
-    }
-}
-
-// Whether the last number of a list is `u64::MAX`.
-fn ends_at_max(ids: IdentifierRefs<'_>) -> bool
-    ensures { result ≡ ends_at_max false ids.entry }
-{
     let mut at_max = false;
-    let mut others = ids;
+    let mut others = ids.copy();
     'ids: while let Some(id) = others.next() {
         if let IdentifierRef::Numeric(n) = id {
             at_max = n == u64::MAX;
         }
     }
-    at_max
+    if at_max {
+        Failure::Refused(IncrementError::Overflow)
+    } else {
+        Failure::Memory(error)
+    }
 }
 
 fn first_number(base: IdentifierBase) -> u64
@@ -130,7 +121,7 @@ fn count(
     ensures memory { MemoryOnlyIf result (MayAllocate (λ list. ⊤)
         (spec.advance (ids_view list.old.items) id.now base)) }
 {
-    if !list.is_empty() && is_false(base) && is_printed(alloc, list, id)? {
+    if !list.is_empty() && is_false(base) && id == list_text(alloc, list)?.as_str() {
         return Err(refused_argument(alloc, "identifier already exists"));
     }
     Ok(push_number(list, first_number(base))?)
@@ -142,14 +133,6 @@ fn push_number(list: &mut Identifiers, n: u64) -> Result<(), AllocError>
 {
     list.push(Identifier::Numeric(n))?;
     Ok(())
-}
-
-// Whether the list prints as this identifier.
-fn is_printed(alloc: Global, list: &[Identifier], id: &str) -> Result<bool, AllocError>
-    ensures { IfOk result (λ b. b ≡ bytes_eq id.now (list_text (ids_view list.now))) }
-{
-    let text = list_text(alloc, list)?;
-    Ok(id == text.as_str())
 }
 
 // A list printed, its identifiers joined by dots.
@@ -233,23 +216,4 @@ fn has_value(digits: &str, n: u64) -> bool
         Ok(value) => value == n,
         Err(_) => false,
     }
-}
-
-fn are_identifier_chars(piece: &[u8]) -> bool
-    ensures { result ≡ list_all is_identifier_char piece.now }
-{
-    piece.iter().all(|b| is_identifier_char(*b))
-}
-
-fn is_identifier(piece: &[u8]) -> bool
-    ensures { result ≡ is_identifier piece.now }
-{
-    !piece.is_empty() && are_identifier_chars(piece)
-}
-
-// Whether an identifier is runs joined by dots.
-pub(super) fn is_identifiers(id: &str) -> bool
-    ensures { result ≡ list_all is_identifier (pieces id.now) }
-{
-    id.split('.').all(|piece| is_identifier(piece.as_bytes()))
 }

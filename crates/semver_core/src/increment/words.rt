@@ -1,6 +1,6 @@
 // The words of increments, a row each.
 
-ghost use Rattle.std.specs.Prelude.{◌≡◌, ◌<◌, [], IfOk, Ok, OnOk, length, ⊤};
+ghost use Rattle.std.specs.Prelude.{◌≡◌, ◌<◌, IfOk, Ok, OnOk, length, ⊤};
 ghost use Rattle.semver_core.specs.Failures.{MemoryOnlyIf};
 ghost use Rattle.semver_core.specs.Increments.Table as spec;
 ghost use Rattle.semver_core.specs.Increments.View.{Returns};
@@ -13,7 +13,7 @@ ghost use Rattle.semver_core.specs.Values.Views.{ids_view};
 use crate::increment::parts::PartsRef;
 use crate::increment::pre_release::{advance, put_identifier, unless_overflow};
 use crate::increment::{IdentifierBase, IncrementError, one_more, refused_argument};
-use crate::version::lists::{Lists, Qualifier};
+use crate::version::lists::{Identifiers, Lists, Qualifier};
 use crate::{Failure, IdentifierRefs, Version};
 use std::alloc::{AllocError, Global};
 
@@ -140,7 +140,7 @@ fn release_of(alloc: Global, version: &PartsRef<'_>) -> Result<Version, Failure<
     if version.build.is_empty() {
         return Ok(Version::release(version.major, version.minor, version.patch));
     }
-    let lists = build_of(alloc, &version.build)?;
+    let lists = copied(alloc, &IdentifierRefs::of_items(&[]), &version.build)?;
     Ok(Version::from_parts(
         version.major,
         version.minor,
@@ -149,12 +149,18 @@ fn release_of(alloc: Global, version: &PartsRef<'_>) -> Result<Version, Failure<
     ))
 }
 
-// A build with identifiers of its own, and no pre-release.
-fn build_of(alloc: Global, build: &IdentifierRefs<'_>) -> Result<Box<Lists>, AllocError>
-    ensures pre_release { IfOk result (λ lists. lists.value.pre_release.items ≡ []) }
+// Lists with identifiers of their own.
+fn copied(
+    alloc: Global,
+    pre_release: &IdentifierRefs<'_>,
+    build: &IdentifierRefs<'_>,
+) -> Result<Box<Lists>, AllocError>
+    ensures pre_release { IfOk result (λ lists.
+        ids_view lists.value.pre_release.items ≡ pre_release.now) }
     ensures build { IfOk result (λ lists. ids_view lists.value.build.items ≡ build.now) }
 {
     let mut lists = Lists::boxed(alloc)?;
+    pre_release.copy_into(alloc, &mut lists.pre_release)?;
     build.copy_into(alloc, &mut lists.build)?;
     Ok(lists)
 }
@@ -170,11 +176,11 @@ fn pre_step(
     ensures memory { MemoryOnlyIf result (MayAllocate HasIdentifiers
         (spec.pre_step id.now base (parts_ref_value version.now))) }
 {
-    let mut lists = match pre_release_of(alloc, &version.pre_release) {
+    let mut lists = match copied(alloc, &version.pre_release, &version.build) {
         Ok(lists) => lists,
         Err(error) => return Err(unless_overflow(&version.pre_release, error)),
     };
-    step_lists(alloc, version, id, base, &mut lists)?;
+    step(alloc, &mut lists.pre_release, id, base)?;
     Ok(Version::from_parts(
         version.major,
         version.minor,
@@ -183,37 +189,20 @@ fn pre_step(
     ))
 }
 
-// A pre-release with identifiers of its own, and no build.
-fn pre_release_of(alloc: Global, pre_release: &IdentifierRefs<'_>) -> Result<Box<Lists>, AllocError>
-    ensures pre_release { IfOk result (λ lists.
-        ids_view lists.value.pre_release.items ≡ pre_release.now) }
-    ensures build { IfOk result (λ lists. lists.value.build.items ≡ []) }
-{
-    let mut lists = Lists::boxed(alloc)?;
-    pre_release.copy_into(alloc, &mut lists.pre_release)?;
-    Ok(lists)
-}
-
-// Turns the copied pre-release of the version into the next one, and fills an empty list with the
-// build of the version.
-fn step_lists(
+// Turns a pre-release into the next one.
+fn step(
     alloc: Global,
-    version: &PartsRef<'_>,
+    list: &mut Identifiers,
     id: &str,
     base: IdentifierBase,
-    lists: &mut Lists,
 ) -> Result<(), Failure<IncrementError>>
-    requires pre_release { ids_view lists.old.pre_release.items ≡ version.now.pre_release }
-    requires build { lists.old.build.items ≡ [] }
-    ensures pre_release { Steps (stepped version.now.pre_release id.now base) result
-        (ids_view lists.new.pre_release.items) }
-    ensures build { OnOk result (ids_view lists.new.build.items ≡ version.now.build) }
-    ensures some { OnOk result (0 < length lists.new.pre_release.items) }
+    ensures value { Steps (stepped (ids_view list.old.items) id.now base) result
+        (ids_view list.new.items) }
+    ensures some { OnOk result (0 < length list.new.items) }
     ensures memory { MemoryOnlyIf result (MayAllocate (λ list. ⊤)
-        (spec.advance version.now.pre_release id.now base)) }
+        (spec.advance (ids_view list.old.items) id.now base)) }
 {
-    advance(alloc, &mut lists.pre_release, id, base)?;
-    put_identifier(alloc, &mut lists.pre_release, id, base)?;
-    version.build.copy_into(alloc, &mut lists.build)?;
+    advance(alloc, list, id, base)?;
+    put_identifier(alloc, list, id, base)?;
     Ok(())
 }

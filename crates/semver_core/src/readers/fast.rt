@@ -83,15 +83,6 @@ fn version_of_whole(
     Ok(Some(Version::from_parts(major, minor, patch, qualifier)))
 }
 
-// Whether a qualifier may begin with the byte at a place.
-#[inline(always)]
-fn begins_qualifier(bytes: &[u8], at: usize) -> bool
-    requires { at < length bytes.now }
-    ensures { result ≡ (is_identifier_char (get_or bytes.now at 0) || get_or bytes.now at 0 == 43) }
-{
-    scan::is_identifier_char(bytes[at]) || bytes[at] == b'+'
-}
-
 // The version of a common text, or nothing, as `common_of` computes it from the text.
 #[inline(always)]
 fn read(alloc: Global, text: &str) -> Result<Option<Version>, AllocError>
@@ -105,7 +96,9 @@ fn read(alloc: Global, text: &str) -> Result<Option<Version>, AllocError>
     if end == text.len() {
         return Ok(Some(Version::release(major, minor, patch)));
     }
-    if !begins_qualifier(text.as_bytes(), end) {
+    // A qualifier begins with an identifier, `-` or `+`.
+    let first = text.as_bytes()[end];
+    if !scan::is_identifier_char(first) && first != b'+' {
         return Ok(None);
     }
     version_of_whole(alloc, text, major, minor, patch, end)

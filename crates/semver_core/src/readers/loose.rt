@@ -17,30 +17,17 @@ use crate::version::lists::{Identifiers, Lists, Qualifier};
 use crate::{MAX_SAFE_INTEGER, Version, scan};
 use std::alloc::{AllocError, Global};
 
-#[inline(always)]
-#[tactic(auto, using(std::proofs::lemmas::List::take_rest))]
-fn begins_with(bytes: &[u8], at: usize, mark: u8) -> bool
-    requires { at ≤ length bytes.now }
-    ensures { result ≡ begins (λ b. b == mark) (drop at bytes.now) }
-{
-    match &bytes[at..] {
-        [byte, ..] => *byte == mark,
-        [] => false,
-    }
-}
-
 // The place behind a byte, if that is the mark.
 #[inline(always)]
-#[tactic(auto, using(crate::proofs::Text::Places::begins_before_end))]
+#[tactic(auto, using(crate::proofs::Text::Places::places))]
 pub(crate) fn past(bytes: &[u8], at: usize, mark: u8) -> Option<usize>
     requires { at ≤ length bytes.now }
     ensures found { result ≡ past mark bytes.now at }
     ensures place { IfSome result (λ next. next ≤ length bytes.now) }
 {
-    if begins_with(bytes, at, mark) {
-        Some(at + 1)
-    } else {
-        None
+    match &bytes[at..] {
+        [byte, ..] if *byte == mark => Some(at + 1),
+        _ => None,
     }
 }
 
@@ -156,21 +143,14 @@ fn mark_len(bytes: &[u8]) -> usize
     }
 }
 
-// The place after a `v` or `V` at the front.
-#[tactic(auto, using(crate::proofs::Text::Texts::mark_boundary))]
-fn after_mark(text: &str) -> usize
-    ensures value { result ≡ mark_len text.now }
-    ensures boundary { IsCharBoundary text.now result }
-{
-    mark_len(text.as_bytes())
-}
-
 // The place behind the mark and the whitespace at the front.
 #[inline(always)]
+#[tactic(auto, using(crate::proofs::Text::Texts::mark_boundary))]
 pub(crate) fn front_of_numbers(text: &str) -> usize
     ensures { IsAfterBlank text.now (mark_len text.now) result }
 {
-    scan::skip_whitespace(text, after_mark(text))
+    let mark = mark_len(text.as_bytes());
+    scan::skip_whitespace(text, mark)
 }
 
 /// Reads the version at the front of a text of any length, as `Version::parse` reads it; whatever

@@ -9,24 +9,17 @@ ghost use Rattle.semver_core.specs.Values.Order.{pre_cmp, precedence, version_eq
 ghost use Rattle.semver_core.specs.Internal.OrderLaws.{precedence_total, version_alike};
 
 use crate::borrowed::identifiers::cmp_lists;
-use crate::{IdentifierRefs, Version, VersionRef, Versioned};
+use crate::{Version, VersionRef, Versioned};
 use std::cmp::Ordering;
 use std::hash::{Hash, Hasher};
 
 // The order of the pre-releases of two versions of any kinds.
 #[inline(never)]
+#[tactic(auto, using(crate::proofs::Values::Compared::pre_compared))]
 pub(crate) fn cmp_pre<V: Versioned, W: Versioned>(v: &V, w: &W) -> Ordering
     ensures { result ≡ pre_cmp (V.value v.now).pre_release (W.value w.now).pre_release }
 {
-    cmp_pre_lists(v.pre_release(), w.pre_release())
-}
-
-// The order of two pre-releases.
-#[inline(always)]
-#[tactic(auto, using(crate::proofs::Values::Compared::pre_compared))]
-fn cmp_pre_lists(a: IdentifierRefs<'_>, b: IdentifierRefs<'_>) -> Ordering
-    ensures { result ≡ pre_cmp a.entry b.entry }
-{
+    let (a, b) = (v.pre_release(), w.pre_release());
     match (a.is_empty(), b.is_empty()) {
         (true, true) => Ordering::Equal,
         (true, false) => Ordering::Greater,
@@ -145,23 +138,16 @@ impl<'a> Hash for VersionRef<'a> {
     }
 }
 
-// Hashes identifiers as a slice of them is hashed.
-fn hash_ids<H: Hasher>(ids: IdentifierRefs<'_>, state: &mut H)
-    ensures { state.new ≡ fold H.write state.old (fed.slice id_writes ids.entry) }
-{
-    state.write_usize(ids.len());
-    let mut others = ids;
-    'ids: while let Some(id) = others.next() {
-        id.hash(state);
-    }
-}
-
-// Hashes what counts of a version.
+// Hashes what counts of a version, the identifiers as a slice of them is hashed.
 fn hash_version<V: Versioned, H: Hasher>(version: &V, state: &mut H)
     ensures { state.new ≡ fold H.write state.old (version_writes (V.value version.now)) }
 {
     version.major().hash(state);
     version.minor().hash(state);
     version.patch().hash(state);
-    hash_ids(version.pre_release(), state);
+    let mut ids = version.pre_release();
+    state.write_usize(ids.len());
+    'ids: while let Some(id) = ids.next() {
+        id.hash(state);
+    }
 }

@@ -148,42 +148,17 @@ impl Version {
         ensures memory { OnErr result ((0 < length pre_release.now) ⊎ (0 < length build.now)) }
         ensures zero { pre_release.now ≡ codes "0" → build.now ≡ [] → IsOk result }
     {
-        if !build.is_empty() {
-            return Ok(Version::with_texts(alloc, major, minor, patch, pre_release, build)?);
-        }
-        match pre_release {
-            b"" => Ok(Version::release(major, minor, patch)),
-            b"0" => {
+        match (pre_release, build) {
+            (b"", b"") => Ok(Version::release(major, minor, patch)),
+            (b"0", b"") => {
                 let zero = Qualifier::One(Identifier::Numeric(0));
                 Ok(Version::from_parts(major, minor, patch, zero))
             }
-            _ => Ok(Version::with_texts(alloc, major, minor, patch, pre_release, build)?),
+            _ => {
+                let lists = lists_of_texts(alloc, pre_release, build)?;
+                Ok(Version::from_parts(major, minor, patch, Qualifier::Lists(lists)))
+            }
         }
-    }
-
-    // The same of texts of which one is not empty, or both.
-    #[inline(always)]
-    fn with_texts(
-        alloc: Global,
-        major: u64,
-        minor: u64,
-        patch: u64,
-        pre_release: &[u8],
-        build: &[u8],
-    ) -> Result<Version, AllocError>
-        requires pre_release { is_listed pre_release.now ≡ true }
-        requires build { is_listed build.now ≡ true }
-        requires some { (0 < length pre_release.now) ⊎ (0 < length build.now) }
-        ensures { IfOk result (λ v. v ≡ record {
-          major = major;
-          minor = minor;
-          patch = patch;
-          pre_release = listed pre_release.now;
-          build = listed build.now;
-        }) }
-    {
-        let lists = lists_of_texts(alloc, pre_release, build)?;
-        Ok(Version::from_parts(major, minor, patch, Qualifier::Lists(lists)))
     }
 
     /// The five values of the version.

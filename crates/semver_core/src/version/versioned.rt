@@ -7,7 +7,7 @@ ghost use Rattle.semver_core.specs.Values.Order.{precedence};
 ghost use Rattle.semver_core.specs.Values.Versions.{VersionValue, is_release};
 
 use crate::cuts::Point;
-use crate::print::{write_lists, write_numbers};
+use crate::print::{write_decimal, write_dotted, write_list};
 use crate::version::order::cmp_pre;
 use crate::{IdentifierRefs, Version, VersionRef};
 use std::cmp::Ordering;
@@ -70,8 +70,11 @@ pub trait Versioned {
         ensures { DisplaysStyledOnOk W.write_str_gives f.old result
             (Some (version_text (value self.now))) f.new }
     {
-        write_numbers(self.major(), self.minor(), self.patch(), f)?;
-        write_lists(self.pre_release(), self.build(), f)
+        write_dotted(self.major(), f)?;
+        write_dotted(self.minor(), f)?;
+        write_decimal(self.patch(), f)?;
+        write_list("-", self.pre_release(), f)?;
+        write_list("+", self.build(), f)
     }
 }
 

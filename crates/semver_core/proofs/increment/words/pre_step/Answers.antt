@@ -31,4 +31,10 @@ returns-in-Err-clause-memory c =
 pub returns-clause-value : goal.returns-clause-value
 returns-clause-value c =
     by_list c.args.id.now c.args.base (parts_ref_value c.args.version.now)
-    ∙ rw (c.in_ok-step_lists.ensures.pre_release, c.from_parts.ensures, ← c.in_ok-step_lists.ensures.build) refl
+    ∙ rw (
+      ← c.in-Ok.ensures.pre_release,
+      ← c.in-Ok.ensures.build,
+      ← c.deref_mut.ensures.value,
+      c.in_ok-step.ensures.value,
+      c.from_parts.ensures,
+    ) refl

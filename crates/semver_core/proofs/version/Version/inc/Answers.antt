@@ -23,7 +23,7 @@ returns c =
     let base = c.args.base in
     let name = unwrap_or id [] in
     let start = unwrap_or base (Value 0) in
-    let k = c.is_version.ensures in
+    let k = c.major-major.ensures.valid in
     let told = subst (λ w. Returns {A = VersionValue} (answer_of_inc w c.args.word.now id base) c.increment.result)
     c.of.ensures c.increment.ensures.value in
     let memory =

@@ -1,6 +1,6 @@
 use Rattle.std.proofs.Common.{◌≡◌, length, false}
 use Rattle.semver_core.specs.Internal.IncrementSteps.{ends_at_max}
-use Rattle.semver_core.proofs.increment.pre_release.ends_at_max.Given as goal
+use Rattle.semver_core.proofs.increment.pre_release.unless_overflow.Given as goal
 
 abbrev pub invariant-ids : goal.invariant-ids
 invariant-ids l = ends_at_max l.at_max l.others ≡ ends_at_max false l.fn.ids

@@ -1,12 +1,12 @@
 use Rattle.std.proofs.Common.{◌≡◌, length}
 use Rattle.std.specs.List.{flat_map, fold}
 use Rattle.semver_core.specs.Internal.Hashes.{id_writes}
-use Rattle.semver_core.proofs.version.order.hash_ids.Given as goal
+use Rattle.semver_core.proofs.version.order.hash_version.Given as goal
 
 abbrev pub invariant-ids : goal.invariant-ids
 invariant-ids g l =
-    fold g.H.Hasher.write l.state (flat_map id_writes l.others)
-    ≡ fold g.H.Hasher.write l.initial.state (flat_map id_writes l.initial.others)
+    fold g.H.Hasher.write l.state (flat_map id_writes l.ids)
+    ≡ fold g.H.Hasher.write l.initial.state (flat_map id_writes l.initial.ids)
 
 abbrev pub decreases-ids : goal.decreases-ids
-decreases-ids g l = length l.others
+decreases-ids g l = length l.ids
