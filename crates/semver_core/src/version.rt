@@ -19,7 +19,7 @@ pub(crate) mod order;
 pub mod parts;
 pub mod versioned;
 
-use crate::readers::{lists_at, numbers, version_loose};
+use crate::readers::{leading_numbers, lists_at, version_loose};
 use crate::version::lists::Qualifier;
 use crate::{Failure, Identifier, MAX_LENGTH, MAX_SAFE_INTEGER, SemverError};
 use std::alloc::Global;
@@ -81,7 +81,7 @@ impl Version {
         if text.len() > MAX_LENGTH {
             return Err(Failure::Refused(SemverError));
         }
-        let Some((major, minor, patch, end)) = numbers(text) else {
+        let Some((major, minor, patch, end)) = leading_numbers(text) else {
             return parse_loose(alloc, text);
         };
         if end == text.len() {

@@ -364,16 +364,6 @@ pub loose_memory : (limit : ℕ) (text : List ℕ) (start : ℕ) → IsAfterBlan
     → IsSomeAnd (version_at limit text start) HasIdentifiers → (v : VersionValue) × Reads limit text v × HasIdentifiers v
 loose_memory limit text start a = memory_read limit text (version_at limit text start) (λ v e. loose_some limit text start v a e)
 
--- the three clauses of a reader whose answer is `version_at`
-pub found_some : (limit : ℕ) (text : List ℕ) (start : ℕ) (found : Option VersionValue) → IsAfterBlank text (mark_len text) start → found ≡ version_at limit text start → IfSome found (λ v. Reads limit text v)
-found_some limit text start None a e = tt
-found_some limit text start (Some v) a e = loose_some limit text start v a (sym e)
-
-pub found_none : (limit : ℕ) (text : List ℕ) (start : ℕ) (found : Option VersionValue) → IsAfterBlank text (mark_len text) start
-    → found ≡ version_at limit text start → IfNone found (NoValue (Reads limit text))
-found_none limit text start None a e = loose_none limit text start a (sym e)
-found_none limit text start (Some v) a e = tt
-
 -- one version at most stands at the front of a text
 pub one_reading : (text : List ℕ) (start : ℕ) → IsAfterBlank text (mark_len text) start → HasOneReading text
 one_reading text start a = λ limit v w r s. some_inside v w (sym (loose_at limit text start v a r) ∙ loose_at limit text start w a s)

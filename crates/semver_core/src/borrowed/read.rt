@@ -10,7 +10,9 @@ ghost use Rattle.semver_core.specs.Text.VersionText.{Reads};
 ghost use Rattle.semver_core.specs.Internal.Reading.{list_from, list_len, lists_at, qualified};
 ghost use Rattle.semver_core.specs.Values.Versions.{release_value};
 
-use crate::readers::{build_start, front_of_numbers, numbers, pre_release_start, three};
+use crate::readers::{
+    build_start, front_of_numbers, leading_numbers, pre_release_start, three_numbers,
+};
 use crate::scan::goes_on_at;
 use crate::{MAX_LENGTH, MAX_SAFE_INTEGER, SemverError, VersionRef};
 
@@ -95,7 +97,7 @@ fn parse_loose(text: &str) -> Result<VersionRef<'_>, SemverError>
     ensures refused { IfErr result (λ _. NoValue (Reads MAX_SAFE_INTEGER text.now)) }
 {
     let at = front_of_numbers(text);
-    let Some((major, minor, patch, end)) = three(text.as_bytes(), at) else {
+    let Some((major, minor, patch, end)) = three_numbers(text.as_bytes(), at) else {
         return Err(SemverError);
     };
     Ok(version_behind(text, major, minor, patch, end))
@@ -122,7 +124,7 @@ impl<'a> VersionRef<'a> {
         if text.len() > MAX_LENGTH {
             return Err(SemverError);
         }
-        let Some((major, minor, patch, end)) = numbers(text) else {
+        let Some((major, minor, patch, end)) = leading_numbers(text) else {
             return parse_loose(text);
         };
         if end == text.len() {

@@ -39,7 +39,7 @@ fn number_and_dot(bytes: &[u8], at: usize) -> Option<(u64, usize)>
 
 // Three numbers with dots between them, and the place behind them.
 #[inline(always)]
-pub(crate) fn three(bytes: &[u8], at: usize) -> Option<(u64, u64, u64, usize)>
+pub(crate) fn three_numbers(bytes: &[u8], at: usize) -> Option<(u64, u64, u64, usize)>
     requires { at ≤ length bytes.now }
     ensures found { result ≡ triple_at MAX_SAFE_INTEGER bytes.now at }
     ensures place { IfSome result (λ found. found.3 ≤ length bytes.now) }
@@ -53,12 +53,12 @@ pub(crate) fn three(bytes: &[u8], at: usize) -> Option<(u64, u64, u64, usize)>
 // The three numbers of a text that begins with them, or with `v` and them, and the place behind
 // them.
 #[inline(always)]
-pub(crate) fn numbers(text: &str) -> Option<(u64, u64, u64, usize)>
+pub(crate) fn leading_numbers(text: &str) -> Option<(u64, u64, u64, usize)>
     ensures found { result ≡ triple_at MAX_SAFE_INTEGER text.now (small_len text.now) }
     ensures place { IfSome result (λ found. found.3 ≤ length text.now) }
 {
     let bytes = text.as_bytes();
-    three(bytes, small_len(bytes))
+    three_numbers(bytes, small_len(bytes))
 }
 
 // The version of three numbers and the qualifier that goes from a place to the end of the text.
@@ -90,7 +90,7 @@ fn read(alloc: Global, text: &str) -> Result<Option<Version>, AllocError>
     ensures memory { OnErr result
         (IsSomeAnd (version_at MAX_SAFE_INTEGER text.now (small_len text.now)) HasIdentifiers) }
 {
-    let Some((major, minor, patch, end)) = numbers(text) else {
+    let Some((major, minor, patch, end)) = leading_numbers(text) else {
         return Ok(None);
     };
     if end == text.len() {

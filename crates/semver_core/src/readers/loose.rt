@@ -12,7 +12,7 @@ ghost use Rattle.semver_core.specs.Values.Versions.{VersionValue, HasIdentifiers
 ghost use Rattle.semver_core.specs.Values.Views.{ids_view};
 ghost use Rattle.semver_core.specs.Internal.Inside.{IsFull, build_of, pre_release_of};
 
-use crate::readers::fast::three;
+use crate::readers::fast::three_numbers;
 use crate::version::lists::{Identifiers, Lists, Qualifier};
 use crate::{MAX_SAFE_INTEGER, Version, scan};
 use std::alloc::{AllocError, Global};
@@ -119,20 +119,6 @@ pub(crate) fn lists_at(
     Ok((Qualifier::Lists(lists), end))
 }
 
-// The version at a place where its numbers begin.
-fn version_from(alloc: Global, text: &str, at: usize) -> Result<Option<Version>, AllocError>
-    requires { at ≤ length text.now }
-    ensures found { IfOk result (λ found. found ≡ version_at MAX_SAFE_INTEGER text.now at) }
-    ensures memory { OnErr result
-        (IsSomeAnd (version_at MAX_SAFE_INTEGER text.now at) HasIdentifiers) }
-{
-    let Some((major, minor, patch, end)) = three(text.as_bytes(), at) else {
-        return Ok(None);
-    };
-    let (qualifier, _) = lists_at(alloc, text, end)?;
-    Ok(Some(Version::from_parts(major, minor, patch, qualifier)))
-}
-
 fn mark_len(bytes: &[u8]) -> usize
     ensures { result ≡ mark_len bytes.now }
 {
@@ -167,5 +153,10 @@ pub fn version_loose(alloc: Global, text: &str) -> Result<Option<Version>, Alloc
     ensures memory { OnErr result
         ((v : VersionValue) × Reads MAX_SAFE_INTEGER text.now v × HasIdentifiers v) }
 {
-    version_from(alloc, text, front_of_numbers(text))
+    let at = front_of_numbers(text);
+    let Some((major, minor, patch, end)) = three_numbers(text.as_bytes(), at) else {
+        return Ok(None);
+    };
+    let (qualifier, _) = lists_at(alloc, text, end)?;
+    Ok(Some(Version::from_parts(major, minor, patch, qualifier)))
 }
