@@ -1,18 +1,15 @@
 // Why the word at the front of a part is ignored, if it is. Nothing is allocated.
 
-ghost use Rattle.std.specs.Prelude.{◌≡◌, is_some};
+ghost use Rattle.std.specs.Prelude.{◌≡◌};
 ghost use Rattle.nodejs_semver.specs.Internal.Ignored.{kind_at, kind_view, unless_bounded};
 ghost use Rattle.nodejs_semver.specs.Internal.Readings.{partial_front_view};
-ghost use Rattle.nodejs_semver.specs.Internal.Readings.{partial_view, sign_view};
-ghost use Rattle.nodejs_semver.specs.Internal.Words.{signed_word, upper_of};
-ghost use Rattle.nodejs_semver.specs.Text.Table.{table};
-ghost use Rattle.nodejs_semver.specs.Text.WordText.{hyphen};
+ghost use Rattle.nodejs_semver.specs.Internal.Readings.{sign_view};
+ghost use Rattle.nodejs_semver.specs.Internal.Words.{upper_of};
 ghost use Rattle.semver_core.specs.declared.TheConstants.{MAX_SAFE_INTEGER};
 
 use crate::diagnosis::IgnoredKind;
 use crate::readers::syntax::{Partial, Sign};
-use crate::readers::{partial, table, words};
-use semver_core::cuts::Interval;
+use crate::readers::{intervals, partial, table, words};
 
 // The kind of a word that has one of the forms.
 fn unless_bounded(bounded: bool) -> Option<IgnoredKind>
@@ -23,21 +20,6 @@ fn unless_bounded(bounded: bool) -> Option<IgnoredKind>
     } else {
         Some(IgnoredKind::WithoutBounds)
     }
-}
-
-fn is_hyphen_bounded(lower: &Partial<'_>, upper: &Partial<'_>) -> bool
-    ensures { let word = hyphen (partial_view lower.now) (partial_view upper.now) in
-        result ≡ is_some (table MAX_SAFE_INTEGER word) }
-{
-    let bounds = table::hyphen(lower, upper);
-    Interval::new(bounds.lower, bounds.upper).is_some()
-}
-
-fn is_bounded(sign: Sign, partial: &Partial<'_>) -> bool
-    ensures { let word = signed_word (sign_view sign) (partial_view partial.now) in
-        result ≡ is_some (table MAX_SAFE_INTEGER word) }
-{
-    table::signed(sign, partial).is_some()
 }
 
 // The second partial of the hyphen word that begins with a partial of this sign, if there is such a
@@ -60,10 +42,14 @@ pub(crate) fn ignored_front(text: &[u8]) -> (Option<IgnoredKind>, &[u8])
         return (Some(IgnoredKind::Malformed), words::skip_to_boundary(text));
     };
     if let Some((upper, rest)) = upper_of(sign, rest) {
-        return (unless_bounded(is_hyphen_bounded(&partial, &upper)), rest);
+        let interval = intervals::between(table::hyphen(&partial, &upper));
+        return (unless_bounded(interval.is_some()), rest);
     }
     if !words::is_boundary(rest) {
         return (Some(IgnoredKind::Malformed), words::skip_to_boundary(text));
     }
-    (unless_bounded(is_bounded(sign, &partial)), rest)
+    (
+        unless_bounded(table::signed(sign, &partial).is_some()),
+        rest,
+    )
 }

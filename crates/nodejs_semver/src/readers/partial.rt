@@ -14,13 +14,6 @@ use crate::readers::syntax::Partial;
 use semver_core::MAX_SAFE_INTEGER;
 use semver_core::scan::{begins_identifier, goes_on, number_in};
 
-#[inline(always)]
-fn begins_wildcard(text: &[u8]) -> bool
-    ensures { result ≡ Spec.begins_wildcard text.now }
-{
-    matches!(text, [b'x' | b'X' | b'*', ..])
-}
-
 // The number at the front, a whole run of digits, and the text behind it.
 #[inline(always)]
 #[tactic(auto, using(crate::proofs::Reading::Numbers::number_fronts))]
@@ -41,7 +34,7 @@ pub(crate) fn component_front(text: &[u8]) -> Option<(Option<u64>, &[u8])>
 {
     match number_front(text) {
         Some((number, rest)) => Some((Some(number), rest)),
-        None if begins_wildcard(text) => Some((None, &text[1..])),
+        None if matches!(text, [b'x' | b'X' | b'*', ..]) => Some((None, &text[1..])),
         None => None,
     }
 }
@@ -85,19 +78,9 @@ fn split_list(text: &[u8]) -> (&[u8], &[u8])
     text.split_at(list_len(text))
 }
 
-// The front of a text where no identifiers stand.
-#[inline(always)]
-#[tactic(auto, using(crate::proofs::Reading::IdentifierLists::listed_nil))]
-fn no_list(text: &[u8]) -> &[u8]
-    ensures nothing { result.now ≡ [] }
-    ensures listed { is_listed result.now ≡ true }
-{
-    &text[..0]
-}
-
 /// The text of the pre-release at the front, and what stands behind it. Mostly there is none.
 #[inline(always)]
-#[tactic(auto, unfolding(crate::specs::Internal::Fronts::pre_release_front))]
+#[tactic(auto, using(crate::proofs::Reading::IdentifierLists::listed_nil), unfolding(crate::specs::Internal::Fronts::pre_release_front))]
 pub(crate) fn pre_release_front(text: &[u8]) -> (&[u8], &[u8])
     ensures listed { is_listed result.0.now ≡ true }
     ensures value { pair_view result ≡ Spec.pre_release_front text.now }
@@ -105,13 +88,13 @@ pub(crate) fn pre_release_front(text: &[u8]) -> (&[u8], &[u8])
     if begins_identifier(text) {
         written_pre_release(text)
     } else {
-        (no_list(text), text)
+        (b"", text)
     }
 }
 
 // The text of the pre-release at the front of any text, and what stands behind it.
 #[inline(never)]
-#[tactic(auto, unfolding(crate::specs::Internal::Fronts::pre_release_front))]
+#[tactic(auto, using(crate::proofs::Reading::IdentifierLists::listed_nil), unfolding(crate::specs::Internal::Fronts::pre_release_front))]
 fn written_pre_release(text: &[u8]) -> (&[u8], &[u8])
     ensures listed { is_listed result.0.now ≡ true }
     ensures value { pair_view result ≡ Spec.pre_release_front text.now }
@@ -121,7 +104,7 @@ fn written_pre_release(text: &[u8]) -> (&[u8], &[u8])
             if begins_identifier(rest) {
                 split_list(rest)
             } else {
-                (no_list(text), text)
+                (b"", text)
             }
         }
         _ => split_list(text),
@@ -130,27 +113,27 @@ fn written_pre_release(text: &[u8]) -> (&[u8], &[u8])
 
 // The text of the build at the front, and what stands behind it. Mostly there is none.
 #[inline(always)]
-#[tactic(auto, unfolding(crate::specs::Internal::Fronts::build_front))]
+#[tactic(auto, using(crate::proofs::Reading::IdentifierLists::listed_nil), unfolding(crate::specs::Internal::Fronts::build_front))]
 fn build_front(text: &[u8]) -> (&[u8], &[u8])
     ensures listed { is_listed result.0.now ≡ true }
     ensures value { pair_view result ≡ Spec.build_front text.now }
 {
     match text {
         [b'+', ..] => written_build(text),
-        _ => (no_list(text), text),
+        _ => (b"", text),
     }
 }
 
 // The text of the build at the front of any text, and what stands behind it.
 #[inline(never)]
-#[tactic(auto, unfolding(crate::specs::Internal::Fronts::build_front))]
+#[tactic(auto, using(crate::proofs::Reading::IdentifierLists::listed_nil), unfolding(crate::specs::Internal::Fronts::build_front))]
 fn written_build(text: &[u8]) -> (&[u8], &[u8])
     ensures listed { is_listed result.0.now ≡ true }
     ensures value { pair_view result ≡ Spec.build_front text.now }
 {
     match text {
         [b'+', rest @ ..] if begins_identifier(rest) => split_list(rest),
-        _ => (no_list(text), text),
+        _ => (b"", text),
     }
 }
 
@@ -173,8 +156,8 @@ fn patch_front<'a>(
                 major,
                 minor,
                 patch: None,
-                pre_release: no_list(text),
-                build: no_list(text),
+                pre_release: b"",
+                build: b"",
             },
             text,
         );
@@ -209,8 +192,8 @@ pub(crate) fn minor_front(major: Option<u64>, text: &[u8]) -> (Partial<'_>, &[u8
                 major,
                 minor: None,
                 patch: None,
-                pre_release: no_list(text),
-                build: no_list(text),
+                pre_release: b"",
+                build: b"",
             },
             text,
         ),

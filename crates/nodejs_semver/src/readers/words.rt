@@ -34,24 +34,15 @@ fn after_some_space(text: &[u8]) -> Option<&[u8]>
     }
 }
 
-// What follows a hyphen between two partials.
-#[inline(always)]
-fn after_hyphen(text: &[u8]) -> Option<&[u8]>
-    ensures { rest_view result ≡ Fronts.after_byte 45 text.now }
-{
-    match text {
-        [b'-', rest @ ..] => Some(rest),
-        _ => None,
-    }
-}
-
 /// The second partial of a hyphen word, and what follows it: behind whitespace, `-` and whitespace,
 /// and up to a boundary.
 pub(crate) fn upper_behind(text: &[u8]) -> Option<(Partial<'_>, &[u8])>
     ensures { partial_front_view result ≡ Spec.upper_behind MAX_SAFE_INTEGER text.now }
 {
     let sign = after_some_space(text)?;
-    let gap = after_hyphen(sign)?;
+    let [b'-', gap @ ..] = sign else {
+        return None;
+    };
     let second = after_some_space(gap)?;
     let (upper, rest) = partial::partial_front(second)?;
     if is_boundary(rest) {

@@ -1,7 +1,8 @@
-use Rattle.std.proofs.Common.{◌≡◌, ap, true, false, rules, ◌∙◌, sym, refl}
+use Rattle.std.proofs.Common.{◌≡◌, ap, arith, is_some, true, false, rules, ◌∙◌, sym, refl}
 use Rattle.semver_core.specs.declared.TheConstants.{MAX_SAFE_INTEGER}
 use Rattle.nodejs_semver.specs.Internal.Readings.{partial_front_view, partial_view, sign_pair_view, sign_view}
-use Rattle.nodejs_semver.specs.Internal.Words.{from_boundary, is_boundary}
+use Rattle.nodejs_semver.specs.Internal.Words.{from_boundary, is_boundary, signed_word}
+use Rattle.nodejs_semver.specs.Text.Table.{table}
 use Rattle.nodejs_semver.proofs.Diagnosing.IgnoredKinds.{at_hyphen, at_malformed, at_signed}
 use Rattle.nodejs_semver.proofs.readers.kinds.ignored_front.Goals as goal
 use Rattle.nodejs_semver.proofs.Reading.SignLaw.{word-as}
@@ -18,11 +19,11 @@ pub returns-in-Some-upper_of : goal.returns-in-Some-upper_of
 returns-in-Some-upper_of c =
     let text = c.args.text.now in
     at_hyphen MAX_SAFE_INTEGER text c.in-Some-upper_of.rest.now (partial_view c.in-Some.partial)
-    (partial_view c.in-Some-upper_of.upper) c.unless_bounded.result c.is_hyphen_bounded.result
+    (partial_view c.in-Some-upper_of.upper) c.unless_bounded.result c.is_some.result
     (word-as MAX_SAFE_INTEGER text (sign_pair_view c.sign_front-sign.result) (partial_front_view c.partial_front.result)
     c.sign_front-sign.ensures c.partial_front.ensures
     ∙ rw (ap partial_front_view c.in-Some.is, sym c.upper_of.ensures, ap partial_front_view c.in-Some-upper_of.is) refl)
-    c.is_hyphen_bounded.ensures c.unless_bounded.ensures
+    (c.is_some.ensures ∙ ap is_some (c.between-interval.ensures ∙ c.hyphen.ensures)) c.unless_bounded.ensures
 
 pub returns-then-not-is_boundary : goal.returns-then-not-is_boundary
 returns-then-not-is_boundary c =
@@ -38,9 +39,11 @@ pub returns : goal.returns
 returns c =
     let text = c.args.text.now in
     let ends : is_boundary c.in-Some.rest.now ≡ true = search rules in
+    let word = signed_word (sign_view c.sign_front-sign.result.0) (partial_view c.in-Some.partial) in
+    let bounded : c.is_some-2.result ≡ is_some (table MAX_SAFE_INTEGER word) = grind arith in
     at_signed MAX_SAFE_INTEGER text c.in-Some.rest.now (sign_view c.sign_front-sign.result.0)
-    (partial_view c.in-Some.partial) c.unless_bounded-2.result c.is_bounded.result
+    (partial_view c.in-Some.partial) c.unless_bounded-2.result c.is_some-2.result
     (word-as MAX_SAFE_INTEGER text (sign_pair_view c.sign_front-sign.result) (partial_front_view c.partial_front.result)
     c.sign_front-sign.ensures c.partial_front.ensures
     ∙ rw (ap partial_front_view c.in-Some.is, sym c.upper_of.ensures, ap partial_front_view c.in_default-upper_of.is, ends) refl)
-    c.is_bounded.ensures c.unless_bounded-2.ensures
+    bounded c.unless_bounded-2.ensures
