@@ -109,9 +109,7 @@ fn push_intersections<V: Point>(
         (0 < length (flat_map (λ t. option_to_list (meet V.cmp interval.now t)) others.now)) }
 {
     for other in others {
-        if let Some(common) = interval.intersect(alloc, other)? {
-            push(common, found, others.len())?;
-        }
+        push(interval.intersect(alloc, other)?, found, others.len())?;
     }
     Ok(())
 }
@@ -204,7 +202,7 @@ fn push_clipped<V: Point>(
         let Some(part) = interval.clip(alloc, piece)? else {
             return Ok(());
         };
-        push(part, found, pieces.len())?;
+        push(Some(part), found, pieces.len())?;
     }
     Ok(())
 }
@@ -223,26 +221,26 @@ fn push_remainder<V: Point>(
     ensures memory { OnErr result (0 < length (remainder V.cmp interval.now other.now)) }
 {
     if !interval.meets(other) {
-        return push(interval.copy(alloc)?, left, room);
+        return push(Some(interval.copy(alloc)?), left, room);
     }
-    if let Some(below) = interval.left_below(alloc, other)? {
-        push(below, left, room)?;
-    }
-    if let Some(above) = interval.left_above(alloc, other)? {
-        push(above, left, room)?;
-    }
-    Ok(())
+    push(interval.left_below(alloc, other)?, left, room)?;
+    push(interval.left_above(alloc, other)?, left, room)
 }
 
-// Puts an interval at the end. A list without room takes some for so many more, at most 31 at once.
+// Puts the interval at the end, if there is one. A list without room takes some for so many more, at
+// most 31 at once.
 #[inline(always)]
 fn push<V: Point>(
-    interval: Interval<V>,
+    part: Option<Interval<V>>,
     found: &mut Intervals<V>,
     room: usize,
 ) -> Result<(), AllocError>
-    ensures { OnOk result (found.new.items ≡ found.old.items ++ interval ∷ []) }
+    ensures items { OnOk result (found.new.items ≡ found.old.items ++ option_to_list part.entry) }
+    ensures memory { OnErr result (IsTrue (is_some part.entry)) }
 {
+    let Some(interval) = part else {
+        return Ok(());
+    };
     if found.len() == found.capacity() {
         found.reserve(room.min(30) + 1)?;
     }

@@ -1,6 +1,6 @@
 // An interval: all points between two cuts.
 ghost use Rattle.std.specs.Prelude.{◌≡◌, ◌&&◌, ◌||◌, not, Option, Some, None, IfOk, IfErr, true};
-ghost use Rattle.std.specs.Prelude.{is_some};
+ghost use Rattle.std.specs.Prelude.{IsTrue, OnErr, is_some};
 ghost use Rattle.std.specs.Ordering.{is_le, is_lt};
 ghost use Rattle.semver_core.specs.Cuts.{covers, cut_cmp, holds, interval, is_interval, is_past};
 ghost use Rattle.semver_core.specs.Cuts.{left_above, left_below, lower_cut, meet};
@@ -156,7 +156,8 @@ impl<V: Point> Interval<V> {
     /// no points, as that of `>1` and `<2` over whole numbers.
     ///
     /// Both intervals are borrowed, so the two bounds are copied: the call fails only if that
-    /// allocation fails. To consume both intervals and copy nothing, see `into_intersection`.
+    /// allocation fails, never in place of `None`. To consume both intervals and copy nothing, see
+    /// `into_intersection`.
     #[inline(always)]
     pub fn intersect(
         &self,
@@ -166,6 +167,7 @@ impl<V: Point> Interval<V> {
         ensures bounds { IfOk result (λ r. r ≡ meet V.cmp self.now other.now) }
         ensures set { IfOk result (λ r. (v : V) →
             option_holds V.cmp r v ≡ (holds V.cmp self.now v && holds V.cmp other.now v)) }
+        ensures memory { OnErr result (IsTrue (is_some (meet V.cmp self.now other.now))) }
     {
         if !self.meets(other) {
             return Ok(None);
@@ -241,14 +243,16 @@ impl<V: Point> Interval<V> {
     /// other's, turned round. Returns `None` where it does not begin below the other. Where the two
     /// do not meet, what lies between them belongs to it too; see `subtract`.
     ///
-    /// Two bounds are copied: the call fails only if that allocation fails.
+    /// Two bounds are copied: the call fails only if that allocation fails, never in place of
+    /// `None`.
     #[inline(always)]
     pub fn left_below(
         &self,
         alloc: Global,
         other: &Interval<V>,
     ) -> Result<Option<Interval<V>>, AllocError>
-        ensures { IfOk result (λ r. r ≡ left_below V.cmp self.now other.now) }
+        ensures bounds { IfOk result (λ r. r ≡ left_below V.cmp self.now other.now) }
+        ensures memory { OnErr result (IsTrue (is_some (left_below V.cmp self.now other.now))) }
     {
         if lower_order(&self.lower, &other.lower).is_lt() {
             Ok(Some(Interval::of_copies(alloc, &self.lower, &other.lower)?))
@@ -261,14 +265,16 @@ impl<V: Point> Interval<V> {
     /// turned round, to its own. Returns `None` where it does not end above the other. Where the two
     /// do not meet, what lies between them belongs to it too; see `subtract`.
     ///
-    /// Two bounds are copied: the call fails only if that allocation fails.
+    /// Two bounds are copied: the call fails only if that allocation fails, never in place of
+    /// `None`.
     #[inline(always)]
     pub fn left_above(
         &self,
         alloc: Global,
         other: &Interval<V>,
     ) -> Result<Option<Interval<V>>, AllocError>
-        ensures { IfOk result (λ r. r ≡ left_above V.cmp self.now other.now) }
+        ensures bounds { IfOk result (λ r. r ≡ left_above V.cmp self.now other.now) }
+        ensures memory { OnErr result (IsTrue (is_some (left_above V.cmp self.now other.now))) }
     {
         if upper_order(&other.upper, &self.upper).is_lt() {
             Ok(Some(Interval::of_copies(alloc, &other.upper, &self.upper)?))

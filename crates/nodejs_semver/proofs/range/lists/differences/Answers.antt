@@ -10,7 +10,7 @@ returns-in-len1 g c =
     ∙ ap (λ t. t ∷ []) (sym c.other-item.is)) (search rules)
 
 pub clip_each-requires : goal.clip_each-requires
-clip_each-requires g c = rw c.deref.ensures.value (along-gaps g.met.V.Ord.total c.args.others.now c.in_ok-pieces.pieces.items c.in_ok-pieces.ensures)
+clip_each-requires g c = rw c.deref.ensures (along-gaps g.met.V.Ord.total c.args.others.now c.in_ok-pieces.pieces.items c.in_ok-pieces.ensures)
 
 pub returns-in_err-pieces-clause-memory : goal.returns-in_err-pieces-clause-memory
 returns-in_err-pieces-clause-memory g c = on_err c.from_residual.result (inr (grind arith))
@@ -20,5 +20,5 @@ returns-in_err-clip_each-clause-memory g c = on_err c.from_residual-in_err-clip_
 
 pub returns-clause-items : goal.returns-clause-items
 returns-clause-items g c =
-    rw c.deref.ensures.value at c.in_ok-clip_each.ensures
+    rw c.deref.ensures at c.in_ok-clip_each.ensures
     ∙ minus-clips g.met.V.Ord.total c.args.these.now c.args.others.now c.in_ok-pieces.pieces.items c.requires c.in_ok-pieces.ensures

@@ -21,4 +21,5 @@ returns g c =
       bounds = both;
       set = λ v. ap (λ r. option_holds g.V.Ord.cmp r v) both
           ∙ option_holds-meet g.met.V.Ord.total c.args.self.now c.args.other.now v;
+      memory = tt;
     }
