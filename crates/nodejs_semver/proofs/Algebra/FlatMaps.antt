@@ -51,14 +51,6 @@ flat_some f xs i x h at k = omega (arith, length-flat_map-take f xs i x h, ap (�
 pub part_some : {A : Type 0} (part found : Option A) → part ≡ found → is_some part ≡ true → 0 < length (option_to_list found)
 part_some part found e h = grind arith
 
-pub first_some : {A : Type 0} (parts found : Option A × Option A) → parts ≡ found → is_some parts.0 ≡ true
-    → 0 < length (option_to_list found.0 ++ option_to_list found.1)
-first_some parts found e h = grind (arith, length-append)
-
-pub second_some : {A : Type 0} (parts found : Option A × Option A) → parts ≡ found → is_some parts.1 ≡ true
-    → 0 < length (option_to_list found.0 ++ option_to_list found.1)
-second_some parts found e h = grind (arith, length-append)
-
 -- tests of the elements
 pub any_flat : {A B : Type 0} (p : B → Bool) (f : A → List B) (xs : List A)
     → list_any p (flat_map f xs) ≡ list_any (λ x. list_any p (f x)) xs

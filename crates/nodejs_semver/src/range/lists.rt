@@ -51,8 +51,8 @@ pub(crate) fn differences<V: Point>(
     ensures memory { OnErr result
         ((0 < length (minus V.cmp these.now others.now)) ⊎ (length others.now ≢ 1)) }
 {
-    if let [other] = others {
-        return subtract_from_each(alloc, these, other);
+    if others.len() == 1 {
+        return subtract_from_each(alloc, these, &others[0]);
     }
     let pieces = complement(alloc, others)?;
     Ok(clip_each(alloc, these, &pieces)?)
@@ -235,8 +235,8 @@ fn push<V: Point>(
     found: &mut Intervals<V>,
     room: usize,
 ) -> Result<(), AllocError>
-    ensures items { OnOk result (found.new.items ≡ found.old.items ++ option_to_list part.entry) }
-    ensures memory { OnErr result (IsTrue (is_some part.entry)) }
+    ensures items { OnOk result (found.new.items ≡ found.old.items ++ option_to_list part) }
+    ensures memory { OnErr result (IsTrue (is_some part)) }
 {
     let Some(interval) = part else {
         return Ok(());

@@ -1,9 +1,12 @@
-use Rattle.std.proofs.Common.{sym, take-append-drop}
+use Rattle.std.proofs.Common.{arith, sym, take-append-drop}
 use Rattle.nodejs_semver.proofs.Algebra.Differences.{along-gaps, gaps-joined}
 use Rattle.nodejs_semver.proofs.range.lists.+complement.Goals as goal
 
 pub clip_each-requires : goal.clip_each-requires
-clip_each-requires g t c = rw c.deref-2.ensures (along-gaps g.met.V.Ord.total c.split_at.result.1.now c.in_ok-after.after.items c.in_ok-after.ensures)
+clip_each-requires g t c = (
+  omega arith,
+  rw c.deref-2.ensures (along-gaps g.met.V.Ord.total c.split_at.result.1.now c.in_ok-after.after.items c.in_ok-after.ensures),
+)
 
 pub returns : goal.returns
 returns g t c =
