@@ -4,7 +4,7 @@ use Rattle.std.proofs.Common.{[], ◌∷◌, ◌++◌, length, get_or, take, not
 use Rattle.std.proofs.Common.{option_to_list, Result, Ok, Err, OnErr}
 use Rattle.std.proofs.lemmas.Bool.{and_parts, or_cases}
 use Rattle.std.proofs.lemmas.Grind.{flat_map-append}
-use Rattle.std.proofs.lemmas.List.{append-nil, length-append, take_more}
+use Rattle.std.proofs.lemmas.List.{append-nil, take_more}
 use Rattle.std.proofs.lemmas.List.Folds.{Any-from_list_any, length-flat_map-take, list_all-append, list_any-append, list_any_at}
 use Rattle.semver_core.specs.Lists.{is_empty}
 use Rattle.std.specs.List.{flat_map, list_all, list_any}
