@@ -109,9 +109,44 @@ fn push_intersections<V: Point>(
         (0 < length (flat_map (λ t. option_to_list (meet V.cmp interval.now t)) others.now)) }
 {
     for other in others {
-        push(interval.intersect(alloc, other)?, found, others.len())?;
+        push_intersection(alloc, found, interval, other, others.len())?;
     }
     Ok(())
+}
+
+// Puts what two intervals have in common at the end. Most pairs do not meet.
+#[inline(always)]
+fn push_intersection<V: Point>(
+    alloc: Global,
+    found: &mut Intervals<V>,
+    interval: &Interval<V>,
+    other: &Interval<V>,
+    room: usize,
+) -> Result<(), AllocError>
+    ensures items { OnOk result (found.new.items
+        ≡ found.old.items ++ option_to_list (meet V.cmp interval.now other.now)) }
+    ensures memory { OnErr result (IsTrue (is_some (meet V.cmp interval.now other.now))) }
+{
+    if !interval.meets(other) {
+        return Ok(());
+    }
+    push_common(alloc, found, interval, other, room)
+}
+
+// Out of the loop over the pairs, which then keeps no interval of its own.
+#[inline(never)]
+fn push_common<V: Point>(
+    alloc: Global,
+    found: &mut Intervals<V>,
+    interval: &Interval<V>,
+    other: &Interval<V>,
+    room: usize,
+) -> Result<(), AllocError>
+    ensures items { OnOk result (found.new.items
+        ≡ found.old.items ++ option_to_list (meet V.cmp interval.now other.now)) }
+    ensures memory { OnErr result (IsTrue (is_some (meet V.cmp interval.now other.now))) }
+{
+    push(interval.intersect(alloc, other)?, found, room)
 }
 
 // The complement: what the intervals leave of the whole line, in order along it. It is found by

@@ -66,7 +66,7 @@ impl<V: Point> Interval<V> {
     }
 
     // The interval between copies of two bounds that are known to be in order.
-    #[inline(never)]
+    #[inline(always)]
     fn of_copies(
         alloc: Global,
         lower: &Bound<V>,
