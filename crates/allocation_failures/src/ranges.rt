@@ -137,9 +137,18 @@ fn intervals(rt: &impl Print, alloc: Global, lower: &str, upper: &str) -> io::Re
         lower,
     )?;
     show_interval(rt, "Interval::clip", one.clip(alloc, &other), lower)?;
-    if let Some(part) = one.common_part(&other) {
-        show_interval(rt, "Part::copy", part.copy(alloc).map(Some), lower)?;
-    }
+    show_interval(
+        rt,
+        "Interval::left_below",
+        one.left_below(alloc, &other),
+        lower,
+    )?;
+    show_interval(
+        rt,
+        "Interval::left_above",
+        one.left_above(alloc, &other),
+        lower,
+    )?;
     match one.subtract(alloc, &other) {
         Ok((below, above)) => {
             show_interval(rt, "Interval::subtract, below", Ok(below), lower)?;

@@ -114,12 +114,7 @@ fn intervals<V: Point>(
     calls.asked(one.copy(alloc))?;
     calls.found(one.intersect(alloc, other))?;
     calls.found(one.clip(alloc, other))?;
-    calls.found_two(one.subtract(alloc, other))?;
-    match one.common_part(other) {
-        Some(part) => {
-            calls.asked(part.copy(alloc))?;
-            Ok(())
-        }
-        None => Ok(()),
-    }
+    calls.found(one.left_below(alloc, other))?;
+    calls.found(one.left_above(alloc, other))?;
+    calls.found_two(one.subtract(alloc, other))
 }

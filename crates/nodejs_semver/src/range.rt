@@ -120,16 +120,14 @@ impl Range {
     }
 
     // The range of these intervals, or none where there is no interval.
-    pub(crate) fn from_intervals(intervals: Vec<Interval<Version>>) -> Option<Range>
+    pub(crate) fn from_intervals(intervals: Intervals<Version>) -> Option<Range>
         requires { list_all (is_range_span (MAX_SAFE_INTEGER + 1)) intervals.items ≡ true }
         ensures { result ≡ if_any intervals.items }
     {
         if intervals.is_empty() {
             None
         } else {
-            Some(Range {
-                intervals: SmallVec::from_vec(intervals),
-            })
+            Some(Range { intervals })
         }
     }
 }

@@ -29,6 +29,10 @@ pub not_if : (a b : Bool) → (a ≡ true → b ≡ true) → b ≡ false → a 
 not_if true b f h = sym (f refl) ∙ h
 not_if false b f h = refl
 
+pub none_of : {A : Type 0} (m : Option A) → is_some m ≡ false → m ≡ None
+none_of None h = refl
+none_of (Some x) h = cc
+
 pub lt_not_gt : (r : Ordering) → is_lt r ≡ true → is_gt r ≡ false
 lt_not_gt Less h = refl
 lt_not_gt Equal h = cc
@@ -203,6 +207,10 @@ module _ {V : Type 0} {R : V → V → Ordering} (o : IsTotalOrder R) where
   pub option_holds-meet : (s t : Span V) (v : V) → option_holds R (meet R s t) v ≡ (holds R s v && holds R t v)
   option_holds-meet s t v = option_holds-interval _ v
       ∙ rw (is_past-greater_lower s.lower t.lower v, is_past-lesser_upper s.upper t.upper v) (grind arith)
+
+  -- where they have nothing in common, no point lies in both
+  pub apart : (s t : Span V) → is_some (meet R s t) ≡ false → (v : V) → false ≡ (holds R s v && holds R t v)
+  apart s t h v = ap (λ m. option_holds R m v) (sym (none_of (meet R s t) h)) ∙ option_holds-meet s t v
 
   pub option_holds-clip : (s t : Span V) (v : V) → option_holds R (clip R s t) v ≡ (holds R s v && holds R t v)
   option_holds-clip s t v = option_holds-interval _ v

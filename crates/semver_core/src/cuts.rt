@@ -5,8 +5,6 @@
 mod bound;
 mod interval;
 mod order;
-mod part;
 
 pub use crate::cuts::bound::{Bound, Point};
 pub use crate::cuts::interval::Interval;
-pub use crate::cuts::part::Part;

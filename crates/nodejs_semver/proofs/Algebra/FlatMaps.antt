@@ -4,7 +4,7 @@ use Rattle.std.proofs.Common.{[], ◌∷◌, ◌++◌, length, get_or, take, not
 use Rattle.std.proofs.Common.{option_to_list, Result, Ok, Err, OnErr}
 use Rattle.std.proofs.lemmas.Bool.{and_parts, or_cases}
 use Rattle.std.proofs.lemmas.Grind.{flat_map-append}
-use Rattle.std.proofs.lemmas.List.{append-nil, length-append, take_more}
+use Rattle.std.proofs.lemmas.List.{append-nil, take_more}
 use Rattle.std.proofs.lemmas.List.Folds.{Any-from_list_any, length-flat_map-take, list_all-append, list_any-append, list_any_at}
 use Rattle.semver_core.specs.Lists.{is_empty}
 use Rattle.std.specs.List.{flat_map, list_all, list_any}
@@ -50,14 +50,6 @@ flat_some f xs i x h at k = omega (arith, length-flat_map-take f xs i x h, ap (�
 
 pub part_some : {A : Type 0} (part found : Option A) → part ≡ found → is_some part ≡ true → 0 < length (option_to_list found)
 part_some part found e h = grind arith
-
-pub first_some : {A : Type 0} (parts found : Option A × Option A) → parts ≡ found → is_some parts.0 ≡ true
-    → 0 < length (option_to_list found.0 ++ option_to_list found.1)
-first_some parts found e h = grind (arith, length-append)
-
-pub second_some : {A : Type 0} (parts found : Option A × Option A) → parts ≡ found → is_some parts.1 ≡ true
-    → 0 < length (option_to_list found.0 ++ option_to_list found.1)
-second_some parts found e h = grind (arith, length-append)
 
 -- tests of the elements
 pub any_flat : {A B : Type 0} (p : B → Bool) (f : A → List B) (xs : List A)

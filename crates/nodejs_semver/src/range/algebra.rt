@@ -10,7 +10,6 @@ ghost use Rattle.nodejs_semver.specs.Ranges.Algebra.{list_holds};
 
 use crate::range::lists;
 use crate::{Range, RangeRef};
-use smallvec::SmallVec;
 use std::alloc::{AllocError, Global};
 
 impl Range {
@@ -234,7 +233,7 @@ impl<'a> RangeRef<'a> {
         ensures memory { OnErr result (IsTrue (is_some (intersection self.now other.now))) }
     {
         let both = lists::intersections(alloc, self.intervals(), other.intervals())?;
-        Ok(RangeRef::from_intervals(SmallVec::from_vec(both)))
+        Ok(RangeRef::from_intervals(both))
     }
 
     // What the other range leaves of this one.
@@ -248,6 +247,6 @@ impl<'a> RangeRef<'a> {
             (IsTrue (is_some (difference self.now other.now)) ⊎ (1 < length other.now)) }
     {
         let pieces = lists::differences(alloc, self.intervals(), other.intervals())?;
-        Ok(RangeRef::from_intervals(SmallVec::from_vec(pieces)))
+        Ok(RangeRef::from_intervals(pieces))
     }
 }

@@ -12,7 +12,9 @@ ghost use Rattle.nodejs_semver.specs.Ranges.Algebra.{remainder};
 ghost use Rattle.semver_core.specs.declared.cuts.bound.Bound.TheVariants.{Unbounded};
 ghost use Rattle.nodejs_semver.specs.Internal.Along.{IsAlong};
 
-use semver_core::cuts::{Interval, Part, Point};
+use crate::range::Intervals;
+use semver_core::cuts::{Interval, Point};
+use smallvec::SmallVec;
 use std::alloc::{AllocError, Global};
 
 /// The intersections of all pairs, the first list outside.
@@ -20,11 +22,11 @@ pub(crate) fn intersections<V: Point>(
     alloc: Global,
     these: &[Interval<V>],
     others: &[Interval<V>],
-) -> Result<Vec<Interval<V>>, AllocError>
+) -> Result<Intervals<V>, AllocError>
     ensures items { IfOk result (λ r. r.items ≡ meets_of V.cmp these.now others.now) }
     ensures memory { OnErr result (0 < length (meets_of V.cmp these.now others.now)) }
 {
-    let mut found = Vec::new(alloc);
+    let mut found = SmallVec::new(alloc);
     for interval in these {
         push_intersections(alloc, &mut found, interval, others)?;
     }
@@ -42,15 +44,15 @@ pub(crate) fn differences<V: Point>(
     alloc: Global,
     these: &[Interval<V>],
     others: &[Interval<V>],
-) -> Result<Vec<Interval<V>>, AllocError>
+) -> Result<Intervals<V>, AllocError>
     requires { list_all (is_interval V.cmp) these.now ≡ true }
     ensures items { IfOk result (λ r. r.items ≡ minus V.cmp these.now others.now) }
     // The complement of one other interval is not made.
     ensures memory { OnErr result
         ((0 < length (minus V.cmp these.now others.now)) ⊎ (length others.now ≢ 1)) }
 {
-    if let [other] = others {
-        return subtract_from_each(alloc, these, other);
+    if others.len() == 1 {
+        return subtract_from_each(alloc, these, &others[0]);
     }
     let pieces = complement(alloc, others)?;
     Ok(clip_each(alloc, these, &pieces)?)
@@ -96,20 +98,55 @@ fn covers_one<V: Point>(interval: &Interval<V>, others: &[Interval<V>]) -> bool
 // Puts what one interval has in common with each of the others at the end.
 fn push_intersections<V: Point>(
     alloc: Global,
-    parts: &mut Vec<Interval<V>>,
+    found: &mut Intervals<V>,
     interval: &Interval<V>,
     others: &[Interval<V>],
 ) -> Result<(), AllocError>
-    ensures items { OnOk result (parts.new.items
-        ≡ parts.old.items
+    ensures items { OnOk result (found.new.items
+        ≡ found.old.items
         ++ flat_map (λ t. option_to_list (meet V.cmp interval.now t)) others.now) }
     ensures memory { OnErr result
         (0 < length (flat_map (λ t. option_to_list (meet V.cmp interval.now t)) others.now)) }
 {
     for other in others {
-        push_part(alloc, parts, interval.common_part(other))?;
+        push_intersection(alloc, found, interval, other, others.len())?;
     }
     Ok(())
+}
+
+// Puts what two intervals have in common at the end. Most pairs do not meet.
+#[inline(always)]
+fn push_intersection<V: Point>(
+    alloc: Global,
+    found: &mut Intervals<V>,
+    interval: &Interval<V>,
+    other: &Interval<V>,
+    room: usize,
+) -> Result<(), AllocError>
+    ensures items { OnOk result (found.new.items
+        ≡ found.old.items ++ option_to_list (meet V.cmp interval.now other.now)) }
+    ensures memory { OnErr result (IsTrue (is_some (meet V.cmp interval.now other.now))) }
+{
+    if !interval.meets(other) {
+        return Ok(());
+    }
+    push_common(alloc, found, interval, other, room)
+}
+
+// Out of the loop over the pairs, which then keeps no interval of its own.
+#[inline(never)]
+fn push_common<V: Point>(
+    alloc: Global,
+    found: &mut Intervals<V>,
+    interval: &Interval<V>,
+    other: &Interval<V>,
+    room: usize,
+) -> Result<(), AllocError>
+    ensures items { OnOk result (found.new.items
+        ≡ found.old.items ++ option_to_list (meet V.cmp interval.now other.now)) }
+    ensures memory { OnErr result (IsTrue (is_some (meet V.cmp interval.now other.now))) }
+{
+    push(interval.intersect(alloc, other)?, found, room)
 }
 
 // The complement: what the intervals leave of the whole line, in order along it. It is found by
@@ -117,7 +154,7 @@ fn push_intersections<V: Point>(
 fn complement<V: Point>(
     alloc: Global,
     intervals: &[Interval<V>],
-) -> Result<Vec<Interval<V>>, AllocError>
+) -> Result<Intervals<V>, AllocError>
     ensures { IfOk result (λ r. r.items
         ≡ minus V.cmp (record { lower = Unbounded; upper = Unbounded } ∷ []) intervals.now) }
 {
@@ -134,12 +171,12 @@ fn complement<V: Point>(
 fn complement_of_few<V: Point>(
     alloc: Global,
     intervals: &[Interval<V>],
-) -> Result<Vec<Interval<V>>, AllocError>
+) -> Result<Intervals<V>, AllocError>
     ensures { IfOk result (λ r. r.items
         ≡ minus V.cmp (record { lower = Unbounded; upper = Unbounded } ∷ []) intervals.now) }
 {
-    let mut left = Vec::new(alloc);
-    left.push(Interval::default())?;
+    let mut left = SmallVec::new(alloc);
+    left.push_reserved(Interval::default());
     for interval in intervals {
         left = subtract_from_each(alloc, &left, interval)?;
     }
@@ -151,17 +188,15 @@ fn subtract_from_each<V: Point>(
     alloc: Global,
     these: &[Interval<V>],
     other: &Interval<V>,
-) -> Result<Vec<Interval<V>>, AllocError>
+) -> Result<Intervals<V>, AllocError>
     ensures items { IfOk result (λ r. r.items
         ≡ flat_map (λ s. remainder V.cmp s other.now) these.now) }
     ensures memory { OnErr result
         (0 < length (flat_map (λ s. remainder V.cmp s other.now) these.now)) }
 {
-    let mut left = Vec::new(alloc);
+    let mut left = SmallVec::new(alloc);
     for interval in these {
-        let (below, above) = interval.remaining_parts(other);
-        push_part(alloc, &mut left, below)?;
-        push_part(alloc, &mut left, above)?;
+        push_remainder(alloc, &mut left, interval, other, these.len())?;
     }
     Ok(left)
 }
@@ -171,12 +206,12 @@ fn clip_each<V: Point>(
     alloc: Global,
     these: &[Interval<V>],
     pieces: &[Interval<V>],
-) -> Result<Vec<Interval<V>>, AllocError>
+) -> Result<Intervals<V>, AllocError>
     requires { IsAlong V.cmp Start pieces.now }
     ensures { IfOk result (λ r. r.items
         ≡ flat_map (λ s. flat_map (λ t. option_to_list (clip V.cmp s t)) pieces.now) these.now) }
 {
-    let mut found = Vec::new(alloc);
+    let mut found = SmallVec::new(alloc);
     for interval in these {
         push_clipped(alloc, &mut found, interval, pieces)?;
     }
@@ -187,53 +222,63 @@ fn clip_each<V: Point>(
 // together.
 fn push_clipped<V: Point>(
     alloc: Global,
-    parts: &mut Vec<Interval<V>>,
+    found: &mut Intervals<V>,
     interval: &Interval<V>,
     pieces: &[Interval<V>],
 ) -> Result<(), AllocError>
     requires { IsAlong V.cmp Start pieces.now }
-    ensures { OnOk result (parts.new.items
-        ≡ parts.old.items
+    ensures { OnOk result (found.new.items
+        ≡ found.old.items
         ++ flat_map (λ t. option_to_list (clip V.cmp interval.now t)) pieces.now) }
 {
     let first = pieces.partition_point(|piece| !piece.reaches(interval));
     let (_, near) = pieces.split_at(first);
     for piece in near {
-        let Some(part) = interval.clipped_part(piece) else {
+        let Some(part) = interval.clip(alloc, piece)? else {
             return Ok(());
         };
-        push_copy(alloc, parts, &part)?;
+        push(Some(part), found, pieces.len())?;
     }
     Ok(())
 }
 
-// Puts a copy of the part at the end, if there is one.
+// Puts what is left of the interval below and above the other at the end.
 #[inline(always)]
-fn push_part<V: Point>(
+fn push_remainder<V: Point>(
     alloc: Global,
-    parts: &mut Vec<Interval<V>>,
-    part: Option<Part<V>>,
+    left: &mut Intervals<V>,
+    interval: &Interval<V>,
+    other: &Interval<V>,
+    room: usize,
 ) -> Result<(), AllocError>
-    ensures items { OnOk result (parts.new.items ≡ parts.old.items ++ option_to_list part.entry) }
-    ensures memory { OnErr result (IsTrue (is_some part.entry)) }
+    ensures items { OnOk result (left.new.items
+        ≡ left.old.items ++ remainder V.cmp interval.now other.now) }
+    ensures memory { OnErr result (0 < length (remainder V.cmp interval.now other.now)) }
 {
-    match part {
-        Some(part) => push_copy(alloc, parts, &part),
-        None => Ok(()),
+    if !interval.meets(other) {
+        return push(Some(interval.copy(alloc)?), left, room);
     }
+    push(interval.left_below(alloc, other)?, left, room)?;
+    push(interval.left_above(alloc, other)?, left, room)
 }
 
-// Puts a copy of the part at the end.
-#[inline(never)]
-fn push_copy<V: Point>(
-    alloc: Global,
-    parts: &mut Vec<Interval<V>>,
-    part: &Part<V>,
+// Puts the interval at the end, if there is one. A list without room takes some for so many more, at
+// most 31 at once.
+#[inline(always)]
+fn push<V: Point>(
+    part: Option<Interval<V>>,
+    found: &mut Intervals<V>,
+    room: usize,
 ) -> Result<(), AllocError>
-    ensures { OnOk result (parts.new.items ≡ parts.old.items ++ (part.now ∷ [])) }
+    ensures items { OnOk result (found.new.items ≡ found.old.items ++ option_to_list part) }
+    ensures memory { OnErr result (IsTrue (is_some part)) }
 {
-    let interval = part.copy(alloc)?;
-    parts.reserve(1)?;
-    parts.push_reserved(interval);
+    let Some(interval) = part else {
+        return Ok(());
+    };
+    if found.len() == found.capacity() {
+        found.reserve(room.min(30) + 1)?;
+    }
+    found.push_reserved(interval);
     Ok(())
 }

@@ -1,9 +1,9 @@
 // An interval: all points between two cuts.
 ghost use Rattle.std.specs.Prelude.{◌≡◌, ◌&&◌, ◌||◌, not, Option, Some, None, IfOk, IfErr, true};
-ghost use Rattle.std.specs.Prelude.{is_some};
+ghost use Rattle.std.specs.Prelude.{IsTrue, OnErr, is_some};
 ghost use Rattle.std.specs.Ordering.{is_le, is_lt};
 ghost use Rattle.semver_core.specs.Cuts.{covers, cut_cmp, holds, interval, is_interval, is_past};
-ghost use Rattle.semver_core.specs.Cuts.{lower_cut, meet};
+ghost use Rattle.semver_core.specs.Cuts.{left_above, left_below, lower_cut, meet};
 ghost use Rattle.semver_core.specs.Cuts.{option_holds, remainders, upper_cut};
 ghost use Rattle.semver_core.specs.Clips.{clip};
 
@@ -12,7 +12,6 @@ use crate::cuts::order::{
     greater_lower, into_greater_lower, into_lesser_upper, is_below, is_past_lower, is_past_upper,
     lesser_upper, lower_order, upper_order,
 };
-use crate::cuts::part::{Part, copied};
 use std::alloc::{AllocError, Global};
 use std::marker::Model;
 
@@ -63,8 +62,21 @@ impl<V: Point> Interval<V> {
     pub fn copy(&self, alloc: Global) -> Result<Interval<V>, AllocError>
         ensures { IfOk result (λ i. i ≡ self.now) }
     {
-        let lower = self.lower.copy(alloc)?;
-        let upper = self.upper.copy(alloc)?;
+        Interval::of_copies(alloc, &self.lower, &self.upper)
+    }
+
+    // The interval between copies of two bounds that are known to be in order.
+    #[inline(always)]
+    fn of_copies(
+        alloc: Global,
+        lower: &Bound<V>,
+        upper: &Bound<V>,
+    ) -> Result<Interval<V>, AllocError>
+        requires { is_interval V.cmp (record { lower = lower.now; upper = upper.now }) ≡ true }
+        ensures { IfOk result (λ i. i ≡ record { lower = lower.now; upper = upper.now }) }
+    {
+        let lower = lower.copy(alloc)?;
+        let upper = upper.copy(alloc)?;
         Ok(Interval { lower, upper })
     }
 
@@ -81,7 +93,7 @@ impl<V: Point> Interval<V> {
         }
     }
 
-    /// The same of bounds that are known to be in order, without the comparison.
+    /// The interval between two bounds that are known to be in order. Nothing is compared.
     #[inline(always)]
     pub fn of_ordered(lower: Bound<V>, upper: Bound<V>) -> Interval<V>
         requires { is_interval V.cmp (record { lower = lower; upper = upper }) ≡ true }
@@ -144,7 +156,9 @@ impl<V: Point> Interval<V> {
     /// no points, as that of `>1` and `<2` over whole numbers.
     ///
     /// Both intervals are borrowed, so the two bounds are copied: the call fails only if that
-    /// allocation fails. To consume both intervals and copy nothing, see `into_intersection`.
+    /// allocation fails, never in place of `None`. To consume both intervals and copy nothing, see
+    /// `into_intersection`.
+    #[inline(always)]
     pub fn intersect(
         &self,
         alloc: Global,
@@ -153,21 +167,14 @@ impl<V: Point> Interval<V> {
         ensures bounds { IfOk result (λ r. r ≡ meet V.cmp self.now other.now) }
         ensures set { IfOk result (λ r. (v : V) →
             option_holds V.cmp r v ≡ (holds V.cmp self.now v && holds V.cmp other.now v)) }
-    {
-        Ok(copied(alloc, self.common_part(other))?)
-    }
-
-    /// The same with borrowed bounds, so that nothing is copied.
-    #[inline(always)]
-    pub fn common_part<'a>(&'a self, other: &'a Interval<V>) -> Option<Part<'a, V>>
-        ensures { result ≡ meet V.cmp self.now other.now }
+        ensures memory { OnErr result (IsTrue (is_some (meet V.cmp self.now other.now))) }
     {
         if !self.meets(other) {
-            return None;
+            return Ok(None);
         }
         let lower = greater_lower(&self.lower, &other.lower);
         let upper = lesser_upper(&self.upper, &other.upper);
-        Some(Part::of_ordered(lower, upper))
+        Ok(Some(Interval::of_copies(alloc, lower, upper)?))
     }
 
     /// The intersection, by moving the bounds of both intervals. It allocates nothing. Where
@@ -193,6 +200,7 @@ impl<V: Point> Interval<V> {
     /// its own bounds, with their builds, wherever it can.
     ///
     /// Two bounds are copied: the call fails only if that allocation fails.
+    #[inline(always)]
     pub fn clip(
         &self,
         alloc: Global,
@@ -202,20 +210,12 @@ impl<V: Point> Interval<V> {
         ensures set { IfOk result (λ r. (v : V) →
             option_holds V.cmp r v ≡ (holds V.cmp self.now v && holds V.cmp other.now v)) }
     {
-        Ok(copied(alloc, self.clipped_part(other))?)
-    }
-
-    /// The same with borrowed bounds, so that nothing is copied.
-    #[inline(always)]
-    pub fn clipped_part<'a>(&'a self, other: &'a Interval<V>) -> Option<Part<'a, V>>
-        ensures { result ≡ clip V.cmp self.now other.now }
-    {
         if !self.meets(other) {
-            return None;
+            return Ok(None);
         }
         let lower = greater_lower(&other.lower, &self.lower);
         let upper = lesser_upper(&self.upper, &other.upper);
-        Some(Part::of_ordered(lower, upper))
+        Ok(Some(Interval::of_copies(alloc, lower, upper)?))
     }
 
     /// What is left of the interval below the other one, and above it. A new bound is the other's
@@ -231,34 +231,56 @@ impl<V: Point> Interval<V> {
             (option_holds V.cmp r.0 v || option_holds V.cmp r.1 v)
             ≡ (holds V.cmp self.now v && not (holds V.cmp other.now v))) }
     {
-        let (below, above) = self.remaining_parts(other);
-        let below = copied(alloc, below)?;
-        let above = copied(alloc, above)?;
+        if !self.meets(other) {
+            return Ok((Some(self.copy(alloc)?), None));
+        }
+        let below = self.left_below(alloc, other)?;
+        let above = self.left_above(alloc, other)?;
         Ok((below, above))
     }
 
-    /// The same with borrowed bounds, so that nothing is copied.
+    /// What is left of the interval below another one that it meets: from its lower bound to the
+    /// other's, turned round. Returns `None` where it does not begin below the other. Where the two
+    /// do not meet, what lies between them belongs to it too; see `subtract`.
+    ///
+    /// Two bounds are copied: the call fails only if that allocation fails, never in place of
+    /// `None`.
     #[inline(always)]
-    pub fn remaining_parts<'a>(
-        &'a self,
-        other: &'a Interval<V>,
-    ) -> (Option<Part<'a, V>>, Option<Part<'a, V>>)
-        ensures { result ≡ remainders V.cmp self.now other.now }
+    pub fn left_below(
+        &self,
+        alloc: Global,
+        other: &Interval<V>,
+    ) -> Result<Option<Interval<V>>, AllocError>
+        ensures bounds { IfOk result (λ r. r ≡ left_below V.cmp self.now other.now) }
+        ensures memory { OnErr result (IsTrue (is_some (left_below V.cmp self.now other.now))) }
     {
-        if !self.meets(other) {
-            return (Some(Part::of_ordered(&self.lower, &self.upper)), None);
+        if lower_order(&self.lower, &other.lower).is_lt() {
+            Ok(Some(Interval::of_copies(alloc, &self.lower, &other.lower)?))
+        } else {
+            Ok(None)
         }
-        let below = if lower_order(&self.lower, &other.lower).is_lt() {
-            Some(Part::of_ordered(&self.lower, &other.lower))
+    }
+
+    /// What is left of the interval above another one that it meets: from the other's upper bound,
+    /// turned round, to its own. Returns `None` where it does not end above the other. Where the two
+    /// do not meet, what lies between them belongs to it too; see `subtract`.
+    ///
+    /// Two bounds are copied: the call fails only if that allocation fails, never in place of
+    /// `None`.
+    #[inline(always)]
+    pub fn left_above(
+        &self,
+        alloc: Global,
+        other: &Interval<V>,
+    ) -> Result<Option<Interval<V>>, AllocError>
+        ensures bounds { IfOk result (λ r. r ≡ left_above V.cmp self.now other.now) }
+        ensures memory { OnErr result (IsTrue (is_some (left_above V.cmp self.now other.now))) }
+    {
+        if upper_order(&other.upper, &self.upper).is_lt() {
+            Ok(Some(Interval::of_copies(alloc, &other.upper, &self.upper)?))
         } else {
-            None
-        };
-        let above = if upper_order(&other.upper, &self.upper).is_lt() {
-            Some(Part::of_ordered(&other.upper, &self.upper))
-        } else {
-            None
-        };
-        (below, above)
+            Ok(None)
+        }
     }
 }
 

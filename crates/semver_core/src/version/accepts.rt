@@ -57,7 +57,7 @@ impl Version {
         range.accepts(self, false)
     }
 
-    /// The same with the caller's flag: `set.accepts(version, include_prerelease)`.
+    /// Whether the set accepts this version: `set.accepts(version, include_prerelease)`.
     pub fn satisfies_with_prerelease<R: Accepts>(&self, range: &R, include_prerelease: bool) -> bool
         ensures { result ≡ R.accepts range.now self.now include_prerelease }
     {
@@ -74,7 +74,7 @@ impl<'a> VersionRef<'a> {
         self.satisfies_with_prerelease(range, false)
     }
 
-    /// The same with the caller's flag: `set.accepts(version, include_prerelease)`.
+    /// Whether the set accepts this version: `set.accepts(version, include_prerelease)`.
     pub fn satisfies_with_prerelease<R: AcceptsRef>(
         &self,
         range: &R,

@@ -1,7 +1,7 @@
 // Intervals of versions, whose bounds are releases here: `1` is 1.0.0.
 
 use nodejs_semver::Version;
-use nodejs_semver::cuts::{Bound, Interval, Part};
+use nodejs_semver::cuts::{Bound, Interval};
 use std::alloc::{AllocError, Global};
 use std::hash::{DefaultHasher, Hash, Hasher};
 
@@ -219,7 +219,7 @@ enum Call {
     Intersect,
     Clip,
     Subtract,
-    Parts,
+    Sides,
     Meets,
     Reaches,
     Covers,
@@ -251,7 +251,7 @@ fn holds(
         Call::Intersect => is_common(first.intersect(alloc, second), pair.both),
         Call::Clip => is_common(first.clip(alloc, second), pair.both),
         Call::Subtract => subtracts(alloc, pair, first, second),
-        Call::Parts => has_parts(alloc, pair, first, second),
+        Call::Sides => has_sides(alloc, pair, first, second),
         Call::Meets => first.meets(second) == pair.both.is_some(),
         Call::Reaches => first.reaches(second) == pair.both.is_some(),
         Call::Covers => first.covers(second) == (pair.both == Some(pair.second)),
@@ -280,38 +280,16 @@ fn subtracts(
     }
 }
 
-fn part_copies(alloc: Global, part: &Part<Version>, ends: (u8, u8)) -> bool {
-    match part.copy(alloc) {
-        Ok(copy) => spans(&copy, ends),
-        Err(_) => false,
-    }
-}
-
-// Whether the part, and its copy, is the one between two numbers, or there is none where none is
-// wanted.
-fn is_part(alloc: Global, part: Option<Part<Version>>, wanted: Option<(u8, u8)>) -> bool {
-    match (part, wanted) {
-        (Some(part), Some(ends)) => {
-            is_bound(part.lower(), End::Before(ends.0))
-                && is_bound(part.upper(), End::Before(ends.1))
-                && part_copies(alloc, &part, ends)
-        }
-        (None, None) => true,
-        (_, _) => false,
-    }
-}
-
-fn has_parts(
+// Of intervals that do not meet nothing is asked here.
+fn has_sides(
     alloc: Global,
     pair: &Pair,
     first: &Interval<Version>,
     second: &Interval<Version>,
 ) -> bool {
-    let (below, above) = first.remaining_parts(second);
-    is_part(alloc, first.common_part(second), pair.both)
-        && is_part(alloc, first.clipped_part(second), pair.both)
-        && is_part(alloc, below, pair.below)
-        && is_part(alloc, above, pair.above)
+    !first.meets(second)
+        || (is_common(first.left_below(alloc, second), pair.below)
+            && is_common(first.left_above(alloc, second), pair.above))
 }
 
 #[test]
@@ -336,9 +314,9 @@ fn subtract_leaves_what_lies_below_and_above(rt: HostRuntime) {
 }
 
 #[test]
-fn parts_borrow_what_the_copies_hold(rt: HostRuntime) {
+fn each_side_leaves_what_lies_there(rt: HostRuntime) {
     for pair in PAIRS {
-        assert!(rt; agrees(rt.alloc(), Call::Parts, pair));
+        assert!(rt; agrees(rt.alloc(), Call::Sides, pair));
     }
 }
 

@@ -1,10 +1,11 @@
-use Rattle.std.proofs.Common.{refl}
+use Rattle.std.proofs.Common.{arith, refl}
 use Rattle.nodejs_semver.proofs.Algebra.Clauses.{minus-some, minus-valid, range-intervals}
 use Rattle.nodejs_semver.proofs.Algebra.FlatMaps.{on_err}
 use Rattle.nodejs_semver.proofs.range.Range.remaining.Goals as goal
 
 pub differences-requires : goal.differences-requires
-differences-requires c = range-intervals c.args.self.now c.intervals.result.now c.intervals.ensures.valid c.intervals.ensures.value
+differences-requires c =
+    (omega arith, range-intervals c.args.self.now c.intervals.result.now c.intervals.ensures.valid c.intervals.ensures.value)
 
 pub from_intervals-requires : goal.from_intervals-requires
 from_intervals-requires c =

@@ -4,5 +4,5 @@ use Rattle.nodejs_semver.proofs.range.lists.push_clipped.Given as goal
 
 abbrev pub invariant-loop-piece : goal.invariant-loop-piece
 invariant-loop-piece g l =
-    l.parts.items
-    ≡ l.initial.parts.items ++ flat_map (λ t. option_to_list (clip g.V.Ord.cmp l.interval t)) (take l.piece-index l.near)
+    l.found.items
+    ≡ l.initial.found.items ++ flat_map (λ t. option_to_list (clip g.V.Ord.cmp l.interval t)) (take l.piece-index l.near)

@@ -4,5 +4,5 @@ use Rattle.nodejs_semver.proofs.range.lists.push_intersections.Given as goal
 
 abbrev pub invariant-loop-other : goal.invariant-loop-other
 invariant-loop-other g l =
-    l.parts.items
-    ≡ l.initial.parts.items ++ flat_map (λ t. option_to_list (meet g.V.Ord.cmp l.interval t)) (take l.other-index l.others)
+    l.found.items
+    ≡ l.initial.found.items ++ flat_map (λ t. option_to_list (meet g.V.Ord.cmp l.interval t)) (take l.other-index l.others)
