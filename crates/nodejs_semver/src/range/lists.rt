@@ -262,8 +262,8 @@ fn push_remainder<V: Point>(
     push(interval.left_above(alloc, other)?, left, room)
 }
 
-// Puts the interval at the end, if there is one. A list without room takes some for so many more, at
-// most 31 at once.
+// Puts the interval at the end, if there is one. A list without room takes some for so many more,
+// at most 31 at once.
 #[inline(always)]
 fn push<V: Point>(
     part: Option<Interval<V>>,

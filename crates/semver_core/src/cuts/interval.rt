@@ -262,8 +262,8 @@ impl<V: Point> Interval<V> {
     }
 
     /// What is left of the interval above another one that it meets: from the other's upper bound,
-    /// turned round, to its own. Returns `None` where it does not end above the other. Where the two
-    /// do not meet, what lies between them belongs to it too; see `subtract`.
+    /// turned round, to its own. Returns `None` where it does not end above the other. Where the
+    /// two do not meet, what lies between them belongs to it too; see `subtract`.
     ///
     /// Two bounds are copied: the call fails only if that allocation fails, never in place of
     /// `None`.

@@ -18,4 +18,5 @@ returns-in_err-clip_each-clause-memory g c = on_err c.from_residual-in_err-clip_
 pub returns-clause-items : goal.returns-clause-items
 returns-clause-items g c =
     rw c.deref.ensures at c.in_ok-clip_each.ensures
-    ∙ minus-clips g.met.V.Ord.total c.args.these.now c.args.others.now c.in_ok-pieces.pieces.items c.requires c.in_ok-pieces.ensures
+    ∙ minus-clips g.met.V.Ord.total c.args.these.now c.args.others.now c.in_ok-pieces.pieces.items c.requires
+    c.in_ok-pieces.ensures
