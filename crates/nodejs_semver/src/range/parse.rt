@@ -13,7 +13,7 @@ ghost use Rattle.semver_core.specs.Failures.{MemoryOnlyIf, RefusedOnlyIf};
 ghost use Rattle.semver_core.specs.Values.Versions.{VersionValue};
 
 use crate::readers::{Filled, read_common};
-use crate::{Range, RangeRef};
+use crate::{Range, RangeOf, RangeRef};
 use semver_core::{Failure, MAX_SAFE_INTEGER, SemverError};
 use smallvec::SmallVec;
 use std::alloc::{AllocError, Global};
@@ -55,7 +55,7 @@ impl Range {
     {
         let mut intervals = SmallVec::new(alloc);
         read_some(text, &mut intervals)?;
-        Ok(Range { intervals })
+        Ok(RangeOf { intervals })
     }
 }
 
@@ -78,7 +78,7 @@ impl<'a> RangeRef<'a> {
     {
         let mut intervals = SmallVec::new(alloc);
         read_some(text, &mut intervals)?;
-        Ok(RangeRef { intervals })
+        Ok(RangeOf { intervals })
     }
 }
 
