@@ -148,7 +148,7 @@ module _ {V : Type 0} (R : V → V → Ordering) (value : V → VersionValue)
 
       whole : span_of value common ≡ record {
         lower = greater_lower precedence (bound_of value s.lower) (bound_of value t.lower);
-        upper = lesser_upper precedence (bound_of value s.upper) (bound_of value t.upper)
+        upper = lesser_upper precedence (bound_of value s.upper) (bound_of value t.upper);
       }
       whole = ap₂ (λ l u. record { lower = l; upper = u }) (greater_lower-values s.lower t.lower) (lesser_upper-values s.upper t.upper)
 

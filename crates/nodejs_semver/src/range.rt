@@ -119,6 +119,7 @@ impl Range {
     }
 
     // The range with versions of its own.
+    #[tactic(auto, using(crate::proofs::Values::spans_same))]
     pub(crate) fn of_borrowed(alloc: Global, range: &RangeRef<'_>) -> Result<Range, AllocError>
         ensures whole { IfOk result (λ r. r ≡ range.now) }
         ensures memory { OnErr result ((1 < length range.now)

@@ -91,10 +91,6 @@ module _ {E : Type 0} (a b : List (Span VersionValue)) (r : Result (Option (List
       rw (option_accepts-release (difference a b) v k, accepts-release a v k, accepts-release b v k)
       (difference-set a b v))
 
-pub ruleset intersected = (intersected-set, intersected-all, intersected-both, intersected-one, intersected-releases)
-
-pub ruleset left_over = (left_over-set, left_over-all, left_over-kept, left_over-releases)
-
 -- lists of one or more elements
 any_some : {A : Type 0} (xs : List A) → 0 < length xs → IsTrue (is_some (if_any xs))
 any_some xs h = grind arith

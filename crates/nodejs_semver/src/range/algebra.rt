@@ -33,7 +33,6 @@ impl<V: VersionPoint> RangeOf<V> {
     /// The list is not normalised: n intervals and m others make at most n times m intervals, and
     /// that many if all pairs meet. As measured, time grows with n times m, and memory with the
     /// number of intervals made.
-    #[tactic(auto, using(crate::proofs::Algebra::Clauses::intersected))]
     pub fn intersect(
         &self,
         alloc: Global,
@@ -81,7 +80,6 @@ impl<V: VersionPoint> RangeOf<V> {
     /// Each interval of this range is left in as many pieces as the other's have gaps in it: n
     /// intervals less m others make at most n times (m + 1) intervals. As measured, time grows with
     /// the size of the result, and with m log m.
-    #[tactic(auto, using(crate::proofs::Algebra::Clauses::left_over))]
     pub fn difference(
         &self,
         alloc: Global,
@@ -112,11 +110,7 @@ impl<V: VersionPoint> RangeOf<V> {
     }
 
     // What the pairs of intervals have in common.
-    fn common(
-        &self,
-        alloc: Global,
-        other: &RangeOf<V>,
-    ) -> Result<Option<RangeOf<V>>, AllocError>
+    fn common(&self, alloc: Global, other: &RangeOf<V>) -> Result<Option<RangeOf<V>>, AllocError>
         ensures list { IfOk result (λ r. r ≡ intersection self.now other.now) }
         ensures memory { OnErr result (IsTrue (is_some (intersection self.now other.now))) }
     {
@@ -125,11 +119,7 @@ impl<V: VersionPoint> RangeOf<V> {
     }
 
     // What the other range leaves of this one.
-    fn remaining(
-        &self,
-        alloc: Global,
-        other: &RangeOf<V>,
-    ) -> Result<Option<RangeOf<V>>, AllocError>
+    fn remaining(&self, alloc: Global, other: &RangeOf<V>) -> Result<Option<RangeOf<V>>, AllocError>
         ensures list { IfOk result (λ r. r ≡ difference self.now other.now) }
         ensures memory { OnErr result
             (IsTrue (is_some (difference self.now other.now)) ⊎ (1 < length other.now)) }

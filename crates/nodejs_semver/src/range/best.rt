@@ -196,9 +196,7 @@ fn is_new_max<V: VersionPoint, W: Versioned>(
         (if result then Some (W.value version.now) else value_of W.value best.entry) }
 {
     match best {
-        Some(best) => {
-            best.cmp_precedence(version).is_le() && accepts(intervals, version, false)
-        }
+        Some(best) => best.cmp_precedence(version).is_le() && accepts(intervals, version, false),
         None => accepts(intervals, version, false),
     }
 }
@@ -218,9 +216,7 @@ fn is_new_min<V: VersionPoint, W: Versioned>(
         (if result then Some (W.value version.now) else value_of W.value best.entry) }
 {
     match best {
-        Some(best) => {
-            version.cmp_precedence(best).is_lt() && accepts(intervals, version, false)
-        }
+        Some(best) => version.cmp_precedence(best).is_lt() && accepts(intervals, version, false),
         None => accepts(intervals, version, false),
     }
 }

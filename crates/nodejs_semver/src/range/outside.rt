@@ -112,8 +112,9 @@ fn lies_opposite<V: VersionPoint, W: Versioned>(
 ) -> bool
     ensures { result
         ≡ elim direction [
-            side.Higher ↦ spec.lies_below (span_of V.value interval.now) (W.value version.now)
-          | side.Lower ↦ spec.lies_above (span_of V.value interval.now) (W.value version.now) ] }
+          | side.Higher ↦ spec.lies_below (span_of V.value interval.now) (W.value version.now)
+          | side.Lower ↦ spec.lies_above (span_of V.value interval.now) (W.value version.now)
+        ] }
 {
     match direction {
         OutsideDirection::Higher => lies_below(interval, version),

@@ -12,10 +12,13 @@ differences-requires g c =
 
 pub from_intervals-requires : goal.from_intervals-requires
 from_intervals-requires g c = (
-  omega (arith, c.requires),
-  (omega (arith, c.requires), rw (c.from_vec.ensures.items, c.in_ok-left.ensures.items) (minus-valid g.V.Ord.cmp g.V.Versioned.value
-      g.met.V.VersionPoint.ordered c.args.self.now c.args.other.now c.items.result.now c.items-2.result.now
-      c.items.ensures.valid c.items-2.ensures.valid c.items.ensures.value c.items-2.ensures.value)),
+  omega arith,
+  (
+    omega arith,
+    rw (c.from_vec.ensures.items, c.in_ok-left.ensures.items) (minus-valid g.V.Ord.cmp g.V.Versioned.value
+        g.met.V.VersionPoint.ordered c.args.self.now c.args.other.now c.items.result.now c.items-2.result.now
+        c.items.ensures.valid c.items-2.ensures.valid c.items.ensures.value c.items-2.ensures.value),
+  ),
 )
 
 pub returns-clause-list : goal.returns-clause-list

@@ -12,6 +12,6 @@ pub returns : goal.returns
 returns g c =
     let v = g.W.Versioned.value c.args.version.now in
     any_from_yields_List (λ s. holds precedence (span_of g.V.Versioned.value s) v
-        && (c.args.include_prerelease || lets_in (span_of g.V.Versioned.value s) v)) _ _ _ c.any.ensures.ran
+    && (c.args.include_prerelease || lets_in (span_of g.V.Versioned.value s) v)) _ _ _ c.any.ensures.ran
     (YieldsList-from_slice c.args.intervals.now cc) (λ x b q k. search (rules, tests))
     ∙ sym (any_valued _ g.V.Versioned.value c.args.intervals.now)
