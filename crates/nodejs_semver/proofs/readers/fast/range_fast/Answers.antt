@@ -1,8 +1,10 @@
-use Rattle.std.proofs.Common.{◌≡◌, List, ℕ, inr, rules, subst}
+use Rattle.std.proofs.Common.{◌≡◌, ◌∙◌, ap, arith, List, ℕ, inr, rules, subst}
 use Rattle.std.proofs.lemmas.Result.{IfOk-weaker, on_err_weaker}
 use Rattle.std.specs.Prelude.{IfSome, IsTrue, IsUtf8}
 use Rattle.semver_core.specs.declared.TheConstants.{MAX_SAFE_INTEGER}
 use Rattle.nodejs_semver.specs.Text.Meaning.{Means}
+use Rattle.semver_core.specs.Lists.{if_any}
+use Rattle.nodejs_semver.proofs.Values.{spans_same}
 use Rattle.nodejs_semver.proofs.Everyday.Loop.{common_so}
 use Rattle.nodejs_semver.proofs.Everyday.Whole.{common_bounded, common_means}
 use Rattle.nodejs_semver.proofs.readers.fast.range_fast.Goals as goal
@@ -10,7 +12,9 @@ use Rattle.nodejs_semver.proofs.readers.fast.range_fast.Goals as goal
 pub from_intervals-requires : goal.from_intervals-requires
 from_intervals-requires c =
     let there : IsTrue c.in_ok-read_common.field-0 = search rules in
-    common_bounded MAX_SAFE_INTEGER c.as_bytes.result.now c.read_common.new.found.items (c.in_ok-read_common.ensures.some there)
+    let valid = common_bounded MAX_SAFE_INTEGER c.as_bytes.result.now c.read_common.new.found.items
+        (c.in_ok-read_common.ensures.some there) in
+    (omega arith, (omega arith, rw spans_same valid))
 
 pub returns-clause-denoted : goal.returns-clause-denoted
 returns-clause-denoted c =
@@ -19,7 +23,7 @@ returns-clause-denoted c =
     (λ r e. rw e
     (subst (λ (t : List ℕ). IsUtf8 t → IfSome c.from_intervals.result (Means MAX_SAFE_INTEGER t)) c.as_bytes.ensures.value
     (λ u. common_means MAX_SAFE_INTEGER c.as_bytes.result.now c.read_common.new.found.items c.from_intervals.result u
-    (c.in_ok-read_common.ensures.some there) c.from_intervals.ensures)
+    (c.in_ok-read_common.ensures.some there) (c.from_intervals.ensures ∙ ap if_any (spans_same _)))
     c.utf8.text)) c.owned_range.ensures.whole
 
 pub returns-clause-memory : goal.returns-clause-memory
@@ -27,4 +31,4 @@ returns-clause-memory c =
     let there : IsTrue c.in_ok-read_common.field-0 = search rules in
     on_err_weaker c.owned_range.result
     (λ m. inr (rw c.as_bytes.ensures.value at (common_so _ MAX_SAFE_INTEGER c.as_bytes.result.now c.read_common.new.found.items
-    (c.in_ok-read_common.ensures.some there) (rw c.from_intervals.ensures at m)))) c.owned_range.ensures.memory
+    (c.in_ok-read_common.ensures.some there) (rw (c.from_intervals.ensures, spans_same) at m)))) c.owned_range.ensures.memory

@@ -6,6 +6,7 @@ use Rattle.semver_core.specs.Values.Versions.{VersionValue}
 use Rattle.semver_core.specs.declared.TheConstants.{MAX_SAFE_INTEGER}
 use Rattle.nodejs_semver.specs.Text.Meaning.{Means}
 use Rattle.nodejs_semver.proofs.Dividing.MeaningLaw.{only_several}
+use Rattle.nodejs_semver.proofs.Values.{spans_same}
 use Rattle.nodejs_semver.proofs.range.parse.RangeRef.parse.Goals as goal
 
 pub returns-in_err-read_some-clause-memory : goal.returns-in_err-read_some-clause-memory
@@ -16,3 +17,6 @@ returns-in_err-read_some-clause-memory c =
     only_several {A = ⊤} (Err c.in_err-read_some.field-0.0) (Means MAX_SAFE_INTEGER c.args.text.now)
     c.in_err-read_some.ensures.memory in
     search rules
+
+pub returns-clause-set : goal.returns-clause-set
+returns-clause-set c = rw spans_same c.in_ok-read_some.ensures.set
