@@ -1,22 +1,19 @@
 -- What holds of spans of versions holds of the spans of their values, where the order of the versions is that of the values.
 use Rattle.std.proofs.Common.{◌≡◌, ◌∙◌, ◌||◌, Bool, true, false, List, [], ◌∷◌, ◌++◌, refl, ap, ap₂, sym, Option, Some, None, map}
-use Rattle.std.proofs.Common.{if◌then◌else◌, is_some, length, option_to_list, Ordering, arith, ℕ, ◌+◌, ◌<◌, ◌&&◌, codes, get_or, take}
-use Rattle.std.proofs.lemmas.List.{length-map, map-append, take_more}
+use Rattle.std.proofs.Common.{if◌then◌else◌, is_some, length, option_to_list, Ordering, ℕ, ◌+◌, ◌<◌, codes, get_or, take}
+use Rattle.std.proofs.lemmas.List.{map-append, take_more}
 use Rattle.std.proofs.lemmas.List.Folds.{flat_map-map, list_all-map}
 use Rattle.std.specs.Option.{option_map}
 use Rattle.std.specs.List.{flat_map, join_by, list_all, list_any}
-use Rattle.std.specs.Ordering.{eq_by_cmp, is_eq, is_gt, is_lt}
-use Rattle.std.specs.Cmp.Lexicographic.{pointwise}
-use Rattle.std.specs.Cmp.Derive.Mapped.{pointwise-map}
+use Rattle.std.specs.Ordering.{is_gt, is_lt}
 use Rattle.semver_core.specs.Cuts.{Cut, Start, End, Beside, Span, cut_cmp, greater_lower, is_interval, lesser_upper, lower_cut}
-use Rattle.semver_core.specs.Cuts.{bound_eq, meet, upper_cut, left_below, left_above, remainders}
-use Rattle.semver_core.specs.Values.Order.{precedence, version_eq}
+use Rattle.semver_core.specs.Cuts.{meet, upper_cut, left_below, left_above}
+use Rattle.semver_core.specs.Values.Order.{precedence}
 use Rattle.semver_core.specs.Values.Versions.{VersionValue}
 use Rattle.semver_core.specs.declared.cuts.bound.Bound.{Bound}
 use Rattle.semver_core.specs.declared.cuts.bound.Bound.TheVariants.{Unbounded, Before, After}
-use Rattle.nodejs_semver.specs.Internal.Sets.{meets_of, minus, span_eq, span_text}
+use Rattle.nodejs_semver.specs.Internal.Sets.{meets_of, minus, span_text}
 use Rattle.nodejs_semver.specs.Printing.Text.{range_text}
-use Rattle.nodejs_semver.specs.Ranges.Equality.{range_eq}
 use Rattle.nodejs_semver.specs.Ranges.Algebra.{remainder}
 use Rattle.nodejs_semver.specs.Ranges.View.{bound_of, span_of, spans_of}
 
@@ -178,27 +175,3 @@ module _ {V : Type 0} (R : V → V → Ordering) (value : V → VersionValue)
       minus-values (flat_map (λ s. remainder R s t) ss) ts
       ∙ ap (λ l. minus precedence l (spans_of value ts))
       (flat-map (span_of value) _ (λ s. remainder precedence s (span_of value t)) (λ s. remainder-values s t) ss)
-
-  -- equality of versions that tie
-  bounds-equal : (E : V → V → Bool) → ((v w : V) → E v w ≡ eq_by_cmp R v w)
-      → (b c : Bound V) → bound_eq E b c ≡ bound_eq version_eq (bound_of value b) (bound_of value c)
-  bounds-equal E ties Unbounded Unbounded = refl
-  bounds-equal E ties Unbounded (Before w) = refl
-  bounds-equal E ties Unbounded (After w) = refl
-  bounds-equal E ties (Before v) Unbounded = refl
-  bounds-equal E ties (Before v) (Before w) = ties v w ∙ ap is_eq (ordered v w)
-  bounds-equal E ties (Before v) (After w) = refl
-  bounds-equal E ties (After v) Unbounded = refl
-  bounds-equal E ties (After v) (Before w) = refl
-  bounds-equal E ties (After v) (After w) = ties v w ∙ ap is_eq (ordered v w)
-
-  pub ranges-equal : (F : V → V → Bool) → ((v w : V) → F v w ≡ eq_by_cmp R v w)
-      → (E : Span V → Span V → Bool) (r : Bool) (ss ts : List (Span V)) → r ≡ pointwise E ss ts
-      → ((s t : Span V) → E s t ≡ (bound_eq F s.lower t.lower && bound_eq F s.upper t.upper))
-      → r ≡ range_eq (spans_of value ss) (spans_of value ts)
-  ranges-equal F ties E r ss ts is each =
-      is ∙ (λ i. pointwise (λ s t. same s t i) ss ts) ∙ sym (pointwise-map (span_of value) span_eq ss ts)
-    where
-      same : (s t : Span V) → E s t ≡ span_eq (span_of value s) (span_of value t)
-      same s t =
-          each s t ∙ ap₂ (λ a b. a && b) (bounds-equal F ties s.lower t.lower) (bounds-equal F ties s.upper t.upper)

@@ -5,25 +5,24 @@ ghost use Rattle.nodejs_semver.specs.Internal.Hashes.{range_writes};
 ghost use Rattle.nodejs_semver.specs.Ranges.Equality.{range_eq};
 ghost use Rattle.nodejs_semver.specs.Internal.SameLaws.{range_equiv, range_alike};
 
-use crate::{Range, RangeOf, RangeRef};
-use semver_core::VersionPoint;
+use crate::{Range, RangeRef};
 use std::hash::{Hash, Hasher};
 
 /// Equality of the lists of intervals.
-impl<V: VersionPoint> PartialEq for RangeOf<V> {
+impl PartialEq for Range {
     ghost eq = { range_eq };
 
     ghost laws = { partial_equiv_from_equiv range_equiv };
 
     /// Whether both have as many intervals, and each equals the one in its place. Build metadata
     /// does not count.
-    fn eq(&self, other: &RangeOf<V>) -> bool {
-        self.items() == other.items()
+    fn eq(&self, other: &Range) -> bool {
+        self.intervals() == other.intervals()
     }
 }
 
 /// Equality is reflexive, symmetric and transitive.
-impl<V: VersionPoint> Eq for RangeOf<V> {
+impl Eq for Range {
     ghost laws = { range_equiv };
 }
 
@@ -36,6 +35,22 @@ impl Hash for Range {
     fn hash<H: Hasher>(&self, state: &mut H) {
         self.intervals().hash(state);
     }
+}
+
+/// Equality of the lists of intervals, as that of `Range`.
+impl<'a> PartialEq for RangeRef<'a> {
+    ghost eq = { range_eq };
+
+    ghost laws = { partial_equiv_from_equiv range_equiv };
+
+    fn eq(&self, other: &RangeRef<'a>) -> bool {
+        self.intervals() == other.intervals()
+    }
+}
+
+/// Equality is reflexive, symmetric and transitive.
+impl<'a> Eq for RangeRef<'a> {
+    ghost laws = { range_equiv };
 }
 
 /// The intervals: the same as those of an equal `Range`.

@@ -14,7 +14,7 @@ pub from_intervals-requires : goal.from_intervals-requires
 from_intervals-requires c =
     let there : IsTrue c.in_ok-read_common.field-0 = search rules in
     let valid = common_bounded MAX_SAFE_INTEGER c.as_bytes.result.now c.read_common.new.found.items
-        (c.in_ok-read_common.ensures.some there) in
+    (c.in_ok-read_common.ensures.some there) in
     (omega arith, (omega arith, rw spans_same valid))
 
 if_some : {A : Type 0} (P : List A → Type 0) (xs : List A) → P xs → IfSome (if_any xs) P
