@@ -31,10 +31,10 @@ spans_same [] = refl
 spans_same (s ∷ ss) = ap₂ (λ t ts. t ∷ ts) (span_same s) (spans_same ss)
 
 -- a test of the spans of values
-pub any_valued : {V : Type 0} (test : Span VersionValue → Bool) (value : V → VersionValue) (ss : List (Span V))
+pub list_any-values : {V : Type 0} (test : Span VersionValue → Bool) (value : V → VersionValue) (ss : List (Span V))
     → list_any test (spans_of value ss) ≡ list_any (λ s. test (span_of value s)) ss
-any_valued test value [] = refl
-any_valued test value (s ∷ ss) = ap (λ b. test (span_of value s) || b) (any_valued test value ss)
+list_any-values test value [] = refl
+list_any-values test value (s ∷ ss) = ap (λ b. test (span_of value s) || b) (list_any-values test value ss)
 
 -- the text of a range of values, as a loop over its intervals writes it
 abbrev pub printed : {V : Type 0} → (V → VersionValue) → List (Span V) → List ℕ
@@ -120,16 +120,21 @@ module _ {V : Type 0} (R : V → V → Ordering) (value : V → VersionValue)
   is_interval-values s =
       rw (lower_cut-value s.lower, upper_cut-value s.upper) (ap is_lt (cut_cmp-values (lower_cut s.lower) (upper_cut s.upper)))
 
-  pub all_intervals-values : (ss : List (Span V)) → list_all (is_interval precedence) (spans_of value ss) ≡ list_all (is_interval R) ss
+  pub all_intervals-values : (ss : List (Span V))
+      → list_all (is_interval precedence) (spans_of value ss) ≡ list_all (is_interval R) ss
   all_intervals-values ss = list_all-map _ (span_of value) ss ∙ (λ i. list_all (λ s. sym (is_interval-values s) i) ss)
 
   greater_lower-values : (b c : Bound V) → bound_of value (greater_lower R b c)
       ≡ greater_lower precedence (bound_of value b) (bound_of value c)
-  greater_lower-values b c = if-map (bound_of value) _ b c ∙ ap (λ o. if is_gt o then bound_of value b else bound_of value c) (lower-values b c)
+  greater_lower-values b c =
+      if-map (bound_of value) _ b c
+      ∙ ap (λ o. if is_gt o then bound_of value b else bound_of value c) (lower-values b c)
 
   lesser_upper-values : (b c : Bound V) → bound_of value (lesser_upper R b c)
       ≡ lesser_upper precedence (bound_of value b) (bound_of value c)
-  lesser_upper-values b c = if-map (bound_of value) _ c b ∙ ap (λ o. if is_gt o then bound_of value c else bound_of value b) (upper-values b c)
+  lesser_upper-values b c =
+      if-map (bound_of value) _ c b
+      ∙ ap (λ o. if is_gt o then bound_of value c else bound_of value b) (upper-values b c)
 
   -- a span that is there where a test is passed
   some-values : (t u : Bool) (s : Span V) (r : Span VersionValue) → t ≡ u → span_of value s ≡ r
@@ -147,7 +152,8 @@ module _ {V : Type 0} (R : V → V → Ordering) (value : V → VersionValue)
         lower = greater_lower precedence (bound_of value s.lower) (bound_of value t.lower);
         upper = lesser_upper precedence (bound_of value s.upper) (bound_of value t.upper);
       }
-      whole = ap₂ (λ l u. record { lower = l; upper = u }) (greater_lower-values s.lower t.lower) (lesser_upper-values s.upper t.upper)
+      whole = ap₂ (λ l u. record { lower = l; upper = u })
+          (greater_lower-values s.lower t.lower) (lesser_upper-values s.upper t.upper)
 
   remainder-values : (s t : Span V) → spans_of value (remainder R s t) ≡ remainder precedence (span_of value s) (span_of value t)
   remainder-values s t =
@@ -163,13 +169,15 @@ module _ {V : Type 0} (R : V → V → Ordering) (value : V → VersionValue)
       above : option_map (span_of value) (left_above R s t) ≡ left_above precedence (span_of value s) (span_of value t)
       above = some-values _ _ _ _ (ap is_lt (upper-values t.upper s.upper)) refl
 
-  pub meets_of-values : (ss ts : List (Span V)) → spans_of value (meets_of R ss ts) ≡ meets_of precedence (spans_of value ss) (spans_of value ts)
+  pub meets_of-values : (ss ts : List (Span V))
+      → spans_of value (meets_of R ss ts) ≡ meets_of precedence (spans_of value ss) (spans_of value ts)
   meets_of-values ss ts =
       flat-map (span_of value) _ (λ s. flat_map (λ t. option_to_list (meet precedence s t)) (spans_of value ts))
       (λ s. flat-map (span_of value) _ (λ t. option_to_list (meet precedence (span_of value s) t))
       (λ t. list-map (span_of value) (meet R s t) ∙ ap option_to_list (meet-values s t)) ts) ss
 
-  pub minus-values : (ss ts : List (Span V)) → spans_of value (minus R ss ts) ≡ minus precedence (spans_of value ss) (spans_of value ts)
+  pub minus-values : (ss ts : List (Span V))
+      → spans_of value (minus R ss ts) ≡ minus precedence (spans_of value ss) (spans_of value ts)
   minus-values ss [] = refl
   minus-values ss (t ∷ ts) =
       minus-values (flat_map (λ s. remainder R s t) ss) ts

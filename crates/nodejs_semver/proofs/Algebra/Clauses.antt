@@ -1,6 +1,6 @@
 -- What the intersection and the difference of two lists hold and accept, and that their intervals are those of a range.
-use Rattle.std.proofs.Common.{ap, ap₂, subst, Ordering, ◌≡◌, ◌≢◌, refl, sym, ◌∙◌, ℕ, ◌+◌, ◌<◌, ◌⊎◌, inl, inr, true, false, ◌&&◌, ◌||◌, not}
-use Rattle.std.proofs.Common.{List, [], ◌∷◌, length, Option, IsTrue, is_some, arith}
+use Rattle.std.proofs.Common.{ap, ap₂, subst, ◌≡◌, ◌≢◌, refl, sym, ◌∙◌, ℕ, ◌+◌, ◌<◌, ◌⊎◌, inl, inr, true, false, ◌&&◌, ◌||◌, not}
+use Rattle.std.proofs.Common.{Ordering, List, [], ◌∷◌, length, Option, IsTrue, is_some, arith}
 use Rattle.nodejs_semver.proofs.Values.{all_intervals-values, meets_of-values, minus-values}
 use Rattle.std.proofs.lemmas.List.{length-map}
 use Rattle.std.proofs.lemmas.Result.{IfOk-weaker}
@@ -106,7 +106,8 @@ pub all_intervals : (n : ℕ) (ss : List (Span VersionValue)) → list_all (is_r
 all_intervals n = all_weaker (is_range_span n) (is_interval precedence) (λ s h. first_so _ _ h)
 
 -- the lists of two ranges make intervals of a range, whatever holds their versions
-module _ {V : Type 0} (R : V → V → Ordering) (value : V → VersionValue) (ordered : (v w : V) → R v w ≡ precedence (value v) (value w))
+module _ {V : Type 0} (R : V → V → Ordering) (value : V → VersionValue)
+    (ordered : (v w : V) → R v w ≡ precedence (value v) (value w))
     (a b : List (Span VersionValue)) (xs ys : List (Span V)) (h : IsRange MAX_SAFE_INTEGER a) (k : IsRange MAX_SAFE_INTEGER b)
     (p : spans_of value xs ≡ a) (q : spans_of value ys ≡ b) where
   pub meets_of-is : spans_of value (meets_of R xs ys) ≡ meets_of precedence a b
@@ -123,7 +124,8 @@ module _ {V : Type 0} (R : V → V → Ordering) (value : V → VersionValue) (o
 
   -- where the lists have an intersection or a difference, the ranges do
   pub meets_of-some : 0 < length (meets_of R xs ys) → IsTrue (is_some (intersection a b))
-  meets_of-some e = any_some (meets_of precedence a b) (omega (arith, e, length-map (meets_of R xs ys) (span_of value), ap length meets_of-is))
+  meets_of-some e = any_some (meets_of precedence a b)
+      (omega (arith, e, length-map (meets_of R xs ys) (span_of value), ap length meets_of-is))
 
   pub minus-some : (0 < length (minus R xs ys)) ⊎ (length ys ≢ 1) → IsTrue (is_some (difference a b)) ⊎ (1 < length b)
   minus-some e = elim e [

@@ -7,8 +7,8 @@ ghost use Rattle.semver_core.specs.Values.Order.{precedence};
 ghost use Rattle.semver_core.specs.Values.Versions.{VersionValue};
 ghost use Rattle.std.specs.Option.{option_copied};
 ghost use Rattle.std.specs.Ordering.{is_le};
-ghost use Rattle.std.specs.Prelude.{◌≡◌, ◌++◌, ◌∷◌, [], List, All, Contains, IfNone, IfSome, Some, map};
-ghost use Rattle.std.specs.Prelude.{false, true, if◌then◌else◌};
+ghost use Rattle.std.specs.Prelude.{◌≡◌, ◌++◌, ◌∷◌, [], List, All, Contains, IfNone, IfSome, Some};
+ghost use Rattle.std.specs.Prelude.{false, true, if◌then◌else◌, map};
 
 use crate::range::gate::accepts;
 use crate::{Range, RangeRef};
