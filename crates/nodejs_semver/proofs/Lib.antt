@@ -8,3 +8,4 @@ pub mod Printing
 pub mod Reading
 pub mod Rows
 pub mod Sets
+pub mod Values

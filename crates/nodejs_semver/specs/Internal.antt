@@ -1,5 +1,3 @@
-pub mod AnyBest
-pub mod AnyVersions
 pub mod Parts
 pub mod RunsFrom
 pub mod Fronts

@@ -32,7 +32,7 @@ pub mod laws;
 mod range;
 pub mod readers;
 
-pub use crate::range::{OutsideDirection, Range, RangeError, RangeRef};
+pub use crate::range::{OutsideDirection, Range, RangeError, RangeOf, RangeRef};
 pub use semver_core::{
     Accepts, AcceptsRef, Failure, Identifier, IdentifierBase, IdentifierRef, IdentifierRefs,
     IncrementError, MAX_LENGTH, MAX_SAFE_INTEGER, NegativeNumber, ReleaseType, SemverError,

@@ -5,7 +5,7 @@ ghost use Rattle.std.specs.List.{list_all, list_any};
 ghost use Rattle.nodejs_semver.specs.Internal.Sets.{bounds_identifiers, is_range_span};
 ghost use Rattle.semver_core.specs.declared.TheConstants.{MAX_SAFE_INTEGER};
 ghost use Rattle.semver_core.specs.Lists.{if_any};
-ghost use Rattle.nodejs_semver.specs.Ranges.View.{IsRange, any_version};
+ghost use Rattle.nodejs_semver.specs.Ranges.View.{IsRange, any_version, spans_of};
 
 mod algebra;
 mod best;
@@ -23,7 +23,7 @@ mod same;
 
 pub use crate::range::outside::{OutsideDirection, RangeError};
 use semver_core::cuts::Interval;
-use semver_core::{Version, VersionRef};
+use semver_core::{Version, VersionPoint, VersionRef};
 use smallvec::SmallVec;
 use std::alloc::{AllocError, Global};
 use std::marker::Model;
@@ -31,53 +31,61 @@ use std::marker::Model;
 // A list of intervals. One stands inline.
 pub(crate) type Intervals<V> = SmallVec<Interval<V>, 1>;
 
-/// A range: the versions of one or more intervals. It is what a range text such as `^1.2 ||
-/// >=3.0.0-rc` names.
+/// A range: the versions of one or more intervals, which may own or borrow their versions. See
+/// [`Range`](crate::Range) and [`RangeRef`](crate::RangeRef).
 ///
 /// A range keeps its intervals and not the text that it was read from, so it prints in a normal
 /// form: `^1.2` prints `>=1.2.0 <2.0.0-0`.
-#[derive(Debug, Drop)]
-pub struct Range {
-    intervals: Intervals<Version>,
+#[derive(Drop)]
+#[derive_where(Debug; V)]
+pub struct RangeOf<V: VersionPoint> {
+    intervals: Intervals<V>,
 }
 
-/// In clauses, a range is the list of its intervals.
-impl Model for Range {
+/// In clauses, a range is the list of its intervals, with the values of its versions.
+impl<V: VersionPoint> Model for RangeOf<V> {
     ghost use Rattle.std.specs.Prelude.{List};
     ghost use Rattle.semver_core.specs.Cuts.{Span};
     ghost use Rattle.semver_core.specs.Values.Versions.{VersionValue};
     ghost use Rattle.semver_core.specs.declared.TheConstants.{MAX_SAFE_INTEGER};
-    ghost use Rattle.nodejs_semver.specs.Ranges.View.{IsRange};
+    ghost use Rattle.nodejs_semver.specs.Ranges.View.{IsRange, spans_of};
 
     ghost Value = { List (Span VersionValue) };
 
-    ghost view = { λ r. r.intervals.items };
+    ghost view = { λ r. spans_of V.value r.intervals.items };
 
-    ghost invariant = { λ r. IsRange MAX_SAFE_INTEGER r.intervals.items };
+    ghost invariant = { λ r. IsRange MAX_SAFE_INTEGER (spans_of V.value r.intervals.items) };
 }
 
-/// A range that borrows its text: the versions of one or more intervals, whose bounds are read
-/// where they stand. One interval stands inline, so that most ranges allocate nothing.
-///
-/// In contracts it is the same list of intervals as a [`Range`](crate::Range).
-#[derive(Debug, Drop)]
-pub struct RangeRef<'a> {
-    intervals: Intervals<VersionRef<'a>>,
-}
+/// A range with versions of its own. It is what a range text such as `^1.2 || >=3.0.0-rc` names.
+pub type Range = RangeOf<Version>;
 
-/// In clauses, a borrowed range is the list of its intervals, as an owned one is.
-impl<'a> Model for RangeRef<'a> {
-    ghost use Rattle.std.specs.Prelude.{List};
-    ghost use Rattle.semver_core.specs.Cuts.{Span};
-    ghost use Rattle.semver_core.specs.Values.Versions.{VersionValue};
-    ghost use Rattle.semver_core.specs.declared.TheConstants.{MAX_SAFE_INTEGER};
-    ghost use Rattle.nodejs_semver.specs.Ranges.View.{IsRange};
+/// A range that borrows its text: its bounds are read where they stand. One interval stands inline,
+/// so that most ranges allocate nothing.
+pub type RangeRef<'a> = RangeOf<VersionRef<'a>>;
 
-    ghost Value = { List (Span VersionValue) };
+impl<V: VersionPoint> RangeOf<V> {
+    // The intervals, whoever owns their versions.
+    #[inline(always)]
+    pub(crate) fn items(&self) -> &[Interval<V>]
+        ensures value { spans_of V.value result.now ≡ self.now }
+        ensures valid { IsRange MAX_SAFE_INTEGER self.now }
+    {
+        &self.intervals
+    }
 
-    ghost view = { λ r. r.intervals.items };
-
-    ghost invariant = { λ r. IsRange MAX_SAFE_INTEGER r.intervals.items };
+    // The range of these intervals, or none where there is no interval.
+    pub(crate) fn from_intervals(intervals: Intervals<V>) -> Option<RangeOf<V>>
+        requires { list_all (is_range_span (MAX_SAFE_INTEGER + 1))
+            (spans_of V.value intervals.items) ≡ true }
+        ensures { result ≡ if_any (spans_of V.value intervals.items) }
+    {
+        if intervals.is_empty() {
+            None
+        } else {
+            Some(RangeOf { intervals })
+        }
+    }
 }
 
 impl Range {
@@ -90,7 +98,7 @@ impl Range {
     {
         let mut intervals = SmallVec::new(alloc);
         intervals.push_reserved(Interval::default());
-        Ok(Range { intervals })
+        Ok(RangeOf { intervals })
     }
 
     /// A copy of the whole range, builds included. Fails only if allocation fails.
@@ -98,59 +106,38 @@ impl Range {
         ensures { IfOk result (λ r. r ≡ self.now) }
     {
         let intervals = copy_intervals(alloc, &self.intervals)?;
-        Ok(Range { intervals })
+        Ok(RangeOf { intervals })
     }
 
     /// The intervals, in the order in which the text names them: one or more, which may overlap.
+    #[tactic(auto, using(crate::proofs::Values::spans_same))]
     pub fn intervals(&self) -> &[Interval<Version>]
         ensures value { result.now ≡ self.now }
         ensures valid { IsRange MAX_SAFE_INTEGER self.now }
     {
-        &self.intervals
+        self.items()
     }
 
     // The range with versions of its own.
+    #[tactic(auto, using(crate::proofs::Values::spans_same))]
     pub(crate) fn of_borrowed(alloc: Global, range: &RangeRef<'_>) -> Result<Range, AllocError>
         ensures whole { IfOk result (λ r. r ≡ range.now) }
         ensures memory { OnErr result ((1 < length range.now)
             ⊎ (list_any bounds_identifiers range.now ≡ true)) }
     {
         let intervals = owned::owned_intervals(alloc, range.intervals())?;
-        Ok(Range { intervals })
-    }
-
-    // The range of these intervals, or none where there is no interval.
-    pub(crate) fn from_intervals(intervals: Intervals<Version>) -> Option<Range>
-        requires { list_all (is_range_span (MAX_SAFE_INTEGER + 1)) intervals.items ≡ true }
-        ensures { result ≡ if_any intervals.items }
-    {
-        if intervals.is_empty() {
-            None
-        } else {
-            Some(Range { intervals })
-        }
+        Ok(RangeOf { intervals })
     }
 }
 
 impl<'a> RangeRef<'a> {
     /// The intervals, in the order in which the text names them: one or more, which may overlap.
+    #[tactic(auto, using(crate::proofs::Values::spans_same))]
     pub fn intervals(&self) -> &[Interval<VersionRef<'a>>]
         ensures value { result.now ≡ self.now }
         ensures valid { IsRange MAX_SAFE_INTEGER self.now }
     {
-        &self.intervals
-    }
-
-    // The range of these intervals, or none where there is no interval.
-    pub(crate) fn from_intervals(intervals: Intervals<VersionRef<'a>>) -> Option<RangeRef<'a>>
-        requires { list_all (is_range_span (MAX_SAFE_INTEGER + 1)) intervals.items ≡ true }
-        ensures { result ≡ if_any intervals.entry.items }
-    {
-        if intervals.is_empty() {
-            None
-        } else {
-            Some(RangeRef { intervals })
-        }
+        self.items()
     }
 }
 

@@ -10,6 +10,7 @@ mod fast_ranges;
 mod fast_versions;
 mod increment;
 mod json;
+mod kinds;
 mod laws;
 mod lent;
 mod lists;

@@ -1,6 +1,8 @@
 -- What the intersection and the difference of two lists hold and accept, and that their intervals are those of a range.
-use Rattle.std.proofs.Common.{ap, subst, ◌≡◌, ◌≢◌, refl, sym, ◌∙◌, ℕ, ◌+◌, ◌<◌, ◌⊎◌, inl, inr, true, false, ◌&&◌, ◌||◌, not}
-use Rattle.std.proofs.Common.{List, [], ◌∷◌, length, Option, IsTrue, is_some, arith}
+use Rattle.std.proofs.Common.{ap, ap₂, subst, ◌≡◌, ◌≢◌, refl, sym, ◌∙◌, ℕ, ◌+◌, ◌<◌, ◌⊎◌, inl, inr, true, false, ◌&&◌, ◌||◌, not}
+use Rattle.std.proofs.Common.{Ordering, List, [], ◌∷◌, length, Option, IsTrue, is_some, arith}
+use Rattle.nodejs_semver.proofs.Values.{all_intervals-values, meets_of-values, minus-values}
+use Rattle.std.proofs.lemmas.List.{length-map}
 use Rattle.std.proofs.lemmas.Result.{IfOk-weaker}
 use Rattle.std.specs.Prelude.{IfOk, Result}
 use Rattle.std.specs.Cmp.{first_so}
@@ -14,7 +16,7 @@ use Rattle.semver_core.specs.Values.Versions.{VersionValue, is_release}
 use Rattle.semver_core.specs.declared.TheConstants.{MAX_SAFE_INTEGER}
 use Rattle.nodejs_semver.specs.Ranges.Gate.{accepts}
 use Rattle.nodejs_semver.specs.Ranges.Algebra.{intersection, difference, list_holds}
-use Rattle.nodejs_semver.specs.Ranges.View.{IsRange, is_range_bound}
+use Rattle.nodejs_semver.specs.Ranges.View.{IsRange, is_range_bound, span_of, spans_of}
 use Rattle.nodejs_semver.proofs.Algebra.Accepting.{accepts-held, accepts-minus, accepts-release, both_accept, list_holds-meets_of}
 use Rattle.nodejs_semver.proofs.Algebra.Accepting.{list_holds-minus, one_accepts, option_accepts-if_any, option_list_holds-if_any}
 use Rattle.nodejs_semver.proofs.Algebra.FlatMaps.{all_weaker}
@@ -89,10 +91,6 @@ module _ {E : Type 0} (a b : List (Span VersionValue)) (r : Result (Option (List
       rw (option_accepts-release (difference a b) v k, accepts-release a v k, accepts-release b v k)
       (difference-set a b v))
 
-pub ruleset intersected = (intersected-set, intersected-all, intersected-both, intersected-one, intersected-releases)
-
-pub ruleset left_over = (left_over-set, left_over-all, left_over-kept, left_over-releases)
-
 -- lists of one or more elements
 any_some : {A : Type 0} (xs : List A) → 0 < length xs → IsTrue (is_some (if_any xs))
 any_some xs h = grind arith
@@ -102,38 +100,43 @@ several [] h n = absurd (omega arith)
 several (x ∷ []) h n = absurd (n refl)
 several (x ∷ y ∷ xs) h n = omega arith
 
--- the lists of two ranges, by any other names, make intervals of a range
-module _ (a b xs ys : List (Span VersionValue)) (h : IsRange MAX_SAFE_INTEGER a) (k : IsRange MAX_SAFE_INTEGER b)
-    (p : xs ≡ a) (q : ys ≡ b) where
-  pub meets_of-valid : (found : List (Span VersionValue)) → found ≡ meets_of precedence xs ys
-      → list_all (is_range_span (MAX_SAFE_INTEGER + 1)) found ≡ true
-  meets_of-valid found e =
-      rw (e, p, q) (fine-meets_of precedence_total (is_range_bound (MAX_SAFE_INTEGER + 1)) a b h.each k.each)
-
-  pub minus-valid : (left : List (Span VersionValue)) → left ≡ minus precedence xs ys
-      → list_all (is_range_span (MAX_SAFE_INTEGER + 1)) left ≡ true
-  minus-valid left e = rw (e, p, q) (fine-minus precedence_total (is_range_bound (MAX_SAFE_INTEGER + 1)) a b h.each k.each)
-
-  -- where the lists have an intersection or a difference, the ranges do
-  pub meets_of-some : 0 < length (meets_of precedence xs ys) → IsTrue (is_some (intersection a b))
-  meets_of-some e = any_some (meets_of precedence a b)
-      (subst (λ l. 0 < length (meets_of precedence l b)) p (subst (λ l. 0 < length (meets_of precedence xs l)) q e))
-
-  pub minus-some : (0 < length (minus precedence xs ys)) ⊎ (length ys ≢ 1)
-      → IsTrue (is_some (difference a b)) ⊎ (1 < length b)
-  minus-some e = elim e [
-    | inl left ↦
-        inl (any_some (minus precedence a b)
-        (subst (λ l. 0 < length (minus precedence l b)) p (subst (λ l. 0 < length (minus precedence xs l)) q left)))
-    | inr other ↦ inr (several b k.some (subst (λ l. length l ≢ 1) q other))
-  ]
-
 -- the spans of a range are intervals
 pub all_intervals : (n : ℕ) (ss : List (Span VersionValue)) → list_all (is_range_span n) ss ≡ true
     → list_all (is_interval precedence) ss ≡ true
 all_intervals n = all_weaker (is_range_span n) (is_interval precedence) (λ s h. first_so _ _ h)
 
-pub range-intervals : (a xs : List (Span VersionValue)) → IsRange MAX_SAFE_INTEGER a → xs ≡ a
-    → list_all (is_interval precedence) xs ≡ true
-range-intervals a xs h e =
-    all_intervals (MAX_SAFE_INTEGER + 1) xs (ap (list_all (is_range_span (MAX_SAFE_INTEGER + 1))) e ∙ h.each)
+-- the lists of two ranges make intervals of a range, whatever holds their versions
+module _ {V : Type 0} (R : V → V → Ordering) (value : V → VersionValue)
+    (ordered : (v w : V) → R v w ≡ precedence (value v) (value w))
+    (a b : List (Span VersionValue)) (xs ys : List (Span V)) (h : IsRange MAX_SAFE_INTEGER a) (k : IsRange MAX_SAFE_INTEGER b)
+    (p : spans_of value xs ≡ a) (q : spans_of value ys ≡ b) where
+  pub meets_of-is : spans_of value (meets_of R xs ys) ≡ meets_of precedence a b
+  meets_of-is = meets_of-values R value ordered xs ys ∙ ap₂ (meets_of precedence) p q
+
+  pub minus-is : spans_of value (minus R xs ys) ≡ minus precedence a b
+  minus-is = minus-values R value ordered xs ys ∙ ap₂ (minus precedence) p q
+
+  pub meets_of-valid : list_all (is_range_span (MAX_SAFE_INTEGER + 1)) (spans_of value (meets_of R xs ys)) ≡ true
+  meets_of-valid = rw meets_of-is (fine-meets_of precedence_total (is_range_bound (MAX_SAFE_INTEGER + 1)) a b h.each k.each)
+
+  pub minus-valid : list_all (is_range_span (MAX_SAFE_INTEGER + 1)) (spans_of value (minus R xs ys)) ≡ true
+  minus-valid = rw minus-is (fine-minus precedence_total (is_range_bound (MAX_SAFE_INTEGER + 1)) a b h.each k.each)
+
+  -- where the lists have an intersection or a difference, the ranges do
+  pub meets_of-some : 0 < length (meets_of R xs ys) → IsTrue (is_some (intersection a b))
+  meets_of-some e = any_some (meets_of precedence a b)
+      (omega (arith, e, length-map (meets_of R xs ys) (span_of value), ap length meets_of-is))
+
+  pub minus-some : (0 < length (minus R xs ys)) ⊎ (length ys ≢ 1) → IsTrue (is_some (difference a b)) ⊎ (1 < length b)
+  minus-some e = elim e [
+    | inl left ↦
+        inl (any_some (minus precedence a b)
+        (omega (arith, left, length-map (minus R xs ys) (span_of value), ap length minus-is)))
+    | inr other ↦ inr (several b k.some (λ one. other (sym (length-map ys (span_of value)) ∙ ap length q ∙ one)))
+  ]
+
+  pub intervals-ordered : list_all (is_interval R) xs ≡ true
+  intervals-ordered =
+      sym (all_intervals-values R value ordered xs)
+      ∙ ap (list_all (is_interval precedence)) p
+      ∙ all_intervals (MAX_SAFE_INTEGER + 1) a h.each

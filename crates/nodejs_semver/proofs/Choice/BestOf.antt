@@ -1,9 +1,8 @@
 -- The version that is found in a list is the best one of those in the set.
 use Rattle.std.proofs.Common.{arith, ◌<◌, ◌+◌, ℕ, length, take, get_or, subst, ◌≡◌, refl, sym, ◌∙◌, ap, Bool, true}
 use Rattle.std.proofs.Common.{false, ◌&&◌, ◌||◌, not, if◌then◌else◌, inl, inr, List, [], ◌∷◌, ◌++◌, Option, Some, None}
-use Rattle.std.proofs.Common.{IfSome, IfNone, Bor, append_assoc, option_copied, Ordering}
+use Rattle.std.proofs.Common.{IfSome, IfNone, Bor, append_assoc, option_copied, map, Ordering}
 use Rattle.std.proofs.lemmas.Bool.{and_from, cases_Bool, not-true}
-use Rattle.std.proofs.lemmas.List.{take_more}
 use Rattle.std.proofs.lemmas.List.Folds.{list_all-append}
 use Rattle.std.proofs.lemmas.List.Elements.{All-append, All-cons, All-same, All-weaker, Contains-append_right}
 use Rattle.std.proofs.lemmas.List.Sums.{AllPass-from_list_all}
@@ -11,9 +10,9 @@ use Rattle.std.specs.Cmp.{IsTotalOrder, tied_itself}
 use Rattle.std.specs.List.{All, Contains, list_all}
 use Rattle.std.specs.Ordering.{is_lt, is_le}
 use Rattle.nodejs_semver.proofs.Algebra.FlatMaps.{all_weaker}
+use Rattle.nodejs_semver.proofs.Values.{map-further}
 use Rattle.nodejs_semver.proofs.Algebra.Triples.{le_of_lt, le_trans, lt_is, lt_le}
 use Rattle.semver_core.specs.Internal.OrderLaws.{precedence_total}
-use Rattle.nodejs_semver.specs.Internal.AnyBest as of
 use Rattle.nodejs_semver.specs.Ranges.Best.{IsBest, IsMax, IsMin, Stands}
 use Rattle.semver_core.specs.Values.Order.{precedence}
 use Rattle.semver_core.specs.Values.Versions.{VersionValue}
@@ -65,33 +64,33 @@ module _ {V : Type 0} (in_front behind : V → V → Bool) (ranks : Ranks in_fro
         ]
       ])
 
-module _ {V : Type 0} {R : V → V → Ordering} (o : IsTotalOrder R) where
-  pub max_more : (set : V → Bool) (list : List V) (best : Option V) (x : V) (new : Bool)
-      → new ≡ takes (λ b x. is_le (R b x)) set best x
-      → of.IsMax R set list best → of.IsMax R set (list ++ x ∷ []) (if new then Some x else best)
-  max_more = one_more _ _ (record {
-    passes = λ w b x t h. le_trans o w b x h t;
-    weaker = λ w b x t h. le_trans o w b x (le_of_lt (R w b) h) t;
-    other = λ b x e. lt_is o x b ∙ ap not e;
-  })
+pub max_more : (set : VersionValue → Bool) (list : List VersionValue) (best : Option VersionValue) (x : VersionValue) (new : Bool)
+    → new ≡ takes (λ b x. is_le (precedence b x)) set best x
+    → IsMax set list best → IsMax set (list ++ x ∷ []) (if new then Some x else best)
+max_more = let o = precedence_total in one_more _ _ (record {
+  passes = λ w b x t h. le_trans o w b x h t;
+  weaker = λ w b x t h. le_trans o w b x (le_of_lt (precedence w b) h) t;
+  other = λ b x e. lt_is o x b ∙ ap not e;
+})
 
-  pub min_more : (set : V → Bool) (list : List V) (best : Option V) (x : V) (new : Bool)
-      → new ≡ takes (λ b x. is_lt (R x b)) set best x
-      → of.IsMin R set list best → of.IsMin R set (list ++ x ∷ []) (if new then Some x else best)
-  min_more = one_more _ _ (record {
-    passes = λ w b x t h. lt_le o x b w t (le_of_lt (R b w) h);
-    weaker = λ w b x t h. lt_le o x b w t h;
-    other = λ b x e. grind (arith, lt_is o x b);
-  })
+not_below : {V : Type 0} {R : V → V → Ordering} (o : IsTotalOrder R) (b x : V) → is_lt (R x b) ≡ false → is_le (R b x) ≡ true
+not_below o b x e = grind (arith, lt_is o x b)
+
+pub min_more : (set : VersionValue → Bool) (list : List VersionValue) (best : Option VersionValue) (x : VersionValue) (new : Bool)
+    → new ≡ takes (λ b x. is_lt (precedence x b)) set best x
+    → IsMin set list best → IsMin set (list ++ x ∷ []) (if new then Some x else best)
+min_more = let o = precedence_total in one_more _ _ (record {
+  passes = λ w b x t h. lt_le o x b w t (le_of_lt (precedence b w) h);
+  weaker = λ w b x t h. lt_le o x b w t h;
+  other = not_below o;
+})
 
 -- the best so far of a loop over the list, one place further
-pub one_further : {V : Type 0} (in_front behind : V → V → Bool) (set : V → Bool) (list : List V) (i : ℕ) (x : V) (new : Bool)
-    (best next : Option V)
-    → i < length list → x ≡ get_or list i x → IsBest in_front behind set (take i list ++ x ∷ []) (if new then Some x else best)
-    → next ≡ (if new then Some x else best) → IsBest in_front behind set (take (i + 1) list) next
-one_further in_front behind set list i x new best next within at h is =
-    rw (is, take_more list i x within)
-    (subst (λ y. IsBest in_front behind set (take i list ++ y ∷ []) (if new then Some x else best)) at h)
+pub one_further : {A V : Type 0} (in_front behind : V → V → Bool) (set : V → Bool) (value : A → V) (list : List A) (i : ℕ) (x : A)
+    (new : Bool) (best next : Option V) → i < length list → x ≡ get_or list i x
+    → IsBest in_front behind set (map value (take i list) ++ value x ∷ []) (if new then Some (value x) else best)
+    → next ≡ (if new then Some (value x) else best) → IsBest in_front behind set (map value (take (i + 1) list)) next
+one_further in_front behind set value list i x new best next within at h is = rw (is, map-further value list i x within at) h
 
 -- what callers cite of the best: it is a version of the list that is in the set, and none of the set in the list beats it; and
 -- there is none where no version of the list is in the set

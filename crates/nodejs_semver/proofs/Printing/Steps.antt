@@ -7,7 +7,6 @@ use Rattle.std.specs.List.{join_by}
 use Rattle.nodejs_semver.specs.Internal.Sets.{span_text}
 use Rattle.semver_core.specs.declared.cuts.bound.Bound.{Bound}
 use Rattle.nodejs_semver.proofs.Algebra.FlatMaps.{flat_same}
-use Rattle.nodejs_semver.specs.Internal.AnyVersions as of
 use Rattle.semver_core.specs.Cuts.{Span}
 use Rattle.semver_core.specs.Values.Versions.{VersionValue}
 use Rattle.nodejs_semver.specs.Printing.Text.{range_text}
@@ -38,13 +37,3 @@ range_step text xs i separator x lt e h =
 pub bars_step : {A : Type 0} (xs : List A) (i : ℕ) (x : A) → i < length xs → x ≡ get_or xs i x
     → 124 ∷ 124 ∷ [] ≡ bars_after (take (i + 1) xs)
 bars_step xs i x lt h = grind (arith, spans_more)
-
--- the values of versions that are their own values
-bound_same : (b : Bound VersionValue) → of.bound (λ v. v) b ≡ b
-bound_same b = grind arith
-
-span_same : (s : Span VersionValue) → of.span_text (λ v. v) s ≡ span_text s
-span_same s = rw (bound_same s.lower, bound_same s.upper) refl
-
-pub printed_same : (ss : List (Span VersionValue)) → of.range_text (λ v. v) ss ≡ range_text ss
-printed_same ss = grind (arith, span_same, flat_same)

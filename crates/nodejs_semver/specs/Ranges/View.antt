@@ -1,5 +1,7 @@
 -- Statement: what every range is.
-use Rattle.std.specs.Prelude.{◌≡◌, ◌+◌, ◌<◌, ◌⊎◌, ◌&&◌, ◌||◌, not, ℕ, Bool, true, List, [], ◌∷◌, length}
+use Rattle.std.specs.Prelude.{◌≡◌, ◌+◌, ◌<◌, ◌⊎◌, ◌&&◌, ◌||◌, not, ℕ, Bool, true, List, [], ◌∷◌, length, map, Option}
+use Rattle.std.specs.Borrow.{Bor}
+use Rattle.std.specs.Option.{option_map}
 use Rattle.std.specs.List.{list_all, list_any}
 use Rattle.semver_core.specs.Cuts.{Span, is_interval}
 use Rattle.semver_core.specs.Values.Order.{precedence}
@@ -15,6 +17,22 @@ abbrev pub is_range_bound : ℕ → Bound VersionValue → Bool
 is_range_bound limit Unbounded = true
 is_range_bound limit (Before v) = is_readable limit v
 is_range_bound limit (After v) = is_readable limit v
+
+-- the value of a version that is borrowed, if there is one; the bound, the span and the spans of the values of versions,
+-- whatever holds these
+abbrev pub value_of : {V : Type 0} → (V → VersionValue) → Option (Bor V) → Option VersionValue
+value_of value r = option_map (λ v. value v.now) r
+
+abbrev pub bound_of : {V : Type 0} → (V → VersionValue) → Bound V → Bound VersionValue
+bound_of value Unbounded = Unbounded
+bound_of value (Before v) = Before (value v)
+bound_of value (After v) = After (value v)
+
+abbrev pub span_of : {V : Type 0} → (V → VersionValue) → Span V → Span VersionValue
+span_of value s = record { lower = bound_of value s.lower; upper = bound_of value s.upper }
+
+abbrev pub spans_of : {V : Type 0} → (V → VersionValue) → List (Span V) → List (Span VersionValue)
+spans_of value ss = map (span_of value) ss
 
 -- the intervals of a range: one or more, each with its lower cut below its upper one; no number of a bound is above the limit by
 -- more than one

@@ -9,28 +9,11 @@ ghost use Rattle.nodejs_semver.specs.Ranges.Algebra.{intersection, difference, c
 ghost use Rattle.nodejs_semver.specs.Ranges.Algebra.{list_holds};
 
 use crate::range::lists;
-use crate::{Range, RangeRef};
+use crate::{Range, RangeOf, RangeRef};
+use semver_core::VersionPoint;
 use std::alloc::{AllocError, Global};
 
-impl Range {
-    /// Whether some one interval of this range covers some one interval of the other, by their
-    /// cuts: `>=1.2.3` allows all of `0.1 || 1.4`. This is not a subset test. For that, see
-    /// `least_beyond`: `other.least_beyond(alloc, self)` is `None` exactly where this range accepts
-    /// every version that the other accepts.
-    pub fn allows_all(&self, other: &Range) -> bool
-        ensures { result ≡ covers_one self.now other.now }
-    {
-        lists::cover_somewhere(self.intervals(), other.intervals())
-    }
-
-    /// Whether some interval of this range meets some interval of the other: whether `intersect`
-    /// returns a range.
-    pub fn allows_any(&self, other: &Range) -> bool
-        ensures { result ≡ is_some (intersection self.now other.now) }
-    {
-        lists::meet_somewhere(self.intervals(), other.intervals())
-    }
-
+impl<V: VersionPoint> RangeOf<V> {
     /// The intersection: what the pairs of intervals have in common, for each interval of this
     /// range in order with each of the other's. Returns `None` if no pair meets. Fails only if
     /// allocation fails; where no pair meets it never does.
@@ -49,8 +32,11 @@ impl Range {
     /// The list is not normalised: n intervals and m others make at most n times m intervals, and
     /// that many if all pairs meet. As measured, time grows with n times m, and memory with the
     /// number of intervals made.
-    #[tactic(auto, using(crate::proofs::Algebra::Clauses::intersected))]
-    pub fn intersect(&self, alloc: Global, other: &Range) -> Result<Option<Range>, AllocError>
+    pub fn intersect(
+        &self,
+        alloc: Global,
+        other: &RangeOf<V>,
+    ) -> Result<Option<RangeOf<V>>, AllocError>
         ensures list { IfOk result (λ r. r ≡ intersection self.now other.now) }
         // It holds what both hold.
         ensures set { IfOk result (λ r. (v : VersionValue) →
@@ -93,8 +79,11 @@ impl Range {
     /// Each interval of this range is left in as many pieces as the other's have gaps in it: n
     /// intervals less m others make at most n times (m + 1) intervals. As measured, time grows with
     /// the size of the result, and with m log m.
-    #[tactic(auto, using(crate::proofs::Algebra::Clauses::left_over))]
-    pub fn difference(&self, alloc: Global, other: &Range) -> Result<Option<Range>, AllocError>
+    pub fn difference(
+        &self,
+        alloc: Global,
+        other: &RangeOf<V>,
+    ) -> Result<Option<RangeOf<V>>, AllocError>
         ensures list { IfOk result (λ r. r ≡ difference self.now other.now) }
         // It holds what this range holds and the other does not.
         ensures set { IfOk result (λ r. (v : VersionValue) →
@@ -120,22 +109,42 @@ impl Range {
     }
 
     // What the pairs of intervals have in common.
-    fn common(&self, alloc: Global, other: &Range) -> Result<Option<Range>, AllocError>
+    fn common(&self, alloc: Global, other: &RangeOf<V>) -> Result<Option<RangeOf<V>>, AllocError>
         ensures list { IfOk result (λ r. r ≡ intersection self.now other.now) }
         ensures memory { OnErr result (IsTrue (is_some (intersection self.now other.now))) }
     {
-        let found = lists::intersections(alloc, self.intervals(), other.intervals())?;
-        Ok(Range::from_intervals(found))
+        let found = lists::intersections(alloc, self.items(), other.items())?;
+        Ok(RangeOf::from_intervals(found))
     }
 
     // What the other range leaves of this one.
-    fn remaining(&self, alloc: Global, other: &Range) -> Result<Option<Range>, AllocError>
+    fn remaining(&self, alloc: Global, other: &RangeOf<V>) -> Result<Option<RangeOf<V>>, AllocError>
         ensures list { IfOk result (λ r. r ≡ difference self.now other.now) }
         ensures memory { OnErr result
             (IsTrue (is_some (difference self.now other.now)) ⊎ (1 < length other.now)) }
     {
-        let left = lists::differences(alloc, self.intervals(), other.intervals())?;
-        Ok(Range::from_intervals(left))
+        let left = lists::differences(alloc, self.items(), other.items())?;
+        Ok(RangeOf::from_intervals(left))
+    }
+}
+
+impl Range {
+    /// Whether some one interval of this range covers some one interval of the other, by their
+    /// cuts: `>=1.2.3` allows all of `0.1 || 1.4`. This is not a subset test. For that, see
+    /// `least_beyond`: `other.least_beyond(alloc, self)` is `None` exactly where this range accepts
+    /// every version that the other accepts.
+    pub fn allows_all(&self, other: &Range) -> bool
+        ensures { result ≡ covers_one self.now other.now }
+    {
+        lists::cover_somewhere(self.intervals(), other.intervals())
+    }
+
+    /// Whether some interval of this range meets some interval of the other: whether `intersect`
+    /// returns a range.
+    pub fn allows_any(&self, other: &Range) -> bool
+        ensures { result ≡ is_some (intersection self.now other.now) }
+    {
+        lists::meet_somewhere(self.intervals(), other.intervals())
     }
 }
 
@@ -154,99 +163,5 @@ impl<'a> RangeRef<'a> {
         ensures { result ≡ is_some (intersection self.now other.now) }
     {
         lists::meet_somewhere(self.intervals(), other.intervals())
-    }
-
-    /// The intersection, as `Range::intersect` says. Its bounds borrow the same texts: memory is
-    /// taken for the list alone. Fails only if allocation fails; where no pair of intervals meets
-    /// it never does.
-    #[tactic(auto, using(crate::proofs::Algebra::Clauses::intersected))]
-    pub fn intersect(
-        &self,
-        alloc: Global,
-        other: &RangeRef<'a>,
-    ) -> Result<Option<RangeRef<'a>>, AllocError>
-        ensures list { IfOk result (λ r. r ≡ intersection self.now other.now) }
-        // It holds what both hold.
-        ensures set { IfOk result (λ r. (v : VersionValue) →
-            list_holds precedence (unwrap_or r []) v
-            ≡ (list_holds precedence self.now v && list_holds precedence other.now v)) }
-        // With pre-releases included it accepts what both accept.
-        ensures all { IfOk result (λ r. (v : VersionValue) →
-            accepts (unwrap_or r []) v true
-            ≡ (accepts self.now v true && accepts other.now v true)) }
-        // It accepts what both accept, and nothing that neither accepts.
-        ensures both { IfOk result (λ r. (v : VersionValue) →
-            accepts self.now v false ≡ true → accepts other.now v false ≡ true
-            → accepts (unwrap_or r []) v false ≡ true) }
-        ensures one { IfOk result (λ r. (v : VersionValue) →
-            accepts (unwrap_or r []) v false ≡ true
-            → (accepts self.now v false || accepts other.now v false) ≡ true) }
-        ensures releases { IfOk result (λ r. (v : VersionValue) → is_release v ≡ true →
-            accepts (unwrap_or r []) v false
-            ≡ (accepts self.now v false && accepts other.now v false)) }
-        // Allocation fails only if there is an intersection, never in place of `None`.
-        ensures memory { OnErr result (IsTrue (is_some (intersection self.now other.now))) }
-    {
-        self.in_common(alloc, other)
-    }
-
-    /// The difference, as `Range::difference` says. Its bounds borrow the same texts: memory is
-    /// taken for the list alone. Fails only if allocation fails; where nothing is left and the
-    /// other range has one interval it never does.
-    #[tactic(auto, using(crate::proofs::Algebra::Clauses::left_over))]
-    pub fn difference(
-        &self,
-        alloc: Global,
-        other: &RangeRef<'a>,
-    ) -> Result<Option<RangeRef<'a>>, AllocError>
-        ensures list { IfOk result (λ r. r ≡ difference self.now other.now) }
-        // It holds what this range holds and the other does not.
-        ensures set { IfOk result (λ r. (v : VersionValue) →
-            list_holds precedence (unwrap_or r []) v
-            ≡ (list_holds precedence self.now v && not (list_holds precedence other.now v))) }
-        // With pre-releases included it accepts what this range accepts and the other does not.
-        ensures all { IfOk result (λ r. (v : VersionValue) →
-            accepts (unwrap_or r []) v true
-            ≡ (accepts self.now v true && not (accepts other.now v true))) }
-        // It accepts what this range accepts and the other does not hold.
-        ensures kept { IfOk result (λ r. (v : VersionValue) →
-            accepts self.now v false ≡ true → list_holds precedence other.now v ≡ false
-            → accepts (unwrap_or r []) v false ≡ true) }
-        ensures releases { IfOk result (λ r. (v : VersionValue) → is_release v ≡ true →
-            accepts (unwrap_or r []) v false
-            ≡ (accepts self.now v false && not (accepts other.now v false))) }
-        // Allocation fails only if something is left, or if the other range has several intervals,
-        // whose complement is made first.
-        ensures memory { OnErr result
-            (IsTrue (is_some (difference self.now other.now)) ⊎ (1 < length other.now)) }
-    {
-        self.left_over(alloc, other)
-    }
-
-    // What the pairs of intervals have in common.
-    fn in_common(
-        &self,
-        alloc: Global,
-        other: &RangeRef<'a>,
-    ) -> Result<Option<RangeRef<'a>>, AllocError>
-        ensures list { IfOk result (λ r. r ≡ intersection self.now other.now) }
-        ensures memory { OnErr result (IsTrue (is_some (intersection self.now other.now))) }
-    {
-        let both = lists::intersections(alloc, self.intervals(), other.intervals())?;
-        Ok(RangeRef::from_intervals(both))
-    }
-
-    // What the other range leaves of this one.
-    fn left_over(
-        &self,
-        alloc: Global,
-        other: &RangeRef<'a>,
-    ) -> Result<Option<RangeRef<'a>>, AllocError>
-        ensures list { IfOk result (λ r. r ≡ difference self.now other.now) }
-        ensures memory { OnErr result
-            (IsTrue (is_some (difference self.now other.now)) ⊎ (1 < length other.now)) }
-    {
-        let pieces = lists::differences(alloc, self.intervals(), other.intervals())?;
-        Ok(RangeRef::from_intervals(pieces))
     }
 }

@@ -1,20 +1,19 @@
 // The best of the versions of a slice, or of versions that come one after another.
 
 ghost use Rattle.nodejs_semver.specs.Ranges.Gate.{accepts};
-ghost use Rattle.nodejs_semver.specs.Internal.AnyBest as of;
-ghost use Rattle.nodejs_semver.specs.Internal.AnyVersions as any;
 ghost use Rattle.nodejs_semver.specs.Ranges.Best.{IsMax, IsMin};
+ghost use Rattle.nodejs_semver.specs.Ranges.View.{spans_of, value_of};
 ghost use Rattle.semver_core.specs.Values.Order.{precedence};
 ghost use Rattle.semver_core.specs.Values.Versions.{VersionValue};
 ghost use Rattle.std.specs.Option.{option_copied};
 ghost use Rattle.std.specs.Ordering.{is_le};
 ghost use Rattle.std.specs.Prelude.{◌≡◌, ◌++◌, ◌∷◌, [], List, All, Contains, IfNone, IfSome, Some};
-ghost use Rattle.std.specs.Prelude.{false, true, if◌then◌else◌};
+ghost use Rattle.std.specs.Prelude.{false, true, if◌then◌else◌, map};
 
 use crate::range::gate::accepts;
 use crate::{Range, RangeRef};
 use semver_core::cuts::Interval;
-use semver_core::{Version, VersionPoint, VersionRef};
+use semver_core::{Version, VersionPoint, VersionRef, Versioned};
 
 impl Range {
     /// The greatest of the versions that the range accepts by `satisfies`. Returns `None` exactly
@@ -37,7 +36,7 @@ impl Range {
             accepts self.now w false ≡ true → is_le (precedence w v.now) ≡ true) versions.now) }
         ensures none { IfNone result (All (λ w. accepts self.now w false ≡ false) versions.now) }
     {
-        greatest(self.intervals(), versions)
+        greatest(self.items(), versions)
     }
 
     /// The smallest of the versions that the range accepts by `satisfies`. Returns `None` exactly
@@ -59,7 +58,7 @@ impl Range {
             accepts self.now w false ≡ true → is_le (precedence v.now w) ≡ true) versions.now) }
         ensures none { IfNone result (All (λ w. accepts self.now w false ≡ false) versions.now) }
     {
-        least(self.intervals(), versions)
+        least(self.items(), versions)
     }
 
     /// Whether a version takes the place of the best so far: the range accepts it by `satisfies`,
@@ -83,7 +82,7 @@ impl Range {
             → IsMax (λ v. accepts self.now v false) (list ++ version.now ∷ [])
             (if result then Some version.now else option_copied best.entry) }
     {
-        is_new_max(self.intervals(), version, best)
+        is_new_max(self.items(), version, best)
     }
 
     /// Whether a version takes the place of the best so far in `min_satisfying`: the range accepts
@@ -100,7 +99,7 @@ impl Range {
             → IsMin (λ v. accepts self.now v false) (list ++ version.now ∷ [])
             (if result then Some version.now else option_copied best.entry) }
     {
-        is_new_min(self.intervals(), version, best)
+        is_new_min(self.items(), version, best)
     }
 }
 
@@ -115,7 +114,7 @@ impl<'a> RangeRef<'a> {
             accepts self.now w false ≡ true → is_le (precedence w v.now) ≡ true) versions.now) }
         ensures none { IfNone result (All (λ w. accepts self.now w false ≡ false) versions.now) }
     {
-        greatest(self.intervals(), versions)
+        greatest(self.items(), versions)
     }
 
     /// The smallest of the versions that the range accepts, as `Range::min_satisfying` says.
@@ -128,7 +127,7 @@ impl<'a> RangeRef<'a> {
             accepts self.now w false ≡ true → is_le (precedence v.now w) ≡ true) versions.now) }
         ensures none { IfNone result (All (λ w. accepts self.now w false ≡ false) versions.now) }
     {
-        least(self.intervals(), versions)
+        least(self.items(), versions)
     }
 
     /// Whether a version takes the place of the best so far, as `Range::is_new_max` says.
@@ -139,7 +138,7 @@ impl<'a> RangeRef<'a> {
             → IsMax (λ v. accepts self.now v false) (list ++ version.now ∷ [])
             (if result then Some version.now else option_copied best.entry) }
     {
-        is_new_max(self.intervals(), version, best)
+        is_new_max(self.items(), version, best)
     }
 
     /// Whether a version takes the place of the best so far, as `Range::is_new_min` says.
@@ -150,14 +149,14 @@ impl<'a> RangeRef<'a> {
             → IsMin (λ v. accepts self.now v false) (list ++ version.now ∷ [])
             (if result then Some version.now else option_copied best.entry) }
     {
-        is_new_min(self.intervals(), version, best)
+        is_new_min(self.items(), version, best)
     }
 }
 
 // The last of the greatest of the versions that the intervals accept.
 fn greatest<'v, V: VersionPoint>(intervals: &[Interval<V>], versions: &'v [V]) -> Option<&'v V>
-    ensures { of.IsMax V.cmp (λ v. any.accepts V.cmp V.value intervals.now v false) versions.now
-        (option_copied result) }
+    ensures { IsMax (λ v. accepts (spans_of V.value intervals.now) v false)
+        (map V.value versions.now) (value_of V.value result) }
 {
     let mut best = None;
     for version in versions {
@@ -170,8 +169,8 @@ fn greatest<'v, V: VersionPoint>(intervals: &[Interval<V>], versions: &'v [V]) -
 
 // The smallest of the versions that the intervals accept; on a tie, the first.
 fn least<'v, V: VersionPoint>(intervals: &[Interval<V>], versions: &'v [V]) -> Option<&'v V>
-    ensures { of.IsMin V.cmp (λ v. any.accepts V.cmp V.value intervals.now v false) versions.now
-        (option_copied result) }
+    ensures { IsMin (λ v. accepts (spans_of V.value intervals.now) v false)
+        (map V.value versions.now) (value_of V.value result) }
 {
     let mut best = None;
     for version in versions {
@@ -184,30 +183,40 @@ fn least<'v, V: VersionPoint>(intervals: &[Interval<V>], versions: &'v [V]) -> O
 
 // Whether the intervals accept a version, and the best so far is not above it.
 #[inline(always)]
-fn is_new_max<V: VersionPoint>(intervals: &[Interval<V>], version: &V, best: Option<&V>) -> bool
-    ensures { (list : List V)
-        → of.IsMax V.cmp (λ v. any.accepts V.cmp V.value intervals.now v false) list
-        (option_copied best.entry)
-        → of.IsMax V.cmp (λ v. any.accepts V.cmp V.value intervals.now v false)
-        (list ++ version.now ∷ []) (if result then Some version.now else option_copied best.entry) }
+fn is_new_max<V: VersionPoint, W: Versioned>(
+    intervals: &[Interval<V>],
+    version: &W,
+    best: Option<&W>,
+) -> bool
+    ensures { (list : List VersionValue)
+        → IsMax (λ v. accepts (spans_of V.value intervals.now) v false) list
+        (value_of W.value best.entry)
+        → IsMax (λ v. accepts (spans_of V.value intervals.now) v false)
+        (list ++ W.value version.now ∷ [])
+        (if result then Some (W.value version.now) else value_of W.value best.entry) }
 {
     match best {
-        Some(best) => best.cmp(version).is_le() && accepts(intervals, version, false),
+        Some(best) => best.cmp_precedence(version).is_le() && accepts(intervals, version, false),
         None => accepts(intervals, version, false),
     }
 }
 
 // Whether the intervals accept a version, and the best so far is above it.
 #[inline(always)]
-fn is_new_min<V: VersionPoint>(intervals: &[Interval<V>], version: &V, best: Option<&V>) -> bool
-    ensures { (list : List V)
-        → of.IsMin V.cmp (λ v. any.accepts V.cmp V.value intervals.now v false) list
-        (option_copied best.entry)
-        → of.IsMin V.cmp (λ v. any.accepts V.cmp V.value intervals.now v false)
-        (list ++ version.now ∷ []) (if result then Some version.now else option_copied best.entry) }
+fn is_new_min<V: VersionPoint, W: Versioned>(
+    intervals: &[Interval<V>],
+    version: &W,
+    best: Option<&W>,
+) -> bool
+    ensures { (list : List VersionValue)
+        → IsMin (λ v. accepts (spans_of V.value intervals.now) v false) list
+        (value_of W.value best.entry)
+        → IsMin (λ v. accepts (spans_of V.value intervals.now) v false)
+        (list ++ W.value version.now ∷ [])
+        (if result then Some (W.value version.now) else value_of W.value best.entry) }
 {
     match best {
-        Some(best) => version.cmp(best).is_lt() && accepts(intervals, version, false),
+        Some(best) => version.cmp_precedence(best).is_lt() && accepts(intervals, version, false),
         None => accepts(intervals, version, false),
     }
 }

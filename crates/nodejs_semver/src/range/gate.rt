@@ -1,68 +1,50 @@
 // Which versions a range accepts.
 
 ghost use Rattle.std.specs.Prelude.{◌≡◌, ◌&&◌, ◌||◌, IsTrue, false};
-ghost use Rattle.semver_core.specs.Cuts.{holds};
+ghost use Rattle.std.specs.List.{list_any};
+ghost use Rattle.semver_core.specs.Cuts.{holds, is_past, lower_cut, upper_cut};
 ghost use Rattle.nodejs_semver.specs.Ranges.Algebra.{list_holds};
 ghost use Rattle.semver_core.specs.Values.Order.{precedence};
 ghost use Rattle.semver_core.specs.declared.TheConstants.{MAX_SAFE_INTEGER};
-ghost use Rattle.nodejs_semver.specs.Internal.AnyVersions as of;
-ghost use Rattle.nodejs_semver.specs.Ranges.Gate.{accepts};
-ghost use Rattle.nodejs_semver.specs.Ranges.View.{IsRange};
+ghost use Rattle.nodejs_semver.specs.Ranges.Gate.{accepts, lets_in, names};
+ghost use Rattle.nodejs_semver.specs.Ranges.View.{IsRange, bound_of, span_of, spans_of};
 
-use crate::{Range, RangeRef};
+use crate::RangeOf;
 use semver_core::cuts::{Bound, Interval};
-use semver_core::{Accepts, AcceptsRef, Version, VersionPoint, VersionRef};
+use semver_core::{Accepts, AcceptsRef, Version, VersionPoint, VersionRef, Versioned};
 
-impl Range {
+impl<V: VersionPoint> RangeOf<V> {
     /// Whether the range accepts this version. A pre-release is accepted only if the interval that
     /// holds it has a bound with a pre-release of the same three numbers: `>=1.2.3-a` accepts
     /// 1.2.3-b and 1.3.0, and not 1.3.0-b. So the range without bounds, which `Range::any` returns,
     /// accepts no pre-release.
-    pub fn satisfies(&self, version: &Version) -> bool
-        ensures gate { result ≡ accepts self.now version.now false }
+    ///
+    /// The version may be owned or borrowed, whichever the range is.
+    pub fn satisfies<W: Versioned>(&self, version: &W) -> bool
+        ensures gate { result ≡ accepts self.now (W.value version.now) false }
         ensures valid { IsRange MAX_SAFE_INTEGER self.now }
     {
-        accepts(self.intervals(), version, false)
+        accepts(self.items(), version, false)
     }
 
     /// Whether the range accepts this version, as `satisfies` says; with the flag, pre-releases are
     /// accepted like releases, so that the intervals alone decide.
-    pub fn satisfies_with_prerelease(&self, version: &Version, include_prerelease: bool) -> bool
-        ensures gate { result ≡ accepts self.now version.now include_prerelease }
-        ensures set { IsTrue include_prerelease
-            → result ≡ list_holds precedence self.now version.now }
-        ensures valid { IsRange MAX_SAFE_INTEGER self.now }
-    {
-        accepts(self.intervals(), version, include_prerelease)
-    }
-}
-
-impl<'a> RangeRef<'a> {
-    /// Whether the range accepts this version, as `Range::satisfies` says.
-    pub fn satisfies(&self, version: &VersionRef<'_>) -> bool
-        ensures gate { result ≡ accepts self.now version.now false }
-        ensures valid { IsRange MAX_SAFE_INTEGER self.now }
-    {
-        self.satisfies_with_prerelease(version, false)
-    }
-
-    /// Whether the range accepts this version, as `Range::satisfies_with_prerelease` says.
-    pub fn satisfies_with_prerelease(
+    pub fn satisfies_with_prerelease<W: Versioned>(
         &self,
-        version: &VersionRef<'_>,
+        version: &W,
         include_prerelease: bool,
     ) -> bool
-        ensures gate { result ≡ accepts self.now version.now include_prerelease }
+        ensures gate { result ≡ accepts self.now (W.value version.now) include_prerelease }
         ensures set { IsTrue include_prerelease
-            → result ≡ list_holds precedence self.now version.now }
+            → result ≡ list_holds precedence self.now (W.value version.now) }
         ensures valid { IsRange MAX_SAFE_INTEGER self.now }
     {
-        accepts(self.intervals(), version, include_prerelease)
+        accepts(self.items(), version, include_prerelease)
     }
 }
 
 /// What `satisfies_with_prerelease` returns.
-impl Accepts for Range {
+impl<V: VersionPoint> Accepts for RangeOf<V> {
     ghost accepts = { accepts };
 
     fn accepts(&self, version: &Version, include_prerelease: bool) -> bool {
@@ -71,7 +53,7 @@ impl Accepts for Range {
 }
 
 /// What `satisfies_with_prerelease` returns.
-impl<'a> AcceptsRef for RangeRef<'a> {
+impl<V: VersionPoint> AcceptsRef for RangeOf<V> {
     ghost accepts = { accepts };
 
     fn accepts(&self, version: &VersionRef<'_>, include_prerelease: bool) -> bool {
@@ -80,40 +62,69 @@ impl<'a> AcceptsRef for RangeRef<'a> {
 }
 
 // Whether some one of the intervals holds the version and lets it in.
-pub(crate) fn accepts<V: VersionPoint>(
+pub(crate) fn accepts<V: VersionPoint, W: Versioned>(
     intervals: &[Interval<V>],
-    version: &V,
+    version: &W,
     include_prerelease: bool,
 ) -> bool
-    ensures { result ≡ of.accepts V.cmp V.value intervals.now version.now include_prerelease }
+    ensures { result
+        ≡ accepts (spans_of V.value intervals.now) (W.value version.now) include_prerelease }
 {
     intervals.iter().any(|interval| accepts_one(interval, version, include_prerelease))
 }
 
 // Whether the interval holds the version and lets it in.
 #[inline(always)]
-pub(crate) fn accepts_one<V: VersionPoint>(
+pub(crate) fn accepts_one<V: VersionPoint, W: Versioned>(
     interval: &Interval<V>,
-    version: &V,
+    version: &W,
     include_prerelease: bool,
 ) -> bool
     ensures { result
-        ≡ of.accepts_one V.cmp V.value interval.now version.now include_prerelease }
+        ≡ (holds precedence (span_of V.value interval.now) (W.value version.now)
+        && (include_prerelease
+        || lets_in (span_of V.value interval.now) (W.value version.now))) }
 {
-    interval.contains(version) && (include_prerelease || lets_in(interval, version))
+    is_past_lower(interval.lower(), version)
+        && !is_past_upper(interval.upper(), version)
+        && (include_prerelease || lets_in(interval, version))
+}
+
+// Whether the version lies past the cut of the lower bound.
+pub(crate) fn is_past_lower<V: Versioned, W: Versioned>(bound: &Bound<V>, version: &W) -> bool
+    ensures { result
+        ≡ is_past precedence (lower_cut (bound_of V.value bound.now)) (W.value version.now) }
+{
+    match bound {
+        Bound::Unbounded => true,
+        Bound::Before(v) => v.cmp_precedence(version).is_le(),
+        Bound::After(v) => v.cmp_precedence(version).is_lt(),
+    }
+}
+
+// Whether the version lies past the cut of the upper bound.
+pub(crate) fn is_past_upper<V: Versioned, W: Versioned>(bound: &Bound<V>, version: &W) -> bool
+    ensures { result
+        ≡ is_past precedence (upper_cut (bound_of V.value bound.now)) (W.value version.now) }
+{
+    match bound {
+        Bound::Unbounded => false,
+        Bound::Before(v) => v.cmp_precedence(version).is_le(),
+        Bound::After(v) => v.cmp_precedence(version).is_lt(),
+    }
 }
 
 // Whether the interval lets in the version, pre-releases not being included.
 #[inline]
-fn lets_in<V: VersionPoint>(interval: &Interval<V>, version: &V) -> bool
-    ensures { result ≡ of.lets_in V.value interval.now version.now }
+fn lets_in<V: VersionPoint, W: Versioned>(interval: &Interval<V>, version: &W) -> bool
+    ensures { result ≡ lets_in (span_of V.value interval.now) (W.value version.now) }
 {
     version.is_release() || names(interval.lower(), version) || names(interval.upper(), version)
 }
 
 // Whether the bound's version is a pre-release of the same three numbers.
-fn names<V: VersionPoint>(bound: &Bound<V>, version: &V) -> bool
-    ensures { result ≡ of.names V.value bound.now version.now }
+fn names<V: Versioned, W: Versioned>(bound: &Bound<V>, version: &W) -> bool
+    ensures { result ≡ names (bound_of V.value bound.now) (W.value version.now) }
 {
     match bound {
         Bound::Unbounded => false,

@@ -137,6 +137,7 @@ impl<'a> RangeRef<'a> {
 
 // The version with which the interval begins, where the interval accepts it.
 #[inline(always)]
+#[tactic(auto, using(crate::proofs::Values::span_same))]
 fn start<'v, 'a>(interval: &'v Interval<VersionRef<'a>>) -> Option<&'v VersionRef<'a>>
     ensures { IfSome result (λ v. spec.StartsWith interval.now v.now) }
 {
@@ -182,6 +183,7 @@ struct Search<'a> {
 impl<'a> Search<'a> {
     // Whether the version is below the best so far, and one of those that are searched for.
     #[inline(always)]
+    #[tactic(auto, using(crate::proofs::Values::spans_same))]
     fn improves(&self, version: &Version) -> bool
         ensures { result ≡ (spec.improves self.now.best version.now
             && spec.among self.now.kept.now self.now.also.now self.now.removed.now version.now) }
@@ -518,6 +520,7 @@ fn with_build_by(
 }
 
 // The first interval that accepts the version.
+#[tactic(auto, using(crate::proofs::Values::span_same))]
 fn first_accepting<'a>(
     intervals: &'a [Interval<Version>],
     version: &Version,

@@ -1,14 +1,14 @@
 // Versions that lie above or below a range.
 
-ghost use Rattle.nodejs_semver.specs.Internal.AnyVersions as of;
 ghost use Rattle.nodejs_semver.specs.Ranges.Outside as spec;
-ghost use Rattle.std.specs.List.{list_all};
+ghost use Rattle.nodejs_semver.specs.Ranges.View.{bound_of, span_of, spans_of};
+ghost use Rattle.nodejs_semver.specs.declared.range.outside.OutsideDirection.TheVariants as side;
 ghost use Rattle.std.specs.Prelude.{Ok, ◌≡◌};
 
-use crate::range::gate::accepts;
-use crate::{Range, RangeRef};
-use semver_core::cuts::{Bound, Interval, Point};
-use semver_core::{Version, VersionPoint, VersionRef};
+use crate::RangeOf;
+use crate::range::gate::{accepts, is_past_lower, is_past_upper};
+use semver_core::cuts::{Bound, Interval};
+use semver_core::{VersionPoint, Versioned};
 use std::fmt;
 use thiserror::Error;
 
@@ -65,7 +65,7 @@ pub enum RangeError {
     MissingComparatorBounds,
 }
 
-impl Range {
+impl<V: VersionPoint> RangeOf<V> {
     /// Whether the version lies outside the range on this side: the range does not accept it (the
     /// flag says whether pre-releases are included), and every interval lies on the other side. It
     /// never returns an error.
@@ -74,81 +74,69 @@ impl Range {
     /// version. For `Lower` every interval must have no bound at all, or a lower bound and an upper
     /// cut that is not before the version. So 2.0.0-beta is above `1` though its upper bound is
     /// `<2.0.0-0`, and 0.7.2-beta is below the range without bounds, which does not accept it.
-    pub fn outside(
+    pub fn outside<W: Versioned>(
         &self,
-        version: &Version,
+        version: &W,
         direction: OutsideDirection,
         include_prerelease: bool,
     ) -> Result<bool, RangeError>
-        ensures { result ≡ Ok (spec.is_outside direction include_prerelease self.now version.now) }
+        ensures { result
+            ≡ Ok (spec.is_outside direction include_prerelease self.now (W.value version.now)) }
     {
-        Ok(lies_outside(self.intervals(), version, direction, include_prerelease))
-    }
-}
-
-impl<'a> RangeRef<'a> {
-    /// Whether the version lies outside the range on this side, as `Range::outside` says. It never
-    /// returns an error.
-    pub fn outside(
-        &self,
-        version: &VersionRef<'_>,
-        direction: OutsideDirection,
-        include_prerelease: bool,
-    ) -> Result<bool, RangeError>
-        ensures { result ≡ Ok (spec.is_outside direction include_prerelease self.now version.now) }
-    {
-        Ok(lies_outside(self.intervals(), version, direction, include_prerelease))
+        Ok(lies_outside(self.items(), version, direction, include_prerelease))
     }
 }
 
 // Whether the version is not accepted, and each interval lies on the other side.
-fn lies_outside<V: VersionPoint>(
+fn lies_outside<V: VersionPoint, W: Versioned>(
     intervals: &[Interval<V>],
-    version: &V,
+    version: &W,
     direction: OutsideDirection,
     include_prerelease: bool,
 ) -> bool
     ensures { result
-        ≡ of.is_outside V.cmp V.value direction include_prerelease intervals.now version.now }
+        ≡ spec.is_outside direction include_prerelease (spans_of V.value intervals.now)
+        (W.value version.now) }
 {
     !accepts(intervals, version, include_prerelease)
-        && match direction {
-            OutsideDirection::Higher => lie_below(intervals, version),
-            OutsideDirection::Lower => lie_above(intervals, version),
-        }
+        && intervals
+            .iter()
+            .all(|interval| lies_opposite(interval, version, direction))
 }
 
-fn lie_below<V: Point>(intervals: &[Interval<V>], version: &V) -> bool
-    ensures { result ≡ list_all (λ s. of.lies_below V.cmp s version.now) intervals.now }
+// Whether the interval lies on the other side of the version.
+fn lies_opposite<V: VersionPoint, W: Versioned>(
+    interval: &Interval<V>,
+    version: &W,
+    direction: OutsideDirection,
+) -> bool
+    ensures { result
+        ≡ elim direction [
+          | side.Higher ↦ spec.lies_below (span_of V.value interval.now) (W.value version.now)
+          | side.Lower ↦ spec.lies_above (span_of V.value interval.now) (W.value version.now)
+        ] }
 {
-    intervals
-        .iter()
-        .all(|interval| lies_below(interval, version))
+    match direction {
+        OutsideDirection::Higher => lies_below(interval, version),
+        OutsideDirection::Lower => lies_above(interval, version),
+    }
 }
 
-fn lie_above<V: Point>(intervals: &[Interval<V>], version: &V) -> bool
-    ensures { result ≡ list_all (λ s. of.lies_above V.cmp s version.now) intervals.now }
+fn lies_below<V: VersionPoint, W: Versioned>(interval: &Interval<V>, version: &W) -> bool
+    ensures { result ≡ spec.lies_below (span_of V.value interval.now) (W.value version.now) }
 {
-    intervals
-        .iter()
-        .all(|interval| lies_above(interval, version))
+    is_bounded(interval.upper()) && is_past_lower(interval.lower(), version)
 }
 
-fn lies_below<V: Point>(interval: &Interval<V>, version: &V) -> bool
-    ensures { result ≡ of.lies_below V.cmp interval.now version.now }
-{
-    is_bounded(interval.upper()) && interval.begins_below(version)
-}
-
-fn lies_above<V: Point>(interval: &Interval<V>, version: &V) -> bool
-    ensures { result ≡ of.lies_above V.cmp interval.now version.now }
+fn lies_above<V: VersionPoint, W: Versioned>(interval: &Interval<V>, version: &W) -> bool
+    ensures { result ≡ spec.lies_above (span_of V.value interval.now) (W.value version.now) }
 {
     (!is_bounded(interval.lower()) && !is_bounded(interval.upper()))
-        || (is_bounded(interval.lower()) && !interval.ends_below(version))
+        || (is_bounded(interval.lower()) && !is_past_upper(interval.upper(), version))
 }
 
-fn is_bounded<V: Point>(bound: &Bound<V>) -> bool
-    ensures { result ≡ spec.is_bounded bound.now }
+fn is_bounded<V: Versioned>(bound: &Bound<V>) -> bool
+    ensures { result ≡ spec.is_bounded (bound_of V.value bound.now) }
 {
     match bound {
         Bound::Unbounded => false,

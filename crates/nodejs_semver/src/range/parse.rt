@@ -13,7 +13,7 @@ ghost use Rattle.semver_core.specs.Failures.{MemoryOnlyIf, RefusedOnlyIf};
 ghost use Rattle.semver_core.specs.Values.Versions.{VersionValue};
 
 use crate::readers::{Filled, read_common};
-use crate::{Range, RangeRef};
+use crate::{Range, RangeOf, RangeRef};
 use semver_core::{Failure, MAX_SAFE_INTEGER, SemverError};
 use smallvec::SmallVec;
 use std::alloc::{AllocError, Global};
@@ -40,6 +40,7 @@ impl Range {
     /// assert!(rt; Range::parse(alloc, "latest").is_err());
     /// ```
     #[inline(always)]
+    #[tactic(auto, using(crate::proofs::Values::spans_same))]
     pub fn parse(alloc: Global, text: &str) -> Result<Range, Failure<SemverError>>
         // The intervals are those that the text means, in order and with their builds.
         ensures ok { IfOk result (Means MAX_SAFE_INTEGER text.now) }
@@ -55,7 +56,7 @@ impl Range {
     {
         let mut intervals = SmallVec::new(alloc);
         read_some(text, &mut intervals)?;
-        Ok(Range { intervals })
+        Ok(RangeOf { intervals })
     }
 }
 
@@ -63,6 +64,7 @@ impl<'a> RangeRef<'a> {
     /// Reads a range text of any length, as `Range::parse` does. The range borrows the text. One
     /// interval stands inline, so that allocation fails only if the text means two or more.
     #[inline(always)]
+    #[tactic(auto, using(crate::proofs::Values::spans_same))]
     pub fn parse(alloc: Global, text: &'a str) -> Result<RangeRef<'a>, Failure<SemverError>>
         // The intervals are those that the text means, in order and with their builds.
         ensures ok { IfOk result (Means MAX_SAFE_INTEGER text.now) }
@@ -78,7 +80,7 @@ impl<'a> RangeRef<'a> {
     {
         let mut intervals = SmallVec::new(alloc);
         read_some(text, &mut intervals)?;
-        Ok(RangeRef { intervals })
+        Ok(RangeOf { intervals })
     }
 }
 

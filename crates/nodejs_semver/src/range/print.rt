@@ -4,10 +4,11 @@ ghost use Rattle.std.specs.Fmt.{DisplaysStyledOnOk};
 ghost use Rattle.std.specs.Ordering.{is_eq};
 ghost use Rattle.std.specs.Prelude.{◌≡◌, ◌++◌, Some};
 ghost use Rattle.semver_core.specs.Printing.Text.{version_text};
-ghost use Rattle.nodejs_semver.specs.Internal.AnyVersions as of;
+ghost use Rattle.nodejs_semver.specs.Internal.Sets.{span_text};
 ghost use Rattle.nodejs_semver.specs.Printing.Text.{lower_text, upper_text, range_text};
+ghost use Rattle.nodejs_semver.specs.Ranges.View.{bound_of, span_of, spans_of};
 
-use crate::{Range, RangeRef};
+use crate::RangeOf;
 use semver_core::VersionPoint;
 use semver_core::cuts::{Bound, Interval};
 use std::fmt;
@@ -31,7 +32,7 @@ fn write_lower<V: VersionPoint, W: fmt::Write>(
     f: &mut fmt::Formatter<W>,
 ) -> fmt::Result
     ensures { DisplaysStyledOnOk W.write_str_gives f.old result
-        (Some (lower_text (of.bound V.value bound.now))) f.new }
+        (Some (lower_text (bound_of V.value bound.now))) f.new }
 {
     match bound {
         Bound::Unbounded => Ok(()),
@@ -46,7 +47,7 @@ fn write_upper<V: VersionPoint, W: fmt::Write>(
     f: &mut fmt::Formatter<W>,
 ) -> fmt::Result
     ensures { DisplaysStyledOnOk W.write_str_gives f.old result
-        (Some (upper_text (of.bound V.value bound.now))) f.new }
+        (Some (upper_text (bound_of V.value bound.now))) f.new }
 {
     match bound {
         Bound::Unbounded => Ok(()),
@@ -69,7 +70,7 @@ fn write_interval<V: VersionPoint, W: fmt::Write>(
     f: &mut fmt::Formatter<W>,
 ) -> fmt::Result
     ensures { DisplaysStyledOnOk W.write_str_gives f.old result
-        (Some (of.span_text V.value interval.now)) f.new }
+        (Some (span_text (span_of V.value interval.now))) f.new }
 {
     let (lower, upper) = (interval.lower(), interval.upper());
     match (lower, upper) {
@@ -91,7 +92,7 @@ fn write_intervals<V: VersionPoint, W: fmt::Write>(
     f: &mut fmt::Formatter<W>,
 ) -> fmt::Result
     ensures { DisplaysStyledOnOk W.write_str_gives f.old result
-        (Some (of.range_text V.value intervals.now)) f.new }
+        (Some (range_text (spans_of V.value intervals.now))) f.new }
 {
     let mut separator = "";
     for interval in intervals {
@@ -113,25 +114,12 @@ fn write_intervals<V: VersionPoint, W: fmt::Write>(
 /// is read nowhere: `^9007199254740991` prints `>=9007199254740991.0.0 <9007199254740992.0.0-0`,
 /// whose second word is malformed and so is ignored, without an error, when the text is read again.
 /// What is read is `>=9007199254740991.0.0`, a wider range.
-impl fmt::Display for Range {
+impl<V: VersionPoint> fmt::Display for RangeOf<V> {
     ghost output = { λ r. Some (range_text r) };
 
     ghost styled_output = { λ r _. Some (range_text r) };
 
-    #[tactic(auto, using(crate::proofs::Printing::Steps::printed_same))]
     fn fmt<W: fmt::Write>(&self, f: &mut fmt::Formatter<W>) -> fmt::Result {
-        write_intervals(self.intervals(), f)
-    }
-}
-
-/// Prints as the `Range` of the same intervals.
-impl<'a> fmt::Display for RangeRef<'a> {
-    ghost output = { λ r. Some (range_text r) };
-
-    ghost styled_output = { λ r _. Some (range_text r) };
-
-    #[tactic(auto, using(crate::proofs::Printing::Steps::printed_same))]
-    fn fmt<W: fmt::Write>(&self, f: &mut fmt::Formatter<W>) -> fmt::Result {
-        write_intervals(self.intervals(), f)
+        write_intervals(self.items(), f)
     }
 }

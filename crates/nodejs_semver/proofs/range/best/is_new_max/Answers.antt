@@ -5,13 +5,13 @@ use Rattle.nodejs_semver.proofs.range.best.is_new_max.Goals as goal
 
 pub returns-then-is_le : goal.returns-then-is_le
 returns-then-is_le g c = λ list.
-    max_more g.met.V.Ord.total _ list _ _ _
-    (rw (c.in-Some.is, sym (c.is_le.ensures ∙ ap is_le c.cmp.ensures) ∙ c.if-is_le.true) c.accepts.ensures)
+    max_more _ list _ _ _
+    (rw (c.in-Some.is, sym (c.is_le.ensures ∙ ap is_le c.cmp_precedence.ensures) ∙ c.if-is_le.true) c.accepts.ensures)
 
 pub returns-else-is_le : goal.returns-else-is_le
 returns-else-is_le g c = λ list.
-    max_more g.met.V.Ord.total _ list _ _ _
-    (rw (c.in-Some.is, sym (c.is_le.ensures ∙ ap is_le c.cmp.ensures) ∙ c.if-is_le.false) c.if-is_le.false)
+    max_more _ list _ _ _
+    (rw (c.in-Some.is, sym (c.is_le.ensures ∙ ap is_le c.cmp_precedence.ensures) ∙ c.if-is_le.false) c.if-is_le.false)
 
 pub returns-in-None : goal.returns-in-None
-returns-in-None g c = λ list. max_more g.met.V.Ord.total _ list _ _ _ (rw c.in-None.is c.accepts-in-None.ensures)
+returns-in-None g c = λ list. max_more _ list _ _ _ (rw c.in-None.is c.accepts-in-None.ensures)

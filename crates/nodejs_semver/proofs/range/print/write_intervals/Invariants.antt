@@ -3,7 +3,7 @@ use denote.Text.{Utf8}
 use denote.Shadow.{shadow}
 use Rattle.std.specs.Fmt.{HasWrittenStyled, IsFlush}
 use Rattle.nodejs_semver.proofs.Printing.Steps.{bars_after}
-use Rattle.nodejs_semver.specs.Internal.AnyVersions.{range_text}
+use Rattle.nodejs_semver.proofs.Values.{printed}
 use Rattle.nodejs_semver.proofs.range.print.write_intervals.Given as goal
 
 abbrev pub invariant-loop-interval : goal.invariant-loop-interval
@@ -12,4 +12,4 @@ invariant-loop-interval g l =
     × (separator : l.separator ≡ bars_after (take l.interval-index l.intervals))
     × (IsFlush l.initial.f
     → HasWrittenStyled g.W.Write.write_str_gives l.initial.f
-    (range_text g.V.Versioned.value (take l.interval-index l.intervals)) l.f)
+    (printed g.V.Versioned.value (take l.interval-index l.intervals)) l.f)

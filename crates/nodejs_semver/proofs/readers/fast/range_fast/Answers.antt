@@ -1,8 +1,11 @@
-use Rattle.std.proofs.Common.{◌≡◌, List, ℕ, inr, rules, subst}
+use Rattle.std.proofs.Common.{◌≡◌, ◌∙◌, ap, arith, List, [], ◌∷◌, ℕ, inr, rules, subst}
 use Rattle.std.proofs.lemmas.Result.{IfOk-weaker, on_err_weaker}
 use Rattle.std.specs.Prelude.{IfSome, IsTrue, IsUtf8}
 use Rattle.semver_core.specs.declared.TheConstants.{MAX_SAFE_INTEGER}
+use Rattle.nodejs_semver.specs.Text.Common.{IsCommonRange}
 use Rattle.nodejs_semver.specs.Text.Meaning.{Means}
+use Rattle.semver_core.specs.Lists.{if_any}
+use Rattle.nodejs_semver.proofs.Values.{spans_same}
 use Rattle.nodejs_semver.proofs.Everyday.Loop.{common_so}
 use Rattle.nodejs_semver.proofs.Everyday.Whole.{common_bounded, common_means}
 use Rattle.nodejs_semver.proofs.readers.fast.range_fast.Goals as goal
@@ -10,7 +13,22 @@ use Rattle.nodejs_semver.proofs.readers.fast.range_fast.Goals as goal
 pub from_intervals-requires : goal.from_intervals-requires
 from_intervals-requires c =
     let there : IsTrue c.in_ok-read_common.field-0 = search rules in
-    common_bounded MAX_SAFE_INTEGER c.as_bytes.result.now c.read_common.new.found.items (c.in_ok-read_common.ensures.some there)
+    let valid = common_bounded MAX_SAFE_INTEGER c.as_bytes.result.now c.read_common.new.found.items
+    (c.in_ok-read_common.ensures.some there) in
+    (omega arith, (omega arith, rw spans_same valid))
+
+if_some : {A : Type 0} (P : List A → Type 0) (xs : List A) → P xs → IfSome (if_any xs) P
+if_some P [] h = tt
+if_some P (x ∷ xs) h = h
+
+pub returns-clause-some : goal.returns-clause-some
+returns-clause-some c =
+    let there : IsTrue c.in_ok-read_common.field-0 = search rules in
+    let common = rw c.as_bytes.ensures.value at (c.in_ok-read_common.ensures.some there) in
+    IfOk-weaker c.owned_range.result (λ r. r ≡ c.from_intervals.result)
+    (λ r. IfSome r (IsCommonRange MAX_SAFE_INTEGER c.args.text.now))
+    (λ r e. rw (e, c.from_intervals.ensures, spans_same) (if_some _ c.read_common.new.found.items common))
+    c.owned_range.ensures.whole
 
 pub returns-clause-denoted : goal.returns-clause-denoted
 returns-clause-denoted c =
@@ -19,7 +37,7 @@ returns-clause-denoted c =
     (λ r e. rw e
     (subst (λ (t : List ℕ). IsUtf8 t → IfSome c.from_intervals.result (Means MAX_SAFE_INTEGER t)) c.as_bytes.ensures.value
     (λ u. common_means MAX_SAFE_INTEGER c.as_bytes.result.now c.read_common.new.found.items c.from_intervals.result u
-    (c.in_ok-read_common.ensures.some there) c.from_intervals.ensures)
+    (c.in_ok-read_common.ensures.some there) (c.from_intervals.ensures ∙ ap if_any (spans_same _)))
     c.utf8.text)) c.owned_range.ensures.whole
 
 pub returns-clause-memory : goal.returns-clause-memory
@@ -27,4 +45,4 @@ returns-clause-memory c =
     let there : IsTrue c.in_ok-read_common.field-0 = search rules in
     on_err_weaker c.owned_range.result
     (λ m. inr (rw c.as_bytes.ensures.value at (common_so _ MAX_SAFE_INTEGER c.as_bytes.result.now c.read_common.new.found.items
-    (c.in_ok-read_common.ensures.some there) (rw c.from_intervals.ensures at m)))) c.owned_range.ensures.memory
+    (c.in_ok-read_common.ensures.some there) (rw (c.from_intervals.ensures, spans_same) at m)))) c.owned_range.ensures.memory

@@ -1,8 +1,0 @@
-use Rattle.nodejs_semver.proofs.Choice.BestOf.{max_says}
-use Rattle.nodejs_semver.proofs.range.RangeRef.max_satisfying.Goals as goal
-
-pub returns : goal.returns
-returns c =
-    let best = rw c.intervals.ensures.value at c.greatest.ensures in
-    let (member, accepted, greatest, none) = max_says _ c.args.versions.now c.greatest.result best in
-    record { best = best; member = member; accepted = accepted; greatest = greatest; none = none }

@@ -1,8 +1,0 @@
-use Rattle.nodejs_semver.proofs.Choice.BestOf.{min_says}
-use Rattle.nodejs_semver.proofs.range.RangeRef.min_satisfying.Goals as goal
-
-pub returns : goal.returns
-returns c =
-    let best = rw c.intervals.ensures.value at c.least.ensures in
-    let (member, accepted, smallest, none) = min_says _ c.args.versions.now c.least.result best in
-    record { best = best; member = member; accepted = accepted; smallest = smallest; none = none }

@@ -1,0 +1,9 @@
+use Rattle.std.proofs.lemmas.List.{map-id}
+use Rattle.nodejs_semver.proofs.Choice.BestOf.{max_says}
+use Rattle.nodejs_semver.proofs.range.best.RangeRef.max_satisfying.Goals as goal
+
+pub returns : goal.returns
+returns c =
+    let best = rw (c.items.ensures.value, map-id) at c.greatest.ensures in
+    let (member, accepted, greatest, none) = max_says _ c.args.versions.now c.greatest.result best in
+    record { best = best; member = member; accepted = accepted; greatest = greatest; none = none }
