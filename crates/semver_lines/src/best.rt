@@ -10,7 +10,7 @@ ghost use Rattle.semver_lines.specs.Internal.Results.{FindsBest, IsBestOf, IsFau
 use crate::fault::Fault;
 use crate::fields::first;
 use crate::question::AboutBest;
-use nodejs_semver::{Failure, RangeRef, SemverError, VersionRef};
+use nodejs_semver::{Failure, RangeRef, VersionRef};
 
 /// The best of the versions of the fields of a text, of those that the range accepts.
 pub fn best_of<'t>(
@@ -44,14 +44,13 @@ fn keep_better<'t>(
         → FindsBest asked range.now (texts ++ text.now ∷ []) best.new) }
     ensures fault { IfErr result (λ error. IsFault error (IsVersionOf text.now)) }
 {
-    match &VersionRef::parse(text) {
-        Ok(version) if asked.is_new_best(range, version, best.as_ref()) => {
-            *best = Some(version.copy());
-            Ok(())
-        }
-        Ok(_) => Ok(()),
-        Err(SemverError) => Err(Failure::Refused(Fault::BadVersion)),
+    let Ok(version) = VersionRef::parse(text) else {
+        return Err(Failure::Refused(Fault::BadVersion));
+    };
+    if asked.is_new_best(range, &version, best.as_ref()) {
+        *best = Some(version);
     }
+    Ok(())
 }
 
 impl AboutBest {
