@@ -1,5 +1,5 @@
 -- Identifiers joined by dots: the longest list at the front of a text.
-use Rattle.std.proofs.Common.{◌≡◌, ℕ, ◌≤◌, ◌+◌, List, [], ◌∷◌, ◌++◌, length, take, drop, refl, arith}
+use Rattle.std.proofs.Common.{◌≡◌, ℕ, Bool, ◌≤◌, ◌+◌, List, [], ◌∷◌, ◌++◌, length, take, drop, refl, arith}
 use Rattle.std.proofs.Common.{true, false, inl, inr, length-append, length-drop}
 use Rattle.std.specs.Prelude.{◌==◌}
 use Rattle.std.specs.List.{list_all, onto_first}
@@ -107,6 +107,9 @@ listed_taken text = grind (arith, is_listed-from, front-identifiers, front_len-n
 pub listed_empty : (t : List ℕ) → is_empty (listed t) ≡ is_empty t
 unfolding listed
 listed_empty t = grind arith
+
+pub listed_empty-length : (t : List ℕ) → (b : Bool) → (length t == 0) ≡ b → is_empty (listed t) ≡ b
+listed_empty-length t b h = grind (arith, listed_empty)
 
 -- the empty text, and `0`
 pub nothing_spelled : listed [] ≡ []
