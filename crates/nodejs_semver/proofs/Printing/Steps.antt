@@ -1,15 +1,9 @@
 -- For proofs. What a loop over intervals has written.
 use Rattle.std.proofs.Common.{◌≡◌, ◌<◌, ◌+◌, ℕ, List, [], ◌∷◌, ◌++◌, length, take, get_or, codes}
-use Rattle.std.proofs.Common.{refl, sym, ap, ◌∙◌, append-nil, append_assoc, arith}
+use Rattle.std.proofs.Common.{sym, ap, ◌∙◌, append-nil, append_assoc, arith}
 use Rattle.std.proofs.lemmas.Grind.{flat_map-append}
 use Rattle.std.proofs.lemmas.List.{take_more}
 use Rattle.std.specs.List.{join_by}
-use Rattle.nodejs_semver.specs.Internal.Sets.{span_text}
-use Rattle.semver_core.specs.declared.cuts.bound.Bound.{Bound}
-use Rattle.nodejs_semver.proofs.Algebra.FlatMaps.{flat_same}
-use Rattle.semver_core.specs.Cuts.{Span}
-use Rattle.semver_core.specs.Values.Versions.{VersionValue}
-use Rattle.nodejs_semver.specs.Printing.Text.{range_text}
 
 abbrev joined : {A : Type 0} → (A → List ℕ) → List A → List ℕ
 joined text xs = join_by text (codes "||") xs

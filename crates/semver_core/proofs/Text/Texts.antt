@@ -8,7 +8,7 @@ use Rattle.semver_core.specs.Text.Characters.{BeginsBlank, IsAfterBlank, IsPiece
 use Rattle.semver_core.specs.Text.VersionText.{IsMark, IsPreRelease, IsBuild, Reads, begins_pre_release, begins_build, dashed}
 use Rattle.semver_core.specs.Text.VersionText.{bare, no_pre_release, plus, no_build, no_mark, small_mark, capital_mark}
 use borrow.Author.Tests.{eq-eqb}
-use Rattle.std.specs.Option.{IsSomeAnd, IfSome, IfNone}
+use Rattle.std.specs.Option.{IsSomeAnd}
 use Rattle.std.specs.Cmp.{first_so, second_so}
 use Rattle.std.specs.List.{list_all}
 use Rattle.std.specs.Char.{encode_utf8, is_ascii_digit}

@@ -8,8 +8,8 @@ pub differences-requires : goal.differences-requires
 differences-requires g c = (
   omega arith,
   intervals-ordered g.V.Ord.cmp g.V.Versioned.value g.met.V.VersionPoint.ordered
-    c.args.self.now c.args.other.now c.items.result.now c.items-2.result.now
-    c.items.ensures.valid c.items-2.ensures.valid c.items.ensures.value c.items-2.ensures.value,
+      c.args.self.now c.args.other.now c.items.result.now c.items-2.result.now
+      c.items.ensures.valid c.items-2.ensures.valid c.items.ensures.value c.items-2.ensures.value,
 )
 
 pub from_intervals-requires : goal.from_intervals-requires
