@@ -1,5 +1,5 @@
-//! Answers questions about versions and ranges, one a line: `run` reads the lines from any reader and
-//! writes the answers to any writer. The program `semver_lines` runs it on standard input and output.
+//! Answers questions about versions and ranges, one a line: `run::run` reads the lines from any reader
+//! and writes the answers to any writer. The program `semver_lines` runs it on standard input and output.
 #![tactic(auto)]
 
 mod answer;
@@ -10,7 +10,5 @@ mod fields;
 mod question;
 mod read;
 mod reply;
-mod run;
+pub mod run;
 mod words;
-
-pub use run::{RunFault, run};

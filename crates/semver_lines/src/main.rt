@@ -6,7 +6,7 @@
 #[cfg(test)]
 mod tests;
 
-use semver_answers::run;
+use semver_answers::run::run;
 use std::process::ExitCode;
 
 fn main(rt: HostRuntime) -> ExitCode {
