@@ -52,10 +52,12 @@ pub(crate) fn differences<V: Point>(
         ((0 < length (minus V.cmp these.now others.now)) ⊎ (length others.now ≢ 1)) }
 {
     if others.len() == 1 {
-        return subtract_from_each(alloc, these, &others[0]);
+        let mut left = SmallVec::new(alloc);
+        push_remainders(alloc, &mut left, these, &others[0])?;
+        return Ok(left);
     }
     let pieces = complement(alloc, others)?;
-    Ok(clip_each(alloc, these, &pieces)?)
+    Ok(clip_each(alloc, these, &pieces, 1)?)
 }
 
 /// Whether some interval of the first list meets some interval of the second: whether they have an
@@ -164,10 +166,12 @@ fn complement<V: Point>(
     let (front, back) = intervals.split_at(intervals.len() / 2);
     let before = complement(alloc, front)?;
     let after = complement(alloc, back)?;
-    Ok(clip_each(alloc, &before, &after)?)
+    let room = before.len().min(30) + after.len().min(30);
+    Ok(clip_each(alloc, &before, &after, room)?)
 }
 
-// The complement of a few intervals, which are taken away one after another.
+// The complement of a few intervals, which are taken away one after another. Of three it has four
+// pieces at most.
 fn complement_of_few<V: Point>(
     alloc: Global,
     intervals: &[Interval<V>],
@@ -178,40 +182,44 @@ fn complement_of_few<V: Point>(
     let mut left = SmallVec::new(alloc);
     left.push_reserved(Interval::default());
     for interval in intervals {
-        left = subtract_from_each(alloc, &left, interval)?;
+        let mut next = SmallVec::with_capacity(alloc, 4)?;
+        push_remainders(alloc, &mut next, &left, interval)?;
+        left = next;
     }
     Ok(left)
 }
 
-// What is left of each interval below and above one other.
-fn subtract_from_each<V: Point>(
+// Puts what is left of each interval below and above one other at the end.
+fn push_remainders<V: Point>(
     alloc: Global,
+    left: &mut Intervals<V>,
     these: &[Interval<V>],
     other: &Interval<V>,
-) -> Result<Intervals<V>, AllocError>
-    ensures items { IfOk result (λ r. r.items
-        ≡ flat_map (λ s. remainder V.cmp s other.now) these.now) }
+) -> Result<(), AllocError>
+    ensures items { OnOk result (left.new.items
+        ≡ left.old.items ++ flat_map (λ s. remainder V.cmp s other.now) these.now) }
     ensures memory { OnErr result
         (0 < length (flat_map (λ s. remainder V.cmp s other.now) these.now)) }
 {
-    let mut left = SmallVec::new(alloc);
     for interval in these {
-        push_remainder(alloc, &mut left, interval, other, these.len())?;
+        push_remainder(alloc, left, interval, other, these.len())?;
     }
-    Ok(left)
+    Ok(())
 }
 
-// What of each interval lies within each of the pieces, which stand in order along the line.
+// What of each interval lies within each of the pieces, which stand in order along the line. The
+// list begins with room for so many.
 fn clip_each<V: Point>(
     alloc: Global,
     these: &[Interval<V>],
     pieces: &[Interval<V>],
+    room: usize,
 ) -> Result<Intervals<V>, AllocError>
     requires { IsAlong V.cmp Start pieces.now }
     ensures { IfOk result (λ r. r.items
         ≡ flat_map (λ s. flat_map (λ t. option_to_list (clip V.cmp s t)) pieces.now) these.now) }
 {
-    let mut found = SmallVec::new(alloc);
+    let mut found = SmallVec::with_capacity(alloc, room)?;
     for interval in these {
         push_clipped(alloc, &mut found, interval, pieces)?;
     }

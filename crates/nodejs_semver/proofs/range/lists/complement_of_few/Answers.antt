@@ -6,7 +6,8 @@ use Rattle.nodejs_semver.proofs.range.lists.complement_of_few.Goals as goal
 pub loop-interval-preserved : goal.loop-interval-preserved
 loop-interval-preserved g c =
     rw (fold_more _ _ c.args.intervals.now _ c.interval-item.result c.loop-interval-test.true, sym c.interval-item.is)
-    (rw (sym c.loop-interval.invariant, sym c.deref.ensures) c.in_ok-left.ensures.items)
+    (rw (sym c.loop-interval.invariant, sym c.deref.ensures)
+    (rw c.in_ok-next.ensures.items at c.in_ok-push_remainders.ensures.items))
 
 pub returns : goal.returns
 returns g c =

@@ -10,7 +10,7 @@ clip_each-requires g c = (
 )
 
 pub returns-in_err-pieces-clause-memory : goal.returns-in_err-pieces-clause-memory
-returns-in_err-pieces-clause-memory g c = on_err c.from_residual.result (inr (λ e. omega arith))
+returns-in_err-pieces-clause-memory g c = on_err c.from_residual-in_err-pieces.result (inr (λ e. omega arith))
 
 pub returns-in_err-clip_each-clause-memory : goal.returns-in_err-clip_each-clause-memory
 returns-in_err-clip_each-clause-memory g c = on_err c.from_residual-in_err-clip_each.result (inr (λ e. omega arith))

@@ -1,6 +1,6 @@
-use Rattle.std.proofs.Common.{take_all}
-use Rattle.nodejs_semver.proofs.Algebra.FlatMaps.{flat_some, flat_step, on_err}
-use Rattle.nodejs_semver.proofs.range.lists.subtract_from_each.Goals as goal
+use Rattle.std.proofs.Common.{refl, take_all}
+use Rattle.nodejs_semver.proofs.Algebra.FlatMaps.{flat_behind, flat_some, on_err}
+use Rattle.nodejs_semver.proofs.range.lists.push_remainders.Goals as goal
 
 pub returns-in_err-push_remainder-clause-memory : goal.returns-in_err-push_remainder-clause-memory
 returns-in_err-push_remainder-clause-memory g c =
@@ -12,5 +12,5 @@ returns-clause-items g c = rw (take_all _ c.args.these.now c.loop-interval-test.
 
 pub loop-interval-preserved : goal.loop-interval-preserved
 loop-interval-preserved g c =
-    flat_step _ c.args.these.now _ c.interval-item.result _ _ c.loop-interval-test.true c.interval-item.is
-    c.loop-interval.invariant c.in_ok-push_remainder.ensures.items
+    flat_behind _ c.args.these.now _ c.interval-item.result c.args.left.now.items _ _ _ c.loop-interval-test.true
+    c.interval-item.is refl c.loop-interval.invariant c.in_ok-push_remainder.ensures.items
