@@ -4,7 +4,7 @@
 //! A call on a `&str` takes a place in it, a byte index. A call on a `&[u8]` reads at the front of
 //! the bytes, save `number_in`, which takes a place.
 
-ghost use Rattle.std.specs.Prelude.{◌≡◌, ◌≤◌, ◌==◌, ◌+◌, ◌<◌, if◌then◌else◌, ℕ, List, [], length};
+ghost use Rattle.std.specs.Prelude.{◌≡◌, ◌≤◌, ◌==◌, ◌+◌, ◌-◌, ◌*◌, ◌<◌, if◌then◌else◌, ℕ, List, [], length};
 ghost use Rattle.std.specs.Prelude.{drop, take, IfOk, IfSome, IfNone, OnErr, OnOk, IsCharBoundary};
 ghost use Rattle.std.specs.Prelude.{IsUtf8, Ok, None, Some, false, true};
 ghost use Rattle.std.specs.Char.{is_ascii_digit};
@@ -15,7 +15,7 @@ ghost use Rattle.semver_core.specs.Text.Characters.{IsAfterBlank, IsPieceAt, NoP
 ghost use Rattle.semver_core.specs.Text.Identifiers.{Id, identifier_of, goes_on, is_listed, listed};
 ghost use Rattle.semver_core.specs.Text.Identifiers.{IsLongestIdentifiers};
 ghost use Rattle.semver_core.specs.Text.Numbers.{IsWholeNumber};
-ghost use Rattle.semver_core.specs.Internal.Reading.{number_at, list_at};
+ghost use Rattle.semver_core.specs.Internal.Reading.{digits_end, digits_from, list_at, number_at, placed};
 ghost use Rattle.semver_core.specs.Values.Views.{id_view, ids_view};
 ghost use Rattle.semver_core.specs.Text.Characters.{IsTrim};
 ghost use Rattle.semver_core.specs.Internal.Spaces.{drop_end_spaces};
@@ -141,16 +141,57 @@ pub fn number_in(bytes: &[u8], at: usize) -> Option<(u64, usize)>
     digits(bytes, at)
 }
 
-// `number_in` as a function of the bytes.
+// The digit at a place, if one stands there.
 #[inline(always)]
-#[tactic(auto, using(crate::proofs::Text::Digits::digits_read))]
+#[tactic(auto, using(crate::proofs::Text::Digits::digits_one))]
+fn digit(bytes: &[u8], at: usize) -> Option<u64>
+    requires { at ≤ length bytes.now }
+    ensures some { IfSome result (λ d. (v k : ℕ) → v * 10 + d ≤ MAX_SAFE_INTEGER
+        → digits_from MAX_SAFE_INTEGER v k (drop at bytes.now)
+        ≡ digits_from MAX_SAFE_INTEGER (v * 10 + d) (k + 1) (drop (at + 1) bytes.now)) }
+    ensures none { IfNone result ((v k : ℕ) →
+        digits_from MAX_SAFE_INTEGER v k (drop at bytes.now) ≡ digits_end v k) }
+    ensures small { IfSome result (λ d. d < 10) }
+    ensures place { IfSome result (λ d. at < length bytes.now) }
+{
+    if at < bytes.len() && bytes[at].is_ascii_digit() {
+        Some(u64::from(bytes[at] - b'0'))
+    } else {
+        None
+    }
+}
+
+// `number_in` as a function of the bytes. Most numbers have one digit or two.
+#[inline(always)]
 pub(crate) fn digits(bytes: &[u8], at: usize) -> Option<(u64, usize)>
     requires { at ≤ length bytes.now }
     ensures found { result ≡ number_at MAX_SAFE_INTEGER bytes.now at }
     ensures place { IfSome result (λ found. found.1 ≤ length bytes.now) }
 {
-    let mut value = 0u64;
-    let mut end = at;
+    let first = digit(bytes, at)?;
+    let Some(second) = digit(bytes, at + 1) else {
+        return Some((first, at + 1));
+    };
+    let value = first * 10 + second;
+    let Some(third) = digit(bytes, at + 2) else {
+        return Some((value, at + 2));
+    };
+    more_digits(bytes, at, at + 3, value * 10 + third)
+}
+
+// The number at a place of which these digits were read, up to another place.
+#[inline(never)]
+#[tactic(auto, using(crate::proofs::Text::Digits::digits_read))]
+fn more_digits(bytes: &[u8], at: usize, next: usize, front: u64) -> Option<(u64, usize)>
+    requires order { at < next }
+    requires inside { next ≤ length bytes.now }
+    requires small { front ≤ MAX_SAFE_INTEGER }
+    ensures found { result ≡ placed at
+        (digits_from MAX_SAFE_INTEGER front (next - at) (drop next bytes.now)) }
+    ensures place { IfSome result (λ found. found.1 ≤ length bytes.now) }
+{
+    let mut value = front;
+    let mut end = next;
     'digits: while end < bytes.len() && bytes[end].is_ascii_digit() {
         value = value * 10 + u64::from(bytes[end] - b'0');
         if value > MAX_SAFE_INTEGER {
@@ -158,7 +199,7 @@ pub(crate) fn digits(bytes: &[u8], at: usize) -> Option<(u64, usize)>
         }
         end += 1;
     }
-    if end == at { None } else { Some((value, end)) }
+    Some((value, end))
 }
 
 /// Whether a byte is an ASCII letter, an ASCII digit or `-`, which identifiers are made of.

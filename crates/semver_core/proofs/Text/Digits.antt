@@ -38,4 +38,13 @@ digits_past limit v k xs i le = rw (drop_all i xs le) refl
 pub digits_placed : (v at i : ℕ) → at ≤ i → placed at (digits_end v (i - at)) ≡ (if i == at then None else Some (v, i))
 digits_placed v at i le = grind (arith, nat_tests)
 
+pub digits_one_more : (limit : ℕ) (v k : ℕ) (xs : List ℕ) (i : ℕ) → i < length xs → is_ascii_digit (get_or xs i 0) ≡ true → v * 10 + (get_or xs i 0 - 48) ≤ limit
+    → digits_from limit v k (drop i xs) ≡ digits_from limit (v * 10 + (get_or xs i 0 - 48)) (k + 1) (drop (i + 1) xs)
+unfolding digits_from
+digits_one_more limit v k xs i lt d small =
+    let fits : ltb limit (v * 10 + (get_or xs i 0 - 48)) ≡ false = grind (arith, nat_tests) in
+    rw (drop-cons xs i 0, add-one i, d, digit_value-is (get_or xs i 0) d, fits) refl
+
+pub ruleset digits_one = (digits_one_more, digits_stop, digits_past)
+
 pub ruleset digits_read = (digits_step, digits_over, digits_stop, digits_past, digits_placed)

@@ -1,14 +1,14 @@
-use Rattle.std.proofs.Common.{◌≡◌, ◌-◌, ◌≤◌, drop, length}
+use Rattle.std.proofs.Common.{◌≡◌, ◌-◌, ◌<◌, ◌≤◌, drop, length}
 use Rattle.semver_core.specs.Internal.Reading.{digits_from}
 use Rattle.semver_core.specs.declared.TheConstants.{MAX_SAFE_INTEGER}
-use Rattle.semver_core.proofs.scan.digits.Given as goal
+use Rattle.semver_core.proofs.scan.more_digits.Given as goal
 
 abbrev pub invariant-digits : goal.invariant-digits
 invariant-digits l = record {
-  from : l.at ≤ l.end;
+  from : l.at < l.end;
   inside : l.end ≤ length l.bytes;
   small : l.value ≤ MAX_SAFE_INTEGER;
-  reads : digits_from MAX_SAFE_INTEGER 0 0 (drop l.at l.bytes) ≡ digits_from MAX_SAFE_INTEGER l.value (l.end - l.at) (drop l.end l.bytes);
+  reads : digits_from MAX_SAFE_INTEGER l.front (l.next - l.at) (drop l.next l.bytes) ≡ digits_from MAX_SAFE_INTEGER l.value (l.end - l.at) (drop l.end l.bytes);
 }
 
 abbrev pub decreases-digits : goal.decreases-digits
