@@ -11,6 +11,7 @@ ghost use Rattle.nodejs_semver.specs.Ranges.Algebra.{list_holds};
 use crate::range::lists;
 use crate::{Range, RangeOf, RangeRef};
 use semver_core::VersionPoint;
+use smallvec::SmallVec;
 use std::alloc::{AllocError, Global};
 
 impl<V: VersionPoint> RangeOf<V> {
@@ -113,7 +114,8 @@ impl<V: VersionPoint> RangeOf<V> {
         ensures list { IfOk result (λ r. r ≡ intersection self.now other.now) }
         ensures memory { OnErr result (IsTrue (is_some (intersection self.now other.now))) }
     {
-        let found = lists::intersections(alloc, self.items(), other.items())?;
+        let mut found = SmallVec::new(alloc);
+        lists::push_all_intersections(alloc, &mut found, self.items(), other.items())?;
         Ok(RangeOf::from_intervals(found))
     }
 
@@ -123,7 +125,8 @@ impl<V: VersionPoint> RangeOf<V> {
         ensures memory { OnErr result
             (IsTrue (is_some (difference self.now other.now)) ⊎ (1 < length other.now)) }
     {
-        let left = lists::differences(alloc, self.items(), other.items())?;
+        let mut left = SmallVec::new(alloc);
+        lists::push_differences(alloc, &mut left, self.items(), other.items())?;
         Ok(RangeOf::from_intervals(left))
     }
 }

@@ -17,47 +17,48 @@ use semver_core::cuts::{Interval, Point};
 use smallvec::SmallVec;
 use std::alloc::{AllocError, Global};
 
-/// The intersections of all pairs, the first list outside.
-pub(crate) fn intersections<V: Point>(
+/// Puts the intersections of all pairs at the end, the first list outside.
+pub(crate) fn push_all_intersections<V: Point>(
     alloc: Global,
+    found: &mut Intervals<V>,
     these: &[Interval<V>],
     others: &[Interval<V>],
-) -> Result<Intervals<V>, AllocError>
-    ensures items { IfOk result (λ r. r.items ≡ meets_of V.cmp these.now others.now) }
+) -> Result<(), AllocError>
+    ensures items { OnOk result (found.new.items
+        ≡ found.old.items ++ meets_of V.cmp these.now others.now) }
     ensures memory { OnErr result (0 < length (meets_of V.cmp these.now others.now)) }
 {
-    let mut found = SmallVec::new(alloc);
     for interval in these {
-        push_intersections(alloc, &mut found, interval, others)?;
+        push_intersections(alloc, found, interval, others)?;
     }
-    Ok(found)
+    Ok(())
 }
 
-/// The differences: what is left of these intervals, in order, when the others are taken away one
-/// after another.
+/// Puts the differences at the end: what is left of these intervals, in order, when the others are
+/// taken away one after another.
 ///
 /// That is what of each of them lies within the complement of the others, so each is clipped to the
 /// complement's pieces, which stand in order along the line. For n intervals, m others and k
 /// results that is about n log m + m log m + k steps, which no clause promises; taking the others
 /// away one by one would copy each survivor m times.
-pub(crate) fn differences<V: Point>(
+pub(crate) fn push_differences<V: Point>(
     alloc: Global,
+    found: &mut Intervals<V>,
     these: &[Interval<V>],
     others: &[Interval<V>],
-) -> Result<Intervals<V>, AllocError>
+) -> Result<(), AllocError>
     requires { list_all (is_interval V.cmp) these.now ≡ true }
-    ensures items { IfOk result (λ r. r.items ≡ minus V.cmp these.now others.now) }
+    ensures items { OnOk result (found.new.items
+        ≡ found.old.items ++ minus V.cmp these.now others.now) }
     // The complement of one other interval is not made.
     ensures memory { OnErr result
         ((0 < length (minus V.cmp these.now others.now)) ⊎ (length others.now ≢ 1)) }
 {
     if others.len() == 1 {
-        let mut left = SmallVec::new(alloc);
-        push_remainders(alloc, &mut left, these, &others[0])?;
-        return Ok(left);
+        return push_remainders(alloc, found, these, &others[0]);
     }
     let pieces = complement(alloc, others)?;
-    Ok(clip_each(alloc, these, &pieces, 1)?)
+    clip_each(alloc, found, these, &pieces)
 }
 
 /// Whether some interval of the first list meets some interval of the second: whether they have an
@@ -167,7 +168,9 @@ fn complement<V: Point>(
     let before = complement(alloc, front)?;
     let after = complement(alloc, back)?;
     let room = before.len().min(30) + after.len().min(30);
-    Ok(clip_each(alloc, &before, &after, room)?)
+    let mut pieces = SmallVec::with_capacity(alloc, room)?;
+    clip_each(alloc, &mut pieces, &before, &after)?;
+    Ok(pieces)
 }
 
 // The complement of a few intervals, which are taken away one after another. Of three it has four
@@ -207,23 +210,23 @@ fn push_remainders<V: Point>(
     Ok(())
 }
 
-// What of each interval lies within each of the pieces, which stand in order along the line. The
-// list begins with room for so many.
+// Puts what of each interval lies within each of the pieces, which stand in order along the line,
+// at the end.
 fn clip_each<V: Point>(
     alloc: Global,
+    found: &mut Intervals<V>,
     these: &[Interval<V>],
     pieces: &[Interval<V>],
-    room: usize,
-) -> Result<Intervals<V>, AllocError>
+) -> Result<(), AllocError>
     requires { IsAlong V.cmp Start pieces.now }
-    ensures { IfOk result (λ r. r.items
-        ≡ flat_map (λ s. flat_map (λ t. option_to_list (clip V.cmp s t)) pieces.now) these.now) }
+    ensures { OnOk result (found.new.items
+        ≡ found.old.items
+        ++ flat_map (λ s. flat_map (λ t. option_to_list (clip V.cmp s t)) pieces.now) these.now) }
 {
-    let mut found = SmallVec::with_capacity(alloc, room)?;
     for interval in these {
-        push_clipped(alloc, &mut found, interval, pieces)?;
+        push_clipped(alloc, found, interval, pieces)?;
     }
-    Ok(found)
+    Ok(())
 }
 
 // Puts what of one interval lies within each of the pieces at the end. Those that do so stand

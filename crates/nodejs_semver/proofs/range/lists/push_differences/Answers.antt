@@ -1,7 +1,7 @@
 use Rattle.std.proofs.Common.{◌∙◌, arith, inr}
 use Rattle.nodejs_semver.proofs.Algebra.Differences.{minus-clips, along-gaps}
 use Rattle.nodejs_semver.proofs.Algebra.FlatMaps.{on_err}
-use Rattle.nodejs_semver.proofs.range.lists.differences.Goals as goal
+use Rattle.nodejs_semver.proofs.range.lists.push_differences.Goals as goal
 
 pub clip_each-requires : goal.clip_each-requires
 clip_each-requires g c = (

@@ -1,11 +1,11 @@
-use Rattle.std.proofs.Common.{take_all}
-use Rattle.nodejs_semver.proofs.Algebra.FlatMaps.{flat_some, flat_step, on_err}
-use Rattle.nodejs_semver.proofs.range.lists.intersections.Goals as goal
+use Rattle.std.proofs.Common.{refl, take_all}
+use Rattle.nodejs_semver.proofs.Algebra.FlatMaps.{flat_behind, flat_some, on_err}
+use Rattle.nodejs_semver.proofs.range.lists.push_all_intersections.Goals as goal
 
 pub loop-interval-preserved : goal.loop-interval-preserved
 loop-interval-preserved g c =
-    flat_step _ c.args.these.now _ c.interval-item.result _ _ c.loop-interval-test.true c.interval-item.is
-    c.loop-interval.invariant c.in_ok-push_intersections.ensures.items
+    flat_behind _ c.args.these.now _ c.interval-item.result c.args.found.now.items _ _ _ c.loop-interval-test.true
+    c.interval-item.is refl c.loop-interval.invariant c.in_ok-push_intersections.ensures.items
 
 pub returns-in_err-push_intersections-clause-memory : goal.returns-in_err-push_intersections-clause-memory
 returns-in_err-push_intersections-clause-memory g c =
