@@ -58,7 +58,8 @@ pub(crate) fn push_differences<V: Point>(
         return push_remainders(alloc, found, these, &others[0]);
     }
     let pieces = complement(alloc, others)?;
-    clip_each(alloc, found, these, &pieces)
+    clip_each(alloc, found, these, &pieces)?;
+    Ok(())
 }
 
 /// Whether some interval of the first list meets some interval of the second: whether they have an

@@ -9,7 +9,7 @@ from_intervals-requires g c = (
   omega arith,
   (
     omega arith,
-    rw c.in_ok-found.ensures.items (meets_of-valid g.V.Ord.cmp g.V.Versioned.value
+    rw (rw c.new-found.ensures.items at c.in_ok-push_all_intersections.ensures.items) (meets_of-valid g.V.Ord.cmp g.V.Versioned.value
         g.met.V.VersionPoint.ordered c.args.self.now c.args.other.now c.items.result.now c.items-2.result.now
         c.items.ensures.valid c.items-2.ensures.valid c.items.ensures.value c.items-2.ensures.value),
   ),
@@ -17,15 +17,15 @@ from_intervals-requires g c = (
 
 pub returns-clause-list : goal.returns-clause-list
 returns-clause-list g c =
-    rw (c.from_intervals.ensures, c.in_ok-found.ensures.items) (ap if_any
+    rw (c.from_intervals.ensures, rw c.new-found.ensures.items at c.in_ok-push_all_intersections.ensures.items) (ap if_any
     (meets_of-is g.V.Ord.cmp g.V.Versioned.value g.met.V.VersionPoint.ordered
     c.args.self.now c.args.other.now c.items.result.now c.items-2.result.now
     c.items.ensures.valid c.items-2.ensures.valid c.items.ensures.value c.items-2.ensures.value))
 
-pub returns-in_err-found-clause-memory : goal.returns-in_err-found-clause-memory
-returns-in_err-found-clause-memory g c =
+pub returns-in_err-push_all_intersections-clause-memory : goal.returns-in_err-push_all_intersections-clause-memory
+returns-in_err-push_all_intersections-clause-memory g c =
     on_err c.from_residual.result
     (meets_of-some g.V.Ord.cmp g.V.Versioned.value g.met.V.VersionPoint.ordered
     c.args.self.now c.args.other.now c.items.result.now c.items-2.result.now
     c.items.ensures.valid c.items-2.ensures.valid c.items.ensures.value c.items-2.ensures.value
-    c.in_err-found.ensures.memory)
+    c.in_err-push_all_intersections.ensures.memory)

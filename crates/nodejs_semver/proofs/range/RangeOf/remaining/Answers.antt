@@ -4,8 +4,8 @@ use Rattle.nodejs_semver.proofs.Algebra.Clauses.{intervals-ordered, minus-is, mi
 use Rattle.nodejs_semver.proofs.Algebra.FlatMaps.{on_err}
 use Rattle.nodejs_semver.proofs.range.RangeOf.remaining.Goals as goal
 
-pub differences-requires : goal.differences-requires
-differences-requires g c = (
+pub push_differences-requires : goal.push_differences-requires
+push_differences-requires g c = (
   omega arith,
   intervals-ordered g.V.Ord.cmp g.V.Versioned.value g.met.V.VersionPoint.ordered
       c.args.self.now c.args.other.now c.items.result.now c.items-2.result.now
@@ -17,7 +17,7 @@ from_intervals-requires g c = (
   omega arith,
   (
     omega arith,
-    rw c.in_ok-left.ensures.items (minus-valid g.V.Ord.cmp g.V.Versioned.value
+    rw (rw c.new-left.ensures.items at c.in_ok-push_differences.ensures.items) (minus-valid g.V.Ord.cmp g.V.Versioned.value
         g.met.V.VersionPoint.ordered c.args.self.now c.args.other.now c.items.result.now c.items-2.result.now
         c.items.ensures.valid c.items-2.ensures.valid c.items.ensures.value c.items-2.ensures.value),
   ),
@@ -25,15 +25,15 @@ from_intervals-requires g c = (
 
 pub returns-clause-list : goal.returns-clause-list
 returns-clause-list g c =
-    rw (c.from_intervals.ensures, c.in_ok-left.ensures.items) (ap if_any
+    rw (c.from_intervals.ensures, rw c.new-left.ensures.items at c.in_ok-push_differences.ensures.items) (ap if_any
     (minus-is g.V.Ord.cmp g.V.Versioned.value g.met.V.VersionPoint.ordered
     c.args.self.now c.args.other.now c.items.result.now c.items-2.result.now
     c.items.ensures.valid c.items-2.ensures.valid c.items.ensures.value c.items-2.ensures.value))
 
-pub returns-in_err-left-clause-memory : goal.returns-in_err-left-clause-memory
-returns-in_err-left-clause-memory g c =
+pub returns-in_err-push_differences-clause-memory : goal.returns-in_err-push_differences-clause-memory
+returns-in_err-push_differences-clause-memory g c =
     on_err c.from_residual.result
     (minus-some g.V.Ord.cmp g.V.Versioned.value g.met.V.VersionPoint.ordered
     c.args.self.now c.args.other.now c.items.result.now c.items-2.result.now
     c.items.ensures.valid c.items-2.ensures.valid c.items.ensures.value c.items-2.ensures.value
-    c.in_err-left.ensures.memory)
+    c.in_err-push_differences.ensures.memory)

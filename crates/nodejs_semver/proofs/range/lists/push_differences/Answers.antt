@@ -1,4 +1,4 @@
-use Rattle.std.proofs.Common.{◌∙◌, arith, inr}
+use Rattle.std.proofs.Common.{◌∙◌, ◌++◌, ap, arith, inr}
 use Rattle.nodejs_semver.proofs.Algebra.Differences.{minus-clips, along-gaps}
 use Rattle.nodejs_semver.proofs.Algebra.FlatMaps.{on_err}
 use Rattle.nodejs_semver.proofs.range.lists.push_differences.Goals as goal
@@ -10,7 +10,7 @@ clip_each-requires g c = (
 )
 
 pub returns-in_err-pieces-clause-memory : goal.returns-in_err-pieces-clause-memory
-returns-in_err-pieces-clause-memory g c = on_err c.from_residual-in_err-pieces.result (inr (λ e. omega arith))
+returns-in_err-pieces-clause-memory g c = on_err c.from_residual.result (inr (λ e. omega arith))
 
 pub returns-in_err-clip_each-clause-memory : goal.returns-in_err-clip_each-clause-memory
 returns-in_err-clip_each-clause-memory g c = on_err c.from_residual-in_err-clip_each.result (inr (λ e. omega arith))
@@ -18,5 +18,5 @@ returns-in_err-clip_each-clause-memory g c = on_err c.from_residual-in_err-clip_
 pub returns-clause-items : goal.returns-clause-items
 returns-clause-items g c =
     rw c.deref.ensures at c.in_ok-clip_each.ensures
-    ∙ minus-clips g.met.V.Ord.total c.args.these.now c.args.others.now c.in_ok-pieces.pieces.items c.requires
-    c.in_ok-pieces.ensures
+    ∙ ap (λ l. c.args.found.now.items ++ l) (minus-clips g.met.V.Ord.total c.args.these.now c.args.others.now
+    c.in_ok-pieces.pieces.items c.requires c.in_ok-pieces.ensures)
