@@ -67,14 +67,6 @@ pub(crate) fn push_differences<V: Point>(
 pub(crate) fn meet_somewhere<V: Point>(these: &[Interval<V>], others: &[Interval<V>]) -> bool
     ensures { result ≡ is_some (if_any (meets_of V.cmp these.now others.now)) }
 {
-    has_meeting_pair(these, others)
-}
-
-// Whether some pair of intervals meets.
-fn has_meeting_pair<V: Point>(these: &[Interval<V>], others: &[Interval<V>]) -> bool
-    ensures { result
-        ≡ list_any (λ s. list_any (λ t. is_some (meet V.cmp s t)) others.now) these.now }
-{
     these.iter().any(|interval| meets_one(interval, others))
 }
 

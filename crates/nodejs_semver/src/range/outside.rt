@@ -116,23 +116,12 @@ fn lies_opposite<V: VersionPoint, W: Versioned>(
           | side.Lower ↦ spec.lies_above (span_of V.value interval.now) (W.value version.now)
         ] }
 {
+    let (lower, upper) = (interval.lower(), interval.upper());
     match direction {
-        OutsideDirection::Higher => lies_below(interval, version),
-        OutsideDirection::Lower => lies_above(interval, version),
+        OutsideDirection::Higher => is_bounded(upper) && is_past_lower(lower, version),
+        OutsideDirection::Lower if is_bounded(lower) => !is_past_upper(upper, version),
+        OutsideDirection::Lower => !is_bounded(upper),
     }
-}
-
-fn lies_below<V: VersionPoint, W: Versioned>(interval: &Interval<V>, version: &W) -> bool
-    ensures { result ≡ spec.lies_below (span_of V.value interval.now) (W.value version.now) }
-{
-    is_bounded(interval.upper()) && is_past_lower(interval.lower(), version)
-}
-
-fn lies_above<V: VersionPoint, W: Versioned>(interval: &Interval<V>, version: &W) -> bool
-    ensures { result ≡ spec.lies_above (span_of V.value interval.now) (W.value version.now) }
-{
-    (!is_bounded(interval.lower()) && !is_bounded(interval.upper()))
-        || (is_bounded(interval.lower()) && !is_past_upper(interval.upper(), version))
 }
 
 fn is_bounded<V: Versioned>(bound: &Bound<V>) -> bool
