@@ -1,7 +1,7 @@
 -- Lists that are joined from a list for each element of another, and tests of their elements.
 use Rattle.std.proofs.Common.{append_assoc, ◌≡◌, refl, sym, ◌∙◌, ap, ap₂, ℕ, ◌+◌, ◌<◌, Bool, true, false, ◌&&◌, ◌||◌, List}
 use Rattle.std.proofs.Common.{[], ◌∷◌, ◌++◌, length, get_or, take, not, inl, inr, arith, Option, is_some}
-use Rattle.std.proofs.Common.{option_to_list, Result, Ok, Err, OnErr}
+use Rattle.std.proofs.Common.{option_to_list, map, Result, Ok, Err, OnErr}
 use Rattle.std.proofs.lemmas.Bool.{and_parts, or_cases}
 use Rattle.std.proofs.lemmas.Grind.{flat_map-append}
 use Rattle.std.proofs.lemmas.List.{append-nil, take_more}
@@ -74,6 +74,10 @@ pub all_weaker : {A : Type 0} (p q : A → Bool) → ((x : A) → p x ≡ true �
     → list_all q xs ≡ true
 all_weaker p q h [] e = refl
 all_weaker p q h (x ∷ xs) e = grind (arith, h x, all_weaker p q h xs)
+
+pub list_any-map : {A B : Type 0} (p : B → Bool) (f : A → B) (xs : List A) → list_any p (map f xs) ≡ list_any (λ x. p (f x)) xs
+list_any-map p f [] = refl
+list_any-map p f (x ∷ xs) = ap (λ b. p (f x) || b) (list_any-map p f xs)
 
 -- tests of pairs
 pub any_pairs : {A B : Type 0} (p : A → Bool) (q : B → Bool) (xs : List A) (ys : List B)

@@ -98,8 +98,7 @@ longer_joined found running rest some =
 -- one interval more, where there is one
 pub had_one : (found : List (Span VersionValue)) (o : Option (Span VersionValue)) → 1 < length (found ++ option_to_list o)
     → 0 < length found
-had_one found None long = omega (arith, length-append {A = Span VersionValue} found [])
-had_one found (Some s) long = omega (arith, length-append found (s ∷ []))
+had_one found o long = grind (arith, length-append)
 
 -- the intervals of a part are no fewer than those of its first word
 pub longer_part : (limit : ℕ) (part rest : List ℕ) (old found : List (Span VersionValue)) → found ≡ old
@@ -112,7 +111,4 @@ longer_part limit part rest old found same whole some starts long =
   where
     at : (o : Option (Span VersionValue)) (bounds : List (Span VersionValue)) → 1 < length (found ++ option_to_list o)
         → 1 < length (found ++ joined precedence None (cons_option o bounds))
-    at None bounds more =
-        omega (arith, length-append {A = Span VersionValue} found [], length-append found (joined precedence None bounds))
-    at (Some s) bounds more =
-        omega (arith, length-append found (s ∷ []), length-append found (joined_from precedence s bounds), joined-some s bounds)
+    at o bounds more = grind (arith, length-append, joined-some)
