@@ -1,15 +1,15 @@
 -- What holds of spans of versions holds of the spans of their values, where the order of the versions is that of the values.
-use Rattle.std.proofs.Common.{◌≡◌, ◌∙◌, Bool, List, [], ◌∷◌, ◌++◌, refl, ap, ap₂, sym, Option, Some, None, map}
-use Rattle.std.proofs.Common.{if◌then◌else◌, is_some, length, option_to_list, Ordering, ℕ, ◌+◌, ◌<◌, codes, get_or, take, arith}
-use Rattle.std.proofs.lemmas.List.{map-append, take_more}
+use Rattle.std.proofs.Common.{◌≡◌, ◌∙◌, Bool, List, [], ◌∷◌, ◌++◌, refl, ap, ap₂, sym, Option, Some, None, map, if◌then◌else◌}
+use Rattle.std.proofs.Common.{is_some, length, option_to_list, Ordering, ℕ, ◌+◌, ◌<◌, codes, get_or, take, arith, option_map}
+use Rattle.std.proofs.lemmas.List.{map-append}
 use Rattle.std.proofs.lemmas.List.Folds.{flat_map-map, list_all-map}
-use Rattle.std.specs.Option.{option_map}
 use Rattle.std.specs.List.{flat_map, join_by, list_all}
 use Rattle.semver_core.specs.Cuts.{Span, cut_cmp, greater_lower, interval, is_interval, lesser_upper, lower_cut}
 use Rattle.semver_core.specs.Cuts.{meet, upper_cut, left_below, left_above}
 use Rattle.semver_core.specs.Values.Order.{precedence}
 use Rattle.semver_core.specs.Values.Versions.{VersionValue}
 use Rattle.semver_core.specs.declared.cuts.bound.Bound.{Bound}
+use Rattle.nodejs_semver.proofs.Algebra.FlatMaps.{take_next}
 use Rattle.nodejs_semver.specs.Internal.Sets.{meets_of, minus, span_text}
 use Rattle.nodejs_semver.specs.Printing.Text.{range_text}
 use Rattle.nodejs_semver.specs.Ranges.Algebra.{remainder}
@@ -36,8 +36,7 @@ printed-values value (s ∷ ss) = ap (λ l. span_text (span_of value s) ++ l)
 -- a list is mapped one element further
 pub map-further : {A B : Type 0} (f : A → B) (xs : List A) (i : ℕ) (x : A) → i < length xs → x ≡ get_or xs i x
     → map f (take (i + 1) xs) ≡ map f (take i xs) ++ f x ∷ []
-map-further f xs i x within at =
-    ap (map f) (take_more xs i x within) ∙ map-append f (take i xs) _ ∙ ap (λ y. map f (take i xs) ++ f y ∷ []) (sym at)
+map-further f xs i x within at = ap (map f) (take_next xs i x within at) ∙ map-append f (take i xs) (x ∷ [])
 
 -- what is mapped over a choice, an option, and lists that are joined
 some-map : {A B : Type 0} (f : A → B) (m : Option A) → is_some (option_map f m) ≡ is_some m

@@ -1,10 +1,9 @@
 -- What the intersection and the difference of two lists hold and accept, and that their intervals are those of a range.
 use Rattle.std.proofs.Common.{ap, ap₂, subst, ◌≡◌, ◌≢◌, refl, sym, ◌∙◌, ℕ, ◌+◌, ◌<◌, ◌⊎◌, inl, inr, true, false, ◌&&◌, not}
-use Rattle.std.proofs.Common.{Ordering, List, [], ◌∷◌, length, Option, IsTrue, is_some, arith}
+use Rattle.std.proofs.Common.{Ordering, List, [], ◌∷◌, length, Option, IsTrue, is_some, arith, IfOk, Result}
 use Rattle.nodejs_semver.proofs.Values.{all_intervals-values, meets_of-values, minus-values}
 use Rattle.std.proofs.lemmas.List.{length-map}
 use Rattle.std.proofs.lemmas.Result.{IfOk-weaker}
-use Rattle.std.specs.Prelude.{IfOk, Result}
 use Rattle.std.specs.Cmp.{first_so}
 use Rattle.std.specs.List.{list_all}
 use Rattle.nodejs_semver.specs.Internal.Sets.{option_list_holds, option_accepts, meets_of, minus, is_range_span}

@@ -1,20 +1,19 @@
 -- The least version of spans each of which begins with a version that it accepts.
 use Rattle.std.proofs.Common.{◌≡◌, sym, ◌∙◌, ap, subst, ℕ, ◌+◌, ◌<◌, Bool, true, false, ◌&&◌, ◌||◌, not, List, [], ◌∷◌, ◌++◌}
-use Rattle.std.proofs.Common.{Option, Some, None, length, get_or, take, inl, inr, refl, arith}
+use Rattle.std.proofs.Common.{Option, Some, None, length, get_or, take, inl, inr, refl, arith, is_le, is_lt}
 use Rattle.std.proofs.Math.Bool.{or-false}
 use Rattle.std.proofs.lemmas.Bool.{cond_both, false≢true, or_cases}
-use Rattle.std.proofs.lemmas.List.{take_more}
 use Rattle.std.proofs.lemmas.List.Folds.{find-append, list_any-append}
 use Rattle.std.specs.Cmp.{first_so, tied_itself}
 use Rattle.std.specs.List.{find, list_any}
 use Rattle.std.specs.Option.{option_or}
-use Rattle.std.specs.Ordering.{is_le, is_lt}
 use Rattle.semver_core.specs.Internal.Sides.{Near}
 use Rattle.semver_core.proofs.CutLaws.{not_if, tells}
 use Rattle.semver_core.specs.Cuts.{Span, holds, is_past, lower_cut}
 use Rattle.semver_core.specs.Internal.OrderLaws.{precedence_total}
 use Rattle.semver_core.specs.Values.Order.{precedence}
 use Rattle.semver_core.specs.Values.Versions.{VersionValue}
+use Rattle.nodejs_semver.proofs.Algebra.FlatMaps.{take_next}
 use Rattle.nodejs_semver.proofs.Algebra.Triples.{le_trans, lt_is, lt_le, le_of_lt}
 use Rattle.nodejs_semver.specs.Internal.Candidates.{StartsWith, IsLeastBuilt, IsLeastSoFar, lesser}
 use Rattle.nodejs_semver.specs.Ranges.Gate.{accepts, lets_in}
@@ -82,4 +81,4 @@ pub one_further : (ss : List (Span VersionValue)) (i : ℕ) (best : Option Versi
     → IsLeastBuilt (take (i + 1) ss) next
 one_further ss i best s w next fits at h start e =
     subst (IsLeastBuilt (take (i + 1) ss)) (sym e) (subst (λ l. IsLeastBuilt l (lesser best w))
-    (ap (λ y. take i ss ++ y ∷ []) at ∙ sym (take_more ss i s fits)) (step (take i ss) best s w h start))
+    (sym (take_next ss i s fits at)) (step (take i ss) best s w h start))

@@ -1,9 +1,8 @@
 -- What a text denotes is its one meaning.
 use Rattle.std.proofs.Common.{◌≡◌, ℕ, zero, suc, ◌<◌, ◌≤◌, List, [], ◌∷◌, ◌++◌, length, get_or, refl, sym, ap, ◌∙◌, arith, true}
 use Rattle.std.proofs.Common.{false, inl, inr, subst, append-nil, length-append, ◌↔◌, IfNone, IfSome, IsSomeAnd, IsTrue, IsUtf8}
-use Rattle.std.proofs.Common.{Option, encode_utf8_all, map, filter_map, flat_map, encode_utf8, take_at, drop_at}
+use Rattle.std.proofs.Common.{Option, encode_utf8_all, map, filter_map, flat_map, encode_utf8, take_at, drop_at, ◌⊎◌, Result}
 use Rattle.std.specs.List.{AllByRecursion, list_all, list_any}
-use Rattle.std.specs.Prelude.{◌⊎◌, Result}
 use Rattle.semver_core.specs.Failures.{MemoryOnlyIf}
 use Rattle.semver_core.specs.declared.error.Failure.{Failure}
 use Rattle.std.proofs.lemmas.Bool.{cases_Bool, false_from_ne_true, and_from}

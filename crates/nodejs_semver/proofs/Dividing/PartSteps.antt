@@ -1,9 +1,7 @@
 -- One word of a part after another.
 use Rattle.std.proofs.Common.{◌≡◌, ℕ, ◌<◌, List, [], ◌∷◌, ◌++◌, length, ap, ◌∙◌, arith, Some, None, append_assoc, refl}
-use Rattle.std.proofs.Common.{length-append}
-use Rattle.std.specs.Prelude.{Option}
+use Rattle.std.proofs.Common.{length-append, Option, option_to_list}
 use Rattle.std.specs.List.{cons_option}
-use Rattle.std.specs.Option.{option_to_list}
 use Rattle.semver_core.specs.Cuts.{Span, meet}
 use Rattle.semver_core.specs.Values.Order.{precedence}
 use Rattle.semver_core.specs.Internal.OrderLaws.{precedence_total}

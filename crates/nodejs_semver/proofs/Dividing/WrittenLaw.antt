@@ -1,6 +1,6 @@
 -- What is computed of the versions that a text writes is what it writes.
 use Rattle.std.proofs.Common.{◌≡◌, ◌<◌, ℕ, zero, suc, List, [], ◌∷◌, length, get_or, ap, sym, ◌∙◌, true, false, inl}
-use Rattle.std.proofs.Common.{inr, Bool, arith, subst, ◌↔◌, ◌||◌, IsTrue, IsUtf8, map}
+use Rattle.std.proofs.Common.{inr, Bool, arith, subst, ◌↔◌, IsTrue, IsUtf8, map}
 use Rattle.std.specs.List.{AllByRecursion, Any, list_any}
 use Rattle.std.proofs.lemmas.Bool.{cases_Bool, or_right}
 use Rattle.std.proofs.lemmas.List.Folds.{Any-from_list_any, list_any-from_Any}
@@ -35,15 +35,8 @@ piece-writes : (limit : ℕ) (v : VersionValue) (piece : List ℕ) → IsUtf8 pi
     → PieceWrites limit v piece
 piece-writes limit v piece u h = elim (cases_Bool (is_empty (trim piece))) [
   | inl empty ↦ inl (empty-blank piece u empty)
-  | inr some ↦ inr (
-    runs_of precedence (part_bounds limit (trim piece)),
-    has-runs limit piece u,
-    behind (is_empty (trim piece)) some h,
-  )
+  | inr some ↦ inr (runs_of precedence (part_bounds limit (trim piece)), has-runs limit piece u, rw some at h)
 ]
-  where
-    behind : (b : Bool) → b ≡ false → {c : Bool} → (b || c) ≡ true → c ≡ true
-    behind b e h = grind arith
 
 piece-written : (limit : ℕ) (v : VersionValue) (piece : List ℕ) → IsUtf8 piece → PieceWrites limit v piece
     → part_writes limit v (trim piece) ≡ true
