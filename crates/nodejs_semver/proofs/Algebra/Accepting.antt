@@ -1,5 +1,5 @@
 -- What two lists of spans hold and accept: their intersection, and what one leaves of the other.
-use Rattle.std.proofs.Common.{◌≡◌, refl, sym, ◌∙◌, ap, Bool, true, false, ◌&&◌, ◌||◌, not, if◌then◌else◌, List, []}
+use Rattle.std.proofs.Common.{◌≡◌, refl, sym, ◌∙◌, Bool, true, false, ◌&&◌, ◌||◌, not, if◌then◌else◌, List, []}
 use Rattle.std.proofs.Common.{◌∷◌, ◌++◌, Option, is_some, arith, option_to_list, is_gt, Ordering}
 use Rattle.std.proofs.Math.Bool.{and-true}
 use Rattle.std.proofs.lemmas.Bool.{and_cases, and_parts, not-false, not-true, or_left, or_parts, or_right}
@@ -51,13 +51,7 @@ module _ {V : Type 0} {R : V → V → Ordering} (o : IsTotalOrder R) where
   pub list_holds-minus : (ss ts : List (Span V)) (v : V) → list_holds R
       (minus R ss ts) v ≡ (list_holds R ss v && not (list_holds R ts v))
   list_holds-minus ss [] v = sym (and-true _)
-  list_holds-minus ss (t ∷ ts) v =
-      list_holds-minus (flat_map (λ s. remainder R s t) ss) ts v
-      ∙ ap (λ a. a && not (list_holds R ts v)) (minus_one ss t v)
-      ∙ neither (list_holds R ss v) (holds R t v) (list_holds R ts v)
-    where
-      neither : (a b c : Bool) → ((a && not b) && not c) ≡ (a && not (b || c))
-      neither a b c = grind arith
+  list_holds-minus ss (t ∷ ts) v = grind (arith, minus_one, list_holds-minus (flat_map (λ s. remainder R s t) ss) ts v)
 
 pub option_list_holds-if_any : {V : Type 0} (R : V → V → Ordering) (ss : List (Span V)) (v : V)
     → option_list_holds R (if_any ss) v ≡ list_holds R ss v
@@ -93,16 +87,13 @@ admits-meet : (s t : Span VersionValue) (v : VersionValue)
     → list_any (admits v) (option_to_list (meet precedence s t)) ≡ ((holds precedence s v && holds precedence t v) && (lets_in s
     v || lets_in t v))
 admits-meet s t v =
-    any_interval (admits v) (both s t)
-    ∙ exact _ _ _ _ _ _ held (sym (option_holds-interval precedence_total (both s t) v)
-    ∙ option_holds-meet precedence_total s t v) (lets_in_one s t v) (lets_in-meet s t v)
+    any_interval (admits v) (both s t) ∙ exact _ _ _ _ _ _ (λ h. grind (arith, and_parts, past_below, precedence_total, both, not-true))
+    (sym (option_holds-interval precedence_total (both s t) v) ∙ option_holds-meet precedence_total s t v)
+    (lets_in_one s t v) (lets_in-meet s t v)
   where
     exact : (i h l p q m : Bool) → (h ≡ true → i ≡ true) → h ≡ (p && q) → (l ≡ true → m ≡ true)
         → (p ≡ true → q ≡ true → m ≡ true → l ≡ true) → (i && (h && l)) ≡ ((p && q) && m)
     exact i h l p q m f e g k = grind arith
-
-    held : holds precedence (both s t) v ≡ true → is_interval precedence (both s t) ≡ true
-    held h = grind (arith, and_parts, past_below, precedence_total, both, not-true)
 
 accepts-meets_of : (ss ts : List (Span VersionValue)) (v : VersionValue)
     → accepts (meets_of precedence ss ts) v false ≡ list_any (λ s. list_any
@@ -165,13 +156,17 @@ remainder_admits s t v h k =
     met m = grind (arith, between_parts, precedence_total, list_any-append, and_cases, or_left, below, or_right, above, not-false)
 
 -- what one list accepts and the other does not hold, what is left accepts
-pub accepts-minus : (ss ts : List (Span VersionValue)) (v : VersionValue) → accepts ss v false ≡ true
+accepts-minus : (ss ts : List (Span VersionValue)) (v : VersionValue) → accepts ss v false ≡ true
     → list_holds precedence ts v ≡ false → accepts (minus precedence ss ts) v false ≡ true
 accepts-minus ss [] v h k = h
 accepts-minus ss (t ∷ ts) v h k =
     let (here, there) = or_parts (holds precedence t v) (list_holds precedence ts v) k in
     accepts-minus (flat_map (λ s. remainder precedence s t) ss) ts v
     (any_flat (admits v) _ ss ∙ any_weaker (admits v) _ (λ s a. remainder_admits s t v a here) ss h) there
+
+pub difference_accepts : (ss ts : List (Span VersionValue)) (v : VersionValue) → accepts ss v false ≡ true
+    → list_holds precedence ts v ≡ false → option_accepts (if_any (minus precedence ss ts)) v false ≡ true
+difference_accepts ss ts v h k = option_accepts-if_any (minus precedence ss ts) v false ∙ accepts-minus ss ts v h k
 
 -- of releases a list accepts those that it holds, and all with pre-releases included
 pub accepts-release : (ss : List (Span VersionValue)) (v : VersionValue) → is_release v ≡ true

@@ -1,10 +1,9 @@
 -- What the intersection and the difference of two lists hold and accept, and that their intervals are those of a range.
-use Rattle.std.proofs.Common.{ap, ap₂, subst, ◌≡◌, ◌≢◌, refl, sym, ◌∙◌, ℕ, ◌+◌, ◌<◌, ◌⊎◌, inl, inr, true, false, ◌&&◌, ◌||◌, not}
-use Rattle.std.proofs.Common.{Ordering, List, [], ◌∷◌, length, Option, IsTrue, is_some, arith}
+use Rattle.std.proofs.Common.{ap, ap₂, subst, ◌≡◌, ◌≢◌, refl, sym, ◌∙◌, ℕ, ◌+◌, ◌<◌, ◌⊎◌, inl, inr, true, false, ◌&&◌, not}
+use Rattle.std.proofs.Common.{Ordering, List, [], ◌∷◌, length, Option, IsTrue, is_some, arith, IfOk, Result}
 use Rattle.nodejs_semver.proofs.Values.{all_intervals-values, meets_of-values, minus-values}
 use Rattle.std.proofs.lemmas.List.{length-map}
 use Rattle.std.proofs.lemmas.Result.{IfOk-weaker}
-use Rattle.std.specs.Prelude.{IfOk, Result}
 use Rattle.std.specs.Cmp.{first_so}
 use Rattle.std.specs.List.{list_all}
 use Rattle.nodejs_semver.specs.Internal.Sets.{option_list_holds, option_accepts, meets_of, minus, is_range_span}
@@ -17,8 +16,8 @@ use Rattle.semver_core.specs.declared.TheConstants.{MAX_SAFE_INTEGER}
 use Rattle.nodejs_semver.specs.Ranges.Gate.{accepts}
 use Rattle.nodejs_semver.specs.Ranges.Algebra.{intersection, difference, list_holds}
 use Rattle.nodejs_semver.specs.Ranges.View.{IsRange, is_range_bound, span_of, spans_of}
-use Rattle.nodejs_semver.proofs.Algebra.Accepting.{accepts-held, accepts-minus, accepts-release, both_accept, list_holds-meets_of}
-use Rattle.nodejs_semver.proofs.Algebra.Accepting.{list_holds-minus, one_accepts, option_accepts-if_any, option_list_holds-if_any}
+use Rattle.nodejs_semver.proofs.Algebra.Accepting.{accepts-held, accepts-release, list_holds-meets_of, list_holds-minus}
+use Rattle.nodejs_semver.proofs.Algebra.Accepting.{option_list_holds-if_any}
 use Rattle.nodejs_semver.proofs.Algebra.FlatMaps.{all_weaker}
 use Rattle.nodejs_semver.proofs.Algebra.Spans.{fine-meets_of, fine-minus}
 
@@ -31,65 +30,38 @@ option_accepts-release : (r : Option (List (Span VersionValue))) (v : VersionVal
 option_accepts-release r v h = grind (arith, accepts-release)
 
 -- what holds of a list holds of a result that is this list
-of_result : {E : Type 0} (list : Option (List (Span VersionValue))) (r : Result (Option (List (Span VersionValue))) E)
+pub of_result : {E : Type 0} (list : Option (List (Span VersionValue))) (r : Result (Option (List (Span VersionValue))) E)
     → IfOk r (λ q. q ≡ list) → (P : Option (List (Span VersionValue)) → Type 0) → P list → IfOk r P
 of_result list r e P h = IfOk-weaker r _ P (λ q k. subst P (sym k) h) e
 
-intersection-set : (a b : List (Span VersionValue)) (v : VersionValue)
+pub intersection-set : (a b : List (Span VersionValue)) (v : VersionValue)
     → option_list_holds precedence (intersection a b) v ≡ (list_holds precedence a v && list_holds precedence b v)
 intersection-set a b v =
     option_list_holds-if_any precedence (meets_of precedence a b) v ∙ list_holds-meets_of precedence_total a b v
 
-difference-set : (a b : List (Span VersionValue)) (v : VersionValue)
+pub difference-set : (a b : List (Span VersionValue)) (v : VersionValue)
     → option_list_holds precedence (difference a b) v ≡ (list_holds precedence a v && not (list_holds precedence b v))
 difference-set a b v = option_list_holds-if_any precedence (minus precedence a b) v ∙ list_holds-minus precedence_total a b v
 
-module _ {E : Type 0} (a b : List (Span VersionValue)) (r : Result (Option (List (Span VersionValue))) E)
-    (e : IfOk r (λ q. q ≡ intersection a b)) where
-  pub intersected-set : IfOk r
-      (λ q. (v : VersionValue) → option_list_holds precedence q v ≡ (list_holds precedence a v && list_holds precedence b v))
-  intersected-set = of_result _ r e _ (intersection-set a b)
+pub intersection-all : (a b : List (Span VersionValue)) (v : VersionValue)
+    → option_accepts (intersection a b) v true ≡ (accepts a v true && accepts b v true)
+intersection-all a b v =
+    rw (option_accepts-held (intersection a b) v, accepts-held a v, accepts-held b v) (intersection-set a b v)
 
-  pub intersected-all : IfOk r (λ q. (v : VersionValue) → option_accepts q v true ≡ (accepts a v true && accepts b v true))
-  intersected-all = of_result _ r e _ (λ v.
-      rw (option_accepts-held (intersection a b) v, accepts-held a v, accepts-held b v)
-      (intersection-set a b v))
+pub difference-all : (a b : List (Span VersionValue)) (v : VersionValue)
+    → option_accepts (difference a b) v true ≡ (accepts a v true && not (accepts b v true))
+difference-all a b v =
+    rw (option_accepts-held (difference a b) v, accepts-held a v, accepts-held b v) (difference-set a b v)
 
-  pub intersected-both : IfOk r
-      (λ q. (v : VersionValue) → accepts a v false ≡ true → accepts b v false ≡ true → option_accepts q v false ≡ true)
-  intersected-both = of_result _ r e _ (both_accept a b)
+pub intersection-releases : (a b : List (Span VersionValue)) (v : VersionValue) → is_release v ≡ true
+    → option_accepts (intersection a b) v false ≡ (accepts a v false && accepts b v false)
+intersection-releases a b v h =
+    rw (option_accepts-release (intersection a b) v h, accepts-release a v h, accepts-release b v h) (intersection-set a b v)
 
-  pub intersected-one : IfOk r
-      (λ q. (v : VersionValue) → option_accepts q v false ≡ true → (accepts a v false || accepts b v false) ≡ true)
-  intersected-one = of_result _ r e _ (one_accepts a b)
-
-  pub intersected-releases : IfOk r
-      (λ q. (v : VersionValue) → is_release v ≡ true → option_accepts q v false ≡ (accepts a v false && accepts b v false))
-  intersected-releases = of_result _ r e _ (λ v k.
-      rw (option_accepts-release (intersection a b) v k, accepts-release a v k, accepts-release b v k)
-      (intersection-set a b v))
-
-module _ {E : Type 0} (a b : List (Span VersionValue)) (r : Result (Option (List (Span VersionValue))) E)
-    (e : IfOk r (λ q. q ≡ difference a b)) where
-  pub left_over-set : IfOk r
-      (λ q. (v : VersionValue)
-      → option_list_holds precedence q v ≡ (list_holds precedence a v && not (list_holds precedence b v)))
-  left_over-set = of_result _ r e _ (difference-set a b)
-
-  pub left_over-all : IfOk r (λ q. (v : VersionValue) → option_accepts q v true ≡ (accepts a v true && not (accepts b v true)))
-  left_over-all = of_result _ r e _ (λ v.
-      rw (option_accepts-held (difference a b) v, accepts-held a v, accepts-held b v)
-      (difference-set a b v))
-
-  pub left_over-kept : IfOk r
-      (λ q. (v : VersionValue) → accepts a v false ≡ true → list_holds precedence b v ≡ false → option_accepts q v false ≡ true)
-  left_over-kept = of_result _ r e _ (λ v h k. option_accepts-if_any (minus precedence a b) v false ∙ accepts-minus a b v h k)
-
-  pub left_over-releases : IfOk r
-      (λ q. (v : VersionValue) → is_release v ≡ true → option_accepts q v false ≡ (accepts a v false && not (accepts b v false)))
-  left_over-releases = of_result _ r e _ (λ v k.
-      rw (option_accepts-release (difference a b) v k, accepts-release a v k, accepts-release b v k)
-      (difference-set a b v))
+pub difference-releases : (a b : List (Span VersionValue)) (v : VersionValue) → is_release v ≡ true
+    → option_accepts (difference a b) v false ≡ (accepts a v false && not (accepts b v false))
+difference-releases a b v h =
+    rw (option_accepts-release (difference a b) v h, accepts-release a v h, accepts-release b v h) (difference-set a b v)
 
 -- lists of one or more elements
 any_some : {A : Type 0} (xs : List A) → 0 < length xs → IsTrue (is_some (if_any xs))

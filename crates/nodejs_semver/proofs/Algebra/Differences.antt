@@ -3,7 +3,7 @@ use Rattle.std.proofs.Common.{append_assoc, ap₂, ◌≡◌, refl, sym, ◌∙�
 use Rattle.std.proofs.Common.{length-drop, get_or, take, drop, Bool, true, false, ◌&&◌, not, inl, inr, if◌then◌else◌}
 use Rattle.std.proofs.Common.{List, [], ◌∷◌, ◌++◌, Option, Some, None, is_some, arith, append-nil, take_all}
 use Rattle.std.proofs.Common.{get_or-drop, option_to_list, is_lt, Ordering}
-use Rattle.std.proofs.lemmas.Bool.{and_from, and_parts, cases_Bool, not-false, not-true}
+use Rattle.std.proofs.lemmas.Bool.{and_from, and_parts, cases_Bool, not-false}
 use Rattle.std.proofs.Math.Bool.{and-false}
 use Rattle.std.proofs.lemmas.Grind.{flat_map-append, fold-append}
 use Rattle.std.specs.Cmp.{IsTotalOrder}
@@ -38,9 +38,6 @@ single i x = grind arith
 in_two : {A : Type 0} (i : Bool) (l m n : List A) → (i ≡ true → l ≡ m ++ n)
     → (if i then l else []) ≡ (if i then m else []) ++ (if i then n else [])
 in_two i l m n h = grind arith
-
-pick_when : {A : Type 0} (i : Bool) (x y : A) → (i ≡ true → x ≡ y) → pick i x ≡ pick i y
-pick_when i x y h = grind arith
 
 all_five : (a b c d e : Bool) → (((a && b) && (c && d)) && e) ≡ ((a && (b && true)) && (c && (d && e)))
 all_five a b c d e = grind arith
@@ -87,26 +84,8 @@ module _ {V : Type 0} {R : V → V → Ordering} (o : IsTotalOrder R) where
       → remainder R s t ≡ below s t.lower ++ above s t.upper
   remainder_is s t h k =
       remainders_by o s t (λ r. (option_to_list r.0 ++ option_to_list r.1) ≡ below s t.lower ++ above s t.upper)
-      (λ e.
-      let m = between_parts o s.lower t.lower s.upper t.upper e in
-      ap₂ (λ l k. l ++ k)
-      (pick_when _ _ _ (λ i. ap (λ (b : Bound V). record { lower = s.lower; upper = b })
-      (sym (left_lower s t i ∙ rw m.1.0 refl))))
-      (pick_when _ _ _ (λ i. ap (λ (b : Bound V). record { lower = b; upper = s.upper })
-      (sym (left_upper s t i ∙ rw m.0.1 refl)))))
-      (λ e. elim (cases_Bool (lt o (lower_cut t.lower) (upper_cut s.upper))) [
-        | inr f ↦
-            let i = below_upto o (lower_cut s.lower) (upper_cut s.upper) (lower_cut t.lower) h f in
-            let j = not_below o (lower_cut t.lower) (upper_cut t.upper) (upper_cut s.upper) k f in
-            rw (i, j, left_lower s t i, f) refl
-        | inl g ↦ elim (cases_Bool (lt o (lower_cut s.lower) (upper_cut t.upper))) [
-          | inr f ↦
-              let i = not_above o (lower_cut s.lower) (lower_cut t.lower) (upper_cut t.upper) k f in
-              let j = upto_below o (upper_cut t.upper) (lower_cut s.lower) (upper_cut s.upper) f h in
-              rw (i, j, left_upper s t j, f) refl
-          | inl f ↦ cc (between_from o s.lower t.lower s.upper t.upper h f g k)
-        ]
-      ])
+      (λ e. grind (arith, between_parts, left_lower, left_upper))
+      (λ e. grind (arith, below_upto, not_below, left_lower, not_above, upto_below, left_upper, between_from))
 
   -- what is clipped from a piece of c is a piece of what is clipped from c
   clip_piece : (s c y z : Span V) (i j : Bool) → z ≡ clipped s y
@@ -187,20 +166,12 @@ module _ {V : Type 0} {R : V → V → Ordering} (o : IsTotalOrder R) where
       ∙ minus_clips (flat_map (λ c. remainder R c t) cs) ss ts
 
   -- an interval lies within the whole line
-  first_whole : (b : Bound V) → greater_lower R Unbounded b ≡ b
-  first_whole b = grind arith
-
-  second_whole : (b : Bound V) → lesser_upper R b Unbounded ≡ b
-  second_whole b = grind arith
-
   clips_whole : (s : Span V) → is_interval R s ≡ true → clips (whole ∷ []) s ≡ s ∷ []
-  clips_whole s h = rw (first_whole s.lower, second_whole s.upper, h) refl
+  clips_whole s h = grind arith
 
   all_whole : (ss : List (Span V)) → list_all (is_interval R) ss ≡ true → flat_map (clips (whole ∷ [])) ss ≡ ss
   all_whole [] h = refl
-  all_whole (s ∷ ss) h =
-      let (one, more) = and_parts (is_interval R s) (list_all (is_interval R) ss) h in
-      rw (clips_whole s one, all_whole ss more) refl
+  all_whole (s ∷ ss) h = grind (arith, clips_whole, all_whole ss)
 
   -- what is left of the line stands in order along it
   along_lower : (a b : Cut V) (cs : List (Span V)) → lt o b a ≡ false → IsAlong R b cs → IsAlong R a cs
@@ -248,15 +219,12 @@ module _ {V : Type 0} {R : V → V → Ordering} (o : IsTotalOrder R) where
   along_minus a cs [] h = h
   along_minus a cs (t ∷ ts) h = along_minus a (flat_map (λ c. remainder R c t) cs) ts (along_remainders a cs t h)
 
-  along_line : (ts : List (Span V)) → IsAlong R Start (minus R (whole ∷ []) ts)
-  along_line ts = along_minus Start (whole ∷ []) ts (refl, (refl, tt))
-
   along_all : (a : Cut V) (cs : List (Span V)) → IsAlong R a cs → list_all (is_interval R) cs ≡ true
   along_all a [] h = refl
   along_all a (c ∷ cs) h = and_from _ _ h.1.0 (along_all (upper_cut c.upper) cs h.1.1)
 
   pub along-gaps : (ts cs : List (Span V)) → cs ≡ minus R (whole ∷ []) ts → IsAlong R Start cs
-  along-gaps ts cs e = subst (IsAlong R Start) (sym e) (along_line ts)
+  along-gaps ts cs e = subst (IsAlong R Start) (sym e) (along_minus Start (whole ∷ []) ts (refl, (refl, tt)))
 
   -- what is cut from each span by what is left of the whole line
   pub minus-clips : (ss ts cs : List (Span V)) → list_all (is_interval R) ss ≡ true → cs ≡ minus R (whole ∷ []) ts
@@ -283,8 +251,7 @@ module _ {V : Type 0} {R : V → V → Ordering} (o : IsTotalOrder R) where
   ends_past a (c ∷ cs) zero d h k = not_below o (lower_cut c.lower) (upper_cut c.upper) a h.1.0 h.0
   ends_past a (c ∷ cs) (suc j) d h k =
       let n = ends_past (upper_cut c.upper) cs j d h.1.1 (omega arith) in
-      not_if _ _ (λ e. lt_trans o (lower_cut c.lower) (upper_cut c.upper) a h.1.0
-      (upto_below o (upper_cut c.upper) (upper_cut (get_or cs j d).upper) a n e)) h.0
+      grind (arith, n, lt_trans, upto_below)
 
   ends_rise : (a : Cut V) (cs : List (Span V)) (i j : ℕ) (d : Span V) → IsAlong R a cs → i ≤ j → j < length cs
       → lt o (upper_cut (get_or cs j d).upper) (upper_cut (get_or cs i d).upper) ≡ false
@@ -317,19 +284,15 @@ module _ {V : Type 0} {R : V → V → Ordering} (o : IsTotalOrder R) where
   skipped s cs zero h k = refl
   skipped s [] (suc r) h k = absurd (omega arith)
   skipped s (c ∷ cs) (suc r) h k =
-      ap (λ l. l ++ clips cs s) (short_clip s c (not-true _ (h 0 c (omega arith) (omega arith))))
-      ∙ skipped s cs r (λ i d p q. h (suc i) d (omega arith) (omega arith)) (omega arith)
+      let more = skipped s cs r (λ i d p q. h (suc i) d (omega arith) (omega arith)) (omega arith) in
+      let short = h 0 c (omega arith) (omega arith) in
+      grind (arith, short_clip, more, short)
 
   -- the pieces behind
   none_past : (s : Span V) (b : Cut V) (cs : List (Span V)) → IsAlong R b cs → lt o b (upper_cut s.upper) ≡ false
       → clips cs s ≡ []
   none_past s b [] h k = refl
-  none_past s b (c ∷ cs) h k =
-      let low : lt o (lower_cut c.lower) (upper_cut s.upper) ≡ false = not_if _ _
-      (λ e. upto_below o b (lower_cut c.lower) (upper_cut s.upper) h.0 e) k in
-      let up : lt o (upper_cut c.upper) (upper_cut s.upper) ≡ false = not_below o (lower_cut c.lower) (upper_cut c.upper)
-      (upper_cut s.upper) h.1.0 low in
-      ap (λ l. l ++ clips cs s) (past_clip s c low) ∙ none_past s (upper_cut c.upper) cs h.1.1 up
+  none_past s b (c ∷ cs) h k = grind (arith, past_clip, upto_below, not_below, none_past s (upper_cut c.upper) cs h.1.1)
 
   none_of : (s : Span V) (cs : List (Span V)) → lt o (lower_cut s.lower) (upper_cut s.upper) ≡ false → clips cs s ≡ []
   none_of s [] h = refl
@@ -344,14 +307,7 @@ module _ {V : Type 0} {R : V → V → Ordering} (o : IsTotalOrder R) where
       (stop_at s (upper_cut c.upper) es i d h.1.1 (omega arith) e n)
   stop_at s a (c ∷ es) zero d h k e n =
       let apart : is_interval R (clipped s c) ≡ false = sym (is_some-interval o (clipped s c)) ∙ n in
-      sym (ap (λ l. l ++ clips es s) (no_clip s c apart) ∙ elim (cases_Bool (lt o (lower_cut s.lower) (upper_cut s.upper))) [
-        | inr f ↦ none_of s es f
-        | inl t ↦
-            let low : lt o (lower_cut c.lower) (upper_cut s.upper) ≡ false = not_if _ _
-            (λ p. between_from o c.lower s.lower s.upper c.upper p h.1.0 t e) apart in
-            none_past s (upper_cut c.upper) es h.1.1 (not_below o (lower_cut c.lower) (upper_cut c.upper)
-            (upper_cut s.upper) h.1.0 low)
-      ])
+      sym (ap (λ l. l ++ clips es s) (no_clip s c apart) ∙ grind (arith, none_of, between_from, none_past, not_below))
 
   along_drop : (a : Cut V) (cs : List (Span V)) (r : ℕ) → IsAlong R a cs → IsAlong R a (drop r cs)
   along_drop a cs zero h = h

@@ -1,7 +1,7 @@
 -- Lists that are joined from a list for each element of another, and tests of their elements.
 use Rattle.std.proofs.Common.{append_assoc, ◌≡◌, refl, sym, ◌∙◌, ap, ap₂, ℕ, ◌+◌, ◌<◌, Bool, true, false, ◌&&◌, ◌||◌, List}
 use Rattle.std.proofs.Common.{[], ◌∷◌, ◌++◌, length, get_or, take, not, inl, inr, arith, Option, is_some}
-use Rattle.std.proofs.Common.{option_to_list, Result, Ok, Err, OnErr}
+use Rattle.std.proofs.Common.{option_to_list, map, Result, Ok, Err, OnErr}
 use Rattle.std.proofs.lemmas.Bool.{and_parts, or_cases}
 use Rattle.std.proofs.lemmas.Grind.{flat_map-append}
 use Rattle.std.proofs.lemmas.List.{append-nil, take_more}
@@ -12,6 +12,11 @@ use Rattle.std.specs.List.{flat_map, list_all, list_any}
 pub empty_is : {A : Type 0} (xs : List A) → is_empty xs ≡ true → xs ≡ []
 empty_is xs h = grind arith
 
+-- a list up to one element further
+pub take_next : {A : Type 0} (xs : List A) (i : ℕ) (x : A) → i < length xs → x ≡ get_or xs i x
+    → take (i + 1) xs ≡ take i xs ++ x ∷ []
+take_next xs i x within at = take_more xs i x within ∙ ap (λ y. take i xs ++ y ∷ []) (sym at)
+
 -- one more element, whose list was put at the end
 pub flat_step : {A B : Type 0} (f : A → List B) (xs : List A) (i : ℕ) (x : A) (old new : List B) → i < length xs
     → x ≡ get_or xs i x → old ≡ flat_map f (take i xs) → new ≡ old ++ f x → new ≡ flat_map f (take (i + 1) xs)
@@ -20,7 +25,7 @@ flat_step f xs i x old new h at e k =
     ∙ ap (λ l. l ++ f x) e
     ∙ ap (λ l. flat_map f (take i xs) ++ l) (sym (append-nil (f x)))
     ∙ sym (flat_map-append f (take i xs) (x ∷ []))
-    ∙ ap (flat_map f) (ap (λ y. take i xs ++ y ∷ []) at ∙ sym (take_more xs i x h))
+    ∙ ap (flat_map f) (sym (take_next xs i x h at))
 
 -- the same behind a front
 pub flat_behind : {A B : Type 0} (f : A → List B) (xs : List A) (i : ℕ) (x : A) (front old new part : List B) → i < length xs
@@ -74,6 +79,10 @@ pub all_weaker : {A : Type 0} (p q : A → Bool) → ((x : A) → p x ≡ true �
     → list_all q xs ≡ true
 all_weaker p q h [] e = refl
 all_weaker p q h (x ∷ xs) e = grind (arith, h x, all_weaker p q h xs)
+
+pub list_any-map : {A B : Type 0} (p : B → Bool) (f : A → B) (xs : List A) → list_any p (map f xs) ≡ list_any (λ x. p (f x)) xs
+list_any-map p f [] = refl
+list_any-map p f (x ∷ xs) = ap (λ b. p (f x) || b) (list_any-map p f xs)
 
 -- tests of pairs
 pub any_pairs : {A B : Type 0} (p : A → Bool) (q : B → Bool) (xs : List A) (ys : List B)

@@ -1,6 +1,6 @@
 -- The gate: a bound that names a version, and a tighter one on the same side of it that the version still lies past, both name
 -- it.
-use Rattle.std.proofs.Common.{◌≡◌, refl, sym, ◌∙◌, Bool, true, false, ◌||◌, inl, inr, arith, is_gt}
+use Rattle.std.proofs.Common.{◌≡◌, refl, ◌∙◌, Bool, true, false, ◌||◌, inl, inr, arith, is_gt}
 use Rattle.std.proofs.lemmas.Bool.{cases_Bool, cond_both, not-true}
 use Rattle.std.specs.Cmp.{alike_right, first_so, second_so, tied_back}
 use Rattle.std.specs.Ordering.{bool_cmp}
@@ -50,15 +50,7 @@ lower_named c d v k n m h = grind (arith, past_order, triple_between, named_part
 -- or not below one past which v does not lie
 upper_named : (c d : Cut VersionValue) (v : VersionValue) → cut_names c v ≡ true → below c d ≡ false
     → is_past precedence d v ≡ false → cut_names d v ≡ true
-upper_named Start d v n m h = cc
-upper_named End d v n m h = cc
-upper_named (Beside w s) Start v n m h = cc
-upper_named (Beside w s) End v n m h = cc
-upper_named (Beside w s) (Beside u t) v n m h =
-    let (pre, tied) = named_parts w v n in
-    let up = in_order u w t s m in
-    let same = triple_between v u w (tied_back triple_total w v tied) (not_past_order u v t h) up in
-    named_from u v (pre_upto u w pre same up) (sym (alike_right triple_total w v u tied) ∙ same)
+upper_named c d v n m h = grind (arith, named_parts, in_order, triple_between, tied_back, triple_total, not_past_order, named_from, pre_upto, alike_right)
 
 -- one of two bounds names v, and v lies between both: the one that is picked names it
 greater_names : (b c : Bound VersionValue) (v : VersionValue) → is_release v ≡ false → is_past precedence (lower_cut b) v ≡ true

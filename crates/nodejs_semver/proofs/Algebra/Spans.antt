@@ -1,7 +1,7 @@
 -- What the set algebra makes of intervals whose bounds meet a test are such intervals again.
 use Rattle.std.proofs.Common.{◌≡◌, refl, ◌∙◌, Bool, true, ◌&&◌, List, [], ◌∷◌, ◌++◌, Some, None, option_to_list, is_gt, Ordering}
 use Rattle.std.proofs.Common.{arith}
-use Rattle.std.proofs.lemmas.Bool.{and_from, and_parts, cond_both}
+use Rattle.std.proofs.lemmas.Bool.{and_parts, cond_both}
 use Rattle.std.proofs.lemmas.List.Folds.{list_all-append}
 use Rattle.std.specs.Cmp.{IsTotalOrder}
 use Rattle.std.specs.List.{list_all, flat_map}
@@ -44,13 +44,8 @@ module _ {V : Type 0} {R : V → V → Ordering} (o : IsTotalOrder R) (F : Bound
 
   fine-remainder : (s t : Span V) → is_fine s ≡ true → is_fine t ≡ true → list_all is_fine (remainder R s t) ≡ true
   fine-remainder s t h k =
-      let (a, b) = fine_bounds s h in
-      let (c, d) = fine_bounds t k in
       remainders_by o s t (λ r. list_all is_fine (option_to_list r.0 ++ option_to_list r.1) ≡ true)
-      (λ _. list_all-append is_fine (option_to_list (left_below R s t)) (option_to_list (left_above R s t))
-      ∙ and_from (list_all is_fine (option_to_list (left_below R s t))) (list_all is_fine (option_to_list (left_above R s t)))
-      (fine-left_below s t a c) (fine-left_above s t d b))
-      (λ _. rw h refl)
+      (λ _. grind (arith, fine_bounds, list_all-append, fine-left_below, fine-left_above)) (λ _. rw h refl)
 
   pub fine-meets_of : (ss ts : List (Span V)) → list_all is_fine ss ≡ true → list_all is_fine ts ≡ true
       → list_all is_fine (meets_of R ss ts) ≡ true

@@ -1,8 +1,6 @@
 -- What is read of bounds: no number is above the limit by more than one, and identifiers are what their texts spell.
-use Rattle.std.proofs.Common.{◌≡◌, ℕ, ◌≤◌, List, [], ◌∷◌, map, refl, true, Some, None, arith}
-use Rattle.std.specs.Prelude.{Option}
+use Rattle.std.proofs.Common.{◌≡◌, ℕ, ◌≤◌, List, [], ◌∷◌, map, refl, true, Some, None, arith, Option}
 use Rattle.std.specs.List.{list_all}
-use Rattle.std.proofs.lemmas.Bool.{and_from}
 use Rattle.semver_core.specs.Text.Identifiers.{Id, IsIdentifiers, identifier_of, is_identifier, pieces}
 use Rattle.semver_core.specs.Printing.RoundTrip.{is_normal}
 use Rattle.nodejs_semver.specs.Text.PartialText.{AreComponents, IsComponent, Partial}
@@ -13,7 +11,6 @@ use Rattle.semver_core.specs.Internal.Reading.{◌>>?◌}
 use Rattle.nodejs_semver.specs.Text.WordText.{Word, caret, compare, hyphen, malformed, plain, tilde}
 use Rattle.semver_core.specs.Text.VersionText.{IsBuild, IsPreRelease}
 use Rattle.nodejs_semver.proofs.Reading.PartialLaw.{front-read}
-use Rattle.std.specs.Cmp.{first_so, second_so}
 use Rattle.semver_core.proofs.Text.Texts.{bind_some}
 use Rattle.std.proofs.lemmas.Option.{same_Some, cond_some}
 
@@ -24,10 +21,7 @@ run-normal run h = grind arith
 
 runs-normal : (runs : List (List ℕ)) → list_all is_identifier runs ≡ true → list_all is_normal (map identifier_of runs) ≡ true
 runs-normal [] h = refl
-runs-normal (run ∷ rest) h =
-    and_from (is_normal (identifier_of run)) (list_all is_normal (map identifier_of rest))
-    (run-normal run (first_so (is_identifier run) (list_all is_identifier rest) h))
-    (runs-normal rest (second_so (is_identifier run) (list_all is_identifier rest) h))
+runs-normal (run ∷ rest) h = grind (arith, run-normal, runs-normal rest)
 
 identifiers-normal : (text : List ℕ) (ids : List Id) → IsIdentifiers text ids → list_all is_normal ids ≡ true
 identifiers-normal text ids h = rw h.spelled (runs-normal (pieces text) h.runs)

@@ -1,5 +1,5 @@
 -- For proofs. The bounds of what is read are such as a range may have.
-use Rattle.std.proofs.Common.{◌≡◌, ℕ, zero, suc, ◌+◌, List, [], ◌∷◌, length, map, refl, sym, ◌∙◌, Bool, true, arith}
+use Rattle.std.proofs.Common.{◌≡◌, ℕ, zero, suc, ◌+◌, List, [], ◌∷◌, length, map, refl, Bool, true, arith}
 use Rattle.std.proofs.lemmas.Bool.{cond_both, and_from}
 use Rattle.std.specs.Prelude.{flat_map, filter_map, if◌then◌else◌}
 use Rattle.std.specs.List.{AllByRecursion, list_all}
@@ -61,15 +61,7 @@ run-bounded limit r h one =
 runs-bounded : (limit : ℕ) (runs : List (Run VersionValue)) → list_all (are_bounds limit) (flat_map run_items runs) ≡ true → AllByRecursion (λ r. fits precedence r ≡ true) runs
     → list_all (is_range_span limit) (map (interval_of precedence) runs) ≡ true
 runs-bounded limit [] h each = refl
-runs-bounded limit (r ∷ rest) h each =
-    let both = sym (list_all-append (are_bounds limit) (run_items r) (flat_map run_items rest)) ∙ h in
-    and_from (is_range_span limit (interval_of precedence r)) (list_all (is_range_span limit) (map (interval_of precedence) rest))
-    (run-bounded limit r
-    (first_so (list_all (are_bounds limit) (run_items r))
-    (list_all (are_bounds limit) (flat_map run_items rest)) both) each.0)
-    (runs-bounded limit rest
-    (second_so (list_all (are_bounds limit) (run_items r))
-    (list_all (are_bounds limit) (flat_map run_items rest)) both) each.1)
+runs-bounded limit (r ∷ rest) h each = grind (arith, list_all-append, run-bounded, runs-bounded limit rest)
 
 pub all-bounded : (limit : ℕ) (ps : List (List ℕ)) → list_all (is_range_span (limit + 1)) (flat_map (part_denotes limit) ps) ≡ true
 all-bounded limit [] = refl

@@ -146,14 +146,8 @@ hyphen-good limit p (Some M) None None x y t e =
     upper-good limit p (made (Some M) None None x y) (Before (lowest (M + 1) 0 0)) t (λ f. lowest-is (limit + 1) (M + 1) 0 0 (omega (arith, f.major)) (omega arith) (omega arith)) e
 hyphen-good limit p (Some M) (Some m) None x y t e =
     upper-good limit p (made (Some M) (Some m) None x y) (Before (lowest M (m + 1) 0)) t (λ f. lowest-is (limit + 1) M (m + 1) 0 (omega (arith, f.major)) (omega (arith, f.minor)) (omega arith)) e
-hyphen-good limit p None None (Some n) x y t e = let q = made None None (Some n) x y in
+hyphen-good limit p a b c x y t e = let q = made a b c x y in
     upper-good limit p q (After (version_of q)) t (version-is limit q) e
-hyphen-good limit p None (Some m) c x y t e = let q = made None (Some m) c x y in
-    upper-good limit p q (After (version_of q)) t (version-is limit q) e
-hyphen-good limit p (Some M) None (Some n) x y t e = let q = made (Some M) None (Some n) x y in
-    upper-good limit p q (After (version_of q)) t (version-is limit q) e
-hyphen-good limit p (Some M) (Some m) (Some n) x y t e =
-    let q = made (Some M) (Some m) (Some n) x y in upper-good limit p q (After (version_of q)) t (version-is limit q) e
 
 -- ---- every word
 

@@ -1,14 +1,13 @@
 -- The version that is found in a list is the best one of those in the set.
-use Rattle.std.proofs.Common.{arith, ◌<◌, ◌+◌, ℕ, length, take, get_or, subst, ◌≡◌, refl, sym, ◌∙◌, ap, Bool, true}
-use Rattle.std.proofs.Common.{false, ◌&&◌, ◌||◌, not, if◌then◌else◌, inl, inr, List, [], ◌∷◌, ◌++◌, Option, Some, None}
-use Rattle.std.proofs.Common.{IfSome, IfNone, Bor, append_assoc, option_copied, map, Ordering}
+use Rattle.std.proofs.Common.{arith, ◌<◌, ◌+◌, ℕ, length, take, get_or, subst, ◌≡◌, refl, sym, ◌∙◌, ap, Bool, true, false, ◌&&◌}
+use Rattle.std.proofs.Common.{◌||◌, not, if◌then◌else◌, inl, inr, List, [], ◌∷◌, ◌++◌, Option, Some, None, IfSome, IfNone, Bor}
+use Rattle.std.proofs.Common.{append_assoc, option_copied, map, Ordering, is_lt, is_le}
 use Rattle.std.proofs.lemmas.Bool.{and_from, cases_Bool, not-true}
 use Rattle.std.proofs.lemmas.List.Folds.{list_all-append}
 use Rattle.std.proofs.lemmas.List.Elements.{All-append, All-cons, All-same, All-weaker, Contains-append_right}
 use Rattle.std.proofs.lemmas.List.Sums.{AllPass-from_list_all}
 use Rattle.std.specs.Cmp.{IsTotalOrder, tied_itself}
 use Rattle.std.specs.List.{All, Contains, list_all}
-use Rattle.std.specs.Ordering.{is_lt, is_le}
 use Rattle.nodejs_semver.proofs.Algebra.FlatMaps.{all_weaker}
 use Rattle.nodejs_semver.proofs.Values.{map-further}
 use Rattle.nodejs_semver.proofs.Algebra.Triples.{le_of_lt, le_trans, lt_is, lt_le}

@@ -1,9 +1,8 @@
 -- When the least version of several ranges may need memory: what the search says of the first and of the others, said of all.
-use Rattle.std.proofs.Common.{◌≡◌, refl, subst, Bool, true, false, ◌&&◌, ◌⊎◌, ◌+◌, ◌-◌, ◌<◌}
-use Rattle.std.proofs.Common.{List, [], ◌∷◌, length, get_or, take, drop, inl, inr, arith}
+use Rattle.std.proofs.Common.{◌≡◌, refl, subst, Bool, true, false, ◌&&◌, ◌⊎◌, ◌+◌, ◌-◌, ◌<◌, List, [], ◌∷◌, length, get_or, take}
+use Rattle.std.proofs.Common.{drop, arith, Any}
 use Rattle.std.proofs.lemmas.Grind.{common_steps}
 use Rattle.std.proofs.lemmas.List.{take_rest}
-use Rattle.std.specs.List.{Any}
 use Rattle.semver_core.specs.Cuts.{Span}
 use Rattle.semver_core.specs.Values.Versions.{VersionValue}
 use Rattle.nodejs_semver.specs.Internal.Candidates.{all_accept, BeginsAfterPre, Finds, MayAllocate}
@@ -25,16 +24,7 @@ all_of ks kss h = (h.0, same (all_accept kss h.0) (accepts ks h.0 false) h.1)
 
 one_of : (ks : List (Span VersionValue)) (kss : List (List (Span VersionValue))) → MayAllocate ks kss []
     → ((v : VersionValue) × (all_accept (ks ∷ kss) v ≡ true)) ⊎ Any BeginsAfterPre (ks ∷ kss)
-one_of ks kss h = elim h [
-  | inl found ↦ inl (all_of ks kss found)
-  | inr rest ↦ elim rest [
-    | inl first ↦ inr (Any-here BeginsAfterPre ks kss first)
-    | inr more ↦ elim more [
-      | inl others ↦ inr (Any-there BeginsAfterPre ks kss others)
-      | inr none ↦ absurd (omega (arith, none.2))
-    ]
-  ]
-]
+one_of ks kss h = grind (arith, all_of, Any-here BeginsAfterPre ks kss, Any-there BeginsAfterPre ks kss)
 
 pub lists_allocate : (lists : List (List (Span VersionValue))) (ks : List (Span VersionValue))
     → 0 < length lists → ks ≡ get_or lists 0 ks → MayAllocate ks (take (length lists - 1) (drop 1 lists)) []

@@ -1,8 +1,7 @@
 -- What comes next after a version, and first of all.
-use Rattle.std.proofs.Common.{refl, ◌≡◌, sym, ◌∙◌, ap, ◌<◌, true, false, List, [], length, arith, is_gt, is_le}
+use Rattle.std.proofs.Common.{refl, ◌≡◌, sym, ◌∙◌, ap, ◌<◌, true, false, List, [], length, arith, is_gt, is_le, Ordering, Less}
+use Rattle.std.proofs.Common.{Equal}
 use Rattle.std.proofs.lemmas.Bool.{not-true}
-use Rattle.std.specs.declared.cmp.Ordering.{Ordering}
-use Rattle.std.specs.declared.cmp.Ordering.TheVariants.{Less, Equal}
 use Rattle.semver_core.proofs.CutLaws.{tells}
 use Rattle.semver_core.proofs.Values.NextLaws.{least_after_pre_release}
 use Rattle.nodejs_semver.proofs.Algebra.Triples.{triple_cmp, upto_by_both}

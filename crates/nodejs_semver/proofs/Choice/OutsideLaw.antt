@@ -1,6 +1,5 @@
 -- A version that a range does not hold lies outside it exactly where each cut says so.
-use Rattle.std.proofs.Common.{◌≡◌, refl, ◌∙◌, ap, ap₂, arith, ℕ, ◌+◌, Bool, true, false, ◌&&◌, ◌||◌, not, List, [], ◌∷◌}
-use Rattle.std.proofs.lemmas.Bool.{and_parts}
+use Rattle.std.proofs.Common.{◌≡◌, refl, ◌∙◌, ap, arith, ℕ, ◌+◌, Bool, true, false, ◌&&◌, ◌||◌, not, List, [], ◌∷◌}
 use Rattle.std.specs.List.{list_any, list_all}
 use Rattle.semver_core.specs.Cuts.{Span, is_interval, is_past, lower_cut, upper_cut, holds}
 use Rattle.semver_core.proofs.CutLaws.{is_past-down, one_way}
@@ -40,13 +39,7 @@ along : (held test other : Span VersionValue → Bool) (ok : Span VersionValue �
     → ((s : Span VersionValue) → ok s ≡ true → (not (held s) && test s) ≡ other s)
     → (ss : List (Span VersionValue)) → list_all ok ss ≡ true → (not (list_any held ss) && list_all test ss) ≡ list_all other ss
 along held test other ok each [] h = refl
-along held test other ok each (s ∷ ss) h =
-    let (here, there) = and_parts (ok s) (list_all ok ss) h in
-    regroup (held s) (list_any held ss) (test s) (list_all test ss)
-    ∙ ap₂ (λ a b. a && b) (each s here) (along held test other ok each ss there)
-  where
-    regroup : (a b c d : Bool) → (not (a || b) && (c && d)) ≡ ((not a && c) && (not b && d))
-    regroup a b c d = grind arith
+along held test other ok each (s ∷ ss) h = grind (arith, each s, along held test other ok each ss)
 
 pub higher_by_cuts : (d : OutsideDirection) (limit : ℕ) (ss : List (Span VersionValue)) (v : VersionValue) → IsRange limit ss
     → d ≡ Higher → is_outside d true ss v ≡ list_all (λ s. is_past precedence (upper_cut s.upper) v) ss

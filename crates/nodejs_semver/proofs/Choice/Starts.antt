@@ -1,20 +1,19 @@
 -- The least version of spans each of which begins with a version that it accepts.
 use Rattle.std.proofs.Common.{◌≡◌, sym, ◌∙◌, ap, subst, ℕ, ◌+◌, ◌<◌, Bool, true, false, ◌&&◌, ◌||◌, not, List, [], ◌∷◌, ◌++◌}
-use Rattle.std.proofs.Common.{Option, Some, None, if◌then◌else◌, length, get_or, take, inl, inr, refl, arith}
+use Rattle.std.proofs.Common.{Option, Some, None, length, get_or, take, inl, inr, refl, arith, is_le, is_lt}
 use Rattle.std.proofs.Math.Bool.{or-false}
-use Rattle.std.proofs.lemmas.Bool.{cond_both, false≢true, or_cases, or_parts}
-use Rattle.std.proofs.lemmas.List.{take_more}
+use Rattle.std.proofs.lemmas.Bool.{cond_both, false≢true, or_cases}
 use Rattle.std.proofs.lemmas.List.Folds.{find-append, list_any-append}
 use Rattle.std.specs.Cmp.{first_so, tied_itself}
 use Rattle.std.specs.List.{find, list_any}
 use Rattle.std.specs.Option.{option_or}
-use Rattle.std.specs.Ordering.{is_le, is_lt}
 use Rattle.semver_core.specs.Internal.Sides.{Near}
 use Rattle.semver_core.proofs.CutLaws.{not_if, tells}
 use Rattle.semver_core.specs.Cuts.{Span, holds, is_past, lower_cut}
 use Rattle.semver_core.specs.Internal.OrderLaws.{precedence_total}
 use Rattle.semver_core.specs.Values.Order.{precedence}
 use Rattle.semver_core.specs.Values.Versions.{VersionValue}
+use Rattle.nodejs_semver.proofs.Algebra.FlatMaps.{take_next}
 use Rattle.nodejs_semver.proofs.Algebra.Triples.{le_trans, lt_is, lt_le, le_of_lt}
 use Rattle.nodejs_semver.specs.Internal.Candidates.{StartsWith, IsLeastBuilt, IsLeastSoFar, lesser}
 use Rattle.nodejs_semver.specs.Ranges.Gate.{accepts, lets_in}
@@ -36,14 +35,11 @@ one_more ss s x = list_any-append _ ss (s ∷ []) ∙ ap (λ t. accepts ss x fal
 -- the first that passes is found, and so in front of others
 find_none : {X : Type 0} (p : X → Bool) (xs : List X) → list_any p xs ≡ false → find p xs ≡ None
 find_none p [] h = refl
-find_none p (x ∷ xs) h =
-    let (here, there) = or_parts (p x) (list_any p xs) h in ap (λ t. if t then Some x else find p xs) here ∙ find_none p xs there
+find_none p (x ∷ xs) h = grind (arith, find_none p xs)
 
 find_some : {X : Type 0} (p : X → Bool) (xs : List X) (o : Option X) → list_any p xs ≡ true → option_or (find p xs) o ≡ find p xs
 find_some p [] o h = absurd (false≢true h)
-find_some p (x ∷ xs) o h =
-    cond_both (p x) (Some x) (find p xs) (λ f. option_or f o ≡ f) (λ _. refl)
-    (λ e. find_some p xs o (ap (λ t. t || list_any p xs) (sym e) ∙ h))
+find_some p (x ∷ xs) o h = grind (arith, find_some p xs o)
 
 -- a start below all that was accepted so far is the least version
 fresh : (ss : List (Span VersionValue)) (s : Span VersionValue) (w : VersionValue) → StartsWith s w
@@ -85,4 +81,4 @@ pub one_further : (ss : List (Span VersionValue)) (i : ℕ) (best : Option Versi
     → IsLeastBuilt (take (i + 1) ss) next
 one_further ss i best s w next fits at h start e =
     subst (IsLeastBuilt (take (i + 1) ss)) (sym e) (subst (λ l. IsLeastBuilt l (lesser best w))
-    (ap (λ y. take i ss ++ y ∷ []) at ∙ sym (take_more ss i s fits)) (step (take i ss) best s w h start))
+    (sym (take_next ss i s fits at)) (step (take i ss) best s w h start))

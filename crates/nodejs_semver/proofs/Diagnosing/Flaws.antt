@@ -1,12 +1,12 @@
 -- Where the reader of numbers stops, the text is wrong there and has no version.
-use Rattle.std.proofs.Common.{◌≡◌, ◌<◌, ◌≤◌, ◌+◌, ◌-◌, ℕ, zero, suc, List, [], ◌∷◌, ◌++◌, length, drop, take, refl, sym, ap}
-use Rattle.std.proofs.Common.{◌∙◌, subst, arith, inl, inr, true, false, eqb, Some, append_assoc, length-append, length-drop}
-use Rattle.std.proofs.Common.{◌==◌, ◌↔◌, IsUtf8, slice_range, Option, None, MatchOption, IfSome}
+use Rattle.std.proofs.Common.{◌≡◌, ◌<◌, ◌≤◌, ◌+◌, ◌-◌, ℕ, zero, suc, List, [], ◌∷◌, ◌++◌, length, drop, take, refl, sym, ap, ◌∙◌}
+use Rattle.std.proofs.Common.{subst, arith, true, false, eqb, Some, append_assoc, length-append, length-drop, ◌==◌, ◌↔◌, IsUtf8}
+use Rattle.std.proofs.Common.{slice_range, Option, None, MatchOption, IfSome, get_or}
 use Rattle.std.specs.Char.{encode_utf8, is_ascii_digit}
 use Rattle.std.specs.Str.Parse.{digits_value}
-use Rattle.std.proofs.lemmas.Bool.{cases_Bool, eqb-true}
+use Rattle.std.proofs.lemmas.Bool.{eqb-true}
 use Rattle.std.proofs.lemmas.Bool.Decides.{nat_tests}
-use Rattle.std.proofs.lemmas.List.{take-append-drop, drop-drop, drop_all}
+use Rattle.std.proofs.lemmas.List.{take-append-drop, drop-drop, drop_all, drop_more}
 use Rattle.std.proofs.Math.Seq.{take-add, take-append_seam}
 use Rattle.semver_core.specs.Failures.{NoValue}
 use Rattle.semver_core.specs.Internal.Reading.{mark_len, triple_at, pre_release_at, build_at, qualified}
@@ -18,7 +18,6 @@ use Rattle.semver_core.specs.Text.VersionText.{IsMark, Reads, no_mark, small_mar
 use Rattle.semver_core.specs.Values.Versions.{VersionValue}
 use Rattle.semver_core.specs.declared.TheConstants.{MAX_LENGTH}
 use Rattle.semver_core.proofs.Text.Pieces.{some_inside}
-use Rattle.semver_core.proofs.Text.Runs.{drop_next}
 use Rattle.semver_core.proofs.Text.Texts.{build_complete, divided_at, number_begins, pre_complete, triple_complete}
 use Rattle.semver_core.proofs.Text.Trims.{after_blank_drops_spaces}
 use Rattle.nodejs_semver.proofs.Reading.Progress.{spaces-gone}
@@ -121,14 +120,11 @@ cut text at end piece a e d =
 
 dot-next : (text : List ℕ) (at : ℕ) → begins_dot (drop at text) ≡ true → (drop at text ≡ 46 ∷ drop (at + 1) text)
     × (at + 1 ≤ length text)
-dot-next text at h = go (drop at text) refl h
-  where
-    go : (t : List ℕ) → drop at text ≡ t → begins_dot t ≡ true → (drop at text ≡ 46 ∷ drop (at + 1) text) × (at + 1 ≤ length text)
-    go [] e k = cc k
-    go (b ∷ t) e k = (
-      e ∙ (ap (λ (c : ℕ). c ∷ t) (eqb-true b 46 k) ∙ ap (λ (x : List ℕ). 46 ∷ x) (sym (drop_next at text t b e))),
-      omega (arith, ap length e, length-drop at text),
-    )
+dot-next text at h =
+    let within : at < length text = grind (arith, drop_all) in
+    let next = drop_more text at 0 within in
+    let dot : begins_dot (get_or text at 0 ∷ drop (at + 1) text) ≡ true = rw next at h in
+    (next ∙ ap (λ (c : ℕ). c ∷ drop (at + 1) text) (eqb-true (get_or text at 0) 46 dot), omega (arith, within))
 
 here : (limit : ℕ) (text : List ℕ) (at : ℕ) → NoValue (Reads limit (take at text ++ drop at text)) → NoValue (Reads limit text)
 here limit text at h = subst (λ (t : List ℕ). NoValue (Reads limit t)) (take-append-drop at text) h
@@ -189,13 +185,7 @@ stuck_wrong limit text Starts k at flaw nine inside p s (later j a end f found d
 
 marked : (text : List ℕ) → IsMark (take (mark_len text) text)
 marked [] = no_mark
-marked (c ∷ rest) = elim (cases_Bool (eqb c 118)) [
-  | inl small ↦ rw (eqb-true c 118 small) small_mark
-  | inr other ↦ elim (cases_Bool (eqb c 86)) [
-    | inl capital ↦ rw (eqb-true c 86 capital) capital_mark
-    | inr none ↦ rw (other, none) no_mark
-  ]
-]
+marked (c ∷ rest) = grind (arith, eqb-true, no_mark, small_mark, capital_mark)
 
 unmarked : (text : List ℕ) (start : ℕ) → mark_len text ≤ start → take start text ≡ [] → mark_len (drop start text) ≡ 0
 unmarked text start le e = grind (arith, drop_all)

@@ -22,8 +22,7 @@ use Rattle.nodejs_semver.proofs.Dividing.MeaningLaw.{pieces-utf8, words-law}
 use Rattle.nodejs_semver.proofs.Dividing.Trimmed.{trim-starts}
 use Rattle.nodejs_semver.proofs.Reading.Progress.{spaces-gone, spaces-le, word-shorter}
 use Rattle.nodejs_semver.proofs.Reading.WordLaw.{skips-is, skips-utf8, trim-utf8, word-utf8, words_are}
-use Rattle.std.specs.Cmp.{first_so, second_so}
-use Rattle.std.proofs.lemmas.Bool.{and_from}
+use Rattle.std.proofs.lemmas.Bool.{and_parts}
 
 -- ---- they are the ignored words
 
@@ -100,10 +99,7 @@ within-empty limit place zero text = refl
 within-empty limit place (suc n) [] = refl
 within-empty limit place (suc n) (b ∷ text) =
     let read = word_at limit (b ∷ text) in
-    let others = ignored_within limit place n (drop_spaces read.1) in
-    append-empty (if_ignored (ignored_as limit read.0) (place - length (b ∷ text)) (place - length read.1)) others
-    ∙ (ap (λ (e : Bool). e && is_empty others) (if-empty limit read.0 (place - length (b ∷ text)) (place - length read.1))
-    ∙ ap (λ (e : Bool). has_bounds limit read.0 && e) (within-empty limit place n (drop_spaces read.1)))
+    grind (arith, append-empty, if-empty, within-empty limit place n (drop_spaces read.1))
 
 abbrev bounded : ℕ → List ℕ → Bool
 bounded limit piece = list_all (has_bounds limit) (words limit (trim piece))
@@ -121,45 +117,38 @@ are-bounded limit [] u h = tt
 are-bounded limit (piece ∷ pieces) u h =
     let t = trim_is_middle piece u.0 in
     let read = (words-law limit piece (trim piece) (words limit (trim piece)) u.0 t).0 refl in
-    let one : IsBounded limit piece = (
-      words limit (trim piece),
-      (trim piece, t, read),
-      first_so (bounded limit piece) (list_all (bounded limit) pieces) h,
-    ) in
-    (one, are-bounded limit pieces u.1 (second_so (bounded limit piece) (list_all (bounded limit) pieces) h))
+    let (first, others) = and_parts (bounded limit piece) (list_all (bounded limit) pieces) h in
+    ((words limit (trim piece), (trim piece, t, read), first), are-bounded limit pieces u.1 others)
 
 all-bounded : (limit : ℕ) (pieces : List (List ℕ)) → AllByRecursion IsUtf8 pieces → AllByRecursion (IsBounded limit) pieces
     → list_all (bounded limit) pieces ≡ true
 all-bounded limit [] u h = refl
 all-bounded limit (piece ∷ pieces) u h =
     let b = h.0 in
-    and_from (bounded limit piece) (list_all (bounded limit) pieces)
-    (ap (λ (t : List ℕ). list_all (has_bounds limit) (words limit t)) (sym (middle_is_trim piece b.1.0 b.1.1))
-    ∙ ap (list_all (has_bounds limit)) ((words-law limit piece b.1.0 b.0 u.0 b.1.1).1 b.1.2) ∙ b.2)
-    (all-bounded limit pieces u.1 h.1)
+    let same = (words-law limit piece b.1.0 b.0 u.0 b.1.1).1 b.1.2 in
+    grind (arith, middle_is_trim piece b.1.0 b.1.1, same, all-bounded limit pieces u.1 h.1)
 
 -- ---- the clauses
 
 pub are_ignored : (limit : ℕ) (text : List ℕ) (list : List IgnoredWord) → IsUtf8 text
     → list ≡ all_ignored limit 0 (cut_bars false text) → AreIgnored limit text list
-are_ignored limit text list u e = (
-  cut_bars false text,
-  bars_divide text,
-  subst (λ (ws : List IgnoredWord). AreAllIgnored limit 0 (cut_bars false text) ws) (sym e)
-      (all-read limit 0 (cut_bars false text) (pieces-utf8 text (cut_bars false text) (bars_divide text) u)),
-)
+are_ignored limit text list u e =
+    let here = cut_bars false text in
+    let each = all-read limit 0 here (pieces-utf8 text here (bars_divide text) u) in
+    (here, bars_divide text, subst (λ (ws : List IgnoredWord). AreAllIgnored limit 0 here ws) (sym e) each)
 
 pub none_ignored : (limit : ℕ) (text : List ℕ) (list : List IgnoredWord) → IsUtf8 text
     → list ≡ all_ignored limit 0 (cut_bars false text) → (list ≡ []) ↔ IsWhollyBounded limit text
-none_ignored limit text list u e = (
-  λ none. (
-    cut_bars false text,
-    bars_divide text,
-    are-bounded limit (cut_bars false text) (pieces-utf8 text (cut_bars false text) (bars_divide text) u)
-        (sym (all-empty limit 0 (cut_bars false text)) ∙ ap (λ (ws : List IgnoredWord). is_empty ws) (sym e ∙ none)),
-  ),
-  λ w. empty_is list
-      (ap (λ (ws : List IgnoredWord). is_empty ws) e ∙ all-empty limit 0 (cut_bars false text)
-      ∙ ap (λ (ps : List (List ℕ)). list_all (bounded limit) ps) (sym (bars_once text w.0 w.1))
-      ∙ all-bounded limit w.0 (pieces-utf8 text w.0 w.1 u) w.2),
-)
+none_ignored limit text list u e =
+    let here = cut_bars false text in
+    let same = ap (λ (ws : List IgnoredWord). is_empty ws) e ∙ all-empty limit 0 here in (
+      λ none. (
+        here,
+        bars_divide text,
+        are-bounded limit here (pieces-utf8 text here (bars_divide text) u)
+            (sym same ∙ ap (λ (ws : List IgnoredWord). is_empty ws) none),
+      ),
+      λ w. empty_is list
+          (same ∙ ap (λ (ps : List (List ℕ)). list_all (bounded limit) ps) (sym (bars_once text w.0 w.1))
+          ∙ all-bounded limit w.0 (pieces-utf8 text w.0 w.1 u) w.2),
+    )

@@ -1,6 +1,6 @@
 -- The parts of a text, cut at its bars.
 use Rattle.semver_core.specs.Text.Characters.{begins}
-use Rattle.std.proofs.Common.{◌≡◌, ℕ, suc, ◌<◌, ◌≤◌, ◌+◌, List, [], ◌∷◌, length, drop, get_or, refl, ap, ◌∙◌, arith, true}
+use Rattle.std.proofs.Common.{◌≡◌, ℕ, suc, ◌<◌, ◌≤◌, ◌+◌, List, [], ◌∷◌, length, drop, get_or, refl, arith, true}
 use Rattle.std.proofs.Common.{false, Some, None, inl, inr, subst, Option, nat_lt, IsCharBoundary, IsUtf8}
 use Rattle.std.proofs.lemmas.Bool.{eqb-true, cases_Bool, cases_lt, lt-ltb, le-ltb}
 use Rattle.std.proofs.lemmas.Str.{IsCharBoundary-after_ascii, IsCharBoundary-before_ascii}
@@ -23,10 +23,7 @@ begins_bar-some text h = grind arith
 pub bars_room : (text : List ℕ) → bars_at text < length text → bars_at text + 2 ≤ length text
 unfolding bars_at
 bars_room [] h = absurd (omega arith)
-bars_room (b ∷ rest) h = elim (cases_Bool (begins_bars (b ∷ rest))) [
-  | inl here ↦ let some = begins_bar-some rest (second_so (is_bar b) (begins is_bar rest) here) in rw here (omega arith)
-  | inr other ↦ let less : suc (bars_at rest) < length (b ∷ rest) = rw other at h in let more = bars_room rest (omega arith) in rw other (omega arith)
-]
+bars_room (b ∷ rest) h = grind (arith, begins_bar-some, second_so, bars_room rest)
 
 pub bars_at-stop : (text : List ℕ) → begins_bars text ≡ true → bars_at text ≡ 0
 unfolding bars_at
@@ -80,19 +77,10 @@ here-low text h = grind (arith, bar-low)
 bars-begin : (text : List ℕ) → bars_at text < length text → begins_bars (drop (bars_at text) text) ≡ true
 unfolding bars_at
 bars-begin [] h = absurd (omega arith)
-bars-begin (b ∷ rest) h = elim (cases_Bool (begins_bars (b ∷ rest))) [
-  | inl here ↦ rw here here
-  | inr other ↦ let less : suc (bars_at rest) < length (b ∷ rest) = rw other at h in rw other (bars-begin rest (omega arith))
-]
+bars-begin (b ∷ rest) h = grind (arith, bars-begin rest)
 
 bars-low : (text : List ℕ) → bars_at text < length text → (get_or text (bars_at text) 0 < 128) × (get_or text (bars_at text + 1) 0 < 128)
-bars-low text h =
-    let n = bars_at text in
-    let low = here-low (drop n text) (bars-begin text h) in
-    let place : n + 0 ≡ n = omega arith in
-    let one : get_or (drop n text) 0 0 ≡ get_or text n 0 = get_or-drop n text 0 0 ∙ ap (λ (k : ℕ). get_or text k 0) place in
-    let two : get_or (drop n text) 1 0 ≡ get_or text (n + 1) 0 = get_or-drop n text 1 0 in
-    (omega (arith, low.0, one), omega (arith, low.1, two))
+bars-low text h = grind (arith, here-low (drop (bars_at text) text), bars-begin, get_or-drop)
 
 pub bars_boundary : (text : List ℕ) (at : ℕ) → at ≡ bars_at text → at < length text → IsCharBoundary text at
 bars_boundary text at e h = grind (arith, IsCharBoundary-before_ascii, bars-low)

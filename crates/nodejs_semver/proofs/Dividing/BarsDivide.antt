@@ -1,9 +1,9 @@
 -- For proofs. A text has one division at its bars, which is the one that `cut_bars` computes.
 use Rattle.semver_core.specs.Text.Characters.{begins, ends}
 use Rattle.std.proofs.Math.Bool.{and-true}
-use Rattle.std.proofs.Common.{◌≡◌, ℕ, List, [], ◌∷◌, ◌++◌, refl, sym, ap, ◌∙◌, inl, inr, true, false, subst, ◌&&◌, arith}
+use Rattle.std.proofs.Common.{◌≡◌, ℕ, List, [], ◌∷◌, ◌++◌, refl, sym, ◌∙◌, inl, inr, true, false, subst, ◌&&◌, arith}
 use Rattle.std.specs.List.{onto_first}
-use Rattle.std.proofs.lemmas.Bool.{and_parts, and_right, cases_Bool, eqb-true, or_from, or_parts}
+use Rattle.std.proofs.lemmas.Bool.{and_parts, and_right, cases_Bool, eqb-true, or_from}
 use Rattle.nodejs_semver.specs.Internal.Parts.{cut_bars}
 use Rattle.nodejs_semver.specs.Text.Bars.{is_bar, IsCutAtBars, has_bars, more_pieces, one_piece}
 
@@ -12,9 +12,7 @@ use Rattle.nodejs_semver.specs.Text.Bars.{is_bar, IsCutAtBars, has_bars, more_pi
 whole-piece : (piece : List ℕ) → has_bars piece ≡ false → cut_bars false piece ≡ piece ∷ []
 unfolding cut_bars
 whole-piece [] h = refl
-whole-piece (b ∷ rest) h =
-    let none = or_parts (is_bar b && begins is_bar rest) (has_bars rest) h in
-    rw (none.0, cut_bars) (ap (λ (ps : List (List ℕ)). onto_first b ps) (whole-piece rest none.1))
+whole-piece (b ∷ rest) h = grind (arith, whole-piece rest)
 
 -- a piece that ends before bars
 piece-ended : (b : ℕ) (rest t : List ℕ) → (is_bar b && begins is_bar rest) ≡ false → ends is_bar (b ∷ rest) ≡ false
@@ -28,10 +26,7 @@ front-piece : (piece t : List ℕ) → has_bars piece ≡ false → ends is_bar 
     → cut_bars false (piece ++ 124 ∷ (124 ∷ t)) ≡ piece ∷ cut_bars false t
 unfolding cut_bars
 front-piece [] t h ends = refl
-front-piece (b ∷ rest) t h ends =
-    let none = or_parts (is_bar b && begins is_bar rest) (has_bars rest) h in
-    rw (piece-ended b rest (124 ∷ t) none.0 ends, cut_bars)
-    (ap (λ (ps : List (List ℕ)). onto_first b ps) (front-piece rest t none.1 (ends-rest b rest ends)))
+front-piece (b ∷ rest) t h ends = grind (arith, piece-ended b rest (124 ∷ t), ends-rest, front-piece rest t)
 
 pub bars_once : (text : List ℕ) (pieces : List (List ℕ)) → IsCutAtBars text pieces → pieces ≡ cut_bars false text
 bars_once text pieces (one_piece piece h) = sym (whole-piece piece h)

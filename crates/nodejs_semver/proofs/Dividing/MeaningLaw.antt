@@ -1,12 +1,10 @@
 -- What a text denotes is its one meaning.
 use Rattle.std.proofs.Common.{◌≡◌, ℕ, zero, suc, ◌<◌, ◌≤◌, List, [], ◌∷◌, ◌++◌, length, get_or, refl, sym, ap, ◌∙◌, arith, true}
 use Rattle.std.proofs.Common.{false, inl, inr, subst, append-nil, length-append, ◌↔◌, IfNone, IfSome, IsSomeAnd, IsTrue, IsUtf8}
-use Rattle.std.proofs.Common.{Option, encode_utf8_all, map, filter_map, flat_map, encode_utf8, take_at, drop_at}
+use Rattle.std.proofs.Common.{Option, encode_utf8_all, map, filter_map, flat_map, encode_utf8, take_at, drop_at, ◌⊎◌, Result}
 use Rattle.std.specs.List.{AllByRecursion, list_all, list_any}
-use Rattle.std.specs.Prelude.{◌⊎◌, Result, Ok, Err}
 use Rattle.semver_core.specs.Failures.{MemoryOnlyIf}
 use Rattle.semver_core.specs.declared.error.Failure.{Failure}
-use Rattle.semver_core.specs.declared.error.Failure.TheVariants.{Refused, Memory}
 use Rattle.std.proofs.lemmas.Bool.{cases_Bool, false_from_ne_true, and_from}
 use Rattle.std.proofs.lemmas.List.Folds.{list_all-append}
 use Rattle.std.proofs.lemmas.Str.{IsUtf8-drop, IsUtf8-take, IsCharBoundary-after_ascii, IsCharBoundary-before_ascii, len_utf8_bounds, length-encode}
@@ -22,7 +20,6 @@ use Rattle.nodejs_semver.specs.Internal.Parts.{cut_bars, parts}
 use Rattle.nodejs_semver.specs.Text.Bars.{IsCutAtBars, more_pieces, one_piece}
 use Rattle.nodejs_semver.specs.Text.Meaning.{AreAllIntervals, AreWords, HasRuns, IsBlankText, Means, all_intervals}
 use Rattle.nodejs_semver.specs.Text.Meaning.{blank_piece, every_version, next_piece, next_word, no_piece, no_word}
-use Rattle.nodejs_semver.specs.Ranges.View.{any_version}
 use Rattle.nodejs_semver.specs.Text.Runs.{Run}
 use Rattle.nodejs_semver.specs.Internal.RunsFrom.{runs_of}
 use Rattle.nodejs_semver.specs.Text.Table.{table}
@@ -36,7 +33,6 @@ use Rattle.nodejs_semver.proofs.Dividing.RunsDivide.{part_divides}
 use Rattle.nodejs_semver.proofs.Dividing.RunsUnique.{runs_are}
 use Rattle.nodejs_semver.proofs.Dividing.Trimmed.{trim-starts}
 use Rattle.nodejs_semver.proofs.Reading.WordLaw.{skips-is, skips-of, skips-utf8, trim-utf8, word-utf8, words_are}
-use Rattle.std.specs.Cmp.{first_so, second_so}
 
 -- ---- the words of a part
 
@@ -140,36 +136,24 @@ empty-blank piece u h =
 
 all-empty : (pieces : List (List ℕ)) → AllByRecursion IsBlank pieces → list_all is_empty (map trim pieces) ≡ true
 all-empty [] h = refl
-all-empty (piece ∷ pieces) h =
-    and_from (is_empty (trim piece)) (list_all is_empty (map trim pieces)) (blank-empty piece h.0) (all-empty pieces h.1)
+all-empty (piece ∷ pieces) h = grind (arith, blank-empty, all-empty pieces h.1)
 
 all-blank : (pieces : List (List ℕ)) → AllByRecursion IsUtf8 pieces → list_all is_empty (map trim pieces) ≡ true → AllByRecursion IsBlank pieces
 all-blank [] u h = tt
-all-blank (piece ∷ pieces) u h =
-    let rest = list_all is_empty (map trim pieces) in (
-      empty-blank piece u.0 (first_so (is_empty (trim piece)) rest h),
-      all-blank pieces u.1 (second_so (is_empty (trim piece)) rest h),
-    )
+all-blank (piece ∷ pieces) u h = grind (arith, empty-blank, all-blank pieces u.1)
 
 -- ---- the intervals of all pieces
 
 all-mean : (limit : ℕ) (pieces : List (List ℕ)) → AllByRecursion IsUtf8 pieces → AreAllIntervals limit pieces (flat_map (part_denotes limit) (map trim pieces))
 all-mean limit [] u = no_piece
 all-mean limit (piece ∷ pieces) u =
-    let others = flat_map (part_denotes limit) (map trim pieces) in
-    let more = all-mean limit pieces u.1 in
-    elim (cases_Bool (is_empty (trim piece))) [
-      | inl empty ↦ rw empty (blank_piece piece pieces others (empty-blank piece u.0 empty) more)
-      | inr some ↦
-          rw some (next_piece piece pieces (runs_of precedence (part_bounds limit (trim piece))) others
-          (λ blank. cc (sym some ∙ blank-empty piece blank)) (has-runs limit piece u.0) more)
-    ]
+    grind (arith, blank_piece, next_piece, empty-blank, blank-empty, has-runs, all-mean limit pieces u.1)
 
 all-once : (limit : ℕ) (pieces : List (List ℕ)) (list : List (Span VersionValue)) → AllByRecursion IsUtf8 pieces → AreAllIntervals limit pieces list
     → list ≡ flat_map (part_denotes limit) (map trim pieces)
 all-once limit pieces list u no_piece = refl
 all-once limit pieces list u (blank_piece piece rest others blank more) =
-    rw (blank-empty piece blank) (ap (λ (l : List (Span VersionValue)). any_version ++ l) (all-once limit rest others u.1 more))
+    grind (arith, blank-empty, all-once limit rest others u.1 more)
 all-once limit pieces list u (next_piece piece rest runs others dark h more) =
     let some : is_empty (trim piece) ≡ false = false_from_ne_true _ (λ e. dark (empty-blank piece u.0 e)) in
     rw (runs-once limit piece runs u.0 h, some)
@@ -223,9 +207,7 @@ several (s ∷ list) (inr one) = omega (arith, several list (inr one))
 pub only_several : {A E : Type 0} (r : Result A (Failure E)) (Of : List (Span VersionValue) → Type 0)
     → MemoryOnlyIf r ((list : List (Span VersionValue)) → Of list → (1 < length list) ⊎ (list_any (λ s. false) list ≡ true))
     → MemoryOnlyIf r ((list : List (Span VersionValue)) → Of list → 1 < length list)
-only_several (Ok x) Of h = tt
-only_several (Err (Refused e)) Of h = tt
-only_several (Err (Memory e)) Of h = λ list is. several list (h list is)
+only_several r Of h = grind (arith, several)
 
 -- the same of the list of a reader, where there may be none
 pub found_so : (P : List (Span VersionValue) → Type 0) (limit : ℕ) (text : List ℕ) (list : List (Span VersionValue))
@@ -246,15 +228,12 @@ meant_none limit text list o u e h = grind (arith, meant)
 -- a text whose parts are all empty is blank
 pub blank_text : (text : List ℕ) → IsUtf8 text → IsTrue (list_all is_empty (parts text)) ↔ IsBlankText text
 unfolding IsBlankText
-blank_text text u = (
-  λ e. (
-    cut_bars false text,
-    bars_divide text,
-    all-blank (cut_bars false text) (pieces-utf8 text (cut_bars false text) (bars_divide text) u) e,
-  ),
-  λ blank. ap (λ (ps : List (List ℕ)). list_all is_empty (map trim ps)) (sym (bars_once text blank.0 blank.1))
-      ∙ all-empty blank.0 blank.2,
-)
+blank_text text u =
+    let here = cut_bars false text in (
+      λ e. (here, bars_divide text, all-blank here (pieces-utf8 text here (bars_divide text) u) e),
+      λ blank. ap (λ (ps : List (List ℕ)). list_all is_empty (map trim ps)) (sym (bars_once text blank.0 blank.1))
+          ∙ all-empty blank.0 blank.2,
+    )
 
 pub filled_text : (text : List ℕ) → IsUtf8 text → (IsBlankText text → ⊥) → list_all is_empty (parts text) ≡ false
 filled_text text u h = false_from_ne_true _ (λ blank. h ((blank_text text u).0 blank))

@@ -1,9 +1,7 @@
 -- One word of a part after another.
 use Rattle.std.proofs.Common.{◌≡◌, ℕ, ◌<◌, List, [], ◌∷◌, ◌++◌, length, ap, ◌∙◌, arith, Some, None, append_assoc, refl}
-use Rattle.std.proofs.Common.{length-append}
-use Rattle.std.specs.Prelude.{Option}
+use Rattle.std.proofs.Common.{length-append, Option, option_to_list}
 use Rattle.std.specs.List.{cons_option}
-use Rattle.std.specs.Option.{option_to_list}
 use Rattle.semver_core.specs.Cuts.{Span, meet}
 use Rattle.semver_core.specs.Values.Order.{precedence}
 use Rattle.semver_core.specs.Internal.OrderLaws.{precedence_total}
@@ -98,8 +96,7 @@ longer_joined found running rest some =
 -- one interval more, where there is one
 pub had_one : (found : List (Span VersionValue)) (o : Option (Span VersionValue)) → 1 < length (found ++ option_to_list o)
     → 0 < length found
-had_one found None long = omega (arith, length-append {A = Span VersionValue} found [])
-had_one found (Some s) long = omega (arith, length-append found (s ∷ []))
+had_one found o long = grind (arith, length-append)
 
 -- the intervals of a part are no fewer than those of its first word
 pub longer_part : (limit : ℕ) (part rest : List ℕ) (old found : List (Span VersionValue)) → found ≡ old
@@ -112,7 +109,4 @@ longer_part limit part rest old found same whole some starts long =
   where
     at : (o : Option (Span VersionValue)) (bounds : List (Span VersionValue)) → 1 < length (found ++ option_to_list o)
         → 1 < length (found ++ joined precedence None (cons_option o bounds))
-    at None bounds more =
-        omega (arith, length-append {A = Span VersionValue} found [], length-append found (joined precedence None bounds))
-    at (Some s) bounds more =
-        omega (arith, length-append found (s ∷ []), length-append found (joined_from precedence s bounds), joined-some s bounds)
+    at o bounds more = grind (arith, length-append, joined-some)

@@ -1,10 +1,9 @@
 -- Runs: one word more, and what a run holds.
-use Rattle.std.proofs.Common.{◌≡◌, List, [], ◌∷◌, ◌++◌, refl, sym, ap, ap₂, ◌∙◌, true, false, Bool, arith, Ordering}
-use Rattle.std.specs.Prelude.{◌&&◌, not, if◌then◌else◌}
+use Rattle.std.proofs.Common.{◌≡◌, List, [], ◌∷◌, ◌++◌, refl, sym, ap, ap₂, ◌∙◌, true, false, Bool, arith, Ordering, ◌&&◌, not}
+use Rattle.std.proofs.Common.{if◌then◌else◌, is_gt}
 use Rattle.std.specs.Cmp.{IsTotalOrder, upto}
 use Rattle.std.proofs.Math.Bool.{and-true, not-not}
 use Rattle.std.specs.List.{list_all}
-use Rattle.std.specs.Ordering.{is_gt}
 use Rattle.nodejs_semver.specs.Internal.RunsFrom.{longer}
 use Rattle.semver_core.specs.Cuts.{Cut, Span, cut_cmp, greater_lower, holds, is_past, lesser_upper, lower_cut, upper_cut}
 use Rattle.semver_core.specs.declared.cuts.bound.Bound.{Bound}

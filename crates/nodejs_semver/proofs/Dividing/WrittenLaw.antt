@@ -1,6 +1,6 @@
 -- What is computed of the versions that a text writes is what it writes.
 use Rattle.std.proofs.Common.{◌≡◌, ◌<◌, ℕ, zero, suc, List, [], ◌∷◌, length, get_or, ap, sym, ◌∙◌, true, false, inl}
-use Rattle.std.proofs.Common.{inr, Bool, arith, subst, refl, ◌↔◌, ◌||◌, IsTrue, IsUtf8, map}
+use Rattle.std.proofs.Common.{inr, Bool, arith, subst, ◌↔◌, IsTrue, IsUtf8, map}
 use Rattle.std.specs.List.{AllByRecursion, Any, list_any}
 use Rattle.std.proofs.lemmas.Bool.{cases_Bool, or_right}
 use Rattle.std.proofs.lemmas.List.Folds.{Any-from_list_any, list_any-from_Any}
@@ -13,6 +13,7 @@ use Rattle.nodejs_semver.specs.Internal.Denotes.{denotes, part_bounds}
 use Rattle.nodejs_semver.specs.Ranges.Algebra.{list_holds}
 use Rattle.nodejs_semver.specs.Ranges.Gate.{accepts}
 use Rattle.nodejs_semver.proofs.Algebra.Accepting.{accepts-held}
+use Rattle.nodejs_semver.proofs.Algebra.FlatMaps.{list_any-map}
 use Rattle.nodejs_semver.proofs.Algebra.Holds.{denotes_hold}
 use Rattle.nodejs_semver.specs.Internal.Parts.{cut_bars}
 use Rattle.nodejs_semver.specs.Internal.RunsFrom.{runs_of}
@@ -29,24 +30,13 @@ piece-at [] u k d h = absurd (omega arith)
 piece-at (piece ∷ pieces) u zero d h = u.0
 piece-at (piece ∷ pieces) u (suc k) d h = piece-at pieces u.1 k d (omega arith)
 
-any-map : {A B : Type 0} (p : B → Bool) (f : A → B) (xs : List A) → list_any p (map f xs) ≡ list_any (λ x. p (f x)) xs
-any-map p f [] = refl
-any-map p f (x ∷ xs) = ap (λ (b : Bool). p (f x) || b) (any-map p f xs)
-
 -- one piece
 piece-writes : (limit : ℕ) (v : VersionValue) (piece : List ℕ) → IsUtf8 piece → part_writes limit v (trim piece) ≡ true
     → PieceWrites limit v piece
 piece-writes limit v piece u h = elim (cases_Bool (is_empty (trim piece))) [
   | inl empty ↦ inl (empty-blank piece u empty)
-  | inr some ↦ inr (
-    runs_of precedence (part_bounds limit (trim piece)),
-    has-runs limit piece u,
-    behind (is_empty (trim piece)) some h,
-  )
+  | inr some ↦ inr (runs_of precedence (part_bounds limit (trim piece)), has-runs limit piece u, rw some at h)
 ]
-  where
-    behind : (b : Bool) → b ≡ false → {c : Bool} → (b || c) ≡ true → c ≡ true
-    behind b e h = grind arith
 
 piece-written : (limit : ℕ) (v : VersionValue) (piece : List ℕ) → IsUtf8 piece → PieceWrites limit v piece
     → part_writes limit v (trim piece) ≡ true
@@ -59,13 +49,13 @@ piece-written limit v piece u (inr (runs, has, some)) =
 pub written : (limit : ℕ) (text : List ℕ) (v : VersionValue) → IsUtf8 text → (writes limit text v ≡ true) ↔ Writes limit text v
 unfolding Writes
 written limit text v u = (
-  λ h. let some = Any-from_list_any test here (sym (any-map (part_writes limit v) trim here) ∙ h) in (
+  λ h. let some = Any-from_list_any test here (sym (list_any-map (part_writes limit v) trim here) ∙ h) in (
     here,
     bars_divide text,
     (some.0, some.1, some.2, some.3, piece-writes limit v some.1 (at here (bars_divide text) some) some.4),
   ),
   λ w. ap (λ (ps : List (List ℕ)). list_any (part_writes limit v) (map trim ps)) (sym (bars_once text w.0 w.1))
-      ∙ any-map (part_writes limit v) trim w.0
+      ∙ list_any-map (part_writes limit v) trim w.0
       ∙ list_any-from_Any test w.0 (w.2.0, w.2.1, w.2.2, w.2.3, piece-written limit v w.2.1 (at w.0 w.1 w.2) w.2.4),
 )
   where
@@ -83,6 +73,5 @@ pub accepted_written : (limit : ℕ) (text : List ℕ) (list : List (Span Versio
     → (v : VersionValue) → IsTrue (accepts list v true) ↔ Writes limit text v
 accepted_written limit text list u h v =
     let same : accepts list v true ≡ writes limit text v =
-    accepts-held list v ∙ (ap (λ (l : List (Span VersionValue)). list_holds precedence l v) h ∙ denotes_hold limit text v) in
-    let law = written limit text v u in
-    (λ e. law.0 (sym same ∙ e), λ w. same ∙ law.1 w)
+    accepts-held list v ∙ ap (λ (l : List (Span VersionValue)). list_holds precedence l v) h ∙ denotes_hold limit text v in
+    let law = written limit text v u in (λ e. law.0 (sym same ∙ e), λ w. same ∙ law.1 w)

@@ -1,8 +1,7 @@
 -- The bytes of an everyday part: it is neither cut at bars nor trimmed.
-use Rattle.std.proofs.Common.{◌≡◌, ℕ, List, [], ◌∷◌, ◌++◌, refl, ◌∙◌, arith, Bool, true, inl, inr}
-use Rattle.std.specs.Prelude.{Option, ◌==◌, ◌||◌}
-use Rattle.std.specs.List.{list_all, onto_first}
-use Rattle.std.proofs.lemmas.Bool.{and_from, cases_Bool}
+use Rattle.std.proofs.Common.{◌≡◌, ℕ, List, [], ◌∷◌, ◌++◌, refl, ◌∙◌, arith, Bool, true, Option, ◌==◌, ◌||◌}
+use Rattle.std.specs.List.{list_all}
+use Rattle.std.proofs.lemmas.Bool.{and_from}
 use Rattle.std.proofs.lemmas.Bool.Decides.{nat_tests}
 use Rattle.semver_core.specs.Text.Characters.{begins, ends, is_identifier_char}
 use Rattle.semver_core.specs.Text.Identifiers.{Id, IsIdentifiers, pieces}
@@ -31,14 +30,8 @@ pub record Compact (text : List ℕ) : Type 0 where
 
 identifiers-solid : (text : List ℕ) → tail_runs (pieces text) ≡ true → list_all is_solid text ≡ true
 identifiers-solid [] h = refl
-identifiers-solid (b ∷ rest) h = elim (cases_Bool (b == 46)) [
-  | inl dot ↦ and_from (is_solid b) (list_all is_solid rest) (solid-dot b dot)
-      (identifiers-solid rest (runs_tail (pieces rest) (rw dot at h)))
-  | inr other ↦
-      let split : tail_runs (onto_first b (pieces rest)) ≡ true = rw other at h in
-      and_from (is_solid b) (list_all is_solid rest) (solid-char b (first_char b (pieces rest) split))
-      (identifiers-solid rest (tail_onto b (pieces rest) split))
-]
+identifiers-solid (b ∷ rest) h =
+    grind (arith, solid-dot, solid-char, runs_tail, first_char, tail_onto, identifiers-solid rest)
   where
     solid-dot : (b : ℕ) → (b == 46) ≡ true → is_solid b ≡ true
     solid-dot b h = grind (arith, nat_tests)

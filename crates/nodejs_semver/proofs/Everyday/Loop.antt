@@ -1,7 +1,6 @@
 -- One part of a common text after another.
-use Rattle.std.proofs.Common.{◌≡◌, ℕ, zero, suc, ◌<◌, ◌≤◌, List, [], ◌∷◌, ◌++◌, length, refl}
-use Rattle.std.proofs.Common.{arith, true, false, Some, None, append_assoc, subst, sym}
-use Rattle.std.specs.Prelude.{◌⊎◌, IsSomeAnd, Option}
+use Rattle.std.proofs.Common.{◌≡◌, ℕ, zero, suc, ◌<◌, ◌≤◌, List, [], ◌∷◌, ◌++◌, length, refl, arith, true, false, Some, None}
+use Rattle.std.proofs.Common.{append_assoc, subst, sym, ◌⊎◌, IsSomeAnd, Option}
 use Rattle.semver_core.specs.Failures.{NoValue}
 use Rattle.semver_core.specs.Cuts.{Span}
 use Rattle.semver_core.specs.Internal.Reading.{◌>>?◌}

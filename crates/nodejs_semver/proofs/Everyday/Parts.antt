@@ -1,7 +1,6 @@
 -- What the fast reader finds is the parts of a common text, and it finds each of them.
-use Rattle.std.proofs.Common.{◌≡◌, ℕ, zero, suc, ◌<◌, ◌≤◌, List, [], ◌∷◌, ◌++◌, length, drop, refl, ap, ◌∙◌, arith}
-use Rattle.std.proofs.Common.{true, false, Some, inl, inr, append-nil, append_assoc, length-append}
-use Rattle.std.specs.Prelude.{◌↔◌, Option, ◌==◌}
+use Rattle.std.proofs.Common.{◌≡◌, ℕ, zero, suc, ◌<◌, ◌≤◌, List, [], ◌∷◌, ◌++◌, length, drop, refl, ap, ◌∙◌, arith, true, false}
+use Rattle.std.proofs.Common.{Some, inl, inr, append-nil, append_assoc, length-append, ◌↔◌, Option, ◌==◌}
 use Rattle.std.proofs.lemmas.Bool.{cases_Bool, eqb-true}
 use Rattle.std.proofs.lemmas.Bool.Decides.{nat_tests}
 use Rattle.semver_core.specs.Text.Characters.{begins}

@@ -1,6 +1,5 @@
 -- A partial of a common text is read exactly, whatever may follow it there.
-use Rattle.std.proofs.Common.{arith, ◌≡◌, ℕ, List, ◌++◌, refl, ap, ◌∙◌, true, Some}
-use Rattle.std.specs.Prelude.{Option}
+use Rattle.std.proofs.Common.{arith, ◌≡◌, ℕ, List, ◌++◌, refl, ap, ◌∙◌, true, Some, Option}
 use Rattle.semver_core.specs.Internal.Reading.{◌>>?◌}
 use Rattle.nodejs_semver.specs.Internal.CommonFronts.{bare_front, unbuilt}
 use Rattle.nodejs_semver.specs.Internal.Fronts.{dotted_front, Front, minor_front}

@@ -1,9 +1,8 @@
 -- Everyday parts between bars denote their intervals: the parts are cut at the bars and are trimmed to themselves.
-use Rattle.std.proofs.Common.{◌≡◌, ℕ, ◌<◌, List, [], ◌∷◌, ◌++◌, length, map, refl, sym, ap, ◌∙◌, arith}
-use Rattle.std.proofs.Common.{true, false, inl, inr, append-nil, append_assoc, Some}
-use Rattle.std.specs.Prelude.{flat_map}
+use Rattle.std.proofs.Common.{◌≡◌, ℕ, ◌<◌, List, [], ◌∷◌, ◌++◌, length, map, refl, sym, ap, ◌∙◌, arith, true, false, inl}
+use Rattle.std.proofs.Common.{append-nil, append_assoc, Some, flat_map}
 use Rattle.std.specs.List.{list_all, onto_first}
-use Rattle.std.proofs.lemmas.Bool.{and_parts, cases_Bool, eqb-true}
+use Rattle.std.proofs.lemmas.Bool.{and_parts, eqb-true}
 use Rattle.std.proofs.lemmas.Bool.Decides.{nat_tests}
 use Rattle.semver_core.specs.Text.Characters.{begins, ends}
 use Rattle.semver_core.specs.Cuts.{Span}
@@ -35,12 +34,8 @@ left-over : (text gap : List ℕ) → list_all is_part_byte text ≡ true → en
     → is_empty (drop_spaces (text ++ gap)) ≡ false
 left-over [] gap h e = cc e
 left-over (b ∷ []) gap h e = ap is_empty (solid-kept b gap e)
-left-over (b ∷ c ∷ text) gap h e = elim (cases_Bool (is_solid b)) [
-  | inl solid ↦ ap is_empty (solid-kept b ((c ∷ text) ++ gap) solid)
-  | inr other ↦
-      let each = and_parts (is_part_byte b) (list_all is_part_byte (c ∷ text)) h in
-      rw (eqb-true b 32 (rw other at each.0)) (ap is_empty (space-gone ((c ∷ text) ++ gap)) ∙ left-over (c ∷ text) gap each.1 e)
-]
+left-over (b ∷ c ∷ text) gap h e =
+    grind (arith, solid-kept b ((c ∷ text) ++ gap), space-gone, eqb-true b 32, left-over (c ∷ text) gap)
 
 keep_byte : (b : ℕ) (rest : List ℕ) → is_empty (drop_spaces (b ∷ rest)) ≡ false → drop_end_spaces (b ∷ rest) ≡ b ∷ drop_end_spaces rest
 unfolding drop_end_spaces
@@ -87,9 +82,7 @@ cut-last (b ∷ piece) h =
 cut-first : (piece rest : List ℕ) → list_all is_part_byte piece ≡ true → cut_bars false (piece ++ 124 ∷ (124 ∷ rest)) ≡ piece ∷ cut_bars false rest
 unfolding cut_bars
 cut-first [] rest h = refl
-cut-first (b ∷ piece) rest h =
-    let each = and_parts (is_part_byte b) (list_all is_part_byte piece) h in
-    rw (no-bar b each.0, cut_bars) (ap (λ (ps : List (List ℕ)). onto_first b ps) (cut-first piece rest each.1))
+cut-first (b ∷ piece) rest h = grind (arith, no-bar, cut-first piece rest)
 
 -- ---- the whole text
 

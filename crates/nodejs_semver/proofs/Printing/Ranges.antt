@@ -1,6 +1,6 @@
 -- For proofs. Printed ranges come back.
 use Rattle.std.proofs.Common.{◌≡◌, ◌+◌, ◌<◌, ◌^◌, ℕ, true, List, [], ◌∷◌, ◌++◌, map, refl, ap}
-use Rattle.std.proofs.Common.{ap₂, ◌∙◌, append-nil, arith, inl, ◌&&◌, ◌||◌}
+use Rattle.std.proofs.Common.{◌∙◌, append-nil, arith, inl, ◌&&◌, ◌||◌}
 use Rattle.std.specs.List.{list_all}
 use Rattle.std.proofs.lemmas.Bool.{and_from, and_parts}
 use Rattle.nodejs_semver.specs.Internal.Sets.{is_range_span, span_eq}
@@ -33,8 +33,7 @@ read_back s = bounds_back s.lower s.upper
 
 pub same_back : (list : List (Span VersionValue)) → range_eq (map read_back list) list ≡ true
 same_back [] = refl
-same_back (s ∷ rest) =
-    and_from (span_eq (read_back s) s) (range_eq (map read_back rest) rest) (bounds_same s.lower s.upper) (same_back rest)
+same_back (s ∷ rest) = grind (arith, bounds_same, same_back rest)
 
 -- the tests of a printable interval, as facts
 bound_readable : (limit : ℕ) (b : Bound VersionValue) → is_range_bound limit b ≡ true → IsReadableBound limit b
@@ -87,4 +86,4 @@ again (Before v) (After w) = grind (arith, ties_self)
 pub prints_again : (list : List (Span VersionValue)) → range_text (map read_back list) ≡ range_text list
 prints_again [] = refl
 prints_again (i ∷ []) = ap (λ a. a ++ []) (again i.lower i.upper)
-prints_again (i ∷ j ∷ rest) = ap₂ (λ a b. a ++ 124 ∷ 124 ∷ b) (again i.lower i.upper) (prints_again (j ∷ rest))
+prints_again (i ∷ j ∷ rest) = grind (arith, again, prints_again (j ∷ rest))

@@ -1,5 +1,5 @@
 -- For proofs. A range that is printed and parsed.
-use Rattle.std.proofs.Common.{◌≡◌, ◌<◌, ◌^◌, ℕ, true, List, [], ◌∷◌, map, ap, sym, ◌∙◌, arith, Result, IfOk, IsUtf8}
+use Rattle.std.proofs.Common.{◌≡◌, ◌<◌, ◌^◌, ℕ, true, List, [], ◌∷◌, map, sym, ◌∙◌, subst, arith, Result, IfOk, IsUtf8}
 use Rattle.std.proofs.lemmas.Result.{IfOk-weaker}
 use Rattle.std.specs.List.{list_all}
 use Rattle.semver_core.specs.Cuts.{Span}
@@ -10,9 +10,8 @@ use Rattle.nodejs_semver.specs.Printing.RoundTrip.{is_printable}
 use Rattle.nodejs_semver.specs.Text.Meaning.{Means}
 use Rattle.nodejs_semver.proofs.Dividing.MeaningLaw.{one_meaning}
 use Rattle.nodejs_semver.specs.Printing.Text.{range_text}
-use Rattle.nodejs_semver.specs.Ranges.Equality.{range_eq}
 use Rattle.nodejs_semver.specs.Ranges.View.{IsRange}
-use Rattle.nodejs_semver.proofs.Printing.Ranges.{prints_again, read_back, reads_back, same_back}
+use Rattle.nodejs_semver.proofs.Printing.Ranges.{read_back, reads_back}
 
 -- what is read from the text of a printable range
 pub record Reread (limit : ℕ) (text : List ℕ) (list : List (Span VersionValue)) : Type 0 where
@@ -27,19 +26,11 @@ is_back : (limit : ℕ) (text : List ℕ) (again list : List (Span VersionValue)
 is_back limit text again list h m =
     sym ((one_meaning limit text again h.utf8).1 m) ∙ reads_back limit text list h.small h.range h.printable h.printed
 
-pub reread_builds : {E : Type 0} (limit : ℕ) (r : Result (List (Span VersionValue)) E) (text : List ℕ) (list : List (Span VersionValue)) → Reread limit text list
-    → IfOk r (Means limit text) → IfOk r (λ again. again ≡ map read_back list)
-reread_builds limit r text list h m = IfOk-weaker r _ _ (λ again n. is_back limit text again list h n) m
-
-pub reread_equal : {E : Type 0} (limit : ℕ) (r : Result (List (Span VersionValue)) E) (text : List ℕ) (list : List (Span VersionValue)) → Reread limit text list
-    → IfOk r (Means limit text) → IfOk r (λ again. range_eq again list ≡ true)
-reread_equal limit r text list h m = IfOk-weaker r _ _
-    (λ again n. ap (λ (l : List (Span VersionValue)). range_eq l list) (is_back limit text again list h n) ∙ same_back list) m
-
-pub reread_text : {E : Type 0} (limit : ℕ) (r : Result (List (Span VersionValue)) E) (text : List ℕ) (list : List (Span VersionValue)) → Reread limit text list
-    → IfOk r (Means limit text) → IfOk r (λ again. range_text again ≡ range_text list)
-reread_text limit r text list h m =
-    IfOk-weaker r _ _ (λ again n. ap range_text (is_back limit text again list h n) ∙ prints_again list) m
+-- what holds of the range that comes back
+pub reread : {E : Type 0} (limit : ℕ) (r : Result (List (Span VersionValue)) E) (text : List ℕ) (list : List (Span VersionValue))
+    (P : List (Span VersionValue) → Type 0) → Reread limit text list → P (map read_back list) → IfOk r (Means limit text)
+    → IfOk r P
+reread limit r text list P h p m = IfOk-weaker r _ P (λ again n. subst P (sym (is_back limit text again list h n)) p) m
 
 -- the text means some interval
 not_refused : (limit : ℕ) (text : List ℕ) (list : List (Span VersionValue)) → Reread limit text list → Means limit text [] → ⊥

@@ -12,8 +12,7 @@ overflow_add-result-2 c =
     let piece = c.cut_part.result.0.now in
     omega (
       arith,
-      part_ends place c.trimmed-start.result.0 piece c.trimmed-start.result.1.now c.trimmed-start.ensures.start
-          c.trimmed-start.ensures.middle,
+      part_ends place _ piece _ c.trimmed-start.ensures.start c.trimmed-start.ensures.middle,
       part_fits piece place,
       (sizes_of c.args.text.now (part_view c.cut_part.result) c.cut_part.ensures).front,
       c.ranges.end.fits,
@@ -32,9 +31,7 @@ returns-clause-same c =
     let place = c.args.end - length c.args.text.now in
     let piece = c.cut_part.result.0.now in
     let behind = ignored_behind MAX_SAFE_INTEGER c.args.end (rest_view c.cut_part.result.1) in
-    let ended =
-    part_ends place c.trimmed-start.result.0 piece c.trimmed-start.result.1.now c.trimmed-start.ensures.start
-    c.trimmed-start.ensures.middle in
+    let ended = part_ends place _ piece _ c.trimmed-start.ensures.start c.trimmed-start.ensures.middle in
     ap (λ (n : ℕ). ignored_of MAX_SAFE_INTEGER n c.as_bytes.result.now ++ behind) ended
     ∙ (ap (λ (t : List ℕ). ignored_of MAX_SAFE_INTEGER (part_end place piece) t ++ behind)
     (c.as_bytes.ensures.value ∙ c.trimmed-start.ensures.middle)

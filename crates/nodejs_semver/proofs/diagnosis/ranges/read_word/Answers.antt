@@ -1,30 +1,20 @@
 use Rattle.std.proofs.Common.{arith, refl}
 use Rattle.semver_core.specs.declared.TheConstants.{MAX_SAFE_INTEGER}
-use Rattle.semver_core.specs.Internal.Spaces.{drop_spaces}
 use Rattle.nodejs_semver.proofs.Diagnosing.IgnoredParts.{rest-sizes, word_read}
 use Rattle.nodejs_semver.proofs.diagnosis.ranges.read_word.Goals as goal
 
 pub overflow_sub-end : goal.overflow_sub-end
 overflow_sub-end c =
-    let front = c.ignored_front-kind in
-    omega (
-      arith,
-      c.args.left.part_fits,
-      (rest-sizes MAX_SAFE_INTEGER c.args.left.part.now front.result.1.now
-          (drop_spaces front.result.1.now) front.result.0 c.requires c.args.left.starts front.ensures refl).0,
-    )
+    let sizes = rest-sizes MAX_SAFE_INTEGER _ _ _ _ c.requires c.args.left.starts c.ignored_front-kind.ensures refl in
+    omega (arith, c.args.left.part_fits, sizes.0)
 
 pub invariant_of-rest : goal.invariant_of-rest
 invariant_of-rest c =
-    let front = c.ignored_front-kind in
-    let sizes =
-    rest-sizes MAX_SAFE_INTEGER c.args.left.part.now front.result.1.now c.skip_spaces.result.now front.result.0 c.requires
-    c.args.left.starts front.ensures c.skip_spaces.ensures in
+    let sizes = rest-sizes MAX_SAFE_INTEGER _ _ _ _ c.requires c.args.left.starts c.ignored_front-kind.ensures c.skip_spaces.ensures in
     record {
       starts = sizes.2;
       part_fits = omega (arith, sizes.0, sizes.1, c.args.left.part_fits);
-      behind_fits =
-          c.args.left.behind_fits;
+      behind_fits = c.args.left.behind_fits;
     }
 
 pub returns-clause-same : goal.returns-clause-same
@@ -32,8 +22,5 @@ returns-clause-same c = grind (arith, word_read)
 
 pub returns-clause-less : goal.returns-clause-less
 returns-clause-less c =
-    let front = c.ignored_front-kind in
-    let sizes =
-    rest-sizes MAX_SAFE_INTEGER c.args.left.part.now front.result.1.now c.skip_spaces.result.now front.result.0 c.requires
-    c.args.left.starts front.ensures c.skip_spaces.ensures in
+    let sizes = rest-sizes MAX_SAFE_INTEGER _ _ _ _ c.requires c.args.left.starts c.ignored_front-kind.ensures c.skip_spaces.ensures in
     omega (arith, sizes.0, sizes.1)

@@ -1,5 +1,4 @@
-use Rattle.std.proofs.Common.{List, true, false, subst}
-use Rattle.nodejs_semver.specs.Internal.Sets.{option_accepts}
+use Rattle.std.proofs.Common.{List, false, subst}
 use Rattle.semver_core.specs.Cuts.{Span}
 use Rattle.semver_core.specs.Values.Versions.{VersionValue}
 use Rattle.semver_core.specs.declared.TheConstants.{MAX_SAFE_INTEGER}
@@ -17,15 +16,11 @@ returns-clause-read c = (
 
 pub returns-clause-both : goal.returns-clause-both
 returns-clause-both c = λ v.
-    both_written (accepts c.in_ok-first.first v true) (accepts c.in_ok-second.second v true)
-    (option_accepts c.in_ok-findings_of.field-0.both v true)
-    (c.in_ok-findings_of.ensures.both v) (c.in_ok-first.ensures.set v) (c.in_ok-second.ensures.set v)
+    both_written _ _ _ (c.in_ok-findings_of.ensures.both v) (c.in_ok-first.ensures.set v) (c.in_ok-second.ensures.set v)
 
 pub returns-clause-first_alone : goal.returns-clause-first_alone
 returns-clause-first_alone c = λ v.
-    first_written (accepts c.in_ok-first.first v true) (accepts c.in_ok-second.second v true)
-    (option_accepts c.in_ok-findings_of.field-0.first_alone v true)
-    (c.in_ok-findings_of.ensures.first_alone v) (c.in_ok-first.ensures.set v) (c.in_ok-second.ensures.set v)
+    first_written _ _ _ (c.in_ok-findings_of.ensures.first_alone v) (c.in_ok-first.ensures.set v) (c.in_ok-second.ensures.set v)
 
 pub returns-clause-least : goal.returns-clause-least
 returns-clause-least c = λ list means.

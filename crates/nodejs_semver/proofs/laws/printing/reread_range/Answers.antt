@@ -1,6 +1,7 @@
-use Rattle.std.proofs.Common.{◌∙◌, arith}
+use Rattle.std.proofs.Common.{◌∙◌, arith, refl}
 use Rattle.semver_core.specs.declared.TheConstants.{MAX_SAFE_INTEGER}
-use Rattle.nodejs_semver.proofs.Printing.RereadRange.{Reread, reread_builds, reread_equal, reread_text, reread_read}
+use Rattle.nodejs_semver.proofs.Printing.Ranges.{prints_again, same_back}
+use Rattle.nodejs_semver.proofs.Printing.RereadRange.{Reread, reread, reread_read}
 use Rattle.nodejs_semver.proofs.laws.printing.reread_range.Goals as goal
 
 given : (c : goal.After-drop-text) → Reread MAX_SAFE_INTEGER c.deref.result.now c.args.range.now
@@ -13,13 +14,16 @@ given c = record {
 }
 
 pub returns-in-Ok-clause-equal : goal.returns-in-Ok-clause-equal
-returns-in-Ok-clause-equal c = reread_equal MAX_SAFE_INTEGER c.parse.result c.deref.result.now c.args.range.now (given c) c.parse.ensures.ok
+returns-in-Ok-clause-equal c =
+    reread MAX_SAFE_INTEGER _ c.deref.result.now c.args.range.now _ (given c) (same_back c.args.range.now) c.parse.ensures.ok
 
 pub returns-in-Ok-clause-builds : goal.returns-in-Ok-clause-builds
-returns-in-Ok-clause-builds c = reread_builds MAX_SAFE_INTEGER c.parse.result c.deref.result.now c.args.range.now (given c) c.parse.ensures.ok
+returns-in-Ok-clause-builds c =
+    reread MAX_SAFE_INTEGER _ c.deref.result.now c.args.range.now _ (given c) refl c.parse.ensures.ok
 
 pub returns-in-Ok-clause-text : goal.returns-in-Ok-clause-text
-returns-in-Ok-clause-text c = reread_text MAX_SAFE_INTEGER c.parse.result c.deref.result.now c.args.range.now (given c) c.parse.ensures.ok
+returns-in-Ok-clause-text c =
+    reread MAX_SAFE_INTEGER _ c.deref.result.now c.args.range.now _ (given c) (prints_again c.args.range.now) c.parse.ensures.ok
 
 pub returns-in-Ok-clause-never_refused : goal.returns-in-Ok-clause-never_refused
 returns-in-Ok-clause-never_refused c = reread_read MAX_SAFE_INTEGER c.parse.result c.deref.result.now c.args.range.now (given c) c.parse.ensures.refused

@@ -10,16 +10,12 @@ range_loose-requires c = record {
   some_part = λ blank. cc (
     (blank_text c.args.text.now c.utf8.text).1 blank,
     (common_ranges_are_denoted MAX_SAFE_INTEGER c.args.text.now c.in-Some.fast
-        (if-some
-        (λ range. IsCommonRange MAX_SAFE_INTEGER c.args.text.now range) c.in_ok-fast.fast c.in-Some.fast c.in-Some.is
-        c.in_ok-fast.ensures.some)).2,
+        (if-some (IsCommonRange MAX_SAFE_INTEGER c.args.text.now) _ _ c.in-Some.is c.in_ok-fast.ensures.some)).2,
   );
 }
 
 pub returns-in_ok-loose-in-Some-clause-same : goal.returns-in_ok-loose-in-Some-clause-same
 returns-in_ok-loose-in-Some-clause-same c =
     fast_read MAX_SAFE_INTEGER c.args.text.now c.in-Some.fast c.in_ok-loose-in-Some.loose c.utf8.text
-    (if-some
-    (λ range. IsCommonRange MAX_SAFE_INTEGER c.args.text.now range) c.in_ok-fast.fast c.in-Some.fast c.in-Some.is
-    c.in_ok-fast.ensures.some)
+    (if-some (IsCommonRange MAX_SAFE_INTEGER c.args.text.now) _ _ c.in-Some.is c.in_ok-fast.ensures.some)
     c.in_ok-loose-in-Some.ensures.some c.in_ok-loose-in-Some.ensures.none

@@ -7,33 +7,22 @@ use Rattle.nodejs_semver.proofs.range.RangeOf.remaining.Goals as goal
 pub push_differences-requires : goal.push_differences-requires
 push_differences-requires g c = (
   omega arith,
-  intervals-ordered g.V.Ord.cmp g.V.Versioned.value g.met.V.VersionPoint.ordered
-      c.args.self.now c.args.other.now c.items.result.now c.items-2.result.now
+  intervals-ordered _ _ g.met.V.VersionPoint.ordered _ _ _ _
       c.items.ensures.valid c.items-2.ensures.valid c.items.ensures.value c.items-2.ensures.value,
 )
 
 pub from_intervals-requires : goal.from_intervals-requires
-from_intervals-requires g c = (
-  omega arith,
-  (
-    omega arith,
-    rw (rw c.new-left.ensures.items at c.in_ok-push_differences.ensures.items) (minus-valid g.V.Ord.cmp g.V.Versioned.value
-        g.met.V.VersionPoint.ordered c.args.self.now c.args.other.now c.items.result.now c.items-2.result.now
-        c.items.ensures.valid c.items-2.ensures.valid c.items.ensures.value c.items-2.ensures.value),
-  ),
-)
+from_intervals-requires g c =
+    let valid = minus-valid _ _ g.met.V.VersionPoint.ordered _ _ _ _
+    c.items.ensures.valid c.items-2.ensures.valid c.items.ensures.value c.items-2.ensures.value in
+    (omega arith, (omega arith, rw (rw c.new-left.ensures.items at c.in_ok-push_differences.ensures.items) valid))
 
 pub returns-clause-list : goal.returns-clause-list
 returns-clause-list g c =
-    rw (c.from_intervals.ensures, rw c.new-left.ensures.items at c.in_ok-push_differences.ensures.items) (ap if_any
-    (minus-is g.V.Ord.cmp g.V.Versioned.value g.met.V.VersionPoint.ordered
-    c.args.self.now c.args.other.now c.items.result.now c.items-2.result.now
+    rw (c.from_intervals.ensures, (rw c.new-left.ensures.items at c.in_ok-push_differences.ensures.items)) (ap if_any (minus-is _ _ g.met.V.VersionPoint.ordered _ _ _ _
     c.items.ensures.valid c.items-2.ensures.valid c.items.ensures.value c.items-2.ensures.value))
 
 pub returns-in_err-push_differences-clause-memory : goal.returns-in_err-push_differences-clause-memory
 returns-in_err-push_differences-clause-memory g c =
-    on_err c.from_residual.result
-    (minus-some g.V.Ord.cmp g.V.Versioned.value g.met.V.VersionPoint.ordered
-    c.args.self.now c.args.other.now c.items.result.now c.items-2.result.now
-    c.items.ensures.valid c.items-2.ensures.valid c.items.ensures.value c.items-2.ensures.value
-    c.in_err-push_differences.ensures.memory)
+    on_err c.from_residual.result (minus-some _ _ g.met.V.VersionPoint.ordered _ _ _ _
+    c.items.ensures.valid c.items-2.ensures.valid c.items.ensures.value c.items-2.ensures.value c.in_err-push_differences.ensures.memory)

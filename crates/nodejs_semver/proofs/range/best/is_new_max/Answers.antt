@@ -1,5 +1,4 @@
-use Rattle.std.proofs.Common.{sym, ap, ◌∙◌}
-use Rattle.std.specs.Ordering.{is_le}
+use Rattle.std.proofs.Common.{sym, ap, ◌∙◌, is_le}
 use Rattle.nodejs_semver.proofs.Choice.BestOf.{max_more}
 use Rattle.nodejs_semver.proofs.range.best.is_new_max.Goals as goal
 

@@ -1,5 +1,4 @@
-use Rattle.std.proofs.Common.{sym, ap, ◌∙◌}
-use Rattle.std.specs.Ordering.{is_lt}
+use Rattle.std.proofs.Common.{sym, ap, ◌∙◌, is_lt}
 use Rattle.nodejs_semver.proofs.Choice.BestOf.{min_more}
 use Rattle.nodejs_semver.proofs.range.best.is_new_min.Goals as goal
 

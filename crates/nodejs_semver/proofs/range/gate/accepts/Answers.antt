@@ -5,7 +5,7 @@ use Rattle.semver_core.specs.Cuts.{holds}
 use Rattle.semver_core.specs.Values.Order.{precedence}
 use Rattle.nodejs_semver.specs.Ranges.Gate.{lets_in}
 use Rattle.nodejs_semver.specs.Ranges.View.{span_of}
-use Rattle.nodejs_semver.proofs.Values.{list_any-values}
+use Rattle.nodejs_semver.proofs.Algebra.FlatMaps.{list_any-map}
 use Rattle.nodejs_semver.proofs.range.gate.accepts.Goals as goal
 
 pub returns : goal.returns
@@ -14,4 +14,4 @@ returns g c =
     any_from_yields_List (λ s. holds precedence (span_of g.V.Versioned.value s) v
     && (c.args.include_prerelease || lets_in (span_of g.V.Versioned.value s) v)) _ _ _ c.any.ensures.ran
     (YieldsList-from_slice c.args.intervals.now cc) (λ x b q k. search (rules, tests))
-    ∙ sym (list_any-values _ g.V.Versioned.value c.args.intervals.now)
+    ∙ sym (list_any-map _ (span_of g.V.Versioned.value) c.args.intervals.now)

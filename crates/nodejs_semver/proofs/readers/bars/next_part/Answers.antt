@@ -1,5 +1,4 @@
-use Rattle.std.proofs.Common.{◌∷◌, List, ℕ, sym, ap, ◌∙◌}
-use Rattle.std.specs.Prelude.{Option}
+use Rattle.std.proofs.Common.{◌∷◌, List, ℕ, sym, ap, ◌∙◌, Option}
 use Rattle.semver_core.proofs.Text.Trims.{middle_is_trim}
 use Rattle.semver_core.specs.Internal.Spaces.{trim}
 use Rattle.nodejs_semver.specs.Internal.PartFronts.{later_parts}

@@ -1,8 +1,5 @@
-use Rattle.std.proofs.Common.{◌<◌, Err, List, length, rules}
+use Rattle.std.proofs.Common.{Err, rules}
 use Rattle.std.specs.Prelude.{⊤}
-use Rattle.semver_core.specs.Cuts.{Span}
-use Rattle.semver_core.specs.Failures.{MemoryOnlyIf}
-use Rattle.semver_core.specs.Values.Versions.{VersionValue}
 use Rattle.semver_core.specs.declared.TheConstants.{MAX_SAFE_INTEGER}
 use Rattle.nodejs_semver.specs.Text.Meaning.{Means}
 use Rattle.nodejs_semver.proofs.Dividing.MeaningLaw.{only_several}
@@ -12,9 +9,7 @@ use Rattle.nodejs_semver.proofs.range.parse.RangeRef.parse.Goals as goal
 pub returns-in_err-read_some-clause-memory : goal.returns-in_err-read_some-clause-memory
 returns-in_err-read_some-clause-memory c =
     let e = c.from_residual.ensures in
-    let h : MemoryOnlyIf {A = ⊤} (Err c.in_err-read_some.field-0.0)
-    ((r : List (Span VersionValue)) → Means MAX_SAFE_INTEGER c.args.text.now r → 1 < length r) =
-    only_several {A = ⊤} (Err c.in_err-read_some.field-0.0) (Means MAX_SAFE_INTEGER c.args.text.now)
+    let h = only_several {A = ⊤} (Err c.in_err-read_some.field-0.0) (Means MAX_SAFE_INTEGER c.args.text.now)
     c.in_err-read_some.ensures.memory in
     search rules
 
