@@ -12,10 +12,12 @@ from_intervals-requires g c =
 
 pub returns-clause-list : goal.returns-clause-list
 returns-clause-list g c =
-    rw (c.from_intervals.ensures, (rw c.new-found.ensures.items at c.in_ok-push_all_intersections.ensures.items)) (ap if_any (meets_of-is _ _ g.met.V.VersionPoint.ordered _ _ _ _
+    let items = rw c.new-found.ensures.items at c.in_ok-push_all_intersections.ensures.items in
+    rw (c.from_intervals.ensures, items) (ap if_any (meets_of-is _ _ g.met.V.VersionPoint.ordered _ _ _ _
     c.items.ensures.valid c.items-2.ensures.valid c.items.ensures.value c.items-2.ensures.value))
 
 pub returns-in_err-push_all_intersections-clause-memory : goal.returns-in_err-push_all_intersections-clause-memory
 returns-in_err-push_all_intersections-clause-memory g c =
     on_err c.from_residual.result (meets_of-some _ _ g.met.V.VersionPoint.ordered _ _ _ _
-    c.items.ensures.valid c.items-2.ensures.valid c.items.ensures.value c.items-2.ensures.value c.in_err-push_all_intersections.ensures.memory)
+    c.items.ensures.valid c.items-2.ensures.valid c.items.ensures.value c.items-2.ensures.value
+    c.in_err-push_all_intersections.ensures.memory)

@@ -19,10 +19,12 @@ from_intervals-requires g c =
 
 pub returns-clause-list : goal.returns-clause-list
 returns-clause-list g c =
-    rw (c.from_intervals.ensures, (rw c.new-left.ensures.items at c.in_ok-push_differences.ensures.items)) (ap if_any (minus-is _ _ g.met.V.VersionPoint.ordered _ _ _ _
+    let items = rw c.new-left.ensures.items at c.in_ok-push_differences.ensures.items in
+    rw (c.from_intervals.ensures, items) (ap if_any (minus-is _ _ g.met.V.VersionPoint.ordered _ _ _ _
     c.items.ensures.valid c.items-2.ensures.valid c.items.ensures.value c.items-2.ensures.value))
 
 pub returns-in_err-push_differences-clause-memory : goal.returns-in_err-push_differences-clause-memory
 returns-in_err-push_differences-clause-memory g c =
     on_err c.from_residual.result (minus-some _ _ g.met.V.VersionPoint.ordered _ _ _ _
-    c.items.ensures.valid c.items-2.ensures.valid c.items.ensures.value c.items-2.ensures.value c.in_err-push_differences.ensures.memory)
+    c.items.ensures.valid c.items-2.ensures.valid c.items.ensures.value c.items-2.ensures.value
+    c.in_err-push_differences.ensures.memory)
