@@ -87,7 +87,8 @@ admits-meet : (s t : Span VersionValue) (v : VersionValue)
     → list_any (admits v) (option_to_list (meet precedence s t)) ≡ ((holds precedence s v && holds precedence t v) && (lets_in s
     v || lets_in t v))
 admits-meet s t v =
-    any_interval (admits v) (both s t) ∙ exact _ _ _ _ _ _ (λ h. grind (arith, and_parts, past_below, precedence_total, both, not-true))
+    any_interval (admits v) (both s t)
+    ∙ exact _ _ _ _ _ _ (λ h. grind (arith, and_parts, past_below, precedence_total, both, not-true))
     (sym (option_holds-interval precedence_total (both s t) v) ∙ option_holds-meet precedence_total s t v)
     (lets_in_one s t v) (lets_in-meet s t v)
   where
@@ -127,7 +128,8 @@ one_accepts ss ts v h =
 remainder_admits : (s t : Span VersionValue) (v : VersionValue) → admits v s ≡ true → holds precedence t v ≡ false
     → list_any (admits v) (remainder precedence s t) ≡ true
 remainder_admits s t v h k =
-    remainders_by precedence_total s t (λ r. list_any (admits v) (option_to_list r.0 ++ option_to_list r.1) ≡ true) met
+    remainders_by precedence_total s t (λ r. list_any (admits v) (option_to_list r.0 ++ option_to_list r.1) ≡ true)
+    (λ m. grind (arith, between_parts, precedence_total, list_any-append, and_cases, or_left, below, or_right, above, not-false))
     (λ _. or_left (admits v s) false h)
   where
     at : (is_past precedence (lower_cut s.lower) v ≡ true) × (is_past precedence (upper_cut s.upper) v ≡ false)
@@ -150,10 +152,6 @@ remainder_admits s t v h k =
         let i = past_below precedence_total (upper_cut t.upper) (upper_cut s.upper) v e at.1 in
         let turned = turned_upper precedence_total t.upper (upper_cut s.upper) i in
         rw (i, turned) (grind (arith, at, e, let_in, names_above s.lower t.upper v))
-
-    met : is_interval precedence (both s t) ≡ true → list_any (admits v)
-        (option_to_list (left_below precedence s t) ++ option_to_list (left_above precedence s t)) ≡ true
-    met m = grind (arith, between_parts, precedence_total, list_any-append, and_cases, or_left, below, or_right, above, not-false)
 
 -- what one list accepts and the other does not hold, what is left accepts
 accepts-minus : (ss ts : List (Span VersionValue)) (v : VersionValue) → accepts ss v false ≡ true

@@ -1,6 +1,6 @@
 -- What the intersection and the difference of two lists hold and accept, and that their intervals are those of a range.
-use Rattle.std.proofs.Common.{ap, ap₂, subst, ◌≡◌, ◌≢◌, refl, sym, ◌∙◌, ℕ, ◌+◌, ◌<◌, ◌⊎◌, inl, inr, true, false, ◌&&◌, not}
-use Rattle.std.proofs.Common.{Ordering, List, [], ◌∷◌, length, Option, IsTrue, is_some, arith, IfOk, Result}
+use Rattle.std.proofs.Common.{ap, ap₂, subst, ◌≡◌, ◌≢◌, sym, ◌∙◌, ℕ, ◌+◌, ◌<◌, ◌⊎◌, inl, inr, true, false, ◌&&◌, not}
+use Rattle.std.proofs.Common.{Ordering, List, length, Option, IsTrue, is_some, arith, IfOk, Result}
 use Rattle.nodejs_semver.proofs.Values.{all_intervals-values, meets_of-values, minus-values}
 use Rattle.std.proofs.lemmas.List.{length-map}
 use Rattle.std.proofs.lemmas.Result.{IfOk-weaker}
@@ -68,9 +68,7 @@ any_some : {A : Type 0} (xs : List A) → 0 < length xs → IsTrue (is_some (if_
 any_some xs h = grind arith
 
 several : {A : Type 0} (xs : List A) → 0 < length xs → length xs ≢ 1 → 1 < length xs
-several [] h n = absurd (omega arith)
-several (x ∷ []) h n = absurd (n refl)
-several (x ∷ y ∷ xs) h n = omega arith
+several xs h n = grind arith
 
 -- the spans of a range are intervals
 pub all_intervals : (n : ℕ) (ss : List (Span VersionValue)) → list_all (is_range_span n) ss ≡ true

@@ -50,7 +50,19 @@ lower_named c d v k n m h = grind (arith, past_order, triple_between, named_part
 -- or not below one past which v does not lie
 upper_named : (c d : Cut VersionValue) (v : VersionValue) → cut_names c v ≡ true → below c d ≡ false
     → is_past precedence d v ≡ false → cut_names d v ≡ true
-upper_named c d v n m h = grind (arith, named_parts, in_order, triple_between, tied_back, triple_total, not_past_order, named_from, pre_upto, alike_right)
+upper_named c d v n m h =
+    grind (
+      arith,
+      named_parts,
+      in_order,
+      triple_between,
+      tied_back,
+      triple_total,
+      not_past_order,
+      named_from,
+      pre_upto,
+      alike_right,
+    )
 
 -- one of two bounds names v, and v lies between both: the one that is picked names it
 greater_names : (b c : Bound VersionValue) (v : VersionValue) → is_release v ≡ false → is_past precedence (lower_cut b) v ≡ true

@@ -1,6 +1,6 @@
 -- For proofs. The bounds of what is read are such as a range may have.
 use Rattle.std.proofs.Common.{◌≡◌, ℕ, zero, suc, ◌+◌, List, [], ◌∷◌, length, map, refl, Bool, true, arith}
-use Rattle.std.proofs.lemmas.Bool.{cond_both, and_from}
+use Rattle.std.proofs.lemmas.Bool.{cond_both, and_from, and_parts}
 use Rattle.std.specs.Prelude.{flat_map, filter_map, if◌then◌else◌}
 use Rattle.std.specs.List.{AllByRecursion, list_all}
 use Rattle.std.proofs.lemmas.List.Folds.{list_all-append}
@@ -41,18 +41,16 @@ pick limit t b c f g = cond_both t b c (λ e. is_range_bound limit e ≡ true) (
 lower-bounded : (limit : ℕ) (s : Span VersionValue) (ts : List (Span VersionValue)) → list_all (are_bounds limit) (s ∷ ts) ≡ true → is_range_bound limit (greatest_lower precedence s ts) ≡ true
 lower-bounded limit s [] h = first_so _ _ (first_so (are_bounds limit s) true h)
 lower-bounded limit s (t ∷ rest) h =
-    pick limit _ s.lower (greatest_lower precedence t rest)
-    (first_so _ _ (first_so (are_bounds limit s) (list_all (are_bounds limit) (t ∷ rest)) h))
-    (lower-bounded limit t rest (second_so (are_bounds limit s) (list_all (are_bounds limit) (t ∷ rest)) h))
+    let (first, others) = and_parts (are_bounds limit s) (list_all (are_bounds limit) (t ∷ rest)) h in
+    pick limit _ s.lower (greatest_lower precedence t rest) (first_so _ _ first) (lower-bounded limit t rest others)
 
 upper-bounded : (limit : ℕ) (s : Span VersionValue) (ts : List (Span VersionValue)) → list_all (are_bounds limit) (s ∷ ts) ≡ true → is_range_bound limit (least_upper precedence s ts) ≡ true
 upper-bounded limit s [] h =
     second_so (is_range_bound limit s.lower) (is_range_bound limit s.upper) (first_so (are_bounds limit s) true h)
 upper-bounded limit s (t ∷ rest) h =
-    pick limit _ (least_upper precedence t rest) s.upper
-    (upper-bounded limit t rest (second_so (are_bounds limit s) (list_all (are_bounds limit) (t ∷ rest)) h))
-    (second_so (is_range_bound limit s.lower) (is_range_bound limit s.upper)
-    (first_so (are_bounds limit s) (list_all (are_bounds limit) (t ∷ rest)) h))
+    let (first, others) = and_parts (are_bounds limit s) (list_all (are_bounds limit) (t ∷ rest)) h in
+    pick limit _ (least_upper precedence t rest) s.upper (upper-bounded limit t rest others)
+    (and_parts (is_range_bound limit s.lower) _ first).1
 
 run-bounded : (limit : ℕ) (r : Run VersionValue) → list_all (are_bounds limit) (run_items r) ≡ true → fits precedence r ≡ true → is_range_span limit (interval_of precedence r) ≡ true
 run-bounded limit r h one =

@@ -74,10 +74,6 @@ module _ (limit : ℕ) (q : Partial) (x y : List Id) where
       → Good limit (made (Some M) (Some m) c x y) (Some (record { lower = Before (without_build (version_of (made (Some M) (Some m) c x y))); upper = Before (lowest M (m + 1) 0) }))
   next_minor-good M m c = grind (arith, between-good, above_minor, unbuilt-is, lowest-is)
 
-  next_major-good : (M : ℕ) (b c : Option ℕ)
-      → Good limit (made (Some M) b c x y) (Some (record { lower = Before (without_build (version_of (made (Some M) b c x y))); upper = Before (lowest (M + 1) 0 0) }))
-  next_major-good M b c = grind (arith, between-good, above_major, unbuilt-is, lowest-is)
-
   abbrev Rows : Word → Type 0
   Rows w = (a b c : Option ℕ) → Good limit (made a b c x y) (row limit w a b c (version_of (made a b c x y)))
 
@@ -116,10 +112,8 @@ module _ (limit : ℕ) (q : Partial) (x y : List Id) where
   caret-good (Some (suc M)) (Some m) None = grind (arith, between-good, above_major, release-is, lowest-is)
   caret-good (Some zero) (Some zero) (Some p) = grind (arith, between-good, above_patch, unbuilt-is, lowest-is)
   caret-good (Some zero) (Some (suc m)) (Some p) = next_minor-good 0 (suc m) (Some p)
-  caret-good (Some (suc M)) (Some m) (Some p) = next_major-good (suc M) (Some m) (Some p)
-  caret-good (Some zero) None (Some p) = tt
-  caret-good (Some (suc M)) None (Some p) = tt
-  caret-good None b c = tt
+  caret-good (Some (suc M)) (Some m) (Some p) = grind (arith, between-good, above_major, unbuilt-is, lowest-is)
+  caret-good a b c = tt
 
   compare-good : (c : Comparator) → Rows (compare c q)
   compare-good c = grind (arith, version-is, above-good, equal-good, at_most-good, below-good)

@@ -1,12 +1,10 @@
 -- When the least version of several ranges may need memory: what the search says of the first and of the others, said of all.
-use Rattle.std.proofs.Common.{◌≡◌, refl, subst, Bool, true, false, ◌&&◌, ◌⊎◌, ◌+◌, ◌-◌, ◌<◌, List, [], ◌∷◌, length, get_or, take}
-use Rattle.std.proofs.Common.{drop, arith, Any}
+use Rattle.std.proofs.Common.{◌≡◌, refl, subst, true, ◌⊎◌, ◌+◌, ◌-◌, ◌<◌, List, [], ◌∷◌, length, get_or, take, drop, arith, Any}
 use Rattle.std.proofs.lemmas.Grind.{common_steps}
 use Rattle.std.proofs.lemmas.List.{take_rest}
 use Rattle.semver_core.specs.Cuts.{Span}
 use Rattle.semver_core.specs.Values.Versions.{VersionValue}
 use Rattle.nodejs_semver.specs.Internal.Candidates.{all_accept, BeginsAfterPre, Finds, MayAllocate}
-use Rattle.nodejs_semver.specs.Ranges.Gate.{accepts}
 
 Any-here : {X : Type 0} (P : X → Type 0) (x : X) (xs : List X) → P x → Any P (x ∷ xs)
 Any-here P x xs h = (0, x, omega arith, refl, h)
@@ -17,10 +15,7 @@ Any-there P x xs h = (h.0 + 1, h.1, grind (arith, h.2), grind (arith, common_ste
 -- a version that the first list and each of the others accept is one that all accept
 all_of : (ks : List (Span VersionValue)) (kss : List (List (Span VersionValue))) → Finds ks kss []
     → (v : VersionValue) × (all_accept (ks ∷ kss) v ≡ true)
-all_of ks kss h = (h.0, same (all_accept kss h.0) (accepts ks h.0 false) h.1)
-  where
-    same : (a b : Bool) → (a && (b && true)) ≡ true → (b && a) ≡ true
-    same a b e = grind arith
+all_of ks kss h = (h.0, grind (arith, h.1))
 
 one_of : (ks : List (Span VersionValue)) (kss : List (List (Span VersionValue))) → MayAllocate ks kss []
     → ((v : VersionValue) × (all_accept (ks ∷ kss) v ≡ true)) ⊎ Any BeginsAfterPre (ks ∷ kss)

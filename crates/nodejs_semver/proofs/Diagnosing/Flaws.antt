@@ -34,13 +34,15 @@ dots : ℕ → List ℕ
 dots zero = []
 dots (suc k) = 46 ∷ 48 ∷ dots k
 
-one : (limit c : ℕ) → 9 ≤ limit → is_ascii_digit c ≡ true → IsNumber limit (c ∷ []) (digits_value 10 (c ∷ []))
-one limit c nine h = grind (arith, nat_tests)
-
 numeral : (limit c : ℕ) (rest : List ℕ) → 9 ≤ limit → is_ascii_digit c ≡ true → begins is_ascii_digit rest ≡ false
     → Numeral limit (c ∷ rest) rest
 numeral limit c rest nine h e =
-    record { digits = c ∷ []; n = _; divided = refl; is = record { number = one limit c nine h; ended = e } }
+    record {
+      digits = c ∷ [];
+      n = digits_value 10 (c ∷ []);
+      divided = refl;
+      is = record { number = grind (arith, nat_tests); ended = e };
+    }
 
 zeros : (limit k c : ℕ) → 9 ≤ limit → is_ascii_digit c ≡ true → Numbers limit k (c ∷ dots k) []
 unfolding dots

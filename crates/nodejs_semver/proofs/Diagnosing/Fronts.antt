@@ -1,6 +1,6 @@
 -- Which texts have a version, where so much of them was read.
-use Rattle.std.proofs.Common.{◌≡◌, ◌||◌, ◌<◌, ℕ, zero, suc, List, [], ◌∷◌, ◌++◌, length, drop, refl, sym, ap, ◌∙◌}
-use Rattle.std.proofs.Common.{subst, arith, true, Bool, eqb, append_assoc, encode_utf8_all}
+use Rattle.std.proofs.Common.{◌≡◌, ◌<◌, ℕ, zero, suc, List, [], ◌∷◌, ◌++◌, length, drop, refl, sym, ap, ◌∙◌}
+use Rattle.std.proofs.Common.{subst, arith, true, Bool, append_assoc, encode_utf8_all}
 use Rattle.std.specs.Char.{encode_utf8, is_ascii_digit}
 use Rattle.std.specs.List.{list_all}
 use Rattle.std.proofs.lemmas.Bool.Decides.{nat_tests}
@@ -54,12 +54,9 @@ pub record Place (limit : ℕ) (Starts : List ℕ → Type 0) (front : List ℕ)
 
 -- ---- the first bytes of a character
 
-some-bytes : (c : ℕ) → 0 < length (encode_utf8 c)
-some-bytes c = omega (arith, length-encode c, (len_utf8_bounds c).0)
-
 alike : {A : Type 0} (f : List ℕ → A) → ((b : ℕ) (x y : List ℕ) → f (b ∷ x) ≡ f (b ∷ y)) → (c : ℕ) (rest other : List ℕ)
     → f (encode_utf8 c ++ rest) ≡ f (encode_utf8 c ++ other)
-alike f first c rest other = go (encode_utf8 c) (some-bytes c)
+alike f first c rest other = go (encode_utf8 c) (omega (arith, length-encode c, (len_utf8_bounds c).0))
   where
     go : (bytes : List ℕ) → 0 < length bytes → f (bytes ++ rest) ≡ f (bytes ++ other)
     go [] h = absurd (omega arith)
@@ -77,17 +74,11 @@ mark-alike = alike mark_len (λ b x y. refl)
 white-unmarked : (c : ℕ) (rest : List ℕ) → is_whitespace c ≡ true → mark_len (encode_utf8 c ++ rest) ≡ 0
 white-unmarked c rest h = go (encode_utf8 c ++ rest) refl
   where
-    low : (b : ℕ) → (eqb b 118 || eqb b 86) ≡ true → b < 128
-    low b m = grind (arith, nat_tests)
-
-    clash : (b : ℕ) → is_whitespace b ≡ true → (eqb b 118 || eqb b 86) ≡ true → ⊥
-    clash b w m = grind (arith, nat_tests)
-
     go : (t : List ℕ) → t ≡ encode_utf8 c ++ rest → mark_len t ≡ 0
     go [] e = refl
     go (b ∷ t) e = no_mark_at b t (λ m.
-        let same : c ≡ b = char_from_byte (b ∷ t) rest c e (low b m) (omega arith) in
-        clash c h (rw same m))
+        let same : c ≡ b = char_from_byte (b ∷ t) rest c e (grind (arith, nat_tests)) (omega arith) in
+        grind (arith, nat_tests, same))
 
 pub digit_starts : (text : List ℕ) → begins is_ascii_digit text ≡ true → (space_len text ≡ 0) × (mark_len text ≡ 0)
 unfolding space_len

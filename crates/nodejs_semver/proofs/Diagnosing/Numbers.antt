@@ -1,6 +1,6 @@
 -- Numbers and lists of identifiers, read up to the place behind them.
 use Rattle.std.proofs.Common.{◌≡◌, ◌<◌, ◌≤◌, ◌+◌, ◌-◌, ℕ, List, [], ◌∷◌, ◌++◌, length, drop, take, refl, sym, ap, ◌∙◌, arith}
-use Rattle.std.proofs.Common.{inl, inr, true, false, Some, suc, length-append, length-drop, Option}
+use Rattle.std.proofs.Common.{inl, inr, true, false, Some, suc, length-append, length-drop}
 use Rattle.std.specs.Char.{is_ascii_digit}
 use Rattle.std.specs.List.{list_all, prefix_len}
 use Rattle.std.specs.Str.Parse.{digits_value}
@@ -76,10 +76,7 @@ number-is limit text at end inside s =
       length-drop at text,
       length-drop end text,
     ) in
-    found.0 ∙ ap (λ (m : ℕ). found_at s.n m) place
-  where
-    found_at : ℕ → ℕ → Option (ℕ × ℕ)
-    found_at n m = Some (n, m)
+    rw place at found.0
 
 -- three of them
 pub triple_found : (limit : ℕ) (text : List ℕ) (at a b end : ℕ) → at ≤ length text → IsNumberAt limit text at a

@@ -27,13 +27,6 @@ module _ {V : Type 0} (R : V → V → Ordering) where
   joined-stops i j is h = ap (λ (q : Option (Span V)). elim q [ Some m ↦ joined_from R m is | None ↦ i ∷ joined_from R j is ]) h
 
 module _ {V : Type 0} {R : V → V → Ordering} (o : IsTotalOrder R) where
-  -- a run with one word more is met by that word
-  meets-fit : (r : Run V) (s : Span V) → fits R (longer r s) ≡ true → meet R (interval_of R r) s ≡ Some (interval_of R (longer r s))
-  meets-fit r s h = grind (arith, longer-is)
-
-  meets-stop : (r : Run V) (s : Span V) → fits R (longer r s) ≡ false → meet R (interval_of R r) s ≡ None
-  meets-stop r s h = grind (arith, longer-is)
-
   runs_from-joined : (r : Run V) (is : List (Span V)) → map (interval_of R) (runs_from R r is) ≡ joined_from R (interval_of R r) is
   unfolding runs_from joined_from
   runs_from-joined r [] = refl
@@ -41,11 +34,12 @@ module _ {V : Type 0} {R : V → V → Ordering} (o : IsTotalOrder R) where
       elim (cases_Bool (fits R (longer r i))) [
         | inl goes ↦
             ap (λ (rs : List (Run V)). map (interval_of R) rs) (runs-goes R r i is goes)
-            ∙ (runs_from-joined (longer r i) is ∙ sym (joined-goes R (interval_of R r) i (interval_of R (longer r i)) is (meets-fit r i goes)))
+            ∙ (runs_from-joined (longer r i) is ∙ sym (joined-goes R (interval_of R r) i (interval_of R (longer r i)) is
+            (grind (arith, longer-is))))
         | inr stops ↦
             ap (λ (rs : List (Run V)). map (interval_of R) rs) (runs-stops R r i is stops)
             ∙ (ap (λ (js : List (Span V)). interval_of R r ∷ js) (runs_from-joined (record { first = i; others = [] }) is)
-            ∙ sym (joined-stops R (interval_of R r) i is (meets-stop r i stops)))
+            ∙ sym (joined-stops R (interval_of R r) i is (grind (arith, longer-is))))
       ]
 
   -- what the reader of a part computes is the intervals of its runs

@@ -105,8 +105,4 @@ pub longer_part : (limit : ℕ) (part rest : List ℕ) (old found : List (Span V
 longer_part limit part rest old found same whole some starts long =
     let next = next_at limit rest in
     let step = part-step limit rest next.1 next.0 some starts refl in
-    rw (← whole, step, ← same) (at next.0 (part_bounds limit next.1) long)
-  where
-    at : (o : Option (Span VersionValue)) (bounds : List (Span VersionValue)) → 1 < length (found ++ option_to_list o)
-        → 1 < length (found ++ joined precedence None (cons_option o bounds))
-    at o bounds more = grind (arith, length-append, joined-some)
+    rw (← whole, step, ← same) (grind (arith, length-append, joined-some))

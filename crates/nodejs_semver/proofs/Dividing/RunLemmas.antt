@@ -1,5 +1,5 @@
 -- Runs: one word more, and what a run holds.
-use Rattle.std.proofs.Common.{◌≡◌, List, [], ◌∷◌, ◌++◌, refl, sym, ap, ap₂, ◌∙◌, true, false, Bool, arith, Ordering, ◌&&◌, not}
+use Rattle.std.proofs.Common.{◌≡◌, List, [], ◌∷◌, ◌++◌, refl, sym, ap₂, ◌∙◌, true, false, Bool, arith, Ordering, ◌&&◌, not}
 use Rattle.std.proofs.Common.{if◌then◌else◌, is_gt}
 use Rattle.std.specs.Cmp.{IsTotalOrder, upto}
 use Rattle.std.proofs.Math.Bool.{and-true, not-not}
@@ -63,10 +63,7 @@ module _ {V : Type 0} {R : V → V → Ordering} (o : IsTotalOrder R) where
 
   all-both : (p q : Span V → Bool) (ss : List (Span V)) → (list_all p ss && list_all q ss) ≡ list_all (λ s. p s && q s) ss
   all-both p q [] = refl
-  all-both p q (s ∷ ss) = swap (p s) (list_all p ss) (q s) (list_all q ss) ∙ ap (λ (b : Bool). (p s && q s) && b) (all-both p q ss)
-    where
-      swap : (a b c d : Bool) → ((a && b) && (c && d)) ≡ ((a && c) && (b && d))
-      swap a b c d = grind arith
+  all-both p q (s ∷ ss) = grind (arith, all-both p q ss)
 
   -- the interval of a run holds what every word of the run writes
   pub run-holds : (v : V) (r : Run V) → holds R (interval_of R r) v ≡ run_writes R v r

@@ -17,9 +17,6 @@ use Rattle.nodejs_semver.proofs.Algebra.FlatMaps.{all_weaker}
 abbrev pub is_part_byte : ℕ → Bool
 is_part_byte b = is_solid b || b == 32
 
-solid-part : (b : ℕ) → is_solid b ≡ true → is_part_byte b ≡ true
-solid-part b h = rw h refl
-
 -- a text of such bytes that neither begins nor ends with a space
 pub record Compact (text : List ℕ) : Type 0 where
   pub front : begins is_solid text ≡ true
@@ -69,7 +66,7 @@ pub compact-partial : (limit : ℕ) (x : List ℕ) (p : Partial) → AreComponen
 compact-partial limit x p h = grind (arith, components-solid, components-begin, all_weaker, all-end)
 
 pub compact-signed : (b : ℕ) (text : List ℕ) → is_solid b ≡ true → Compact text → Compact (b ∷ text)
-compact-signed b text h c = compact-join (b ∷ []) text h (and_from (is_part_byte b) true (solid-part b h) refl) c.each c.end
+compact-signed b text h c = compact-join (b ∷ []) text h (and_from (is_part_byte b) true (rw h refl) refl) c.each c.end
 
 pub compact-compared : (c : Comparator) (sign text : List ℕ) → IsSign c sign → Compact text → Compact (sign ++ text)
 compact-compared c sign text h k = grind arith

@@ -49,9 +49,7 @@ end-kept : (text gap : List ℕ) → IsGap gap → list_all is_part_byte text �
     → drop_end_spaces (text ++ gap) ≡ text
 end-kept [] gap g h e = cc e
 end-kept (b ∷ []) gap g h e = rw (keep_byte b gap (left-over (b ∷ []) gap h e), gap-gone gap g) refl
-end-kept (b ∷ c ∷ text) gap g h e =
-    rw (keep_byte b ((c ∷ text) ++ gap) (left-over (b ∷ c ∷ text) gap h e))
-    (ap (λ (t : List ℕ). b ∷ t) (end-kept (c ∷ text) gap g (and_parts (is_part_byte b) (list_all is_part_byte (c ∷ text)) h).1 e))
+end-kept (b ∷ c ∷ text) gap g h e = grind (arith, keep_byte, left-over (b ∷ c ∷ text), end-kept (c ∷ text) gap g)
 
 front-kept : (text gap : List ℕ) → begins is_solid text ≡ true → drop_spaces (text ++ gap) ≡ text ++ gap
 front-kept text gap h = grind (arith, solid-kept)
@@ -65,9 +63,6 @@ compact-trim before text after g k c =
     rw (gap-passed before (text ++ after) g, front-kept text after c.front) (end-kept text after k c.each c.end)
 
 -- ---- cutting at bars
-
-gap-bytes : (gap : List ℕ) → IsGap gap → list_all is_part_byte gap ≡ true
-gap-bytes gap h = grind arith
 
 no-bar : (b : ℕ) → is_part_byte b ≡ true → is_bar b ≡ false
 no-bar b h = grind (arith, nat_tests)
@@ -107,7 +102,7 @@ denoted : (limit : ℕ) (text : List ℕ) (list : List (Span VersionValue)) (gap
     → Denoted limit (cut_bars false (gap ++ text)) list
 denoted limit text list gap g (one_tidy part s tidy) =
     let trimmed : trim (gap ++ part) ≡ part = rw append-nil at (compact-trim gap part [] g (inl refl) tidy.compact) in
-    rw (cut-last (gap ++ part) (all-join is_part_byte gap part (gap-bytes gap g) tidy.compact.each))
+    rw (cut-last (gap ++ part) (all-join is_part_byte gap part (grind arith) tidy.compact.each))
     (denoted-on limit (gap ++ part) part [] s [] trimmed tidy refl)
 denoted limit text list gap g (more_tidy part before after rest s others tidy b a more) =
     let piece = gap ++ (part ++ before) in

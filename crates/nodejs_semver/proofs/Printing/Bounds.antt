@@ -37,11 +37,6 @@ bound below v = record { lower = Unbounded; upper = Before v }
 bound at_most v = record { lower = Unbounded; upper = After v }
 bound equal v = record { lower = Before v; upper = After v }
 
-alone : (limit : ℕ) (v : VersionValue) → limit < 2 ^ 64 → IsReadable limit v
-    → Tidy limit (version_text v) (record { lower = Before v; upper = After v })
-unfolding table
-alone limit v small h = plain-tidy limit (version_text v) (whole v) _ (components_are limit v small h) refl
-
 one : (limit : ℕ) (c : Comparator) (sign : List ℕ) (v : VersionValue) → IsSign c sign
     → table limit (compare c (whole v)) ≡ Some (bound c v) → limit < 2 ^ 64 → IsReadable limit v
     → Tidy limit (sign ++ version_text v) (bound c v)
@@ -68,7 +63,7 @@ bounds_tidy limit (Before v) Unbounded small p b h k = one limit at_least (62 �
 bounds_tidy limit (Before v) (Before w) small p b h k =
     two limit at_least below (62 ∷ 61 ∷ []) (60 ∷ []) v w _ at_least_sign below_sign refl refl small h k (rw p refl)
 bounds_tidy limit (Before v) (After w) small p b h k = elim (cases_Bool (version_eq v w)) [
-  | inl same ↦ rw same (alone limit v small h)
+  | inl same ↦ rw same (plain-tidy limit (version_text v) (whole v) _ (components_are limit v small h) refl)
   | inr other ↦ rw other
       (two limit at_least at_most (62 ∷ 61 ∷ []) (60 ∷ 61 ∷ []) v w _ at_least_sign at_most_sign refl refl small h k (rw p refl))
 ]

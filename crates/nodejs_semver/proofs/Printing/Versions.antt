@@ -1,8 +1,5 @@
 -- For proofs. A printed version is the components of a partial.
-use Rattle.std.proofs.Common.{◌≡◌, ◌<◌, ◌≤◌, ◌^◌, ℕ, false, List, [], ◌∷◌, ◌++◌, arith, append-nil, Some, decimal}
-use Rattle.std.specs.Char.{is_ascii_digit}
-use Rattle.semver_core.specs.Text.Characters.{begins}
-use Rattle.semver_core.specs.Text.Identifiers.{Id}
+use Rattle.std.proofs.Common.{◌<◌, ◌≤◌, ◌^◌, ℕ, [], ◌∷◌, ◌++◌, arith, append-nil, Some, decimal}
 use Rattle.semver_core.specs.Text.Numbers.{IsNumber}
 use Rattle.semver_core.specs.Text.VersionText.{IsPreRelease}
 use Rattle.semver_core.specs.Internal.Readable.{IsReadable}
@@ -19,9 +16,6 @@ whole v = record { major = Some v.major; minor = Some v.minor; patch = Some v.pa
 number_is : (limit n : ℕ) → limit < 2 ^ 64 → n ≤ limit → IsNumber limit (decimal n) n
 number_is limit n fits small = grind (arith, decimal_some, decimal_digits, decimal_value)
 
-no_digit : (ids builds : List Id) → begins is_ascii_digit (marked_list (45 ∷ []) ids ++ marked_list (43 ∷ []) builds) ≡ false
-no_digit ids builds = grind arith
-
 pub components_are : (limit : ℕ) (v : VersionValue) → limit < 2 ^ 64 → IsReadable limit v
     → AreComponents limit (version_text v) (whole v)
 components_are limit v fits h =
@@ -32,4 +26,4 @@ components_are limit v fits h =
     (number (decimal v.major) v.major (number_is limit v.major fits h.major))
     (number (decimal v.minor) v.minor (number_is limit v.minor fits h.minor))
     (number (decimal v.patch) v.patch (number_is limit v.patch fits h.patch))
-    (quiet-before (decimal v.patch) (pre ++ build) (no_digit v.pre_release v.build)) pre_is (build_back v.build h.build)
+    (quiet-before (decimal v.patch) (pre ++ build) (grind arith)) pre_is (build_back v.build h.build)
