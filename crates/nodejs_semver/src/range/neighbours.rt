@@ -1,9 +1,11 @@
 // Versions beside another one.
 
-ghost use Rattle.std.specs.Prelude.{◌≡◌, ◌+◌, ◌-◌, ◌<◌, ◌^◌, [], ◌∷◌, IfOk, IsOk, IsTrue};
+ghost use Rattle.std.specs.Prelude.{◌≡◌, ◌+◌, ◌-◌, ◌<◌, ◌^◌, [], ◌∷◌, IfOk, IsOk, IsTrue, Some};
 ghost use Rattle.nodejs_semver.specs.Internal.Candidates as spec;
+ghost use Rattle.nodejs_semver.specs.Ranges.Least as stated;
 ghost use Rattle.semver_core.specs.Text.Identifiers.{Numeric};
 ghost use Rattle.semver_core.specs.Values.Views.{ids_view, parts_value};
+ghost use Rattle.semver_core.specs.declared.cuts.bound.Bound.TheVariants.{After};
 
 use semver_core::{Identifier, Version, VersionParts};
 use std::alloc::{AllocError, Global};
@@ -45,6 +47,20 @@ pub(crate) fn pre_after(alloc: Global, version: &Version) -> Result<Version, All
     let mut pre_release = Identifier::copy_list(alloc, version.pre_release())?;
     pre_release.push(Identifier::Numeric(0))?;
     with_pre_release(alloc, version, pre_release)
+}
+
+// The first version after this one, without a build: the next patch of a release, and a pre-release
+// with one more identifier.
+pub(crate) fn following(alloc: Global, version: &Version) -> Result<Version, AllocError>
+    requires { version.now.patch < 2 ^ 64 - 1 }
+    ensures { IfOk result (λ next. stated.begins_with (After version.now)
+        ≡ Some (record next { build = version.now.build })) }
+{
+    if version.is_release() {
+        Ok(patch_after(version))
+    } else {
+        pre_after(alloc, version)
+    }
 }
 
 // The version without its build.
