@@ -468,34 +468,6 @@ impl<'a> Search<'a> {
         }
         Ok(())
     }
-
-    // The best of all candidates.
-    fn run(
-        alloc: Global,
-        kept: &'a [Interval<Version>],
-        also: &'a [Range],
-        removed: &'a [Interval<Version>],
-    ) -> Result<Option<Version>, AllocError>
-        requires kept { All spec.IsRaisable kept.now }
-        requires removed { All spec.IsRaisable removed.now }
-        ensures best { IfOk result (λ r.
-            r ≡ spec.least_of (spec.among kept.now also.now removed.now)
-            (spec.candidates (kept.now ∷ also.now) removed.now)) }
-        ensures memory { OnErr result (spec.MayAllocate kept.now also.now removed.now) }
-    {
-        let best = None;
-        let mut search = Search {
-            kept,
-            also,
-            removed,
-            best,
-        };
-        search.consider(Version::from((0u64, 0, 0)));
-        search.consider_list(alloc, kept)?;
-        search.consider_also(alloc)?;
-        search.consider_removed(alloc)?;
-        Ok(search.best)
-    }
 }
 
 // Whether each of the ranges accepts the version.
@@ -520,7 +492,18 @@ fn least_among(
     ensures build { IfOk result (λ r. IfSome r (λ v. v.build ≡ [])) }
     ensures memory { OnErr result (spec.MayAllocate kept.now also.now removed.now) }
 {
-    Ok(Search::run(alloc, kept, also, removed)?)
+    let best = None;
+    let mut search = Search {
+        kept,
+        also,
+        removed,
+        best,
+    };
+    search.consider(Version::from((0u64, 0, 0)));
+    search.consider_list(alloc, kept)?;
+    search.consider_also(alloc)?;
+    search.consider_removed(alloc)?;
+    Ok(search.best)
 }
 
 // The version with the build of the bound, where an interval above the bound begins with it.
