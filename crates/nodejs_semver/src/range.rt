@@ -12,7 +12,6 @@ mod best;
 mod gate;
 mod least;
 mod least_held;
-mod least_of_all;
 mod lists;
 mod neighbours;
 mod outside;

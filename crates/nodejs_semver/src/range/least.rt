@@ -14,19 +14,17 @@ ghost use Rattle.nodejs_semver.specs.Ranges.Least as stated;
 ghost use Rattle.nodejs_semver.specs.Ranges.View.{TakesMemory};
 ghost use Rattle.semver_core.specs.Internal.Sides.{Near, Far};
 ghost use Rattle.semver_core.specs.Cuts.{Beside, holds};
-ghost use Rattle.semver_core.specs.Lists.{is_empty};
 ghost use Rattle.semver_core.specs.Values.Order.{precedence};
 ghost use Rattle.semver_core.specs.Values.Versions.{VersionValue, is_release};
-ghost use Rattle.std.specs.List.{Any, flat_map, list_any};
+ghost use Rattle.std.specs.List.{Any, flat_map, list_all, list_any};
 ghost use Rattle.std.specs.Option.{option_copied};
 ghost use Rattle.semver_core.specs.declared.cuts.bound.Bound.TheVariants.{After};
-ghost use Rattle.std.specs.Prelude.{All, IfOk, IfSome, OnErr, OnOk, Some, [], false, true};
-ghost use Rattle.std.specs.Prelude.{find, fold};
+ghost use Rattle.std.specs.Prelude.{All, IfOk, IfSome, OnErr, OnOk, [], false, find, fold, true};
 ghost use Rattle.std.specs.Prelude.{◌&&◌, ◌-◌, ◌<◌, ◌≡◌, ◌^◌, ◌∷◌, ◌⊎◌};
 
 use crate::range::gate::{accepts, accepts_one};
 use crate::range::neighbours::{
-    bare, bare_release, first_pre, is_first_pre, patch_after, pre_after, with_build,
+    bare, bare_release, first_pre, following, is_first_pre, patch_after, pre_after, with_build,
 };
 use crate::{Range, RangeRef};
 use semver_core::cuts::{Bound, Interval};
@@ -62,7 +60,14 @@ impl Range {
             ⊎ Any (λ s. (v : VersionValue) × (s.lower ≡ After v) × (is_release v ≡ false))
             self.now) }
     {
-        least_accepted(alloc, self.intervals())
+        let intervals = self.intervals();
+        match least_among(alloc, intervals, &[], &[])? {
+            None => Ok(None),
+            Some(version) => {
+                let built = with_least_build(alloc, version, intervals)?;
+                Ok(Some(built))
+            }
+        }
     }
 
     /// The smallest version that this range accepts by `satisfies` and the other does not, without
@@ -94,6 +99,41 @@ impl Range {
             other.now) }
     {
         least_among(alloc, self.intervals(), &[], other.intervals())
+    }
+
+    /// The smallest version that each of the ranges accepts by `satisfies`, without a build.
+    /// Returns `None` exactly where no version is accepted by all. Of no ranges it is 0.0.0-0, the
+    /// smallest version.
+    ///
+    /// Fails only if allocation fails, which happens only where a version is accepted by all, or
+    /// where one of the ranges has a lower bound `>v` of a pre-release v: then v with one more
+    /// identifier is made before it is known to be accepted.
+    ///
+    /// It is not the smallest version of the intersection: of `>=1.2.3-a` and `>=1.0.0` it is
+    /// 1.2.3, while their intersection accepts 1.2.3-a, which the second range does not accept.
+    ///
+    /// Time grows at most with the square of the number of intervals of all ranges.
+    ///
+    /// ```rust
+    /// let ranges = [Range::parse(alloc, ">=1.2.3-a")?, Range::parse(alloc, ">=1.0.0")?];
+    /// let least = Range::least_of_all(alloc, &ranges)?;
+    /// assert_eq!(rt; least, Some(Version::from((1u64, 2, 3))));
+    /// ```
+    #[tactic(auto, using(crate::proofs::Choice::Raised::raisable))]
+    pub fn least_of_all(alloc: Global, ranges: &[Range]) -> Result<Option<Version>, AllocError>
+        ensures least { IfOk result (λ r. stated.IsLeastOf
+            (λ v. list_all (λ range. accepts range v false) ranges.now) r) }
+        ensures build { IfOk result (λ r. IfSome r (λ v. v.build ≡ [])) }
+        ensures memory { OnErr result
+            (((v : VersionValue) × (list_all (λ range. accepts range v false) ranges.now ≡ true))
+            ⊎ Any (λ range. Any
+            (λ s. (v : VersionValue) × (s.lower ≡ After v) × (is_release v ≡ false)) range)
+            ranges.now) }
+    {
+        match ranges {
+            [] => Ok(Some(Version::with_pre(alloc, 0, 0, 0, 0)?)),
+            [first, others @ ..] => Ok(least_among(alloc, first.intervals(), others, &[])?),
+        }
     }
 }
 
@@ -428,34 +468,6 @@ impl<'a> Search<'a> {
         }
         Ok(())
     }
-
-    // The best of all candidates.
-    fn run(
-        alloc: Global,
-        kept: &'a [Interval<Version>],
-        also: &'a [Range],
-        removed: &'a [Interval<Version>],
-    ) -> Result<Option<Version>, AllocError>
-        requires kept { All spec.IsRaisable kept.now }
-        requires removed { All spec.IsRaisable removed.now }
-        ensures best { IfOk result (λ r.
-            r ≡ spec.least_of (spec.among kept.now also.now removed.now)
-            (spec.candidates (kept.now ∷ also.now) removed.now)) }
-        ensures memory { OnErr result (spec.MayAllocate kept.now also.now removed.now) }
-    {
-        let best = None;
-        let mut search = Search {
-            kept,
-            also,
-            removed,
-            best,
-        };
-        search.consider(Version::from((0u64, 0, 0)));
-        search.consider_list(alloc, kept)?;
-        search.consider_also(alloc)?;
-        search.consider_removed(alloc)?;
-        Ok(search.best)
-    }
 }
 
 // Whether each of the ranges accepts the version.
@@ -467,7 +479,7 @@ fn satisfies_all(ranges: &[Range], version: &Version) -> bool
 
 // The least version that the first list and each range accept and the last list does not, without a
 // build.
-pub(crate) fn least_among(
+fn least_among(
     alloc: Global,
     kept: &[Interval<Version>],
     also: &[Range],
@@ -480,21 +492,18 @@ pub(crate) fn least_among(
     ensures build { IfOk result (λ r. IfSome r (λ v. v.build ≡ [])) }
     ensures memory { OnErr result (spec.MayAllocate kept.now also.now removed.now) }
 {
-    Ok(Search::run(alloc, kept, also, removed)?)
-}
-
-// The first version after this one, without a build: the next patch of a release, and a pre-release
-// with one more identifier.
-fn following(alloc: Global, version: &Version) -> Result<Version, AllocError>
-    requires { version.now.patch < 2 ^ 64 - 1 }
-    ensures { IfOk result (λ next. stated.begins_with (After version.now)
-        ≡ Some (record next { build = version.now.build })) }
-{
-    if version.is_release() {
-        Ok(patch_after(version))
-    } else {
-        pre_after(alloc, version)
-    }
+    let best = None;
+    let mut search = Search {
+        kept,
+        also,
+        removed,
+        best,
+    };
+    search.consider(Version::from((0u64, 0, 0)));
+    search.consider_list(alloc, kept)?;
+    search.consider_also(alloc)?;
+    search.consider_removed(alloc)?;
+    Ok(search.best)
 }
 
 // The version with the build of the bound, where an interval above the bound begins with it.
@@ -570,26 +579,5 @@ fn with_least_build(
     match first_accepting(intervals, &version) {
         Some(interval) => with_build_by(alloc, version, interval.lower()),
         None => Ok(version),
-    }
-}
-
-// The least version that the list accepts.
-fn least_accepted(
-    alloc: Global,
-    intervals: &[Interval<Version>],
-) -> Result<Option<Version>, AllocError>
-    requires { All spec.IsRaisable intervals.now }
-    ensures least { IfOk result (λ r. stated.IsLeastOf (λ v. accepts intervals.now v false) r) }
-    ensures build { IfOk result (λ r.
-        IfSome r (λ v. v.build ≡ stated.least_build intervals.now v)) }
-    ensures memory { OnErr result (((v : VersionValue) × (accepts intervals.now v false ≡ true))
-        ⊎ spec.BeginsAfterPre intervals.now) }
-{
-    match least_among(alloc, intervals, &[], &[])? {
-        None => Ok(None),
-        Some(version) => {
-            let built = with_least_build(alloc, version, intervals)?;
-            Ok(Some(built))
-        }
     }
 }

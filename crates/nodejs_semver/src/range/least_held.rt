@@ -7,7 +7,7 @@ ghost use Rattle.nodejs_semver.specs.Ranges.View.{TakesMemory};
 ghost use Rattle.semver_core.specs.Values.Versions.{VersionValue, is_release};
 ghost use Rattle.semver_core.specs.declared.cuts.bound.Bound.TheVariants.{After};
 ghost use Rattle.std.specs.List.{Any};
-ghost use Rattle.std.specs.Prelude.{◌≡◌, ◌&&◌, ◌-◌, ◌<◌, ◌^◌, ◌⊎◌, []};
+ghost use Rattle.std.specs.Prelude.{◌≡◌, ◌&&◌, ◌⊎◌, []};
 ghost use Rattle.std.specs.Prelude.{IfOk, IfSome, OnErr, OnOk, false, true};
 
 use crate::range::neighbours::{bare, pre_after};
@@ -115,21 +115,12 @@ fn consider_past(
                 *best = Some(found);
             }
         }
-        Bound::After(version) => consider(range, best, first_after(alloc, version)?),
+        Bound::After(version) if version.is_release() => {
+            let (major, minor, patch) = (version.major(), version.minor(), version.patch());
+            let first = Version::with_pre(alloc, major, minor, patch + 1, 0)?;
+            consider(range, best, first);
+        }
+        Bound::After(version) => consider(range, best, pre_after(alloc, version)?),
     }
     Ok(())
-}
-
-// The first version after this one, pre-releases included.
-fn first_after(alloc: Global, version: &Version) -> Result<Version, AllocError>
-    requires { version.now.patch < 2 ^ 64 - 1 }
-    ensures value { IfOk result (λ v. v ≡ spec.first_past (After version.now)) }
-    ensures memory { OnErr result (is_release version.now ≡ false) }
-{
-    if version.is_release() {
-        let (major, minor, patch) = (version.major(), version.minor(), version.patch());
-        Ok(Version::with_pre(alloc, major, minor, patch + 1, 0)?)
-    } else {
-        Ok(pre_after(alloc, version)?)
-    }
 }

@@ -1,11 +1,13 @@
 // Versions beside another one.
 
-ghost use Rattle.std.specs.Prelude.{◌≡◌, ◌+◌, ◌-◌, ◌<◌, ◌^◌, [], ◌∷◌, IfOk, IsOk, IsTrue};
+ghost use Rattle.std.specs.Prelude.{◌≡◌, ◌+◌, ◌-◌, ◌<◌, ◌^◌, [], ◌∷◌, IfOk, IsOk, IsTrue, Some};
 ghost use Rattle.nodejs_semver.specs.Internal.Candidates as spec;
+ghost use Rattle.nodejs_semver.specs.Ranges.Least as stated;
 ghost use Rattle.semver_core.specs.Text.Identifiers.{Numeric};
-ghost use Rattle.semver_core.specs.Values.Views.{ids_view, parts_value};
+ghost use Rattle.semver_core.specs.Values.Views.{ids_view};
+ghost use Rattle.semver_core.specs.declared.cuts.bound.Bound.TheVariants.{After};
 
-use semver_core::{Identifier, Version, VersionParts};
+use semver_core::{Identifier, Version};
 use std::alloc::{AllocError, Global};
 
 // The release of the same three numbers.
@@ -44,7 +46,21 @@ pub(crate) fn pre_after(alloc: Global, version: &Version) -> Result<Version, All
 {
     let mut pre_release = Identifier::copy_list(alloc, version.pre_release())?;
     pre_release.push(Identifier::Numeric(0))?;
-    with_pre_release(alloc, version, pre_release)
+    with_lists(alloc, version, pre_release, Vec::new(alloc))
+}
+
+// The first version after this one, without a build: the next patch of a release, and a pre-release
+// with one more identifier.
+pub(crate) fn following(alloc: Global, version: &Version) -> Result<Version, AllocError>
+    requires { version.now.patch < 2 ^ 64 - 1 }
+    ensures { IfOk result (λ next. stated.begins_with (After version.now)
+        ≡ Some (record next { build = version.now.build })) }
+{
+    if version.is_release() {
+        Ok(patch_after(version))
+    } else {
+        pre_after(alloc, version)
+    }
 }
 
 // The version without its build.
@@ -55,28 +71,7 @@ pub(crate) fn bare(alloc: Global, version: &Version) -> Result<Version, AllocErr
         return version.copy(alloc);
     }
     let pre_release = Identifier::copy_list(alloc, version.pre_release())?;
-    with_pre_release(alloc, version, pre_release)
-}
-
-// The same three numbers with this pre-release, and no build.
-fn with_pre_release(
-    alloc: Global,
-    version: &Version,
-    pre_release: Vec<Identifier>,
-) -> Result<Version, AllocError>
-    ensures { IfOk result (λ v. v
-        ≡ record version.now { pre_release = ids_view pre_release.items; build = [] }) }
-{
-    new_version(
-        alloc,
-        VersionParts {
-            major: version.major(),
-            minor: version.minor(),
-            patch: version.patch(),
-            pre_release,
-            build: Vec::new(alloc),
-        },
-    )
+    with_lists(alloc, version, pre_release, Vec::new(alloc))
 }
 
 // A version that has no build, with this one.
@@ -91,33 +86,24 @@ pub(crate) fn with_build(
     if build.is_empty() {
         return Ok(version);
     }
+    let pre_release = Identifier::copy_list(alloc, version.pre_release())?;
     let build = Identifier::copy_list(alloc, build)?;
-    match version.into_parts(alloc) {
-        Ok(parts) => new_version(
-            alloc,
-            VersionParts {
-                major: parts.major,
-                minor: parts.minor,
-                patch: parts.patch,
-                pre_release: parts.pre_release,
-                build,
-            },
-        ),
-        Err(_) => Err(AllocError),
-    }
+    with_lists(alloc, &version, pre_release, build)
 }
 
-// The version of these parts, which are dropped if allocation fails.
-pub(crate) fn new_version(alloc: Global, parts: VersionParts) -> Result<Version, AllocError>
-    ensures { IfOk result (λ v. v ≡ parts_value parts) }
+// The same three numbers with these lists, which are dropped if allocation fails.
+fn with_lists(
+    alloc: Global,
+    version: &Version,
+    pre_release: Vec<Identifier>,
+    build: Vec<Identifier>,
+) -> Result<Version, AllocError>
+    ensures { IfOk result (λ v. v ≡ record version.now {
+      pre_release = ids_view pre_release.items;
+      build = ids_view build.items;
+    }) }
 {
-    let VersionParts {
-        major,
-        minor,
-        patch,
-        pre_release,
-        build,
-    } = parts;
+    let (major, minor, patch) = (version.major(), version.minor(), version.patch());
     match Version::new(alloc, major, minor, patch, pre_release, build) {
         Ok(version) => Ok(version),
         Err(_) => Err(AllocError),

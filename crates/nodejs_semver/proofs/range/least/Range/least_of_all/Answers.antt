@@ -2,7 +2,7 @@ use Rattle.std.proofs.Common.{arith}
 use Rattle.nodejs_semver.proofs.Choice.LeastOf.{least_of_lists, least_of_none}
 use Rattle.nodejs_semver.proofs.Algebra.FlatMaps.{on_err}
 use Rattle.nodejs_semver.proofs.Choice.Memory.{lists_allocate}
-use Rattle.nodejs_semver.proofs.range.least_of_all.Range.least_of_all.Goals as goal
+use Rattle.nodejs_semver.proofs.range.least.Range.least_of_all.Goals as goal
 
 pub returns-in_ok-with_pre-in-empty-clause-least : goal.returns-in_ok-with_pre-in-empty-clause-least
 returns-in_ok-with_pre-in-empty-clause-least c =
