@@ -3,20 +3,10 @@
 //! reading, writing or an allocation failed.
 #![tactic(auto)]
 
-mod answer;
-mod best;
-mod command;
-mod fault;
-mod fields;
-mod question;
-mod read;
-mod reply;
-mod run;
 #[cfg(test)]
 mod tests;
-mod words;
 
-use crate::run::run;
+use semver_answers::run::run;
 use std::process::ExitCode;
 
 fn main(rt: HostRuntime) -> ExitCode {

@@ -2,7 +2,7 @@
 
 use super::ends::{FailingReader, FailingWriter};
 use super::long_text;
-use crate::run::{RunFault, run};
+use semver_answers::run::{RunFault, run};
 use std::alloc::{AllocError, Global};
 use std::io::ErrorKind;
 use std::test::Fail;

@@ -1,0 +1,80 @@
+-- What is replied to a question, from what its texts were read as, and the versions of several texts.
+use Rattle.std.proofs.Common.{◌≡◌, ◌∷◌, ◌++◌, ℕ, List, [], Option, None, Result, Ok, Err}
+use Rattle.std.proofs.Common.{IfOk, IsErrAnd, ap, arith, length, length-append, refl, ◌∙◌}
+use Rattle.std.proofs.Math.Seq.{get_or-append_seam}
+use Rattle.std.specs.Borrow.{Bor}
+use Rattle.std.specs.Result.{IsOkAnd}
+use Rattle.semver_core.specs.Cuts.{Span}
+use Rattle.semver_core.specs.Printing.Text.{version_text}
+use Rattle.semver_core.specs.Text.Parsing.{Parses}
+use Rattle.semver_core.specs.Values.Versions.{VersionValue}
+use Rattle.semver_core.specs.declared.TheConstants.{MAX_SAFE_INTEGER}
+use Rattle.semver_core.specs.declared.error.Failure.{Failure}
+use Rattle.semver_core.specs.declared.error.Failure.TheVariants.{Refused, Memory}
+use Rattle.semver_answers.specs.Commands.{BestReply}
+use Rattle.semver_answers.specs.Names.{fault_word, or_none}
+use Rattle.semver_answers.specs.Replies.{AreVersionsOf, IsVersionOf, On, SaysFound, fault, read}
+use Rattle.semver_answers.specs.Internal.Results.{FindsBest, IsBestOf, IsFault, IsTold}
+use Rattle.semver_answers.specs.declared.fault.Fault.{Fault}
+use Rattle.semver_answers.specs.declared.question.AboutBest.{AboutBest}
+use Rattle.semver_answers.specs.declared.question.AboutBest.TheVariants.{Max, Min}
+use Rattle.semver_answers.proofs.Steps.{AllZip-append}
+
+-- a text is none, and a call's error that says so is the reply of its caller
+pub told_fault : {A : Type 0} (Reads : Result A Fault → Type 0) (Reply : A → List ℕ → Type 0) (error : Failure Fault)
+    (r : Result (Bor (List ℕ)) (Failure Fault)) → IsErrAnd r (λ e. e ≡ error) → IsFault error Reads → IsTold r (On Reads Reply)
+told_fault Reads Reply error (Ok text) is h = absurd is
+told_fault Reads Reply (Refused why) (Err e) is h = rw is (fault why h refl)
+told_fault Reads Reply (Memory error) (Err e) is h = rw is tt
+
+-- what is told implies what is weaker
+pub told_weaker : (P Q : List ℕ → Type 0) (result : Result (Bor (List ℕ)) (Failure Fault)) → ((text : List ℕ) → P text → Q text) → IsTold result P → IsTold result Q
+told_weaker P Q (Ok text) f h = f text.now h
+told_weaker P Q (Err (Refused why)) f h = f (fault_word why) h
+told_weaker P Q (Err (Memory error)) f h = tt
+
+-- the first of two texts is read, and the second is none
+pub told_second : {A B : Type 0} (First : Result A Fault → Type 0) (Second : Result B Fault → Type 0)
+    (Reply : A → B → List ℕ → Type 0) (a : A) (error : Failure Fault) (r : Result (Bor (List ℕ)) (Failure Fault)) → First (Ok a)
+    → IsErrAnd r (λ e. e ≡ error) → IsFault error Second → IsTold r (On First (λ a. On Second (Reply a)))
+told_second First Second Reply a error r first is h =
+    told_weaker (On Second (Reply a)) _ r (λ text. read a first) (told_fault Second (Reply a) error r is h)
+
+-- one of the texts has none
+pub refused_one : (front : List (List ℕ)) (text : List ℕ) (back : List (List ℕ)) (error : Failure Fault)
+    → IsFault error (IsVersionOf text) → IsFault error (AreVersionsOf (front ++ text ∷ back))
+refused_one front text back (Refused why) r =
+    ((length front, text, omega (arith, length-append front (text ∷ back)), get_or-append_seam front text back text, r.0), r.1)
+refused_one front text back (Memory error) r = tt
+
+-- of no texts there is no best, and of one more it is what takes its place, or itself
+pub finds_none : (asked : AboutBest) (r : List (Span VersionValue)) → FindsBest asked r [] None
+finds_none asked r =
+    record { versions = []; read = tt; is = elim asked as (λ a. IsBestOf a r [] None) [ Max ↦ refl | Min ↦ refl ] }
+
+pub finds_more : (asked : AboutBest) (r : List (Span VersionValue)) (texts : List (List ℕ)) (text : List ℕ)
+    (best next : Option VersionValue) (v : VersionValue) → Parses MAX_SAFE_INTEGER text v
+    → ((list : List VersionValue) → IsBestOf asked r list best → IsBestOf asked r (list ++ v ∷ []) next)
+    → FindsBest asked r texts best → FindsBest asked r (texts ++ text ∷ []) next
+finds_more asked r texts text best next v parses more f = record {
+  versions = f.versions ++ v ∷ [];
+  read = AllZip-append (Parses MAX_SAFE_INTEGER) texts (text ∷ []) f.versions (v ∷ []) f.read (parses, tt);
+  is = more f.versions f.is;
+}
+
+-- what a call found, printed
+pub says_found : {E : Type 0} (P Q : Option VersionValue → Type 0) (found : Result (Option VersionValue) E) (text : List ℕ)
+    → IfOk found P → IfOk found Q → IsOkAnd found (λ v. text ≡ or_none version_text v) → SaysFound (λ v. P v × Q v) text
+says_found P Q (Ok v) text p q printed = (v, (p, q), printed)
+says_found P Q (Err error) text p q printed = absurd printed
+
+pub says_value : {A E : Type 0} (print : A → List ℕ) (value : Option A) (found : Result (Option A) E) (text : List ℕ)
+    → IfOk found (λ v. v ≡ value) → IsOkAnd found (λ v. text ≡ or_none print v) → text ≡ or_none print value
+says_value print value (Ok v) text is printed = printed ∙ ap (or_none print) is
+says_value print value (Err error) text is printed = absurd printed
+
+-- the best of the versions, printed
+pub best_reply : (asked : AboutBest) (r : List (Span VersionValue)) (vs : List VersionValue) (best : Option VersionValue)
+    (text : List ℕ) → IsBestOf asked r vs best → text ≡ or_none version_text best → BestReply asked r vs text
+best_reply Max r vs best text is printed = (best, is, printed)
+best_reply Min r vs best text is printed = (best, is, printed)

@@ -1,0 +1,82 @@
+// The answer to one line.
+
+ghost use Rattle.std.specs.Prelude.{◌≡◌, ◌++◌, IfOk, OnOk, OnErr, string_bytes};
+ghost use Rattle.semver_answers.specs.Answers.{IsAnswer};
+ghost use Rattle.semver_answers.specs.Internal.Results.{IsTold};
+ghost use Rattle.semver_answers.specs.Internal.Steps.{GrowsByAnswer};
+ghost use Rattle.semver_answers.specs.Lines.{ended};
+
+use crate::fault::Fault;
+use crate::question::Question;
+use crate::reply::reply;
+use nodejs_semver::Failure;
+use std::alloc::{AllocError, Global};
+use std::str;
+
+// The reply to the question of a text.
+#[inline(always)]
+fn reply_to<'a>(alloc: Global, text: &str, room: &'a mut String) -> Result<&'a str, Failure<Fault>>
+    ensures { IsTold result (IsAnswer text.now) }
+{
+    match Question::of(text) {
+        Some(question) => reply(alloc, question, room),
+        None => Err(Failure::Refused(Fault::BadLine)),
+    }
+}
+
+// The answer to a line that is a text.
+#[inline(always)]
+fn answer_to<'a>(alloc: Global, text: &str, room: &'a mut String) -> Result<&'a str, AllocError>
+    ensures { IfOk result (λ answer. IsAnswer text.now answer.now) }
+{
+    match reply_to(alloc, text, room) {
+        Ok(reply) => Ok(reply),
+        Err(Failure::Refused(fault)) => Ok(fault.word()),
+        Err(Failure::Memory(error)) => Err(error),
+    }
+}
+
+// Appends a text and a line feed, all or nothing.
+#[inline(always)]
+fn push_line(text: &str, output: &mut String) -> Result<(), AllocError>
+    ensures ok { OnOk result (string_bytes output.new ≡ string_bytes output.old ++ ended text.now) }
+    ensures err { OnErr result (string_bytes output.new ≡ string_bytes output.old) }
+{
+    // Room for both is asked for first, so that neither of the next two calls fails.
+    output.reserve(text.len() + 1)?;
+    output.push_str(text)?;
+    output.push('\n')
+}
+
+/// Appends the answer to a line that is a text, and a line feed, to the output, all or nothing.
+/// What is printed is printed to `room` first.
+pub(crate) fn answer_text(
+    alloc: Global,
+    text: &str,
+    room: &mut String,
+    output: &mut String,
+) -> Result<(), AllocError>
+    ensures ok { OnOk result
+        (GrowsByAnswer text.now (string_bytes output.old) (string_bytes output.new)) }
+    ensures err { OnErr result (string_bytes output.new ≡ string_bytes output.old) }
+{
+    let answer = answer_to(alloc, text, room)?;
+    push_line(answer, output)
+}
+
+/// The same for any line.
+pub(crate) fn answer_line(
+    alloc: Global,
+    line: &[u8],
+    room: &mut String,
+    output: &mut String,
+) -> Result<(), AllocError>
+    ensures ok { OnOk result
+        (GrowsByAnswer line.now (string_bytes output.old) (string_bytes output.new)) }
+    ensures err { OnErr result (string_bytes output.new ≡ string_bytes output.old) }
+{
+    match str::from_utf8(line) {
+        Ok(text) => answer_text(alloc, text, room, output),
+        Err(_) => push_line(Fault::BadLine.word(), output),
+    }
+}

@@ -1,0 +1,14 @@
+//! Answers questions about versions and ranges, one a line: `run::run` reads the lines from any reader
+//! and writes the answers to any writer. The program `semver_lines` runs it on standard input and output.
+#![tactic(auto)]
+
+mod answer;
+mod best;
+mod command;
+mod fault;
+mod fields;
+mod question;
+mod read;
+mod reply;
+pub mod run;
+mod words;

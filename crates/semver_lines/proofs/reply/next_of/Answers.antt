@@ -1,4 +1,0 @@
-use Rattle.semver_lines.proofs.reply.next_of.Goals as goal
-
-pub returns : goal.returns
-returns c = c.next_text.ensures _ c.inc.ensures.value
