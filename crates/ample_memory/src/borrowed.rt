@@ -5,13 +5,24 @@ use crate::ranges::OTHERS;
 use nodejs_semver::{RangeRef, VersionRef};
 use std::alloc::{AllocError, Global};
 
+// A few words of `inc`.
+const INCREMENTS: &[&str] = &["major", "prerelease", "premajor"];
+
 /// Makes each call that may allocate on the version that borrows this text.
 pub fn ask_version(alloc: Global, calls: &mut Calls, text: &str) -> Result<(), AllocError> {
-    let Ok(version) = calls.made(VersionRef::parse(text)) else {
-        return Ok(());
-    };
+    match calls.made(VersionRef::parse(text)) {
+        Ok(version) => about_version(alloc, calls, &version),
+        Err(_) => Ok(()),
+    }
+}
+
+fn about_version(
+    alloc: Global,
+    calls: &mut Calls,
+    version: &VersionRef<'_>,
+) -> Result<(), AllocError> {
     calls.asked(version.to_version(alloc))?;
-    for word in ["major", "prerelease", "premajor"] {
+    for &word in INCREMENTS {
         calls.tried(version.inc(alloc, word, Some("beta"), None))?;
     }
     Ok(())
@@ -19,9 +30,10 @@ pub fn ask_version(alloc: Global, calls: &mut Calls, text: &str) -> Result<(), A
 
 /// Makes each call that may allocate on the range that borrows this text.
 pub fn ask_range(alloc: Global, calls: &mut Calls, text: &str) -> Result<(), AllocError> {
-    match calls.answered(RangeRef::parse(alloc, text))? {
-        Some(range) => about(alloc, calls, &range),
-        None => Ok(()),
+    match calls.answered(RangeRef::parse(alloc, text)) {
+        Ok(Some(range)) => about(alloc, calls, &range),
+        Ok(None) => Ok(()),
+        Err(error) => Err(error),
     }
 }
 
@@ -30,7 +42,7 @@ fn about<'a>(alloc: Global, calls: &mut Calls, range: &RangeRef<'a>) -> Result<(
     calls.asked(range.to_range(alloc))?;
     calls.found(range.min_version(alloc))?;
     calls.found(range.min_version_with_prerelease(alloc))?;
-    for other in OTHERS {
+    for &other in OTHERS {
         beside(alloc, calls, range, other)?;
     }
     Ok(())
@@ -43,11 +55,21 @@ fn beside<'a>(
     one: &RangeRef<'a>,
     other: &'a str,
 ) -> Result<(), AllocError> {
-    let Some(other) = calls.answered(RangeRef::parse(alloc, other))? else {
-        return Ok(());
-    };
-    pair(alloc, calls, one, &other)?;
-    pair(alloc, calls, &other, one)
+    match calls.answered(RangeRef::parse(alloc, other)) {
+        Ok(Some(other)) => both_orders(alloc, calls, one, &other),
+        Ok(None) => Ok(()),
+        Err(error) => Err(error),
+    }
+}
+
+fn both_orders<'a>(
+    alloc: Global,
+    calls: &mut Calls,
+    one: &RangeRef<'a>,
+    other: &RangeRef<'a>,
+) -> Result<(), AllocError> {
+    pair(alloc, calls, one, other)?;
+    pair(alloc, calls, other, one)
 }
 
 // Makes each call on two ranges.
@@ -59,6 +81,5 @@ fn pair<'a>(
 ) -> Result<(), AllocError> {
     calls.found(one.intersect(alloc, other))?;
     calls.found(one.difference(alloc, other))?;
-    calls.found(one.least_beyond(alloc, other))?;
-    Ok(())
+    calls.found(one.least_beyond(alloc, other))
 }

@@ -16,37 +16,95 @@ mod texts;
 mod versions;
 
 use crate::ample::Calls;
-use std::io;
+use nodejs_semver::MAX_SAFE_INTEGER;
+use std::alloc::{AllocError, Global};
+use std::{fmt, io};
+
+// What the values of a group have in common.
+#[derive(Clone, Copy)]
+enum Group {
+    // Versions with so many identifiers.
+    Identifiers(u32),
+    // Versions of so many bytes.
+    LongVersions(u32),
+    // Versions of a number.
+    Number(u64),
+    // Ranges of so many intervals.
+    Intervals(u32),
+    // Ranges that accept no version.
+    Empty,
+    // Ranges of so many bytes.
+    LongRanges(u32),
+}
+
+impl Group {
+    // Makes each call about the values of the group.
+    fn ask(self, alloc: Global, calls: &mut Calls) -> Result<(), AllocError> {
+        match self {
+            Group::Identifiers(count) => versions::ask_many(alloc, calls, count as usize),
+            Group::LongVersions(length) => versions::ask_long(alloc, calls, length as usize),
+            Group::Number(number) => numbers::ask(alloc, calls, number),
+            Group::Intervals(count) => ranges::ask_many(alloc, calls, count as usize),
+            Group::Empty => ranges::ask_empty(alloc, calls),
+            Group::LongRanges(length) => ranges::ask_long(alloc, calls, length as usize),
+        }
+    }
+
+    // The words before a size, the size, if it has one, and the words behind it.
+    fn words(&self) -> (&'static str, Option<u64>, &'static str) {
+        match *self {
+            Group::Identifiers(count) => ("", Some(u64::from(count)), " identifiers"),
+            Group::LongVersions(length) => ("versions of ", Some(u64::from(length)), " bytes"),
+            Group::Number(number) => ("the number ", Some(number), ""),
+            Group::Intervals(count) => ("", Some(u64::from(count)), " intervals"),
+            Group::Empty => ("ranges that accept no version", None, ""),
+            Group::LongRanges(length) => ("ranges of ", Some(u64::from(length)), " bytes"),
+        }
+    }
+}
+
+impl fmt::Display for Group {
+    fn fmt<W: fmt::Write>(&self, f: &mut fmt::Formatter<W>) -> fmt::Result {
+        let (before, size, behind) = self.words();
+        match size {
+            Some(size) => write!(f, "{before}{size}{behind}"),
+            None => f.write_str(before),
+        }
+    }
+}
+
+const GROUPS: &[Group] = &[
+    Group::Identifiers(1),
+    Group::Identifiers(2),
+    Group::Identifiers(3),
+    Group::Identifiers(20),
+    Group::Identifiers(1000),
+    Group::LongVersions(255),
+    Group::LongVersions(256),
+    Group::LongVersions(257),
+    Group::LongVersions(2_000_000),
+    // The least and the greatest numbers that a text and that a version can have.
+    Group::Number(0),
+    Group::Number(MAX_SAFE_INTEGER),
+    Group::Number(MAX_SAFE_INTEGER + 1),
+    Group::Number(u64::MAX),
+    Group::Intervals(1),
+    Group::Intervals(2),
+    Group::Intervals(3),
+    Group::Intervals(20),
+    Group::Intervals(1000),
+    Group::Empty,
+    Group::LongRanges(255),
+    Group::LongRanges(256),
+    Group::LongRanges(257),
+    Group::LongRanges(2_000_000),
+];
 
 fn main(rt: HostRuntime) -> io::Result<()> {
-    let alloc = rt.alloc();
-    for count in texts::COUNTS {
+    for &group in GROUPS {
         let mut calls = Calls::new();
-        versions::ask_many(alloc, &mut calls, count)?;
-        println!(rt; "{count} identifiers: {calls}")?;
-    }
-    for length in texts::LENGTHS {
-        let mut calls = Calls::new();
-        versions::ask_long(alloc, &mut calls, length)?;
-        println!(rt; "versions of {length} bytes: {calls}")?;
-    }
-    for number in numbers::NUMBERS {
-        let mut calls = Calls::new();
-        numbers::ask(alloc, &mut calls, number)?;
-        println!(rt; "the number {number}: {calls}")?;
-    }
-    for count in texts::COUNTS {
-        let mut calls = Calls::new();
-        ranges::ask_many(alloc, &mut calls, count)?;
-        println!(rt; "{count} intervals: {calls}")?;
-    }
-    let mut calls = Calls::new();
-    ranges::ask_empty(alloc, &mut calls)?;
-    println!(rt; "ranges that accept no version: {calls}")?;
-    for length in texts::LENGTHS {
-        let mut calls = Calls::new();
-        ranges::ask_long(alloc, &mut calls, length)?;
-        println!(rt; "ranges of {length} bytes: {calls}")?;
+        group.ask(rt.alloc(), &mut calls)?;
+        println!(rt; "{group}: {calls}")?;
     }
     Ok(())
 }

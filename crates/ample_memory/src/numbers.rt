@@ -4,37 +4,41 @@ ghost use Rattle.std.specs.Prelude.{◌<◌};
 
 use crate::ample::Calls;
 use crate::versions::{self, WORDS};
-use nodejs_semver::{Identifier, MAX_SAFE_INTEGER, Version};
+use nodejs_semver::{Identifier, Version};
 use std::alloc::{AllocError, Global};
-
-/// The least and the greatest numbers that a text and that a version can have.
-pub const NUMBERS: [u64; 4] = [0, MAX_SAFE_INTEGER, MAX_SAFE_INTEGER + 1, u64::MAX];
 
 /// Makes each call on versions about those of a number.
 pub fn ask(alloc: Global, calls: &mut Calls, number: u64) -> Result<(), AllocError> {
-    versions::ask_about(
-        alloc,
-        calls,
-        Version::from((number, number, number)),
-        &WORDS,
-    )?;
+    versions::ask_about(alloc, calls, Version::from((number, number, number)), WORDS)?;
     with_pre(alloc, calls, number)?;
     from_texts(alloc, calls, number)?;
-    for (pre_release, build) in [(false, false), (true, false), (false, true), (true, true)] {
-        new(alloc, calls, number, pre_release, build)?;
+    new(alloc, calls, number, false, false)?;
+    new(alloc, calls, number, true, false)?;
+    new(alloc, calls, number, false, true)?;
+    new(alloc, calls, number, true, true)
+}
+
+// Makes each call on the version that a call made.
+fn ask_made(
+    alloc: Global,
+    calls: &mut Calls,
+    made: Result<Version, AllocError>,
+) -> Result<(), AllocError> {
+    match calls.made(made) {
+        Ok(version) => versions::ask_about(alloc, calls, version, WORDS),
+        Err(error) => Err(error),
     }
-    Ok(())
 }
 
 fn with_pre(alloc: Global, calls: &mut Calls, number: u64) -> Result<(), AllocError> {
-    let version = calls.made(Version::with_pre(alloc, number, number, number, number))?;
-    versions::ask_about(alloc, calls, version, &WORDS)
+    let version = Version::with_pre(alloc, number, number, number, number);
+    ask_made(alloc, calls, version)
 }
 
 #[tactic(auto, unfolding(semver_core::specs::Text::Identifiers::is_listed))]
 fn from_texts(alloc: Global, calls: &mut Calls, number: u64) -> Result<(), AllocError> {
-    let version = calls.made(Version::from_texts(alloc, number, number, number, b"", b""))?;
-    versions::ask_about(alloc, calls, version, &WORDS)
+    let version = Version::from_texts(alloc, number, number, number, b"", b"");
+    ask_made(alloc, calls, version)
 }
 
 // Makes a version of a number, with the number in its lists or not.
@@ -45,10 +49,34 @@ fn new(
     pre_release: bool,
     build: bool,
 ) -> Result<(), AllocError> {
-    let pre_release = list(alloc, number, pre_release)?;
-    let build = list(alloc, number, build)?;
+    match list(alloc, number, pre_release) {
+        Ok(pre_release) => with_build(alloc, calls, number, pre_release, build),
+        Err(error) => Err(error),
+    }
+}
+
+fn with_build(
+    alloc: Global,
+    calls: &mut Calls,
+    number: u64,
+    pre_release: Vec<Identifier>,
+    build: bool,
+) -> Result<(), AllocError> {
+    match list(alloc, number, build) {
+        Ok(build) => with_lists(alloc, calls, number, pre_release, build),
+        Err(error) => Err(error),
+    }
+}
+
+fn with_lists(
+    alloc: Global,
+    calls: &mut Calls,
+    number: u64,
+    pre_release: Vec<Identifier>,
+    build: Vec<Identifier>,
+) -> Result<(), AllocError> {
     match calls.made(Version::new(alloc, number, number, number, pre_release, build)) {
-        Ok(version) => versions::ask_about(alloc, calls, version, &WORDS),
+        Ok(version) => versions::ask_about(alloc, calls, version, WORDS),
         Err(_) => Err(AllocError),
     }
 }

@@ -10,48 +10,65 @@ use nodejs_semver::readers::{is_blank, range_fast, range_loose};
 use std::alloc::{AllocError, Global};
 
 /// The ranges beside which each range is asked.
-pub const OTHERS: [&str; 3] = ["*", "^1.5.0-b+c || 3.2.x || ^7.0.0-0", "<0.0.0-0"];
+pub const OTHERS: &[&str] = &["*", "^1.5.0-b+c || 3.2.x || ^7.0.0-0", "<0.0.0-0"];
+
+// What stands behind each interval.
+const BEHIND: &[&str] = &["", "+b", " foo", " 1"];
+
+// A beginning of a range, and the letter that goes on: in one identifier, in one malformed word, in
+// one number, and in whitespace.
+const BEGINNINGS: &[(&str, char)] = &[
+    ("^1.2.3-", 'a'),
+    ("1.2.3+", 'a'),
+    ("2.0.0-b - 1.0.0-", 'a'),
+    ("1 f", 'o'),
+    ("^0", '0'),
+    ("^1", '1'),
+    ("||1", ' '),
+    ("1", '|'),
+];
+
+// Ranges that accept no version.
+const EMPTY: &[&str] = &[
+    "<0.0.0",
+    ">1.0.0 <1.0.1-0",
+    "<0.0.0||>1.0.0 <1.0.1-0||>1.0.0-a <1.0.0-a.0",
+];
 
 /// Makes each call on ranges about ranges of so many intervals, with and without build metadata.
 pub fn ask_many(alloc: Global, calls: &mut Calls, count: usize) -> Result<(), AllocError> {
-    for behind in ["", "+b", " foo", " 1"] {
-        ask(alloc, calls, &texts::range(alloc, count, behind)?)?;
+    for &behind in BEHIND {
+        ask_found(alloc, calls, texts::range(alloc, count, behind))?;
     }
     Ok(())
 }
 
-/// Makes each call on ranges about one of so many bytes: in one identifier, in one malformed word,
-/// in one number, and in whitespace.
+/// Makes each call on ranges about ranges of so many bytes.
 pub fn ask_long(alloc: Global, calls: &mut Calls, length: usize) -> Result<(), AllocError> {
-    for (beginning, letter) in [
-        ("^1.2.3-", 'a'),
-        ("1.2.3+", 'a'),
-        ("2.0.0-b - 1.0.0-", 'a'),
-        ("1 f", 'o'),
-        ("^0", '0'),
-        ("^1", '1'),
-        ("||1", ' '),
-        ("1", '|'),
-    ] {
-        ask(
-            alloc,
-            calls,
-            &texts::long(alloc, beginning, letter, length)?,
-        )?;
+    for &(beginning, letter) in BEGINNINGS {
+        ask_found(alloc, calls, texts::long(alloc, beginning, letter, length))?;
     }
     Ok(())
 }
 
 /// Makes each call on ranges about ranges that accept no version.
 pub fn ask_empty(alloc: Global, calls: &mut Calls) -> Result<(), AllocError> {
-    for text in [
-        "<0.0.0",
-        ">1.0.0 <1.0.1-0",
-        "<0.0.0||>1.0.0 <1.0.1-0||>1.0.0-a <1.0.0-a.0",
-    ] {
+    for &text in EMPTY {
         ask(alloc, calls, text)?;
     }
     Ok(())
+}
+
+// Makes each call on ranges about that of a text, if there is one.
+fn ask_found(
+    alloc: Global,
+    calls: &mut Calls,
+    text: Result<String, AllocError>,
+) -> Result<(), AllocError> {
+    match text {
+        Ok(text) => ask(alloc, calls, &text),
+        Err(error) => Err(error),
+    }
 }
 
 // Makes each call on ranges about that of a text.
@@ -63,9 +80,10 @@ fn ask(alloc: Global, calls: &mut Calls, text: &str) -> Result<(), AllocError> {
     if !is_blank(text) {
         calls.found(range_loose(alloc, text))?;
     }
-    match calls.answered(Range::parse(alloc, text))? {
-        Some(range) => about(alloc, calls, &range),
-        None => Ok(()),
+    match calls.answered(Range::parse(alloc, text)) {
+        Ok(Some(range)) => about(alloc, calls, &range),
+        Ok(None) => Ok(()),
+        Err(error) => Err(error),
     }
 }
 
@@ -75,7 +93,7 @@ fn about(alloc: Global, calls: &mut Calls, range: &Range) -> Result<(), AllocErr
     calls.found(range.min_version(alloc))?;
     calls.found(range.min_version_with_prerelease(alloc))?;
     json::ask_range(alloc, calls, range)?;
-    for other in OTHERS {
+    for &other in OTHERS {
         beside(alloc, calls, range, other)?;
     }
     Ok(())
@@ -83,11 +101,21 @@ fn about(alloc: Global, calls: &mut Calls, range: &Range) -> Result<(), AllocErr
 
 // Makes each call on two ranges, in both orders.
 fn beside(alloc: Global, calls: &mut Calls, one: &Range, other: &str) -> Result<(), AllocError> {
-    let Some(other) = calls.answered(Range::parse(alloc, other))? else {
-        return Ok(());
-    };
-    pair(alloc, calls, one, &other)?;
-    pair(alloc, calls, &other, one)
+    match calls.answered(Range::parse(alloc, other)) {
+        Ok(Some(other)) => both_orders(alloc, calls, one, &other),
+        Ok(None) => Ok(()),
+        Err(error) => Err(error),
+    }
+}
+
+fn both_orders(
+    alloc: Global,
+    calls: &mut Calls,
+    one: &Range,
+    other: &Range,
+) -> Result<(), AllocError> {
+    pair(alloc, calls, one, other)?;
+    pair(alloc, calls, other, one)
 }
 
 // Makes each call on two ranges, and on their first intervals.
@@ -95,11 +123,34 @@ fn pair(alloc: Global, calls: &mut Calls, one: &Range, other: &Range) -> Result<
     calls.found(one.intersect(alloc, other))?;
     calls.found(one.difference(alloc, other))?;
     calls.found(one.least_beyond(alloc, other))?;
-    let ranges = [one.copy(alloc)?, other.copy(alloc)?];
-    calls.found(Range::least_of_all(alloc, &ranges))?;
+    least_of_both(alloc, calls, one, other)?;
     match (one.intervals().first(), other.intervals().first()) {
         (Some(one), Some(other)) => intervals(alloc, calls, one, other),
         _ => Ok(()),
+    }
+}
+
+fn least_of_both(
+    alloc: Global,
+    calls: &mut Calls,
+    one: &Range,
+    other: &Range,
+) -> Result<(), AllocError> {
+    match one.copy(alloc) {
+        Ok(one) => least_of_copies(alloc, calls, one, other),
+        Err(error) => Err(error),
+    }
+}
+
+fn least_of_copies(
+    alloc: Global,
+    calls: &mut Calls,
+    one: Range,
+    other: &Range,
+) -> Result<(), AllocError> {
+    match other.copy(alloc) {
+        Ok(other) => calls.found(Range::least_of_all(alloc, &[one, other])),
+        Err(error) => Err(error),
     }
 }
 

@@ -3,12 +3,6 @@
 use std::alloc::{AllocError, Global};
 use std::fmt::Write;
 
-/// How many identifiers or intervals a value has.
-pub const COUNTS: [usize; 5] = [1, 2, 3, 20, 1000];
-
-/// How many bytes a text has.
-pub const LENGTHS: [usize; 4] = [255, 256, 257, 2_000_000];
-
 /// A text of so many bytes: a beginning, and then a letter as often as it fits.
 pub fn long(
     alloc: Global,

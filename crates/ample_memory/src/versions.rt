@@ -3,12 +3,12 @@
 use crate::ample::Calls;
 use crate::{borrowed, json, texts};
 use nodejs_semver::readers::{version_fast, version_loose};
-use nodejs_semver::{Identifier, IdentifierBase, Version, VersionParts};
+use nodejs_semver::{Failure, Identifier, IdentifierBase, IncrementError, Version, VersionParts};
 use semver_core::scan;
 use std::alloc::{AllocError, Global};
 
 /// The words of `inc`, and two that are none.
-pub const WORDS: [&str; 11] = [
+pub const WORDS: &[&str] = &[
     "major",
     "minor",
     "patch",
@@ -22,36 +22,57 @@ pub const WORDS: [&str; 11] = [
     "fake",
 ];
 
-const IDENTIFIERS: [&str; 4] = ["", "beta", "a/b", "a.7"];
+const IDENTIFIERS: &[&str] = &["", "beta", "a/b", "a.7"];
 
-const BASES: [IdentifierBase; 3] = [
+const BASES: &[IdentifierBase] = &[
     IdentifierBase::False,
     IdentifierBase::Value(0),
     IdentifierBase::Value(1),
 ];
 
 // A few of them, for versions of millions of bytes.
-const FEW: [&str; 3] = ["major", "prerelease", "fake"];
+const FEW: &[&str] = &["major", "prerelease", "fake"];
 
 /// Makes each call on versions about one with so many identifiers in each of its lists.
 pub fn ask_many(alloc: Global, calls: &mut Calls, count: usize) -> Result<(), AllocError> {
-    let text = texts::version(alloc, count)?;
-    ask(alloc, calls, &text, &WORDS)?;
-    ask(alloc, calls, "1.2.3", &WORDS)?;
-    ask(alloc, calls, "1.2", &WORDS)
+    ask_found(alloc, calls, texts::version(alloc, count), WORDS)?;
+    ask(alloc, calls, "1.2.3", WORDS)?;
+    ask(alloc, calls, "1.2", WORDS)
 }
+
+// A beginning of a version, and the letter that goes on.
+const BEGINNINGS: &[(&str, char)] = &[
+    ("1.2.3-", 'a'),
+    ("1.2.3+", 'a'),
+    ("1.2.3-a.", 'a'),
+    ("1.2.3-0+", 'a'),
+    ("v 1.2.3-", 'a'),
+    ("1.2.3-", '1'),
+    ("1.2.", '1'),
+    ("", '1'),
+    ("1.2.3 ", '1'),
+];
 
 /// Makes each call on versions about one of so many bytes, most of them in one identifier.
 pub fn ask_long(alloc: Global, calls: &mut Calls, length: usize) -> Result<(), AllocError> {
-    for beginning in ["1.2.3-", "1.2.3+", "1.2.3-a.", "1.2.3-0+", "v 1.2.3-"] {
-        let text = texts::long(alloc, beginning, 'a', length)?;
-        ask(alloc, calls, &text, &FEW)?;
-    }
-    for beginning in ["1.2.3-", "1.2.", "", "1.2.3 "] {
-        let text = texts::long(alloc, beginning, '1', length)?;
-        ask(alloc, calls, &text, &FEW)?;
+    for &(beginning, letter) in BEGINNINGS {
+        let text = texts::long(alloc, beginning, letter, length);
+        ask_found(alloc, calls, text, FEW)?;
     }
     Ok(())
+}
+
+// Makes each call on versions about that of a text, if there is one.
+fn ask_found(
+    alloc: Global,
+    calls: &mut Calls,
+    text: Result<String, AllocError>,
+    words: &[&str],
+) -> Result<(), AllocError> {
+    match text {
+        Ok(text) => ask(alloc, calls, &text, words),
+        Err(error) => Err(error),
+    }
 }
 
 // Makes each call on versions about that of a text.
@@ -59,12 +80,12 @@ fn ask(alloc: Global, calls: &mut Calls, text: &str, words: &[&str]) -> Result<(
     calls.tried(Version::parse(alloc, text))?;
     calls.found(version_fast(alloc, text))?;
     borrowed::ask_version(alloc, calls, text)?;
-    for at in [0, text.len().min(6)] {
-        calls.found(scan::identifiers(alloc, text, at))?;
-    }
-    match calls.made(version_loose(alloc, text))? {
-        Some(version) => ask_about(alloc, calls, version, words),
-        None => Ok(()),
+    calls.found(scan::identifiers(alloc, text, 0))?;
+    calls.found(scan::identifiers(alloc, text, text.len().min(6)))?;
+    match calls.made(version_loose(alloc, text)) {
+        Ok(Some(version)) => ask_about(alloc, calls, version, words),
+        Ok(None) => Ok(()),
+        Err(error) => Err(error),
     }
 }
 
@@ -75,15 +96,32 @@ pub fn ask_about(
     version: Version,
     words: &[&str],
 ) -> Result<(), AllocError> {
+    match lent(alloc, calls, &version, words) {
+        Ok(()) => take_apart(alloc, calls, version),
+        Err(error) => Err(error),
+    }
+}
+
+// Makes each call on a version that is lent.
+fn lent(
+    alloc: Global,
+    calls: &mut Calls,
+    version: &Version,
+    words: &[&str],
+) -> Result<(), AllocError> {
     calls.asked(version.copy(alloc))?;
     for &word in words {
-        inc(alloc, calls, &version, word)?;
+        inc(alloc, calls, version, word)?;
     }
     for identifier in version.build() {
         calls.asked(identifier.copy(alloc))?;
     }
     calls.asked(Identifier::copy_list(alloc, version.pre_release()))?;
-    json::ask_version(alloc, calls, &version)?;
+    json::ask_version(alloc, calls, version)
+}
+
+// Takes a version apart, and makes it again.
+fn take_apart(alloc: Global, calls: &mut Calls, version: Version) -> Result<(), AllocError> {
     match calls.made(version.into_parts(alloc)) {
         Ok(parts) => rebuild(alloc, calls, parts),
         Err(_) => Err(AllocError),
@@ -92,7 +130,13 @@ pub fn ask_about(
 
 // Copies the parts of a version, and makes it again.
 fn rebuild(alloc: Global, calls: &mut Calls, parts: VersionParts) -> Result<(), AllocError> {
-    calls.asked(parts.copy(alloc))?;
+    match calls.asked(parts.copy(alloc)) {
+        Ok(()) => made_again(alloc, calls, parts),
+        Err(error) => Err(error),
+    }
+}
+
+fn made_again(alloc: Global, calls: &mut Calls, parts: VersionParts) -> Result<(), AllocError> {
     let VersionParts {
         major,
         minor,
@@ -108,13 +152,24 @@ fn rebuild(alloc: Global, calls: &mut Calls, parts: VersionParts) -> Result<(), 
 
 // Asks for the next version without an identifier (an empty one) and with some, and with each base.
 fn inc(alloc: Global, calls: &mut Calls, version: &Version, word: &str) -> Result<(), AllocError> {
-    for identifier in IDENTIFIERS {
-        for base in BASES {
+    for &identifier in IDENTIFIERS {
+        for &base in BASES {
             let next = version.inc(alloc, word, Some(identifier), Some(base));
-            if let Some(error) = calls.rejected(next)? {
-                calls.asked(error.copy(alloc))?;
-            }
+            copy_error(alloc, calls, next)?;
         }
     }
     Ok(())
+}
+
+// Copies the error of a call, if it has one.
+fn copy_error(
+    alloc: Global,
+    calls: &mut Calls,
+    next: Result<Version, Failure<IncrementError>>,
+) -> Result<(), AllocError> {
+    match calls.rejected(next) {
+        Ok(Some(error)) => calls.asked(error.copy(alloc)),
+        Ok(None) => Ok(()),
+        Err(error) => Err(error),
+    }
 }

@@ -1,20 +1,26 @@
 -- Lines that ask no question.
-use Rattle.std.proofs.Common.{rules, ◌≡◌, ◌∙◌, ℕ, List, [], ◌∷◌, ◌++◌, false, codes, get_or, length, arith, sym, ap}
+use Rattle.std.proofs.Common.{rules, ◌≡◌, ◌≢◌, ◌<◌, ◌∙◌, refl, ℕ, List, [], ◌∷◌, ◌++◌, false, codes, get_or, length, arith, sym, ap}
 use Rattle.std.proofs.lemmas.Bool.{false≢true}
 use Rattle.std.proofs.lemmas.List.Splits.{join_with_byte-slice_split}
 use Rattle.std.proofs.lemmas.Slice.Eq.{bytes_eq-Decides}
+use Rattle.std.specs.Borrow.{Bor}
 use Rattle.std.specs.List.{join_with_byte}
 use Rattle.std.specs.Str.{bytes_eq}
 use Rattle.semver_answers.specs.Commands.{Asks}
 use Rattle.semver_answers.specs.Internal.CommandWords.{IsUnknown, command_word}
+use Rattle.semver_answers.specs.Internal.KindWords.{best_word, range_word, ranges_word, versions_word}
 use Rattle.semver_answers.specs.Lines.{fields}
 use Rattle.semver_answers.specs.declared.command.Command.{Command}
 use Rattle.semver_answers.specs.declared.command.Command.TheVariants as command
+use Rattle.semver_answers.specs.declared.question.AboutBest.{AboutBest}
 use Rattle.semver_answers.specs.declared.question.AboutBest.TheVariants.{Max, Min}
 use Rattle.semver_answers.specs.declared.question.AboutMatch.TheVariants.{Sat, Pre, Out}
+use Rattle.semver_answers.specs.declared.question.AboutRange.{AboutRange}
 use Rattle.semver_answers.specs.declared.question.AboutRange.TheVariants.{Print, Least}
+use Rattle.semver_answers.specs.declared.question.AboutRanges.{AboutRanges}
 use Rattle.semver_answers.specs.declared.question.AboutRanges.TheVariants.{And, Minus, Beyond}
 use Rattle.semver_answers.specs.declared.question.AboutVersion.TheVariants.{Ver}
+use Rattle.semver_answers.specs.declared.question.AboutVersions.{AboutVersions}
 use Rattle.semver_answers.specs.declared.question.AboutVersions.TheVariants.{Cmp, Diff}
 use Rattle.semver_answers.specs.declared.question.Question.{Question}
 use Rattle.semver_answers.specs.declared.question.Question.TheVariants.{Version, Versions, Range, Ranges, Match, Best}
@@ -58,6 +64,48 @@ no_version word text ver range least (Match texts Sat) asks = omega (arith, ap l
 no_version word text ver range least (Best (r, vs) Max) asks = omega (arith, ap length asks.0, some_field vs.now)
 no_version word text ver range least (Best (r, vs) Min) asks = omega (arith, ap length asks.0, some_field vs.now)
 no_version word text ver range least question asks = omega (arith, ap length asks.0)
+
+-- the question about the fields behind a command, where there are as many as it wants, and that there is none else
+pub versions_asked : (asked : AboutVersions) (v w : Bor (List ℕ)) (texts : List (List ℕ)) → texts ≡ v.now ∷ w.now ∷ []
+    → Asks (versions_word asked ∷ texts) (Versions (v, w) asked)
+versions_asked Cmp v w texts e = (ap (λ l. codes "cmp" ∷ l) e, tt)
+versions_asked Diff v w texts e = (ap (λ l. codes "diff" ∷ l) e, tt)
+
+pub range_asked : (asked : AboutRange) (r : Bor (List ℕ)) (texts : List (List ℕ)) → texts ≡ r.now ∷ []
+    → Asks (range_word asked ∷ texts) (Range r asked)
+range_asked Print r texts e = (ap (λ l. codes "range" ∷ l) e, tt)
+range_asked Least r texts e = (ap (λ l. codes "least" ∷ l) e, tt)
+
+pub ranges_asked : (asked : AboutRanges) (r s : Bor (List ℕ)) (texts : List (List ℕ)) → texts ≡ r.now ∷ s.now ∷ []
+    → Asks (ranges_word asked ∷ texts) (Ranges (r, s) asked)
+ranges_asked And r s texts e = (ap (λ l. codes "and" ∷ l) e, tt)
+ranges_asked Minus r s texts e = (ap (λ l. codes "minus" ∷ l) e, tt)
+ranges_asked Beyond r s texts e = (ap (λ l. codes "beyond" ∷ l) e, tt)
+
+pub best_asked : (asked : AboutBest) (r vs : Bor (List ℕ)) (texts : List (List ℕ)) → texts ≡ r.now ∷ fields vs.now
+    → Asks (best_word asked ∷ texts) (Best (r, vs) asked)
+best_asked Max r vs texts e = (ap (λ l. codes "max" ∷ l) e, tt)
+best_asked Min r vs texts e = (ap (λ l. codes "min" ∷ l) e, tt)
+
+pub versions_none : (asked : AboutVersions) (texts : List (List ℕ)) → length texts ≢ 2 → (question : Question)
+    → Asks (versions_word asked ∷ texts) question → ⊥
+versions_none Cmp texts none = search rules
+versions_none Diff texts none = search rules
+
+pub range_none : (asked : AboutRange) (texts : List (List ℕ)) → 1 < length texts → (question : Question)
+    → Asks (range_word asked ∷ texts) question → ⊥
+range_none Print texts more = search rules
+range_none Least texts more = search rules
+
+pub ranges_none : (asked : AboutRanges) (texts : List (List ℕ)) → length texts ≢ 2 → (question : Question)
+    → Asks (ranges_word asked ∷ texts) question → ⊥
+ranges_none And texts none = search rules
+ranges_none Minus texts none = search rules
+ranges_none Beyond texts none = search rules
+
+pub best_none : (asked : AboutBest) (text : List ℕ) → (question : Question) → Asks (best_word asked ∷ text ∷ []) question → ⊥
+best_none Max text = no_version (codes "max") text refl refl refl
+best_none Min text = no_version (codes "min") text refl refl refl
 
 -- the fields of a text that begins with a command
 pub known : (c : Command) (rest : List ℕ) → fields (command_word c ++ 59 ∷ rest) ≡ command_word c ∷ fields rest

@@ -1,8 +1,9 @@
 -- What is replied to a question, from what its texts were read as, and the versions of several texts.
 use Rattle.std.proofs.Common.{◌≡◌, ◌∷◌, ◌++◌, ℕ, List, [], Option, None, Result, Ok, Err}
-use Rattle.std.proofs.Common.{IsErrAnd, arith, length, length-append, refl}
+use Rattle.std.proofs.Common.{IfOk, IsErrAnd, ap, arith, length, length-append, refl, ◌∙◌}
 use Rattle.std.proofs.Math.Seq.{get_or-append_seam}
 use Rattle.std.specs.Borrow.{Bor}
+use Rattle.std.specs.Result.{IsOkAnd}
 use Rattle.semver_core.specs.Cuts.{Span}
 use Rattle.semver_core.specs.Printing.Text.{version_text}
 use Rattle.semver_core.specs.Text.Parsing.{Parses}
@@ -12,7 +13,7 @@ use Rattle.semver_core.specs.declared.error.Failure.{Failure}
 use Rattle.semver_core.specs.declared.error.Failure.TheVariants.{Refused, Memory}
 use Rattle.semver_answers.specs.Commands.{BestReply}
 use Rattle.semver_answers.specs.Names.{fault_word, or_none}
-use Rattle.semver_answers.specs.Replies.{AreVersionsOf, IsVersionOf, On, fault, read}
+use Rattle.semver_answers.specs.Replies.{AreVersionsOf, IsVersionOf, On, SaysFound, fault, read}
 use Rattle.semver_answers.specs.Internal.Results.{FindsBest, IsBestOf, IsFault, IsTold}
 use Rattle.semver_answers.specs.declared.fault.Fault.{Fault}
 use Rattle.semver_answers.specs.declared.question.AboutBest.{AboutBest}
@@ -60,6 +61,17 @@ finds_more asked r texts text best next v parses more f = record {
   read = AllZip-append (Parses MAX_SAFE_INTEGER) texts (text ∷ []) f.versions (v ∷ []) f.read (parses, tt);
   is = more f.versions f.is;
 }
+
+-- what a call found, printed
+pub says_found : {E : Type 0} (P Q : Option VersionValue → Type 0) (found : Result (Option VersionValue) E) (text : List ℕ)
+    → IfOk found P → IfOk found Q → IsOkAnd found (λ v. text ≡ or_none version_text v) → SaysFound (λ v. P v × Q v) text
+says_found P Q (Ok v) text p q printed = (v, (p, q), printed)
+says_found P Q (Err error) text p q printed = absurd printed
+
+pub says_value : {A E : Type 0} (print : A → List ℕ) (value : Option A) (found : Result (Option A) E) (text : List ℕ)
+    → IfOk found (λ v. v ≡ value) → IsOkAnd found (λ v. text ≡ or_none print v) → text ≡ or_none print value
+says_value print value (Ok v) text is printed = printed ∙ ap (or_none print) is
+says_value print value (Err error) text is printed = absurd printed
 
 -- the best of the versions, printed
 pub best_reply : (asked : AboutBest) (r : List (Span VersionValue)) (vs : List VersionValue) (best : Option VersionValue)

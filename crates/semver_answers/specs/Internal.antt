@@ -1,3 +1,4 @@
 pub mod CommandWords
+pub mod KindWords
 pub mod Results
 pub mod Steps

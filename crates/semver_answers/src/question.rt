@@ -87,6 +87,8 @@ pub(crate) enum AboutBest {
 impl<'a> Question<'a> {
     ghost use Rattle.std.specs.Prelude.{◌∷◌, codes, IfSome, IfNone};
     ghost use Rattle.semver_answers.specs.Commands.{Asks};
+    ghost use Rattle.semver_answers.specs.Internal.KindWords.{best_word, range_word};
+    ghost use Rattle.semver_answers.specs.Internal.KindWords.{ranges_word, versions_word};
     ghost use Rattle.semver_answers.specs.Lines.{fields};
     ghost use Rattle.semver_answers.specs.declared.question.Question.{Question};
 
@@ -98,20 +100,76 @@ impl<'a> Question<'a> {
     {
         let (command, rest) = Command::of(text)?;
         match command {
-            Command::Cmp => Some(Question::Versions(two(rest)?, AboutVersions::Cmp)),
+            Command::Cmp => Question::about_versions(rest, AboutVersions::Cmp),
             Command::Ver => Some(Question::Version(one(rest)?, AboutVersion::Ver)),
-            Command::Diff => Some(Question::Versions(two(rest)?, AboutVersions::Diff)),
+            Command::Diff => Question::about_versions(rest, AboutVersions::Diff),
             Command::Inc => Question::increment(rest),
-            Command::Range => Some(Question::Range(one(rest)?, AboutRange::Print)),
-            Command::And => Some(Question::Ranges(two(rest)?, AboutRanges::And)),
-            Command::Minus => Some(Question::Ranges(two(rest)?, AboutRanges::Minus)),
-            Command::Least => Some(Question::Range(one(rest)?, AboutRange::Least)),
-            Command::Beyond => Some(Question::Ranges(two(rest)?, AboutRanges::Beyond)),
+            Command::Range => Question::about_range(rest, AboutRange::Print),
+            Command::And => Question::about_ranges(rest, AboutRanges::And),
+            Command::Minus => Question::about_ranges(rest, AboutRanges::Minus),
+            Command::Least => Question::about_range(rest, AboutRange::Least),
+            Command::Beyond => Question::about_ranges(rest, AboutRanges::Beyond),
             Command::Sat => Some(Question::Match(two(rest)?, AboutMatch::Sat)),
             Command::Pre => Some(Question::Match(two(rest)?, AboutMatch::Pre)),
             Command::Out => Question::outside(rest),
-            Command::Max => Some(Question::Best(first(rest)?, AboutBest::Max)),
-            Command::Min => Some(Question::Best(first(rest)?, AboutBest::Min)),
+            Command::Max => Question::about_best(rest, AboutBest::Max),
+            Command::Min => Question::about_best(rest, AboutBest::Min),
+        }
+    }
+
+    // The question about two versions, which are the fields of a text.
+    #[inline(always)]
+    fn about_versions(rest: &'a str, asked: AboutVersions) -> Option<Question<'a>>
+        ensures some { IfSome result (λ question.
+            Asks (versions_word asked ∷ fields rest.now) question) }
+        ensures none { IfNone result ((question : Question)
+            → Asks (versions_word asked ∷ fields rest.now) question → ⊥) }
+    {
+        match two(rest) {
+            Some(both) => Some(Question::Versions(both, asked)),
+            None => None,
+        }
+    }
+
+    // The question about a range, which is the field of a text.
+    #[inline(always)]
+    fn about_range(rest: &'a str, asked: AboutRange) -> Option<Question<'a>>
+        ensures some { IfSome result (λ question.
+            Asks (range_word asked ∷ fields rest.now) question) }
+        ensures none { IfNone result ((question : Question)
+            → Asks (range_word asked ∷ fields rest.now) question → ⊥) }
+    {
+        match one(rest) {
+            Some(range) => Some(Question::Range(range, asked)),
+            None => None,
+        }
+    }
+
+    // The question about two ranges, which are the fields of a text.
+    #[inline(always)]
+    fn about_ranges(rest: &'a str, asked: AboutRanges) -> Option<Question<'a>>
+        ensures some { IfSome result (λ question.
+            Asks (ranges_word asked ∷ fields rest.now) question) }
+        ensures none { IfNone result ((question : Question)
+            → Asks (ranges_word asked ∷ fields rest.now) question → ⊥) }
+    {
+        match two(rest) {
+            Some(both) => Some(Question::Ranges(both, asked)),
+            None => None,
+        }
+    }
+
+    // The question about a range and some versions, which are the fields of a text.
+    #[inline(always)]
+    fn about_best(rest: &'a str, asked: AboutBest) -> Option<Question<'a>>
+        ensures some { IfSome result (λ question.
+            Asks (best_word asked ∷ fields rest.now) question) }
+        ensures none { IfNone result ((question : Question)
+            → Asks (best_word asked ∷ fields rest.now) question → ⊥) }
+    {
+        match first(rest) {
+            Some(cut) => Some(Question::Best(cut, asked)),
+            None => None,
         }
     }
 

@@ -9,8 +9,8 @@ ghost use Rattle.semver_answers.specs.Commands.{BestReply, IsReply, RangeReply, 
 ghost use Rattle.semver_answers.specs.Commands.{match_reply, version_reply, versions_reply};
 ghost use Rattle.semver_answers.specs.Internal.Results.{IsTold, ParsesRange};
 ghost use Rattle.semver_answers.specs.Lines.{fields};
-ghost use Rattle.semver_answers.specs.Names.{next_text};
-ghost use Rattle.semver_answers.specs.Replies.{AreVersionsOf, IsRangeOf, On};
+ghost use Rattle.semver_answers.specs.Names.{next_text, truth_word};
+ghost use Rattle.semver_answers.specs.Replies.{AreVersionsOf, IsRangeOf, IsVersionOf, On, Says};
 ghost use Rattle.semver_answers.specs.declared.question.Question.{Question};
 
 use crate::best::best_of;
@@ -20,7 +20,7 @@ use crate::question::{
 };
 use crate::read::{Parsed, range_of, version_of};
 use crate::words::{
-    borrowed_or_none, difference_word, next_text, order_word, range_or_none, truth_word,
+    borrowed_or_none, difference_word, next_text, order_word, printed, range_or_none, truth_word,
     version_or_none,
 };
 use nodejs_semver::{Failure, IdentifierBase, RangeRef, VersionRef};
@@ -132,7 +132,22 @@ fn parsed_ranges<'a, 't>(
 {
     let range = range_of(parsed)?;
     let other = RangeRef::parse(alloc, s);
-    let other = range_of(&other)?;
+    beside_parsed(alloc, range, &other, asked, room)
+}
+
+// The reply about a range and another one that was parsed.
+#[inline(always)]
+fn beside_parsed<'a, 't>(
+    alloc: Global,
+    range: &RangeRef<'t>,
+    other: &Parsed<'t>,
+    asked: AboutRanges,
+    room: &'a mut String,
+) -> Result<&'a str, Failure<Fault>>
+    ensures { (text : List ℕ) → ParsesRange text other.now
+        → IsTold result (On (IsRangeOf text) (RangesReply asked range.now)) }
+{
+    let other = range_of(other)?;
     Ok(asked.reply(alloc, range, other, room)?)
 }
 
@@ -146,7 +161,20 @@ fn on_match(
     ensures { IsTold result (IsReply (Question.Match (r.entry, v.entry) asked)) }
 {
     let range = RangeRef::parse(alloc, r);
-    let range = range_of(&range)?;
+    parsed_match(&range, v, asked)
+}
+
+#[inline(always)]
+fn parsed_match(
+    parsed: &Parsed<'_>,
+    v: &str,
+    asked: AboutMatch,
+) -> Result<&'static str, Failure<Fault>>
+    ensures { (text : List ℕ) → ParsesRange text parsed.now
+        → IsTold result (On (IsRangeOf text) (λ range. On (IsVersionOf v.now)
+        (λ version. Says (truth_word (match_reply asked range version))))) }
+{
+    let range = range_of(parsed)?;
     let version = VersionRef::parse(v);
     let version = version_of(&version)?;
     Ok(truth_word(asked.reply(range, version)))
@@ -179,7 +207,7 @@ fn parsed_best<'a>(
 {
     let range = range_of(parsed)?;
     let best = best_of(asked, range, vs)?;
-    Ok(borrowed_or_none(best.as_ref(), room)?)
+    Ok(borrowed_or_none(best, room)?)
 }
 
 impl AboutVersion<'_> {
@@ -193,7 +221,7 @@ impl AboutVersion<'_> {
         ensures { IfOk result (λ text. text.now ≡ version_reply self.entry v.now) }
     {
         match self {
-            AboutVersion::Ver => borrowed_or_none(Some(v), room),
+            AboutVersion::Ver => printed(v, room),
             AboutVersion::Inc(word) => next_of(alloc, v, word, None, None, room),
             AboutVersion::IncWith(word, id) => next_of(alloc, v, word, Some(id), None, room),
             AboutVersion::IncFrom(word, id, base) => {
@@ -247,8 +275,8 @@ impl AboutRange {
         ensures { IfOk result (λ text. RangeReply self r.now text.now) }
     {
         match self {
-            AboutRange::Print => range_or_none(Some(r), room),
-            AboutRange::Least => version_or_none(r.min_version(alloc)?.as_ref(), room),
+            AboutRange::Print => printed(r, room),
+            AboutRange::Least => version_or_none(r.min_version(alloc), room),
         }
     }
 }
@@ -265,9 +293,9 @@ impl AboutRanges {
         ensures { IfOk result (λ text. RangesReply self r.now s.now text.now) }
     {
         match self {
-            AboutRanges::And => range_or_none(r.intersect(alloc, s)?.as_ref(), room),
-            AboutRanges::Minus => range_or_none(r.difference(alloc, s)?.as_ref(), room),
-            AboutRanges::Beyond => version_or_none(r.least_beyond(alloc, s)?.as_ref(), room),
+            AboutRanges::And => range_or_none(r.intersect(alloc, s), room),
+            AboutRanges::Minus => range_or_none(r.difference(alloc, s), room),
+            AboutRanges::Beyond => version_or_none(r.least_beyond(alloc, s), room),
         }
     }
 }

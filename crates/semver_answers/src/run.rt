@@ -229,15 +229,32 @@ pub fn run<R: Read, W: Write>(alloc: Global, reader: &mut R, writer: &mut W) -> 
     ensures { Ran result (R.remaining reader.old) (R.remaining reader.new) (W.contents writer.old)
         (W.contents writer.new) }
 {
-    let Ok(mut chunk) = read_buffer(alloc) else {
-        return Err(RunFault::Memory);
-    };
-    let buffer = chunk.as_mut_slice();
-    let mut lines = Lines::new(alloc);
+    match read_buffer(alloc) {
+        Ok(mut buffer) => {
+            let mut lines = Lines::new(alloc);
+            run_turns(alloc, reader, writer, buffer.as_mut_slice(), &mut lines)
+        }
+        Err(_) => Err(RunFault::Memory),
+    }
+}
+
+// Reads into the buffer until the end of the input. No line is pending.
+fn run_turns<R: Read, W: Write>(
+    alloc: Global,
+    reader: &mut R,
+    writer: &mut W,
+    buffer: &mut [u8],
+    lines: &mut Lines,
+) -> Result<(), RunFault>
+    requires room { 0 < length buffer.old }
+    requires none { lines.old.pending.items ≡ [] }
+    ensures { Ran result (R.remaining reader.old) (R.remaining reader.new) (W.contents writer.old)
+        (W.contents writer.new) }
+{
     'reads: for _ in 0..u64::MAX {
-        let n = turn(alloc, reader, writer, buffer, &mut lines)?;
+        let n = turn(alloc, reader, writer, buffer, lines)?;
         if n == 0 {
-            return finish(alloc, writer, &mut lines);
+            return finish(alloc, writer, lines);
         }
     }
     Err(RunFault::Read)

@@ -1,7 +1,7 @@
 // The words of the answers. What is printed is printed to `room`, which may hold an earlier answer.
 
-ghost use Rattle.std.specs.Option.{option_copied};
 ghost use Rattle.std.specs.Prelude.{◌≡◌, IfOk, IfSome, Result};
+ghost use Rattle.std.specs.Result.{IsOkAnd};
 ghost use Rattle.semver_core.specs.Difference.{kind_word};
 ghost use Rattle.semver_core.specs.Increments.Table as increment;
 ghost use Rattle.semver_core.specs.Increments.View.{Returns, fault_of};
@@ -36,9 +36,12 @@ pub(crate) fn truth_word(is_so: bool) -> &'static str
     if is_so { "true" } else { "false" }
 }
 
-// A value, printed.
+/// A value, printed.
 #[inline(always)]
-fn printed<'a, T: Display>(value: &T, room: &'a mut String) -> Result<&'a str, AllocError>
+pub(crate) fn printed<'a, T: Display>(
+    value: &T,
+    room: &'a mut String,
+) -> Result<&'a str, AllocError>
     ensures { IfOk result (λ text. IfSome (T.output value.now) (λ bytes. text.now ≡ bytes)) }
 {
     room.clear();
@@ -60,45 +63,49 @@ pub(crate) fn difference_word<'a>(
     }
 }
 
-/// A version, printed, or `none`.
+/// What a call found, printed, or `none`. The functions that ask for it then own nothing.
 #[inline(always)]
 pub(crate) fn version_or_none<'a>(
-    version: Option<&Version>,
+    found: Result<Option<Version>, AllocError>,
     room: &'a mut String,
 ) -> Result<&'a str, AllocError>
-    ensures { IfOk result (λ text. text.now ≡ or_none version_text (option_copied version.entry)) }
+    ensures { IfOk result (λ text.
+        IsOkAnd found (λ version. text.now ≡ or_none version_text version)) }
 {
-    match version {
-        Some(version) => printed(version, room),
-        None => Ok("none"),
+    match found {
+        Ok(Some(version)) => printed(&version, room),
+        Ok(None) => Ok("none"),
+        Err(error) => Err(error),
     }
 }
 
 /// A borrowed version, printed, or `none`.
 #[inline(always)]
 pub(crate) fn borrowed_or_none<'a>(
-    version: Option<&VersionRef<'_>>,
+    version: Option<VersionRef<'_>>,
     room: &'a mut String,
 ) -> Result<&'a str, AllocError>
-    ensures { IfOk result (λ text. text.now ≡ or_none version_text (option_copied version.entry)) }
+    ensures { IfOk result (λ text. text.now ≡ or_none version_text version.entry) }
 {
     match version {
-        Some(version) => printed(version, room),
+        Some(version) => printed(&version, room),
         None => Ok("none"),
     }
 }
 
-/// A range, printed, or `none`.
+/// The range that a call found, printed, or `none`.
 #[inline(always)]
 pub(crate) fn range_or_none<'a>(
-    range: Option<&RangeRef<'_>>,
+    found: Result<Option<RangeRef<'_>>, AllocError>,
     room: &'a mut String,
 ) -> Result<&'a str, AllocError>
-    ensures { IfOk result (λ text. text.now ≡ or_none range_text (option_copied range.entry)) }
+    ensures { IfOk result (λ text.
+        IsOkAnd found.entry (λ range. text.now ≡ or_none range_text range)) }
 {
-    match range {
-        Some(range) => printed(range, room),
-        None => Ok("none"),
+    match found {
+        Ok(Some(range)) => printed(&range, room),
+        Ok(None) => Ok("none"),
+        Err(error) => Err(error),
     }
 }
 

@@ -15,4 +15,4 @@ pub returns : goal.returns
 returns c = λ text parses.
     let best = c.in_ok-best.ensures.best in
     read _ (c.in_ok-range.ensures text parses) (read _ best.read
-    (best_reply c.args.asked _ best.versions _ _ best.is (rw c.as_ref.ensures.value at c.in_ok-borrowed_or_none.ensures)))
+    (best_reply c.args.asked _ best.versions _ _ best.is c.in_ok-borrowed_or_none.ensures))

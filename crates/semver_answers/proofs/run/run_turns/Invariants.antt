@@ -1,7 +1,7 @@
 use Rattle.std.proofs.Common.{◌<◌, [], List, ℕ, length}
 use Rattle.semver_answers.specs.Answers.{Answers}
 use Rattle.semver_answers.specs.Internal.Steps.{Turned}
-use Rattle.semver_answers.proofs.run.run.Given as goal
+use Rattle.semver_answers.proofs.run.run_turns.Given as goal
 
 abbrev pub invariant-reads : goal.invariant-reads
 invariant-reads g l = (0 < length l.buffer) × ((bytes : List ℕ)

@@ -4,7 +4,7 @@ use Rattle.std.proofs.lemmas.Result.{err_from_is_err_and}
 use Rattle.semver_answers.specs.Answers.{Answers}
 use Rattle.semver_answers.specs.declared.run.RunFault.TheVariants.{Read}
 use Rattle.semver_answers.proofs.Steps.{Answers-append, finished_ran, stopped_ran, turned_on}
-use Rattle.semver_answers.proofs.run.run.Goals as goal
+use Rattle.semver_answers.proofs.run.run_turns.Goals as goal
 
 pub returns-in_err-n : goal.returns-in_err-n
 returns-in_err-n g c =
