@@ -42,27 +42,17 @@ not_past_order : (u v : VersionValue) (t : Bool) → is_past precedence (Beside 
 not_past_order u v t h = in_order v u Near t (one_way precedence_total (Beside v Near) (Beside u t)
     (grind (arith, past_lt precedence_total (Beside u t) v)))
 
+ruleset named_between = (triple_between, named_parts, in_order, named_from, pre_upto)
+
 -- a cut that names v is not above another past which v lies
 lower_named : (c d : Cut VersionValue) (v : VersionValue) → is_release v ≡ false → cut_names c v ≡ true → below d c ≡ false
     → is_past precedence d v ≡ true → cut_names d v ≡ true
-lower_named c d v k n m h = grind (arith, past_order, triple_between, named_parts, in_order, named_from, pre_upto)
+lower_named c d v k n m h = grind (arith, past_order, named_between)
 
 -- or not below one past which v does not lie
 upper_named : (c d : Cut VersionValue) (v : VersionValue) → cut_names c v ≡ true → below c d ≡ false
     → is_past precedence d v ≡ false → cut_names d v ≡ true
-upper_named c d v n m h =
-    grind (
-      arith,
-      named_parts,
-      in_order,
-      triple_between,
-      tied_back,
-      triple_total,
-      not_past_order,
-      named_from,
-      pre_upto,
-      alike_right,
-    )
+upper_named c d v n m h = grind (arith, named_between, tied_back, triple_total, not_past_order, alike_right)
 
 -- one of two bounds names v, and v lies between both: the one that is picked names it
 greater_names : (b c : Bound VersionValue) (v : VersionValue) → is_release v ≡ false → is_past precedence (lower_cut b) v ≡ true
