@@ -18,5 +18,6 @@ pub(crate) use crate::readers::fast::read_common;
 pub(crate) use crate::readers::found::Filled;
 pub(crate) use crate::readers::kinds::ignored_front;
 pub use crate::readers::loose::{is_blank, range_loose};
+pub(crate) use crate::readers::partial::{build_front, pre_release_front};
 pub(crate) use crate::readers::spaces::skip_spaces;
 pub use semver_core::readers::{version_fast, version_loose};

@@ -3,9 +3,7 @@
 mod fast;
 mod loose;
 
+pub(crate) use crate::readers::fast::numbers;
 pub use crate::readers::fast::version_fast;
-pub(crate) use crate::readers::fast::{leading_numbers, three_numbers};
 pub use crate::readers::loose::version_loose;
-pub(crate) use crate::readers::loose::{
-    build_start, front_of_numbers, lists_at, pre_release_start,
-};
+pub(crate) use crate::readers::loose::{build_start, front_of_numbers, pre_release_start};

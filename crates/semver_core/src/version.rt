@@ -19,7 +19,7 @@ pub(crate) mod order;
 pub mod parts;
 pub mod versioned;
 
-use crate::readers::{leading_numbers, lists_at, version_loose};
+use crate::readers::version_loose;
 use crate::version::lists::Qualifier;
 use crate::{Failure, Identifier, MAX_LENGTH, MAX_SAFE_INTEGER, SemverError};
 use std::alloc::Global;
@@ -69,6 +69,7 @@ impl Version {
     /// assert!(rt; Version::parse(alloc, "1.2").is_err());
     /// ```
     #[inline(always)]
+    #[tactic(auto, using(crate::proofs::Text::Ends::parsed))]
     pub fn parse(alloc: Global, text: &str) -> Result<Version, Failure<SemverError>>
         // What is read is a version of the text.
         ensures ok { IfOk result (λ v. Parses MAX_SAFE_INTEGER text.now v) }
@@ -81,13 +82,7 @@ impl Version {
         if text.len() > MAX_LENGTH {
             return Err(Failure::Refused(SemverError));
         }
-        let Some((major, minor, patch, end)) = leading_numbers(text) else {
-            return parse_loose(alloc, text);
-        };
-        if end == text.len() {
-            return Ok(Version::release(major, minor, patch));
-        }
-        parse_lists(alloc, text, major, minor, patch, end)
+        version_loose(alloc, text)?.ok_or(Failure::Refused(SemverError))
     }
 
     // The release of three numbers.
@@ -192,39 +187,6 @@ impl Version {
     {
         self.pre_release().is_empty()
     }
-}
-
-// The version of three numbers and of the identifiers behind them, for `Version::parse`.
-#[inline(never)]
-fn parse_lists(
-    alloc: Global,
-    text: &str,
-    major: u64,
-    minor: u64,
-    patch: u64,
-    at: usize,
-) -> Result<Version, Failure<SemverError>>
-    requires { at ≤ length text.now }
-    ensures ok { IfOk result (λ v. v ≡ qualified text.now (major, minor, patch, at)) }
-    ensures never { RefusedOnlyIf result ⊥ }
-    ensures memory { MemoryOnlyIf result
-        (HasIdentifiers (qualified text.now (major, minor, patch, at))) }
-{
-    let (qualifier, _) = lists_at(alloc, text, at)?;
-    Ok(Version::from_parts(major, minor, patch, qualifier))
-}
-
-// Reads the version at the front of a text of any length, for `Version::parse` where the text does
-// not begin with the numbers or with `v` and the numbers.
-#[cold]
-#[inline(never)]
-fn parse_loose(alloc: Global, text: &str) -> Result<Version, Failure<SemverError>>
-    ensures ok { IfOk result (λ v. Reads MAX_SAFE_INTEGER text.now v) }
-    ensures refused { RefusedOnlyIf result (NoValue (Reads MAX_SAFE_INTEGER text.now)) }
-    ensures memory { MemoryOnlyIf result
-        ((v : VersionValue) × Reads MAX_SAFE_INTEGER text.now v × HasIdentifiers v) }
-{
-    version_loose(alloc, text)?.ok_or(Failure::Refused(SemverError))
 }
 
 // Proof helper: every `Identifier` of the program satisfies `IsId`. The read of the number has no

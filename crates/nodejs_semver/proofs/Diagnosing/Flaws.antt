@@ -1,24 +1,26 @@
 -- Where the reader of numbers stops, the text is wrong there and has no version.
 use Rattle.std.proofs.Common.{◌≡◌, ◌<◌, ◌≤◌, ◌+◌, ◌-◌, ℕ, zero, suc, List, [], ◌∷◌, ◌++◌, length, drop, take, refl, sym, ap, ◌∙◌}
 use Rattle.std.proofs.Common.{subst, arith, true, false, eqb, Some, append_assoc, length-append, length-drop, ◌==◌, ◌↔◌, IsUtf8}
-use Rattle.std.proofs.Common.{slice_range, Option, None, MatchOption, IfSome, get_or}
+use Rattle.std.proofs.Common.{slice_range, Option, None, MatchOption, IfSome, get_or, inl, inr}
 use Rattle.std.specs.Char.{encode_utf8, is_ascii_digit}
 use Rattle.std.specs.Str.Parse.{digits_value}
-use Rattle.std.proofs.lemmas.Bool.{eqb-true}
+use Rattle.std.proofs.lemmas.Bool.{cases_Bool, eqb-true}
 use Rattle.std.proofs.lemmas.Bool.Decides.{nat_tests}
-use Rattle.std.proofs.lemmas.List.{take-append-drop, drop-drop, drop_all, drop_more}
+use Rattle.std.proofs.lemmas.List.{take-append-drop, drop-drop, drop_all, drop_more, take_rest}
 use Rattle.std.proofs.Math.Seq.{take-add, take-append_seam}
 use Rattle.semver_core.specs.Failures.{NoValue}
-use Rattle.semver_core.specs.Internal.Reading.{mark_len, triple_at, pre_release_at, build_at, qualified}
+use Rattle.semver_core.specs.Internal.Reading.{mark_len, triple_at, pre_release_at, build_at}
+use Rattle.semver_core.specs.Internal.Reading.{list_at, list_len, or_nothing, qualified}
+use Rattle.nodejs_semver.specs.Internal.Fronts.{begins_byte, begins_identifier, build_front, marked_list, pre_release_front}
 use Rattle.semver_core.specs.Internal.Spaces.{space_len}
 use Rattle.semver_core.specs.Text.Characters.{begins, IsAfterBlank}
 use Rattle.semver_core.specs.Text.Identifiers.{Id}
 use Rattle.semver_core.specs.Text.Numbers.{IsNumber}
-use Rattle.semver_core.specs.Text.VersionText.{IsMark, Reads, no_mark, small_mark, capital_mark}
+use Rattle.semver_core.specs.Text.VersionText.{Reads}
 use Rattle.semver_core.specs.Values.Versions.{VersionValue}
 use Rattle.semver_core.specs.declared.TheConstants.{MAX_LENGTH}
 use Rattle.semver_core.proofs.Text.Pieces.{some_inside}
-use Rattle.semver_core.proofs.Text.Texts.{build_complete, divided_at, number_begins, pre_complete, triple_complete}
+use Rattle.semver_core.proofs.Text.Texts.{build_complete, divided_at, mark_is, number_begins, pre_complete, triple_complete}
 use Rattle.semver_core.proofs.Text.Trims.{after_blank_drops_spaces}
 use Rattle.nodejs_semver.proofs.Reading.Progress.{spaces-gone}
 use Rattle.nodejs_semver.specs.Diagnosis.VersionFlaws.{BeginsGreat, IsExact, IsExpectedAt, IsFlaw, IsFront, IsGreatAt}
@@ -185,10 +187,6 @@ stuck_wrong limit text Starts k at flaw nine inside p s (later j a end f found d
 
 -- ---- behind the mark and the whitespace
 
-marked : (text : List ℕ) → IsMark (take (mark_len text) text)
-marked [] = no_mark
-marked (c ∷ rest) = grind (arith, eqb-true, no_mark, small_mark, capital_mark)
-
 unmarked : (text : List ℕ) (start : ℕ) → mark_len text ≤ start → take start text ≡ [] → mark_len (drop start text) ≡ 0
 unmarked text start le e = grind (arith, drop_all)
 
@@ -211,7 +209,7 @@ begun limit text start utf8 a =
     record {
       inside = a.boundary.0;
       place = subst (λ (t : List ℕ). Place limit (Leads t) t 2) (sym front)
-          (lead_place limit (take k text) blank (marked text) a.blank);
+          (lead_place limit (take k text) blank (mark_is text) a.blank);
       leads = (
         ap (λ (t : List ℕ). space_len t) (after_blank_drops_spaces text k start utf8 a) ∙ spaces-gone 0 (drop k text),
         unmarked text start a.after,
@@ -249,26 +247,60 @@ pub decided : (limit : ℕ) (text : List ℕ) (found : Option VersionFlaw) → I
     → ((found ≡ None) ↔ IsExact limit text) × IfSome found (λ flaw. IsFlaw limit text flaw)
 decided limit text found h = grind arith
 
-pub ended : (limit : ℕ) (text bytes : List ℕ) (start end next at : ℕ) → bytes ≡ text
-    → (t : ℕ × ℕ × ℕ × ℕ) × (triple_at limit bytes start ≡ Some t) × (t.3 ≡ end) → next ≡ (pre_release_at bytes end).1
-    → at ≡ (build_at bytes next).1 → Ended limit text start at
-ended limit text bytes start end next at same t pre build = grind arith
+-- what is left behind the identifiers at a place
+marked-left : (text : List ℕ) (at start : ℕ)
+    → (marked_list (drop at text) (drop start text)).1 ≡ drop (or_nothing at (list_at text start)).1 text
+marked-left text at start = elim (cases_Bool (begins_identifier (drop start text))) [
+  | inl some ↦ rw some (drop-drop (list_len (drop start text)) start text)
+  | inr none ↦ rw none refl
+]
 
-pub whole_exact : (limit : ℕ) (text : List ℕ) (start at : ℕ) → IsUtf8 text → IsAfterBlank text (mark_len text) start
-    → length text ≤ MAX_LENGTH → Ended limit text start at → length text ≤ at → IsExact limit text
-whole_exact limit text start at utf8 a short e all =
+pre-left : (text : List ℕ) (at : ℕ) → (pre_release_front (drop at text)).1 ≡ drop (pre_release_at text at).1 text
+unfolding pre_release_front
+pre-left text at = elim (cases_Bool (begins_byte 45 (drop at text))) [
+  | inl dash ↦ rw (dash, drop-drop 1 at text) (marked-left text at (at + 1))
+  | inr other ↦ rw other (marked-left text at at)
+]
+
+build-left : (text : List ℕ) (at : ℕ) → (build_front (drop at text)).1 ≡ drop (build_at text at).1 text
+unfolding build_front
+build-left text at = elim (cases_Bool (begins_byte 43 (drop at text))) [
+  | inl mark ↦ rw (mark, drop-drop 1 at text) (marked-left text at (at + 1))
+  | inr other ↦ rw other refl
+]
+
+-- what is left behind a version
+abbrev pub IsLeft : ℕ → List ℕ → ℕ → List ℕ → Type 0
+IsLeft limit text start ignored = (at : ℕ) × Ended limit text start at × (ignored ≡ drop at text)
+
+pub ended : (limit : ℕ) (text bytes : List ℕ) (read built : List ℕ × List ℕ) (start end : ℕ) → bytes ≡ text
+    → (t : ℕ × ℕ × ℕ × ℕ) × (triple_at limit bytes start ≡ Some t) × (t.3 ≡ end)
+    → read ≡ pre_release_front (take (length bytes - end) (drop end bytes)) → built ≡ build_front read.1
+    → IsLeft limit text start built.1
+ended limit text bytes read built start end same t pre build = (
+  _,
+  record { numbers = t.0; triple = rw same at t.1; place = refl },
+  rw (build, pre, take_rest bytes end, same, ← t.2, pre-left text t.0.3, build-left text (pre_release_at text t.0.3).1) refl,
+)
+
+whole_exact : (limit : ℕ) (text : List ℕ) (start at : ℕ) → IsUtf8 text → IsAfterBlank text (mark_len text) start
+    → length text ≤ MAX_LENGTH → Ended limit text start at → drop at text ≡ [] → IsExact limit text
+whole_exact limit text start at utf8 a short e none =
     let b = begun limit text start utf8 a in
     let d = divided_at limit text (take (mark_len text) text) (slice_range text (mark_len text) start) start e.numbers b.divided
-    (marked text) a.blank e.triple in
-    (qualified text e.numbers, record { short = short; reads = d.reads }, d.rest_is ∙ drop_all _ text (omega (arith, e.place)))
+    (mark_is text) a.blank e.triple in (
+      qualified text e.numbers,
+      record { short = short; reads = d.reads },
+      d.rest_is ∙ (ap (λ (n : ℕ). drop n text) (sym e.place) ∙ none),
+    )
 
-pub ignored_behind : (limit : ℕ) (text : List ℕ) (start at : ℕ) → IsUtf8 text → IsAfterBlank text (mark_len text) start
+ignored_behind : (limit : ℕ) (text : List ℕ) (start at : ℕ) → IsUtf8 text → IsAfterBlank text (mark_len text) start
     → length text ≤ MAX_LENGTH
     → Ended limit text start at → at < length text → IsFlaw limit text (Flaw.Ignored at) × (IsExact limit text → ⊥)
 ignored_behind limit text start at utf8 a short e some =
     let b = begun limit text start utf8 a in
     let d = divided_at limit text (take (mark_len text) text) (slice_range text (mark_len text) start) start e.numbers b.divided
-    (marked text) a.blank e.triple in (
+    (mark_is text) a.blank e.triple in (
       (
         qualified text e.numbers,
         record { short = short; reads = d.reads },
@@ -296,3 +328,27 @@ ignored_behind limit text start at utf8 a short e some =
         e.place ∙ (ap (λ (t : ℕ × ℕ × ℕ × ℕ). (build_at text (pre_release_at text t.3).1).1) same
         ∙ (ap (λ (q : List Id × ℕ). (build_at text q.1).1) pre.0 ∙ ap (λ (q : List Id × ℕ). q.1) meta.0)) in
         omega (arith, some, place, length-drop at text, ap length (ap (λ (m : ℕ). drop m text) place ∙ (meta.1 ∙ none)))
+
+-- where nothing is left, and where something is
+pub whole_left : (limit : ℕ) (text : List ℕ) (start : ℕ) (ignored : List ℕ) → IsUtf8 text
+    → IsAfterBlank text (mark_len text) start
+    → length text ≤ MAX_LENGTH → IsLeft limit text start ignored → length ignored ≡ 0 → IsExact limit text
+whole_left limit text start ignored utf8 a short e none =
+    whole_exact limit text start e.0 utf8 a short e.1 (sym e.2 ∙ empty ignored none)
+  where
+    empty : (t : List ℕ) → length t ≡ 0 → t ≡ []
+    empty [] h = refl
+    empty (b ∷ t) h = absurd (omega (arith, h))
+
+pub left_fits : (limit : ℕ) (text : List ℕ) (start : ℕ) (ignored : List ℕ) → IsLeft limit text start ignored
+    → length ignored ≤ length text
+left_fits limit text start ignored e = omega (arith, ap length e.2, length-drop e.0 text)
+
+pub ignored_left : (limit : ℕ) (text : List ℕ) (start n : ℕ) (ignored : List ℕ) → IsUtf8 text
+    → IsAfterBlank text (mark_len text) start → length text ≤ MAX_LENGTH → IsLeft limit text start ignored → 0 < length ignored
+    → n ≡ length text - length ignored → IsFlaw limit text (Flaw.Ignored n) × (IsExact limit text → ⊥)
+ignored_left limit text start n ignored utf8 a short e some place =
+    let len : length ignored ≡ length text - e.0 = ap length e.2 ∙ length-drop e.0 text in
+    let same : e.0 ≡ n = omega (arith, some, len, place) in
+    subst (λ (m : ℕ). IsFlaw limit text (Flaw.Ignored m) × (IsExact limit text → ⊥)) same
+    (ignored_behind limit text start e.0 utf8 a short e.1 (omega (arith, some, len)))

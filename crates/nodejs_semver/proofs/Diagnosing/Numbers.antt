@@ -1,22 +1,19 @@
 -- Numbers and lists of identifiers, read up to the place behind them.
-use Rattle.std.proofs.Common.{◌≡◌, ◌<◌, ◌≤◌, ◌+◌, ◌-◌, ℕ, List, [], ◌∷◌, ◌++◌, length, drop, take, refl, sym, ap, ◌∙◌, arith}
+use Rattle.std.proofs.Common.{◌≡◌, ◌<◌, ◌≤◌, ◌+◌, ℕ, List, [], ◌∷◌, ◌++◌, length, drop, take, refl, sym, ap, ◌∙◌, arith}
 use Rattle.std.proofs.Common.{inl, inr, true, false, Some, suc, length-append, length-drop}
 use Rattle.std.specs.Char.{is_ascii_digit}
 use Rattle.std.specs.List.{list_all, prefix_len}
 use Rattle.std.specs.Str.Parse.{digits_value}
 use Rattle.std.proofs.lemmas.Bool.{cases_Bool, cases_lt}
-use Rattle.std.proofs.lemmas.List.{take-append-drop, take_at, drop_at, take_rest}
-use Rattle.semver_core.specs.Internal.Reading.{list_len, number_at, triple_at}
+use Rattle.std.proofs.lemmas.List.{take-append-drop, take_at, drop_at}
+use Rattle.semver_core.specs.Internal.Reading.{number_at, triple_at}
 use Rattle.semver_core.specs.Text.Characters.{begins, IsPieceAt, NoPieceAt}
-use Rattle.semver_core.specs.Text.Identifiers.{goes_on}
 use Rattle.semver_core.specs.Text.Numbers.{IsWholeNumber}
 use Rattle.semver_core.proofs.Text.Pieces.{number_complete}
 use Rattle.nodejs_semver.specs.Diagnosis.VersionFlaws.{BeginsGreat}
 use Rattle.nodejs_semver.specs.Internal.Stuck.{IsNumberAt, Stuck, begins_dot, at_digit, at_great, at_dot, later}
 use Rattle.nodejs_semver.proofs.Reading.Numbers.{digits-taken, run-ends}
 use Rattle.nodejs_semver.specs.declared.diagnosis.versions.VersionFlaw.TheVariants as Flaw
-use Rattle.semver_core.proofs.Text.Ends.{end_past, end_step}
-use Rattle.semver_core.proofs.Text.Runs.{list_len_stop}
 
 -- the run of digits at the front of a text
 run-digits : (text : List ℕ) → list_all is_ascii_digit (take (prefix_len is_ascii_digit text) text) ≡ true
@@ -94,16 +91,6 @@ pub stuck_great : (limit : ℕ) (text : List ℕ) (at : ℕ) → begins is_ascii
     → ((n : ℕ) → NoPieceAt (λ digits rest. IsWholeNumber limit digits rest n) text at) → (k : ℕ)
     → Stuck limit text k at (Flaw.NumberTooGreat at)
 stuck_great limit text at some none k = at_great k at (begins_great limit text at some none)
-
--- identifiers go on, or end
-pub list_goes : (text : List ℕ) (at : ℕ) → at < length text → goes_on (take (length text - at) (drop at text)) ≡ true
-    → at + list_len (drop at text) ≡ (at + 1) + list_len (drop (at + 1) text)
-list_goes text at lt h = omega (arith, end_step text at lt (rw (take_rest text at) at h))
-
-pub list_stops : (text : List ℕ) (at : ℕ) → goes_on (take (length text - at) (drop at text)) ≡ false → list_len (drop at text) ≡ 0
-list_stops text at h = list_len_stop (drop at text) (rw (take_rest text at) at h)
-
-pub ruleset lists_end = (list_goes, list_stops, end_past)
 
 pub ruleset number_stops = (at_digit, stuck_great)
 

@@ -1,17 +1,17 @@
 -- The pre-release and the build at the front of a text: what is read is written there, and what is written is read.
 use Rattle.std.proofs.Common.{◌≡◌, ℕ, ◌≤◌, List, [], ◌∷◌, ◌++◌, length, take, drop, refl, sym, ap, arith, true}
 use Rattle.std.proofs.Common.{false, inl, inr, append-nil, append_assoc, length-append}
-use Rattle.std.specs.Prelude.{◌&&◌}
 use Rattle.std.specs.Char.{is_ascii_digit}
-use Rattle.std.proofs.lemmas.Bool.{and_parts, cases_Bool}
+use Rattle.std.proofs.lemmas.Bool.{cases_Bool}
 use Rattle.std.proofs.lemmas.Bool.Decides.{nat_tests}
 use Rattle.std.proofs.lemmas.List.{take-append-drop}
 use Rattle.semver_core.specs.Text.Characters.{begins}
 use Rattle.semver_core.specs.Text.Identifiers.{Id, IsIdentifiers, goes_on, listed}
 use Rattle.semver_core.specs.Text.VersionText.{IsBuild, IsPreRelease, begins_pre_release, dashed, bare, no_pre_release, plus, no_build}
 use Rattle.semver_core.specs.Internal.Reading.{list_len}
-use Rattle.nodejs_semver.specs.Internal.Fronts.{begins_byte, begins_identifier, build_front, front_len, pre_release_front}
-use Rattle.nodejs_semver.proofs.Reading.IdentifierLists.{front-ended, front-identifiers, front_len-none, written-begins}
+use Rattle.semver_core.proofs.Text.Pieces.{list_ended}
+use Rattle.nodejs_semver.specs.Internal.Fronts.{begins_byte, begins_identifier, build_front, pre_release_front}
+use Rattle.nodejs_semver.proofs.Reading.IdentifierLists.{front-identifiers, written-begins}
 use Rattle.nodejs_semver.proofs.Reading.IdentifierLists.{written-exact, written-le, written-spelled}
 use Rattle.nodejs_semver.proofs.Reading.Quiet.{Quiet, Stop, quiet-before}
 
@@ -19,8 +19,8 @@ use Rattle.nodejs_semver.proofs.Reading.Quiet.{Quiet, Stop, quiet-before}
 ended-digit : (text : List ℕ) → goes_on text ≡ false → begins is_ascii_digit text ≡ false
 ended-digit text k = grind (arith, nat_tests)
 
-ended-quiet : (front text : List ℕ) → begins_identifier text ≡ true → Quiet front (drop (front_len text) text)
-ended-quiet front text h = let r = drop (front_len text) text in quiet-before front r (ended-digit r (front-ended text h))
+ended-quiet : (front text : List ℕ) → Quiet front (drop (list_len text) text)
+ended-quiet front text = let r = drop (list_len text) text in quiet-before front r (ended-digit r (list_ended text))
 
 -- ---- what is read is written
 
@@ -34,24 +34,24 @@ unfolding listed
 nothing-read x = record { split = refl; is = λ b g h. no_pre_release b h; stop = refl }
 
 dash-read : (y : List ℕ) → begins_identifier y ≡ true
-    → PreRead (45 ∷ y) (45 ∷ take (front_len y) y) (drop (front_len y) y) (take (front_len y) y)
+    → PreRead (45 ∷ y) (45 ∷ take (list_len y) y) (drop (list_len y) y) (take (list_len y) y)
 dash-read y h = record {
-  split = ap (λ (t : List ℕ). 45 ∷ t) (sym (take-append-drop (front_len y) y));
-  is = λ b g k. dashed (take (front_len y) y) b (listed (take (front_len y) y))
+  split = ap (λ (t : List ℕ). 45 ∷ t) (sym (take-append-drop (list_len y) y));
+  is = λ b g k. dashed (take (list_len y) y) b (listed (take (list_len y) y))
       (record { identifiers = front-identifiers y h; ended = g });
-  stop = ended-quiet (45 ∷ take (front_len y) y) y h;
+  stop = ended-quiet (45 ∷ take (list_len y) y) y;
 }
 
 begins-take : (n : ℕ) (x : List ℕ) → begins_byte 45 x ≡ false → begins_byte 45 (take n x) ≡ false
 begins-take n x h = grind arith
 
 bare-read : (x : List ℕ) → begins_byte 45 x ≡ false → begins_identifier x ≡ true
-    → PreRead x (take (front_len x) x) (drop (front_len x) x) (take (front_len x) x)
+    → PreRead x (take (list_len x) x) (drop (list_len x) x) (take (list_len x) x)
 bare-read x d h = record {
-  split = sym (take-append-drop (front_len x) x);
-  is = λ b g k. bare (take (front_len x) x) b (listed (take (front_len x) x))
-      (record { identifiers = front-identifiers x h; ended = g }) (begins-take (front_len x) x d);
-  stop = ended-quiet (take (front_len x) x) x h;
+  split = sym (take-append-drop (list_len x) x);
+  is = λ b g k. bare (take (list_len x) x) b (listed (take (list_len x) x))
+      (record { identifiers = front-identifiers x h; ended = g }) (begins-take (list_len x) x d);
+  stop = ended-quiet (take (list_len x) x) x;
 }
 
 byte-begins : (c : ℕ) (x : List ℕ) → begins_byte c x ≡ true → x ≡ c ∷ drop 1 x
@@ -61,12 +61,12 @@ pub pre-read : (x : List ℕ) → (p : List ℕ) × PreRead x p (pre_release_fro
 unfolding pre_release_front
 pre-read x = elim (cases_Bool (begins_byte 45 x)) [
   | inl dash ↦ let y = drop 1 x in elim (cases_Bool (begins_identifier y)) [
-    | inl some ↦ rw (dash, some, byte-begins 45 x dash) (45 ∷ take (front_len y) y, dash-read y some)
+    | inl some ↦ rw (dash, some, byte-begins 45 x dash) (45 ∷ take (list_len y) y, dash-read y some)
     | inr none ↦ rw (dash, none) ([], nothing-read x)
   ]
   | inr other ↦ elim (cases_Bool (begins_identifier x)) [
-    | inl some ↦ rw other (take (front_len x) x, bare-read x other some)
-    | inr none ↦ rw (other, front_len-none x none) ([], nothing-read x)
+    | inl some ↦ rw (other, some) (take (list_len x) x, bare-read x other some)
+    | inr none ↦ rw (other, none) ([], nothing-read x)
   ]
 ]
 
@@ -77,24 +77,29 @@ pub record BuildRead (y b left read : List ℕ) : Type 0 where
   pub pre : begins_pre_release b ≡ false
   pub stop : Quiet b left
 
+nothing-built : (y : List ℕ) → BuildRead y [] y []
+unfolding listed
+nothing-built y = record { split = refl; is = no_build [] refl; goes = refl; pre = refl; stop = refl }
+
+plus-read : (z : List ℕ) → begins_identifier z ≡ true
+    → BuildRead (43 ∷ z) (43 ∷ take (list_len z) z) (drop (list_len z) z) (take (list_len z) z)
+plus-read z h = record {
+  split = ap (λ (t : List ℕ). 43 ∷ t) (sym (take-append-drop (list_len z) z));
+  is = plus (take (list_len z) z) [] (listed (take (list_len z) z))
+      (record { identifiers = front-identifiers z h; ended = refl });
+  goes = refl;
+  pre = refl;
+  stop = ended-quiet (43 ∷ take (list_len z) z) z;
+}
+
 pub build-read : (y : List ℕ) → (b : List ℕ) × BuildRead y b (build_front y).1 (build_front y).0
-unfolding build_front listed
-build-read y = elim (cases_Bool (begins_byte 43 y && begins_identifier (drop 1 y))) [
-  | inl both ↦
-      let z = drop 1 y in
-      let front = take (front_len z) z in
-      let each = and_parts (begins_byte 43 y) (begins_identifier z) both in
-      rw (both, byte-begins 43 y each.0) (
-        43 ∷ front,
-        record {
-          split = ap (λ (t : List ℕ). 43 ∷ t) (sym (take-append-drop (front_len z) z));
-          is = plus front [] (listed front) (record { identifiers = front-identifiers z each.1; ended = refl });
-          goes = refl;
-          pre = refl;
-          stop = ended-quiet (43 ∷ front) z each.1;
-        },
-      )
-  | inr none ↦ rw none ([], record { split = refl; is = no_build [] refl; goes = refl; pre = refl; stop = refl })
+unfolding build_front
+build-read y = elim (cases_Bool (begins_byte 43 y)) [
+  | inl mark ↦ let z = drop 1 y in elim (cases_Bool (begins_identifier z)) [
+    | inl some ↦ rw (mark, some, byte-begins 43 y mark) (43 ∷ take (list_len z) z, plus-read z some)
+    | inr none ↦ rw (mark, none) ([], nothing-built y)
+  ]
+  | inr other ↦ rw other ([], nothing-built y)
 ]
 
 -- ---- what is written is read
@@ -129,11 +134,14 @@ pre-written p y b l (bare t r list h d) = undashed t h.identifiers d
     undashed : (t : List ℕ) → IsIdentifiers t list → begins_byte 45 t ≡ false → PreWritten t y list
     undashed [] k e = cc k.runs
     undashed (c ∷ t) k e = record {
-      le = rw e (written-le (c ∷ t) y list k);
-      exact = λ run d i. record
-          { text = c ∷ t; is = rw e (written-exact (c ∷ t) y list k run); list = written-spelled (c ∷ t) list k };
+      le = rw (written-begins (c ∷ t) y list k, e) (written-le (c ∷ t) y list k);
+      exact = λ run d i. record {
+        text = c ∷ t;
+        is = rw (written-begins (c ∷ t) y list k, e) (written-exact (c ∷ t) y list k run);
+        list = written-spelled (c ∷ t) list k;
+      };
     }
-pre-written p y b l (no_pre_release r h) = grind (arith, pre_release_front-le, front_len-none)
+pre-written p y b l (no_pre_release r h) = grind (arith, pre_release_front-le)
 
 -- the qualifier of a partial is passed, and no more is where nothing goes on
 pub record QualifierRead (text more : List ℕ) (l m : List Id) : Type 0 where

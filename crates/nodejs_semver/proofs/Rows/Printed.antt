@@ -9,7 +9,7 @@ use Rattle.semver_core.specs.Values.Versions.{VersionValue, release_value}
 use Rattle.semver_core.specs.declared.cuts.bound.Bound.{Bound}
 use Rattle.semver_core.specs.declared.cuts.bound.Bound.TheVariants.{Unbounded, Before, After}
 use Rattle.nodejs_semver.specs.Internal.Denotes.{denotes}
-use Rattle.nodejs_semver.specs.Internal.Fronts.{build_front, component_front, dotted_front, front_len}
+use Rattle.nodejs_semver.specs.Internal.Fronts.{build_front, component_front, dotted_front}
 use Rattle.nodejs_semver.specs.Internal.Fronts.{number_of, partial_front, pre_release_front}
 use Rattle.nodejs_semver.specs.Internal.Parts.{cut_bars}
 use Rattle.nodejs_semver.specs.Printing.Text.{range_text}
@@ -48,35 +48,35 @@ prints-tie = refl
 -- and the build of the upper one is lost
 reads-tie : denotes 9007199254740991 (codes "1.2.3+a") ≡ between (Before (version 1 2 3 [] (AlphaNumeric (codes "a") ∷ []))) (After (version 1 2 3 [] (AlphaNumeric (codes "a") ∷ []))) ∷ []
 unfolding table is_boundary number_of space_len after_spaces drop_end_spaces cut_bars partial_front component_front dotted_front
-    pre_release_front build_front front_len list_len listed word_at words_within from_boundary runs_from version
+    pre_release_front build_front list_len listed word_at words_within from_boundary runs_from version
 reads-tie = refl
 
 -- `*` does not come back
 loses-star : denotes 9007199254740991 (codes "*") ≡ between (Before (release_value 0 0 0)) Unbounded ∷ []
 unfolding table is_boundary number_of space_len after_spaces drop_end_spaces cut_bars partial_front component_front dotted_front
-    pre_release_front build_front front_len list_len listed word_at words_within from_boundary runs_from
+    pre_release_front build_front list_len listed word_at words_within from_boundary runs_from
 loses-star = refl
 
 -- nor does a number above the limit
 loses-limit : denotes 9007199254740991 (range_text (between (Before (release_value 9007199254740992 0 0)) Unbounded ∷ [])) ≡ []
 unfolding table is_boundary number_of space_len after_spaces drop_end_spaces cut_bars partial_front component_front dotted_front
-    pre_release_front build_front front_len list_len listed word_at words_within from_boundary runs_from digits
+    pre_release_front build_front list_len listed word_at words_within from_boundary runs_from digits
 loses-limit = refl
 
 -- an identifier of dashes does
 keeps-dash : denotes 9007199254740991 (codes ">1.0.0--.x <=1.0.0") ≡ between (After (version 1 0 0 (AlphaNumeric (codes "-") ∷ AlphaNumeric (codes "x") ∷ []) [])) (After (release_value 1 0 0)) ∷ []
 unfolding table is_boundary number_of space_len after_spaces drop_end_spaces cut_bars partial_front component_front dotted_front
-    pre_release_front build_front front_len list_len listed word_at words_within from_boundary runs_from version
+    pre_release_front build_front list_len listed word_at words_within from_boundary runs_from version
 keeps-dash = refl
 
 -- a range with the number after the limit prints two bounds, and the second one is skipped when they are read again
 widens-caret : denotes 9007199254740991 (codes "^9007199254740991") ≡ between (Before (release_value 9007199254740991 0 0)) (Before (lowest 9007199254740992 0 0)) ∷ []
 unfolding table is_boundary number_of space_len after_spaces drop_end_spaces cut_bars partial_front component_front dotted_front
-    pre_release_front build_front front_len list_len listed word_at words_within from_boundary runs_from
+    pre_release_front build_front list_len listed word_at words_within from_boundary runs_from
 widens-caret = refl
 
 -- so that it is read wider
 widens-printed : denotes 9007199254740991 (codes ">=9007199254740991.0.0 <9007199254740992.0.0-0") ≡ between (Before (release_value 9007199254740991 0 0)) Unbounded ∷ []
 unfolding table is_boundary number_of space_len after_spaces drop_end_spaces cut_bars partial_front component_front dotted_front
-    pre_release_front build_front front_len list_len listed word_at words_within from_boundary runs_from
+    pre_release_front build_front list_len listed word_at words_within from_boundary runs_from
 widens-printed = refl

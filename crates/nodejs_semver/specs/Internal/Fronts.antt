@@ -36,9 +36,6 @@ abbrev pub after_byte : ℕ → List ℕ → Option (List ℕ)
 after_byte c [] = None
 after_byte c (b ∷ rest) = if b == c then Some rest else None
 
-abbrev pub is_dot : ℕ → Bool
-is_dot b = b == 46
-
 -- the text without an optional `v`
 abbrev pub drop_v : List ℕ → List ℕ
 drop_v [] = []
@@ -64,24 +61,23 @@ dotted_front limit text = after_byte 46 text >>? λ rest. component_front limit 
 abbrev pub begins_identifier : List ℕ → Bool
 begins_identifier text = begins is_identifier_char text
 
--- how many bytes the identifiers at the front take
-unfoldable pub front_len : List ℕ → ℕ
-front_len text = if begins_identifier text then list_len text else 0
-
 abbrev pub split_list : List ℕ → List ℕ × List ℕ
-split_list text = (take (front_len text) text, drop (front_len text) text)
+split_list text = (take (list_len text) text, drop (list_len text) text)
+
+-- the identifiers at the front of what stands behind their mark, or nothing of the text
+abbrev pub marked_list : List ℕ → List ℕ → List ℕ × List ℕ
+marked_list text behind = if begins_identifier behind then split_list behind else ([], text)
 
 abbrev pub begins_byte : ℕ → List ℕ → Bool
 begins_byte c text = begins (λ b. b == c) text
 
 -- the text of the pre-release at the front, and what stands behind it
 unfoldable pub pre_release_front : List ℕ → List ℕ × List ℕ
-pre_release_front text =
-    if begins_byte 45 text then (if begins_identifier (drop 1 text) then split_list (drop 1 text) else ([], text)) else split_list text
+pre_release_front text = if begins_byte 45 text then marked_list text (drop 1 text) else marked_list text text
 
 -- the same of the build
 unfoldable pub build_front : List ℕ → List ℕ × List ℕ
-build_front text = if begins_byte 43 text && begins_identifier (drop 1 text) then split_list (drop 1 text) else ([], text)
+build_front text = if begins_byte 43 text then marked_list text (drop 1 text) else ([], text)
 
 abbrev pub patch_front : Option ℕ → Option ℕ → List ℕ → Front (Option ℕ) → Partial × List ℕ
 patch_front major minor text None =

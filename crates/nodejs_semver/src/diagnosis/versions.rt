@@ -4,14 +4,14 @@ ghost use Rattle.std.specs.Char.{is_ascii_digit};
 ghost use Rattle.std.specs.Prelude.{◌≡◌, ◌+◌, ◌≤◌, ◌↔◌};
 ghost use Rattle.std.specs.Prelude.{ℕ, IfErr, IfOk, IfSome, Some, None, drop};
 ghost use Rattle.std.specs.Prelude.{false, length, true, MatchOption};
-ghost use Rattle.semver_core.specs.Internal.Reading.{build_at, list_at, list_len, mark_len};
-ghost use Rattle.semver_core.specs.Internal.Reading.{or_nothing, pre_release_at, triple_at};
+ghost use Rattle.semver_core.specs.Internal.Reading.{mark_len, triple_at};
 ghost use Rattle.semver_core.specs.Text.Characters.{begins, IsAfterBlank};
 ghost use Rattle.semver_core.specs.declared.TheConstants.{MAX_SAFE_INTEGER};
 ghost use Rattle.nodejs_semver.specs.Internal.Stuck.{IsNumberAt, Stuck, begins_dot};
 ghost use Rattle.nodejs_semver.specs.Diagnosis.VersionFlaws.{IsExact, IsFlaw};
 
-use semver_core::scan::{begins_identifier, goes_on, number_in, skip_whitespace};
+use crate::readers::{build_front, pre_release_front};
+use semver_core::scan::{number_in, skip_whitespace};
 use semver_core::{MAX_LENGTH, MAX_SAFE_INTEGER};
 
 /// What a version text has to have at some place.
@@ -38,22 +38,11 @@ pub enum VersionFlaw {
     Ignored { at: usize },
 }
 
-// How many bytes a `v` or `V` at the front takes.
-fn mark_len(bytes: &[u8]) -> usize
-    ensures { result ≡ mark_len bytes.now }
-{
-    match bytes {
-        [b'v', ..] => 1,
-        [b'V', ..] => 1,
-        _ => 0,
-    }
-}
-
 // The place behind the mark and the whitespace at the front.
 fn front_of_numbers(text: &str) -> usize
     ensures { IsAfterBlank text.now (mark_len text.now) result }
 {
-    let mark = mark_len(text.as_bytes());
+    let mark = usize::from(matches!(text.as_bytes(), [b'v' | b'V', ..]));
     skip_whitespace(text, mark)
 }
 
@@ -119,59 +108,6 @@ fn numbers_end(bytes: &[u8], at: usize) -> Result<usize, VersionFlaw>
     Ok(patch)
 }
 
-// The place behind the identifiers that begin at a place, joined by dots.
-#[tactic(auto, using(crate::proofs::Diagnosing::Numbers::lists_end))]
-fn list_end(bytes: &[u8], start: usize) -> usize
-    requires { start ≤ length bytes.now }
-    ensures end { result ≡ start + list_len (drop start bytes.now) }
-    ensures place { result ≤ length bytes.now }
-{
-    'bytes: for end in start..bytes.len() {
-        if !goes_on(&bytes[end..]) {
-            return end;
-        }
-    }
-    bytes.len()
-}
-
-// The place behind the identifiers at another place, or this one if none begins there.
-fn list_end_or(bytes: &[u8], start: usize, at: usize) -> usize
-    requires inside { at ≤ length bytes.now }
-    requires start { start ≤ length bytes.now }
-    ensures end { result ≡ (or_nothing at (list_at bytes.now start)).1 }
-    ensures place { result ≤ length bytes.now }
-{
-    if begins_identifier(&bytes[start..]) {
-        list_end(bytes, start)
-    } else {
-        at
-    }
-}
-
-// The place behind the pre-release at a place.
-fn pre_release_end(bytes: &[u8], at: usize) -> usize
-    requires { at ≤ length bytes.now }
-    ensures end { result ≡ (pre_release_at bytes.now at).1 }
-    ensures place { result ≤ length bytes.now }
-{
-    match &bytes[at..] {
-        [b'-', ..] => list_end_or(bytes, at + 1, at),
-        _ => list_end_or(bytes, at, at),
-    }
-}
-
-// The place behind the build at a place.
-fn build_end(bytes: &[u8], at: usize) -> usize
-    requires { at ≤ length bytes.now }
-    ensures end { result ≡ (build_at bytes.now at).1 }
-    ensures place { result ≤ length bytes.now }
-{
-    match &bytes[at..] {
-        [b'+', ..] => list_end_or(bytes, at + 1, at),
-        _ => at,
-    }
-}
-
 // The flaw of a text that is not too long.
 fn flaw_within(text: &str) -> Option<VersionFlaw>
     requires { length text.now ≤ MAX_LENGTH }
@@ -183,11 +119,13 @@ fn flaw_within(text: &str) -> Option<VersionFlaw>
         Ok(end) => end,
         Err(flaw) => return Some(flaw),
     };
-    let at = build_end(bytes, pre_release_end(bytes, end));
-    if at < bytes.len() {
-        Some(VersionFlaw::Ignored { at })
-    } else {
+    let (_, behind) = pre_release_front(&bytes[end..]);
+    let (_, ignored) = build_front(behind);
+    if ignored.is_empty() {
         None
+    } else {
+        let at = bytes.len() - ignored.len();
+        Some(VersionFlaw::Ignored { at })
     }
 }
 

@@ -3,7 +3,7 @@
 ghost use Rattle.std.specs.Option.{ForSome};
 ghost use Rattle.std.specs.Prelude.{IfSome, ◌≡◌, ◌≤◌, ◌+◌, [], take, drop, true};
 ghost use Rattle.nodejs_semver.specs.Internal.Fronts as Spec;
-ghost use Rattle.nodejs_semver.specs.Internal.Fronts.{drop_v, front_view};
+ghost use Rattle.nodejs_semver.specs.Internal.Fronts.{front_view};
 ghost use Rattle.semver_core.specs.Text.Identifiers.{goes_on, is_listed};
 ghost use Rattle.nodejs_semver.specs.Internal.Readings.{pair_view, partial_front_view};
 ghost use Rattle.nodejs_semver.specs.Internal.Readings.{partial_pair_view};
@@ -14,26 +14,16 @@ use crate::readers::syntax::Partial;
 use semver_core::MAX_SAFE_INTEGER;
 use semver_core::scan::{begins_identifier, goes_on, number_in};
 
-// The number at the front, a whole run of digits, and the text behind it.
-#[inline(always)]
-#[tactic(auto, using(crate::proofs::Reading::Numbers::number_fronts))]
-fn number_front(text: &[u8]) -> Option<(u64, &[u8])>
-    ensures value { front_view result ≡ Spec.number_front MAX_SAFE_INTEGER text.now }
-    ensures small { IfSome result (λ found. found.0 ≤ MAX_SAFE_INTEGER) }
-{
-    let (value, end) = number_in(text, 0)?;
-    Some((value, &text[end..]))
-}
-
-// A wildcard or a number, which is looked for first since most components are numbers.
+// A wildcard or a number, which is looked for first since most components are numbers, and the text
+// behind it.
 #[inline(always)]
 #[tactic(auto, unfolding(crate::specs::Internal::Fronts::component_front))]
 pub(crate) fn component_front(text: &[u8]) -> Option<(Option<u64>, &[u8])>
     ensures value { front_view result ≡ Spec.component_front MAX_SAFE_INTEGER text.now }
     ensures small { IfSome result (λ p. ForSome p.0 (λ n. n ≤ MAX_SAFE_INTEGER)) }
 {
-    match number_front(text) {
-        Some((number, rest)) => Some((Some(number), rest)),
+    match number_in(text, 0) {
+        Some((number, end)) => Some((Some(number), &text[end..])),
         None if matches!(text, [b'x' | b'X' | b'*', ..]) => Some((None, &text[1..])),
         None => None,
     }
@@ -52,87 +42,59 @@ pub(crate) fn dotted_front(text: &[u8]) -> Option<(Option<u64>, &[u8])>
     }
 }
 
-// How many bytes the identifiers at the front take.
-#[tactic(auto, unfolding(crate::specs::Internal::Fronts::front_len))]
-fn list_len(text: &[u8]) -> usize
-    ensures { result ≡ Spec.front_len text.now }
+// The identifiers at the front, and what stands behind them.
+#[inline(never)]
+#[tactic(auto, using(crate::proofs::Reading::IdentifierLists::split_here))]
+fn split_list(text: &[u8]) -> (&[u8], &[u8])
+    requires { Spec.begins_identifier text.now ≡ true }
+    ensures listed { is_listed result.0.now ≡ true }
+    ensures value { pair_view result ≡ Spec.split_list text.now }
 {
-    if !begins_identifier(text) {
-        return 0;
-    }
     'bytes: for at in 0..text.len() {
         if !goes_on(&text[at..]) {
-            return at;
+            return text.split_at(at);
         }
     }
-    text.len()
+    (text, b"")
 }
 
-// The identifiers at the front, and what stands behind them.
-#[tactic(auto, using(crate::proofs::Reading::IdentifierLists::listed_front))]
-fn split_list(text: &[u8]) -> (&[u8], &[u8])
-    ensures front { result.0.now ≡ take (Spec.front_len text.now) text.now }
-    ensures listed { is_listed result.0.now ≡ true }
-    ensures rest { result.1.now ≡ drop (Spec.front_len text.now) text.now }
-{
-    text.split_at(list_len(text))
-}
-
-/// The text of the pre-release at the front, and what stands behind it. Mostly there is none.
+// The identifiers at the front of what stands behind their mark, and what follows them. Where there
+// are none, the mark is not skipped either.
 #[inline(always)]
-#[tactic(auto, using(crate::proofs::Reading::IdentifierLists::listed_nil), unfolding(crate::specs::Internal::Fronts::pre_release_front))]
-pub(crate) fn pre_release_front(text: &[u8]) -> (&[u8], &[u8])
+#[tactic(auto, using(crate::proofs::Reading::IdentifierLists::short_lists))]
+fn marked_list<'a>(text: &'a [u8], behind: &'a [u8]) -> (&'a [u8], &'a [u8])
     ensures listed { is_listed result.0.now ≡ true }
-    ensures value { pair_view result ≡ Spec.pre_release_front text.now }
+    ensures value { pair_view result ≡ Spec.marked_list text.now behind.now }
 {
-    if begins_identifier(text) {
-        written_pre_release(text)
+    if begins_identifier(behind) {
+        split_list(behind)
     } else {
         (b"", text)
     }
 }
 
-// The text of the pre-release at the front of any text, and what stands behind it.
-#[inline(never)]
-#[tactic(auto, using(crate::proofs::Reading::IdentifierLists::listed_nil), unfolding(crate::specs::Internal::Fronts::pre_release_front))]
-fn written_pre_release(text: &[u8]) -> (&[u8], &[u8])
+/// The text of the pre-release at the front, and what stands behind it. Mostly there is none.
+#[inline(always)]
+#[tactic(auto, unfolding(crate::specs::Internal::Fronts::pre_release_front))]
+pub(crate) fn pre_release_front(text: &[u8]) -> (&[u8], &[u8])
     ensures listed { is_listed result.0.now ≡ true }
     ensures value { pair_view result ≡ Spec.pre_release_front text.now }
 {
     match text {
-        [b'-', rest @ ..] => {
-            if begins_identifier(rest) {
-                split_list(rest)
-            } else {
-                (b"", text)
-            }
-        }
-        _ => split_list(text),
+        [b'-', behind @ ..] => marked_list(text, behind),
+        _ => marked_list(text, text),
     }
 }
 
-// The text of the build at the front, and what stands behind it. Mostly there is none.
+/// The text of the build at the front, and what stands behind it. Mostly there is none.
 #[inline(always)]
-#[tactic(auto, using(crate::proofs::Reading::IdentifierLists::listed_nil), unfolding(crate::specs::Internal::Fronts::build_front))]
-fn build_front(text: &[u8]) -> (&[u8], &[u8])
+#[tactic(auto, unfolding(crate::specs::Internal::Fronts::build_front))]
+pub(crate) fn build_front(text: &[u8]) -> (&[u8], &[u8])
     ensures listed { is_listed result.0.now ≡ true }
     ensures value { pair_view result ≡ Spec.build_front text.now }
 {
     match text {
-        [b'+', ..] => written_build(text),
-        _ => (b"", text),
-    }
-}
-
-// The text of the build at the front of any text, and what stands behind it.
-#[inline(never)]
-#[tactic(auto, using(crate::proofs::Reading::IdentifierLists::listed_nil), unfolding(crate::specs::Internal::Fronts::build_front))]
-fn written_build(text: &[u8]) -> (&[u8], &[u8])
-    ensures listed { is_listed result.0.now ≡ true }
-    ensures value { pair_view result ≡ Spec.build_front text.now }
-{
-    match text {
-        [b'+', rest @ ..] if begins_identifier(rest) => split_list(rest),
+        [b'+', behind @ ..] => marked_list(text, behind),
         _ => (b"", text),
     }
 }
@@ -200,23 +162,13 @@ pub(crate) fn minor_front(major: Option<u64>, text: &[u8]) -> (Partial<'_>, &[u8
     }
 }
 
-// The text behind an optional `v`.
-#[inline(always)]
-fn drop_v(text: &[u8]) -> &[u8]
-    ensures { result.now ≡ drop_v text.now }
-{
-    match text {
-        [b'v', rest @ ..] => rest,
-        _ => text,
-    }
-}
-
 // The partial at the front, component by component.
 #[inline(always)]
 #[tactic(auto, unfolding(crate::specs::Internal::Fronts::partial_front))]
 pub(crate) fn partial_front(text: &[u8]) -> Option<(Partial<'_>, &[u8])>
     ensures { partial_front_view result ≡ Spec.partial_front MAX_SAFE_INTEGER text.now }
 {
-    let (major, rest) = component_front(skip_spaces(drop_v(text)))?;
+    let mark = usize::from(matches!(text, [b'v', ..]));
+    let (major, rest) = component_front(skip_spaces(&text[mark..]))?;
     Some(minor_front(major, rest))
 }

@@ -4,19 +4,17 @@ use Rattle.std.proofs.Common.{refl, arith, true, false, add-one, Some}
 use Rattle.std.proofs.Math.Seq.{drop-cons}
 use Rattle.std.proofs.lemmas.List.{drop_all}
 use Rattle.std.specs.List.{list_all}
-use Rattle.std.specs.Prelude.{map, Result, Ok, Err, IfErr}
+use Rattle.std.specs.Prelude.{map}
 use Rattle.semver_core.specs.Text.VersionText.{Reads}
 use Rattle.semver_core.specs.Failures.{NoValue}
 use Rattle.semver_core.specs.Text.Characters.{begins, is_identifier_char}
 use Rattle.semver_core.specs.Text.Identifiers.{goes_on, identifier_of, is_identifier, is_listed, listed, pieces}
-use Rattle.semver_core.specs.Internal.Reading.{list_from, list_len, qualified, triple_at}
+use Rattle.semver_core.specs.Internal.Reading.{list_from, list_len}
 use Rattle.semver_core.proofs.Text.Pieces.{begins_taken, begun_runs, taken_runs}
 use Rattle.semver_core.proofs.Text.Runs.{list_len_stop}
 use Rattle.semver_core.specs.Text.Parsing.{Parses}
-use Rattle.semver_core.specs.Internal.CommonReading.{small_len}
-use Rattle.semver_core.specs.Values.Versions.{VersionValue, release_value}
+use Rattle.semver_core.specs.Values.Versions.{HasIdentifiers, VersionValue}
 use Rattle.semver_core.specs.declared.TheConstants.{MAX_LENGTH}
-use Rattle.semver_core.proofs.Text.Whole.{front_read, release_read}
 
 -- the loop
 pub end_step : (xs : List ℕ) (i : ℕ) → i < length xs → goes_on (drop i xs) ≡ true
@@ -33,10 +31,8 @@ pub end_past : (xs : List ℕ) (i : ℕ) → length xs ≤ i → list_len (drop 
 unfolding list_len
 end_past xs i le = rw (drop_all i xs le) refl
 
-pub ruleset list_ends = (end_step, end_stop, end_past)
-
 -- what stands there
-runs_taken : (t : List ℕ) → begins is_identifier_char t ≡ true → list_all is_identifier (pieces (take (list_len t) t)) ≡ true
+pub runs_taken : (t : List ℕ) → begins is_identifier_char t ≡ true → list_all is_identifier (pieces (take (list_len t) t)) ≡ true
 runs_taken t h = begun_runs (take (list_len t) t) (begins_taken t h) (taken_runs t)
 
 spelled : (s : List ℕ) → list_all is_identifier (pieces s) ≡ true → listed s ≡ map identifier_of (pieces s)
@@ -44,7 +40,7 @@ unfolding listed
 spelled [] h = cc
 spelled (c ∷ rest) h = refl
 
-is_spelled : (s : List ℕ) → list_all is_identifier (pieces s) ≡ true → is_listed s ≡ true
+pub is_spelled : (s : List ℕ) → list_all is_identifier (pieces s) ≡ true → is_listed s ≡ true
 unfolding is_listed
 is_spelled [] h = cc
 is_spelled (c ∷ rest) h = h
@@ -70,26 +66,18 @@ pub nothing_listed : is_listed [] ≡ true
 unfolding is_listed
 nothing_listed = refl
 
-pub ruleset lists_cut = (cut_listed, cut_found, nothing_spelled, nothing_listed)
+pub ruleset lists_cut = (end_step, end_stop, end_past, cut_listed, cut_found, nothing_spelled, nothing_listed)
 
 -- ---- the clauses of the readers
 
-not_parsed : (limit : ℕ) (text : List ℕ) → NoValue (Reads limit text) → NoValue (Parses limit text)
+pub not_parsed : (limit : ℕ) (text : List ℕ) → NoValue (Reads limit text) → NoValue (Parses limit text)
 not_parsed limit text h = λ v p. h v p.reads
 
-pub refused_by : {A E : Type 0} (limit : ℕ) (text : List ℕ) (r : Result A E) → IfErr r (λ _. NoValue (Reads limit text))
-    → IfErr r (λ _. NoValue (Parses limit text))
-refused_by limit text (Ok v) h = tt
-refused_by limit text (Err e) h = not_parsed limit text h
+pub short_parsed : (limit : ℕ) (text : List ℕ) (v : VersionValue) → length text ≤ MAX_LENGTH → Reads limit text v → Parses limit text v
+short_parsed limit text v short r = record { short = short; reads = r }
 
-pub behind_parses : (limit : ℕ) (text : List ℕ) (t : ℕ × ℕ × ℕ × ℕ) (v : VersionValue) → length text ≤ MAX_LENGTH
-    → Some t ≡ triple_at limit text (small_len text) → v ≡ qualified text t → Parses limit text v
-behind_parses limit text t v short found is = record { short = short; reads = rw is (front_read limit text t found) }
+pub short_memory : (limit : ℕ) (text : List ℕ) → length text ≤ MAX_LENGTH → (v : VersionValue) × Reads limit text v × HasIdentifiers v
+    → (v : VersionValue) × Parses limit text v × HasIdentifiers v
+short_memory limit text short m = (m.0, record { short = short; reads = m.1 }, m.2)
 
-pub release_parses : (limit : ℕ) (text : List ℕ) (major minor patch end : ℕ) (v : VersionValue) → length text ≤ MAX_LENGTH
-    → Some (major, minor, patch, end) ≡ triple_at limit text (small_len text) → end ≡ length text
-    → v ≡ release_value major minor patch → Parses limit text v
-release_parses limit text major minor patch end v short found whole is =
-    record { short = short; reads = rw is (release_read limit text major minor patch end found (omega (arith, whole))) }
-
-pub ruleset parsed = (refused_by, behind_parses, release_parses)
+pub ruleset parsed = (not_parsed, short_parsed, short_memory, nothing_listed)

@@ -2,7 +2,8 @@
 use Rattle.std.proofs.Common.{◌≡◌, ◌&&◌, ◌<◌, ◌≤◌, ◌+◌, ◌*◌, ℕ, Bool, true, false, ltb, List, [], ◌∷◌, ◌++◌, length, drop, take}
 use Rattle.std.proofs.Common.{Option, Some, None, refl, sym, ap, ◌∙◌, arith, inl, inr, add-one, add_comm, zero-add, eqb}
 use Rattle.std.proofs.Math.Seq.{take-append_seam, drop-append_seam}
-use Rattle.semver_core.proofs.Text.Runs.{not_dot}
+use Rattle.std.specs.Prelude.{◌==◌}
+use Rattle.semver_core.proofs.Text.Runs.{list_len_stop, not_dot}
 use Rattle.std.proofs.lemmas.Bool.{and_parts, cases_Bool, eqb-true, lt-ltb}
 use Rattle.std.proofs.lemmas.Bool.Decides.{nat_tests}
 use Rattle.std.proofs.lemmas.List.{drop-drop, take-append-drop}
@@ -217,28 +218,25 @@ runs_begin (c ∷ s) r h = elim (cases_Bool (eqb c 46)) [
   | inr other ↦ first_char c (pieces s) (runs_tail (onto_first c (pieces s)) (rw other at h))
 ]
 
--- a text whose pieces are runs, before what does not go on, is the whole list
-whole_list : (s r : List ℕ) → tail_runs (pieces s) ≡ true → goes_on r ≡ false → list_len (s ++ r) ≡ length s
+-- a text whose pieces are runs is listed, and so is what goes on behind it
+pub list_len-append : (s more : List ℕ) → tail_runs (pieces s) ≡ true → list_len (s ++ more) ≡ length s + list_len more
 unfolding list_len
-whole_list [] [] t stop = refl
-whole_list [] (c ∷ r) t stop = rw stop refl
-whole_list (c ∷ s) r t stop = elim (cases_Bool (eqb c 46)) [
+list_len-append [] more h = omega arith
+list_len-append (c ∷ s) more h = elim (cases_Bool (c == 46)) [
   | inl dot ↦
-      let runs : list_all is_identifier (pieces s) ≡ true = rw dot at t in
-      let begun : begins is_identifier_char (s ++ r) ≡ true = runs_begin s r runs in
-      let is : c ≡ 46 = eqb-true c 46 dot in
-      rw (is, begun, whole_list s r (runs_tail (pieces s) runs) stop) (omega arith)
+      let runs : list_all is_identifier (pieces s) ≡ true = rw dot at h in
+      rw (eqb-true c 46 dot, runs_begin s more runs, list_len-append s more (runs_tail (pieces s) runs)) (omega arith)
   | inr other ↦
-      let split : tail_runs (onto_first c (pieces s)) ≡ true = rw other at t in
-      let first = first_char c (pieces s) split in
-      rw (first, whole_list s r (tail_onto c (pieces s) split) stop) (omega arith)
+      let split : tail_runs (onto_first c (pieces s)) ≡ true = rw other at h in
+      rw (first_char c (pieces s) split, list_len-append s more (tail_onto c (pieces s) split)) (omega arith)
 ]
 
 pub list_complete : (text : List ℕ) (at : ℕ) (piece rest : List ℕ) (ids : List Id) → drop at text ≡ piece ++ rest → IsLongestIdentifiers piece rest ids
     → (list_at text at ≡ Some (ids, at + length piece)) × (drop (at + length piece) text ≡ rest)
 list_complete text at piece rest ids e l =
     let begun = runs_begin piece rest l.identifiers.runs in
-    let len = whole_list piece rest (runs_tail (pieces piece) l.identifiers.runs) l.ended in
+    let len : list_len (piece ++ rest) ≡ length piece =
+    omega (arith, list_len-append piece rest (runs_tail (pieces piece) l.identifiers.runs), list_len_stop rest l.ended) in
     (rw (e, begun, len, take-append_seam piece rest, ← l.identifiers.spelled) refl, rest_at text at (at + length piece) piece rest e refl)
 
 pub list_none : (text : List ℕ) (at : ℕ) → begins is_identifier_char (drop at text) ≡ false → list_at text at ≡ None

@@ -8,7 +8,6 @@ use Rattle.semver_core.specs.Text.Characters.{BeginsBlank, IsAfterBlank, IsPiece
 use Rattle.semver_core.specs.Text.VersionText.{IsMark, IsPreRelease, IsBuild, Reads, begins_pre_release, begins_build, dashed}
 use Rattle.semver_core.specs.Text.VersionText.{bare, no_pre_release, plus, no_build, no_mark, small_mark, capital_mark}
 use borrow.Author.Tests.{eq-eqb}
-use Rattle.std.specs.Option.{IsSomeAnd}
 use Rattle.std.specs.Cmp.{first_so, second_so}
 use Rattle.std.specs.List.{list_all}
 use Rattle.std.specs.Char.{encode_utf8, is_ascii_digit}
@@ -21,7 +20,7 @@ use Rattle.semver_core.specs.Text.Identifiers.{Id, IsLongestIdentifiers}
 use Rattle.semver_core.specs.Text.Numbers.{IsNumber, IsWholeNumber}
 use Rattle.semver_core.specs.Internal.Reading.{◌>>?◌, list_of, list_len, number_at, list_at, part_at, past, triple_at, or_nothing}
 use Rattle.semver_core.specs.Internal.Reading.{pre_release_at, build_at, qualified, version_at, mark_len, HasOneReading}
-use Rattle.semver_core.specs.Values.Versions.{VersionValue, HasIdentifiers}
+use Rattle.semver_core.specs.Values.Versions.{VersionValue}
 use Rattle.semver_core.proofs.Text.Pieces.{some_inside, rest_at, number_sound, number_complete, list_sound, list_complete, list_none, runs_begin}
 use Rattle.semver_core.proofs.Text.Runs.{drop_next}
 
@@ -237,7 +236,7 @@ divided_at limit text mark blank at t divided m b e =
     }
 
 -- what the reader finds behind the mark and the whitespace is a version of the text
-pub version_sound : (limit : ℕ) (text mark blank : List ℕ) (at : ℕ) (v : VersionValue) → text ≡ mark ++ (blank ++ drop at text) → IsMark mark → IsBlank blank
+version_sound : (limit : ℕ) (text mark blank : List ℕ) (at : ℕ) (v : VersionValue) → text ≡ mark ++ (blank ++ drop at text) → IsMark mark → IsBlank blank
     → version_at limit text at ≡ Some v → Reads limit text v
 version_sound limit text mark blank at v divided m b e =
     let found = bind_some (triple_at limit text at) _ v e in
@@ -290,7 +289,7 @@ mark_boundary (c ∷ rest) n u e = elim (cases_Bool (eqb c 118 || eqb c 86)) [
   | inr none ↦ rw (rw none at e) (IsCharBoundary-start (c ∷ rest) u)
 ]
 
-mark_is : (text : List ℕ) → IsMark (take (mark_len text) text)
+pub mark_is : (text : List ℕ) → IsMark (take (mark_len text) text)
 mark_is [] = no_mark
 mark_is (c ∷ rest) = elim (cases_Bool (eqb c 118)) [
   | inl small ↦ rw (eqb-true c 118 small) small_mark
@@ -353,16 +352,6 @@ loose_at limit text start v a r =
 pub loose_none : (limit : ℕ) (text : List ℕ) (start : ℕ) → IsAfterBlank text (mark_len text) start
     → version_at limit text start ≡ None → NoValue (Reads limit text)
 loose_none limit text start a e v r = cc (e, loose_at limit text start v a r)
-
--- a version that is read and has identifiers
-pub memory_read : (limit : ℕ) (text : List ℕ) (o : Option VersionValue) → ((v : VersionValue) → o ≡ Some v → Reads limit text v)
-    → IsSomeAnd o HasIdentifiers → (v : VersionValue) × Reads limit text v × HasIdentifiers v
-memory_read limit text None f h = absurd h
-memory_read limit text (Some v) f h = (v, f v refl, h)
-
-pub loose_memory : (limit : ℕ) (text : List ℕ) (start : ℕ) → IsAfterBlank text (mark_len text) start
-    → IsSomeAnd (version_at limit text start) HasIdentifiers → (v : VersionValue) × Reads limit text v × HasIdentifiers v
-loose_memory limit text start a = memory_read limit text (version_at limit text start) (λ v e. loose_some limit text start v a e)
 
 -- one version at most stands at the front of a text
 pub one_reading : (text : List ℕ) (start : ℕ) → IsAfterBlank text (mark_len text) start → HasOneReading text

@@ -6,18 +6,18 @@ use Rattle.std.proofs.lemmas.Bool.Decides.{nat_tests}
 use Rattle.std.proofs.lemmas.List.{take-append-drop, drop_all}
 use Rattle.std.proofs.Math.Seq.{drop-cons}
 use Rattle.std.specs.Char.{is_ascii_digit}
-use Rattle.std.specs.Option.{IsSomeAnd, IfSome, IfNone}
+use Rattle.std.specs.Option.{IfSome, IfNone}
 use Rattle.semver_core.specs.Failures.{NoValue}
-use Rattle.semver_core.specs.Text.Characters.{begins, IsBlank}
+use Rattle.semver_core.specs.Text.Characters.{begins, IsAfterBlank, IsBlank}
 use Rattle.semver_core.specs.Text.Common.{IsCommon}
 use Rattle.semver_core.specs.Internal.CommonReading.{small_len, at_end, whole_at, common_of}
 use Rattle.semver_core.specs.Text.VersionText.{IsMark, Reads, no_mark, small_mark, capital_mark}
 use Rattle.semver_core.specs.Text.Identifiers.{Id}
-use Rattle.semver_core.specs.Internal.Reading.{triple_at, lists_at, qualified, version_at, HasOneReading}
-use Rattle.semver_core.specs.Values.Versions.{VersionValue, HasIdentifiers}
+use Rattle.semver_core.specs.Internal.Reading.{triple_at, lists_at, mark_len, qualified, HasOneReading}
+use Rattle.semver_core.specs.Values.Versions.{VersionValue, HasIdentifiers, release_value}
 use Rattle.semver_core.proofs.Text.Pieces.{some_inside}
-use Rattle.semver_core.proofs.Text.Texts.{memory_read, rest_of, divided_at, bind_some, none_build}
-use Rattle.semver_core.proofs.Text.Texts.{number_begins, none_pre, read_at, version_sound}
+use Rattle.semver_core.proofs.Text.Texts.{rest_of, divided_at, bind_some, none_build}
+use Rattle.semver_core.proofs.Text.Texts.{loose_none, loose_some, number_begins, none_pre, read_at}
 
 at_end_some : {A : Type 0} (rest : List ℕ) (x y : A) → at_end rest x ≡ Some y → (rest ≡ []) × (x ≡ y)
 at_end_some [] x y e = (refl, some_inside x y e)
@@ -108,26 +108,35 @@ pub lists_left : (text : List ℕ) (major minor patch at end : ℕ) (pre build :
 lists_left text major minor patch at end pre build e lt =
     ap (whole_of text major minor patch) (sym e) ∙ rw (drop-cons text end 0 lt) refl
 
-pub common_memory : (limit : ℕ) (text : List ℕ) → IsSomeAnd (version_at limit text (small_len text)) HasIdentifiers
-    → (v : VersionValue) × Reads limit text v × HasIdentifiers v
-common_memory limit text h = memory_read limit text (version_at limit text (small_len text)) (λ v e.
-    version_sound limit text (take (small_len text) text) [] (small_len text) v (sym (take-append-drop (small_len text) text))
-    (small_is text).0 nothing_blank e) h
-
 -- numbers at the front, with the lists behind them, are a version of the text
 pub front_read : (limit : ℕ) (text : List ℕ) (t : ℕ × ℕ × ℕ × ℕ) → Some t ≡ triple_at limit text (small_len text) → Reads limit text (qualified text t)
 front_read limit text t e =
     (divided_at limit text (take (small_len text) text) [] (small_len text) t (sym (take-append-drop (small_len text) text)) (small_is text).0 nothing_blank (sym e)).reads
 
-pub release_read : (limit : ℕ) (text : List ℕ) (major minor patch at : ℕ) → Some (major, minor, patch, at) ≡ triple_at limit text (small_len text) → length text ≤ at
-    → Reads limit text (record { major = major; minor = minor; patch = patch; pre_release = []; build = [] })
-release_read limit text major minor patch at e le =
+pub front_memory : (limit : ℕ) (text : List ℕ) (t : ℕ × ℕ × ℕ × ℕ) → Some t ≡ triple_at limit text (small_len text)
+    → HasIdentifiers (qualified text t) → (v : VersionValue) × Reads limit text v × HasIdentifiers v
+front_memory limit text t e h = (qualified text t, front_read limit text t e, h)
+
+pub loose_read : (limit : ℕ) (text : List ℕ) (start : ℕ) (t : ℕ × ℕ × ℕ × ℕ) → IsAfterBlank text (mark_len text) start
+    → Some t ≡ triple_at limit text start → Reads limit text (qualified text t)
+loose_read limit text start t a e = loose_some limit text start (qualified text t) a (rw (← e) refl)
+
+pub loose_not : (limit : ℕ) (text : List ℕ) (start : ℕ) → IsAfterBlank text (mark_len text) start → None ≡ triple_at limit text start
+    → NoValue (Reads limit text)
+loose_not limit text start a e = loose_none limit text start a (rw (← e) refl)
+
+pub ruleset numbers_found = (front_read)
+
+-- what stands behind the numbers
+pub release_read : (limit : ℕ) (text : List ℕ) (major minor patch at : ℕ) (v : VersionValue)
+    → Reads limit text (qualified text (major, minor, patch, at)) → length text ≤ at → v ≡ release_value major minor patch
+    → Reads limit text v
+release_read limit text major minor patch at v r le e =
     let none = drop_all at text le in
-    let is : qualified text (major, minor, patch, at)
-    ≡ record { major = major; minor = minor; patch = patch; pre_release = []; build = [] } =
+    let is : qualified text (major, minor, patch, at) ≡ release_value major minor patch =
     rw (none_pre text at [] none refl, none_build text at [] none refl) refl in
-    rw (← is) (front_read limit text (major, minor, patch, at) e)
+    rw (e, ← is) r
 
 pub ruleset lists_behind = (lists_found, lists_left)
 
-pub ruleset read_common = (common_some, common_none, common_memory)
+pub ruleset read_common = (common_some, common_none)

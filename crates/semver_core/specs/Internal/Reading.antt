@@ -7,10 +7,6 @@ use Rattle.semver_core.specs.Text.Characters.{begins, is_identifier_char}
 use Rattle.semver_core.specs.Text.Identifiers.{Id, goes_on, identifier_of, pieces}
 use Rattle.semver_core.specs.Text.VersionText.{Reads}
 use Rattle.semver_core.specs.Values.Versions.{VersionValue}
-use Rattle.semver_core.specs.Values.Views.{ids_view}
-use Rattle.semver_core.specs.declared.identifier.Identifier.{Identifier}
-use Rattle.std.specs.declared.alloc.Global.{Global}
-use Rattle.std.specs.Prelude.{Vec}
 
 -- the digits have ended: their value and how many they were, where there was one
 abbrev pub digits_end : ℕ → ℕ → Option (ℕ × ℕ)
@@ -31,11 +27,6 @@ placed at (Some p) = Some (p.0, at + p.1)
 -- the number at a place, and the place after it
 abbrev pub number_at : ℕ → List ℕ → ℕ → Option (ℕ × ℕ)
 number_at limit text at = placed at (digits_from limit 0 0 (drop at text))
-
--- a list that was found, and the place after it
-abbrev pub list_view : Option (Vec Identifier Global × ℕ) → Option (List Id × ℕ)
-list_view None = None
-list_view (Some p) = Some (ids_view p.0.items, p.1)
 
 -- how far the longest identifier list goes
 unfoldable pub list_len : List ℕ → ℕ

@@ -10,28 +10,9 @@ ghost use Rattle.semver_core.specs.Text.VersionText.{Reads};
 ghost use Rattle.semver_core.specs.Internal.Reading.{list_from, list_len, lists_at, qualified};
 ghost use Rattle.semver_core.specs.Values.Versions.{release_value};
 
-use crate::readers::{
-    build_start, front_of_numbers, leading_numbers, pre_release_start, three_numbers,
-};
+use crate::readers::{build_start, numbers, pre_release_start};
 use crate::scan::goes_on_at;
 use crate::{MAX_LENGTH, MAX_SAFE_INTEGER, SemverError, VersionRef};
-
-// Where the identifiers that begin at a place end.
-#[inline(always)]
-#[tactic(auto, using(crate::proofs::Text::Ends::list_ends))]
-fn list_end(text: &str, start: usize) -> usize
-    requires inside { start ≤ length text.now }
-    ensures end { result ≡ start + list_len (drop start text.now) }
-    ensures place { result ≤ length text.now }
-    ensures after { start ≤ result }
-{
-    'bytes: for end in start..text.len() {
-        if !goes_on_at(text, end) {
-            return end;
-        }
-    }
-    text.len()
-}
 
 // The text of the identifiers that begin at a place, and the place after them. Where there is none,
 // that is the place where the list was expected.
@@ -46,13 +27,15 @@ fn list_from(text: &str, at: usize, start: Option<usize>) -> (&[u8], usize)
     ensures listed { is_listed result.0.now ≡ true }
     ensures place { result.1 ≤ length text.now }
 {
-    match start {
-        Some(start) => {
-            let end = list_end(text, start);
-            (&text.as_bytes()[start..end], end)
+    let Some(start) = start else {
+        return (b"", at);
+    };
+    'bytes: for end in start..text.len() {
+        if !goes_on_at(text, end) {
+            return (&text.as_bytes()[start..end], end);
         }
-        None => (b"", at),
     }
+    (&text.as_bytes()[start..], text.len())
 }
 
 // The texts of the pre-release and of the build at a place.
@@ -67,40 +50,6 @@ fn lists_at(text: &str, at: usize) -> (&[u8], &[u8])
     let (pre_release, next) = list_from(text, at, pre_release_start(text, at));
     let (build, _) = list_from(text, next, build_start(text, next));
     (pre_release, build)
-}
-
-// The release of three numbers.
-#[inline(always)]
-#[tactic(auto, using(crate::proofs::Text::Ends::lists_cut))]
-fn release(major: u64, minor: u64, patch: u64) -> VersionRef<'static>
-    ensures { result ≡ release_value major minor patch }
-{
-    VersionRef::from_texts(major, minor, patch, b"", b"")
-}
-
-// The version of three numbers and of what stands behind them.
-#[inline(always)]
-fn version_behind(text: &str, major: u64, minor: u64, patch: u64, at: usize) -> VersionRef<'_>
-    requires { at ≤ length text.now }
-    ensures { result ≡ qualified text.now (major, minor, patch, at) }
-{
-    let (pre_release, build) = lists_at(text, at);
-    VersionRef::from_texts(major, minor, patch, pre_release, build)
-}
-
-// Reads the version at the front of a text of any length, for `VersionRef::parse` where the text
-// does not begin with the numbers or with `v` and the numbers.
-#[cold]
-#[inline(never)]
-fn parse_loose(text: &str) -> Result<VersionRef<'_>, SemverError>
-    ensures ok { IfOk result (λ v. Reads MAX_SAFE_INTEGER text.now v) }
-    ensures refused { IfErr result (λ _. NoValue (Reads MAX_SAFE_INTEGER text.now)) }
-{
-    let at = front_of_numbers(text);
-    let Some((major, minor, patch, end)) = three_numbers(text.as_bytes(), at) else {
-        return Err(SemverError);
-    };
-    Ok(version_behind(text, major, minor, patch, end))
 }
 
 impl<'a> VersionRef<'a> {
@@ -124,12 +73,13 @@ impl<'a> VersionRef<'a> {
         if text.len() > MAX_LENGTH {
             return Err(SemverError);
         }
-        let Some((major, minor, patch, end)) = leading_numbers(text) else {
-            return parse_loose(text);
+        let Some((major, minor, patch, end)) = numbers(text) else {
+            return Err(SemverError);
         };
         if end == text.len() {
-            return Ok(release(major, minor, patch));
+            return Ok(VersionRef::from_texts(major, minor, patch, b"", b""));
         }
-        Ok(version_behind(text, major, minor, patch, end))
+        let (pre_release, build) = lists_at(text, end);
+        Ok(VersionRef::from_texts(major, minor, patch, pre_release, build))
     }
 }

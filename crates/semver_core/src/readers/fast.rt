@@ -1,29 +1,18 @@
 //! The reader of common version texts.
 
 ghost use Rattle.std.specs.Prelude.{◌||◌, ◌==◌, get_or, ◌≡◌, ◌≤◌, ◌<◌, length, IfOk, IfSome};
-ghost use Rattle.std.specs.Prelude.{IfNone, IsSomeAnd, OnErr};
+ghost use Rattle.std.specs.Prelude.{IfNone, OnErr};
 ghost use Rattle.semver_core.specs.Text.VersionText.{Reads};
 ghost use Rattle.semver_core.specs.Failures.{NoValue};
 ghost use Rattle.semver_core.specs.Text.Characters.{is_identifier_char};
 ghost use Rattle.semver_core.specs.Text.Common.{IsCommon};
 ghost use Rattle.semver_core.specs.Internal.CommonReading.{small_len, whole_at, common_of};
-ghost use Rattle.semver_core.specs.Internal.Reading.{part_at, qualified, triple_at, version_at};
+ghost use Rattle.semver_core.specs.Internal.Reading.{part_at, qualified, triple_at};
 ghost use Rattle.semver_core.specs.Values.Versions.{HasIdentifiers, VersionValue};
 
-use crate::readers::loose::{lists_at, past};
+use crate::readers::loose::{front_of_numbers, lists_at, past};
 use crate::{MAX_SAFE_INTEGER, Version, scan};
 use std::alloc::{AllocError, Global};
-
-#[inline(always)]
-fn small_len(bytes: &[u8]) -> usize
-    ensures value { result ≡ small_len bytes.now }
-    ensures place { result ≤ length bytes.now }
-{
-    match bytes {
-        [b'v', ..] => 1,
-        _ => 0,
-    }
-}
 
 // A number with a dot behind it, and the place behind the dot.
 #[inline(always)]
@@ -39,7 +28,7 @@ fn number_and_dot(bytes: &[u8], at: usize) -> Option<(u64, usize)>
 
 // Three numbers with dots between them, and the place behind them.
 #[inline(always)]
-pub(crate) fn three_numbers(bytes: &[u8], at: usize) -> Option<(u64, u64, u64, usize)>
+fn three_numbers(bytes: &[u8], at: usize) -> Option<(u64, u64, u64, usize)>
     requires { at ≤ length bytes.now }
     ensures found { result ≡ triple_at MAX_SAFE_INTEGER bytes.now at }
     ensures place { IfSome result (λ found. found.3 ≤ length bytes.now) }
@@ -58,7 +47,35 @@ pub(crate) fn leading_numbers(text: &str) -> Option<(u64, u64, u64, usize)>
     ensures place { IfSome result (λ found. found.3 ≤ length text.now) }
 {
     let bytes = text.as_bytes();
-    three_numbers(bytes, small_len(bytes))
+    let mark = usize::from(matches!(bytes, [b'v', ..]));
+    three_numbers(bytes, mark)
+}
+
+// The numbers of the version at the front of a text, and the place behind them.
+#[inline(always)]
+#[tactic(auto, using(crate::proofs::Text::Whole::numbers_found))]
+pub(crate) fn numbers(text: &str) -> Option<(u64, u64, u64, usize)>
+    ensures some { IfSome result (λ found.
+        Reads MAX_SAFE_INTEGER text.now (qualified text.now found)) }
+    ensures none { IfNone result (NoValue (Reads MAX_SAFE_INTEGER text.now)) }
+    ensures place { IfSome result (λ found. found.3 ≤ length text.now) }
+{
+    match leading_numbers(text) {
+        Some(found) => Some(found),
+        None => loose_numbers(text),
+    }
+}
+
+// `numbers` of a text that does not begin with the numbers or with `v` and the numbers.
+#[cold]
+#[inline(never)]
+fn loose_numbers(text: &str) -> Option<(u64, u64, u64, usize)>
+    ensures some { IfSome result (λ found.
+        Reads MAX_SAFE_INTEGER text.now (qualified text.now found)) }
+    ensures none { IfNone result (NoValue (Reads MAX_SAFE_INTEGER text.now)) }
+    ensures place { IfSome result (λ found. found.3 ≤ length text.now) }
+{
+    three_numbers(text.as_bytes(), front_of_numbers(text))
 }
 
 // The version of three numbers and the qualifier that goes from a place to the end of the text.
@@ -88,7 +105,7 @@ fn version_of_whole(
 fn read(alloc: Global, text: &str) -> Result<Option<Version>, AllocError>
     ensures found { IfOk result (λ found. found ≡ common_of MAX_SAFE_INTEGER text.now) }
     ensures memory { OnErr result
-        (IsSomeAnd (version_at MAX_SAFE_INTEGER text.now (small_len text.now)) HasIdentifiers) }
+        ((v : VersionValue) × Reads MAX_SAFE_INTEGER text.now v × HasIdentifiers v) }
 {
     let Some((major, minor, patch, end)) = leading_numbers(text) else {
         return Ok(None);

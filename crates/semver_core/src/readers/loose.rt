@@ -7,12 +7,12 @@ ghost use Rattle.semver_core.specs.Failures.{NoValue};
 ghost use Rattle.semver_core.specs.Text.Characters.{begins, is_identifier_char, IsAfterBlank};
 ghost use Rattle.semver_core.specs.Text.VersionText.{Reads};
 ghost use Rattle.semver_core.specs.Internal.Reading.{past, pre_release_at, build_at};
-ghost use Rattle.semver_core.specs.Internal.Reading.{list_from, lists_at, version_at, mark_len};
+ghost use Rattle.semver_core.specs.Internal.Reading.{list_from, lists_at, mark_len, qualified};
 ghost use Rattle.semver_core.specs.Values.Versions.{VersionValue, HasIdentifiers};
 ghost use Rattle.semver_core.specs.Values.Views.{ids_view};
 ghost use Rattle.semver_core.specs.Internal.Inside.{IsFull, build_of, pre_release_of};
 
-use crate::readers::fast::three_numbers;
+use crate::readers::fast::numbers;
 use crate::version::lists::{Identifiers, Lists, Qualifier};
 use crate::{MAX_SAFE_INTEGER, Version, scan};
 use std::alloc::{AllocError, Global};
@@ -119,24 +119,32 @@ pub(crate) fn lists_at(
     Ok((Qualifier::Lists(lists), end))
 }
 
-fn mark_len(bytes: &[u8]) -> usize
-    ensures { result ≡ mark_len bytes.now }
-{
-    match bytes {
-        [b'v', ..] => 1,
-        [b'V', ..] => 1,
-        _ => 0,
-    }
-}
-
 // The place behind the mark and the whitespace at the front.
 #[inline(always)]
 #[tactic(auto, using(crate::proofs::Text::Texts::mark_boundary))]
 pub(crate) fn front_of_numbers(text: &str) -> usize
     ensures { IsAfterBlank text.now (mark_len text.now) result }
 {
-    let mark = mark_len(text.as_bytes());
+    let mark = usize::from(matches!(text.as_bytes(), [b'v' | b'V', ..]));
     scan::skip_whitespace(text, mark)
+}
+
+// The version of three numbers and of the identifiers behind them.
+#[inline(never)]
+fn version_behind(
+    alloc: Global,
+    text: &str,
+    major: u64,
+    minor: u64,
+    patch: u64,
+    at: usize,
+) -> Result<Version, AllocError>
+    requires { at ≤ length text.now }
+    ensures value { IfOk result (λ v. v ≡ qualified text.now (major, minor, patch, at)) }
+    ensures memory { OnErr result (HasIdentifiers (qualified text.now (major, minor, patch, at))) }
+{
+    let (qualifier, _) = lists_at(alloc, text, at)?;
+    Ok(Version::from_parts(major, minor, patch, qualifier))
 }
 
 /// Reads the version at the front of a text of any length, as `Version::parse` reads it; whatever
@@ -144,6 +152,7 @@ pub(crate) fn front_of_numbers(text: &str) -> usize
 ///
 /// Returns `None` if the text has none. Fails only if allocation fails, which happens only where
 /// the version has a pre-release or build metadata.
+#[inline(always)]
 pub fn version_loose(alloc: Global, text: &str) -> Result<Option<Version>, AllocError>
     // What is read is a version of the text.
     ensures some { IfOk result (λ found. IfSome found (λ v. Reads MAX_SAFE_INTEGER text.now v)) }
@@ -153,10 +162,11 @@ pub fn version_loose(alloc: Global, text: &str) -> Result<Option<Version>, Alloc
     ensures memory { OnErr result
         ((v : VersionValue) × Reads MAX_SAFE_INTEGER text.now v × HasIdentifiers v) }
 {
-    let at = front_of_numbers(text);
-    let Some((major, minor, patch, end)) = three_numbers(text.as_bytes(), at) else {
+    let Some((major, minor, patch, end)) = numbers(text) else {
         return Ok(None);
     };
-    let (qualifier, _) = lists_at(alloc, text, end)?;
-    Ok(Some(Version::from_parts(major, minor, patch, qualifier)))
+    if end == text.len() {
+        return Ok(Some(Version::release(major, minor, patch)));
+    }
+    Ok(Some(version_behind(alloc, text, major, minor, patch, end)?))
 }

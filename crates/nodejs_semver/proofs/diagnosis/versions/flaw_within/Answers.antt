@@ -1,6 +1,8 @@
-use Rattle.std.proofs.Common.{arith, lit≤}
+use Rattle.std.proofs.Common.{◌≡◌, ◌-◌, ◌<◌, ℕ, zero, suc, List, length, false, sym, ap, ◌∙◌, arith, lit≤}
+use Rattle.std.specs.Prelude.{◌==◌}
+use Rattle.std.proofs.lemmas.Bool.{eqb-true}
 use Rattle.semver_core.specs.declared.TheConstants.{MAX_SAFE_INTEGER}
-use Rattle.nodejs_semver.proofs.Diagnosing.Flaws.{ended, ignored_behind, stuck_flaw, whole_exact}
+use Rattle.nodejs_semver.proofs.Diagnosing.Flaws.{ended, ignored_left, left_fits, stuck_flaw, whole_left}
 use Rattle.nodejs_semver.proofs.diagnosis.versions.flaw_within.Goals as goal
 
 pub returns-in-Err : goal.returns-in-Err
@@ -9,24 +11,33 @@ returns-in-Err c =
     (lit≤ tt) c.utf8.text c.front_of_numbers.ensures c.requires
     (rw c.as_bytes-bytes.ensures.value at c.in-Err.ensures.stuck)
 
-pub returns-then-at-bytes : goal.returns-then-at-bytes
-returns-then-at-bytes c =
-    let text = c.args.text.now in
-    let e =
-    ended MAX_SAFE_INTEGER text c.as_bytes-bytes.result.now c.front_of_numbers.result c.in-Ok.end c.pre_release_end.result
-    c.build_end-at.result
-    c.as_bytes-bytes.ensures.value c.in-Ok.ensures.found c.pre_release_end.ensures.end c.build_end-at.ensures.end in
-    ignored_behind MAX_SAFE_INTEGER text c.front_of_numbers.result c.build_end-at.result c.utf8.text c.front_of_numbers.ensures
-    c.requires e
-    (omega (arith, c.if-at-bytes.true, c.as_bytes-bytes.ensures.len))
+pub returns-then-is_empty : goal.returns-then-is_empty
+returns-then-is_empty c =
+    let left =
+    ended MAX_SAFE_INTEGER c.args.text.now c.as_bytes-bytes.result.now _ _ c.front_of_numbers.result c.in-Ok.end
+    c.as_bytes-bytes.ensures.value c.in-Ok.ensures.found c.pre_release_front.ensures.value c.build_front.ensures.value in
+    whole_left MAX_SAFE_INTEGER c.args.text.now c.front_of_numbers.result c.build_front.result.1.now c.utf8.text
+    c.front_of_numbers.ensures c.requires left
+    (eqb-true (length c.build_front.result.1.now) 0 (sym c.is_empty.ensures ∙ c.if-is_empty.true))
 
-pub returns-else-at-bytes : goal.returns-else-at-bytes
-returns-else-at-bytes c =
-    let text = c.args.text.now in
-    let e =
-    ended MAX_SAFE_INTEGER text c.as_bytes-bytes.result.now c.front_of_numbers.result c.in-Ok.end c.pre_release_end.result
-    c.build_end-at.result
-    c.as_bytes-bytes.ensures.value c.in-Ok.ensures.found c.pre_release_end.ensures.end c.build_end-at.ensures.end in
-    whole_exact MAX_SAFE_INTEGER text c.front_of_numbers.result c.build_end-at.result c.utf8.text c.front_of_numbers.ensures
-    c.requires e
-    (omega (arith, c.if-at-bytes.false, c.as_bytes-bytes.ensures.len))
+pub overflow_sub-at : goal.overflow_sub-at
+overflow_sub-at c =
+    let left =
+    ended MAX_SAFE_INTEGER c.args.text.now c.as_bytes-bytes.result.now _ _ c.front_of_numbers.result c.in-Ok.end
+    c.as_bytes-bytes.ensures.value c.in-Ok.ensures.found c.pre_release_front.ensures.value c.build_front.ensures.value in
+    let fits = left_fits MAX_SAFE_INTEGER c.args.text.now c.front_of_numbers.result c.build_front.result.1.now left in
+    omega (arith, fits, c.as_bytes-bytes.ensures.len)
+
+positive : (n : ℕ) → (n == 0) ≡ false → 0 < n
+positive zero h = cc h
+positive (suc n) h = omega arith
+
+pub returns-else-is_empty : goal.returns-else-is_empty
+returns-else-is_empty c =
+    let left =
+    ended MAX_SAFE_INTEGER c.args.text.now c.as_bytes-bytes.result.now _ _ c.front_of_numbers.result c.in-Ok.end
+    c.as_bytes-bytes.ensures.value c.in-Ok.ensures.found c.pre_release_front.ensures.value c.build_front.ensures.value in
+    ignored_left MAX_SAFE_INTEGER c.args.text.now c.front_of_numbers.result _ c.build_front.result.1.now c.utf8.text
+    c.front_of_numbers.ensures c.requires left
+    (positive (length c.build_front.result.1.now) (sym c.is_empty.ensures ∙ c.if-is_empty.false))
+    (ap (λ (t : List ℕ). length t - length c.build_front.result.1.now) c.as_bytes-bytes.ensures.value)

@@ -1,13 +1,20 @@
-use Rattle.std.proofs.Common.{arith}
-use Rattle.semver_core.proofs.Text.Ends.{behind_parses, release_parses}
+use Rattle.std.proofs.Common.{arith, rules}
+use Rattle.semver_core.specs.Failures.{NoValue}
+use Rattle.semver_core.specs.Text.Identifiers.{listed}
+use Rattle.semver_core.specs.Text.VersionText.{Reads}
+use Rattle.semver_core.specs.declared.TheConstants.{MAX_SAFE_INTEGER}
+use Rattle.semver_core.proofs.Text.Ends.{not_parsed, short_parsed}
+use Rattle.semver_core.proofs.Text.Whole.{release_read}
 use Rattle.semver_core.proofs.borrowed.VersionRef.parse.Goals as goal
 
 pub returns-then-end-text-clause-ok : goal.returns-then-end-text-clause-ok
+unfolding listed
 returns-then-end-text-clause-ok c =
-    release_parses _ c.args.text.now c.in-Some.major c.in-Some.minor c.in-Some.patch c.in-Some.end _
-    c.if-text-gt-MAX_LENGTH.false c.in-Some.ensures.found (omega (arith, c.if-end-text.true)) c.release.ensures
+    short_parsed _ c.args.text.now _ c.if-text-gt-MAX_LENGTH.false
+    (release_read _ c.args.text.now c.in-Some.major c.in-Some.minor c.in-Some.patch c.in-Some.end _ c.in-Some.ensures.some
+    (omega (arith, c.if-end-text.true)) c.from_texts.ensures)
 
-pub returns-clause-ok : goal.returns-clause-ok
-returns-clause-ok c =
-    behind_parses _ c.args.text.now (c.in-Some.major, c.in-Some.minor, c.in-Some.patch, c.in-Some.end) _
-    c.if-text-gt-MAX_LENGTH.false c.in-Some.ensures.found c.version_behind.ensures
+pub returns-in_default-clause-refused : goal.returns-in_default-clause-refused
+returns-in_default-clause-refused c =
+    let unread : NoValue (Reads MAX_SAFE_INTEGER c.args.text.now) = search rules in
+    not_parsed MAX_SAFE_INTEGER c.args.text.now unread

@@ -5,7 +5,7 @@ use Rattle.semver_core.specs.declared.TheConstants.{MAX_SAFE_INTEGER}
 use Rattle.semver_core.specs.Internal.Spaces.{space_len, after_spaces, drop_end_spaces}
 use Rattle.semver_core.specs.Internal.Reading.{list_len}
 use Rattle.semver_core.specs.Text.Identifiers.{listed}
-use Rattle.nodejs_semver.specs.Internal.Fronts.{build_front, component_front, dotted_front, front_len}
+use Rattle.nodejs_semver.specs.Internal.Fronts.{build_front, component_front, dotted_front}
 use Rattle.nodejs_semver.specs.Internal.Fronts.{number_of, partial_front, pre_release_front}
 use Rattle.nodejs_semver.specs.Internal.Parts.{cut_bars}
 use Rattle.nodejs_semver.specs.Internal.RunsFrom.{runs_from}
@@ -15,6 +15,6 @@ use Rattle.semver_lines.proofs.tests.print.reread_range_gives_an_equal_range.Goa
 
 pub reread_range-requires : goal.reread_range-requires
 unfolding table is_boundary number_of space_len after_spaces drop_end_spaces cut_bars partial_front component_front dotted_front
-    pre_release_front build_front front_len list_len listed word_at words_within from_boundary runs_from encode
+    pre_release_front build_front list_len listed word_at words_within from_boundary runs_from encode
 reread_range-requires g c =
     rw (sym ((c.meaning.ensures.one_meaning MAX_SAFE_INTEGER _ _ (codes ">1.2.3", (refl, refl))).1 c.in_ok-range.ensures.ok)) refl

@@ -1,6 +1,6 @@
 use Rattle.std.proofs.Common.{◌≡◌, ◌+◌, drop}
 use Rattle.semver_core.specs.Internal.Reading.{list_len}
-use Rattle.nodejs_semver.proofs.readers.partial.list_len.Given as goal
+use Rattle.nodejs_semver.proofs.readers.partial.split_list.Given as goal
 
 abbrev pub invariant-bytes : goal.invariant-bytes
 invariant-bytes l = list_len l.text ≡ l.at + list_len (drop l.at l.text)

@@ -1,0 +1,27 @@
+use Rattle.std.proofs.Common.{Option, Some, None, ◌≡◌, ℕ, List, IfSome, IfNone}
+use Rattle.semver_core.specs.Failures.{NoValue}
+use Rattle.semver_core.specs.Internal.Reading.{mark_len, qualified, triple_at}
+use Rattle.semver_core.specs.Text.Characters.{IsAfterBlank}
+use Rattle.semver_core.specs.Text.VersionText.{Reads}
+use Rattle.semver_core.proofs.Text.Whole.{loose_not, loose_read}
+use Rattle.semver_core.proofs.readers.fast.loose_numbers.Goals as goal
+
+found : (limit : ℕ) (text : List ℕ) (start : ℕ) (o : Option (ℕ × ℕ × ℕ × ℕ)) → IsAfterBlank text (mark_len text) start
+    → o ≡ triple_at limit text start → IfSome o (λ t. Reads limit text (qualified text t))
+found limit text start None a e = tt
+found limit text start (Some t) a e = loose_read limit text start t a e
+
+not_found : (limit : ℕ) (text : List ℕ) (start : ℕ) (o : Option (ℕ × ℕ × ℕ × ℕ)) → IsAfterBlank text (mark_len text) start
+    → o ≡ triple_at limit text start → IfNone o (NoValue (Reads limit text))
+not_found limit text start None a e = loose_not limit text start a e
+not_found limit text start (Some t) a e = tt
+
+pub returns-clause-some : goal.returns-clause-some
+returns-clause-some c =
+    found _ c.args.text.now c.front_of_numbers.result c.three_numbers.result c.front_of_numbers.ensures
+    (rw c.as_bytes.ensures.value at c.three_numbers.ensures.found)
+
+pub returns-clause-none : goal.returns-clause-none
+returns-clause-none c =
+    not_found _ c.args.text.now c.front_of_numbers.result c.three_numbers.result c.front_of_numbers.ensures
+    (rw c.as_bytes.ensures.value at c.three_numbers.ensures.found)
