@@ -12,13 +12,13 @@ mod best;
 mod gate;
 mod least;
 mod least_held;
-mod lists;
+mod interval_lists;
 mod neighbours;
 mod outside;
 pub(crate) mod owned;
 mod parse;
 mod print;
-mod same;
+mod equality;
 
 pub use crate::range::outside::{OutsideDirection, RangeError};
 use semver_core::cuts::Interval;

@@ -18,8 +18,8 @@ use crate::fault::Fault;
 use crate::question::{
     AboutBest, AboutMatch, AboutRange, AboutRanges, AboutVersion, AboutVersions, Question,
 };
-use crate::read::{Parsed, range_of, version_of};
-use crate::words::{
+use crate::parsed::{Parsed, range_of, version_of};
+use crate::names::{
     borrowed_or_none, difference_word, next_text, order_word, printed, range_or_none, truth_word,
     version_or_none,
 };

@@ -6,7 +6,7 @@ ghost use Rattle.semver_core.specs.Values.Versions.{HasIdentifiers, is_release};
 
 pub mod identifier;
 pub mod identifiers;
-mod order;
+mod dotted;
 mod read;
 
 use crate::cuts::Point;

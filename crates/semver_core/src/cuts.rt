@@ -4,7 +4,7 @@
 
 mod bound;
 mod interval;
-mod order;
+mod cut_order;
 
 pub use crate::cuts::bound::{Bound, Point};
 pub use crate::cuts::interval::Interval;

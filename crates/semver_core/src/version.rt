@@ -15,7 +15,7 @@ ghost use Rattle.semver_core.specs.Internal.Inside.{pre_release_of};
 pub mod accepts;
 mod convert;
 pub(crate) mod lists;
-pub(crate) mod order;
+pub(crate) mod precedence;
 pub mod parts;
 pub mod versioned;
 

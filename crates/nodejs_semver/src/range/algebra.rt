@@ -8,7 +8,7 @@ ghost use Rattle.nodejs_semver.specs.Ranges.Gate.{accepts};
 ghost use Rattle.nodejs_semver.specs.Ranges.Algebra.{intersection, difference, covers_one};
 ghost use Rattle.nodejs_semver.specs.Ranges.Algebra.{list_holds};
 
-use crate::range::lists;
+use crate::range::interval_lists;
 use crate::{Range, RangeOf, RangeRef};
 use semver_core::VersionPoint;
 use smallvec::SmallVec;
@@ -115,7 +115,7 @@ impl<V: VersionPoint> RangeOf<V> {
         ensures memory { OnErr result (IsTrue (is_some (intersection self.now other.now))) }
     {
         let mut found = SmallVec::new(alloc);
-        lists::push_all_intersections(alloc, &mut found, self.items(), other.items())?;
+        interval_lists::push_all_intersections(alloc, &mut found, self.items(), other.items())?;
         Ok(RangeOf::from_intervals(found))
     }
 
@@ -126,7 +126,7 @@ impl<V: VersionPoint> RangeOf<V> {
             (IsTrue (is_some (difference self.now other.now)) ⊎ (1 < length other.now)) }
     {
         let mut left = SmallVec::new(alloc);
-        lists::push_differences(alloc, &mut left, self.items(), other.items())?;
+        interval_lists::push_differences(alloc, &mut left, self.items(), other.items())?;
         Ok(RangeOf::from_intervals(left))
     }
 }
@@ -139,7 +139,7 @@ impl Range {
     pub fn allows_all(&self, other: &Range) -> bool
         ensures { result ≡ covers_one self.now other.now }
     {
-        lists::cover_somewhere(self.intervals(), other.intervals())
+        interval_lists::cover_somewhere(self.intervals(), other.intervals())
     }
 
     /// Whether some interval of this range meets some interval of the other: whether `intersect`
@@ -147,7 +147,7 @@ impl Range {
     pub fn allows_any(&self, other: &Range) -> bool
         ensures { result ≡ is_some (intersection self.now other.now) }
     {
-        lists::meet_somewhere(self.intervals(), other.intervals())
+        interval_lists::meet_somewhere(self.intervals(), other.intervals())
     }
 }
 
@@ -157,7 +157,7 @@ impl<'a> RangeRef<'a> {
     pub fn allows_all(&self, other: &RangeRef<'_>) -> bool
         ensures { result ≡ covers_one self.now other.now }
     {
-        lists::cover_somewhere(self.intervals(), other.intervals())
+        interval_lists::cover_somewhere(self.intervals(), other.intervals())
     }
 
     /// Whether some interval of this range meets some interval of the other, as `Range::allows_any`
@@ -165,6 +165,6 @@ impl<'a> RangeRef<'a> {
     pub fn allows_any(&self, other: &RangeRef<'_>) -> bool
         ensures { result ≡ is_some (intersection self.now other.now) }
     {
-        lists::meet_somewhere(self.intervals(), other.intervals())
+        interval_lists::meet_somewhere(self.intervals(), other.intervals())
     }
 }

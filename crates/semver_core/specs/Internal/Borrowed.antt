@@ -3,8 +3,8 @@ use Rattle.std.specs.Prelude.{◌≡◌, ⊤, true, IsUtf8}
 use Rattle.semver_core.specs.Text.Identifiers.{Id, Numeric, AlphaNumeric, is_listed, listed}
 use Rattle.semver_core.specs.Values.Versions.{VersionValue}
 use Rattle.semver_core.specs.declared.borrowed.VersionRef.TheInside.{Inside}
-use Rattle.semver_core.specs.declared.borrowed.order.IdRef.{IdRef}
-use Rattle.semver_core.specs.declared.borrowed.order.IdRef.TheVariants as variant
+use Rattle.semver_core.specs.declared.borrowed.dotted.IdRef.{IdRef}
+use Rattle.semver_core.specs.declared.borrowed.dotted.IdRef.TheVariants as variant
 
 -- the five values of the version
 abbrev pub borrowed_value : Inside → VersionValue

@@ -12,7 +12,7 @@ use Rattle.semver_core.specs.declared.error.Failure.{Failure}
 use Rattle.semver_core.specs.declared.error.Failure.TheVariants.{Refused, Memory}
 use Rattle.semver_core.specs.declared.increment.IdentifierBase.{IdentifierBase}
 use Rattle.semver_core.specs.declared.increment.IncrementError.{IncrementError}
-use Rattle.semver_core.specs.declared.increment.parts.PartsRef.{PartsRef}
+use Rattle.semver_core.specs.declared.increment.parts_ref.PartsRef.{PartsRef}
 
 -- the five values of a version whose identifiers stand elsewhere
 abbrev pub parts_ref_value : PartsRef → VersionValue

@@ -12,7 +12,7 @@ ghost use Rattle.semver_core.specs.Values.Order.{id_cmp};
 ghost use Rattle.semver_core.specs.Values.Views.{id_view, lent_id_view};
 
 use crate::Identifier;
-use crate::borrowed::order::{IdRef, cmp_ids};
+use crate::borrowed::dotted::{IdRef, cmp_ids};
 use crate::print::write_number;
 use std::cmp::Ordering;
 use std::fmt;

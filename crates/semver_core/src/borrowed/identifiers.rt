@@ -9,7 +9,7 @@ ghost use Rattle.semver_core.specs.Text.Identifiers.{is_listed, listed};
 ghost use Rattle.semver_core.specs.Values.Order.{id_cmp};
 ghost use Rattle.semver_core.specs.Values.Views.{ids_view, lent_id_view};
 
-use crate::borrowed::order::{IdRef, cmp_texts, first_id};
+use crate::borrowed::dotted::{IdRef, cmp_texts, first_id};
 use crate::version::lists::Identifiers;
 use crate::version::parts::copy_into;
 use crate::{Identifier, IdentifierRef, scan};

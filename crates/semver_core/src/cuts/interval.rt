@@ -8,7 +8,7 @@ ghost use Rattle.semver_core.specs.Cuts.{option_holds, remainders, upper_cut};
 ghost use Rattle.semver_core.specs.Clips.{clip};
 
 use crate::cuts::bound::{Bound, Point};
-use crate::cuts::order::{
+use crate::cuts::cut_order::{
     greater_lower, into_greater_lower, into_lesser_upper, is_below, is_past_lower, is_past_upper,
     lesser_upper, lower_order, upper_order,
 };

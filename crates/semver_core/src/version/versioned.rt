@@ -8,7 +8,7 @@ ghost use Rattle.semver_core.specs.Values.Versions.{VersionValue, is_release};
 
 use crate::cuts::Point;
 use crate::print::{write_decimal, write_dotted, write_list};
-use crate::version::order::cmp_pre;
+use crate::version::precedence::cmp_pre;
 use crate::{IdentifierRefs, Version, VersionRef};
 use std::cmp::Ordering;
 use std::fmt;

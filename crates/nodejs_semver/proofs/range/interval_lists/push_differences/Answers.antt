@@ -1,0 +1,22 @@
+use Rattle.std.proofs.Common.{◌∙◌, ◌++◌, ap, arith, inr}
+use Rattle.nodejs_semver.proofs.Algebra.Differences.{minus-clips, along-gaps}
+use Rattle.nodejs_semver.proofs.Algebra.FlatMaps.{on_err}
+use Rattle.nodejs_semver.proofs.range.interval_lists.push_differences.Goals as goal
+
+pub clip_each-requires : goal.clip_each-requires
+clip_each-requires g c = (
+  omega arith,
+  rw c.deref.ensures (along-gaps g.met.V.Ord.total c.args.others.now c.in_ok-pieces.pieces.items c.in_ok-pieces.ensures),
+)
+
+pub returns-in_err-pieces-clause-memory : goal.returns-in_err-pieces-clause-memory
+returns-in_err-pieces-clause-memory g c = on_err c.from_residual.result (inr (λ e. omega arith))
+
+pub returns-in_err-clip_each-clause-memory : goal.returns-in_err-clip_each-clause-memory
+returns-in_err-clip_each-clause-memory g c = on_err c.from_residual-in_err-clip_each.result (inr (λ e. omega arith))
+
+pub returns-clause-items : goal.returns-clause-items
+returns-clause-items g c =
+    rw c.deref.ensures at c.in_ok-clip_each.ensures
+    ∙ ap (λ l. c.args.found.now.items ++ l) (minus-clips g.met.V.Ord.total c.args.these.now c.args.others.now
+    c.in_ok-pieces.pieces.items c.requires c.in_ok-pieces.ensures)

@@ -1,0 +1,8 @@
+use Rattle.std.proofs.Common.{◌≡◌, ◌++◌, take, flat_map, option_to_list}
+use Rattle.semver_core.specs.Cuts.{meet}
+use Rattle.nodejs_semver.proofs.range.interval_lists.push_intersections.Given as goal
+
+abbrev pub invariant-loop-other : goal.invariant-loop-other
+invariant-loop-other g l =
+    l.found.items
+    ≡ l.initial.found.items ++ flat_map (λ t. option_to_list (meet g.V.Ord.cmp l.interval t)) (take l.other-index l.others)

@@ -1,5 +1,0 @@
-use Rattle.std.proofs.Common.{length}
-use Rattle.nodejs_semver.proofs.range.lists.+complement.Given as goal
-
-abbrev pub decreases-complement : goal.decreases-complement
-decreases-complement g l = length l.intervals.now

@@ -1,7 +1,0 @@
-use Rattle.nodejs_semver.specs.Internal.Sets.{meets_of}
-use Rattle.std.proofs.Common.{◌≡◌, ◌++◌, take}
-use Rattle.nodejs_semver.proofs.range.lists.push_all_intersections.Given as goal
-
-abbrev pub invariant-loop-interval : goal.invariant-loop-interval
-invariant-loop-interval g l =
-    l.found.items ≡ l.initial.found.items ++ meets_of g.V.Ord.cmp (take l.interval-index l.these) l.others

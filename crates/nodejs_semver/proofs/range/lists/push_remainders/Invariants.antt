@@ -1,7 +1,0 @@
-use Rattle.std.proofs.Common.{◌≡◌, ◌++◌, take, flat_map}
-use Rattle.nodejs_semver.specs.Ranges.Algebra.{remainder}
-use Rattle.nodejs_semver.proofs.range.lists.push_remainders.Given as goal
-
-abbrev pub invariant-loop-interval : goal.invariant-loop-interval
-invariant-loop-interval g l =
-    l.left.items ≡ l.initial.left.items ++ flat_map (λ s. remainder g.V.Ord.cmp s l.other) (take l.interval-index l.these)

@@ -1,0 +1,208 @@
+// The words of increments, a row each.
+
+ghost use Rattle.std.specs.Prelude.{◌≡◌, ◌<◌, IfOk, Ok, OnOk, length, ⊤};
+ghost use Rattle.semver_core.specs.Failures.{MemoryOnlyIf};
+ghost use Rattle.semver_core.specs.Increments.Table as spec;
+ghost use Rattle.semver_core.specs.Increments.View.{Returns};
+ghost use Rattle.semver_core.specs.Internal.IncrementSteps as steps;
+ghost use Rattle.semver_core.specs.Internal.IncrementSteps.{MayAllocate, ReturnsParts, Steps};
+ghost use Rattle.semver_core.specs.Internal.IncrementSteps.{parts_ref_value, stepped};
+ghost use Rattle.semver_core.specs.Values.Versions.{HasIdentifiers};
+ghost use Rattle.semver_core.specs.Values.Views.{ids_view};
+
+use crate::increment::parts_ref::PartsRef;
+use crate::increment::pre_release::{advance, put_identifier, unless_overflow};
+use crate::increment::{IdentifierBase, IncrementError, one_more, refused_argument};
+use crate::version::lists::{Identifiers, Lists, Qualifier};
+use crate::{Failure, IdentifierRefs, Version};
+use std::alloc::{AllocError, Global};
+
+// The row of a word.
+pub(super) fn by_word(
+    alloc: Global,
+    version: &PartsRef<'_>,
+    word: &str,
+    id: &str,
+    base: IdentifierBase,
+) -> Result<Version, Failure<IncrementError>>
+    ensures value { Returns
+        (spec.by_word word.now id.now base (parts_ref_value version.now)) result }
+    ensures memory { MemoryOnlyIf result (MayAllocate HasIdentifiers
+        (spec.by_word word.now id.now base (parts_ref_value version.now))) }
+{
+    match word {
+        "major" => major(alloc, version),
+        "minor" => minor(alloc, version),
+        "patch" => patch(alloc, version),
+        "premajor" => pre_step(alloc, &next_major(version)?, id, base),
+        "preminor" => pre_step(alloc, &next_minor(version)?, id, base),
+        "prepatch" => pre_step(alloc, &next_patch(version)?, id, base),
+        "prerelease" => prerelease(alloc, version, id, base),
+        "pre" => pre_step(alloc, version, id, base),
+        "release" => release(alloc, version),
+        _ => Err(refused_argument(alloc, word)),
+    }
+}
+
+fn major(alloc: Global, version: &PartsRef<'_>) -> Result<Version, Failure<IncrementError>>
+    ensures value { Returns (steps.by_major (parts_ref_value version.now)) result }
+    ensures memory { MemoryOnlyIf result (MayAllocate HasIdentifiers
+        (steps.by_major (parts_ref_value version.now))) }
+{
+    if version.minor == 0 && version.patch == 0 && !version.is_release() {
+        release_of(alloc, version)
+    } else {
+        release_of(alloc, &next_major(version)?)
+    }
+}
+
+fn minor(alloc: Global, version: &PartsRef<'_>) -> Result<Version, Failure<IncrementError>>
+    ensures value { Returns (steps.by_minor (parts_ref_value version.now)) result }
+    ensures memory { MemoryOnlyIf result (MayAllocate HasIdentifiers
+        (steps.by_minor (parts_ref_value version.now))) }
+{
+    if version.patch == 0 && !version.is_release() {
+        release_of(alloc, version)
+    } else {
+        release_of(alloc, &next_minor(version)?)
+    }
+}
+
+fn patch(alloc: Global, version: &PartsRef<'_>) -> Result<Version, Failure<IncrementError>>
+    ensures value { Returns (steps.by_patch (parts_ref_value version.now)) result }
+    ensures memory { MemoryOnlyIf result (MayAllocate HasIdentifiers
+        (steps.by_patch (parts_ref_value version.now))) }
+{
+    if version.is_release() {
+        release_of(alloc, &next_patch(version)?)
+    } else {
+        release_of(alloc, version)
+    }
+}
+
+fn prerelease(
+    alloc: Global,
+    version: &PartsRef<'_>,
+    id: &str,
+    base: IdentifierBase,
+) -> Result<Version, Failure<IncrementError>>
+    ensures value { Returns (steps.by_prerelease id.now base (parts_ref_value version.now)) result }
+    ensures memory { MemoryOnlyIf result (MayAllocate HasIdentifiers
+        (steps.by_prerelease id.now base (parts_ref_value version.now))) }
+{
+    if version.is_release() {
+        pre_step(alloc, &next_patch(version)?, id, base)
+    } else {
+        pre_step(alloc, version, id, base)
+    }
+}
+
+fn release(alloc: Global, version: &PartsRef<'_>) -> Result<Version, Failure<IncrementError>>
+    ensures value { Returns (steps.by_release (parts_ref_value version.now)) result }
+    ensures memory { MemoryOnlyIf result (MayAllocate HasIdentifiers
+        (steps.by_release (parts_ref_value version.now))) }
+{
+    if version.is_release() {
+        let text = release_of(alloc, version)?.to_string(alloc)?;
+        Err(Failure::Refused(IncrementError::NotAPrerelease(text)))
+    } else {
+        release_of(alloc, version)
+    }
+}
+
+// The next release of a kind. Its build stands where it stood.
+fn next_major<'a>(version: &PartsRef<'a>) -> Result<PartsRef<'a>, Failure<IncrementError>>
+    ensures value { ReturnsParts (spec.next_major (parts_ref_value version.now)) result }
+    ensures memory { MemoryOnlyIf result ⊥ }
+{
+    Ok(version.with_numbers(one_more(version.major)?, 0, 0))
+}
+
+fn next_minor<'a>(version: &PartsRef<'a>) -> Result<PartsRef<'a>, Failure<IncrementError>>
+    ensures value { ReturnsParts (spec.next_minor (parts_ref_value version.now)) result }
+    ensures memory { MemoryOnlyIf result ⊥ }
+{
+    Ok(version.with_numbers(version.major, one_more(version.minor)?, 0))
+}
+
+fn next_patch<'a>(version: &PartsRef<'a>) -> Result<PartsRef<'a>, Failure<IncrementError>>
+    ensures value { ReturnsParts (spec.next_patch (parts_ref_value version.now)) result }
+    ensures memory { MemoryOnlyIf result ⊥ }
+{
+    Ok(version.with_numbers(version.major, version.minor, one_more(version.patch)?))
+}
+
+// The release of the same numbers. Its build has identifiers of its own.
+fn release_of(alloc: Global, version: &PartsRef<'_>) -> Result<Version, Failure<IncrementError>>
+    ensures value { Returns (Ok (spec.release_of (parts_ref_value version.now))) result }
+    ensures memory { MemoryOnlyIf result (0 < length version.now.build) }
+{
+    if version.build.is_empty() {
+        return Ok(Version::release(version.major, version.minor, version.patch));
+    }
+    let lists = copied(alloc, &IdentifierRefs::of_items(&[]), &version.build)?;
+    Ok(Version::from_parts(
+        version.major,
+        version.minor,
+        version.patch,
+        Qualifier::Lists(lists),
+    ))
+}
+
+// Lists with identifiers of their own.
+fn copied(
+    alloc: Global,
+    pre_release: &IdentifierRefs<'_>,
+    build: &IdentifierRefs<'_>,
+) -> Result<Box<Lists>, AllocError>
+    ensures pre_release { IfOk result (λ lists.
+        ids_view lists.value.pre_release.items ≡ pre_release.now) }
+    ensures build { IfOk result (λ lists. ids_view lists.value.build.items ≡ build.now) }
+{
+    let mut lists = Lists::boxed(alloc)?;
+    pre_release.copy_into(alloc, &mut lists.pre_release)?;
+    build.copy_into(alloc, &mut lists.build)?;
+    Ok(lists)
+}
+
+#[tactic(auto, using(crate::proofs::Increments::Memory::step_may))]
+fn pre_step(
+    alloc: Global,
+    version: &PartsRef<'_>,
+    id: &str,
+    base: IdentifierBase,
+) -> Result<Version, Failure<IncrementError>>
+    ensures value { Returns (spec.pre_step id.now base (parts_ref_value version.now)) result }
+    ensures memory { MemoryOnlyIf result (MayAllocate HasIdentifiers
+        (spec.pre_step id.now base (parts_ref_value version.now))) }
+{
+    let mut lists = match copied(alloc, &version.pre_release, &version.build) {
+        Ok(lists) => lists,
+        Err(error) => return Err(unless_overflow(&version.pre_release, error)),
+    };
+    step(alloc, &mut lists.pre_release, id, base)?;
+    Ok(Version::from_parts(
+        version.major,
+        version.minor,
+        version.patch,
+        Qualifier::Lists(lists),
+    ))
+}
+
+// Turns a pre-release into the next one.
+fn step(
+    alloc: Global,
+    list: &mut Identifiers,
+    id: &str,
+    base: IdentifierBase,
+) -> Result<(), Failure<IncrementError>>
+    ensures value { Steps (stepped (ids_view list.old.items) id.now base) result
+        (ids_view list.new.items) }
+    ensures some { OnOk result (0 < length list.new.items) }
+    ensures memory { MemoryOnlyIf result (MayAllocate (λ list. ⊤)
+        (spec.advance (ids_view list.old.items) id.now base)) }
+{
+    advance(alloc, list, id, base)?;
+    put_identifier(alloc, list, id, base)?;
+    Ok(())
+}
