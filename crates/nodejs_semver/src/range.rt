@@ -9,16 +9,16 @@ ghost use Rattle.nodejs_semver.specs.Ranges.View.{IsRange, any_version, spans_of
 
 mod algebra;
 mod best;
+mod equality;
 mod gate;
+mod interval_lists;
 mod least;
 mod least_held;
-mod interval_lists;
 mod neighbours;
 mod outside;
 pub(crate) mod owned;
 mod parse;
 mod print;
-mod equality;
 
 pub use crate::range::outside::{OutsideDirection, RangeError};
 use semver_core::cuts::Interval;

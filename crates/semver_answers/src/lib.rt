@@ -1,5 +1,6 @@
-//! Answers questions about versions and ranges, one a line: `run::run` reads the lines from any reader
-//! and writes the answers to any writer. The program `semver_lines` runs it on standard input and output.
+//! Answers questions about versions and ranges, one a line: `run::run` reads the lines from any
+//! reader and writes the answers to any writer. The program `semver_lines` runs it on standard
+//! input and output.
 #![tactic(auto)]
 
 mod answer;
@@ -7,8 +8,8 @@ mod best;
 mod command;
 mod fault;
 mod fields;
-mod question;
+mod names;
 mod parsed;
+mod question;
 mod reply;
 pub mod run;
-mod names;

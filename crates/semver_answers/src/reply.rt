@@ -15,13 +15,13 @@ ghost use Rattle.semver_answers.specs.declared.question.Question.{Question};
 
 use crate::best::best_of;
 use crate::fault::Fault;
-use crate::question::{
-    AboutBest, AboutMatch, AboutRange, AboutRanges, AboutVersion, AboutVersions, Question,
-};
-use crate::parsed::{Parsed, range_of, version_of};
 use crate::names::{
     borrowed_or_none, difference_word, next_text, order_word, printed, range_or_none, truth_word,
     version_or_none,
+};
+use crate::parsed::{Parsed, range_of, version_of};
+use crate::question::{
+    AboutBest, AboutMatch, AboutRange, AboutRanges, AboutVersion, AboutVersions, Question,
 };
 use nodejs_semver::{Failure, IdentifierBase, RangeRef, VersionRef};
 use std::alloc::{AllocError, Global};

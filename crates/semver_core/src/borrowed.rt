@@ -4,9 +4,9 @@ ghost use Rattle.std.specs.Prelude.{◌≡◌, ◌↔◌, ◌<◌, IfOk, IsTrue,
 ghost use Rattle.semver_core.specs.Text.Identifiers.{is_listed, listed};
 ghost use Rattle.semver_core.specs.Values.Versions.{HasIdentifiers, is_release};
 
+mod dotted;
 pub mod identifier;
 pub mod identifiers;
-mod dotted;
 mod read;
 
 use crate::cuts::Point;

@@ -3,8 +3,8 @@
 //! one.
 
 mod bound;
-mod interval;
 mod cut_order;
+mod interval;
 
 pub use crate::cuts::bound::{Bound, Point};
 pub use crate::cuts::interval::Interval;

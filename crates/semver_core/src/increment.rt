@@ -12,15 +12,15 @@ ghost use Rattle.semver_core.specs.Internal.IncrementSteps.{MayAllocate, Refused
 ghost use Rattle.semver_core.specs.Internal.IncrementSteps.{parts_ref_value};
 ghost use Rattle.semver_core.specs.Values.Versions.{HasIdentifiers, is_release};
 
-use crate::increment::parts_ref::PartsRef;
 use crate::increment::levels::by_word;
+use crate::increment::parts_ref::PartsRef;
 use crate::{Failure, Identifier, Version, VersionRef};
 use std::alloc::{AllocError, Global};
 use thiserror::Error;
 
+mod levels;
 mod parts_ref;
 mod pre_release;
-mod levels;
 
 /// What a new pre-release list begins to count with.
 ///

@@ -4,7 +4,8 @@
 //! A call on a `&str` takes a place in it, a byte index. A call on a `&[u8]` reads at the front of
 //! the bytes, save `number_in`, which takes a place.
 
-ghost use Rattle.std.specs.Prelude.{◌≡◌, ◌≤◌, ◌==◌, ◌+◌, ◌-◌, ◌*◌, ◌<◌, if◌then◌else◌, ℕ, List, [], length};
+ghost use Rattle.std.specs.Prelude.{◌≡◌, ◌≤◌, ◌==◌, ◌+◌, ◌-◌, ◌*◌, ◌<◌, if◌then◌else◌};
+ghost use Rattle.std.specs.Prelude.{ℕ, List, [], length};
 ghost use Rattle.std.specs.Prelude.{drop, take, IfOk, IfSome, IfNone, OnErr, OnOk, IsCharBoundary};
 ghost use Rattle.std.specs.Prelude.{IsUtf8, Ok, None, Some, false, true};
 ghost use Rattle.std.specs.Char.{is_ascii_digit};
@@ -15,7 +16,8 @@ ghost use Rattle.semver_core.specs.Text.Characters.{IsAfterBlank, IsPieceAt, NoP
 ghost use Rattle.semver_core.specs.Text.Identifiers.{Id, identifier_of, goes_on, is_listed, listed};
 ghost use Rattle.semver_core.specs.Text.Identifiers.{IsLongestIdentifiers};
 ghost use Rattle.semver_core.specs.Text.Numbers.{IsWholeNumber};
-ghost use Rattle.semver_core.specs.Internal.Reading.{digits_end, digits_from, list_at, number_at, placed};
+ghost use Rattle.semver_core.specs.Internal.Reading.{digits_end, digits_from, list_at, number_at};
+ghost use Rattle.semver_core.specs.Internal.Reading.{placed};
 ghost use Rattle.semver_core.specs.Values.Views.{id_view, ids_view};
 ghost use Rattle.semver_core.specs.Text.Characters.{IsTrim};
 ghost use Rattle.semver_core.specs.Internal.Spaces.{drop_end_spaces};

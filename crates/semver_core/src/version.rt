@@ -15,8 +15,8 @@ ghost use Rattle.semver_core.specs.Internal.Inside.{pre_release_of};
 pub mod accepts;
 mod convert;
 pub(crate) mod lists;
-pub(crate) mod precedence;
 pub mod parts;
+pub(crate) mod precedence;
 pub mod versioned;
 
 use crate::readers::version_loose;

@@ -98,10 +98,10 @@ fn lies_outside<V: VersionPoint, W: Versioned>(
         ≡ spec.is_outside direction include_prerelease (spans_of V.value intervals.now)
         (W.value version.now) }
 {
-    !accepts(intervals, version, include_prerelease)
-        && intervals
-            .iter()
-            .all(|interval| lies_opposite(interval, version, direction))
+    intervals
+        .iter()
+        .all(|interval| lies_opposite(interval, version, direction))
+        && !accepts(intervals, version, include_prerelease)
 }
 
 // Whether the interval lies on the other side of the version.
