@@ -102,7 +102,7 @@ pub fn ask_about(
     }
 }
 
-// Makes each call on a version that is lent.
+// Makes each call on a borrowed version.
 fn lent(
     alloc: Global,
     calls: &mut Calls,
