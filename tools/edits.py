@@ -1,7 +1,8 @@
 """The wrong bodies of the crates: files crates/NAME/wrong_bodies/CALL__MISTAKE.edit, and their rows in docs/WRONG_BODIES.md.
 
 An edit is a file of lines 'file: PATH', 'old: TEXT' and 'new: TEXT'. Each old text stands in its file once, and the new one takes its
-place; a further pair applies to what the earlier ones made."""
+place; a further pair applies to what the earlier ones made. A line 'open: FUNCTION: GOAL NAMES' names a goal that the body leaves open,
+as the prover offers it: the folder of the function's proof files, and the goal with the names of what it is about."""
 import glob
 import os
 import re
@@ -10,7 +11,7 @@ import subprocess
 
 TOP = os.path.realpath(os.path.join(os.path.dirname(os.path.realpath(__file__)), ".."))
 PAGE = "docs/WRONG_BODIES.md"
-HEADER = re.compile(r"^( *)(?:#\[[^\n]*\] )?(?:pub(?:\([^)]*\))? )?(?:final )?(?:const )?(?:unsafe )?fn (\w+)", re.M)
+HEADER = re.compile(r"^( *)(?:#\[[^\n]*\] )?(?:pub(?:\([^)]*\))? )?(?:final )?(?:const )?(?:unsafe )?(?:extern \"C\" )?fn (\w+)", re.M)
 BLOCK = re.compile(r"^(?:impl\b.*?(?=\{|where|$)|(?:pub(?:\([^)]*\))? )?trait \w+)", re.M)
 
 
@@ -87,7 +88,7 @@ class Edit:
 
     def __init__(self, crate, path):
         self.crate, self.path, self.name = crate, path, os.path.basename(path)[: -len(".edit")]
-        self.pairs, self.places, file, old = [], [], "", ""
+        self.pairs, self.places, self.open, file, old = [], [], [], "", ""
         for line in filter(None, text_of(path).splitlines()):
             key, _, value = line.partition(": ")
             if key == "file":
@@ -96,11 +97,13 @@ class Edit:
                 old = value
             elif key.rstrip(":") == "new":
                 self.pairs.append((file, old, value))
+            elif key == "open":
+                self.open.append(tuple(value.split(": ")))
         texts = {}
         for file, old, new in self.pairs:
             text = texts.setdefault(file, text_of(f"{self.folder(TOP)}/{file}"))
             if text.count(old) != 1:
-                raise SystemExit(f"{self}: the text stands {text.count(old)} times: {old}")
+                raise SystemExit(f"{os.path.relpath(path, TOP)}: the text stands {text.count(old)} times: {old}")
             self.places += [it for it in [self.place_of(file, text, old)] if it and it not in self.places]
             texts[file] = text.replace(old, new)
         self.is_alone = not self.places

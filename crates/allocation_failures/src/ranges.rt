@@ -85,7 +85,46 @@ fn pair(rt: &impl Print, alloc: Global, ranges: &[Range; 2]) -> io::Result<()> {
         "Range::least_of_all",
         found(Range::least_of_all(alloc, ranges)),
         &both,
-    )
+    )?;
+    as_sets(rt, alloc, &both)
+}
+
+fn as_sets(rt: &impl Print, alloc: Global, both: &Both<'_, Range>) -> io::Result<()> {
+    let (one, other) = (both.one, both.other);
+    let versions = [Version::from((1u64, 5, 0))];
+    show(
+        rt,
+        "Range::union",
+        Outcome::from(one.union(alloc, other)),
+        both,
+    )?;
+    show(
+        rt,
+        "Range::simplify",
+        Outcome::from(one.simplify(alloc, &versions)),
+        both,
+    )?;
+    for call in SUBSETS {
+        let answer = answer_of(alloc, one, other, call);
+        show(rt, call, Outcome::from(answer), both)?;
+    }
+    Ok(())
+}
+
+const SUBSETS: &[&str] = &[
+    "Range::is_subset",
+    "Range::is_subset_with_prerelease",
+    "Range::accepts_same",
+    "Range::accepts_same_with_prerelease",
+];
+
+fn answer_of(alloc: Global, one: &Range, other: &Range, call: &str) -> Result<bool, AllocError> {
+    match call {
+        "Range::is_subset" => one.is_subset(alloc, other),
+        "Range::is_subset_with_prerelease" => one.is_subset_with_prerelease(alloc, other),
+        "Range::accepts_same" => one.accepts_same(alloc, other),
+        _ => one.accepts_same_with_prerelease(alloc, other),
+    }
 }
 
 fn choices(rt: &impl Print, alloc: Global, text: &str) -> io::Result<()> {

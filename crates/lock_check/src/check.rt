@@ -1,77 +1,308 @@
 // Compares each dependency of a lock file with the version that is locked for it.
 
+use crate::fault::Fault;
 use crate::finding::{Finding, Outcome};
-use crate::lock::{Dependency, Lock, dependencies};
-use crate::specifier::{is_address, is_tag};
+use crate::folder::{is_installed, joined};
+use crate::lock::{Dependency, Field, Lock, Package, Wanted, add_dependencies};
+use crate::overrides::Overrides;
+use crate::scopes::Scopes;
+use crate::specifier::{Specifier, is_tag};
 use crate::verdict::{Verdict, judge};
+use crate::workspaces::{add_workspaces, are_read};
 use anyhow::Result;
 use nodejs_semver::diagnosis::{IgnoredKind, ignored_words, version_flaw};
 use nodejs_semver::{Failure, Range, Version};
 use serde_json::Value;
 use std::alloc::Global;
 
-/// The finding for each dependency of each package, in the order of the packages' folders.
-pub fn check<'a>(alloc: Global, lock: Lock<'a>) -> Result<Vec<Finding<'a>>> {
-    let mut findings = Vec::new(alloc);
-    for (folder, package) in lock.packages.iter() {
-        for &dependency in &dependencies(alloc, folder, package)? {
-            let outcome = outcome(alloc, lock, dependency)?;
-            findings.push(Finding {
-                dependency,
-                outcome,
-            })?;
+/// What is found in a lock file, in the order of the packages' folders.
+#[derive(Drop)]
+pub struct Findings<'a> {
+    /// The finding for each dependency of each package.
+    pub of_dependencies: Vec<Finding<'a>>,
+    /// What is malformed, so that no dependency is read of it.
+    pub faults: Vec<Fault<'a>>,
+}
+
+/// A dependency, and the package that is locked for it.
+#[derive(Clone, Copy)]
+pub struct Edge<'a> {
+    pub dependency: Dependency<'a>,
+    pub locked: Option<Package<'a>>,
+}
+
+/// Judges each dependency of each package.
+pub fn check<'a>(alloc: Global, lock: Lock<'a>) -> Result<Findings<'a>> {
+    let mut faults = Vec::new(alloc);
+    let edges = edges(alloc, lock, &mut faults)?;
+    let overrides = Overrides::of(alloc, lock.package(""), &mut faults)?;
+    let scopes = Scopes::of(alloc, overrides, &edges)?;
+    let mut of_dependencies = Vec::new(alloc);
+    for (number, &edge) in edges.iter().enumerate() {
+        let wanted = scopes.wanted(lock, number, edge);
+        of_dependencies.push(finding(alloc, lock, edge, wanted)?)?;
+    }
+    Ok(Findings {
+        of_dependencies,
+        faults,
+    })
+}
+
+// All dependencies, with what is locked for them.
+fn edges<'a>(alloc: Global, lock: Lock<'a>, faults: &mut Vec<Fault<'a>>) -> Result<Vec<Edge<'a>>> {
+    let mut edges = Vec::new(alloc);
+    for (folder, fields) in lock.packages.iter() {
+        let package = Package {
+            folder: folder.as_str(),
+            fields,
+        };
+        let mut found = Vec::new(alloc);
+        if folder.is_empty() {
+            add_workspaces(lock, package, &mut found, faults)?;
+        }
+        add_dependencies(package, &mut found, faults)?;
+        for &dependency in &found {
+            let locked = lock.nearest(alloc, package.folder, dependency.name)?;
+            let edge = Edge { dependency, locked };
+            if !is_of_development(edge) {
+                edges.push(edge)?;
+            }
         }
     }
-    Ok(findings)
+    Ok(edges)
 }
 
-fn outcome<'a>(alloc: Global, lock: Lock<'a>, dependency: Dependency<'a>) -> Result<Outcome<'a>> {
-    let Dependency { folder, name, .. } = dependency;
-    match lock.nearest(alloc, folder, name)? {
-        None if dependency.optional => Ok(Outcome::Absent),
-        None => Ok(Outcome::Missing),
-        Some(package) if is_link(package) => Ok(Outcome::Link),
-        Some(package) => locked_outcome(alloc, package, dependency),
-    }
+// Whether npm takes a dependency in `requires` for one of development: it is locked as such, and
+// the package is not. npm reads no such dependencies of what is installed.
+fn is_of_development(edge: Edge<'_>) -> bool {
+    let package = edge.dependency.package;
+    edge.dependency.field == Field::Requires
+        && is_installed(package.folder)
+        && edge.locked.is_some_and(|locked| {
+            locked.is("dev")
+                && !package.is("dev")
+                && (!locked.is("optional") || package.is("optional"))
+        })
 }
 
-// Whether the locked package is a link to a folder, as a workspace is.
-fn is_link(package: &Value) -> bool {
-    package.get("link").and_then(Value::as_bool) == Some(true)
+// What is found for a dependency that wants this.
+fn finding<'a>(
+    alloc: Global,
+    lock: Lock<'a>,
+    edge: Edge<'a>,
+    wanted: Option<Wanted<'a>>,
+) -> Result<Finding<'a>> {
+    let Edge { dependency, locked } = edge;
+    let Some(wanted) = wanted else {
+        let outcome = Outcome::NoReference;
+        return Ok(Finding {
+            dependency,
+            outcome,
+        });
+    };
+    let is_changed = wanted.is_other_than(dependency.wanted);
+    let dependency = Dependency {
+        wanted,
+        ..dependency
+    };
+    let outcome = match locked {
+        _ if is_changed && dependency.package.folder.is_empty() => Outcome::Conflict,
+        None if dependency.is_optional() => Outcome::Absent,
+        None => Outcome::Missing,
+        Some(locked) => locked_outcome(alloc, lock, dependency, locked)?,
+    };
+    Ok(Finding {
+        dependency,
+        outcome,
+    })
 }
 
+// What is found of a package that is locked for a dependency.
 fn locked_outcome<'a>(
     alloc: Global,
-    package: &'a Value,
+    lock: Lock<'a>,
     dependency: Dependency<'a>,
+    locked: Package<'a>,
 ) -> Result<Outcome<'a>> {
-    if is_address(dependency.range) {
-        return Ok(Outcome::Address);
+    let Some(package) = lock.behind(alloc, locked)? else {
+        return Ok(Outcome::NoFolder);
+    };
+    let target = Target {
+        dependency,
+        locked,
+        package,
+    };
+    if target.is_own_peer() {
+        return Ok(Outcome::OwnPeer);
     }
-    // To npm these ranges accept every version, pre-releases too.
-    if matches!(dependency.range.trim(), "" | "*") {
-        return Ok(Outcome::Satisfied);
+    if target.is_link_of_root() {
+        return Ok(Outcome::Link);
     }
-    if has_word_without_bounds(dependency.range) {
-        return Ok(Outcome::Unbounded);
+    let outcome = target.outcome(alloc, dependency.wanted.specifier())?;
+    let accepted = dependency
+        .package
+        .member("acceptDependencies", dependency.name);
+    match accepted.and_then(Value::as_str) {
+        Some(accepted) if !outcome.is_satisfied() => {
+            let second = target.outcome(alloc, Specifier::of(accepted))?;
+            Ok(if second.is_satisfied() {
+                second
+            } else {
+                outcome
+            })
+        }
+        _ => Ok(outcome),
     }
-    let Some(range) = range(alloc, dependency.range)? else {
-        return Ok(if is_tag(dependency.range) {
-            Outcome::Tag
+}
+
+// A package that is locked for a dependency.
+#[derive(Clone, Copy)]
+struct Target<'a> {
+    dependency: Dependency<'a>,
+    locked: Package<'a>,
+    // The package itself, or that to which it is a link.
+    package: Package<'a>,
+}
+
+impl<'a> Target<'a> {
+    fn is_link(self) -> bool {
+        self.locked.is("link")
+    }
+
+    // Whether it is a peer that stands inside the package that wants it, so that npm judges it not.
+    fn is_own_peer(self) -> bool {
+        let folder = self.dependency.package.folder;
+        self.dependency.field == Field::Peer
+            && is_installed(folder)
+            && self.locked.folder.strip_prefix(folder).is_some()
+    }
+
+    // Whether the root project may have it as a workspace by a pattern that is not read.
+    fn is_link_of_root(self) -> bool {
+        let root = self.dependency.package;
+        self.is_link()
+            && root.folder.is_empty()
+            && self.dependency.field != Field::Workspaces
+            && !are_read(root)
+    }
+
+    fn outcome(self, alloc: Global, wanted: Specifier<'a>) -> Result<Outcome<'a>> {
+        match wanted {
+            Specifier::Unsupported => Ok(Outcome::Unsupported),
+            Specifier::Range(text) => self.range_outcome(alloc, text),
+            Specifier::Folder(path) => self.folder_outcome(alloc, path),
+            Specifier::Packed(path) => self.packed_outcome(alloc, path),
+            Specifier::Page(url) if !self.is_link() && self.resolved() == Some(url) => {
+                Ok(Outcome::Satisfied)
+            }
+            Specifier::Page(_) => Ok(Outcome::Elsewhere),
+            Specifier::Repository(range) => self.repository_outcome(alloc, range),
+        }
+    }
+
+    // Where the package comes from. A link comes from no address.
+    fn resolved(self) -> Option<&'a str> {
+        self.locked.text("resolved").filter(|_| !self.is_link())
+    }
+
+    // The folder from which the paths of the dependency lead, if they are read.
+    fn base(self, path: &str) -> Option<&'a str> {
+        let package = self.dependency.package;
+        let is_packed = package
+            .text("resolved")
+            .is_some_and(|it| it.starts_with("file:"));
+        if is_packed || !is_relative(path) {
+            return None;
+        }
+        match self.dependency.wanted {
+            Wanted::Override(_) => Some(""),
+            Wanted::Text(_) | Wanted::Workspace(_) => Some(package.folder),
+        }
+    }
+
+    fn folder_outcome(self, alloc: Global, path: &str) -> Result<Outcome<'a>> {
+        if !self.is_link() {
+            return Ok(Outcome::Elsewhere);
+        }
+        let Some(base) = self.base(path) else {
+            return Ok(Outcome::Address);
+        };
+        if joined(alloc, base, path)?.as_str() == self.package.folder {
+            Ok(Outcome::Satisfied)
         } else {
-            Outcome::Unread
-        });
-    };
-    let Some(text) = package.get("version").and_then(Value::as_str) else {
-        return Ok(Outcome::Unversioned);
-    };
-    if let Some(flaw) = version_flaw(text) {
-        return Ok(Outcome::NoVersion {
-            version: text,
-            flaw,
-        });
+            Ok(Outcome::Elsewhere)
+        }
     }
-    version_outcome(alloc, &range, text)
+
+    fn packed_outcome(self, alloc: Global, path: &str) -> Result<Outcome<'a>> {
+        let Some(resolved) = self.resolved().and_then(|it| it.strip_prefix("file:")) else {
+            return Ok(Outcome::Elsewhere);
+        };
+        let Some(base) = self.base(path) else {
+            return Ok(Outcome::Address);
+        };
+        if joined(alloc, base, path)? == joined(alloc, "", resolved)? {
+            Ok(Outcome::Satisfied)
+        } else {
+            Ok(Outcome::Elsewhere)
+        }
+    }
+
+    // Two addresses of repositories are not compared.
+    fn repository_outcome(self, alloc: Global, range: Option<&'a str>) -> Result<Outcome<'a>> {
+        match (self.resolved().map(Specifier::of), range) {
+            (Some(Specifier::Repository(_)), None) => Ok(Outcome::Address),
+            (Some(Specifier::Repository(_)), Some(range)) => {
+                match self.range_outcome(alloc, range)? {
+                    Outcome::Satisfied => Ok(Outcome::Address),
+                    outcome => Ok(outcome),
+                }
+            }
+            _ => Ok(Outcome::Elsewhere),
+        }
+    }
+
+    // What a range text says of it.
+    fn range_outcome(self, alloc: Global, wanted: &str) -> Result<Outcome<'a>> {
+        // To npm these ranges accept every version, pre-releases too.
+        if matches!(wanted.trim(), "" | "*") {
+            return Ok(Outcome::Satisfied);
+        }
+        let range = range(alloc, wanted)?;
+        let is_unbounded = has_word_without_bounds(wanted);
+        if range.is_none() && !is_unbounded {
+            return Ok(self.tag_outcome(wanted));
+        }
+        let Some(text) = self.package.text("version") else {
+            return Ok(Outcome::Unversioned);
+        };
+        // npm leaves out such marks before a locked version.
+        let bare = text.trim_start_matches(['v', '=', ' ']);
+        match (version_flaw(text), range) {
+            (Some(flaw), _) if version_flaw(bare).is_some() => Ok(Outcome::NoVersion {
+                version: text,
+                flaw,
+            }),
+            (_, Some(range)) if !is_unbounded => version_outcome(alloc, &range, bare, text),
+            _ => Ok(Outcome::Unbounded),
+        }
+    }
+
+    // npm wants what a tag names to come from an address of a package.
+    fn tag_outcome(self, wanted: &str) -> Outcome<'a> {
+        match self.resolved().map(Specifier::of) {
+            _ if !is_tag(wanted) => Outcome::Unread,
+            Some(Specifier::Page(_)) => Outcome::Tagged,
+            _ => Outcome::Untraced,
+        }
+    }
+}
+
+// Whether a path is one that leads from a folder and has no letters that a URL gives a meaning.
+fn is_relative(path: &str) -> bool {
+    !path.starts_with('/')
+        && !path.starts_with('~')
+        && !path.contains(|letter: char| matches!(letter, ':' | '%' | '?' | '#' | '\\'))
 }
 
 // Whether some word of a range text has no bounds here. To npm `^*` is any version, and `2 - 1`
@@ -80,9 +311,14 @@ fn has_word_without_bounds(text: &str) -> bool {
     ignored_words(text).any(|word| word.kind == IgnoredKind::WithoutBounds)
 }
 
-// What the range says of a locked text that is one version as a whole.
-fn version_outcome<'a>(alloc: Global, range: &Range, text: &'a str) -> Result<Outcome<'a>> {
-    match judge(alloc, range, &version(alloc, text)?)? {
+// What the range says of a version. It is locked by the whole text.
+fn version_outcome<'a>(
+    alloc: Global,
+    range: &Range,
+    bare: &str,
+    text: &'a str,
+) -> Result<Outcome<'a>> {
+    match judge(alloc, range, &version(alloc, bare)?)? {
         Verdict::Accepted => Ok(Outcome::Satisfied),
         Verdict::Rejected(smallest) => Ok(Outcome::Rejected {
             version: text,
@@ -91,13 +327,9 @@ fn version_outcome<'a>(alloc: Global, range: &Range, text: &'a str) -> Result<Ou
     }
 }
 
-// The range of a text, or `None` if nothing is read of it.
-fn range(alloc: Global, text: &str) -> Result<Option<Range>> {
-    match Range::parse(alloc, text) {
-        Ok(range) => Ok(Some(range)),
-        Err(Failure::Refused(_)) => Ok(None),
-        Err(Failure::Memory(error)) => Err(error.into()),
-    }
+/// The range of a text, or `None` if nothing is read of it.
+pub fn range(alloc: Global, text: &str) -> Result<Option<Range>> {
+    Ok(Failure::refused_as_none(Range::parse(alloc, text))?)
 }
 
 fn version(alloc: Global, text: &str) -> Result<Version> {

@@ -1,6 +1,11 @@
 // What is found for each dependency, and how it is printed.
 
-use crate::lock::{Dependency, Lock};
+ghost use Rattle.std.specs.Prelude.{◌≡◌, ◌<◌};
+
+use crate::check::Findings;
+use crate::lock::{Dependency, Lock, Wanted};
+use crate::shown::Shown;
+use crate::specifier::Specifier;
 use nodejs_semver::Version;
 use nodejs_semver::diagnosis::{IgnoredWords, VersionFlaw, ignored_words};
 use std::fmt;
@@ -17,6 +22,8 @@ pub struct Finding<'a> {
 #[derive(Drop)]
 pub enum Outcome<'a> {
     Satisfied,
+    /// A tag is wanted, and the package comes from the address of a package, as npm has it.
+    Tagged,
     /// The range rejects the locked version. The smallest version that it accepts, if there is one.
     Rejected {
         version: &'a str,
@@ -31,18 +38,30 @@ pub enum Outcome<'a> {
     Unversioned,
     /// The range text is neither a range nor a tag nor an address.
     Unread,
+    /// The range text is one that npm rejects, as a URL of a protocol that it does not read.
+    Unsupported,
+    /// The package comes from another address than the one that is wanted.
+    Elsewhere,
+    /// A tag is wanted, and the package does not come from the address of a package.
+    Untraced,
+    /// The package is a link to a folder that the lock file does not have.
+    NoFolder,
+    /// `overrides` changes what the root project itself depends on.
+    Conflict,
+    /// `overrides` puts a reference to no dependency of the root project in the place of the range.
+    NoReference,
     /// No `node_modules` here or above has a package of this name.
     Missing,
     /// The same of a dependency that may be absent.
     Absent,
     /// It is skipped, since npm reads a word of its range text that is ignored here.
     Unbounded,
-    /// It is skipped, since its range text is a tag.
-    Tag,
-    /// It is skipped, since its range text is an address, or an alias.
+    /// It is skipped, since its range text is an address that is not compared.
     Address,
-    /// It is skipped, since the package is a link to a folder, as a workspace is.
+    /// It is skipped, since the package is a link that may be to a workspace.
     Link,
+    /// It is skipped, since it is a peer that stands inside the package that wants it.
+    OwnPeer,
 }
 
 /// Outcomes that are counted as one.
@@ -65,19 +84,32 @@ pub struct Counts {
     missing: usize,
     absent: usize,
     skipped: usize,
+    malformed: usize,
 }
 
 impl Outcome<'_> {
+    /// Whether the dependency is satisfied.
+    pub fn is_satisfied(&self) -> bool {
+        self.kind() == Kind::Satisfied
+    }
+
     fn kind(&self) -> Kind {
         match self {
-            Outcome::Satisfied => Kind::Satisfied,
+            Outcome::Satisfied | Outcome::Tagged => Kind::Satisfied,
             Outcome::Rejected { .. }
             | Outcome::NoVersion { .. }
             | Outcome::Unversioned
-            | Outcome::Unread => Kind::Rejected,
+            | Outcome::Unread
+            | Outcome::Unsupported
+            | Outcome::Elsewhere
+            | Outcome::Untraced
+            | Outcome::NoFolder
+            | Outcome::Conflict
+            | Outcome::NoReference => Kind::Rejected,
             Outcome::Missing => Kind::Missing,
             Outcome::Absent => Kind::Absent,
-            Outcome::Unbounded | Outcome::Tag | Outcome::Address | Outcome::Link => Kind::Skipped,
+            Outcome::Unbounded | Outcome::Address | Outcome::Link | Outcome::OwnPeer =>
+                Kind::Skipped,
         }
     }
 }
@@ -85,35 +117,39 @@ impl Outcome<'_> {
 impl Finding<'_> {
     /// Whether the finding has a line of its own.
     pub fn is_printed(&self) -> bool {
-        !matches!(self.outcome, Outcome::Satisfied | Outcome::Absent)
+        !matches!(self.outcome.kind(), Kind::Satisfied | Kind::Absent)
     }
 
     /// The ignored words of the range text, if it was read as a range.
     pub fn ignored(&self) -> IgnoredWords<'_> {
-        ignored_words(match self.outcome {
-            Outcome::Satisfied
-            | Outcome::Rejected { .. }
-            | Outcome::NoVersion { .. }
-            | Outcome::Unversioned
-            | Outcome::Unbounded => self.dependency.range,
-            Outcome::Unread
-            | Outcome::Missing
-            | Outcome::Absent
-            | Outcome::Tag
-            | Outcome::Address
-            | Outcome::Link => "",
+        ignored_words(match (&self.outcome, self.dependency.wanted.specifier()) {
+            (
+                Outcome::Satisfied
+                | Outcome::Rejected { .. }
+                | Outcome::NoVersion { .. }
+                | Outcome::Unversioned
+                | Outcome::Unbounded,
+                Specifier::Range(text) | Specifier::Repository(Some(text)),
+            ) => text,
+            _ => "",
         })
+    }
+}
+
+impl fmt::Display for Wanted<'_> {
+    fn fmt<W: fmt::Write>(&self, f: &mut fmt::Formatter<W>) -> fmt::Result {
+        match self {
+            Wanted::Text(text) => write!(f, "{}", Shown(text)),
+            Wanted::Override(text) => write!(f, "{} by overrides", Shown(text)),
+            Wanted::Workspace(folder) => write!(f, "file:{}", Shown(folder)),
+        }
     }
 }
 
 impl fmt::Display for Dependency<'_> {
     fn fmt<W: fmt::Write>(&self, f: &mut fmt::Formatter<W>) -> fmt::Result {
-        let folder = if self.folder.is_empty() {
-            "."
-        } else {
-            self.folder
-        };
-        write!(f, "{folder} needs {} {}", self.name, self.range)
+        let (folder, name) = (Shown::folder(self.package.folder), Shown(self.name));
+        write!(f, "{folder} needs {name} {}", self.wanted)
     }
 }
 
@@ -121,32 +157,39 @@ impl fmt::Display for Finding<'_> {
     fn fmt<W: fmt::Write>(&self, f: &mut fmt::Formatter<W>) -> fmt::Result {
         write!(f, "{}", self.dependency)?;
         match &self.outcome {
-            Outcome::Satisfied => write!(f, ", satisfied"),
+            Outcome::Satisfied | Outcome::Tagged => write!(f, ", satisfied"),
             Outcome::Rejected {
                 version,
                 smallest: None,
-            } => write!(f, ", not {version}; no version would do"),
+            } => write!(f, ", not {}; it accepts no version", Shown(version)),
             Outcome::Rejected {
                 version,
                 smallest: Some(smallest),
-            } => write!(f, ", not {version}; {smallest} would do"),
+            } => write!(f, ", not {}; smallest accepted: {smallest}", Shown(version)),
             Outcome::NoVersion { version, flaw } => {
-                write!(f, ", not {version}; no version: {flaw}")
+                write!(f, ", not {}; no version: {flaw}", Shown(version))
             }
             Outcome::Unversioned => write!(f, ", not locked to a version"),
             Outcome::Unread => write!(f, ", rejected: no range, tag or address"),
+            Outcome::Unsupported => write!(f, ", rejected: no text that npm reads"),
+            Outcome::Elsewhere => write!(f, ", rejected: locked to another place"),
+            Outcome::Untraced => write!(f, ", rejected: a tag, locked to no address of a package"),
+            Outcome::NoFolder => write!(f, ", rejected: a link to a folder that is not there"),
+            Outcome::Conflict => write!(f, ", rejected: an override of a direct dependency"),
+            Outcome::NoReference => write!(f, ", rejected: its override refers to nothing"),
             Outcome::Missing => write!(f, ", missing"),
             Outcome::Absent => write!(f, ", absent"),
             Outcome::Unbounded => write!(f, ", skipped: npm reads a word that is ignored here"),
-            Outcome::Tag => write!(f, ", skipped: a tag"),
             Outcome::Address => write!(f, ", skipped: an address"),
-            Outcome::Link => write!(f, ", skipped: a link"),
+            Outcome::Link => write!(f, ", skipped: a link that may be a workspace"),
+            Outcome::OwnPeer => write!(f, ", skipped: a peer in its own folder"),
         }
     }
 }
 
 impl Counts {
-    pub fn of(lock: Lock<'_>, findings: &[Finding<'_>]) -> Counts {
+    pub fn of(lock: Lock<'_>, found: &Findings<'_>) -> Counts {
+        let findings = &found.of_dependencies;
         Counts {
             packages: lock.packages.len(),
             dependencies: findings.len(),
@@ -155,16 +198,30 @@ impl Counts {
             missing: count(findings, Kind::Missing),
             absent: count(findings, Kind::Absent),
             skipped: count(findings, Kind::Skipped),
+            malformed: found.faults.len(),
         }
     }
 
-    /// Success if no dependency is rejected, and none is missing.
+    /// What the program exits with.
     pub fn exit_code(self) -> ExitCode {
-        if self.rejected == 0 && self.missing == 0 {
-            ExitCode::SUCCESS
-        } else {
-            ExitCode::FAILURE
-        }
+        ExitCode::from(status(self.malformed, self.rejected, self.missing))
+    }
+}
+
+/// The exit status for these counts: 2 if something is malformed, else 1 if a dependency is
+/// rejected or missing, and else 0.
+fn status(malformed: usize, rejected: usize, missing: usize) -> u8
+    ensures trouble { 0 < malformed → result ≡ 2 }
+    ensures rejected { malformed ≡ 0 → 0 < rejected → result ≡ 1 }
+    ensures missing { malformed ≡ 0 → 0 < missing → result ≡ 1 }
+    ensures clean { malformed ≡ 0 → rejected ≡ 0 → missing ≡ 0 → result ≡ 0 }
+{
+    if malformed > 0 {
+        2
+    } else if rejected > 0 || missing > 0 {
+        1
+    } else {
+        0
     }
 }
 
@@ -185,6 +242,7 @@ impl fmt::Display for Counts {
             missing,
             absent,
             skipped,
+            malformed,
         } = self;
         write!(
             f,
@@ -192,7 +250,8 @@ impl fmt::Display for Counts {
         )?;
         write!(
             f,
-            "{rejected} rejected, {missing} missing, {absent} absent, {skipped} skipped"
-        )
+            "{rejected} rejected, {missing} missing, {absent} absent, {skipped} skipped, "
+        )?;
+        write!(f, "{malformed} malformed")
     }
 }

@@ -1,6 +1,9 @@
 // The packages of a lock file, and what they depend on.
 
-use anyhow::{Context, Result, bail};
+use crate::fault::Fault;
+use crate::folder::{is_installed, joined};
+use crate::specifier::Specifier;
+use anyhow::Result;
 use serde_json::{Map, Value};
 use std::alloc::Global;
 
@@ -10,25 +13,45 @@ pub struct Lock<'a> {
     pub packages: &'a Map<String, Value>,
 }
 
-/// The fields in which a package names its dependencies.
+/// A package of a lock file.
 #[derive(Clone, Copy)]
-enum Field {
+pub struct Package<'a> {
+    pub folder: &'a str,
+    pub fields: &'a Value,
+}
+
+/// The fields in which a package names its dependencies.
+#[derive(Clone, Copy, PartialEq, Eq)]
+pub enum Field {
     Development,
     Optional,
     Production,
     Peer,
+    /// `requires`, in lock files of version 1.
+    Requires,
+    /// `workspaces`, of the root project alone.
+    Workspaces,
+}
+
+/// What a dependency wants.
+#[derive(Clone, Copy)]
+pub enum Wanted<'a> {
+    /// What stands as its range.
+    Text(&'a str),
+    /// What `overrides` of the root project put in its place.
+    Override(&'a str),
+    /// The workspace in this folder.
+    Workspace(&'a str),
 }
 
 /// A dependency of a package.
 #[derive(Clone, Copy)]
 pub struct Dependency<'a> {
-    /// The folder of the package that depends on it.
-    pub folder: &'a str,
+    /// The package that depends on it.
+    pub package: Package<'a>,
+    pub field: Field,
     pub name: &'a str,
-    /// The range text, or what stands in its place.
-    pub range: &'a str,
-    /// Whether it may be absent.
-    pub optional: bool,
+    pub wanted: Wanted<'a>,
 }
 
 // A name that stands in several fields counts in the first of these, as npm has it.
@@ -37,6 +60,7 @@ const FIELDS: &[Field] = &[
     Field::Optional,
     Field::Production,
     Field::Peer,
+    Field::Requires,
 ];
 
 impl Field {
@@ -46,96 +70,150 @@ impl Field {
             Field::Optional => "optionalDependencies",
             Field::Production => "dependencies",
             Field::Peer => "peerDependencies",
+            Field::Requires => "requires",
+            Field::Workspaces => "workspaces",
         }
     }
 
     // The dependencies of this field, by their names. npm reads `devDependencies` only of projects,
     // which stand outside `node_modules`.
-    fn of<'a>(self, folder: &str, package: &'a Value) -> Result<Option<&'a Map<String, Value>>> {
-        if matches!(self, Field::Development) && folder.contains("node_modules/") {
+    fn of<'a>(self, package: Package<'a>) -> Result<Option<&'a Map<String, Value>>, Fault<'a>> {
+        if self == Field::Development && is_installed(package.folder) {
             return Ok(None);
         }
-        let Some(value) = package.get(self.name()) else {
+        let Some(value) = package.fields.get(self.name()) else {
             return Ok(None);
         };
+        let (folder, field) = (package.folder, self.name());
         match value.as_object() {
             Some(ranges) => Ok(Some(ranges)),
-            None => bail!("{folder:?}: `{}` is not an object", self.name()),
+            None if self == Field::Requires => Ok(None),
+            None => Err(Fault::Field { folder, field }),
+        }
+    }
+}
+
+impl<'a> Package<'a> {
+    /// The text in this field.
+    pub fn text(self, field: &str) -> Option<&'a str> {
+        self.fields.get(field).and_then(Value::as_str)
+    }
+
+    /// Whether this field is `true`.
+    pub fn is(self, field: &str) -> bool {
+        self.fields.get(field).and_then(Value::as_bool) == Some(true)
+    }
+
+    /// The value of this name in this field.
+    pub fn member(self, field: &str, name: &str) -> Option<&'a Value> {
+        self.fields.get(field).and_then(|it| it.get(name))
+    }
+}
+
+impl<'a> Wanted<'a> {
+    /// Whether an override changes what was wanted before.
+    pub fn is_other_than(self, before: Wanted<'_>) -> bool {
+        match (self, before) {
+            (Wanted::Override(text), Wanted::Text(before)) => text != before,
+            (Wanted::Override(_), _) => true,
+            _ => false,
         }
     }
 
-    // Whether the dependency of this name in this field may be absent.
-    fn is_optional(self, package: &Value, name: &str) -> bool {
+    /// What it is to npm.
+    pub fn specifier(self) -> Specifier<'a> {
         match self {
-            Field::Development | Field::Production => false,
+            Wanted::Text(text) | Wanted::Override(text) => Specifier::of(text),
+            Wanted::Workspace(folder) => Specifier::Folder(folder),
+        }
+    }
+}
+
+impl<'a> Dependency<'a> {
+    /// Whether it may be absent.
+    pub fn is_optional(self) -> bool {
+        match self.field {
+            Field::Development | Field::Production | Field::Requires | Field::Workspaces => false,
             Field::Optional => true,
             Field::Peer => {
-                let meta = package
-                    .get("peerDependenciesMeta")
-                    .and_then(|it| it.get(name));
-                meta.and_then(|it| it.get("optional"))
-                    .and_then(Value::as_bool)
-                    == Some(true)
+                let meta = self.package.member("peerDependenciesMeta", self.name);
+                let optional = meta.and_then(|it| it.get("optional"));
+                optional.and_then(Value::as_bool) == Some(true)
             }
         }
     }
 }
 
 impl<'a> Lock<'a> {
-    /// The lock file that a JSON value is.
-    pub fn of_file(file: &'a Value) -> Result<Lock<'a>> {
-        let packages = file.get("packages").and_then(Value::as_object);
-        let packages = packages.context("no object `packages`, as lockfileVersion 2 and 3 have")?;
-        Ok(Lock { packages })
+    /// The package in this folder.
+    pub fn package(self, folder: &str) -> Option<Package<'a>> {
+        let (folder, fields) = self.packages.get_key_value(folder)?;
+        Some(Package { folder, fields })
     }
 
     /// The package that a dependency of this name means in this folder: that of the nearest
     /// `node_modules`, here or above.
-    pub fn nearest(self, alloc: Global, folder: &str, name: &str) -> Result<Option<&'a Value>> {
+    pub fn nearest(self, alloc: Global, folder: &str, name: &str) -> Result<Option<Package<'a>>> {
         let mut above = String::new(alloc);
-        let mut found = self.package(alloc, &above, name)?;
+        let mut found = self.child(alloc, &above, name)?;
         for part in folder.split('/') {
             above.push_str(part)?;
             above.push('/')?;
-            found = self.package(alloc, &above, name)?.or(found);
+            found = self.child(alloc, &above, name)?.or(found);
         }
         Ok(found)
     }
 
     // The package of this name in the `node_modules` of a folder.
-    fn package(self, alloc: Global, folder: &str, name: &str) -> Result<Option<&'a Value>> {
+    fn child(self, alloc: Global, folder: &str, name: &str) -> Result<Option<Package<'a>>> {
         let key = format!(in alloc; "{folder}node_modules/{name}")?;
-        Ok(self.packages.get(&key))
+        Ok(self.package(&key))
+    }
+
+    /// The package itself, or that to whose folder it is a link, if the lock file has it.
+    pub fn behind(self, alloc: Global, package: Package<'a>) -> Result<Option<Package<'a>>> {
+        if !package.is("link") {
+            return Ok(Some(package));
+        }
+        let folder = joined(alloc, "", package.text("resolved").unwrap_or(""))?;
+        Ok(self.package(&folder))
     }
 }
 
-/// The dependencies of the package in this folder.
-pub fn dependencies<'a>(
-    alloc: Global,
-    folder: &'a str,
-    package: &'a Value,
-) -> Result<Vec<Dependency<'a>>> {
-    let mut found: Vec<Dependency<'a>> = Vec::new(alloc);
+/// Adds the dependencies of a package to those found before, which come first. What is malformed
+/// is added to `faults`.
+pub fn add_dependencies<'a>(
+    package: Package<'a>,
+    found: &mut Vec<Dependency<'a>>,
+    faults: &mut Vec<Fault<'a>>,
+) -> Result<()> {
     for &field in FIELDS {
-        let Some(ranges) = field.of(folder, package)? else {
-            continue;
+        let ranges = match field.of(package) {
+            Ok(Some(ranges)) => ranges,
+            Ok(None) => continue,
+            Err(fault) => {
+                faults.push(fault)?;
+                continue;
+            }
         };
         for (name, range) in ranges.iter() {
             let name = name.as_str();
             let Some(range) = range.as_str() else {
-                bail!("{folder:?}: the range of {name:?} is not a text");
+                let folder = package.folder;
+                faults.push(Fault::Range { folder, name })?;
+                continue;
             };
             if found.iter().any(|earlier| earlier.name == name) {
                 continue;
             }
-            let optional = field.is_optional(package, name);
+            let wanted = Wanted::Text(range);
             found.push(Dependency {
-                folder,
+                package,
+                field,
                 name,
-                range,
-                optional,
+                wanted,
             })?;
         }
     }
-    Ok(found)
+    Ok(())
 }

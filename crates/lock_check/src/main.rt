@@ -1,59 +1,129 @@
 //! Checks a lock file of npm: reads a `package-lock.json` from standard input and names each
 //! dependency whose locked version its range rejects, each locked version that is not one version
-//! as a whole, with the byte where it goes wrong, and each range text of which nothing is read. It
-//! takes no arguments. It exits with 0 if every dependency is satisfied, absent by leave or
-//! skipped, and with 1 otherwise.
+//! as a whole, with the byte where it goes wrong, each range text of which nothing is read, and
+//! each package that is missing or comes from another place than the one that is wanted. It is
+//! meant to find what `npm ls --package-lock-only --all` finds. The page `docs/MODEL.md` of the
+//! repository says which fields it reads, what it skips and where npm finds something else.
+//!
+//! The one argument that it takes is the path of the `package.json` beside the lock file. That is
+//! then the root project, as it is to npm, with its `overrides`, which a lock file does not hold;
+//! a lock file of lockfileVersion 1 does not name the dependencies of the root project either.
+//! Without it the root project is what the lock file has under the empty folder.
+//!
+//! It exits with 0 if every dependency is satisfied, absent by leave or skipped, with 1 if one is
+//! not, and with 2 if the check could not be made or is not whole: the input is no lock file, a
+//! field of it is malformed, or reading, writing or an allocation failed. A malformed field is
+//! named, and hides nothing of the other fields.
+//!
+//! A lock file may come from anyone. What is printed of it stands on one line, in printable ASCII:
+//! all other characters, quotes and backslashes are escaped, as `\u{1b}`.
 //!
 //! It also names each word of a range that is ignored, with its place; this does not count as a
 //! finding. npm ignores malformed words too, as `>=1.0.0,` in `>=1.0.0, <2.0.0`. A word that has a
 //! form but no bounds here, as `^*`, has bounds to npm, so a dependency with such a word is
 //! skipped.
-//!
-//! It is meant to find what `npm ls --package-lock-only --all` finds, except that it knows neither
-//! `overrides`, which a lock file does not hold, nor `acceptDependencies`, and that it skips tags,
-//! addresses and links. `tools/lock_check --npm` compares the two, and lists where they differ;
-//! that is no part of the tests.
 #![tactic(auto)]
 
 mod check;
+mod fault;
 mod finding;
+mod folder;
 mod lock;
+mod nested;
+mod overrides;
+mod scopes;
+mod shown;
 mod specifier;
 mod verdict;
+mod workspaces;
 
-use crate::check::check;
+use crate::check::{Findings, check};
 use crate::finding::{Counts, Finding};
 use crate::lock::Lock;
 use anyhow::{Context, Result};
-use serde_json::Value;
+use serde_json::{Map, Value, put};
+use std::alloc::Global;
+use std::io::{BufWriter, Write};
 use std::process::ExitCode;
-use std::{env, io};
+use std::{env, fs, io};
+
+// The exit status if the check could not be made, or is not whole.
+const TROUBLE: u8 = 2;
 
 fn main(rt: HostRuntime) -> Result<ExitCode> {
+    let error = match run(&rt) {
+        Ok(code) => return Ok(code),
+        Err(error) => error,
+    };
+    eprintln!(rt; "Error: {error:?}")?;
+    Ok(ExitCode::from(TROUBLE))
+}
+
+fn run(rt: &HostRuntime) -> Result<ExitCode> {
     let alloc = rt.alloc();
-    if env::args(&rt)?.nth(1).is_some() {
-        eprintln!(rt; "usage: lock_check < package-lock.json")?;
-        return Ok(ExitCode::FAILURE);
+    let mut arguments = env::args(rt)?.skip(1);
+    let manifest = arguments.next();
+    if arguments.next().is_some() {
+        eprintln!(rt; "usage: lock_check [PACKAGE_JSON] < package-lock.json")?;
+        return Ok(ExitCode::from(TROUBLE));
     }
     let text = io::read_to_string(alloc, rt.stdin())?;
-    let file = Value::from_str(alloc, &text).context("the input is not JSON")?;
-    let lock = Lock::of_file(&file)?;
-    let findings = check(alloc, lock)?;
-    for finding in findings.iter() {
-        print(&rt, finding)?;
+    let file = json(alloc, &text).context("the input is not JSON")?;
+    let mut packages = packages(alloc, file)?;
+    if let Some(path) = manifest {
+        let text = fs::read_to_string(rt, path.as_str())?;
+        let root = json(alloc, &text).context("the package.json is not JSON")?;
+        root.as_object().context("the package.json is no object")?;
+        put(&mut packages, alloc, "", root)?;
     }
+    let lock = Lock {
+        packages: &packages,
+    };
+    let findings = check(alloc, lock)?;
     let counts = Counts::of(lock, &findings);
-    println!(rt; "{counts}")?;
+    let mut output = BufWriter::new(alloc, rt.stdout())?;
+    print(&mut output, &findings)?;
+    writeln!(output, "{counts}")?;
+    output.flush()?;
     Ok(counts.exit_code())
 }
 
-// Prints a finding, if it has a line, and each ignored word of its range text.
-fn print(rt: &impl Print, finding: &Finding<'_>) -> io::Result<()> {
+// Some editors put a byte order mark at the front.
+fn json(alloc: Global, text: &str) -> Result<Value> {
+    let text = text.strip_prefix('\u{feff}').unwrap_or(text);
+    Ok(Value::from_str(alloc, text)?)
+}
+
+// The packages of a lock file, by their folders.
+fn packages(alloc: Global, mut file: Value) -> Result<Map<String, Value>> {
+    if let Some(packages) = file.get_mut("packages") {
+        if let Value::Object(packages) = packages.take() {
+            return Ok(packages);
+        }
+    }
+    let nested = file.get("dependencies").and_then(Value::as_object);
+    let nested = nested.context("neither an object `packages` nor an object `dependencies`")?;
+    nested::packages(alloc, nested)
+}
+
+// Prints what is malformed, and each finding that has a line, with the ignored words of its range
+// text.
+fn print(output: &mut impl Write, findings: &Findings<'_>) -> io::Result<()> {
+    for fault in findings.faults.iter() {
+        writeln!(output, "{fault}")?;
+    }
+    for finding in findings.of_dependencies.iter() {
+        print_one(output, finding)?;
+    }
+    Ok(())
+}
+
+fn print_one(output: &mut impl Write, finding: &Finding<'_>) -> io::Result<()> {
     if finding.is_printed() {
-        println!(rt; "{finding}")?;
+        writeln!(output, "{finding}")?;
     }
     for word in finding.ignored() {
-        println!(rt; "{}, {word}", finding.dependency)?;
+        writeln!(output, "{}, {word}", finding.dependency)?;
     }
     Ok(())
 }

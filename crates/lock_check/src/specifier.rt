@@ -1,15 +1,164 @@
-// What a text in place of a range is to npm, where it is no range of versions.
+// What a text in place of a range is to npm.
 
 // The ends of the names of packed packages.
 const PACKED: &[&str] = &[".tgz", ".tar.gz", ".tar"];
 
-/// Whether npm takes a text for an address, whatever else is in it: a file, a folder, an alias
-/// `npm:..`, a repository or another URL.
-pub fn is_address(text: &str) -> bool {
-    text.starts_with('.')
-        || text.contains('/')
-        || begins_scheme(text)
-        || PACKED.iter().any(|end| text.ends_with(*end))
+// The schemes of the URLs that npm reads, but for those of packages at other places; behind `git+`
+// those of the second list.
+const SCHEMES: &[&str] = &[
+    "bitbucket",
+    "gist",
+    "git",
+    "github",
+    "gitlab",
+    "http",
+    "https",
+    "sourcehut",
+    "ssh",
+];
+
+const GIT_SCHEMES: &[&str] = &["file", "ftp", "http", "https", "rsync", "ssh"];
+
+// The hosts whose pages npm takes for repositories.
+const HOSTS: &[&str] = &[
+    "bitbucket.org",
+    "gist.github.com",
+    "git.sr.ht",
+    "github.com",
+    "gitlab.com",
+];
+
+/// What a text in place of a range is to npm.
+#[derive(Clone, Copy)]
+pub enum Specifier<'a> {
+    /// A range, or else a tag: the text, or that behind the name of an alias `npm:NAME@RANGE`.
+    Range(&'a str),
+    /// The path of a folder.
+    Folder(&'a str),
+    /// The path of a packed package.
+    Packed(&'a str),
+    /// The URL of a packed package.
+    Page(&'a str),
+    /// A repository, and the range of `#semver:RANGE` behind it.
+    Repository(Option<&'a str>),
+    /// A text that npm rejects, as the URL of a protocol that it does not read: `workspace:^` and
+    /// `catalog:`.
+    Unsupported,
+}
+
+impl<'a> Specifier<'a> {
+    /// What the text is.
+    pub fn of(text: &'a str) -> Specifier<'a> {
+        if let Some(path) = path(text) {
+            return at_path(path);
+        }
+        match scheme(text) {
+            Some(("", scheme, target)) if scheme.eq_ignore_ascii_case("npm") => alias(target),
+            Some((git, scheme, _)) if !is_read(git, scheme) => Specifier::Unsupported,
+            Some(("", scheme, target)) if is_page(scheme, target) => Specifier::Page(text),
+            Some(_) => Specifier::Repository(tagged(text)),
+            None if is_repository(text) => Specifier::Repository(tagged(text)),
+            None if text.contains('/') || is_packed(text) => at_path(text),
+            None => Specifier::Range(text),
+        }
+    }
+}
+
+// The path that the text is, if it is one by its front. One letter before a colon is a drive.
+fn path(text: &str) -> Option<&str> {
+    match scheme(text) {
+        Some(("", scheme, path)) if scheme.eq_ignore_ascii_case("file") => Some(path),
+        Some(("", scheme, _)) if scheme.len() == 1 => Some(text),
+        _ if text.starts_with('.') || text.starts_with('/') || text.starts_with("~/") => Some(text),
+        _ => None,
+    }
+}
+
+fn at_path(path: &str) -> Specifier<'_> {
+    if is_packed(path) {
+        Specifier::Packed(path)
+    } else {
+        Specifier::Folder(path)
+    }
+}
+
+fn is_packed(text: &str) -> bool {
+    PACKED.iter().any(|end| text.ends_with(*end))
+}
+
+// What stands behind `npm:`, a name and a range. A name may begin with an at sign of its own.
+fn alias(target: &str) -> Specifier<'_> {
+    let (name, plain) = match target.strip_prefix('@') {
+        Some(name) => (name, true),
+        None => (target, is_plain(target)),
+    };
+    match name.split_once('@') {
+        _ if !plain => Specifier::Unsupported,
+        None | Some((_, "")) => Specifier::Range("*"),
+        Some((_, range)) if is_plain(range) => Specifier::Range(range),
+        Some(_) => Specifier::Unsupported,
+    }
+}
+
+fn is_plain(text: &str) -> bool {
+    !text.contains('/') && !text.contains(':')
+}
+
+// Whether a URL is that of a file, and of no repository at a host that npm knows.
+fn is_page(scheme: &str, target: &str) -> bool {
+    let is_web = scheme.eq_ignore_ascii_case("http") || scheme.eq_ignore_ascii_case("https");
+    let place = target.trim_start_matches('/');
+    let (host, path) = place.split_once('/').unwrap_or((place, ""));
+    let host = match host.rsplit_once('@') {
+        Some((_, host)) => host,
+        None => host,
+    };
+    let host = host.strip_prefix("www.").unwrap_or(host);
+    let is_known = HOSTS.iter().any(|it| it.eq_ignore_ascii_case(host));
+    is_web && (!is_known || (host.eq_ignore_ascii_case("github.com") && is_below_project(path)))
+}
+
+// Whether the path of a page of GitHub leads to something of a project that is no branch.
+fn is_below_project(path: &str) -> bool {
+    path.split('/')
+        .nth(2)
+        .is_some_and(|part| !part.is_empty() && part != "tree")
+}
+
+// Whether a text without a scheme names a repository: `USER/PROJECT`, or `USER@HOST:PATH`.
+fn is_repository(text: &str) -> bool {
+    let front = match text.split_once('#') {
+        Some((front, _)) => front,
+        None => text,
+    };
+    let is_remote = front.contains('@') && front.contains(':');
+    match front.split_once('/') {
+        _ if is_remote => true,
+        None => false,
+        Some((user, project)) => {
+            !user.is_empty()
+                && !project.is_empty()
+                && is_plain(project)
+                && !front.contains(':')
+                && !front.contains('@')
+                && !front.contains(char::is_whitespace)
+        }
+    }
+}
+
+// The range that `#semver:` names behind an address, if it stands there as it is.
+fn tagged(text: &str) -> Option<&str> {
+    let (_, behind) = text.split_once("#semver:")?;
+    if behind.contains('%') || behind.contains("::") {
+        return None;
+    }
+    Some(behind)
+}
+
+// Whether npm reads URLs of this scheme.
+fn is_read(git: &str, scheme: &str) -> bool {
+    let known = if git.is_empty() { SCHEMES } else { GIT_SCHEMES };
+    known.iter().any(|it| it.eq_ignore_ascii_case(scheme))
 }
 
 /// Whether npm takes a text that is neither an address nor a range for a tag, as `latest`: each of
@@ -18,15 +167,18 @@ pub fn is_tag(text: &str) -> bool {
     text.trim().bytes().all(is_tag_byte)
 }
 
-// Whether letters and a colon stand at the front, behind `git+` or without it.
-fn begins_scheme(text: &str) -> bool {
-    let behind = text.strip_prefix("git+").unwrap_or(text);
-    match behind.split_once(':') {
-        Some((scheme, _)) => {
-            !scheme.is_empty() && scheme.bytes().all(|byte| byte.is_ascii_alphabetic())
-        }
-        None => false,
+// The scheme at the front, if a colon follows some letters: `git+` before it or nothing, the
+// letters, and what follows the colon.
+fn scheme(text: &str) -> Option<(&str, &str, &str)> {
+    let (git, behind) = match text.strip_prefix("git+") {
+        Some(behind) => ("git+", behind),
+        None => ("", text),
+    };
+    let (scheme, rest) = behind.split_once(':')?;
+    if scheme.is_empty() || !scheme.bytes().all(|byte| byte.is_ascii_alphabetic()) {
+        return None;
     }
+    Some((git, scheme, rest))
 }
 
 // Whether JavaScript's `encodeURIComponent` keeps the byte.

@@ -1,5 +1,4 @@
 pub mod BestOf
-pub mod Named
 pub mod Next
 pub mod LeastHeld
 pub mod LeastOf

@@ -1,10 +1,13 @@
 pub mod Algebra
 pub mod Bounds
 pub mod Choice
+pub mod Common
 pub mod Diagnosing
 pub mod Dividing
 pub mod Everyday
+pub mod Strict
 pub mod Printing
+pub mod Questions
 pub mod Reading
 pub mod Rows
 pub mod Sets

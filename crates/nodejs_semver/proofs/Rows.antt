@@ -1,2 +1,4 @@
 pub mod Ranges
 pub mod Printed
+pub mod NpmVersions
+pub mod NpmRanges

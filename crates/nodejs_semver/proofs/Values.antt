@@ -1,19 +1,20 @@
 -- What holds of spans of versions holds of the spans of their values, where the order of the versions is that of the values.
-use Rattle.std.proofs.Common.{◌≡◌, ◌∙◌, Bool, List, [], ◌∷◌, ◌++◌, refl, ap, ap₂, sym, Option, Some, None, map, if◌then◌else◌}
-use Rattle.std.proofs.Common.{is_some, length, option_to_list, Ordering, ℕ, ◌+◌, ◌<◌, codes, get_or, take, arith, option_map}
+use Rattle.nodejs_semver.proofs.Common.{◌≡◌, ◌∙◌, Bool, List, [], ◌∷◌, ◌++◌, refl, ap, ap₂, sym, Option, Some, None, map}
+use Rattle.nodejs_semver.proofs.Common.{if◌then◌else◌, is_some, length, option_to_list, Ordering, ℕ, ◌+◌, ◌<◌, get_or, take}
+use Rattle.nodejs_semver.proofs.Common.{arith, list_all, Span, cut_cmp, greater_lower, interval, is_interval, lesser_upper}
+use Rattle.nodejs_semver.proofs.Common.{lower_cut, meet, upper_cut, left_below, left_above, precedence, VersionValue, Bound}
+use Rattle.nodejs_semver.proofs.Common.{After, Before, Unbounded, inl, inr, list_any, or_cases, or_left, or_right, remainder, span_of, true}
+use Rattle.std.proofs.lemmas.List.{length-map}
+use Rattle.std.proofs.Common.{codes, option_map}
 use Rattle.std.proofs.lemmas.List.{map-append}
 use Rattle.std.proofs.lemmas.List.Folds.{flat_map-map, list_all-map}
-use Rattle.std.specs.List.{flat_map, join_by, list_all}
-use Rattle.semver_core.specs.Cuts.{Span, cut_cmp, greater_lower, interval, is_interval, lesser_upper, lower_cut}
-use Rattle.semver_core.specs.Cuts.{meet, upper_cut, left_below, left_above}
-use Rattle.semver_core.specs.Values.Order.{precedence}
-use Rattle.semver_core.specs.Values.Versions.{VersionValue}
-use Rattle.semver_core.specs.declared.cuts.bound.Bound.{Bound}
+use Rattle.std.specs.List.{flat_map, join_by}
 use Rattle.nodejs_semver.proofs.Algebra.FlatMaps.{take_next}
-use Rattle.nodejs_semver.specs.Internal.Sets.{meets_of, minus, span_text}
+use Rattle.nodejs_semver.specs.Internal.Sets.{AreTaking, meets_of, minus, span_text}
 use Rattle.nodejs_semver.specs.Printing.Text.{range_text}
-use Rattle.nodejs_semver.specs.Ranges.Algebra.{remainder}
-use Rattle.nodejs_semver.specs.Ranges.View.{bound_of, span_of, spans_of}
+use Rattle.nodejs_semver.specs.Ranges.View.{TakesMemory, bound_of, spans_of}
+use Rattle.semver_core.specs.Cuts.{has_bound, passes}
+use Rattle.semver_core.specs.Values.Memory.{takes_memory}
 
 -- versions that are their own values
 pub span_same : (s : Span VersionValue) → span_of (λ v. v) s ≡ s
@@ -120,3 +121,28 @@ module _ {V : Type 0} (R : V → V → Ordering) (value : V → VersionValue)
       minus-values (flat_map (λ s. remainder R s t) ss) ts
       ∙ ap (λ l. minus precedence l (spans_of value ts))
       (flat-map (span_of value) _ (λ s. remainder precedence s (span_of value t)) (λ s. remainder-values s t) ss)
+
+-- what takes memory to copy, wherever the values of the versions do
+module _ {V : Type 0} (takes : V → Bool) (value : V → VersionValue)
+    (copied : (v : V) → takes v ≡ true → takes_memory (value v) ≡ true) where
+  passes-values : (b : Bound V) → passes takes b ≡ true → passes takes_memory (bound_of value b) ≡ true
+  passes-values Unbounded h = h
+  passes-values (Before v) h = copied v h
+  passes-values (After v) h = copied v h
+
+  any-values : (ss : List (Span V)) → list_any (has_bound takes) ss ≡ true
+      → list_any (has_bound takes_memory) (spans_of value ss) ≡ true
+  any-values [] h = h
+  any-values (s ∷ ss) h =
+      elim (or_cases _ _ h) [
+        | inl here ↦ elim (or_cases _ _ here) [
+          | inl low ↦ or_left _ _ (or_left _ _ (passes-values s.lower low))
+          | inr high ↦ or_left _ _ (or_right _ _ (passes-values s.upper high))
+        ]
+        | inr there ↦ or_right _ _ (any-values ss there)
+      ]
+
+  pub taking-values : (ss : List (Span V)) (ts : List (Span VersionValue)) → spans_of value ss ≡ ts → AreTaking takes ss
+      → TakesMemory ts
+  taking-values ss ts e (inl many) = inl (omega (arith, many, length-map ss (span_of value), ap length e))
+  taking-values ss ts e (inr any) = inr (rw (sym e) (any-values ss any))

@@ -16,3 +16,11 @@ pub mod CommonFronts
 pub mod CommonViews
 pub mod Ignored
 pub mod Sets
+pub mod Questions
+pub mod NpmReadings
+pub mod NpmParts
+pub mod NpmWords
+pub mod NpmViews
+pub mod NpmMeaning
+pub mod NpmAlternatives
+pub mod NpmReads

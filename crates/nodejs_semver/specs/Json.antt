@@ -10,8 +10,8 @@ use Rattle.semver_core.specs.declared.error.SemverError.{SemverError}
 abbrev pub json_string : List ℕ → Option (List ℕ)
 json_string text = option_and_then as_str (read text)
 
--- what is read of a string that may be missing: a value; a rejection exactly if there is no string or nothing is read of it; or
--- an allocation failure
+-- what is read of a string that may be missing: a value; a rejection exactly if there is no string or nothing
+-- is read of it; or an allocation failure
 abbrev pub ReadsString : {A : Type 0} → (List ℕ → A → Type 0) → (List ℕ → Type 0) → Option (List ℕ)
     → Result A (Failure SemverError) → Type 0
 ReadsString IsRead IsNotRead found (Ok value) = IsSomeAnd found (λ text. IsRead text value)

@@ -1,6 +1,7 @@
 pub mod Diagnosis
 pub mod Json
 pub mod Internal
+pub mod Npm
 pub mod Printing
 pub mod Ranges
 pub mod Text

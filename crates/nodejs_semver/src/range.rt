@@ -1,19 +1,20 @@
 // Ranges: lists of intervals of versions.
 
-ghost use Rattle.std.specs.Prelude.{◌≡◌, ◌+◌, ◌<◌, ◌⊎◌, IfOk, IsOk, OnErr, length, true};
-ghost use Rattle.std.specs.List.{list_all, list_any};
-ghost use Rattle.nodejs_semver.specs.Internal.Sets.{bounds_identifiers, is_range_span};
+ghost use Rattle.std.specs.Prelude.{◌≡◌, ◌≤◌, ◌+◌, IfOk, IsOk, OnErr, true};
+ghost use Rattle.std.specs.List.{list_all};
+ghost use Rattle.nodejs_semver.specs.Internal.Sets.{AreTaking, is_range_span};
 ghost use Rattle.semver_core.specs.declared.TheConstants.{MAX_SAFE_INTEGER};
 ghost use Rattle.semver_core.specs.Lists.{if_any};
-ghost use Rattle.nodejs_semver.specs.Ranges.View.{IsRange, any_version, spans_of};
+ghost use Rattle.nodejs_semver.specs.Ranges.View.{IsRange, TakesMemory, any_version};
+ghost use Rattle.nodejs_semver.specs.Ranges.View.{spans_of};
 
 mod algebra;
 mod best;
+pub(crate) mod choice;
 mod equality;
-mod gate;
+pub(crate) mod gate;
 mod interval_lists;
 mod least;
-mod least_held;
 mod neighbours;
 mod outside;
 pub(crate) mod owned;
@@ -64,6 +65,17 @@ pub type Range = RangeOf<Version>;
 pub type RangeRef<'a> = RangeOf<VersionRef<'a>>;
 
 impl<V: VersionPoint> RangeOf<V> {
+    /// A copy of the whole range, builds included. Fails only if allocation fails, which happens
+    /// only where it has more than one interval, or a bound with build metadata or with a
+    /// pre-release other than `0` alone.
+    pub fn copy(&self, alloc: Global) -> Result<RangeOf<V>, AllocError>
+        ensures whole { IfOk result (λ r. r ≡ self.now) }
+        ensures memory { OnErr result (TakesMemory self.now) }
+    {
+        let intervals = copy_intervals(alloc, self.items())?;
+        Ok(RangeOf { intervals })
+    }
+
     // The intervals, whoever owns their versions.
     #[inline(always)]
     pub(crate) fn items(&self) -> &[Interval<V>]
@@ -85,6 +97,14 @@ impl<V: VersionPoint> RangeOf<V> {
             Some(RangeOf { intervals })
         }
     }
+
+    // The range of these intervals, of which there are some.
+    pub(crate) fn of_some(intervals: Intervals<V>) -> RangeOf<V>
+        requires { IsRange MAX_SAFE_INTEGER (spans_of V.value intervals.items) }
+        ensures { result ≡ spans_of V.value intervals.items }
+    {
+        RangeOf { intervals }
+    }
 }
 
 impl Range {
@@ -100,14 +120,6 @@ impl Range {
         Ok(RangeOf { intervals })
     }
 
-    /// A copy of the whole range, builds included. Fails only if allocation fails.
-    pub fn copy(&self, alloc: Global) -> Result<Range, AllocError>
-        ensures { IfOk result (λ r. r ≡ self.now) }
-    {
-        let intervals = copy_intervals(alloc, &self.intervals)?;
-        Ok(RangeOf { intervals })
-    }
-
     /// The intervals, in the order in which the text names them: one or more, which may overlap.
     #[tactic(auto, using(crate::proofs::Values::spans_same))]
     pub fn intervals(&self) -> &[Interval<Version>]
@@ -115,17 +127,6 @@ impl Range {
         ensures valid { IsRange MAX_SAFE_INTEGER self.now }
     {
         self.items()
-    }
-
-    // The range with versions of its own.
-    #[tactic(auto, using(crate::proofs::Values::spans_same))]
-    pub(crate) fn of_borrowed(alloc: Global, range: &RangeRef<'_>) -> Result<Range, AllocError>
-        ensures whole { IfOk result (λ r. r ≡ range.now) }
-        ensures memory { OnErr result ((1 < length range.now)
-            ⊎ (list_any bounds_identifiers range.now ≡ true)) }
-    {
-        let intervals = owned::owned_intervals(alloc, range.intervals())?;
-        Ok(RangeOf { intervals })
     }
 }
 
@@ -140,15 +141,18 @@ impl<'a> RangeRef<'a> {
     }
 }
 
-fn copy_intervals(
+/// Copies of the intervals.
+pub(crate) fn copy_intervals<V: VersionPoint>(
     alloc: Global,
-    intervals: &[Interval<Version>],
-) -> Result<Intervals<Version>, AllocError>
-    ensures { IfOk result (λ copy. copy.items ≡ intervals.now) }
+    intervals: &[Interval<V>],
+) -> Result<Intervals<V>, AllocError>
+    ensures whole { IfOk result (λ copies. copies.items ≡ intervals.now) }
+    ensures room { IfOk result (λ copies. 1 ≤ copies.capacity) }
+    ensures memory { OnErr result (AreTaking V.takes intervals.now) }
 {
-    let mut copy = SmallVec::with_capacity(alloc, intervals.len())?;
+    let mut copies = SmallVec::with_capacity(alloc, intervals.len())?;
     for interval in intervals {
-        copy.push(interval.copy(alloc)?)?;
+        copies.push_reserved(interval.copy(alloc)?);
     }
-    Ok(copy)
+    Ok(copies)
 }

@@ -3,17 +3,17 @@ use Rattle.std.proofs.Common.{rules, ◌≡◌, ◌≢◌, ◌<◌, ◌∙◌, r
 use Rattle.std.proofs.lemmas.Bool.{false≢true}
 use Rattle.std.proofs.lemmas.List.Splits.{join_with_byte-slice_split}
 use Rattle.std.proofs.lemmas.Slice.Eq.{bytes_eq-Decides}
-use Rattle.std.specs.Borrow.{Bor}
 use Rattle.std.specs.List.{join_with_byte}
 use Rattle.std.specs.Str.{bytes_eq}
-use Rattle.semver_answers.specs.Commands.{Asks}
+use Rattle.semver_answers.specs.Commands.{Asks, Question, Version, Versions, Range, Ranges, Match, Best}
 use Rattle.semver_answers.specs.Internal.CommandWords.{IsUnknown, command_word}
-use Rattle.semver_answers.specs.Internal.KindWords.{best_word, range_word, ranges_word, versions_word}
+use Rattle.semver_answers.specs.Internal.KindWords.{IsTwo, best_word, match_word, range_word, ranges_word, versions_word}
 use Rattle.semver_answers.specs.Lines.{fields}
 use Rattle.semver_answers.specs.declared.command.Command.{Command}
 use Rattle.semver_answers.specs.declared.command.Command.TheVariants as command
 use Rattle.semver_answers.specs.declared.question.AboutBest.{AboutBest}
 use Rattle.semver_answers.specs.declared.question.AboutBest.TheVariants.{Max, Min}
+use Rattle.semver_answers.specs.declared.question.AboutMatch.{AboutMatch}
 use Rattle.semver_answers.specs.declared.question.AboutMatch.TheVariants.{Sat, Pre, Out}
 use Rattle.semver_answers.specs.declared.question.AboutRange.{AboutRange}
 use Rattle.semver_answers.specs.declared.question.AboutRange.TheVariants.{Print, Least}
@@ -22,8 +22,6 @@ use Rattle.semver_answers.specs.declared.question.AboutRanges.TheVariants.{And, 
 use Rattle.semver_answers.specs.declared.question.AboutVersion.TheVariants.{Ver}
 use Rattle.semver_answers.specs.declared.question.AboutVersions.{AboutVersions}
 use Rattle.semver_answers.specs.declared.question.AboutVersions.TheVariants.{Cmp, Diff}
-use Rattle.semver_answers.specs.declared.question.Question.{Question}
-use Rattle.semver_answers.specs.declared.question.Question.TheVariants.{Version, Versions, Range, Ranges, Match, Best}
 use Rattle.semver_answers.proofs.Firsts.{some_field}
 
 -- a text that begins with no command asks nothing, since a question has a text behind its command
@@ -61,28 +59,28 @@ no_version word text ver range least (Range r Least) asks = other word _ _ _ lea
 no_version word text ver range least (Versions texts Cmp) asks = omega (arith, ap length asks.0)
 no_version word text ver range least (Ranges texts And) asks = omega (arith, ap length asks.0)
 no_version word text ver range least (Match texts Sat) asks = omega (arith, ap length asks.0)
-no_version word text ver range least (Best (r, vs) Max) asks = omega (arith, ap length asks.0, some_field vs.now)
-no_version word text ver range least (Best (r, vs) Min) asks = omega (arith, ap length asks.0, some_field vs.now)
+no_version word text ver range least (Best (r, vs) Max) asks = omega (arith, ap length asks.0, some_field vs)
+no_version word text ver range least (Best (r, vs) Min) asks = omega (arith, ap length asks.0, some_field vs)
 no_version word text ver range least question asks = omega (arith, ap length asks.0)
 
 -- the question about the fields behind a command, where there are as many as it wants, and that there is none else
-pub versions_asked : (asked : AboutVersions) (v w : Bor (List ℕ)) (texts : List (List ℕ)) → texts ≡ v.now ∷ w.now ∷ []
+pub versions_asked : (asked : AboutVersions) (v w : List ℕ) (texts : List (List ℕ)) → texts ≡ v ∷ w ∷ []
     → Asks (versions_word asked ∷ texts) (Versions (v, w) asked)
 versions_asked Cmp v w texts e = (ap (λ l. codes "cmp" ∷ l) e, tt)
 versions_asked Diff v w texts e = (ap (λ l. codes "diff" ∷ l) e, tt)
 
-pub range_asked : (asked : AboutRange) (r : Bor (List ℕ)) (texts : List (List ℕ)) → texts ≡ r.now ∷ []
+pub range_asked : (asked : AboutRange) (r : List ℕ) (texts : List (List ℕ)) → texts ≡ r ∷ []
     → Asks (range_word asked ∷ texts) (Range r asked)
 range_asked Print r texts e = (ap (λ l. codes "range" ∷ l) e, tt)
 range_asked Least r texts e = (ap (λ l. codes "least" ∷ l) e, tt)
 
-pub ranges_asked : (asked : AboutRanges) (r s : Bor (List ℕ)) (texts : List (List ℕ)) → texts ≡ r.now ∷ s.now ∷ []
+pub ranges_asked : (asked : AboutRanges) (r s : List ℕ) (texts : List (List ℕ)) → texts ≡ r ∷ s ∷ []
     → Asks (ranges_word asked ∷ texts) (Ranges (r, s) asked)
 ranges_asked And r s texts e = (ap (λ l. codes "and" ∷ l) e, tt)
 ranges_asked Minus r s texts e = (ap (λ l. codes "minus" ∷ l) e, tt)
 ranges_asked Beyond r s texts e = (ap (λ l. codes "beyond" ∷ l) e, tt)
 
-pub best_asked : (asked : AboutBest) (r vs : Bor (List ℕ)) (texts : List (List ℕ)) → texts ≡ r.now ∷ fields vs.now
+pub best_asked : (asked : AboutBest) (r vs : List ℕ) (texts : List (List ℕ)) → texts ≡ r ∷ fields vs
     → Asks (best_word asked ∷ texts) (Best (r, vs) asked)
 best_asked Max r vs texts e = (ap (λ l. codes "max" ∷ l) e, tt)
 best_asked Min r vs texts e = (ap (λ l. codes "min" ∷ l) e, tt)
@@ -106,6 +104,30 @@ ranges_none Beyond texts none = search rules
 pub best_none : (asked : AboutBest) (text : List ℕ) → (question : Question) → Asks (best_word asked ∷ text ∷ []) question → ⊥
 best_none Max text = no_version (codes "max") text refl refl refl
 best_none Min text = no_version (codes "min") text refl refl refl
+
+pub match_asked : (asked : AboutMatch) → IsTwo asked → (r v : List ℕ) (texts : List (List ℕ)) → texts ≡ r ∷ v ∷ []
+    → Asks (match_word asked ∷ texts) (Match (r, v) asked)
+match_asked Sat two r v texts e = (ap (λ l. codes "sat" ∷ l) e, tt)
+match_asked Pre two r v texts e = (ap (λ l. codes "pre" ∷ l) e, tt)
+match_asked (Out side) two r v texts e = absurd two
+
+pub match_none : (asked : AboutMatch) → IsTwo asked → (texts : List (List ℕ)) → length texts ≢ 2 → (question : Question)
+    → Asks (match_word asked ∷ texts) question → ⊥
+match_none Sat two texts none = search rules
+match_none Pre two texts none = search rules
+match_none (Out side) two texts none = absurd two
+
+pub ver_asked : (v : List ℕ) (texts : List (List ℕ)) → texts ≡ v ∷ [] → Asks (codes "ver" ∷ texts) (Version v Ver)
+ver_asked v texts e = (ap (λ l. codes "ver" ∷ l) e, tt)
+
+pub ver_none : (texts : List (List ℕ)) → 1 < length texts → (question : Question) → Asks (codes "ver" ∷ texts) question → ⊥
+ver_none texts more = search rules
+
+pub inc_none : (texts : List (List ℕ)) → length texts ≡ 1 → (question : Question) → Asks (codes "inc" ∷ texts) question → ⊥
+inc_none texts one = search rules
+
+pub out_none : (texts : List (List ℕ)) → length texts < 3 → (question : Question) → Asks (codes "out" ∷ texts) question → ⊥
+out_none texts few = search rules
 
 -- the fields of a text that begins with a command
 pub known : (c : Command) (rest : List ℕ) → fields (command_word c ++ 59 ∷ rest) ≡ command_word c ∷ fields rest

@@ -3,14 +3,23 @@ use Rattle.std.proofs.Common.{◌≡◌, ◌==◌, ◌<◌, ◌+◌, ◌∙◌, 
 use Rattle.std.proofs.Common.{None, IfSome, IfNone, length, take, drop, get_or, refl, ap, arith}
 use Rattle.memchr.specs.Find.{IsFirstByte, is_byte}
 use Rattle.std.proofs.Math.Seq.{get_or-append_seam, split_at}
-use Rattle.std.proofs.lemmas.Bool.{eqb-true, false_from_ne_true}
-use Rattle.std.proofs.lemmas.List.{get_or-take, length-append, length-take-le}
+use Rattle.std.proofs.Common.{◌≤◌, inl, inr}
+use Rattle.std.proofs.Math.Seq.{drop-cons}
+use Rattle.std.proofs.lemmas.Bool.{cases_Bool, eqb-true, false_from_ne_true}
+use Rattle.std.proofs.lemmas.List.{get_or-take, length-append, length-take-le, take_all}
 use Rattle.std.proofs.lemmas.List.Elements.{All-from_get_or}
 use Rattle.std.proofs.lemmas.List.Splits.{length-slice_split, slice_split_at, slice_split_none}
-use Rattle.std.proofs.lemmas.List.Sums.{list_all-from_AllPass}
+use Rattle.std.proofs.lemmas.List.Sums.{AllPass-from_list_all, list_all-from_AllPass}
 use Rattle.std.proofs.lemmas.Str.{IsCharBoundary-after_ascii}
 use Rattle.std.specs.List.{All}
 use Rattle.std.specs.Prelude.{IsCharBoundary, IsUtf8}
+use Rattle.semver_core.proofs.Text.Fronts.{common_plain}
+use Rattle.semver_core.specs.Internal.CommonReading.{is_plain}
+use Rattle.semver_core.specs.Text.Common.{IsCommon}
+use Rattle.semver_core.specs.Text.Parsing.{Parses}
+use Rattle.semver_core.specs.Values.Versions.{VersionValue}
+use Rattle.semver_core.specs.declared.TheConstants.{MAX_LENGTH, MAX_SAFE_INTEGER}
+use Rattle.semver_answers.specs.Internal.Results.{ends_field}
 use Rattle.semver_answers.specs.Lines.{fields, no_feed}
 
 -- a byte that is not found stands nowhere
@@ -65,3 +74,42 @@ found_feed text None h = (tt, tt, tt, tt, no_feed_by text (nowhere 10 text h))
 found_feed text (Some at) h =
     let found = found_at 10 text at h in
     (h.0.high, found.0, no_feed_by (take at text) found.1, eqb-true (get_or text at 0) 10 h.1, tt)
+
+-- a field that ends at a place, without `;` before it: at the end of the text, or at a `;`
+pub last_field : (text : List ℕ) (end : ℕ) → length text ≤ end → All (λ b. (b == 59) ≡ false) (take end text) → fields text ≡ take end text ∷ []
+last_field text end le plain =
+    let all : take end text ≡ text = take_all end text le in
+    rw all (slice_split_none (λ b. b == 59) text (rw all at plain))
+
+pub mark_at : (text : List ℕ) (end : ℕ) → end < length text → ends_field (drop end text) ≡ true → get_or text end 0 ≡ 59
+mark_at text end inside ends = eqb-true (get_or text end 0) 59 (rw (drop-cons text end 0 inside) at ends)
+
+pub field_then : (text : List ℕ) (end : ℕ) → end < length text → ends_field (drop end text) ≡ true
+    → All (λ b. (b == 59) ≡ false) (take end text) → fields text ≡ take end text ∷ fields (drop (end + 1) text)
+field_then text end inside ends plain =
+    let next : suc end ≡ end + 1 = omega arith in
+    let split = split_at text end 0 inside in
+    ap fields (rw (mark_at text end inside ends, next) at split)
+    ∙ slice_split_at (λ b. b == 59) (take end text) 59 (drop (end + 1) text) plain refl
+
+pub behind_field : (text : List ℕ) (end : ℕ) → IsUtf8 text → end < length text → ends_field (drop end text) ≡ true → IsCharBoundary text (end + 1)
+behind_field text end utf8 inside ends =
+    IsCharBoundary-after_ascii text end utf8 inside (omega (arith, mark_at text end inside ends))
+
+-- a common version text has no `;`
+no_mark : (c : ℕ) → is_plain c ≡ true → (c == 59) ≡ false
+no_mark c h = elim (cases_Bool (c == 59)) [
+  | inr other ↦ other
+  | inl mark ↦ cc (rw (eqb-true c 59 mark) at h)
+]
+
+pub no_marks : (limit : ℕ) (text : List ℕ) (v : VersionValue) → IsCommon limit text v → All (λ b. (b == 59) ≡ false) text
+no_marks limit text v h =
+    let each = AllPass-from_list_all is_plain text (common_plain limit text v h) in
+    All-from_get_or (λ b. (b == 59) ≡ false) text 0 (λ i inside. no_mark (get_or text i 0) (each i 0 inside))
+
+-- the version of a field that was read up to its end
+pub parsed_front : (text : List ℕ) (v : VersionValue) (end : ℕ) → end ≤ MAX_LENGTH → end ≤ length text
+    → IsCommon MAX_SAFE_INTEGER (take end text) v → Parses MAX_SAFE_INTEGER (take end text) v
+parsed_front text v end short inside h =
+    record { short = omega (arith, length-take-le end text inside); reads = h.0 }

@@ -1,4 +1,5 @@
 pub mod Steps
 pub mod Firsts
+pub mod Behind
 pub mod Replies
 pub mod Asked

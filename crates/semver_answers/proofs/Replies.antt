@@ -11,10 +11,13 @@ use Rattle.semver_core.specs.Values.Versions.{VersionValue}
 use Rattle.semver_core.specs.declared.TheConstants.{MAX_SAFE_INTEGER}
 use Rattle.semver_core.specs.declared.error.Failure.{Failure}
 use Rattle.semver_core.specs.declared.error.Failure.TheVariants.{Refused, Memory}
-use Rattle.semver_answers.specs.Commands.{BestReply}
+use Rattle.std.specs.Prelude.{IsUtf8}
+use Rattle.semver_answers.specs.Answers.{IsAnswer, no_question, replied}
+use Rattle.semver_answers.specs.Lines.{fields}
+use Rattle.semver_answers.specs.Commands.{Asks, BestReply, IsReply, Question}
 use Rattle.semver_answers.specs.Names.{fault_word, or_none}
 use Rattle.semver_answers.specs.Replies.{AreVersionsOf, IsVersionOf, On, SaysFound, fault, read}
-use Rattle.semver_answers.specs.Internal.Results.{FindsBest, IsBestOf, IsFault, IsTold}
+use Rattle.semver_answers.specs.Internal.Results.{AnswersFields, FindsBest, IsBestOf, IsFault, IsTold, answered, unasked}
 use Rattle.semver_answers.specs.declared.fault.Fault.{Fault}
 use Rattle.semver_answers.specs.declared.question.AboutBest.{AboutBest}
 use Rattle.semver_answers.specs.declared.question.AboutBest.TheVariants.{Max, Min}
@@ -32,6 +35,17 @@ pub told_weaker : (P Q : List ℕ → Type 0) (result : Result (Bor (List ℕ)) 
 told_weaker P Q (Ok text) f h = f text.now h
 told_weaker P Q (Err (Refused why)) f h = f (fault_word why) h
 told_weaker P Q (Err (Memory error)) f h = tt
+
+-- a reply to the question of a line
+pub told_asked : (line : List (List ℕ)) (question : Question) (r : Result (Bor (List ℕ)) (Failure Fault)) → Asks line question
+    → IsTold r (IsReply question) → IsTold r (AnswersFields line)
+told_asked line question r asks is = told_weaker (IsReply question) (AnswersFields line) r (λ text. answered question asks) is
+
+-- the answer to a line, by its fields
+pub answers_line : (text : List ℕ) (line : List (List ℕ)) (answer : List ℕ) → IsUtf8 text → fields text ≡ line
+    → AnswersFields line answer → IsAnswer text answer
+answers_line text line answer utf8 e (answered question asks is) = replied question (utf8, rw e asks) is
+answers_line text line answer utf8 e (unasked none is) = no_question (λ question asks. none question (rw e at asks.1)) is
 
 -- the first of two texts is read, and the second is none
 pub told_second : {A B : Type 0} (First : Result A Fault → Type 0) (Second : Result B Fault → Type 0)

@@ -1,11 +1,10 @@
 -- Statement. The answer to each line of an input.
 use Rattle.std.specs.Prelude.{◌≡◌, ℕ, List, IsUtf8}
 use Rattle.std.specs.List.{AllZip, flat_map}
-use Rattle.semver_answers.specs.Commands.{Asks, IsReply}
+use Rattle.semver_answers.specs.Commands.{Asks, IsReply, Question}
 use Rattle.semver_answers.specs.Lines.{ended, fields}
 use Rattle.semver_answers.specs.Names.{fault_word}
 use Rattle.semver_answers.specs.declared.fault.Fault.TheVariants.{BadLine}
-use Rattle.semver_answers.specs.declared.question.Question.{Question}
 
 -- the answer to a line: the reply to its question, which its fields ask where its bytes are a text, or `bad line` where it
 -- asks none

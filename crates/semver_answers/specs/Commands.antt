@@ -28,27 +28,35 @@ use Rattle.semver_answers.specs.declared.question.AboutVersion.{AboutVersion}
 use Rattle.semver_answers.specs.declared.question.AboutVersion.TheVariants.{Ver, Inc, IncWith, IncFrom}
 use Rattle.semver_answers.specs.declared.question.AboutVersions.{AboutVersions}
 use Rattle.semver_answers.specs.declared.question.AboutVersions.TheVariants.{Cmp, Diff}
-use Rattle.semver_answers.specs.declared.question.Question.{Question}
-use Rattle.semver_answers.specs.declared.question.Question.TheVariants.{Version, Versions, Range, Ranges, Match, Best}
+
+-- a question about the texts of fields: about a version, two versions, a range, two ranges, a range and a version, or a
+-- range and some versions, which are the fields of the second text
+pub data Question : Type 0 where
+  Version : List ℕ → AboutVersion → Question
+  Versions : List ℕ × List ℕ → AboutVersions → Question
+  Range : List ℕ → AboutRange → Question
+  Ranges : List ℕ × List ℕ → AboutRanges → Question
+  Match : List ℕ × List ℕ → AboutMatch → Question
+  Best : List ℕ × List ℕ → AboutBest → Question
 
 -- the fields of the line that asks a question
 abbrev pub line_of : Question → List (List ℕ)
-line_of (Version v Ver) = codes "ver" ∷ v.now ∷ []
-line_of (Version v (Inc word)) = codes "inc" ∷ v.now ∷ word.now ∷ []
-line_of (Version v (IncWith word id)) = codes "inc" ∷ v.now ∷ word.now ∷ id.now ∷ []
-line_of (Version v (IncFrom word id base)) = codes "inc" ∷ v.now ∷ word.now ∷ id.now ∷ base_word base ∷ []
-line_of (Versions (v, w) Cmp) = codes "cmp" ∷ v.now ∷ w.now ∷ []
-line_of (Versions (v, w) Diff) = codes "diff" ∷ v.now ∷ w.now ∷ []
-line_of (Range r Print) = codes "range" ∷ r.now ∷ []
-line_of (Range r Least) = codes "least" ∷ r.now ∷ []
-line_of (Ranges (r, s) And) = codes "and" ∷ r.now ∷ s.now ∷ []
-line_of (Ranges (r, s) Minus) = codes "minus" ∷ r.now ∷ s.now ∷ []
-line_of (Ranges (r, s) Beyond) = codes "beyond" ∷ r.now ∷ s.now ∷ []
-line_of (Match (r, v) Sat) = codes "sat" ∷ r.now ∷ v.now ∷ []
-line_of (Match (r, v) Pre) = codes "pre" ∷ r.now ∷ v.now ∷ []
-line_of (Match (r, v) (Out side)) = codes "out" ∷ r.now ∷ v.now ∷ (direction_char side ∷ []) ∷ []
-line_of (Best (r, vs) Max) = codes "max" ∷ r.now ∷ fields vs.now
-line_of (Best (r, vs) Min) = codes "min" ∷ r.now ∷ fields vs.now
+line_of (Version v Ver) = codes "ver" ∷ v ∷ []
+line_of (Version v (Inc word)) = codes "inc" ∷ v ∷ word.now ∷ []
+line_of (Version v (IncWith word id)) = codes "inc" ∷ v ∷ word.now ∷ id.now ∷ []
+line_of (Version v (IncFrom word id base)) = codes "inc" ∷ v ∷ word.now ∷ id.now ∷ base_word base ∷ []
+line_of (Versions (v, w) Cmp) = codes "cmp" ∷ v ∷ w ∷ []
+line_of (Versions (v, w) Diff) = codes "diff" ∷ v ∷ w ∷ []
+line_of (Range r Print) = codes "range" ∷ r ∷ []
+line_of (Range r Least) = codes "least" ∷ r ∷ []
+line_of (Ranges (r, s) And) = codes "and" ∷ r ∷ s ∷ []
+line_of (Ranges (r, s) Minus) = codes "minus" ∷ r ∷ s ∷ []
+line_of (Ranges (r, s) Beyond) = codes "beyond" ∷ r ∷ s ∷ []
+line_of (Match (r, v) Sat) = codes "sat" ∷ r ∷ v ∷ []
+line_of (Match (r, v) Pre) = codes "pre" ∷ r ∷ v ∷ []
+line_of (Match (r, v) (Out side)) = codes "out" ∷ r ∷ v ∷ (direction_char side ∷ []) ∷ []
+line_of (Best (r, vs) Max) = codes "max" ∷ r ∷ fields vs
+line_of (Best (r, vs) Min) = codes "min" ∷ r ∷ fields vs
 
 -- a base is `false`, 0 or 1
 abbrev pub HasBase : Question → Type 0
@@ -91,9 +99,9 @@ BestReply Min r vs = SaysFound (IsMin (λ v. accepts r v false) vs)
 
 -- the answer to each question
 abbrev pub IsReply : Question → List ℕ → Type 0
-IsReply (Version v asked) = On (IsVersionOf v.now) (λ v. Says (version_reply asked v))
-IsReply (Versions (v, w) asked) = On (IsVersionOf v.now) (λ v. On (IsVersionOf w.now) (λ w. Says (versions_reply asked v w)))
-IsReply (Range r asked) = On (IsRangeOf r.now) (RangeReply asked)
-IsReply (Ranges (r, s) asked) = On (IsRangeOf r.now) (λ r. On (IsRangeOf s.now) (RangesReply asked r))
-IsReply (Match (r, v) asked) = On (IsRangeOf r.now) (λ r. On (IsVersionOf v.now) (λ v. Says (truth_word (match_reply asked r v))))
-IsReply (Best (r, vs) asked) = On (IsRangeOf r.now) (λ r. On (AreVersionsOf (fields vs.now)) (BestReply asked r))
+IsReply (Version v asked) = On (IsVersionOf v) (λ v. Says (version_reply asked v))
+IsReply (Versions (v, w) asked) = On (IsVersionOf v) (λ v. On (IsVersionOf w) (λ w. Says (versions_reply asked v w)))
+IsReply (Range r asked) = On (IsRangeOf r) (RangeReply asked)
+IsReply (Ranges (r, s) asked) = On (IsRangeOf r) (λ r. On (IsRangeOf s) (RangesReply asked r))
+IsReply (Match (r, v) asked) = On (IsRangeOf r) (λ r. On (IsVersionOf v) (λ v. Says (truth_word (match_reply asked r v))))
+IsReply (Best (r, vs) asked) = On (IsRangeOf r) (λ r. On (AreVersionsOf (fields vs)) (BestReply asked r))

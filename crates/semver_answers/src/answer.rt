@@ -2,34 +2,21 @@
 
 ghost use Rattle.std.specs.Prelude.{◌≡◌, ◌++◌, IfOk, OnOk, OnErr, string_bytes};
 ghost use Rattle.semver_answers.specs.Answers.{IsAnswer};
-ghost use Rattle.semver_answers.specs.Internal.Results.{IsTold};
 ghost use Rattle.semver_answers.specs.Internal.Steps.{GrowsByAnswer};
 ghost use Rattle.semver_answers.specs.Lines.{ended};
 
 use crate::fault::Fault;
-use crate::question::Question;
 use crate::reply::reply;
 use nodejs_semver::Failure;
 use std::alloc::{AllocError, Global};
 use std::str;
-
-// The reply to the question of a text.
-#[inline(always)]
-fn reply_to<'a>(alloc: Global, text: &str, room: &'a mut String) -> Result<&'a str, Failure<Fault>>
-    ensures { IsTold result (IsAnswer text.now) }
-{
-    match Question::of(text) {
-        Some(question) => reply(alloc, question, room),
-        None => Err(Failure::Refused(Fault::BadLine)),
-    }
-}
 
 // The answer to a line that is a text.
 #[inline(always)]
 fn answer_to<'a>(alloc: Global, text: &str, room: &'a mut String) -> Result<&'a str, AllocError>
     ensures { IfOk result (λ answer. IsAnswer text.now answer.now) }
 {
-    match reply_to(alloc, text, room) {
+    match reply(alloc, text, room) {
         Ok(reply) => Ok(reply),
         Err(Failure::Refused(fault)) => Ok(fault.word()),
         Err(Failure::Memory(error)) => Err(error),

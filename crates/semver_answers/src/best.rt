@@ -6,11 +6,12 @@ ghost use Rattle.semver_core.specs.Values.Versions.{VersionValue};
 ghost use Rattle.semver_answers.specs.Lines.{fields};
 ghost use Rattle.semver_answers.specs.Replies.{AreVersionsOf, IsVersionOf};
 ghost use Rattle.semver_answers.specs.Internal.Results.{FindsBest, IsBestOf, IsFault};
+ghost use Rattle.semver_answers.specs.Internal.Results.{ParsesVersion};
 
 use crate::fault::Fault;
-use crate::fields::first;
+use crate::fields::version_field;
 use crate::question::AboutBest;
-use nodejs_semver::{Failure, RangeRef, VersionRef};
+use nodejs_semver::{Failure, RangeRef, SemverError, VersionRef};
 
 /// The best of the versions of the fields of a text, of those that the range accepts.
 pub(crate) fn best_of<'t>(
@@ -23,28 +24,32 @@ pub(crate) fn best_of<'t>(
 {
     let mut best = None;
     let mut rest = texts;
-    'fields: while let Some((text, behind)) = first(rest) {
-        keep_better(asked, range, text, &mut best)?;
+    'fields: loop {
+        let (version, behind) = version_field(rest);
+        keep_better(asked, range, version, &mut best)?;
+        let Some(behind) = behind else {
+            return Ok(best);
+        };
         rest = behind;
     }
-    keep_better(asked, range, rest, &mut best)?;
-    Ok(best)
 }
 
-// Puts the version of a text in the place of the best so far, where it is better.
+// Puts the version that was parsed in the place of the best so far, where it is better.
 #[inline(always)]
 fn keep_better<'t>(
     asked: AboutBest,
     range: &RangeRef<'_>,
-    text: &'t str,
+    parsed: Result<VersionRef<'t>, SemverError>,
     best: &mut Option<VersionRef<'t>>,
 ) -> Result<(), Failure<Fault>>
-    ensures best { OnOk result ((texts : List (List ℕ))
+    ensures best { OnOk result ((texts : List (List ℕ)) (text : List ℕ)
+        → ParsesVersion text parsed.entry
         → FindsBest asked range.now texts best.old
-        → FindsBest asked range.now (texts ++ text.now ∷ []) best.new) }
-    ensures fault { IfErr result (λ error. IsFault error (IsVersionOf text.now)) }
+        → FindsBest asked range.now (texts ++ text ∷ []) best.new) }
+    ensures fault { IfErr result (λ error. (text : List ℕ)
+        → ParsesVersion text parsed.entry → IsFault error (IsVersionOf text)) }
 {
-    let Ok(version) = VersionRef::parse(text) else {
+    let Ok(version) = parsed else {
         return Err(Failure::Refused(Fault::BadVersion));
     };
     if asked.is_new_best(range, &version, best.as_ref()) {

@@ -1,25 +1,7 @@
-// The questions that lines ask.
+// What lines ask about the versions and ranges of their fields.
 
-use crate::command::Command;
-use crate::fields::{first, one, three, two};
+use crate::fields::{first, one};
 use nodejs_semver::{IdentifierBase, OutsideDirection};
-
-/// The question of a line, by what it is about. Its texts are fields of the line, not yet read.
-#[derive(Clone, Copy)]
-pub(crate) enum Question<'a> {
-    /// A question about a version.
-    Version(&'a str, AboutVersion<'a>),
-    /// A question about two versions.
-    Versions((&'a str, &'a str), AboutVersions),
-    /// A question about a range.
-    Range(&'a str, AboutRange),
-    /// A question about two ranges.
-    Ranges((&'a str, &'a str), AboutRanges),
-    /// A question about a range and a version.
-    Match((&'a str, &'a str), AboutMatch),
-    /// A question about a range and some versions, which are the fields of the second text.
-    Best((&'a str, &'a str), AboutBest),
-}
 
 /// What a line asks about a version V.
 #[derive(Clone, Copy)]
@@ -84,108 +66,24 @@ pub(crate) enum AboutBest {
     Min,
 }
 
-impl<'a> Question<'a> {
-    ghost use Rattle.std.specs.Prelude.{◌∷◌, codes, IfSome, IfNone};
-    ghost use Rattle.semver_answers.specs.Commands.{Asks};
-    ghost use Rattle.semver_answers.specs.Internal.KindWords.{best_word, range_word};
-    ghost use Rattle.semver_answers.specs.Internal.KindWords.{ranges_word, versions_word};
+impl<'a> AboutVersion<'a> {
+    ghost use Rattle.std.specs.Prelude.{◌∷◌, ℕ, List, codes, IfSome, IfNone};
+    ghost use Rattle.semver_answers.specs.Commands.{Asks, Question, Version};
     ghost use Rattle.semver_answers.specs.Lines.{fields};
-    ghost use Rattle.semver_answers.specs.declared.question.Question.{Question};
 
-    /// The question that the fields of a text ask, or `None` where they ask none.
+    /// What a line `inc` with these fields behind its version asks.
     #[inline(always)]
-    pub(crate) fn of(text: &'a str) -> Option<Question<'a>>
-        ensures some { IfSome result (λ question. Asks (fields text.now) question) }
-        ensures none { IfNone result ((question : Question) → Asks (fields text.now) question → ⊥) }
+    pub(crate) fn increment(rest: &'a str) -> Option<AboutVersion<'a>>
+        ensures some { IfSome result (λ asked. (v : List ℕ)
+            → Asks (codes "inc" ∷ v ∷ fields rest.now) (Version v asked)) }
+        ensures none { IfNone result ((v : List ℕ) (question : Question)
+            → Asks (codes "inc" ∷ v ∷ fields rest.now) question → ⊥) }
     {
-        let (command, rest) = Command::of(text)?;
-        match command {
-            Command::Cmp => Question::about_versions(rest, AboutVersions::Cmp),
-            Command::Ver => Some(Question::Version(one(rest)?, AboutVersion::Ver)),
-            Command::Diff => Question::about_versions(rest, AboutVersions::Diff),
-            Command::Inc => Question::increment(rest),
-            Command::Range => Question::about_range(rest, AboutRange::Print),
-            Command::And => Question::about_ranges(rest, AboutRanges::And),
-            Command::Minus => Question::about_ranges(rest, AboutRanges::Minus),
-            Command::Least => Question::about_range(rest, AboutRange::Least),
-            Command::Beyond => Question::about_ranges(rest, AboutRanges::Beyond),
-            Command::Sat => Some(Question::Match(two(rest)?, AboutMatch::Sat)),
-            Command::Pre => Some(Question::Match(two(rest)?, AboutMatch::Pre)),
-            Command::Out => Question::outside(rest),
-            Command::Max => Question::about_best(rest, AboutBest::Max),
-            Command::Min => Question::about_best(rest, AboutBest::Min),
-        }
-    }
-
-    // The question about two versions, which are the fields of a text.
-    #[inline(always)]
-    fn about_versions(rest: &'a str, asked: AboutVersions) -> Option<Question<'a>>
-        ensures some { IfSome result (λ question.
-            Asks (versions_word asked ∷ fields rest.now) question) }
-        ensures none { IfNone result ((question : Question)
-            → Asks (versions_word asked ∷ fields rest.now) question → ⊥) }
-    {
-        match two(rest) {
-            Some(both) => Some(Question::Versions(both, asked)),
-            None => None,
-        }
-    }
-
-    // The question about a range, which is the field of a text.
-    #[inline(always)]
-    fn about_range(rest: &'a str, asked: AboutRange) -> Option<Question<'a>>
-        ensures some { IfSome result (λ question.
-            Asks (range_word asked ∷ fields rest.now) question) }
-        ensures none { IfNone result ((question : Question)
-            → Asks (range_word asked ∷ fields rest.now) question → ⊥) }
-    {
-        match one(rest) {
-            Some(range) => Some(Question::Range(range, asked)),
-            None => None,
-        }
-    }
-
-    // The question about two ranges, which are the fields of a text.
-    #[inline(always)]
-    fn about_ranges(rest: &'a str, asked: AboutRanges) -> Option<Question<'a>>
-        ensures some { IfSome result (λ question.
-            Asks (ranges_word asked ∷ fields rest.now) question) }
-        ensures none { IfNone result ((question : Question)
-            → Asks (ranges_word asked ∷ fields rest.now) question → ⊥) }
-    {
-        match two(rest) {
-            Some(both) => Some(Question::Ranges(both, asked)),
-            None => None,
-        }
-    }
-
-    // The question about a range and some versions, which are the fields of a text.
-    #[inline(always)]
-    fn about_best(rest: &'a str, asked: AboutBest) -> Option<Question<'a>>
-        ensures some { IfSome result (λ question.
-            Asks (best_word asked ∷ fields rest.now) question) }
-        ensures none { IfNone result ((question : Question)
-            → Asks (best_word asked ∷ fields rest.now) question → ⊥) }
-    {
-        match first(rest) {
-            Some(cut) => Some(Question::Best(cut, asked)),
-            None => None,
-        }
-    }
-
-    // The question of a line `inc` with these fields behind the command.
-    #[inline(always)]
-    fn increment(rest: &'a str) -> Option<Question<'a>>
-        ensures some { IfSome result (λ question. Asks (codes "inc" ∷ fields rest.now) question) }
-        ensures none { IfNone result ((question : Question)
-            → Asks (codes "inc" ∷ fields rest.now) question → ⊥) }
-    {
-        let (version, rest) = first(rest)?;
         let Some((word, rest)) = first(rest) else {
-            return Some(Question::Version(version, AboutVersion::Inc(rest)));
+            return Some(AboutVersion::Inc(rest));
         };
         let Some((identifier, rest)) = first(rest) else {
-            return Some(Question::Version(version, AboutVersion::IncWith(word, rest)));
+            return Some(AboutVersion::IncWith(word, rest));
         };
         let base = match one(rest)? {
             "false" => IdentifierBase::False,
@@ -193,26 +91,26 @@ impl<'a> Question<'a> {
             "1" => IdentifierBase::Value(1),
             _ => return None,
         };
-        Some(Question::Version(version, AboutVersion::IncFrom(word, identifier, base)))
+        Some(AboutVersion::IncFrom(word, identifier, base))
     }
+}
 
-    // The question of a line `out` with these fields behind the command.
+impl AboutMatch {
+    ghost use Rattle.std.specs.Prelude.{◌∷◌, ℕ, List, codes, IfSome, IfNone};
+    ghost use Rattle.semver_answers.specs.Commands.{Asks, Match, Question};
+    ghost use Rattle.semver_answers.specs.Lines.{fields};
+
+    /// What a line `out` with these fields behind its version asks.
     #[inline(always)]
-    fn outside(rest: &'a str) -> Option<Question<'a>>
-        ensures some { IfSome result (λ question. Asks (codes "out" ∷ fields rest.now) question) }
-        ensures none { IfNone result ((question : Question)
-            → Asks (codes "out" ∷ fields rest.now) question → ⊥) }
+    pub(crate) fn outside(rest: &str) -> Option<AboutMatch>
+        ensures some { IfSome result (λ asked. (r v : List ℕ)
+            → Asks (codes "out" ∷ r ∷ v ∷ fields rest.now) (Match (r, v) asked)) }
+        ensures none { IfNone result ((r v : List ℕ) (question : Question)
+            → Asks (codes "out" ∷ r ∷ v ∷ fields rest.now) question → ⊥) }
     {
-        let (range, version, side) = three(rest)?;
-        match side {
-            ">" => Some(Question::Match(
-                (range, version),
-                AboutMatch::Out(OutsideDirection::Higher),
-            )),
-            "<" => Some(Question::Match(
-                (range, version),
-                AboutMatch::Out(OutsideDirection::Lower),
-            )),
+        match one(rest)? {
+            ">" => Some(AboutMatch::Out(OutsideDirection::Higher)),
+            "<" => Some(AboutMatch::Out(OutsideDirection::Lower)),
             _ => None,
         }
     }

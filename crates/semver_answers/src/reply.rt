@@ -1,77 +1,133 @@
-// The replies to questions. What is printed is printed to `room`. The function of each kind of
-// question reads its texts in place and is not inlined, so that a line pays for the locals of its
-// own kind alone; what is said of the values that were read stands in the method `reply`.
+// The replies to lines. What is printed is printed to `room`. The function of each kind of question
+// reads the fields of a line from the left, in place, and is not inlined, so that a line pays for
+// the locals of its own kind alone; what is said of the values that were read stands in the method
+// `reply`.
 
 ghost use Rattle.std.specs.Option.{option_copied};
-ghost use Rattle.std.specs.Prelude.{◌≡◌, ℕ, List, IfOk};
+ghost use Rattle.std.specs.Prelude.{◌≡◌, ◌∷◌, ℕ, List, IfOk, IfSome, IsUtf8, Option, codes};
 ghost use Rattle.semver_core.specs.Increments.Table.{answer_of_inc};
-ghost use Rattle.semver_answers.specs.Commands.{BestReply, IsReply, RangeReply, RangesReply};
+ghost use Rattle.semver_answers.specs.Answers.{IsAnswer};
+ghost use Rattle.semver_answers.specs.Commands.{BestReply, IsReply, Match, RangeReply, RangesReply};
 ghost use Rattle.semver_answers.specs.Commands.{match_reply, version_reply, versions_reply};
-ghost use Rattle.semver_answers.specs.Internal.Results.{IsTold, ParsesRange};
+ghost use Rattle.semver_answers.specs.Internal.CommandWords.{command_word};
+ghost use Rattle.semver_answers.specs.Internal.KindWords.{IsTwo, best_word, range_word};
+ghost use Rattle.semver_answers.specs.Internal.KindWords.{match_word, ranges_word, versions_word};
+ghost use Rattle.semver_answers.specs.Internal.Results.{AnswersFields, IsTold, ParsesRange};
+ghost use Rattle.semver_answers.specs.Internal.Results.{ParsesVersion, behind};
 ghost use Rattle.semver_answers.specs.Lines.{fields};
 ghost use Rattle.semver_answers.specs.Names.{next_text, truth_word};
-ghost use Rattle.semver_answers.specs.Replies.{AreVersionsOf, IsRangeOf, IsVersionOf, On, Says};
-ghost use Rattle.semver_answers.specs.declared.question.Question.{Question};
+ghost use Rattle.semver_answers.specs.Replies.{AreVersionsOf, IsRangeOf, On};
 
 use crate::best::best_of;
+use crate::command::Command;
 use crate::fault::Fault;
+use crate::fields::{cut, version_field};
 use crate::names::{
     borrowed_or_none, difference_word, next_text, order_word, printed, range_or_none, truth_word,
     version_or_none,
 };
 use crate::parsed::{Parsed, range_of, version_of};
 use crate::question::{
-    AboutBest, AboutMatch, AboutRange, AboutRanges, AboutVersion, AboutVersions, Question,
+    AboutBest, AboutMatch, AboutRange, AboutRanges, AboutVersion, AboutVersions,
 };
-use nodejs_semver::{Failure, IdentifierBase, RangeRef, VersionRef};
+use nodejs_semver::{Failure, IdentifierBase, RangeRef, SemverError, VersionRef};
 use std::alloc::{AllocError, Global};
 
-/// The reply to a question.
+/// The reply to a line that is a text.
 #[inline(always)]
 pub(crate) fn reply<'a>(
     alloc: Global,
-    question: Question<'_>,
+    text: &str,
     room: &'a mut String,
 ) -> Result<&'a str, Failure<Fault>>
-    ensures { IsTold result (IsReply question.entry) }
+    ensures { IsTold result (IsAnswer text.now) }
 {
-    match question {
-        Question::Version(v, asked) => on_version(alloc, v, asked, room),
-        Question::Versions((v, w), asked) => on_versions(alloc, v, w, asked, room),
-        Question::Range(r, asked) => on_range(alloc, r, asked, room),
-        Question::Ranges((r, s), asked) => on_ranges(alloc, r, s, asked, room),
-        Question::Match((r, v), asked) => on_match(alloc, r, v, asked),
-        Question::Best((r, vs), asked) => on_best(alloc, r, vs, asked, room),
+    let Some((command, rest)) = Command::of(text) else {
+        return Err(Failure::Refused(Fault::BadLine));
+    };
+    reply_to(alloc, command, rest, room)
+}
+
+// The reply to a line with this command and these fields behind it.
+#[inline(always)]
+fn reply_to<'a>(
+    alloc: Global,
+    command: Command,
+    rest: &str,
+    room: &'a mut String,
+) -> Result<&'a str, Failure<Fault>>
+    ensures { IsTold result (AnswersFields (command_word command ∷ fields rest.now)) }
+{
+    match command {
+        Command::Cmp => on_versions(rest, AboutVersions::Cmp, room),
+        Command::Ver => on_version(alloc, rest, room),
+        Command::Diff => on_versions(rest, AboutVersions::Diff, room),
+        Command::Inc => on_increment(alloc, rest, room),
+        Command::Range => on_range(alloc, rest, AboutRange::Print, room),
+        Command::And => on_ranges(alloc, rest, AboutRanges::And, room),
+        Command::Minus => on_ranges(alloc, rest, AboutRanges::Minus, room),
+        Command::Least => on_range(alloc, rest, AboutRange::Least, room),
+        Command::Beyond => on_ranges(alloc, rest, AboutRanges::Beyond, room),
+        Command::Sat => on_match(alloc, rest, AboutMatch::Sat),
+        Command::Pre => on_match(alloc, rest, AboutMatch::Pre),
+        Command::Out => on_outside(alloc, rest),
+        Command::Max => on_best(alloc, rest, AboutBest::Max, room),
+        Command::Min => on_best(alloc, rest, AboutBest::Min, room),
     }
 }
 
 #[inline(never)]
 fn on_version<'a>(
     alloc: Global,
-    v: &str,
-    asked: AboutVersion<'_>,
+    texts: &str,
     room: &'a mut String,
 ) -> Result<&'a str, Failure<Fault>>
-    ensures { IsTold result (IsReply (Question.Version v.entry asked.entry)) }
+    ensures { IsTold result (AnswersFields (codes "ver" ∷ fields texts.now)) }
 {
-    let version = VersionRef::parse(v);
+    let (version, rest) = version_field(texts);
+    if rest.is_some() {
+        return Err(Failure::Refused(Fault::BadLine));
+    }
+    let version = version_of(&version)?;
+    Ok(AboutVersion::Ver.reply(alloc, version, room)?)
+}
+
+#[inline(never)]
+fn on_increment<'a>(
+    alloc: Global,
+    texts: &str,
+    room: &'a mut String,
+) -> Result<&'a str, Failure<Fault>>
+    ensures { IsTold result (AnswersFields (codes "inc" ∷ fields texts.now)) }
+{
+    let (version, rest) = version_field(texts);
+    let Some(rest) = rest else {
+        return Err(Failure::Refused(Fault::BadLine));
+    };
+    let Some(asked) = AboutVersion::increment(rest) else {
+        return Err(Failure::Refused(Fault::BadLine));
+    };
     let version = version_of(&version)?;
     Ok(asked.reply(alloc, version, room)?)
 }
 
 #[inline(never)]
 fn on_versions<'a>(
-    alloc: Global,
-    v: &str,
-    w: &str,
+    texts: &str,
     asked: AboutVersions,
     room: &'a mut String,
 ) -> Result<&'a str, Failure<Fault>>
-    ensures { IsTold result (IsReply (Question.Versions (v.entry, w.entry) asked)) }
+    ensures { IsTold result (AnswersFields (versions_word asked ∷ fields texts.now)) }
 {
-    let version = VersionRef::parse(v);
+    let (version, rest) = version_field(texts);
+    let Some(rest) = rest else {
+        return Err(Failure::Refused(Fault::BadLine));
+    };
+    let (other, behind) = version_field(rest);
+    if behind.is_some() {
+        return Err(Failure::Refused(Fault::BadLine));
+    }
     let version = version_of(&version)?;
-    let other = VersionRef::parse(w);
     let other = version_of(&other)?;
     Ok(asked.reply(version, other, room)?)
 }
@@ -79,13 +135,17 @@ fn on_versions<'a>(
 #[inline(never)]
 fn on_range<'a>(
     alloc: Global,
-    r: &str,
+    texts: &str,
     asked: AboutRange,
     room: &'a mut String,
 ) -> Result<&'a str, Failure<Fault>>
-    ensures { IsTold result (IsReply (Question.Range r.entry asked)) }
+    ensures { IsTold result (AnswersFields (range_word asked ∷ fields texts.now)) }
 {
-    let range = RangeRef::parse(alloc, r);
+    let (field, rest) = cut(texts);
+    if rest.is_some() {
+        return Err(Failure::Refused(Fault::BadLine));
+    }
+    let range = RangeRef::parse(alloc, field);
     parsed_range(alloc, &range, asked, room)
 }
 
@@ -105,17 +165,24 @@ fn parsed_range<'a>(
 }
 
 #[inline(never)]
-fn on_ranges<'a, 't>(
+fn on_ranges<'a>(
     alloc: Global,
-    r: &'t str,
-    s: &'t str,
+    texts: &str,
     asked: AboutRanges,
     room: &'a mut String,
 ) -> Result<&'a str, Failure<Fault>>
-    ensures { IsTold result (IsReply (Question.Ranges (r.entry, s.entry) asked)) }
+    ensures { IsTold result (AnswersFields (ranges_word asked ∷ fields texts.now)) }
 {
-    let range = RangeRef::parse(alloc, r);
-    parsed_ranges(alloc, &range, s, asked, room)
+    let (field, rest) = cut(texts);
+    let Some(rest) = rest else {
+        return Err(Failure::Refused(Fault::BadLine));
+    };
+    let (other, behind) = cut(rest);
+    if behind.is_some() {
+        return Err(Failure::Refused(Fault::BadLine));
+    }
+    let range = RangeRef::parse(alloc, field);
+    parsed_ranges(alloc, &range, other, asked, room)
 }
 
 #[inline(always)]
@@ -152,46 +219,71 @@ fn beside_parsed<'a, 't>(
 }
 
 #[inline(never)]
-fn on_match(
-    alloc: Global,
-    r: &str,
-    v: &str,
-    asked: AboutMatch,
-) -> Result<&'static str, Failure<Fault>>
-    ensures { IsTold result (IsReply (Question.Match (r.entry, v.entry) asked)) }
+fn on_match(alloc: Global, texts: &str, asked: AboutMatch) -> Result<&'static str, Failure<Fault>>
+    requires { IsTwo asked }
+    ensures { IsTold result (AnswersFields (match_word asked ∷ fields texts.now)) }
 {
-    let range = RangeRef::parse(alloc, r);
-    parsed_match(&range, v, asked)
+    let (field, rest) = cut(texts);
+    let Some(rest) = rest else {
+        return Err(Failure::Refused(Fault::BadLine));
+    };
+    let (version, behind) = version_field(rest);
+    if behind.is_some() {
+        return Err(Failure::Refused(Fault::BadLine));
+    }
+    let range = RangeRef::parse(alloc, field);
+    parsed_match(&range, &version, asked)
 }
 
+#[inline(never)]
+fn on_outside(alloc: Global, texts: &str) -> Result<&'static str, Failure<Fault>>
+    ensures { IsTold result (AnswersFields (codes "out" ∷ fields texts.now)) }
+{
+    let (field, rest) = cut(texts);
+    let Some(rest) = rest else {
+        return Err(Failure::Refused(Fault::BadLine));
+    };
+    let (version, behind) = version_field(rest);
+    let Some(side) = behind else {
+        return Err(Failure::Refused(Fault::BadLine));
+    };
+    let Some(asked) = AboutMatch::outside(side) else {
+        return Err(Failure::Refused(Fault::BadLine));
+    };
+    let range = RangeRef::parse(alloc, field);
+    parsed_match(&range, &version, asked)
+}
+
+// The reply about a range and a version that were parsed.
 #[inline(always)]
 fn parsed_match(
-    parsed: &Parsed<'_>,
-    v: &str,
+    range: &Parsed<'_>,
+    version: &Result<VersionRef<'_>, SemverError>,
     asked: AboutMatch,
 ) -> Result<&'static str, Failure<Fault>>
-    ensures { (text : List ℕ) → ParsesRange text parsed.now
-        → IsTold result (On (IsRangeOf text) (λ range. On (IsVersionOf v.now)
-        (λ version. Says (truth_word (match_reply asked range version))))) }
+    ensures { (r v : List ℕ) → ParsesRange r range.now → ParsesVersion v version.now
+        → IsTold result (IsReply (Match (r, v) asked)) }
 {
-    let range = range_of(parsed)?;
-    let version = VersionRef::parse(v);
-    let version = version_of(&version)?;
+    let range = range_of(range)?;
+    let version = version_of(version)?;
     Ok(truth_word(asked.reply(range, version)))
 }
 
 #[inline(never)]
 fn on_best<'a>(
     alloc: Global,
-    r: &str,
-    vs: &str,
+    texts: &str,
     asked: AboutBest,
     room: &'a mut String,
 ) -> Result<&'a str, Failure<Fault>>
-    ensures { IsTold result (IsReply (Question.Best (r.entry, vs.entry) asked)) }
+    ensures { IsTold result (AnswersFields (best_word asked ∷ fields texts.now)) }
 {
-    let range = RangeRef::parse(alloc, r);
-    parsed_best(&range, vs, asked, room)
+    let (field, rest) = cut(texts);
+    let Some(versions) = rest else {
+        return Err(Failure::Refused(Fault::BadLine));
+    };
+    let range = RangeRef::parse(alloc, field);
+    parsed_best(&range, versions, asked, room)
 }
 
 #[inline(always)]

@@ -1,5 +1,5 @@
-pub mod Clauses
 pub mod Laws
 pub mod LastNumber
 pub mod Differences
 pub mod Memory
+pub mod Replaced

@@ -13,5 +13,7 @@ pub mod Whole
 pub mod OnePass
 pub mod LargerLimit
 pub mod Listed
+pub mod Zeros
 pub mod Firsts
 pub mod Ends
+pub mod Fronts

@@ -1,5 +1,5 @@
 -- Statement: cuts of a line of ordered points, and the spans between two cuts.
-use Rattle.std.specs.Prelude.{Bool, true, false, ◌&&◌, not, if◌then◌else◌, Option, Some, None, is_some}
+use Rattle.std.specs.Prelude.{Bool, true, false, ◌&&◌, ◌||◌, not, if◌then◌else◌, Option, Some, None, is_some}
 use Rattle.std.specs.declared.cmp.Ordering.{Ordering}
 use Rattle.std.specs.declared.cmp.Ordering.TheVariants.{Less, Equal, Greater}
 use Rattle.std.specs.Ordering.{ordering_then, bool_cmp, is_lt, is_le, is_gt}
@@ -41,10 +41,20 @@ bound_eq E (Before v) (Before w) = E v w
 bound_eq E (After v) (After w) = E v w
 bound_eq E b c = false
 
+-- the bound has a point, which passes the test
+abbrev pub passes : {V : Type 0} → (V → Bool) → Bound V → Bool
+passes test Unbounded = false
+passes test (Before v) = test v
+passes test (After v) = test v
+
 -- a lower and an upper bound
 pub record Span (V : Type 0) : Type 0 where
   pub lower : Bound V
   pub upper : Bound V
+
+-- a bound of the span has a point that passes the test
+abbrev pub has_bound : {V : Type 0} → (V → Bool) → Span V → Bool
+has_bound test s = passes test s.lower || passes test s.upper
 
 -- whether the lower cut is below the upper one
 abbrev pub is_interval : {V : Type 0} → (V → V → Ordering) → Span V → Bool

@@ -2,3 +2,4 @@ pub mod Versions
 pub mod Views
 pub mod Order
 pub mod Triples
+pub mod Memory

@@ -1,8 +1,9 @@
 // Versions that borrow their text.
 
-ghost use Rattle.std.specs.Prelude.{◌≡◌, ◌↔◌, ◌<◌, IfOk, IsTrue, OnErr, length, true};
-ghost use Rattle.semver_core.specs.Text.Identifiers.{is_listed, listed};
-ghost use Rattle.semver_core.specs.Values.Versions.{HasIdentifiers, is_release};
+ghost use Rattle.std.specs.Prelude.{◌≡◌, ◌↔◌, ◌<◌, ◌∷◌, [], IfOk, IsOk, IsTrue, OnErr};
+ghost use Rattle.std.specs.Prelude.{false, length, true};
+ghost use Rattle.semver_core.specs.Text.Identifiers.{Numeric, is_listed, listed};
+ghost use Rattle.semver_core.specs.Values.Versions.{HasIdentifiers, IsVersion, is_release};
 
 mod dotted;
 pub mod identifier;
@@ -46,6 +47,7 @@ impl<'a> VersionRef<'a> {
     ///
     /// It requires that both texts spell lists, which `Identifier::is_list` tests.
     #[inline(always)]
+    #[tactic(auto, using(crate::proofs::Text::Zeros::listed_valid))]
     pub fn from_texts(
         major: u64,
         minor: u64,
@@ -87,12 +89,13 @@ impl<'a> VersionRef<'a> {
     }
 
     /// The version with identifiers of its own. Fails only if allocation fails, which happens only
-    /// where it has a pre-release or build metadata; the pre-release `0` alone takes no memory.
+    /// where it has a pre-release or build metadata; it never fails for the pre-release `0` alone.
     #[inline(always)]
     #[tactic(auto, using(crate::proofs::Text::Listed::listed_some))]
     pub fn to_version(&self, alloc: Global) -> Result<Version, AllocError>
         ensures whole { IfOk result (λ v. v ≡ self.now) }
         ensures memory { OnErr result (HasIdentifiers self.now) }
+        ensures zero { self.now.pre_release ≡ Numeric 0 ∷ [] → self.now.build ≡ [] → IsOk result }
     {
         let (pre_release, build) = (self.pre_release, self.build);
         Version::from_texts(
@@ -108,7 +111,8 @@ impl<'a> VersionRef<'a> {
     /// The first number, which is raised for incompatible changes.
     #[inline(always)]
     pub fn major(&self) -> u64
-        ensures { result ≡ self.now.major }
+        ensures value { result ≡ self.now.major }
+        ensures valid { IsVersion self.now }
     {
         self.major
     }
@@ -116,7 +120,8 @@ impl<'a> VersionRef<'a> {
     /// The second number, which is raised for compatible additions.
     #[inline(always)]
     pub fn minor(&self) -> u64
-        ensures { result ≡ self.now.minor }
+        ensures value { result ≡ self.now.minor }
+        ensures valid { IsVersion self.now }
     {
         self.minor
     }
@@ -124,7 +129,8 @@ impl<'a> VersionRef<'a> {
     /// The third number, which is raised for compatible fixes.
     #[inline(always)]
     pub fn patch(&self) -> u64
-        ensures { result ≡ self.now.patch }
+        ensures value { result ≡ self.now.patch }
+        ensures valid { IsVersion self.now }
     {
         self.patch
     }
@@ -132,7 +138,8 @@ impl<'a> VersionRef<'a> {
     /// The identifiers of the pre-release, one by one; none where the version is a release.
     #[inline(always)]
     pub fn pre_release(&self) -> IdentifierRefs<'a>
-        ensures { result ≡ self.now.pre_release }
+        ensures value { result ≡ self.now.pre_release }
+        ensures valid { IsVersion self.now }
     {
         IdentifierRefs::of_text(self.pre_release)
     }
@@ -140,7 +147,8 @@ impl<'a> VersionRef<'a> {
     /// The identifiers of the build metadata, one by one, which no comparison looks at.
     #[inline(always)]
     pub fn build(&self) -> IdentifierRefs<'a>
-        ensures { result ≡ self.now.build }
+        ensures value { result ≡ self.now.build }
+        ensures valid { IsVersion self.now }
     {
         IdentifierRefs::of_text(self.build)
     }
@@ -166,6 +174,8 @@ impl<'a> VersionRef<'a> {
 
 /// A copy borrows the same text and never fails.
 impl<'a> Point for VersionRef<'a> {
+    ghost takes = { λ v. false };
+
     fn copy(&self, _alloc: Global) -> Result<VersionRef<'a>, AllocError> {
         Ok(VersionRef::copy(self))
     }

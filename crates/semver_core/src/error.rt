@@ -1,5 +1,9 @@
 // The errors of the crate.
 
+ghost use Rattle.semver_core.specs.declared.error.Failure.TheVariants.{Memory, Refused};
+ghost use Rattle.std.specs.Prelude.{◌≡◌, Err, None, Ok, Some};
+ghost use Rattle.std.specs.declared.alloc.AllocError.{AllocError};
+
 use std::alloc::AllocError;
 use thiserror::Error;
 
@@ -20,6 +24,27 @@ pub enum Failure<E> {
     Refused(E),
     /// An allocation failed. The same call may succeed when there is more memory.
     Memory(AllocError),
+}
+
+impl<E: Drop> Failure<E> {
+    /// The value of an answer, and `None` where the input was rejected. An allocation failure stays
+    /// an error, which `?` passes on.
+    ///
+    /// ```rust
+    /// let range = Failure::refused_as_none(Range::parse(alloc, "next"))?;
+    /// assert!(rt; range.is_none());
+    /// ```
+    pub fn refused_as_none<T>(answer: Result<T, Failure<E>>) -> Result<Option<T>, AllocError>
+        ensures value { (value : T) → answer ≡ Ok value → result ≡ Ok (Some value) }
+        ensures refused { (reason : E) → answer ≡ Err (Refused reason) → result ≡ Ok None }
+        ensures memory { (error : AllocError) → answer ≡ Err (Memory error) → result ≡ Err error }
+    {
+        match answer {
+            Ok(value) => Ok(Some(value)),
+            Err(Failure::Refused(_)) => Ok(None),
+            Err(Failure::Memory(error)) => Err(error),
+        }
+    }
 }
 
 /// `Memory`, so that `?` passes an allocation failure on.

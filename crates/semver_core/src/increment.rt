@@ -1,16 +1,13 @@
 // Increments: the next version by a word, as release tools ask for it.
 
-ghost use Rattle.std.specs.Prelude.{◌≡◌, ◌≢◌, ◌+◌, ◌-◌, ◌^◌, ◌<◌, []};
-ghost use Rattle.std.specs.Prelude.{Err, IfOk, IsOkAnd, OnErr, codes, false, true, unwrap_or};
+ghost use Rattle.std.specs.Prelude.{◌≡◌, ◌≢◌, Err, IfOk, OnErr, true};
 ghost use Rattle.std.specs.Option.{option_copied};
 ghost use Rattle.semver_core.specs.Failures.{MemoryOnlyIf};
 ghost use Rattle.semver_core.specs.Increments.Table as spec;
-ghost use Rattle.semver_core.specs.Increments.Least.{IsAbove, IsLeastOrOverflow};
-ghost use Rattle.semver_core.specs.Increments.Least.{IsLeastVersion, IsPlain};
-ghost use Rattle.semver_core.specs.Increments.View.{IfAnswered, Returns, fault_of};
+ghost use Rattle.semver_core.specs.Increments.View.{Returns, fault_of};
 ghost use Rattle.semver_core.specs.Internal.IncrementSteps.{MayAllocate, RefusedWith};
 ghost use Rattle.semver_core.specs.Internal.IncrementSteps.{parts_ref_value};
-ghost use Rattle.semver_core.specs.Values.Versions.{HasIdentifiers, is_release};
+ghost use Rattle.semver_core.specs.Values.Versions.{HasIdentifiers};
 
 use crate::increment::levels::by_word;
 use crate::increment::parts_ref::PartsRef;
@@ -243,7 +240,7 @@ impl Version {
         identifier: Option<&str>,
         base: Option<IdentifierBase>,
     ) -> Result<Version, Failure<IncrementError>>
-        // It returns what the table says.
+        // It returns what the table says; `laws::least_increments` says which versions these are.
         ensures value { Returns
             (spec.answer_of_inc self.now word.now (option_copied identifier.entry) base) result }
         // Allocation fails only for a version with identifiers or for an error that holds a text,
@@ -251,45 +248,7 @@ impl Version {
         ensures memory { let answer = spec.answer_of_inc self.now word.now
             (option_copied identifier.entry) base in
             MemoryOnlyIf result ((answer ≢ Err spec.Overflow) × IfOk answer HasIdentifiers) }
-        // The least release above in the same major and minor, or Overflow where there is none.
-        ensures patch { word.now ≡ codes "patch" → IfAnswered (IsLeastOrOverflow
-            (λ w. IsAbove self.now w × (w.pre_release ≡ [])
-            × (w.major ≡ self.now.major) × (w.minor ≡ self.now.minor))) result }
-        // The least one above with patch 0 in the same major, and with minor and patch 0.
-        ensures minor { word.now ≡ codes "minor" → IfAnswered (IsLeastOrOverflow
-            (λ w. IsAbove self.now w × (w.pre_release ≡ [])
-            × (w.major ≡ self.now.major) × (w.patch ≡ 0))) result }
-        ensures major { word.now ≡ codes "major" → IfAnswered (IsLeastOrOverflow
-            (λ w. IsAbove self.now w × (w.pre_release ≡ []) × (w.minor ≡ 0) × (w.patch ≡ 0)))
-            result }
-        // Without identifier and with base 0: the least version of the next major, minor or patch,
-        // or Overflow.
-        ensures premajor { word.now ≡ codes "premajor"
-            → IsPlain (option_copied identifier.entry) base
-            → IfAnswered (IsLeastOrOverflow (λ w. w.major ≡ self.now.major + 1)) result }
-        ensures preminor { word.now ≡ codes "preminor"
-            → IsPlain (option_copied identifier.entry) base
-            → IfAnswered (IsLeastOrOverflow
-            (λ w. (w.major ≡ self.now.major) × (w.minor ≡ self.now.minor + 1))) result }
-        ensures prepatch { word.now ≡ codes "prepatch"
-            → IsPlain (option_copied identifier.entry) base
-            → IfAnswered (IsLeastOrOverflow (λ w. (w.major ≡ self.now.major)
-            × (w.minor ≡ self.now.minor) × (w.patch ≡ self.now.patch + 1))) result }
-        // And the least version above, if the patch of a release can rise and a pre-release has no
-        // number.
-        ensures prerelease { word.now ≡ codes "prerelease"
-            → IsPlain (option_copied identifier.entry) base
-            → (is_release self.now ≡ true → self.now.patch < 2 ^ 64 - 1)
-            → (is_release self.now ≡ false → spec.has_numeric self.now.pre_release ≡ false)
-            → IfAnswered (λ answer. IsOkAnd answer (IsLeastVersion (IsAbove self.now))) result }
-        // Without an identifier the version rises, except by `pre` from a release.
-        ensures above { (unwrap_or (option_copied identifier.entry) [] ≡ [])
-            → (word.now ≡ codes "pre" → is_release self.now ≡ false)
-            → IfOk result (IsAbove self.now) }
-        ensures build { IfOk result (λ next. next.build ≡ self.now.build) }
     {
-        // For the proof alone: every `Version` satisfies `IsVersion`.
-        let _major = self.major();
         increment(alloc, &PartsRef::of(self), word, identifier, base)
     }
 }
@@ -309,7 +268,7 @@ impl<'a> VersionRef<'a> {
         identifier: Option<&str>,
         base: Option<IdentifierBase>,
     ) -> Result<Version, Failure<IncrementError>>
-        // It returns what the table says.
+        // It returns what the table says; `laws::least_increments` says which versions these are.
         ensures value { Returns
             (spec.answer_of_inc self.now word.now (option_copied identifier.entry) base) result }
         // Allocation fails only for a version with identifiers or for an error that holds a text,

@@ -1,12 +1,14 @@
 //! Laws over the definitions alone. Each is the contract of a function that does nothing, or hardly
 //! anything, else; no caller needs this module.
 
+mod increments;
 mod intervals;
 mod order;
 mod printing;
 mod reading;
 mod whitespace;
 
+pub use crate::laws::increments::least_increments;
 pub use crate::laws::intervals::intervals_equal;
 pub use crate::laws::order::{identifiers_in_order, order_and_increments, versions_in_order};
 pub use crate::laws::printing::{

@@ -3,7 +3,9 @@
 mod fast;
 mod loose;
 
-pub(crate) use crate::readers::fast::numbers;
 pub use crate::readers::fast::version_fast;
+pub(crate) use crate::readers::fast::{leading_numbers, numbers};
 pub use crate::readers::loose::version_loose;
-pub(crate) use crate::readers::loose::{build_start, front_of_numbers, pre_release_start};
+pub(crate) use crate::readers::loose::{
+    begins_lists, build_start, front_of_numbers, pre_release_start,
+};

@@ -170,7 +170,9 @@ pub(crate) fn digits(bytes: &[u8], at: usize) -> Option<(u64, usize)>
     ensures found { result ≡ number_at MAX_SAFE_INTEGER bytes.now at }
     ensures place { IfSome result (λ found. found.1 ≤ length bytes.now) }
 {
-    let first = digit(bytes, at)?;
+    let Some(first) = digit(bytes, at) else {
+        return None;
+    };
     let Some(second) = digit(bytes, at + 1) else {
         return Some((first, at + 1));
     };
@@ -204,12 +206,23 @@ fn more_digits(bytes: &[u8], at: usize, next: usize, front: u64) -> Option<(u64,
     Some((value, end))
 }
 
+// Each character of identifiers stands at its own place, and a space at every other place.
+static IDENTIFIER_CHARS: [u8; 256] = *b"\
+    \x20                               \
+    \x20            -  0123456789      \
+    \x20ABCDEFGHIJKLMNOPQRSTUVWXYZ     \
+    \x20abcdefghijklmnopqrstuvwxyz     \
+    \x20                               \
+    \x20                               \
+    \x20                               \
+    \x20                               ";
+
 /// Whether a byte is an ASCII letter, an ASCII digit or `-`, which identifiers are made of.
 #[inline(always)]
 pub fn is_identifier_char(byte: u8) -> bool
     ensures { result ≡ is_identifier_char byte }
 {
-    byte.is_ascii_alphanumeric() || byte == b'-'
+    IDENTIFIER_CHARS[byte as usize] != b' '
 }
 
 /// Whether a text begins with a character of identifiers.
@@ -230,8 +243,8 @@ pub fn goes_on(text: &[u8]) -> bool
     ensures { result ≡ goes_on text.now }
 {
     match text {
-        [b'.', rest @ ..] => begins_identifier(rest),
-        [byte, ..] => is_identifier_char(*byte),
+        [byte, rest @ ..] => is_identifier_char(*byte)
+            || (*byte == b'.' && begins_identifier(rest)),
         [] => false,
     }
 }
@@ -270,7 +283,7 @@ fn grown(value: u64, byte: u8) -> Option<u64>
 // Where the run ends that goes on at a place.
 #[inline(always)]
 #[tactic(auto, using(crate::proofs::Text::OnePass::run_ends))]
-fn run_end(bytes: &[u8], start: usize) -> usize
+pub(crate) fn run_end(bytes: &[u8], start: usize) -> usize
     requires { start ≤ length bytes.now }
     ensures { (result, None) ≡ run_from None start (drop start bytes.now) }
 {
@@ -305,7 +318,11 @@ pub(crate) fn scan_run(bytes: &[u8], start: usize) -> (usize, Option<u64>)
 
 // The identifier at a place where a run begins, and the place behind it.
 #[inline(always)]
-fn read_run(alloc: Global, text: &str, start: usize) -> Result<(Identifier, usize), AllocError>
+pub(crate) fn read_run(
+    alloc: Global,
+    text: &str,
+    start: usize,
+) -> Result<(Identifier, usize), AllocError>
     requires place { start ≤ length text.now }
     requires here { begins is_identifier_char (drop start text.now) ≡ true }
     ensures id { IfOk result (λ found. id_view found.0 ≡ identifier_of

@@ -1,7 +1,6 @@
 // Versions: five values.
 
-ghost use Rattle.std.specs.Prelude.{◌≡◌, ◌↔◌, Some, IsTrue, IfOk, All, length};
-ghost use Rattle.std.specs.Prelude.{◌<◌, ◌≤◌};
+ghost use Rattle.std.specs.Prelude.{◌≡◌, ◌↔◌, Some, IsTrue, IfOk, All, length, ◌<◌, ◌≤◌};
 ghost use Rattle.semver_core.specs.Failures.{MemoryOnlyIf, RefusedOnlyIf, NoValue};
 ghost use Rattle.semver_core.specs.Text.VersionText.{Reads};
 ghost use Rattle.semver_core.specs.Text.Parsing.{Parses};
@@ -9,8 +8,7 @@ ghost use Rattle.semver_core.specs.Values.Versions.{VersionValue, HasIdentifiers
 ghost use Rattle.semver_core.specs.Values.Versions.{is_release, release_value};
 ghost use Rattle.semver_core.specs.Internal.Reading.{qualified};
 ghost use Rattle.semver_core.specs.Values.Views.{ids_view, id_view};
-ghost use Rattle.semver_core.specs.Internal.Inside.{IsFull, build_of};
-ghost use Rattle.semver_core.specs.Internal.Inside.{pre_release_of};
+ghost use Rattle.semver_core.specs.Internal.Inside.{IsFull, build_of, pre_release_of};
 
 pub mod accepts;
 mod convert;

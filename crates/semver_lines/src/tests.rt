@@ -1,6 +1,8 @@
 mod algebra;
 mod borrowed_ranges;
 mod calling;
+mod calling_laws;
+mod choice;
 mod cuts;
 mod diagnosis;
 mod difference;
@@ -14,6 +16,9 @@ mod kinds;
 mod laws;
 mod lent;
 mod lists;
+mod npm;
+mod npm_ranges;
+mod npm_versions;
 mod outside;
 mod print;
 mod range;

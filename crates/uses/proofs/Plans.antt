@@ -1,7 +1,7 @@
 -- Picks on the way to a plan: one more pick keeps what is asked, met and taken.
-use Rattle.uses.specs.Internal.Search.{Agrees, HasNoPlan, IsPlan}
+use Rattle.uses.specs.Internal.Search.{Agrees, HasNoPlan, NeedsAll}
 use Rattle.std.proofs.Common.{◌≡◌, ◌≢◌, ap, subst, refl, sym, ◌∙◌, ℕ, ◌+◌, ◌<◌, ◌≤◌, ◌⊎◌, inl, inr, List, [], length, replicate}
-use Rattle.std.proofs.Common.{take, set, get_or, slice_index_or}
+use Rattle.std.proofs.Common.{take, set, get_or, slice_get, slice_index_or}
 use Rattle.std.proofs.Common.{Option, None, Some, IfNone, IfSome, All, Contains, true, false, arith, get_or-set_other}
 use Rattle.std.proofs.Common.{get_or-set_same}
 use denote.Ref.{Bor}
@@ -14,8 +14,8 @@ use Rattle.nodejs_semver.specs.Ranges.Gate.{accepts}
 use Rattle.std.proofs.lemmas.List.{get_or-replicate, get_or_past, length-replicate, get_or_read, length-set, set-get_or, set-set}
 use Rattle.std.proofs.lemmas.Option.{none-some, same_Some, slice_get-get_or, slice_get_past}
 use Rattle.std.proofs.lemmas.List.Elements.{All-contains, All-more}
-use Rattle.uses.specs.Resolver.{IsAsked, IsConflict, IsMet, IsPicked, MeetsAll, release_at}
-use Rattle.uses.specs.Resolver.{releases_of}
+use Rattle.uses.specs.Resolver.{ArePicked, IsBegun, IsConflict, IsHopeless, IsMet, IsNeeded, IsPicked, IsPlan, MeetsAll}
+use Rattle.uses.specs.Resolver.{of_release, of_root, one_more, release_at, releases_of}
 use Rattle.uses.specs.declared.resolver.Conflict.{Conflict}
 use Rattle.uses.specs.declared.resolver.Conflict.TheVariants.{Unmatched, Clash}
 use Rattle.uses.specs.declared.resolver.Package.{Package}
@@ -32,10 +32,10 @@ pub fewer_free : (xs ys : List (Option Pick)) (p : ℕ) (pick : Pick) (n : ℕ) 
     slice_index_or xs p None ≡ None → sum_by is_free (set ys p (Some pick)) < n
 fewer_free xs ys p pick n same count h e = rw same (omega (arith, sum_by-set is_free xs p (Some pick) None h, ap is_free e))
 
-pub IsAsked-kept : {f g : ℕ → Option Release} (root : List Requirement) (q : Requirement) → Agrees f g → IsAsked root f q →
-    IsAsked root g q
-IsAsked-kept root q k (inl h) = inl h
-IsAsked-kept root q k (inr (p, r, e, h)) = inr (p, r, k p r e, h)
+pub IsNeeded-kept : {f g : ℕ → Option Release} (root : List Requirement) (q : Requirement) → Agrees f g → IsNeeded root f q →
+    IsNeeded root g q
+IsNeeded-kept root q k (of_root s h) = of_root s h
+IsNeeded-kept root q k (of_release s t r n e h) = of_release s t r (IsNeeded-kept root t k n) (k t.package r e) h
 
 pub IsMet-kept : {f g : ℕ → Option Release} (q : Requirement) → Agrees f g → IsMet f q → IsMet g q
 IsMet-kept q k h = (h.0, k q.package h.0 h.1, h.2)
@@ -71,7 +71,7 @@ IsMet-from_pick xs q pick e fits = (pick.release.now, ap (option_map (λ p. p.re
 pub IsPicked-more : {packages : List Package} {root : List Requirement} {xs : List (Option Pick)} (p : ℕ) (pick : Pick) →
     IsPicked packages root xs → p < length packages → slice_index_or xs p None ≡ None →
     Contains (releases_of packages p) pick.release.now →
-    pick.requirement.now.package ≡ p → IsAsked root (release_at xs) pick.requirement.now →
+    pick.requirement.now.package ≡ p → IsNeeded root (release_at xs) pick.requirement.now →
     accepts pick.requirement.now.range pick.release.now.version false ≡ true → IsPicked packages root (set xs p (Some pick))
 IsPicked-more {packages} {root} {xs} p pick s h none member place asked met =
     let within : p < length xs = omega arith in
@@ -82,44 +82,44 @@ IsPicked-more {packages} {root} {xs} p pick s h none member place asked met =
         | inl (same, a) ↦ rw (same, ← same_Some _ _ (rw a at t)) member
         | inr (other, a) ↦ s.choice q r (rw a at t)
       ];
-      asked = λ q other t. elim (at_set xs p q (Some pick) within) [
+      needed = λ q other t. elim (at_set xs p q (Some pick) within) [
         | inl (same, a) ↦
             let ys = set xs p (Some pick) in
             let P : Pick → Type 0 =
-            λ k. (k.requirement.now.package ≡ q) × IsAsked root (release_at ys) k.requirement.now
+            λ k. (k.requirement.now.package ≡ q) × IsNeeded root (release_at ys) k.requirement.now
             × IsMet (release_at ys) k.requirement.now
             in
             let at : Some pick ≡ slice_index_or ys pick.requirement.now.package None = sym (get_or-set_same xs p (Some pick)
             None within) ∙ ap (λ n. get_or ys n None) (sym place) in
             let taken = IsMet-from_pick ys pick.requirement.now pick at met in
-            subst P (same_Some _ _ (sym a ∙ t)) (place ∙ sym same, IsAsked-kept root pick.requirement.now more asked, taken)
+            subst P (same_Some _ _ (sym a ∙ t)) (place ∙ sym same, IsNeeded-kept root pick.requirement.now more asked, taken)
         | inr (apart, a) ↦
-            let (place, asked, met) = s.asked q other (sym a ∙ t) in
-            (place, IsAsked-kept root other.requirement.now more asked, IsMet-kept other.requirement.now more met)
+            let (place, asked, met) = s.needed q other (sym a ∙ t) in
+            (place, IsNeeded-kept root other.requirement.now more asked, IsMet-kept other.requirement.now more met)
       ];
     }
 
 abbrev pub IsRejected : Requirement → Release → Type 0
 IsRejected q r = accepts q.range r.version false ≡ false
 
--- no plan over these picks takes the release r of the package
-abbrev pub IsHopeless : List Package → List Requirement → List (Option Pick) → ℕ → Release → Type 0
-IsHopeless packages root xs p r = (f : ℕ → Option Release) → IsPlan packages root f → Agrees (release_at xs) f → ¬ (f p ≡ Some r)
-
 pub IsHopeless-rejected : (packages : List Package) (root : List Requirement) (xs : List (Option Pick)) (q : Requirement) (r :
     Release) →
-    IsAsked root (release_at xs) q → accepts q.range r.version false ≡ false → IsHopeless packages root xs q.package r
+    IsNeeded root (release_at xs) q → accepts q.range r.version false ≡ false → IsHopeless packages root xs q.package r
 IsHopeless-rejected packages root xs q r asked rejected f plan agrees e =
-    let (s, t, fits) = plan.1 q (IsAsked-kept root q agrees asked) in
+    let (s, t, fits) = plan.1 q (IsNeeded-kept root q agrees asked) in
     let same : s ≡ r = same_Some _ _ (sym t ∙ e) in
     false≢true (sym rejected ∙ (rw same at fits))
 
 pub none_from_hopeless : (packages : List Package) (root : List Requirement) (xs : List (Option Pick)) (q : Requirement) →
-    IsAsked root (release_at xs) q → All (IsHopeless packages root xs q.package) (releases_of packages q.package) →
+    IsNeeded root (release_at xs) q → All (IsHopeless packages root xs q.package) (releases_of packages q.package) →
     HasNoPlan packages root xs
 none_from_hopeless packages root xs q asked all f plan agrees =
-    let (r, e, fits) = plan.1 q (IsAsked-kept root q agrees asked) in
+    let (r, e, fits) = plan.1 q (IsNeeded-kept root q agrees asked) in
     All-contains (IsHopeless packages root xs q.package) _ r all (plan.0 q.package r e) f plan agrees e
+
+pub pick_at : (xs : List (Option Pick)) (i : ℕ) (item : Option Pick) (pick : Pick) → i < length xs → item ≡ get_or xs i item →
+    item ≡ Some pick → slice_index_or xs i None ≡ Some pick
+pick_at xs i item pick h e s = sym (get_or_read xs i item h e None) ∙ s
 
 pub release_at-item : (xs : List (Option Pick)) (i : ℕ) (item : Option Pick) (pick : Pick) → i < length xs →
     item ≡ get_or xs i item →
@@ -141,30 +141,45 @@ served_meets xs (Some pick) r q h e asked =
 pub MeetsAll-from_served : (root : List Requirement) (xs : List (Option Pick)) → All (IsMet (release_at xs)) root →
     All (IsServed xs) xs →
     MeetsAll root (release_at xs)
-MeetsAll-from_served root xs h served q (inl asked) = All-contains (IsMet (release_at xs)) root q h asked
-MeetsAll-from_served root xs h served q (inr (p, r, e, asked)) =
+MeetsAll-from_served root xs h served q (of_root s asked) = All-contains (IsMet (release_at xs)) root s h asked
+MeetsAll-from_served root xs h served q (of_release s t r n e asked) =
+    let p = t.package in
     let at : IsServed xs (slice_index_or xs p None) =
     elim (cases_lt p (length xs)) [ inl l ↦ served p None l | inr n ↦ rw (get_or_past xs p None n) tt ]
     in
-    served_meets xs (slice_index_or xs p None) r q at e asked
+    served_meets xs (slice_index_or xs p None) r s at e asked
 
 -- the package p is taken, and the requirement q on it is not met
 abbrev pub IsClash : List Requirement → List (Option Pick) → Pick → Requirement → Type 0
-IsClash root xs pick q = (Some pick ≡ slice_index_or xs q.package None) × IsAsked root (release_at xs) q
+IsClash root xs pick q = (Some pick ≡ slice_index_or xs q.package None) × IsNeeded root (release_at xs) q
     × ¬ (IsMet (release_at xs) q)
+
+-- what was picked is on the way to a plan
+begun : (packages : List Package) (root : List Requirement) (xs : List (Option Pick)) → IsPicked packages root xs →
+    IsBegun packages root (release_at xs)
+begun packages root xs s p r e = (s.choice p r e, at (slice_index_or xs p None) refl e)
+  where
+    at : (o : Option Pick) → slice_index_or xs p None ≡ o → option_map (λ pick. pick.release.now) o ≡ Some r →
+        (q : Requirement) × (q.package ≡ p) × IsNeeded root (release_at xs) q × IsMet (release_at xs) q
+    at None is t = absurd (none-some r t)
+    at (Some pick) is t = let (place, needed, met) = s.needed p pick is in (pick.requirement.now, place, needed, met)
+
+pub NeedsAll-from_picked : (packages : List Package) (root : List Requirement) (xs : List (Option Pick)) →
+    IsPicked packages root xs → NeedsAll root xs
+NeedsAll-from_picked packages root xs s p pick e = let (place, needed, met) = s.needed p pick e in (place, needed)
 
 pub IsConflict-from_clash : (packages : List Package) (root : List Requirement) (xs : List (Option Pick)) (pick : Pick) (q :
     Bor Requirement) →
     IsPicked packages root xs → IsClash root xs pick q.now → IsConflict packages root (Clash pick.requirement q)
 IsConflict-from_clash packages root xs pick q s (e, asked, unmet) =
-    let (place, also, met) = s.asked q.now.package pick (sym e) in
-    (release_at xs, s.choice, also, asked, place, met, unmet)
+    let (place, also, met) = s.needed q.now.package pick (sym e) in
+    (release_at xs, begun packages root xs s, also, asked, place, met, unmet)
 
 pub none_from_clash : (packages : List Package) (root : List Requirement) (xs : List (Option Pick)) (pick : Pick) (q :
     Requirement) →
     IsClash root xs pick q → HasNoPlan packages root xs
 none_from_clash packages root xs pick q (e, asked, unmet) f plan agrees =
-    let (r, t, fits) = plan.1 q (IsAsked-kept root q agrees asked) in
+    let (r, t, fits) = plan.1 q (IsNeeded-kept root q agrees asked) in
     let taken : release_at xs q.package ≡ Some pick.release.now = ap (option_map (λ p. p.release.now)) (sym e) in
     let same : pick.release.now ≡ r = same_Some _ _ (sym (agrees q.package pick.release.now taken) ∙ t) in
     unmet (pick.release.now, taken, rw same fits)
@@ -191,10 +206,10 @@ rejected_more (Some conflict) q rs i r h all here = tt
 
 pub IsConflict-found : (packages : List Package) (root : List Requirement) (xs : List (Option Pick)) (q : Bor Requirement) (o :
     Option Conflict) →
-    IsPicked packages root xs → IsAsked root (release_at xs) q.now →
+    IsPicked packages root xs → IsNeeded root (release_at xs) q.now →
     IfNone o (All (IsRejected q.now) (releases_of packages q.now.package)) →
     IfSome o (IsConflict packages root) → IsConflict packages root (unwrap_or o (Unmatched q))
-IsConflict-found packages root xs q None s asked rejected found = (release_at xs, s.choice, asked, rejected)
+IsConflict-found packages root xs q None s asked rejected found = (release_at xs, begun packages root xs s, asked, rejected)
 IsConflict-found packages root xs q (Some conflict) s asked rejected found = found
 
 pub Agrees-from_none : (xs : List (Option Pick)) (n : ℕ) (f : ℕ → Option Release) → xs ≡ replicate n None →
@@ -207,3 +222,6 @@ Agrees-from_none xs n f same p r e = absurd (none-some r (sym (ap (option_map (�
       | inr h ↦ get_or_past (replicate n None) p
           None (rw length-replicate h)
     ])
+
+pub at_item : (rs : List Release) (i : ℕ) (r : Release) → i < length rs → r ≡ get_or rs i r → slice_get rs i ≡ Some r
+at_item rs i r h e = slice_get-get_or rs i r h ∙ ap (λ (x : Release). Some x) (sym e)

@@ -1,9 +1,9 @@
 //! A resolver: a release of each package that is needed, so that every requirement is met.
 
-ghost use Rattle.uses.specs.Internal.Search.{IsUnmet, HasNoPlan};
+ghost use Rattle.uses.specs.Internal.Search.{HasNoPlan, IsUnmet, NeedsAll};
 ghost use Rattle.std.specs.Prelude.{◌≡◌, All, Contains, IfErr, IfNone, IfOk, IfSome};
 ghost use Rattle.std.specs.Prelude.{slice_index_or};
-ghost use Rattle.uses.specs.Resolver.{IsConflict, IsFailure, IsMet, IsPicked};
+ghost use Rattle.uses.specs.Resolver.{ArePicked, IsConflict, IsFailure, IsMet, IsPicked};
 ghost use Rattle.uses.specs.Resolver.{MeetsAll, release_at};
 
 use nodejs_semver::{Failure, Range, Version};
@@ -22,7 +22,7 @@ pub struct Requirement {
 /// A package of a registry.
 #[derive(Drop)]
 pub struct Package {
-    /// What was published of it, in the order in which the resolver tries it.
+    /// What was published of it, the release that is wanted most first: as a rule the newest.
     pub releases: Vec<Release>,
 }
 
@@ -53,8 +53,14 @@ pub enum Conflict<'a> {
 }
 
 /// A release for each package that is needed, at most one of a package, so that the requirements of
-/// the root and of each release that is taken are met. Returns `Refused` only if there is no such
-/// plan, with the last conflict that the search found.
+/// the root and of each release that is taken are met. No other package is taken. Releases are
+/// taken one after another, each the first of its package that some plan takes together with those
+/// taken before. Returns `Refused` only if there is no plan, with a conflict that the search found
+/// on the way to one.
+///
+/// npm asks this of peer dependencies. Of other dependencies it installs several releases of one
+/// package side by side, each in the folder of the package that requires it; so it may find a way
+/// where there is no plan here.
 pub fn resolve<'a>(
     alloc: Global,
     packages: &'a [Package],
@@ -62,6 +68,7 @@ pub fn resolve<'a>(
 ) -> Result<Vec<Option<Pick<'a>>>, Failure<Conflict<'a>>>
     ensures picked { IfOk result (λ picks. IsPicked packages.now root.now picks.items) }
     ensures met { IfOk result (λ picks. MeetsAll root.now (release_at picks.items)) }
+    ensures first { IfOk result (λ picks. ArePicked packages.now root.now picks.items) }
     ensures failure { IfErr result (IsFailure packages.now root.now) }
 {
     let mut picks = vec![in alloc; None; packages.len()]?;
@@ -77,8 +84,10 @@ fn search<'a>(
     root: &'a [Requirement],
     picks: &mut Vec<Option<Pick<'a>>>,
 ) -> Result<(), Conflict<'a>>
-    requires { IsPicked packages.now root.now picks.old.items }
+    requires picked { IsPicked packages.now root.now picks.old.items }
+    requires first { ArePicked packages.now root.now picks.old.items }
     ensures picked { IfOk result (λ _. IsPicked packages.now root.now picks.new.items) }
+    ensures first { IfOk result (λ _. ArePicked packages.now root.now picks.new.items) }
     ensures met { IfOk result (λ _. MeetsAll root.now (release_at picks.new.items)) }
     ensures same { IfErr result (λ _. picks.new.items ≡ picks.old.items) }
     ensures conflict { IfErr result (IsConflict packages.now root.now) }
@@ -113,6 +122,7 @@ fn search<'a>(
 
 // The first requirement, of the root or of a release that is taken, that is not met.
 fn first_unmet<'a>(root: &'a [Requirement], picks: &[Option<Pick<'a>>]) -> Option<&'a Requirement>
+    requires { NeedsAll root.now picks.now }
     ensures none { IfNone result (MeetsAll root.now (release_at picks.now)) }
     ensures some { IfSome result (λ q. IsUnmet root.now (release_at picks.now) q.now) }
 {

@@ -1,5 +1,7 @@
 mod documented;
+mod errors;
 mod laws;
+mod newest;
 
 use crate::index::Index;
 use crate::release::{self, Refusal};
@@ -67,9 +69,29 @@ fn the_newest_listed_version(rt: HostRuntime) -> Result<(), Fail> {
     Ok(())
 }
 
+// Whether the newest of so many versions is found.
+fn has_newest_of(alloc: Global, count: u64) -> Result<bool, Fail> {
+    let mut listed = Vec::new(alloc);
+    for patch in (0..count).rev() {
+        listed.push(Version::from((1u64, 0, patch)))?;
+    }
+    let index = Index::new(listed, Vec::new(alloc))?;
+    let newest = count.checked_sub(1).map(|patch| (1u64, 0, patch).into());
+    Ok(Range::any(alloc).is_ok_and(|range| index.newest(&range) == newest.as_ref()))
+}
+
+#[test]
+fn the_newest_of_many_versions(rt: HostRuntime) -> Result<(), Fail> {
+    for count in 0..40u64 {
+        assert!(rt; has_newest_of(rt.alloc(), count)?, "{count} versions");
+    }
+    Ok(())
+}
+
 // A version, a word and an identifier, and the next version or why there is none.
 const RELEASES: &[(&str, &str, Option<&str>, &str)] = &[
     ("1.2.3", "minor", None, "1.3.0"),
+    ("1.2.3-rc.1+b.2", "minor", None, "1.3.0+b.2"),
     ("1.2.3-alpha.1", "prerelease", Some("beta"), "1.2.3-beta.0"),
     (
         "1.2.3-b",
@@ -230,6 +252,37 @@ fn releases_for_all_requirements(rt: HostRuntime) -> Result<(), Fail> {
     let packages = registry(rt.alloc())?;
     for &(asked, told) in ASKED {
         assert!(rt; tells(rt.alloc(), &packages, asked, told)?, "{told}");
+    }
+    Ok(())
+}
+
+// Packages of one release, each of which requires the next package, and the last one the first.
+fn ring(alloc: Global, count: usize, last: &str) -> Result<Vec<Package>, Fail> {
+    let mut packages = Vec::new(alloc);
+    for next in 1..count {
+        packages.push(package(alloc, &[("1.0.0", &[(next, "^1")])])?)?;
+    }
+    packages.push(package(alloc, &[("1.0.0", &[(0, last)])])?)?;
+    Ok(packages)
+}
+
+// How many releases are taken if the root requires the first package, or that there is no plan.
+fn taken(alloc: Global, packages: &[Package]) -> Result<Option<usize>, Fail> {
+    let root = requirements(alloc, &[(0, "*")])?;
+    let picks = Failure::refused_as_none(resolve(alloc, packages, &root))?;
+    Ok(picks.map(|picks| picks.iter().flatten().count()))
+}
+
+fn taken_of_ring(alloc: Global, count: usize, last: &str) -> Result<Option<usize>, Fail> {
+    let packages = ring(alloc, count, last)?;
+    taken(alloc, &packages)
+}
+
+#[test]
+fn releases_of_many_packages(rt: HostRuntime) -> Result<(), Fail> {
+    for count in 1..41usize {
+        assert_eq!(rt; taken_of_ring(rt.alloc(), count, "^1")?, Some(count));
+        assert_eq!(rt; taken_of_ring(rt.alloc(), count, "^2")?, None);
     }
     Ok(())
 }

@@ -1,25 +1,18 @@
 -- What two lists of spans hold and accept: their intersection, and what one leaves of the other.
-use Rattle.std.proofs.Common.{◌≡◌, refl, sym, ◌∙◌, Bool, true, false, ◌&&◌, ◌||◌, not, if◌then◌else◌, List, []}
-use Rattle.std.proofs.Common.{◌∷◌, ◌++◌, Option, is_some, arith, option_to_list, is_gt, Ordering}
-use Rattle.std.proofs.Math.Bool.{and-true}
-use Rattle.std.proofs.lemmas.Bool.{and_cases, and_parts, not-false, not-true, or_left, or_parts, or_right}
-use Rattle.std.proofs.lemmas.List.Folds.{list_any-append}
-use Rattle.std.specs.Cmp.{IsTotalOrder}
-use Rattle.std.specs.List.{list_any, flat_map}
+use Rattle.nodejs_semver.proofs.Common.{◌≡◌, refl, sym, ◌∙◌, Bool, true, false, ◌&&◌, ◌||◌, not, if◌then◌else◌, List, [], ◌∷◌}
+use Rattle.nodejs_semver.proofs.Common.{◌++◌, Option, is_some, arith, option_to_list, is_gt, Ordering, and-true, and_parts}
+use Rattle.nodejs_semver.proofs.Common.{not-true, or_left, or_right, list_any-append, IsTotalOrder, list_any, between_parts, lt}
+use Rattle.nodejs_semver.proofs.Common.{remainders_by, turned_lower, turned_upper, Span, cut_cmp, lower_cut, upper_cut, is_past}
+use Rattle.nodejs_semver.proofs.Common.{is_interval, interval, holds, meet, left_below, left_above, Bound, precedence_total}
+use Rattle.nodejs_semver.proofs.Common.{if_any, list_holds, remainder, names, lets_in, accepts, precedence, VersionValue}
+use Rattle.nodejs_semver.proofs.Common.{is_release}
+use Rattle.std.proofs.lemmas.Bool.{and_cases, not-false, or_parts}
+use Rattle.std.specs.List.{flat_map}
 use Rattle.nodejs_semver.specs.Internal.Sets.{option_list_holds, option_accepts, meets_of, minus}
-use Rattle.semver_core.proofs.CutLaws.{between_parts, lt, option_holds-interval, option_holds-meet, past_below}
-use Rattle.semver_core.proofs.CutLaws.{remainders-hold, remainders_by, turned_lower, turned_upper}
+use Rattle.semver_core.proofs.CutLaws.{option_holds-interval, option_holds-meet, past_below, remainders-hold}
 use Rattle.nodejs_semver.proofs.Algebra.FlatMaps.{any_either, any_flat, any_pairs, any_same, any_weaker}
 use Rattle.nodejs_semver.proofs.Algebra.Gate.{both, lets_in-meet, names_above, names_below}
-use Rattle.semver_core.specs.Cuts.{Span, cut_cmp, lower_cut, upper_cut, is_past, is_interval, interval}
-use Rattle.semver_core.specs.Cuts.{holds, meet, left_below, left_above, option_holds}
-use Rattle.semver_core.specs.declared.cuts.bound.Bound.{Bound}
-use Rattle.semver_core.specs.Internal.OrderLaws.{precedence_total}
-use Rattle.semver_core.specs.Lists.{if_any}
-use Rattle.nodejs_semver.specs.Ranges.Algebra.{list_holds, remainder}
-use Rattle.nodejs_semver.specs.Ranges.Gate.{names, lets_in, accepts}
-use Rattle.semver_core.specs.Values.Order.{precedence}
-use Rattle.semver_core.specs.Values.Versions.{VersionValue, is_release}
+use Rattle.semver_core.specs.Cuts.{option_holds}
 
 -- ---- the points of lists
 
@@ -69,7 +62,7 @@ any_interval : (p : Span VersionValue → Bool) (s : Span VersionValue)
 any_interval p s = grind arith
 
 -- what is let in by what two spans have in common, one of them lets in
-lets_in_one : (s t : Span VersionValue) (v : VersionValue) → lets_in (both s t) v ≡ true → (lets_in s v || lets_in t v) ≡ true
+pub lets_in_one : (s t : Span VersionValue) (v : VersionValue) → lets_in (both s t) v ≡ true → (lets_in s v || lets_in t v) ≡ true
 lets_in_one s t v h =
     either (is_release v) (names s.lower v) (names s.upper v) (names t.lower v) (names t.upper v) _ _
     (picked (is_gt (cut_cmp precedence (lower_cut s.lower) (lower_cut t.lower))) s.lower t.lower)

@@ -1,25 +1,22 @@
 -- What is left of a list is what of each of its spans lies within what is left of the whole line.
-use Rattle.std.proofs.Common.{append_assoc, ap₂, ◌≡◌, refl, sym, ◌∙◌, ap, subst, ℕ, zero, suc, ◌+◌, ◌<◌, ◌≤◌, length}
-use Rattle.std.proofs.Common.{length-drop, get_or, take, drop, Bool, true, false, ◌&&◌, not, inl, inr, if◌then◌else◌}
-use Rattle.std.proofs.Common.{List, [], ◌∷◌, ◌++◌, Option, Some, None, is_some, arith, append-nil, take_all}
-use Rattle.std.proofs.Common.{get_or-drop, option_to_list, is_lt, Ordering}
-use Rattle.std.proofs.lemmas.Bool.{and_from, and_parts, cases_Bool, not-false}
+use Rattle.nodejs_semver.proofs.Common.{append_assoc, ap₂, ◌≡◌, refl, sym, ◌∙◌, ap, subst, ℕ, zero, suc, ◌+◌, ◌<◌, ◌≤◌, length}
+use Rattle.nodejs_semver.proofs.Common.{get_or, take, drop, Bool, true, false, ◌&&◌, not, inl, inr, if◌then◌else◌, List, [], ◌∷◌}
+use Rattle.nodejs_semver.proofs.Common.{◌++◌, Option, Some, None, is_some, arith, append-nil, take_all, option_to_list, Ordering}
+use Rattle.nodejs_semver.proofs.Common.{and_from, and_parts, cases_Bool, IsTotalOrder, list_all, between_parts, gt_lt, lt, not_if}
+use Rattle.nodejs_semver.proofs.Common.{one_way, remainders_by, turned_lower, turned_upper, clip, Span, Cut, Start, cut_cmp}
+use Rattle.nodejs_semver.proofs.Common.{lower_cut, upper_cut, is_interval, greater_lower, lesser_upper, remainder, Bound}
+use Rattle.nodejs_semver.proofs.Common.{Unbounded}
+use Rattle.std.proofs.Common.{length-drop, get_or-drop, is_lt}
+use Rattle.std.proofs.lemmas.Bool.{not-false}
 use Rattle.std.proofs.Math.Bool.{and-false}
 use Rattle.std.proofs.lemmas.Grind.{flat_map-append, fold-append}
-use Rattle.std.specs.Cmp.{IsTotalOrder}
-use Rattle.std.specs.List.{AllWithin, flat_map, list_all}
+use Rattle.std.specs.List.{AllWithin, flat_map}
 use Rattle.std.specs.List.Sorted.{IsPartitionedBy, IsPartitionPoint}
 use Rattle.nodejs_semver.specs.Internal.Sets.{minus}
-use Rattle.semver_core.proofs.CutLaws.{is_some-interval, between, below_lesser, below_upto, between_from, between_parts}
-use Rattle.semver_core.proofs.CutLaws.{gt_lt, irreflexive, lt, lt_trans, greater_below, not_above, not_below, not_if, one_way}
-use Rattle.semver_core.proofs.CutLaws.{remainders_by, turned_lower, turned_upper, upto_below}
+use Rattle.semver_core.proofs.CutLaws.{is_some-interval, between, below_lesser, below_upto, between_from, irreflexive, lt_trans}
+use Rattle.semver_core.proofs.CutLaws.{greater_below, not_above, not_below, upto_below}
 use Rattle.nodejs_semver.proofs.Algebra.FlatMaps.{flat_flat, flat_same}
 use Rattle.nodejs_semver.proofs.Dividing.RunLemmas.{greater_assoc, lesser_assoc}
-use Rattle.semver_core.specs.Clips.{clip}
-use Rattle.semver_core.specs.Cuts.{Span, Cut, Start, cut_cmp, lower_cut, upper_cut, is_interval, greater_lower, lesser_upper}
-use Rattle.nodejs_semver.specs.Ranges.Algebra.{remainder}
-use Rattle.semver_core.specs.declared.cuts.bound.Bound.{Bound}
-use Rattle.semver_core.specs.declared.cuts.bound.Bound.TheVariants.{Unbounded}
 use Rattle.nodejs_semver.specs.Internal.Along.{IsAlong}
 
 -- one element or none

@@ -1,20 +1,15 @@
 -- The gate: a bound that names a version, and a tighter one on the same side of it that the version still lies past, both name
 -- it.
-use Rattle.std.proofs.Common.{◌≡◌, refl, ◌∙◌, Bool, true, false, ◌||◌, inl, inr, arith, is_gt}
-use Rattle.std.proofs.lemmas.Bool.{cases_Bool, cond_both, not-true}
-use Rattle.std.specs.Cmp.{alike_right, first_so, second_so, tied_back}
+use Rattle.nodejs_semver.proofs.Common.{◌≡◌, refl, ◌∙◌, Bool, true, false, ◌||◌, inl, inr, arith, is_gt, cases_Bool, cond_both}
+use Rattle.nodejs_semver.proofs.Common.{not-true, alike_right, first_so, second_so, Near, gt_lt, lt, one_way, past_lt, Span}
+use Rattle.nodejs_semver.proofs.Common.{holds, Cut, Start, Beside, cut_cmp, lower_cut, upper_cut, is_past, greater_lower}
+use Rattle.nodejs_semver.proofs.Common.{lesser_upper, Bound, precedence_total, names, lets_in, precedence, VersionValue}
+use Rattle.nodejs_semver.proofs.Common.{is_release}
+use Rattle.std.specs.Cmp.{tied_back}
 use Rattle.std.specs.Ordering.{bool_cmp}
-use Rattle.semver_core.specs.Internal.Sides.{Near}
-use Rattle.semver_core.proofs.CutLaws.{gt_lt, lt, one_way, past_lt}
 use Rattle.nodejs_semver.proofs.Algebra.Triples.{named, named_from, named_parts, pre_upto, then_not_gt}
 use Rattle.nodejs_semver.proofs.Algebra.Triples.{triple_between, triple_total}
-use Rattle.semver_core.specs.Cuts.{Span, holds, Cut, Start, Beside, End, cut_cmp, lower_cut}
-use Rattle.semver_core.specs.Cuts.{upper_cut, is_past, greater_lower, lesser_upper}
-use Rattle.semver_core.specs.declared.cuts.bound.Bound.{Bound}
-use Rattle.semver_core.specs.Internal.OrderLaws.{precedence_total}
-use Rattle.nodejs_semver.specs.Ranges.Gate.{names, lets_in}
-use Rattle.semver_core.specs.Values.Order.{precedence}
-use Rattle.semver_core.specs.Values.Versions.{VersionValue, is_release}
+use Rattle.semver_core.specs.Cuts.{End}
 
 abbrev pub below : Cut VersionValue → Cut VersionValue → Bool
 below = lt precedence_total

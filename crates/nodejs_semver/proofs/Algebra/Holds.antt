@@ -1,18 +1,10 @@
 -- What a range text's intervals hold is what the text writes.
-use Rattle.std.proofs.Common.{◌≡◌, ℕ, List, [], ◌∷◌, refl, sym, ap₂, ◌∙◌, true, Bool, map, ◌||◌, flat_map, Ordering, arith}
-use Rattle.std.proofs.lemmas.List.Folds.{list_any-append}
-use Rattle.std.specs.Cmp.{IsTotalOrder}
-use Rattle.std.specs.List.{list_all, list_any}
-use Rattle.nodejs_semver.specs.Ranges.Algebra.{list_holds}
-use Rattle.semver_core.specs.Values.Order.{precedence}
-use Rattle.semver_core.specs.Internal.OrderLaws.{precedence_total}
-use Rattle.semver_core.specs.Values.Versions.{VersionValue}
+use Rattle.nodejs_semver.proofs.Common.{◌≡◌, ℕ, List, [], ◌∷◌, refl, sym, ap₂, ◌∙◌, true, Bool, map, ◌||◌, flat_map, Ordering}
+use Rattle.nodejs_semver.proofs.Common.{arith, list_any-append, IsTotalOrder, list_all, list_any, list_holds, precedence}
+use Rattle.nodejs_semver.proofs.Common.{precedence_total, VersionValue, Run, interval_of, is_empty, run_writes}
 use Rattle.nodejs_semver.specs.Internal.Denotes.{denotes, part_denotes}
 use Rattle.nodejs_semver.specs.Internal.Parts.{parts}
-use Rattle.nodejs_semver.specs.Text.Runs.{Run, interval_of}
-use Rattle.semver_core.specs.Lists.{is_empty}
 use Rattle.nodejs_semver.specs.Internal.Writes.{part_writes, writes}
-use Rattle.nodejs_semver.specs.Text.WrittenSet.{run_writes}
 use Rattle.nodejs_semver.proofs.Dividing.BarLemmas.{parts-front}
 use Rattle.nodejs_semver.proofs.Dividing.RunLemmas.{run-holds}
 

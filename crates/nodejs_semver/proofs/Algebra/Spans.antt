@@ -1,16 +1,11 @@
 -- What the set algebra makes of intervals whose bounds meet a test are such intervals again.
-use Rattle.std.proofs.Common.{◌≡◌, refl, ◌∙◌, Bool, true, ◌&&◌, List, [], ◌∷◌, ◌++◌, Some, None, option_to_list, is_gt, Ordering}
-use Rattle.std.proofs.Common.{arith}
-use Rattle.std.proofs.lemmas.Bool.{and_parts, cond_both}
-use Rattle.std.proofs.lemmas.List.Folds.{list_all-append}
-use Rattle.std.specs.Cmp.{IsTotalOrder}
-use Rattle.std.specs.List.{list_all, flat_map}
+use Rattle.nodejs_semver.proofs.Common.{◌≡◌, refl, ◌∙◌, Bool, true, ◌&&◌, List, [], ◌∷◌, ◌++◌, Some, None, option_to_list, is_gt}
+use Rattle.nodejs_semver.proofs.Common.{Ordering, arith, and_parts, cond_both, list_all-append, IsTotalOrder, list_all}
+use Rattle.nodejs_semver.proofs.Common.{remainders_by, turned_lower, turned_upper, Span, cut_cmp, lower_cut, upper_cut}
+use Rattle.nodejs_semver.proofs.Common.{is_interval, meet, left_below, left_above, Bound, remainder}
+use Rattle.std.specs.List.{flat_map}
 use Rattle.nodejs_semver.specs.Internal.Sets.{meets_of, minus}
-use Rattle.semver_core.proofs.CutLaws.{remainders_by, turned_lower, turned_upper}
 use Rattle.nodejs_semver.proofs.Algebra.FlatMaps.{all_flat, all_weaker}
-use Rattle.semver_core.specs.Cuts.{Span, cut_cmp, lower_cut, upper_cut, is_interval, meet, left_below, left_above}
-use Rattle.semver_core.specs.declared.cuts.bound.Bound.{Bound}
-use Rattle.nodejs_semver.specs.Ranges.Algebra.{remainder}
 
 module _ {V : Type 0} {R : V → V → Ordering} (o : IsTotalOrder R) (F : Bound V → Bool) where
   -- an interval with such bounds

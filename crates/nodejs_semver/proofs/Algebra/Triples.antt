@@ -1,12 +1,11 @@
 -- Tests of total orders, and the order of versions in two steps: by the three numbers, and then by the pre-release.
-use Rattle.std.proofs.Common.{◌≡◌, sym, ◌∙◌, ap, Bool, true, false, ◌&&◌, not, arith, Ordering, Equal}
-use Rattle.std.proofs.lemmas.Bool.{not-true}
+use Rattle.nodejs_semver.proofs.Common.{◌≡◌, sym, ◌∙◌, ap, Bool, true, false, ◌&&◌, not, arith, Ordering, Equal, not-true, not_if}
+use Rattle.nodejs_semver.proofs.Common.{tells, is_le, IsTotalOrder, precedence, VersionValue, is_release}
 use Rattle.nodejs_semver.specs.Internal.Sets.{same_triple}
-use Rattle.semver_core.proofs.CutLaws.{lt_not_gt, not_if, tells}
-use Rattle.std.specs.Ordering.{ordering_reverse, ordering_then, is_gt, is_eq, on, then_cmp, nat_cmp, is_lt, is_le}
-use Rattle.std.specs.Cmp.{IsTotalOrder, upto, on_total, then_total, nat_cmp_total, unsigned_ties, tied_then}
-use Rattle.semver_core.specs.Values.Order.{pre_cmp, precedence}
-use Rattle.semver_core.specs.Values.Versions.{VersionValue, is_release}
+use Rattle.semver_core.proofs.CutLaws.{lt_not_gt}
+use Rattle.std.specs.Ordering.{ordering_reverse, ordering_then, is_gt, is_eq, on, then_cmp, nat_cmp, is_lt}
+use Rattle.std.specs.Cmp.{upto, on_total, then_total, nat_cmp_total, unsigned_ties, tied_then}
+use Rattle.semver_core.specs.Values.Order.{pre_cmp}
 
 pub le_of_lt : (r : Ordering) → is_lt r ≡ true → is_le r ≡ true
 le_of_lt r h = (tells r).0 ∙ ap not (lt_not_gt r h)

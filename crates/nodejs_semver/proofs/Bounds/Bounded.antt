@@ -1,18 +1,16 @@
 -- What is read of bounds: no number is above the limit by more than one, and identifiers are what their texts spell.
-use Rattle.std.proofs.Common.{◌≡◌, ℕ, ◌≤◌, List, [], ◌∷◌, map, refl, true, Some, None, arith, Option}
-use Rattle.std.specs.List.{list_all}
-use Rattle.semver_core.specs.Text.Identifiers.{Id, IsIdentifiers, identifier_of, is_identifier, pieces}
+use Rattle.nodejs_semver.proofs.Common.{◌≡◌, ℕ, ◌≤◌, List, [], ◌∷◌, map, refl, true, Some, None, arith, Option, list_all, Id}
+use Rattle.nodejs_semver.proofs.Common.{AreComponents, Partial, Word, hyphen, malformed, plain, bind_some, same_Some, cond_some}
+use Rattle.semver_core.specs.Text.Identifiers.{IsIdentifiers, identifier_of, is_identifier, pieces}
 use Rattle.semver_core.specs.Printing.RoundTrip.{is_normal}
-use Rattle.nodejs_semver.specs.Text.PartialText.{AreComponents, IsComponent, Partial}
+use Rattle.nodejs_semver.specs.Text.PartialText.{IsComponent}
 use Rattle.nodejs_semver.specs.Internal.Words.{Reading, Sign, at_boundary, behind_sign, or_else, or_malformed}
 use Rattle.nodejs_semver.specs.Internal.Words.{sign_at, signed_word, upper_of, word_at, word_behind}
 use Rattle.nodejs_semver.specs.Internal.Fronts.{partial_front}
 use Rattle.semver_core.specs.Internal.Reading.{◌>>?◌}
-use Rattle.nodejs_semver.specs.Text.WordText.{Word, caret, compare, hyphen, malformed, plain, tilde}
+use Rattle.nodejs_semver.specs.Text.WordText.{caret, compare, tilde}
 use Rattle.semver_core.specs.Text.VersionText.{IsBuild, IsPreRelease}
 use Rattle.nodejs_semver.proofs.Reading.PartialLaw.{front-read}
-use Rattle.semver_core.proofs.Text.Texts.{bind_some}
-use Rattle.std.proofs.lemmas.Option.{same_Some, cond_some}
 
 -- ---- identifiers
 
@@ -23,7 +21,7 @@ runs-normal : (runs : List (List ℕ)) → list_all is_identifier runs ≡ true 
 runs-normal [] h = refl
 runs-normal (run ∷ rest) h = grind (arith, run-normal, runs-normal rest)
 
-identifiers-normal : (text : List ℕ) (ids : List Id) → IsIdentifiers text ids → list_all is_normal ids ≡ true
+pub identifiers-normal : (text : List ℕ) (ids : List Id) → IsIdentifiers text ids → list_all is_normal ids ≡ true
 identifiers-normal text ids h = rw h.spelled (runs-normal (pieces text) h.runs)
 
 pre_release-normal : (text rest : List ℕ) (ids : List Id) → IsPreRelease text rest ids → list_all is_normal ids ≡ true

@@ -1,24 +1,17 @@
 -- For proofs. The bounds of what is read are such as a range may have.
-use Rattle.std.proofs.Common.{◌≡◌, ℕ, zero, suc, ◌+◌, List, [], ◌∷◌, length, map, refl, Bool, true, arith}
-use Rattle.std.proofs.lemmas.Bool.{cond_both, and_from, and_parts}
-use Rattle.std.specs.Prelude.{flat_map, filter_map, if◌then◌else◌}
-use Rattle.std.specs.List.{AllByRecursion, list_all}
-use Rattle.std.proofs.lemmas.List.Folds.{list_all-append}
+use Rattle.nodejs_semver.proofs.Common.{◌≡◌, ℕ, zero, suc, ◌+◌, List, [], ◌∷◌, length, map, refl, Bool, true, arith, cond_both}
+use Rattle.nodejs_semver.proofs.Common.{and_from, and_parts, flat_map, if◌then◌else◌, AllByRecursion, list_all, list_all-append}
+use Rattle.nodejs_semver.proofs.Common.{Span, Bound, precedence, drop_spaces, VersionValue, Run, fits, interval_of, run_items}
+use Rattle.nodejs_semver.proofs.Common.{table, first_so, second_so}
+use Rattle.std.specs.Prelude.{filter_map}
 use Rattle.nodejs_semver.specs.Internal.Sets.{is_range_span}
-use Rattle.semver_core.specs.Cuts.{Span}
-use Rattle.semver_core.specs.declared.cuts.bound.Bound.{Bound}
-use Rattle.semver_core.specs.Values.Order.{precedence}
-use Rattle.semver_core.specs.Internal.Spaces.{drop_spaces}
-use Rattle.semver_core.specs.Values.Versions.{VersionValue}
 use Rattle.nodejs_semver.specs.Internal.Denotes.{denotes, part_bounds, part_denotes}
 use Rattle.nodejs_semver.specs.Ranges.View.{is_range_bound}
-use Rattle.nodejs_semver.specs.Text.Runs.{Run, fits, greatest_lower, interval_of, least_upper, run_items}
-use Rattle.nodejs_semver.specs.Text.Table.{table}
+use Rattle.nodejs_semver.specs.Text.Runs.{greatest_lower, least_upper}
 use Rattle.nodejs_semver.specs.Internal.Words.{word_at, words_within}
 use Rattle.nodejs_semver.proofs.Bounds.Bounded.{word-fine}
 use Rattle.nodejs_semver.proofs.Dividing.RunsDivide.{all-cons, part_divides}
 use Rattle.nodejs_semver.proofs.Bounds.TableRows.{are_bounds, table-bounded}
-use Rattle.std.specs.Cmp.{first_so, second_so}
 
 words-bounded : (limit n : ℕ) (text : List ℕ) → list_all (are_bounds (limit + 1)) (filter_map (table limit) (words_within limit n text)) ≡ true
 unfolding words_within

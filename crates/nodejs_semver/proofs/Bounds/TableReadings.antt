@@ -1,12 +1,8 @@
 -- For proofs. The bounds that the table gives a word that is no hyphen word make an interval.
-use Rattle.std.proofs.Common.{◌≡◌, ℕ, List, refl, sym, true, Some, Option, IfSome, arith}
-use Rattle.semver_core.specs.Cuts.{Span, interval, is_interval}
-use Rattle.semver_core.specs.Values.Order.{precedence}
-use Rattle.semver_core.specs.Values.Versions.{VersionValue}
+use Rattle.nodejs_semver.proofs.Common.{◌≡◌, ℕ, List, refl, sym, true, Some, Option, IfSome, arith, Span, interval, is_interval}
+use Rattle.nodejs_semver.proofs.Common.{precedence, VersionValue, table, Word}
 use Rattle.nodejs_semver.specs.Internal.CommonFronts.{part_read}
 use Rattle.nodejs_semver.specs.Internal.Readings.{bounds_view, table_view}
-use Rattle.nodejs_semver.specs.Text.Table.{table}
-use Rattle.nodejs_semver.specs.Text.WordText.{Word}
 use Rattle.nodejs_semver.specs.declared.readers.syntax.Bounds.{Bounds}
 use Rattle.nodejs_semver.proofs.Bounds.TableRows.{table-interval}
 

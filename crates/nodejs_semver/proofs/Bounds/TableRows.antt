@@ -1,24 +1,16 @@
 -- For proofs. What the rows of the word table give: intervals, whose bounds are such as a range may have.
-use Rattle.std.proofs.Common.{◌≡◌, ℕ, zero, suc, ◌≤◌, ◌+◌, List, refl, arith, Bool, true, Some, None, Less}
-use Rattle.std.specs.Prelude.{Option, ◌&&◌, unwrap_or}
-use Rattle.std.specs.Cmp.{tied_itself}
-use Rattle.std.specs.List.{list_all}
-use Rattle.semver_core.specs.Cuts.{Span, interval, is_interval}
-use Rattle.semver_core.specs.declared.cuts.bound.Bound.{Bound}
-use Rattle.semver_core.specs.declared.cuts.bound.Bound.TheVariants.{Before, After}
+use Rattle.nodejs_semver.proofs.Common.{◌≡◌, ℕ, zero, suc, ◌≤◌, ◌+◌, List, refl, arith, Bool, true, Some, None, Less, Option}
+use Rattle.nodejs_semver.proofs.Common.{◌&&◌, tied_itself, list_all, Span, interval, is_interval, Bound, Before, After, Id}
+use Rattle.nodejs_semver.proofs.Common.{precedence, precedence_total, above_patch, VersionValue, Partial, table, Word, hyphen}
+use Rattle.nodejs_semver.proofs.Common.{malformed, plain, and_from}
+use Rattle.std.specs.Prelude.{unwrap_or}
 use Rattle.semver_core.specs.Printing.RoundTrip.{is_normal, is_readable}
-use Rattle.semver_core.specs.Text.Identifiers.{Id}
-use Rattle.semver_core.specs.Values.Order.{precedence}
-use Rattle.semver_core.specs.Internal.OrderLaws.{precedence_total}
-use Rattle.semver_core.specs.Internal.Successors.{above_major, above_minor, above_patch}
-use Rattle.semver_core.specs.Values.Versions.{VersionValue, release_value}
-use Rattle.nodejs_semver.specs.Text.PartialText.{Partial}
+use Rattle.semver_core.specs.Internal.Successors.{above_major, above_minor}
+use Rattle.semver_core.specs.Values.Versions.{release_value}
 use Rattle.nodejs_semver.specs.Ranges.View.{is_range_bound}
-use Rattle.nodejs_semver.specs.Text.Table.{lowest, row, table, version_of, without_build}
-use Rattle.nodejs_semver.specs.Text.WordText.{Comparator, Word, at_most, below, caret, compare, equal}
-use Rattle.nodejs_semver.specs.Text.WordText.{hyphen, malformed, plain, tilde, above}
+use Rattle.nodejs_semver.specs.Text.Table.{lowest, row, version_of, without_build}
+use Rattle.nodejs_semver.specs.Text.WordText.{Comparator, at_most, below, caret, compare, equal, tilde, above}
 use Rattle.nodejs_semver.proofs.Bounds.Bounded.{Fine, FineWord, Fits}
-use Rattle.std.proofs.lemmas.Bool.{and_from}
 
 -- ---- the versions of the table
 

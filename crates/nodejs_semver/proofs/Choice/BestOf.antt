@@ -1,5 +1,5 @@
 -- The version that is found in a list is the best one of those in the set.
-use Rattle.std.proofs.Common.{arith, ◌<◌, ◌+◌, ℕ, length, take, get_or, subst, ◌≡◌, refl, sym, ◌∙◌, ap, Bool, true, false, ◌&&◌}
+use Rattle.std.proofs.Common.{arith, ◌<◌, ◌+◌, ℕ, length, take, get_or, subst, ◌≡◌, refl, sym, ◌∙◌, ap, Bool, true, false}
 use Rattle.std.proofs.Common.{◌||◌, not, if◌then◌else◌, inl, inr, List, [], ◌∷◌, ◌++◌, Option, Some, None, IfSome, IfNone, Bor}
 use Rattle.std.proofs.Common.{append_assoc, option_copied, map, Ordering, is_lt, is_le}
 use Rattle.std.proofs.lemmas.Bool.{and_from, cases_Bool, not-true}
@@ -12,7 +12,7 @@ use Rattle.nodejs_semver.proofs.Algebra.FlatMaps.{all_weaker}
 use Rattle.nodejs_semver.proofs.Values.{map-further}
 use Rattle.nodejs_semver.proofs.Algebra.Triples.{le_of_lt, le_trans, lt_is, lt_le}
 use Rattle.semver_core.specs.Internal.OrderLaws.{precedence_total}
-use Rattle.nodejs_semver.specs.Ranges.Best.{IsBest, IsMax, IsMin, Stands}
+use Rattle.nodejs_semver.specs.Ranges.Best.{IsBest, IsMax, IsMin, Stands, replaces}
 use Rattle.semver_core.specs.Values.Order.{precedence}
 use Rattle.semver_core.specs.Values.Versions.{VersionValue}
 
@@ -22,13 +22,8 @@ record Ranks {V : Type 0} (in_front behind : V → V → Bool) : Type 0 where
   pub weaker : (w b x : V) → in_front b x ≡ true → behind w b ≡ true → in_front w x ≡ true
   pub other : (b x : V) → in_front b x ≡ false → behind x b ≡ true
 
--- whether one more version behind the list takes the place of its best
-abbrev pub takes : {V : Type 0} → (V → V → Bool) → (V → Bool) → Option V → V → Bool
-takes in_front set None x = set x
-takes in_front set (Some b) x = in_front b x && set x
-
 module _ {V : Type 0} (in_front behind : V → V → Bool) (ranks : Ranks in_front behind) (set : V → Bool) (list : List V) where
-  one_more : (best : Option V) (x : V) (new : Bool) → new ≡ takes in_front set best x → IsBest in_front behind set list best
+  one_more : (best : Option V) (x : V) (new : Bool) → new ≡ replaces in_front set best x → IsBest in_front behind set list best
       → IsBest in_front behind set (list ++ x ∷ []) (if new then Some x else best)
   one_more None x new is h = rw is (elim (cases_Bool (set x)) [
     | inl s ↦ rw s (record
@@ -64,7 +59,7 @@ module _ {V : Type 0} (in_front behind : V → V → Bool) (ranks : Ranks in_fro
       ])
 
 pub max_more : (set : VersionValue → Bool) (list : List VersionValue) (best : Option VersionValue) (x : VersionValue) (new : Bool)
-    → new ≡ takes (λ b x. is_le (precedence b x)) set best x
+    → new ≡ replaces (λ b x. is_le (precedence b x)) set best x
     → IsMax set list best → IsMax set (list ++ x ∷ []) (if new then Some x else best)
 max_more = let o = precedence_total in one_more _ _ (record {
   passes = λ w b x t h. le_trans o w b x h t;
@@ -76,7 +71,7 @@ not_below : {V : Type 0} {R : V → V → Ordering} (o : IsTotalOrder R) (b x : 
 not_below o b x e = grind (arith, lt_is o x b)
 
 pub min_more : (set : VersionValue → Bool) (list : List VersionValue) (best : Option VersionValue) (x : VersionValue) (new : Bool)
-    → new ≡ takes (λ b x. is_lt (precedence x b)) set best x
+    → new ≡ replaces (λ b x. is_lt (precedence x b)) set best x
     → IsMin set list best → IsMin set (list ++ x ∷ []) (if new then Some x else best)
 min_more = let o = precedence_total in one_more _ _ (record {
   passes = λ w b x t h. lt_le o x b w t (le_of_lt (precedence b w) h);

@@ -1,23 +1,13 @@
 -- The least version that spans hold is the first past one of their lower cuts.
-use Rattle.std.proofs.Common.{◌≡◌, refl, ◌∙◌, ap, Bool, true, false, ◌&&◌, not, List, [], ◌∷◌, map}
-use Rattle.std.proofs.Common.{inl, inr, if◌then◌else◌, Option, IfSome, arith}
-use Rattle.std.specs.Ordering.{is_le, is_gt}
-use Rattle.std.proofs.lemmas.Bool.{and_from, or_cases, or_left, or_right}
+use Rattle.nodejs_semver.proofs.Common.{◌≡◌, refl, ◌∙◌, ap, Bool, true, false, ◌&&◌, not, List, [], ◌∷◌, map, inl, inr}
+use Rattle.nodejs_semver.proofs.Common.{if◌then◌else◌, Option, IfSome, arith, is_le, and_from, or_cases, or_left, or_right}
+use Rattle.nodejs_semver.proofs.Common.{list_any, first_so, tied_itself, alike_right, Near, Far, Span, holds, is_past, lower_cut}
+use Rattle.nodejs_semver.proofs.Common.{upper_cut, Beside, Bound, Unbounded, Before, After, precedence, precedence_total}
+use Rattle.nodejs_semver.proofs.Common.{VersionValue, is_release, above_patch, cut_total, tells, accepts, IsLeastOf}
+use Rattle.std.specs.Ordering.{is_gt}
 use Rattle.std.proofs.lemmas.List.Elements.{All-cons, All-nil}
-use Rattle.std.specs.List.{All, list_any}
-use Rattle.std.specs.Cmp.{first_so, tied_itself, alike_right}
-use Rattle.semver_core.specs.Internal.Sides.{Near, Far}
-use Rattle.semver_core.specs.Cuts.{Span, holds, is_past, lower_cut, upper_cut, Beside}
-use Rattle.semver_core.specs.declared.cuts.bound.Bound.{Bound}
-use Rattle.semver_core.specs.declared.cuts.bound.Bound.TheVariants.{Unbounded, Before, After}
-use Rattle.semver_core.specs.Values.Order.{precedence}
-use Rattle.semver_core.specs.Internal.OrderLaws.{precedence_total}
-use Rattle.semver_core.specs.Values.Versions.{VersionValue, is_release}
-use Rattle.semver_core.specs.Internal.Successors.{above_patch}
-use Rattle.semver_core.proofs.CutLaws.{cut_total, tells}
+use Rattle.std.specs.List.{All}
 use Rattle.semver_core.proofs.Values.NextLaws.{first_of_all, least_after_release}
-use Rattle.nodejs_semver.specs.Ranges.Gate.{accepts}
-use Rattle.nodejs_semver.specs.Ranges.Least.{IsLeastOf}
 use Rattle.nodejs_semver.specs.Internal.Candidates.{bare, first_pre, pre_after, patch_after, first_past, improves, least_of}
 use Rattle.nodejs_semver.proofs.Algebra.FlatMaps.{any_same, empty_is}
 use Rattle.nodejs_semver.proofs.Algebra.Triples.{triple_total}

@@ -1,32 +1,26 @@
 -- The first least version of a set among a list, which is the least of the set where each of its versions has one of the list
 -- below it.
-use Rattle.std.proofs.Common.{◌≡◌, refl, sym, ◌∙◌, ap, ap₂, subst, Bool, true, false, ◌&&◌, ◌||◌, not, List}
-use Rattle.std.proofs.Common.{[], ◌∷◌, ◌++◌, Option, Some, None, option_and_then, if◌then◌else◌, IfSome}
-use Rattle.std.proofs.Common.{◌<◌, ◌-◌, length, get_or, take, drop, arith}
-use Rattle.std.proofs.Math.Bool.{and-true, or-false}
-use Rattle.std.proofs.lemmas.Bool.{cond_both, or_parts}
-use Rattle.std.proofs.lemmas.List.{take_rest}
+use Rattle.nodejs_semver.proofs.Common.{◌≡◌, refl, sym, ◌∙◌, ap, ap₂, subst, Bool, true, false, ◌&&◌, ◌||◌, not, List, [], ◌∷◌}
+use Rattle.nodejs_semver.proofs.Common.{◌++◌, Option, Some, None, if◌then◌else◌, IfSome, ◌<◌, ◌-◌, length, get_or, take, drop}
+use Rattle.nodejs_semver.proofs.Common.{arith, and-true, cond_both, take_rest, first_so, tied_itself, alike_right, list_any}
+use Rattle.nodejs_semver.proofs.Common.{is_le, Near, Far, cut_total, Span, Cut, Start, Beside, holds, Bound, precedence_total}
+use Rattle.nodejs_semver.proofs.Common.{lets_in, accepts, IsLeastOf, least_build, Id, precedence, VersionValue, is_release}
+use Rattle.std.proofs.Common.{option_and_then}
+use Rattle.std.proofs.Math.Bool.{or-false}
+use Rattle.std.proofs.lemmas.Bool.{or_parts}
 use Rattle.std.proofs.lemmas.List.Elements.{All-append, All-from_recursion, All-head, All-nil, All-tail}
-use Rattle.std.specs.Cmp.{first_so, tied_itself, alike_right}
-use Rattle.std.specs.List.{All, find, flat_map, fold, list_any}
-use Rattle.std.specs.Ordering.{is_lt, is_le}
-use Rattle.semver_core.specs.Internal.Sides.{Near, Far}
-use Rattle.semver_core.proofs.CutLaws.{cut_total}
+use Rattle.std.specs.List.{All, find, flat_map, fold}
+use Rattle.std.specs.Ordering.{is_lt}
 use Rattle.semver_core.proofs.Values.NextLaws.{first_of_all}
 use Rattle.nodejs_semver.proofs.Algebra.FlatMaps.{any_same}
 use Rattle.nodejs_semver.proofs.Algebra.Triples.{le_of_lt, le_trans, lt_is, triple_total}
 use Rattle.nodejs_semver.proofs.Choice.LeastPieces.{candidate, lets_in_alike}
 use Rattle.nodejs_semver.proofs.Choice.Next.{next_patch_above, next_pre_above, release_above}
-use Rattle.semver_core.specs.Cuts.{Span, Cut, Start, Beside, holds}
-use Rattle.semver_core.specs.declared.cuts.bound.Bound.{Bound}
 use Rattle.nodejs_semver.specs.Internal.Candidates.{has_build, bare, after_cut, release_after, firsts, list_marks, removed_marks}
 use Rattle.nodejs_semver.specs.Internal.Candidates.{candidates, among, improves, better, least_of, is_reached, all_accept}
-use Rattle.semver_core.specs.Internal.OrderLaws.{precedence_total}
-use Rattle.nodejs_semver.specs.Ranges.Gate.{lets_in, accepts}
-use Rattle.nodejs_semver.specs.Ranges.Least.{IsLeastOf, beyond, begins_with, build_by, least_build}
-use Rattle.semver_core.specs.Text.Identifiers.{Id, Numeric}
-use Rattle.semver_core.specs.Values.Order.{precedence}
-use Rattle.semver_core.specs.Values.Versions.{VersionValue, is_release, release_value}
+use Rattle.nodejs_semver.specs.Ranges.Least.{beyond, begins_with, build_by}
+use Rattle.semver_core.specs.Text.Identifiers.{Numeric}
+use Rattle.semver_core.specs.Values.Versions.{release_value}
 
 module _ (set : VersionValue → Bool) where
   -- ---- what is best so far is in the set, and no version of it that was seen is below

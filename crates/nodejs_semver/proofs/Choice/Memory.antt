@@ -1,9 +1,7 @@
 -- When the least version of several ranges may need memory: what the search says of the first and of the others, said of all.
-use Rattle.std.proofs.Common.{◌≡◌, refl, subst, true, ◌⊎◌, ◌+◌, ◌-◌, ◌<◌, List, [], ◌∷◌, length, get_or, take, drop, arith, Any}
-use Rattle.std.proofs.lemmas.Grind.{common_steps}
-use Rattle.std.proofs.lemmas.List.{take_rest}
-use Rattle.semver_core.specs.Cuts.{Span}
-use Rattle.semver_core.specs.Values.Versions.{VersionValue}
+use Rattle.nodejs_semver.proofs.Common.{◌≡◌, refl, subst, true, ◌⊎◌, ◌+◌, ◌-◌, ◌<◌, List, [], ◌∷◌, length, get_or, take, drop}
+use Rattle.nodejs_semver.proofs.Common.{arith, common_steps, take_rest, Span, VersionValue}
+use Rattle.std.proofs.Common.{Any}
 use Rattle.nodejs_semver.specs.Internal.Candidates.{all_accept, BeginsAfterPre, Finds, MayAllocate}
 
 Any-here : {X : Type 0} (P : X → Type 0) (x : X) (xs : List X) → P x → Any P (x ∷ xs)

@@ -1,17 +1,12 @@
 -- What comes next after a version, and first of all.
-use Rattle.std.proofs.Common.{refl, ◌≡◌, sym, ◌∙◌, ap, ◌<◌, true, false, List, [], length, arith, is_gt, is_le, Ordering, Less}
-use Rattle.std.proofs.Common.{Equal}
-use Rattle.std.proofs.lemmas.Bool.{not-true}
-use Rattle.semver_core.proofs.CutLaws.{tells}
+use Rattle.nodejs_semver.proofs.Common.{refl, ◌≡◌, sym, ◌∙◌, ap, ◌<◌, true, false, List, [], length, arith, is_gt, Ordering, Less}
+use Rattle.nodejs_semver.proofs.Common.{Equal, not-true, tells, above_patch, is_empty, Id, precedence, VersionValue, is_release}
+use Rattle.std.proofs.Common.{is_le}
 use Rattle.semver_core.proofs.Values.NextLaws.{least_after_pre_release}
 use Rattle.nodejs_semver.proofs.Algebra.Triples.{triple_cmp, upto_by_both}
 use Rattle.nodejs_semver.specs.Internal.Candidates.{zero, bare_release, first_pre, pre_after, patch_after}
-use Rattle.semver_core.specs.Internal.Successors.{Below, above_patch, above_pre, below_cases, below_more}
+use Rattle.semver_core.specs.Internal.Successors.{Below, above_pre, below_cases, below_more}
 use Rattle.semver_core.specs.Internal.Successors.{upto_major, upto_minor, upto_patch, zero_least}
-use Rattle.semver_core.specs.Lists.{is_empty}
-use Rattle.semver_core.specs.Text.Identifiers.{Id}
-use Rattle.semver_core.specs.Values.Order.{precedence}
-use Rattle.semver_core.specs.Values.Versions.{VersionValue, is_release}
 
 pub le_not_gt : (r : Ordering) → is_le r ≡ true → is_gt r ≡ false
 le_not_gt r h = not-true _ (sym (tells r).0 ∙ h)

@@ -1,12 +1,8 @@
 -- A version that a range does not hold lies outside it exactly where each cut says so.
-use Rattle.std.proofs.Common.{◌≡◌, refl, ◌∙◌, ap, arith, ℕ, ◌+◌, Bool, true, false, ◌&&◌, ◌||◌, not, List, [], ◌∷◌}
-use Rattle.std.specs.List.{list_any, list_all}
-use Rattle.semver_core.specs.Cuts.{Span, is_interval, is_past, lower_cut, upper_cut, holds}
-use Rattle.semver_core.proofs.CutLaws.{is_past-down, one_way}
-use Rattle.semver_core.specs.Values.Order.{precedence}
-use Rattle.semver_core.specs.Internal.OrderLaws.{precedence_total}
-use Rattle.semver_core.specs.Values.Versions.{VersionValue}
-use Rattle.semver_core.specs.declared.cuts.bound.Bound.{Bound}
+use Rattle.nodejs_semver.proofs.Common.{◌≡◌, refl, ◌∙◌, ap, arith, ℕ, ◌+◌, Bool, true, false, ◌&&◌, ◌||◌, not, List, [], ◌∷◌}
+use Rattle.nodejs_semver.proofs.Common.{list_any, list_all, Span, is_interval, is_past, lower_cut, upper_cut, holds, one_way}
+use Rattle.nodejs_semver.proofs.Common.{precedence, precedence_total, VersionValue, Bound}
+use Rattle.semver_core.proofs.CutLaws.{is_past-down}
 use Rattle.nodejs_semver.specs.Ranges.Outside.{is_bounded, lies_below, lies_above, is_outside}
 use Rattle.nodejs_semver.specs.declared.range.outside.OutsideDirection.{OutsideDirection}
 use Rattle.nodejs_semver.specs.declared.range.outside.OutsideDirection.TheVariants.{Higher, Lower}

@@ -1,12 +1,9 @@
 -- The patch of a bound of a range can be raised.
-use Rattle.std.proofs.Common.{◌≡◌, ℕ, ◌-◌, ◌<◌, ◌^◌, true, List, arith, All}
-use Rattle.std.proofs.lemmas.Bool.{and_parts}
+use Rattle.nodejs_semver.proofs.Common.{◌≡◌, ℕ, ◌-◌, ◌<◌, true, List, arith, and_parts, Span, VersionValue, MAX_SAFE_INTEGER}
+use Rattle.std.proofs.Common.{◌^◌, All}
 use Rattle.std.proofs.lemmas.List.Elements.{All-weaker}
 use Rattle.std.proofs.lemmas.List.Sums.{AllPass-from_list_all}
 use Rattle.nodejs_semver.specs.Internal.Sets.{is_range_span}
-use Rattle.semver_core.specs.Cuts.{Span}
-use Rattle.semver_core.specs.Values.Versions.{VersionValue}
-use Rattle.semver_core.specs.declared.TheConstants.{MAX_SAFE_INTEGER}
 use Rattle.nodejs_semver.specs.Ranges.View.{IsRange}
 use Rattle.nodejs_semver.specs.Internal.Candidates.{IsRaisable}
 

@@ -1,23 +1,18 @@
 -- The least version of spans each of which begins with a version that it accepts.
-use Rattle.std.proofs.Common.{◌≡◌, sym, ◌∙◌, ap, subst, ℕ, ◌+◌, ◌<◌, Bool, true, false, ◌&&◌, ◌||◌, not, List, [], ◌∷◌, ◌++◌}
-use Rattle.std.proofs.Common.{Option, Some, None, length, get_or, take, inl, inr, refl, arith, is_le, is_lt}
+use Rattle.nodejs_semver.proofs.Common.{◌≡◌, sym, ◌∙◌, ap, subst, ℕ, ◌+◌, ◌<◌, Bool, true, false, ◌&&◌, ◌||◌, not, List, [], ◌∷◌}
+use Rattle.nodejs_semver.proofs.Common.{◌++◌, Option, Some, None, length, get_or, take, inl, inr, refl, arith, cond_both}
+use Rattle.nodejs_semver.proofs.Common.{or_cases, list_any-append, first_so, tied_itself, list_any, Near, not_if, tells, Span}
+use Rattle.nodejs_semver.proofs.Common.{holds, is_past, lower_cut, precedence_total, precedence, VersionValue, accepts, lets_in}
+use Rattle.nodejs_semver.proofs.Common.{least_build}
+use Rattle.std.proofs.Common.{is_le, is_lt}
 use Rattle.std.proofs.Math.Bool.{or-false}
-use Rattle.std.proofs.lemmas.Bool.{cond_both, false≢true, or_cases}
-use Rattle.std.proofs.lemmas.List.Folds.{find-append, list_any-append}
-use Rattle.std.specs.Cmp.{first_so, tied_itself}
-use Rattle.std.specs.List.{find, list_any}
+use Rattle.std.proofs.lemmas.Bool.{false≢true}
+use Rattle.std.proofs.lemmas.List.Folds.{find-append}
+use Rattle.std.specs.List.{find}
 use Rattle.std.specs.Option.{option_or}
-use Rattle.semver_core.specs.Internal.Sides.{Near}
-use Rattle.semver_core.proofs.CutLaws.{not_if, tells}
-use Rattle.semver_core.specs.Cuts.{Span, holds, is_past, lower_cut}
-use Rattle.semver_core.specs.Internal.OrderLaws.{precedence_total}
-use Rattle.semver_core.specs.Values.Order.{precedence}
-use Rattle.semver_core.specs.Values.Versions.{VersionValue}
 use Rattle.nodejs_semver.proofs.Algebra.FlatMaps.{take_next}
 use Rattle.nodejs_semver.proofs.Algebra.Triples.{le_trans, lt_is, lt_le, le_of_lt}
 use Rattle.nodejs_semver.specs.Internal.Candidates.{StartsWith, IsLeastBuilt, IsLeastSoFar, lesser}
-use Rattle.nodejs_semver.specs.Ranges.Gate.{accepts, lets_in}
-use Rattle.nodejs_semver.specs.Ranges.Least.{least_build}
 use Rattle.nodejs_semver.proofs.Algebra.Gate.{past_order}
 
 -- what the span accepts is not below its start

@@ -1,10 +1,11 @@
 -- Where the reader of numbers stops, the text is wrong there and has no version.
-use Rattle.std.proofs.Common.{◌≡◌, ◌<◌, ◌≤◌, ◌+◌, ◌-◌, ℕ, zero, suc, List, [], ◌∷◌, ◌++◌, length, drop, take, refl, sym, ap, ◌∙◌}
+use Rattle.std.proofs.Common.{◌≡◌, ◌<◌, ◌≤◌, ◌+◌, ◌*◌, ◌-◌, ℕ, zero, suc, List, [], ◌∷◌, ◌++◌, length, drop, take, refl, sym, ap, ◌∙◌}
 use Rattle.std.proofs.Common.{subst, arith, true, false, eqb, Some, append_assoc, length-append, length-drop, ◌==◌, ◌↔◌, IsUtf8}
 use Rattle.std.proofs.Common.{slice_range, Option, None, MatchOption, IfSome, get_or, inl, inr}
-use Rattle.std.specs.Char.{encode_utf8, is_ascii_digit}
-use Rattle.std.specs.Str.Parse.{digits_value}
-use Rattle.std.proofs.lemmas.Bool.{cases_Bool, eqb-true}
+use Rattle.std.specs.Char.{digit_value, encode_utf8, is_ascii_digit}
+use Rattle.std.specs.List.{list_all}
+use Rattle.std.specs.Str.Parse.{digits_value, digits_value_after}
+use Rattle.std.proofs.lemmas.Bool.{and_parts, cases_Bool, eqb-true}
 use Rattle.std.proofs.lemmas.Bool.Decides.{nat_tests}
 use Rattle.std.proofs.lemmas.List.{take-append-drop, drop-drop, drop_all, drop_more, take_rest}
 use Rattle.std.proofs.Math.Seq.{take-add, take-append_seam}
@@ -19,13 +20,14 @@ use Rattle.semver_core.specs.Text.Numbers.{IsNumber}
 use Rattle.semver_core.specs.Text.VersionText.{Reads}
 use Rattle.semver_core.specs.Values.Versions.{VersionValue}
 use Rattle.semver_core.specs.declared.TheConstants.{MAX_LENGTH}
-use Rattle.semver_core.proofs.Text.Pieces.{some_inside}
+use Rattle.semver_core.proofs.Text.Pieces.{digits_grow, some_inside}
 use Rattle.semver_core.proofs.Text.Texts.{build_complete, divided_at, mark_is, number_begins, pre_complete, triple_complete}
 use Rattle.semver_core.proofs.Text.Trims.{after_blank_drops_spaces}
 use Rattle.nodejs_semver.proofs.Reading.Progress.{spaces-gone}
 use Rattle.nodejs_semver.specs.Diagnosis.VersionFlaws.{BeginsGreat, IsExact, IsExpectedAt, IsFlaw, IsFront, IsGreatAt}
 use Rattle.nodejs_semver.specs.Internal.Stuck.{Stuck, begins_dot, at_great, at_digit, at_dot, later, IsWhole}
 use Rattle.nodejs_semver.proofs.Diagnosing.Numbers.{digits_once}
+use Rattle.nodejs_semver.proofs.Diagnosing.OneFlaw.{only_flaw}
 use Rattle.nodejs_semver.proofs.Diagnosing.Fronts.{Numeral, HasTail, Leads, Numbers, Place, begins_alike, first_numeral}
 use Rattle.nodejs_semver.proofs.Diagnosing.Fronts.{lead_place, next_place, numeral_begins, numeral_once}
 use Rattle.nodejs_semver.specs.declared.diagnosis.versions.VersionFlaw.{VersionFlaw}
@@ -88,6 +90,26 @@ no-dot-yet limit Starts front k p f =
     let w = subst (λ (t : List ℕ). IsWhole limit t) (append_assoc front (46 ∷ []) f.0) f.1 in
     no-digit limit Starts front k p (46 ∷ f.0) (p.dot f.0) refl w.0 w.1
 
+great-begins : (limit : ℕ) (d rest : List ℕ) → list_all is_ascii_digit d ≡ true → limit < digits_value 10 d
+    → begins is_ascii_digit (d ++ rest) ≡ true
+great-begins limit [] rest each above = absurd (omega arith)
+great-begins limit (c ∷ d) rest each above = (and_parts (is_ascii_digit c) (list_all is_ascii_digit d) each).0
+
+-- a whole run of digits is no less than digits at its front
+grown : (v : ℕ) (d e x y : List ℕ) → list_all is_ascii_digit d ≡ true → begins is_ascii_digit y ≡ false → d ++ x ≡ e ++ y
+    → digits_value_after 10 v d ≤ digits_value_after 10 v e
+grown v [] e x y each ended same = digits_grow v e
+grown v (c ∷ d) [] x y each ended same =
+    let digit = (and_parts (is_ascii_digit c) (list_all is_ascii_digit d) each).0 in
+    cc (sym ended ∙ (ap (λ (t : List ℕ). begins is_ascii_digit t) (sym same) ∙ digit))
+grown v (c ∷ d) (b ∷ e) x y each ended same =
+    let first : c ≡ b = ap (λ (t : List ℕ). get_or t 0 0) same in
+    let rest : d ++ x ≡ e ++ y = ap (λ (t : List ℕ). drop 1 t) same in
+    let more = grown (v * 10 + digit_value c) d e x y (and_parts (is_ascii_digit c) (list_all is_ascii_digit d) each).1
+    ended rest in
+    subst (λ (z : ℕ). digits_value_after 10 (v * 10 + digit_value c) d ≤ digits_value_after 10 (v * 10 + digit_value z) e)
+    first more
+
 no-great : (limit : ℕ) (Starts : List ℕ → Type 0) (front : List ℕ) (k : ℕ) → Place limit Starts front k → (text : List ℕ)
     → Starts text → BeginsGreat limit text → NoValue (Reads limit (front ++ text))
 no-great limit Starts front k p text s g = λ v r.
@@ -97,6 +119,19 @@ no-great limit Starts front k p text s g = λ v r.
     let same = digits_once g.digits m.digits g.rest found.0 g.each m.is.number.each g.ended m.is.ended
     (sym g.divided ∙ m.divided) in
     absurd (omega (arith, g.above, m.is.number.value, m.is.number.safe, ap (λ (d : List ℕ). digits_value 10 d) same.0))
+
+-- the digits of a number are not read as the front of another
+no-great-front : (limit : ℕ) (Starts : List ℕ → Type 0) (front : List ℕ) (k : ℕ) → Place limit Starts front k → (text : List ℕ)
+    → (g : BeginsGreat limit text) → IsFront limit (front ++ g.digits) → ⊥
+no-great-front limit Starts front k p text g f =
+    let whole = subst (λ (t : List ℕ). IsWhole limit t) (append_assoc front g.digits f.0) f.1 in
+    let begun = great-begins limit g.digits f.0 g.each g.above in
+    let tail = whole.1.pre_release ++ (whole.1.build ++ whole.1.rest) in
+    let found = first_numeral limit k (g.digits ++ f.0) tail
+    (p.only (g.digits ++ f.0) tail (p.digit (g.digits ++ f.0) begun) (whole.0, whole.1, refl)) in
+    let m = found.1 in
+    let most = grown 0 g.digits m.digits f.0 found.0 g.each m.is.ended m.divided in
+    absurd (omega (arith, g.above, m.is.number.value, m.is.number.safe, most))
 
 no-dot : (limit : ℕ) (Starts : List ℕ → Type 0) (front d : List ℕ) (n k : ℕ) → Place limit Starts front (suc k)
     → IsNumber limit d n → (text : List ℕ)
@@ -146,12 +181,15 @@ stuck_wrong limit text Starts k at flaw nine inside p s (at_great j a great) = r
   inside = inside;
   right = right-digit limit Starts (take a text) j nine p;
   great = great;
+  wrong = no-great-front limit Starts (take a text) j p (drop a text) great;
   none = here limit text a (no-great limit Starts (take a text) j p (drop a text) s great);
   no_dot = no-dot-yet limit Starts (take a text) j p;
+  begun = p.begun;
 }
 stuck_wrong limit text Starts k at flaw nine inside p s (at_digit j a none) = record {
   inside = inside;
   right = right-digit limit Starts (take a text) j nine p;
+  apart = none;
   wrong = λ c rest other e.
       no-digit limit Starts (take a text) j p (encode_utf8 c ++ other) (p.local c rest other (subst Starts e s))
       (begins_alike is_ascii_digit c other rest ∙ (ap (λ (t : List ℕ). begins is_ascii_digit t) (sym e) ∙ none));
@@ -165,6 +203,7 @@ stuck_wrong limit text Starts k at flaw nine inside p s (at_dot j a end found no
       inside = found.inside;
       right = λ c h. subst (λ (t : List ℕ). IsFront limit (t ++ c ∷ [])) (sym front)
           (right-dot limit Starts (take a text) m.piece found.n j nine p m.is.number c h);
+      apart = m.is.ended;
       wrong = λ c rest other e.
           subst (λ (t : List ℕ). NoValue (Reads limit (t ++ (encode_utf8 c ++ other)))) (sym front)
           (no-dot limit Starts (take a text) m.piece found.n j p m.is.number (encode_utf8 c ++ other)
@@ -246,6 +285,12 @@ IsDecided limit text found = MatchOption found (IsExact limit text) (λ flaw. Is
 pub decided : (limit : ℕ) (text : List ℕ) (found : Option VersionFlaw) → IsDecided limit text found
     → ((found ≡ None) ↔ IsExact limit text) × IfSome found (λ flaw. IsFlaw limit text flaw)
 decided limit text found h = grind arith
+
+pub decided_only : (limit : ℕ) (text : List ℕ) (found : Option VersionFlaw) → IsDecided limit text found → (flaw : VersionFlaw)
+    → IsFlaw limit text flaw → found ≡ Some flaw
+decided_only limit text found h = let d = decided limit text found h in only_flaw limit text found d.0 d.1
+
+pub ruleset flaws_decided = (decided, decided_only)
 
 -- what is left behind the identifiers at a place
 marked-left : (text : List ℕ) (at start : ℕ)

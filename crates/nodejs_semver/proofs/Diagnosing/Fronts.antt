@@ -1,9 +1,11 @@
 -- Which texts have a version, where so much of them was read.
 use Rattle.std.proofs.Common.{◌≡◌, ◌<◌, ℕ, zero, suc, List, [], ◌∷◌, ◌++◌, length, drop, refl, sym, ap, ◌∙◌}
-use Rattle.std.proofs.Common.{subst, arith, true, Bool, append_assoc, encode_utf8_all}
+use Rattle.std.proofs.Common.{subst, arith, true, false, not, Bool, append_assoc, encode_utf8_all, length-append}
 use Rattle.std.specs.Char.{encode_utf8, is_ascii_digit}
 use Rattle.std.specs.List.{list_all}
+use Rattle.std.proofs.lemmas.Bool.{and_from, and_parts}
 use Rattle.std.proofs.lemmas.Bool.Decides.{nat_tests}
+use Rattle.std.proofs.lemmas.List.Folds.{list_all-append}
 use Rattle.std.proofs.lemmas.Str.{char_from_byte, length-encode, len_utf8_bounds}
 use Rattle.nodejs_semver.specs.Internal.Stuck.{IsWhole}
 use Rattle.semver_core.specs.Internal.Reading.{mark_len}
@@ -49,6 +51,7 @@ pub record Place (limit : ℕ) (Starts : List ℕ → Type 0) (front : List ℕ)
   pub local : (c : ℕ) (rest other : List ℕ) → Starts (encode_utf8 c ++ rest) → Starts (encode_utf8 c ++ other)
   pub digit : (text : List ℕ) → begins is_ascii_digit text ≡ true → Starts text
   pub dot : (text : List ℕ) → Starts (46 ∷ text)
+  pub begun : (most : List ℕ) (c : ℕ) → front ≡ most ++ c ∷ [] → is_ascii_digit c ≡ false
   pub only : (text tail : List ℕ) → Starts text → HasTail limit (front ++ text) tail → Numbers limit k text tail
   pub whole : (text : List ℕ) → Numbers limit k text [] → IsWhole limit (front ++ text)
 
@@ -70,6 +73,44 @@ mark-alike : (c : ℕ) (rest other : List ℕ) → mark_len (encode_utf8 c ++ re
 mark-alike = alike mark_len (λ b x y. refl)
 
 -- ---- the mark and the whitespace
+
+-- two texts that are equal end alike
+last-is : (xs ys : List ℕ) (x y : ℕ) → xs ++ x ∷ [] ≡ ys ++ y ∷ [] → x ≡ y
+last-is [] [] x y e = cc
+last-is [] (b ∷ ys) x y e = absurd (omega (arith, ap length e, length-append ys (y ∷ [])))
+last-is (a ∷ xs) [] x y e = absurd (omega (arith, ap length e, length-append xs (x ∷ [])))
+last-is (a ∷ xs) (b ∷ ys) x y e = last-is xs ys x y (ap (λ (t : List ℕ). drop 1 t) e)
+
+abbrev is_dark : ℕ → Bool
+is_dark b = not (is_ascii_digit b)
+
+white-bytes : (c : ℕ) → is_whitespace c ≡ true → list_all is_dark (encode_utf8 c) ≡ true
+unfolding encode_utf8
+white-bytes c h = grind (arith, nat_tests)
+
+white-texts : (cs : List ℕ) → list_all is_whitespace cs ≡ true → list_all is_dark (encode_utf8_all cs) ≡ true
+white-texts [] h = refl
+white-texts (c ∷ cs) h =
+    let both = and_parts (is_whitespace c) (list_all is_whitespace cs) h in
+    list_all-append is_dark (encode_utf8 c) (encode_utf8_all cs)
+    ∙ and_from _ _ (white-bytes c both.0) (white-texts cs both.1)
+
+mark-dark : (mark : List ℕ) → IsMark mark → list_all is_dark mark ≡ true
+mark-dark mark no_mark = refl
+mark-dark mark small_mark = refl
+mark-dark mark capital_mark = refl
+
+-- no digit ends them
+lead-begun : (mark blank : List ℕ) → IsMark mark → IsBlank blank → (most : List ℕ) (c : ℕ) → mark ++ blank ≡ most ++ c ∷ []
+    → is_ascii_digit c ≡ false
+lead-begun mark blank m b most c e =
+    let dark : list_all is_dark (mark ++ blank) ≡ true =
+    list_all-append is_dark mark blank
+    ∙ and_from _ _ (mark-dark mark m) (rw b.spelled (white-texts b.characters b.each)) in
+    let all : list_all is_dark (most ++ c ∷ []) ≡ true = rw (← e) dark in
+    let last = and_parts (list_all is_dark most) (list_all is_dark (c ∷ []))
+    (sym (list_all-append is_dark most (c ∷ [])) ∙ all) in
+    grind (arith, last.1)
 
 white-unmarked : (c : ℕ) (rest : List ℕ) → is_whitespace c ≡ true → mark_len (encode_utf8 c ++ rest) ≡ 0
 white-unmarked c rest h = go (encode_utf8 c ++ rest) refl
@@ -115,7 +156,14 @@ Leads front text = (space_len text ≡ 0) × (front ≡ [] → mark_len text ≡
 -- behind the mark and the whitespace three numbers are right
 pub lead_place : (limit : ℕ) (mark blank : List ℕ) → IsMark mark → IsBlank blank
     → Place limit (Leads (mark ++ blank)) (mark ++ blank) 2
-lead_place limit mark blank m b = grind (arith, front_is_first_character, mark-alike, digit_starts, dot_starts, read, written)
+lead_place limit mark blank m b = record {
+  local = λ c rest other s. grind (arith, front_is_first_character, mark-alike, s);
+  digit = λ text h. let d = digit_starts text h in (d.0, λ e. d.1);
+  dot = λ text. (dot_starts text, λ e. refl);
+  begun = lead-begun mark blank m b;
+  only = read;
+  whole = written;
+}
   where
     read : (text tail : List ℕ) → Leads (mark ++ blank) text → HasTail limit ((mark ++ blank) ++ text) tail
         → Numbers limit 2 text tail
@@ -179,6 +227,7 @@ next_place limit Starts front d n k p number = record {
   local = λ c rest other s. tt;
   digit = λ text h. tt;
   dot = λ text. tt;
+  begun = λ most c e. ap is_ascii_digit (sym (last-is (front ++ d) most 46 c (append_assoc front d (46 ∷ []) ∙ e)));
   only = λ text tail s h.
       let found = p.only (d ++ 46 ∷ text) tail (p.digit (d ++ 46 ∷ text) (number_begins d (46 ∷ text) number.some number.each))
       (subst (λ (t : List ℕ). HasTail limit t tail) (joined text) h) in

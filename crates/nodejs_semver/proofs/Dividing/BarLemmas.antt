@@ -1,15 +1,14 @@
 -- The parts of a text, cut at its bars.
-use Rattle.semver_core.specs.Text.Characters.{begins}
-use Rattle.std.proofs.Common.{◌≡◌, ℕ, suc, ◌<◌, ◌≤◌, ◌+◌, List, [], ◌∷◌, length, drop, get_or, refl, arith, true}
-use Rattle.std.proofs.Common.{false, Some, None, inl, inr, subst, Option, nat_lt, IsCharBoundary, IsUtf8}
-use Rattle.std.proofs.lemmas.Bool.{eqb-true, cases_Bool, cases_lt, lt-ltb, le-ltb}
-use Rattle.std.proofs.lemmas.Str.{IsCharBoundary-after_ascii, IsCharBoundary-before_ascii}
+use Rattle.nodejs_semver.proofs.Common.{begins, ◌≡◌, ℕ, suc, ◌<◌, ◌≤◌, ◌+◌, List, [], ◌∷◌, length, drop, get_or, refl, arith}
+use Rattle.nodejs_semver.proofs.Common.{true, false, Some, None, inl, inr, subst, Option, IsUtf8, eqb-true, cases_Bool}
+use Rattle.nodejs_semver.proofs.Common.{IsCharBoundary-after_ascii, trim, second_so}
+use Rattle.std.proofs.Common.{nat_lt, IsCharBoundary}
+use Rattle.std.proofs.lemmas.Bool.{cases_lt, lt-ltb, le-ltb}
+use Rattle.std.proofs.lemmas.Str.{IsCharBoundary-before_ascii}
 use Rattle.std.proofs.lemmas.List.{drop_more, get_or-drop}
 use Rattle.nodejs_semver.specs.Internal.Parts.{cut_bars, parts}
 use Rattle.nodejs_semver.specs.Text.Bars.{is_bar}
-use Rattle.semver_core.specs.Internal.Spaces.{trim}
 use Rattle.nodejs_semver.specs.Internal.PartFronts.{bars_at, begins_bars, front_part, later_parts}
-use Rattle.std.specs.Cmp.{second_so}
 
 pub bars_fit : (text : List ℕ) → bars_at text ≤ length text
 unfolding bars_at

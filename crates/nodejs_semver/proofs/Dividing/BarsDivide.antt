@@ -1,11 +1,10 @@
 -- For proofs. A text has one division at its bars, which is the one that `cut_bars` computes.
-use Rattle.semver_core.specs.Text.Characters.{begins, ends}
-use Rattle.std.proofs.Math.Bool.{and-true}
-use Rattle.std.proofs.Common.{◌≡◌, ℕ, List, [], ◌∷◌, ◌++◌, refl, sym, ◌∙◌, inl, inr, true, false, subst, ◌&&◌, arith}
+use Rattle.nodejs_semver.proofs.Common.{begins, ends, and-true, ◌≡◌, ℕ, List, [], ◌∷◌, ◌++◌, refl, sym, ◌∙◌, inl, inr, true}
+use Rattle.nodejs_semver.proofs.Common.{false, subst, ◌&&◌, arith, and_parts, cases_Bool, eqb-true, IsCutAtBars}
 use Rattle.std.specs.List.{onto_first}
-use Rattle.std.proofs.lemmas.Bool.{and_parts, and_right, cases_Bool, eqb-true, or_from}
+use Rattle.std.proofs.lemmas.Bool.{and_right, or_from}
 use Rattle.nodejs_semver.specs.Internal.Parts.{cut_bars}
-use Rattle.nodejs_semver.specs.Text.Bars.{is_bar, IsCutAtBars, has_bars, more_pieces, one_piece}
+use Rattle.nodejs_semver.specs.Text.Bars.{is_bar, has_bars, more_pieces, one_piece}
 
 -- ---- no other division
 

@@ -1,29 +1,23 @@
 -- What a text denotes is its one meaning.
-use Rattle.std.proofs.Common.{◌≡◌, ℕ, zero, suc, ◌<◌, ◌≤◌, List, [], ◌∷◌, ◌++◌, length, get_or, refl, sym, ap, ◌∙◌, arith, true}
-use Rattle.std.proofs.Common.{false, inl, inr, subst, append-nil, length-append, ◌↔◌, IfNone, IfSome, IsSomeAnd, IsTrue, IsUtf8}
-use Rattle.std.proofs.Common.{Option, encode_utf8_all, map, filter_map, flat_map, encode_utf8, take_at, drop_at, ◌⊎◌, Result}
-use Rattle.std.specs.List.{AllByRecursion, list_all, list_any}
+use Rattle.nodejs_semver.proofs.Common.{◌≡◌, ℕ, zero, suc, ◌<◌, ◌≤◌, List, [], ◌∷◌, ◌++◌, length, get_or, refl, sym, ap, ◌∙◌}
+use Rattle.nodejs_semver.proofs.Common.{arith, true, false, inl, inr, subst, append-nil, length-append, ◌↔◌, IfSome, IsTrue}
+use Rattle.nodejs_semver.proofs.Common.{IsUtf8, Option, map, flat_map, ◌⊎◌, AllByRecursion, list_all, list_any, cases_Bool}
+use Rattle.nodejs_semver.proofs.Common.{and_from, list_all-append, IsUtf8-drop, IsCharBoundary-after_ascii, IsTrim, is_whitespace}
+use Rattle.nodejs_semver.proofs.Common.{Span, precedence, drop_spaces, space_len, trim, is_empty, if_any, VersionValue}
+use Rattle.nodejs_semver.proofs.Common.{IsCutAtBars, Run, table, Word}
+use Rattle.std.proofs.Common.{IfNone, IsSomeAnd, encode_utf8_all, filter_map, encode_utf8, take_at, drop_at, Result}
 use Rattle.semver_core.specs.Failures.{MemoryOnlyIf}
 use Rattle.semver_core.specs.declared.error.Failure.{Failure}
-use Rattle.std.proofs.lemmas.Bool.{cases_Bool, false_from_ne_true, and_from}
-use Rattle.std.proofs.lemmas.List.Folds.{list_all-append}
-use Rattle.std.proofs.lemmas.Str.{IsUtf8-drop, IsUtf8-take, IsCharBoundary-after_ascii, IsCharBoundary-before_ascii, len_utf8_bounds, length-encode}
-use Rattle.semver_core.specs.Text.Characters.{IsBlank, IsTrim, is_whitespace}
-use Rattle.semver_core.specs.Cuts.{Span}
-use Rattle.semver_core.specs.Values.Order.{precedence}
-use Rattle.semver_core.specs.Internal.Spaces.{drop_spaces, space_len, trim}
-use Rattle.semver_core.specs.Lists.{is_empty, if_any}
-use Rattle.semver_core.specs.Values.Versions.{VersionValue}
+use Rattle.std.proofs.lemmas.Bool.{false_from_ne_true}
+use Rattle.std.proofs.lemmas.Str.{IsUtf8-take, IsCharBoundary-before_ascii, len_utf8_bounds, length-encode}
+use Rattle.semver_core.specs.Text.Characters.{IsBlank}
 use Rattle.semver_core.proofs.Text.Trims.{middle_is_trim, trim_is_middle, trim_parts}
 use Rattle.nodejs_semver.specs.Internal.Denotes.{denotes, part_bounds, part_denotes, part_intervals}
 use Rattle.nodejs_semver.specs.Internal.Parts.{cut_bars, parts}
-use Rattle.nodejs_semver.specs.Text.Bars.{IsCutAtBars, more_pieces, one_piece}
+use Rattle.nodejs_semver.specs.Text.Bars.{more_pieces, one_piece}
 use Rattle.nodejs_semver.specs.Text.Meaning.{AreAllIntervals, AreWords, HasRuns, IsBlankText, Means, all_intervals}
 use Rattle.nodejs_semver.specs.Text.Meaning.{blank_piece, every_version, next_piece, next_word, no_piece, no_word}
-use Rattle.nodejs_semver.specs.Text.Runs.{Run}
 use Rattle.nodejs_semver.specs.Internal.RunsFrom.{runs_of}
-use Rattle.nodejs_semver.specs.Text.Table.{table}
-use Rattle.nodejs_semver.specs.Text.WordText.{Word}
 use Rattle.nodejs_semver.specs.Internal.Words.{word_at, words}
 use Rattle.nodejs_semver.proofs.Algebra.FlatMaps.{empty_is}
 use Rattle.nodejs_semver.proofs.Dividing.BarsDivide.{bars_divide, bars_once}
@@ -114,7 +108,7 @@ pieces-utf8 text pieces (more_pieces piece rest others h ended cut) u =
 
 -- ---- a piece is blank where nothing is left of it
 
-no_characters : (cs : List ℕ) → encode_utf8_all cs ≡ [] → cs ≡ []
+pub no_characters : (cs : List ℕ) → encode_utf8_all cs ≡ [] → cs ≡ []
 no_characters [] h = refl
 no_characters (c ∷ cs) h =
     absurd (omega (arith, ap length h, length-append (encode_utf8 c) (encode_utf8_all cs), length-encode c, (len_utf8_bounds c).0))

@@ -1,10 +1,6 @@
 -- The running intervals are those of the runs.
-use Rattle.std.proofs.Common.{◌≡◌, List, [], ◌∷◌, refl, sym, ap, ◌∙◌, true, false, map, inl, inr, Some, None, Option, Ordering}
-use Rattle.std.proofs.Common.{arith}
-use Rattle.std.specs.Cmp.{IsTotalOrder}
-use Rattle.std.proofs.lemmas.Bool.{cases_Bool}
-use Rattle.semver_core.specs.Cuts.{Span, meet}
-use Rattle.nodejs_semver.specs.Text.Runs.{Run, fits, interval_of}
+use Rattle.nodejs_semver.proofs.Common.{◌≡◌, List, [], ◌∷◌, refl, sym, ap, ◌∙◌, true, false, map, inl, inr, Some, None, Option}
+use Rattle.nodejs_semver.proofs.Common.{Ordering, arith, IsTotalOrder, cases_Bool, Span, meet, Run, fits, interval_of}
 use Rattle.nodejs_semver.specs.Internal.RunsFrom.{runs_from, runs_of, longer}
 use Rattle.nodejs_semver.specs.Internal.Meets.{joined, joined_from}
 use Rattle.nodejs_semver.proofs.Dividing.RunLemmas.{longer-is}

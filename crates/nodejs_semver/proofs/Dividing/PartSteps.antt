@@ -1,12 +1,8 @@
 -- One word of a part after another.
-use Rattle.std.proofs.Common.{◌≡◌, ℕ, ◌<◌, List, [], ◌∷◌, ◌++◌, length, ap, ◌∙◌, arith, Some, None, append_assoc, refl}
-use Rattle.std.proofs.Common.{length-append, Option, option_to_list}
+use Rattle.nodejs_semver.proofs.Common.{◌≡◌, ℕ, ◌<◌, List, [], ◌∷◌, ◌++◌, length, ap, ◌∙◌, arith, Some, None, append_assoc, refl}
+use Rattle.nodejs_semver.proofs.Common.{length-append, Option, option_to_list, Span, meet, precedence, precedence_total}
+use Rattle.nodejs_semver.proofs.Common.{VersionValue, space_len}
 use Rattle.std.specs.List.{cons_option}
-use Rattle.semver_core.specs.Cuts.{Span, meet}
-use Rattle.semver_core.specs.Values.Order.{precedence}
-use Rattle.semver_core.specs.Internal.OrderLaws.{precedence_total}
-use Rattle.semver_core.specs.Values.Versions.{VersionValue}
-use Rattle.semver_core.specs.Internal.Spaces.{space_len}
 use Rattle.nodejs_semver.specs.Internal.Words.{words, words_within}
 use Rattle.nodejs_semver.specs.Internal.Denotes.{part_bounds, part_intervals}
 use Rattle.nodejs_semver.specs.Internal.Meets.{joined, joined_from, next_at}

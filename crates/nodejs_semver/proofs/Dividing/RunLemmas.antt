@@ -1,16 +1,15 @@
 -- Runs: one word more, and what a run holds.
-use Rattle.std.proofs.Common.{◌≡◌, List, [], ◌∷◌, ◌++◌, refl, sym, ap₂, ◌∙◌, true, false, Bool, arith, Ordering, ◌&&◌, not}
-use Rattle.std.proofs.Common.{if◌then◌else◌, is_gt}
-use Rattle.std.specs.Cmp.{IsTotalOrder, upto}
-use Rattle.std.proofs.Math.Bool.{and-true, not-not}
-use Rattle.std.specs.List.{list_all}
+use Rattle.nodejs_semver.proofs.Common.{◌≡◌, List, [], ◌∷◌, ◌++◌, refl, sym, ap₂, ◌∙◌, true, false, Bool, arith, Ordering, ◌&&◌}
+use Rattle.nodejs_semver.proofs.Common.{not, if◌then◌else◌, is_gt, IsTotalOrder, and-true, list_all, Cut, Span, cut_cmp}
+use Rattle.nodejs_semver.proofs.Common.{greater_lower, holds, is_past, lesser_upper, lower_cut, upper_cut, Bound, between_parts}
+use Rattle.nodejs_semver.proofs.Common.{cut_total, gt_lt, past_lt, Run, fits, interval_of, run_writes}
+use Rattle.std.specs.Cmp.{upto}
+use Rattle.std.proofs.Math.Bool.{not-not}
 use Rattle.nodejs_semver.specs.Internal.RunsFrom.{longer}
-use Rattle.semver_core.specs.Cuts.{Cut, Span, cut_cmp, greater_lower, holds, is_past, lesser_upper, lower_cut, upper_cut}
-use Rattle.semver_core.specs.declared.cuts.bound.Bound.{Bound}
-use Rattle.semver_core.proofs.CutLaws.{between_parts, cut_total, gt_lt, lt_trans, past_lt}
+use Rattle.semver_core.proofs.CutLaws.{lt_trans}
 use Rattle.semver_core.proofs.CutLaws.{is_past-greater_lower, is_past-lesser_upper}
-use Rattle.nodejs_semver.specs.Text.Runs.{Run, fits, greatest_lower, interval_of, least_upper}
-use Rattle.nodejs_semver.specs.Text.WrittenSet.{is_above, is_below, run_writes}
+use Rattle.nodejs_semver.specs.Text.Runs.{greatest_lower, least_upper}
+use Rattle.nodejs_semver.specs.Text.WrittenSet.{is_above, is_below}
 
 -- the second of two where g says so
 later_assoc : {A : Type 0} (g : A → A → Bool) → ((x y z : A) → g x y ≡ true → g y z ≡ true → g x z ≡ true)

@@ -1,14 +1,12 @@
 -- What is made from the left is a division into runs.
-use Rattle.std.proofs.Common.{◌≡◌, ℕ, List, [], ◌∷◌, ◌++◌, refl, sym, ap, ◌∙◌, inl, inr, true, false, Bool}
-use Rattle.std.proofs.Common.{append_assoc, subst, Some, flat_map, filter_map, Option, Ordering, arith}
-use Rattle.std.specs.List.{AllByRecursion, list_all, cons_option}
-use Rattle.std.proofs.lemmas.Bool.{and_parts, cases_Bool}
-use Rattle.semver_core.specs.Cuts.{Span, is_interval}
-use Rattle.semver_core.specs.Values.Order.{precedence}
+use Rattle.nodejs_semver.proofs.Common.{◌≡◌, ℕ, List, [], ◌∷◌, ◌++◌, refl, sym, ap, ◌∙◌, inl, inr, true, false, Bool}
+use Rattle.nodejs_semver.proofs.Common.{append_assoc, subst, Some, flat_map, Option, Ordering, arith, AllByRecursion, list_all}
+use Rattle.nodejs_semver.proofs.Common.{and_parts, cases_Bool, Span, is_interval, precedence, table, Run, fits, run_items}
+use Rattle.std.proofs.Common.{filter_map}
+use Rattle.std.specs.List.{cons_option}
 use Rattle.nodejs_semver.specs.Internal.Denotes.{part_bounds}
-use Rattle.nodejs_semver.specs.Text.Table.{table}
 use Rattle.nodejs_semver.specs.Internal.Words.{words}
-use Rattle.nodejs_semver.specs.Text.Runs.{Run, fits, run_items, AreLongest, AreRuns}
+use Rattle.nodejs_semver.specs.Text.Runs.{AreLongest, AreRuns}
 use Rattle.nodejs_semver.specs.Internal.RunsFrom.{runs_from, runs_of, longer}
 use Rattle.nodejs_semver.proofs.Dividing.MeetLemmas.{runs-goes, runs-stops}
 use Rattle.nodejs_semver.proofs.Bounds.TableRows.{table-interval}

@@ -1,13 +1,8 @@
 -- A part has one division into runs, and it is the one that is made from the left.
-use Rattle.std.proofs.Common.{◌≡◌, List, [], ◌∷◌, ◌++◌, refl, sym, ap, ◌∙◌, true, append_assoc, append-nil, subst, flat_map}
-use Rattle.std.proofs.Common.{arith, Ordering}
-use Rattle.std.specs.List.{AllByRecursion}
-use Rattle.std.specs.Cmp.{IsTotalOrder}
-use Rattle.semver_core.specs.Cuts.{Span}
-use Rattle.semver_core.specs.Values.Order.{precedence}
-use Rattle.semver_core.specs.Internal.OrderLaws.{precedence_total}
-use Rattle.semver_core.specs.Values.Versions.{VersionValue}
-use Rattle.nodejs_semver.specs.Text.Runs.{Run, fits, run_items, AreLongest, AreRuns}
+use Rattle.nodejs_semver.proofs.Common.{◌≡◌, List, [], ◌∷◌, ◌++◌, refl, sym, ap, ◌∙◌, true, append_assoc, append-nil, subst}
+use Rattle.nodejs_semver.proofs.Common.{flat_map, arith, Ordering, AllByRecursion, IsTotalOrder, Span, precedence}
+use Rattle.nodejs_semver.proofs.Common.{precedence_total, VersionValue, Run, fits, run_items}
+use Rattle.nodejs_semver.specs.Text.Runs.{AreLongest, AreRuns}
 use Rattle.nodejs_semver.specs.Internal.RunsFrom.{runs_from, runs_of, longer}
 use Rattle.nodejs_semver.proofs.Dividing.RunLemmas.{fits-shrinks}
 use Rattle.nodejs_semver.proofs.Dividing.RunsDivide.{single}

@@ -1,9 +1,8 @@
 -- A trimmed text does not begin with whitespace.
-use Rattle.std.proofs.Common.{◌≡◌, ℕ, List, ap, ◌∙◌, false, encode_utf8_all, arith}
-use Rattle.semver_core.specs.Text.Characters.{IsTrim, begins, is_whitespace}
-use Rattle.semver_core.specs.Internal.Spaces.{space_len}
+use Rattle.nodejs_semver.proofs.Common.{◌≡◌, ℕ, List, ap, ◌∙◌, false, arith, IsTrim, begins, is_whitespace, space_len}
+use Rattle.nodejs_semver.proofs.Common.{space_len-nil}
+use Rattle.std.proofs.Common.{encode_utf8_all}
 use Rattle.semver_core.proofs.Text.SpaceLaw.{space_len-dark}
-use Rattle.semver_core.proofs.Text.Spaces.{space_len-nil}
 
 pub dark-starts : (characters : List ℕ) → begins is_whitespace characters ≡ false → space_len (encode_utf8_all characters) ≡ 0
 dark-starts characters h = grind (arith, space_len-nil, space_len-dark)

@@ -1,26 +1,18 @@
 -- What is computed of the versions that a text writes is what it writes.
-use Rattle.std.proofs.Common.{◌≡◌, ◌<◌, ℕ, zero, suc, List, [], ◌∷◌, length, get_or, ap, sym, ◌∙◌, true, false, inl}
-use Rattle.std.proofs.Common.{inr, Bool, arith, subst, ◌↔◌, IsTrue, IsUtf8, map}
-use Rattle.std.specs.List.{AllByRecursion, Any, list_any}
-use Rattle.std.proofs.lemmas.Bool.{cases_Bool, or_right}
+use Rattle.nodejs_semver.proofs.Common.{◌≡◌, ◌<◌, ℕ, zero, suc, List, [], ◌∷◌, length, get_or, ap, sym, ◌∙◌, true, false, inl}
+use Rattle.nodejs_semver.proofs.Common.{inr, Bool, arith, subst, ◌↔◌, IsTrue, IsUtf8, map, AllByRecursion, list_any, cases_Bool}
+use Rattle.nodejs_semver.proofs.Common.{or_right, trim, is_empty, precedence, VersionValue, Span, list_holds, accepts}
+use Rattle.nodejs_semver.proofs.Common.{IsCutAtBars, Run, run_writes}
+use Rattle.std.specs.List.{Any}
 use Rattle.std.proofs.lemmas.List.Folds.{Any-from_list_any, list_any-from_Any}
-use Rattle.semver_core.specs.Internal.Spaces.{trim}
-use Rattle.semver_core.specs.Lists.{is_empty}
-use Rattle.semver_core.specs.Values.Order.{precedence}
-use Rattle.semver_core.specs.Values.Versions.{VersionValue}
-use Rattle.semver_core.specs.Cuts.{Span}
 use Rattle.nodejs_semver.specs.Internal.Denotes.{denotes, part_bounds}
-use Rattle.nodejs_semver.specs.Ranges.Algebra.{list_holds}
-use Rattle.nodejs_semver.specs.Ranges.Gate.{accepts}
 use Rattle.nodejs_semver.proofs.Algebra.Accepting.{accepts-held}
 use Rattle.nodejs_semver.proofs.Algebra.FlatMaps.{list_any-map}
 use Rattle.nodejs_semver.proofs.Algebra.Holds.{denotes_hold}
 use Rattle.nodejs_semver.specs.Internal.Parts.{cut_bars}
 use Rattle.nodejs_semver.specs.Internal.RunsFrom.{runs_of}
 use Rattle.nodejs_semver.specs.Internal.Writes.{part_writes, writes}
-use Rattle.nodejs_semver.specs.Text.Bars.{IsCutAtBars}
-use Rattle.nodejs_semver.specs.Text.Runs.{Run}
-use Rattle.nodejs_semver.specs.Text.WrittenSet.{PieceWrites, Writes, run_writes}
+use Rattle.nodejs_semver.specs.Text.WrittenSet.{PieceWrites, Writes}
 use Rattle.nodejs_semver.proofs.Dividing.BarsDivide.{bars_divide, bars_once}
 use Rattle.nodejs_semver.proofs.Dividing.MeaningLaw.{blank-empty, empty-blank, has-runs, pieces-utf8, runs-once}
 

@@ -6,11 +6,12 @@ use Rattle.semver_core.specs.Cuts.{Span}
 use Rattle.semver_core.specs.Internal.Reading.{◌>>?◌}
 use Rattle.semver_core.specs.Lists.{if_any, is_empty}
 use Rattle.semver_core.specs.Values.Versions.{VersionValue}
-use Rattle.nodejs_semver.specs.Internal.CommonFronts.{after_bars, common_range, common_within, part_front, passed}
+use Rattle.nodejs_semver.specs.Internal.CommonFronts.{after_bars, common_parts, common_within, part_front, passed}
 use Rattle.nodejs_semver.specs.Text.Bars.{has_bars}
-use Rattle.nodejs_semver.specs.Text.Common.{IsCommonRange}
+use Rattle.nodejs_semver.specs.Text.Common.{AreCommonParts, IsCommonRange}
 use Rattle.nodejs_semver.proofs.Everyday.Bounds.{Added, behind, passed-none, passed-some}
-use Rattle.nodejs_semver.proofs.Everyday.Parts.{bars-sound, common_ranges_are_read, next-shorter, part-sound}
+use Rattle.nodejs_semver.proofs.Everyday.Texts.{list-some}
+use Rattle.nodejs_semver.proofs.Everyday.Parts.{bars-sound, common_parts_are_read, next-shorter, part-sound}
 
 abbrev HasBars : List ℕ → Type 0
 HasBars text = has_bars text ≡ true
@@ -25,7 +26,7 @@ behind-bars (b ∷ front) rest h =
 pub record Reaches (limit : ℕ) (text : List ℕ) (found : List (Span VersionValue)) (rest : List ℕ) : Type 0 where
   pub bytes : ℕ
   pub room : length rest ≤ bytes
-  pub whole : (common_within limit bytes rest >>? λ tail. Some (found ++ tail)) ≡ common_range limit text
+  pub whole : (common_within limit bytes rest >>? λ tail. Some (found ++ tail)) ≡ common_parts limit text
   pub some : (found ≡ []) ⊎ HasBars text
   pub within : HasBars rest → HasBars text
 
@@ -64,8 +65,8 @@ filled-of text h = grind arith
 
 -- no part, or no bars behind one: the text is no common one
 uncommon : (limit : ℕ) (text : List ℕ) (found : List (Span VersionValue)) (rest : List ℕ) (r : Reaches limit text found rest)
-    → common_within limit r.bytes rest ≡ None → NoValue (IsCommonRange limit text)
-uncommon limit text found rest r none = grind (arith, common_ranges_are_read)
+    → common_within limit r.bytes rest ≡ None → NoValue (AreCommonParts limit text)
+uncommon limit text found rest r none = grind (arith, common_parts_are_read)
 
 -- the reader was at a place, and its next step added a part
 pub record Step (limit : ℕ) (found new : List (Span VersionValue)) (rest left : List ℕ) : Type 0 where
@@ -78,21 +79,21 @@ added-by : (limit : ℕ) (found new : List (Span VersionValue)) (rest left : Lis
 added-by limit found new rest left s = passed-some found new (part_front limit rest) s.after left s.added s.there
 
 pub loop-no_part : (limit : ℕ) (text : List ℕ) (found new : List (Span VersionValue)) (rest : List ℕ) (after : Option (List ℕ)) → behind after new ≡ passed found (part_front limit rest)
-    → after ≡ None → Reaches limit text found rest → NoValue (IsCommonRange limit text)
+    → after ≡ None → Reaches limit text found rest → NoValue (AreCommonParts limit text)
 loop-no_part limit text found new rest after h e r =
     uncommon limit text found rest r (stops-part limit r.bytes rest (passed-none found new (part_front limit rest) after h e))
 
 pub loop-no_bars : (limit : ℕ) (text : List ℕ) (found new : List (Span VersionValue)) (rest left : List ℕ) → Step limit found new rest left → 0 < length left → after_bars left ≡ None
-    → Reaches limit text found rest → NoValue (IsCommonRange limit text)
+    → Reaches limit text found rest → NoValue (AreCommonParts limit text)
 loop-no_bars limit text found new rest left s some bars r =
     let a = added-by limit found new rest left s in
     uncommon limit text found rest r (stops-bars limit r.bytes rest left a.interval_is a.found (filled-of left some) bars)
 
 pub loop-ends : (limit : ℕ) (text : List ℕ) (found new : List (Span VersionValue)) (rest left : List ℕ) → Step limit found new rest left → length left ≡ 0
-    → Reaches limit text found rest → IsCommonRange limit text new
+    → Reaches limit text found rest → AreCommonParts limit text new
 loop-ends limit text found new rest left s none r =
     let a = added-by limit found new rest left s in
-    grind (arith, ends-there, common_ranges_are_read)
+    grind (arith, ends-there, common_parts_are_read)
 
 -- bars stand behind a part
 bars-there : (limit : ℕ) (rest left next : List ℕ) (s : Span VersionValue) → part_front limit rest ≡ Some (s, left)
@@ -113,7 +114,7 @@ loop-bars limit text found new rest left next s bars r =
 pub common_so : (P : List (Span VersionValue) → Type 0) (limit : ℕ) (text : List ℕ) (list : List (Span VersionValue))
     → IsCommonRange limit text list → IsSomeAnd (if_any list) P
     → (r : List (Span VersionValue)) × IsCommonRange limit text r × P r
-common_so P limit text [] is h = elim is [ ]
+common_so P limit text [] is h = absurd (omega (arith, list-some limit text [] is.parts))
 common_so P limit text (s ∷ list) is h = (s ∷ list, is, h)
 
 pub loop-goes : (limit : ℕ) (text : List ℕ) (found new : List (Span VersionValue)) (rest left next : List ℕ)

@@ -8,10 +8,10 @@ use Rattle.semver_core.specs.Cuts.{Span, meet}
 use Rattle.semver_core.specs.Values.Order.{precedence}
 use Rattle.semver_core.specs.Lists.{is_empty}
 use Rattle.semver_core.specs.Values.Versions.{VersionValue}
-use Rattle.nodejs_semver.specs.Internal.CommonFronts.{after_bars, after_gap, bare_front, begins_dash, begins_second, caret_front, common_range, common_within, comparison_front, comparisons_front, is_sign, onto, part_front, part_read, partials_front, tilde_front, word_read}
-use Rattle.nodejs_semver.specs.Text.Common.{IsBare, IsCommonPart, IsCommonRange, IsCommonWord, IsComparison, IsGap, caret_word, compare_word, comparison, hyphen_word, more_parts, one_part, one_word, plain_word, tilde_greater_word, tilde_word, two_comparisons}
+use Rattle.nodejs_semver.specs.Internal.CommonFronts.{after_bars, after_gap, bare_front, begins_dash, begins_second, caret_front, common_parts, common_range, common_within, comparison_front, comparisons_front, is_sign, onto, part_front, part_read, partials_front, tilde_front, word_read}
+use Rattle.nodejs_semver.specs.Text.Common.{AreCommonParts, IsCommonPart, IsCommonRange, IsCommonWord, IsComparison, IsGap, caret_word, compare_word, comparison, hyphen_word, more_parts, one_part, one_word, plain_word, tilde_greater_word, tilde_word, two_comparisons}
 use Rattle.nodejs_semver.specs.Internal.Fronts.{after_byte, Front}
-use Rattle.nodejs_semver.specs.Text.PartialText.{Partial}
+use Rattle.nodejs_semver.specs.Text.PartialText.{AreComponents, Partial}
 use Rattle.semver_core.specs.Internal.Reading.{◌>>?◌}
 use Rattle.nodejs_semver.specs.Text.Table.{table}
 use Rattle.nodejs_semver.specs.Text.WordText.{IsSign, above_sign, at_least_sign, at_most_sign, below_sign, equal_sign, Comparator}
@@ -80,7 +80,7 @@ caret-sound limit text r h =
     rw (← same_Some _ _ p.2) (94 ∷ b.0, rw (← b.1) refl, caret_word b.0 p.0.0 b.2)
 
 -- what stands behind a tilde
-tilde-by : (limit : ℕ) (text : List ℕ) (p : Partial) (x more : List ℕ) → (tilde_sign text).1 ≡ x ++ more → IsBare limit x p
+tilde-by : (limit : ℕ) (text : List ℕ) (p : Partial) (x more : List ℕ) → (tilde_sign text).1 ≡ x ++ more → AreComponents limit x p
     → Worded limit (126 ∷ text) (tilde (tilde_sign text).0 p, more)
 tilde-by limit text p x more e h = elim (tilde-cases text) [
   | inl alone ↦ rw alone (126 ∷ x, ap (λ (t : List ℕ). 126 ∷ t) (rw alone at e), tilde_word x p h)
@@ -252,18 +252,18 @@ bars-exact before after next b a h = grind (arith, nat_tests)
 
 -- ---- all parts
 
-range-begins : (limit : ℕ) (text : List ℕ) (list : List (Span VersionValue)) → IsCommonRange limit text list → begins is_solid text ≡ true
+range-begins : (limit : ℕ) (text : List ℕ) (list : List (Span VersionValue)) → AreCommonParts limit text list → begins is_solid text ≡ true
 range-begins limit text list h = grind (arith, part-tidy)
 
 -- the last part
 last-sound : (limit : ℕ) (text : List ℕ) (s : Span VersionValue) (more : List ℕ) → part_front limit text ≡ Some (s, more)
-    → is_empty more ≡ true → IsCommonRange limit text (s ∷ [])
+    → is_empty more ≡ true → AreCommonParts limit text (s ∷ [])
 last-sound limit text s more h e = grind (arith, part-sound, append-nil, one_part)
 
 -- a part before others
 next-sound : (limit : ℕ) (text : List ℕ) (s : Span VersionValue) (more next : List ℕ) (list : List (Span VersionValue))
-    → part_front limit text ≡ Some (s, more) → after_bars more ≡ Some next → IsCommonRange limit next list
-    → IsCommonRange limit text (s ∷ list)
+    → part_front limit text ≡ Some (s, more) → after_bars more ≡ Some next → AreCommonParts limit next list
+    → AreCommonParts limit text (s ∷ list)
 next-sound limit text s more next list h k r =
     let b = bars-sound more next k in
     grind (arith, part-sound, more_parts)
@@ -278,7 +278,7 @@ next-shorter limit text s more next h k =
 gap-filled : (gap rest : List ℕ) → IsGap gap → is_empty (gap ++ 124 ∷ rest) ≡ false
 gap-filled gap rest h = grind arith
 
-within-sound : (limit n : ℕ) (text : List ℕ) (list : List (Span VersionValue)) → common_within limit n text ≡ Some list → IsCommonRange limit text list
+within-sound : (limit n : ℕ) (text : List ℕ) (list : List (Span VersionValue)) → common_within limit n text ≡ Some list → AreCommonParts limit text list
 unfolding common_within
 within-sound limit zero text list h = cc h
 within-sound limit (suc n) text list h =
@@ -295,7 +295,7 @@ within-sound limit (suc n) text list h =
           rw (← e) (next-sound limit text p.0.0 p.0.1 next.0 tail.0 p.1 next.1 (within-sound limit n next.0 tail.0 tail.1))
     ]
 
-within-exact : (limit n : ℕ) (text : List ℕ) (list : List (Span VersionValue)) → length text ≤ n → IsCommonRange limit text list → common_within limit n text ≡ Some list
+within-exact : (limit n : ℕ) (text : List ℕ) (list : List (Span VersionValue)) → length text ≤ n → AreCommonParts limit text list → common_within limit n text ≡ Some list
 unfolding common_within
 within-exact limit zero text list l h = grind (arith, range-begins)
 within-exact limit (suc n) text list l (one_part part s is) =
@@ -308,5 +308,8 @@ within-exact limit (suc n) text list l (more_parts part before after rest s othe
     let less = next-shorter limit (part ++ (before ++ 124 ∷ behind)) s (before ++ 124 ∷ behind) rest found bars in
     rw (found, gap-filled before behind b, bars, within-exact limit n rest others (omega arith) more) refl
 
+pub common_parts_are_read : (limit : ℕ) (text : List ℕ) (list : List (Span VersionValue)) → (common_parts limit text ≡ Some list) ↔ AreCommonParts limit text list
+common_parts_are_read limit text list = (within-sound limit (length text) text list, within-exact limit (length text) text list (omega arith))
+
 pub common_ranges_are_read : (limit : ℕ) (text : List ℕ) (list : List (Span VersionValue)) → (common_range limit text ≡ Some list) ↔ IsCommonRange limit text list
-common_ranges_are_read limit text list = (within-sound limit (length text) text list, within-exact limit (length text) text list (omega arith))
+common_ranges_are_read limit text list = grind (arith, common_parts_are_read)

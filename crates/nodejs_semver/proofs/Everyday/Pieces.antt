@@ -1,27 +1,26 @@
 -- A partial of a common text is read exactly, whatever may follow it there.
-use Rattle.std.proofs.Common.{arith, ◌≡◌, ℕ, List, ◌++◌, refl, ap, ◌∙◌, true, Some, Option}
+use Rattle.std.proofs.Common.{arith, ◌≡◌, ℕ, List, ◌++◌, ap, ◌∙◌, true, Some, Option}
 use Rattle.semver_core.specs.Internal.Reading.{◌>>?◌}
-use Rattle.nodejs_semver.specs.Internal.CommonFronts.{bare_front, unbuilt}
+use Rattle.nodejs_semver.specs.Internal.CommonFronts.{bare_front}
 use Rattle.nodejs_semver.specs.Internal.Fronts.{dotted_front, Front, minor_front}
-use Rattle.nodejs_semver.specs.Text.Common.{IsBare}
-use Rattle.nodejs_semver.specs.Text.PartialText.{Partial}
+use Rattle.nodejs_semver.specs.Text.PartialText.{AreComponents, Partial}
 use Rattle.nodejs_semver.proofs.Reading.Bytes.{begins_component}
 use Rattle.nodejs_semver.proofs.Reading.Components.{components-begin, components-read, components-then}
 use Rattle.nodejs_semver.proofs.Reading.Quiet.{Stop, quiet-before}
 
-pub bare-begins : (limit : ℕ) (x : List ℕ) (p : Partial) → IsBare limit x p → begins_component x ≡ true
-bare-begins limit x p h = components-begin limit x p h.components
+pub bare-begins : (limit : ℕ) (x : List ℕ) (p : Partial) → AreComponents limit x p → begins_component x ≡ true
+bare-begins limit x p h = components-begin limit x p h
 
 -- it is read at the front
-pub bare-exact : (limit : ℕ) (x more : List ℕ) (p : Partial) → IsBare limit x p → Stop more → bare_front limit (x ++ more) ≡ Some (p, more)
+pub bare-exact : (limit : ℕ) (x more : List ℕ) (p : Partial) → AreComponents limit x p → Stop more → bare_front limit (x ++ more) ≡ Some (p, more)
 unfolding bare_front
 bare-exact limit x more p h stop =
-    let a = components-then limit x more p h.components (quiet-before x more stop.digit) in
-    ap (λ (o : Front (Option ℕ)). o >>? λ a. unbuilt (minor_front limit a.0 a.1 (dotted_front limit a.1))) a.1
-    ∙ (ap (λ (q : Partial × List ℕ). unbuilt q) (a.2.exact stop) ∙ rw h.no_build refl)
+    let a = components-then limit x more p h (quiet-before x more stop.digit) in
+    ap (λ (o : Front (Option ℕ)). o >>? λ a. Some (minor_front limit a.0 a.1 (dotted_front limit a.1))) a.1
+    ∙ ap (λ (q : Partial × List ℕ). Some q) (a.2.exact stop)
 
 -- and what is read there is one
 pub bare-sound : (limit : ℕ) (text : List ℕ) (p : Partial) (more : List ℕ) → bare_front limit text ≡ Some (p, more) → (x : List ℕ)
-    × (text ≡ x ++ more) × IsBare limit x p
+    × (text ≡ x ++ more) × AreComponents limit x p
 unfolding bare_front
 bare-sound limit text p more h = grind (arith, components-read)

@@ -10,7 +10,7 @@ use Rattle.semver_core.specs.Internal.Spaces.{after_spaces, drop_end_spaces, dro
 use Rattle.semver_core.specs.Lists.{is_empty}
 use Rattle.semver_core.specs.Values.Versions.{VersionValue}
 use Rattle.semver_core.proofs.Text.Spaces.{drop_spaces-none}
-use Rattle.nodejs_semver.specs.Text.Common.{IsCommonPart, IsCommonRange, IsCommonWord, IsGap, caret_word, compare_word}
+use Rattle.nodejs_semver.specs.Text.Common.{AreCommonParts, IsCommonPart, IsCommonWord, IsGap, caret_word, compare_word}
 use Rattle.nodejs_semver.specs.Text.Common.{comparison, hyphen_word, more_parts, one_part, one_word, plain_word}
 use Rattle.nodejs_semver.specs.Text.Common.{tilde_greater_word, tilde_word, two_comparisons}
 use Rattle.nodejs_semver.specs.Internal.Denotes.{denotes, part_denotes}
@@ -122,32 +122,32 @@ tidy-denotes limit text list h =
 
 word-tidy : (limit : ℕ) (x : List ℕ) (w : Word) (s : Span VersionValue) → IsCommonWord limit x w → table limit w ≡ Some s
     → Tidy limit x s
-word-tidy limit x w s (plain_word text p h) bounds = plain-tidy limit text p s h.components bounds
+word-tidy limit x w s (plain_word text p h) bounds = plain-tidy limit text p s h bounds
 word-tidy limit x w s (compare_word text word (comparison c sign rest p is h)) bounds =
-    compared-tidy limit c sign rest p s is h.components bounds
+    compared-tidy limit c sign rest p s is h bounds
 word-tidy limit x w s (tilde_word text p h) bounds =
     grind (arith, components-begin, compact-partial, tilde-tidy, drop_spaces-none, solid-dark, no-greater)
 word-tidy limit x w s (tilde_greater_word text p h) bounds =
     search (arith, compact-signed, compact-partial, tilde-tidy, drop_spaces-none, solid-dark)
-word-tidy limit x w s (caret_word text p h) bounds = caret-tidy limit text p s h.components bounds
+word-tidy limit x w s (caret_word text p h) bounds = caret-tidy limit text p s h bounds
 word-tidy limit x w s (hyphen_word first second p q h k) bounds =
-    hyphen-tidy limit first second p q s h.components k.components bounds
+    hyphen-tidy limit first second p q s h k bounds
 
 pub part-tidy : (limit : ℕ) (x : List ℕ) (s : Span VersionValue) → IsCommonPart limit x s → Tidy limit x s
 part-tidy limit x s (one_word text word span is bounds) = word-tidy limit text word span is bounds
 part-tidy limit x s (two_comparisons u v a b c d both (comparison f sign t p is h) (comparison g sign' t' q is' k) e e' m) =
-    two-tidy limit f g sign sign' t t' p q c d both is h.components is' k.components e e' m
+    two-tidy limit f g sign sign' t t' p q c d both is h is' k e e' m
 
-common-tidy : (limit : ℕ) (text : List ℕ) (list : List (Span VersionValue)) → IsCommonRange limit text list
+common-tidy : (limit : ℕ) (text : List ℕ) (list : List (Span VersionValue)) → AreCommonParts limit text list
     → AreTidy limit text list
 common-tidy limit text list (one_part part s is) = one_tidy part s (part-tidy limit part s is)
 common-tidy limit text list (more_parts part before after rest s others is b a more) =
     more_tidy part before after rest s others (part-tidy limit part s is) b a (common-tidy limit rest others more)
 
-pub list-some : (limit : ℕ) (text : List ℕ) (list : List (Span VersionValue)) → IsCommonRange limit text list → 0 < length list
+pub list-some : (limit : ℕ) (text : List ℕ) (list : List (Span VersionValue)) → AreCommonParts limit text list → 0 < length list
 list-some limit text list h = grind arith
 
-pub common_ranges_are_denoted : (limit : ℕ) (text : List ℕ) (list : List (Span VersionValue)) → IsCommonRange limit text list
+pub common_parts_are_denoted : (limit : ℕ) (text : List ℕ) (list : List (Span VersionValue)) → AreCommonParts limit text list
     → (denotes limit text ≡ list) × (0 < length list) × (list_all is_empty (parts text) ≡ false)
-common_ranges_are_denoted limit text list h = let d =
+common_parts_are_denoted limit text list h = let d =
     tidy-denotes limit text list (common-tidy limit text list h) in (d.0, list-some limit text list h, d.1)

@@ -6,22 +6,22 @@ use Rattle.nodejs_semver.specs.Internal.Sets.{is_range_span}
 use Rattle.semver_core.specs.Cuts.{Span}
 use Rattle.semver_core.specs.Lists.{if_any}
 use Rattle.semver_core.specs.Values.Versions.{VersionValue}
-use Rattle.nodejs_semver.specs.Text.Common.{IsCommonRange}
+use Rattle.nodejs_semver.specs.Text.Common.{AreCommonParts}
 use Rattle.nodejs_semver.specs.Internal.Denotes.{denotes}
 use Rattle.nodejs_semver.specs.Text.Meaning.{Means}
 use Rattle.nodejs_semver.specs.Ranges.View.{IsRange}
 use Rattle.nodejs_semver.proofs.Bounds.Table.{denotes-bounded}
 use Rattle.nodejs_semver.proofs.Dividing.MeaningLaw.{meant, one_meaning}
-use Rattle.nodejs_semver.proofs.Everyday.Texts.{common_ranges_are_denoted}
+use Rattle.nodejs_semver.proofs.Everyday.Texts.{common_parts_are_denoted}
 
-pub common_bounded : (limit : ℕ) (text : List ℕ) (list : List (Span VersionValue)) → IsCommonRange limit text list → list_all (is_range_span (limit + 1)) list ≡ true
-common_bounded limit text list h = grind (arith, common_ranges_are_denoted, denotes-bounded)
+pub common_bounded : (limit : ℕ) (text : List ℕ) (list : List (Span VersionValue)) → AreCommonParts limit text list → list_all (is_range_span (limit + 1)) list ≡ true
+common_bounded limit text list h = grind (arith, common_parts_are_denoted, denotes-bounded)
 
-pub common_list : (limit : ℕ) (text : List ℕ) (list : List (Span VersionValue)) → IsCommonRange limit text list → list ≡ denotes limit text
-common_list limit text list h = sym (common_ranges_are_denoted limit text list h).0
+pub common_list : (limit : ℕ) (text : List ℕ) (list : List (Span VersionValue)) → AreCommonParts limit text list → list ≡ denotes limit text
+common_list limit text list h = sym (common_parts_are_denoted limit text list h).0
 
 pub common_means : (limit : ℕ) (text : List ℕ) (list : List (Span VersionValue)) (o : Option (List (Span VersionValue)))
-    → IsUtf8 text → IsCommonRange limit text list → o ≡ if_any list → IfSome o (Means limit text)
+    → IsUtf8 text → AreCommonParts limit text list → o ≡ if_any list → IfSome o (Means limit text)
 common_means limit text list o u h e = grind (arith, meant, common_list)
 
 pub if-some : {A : Type 0} (P : A → Type 0) (o : Option A) (x : A) → o ≡ Some x → IfSome o P → P x
@@ -34,6 +34,6 @@ denoted_range limit text list h some =
 
 -- the loose reader returns the range of a common text
 pub fast_read : (limit : ℕ) (text : List ℕ) (list : List (Span VersionValue)) (o : Option (List (Span VersionValue)))
-    → IsUtf8 text → IsCommonRange limit text list
+    → IsUtf8 text → AreCommonParts limit text list
     → IfSome o (λ range. Means limit text range × (0 < length range)) → IfNone o (Means limit text []) → Some list ≡ o
 fast_read limit text list o h k m n = grind (arith, common_list, one_meaning)

@@ -1,14 +1,9 @@
 -- What the bytes of a text are: the first, the last, and all of them.
-use Rattle.std.proofs.Common.{◌≡◌, ℕ, ◌<◌, List, [], ◌∷◌, ◌++◌, length, refl, ◌∙◌, arith, Bool, true}
-use Rattle.std.specs.Prelude.{◌&&◌, ◌||◌, ◌==◌, not, nat_lt}
-use Rattle.std.specs.Char.{is_ascii_digit}
-use Rattle.std.specs.List.{list_all}
-use Rattle.std.proofs.lemmas.Bool.{and_from, and_parts}
-use Rattle.std.proofs.lemmas.Bool.Decides.{nat_tests}
-use Rattle.std.proofs.lemmas.List.Folds.{list_all-append}
+use Rattle.nodejs_semver.proofs.Common.{◌≡◌, ℕ, ◌<◌, List, [], ◌∷◌, ◌++◌, length, refl, ◌∙◌, arith, Bool, true, ◌&&◌, ◌||◌, ◌==◌}
+use Rattle.nodejs_semver.proofs.Common.{not, is_ascii_digit, list_all, and_from, and_parts, nat_tests, list_all-append, begins}
+use Rattle.nodejs_semver.proofs.Common.{ends, space_len}
+use Rattle.std.specs.Prelude.{nat_lt}
 use Rattle.nodejs_semver.specs.Internal.Fronts.{is_wildcard}
-use Rattle.semver_core.specs.Text.Characters.{begins, ends}
-use Rattle.semver_core.specs.Internal.Spaces.{space_len}
 
 pub begins-on : (p : ℕ → Bool) (u v : List ℕ) → begins p u ≡ true → begins p (u ++ v) ≡ true
 begins-on p u v h = grind arith

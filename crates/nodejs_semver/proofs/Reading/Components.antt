@@ -1,20 +1,15 @@
 -- The components of a partial at the front of a text: what is read is written there, and what is written is read.
-use Rattle.std.proofs.Common.{◌≡◌, ℕ, ◌<◌, ◌≤◌, List, [], ◌∷◌, ◌++◌, length, drop, refl, ap, ◌∙◌, arith, true}
-use Rattle.std.proofs.Common.{false, Some, None, inl, inr, append_assoc, length-append}
-use Rattle.std.specs.Prelude.{Option}
-use Rattle.std.specs.Char.{is_ascii_digit}
-use Rattle.std.proofs.lemmas.Bool.{cases_Bool}
-use Rattle.semver_core.specs.Text.Characters.{begins}
+use Rattle.nodejs_semver.proofs.Common.{◌≡◌, ℕ, ◌<◌, ◌≤◌, List, [], ◌∷◌, ◌++◌, length, drop, refl, ap, ◌∙◌, arith, true, false}
+use Rattle.nodejs_semver.proofs.Common.{Some, None, inl, inr, append_assoc, length-append, Option, is_ascii_digit, cases_Bool}
+use Rattle.nodejs_semver.proofs.Common.{begins, AreComponents, Partial, same_Some, bind_some}
 use Rattle.nodejs_semver.specs.Internal.Fronts.{Front, begins_wildcard, build_front, component_front, dotted_front}
 use Rattle.nodejs_semver.specs.Internal.Fronts.{minor_front, number_front, patch_front, pre_release_front}
-use Rattle.nodejs_semver.specs.Text.PartialText.{AreComponents, IsComponent, Partial, number, one, three, two, wildcard}
+use Rattle.nodejs_semver.specs.Text.PartialText.{IsComponent, number, one, three, two, wildcard}
 use Rattle.nodejs_semver.proofs.Reading.Bytes.{all-end, begins-on, begins_component}
 use Rattle.nodejs_semver.proofs.Reading.Numbers.{number-found, number-read, number_first, wildcard-no_digit}
 use Rattle.nodejs_semver.proofs.Reading.Qualifiers.{build-read, build_front-le, pre-read, pre_release_front-le, qualifier-passed}
 use Rattle.nodejs_semver.proofs.Reading.Quiet.{quiet-dotted, Quiet, Stop, quiet-before, quiet-behind}
 use Rattle.nodejs_semver.proofs.Reading.Quiet.{quiet-both, quiet-front, quiet-further}
-use Rattle.std.proofs.lemmas.Option.{same_Some}
-use Rattle.semver_core.proofs.Text.Texts.{bind_some}
 
 -- ---- one component
 

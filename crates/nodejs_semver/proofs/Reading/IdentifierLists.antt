@@ -1,11 +1,9 @@
 -- Identifiers joined by dots: the longest list at the front of a text.
-use Rattle.std.proofs.Common.{◌≡◌, ℕ, Bool, ◌≤◌, ◌+◌, List, [], ◌∷◌, ◌++◌, length, take, drop, refl, arith}
-use Rattle.std.proofs.Common.{true, false, length-append, length-drop}
-use Rattle.std.specs.Prelude.{◌==◌}
-use Rattle.std.proofs.lemmas.List.{take_all, take_at, drop_at}
-use Rattle.semver_core.specs.Text.Identifiers.{Id, IsIdentifiers, Numeric, goes_on, is_listed, listed, pieces}
-use Rattle.semver_core.specs.Internal.Reading.{list_len}
-use Rattle.semver_core.specs.Lists.{is_empty}
+use Rattle.nodejs_semver.proofs.Common.{◌≡◌, ℕ, Bool, ◌≤◌, ◌+◌, List, [], ◌∷◌, ◌++◌, length, take, drop, refl, arith, true, false}
+use Rattle.nodejs_semver.proofs.Common.{length-append, ◌==◌, take_at, drop_at, Id, list_len, is_empty}
+use Rattle.std.proofs.Common.{length-drop}
+use Rattle.std.proofs.lemmas.List.{take_all}
+use Rattle.semver_core.specs.Text.Identifiers.{IsIdentifiers, Numeric, goes_on, is_listed, listed, pieces}
 use Rattle.semver_core.proofs.Text.Ends.{end_past, is_spelled, nothing_listed, nothing_spelled, runs_taken}
 use Rattle.semver_core.proofs.Text.Pieces.{list_len-append, runs_begin, runs_tail}
 use Rattle.semver_core.proofs.Text.Runs.{list_len_stop}

@@ -1,24 +1,21 @@
 -- Numbers: as a whole text, and at the front of one.
-use Rattle.std.proofs.Common.{◌≡◌, ℕ, suc, ◌+◌, ◌≤◌, List, [], ◌∷◌, ◌++◌, length, drop, refl, ap}
-use Rattle.std.proofs.Common.{◌∙◌, arith, true, false, Some, None, inl, inr}
-use Rattle.std.specs.Prelude.{◌↔◌, not}
-use Rattle.std.specs.Char.{is_ascii_digit}
-use Rattle.std.specs.List.{list_all, prefix_len}
-use Rattle.std.proofs.lemmas.Bool.{and_parts, cases_Bool}
-use Rattle.std.proofs.lemmas.Bool.Decides.{nat_tests}
-use Rattle.std.proofs.lemmas.List.{take-append-drop, take_at, drop_at}
-use Rattle.semver_core.specs.Text.Characters.{begins, IsPieceAt, NoPieceAt}
+use Rattle.nodejs_semver.proofs.Common.{◌≡◌, ℕ, suc, ◌+◌, ◌≤◌, List, [], ◌∷◌, ◌++◌, length, drop, refl, ap, ◌∙◌, arith, true}
+use Rattle.nodejs_semver.proofs.Common.{false, Some, None, inl, inr, ◌↔◌, not, is_ascii_digit, list_all, and_parts, cases_Bool}
+use Rattle.nodejs_semver.proofs.Common.{nat_tests, take_at, drop_at, begins}
+use Rattle.std.specs.List.{prefix_len}
+use Rattle.std.proofs.lemmas.List.{take-append-drop}
+use Rattle.semver_core.specs.Text.Characters.{IsPieceAt, NoPieceAt}
 use Rattle.semver_core.specs.Text.Numbers.{IsNumber, IsWholeNumber}
 use Rattle.nodejs_semver.specs.Internal.Fronts.{begins_wildcard, component_front, number_front, number_of, is_wildcard}
 use Rattle.nodejs_semver.proofs.Reading.Steps.{option-cases}
 
 -- ---- a whole text
 
-number-is : (limit : ℕ) (text : List ℕ) (n : ℕ) → number_of limit text ≡ Some n → IsNumber limit text n
+pub number-is : (limit : ℕ) (text : List ℕ) (n : ℕ) → number_of limit text ≡ Some n → IsNumber limit text n
 unfolding number_of
 number-is limit text n h = grind arith
 
-number-of : (limit : ℕ) (text : List ℕ) (n : ℕ) → IsNumber limit text n → number_of limit text ≡ Some n
+pub number-of : (limit : ℕ) (text : List ℕ) (n : ℕ) → IsNumber limit text n → number_of limit text ≡ Some n
 unfolding number_of
 number-of limit text n h = grind arith
 
@@ -82,7 +79,7 @@ pub wildcard-no_digit : (b : ℕ) → is_wildcard b ≡ true → is_ascii_digit 
 wildcard-no_digit b h = grind (arith, nat_tests)
 
 -- where a number begins, no wildcard does, so that a component may be looked for as a number first
-number-no_wildcard : (run more : List ℕ) → begins is_ascii_digit run ≡ true → begins_wildcard (run ++ more) ≡ false
+pub number-no_wildcard : (run more : List ℕ) → begins is_ascii_digit run ≡ true → begins_wildcard (run ++ more) ≡ false
 number-no_wildcard run more h = grind arith
 
 pub number_first : (limit : ℕ) (text rest : List ℕ) (n : ℕ) → number_front limit text ≡ Some (n, rest)

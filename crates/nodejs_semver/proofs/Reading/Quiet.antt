@@ -1,10 +1,7 @@
 -- Where a piece of a text ends: whether a run of digits goes on there, and whether anything does.
-use Rattle.std.proofs.Common.{◌≡◌, ℕ, ◌<◌, List, [], ◌∷◌, ◌++◌, length, refl, arith, false, None, append-nil}
-use Rattle.std.specs.Prelude.{◌&&◌}
-use Rattle.std.specs.Char.{is_ascii_digit}
+use Rattle.nodejs_semver.proofs.Common.{◌≡◌, ℕ, ◌<◌, List, [], ◌∷◌, ◌++◌, length, refl, arith, false, None, append-nil, ◌&&◌}
+use Rattle.nodejs_semver.proofs.Common.{is_ascii_digit, list_len, begins, ends}
 use Rattle.std.proofs.lemmas.Bool.{and_right}
-use Rattle.semver_core.specs.Internal.Reading.{list_len}
-use Rattle.semver_core.specs.Text.Characters.{begins, ends}
 use Rattle.nodejs_semver.specs.Internal.Fronts.{begins_byte, begins_identifier, dotted_front}
 use Rattle.nodejs_semver.proofs.Reading.Bytes.{ends-append}
 

@@ -1,20 +1,14 @@
 -- A word is the one that its sign tells.
-use Rattle.std.proofs.Common.{◌≡◌, ◌∙◌, ◌<◌, ◌++◌, sym, ℕ, List, append-nil, length, length-append, arith, refl, false, true}
-use Rattle.std.proofs.Common.{Some, None, subst}
+use Rattle.nodejs_semver.proofs.Common.{◌≡◌, ◌∙◌, ◌<◌, ◌++◌, sym, ℕ, List, append-nil, length, length-append, arith, refl, false}
+use Rattle.nodejs_semver.proofs.Common.{true, Some, None, subst, Bool, Option, Span, VersionValue, table, space_len, Partial}
+use Rattle.nodejs_semver.proofs.Common.{Word, hyphen, malformed}
 use Rattle.std.specs.Option.{option_to_list}
-use Rattle.std.specs.Prelude.{Bool, Option}
-use Rattle.semver_core.specs.Cuts.{Span}
-use Rattle.semver_core.specs.Values.Versions.{VersionValue}
 use Rattle.nodejs_semver.specs.Internal.CommonFronts.{pushed}
 use Rattle.nodejs_semver.specs.Internal.CommonViews.{both_view}
-use Rattle.nodejs_semver.specs.Text.Table.{table}
 use Rattle.semver_core.specs.Internal.Reading.{◌>>?◌}
-use Rattle.semver_core.specs.Internal.Spaces.{space_len}
 use Rattle.nodejs_semver.specs.Internal.Words.{Sign, hyphen_pushed, is_boundary, or_malformed, sign_at, signed_word, upper_of}
 use Rattle.nodejs_semver.specs.Internal.Words.{word_at, word_behind, word_pushed}
 use Rattle.nodejs_semver.specs.Internal.Fronts.{partial_front}
-use Rattle.nodejs_semver.specs.Text.PartialText.{Partial}
-use Rattle.nodejs_semver.specs.Text.WordText.{Word, hyphen, malformed}
 
 -- ---- the word at the front of a text, by what was read of it
 

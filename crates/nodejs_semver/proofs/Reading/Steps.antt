@@ -1,6 +1,5 @@
 -- The steps of a reading, each of which may fail.
-use Rattle.std.proofs.Common.{◌≡◌, ◌⊎◌, refl, Some, None, inl, inr}
-use Rattle.std.specs.Prelude.{Option}
+use Rattle.nodejs_semver.proofs.Common.{◌≡◌, ◌⊎◌, refl, Some, None, inl, inr, Option}
 
 pub option-cases : {A : Type 0} (o : Option A) → (o ≡ None) ⊎ (x : A) × (o ≡ Some x)
 option-cases None = inl refl

@@ -1,39 +1,36 @@
 -- The word that is computed is the one that is written.
-use Rattle.std.proofs.Common.{◌≡◌, ◌⊎◌, ℕ, ◌<◌, ◌≤◌, Bool, List, [], ◌∷◌, ◌++◌, length, drop, refl, sym, ap, ◌∙◌, arith}
-use Rattle.std.proofs.Common.{true, false, Some, None, inl, inr, subst, append_assoc, length-append}
-use Rattle.std.specs.Prelude.{IfSome, ◌↔◌, ◌||◌, Option, IsUtf8, encode_utf8_all, ◌==◌, IsCharBoundary}
+use Rattle.nodejs_semver.proofs.Common.{◌≡◌, ◌⊎◌, ℕ, ◌<◌, ◌≤◌, Bool, List, [], ◌∷◌, ◌++◌, length, drop, refl, sym, ap, ◌∙◌, arith}
+use Rattle.nodejs_semver.proofs.Common.{true, false, Some, None, inl, inr, subst, append_assoc, length-append, IfSome, ◌↔◌, ◌||◌}
+use Rattle.nodejs_semver.proofs.Common.{Option, IsUtf8, ◌==◌, cases_Bool, eqb-true, nat_tests, cond_some, same_Some, drop_at}
+use Rattle.nodejs_semver.proofs.Common.{take_at, IsUtf8-drop, IsCharBoundary-after_ascii, IsTrim, drop_spaces, space_len}
+use Rattle.nodejs_semver.proofs.Common.{drop_spaces-none, space_len-nil, Partial, Word, hyphen, plain, bind_some}
+use Rattle.std.specs.Prelude.{encode_utf8_all, IsCharBoundary}
 use Rattle.std.specs.Char.{encode_utf8}
 use Rattle.std.proofs.Math.Seq.{get_or-append_seam}
-use Rattle.std.proofs.lemmas.Bool.{cases_Bool, eqb-true, lt-ltb}
-use Rattle.std.proofs.lemmas.Bool.Decides.{nat_tests}
-use Rattle.std.proofs.lemmas.Option.{cond_some, same_Some}
-use Rattle.std.proofs.lemmas.List.{drop_at, take_at}
-use Rattle.std.proofs.lemmas.Str.{IsUtf8-drop, IsUtf8-past_char, IsCharBoundary-after_ascii, encodes-append, len_utf8_bounds, IsUtf8-nil, IsUtf8-take, IsCharBoundary-at_seam}
-use Rattle.semver_core.specs.Text.Characters.{BeginsBlank, IsTrim}
-use Rattle.semver_core.specs.Internal.Spaces.{drop_spaces, space_len}
+use Rattle.std.proofs.lemmas.Bool.{lt-ltb}
+use Rattle.std.proofs.lemmas.Str.{IsUtf8-past_char, encodes-append, len_utf8_bounds, IsUtf8-nil, IsUtf8-take}
+use Rattle.std.proofs.lemmas.Str.{IsCharBoundary-at_seam}
+use Rattle.semver_core.specs.Text.Characters.{BeginsBlank}
 use Rattle.semver_core.proofs.Text.SpaceLaw.{space_len-dark, space_len-inside, space_len-white}
-use Rattle.semver_core.proofs.Text.Spaces.{drop_spaces-none, space_len-nil}
 use Rattle.semver_core.proofs.Text.Trims.{drop_spaces-blank}
 use Rattle.nodejs_semver.specs.Internal.Words.{upper_of, signed_word, Sign, after_some_space, at_boundary, behind_sign, careted}
 use Rattle.nodejs_semver.specs.Internal.Words.{comparator_at, compared, comparing, from_boundary, is_boundary, or_equal, sign_at}
 use Rattle.nodejs_semver.specs.Internal.Words.{tilde_sign, tilded, unsigned, upper_behind, word_at}
 use Rattle.nodejs_semver.specs.Internal.Fronts.{after_byte, component_front, number_of, partial_front}
-use Rattle.nodejs_semver.specs.Text.PartialText.{Partial}
 use Rattle.nodejs_semver.specs.Text.LongestText.{IsLongestPartial}
 use Rattle.nodejs_semver.specs.Text.WordText.{IsBehind, IsBoundary, IsFirstBoundary, IsForm, IsHyphen, IsSign, IsWhole, IsWordAt}
 use Rattle.nodejs_semver.specs.Text.WordText.{SkipsBlank, above_sign, at_least_sign, at_most_sign, below_sign, caret_form}
 use Rattle.nodejs_semver.specs.Text.WordText.{compare_form, equal_sign, formed, hyphen_form, no_form, plain_form, tilde_form}
-use Rattle.nodejs_semver.specs.Text.WordText.{tilde_greater_form, Comparator, Word, hyphen, plain}
+use Rattle.nodejs_semver.specs.Text.WordText.{tilde_greater_form, Comparator}
 use Rattle.nodejs_semver.proofs.Reading.Bytes.{solid-dark}
 use Rattle.nodejs_semver.proofs.Reading.Boundaries.{from_boundary-nil, from_boundary-stop, from_boundary-more}
 use Rattle.nodejs_semver.proofs.Reading.PartialLaw.{longest_are, spaced}
 use Rattle.nodejs_semver.proofs.Reading.Steps.{option-cases}
 use Rattle.nodejs_semver.proofs.Reading.Progress.{spaces-gone}
-use Rattle.semver_core.proofs.Text.Texts.{bind_some}
 
 -- ---- UTF-8 behind a byte, and behind characters
 
-tail-utf8 : (b : ℕ) (text : List ℕ) → b < 128 → IsUtf8 (b ∷ text) → IsUtf8 text
+pub tail-utf8 : (b : ℕ) (text : List ℕ) → b < 128 → IsUtf8 (b ∷ text) → IsUtf8 text
 tail-utf8 b text h u = IsUtf8-drop (b ∷ text) 1 u (IsCharBoundary-after_ascii (b ∷ text) 0 u (omega arith) (omega (arith, h)))
 
 past-all : (cs rest : List ℕ) → IsUtf8 (encode_utf8_all cs ++ rest) → IsUtf8 rest
@@ -49,7 +46,7 @@ skips-utf8 text rest h u =
 -- ---- boundaries
 
 -- a place where whitespace is told by bytes is one between characters
-suffix-utf8 : (front rest : List ℕ) → IsUtf8 (front ++ rest) → 0 < space_len rest → IsUtf8 rest
+pub suffix-utf8 : (front rest : List ℕ) → IsUtf8 (front ++ rest) → 0 < space_len rest → IsUtf8 rest
 suffix-utf8 front [] u h = absurd (omega (arith, space_len-nil))
 suffix-utf8 front (b ∷ rest) u h =
     let here = get_or-append_seam front b rest 0 in
@@ -63,15 +60,15 @@ suffix-blank front rest u h = let v = suffix-utf8 front rest u h in first v.0 v.
     first [] e = absurd (omega (arith, h, ap space_len (sym e) ∙ space_len-nil))
     first (c ∷ cs) e = grind (arith, space_len-dark)
 
-blank-len : (text : List ℕ) → BeginsBlank text → 0 < space_len text
+pub blank-len : (text : List ℕ) → BeginsBlank text → 0 < space_len text
 blank-len text h = omega (arith, ap space_len h.spelled ∙ space_len-white h.character h.rest h.passes, (len_utf8_bounds h.character).0)
 
-suffix-boundary : (front rest : List ℕ) → IsUtf8 (front ++ rest) → is_boundary rest ≡ true → IsBoundary rest
+pub suffix-boundary : (front rest : List ℕ) → IsUtf8 (front ++ rest) → is_boundary rest ≡ true → IsBoundary rest
 unfolding is_boundary
 suffix-boundary front [] u h = inl refl
 suffix-boundary front (b ∷ rest) u h = inr (suffix-blank front (b ∷ rest) u (grind (arith, h, nat_tests)))
 
-boundary-utf8 : (front rest : List ℕ) → IsUtf8 (front ++ rest) → IsBoundary rest → IsUtf8 rest
+pub boundary-utf8 : (front rest : List ℕ) → IsUtf8 (front ++ rest) → IsBoundary rest → IsUtf8 rest
 boundary-utf8 front rest u (inl empty) = rw empty IsUtf8-nil
 boundary-utf8 front rest u (inr blank) = suffix-utf8 front rest u (blank-len rest blank)
 

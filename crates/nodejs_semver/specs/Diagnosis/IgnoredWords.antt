@@ -1,7 +1,8 @@
 -- Statement: the words of a range text that mean nothing, with their places and kinds.
-use Rattle.std.specs.Prelude.{◌≡◌, ℕ, ◌+◌, ◌-◌, true, if◌then◌else◌, List, [], ◌∷◌, ◌++◌, Option}
-use Rattle.std.specs.Prelude.{Some, None, encode_utf8_all, is_some, length}
-use Rattle.std.specs.List.{AllByRecursion, list_all}
+use Rattle.std.specs.Prelude.{◌≡◌, ℕ, ◌+◌, ◌-◌, true, false, if◌then◌else◌, List, [], ◌∷◌, ◌++◌, Option}
+use Rattle.std.specs.Prelude.{Some, None, encode_utf8_all, is_none, is_some, length}
+use Rattle.std.specs.List.{AllByRecursion, AllZip, filter, list_all}
+use Rattle.semver_core.specs.Lists.{is_empty}
 use Rattle.semver_core.specs.Text.Characters.{IsTrim}
 use Rattle.nodejs_semver.specs.Text.Bars.{IsCutAtBars}
 use Rattle.nodejs_semver.specs.Text.Meaning.{HasWords}
@@ -32,18 +33,38 @@ pub data AreIgnoredOf (limit place : ℕ) : List ℕ → List IgnoredWord → Ty
 -- those of all pieces, one piece after another. The first piece begins at this place of the text.
 pub data AreAllIgnored (limit : ℕ) : ℕ → List (List ℕ) → List IgnoredWord → Type 0 where
   no_piece : (place : ℕ) → AreAllIgnored limit place [] []
-  next_piece : (place : ℕ) (piece part : List ℕ) (pieces : List (List ℕ)) (words more : List IgnoredWord)
-      (trim : IsTrim piece part) → AreIgnoredOf limit (place + length (encode_utf8_all trim.before) + length part) part words
-      → AreAllIgnored limit (place + length piece + 2) pieces more → AreAllIgnored limit place (piece ∷ pieces) (words ++ more)
+  next_piece : (at : ℕ) (q part : List ℕ) (qs : List (List ℕ)) (ws us : List IgnoredWord)
+      (t : IsTrim q part) → AreIgnoredOf limit (at + length (encode_utf8_all t.before) + length part) part ws
+      → AreAllIgnored limit (at + length q + 2) qs us → AreAllIgnored limit at (q ∷ qs) (ws ++ us)
 
 -- these are the ignored words of a range text, from the left
 abbrev pub AreIgnored : ℕ → List ℕ → List IgnoredWord → Type 0
-AreIgnored limit text words = (pieces : List (List ℕ)) × IsCutAtBars text pieces × AreAllIgnored limit 0 pieces words
+AreIgnored limit text ws = (ps : List (List ℕ)) × IsCutAtBars text ps × AreAllIgnored limit 0 ps ws
+
+-- another piece has, but for ignored words, the words of this one, and a word if this one has any
+abbrev pub IsAlike : ℕ → List ℕ → List ℕ → Type 0
+IsAlike limit piece other = (ws us : List Word) × HasWords limit piece ws × HasWords limit other us
+    × (filter (λ w. is_none (ignored_as limit w)) ws ≡ filter (λ w. is_none (ignored_as limit w)) us)
+    × (is_empty ws ≡ is_empty us)
+
+-- the pieces of another text are alike, each the one at its place
+abbrev pub AreAlike : ℕ → List ℕ → List ℕ → Type 0
+AreAlike limit text other = (ps qs : List (List ℕ)) × IsCutAtBars text ps × IsCutAtBars other qs
+    × AllZip (IsAlike limit) ps qs
+
+-- what stands between bars has words, and all of them are ignored
+abbrev pub IsIgnored : ℕ → List ℕ → Type 0
+IsIgnored limit piece = (ws : List Word) × HasWords limit piece ws × (is_empty ws ≡ false)
+    × (list_all (λ w. is_some (ignored_as limit w)) ws ≡ true)
+
+-- each piece of the text is so
+abbrev pub IsWhollyIgnored : ℕ → List ℕ → Type 0
+IsWhollyIgnored limit text = (ps : List (List ℕ)) × IsCutAtBars text ps × AllByRecursion (IsIgnored limit) ps
 
 -- each word of what stands between bars has bounds
 abbrev pub IsBounded : ℕ → List ℕ → Type 0
-IsBounded limit piece = (ws : List Word) × HasWords limit piece ws × (list_all (λ word. is_some (table limit word)) ws ≡ true)
+IsBounded max p = (ws : List Word) × HasWords max p ws × (list_all (λ w. is_some (table max w)) ws ≡ true)
 
 -- each word of the range text has bounds
 abbrev pub IsWhollyBounded : ℕ → List ℕ → Type 0
-IsWhollyBounded limit text = (pieces : List (List ℕ)) × IsCutAtBars text pieces × AllByRecursion (IsBounded limit) pieces
+IsWhollyBounded limit text = (ps : List (List ℕ)) × IsCutAtBars text ps × AllByRecursion (IsBounded limit) ps

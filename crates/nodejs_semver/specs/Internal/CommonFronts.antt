@@ -6,19 +6,17 @@ use Rattle.semver_core.specs.Values.Order.{precedence}
 use Rattle.semver_core.specs.Lists.{is_empty}
 use Rattle.semver_core.specs.Values.Versions.{VersionValue}
 use Rattle.nodejs_semver.specs.Internal.Fronts.{after_byte, begins_byte, component_front, dotted_front, Front, minor_front}
+use Rattle.nodejs_semver.specs.Text.Common.{has_plus}
 use Rattle.nodejs_semver.specs.Text.PartialText.{Partial}
 use Rattle.semver_core.specs.Internal.Reading.{◌>>?◌}
 use Rattle.nodejs_semver.specs.Text.Table.{table}
 use Rattle.nodejs_semver.specs.Text.WordText.{Word, caret, compare, hyphen, plain, tilde}
 use Rattle.nodejs_semver.specs.Internal.Words.{comparator_at, tilde_sign}
 
--- the partial at the front, where it has no build; neither `v` nor whitespace is skipped
-abbrev pub unbuilt : Partial × List ℕ → Front Partial
-unbuilt read = if is_empty read.0.build then Some read else None
-
+-- the partial at the front; neither `v` nor whitespace is skipped
 unfoldable pub bare_front : ℕ → List ℕ → Front Partial
 bare_front limit text =
-    component_front limit text >>? λ a. unbuilt (minor_front limit a.0 a.1 (dotted_front limit a.1))
+    component_front limit text >>? λ a. Some (minor_front limit a.0 a.1 (dotted_front limit a.1))
 
 -- a comparator and a partial
 unfoldable pub comparison_front : ℕ → List ℕ → Front Word
@@ -120,6 +118,9 @@ common_within limit (suc n) text =
     if is_empty part.1 then Some (part.0 ∷ [])
     else (after_bars part.1 >>? λ next. common_within limit n next >>? λ list. Some (onto part.0 list))
 
--- the intervals of a common text
+-- the intervals of common parts, and those of a common text, which has no build
+abbrev pub common_parts : ℕ → List ℕ → Option (List (Span VersionValue))
+common_parts limit text = common_within limit (length text) text
+
 abbrev pub common_range : ℕ → List ℕ → Option (List (Span VersionValue))
-common_range limit text = common_within limit (length text) text
+common_range limit text = if has_plus text then None else common_parts limit text

@@ -1,17 +1,16 @@
 -- For proofs and private contracts: the intervals of ranges, and the lists of the set operations over any order. No list stands
 -- for the empty set.
-use Rattle.std.specs.Prelude.{ℕ, ◌==◌, ◌&&◌, ◌||◌, not, Bool, List, [], Option, unwrap_or}
-use Rattle.std.specs.List.{flat_map, fold}
+use Rattle.std.specs.Prelude.{◌≡◌, ◌<◌, ◌⊎◌, ℕ, ◌==◌, ◌&&◌, Bool, true, List, [], length, Option, unwrap_or}
+use Rattle.std.specs.List.{flat_map, fold, list_any}
 use Rattle.std.specs.Option.{option_to_list}
 use Rattle.std.specs.Ordering.{eq_of_both, on}
 use Rattle.std.specs.declared.cmp.Ordering.{Ordering}
-use Rattle.semver_core.specs.Cuts.{Span, bound_eq, is_interval, meet}
+use Rattle.semver_core.specs.Cuts.{Span, bound_eq, has_bound, is_interval, meet}
 use Rattle.semver_core.specs.Values.Order.{precedence, version_eq}
-use Rattle.semver_core.specs.Values.Versions.{VersionValue, is_release}
-use Rattle.semver_core.specs.Lists.{is_empty}
+use Rattle.semver_core.specs.Values.Versions.{VersionValue}
 use Rattle.nodejs_semver.specs.Printing.Text.{bounds_text}
 use Rattle.nodejs_semver.specs.Ranges.Algebra.{list_holds, remainder}
-use Rattle.nodejs_semver.specs.Ranges.Gate.{accepts, passes}
+use Rattle.nodejs_semver.specs.Ranges.Gate.{accepts}
 use Rattle.nodejs_semver.specs.Ranges.View.{is_range_bound}
 
 abbrev pub option_list_holds : {V : Type 0} → (V → V → Ordering) → Option (List (Span V)) → V → Bool
@@ -41,9 +40,6 @@ span_eq = eq_of_both (on (λ s. s.lower) (bound_eq version_eq)) (on (λ s. s.upp
 abbrev pub span_text : Span VersionValue → List ℕ
 span_text s = bounds_text s.lower s.upper
 
--- the version has a pre-release or a build, and so has that of a bound of the span
-abbrev pub has_identifiers : VersionValue → Bool
-has_identifiers v = not (is_release v && is_empty v.build)
-
-abbrev pub bounds_identifiers : Span VersionValue → Bool
-bounds_identifiers s = passes has_identifiers s.lower || passes has_identifiers s.upper
+-- intervals are copied with memory: two or more, or one with a bound whose copy takes some
+abbrev pub AreTaking : {V : Type 0} → (V → Bool) → List (Span V) → Type 0
+AreTaking takes ss = (1 < length ss) ⊎ (list_any (has_bound takes) ss ≡ true)

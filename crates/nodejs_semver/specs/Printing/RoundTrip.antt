@@ -1,12 +1,11 @@
 -- Statement: which ranges come back from their printed text, and what is read from it.
 use Rattle.std.specs.Prelude.{ℕ, ◌&&◌, ◌||◌, not, Bool, if◌then◌else◌}
-use Rattle.semver_core.specs.Cuts.{Span}
+use Rattle.semver_core.specs.Cuts.{Span, passes}
 use Rattle.semver_core.specs.Values.Versions.{VersionValue}
 use Rattle.semver_core.specs.declared.cuts.bound.Bound.{Bound}
 use Rattle.semver_core.specs.declared.cuts.bound.Bound.TheVariants.{Before, After}
 use Rattle.semver_core.specs.Printing.RoundTrip.{is_within}
 use Rattle.semver_core.specs.Values.Order.{version_eq}
-use Rattle.nodejs_semver.specs.Ranges.Gate.{passes}
 use Rattle.nodejs_semver.specs.Ranges.Outside.{is_bounded}
 
 -- no number of the bound is above the limit
@@ -15,9 +14,10 @@ is_small limit b = not (passes (λ v. not (is_within limit v)) b)
 
 -- an interval of a range that comes back: it is not `*`, and no number of its bounds is above the limit
 abbrev pub is_printable : ℕ → Span VersionValue → Bool
-is_printable limit s = (is_bounded s.lower || is_bounded s.upper) && (is_small limit s.lower && is_small limit s.upper)
+is_printable n s = (is_bounded s.lower || is_bounded s.upper) && (is_small n s.lower && is_small n s.upper)
 
 -- the interval that is read from a printed one: where its ends tie, the printed version stands for both
 abbrev pub bounds_back : Bound VersionValue → Bound VersionValue → Span VersionValue
-bounds_back (Before v) (After w) = if version_eq v w then record { lower = Before v; upper = After v } else record { lower = Before v; upper = After w }
+bounds_back (Before v) (After w) = if version_eq v w then record { lower = Before v; upper = After v }
+    else record { lower = Before v; upper = After w }
 bounds_back lower upper = record { lower = lower; upper = upper }

@@ -20,12 +20,14 @@ upper_text Unbounded = []
 upper_text (Before v) = 60 ∷ version_text v
 upper_text (After v) = 60 ∷ 61 ∷ version_text v
 
--- `*` without bounds, one bound, `v` for `>=v` and `<=w` where v and w tie, and else two bounds with a space between them
+-- `*` without bounds, one bound, `v` for `>=v` and `<=w` where v and w tie, and else two bounds with a space
+-- between them
 abbrev pub bounds_text : Bound VersionValue → Bound VersionValue → List ℕ
 bounds_text Unbounded Unbounded = 42 ∷ []
 bounds_text Unbounded upper = upper_text upper
 bounds_text lower Unbounded = lower_text lower
-bounds_text (Before v) (After w) = if version_eq v w then version_text v else lower_text (Before v) ++ 32 ∷ upper_text (After w)
+bounds_text (Before v) (After w) =
+    if version_eq v w then version_text v else lower_text (Before v) ++ 32 ∷ upper_text (After w)
 bounds_text lower upper = lower_text lower ++ 32 ∷ upper_text upper
 
 -- intervals joined by `||`

@@ -1,4 +1,4 @@
--- Statement: the lists of intervals that the set operations return, in order and with the builds of their bounds.
+-- Statement: the lists of intervals that the set operations return, in order and with their builds.
 use Rattle.std.specs.Prelude.{Bool, List, ◌++◌, Option}
 use Rattle.std.specs.List.{list_any, flat_map, fold}
 use Rattle.std.specs.Option.{option_to_list}
@@ -13,15 +13,16 @@ abbrev pub list_holds : {V : Type 0} → (V → V → Ordering) → List (Span V
 list_holds R ss v = list_any (λ s. holds R s v) ss
 
 -- the intersections of all pairs, the first list outside; none where no pair meets
-abbrev pub intersection : List (Span VersionValue) → List (Span VersionValue) → Option (List (Span VersionValue))
+abbrev pub intersection : (ss ts : List (Span VersionValue)) → Option (List (Span VersionValue))
 intersection ss ts = if_any (flat_map (λ s. flat_map (λ t. option_to_list (meet precedence s t)) ts) ss)
 
 -- the remainder of one span by another, as a list
 abbrev pub remainder : {V : Type 0} → (V → V → Ordering) → Span V → Span V → List (Span V)
 remainder R s t = option_to_list (remainders R s t).0 ++ option_to_list (remainders R s t).1
 
--- what is left of the first list, the spans of the second taken away one after another; none where nothing is left
-abbrev pub difference : List (Span VersionValue) → List (Span VersionValue) → Option (List (Span VersionValue))
+-- what is left of the first list, the spans of the second taken away one after another; none if nothing is
+-- left
+abbrev pub difference : (ss ts : List (Span VersionValue)) → Option (List (Span VersionValue))
 difference ss ts = if_any (fold (λ left t. flat_map (λ s. remainder precedence s t) left) ss ts)
 
 -- some one span of the first list covers some one span of the second

@@ -8,4 +8,5 @@ use Rattle.semver_core.specs.Values.Versions.{VersionValue}
 
 -- as many intervals, and each with bounds equal to those of the one in its place
 abbrev pub range_eq : List (Span VersionValue) → List (Span VersionValue) → Bool
-range_eq = pointwise (eq_of_both (on (λ s. s.lower) (bound_eq version_eq)) (on (λ s. s.upper) (bound_eq version_eq)))
+range_eq =
+    pointwise (eq_of_both (on (λ s. s.lower) (bound_eq version_eq)) (on (λ s. s.upper) (bound_eq version_eq)))

@@ -1,21 +1,15 @@
 -- Statement: which versions a range accepts.
-use Rattle.std.specs.Prelude.{◌==◌, Bool, false, ◌&&◌, ◌||◌, not, List}
+use Rattle.std.specs.Prelude.{◌==◌, Bool, ◌&&◌, ◌||◌, not, List}
 use Rattle.std.specs.List.{list_any}
-use Rattle.semver_core.specs.Cuts.{Span, holds}
+use Rattle.semver_core.specs.Cuts.{Span, holds, passes}
 use Rattle.semver_core.specs.Values.Order.{precedence}
 use Rattle.semver_core.specs.Values.Versions.{VersionValue, is_release}
 use Rattle.semver_core.specs.declared.cuts.bound.Bound.{Bound}
-use Rattle.semver_core.specs.declared.cuts.bound.Bound.TheVariants.{Unbounded, Before, After}
-
--- the bound has a version, which passes the test
-abbrev pub passes : {V : Type 0} → (V → Bool) → Bound V → Bool
-passes test Unbounded = false
-passes test (Before w) = test w
-passes test (After w) = test w
 
 -- the version of the bound is a pre-release of the same three numbers as v
 abbrev pub names : Bound VersionValue → VersionValue → Bool
-names b v = passes (λ w. not (is_release w) && ((w.major == v.major) && ((w.minor == v.minor) && (w.patch == v.patch)))) b
+names b v = passes (λ w. not (is_release w)
+    && ((w.major == v.major) && ((w.minor == v.minor) && (w.patch == v.patch)))) b
 
 -- a span lets in every release, and the pre-releases of three numbers of which it names one
 abbrev pub lets_in : Span VersionValue → VersionValue → Bool

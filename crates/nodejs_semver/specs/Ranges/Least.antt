@@ -1,6 +1,8 @@
--- Statement: the least version that a range accepts, the least that it accepts and another does not, and the least that several
--- accept.
-use Rattle.std.specs.Prelude.{◌≡◌, ◌+◌, Bool, true, false, ◌&&◌, not, List, [], ◌∷◌, ◌++◌, if◌then◌else◌, Option, Some, None, find, option_and_then}
+-- Statement: the least version that a range accepts, the least that it accepts and another does not, and the
+-- least that several accept.
+use Rattle.std.specs.Prelude.{◌≡◌, ◌+◌, Bool, true, false, ◌&&◌, not, List, [], ◌∷◌, ◌++◌, if◌then◌else◌}
+use Rattle.std.specs.Prelude.{Option, Some}
+use Rattle.std.specs.Prelude.{None, find, option_and_then}
 use Rattle.std.specs.Ordering.{is_le}
 use Rattle.semver_core.specs.Cuts.{Span, holds}
 use Rattle.semver_core.specs.Text.Identifiers.{Id, Numeric}
@@ -19,8 +21,8 @@ IsLeastOf set (Some v) = (set v ≡ true) × ((w : VersionValue) → set w ≡ t
 abbrev pub beyond : List (Span VersionValue) → List (Span VersionValue) → VersionValue → Bool
 beyond kept removed v = accepts kept v false && not (accepts removed v false)
 
--- the version with which the spans of this lower bound begin, with the bound's build: that of `>=w` itself; of `>w` the
--- next patch of a release, and a pre-release with one more identifier, the number 0
+-- the version with which the spans of this lower bound begin, with the bound's build: that of `>=w` itself;
+-- of `>w` the next patch of a release, and a pre-release with one more identifier, the number 0
 abbrev pub begins_with : Bound VersionValue → Option VersionValue
 begins_with Unbounded = None
 begins_with (Before w) = Some w
@@ -34,4 +36,5 @@ build_by (Some x) v = if version_eq x v then x.build else []
 
 -- the build of a result: that of the lower bound from which it comes, of the first span that accepts it
 abbrev pub least_build : List (Span VersionValue) → VersionValue → List Id
-least_build ss v = build_by (option_and_then (λ s. begins_with s.lower) (find (λ s. holds precedence s v && lets_in s v) ss)) v
+least_build ss v = build_by (option_and_then (λ s. begins_with s.lower)
+    (find (λ s. holds precedence s v && lets_in s v) ss)) v

@@ -1,11 +1,11 @@
 -- Statement: versions that lie outside a range, above or below it.
 use Rattle.std.specs.Prelude.{◌==◌, ℕ, Bool, true, ◌&&◌, ◌||◌, not, if◌then◌else◌, List, Result, Ok, Err}
 use Rattle.std.specs.List.{list_all}
-use Rattle.semver_core.specs.Cuts.{Span, is_past, lower_cut, upper_cut}
+use Rattle.semver_core.specs.Cuts.{Span, is_past, lower_cut, passes, upper_cut}
 use Rattle.semver_core.specs.Values.Order.{precedence}
 use Rattle.semver_core.specs.Values.Versions.{VersionValue}
 use Rattle.semver_core.specs.declared.cuts.bound.Bound.{Bound}
-use Rattle.nodejs_semver.specs.Ranges.Gate.{accepts, passes}
+use Rattle.nodejs_semver.specs.Ranges.Gate.{accepts}
 use Rattle.nodejs_semver.specs.declared.range.outside.OutsideDirection.{OutsideDirection}
 use Rattle.nodejs_semver.specs.declared.range.outside.OutsideDirection.TheVariants.{Higher, Lower}
 use Rattle.nodejs_semver.specs.declared.range.outside.RangeError.{RangeError}

@@ -1,16 +1,15 @@
 -- Statement: what every range is.
-use Rattle.std.specs.Prelude.{◌≡◌, ◌+◌, ◌<◌, ◌⊎◌, ◌&&◌, ◌||◌, not, ℕ, Bool, true, List, [], ◌∷◌, length, map, Option}
+use Rattle.std.specs.Prelude.{◌≡◌, ◌+◌, ◌<◌, ◌⊎◌, ◌&&◌, ℕ, Bool, true, List, [], ◌∷◌, length, map, Option}
 use Rattle.std.specs.Borrow.{Bor}
 use Rattle.std.specs.Option.{option_map}
 use Rattle.std.specs.List.{list_all, list_any}
-use Rattle.semver_core.specs.Cuts.{Span, is_interval}
+use Rattle.semver_core.specs.Cuts.{Span, has_bound, is_interval}
+use Rattle.semver_core.specs.Values.Memory.{takes_memory}
 use Rattle.semver_core.specs.Values.Order.{precedence}
-use Rattle.semver_core.specs.Values.Versions.{VersionValue, is_release}
+use Rattle.semver_core.specs.Values.Versions.{VersionValue}
 use Rattle.semver_core.specs.declared.cuts.bound.Bound.{Bound}
 use Rattle.semver_core.specs.declared.cuts.bound.Bound.TheVariants.{Unbounded, Before, After}
-use Rattle.semver_core.specs.Lists.{is_empty}
 use Rattle.semver_core.specs.Printing.RoundTrip.{is_readable}
-use Rattle.nodejs_semver.specs.Ranges.Gate.{passes}
 
 -- numbers up to the limit, and identifiers in normal form
 abbrev pub is_range_bound : ℕ → Bound VersionValue → Bool
@@ -18,8 +17,8 @@ is_range_bound limit Unbounded = true
 is_range_bound limit (Before v) = is_readable limit v
 is_range_bound limit (After v) = is_readable limit v
 
--- the value of a version that is borrowed, if there is one; the bound, the span and the spans of the values of versions,
--- whatever holds these
+-- the value of a version that is borrowed, if there is one; the bound, the span and the spans of the values
+-- of versions, whatever holds these
 abbrev pub value_of : {V : Type 0} → (V → VersionValue) → Option (Bor V) → Option VersionValue
 value_of value r = option_map (λ v. value v.now) r
 
@@ -34,17 +33,16 @@ span_of value s = record { lower = bound_of value s.lower; upper = bound_of valu
 abbrev pub spans_of : {V : Type 0} → (V → VersionValue) → List (Span V) → List (Span VersionValue)
 spans_of value ss = map (span_of value) ss
 
--- the intervals of a range: one or more, each with its lower cut below its upper one; no number of a bound is above the limit by
--- more than one
+-- the intervals of a range: one or more, each with its lower cut below its upper one; no number of a bound is
+-- above the limit by more than one
 pub record IsRange (limit : ℕ) (ss : List (Span VersionValue)) : Type 0 where
   pub some : 0 < length ss
   pub each : list_all (λ s. is_interval precedence s
       && (is_range_bound (limit + 1) s.lower && is_range_bound (limit + 1) s.upper)) ss ≡ true
 
--- the range is made and copied with memory: it has two intervals or more, or a bound with a pre-release or build metadata
+-- the range is made and copied with memory: it has two intervals or more, or a bound with such a version
 abbrev pub TakesMemory : List (Span VersionValue) → Type 0
-TakesMemory ss = let named = passes (λ v. not (is_release v && is_empty v.build)) in
-    (1 < length ss) ⊎ (list_any (λ s. named s.lower || named s.upper) ss ≡ true)
+TakesMemory ss = (1 < length ss) ⊎ (list_any (has_bound takes_memory) ss ≡ true)
 
 -- the range of all versions: one interval without bounds
 abbrev pub any_version : List (Span VersionValue)

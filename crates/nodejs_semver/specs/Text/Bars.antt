@@ -1,5 +1,5 @@
 -- Statement. The division of a range text at its bars `||`. A text is the list of its bytes in UTF-8.
-use Rattle.std.specs.Prelude.{◌≡◌, ◌==◌, ℕ, ◌&&◌, ◌||◌, Bool, false, List, [], ◌∷◌, ◌++◌}
+use Rattle.std.specs.Prelude.{◌≡◌, ◌==◌, ℕ, ◌&&◌, ◌||◌, Bool, false, List, [], ◌∷◌, ◌++◌, codes}
 use Rattle.semver_core.specs.Text.Characters.{begins, ends}
 
 abbrev pub is_bar : ℕ → Bool
@@ -10,9 +10,9 @@ abbrev pub has_bars : List ℕ → Bool
 has_bars [] = false
 has_bars (b ∷ rest) = (is_bar b && begins is_bar rest) || has_bars rest
 
--- the division of a text at its bars: one piece, which does not contain `||`; or a piece that neither contains `||` nor ends in `|`,
--- then `||`, and then the pieces of the rest
+-- the division of a text at its bars: one piece, which does not contain `||`; or a piece that neither
+-- contains `||` nor ends in `|`, then `||`, and then the pieces of the rest
 pub data IsCutAtBars : List ℕ → List (List ℕ) → Type 0 where
   one_piece : (text : List ℕ) → has_bars text ≡ false → IsCutAtBars text (text ∷ [])
-  more_pieces : (piece rest : List ℕ) (others : List (List ℕ)) → has_bars piece ≡ false → ends is_bar piece ≡ false
-      → IsCutAtBars rest others → IsCutAtBars (piece ++ 124 ∷ (124 ∷ rest)) (piece ∷ others)
+  more_pieces : (x rest : List ℕ) (others : List (List ℕ)) → has_bars x ≡ false → ends is_bar x ≡ false
+      → IsCutAtBars rest others → IsCutAtBars (x ++ (codes "||" ++ rest)) (x ∷ others)

@@ -14,4 +14,5 @@ pub record BeginsPartial (limit : ℕ) (text front : List ℕ) (p : Partial) (re
 pub record IsLongestPartial (limit : ℕ) (text : List ℕ) (p : Partial) (rest : List ℕ) : Type 0 where
   pub front : List ℕ
   pub begins : BeginsPartial limit text front p rest
-  pub longest : (other : List ℕ) (q : Partial) (behind : List ℕ) → BeginsPartial limit text other q behind → length other ≤ length front
+  pub longest : (x : List ℕ) (q : Partial) (y : List ℕ) → BeginsPartial limit text x q y
+      → length x ≤ length front

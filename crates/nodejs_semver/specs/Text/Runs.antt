@@ -1,5 +1,5 @@
--- Statement. The runs of a part: the division of its words that have bounds into intervals. The order of the points is a
--- parameter.
+-- Statement. The runs of a part: the division of its words that have bounds into intervals. The order of the
+-- points is a parameter.
 use Rattle.std.specs.Prelude.{◌≡◌, Bool, true, false, List, [], ◌∷◌, ◌++◌, flat_map}
 use Rattle.std.specs.List.{AllByRecursion}
 use Rattle.std.specs.declared.cmp.Ordering.{Ordering}
@@ -34,11 +34,12 @@ fits R r = is_interval R (interval_of R r)
 
 -- no run can take the first word of the next one
 abbrev pub AreLongest : {V : Type 0} → (V → V → Ordering) → List (Run V) → Type 0
-AreLongest R (r ∷ s ∷ rest) = (fits R (record r { others = r.others ++ s.first ∷ [] }) ≡ false) × AreLongest R (s ∷ rest)
+AreLongest R (r ∷ s ∷ rs) =
+    (fits R (record r { others = r.others ++ s.first ∷ [] }) ≡ false) × AreLongest R (s ∷ rs)
 AreLongest R _ = Unit {0}
 
 -- the division of a part's bounds into runs, of which there is one
-pub record AreRuns {V : Type 0} (R : V → V → Ordering) (bounds : List (Span V)) (runs : List (Run V)) : Type 0 where
-  pub whole : flat_map run_items runs ≡ bounds
-  pub each : AllByRecursion (λ r. fits R r ≡ true) runs
-  pub longest : AreLongest R runs
+pub record AreRuns {V : Type 0} (R : V → V → Ordering) (ss : List (Span V)) (rs : List (Run V)) : Type 0 where
+  pub whole : flat_map run_items rs ≡ ss
+  pub each : AllByRecursion (λ r. fits R r ≡ true) rs
+  pub longest : AreLongest R rs

@@ -1,6 +1,7 @@
--- Statement. The word table, a line for each row; the first row that fits a word decides. M, m and p are the numbers of the
--- word's partial, where `None` is a component that is absent or a wildcard and `_` is any. V is the version of the
--- partial, with 0 for such components, and MAX the greatest number that a text may write.
+-- Statement. The word table, a line for each row; the first row that fits a word decides. M, m and p are the
+-- numbers of the word's partial, where `None` is a component that is absent or a wildcard and `_` is any. V
+-- is the version of the partial, with 0 for such components, and MAX the greatest number that a text may
+-- write.
 use Rattle.std.specs.Prelude.{ℕ, zero, ◌+◌, false, [], ◌∷◌, Option, Some, None, unwrap_or}
 use Rattle.semver_core.specs.Cuts.{Span, interval}
 use Rattle.semver_core.specs.declared.cuts.bound.Bound.TheVariants.{Unbounded, Before, After}
@@ -8,7 +9,9 @@ use Rattle.semver_core.specs.Text.Identifiers.{Numeric}
 use Rattle.semver_core.specs.Values.Order.{precedence}
 use Rattle.semver_core.specs.Values.Versions.{VersionValue, release_value}
 use Rattle.nodejs_semver.specs.Text.PartialText.{Partial}
-use Rattle.nodejs_semver.specs.Text.WordText.{at_least, above, equal, at_most, below, Word, hyphen, plain, compare, tilde, caret, malformed}
+use Rattle.nodejs_semver.specs.Text.WordText.{at_least, above, equal, at_most, below, Word, hyphen, plain}
+use Rattle.nodejs_semver.specs.Text.WordText.{compare}
+use Rattle.nodejs_semver.specs.Text.WordText.{tilde, caret, malformed}
 
 -- the versions that one comparator lets in, and those that two do
 abbrev pub >= : VersionValue → Span VersionValue
@@ -36,14 +39,15 @@ without_build v = record v { build = [] }
 
 -- the version of a partial, with 0 for what is absent or a wildcard
 abbrev pub version_of : Partial → VersionValue
-version_of p =
-    record (release_value (unwrap_or p.major 0) (unwrap_or p.minor 0) (unwrap_or p.patch 0)) { pre_release = p.pre_release; build = p.build }
+version_of p = record (release_value (unwrap_or p.major 0) (unwrap_or p.minor 0) (unwrap_or p.patch 0))
+    { pre_release = p.pre_release; build = p.build }
 
 -- from the version of a partial on, if that is an interval
 abbrev pub from_partial : Partial → Span VersionValue → Option (Span VersionValue)
 from_partial q s = interval precedence (>= (version_of q) & s)
 
--- A hyphen word has the numbers and the version of its second partial here. It alone may have bounds that are no interval.
+-- A hyphen word has the numbers and the version of its second partial here. It alone may have bounds that are
+-- no interval.
 abbrev pub row : ℕ → Word → Option ℕ → Option ℕ → Option ℕ → VersionValue → Option (Span VersionValue)
 row MAX (compare at_least _) _ _ _ V = Some (>= V)
 row MAX (compare above _) (Some M) (Some m) None V = Some (>= (release_value M (m + 1) 0))

@@ -1,5 +1,5 @@
 -- Statement. The words of a part, and what each is as a text.
-use Rattle.std.specs.Prelude.{◌≡◌, ◌⊎◌, ◌≤◌, ℕ, Bool, true, false, List, [], ◌∷◌, ◌++◌, length}
+use Rattle.std.specs.Prelude.{◌≡◌, ◌⊎◌, ◌≤◌, ℕ, Bool, true, false, List, [], ◌++◌, codes, length}
 use Rattle.semver_core.specs.Text.Characters.{BeginsBlank, IsBlank}
 use Rattle.nodejs_semver.specs.Text.LongestText.{IsLongestPartial}
 use Rattle.nodejs_semver.specs.Text.PartialText.{Partial}
@@ -29,11 +29,11 @@ pub record SkipsBlank (text rest : List ℕ) : Type 0 where
 
 -- a comparator as it is written
 pub data IsSign : Comparator → List ℕ → Type 0 where
-  above_sign : IsSign above (62 ∷ [])
-  at_least_sign : IsSign at_least (62 ∷ 61 ∷ [])
-  below_sign : IsSign below (60 ∷ [])
-  at_most_sign : IsSign at_most (60 ∷ 61 ∷ [])
-  equal_sign : IsSign equal (61 ∷ [])
+  above_sign : IsSign above (codes ">")
+  at_least_sign : IsSign at_least (codes ">=")
+  below_sign : IsSign below (codes "<")
+  at_most_sign : IsSign at_most (codes "<=")
+  equal_sign : IsSign equal (codes "=")
 
 -- the longest partial at the front of the text, up to a boundary
 pub record IsWhole (limit : ℕ) (text : List ℕ) (p : Partial) (rest : List ℕ) : Type 0 where
@@ -50,31 +50,35 @@ pub record IsHyphen (limit : ℕ) (text : List ℕ) (lower upper : Partial) (res
   pub after : List ℕ
   pub first : IsLongestPartial limit text lower before
   pub space_before : BeginsBlank before
-  pub dash : SkipsBlank before (45 ∷ after)
+  pub dash : SkipsBlank before (codes "-" ++ after)
   pub space_after : BeginsBlank after
   pub second : IsBehind limit after upper rest
 
 -- the forms of words. A partial by itself is a word where it begins no hyphen word.
 pub data IsForm (limit : ℕ) : List ℕ → Word → List ℕ → Type 0 where
-  hyphen_form : (text : List ℕ) (lower upper : Partial) (rest : List ℕ) → IsHyphen limit text lower upper rest → IsForm limit text (hyphen lower upper) rest
+  hyphen_form : (text : List ℕ) (p q : Partial) (rest : List ℕ) → IsHyphen limit text p q rest
+      → IsForm limit text (hyphen p q) rest
   plain_form : (text : List ℕ) (p : Partial) (rest : List ℕ) → IsWhole limit text p rest
-      → ((lower upper : Partial) (other : List ℕ) → IsHyphen limit text lower upper other → ⊥) → IsForm limit text (plain p) rest
-  compare_form : (c : Comparator) (sign text : List ℕ) (p : Partial) (rest : List ℕ) → IsSign c sign → IsBehind limit text p rest
-      → IsForm limit (sign ++ text) (compare c p) rest
-  tilde_form : (text : List ℕ) (p : Partial) (rest : List ℕ) → IsBehind limit text p rest → IsForm limit (126 ∷ text) (tilde false p) rest
-  tilde_greater_form : (text behind : List ℕ) (p : Partial) (rest : List ℕ) → SkipsBlank text (62 ∷ behind) → IsBehind limit behind p rest
-      → IsForm limit (126 ∷ text) (tilde true p) rest
-  caret_form : (text : List ℕ) (p : Partial) (rest : List ℕ) → IsBehind limit text p rest → IsForm limit (94 ∷ text) (caret p) rest
+      → ((l u : Partial) (x : List ℕ) → IsHyphen limit text l u x → ⊥) → IsForm limit text (plain p) rest
+  compare_form : (c : Comparator) (sign text : List ℕ) (p : Partial) (rest : List ℕ) → IsSign c sign
+      → IsBehind limit text p rest → IsForm limit (sign ++ text) (compare c p) rest
+  tilde_form : (text : List ℕ) (p : Partial) (rest : List ℕ) → IsBehind limit text p rest
+      → IsForm limit (codes "~" ++ text) (tilde false p) rest
+  tilde_greater_form : (text x : List ℕ) (p : Partial) (rest : List ℕ) → SkipsBlank text (codes ">" ++ x)
+      → IsBehind limit x p rest → IsForm limit (codes "~" ++ text) (tilde true p) rest
+  caret_form : (text : List ℕ) (p : Partial) (rest : List ℕ) → IsBehind limit text p rest
+      → IsForm limit (codes "^" ++ text) (caret p) rest
 
 -- the rest begins at the first boundary of the text
 pub record IsFirstBoundary (text rest : List ℕ) : Type 0 where
   pub passed : List ℕ
   pub divided : text ≡ passed ++ rest
   pub boundary : IsBoundary rest
-  pub first : (before after : List ℕ) → text ≡ before ++ after → IsBoundary after → length passed ≤ length before
+  pub first : (x y : List ℕ) → text ≡ x ++ y → IsBoundary y → length passed ≤ length x
 
--- a word at the front of a text and what follows it: one of the forms, or, where none stands there, what goes to the next boundary
+-- a word at the front of a text and what follows it: one of the forms, or, where none stands there, what goes
+-- to the next boundary
 pub data IsWordAt (limit : ℕ) : List ℕ → Word → List ℕ → Type 0 where
-  formed : (text : List ℕ) (word : Word) (rest : List ℕ) → IsForm limit text word rest → IsWordAt limit text word rest
-  no_form : (text rest : List ℕ) → ((word : Word) (other : List ℕ) → IsForm limit text word other → ⊥) → IsFirstBoundary text rest
-      → IsWordAt limit text malformed rest
+  formed : (text : List ℕ) (w : Word) (rest : List ℕ) → IsForm limit text w rest → IsWordAt limit text w rest
+  no_form : (text rest : List ℕ) → ((word : Word) (other : List ℕ) → IsForm limit text word other → ⊥)
+      → IsFirstBoundary text rest → IsWordAt limit text malformed rest

@@ -28,10 +28,12 @@ is_below R (After w) v = not (is_lt (R w v))
 abbrev pub run_writes : {V : Type 0} → (V → V → Ordering) → V → Run V → Bool
 run_writes R v r = list_all (λ s. is_above R s.lower v && is_below R s.upper v) (run_items r)
 
--- what stands between bars writes the version: it is whitespace alone, or the version is in what some one of its runs writes
+-- what stands between bars writes the version: it is whitespace alone, or the version is in what some one of
+-- its runs writes
 abbrev pub PieceWrites : ℕ → VersionValue → List ℕ → Type 0
 PieceWrites limit v piece = IsBlank piece
-    ⊎ ((runs : List (Run VersionValue)) × HasRuns limit piece runs × (list_any (run_writes precedence v) runs ≡ true))
+    ⊎ ((rs : List (Run VersionValue)) × HasRuns limit piece rs
+    × (list_any (run_writes precedence v) rs ≡ true))
 
 -- the text writes the version: some one of its pieces does
 unfoldable pub Writes : ℕ → List ℕ → VersionValue → Type 0

@@ -144,8 +144,8 @@ impl<'a> Iterator for IgnoredWords<'a> {
 /// Returns the words of a range text that mean nothing, from the left, each with its place.
 /// Allocates nothing.
 ///
-/// `Range::parse` ignores these words: without them the text means the same, and it is rejected if
-/// all of its words are such. So `>=1.0.0, <2.0.0` is the range `<2.0.0`.
+/// `Range::parse` ignores these words, so `>=1.0.0, <2.0.0` is the range `<2.0.0`. It rejects a
+/// text with no empty part of which all words are such, as `foo`; but `foo ||` is the range `*`.
 ///
 /// ```rust
 /// let mut words = ignored_words(">=1.0.0, <2.0.0");

@@ -141,12 +141,15 @@ fn flaw_within(text: &str) -> Option<VersionFlaw>
 /// let digit = Expected::Digit;
 /// assert_eq!(rt; version_flaw("1.x"), Some(VersionFlaw::Expected { what: digit, at: 2 }));
 /// ```
-#[tactic(auto, using(crate::proofs::Diagnosing::Flaws::decided))]
+#[tactic(auto, using(crate::proofs::Diagnosing::Flaws::flaws_decided))]
 pub fn version_flaw(text: &str) -> Option<VersionFlaw>
     // None exactly if the whole text is one version.
     ensures none { (result ≡ None) ↔ IsExact MAX_SAFE_INTEGER text.now }
     // What is returned is a flaw of the text.
     ensures flaw { IfSome result (λ flaw. IsFlaw MAX_SAFE_INTEGER text.now flaw) }
+    // A text has one flaw: no other would be right.
+    ensures only { (flaw : VersionFlaw) → IsFlaw MAX_SAFE_INTEGER text.now flaw
+        → result ≡ Some flaw }
 {
     if text.len() > MAX_LENGTH {
         return Some(VersionFlaw::TooLong);

@@ -1,12 +1,12 @@
 // The best of the versions of a slice, or of versions that come one after another.
 
 ghost use Rattle.nodejs_semver.specs.Ranges.Gate.{accepts};
-ghost use Rattle.nodejs_semver.specs.Ranges.Best.{IsMax, IsMin};
+ghost use Rattle.nodejs_semver.specs.Ranges.Best.{IsMax, IsMin, replaces};
 ghost use Rattle.nodejs_semver.specs.Ranges.View.{spans_of, value_of};
 ghost use Rattle.semver_core.specs.Values.Order.{precedence};
 ghost use Rattle.semver_core.specs.Values.Versions.{VersionValue};
 ghost use Rattle.std.specs.Option.{option_copied};
-ghost use Rattle.std.specs.Ordering.{is_le};
+ghost use Rattle.std.specs.Ordering.{is_le, is_lt};
 ghost use Rattle.std.specs.Prelude.{◌≡◌, ◌++◌, ◌∷◌, [], List, All, Contains, IfNone, IfSome, Some};
 ghost use Rattle.std.specs.Prelude.{false, true, if◌then◌else◌, map};
 
@@ -77,7 +77,9 @@ impl Range {
     /// assert_eq!(rt; best, Some(Version::from((1u64, 4, 0))));
     /// ```
     pub fn is_new_max(&self, version: &Version, best: Option<&Version>) -> bool
-        ensures { (list : List VersionValue)
+        ensures exact { result ≡ replaces (λ b v. is_le (precedence b v))
+            (λ v. accepts self.now v false) (option_copied best.entry) version.now }
+        ensures best { (list : List VersionValue)
             → IsMax (λ v. accepts self.now v false) list (option_copied best.entry)
             → IsMax (λ v. accepts self.now v false) (list ++ version.now ∷ [])
             (if result then Some version.now else option_copied best.entry) }
@@ -94,7 +96,9 @@ impl Range {
     /// assert!(rt; range.is_new_min(&Version::from((1u64, 2, 0)), Some(&best)));
     /// ```
     pub fn is_new_min(&self, version: &Version, best: Option<&Version>) -> bool
-        ensures { (list : List VersionValue)
+        ensures exact { result ≡ replaces (λ b v. is_lt (precedence v b))
+            (λ v. accepts self.now v false) (option_copied best.entry) version.now }
+        ensures best { (list : List VersionValue)
             → IsMin (λ v. accepts self.now v false) list (option_copied best.entry)
             → IsMin (λ v. accepts self.now v false) (list ++ version.now ∷ [])
             (if result then Some version.now else option_copied best.entry) }
@@ -103,9 +107,13 @@ impl Range {
     }
 }
 
-impl<'a> RangeRef<'a> {
-    /// The greatest of the versions that the range accepts, as `Range::max_satisfying` says.
-    pub fn max_satisfying<'v>(&self, versions: &'v [VersionRef<'a>]) -> Option<&'v VersionRef<'a>>
+impl RangeRef<'_> {
+    /// The greatest of the versions that the range accepts, as `Range::max_satisfying` says. The
+    /// versions may outlive the text of the range.
+    pub fn max_satisfying<'v, 't>(
+        &self,
+        versions: &'v [VersionRef<'t>],
+    ) -> Option<&'v VersionRef<'t>>
         ensures best { IsMax (λ v. accepts self.now v false) versions.now (option_copied result) }
         // It is a version of the slice that the range accepts, and none that it accepts is above.
         ensures member { IfSome result (λ v. Contains versions.now v.now) }
@@ -117,8 +125,12 @@ impl<'a> RangeRef<'a> {
         greatest(self.items(), versions)
     }
 
-    /// The smallest of the versions that the range accepts, as `Range::min_satisfying` says.
-    pub fn min_satisfying<'v>(&self, versions: &'v [VersionRef<'a>]) -> Option<&'v VersionRef<'a>>
+    /// The smallest of the versions that the range accepts, as `Range::min_satisfying` says. The
+    /// versions may outlive the text of the range.
+    pub fn min_satisfying<'v, 't>(
+        &self,
+        versions: &'v [VersionRef<'t>],
+    ) -> Option<&'v VersionRef<'t>>
         ensures best { IsMin (λ v. accepts self.now v false) versions.now (option_copied result) }
         // It is a version of the slice that the range accepts, and none that it accepts is below.
         ensures member { IfSome result (λ v. Contains versions.now v.now) }
@@ -133,7 +145,9 @@ impl<'a> RangeRef<'a> {
     /// Whether a version takes the place of the best so far, as `Range::is_new_max` says.
     #[inline(always)]
     pub fn is_new_max(&self, version: &VersionRef<'_>, best: Option<&VersionRef<'_>>) -> bool
-        ensures { (list : List VersionValue)
+        ensures exact { result ≡ replaces (λ b v. is_le (precedence b v))
+            (λ v. accepts self.now v false) (option_copied best.entry) version.now }
+        ensures best { (list : List VersionValue)
             → IsMax (λ v. accepts self.now v false) list (option_copied best.entry)
             → IsMax (λ v. accepts self.now v false) (list ++ version.now ∷ [])
             (if result then Some version.now else option_copied best.entry) }
@@ -144,7 +158,9 @@ impl<'a> RangeRef<'a> {
     /// Whether a version takes the place of the best so far, as `Range::is_new_min` says.
     #[inline(always)]
     pub fn is_new_min(&self, version: &VersionRef<'_>, best: Option<&VersionRef<'_>>) -> bool
-        ensures { (list : List VersionValue)
+        ensures exact { result ≡ replaces (λ b v. is_lt (precedence v b))
+            (λ v. accepts self.now v false) (option_copied best.entry) version.now }
+        ensures best { (list : List VersionValue)
             → IsMin (λ v. accepts self.now v false) list (option_copied best.entry)
             → IsMin (λ v. accepts self.now v false) (list ++ version.now ∷ [])
             (if result then Some version.now else option_copied best.entry) }
@@ -154,9 +170,12 @@ impl<'a> RangeRef<'a> {
 }
 
 // The last of the greatest of the versions that the intervals accept.
-fn greatest<'v, V: VersionPoint>(intervals: &[Interval<V>], versions: &'v [V]) -> Option<&'v V>
+fn greatest<'v, V: VersionPoint, W: Versioned>(
+    intervals: &[Interval<V>],
+    versions: &'v [W],
+) -> Option<&'v W>
     ensures { IsMax (λ v. accepts (spans_of V.value intervals.now) v false)
-        (map V.value versions.now) (value_of V.value result) }
+        (map W.value versions.now) (value_of W.value result) }
 {
     let mut best = None;
     for version in versions {
@@ -168,9 +187,12 @@ fn greatest<'v, V: VersionPoint>(intervals: &[Interval<V>], versions: &'v [V]) -
 }
 
 // The smallest of the versions that the intervals accept; on a tie, the first.
-fn least<'v, V: VersionPoint>(intervals: &[Interval<V>], versions: &'v [V]) -> Option<&'v V>
+fn least<'v, V: VersionPoint, W: Versioned>(
+    intervals: &[Interval<V>],
+    versions: &'v [W],
+) -> Option<&'v W>
     ensures { IsMin (λ v. accepts (spans_of V.value intervals.now) v false)
-        (map V.value versions.now) (value_of V.value result) }
+        (map W.value versions.now) (value_of W.value result) }
 {
     let mut best = None;
     for version in versions {
@@ -188,12 +210,9 @@ fn is_new_max<V: VersionPoint, W: Versioned>(
     version: &W,
     best: Option<&W>,
 ) -> bool
-    ensures { (list : List VersionValue)
-        → IsMax (λ v. accepts (spans_of V.value intervals.now) v false) list
-        (value_of W.value best.entry)
-        → IsMax (λ v. accepts (spans_of V.value intervals.now) v false)
-        (list ++ W.value version.now ∷ [])
-        (if result then Some (W.value version.now) else value_of W.value best.entry) }
+    ensures { result ≡ replaces (λ b v. is_le (precedence b v))
+        (λ v. accepts (spans_of V.value intervals.now) v false)
+        (value_of W.value best.entry) (W.value version.now) }
 {
     match best {
         Some(best) => best.cmp_precedence(version).is_le() && accepts(intervals, version, false),
@@ -208,12 +227,9 @@ fn is_new_min<V: VersionPoint, W: Versioned>(
     version: &W,
     best: Option<&W>,
 ) -> bool
-    ensures { (list : List VersionValue)
-        → IsMin (λ v. accepts (spans_of V.value intervals.now) v false) list
-        (value_of W.value best.entry)
-        → IsMin (λ v. accepts (spans_of V.value intervals.now) v false)
-        (list ++ W.value version.now ∷ [])
-        (if result then Some (W.value version.now) else value_of W.value best.entry) }
+    ensures { result ≡ replaces (λ b v. is_lt (precedence v b))
+        (λ v. accepts (spans_of V.value intervals.now) v false)
+        (value_of W.value best.entry) (W.value version.now) }
 {
     match best {
         Some(best) => version.cmp_precedence(best).is_lt() && accepts(intervals, version, false),

@@ -118,7 +118,7 @@ pub(crate) fn is_past_upper<V: Versioned, W: Versioned>(bound: &Bound<V>, versio
 
 // Whether the interval lets in the version, pre-releases not being included.
 #[inline]
-fn lets_in<V: VersionPoint, W: Versioned>(interval: &Interval<V>, version: &W) -> bool
+pub(crate) fn lets_in<V: VersionPoint, W: Versioned>(interval: &Interval<V>, version: &W) -> bool
     ensures { result ≡ lets_in (span_of V.value interval.now) (W.value version.now) }
 {
     version.is_release() || names(interval.lower(), version) || names(interval.upper(), version)

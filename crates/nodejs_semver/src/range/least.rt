@@ -6,25 +6,26 @@
 // The first version of v's kind past that cut, a release or a pre-release of the same three
 // numbers, is not above v, and is accepted by each kept list and not by the removed one either. So
 // the least version is among these first versions: these are the candidates, at most four for an
-// interval of a kept list, and two for one of the removed list.
+// interval of a kept list, and two for one of the removed list. With pre-releases included the
+// candidates are the first versions past the lower cuts, one for an interval.
 
-ghost use Rattle.nodejs_semver.specs.Ranges.Gate.{accepts, lets_in};
+ghost use Rattle.nodejs_semver.specs.Ranges.Gate.{accepts};
 ghost use Rattle.nodejs_semver.specs.Internal.Candidates as spec;
 ghost use Rattle.nodejs_semver.specs.Ranges.Least as stated;
 ghost use Rattle.nodejs_semver.specs.Ranges.View.{TakesMemory};
 ghost use Rattle.semver_core.specs.Internal.Sides.{Near, Far};
-ghost use Rattle.semver_core.specs.Cuts.{Beside, holds};
-ghost use Rattle.semver_core.specs.Values.Order.{precedence};
+ghost use Rattle.semver_core.specs.Cuts.{Beside};
 ghost use Rattle.semver_core.specs.Values.Versions.{VersionValue, is_release};
-ghost use Rattle.std.specs.List.{Any, flat_map, list_all, list_any};
+ghost use Rattle.std.specs.List.{Any, flat_map, list_all};
 ghost use Rattle.std.specs.Option.{option_copied};
 ghost use Rattle.semver_core.specs.declared.cuts.bound.Bound.TheVariants.{After};
-ghost use Rattle.std.specs.Prelude.{All, IfOk, IfSome, OnErr, OnOk, [], false, find, fold, true};
-ghost use Rattle.std.specs.Prelude.{◌&&◌, ◌-◌, ◌<◌, ◌≡◌, ◌^◌, ◌∷◌, ◌⊎◌};
+ghost use Rattle.std.specs.Prelude.{All, IfOk, IfSome, IsOk, OnErr, OnOk, [], false, fold, length};
+ghost use Rattle.std.specs.Prelude.{true};
+ghost use Rattle.std.specs.Prelude.{◌&&◌, ◌-◌, ◌<◌, ◌≡◌, ◌^◌, ◌⊎◌};
 
 use crate::range::gate::{accepts, accepts_one};
 use crate::range::neighbours::{
-    bare, bare_release, first_pre, following, is_first_pre, patch_after, pre_after, with_build,
+    bare, bare_release, first_pre, is_first_pre, patch_after, pre_after, with_least_build,
 };
 use crate::{Range, RangeRef};
 use semver_core::cuts::{Bound, Interval};
@@ -105,9 +106,9 @@ impl Range {
     /// Returns `None` exactly where no version is accepted by all. Of no ranges it is 0.0.0-0, the
     /// smallest version.
     ///
-    /// Fails only if allocation fails, which happens only where a version is accepted by all, or
-    /// where one of the ranges has a lower bound `>v` of a pre-release v: then v with one more
-    /// identifier is made before it is known to be accepted.
+    /// Fails only if allocation fails, which happens only where there are ranges, and a version is
+    /// accepted by all or one of the ranges has a lower bound `>v` of a pre-release v: then v with
+    /// one more identifier is made before it is known to be accepted.
     ///
     /// It is not the smallest version of the intersection: of `>=1.2.3-a` and `>=1.0.0` it is
     /// 1.2.3, while their intersection accepts 1.2.3-a, which the second range does not accept.
@@ -129,22 +130,62 @@ impl Range {
             ⊎ Any (λ range. Any
             (λ s. (v : VersionValue) × (s.lower ≡ After v) × (is_release v ≡ false)) range)
             ranges.now) }
+        ensures none { ranges.now ≡ [] → IsOk result }
     {
         match ranges {
             [] => Ok(Some(Version::with_pre(alloc, 0, 0, 0, 0)?)),
             [first, others @ ..] => Ok(least_among(alloc, first.intervals(), others, &[])?),
         }
     }
+
+    /// The smallest version that the range accepts with pre-releases included, as
+    /// `satisfies_with_prerelease` does, without a build. Returns `None` exactly where the range
+    /// holds no version, as `>1.0.0 <1.0.1-0`.
+    ///
+    /// Fails only if allocation fails, which happens only where the range holds a version, or where
+    /// it has a lower bound `>v` of a pre-release v: then v with one more identifier is made before
+    /// it is known to be held.
+    ///
+    /// There is one in every range that holds a version, although the order has endless descending
+    /// chains, as 1.0.0-b, 1.0.0-ab, 1.0.0-aab and so on: what an interval holds begins at its
+    /// lower bound, behind which one version comes first. It is v itself for `>=v`; for `>v` it is
+    /// v with one more identifier, the number 0, where v is a pre-release, and else the pre-release
+    /// `-0` of the next patch; and 0.0.0-0 without a lower bound.
+    ///
+    /// Time grows at most with the square of the number of intervals.
+    ///
+    /// ```rust
+    /// let none = Range::parse(alloc, ">1.0.0 <1.0.1-0")?.min_version_with_prerelease(alloc)?;
+    /// assert!(rt; none.is_none());
+    /// let first = Range::parse(alloc, ">1.0.0")?.min_version_with_prerelease(alloc)?;
+    /// assert_eq!(rt; first, Some(Version::parse(alloc, "1.0.1-0")?));
+    /// ```
+    #[tactic(auto, using(crate::proofs::Choice::Raised::raisable))]
+    pub fn min_version_with_prerelease(&self, alloc: Global) -> Result<Option<Version>, AllocError>
+        ensures least { IfOk result (λ r. stated.IsLeastOf (λ v. accepts self.now v true) r) }
+        ensures build { IfOk result (λ r. IfSome r (λ v. v.build ≡ [])) }
+        ensures memory { OnErr result (((v : VersionValue) × (accepts self.now v true ≡ true))
+            ⊎ Any (λ s. (v : VersionValue) × (s.lower ≡ After v) × (is_release v ≡ false))
+            self.now) }
+    {
+        let intervals = self.intervals();
+        let mut best: Option<Version> = None;
+        for interval in intervals {
+            consider_past_held(self, alloc, &mut best, interval.lower())?;
+        }
+        Ok(best)
+    }
 }
 
 impl<'a> RangeRef<'a> {
     /// The smallest version that the range accepts, as `Range::min_version` says. Fails only if
-    /// allocation fails, which happens only where the range accepts a version, or where
-    /// `RangeRef::to_range` may fail.
+    /// allocation fails, which happens only where `Range::min_version` or `RangeRef::to_range` may
+    /// fail.
     pub fn min_version(&self, alloc: Global) -> Result<Option<Version>, AllocError>
         ensures least { IfOk result (λ r. stated.IsLeastOf (λ v. accepts self.now v false) r) }
         ensures build { IfOk result (λ r. IfSome r (λ v. v.build ≡ stated.least_build self.now v)) }
         ensures memory { OnErr result (((v : VersionValue) × (accepts self.now v false ≡ true))
+            ⊎ Any (λ s. (v : VersionValue) × (s.lower ≡ After v) × (is_release v ≡ false)) self.now
             ⊎ TakesMemory self.now) }
     {
         if let Some(version) = least_start(self.intervals()) {
@@ -156,8 +197,8 @@ impl<'a> RangeRef<'a> {
     }
 
     /// The smallest version that this range accepts and the other does not, as
-    /// `Range::least_beyond` says. Fails only if allocation fails, which happens only where there
-    /// is such a version, or where `RangeRef::to_range` may fail for one of the two.
+    /// `Range::least_beyond` says. Fails only if allocation fails, which happens only where that
+    /// may fail, or `RangeRef::to_range` for one of the two.
     pub fn least_beyond(
         &self,
         alloc: Global,
@@ -167,11 +208,45 @@ impl<'a> RangeRef<'a> {
         ensures build { IfOk result (λ r. IfSome r (λ v. v.build ≡ [])) }
         ensures memory { OnErr result
             (((v : VersionValue) × (stated.beyond self.now other.now v ≡ true))
+            ⊎ Any (λ s. (v : VersionValue) × (s.lower ≡ After v) × (is_release v ≡ false)) self.now
+            ⊎ Any (λ s. (v : VersionValue) × (s.upper ≡ After v) × (is_release v ≡ false)) other.now
             ⊎ TakesMemory self.now ⊎ TakesMemory other.now) }
     {
         let range = self.to_range(alloc)?;
         let removed = other.to_range(alloc)?;
         range.least_beyond(alloc, &removed)
+    }
+
+    /// The smallest version that each of the ranges accepts, as `Range::least_of_all` says. Fails
+    /// only if allocation fails, which never happens for no ranges.
+    pub fn least_of_all(
+        alloc: Global,
+        ranges: &[RangeRef<'_>],
+    ) -> Result<Option<Version>, AllocError>
+        ensures least { IfOk result (λ r. stated.IsLeastOf
+            (λ v. list_all (λ range. accepts range v false) ranges.now) r) }
+        ensures build { IfOk result (λ r. IfSome r (λ v. v.build ≡ [])) }
+        ensures memory { OnErr result (0 < length ranges.now) }
+    {
+        let mut owned = Vec::new(alloc);
+        for range in ranges {
+            owned.push(range.to_range(alloc)?)?;
+        }
+        Range::least_of_all(alloc, &owned)
+    }
+
+    /// The smallest version that the range accepts with pre-releases included, as
+    /// `Range::min_version_with_prerelease` says. Fails only if allocation fails, which happens
+    /// only where that or `RangeRef::to_range` may fail.
+    pub fn min_version_with_prerelease(&self, alloc: Global) -> Result<Option<Version>, AllocError>
+        ensures least { IfOk result (λ r. stated.IsLeastOf (λ v. accepts self.now v true) r) }
+        ensures build { IfOk result (λ r. IfSome r (λ v. v.build ≡ [])) }
+        ensures memory { OnErr result (((v : VersionValue) × (accepts self.now v true ≡ true))
+            ⊎ Any (λ s. (v : VersionValue) × (s.lower ≡ After v) × (is_release v ≡ false)) self.now
+            ⊎ TakesMemory self.now) }
+    {
+        let range = self.to_range(alloc)?;
+        range.min_version_with_prerelease(alloc)
     }
 }
 
@@ -248,23 +323,11 @@ impl<'a> Search<'a> {
         }
     }
 
-    // Keeps the version where it improves on the best so far.
-    fn consider(&mut self, version: Version)
-        ensures { let set = spec.among self.old.kept.now self.old.also.now self.old.removed.now in
-            self.new ≡ record self.old {
-              best =
-                  spec.better set self.old.best version;
-            } }
-    {
-        if self.improves(&version) {
-            self.best = Some(version);
-        }
-    }
-
-    // Keeps a copy of a borrowed version, without its build, where it improves on the best so far.
+    // Keeps a copy of the version, without its build, where it improves on the best so far.
     // Otherwise nothing is copied.
+    #[inline(never)]
     #[tactic(auto, using(crate::proofs::Choice::LeastOf::improves_bare))]
-    fn consider_borrowed(&mut self, alloc: Global, version: &Version) -> Result<(), AllocError>
+    fn consider(&mut self, alloc: Global, version: &Version) -> Result<(), AllocError>
         ensures best { let set =
             spec.among self.old.kept.now self.old.also.now self.old.removed.now in
             OnOk result (self.new ≡ record self.old {
@@ -275,8 +338,7 @@ impl<'a> Search<'a> {
             (spec.Finds self.old.kept.now self.old.also.now self.old.removed.now) }
     {
         if self.improves(version) {
-            let found = bare(alloc, version)?;
-            self.best = Some(found);
+            self.best = Some(bare(alloc, version)?);
         }
         Ok(())
     }
@@ -295,29 +357,13 @@ impl<'a> Search<'a> {
             (spec.Finds self.old.kept.now self.old.also.now self.old.removed.now) }
     {
         if self.is_reached(version) {
-            Ok(())
-        } else {
-            self.consider_near(alloc, version)
+            return Ok(());
         }
-    }
-
-    // Considers the first versions from this one on, whatever the best so far is.
-    #[inline(never)]
-    fn consider_near(&mut self, alloc: Global, version: &Version) -> Result<(), AllocError>
-        ensures best { let set =
-            spec.among self.old.kept.now self.old.also.now self.old.removed.now in
-            OnOk result (self.new ≡ record self.old {
-              best =
-                  fold (spec.better set) self.old.best (spec.firsts (Beside version.now Near));
-            }) }
-        ensures memory { OnErr result
-            (spec.Finds self.old.kept.now self.old.also.now self.old.removed.now) }
-    {
-        self.consider_borrowed(alloc, version)?;
-        if !version.is_release() {
-            self.consider(bare_release(version));
+        self.consider(alloc, version)?;
+        if version.is_release() {
+            return Ok(());
         }
-        Ok(())
+        self.consider(alloc, &bare_release(version))
     }
 
     // Considers the first versions after this one. That after a pre-release is made before it is
@@ -331,18 +377,18 @@ impl<'a> Search<'a> {
               best =
                   fold (spec.better set) self.old.best (spec.firsts (Beside version.now Far));
             }) }
-        ensures memory { OnErr result (is_release version.now ≡ false) }
+        ensures memory { OnErr result
+            (spec.Finds self.old.kept.now self.old.also.now self.old.removed.now
+            ⊎ (is_release version.now ≡ false)) }
     {
         if self.is_reached(version) {
             return Ok(());
         }
         if version.is_release() {
-            self.consider(patch_after(version));
-            return Ok(());
+            return self.consider(alloc, &patch_after(version));
         }
-        self.consider(pre_after(alloc, version)?);
-        self.consider(bare_release(version));
-        Ok(())
+        self.consider(alloc, &pre_after(alloc, version)?)?;
+        self.consider(alloc, &bare_release(version))
     }
 
     // Considers the first versions past the cut of a bound.
@@ -499,85 +545,69 @@ fn least_among(
         removed,
         best,
     };
-    search.consider(Version::from((0u64, 0, 0)));
+    search.consider(alloc, &Version::from((0u64, 0, 0)))?;
     search.consider_list(alloc, kept)?;
     search.consider_also(alloc)?;
     search.consider_removed(alloc)?;
     Ok(search.best)
 }
 
-// The version with the build of the bound, where an interval above the bound begins with it.
-fn with_build_by(
-    alloc: Global,
-    version: Version,
-    bound: &Bound<Version>,
-) -> Result<Version, AllocError>
-    requires raisable { spec.Raisable bound.now }
-    requires bare { version.build ≡ [] }
-    ensures { IfOk result (λ v. v
-        ≡ record version { build = stated.build_by (stated.begins_with bound.now) version }) }
+// Whether the version is below the best so far, and the range holds it.
+fn improves_held(range: &Range, best: &Option<Version>, version: &Version) -> bool
+    ensures { result ≡ (spec.improves best.now version.now && accepts range.now version.now true) }
 {
-    match bound {
-        Bound::Before(first) if first.cmp(&version).is_eq() => {
-            with_build(alloc, version, first.build())
-        }
-        Bound::After(end) if following(alloc, end)?.cmp(&version).is_eq() => {
-            with_build(alloc, version, end.build())
-        }
-        _ => Ok(version),
-    }
+    let is_below = match best {
+        None => true,
+        Some(best) => version.cmp(best).is_lt(),
+    };
+    is_below && range.satisfies_with_prerelease(version, true)
 }
 
-// The first interval that accepts the version.
-#[tactic(auto, using(crate::proofs::Values::span_same))]
-fn first_accepting<'a>(
-    intervals: &'a [Interval<Version>],
+// Keeps a copy of the version, without its build, where it improves on the best so far.
+#[tactic(auto, using(crate::proofs::Choice::LeastHeld::improves_bare))]
+fn consider_held(
+    range: &Range,
+    alloc: Global,
+    best: &mut Option<Version>,
     version: &Version,
-) -> Option<&'a Interval<Version>>
-    requires { All spec.IsRaisable intervals.now }
-    ensures value { option_copied result
-        ≡ find (λ s. holds precedence s version.now && lets_in s version.now) intervals.now }
-    ensures raisable { IfSome result (λ s. spec.Raisable s.now.lower) }
+) -> Result<(), AllocError>
+    ensures best { OnOk result
+        (best.new ≡ spec.better (λ v. accepts range.now v true) best.old (spec.bare version.now)) }
+    ensures memory { OnErr result ((v : VersionValue) × (accepts range.now v true ≡ true)) }
 {
-    intervals
-        .iter()
-        .find(|interval| accepts_one(interval, version, false))
+    if improves_held(range, best, version) {
+        *best = Some(bare(alloc, version)?);
+    }
+    Ok(())
 }
 
-// Whether the bound's version has a build.
-fn has_build(bound: &Bound<Version>) -> bool
-    ensures { result ≡ spec.has_build bound.now }
+// Considers the first version past the cut of a lower bound.
+fn consider_past_held(
+    range: &Range,
+    alloc: Global,
+    best: &mut Option<Version>,
+    bound: &Bound<Version>,
+) -> Result<(), AllocError>
+    requires { spec.Raisable bound.now }
+    ensures best { OnOk result
+        (best.new ≡ spec.better (λ v. accepts range.now v true) best.old
+        (spec.first_past bound.now)) }
+    ensures memory { OnErr result (((v : VersionValue) × (accepts range.now v true ≡ true))
+        ⊎ spec.IsAfterPre bound.now) }
 {
     match bound {
-        Bound::Unbounded => false,
-        Bound::Before(version) | Bound::After(version) => !version.build().is_empty(),
-    }
-}
-
-// Whether one of the lower bounds has a build.
-fn begin_with_build(intervals: &[Interval<Version>]) -> bool
-    ensures { result ≡ list_any (λ s. spec.has_build s.lower) intervals.now }
-{
-    intervals.iter().any(|interval| has_build(interval.lower()))
-}
-
-// The version with the build of the bound with which the first interval that accepts it begins.
-#[tactic(auto, using(crate::proofs::Choice::LeastOf::unbuilt_stays))]
-fn with_least_build(
-    alloc: Global,
-    version: Version,
-    intervals: &[Interval<Version>],
-) -> Result<Version, AllocError>
-    requires raisable { All spec.IsRaisable intervals.now }
-    requires bare { version.build ≡ [] }
-    ensures { IfOk result (λ v. v
-        ≡ record version { build = stated.least_build intervals.now version }) }
-{
-    if !begin_with_build(intervals) {
-        return Ok(version);
-    }
-    match first_accepting(intervals, &version) {
-        Some(interval) => with_build_by(alloc, version, interval.lower()),
-        None => Ok(version),
+        Bound::Unbounded => consider_held(
+            range,
+            alloc,
+            best,
+            &Version::with_pre(alloc, 0, 0, 0, 0)?,
+        ),
+        Bound::Before(version) => consider_held(range, alloc, best, version),
+        Bound::After(version) if version.is_release() => {
+            let (major, minor, patch) = (version.major(), version.minor(), version.patch());
+            let first = Version::with_pre(alloc, major, minor, patch + 1, 0)?;
+            consider_held(range, alloc, best, &first)
+        }
+        Bound::After(version) => consider_held(range, alloc, best, &pre_after(alloc, version)?),
     }
 }

@@ -1,12 +1,20 @@
-// Versions beside another one.
+// Versions beside another one, and the build that the least version has.
 
-ghost use Rattle.std.specs.Prelude.{◌≡◌, ◌+◌, ◌-◌, ◌<◌, ◌^◌, [], ◌∷◌, IfOk, IsOk, IsTrue, Some};
+ghost use Rattle.std.specs.Prelude.{◌≡◌, ◌&&◌, ◌+◌, ◌-◌, ◌<◌, ◌^◌, [], ◌∷◌, All, IfOk, IfSome};
+ghost use Rattle.std.specs.Prelude.{IsOk, IsTrue, Some, find};
+ghost use Rattle.std.specs.List.{list_any};
+ghost use Rattle.std.specs.Option.{option_copied};
 ghost use Rattle.nodejs_semver.specs.Internal.Candidates as spec;
+ghost use Rattle.nodejs_semver.specs.Ranges.Gate.{lets_in};
 ghost use Rattle.nodejs_semver.specs.Ranges.Least as stated;
+ghost use Rattle.semver_core.specs.Cuts.{holds};
+ghost use Rattle.semver_core.specs.Values.Order.{precedence};
 ghost use Rattle.semver_core.specs.Text.Identifiers.{Numeric};
 ghost use Rattle.semver_core.specs.Values.Views.{ids_view};
 ghost use Rattle.semver_core.specs.declared.cuts.bound.Bound.TheVariants.{After};
 
+use crate::range::gate::accepts_one;
+use semver_core::cuts::{Bound, Interval};
 use semver_core::{Identifier, Version};
 use std::alloc::{AllocError, Global};
 
@@ -51,7 +59,7 @@ pub(crate) fn pre_after(alloc: Global, version: &Version) -> Result<Version, All
 
 // The first version after this one, without a build: the next patch of a release, and a pre-release
 // with one more identifier.
-pub(crate) fn following(alloc: Global, version: &Version) -> Result<Version, AllocError>
+fn following(alloc: Global, version: &Version) -> Result<Version, AllocError>
     requires { version.now.patch < 2 ^ 64 - 1 }
     ensures { IfOk result (λ next. stated.begins_with (After version.now)
         ≡ Some (record next { build = version.now.build })) }
@@ -75,11 +83,7 @@ pub(crate) fn bare(alloc: Global, version: &Version) -> Result<Version, AllocErr
 }
 
 // A version that has no build, with this one.
-pub(crate) fn with_build(
-    alloc: Global,
-    version: Version,
-    build: &[Identifier],
-) -> Result<Version, AllocError>
+fn with_build(alloc: Global, version: Version, build: &[Identifier]) -> Result<Version, AllocError>
     requires { version.build ≡ [] }
     ensures { IfOk result (λ v. v ≡ record version { build = ids_view build.now }) }
 {
@@ -107,5 +111,81 @@ fn with_lists(
     match Version::new(alloc, major, minor, patch, pre_release, build) {
         Ok(version) => Ok(version),
         Err(_) => Err(AllocError),
+    }
+}
+
+// The version with the build of the bound, where an interval above the bound begins with it.
+fn with_build_by(
+    alloc: Global,
+    version: Version,
+    bound: &Bound<Version>,
+) -> Result<Version, AllocError>
+    requires raisable { spec.Raisable bound.now }
+    requires bare { version.build ≡ [] }
+    ensures { IfOk result (λ v. v
+        ≡ record version { build = stated.build_by (stated.begins_with bound.now) version }) }
+{
+    match bound {
+        Bound::Before(first) if first.cmp(&version).is_eq() => {
+            with_build(alloc, version, first.build())
+        }
+        Bound::After(end) if following(alloc, end)?.cmp(&version).is_eq() => {
+            with_build(alloc, version, end.build())
+        }
+        _ => Ok(version),
+    }
+}
+
+// The first interval that accepts the version.
+#[tactic(auto, using(crate::proofs::Values::span_same))]
+fn first_accepting<'a>(
+    intervals: &'a [Interval<Version>],
+    version: &Version,
+) -> Option<&'a Interval<Version>>
+    requires { All spec.IsRaisable intervals.now }
+    ensures value { option_copied result
+        ≡ find (λ s. holds precedence s version.now && lets_in s version.now) intervals.now }
+    ensures raisable { IfSome result (λ s. spec.Raisable s.now.lower) }
+{
+    intervals
+        .iter()
+        .find(|interval| accepts_one(interval, version, false))
+}
+
+// Whether the bound's version has a build.
+fn has_build(bound: &Bound<Version>) -> bool
+    ensures { result ≡ spec.has_build bound.now }
+{
+    match bound {
+        Bound::Unbounded => false,
+        Bound::Before(version) | Bound::After(version) => !version.build().is_empty(),
+    }
+}
+
+// Whether one of the lower bounds has a build.
+fn begin_with_build(intervals: &[Interval<Version>]) -> bool
+    ensures { result ≡ list_any (λ s. spec.has_build s.lower) intervals.now }
+{
+    intervals.iter().any(|interval| has_build(interval.lower()))
+}
+
+// The version with the build of the bound with which the first interval that accepts it begins.
+#[tactic(auto, using(crate::proofs::Choice::LeastOf::unbuilt_stays))]
+pub(crate) fn with_least_build(
+    alloc: Global,
+    version: Version,
+    intervals: &[Interval<Version>],
+) -> Result<Version, AllocError>
+    requires raisable { All spec.IsRaisable intervals.now }
+    requires bare { version.build ≡ [] }
+    ensures { IfOk result (λ v. v
+        ≡ record version { build = stated.least_build intervals.now version }) }
+{
+    if !begin_with_build(intervals) {
+        return Ok(version);
+    }
+    match first_accepting(intervals, &version) {
+        Some(interval) => with_build_by(alloc, version, interval.lower()),
+        None => Ok(version),
     }
 }

@@ -1,14 +1,14 @@
 // Borrowed ranges with versions of their own.
 
-ghost use Rattle.nodejs_semver.specs.Internal.Sets as spec;
-ghost use Rattle.nodejs_semver.specs.Ranges.Gate.{passes};
 ghost use Rattle.nodejs_semver.specs.Ranges.View.{TakesMemory};
+ghost use Rattle.semver_core.specs.Cuts.{has_bound, passes};
+ghost use Rattle.semver_core.specs.Values.Memory.{takes_memory};
 ghost use Rattle.std.specs.List.{list_any};
 ghost use Rattle.std.specs.Prelude.{◌≡◌, ◌≢◌, ◌<◌, ◌∷◌, ◌⊎◌, []};
 ghost use Rattle.std.specs.Prelude.{IfOk, IsSomeAnd, OnErr, length, true};
 
 use crate::range::Intervals;
-use crate::{Range, RangeRef};
+use crate::{Range, RangeOf, RangeRef};
 use semver_core::cuts::{Bound, Interval};
 use semver_core::{Version, VersionRef};
 use smallvec::SmallVec;
@@ -16,12 +16,16 @@ use std::alloc::{AllocError, Global};
 
 impl<'a> RangeRef<'a> {
     /// The same range with versions of its own. Fails only if allocation fails, which happens only
-    /// where it has more than one interval, or a bound with a pre-release or build metadata.
+    /// where it has more than one interval, or a bound with build metadata or with a pre-release
+    /// other than `0` alone. So it never fails for `^1.2` and `~1.2.3`, whose upper bounds end in
+    /// `-0`.
+    #[tactic(auto, using(crate::proofs::Values::spans_same))]
     pub fn to_range(&self, alloc: Global) -> Result<Range, AllocError>
         ensures whole { IfOk result (λ range. range ≡ self.now) }
         ensures memory { OnErr result (TakesMemory self.now) }
     {
-        Range::of_borrowed(alloc, self)
+        let intervals = owned_intervals(alloc, self.intervals())?;
+        Ok(RangeOf { intervals })
     }
 }
 
@@ -41,9 +45,10 @@ pub(crate) fn owned_range(
 
 // The bound with a version of its own.
 #[inline(always)]
+#[tactic(auto, using(semver_core::proofs::Taking::taking))]
 fn owned_bound(alloc: Global, bound: &Bound<VersionRef<'_>>) -> Result<Bound<Version>, AllocError>
     ensures whole { IfOk result (λ b. b ≡ bound.now) }
-    ensures memory { OnErr result (passes spec.has_identifiers bound.now ≡ true) }
+    ensures memory { OnErr result (passes takes_memory bound.now ≡ true) }
 {
     Ok(match bound {
         Bound::Unbounded => Bound::Unbounded,
@@ -59,27 +64,14 @@ pub(crate) fn owned_interval(
     interval: &Interval<VersionRef<'_>>,
 ) -> Result<Interval<Version>, AllocError>
     ensures whole { IfOk result (λ i. i ≡ interval.now) }
-    ensures memory { OnErr result (spec.bounds_identifiers interval.now ≡ true) }
+    ensures memory { OnErr result (has_bound takes_memory interval.now ≡ true) }
 {
     let lower = owned_bound(alloc, interval.lower())?;
     let upper = owned_bound(alloc, interval.upper())?;
     Ok(Interval::of_ordered(lower, upper))
 }
 
-// The one interval of a range with versions of its own, made in its place.
-#[inline(always)]
-fn owned_one(
-    alloc: Global,
-    interval: &Interval<VersionRef<'_>>,
-) -> Result<Intervals<Version>, AllocError>
-    ensures whole { IfOk result (λ owned. owned.items ≡ interval.now ∷ []) }
-    ensures memory { OnErr result (spec.bounds_identifiers interval.now ≡ true) }
-{
-    Ok(SmallVec::from_buf(alloc, [owned_interval(alloc, interval)?]))
-}
-
 /// The intervals with versions of their own. Mostly there is one.
-#[inline(always)]
 pub(crate) fn owned_intervals(
     alloc: Global,
     intervals: &[Interval<VersionRef<'_>>],
@@ -87,38 +79,11 @@ pub(crate) fn owned_intervals(
     ensures whole { IfOk result (λ owned. owned.items ≡ intervals.now) }
     ensures some { OnErr result (0 < length intervals.now) }
     ensures memory { OnErr result ((length intervals.now ≢ 1)
-        ⊎ (list_any spec.bounds_identifiers intervals.now ≡ true)) }
+        ⊎ (list_any (has_bound takes_memory) intervals.now ≡ true)) }
 {
-    match intervals {
-        [interval] => owned_one(alloc, interval),
-        _ => owned_list(alloc, intervals),
-    }
-}
-
-// The same of any number of intervals.
-#[inline(always)]
-fn owned_list(
-    alloc: Global,
-    intervals: &[Interval<VersionRef<'_>>],
-) -> Result<Intervals<Version>, AllocError>
-    ensures whole { IfOk result (λ owned. owned.items ≡ intervals.now) }
-    ensures memory { OnErr result (0 < length intervals.now) }
-{
-    Ok(SmallVec::from_vec(owned_vec(alloc, intervals)?))
-}
-
-// The intervals with versions of their own, as a vector, which is small where it is returned.
-#[inline(never)]
-fn owned_vec(
-    alloc: Global,
-    intervals: &[Interval<VersionRef<'_>>],
-) -> Result<Vec<Interval<Version>>, AllocError>
-    ensures whole { IfOk result (λ owned. owned.items ≡ intervals.now) }
-    ensures memory { OnErr result (0 < length intervals.now) }
-{
-    let mut owned = Vec::with_capacity(alloc, intervals.len())?;
+    let mut owned = SmallVec::with_capacity(alloc, intervals.len())?;
     for interval in intervals {
-        owned.push(owned_interval(alloc, interval)?)?;
+        owned.push_reserved(owned_interval(alloc, interval)?);
     }
     Ok(owned)
 }

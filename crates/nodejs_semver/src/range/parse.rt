@@ -31,8 +31,8 @@ impl Range {
     /// `>=9007199254740991.0.0`.
     ///
     /// The one other error is an allocation failure. It is never returned for a text that is to be
-    /// rejected, nor for one that means one interval whose bounds have neither a pre-release nor
-    /// build metadata, as `>=1.2.3 <2.0.0`.
+    /// rejected, nor for one that means one interval whose bounds have no build metadata and no
+    /// pre-release other than `0` alone, as `^1.2`, `~1.2.3`, `1.x` and `>=1.2.3 <2.0.0`.
     ///
     /// ```rust
     /// let range = Range::parse(alloc, "^1.2 || 3.0.0-rc.1")?;
@@ -47,7 +47,8 @@ impl Range {
         ensures some { IfOk result (λ range. 0 < length range) }
         // The text is rejected only if it means none. The one other error is a failed allocation.
         ensures refused { RefusedOnlyIf result (Means MAX_SAFE_INTEGER text.now []) }
-        // Allocation fails only if the text means two intervals or more, or one with identifiers.
+        // Allocation fails only if the text means two intervals or more, or one whose bounds take
+        // memory.
         ensures memory { MemoryOnlyIf result ((r : List (Span VersionValue)) →
             Means MAX_SAFE_INTEGER text.now r → TakesMemory r) }
         // With pre-releases included, the range accepts exactly the versions that the text writes.

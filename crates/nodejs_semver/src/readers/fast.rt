@@ -4,7 +4,7 @@ ghost use Rattle.std.specs.Prelude.{◌≡◌, ◌≤◌, ◌⊎◌, [], if◌th
 ghost use Rattle.std.specs.Prelude.{IsFalse, IsTrue, List, None, OnErr, Some, length, true};
 ghost use Rattle.nodejs_semver.specs.Internal.CommonFronts as Spec;
 ghost use Rattle.nodejs_semver.specs.Text.Bars.{has_bars};
-ghost use Rattle.nodejs_semver.specs.Text.Common.{IsCommonRange};
+ghost use Rattle.nodejs_semver.specs.Text.Common.{AreCommonParts, IsCommonRange, has_plus};
 ghost use Rattle.nodejs_semver.specs.Text.Meaning.{Means};
 ghost use Rattle.nodejs_semver.specs.Internal.CommonViews.{both_view};
 ghost use Rattle.nodejs_semver.specs.Internal.CommonViews.{bounds_front_view, passed_view};
@@ -29,19 +29,15 @@ use semver_core::{MAX_SAFE_INTEGER, VersionRef};
 use smallvec::SmallVec;
 use std::alloc::{AllocError, Global};
 
-// The partial at the front. Neither `v` nor whitespace is skipped before it. A partial that has a
-// build is none of a common text.
+// The partial at the front. Neither `v` nor whitespace is skipped before it.
 #[inline(always)]
 #[tactic(auto, unfolding(crate::specs::Internal::CommonFronts::bare_front))]
 fn bare_front(text: &[u8]) -> Option<(Partial<'_>, &[u8])>
     ensures { partial_front_view result ≡ Spec.bare_front MAX_SAFE_INTEGER text.now }
 {
-    let (major, rest) = partial::component_front(text)?;
-    let (partial, rest) = partial::minor_front(major, rest);
-    if partial.build.is_empty() {
-        Some((partial, rest))
-    } else {
-        None
+    match partial::component_front(text) {
+        Some((major, rest)) => Some(partial::minor_front(major, rest)),
+        None => None,
     }
 }
 
@@ -283,8 +279,8 @@ fn after_bars(text: &[u8]) -> Option<&[u8]>
     }
 }
 
-/// Adds the intervals of a common text, one for each part, to an empty list. It returns `false`
-/// exactly where the text is not a common one; then the list may hold some of them.
+/// Adds the intervals of common parts, one for each, to an empty list. It returns `false` exactly
+/// where the text is none; then the list may hold some of them. Its versions may have builds.
 #[inline(always)]
 pub(crate) fn read_common<'a, S: Found<'a>>(
     text: &'a [u8],
@@ -292,9 +288,9 @@ pub(crate) fn read_common<'a, S: Found<'a>>(
 ) -> Result<bool, AllocError>
     requires { S.items found.old ≡ [] }
     ensures some { IfOk result (λ there. IsTrue there
-        → IsCommonRange MAX_SAFE_INTEGER text.now (S.items found.new)) }
+        → AreCommonParts MAX_SAFE_INTEGER text.now (S.items found.new)) }
     ensures none { IfOk result (λ there. IsFalse there
-        → NoValue (IsCommonRange MAX_SAFE_INTEGER text.now)) }
+        → NoValue (AreCommonParts MAX_SAFE_INTEGER text.now)) }
     ensures memory { OnErr result
         ((S.room ≤ 0) ⊎ (has_bars text.now ≡ true)) }
 {
@@ -312,6 +308,13 @@ pub(crate) fn read_common<'a, S: Found<'a>>(
         found.reserve_for(next)?;
         rest = next;
     }
+}
+
+// Whether a `+` stands in a text.
+fn has_plus(text: &str) -> bool
+    ensures { result ≡ has_plus text.now }
+{
+    text.as_bytes().contains(&b'+')
 }
 
 /// Reads a common range text in one pass. It returns `None` exactly where the text is not one; the
@@ -337,6 +340,9 @@ pub fn range_fast(alloc: Global, text: &str) -> Result<Option<Range>, AllocError
         ⊎ ((r : List (Span VersionValue)) × IsCommonRange MAX_SAFE_INTEGER text.now r
         × TakesMemory r)) }
 {
+    if has_plus(text) {
+        return Ok(None);
+    }
     let mut found = SmallVec::new(alloc);
     if !read_common(text.as_bytes(), &mut found)? {
         return Ok(None);

@@ -4,9 +4,9 @@ ghost use Rattle.std.specs.List.{list_any};
 ghost use Rattle.std.specs.Prelude.{◌≡◌, ◌<◌, ◌≤◌, ◌++◌, ◌∷◌, ◌⊎◌, [], ℕ, Bool, List, OnErr, OnOk};
 ghost use Rattle.std.specs.Prelude.{false, length, true};
 ghost use Rattle.nodejs_semver.specs.Internal.Denotes.{denotes};
-ghost use Rattle.nodejs_semver.specs.Internal.Sets as spec;
-ghost use Rattle.semver_core.specs.Cuts.{Span};
+ghost use Rattle.semver_core.specs.Cuts.{Span, has_bound};
 ghost use Rattle.semver_core.specs.Lists.{is_empty};
+ghost use Rattle.semver_core.specs.Values.Memory.{takes_memory};
 ghost use Rattle.semver_core.specs.Values.Versions.{VersionValue};
 ghost use Rattle.semver_core.specs.declared.TheConstants.{MAX_SAFE_INTEGER};
 
@@ -131,7 +131,7 @@ impl<'a> Filled<'a> for Intervals<VersionRef<'a>> {
 
 /// What the loose reader finds is copied.
 impl<'a> Filled<'a> for Intervals<Version> {
-    ghost takes = { spec.bounds_identifiers };
+    ghost takes = { has_bound takes_memory };
 
     #[inline(always)]
     fn is_empty(&self) -> bool {

@@ -7,12 +7,10 @@ ghost use Rattle.nodejs_semver.specs.Internal.Denotes.{part_bounds, part_interva
 ghost use Rattle.nodejs_semver.specs.Internal.CommonFronts.{pushed};
 ghost use Rattle.nodejs_semver.specs.Internal.CommonViews.{between_view, both_view};
 ghost use Rattle.nodejs_semver.specs.Internal.Meets.{joined_from, next_at};
-ghost use Rattle.nodejs_semver.specs.Internal.Readings.{bounds_view};
-ghost use Rattle.nodejs_semver.specs.Internal.Readings.{hyphen_pushed_view, next_view};
+ghost use Rattle.nodejs_semver.specs.Internal.Readings.{bounds_view, hyphen_pushed_view, next_view};
 ghost use Rattle.nodejs_semver.specs.Internal.Readings.{partial_view, sign_view, word_pushed_view};
 ghost use Rattle.nodejs_semver.specs.Internal.Words.{hyphen_pushed, signed_word, upper_behind};
-ghost use Rattle.nodejs_semver.specs.Internal.Words.{upper_of, word_pushed};
-ghost use Rattle.nodejs_semver.specs.Internal.Words.{word_at};
+ghost use Rattle.nodejs_semver.specs.Internal.Words.{upper_of, word_pushed, word_at};
 ghost use Rattle.nodejs_semver.specs.Text.WordText.{hyphen};
 ghost use Rattle.nodejs_semver.specs.Text.Table.{table};
 ghost use Rattle.semver_core.specs.Internal.Spaces.{space_len};

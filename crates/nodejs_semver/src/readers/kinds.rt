@@ -2,8 +2,7 @@
 
 ghost use Rattle.std.specs.Prelude.{◌≡◌};
 ghost use Rattle.nodejs_semver.specs.Internal.Ignored.{kind_at, kind_view, unless_bounded};
-ghost use Rattle.nodejs_semver.specs.Internal.Readings.{partial_front_view};
-ghost use Rattle.nodejs_semver.specs.Internal.Readings.{sign_view};
+ghost use Rattle.nodejs_semver.specs.Internal.Readings.{partial_front_view, sign_view};
 ghost use Rattle.nodejs_semver.specs.Internal.Words.{upper_of};
 ghost use Rattle.semver_core.specs.declared.TheConstants.{MAX_SAFE_INTEGER};
 

@@ -1,8 +1,7 @@
 // The reader of range texts, word by word.
 
-ghost use Rattle.std.specs.Prelude.{◌≡◌, ◌↔◌, ◌<◌, ◌++◌, ◌∷◌, []};
-ghost use Rattle.std.specs.Prelude.{IfNone, IfOk, IfSome, IsTrue, OnOk};
-ghost use Rattle.std.specs.Prelude.{List, OnErr, flat_map, length};
+ghost use Rattle.std.specs.Prelude.{◌≡◌, ◌↔◌, ◌<◌, ◌++◌, ◌∷◌, [], IfNone, IfOk, IfSome, IsTrue};
+ghost use Rattle.std.specs.Prelude.{OnOk, List, OnErr, flat_map, length};
 ghost use Rattle.std.specs.List.{list_all};
 ghost use Rattle.nodejs_semver.specs.Internal.Denotes.{denotes, part_denotes};
 ghost use Rattle.nodejs_semver.specs.Internal.PartFronts.{later_parts};

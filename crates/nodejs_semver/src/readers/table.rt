@@ -19,7 +19,7 @@ use semver_core::{MAX_SAFE_INTEGER, VersionRef};
 // `major.minor.patch`
 #[inline(always)]
 #[tactic(auto, using(crate::proofs::Reading::IdentifierLists::short_lists))]
-fn release(major: u64, minor: u64, patch: u64) -> VersionRef<'static>
+pub(crate) fn release(major: u64, minor: u64, patch: u64) -> VersionRef<'static>
     ensures { result ≡ release_value major minor patch }
 {
     VersionRef::from_texts(major, minor, patch, b"", b"")
@@ -28,7 +28,7 @@ fn release(major: u64, minor: u64, patch: u64) -> VersionRef<'static>
 // `major.minor.patch-0`
 #[inline(always)]
 #[tactic(auto, using(crate::proofs::Reading::IdentifierLists::short_lists))]
-fn lowest(major: u64, minor: u64, patch: u64) -> VersionRef<'static>
+pub(crate) fn lowest(major: u64, minor: u64, patch: u64) -> VersionRef<'static>
     ensures { result ≡ Spec.lowest major minor patch }
 {
     VersionRef::from_texts(major, minor, patch, b"0", b"")
@@ -66,7 +66,7 @@ fn version_without_build<'a>(partial: &Partial<'a>) -> VersionRef<'a>
 impl<'a> Bounds<'a> {
     // `>=version`
     #[inline(always)]
-    fn at_least(version: VersionRef<'a>) -> Bounds<'a>
+    pub(crate) fn at_least(version: VersionRef<'a>) -> Bounds<'a>
         ensures { bounds_view result
             ≡ record { lower = Bound.Before version.entry; upper = Bound.Unbounded } }
     {
@@ -78,7 +78,7 @@ impl<'a> Bounds<'a> {
 
     // `>version`
     #[inline(always)]
-    fn above(version: VersionRef<'a>) -> Bounds<'a>
+    pub(crate) fn above(version: VersionRef<'a>) -> Bounds<'a>
         ensures { bounds_view result
             ≡ record { lower = Bound.After version.entry; upper = Bound.Unbounded } }
     {
@@ -90,7 +90,7 @@ impl<'a> Bounds<'a> {
 
     // `<version`
     #[inline(always)]
-    fn below(version: VersionRef<'a>) -> Bounds<'a>
+    pub(crate) fn below(version: VersionRef<'a>) -> Bounds<'a>
         ensures { bounds_view result
             ≡ record { lower = Bound.Unbounded; upper = Bound.Before version.entry } }
     {
@@ -102,7 +102,7 @@ impl<'a> Bounds<'a> {
 
     // `<=version`
     #[inline(always)]
-    fn at_most(version: VersionRef<'a>) -> Bounds<'a>
+    pub(crate) fn at_most(version: VersionRef<'a>) -> Bounds<'a>
         ensures { bounds_view result
             ≡ record { lower = Bound.Unbounded; upper = Bound.After version.entry } }
     {
@@ -114,7 +114,7 @@ impl<'a> Bounds<'a> {
 
     // `>=first <end`
     #[inline(always)]
-    fn between(first: VersionRef<'a>, end: VersionRef<'a>) -> Bounds<'a>
+    pub(crate) fn between(first: VersionRef<'a>, end: VersionRef<'a>) -> Bounds<'a>
         ensures { bounds_view result
             ≡ record {
               lower = Bound.Before first.entry;
@@ -129,7 +129,7 @@ impl<'a> Bounds<'a> {
 
     // `>=first <=last`
     #[inline(always)]
-    fn through(first: VersionRef<'a>, last: VersionRef<'a>) -> Bounds<'a>
+    pub(crate) fn through(first: VersionRef<'a>, last: VersionRef<'a>) -> Bounds<'a>
         ensures { bounds_view result
             ≡ record {
               lower = Bound.Before first.entry;

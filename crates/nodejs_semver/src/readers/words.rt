@@ -22,9 +22,9 @@ pub(crate) fn is_boundary(text: &[u8]) -> bool
     text.is_empty() || spaces::space_len(text) > 0
 }
 
-// What follows one whitespace character or more.
+/// What follows one whitespace character or more.
 #[inline(always)]
-fn after_some_space(text: &[u8]) -> Option<&[u8]>
+pub(crate) fn after_some_space(text: &[u8]) -> Option<&[u8]>
     ensures { rest_view result ≡ Spec.after_some_space text.now }
 {
     if spaces::space_len(text) > 0 {

@@ -1,5 +1,6 @@
 -- For proofs. What the results of reading a question's texts, and of replying to it, say.
-use Rattle.std.specs.Prelude.{◌<◌, ℕ, List, [], length, Option, Result, Ok, Err, IfErr, IfOk, false, ⊤}
+use Rattle.std.specs.Prelude.{◌≡◌, ◌==◌, ◌<◌, ℕ, Bool, List, [], ◌∷◌, length, Option, Some, None, Result, Ok, Err, IfErr, IfOk}
+use Rattle.std.specs.Prelude.{false, true, ⊤}
 use Rattle.std.specs.Borrow.{Bor}
 use Rattle.semver_core.specs.Cuts.{Span}
 use Rattle.semver_core.specs.Failures.{RefusedOnlyIf, NoValue}
@@ -12,9 +13,12 @@ use Rattle.nodejs_semver.specs.Ranges.Gate.{accepts}
 use Rattle.nodejs_semver.specs.Text.Meaning.{Means}
 use Rattle.semver_core.specs.declared.error.Failure.{Failure}
 use Rattle.semver_core.specs.declared.error.Failure.TheVariants.{Refused, Memory}
+use Rattle.semver_answers.specs.Commands.{Asks, IsReply, Question}
+use Rattle.semver_answers.specs.Lines.{fields}
 use Rattle.semver_answers.specs.Names.{fault_word}
 use Rattle.semver_answers.specs.Replies.{AreVersionsOf}
 use Rattle.semver_answers.specs.declared.fault.Fault.{Fault}
+use Rattle.semver_answers.specs.declared.fault.Fault.TheVariants.{BadLine}
 use Rattle.semver_answers.specs.declared.question.AboutBest.{AboutBest}
 use Rattle.semver_answers.specs.declared.question.AboutBest.TheVariants.{Max, Min}
 
@@ -48,6 +52,27 @@ pub record FindsBest (asked : AboutBest) (r : List (Span VersionValue)) (texts :
   pub versions : List VersionValue
   pub read : AreVersionsOf texts (Ok versions)
   pub is : IsBestOf asked r versions best
+
+-- the fields behind a field, of the text behind its `;`
+abbrev pub behind : Option (Bor (List ℕ)) → List (List ℕ)
+behind None = []
+behind (Some rest) = fields rest.now
+
+-- a field ends before this text
+abbrev pub ends_field : List ℕ → Bool
+ends_field [] = true
+ends_field (c ∷ rest) = c == 59
+
+-- the first field of a text was read as a version, and what stands behind it is left
+pub record ReadsVersion (text : List ℕ) (version : Result VersionValue SemverError) (rest : Option (Bor (List ℕ))) : Type 0 where
+  pub field : List ℕ
+  pub first : fields text ≡ field ∷ behind rest
+  pub parsed : ParsesVersion field version
+
+-- the answer to a line of these fields
+pub data AnswersFields (line : List (List ℕ)) (answer : List ℕ) : Type 0 where
+  answered : (question : Question) → Asks line question → IsReply question answer → AnswersFields line answer
+  unasked : ((question : Question) → Asks line question → ⊥) → answer ≡ fault_word BadLine → AnswersFields line answer
 
 -- the text or the error is the reply, unless an allocation failed
 abbrev pub IsTold : Result (Bor (List ℕ)) (Failure Fault) → (List ℕ → Type 0) → Type 0

@@ -1,16 +1,15 @@
 -- Whitespace, character by character.
-use Rattle.std.proofs.Common.{◌≡◌, ◌≤◌, ◌+◌, ◌-◌, ℕ, true, false, List, [], ◌∷◌, ◌++◌, length, drop, take}
-use Rattle.std.proofs.Common.{refl, sym, ap, ◌∙◌, arith, length-append, append-nil}
-use Rattle.std.proofs.lemmas.List.{drop_at, drop-drop, length-drop, take_at}
+use Rattle.semver_core.proofs.Common.{◌≡◌, ◌≤◌, ◌+◌, ◌-◌, ℕ, true, false, List, [], ◌∷◌, ◌++◌, length, drop, take, refl, sym, ap}
+use Rattle.semver_core.proofs.Common.{◌∙◌, arith, append-nil, drop-drop, length-drop, len_utf8, encode_utf8, list_all}
+use Rattle.semver_core.proofs.Common.{encode_utf8_all, IsCharBoundary, IsUtf8, is_whitespace, BeginsBlank, IsAfterBlank, IsBlank}
+use Rattle.std.proofs.Common.{length-append}
+use Rattle.std.proofs.lemmas.List.{drop_at, take_at}
 use Rattle.std.proofs.lemmas.Str.{len_utf8_bounds}
 use Rattle.std.proofs.lemmas.Str.{IsCharBoundary-past_char, IsUtf8-drop, encode_same, encodes-append, length-encode}
 use mathlib.Core.Bool.{true≢false}
 use Rattle.std.proofs.Math.Seq.{take-add}
 use Rattle.std.proofs.lemmas.List.Folds.{list_all-append}
-use Rattle.std.specs.Char.{len_utf8, encode_utf8}
-use Rattle.std.specs.List.{list_all}
-use Rattle.std.specs.Prelude.{encode_utf8_all, IsCharBoundary, IsUtf8, slice_range}
-use Rattle.semver_core.specs.Text.Characters.{is_whitespace, BeginsBlank, IsAfterBlank, IsBlank}
+use Rattle.std.specs.Prelude.{slice_range}
 
 -- how far whitespace has been passed
 pub record Passed (text : List ℕ) (at end : ℕ) (rest passed : List ℕ) : Type 0 where

@@ -1,9 +1,8 @@
 -- The clauses of the calls that read a piece, from what they compute.
-use Rattle.std.proofs.Common.{◌≡◌, ℕ, List, Option, Some, None, sym}
+use Rattle.semver_core.proofs.Common.{◌≡◌, ℕ, List, Option, Some, None, sym, IsWholeNumber}
 use Rattle.semver_core.specs.Internal.Reading.{number_at}
 use Rattle.std.specs.Option.{IfSome, IfNone}
 use Rattle.semver_core.specs.Text.Characters.{IsPieceAt, NoPieceAt}
-use Rattle.semver_core.specs.Text.Numbers.{IsWholeNumber}
 use Rattle.semver_core.proofs.Text.Pieces.{number_sound, number_complete}
 
 pub number_found : (limit : ℕ) (text : List ℕ) (at : ℕ) (r : Option (ℕ × ℕ)) → r ≡ number_at limit text at

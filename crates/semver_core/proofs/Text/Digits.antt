@@ -1,12 +1,9 @@
 -- What a loop over digits reads, step by step.
-use Rattle.std.proofs.Common.{◌≡◌, ◌<◌, ◌≤◌, ◌+◌, ◌-◌, ◌*◌, ℕ, true, false, List, length, drop, get_or, refl}
-use Rattle.std.proofs.Common.{arith, add-one, Some, None, ltb, ◌==◌, if◌then◌else◌}
-use Rattle.std.proofs.Math.Seq.{drop-cons}
-use Rattle.std.proofs.lemmas.Bool.Decides.{nat_tests}
+use Rattle.semver_core.proofs.Common.{◌≡◌, ◌<◌, ◌≤◌, ◌+◌, ◌-◌, ◌*◌, ℕ, true, false, List, length, drop, get_or, refl, arith}
+use Rattle.semver_core.proofs.Common.{add-one, Some, None, ltb, ◌==◌, drop-cons, nat_tests, is_ascii_digit, digit_value, drop_all}
+use Rattle.std.proofs.Common.{if◌then◌else◌}
 use Rattle.std.proofs.lemmas.Str.{digit_value_digit}
-use Rattle.std.specs.Char.{is_ascii_digit, digit_value}
 use Rattle.semver_core.specs.Internal.Reading.{digits_from, digits_end, placed}
-use Rattle.std.proofs.lemmas.List.{drop_all}
 
 pub digit_value-is : (c : ℕ) → is_ascii_digit c ≡ true → digit_value c ≡ c - 48
 digit_value-is c h = let e = digit_value_digit c (grind (arith, nat_tests)) in omega arith

@@ -1,19 +1,13 @@
 -- Where the identifiers that begin at a place end, and that what stands there spells them.
-use Rattle.std.proofs.Common.{◌≡◌, ℕ, ◌<◌, ◌≤◌, ◌+◌, ◌-◌, List, [], ◌∷◌, length, drop, take}
-use Rattle.std.proofs.Common.{refl, arith, true, false, add-one, Some}
-use Rattle.std.proofs.Math.Seq.{drop-cons}
-use Rattle.std.proofs.lemmas.List.{drop_all}
-use Rattle.std.specs.List.{list_all}
+use Rattle.semver_core.proofs.Common.{◌≡◌, ℕ, ◌<◌, ◌≤◌, ◌+◌, ◌-◌, List, [], ◌∷◌, length, drop, take, refl, arith, true, false}
+use Rattle.semver_core.proofs.Common.{add-one, Some, drop-cons, drop_all, list_all, Reads, NoValue, begins, is_identifier_char}
+use Rattle.semver_core.proofs.Common.{goes_on, identifier_of, is_identifier, is_listed, listed, pieces, VersionValue}
 use Rattle.std.specs.Prelude.{map}
-use Rattle.semver_core.specs.Text.VersionText.{Reads}
-use Rattle.semver_core.specs.Failures.{NoValue}
-use Rattle.semver_core.specs.Text.Characters.{begins, is_identifier_char}
-use Rattle.semver_core.specs.Text.Identifiers.{goes_on, identifier_of, is_identifier, is_listed, listed, pieces}
 use Rattle.semver_core.specs.Internal.Reading.{list_from, list_len}
 use Rattle.semver_core.proofs.Text.Pieces.{begins_taken, begun_runs, taken_runs}
 use Rattle.semver_core.proofs.Text.Runs.{list_len_stop}
 use Rattle.semver_core.specs.Text.Parsing.{Parses}
-use Rattle.semver_core.specs.Values.Versions.{HasIdentifiers, VersionValue}
+use Rattle.semver_core.specs.Values.Versions.{HasIdentifiers}
 use Rattle.semver_core.specs.declared.TheConstants.{MAX_LENGTH}
 
 -- the loop

@@ -1,17 +1,10 @@
 -- A text that spells a list of identifiers spells the first one and then the others.
-use Rattle.std.proofs.Common.{◌≡◌, ℕ, ◌<◌, ◌≤◌, ◌+◌, List, [], ◌∷◌, length, drop, take, refl, sym, ap, ◌∙◌, arith}
-use Rattle.std.proofs.Common.{true, false, inl, inr, add-one, add_comm, zero-add, Option, Some}
-use Rattle.std.specs.Prelude.{◌==◌, eqb, map}
-use Rattle.semver_core.specs.Lists.{is_empty}
-use Rattle.std.specs.Cmp.Lexicographic.{slice_cmp}
-use Rattle.std.specs.declared.cmp.Ordering.TheVariants.{Less, Equal, Greater}
-use Rattle.semver_core.specs.Values.Order.{id_cmp}
+use Rattle.semver_core.proofs.Common.{◌≡◌, ℕ, ◌<◌, ◌≤◌, ◌+◌, List, [], ◌∷◌, length, drop, take, refl, sym, ap, ◌∙◌, arith, true}
+use Rattle.semver_core.proofs.Common.{false, inl, inr, add-one, add_comm, zero-add, Option, Some, ◌==◌, eqb, is_empty, slice_cmp}
+use Rattle.semver_core.proofs.Common.{Less, Equal, Greater, id_cmp, nat_tests, cases_Bool, eqb-true, list_all, onto_first, Id}
+use Rattle.semver_core.proofs.Common.{identifier_of, is_identifier, is_listed, listed, pieces, drop-drop}
+use Rattle.std.specs.Prelude.{map}
 use Rattle.semver_core.proofs.Text.Listed.{listed_none, listed_some}
-use Rattle.std.proofs.lemmas.Bool.Decides.{nat_tests}
-use Rattle.std.proofs.lemmas.Bool.{cases_Bool, eqb-true}
-use Rattle.std.specs.List.{list_all, onto_first}
-use Rattle.semver_core.specs.Text.Identifiers.{Id, identifier_of, is_identifier, is_listed, listed, pieces}
-use Rattle.std.proofs.lemmas.List.{drop-drop}
 use Rattle.semver_core.specs.Internal.CommonReading.{number_of_run, run_from, run_len}
 use Rattle.semver_core.proofs.Text.OnePass.{scan_end, scan_fits}
 use Rattle.semver_core.proofs.Text.Pieces.{first_char, runs_tail, tail_onto, tail_runs}
@@ -78,8 +71,6 @@ front_number text r e = (scan_end text 0 r e).1
 
 pub front_fits : (text : List ℕ) (r : ℕ × Option ℕ) → r ≡ run_from (Some 0) 0 (drop 0 text) → r.0 ≤ length text
 front_fits text r e = (scan_fits text 0 r e (omega arith)).1
-
-pub ruleset run_fronts = (front_end, front_number, front_fits)
 
 pub ids_first : (text : List ℕ) (n : ℕ) (id : Id) → n ≡ run_len text → is_listed text ≡ true → 0 < length text
     → id ≡ identifier_of (take n text) → listed text ≡ id ∷ listed (drop 1 (drop n text))

@@ -1,20 +1,16 @@
 -- A text that spells a list of identifiers is its own longest list.
-use Rattle.std.proofs.Common.{◌≡◌, ℕ, ◌<◌, ◌+◌, get_or, List, [], ◌∷◌, length, refl, sym, ap, ◌∙◌}
-use Rattle.std.proofs.Common.{arith, take, true, Some, inl, inr, append-nil}
-use Rattle.std.specs.Prelude.{◌==◌, IsUtf8, eqb}
+use Rattle.semver_core.proofs.Common.{◌≡◌, ℕ, ◌<◌, ◌+◌, get_or, List, [], ◌∷◌, length, refl, sym, ap, ◌∙◌, arith, take, true}
+use Rattle.semver_core.proofs.Common.{Some, inl, inr, append-nil, ◌==◌, IsUtf8, eqb, cases_Bool, eqb-true, list_all, onto_first}
+use Rattle.semver_core.proofs.Common.{begins, is_identifier_char, Id, Numeric, identifier_of, IsLongestIdentifiers, is_identifier}
+use Rattle.semver_core.proofs.Common.{is_listed, listed, pieces, id_view, ids_view, Identifier}
 use Rattle.std.specs.Str.{IsAscii}
-use Rattle.std.proofs.lemmas.Bool.{cases_Bool, eqb-true}
 use Rattle.std.proofs.lemmas.Str.{IsAscii-take, IsUtf8-from_ascii}
 use Rattle.std.proofs.lemmas.Str.Ascii.{IsAscii-nil, IsAscii-cons}
-use Rattle.std.specs.List.{count_by, list_all, onto_first}
+use Rattle.std.specs.List.{count_by}
 use Rattle.std.proofs.lemmas.List.Splits.{length-slice_split}
 use Rattle.std.proofs.lemmas.List.{length-map}
-use Rattle.semver_core.specs.Text.Characters.{begins, is_identifier_char}
-use Rattle.semver_core.specs.Text.Identifiers.{Id, Numeric, identifier_of, IsLongestIdentifiers, is_identifier, is_listed, listed, pieces}
 use Rattle.semver_core.specs.Internal.Reading.{list_at}
 use Rattle.semver_core.proofs.Text.Runs.{ascii as small_char}
-use Rattle.semver_core.specs.Values.Views.{id_view, ids_view}
-use Rattle.semver_core.specs.declared.identifier.Identifier.{Identifier}
 use Rattle.semver_core.proofs.Text.Pieces.{first_char, list_complete, runs_begin, runs_tail, some_inside, tail_onto, tail_runs}
 
 ascii : (text : List ℕ) → tail_runs (pieces text) ≡ true → IsAscii text

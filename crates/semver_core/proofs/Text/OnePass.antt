@@ -1,16 +1,13 @@
 -- A run that is read in one pass.
-use Rattle.std.proofs.Common.{◌≡◌, ◌<◌, ◌≤◌, ◌+◌, ◌*◌, ◌^◌, ◌-◌, ℕ, true, false, ltb, List, [], ◌∷◌, length, drop, take, get_or, Option, Some, None, refl, sym, ap, ◌∙◌, arith, inl, inr, add-one, add_comm, add-zero}
-use Rattle.std.proofs.Math.Seq.{drop-cons}
-use Rattle.std.proofs.lemmas.Bool.{cases_Bool}
-use Rattle.std.proofs.lemmas.Bool.Decides.{nat_tests}
-use Rattle.std.proofs.lemmas.List.{drop_all, length-drop}
-use Rattle.std.specs.Cmp.{first_so, second_so}
-use Rattle.std.specs.Char.{is_ascii_digit, digit_value}
-use Rattle.std.specs.List.{list_all, prefix_len}
+use Rattle.semver_core.proofs.Common.{◌≡◌, ◌<◌, ◌≤◌, ◌+◌, ◌*◌, ◌-◌, ℕ, true, false, ltb, List, [], ◌∷◌, length, drop, take}
+use Rattle.semver_core.proofs.Common.{get_or, Option, Some, None, refl, sym, ap, ◌∙◌, arith, inl, inr, add-one, add_comm}
+use Rattle.semver_core.proofs.Common.{drop-cons, cases_Bool, nat_tests, drop_all, length-drop, first_so, second_so}
+use Rattle.semver_core.proofs.Common.{is_ascii_digit, digit_value, list_all, is_identifier_char, Numeric, identifier_of}
+use Rattle.std.proofs.Common.{◌^◌, add-zero}
+use Rattle.std.specs.List.{prefix_len}
 use Rattle.std.specs.Str.Parse.{digits_value, digits_value_after}
-use Rattle.semver_core.specs.Text.Characters.{is_identifier_char}
 use Rattle.semver_core.specs.Internal.CommonReading.{grown, run_from, number_of_run, id_by}
-use Rattle.semver_core.specs.Text.Identifiers.{Numeric, AlphaNumeric, identifier_of}
+use Rattle.semver_core.specs.Text.Identifiers.{AlphaNumeric}
 use Rattle.semver_core.proofs.Text.Digits.{digit_value-is}
 use Rattle.semver_core.proofs.Text.Pieces.{digits_grow}
 use Rattle.std.proofs.lemmas.List.Sums.{prefix_len-le-length}
@@ -109,6 +106,14 @@ pub scan_fits : (text : List ℕ) (start : ℕ) (r : ℕ × Option ℕ) → r �
 scan_fits text start r e le =
     let end = (scan_end text start r e).0 in
     (omega (arith, end), omega (arith, end, prefix_len-le-length is_identifier_char (drop start text), length-drop start text))
+
+-- the end of a run, whatever it writes
+pub run_place : (text : List ℕ) (start end : ℕ) → (end, None) ≡ run_from None start (drop start text) → start ≤ length text
+    → (end ≡ start + prefix_len is_identifier_char (drop start text)) × (end ≤ length text)
+run_place text start end e le =
+    let is : end ≡ start + prefix_len is_identifier_char (drop start text) =
+    ap (λ (q : ℕ × Option ℕ). q.0) (e ∙ run_found None start (drop start text)) in
+    (is, omega (arith, is, le, prefix_len-le-length is_identifier_char (drop start text), length-drop start text))
 
 pub scan_number : (run : List ℕ) (v : ℕ) → Some v ≡ number_of_run (Some 0) run → identifier_of run ≡ Numeric v
 scan_number run v e = sym (id_spelled run) ∙ ap (λ n. id_by n run) (sym e)

@@ -1,20 +1,15 @@
 -- A number and an identifier list are read exactly where the grammar has them.
-use Rattle.std.proofs.Common.{◌≡◌, ◌&&◌, ◌<◌, ◌≤◌, ◌+◌, ◌*◌, ℕ, Bool, true, false, ltb, List, [], ◌∷◌, ◌++◌, length, drop, take}
-use Rattle.std.proofs.Common.{Option, Some, None, refl, sym, ap, ◌∙◌, arith, inl, inr, add-one, add_comm, zero-add, eqb}
+use Rattle.semver_core.proofs.Common.{◌≡◌, ◌<◌, ◌≤◌, ◌+◌, ◌*◌, ℕ, Bool, true, false, ltb, List, [], ◌∷◌, ◌++◌, length, drop, take}
+use Rattle.semver_core.proofs.Common.{Option, Some, None, refl, sym, ap, ◌∙◌, arith, inl, inr, add-one, add_comm, zero-add, eqb}
+use Rattle.semver_core.proofs.Common.{◌==◌, and_parts, cases_Bool, eqb-true, lt-ltb, nat_tests, drop-drop, take-append-drop}
+use Rattle.semver_core.proofs.Common.{first_so, second_so, is_ascii_digit, digit_value, list_all, onto_first, begins}
+use Rattle.semver_core.proofs.Common.{is_identifier_char, Id, is_identifier, pieces, goes_on, IsLongestIdentifiers, IsNumber}
+use Rattle.semver_core.proofs.Common.{IsWholeNumber}
+use Rattle.std.proofs.Common.{◌&&◌}
 use Rattle.std.proofs.Math.Seq.{take-append_seam, drop-append_seam}
-use Rattle.std.specs.Prelude.{◌==◌}
 use Rattle.semver_core.proofs.Text.Runs.{list_len_stop, not_dot}
-use Rattle.std.proofs.lemmas.Bool.{and_parts, cases_Bool, eqb-true, lt-ltb}
-use Rattle.std.proofs.lemmas.Bool.Decides.{nat_tests}
-use Rattle.std.proofs.lemmas.List.{drop-drop, take-append-drop}
-use Rattle.std.specs.Cmp.{first_so, second_so}
-use Rattle.std.specs.Char.{is_ascii_digit, digit_value}
-use Rattle.std.specs.List.{list_all, onto_first}
 use Rattle.std.specs.Str.Parse.{digits_value_after}
 use borrow.Author.Tests.{ltb-false, le-ltb}
-use Rattle.semver_core.specs.Text.Characters.{begins, is_identifier_char}
-use Rattle.semver_core.specs.Text.Identifiers.{Id, is_identifier, pieces, goes_on, IsLongestIdentifiers}
-use Rattle.semver_core.specs.Text.Numbers.{IsNumber, IsWholeNumber}
 use Rattle.semver_core.specs.Internal.Reading.{digits_end, digits_from, list_len, list_of, placed, number_at, list_at}
 
 pub some_inside : {A : Type 0} (x y : A) → Some x ≡ Some y → x ≡ y

@@ -1,24 +1,20 @@
 -- Runs of identifier characters, and lists of them.
-use Rattle.std.proofs.Common.{◌≡◌, ◌<◌, ◌≤◌, ◌+◌, ◌-◌, ◌^◌, ◌==◌, ℕ, true, false, List, [], ◌∷◌, ◌++◌, length}
-use Rattle.std.proofs.Common.{drop, take, get_or, map, refl, sym, ap, ◌∙◌, arith, Some, ltb, eqb, rules, inl}
-use Rattle.std.proofs.Common.{inr, add_comm, add-one, suc, append_assoc, zero-add}
-use Rattle.std.proofs.lemmas.Bool.{cases_Bool, eqb-true}
-use Rattle.std.proofs.Math.Seq.{take-add, drop-cons}
-use Rattle.std.proofs.lemmas.List.{get_or-take, length-take, length-drop, get_or-drop, drop-drop}
+use Rattle.semver_core.proofs.Common.{◌≡◌, ◌<◌, ◌≤◌, ◌+◌, ◌-◌, ◌==◌, ℕ, true, false, List, [], ◌∷◌, ◌++◌, length, drop, take}
+use Rattle.semver_core.proofs.Common.{get_or, refl, sym, ap, ◌∙◌, arith, Some, ltb, eqb, rules, inl, inr, add_comm, add-one}
+use Rattle.semver_core.proofs.Common.{append_assoc, zero-add, cases_Bool, eqb-true, drop-cons, length-drop, drop-drop, nat_tests}
+use Rattle.semver_core.proofs.Common.{is_ascii_digit, list_all, All, begins, is_identifier_char, Id, Numeric, identifier_of}
+use Rattle.semver_core.proofs.Common.{goes_on, ids_view, id_view, Identifier}
+use Rattle.std.proofs.Common.{◌^◌, map, suc}
+use Rattle.std.proofs.Math.Seq.{take-add}
+use Rattle.std.proofs.lemmas.List.{get_or-take, length-take, get_or-drop}
 use Rattle.std.proofs.lemmas.List.Sums.{prefix_len_passes, prefix_len-le-length}
 use Rattle.std.proofs.lemmas.Str.{IsCharBoundary-after_ascii}
 use Rattle.std.specs.Str.{IsUtf8, IsCharBoundary}
-use Rattle.std.proofs.lemmas.Bool.Decides.{nat_tests}
 use Rattle.std.proofs.lemmas.Str.Parse.{IsDigitsTest, IsNumeralModel, numerals_by_value}
 use Rattle.std.proofs.lemmas.List.Splits.{slice_split_none, slice_split_at}
-use Rattle.std.specs.Char.{is_ascii_digit}
-use Rattle.std.specs.List.{list_all, prefix_len, All}
+use Rattle.std.specs.List.{prefix_len}
 use Rattle.std.specs.Str.Parse.{digits_value}
-use Rattle.semver_core.specs.Text.Characters.{begins, is_identifier_char}
-use Rattle.semver_core.specs.Text.Identifiers.{Id, Numeric, identifier_of, goes_on}
 use Rattle.semver_core.specs.Internal.Reading.{list_len, list_of, list_at}
-use Rattle.semver_core.specs.Values.Views.{ids_view, id_view}
-use Rattle.semver_core.specs.declared.identifier.Identifier.{Identifier}
 
 digits_test : IsDigitsTest (λ ds. list_all is_ascii_digit ds ≡ true)
 digits_test = search rules

@@ -1,12 +1,11 @@
 -- Serves proofs. Whitespace is told by its code point: the bytes of a character are whitespace where the character is.
-use Rattle.std.proofs.Common.{◌≡◌, ℕ, ◌<◌, ◌≤◌, ◌+◌, ◌*◌, ◌/◌, ◌%◌, List, [], ◌∷◌, ◌++◌, refl, ap, ◌∙◌, arith, true, false, inl, inr}
+use Rattle.semver_core.proofs.Common.{◌≡◌, ℕ, ◌<◌, ◌≤◌, ◌+◌, ◌*◌, List, [], ◌∷◌, ◌++◌, refl, ap, ◌∙◌, arith, true, false, inl}
+use Rattle.semver_core.proofs.Common.{inr, encode_utf8, len_utf8, cases_lt, lt-ltb, nat_tests, is_whitespace}
+use Rattle.std.proofs.Common.{◌/◌, ◌%◌}
 use Rattle.std.specs.Prelude.{if◌then◌else◌}
-use Rattle.std.specs.Char.{encode_utf8, len_utf8}
 use Rattle.std.specs.Int.{is_in_range}
-use Rattle.std.proofs.lemmas.Bool.{cases_lt, lt-ltb, le-ltb, le-leb}
-use Rattle.std.proofs.lemmas.Bool.Decides.{nat_tests}
+use Rattle.std.proofs.lemmas.Bool.{le-ltb, le-leb}
 use Rattle.std.proofs.lemmas.Str.{encode_ascii, len_utf8_ascii}
-use Rattle.semver_core.specs.Text.Characters.{is_whitespace}
 use Rattle.semver_core.specs.Internal.Spaces.{space_len, space_len_two, space_len_three, goes_on_with}
 
 two_code : (c : ℕ) → 128 ≤ c → c < 2048 → ((192 + c / 64) % 32) * 64 + (128 + c % 64) % 64 ≡ c

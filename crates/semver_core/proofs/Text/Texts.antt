@@ -1,26 +1,20 @@
 -- A version is read exactly where the grammar has it.
-use Rattle.std.proofs.Common.{◌≡◌, ◌==◌, ◌<◌, ◌+◌, ℕ, true, false, List, [], ◌∷◌, ◌++◌, length, drop, take, Option, Some, None}
-use Rattle.std.proofs.Common.{refl, sym, ap, ◌∙◌, subst, arith, inl, inr, eqb, append_assoc, add-zero, ◌||◌}
-use Rattle.std.proofs.lemmas.Bool.{cases_Bool, eqb-true}
-use Rattle.semver_core.specs.Failures.{NoValue}
-use Rattle.semver_core.specs.Text.Characters.{begins, is_identifier_char, IsBlank, is_whitespace}
-use Rattle.semver_core.specs.Text.Characters.{BeginsBlank, IsAfterBlank, IsPieceAt}
-use Rattle.semver_core.specs.Text.VersionText.{IsMark, IsPreRelease, IsBuild, Reads, begins_pre_release, begins_build, dashed}
+use Rattle.semver_core.proofs.Common.{◌≡◌, ◌==◌, ◌<◌, ◌+◌, ℕ, true, false, List, [], ◌∷◌, ◌++◌, length, drop, take, Option, Some}
+use Rattle.semver_core.proofs.Common.{None, refl, sym, ap, ◌∙◌, subst, arith, inl, inr, eqb, append_assoc, ◌||◌, cases_Bool}
+use Rattle.semver_core.proofs.Common.{eqb-true, NoValue, begins, is_identifier_char, IsBlank, is_whitespace, BeginsBlank}
+use Rattle.semver_core.proofs.Common.{IsAfterBlank, Reads, first_so, second_so, list_all, encode_utf8, is_ascii_digit}
+use Rattle.semver_core.proofs.Common.{encode_utf8_all, IsUtf8, IsCharBoundary, nat_tests, take-append-drop, Id}
+use Rattle.semver_core.proofs.Common.{IsLongestIdentifiers, IsNumber, IsWholeNumber, VersionValue}
+use Rattle.std.proofs.Common.{add-zero}
+use Rattle.semver_core.specs.Text.Characters.{IsPieceAt}
+use Rattle.semver_core.specs.Text.VersionText.{IsMark, IsPreRelease, IsBuild, begins_pre_release, begins_build, dashed}
 use Rattle.semver_core.specs.Text.VersionText.{bare, no_pre_release, plus, no_build, no_mark, small_mark, capital_mark}
 use borrow.Author.Tests.{eq-eqb}
-use Rattle.std.specs.Cmp.{first_so, second_so}
-use Rattle.std.specs.List.{list_all}
-use Rattle.std.specs.Char.{encode_utf8, is_ascii_digit}
-use Rattle.std.specs.Prelude.{encode_utf8_all, IsUtf8, IsCharBoundary, slice_range}
+use Rattle.std.specs.Prelude.{slice_range}
 use Rattle.std.proofs.lemmas.Str.{encode_same, char_from_byte, IsCharBoundary-start, IsCharBoundary-after_ascii}
-use Rattle.std.proofs.lemmas.Bool.Decides.{nat_tests}
-use Rattle.std.proofs.lemmas.List.{take-append-drop}
 use Rattle.std.proofs.lemmas.List.Folds.{drop_split}
-use Rattle.semver_core.specs.Text.Identifiers.{Id, IsLongestIdentifiers}
-use Rattle.semver_core.specs.Text.Numbers.{IsNumber, IsWholeNumber}
 use Rattle.semver_core.specs.Internal.Reading.{◌>>?◌, list_of, list_len, number_at, list_at, part_at, past, triple_at, or_nothing}
 use Rattle.semver_core.specs.Internal.Reading.{pre_release_at, build_at, qualified, version_at, mark_len, HasOneReading}
-use Rattle.semver_core.specs.Values.Versions.{VersionValue}
 use Rattle.semver_core.proofs.Text.Pieces.{some_inside, rest_at, number_sound, number_complete, list_sound, list_complete, list_none, runs_begin}
 use Rattle.semver_core.proofs.Text.Runs.{drop_next}
 

@@ -1,20 +1,15 @@
 -- The fast reader's answer is the common text's version.
-use Rattle.std.proofs.Common.{◌≡◌, ◌<◌, ◌≤◌, ℕ, true, false, List, [], ◌∷◌, ◌++◌, length, drop, take, get_or}
-use Rattle.std.proofs.Common.{Option, Some, None, refl, sym, ap, ◌∙◌, arith, inl, inr, eqb}
-use Rattle.std.proofs.lemmas.Bool.{cases_Bool, eqb-true}
-use Rattle.std.proofs.lemmas.Bool.Decides.{nat_tests}
-use Rattle.std.proofs.lemmas.List.{take-append-drop, drop_all}
-use Rattle.std.proofs.Math.Seq.{drop-cons}
-use Rattle.std.specs.Char.{is_ascii_digit}
+use Rattle.semver_core.proofs.Common.{◌≡◌, ◌<◌, ◌≤◌, ℕ, true, false, List, [], ◌∷◌, ◌++◌, length, drop, take, get_or, Option}
+use Rattle.semver_core.proofs.Common.{Some, None, refl, sym, ap, ◌∙◌, arith, inl, inr, eqb, cases_Bool, eqb-true, nat_tests}
+use Rattle.semver_core.proofs.Common.{take-append-drop, drop_all, drop-cons, is_ascii_digit, NoValue, begins, IsAfterBlank}
+use Rattle.semver_core.proofs.Common.{IsBlank, Reads, Id, VersionValue, is_identifier_char, ◌||◌, ◌==◌}
+use Rattle.std.proofs.lemmas.List.{nil_from_length, take_rest}
 use Rattle.std.specs.Option.{IfSome, IfNone}
-use Rattle.semver_core.specs.Failures.{NoValue}
-use Rattle.semver_core.specs.Text.Characters.{begins, IsAfterBlank, IsBlank}
 use Rattle.semver_core.specs.Text.Common.{IsCommon}
 use Rattle.semver_core.specs.Internal.CommonReading.{small_len, at_end, whole_at, common_of}
-use Rattle.semver_core.specs.Text.VersionText.{IsMark, Reads, no_mark, small_mark, capital_mark}
-use Rattle.semver_core.specs.Text.Identifiers.{Id}
+use Rattle.semver_core.specs.Text.VersionText.{IsMark, begins_build, begins_pre_release, no_mark, small_mark, capital_mark}
 use Rattle.semver_core.specs.Internal.Reading.{triple_at, lists_at, mark_len, qualified, HasOneReading}
-use Rattle.semver_core.specs.Values.Versions.{VersionValue, HasIdentifiers, release_value}
+use Rattle.semver_core.specs.Values.Versions.{HasIdentifiers, release_value}
 use Rattle.semver_core.proofs.Text.Pieces.{some_inside}
 use Rattle.semver_core.proofs.Text.Texts.{rest_of, divided_at, bind_some, none_build}
 use Rattle.semver_core.proofs.Text.Texts.{loose_none, loose_some, number_begins, none_pre, read_at}
@@ -32,14 +27,14 @@ not_capital m e = (rw e small_mark, λ f. omega (arith, front_is m 118 e f))
 no_front_mark : (m : List ℕ) → m ≡ [] → IsMark m × (m ≡ 86 ∷ [] → ⊥)
 no_front_mark m e = (rw e no_mark, λ f. omega (arith, ap length (sym e ∙ f)))
 
-small_is : (text : List ℕ) → IsMark (take (small_len text) text) × (take (small_len text) text ≡ 86 ∷ [] → ⊥)
+pub small_is : (text : List ℕ) → IsMark (take (small_len text) text) × (take (small_len text) text ≡ 86 ∷ [] → ⊥)
 small_is [] = no_front_mark (take (small_len []) []) refl
 small_is (c ∷ rest) = elim (cases_Bool (eqb c 118)) [
   | inl small ↦ not_capital (take (small_len (c ∷ rest)) (c ∷ rest)) (rw (eqb-true c 118 small) refl)
   | inr other ↦ no_front_mark (take (small_len (c ∷ rest)) (c ∷ rest)) (rw other refl)
 ]
 
-nothing_blank : IsBlank []
+pub nothing_blank : IsBlank []
 nothing_blank = record { characters = []; each = refl; spelled = refl }
 
 -- what is found is a common text's version
@@ -59,7 +54,7 @@ no_small : (D : List ℕ) → begins is_ascii_digit D ≡ true → small_len D �
 no_small [] h = cc
 no_small (c ∷ D) h = rw (digit_no_small c h) refl
 
-past_small : (text mark D : List ℕ) → IsMark mark → (mark ≡ 86 ∷ [] → ⊥) → text ≡ mark ++ D → begins is_ascii_digit D ≡ true → drop (small_len text) text ≡ D
+pub past_small : (text mark D : List ℕ) → IsMark mark → (mark ≡ 86 ∷ [] → ⊥) → text ≡ mark ++ D → begins is_ascii_digit D ≡ true → drop (small_len text) text ≡ D
 past_small text mark D no_mark s e h = rw (e, no_small D h) refl
 past_small text mark D small_mark s e h = rw e refl
 past_small text mark D capital_mark s e h = absurd (s refl)
@@ -138,5 +133,24 @@ release_read limit text major minor patch at v r le e =
     rw (e, ← is) r
 
 pub ruleset lists_behind = (lists_found, lists_left)
+
+-- neither a pre-release nor a build begins with such a byte
+other_byte : (c : ℕ) (rest : List ℕ) → (is_identifier_char c || c == 43) ≡ false → (begins_pre_release (c ∷ rest) ≡ false) × (begins_build (c ∷ rest) ≡ false)
+other_byte c rest h = grind (arith, nat_tests)
+
+nothing_at : (text : List ℕ) (at : ℕ) (r : List ℕ) → drop at text ≡ r → begins_pre_release r ≡ false → begins_build r ≡ false → lists_at text at ≡ ([], [], at)
+nothing_at text at r e no_pre no_build = rw (none_pre text at r e no_pre, none_build text at r e no_build) refl
+
+pub none_behind : (text : List ℕ) (at : ℕ) → length (drop at text) ≡ 0 → lists_at text at ≡ ([], [], at)
+none_behind text at e =
+    let none : drop at text ≡ [] = nil_from_length (drop at text) e in
+    nothing_at text at [] none refl refl
+
+pub none_begins : (text : List ℕ) (at c : ℕ) (rest : List ℕ) → drop at text ≡ c ∷ rest → (is_identifier_char c || c == 43) ≡ false → lists_at text at ≡ ([], [], at)
+none_begins text at c rest e h =
+    let other = other_byte c rest h in
+    nothing_at text at (c ∷ rest) e other.0 other.1
+
+pub ruleset no_lists = (none_behind, none_begins, take_rest)
 
 pub ruleset read_common = (common_some, common_none)

@@ -1,13 +1,8 @@
 -- Comparing the identifiers of the program is comparing what contracts see of them.
-use Rattle.std.proofs.Common.{◌≡◌, true, false, List, [], ◌∷◌, refl, ap}
-use Rattle.std.specs.Cmp.Lexicographic.{slice_cmp}
+use Rattle.semver_core.proofs.Common.{◌≡◌, true, false, List, [], ◌∷◌, refl, ap, slice_cmp, Less, Equal, Greater, is_empty, Id}
+use Rattle.semver_core.proofs.Common.{id_cmp, id_view, ids_view, Identifier}
 use Rattle.std.specs.Ordering.{ordering_then}
-use Rattle.std.specs.declared.cmp.Ordering.TheVariants.{Less, Equal, Greater}
-use Rattle.semver_core.specs.Lists.{is_empty}
-use Rattle.semver_core.specs.Text.Identifiers.{Id}
-use Rattle.semver_core.specs.Values.Order.{id_cmp, pre_cmp}
-use Rattle.semver_core.specs.Values.Views.{id_view, ids_view}
-use Rattle.semver_core.specs.declared.identifier.Identifier.{Identifier}
+use Rattle.semver_core.specs.Values.Order.{pre_cmp}
 
 pub ids_view_cmp : (xs ys : List Identifier)
     → slice_cmp (λ a b. id_cmp (id_view a) (id_view b)) xs ys ≡ slice_cmp id_cmp (ids_view xs) (ids_view ys)

@@ -1,14 +1,12 @@
 -- The version after a pre-release, and after a release.
-use Rattle.std.proofs.Common.{◌≡◌, refl, sym, ◌∙◌, ap, ◌+◌, ◌<◌, true, List, [], ◌∷◌, ◌++◌, length, arith, lit<}
-use Rattle.std.specs.List.{All}
-use Rattle.std.specs.Ordering.{is_le}
-use Rattle.std.specs.declared.cmp.Ordering.TheVariants.{Less}
+use Rattle.semver_core.proofs.Common.{◌≡◌, refl, sym, ◌∙◌, ap, ◌+◌, ◌<◌, true, List, [], ◌∷◌, ◌++◌, length, arith, All, is_le}
+use Rattle.semver_core.proofs.Common.{Less, Id, Numeric, VersionValue}
+use Rattle.std.proofs.Common.{lit<}
 use Rattle.std.proofs.lemmas.List.Elements.{All-append, All-cons, All-nil}
-use Rattle.semver_core.specs.Text.Identifiers.{Id, Numeric}
 use Rattle.semver_core.specs.Increments.Least.{IsAbove, IsLeastVersion}
 use Rattle.semver_core.specs.Values.Order.{pre_cmp, precedence}
 use Rattle.semver_core.specs.Internal.Successors.{Below, by_major, by_minor, by_patch, by_pre, below_cases, below_more, next_least, zero_least, empty_not_below, above_patch, above_pre, upto_major, upto_minor, upto_patch}
-use Rattle.semver_core.specs.Values.Versions.{VersionValue, IsId, IsVersion, release_value}
+use Rattle.semver_core.specs.Values.Versions.{IsId, IsVersion, release_value}
 
 pub first_of_all : (v : VersionValue) → is_le (precedence (record (release_value 0 0 0) { pre_release = Numeric 0 ∷ [] }) v) ≡ true
 first_of_all v = upto_patch (record (release_value 0 0 0) { pre_release = Numeric 0 ∷ [] }) v (omega arith) (omega arith) (omega arith) (zero_least v.pre_release)

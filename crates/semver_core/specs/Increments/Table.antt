@@ -1,5 +1,6 @@
 -- Statement. What `inc` returns: the table of its words, row by row.
-use Rattle.std.specs.Prelude.{◌==◌, ◌&&◌, ◌||◌, ◌+◌, ◌-◌, ◌^◌, not, ℕ, Bool, true, false, List, [], ◌∷◌, ◌++◌, if◌then◌else◌, Option, unwrap_or, Result, Ok, Err, map, codes, ⊤}
+use Rattle.std.specs.Prelude.{◌==◌, ◌&&◌, ◌||◌, ◌+◌, ◌-◌, ◌^◌, not, ℕ, Bool, true, false, List, [], ◌∷◌, ◌++◌}
+use Rattle.std.specs.Prelude.{if◌then◌else◌, Option, unwrap_or, Result, Ok, Err, map, codes, ⊤}
 use Rattle.std.specs.Char.{is_ascii_digit}
 use Rattle.std.specs.List.{list_all, list_any, join_with_byte, starts_with}
 use Rattle.std.specs.Str.{bytes_eq}
@@ -49,8 +50,8 @@ raise_last (AlphaNumeric text ∷ rest) = raise_last rest >>= λ list. Ok (Alpha
 raise_last (Numeric n ∷ rest) = if has_numeric rest then (raise_last rest >>= λ list. Ok (Numeric n ∷ list))
     else (one_more n >>= λ more. Ok (Numeric more ∷ rest))
 
--- the pre step, first half: an empty list becomes a number, and a last number rises; a list without a number gets one at its
--- end, unless the base is false and the identifier is that list, printed and joined by dots
+-- the pre step, first half: an empty list becomes a number, and a last number rises; a list without a number
+-- gets one at its end, unless the base is false and the identifier is that list, printed and joined by dots
 abbrev pub advance : List Id → List ℕ → IdentifierBase → Result (List Id) Fault
 advance [] id base = Ok (Numeric (first_number base) ∷ [])
 advance (x ∷ xs) id base = if has_numeric (x ∷ xs) then raise_last (x ∷ xs)
@@ -67,8 +68,8 @@ abbrev pub is_kept : List ℕ → List Id → Bool
 is_kept id (x ∷ Numeric n ∷ rest) = is_eq (id_cmp x (asked id))
 is_kept id _ = false
 
--- the pre step, second half: with an identifier, a list that does not begin with it is begun anew, with a number unless the base
--- is false
+-- the pre step, second half: with an identifier, a list that does not begin with it is begun anew, with a
+-- number unless the base is false
 abbrev pub identify : List ℕ → IdentifierBase → List Id → List Id
 identify id base list = if is_empty id || is_kept id list then list
     else AlphaNumeric id ∷ (if is_false base then [] else Numeric (first_number base) ∷ [])
@@ -115,7 +116,7 @@ abbrev pub incremented : VersionValue → List ℕ → List ℕ → IdentifierBa
 incremented v word id base =
     (if starts_with nat_eq word (codes "pre") then checked id base else Ok tt) >>= λ _. by_word word id base v
 
--- what `inc` returns, given a version, a word, and perhaps an identifier and a base: no identifier and an empty one are the
--- same, and so are no base and the number 0
+-- what `inc` returns, given a version, a word, and perhaps an identifier and a base: no identifier and an
+-- empty one are the same, and so are no base and the number 0
 abbrev pub answer_of_inc : VersionValue → List ℕ → Option (List ℕ) → Option IdentifierBase → Result VersionValue Fault
 answer_of_inc v word id base = incremented v word (unwrap_or id []) (unwrap_or base (Value 0))

@@ -14,12 +14,8 @@ fault_of (variant.InvalidIncrementArgument text) = spec.InvalidIncrementArgument
 fault_of (variant.NotAPrerelease text) = spec.NotAPrerelease (string_bytes text)
 fault_of variant.Overflow = spec.Overflow
 
--- this holds of what the call returns, unless an allocation fails
-abbrev pub IfAnswered : {A : Type 0} → (Result A Fault → Type 0) → Result A (Failure IncrementError) → Type 0
-IfAnswered P (Ok value) = P (Ok value)
-IfAnswered P (Err (Refused e)) = P (Err (fault_of e))
-IfAnswered P (Err (Memory e)) = ⊤
-
 -- the call returns this value or this error, unless an allocation fails
 abbrev pub Returns : {A : Type 0} → Result A Fault → Result A (Failure IncrementError) → Type 0
-Returns expected result = IfAnswered (λ answer. expected ≡ answer) result
+Returns expected (Ok value) = expected ≡ Ok value
+Returns expected (Err (Refused e)) = expected ≡ Err (fault_of e)
+Returns expected (Err (Memory e)) = ⊤

@@ -1,6 +1,6 @@
 -- For proofs and private contracts: what the fast reader finds, as a function. It is proved to be
 -- what the statement of common texts says.
-use Rattle.std.specs.Prelude.{ℕ, ◌+◌, ◌*◌, ◌^◌, ◌&&◌, nat_lt, ◌==◌, if◌then◌else◌, List, [], ◌∷◌, Option, Some, None, drop}
+use Rattle.std.specs.Prelude.{ℕ, Bool, ◌+◌, ◌*◌, ◌^◌, ◌&&◌, ◌||◌, nat_lt, ◌==◌, if◌then◌else◌, List, [], ◌∷◌, Option, Some, None, drop}
 use Rattle.std.specs.Char.{is_ascii_digit, digit_value}
 use Rattle.std.specs.List.{prefix_len}
 use Rattle.semver_core.specs.Text.Characters.{is_identifier_char}
@@ -26,6 +26,10 @@ whole_at text t =
 -- the version that the whole text is
 abbrev pub common_of : ℕ → List ℕ → Option VersionValue
 common_of limit text = triple_at limit text (small_len text) >>? λ t. whole_at text t
+
+-- what a common text is made of: characters of identifiers, `.` and `+`
+abbrev pub is_plain : ℕ → Bool
+is_plain c = is_identifier_char c || (c == 46 || c == 43)
 
 -- the number that digits write so far, with one byte more; none where one is no digit, or the
 -- number does not fit 64 bits

@@ -1,6 +1,6 @@
 -- For proofs and private contracts: what the steps of `inc` say to one another.
 use Rattle.std.specs.Prelude.{◌≡◌, ◌==◌, ◌&&◌, not, if◌then◌else◌, ℕ, List, [], ◌∷◌, ◌++◌, length}
-use Rattle.std.specs.Prelude.{map, Bool, Option, Some, None, Result, Ok, Err, ⊤, ◌-◌, ◌^◌, false}
+use Rattle.std.specs.Prelude.{map, Bool, Option, Some, None, Result, Ok, Err, ⊤, ◌-◌, ◌^◌, false, true}
 use Rattle.std.specs.List.{join_with_byte}
 use Rattle.semver_core.specs.Text.Identifiers.{Id, Numeric, AlphaNumeric}
 use Rattle.semver_core.specs.Increments.Table.{◌>>=◌, Fault, NotAPrerelease, Overflow, advance, first_number, has_numeric}
@@ -92,3 +92,9 @@ abbrev pub ends_at_max : Bool → List Id → Bool
 ends_at_max before [] = before
 ends_at_max before (Numeric n ∷ rest) = ends_at_max (n == 2 ^ 64 - 1) rest
 ends_at_max before (AlphaNumeric text ∷ rest) = ends_at_max before rest
+
+-- no number of a list is the largest one
+abbrev pub can_rise : List Id → Bool
+can_rise [] = true
+can_rise (Numeric n ∷ rest) = not (n == 2 ^ 64 - 1) && can_rise rest
+can_rise (AlphaNumeric text ∷ rest) = can_rise rest

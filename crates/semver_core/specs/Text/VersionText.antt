@@ -21,7 +21,8 @@ abbrev pub begins_build : List ℕ → Bool
 begins_build [] = false
 begins_build (c ∷ rest) = if c == 43 then begins is_identifier_char rest else false
 
--- a pre-release: `-` and identifiers, or identifiers that do not begin with `-`, or nothing where neither stands
+-- a pre-release: `-` and identifiers, or identifiers that do not begin with `-`, or nothing where neither
+-- stands
 pub data IsPreRelease : List ℕ → List ℕ → List Id → Type 0 where
   dashed : (text rest : List ℕ) (list : List Id) → IsLongestIdentifiers text rest list → IsPreRelease (45 ∷ text) rest list
   bare : (text rest : List ℕ) (list : List Id) → IsLongestIdentifiers text rest list → begins (λ c. c == 45) text ≡ false → IsPreRelease text rest list

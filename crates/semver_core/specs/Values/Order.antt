@@ -1,4 +1,5 @@
--- Statement: the order of versions (SemVer 2.0.0, item 11). Build metadata counts in none of order, equality and hash.
+-- Statement: the order of versions (SemVer 2.0.0, item 11). Build metadata counts in none of order, equality
+-- and hash.
 use Rattle.std.specs.Prelude.{Bool, List, [], ◌∷◌}
 use Rattle.std.specs.Cmp.Lexicographic.{slice_cmp}
 use Rattle.std.specs.Ordering.{eq_by_cmp, nat_cmp, on, then_cmp}

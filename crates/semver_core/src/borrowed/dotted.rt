@@ -1,8 +1,7 @@
 // Identifiers that stand in a text, joined by dots, and their order.
 
 ghost use Rattle.std.specs.Cmp.Lexicographic.{slice_cmp};
-ghost use Rattle.std.specs.Prelude.{◌≡◌, ◌<◌, ◌≤◌, ◌∷◌, IsUtf8, Some, drop, length};
-ghost use Rattle.std.specs.Prelude.{take, true};
+ghost use Rattle.std.specs.Prelude.{◌≡◌, ◌<◌, ◌≤◌, ◌∷◌, IsUtf8, Some, drop, length, take, true};
 ghost use Rattle.semver_core.specs.Internal.CommonReading.{number_of_run, run_len};
 ghost use Rattle.semver_core.specs.Text.Identifiers.{identifier_of, is_listed, listed};
 ghost use Rattle.semver_core.specs.Internal.Borrowed.{HasText, id_ref_view};
@@ -16,17 +15,6 @@ use std::cmp::Ordering;
 pub(crate) enum IdRef<'a> {
     Numeric(u64),
     AlphaNumeric(&'a [u8]),
-}
-
-// How long the run at the front is, and the number that it writes.
-#[inline(always)]
-#[tactic(auto, using(crate::proofs::Text::Firsts::run_fronts))]
-fn run_front(text: &[u8]) -> (usize, Option<u64>)
-    ensures end { result.0 ≡ run_len text.now }
-    ensures number { result.1 ≡ number_of_run (Some 0) (take (run_len text.now) text.now) }
-    ensures fits { result.0 ≤ length text.now }
-{
-    scan::scan_run(text, 0)
 }
 
 // The identifier that a run spells, of this number.
@@ -57,7 +45,7 @@ fn behind_one(text: &[u8]) -> &[u8]
 
 // The first identifier of a text, and the text of the others.
 #[inline(always)]
-#[tactic(auto, using(crate::proofs::Text::Firsts::firsts))]
+#[tactic(auto, using(crate::proofs::Text::Firsts::front_fits))]
 pub(crate) fn first_id(text: &[u8]) -> (IdRef<'_>, &[u8])
     requires listed { is_listed text.now ≡ true }
     requires some { 0 < length text.now }
@@ -66,7 +54,7 @@ pub(crate) fn first_id(text: &[u8]) -> (IdRef<'_>, &[u8])
     ensures listed { is_listed result.1.now ≡ true }
     ensures less { length result.1.now < length text.now }
 {
-    let (end, number) = run_front(text);
+    let (end, number) = scan::scan_run(text, 0);
     (run_id(&text[..end], number), behind_one(&text[end..]))
 }
 

@@ -1,16 +1,17 @@
 // Reads versions that borrow their text.
 
-ghost use Rattle.std.specs.Prelude.{◌≡◌, ◌≤◌, ◌+◌, true, length, drop, IfErr, IfOk};
-ghost use Rattle.std.specs.Prelude.{IfSome};
+ghost use Rattle.std.specs.Prelude.{◌≡◌, ◌≤◌, ◌+◌, ℕ, true, length, drop, take};
+ghost use Rattle.std.specs.Prelude.{IfErr, IfNone, IfOk, IfSome};
 ghost use Rattle.semver_core.specs.Failures.{NoValue};
 ghost use Rattle.semver_core.specs.Text.Characters.{begins, is_identifier_char};
+ghost use Rattle.semver_core.specs.Text.Common.{IsCommon, IsCommonFront};
 ghost use Rattle.semver_core.specs.Text.Identifiers.{is_listed, listed};
 ghost use Rattle.semver_core.specs.Text.Parsing.{Parses};
 ghost use Rattle.semver_core.specs.Text.VersionText.{Reads};
 ghost use Rattle.semver_core.specs.Internal.Reading.{list_from, list_len, lists_at, qualified};
-ghost use Rattle.semver_core.specs.Values.Versions.{release_value};
+ghost use Rattle.semver_core.specs.Values.Versions.{VersionValue, release_value};
 
-use crate::readers::{build_start, numbers, pre_release_start};
+use crate::readers::{begins_lists, build_start, leading_numbers, numbers, pre_release_start};
 use crate::scan::goes_on_at;
 use crate::{MAX_LENGTH, MAX_SAFE_INTEGER, SemverError, VersionRef};
 
@@ -38,18 +39,18 @@ fn list_from(text: &str, at: usize, start: Option<usize>) -> (&[u8], usize)
     (&text.as_bytes()[start..], text.len())
 }
 
-// The texts of the pre-release and of the build at a place.
+// The texts of the pre-release and of the build at a place, and the place after them.
 #[inline(never)]
-fn lists_at(text: &str, at: usize) -> (&[u8], &[u8])
+fn lists_at(text: &str, at: usize) -> (&[u8], &[u8], usize)
     requires { at ≤ length text.now }
-    ensures pre_release_found { listed result.0.now ≡ (lists_at text.now at).0 }
-    ensures build_found { listed result.1.now ≡ (lists_at text.now at).1 }
+    ensures found { (listed result.0.now, listed result.1.now, result.2) ≡ lists_at text.now at }
     ensures pre_release { is_listed result.0.now ≡ true }
     ensures build { is_listed result.1.now ≡ true }
+    ensures place { result.2 ≤ length text.now }
 {
     let (pre_release, next) = list_from(text, at, pre_release_start(text, at));
-    let (build, _) = list_from(text, next, build_start(text, next));
-    (pre_release, build)
+    let (build, end) = list_from(text, next, build_start(text, next));
+    (pre_release, build, end)
 }
 
 impl<'a> VersionRef<'a> {
@@ -79,7 +80,36 @@ impl<'a> VersionRef<'a> {
         if end == text.len() {
             return Ok(VersionRef::from_texts(major, minor, patch, b"", b""));
         }
-        let (pre_release, build) = lists_at(text, end);
+        let (pre_release, build, _) = lists_at(text, end);
         Ok(VersionRef::from_texts(major, minor, patch, pre_release, build))
+    }
+
+    /// Reads the version that a text of any length begins with, and returns it with the place
+    /// behind it: `v` or nothing, three numbers joined by dots, a pre-release, build metadata, each
+    /// read as long as possible. What stands behind them is not looked at, save one or two bytes.
+    ///
+    /// Returns `None` on every other text, also where `parse` reads a version behind `V` or
+    /// whitespace. The version borrows the text, and nothing is allocated.
+    ///
+    /// `VersionRef::front("1.2.3-beta;1.3.0")` is 1.2.3-beta and the place 10.
+    #[inline(always)]
+    pub fn front(text: &'a str) -> Option<(VersionRef<'a>, usize)>
+        // What is read is the version at the front, up to its end.
+        ensures some { IfSome result (λ found.
+            IsCommonFront MAX_SAFE_INTEGER text.now found.0 found.1) }
+        // The text up to there is a common one of that version.
+        ensures whole { IfSome result (λ found.
+            IsCommon MAX_SAFE_INTEGER (take found.1 text.now) found.0) }
+        // Nothing is read only where no such version stands at the front.
+        ensures none { IfNone result ((v : VersionValue) (end : ℕ) →
+            IsCommonFront MAX_SAFE_INTEGER text.now v end → ⊥) }
+    {
+        let (major, minor, patch, end) = leading_numbers(text)?;
+        if !begins_lists(text, end) {
+            return Some((VersionRef::from_texts(major, minor, patch, b"", b""), end));
+        }
+        let (pre_release, build, end) = lists_at(text, end);
+        let version = VersionRef::from_texts(major, minor, patch, pre_release, build);
+        Some((version, end))
     }
 }

@@ -2,7 +2,8 @@
 ghost use Rattle.std.specs.Prelude.{◌≡◌, ◌&&◌, ◌||◌, not, Option, Some, None, IfOk, IfErr, true};
 ghost use Rattle.std.specs.Prelude.{IsTrue, OnErr, is_some};
 ghost use Rattle.std.specs.Ordering.{is_le, is_lt};
-ghost use Rattle.semver_core.specs.Cuts.{covers, cut_cmp, holds, interval, is_interval, is_past};
+ghost use Rattle.semver_core.specs.Cuts.{covers, cut_cmp, has_bound, holds, interval};
+ghost use Rattle.semver_core.specs.Cuts.{is_interval, is_past};
 ghost use Rattle.semver_core.specs.Cuts.{left_above, left_below, lower_cut, meet};
 ghost use Rattle.semver_core.specs.Cuts.{option_holds, remainders, upper_cut};
 ghost use Rattle.semver_core.specs.Clips.{clip};
@@ -58,9 +59,11 @@ impl<V: Point> Interval<V> {
         &self.upper
     }
 
-    /// A copy of the whole interval. Fails only if allocation fails.
+    /// A copy of the whole interval. Fails only if allocation fails, which happens only where a
+    /// copy of the point of one of its bounds takes memory.
     pub fn copy(&self, alloc: Global) -> Result<Interval<V>, AllocError>
-        ensures { IfOk result (λ i. i ≡ self.now) }
+        ensures whole { IfOk result (λ i. i ≡ self.now) }
+        ensures memory { OnErr result (has_bound V.takes self.now ≡ true) }
     {
         Interval::of_copies(alloc, &self.lower, &self.upper)
     }
@@ -73,7 +76,9 @@ impl<V: Point> Interval<V> {
         upper: &Bound<V>,
     ) -> Result<Interval<V>, AllocError>
         requires { is_interval V.cmp (record { lower = lower.now; upper = upper.now }) ≡ true }
-        ensures { IfOk result (λ i. i ≡ record { lower = lower.now; upper = upper.now }) }
+        ensures whole { IfOk result (λ i. i ≡ record { lower = lower.now; upper = upper.now }) }
+        ensures memory { OnErr result
+            (has_bound V.takes (record { lower = lower.now; upper = upper.now }) ≡ true) }
     {
         let lower = lower.copy(alloc)?;
         let upper = upper.copy(alloc)?;

@@ -1,20 +1,23 @@
 // The words of increments, a row each.
 
-ghost use Rattle.std.specs.Prelude.{◌≡◌, ◌<◌, IfOk, Ok, OnOk, length, ⊤};
+ghost use Rattle.std.specs.Prelude.{◌≡◌, ◌<◌, ◌∷◌, [], IfOk, Ok, OnOk, length, ⊤};
 ghost use Rattle.semver_core.specs.Failures.{MemoryOnlyIf};
 ghost use Rattle.semver_core.specs.Increments.Table as spec;
 ghost use Rattle.semver_core.specs.Increments.View.{Returns};
 ghost use Rattle.semver_core.specs.Internal.IncrementSteps as steps;
 ghost use Rattle.semver_core.specs.Internal.IncrementSteps.{MayAllocate, ReturnsParts, Steps};
-ghost use Rattle.semver_core.specs.Internal.IncrementSteps.{parts_ref_value, stepped};
+ghost use Rattle.semver_core.specs.Internal.IncrementSteps.{begun, parts_ref_value, stepped};
+ghost use Rattle.semver_core.specs.Text.Identifiers.{Numeric};
 ghost use Rattle.semver_core.specs.Values.Versions.{HasIdentifiers};
 ghost use Rattle.semver_core.specs.Values.Views.{ids_view};
 
 use crate::increment::parts_ref::PartsRef;
-use crate::increment::pre_release::{advance, put_identifier, unless_overflow};
+use crate::increment::pre_release::{
+    advance, first_number, is_replaced, new_list, put_identifier, unless_overflow,
+};
 use crate::increment::{IdentifierBase, IncrementError, one_more, refused_argument};
 use crate::version::lists::{Identifiers, Lists, Qualifier};
-use crate::{Failure, IdentifierRefs, Version};
+use crate::{Failure, Identifier, IdentifierRefs, Version};
 use std::alloc::{AllocError, Global};
 
 // The row of a word.
@@ -165,6 +168,41 @@ fn copied(
     Ok(lists)
 }
 
+// The first pre-release of the numbers of a version without identifiers, which takes no memory.
+#[inline(always)]
+fn numbered(version: &PartsRef<'_>, base: IdentifierBase) -> Version
+    requires pre_release { version.now.pre_release ≡ [] }
+    requires build { version.now.build ≡ [] }
+    ensures { result ≡ record (parts_ref_value version.now) {
+      pre_release = Numeric (spec.first_number base) ∷ [];
+    } }
+{
+    let one = Qualifier::One(Identifier::Numeric(first_number(base)));
+    Version::from_parts(version.major, version.minor, version.patch, one)
+}
+
+// The pre-release of the same numbers whose list an identifier begins.
+fn replaced(
+    alloc: Global,
+    version: &PartsRef<'_>,
+    id: &str,
+    base: IdentifierBase,
+) -> Result<Version, AllocError>
+    ensures { IfOk result (λ next. next ≡ record (parts_ref_value version.now) {
+      pre_release = begun id.now base;
+    }) }
+{
+    let mut lists = Lists::boxed(alloc)?;
+    new_list(alloc, &mut lists.pre_release, id, base)?;
+    version.build.copy_into(alloc, &mut lists.build)?;
+    Ok(Version::from_parts(
+        version.major,
+        version.minor,
+        version.patch,
+        Qualifier::Lists(lists),
+    ))
+}
+
 #[tactic(auto, using(crate::proofs::Increments::Memory::step_may))]
 fn pre_step(
     alloc: Global,
@@ -176,6 +214,12 @@ fn pre_step(
     ensures memory { MemoryOnlyIf result (MayAllocate HasIdentifiers
         (spec.pre_step id.now base (parts_ref_value version.now))) }
 {
+    if id.is_empty() && version.pre_release.is_empty() && version.build.is_empty() {
+        return Ok(numbered(version, base));
+    }
+    if is_replaced(&version.pre_release, id, base) {
+        return Ok(replaced(alloc, version, id, base)?);
+    }
     let mut lists = match copied(alloc, &version.pre_release, &version.build) {
         Ok(lists) => lists,
         Err(error) => return Err(unless_overflow(&version.pre_release, error)),

@@ -1,7 +1,7 @@
 // The pre step: how the pre-release list goes on.
 
 ghost use Rattle.std.specs.Prelude.{◌≡◌, ◌∷◌, ◌++◌, [], ◌<◌, ◌==◌, IfOk, OnOk, length};
-ghost use Rattle.std.specs.Prelude.{string_bytes, true, false, if◌then◌else◌, ⊤};
+ghost use Rattle.std.specs.Prelude.{string_bytes, true, false, if◌then◌else◌, IsTrue, Ok, ⊤};
 ghost use Rattle.std.specs.Char.{is_ascii_digit};
 ghost use Rattle.std.specs.List.{list_all};
 ghost use Rattle.std.specs.Ordering.{is_eq};
@@ -12,7 +12,7 @@ ghost use Rattle.semver_core.specs.Text.Identifiers.{Numeric};
 ghost use Rattle.semver_core.specs.Increments.Table as spec;
 ghost use Rattle.semver_core.specs.Increments.Table.{has_numeric};
 ghost use Rattle.semver_core.specs.Internal.IncrementSteps.{FailsWith, MayAllocate, Steps, Tracks};
-ghost use Rattle.semver_core.specs.Internal.IncrementSteps.{begun, list_text};
+ghost use Rattle.semver_core.specs.Internal.IncrementSteps.{begun, can_rise, list_text, stepped};
 ghost use Rattle.semver_core.specs.Printing.Text as printed;
 ghost use Rattle.semver_core.specs.Values.Order.{id_cmp};
 ghost use Rattle.semver_core.specs.Values.Views.{id_view, ids_view};
@@ -61,6 +61,35 @@ pub(super) fn put_identifier(
     }
 }
 
+// Whether the list that an identifier begins replaces this one, whatever the number at its end:
+// then it need not be copied first. It begins with another text, and each number can rise.
+pub(super) fn is_replaced(ids: &IdentifierRefs<'_>, id: &str, base: IdentifierBase) -> bool
+    ensures { IsTrue result → stepped ids.now id.now base ≡ Ok (begun id.now base) }
+{
+    if id.is_empty() || is_false(base) {
+        return false;
+    }
+    let mut others = ids.copy();
+    match others.next() {
+        Some(IdentifierRef::AlphaNumeric(first)) => first != id && can_rise(others),
+        Some(IdentifierRef::Numeric(_)) => false,
+        None => true,
+    }
+}
+
+// Whether no identifier is the greatest number.
+fn can_rise(ids: IdentifierRefs<'_>) -> bool
+    ensures { IsTrue result → can_rise ids.entry ≡ true }
+{
+    let mut others = ids;
+    'ids: while let Some(id) = others.next() {
+        if let IdentifierRef::Numeric(u64::MAX) = id {
+            return false;
+        }
+    }
+    true
+}
+
 // The error where an allocation failed before the last number of a list was to rise: `Overflow` if
 // that number is `u64::MAX`.
 #[cold]
@@ -85,7 +114,7 @@ pub(super) fn unless_overflow(
     }
 }
 
-fn first_number(base: IdentifierBase) -> u64
+pub(super) fn first_number(base: IdentifierBase) -> u64
     ensures { result ≡ spec.first_number base }
 {
     match base {
@@ -159,7 +188,7 @@ fn push_part(text: &mut String, first: bool, id: &Identifier) -> Result<(), Allo
 }
 
 // The list that an identifier begins, in place of another one.
-fn new_list(
+pub(super) fn new_list(
     alloc: Global,
     list: &mut Identifiers,
     id: &str,

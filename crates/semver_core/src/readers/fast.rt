@@ -1,7 +1,7 @@
 //! The reader of common version texts.
 
 ghost use Rattle.std.specs.Prelude.{◌||◌, ◌==◌, get_or, ◌≡◌, ◌≤◌, ◌<◌, length, IfOk, IfSome};
-ghost use Rattle.std.specs.Prelude.{IfNone, OnErr};
+ghost use Rattle.std.specs.Prelude.{IfNone, None, OnErr};
 ghost use Rattle.semver_core.specs.Text.VersionText.{Reads};
 ghost use Rattle.semver_core.specs.Failures.{NoValue};
 ghost use Rattle.semver_core.specs.Text.Characters.{is_identifier_char};
@@ -10,7 +10,7 @@ ghost use Rattle.semver_core.specs.Internal.CommonReading.{small_len, whole_at, 
 ghost use Rattle.semver_core.specs.Internal.Reading.{part_at, qualified, triple_at};
 ghost use Rattle.semver_core.specs.Values.Versions.{HasIdentifiers, VersionValue};
 
-use crate::readers::loose::{front_of_numbers, lists_at, past};
+use crate::readers::loose::{begins_lists, front_of_numbers, lists_at, past};
 use crate::{MAX_SAFE_INTEGER, Version, scan};
 use std::alloc::{AllocError, Global};
 
@@ -21,9 +21,13 @@ fn number_and_dot(bytes: &[u8], at: usize) -> Option<(u64, usize)>
     ensures found { result ≡ part_at MAX_SAFE_INTEGER bytes.now at }
     ensures place { IfSome result (λ found. found.1 ≤ length bytes.now) }
 {
-    let (number, end) = scan::digits(bytes, at)?;
-    let next = past(bytes, end, b'.')?;
-    Some((number, next))
+    let Some((number, end)) = scan::digits(bytes, at) else {
+        return None;
+    };
+    match past(bytes, end, b'.') {
+        Some(next) => Some((number, next)),
+        None => None,
+    }
 }
 
 // Three numbers with dots between them, and the place behind them.
@@ -33,10 +37,25 @@ fn three_numbers(bytes: &[u8], at: usize) -> Option<(u64, u64, u64, usize)>
     ensures found { result ≡ triple_at MAX_SAFE_INTEGER bytes.now at }
     ensures place { IfSome result (λ found. found.3 ≤ length bytes.now) }
 {
-    let (major, second) = number_and_dot(bytes, at)?;
-    let (minor, third) = number_and_dot(bytes, second)?;
-    let (patch, end) = scan::digits(bytes, third)?;
+    let Some((major, second)) = number_and_dot(bytes, at) else {
+        return None;
+    };
+    let Some((minor, third)) = number_and_dot(bytes, second) else {
+        return None;
+    };
+    let Some((patch, end)) = scan::digits(bytes, third) else {
+        return None;
+    };
     Some((major, minor, patch, end))
+}
+
+// How many bytes a `v` at the front takes.
+#[inline(always)]
+fn small_len(text: &str) -> usize
+    ensures value { result ≡ small_len text.now }
+    ensures place { result ≤ length text.now }
+{
+    usize::from(matches!(text.as_bytes(), [b'v', ..]))
 }
 
 // The three numbers of a text that begins with them, or with `v` and them, and the place behind
@@ -46,9 +65,7 @@ pub(crate) fn leading_numbers(text: &str) -> Option<(u64, u64, u64, usize)>
     ensures found { result ≡ triple_at MAX_SAFE_INTEGER text.now (small_len text.now) }
     ensures place { IfSome result (λ found. found.3 ≤ length text.now) }
 {
-    let bytes = text.as_bytes();
-    let mark = usize::from(matches!(bytes, [b'v', ..]));
-    three_numbers(bytes, mark)
+    three_numbers(text.as_bytes(), small_len(text))
 }
 
 // The numbers of the version at the front of a text, and the place behind them.
@@ -66,16 +83,22 @@ pub(crate) fn numbers(text: &str) -> Option<(u64, u64, u64, usize)>
     }
 }
 
-// `numbers` of a text that does not begin with the numbers or with `v` and the numbers.
+// `numbers` of a text that does not begin with the numbers or with `v` and the numbers. They are
+// looked for once more only where they would begin elsewhere.
 #[cold]
 #[inline(never)]
 fn loose_numbers(text: &str) -> Option<(u64, u64, u64, usize)>
+    requires { triple_at MAX_SAFE_INTEGER text.now (small_len text.now) ≡ None }
     ensures some { IfSome result (λ found.
         Reads MAX_SAFE_INTEGER text.now (qualified text.now found)) }
     ensures none { IfNone result (NoValue (Reads MAX_SAFE_INTEGER text.now)) }
     ensures place { IfSome result (λ found. found.3 ≤ length text.now) }
 {
-    three_numbers(text.as_bytes(), front_of_numbers(text))
+    let at = front_of_numbers(text);
+    if at == small_len(text) {
+        return None;
+    }
+    three_numbers(text.as_bytes(), at)
 }
 
 // The version of three numbers and the qualifier that goes from a place to the end of the text.
@@ -113,9 +136,7 @@ fn read(alloc: Global, text: &str) -> Result<Option<Version>, AllocError>
     if end == text.len() {
         return Ok(Some(Version::release(major, minor, patch)));
     }
-    // A qualifier begins with an identifier, `-` or `+`.
-    let first = text.as_bytes()[end];
-    if !scan::is_identifier_char(first) && first != b'+' {
+    if !begins_lists(text, end) {
         return Ok(None);
     }
     version_of_whole(alloc, text, major, minor, patch, end)

@@ -2,9 +2,11 @@
 
 ghost use Rattle.std.specs.Prelude.{◌≡◌, ◌==◌, ◌≤◌, ◌<◌, ◌+◌, ◌⊎◌, [], true, length, drop, None};
 ghost use Rattle.std.specs.Prelude.{Some, Option, IfOk, IfSome, IfNone, IsSomeAnd, IsCharBoundary};
-ghost use Rattle.std.specs.Prelude.{OnErr, OnSome};
+ghost use Rattle.std.specs.Prelude.{◌∷◌, List, ℕ, IsFalse, OnErr, OnSome, false, take};
+ghost use Rattle.std.specs.List.{prefix_len};
 ghost use Rattle.semver_core.specs.Failures.{NoValue};
 ghost use Rattle.semver_core.specs.Text.Characters.{begins, is_identifier_char, IsAfterBlank};
+ghost use Rattle.semver_core.specs.Text.Identifiers.{Id, goes_on, identifier_of};
 ghost use Rattle.semver_core.specs.Text.VersionText.{Reads};
 ghost use Rattle.semver_core.specs.Internal.Reading.{past, pre_release_at, build_at};
 ghost use Rattle.semver_core.specs.Internal.Reading.{list_from, lists_at, mark_len, qualified};
@@ -28,6 +30,20 @@ pub(crate) fn past(bytes: &[u8], at: usize, mark: u8) -> Option<usize>
     match &bytes[at..] {
         [byte, ..] if *byte == mark => Some(at + 1),
         _ => None,
+    }
+}
+
+// Whether a pre-release or a build may begin at a place: with a character of identifiers, which `-`
+// is too, or with `+`.
+#[inline(always)]
+#[tactic(auto, using(crate::proofs::Text::Whole::no_lists))]
+pub(crate) fn begins_lists(text: &str, at: usize) -> bool
+    requires { at ≤ length text.now }
+    ensures { IsFalse result → lists_at text.now at ≡ ([], [], at) }
+{
+    match &text.as_bytes()[at..] {
+        [byte, ..] => scan::is_identifier_char(*byte) || *byte == b'+',
+        [] => false,
     }
 }
 
@@ -92,8 +108,46 @@ fn read_from(
     }
 }
 
-// The pre-release and the build at a place, and the place after them; no box where there are no
-// identifiers.
+// The place where the identifiers of a pre-release begin, if there is one and neither another one
+// nor a build follows it.
+#[inline(always)]
+fn alone(text: &str, start: Option<usize>) -> Option<usize>
+    requires { IfSome start (λ start. start ≤ length text.now) }
+    ensures same { IfSome result (λ first. start ≡ Some first) }
+    ensures ends { IfSome result (λ first. goes_on
+        (drop (first + prefix_len is_identifier_char (drop first text.now)) text.now) ≡ false) }
+    ensures unbuilt { IfSome result (λ first.
+        build_at text.now (first + prefix_len is_identifier_char (drop first text.now))
+        ≡ ([], first + prefix_len is_identifier_char (drop first text.now))) }
+{
+    let first = start?;
+    let end = scan::run_end(text.as_bytes(), first);
+    if scan::goes_on_at(text, end) {
+        return None;
+    }
+    match build_start(text, end) {
+        Some(_) => None,
+        None => Some(first),
+    }
+}
+
+// The pre-release of one identifier, which begins at a place, and the place after it.
+fn one_at(alloc: Global, text: &str, start: usize) -> Result<(Qualifier, usize), AllocError>
+    requires place { start ≤ length text.now }
+    requires here { begins is_identifier_char (drop start text.now) ≡ true }
+    ensures found { let run = prefix_len is_identifier_char (drop start text.now) in
+        IfOk result (λ found. ◌≡◌ {A = List Id × List Id × ℕ}
+        (pre_release_of found.0, build_of found.0, found.1)
+        (identifier_of (take run (drop start text.now)) ∷ [], [], start + run)) }
+    ensures full { IfOk result (λ found. IsFull found.0) }
+    ensures fits { IfOk result (λ found. found.1 ≤ length text.now) }
+{
+    let (id, end) = scan::read_run(alloc, text, start)?;
+    Ok((Qualifier::One(id), end))
+}
+
+// The pre-release and the build at a place, and the place after them; no box where there is one
+// identifier in a pre-release, or none.
 #[inline(always)]
 pub(crate) fn lists_at(
     alloc: Global,
@@ -111,6 +165,9 @@ pub(crate) fn lists_at(
     let start = pre_release_start(text, at);
     if start.is_none() && build_start(text, at).is_none() {
         return Ok((Qualifier::Absent, at));
+    }
+    if let Some(first) = alone(text, start) {
+        return one_at(alloc, text, first);
     }
     let mut lists = Lists::boxed(alloc)?;
     let next = read_from(alloc, text, at, start, &mut lists.pre_release)?;

@@ -1,9 +1,12 @@
 // Versions made of parts, taken apart and copied.
 
-ghost use Rattle.std.specs.Prelude.{◌≡◌, ◌≤◌, ◌+◌, ◌⊎◌, ◌∷◌, ◌++◌, [], codes, IfOk, IfErr};
+ghost use Rattle.std.specs.Prelude.{◌≡◌, ◌≤◌, ◌+◌, ◌⊎◌, ◌∷◌, ◌++◌, [], IfOk, IfErr};
 ghost use Rattle.std.specs.Prelude.{OnOk, OnErr, IsOk, true, length, ◌<◌, vec_len, vec_capacity};
+ghost use Rattle.std.specs.Prelude.{ℕ, ◌==◌, IfNone, IfSome};
+ghost use Rattle.std.specs.List.{list_all};
 ghost use Rattle.semver_core.specs.Text.Identifiers as id;
 ghost use Rattle.semver_core.specs.Text.Identifiers.{is_listed, listed};
+ghost use Rattle.semver_core.specs.Values.Memory.{takes_memory};
 ghost use Rattle.semver_core.specs.Values.Versions.{HasIdentifiers, release_value};
 ghost use Rattle.semver_core.specs.Values.Views.{ids_view, parts_value};
 
@@ -116,7 +119,7 @@ impl Version {
     ///
     /// It requires that both texts spell lists, which `Identifier::is_list` tests.
     ///
-    /// Fails only if allocation fails. Two empty texts allocate nothing, and nor does the
+    /// Fails only if allocation fails, which never happens for two empty texts, nor for the
     /// pre-release `0` alone.
     ///
     /// ```rust
@@ -146,11 +149,11 @@ impl Version {
           build = listed build.now;
         }) }
         ensures memory { OnErr result ((0 < length pre_release.now) ⊎ (0 < length build.now)) }
-        ensures zero { pre_release.now ≡ codes "0" → build.now ≡ [] → IsOk result }
+        ensures zero { listed pre_release.now ≡ id.Numeric 0 ∷ [] → build.now ≡ [] → IsOk result }
     {
         match (pre_release, build) {
             (b"", b"") => Ok(Version::release(major, minor, patch)),
-            (b"0", b"") => {
+            (text, b"") if is_zeros(text) => {
                 let zero = Qualifier::One(Identifier::Numeric(0));
                 Ok(Version::from_parts(major, minor, patch, zero))
             }
@@ -208,24 +211,58 @@ impl Version {
         })
     }
 
-    /// A copy of the whole version, build included. Fails only if allocation fails; a version
-    /// without identifiers allocates nothing.
+    /// A copy of the whole version, build included. Fails only if allocation fails, which never
+    /// happens for a version without identifiers, nor for one with the pre-release `0` alone.
     pub fn copy(&self, alloc: Global) -> Result<Version, AllocError>
         ensures whole { IfOk result (λ v. v ≡ self.now) }
         ensures memory { OnErr result (HasIdentifiers self.now) }
+        ensures zero { self.now.pre_release ≡ id.Numeric 0 ∷ [] → self.now.build ≡ []
+            → IsOk result }
     {
         let qualifier = match &self.qualifier {
             Qualifier::Absent => Qualifier::Absent,
             Qualifier::One(id) => Qualifier::One(id.copy(alloc)?),
-            Qualifier::Lists(lists) => {
-                let mut copy = Lists::boxed(alloc)?;
-                copy_into(alloc, &lists.pre_release, &mut copy.pre_release)?;
-                copy_into(alloc, &lists.build, &mut copy.build)?;
-                Qualifier::Lists(copy)
-            }
+            Qualifier::Lists(lists) => match number_alone(lists) {
+                Some(number) => Qualifier::One(Identifier::Numeric(number)),
+                None => Qualifier::Lists(copy_lists(alloc, lists)?),
+            },
         };
         Ok(Version::from_parts(self.major, self.minor, self.patch, qualifier))
     }
+}
+
+// The number that is the only identifier of the pre-release, where there is no build metadata.
+fn number_alone(lists: &Lists) -> Option<u64>
+    ensures some { IfSome result (λ n. (ids_view lists.now.pre_release.items ≡ id.Numeric n ∷ [])
+        × (ids_view lists.now.build.items ≡ [])) }
+    ensures none { IfNone result ((n : ℕ) → ids_view lists.now.pre_release.items ≡ id.Numeric n ∷ []
+        → ids_view lists.now.build.items ≡ [] → ⊥) }
+{
+    match (lists.pre_release.as_slice(), lists.build.as_slice()) {
+        ([Identifier::Numeric(number)], []) => Some(*number),
+        _ => None,
+    }
+}
+
+// A copy of both lists.
+fn copy_lists(alloc: Global, lists: &Lists) -> Result<Box<Lists>, AllocError>
+    ensures pre_release { IfOk result (λ copy.
+        ids_view copy.value.pre_release.items ≡ ids_view lists.now.pre_release.items) }
+    ensures build { IfOk result (λ copy.
+        ids_view copy.value.build.items ≡ ids_view lists.now.build.items) }
+{
+    let mut copy = Lists::boxed(alloc)?;
+    copy_into(alloc, &lists.pre_release, &mut copy.pre_release)?;
+    copy_into(alloc, &lists.build, &mut copy.build)?;
+    Ok(copy)
+}
+
+// Whether each byte is the digit 0: so the number 0 is spelled, as by `0` and `00`.
+#[inline(always)]
+fn is_zeros(text: &[u8]) -> bool
+    ensures { result ≡ list_all (λ c. c == 48) text.now }
+{
+    text.iter().all(|byte| *byte == b'0')
 }
 
 // The lists that two texts spell. A pointer is returned, so that a version without lists is made
@@ -250,6 +287,9 @@ fn lists_of_texts(alloc: Global, pre_release: &[u8], build: &[u8]) -> Result<Box
 
 /// A bound holds a version, in the order of versions.
 impl Point for Version {
+    ghost takes = { takes_memory };
+
+    #[tactic(auto, using(crate::proofs::Taking::taking))]
     fn copy(&self, alloc: Global) -> Result<Version, AllocError> {
         Version::copy(self, alloc)
     }

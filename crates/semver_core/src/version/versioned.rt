@@ -1,8 +1,10 @@
 // What versions of every kind have in common, and what is written once for all of them.
 
+ghost use Rattle.std.proofs.Common.{sym, true≢false};
 ghost use Rattle.std.specs.Fmt.{DisplaysStyledOnOk};
-ghost use Rattle.std.specs.Prelude.{◌≡◌, Some, refl};
+ghost use Rattle.std.specs.Prelude.{◌≡◌, Bool, Some, refl, true};
 ghost use Rattle.semver_core.specs.Printing.Text.{version_text};
+ghost use Rattle.semver_core.specs.Values.Memory.{takes_memory};
 ghost use Rattle.semver_core.specs.Values.Order.{precedence};
 ghost use Rattle.semver_core.specs.Values.Versions.{VersionValue, is_release};
 
@@ -83,6 +85,9 @@ pub trait Versioned {
 pub trait VersionPoint: Versioned + Point {
     /// The order is the precedence of versions.
     ghost ordered: { (v w : Self) → Self.cmp v w ≡ precedence (Self.value v) (Self.value w) };
+
+    /// A copy takes memory only where that of a version does.
+    ghost copied: { (v : Self) → Self.takes v ≡ true → takes_memory (Self.value v) ≡ true };
 }
 
 /// A version is its own value.
@@ -114,6 +119,8 @@ impl Versioned for Version {
 
 impl VersionPoint for Version {
     ghost ordered = { λ v w. refl };
+
+    ghost copied = { λ v h. h };
 }
 
 /// A borrowed version is, in clauses, the value already.
@@ -148,4 +155,6 @@ impl<'a> Versioned for VersionRef<'a> {
 
 impl<'a> VersionPoint for VersionRef<'a> {
     ghost ordered = { λ v w. refl };
+
+    ghost copied = { λ v h. absurd (true≢false (sym h)) };
 }

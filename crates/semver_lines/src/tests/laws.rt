@@ -12,6 +12,7 @@ use std::cmp::Ordering;
 fn laws_of_texts_of_versions(rt: HostRuntime) {
     core_laws::whitespace_ends();
     core_laws::order_and_increments();
+    core_laws::least_increments();
     core_laws::one_reading("1.2.3");
     core_laws::larger_limits("1.2.900719925474099");
     core_laws::common_reads_alike("1.2.3-a");
@@ -50,6 +51,8 @@ fn laws_of_range_texts(rt: HostRuntime) {
     laws::grammar();
     laws::meaning();
     laws::printed_ranges_come_back(">1.2.3");
+    laws::one_flaw();
+    laws::ignored_words_mean_nothing();
     assert!(rt; true);
 }
 
@@ -126,4 +129,26 @@ fn finds_pre_release(alloc: Global, first: &str, second: &str) -> bool {
 #[test]
 fn headline_at_asks_for_one_version(rt: HostRuntime) {
     assert!(rt; finds_pre_release(rt.alloc(), "^1", ">=1.5.0"));
+}
+
+fn finds_of_texts(alloc: Global, first: &str, second: &str, version: &str) -> bool {
+    match laws::headline_of_texts(alloc, first, second, version) {
+        Ok(found) => are_findings_at(&found),
+        Err(_) => false,
+    }
+}
+
+#[test]
+fn headline_of_three_texts(rt: HostRuntime) {
+    assert!(rt; finds_of_texts(rt.alloc(), "^1", ">=1.5.0", "v1.6.0-1"));
+    assert!(rt; !finds_of_texts(rt.alloc(), "^1", ">=1.5.0", "1.6"));
+}
+
+#[test]
+fn membership_of_a_version_text(rt: HostRuntime) {
+    let found = laws::membership(rt.alloc(), "^1.2.3", "1.2.4-0");
+    assert!(rt; matches!(found, Ok(true)));
+    let found = laws::membership(rt.alloc(), "^1.2.3", "1.2.3-0");
+    assert!(rt; matches!(found, Ok(false)));
+    assert!(rt; laws::membership(rt.alloc(), "latest", "1.2.3").is_err());
 }

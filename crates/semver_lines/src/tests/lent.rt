@@ -1,9 +1,7 @@
 // Versions that borrow their text: each call once, and that they agree with versions of their own.
 
 use super::{is_same, prints};
-use nodejs_semver::{
-    IdentifierRef, IdentifierRefs, RangeRef, Version, VersionDiff, VersionRef, Versioned,
-};
+use nodejs_semver::{IdentifierRef, IdentifierRefs, Version, VersionDiff, VersionRef, Versioned};
 use std::alloc::Global;
 use std::cmp::Ordering;
 use std::hash::{DefaultHasher, Hash, Hasher};
@@ -73,6 +71,21 @@ fn has_no_pre_release(text: &str) -> bool {
 fn the_five_values(rt: HostRuntime) {
     assert!(rt; has_five_values("1.2.34-abc.123+1"));
     assert!(rt; has_no_pre_release("1.2.3+b"));
+}
+
+// Whether a text begins with a version that prints so, up to a place.
+fn begins_with(alloc: Global, text: &str, printed: &str, place: usize) -> bool {
+    match VersionRef::front(text) {
+        Some((version, end)) => end == place && prints(alloc, &version, printed),
+        None => false,
+    }
+}
+
+#[test]
+fn the_version_at_the_front(rt: HostRuntime) {
+    assert!(rt; begins_with(rt.alloc(), "v1.2.3-beta+b;1.3.0", "1.2.3-beta+b", 13));
+    assert!(rt; begins_with(rt.alloc(), "1.2.3.4", "1.2.3", 5));
+    assert!(rt; VersionRef::front("V1.2.3").is_none());
 }
 
 #[test]
@@ -264,37 +277,4 @@ fn borrowed_versions_rise(rt: HostRuntime) {
     );
     assert!(rt; rises(alloc, "1.2.3-rc.x", ("pre", Some("rc")), "1.2.3-rc.0"));
     assert!(rt; rises(alloc, "1.2.3", ("preminor", Some("rc")), "1.3.0-rc.0"));
-}
-
-// The newest version of the lines that a range accepts. Nothing is allocated.
-fn newest<'a>(range: &RangeRef<'_>, lines: &'a str) -> Option<VersionRef<'a>> {
-    lines
-        .lines()
-        .filter_map(|line| VersionRef::parse(line).ok())
-        .filter(|version| range.satisfies(version))
-        .max()
-}
-
-// Whether the newest of the lines is the version of this text, or there is none where none is
-// wanted.
-fn is_newest(range: &RangeRef<'_>, lines: &str, wanted: Option<&str>) -> bool {
-    match (newest(range, lines), wanted) {
-        (Some(version), Some(text)) => VersionRef::parse(text) == Ok(version),
-        (None, None) => true,
-        (_, _) => false,
-    }
-}
-
-fn finds_newest(alloc: Global, range: &str, lines: &str, wanted: Option<&str>) -> bool {
-    match RangeRef::parse(alloc, range) {
-        Ok(range) => is_newest(&range, lines, wanted),
-        Err(_) => false,
-    }
-}
-
-#[test]
-fn the_newest_line(rt: HostRuntime) {
-    let lines = "1.2.2\n1.9.0\nyanked\n1.10.0-beta\n1.3.0\n2.0.0\n";
-    assert!(rt; finds_newest(rt.alloc(), "^1.2.3", lines, Some("1.9.0")));
-    assert!(rt; finds_newest(rt.alloc(), "^1.2.3", "2.0.0", None));
 }

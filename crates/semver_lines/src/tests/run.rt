@@ -9,8 +9,13 @@ use std::test::Fail;
 
 // Whether a run over this input meets no fault and writes just this output.
 fn tells(alloc: Global, input: &[u8], output: &[u8]) -> bool {
+    tells_from(alloc, FailingReader::whole(input), output)
+}
+
+// The same of a reader.
+fn tells_from(alloc: Global, mut reader: FailingReader<'_>, output: &[u8]) -> bool {
     let mut writer = FailingWriter::whole(alloc);
-    let ran = run(alloc, &mut FailingReader::whole(input), &mut writer);
+    let ran = run(alloc, &mut reader, &mut writer);
     ran.is_ok() && writer.written.as_slice() == output
 }
 
@@ -38,10 +43,18 @@ fn run_ends_a_line_at_each_line_feed(rt: HostRuntime) {
     }
 }
 
-// Whether a run over so many times two lines writes as many answers.
-fn tells_long(alloc: Global, input: &str, count: usize) -> bool {
-    match long_text(alloc, "", "less\nbad version\n", count) {
-        Ok(output) => tells(alloc, input.as_bytes(), output.as_bytes()),
+// Whether a run over this input, read so many bytes a call, writes so many times these answers.
+fn tells_often(alloc: Global, input: &str, step: usize, answers: &str, count: usize) -> bool {
+    let rest = input.as_bytes();
+    let kind = ErrorKind::ConnectionReset;
+    let reader = FailingReader {
+        rest,
+        step,
+        before: None,
+        kind,
+    };
+    match long_text(alloc, "", answers, count) {
+        Ok(output) => tells_from(alloc, reader, output.as_bytes()),
         Err(_) => false,
     }
 }
@@ -50,12 +63,29 @@ fn tells_long(alloc: Global, input: &str, count: usize) -> bool {
 #[test]
 fn run_answers_a_long_input(rt: HostRuntime) -> Result<(), Fail> {
     let input = long_text(rt.alloc(), "", "cmp;1.0.0;2.0.0\ncmp;2;1\n", 10_000)?;
-    assert!(rt; tells_long(rt.alloc(), &input, 10_000));
+    let answers = "less\nbad version\n";
+    assert!(rt; tells_often(rt.alloc(), &input, usize::MAX, answers, 10_000));
+    Ok(())
+}
+
+// Some 3,200 reads of one byte.
+#[test]
+fn run_reads_byte_by_byte(rt: HostRuntime) -> Result<(), Fail> {
+    let input = long_text(rt.alloc(), "", "cmp;1.0.0;2.0.0\n", 200)?;
+    assert!(rt; tells_often(rt.alloc(), &input, 1, "less\n", 200));
+    Ok(())
+}
+
+// The answers to one chunk take more than 130,000 bytes.
+#[test]
+fn run_writes_more_than_it_reads(rt: HostRuntime) -> Result<(), Fail> {
+    let input = long_text(rt.alloc(), "", "range;1\n", 20_000)?;
+    assert!(rt; tells_often(rt.alloc(), &input, usize::MAX, ">=1.0.0 <2.0.0-0\n", 20_000));
     Ok(())
 }
 
 fn long_line(alloc: Global) -> Result<String, AllocError> {
-    let mut input = long_text(alloc, "cmp;1.0.0;", "x", 200_000)?;
+    let mut input = long_text(alloc, "cmp;1.0.0;", "x", 2_000_000)?;
     input.push_str("\ncmp;1.0.0;2.0.0")?;
     Ok(input)
 }
@@ -65,6 +95,22 @@ fn long_line(alloc: Global) -> Result<String, AllocError> {
 fn run_answers_a_long_line(rt: HostRuntime) -> Result<(), Fail> {
     let input = long_line(rt.alloc())?;
     assert!(rt; tells(rt.alloc(), input.as_bytes(), b"bad version\nless\n"));
+    Ok(())
+}
+
+// The line of a range of so many alternatives, and its answer behind other text.
+fn alternatives(alloc: Global, front: &str, count: usize) -> Result<String, AllocError> {
+    let mut text = long_text(alloc, front, "1.2.3||", count)?;
+    text.push_str("1.2.3\n")?;
+    Ok(text)
+}
+
+// One answer of more than 70,000 bytes.
+#[test]
+fn run_writes_a_long_answer(rt: HostRuntime) -> Result<(), Fail> {
+    let input = alternatives(rt.alloc(), "range;", 10_000)?;
+    let output = alternatives(rt.alloc(), "", 10_000)?;
+    assert!(rt; tells(rt.alloc(), input.as_bytes(), output.as_bytes()));
     Ok(())
 }
 

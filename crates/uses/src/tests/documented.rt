@@ -3,7 +3,10 @@
 use nodejs_semver::diagnosis::{
     Expected, IgnoredKind, IgnoredWord, VersionFlaw, ignored_words, version_flaw,
 };
-use nodejs_semver::{Identifier, Range, Version, VersionDiff, VersionRef};
+use nodejs_semver::{
+    Failure, Identifier, Range, Version, VersionDiff, VersionRef, newest_release, npm,
+};
+use std::cmp::Ordering;
 use std::test::Fail;
 
 #[test]
@@ -23,6 +26,24 @@ fn version_ref_parse(rt: HostRuntime) -> Result<(), Fail> {
     let beta = VersionRef::parse("v1.2.3-beta.1, the second beta")?;
     assert!(rt; beta < VersionRef::parse("1.2.3+build")?);
     assert!(rt; VersionRef::parse("1.2").is_err());
+    Ok(())
+}
+
+#[test]
+fn npm_version(rt: HostRuntime) -> Result<(), Fail> {
+    let beta = npm::version(" v1.2.3-beta.1 ")?;
+    assert_eq!(rt; beta, VersionRef::parse("1.2.3-beta.1")?);
+    assert!(rt; npm::version("1.2.03").is_err());
+    assert!(rt; npm::version("1.2.3, the second beta").is_err());
+    Ok(())
+}
+
+#[test]
+fn npm_range(rt: HostRuntime) -> Result<(), Fail> {
+    let alloc = rt.alloc();
+    let range = npm::range(alloc, ">=1.0.0 <2 || ~3.1", false)?;
+    assert!(rt; range.satisfies(&VersionRef::parse("3.1.4")?));
+    assert!(rt; npm::range(alloc, ">=1.0.0, <2.0.0", false).is_err());
     Ok(())
 }
 
@@ -152,6 +173,37 @@ fn is_new_min(rt: HostRuntime) -> Result<(), Fail> {
 }
 
 #[test]
+fn max_satisfying_all(rt: HostRuntime) -> Result<(), Fail> {
+    let alloc = rt.alloc();
+    let ranges = [Range::parse(alloc, "^1.2")?, Range::parse(alloc, "<1.4")?];
+    let versions = [Version::from((1u64, 3, 0)), Version::from((1u64, 5, 0))];
+    assert_eq!(rt;
+        Range::max_satisfying_all(&ranges, &versions),
+        Some(&versions[0])
+    );
+    Ok(())
+}
+
+#[test]
+fn the_newest_release(rt: HostRuntime) -> Result<(), Fail> {
+    let alloc = rt.alloc();
+    let versions = [
+        Version::from((1u64, 2, 0)),
+        Version::parse(alloc, "2.0.0-rc.1")?,
+    ];
+    assert_eq!(rt; newest_release(&versions), Some(&versions[0]));
+    Ok(())
+}
+
+#[test]
+fn refused_as_none(rt: HostRuntime) -> Result<(), Fail> {
+    let alloc = rt.alloc();
+    let range = Failure::refused_as_none(Range::parse(alloc, "next"))?;
+    assert!(rt; range.is_none());
+    Ok(())
+}
+
+#[test]
 fn min_version(rt: HostRuntime) -> Result<(), Fail> {
     let alloc = rt.alloc();
     let range = Range::parse(alloc, ">1.0.0 <1.0.1-5")?;
@@ -223,5 +275,60 @@ fn ignored_range_words(rt: HostRuntime) -> Result<(), Fail> {
         })
     );
     assert_eq!(rt; words.next(), None);
+    Ok(())
+}
+
+#[test]
+fn union(rt: HostRuntime) -> Result<(), Fail> {
+    let alloc = rt.alloc();
+    let one = Range::parse(alloc, "^1.2")?;
+    let either = one.union(alloc, &Range::parse(alloc, ">=2.0.0-rc.1 || ~1.4")?)?;
+    assert_eq!(rt;
+        either,
+        Range::parse(alloc, "^1.2 || >=2.0.0-rc.1 || ~1.4")?
+    );
+    Ok(())
+}
+
+#[test]
+fn is_subset(rt: HostRuntime) -> Result<(), Fail> {
+    let alloc = rt.alloc();
+    let narrow = Range::parse(alloc, ">=1 <3")?;
+    let wide = Range::parse(alloc, "1 || 2")?;
+    assert!(rt; narrow.is_subset(alloc, &wide)?);
+    Ok(())
+}
+
+#[test]
+fn simplify(rt: HostRuntime) -> Result<(), Fail> {
+    let alloc = rt.alloc();
+    let range = Range::parse(alloc, "^1 || ^2 || ^3")?;
+    let simple = range.simplify(alloc, &[Version::from((2u64, 1, 0))])?;
+    assert_eq!(rt; simple, Range::parse(alloc, "^2")?);
+    Ok(())
+}
+
+#[test]
+fn cmp_build(rt: HostRuntime) -> Result<(), Fail> {
+    let alloc = rt.alloc();
+    let one = Version::parse(alloc, "1.0.0+9")?;
+    let other = Version::parse(alloc, "1.0.0+10")?;
+    assert_eq!(rt; npm::cmp_build(&one, &other), Ordering::Less);
+    Ok(())
+}
+
+#[test]
+fn gtr(rt: HostRuntime) -> Result<(), Fail> {
+    let alloc = rt.alloc();
+    let range = Range::parse(alloc, "^1.2")?;
+    assert!(rt; npm::gtr(&Version::from((2u64, 0, 0)), &range, false));
+    Ok(())
+}
+
+#[test]
+fn ltr(rt: HostRuntime) -> Result<(), Fail> {
+    let alloc = rt.alloc();
+    let range = Range::parse(alloc, "^1.2")?;
+    assert!(rt; npm::ltr(&Version::from((1u64, 1, 9)), &range, false));
     Ok(())
 }

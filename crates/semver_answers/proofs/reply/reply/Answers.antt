@@ -1,19 +1,13 @@
+use Rattle.std.proofs.Common.{refl}
+use Rattle.semver_answers.specs.Answers.{no_question}
+use Rattle.semver_answers.proofs.Asked.{unknown}
+use Rattle.semver_answers.proofs.Replies.{answers_line, told_weaker}
 use Rattle.semver_answers.proofs.reply.reply.Goals as goal
 
-pub returns-in-Version : goal.returns-in-Version
-returns-in-Version c = rw c.in-Version.is c.on_version.ensures
+pub returns-in_default : goal.returns-in_default
+returns-in_default c =
+    no_question (λ question asks. unknown c.args.text.now c.in_default.ensures.none question asks.1) refl
 
-pub returns-in-Versions : goal.returns-in-Versions
-returns-in-Versions c = rw c.in-Versions.is c.on_versions.ensures
-
-pub returns-in-Range : goal.returns-in-Range
-returns-in-Range c = rw c.in-Range.is c.on_range.ensures
-
-pub returns-in-Ranges : goal.returns-in-Ranges
-returns-in-Ranges c = rw c.in-Ranges.is c.on_ranges.ensures
-
-pub returns-in-Match : goal.returns-in-Match
-returns-in-Match c = rw c.in-Match.is c.on_match.ensures
-
-pub returns-in-Best : goal.returns-in-Best
-returns-in-Best c = rw c.in-Best.is c.on_best.ensures
+pub returns : goal.returns
+returns c =
+    told_weaker _ _ c.reply_to.result (λ text. answers_line c.args.text.now _ text c.utf8.text c.in-Some.ensures.some) c.reply_to.ensures

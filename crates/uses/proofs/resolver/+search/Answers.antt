@@ -1,10 +1,10 @@
 use Rattle.std.proofs.Common.{◌≡◌, ℕ, IfNone, IfSome, ◌≤◌, ◌<◌, None, All, length, sym, ◌∙◌, refl, get_or, arith}
 use Rattle.std.proofs.lemmas.List.{take_all}
 use Rattle.std.proofs.lemmas.List.Elements.{All-more, All-nil}
-use Rattle.uses.specs.Resolver.{IsConflict, releases_of}
-use Rattle.uses.proofs.Plans.{Agrees-with, fewer_free, IsConflict-found, IsConflict-from_clash, IsHopeless, IsHopeless-rejected}
+use Rattle.uses.specs.Resolver.{IsConflict, IsHopeless, one_more, releases_of}
+use Rattle.uses.proofs.Plans.{Agrees-with, fewer_free, IsConflict-found, IsConflict-from_clash, IsHopeless-rejected, NeedsAll-from_picked}
 use Rattle.uses.proofs.Plans.{IsRejected, releases_of-past, IsPicked-more, none_from_clash, none_from_hopeless, rejected_more}
-use Rattle.uses.proofs.Plans.{released, releases_of-at, taken_back}
+use Rattle.uses.proofs.Plans.{at_item, released, releases_of-at, taken_back}
 use Rattle.uses.proofs.resolver.+search.Goals as goal
 use Rattle.uses.proofs.resolver.+search.Goals.{then-satisfies+in-Err, else-satisfies}
 use Rattle.uses.proofs.resolver.+search.Goals.{then-package-packages+else-loop-release-test, else-package-packages}
@@ -16,7 +16,7 @@ pub returns-in-Some-picked-clause-conflict : goal.returns-in-Some-picked-clause-
 returns-in-Some-picked-clause-conflict t c =
     let unmet = rw c.deref.ensures.value at c.in-Some.ensures.some in
     IsConflict-from_clash c.args.packages.now c.args.root.now c.args.picks.now.items c.in-Some-picked.pick
-    c.in-Some.requirement c.requires
+    c.in-Some.requirement c.requires.picked
     (rw c.deref-2.ensures.value at c.in-Some-picked.ensures, unmet.0, unmet.1)
 
 pub returns-in-Some-picked-clause-none : goal.returns-in-Some-picked-clause-none
@@ -24,6 +24,10 @@ returns-in-Some-picked-clause-none t c =
     let unmet = rw c.deref.ensures.value at c.in-Some.ensures.some in
     none_from_clash c.args.packages.now c.args.root.now c.args.picks.now.items c.in-Some-picked.pick c.in-Some.requirement.now
     (rw c.deref-2.ensures.value at c.in-Some-picked.ensures, unmet.0, unmet.1)
+
+pub first_unmet-requires : goal.first_unmet-requires
+first_unmet-requires t c =
+    rw c.deref.ensures.value (NeedsAll-from_picked c.args.packages.now c.args.root.now c.args.picks.now.items c.requires.picked)
 
 pub search-requires : goal.search-requires
 search-requires t c =
@@ -36,9 +40,16 @@ search-requires t c =
     c.release-item.is in (
       fewer_free c.args.picks.now.items c.loop-release.picks.items c.in-Some.requirement.now.package _ t
           c.loop-release.invariant.same c.decreases (omega arith) none,
-      rw c.loop-release.invariant.same (IsPicked-more c.in-Some.requirement.now.package _ c.requires (omega arith) none (rw (←
-          all) member) refl
-          (rw c.deref.ensures.value at c.in-Some.ensures.some.0) (sym c.if-satisfies.ensures.gate)),
+      (
+        rw c.loop-release.invariant.same (IsPicked-more c.in-Some.requirement.now.package _ c.requires.picked (omega arith) none (rw (←
+            all) member) refl
+            (rw c.deref.ensures.value at c.in-Some.ensures.some.0) (sym c.if-satisfies.ensures.gate)),
+        rw c.loop-release.invariant.same (one_more c.args.picks.now.items c.in-Some.requirement.now.package
+            c.loop-release.release-index _ c.requires.first (rw c.deref.ensures.value at c.in-Some.ensures.some.0) refl
+            (at_item (releases_of c.args.packages.now c.in-Some.requirement.now.package) c.loop-release.release-index
+            c.release-item.result (rw (← all) (omega arith)) (rw (← all) c.release-item.is))
+            (rw (← all) c.loop-release.invariant.tried)),
+      ),
     )
 
 pub loop-release-preserved : goal.loop-release-preserved
@@ -103,7 +114,7 @@ returns-clause-conflict t c =
     let asked = rw c.deref.ensures.value at c.in-Some.ensures.some.0 in
     rw c.unwrap_or.ensures
     (IsConflict-found c.args.packages.now c.args.root.now c.args.picks.now.items c.in-Some.requirement
-    c.if-package-packages.conflict c.requires asked rejected found)
+    c.if-package-packages.conflict c.requires.picked asked rejected found)
 
 pub returns-clause-none : goal.returns-clause-none
 returns-clause-none t c =

@@ -1,7 +1,8 @@
 use Rattle.std.proofs.Common.{◌≡◌, All, IfNone, IfSome, take}
 use Rattle.std.specs.List.{sum_by}
 use Rattle.uses.specs.Resolver.{IsConflict}
-use Rattle.uses.proofs.Plans.{IsHopeless, IsRejected, is_free}
+use Rattle.uses.specs.Resolver.{IsHopeless}
+use Rattle.uses.proofs.Plans.{IsRejected, is_free}
 use Rattle.uses.proofs.resolver.+search.Given as goal
 
 abbrev pub decreases-search : goal.decreases-search

@@ -1,8 +1,12 @@
-use Rattle.std.proofs.Common.{◌≤◌, ◌<◌, length, inr, arith}
+use Rattle.std.proofs.Common.{◌≤◌, ◌<◌, length, arith}
 use Rattle.std.proofs.lemmas.List.{take_all}
 use Rattle.std.proofs.lemmas.List.Elements.{All-more}
-use Rattle.uses.proofs.Plans.{IsServed, MeetsAll-from_served, release_at-item}
+use Rattle.uses.specs.Resolver.{of_release, of_root}
+use Rattle.uses.proofs.Plans.{IsServed, MeetsAll-from_served, pick_at, release_at-item}
 use Rattle.uses.proofs.resolver.first_unmet.Goals as goal
+
+pub returns-in-Some-clause-some : goal.returns-in-Some-clause-some
+returns-in-Some-clause-some c = (of_root _ c.in-Some.ensures.some.0, c.in-Some.ensures.some.1)
 
 pub loop-pick-preserved-in_default-pick : goal.loop-pick-preserved-in_default-pick
 loop-pick-preserved-in_default-pick c =
@@ -17,7 +21,11 @@ returns-in-Some-unmet_of-clause-some c =
     let at = release_at-item c.args.picks.now c.loop-pick.pick-index item c.in-Some-pick.pick within c.pick-item.is
     c.in-Some-pick.is in
     let asked = rw c.deref.ensures.value at c.in-Some-unmet_of.ensures.some.0 in
-    (inr (c.loop-pick.pick-index, c.in-Some-pick.pick.release.now, at, asked), c.in-Some-unmet_of.ensures.some.1)
+    let taken = pick_at c.args.picks.now c.loop-pick.pick-index item c.in-Some-pick.pick within c.pick-item.is c.in-Some-pick.is in
+    let (place, needed) = c.requires c.loop-pick.pick-index c.in-Some-pick.pick taken in (
+      of_release _ c.in-Some-pick.pick.requirement.now c.in-Some-pick.pick.release.now needed (rw place at) asked,
+      c.in-Some-unmet_of.ensures.some.1,
+    )
 
 pub loop-pick-preserved : goal.loop-pick-preserved
 loop-pick-preserved c =

@@ -1,5 +1,4 @@
-use Rattle.std.proofs.Common.{◌∙◌, arith, refl}
-use Rattle.semver_core.specs.declared.TheConstants.{MAX_SAFE_INTEGER}
+use Rattle.nodejs_semver.proofs.Common.{◌∙◌, arith, refl, MAX_SAFE_INTEGER}
 use Rattle.nodejs_semver.proofs.Printing.Ranges.{prints_again, same_back}
 use Rattle.nodejs_semver.proofs.Printing.RereadRange.{Reread, reread, reread_read}
 use Rattle.nodejs_semver.proofs.laws.printing.reread_range.Goals as goal

@@ -2,20 +2,20 @@ use Rattle.semver_core.specs.declared.TheConstants.{MAX_SAFE_INTEGER}
 use Rattle.nodejs_semver.specs.Text.Common.{IsCommonRange}
 use Rattle.nodejs_semver.proofs.Everyday.Whole.{fast_read, if-some}
 use Rattle.nodejs_semver.proofs.Dividing.MeaningLaw.{blank_text}
-use Rattle.nodejs_semver.proofs.Everyday.Texts.{common_ranges_are_denoted}
+use Rattle.nodejs_semver.proofs.Everyday.Texts.{common_parts_are_denoted}
 use Rattle.nodejs_semver.proofs.laws.texts.both_readers.Goals as goal
 
 pub range_loose-requires : goal.range_loose-requires
 range_loose-requires c = record {
   some_part = λ blank. cc (
     (blank_text c.args.text.now c.utf8.text).1 blank,
-    (common_ranges_are_denoted MAX_SAFE_INTEGER c.args.text.now c.in-Some.fast
-        (if-some (IsCommonRange MAX_SAFE_INTEGER c.args.text.now) _ _ c.in-Some.is c.in_ok-fast.ensures.some)).2,
+    (common_parts_are_denoted MAX_SAFE_INTEGER c.args.text.now c.in-Some.fast
+        (if-some (IsCommonRange MAX_SAFE_INTEGER c.args.text.now) _ _ c.in-Some.is c.in_ok-fast.ensures.some).parts).2,
   );
 }
 
 pub returns-in_ok-loose-in-Some-clause-same : goal.returns-in_ok-loose-in-Some-clause-same
 returns-in_ok-loose-in-Some-clause-same c =
     fast_read MAX_SAFE_INTEGER c.args.text.now c.in-Some.fast c.in_ok-loose-in-Some.loose c.utf8.text
-    (if-some (IsCommonRange MAX_SAFE_INTEGER c.args.text.now) _ _ c.in-Some.is c.in_ok-fast.ensures.some)
+    (if-some (IsCommonRange MAX_SAFE_INTEGER c.args.text.now) _ _ c.in-Some.is c.in_ok-fast.ensures.some).parts
     c.in_ok-loose-in-Some.ensures.some c.in_ok-loose-in-Some.ensures.none

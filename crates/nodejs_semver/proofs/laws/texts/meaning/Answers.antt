@@ -4,7 +4,7 @@ use Rattle.nodejs_semver.proofs.Dividing.RunsDivide.{part_divides}
 use Rattle.nodejs_semver.proofs.Dividing.RunsUnique.{runs_are}
 use Rattle.nodejs_semver.proofs.Dividing.WrittenLaw as law
 use Rattle.nodejs_semver.proofs.Everyday.Parts.{common_ranges_are_read}
-use Rattle.nodejs_semver.proofs.Everyday.Texts.{common_ranges_are_denoted}
+use Rattle.nodejs_semver.proofs.Everyday.Texts.{common_parts_are_denoted}
 use Rattle.nodejs_semver.proofs.laws.texts.meaning.Goals as goal
 
 pub returns : goal.returns
@@ -14,6 +14,6 @@ returns c = record {
   one_meaning = meaning.one_meaning;
   written = law.written;
   intervals_hold_what_is_written = denotes_hold;
-  denoted = common_ranges_are_denoted;
+  denoted = λ limit text list h. common_parts_are_denoted limit text list h.parts;
   read = common_ranges_are_read;
 }

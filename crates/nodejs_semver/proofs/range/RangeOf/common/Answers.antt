@@ -1,5 +1,4 @@
-use Rattle.std.proofs.Common.{ap, arith}
-use Rattle.semver_core.specs.Lists.{if_any}
+use Rattle.nodejs_semver.proofs.Common.{ap, arith, if_any}
 use Rattle.nodejs_semver.proofs.Algebra.Clauses.{meets_of-is, meets_of-some, meets_of-valid}
 use Rattle.nodejs_semver.proofs.Algebra.FlatMaps.{on_err}
 use Rattle.nodejs_semver.proofs.range.RangeOf.common.Goals as goal

@@ -1,5 +1,4 @@
-use Rattle.std.proofs.Common.{ap, arith}
-use Rattle.semver_core.specs.Lists.{if_any}
+use Rattle.nodejs_semver.proofs.Common.{ap, arith, if_any}
 use Rattle.nodejs_semver.proofs.Algebra.Clauses.{intervals-ordered, minus-is, minus-some, minus-valid}
 use Rattle.nodejs_semver.proofs.Algebra.FlatMaps.{on_err}
 use Rattle.nodejs_semver.proofs.range.RangeOf.remaining.Goals as goal

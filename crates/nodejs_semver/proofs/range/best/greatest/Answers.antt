@@ -1,14 +1,14 @@
 use Rattle.std.proofs.Common.{refl, take_all}
 use Rattle.nodejs_semver.specs.Ranges.View.{value_of}
-use Rattle.nodejs_semver.proofs.Choice.BestOf.{one_further}
+use Rattle.nodejs_semver.proofs.Choice.BestOf.{max_more, one_further}
 use Rattle.nodejs_semver.proofs.range.best.greatest.Goals as goal
 use Rattle.nodejs_semver.proofs.range.best.greatest.Goals.{then-is_new_max, else-is_new_max}
 
 pub loop-version-preserved : goal.loop-version-preserved
 loop-version-preserved g c =
-    let more = c.is_new_max.ensures _ c.loop-version.invariant in
-    one_further _ _ _ g.V.Versioned.value c.args.versions.now c.loop-version.version-index c.version-item.result c.is_new_max.result
-    (value_of g.V.Versioned.value c.loop-version.best) (value_of g.V.Versioned.value c.if-is_new_max.best) c.loop-version-test.true c.version-item.is more
+    let more = max_more _ _ _ _ c.is_new_max.result c.is_new_max.ensures c.loop-version.invariant in
+    one_further _ _ _ g.W.Versioned.value c.args.versions.now c.loop-version.version-index c.version-item.result c.is_new_max.result
+    (value_of g.W.Versioned.value c.loop-version.best) (value_of g.W.Versioned.value c.if-is_new_max.best) c.loop-version-test.true c.version-item.is more
     (elim c.if-is_new_max.branch [
       | then-is_new_max w ↦ rw (w.best-is, w.if-is_new_max.true) refl
       | else-is_new_max w ↦ rw (w.best-is, w.if-is_new_max.false) refl

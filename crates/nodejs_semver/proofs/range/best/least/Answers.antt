@@ -1,14 +1,14 @@
 use Rattle.std.proofs.Common.{refl, take_all}
 use Rattle.nodejs_semver.specs.Ranges.View.{value_of}
-use Rattle.nodejs_semver.proofs.Choice.BestOf.{one_further}
+use Rattle.nodejs_semver.proofs.Choice.BestOf.{min_more, one_further}
 use Rattle.nodejs_semver.proofs.range.best.least.Goals as goal
 use Rattle.nodejs_semver.proofs.range.best.least.Goals.{then-is_new_min, else-is_new_min}
 
 pub loop-version-preserved : goal.loop-version-preserved
 loop-version-preserved g c =
-    let more = c.is_new_min.ensures _ c.loop-version.invariant in
-    one_further _ _ _ g.V.Versioned.value c.args.versions.now c.loop-version.version-index c.version-item.result c.is_new_min.result
-    (value_of g.V.Versioned.value c.loop-version.best) (value_of g.V.Versioned.value c.if-is_new_min.best) c.loop-version-test.true c.version-item.is more
+    let more = min_more _ _ _ _ c.is_new_min.result c.is_new_min.ensures c.loop-version.invariant in
+    one_further _ _ _ g.W.Versioned.value c.args.versions.now c.loop-version.version-index c.version-item.result c.is_new_min.result
+    (value_of g.W.Versioned.value c.loop-version.best) (value_of g.W.Versioned.value c.if-is_new_min.best) c.loop-version-test.true c.version-item.is more
     (elim c.if-is_new_min.branch [
       | then-is_new_min w ↦ rw (w.best-is, w.if-is_new_min.true) refl
       | else-is_new_min w ↦ rw (w.best-is, w.if-is_new_min.false) refl

@@ -6,5 +6,5 @@ use Rattle.nodejs_semver.proofs.range.best.least.Given as goal
 
 abbrev pub invariant-loop-version : goal.invariant-loop-version
 invariant-loop-version g l =
-    let value = g.V.Versioned.value in
-    IsMin (λ v. accepts (spans_of value l.intervals) v false) (map value (take l.version-index l.versions)) (value_of value l.best)
+    IsMin (λ v. accepts (spans_of g.V.Versioned.value l.intervals) v false)
+    (map g.W.Versioned.value (take l.version-index l.versions)) (value_of g.W.Versioned.value l.best)

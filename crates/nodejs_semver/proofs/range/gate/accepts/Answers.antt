@@ -1,10 +1,6 @@
-use Rattle.std.proofs.Common.{◌∙◌, ◌&&◌, ◌||◌, rules, sym, tests}
-use Rattle.std.proofs.lemmas.Iterator.{YieldsList-from_slice}
+use Rattle.nodejs_semver.proofs.Common.{◌∙◌, ◌&&◌, ◌||◌, rules, sym, YieldsList-from_slice, holds, precedence, lets_in, span_of}
+use Rattle.std.proofs.Common.{tests}
 use Rattle.std.proofs.lemmas.Iterator.Search.{any_from_yields_List}
-use Rattle.semver_core.specs.Cuts.{holds}
-use Rattle.semver_core.specs.Values.Order.{precedence}
-use Rattle.nodejs_semver.specs.Ranges.Gate.{lets_in}
-use Rattle.nodejs_semver.specs.Ranges.View.{span_of}
 use Rattle.nodejs_semver.proofs.Algebra.FlatMaps.{list_any-map}
 use Rattle.nodejs_semver.proofs.range.gate.accepts.Goals as goal
 

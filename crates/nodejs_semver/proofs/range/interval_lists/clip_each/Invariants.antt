@@ -1,5 +1,4 @@
-use Rattle.std.proofs.Common.{◌≡◌, ◌++◌, take, flat_map, option_to_list}
-use Rattle.semver_core.specs.Clips.{clip}
+use Rattle.nodejs_semver.proofs.Common.{◌≡◌, ◌++◌, take, flat_map, option_to_list, clip}
 use Rattle.nodejs_semver.proofs.range.interval_lists.clip_each.Given as goal
 
 abbrev pub invariant-loop-interval : goal.invariant-loop-interval

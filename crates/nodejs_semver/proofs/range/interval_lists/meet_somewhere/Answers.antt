@@ -1,8 +1,5 @@
-use Rattle.std.proofs.Common.{◌∙◌, is_some, rules}
-use Rattle.std.proofs.lemmas.Iterator.{YieldsList-from_slice}
+use Rattle.nodejs_semver.proofs.Common.{◌∙◌, is_some, rules, YieldsList-from_slice, list_any, meet}
 use Rattle.std.proofs.lemmas.Iterator.Search.{any_from_yields_List}
-use Rattle.std.specs.List.{list_any}
-use Rattle.semver_core.specs.Cuts.{meet}
 use Rattle.nodejs_semver.proofs.Algebra.Accepting.{meets_one_some}
 use Rattle.nodejs_semver.proofs.range.interval_lists.meet_somewhere.Goals as goal
 

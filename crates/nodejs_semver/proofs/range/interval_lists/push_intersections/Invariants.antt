@@ -1,5 +1,4 @@
-use Rattle.std.proofs.Common.{◌≡◌, ◌++◌, take, flat_map, option_to_list}
-use Rattle.semver_core.specs.Cuts.{meet}
+use Rattle.nodejs_semver.proofs.Common.{◌≡◌, ◌++◌, take, flat_map, option_to_list, meet}
 use Rattle.nodejs_semver.proofs.range.interval_lists.push_intersections.Given as goal
 
 abbrev pub invariant-loop-other : goal.invariant-loop-other

@@ -1,5 +1,4 @@
-use Rattle.std.proofs.Common.{◌≡◌, ◌++◌, take, flat_map}
-use Rattle.nodejs_semver.specs.Ranges.Algebra.{remainder}
+use Rattle.nodejs_semver.proofs.Common.{◌≡◌, ◌++◌, take, flat_map, remainder}
 use Rattle.nodejs_semver.proofs.range.interval_lists.push_remainders.Given as goal
 
 abbrev pub invariant-loop-interval : goal.invariant-loop-interval

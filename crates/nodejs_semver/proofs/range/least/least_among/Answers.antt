@@ -1,7 +1,5 @@
-use Rattle.std.proofs.Common.{◌≡◌, ◌∷◌, sym, subst, arith}
-use Rattle.std.proofs.lemmas.Grind.{common_steps}
+use Rattle.nodejs_semver.proofs.Common.{◌≡◌, ◌∷◌, sym, subst, arith, common_steps, IsLeastOf}
 use Rattle.nodejs_semver.specs.Internal.Candidates.{among, candidates, least_of}
-use Rattle.nodejs_semver.specs.Ranges.Least.{IsLeastOf}
 use Rattle.nodejs_semver.proofs.Choice.LeastOf as lemmas
 use Rattle.nodejs_semver.proofs.range.least.least_among.Goals as goal
 

@@ -1,12 +1,10 @@
-use Rattle.std.proofs.Common.{◌≡◌, ◌∙◌, Bool, arith, rules, sym, tests}
-use Rattle.std.proofs.lemmas.Iterator.{YieldsList-from_slice}
+use Rattle.nodejs_semver.proofs.Common.{◌≡◌, ◌∙◌, Bool, arith, rules, sym, YieldsList-from_slice, list_all, Span, VersionValue}
+use Rattle.nodejs_semver.proofs.Common.{span_of}
+use Rattle.std.proofs.Common.{tests}
 use Rattle.std.proofs.lemmas.Iterator.Search.{all_from_yields_List}
 use Rattle.std.proofs.lemmas.List.Folds.{list_all-map}
-use Rattle.std.specs.List.{list_all}
-use Rattle.semver_core.specs.Cuts.{Span}
-use Rattle.semver_core.specs.Values.Versions.{VersionValue}
 use Rattle.nodejs_semver.specs.Ranges.Outside.{lies_above, lies_below}
-use Rattle.nodejs_semver.specs.Ranges.View.{span_of, spans_of}
+use Rattle.nodejs_semver.specs.Ranges.View.{spans_of}
 use Rattle.nodejs_semver.specs.declared.range.outside.OutsideDirection.TheVariants.{Higher, Lower}
 use Rattle.nodejs_semver.proofs.range.outside.lies_outside.Goals as goal
 

@@ -1,5 +1,4 @@
-use Rattle.std.proofs.Common.{refl}
-use Rattle.std.proofs.Output.{has_written_styled_append}
+use Rattle.nodejs_semver.proofs.Common.{refl, has_written_styled_append}
 use Rattle.nodejs_semver.proofs.range.print.write_signed.Goals as goal
 
 pub returns : goal.returns

@@ -1,6 +1,5 @@
-use Rattle.std.proofs.Common.{◌∷◌, List, ℕ, sym, ap, ◌∙◌, Option}
+use Rattle.nodejs_semver.proofs.Common.{◌∷◌, List, ℕ, sym, ap, ◌∙◌, Option, trim}
 use Rattle.semver_core.proofs.Text.Trims.{middle_is_trim}
-use Rattle.semver_core.specs.Internal.Spaces.{trim}
 use Rattle.nodejs_semver.specs.Internal.PartFronts.{later_parts}
 use Rattle.nodejs_semver.specs.Internal.Readings.{rest_view}
 use Rattle.nodejs_semver.proofs.Dividing.BarLemmas.{parts-front}

@@ -1,4 +1,4 @@
-use Rattle.std.proofs.Common.{◌≡◌, ◌∙◌, ap, arith, List, [], ◌∷◌, ℕ, inr, rules, subst}
+use Rattle.std.proofs.Common.{◌≡◌, ◌∙◌, ap, arith, List, [], ◌∷◌, ℕ, inr, rules, subst, sym}
 use Rattle.std.proofs.lemmas.Result.{IfOk-weaker, on_err_weaker}
 use Rattle.std.specs.Prelude.{IfSome, IsTrue, IsUtf8}
 use Rattle.semver_core.specs.declared.TheConstants.{MAX_SAFE_INTEGER}
@@ -24,7 +24,9 @@ if_some P (x ∷ xs) h = h
 pub returns-clause-some : goal.returns-clause-some
 returns-clause-some c =
     let there : IsTrue c.in_ok-read_common.field-0 = search rules in
-    let common = rw c.as_bytes.ensures.value at (c.in_ok-read_common.ensures.some there) in
+    let parts = rw c.as_bytes.ensures.value at (c.in_ok-read_common.ensures.some there) in
+    let common : IsCommonRange MAX_SAFE_INTEGER c.args.text.now c.read_common.new.found.items =
+    record { parts = parts; no_build = sym c.has_plus.ensures ∙ c.if-has_plus.false } in
     IfOk-weaker c.owned_range.result (λ r. r ≡ c.from_intervals.result)
     (λ r. IfSome r (IsCommonRange MAX_SAFE_INTEGER c.args.text.now))
     (λ r e. rw (e, c.from_intervals.ensures, spans_same) (if_some _ c.read_common.new.found.items common))
@@ -43,6 +45,9 @@ returns-clause-denoted c =
 pub returns-clause-memory : goal.returns-clause-memory
 returns-clause-memory c =
     let there : IsTrue c.in_ok-read_common.field-0 = search rules in
+    let parts = rw c.as_bytes.ensures.value at (c.in_ok-read_common.ensures.some there) in
+    let common : IsCommonRange MAX_SAFE_INTEGER c.args.text.now c.read_common.new.found.items =
+    record { parts = parts; no_build = sym c.has_plus.ensures ∙ c.if-has_plus.false } in
     on_err_weaker c.owned_range.result
-    (λ m. inr (rw c.as_bytes.ensures.value at (common_so _ MAX_SAFE_INTEGER c.as_bytes.result.now c.read_common.new.found.items
-    (c.in_ok-read_common.ensures.some there) (rw (c.from_intervals.ensures, spans_same) at m)))) c.owned_range.ensures.memory
+    (λ m. inr (common_so _ MAX_SAFE_INTEGER c.args.text.now c.read_common.new.found.items
+    common (rw (c.from_intervals.ensures, spans_same) at m))) c.owned_range.ensures.memory

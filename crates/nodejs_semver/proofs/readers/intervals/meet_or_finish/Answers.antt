@@ -1,7 +1,4 @@
-use Rattle.std.proofs.Common.{◌++◌, ◌∷◌, [], List, sym, ap, ◌∙◌}
-use Rattle.semver_core.specs.Cuts.{Span}
-use Rattle.semver_core.specs.Values.Order.{precedence}
-use Rattle.semver_core.specs.Values.Versions.{VersionValue}
+use Rattle.nodejs_semver.proofs.Common.{◌++◌, ◌∷◌, [], List, sym, ap, ◌∙◌, Span, precedence, VersionValue}
 use Rattle.nodejs_semver.specs.Internal.Meets.{joined_from}
 use Rattle.nodejs_semver.proofs.Dividing.PartSteps.{join_goes, join_stops}
 use Rattle.nodejs_semver.proofs.readers.intervals.meet_or_finish.Goals as goal

@@ -1,6 +1,4 @@
-use Rattle.std.proofs.Common.{Bool, List, ℕ, ap, arith}
-use Rattle.semver_core.specs.Cuts.{Span}
-use Rattle.semver_core.specs.Values.Versions.{VersionValue}
+use Rattle.nodejs_semver.proofs.Common.{Bool, List, ℕ, ap, arith, Span, VersionValue}
 use Rattle.nodejs_semver.proofs.readers.intervals.push_next.Goals as goal
 
 pub returns-clause-there : goal.returns-clause-there

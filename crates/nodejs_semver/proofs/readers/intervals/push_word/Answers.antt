@@ -1,16 +1,12 @@
-use Rattle.std.proofs.Common.{◌≡◌, ◌∙◌, sym, true, false, ap, rules, refl, Bool, ℕ, List, Bor, Option}
-use Rattle.std.proofs.lemmas.Result.{MatchResult-from_err}
-use Rattle.semver_core.specs.Cuts.{Span}
-use Rattle.semver_core.specs.Values.Versions.{VersionValue}
-use Rattle.semver_core.specs.declared.TheConstants.{MAX_SAFE_INTEGER}
+use Rattle.nodejs_semver.proofs.Common.{◌≡◌, ◌∙◌, sym, true, false, ap, rules, refl, Bool, ℕ, List, Option, MatchResult-from_err}
+use Rattle.nodejs_semver.proofs.Common.{Span, VersionValue, MAX_SAFE_INTEGER, table, malformed}
+use Rattle.std.proofs.Common.{Bor}
 use Rattle.nodejs_semver.specs.Internal.CommonFronts.{pushed}
 use Rattle.nodejs_semver.specs.Internal.Readings.{hyphen_pushed_view, partial_front_view, partial_view, sign_pair_view, sign_view, word_pushed_view}
 use Rattle.nodejs_semver.specs.Internal.Words.{signed_word, upper_of, from_boundary, is_boundary, word_at}
-use Rattle.nodejs_semver.specs.Text.Table.{table}
 use Rattle.nodejs_semver.proofs.Reading.SignLaw.{longer_hyphen, longer_signed, no_hyphen, pushed_hyphen, pushed_malformed}
 use Rattle.nodejs_semver.proofs.Reading.SignLaw.{pushed_word, word-as}
 use Rattle.nodejs_semver.proofs.readers.intervals.push_word.Goals as goal
-use Rattle.nodejs_semver.specs.Text.WordText.{malformed}
 
 pub returns-in_default-clause-added : goal.returns-in_default-clause-added
 returns-in_default-clause-added c =

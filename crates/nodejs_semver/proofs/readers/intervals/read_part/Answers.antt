@@ -1,9 +1,6 @@
-use Rattle.std.proofs.Common.{◌≡◌, ◌<◌, ◌++◌, List, length, sym, ap, ◌∙◌, arith, subst, Some, None, OnErr, OnOk}
-use Rattle.std.proofs.lemmas.Result.{MatchResult-from_err}
-use Rattle.semver_core.specs.Cuts.{Span}
-use Rattle.semver_core.specs.Values.Versions.{VersionValue}
-use Rattle.semver_core.specs.declared.TheConstants.{MAX_SAFE_INTEGER}
-use Rattle.semver_core.specs.Values.Order.{precedence}
+use Rattle.nodejs_semver.proofs.Common.{◌≡◌, ◌<◌, ◌++◌, List, length, sym, ap, ◌∙◌, arith, subst, Some, None}
+use Rattle.nodejs_semver.proofs.Common.{MatchResult-from_err, Span, VersionValue, MAX_SAFE_INTEGER, precedence}
+use Rattle.std.proofs.Common.{OnErr, OnOk}
 use Rattle.nodejs_semver.specs.Internal.Meets.{joined_from, next_at}
 use Rattle.nodejs_semver.specs.Internal.Denotes.{part_bounds, part_intervals}
 use Rattle.nodejs_semver.proofs.Dividing.PartSteps.{longer_part, part-begins, part-last, part-step, read-is}

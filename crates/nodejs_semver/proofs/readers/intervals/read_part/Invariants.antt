@@ -1,9 +1,6 @@
-use Rattle.std.proofs.Common.{◌≡◌, ◌<◌, None, length}
-use Rattle.semver_core.specs.Values.Order.{precedence}
-use Rattle.semver_core.specs.declared.TheConstants.{MAX_SAFE_INTEGER}
+use Rattle.nodejs_semver.proofs.Common.{◌≡◌, ◌<◌, None, length, precedence, MAX_SAFE_INTEGER, space_len}
 use Rattle.nodejs_semver.specs.Internal.Denotes.{part_bounds, part_intervals}
 use Rattle.nodejs_semver.specs.Internal.Meets.{joined}
-use Rattle.semver_core.specs.Internal.Spaces.{space_len}
 use Rattle.nodejs_semver.proofs.readers.intervals.read_part.Given as goal
 
 abbrev pub invariant-words : goal.invariant-words

@@ -1,9 +1,6 @@
-use Rattle.std.proofs.Common.{◌≡◌, ◌<◌, ◌++◌, ◌∷◌, List, length, sym, ap, ◌∙◌, arith, subst, Some, None, OnOk}
-use Rattle.std.proofs.lemmas.Result.{MatchResult-from_err, on_err_weaker}
-use Rattle.semver_core.specs.Cuts.{Span}
-use Rattle.semver_core.specs.Values.Order.{precedence}
-use Rattle.semver_core.specs.Values.Versions.{VersionValue}
-use Rattle.semver_core.specs.declared.TheConstants.{MAX_SAFE_INTEGER}
+use Rattle.nodejs_semver.proofs.Common.{◌≡◌, ◌<◌, ◌++◌, ◌∷◌, List, length, sym, ap, ◌∙◌, arith, subst, Some, None}
+use Rattle.nodejs_semver.proofs.Common.{MatchResult-from_err, on_err_weaker, Span, precedence, VersionValue, MAX_SAFE_INTEGER}
+use Rattle.std.proofs.Common.{OnOk}
 use Rattle.nodejs_semver.specs.Internal.Denotes.{part_bounds}
 use Rattle.nodejs_semver.specs.Internal.Meets.{joined_from, next_at}
 use Rattle.nodejs_semver.proofs.Dividing.PartSteps.{bounds-step, had_one, longer_joined, read-is, read-shorter, read-starts}

@@ -1,9 +1,6 @@
-use Rattle.std.proofs.Common.{◌≡◌, ◌++◌, length}
-use Rattle.semver_core.specs.Values.Order.{precedence}
-use Rattle.semver_core.specs.declared.TheConstants.{MAX_SAFE_INTEGER}
+use Rattle.nodejs_semver.proofs.Common.{◌≡◌, ◌++◌, length, precedence, MAX_SAFE_INTEGER, space_len}
 use Rattle.nodejs_semver.specs.Internal.Denotes.{part_bounds}
 use Rattle.nodejs_semver.specs.Internal.Meets.{joined_from}
-use Rattle.semver_core.specs.Internal.Spaces.{space_len}
 use Rattle.nodejs_semver.proofs.readers.intervals.read_words.Given as goal
 
 abbrev pub invariant-words : goal.invariant-words

@@ -1,6 +1,4 @@
-use Rattle.std.proofs.Common.{◌≡◌, ◌++◌, ◌∷◌}
-use Rattle.std.specs.Prelude.{flat_map}
-use Rattle.semver_core.specs.declared.TheConstants.{MAX_SAFE_INTEGER}
+use Rattle.nodejs_semver.proofs.Common.{◌≡◌, ◌++◌, ◌∷◌, flat_map, MAX_SAFE_INTEGER}
 use Rattle.nodejs_semver.specs.Internal.Denotes.{part_denotes}
 use Rattle.nodejs_semver.specs.Internal.PartFronts.{later_parts, left_over}
 use Rattle.nodejs_semver.specs.Internal.Readings.{rest_view}

@@ -1,6 +1,4 @@
-use Rattle.std.proofs.Common.{◌≡◌}
-use Rattle.std.specs.List.{list_all}
-use Rattle.semver_core.specs.Lists.{is_empty}
+use Rattle.nodejs_semver.proofs.Common.{◌≡◌, list_all, is_empty}
 use Rattle.nodejs_semver.specs.Internal.PartFronts.{later_parts, left_over}
 use Rattle.nodejs_semver.specs.Internal.Readings.{rest_view}
 use Rattle.nodejs_semver.proofs.readers.loose.are_blank.Given as goal

@@ -1,14 +1,9 @@
-use Rattle.std.proofs.Common.{◌≡◌, ◌+◌, ℕ, List, arith, ap, inl, length, ◌∙◌}
-use Rattle.std.proofs.lemmas.Result.{IfOk-weaker, MatchResult-from_err, on_err_weaker}
-use Rattle.std.specs.List.{list_all}
-use Rattle.std.specs.Prelude.{flat_map}
+use Rattle.nodejs_semver.proofs.Common.{◌≡◌, ◌+◌, ℕ, List, arith, ap, inl, length, ◌∙◌, MatchResult-from_err, on_err_weaker}
+use Rattle.nodejs_semver.proofs.Common.{list_all, flat_map, Span, VersionValue, MAX_SAFE_INTEGER, if_any}
+use Rattle.std.proofs.lemmas.Result.{IfOk-weaker}
 use Rattle.nodejs_semver.specs.Internal.Sets.{is_range_span}
-use Rattle.semver_core.specs.Cuts.{Span}
-use Rattle.semver_core.specs.Values.Versions.{VersionValue}
-use Rattle.semver_core.specs.declared.TheConstants.{MAX_SAFE_INTEGER}
 use Rattle.nodejs_semver.specs.Internal.Parts.{parts}
 use Rattle.nodejs_semver.specs.Internal.Denotes.{denotes, part_denotes}
-use Rattle.semver_core.specs.Lists.{if_any}
 use Rattle.nodejs_semver.proofs.Values.{spans_same}
 use Rattle.nodejs_semver.proofs.Bounds.Table.{all-bounded}
 use Rattle.nodejs_semver.proofs.Dividing.MeaningLaw.{filled_denotes, filled_text, found_so, meant_none, meant_so, meant_some}

@@ -1,7 +1,4 @@
-use Rattle.std.proofs.Common.{ℕ, List, Option, Some, ap, sym, ◌∙◌, arith, rules}
-use Rattle.std.proofs.lemmas.List.{take_rest}
-use Rattle.std.proofs.lemmas.Option.{same_Some}
-use Rattle.semver_core.specs.declared.TheConstants.{MAX_SAFE_INTEGER}
+use Rattle.nodejs_semver.proofs.Common.{ℕ, List, Option, Some, ap, sym, ◌∙◌, arith, rules, take_rest, same_Some, MAX_SAFE_INTEGER}
 use Rattle.nodejs_semver.specs.Internal.Fronts.{Front, component_front}
 use Rattle.nodejs_semver.proofs.Reading.Numbers.{front_none, front_small, front_some, number_first}
 use Rattle.nodejs_semver.proofs.readers.partial.component_front.Goals as goal

@@ -1,7 +1,5 @@
-use Rattle.std.proofs.Common.{◌≡◌, arith, refl}
-use Rattle.std.proofs.lemmas.List.{take_rest}
+use Rattle.nodejs_semver.proofs.Common.{◌≡◌, arith, refl, take_rest, list_len}
 use Rattle.semver_core.proofs.Text.Ends.{end_step}
-use Rattle.semver_core.specs.Internal.Reading.{list_len}
 use Rattle.nodejs_semver.proofs.Reading.IdentifierLists.{list_past, list_stopped, listed_taken, whole_listed}
 use Rattle.nodejs_semver.proofs.readers.partial.split_list.Goals as goal
 

@@ -1,5 +1,4 @@
-use Rattle.std.proofs.Common.{◌≡◌, ◌+◌, drop}
-use Rattle.semver_core.specs.Internal.Reading.{list_len}
+use Rattle.nodejs_semver.proofs.Common.{◌≡◌, ◌+◌, drop, list_len}
 use Rattle.nodejs_semver.proofs.readers.partial.split_list.Given as goal
 
 abbrev pub invariant-bytes : goal.invariant-bytes

@@ -1,6 +1,5 @@
-use Rattle.std.proofs.Common.{sym, ◌∙◌, arith}
-use Rattle.std.proofs.lemmas.List.{take_rest}
-use Rattle.semver_core.proofs.Text.Spaces.{drop_spaces-more, drop_spaces-none}
+use Rattle.nodejs_semver.proofs.Common.{sym, ◌∙◌, arith, take_rest, drop_spaces-none}
+use Rattle.semver_core.proofs.Text.Spaces.{drop_spaces-more}
 use Rattle.nodejs_semver.proofs.readers.spaces.skip_spaces.Goals as goal
 
 pub returns-then-len-eq0 : goal.returns-then-len-eq0

@@ -1,5 +1,4 @@
-use Rattle.std.proofs.Common.{◌≡◌, length}
-use Rattle.semver_core.specs.Internal.Spaces.{drop_spaces}
+use Rattle.nodejs_semver.proofs.Common.{◌≡◌, length, drop_spaces}
 use Rattle.nodejs_semver.proofs.readers.spaces.skip_spaces.Given as goal
 
 abbrev pub invariant-spaces : goal.invariant-spaces

@@ -1,5 +1,4 @@
-use Rattle.std.proofs.Common.{rules}
-use Rattle.semver_core.specs.Internal.Spaces.{space_len}
+use Rattle.nodejs_semver.proofs.Common.{rules, space_len}
 use Rattle.nodejs_semver.proofs.readers.spaces.space_len.Goals as goal
 
 pub returns-in-len2-up-clause-value : goal.returns-in-len2-up-clause-value

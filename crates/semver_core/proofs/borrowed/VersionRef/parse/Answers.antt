@@ -1,7 +1,4 @@
-use Rattle.std.proofs.Common.{arith, rules}
-use Rattle.semver_core.specs.Failures.{NoValue}
-use Rattle.semver_core.specs.Text.Identifiers.{listed}
-use Rattle.semver_core.specs.Text.VersionText.{Reads}
+use Rattle.semver_core.proofs.Common.{arith, rules, NoValue, listed, Reads}
 use Rattle.semver_core.specs.declared.TheConstants.{MAX_SAFE_INTEGER}
 use Rattle.semver_core.proofs.Text.Ends.{not_parsed, short_parsed}
 use Rattle.semver_core.proofs.Text.Whole.{release_read}

@@ -1,7 +1,4 @@
-use Rattle.std.proofs.Common.{◌≡◌, length, true}
-use Rattle.std.specs.Cmp.Lexicographic.{slice_cmp}
-use Rattle.semver_core.specs.Text.Identifiers.{is_listed, listed}
-use Rattle.semver_core.specs.Values.Order.{id_cmp}
+use Rattle.semver_core.proofs.Common.{◌≡◌, length, true, slice_cmp, is_listed, listed, id_cmp}
 use Rattle.semver_core.proofs.borrowed.dotted.cmp_texts.Given as goal
 
 abbrev pub invariant-ids : goal.invariant-ids

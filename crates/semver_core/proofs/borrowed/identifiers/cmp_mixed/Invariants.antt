@@ -1,6 +1,4 @@
-use Rattle.std.proofs.Common.{◌≡◌, length}
-use Rattle.std.specs.Cmp.Lexicographic.{slice_cmp}
-use Rattle.semver_core.specs.Values.Order.{id_cmp}
+use Rattle.semver_core.proofs.Common.{◌≡◌, length, slice_cmp, id_cmp}
 use Rattle.semver_core.proofs.borrowed.identifiers.cmp_mixed.Given as goal
 
 abbrev pub invariant-ids : goal.invariant-ids

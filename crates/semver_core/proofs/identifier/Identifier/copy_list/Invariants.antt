@@ -1,6 +1,5 @@
-use Rattle.std.proofs.Common.{◌≡◌, ◌≤◌, length, take}
+use Rattle.semver_core.proofs.Common.{◌≡◌, ◌≤◌, length, take, ids_view}
 use Rattle.std.specs.Prelude.{vec_capacity, vec_len}
-use Rattle.semver_core.specs.Values.Views.{ids_view}
 use Rattle.semver_core.proofs.identifier.Identifier.copy_list.Given as goal
 
 abbrev pub invariant-loop-id : goal.invariant-loop-id

@@ -1,5 +1,7 @@
-use Rattle.std.proofs.Common.{Option, Some, None, ◌≡◌, ℕ, List, IfSome, IfNone}
+use Rattle.std.proofs.Common.{Option, Some, None, ◌≡◌, ◌∙◌, ap, arith, sym, ℕ, List, IfSome, IfNone}
 use Rattle.semver_core.specs.Failures.{NoValue}
+use Rattle.semver_core.specs.declared.TheConstants.{MAX_SAFE_INTEGER}
+use Rattle.semver_core.specs.Internal.CommonReading.{small_len}
 use Rattle.semver_core.specs.Internal.Reading.{mark_len, qualified, triple_at}
 use Rattle.semver_core.specs.Text.Characters.{IsAfterBlank}
 use Rattle.semver_core.specs.Text.VersionText.{Reads}
@@ -16,12 +18,19 @@ not_found : (limit : ℕ) (text : List ℕ) (start : ℕ) (o : Option (ℕ × �
 not_found limit text start None a e = loose_not limit text start a e
 not_found limit text start (Some t) a e = tt
 
+pub returns-then-at-small_len-clause-none : goal.returns-then-at-small_len-clause-none
+returns-then-at-small_len-clause-none c =
+    let text = c.args.text.now in
+    let same : small_len text ≡ c.front_of_numbers-at.result = grind arith in
+    loose_not _ text c.front_of_numbers-at.result c.front_of_numbers-at.ensures
+    (sym c.requires ∙ ap (λ (at : ℕ). triple_at MAX_SAFE_INTEGER text at) same)
+
 pub returns-clause-some : goal.returns-clause-some
 returns-clause-some c =
-    found _ c.args.text.now c.front_of_numbers.result c.three_numbers.result c.front_of_numbers.ensures
+    found _ c.args.text.now c.front_of_numbers-at.result c.three_numbers.result c.front_of_numbers-at.ensures
     (rw c.as_bytes.ensures.value at c.three_numbers.ensures.found)
 
 pub returns-clause-none : goal.returns-clause-none
 returns-clause-none c =
-    not_found _ c.args.text.now c.front_of_numbers.result c.three_numbers.result c.front_of_numbers.ensures
+    not_found _ c.args.text.now c.front_of_numbers-at.result c.three_numbers.result c.front_of_numbers-at.ensures
     (rw c.as_bytes.ensures.value at c.three_numbers.ensures.found)

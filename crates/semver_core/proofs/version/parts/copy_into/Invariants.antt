@@ -1,5 +1,4 @@
-use Rattle.std.proofs.Common.{◌≡◌, ◌≤◌, length, take}
-use Rattle.semver_core.specs.Values.Views.{ids_view}
+use Rattle.semver_core.proofs.Common.{◌≡◌, ◌≤◌, length, take, ids_view}
 use Rattle.semver_core.proofs.version.parts.copy_into.Given as goal
 
 abbrev pub invariant-loop-id : goal.invariant-loop-id

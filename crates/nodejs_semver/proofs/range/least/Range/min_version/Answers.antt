@@ -1,7 +1,5 @@
-use Rattle.std.proofs.Common.{◌≡◌, [], false, Some, sym, subst}
-use Rattle.semver_core.specs.Values.Versions.{VersionValue}
-use Rattle.nodejs_semver.specs.Ranges.Gate.{accepts}
-use Rattle.nodejs_semver.specs.Ranges.Least.{beyond, IsLeastOf, least_build}
+use Rattle.nodejs_semver.proofs.Common.{◌≡◌, [], false, Some, sym, subst, VersionValue, accepts, IsLeastOf, least_build}
+use Rattle.nodejs_semver.specs.Ranges.Least.{beyond}
 use Rattle.nodejs_semver.proofs.Choice.LeastOf.{least_accepted, least_build_built}
 use Rattle.nodejs_semver.proofs.range.least.Range.min_version.Goals as goal
 

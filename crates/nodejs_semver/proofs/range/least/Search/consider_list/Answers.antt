@@ -1,5 +1,4 @@
-use Rattle.std.proofs.Common.{arith}
-use Rattle.std.proofs.lemmas.Grind.{common_steps}
+use Rattle.nodejs_semver.proofs.Common.{arith, common_steps}
 use Rattle.nodejs_semver.proofs.range.least.Search.consider_list.Goals as goal
 
 pub loop-interval-preserved : goal.loop-interval-preserved

@@ -23,7 +23,7 @@ pub returns : goal.returns
 returns g c =
     let part : Some c.in_ok-of_copies.field-0 ≡ clip g.V.Ord.cmp c.args.self.now c.args.other.now =
     bounded g.met.V.Ord.total _ _ (clip-meets g.met.V.Ord.total c.args.self.now c.args.other.now ∙ sym c.if-not-meets.ensures)
-    (c.in_ok-of_copies.ensures
+    (c.in_ok-of_copies.ensures.whole
     ∙ rw (c.greater_lower-lower.ensures, c.lesser_upper-upper.ensures, ← c.self.view_is, ← c.other.view_is) refl) in
     record {
       bounds = part;

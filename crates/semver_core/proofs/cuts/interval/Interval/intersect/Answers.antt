@@ -15,7 +15,7 @@ pub returns : goal.returns
 returns g c =
     let both : Some c.in_ok-of_copies.field-0 ≡ meet g.V.Ord.cmp c.args.self.now c.args.other.now =
     bounded g.met.V.Ord.total _ _ (sym c.if-not-meets.ensures)
-    (c.in_ok-of_copies.ensures
+    (c.in_ok-of_copies.ensures.whole
     ∙ rw (c.greater_lower-lower.ensures, c.lesser_upper-upper.ensures, ← c.self.view_is, ← c.other.view_is) refl) in
     record {
       bounds = both;

@@ -1,0 +1,39 @@
+// Folders as texts: no disk is asked.
+
+use anyhow::Result;
+use std::alloc::Global;
+
+/// The folder to which a path leads from another folder, with no `.` and no `..` but at its front.
+/// Both are relative to the root project, whose folder is the empty text.
+pub fn joined(alloc: Global, from: &str, path: &str) -> Result<String> {
+    let mut parts: Vec<&str> = Vec::new(alloc);
+    for part in from.split('/').chain(path.split('/')) {
+        match part {
+            "" | "." => {}
+            ".." if parts.last().is_some_and(|last| *last != "..") => drop(parts.pop()),
+            _ => parts.push(part)?,
+        }
+    }
+    Ok(parts.as_slice().join(alloc, "/")?)
+}
+
+/// The name that npm takes for a package from its folder: its last part, behind its scope if it
+/// has one.
+pub fn name_of(folder: &str) -> &str {
+    let Some((above, base)) = folder.rsplit_once('/') else {
+        return folder;
+    };
+    match above.rsplit_once('/') {
+        None if above.starts_with('@') => folder,
+        Some((front, scope)) if scope.starts_with('@') => {
+            let behind = folder.strip_prefix(front);
+            behind.and_then(|it| it.strip_prefix('/')).unwrap_or(base)
+        }
+        _ => base,
+    }
+}
+
+/// Whether a package in this folder is installed as a dependency, and no project of its own.
+pub fn is_installed(folder: &str) -> bool {
+    folder.starts_with("node_modules/") || folder.contains("/node_modules/")
+}

@@ -1,0 +1,221 @@
+// `overrides` of the root project, which changes what packages depend on.
+
+use crate::check::range;
+use crate::fault::Fault;
+use crate::lock::{Dependency, Package, Wanted};
+use crate::specifier::Specifier;
+use anyhow::Result;
+use nodejs_semver::Range;
+use serde_json::{Map, Value};
+use std::alloc::Global;
+
+/// Where a package stands: the rules that are nested in this one hold for its dependencies, and
+/// those outside it.
+#[derive(Clone, Copy, PartialEq, Eq)]
+pub enum Scope {
+    /// In no rule.
+    Top,
+    /// In the rule of this number.
+    Rule(usize),
+}
+
+/// What is put in the place of a range.
+#[derive(Clone, Copy)]
+enum Replacement<'a> {
+    /// The range stays.
+    Nothing,
+    Text(&'a str),
+    /// `$NAME`: what the root project has for its own dependency of this name.
+    Reference(&'a str),
+}
+
+// One rule.
+#[derive(Drop)]
+struct Rule<'a> {
+    // Where it stands.
+    outer: Scope,
+    name: &'a str,
+    // The range behind the name, as in `NAME@RANGE`.
+    range: Option<Range>,
+    replacement: Replacement<'a>,
+}
+
+/// All rules of `overrides`.
+#[derive(Drop)]
+pub struct Overrides<'a> {
+    root: Option<Package<'a>>,
+    rules: Vec<Rule<'a>>,
+}
+
+// The fields in which a reference is looked up, in this order.
+const REFERENCED: &[&str] = &[
+    "devDependencies",
+    "optionalDependencies",
+    "dependencies",
+    "peerDependencies",
+];
+
+impl<'a> Replacement<'a> {
+    fn of(text: &'a str) -> Replacement<'a> {
+        match text.strip_prefix('$') {
+            Some(name) => Replacement::Reference(name),
+            None if matches!(text, "" | "*") => Replacement::Nothing,
+            None => Replacement::Text(text),
+        }
+    }
+}
+
+impl<'a> Rule<'a> {
+    // The rule of a key and its value, or `None` if one of them is malformed.
+    fn of(alloc: Global, outer: Scope, key: &'a str, value: &'a Value) -> Result<Option<Rule<'a>>> {
+        let (name, wanted) = split_key(key);
+        let text = match value.get(".") {
+            Some(text) => text.as_str(),
+            None if value.is_object() => Some(wanted),
+            None => value.as_str(),
+        };
+        let Some(text) = text.filter(|_| !name.is_empty()) else {
+            return Ok(None);
+        };
+        let range = match wanted {
+            "*" => None,
+            wanted => match range(alloc, wanted)? {
+                Some(range) => Some(range),
+                None => return Ok(None),
+            },
+        };
+        let replacement = Replacement::of(text);
+        Ok(Some(Rule {
+            outer,
+            name,
+            range,
+            replacement,
+        }))
+    }
+
+    // Whether the rule is about this dependency. Its range has to be one that has a version in
+    // common with that of the rule; a tag or an address may be any version.
+    fn is_about(&self, alloc: Global, dependency: Dependency<'a>) -> Result<bool> {
+        if self.name != dependency.name {
+            return Ok(false);
+        }
+        let Some(own) = &self.range else {
+            return Ok(true);
+        };
+        match dependency.wanted.specifier() {
+            Specifier::Range(text) | Specifier::Repository(Some(text)) => {
+                match range(alloc, text)? {
+                    Some(wanted) => Ok(wanted.allows_any(own)),
+                    None => Ok(true),
+                }
+            }
+            Specifier::Repository(None) | Specifier::Unsupported => Ok(false),
+            Specifier::Folder(_) | Specifier::Packed(_) | Specifier::Page(_) => Ok(true),
+        }
+    }
+}
+
+// The name in a key, and the range behind it. A name may begin with an at sign of its own.
+fn split_key(key: &str) -> (&str, &str) {
+    let behind = match key.strip_prefix('@').unwrap_or(key).split_once('@') {
+        Some((_, behind)) => behind,
+        None => return (key, "*"),
+    };
+    let name = key.strip_suffix(behind).and_then(|it| it.strip_suffix('@'));
+    let range = behind.trim();
+    (
+        name.unwrap_or(key),
+        if range.is_empty() { "*" } else { range },
+    )
+}
+
+impl<'a> Overrides<'a> {
+    /// The rules of the root project. Each that is malformed is added to `faults`.
+    pub fn of(
+        alloc: Global,
+        root: Option<Package<'a>>,
+        faults: &mut Vec<Fault<'a>>,
+    ) -> Result<Overrides<'a>> {
+        let mut rules = Vec::new(alloc);
+        let mut unread: Vec<(Scope, &'a Map<String, Value>)> = Vec::new(alloc);
+        if let Some(value) = root.and_then(|it| it.fields.get("overrides")) {
+            match value.as_object() {
+                Some(object) => unread.push((Scope::Top, object))?,
+                None => faults.push(Fault::Field {
+                    folder: "",
+                    field: "overrides",
+                })?,
+            }
+        }
+        for _ in 0..u64::MAX {
+            let Some((outer, object)) = unread.pop() else {
+                break;
+            };
+            for (key, value) in object.iter().filter(|(key, _)| key.as_str() != ".") {
+                let Some(rule) = Rule::of(alloc, outer, key.as_str(), value)? else {
+                    faults.push(Fault::Override { name: key.as_str() })?;
+                    continue;
+                };
+                if let Some(inner) = value.as_object() {
+                    unread.push((Scope::Rule(rules.len()), inner))?;
+                }
+                rules.push(rule)?;
+            }
+        }
+        Ok(Overrides { root, rules })
+    }
+
+    /// Whether there is no rule.
+    pub fn is_empty(&self) -> bool {
+        self.rules.is_empty()
+    }
+
+    /// Where the package stands that is meant by a dependency of a package in this scope: in the
+    /// first rule that is about the dependency, of those nested in the scope, then the scope
+    /// itself, and then the same of what is around it; and if none is, in the scope.
+    pub fn inner(&self, alloc: Global, scope: Scope, dependency: Dependency<'a>) -> Result<Scope> {
+        let mut around = scope;
+        for _ in 0..=self.rules.len() {
+            for (number, rule) in self.rules.iter().enumerate() {
+                if rule.outer == around && rule.is_about(alloc, dependency)? {
+                    return Ok(Scope::Rule(number));
+                }
+            }
+            match self.rule(around) {
+                Some(rule) if rule.is_about(alloc, dependency)? => return Ok(around),
+                Some(rule) => around = rule.outer,
+                None => break,
+            }
+        }
+        Ok(scope)
+    }
+
+    /// What a dependency wants if the package that it means stands in this scope, or `None` if
+    /// that is a reference to no dependency of the root project.
+    pub fn wanted(&self, scope: Scope, dependency: Dependency<'a>) -> Option<Wanted<'a>> {
+        match self.rule(scope) {
+            Some(rule) if rule.name == dependency.name => match rule.replacement {
+                Replacement::Nothing => Some(dependency.wanted),
+                Replacement::Text(text) => Some(Wanted::Override(text)),
+                Replacement::Reference(name) => self.referenced(name).map(Wanted::Override),
+            },
+            _ => Some(dependency.wanted),
+        }
+    }
+
+    // What the root project has for its own dependency of this name.
+    fn referenced(&self, name: &str) -> Option<&'a str> {
+        let root = self.root?;
+        let texts = REFERENCED
+            .iter()
+            .filter_map(|field| root.member(field, name)?.as_str());
+        texts.into_iter().find(|text| !text.is_empty())
+    }
+
+    fn rule(&self, scope: Scope) -> Option<&Rule<'a>> {
+        match scope {
+            Scope::Top => None,
+            Scope::Rule(number) => self.rules.get(number),
+        }
+    }
+}

@@ -1,0 +1,104 @@
+// Which rules of `overrides` hold for each dependency.
+
+use crate::check::Edge;
+use crate::folder::is_installed;
+use crate::lock::{Lock, Package, Wanted};
+use crate::overrides::{Overrides, Scope};
+use anyhow::Result;
+use std::alloc::Global;
+use std::collections::BTreeMap;
+
+/// Where packages stand in `overrides`. Of several dependencies on one package the last that npm
+/// read before decides: it reads the packages by their folders, and a dependency once both its
+/// packages are read.
+#[derive(Drop)]
+pub struct Scopes<'a> {
+    overrides: Overrides<'a>,
+    // Where the package stands that is meant by the dependency of each number; none if no rule
+    // holds for what depends on it.
+    of_edges: BTreeMap<usize, Scope>,
+}
+
+impl<'a> Scopes<'a> {
+    /// The scopes of these dependencies.
+    pub fn of(alloc: Global, overrides: Overrides<'a>, edges: &[Edge<'a>]) -> Result<Scopes<'a>> {
+        let mut of_edges = BTreeMap::new(alloc);
+        if overrides.is_empty() {
+            return Ok(Scopes {
+                overrides,
+                of_edges,
+            });
+        }
+        let mut of_packages: BTreeMap<&'a str, Scope> = BTreeMap::new(alloc);
+        for number in reading_order(alloc, edges)? {
+            let Some(edge) = edges.get(number).filter(|it| is_overridden(it)) else {
+                continue;
+            };
+            let around = of_packages.get(&edge.dependency.package.folder).copied();
+            let around = around.unwrap_or(Scope::Top);
+            let inner = overrides.inner(alloc, around, edge.dependency)?;
+            of_edges.insert(number, inner)?;
+            if let Some(locked) = edge.locked {
+                of_packages.insert(locked.folder, inner)?;
+            }
+        }
+        Ok(Scopes {
+            overrides,
+            of_edges,
+        })
+    }
+
+    /// What the dependency of this number wants, or `None` if that is a reference to no dependency
+    /// of the root project. What is packed into another package is not overridden.
+    pub fn wanted(&self, lock: Lock<'a>, number: usize, edge: Edge<'a>) -> Option<Wanted<'a>> {
+        match self.of_edges.get(&number).copied() {
+            Some(inner) if !edge.locked.is_some_and(|it| is_packed(lock, it)) => {
+                self.overrides.wanted(inner, edge.dependency)
+            }
+            _ => Some(edge.dependency.wanted),
+        }
+    }
+}
+
+// The numbers of the dependencies in the order in which npm reads them.
+fn reading_order(alloc: Global, edges: &[Edge<'_>]) -> Result<Vec<usize>> {
+    let mut order: Vec<(&str, bool, usize)> = Vec::new(alloc);
+    for (number, edge) in edges.iter().enumerate() {
+        let from = edge.dependency.package.folder;
+        match edge.locked {
+            Some(locked) if from < locked.folder => order.push((locked.folder, false, number))?,
+            _ => order.push((from, true, number))?,
+        }
+    }
+    order.sort()?;
+    let mut numbers = Vec::new(alloc);
+    for (_, _, number) in order {
+        numbers.push(number)?;
+    }
+    Ok(numbers)
+}
+
+// Whether rules hold for a dependency: to npm, not for one of a workspace or another folder outside
+// `node_modules`.
+fn is_overridden(edge: &Edge<'_>) -> bool {
+    let folder = edge.dependency.package.folder;
+    folder.is_empty() || is_installed(folder)
+}
+
+// Whether a package comes packed in another, or is locked by a file of another.
+fn is_packed(lock: Lock<'_>, package: Package<'_>) -> bool {
+    if package.is("inBundle") || package.is("hasShrinkwrap") {
+        return true;
+    }
+    let mut folder = package.folder;
+    for _ in 0..u64::MAX {
+        let Some((above, _)) = folder.rsplit_once("/node_modules/") else {
+            return false;
+        };
+        if lock.package(above).is_some_and(|it| it.is("hasShrinkwrap")) {
+            return true;
+        }
+        folder = above;
+    }
+    false
+}

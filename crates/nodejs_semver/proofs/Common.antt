@@ -1,0 +1,52 @@
+-- The words that most proofs of this crate use, brought together here.
+pub use Rattle.nodejs_semver.specs.Ranges.Algebra.{list_holds, remainder}
+pub use Rattle.nodejs_semver.specs.Ranges.Gate.{accepts, lets_in, names}
+pub use Rattle.nodejs_semver.specs.Ranges.Least.{IsLeastOf, least_build}
+pub use Rattle.nodejs_semver.specs.Ranges.View.{span_of}
+pub use Rattle.nodejs_semver.specs.Text.Bars.{IsCutAtBars}
+pub use Rattle.nodejs_semver.specs.Text.PartialText.{AreComponents, Partial}
+pub use Rattle.nodejs_semver.specs.Text.Runs.{Run, fits, interval_of, run_items}
+unfoldable pub use Rattle.nodejs_semver.specs.Text.Table.{table}
+pub use Rattle.nodejs_semver.specs.Text.WordText.{Word, hyphen, malformed, plain}
+pub use Rattle.nodejs_semver.specs.Text.WrittenSet.{run_writes}
+pub use Rattle.semver_core.proofs.CutLaws.{between_parts, cut_total, gt_lt, lt, not_if, one_way, past_lt, remainders_by, tells}
+pub use Rattle.semver_core.proofs.CutLaws.{turned_lower, turned_upper}
+pub use Rattle.semver_core.proofs.Text.Spaces.{drop_spaces-none, space_len-nil}
+pub use Rattle.semver_core.proofs.Text.Texts.{bind_some}
+pub use Rattle.semver_core.specs.Clips.{clip}
+pub use Rattle.semver_core.specs.Cuts.{Beside, Cut, Span, Start, cut_cmp, greater_lower, holds, interval, is_interval, is_past}
+pub use Rattle.semver_core.specs.Cuts.{left_above, left_below, lesser_upper, lower_cut, meet, upper_cut}
+pub use Rattle.semver_core.specs.Internal.OrderLaws.{precedence_total}
+unfoldable pub use Rattle.semver_core.specs.Internal.Reading.{list_len}
+pub use Rattle.semver_core.specs.Internal.Sides.{Far, Near}
+pub use Rattle.semver_core.specs.Internal.Spaces.{drop_spaces, trim}
+unfoldable pub use Rattle.semver_core.specs.Internal.Spaces.{space_len}
+pub use Rattle.semver_core.specs.Internal.Successors.{above_patch}
+pub use Rattle.semver_core.specs.Lists.{if_any, is_empty}
+pub use Rattle.semver_core.specs.Text.Characters.{IsTrim, begins, ends, is_whitespace}
+pub use Rattle.semver_core.specs.Text.Identifiers.{Id}
+pub use Rattle.semver_core.specs.Values.Order.{precedence}
+pub use Rattle.semver_core.specs.Values.Versions.{VersionValue, is_release}
+pub use Rattle.semver_core.specs.declared.TheConstants.{MAX_SAFE_INTEGER}
+pub use Rattle.semver_core.specs.declared.cuts.bound.Bound.{Bound}
+pub use Rattle.semver_core.specs.declared.cuts.bound.Bound.TheVariants.{After, Before, Unbounded}
+pub use Rattle.std.proofs.Common.{Bool, Equal, IfSome, IsTrue, IsUtf8, Less, List, None, Option, Ordering, Some, [], ap, append-nil}
+pub use Rattle.std.proofs.Common.{append_assoc, ap₂, arith, drop, false, flat_map, get_or, if◌then◌else◌, inl, inr, is_gt, is_some}
+pub use Rattle.std.proofs.Common.{length, length-append, map, not, option_to_list, refl, rules, subst, suc, sym, take, take_all, true}
+pub use Rattle.std.proofs.Common.{zero, ℕ, ◌&&◌, ◌++◌, ◌+◌, ◌-◌, ◌<◌, ◌||◌, ◌∙◌, ◌∷◌, ◌≡◌, ◌≤◌, ◌⊎◌}
+pub use Rattle.std.proofs.Math.Bool.{and-true}
+pub use Rattle.std.proofs.Output.{has_written_styled_append}
+pub use Rattle.std.proofs.lemmas.Bool.{and_from, and_parts, cases_Bool, cond_both, eqb-true, not-true, or_cases, or_left, or_right}
+pub use Rattle.std.proofs.lemmas.Bool.Decides.{nat_tests}
+pub use Rattle.std.proofs.lemmas.Grind.{common_steps}
+pub use Rattle.std.proofs.lemmas.Iterator.{YieldsList-from_slice}
+pub use Rattle.std.proofs.lemmas.List.{drop_at, take_at, take_rest}
+pub use Rattle.std.proofs.lemmas.List.Folds.{list_all-append, list_any-append}
+pub use Rattle.std.proofs.lemmas.Option.{cond_some, same_Some}
+pub use Rattle.std.proofs.lemmas.Result.{MatchResult-from_err, on_err_weaker}
+pub use Rattle.std.proofs.lemmas.Str.{IsCharBoundary-after_ascii, IsUtf8-drop}
+pub use Rattle.std.specs.Char.{is_ascii_digit}
+pub use Rattle.std.specs.Cmp.{IsTotalOrder, alike_right, first_so, second_so, tied_itself}
+pub use Rattle.std.specs.List.{AllByRecursion, list_all, list_any}
+pub use Rattle.std.specs.Ordering.{is_le}
+pub use Rattle.std.specs.Prelude.{◌==◌, ◌↔◌}

@@ -1,0 +1,362 @@
+-- A text has one flaw: behind the place of a flaw no version text goes on.
+use Rattle.std.proofs.Common.{◌≡◌, ◌<◌, ◌≤◌, ◌+◌, ◌-◌, ℕ, zero, suc, List, [], ◌∷◌, ◌++◌, length, drop, take, refl, sym, ap, ◌∙◌}
+use Rattle.std.proofs.Common.{subst, arith, true, false, inl, inr, append_assoc, length-append, length-drop, length-take-le, ◌⊎◌}
+use Rattle.std.proofs.Common.{IfSome, None, Option, Some, ◌↔◌, IsUtf8, IsCharBoundary, encode_utf8_all, get_or, ◌==◌}
+use Rattle.std.specs.Char.{encode_utf8, is_ascii_digit, IsScalar}
+use Rattle.std.specs.List.{list_all, onto_first}
+use Rattle.std.specs.Str.Parse.{digits_value}
+use Rattle.std.proofs.lemmas.Bool.{and_parts, cases_Bool, cases_lt, eqb-true}
+use Rattle.std.proofs.lemmas.Bool.Decides.{nat_tests}
+use Rattle.std.proofs.lemmas.List.{take-append-drop, drop-drop}
+use Rattle.std.proofs.lemmas.Str.{IsCharBoundary-before_ascii, IsCharBoundary-from_take, IsUtf8-append, IsUtf8-drop, IsUtf8-encode}
+use Rattle.std.proofs.lemmas.Str.{IsUtf8-take, encode_ascii}
+use Rattle.std.proofs.Math.Seq.{take-add, take-append_seam, drop-append_seam}
+use lib.Utf8.{low_scalar}
+use Rattle.semver_core.specs.Failures.{NoValue}
+use Rattle.semver_core.specs.Internal.Reading.{mark_len}
+use Rattle.semver_core.specs.Internal.Spaces.{drop_spaces}
+use Rattle.semver_core.specs.Text.Characters.{begins, is_identifier_char, is_whitespace}
+use Rattle.semver_core.specs.Text.Identifiers.{Id, is_identifier, pieces}
+use Rattle.semver_core.specs.Text.VersionText.{IsBuild, IsMark, IsPreRelease, Reads, no_mark, small_mark, capital_mark}
+use Rattle.semver_core.specs.Text.VersionText.{dashed, bare, no_pre_release, plus, no_build}
+use Rattle.semver_core.specs.Values.Versions.{VersionValue}
+use Rattle.semver_core.specs.declared.TheConstants.{MAX_LENGTH}
+use Rattle.semver_core.proofs.Text.Pieces.{first_char, runs_tail, some_inside, tail_onto, tail_runs}
+use Rattle.semver_core.proofs.Text.Runs.{ascii}
+use Rattle.semver_core.proofs.Text.Spaces.{after_spaces-end}
+use Rattle.semver_core.proofs.Text.Texts.{number_begins, read_at, rest_of}
+use Rattle.nodejs_semver.specs.Diagnosis.VersionFlaws.{IsExact, IsExpectedAt, IsFlaw, IsFront, IsGreatAt, is_expected}
+use Rattle.nodejs_semver.specs.Internal.Stuck.{IsWhole}
+use Rattle.nodejs_semver.proofs.Diagnosing.Fronts.{digit_starts, past_lead}
+use Rattle.nodejs_semver.specs.declared.diagnosis.versions.Expected.{Expected}
+use Rattle.nodejs_semver.specs.declared.diagnosis.versions.Expected.TheVariants.{Digit, Dot}
+use Rattle.nodejs_semver.specs.declared.diagnosis.versions.VersionFlaw.{VersionFlaw}
+use Rattle.nodejs_semver.specs.declared.diagnosis.versions.VersionFlaw.TheVariants as Flaw
+
+-- ---- a version text is UTF-8, and so are the bytes before an ASCII character of it
+
+ascii-then : (c : ℕ) (text : List ℕ) → c < 128 → IsUtf8 text → IsUtf8 (c ∷ text)
+ascii-then c text low u = IsUtf8-append (c ∷ []) text
+    (subst (λ (t : List ℕ). IsUtf8 t) (encode_ascii c low) (IsUtf8-encode c (low_scalar c (omega (arith, low))))) u
+
+nothing : IsUtf8 []
+nothing = ([], (refl, refl))
+
+runs-utf8 : (s : List ℕ) → tail_runs (pieces s) ≡ true → IsUtf8 s
+runs-utf8 [] h = nothing
+runs-utf8 (c ∷ s) h = elim (cases_Bool (c == 46)) [
+  | inl dot ↦
+      let runs : list_all is_identifier (pieces s) ≡ true = rw dot at h in
+      ascii-then c s (omega (arith, eqb-true c 46 dot)) (runs-utf8 s (runs_tail (pieces s) runs))
+  | inr other ↦
+      let split : tail_runs (onto_first c (pieces s)) ≡ true = rw other at h in
+      ascii-then c s (ascii c (first_char c (pieces s) split)) (runs-utf8 s (tail_onto c (pieces s) split))
+]
+
+digit-low : (c : ℕ) → is_ascii_digit c ≡ true → c < 128
+digit-low c h = grind (arith, nat_tests)
+
+digits-utf8 : (d : List ℕ) → list_all is_ascii_digit d ≡ true → IsUtf8 d
+digits-utf8 [] h = nothing
+digits-utf8 (c ∷ d) h =
+    let each = and_parts (is_ascii_digit c) (list_all is_ascii_digit d) h in
+    ascii-then c d (digit-low c each.0) (digits-utf8 d each.1)
+
+white-scalar : (c : ℕ) → is_whitespace c ≡ true → IsScalar c
+white-scalar c h = elim (of c h) [ inl low ↦ low_scalar c low | inr mark ↦ rw mark refl ]
+  where
+    of : (c : ℕ) → is_whitespace c ≡ true → (c < 0xD800) ⊎ (c ≡ 0xFEFF)
+    of c h = grind (arith, nat_tests)
+
+blank-utf8 : (cs : List ℕ) → list_all is_whitespace cs ≡ true → IsUtf8 (encode_utf8_all cs)
+blank-utf8 [] h = nothing
+blank-utf8 (c ∷ cs) h =
+    let each = and_parts (is_whitespace c) (list_all is_whitespace cs) h in
+    IsUtf8-append (encode_utf8 c) (encode_utf8_all cs) (IsUtf8-encode c (white-scalar c each.0)) (blank-utf8 cs each.1)
+
+mark-utf8 : (mark : List ℕ) → IsMark mark → IsUtf8 mark
+mark-utf8 mark no_mark = nothing
+mark-utf8 mark small_mark = ascii-then 118 [] (omega arith) nothing
+mark-utf8 mark capital_mark = ascii-then 86 [] (omega arith) nothing
+
+pre-utf8 : (text rest : List ℕ) (list : List Id) → IsPreRelease text rest list → IsUtf8 text
+pre-utf8 text rest list (dashed s r l long) =
+    ascii-then 45 s (omega arith) (runs-utf8 s (runs_tail (pieces s) long.identifiers.runs))
+pre-utf8 text rest list (bare s r l long plain) = runs-utf8 s (runs_tail (pieces s) long.identifiers.runs)
+pre-utf8 text rest list (no_pre_release r none) = nothing
+
+build-utf8 : (text rest : List ℕ) (list : List Id) → IsBuild text rest list → IsUtf8 text
+build-utf8 text rest list (plus s r l long) =
+    ascii-then 43 s (omega arith) (runs-utf8 s (runs_tail (pieces s) long.identifiers.runs))
+build-utf8 text rest list (no_build r none) = nothing
+
+whole-utf8 : (limit : ℕ) (text : List ℕ) → IsWhole limit text → IsUtf8 text
+whole-utf8 limit text w =
+    let r = w.1 in
+    let behind : IsUtf8 (r.build ++ r.rest) =
+    IsUtf8-append r.build r.rest (build-utf8 r.build r.rest w.0.build r.build_is)
+    (subst (λ (t : List ℕ). IsUtf8 t) (sym w.2) nothing) in
+    let patch =
+    IsUtf8-append r.patch (r.pre_release ++ (r.build ++ r.rest)) (digits-utf8 r.patch r.patch_is.number.each)
+    (IsUtf8-append r.pre_release (r.build ++ r.rest) (pre-utf8 r.pre_release _ w.0.pre_release r.pre_release_is) behind) in
+    let minor =
+    IsUtf8-append r.minor _ (digits-utf8 r.minor r.minor_is.each) (ascii-then 46 _ (omega arith) patch) in
+    let major =
+    IsUtf8-append r.major _ (digits-utf8 r.major r.major_is.each) (ascii-then 46 _ (omega arith) minor) in
+    let blank : IsUtf8 r.blank =
+    subst (λ (t : List ℕ). IsUtf8 t) (sym r.blank_is.spelled) (blank-utf8 r.blank_is.characters r.blank_is.each) in
+    subst (λ (t : List ℕ). IsUtf8 t) (sym r.divided)
+    (IsUtf8-append r.mark _ (mark-utf8 r.mark r.mark_is) (IsUtf8-append r.blank _ blank major))
+
+-- bytes with which a version text goes on, and this character behind them
+abbrev GoesOn : ℕ → List ℕ → ℕ → Type 0
+GoesOn limit front c = (c < 128) × IsFront limit (front ++ c ∷ [])
+
+front-utf8 : (limit : ℕ) (front : List ℕ) (c : ℕ) → GoesOn limit front c → IsUtf8 front
+front-utf8 limit front c f =
+    let rest = c ∷ f.1.0 in
+    let text = front ++ rest in
+    let whole = subst (λ (t : List ℕ). IsWhole limit t) (append_assoc front (c ∷ []) f.1.0) f.1.1 in
+    let long : length front < length text = omega (arith, length-append front rest) in
+    let here : get_or text (length front) 0 ≡ c = at_seam front in
+    let cut = IsCharBoundary-before_ascii text (length front) long (omega (arith, here, f.0)) in
+    subst (λ (t : List ℕ). IsUtf8 t) (take-append_seam front rest)
+    (IsUtf8-take text (length front) (whole-utf8 limit text whole) cut)
+  where
+    at_seam : (p : List ℕ) → get_or (p ++ c ∷ f.1.0) (length p) 0 ≡ c
+    at_seam [] = refl
+    at_seam (b ∷ p) = at_seam p
+
+utf8-behind : (front text : List ℕ) → IsUtf8 front → IsUtf8 (front ++ text) → IsUtf8 text
+utf8-behind front text u w =
+    let inside : length front ≤ length (front ++ text) = omega (arith, length-append front text) in
+    let cut = IsCharBoundary-from_take (front ++ text) (length front) w inside
+    (subst (λ (t : List ℕ). IsUtf8 t) (sym (take-append_seam front text)) u) in
+    subst (λ (t : List ℕ). IsUtf8 t) (drop-append_seam front text) (IsUtf8-drop (front ++ text) (length front) w cut)
+
+-- ---- no version text goes on behind the place of a flaw
+
+shorter : (limit : ℕ) (front more : List ℕ) → IsFront limit (front ++ more) → IsFront limit front
+shorter limit front more f = (more ++ f.0, subst (λ (t : List ℕ). IsWhole limit t) (append_assoc front more f.0) f.1)
+
+expected-ends : (limit : ℕ) (text : List ℕ) (what : Expected) (at n c d : ℕ) → IsExpectedAt limit text what at
+    → GoesOn limit (take at text) c → 0 < n → at + n ≤ length text → GoesOn limit (take (at + n) text) d → ⊥
+expected-ends limit text what at n c d x f some inside g =
+    let y = drop at text in
+    let z = take n y in
+    let front : take (at + n) text ≡ take at text ++ z = take-add at n text in
+    let long : length z ≡ n = omega (arith, length-take-le n y, length-drop at text) in
+    let u = utf8-behind (take at text) z (front-utf8 limit (take at text) c f)
+    (subst (λ (t : List ℕ). IsUtf8 t) front (front-utf8 limit (take (at + n) text) d g)) in
+    go z u.0 u.1.1 (omega arith) (sym (take-append-drop n y)) front
+  where
+    go : (z cs : List ℕ) → encode_utf8_all cs ≡ z → 0 < length z → drop at text ≡ z ++ drop n (drop at text)
+        → take (at + n) text ≡ take at text ++ z → ⊥
+    go z [] e some y front = absurd (omega (arith, ap length e))
+    go z (b ∷ cs) e some y front =
+        let here = encode_utf8 b in
+        let more = encode_utf8_all cs in
+        let rest = drop n (drop at text) in
+        let other = more ++ d ∷ g.1.0 in
+        let begins_so : drop at text ≡ here ++ (more ++ rest) =
+        y ∙ (ap (λ (t : List ℕ). t ++ rest) (sym e) ∙ append_assoc here more rest) in
+        let same : (take (at + n) text ++ d ∷ []) ++ g.1.0 ≡ take at text ++ (here ++ other) =
+        ap (λ (t : List ℕ). (t ++ d ∷ []) ++ g.1.0) (front ∙ ap (λ (t : List ℕ). take at text ++ t) (sym e))
+        ∙ simp append_assoc in
+        let whole = subst (λ (t : List ℕ). IsWhole limit t) same g.1.1 in
+        x.wrong b (more ++ rest) other begins_so whole.0 whole.1
+
+great-ends : (limit : ℕ) (text : List ℕ) (at n d : ℕ) → (x : IsGreatAt limit text at)
+    → IsFront limit (take (at + (length x.great.digits + n)) text ++ d ∷ []) → ⊥
+great-ends limit text at n d x g =
+    let m = length x.great.digits in
+    let y = drop at text in
+    let digits : take m y ≡ x.great.digits =
+    ap (λ (t : List ℕ). take m t) x.great.divided ∙ take-append_seam x.great.digits x.great.rest in
+    let front : take (at + (m + n)) text ≡ (take at text ++ x.great.digits) ++ take n (drop m y) =
+    take-add at (m + n) text ∙ (ap (λ (t : List ℕ). take at text ++ t)
+    (take-add m n y ∙ ap (λ (t : List ℕ). t ++ take n (drop m y)) digits)
+    ∙ sym (append_assoc (take at text) x.great.digits (take n (drop m y)))) in
+    x.wrong (shorter limit (take at text ++ x.great.digits) (take n (drop m y) ++ d ∷ [])
+    (subst (λ (t : List ℕ). IsFront limit t)
+    (ap (λ (t : List ℕ). t ++ d ∷ []) front
+    ∙ append_assoc (take at text ++ x.great.digits) (take n (drop m y)) (d ∷ [])) g))
+
+-- ---- a number that is too great has digits from its place on
+
+digits-go_on : (d rest : List ℕ) (k : ℕ) → list_all is_ascii_digit d ≡ true → k < length d
+    → begins is_ascii_digit (drop k (d ++ rest)) ≡ true
+digits-go_on [] rest k h lt = absurd (omega arith)
+digits-go_on (c ∷ d) rest zero h lt = (and_parts (is_ascii_digit c) (list_all is_ascii_digit d) h).0
+digits-go_on (c ∷ d) rest (suc k) h lt =
+    digits-go_on d rest k (and_parts (is_ascii_digit c) (list_all is_ascii_digit d) h).1 (omega arith)
+
+digit-inside : (limit : ℕ) (text : List ℕ) (at k : ℕ) → (x : IsGreatAt limit text at) → k < length x.great.digits
+    → begins is_ascii_digit (drop (at + k) text) ≡ true
+digit-inside limit text at k x lt =
+    ap (λ (t : List ℕ). begins is_ascii_digit t) (sym (drop-drop k at text) ∙ ap (λ (t : List ℕ). drop k t) x.great.divided)
+    ∙ digits-go_on x.great.digits x.great.rest k x.great.each lt
+
+great-some : (limit : ℕ) (text : List ℕ) (at : ℕ) → (x : IsGreatAt limit text at) → 0 < length x.great.digits
+great-some limit text at x = go x.great.digits x.great.above
+  where
+    go : (d : List ℕ) → limit < digits_value 10 d → 0 < length d
+    go [] h = absurd (omega arith)
+    go (c ∷ d) h = omega arith
+
+last-byte : (text : List ℕ) (p c : ℕ) (rest : List ℕ) → drop p text ≡ c ∷ rest → take (p + 1) text ≡ take p text ++ c ∷ []
+last-byte text p c rest e = take-add p 1 text ∙ ap (λ (t : List ℕ). take p text ++ take 1 t) e
+
+-- a number does not begin behind a digit
+not-begun : (limit : ℕ) (text : List ℕ) (p : ℕ) → IsGreatAt limit text (p + 1) → begins is_ascii_digit (drop p text) ≡ true → ⊥
+not-begun limit text p x h = go (drop p text) refl h
+  where
+    go : (y : List ℕ) → drop p text ≡ y → begins is_ascii_digit y ≡ true → ⊥
+    go [] e h = cc
+    go (c ∷ rest) e h = cc (sym h ∙ x.begun (take p text) c (last-byte text p c rest e))
+
+-- ---- one flaw
+
+-- a character that is right where this is expected
+abbrev sample : Expected → ℕ
+sample Digit = 48
+sample Dot = 46
+
+expected-goes_on : (limit : ℕ) (text : List ℕ) (what : Expected) (at : ℕ) → IsExpectedAt limit text what at
+    → GoesOn limit (take at text) (sample what)
+expected-goes_on limit text Digit at x = (omega arith, x.right 48 refl)
+expected-goes_on limit text Dot at x = (omega arith, x.right 46 refl)
+
+great-goes_on : (limit : ℕ) (text : List ℕ) (at : ℕ) → IsGreatAt limit text at → GoesOn limit (take at text) 48
+great-goes_on limit text at x = (omega arith, x.right 48 refl)
+
+same-expected : (limit : ℕ) (text : List ℕ) (what other : Expected) (at : ℕ) → IsExpectedAt limit text what at
+    → IsExpectedAt limit text other at → what ≡ other
+same-expected limit text Digit Digit at x y = refl
+same-expected limit text Dot Dot at x y = refl
+same-expected limit text Digit Dot at x y = cc (x.dot (y.right 46 refl))
+same-expected limit text Dot Digit at x y = cc (y.dot (x.right 46 refl))
+
+-- the first is behind the second
+expected-before : (limit : ℕ) (text : List ℕ) (what : Expected) (at later d : ℕ) → IsExpectedAt limit text what at
+    → at < later → later ≤ length text → GoesOn limit (take later text) d → ⊥
+expected-before limit text what at later d x lt inside g =
+    let place : at + (later - at) ≡ later = omega (arith, lt) in
+    expected-ends limit text what at (later - at) (sample what) d x (expected-goes_on limit text what at x) (omega (arith, lt))
+    (omega (arith, place, inside)) (subst (λ (n : ℕ). GoesOn limit (take n text) d) (sym place) g)
+
+great-before : (limit : ℕ) (text : List ℕ) (at later d : ℕ) → (x : IsGreatAt limit text at)
+    → at + length x.great.digits ≤ later → GoesOn limit (take later text) d → ⊥
+great-before limit text at later d x le g =
+    let n = later - (at + length x.great.digits) in
+    let place : later ≡ at + (length x.great.digits + n) = omega (arith, le) in
+    great-ends limit text at n d x (subst (λ (m : ℕ). IsFront limit (take m text ++ d ∷ [])) place g.1)
+
+expected-not-great : (limit : ℕ) (text : List ℕ) (what : Expected) (at other : ℕ) → IsExpectedAt limit text what at
+    → IsGreatAt limit text other → ⊥
+expected-not-great limit text what at other x y = elim (cases_lt at other) [
+  | inl before ↦ expected-before limit text what at other 48 x before y.inside (great-goes_on limit text other y)
+  | inr le ↦ elim (cases_lt at (other + length y.great.digits)) [
+    | inl within ↦
+        let place : other + (at - other) ≡ at = omega (arith, le) in
+        let digit = digit-inside limit text other (at - other) y (omega (arith, within, le)) in
+        cc (sym x.apart ∙ (ap (λ (n : ℕ). begins is_ascii_digit (drop n text)) (sym place) ∙ digit))
+    | inr behind ↦ great-before limit text other at (sample what) y behind (expected-goes_on limit text what at x)
+  ]
+]
+
+great-not-before : (limit : ℕ) (text : List ℕ) (at later : ℕ) → IsGreatAt limit text at → IsGreatAt limit text later
+    → at < later → ⊥
+great-not-before limit text at later x y lt = elim (cases_lt (at + length x.great.digits) later) [
+  | inl behind ↦ great-before limit text at later 48 x (omega (arith, behind)) (great-goes_on limit text later y)
+  | inr within ↦
+      let place : at + (later - at - 1) + 1 ≡ later = omega (arith, lt) in
+      not-begun limit text (at + (later - at - 1)) (subst (λ (n : ℕ). IsGreatAt limit text n) (sym place) y)
+      (digit-inside limit text at (later - at - 1) x (omega (arith, within, lt)))
+]
+
+one-expected : (limit : ℕ) (text : List ℕ) (what other : Expected) (a b : ℕ) → IsExpectedAt limit text what a
+    → IsExpectedAt limit text other b → Flaw.Expected what a ≡ Flaw.Expected other b
+one-expected limit text what other a b x y = elim (cases_lt a b) [
+  | inl lt ↦ absurd (expected-before limit text what a b (sample other) x lt y.inside (expected-goes_on limit text other b y))
+  | inr le ↦ elim (cases_lt b a) [
+    | inl lt ↦ absurd (expected-before limit text other b a (sample what) y lt x.inside (expected-goes_on limit text what a x))
+    | inr ge ↦
+        let same : a ≡ b = omega (arith, le, ge) in
+        ap (λ (n : ℕ). Flaw.Expected what n) same
+        ∙ ap (λ (w : Expected). Flaw.Expected w b)
+        (same-expected limit text what other b (subst (λ (n : ℕ). IsExpectedAt limit text what n) same x) y)
+  ]
+]
+
+one-great : (limit : ℕ) (text : List ℕ) (a b : ℕ) → IsGreatAt limit text a → IsGreatAt limit text b → a ≡ b
+one-great limit text a b x y = elim (cases_lt a b) [
+  | inl lt ↦ absurd (great-not-before limit text a b x y lt)
+  | inr le ↦ elim (cases_lt b a) [
+    | inl lt ↦ absurd (great-not-before limit text b a y x lt)
+    | inr ge ↦ omega (arith, le, ge)
+  ]
+]
+
+-- what follows a version at the front of a text is one text
+one-rest : (limit : ℕ) (text : List ℕ) (v w : VersionValue) (r : Reads limit text v) (s : Reads limit text w) → r.rest ≡ s.rest
+one-rest limit text v w r s =
+    let behind = after_spaces-end 0 (drop (mark_len text) text) in
+    let at = mark_len text + length behind.0 in
+    let here : drop at text ≡ drop_spaces (drop (mark_len text) text) =
+    sym (drop-drop (length behind.0) (mark_len text) text)
+    ∙ (ap (λ (t : List ℕ). drop (length behind.0) t) behind.1
+    ∙ drop-append_seam behind.0 (drop_spaces (drop (mark_len text) text))) in
+    let one = read_at limit text at v r (here ∙ numbers v r) in
+    let two = read_at limit text at w s (here ∙ numbers w s) in
+    sym one.3 ∙ (ap (λ (t : ℕ × ℕ × ℕ × ℕ). rest_of text t) (some_inside one.0 two.0 (sym one.1 ∙ two.1)) ∙ two.3)
+  where
+    numbers : (v : VersionValue) (r : Reads limit text v) → drop_spaces (drop (mark_len text) text)
+        ≡ r.major ++ 46 ∷ (r.minor ++ 46 ∷ (r.patch ++ (r.pre_release ++ (r.build ++ r.rest))))
+    numbers v r =
+        let first = r.major ++ 46 ∷ (r.minor ++ 46 ∷ (r.patch ++ (r.pre_release ++ (r.build ++ r.rest)))) in
+        let d = digit_starts first (number_begins r.major _ r.major_is.some r.major_is.each) in
+        ap (λ (t : List ℕ). drop_spaces (drop (mark_len t) t)) r.divided
+        ∙ past_lead r.mark r.blank first r.mark_is r.blank_is d.0 (λ e. d.1)
+
+one-ignored : (limit : ℕ) (text : List ℕ) (a b : ℕ) → IsFlaw limit text (Flaw.Ignored a) → IsFlaw limit text (Flaw.Ignored b)
+    → a ≡ b
+one-ignored limit text a b x y =
+    let same = sym x.2 ∙ (one-rest limit text x.0 y.0 x.1.reads y.1.reads ∙ y.2) in
+    omega (arith, x.3, y.3, ap length same, length-drop a text, length-drop b text)
+
+pub one_flaw : (limit : ℕ) (text : List ℕ) (f g : VersionFlaw) → IsFlaw limit text f → IsFlaw limit text g → f ≡ g
+one_flaw limit text Flaw.TooLong Flaw.TooLong x y = refl
+one_flaw limit text Flaw.TooLong (Flaw.NumberTooGreat b) x y = absurd (omega (arith, x, y.0))
+one_flaw limit text Flaw.TooLong (Flaw.Expected other b) x y = absurd (omega (arith, x, y.0))
+one_flaw limit text Flaw.TooLong (Flaw.Ignored b) x y = absurd (omega (arith, x, y.1.short))
+one_flaw limit text (Flaw.NumberTooGreat a) Flaw.TooLong x y = absurd (omega (arith, y, x.0))
+one_flaw limit text (Flaw.NumberTooGreat a) (Flaw.NumberTooGreat b) x y =
+    ap (λ (n : ℕ). Flaw.NumberTooGreat n) (one-great limit text a b x.1 y.1)
+one_flaw limit text (Flaw.NumberTooGreat a) (Flaw.Expected other b) x y =
+    absurd (expected-not-great limit text other b a y.1 x.1)
+one_flaw limit text (Flaw.NumberTooGreat a) (Flaw.Ignored b) x y = absurd (x.1.none y.0 y.1.reads)
+one_flaw limit text (Flaw.Expected what a) Flaw.TooLong x y = absurd (omega (arith, y, x.0))
+one_flaw limit text (Flaw.Expected what a) (Flaw.NumberTooGreat b) x y =
+    absurd (expected-not-great limit text what a b x.1 y.1)
+one_flaw limit text (Flaw.Expected what a) (Flaw.Expected other b) x y = one-expected limit text what other a b x.1 y.1
+one_flaw limit text (Flaw.Expected what a) (Flaw.Ignored b) x y = absurd (x.1.none y.0 y.1.reads)
+one_flaw limit text (Flaw.Ignored a) Flaw.TooLong x y = absurd (omega (arith, y, x.1.short))
+one_flaw limit text (Flaw.Ignored a) (Flaw.NumberTooGreat b) x y = absurd (y.1.none x.0 x.1.reads)
+one_flaw limit text (Flaw.Ignored a) (Flaw.Expected other b) x y = absurd (y.1.none x.0 x.1.reads)
+one_flaw limit text (Flaw.Ignored a) (Flaw.Ignored b) x y = ap (λ (n : ℕ). Flaw.Ignored n) (one-ignored limit text a b x y)
+
+-- a text that is one version as a whole has none
+pub no_flaw : (limit : ℕ) (text : List ℕ) (f : VersionFlaw) → IsExact limit text → IsFlaw limit text f → ⊥
+no_flaw limit text Flaw.TooLong e x = absurd (omega (arith, x, e.1.short))
+no_flaw limit text (Flaw.NumberTooGreat a) e x = x.1.none e.0 e.1.reads
+no_flaw limit text (Flaw.Expected what a) e x = x.1.none e.0 e.1.reads
+no_flaw limit text (Flaw.Ignored a) e x =
+    let same = sym x.2 ∙ (one-rest limit text x.0 e.0 x.1.reads e.1.reads ∙ e.2) in
+    omega (arith, x.3, ap length same, length-drop a text)
+
+-- so what is found is the flaw of the text
+pub only_flaw : (limit : ℕ) (text : List ℕ) (found : Option VersionFlaw) → ((found ≡ None) ↔ IsExact limit text)
+    → IfSome found (λ flaw. IsFlaw limit text flaw) → (f : VersionFlaw) → IsFlaw limit text f → found ≡ Some f
+only_flaw limit text None none some f h = absurd (no_flaw limit text f (none.0 refl) h)
+only_flaw limit text (Some g) none some f h = ap (λ (x : VersionFlaw). Some x) (one_flaw limit text g f some h)

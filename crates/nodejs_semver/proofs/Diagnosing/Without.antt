@@ -1,0 +1,154 @@
+-- A range text means what its words mean that are not ignored.
+use Rattle.nodejs_semver.proofs.Common.{◌≡◌, ◌↔◌, ℕ, List, [], ◌∷◌, ◌++◌, ap, ◌∙◌, arith, refl, sym, subst, true, false, IsUtf8}
+use Rattle.nodejs_semver.proofs.Common.{AllByRecursion, IsCutAtBars, IsTrim, Run, Span, VersionValue, Word, flat_map, inl, inr}
+use Rattle.nodejs_semver.proofs.Common.{interval_of, is_empty, is_some, list_all, map, precedence, run_items, table, trim, cases_Bool}
+use Rattle.std.specs.Prelude.{filter_map, is_none}
+use Rattle.std.specs.List.{AllZip, filter}
+use Rattle.semver_core.proofs.Text.Trims.{middle_is_trim}
+use Rattle.semver_core.specs.Text.Characters.{IsBlank}
+use Rattle.nodejs_semver.specs.Diagnosis.IgnoredWords.{AreAlike, IsAlike, IsIgnored, IsWhollyIgnored, ignored_as}
+use Rattle.nodejs_semver.specs.Internal.Denotes.{denotes, part_bounds, part_denotes}
+use Rattle.nodejs_semver.specs.Internal.Parts.{cut_bars}
+use Rattle.nodejs_semver.specs.Internal.RunsFrom.{runs_of}
+use Rattle.nodejs_semver.specs.Internal.Words.{words}
+use Rattle.nodejs_semver.specs.Text.Bars.{more_pieces, one_piece}
+use Rattle.nodejs_semver.specs.Text.Meaning.{AreAllIntervals, AreWords, HasRuns, HasWords, Means, all_intervals, blank_piece}
+use Rattle.nodejs_semver.specs.Text.Meaning.{every_version, next_piece, next_word, no_piece, no_word}
+use Rattle.nodejs_semver.proofs.Algebra.FlatMaps.{empty_is}
+use Rattle.nodejs_semver.proofs.Dividing.BarsDivide.{bars_once}
+use Rattle.nodejs_semver.proofs.Dividing.MeaningLaw.{blank-empty, empty-blank, one_meaning, pieces-utf8, words-law}
+
+-- ---- the bounds of the words
+
+kept-is : (limit : ℕ) (word : Word) → is_none (ignored_as limit word) ≡ is_some (table limit word)
+unfolding table
+kept-is limit word = grind arith
+
+ignored-is : (limit : ℕ) (word : Word) → is_some (ignored_as limit word) ≡ is_none (table limit word)
+unfolding table
+ignored-is limit word = grind arith
+
+kept-bounds : (limit : ℕ) (ws : List Word)
+    → filter_map (table limit) (filter (λ w. is_none (ignored_as limit w)) ws) ≡ filter_map (table limit) ws
+kept-bounds limit [] = refl
+kept-bounds limit (w ∷ ws) = grind (arith, kept-is limit w, kept-bounds limit ws)
+
+ignored-bounds : (limit : ℕ) (ws : List Word) → list_all (λ w. is_some (ignored_as limit w)) ws ≡ true
+    → filter_map (table limit) ws ≡ []
+ignored-bounds limit [] h = refl
+ignored-bounds limit (w ∷ ws) h = grind (arith, ignored-is limit w, ignored-bounds limit ws)
+
+all-ignored : (limit : ℕ) (ws : List Word) → filter_map (table limit) ws ≡ []
+    → list_all (λ w. is_some (ignored_as limit w)) ws ≡ true
+all-ignored limit [] h = refl
+all-ignored limit (w ∷ ws) h = grind (arith, ignored-is limit w, all-ignored limit ws)
+
+-- a part has words unless it is empty
+has-words : (limit : ℕ) (part : List ℕ) (ws : List Word) → AreWords limit part ws → is_empty part ≡ is_empty ws
+has-words limit part ws no_word = refl
+has-words limit part ws (next_word b text behind next word others is skipped more) = refl
+
+piece-words : (limit : ℕ) (piece : List ℕ) (ws : List Word) → HasWords limit piece ws → is_empty (trim piece) ≡ is_empty ws
+piece-words limit piece ws h =
+    ap (λ (t : List ℕ). is_empty t) (sym (middle_is_trim piece h.0 h.1)) ∙ has-words limit h.0 ws h.2
+
+words-are : (limit : ℕ) (piece : List ℕ) (ws : List Word) → IsUtf8 piece → HasWords limit piece ws
+    → words limit (trim piece) ≡ ws
+words-are limit piece ws u h =
+    ap (λ (t : List ℕ). words limit t) (sym (middle_is_trim piece h.0 h.1)) ∙ (words-law limit piece h.0 ws u h.1).1 h.2
+
+-- ---- texts that are alike mean the same
+
+piece-alike : (limit : ℕ) (piece other : List ℕ) → IsUtf8 piece → IsUtf8 other → IsAlike limit piece other
+    → part_denotes limit (trim piece) ≡ part_denotes limit (trim other)
+piece-alike limit piece other u v h =
+    let ws = h.0 in
+    let us = h.1 in
+    let bounds : part_bounds limit (trim piece) ≡ part_bounds limit (trim other) =
+    ap (λ (l : List Word). filter_map (table limit) l) (words-are limit piece ws u h.2)
+    ∙ (sym (kept-bounds limit ws) ∙ (ap (λ (l : List Word). filter_map (table limit) l) h.4
+    ∙ (kept-bounds limit us ∙ ap (λ (l : List Word). filter_map (table limit) l) (sym (words-are limit other us v h.3))))) in
+    let empty : is_empty (trim piece) ≡ is_empty (trim other) =
+    piece-words limit piece ws h.2 ∙ (h.5 ∙ sym (piece-words limit other us h.3)) in
+    rw (empty, bounds) refl
+
+empty-alike : (limit : ℕ) (piece other : List ℕ) → IsAlike limit piece other → is_empty (trim piece) ≡ is_empty (trim other)
+empty-alike limit piece other h = piece-words limit piece h.0 h.2 ∙ (h.5 ∙ sym (piece-words limit other h.1 h.3))
+
+all-alike : (limit : ℕ) (ps qs : List (List ℕ)) → AllByRecursion IsUtf8 ps → AllByRecursion IsUtf8 qs
+    → AllZip (IsAlike limit) ps qs → (list_all is_empty (map trim ps) ≡ list_all is_empty (map trim qs))
+    × (flat_map (part_denotes limit) (map trim ps) ≡ flat_map (part_denotes limit) (map trim qs))
+all-alike limit [] [] u v h = (refl, refl)
+all-alike limit [] (q ∷ qs) u v h = absurd h
+all-alike limit (p ∷ ps) [] u v h = absurd h
+all-alike limit (p ∷ ps) (q ∷ qs) u v h =
+    let more = all-alike limit ps qs u.1 v.1 h.1 in
+    (rw (empty-alike limit p q h.0, more.0) refl, rw (piece-alike limit p q u.0 v.0 h.0, more.1) refl)
+
+denotes-alike : (limit : ℕ) (text other : List ℕ) → IsUtf8 text → IsUtf8 other → AreAlike limit text other
+    → denotes limit text ≡ denotes limit other
+denotes-alike limit text other u v h =
+    let same = all-alike limit h.0 h.1 (pieces-utf8 text h.0 h.2 u) (pieces-utf8 other h.1 h.3 v) h.4 in
+    rw (← bars_once text h.0 h.2, ← bars_once other h.1 h.3, same.0, same.1) refl
+
+pub same_without : (limit : ℕ) (text other : List ℕ) (list : List (Span VersionValue)) → IsUtf8 text → IsUtf8 other
+    → AreAlike limit text other → Means limit text list → Means limit other list
+same_without limit text other list u v h m =
+    (one_meaning limit other list v).0 (sym (denotes-alike limit text other u v h) ∙ (one_meaning limit text list u).1 m)
+
+-- ---- which texts are rejected
+
+nothing-in : {A : Type 0} (xs ys : List A) → xs ++ ys ≡ [] → (xs ≡ []) × (ys ≡ [])
+nothing-in [] ys e = (refl, e)
+nothing-in (x ∷ xs) ys e = cc e
+
+no-runs : (runs : List (Run VersionValue)) → map (interval_of precedence) runs ≡ [] → runs ≡ []
+no-runs [] e = refl
+no-runs (r ∷ runs) e = cc e
+
+dark-words : (limit : ℕ) (piece : List ℕ) (ws : List Word) → IsUtf8 piece → (IsBlank piece → ⊥) → HasWords limit piece ws
+    → is_empty ws ≡ false
+dark-words limit piece ws u dark h = elim (cases_Bool (is_empty ws)) [
+  | inl none ↦ absurd (dark (empty-blank piece u (piece-words limit piece ws h ∙ none)))
+  | inr some ↦ some
+]
+
+pieces-ignored : (limit : ℕ) (pieces : List (List ℕ)) (list : List (Span VersionValue)) → AllByRecursion IsUtf8 pieces
+    → AreAllIntervals limit pieces list → list ≡ [] → AllByRecursion (IsIgnored limit) pieces
+pieces-ignored limit pieces list u no_piece e = tt
+pieces-ignored limit pieces list u (blank_piece piece rest others blank more) e = cc e
+pieces-ignored limit pieces list u (next_piece piece rest runs others dark h more) e =
+    let parts = nothing-in (map (interval_of precedence) runs) others e in
+    let none : filter_map (table limit) h.0 ≡ [] =
+    sym h.2.whole ∙ ap (λ (l : List (Run VersionValue)). flat_map run_items l) (no-runs runs parts.0) in (
+      (h.0, h.1, dark-words limit piece h.0 u.0 dark h.1, all-ignored limit h.0 none),
+      pieces-ignored limit rest others u.1 more parts.1,
+    )
+
+filled : (limit : ℕ) (piece : List ℕ) → IsIgnored limit piece → IsBlank piece → ⊥
+filled limit piece h blank = cc (sym (blank-empty piece blank) ∙ (piece-words limit piece h.0 h.1 ∙ h.2))
+
+ignored-mean : (limit : ℕ) (pieces : List (List ℕ)) → AllByRecursion (IsIgnored limit) pieces → AreAllIntervals limit pieces []
+ignored-mean limit [] h = no_piece
+ignored-mean limit (piece ∷ pieces) h =
+    let none = ignored-bounds limit h.0.0 h.0.3 in
+    let runs : HasRuns limit piece [] = (h.0.0, h.0.1, record { whole = sym none; each = tt; longest = tt }) in
+    next_piece piece pieces [] [] (filled limit piece h.0) runs (ignored-mean limit pieces h.1)
+
+not-blank : (limit : ℕ) (text : List ℕ) (pieces : List (List ℕ)) → IsCutAtBars text pieces
+    → AllByRecursion (IsIgnored limit) pieces → AllByRecursion IsBlank pieces → ⊥
+not-blank limit text pieces (one_piece piece h) ignored blank = filled limit piece ignored.0 blank.0
+not-blank limit text pieces (more_pieces piece rest others h ended cut) ignored blank =
+    filled limit piece ignored.0 blank.0
+
+means-none : (limit : ℕ) (text : List ℕ) (list : List (Span VersionValue)) → IsUtf8 text → Means limit text list → list ≡ []
+    → IsWhollyIgnored limit text
+means-none limit text list u (every_version blank) e = cc e
+means-none limit text list u (all_intervals pieces l cut dark are) e =
+    (pieces, cut, pieces-ignored limit pieces l (pieces-utf8 text pieces cut u) are e)
+
+pub rejected_if_ignored : (limit : ℕ) (text : List ℕ) → IsUtf8 text → Means limit text [] ↔ IsWhollyIgnored limit text
+rejected_if_ignored limit text u = (
+  λ m. means-none limit text [] u m refl,
+  λ h. all_intervals h.0 [] h.1 (not-blank limit text h.0 h.1 h.2) (ignored-mean limit h.0 h.2),
+)

@@ -1,0 +1,4 @@
+pub mod Builds
+pub mod Simplified
+pub mod Subsets
+pub mod Unions

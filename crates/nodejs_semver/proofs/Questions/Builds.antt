@@ -1,0 +1,51 @@
+-- The order that counts builds is total, and versions that tie in it are equal.
+use Rattle.std.proofs.Common.{◌≡◌, ◌∙◌, ◌↔◌, ◌||◌, ap, not, sym, true, refl, Ordering}
+use Rattle.std.proofs.lemmas.Bool.{not-true}
+use Rattle.std.specs.Cmp.{IsTotalOrder, on_total, then_total, tied_itself, upto}
+use Rattle.std.specs.Cmp.Lexicographic.{lists_total}
+use Rattle.std.specs.FinMap.{slice_cmp-IsAntisymmetric}
+use Rattle.std.specs.Ordering.{is_le, ordering_reverse, ordering_then}
+use Rattle.std.specs.declared.cmp.Ordering.TheVariants.{Less, Equal, Greater}
+use Rattle.semver_core.proofs.CutLaws.{tells}
+use Rattle.semver_core.specs.Internal.OrderLaws.{id_same, id_total, precedence_total, same_key}
+use Rattle.semver_core.specs.Values.Versions.{VersionValue}
+use Rattle.nodejs_semver.specs.Npm.Builds.{build_order}
+
+build_total : IsTotalOrder build_order
+build_total = then_total precedence_total (on_total (λ (v : VersionValue). v.build) (lists_total id_total))
+
+both_equal : (r s : Ordering) → ordering_then r s ≡ Equal → (r ≡ Equal) × (s ≡ Equal)
+both_equal Less s e = cc
+both_equal Equal s e = (refl, e)
+both_equal Greater s e = cc
+
+both_ways : (r s : Ordering) → r ≡ ordering_reverse s → is_le r ≡ true → is_le s ≡ true → r ≡ Equal
+both_ways r Less e h k = cc (rw e at h)
+both_ways r Equal e h k = e
+both_ways r Greater e h k = cc
+
+same_value : (v w : VersionValue) → build_order v w ≡ Equal → v ≡ w
+same_value v w e =
+    let parts = both_equal _ _ e in
+    let key = same_key v w parts.0 in
+    let build = slice_cmp-IsAntisymmetric id_same v.build w.build parts.1 in
+    λ i. record { major = key.0 i; minor = key.1 i; patch = key.2 i; pre_release = key.3 i; build = build i }
+
+pub tied : (v w : VersionValue) → (build_order v w ≡ Equal) ↔ (v ≡ w)
+tied v w = (same_value v w, λ e. ap (λ u. build_order u w) e ∙ tied_itself build_total w)
+
+pub antisymmetric : (v w : VersionValue) → is_le (build_order v w) ≡ true → is_le (build_order w v) ≡ true → v ≡ w
+antisymmetric v w h k = same_value v w (both_ways (build_order v w) (build_order w v) (build_total.antisymm v w) h k)
+
+pub transitive : (u v w : VersionValue) → is_le (build_order u v) ≡ true → is_le (build_order v w) ≡ true
+    → is_le (build_order u w) ≡ true
+transitive u v w h k =
+    (tells _).0 ∙ ap not (upto build_total u v w (not-true _ (sym (tells _).0 ∙ h)) (not-true _ (sym (tells _).0 ∙ k)))
+
+one_way : (r s : Ordering) → r ≡ ordering_reverse s → (is_le r || is_le s) ≡ true
+one_way r Less e = rw e refl
+one_way r Equal e = rw e refl
+one_way r Greater e = rw e refl
+
+pub total : (v w : VersionValue) → (is_le (build_order v w) || is_le (build_order w v)) ≡ true
+total v w = one_way (build_order v w) (build_order w v) (build_total.antisymm v w)

@@ -1,0 +1,154 @@
+-- Worked rows, computed: node-semver's table, which versions a list of alternatives accepts, and how some words are written.
+use Rattle.std.proofs.Common.{inl, lit<, lit≤}
+use Rattle.std.specs.Prelude.{◌≡◌, ◌++◌, ℕ, Bool, true, false, List, [], ◌∷◌, Some, map, codes, refl}
+use Rattle.std.specs.Char.{encode_utf8}
+use Rattle.std.specs.Fmt.{digits}
+use Rattle.std.specs.List.{join_with_byte}
+use Rattle.semver_core.specs.Text.Characters.{IsBlank}
+use Rattle.semver_core.specs.Text.Identifiers.{AlphaNumeric}
+use Rattle.semver_core.specs.Values.Versions.{VersionValue, release_value}
+use Rattle.nodejs_semver.specs.Npm.RangeText.{AreWords, IsPartial, caret_equal, last, late_above, number, one, spelling, tilde_twice, word}
+use Rattle.nodejs_semver.specs.Npm.Ranges.{accepts, is_valid}
+use Rattle.nodejs_semver.specs.Npm.Table.{Comparison, Partial, Sign, caret, compared, hyphen_lower, hyphen_upper, major, minor, table, tilde, whole, wildcard}
+use Rattle.nodejs_semver.specs.Text.WordText.{above, at_least, at_most, below, equal}
+
+-- ---- the table, as node-semver prints the range of each word
+
+-- `1.2.3`, and `1.2.3-a`
+abbrev plain : ℕ → ℕ → ℕ → Partial
+plain M m p = whole (release_value M m p)
+
+abbrev lettered : ℕ → ℕ → ℕ → VersionValue
+lettered M m p = record (release_value M m p) { pre_release = AlphaNumeric (codes "a") ∷ [] }
+
+abbrev printed : List Comparison → List ℕ
+printed cs = join_with_byte 32 (map (λ (c : Comparison). spelling (compared c.sign) ++ c.text) cs)
+
+-- without pre-releases included: `1`, `1.2`, `^1`, `^0.2`, `^1.2`, `~1`, `~1.2`, `>=1`, `>1`, `>1.2`, `<1`, `<1.2`, `<=1`, `<=1.2`
+row-partials : map (λ (row : Sign × Partial). printed (table false row.0 row.1 []))
+    ((compared equal, major 1) ∷ (compared equal, minor 1 2) ∷ (caret, major 1) ∷ (caret, minor 0 2) ∷ (caret, minor 1 2)
+    ∷ (tilde, major 1) ∷ (tilde, minor 1 2) ∷ (compared at_least, major 1) ∷ (compared above, major 1) ∷ (compared above, minor 1 2)
+    ∷ (compared below, major 1) ∷ (compared below, minor 1 2) ∷ (compared at_most, major 1) ∷ (compared at_most, minor 1 2) ∷ [])
+    ≡ codes ">=1.0.0 <2.0.0-0" ∷ codes ">=1.2.0 <1.3.0-0" ∷ codes ">=1.0.0 <2.0.0-0" ∷ codes ">=0.2.0 <0.3.0-0" ∷ codes ">=1.2.0 <2.0.0-0"
+    ∷ codes ">=1.0.0 <2.0.0-0" ∷ codes ">=1.2.0 <1.3.0-0" ∷ codes ">=1.0.0" ∷ codes ">=2.0.0" ∷ codes ">=1.3.0"
+    ∷ codes "<1.0.0-0" ∷ codes "<1.2.0-0" ∷ codes "<2.0.0-0" ∷ codes "<1.3.0-0" ∷ []
+unfolding digits
+row-partials = refl
+
+-- the same with them
+row-partials_included : map (λ (row : Sign × Partial). printed (table true row.0 row.1 []))
+    ((compared equal, major 1) ∷ (compared equal, minor 1 2) ∷ (caret, major 1) ∷ (caret, minor 0 2) ∷ (caret, minor 1 2)
+    ∷ (tilde, major 1) ∷ (tilde, minor 1 2) ∷ (compared at_least, major 1) ∷ (compared above, major 1) ∷ (compared above, minor 1 2)
+    ∷ (compared below, major 1) ∷ (compared below, minor 1 2) ∷ (compared at_most, major 1) ∷ (compared at_most, minor 1 2) ∷ [])
+    ≡ codes ">=1.0.0-0 <2.0.0-0" ∷ codes ">=1.2.0-0 <1.3.0-0" ∷ codes ">=1.0.0-0 <2.0.0-0" ∷ codes ">=0.2.0-0 <0.3.0-0" ∷ codes ">=1.2.0-0 <2.0.0-0"
+    ∷ codes ">=1.0.0 <2.0.0-0" ∷ codes ">=1.2.0 <1.3.0-0" ∷ codes ">=1.0.0-0" ∷ codes ">=2.0.0-0" ∷ codes ">=1.3.0-0"
+    ∷ codes "<1.0.0-0" ∷ codes "<1.2.0-0" ∷ codes "<2.0.0-0" ∷ codes "<1.3.0-0" ∷ []
+unfolding digits
+row-partials_included = refl
+
+-- `^1.2.3`, `^0.2.3`, `^0.0.3`, `^0.0.3-a` and `~1.2.3-a`, without pre-releases included and with them
+abbrev carets : Bool → List (List ℕ)
+carets include = map (λ (row : Sign × Partial). printed (table include row.0 row.1 []))
+    ((caret, plain 1 2 3) ∷ (caret, plain 0 2 3) ∷ (caret, plain 0 0 3) ∷ (caret, whole (lettered 0 0 3)) ∷ (tilde, whole (lettered 1 2 3)) ∷ [])
+
+row-carets : carets false ≡ codes ">=1.2.3 <2.0.0-0" ∷ codes ">=0.2.3 <0.3.0-0" ∷ codes ">=0.0.3 <0.0.4-0" ∷ codes ">=0.0.3-a <0.0.4-0"
+    ∷ codes ">=1.2.3-a <1.3.0-0" ∷ []
+unfolding digits
+row-carets = refl
+
+row-carets_included : carets true ≡ codes ">=1.2.3 <2.0.0-0" ∷ codes ">=0.2.3-0 <0.3.0-0" ∷ codes ">=0.0.3-0 <0.0.4-0"
+    ∷ codes ">=0.0.3-a <0.0.4-0" ∷ codes ">=1.2.3-a <1.3.0-0" ∷ []
+unfolding digits
+row-carets_included = refl
+
+-- `*`, `^*`, `>=*`, `>*` and `<*`
+row-wildcards : map (λ s. printed (table false s wildcard [])) (compared equal ∷ caret ∷ compared at_least ∷ compared above ∷ compared below ∷ [])
+    ≡ [] ∷ [] ∷ [] ∷ codes "<0.0.0-0" ∷ codes "<0.0.0-0" ∷ []
+unfolding digits
+row-wildcards = refl
+
+-- `1 - 2`, `1.2.3 - 2.3.4` and `1 - 2.3.4-a`
+abbrev hyphens : Bool → List (List ℕ)
+hyphens include = map (λ (row : Partial × Partial). printed (hyphen_lower include row.0 (codes "1.2.3") ++ hyphen_upper include row.1 (codes "2.3.4")))
+    ((major 1, major 2) ∷ (plain 1 2 3, plain 2 3 4) ∷ (major 1, whole (lettered 2 3 4)) ∷ [])
+
+row-hyphens : hyphens false ≡ codes ">=1.0.0 <3.0.0-0" ∷ codes ">=1.2.3 <=2.3.4" ∷ codes ">=1.0.0 <=2.3.4-a" ∷ []
+unfolding digits
+row-hyphens = refl
+
+row-hyphens_included : hyphens true ≡ codes ">=1.0.0-0 <3.0.0-0" ∷ codes ">=1.2.3-0 <2.3.5-0" ∷ codes ">=1.0.0-0 <=2.3.4-a" ∷ []
+unfolding digits
+row-hyphens_included = refl
+
+-- ---- which versions are accepted
+
+-- `* || 1.0.0-a` does not accept `1.0.0-a`, and `1 || 1.0.0-a` does
+row-star_beside : map (λ p. accepts false (table false (compared equal) p [] ∷ (table false (compared equal) (whole (lettered 1 0 0)) (codes "1.0.0-a") ∷ [])) (lettered 1 0 0))
+    (wildcard ∷ major 1 ∷ []) ≡ false ∷ true ∷ []
+unfolding digits
+row-star_beside = refl
+
+-- `^1` accepts `1.0.0-a` where pre-releases are included, and only there
+row-included : map (λ include. accepts include (table include caret (major 1) [] ∷ []) (lettered 1 0 0)) (false ∷ true ∷ []) ≡ false ∷ true ∷ []
+unfolding digits
+row-included = refl
+
+-- `>=1.2.3-a` accepts `1.2.3-a`, and `1.2.4-a` only where pre-releases are included
+abbrev from_a : Bool → VersionValue → Bool
+from_a include v = accepts include (table include (compared at_least) (whole (lettered 1 2 3)) (codes "1.2.3-a") ∷ []) v
+
+row-named : from_a false (lettered 1 2 3) ∷ from_a false (lettered 1 2 4) ∷ from_a true (lettered 1 2 4) ∷ [] ≡ true ∷ false ∷ true ∷ []
+unfolding digits
+row-named = refl
+
+-- `>=0 >=0.0.0-a` accepts `0.0.0-a`, since `>=0.0.0` does not count, and `>=v0.0.0 >=0.0.0-a` does not
+abbrev zero_and_a : List ℕ → Bool
+zero_and_a text = accepts false
+    ((table false (compared at_least) (plain 0 0 0) text ++ table false (compared at_least) (whole (lettered 0 0 0)) (codes "0.0.0-a")) ∷ [])
+    (lettered 0 0 0)
+
+row-zero : zero_and_a (codes "0.0.0") ∷ zero_and_a (codes "v0.0.0") ∷ [] ≡ true ∷ false ∷ []
+unfolding digits
+row-zero = refl
+
+-- `>1 <1` accepts neither `1.0.0` nor `2.0.0`; `>* || 1` accepts `1.0.0`
+row-nothing : map (accepts false ((table false (compared above) (major 1) [] ++ table false (compared below) (major 1) []) ∷ []))
+    (release_value 1 0 0 ∷ release_value 2 0 0 ∷ []) ≡ false ∷ false ∷ []
+unfolding digits
+row-nothing = refl
+
+row-beside_nothing : accepts false (table false (compared above) wildcard [] ∷ (table false (compared equal) (major 1) [] ∷ [])) (release_value 1 0 0) ≡ true
+unfolding digits
+row-beside_nothing = refl
+
+-- `>9007199254740991` is rejected for its number, and `<9007199254740991` is not
+row-limit : map (λ s. map (is_valid 9007199254740991) (table false (compared s) (major 9007199254740991) [])) (above ∷ below ∷ [])
+    ≡ (false ∷ []) ∷ ((true ∷ []) ∷ [])
+unfolding digits
+row-limit = refl
+
+-- ---- how words are written
+
+blank : IsBlank (codes " ")
+unfolding encode_utf8
+blank = record { characters = 32 ∷ []; each = refl; spelled = refl }
+
+no_blank : IsBlank []
+no_blank = record { characters = []; each = refl; spelled = refl }
+
+abbrev one_is : IsPartial (codes "1") (major 1)
+one_is = one (codes "1") (Some 1) (number (codes "1") 1 (record {
+  number = record { some = lit< tt; each = refl; value = refl; safe = lit≤ tt };
+  shortest = refl;
+}) (lit≤ tt))
+
+-- `> =1` is `>=1`, `^ = 1` is `^1` and `~> >1` is `~1`
+row-late : AreWords false (codes "> =1") (table false (compared at_least) (major 1) (codes "1"))
+row-late = last _ _ (word (codes "> =") [] (codes "1") (compared at_least) (major 1) (late_above (codes " ") blank) refl one_is)
+
+row-caret_equal : AreWords false (codes "^ = 1") (table false caret (major 1) (codes "1"))
+row-caret_equal = last _ _ (word (codes "^ = ") [] (codes "1") caret (major 1) (caret_equal (codes " ") (codes " ") blank blank) refl one_is)
+
+row-tilde_twice : AreWords false (codes "~> >1") (table false tilde (major 1) (codes "1"))
+row-tilde_twice =
+    last _ _ (word (codes "~> >") [] (codes "1") tilde (major 1) (tilde_twice above (codes " ") [] blank (lit< tt) no_blank (inl refl)) refl one_is)

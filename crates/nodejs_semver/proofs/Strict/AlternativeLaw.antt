@@ -1,0 +1,385 @@
+-- The alternatives of node-semver's range texts: the function that reads them finds exactly what the statement has.
+use Rattle.nodejs_semver.proofs.Common.{◌≡◌, ◌<◌, ◌≤◌, ◌-◌, ◌+◌, ℕ, zero, suc, Bool, List, [], ◌∷◌, ◌++◌, length, take, refl, sym, ap, ◌∙◌, arith}
+use Rattle.nodejs_semver.proofs.Common.{true, false, Some, None, Option, inl, inr, ◌&&◌, ◌||◌, not, ◌==◌, and_parts, append_assoc, append-nil, bind_some}
+use Rattle.nodejs_semver.proofs.Common.{cases_Bool, eqb-true, length-append, list_all, nat_tests, or_right, same_Some, subst, IsUtf8}
+use Rattle.nodejs_semver.proofs.Common.{drop_spaces, drop_spaces-none, space_len, is_release, is_whitespace, is_ascii_digit}
+use Rattle.std.proofs.Common.{◌/◌, ◌%◌}
+use Rattle.std.specs.Prelude.{encode_utf8_all}
+use Rattle.std.specs.Char.{encode_utf8}
+use Rattle.std.specs.List.{onto_first}
+use Rattle.std.proofs.lemmas.Bool.{cases_lt, le-ltb, lt-ltb}
+use Rattle.std.proofs.lemmas.Str.{encode_ascii, len_utf8_bounds, length-encode}
+use Rattle.semver_core.specs.Internal.Spaces.{after_spaces}
+use Rattle.semver_core.specs.Text.Characters.{IsBlank, is_identifier_char}
+use Rattle.semver_core.specs.Text.Identifiers.{Id, pieces}
+use Rattle.semver_core.proofs.Text.Pieces.{runs_tail, tail_onto, tail_runs}
+use Rattle.semver_core.proofs.Text.Trims.{drop_spaces-blank}
+use Rattle.nodejs_semver.specs.Internal.Fronts.{begins_byte, is_wildcard}
+use Rattle.nodejs_semver.specs.Internal.NpmWords.{Ended, after_ends, alternative_of, drop_ends, end_front, hyphen_comparisons, hyphen_ends}
+use Rattle.nodejs_semver.specs.Internal.NpmWords.{last_end, partial_front, words_within}
+use Rattle.nodejs_semver.specs.Npm.Grammar.{IsStrictBuild, IsStrictPreRelease, dashed, no_build, no_pre_release, plus}
+use Rattle.nodejs_semver.specs.Npm.RangeText as Text
+use Rattle.nodejs_semver.specs.Npm.RangeText.{AreEndMarks, AreWords, IsAlternative, IsPartial, IsPlace, IsSignText, IsWord, hyphen, is_free_lower, is_free_upper}
+use Rattle.nodejs_semver.specs.Npm.RangeText.{is_mark, is_one_v, last, more, nothing, one, spelling, three, two, word, words}
+use Rattle.nodejs_semver.specs.Npm.RangeText.{caret_equal, late_above, late_below, no_sign, sign, tilde_sign, tilde_twice}
+use Rattle.nodejs_semver.specs.Npm.Table.{Comparison, Partial, Sign, caret, compared, hyphen_lower, hyphen_upper, major, minor, tilde, whole, wildcard}
+use Rattle.nodejs_semver.specs.Text.WordText.{above, at_least, at_most, below, equal}
+use Rattle.nodejs_semver.proofs.Reading.Bytes.{all-join, begins_component}
+use Rattle.nodejs_semver.proofs.Reading.Steps.{option-cases}
+use Rattle.nodejs_semver.proofs.Strict.Hyphens.{after_ends-drop, dash-read, end-read, ends-space, hyphen-found, mark-dark, marks-one, marks-passed, one-dark}
+use Rattle.nodejs_semver.proofs.Strict.PartialLaw.{boundary-quiet, partial-read}
+use Rattle.nodejs_semver.proofs.Strict.SignsRead.{marks-all}
+use Rattle.nodejs_semver.proofs.Strict.Words.{blank-boundary, blank-space, partial-begins, words-found, words-read, words-solid}
+
+-- ---- no `-` follows whitespace in words
+
+-- a character of partials
+abbrev is_tight : ℕ → Bool
+is_tight b = is_identifier_char b || (b == 46 || (b == 43 || b == 42))
+
+abbrev is_other : ℕ → Bool
+is_other b = not (b == 45)
+
+-- a `-` stands behind a byte that is none
+abbrev loose : List ℕ → Bool
+loose [] = false
+loose (b ∷ rest) = (not (is_tight b) && begins_byte 45 rest) || loose rest
+
+tight-passed : (u v : List ℕ) → list_all is_tight u ≡ true → loose (u ++ v) ≡ loose v
+tight-passed [] v h = refl
+tight-passed (b ∷ u) v h =
+    let each = and_parts (is_tight b) (list_all is_tight u) h in
+    rw each.0 (tight-passed u v each.1)
+
+other-first : (u v : List ℕ) → list_all is_other u ≡ true → begins_byte 45 v ≡ false → begins_byte 45 (u ++ v) ≡ false
+other-first [] v h k = k
+other-first (b ∷ u) v h k = grind (arith, nat_tests)
+
+and-none : (a b : Bool) → b ≡ false → (a && b) ≡ false
+and-none a b h = grind arith
+
+other-passed : (u v : List ℕ) → list_all is_other u ≡ true → begins_byte 45 v ≡ false → loose (u ++ v) ≡ loose v
+other-passed [] v h k = refl
+other-passed (b ∷ u) v h k =
+    let each = and_parts (is_other b) (list_all is_other u) h in
+    rw (and-none (not (is_tight b)) (begins_byte 45 (u ++ v)) (other-first u v each.1 k)) (other-passed u v each.1 k)
+
+loose-more : (u v : List ℕ) → loose v ≡ true → loose (u ++ v) ≡ true
+loose-more [] v h = h
+loose-more (b ∷ u) v h = or_right (not (is_tight b) && begins_byte 45 (u ++ v)) (loose (u ++ v)) (loose-more u v h)
+
+-- ---- bytes of whitespace
+
+high-other : (n : ℕ) → 128 ≤ n → is_other n ≡ true
+high-other n h = grind (arith, nat_tests)
+
+high-loose : (n : ℕ) → 128 ≤ n → is_tight n ≡ false
+high-loose n h = grind (arith, nat_tests)
+
+record Bytes (c : ℕ) : Type 0 where
+  front : List ℕ
+  end : ℕ
+  spelled : encode_utf8 c ≡ front ++ (end ∷ [])
+  front_other : list_all is_other front ≡ true
+  end_other : is_other end ≡ true
+  end_loose : is_tight end ≡ false
+
+white-ascii : (c : ℕ) → is_whitespace c ≡ true → c < 128 → (is_other c ≡ true) × (is_tight c ≡ false)
+white-ascii c h k = (grind (arith, nat_tests), grind (arith, nat_tests))
+
+bytes-of : (c : ℕ) → is_whitespace c ≡ true → Bytes c
+unfolding encode_utf8
+bytes-of c h = elim (cases_lt c 128) [
+  | inl low ↦
+      let w = white-ascii c h low in
+      record { front = []; end = c; spelled = encode_ascii c low; front_other = refl; end_other = w.0; end_loose = w.1 }
+  | inr more_one ↦ elim (cases_lt c 2048) [
+    | inl two_bytes ↦
+        let e = 128 + c % 64 in
+        record {
+          front = (192 + c / 64) ∷ [];
+          end = e;
+          spelled = rw (le-ltb c 128 more_one, lt-ltb c 2048 two_bytes) refl;
+          front_other = rw (high-other (192 + c / 64) (omega arith)) refl;
+          end_other = high-other e (omega arith);
+          end_loose = high-loose e (omega arith);
+        }
+    | inr more_two ↦ elim (cases_lt c 65536) [
+      | inl three_bytes ↦
+          let e = 128 + c % 64 in
+          record {
+            front = (224 + c / 4096) ∷ ((128 + (c / 64) % 64) ∷ []);
+            end = e;
+            spelled = rw (le-ltb c 128 more_one, le-ltb c 2048 more_two, lt-ltb c 65536 three_bytes) refl;
+            front_other = rw (high-other (224 + c / 4096) (omega arith), high-other (128 + (c / 64) % 64) (omega arith)) refl;
+            end_other = high-other e (omega arith);
+            end_loose = high-loose e (omega arith);
+          }
+      | inr four ↦ absurd (wide c h four)
+    ]
+  ]
+]
+  where
+    wide : (c : ℕ) → is_whitespace c ≡ true → 65536 ≤ c → ⊥
+    wide c h k = grind (arith, nat_tests)
+
+blank-other : (x : List ℕ) → IsBlank x → list_all is_other x ≡ true
+blank-other x h = rw h.spelled (go h.characters h.each)
+  where
+    go : (cs : List ℕ) → list_all is_whitespace cs ≡ true → list_all is_other (encode_utf8_all cs) ≡ true
+    go [] each = refl
+    go (c ∷ cs) each =
+        let parts = and_parts (is_whitespace c) (list_all is_whitespace cs) each in
+        let b = bytes-of c parts.0 in
+        let first : list_all is_other (encode_utf8 c) ≡ true =
+        rw b.spelled (all-join is_other b.front (b.end ∷ []) b.front_other (rw b.end_other refl)) in
+        all-join is_other (encode_utf8 c) (encode_utf8_all cs) first (go cs parts.1)
+
+loose-blank : (x z : List ℕ) → IsBlank x → 0 < length x → loose (x ++ (45 ∷ z)) ≡ true
+loose-blank x z h some = subst (λ (t : List ℕ). loose (t ++ (45 ∷ z)) ≡ true) (sym h.spelled)
+    (go h.characters h.each (subst (λ (t : List ℕ). 0 < length t) h.spelled some))
+  where
+    some-bytes : (d : ℕ) (cs : List ℕ) → 0 < length (encode_utf8_all (d ∷ cs))
+    some-bytes d cs = omega (arith, length-append (encode_utf8 d) (encode_utf8_all cs), length-encode d, (len_utf8_bounds d).0)
+
+    go : (cs : List ℕ) → list_all is_whitespace cs ≡ true → 0 < length (encode_utf8_all cs) → loose (encode_utf8_all cs ++ (45 ∷ z)) ≡ true
+    go [] each k = absurd (omega arith)
+    go (c ∷ []) each k =
+        let b = bytes-of c (and_parts (is_whitespace c) true each).0 in
+        let text_is : encode_utf8_all (c ∷ []) ++ (45 ∷ z) ≡ b.front ++ (b.end ∷ (45 ∷ z)) =
+        rw (append-nil (encode_utf8 c), b.spelled) (append_assoc b.front (b.end ∷ []) (45 ∷ z)) in
+        rw text_is (loose-more b.front (b.end ∷ (45 ∷ z)) (rw b.end_loose refl))
+    go (c ∷ d ∷ cs) each k =
+        let parts = and_parts (is_whitespace c) (list_all is_whitespace (d ∷ cs)) each in
+        let rest = encode_utf8_all (d ∷ cs) in
+        rw (append_assoc (encode_utf8 c) rest (45 ∷ z))
+        (loose-more (encode_utf8 c) (rest ++ (45 ∷ z)) (go (d ∷ cs) parts.1 (some-bytes d cs)))
+
+-- ---- the texts of words
+
+digits-tight : (digits : List ℕ) → list_all is_ascii_digit digits ≡ true → list_all is_tight digits ≡ true
+digits-tight [] h = refl
+digits-tight (c ∷ digits) h =
+    let each = and_parts (is_ascii_digit c) (list_all is_ascii_digit digits) h in
+    rw (digit-tight c each.0) (digits-tight digits each.1)
+  where
+    digit-tight : (c : ℕ) → is_ascii_digit c ≡ true → is_tight c ≡ true
+    digit-tight c h = grind (arith, nat_tests)
+
+place-tight : (x : List ℕ) (a : Option ℕ) → IsPlace x a → list_all is_tight x ≡ true
+place-tight x a (Text.any b h) = rw (wild b h) refl
+  where
+    wild : (b : ℕ) → is_wildcard b ≡ true → is_tight b ≡ true
+    wild b h = grind (arith, nat_tests)
+place-tight x a (Text.number digits n k short) = digits-tight digits k.number.each
+
+pieces-tight : (t : List ℕ) → tail_runs (pieces t) ≡ true → list_all is_tight t ≡ true
+pieces-tight [] h = refl
+pieces-tight (c ∷ t) h = elim (cases_Bool (c == 46)) [
+  | inl dot ↦
+      let e = eqb-true c 46 dot in
+      rw e (pieces-tight t (runs_tail (pieces t) (rw dot at h)))
+  | inr other ↦
+      let k = rw other at h in
+      rw (first-tight c (pieces t) k) (pieces-tight t (tail_onto c (pieces t) k))
+]
+  where
+    first-tight : (c : ℕ) (ps : List (List ℕ)) → tail_runs (onto_first c ps) ≡ true → is_tight c ≡ true
+    first-tight c [] h = grind arith
+    first-tight c (p ∷ ps) h = grind arith
+
+pre-tight : (p : List ℕ) (l : List Id) → IsStrictPreRelease p l → list_all is_tight p ≡ true
+pre-tight p l no_pre_release = refl
+pre-tight p l (dashed t list h s) = pieces-tight t (runs_tail (pieces t) h.runs)
+
+build-tight : (p : List ℕ) (l : List Id) → IsStrictBuild p l → list_all is_tight p ≡ true
+build-tight p l no_build = refl
+build-tight p l (plus t list h) = pieces-tight t (runs_tail (pieces t) h.runs)
+
+partial-tight : (x : List ℕ) (p : Partial) → IsPartial x p → list_all is_tight x ≡ true
+partial-tight x p (one x1 a h) = place-tight x1 a h
+partial-tight x p (two x1 y a b h k) = all-join is_tight x1 (46 ∷ y) (place-tight x1 a h) (place-tight y b k)
+partial-tight x p (three x1 y z pre build a b c ids builds h k l m s n t) =
+    let last_part = all-join is_tight pre build (pre-tight pre ids m) (build-tight build builds n) in
+    let third = all-join is_tight z (pre ++ build) (place-tight z c l) last_part in
+    let second = all-join is_tight y (46 ∷ (z ++ (pre ++ build))) (place-tight y b k) third in
+    all-join is_tight x1 (46 ∷ (y ++ 46 ∷ (z ++ (pre ++ build)))) (place-tight x1 a h) second
+
+spelling-other : (s : Sign) (y : List ℕ) → list_all is_other y ≡ true → list_all is_other (spelling s ++ y) ≡ true
+spelling-other (compared above) y h = h
+spelling-other (compared at_least) y h = h
+spelling-other (compared equal) y h = h
+spelling-other (compared at_most) y h = h
+spelling-other (compared below) y h = h
+spelling-other caret y h = h
+spelling-other tilde y h = h
+
+sign-other : (signs : List ℕ) (s : Sign) → IsSignText signs s → list_all is_other signs ≡ true
+sign-other signs s no_sign = refl
+sign-other signs s (sign t y h) = spelling-other t y (blank-other y h)
+sign-other signs s (late_above y h) = all-join is_other y (61 ∷ []) (blank-other y h) refl
+sign-other signs s (late_below y h) = all-join is_other y (61 ∷ []) (blank-other y h) refl
+sign-other signs s (caret_equal y z h k) = all-join is_other y (61 ∷ z) (blank-other y h) (blank-other z k)
+sign-other signs s (tilde_sign c y z h k which) =
+    all-join is_other y (spelling (compared c) ++ z) (blank-other y h) (spelling-other (compared c) z (blank-other z k))
+sign-other signs s (tilde_twice c y z h some k which) =
+    all-join is_other y (spelling (compared c) ++ z) (blank-other y h) (spelling-other (compared c) z (blank-other z k))
+
+marks-other : (marks : List ℕ) → list_all is_mark marks ≡ true → list_all is_other marks ≡ true
+marks-other [] h = refl
+marks-other (b ∷ marks) h =
+    let each = and_parts (is_mark b) (list_all is_mark marks) h in
+    rw (mark-other b each.0) (marks-other marks each.1)
+  where
+    mark-other : (b : ℕ) → is_mark b ≡ true → is_other b ≡ true
+    mark-other b h = grind (arith, nat_tests)
+
+component-first : (u : List ℕ) → begins_component u ≡ true → begins_byte 45 u ≡ false
+component-first u h = grind (arith, nat_tests)
+
+-- a word begins with no `-`, and what is behind it decides
+word-first : (include : Bool) (w v : List ℕ) (cs : List Comparison) → IsWord include w cs
+    → (loose (w ++ v) ≡ loose v) × (begins_byte 45 (w ++ v) ≡ false)
+word-first include w v cs (word signs marks x s p h m k) =
+    let text_is : (signs ++ (marks ++ x)) ++ v ≡ (signs ++ marks) ++ (x ++ v) = simp append_assoc refl in
+    let front = all-join is_other signs marks (sign-other signs s h) (marks-other marks (marks-all s p marks m)) in
+    let first = component-first (x ++ v) (partial-begins x v p k) in (
+      rw text_is (other-passed (signs ++ marks) (x ++ v) front first ∙ tight-passed x v (partial-tight x p k)),
+      rw text_is (other-first (signs ++ marks) (x ++ v) front first),
+    )
+
+words-first : (include : Bool) (text : List ℕ) (cs : List Comparison) → AreWords include text cs
+    → (loose text ≡ false) × (begins_byte 45 text ≡ false)
+words-first include text cs (last t ds h) = rw append-nil at (word-first include t [] ds h)
+words-first include text cs (more t blank rest ds es h hb some k) =
+    let w = word-first include t (blank ++ rest) ds h in
+    let r = words-first include rest es k in
+    (w.0 ∙ other-passed blank rest (blank-other blank hb) r.1 ∙ r.0, w.1)
+
+-- ---- hyphen ranges: what is written is read
+
+upper-same : (include : Bool) (q : Partial) (text other : List ℕ) → is_free_upper include q ≡ true
+    → hyphen_upper include q text ≡ hyphen_upper include q other
+upper-same include wildcard text other h = refl
+upper-same include (major M) text other h = refl
+upper-same include (minor M m) text other h = refl
+upper-same include (whole v) text other h = elim (cases_Bool (is_release v)) [
+  | inr pre ↦ rw pre refl
+  | inl release ↦ elim (cases_Bool include) [
+    | inl with_pre ↦ rw (release, with_pre) refl
+    | inr without ↦ cc (rw (without, release) at h)
+  ]
+]
+
+ends-after : (n : ℕ) (text : List ℕ) → drop_ends (after_spaces n text) ≡ after_ends n text
+unfolding after_spaces after_ends
+ends-after n [] = refl
+ends-after (suc n) (b ∷ rest) = ends-after n rest
+ends-after zero (b ∷ rest) = go (λ n. ends-after n rest) (space_len (b ∷ rest)) refl
+  where
+    no-mark : (n : ℕ) → space_len (b ∷ rest) ≡ suc n → is_mark b ≡ false
+    no-mark n e = elim (cases_Bool (is_mark b)) [
+      | inl mark ↦ absurd (omega (arith, e, mark-dark b rest mark))
+      | inr other ↦ other
+    ]
+
+    go : ((n : ℕ) → drop_ends (after_spaces n rest) ≡ after_ends n rest) → (n : ℕ) → space_len (b ∷ rest) ≡ n
+        → drop_ends (after_spaces 0 (b ∷ rest)) ≡ after_ends 0 (b ∷ rest)
+    go f zero e = ap drop_ends (drop_spaces-none (b ∷ rest) e)
+    go f (suc n) e =
+        let here : after_spaces 0 (b ∷ rest) ≡ after_spaces n rest = rw (e, after_spaces) refl in
+        ap drop_ends here ∙ f n ∙ sym (ends-space b rest n (no-mark n e) e ∙ sym (after_ends-drop n rest))
+
+record UpperRead (include : Bool) (q : Partial) (second text : List ℕ) : Type 0 where
+  taken : List ℕ
+  is : last_end (is_free_upper include) second ≡ Some (q, taken)
+  same : hyphen_upper include q taken ≡ hyphen_upper include q text
+
+upper-read : (include : Bool) (gap b y : List ℕ) (q : Partial) → IsBlank gap → AreEndMarks (is_free_upper include q) b → IsPartial y q
+    → UpperRead include q (drop_spaces (gap ++ (b ++ y))) (b ++ y)
+unfolding end_front
+upper-read include gap b y q hg h k =
+    let begin : begins_component y ≡ true = rw append-nil at (partial-begins y [] q k) in
+    let read : partial_front y ≡ Some (q, []) = rw append-nil at (partial-read y [] q k refl) in
+    let second = drop_spaces (gap ++ (b ++ y)) in
+    let at_gap : second ≡ drop_spaces (b ++ y) =
+    ap (λ (t : List ℕ). drop_spaces (t ++ (b ++ y))) hg.spelled ∙ drop_spaces-blank hg.characters (b ++ y) hg.each in
+    elim (cases_Bool (is_free_upper include q)) [
+      | inl free ↦
+          let passed : drop_ends second ≡ y =
+          ap drop_ends at_gap ∙ ends-after 0 (b ++ y) ∙ marks-passed (is_free_upper include q) b y h begin in
+          record {
+            taken = take (length second - 0) second;
+            is = rw (passed, read, free) refl;
+            same = upper-same include q (take (length second - 0) second) (b ++ y) free;
+          }
+      | inr bound ↦
+          let none : second ≡ b ++ y = at_gap ∙ drop_spaces-none (b ++ y) (bound-dark b y (rw bound at h) begin) in
+          let at_end : end_front (is_free_upper include) (b ++ y) ≡ Some ((q, b ++ y), []) =
+          rw append-nil at (end-read (is_free_upper include) b y [] q h k refl) in
+          record { taken = b ++ y; is = rw (none, at_end) refl; same = refl }
+    ]
+  where
+    bound-dark : (b y : List ℕ) → AreEndMarks false b → begins_component y ≡ true → space_len (b ++ y) ≡ 0
+    bound-dark b y h begin = one-dark b y (marks-one false b h) begin
+
+pub hyphen-read : (include : Bool) (a x blank gap b y : List ℕ) (p q : Partial) → AreEndMarks (is_free_lower p) a → IsPartial x p
+    → IsBlank blank → 0 < length blank → IsBlank gap → 0 < length gap → AreEndMarks (is_free_upper include q) b → IsPartial y q
+    → (e : Ended × Ended) × (hyphen_ends include (a ++ (x ++ (blank ++ 45 ∷ (gap ++ (b ++ y))))) ≡ Some e)
+    × (hyphen_comparisons include e ≡ hyphen_lower include p (a ++ x) ++ hyphen_upper include q (b ++ y))
+unfolding hyphen_ends
+hyphen-read include a x blank gap b y p q ha hx hb some hg more_gap hc hy =
+    let z = gap ++ (b ++ y) in
+    let rest = blank ++ (45 ∷ z) in
+    let quiet = boundary-quiet rest (blank-boundary blank (45 ∷ z) hb some) in
+    let lower = end-read is_free_lower a x rest p ha hx quiet in
+    let dash = dash-read blank z hb some (blank-space gap (b ++ y) hg more_gap) in
+    let upper = upper-read include gap b y q hg hc hy in (
+      ((p, a ++ x), (q, upper.taken)),
+      rw (lower, dash, upper.is) refl,
+      ap (λ (l : List Comparison). hyphen_lower include p (a ++ x) ++ l) upper.same,
+    )
+
+-- ---- alternatives
+
+no-words : (include : Bool) (n : ℕ) (text : List ℕ) → IsUtf8 text → loose text ≡ true → words_within include n text ≡ None
+no-words include n text u h = elim (option-cases (words_within include n text)) [
+  | inl none ↦ none
+  | inr some ↦ cc (h, (words-first include text some.0 (words-found include n text some.0 u some.1)).0)
+]
+
+by-words : (include : Bool) (text : List ℕ) (cs : List Comparison) → AreWords include text cs → alternative_of include text ≡ Some cs
+unfolding alternative_of
+by-words include [] cs h = cc (words-solid include [] cs h)
+by-words include (b ∷ text) cs h = rw (words-read include (length (b ∷ text)) (b ∷ text) cs h (omega arith)) refl
+
+by-hyphen : (include : Bool) (text : List ℕ) (e : Ended × Ended) → IsUtf8 text → loose text ≡ true → hyphen_ends include text ≡ Some e
+    → alternative_of include text ≡ Some (hyphen_comparisons include e)
+unfolding alternative_of
+by-hyphen include [] e u l h = cc l
+by-hyphen include (b ∷ text) e u l h = rw (no-words include (length (b ∷ text)) (b ∷ text) u l, h) refl
+
+pub alternative-read : (include : Bool) (text : List ℕ) (cs : List Comparison) → IsUtf8 text → IsAlternative include text cs
+    → alternative_of include text ≡ Some cs
+unfolding alternative_of
+alternative-read include text cs u nothing = refl
+alternative-read include text cs u (words t ds h) = by-words include t ds h
+alternative-read include text cs u (hyphen a x blank gap b y p q ha hx hb some hg more_gap hc hy) =
+    let r = hyphen-read include a x blank gap b y p q ha hx hb some hg more_gap hc hy in
+    let behind = blank ++ 45 ∷ (gap ++ (b ++ y)) in
+    let l = loose-more a (x ++ behind) (loose-more x behind (loose-blank blank (gap ++ (b ++ y)) hb some)) in
+    by-hyphen include (a ++ (x ++ behind)) r.0 u l r.1 ∙ ap (λ (l : List Comparison). Some l) r.2
+
+pub alternative-found : (include : Bool) (text : List ℕ) (cs : List Comparison) → IsUtf8 text → alternative_of include text ≡ Some cs
+    → IsAlternative include text cs
+unfolding alternative_of
+alternative-found include [] cs u h = subst (λ (l : List Comparison). IsAlternative include [] l) (same_Some _ _ h) nothing
+alternative-found include (b ∷ text) cs u h = elim (option-cases (words_within include (length (b ∷ text)) (b ∷ text))) [
+  | inr some ↦
+      let e = same_Some _ _ (rw some.1 at h) in
+      let is : IsAlternative include (b ∷ text) some.0 = words (b ∷ text) some.0 (words-found include (length (b ∷ text)) (b ∷ text) some.0 u some.1) in
+      subst (λ (l : List Comparison). IsAlternative include (b ∷ text) l) e is
+  | inl none ↦
+      let e = bind_some (hyphen_ends include (b ∷ text)) (λ e. Some (hyphen_comparisons include e)) cs (rw none at h) in
+      subst (λ (l : List Comparison). IsAlternative include (b ∷ text) l) (same_Some _ _ e.2) (hyphen-found include (b ∷ text) e.0 u e.1)
+]

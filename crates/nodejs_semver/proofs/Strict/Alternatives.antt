@@ -1,0 +1,167 @@
+-- The intervals of alternatives accept what the alternatives do.
+use Rattle.nodejs_semver.proofs.Common.{◌≡◌, refl, sym, ap, ap₂, ◌∙◌, Bool, true, false, ◌&&◌, ◌||◌, not, if◌then◌else◌, List, []}
+use Rattle.nodejs_semver.proofs.Common.{◌∷◌, Option, Some, None, arith, option_to_list, list_all, list_any, flat_map, cases_Bool}
+use Rattle.nodejs_semver.proofs.Common.{inl, inr, holds, precedence, VersionValue, is_release, lets_in, Span, accepts, is_empty}
+use Rattle.nodejs_semver.proofs.Common.{is_le, is_past, Beside, list_any-append, list_all-append, ◌+◌, MAX_SAFE_INTEGER}
+use Rattle.std.specs.Ordering.{ordering_then}
+use Rattle.std.specs.declared.cmp.Ordering.{Ordering}
+use Rattle.std.specs.declared.cmp.Ordering.TheVariants.{Equal}
+use Rattle.semver_core.specs.Internal.Successors.{upto_patch, zero_least}
+use Rattle.nodejs_semver.proofs.Algebra.FlatMaps.{any_weaker}
+use Rattle.nodejs_semver.specs.Internal.NpmAlternatives.{AcceptAsRanged, AreNarrowed, nothing, ranged}
+use Rattle.nodejs_semver.specs.Internal.NpmMeaning.{IsNarrowed, counted, is_unbounded}
+use Rattle.nodejs_semver.specs.Npm.Ranges as Npm
+use Rattle.nodejs_semver.specs.Npm.Ranges.{counts, meets, names, satisfies}
+use Rattle.nodejs_semver.specs.Npm.Table.{Comparison, lowest}
+use Rattle.nodejs_semver.specs.Internal.Sets.{is_range_span}
+use Rattle.nodejs_semver.specs.Ranges.View.{IsRange, any_version}
+
+-- the span holds v, and lets it in or pre-releases are included
+abbrev lets : Bool → VersionValue → Span VersionValue → Bool
+lets include v s = holds precedence s v && (include || lets_in s v)
+
+held_let : (h l r i n : Bool) → (h ≡ true → l ≡ (r || n)) → ((h && (i || l)) || false) ≡ (h && (r || (i || n)))
+held_let h l r i n f = grind arith
+
+one_accepts : (include : Bool) (v : VersionValue) (cs : List Comparison) (o : Option (Span VersionValue)) → IsNarrowed include cs o
+    → list_any (lets include v) (option_to_list o) ≡ meets include v (counted include cs)
+one_accepts include v cs None h = sym (ap (λ (a : Bool). a && (is_release v || (include || list_any (names v) (counted include cs)))) (h v))
+one_accepts include v cs (Some s) h =
+    held_let (holds precedence s v) (lets_in s v) (is_release v) include (list_any (names v) (counted include cs)) (h.0.let_in v)
+    ∙ ap (λ (a : Bool). a && (is_release v || (include || list_any (names v) (counted include cs)))) (h.0.held v)
+
+uncounted : (include : Bool) (cs : List Comparison) → list_any (counts include) cs ≡ false → counted include cs ≡ []
+uncounted include [] h = refl
+uncounted include (c ∷ cs) h = elim (cases_Bool (counts include c)) [
+  | inl e ↦ absurd (differ (sym h ∙ ap (λ (a : Bool). a || list_any (counts include) cs) e))
+  | inr e ↦ rw e (uncounted include cs (sym (ap (λ (a : Bool). a || list_any (counts include) cs) e) ∙ h))
+]
+  where
+    differ : false ≡ true → ⊥
+    differ e = cc
+
+zero : VersionValue
+zero = lowest (0, 0, 0)
+
+one_open : (include : Bool) (cs : List Comparison) (o : Option (Span VersionValue)) → IsNarrowed include cs o
+    → list_any is_unbounded (option_to_list o) ≡ not (list_any (counts include) cs)
+one_open include cs None h = elim (cases_Bool (list_any (counts include) cs)) [
+  | inl e ↦ rw e refl
+  | inr e ↦ absurd (differ (sym (ap (λ l. list_all (satisfies zero) l) (uncounted include cs e)) ∙ h zero))
+]
+  where
+    differ : true ≡ false → ⊥
+    differ e = cc
+one_open include cs (Some s) h = grind (arith, h.0.unbounded)
+
+all_accept : (include : Bool) (v : VersionValue) (alternatives : List (List Comparison)) (os : List (Option (Span VersionValue)))
+    → AreNarrowed include alternatives os
+    → accepts (flat_map option_to_list os) v include ≡ list_any (λ cs. meets include v (counted include cs)) alternatives
+all_accept include v [] [] h = refl
+all_accept include v [] (o ∷ os) h = absurd h
+all_accept include v (cs ∷ rest) [] h = absurd h
+all_accept include v (cs ∷ rest) (o ∷ os) h =
+    list_any-append (lets include v) (option_to_list o) (flat_map option_to_list os)
+    ∙ ap₂ (λ (a b : Bool). a || b) (one_accepts include v cs o h.0) (all_accept include v rest os h.1)
+
+some_open : (include : Bool) (alternatives : List (List Comparison)) (os : List (Option (Span VersionValue)))
+    → AreNarrowed include alternatives os
+    → list_any is_unbounded (flat_map option_to_list os) ≡ list_any (λ cs. not (list_any (counts include) cs)) alternatives
+some_open include [] [] h = refl
+some_open include [] (o ∷ os) h = absurd h
+some_open include (cs ∷ rest) [] h = absurd h
+some_open include (cs ∷ rest) (o ∷ os) h =
+    list_any-append is_unbounded (option_to_list o) (flat_map option_to_list os)
+    ∙ ap₂ (λ (a b : Bool). a || b) (one_open include cs o h.0) (some_open include rest os h.1)
+
+-- no version is below `0.0.0-0`
+le_then : (r : Ordering) → is_le r ≡ true → is_le (ordering_then r Equal) ≡ true
+le_then r h = grind arith
+
+least : (v : VersionValue) → is_past precedence (Beside (lowest (0, 0, 0)) false) v ≡ true
+least v = le_then _ (upto_patch (lowest (0, 0, 0)) v (omega arith) (omega arith) (omega arith) (zero_least v.pre_release))
+
+nothing_held : (v : VersionValue) (include : Bool) → accepts (nothing ∷ []) v include ≡ false
+nothing_held v include = rw (least v) refl
+
+-- what an alternative without comparators accepts
+open_meets : (v : VersionValue) (cs : List Comparison) → not (list_any (counts true) cs) ≡ true → meets true v (counted true cs) ≡ true
+open_meets v cs h = rw (uncounted true cs (opposite _ h)) (grind arith)
+  where
+    opposite : (a : Bool) → not a ≡ true → a ≡ false
+    opposite a h = grind arith
+
+open_accepts : (include : Bool) (v : VersionValue) (alternatives : List (List Comparison))
+    → list_any (λ cs. not (list_any (counts include) cs)) alternatives ≡ true
+    → accepts any_version v include ≡ Npm.accepts include alternatives v
+open_accepts true v alternatives h = sym (any_weaker _ (λ cs. meets true v (counted true cs)) (open_meets v) alternatives h)
+open_accepts false v alternatives h = rw h (grind arith)
+
+closed_accepts : (include : Bool) (v : VersionValue) (alternatives : List (List Comparison))
+    → list_any (λ cs. not (list_any (counts include) cs)) alternatives ≡ false
+    → Npm.accepts include alternatives v ≡ list_any (λ cs. meets include v (counted include cs)) alternatives
+closed_accepts include v alternatives h = rw h (grind arith)
+
+none_or_some : (ss : List (Span VersionValue)) (v : VersionValue) (include : Bool)
+    → accepts (if is_empty ss then nothing ∷ [] else ss) v include ≡ accepts ss v include
+none_or_some [] v include = nothing_held v include
+none_or_some (s ∷ ss) v include = refl
+
+ranged_accepts : (include : Bool) (alternatives : List (List Comparison)) (os : List (Option (Span VersionValue)))
+    → AreNarrowed include alternatives os → (v : VersionValue)
+    → accepts (ranged (flat_map option_to_list os)) v include ≡ Npm.accepts include alternatives v
+ranged_accepts include alternatives os h v =
+    let ss = flat_map option_to_list os in
+    let opened = some_open include alternatives os h in
+    elim (cases_Bool (list_any is_unbounded ss)) [
+      | inl e ↦ rw e (open_accepts include v alternatives (sym opened ∙ e))
+      | inr e ↦
+          rw e (none_or_some ss v include ∙ all_accept include v alternatives os h
+          ∙ sym (closed_accepts include v alternatives (sym opened ∙ e)))
+    ]
+
+pub ranged_list : (found ss : List (Span VersionValue)) → ss ≡ ranged found → AcceptAsRanged found ss
+ranged_list found ss e include alternatives os h f v = rw (e, f) (ranged_accepts include alternatives os h v)
+
+pub ranged_kept : (found : List (Span VersionValue)) → list_any is_unbounded found ≡ false → is_empty found ≡ false → found ≡ ranged found
+ranged_kept found h k = rw (h, k) refl
+
+pub ranged_open : (found ss : List (Span VersionValue)) → list_any is_unbounded found ≡ true → ss ≡ any_version → ss ≡ ranged found
+ranged_open found ss h e = rw h e
+
+pub ranged_none : (found ss : List (Span VersionValue)) → list_any is_unbounded found ≡ false → is_empty found ≡ true
+    → ss ≡ nothing ∷ [] → ss ≡ ranged found
+ranged_none found ss h k e = rw (h, k) e
+
+-- ---- such a list of intervals is that of a range
+
+one_span : (include : Bool) (cs : List Comparison) (o : Option (Span VersionValue)) → IsNarrowed include cs o
+    → list_all (is_range_span (MAX_SAFE_INTEGER + 1)) (option_to_list o) ≡ true
+one_span include cs None h = refl
+one_span include cs (Some s) h = rw (h.1, h.0.lower, h.0.upper) refl
+
+narrowed_spans : (include : Bool) (alternatives : List (List Comparison)) (os : List (Option (Span VersionValue)))
+    → AreNarrowed include alternatives os → list_all (is_range_span (MAX_SAFE_INTEGER + 1)) (flat_map option_to_list os) ≡ true
+narrowed_spans include [] [] h = refl
+narrowed_spans include [] (o ∷ os) h = absurd h
+narrowed_spans include (cs ∷ rest) [] h = absurd h
+narrowed_spans include (cs ∷ rest) (o ∷ os) h =
+    list_all-append (is_range_span (MAX_SAFE_INTEGER + 1)) (option_to_list o) (flat_map option_to_list os)
+    ∙ ap₂ (λ (a b : Bool). a && b) (one_span include cs o h.0) (narrowed_spans include rest os h.1)
+
+pub found_spans : (include : Bool) (alternatives : List (List Comparison)) (os : List (Option (Span VersionValue)))
+    (found : List (Span VersionValue)) → AreNarrowed include alternatives os → found ≡ flat_map option_to_list os
+    → list_all (is_range_span (MAX_SAFE_INTEGER + 1)) found ≡ true
+found_spans include alternatives os found h e = rw e (narrowed_spans include alternatives os h)
+
+some_range : (found : List (Span VersionValue)) → list_all (is_range_span (MAX_SAFE_INTEGER + 1)) found ≡ true
+    → IsRange MAX_SAFE_INTEGER (if is_empty found then nothing ∷ [] else found)
+some_range [] h = record { some = omega arith; each = refl }
+some_range (s ∷ ss) h = record { some = omega arith; each = h }
+
+pub ranged_range : (found : List (Span VersionValue)) → list_all (is_range_span (MAX_SAFE_INTEGER + 1)) found ≡ true
+    → IsRange MAX_SAFE_INTEGER (ranged found)
+ranged_range found h = elim (cases_Bool (list_any is_unbounded found)) [
+  | inl e ↦ rw e (record { some = omega arith; each = refl })
+  | inr e ↦ rw e (some_range found h)
+]

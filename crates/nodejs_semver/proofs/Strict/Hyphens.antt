@@ -1,0 +1,313 @@
+-- Hyphen ranges of node-semver's range texts: the functions that read them find exactly what the statement has.
+use Rattle.nodejs_semver.proofs.Common.{◌≡◌, ◌⊎◌, ◌<◌, ◌-◌, ℕ, zero, suc, Bool, List, [], ◌∷◌, ◌++◌, length, drop, take, refl, sym, ap, ◌∙◌, arith}
+use Rattle.nodejs_semver.proofs.Common.{true, false, Some, inl, inr, ◌||◌, and_parts, append_assoc, append-nil, bind_some, cases_Bool}
+use Rattle.nodejs_semver.proofs.Common.{cond_some, eqb-true, drop_at, list_all, nat_tests, same_Some, subst, begins, IsUtf8, is_empty}
+use Rattle.nodejs_semver.proofs.Common.{drop_spaces, space_len, space_len-nil, is_whitespace}
+use Rattle.std.specs.Prelude.{encode_utf8_all}
+use Rattle.std.specs.Char.{encode_utf8, len_utf8}
+use Rattle.std.proofs.lemmas.Bool.{lt-ltb}
+use Rattle.std.proofs.lemmas.Str.{IsUtf8-past_char, encode_ascii, encode_same, len_utf8_bounds, length-encode}
+use Rattle.semver_core.specs.Text.Characters.{IsBlank}
+use Rattle.semver_core.proofs.Text.SpaceLaw.{space_len-dark, space_len-white}
+use Rattle.nodejs_semver.specs.Internal.Fronts.{after_byte}
+use Rattle.nodejs_semver.specs.Internal.NpmWords.{Ended, after_dash, after_ends, drop_ends, end_front, ended_end, hyphen_comparisons, hyphen_ends, last_end, partial_front}
+use Rattle.nodejs_semver.specs.Internal.Words.{after_some_space}
+use Rattle.nodejs_semver.specs.Npm.RangeText.{AreEndMarks, IsAlternative, IsPartial, hyphen, is_free_lower, is_free_upper, is_mark, is_one_v}
+use Rattle.nodejs_semver.specs.Npm.Table.{Partial, hyphen_lower, hyphen_upper}
+use Rattle.nodejs_semver.proofs.Dividing.MeaningLaw.{no_characters}
+use Rattle.nodejs_semver.proofs.Reading.Bytes.{begins_component, component-solid, is_solid, solid-dark}
+use Rattle.nodejs_semver.proofs.Reading.WordLaw.{byte-is, tail-utf8}
+use Rattle.nodejs_semver.proofs.Strict.PartialLaw.{partial-found, partial-read}
+use Rattle.nodejs_semver.proofs.Strict.Signs.{blank-at}
+use Rattle.nodejs_semver.proofs.Strict.SignsRead.{blank-skipped}
+use Rattle.nodejs_semver.proofs.Strict.VersionLaw.{empty-is}
+use Rattle.nodejs_semver.proofs.Strict.Words.{blank-some, blank-space, front-text, partial-begins, rest-utf8, space-boundary}
+
+-- ---- marks and whitespace at the front
+
+pub after_ends-drop : (n : ℕ) (text : List ℕ) → after_ends n text ≡ drop_ends (drop n text)
+unfolding after_ends
+after_ends-drop zero text = refl
+after_ends-drop (suc n) [] = refl
+after_ends-drop (suc n) (b ∷ rest) = after_ends-drop n rest
+
+pub ends-mark : (b : ℕ) (rest : List ℕ) → is_mark b ≡ true → drop_ends (b ∷ rest) ≡ drop_ends rest
+unfolding after_ends
+ends-mark b rest h = rw (h, after_ends) refl
+
+-- nothing more
+pub ends-stop : (b : ℕ) (rest : List ℕ) → is_mark b ≡ false → space_len (b ∷ rest) ≡ 0 → drop_ends (b ∷ rest) ≡ b ∷ rest
+unfolding after_ends
+ends-stop b rest h k = rw (h, k, after_ends) refl
+
+pub ends-space : (b : ℕ) (rest : List ℕ) (n : ℕ) → is_mark b ≡ false → space_len (b ∷ rest) ≡ suc n → drop_ends (b ∷ rest) ≡ drop_ends (drop n rest)
+unfolding after_ends
+ends-space b rest n h k = rw (h, k, after_ends) (after_ends-drop n rest)
+
+pub mark-dark : (b : ℕ) (rest : List ℕ) → is_mark b ≡ true → space_len (b ∷ rest) ≡ 0
+mark-dark b rest h = solid-dark (b ∷ rest) (grind (arith, nat_tests))
+
+pub ends-more : (text : List ℕ) → 0 < space_len text → drop_ends (drop (space_len text) text) ≡ drop_ends text
+ends-more [] some = absurd (omega (arith, some, space_len-nil))
+ends-more (b ∷ rest) some = elim (cases_Bool (is_mark b)) [
+  | inl mark ↦ absurd (omega (arith, some, mark-dark b rest mark))
+  | inr other ↦ go other (space_len (b ∷ rest)) refl some
+]
+  where
+    go : is_mark b ≡ false → (n : ℕ) → space_len (b ∷ rest) ≡ n → 0 < n → drop_ends (drop n (b ∷ rest)) ≡ drop_ends (b ∷ rest)
+    go h zero e k = absurd (omega arith)
+    go h (suc n) e k = sym (ends-space b rest n h e)
+
+pub ends-none : (text : List ℕ) → begins is_mark text ≡ false → space_len text ≡ 0 → drop_ends text ≡ text
+unfolding after_ends
+ends-none [] h k = refl
+ends-none (b ∷ rest) h k = ends-stop b rest h k
+
+-- a character
+ends-white : (c : ℕ) (rest : List ℕ) → is_whitespace c ≡ true → drop_ends (encode_utf8 c ++ rest) ≡ drop_ends rest
+ends-white c rest h =
+    let size = space_len-white c rest h in
+    let some : 0 < space_len (encode_utf8 c ++ rest) = omega (arith, size, (len_utf8_bounds c).0) in
+    sym (ends-more (encode_utf8 c ++ rest) some)
+    ∙ ap drop_ends (ap (λ n. drop n (encode_utf8 c ++ rest)) size ∙ drop_at (encode_utf8 c) rest (len_utf8 c) (length-encode c))
+
+mark-ascii : (c : ℕ) → is_mark c ≡ true → c < 128
+mark-ascii c h = grind (arith, nat_tests)
+
+abbrev is_end : ℕ → Bool
+is_end c = is_mark c || is_whitespace c
+
+ends-char : (c : ℕ) (rest : List ℕ) → is_end c ≡ true → drop_ends (encode_utf8 c ++ rest) ≡ drop_ends rest
+ends-char c rest h = elim (cases_Bool (is_mark c)) [
+  | inl mark ↦ rw (encode_ascii c (mark-ascii c mark)) (ends-mark c rest mark)
+  | inr other ↦ ends-white c rest (rw other at h)
+]
+
+ends-dark : (c : ℕ) (rest : List ℕ) → is_end c ≡ false → drop_ends (encode_utf8 c ++ rest) ≡ encode_utf8 c ++ rest
+ends-dark c rest h =
+    let none : is_whitespace c ≡ false = grind arith in
+    let other : is_mark c ≡ false = grind arith in
+    ends-none (encode_utf8 c ++ rest) (first (encode_utf8 c ++ rest) refl other) (space_len-dark c rest none)
+  where
+    first : (text : List ℕ) → encode_utf8 c ++ rest ≡ text → is_mark c ≡ false → begins is_mark text ≡ false
+    first [] e other = refl
+    first (b ∷ text) e other = elim (cases_Bool (is_mark b)) [
+      | inr plain ↦ plain
+      | inl mark ↦
+          let same = encode_same c b rest text (e ∙ rw (encode_ascii b (mark-ascii b mark)) refl) in
+          cc (mark, other, same.0)
+    ]
+
+-- what is passed
+pub record EndsAt (text : List ℕ) : Type 0 where
+  pub characters : List ℕ
+  pub each : list_all is_end characters ≡ true
+  pub split : text ≡ encode_utf8_all characters ++ drop_ends text
+  pub utf8 : IsUtf8 (drop_ends text)
+
+ends-from : (cs text : List ℕ) → IsUtf8 text → encode_utf8_all cs ≡ text → EndsAt text
+unfolding after_ends
+ends-from [] text u e = rw (← e) (record { characters = []; each = refl; split = refl; utf8 = rw (← e) at u })
+ends-from (c ∷ cs) text u e =
+    let rest = encode_utf8_all cs in
+    elim (cases_Bool (is_end c)) [
+      | inr other ↦
+          let stop : drop_ends text ≡ text = ap drop_ends (sym e) ∙ ends-dark c rest other ∙ e in
+          record { characters = []; each = refl; split = sym stop; utf8 = rw stop u }
+      | inl passed ↦
+          let step : drop_ends text ≡ drop_ends rest = ap drop_ends (sym e) ∙ ends-char c rest passed in
+          let r = ends-from cs rest (IsUtf8-past_char text rest c u (sym e)) refl in
+          record {
+            characters = c ∷ r.characters;
+            each = rw passed r.each;
+            split = sym e ∙ ap (λ (t : List ℕ). encode_utf8 c ++ t) (r.split ∙ ap (λ (t : List ℕ). encode_utf8_all r.characters ++ t) (sym step))
+                ∙ sym (append_assoc (encode_utf8 c) (encode_utf8_all r.characters) (drop_ends text));
+            utf8 = rw step r.utf8;
+          }
+    ]
+
+pub ends-found : (text : List ℕ) → IsUtf8 text → EndsAt text
+ends-found text u = ends-from u.0 text u u.1.1
+
+ends-read : (cs u : List ℕ) → list_all is_end cs ≡ true → begins is_mark u ≡ false → space_len u ≡ 0 → drop_ends (encode_utf8_all cs ++ u) ≡ u
+ends-read [] u h other dark = ends-none u other dark
+ends-read (c ∷ cs) u h other dark =
+    let each = and_parts (is_end c) (list_all is_end cs) h in
+    ap drop_ends (append_assoc (encode_utf8 c) (encode_utf8_all cs) u) ∙ ends-char c (encode_utf8_all cs ++ u) each.0
+    ∙ ends-read cs u each.1 other dark
+
+-- ---- one `v`, as characters and as bytes
+
+one-bytes : (cs : List ℕ) → is_one_v cs ≡ true → is_one_v (encode_utf8_all cs) ≡ true
+one-bytes [] h = refl
+one-bytes (c ∷ []) h =
+    let e : c ≡ 118 = eqb-true c 118 h in
+    rw (e, encode_ascii 118 (omega arith)) refl
+one-bytes (c ∷ d ∷ cs) h = cc h
+
+one-first : (text : List ℕ) → is_one_v text ≡ true → (text ≡ []) ⊎ (text ≡ 118 ∷ [])
+one-first [] h = inl refl
+one-first (b ∷ []) h = inr (ap (λ (n : ℕ). n ∷ []) (eqb-true b 118 h))
+one-first (b ∷ c ∷ text) h = cc h
+
+one-characters : (cs : List ℕ) → is_one_v (encode_utf8_all cs) ≡ true → is_one_v cs ≡ true
+one-characters [] h = refl
+one-characters (c ∷ cs) h = elim (one-first (encode_utf8_all (c ∷ cs)) h) [
+  | inl none ↦ cc (no_characters (c ∷ cs) none)
+  | inr one ↦
+      let same = encode_same c 118 (encode_utf8_all cs) [] (one ∙ rw (encode_ascii 118 (omega arith)) refl) in
+      rw (no_characters cs same.1, same.0) refl
+]
+
+-- ---- an end: what is written is read
+
+component-end : (u : List ℕ) → begins_component u ≡ true → begins is_mark u ≡ false
+component-end u h = grind (arith, nat_tests)
+
+component-dark : (u : List ℕ) → begins_component u ≡ true → space_len u ≡ 0
+component-dark u h = solid-dark u (component-solid u h)
+
+pub marks-passed : (free : Bool) (a u : List ℕ) → AreEndMarks free a → begins_component u ≡ true → drop_ends (a ++ u) ≡ u
+marks-passed free a u h k = rw h.spelled (ends-read h.characters u h.each (component-end u k) (component-dark u k))
+
+pub marks-one : (free : Bool) (a : List ℕ) → AreEndMarks free a → (free || is_one_v a) ≡ true
+marks-one true a h = refl
+marks-one false a h = rw h.spelled (one-bytes h.characters h.one)
+
+pub end-read : (free : Partial → Bool) (a x rest : List ℕ) (p : Partial) → AreEndMarks (free p) a → IsPartial x p
+    → begins is_solid rest ≡ false → end_front free (a ++ (x ++ rest)) ≡ Some ((p, a ++ x), rest)
+unfolding end_front
+end-read free a x rest p h k quiet =
+    let u = x ++ rest in
+    let passed = marks-passed (free p) a u h (partial-begins x rest p k) in
+    let text : take (length (a ++ u) - length rest) (a ++ u) ≡ a ++ x =
+    rw (append_assoc a x rest) at (front-text (a ++ x) rest) in
+    rw (passed, partial-read x rest p k quiet, front-text a u, marks-one (free p) a h, text) refl
+
+-- ---- an end: what is read is written
+
+pub record EndAt (free : Bool) (text : List ℕ) (p : Partial) (taken rest : List ℕ) : Type 0 where
+  pub marks : List ℕ
+  pub piece : List ℕ
+  pub split : text ≡ marks ++ (piece ++ rest)
+  pub are : AreEndMarks free marks
+  pub is : IsPartial piece p
+  pub text_is : taken ≡ marks ++ piece
+
+pub end-found : (free : Partial → Bool) (text : List ℕ) (e : Ended × List ℕ) → IsUtf8 text → end_front free text ≡ Some e
+    → EndAt (free e.0.0) text e.0.0 e.0.1 e.1
+unfolding end_front
+end-found free text e u h =
+    let ends = ends-found text u in
+    let behind = drop_ends text in
+    let marks = encode_utf8_all ends.characters in
+    let p = bind_some (partial_front behind) (λ p. ended_end free text behind p) e h in
+    let front = take (length text - length behind) text in
+    let taken = take (length text - length p.0.1) text in
+    let t = cond_some (free p.0.0 || is_one_v front) ((p.0.0, taken), p.0.1) e p.2 in
+    let part = partial-found behind p.0.0 p.0.1 p.1 in
+    let whole : text ≡ marks ++ (part.piece ++ p.0.1) = ends.split ∙ ap (λ (t : List ℕ). marks ++ t) part.split in
+    let front_is : front ≡ marks =
+    ap (λ (t : List ℕ). take (length t - length behind) t) ends.split ∙ front-text marks behind in
+    let taken_is : taken ≡ marks ++ part.piece =
+    ap (λ (t : List ℕ). take (length t - length p.0.1) t) (whole ∙ sym (append_assoc marks part.piece p.0.1))
+    ∙ front-text (marks ++ part.piece) p.0.1 in
+    let one : (free p.0.0 || is_one_v ends.characters) ≡ true =
+    characters-one (free p.0.0) ends.characters (subst (λ (x : List ℕ). (free p.0.0 || is_one_v x) ≡ true) front_is t.0) in
+    let are : AreEndMarks (free p.0.0) marks = record { characters = ends.characters; spelled = refl; each = ends.each; one = one } in
+    let found : EndAt (free p.0.0) text p.0.0 taken p.0.1 =
+    record { marks = marks; piece = part.piece; split = whole; are = are; is = part.is; text_is = taken_is } in
+    subst (λ (q : Ended × List ℕ). EndAt (free q.0.0) text q.0.0 q.0.1 q.1) t.1 found
+  where
+    characters-one : (free : Bool) (cs : List ℕ) → (free || is_one_v (encode_utf8_all cs)) ≡ true → (free || is_one_v cs) ≡ true
+    characters-one true cs h = refl
+    characters-one false cs h = one-characters cs h
+
+-- ---- what stands between the ends
+
+pub dash-read : (blank z : List ℕ) → IsBlank blank → 0 < length blank → 0 < space_len z → after_dash (blank ++ (45 ∷ z)) ≡ Some (drop_spaces z)
+dash-read blank z h some more =
+    let space : 0 < space_len (blank ++ (45 ∷ z)) = blank-space blank (45 ∷ z) h some in
+    let dark : space_len (45 ∷ z) ≡ 0 = solid-dark (45 ∷ z) refl in
+    rw (lt-ltb 0 (space_len (blank ++ (45 ∷ z))) space, blank-skipped blank (45 ∷ z) h dark, lt-ltb 0 (space_len z) more) refl
+
+record DashAt (text second : List ℕ) : Type 0 where
+  blank : List ℕ
+  gap : List ℕ
+  split : text ≡ blank ++ (45 ∷ (gap ++ second))
+  blank_is : IsBlank blank
+  gap_is : IsBlank gap
+  some : 0 < length blank
+  more : 0 < length gap
+  utf8 : IsUtf8 second
+
+space-taken : (text rest : List ℕ) → after_some_space text ≡ Some rest → (0 < space_len text) × (drop_spaces text ≡ rest)
+space-taken text rest h = grind (arith, nat_tests)
+
+dash-found : (text second : List ℕ) → IsUtf8 text → after_dash text ≡ Some second → DashAt text second
+dash-found text second u h =
+    let d = bind_some (after_some_space text) _ second h in
+    let g = bind_some (after_byte 45 d.0) after_some_space second d.2 in
+    let first = space-taken text d.0 d.1 in
+    let last = space-taken g.0 second g.2 in
+    let dash = byte-is 45 d.0 g.0 g.1 in
+    let x = blank-at text u in
+    let gap_utf8 = tail-utf8 45 g.0 (omega arith) (subst (λ (t : List ℕ). IsUtf8 t) (first.1 ∙ dash) x.utf8) in
+    let y = blank-at g.0 gap_utf8 in
+    record {
+      blank = x.blank;
+      gap = y.blank;
+      split = x.split ∙ ap (λ (t : List ℕ). x.blank ++ t)
+          (first.1 ∙ dash ∙ ap (λ (t : List ℕ). 45 ∷ t) (y.split ∙ ap (λ (t : List ℕ). y.blank ++ t) last.1));
+      blank_is = x.is;
+      gap_is = y.is;
+      some = blank-some text x.blank x.split first.0;
+      more = blank-some g.0 y.blank y.split last.0;
+      utf8 = subst (λ (t : List ℕ). IsUtf8 t) last.1 y.utf8;
+    }
+
+-- ---- hyphen ranges
+
+put-together : (include : Bool) (text all : List ℕ) (p q : Partial) (t u v w : List ℕ) → text ≡ all → t ≡ v → u ≡ w
+    → IsAlternative include all (hyphen_lower include p v ++ hyphen_upper include q w)
+    → IsAlternative include text (hyphen_lower include p t ++ hyphen_upper include q u)
+put-together include text all p q t u v w e f g is = rw (e, f, g) is
+
+pub hyphen-found : (include : Bool) (text : List ℕ) (e : Ended × Ended) → IsUtf8 text → hyphen_ends include text ≡ Some e
+    → IsAlternative include text (hyphen_comparisons include e)
+unfolding hyphen_ends
+hyphen-found include text e u h =
+    let free = is_free_upper include in
+    let a = bind_some (end_front is_free_lower text) _ e h in
+    let second = bind_some (after_dash a.0.1) _ e a.2 in
+    let b = bind_some (last_end free second.0) (λ b. Some (a.0.0, b)) e second.2 in
+    let l = bind_some (end_front free second.0) _ b.0 b.1 in
+    let ended = cond_some (is_empty l.0.1) l.0.0 b.0 l.2 in
+    let lower = end-found is_free_lower text a.0 u a.1 in
+    let space = bind_some (after_some_space a.0.1) _ second.0 second.1 in
+    let boundary = space-boundary a.0.1 (space-taken a.0.1 space.0 space.1).0 in
+    let front = lower.marks ++ lower.piece in
+    let whole : text ≡ front ++ a.0.1 = lower.split ∙ sym (append_assoc lower.marks lower.piece a.0.1) in
+    let v = rest-utf8 front a.0.1 (subst (λ (t : List ℕ). IsUtf8 t) whole u) boundary in
+    let dash = dash-found a.0.1 second.0 v second.1 in
+    let upper = end-found free second.0 l.0 dash.utf8 l.1 in
+    let none = empty-is l.0.1 ended.0 in
+    let last : second.0 ≡ upper.marks ++ upper.piece =
+    upper.split ∙ ap (λ (t : List ℕ). upper.marks ++ (upper.piece ++ t)) none ∙ ap (λ (t : List ℕ). upper.marks ++ t) (append-nil upper.piece) in
+    let is = hyphen lower.marks lower.piece dash.blank dash.gap upper.marks upper.piece a.0.0.0 l.0.0.0 lower.are lower.is dash.blank_is
+    dash.some dash.gap_is dash.more upper.are upper.is in
+    let text_is : text ≡ lower.marks ++ (lower.piece ++ (dash.blank ++ 45 ∷ (dash.gap ++ (upper.marks ++ upper.piece)))) =
+    lower.split ∙ ap (λ (t : List ℕ). lower.marks ++ (lower.piece ++ t))
+    (dash.split ∙ ap (λ (t : List ℕ). dash.blank ++ (45 ∷ (dash.gap ++ t))) last) in
+    let both : (a.0.0, l.0.0) ≡ e = ap (λ (x : Ended). (a.0.0, x)) ended.1 ∙ same_Some _ _ b.2 in
+    let found : IsAlternative include text (hyphen_comparisons include (a.0.0, l.0.0)) =
+    put-together include text _ a.0.0.0 l.0.0.0 a.0.0.1 l.0.0.1 front (upper.marks ++ upper.piece) text_is lower.text_is upper.text_is is in
+    subst (λ (q : Ended × Ended). IsAlternative include text (hyphen_comparisons include q)) both found
+
+-- ---- one `v` at most is no whitespace
+
+pub one-dark : (b u : List ℕ) → is_one_v b ≡ true → begins_component u ≡ true → space_len (b ++ u) ≡ 0
+one-dark b u h k = elim (one-first b h) [
+  | inl none ↦ rw none (component-dark u k)
+  | inr one ↦ rw one (mark-dark 118 u refl)
+]

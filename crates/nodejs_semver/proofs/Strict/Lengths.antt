@@ -1,0 +1,20 @@
+-- A text has no more characters than bytes, and as many as its iterator counts.
+use Rattle.std.proofs.Common.{◌≤◌, ◌<◌, ℕ, List, [], ◌∷◌, length, arith, length-append}
+use Rattle.std.specs.Char.{encode_utf8, len_utf8}
+use Rattle.std.specs.Str.{IsUtf8, chars}
+use Rattle.std.specs.Prelude.{encode_utf8_all}
+use Rattle.std.proofs.lemmas.Str.{chars_from_encodes, encodes-chars, length-encode}
+use Rattle.std.proofs.lemmas.Bool.Decides.{nat_tests}
+
+character-takes : (c : ℕ) → 0 < len_utf8 c
+character-takes c = grind (arith, nat_tests)
+
+characters-le : (cs : List ℕ) → length cs ≤ length (encode_utf8_all cs)
+characters-le [] = omega arith
+characters-le (c ∷ cs) =
+    omega (arith, length-append (encode_utf8 c) (encode_utf8_all cs), length-encode c, character-takes c, characters-le cs)
+
+pub characters-fit : (text : List ℕ) → IsUtf8 text → length (chars text) ≤ length text
+characters-fit text h = rw (encodes-chars text h) at (characters-le (chars text))
+
+pub ruleset characters_counted = (characters-fit, chars_from_encodes)

@@ -1,0 +1,88 @@
+-- Numbers without leading zeros: what is read is written, and what is written is read.
+use Rattle.std.proofs.Common.{◌≡◌, ℕ, List, [], ◌∷◌, ◌++◌, drop, refl, arith, true, false, Some, None, inl, inr, take, length, ◌-◌, sym, ◌∙◌}
+use Rattle.std.specs.Char.{is_ascii_digit}
+use Rattle.std.specs.Prelude.{◌==◌}
+use Rattle.std.proofs.lemmas.Bool.{cases_Bool, eqb-true}
+use Rattle.std.proofs.lemmas.List.{take_rest}
+use Rattle.std.specs.List.{list_all}
+use Rattle.semver_core.specs.Text.Characters.{begins, IsPieceAt, NoPieceAt}
+use Rattle.semver_core.specs.Text.Numbers.{IsWholeNumber}
+use Rattle.nodejs_semver.specs.Internal.Fronts.{Front}
+use Rattle.nodejs_semver.specs.Internal.NpmReadings.{begins_padded, dotted_number, strict_number}
+use Rattle.nodejs_semver.specs.Npm.Grammar.{IsStrictNumber, has_leading_zero}
+use Rattle.nodejs_semver.proofs.Reading.Numbers.{front_none, front_some, number-found, number-read}
+
+-- ---- the number that the code finds
+
+pub strict_padded : (limit : ℕ) (text : List ℕ) → begins_padded text ≡ true → strict_number limit text ≡ None
+unfolding strict_number
+strict_padded limit text h = rw h refl
+
+pub strict_none : (limit : ℕ) (text : List ℕ) → begins_padded text ≡ false
+    → ((n : ℕ) → NoPieceAt (λ digits rest. IsWholeNumber limit digits rest n) text 0) → strict_number limit text ≡ None
+unfolding strict_number
+strict_none limit text h none = rw h (front_none limit text none)
+
+abbrev found : ℕ → List ℕ → Front ℕ
+found n rest = Some (n, rest)
+
+pub strict_some : (limit : ℕ) (text : List ℕ) (n end : ℕ) → begins_padded text ≡ false
+    → IsPieceAt (λ digits rest. IsWholeNumber limit digits rest n) text 0 end
+    → strict_number limit text ≡ found n (take (length text - end) (drop end text))
+unfolding strict_number
+strict_some limit text n end h piece = rw (h, take_rest text end) (front_some limit text n end piece)
+
+pub ruleset numbers_found = (strict_padded, strict_none, strict_some)
+
+-- ---- a number is written where one is read, and read where one is written
+
+pub padded-same : (digits rest : List ℕ) → list_all is_ascii_digit digits ≡ true → begins is_ascii_digit rest ≡ false
+    → begins_padded (digits ++ rest) ≡ has_leading_zero digits
+padded-same [] [] h k = refl
+padded-same [] (c ∷ []) h k = refl
+padded-same [] (c ∷ d ∷ rest) h k = grind arith
+padded-same (c ∷ []) [] h k = refl
+padded-same (c ∷ []) (d ∷ rest) h k = grind arith
+padded-same (c ∷ d ∷ digits) rest h k = grind arith
+
+pub record StrictNumberAt (limit : ℕ) (text : List ℕ) (n : ℕ) (rest : List ℕ) : Type 0 where
+  pub digits : List ℕ
+  pub split : text ≡ digits ++ rest
+  pub is : IsStrictNumber limit digits n
+
+pub strict-found : (limit : ℕ) (text : List ℕ) (n : ℕ) (rest : List ℕ) → strict_number limit text ≡ Some (n, rest)
+    → StrictNumberAt limit text n rest
+unfolding strict_number
+strict-found limit text n rest h = elim (cases_Bool (begins_padded text)) [
+  | inl padded ↦ cc (rw padded at h)
+  | inr other ↦
+      let f = number-found limit text n rest (rw other at h) in
+      let e : begins_padded (f.run ++ rest) ≡ false = rw f.split at other in
+      record {
+        digits = f.run;
+        split = f.split;
+        is = record { number = f.is; shortest = sym (padded-same f.run rest f.is.each f.ended) ∙ e };
+      }
+]
+
+pub strict-read : (limit : ℕ) (digits rest : List ℕ) (n : ℕ) → IsStrictNumber limit digits n → begins is_ascii_digit rest ≡ false
+    → strict_number limit (digits ++ rest) ≡ Some (n, rest)
+unfolding strict_number
+strict-read limit digits rest n h stop =
+    rw (padded-same digits rest h.number.each stop, h.shortest) (number-read limit digits rest n h.number stop)
+
+pub dotted-found : (limit : ℕ) (text : List ℕ) (n : ℕ) (rest : List ℕ) → dotted_number limit text ≡ Some (n, rest)
+    → (digits : List ℕ) × (text ≡ 46 ∷ (digits ++ rest)) × IsStrictNumber limit digits n
+unfolding dotted_number
+dotted-found limit [] n rest h = cc h
+dotted-found limit (c ∷ t) n rest h = elim (cases_Bool (c == 46)) [
+  | inl dot ↦
+      let f = strict-found limit t n rest (rw dot at h) in
+      (f.digits, rw (eqb-true c 46 dot, ← f.split) refl, f.is)
+  | inr other ↦ cc (rw other at h)
+]
+
+pub dotted-read : (limit : ℕ) (digits rest : List ℕ) (n : ℕ) → IsStrictNumber limit digits n → begins is_ascii_digit rest ≡ false
+    → dotted_number limit (46 ∷ (digits ++ rest)) ≡ Some (n, rest)
+unfolding dotted_number
+dotted-read limit digits rest n h stop = strict-read limit digits rest n h stop

@@ -1,0 +1,250 @@
+-- The alternatives of a range text, read one after another.
+use Rattle.nodejs_semver.proofs.Common.{◌≡◌, ◌<◌, ◌≤◌, ◌+◌, ℕ, Bool, List, [], ◌∷◌, ◌++◌, length, refl, sym, ap, ◌∙◌, arith, true, false, subst, IsUtf8}
+use Rattle.nodejs_semver.proofs.Common.{Some, None, Option, append_assoc, append-nil, flat_map, length-append, option_to_list, Span, VersionValue, MAX_SAFE_INTEGER}
+use Rattle.nodejs_semver.proofs.Common.{IsCutAtBars, bind_some, if◌then◌else◌, cases_Bool, cond_some, inl, inr, list_all, map, trim}
+use Rattle.std.proofs.Common.{Err, Ok, Result}
+use Rattle.semver_core.specs.Failures.{MemoryOnlyIf, NoValue, RefusedOnlyIf}
+use Rattle.semver_core.specs.declared.error.Failure.{Failure}
+use Rattle.semver_core.specs.declared.error.Failure.TheVariants.{Memory, Refused}
+use Rattle.semver_core.specs.Internal.Reading.{◌>>?◌}
+use Rattle.nodejs_semver.specs.Internal.NpmAlternatives.{AcceptAsRanged, AreNarrowed}
+use Rattle.nodejs_semver.specs.Internal.NpmMeaning.{IsNarrowed}
+use Rattle.nodejs_semver.specs.Internal.NpmReads.{Adds, AreAllFound, AreFound, IsFound, valid_alternative, valid_alternatives}
+use Rattle.nodejs_semver.specs.Internal.NpmWords.{alternative_of, alternatives_of, valid_only}
+use Rattle.nodejs_semver.specs.Internal.PartFronts.{later_parts}
+use Rattle.nodejs_semver.specs.Internal.Parts.{cut_bars, parts}
+use Rattle.nodejs_semver.specs.Npm.Ranges.{HasAlternatives, IsRangeOf, is_valid}
+use Rattle.nodejs_semver.specs.Npm.Table.{Comparison}
+use Rattle.nodejs_semver.specs.declared.npm.alternatives.Alternative.{Alternative}
+use Rattle.nodejs_semver.proofs.Dividing.BarsDivide.{bars_once}
+use Rattle.nodejs_semver.specs.Internal.Sets.{is_range_span}
+use Rattle.nodejs_semver.proofs.Strict.Alternatives.{found_spans}
+use Rattle.nodejs_semver.proofs.Strict.RangesLaw.{alternatives_are}
+
+-- ---- one alternative more
+
+narrowed-append : (include : Bool) (ls : List (List Comparison)) (os : List (Option (Span VersionValue))) (cs : List Comparison)
+    (o : Option (Span VersionValue)) → AreNarrowed include ls os → IsNarrowed include cs o → AreNarrowed include (ls ++ cs ∷ []) (os ++ o ∷ [])
+narrowed-append include [] [] cs o h k = (k, tt)
+narrowed-append include [] (p ∷ os) cs o h k = absurd h
+narrowed-append include (c ∷ ls) [] cs o h k = absurd h
+narrowed-append include (c ∷ ls) (p ∷ os) cs o h k = (h.0, narrowed-append include ls os cs o h.1 k)
+
+flat-append : (os : List (Option (Span VersionValue))) (o : Option (Span VersionValue))
+    → flat_map option_to_list (os ++ o ∷ []) ≡ flat_map option_to_list os ++ option_to_list o
+flat-append [] o = append-nil (option_to_list o)
+flat-append (p ∷ os) o = ap (λ (l : List (Span VersionValue)). option_to_list p ++ l) (flat-append os o)
+    ∙ sym (append_assoc (option_to_list p) (flat_map option_to_list os) (option_to_list o))
+
+pub adds : (include : Bool) (text : List ℕ) (a : Alternative) (before after : List (Span VersionValue))
+    → IsFound include (valid_alternative include text) (Some a) → after ≡ before ++ option_to_list a.interval
+    → Adds include (valid_alternative include text) before after
+adds include text a before after h e = go (valid_alternative include text) h
+  where
+    go : (o : Option (List Comparison)) → IsFound include o (Some a) → Adds include o before after
+    go None k = absurd k
+    go (Some cs) k = λ ls l. record {
+      intervals = l.intervals ++ a.interval ∷ [];
+      narrowed = narrowed-append include ls l.intervals cs a.interval l.narrowed k;
+      are = e ∙ ap (λ (s : List (Span VersionValue)). s ++ option_to_list a.interval) l.are ∙ sym (flat-append l.intervals a.interval);
+    }
+
+pub none-found : (include : Bool) (text : List ℕ) → IsFound include (valid_alternative include text) None → valid_alternative include text ≡ None
+none-found include text h = go (valid_alternative include text) h
+  where
+    go : (o : Option (List Comparison)) → IsFound include o None → o ≡ None
+    go None k = refl
+    go (Some cs) k = absurd k
+
+-- ---- the alternatives, up to a rest of the text
+
+-- what was read of a text, and what is left
+pub record AreReadTo (include : Bool) (text : List ℕ) (found : List (Span VersionValue)) (rest : Option (List ℕ)) : Type 0 where
+  pub read : List (List Comparison)
+  pub are : AreFound include read found
+  pub same : valid_alternatives include (parts text) ≡ (valid_alternatives include (later_parts rest) >>? λ more. Some (read ++ more))
+  pub count : length (parts text) ≡ length read + length (later_parts rest)
+
+pub read-none : (include : Bool) (text : List ℕ) → AreReadTo include text [] (Some text)
+read-none include text = record {
+  read = [];
+  are = record { intervals = []; narrowed = tt; are = refl };
+  same = whole (valid_alternatives include (parts text));
+  count = omega arith;
+}
+  where
+    whole : (o : Option (List (List Comparison))) → o ≡ (o >>? λ ls. Some ([] ++ ls))
+    whole None = refl
+    whole (Some ls) = refl
+
+alternatives-step : (include : Bool) (part : List ℕ) (others : List (List ℕ)) → valid_alternatives include (part ∷ others)
+    ≡ (valid_alternative include part >>? λ cs. valid_alternatives include others >>? λ rest. Some (cs ∷ rest))
+unfolding valid_alternatives
+alternatives-step include part others = refl
+
+pub read-next : (include : Bool) (text : List ℕ) (found after : List (Span VersionValue)) (rest : List ℕ) (part : List ℕ)
+    (behind : Option (List ℕ)) → AreReadTo include text found (Some rest) → part ∷ later_parts behind ≡ parts rest
+    → Adds include (valid_alternative include part) found after → AreReadTo include text after behind
+read-next include text found after rest part behind h e a = go (valid_alternative include part) refl a
+  where
+    joined : (cs : List Comparison) (o : Option (List (List Comparison)))
+        → ((o >>? λ rest. Some (cs ∷ rest)) >>? λ more. Some (h.read ++ more)) ≡ (o >>? λ more. Some ((h.read ++ cs ∷ []) ++ more))
+    joined cs None = refl
+    joined cs (Some ls) = ap (λ (l : List (List Comparison)). Some l) (sym (append_assoc h.read (cs ∷ []) ls))
+
+    go : (o : Option (List Comparison)) → valid_alternative include part ≡ o → Adds include o found after → AreReadTo include text after behind
+    go None d k = absurd k
+    go (Some cs) d k =
+        let step : valid_alternatives include (parts rest) ≡ (valid_alternatives include (later_parts behind) >>? λ ls. Some (cs ∷ ls)) =
+        ap (λ (l : List (List ℕ)). valid_alternatives include l) (sym e) ∙ alternatives-step include part (later_parts behind) ∙ rw d refl in
+        record {
+          read = h.read ++ cs ∷ [];
+          are = k h.read h.are;
+          same = h.same ∙ rw step (joined cs (valid_alternatives include (later_parts behind)));
+          count = omega (arith, h.count, ap length e, length-append h.read (cs ∷ []));
+        }
+
+pub read-malformed : (include : Bool) (text : List ℕ) (found : List (Span VersionValue)) (rest : List ℕ) (part : List ℕ)
+    (behind : Option (List ℕ)) → AreReadTo include text found (Some rest) → part ∷ later_parts behind ≡ parts rest
+    → valid_alternative include part ≡ None → valid_alternatives include (parts text) ≡ None
+read-malformed include text found rest part behind h e k =
+    let step : valid_alternatives include (parts rest) ≡ None =
+    ap (λ (l : List (List ℕ)). valid_alternatives include l) (sym e) ∙ alternatives-step include part (later_parts behind) ∙ rw k refl in
+    h.same ∙ rw step refl
+
+-- the same of a call that rejects the part
+pub read-refused : {A E : Type 0} (r : Result A (Failure E)) (include : Bool) (text : List ℕ) (found : List (Span VersionValue)) (rest : List ℕ)
+    (part : List ℕ) (behind : Option (List ℕ)) → AreReadTo include text found (Some rest) → part ∷ later_parts behind ≡ parts rest
+    → RefusedOnlyIf r (valid_alternative include part ≡ None) → RefusedOnlyIf r (valid_alternatives include (parts text) ≡ None)
+read-refused (Ok v) include text found rest part behind h e k = tt
+read-refused (Err (Refused x)) include text found rest part behind h e k = read-malformed include text found rest part behind h e k
+read-refused (Err (Memory x)) include text found rest part behind h e k = tt
+
+pub read-all : (include : Bool) (text : List ℕ) (found : List (Span VersionValue)) → AreReadTo include text found None
+    → AreAllFound include (valid_alternatives include (parts text)) found
+unfolding valid_alternatives
+read-all include text found h =
+    let whole : valid_alternatives include (parts text) ≡ Some h.read = h.same ∙ ap (λ (l : List (List Comparison)). Some l) (append-nil h.read) in
+    rw whole h.are
+
+-- an interval more than there is: the text has two alternatives
+short-flat : (os : List (Option (Span VersionValue))) → length (flat_map option_to_list os) ≤ length os
+short-flat [] = omega arith
+short-flat (None ∷ os) = omega (arith, short-flat os)
+short-flat (Some s ∷ os) = omega (arith, short-flat os)
+
+narrowed-length : (include : Bool) (ls : List (List Comparison)) (os : List (Option (Span VersionValue))) → AreNarrowed include ls os
+    → length os ≡ length ls
+narrowed-length include [] [] h = refl
+narrowed-length include [] (p ∷ os) h = absurd h
+narrowed-length include (c ∷ ls) [] h = absurd h
+narrowed-length include (c ∷ ls) (p ∷ os) h = omega (arith, narrowed-length include ls os h.1)
+
+pub two-parts : (include : Bool) (text : List ℕ) (found : List (Span VersionValue)) (rest : List ℕ) (part : List ℕ)
+    (behind : Option (List ℕ)) → AreReadTo include text found (Some rest) → part ∷ later_parts behind ≡ parts rest
+    → 0 < length found → 1 < length (parts text)
+two-parts include text found rest part behind h e some =
+    omega (
+      arith,
+      h.count,
+      ap length e,
+      some,
+      ap length h.are.are,
+      short-flat h.are.intervals,
+      narrowed-length include h.read h.are.intervals h.are.narrowed,
+    )
+
+-- ---- the range of a text
+
+all-valid : (include : Bool) (texts : List (List ℕ)) → valid_alternatives include texts
+    ≡ (alternatives_of include texts >>? λ ls. if list_all (list_all (is_valid MAX_SAFE_INTEGER)) ls then Some ls else None)
+unfolding valid_alternatives valid_alternative alternatives_of
+all-valid include [] = refl
+all-valid include (text ∷ texts) = go (all-valid include texts) (alternative_of include text)
+  where
+    behind : (cs : List Comparison) (o : Option (List (List Comparison))) → list_all (is_valid MAX_SAFE_INTEGER) cs ≡ true
+        → ((o >>? λ ls. if list_all (list_all (is_valid MAX_SAFE_INTEGER)) ls then Some ls else None) >>? λ rest. Some (cs ∷ rest))
+        ≡ ((o >>? λ rest. Some (cs ∷ rest)) >>? λ ls. if list_all (list_all (is_valid MAX_SAFE_INTEGER)) ls then Some ls else None)
+    behind cs None h = refl
+    behind cs (Some ls) h = elim (cases_Bool (list_all (list_all (is_valid MAX_SAFE_INTEGER)) ls)) [
+      | inl good ↦ rw (h, good) refl
+      | inr bad ↦ rw (h, bad) refl
+    ]
+
+    invalid : (cs : List Comparison) (o : Option (List (List Comparison))) → list_all (is_valid MAX_SAFE_INTEGER) cs ≡ false
+        → None ≡ ((o >>? λ rest. Some (cs ∷ rest)) >>? λ ls. if list_all (list_all (is_valid MAX_SAFE_INTEGER)) ls then Some ls else None)
+    invalid cs None h = refl
+    invalid cs (Some ls) h = rw h refl
+
+    go : (valid_alternatives include texts
+        ≡ (alternatives_of include texts >>? λ ls. if list_all (list_all (is_valid MAX_SAFE_INTEGER)) ls then Some ls else None))
+        → (o : Option (List Comparison))
+        → ((o >>? λ cs. valid_only MAX_SAFE_INTEGER cs) >>? λ cs. valid_alternatives include texts >>? λ rest. Some (cs ∷ rest))
+        ≡ ((o >>? λ cs. alternatives_of include texts >>? λ rest. Some (cs ∷ rest))
+        >>? λ ls. if list_all (list_all (is_valid MAX_SAFE_INTEGER)) ls then Some ls else None)
+    go f None = refl
+    go f (Some cs) = elim (cases_Bool (list_all (is_valid MAX_SAFE_INTEGER) cs)) [
+      | inl good ↦ rw (good, f) (behind cs (alternatives_of include texts) good)
+      | inr bad ↦ rw bad (invalid cs (alternatives_of include texts) bad)
+    ]
+
+-- the alternatives that are read are those of the text
+pub alternatives-read : (include : Bool) (text : List ℕ) (ls : List (List Comparison)) → IsUtf8 text
+    → valid_alternatives include (parts text) ≡ Some ls → HasAlternatives MAX_SAFE_INTEGER include text ls
+alternatives-read include text ls u h =
+    let e = sym (all-valid include (parts text)) ∙ h in
+    let l = bind_some (alternatives_of include (parts text)) (λ ls. if list_all (list_all (is_valid MAX_SAFE_INTEGER)) ls then Some ls else None) ls e in
+    let k = cond_some (list_all (list_all (is_valid MAX_SAFE_INTEGER)) l.0) l.0 ls l.2 in
+    subst (λ (x : List (List Comparison)). HasAlternatives MAX_SAFE_INTEGER include text x) k.1
+    ((alternatives_are MAX_SAFE_INTEGER include text l.0 u).1 (l.1, k.0))
+
+pub none-read : (include : Bool) (text : List ℕ) → IsUtf8 text → valid_alternatives include (parts text) ≡ None
+    → NoValue (HasAlternatives MAX_SAFE_INTEGER include text)
+none-read include text u h ls has =
+    let k = (alternatives_are MAX_SAFE_INTEGER include text ls u).0 has in
+    let some : valid_alternatives include (parts text) ≡ Some ls = all-valid include (parts text) ∙ rw (k.0, k.1) refl in
+    differ ls (sym h ∙ some)
+  where
+    differ : (ls : List (List Comparison)) → ◌≡◌ {A = Option (List (List Comparison))} None (Some ls) → ⊥
+    differ ls e = cc e
+
+pub range-read : (include : Bool) (text : List ℕ) (found range : List (Span VersionValue)) → IsUtf8 text
+    → AreAllFound include (valid_alternatives include (parts text)) found → AcceptAsRanged found range
+    → IsRangeOf MAX_SAFE_INTEGER include text range
+range-read include text found range u h a = go (valid_alternatives include (parts text)) refl h
+  where
+    go : (o : Option (List (List Comparison))) → valid_alternatives include (parts text) ≡ o → AreAllFound include o found
+        → IsRangeOf MAX_SAFE_INTEGER include text range
+    go None e k = absurd k
+    go (Some ls) e k = record {
+      alternatives = ls;
+      has = alternatives-read include text ls u e;
+      accepted = a include ls k.intervals k.narrowed k.are;
+    }
+
+pub two-pieces : (text : List ℕ) → 1 < length (parts text) → (pieces : List (List ℕ)) → IsCutAtBars text pieces → 1 < length pieces
+two-pieces text h pieces cut = omega (arith, h, ap length (bars_once text pieces cut), map-length (cut_bars false text))
+  where
+    map-length : (l : List (List ℕ)) → length (map trim l) ≡ length l
+    map-length [] = refl
+    map-length (t ∷ l) = omega (arith, map-length l)
+
+pub refused-none : {A E : Type 0} (r : Result A (Failure E)) (include : Bool) (text : List ℕ) → IsUtf8 text
+    → RefusedOnlyIf r (valid_alternatives include (parts text) ≡ None) → RefusedOnlyIf r (NoValue (HasAlternatives MAX_SAFE_INTEGER include text))
+refused-none (Ok v) include text u k = tt
+refused-none (Err (Refused x)) include text u k = none-read include text u k
+refused-none (Err (Memory x)) include text u k = tt
+
+pub memory-pieces : {A E : Type 0} (r : Result A (Failure E)) (text : List ℕ) → MemoryOnlyIf r (1 < length (parts text))
+    → MemoryOnlyIf r ((pieces : List (List ℕ)) → IsCutAtBars text pieces → 1 < length pieces)
+memory-pieces (Ok v) text k = tt
+memory-pieces (Err (Refused x)) text k = tt
+memory-pieces (Err (Memory x)) text k = two-pieces text k
+
+pub all-spans : (include : Bool) (text : List ℕ) (found : List (Span VersionValue)) → AreAllFound include (valid_alternatives include (parts text)) found
+    → list_all (is_range_span (MAX_SAFE_INTEGER + 1)) found ≡ true
+all-spans include text found h = go (valid_alternatives include (parts text)) h
+  where
+    go : (o : Option (List (List Comparison))) → AreAllFound include o found → list_all (is_range_span (MAX_SAFE_INTEGER + 1)) found ≡ true
+    go None k = absurd k
+    go (Some ls) k = found_spans include ls k.intervals found k.narrowed k.are

@@ -1,0 +1,225 @@
+-- The rows of node-semver's table: the bounds that the comparators of a word have in common.
+use Rattle.nodejs_semver.proofs.Common.{◌≡◌, refl, ap, ◌∙◌, ℕ, Bool, true, false, not, List, [], ◌∷◌, ◌&&◌, ◌||◌}
+use Rattle.nodejs_semver.proofs.Common.{arith, VersionValue, Bound, Before, Unbounded, Span, greater_lower, precedence}
+use Rattle.nodejs_semver.proofs.Common.{list_all, MAX_SAFE_INTEGER, Option, cond_both, is_release, nat_tests, ◌==◌, ◌+◌, length, ◌≤◌}
+use Rattle.std.specs.Prelude.{codes, nat_le}
+use Rattle.std.specs.Str.{bytes_eq}
+use Rattle.semver_core.specs.Printing.RoundTrip.{is_readable}
+use Rattle.semver_core.specs.Printing.Text.{version_text}
+use Rattle.semver_core.specs.Values.Versions.{IsVersion}
+use Rattle.semver_core.specs.declared.TheConstants.{MAX_LENGTH}
+use Rattle.nodejs_semver.specs.Internal.NpmMeaning.{AreRead, IsCommon, is_part, is_zero}
+use Rattle.nodejs_semver.specs.Internal.NpmParts.{are_normal, npm_partial_view, npm_sign_view, within}
+use Rattle.nodejs_semver.specs.Internal.Readings.{comparator_view}
+use Rattle.nodejs_semver.specs.Npm.Ranges.{counts, is_valid}
+use Rattle.nodejs_semver.specs.Npm.Table.{Comparison, Numbers, Partial, caret, caret_from, compared, first, from, hyphen_upper, lowest}
+use Rattle.nodejs_semver.specs.Npm.Table.{made, major, minor, next, next_changed, no_build, table, tilde, under, whole}
+use Rattle.nodejs_semver.specs.Npm.Table.{wildcard}
+use Rattle.nodejs_semver.specs.Text.Table as Spans
+use Rattle.nodejs_semver.specs.Text.WordText.{Comparator, above, at_least, at_most, below, equal}
+use Rattle.nodejs_semver.specs.declared.npm.partial.Partial as Declared
+use Rattle.nodejs_semver.specs.declared.npm.partial.Partial.TheVariants as Partials
+use Rattle.nodejs_semver.specs.declared.npm.partial.Sign as DeclaredSign
+use Rattle.nodejs_semver.specs.declared.npm.partial.Sign.TheVariants as Signs
+use Rattle.nodejs_semver.specs.declared.readers.syntax.Bounds.{Bounds}
+use Rattle.nodejs_semver.specs.declared.readers.syntax.Comparator as DeclaredComparator
+use Rattle.nodejs_semver.specs.declared.readers.syntax.Comparator.TheVariants as Comparators
+use Rattle.nodejs_semver.proofs.Strict.Narrowing.{both_common, compared_span, comparison, everything, one_common, uncounted_common}
+use Rattle.nodejs_semver.proofs.Strict.Printed.{from_valid, prints_zero, under_valid}
+
+pub either_true : (a : Bool) → (a || true) ≡ true
+either_true a = grind arith
+
+zero_of : (v : VersionValue) → IsVersion v → bytes_eq (made at_least (no_build v)).text (codes "0.0.0") ≡ is_zero (no_build v)
+zero_of v h = prints_zero (no_build v) h.major h.minor h.patch
+
+-- the versions whose bounds are read
+pub whole_readable : (v : VersionValue) → within (first (whole v)) ≡ true → are_normal (whole v) ≡ true
+    → is_readable MAX_SAFE_INTEGER v ≡ true
+whole_readable v h k = grind arith
+
+lowest_readable : (n : Numbers) → within n ≡ true → is_readable MAX_SAFE_INTEGER (lowest n) ≡ true
+lowest_readable n h = whole_readable (lowest n) h refl
+
+pub from_included : (include : Bool) (v : VersionValue) → include ≡ true → within (first (whole v)) ≡ true → are_normal (whole v) ≡ true
+    → IsCommon include (made at_least (no_build v) ∷ []) (Spans.>= v)
+from_included include v h w n = one_common include at_least v [] _ (whole_readable v w n) (rw h refl)
+
+pub from_some : (include : Bool) (v : VersionValue) → IsVersion v → is_zero (no_build v) ≡ false → within (first (whole v)) ≡ true
+    → are_normal (whole v) ≡ true → IsCommon include (made at_least (no_build v) ∷ []) (Spans.>= v)
+from_some include v h e w n =
+    one_common include at_least v [] _ (whole_readable v w n) (ap (λ z. include || not z) (zero_of v h ∙ e) ∙ either_true include)
+
+pub from_none : (include : Bool) (v : VersionValue) → include ≡ false → IsVersion v → is_zero (no_build v) ≡ true
+    → IsCommon include (made at_least (no_build v) ∷ []) everything
+from_none include v i h e = uncounted_common include _ (rw i (ap not (zero_of v h ∙ e)))
+
+pub under_common : (include : Bool) (n : Numbers) → within n ≡ true → IsCommon include (under n ∷ []) (Spans.< (lowest n))
+under_common include n w = one_common include below (lowest n) [] _ (lowest_readable n w) (either_true include)
+
+open_upper : (b : Bound VersionValue) → greater_lower precedence b Unbounded ≡ b
+open_upper b = grind arith
+
+pub until_common : (include : Bool) (c : Comparison) (b : Bound VersionValue) (n : Numbers) → within n ≡ true
+    → IsCommon include (c ∷ []) (record { lower = b; upper = Unbounded })
+    → IsCommon include (c ∷ (under n ∷ [])) (record { lower = b; upper = Before (lowest n) })
+until_common include c b n w h =
+    rw (open_upper b) at (both_common include (c ∷ []) (under n ∷ []) (record { lower = b; upper = Unbounded })
+    (Spans.< (lowest n)) h (under_common include n w))
+
+pub until_valid : (c : Comparison) (n : Numbers) → is_valid MAX_SAFE_INTEGER c ≡ true → within n ≡ true
+    → list_all (is_valid MAX_SAFE_INTEGER) (c ∷ (under n ∷ [])) ≡ true
+until_valid c n h k = rw (h, under_valid n, k) refl
+
+pub until_invalid : (c : Comparison) (n : Numbers) → is_valid MAX_SAFE_INTEGER c ≡ true → within n ≡ false
+    → list_all (is_valid MAX_SAFE_INTEGER) (c ∷ (under n ∷ [])) ≡ false
+until_invalid c n h k = rw (h, under_valid n, k) refl
+
+pub under_read : (include : Bool) (n : Numbers) (s : Span VersionValue) → within n ≡ true → s ≡ Spans.< (lowest n)
+    → (list_all (is_valid MAX_SAFE_INTEGER) (under n ∷ []) ≡ true) × IsCommon include (under n ∷ []) s
+under_read include n s h e = (rw (under_valid n, h) refl, rw e (under_common include n h))
+
+-- ---- the rows of a partial of one number or two
+
+module _ (include : Bool) (text : List ℕ) (a b : Numbers) (r : Option Bounds) where
+  pub part_equal : (p : Partial) (d : DeclaredComparator.Comparator) → d ≡ Comparators.Equal → is_part p ≡ true → a ≡ first p → b ≡ next p
+      → AreRead include (from include a ∷ (under b ∷ [])) r → AreRead include (table include (compared (comparator_view d)) p text) r
+  part_equal (major M) d g i e f h = rw g (rw (e, f) at h)
+  part_equal (minor M m) d g i e f h = rw g (rw (e, f) at h)
+  part_equal wildcard d g i e f h = cc
+  part_equal (whole v) d g i e f h = cc
+
+  pub part_caret : (p : Partial) → is_part p ≡ true → a ≡ first p → b ≡ next_changed p
+      → AreRead include (from include a ∷ (under b ∷ [])) r → AreRead include (table include caret p text) r
+  part_caret (major M) i e f h = rw (e, f) at h
+  part_caret (minor M m) i e f h = rw (e, f) at h
+  part_caret wildcard i e f h = cc
+  part_caret (whole v) i e f h = cc
+
+  pub part_tilde : (p : Partial) → is_part p ≡ true → a ≡ first p → b ≡ next p
+      → AreRead include (from false a ∷ (under b ∷ [])) r → AreRead include (table include tilde p text) r
+  part_tilde (major M) i e f h = rw (e, f) at h
+  part_tilde (minor M m) i e f h = rw (e, f) at h
+  part_tilde wildcard i e f h = cc
+  part_tilde (whole v) i e f h = cc
+
+module _ (include : Bool) (text : List ℕ) (a : Numbers) (r : Option Bounds) where
+  pub part_at_least : (p : Partial) (d : DeclaredComparator.Comparator) → d ≡ Comparators.AtLeast → is_part p ≡ true → a ≡ first p
+      → AreRead include (from include a ∷ []) r → AreRead include (table include (compared (comparator_view d)) p text) r
+  part_at_least (major M) d g i e h = rw g (rw e at h)
+  part_at_least (minor M m) d g i e h = rw g (rw e at h)
+  part_at_least wildcard d g i e h = cc
+  part_at_least (whole v) d g i e h = cc
+
+  pub part_above : (p : Partial) (d : DeclaredComparator.Comparator) → d ≡ Comparators.Above → is_part p ≡ true → a ≡ next p
+      → AreRead include (from include a ∷ []) r → AreRead include (table include (compared (comparator_view d)) p text) r
+  part_above (major M) d g i e h = rw g (rw e at h)
+  part_above (minor M m) d g i e h = rw g (rw e at h)
+  part_above wildcard d g i e h = cc
+  part_above (whole v) d g i e h = cc
+
+  pub part_below : (p : Partial) (d : DeclaredComparator.Comparator) → d ≡ Comparators.Below → is_part p ≡ true → a ≡ first p
+      → AreRead include (under a ∷ []) r → AreRead include (table include (compared (comparator_view d)) p text) r
+  part_below (major M) d g i e h = rw g (rw e at h)
+  part_below (minor M m) d g i e h = rw g (rw e at h)
+  part_below wildcard d g i e h = cc
+  part_below (whole v) d g i e h = cc
+
+  pub part_at_most : (p : Partial) (d : DeclaredComparator.Comparator) → d ≡ Comparators.AtMost → is_part p ≡ true → a ≡ next p
+      → AreRead include (under a ∷ []) r → AreRead include (table include (compared (comparator_view d)) p text) r
+  part_at_most (major M) d g i e h = rw g (rw e at h)
+  part_at_most (minor M m) d g i e h = rw g (rw e at h)
+  part_at_most wildcard d g i e h = cc
+  part_at_most (whole v) d g i e h = cc
+
+  pub wildcard_above : (d : DeclaredComparator.Comparator) → d ≡ Comparators.Above → AreRead include (under (0, 0, 0) ∷ []) r
+      → AreRead include (table include (compared (comparator_view d)) wildcard text) r
+  wildcard_above d e h = rw e h
+
+  pub wildcard_below : (d : DeclaredComparator.Comparator) → d ≡ Comparators.Below → AreRead include (under (0, 0, 0) ∷ []) r
+      → AreRead include (table include (compared (comparator_view d)) wildcard text) r
+  wildcard_below d e h = rw e h
+
+-- ---- the rows of a whole version
+
+pub whole_compared : (include : Bool) (c : Comparator) (v : VersionValue) (text : List ℕ) (s : Span VersionValue)
+    → s ≡ compared_span c v → is_readable MAX_SAFE_INTEGER v ≡ true → counts include (comparison c v v.build text) ≡ true
+    → IsCommon include (comparison c v v.build text ∷ []) s
+whole_compared include c v text s e r h = rw e (one_common include c v v.build text r h)
+
+pub always : (include : Bool) → (include || not false) ≡ true
+always include = grind arith
+
+whole_valid : (c : Comparator) (v : VersionValue) (text : List ℕ) → within (first (whole v)) ≡ true → length text ≤ MAX_LENGTH
+    → list_all (is_valid MAX_SAFE_INTEGER) (comparison c v v.build text ∷ []) ≡ true
+whole_valid c v text w l = rw w (grind (arith, nat_tests))
+
+pub whole_read : (include : Bool) (d : DeclaredComparator.Comparator) (c : Comparator) (v : VersionValue) (text : List ℕ) (s : Span VersionValue)
+    → comparator_view d ≡ c → within (first (whole v)) ≡ true → length text ≤ MAX_LENGTH
+    → IsCommon include (comparison c v v.build text ∷ []) s
+    → (list_all (is_valid MAX_SAFE_INTEGER) (table include (compared (comparator_view d)) (whole v) text) ≡ true)
+    × IsCommon include (table include (compared (comparator_view d)) (whole v) text) s
+whole_read include d at_least v text s e w l h = rw e (whole_valid at_least v text w l, h)
+whole_read include d above v text s e w l h = rw e (whole_valid above v text w l, h)
+whole_read include d equal v text s e w l h = rw e (whole_valid equal v text w l, h)
+whole_read include d at_most v text s e w l h = rw e (whole_valid at_most v text w l, h)
+whole_read include d below v text s e w l h = rw e (whole_valid below v text w l, h)
+
+pub caret_valid : (include : Bool) (v : VersionValue) → within (first (whole v)) ≡ true
+    → nat_le (length (version_text (no_build v))) MAX_LENGTH ≡ true → is_valid MAX_SAFE_INTEGER (caret_from include v) ≡ true
+caret_valid include v w l =
+    cond_both (include && (is_release v && (v.major == 0))) (from true (first (whole v))) (made at_least (no_build v))
+    (λ c. is_valid MAX_SAFE_INTEGER c ≡ true) (λ _. from_valid true (first (whole v)) ∙ w) (λ _. rw (w, l) refl)
+
+pub printed_valid : (c : Comparator) (v : VersionValue) → within (first (whole v)) ≡ true
+    → nat_le (length (version_text (no_build v))) MAX_LENGTH ≡ true → is_valid MAX_SAFE_INTEGER (made c (no_build v)) ≡ true
+printed_valid c v w l = rw (w, l) refl
+
+module _ (include : Bool) (text : List ℕ) (p : Declared.Partial) (v : VersionValue) (n : Numbers) (r : Option Bounds) (e : p ≡ Partials.Whole v) where
+  pub whole_caret : n ≡ next_changed (npm_partial_view p) → AreRead include (caret_from include v ∷ (under n ∷ [])) r
+      → AreRead include (table include caret (npm_partial_view p) text) r
+  whole_caret f h =
+      let g : n ≡ next_changed (whole v) = f ∙ ap (λ q. next_changed (npm_partial_view q)) e in rw e (rw g at h)
+
+  pub whole_tilde : n ≡ next (npm_partial_view p) → AreRead include (made at_least (no_build v) ∷ (under n ∷ [])) r
+      → AreRead include (table include tilde (npm_partial_view p) text) r
+  whole_tilde f h =
+      let g : n ≡ next (whole v) = f ∙ ap (λ q. next (npm_partial_view q)) e in rw e (rw g at h)
+
+pub within_whole : (p : Declared.Partial) (v : VersionValue) → p ≡ Partials.Whole v → within (first (npm_partial_view p)) ≡ true
+    → within (first (whole v)) ≡ true
+within_whole p v e h = rw e at h
+
+-- ---- the upper end of a hyphen range of a whole version
+
+module _ (include : Bool) (v : VersionValue) (text : List ℕ) (r : Option Bounds) where
+  pub upper_under : (a b c : ℕ) → is_release v ≡ true → include ≡ true → a ≡ v.major → b ≡ v.minor → c ≡ v.patch
+      → AreRead include (under (a, b, c + 1) ∷ []) r → AreRead include (hyphen_upper include (whole v) text) r
+  upper_under a b c i j e f g h = rw (i, j) (rw (j, e, f, g) at h)
+
+  pub upper_whole : is_release v ≡ true → include ≡ false → AreRead include (table include (compared at_most) (whole v) text) r
+      → AreRead include (hyphen_upper include (whole v) text) r
+  upper_whole i j h = rw (i, j) (rw j at h)
+
+  pub upper_printed : is_release v ≡ false → AreRead include (made at_most (no_build v) ∷ []) r
+      → AreRead include (hyphen_upper include (whole v) text) r
+  upper_printed i h = rw i h
+
+pub printed_read : (include : Bool) (v : VersionValue) (s : Span VersionValue) → within (first (whole v)) ≡ true
+    → are_normal (whole v) ≡ true → nat_le (length (version_text (no_build v))) MAX_LENGTH ≡ true → s ≡ compared_span at_most v
+    → (list_all (is_valid MAX_SAFE_INTEGER) (made at_most (no_build v) ∷ []) ≡ true)
+    × IsCommon include (made at_most (no_build v) ∷ []) s
+printed_read include v s w n l e = (rw (w, l) refl, rw e (one_common include at_most v [] _ (whole_readable v w n) (always include)))
+
+-- ---- the sign
+
+module _ (include : Bool) (s : DeclaredSign.Sign) (p : Partial) (text : List ℕ) (r : Option Bounds) where
+  pub row_caret : s ≡ Signs.Caret → AreRead include (table include caret p text) r → AreRead include (table include (npm_sign_view s) p text) r
+  row_caret e h = rw e h
+
+  pub row_tilde : s ≡ Signs.Tilde → AreRead include (table include tilde p text) r → AreRead include (table include (npm_sign_view s) p text) r
+  row_tilde e h = rw e h
+
+  pub row_compared : (d : DeclaredComparator.Comparator) → s ≡ Signs.Compared d → AreRead include (table include (compared (comparator_view d)) p text) r
+      → AreRead include (table include (npm_sign_view s) p text) r
+  row_compared d e h = rw e h

@@ -1,0 +1,400 @@
+-- The signs of node-semver's words before marks and a partial version: what is written is read, or means the same.
+use Rattle.nodejs_semver.proofs.Common.{◌≡◌, ◌⊎◌, ◌<◌, ℕ, Bool, List, [], ◌∷◌, ◌++◌, length, drop, refl, ap, ◌∙◌, arith, true, false, inl, inr}
+use Rattle.nodejs_semver.proofs.Common.{◌&&◌, ◌==◌, ◌||◌, not, and_parts, append_assoc, cases_Bool, eqb-true, nat_tests, begins, list_all}
+use Rattle.nodejs_semver.proofs.Common.{drop_spaces, drop_spaces-none, space_len, is_whitespace}
+use Rattle.std.specs.Prelude.{nat_lt, encode_utf8_all, if◌then◌else◌}
+use Rattle.std.specs.Char.{encode_utf8}
+use Rattle.std.proofs.lemmas.Bool.{lt-ltb}
+use Rattle.std.proofs.lemmas.Str.{len_utf8_bounds}
+use Rattle.semver_core.specs.Text.Characters.{IsBlank}
+use Rattle.semver_core.proofs.Text.SpaceLaw.{space_len-white}
+use Rattle.semver_core.proofs.Text.Trims.{drop_spaces-blank}
+use Rattle.nodejs_semver.specs.Internal.Fronts.{begins_byte}
+use Rattle.nodejs_semver.specs.Internal.NpmWords.{npm_sign, or_late, skip_equal, skip_greater, skip_tilde}
+use Rattle.nodejs_semver.specs.Npm.RangeText.{IsSignText, are_marks, caret_equal, is_mark, is_one_v, late_above, late_below, no_sign, sign}
+use Rattle.nodejs_semver.specs.Npm.RangeText.{spelling, tilde_sign, tilde_twice}
+use Rattle.nodejs_semver.specs.Npm.Table.{Partial, Sign, caret, compared, major, minor, table, tilde, whole, wildcard}
+use Rattle.nodejs_semver.specs.Text.WordText.{Comparator, above, at_least, at_most, below, equal}
+use Rattle.nodejs_semver.proofs.Reading.Bytes.{begins_component, is_solid, solid-dark}
+
+-- ---- whitespace before marks and a partial
+
+-- the text is empty, or whitespace stands at the front of it, whatever follows
+pub blank-cases : (x : List ℕ) → IsBlank x → (x ≡ []) ⊎ ((rest : List ℕ) → 0 < space_len (x ++ rest))
+blank-cases x h = go h.characters h.each h.spelled
+  where
+    go : (cs : List ℕ) → list_all is_whitespace cs ≡ true → x ≡ encode_utf8_all cs → (x ≡ []) ⊎ ((rest : List ℕ) → 0 < space_len (x ++ rest))
+    go [] each e = inl e
+    go (c ∷ cs) each e = inr (λ rest.
+        let white = (and_parts (is_whitespace c) (list_all is_whitespace cs) each).0 in
+        let text : x ++ rest ≡ encode_utf8 c ++ (encode_utf8_all cs ++ rest) =
+        ap (λ (t : List ℕ). t ++ rest) e ∙ append_assoc (encode_utf8 c) (encode_utf8_all cs) rest in
+        omega (arith, ap space_len text ∙ space_len-white c (encode_utf8_all cs ++ rest) white, (len_utf8_bounds c).0))
+
+pub blank-skipped : (x text : List ℕ) → IsBlank x → space_len text ≡ 0 → drop_spaces (x ++ text) ≡ text
+blank-skipped x text h dark =
+    ap (λ (t : List ℕ). drop_spaces (t ++ text)) h.spelled ∙ drop_spaces-blank h.characters text h.each ∙ drop_spaces-none text dark
+
+space-byte : (c : ℕ) (text : List ℕ) → is_solid c ≡ true → 0 < space_len text → begins_byte c text ≡ false
+space-byte c [] s h = refl
+space-byte c (b ∷ rest) s h = elim (cases_Bool (b == c)) [
+  | inr other ↦ other
+  | inl same ↦ absurd (omega (arith, h, solid-dark (b ∷ rest) (rw (eqb-true b c same) s)))
+]
+
+pub blank-byte : (c : ℕ) (x text : List ℕ) → is_solid c ≡ true → IsBlank x → begins_byte c text ≡ false → begins_byte c (x ++ text) ≡ false
+blank-byte c x text s h other = elim (blank-cases x h) [
+  | inl none ↦ rw none other
+  | inr some ↦ space-byte c (x ++ text) s (some text)
+]
+
+-- ---- marks before a partial
+
+-- what stands before a partial, and the partial
+record Opens (text : List ℕ) : Type 0 where
+  dark : space_len text ≡ 0
+  greater : begins_byte 62 text ≡ false
+
+opens : (marks u : List ℕ) → list_all is_mark marks ≡ true → begins_component u ≡ true → Opens (marks ++ u)
+opens marks u h k =
+    let solid : begins is_solid (marks ++ u) ≡ true = solid-front marks u h k in
+    record { dark = solid-dark (marks ++ u) solid; greater = other-front marks u h k }
+  where
+    solid-front : (marks u : List ℕ) → list_all is_mark marks ≡ true → begins_component u ≡ true → begins is_solid (marks ++ u) ≡ true
+    solid-front [] [] h k = cc k
+    solid-front [] (b ∷ u) h k = grind (arith, nat_tests)
+    solid-front (b ∷ marks) u h k = grind (arith, nat_tests)
+
+    other-front : (marks u : List ℕ) → list_all is_mark marks ≡ true → begins_component u ≡ true → begins_byte 62 (marks ++ u) ≡ false
+    other-front [] [] h k = cc k
+    other-front [] (b ∷ u) h k = grind (arith, nat_tests)
+    other-front (b ∷ marks) u h k = grind (arith, nat_tests)
+
+component-other : (u : List ℕ) → begins_component u ≡ true → begins_byte 61 u ≡ false
+component-other u h = grind (arith, nat_tests)
+
+-- some of the marks are left
+record MarksLeft (text u : List ℕ) : Type 0 where
+  left : List ℕ
+  is : text ≡ left ++ u
+  each : list_all is_mark left ≡ true
+
+equal-left : (marks u : List ℕ) → list_all is_mark marks ≡ true → begins_component u ≡ true → MarksLeft (skip_equal (marks ++ u)) u
+equal-left [] u h k = rw (component-other u k) (record { left = []; is = refl; each = refl })
+equal-left (b ∷ marks) u h k = elim (cases_Bool (b == 61)) [
+  | inr other ↦ rw other (record { left = b ∷ marks; is = refl; each = h })
+  | inl mark ↦
+      let each = (and_parts (is_mark b) (list_all is_mark marks) h).1 in
+      rw mark (record { left = marks; is = drop_spaces-none (marks ++ u) (opens marks u each k).dark; each = each })
+]
+
+-- behind `>` and whitespace
+greater-left : (y marks u : List ℕ) → IsBlank y → list_all is_mark marks ≡ true → begins_component u ≡ true
+    → MarksLeft (skip_greater (y ++ (marks ++ u))) u
+greater-left y marks u blank h k =
+    let o = opens marks u h k in
+    elim (blank-cases y blank) [
+      | inr some ↦
+          rw (space-byte 61 (y ++ (marks ++ u)) refl (some (marks ++ u)))
+          (record { left = marks; is = blank-skipped y (marks ++ u) blank o.dark; each = h })
+      | inl none ↦ rw none (bare o.dark)
+    ]
+  where
+    bare : space_len (marks ++ u) ≡ 0 → MarksLeft (skip_greater (marks ++ u)) u
+    bare dark = elim (cases_Bool (begins_byte 61 (marks ++ u))) [
+      | inl mark ↦ (let e = equal-left marks u h k in rw mark (rw mark at e))
+      | inr other ↦ rw other (record { left = marks; is = drop_spaces-none (marks ++ u) dark; each = h })
+    ]
+
+-- ---- a sign, as it is read
+
+-- read as it is written, or with other marks, to the same comparators
+pub record SignTaken (s : Sign) (p : Partial) (marks x : List ℕ) (r : Sign × List ℕ) (u : List ℕ) : Type 0 where
+  pub left : List ℕ
+  pub is : r.1 ≡ left ++ u
+  pub marked : are_marks r.0 p left ≡ true
+  pub same : (include : Bool) → table include r.0 p (left ++ x) ≡ table include s p (marks ++ x)
+
+all-caret : (include : Bool) (p : Partial) (text other : List ℕ) → table include caret p text ≡ table include caret p other
+all-caret include wildcard text other = refl
+all-caret include (major M) text other = refl
+all-caret include (minor M m) text other = refl
+all-caret include (whole v) text other = refl
+
+all-tilde : (include : Bool) (p : Partial) (text other : List ℕ) → table include tilde p text ≡ table include tilde p other
+all-tilde include wildcard text other = refl
+all-tilde include (major M) text other = refl
+all-tilde include (minor M m) text other = refl
+all-tilde include (whole v) text other = refl
+
+caret-taken : (p : Partial) (marks x text u : List ℕ) → MarksLeft text u → SignTaken caret p marks x (caret, text) u
+caret-taken p marks x text u l =
+    record { left = l.left; is = l.is; marked = l.each; same = λ include. all-caret include p (l.left ++ x) (marks ++ x) }
+
+tilde-taken : (p : Partial) (marks x text u : List ℕ) → MarksLeft text u → SignTaken tilde p marks x (tilde, text) u
+tilde-taken p marks x text u l =
+    record { left = l.left; is = l.is; marked = l.each; same = λ include. all-tilde include p (l.left ++ x) (marks ++ x) }
+
+kept : (s : Sign) (p : Partial) (marks x text u : List ℕ) → text ≡ marks ++ u → are_marks s p marks ≡ true
+    → SignTaken s p marks x (s, text) u
+kept s p marks x text u e h = record { left = marks; is = e; marked = h; same = λ include. refl }
+
+one-marks : (marks : List ℕ) → is_one_v marks ≡ true → list_all is_mark marks ≡ true
+one-marks [] h = refl
+one-marks (b ∷ []) h = grind (arith, nat_tests)
+one-marks (b ∷ c ∷ marks) h = cc h
+
+pub marks-all : (s : Sign) (p : Partial) (marks : List ℕ) → are_marks s p marks ≡ true → list_all is_mark marks ≡ true
+marks-all (compared above) (whole v) marks h = one-marks marks h
+marks-all (compared at_least) (whole v) marks h = one-marks marks h
+marks-all (compared equal) (whole v) marks h = one-marks marks h
+marks-all (compared at_most) (whole v) marks h = one-marks marks h
+marks-all (compared below) (whole v) marks h = one-marks marks h
+marks-all (compared above) wildcard marks h = (and_parts _ _ h).0
+marks-all (compared above) (major M) marks h = (and_parts _ _ h).0
+marks-all (compared above) (minor M m) marks h = (and_parts _ _ h).0
+marks-all (compared below) wildcard marks h = (and_parts _ _ h).0
+marks-all (compared below) (major M) marks h = (and_parts _ _ h).0
+marks-all (compared below) (minor M m) marks h = (and_parts _ _ h).0
+marks-all (compared at_least) wildcard marks h = h
+marks-all (compared at_least) (major M) marks h = h
+marks-all (compared at_least) (minor M m) marks h = h
+marks-all (compared equal) wildcard marks h = h
+marks-all (compared equal) (major M) marks h = h
+marks-all (compared equal) (minor M m) marks h = h
+marks-all (compared at_most) wildcard marks h = h
+marks-all (compared at_most) (major M) marks h = h
+marks-all (compared at_most) (minor M m) marks h = h
+marks-all caret p marks h = h
+marks-all tilde p marks h = h
+
+-- `>` and `<` are followed by no `=` among the marks
+one-other : (marks u : List ℕ) → is_one_v marks ≡ true → begins_component u ≡ true → begins_byte 61 (marks ++ u) ≡ false
+one-other [] u h k = component-other u k
+one-other (b ∷ []) u h k = grind (arith, nat_tests)
+one-other (b ∷ c ∷ marks) u h k = cc h
+
+not-other : (marks u : List ℕ) → not (begins (λ b. b == 61) marks) ≡ true → begins_component u ≡ true → begins_byte 61 (marks ++ u) ≡ false
+not-other [] u h k = component-other u k
+not-other (b ∷ marks) u h k = grind (arith, nat_tests)
+
+above-other : (p : Partial) (marks u : List ℕ) → are_marks (compared above) p marks ≡ true → begins_component u ≡ true
+    → begins_byte 61 (marks ++ u) ≡ false
+above-other wildcard marks u h k = not-other marks u (and_parts _ _ h).1 k
+above-other (major M) marks u h k = not-other marks u (and_parts _ _ h).1 k
+above-other (minor M m) marks u h k = not-other marks u (and_parts _ _ h).1 k
+above-other (whole v) marks u h k = one-other marks u h k
+
+below-other : (p : Partial) (marks u : List ℕ) → are_marks (compared below) p marks ≡ true → begins_component u ≡ true
+    → begins_byte 61 (marks ++ u) ≡ false
+below-other wildcard marks u h k = not-other marks u (and_parts _ _ h).1 k
+below-other (major M) marks u h k = not-other marks u (and_parts _ _ h).1 k
+below-other (minor M m) marks u h k = not-other marks u (and_parts _ _ h).1 k
+below-other (whole v) marks u h k = one-other marks u h k
+
+-- ---- no sign
+
+equal-first : (p : Partial) (b : ℕ) (marks : List ℕ) → (b == 61) ≡ true → are_marks (compared equal) p (b ∷ marks) ≡ true
+    → (are_marks (compared equal) p marks ≡ true)
+    × ((include : Bool) (text other : List ℕ) → table include (compared equal) p text ≡ table include (compared equal) p other)
+equal-first wildcard b marks e h = ((and_parts _ _ h).1, λ include text other. refl)
+equal-first (major M) b marks e h = ((and_parts _ _ h).1, λ include text other. refl)
+equal-first (minor M m) b marks e h = ((and_parts _ _ h).1, λ include text other. refl)
+equal-first (whole v) b [] e h = cc (rw (eqb-true b 61 e) at h)
+equal-first (whole v) b (c ∷ marks) e h = cc h
+
+plain-front : (b : ℕ) (rest : List ℕ) → (is_mark b || begins_component (b ∷ rest)) ≡ true → (b == 61) ≡ false
+    → npm_sign (b ∷ rest) ≡ (compared equal, b ∷ rest)
+unfolding npm_sign
+plain-front b rest h other = grind (arith, nat_tests)
+
+equal-front : (b : ℕ) (rest : List ℕ) → (b == 61) ≡ true → npm_sign (b ∷ rest) ≡ (compared equal, drop_spaces rest)
+unfolding npm_sign
+equal-front b rest h = rw (eqb-true b 61 h) refl
+
+abbrev pub Taken : Sign → Partial → List ℕ → List ℕ → List ℕ → List ℕ → Type 0
+Taken s p marks x u text = SignTaken s p marks x (npm_sign text) u
+
+none-taken : (p : Partial) (marks x u : List ℕ) → are_marks (compared equal) p marks ≡ true → begins_component u ≡ true
+    → Taken (compared equal) p marks x u (marks ++ u)
+none-taken p [] x [] h k = cc k
+none-taken p [] x (b ∷ u) h k =
+    rw (plain-front b u (grind (arith, nat_tests)) (component-other (b ∷ u) k)) (kept (compared equal) p [] x (b ∷ u) (b ∷ u) refl h)
+none-taken p (b ∷ marks) x u h k =
+    let each = and_parts (is_mark b) (list_all is_mark marks) (marks-all (compared equal) p (b ∷ marks) h) in
+    elim (cases_Bool (b == 61)) [
+      | inr other ↦
+          rw (plain-front b (marks ++ u) (grind arith) other) (kept (compared equal) p (b ∷ marks) x (b ∷ (marks ++ u)) u refl h)
+      | inl mark ↦
+          let first = equal-first p b marks mark h in
+          rw (equal-front b (marks ++ u) mark) (record {
+            left = marks;
+            is = drop_spaces-none (marks ++ u) (opens marks u each.1 k).dark;
+            marked = first.0;
+            same = λ include. first.1 include (marks ++ x) ((b ∷ marks) ++ x);
+          })
+    ]
+
+-- ---- behind a tilde
+
+tilde-front : (rest : List ℕ) → npm_sign (126 ∷ rest) ≡ (tilde, skip_tilde rest (drop_spaces rest))
+unfolding npm_sign
+tilde-front rest = refl
+
+-- no `>` stands there
+no_greater-left : (x t : List ℕ) → IsBlank x → space_len t ≡ 0 → begins_byte 62 t ≡ false
+    → skip_tilde (x ++ t) (drop_spaces (x ++ t)) ≡ skip_equal t
+no_greater-left x t h dark other = rw (blank-skipped x t h dark, blank-byte 62 x t refl h other, other) refl
+
+dark-byte : (b : ℕ) (rest : List ℕ) → is_solid b ≡ true → space_len (b ∷ rest) ≡ 0
+dark-byte b rest h = solid-dark (b ∷ rest) h
+
+-- one `>` stands there
+one_greater-left : (x t rest : List ℕ) → IsBlank x → drop_spaces t ≡ rest → begins_byte 62 rest ≡ false
+    → skip_tilde (x ++ (62 ∷ t)) (drop_spaces (x ++ (62 ∷ t))) ≡ skip_greater t
+one_greater-left x t rest h e other = elim (blank-cases x h) [
+  | inl none ↦ rw (none, e, other) (and-none (nat_lt 0 (space_len t)))
+  | inr some ↦
+      rw (blank-skipped x (62 ∷ t) h (dark-byte 62 t refl), space-byte 62 (x ++ (62 ∷ t)) refl (some (62 ∷ t))) refl
+]
+  where
+    and-none : (b : Bool) → (if b && false then skip_greater (drop 1 rest) else skip_greater t) ≡ skip_greater t
+    and-none b = grind arith
+
+-- `~>` and one `>` more
+twice-left : (y v : List ℕ) → IsBlank y → 0 < length y
+    → skip_tilde (62 ∷ (y ++ (62 ∷ v))) (drop_spaces (62 ∷ (y ++ (62 ∷ v)))) ≡ skip_greater v
+twice-left y v h some = elim (blank-cases y h) [
+  | inl none ↦ absurd (omega (arith, some, ap length none))
+  | inr more ↦ rw (blank-skipped y (62 ∷ v) h (dark-byte 62 v refl), lt-ltb 0 (space_len (y ++ (62 ∷ v))) (more (62 ∷ v))) refl
+]
+
+tilde-above : (p : Partial) (y z marks x u : List ℕ) → IsBlank y → IsBlank z → list_all is_mark marks ≡ true → begins_component u ≡ true
+    → Taken tilde p marks x u ((126 ∷ (y ++ (62 ∷ z))) ++ (marks ++ u))
+tilde-above p y z marks x u hy hz each k =
+    let t = marks ++ u in
+    let o = opens marks u each k in
+    rw (
+      append_assoc y (62 ∷ z) t,
+      tilde-front (y ++ (62 ∷ (z ++ t))),
+      one_greater-left y (z ++ t) t hy (blank-skipped z t hz o.dark) o.greater,
+    )
+    (tilde-taken p marks x (skip_greater (z ++ t)) u (greater-left z marks u hz each k))
+
+tilde-least : (p : Partial) (y z marks x u : List ℕ) → IsBlank y → IsBlank z → list_all is_mark marks ≡ true → begins_component u ≡ true
+    → Taken tilde p marks x u ((126 ∷ (y ++ (62 ∷ (61 ∷ z)))) ++ (marks ++ u))
+tilde-least p y z marks x u hy hz each k =
+    let t = marks ++ u in
+    let v = 61 ∷ (z ++ t) in
+    rw (
+      append_assoc y (62 ∷ (61 ∷ z)) t,
+      tilde-front (y ++ (62 ∷ v)),
+      one_greater-left y v v hy (drop_spaces-none v (dark-byte 61 (z ++ t) refl)) refl,
+    )
+    (kept tilde p marks x (drop_spaces (z ++ t)) u (blank-skipped z t hz (opens marks u each k).dark) each)
+
+tilde-equal : (p : Partial) (y z marks x u : List ℕ) → IsBlank y → IsBlank z → list_all is_mark marks ≡ true → begins_component u ≡ true
+    → Taken tilde p marks x u ((126 ∷ (y ++ (61 ∷ z))) ++ (marks ++ u))
+tilde-equal p y z marks x u hy hz each k =
+    let t = marks ++ u in
+    let v = 61 ∷ (z ++ t) in
+    rw (append_assoc y (61 ∷ z) t, tilde-front (y ++ v), no_greater-left y v hy (dark-byte 61 (z ++ t) refl) refl)
+    (kept tilde p marks x (drop_spaces (z ++ t)) u (blank-skipped z t hz (opens marks u each k).dark) each)
+
+twice-above : (p : Partial) (y z marks x u : List ℕ) → IsBlank y → 0 < length y → IsBlank z → list_all is_mark marks ≡ true
+    → begins_component u ≡ true → Taken tilde p marks x u ((126 ∷ (62 ∷ (y ++ (62 ∷ z)))) ++ (marks ++ u))
+twice-above p y z marks x u hy some hz each k =
+    let t = marks ++ u in
+    rw (append_assoc y (62 ∷ z) t, tilde-front (62 ∷ (y ++ (62 ∷ (z ++ t)))), twice-left y (z ++ t) hy some)
+    (tilde-taken p marks x (skip_greater (z ++ t)) u (greater-left z marks u hz each k))
+
+twice-least : (p : Partial) (y z marks x u : List ℕ) → IsBlank y → 0 < length y → IsBlank z → list_all is_mark marks ≡ true
+    → begins_component u ≡ true → Taken tilde p marks x u ((126 ∷ (62 ∷ (y ++ (62 ∷ (61 ∷ z))))) ++ (marks ++ u))
+twice-least p y z marks x u hy some hz each k =
+    let t = marks ++ u in
+    let v = 61 ∷ (z ++ t) in
+    rw (append_assoc y (62 ∷ (61 ∷ z)) t, tilde-front (62 ∷ (y ++ (62 ∷ v))), twice-left y v hy some)
+    (kept tilde p marks x (drop_spaces (z ++ t)) u (blank-skipped z t hz (opens marks u each k).dark) each)
+
+-- ---- `>` and `<`
+
+one-read : (one two : Comparator) (y t : List ℕ) → IsBlank y → space_len t ≡ 0 → begins_byte 61 t ≡ false
+    → or_late one two (y ++ t) (drop_spaces (y ++ t)) ≡ (compared one, t)
+one-read one two y t h dark other = rw (blank-byte 61 y t refl h other, blank-skipped y t h dark, other) refl
+
+late-read : (one two : Comparator) (y t : List ℕ) → IsBlank y → space_len t ≡ 0
+    → or_late one two (y ++ (61 ∷ t)) (drop_spaces (y ++ (61 ∷ t))) ≡ (compared two, t)
+late-read one two y t h dark = elim (blank-cases y h) [
+  | inl none ↦ rw (none, drop_spaces-none t dark) refl
+  | inr some ↦ rw (space-byte 61 (y ++ (61 ∷ t)) refl (some (61 ∷ t)), blank-skipped y (61 ∷ t) h (dark-byte 61 t refl)) refl
+]
+
+above-front : (rest : List ℕ) → npm_sign (62 ∷ rest) ≡ or_late above at_least rest (drop_spaces rest)
+unfolding npm_sign
+above-front rest = refl
+
+below-front : (rest : List ℕ) → npm_sign (60 ∷ rest) ≡ or_late below at_most rest (drop_spaces rest)
+unfolding npm_sign
+below-front rest = refl
+
+caret-front : (rest : List ℕ) → npm_sign (94 ∷ rest) ≡ (caret, skip_equal (drop_spaces rest))
+unfolding npm_sign
+caret-front rest = refl
+
+-- ---- what is written is read
+
+signed-taken : (s : Sign) (p : Partial) (y marks x u : List ℕ) → IsBlank y → are_marks s p marks ≡ true → begins_component u ≡ true
+    → Taken s p marks x u ((spelling s ++ y) ++ (marks ++ u))
+signed-taken (compared at_least) p y marks x u h m k =
+    let dark = (opens marks u (marks-all (compared at_least) p marks m) k).dark in
+    rw (above-front (61 ∷ (y ++ (marks ++ u))))
+    (kept (compared at_least) p marks x (drop_spaces (y ++ (marks ++ u))) u (blank-skipped y (marks ++ u) h dark) m)
+signed-taken (compared above) p y marks x u h m k =
+    let t = marks ++ u in
+    let dark = (opens marks u (marks-all (compared above) p marks m) k).dark in
+    rw (above-front (y ++ t), one-read above at_least y t h dark (above-other p marks u m k)) (kept (compared above) p marks x t u refl m)
+signed-taken (compared equal) p y marks x u h m k =
+    let dark = (opens marks u (marks-all (compared equal) p marks m) k).dark in
+    rw (equal-front 61 (y ++ (marks ++ u)) refl)
+    (kept (compared equal) p marks x (drop_spaces (y ++ (marks ++ u))) u (blank-skipped y (marks ++ u) h dark) m)
+signed-taken (compared at_most) p y marks x u h m k =
+    let dark = (opens marks u (marks-all (compared at_most) p marks m) k).dark in
+    rw (below-front (61 ∷ (y ++ (marks ++ u))))
+    (kept (compared at_most) p marks x (drop_spaces (y ++ (marks ++ u))) u (blank-skipped y (marks ++ u) h dark) m)
+signed-taken (compared below) p y marks x u h m k =
+    let t = marks ++ u in
+    let dark = (opens marks u (marks-all (compared below) p marks m) k).dark in
+    rw (below-front (y ++ t), one-read below at_most y t h dark (below-other p marks u m k)) (kept (compared below) p marks x t u refl m)
+signed-taken caret p y marks x u h m k =
+    let dark = (opens marks u m k).dark in
+    rw (caret-front (y ++ (marks ++ u)), blank-skipped y (marks ++ u) h dark)
+    (caret-taken p marks x (skip_equal (marks ++ u)) u (equal-left marks u m k))
+signed-taken tilde p y marks x u h m k =
+    let o = opens marks u m k in
+    rw (tilde-front (y ++ (marks ++ u)), no_greater-left y (marks ++ u) h o.dark o.greater)
+    (tilde-taken p marks x (skip_equal (marks ++ u)) u (equal-left marks u m k))
+
+pub sign-taken : (signs : List ℕ) (s : Sign) (p : Partial) (marks x u : List ℕ) → IsSignText signs s → are_marks s p marks ≡ true
+    → begins_component u ≡ true → Taken s p marks x u (signs ++ (marks ++ u))
+sign-taken signs s p marks x u no_sign m k = none-taken p marks x u m k
+sign-taken signs s p marks x u (sign t y h) m k = signed-taken t p y marks x u h m k
+sign-taken signs s p marks x u (late_above y h) m k =
+    let t = marks ++ u in
+    let dark = (opens marks u (marks-all (compared at_least) p marks m) k).dark in
+    rw (append_assoc y (61 ∷ []) t, above-front (y ++ (61 ∷ t)), late-read above at_least y t h dark)
+    (kept (compared at_least) p marks x t u refl m)
+sign-taken signs s p marks x u (late_below y h) m k =
+    let t = marks ++ u in
+    let dark = (opens marks u (marks-all (compared at_most) p marks m) k).dark in
+    rw (append_assoc y (61 ∷ []) t, below-front (y ++ (61 ∷ t)), late-read below at_most y t h dark)
+    (kept (compared at_most) p marks x t u refl m)
+sign-taken signs s p marks x u (caret_equal y z h l) m k =
+    let t = marks ++ u in
+    let v = 61 ∷ (z ++ t) in
+    rw (append_assoc y (61 ∷ z) t, caret-front (y ++ v), blank-skipped y v h (dark-byte 61 (z ++ t) refl))
+    (kept caret p marks x (drop_spaces (z ++ t)) u (blank-skipped z t l (opens marks u m k).dark) m)
+sign-taken signs s p marks x u (tilde_sign c y z h l (inl e)) m k = rw e (tilde-above p y z marks x u h l m k)
+sign-taken signs s p marks x u (tilde_sign c y z h l (inr (inl e))) m k = rw e (tilde-least p y z marks x u h l m k)
+sign-taken signs s p marks x u (tilde_sign c y z h l (inr (inr e))) m k = rw e (tilde-equal p y z marks x u h l m k)
+sign-taken signs s p marks x u (tilde_twice c y z h some l (inl e)) m k = rw e (twice-above p y z marks x u h some l m k)
+sign-taken signs s p marks x u (tilde_twice c y z h some l (inr e)) m k = rw e (twice-least p y z marks x u h some l m k)

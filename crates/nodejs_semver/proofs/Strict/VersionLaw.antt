@@ -1,0 +1,142 @@
+-- Version texts of the strict reading: the function that reads them finds exactly what the statement has.
+use Rattle.std.proofs.Common.{◌≡◌, ◌≤◌, ◌⊎◌, ◌&&◌, ℕ, List, [], ◌∷◌, ◌++◌, length, append-nil, refl, sym, ap, ◌∙◌, arith, true, false, Some, None, inl, inr}
+use Rattle.std.specs.Char.{is_ascii_digit}
+use Rattle.std.specs.Str.{chars}
+use Rattle.std.specs.Prelude.{◌==◌}
+use Rattle.std.proofs.lemmas.Bool.{and_parts, cases_Bool, eqb-true}
+use Rattle.std.proofs.lemmas.Bool.Decides.{nat_tests}
+use Rattle.std.proofs.lemmas.Option.{same_Some}
+use Rattle.semver_core.specs.Failures.{NoValue}
+use Rattle.semver_core.specs.Lists.{is_empty}
+use Rattle.semver_core.specs.Text.Characters.{IsTrim, begins}
+use Rattle.semver_core.specs.Values.Versions.{VersionValue}
+use Rattle.semver_core.specs.declared.TheConstants.{MAX_LENGTH}
+use Rattle.semver_core.proofs.Text.Texts.{bind_some}
+use Rattle.semver_core.proofs.Text.Trims.{middle_is_trim}
+use Rattle.nodejs_semver.specs.Internal.Fronts.{build_front, drop_v}
+use Rattle.nodejs_semver.specs.Internal.NpmReadings.{dashed_front, dotted_number, is_strict_list, qualified_version}
+use Rattle.nodejs_semver.specs.Internal.NpmReadings.{strict_number, strict_version}
+use Rattle.nodejs_semver.specs.Npm.Grammar.{IsStrictBuild, IsStrictNumber, IsStrictPreRelease}
+use Rattle.nodejs_semver.specs.Npm.VersionText.{IsStrictVersion, IsVersionText}
+use Rattle.nodejs_semver.proofs.Strict.Numbers.{dotted-found, dotted-read, strict-found, strict-read}
+use Rattle.nodejs_semver.proofs.Strict.Qualifiers.{build-found, build-taken, dashed-found, dashed-taken, ends-nil, quiet-behind}
+
+-- ---- what is read is written
+
+pub empty-is : (t : List ℕ) → is_empty t ≡ true → t ≡ []
+empty-is [] h = refl
+empty-is (c ∷ t) h = cc h
+
+record Qualified (text : List ℕ) (v : VersionValue) (major minor patch : ℕ) : Type 0 where
+  pre : List ℕ
+  build : List ℕ
+  split : text ≡ pre ++ build
+  pre_is : IsStrictPreRelease pre v.pre_release
+  build_is : IsStrictBuild build v.build
+  numbers : (v.major ≡ major) × (v.minor ≡ minor) × (v.patch ≡ patch)
+
+qualified-found : (a b c : ℕ) (text : List ℕ) (v : VersionValue) → qualified_version a b c text ≡ Some v → Qualified text v a b c
+unfolding qualified_version
+qualified-found a b c text v h =
+    let front = dashed_front text in
+    let build = build_front front.1 in
+    elim (cases_Bool (is_empty build.1 && is_strict_list front.0)) [
+      | inr other ↦ cc (rw other at h)
+      | inl whole ↦
+          let parts = and_parts (is_empty build.1) (is_strict_list front.0) whole in
+          let p = dashed-found text parts.1 in
+          let q = build-found front.1 in
+          rw (← same_Some _ _ (rw whole at h)) (record {
+            pre = p.0;
+            build = q.0;
+            split = cc (p.1, q.1, empty-is build.1 parts.0, append-nil q.0);
+            pre_is = p.2;
+            build_is = q.2;
+            numbers = (refl, refl, refl);
+          })
+    ]
+
+number-along : (limit : ℕ) (digits : List ℕ) (n m : ℕ) → n ≡ m → IsStrictNumber limit digits m → IsStrictNumber limit digits n
+number-along limit digits n m e h = rw e h
+
+pub strict-found-version : (limit : ℕ) (text : List ℕ) (v : VersionValue) → strict_version limit text ≡ Some v → IsStrictVersion limit text v
+unfolding strict_version
+strict-found-version limit text v h =
+    let a = bind_some (strict_number limit (drop_v text)) _ v h in
+    let b = bind_some (dotted_number limit a.0.1) _ v a.2 in
+    let c = bind_some (dotted_number limit b.0.1) _ v b.2 in
+    let major = strict-found limit (drop_v text) a.0.0 a.0.1 a.1 in
+    let minor = dotted-found limit a.0.1 b.0.0 b.0.1 b.1 in
+    let patch = dotted-found limit b.0.1 c.0.0 c.0.1 c.1 in
+    let q = qualified-found a.0.0 b.0.0 c.0.0 c.0.1 v c.2 in
+    let m = marked text in
+    record {
+      mark = m.0;
+      major = major.digits;
+      minor = minor.0;
+      patch = patch.0;
+      pre_release = q.pre;
+      build = q.build;
+      divided = m.1 ∙ ap (λ (t : List ℕ). m.0 ++ t) (cc (major.split, minor.1, patch.1, q.split));
+      mark_is = m.2;
+      major_is = number-along limit _ v.major _ q.numbers.0 major.is;
+      minor_is = number-along limit _ v.minor _ q.numbers.1 minor.2;
+      patch_is = number-along limit _ v.patch _ q.numbers.2 patch.2;
+      pre_release_is = q.pre_is;
+      build_is = q.build_is;
+    }
+  where
+    marked : (t : List ℕ) → (mark : List ℕ) × (t ≡ mark ++ drop_v t) × ((mark ≡ []) ⊎ (mark ≡ 118 ∷ []))
+    marked [] = ([], refl, inl refl)
+    marked (c ∷ t) = elim (cases_Bool (c == 118)) [
+      | inl mark ↦ rw (mark) (118 ∷ [], rw (eqb-true c 118 mark) refl, inr refl)
+      | inr other ↦ rw other ([], refl, inl refl)
+    ]
+
+-- ---- what is written is read
+
+qualified-read : (p b : List ℕ) (v : VersionValue) → IsStrictPreRelease p v.pre_release → IsStrictBuild b v.build
+    → qualified_version v.major v.minor v.patch (p ++ b) ≡ Some v
+unfolding qualified_version
+qualified-read p b v h k =
+    let front = dashed-taken p b [] v.pre_release v.build h k ends-nil in
+    let build = build-taken b [] v.build k ends-nil in
+    let behind : p ++ (b ++ []) ≡ p ++ b = rw (append-nil b) refl in
+    rw (← behind, front.0, build.0, front.2, front.1, build.1) refl
+
+unmarked : (limit : ℕ) (mark digits rest : List ℕ) (n : ℕ) → (mark ≡ []) ⊎ (mark ≡ 118 ∷ []) → IsStrictNumber limit digits n
+    → drop_v (mark ++ (digits ++ rest)) ≡ digits ++ rest
+unmarked limit mark digits rest n (inr e) h = rw e refl
+unmarked limit mark [] rest n (inl e) h = absurd (omega (arith, h.number.some))
+unmarked limit mark (c ∷ digits) rest n (inl e) h = rw e (rw (digit-other c (and_parts _ _ h.number.each).0) refl)
+  where
+    digit-other : (c : ℕ) → is_ascii_digit c ≡ true → (c == 118) ≡ false
+    digit-other c h = grind (arith, nat_tests)
+
+pub strict-read-version : (limit : ℕ) (text : List ℕ) (v : VersionValue) → IsStrictVersion limit text v → strict_version limit text ≡ Some v
+unfolding strict_version
+strict-read-version limit text v h =
+    let behind = h.pre_release ++ h.build in
+    let last = h.patch ++ behind in
+    let middle = h.minor ++ (46 ∷ last) in
+    let quiet : begins is_ascii_digit behind ≡ false =
+    rw (append-nil h.build) at (quiet-behind h.pre_release h.build [] v.pre_release v.build h.pre_release_is h.build_is ends-nil) in
+    let front = unmarked limit h.mark h.major (46 ∷ middle) v.major h.mark_is h.major_is in
+    let a = strict-read limit h.major (46 ∷ middle) v.major h.major_is refl in
+    let b = dotted-read limit h.minor (46 ∷ last) v.minor h.minor_is refl in
+    let c = dotted-read limit h.patch behind v.patch h.patch_is quiet in
+    let q = qualified-read h.pre_release h.build v h.pre_release_is h.build_is in
+    rw (h.divided, front, a, b, c, q) refl
+
+-- ---- whole texts
+
+pub text_read : (limit : ℕ) (text middle : List ℕ) (v : VersionValue) → length (chars text) ≤ MAX_LENGTH → IsTrim text middle
+    → strict_version limit middle ≡ Some v → IsVersionText limit text v
+text_read limit text middle v short trimmed h =
+    record { short = short; middle = middle; trimmed = trimmed; is = strict-found-version limit middle v h }
+
+pub text_refused : (limit : ℕ) (text middle : List ℕ) → IsTrim text middle → strict_version limit middle ≡ None
+    → NoValue (IsVersionText limit text)
+text_refused limit text middle trimmed h = λ v w.
+    let same = middle_is_trim text middle trimmed ∙ sym (middle_is_trim text w.middle w.trimmed) in
+    cc (strict-read-version limit w.middle v w.is, h, same)

@@ -1,0 +1,54 @@
+-- The words that the code reads are those whose numbers are up to the limit.
+use Rattle.nodejs_semver.proofs.Common.{◌≡◌, ◌≤◌, ◌-◌, ℕ, List, length, drop, take, refl, sym, ap, ◌∙◌, arith, true, Some}
+use Rattle.nodejs_semver.proofs.Common.{None, inl, inr, ◌&&◌, cases_Bool, cond_some, length-append, list_all, take_rest, MAX_SAFE_INTEGER}
+use Rattle.std.proofs.Common.{length-drop}
+use Rattle.nodejs_semver.specs.Internal.Fronts.{Front}
+use Rattle.nodejs_semver.specs.Internal.NpmWords.{counted_front, is_small, limited, limited_word, marked_word, marks_len}
+use Rattle.nodejs_semver.specs.Internal.NpmWords.{npm_sign, partial_front, signed_word}
+use Rattle.nodejs_semver.specs.Internal.Words.{is_boundary}
+use Rattle.nodejs_semver.specs.Npm.RangeText.{are_marks, is_mark}
+use Rattle.nodejs_semver.specs.Npm.Table.{Partial, Sign}
+use Rattle.nodejs_semver.proofs.Strict.Limits.{counted_limited}
+use Rattle.nodejs_semver.proofs.Strict.PartialLaw.{partial-found}
+use Rattle.nodejs_semver.proofs.Strict.Places.{prefix-all}
+
+pub marks_all : (text : List ℕ) (at : ℕ) → at ≡ marks_len text → list_all is_mark (take at text) ≡ true
+marks_all text at e = rw e (prefix-all is_mark text)
+
+word-limited : (limit : ℕ) (s : Sign × List ℕ) (o : Front Partial) → limited_word limit (marked_word s o) ≡ marked_word s (limited limit o)
+word-limited limit s None = refl
+word-limited limit s (Some p) =
+    let test = are_marks s.0 p.0 (take (marks_len s.1) s.1) && is_boundary p.1 in
+    elim (cases_Bool test) [
+      | inl good ↦ elim (cases_Bool (is_small limit p.0)) [ inl small ↦ rw (good, small, good) refl | inr big ↦ rw (good, big) refl ]
+      | inr bad ↦ elim (cases_Bool (is_small limit p.0)) [ inl small ↦ rw (bad, small, bad) refl | inr big ↦ rw (bad, big) refl ]
+    ]
+
+-- the word of a sign and of the partial that was read behind the marks
+pub word_here : (text : List ℕ) (s : Sign × List ℕ) (at : ℕ) (o : Front Partial) → s ≡ npm_sign text → at ≡ marks_len s.1
+    → o ≡ counted_front MAX_SAFE_INTEGER (take (length s.1 - at) (drop at s.1)) → marked_word s o ≡ limited_word MAX_SAFE_INTEGER (signed_word text)
+unfolding signed_word
+word_here text s at o e is read =
+    let behind = drop at s.1 in
+    let front : o ≡ limited MAX_SAFE_INTEGER (partial_front behind) =
+    read ∙ ap (λ (t : List ℕ). counted_front MAX_SAFE_INTEGER t) (take_rest s.1 at) ∙ counted_limited MAX_SAFE_INTEGER behind in
+    let whole : signed_word text ≡ marked_word s (partial_front (drop (marks_len s.1) s.1)) = rw (← e) refl in
+    rw (front, is, whole) (sym (word-limited MAX_SAFE_INTEGER s (partial_front (drop (marks_len s.1) s.1))))
+
+-- what stands behind a partial is no longer than the text
+pub partial-le : (limit : ℕ) (text : List ℕ) (p : Partial) (rest : List ℕ) → Some (p, rest) ≡ counted_front limit text → length rest ≤ length text
+partial-le limit text p rest h = go (partial_front text) refl (h ∙ counted_limited limit text)
+  where
+    go : (o : Front Partial) → partial_front text ≡ o → Some (p, rest) ≡ limited limit o → length rest ≤ length text
+    go None e k = cc k
+    go (Some q) e k =
+        let same = cond_some (is_small limit q.0) q (p, rest) (sym k) in
+        let at_partial = partial-found text q.0 q.1 e in
+        omega (arith, ap length at_partial.split, length-append at_partial.piece q.1, ap (λ (x : Partial × List ℕ). length x.1) same.1)
+
+pub behind-le : (limit : ℕ) (text : List ℕ) (at : ℕ) (p : Partial) (rest : List ℕ)
+    → Some (p, rest) ≡ counted_front limit (take (length text - at) (drop at text)) → length rest ≤ length text
+behind-le limit text at p rest h =
+    omega (arith, partial-le limit (drop at text) p rest (h ∙ ap (λ (t : List ℕ). counted_front limit t) (take_rest text at)), length-drop at text)
+
+pub ruleset marks_found = (marks_all)

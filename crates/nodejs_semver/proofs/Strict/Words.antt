@@ -1,0 +1,222 @@
+-- The words of node-semver's range texts: the functions that read them find exactly what the statement has.
+use Rattle.nodejs_semver.proofs.Common.{◌≡◌, ◌⊎◌, ◌<◌, ◌≤◌, ◌-◌, ℕ, zero, suc, Bool, List, [], ◌∷◌, ◌++◌, length, drop, take, refl, sym, ap, ◌∙◌, arith}
+use Rattle.nodejs_semver.proofs.Common.{true, false, Some, Option, inl, inr, ◌&&◌, and_parts, append_assoc, append-nil, bind_some, cases_Bool}
+use Rattle.nodejs_semver.proofs.Common.{cond_some, drop_at, take_at, length-append, list_all, nat_tests, same_Some, subst, begins, IsUtf8, is_empty}
+use Rattle.nodejs_semver.proofs.Common.{drop_spaces, space_len}
+use Rattle.std.proofs.lemmas.Bool.{lt-ltb}
+use Rattle.std.proofs.lemmas.List.{take-append-drop}
+use Rattle.semver_core.specs.Text.Characters.{IsBlank}
+use Rattle.nodejs_semver.specs.Internal.NpmWords.{Signed, ended_word, marked_word, marks_len, npm_sign, partial_front, signed_word, word_front, words_within}
+use Rattle.nodejs_semver.specs.Internal.Words.{is_boundary}
+use Rattle.nodejs_semver.specs.Npm.RangeText as Text
+use Rattle.nodejs_semver.specs.Npm.RangeText.{AreWords, IsPartial, IsPlace, IsSignText, IsWord, are_marks, is_mark, last, more, one, spelling, three, two, word}
+use Rattle.nodejs_semver.specs.Npm.RangeText.{caret_equal, late_above, late_below, no_sign, sign, tilde_sign, tilde_twice}
+use Rattle.nodejs_semver.specs.Npm.Table.{Comparison, Partial, Sign, caret, compared, table, tilde}
+use Rattle.nodejs_semver.specs.Text.WordText.{above, at_least, at_most, below, equal}
+use Rattle.nodejs_semver.proofs.Reading.Bytes.{begins-on, begins-some, begins_component, is_component_byte, is_solid, solid-dark}
+use Rattle.nodejs_semver.proofs.Reading.Progress.{spaces-gone}
+use Rattle.nodejs_semver.proofs.Reading.WordLaw.{boundary-utf8, suffix-boundary}
+use Rattle.nodejs_semver.proofs.Strict.PartialLaw.{boundary-quiet, partial-found, partial-read}
+use Rattle.nodejs_semver.proofs.Strict.Places.{digits-begin}
+use Rattle.nodejs_semver.proofs.Strict.VersionLaw.{empty-is}
+use Rattle.nodejs_semver.proofs.Strict.Signs.{blank-at, sign-found}
+use Rattle.nodejs_semver.proofs.Strict.SignsRead.{blank-cases, blank-skipped, marks-all, sign-taken}
+
+-- ---- how partials and marks begin
+
+place-begins : (x : List ℕ) (a : Option ℕ) → IsPlace x a → begins_component x ≡ true
+place-begins x a (Text.any b h) = rw h refl
+place-begins x a (Text.number digits n k short) =
+    let digit = digits-begin digits k.number.some k.number.each in
+    grind arith
+
+pub partial-begins : (x rest : List ℕ) (p : Partial) → IsPartial x p → begins_component (x ++ rest) ≡ true
+partial-begins x rest p (one x1 a h) = begins-on is_component_byte x1 rest (place-begins x1 a h)
+partial-begins x rest p (two x1 y a b h k) =
+    begins-on is_component_byte (x1 ++ (46 ∷ y)) rest (begins-on is_component_byte x1 (46 ∷ y) (place-begins x1 a h))
+partial-begins x rest p (three x1 y z pre build a b c ids builds h k l m s n t) =
+    let behind = 46 ∷ (y ++ 46 ∷ (z ++ (pre ++ build))) in
+    begins-on is_component_byte (x1 ++ behind) rest (begins-on is_component_byte x1 behind (place-begins x1 a h))
+
+marks-counted : (marks u : List ℕ) → list_all is_mark marks ≡ true → begins_component u ≡ true → marks_len (marks ++ u) ≡ length marks
+marks-counted [] [] h k = cc k
+marks-counted [] (b ∷ u) h k = grind (arith, nat_tests)
+marks-counted (b ∷ marks) u h k =
+    let each = and_parts (is_mark b) (list_all is_mark marks) h in
+    rw each.0 (omega (arith, marks-counted marks u each.1 k))
+
+pub front-text : (front rest : List ℕ) → take (length (front ++ rest) - length rest) (front ++ rest) ≡ front
+front-text front rest = grind (arith, take_at, length-append)
+
+-- ---- one word: what is written is read
+
+marked-read : (s : Sign × List ℕ) (p : Partial) (marks x rest : List ℕ) → s.1 ≡ marks ++ (x ++ rest) → are_marks s.0 p marks ≡ true
+    → IsPartial x p → is_boundary rest ≡ true
+    → marked_word s (partial_front (drop (marks_len s.1) s.1)) ≡ Some ((s.0, p, marks ++ x), rest)
+marked-read s p marks x rest e m k b =
+    let u = x ++ rest in
+    let count = marks-counted marks u (marks-all s.0 p marks m) (partial-begins x rest p k) in
+    let read = partial-read x rest p k (boundary-quiet rest b) in
+    let text : take (length (marks ++ u) - length rest) (marks ++ u) ≡ marks ++ x =
+    rw (append_assoc marks x rest) at (front-text (marks ++ x) rest) in
+    rw (e, count, drop_at marks u (length marks) refl, read, take_at marks u (length marks) refl, m, b, text) refl
+
+pub word-read : (include : Bool) (w rest : List ℕ) (cs : List Comparison) → IsWord include w cs → is_boundary rest ≡ true
+    → word_front include (w ++ rest) ≡ Some (cs, rest)
+unfolding word_front signed_word
+word-read include w rest cs (word signs marks x s p h m k) b =
+    let u = x ++ rest in
+    let t = sign-taken signs s p marks x u h m (partial-begins x rest p k) in
+    let whole : (signs ++ (marks ++ x)) ++ rest ≡ signs ++ (marks ++ u) = simp append_assoc refl in
+    rw (whole, marked-read (npm_sign (signs ++ (marks ++ u))) p t.left x rest t.is t.marked k b, t.same include) refl
+
+-- ---- one word: what is read is written
+
+pub record WordAt (include : Bool) (text : List ℕ) (cs : List Comparison) (rest : List ℕ) : Type 0 where
+  pub piece : List ℕ
+  pub split : text ≡ piece ++ rest
+  pub is : IsWord include piece cs
+  pub ended : is_boundary rest ≡ true
+  pub utf8 : IsUtf8 rest
+
+pub rest-utf8 : (front rest : List ℕ) → IsUtf8 (front ++ rest) → is_boundary rest ≡ true → IsUtf8 rest
+rest-utf8 front rest u b = boundary-utf8 front rest u (suffix-boundary front rest u b)
+
+pub word-found : (include : Bool) (text : List ℕ) (cs : List Comparison) (rest : List ℕ) → IsUtf8 text
+    → word_front include text ≡ Some (cs, rest) → WordAt include text cs rest
+unfolding word_front signed_word
+word-found include text cs rest u h =
+    let s = npm_sign text in
+    let at_sign = sign-found text u in
+    let n = marks_len s.1 in
+    let marks = take n s.1 in
+    let w = bind_some (signed_word text) (λ w. Some (table include w.0.0 w.0.1 w.0.2, w.1)) (cs, rest) h in
+    let p = bind_some (partial_front (drop n s.1)) (λ p. ended_word s.0 s.1 n p) w.0 w.1 in
+    let whole_text = take (length s.1 - length p.0.1) s.1 in
+    let t = cond_some (are_marks s.0 p.0.0 marks && is_boundary p.0.1) ((s.0, p.0.0, whole_text), p.0.1) w.0 p.2 in
+    let tests = and_parts (are_marks s.0 p.0.0 marks) (is_boundary p.0.1) t.0 in
+    let part = partial-found (drop n s.1) p.0.0 p.0.1 p.1 in
+    let front = marks ++ part.piece in
+    let behind : s.1 ≡ front ++ p.0.1 =
+    sym (take-append-drop n s.1) ∙ ap (λ (t : List ℕ). marks ++ t) part.split ∙ sym (append_assoc marks part.piece p.0.1) in
+    let front_is : whole_text ≡ front =
+    ap (λ (t : List ℕ). take (length t - length p.0.1) t) behind ∙ front-text front p.0.1 in
+    let same : ◌≡◌ {A = List Comparison × List ℕ} (table include s.0 p.0.0 whole_text, p.0.1) (cs, rest) =
+    ap (λ (x : Signed × List ℕ). (table include x.0.0 x.0.1 x.0.2, x.1)) t.1 ∙ same_Some _ _ w.2 in
+    let split : text ≡ (at_sign.signs ++ front) ++ p.0.1 =
+    at_sign.split ∙ ap (λ (t : List ℕ). at_sign.signs ++ t) behind ∙ sym (append_assoc at_sign.signs front p.0.1) in
+    let is : IsWord include (at_sign.signs ++ front) (table include s.0 p.0.0 whole_text) =
+    rw front_is (word at_sign.signs marks part.piece s.0 p.0.0 at_sign.is tests.0 part.is) in
+    let read : WordAt include text (table include s.0 p.0.0 whole_text) p.0.1 = record {
+      piece = at_sign.signs ++ front;
+      split = split;
+      is = is;
+      ended = tests.1;
+      utf8 = rest-utf8 front p.0.1 (subst (λ (t : List ℕ). IsUtf8 t) behind at_sign.utf8) tests.1;
+    } in
+    subst (λ (q : List Comparison × List ℕ). WordAt include text q.0 q.1) same read
+
+-- ---- words
+
+sign-solid : (signs : List ℕ) (s : Sign) → IsSignText signs s → (signs ≡ []) ⊎ (begins is_solid signs ≡ true)
+sign-solid signs s no_sign = inl refl
+sign-solid signs s (sign (compared above) y h) = inr refl
+sign-solid signs s (sign (compared at_least) y h) = inr refl
+sign-solid signs s (sign (compared equal) y h) = inr refl
+sign-solid signs s (sign (compared at_most) y h) = inr refl
+sign-solid signs s (sign (compared below) y h) = inr refl
+sign-solid signs s (sign caret y h) = inr refl
+sign-solid signs s (sign tilde y h) = inr refl
+sign-solid signs s (late_above y h) = inr refl
+sign-solid signs s (late_below y h) = inr refl
+sign-solid signs s (caret_equal y z h k) = inr refl
+sign-solid signs s (tilde_sign c y z h k which) = inr refl
+sign-solid signs s (tilde_twice c y z h some k which) = inr refl
+
+marks-solid : (marks u : List ℕ) → list_all is_mark marks ≡ true → begins_component u ≡ true → begins is_solid (marks ++ u) ≡ true
+marks-solid [] [] h k = cc k
+marks-solid [] (b ∷ u) h k = grind (arith, nat_tests)
+marks-solid (b ∷ marks) u h k = grind (arith, nat_tests)
+
+pub word-solid : (include : Bool) (w : List ℕ) (cs : List Comparison) → IsWord include w cs → begins is_solid w ≡ true
+word-solid include w cs (word signs marks x s p h m k) =
+    let u : begins_component x ≡ true = rw (append-nil x) at (partial-begins x [] p k) in
+    elim (sign-solid signs s h) [
+      | inl none ↦ rw none (marks-solid marks x (marks-all s p marks m) u)
+      | inr solid ↦ begins-on is_solid signs (marks ++ x) solid
+    ]
+
+pub words-solid : (include : Bool) (text : List ℕ) (cs : List Comparison) → AreWords include text cs → begins is_solid text ≡ true
+words-solid include text cs (last t ds h) = word-solid include t ds h
+words-solid include text cs (more t blank rest ds es h hb some k) =
+    begins-on is_solid t (blank ++ rest) (word-solid include t ds h)
+
+pub blank-space : (blank rest : List ℕ) → IsBlank blank → 0 < length blank → 0 < space_len (blank ++ rest)
+blank-space blank rest h some = elim (blank-cases blank h) [
+  | inl none ↦ absurd (omega (arith, some, ap length none))
+  | inr white ↦ white rest
+]
+
+pub space-boundary : (text : List ℕ) → 0 < space_len text → is_boundary text ≡ true
+unfolding is_boundary
+space-boundary [] h = refl
+space-boundary (b ∷ text) h = rw (lt-ltb 0 (space_len (b ∷ text)) h) refl
+
+pub blank-boundary : (blank rest : List ℕ) → IsBlank blank → 0 < length blank → is_boundary (blank ++ rest) ≡ true
+blank-boundary blank rest h some = space-boundary (blank ++ rest) (blank-space blank rest h some)
+
+not-empty : (blank rest : List ℕ) → 0 < length blank → is_empty (blank ++ rest) ≡ false
+not-empty [] rest some = absurd (omega arith)
+not-empty (b ∷ blank) rest some = refl
+
+nil-boundary : is_boundary [] ≡ true
+unfolding is_boundary
+nil-boundary = refl
+
+pub words-read : (include : Bool) (n : ℕ) (text : List ℕ) (cs : List Comparison) → AreWords include text cs → length text ≤ n
+    → words_within include n text ≡ Some cs
+unfolding words_within
+words-read include zero text cs h le =
+    absurd (omega (arith, le, begins-some is_solid text (words-solid include text cs h)))
+words-read include (suc n) text cs (last t ds h) le =
+    let read : word_front include t ≡ Some (ds, []) = rw (append-nil t) at (word-read include t [] ds h nil-boundary) in
+    rw read refl
+words-read include (suc n) text cs (more t blank rest ds es h hb some k) le =
+    let read = word-read include t (blank ++ rest) ds h (blank-boundary blank rest hb some) in
+    let dark = solid-dark rest (words-solid include rest es k) in
+    let shorter : length rest ≤ n = omega (arith, le, length-append t (blank ++ rest), length-append blank rest, some) in
+    rw (read, not-empty blank rest some, blank-skipped blank rest hb dark, words-read include n rest es k shorter) refl
+
+some-space : (text : List ℕ) → is_boundary text ≡ true → is_empty text ≡ false → 0 < space_len text
+unfolding is_boundary
+some-space text h k = grind (arith, nat_tests)
+
+pub blank-some : (text blank : List ℕ) → text ≡ blank ++ drop_spaces text → 0 < space_len text → 0 < length blank
+blank-some text [] e some = absurd (omega (arith, some, ap space_len e, spaces-gone 0 text))
+blank-some text (b ∷ blank) e some = omega arith
+
+pub words-found : (include : Bool) (n : ℕ) (text : List ℕ) (cs : List Comparison) → IsUtf8 text → words_within include n text ≡ Some cs
+    → AreWords include text cs
+unfolding words_within
+words-found include zero text cs u h = cc h
+words-found include (suc n) text cs u h =
+    let w = bind_some (word_front include text) _ cs h in
+    let at_word = word-found include text w.0.0 w.0.1 u w.1 in
+    elim (cases_Bool (is_empty w.0.1)) [
+      | inl ended ↦
+          let e : text ≡ at_word.piece = at_word.split ∙ ap (λ (t : List ℕ). at_word.piece ++ t) (empty-is w.0.1 ended)
+          ∙ append-nil at_word.piece in
+          let is : AreWords include at_word.piece w.0.0 = last at_word.piece w.0.0 at_word.is in
+          let same : w.0.0 ≡ cs = same_Some _ _ (rw ended at w.2) in
+          subst (λ (ds : List Comparison). AreWords include text ds) same
+          (subst (λ (t : List ℕ). AreWords include t w.0.0) (sym e) is)
+      | inr goes ↦
+          let rest = drop_spaces w.0.1 in
+          let d = bind_some (words_within include n rest) (λ ds. Some (w.0.0 ++ ds)) cs (rw goes at w.2) in
+          let x = blank-at w.0.1 at_word.utf8 in
+          let some = blank-some w.0.1 x.blank x.split (some-space w.0.1 at_word.ended goes) in
+          let e : text ≡ at_word.piece ++ (x.blank ++ rest) = at_word.split ∙ ap (λ (t : List ℕ). at_word.piece ++ t) x.split in
+          let is = more at_word.piece x.blank rest w.0.0 d.0 at_word.is x.is some (words-found include n rest d.0 x.utf8 d.1) in
+          subst (λ (ds : List Comparison). AreWords include text ds) (same_Some _ _ d.2)
+          (subst (λ (t : List ℕ). AreWords include t (w.0.0 ++ d.0)) (sym e) is)
+    ]

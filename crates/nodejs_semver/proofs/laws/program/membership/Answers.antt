@@ -1,0 +1,35 @@
+use Rattle.std.proofs.Common.{◌≡◌, ◌∷◌, ◌<◌, ◌↔◌, [], IsTrue, List, arith, ap, length, subst, IsUtf8, ℕ}
+use Rattle.std.specs.Prelude.{Err}
+use Rattle.semver_core.specs.Cuts.{Span}
+use Rattle.semver_core.specs.Failures.{MemoryOnlyIf, RefusedOnlyIf}
+use Rattle.semver_core.specs.Values.Versions.{VersionValue}
+use Rattle.semver_core.specs.declared.TheConstants.{MAX_SAFE_INTEGER}
+use Rattle.semver_core.specs.declared.error.Failure.{Failure}
+use Rattle.semver_core.specs.declared.error.Failure.TheVariants.{Memory, Refused}
+use Rattle.semver_core.specs.declared.error.SemverError.{SemverError}
+use Rattle.nodejs_semver.specs.Text.Meaning.{Means}
+use Rattle.nodejs_semver.specs.Text.WrittenSet.{Writes}
+use Rattle.nodejs_semver.proofs.Dividing.MeaningLaw.{same_meaning}
+use Rattle.nodejs_semver.proofs.laws.program.membership.Goals as goal
+
+-- a text that means one interval is read
+one-is-read : (A : Type 0) (limit : ℕ) (text : List ℕ) (s : Span VersionValue) → IsUtf8 text → Means limit text (s ∷ [])
+    → (e : Failure SemverError) → RefusedOnlyIf {A = A} (Err e) (Means limit text [])
+    → MemoryOnlyIf {A = A} (Err e) ((r : List (Span VersionValue)) → Means limit text r → 1 < length r) → ⊥
+one-is-read A limit text s u m (Refused e) r h = omega (arith, ap length (same_meaning limit text (s ∷ []) [] u m r))
+one-is-read A limit text s u m (Memory e) r h = omega (arith, h (s ∷ []) m)
+
+pub returns-in_err-range-clause-answered : goal.returns-in_err-range-clause-answered
+returns-in_err-range-clause-answered c = λ s w m p.
+    absurd (one-is-read VersionValue MAX_SAFE_INTEGER c.args.a.now s c.utf8.a m c.in_err-range.field-0.0 c.in_err-range.ensures.refused
+    c.in_err-range.ensures.memory)
+
+pub returns-in_err-version-clause-answered : goal.returns-in_err-version-clause-answered
+returns-in_err-version-clause-answered c = λ s w m p. absurd (c.in_err-version.ensures.refused w p)
+
+pub returns-clause-member : goal.returns-clause-member
+returns-clause-member c = λ w p.
+    let v = c.in_ok-version.version in
+    let same : v ≡ w = c.one_reading.ensures MAX_SAFE_INTEGER v w c.in_ok-version.ensures.ok.reads p.reads in
+    subst (λ (x : VersionValue). IsTrue c.satisfies_with_prerelease.result ↔ Writes MAX_SAFE_INTEGER c.args.a.now x) same
+    (rw c.satisfies_with_prerelease.ensures.gate (c.in_ok-range.ensures.set v))

@@ -1,0 +1,9 @@
+use Rattle.std.proofs.Common.{arith}
+use Rattle.nodejs_semver.proofs.Strict.Alternatives.{ranged_range}
+use Rattle.nodejs_semver.proofs.Values.{spans_same}
+use Rattle.nodejs_semver.proofs.npm.alternatives.range_of.Goals as goal
+
+pub of_some-requires : goal.of_some-requires
+of_some-requires c =
+    let range = ranged_range c.args.intervals.items c.requires in
+    (omega arith, (omega arith, rw (spans_same c.ranged.result.items, c.ranged.ensures.value) range))

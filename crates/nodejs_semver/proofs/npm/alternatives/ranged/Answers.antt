@@ -1,0 +1,38 @@
+use Rattle.std.proofs.Common.{[], arith, false, rules, true, ◌∷◌, ◌≡◌}
+use Rattle.std.proofs.lemmas.Grind.{common_steps}
+use Rattle.std.specs.List.{list_any}
+use Rattle.semver_core.specs.Lists.{is_empty}
+use Rattle.nodejs_semver.specs.Internal.NpmAlternatives.{nothing}
+use Rattle.nodejs_semver.specs.Internal.NpmMeaning.{is_unbounded}
+use Rattle.nodejs_semver.specs.Ranges.View.{any_version}
+use Rattle.nodejs_semver.proofs.Strict.Alternatives.{ranged_kept, ranged_list, ranged_none, ranged_open}
+use Rattle.nodejs_semver.proofs.npm.alternatives.ranged.Goals as goal
+
+pub returns-then-is_some_unbounded-clause-accepts : goal.returns-then-is_some_unbounded-clause-accepts
+returns-then-is_some_unbounded-clause-accepts c =
+    let found = c.args.intervals.items in
+    let some : list_any is_unbounded found ≡ true = first_of (search rules, grind (arith, common_steps)) in
+    let one : c.one.result.items ≡ any_version = first_of (search rules, grind (arith, common_steps)) in
+    ranged_list found c.one.result.items (ranged_open found c.one.result.items some one)
+
+pub returns-then-is_empty-clause-accepts : goal.returns-then-is_empty-clause-accepts
+returns-then-is_empty-clause-accepts c =
+    let found = c.args.intervals.items in
+    let some : list_any is_unbounded found ≡ false = first_of (search rules, grind (arith, common_steps)) in
+    let none : is_empty found ≡ true = first_of (search rules, grind (arith, common_steps)) in
+    let one : c.one-then-is_empty.result.items ≡ nothing ∷ [] = first_of (search rules, grind (arith, common_steps)) in
+    ranged_list found c.one-then-is_empty.result.items (ranged_none found c.one-then-is_empty.result.items some none one)
+
+pub returns-clause-value : goal.returns-clause-value
+returns-clause-value c =
+    let found = c.args.intervals.items in
+    let some : list_any is_unbounded found ≡ false = first_of (search rules, grind (arith, common_steps)) in
+    let none : is_empty found ≡ false = first_of (search rules, grind (arith, common_steps)) in
+    ranged_kept found some none
+
+pub returns-clause-accepts : goal.returns-clause-accepts
+returns-clause-accepts c =
+    let found = c.args.intervals.items in
+    let some : list_any is_unbounded found ≡ false = first_of (search rules, grind (arith, common_steps)) in
+    let none : is_empty found ≡ false = first_of (search rules, grind (arith, common_steps)) in
+    ranged_list found found (ranged_kept found some none)

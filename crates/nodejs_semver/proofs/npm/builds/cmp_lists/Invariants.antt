@@ -1,0 +1,10 @@
+use Rattle.std.proofs.Common.{◌≡◌, length}
+use Rattle.std.specs.Cmp.Lexicographic.{slice_cmp}
+use Rattle.semver_core.specs.Values.Order.{id_cmp}
+use Rattle.nodejs_semver.proofs.npm.builds.cmp_lists.Given as goal
+
+abbrev pub invariant-ids : goal.invariant-ids
+invariant-ids l = slice_cmp id_cmp l.initial.left l.initial.right ≡ slice_cmp id_cmp l.left l.right
+
+abbrev pub decreases-ids : goal.decreases-ids
+decreases-ids l = length l.left

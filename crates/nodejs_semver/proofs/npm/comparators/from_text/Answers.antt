@@ -1,0 +1,22 @@
+use Rattle.std.proofs.Common.{ap, arith, false, not, refl, ◌∙◌, ◌≡◌, ◌||◌}
+use Rattle.std.proofs.lemmas.Grind.{common_steps}
+use Rattle.std.specs.Prelude.{codes}
+use Rattle.std.specs.Str.{bytes_eq}
+use Rattle.nodejs_semver.specs.Text.WordText.{at_least}
+use Rattle.nodejs_semver.proofs.Strict.Narrowing.{one_common}
+use Rattle.nodejs_semver.proofs.Strict.Rows.{either_true, whole_readable}
+use Rattle.nodejs_semver.proofs.npm.comparators.from_text.Goals as goal
+
+pub returns-then-include : goal.returns-then-include
+returns-then-include c =
+    let v = c.args.version.now in
+    rw c.copy.ensures (one_common c.args.include at_least v v.build c.args.text.now
+    (whole_readable v c.requires.within c.requires.normal) (rw c.if-include.true refl))
+
+pub returns : goal.returns
+returns c =
+    let v = c.args.version.now in
+    let other : bytes_eq c.args.text.now (codes "0.0.0") ≡ false = grind (arith, common_steps) in
+    rw c.copy-2.ensures (one_common c.args.include at_least v v.build c.args.text.now
+    (whole_readable v c.requires.within c.requires.normal)
+    (ap (λ z. c.args.include || not z) other ∙ either_true c.args.include))

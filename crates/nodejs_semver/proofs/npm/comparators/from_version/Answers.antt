@@ -1,0 +1,17 @@
+use Rattle.std.proofs.Common.{sym, ◌∙◌}
+use Rattle.nodejs_semver.proofs.Strict.Rows.{from_included, from_none, from_some}
+use Rattle.nodejs_semver.proofs.npm.comparators.from_version.Goals as goal
+
+pub returns-then-include : goal.returns-then-include
+returns-then-include c = rw c.copy.ensures (from_included c.args.include c.args.version.now c.if-include.true c.requires.within
+    c.requires.normal)
+
+pub returns-then-is_zero : goal.returns-then-is_zero
+returns-then-is_zero c =
+    from_none c.args.include c.args.version.now c.if-include.false c.is_zero.ensures.valid
+    (sym c.is_zero.ensures.value ∙ c.if-is_zero.true)
+
+pub returns : goal.returns
+returns c =
+    rw c.copy-2.ensures (from_some c.args.include c.args.version.now c.is_zero.ensures.valid
+    (sym c.is_zero.ensures.value ∙ c.if-is_zero.false) c.requires.within c.requires.normal)

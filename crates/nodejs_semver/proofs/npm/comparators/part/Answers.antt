@@ -1,0 +1,25 @@
+use Rattle.std.proofs.Common.{ap, ◌∙◌}
+use Rattle.nodejs_semver.specs.Internal.NpmParts.{npm_partial_view, within}
+use Rattle.nodejs_semver.specs.Npm.Table.{from}
+use Rattle.nodejs_semver.proofs.Strict.Printed.{from_valid}
+use Rattle.nodejs_semver.proofs.Strict.Rows.{part_at_most, part_below, part_equal}
+use Rattle.nodejs_semver.proofs.npm.comparators.part.Goals as goal
+
+pub returns-in-Equal : goal.returns-in-Equal
+returns-in-Equal c text =
+    let include = c.args.include in
+    let n = c.first.result in
+    part_equal include text n c.next.result c.until.result (npm_partial_view c.args.partial.now) c.args.comparator c.in-Equal.is
+    c.requires.part c.first.ensures c.next.ensures
+    (c.until.ensures include (from include n) (from_valid include n ∙ ap within c.first.ensures ∙ c.requires.within)
+    c.from_numbers.ensures)
+
+pub returns-in-Below : goal.returns-in-Below
+returns-in-Below c text =
+    part_below c.args.include text c.first-in-Below.result c.under.result (npm_partial_view c.args.partial.now) c.args.comparator
+    c.in-Below.is c.requires.part c.first-in-Below.ensures (c.under.ensures c.args.include)
+
+pub returns-in-AtMost : goal.returns-in-AtMost
+returns-in-AtMost c text =
+    part_at_most c.args.include text c.next-in-AtMost.result c.under-in-AtMost.result (npm_partial_view c.args.partial.now)
+    c.args.comparator c.in-AtMost.is c.requires.part c.next-in-AtMost.ensures (c.under-in-AtMost.ensures c.args.include)

@@ -1,0 +1,10 @@
+use Rattle.std.proofs.Common.{ap, sym, ◌∙◌}
+use Rattle.nodejs_semver.specs.Internal.Readings.{bounds_view}
+use Rattle.nodejs_semver.specs.Text.Table as Spans
+use Rattle.nodejs_semver.proofs.Strict.Rows.{under_read}
+use Rattle.nodejs_semver.proofs.npm.comparators.under.Goals as goal
+
+pub returns-then-within : goal.returns-then-within
+returns-then-within c include =
+    under_read include c.args.end (bounds_view c.below.result) (sym c.within.ensures ∙ c.if-within.true)
+    (c.below.ensures ∙ ap (λ w. Spans.< w) c.lowest.ensures)

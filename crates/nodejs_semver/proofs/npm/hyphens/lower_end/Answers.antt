@@ -1,0 +1,27 @@
+use Rattle.std.proofs.Common.{ap, arith, length, None, ◌∙◌}
+use Rattle.semver_core.specs.declared.TheConstants.{MAX_SAFE_INTEGER}
+use Rattle.nodejs_semver.specs.Internal.NpmParts.{npm_partial_view}
+use Rattle.nodejs_semver.specs.Npm.RangeText.{is_free_lower}
+use Rattle.nodejs_semver.proofs.Strict.HyphenReads.{end_here, end_some, ends_le}
+use Rattle.nodejs_semver.proofs.Strict.WordReads.{partial-le}
+use Rattle.nodejs_semver.proofs.npm.hyphens.lower_end.Goals as goal
+
+pub ended_end-requires-clause-behind : goal.ended_end-requires-clause-behind
+ended_end-requires-clause-behind c = omega (arith, ap length c.skip_marks-behind.ensures, ends_le c.args.text.now)
+
+pub ended_end-requires-clause-rest : goal.ended_end-requires-clause-rest
+ended_end-requires-clause-rest c =
+    omega (
+      arith,
+      partial-le MAX_SAFE_INTEGER c.skip_marks-behind.result.now (npm_partial_view c.in-Some.read.0) c.in-Some.read.1.now c.in-Some.ensures,
+      ap length c.skip_marks-behind.ensures,
+      ends_le c.args.text.now,
+    )
+
+pub returns-in-Some : goal.returns-in-Some
+returns-in-Some c =
+    c.ended_end.ensures ∙ end_some is_free_lower c.is_free_lower-free.result c.args.text.now c.skip_marks-behind.result.now (npm_partial_view c.in-Some.read.0)
+    c.in-Some.read.1.now c.skip_marks-behind.ensures c.in-Some.ensures c.is_free_lower-free.ensures
+
+pub returns-in-None : goal.returns-in-None
+returns-in-None c = end_here is_free_lower c.args.text.now c.skip_marks-behind.result.now None c.skip_marks-behind.ensures c.in-None.ensures

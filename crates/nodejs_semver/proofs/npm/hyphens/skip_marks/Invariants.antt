@@ -1,0 +1,9 @@
+use Rattle.nodejs_semver.proofs.Common.{◌≡◌, length}
+use Rattle.nodejs_semver.specs.Internal.NpmWords.{drop_ends}
+use Rattle.nodejs_semver.proofs.npm.hyphens.skip_marks.Given as goal
+
+abbrev pub invariant-marks : goal.invariant-marks
+invariant-marks l = drop_ends l.left ≡ drop_ends l.text
+
+abbrev pub decreases-marks : goal.decreases-marks
+decreases-marks l = length l.left

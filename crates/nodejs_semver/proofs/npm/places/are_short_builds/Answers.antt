@@ -1,0 +1,11 @@
+use Rattle.std.proofs.Common.{eqb, rules, tests}
+use Rattle.std.proofs.lemmas.Iterator.Search.{all_from_yields_List}
+use Rattle.std.proofs.lemmas.Iterator.Splits.{YieldsList-from_slice_split}
+use Rattle.nodejs_semver.specs.Npm.RangeText.{is_short_build}
+use Rattle.nodejs_semver.proofs.npm.places.are_short_builds.Goals as goal
+
+pub returns : goal.returns
+returns c =
+    all_from_yields_List is_short_build _ _ _ c.all.ensures.ran
+    (YieldsList-from_slice_split _ (λ b. eqb b 46) c.args.text.now c.split.ensures.rest c.split.ensures.done c.split.ensures.closure
+    (λ x b q k. search (rules, tests))) (λ x b q k. search (rules, tests))

@@ -1,0 +1,7 @@
+use Rattle.std.proofs.Common.{◌∙◌}
+use Rattle.nodejs_semver.proofs.Questions.Unions.{covers-values}
+use Rattle.nodejs_semver.proofs.npm.unions.covers.Goals as goal
+
+pub returns : goal.returns
+returns g c =
+    c.covers.ensures ∙ covers-values _ g.V.Versioned.value g.met.V.VersionPoint.ordered c.args.interval.now c.args.other.now

@@ -1,0 +1,29 @@
+use Rattle.std.proofs.Common.{ap, sym, take_all, not, ◌∙◌}
+use Rattle.nodejs_semver.proofs.Algebra.FlatMaps.{on_err}
+use Rattle.nodejs_semver.proofs.Questions.Unions.{goes_behind, stays_behind, taken_at}
+use Rattle.nodejs_semver.proofs.npm.unions.push_others.Goals as goal
+use Rattle.nodejs_semver.proofs.npm.unions.push_others.Goals.{then-not-is_said+in_ok-push_copy, else-not-is_said}
+
+pub returns-in_err-push_copy-clause-memory : goal.returns-in_err-push_copy-clause-memory
+returns-in_err-push_copy-clause-memory g c =
+    on_err c.from_residual.result (taken_at g.V.Point.takes _ c.args.others.now _ c.loop-other.found.items
+    c.loop-other.other-index c.other-item.result c.loop-other-test.true c.other-item.is
+    (ap not (sym c.is_said.ensures ∙ c.if-not-is_said.true)) c.loop-other.invariant.1 c.in_err-push_copy.ensures.memory)
+
+pub loop-other-preserved : goal.loop-other-preserved
+loop-other-preserved g c = elim c.if-not-is_said.branch [
+  | then-not-is_said+in_ok-push_copy w ↦ rw w.found-is (
+    w.in_ok-push_copy.ensures.room,
+    stays_behind _ c.args.others.now _
+        c.other-item.result c.args.found.now.items _ _ c.loop-other-test.true c.other-item.is (ap not (sym c.is_said.ensures ∙ w.if-not-is_said.true))
+        c.loop-other.invariant.1 w.in_ok-push_copy.ensures.whole,
+  )
+  | else-not-is_said w ↦ rw w.found-is (
+    c.loop-other.invariant.0,
+    goes_behind _ c.args.others.now _ c.other-item.result
+        c.args.found.now.items _ c.loop-other-test.true c.other-item.is (ap not (sym c.is_said.ensures ∙ w.if-not-is_said.false)) c.loop-other.invariant.1,
+  )
+]
+
+pub returns-clause-whole : goal.returns-clause-whole
+returns-clause-whole g c = rw (take_all _ c.args.others.now c.loop-other-test.false) at c.loop-other.invariant.1

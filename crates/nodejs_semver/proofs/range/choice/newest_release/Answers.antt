@@ -1,0 +1,19 @@
+use Rattle.std.proofs.Common.{map, refl, take, take_all}
+use Rattle.semver_core.specs.Values.Versions.{is_release}
+use Rattle.nodejs_semver.specs.Ranges.View.{value_of}
+use Rattle.nodejs_semver.proofs.Choice.BestOf.{max_more, one_further}
+use Rattle.nodejs_semver.proofs.range.choice.newest_release.Goals as goal
+use Rattle.nodejs_semver.proofs.range.choice.newest_release.Goals.{then-is_new_release, else-is_new_release}
+
+pub loop-version-preserved : goal.loop-version-preserved
+loop-version-preserved g c =
+    let more = max_more is_release (map g.W.Versioned.value (take c.loop-version.version-index c.args.versions.now)) _ _ c.is_new_release.result c.is_new_release.ensures c.loop-version.invariant in
+    one_further _ _ _ g.W.Versioned.value c.args.versions.now c.loop-version.version-index c.version-item.result c.is_new_release.result
+    (value_of g.W.Versioned.value c.loop-version.best) (value_of g.W.Versioned.value c.if-is_new_release.best) c.loop-version-test.true c.version-item.is more
+    (elim c.if-is_new_release.branch [
+      | then-is_new_release w ↦ rw (w.best-is, w.if-is_new_release.true) refl
+      | else-is_new_release w ↦ rw (w.best-is, w.if-is_new_release.false) refl
+    ])
+
+pub returns : goal.returns
+returns g c = rw (take_all _ c.args.versions.now c.loop-version-test.false) at c.loop-version.invariant

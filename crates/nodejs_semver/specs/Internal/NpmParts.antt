@@ -1,0 +1,33 @@
+-- For proofs and private contracts. The signs and the partial versions of node-semver's range texts, seen without
+-- places in memory.
+use Rattle.std.specs.Prelude.{◌&&◌, nat_le, Bool, true}
+use Rattle.std.specs.List.{list_all}
+use Rattle.semver_core.specs.Printing.RoundTrip.{is_normal}
+use Rattle.semver_core.specs.declared.TheConstants.{MAX_SAFE_INTEGER}
+use Rattle.nodejs_semver.specs.Internal.Readings.{comparator_view}
+use Rattle.nodejs_semver.specs.Npm.Table as Spec
+use Rattle.nodejs_semver.specs.Npm.Table.{Numbers, caret, compared, major, minor, tilde, whole, wildcard}
+use Rattle.nodejs_semver.specs.declared.npm.partial.Partial.{Partial}
+use Rattle.nodejs_semver.specs.declared.npm.partial.Partial.TheVariants.{Major, Minor, Whole, Wildcard}
+use Rattle.nodejs_semver.specs.declared.npm.partial.Sign.{Sign}
+use Rattle.nodejs_semver.specs.declared.npm.partial.Sign.TheVariants.{Caret, Compared, Tilde}
+
+abbrev pub npm_partial_view : Partial → Spec.Partial
+npm_partial_view Wildcard = wildcard
+npm_partial_view (Major M) = major M
+npm_partial_view (Minor M m) = minor M m
+npm_partial_view (Whole v) = whole v
+
+abbrev pub npm_sign_view : Sign → Spec.Sign
+npm_sign_view (Compared c) = compared (comparator_view c)
+npm_sign_view Caret = caret
+npm_sign_view Tilde = tilde
+
+-- none of three numbers is past the limit
+abbrev pub within : Numbers → Bool
+within n = nat_le n.0 MAX_SAFE_INTEGER && nat_le n.1 MAX_SAFE_INTEGER && nat_le n.2 MAX_SAFE_INTEGER
+
+-- the identifiers of a partial are in normal form
+abbrev pub are_normal : Spec.Partial → Bool
+are_normal (whole v) = list_all is_normal v.pre_release && list_all is_normal v.build
+are_normal p = true

@@ -1,0 +1,57 @@
+-- For proofs and private contracts. What the readers of node-semver's range texts find, by the comparators.
+use Rattle.std.specs.Prelude.{◌≡◌, Bool, List, [], ◌∷◌, ◌++◌, ℕ, Option, Some, None, length, flat_map}
+use Rattle.std.specs.Option.{option_to_list}
+use Rattle.semver_core.specs.Cuts.{Span}
+use Rattle.semver_core.specs.Internal.Reading.{◌>>?◌}
+use Rattle.semver_core.specs.Values.Versions.{VersionValue}
+use Rattle.semver_core.specs.declared.TheConstants.{MAX_SAFE_INTEGER}
+use Rattle.nodejs_semver.specs.Internal.NpmAlternatives.{AreNarrowed}
+use Rattle.nodejs_semver.specs.Internal.NpmMeaning.{IsNarrowed}
+use Rattle.nodejs_semver.specs.Internal.NpmWords.{alternative_of, hyphen_comparisons, hyphen_ends}
+use Rattle.nodejs_semver.specs.Internal.NpmWords.{valid_only, valid_words}
+use Rattle.nodejs_semver.specs.Npm.Table.{Comparison}
+use Rattle.nodejs_semver.specs.declared.npm.alternatives.Alternative.{Alternative}
+
+-- the comparators of words, if each is valid
+abbrev pub words_of : Bool → List ℕ → Option (List Comparison)
+words_of include text = valid_words MAX_SAFE_INTEGER include (length text) text
+
+-- the comparators of an alternative, if each is valid
+unfoldable pub valid_alternative : Bool → List ℕ → Option (List Comparison)
+valid_alternative include text = alternative_of include text >>? λ cs. valid_only MAX_SAFE_INTEGER cs
+
+-- the same of a hyphen range
+unfoldable pub valid_hyphen : Bool → List ℕ → Option (List Comparison)
+valid_hyphen include text =
+    hyphen_ends include text >>? λ e. valid_only MAX_SAFE_INTEGER (hyphen_comparisons include e)
+
+-- an alternative is found exactly if there are comparators, and is that of these
+abbrev pub IsFound : Bool → Option (List Comparison) → Option Alternative → Type 0
+IsFound include None None = Unit {0}
+IsFound include (Some cs) (Some a) = IsNarrowed include cs a.interval
+IsFound include cs a = ⊥
+
+-- the comparators of each of some alternatives, if each is valid
+unfoldable pub valid_alternatives : Bool → List (List ℕ) → Option (List (List Comparison))
+valid_alternatives include [] = Some []
+valid_alternatives include (text ∷ texts) =
+    valid_alternative include text >>? λ cs. valid_alternatives include texts >>? λ rest. Some (cs ∷ rest)
+
+-- the intervals of some alternatives, of those that have one
+pub record AreFound (include : Bool) (alternatives : List (List Comparison)) (found : List (Span VersionValue))
+    : Type 0 where
+  pub intervals : List (Option (Span VersionValue))
+  pub narrowed : AreNarrowed include alternatives intervals
+  pub are : found ≡ flat_map option_to_list intervals
+
+-- one alternative more, of which there are comparators
+abbrev pub Adds : Bool → Option (List Comparison) → List (Span VersionValue) → List (Span VersionValue)
+    → Type 0
+Adds include None before after = ⊥
+Adds include (Some cs) before after = (alternatives : List (List Comparison))
+    → AreFound include alternatives before → AreFound include (alternatives ++ cs ∷ []) after
+
+-- the intervals of all alternatives
+abbrev pub AreAllFound : Bool → Option (List (List Comparison)) → List (Span VersionValue) → Type 0
+AreAllFound include None found = ⊥
+AreAllFound include (Some alternatives) found = AreFound include alternatives found

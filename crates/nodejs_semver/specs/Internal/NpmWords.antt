@@ -1,0 +1,291 @@
+-- For proofs and private contracts. What node-semver's strict reading finds in a range text, as functions.
+-- Numbers have any value; `limited` leaves out what has a number past the limit that counts.
+use Rattle.std.specs.Prelude.{◌==◌, ◌&&◌, ◌||◌, not, nat_le, nat_lt, ℕ, zero, suc, Bool, true, false, List, [], ◌∷◌, ◌++◌, ◌-◌, length, take, drop, Option, Some, None, if◌then◌else◌, take_while}
+use Rattle.std.specs.Char.{is_ascii_digit}
+use Rattle.std.specs.List.{list_all, prefix_len}
+use Rattle.std.specs.Str.Parse.{digits_value}
+use Rattle.semver_core.specs.Internal.Reading.{◌>>?◌}
+use Rattle.semver_core.specs.Internal.Spaces.{drop_spaces, space_len}
+use Rattle.semver_core.specs.Lists.{is_empty}
+use Rattle.semver_core.specs.Text.Identifiers.{Id, listed, pieces}
+use Rattle.nodejs_semver.specs.Internal.Fronts.{Front, after_byte, begins_byte, begins_wildcard, build_front}
+use Rattle.nodejs_semver.specs.Internal.NpmReadings.{begins_padded, dashed_front, is_strict_list}
+use Rattle.nodejs_semver.specs.Internal.Parts.{parts}
+use Rattle.nodejs_semver.specs.Internal.Words.{after_some_space, is_boundary, or_else}
+use Rattle.nodejs_semver.specs.Npm.RangeText.{are_marks, is_free_lower, is_free_upper, is_mark, is_one_v, is_short_build, is_short_identifier, partial_of}
+use Rattle.nodejs_semver.specs.Npm.Ranges.{is_valid}
+use Rattle.nodejs_semver.specs.Npm.Table.{Comparison, Partial, Sign, caret, compared, hyphen_lower, hyphen_upper, major, minor, table, tilde, whole, wildcard}
+use Rattle.nodejs_semver.specs.Text.WordText.{Comparator, above, at_least, at_most, below, equal}
+
+-- ---- partials
+
+-- the place that a run of digits is, with what stands behind it
+abbrev pub run_place : List ℕ → List ℕ → Front (Option ℕ)
+run_place run rest =
+    if not (is_empty run) && nat_le (length run) 257 then Some (Some (digits_value 10 run), rest) else None
+
+-- a place
+unfoldable pub place_front : List ℕ → Front (Option ℕ)
+place_front text = if begins_wildcard text then Some (None, drop 1 text) else if begins_padded text then None
+    else run_place (take_while is_ascii_digit text) (drop (prefix_len is_ascii_digit text) text)
+
+-- the same behind a dot
+unfoldable pub dotted_place : List ℕ → Front (Option ℕ)
+dotted_place text = after_byte 46 text >>? λ rest. place_front rest
+
+-- the identifiers of a pre-release and of a build may be written
+abbrev pub are_short_identifiers : List ℕ → Bool
+are_short_identifiers text = list_all is_short_identifier (pieces text)
+
+abbrev pub are_short_builds : List ℕ → Bool
+are_short_builds text = list_all is_short_build (pieces text)
+
+-- this pre-release and this build may be written
+abbrev pub may_follow : List ℕ → List ℕ → Bool
+may_follow pre build = is_strict_list pre && (are_short_identifiers pre && are_short_builds build)
+
+-- the partial of three places, with these texts of its pre-release and of its build, behind which this stands
+abbrev pub ended_partial : Option ℕ → Option ℕ → Option ℕ → List ℕ → List ℕ × List ℕ → Front Partial
+ended_partial a b c pre build = if may_follow pre build.0
+    then Some (partial_of a b c (listed pre) (listed build.0), build.1) else None
+
+unfoldable pub qualified_partial : Option ℕ → Option ℕ → Option ℕ → List ℕ → Front Partial
+qualified_partial a b c text = ended_partial a b c (dashed_front text).0 (build_front (dashed_front text).1)
+
+-- the partial of two places, and of what was found behind them
+abbrev pub third_front : Option ℕ → Option ℕ → List ℕ → Front (Option ℕ) → Front Partial
+third_front a b text None = Some (partial_of a b None [] [], text)
+third_front a b text (Some c) = qualified_partial a b c.0 c.1
+
+abbrev pub second_front : Option ℕ → List ℕ → Front (Option ℕ) → Front Partial
+second_front a text None = Some (partial_of a None None [] [], text)
+second_front a text (Some b) = third_front a b.0 b.1 (dotted_place b.1)
+
+-- the partial at the front
+unfoldable pub partial_front : List ℕ → Front Partial
+partial_front text = place_front text >>? λ a. second_front a.0 a.1 (dotted_place a.1)
+
+-- the numbers that count are up to the limit
+abbrev pub is_small : ℕ → Partial → Bool
+is_small limit wildcard = true
+is_small limit (major M) = nat_le M limit
+is_small limit (minor M m) = nat_le M limit && nat_le m limit
+is_small limit (whole v) = nat_le v.major limit && (nat_le v.minor limit && nat_le v.patch limit)
+
+abbrev pub limited : ℕ → Front Partial → Front Partial
+limited limit None = None
+limited limit (Some p) = if is_small limit p.0 then Some p else None
+
+-- a place by its value: a wildcard, a number up to the limit, or a greater one
+pub data Place : Type 0 where
+  any : Place
+  number : ℕ → Place
+  great : Place
+
+abbrev pub place_of : ℕ → Option ℕ → Place
+place_of limit None = any
+place_of limit (Some n) = if nat_le n limit then number n else great
+
+abbrev pub placed : ℕ → Front (Option ℕ) → Front Place
+placed limit None = None
+placed limit (Some a) = Some (place_of limit a.0, a.1)
+
+-- the partial of such places, if its numbers that count are up to the limit
+abbrev pub counted : Place → Place → Place → List Id → List Id → Option Partial
+counted any b c pre build = Some wildcard
+counted great b c pre build = None
+counted (number M) any c pre build = Some (major M)
+counted (number M) great c pre build = None
+counted (number M) (number m) any pre build = Some (minor M m)
+counted (number M) (number m) great pre build = None
+counted (number M) (number m) (number p) pre build =
+    Some (whole (record { major = M; minor = m; patch = p; pre_release = pre; build = build }))
+
+-- the same with what stands behind it
+abbrev pub ended_counted : Place → Place → Place → List ℕ → List ℕ × List ℕ → Front Partial
+ended_counted a b c pre build = if may_follow pre build.0
+    then (counted a b c (listed pre) (listed build.0) >>? λ p. Some (p, build.1)) else None
+
+unfoldable pub qualified_counted : Place → Place → Place → List ℕ → Front Partial
+qualified_counted a b c text = ended_counted a b c (dashed_front text).0 (build_front (dashed_front text).1)
+
+abbrev pub third_counted : Place → Place → List ℕ → Front Place → Front Partial
+third_counted a b text None = counted a b any [] [] >>? λ p. Some (p, text)
+third_counted a b text (Some c) = qualified_counted a b c.0 c.1
+
+abbrev pub second_counted : ℕ → Place → List ℕ → Front Place → Front Partial
+second_counted limit a text None = counted a any any [] [] >>? λ p. Some (p, text)
+second_counted limit a text (Some b) = third_counted a b.0 b.1 (placed limit (dotted_place b.1))
+
+abbrev pub counted_front : ℕ → List ℕ → Front Partial
+counted_front limit text =
+    placed limit (place_front text) >>? λ a. second_counted limit a.0 a.1 (placed limit (dotted_place a.1))
+
+-- ---- signs
+
+-- the text without the `=` at its front and the whitespace behind it
+abbrev pub skip_equal : List ℕ → List ℕ
+skip_equal text = if begins_byte 61 text then drop_spaces (drop 1 text) else text
+
+-- behind `>` or `<`: whitespace, or `=` and whitespace, or whitespace and `=`
+abbrev pub or_late : Comparator → Comparator → List ℕ → List ℕ → Sign × List ℕ
+or_late one two text rest = if begins_byte 61 text then (compared two, drop_spaces (drop 1 text))
+    else if begins_byte 61 rest then (compared two, drop 1 rest) else (compared one, rest)
+
+-- behind the `>` of a tilde: `=` or nothing, and whitespace
+abbrev pub skip_greater : List ℕ → List ℕ
+skip_greater text = drop_spaces (if begins_byte 61 text then drop 1 text else text)
+
+-- behind `~>`: whitespace and one `>` more, or nothing
+abbrev pub skip_twice : List ℕ → List ℕ → List ℕ
+skip_twice text rest =
+    if nat_lt 0 (space_len text) && begins_byte 62 rest then skip_greater (drop 1 rest) else skip_greater text
+
+-- behind `~`, with what stands there behind whitespace
+abbrev pub skip_tilde : List ℕ → List ℕ → List ℕ
+skip_tilde text rest = if begins_byte 62 text then skip_twice (drop 1 text) (drop_spaces (drop 1 text))
+    else if begins_byte 62 rest then skip_greater (drop 1 rest) else skip_equal rest
+
+-- the sign at the front, and what follows it and its whitespace
+unfoldable pub npm_sign : List ℕ → Sign × List ℕ
+npm_sign [] = (compared equal, [])
+npm_sign (b ∷ rest) =
+    if b == 62 then or_late above at_least rest (drop_spaces rest)
+    else if b == 60 then or_late below at_most rest (drop_spaces rest)
+    else if b == 61 then (compared equal, drop_spaces rest)
+    else if b == 94 then (caret, skip_equal (drop_spaces rest))
+    else if b == 126 then (tilde, skip_tilde rest (drop_spaces rest))
+    else (compared equal, b ∷ rest)
+
+-- ---- words
+
+-- a sign, a partial, and the text of the partial with its marks
+abbrev pub Signed : Type 0
+Signed = Sign × Partial × List ℕ
+
+-- how many marks stand at the front
+abbrev pub marks_len : List ℕ → ℕ
+marks_len text = prefix_len is_mark text
+
+abbrev pub ended_word : Sign → List ℕ → ℕ → Partial × List ℕ → Front Signed
+ended_word s text n p = if are_marks s p.0 (take n text) && is_boundary p.1
+    then Some ((s, p.0, take (length text - length p.1) text), p.1) else None
+
+-- the word of a sign, of which this text stands behind the sign
+abbrev pub marked_word : Sign × List ℕ → Front Partial → Front Signed
+marked_word s p = p >>? λ p. ended_word s.0 s.1 (marks_len s.1) p
+
+unfoldable pub signed_word : List ℕ → Front Signed
+signed_word text = let s = npm_sign text in marked_word s (partial_front (drop (marks_len s.1) s.1))
+
+-- the numbers of its partial that count are up to the limit
+abbrev pub limited_word : ℕ → Front Signed → Front Signed
+limited_word limit None = None
+limited_word limit (Some w) = if is_small limit w.0.1 then Some w else None
+
+-- its comparators
+unfoldable pub word_front : Bool → List ℕ → Front (List Comparison)
+word_front include text = signed_word text >>? λ w. Some (table include w.0.0 w.0.1 w.0.2, w.1)
+
+-- ---- alternatives
+
+-- words up to the end of an alternative, of which there are at most so many
+unfoldable pub words_within : Bool → ℕ → List ℕ → Option (List Comparison)
+words_within include zero text = None
+words_within include (suc n) text = word_front include text >>? λ w. if is_empty w.1 then Some w.0
+    else (words_within include n (drop_spaces w.1) >>? λ ds. Some (w.0 ++ ds))
+
+-- what follows the marks and the whitespace at the front. The number counts bytes that still belong to a
+-- whitespace character.
+unfoldable pub after_ends : ℕ → List ℕ → List ℕ
+after_ends n [] = []
+after_ends (suc n) (b ∷ rest) = after_ends n rest
+after_ends zero (b ∷ rest) = elim (is_mark b) [
+  | true ↦ after_ends zero rest
+  | false ↦ elim (space_len (b ∷ rest)) [ zero ↦ b ∷ rest | suc n ↦ after_ends n rest ]
+]
+
+abbrev pub drop_ends : List ℕ → List ℕ
+drop_ends text = after_ends 0 text
+
+-- how many bytes the mark or the whitespace character at the front takes
+abbrev pub end_len : List ℕ → ℕ
+end_len [] = 0
+end_len (b ∷ rest) = if is_mark b then 1 else space_len (b ∷ rest)
+
+-- a partial, and the text of it with its marks
+abbrev pub Ended : Type 0
+Ended = Partial × List ℕ
+
+abbrev pub ended_end : (Partial → Bool) → List ℕ → List ℕ → Partial × List ℕ → Front Ended
+ended_end free text behind p = if free p.0 || is_one_v (take (length text - length behind) text)
+    then Some ((p.0, take (length text - length p.1) text), p.1) else None
+
+-- an end of a hyphen range
+unfoldable pub end_front : (Partial → Bool) → List ℕ → Front Ended
+end_front free text = partial_front (drop_ends text) >>? λ p. ended_end free text (drop_ends text) p
+
+-- what stands behind whitespace, `-` and whitespace
+abbrev pub after_dash : List ℕ → Option (List ℕ)
+after_dash text = after_some_space text >>? λ dash. after_byte 45 dash >>? λ gap. after_some_space gap
+
+-- the upper end, where it ends the text
+abbrev pub last_end : (Partial → Bool) → List ℕ → Option Ended
+last_end free text = end_front free text >>? λ b. if is_empty b.1 then Some b.0 else None
+
+-- the ends of the hyphen range that the text is
+unfoldable pub hyphen_ends : Bool → List ℕ → Option (Ended × Ended)
+hyphen_ends include text = end_front is_free_lower text >>? λ a. after_dash a.1 >>? λ second.
+    last_end (is_free_upper include) second >>? λ b. Some (a.0, b)
+
+-- its comparators
+abbrev pub hyphen_comparisons : Bool → Ended × Ended → List Comparison
+hyphen_comparisons include e = hyphen_lower include e.0.0 e.0.1 ++ hyphen_upper include e.1.0 e.1.1
+
+-- the numbers of the partials that count are up to the limit
+abbrev pub limited_end : ℕ → Front Ended → Front Ended
+limited_end limit None = None
+limited_end limit (Some e) = if is_small limit e.0.0 then Some e else None
+
+abbrev pub limited_hyphen : ℕ → Option (Ended × Ended) → Option (Ended × Ended)
+limited_hyphen limit None = None
+limited_hyphen limit (Some e) = if is_small limit e.0.0 && is_small limit e.1.0 then Some e else None
+
+-- the same, end by end
+abbrev pub last_limited : ℕ → Bool → List ℕ → Option Ended
+last_limited limit include text =
+    limited_end limit (end_front (is_free_upper include) text) >>? λ b.
+    if is_empty b.1 then Some b.0 else None
+
+abbrev pub hyphen_of : ℕ → Bool → List ℕ → Option (Ended × Ended)
+hyphen_of limit include text =
+    limited_end limit (end_front is_free_lower text) >>? λ a. after_dash a.1 >>? λ second.
+    last_limited limit include second >>? λ b. Some (a.0, b)
+
+-- the comparators of an alternative
+unfoldable pub alternative_of : Bool → List ℕ → Option (List Comparison)
+alternative_of include [] = Some []
+alternative_of include (b ∷ rest) = or_else (words_within include (length (b ∷ rest)) (b ∷ rest))
+    (hyphen_ends include (b ∷ rest) >>? λ e. Some (hyphen_comparisons include e))
+
+-- the comparators of each of some alternatives
+unfoldable pub alternatives_of : Bool → List (List ℕ) → Option (List (List Comparison))
+alternatives_of include [] = Some []
+alternatives_of include (text ∷ texts) =
+    alternative_of include text >>? λ cs. alternatives_of include texts >>? λ rest. Some (cs ∷ rest)
+
+-- the alternatives of a range text
+abbrev pub npm_alternatives : Bool → List ℕ → Option (List (List Comparison))
+npm_alternatives include text = alternatives_of include (parts text)
+
+-- the comparators, if each is valid
+abbrev pub valid_only : ℕ → List Comparison → Option (List Comparison)
+valid_only limit cs = if list_all (is_valid limit) cs then Some cs else None
+
+-- words up to the end of an alternative, whose comparators are valid, word by word
+unfoldable pub valid_words : ℕ → Bool → ℕ → List ℕ → Option (List Comparison)
+valid_words limit include zero text = None
+valid_words limit include (suc n) text = limited_word limit (signed_word text) >>? λ w.
+    valid_only limit (table include w.0.0 w.0.1 w.0.2) >>? λ cs.
+    if is_empty w.1 then Some cs
+    else (valid_words limit include n (drop_spaces w.1) >>? λ ds. Some (cs ++ ds))

@@ -1,0 +1,9 @@
+pub mod Builds
+pub mod Subsets
+pub mod Unions
+pub mod Simple
+pub mod Grammar
+pub mod VersionText
+pub mod RangeText
+pub mod Table
+pub mod Ranges

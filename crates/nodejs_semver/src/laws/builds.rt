@@ -1,0 +1,21 @@
+// Laws of the order that counts builds.
+
+ghost use Rattle.nodejs_semver.specs.Npm.Builds.{build_order};
+ghost use Rattle.semver_core.specs.Values.Versions.{VersionValue};
+ghost use Rattle.std.specs.Ordering.{is_le};
+ghost use Rattle.std.specs.Prelude.{◌≡◌, ◌↔◌, ◌||◌, true};
+ghost use Rattle.std.specs.declared.cmp.Ordering.TheVariants.{Equal};
+
+/// The order of `npm::cmp_build` is total, and two versions tie in it exactly where they are the
+/// same value, builds included.
+///
+/// A caller that needs these facts in a proof calls this function, which does nothing at run time.
+pub fn order_with_builds()
+    ensures tied { (v w : VersionValue) → (build_order v w ≡ Equal) ↔ (v ≡ w) }
+    ensures antisymmetric { (v w : VersionValue) → is_le (build_order v w) ≡ true
+        → is_le (build_order w v) ≡ true → v ≡ w }
+    ensures transitive { (u v w : VersionValue) → is_le (build_order u v) ≡ true
+        → is_le (build_order v w) ≡ true → is_le (build_order u w) ≡ true }
+    ensures total { (v w : VersionValue) →
+        (is_le (build_order v w) || is_le (build_order w v)) ≡ true }
+{}

@@ -1,0 +1,28 @@
+//! What npm's own library, node-semver, answers and the port does not, beside the port.
+//!
+//! Its reading of texts is the strict one, which npm uses, beside the lenient one of
+//! [`VersionRef::parse`](crate::VersionRef) and [`Range::parse`](crate::Range): a version text has
+//! no leading zeros, one `v` in front at most, a `-` before its pre-release, and nothing behind it.
+//!
+//! A version lies above or below a range by name, and an order counts builds. Ranges have from here
+//! their `union`, `is_subset`, `accepts_same` and `simplify`.
+
+mod alternatives;
+mod borrowed_subsets;
+mod builds;
+mod comparators;
+mod hyphens;
+mod partial;
+mod places;
+mod ranges;
+mod sides;
+mod simplified;
+mod subsets;
+mod unions;
+mod versions;
+mod words;
+
+pub use crate::npm::builds::cmp_build;
+pub use crate::npm::ranges::range;
+pub use crate::npm::sides::{gtr, ltr};
+pub use crate::npm::versions::version;

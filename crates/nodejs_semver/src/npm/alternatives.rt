@@ -1,0 +1,173 @@
+// What an alternative of a range text accepts: the interval that its comparators have in common.
+
+ghost use Rattle.std.specs.List.{list_all, list_any};
+ghost use Rattle.std.specs.Prelude.{◌≡◌, ◌+◌, ◌∷◌, [], Bool, true};
+ghost use Rattle.nodejs_semver.specs.Internal.NpmAlternatives.{AcceptAsRanged, NarrowedBy};
+ghost use Rattle.nodejs_semver.specs.Internal.NpmAlternatives.{met, ranged};
+ghost use Rattle.nodejs_semver.specs.Internal.NpmMeaning.{IsNarrowed, is_unbounded};
+ghost use Rattle.nodejs_semver.specs.Internal.NpmParts.{are_normal, npm_partial_view};
+ghost use Rattle.nodejs_semver.specs.Internal.NpmParts.{npm_sign_view};
+ghost use Rattle.nodejs_semver.specs.Internal.Readings.{bounds_view};
+ghost use Rattle.nodejs_semver.specs.Internal.Sets.{is_range_span};
+ghost use Rattle.nodejs_semver.specs.Npm.Table.{hyphen_lower, hyphen_upper, table};
+ghost use Rattle.semver_core.specs.Cuts.{interval};
+ghost use Rattle.semver_core.specs.Values.Order.{precedence};
+ghost use Rattle.semver_core.specs.declared.TheConstants.{MAX_SAFE_INTEGER};
+
+use crate::npm::comparators::{lower_end, row, upper_end};
+use crate::npm::partial::{Partial, Sign};
+use crate::range::{Intervals, RangeRef};
+use crate::readers::{Bounds, lowest};
+use semver_core::VersionRef;
+use semver_core::cuts::{Bound, Interval};
+use smallvec::SmallVec;
+use std::alloc::Global;
+
+/// What the comparators that were read so far have in common; no interval where their cuts do not
+/// meet.
+#[derive(Drop)]
+pub(crate) struct Alternative<'a> {
+    interval: Option<Interval<VersionRef<'a>>>,
+}
+
+// What two intervals have in common.
+#[inline(always)]
+fn common<'a>(
+    first: Option<Interval<VersionRef<'a>>>,
+    second: Option<Interval<VersionRef<'a>>>,
+) -> Option<Interval<VersionRef<'a>>>
+    ensures { result ≡ met first.entry second.entry }
+{
+    first?.into_intersection(second?).ok()
+}
+
+impl<'a> Alternative<'a> {
+    /// No comparator was read yet.
+    pub(crate) fn all() -> Alternative<'a>
+        ensures { (include : Bool) → IsNarrowed include [] result.interval }
+    {
+        Alternative {
+            interval: Some(Interval::default()),
+        }
+    }
+
+    /// The same with the comparators of one more word, whose partial has this text with its marks;
+    /// none where one of the comparators is not valid.
+    #[tactic(auto, using(crate::proofs::Strict::Narrowing::narrowed_read))]
+    pub(crate) fn meet(
+        self,
+        include: bool,
+        sign: Sign,
+        partial: &Partial<'a>,
+        text: &[u8],
+    ) -> Option<Alternative<'a>>
+        requires { are_normal (npm_partial_view partial.now) ≡ true }
+        ensures { let row = table include (npm_sign_view sign) (npm_partial_view partial.now) in
+            NarrowedBy include self.entry.interval (row text.now) result }
+    {
+        Some(self.narrow(row(include, sign, partial, text)?))
+    }
+
+    /// The same with the lower end of a hyphen range.
+    #[tactic(auto, using(crate::proofs::Strict::Narrowing::narrowed_read))]
+    pub(crate) fn meet_lower(
+        self,
+        include: bool,
+        partial: &Partial<'a>,
+        text: &[u8],
+    ) -> Option<Alternative<'a>>
+        requires { are_normal (npm_partial_view partial.now) ≡ true }
+        ensures { let p = npm_partial_view partial.now in
+            NarrowedBy include self.entry.interval (hyphen_lower include p text.now) result }
+    {
+        Some(self.narrow(lower_end(include, partial, text)?))
+    }
+
+    /// The same with the upper end of a hyphen range.
+    #[tactic(auto, using(crate::proofs::Strict::Narrowing::narrowed_read))]
+    pub(crate) fn meet_upper(
+        self,
+        include: bool,
+        partial: &Partial<'a>,
+        text: &[u8],
+    ) -> Option<Alternative<'a>>
+        requires { are_normal (npm_partial_view partial.now) ≡ true }
+        ensures { let p = npm_partial_view partial.now in
+            NarrowedBy include self.entry.interval (hyphen_upper include p text.now) result }
+    {
+        Some(self.narrow(upper_end(include, partial, text)?))
+    }
+
+    // The same with bounds that more comparators have in common.
+    #[inline(always)]
+    fn narrow(self, bounds: Bounds<'a>) -> Alternative<'a>
+        ensures { result.interval
+            ≡ met self.entry.interval (interval precedence (bounds_view bounds.entry)) }
+    {
+        let interval = common(self.interval, Interval::new(bounds.lower, bounds.upper));
+        Alternative { interval }
+    }
+
+    /// The interval, where the cuts meet.
+    pub(crate) fn interval(self) -> Option<Interval<VersionRef<'a>>>
+        ensures { result ≡ self.entry.interval }
+    {
+        self.interval
+    }
+}
+
+// Whether an interval has no bounds.
+#[inline(always)]
+fn is_unbounded(interval: &Interval<VersionRef<'_>>) -> bool
+    ensures { result ≡ is_unbounded interval.now }
+{
+    matches!(
+        (interval.lower(), interval.upper()),
+        (Bound::Unbounded, Bound::Unbounded)
+    )
+}
+
+// Whether one of some intervals has no bounds.
+fn is_some_unbounded(intervals: &[Interval<VersionRef<'_>>]) -> bool
+    ensures { result ≡ list_any is_unbounded intervals.now }
+{
+    intervals.iter().any(is_unbounded)
+}
+
+// A list of one interval.
+#[inline(always)]
+fn one<'a>(alloc: Global, interval: Interval<VersionRef<'a>>) -> Intervals<VersionRef<'a>>
+    ensures { result.items ≡ interval.entry ∷ [] }
+{
+    let mut one = SmallVec::new(alloc);
+    one.push_reserved(interval);
+    one
+}
+
+// The intervals of a range, of those of the alternatives of its text: one without bounds where some
+// alternative's has none, and `<0.0.0-0` where there is no interval.
+fn ranged<'a>(alloc: Global, intervals: Intervals<VersionRef<'a>>) -> Intervals<VersionRef<'a>>
+    ensures value { result.items ≡ ranged intervals.entry.items }
+    // It accepts what the alternatives do.
+    ensures accepts { AcceptAsRanged intervals.entry.items result.items }
+{
+    if is_some_unbounded(&intervals) {
+        return one(alloc, Interval::default());
+    }
+    if intervals.is_empty() {
+        let least = Bound::Before(lowest(0, 0, 0));
+        return one(alloc, Interval::of_ordered(Bound::Unbounded, least));
+    }
+    intervals
+}
+
+/// The range of a text whose alternatives have these intervals.
+#[tactic(auto, using(crate::proofs::Values::spans_same))]
+pub(crate) fn range_of<'a>(alloc: Global, intervals: Intervals<VersionRef<'a>>) -> RangeRef<'a>
+    requires { list_all (is_range_span (MAX_SAFE_INTEGER + 1)) intervals.items ≡ true }
+    ensures value { result ≡ ranged intervals.entry.items }
+    // It accepts what the alternatives do.
+    ensures accepts { AcceptAsRanged intervals.entry.items result }
+{
+    RangeRef::of_some(ranged(alloc, intervals))
+}

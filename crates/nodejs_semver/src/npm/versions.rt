@@ -1,0 +1,157 @@
+// Version texts as node-semver's strict reading has them.
+
+ghost use Rattle.std.specs.Char.{is_ascii_digit};
+ghost use Rattle.std.specs.List.{list_all};
+ghost use Rattle.std.specs.Prelude.{◌≡◌, ◌↔◌, ◌≤◌, IfErr, IfOk, IsTrue, length, true};
+ghost use Rattle.std.specs.Str.{chars};
+ghost use Rattle.nodejs_semver.specs.Internal.Fronts.{front_view};
+ghost use Rattle.nodejs_semver.specs.Internal.NpmReadings as Spec;
+ghost use Rattle.nodejs_semver.specs.Internal.Readings.{pair_view};
+ghost use Rattle.nodejs_semver.specs.Npm.Grammar.{is_strict_identifier};
+ghost use Rattle.nodejs_semver.specs.Npm.VersionText.{IsVersionText};
+ghost use Rattle.semver_core.specs.Failures.{NoValue};
+ghost use Rattle.semver_core.specs.Text.Identifiers.{is_listed};
+ghost use Rattle.semver_core.specs.declared.TheConstants.{MAX_SAFE_INTEGER};
+
+use crate::readers::{build_front, pre_release_front};
+use semver_core::scan::{number_in, trim};
+use semver_core::{MAX_LENGTH, MAX_SAFE_INTEGER, SemverError, VersionRef};
+
+// Whether a text begins with a number that has a leading zero.
+#[inline(always)]
+pub(crate) fn begins_padded(text: &[u8]) -> bool
+    ensures { result ≡ Spec.begins_padded text.now }
+{
+    matches!(text, [b'0', next, ..] if next.is_ascii_digit())
+}
+
+// A number without leading zeros, and the text behind it.
+#[inline(always)]
+#[tactic(auto, using(crate::proofs::Strict::Numbers::numbers_found))]
+pub(crate) fn strict_number(text: &[u8]) -> Option<(u64, &[u8])>
+    ensures { front_view result ≡ Spec.strict_number MAX_SAFE_INTEGER text.now }
+{
+    if begins_padded(text) {
+        return None;
+    }
+    let (number, end) = number_in(text, 0)?;
+    Some((number, &text[end..]))
+}
+
+// The same behind a dot.
+#[inline(always)]
+#[tactic(auto, unfolding(crate::specs::Internal::NpmReadings::dotted_number))]
+fn dotted_number(text: &[u8]) -> Option<(u64, &[u8])>
+    ensures { front_view result ≡ Spec.dotted_number MAX_SAFE_INTEGER text.now }
+{
+    match text {
+        [b'.', rest @ ..] => strict_number(rest),
+        _ => None,
+    }
+}
+
+// The text of the pre-release behind a `-`, and what stands behind it.
+#[inline(always)]
+#[tactic(auto, using(crate::proofs::Reading::IdentifierLists::short_lists), unfolding(crate::specs::Internal::NpmReadings::dashed_front))]
+pub(crate) fn dashed_front(text: &[u8]) -> (&[u8], &[u8])
+    ensures listed { is_listed result.0.now ≡ true }
+    ensures value { pair_view result ≡ Spec.dashed_front text.now }
+{
+    match text {
+        [b'-', ..] => pre_release_front(text),
+        _ => (b"", text),
+    }
+}
+
+#[inline(always)]
+fn is_digits(text: &[u8]) -> bool
+    ensures { result ≡ list_all is_ascii_digit text.now }
+{
+    text.iter().all(|byte| byte.is_ascii_digit())
+}
+
+// Whether an identifier is a text, or a number without leading zeros.
+#[inline(always)]
+fn is_strict_identifier(text: &[u8]) -> bool
+    ensures { result ≡ is_strict_identifier text.now }
+{
+    match text {
+        [b'0', _, ..] => !is_digits(text),
+        _ => true,
+    }
+}
+
+// Whether no identifier of a text has leading zeros.
+#[inline(always)]
+pub(crate) fn is_strict_list(text: &[u8]) -> bool
+    ensures { result ≡ Spec.is_strict_list text.now }
+{
+    text.split(|byte| *byte == b'.').all(is_strict_identifier)
+}
+
+// The version of three numbers and of what stands behind them up to the end of the text.
+#[inline(always)]
+#[tactic(auto, unfolding(crate::specs::Internal::NpmReadings::qualified_version))]
+fn qualified(major: u64, minor: u64, patch: u64, text: &[u8]) -> Option<VersionRef<'_>>
+    ensures { result ≡ Spec.qualified_version major minor patch text.now }
+{
+    let (pre_release, rest) = dashed_front(text);
+    let (build, rest) = build_front(rest);
+    if rest.is_empty() && is_strict_list(pre_release) {
+        Some(VersionRef::from_texts(major, minor, patch, pre_release, build))
+    } else {
+        None
+    }
+}
+
+// The version that the whole text is.
+#[tactic(auto, unfolding(crate::specs::Internal::NpmReadings::strict_version))]
+fn whole_version(text: &[u8]) -> Option<VersionRef<'_>>
+    ensures { result ≡ Spec.strict_version MAX_SAFE_INTEGER text.now }
+{
+    let mark = usize::from(matches!(text, [b'v', ..]));
+    let (major, rest) = strict_number(&text[mark..])?;
+    let (minor, rest) = dotted_number(rest)?;
+    let (patch, rest) = dotted_number(rest)?;
+    qualified(major, minor, patch, rest)
+}
+
+// Whether a text has at most as many characters as a version text may have.
+#[inline(always)]
+#[tactic(auto, using(crate::proofs::Strict::Lengths::characters_counted))]
+fn is_short(text: &str) -> bool
+    ensures { IsTrue result ↔ (length (chars text.now) ≤ MAX_LENGTH) }
+{
+    text.len() <= MAX_LENGTH || text.chars().count() <= MAX_LENGTH
+}
+
+/// Reads a version text as node-semver's `parse` does unless it is told to be loose: `v` or
+/// nothing, three numbers joined by dots, a `-` and a pre-release, a `+` and build metadata.
+/// Whitespace may stand around the version, and nothing else.
+///
+/// Rejects every other text, also those of which [`VersionRef::parse`] reads a front: a number, or
+/// an identifier of the pre-release that is a number, with a leading zero (`1.02.3`, `1.2.3-01`), a
+/// number above `MAX_SAFE_INTEGER`, a pre-release without its `-` (`1.2.3beta`), `V1.2.3`, text
+/// behind the version (`1.2.3.4`), and a text of more than `MAX_LENGTH` characters, with the
+/// whitespace around the version counted. The version borrows the text: nothing is allocated.
+///
+/// ```rust
+/// let beta = npm::version(" v1.2.3-beta.1 ")?;
+/// assert_eq!(rt; beta, VersionRef::parse("1.2.3-beta.1")?);
+/// assert!(rt; npm::version("1.2.03").is_err());
+/// assert!(rt; npm::version("1.2.3, the second beta").is_err());
+/// ```
+pub fn version(text: &str) -> Result<VersionRef<'_>, SemverError>
+    // What is read is the version that the text is.
+    ensures ok { IfOk result (λ v. IsVersionText MAX_SAFE_INTEGER text.now v) }
+    // A text is rejected only if it is no version.
+    ensures refused { IfErr result (λ _. NoValue (IsVersionText MAX_SAFE_INTEGER text.now)) }
+{
+    if !is_short(text) {
+        return Err(SemverError);
+    }
+    match whole_version(trim(text).as_bytes()) {
+        Some(version) => Ok(version),
+        None => Err(SemverError),
+    }
+}

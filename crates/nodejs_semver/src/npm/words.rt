@@ -1,0 +1,172 @@
+// The words of a range text as node-semver's strict reading has them: a sign, marks and a partial
+// version.
+
+ghost use Rattle.std.specs.List.{list_all};
+ghost use Rattle.std.specs.Prelude.{◌≡◌, ◌≤◌, length, true};
+ghost use Rattle.nodejs_semver.specs.Internal.NpmParts.{npm_partial_view, npm_sign_view};
+ghost use Rattle.nodejs_semver.specs.Internal.NpmViews.{npm_sign_pair_view, signed_front_view};
+ghost use Rattle.nodejs_semver.specs.Internal.NpmWords as Spec;
+ghost use Rattle.nodejs_semver.specs.Internal.Readings.{comparator_view};
+ghost use Rattle.nodejs_semver.specs.Npm.RangeText as Text;
+ghost use Rattle.semver_core.specs.Internal.Spaces.{drop_spaces};
+ghost use Rattle.semver_core.specs.declared.TheConstants.{MAX_SAFE_INTEGER};
+
+use crate::npm::partial::{Partial, Sign};
+use crate::npm::places::partial_front;
+use crate::readers::{Comparator, after_some_space, is_boundary, skip_spaces};
+use semver_core::MAX_SAFE_INTEGER;
+
+/// A word: its sign, its partial version, and the text of the partial with its marks.
+#[derive(Drop)]
+pub(crate) struct Signed<'a> {
+    pub(crate) sign: Sign,
+    pub(crate) partial: Partial<'a>,
+    pub(crate) text: &'a [u8],
+}
+
+// The text without the `=` at its front and the whitespace behind it.
+fn skip_equal(text: &[u8]) -> &[u8]
+    ensures { result.now ≡ Spec.skip_equal text.now }
+{
+    match text {
+        [b'=', rest @ ..] => skip_spaces(rest),
+        _ => text,
+    }
+}
+
+// The comparator behind whose first character a text stands, and what follows it: the second one
+// has `=` behind it, also behind whitespace.
+fn or_late(one: Comparator, two: Comparator, text: &[u8]) -> (Sign, &[u8])
+    ensures { npm_sign_pair_view result ≡ Spec.or_late (comparator_view one)
+        (comparator_view two) text.now (drop_spaces text.now) }
+{
+    if let [b'=', rest @ ..] = text {
+        return (Sign::Compared(two), skip_spaces(rest));
+    }
+    match skip_spaces(text) {
+        [b'=', rest @ ..] => (Sign::Compared(two), rest),
+        rest => (Sign::Compared(one), rest),
+    }
+}
+
+// What follows the `>` behind a tilde, with `=` or without it, and whitespace.
+fn skip_greater(text: &[u8]) -> &[u8]
+    ensures { result.now ≡ Spec.skip_greater text.now }
+{
+    match text {
+        [b'=', rest @ ..] => skip_spaces(rest),
+        _ => skip_spaces(text),
+    }
+}
+
+// What follows `~>`, and the `>` that may stand behind it and whitespace.
+fn skip_twice(text: &[u8]) -> &[u8]
+    ensures { result.now ≡ Spec.skip_twice text.now (drop_spaces text.now) }
+{
+    match after_some_space(text) {
+        Some([b'>', rest @ ..]) => skip_greater(rest),
+        _ => skip_greater(text),
+    }
+}
+
+// What follows a tilde with what may stand behind it.
+fn skip_tilde(text: &[u8]) -> &[u8]
+    ensures { result.now ≡ Spec.skip_tilde text.now (drop_spaces text.now) }
+{
+    if let [b'>', rest @ ..] = text {
+        return skip_twice(rest);
+    }
+    match skip_spaces(text) {
+        [b'>', rest @ ..] => skip_greater(rest),
+        rest => skip_equal(rest),
+    }
+}
+
+// The sign at the front, and what follows it and its whitespace.
+#[tactic(auto, unfolding(crate::specs::Internal::NpmWords::npm_sign))]
+fn sign_front(text: &[u8]) -> (Sign, &[u8])
+    ensures { npm_sign_pair_view result ≡ Spec.npm_sign text.now }
+{
+    match text {
+        [b'>', rest @ ..] => or_late(Comparator::Above, Comparator::AtLeast, rest),
+        [b'<', rest @ ..] => or_late(Comparator::Below, Comparator::AtMost, rest),
+        [b'=', rest @ ..] => (Sign::Compared(Comparator::Equal), skip_spaces(rest)),
+        [b'^', rest @ ..] => (Sign::Caret, skip_equal(skip_spaces(rest))),
+        [b'~', rest @ ..] => (Sign::Tilde, skip_tilde(rest)),
+        _ => (Sign::Compared(Comparator::Equal), text),
+    }
+}
+
+// How many marks, `v` and `=`, stand at the front.
+#[tactic(auto, using(crate::proofs::Strict::Places::prefix_steps))]
+fn marks_len(text: &[u8]) -> usize
+    ensures value { result ≡ Spec.marks_len text.now }
+    ensures fits { result ≤ length text.now }
+{
+    'marks: for at in 0..text.len() {
+        if !matches!(text[at], b'v' | b'=') {
+            return at;
+        }
+    }
+    text.len()
+}
+
+// Whether these marks may stand between the sign and the partial.
+fn are_marks(sign: Sign, partial: &Partial<'_>, marks: &[u8]) -> bool
+    requires { list_all Text.is_mark marks.now ≡ true }
+    ensures { result
+        ≡ Text.are_marks (npm_sign_view sign) (npm_partial_view partial.now) marks.now }
+{
+    match (sign, partial) {
+        (Sign::Compared(_), Partial::Whole(_)) => matches!(marks, [] | [b'v']),
+        (Sign::Compared(Comparator::Above | Comparator::Below), _) => {
+            !matches!(marks, [b'=', ..])
+        }
+        _ => true,
+    }
+}
+
+// The word of a sign, marks and the partial that was read behind them.
+#[tactic(auto, using(crate::proofs::Strict::WordReads::marks_found))]
+fn ended_word<'a>(
+    sign: Sign,
+    text: &'a [u8],
+    marks: usize,
+    partial: Partial<'a>,
+    rest: &'a [u8],
+) -> Option<(Signed<'a>, &'a [u8])>
+    requires marks { marks ≡ Spec.marks_len text.now }
+    requires inside { marks ≤ length text.now }
+    requires rest { length rest.now ≤ length text.now }
+    ensures { signed_front_view result ≡ Spec.ended_word (npm_sign_view sign) text.now
+        (Spec.marks_len text.now) (npm_partial_view partial.entry, rest.now) }
+{
+    if !are_marks(sign, &partial, &text[..marks]) {
+        return None;
+    }
+    if !is_boundary(rest) {
+        return None;
+    }
+    let text = &text[..text.len() - rest.len()];
+    Some((
+        Signed {
+            sign,
+            partial,
+            text,
+        },
+        rest,
+    ))
+}
+
+/// The word at the front whose numbers that count are up to the limit, and the text behind it.
+pub(crate) fn word_front(text: &[u8]) -> Option<(Signed<'_>, &[u8])>
+    ensures { signed_front_view result
+        ≡ Spec.limited_word MAX_SAFE_INTEGER (Spec.signed_word text.now) }
+{
+    let (sign, behind) = sign_front(text);
+    let marks = marks_len(behind);
+    match partial_front(&behind[marks..]) {
+        Some(read) => ended_word(sign, behind, marks, read.0, read.1),
+        None => None,
+    }
+}

@@ -1,0 +1,98 @@
+// The newest release of a list, and the greatest version that each of several ranges accepts.
+
+ghost use Rattle.nodejs_semver.specs.Ranges.Best.{IsMax, replaces};
+ghost use Rattle.nodejs_semver.specs.Ranges.Gate.{accepts};
+ghost use Rattle.nodejs_semver.specs.Ranges.View.{value_of};
+ghost use Rattle.semver_core.specs.Values.Order.{precedence};
+ghost use Rattle.semver_core.specs.Values.Versions.{is_release};
+ghost use Rattle.std.specs.List.{list_all};
+ghost use Rattle.std.specs.Ordering.{is_le};
+ghost use Rattle.std.specs.Prelude.{◌≡◌, false, map, true};
+
+use crate::RangeOf;
+use semver_core::{VersionPoint, Versioned};
+
+impl<V: VersionPoint> RangeOf<V> {
+    /// The greatest of the versions that each of the ranges accepts by `satisfies`, as one copy of
+    /// a package that serves all who depend on it. Returns `None` exactly where no version is
+    /// accepted by all; of no ranges it is the greatest version. Of equal versions it is the last.
+    ///
+    /// ```rust
+    /// let ranges = [Range::parse(alloc, "^1.2")?, Range::parse(alloc, "<1.4")?];
+    /// let versions = [Version::from((1u64, 3, 0)), Version::from((1u64, 5, 0))];
+    /// assert_eq!(rt; Range::max_satisfying_all(&ranges, &versions), Some(&versions[0]));
+    /// ```
+    pub fn max_satisfying_all<'v, W: Versioned>(
+        ranges: &[RangeOf<V>],
+        versions: &'v [W],
+    ) -> Option<&'v W>
+        ensures { IsMax (λ v. list_all (λ range. accepts range v false) ranges.now)
+            (map W.value versions.now) (value_of W.value result) }
+    {
+        let mut best = None;
+        for version in versions {
+            if is_new_shared(ranges, version, best) {
+                best = Some(version);
+            }
+        }
+        best
+    }
+}
+
+/// The newest of the releases in a list, which npm calls `latest` where no tag says otherwise.
+/// Returns `None` exactly where the list has no release. Of equal versions it is the last.
+///
+/// ```rust
+/// let versions = [Version::from((1u64, 2, 0)), Version::parse(alloc, "2.0.0-rc.1")?];
+/// assert_eq!(rt; newest_release(&versions), Some(&versions[0]));
+/// ```
+pub fn newest_release<W: Versioned>(versions: &[W]) -> Option<&W>
+    ensures { IsMax is_release (map W.value versions.now) (value_of W.value result) }
+{
+    let mut best = None;
+    for version in versions {
+        if is_new_release(version, best) {
+            best = Some(version);
+        }
+    }
+    best
+}
+
+// Whether a version is a release, and the best so far is not above it.
+#[inline(always)]
+fn is_new_release<W: Versioned>(version: &W, best: Option<&W>) -> bool
+    ensures { result ≡ replaces (λ b v. is_le (precedence b v)) is_release
+        (value_of W.value best.entry) (W.value version.now) }
+{
+    match best {
+        Some(best) => best.cmp_precedence(version).is_le() && version.is_release(),
+        None => version.is_release(),
+    }
+}
+
+// Whether each of the ranges accepts a version, and the best so far is not above it.
+fn is_new_shared<V: VersionPoint, W: Versioned>(
+    ranges: &[RangeOf<V>],
+    version: &W,
+    best: Option<&W>,
+) -> bool
+    ensures { result ≡ replaces (λ b v. is_le (precedence b v))
+        (λ v. list_all (λ range. accepts range v false) ranges.now)
+        (value_of W.value best.entry) (W.value version.now) }
+{
+    match best {
+        Some(best) => best.cmp_precedence(version).is_le() && all_accept(ranges, version),
+        None => all_accept(ranges, version),
+    }
+}
+
+// Whether each of the ranges accepts a version.
+fn all_accept<V: VersionPoint, W: Versioned>(ranges: &[RangeOf<V>], version: &W) -> bool
+    ensures { result ≡ list_all (λ range. accepts range (W.value version.now) false) ranges.now }
+{
+    ranges.iter().all(
+        |range| -> bool
+            ensures { result ≡ accepts range.now (W.value version.entry.now) false }
+        { range.satisfies(version) },
+    )
+}

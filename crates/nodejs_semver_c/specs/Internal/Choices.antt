@@ -1,0 +1,22 @@
+-- The best of some versions and its place, as more of them are read.
+use Rattle.std.specs.Prelude.{ℕ, List, Option, Some, None, ⊤, false}
+use Rattle.semver_core.specs.Cuts.{Span}
+use Rattle.semver_core.specs.Values.Versions.{VersionValue}
+use Rattle.nodejs_semver.specs.Ranges.Best.{IsMax, IsMin}
+use Rattle.nodejs_semver.specs.Ranges.Gate.{accepts}
+use Rattle.nodejs_semver_c.specs.Lists.{StandsAt}
+use Rattle.nodejs_semver_c.specs.declared.choices.Best.{Best}
+use Rattle.nodejs_semver_c.specs.declared.choices.Best.TheVariants.{Max, Min}
+
+-- the best of some versions that a range accepts
+abbrev pub IsBestOf : Best → List (Span VersionValue) → List VersionValue → Option VersionValue → Type 0
+IsBestOf Max r = IsMax (λ v. accepts r v false)
+IsBestOf Min r = IsMin (λ v. accepts r v false)
+
+-- it stands at this place, if there is one
+abbrev pub IsPlace : List VersionValue → Option VersionValue → ℕ → Type 0
+IsPlace vs None place = ⊤
+IsPlace vs (Some v) place = StandsAt vs v place
+
+abbrev pub IsBestAt : (List VersionValue → Option VersionValue → Type 0) → List VersionValue → Option VersionValue → ℕ → Type 0
+IsBestAt IsFound vs best place = IsFound vs best × IsPlace vs best place

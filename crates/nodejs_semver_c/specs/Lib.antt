@@ -1,0 +1,6 @@
+pub mod Answers
+pub mod Internal
+pub mod Least
+pub mod Lists
+pub mod Numbers
+pub mod Words

@@ -1,0 +1,47 @@
+-- Statement. What is answered about many versions at once.
+use Rattle.std.specs.Prelude.{◌≡◌, ◌≤◌, ◌^◌, ◌++◌, ◌∷◌, ◌⊎◌, Bool, if◌then◌else◌, ℕ, List, Option, Some, None, drop, length}
+use Rattle.std.specs.Borrow.{Bor}
+use Rattle.std.specs.List.{AllZip}
+use Rattle.semver_core.specs.Cuts.{Span}
+use Rattle.semver_core.specs.Values.Versions.{VersionValue}
+use Rattle.nodejs_semver.specs.Ranges.Gate.{accepts}
+use Rattle.nodejs_semver_c.specs.Answers.{IsVersionOf, RefusesVersion}
+use Rattle.nodejs_semver_c.specs.declared.TheConstants.{ANSWER_NO, ANSWER_NO_VERSION, ANSWER_YES, NOTHING, OK, TOO_LONG}
+
+-- an answer about an array of texts, or it has more than there is room for in memory, at 16 bytes each, and all is as it was
+abbrev pub OnArray : List (Bor (List ℕ)) → ℕ → Type 0 → Type 0 → Type 0
+OnArray texts status Same Answer = ((status ≡ TOO_LONG) × (2 ^ 59 ≤ length texts) × Same) ⊎ Answer
+
+-- these texts are read as these versions, each as its own
+abbrev pub AreVersionsOf : List (Bor (List ℕ)) → List VersionValue → Type 0
+AreVersionsOf texts vs = AllZip (λ text v. IsVersionOf text.now v) texts vs
+
+-- a value stands at this place of a list
+abbrev pub StandsAt : {A : Type 0} → List A → A → ℕ → Type 0
+StandsAt {A} list x place = (front back : List A) × (list ≡ front ++ x ∷ back) × (length front ≡ place)
+
+-- the place of what is found is told, if there is any
+abbrev pub TellsFound : List VersionValue → Option VersionValue → (old new status : ℕ) → Type 0
+TellsFound vs None old new status = (status ≡ NOTHING) × (new ≡ old)
+TellsFound vs (Some v) old new status = (status ≡ OK) × StandsAt vs v new
+
+-- the first text that is rejected as a version stands at this place
+abbrev pub RefusesAt : List (Bor (List ℕ)) → (place status : ℕ) → Type 0
+RefusesAt texts place status = (front back : List (Bor (List ℕ))) × (text : Bor (List ℕ)) × (texts ≡ front ++ text ∷ back)
+    × (length front ≡ place) × ((vs : List VersionValue) × AreVersionsOf front vs) × RefusesVersion text.now status
+
+-- the place of the version that is so found, or that of the first text that is none
+abbrev pub TellsPlace : (List VersionValue → Option VersionValue → Type 0) → List (Bor (List ℕ)) → (old new status : ℕ) → Type 0
+TellsPlace IsFound texts old new status = ((vs : List VersionValue) × (found : Option VersionValue) × AreVersionsOf texts vs
+    × IsFound vs found × TellsFound vs found old new status) ⊎ RefusesAt texts new status
+
+-- what a range says of the version of a text
+abbrev pub IsAnswer : List (Span VersionValue) → Bool → List ℕ → ℕ → Type 0
+IsAnswer r include bytes answer =
+    ((v : VersionValue) × IsVersionOf bytes v × (answer ≡ (if accepts r v include then ANSWER_YES else ANSWER_NO)))
+    ⊎ ((answer ≡ ANSWER_NO_VERSION) × ((status : ℕ) × RefusesVersion bytes status))
+
+-- and of each of some texts; its answers are put in front of what else stands there
+abbrev pub TellsEach : List (Span VersionValue) → Bool → List (Bor (List ℕ)) → (old new : List ℕ) → Type 0
+TellsEach r include texts old new = (told : List ℕ) × AllZip (λ text answer. IsAnswer r include text.now answer) texts told
+    × (new ≡ told ++ drop (length told) old)

@@ -1,0 +1,116 @@
+//! npm's versions and ranges for C, and for every language that calls C.
+//!
+//! Each export reads its texts from the left, asks one question of `nodejs_semver` and returns a
+//! status: `OK`, or why there is no answer. A text is its bytes in UTF-8; no byte 0 ends it. A text
+//! that is written goes into the caller's buffer, and its length into `len`; where the buffer is
+//! too small, `len` alone is written. With every other status nothing is written, unless the export
+//! says otherwise. Nothing is kept between two calls.
+#![tactic(auto)]
+
+mod choices;
+mod diagnosis;
+mod npm;
+mod print;
+mod ranges;
+mod read;
+mod sets;
+mod versions;
+
+/// The question is answered.
+pub const OK: u32 = 0;
+
+/// There is no such version, or no such range.
+pub const NOTHING: u32 = 1;
+
+/// The buffer is too small. The length that is needed stands in `len`.
+pub const TOO_SMALL: u32 = 2;
+
+/// A text is not UTF-8.
+pub const NOT_UTF8: u32 = 3;
+
+/// A text is no version.
+pub const BAD_VERSION: u32 = 4;
+
+/// A text is no range.
+pub const BAD_RANGE: u32 = 5;
+
+/// The word or the base of an increment is unknown, or there is nothing to put into a pre-release.
+pub const BAD_ARGUMENT: u32 = 6;
+
+/// The identifier of an increment is not identifiers joined by dots.
+pub const BAD_IDENTIFIER: u32 = 7;
+
+/// `release` was asked of a version that is one.
+pub const NOT_A_PRERELEASE: u32 = 8;
+
+/// A number that was to rise is the greatest of 64 bits.
+pub const OVERFLOW: u32 = 9;
+
+/// An allocation failed.
+pub const NO_MEMORY: u32 = 10;
+
+/// A text, or an array of texts, has more bytes than there is room for in memory: 2^63 or more.
+pub const TOO_LONG: u32 = 11;
+
+/// A new pre-release list begins to count with 0.
+pub const BASE_ZERO: u32 = 0;
+
+/// A new pre-release list begins to count with 1.
+pub const BASE_ONE: u32 = 1;
+
+/// A new pre-release list has no number.
+pub const BASE_NONE: u32 = 2;
+
+/// Two versions are equal.
+pub const KIND_NONE: u32 = 0;
+
+/// Two versions differ in the major number.
+pub const KIND_MAJOR: u32 = 1;
+
+/// Two versions differ in the minor number.
+pub const KIND_MINOR: u32 = 2;
+
+/// Two versions differ in the patch number.
+pub const KIND_PATCH: u32 = 3;
+
+/// The major number differs, and the higher version is a pre-release.
+pub const KIND_PREMAJOR: u32 = 4;
+
+/// The minor number differs, and the higher version is a pre-release.
+pub const KIND_PREMINOR: u32 = 5;
+
+/// The patch number differs, and the higher version is a pre-release.
+pub const KIND_PREPATCH: u32 = 6;
+
+/// Two pre-releases of the same three numbers differ.
+pub const KIND_PRERELEASE: u32 = 7;
+
+/// No number begins at the place: a digit is expected there.
+pub const FLAW_DIGIT: u32 = 0;
+
+/// A dot is expected at the place.
+pub const FLAW_DOT: u32 = 1;
+
+/// A number above 9007199254740991 begins at the place.
+pub const FLAW_NUMBER: u32 = 2;
+
+/// The text has a version at its front, and is ignored from the place on.
+pub const FLAW_IGNORED: u32 = 3;
+
+/// The text is longer than 256 bytes, which is the place.
+pub const FLAW_TOO_LONG: u32 = 4;
+
+/// The word has none of the forms of words.
+pub const WORD_MALFORMED: u32 = 0;
+
+/// The word has a form, but names no versions.
+pub const WORD_WITHOUT_BOUNDS: u32 = 1;
+
+/// The range does not accept the version.
+pub const ANSWER_NO: u8 = 0;
+
+/// The range accepts the version.
+pub const ANSWER_YES: u8 = 1;
+
+/// The text is no version.
+pub const ANSWER_NO_VERSION: u8 = 2;

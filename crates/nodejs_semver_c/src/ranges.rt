@@ -1,0 +1,128 @@
+// Questions about a range.
+
+ghost use Rattle.nodejs_semver.specs.Printing.Text.{range_text};
+ghost use Rattle.nodejs_semver.specs.Ranges.Gate.{accepts};
+ghost use Rattle.nodejs_semver.specs.Ranges.Least.{IsLeastOf, least_build};
+ghost use Rattle.nodejs_semver.specs.Ranges.Outside.{is_outside};
+ghost use Rattle.nodejs_semver.specs.Ranges.View.{TakesMemory};
+ghost use Rattle.nodejs_semver_c.specs.Answers.{Kept, NoMemoryOnlyIf, OnRange, OnVersion};
+ghost use Rattle.nodejs_semver_c.specs.Answers.{Prints, PrintsFound};
+ghost use Rattle.nodejs_semver_c.specs.Numbers.{side_of};
+ghost use Rattle.semver_core.specs.Printing.Text.{version_text};
+ghost use Rattle.semver_core.specs.Values.Versions.{VersionValue, is_release};
+ghost use Rattle.semver_core.specs.declared.cuts.bound.Bound.TheVariants.{After};
+ghost use Rattle.std.specs.List.{Any};
+ghost use Rattle.std.specs.Prelude.{◌≡◌, ◌⊎◌, IfSome, Option, Some, false, true};
+
+use crate::print::{print, print_found};
+use crate::{NO_MEMORY, OK, read};
+use nodejs_semver::npm;
+use std::alloc::Global;
+
+/// Prints the range of a text in its normal form: `^1.2` as `>=1.2.0 <2.0.0-0`.
+///
+/// Returns `OK`, `TOO_SMALL`, `NOT_UTF8`, `BAD_RANGE`, `NO_MEMORY` or `TOO_LONG`.
+#[unsafe(no_mangle)]
+pub extern "C" fn nodejs_semver_range_print(
+    alloc: Global,
+    range: &[u8],
+    out: &mut [u8],
+    len: &mut usize,
+) -> u32
+    ensures { OnRange range.now result (Kept out.old out.new len.old len.new)
+        (λ r. Prints (range_text r) out.old out.new len.old len.new result) }
+{
+    match read::range(alloc, range) {
+        Ok(range) => print(alloc, &range, out, len),
+        Err(status) => status,
+    }
+}
+
+/// Whether a range accepts a version. A pre-release is accepted only where a bound names one of the
+/// same three numbers, unless pre-releases are included.
+///
+/// Returns `OK`, `NOT_UTF8`, `BAD_RANGE`, `BAD_VERSION`, `NO_MEMORY` or `TOO_LONG`.
+#[unsafe(no_mangle)]
+pub extern "C" fn nodejs_semver_range_satisfies(
+    alloc: Global,
+    range: &[u8],
+    version: &[u8],
+    include_prerelease: bool,
+    answer: &mut bool,
+) -> u32
+    ensures { let kept = answer.new ≡ answer.old in
+        OnRange range.now result kept (λ r. OnVersion version.now result kept (λ v.
+        (result ≡ OK) × (answer.new ≡ accepts r v include_prerelease))) }
+{
+    let range = match read::range(alloc, range) {
+        Ok(range) => range,
+        Err(status) => return status,
+    };
+    let version = match read::version(version) {
+        Ok(version) => version,
+        Err(status) => return status,
+    };
+    *answer = range.satisfies_with_prerelease(&version, include_prerelease);
+    OK
+}
+
+/// Whether a version lies above a range, or below it where `above` is false: the range does not
+/// accept it, and every interval of the range lies on the other side.
+///
+/// Returns `OK`, `NOT_UTF8`, `BAD_RANGE`, `BAD_VERSION`, `NO_MEMORY` or `TOO_LONG`.
+#[unsafe(no_mangle)]
+pub extern "C" fn nodejs_semver_range_outside(
+    alloc: Global,
+    range: &[u8],
+    version: &[u8],
+    above: bool,
+    include_prerelease: bool,
+    answer: &mut bool,
+) -> u32
+    ensures { let kept = answer.new ≡ answer.old in
+        OnRange range.now result kept (λ r. OnVersion version.now result kept (λ v.
+        (result ≡ OK) × (answer.new ≡ is_outside (side_of above) include_prerelease r v))) }
+{
+    let range = match read::range(alloc, range) {
+        Ok(range) => range,
+        Err(status) => return status,
+    };
+    let version = match read::version(version) {
+        Ok(version) => version,
+        Err(status) => return status,
+    };
+    *answer = if above {
+        npm::gtr(&version, &range, include_prerelease)
+    } else {
+        npm::ltr(&version, &range, include_prerelease)
+    };
+    OK
+}
+
+/// Prints the smallest version that a range accepts.
+///
+/// Returns `OK`, `NOTHING`, `TOO_SMALL`, `NOT_UTF8`, `BAD_RANGE`, `NO_MEMORY` or `TOO_LONG`.
+#[unsafe(no_mangle)]
+pub extern "C" fn nodejs_semver_range_min_version(
+    alloc: Global,
+    range: &[u8],
+    out: &mut [u8],
+    len: &mut usize,
+) -> u32
+    ensures { let kept = Kept out.old out.new len.old len.new in
+        OnRange range.now result kept (λ r.
+        ((found : Option VersionValue) × IsLeastOf (λ v. accepts r v false) found
+        × IfSome found (λ v. v.build ≡ least_build r v)
+        × PrintsFound (λ v. Some (version_text v)) found out.old out.new len.old len.new result)
+        ⊎ NoMemoryOnlyIf result kept (((v : VersionValue) × (accepts r v false ≡ true))
+        ⊎ Any (λ s. (v : VersionValue) × (s.lower ≡ After v) × (is_release v ≡ false)) r
+        ⊎ TakesMemory r)) }
+{
+    match read::range(alloc, range) {
+        Ok(range) => match range.min_version(alloc) {
+            Ok(found) => print_found(alloc, found, out, len),
+            Err(_) => NO_MEMORY,
+        },
+        Err(status) => status,
+    }
+}

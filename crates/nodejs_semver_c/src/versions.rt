@@ -1,0 +1,217 @@
+// Questions about versions.
+
+ghost use Rattle.nodejs_semver_c.specs.Answers.{Kept, OnText, OnVersion, Prints, PrintsNext};
+ghost use Rattle.nodejs_semver_c.specs.Answers.{PrintsResult};
+ghost use Rattle.nodejs_semver_c.specs.Internal.Failures.{failure_number};
+ghost use Rattle.nodejs_semver_c.specs.Numbers.{base_of, fault_number, kind_number, order_number};
+ghost use Rattle.semver_core.specs.Difference.{kind_between};
+ghost use Rattle.semver_core.specs.Increments.Table.{answer_of_inc};
+ghost use Rattle.semver_core.specs.Increments.View.{fault_of};
+ghost use Rattle.semver_core.specs.Printing.Text.{version_text};
+ghost use Rattle.semver_core.specs.Values.Order.{precedence};
+ghost use Rattle.std.specs.Prelude.{◌≡◌, ⊤, Some};
+
+use crate::print::print;
+use crate::{
+    BAD_ARGUMENT, BAD_IDENTIFIER, BASE_NONE, BASE_ONE, BASE_ZERO, KIND_MAJOR, KIND_MINOR,
+    KIND_NONE, KIND_PATCH, KIND_PREMAJOR, KIND_PREMINOR, KIND_PREPATCH, KIND_PRERELEASE, NO_MEMORY,
+    NOT_A_PRERELEASE, OK, OVERFLOW, read,
+};
+use nodejs_semver::{Failure, IdentifierBase, IncrementError, VersionDiff, VersionRef};
+use std::alloc::Global;
+use std::cmp::Ordering;
+
+/// Whether a text is a version, as npm's loose grammar has it: the status is `OK` or says why not.
+///
+/// Returns `OK`, `NOT_UTF8`, `BAD_VERSION` or `TOO_LONG`.
+#[unsafe(no_mangle)]
+pub extern "C" fn nodejs_semver_version_check(version: &[u8]) -> u32
+    ensures { OnVersion version.now result ⊤ (λ v. result ≡ OK) }
+{
+    match read::version(version) {
+        Ok(_) => OK,
+        Err(status) => status,
+    }
+}
+
+/// Prints the version of a text: `v1.2.3 oops` as `1.2.3`.
+///
+/// Returns `OK`, `TOO_SMALL`, `NOT_UTF8`, `BAD_VERSION`, `NO_MEMORY` or `TOO_LONG`.
+#[unsafe(no_mangle)]
+pub extern "C" fn nodejs_semver_version_print(
+    alloc: Global,
+    version: &[u8],
+    out: &mut [u8],
+    len: &mut usize,
+) -> u32
+    ensures { OnVersion version.now result (Kept out.old out.new len.old len.new)
+        (λ v. Prints (version_text v) out.old out.new len.old len.new result) }
+{
+    match read::version(version) {
+        Ok(version) => print(alloc, &version, out, len),
+        Err(status) => status,
+    }
+}
+
+/// How the first version compares to the second: `order` gets -1, 0 or 1. Build metadata does not
+/// count.
+///
+/// Returns `OK`, `NOT_UTF8`, `BAD_VERSION` or `TOO_LONG`.
+#[unsafe(no_mangle)]
+pub extern "C" fn nodejs_semver_version_compare(
+    version: &[u8],
+    other: &[u8],
+    order: &mut i32,
+) -> u32
+    ensures { let kept = order.new ≡ order.old in
+        OnVersion version.now result kept (λ v. OnVersion other.now result kept (λ w.
+        (result ≡ OK) × (order.new ≡ order_number (precedence v w)))) }
+{
+    let version = match read::version(version) {
+        Ok(version) => version,
+        Err(status) => return status,
+    };
+    let other = match read::version(other) {
+        Ok(other) => other,
+        Err(status) => return status,
+    };
+    *order = number_of(version.cmp(&other));
+    OK
+}
+
+fn number_of(order: Ordering) -> i32
+    ensures { result ≡ order_number order }
+{
+    match order {
+        Ordering::Less => -1,
+        Ordering::Equal => 0,
+        Ordering::Greater => 1,
+    }
+}
+
+/// The kind of difference between two versions: `kind` gets one of `KIND_NONE` to
+/// `KIND_PRERELEASE`.
+///
+/// Returns `OK`, `NOT_UTF8`, `BAD_VERSION` or `TOO_LONG`.
+#[unsafe(no_mangle)]
+pub extern "C" fn nodejs_semver_version_diff(version: &[u8], other: &[u8], kind: &mut u32) -> u32
+    ensures { let kept = kind.new ≡ kind.old in
+        OnVersion version.now result kept (λ v. OnVersion other.now result kept (λ w.
+        (result ≡ OK) × (kind.new ≡ kind_number (kind_between v w)))) }
+{
+    let version = match read::version(version) {
+        Ok(version) => version,
+        Err(status) => return status,
+    };
+    let other = match read::version(other) {
+        Ok(other) => other,
+        Err(status) => return status,
+    };
+    *kind = kind_of(version.diff(&other));
+    OK
+}
+
+fn kind_of(kind: Option<VersionDiff>) -> u32
+    ensures { result ≡ kind_number kind }
+{
+    match kind {
+        None => KIND_NONE,
+        Some(VersionDiff::Major) => KIND_MAJOR,
+        Some(VersionDiff::Minor) => KIND_MINOR,
+        Some(VersionDiff::Patch) => KIND_PATCH,
+        Some(VersionDiff::PreMajor) => KIND_PREMAJOR,
+        Some(VersionDiff::PreMinor) => KIND_PREMINOR,
+        Some(VersionDiff::PrePatch) => KIND_PREPATCH,
+        Some(VersionDiff::PreRelease) => KIND_PRERELEASE,
+    }
+}
+
+/// Prints the next version by a word, as `minor` or `prerelease`. An empty identifier is none. The
+/// base, one of `BASE_ZERO`, `BASE_ONE` and `BASE_NONE`, says what a new pre-release list begins to
+/// count with.
+///
+/// Returns `OK`, `TOO_SMALL`, `NOT_UTF8`, `BAD_VERSION`, `BAD_ARGUMENT`, `BAD_IDENTIFIER`,
+/// `NOT_A_PRERELEASE`, `OVERFLOW`, `NO_MEMORY` or `TOO_LONG`.
+#[unsafe(no_mangle)]
+pub extern "C" fn nodejs_semver_version_inc(
+    alloc: Global,
+    version: &[u8],
+    word: &[u8],
+    identifier: &[u8],
+    base: u32,
+    out: &mut [u8],
+    len: &mut usize,
+) -> u32
+    ensures { let kept = Kept out.old out.new len.old len.new in
+        OnVersion version.now result kept (λ v. OnText word.now result kept (
+        OnText identifier.now result kept (
+        PrintsNext (λ base. answer_of_inc v word.now (Some identifier.now) (Some base))
+        (base_of base) out.old out.new len.old len.new result))) }
+{
+    let version = match read::version(version) {
+        Ok(version) => version,
+        Err(status) => return status,
+    };
+    let word = match read::text(word) {
+        Ok(word) => word,
+        Err(status) => return status,
+    };
+    let identifier = match read::text(identifier) {
+        Ok(identifier) => identifier,
+        Err(status) => return status,
+    };
+    let Some(base) = base_of(base) else {
+        return BAD_ARGUMENT;
+    };
+    print_next(alloc, &version, word, identifier, base, out, len)
+}
+
+fn print_next(
+    alloc: Global,
+    version: &VersionRef<'_>,
+    word: &str,
+    identifier: &str,
+    base: IdentifierBase,
+    out: &mut [u8],
+    len: &mut usize,
+) -> u32
+    ensures { PrintsResult
+        (answer_of_inc version.now word.now (Some identifier.now) (Some base))
+        out.old out.new len.old len.new result }
+{
+    match version.inc(alloc, word, Some(identifier), Some(base)) {
+        Ok(next) => print(alloc, &next, out, len),
+        Err(failure) => status_of_failure(&failure),
+    }
+}
+
+fn base_of(base: u32) -> Option<IdentifierBase>
+    ensures { result ≡ base_of base }
+{
+    match base {
+        BASE_ZERO => Some(IdentifierBase::Value(0)),
+        BASE_ONE => Some(IdentifierBase::Value(1)),
+        BASE_NONE => Some(IdentifierBase::False),
+        _ => None,
+    }
+}
+
+fn status_of_failure(failure: &Failure<IncrementError>) -> u32
+    ensures { result ≡ failure_number failure.now }
+{
+    match failure {
+        Failure::Refused(error) => status_of(error),
+        Failure::Memory(_) => NO_MEMORY,
+    }
+}
+
+fn status_of(error: &IncrementError) -> u32
+    ensures { result ≡ fault_number (fault_of error.now) }
+{
+    match error {
+        IncrementError::InvalidIncrementArgument(_) => BAD_ARGUMENT,
+        IncrementError::InvalidIdentifier(_) => BAD_IDENTIFIER,
+        IncrementError::NotAPrerelease(_) => NOT_A_PRERELEASE,
+        IncrementError::Overflow => OVERFLOW,
+    }
+}

@@ -1,0 +1,57 @@
+-- A list that the identifier of `inc` replaces, whatever the number at its end.
+use Rattle.std.proofs.Common.{◌≡◌, ◌∙◌, ◌==◌, ◌-◌, ◌^◌, ◌++◌, ◌∷◌, ◌+◌, ℕ, true, false, not, List, [], arith, inl, inr, refl}
+use Rattle.std.specs.Prelude.{Ok}
+use Rattle.std.proofs.lemmas.Bool.{and_parts, cases_Bool}
+use Rattle.semver_core.specs.Increments.Table.{◌>>=◌, advance, first_number, has_numeric, is_false, is_kept, one_more, raise_last}
+use Rattle.semver_core.specs.Internal.IncrementSteps.{begun, can_rise, stepped}
+use Rattle.semver_core.specs.Lists.{is_empty}
+use Rattle.semver_core.specs.Text.Identifiers.{Id, Numeric, AlphaNumeric}
+use Rattle.semver_core.specs.declared.increment.IdentifierBase.{IdentifierBase}
+use Rattle.std.specs.Char.{is_ascii_digit}
+use Rattle.std.specs.List.{list_all}
+use Rattle.std.specs.Str.{bytes_eq}
+use Rattle.semver_core.proofs.Increments.LastNumber.{asked_digits, asked_text}
+
+one : (n : ℕ) (xs : List Id) → not (n == 2 ^ 64 - 1) ≡ true
+    → (one_more n >>= λ more. Ok (Numeric more ∷ xs)) ≡ Ok (Numeric (n + 1) ∷ xs)
+one n xs h = let small : (n == 2 ^ 64 - 1) ≡ false = grind arith in rw small refl
+
+-- a list of which no number is the largest one rises
+rises : (xs : List Id) → can_rise xs ≡ true → (ys : List Id) × (raise_last xs ≡ Ok ys)
+rises [] h = ([], refl)
+rises (AlphaNumeric text ∷ xs) h =
+    let r = rises xs h in
+    (AlphaNumeric text ∷ r.0, rw r.1 refl)
+rises (Numeric n ∷ xs) h =
+    let both = and_parts (not (n == 2 ^ 64 - 1)) (can_rise xs) h in
+    elim (cases_Bool (has_numeric xs)) [
+      | inl more ↦ let r = rises xs both.1 in (Numeric n ∷ r.0, rw (more, r.1) refl)
+      | inr last ↦ (Numeric (n + 1) ∷ xs, rw last (one n xs both.0))
+    ]
+
+-- what the first half of the pre step makes of it still begins with the same text
+advances : (text : List ℕ) (xs : List Id) (id : List ℕ) (base : IdentifierBase) → is_false base ≡ false → can_rise xs ≡ true
+    → (ys : List Id) × (advance (AlphaNumeric text ∷ xs) id base ≡ Ok (AlphaNumeric text ∷ ys))
+advances text xs id base some h = elim (cases_Bool (has_numeric xs)) [
+  | inl more ↦ let r = rises xs h in (r.0, rw (more, r.1) refl)
+  | inr none ↦ (xs ++ Numeric (first_number base) ∷ [], rw (none, some) refl)
+]
+
+-- another text is not kept
+other : (text id : List ℕ) (ys : List Id) → bytes_eq text id ≡ false → is_kept id (AlphaNumeric text ∷ ys) ≡ false
+other text id [] differs = refl
+other text id (AlphaNumeric second ∷ ys) differs = refl
+other text id (Numeric n ∷ ys) differs = elim (cases_Bool (list_all is_ascii_digit id)) [
+  | inl digits ↦ asked_digits id text digits
+  | inr word ↦ asked_text id text word ∙ differs
+]
+
+pub text_replaced : (text : List ℕ) (xs list : List Id) (id : List ℕ) (base : IdentifierBase) → is_empty id ≡ false → is_false base ≡ false
+    → bytes_eq text id ≡ false → can_rise xs ≡ true → list ≡ AlphaNumeric text ∷ xs → stepped list id base ≡ Ok (begun id base)
+text_replaced text xs list id base some numbered differs h e =
+    let a = advances text xs id base numbered h in
+    rw (e, a.1, some, other text id a.0 differs) refl
+
+pub none_replaced : (list : List Id) (id : List ℕ) (base : IdentifierBase) → is_empty id ≡ false → list ≡ []
+    → stepped list id base ≡ Ok (begun id base)
+none_replaced list id base some e = rw (e, some) refl

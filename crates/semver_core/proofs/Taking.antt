@@ -1,0 +1,25 @@
+-- A version is made or copied without memory where it has no identifiers, or the pre-release 0 alone.
+use Rattle.std.proofs.Common.{◌≡◌, true, List, [], ◌∷◌, ◌==◌, refl, arith, inl, inr}
+use Rattle.std.specs.Prelude.{IsOk, OnErr, Result, Ok, Err}
+use Rattle.std.proofs.lemmas.Bool.{cases_Bool, eqb-true}
+use Rattle.std.proofs.lemmas.Bool.Decides.{nat_tests}
+use Rattle.semver_core.specs.Text.Identifiers.{Id, Numeric, AlphaNumeric}
+use Rattle.semver_core.specs.Values.Versions.{HasIdentifiers, VersionValue}
+use Rattle.semver_core.specs.Values.Memory.{takes_memory}
+
+taken : (v : VersionValue) (pre build : List Id) → v.pre_release ≡ pre → v.build ≡ build → HasIdentifiers v
+    → (v.pre_release ≡ Numeric 0 ∷ [] → v.build ≡ [] → ⊥) → takes_memory v ≡ true
+taken v [] [] e f h none = grind (arith, h)
+taken v [] (y ∷ ys) e f h none = rw (e, f) refl
+taken v (AlphaNumeric t ∷ xs) build e f h none = rw e refl
+taken v (Numeric n ∷ x ∷ xs) build e f h none = rw e (grind (arith, nat_tests))
+taken v (Numeric n ∷ []) (y ∷ ys) e f h none = rw f (grind arith)
+taken v (Numeric n ∷ []) [] e f h none = elim (cases_Bool (n == 0)) [
+  | inl z ↦ let zero : n ≡ 0 = eqb-true n 0 z in absurd (none (rw zero at e) f)
+  | inr o ↦ rw e (grind (arith, nat_tests, o))
+]
+
+pub taking : {A E : Type 0} (v : VersionValue) (r : Result A E) → OnErr r (HasIdentifiers v)
+    → (v.pre_release ≡ Numeric 0 ∷ [] → v.build ≡ [] → IsOk r) → OnErr r (takes_memory v ≡ true)
+taking v (Ok x) h none = tt
+taking v (Err x) h none = taken v v.pre_release v.build refl refl h (λ e f. let w = none e f in grind (arith, w))

@@ -1,0 +1,14 @@
+use Rattle.std.proofs.Common.{◌≡◌, ◌∙◌, ◌∷◌, false, sym, arith}
+use Rattle.std.specs.Str.{bytes_eq}
+use Rattle.semver_core.specs.Lists.{is_empty}
+use Rattle.semver_core.specs.Text.Identifiers.{AlphaNumeric}
+use Rattle.semver_core.proofs.Increments.Replaced.{text_replaced}
+use Rattle.semver_core.proofs.increment.pre_release.is_replaced.Goals as goal
+
+pub returns-then-ne : goal.returns-then-ne
+returns-then-ne c = λ ris.
+    let some : is_empty c.args.id.now ≡ false = grind arith in
+    let differs : bytes_eq c.in-Some-AlphaNumeric.first.now c.args.id.now ≡ false = grind arith in
+    let list : c.args.ids.now ≡ AlphaNumeric c.in-Some-AlphaNumeric.first.now ∷ c.next.new.self = grind arith in
+    text_replaced c.in-Some-AlphaNumeric.first.now c.next.new.self c.args.ids.now c.args.id.now c.args.base some
+    (sym c.is_false.ensures ∙ c.if-is_false.false) differs (c.can_rise.ensures ris) list

@@ -1,0 +1,54 @@
+-- What is proved of each row of the table, whatever the identifier and the base are.
+use Rattle.std.proofs.Common.{◌≡◌, ◌+◌, codes, subst, sym, [], ℕ, List, Option}
+use Rattle.std.specs.Prelude.{IsOkAnd, Result, unwrap_or, ⊤}
+use Rattle.semver_core.specs.Increments.Least.{IsAbove, IsLeastOrOverflow, IsLeastVersion, IsPlain}
+use Rattle.semver_core.specs.Increments.Table.{Fault, answer_of_inc, incremented}
+use Rattle.semver_core.specs.Values.Versions.{VersionValue}
+use Rattle.semver_core.specs.declared.increment.IdentifierBase.{IdentifierBase}
+use Rattle.semver_core.specs.declared.increment.IdentifierBase.TheVariants.{Value}
+use Rattle.semver_core.proofs.Increments.Laws.{IsMinorAbove, IsPatchAbove, increment_rises}
+use Rattle.semver_core.proofs.Increments.Laws.{patch_least, minor_least, major_least, premajor_least}
+use Rattle.semver_core.proofs.Increments.Laws.{preminor_least, prepatch_least, prerelease_least}
+use Rattle.semver_core.proofs.laws.increments.least_increments.Goals as goal
+
+-- without identifier and with base 0
+plain : (P : Result VersionValue Fault → Type 0) (v : VersionValue) (word : List ℕ) (id : Option (List ℕ)) (base : Option IdentifierBase)
+    → IsPlain id base → P (incremented v word [] (Value 0)) → P (answer_of_inc v word id base)
+plain P v word id base is p =
+    let same : incremented v word (unwrap_or id []) (unwrap_or base (Value 0)) ≡ incremented v word [] (Value 0) =
+    λ i. incremented v word (is.0 i) (is.1 i) in
+    subst P (sym same) p
+
+pub returns-clause-patch : goal.returns-clause-patch
+returns-clause-patch c = λ v id base k. patch_least v (unwrap_or id []) (unwrap_or base (Value 0)) k
+
+pub returns-clause-minor : goal.returns-clause-minor
+returns-clause-minor c = λ v id base k. minor_least v (unwrap_or id []) (unwrap_or base (Value 0)) k
+
+pub returns-clause-major : goal.returns-clause-major
+returns-clause-major c = λ v id base k. major_least v (unwrap_or id []) (unwrap_or base (Value 0)) k
+
+pub returns-clause-premajor : goal.returns-clause-premajor
+returns-clause-premajor c = λ v id base k is.
+    plain (IsLeastOrOverflow (λ w. w.major ≡ v.major + 1)) v (codes "premajor") id base is (premajor_least v [] (Value 0) k)
+
+pub returns-clause-preminor : goal.returns-clause-preminor
+returns-clause-preminor c = λ v id base k is.
+    plain (IsLeastOrOverflow (IsMinorAbove v)) v (codes "preminor") id base is (preminor_least v [] (Value 0) k)
+
+pub returns-clause-prepatch : goal.returns-clause-prepatch
+returns-clause-prepatch c = λ v id base k is.
+    plain (IsLeastOrOverflow (IsPatchAbove v)) v (codes "prepatch") id base is (prepatch_least v [] (Value 0) k)
+
+pub returns-clause-prerelease : goal.returns-clause-prerelease
+returns-clause-prerelease c = λ v id base k is rises no_number.
+    plain (λ answer. IsOkAnd answer (IsLeastVersion (IsAbove v))) v (codes "prerelease") id base is
+    (prerelease_least v k rises no_number)
+
+pub returns-clause-above : goal.returns-clause-above
+returns-clause-above c = λ v w word id base none can e.
+    (increment_rises v (unwrap_or id []) (unwrap_or base (Value 0)) ⊤ word w (λ _. none) (λ _. can) e).1 tt
+
+pub returns-clause-build : goal.returns-clause-build
+returns-clause-build c = λ v w word id base e.
+    (increment_rises v (unwrap_or id []) (unwrap_or base (Value 0)) ⊥ word w (λ no. absurd no) (λ no. absurd no) e).0

@@ -1,0 +1,34 @@
+-- The table is held against the definition at each of the 256 bytes, by computing.
+use Rattle.std.proofs.Common.{◌≡◌, ℕ, zero, suc, ◌<◌, Bool, true, false, ◌&&◌, not, nat_eq, get_or, List, refl, arith, inl, inr}
+use Rattle.std.specs.Bool.{beq}
+use Rattle.std.proofs.lemmas.Bool.{cases_eq}
+use Rattle.semver_core.specs.Text.Characters.{is_identifier_char}
+use Rattle.semver_core.specs.declared.scan.TheConstants.{IDENTIFIER_CHARS}
+use Rattle.semver_core.proofs.scan.is_identifier_char.Goals as goal
+
+-- two tests agree below n
+agree_below : (ℕ → Bool) → (ℕ → Bool) → ℕ → Bool
+agree_below f g zero = true
+agree_below f g (suc n) = beq (f n) (g n) && agree_below f g n
+
+agree-both : (x y rest : Bool) → (beq x y && rest) ≡ true → (x ≡ y) × (rest ≡ true)
+agree-both true true rest h = (refl, h)
+agree-both true false rest h = cc
+agree-both false true rest h = cc
+agree-both false false rest h = (refl, h)
+
+agree-at : (f g : ℕ → Bool) (n : ℕ) → agree_below f g n ≡ true → (b : ℕ) → b < n → f b ≡ g b
+unfolding agree_below
+agree-at f g zero h b lt = absurd (omega arith)
+agree-at f g (suc n) h b lt =
+    let both = agree-both (f n) (g n) (agree_below f g n) h in
+    elim (cases_eq b n) [ inl same ↦ rw same both.0 | inr other ↦ agree-at f g n both.1 b (omega arith) ]
+
+from-table : (table : List ℕ) (b : ℕ) → b < 256
+    → agree_below (λ k. not (nat_eq (get_or table k 0) 32)) is_identifier_char 256 ≡ true
+    → not (nat_eq (get_or table b 0) 32) ≡ is_identifier_char b
+from-table table b lt h = agree-at _ _ 256 h b lt
+
+pub returns : goal.returns
+unfolding agree_below
+returns c = from-table IDENTIFIER_CHARS c.args.byte (omega arith) refl

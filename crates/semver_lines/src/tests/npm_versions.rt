@@ -1,0 +1,96 @@
+// Version texts as node-semver's strict reading has them.
+
+ghost use Rattle.std.specs.Prelude.{◌≡◌, IfErr, IfOk};
+ghost use Rattle.nodejs_semver.specs.Failures.{NoValue};
+ghost use Rattle.nodejs_semver.specs.Npm.VersionText.{IsVersionText};
+ghost use Rattle.nodejs_semver.specs.Versions.{VersionValue};
+
+use super::{long_text, prints};
+use nodejs_semver::{MAX_SAFE_INTEGER, SemverError, npm};
+use std::alloc::Global;
+
+// The first number of the version that a text is.
+fn major_of(text: &str) -> Result<u64, SemverError>
+    ensures ok { IfOk result (λ n. (v : VersionValue)
+        × IsVersionText MAX_SAFE_INTEGER text.now v × (n ≡ v.major)) }
+    ensures refused { IfErr result (λ _. NoValue (IsVersionText MAX_SAFE_INTEGER text.now)) }
+{
+    match npm::version(text) {
+        Ok(version) => Ok(version.major()),
+        Err(error) => Err(error),
+    }
+}
+
+// Whether the text is a version.
+fn is_version(text: &str) -> bool {
+    npm::version(text).is_ok()
+}
+
+// Texts, and what node-semver prints of their versions, with their builds.
+const READ: &[(&str, &str)] = &[
+    ("1.2.3", "1.2.3"),
+    ("v1.2.3", "1.2.3"),
+    (" \u{3000}v0.20.0\n", "0.20.0"),
+    ("0.0.9007199254740991", "0.0.9007199254740991"),
+    ("1.2.3-0.a-1.00a+7.x", "1.2.3-0.a-1.00a+7.x"),
+    ("1.2.3--", "1.2.3--"),
+];
+
+// Texts of which node-semver reads no version. The port reads a front of most.
+const REJECTED: &[&str] = &[
+    "",
+    "1.2",
+    "1.2.x",
+    "01.2.3",
+    "1.02.3",
+    "1.2.00",
+    "1.2.3-01",
+    "1.2.3-a.00",
+    "0.0.9007199254740992",
+    "1.2.3beta",
+    "V1.2.3",
+    "=1.2.3",
+    "vv1.2.3",
+    "v 1.2.3",
+    "1.2.3.4",
+    "1.2.3-",
+    "1.2.3-a..b",
+    "1.2.3+",
+    "1.2.3+a+b",
+    "1.2.3 4",
+];
+
+fn reads_as(alloc: Global, text: &str, printed: &str) -> bool {
+    match npm::version(text) {
+        Ok(version) => prints(alloc, &version, printed),
+        Err(_) => false,
+    }
+}
+
+#[test]
+fn versions_are_read_strictly(rt: HostRuntime) {
+    for (text, printed) in READ {
+        assert!(rt; reads_as(rt.alloc(), text, printed));
+    }
+    for text in REJECTED {
+        assert!(rt; !is_version(text));
+    }
+    assert_eq!(rt; major_of("v20.1.0"), Ok(20));
+}
+
+// Whether a text of `1.2.3`, and this character so many times behind it, is a version.
+fn is_version_before(alloc: Global, behind: &str, count: usize) -> bool {
+    match long_text(alloc, "1.2.3", behind, count) {
+        Ok(text) => is_version(text.as_str()),
+        Err(_) => false,
+    }
+}
+
+// 256 characters may stand in a text, which are more bytes here.
+#[test]
+fn characters_are_counted(rt: HostRuntime) {
+    assert!(rt; is_version_before(rt.alloc(), "\u{3000}", 251));
+    assert!(rt; !is_version_before(rt.alloc(), "\u{3000}", 252));
+    assert!(rt; is_version_before(rt.alloc(), " ", 251));
+    assert!(rt; !is_version_before(rt.alloc(), " ", 252));
+}

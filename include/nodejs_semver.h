@@ -1,0 +1,319 @@
+/*
+ * npm's versions and ranges, for C11 and C++17. Made by tools/c_header; docs/C.md says more.
+ *
+ * Every function returns a status: NODEJS_SEMVER_OK, or why there is no answer. The texts are read from the left, and the first that
+ * is rejected decides the status.
+ *
+ * A text is a pointer to bytes in UTF-8 and their number; no byte 0 ends it, and the pointer is not NULL unless the number is 0. It is
+ * only read. Nothing is kept between two calls, so nothing has to be freed, and any thread may call at any time.
+ *
+ * A text that is answered goes to the front of `out`, a buffer of the caller of `out_size` bytes, with no byte 0 behind it, and its
+ * length to `len`. If the buffer is too small, the status is NODEJS_SEMVER_TOO_SMALL, `len` is the length that is needed, and the
+ * buffer is unchanged. With every other status nothing is written, unless the function says otherwise.
+ *
+ * What a pointer leads to that a function writes must be no part of what another argument leads to.
+ */
+#ifndef NODEJS_SEMVER_H
+#define NODEJS_SEMVER_H
+
+#include <stdbool.h>
+#include <stddef.h>
+#include <stdint.h>
+
+#ifdef __cplusplus
+extern "C" {
+#endif
+
+/* A status: one of the constants from NODEJS_SEMVER_OK on. */
+typedef uint32_t nodejs_semver_status;
+
+/* A text in an array of texts. Its pointer is not NULL. */
+typedef struct {
+    const char *at;
+    size_t len;
+} nodejs_semver_text;
+
+/* What a function returns. */
+enum {
+    /* The question is answered. */
+    NODEJS_SEMVER_OK = 0,
+    /* There is no such version, or no such range. */
+    NODEJS_SEMVER_NOTHING = 1,
+    /* The buffer is too small. The length that is needed stands in `len`. */
+    NODEJS_SEMVER_TOO_SMALL = 2,
+    /* A text is not UTF-8. */
+    NODEJS_SEMVER_NOT_UTF8 = 3,
+    /* A text is no version. */
+    NODEJS_SEMVER_BAD_VERSION = 4,
+    /* A text is no range. */
+    NODEJS_SEMVER_BAD_RANGE = 5,
+    /* The word or the base of an increment is unknown, or there is nothing to put into a pre-release. */
+    NODEJS_SEMVER_BAD_ARGUMENT = 6,
+    /* The identifier of an increment is not identifiers joined by dots. */
+    NODEJS_SEMVER_BAD_IDENTIFIER = 7,
+    /* `release` was asked of a version that is one. */
+    NODEJS_SEMVER_NOT_A_PRERELEASE = 8,
+    /* A number that was to rise is the greatest of 64 bits. */
+    NODEJS_SEMVER_OVERFLOW = 9,
+    /* An allocation failed. */
+    NODEJS_SEMVER_NO_MEMORY = 10,
+    /* A text, or an array of texts, has more bytes than there is room for in memory: 2^63 or more. */
+    NODEJS_SEMVER_TOO_LONG = 11
+};
+
+/* What a new pre-release list begins to count with. */
+enum {
+    /* A new pre-release list begins to count with 0. */
+    NODEJS_SEMVER_BASE_ZERO = 0,
+    /* A new pre-release list begins to count with 1. */
+    NODEJS_SEMVER_BASE_ONE = 1,
+    /* A new pre-release list has no number. */
+    NODEJS_SEMVER_BASE_NONE = 2
+};
+
+/* The kind of difference between two versions. */
+enum {
+    /* Two versions are equal. */
+    NODEJS_SEMVER_KIND_NONE = 0,
+    /* Two versions differ in the major number. */
+    NODEJS_SEMVER_KIND_MAJOR = 1,
+    /* Two versions differ in the minor number. */
+    NODEJS_SEMVER_KIND_MINOR = 2,
+    /* Two versions differ in the patch number. */
+    NODEJS_SEMVER_KIND_PATCH = 3,
+    /* The major number differs, and the higher version is a pre-release. */
+    NODEJS_SEMVER_KIND_PREMAJOR = 4,
+    /* The minor number differs, and the higher version is a pre-release. */
+    NODEJS_SEMVER_KIND_PREMINOR = 5,
+    /* The patch number differs, and the higher version is a pre-release. */
+    NODEJS_SEMVER_KIND_PREPATCH = 6,
+    /* Two pre-releases of the same three numbers differ. */
+    NODEJS_SEMVER_KIND_PRERELEASE = 7
+};
+
+/* What is wrong with a version text. */
+enum {
+    /* No number begins at the place: a digit is expected there. */
+    NODEJS_SEMVER_FLAW_DIGIT = 0,
+    /* A dot is expected at the place. */
+    NODEJS_SEMVER_FLAW_DOT = 1,
+    /* A number above 9007199254740991 begins at the place. */
+    NODEJS_SEMVER_FLAW_NUMBER = 2,
+    /* The text has a version at its front, and is ignored from the place on. */
+    NODEJS_SEMVER_FLAW_IGNORED = 3,
+    /* The text is longer than 256 bytes, which is the place. */
+    NODEJS_SEMVER_FLAW_TOO_LONG = 4
+};
+
+/* Why a word of a range text is ignored. */
+enum {
+    /* The word has none of the forms of words. */
+    NODEJS_SEMVER_WORD_MALFORMED = 0,
+    /* The word has a form, but names no versions. */
+    NODEJS_SEMVER_WORD_WITHOUT_BOUNDS = 1
+};
+
+/* What a range says of one of many versions. */
+enum {
+    /* The range does not accept the version. */
+    NODEJS_SEMVER_ANSWER_NO = 0,
+    /* The range accepts the version. */
+    NODEJS_SEMVER_ANSWER_YES = 1,
+    /* The text is no version. */
+    NODEJS_SEMVER_ANSWER_NO_VERSION = 2
+};
+
+/*
+ * Which of some versions is the greatest that a range accepts: `index` gets its place. Where a text is no version,
+ * `index` gets the place of the first such text.
+ *
+ * Returns NODEJS_SEMVER_OK, NODEJS_SEMVER_NOTHING, NODEJS_SEMVER_NOT_UTF8, NODEJS_SEMVER_BAD_RANGE,
+ * NODEJS_SEMVER_BAD_VERSION, NODEJS_SEMVER_NO_MEMORY or NODEJS_SEMVER_TOO_LONG.
+ */
+nodejs_semver_status nodejs_semver_range_max_satisfying(const char *range, size_t range_len,
+    const nodejs_semver_text *versions, size_t versions_len, size_t *index);
+
+/*
+ * Which of some versions is the smallest that a range accepts: `index` gets its place. Where a text is no version,
+ * `index` gets the place of the first such text.
+ *
+ * Returns NODEJS_SEMVER_OK, NODEJS_SEMVER_NOTHING, NODEJS_SEMVER_NOT_UTF8, NODEJS_SEMVER_BAD_RANGE,
+ * NODEJS_SEMVER_BAD_VERSION, NODEJS_SEMVER_NO_MEMORY or NODEJS_SEMVER_TOO_LONG.
+ */
+nodejs_semver_status nodejs_semver_range_min_satisfying(const char *range, size_t range_len,
+    const nodejs_semver_text *versions, size_t versions_len, size_t *index);
+
+/*
+ * Which of some versions a range accepts: `answers` gets one of NODEJS_SEMVER_ANSWER_NO, NODEJS_SEMVER_ANSWER_YES
+ * and NODEJS_SEMVER_ANSWER_NO_VERSION for each. If it has room for fewer, nothing is written.
+ *
+ * Returns NODEJS_SEMVER_OK, NODEJS_SEMVER_TOO_SMALL, NODEJS_SEMVER_NOT_UTF8, NODEJS_SEMVER_BAD_RANGE,
+ * NODEJS_SEMVER_NO_MEMORY or NODEJS_SEMVER_TOO_LONG.
+ */
+nodejs_semver_status nodejs_semver_range_satisfies_each(const char *range, size_t range_len,
+    const nodejs_semver_text *versions, size_t versions_len, bool include_prerelease, uint8_t *answers,
+    size_t answers_size);
+
+/*
+ * What is wrong with a version text: `flaw` gets one of NODEJS_SEMVER_FLAW_DIGIT to NODEJS_SEMVER_FLAW_TOO_LONG,
+ * and `place` the byte. There is nothing exactly if the whole text is one version.
+ *
+ * Returns NODEJS_SEMVER_OK, NODEJS_SEMVER_NOTHING, NODEJS_SEMVER_NOT_UTF8 or NODEJS_SEMVER_TOO_LONG.
+ */
+nodejs_semver_status nodejs_semver_version_flaw(const char *version, size_t version_len, uint32_t *flaw,
+    size_t *place);
+
+/*
+ * The ignored word of a range text that has this number, counted from 0: `start` gets the place of its first byte,
+ * `end` that behind its last one, and `kind` one of NODEJS_SEMVER_WORD_MALFORMED and
+ * NODEJS_SEMVER_WORD_WITHOUT_BOUNDS. There is nothing where the text has no so many ignored words.
+ *
+ * Returns NODEJS_SEMVER_OK, NODEJS_SEMVER_NOTHING, NODEJS_SEMVER_NOT_UTF8 or NODEJS_SEMVER_TOO_LONG.
+ */
+nodejs_semver_status nodejs_semver_range_ignored_word(const char *range, size_t range_len, size_t number,
+    size_t *start, size_t *end, uint32_t *kind);
+
+/*
+ * Prints the version that a whole text is in npm's strict reading: ` v1.2.3 ` as `1.2.3`. What is printed is the
+ * same version to every other function.
+ *
+ * Returns NODEJS_SEMVER_OK, NODEJS_SEMVER_TOO_SMALL, NODEJS_SEMVER_NOT_UTF8, NODEJS_SEMVER_BAD_VERSION,
+ * NODEJS_SEMVER_NO_MEMORY or NODEJS_SEMVER_TOO_LONG.
+ */
+nodejs_semver_status nodejs_semver_npm_version_print(const char *version, size_t version_len, char *out,
+    size_t out_size, size_t *len);
+
+/*
+ * Prints the range of a text in its normal form: `^1.2` as `>=1.2.0 <2.0.0-0`.
+ *
+ * Returns NODEJS_SEMVER_OK, NODEJS_SEMVER_TOO_SMALL, NODEJS_SEMVER_NOT_UTF8, NODEJS_SEMVER_BAD_RANGE,
+ * NODEJS_SEMVER_NO_MEMORY or NODEJS_SEMVER_TOO_LONG.
+ */
+nodejs_semver_status nodejs_semver_range_print(const char *range, size_t range_len, char *out, size_t out_size,
+    size_t *len);
+
+/*
+ * Whether a range accepts a version. A pre-release is accepted only where a bound names one of the same three
+ * numbers, unless pre-releases are included.
+ *
+ * Returns NODEJS_SEMVER_OK, NODEJS_SEMVER_NOT_UTF8, NODEJS_SEMVER_BAD_RANGE, NODEJS_SEMVER_BAD_VERSION,
+ * NODEJS_SEMVER_NO_MEMORY or NODEJS_SEMVER_TOO_LONG.
+ */
+nodejs_semver_status nodejs_semver_range_satisfies(const char *range, size_t range_len, const char *version,
+    size_t version_len, bool include_prerelease, bool *answer);
+
+/*
+ * Whether a version lies above a range, or below it where `above` is false: the range does not accept it, and every
+ * interval of the range lies on the other side.
+ *
+ * Returns NODEJS_SEMVER_OK, NODEJS_SEMVER_NOT_UTF8, NODEJS_SEMVER_BAD_RANGE, NODEJS_SEMVER_BAD_VERSION,
+ * NODEJS_SEMVER_NO_MEMORY or NODEJS_SEMVER_TOO_LONG.
+ */
+nodejs_semver_status nodejs_semver_range_outside(const char *range, size_t range_len, const char *version,
+    size_t version_len, bool above, bool include_prerelease, bool *answer);
+
+/*
+ * Prints the smallest version that a range accepts.
+ *
+ * Returns NODEJS_SEMVER_OK, NODEJS_SEMVER_NOTHING, NODEJS_SEMVER_TOO_SMALL, NODEJS_SEMVER_NOT_UTF8,
+ * NODEJS_SEMVER_BAD_RANGE, NODEJS_SEMVER_NO_MEMORY or NODEJS_SEMVER_TOO_LONG.
+ */
+nodejs_semver_status nodejs_semver_range_min_version(const char *range, size_t range_len, char *out,
+    size_t out_size, size_t *len);
+
+/*
+ * Prints what two ranges have in common.
+ *
+ * Returns NODEJS_SEMVER_OK, NODEJS_SEMVER_NOTHING, NODEJS_SEMVER_TOO_SMALL, NODEJS_SEMVER_NOT_UTF8,
+ * NODEJS_SEMVER_BAD_RANGE, NODEJS_SEMVER_NO_MEMORY or NODEJS_SEMVER_TOO_LONG.
+ */
+nodejs_semver_status nodejs_semver_range_intersect(const char *range, size_t range_len, const char *other,
+    size_t other_len, char *out, size_t out_size, size_t *len);
+
+/*
+ * Prints what the first range holds and the second does not.
+ *
+ * Returns NODEJS_SEMVER_OK, NODEJS_SEMVER_NOTHING, NODEJS_SEMVER_TOO_SMALL, NODEJS_SEMVER_NOT_UTF8,
+ * NODEJS_SEMVER_BAD_RANGE, NODEJS_SEMVER_NO_MEMORY or NODEJS_SEMVER_TOO_LONG.
+ */
+nodejs_semver_status nodejs_semver_range_difference(const char *range, size_t range_len, const char *other,
+    size_t other_len, char *out, size_t out_size, size_t *len);
+
+/*
+ * Prints the smallest version that the first range accepts and the second does not. There is none exactly if the
+ * first range is a subset of the second.
+ *
+ * Returns NODEJS_SEMVER_OK, NODEJS_SEMVER_NOTHING, NODEJS_SEMVER_TOO_SMALL, NODEJS_SEMVER_NOT_UTF8,
+ * NODEJS_SEMVER_BAD_RANGE, NODEJS_SEMVER_NO_MEMORY or NODEJS_SEMVER_TOO_LONG.
+ */
+nodejs_semver_status nodejs_semver_range_least_beyond(const char *range, size_t range_len, const char *other,
+    size_t other_len, char *out, size_t out_size, size_t *len);
+
+/*
+ * Whether some one interval of the first range covers some one interval of the second. This is not a subset test.
+ *
+ * Returns NODEJS_SEMVER_OK, NODEJS_SEMVER_NOT_UTF8, NODEJS_SEMVER_BAD_RANGE, NODEJS_SEMVER_NO_MEMORY or
+ * NODEJS_SEMVER_TOO_LONG.
+ */
+nodejs_semver_status nodejs_semver_range_allows_all(const char *range, size_t range_len, const char *other,
+    size_t other_len, bool *answer);
+
+/*
+ * Whether two ranges have something in common.
+ *
+ * Returns NODEJS_SEMVER_OK, NODEJS_SEMVER_NOT_UTF8, NODEJS_SEMVER_BAD_RANGE, NODEJS_SEMVER_NO_MEMORY or
+ * NODEJS_SEMVER_TOO_LONG.
+ */
+nodejs_semver_status nodejs_semver_range_allows_any(const char *range, size_t range_len, const char *other,
+    size_t other_len, bool *answer);
+
+/*
+ * Whether a text is a version, as npm's loose grammar has it: the status is NODEJS_SEMVER_OK or says why not.
+ *
+ * Returns NODEJS_SEMVER_OK, NODEJS_SEMVER_NOT_UTF8, NODEJS_SEMVER_BAD_VERSION or NODEJS_SEMVER_TOO_LONG.
+ */
+nodejs_semver_status nodejs_semver_version_check(const char *version, size_t version_len);
+
+/*
+ * Prints the version of a text: `v1.2.3 oops` as `1.2.3`.
+ *
+ * Returns NODEJS_SEMVER_OK, NODEJS_SEMVER_TOO_SMALL, NODEJS_SEMVER_NOT_UTF8, NODEJS_SEMVER_BAD_VERSION,
+ * NODEJS_SEMVER_NO_MEMORY or NODEJS_SEMVER_TOO_LONG.
+ */
+nodejs_semver_status nodejs_semver_version_print(const char *version, size_t version_len, char *out,
+    size_t out_size, size_t *len);
+
+/*
+ * How the first version compares to the second: `order` gets -1, 0 or 1. Build metadata does not count.
+ *
+ * Returns NODEJS_SEMVER_OK, NODEJS_SEMVER_NOT_UTF8, NODEJS_SEMVER_BAD_VERSION or NODEJS_SEMVER_TOO_LONG.
+ */
+nodejs_semver_status nodejs_semver_version_compare(const char *version, size_t version_len, const char *other,
+    size_t other_len, int32_t *order);
+
+/*
+ * The kind of difference between two versions: `kind` gets one of NODEJS_SEMVER_KIND_NONE to
+ * NODEJS_SEMVER_KIND_PRERELEASE.
+ *
+ * Returns NODEJS_SEMVER_OK, NODEJS_SEMVER_NOT_UTF8, NODEJS_SEMVER_BAD_VERSION or NODEJS_SEMVER_TOO_LONG.
+ */
+nodejs_semver_status nodejs_semver_version_diff(const char *version, size_t version_len, const char *other,
+    size_t other_len, uint32_t *kind);
+
+/*
+ * Prints the next version by a word, as `minor` or `prerelease`. An empty identifier is none. The base, one of
+ * NODEJS_SEMVER_BASE_ZERO, NODEJS_SEMVER_BASE_ONE and NODEJS_SEMVER_BASE_NONE, says what a new pre-release list
+ * begins to count with.
+ *
+ * Returns NODEJS_SEMVER_OK, NODEJS_SEMVER_TOO_SMALL, NODEJS_SEMVER_NOT_UTF8, NODEJS_SEMVER_BAD_VERSION,
+ * NODEJS_SEMVER_BAD_ARGUMENT, NODEJS_SEMVER_BAD_IDENTIFIER, NODEJS_SEMVER_NOT_A_PRERELEASE, NODEJS_SEMVER_OVERFLOW,
+ * NODEJS_SEMVER_NO_MEMORY or NODEJS_SEMVER_TOO_LONG.
+ */
+nodejs_semver_status nodejs_semver_version_inc(const char *version, size_t version_len, const char *word,
+    size_t word_len, const char *identifier, size_t identifier_len, uint32_t base, char *out, size_t out_size,
+    size_t *len);
+
+#ifdef __cplusplus
+}
+#endif
+#endif
