@@ -1,0 +1,47 @@
+-- Texts that are read one after another.
+use Rattle.std.proofs.Common.{◌≡◌, ◌∷◌, ◌++◌, ◌&&◌, [], ℕ, Bool, true, false, List, Option, Some, None, if◌then◌else◌}
+use Rattle.std.specs.List.{list_all}
+use Rattle.semver_core.specs.Cuts.{Span}
+use Rattle.semver_core.specs.Failures.{NoValue}
+use Rattle.semver_core.specs.Values.Versions.{VersionValue}
+use Rattle.semver_core.specs.declared.TheConstants.{MAX_SAFE_INTEGER}
+use Rattle.nodejs_semver.specs.Npm.VersionText.{IsVersionText}
+use Rattle.npm_semver.specs.Listing.{AllSay, AreListed, Says, no_range, no_version, range, version}
+use Rattle.npm_semver.specs.Listing as Listing
+use Rattle.npm_semver.specs.Internal.Readings.{AreRead, IsRead, says}
+use Rattle.npm_semver.specs.Internal.Readings as Readings
+
+one_says : (include : Bool) (v : VersionValue) (text : List ℕ) (read : Option (List (Span VersionValue))) → IsRead include text read
+    → Says include v text (says include v read)
+one_says include v text (Some r) is = rw is.accepted (range text is.alternatives is.has)
+one_says include v text None is = no_range text is
+
+-- all range texts accept a version exactly if all ranges do
+pub all_say : (include : Bool) (v : VersionValue) (texts : List (List ℕ)) (ranges : List (Option (List (Span VersionValue))))
+    → AreRead include texts ranges → AllSay include v texts (list_all (says include v) ranges)
+all_say include v texts ranges Readings.none = Listing.none
+all_say include v texts ranges (Readings.more text rest read others is are) =
+    Listing.more text rest _ _ (one_says include v text read is) (all_say include v rest others are)
+
+pub read_more : (include : Bool) (texts : List (List ℕ)) (ranges : List (Option (List (Span VersionValue)))) (text : List ℕ)
+    (read : Option (List (Span VersionValue))) → AreRead include texts ranges → IsRead include text read
+    → AreRead include (texts ++ text ∷ []) (ranges ++ read ∷ [])
+read_more include texts ranges text read Readings.none is = Readings.more text [] read [] is Readings.none
+read_more include texts ranges text read (Readings.more t ts r rs i are) is = Readings.more t _ r _ i (read_more include ts rs text read are is)
+
+pub no_more : (include : Bool) (ranges texts : List (List ℕ)) (vs : List VersionValue) (text : List ℕ) → AreListed include ranges texts vs
+    → NoValue (IsVersionText MAX_SAFE_INTEGER text) → AreListed include ranges (texts ++ text ∷ []) vs
+no_more include ranges texts vs text Listing.none no = no_version text [] [] no Listing.none
+no_more include ranges texts vs text (no_version t ts ws n are) no = no_version t _ _ n (no_more include ranges ts ws text are no)
+no_more include ranges texts vs text (version t ts w a ws is say are) no = version t _ w a ws is say (no_more include ranges ts ws text are no)
+
+pub one_more : (include : Bool) (ranges texts : List (List ℕ)) (vs : List VersionValue) (text : List ℕ) (v : VersionValue) (accepted : Bool)
+    → AreListed include ranges texts vs → IsVersionText MAX_SAFE_INTEGER text v → AllSay include v ranges accepted
+    → AreListed include ranges (texts ++ text ∷ []) (vs ++ (if accepted then v ∷ [] else []))
+one_more include ranges texts vs text v accepted Listing.none is says = version text [] v accepted [] is says Listing.none
+one_more include ranges texts vs text v accepted (no_version t ts ws n are) is says =
+    no_version t _ _ n (one_more include ranges ts ws text v accepted are is says)
+one_more include ranges texts vs text v accepted (version t ts w true ws i s are) is says =
+    version t _ w true _ i s (one_more include ranges ts ws text v accepted are is says)
+one_more include ranges texts vs text v accepted (version t ts w false ws i s are) is says =
+    version t _ w false _ i s (one_more include ranges ts ws text v accepted are is says)

@@ -1,0 +1,91 @@
+-- Statement: what the arguments of the command ask for.
+use Rattle.std.specs.Prelude.{◌≡◌, ◌≢◌, ◌==◌, ◌&&◌, ◌∷◌, ◌++◌, [], not, ℕ, Bool, true, false, List, Option, Some, None, codes, drop, take, unwrap_or, if◌then◌else◌}
+use Rattle.std.specs.Char.{is_ascii_digit}
+use Rattle.std.specs.List.{list_all, list_any}
+use Rattle.std.specs.Str.{bytes_eq}
+use Rattle.semver_core.specs.declared.increment.IdentifierBase.{IdentifierBase}
+use Rattle.semver_core.specs.declared.increment.IdentifierBase.TheVariants.{False, Value}
+use Rattle.npm_semver.specs.Words.{FirstWord, value}
+use Rattle.npm_semver.specs.declared.question.Word.{Word}
+use Rattle.npm_semver.specs.declared.question.Word.TheVariants.{Help, IncludePrerelease, Reverse, Range, Version, Increment, Identifier, Base, Text}
+
+abbrev pub is_one_of : List (List ℕ) → List ℕ → Bool
+is_one_of words text = list_any (bytes_eq text) words
+
+-- the options by their words
+abbrev pub word_of : List ℕ → Word
+word_of word =
+    if is_one_of (codes "-h" ∷ codes "--help" ∷ codes "-?" ∷ []) word then Help
+    else if is_one_of (codes "-p" ∷ codes "--include-prerelease" ∷ []) word then IncludePrerelease
+    else if is_one_of (codes "-rv" ∷ codes "-rev" ∷ codes "--rev" ∷ codes "--reverse" ∷ []) word then Reverse
+    else if is_one_of (codes "-r" ∷ codes "--range" ∷ []) word then Range
+    else if is_one_of (codes "-v" ∷ codes "--version" ∷ []) word then Version
+    else if is_one_of (codes "-i" ∷ codes "--inc" ∷ codes "--increment" ∷ []) word then Increment
+    else if is_one_of (codes "--preid" ∷ []) word then Identifier
+    else if is_one_of (codes "-n" ∷ []) word then Base
+    else Text
+
+-- what is asked: the texts that may be versions, the range texts, the level, the identifier and the first number of a next version,
+-- whether the greatest version is printed first, and whether pre-releases are included
+pub record Asked : Type 0 where
+  pub versions : List (List ℕ)
+  pub ranges : List (List ℕ)
+  pub level : Option (List ℕ)
+  pub identifier : Option (List ℕ)
+  pub base : IdentifierBase
+  pub is_reversed : Bool
+  pub include_prerelease : Bool
+
+abbrev pub nothing_asked : Asked
+nothing_asked = record { versions = []; ranges = []; level = None; identifier = None; base = Value 0; is_reversed = false; include_prerelease = false }
+
+abbrev pub is_level : List ℕ → Bool
+is_level = is_one_of (codes "major" ∷ codes "minor" ∷ codes "patch" ∷ codes "premajor" ∷ codes "preminor" ∷ codes "prepatch"
+    ∷ codes "prerelease" ∷ [])
+
+-- `-i` has a level as its value only if the word behind it is one, and else it is `patch`
+abbrev pub has_level : List (List ℕ) → Bool
+has_level behind = is_level (unwrap_or (value behind) [])
+
+abbrev pub level_of : List (List ℕ) → List ℕ
+level_of behind = if has_level behind then unwrap_or (value behind) [] else codes "patch"
+
+-- `false` is no number, digits that are not all 0 are 1, and all else is 0
+abbrev pub base_of : Option (List ℕ) → IdentifierBase
+base_of None = Value 0
+base_of (Some text) = if bytes_eq text (codes "false") then False
+    else if list_all is_ascii_digit text && not (list_all (λ b. b == 48) text) then Value 1 else Value 0
+
+-- what is asked in all once this word is read, behind which these words stand
+abbrev pub asked_by : Word → List ℕ → List (List ℕ) → Asked → Asked
+asked_by Help text behind q = q
+asked_by IncludePrerelease text behind q = record q { include_prerelease = true }
+asked_by Reverse text behind q = record q { is_reversed = true }
+asked_by Range text behind q = record q { ranges = q.ranges ++ unwrap_or (value behind) (codes "undefined") ∷ [] }
+asked_by Version text behind q = record q { versions = q.versions ++ take 1 behind }
+asked_by Increment text behind q = record q { level = Some (level_of behind) }
+asked_by Identifier text behind q = record q { identifier = value behind }
+asked_by Base text behind q = record q { base = base_of (value behind) }
+asked_by Text text behind q = record q { versions = q.versions ++ text ∷ [] }
+
+-- the words that are left then
+abbrev pub left_by : Word → List (List ℕ) → List (List ℕ)
+left_by Help behind = behind
+left_by IncludePrerelease behind = behind
+left_by Reverse behind = behind
+left_by Text behind = behind
+left_by Increment behind = if has_level behind then drop 1 behind else behind
+left_by word behind = drop 1 behind
+
+-- what these words ask, beside what is asked before them; None is the text of `--help`
+pub data Asks : List (List ℕ) → Asked → Option Asked → Type 0 where
+  all : (q : Asked) → Asks [] q (Some q)
+  help : (words behind : List (List ℕ)) (word : List ℕ) (q : Asked) → FirstWord words word behind → word_of word ≡ Help → Asks words q None
+  next : (words behind : List (List ℕ)) (word : List ℕ) (q : Asked) (asked : Option Asked) → FirstWord words word behind → word_of word ≢ Help
+      → Asks (left_by (word_of word) behind) (asked_by (word_of word) word behind q) asked → Asks words q asked
+
+-- what the arguments ask: no arguments ask for the text of `--help`
+pub data IsAsked : List (List ℕ) → Option Asked → Type 0 where
+  none : IsAsked [] None
+  some : (argument : List ℕ) (arguments : List (List ℕ)) (asked : Option Asked) → Asks (argument ∷ arguments) nothing_asked asked
+      → IsAsked (argument ∷ arguments) asked

@@ -1,0 +1,4 @@
+pub mod Waiting
+pub mod Written
+pub mod Readings
+pub mod Asked

@@ -1,0 +1,5 @@
+pub mod Words
+pub mod Arguments
+pub mod Listing
+pub mod Responses
+pub mod Internal
