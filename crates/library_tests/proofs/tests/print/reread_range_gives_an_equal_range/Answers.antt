@@ -11,7 +11,7 @@ use Rattle.nodejs_semver.specs.Internal.Parts.{cut_bars}
 use Rattle.nodejs_semver.specs.Internal.RunsFrom.{runs_from}
 use Rattle.nodejs_semver.specs.Text.Table.{table}
 use Rattle.nodejs_semver.specs.Internal.Words.{is_boundary, word_at, words_within, from_boundary}
-use Rattle.semver_lines.proofs.tests.print.reread_range_gives_an_equal_range.Goals as goal
+use Rattle.library_tests.proofs.tests.print.reread_range_gives_an_equal_range.Goals as goal
 
 pub reread_range-requires : goal.reread_range-requires
 unfolding table is_boundary number_of space_len after_spaces drop_end_spaces cut_bars partial_front component_front dotted_front
