@@ -21,4 +21,5 @@ ids_view list = map id_view list
 
 -- the version that parts make
 abbrev pub parts_value : VersionParts → VersionValue
-parts_value p = record { major = p.major; minor = p.minor; patch = p.patch; pre_release = ids_view p.pre_release.items; build = ids_view p.build.items }
+parts_value p = record { major = p.major; minor = p.minor; patch = p.patch;
+    pre_release = ids_view p.pre_release.items; build = ids_view p.build.items }
