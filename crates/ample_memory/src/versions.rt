@@ -22,13 +22,12 @@ pub const WORDS: &[&str] = &[
     "fake",
 ];
 
-const IDENTIFIERS: &[&str] = &["", "beta", "gamma", "a/b", "a.7"];
+const IDENTIFIERS: &[&str] = &["", "beta", "a/b", "a.7"];
 
 const BASES: &[IdentifierBase] = &[
     IdentifierBase::False,
     IdentifierBase::Value(0),
     IdentifierBase::Value(1),
-    IdentifierBase::Value(u64::MAX),
 ];
 
 // A few of them, for versions of millions of bytes.

@@ -48,10 +48,10 @@ module _ {V : Type 0} (in_front behind : V → V → Bool) (ranks : Ranks in_fro
             [],
             refl,
             ap (list_all (λ w. not (set w) || in_front w x)) h.3
-            ∙ list_all-append (λ w. not (set w) || in_front w x) h.1 (b ∷ h.2)
-            ∙ and_from _ _ (all_weaker _ _ (λ w g. grind (arith, ranks.passes w b x better)) h.1 h.4)
-            (and_from _ _ (rw (h.0, better) refl)
-            (all_weaker _ _ (λ w g. grind (arith, ranks.weaker w b x better)) h.2 h.5)),
+                ∙ list_all-append (λ w. not (set w) || in_front w x) h.1 (b ∷ h.2)
+                ∙ and_from _ _ (all_weaker _ _ (λ w g. grind (arith, ranks.passes w b x better)) h.1 h.4)
+                (and_from _ _ (rw (h.0, better) refl)
+                (all_weaker _ _ (λ w g. grind (arith, ranks.weaker w b x better)) h.2 h.5)),
             refl,
           )
         ]

@@ -84,9 +84,12 @@ boundary-of rest h = grind (arith, blank-len)
 
 pub skips-is : (text : List ℕ) → IsUtf8 text → SkipsBlank text (drop_spaces text)
 skips-is text u =
-    let s = spaced text u in
-    (s.0, s.2, s.1,
-    λ (h : BeginsBlank (drop_spaces text)). absurd (omega (arith, spaces-gone 0 text, blank-len (drop_spaces text) h)))
+    let s = spaced text u in (
+      s.0,
+      s.2,
+      s.1,
+      λ (h : BeginsBlank (drop_spaces text)). absurd (omega (arith, spaces-gone 0 text, blank-len (drop_spaces text) h)),
+    )
 
 pub skips-of : (text rest : List ℕ) → IsUtf8 text → SkipsBlank text rest → drop_spaces text ≡ rest
 skips-of text rest u h =

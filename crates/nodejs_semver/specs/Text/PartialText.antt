@@ -36,5 +36,5 @@ pub data AreComponents (limit : ℕ) : List ℕ → Partial → Type 0 where
 
 -- the whole text is this partial
 abbrev pub IsPartial : ℕ → List ℕ → Partial → Type 0
-IsPartial limit text p = (mark blank components : List ℕ) × (text ≡ mark ++ blank ++ components)
+IsPartial limit text p = (mark blank components : List ℕ) × (text ≡ mark ++ (blank ++ components))
     × ((mark ≡ []) ⊎ (mark ≡ codes "v")) × IsBlank blank × AreComponents limit components p

@@ -44,7 +44,8 @@ pub record Reads (limit : ℕ) (text : List ℕ) (v : VersionValue) : Type 0 whe
   pub pre_release : List ℕ
   pub build : List ℕ
   pub rest : List ℕ
-  pub divided : text ≡ mark ++ blank ++ major ++ 46 ∷ (minor ++ 46 ∷ (patch ++ pre_release ++ build ++ rest))
+  pub divided : text ≡ mark ++ (blank ++ (major ++ 46 ∷ (minor ++ 46 ∷ (patch
+      ++ (pre_release ++ (build ++ rest))))))
   pub mark_is : IsMark mark
   pub blank_is : IsBlank blank
   pub major_is : IsNumber limit major v.major

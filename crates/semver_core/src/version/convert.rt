@@ -19,10 +19,7 @@ fn natural(number: i64) -> Option<u64>
 }
 
 // The release of three numbers, none of them negative.
-#[tactic(auto, using(
-    crate::proofs::Values::Naturals::natural_is,
-    crate::proofs::Values::Naturals::negative_is,
-))]
+#[tactic(auto, using(crate::proofs::Values::Naturals::natural_is))]
 fn release_of(major: i64, minor: i64, patch: i64) -> Result<Version, NegativeNumber>
     ensures { GivesRelease major minor patch result }
 {
