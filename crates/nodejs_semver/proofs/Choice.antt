@@ -1,5 +1,6 @@
 pub mod BestOf
 pub mod Next
+pub mod Kinds
 pub mod LeastHeld
 pub mod LeastOf
 pub mod LeastPieces
