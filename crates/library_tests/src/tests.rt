@@ -17,6 +17,7 @@ mod lent;
 mod lists;
 mod npm;
 mod npm_ranges;
+mod npm_texts;
 mod npm_versions;
 mod outside;
 mod print;

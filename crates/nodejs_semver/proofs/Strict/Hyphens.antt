@@ -129,7 +129,7 @@ ends-from (c ∷ cs) text u e =
 pub ends-found : (text : List ℕ) → IsUtf8 text → EndsAt text
 ends-found text u = ends-from u.0 text u u.1.1
 
-ends-read : (cs u : List ℕ) → list_all is_end cs ≡ true → begins is_mark u ≡ false → space_len u ≡ 0 → drop_ends (encode_utf8_all cs ++ u) ≡ u
+pub ends-read : (cs u : List ℕ) → list_all is_end cs ≡ true → begins is_mark u ≡ false → space_len u ≡ 0 → drop_ends (encode_utf8_all cs ++ u) ≡ u
 ends-read [] u h other dark = ends-none u other dark
 ends-read (c ∷ cs) u h other dark =
     let each = and_parts (is_end c) (list_all is_end cs) h in

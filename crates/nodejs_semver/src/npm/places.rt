@@ -28,7 +28,7 @@ enum Place {
 
 // How many digits stand at the front.
 #[tactic(auto, using(crate::proofs::Strict::Places::prefix_steps))]
-fn digits_len(text: &[u8]) -> usize
+pub(crate) fn digits_len(text: &[u8]) -> usize
     ensures value { result ≡ prefix_len is_ascii_digit text.now }
     ensures fits { result ≤ length text.now }
 {
