@@ -1,2 +1,3 @@
+pub mod Readings
 pub mod Shown
 pub mod Verdicts

@@ -1,11 +1,11 @@
 // `overrides` of the root project, which changes what packages depend on.
 
-use crate::check::range;
 use crate::fault::Fault;
 use crate::lock::{Dependency, Package, Wanted};
+use crate::reading::{range, strict_range};
 use crate::specifier::Specifier;
 use anyhow::Result;
-use nodejs_semver::Range;
+use nodejs_semver::RangeRef;
 use serde_json::{Map, Value};
 use std::alloc::Global;
 
@@ -36,7 +36,7 @@ struct Rule<'a> {
     outer: Scope,
     name: &'a str,
     // The range behind the name, as in `NAME@RANGE`.
-    range: Option<Range>,
+    range: Option<RangeRef<'a>>,
     replacement: Replacement<'a>,
 }
 
@@ -79,7 +79,7 @@ impl<'a> Rule<'a> {
         };
         let range = match wanted {
             "*" => None,
-            wanted => match range(alloc, wanted)? {
+            wanted => match strict_range(alloc, wanted)? {
                 Some(range) => Some(range),
                 None => return Ok(None),
             },
