@@ -21,22 +21,26 @@ marked_more text rest next c m e mark = record {
   characters = m.characters ++ c ∷ [];
   each = rw (list_all-append, m.each, mark) refl;
   divided = m.divided ∙ ap (λ t. encode_utf8_all m.characters ++ t) e
-    ∙ sym (append_assoc (encode_utf8_all m.characters) (encode_utf8 c) next)
-    ∙ ap (λ t. t ++ next) (ap (λ t. encode_utf8_all m.characters ++ t) (sym (append-nil (encode_utf8 c)))
-    ∙ sym (encodes-append m.characters (c ∷ [])));
+      ∙ sym (append_assoc (encode_utf8_all m.characters) (encode_utf8 c) next)
+      ∙ ap (λ t. t ++ next) (ap (λ t. encode_utf8_all m.characters ++ t) (sym (append-nil (encode_utf8 c)))
+      ∙ sym (encodes-append m.characters (c ∷ [])));
 }
 
 pub marked_stop : (text rest next : List ℕ) (c : ℕ) → Marked text rest → rest ≡ encode_utf8 c ++ next → is_front_mark c ≡ false → IsBehindMarks text rest
 marked_stop text rest next c m e dark = record {
-  characters = m.characters; each = m.each; divided = m.divided;
+  characters = m.characters;
+  each = m.each;
+  divided = m.divided;
   ended = λ d other is mark.
-    let same = encode_same c d next other (sym e ∙ is) in
-    true≢false (sym mark ∙ ap is_front_mark (sym same.0) ∙ dark);
+      let same = encode_same c d next other (sym e ∙ is) in
+      true≢false (sym mark ∙ ap is_front_mark (sym same.0) ∙ dark);
 }
 
 pub marked_end : (text rest : List ℕ) → Marked text rest → length rest ≡ 0 → IsBehindMarks text rest
 marked_end text rest m none = record {
-  characters = m.characters; each = m.each; divided = m.divided;
+  characters = m.characters;
+  each = m.each;
+  divided = m.divided;
   ended = λ d other is mark.
-    absurd (omega (arith, none, ap length is, length-append (encode_utf8 d) other, length-encode d, (len_utf8_bounds d).0));
+      absurd (omega (arith, none, ap length is, length-append (encode_utf8 d) other, length-encode d, (len_utf8_bounds d).0));
 }

@@ -47,3 +47,8 @@ pub data IsLocked (limit : ℕ) (text : List ℕ) (v : VersionValue) : Type 0 wh
 abbrev pub IsNotLocked : ℕ → List ℕ → Type 0
 IsNotLocked limit text = NoValue (IsVersionText limit text) × (middle bare : List ℕ) × IsTrim text middle
     × IsBehindMarks middle bare × NoValue (IsBareVersion limit bare)
+
+-- what follows a byte order mark, if one stands in front, and else the text
+pub data IsUnmarked (text : List ℕ) : List ℕ → Type 0 where
+  marked : (rest : List ℕ) → text ≡ encode_utf8 0xFEFF ++ rest → IsUnmarked text rest
+  plain : ((rest : List ℕ) → text ≡ encode_utf8 0xFEFF ++ rest → ⊥) → IsUnmarked text text

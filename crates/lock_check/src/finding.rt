@@ -122,8 +122,7 @@ impl Outcome<'_> {
             | Outcome::NoReference => Kind::Rejected,
             Outcome::Missing => Kind::Missing,
             Outcome::Absent => Kind::Absent,
-            Outcome::Unsure | Outcome::Address | Outcome::Link | Outcome::OwnPeer =>
-                Kind::Skipped,
+            Outcome::Unsure | Outcome::Address | Outcome::Link | Outcome::OwnPeer => Kind::Skipped,
         }
     }
 }

@@ -41,6 +41,7 @@ mod workspaces;
 use crate::check::{Findings, check};
 use crate::finding::{Counts, Finding};
 use crate::lock::Lock;
+use crate::reading::unmarked;
 use anyhow::{Context, Result};
 use serde_json::{Map, Value, put};
 use std::alloc::Global;
@@ -89,10 +90,8 @@ fn run(rt: &HostRuntime) -> Result<ExitCode> {
     Ok(counts.exit_code())
 }
 
-// Some editors put a byte order mark at the front.
 fn json(alloc: Global, text: &str) -> Result<Value> {
-    let text = text.strip_prefix('\u{feff}').unwrap_or(text);
-    Ok(Value::from_str(alloc, text)?)
+    Ok(Value::from_str(alloc, unmarked(text))?)
 }
 
 // The packages of a lock file, by their folders.

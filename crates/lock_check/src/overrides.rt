@@ -1,5 +1,7 @@
 // `overrides` of the root project, which changes what packages depend on.
 
+ghost use Rattle.lock_check.specs.Replacements.{IsReplacement};
+
 use crate::fault::Fault;
 use crate::lock::{Dependency, Package, Wanted};
 use crate::reading::{range, strict_range};
@@ -56,7 +58,9 @@ const REFERENCED: &[&str] = &[
 ];
 
 impl<'a> Replacement<'a> {
-    fn of(text: &'a str) -> Replacement<'a> {
+    fn of(text: &'a str) -> Replacement<'a>
+        ensures { IsReplacement text.now result }
+    {
         match text.strip_prefix('$') {
             Some(name) => Replacement::Reference(name),
             None if matches!(text, "" | "*") => Replacement::Nothing,

@@ -4,7 +4,7 @@
 // version that a registry takes; of a text that it rejects, `parse` decides, which is lenient too.
 
 ghost use Rattle.lock_check.specs.Readings.{IsBareVersion, IsBehindMarks, IsLocked, IsNotLocked};
-ghost use Rattle.lock_check.specs.Readings.{IsNotWanted, IsWanted, is_front_mark};
+ghost use Rattle.lock_check.specs.Readings.{IsNotWanted, IsUnmarked, IsWanted, is_front_mark};
 ghost use Rattle.nodejs_semver.specs.Failures.{NoValue};
 ghost use Rattle.nodejs_semver.specs.Npm.Ranges.{HasAlternatives, IsRangeOf};
 ghost use Rattle.std.specs.Prelude.{◌≡◌, IfNone, IfOk, IfSome};
@@ -58,10 +58,10 @@ fn lenient_version(text: &str) -> Option<VersionRef<'_>>
     ensures some { IfSome result (IsBareVersion MAX_SAFE_INTEGER text.now) }
     ensures none { IfNone result (NoValue (IsBareVersion MAX_SAFE_INTEGER text.now)) }
 {
-    if !text.starts_with(|letter: char| letter.is_ascii_digit()) || version_flaw(text).is_some() {
-        return None;
+    match text.as_bytes() {
+        [b'0'..=b'9', ..] if version_flaw(text).is_none() => VersionRef::parse(text).ok(),
+        _ => None,
     }
-    VersionRef::parse(text).ok()
 }
 
 // What follows the marks at the front: npm leaves out each `v`, each `=` and whitespace there.
@@ -83,4 +83,14 @@ fn is_mark(letter: char) -> bool
     ensures { result ≡ is_front_mark letter }
 {
     matches!(letter, 'v' | '=') || is_whitespace_code(u32::from(letter))
+}
+
+/// What follows the byte order mark that some editors put at the front of a file.
+pub fn unmarked(text: &str) -> &str
+    ensures { IsUnmarked text.now result.now }
+{
+    match text.strip_prefix('\u{feff}') {
+        Some(rest) => rest,
+        None => text,
+    }
 }
