@@ -197,13 +197,6 @@ digit-inside limit text at k x lt =
     ap (λ (t : List ℕ). begins is_ascii_digit t) (sym (drop-drop k at text) ∙ ap (λ (t : List ℕ). drop k t) x.great.2)
     ∙ digits-go_on x.great.0 x.great.1 k x.great.3 lt
 
-great-some : (limit : ℕ) (text : List ℕ) (at : ℕ) → (x : IsGreatAt limit text at) → 0 < length x.great.0
-great-some limit text at x = go x.great.0 x.great.5
-  where
-    go : (d : List ℕ) → limit < digits_value 10 d → 0 < length d
-    go [] h = absurd (omega arith)
-    go (c ∷ d) h = omega arith
-
 last-byte : (text : List ℕ) (p c : ℕ) (rest : List ℕ) → drop p text ≡ c ∷ rest → take (p + 1) text ≡ take p text ++ c ∷ []
 last-byte text p c rest e = take-add p 1 text ∙ ap (λ (t : List ℕ). take p text ++ take 1 t) e
 

@@ -46,7 +46,10 @@ fn is_zero(ids: IdentifierRefs<'_>) -> bool
     ensures { IsTrue result → ids.entry ≡ Numeric 0 ∷ [] }
 {
     let mut ids = ids;
-    matches!((ids.next(), ids.next()), (Some(IdentifierRef::Numeric(0)), None))
+    matches!(
+        (ids.next(), ids.next()),
+        (Some(IdentifierRef::Numeric(0)), None)
+    )
 }
 
 // Whether the pre-release is the number 0 alone.
@@ -113,7 +116,12 @@ pub(crate) fn bare<V: Versioned>(alloc: Global, version: &V) -> Result<Version, 
     if is_first_pre(version) {
         return first_pre(alloc, version);
     }
-    with_lists(alloc, version, owned_ids(alloc, version.pre_release())?, Vec::new(alloc))
+    with_lists(
+        alloc,
+        version,
+        owned_ids(alloc, version.pre_release())?,
+        Vec::new(alloc),
+    )
 }
 
 // A version that has no build, with this one.
