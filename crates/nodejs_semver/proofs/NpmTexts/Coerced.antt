@@ -28,9 +28,10 @@ front-found : (limit : ℕ) (a rest : List ℕ) (n : ℕ) (r : List ℕ) → IsR
 front-found limit a rest n r h stop e =
     let long = digits-taken a rest h.each stop in
     let x = bind_some (number_of limit a) _ (n, r) (rw (long, take_at a rest (length a) refl, drop_at a rest (length a) refl) at e) in
-    let same = same_Some _ _ x.2 in
-    (subst (λ (k : ℕ). IsNumber limit a k) (ap (λ (p : ℕ × List ℕ). p.0) same) (number-is limit a x.0 x.1),
-      sym (ap (λ (p : ℕ × List ℕ). p.1) same))
+    let same = same_Some _ _ x.2 in (
+      subst (λ (k : ℕ). IsNumber limit a k) (ap (λ (p : ℕ × List ℕ). p.0) same) (number-is limit a x.0 x.1),
+      sym (ap (λ (p : ℕ × List ℕ). p.1) same),
+    )
 
 loose-reads : (limit : ℕ) → Reads true limit (IsNumber limit)
 loose-reads limit = record { found = front-found limit; read = number-read limit }

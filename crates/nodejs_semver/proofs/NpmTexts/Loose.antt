@@ -86,12 +86,12 @@ pub patch_none : (limit : ℕ) (rest : List ℕ) (len : ℕ) → len ≡ patch_l
 unfolding patch_front
 patch_none limit rest len same stuck =
     let none : (n : ℕ) → NoPieceAt (λ digits rest. IsWholeNumber limit digits rest n) (take (patch_len rest) rest) 0 = rw same at stuck in elim (option-cases (number_of limit (take (patch_len rest) rest))) [
-  | inl not ↦ rw not refl
-  | inr x ↦
-      let digits = take (patch_len rest) rest in
-      let is : IsNumber limit digits x.0 = number-is limit digits x.0 x.1 in
-      absurd (none x.0 digits [] (sym (append-nil digits)) (record { number = is; ended = refl }))
-]
+      | inl not ↦ rw not refl
+      | inr x ↦
+          let digits = take (patch_len rest) rest in
+          let is : IsNumber limit digits x.0 = number-is limit digits x.0 x.1 in
+          absurd (none x.0 digits [] (sym (append-nil digits)) (record { number = is; ended = refl }))
+    ]
 
 pub ruleset patches = (patch_none)
 
@@ -217,7 +217,7 @@ front-found text b e = elim (cases_Bool (begins_byte 45 text && begins_identifie
       piece = take (list_len text) text;
       split = sym (take-append-drop (list_len text) text);
       is = bare (take (list_len text) text) (listed (take (list_len text) text)) (front-identifiers text some)
-      (bare-begins text b undashed some (rw (undashed, some) at e));
+          (bare-begins text b undashed some (rw (undashed, some) at e));
     })
   ]
 ]
@@ -324,8 +324,12 @@ patch-read : (limit : ℕ) (digits rest : List ℕ) (n : ℕ) → IsNumber limit
     → loose_patch limit (46 ∷ (digits ++ rest)) ≡ Some (n, rest)
 unfolding loose_patch patch_front
 patch-read limit digits rest n h follows =
-    rw (patch-exact digits rest h.each follows, take_at digits rest (length digits) refl, number-of limit digits n h,
-      drop_at digits rest (length digits) refl) refl
+    rw (
+      patch-exact digits rest h.each follows,
+      take_at digits rest (length digits) refl,
+      number-of limit digits n h,
+      drop_at digits rest (length digits) refl,
+    ) refl
 
 build-dark : (b : List ℕ) (l : List Id) → IsStrictBuild b l → begins_byte 46 b ≡ false
 build-dark b l no_build = refl
