@@ -1,20 +1,20 @@
 -- Version texts of the loose reading: the function that reads them finds exactly what the statement has.
 use Rattle.nodejs_semver.proofs.Common.{◌≡◌, ◌⊎◌, ◌<◌, ◌≤◌, ◌+◌, ◌-◌, ℕ, zero, suc, Bool, List, [], ◌∷◌, ◌++◌, length, drop, take, refl, sym, ap, ◌∙◌, arith}
-use Rattle.nodejs_semver.proofs.Common.{true, false, Some, None, inl, inr, ◌&&◌, ◌||◌, not, and_parts, append-nil, append_assoc, bind_some, subst, cases_Bool, IsUtf8, is_empty}
-use Rattle.nodejs_semver.proofs.Common.{nat_tests, same_Some, begins, is_ascii_digit, list_all, list_len, space_len, Id, VersionValue, MAX_SAFE_INTEGER, take_at, drop_at}
+use Rattle.nodejs_semver.proofs.Common.{true, false, Some, None, inl, inr, ◌&&◌, ◌||◌, not, and_parts, append-nil, bind_some, subst, cases_Bool, IsUtf8, is_empty}
+use Rattle.nodejs_semver.proofs.Common.{nat_tests, same_Some, begins, is_ascii_digit, list_all, list_len, Id, VersionValue, take_at, drop_at}
 use Rattle.std.proofs.lemmas.Bool.{eqb-true, or_cases, or_right}
-use Rattle.std.specs.Prelude.{◌==◌, encode_utf8_all, take_while, if◌then◌else◌}
+use Rattle.std.specs.Prelude.{◌==◌, encode_utf8_all}
 use Rattle.std.specs.List.{prefix_len}
 use Rattle.std.specs.Str.{chars}
 use Rattle.std.proofs.Math.Seq.{drop-append-add}
 use Rattle.std.proofs.lemmas.List.{take-append-drop, take_rest}
 use Rattle.semver_core.specs.Failures.{NoValue}
 use Rattle.semver_core.specs.Text.Characters.{IsPieceAt, IsTrim, NoPieceAt, is_identifier_char}
-use Rattle.semver_core.specs.Text.Identifiers.{IsIdentifiers, goes_on, listed}
+use Rattle.semver_core.specs.Text.Identifiers.{goes_on, listed}
 use Rattle.semver_core.specs.Text.Numbers.{IsNumber, IsWholeNumber}
 use Rattle.semver_core.specs.declared.TheConstants.{MAX_LENGTH}
 use Rattle.semver_core.proofs.Text.Trims.{middle_is_trim}
-use Rattle.nodejs_semver.specs.Internal.Fronts.{Front, after_byte, begins_byte, begins_identifier, build_front, marked_list, number_front, number_of}
+use Rattle.nodejs_semver.specs.Internal.Fronts.{Front, after_byte, begins_byte, begins_identifier, build_front, number_front, number_of}
 use Rattle.nodejs_semver.specs.Internal.NpmLooseVersions.{loose_dotted, loose_front, loose_patch, loose_qualified, loose_version, patch_front, patch_len}
 use Rattle.nodejs_semver.specs.Internal.NpmWords.{drop_ends}
 use Rattle.nodejs_semver.specs.Npm.Grammar.{IsStrictBuild, no_build, plus}
@@ -26,7 +26,6 @@ use Rattle.nodejs_semver.proofs.Reading.Numbers.{digits-taken, front_some, numbe
 use Rattle.nodejs_semver.proofs.Reading.Steps.{option-cases}
 use Rattle.nodejs_semver.proofs.Reading.WordLaw.{byte-is}
 use Rattle.nodejs_semver.proofs.Strict.Hyphens.{ends-found, ends-read}
-use Rattle.nodejs_semver.proofs.Strict.Places.{digits-begin}
 use Rattle.nodejs_semver.proofs.Strict.Qualifiers.{build-found, build-quiet, build-taken, ends-nil}
 use Rattle.nodejs_semver.proofs.Strict.VersionLaw.{empty-is}
 
