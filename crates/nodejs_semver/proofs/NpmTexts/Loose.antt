@@ -1,20 +1,20 @@
 -- Version texts of the loose reading: the function that reads them finds exactly what the statement has.
 use Rattle.nodejs_semver.proofs.Common.{◌≡◌, ◌⊎◌, ◌<◌, ◌≤◌, ◌+◌, ◌-◌, ℕ, zero, suc, Bool, List, [], ◌∷◌, ◌++◌, length, drop, take, refl, sym, ap, ◌∙◌, arith}
-use Rattle.nodejs_semver.proofs.Common.{true, false, Some, None, inl, inr, ◌&&◌, ◌||◌, not, and_parts, append-nil, append_assoc, bind_some, subst, cases_Bool, IsUtf8, is_empty}
-use Rattle.nodejs_semver.proofs.Common.{nat_tests, same_Some, begins, is_ascii_digit, list_all, list_len, space_len, Id, VersionValue, MAX_SAFE_INTEGER, take_at, drop_at}
+use Rattle.nodejs_semver.proofs.Common.{true, false, Some, None, inl, inr, ◌&&◌, ◌||◌, not, and_parts, append-nil, bind_some, subst, cases_Bool, IsUtf8, is_empty}
+use Rattle.nodejs_semver.proofs.Common.{nat_tests, same_Some, begins, is_ascii_digit, list_all, list_len, Id, VersionValue, take_at, drop_at}
 use Rattle.std.proofs.lemmas.Bool.{eqb-true, or_cases, or_right}
-use Rattle.std.specs.Prelude.{◌==◌, encode_utf8_all, take_while, if◌then◌else◌}
+use Rattle.std.specs.Prelude.{◌==◌, encode_utf8_all}
 use Rattle.std.specs.List.{prefix_len}
 use Rattle.std.specs.Str.{chars}
 use Rattle.std.proofs.Math.Seq.{drop-append-add}
 use Rattle.std.proofs.lemmas.List.{take-append-drop, take_rest}
 use Rattle.semver_core.specs.Failures.{NoValue}
 use Rattle.semver_core.specs.Text.Characters.{IsPieceAt, IsTrim, NoPieceAt, is_identifier_char}
-use Rattle.semver_core.specs.Text.Identifiers.{IsIdentifiers, goes_on, listed}
+use Rattle.semver_core.specs.Text.Identifiers.{goes_on, listed}
 use Rattle.semver_core.specs.Text.Numbers.{IsNumber, IsWholeNumber}
 use Rattle.semver_core.specs.declared.TheConstants.{MAX_LENGTH}
 use Rattle.semver_core.proofs.Text.Trims.{middle_is_trim}
-use Rattle.nodejs_semver.specs.Internal.Fronts.{Front, after_byte, begins_byte, begins_identifier, build_front, marked_list, number_front, number_of}
+use Rattle.nodejs_semver.specs.Internal.Fronts.{Front, after_byte, begins_byte, begins_identifier, build_front, number_front, number_of}
 use Rattle.nodejs_semver.specs.Internal.NpmLooseVersions.{loose_dotted, loose_front, loose_patch, loose_qualified, loose_version, patch_front, patch_len}
 use Rattle.nodejs_semver.specs.Internal.NpmWords.{drop_ends}
 use Rattle.nodejs_semver.specs.Npm.Grammar.{IsStrictBuild, no_build, plus}
@@ -26,7 +26,6 @@ use Rattle.nodejs_semver.proofs.Reading.Numbers.{digits-taken, front_some, numbe
 use Rattle.nodejs_semver.proofs.Reading.Steps.{option-cases}
 use Rattle.nodejs_semver.proofs.Reading.WordLaw.{byte-is}
 use Rattle.nodejs_semver.proofs.Strict.Hyphens.{ends-found, ends-read}
-use Rattle.nodejs_semver.proofs.Strict.Places.{digits-begin}
 use Rattle.nodejs_semver.proofs.Strict.Qualifiers.{build-found, build-quiet, build-taken, ends-nil}
 use Rattle.nodejs_semver.proofs.Strict.VersionLaw.{empty-is}
 
@@ -86,12 +85,12 @@ pub patch_none : (limit : ℕ) (rest : List ℕ) (len : ℕ) → len ≡ patch_l
 unfolding patch_front
 patch_none limit rest len same stuck =
     let none : (n : ℕ) → NoPieceAt (λ digits rest. IsWholeNumber limit digits rest n) (take (patch_len rest) rest) 0 = rw same at stuck in elim (option-cases (number_of limit (take (patch_len rest) rest))) [
-  | inl not ↦ rw not refl
-  | inr x ↦
-      let digits = take (patch_len rest) rest in
-      let is : IsNumber limit digits x.0 = number-is limit digits x.0 x.1 in
-      absurd (none x.0 digits [] (sym (append-nil digits)) (record { number = is; ended = refl }))
-]
+      | inl not ↦ rw not refl
+      | inr x ↦
+          let digits = take (patch_len rest) rest in
+          let is : IsNumber limit digits x.0 = number-is limit digits x.0 x.1 in
+          absurd (none x.0 digits [] (sym (append-nil digits)) (record { number = is; ended = refl }))
+    ]
 
 pub ruleset patches = (patch_none)
 
@@ -217,7 +216,7 @@ front-found text b e = elim (cases_Bool (begins_byte 45 text && begins_identifie
       piece = take (list_len text) text;
       split = sym (take-append-drop (list_len text) text);
       is = bare (take (list_len text) text) (listed (take (list_len text) text)) (front-identifiers text some)
-      (bare-begins text b undashed some (rw (undashed, some) at e));
+          (bare-begins text b undashed some (rw (undashed, some) at e));
     })
   ]
 ]
@@ -324,8 +323,12 @@ patch-read : (limit : ℕ) (digits rest : List ℕ) (n : ℕ) → IsNumber limit
     → loose_patch limit (46 ∷ (digits ++ rest)) ≡ Some (n, rest)
 unfolding loose_patch patch_front
 patch-read limit digits rest n h follows =
-    rw (patch-exact digits rest h.each follows, take_at digits rest (length digits) refl, number-of limit digits n h,
-      drop_at digits rest (length digits) refl) refl
+    rw (
+      patch-exact digits rest h.each follows,
+      take_at digits rest (length digits) refl,
+      number-of limit digits n h,
+      drop_at digits rest (length digits) refl,
+    ) refl
 
 build-dark : (b : List ℕ) (l : List Id) → IsStrictBuild b l → begins_byte 46 b ≡ false
 build-dark b l no_build = refl

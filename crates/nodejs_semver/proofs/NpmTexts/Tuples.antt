@@ -1,12 +1,11 @@
 -- The longest tuple of numbers at a place of a text, the leftmost one, and the one that ends last.
-use Rattle.nodejs_semver.proofs.Common.{◌≡◌, ◌⊎◌, ◌<◌, ◌≤◌, ◌+◌, ◌-◌, ℕ, zero, suc, Bool, List, [], ◌∷◌, ◌++◌, length, drop, take, refl, sym, ap, ◌∙◌, arith}
-use Rattle.nodejs_semver.proofs.Common.{true, false, Some, None, inl, inr, append-nil, append_assoc, cases_Bool, length-append, nat_tests, begins, ends, is_ascii_digit}
-use Rattle.nodejs_semver.proofs.Common.{list_all, take_at, drop_at, eqb-true}
+use Rattle.nodejs_semver.proofs.Common.{◌≡◌, ◌⊎◌, ◌<◌, ◌≤◌, ◌+◌, ◌-◌, ℕ, suc, Bool, List, [], ◌∷◌, ◌++◌, length, drop, take, refl, sym, ap, ◌∙◌, arith}
+use Rattle.nodejs_semver.proofs.Common.{true, false, inl, inr, append_assoc, cases_Bool, length-append, nat_tests, begins, ends, is_ascii_digit}
+use Rattle.nodejs_semver.proofs.Common.{take_at, drop_at, eqb-true}
 use Rattle.std.proofs.Common.{get_or, length-drop}
 use Rattle.std.proofs.lemmas.Bool.{cases_lt}
-use Rattle.std.proofs.lemmas.List.{length-take-le, get_or_append_left}
+use Rattle.std.proofs.lemmas.List.{length-take-le}
 use Rattle.std.proofs.lemmas.List.Folds.{length-prefix_len}
-use Rattle.std.proofs.lemmas.List.Sums.{prefix_len-le-length}
 use Rattle.std.specs.Prelude.{◌==◌, nat_le}
 use Rattle.std.specs.List.{prefix_len}
 use Rattle.std.proofs.Math.Seq.{drop-append-add}
@@ -111,7 +110,7 @@ span-at text n e some = elim (cases_Bool (run_len text == 0)) [
     second : (r : RunAt text (run_len text)) → n ≡ behind_first text (run_len text) (dotted_len r.rest) → SpanAt text n
     second r e = elim (cases_Bool (dotted_len r.rest == 0)) [
       | inl none ↦ (let same : n ≡ run_len text = rw none at e in rw same
-        (record { tuple = r.run; rest = r.rest; runs = r.run ∷ []; split = r.split; is = one r.run r.is; long = r.long; ended = r.ended }))
+          (record { tuple = r.run; rest = r.rest; runs = r.run ∷ []; split = r.split; is = one r.run r.is; long = r.long; ended = r.ended }))
       | inr more ↦
           let d = dotted-at r.rest (dotted_len r.rest) refl more in
           let front = r.run ++ (46 ∷ d.run) in
@@ -144,8 +143,8 @@ span-at text n e some = elim (cases_Bool (run_len text == 0)) [
                 rest = p.rest;
                 runs = r.run ∷ d.run ∷ p.run ∷ [];
                 split = r.split ∙ ap (λ (t : List ℕ). r.run ++ t) (d.split ∙ ap (λ (t : List ℕ). 46 ∷ t)
-                (ap (λ (t : List ℕ). d.run ++ t) p.split ∙ sym (append_assoc d.run (46 ∷ p.run) p.rest)))
-                ∙ sym (append_assoc r.run (46 ∷ (d.run ++ (46 ∷ p.run))) p.rest);
+                    (ap (λ (t : List ℕ). d.run ++ t) p.split ∙ sym (append_assoc d.run (46 ∷ p.run) p.rest)))
+                    ∙ sym (append_assoc r.run (46 ∷ (d.run ++ (46 ∷ p.run))) p.rest);
                 is = three r.run d.run p.run r.is d.is p.is;
                 long = length-append r.run (46 ∷ (d.run ++ (46 ∷ p.run)))
                     ∙ omega (arith, length-append d.run (46 ∷ p.run), r.long, d.long, p.long, e);
@@ -175,8 +174,16 @@ span-longest y z runs (three a b c h k m) stop =
     append_assoc a (46 ∷ (b ++ (46 ∷ c))) z ∙ ap (λ (t : List ℕ). a ++ (46 ∷ t)) (append_assoc b (46 ∷ c) z) in
     let behind : drop (length a + (1 + length b)) (a ++ (46 ∷ (b ++ u))) ≡ u =
     drop-append-add a (46 ∷ (b ++ u)) (1 + length b) ∙ drop_at (46 ∷ b) u (1 + length b) (omega arith) in
-    rw (same, run-long a (46 ∷ (b ++ u)) h refl, some, drop_at a (46 ∷ (b ++ u)) (length a) refl, dotted-long b u k refl, more, behind,
-      dotted-long c z m stop) (omega (arith, length-append a (46 ∷ (b ++ (46 ∷ c))), length-append b (46 ∷ c)))
+    rw (
+      same,
+      run-long a (46 ∷ (b ++ u)) h refl,
+      some,
+      drop_at a (46 ∷ (b ++ u)) (length a) refl,
+      dotted-long b u k refl,
+      more,
+      behind,
+      dotted-long c z m stop,
+    ) (omega (arith, length-append a (46 ∷ (b ++ (46 ∷ c))), length-append b (46 ∷ c)))
 
 -- ---- the longest tuple at a place
 
@@ -260,11 +267,15 @@ pub first_found : (text : List ℕ) (at len : ℕ) → IsLongestAt text at len �
 first_found text at len there some after =
     let long : length (take at text) ≡ at = length-take-le at text (omega (arith, there.fits)) in
     let size : length (take len (drop at text)) ≡ len =
-    length-take-le len (drop at text) (omega (arith, there.fits, length-drop at text)) in
-    (take at text, drop (at + len) text, there.here some, record {
-      first = λ x y z is. omega (arith, long, after x y z is);
-      longest = λ x y z is same. omega (arith, size, there.longest x y z is (same ∙ long));
-    })
+    length-take-le len (drop at text) (omega (arith, there.fits, length-drop at text)) in (
+      take at text,
+      drop (at + len) text,
+      there.here some,
+      record {
+        first = λ x y z is. omega (arith, long, after x y z is);
+        longest = λ x y z is same. omega (arith, size, there.longest x y z is (same ∙ long));
+      },
+    )
 
 pub first_none : (text : List ℕ) (at : ℕ) → length text ≤ at → BeginsAfter text at → (x y z : List ℕ) → IsTupleIn text x y z → ⊥
 first_none text at past after x y z is =
@@ -330,16 +341,20 @@ pub last_found : (text : List ℕ) (at start end : ℕ) → IsLastBefore text at
 last_found text at start end h past some =
     let size : length (take (end - start) (drop start text)) ≡ end - start =
     length-take-le (end - start) (drop start text) (omega (arith, h.fits, h.order, length-drop start text)) in
-    let left : length (drop end text) ≡ length text - end = length-drop end text in
-    (take start text, drop end text, h.here some, record {
-      last = λ x y z is.
-          let p = parts text x y z is in
-          omega (arith, left, p.whole, p.some, h.last x y z is (omega (arith, past, p.whole, p.some)));
-      longest = λ x y z is same.
-          let p = parts text x y z is in
-          let begins : length x < at = omega (arith, past, p.whole, p.some) in
-          omega (arith, size, p.whole, same, left, h.fits, h.longest x y z is begins (omega (arith, p.whole, same, left, h.fits)));
-    })
+    let left : length (drop end text) ≡ length text - end = length-drop end text in (
+      take start text,
+      drop end text,
+      h.here some,
+      record {
+        last = λ x y z is.
+            let p = parts text x y z is in
+            omega (arith, left, p.whole, p.some, h.last x y z is (omega (arith, past, p.whole, p.some)));
+        longest = λ x y z is same.
+            let p = parts text x y z is in
+            let begins : length x < at = omega (arith, past, p.whole, p.some) in
+            omega (arith, size, p.whole, same, left, h.fits, h.longest x y z is begins (omega (arith, p.whole, same, left, h.fits)));
+      },
+    )
 
 pub last_none : (text : List ℕ) (at start end : ℕ) → IsLastBefore text at start end → length text ≤ at → end ≡ 0
     → (x y z : List ℕ) → IsTupleIn text x y z → ⊥

@@ -1,5 +1,5 @@
 -- For proofs and private contracts. What node-semver's loose reading finds in a version text, as functions.
-use Rattle.std.specs.Prelude.{◌&&◌, ◌-◌, ℕ, List, [], ◌∷◌, Option, Some, None, if◌then◌else◌, drop, take}
+use Rattle.std.specs.Prelude.{◌&&◌, ◌-◌, ℕ, List, Option, Some, None, if◌then◌else◌, drop, take}
 use Rattle.std.specs.Char.{is_ascii_digit}
 use Rattle.std.specs.List.{prefix_len}
 use Rattle.semver_core.specs.Internal.Reading.{◌>>?◌}

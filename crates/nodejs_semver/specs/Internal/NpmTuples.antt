@@ -1,5 +1,5 @@
 -- For proofs and private contracts. The tuples of numbers in a text that `coerce` looks for.
-use Rattle.std.specs.Prelude.{◌≡◌, ◌⊎◌, ◌<◌, ◌≤◌, ◌+◌, ◌-◌, ◌==◌, nat_le, ℕ, Bool, List, [], ◌∷◌, Option, Some, None, drop, take, if◌then◌else◌, length}
+use Rattle.std.specs.Prelude.{◌≡◌, ◌<◌, ◌≤◌, ◌+◌, ◌-◌, ◌==◌, nat_le, ℕ, Bool, List, [], ◌∷◌, Option, Some, drop, take, if◌then◌else◌, length}
 use Rattle.std.specs.Char.{is_ascii_digit}
 use Rattle.std.specs.List.{prefix_len}
 use Rattle.semver_core.specs.Internal.Reading.{◌>>?◌}
