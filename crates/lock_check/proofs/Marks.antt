@@ -5,7 +5,13 @@ use Rattle.std.specs.Char.{encode_utf8}
 use Rattle.std.specs.List.{list_all}
 use Rattle.std.proofs.lemmas.List.Folds.{list_all-append}
 use Rattle.std.proofs.lemmas.Str.{encode_same, encodes-append, len_utf8_bounds, length-encode}
-use Rattle.lock_check.specs.Readings.{IsBehindMarks, is_front_mark}
+use Rattle.std.proofs.Common.{Option, None, Some, IfSome}
+use Rattle.nodejs_semver.specs.Failures.{NoValue}
+use Rattle.nodejs_semver.specs.Npm.VersionText.{IsVersionText}
+use Rattle.nodejs_semver.specs.Versions.{VersionValue}
+use Rattle.semver_core.specs.Text.Characters.{IsTrim}
+use Rattle.lock_check.specs.Readings.{IsBareVersion, IsBehindMarks, IsLocked, is_front_mark}
+use Rattle.lock_check.specs.Readings.IsLocked.{lenient}
 
 -- the text is these marks and the rest
 pub record Marked (text rest : List ℕ) : Type 0 where
@@ -44,3 +50,9 @@ marked_end text rest m none = record {
   ended = λ d other is mark.
       absurd (omega (arith, none, ap length is, length-append (encode_utf8 d) other, length-encode d, (len_utf8_bounds d).0));
 }
+
+-- a version behind marks, of a text that the strict reading rejects
+pub lenient_some : (limit : ℕ) (text middle bare : List ℕ) (o : Option VersionValue) → NoValue (IsVersionText limit text) → IsTrim text middle
+    → IsBehindMarks middle bare → IfSome o (IsBareVersion limit bare) → IfSome o (IsLocked limit text)
+lenient_some limit text middle bare None none trimmed behind is = is
+lenient_some limit text middle bare (Some v) none trimmed behind is = lenient middle bare none trimmed behind is

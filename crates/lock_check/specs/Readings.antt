@@ -1,6 +1,6 @@
 -- Statement: what a range text and the text of a locked version are. node-semver's strict reading decides. npm asks its loose
 -- reading, which takes more texts; of a text that the strict one rejects `parse` decides, which is lenient too.
-use Rattle.std.specs.Prelude.{◌≡◌, ◌==◌, ◌<◌, ◌||◌, ℕ, Bool, true, List, [], ◌++◌, length, encode_utf8_all}
+use Rattle.std.specs.Prelude.{◌≡◌, ◌==◌, ◌<◌, ◌||◌, ℕ, Bool, true, false, List, [], ◌++◌, length, encode_utf8_all}
 use Rattle.std.specs.Char.{encode_utf8, is_ascii_digit}
 use Rattle.std.specs.List.{list_all}
 use Rattle.semver_core.specs.Text.Characters.{begins, is_whitespace, IsTrim}
@@ -44,9 +44,9 @@ pub data IsLocked (limit : ℕ) (text : List ℕ) (v : VersionValue) : Type 0 wh
   lenient : (middle bare : List ℕ) → NoValue (IsVersionText limit text) → IsTrim text middle → IsBehindMarks middle bare
       → IsBareVersion limit bare v → IsLocked limit text v
 
+-- where the text is said to be no version, npm's strict reading rejects it
 abbrev pub IsNotLocked : ℕ → List ℕ → Type 0
-IsNotLocked limit text = NoValue (IsVersionText limit text) × (middle bare : List ℕ) × IsTrim text middle
-    × IsBehindMarks middle bare × NoValue (IsBareVersion limit bare)
+IsNotLocked limit text = NoValue (IsVersionText limit text)
 
 -- what follows a byte order mark, if one stands in front, and else the text
 pub data IsUnmarked (text : List ℕ) : List ℕ → Type 0 where

@@ -134,7 +134,7 @@ impl<'a> Wanted<'a> {
 impl<'a> Dependency<'a> {
     /// Whether it may be absent.
     pub fn is_optional(self) -> bool
-        ensures { MayBeAbsent self.field result }
+        ensures { MayBeAbsent self.entry.field result }
     {
         match self.field {
             Field::Development | Field::Production | Field::Requires | Field::Workspaces => false,

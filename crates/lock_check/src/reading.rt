@@ -7,7 +7,7 @@ ghost use Rattle.lock_check.specs.Readings.{IsBareVersion, IsBehindMarks, IsLock
 ghost use Rattle.lock_check.specs.Readings.{IsNotWanted, IsUnmarked, IsWanted, is_front_mark};
 ghost use Rattle.nodejs_semver.specs.Failures.{NoValue};
 ghost use Rattle.nodejs_semver.specs.Npm.Ranges.{HasAlternatives, IsRangeOf};
-ghost use Rattle.std.specs.Prelude.{◌≡◌, IfNone, IfOk, IfSome};
+ghost use Rattle.std.specs.Prelude.{◌≡◌, IfNone, IfOk, IfSome, false};
 
 use nodejs_semver::diagnosis::{IgnoredKind, ignored_words, version_flaw};
 use nodejs_semver::{Failure, MAX_SAFE_INTEGER, RangeRef, VersionRef, npm};
@@ -55,11 +55,13 @@ pub fn version(text: &str) -> Option<VersionRef<'_>>
 
 // The version that a text is as a whole, without a mark in front of it.
 fn lenient_version(text: &str) -> Option<VersionRef<'_>>
-    ensures some { IfSome result (IsBareVersion MAX_SAFE_INTEGER text.now) }
-    ensures none { IfNone result (NoValue (IsBareVersion MAX_SAFE_INTEGER text.now)) }
+    ensures { IfSome result (IsBareVersion MAX_SAFE_INTEGER text.now) }
 {
+    let Ok(version) = VersionRef::parse(text) else {
+        return None;
+    };
     match text.as_bytes() {
-        [b'0'..=b'9', ..] if version_flaw(text).is_none() => VersionRef::parse(text).ok(),
+        [b'0'..=b'9', ..] if version_flaw(text).is_none() => Some(version),
         _ => None,
     }
 }
