@@ -23,6 +23,6 @@ mod versions;
 mod words;
 
 pub use crate::npm::builds::cmp_build;
-pub use crate::npm::ranges::range;
+pub use crate::npm::ranges::{range, range_loose};
 pub use crate::npm::sides::{gtr, ltr};
 pub use crate::npm::versions::version;

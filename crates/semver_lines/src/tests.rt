@@ -17,6 +17,7 @@ mod laws;
 mod lent;
 mod lists;
 mod npm;
+mod npm_loose_ranges;
 mod npm_ranges;
 mod npm_versions;
 mod outside;
