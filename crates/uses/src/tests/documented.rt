@@ -75,6 +75,15 @@ fn npm_range(rt: HostRuntime) -> Result<(), Fail> {
 }
 
 #[test]
+fn npm_range_loose(rt: HostRuntime) -> Result<(), Fail> {
+    let alloc = rt.alloc();
+    let beta = npm::range_loose(alloc, "==1.2.3beta || ^02.1", false)?;
+    assert!(rt; beta.satisfies(&VersionRef::parse("1.2.3-beta")?));
+    assert!(rt; npm::range(alloc, "==1.2.3beta || ^02.1", false).is_err());
+    Ok(())
+}
+
+#[test]
 fn from_texts(rt: HostRuntime) -> Result<(), Fail> {
     let alloc = rt.alloc();
     let (pre_release, build) = (b"rc.1", b"exp");
