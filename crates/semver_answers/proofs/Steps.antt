@@ -28,11 +28,14 @@ AllZip-append R (x ∷ xs) ys (v ∷ vs) ws h k = (h.0, AllZip-append R xs ys vs
 AllZip-append R xs ys vs ws h k = absurd h
 
 Answers-one : (line answer : List ℕ) → IsAnswer line answer → Answers (line ∷ []) (ended answer)
-Answers-one line answer h = (answer ∷ [], (h, tt), sym (append-nil (ended answer)))
+Answers-one line answer h = record { answers = answer ∷ []; each = (h, tt); output_is = sym (append-nil (ended answer)) }
 
 pub Answers-append : (xs ys : List (List ℕ)) (a b : List ℕ) → Answers xs a → Answers ys b → Answers (xs ++ ys) (a ++ b)
-Answers-append xs ys a b (all, each, is) (more, others, same) =
-    (all ++ more, AllZip-append IsAnswer xs ys all more each others, rw (is, same) (sym (flat_map-append ended all more)))
+Answers-append xs ys a b h k = record {
+  answers = h.answers ++ k.answers;
+  each = AllZip-append IsAnswer xs ys h.answers k.answers h.each k.each;
+  output_is = rw (h.output_is, k.output_is) (sym (flat_map-append ended h.answers k.answers));
+}
 
 front_all : (xs : List (List ℕ)) (a : List ℕ) → Answers xs a → AnswersFront xs a
 front_all xs a h = (xs, [], sym (append-nil xs), h)
@@ -43,13 +46,25 @@ front_after xs ys a b h (f, r, e, k) = (xs ++ f, r, rw e (sym (append_assoc xs f
 -- some lines are answered, and the answer to the next is torn
 torn : (front : List (List ℕ)) (line : List ℕ) (rest : List (List ℕ)) (output answer begun left : List ℕ) → Answers front output
     → IsAnswer line answer → ended answer ≡ begun ++ left → AnswersTorn (front ++ line ∷ rest) (output ++ begun)
-torn front line rest output answer begun left answers is_answer e =
-    (front, rest, line, answer, output, begun, left, refl, answers, is_answer, e, refl)
+torn front line rest output answer begun left answers is_answer e = record {
+  front = front;
+  line = line;
+  rest = rest;
+  divided = refl;
+  output = output;
+  answers = answers;
+  answer = answer;
+  is_answer = is_answer;
+  begun = begun;
+  left = left;
+  torn = e;
+  written_is = refl;
+}
 
 torn_after : (xs ys : List (List ℕ)) (a b : List ℕ) → Answers xs a → AnswersTorn ys b → AnswersTorn (xs ++ ys) (a ++ b)
-torn_after xs ys a b h (front, rest, line, answer, output, begun, left, divided, answers, is_answer, ends, written_is) =
-    rw (divided, written_is, sym (append_assoc xs front (line ∷ rest)), sym (append_assoc a output begun))
-    (torn (xs ++ front) _ rest _ _ _ _ (Answers-append xs front a output h answers) is_answer ends)
+torn_after xs ys a b h t =
+    rw (t.divided, t.written_is, sym (append_assoc xs t.front (t.line ∷ t.rest)), sym (append_assoc a t.output t.begun))
+    (torn (xs ++ t.front) _ t.rest _ _ _ _ (Answers-append xs t.front a t.output h t.answers) t.is_answer t.torn)
 
 -- a front of a text that ends within its first part
 front_of : (part rest written left : List ℕ) → part ++ rest ≡ written ++ left → length written ≤ length part → part ≡ written ++ drop (length written) part
@@ -70,7 +85,7 @@ torn_at : (lines rest answers : List (List ℕ)) (written left : List ℕ) → A
 torn_at [] rest [] written left h e some = absurd (omega (arith, ap length e, length-append written left))
 torn_at (l ∷ ls) rest (a ∷ answers) written left h e some = elim (cases_lt (length written) (length (ended a))) [
   | inl lt ↦
-      let none : Answers [] [] = ([], tt, refl) in
+      let none : Answers [] [] = record { answers = []; each = tt; output_is = refl } in
       torn [] l (ls ++ rest) [] a written _ none h.0 (front_of (ended a) (flat_map ended answers) written left e (omega arith))
   | inr ge ↦
       let parts = parted (ended a) (flat_map ended answers) written left e ge in
@@ -82,8 +97,8 @@ torn_at lines rest answers written left h e some = absurd h
 -- a front of the answers of a beginning of the lines, with some bytes left, breaks off within the answer of a line
 torn_front : (lines : List (List ℕ)) (out bytes : List ℕ) (u v : Option (List ℕ)) → AnswersFront lines out → bytes ≡ out
     → (w : WritesFront u v bytes) → AnswersTorn lines w.front
-torn_front lines out bytes u v (front, rest, divided, all, each, is) same w =
-    rw divided (torn_at front rest all w.front w.left each (sym is ∙ sym same ∙ w.divided) w.some_left)
+torn_front lines out bytes u v (front, rest, divided, h) same w =
+    rw divided (torn_at front rest h.answers w.front w.left h.each (sym h.output_is ∙ sym same ∙ w.divided) w.some_left)
 
 -- the answer to a last line
 pub last_answer : (p old new : List ℕ) (n : ℕ) → old ≡ [] → n ≡ length p → (n == 0) ≡ false → GrowsByAnswer (p ++ []) old new
@@ -95,7 +110,8 @@ last_answer (b ∷ p) old new n none long some g =
 -- some lines, and then the lines of what is left
 more_lines : {all left rest : List ℕ} {ms : List (List ℕ)} (ls : List (List ℕ)) → HasLines left ms rest
     → all ≡ flat_map ended ls ++ left → list_all no_feed ls ≡ true → HasLines all (ls ++ ms) rest
-more_lines ls (divided, each, last) e k = (rw (flat_map-append, append_assoc, ← divided) e, rw (list_all-append, k, each), last)
+more_lines ls h e k =
+    record { divided = rw (flat_map-append, append_assoc, ← h.divided) e; each = rw (list_all-append, k, h.each); last = h.last }
 
 -- all bytes are some lines and a rest
 abbrev HasSomeLines : List ℕ → Type 0
@@ -103,12 +119,13 @@ HasSomeLines bytes = (lines : List (List ℕ)) × (rest : List ℕ) × HasLines 
 
 one_more : (b : ℕ) (bytes : List ℕ) → HasSomeLines bytes → (b == 10 ≡ true) ⊎ (b == 10 ≡ false) → HasSomeLines (b ∷ bytes)
 one_more b bytes (ls, r, h) (inl e) =
-    ([] ∷ ls, r, (rw (eqb-true b 10 e) (ap (λ l. 10 ∷ l) h.0), h.1, h.2))
-one_more b bytes ([], r, h) (inr e) = ([], b ∷ r, (cc h.0, refl, rw (e, h.2) refl))
-one_more b bytes (l ∷ ls, r, h) (inr e) = ((b ∷ l) ∷ ls, r, (ap (λ l. b ∷ l) h.0, rw (e, h.1) refl, h.2))
+    ([] ∷ ls, r, record { divided = rw (eqb-true b 10 e) (ap (λ l. 10 ∷ l) h.divided); each = h.each; last = h.last })
+one_more b bytes ([], r, h) (inr e) = ([], b ∷ r, record { divided = cc h.divided; each = refl; last = rw (e, h.last) refl })
+one_more b bytes (l ∷ ls, r, h) (inr e) =
+    ((b ∷ l) ∷ ls, r, record { divided = ap (λ l. b ∷ l) h.divided; each = rw (e, h.each) refl; last = h.last })
 
 lines_of : (bytes : List ℕ) → HasSomeLines bytes
-lines_of [] = ([], [], (refl, refl, refl))
+lines_of [] = ([], [], record { divided = refl; each = refl; last = refl })
 lines_of (b ∷ bytes) = one_more b bytes (lines_of bytes) (cases_Bool (b == 10))
 
 -- a line of the rest, which goes on from what waits
@@ -144,7 +161,7 @@ pub took_end : (result : Result ⊤ AllocError) (p bytes waits rest after output
 took_end (Err error) p bytes waits rest after output t plain e = taken_stop p bytes waits rest output t
 took_end (Ok done) p bytes waits rest after output t plain e = rw e (record {
   lines = t.lines;
-  has_lines = λ k. (t.divided, (t.each k).0, rw (list_all-append, (t.each k).1, plain) refl);
+  has_lines = λ k. record { divided = t.divided; each = (t.each k).0; last = rw (list_all-append, (t.each k).1, plain) refl };
   said = t.answers;
 })
 
@@ -161,7 +178,7 @@ turned_on Said join a b c u v w p q r bs cs t s = record {
     lines = t.told.lines ++ s.told.lines;
     has_lines = λ plain.
         let h = t.told.has_lines plain in
-        more_lines t.told.lines (s.told.has_lines h.2) (rw (sym (append_assoc p bs cs), h.0, append_assoc) refl) h.1;
+        more_lines t.told.lines (s.told.has_lines h.last) (rw (sym (append_assoc p bs cs), h.divided, append_assoc) refl) h.each;
     said = join t.told.lines s.told.lines t.written s.written t.told.said s.told.said;
   };
 }
@@ -170,7 +187,8 @@ turned_on Said join a b c u v w p q r bs cs t s = record {
 ran : {Said : List (List ℕ) → List ℕ → Type 0} {a c u w : Option (List ℕ)} {q b o : List ℕ} (result : Result ⊤ RunFault)
     (s : List ℕ) (t : Told Said [] b q o) → Consumes a c b → Appends u w s → Writes result c t.lines q s → Ran result a c u w
 ran {q} {b} result s t i j k =
-    (b, s, i, j, t.lines, q, t.has_lines refl, k)
+    let l = t.has_lines refl in
+    record { read = b; written = s; consumed = i; appended = j; lines = t.lines; rest = q; has_lines = l; writes = k }
 
 -- a fault after what was read
 pub stopped_ran : (a b c u v w : Option (List ℕ)) (q bytes : List ℕ) → Turned Answers a b u v [] q bytes → (fault : RunFault)

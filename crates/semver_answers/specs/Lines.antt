@@ -12,8 +12,10 @@ abbrev pub ended : List ℕ → List ℕ
 ended text = text ++ 10 ∷ []
 
 -- the input is these lines, each with its line feed, and a rest without one
-abbrev pub HasLines : List ℕ → List (List ℕ) → List ℕ → Type 0
-HasLines text ls end = (text ≡ flat_map ended ls ++ end) × (list_all no_feed ls ≡ true) × (no_feed end ≡ true)
+pub record HasLines (input : List ℕ) (lines : List (List ℕ)) (rest : List ℕ) : Type 0 where
+  pub divided : input ≡ flat_map ended lines ++ rest
+  pub each : list_all no_feed lines ≡ true
+  pub last : no_feed rest ≡ true
 
 -- a last line without a line feed counts where it is not empty
 abbrev pub last_line : List ℕ → List (List ℕ)

@@ -96,12 +96,11 @@ front-begins limit text p rest u h =
 front-passes : (limit : ℕ) (t more : List ℕ) (p : Partial) → IsPartial limit t p → Quiet t more
     → (r : Partial × List ℕ) × (partial_front limit (t ++ more) ≡ Some r) × Passes r p more
 unfolding partial_front
-front-passes limit t more p h quiet =
-    let x = h.2 in
-    let begin = components-begin limit x p h.6 in
-    let whole : t ≡ (h.0 ++ h.1) ++ x = h.3 ∙ simp append_assoc in
-    let last : Quiet x more = quiet-last (h.0 ++ h.1) x more (begins-some is_component_byte x begin) (rw whole at quiet) in
-    let behind : t ++ more ≡ h.0 ++ (h.1 ++ (x ++ more)) = ap (λ (u : List ℕ). u ++ more) h.3 ∙ simp append_assoc in
+front-passes limit t more p (mark, blank, x, divided, mark_is, blank_is, are) quiet =
+    let begin = components-begin limit x p are in
+    let whole : t ≡ (mark ++ blank) ++ x = divided ∙ simp append_assoc in
+    let last : Quiet x more = quiet-last (mark ++ blank) x more (begins-some is_component_byte x begin) (rw whole at quiet) in
+    let behind : t ++ more ≡ mark ++ (blank ++ (x ++ more)) = ap (λ (u : List ℕ). u ++ more) divided ∙ simp append_assoc in
     grind (arith, components-then, unmarked, drop_spaces-blank, drop_spaces-none, front-dark)
 
 -- components alone are read exactly where nothing goes on

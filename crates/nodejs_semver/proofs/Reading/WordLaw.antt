@@ -4,7 +4,7 @@ use Rattle.nodejs_semver.proofs.Common.{true, false, Some, None, inl, inr, subst
 use Rattle.nodejs_semver.proofs.Common.{Option, IsUtf8, ◌==◌, cases_Bool, eqb-true, nat_tests, cond_some, same_Some, drop_at}
 use Rattle.nodejs_semver.proofs.Common.{take_at, IsUtf8-drop, IsCharBoundary-after_ascii, IsTrim, drop_spaces, space_len}
 use Rattle.nodejs_semver.proofs.Common.{drop_spaces-none, space_len-nil, Partial, Word, hyphen, plain, bind_some}
-use Rattle.std.specs.Prelude.{encode_utf8_all, IsCharBoundary}
+use Rattle.std.specs.Prelude.{encode_utf8_all, IsCharBoundary, nat_lt}
 use Rattle.std.specs.Char.{encode_utf8}
 use Rattle.std.proofs.Math.Seq.{get_or-append_seam}
 use Rattle.std.proofs.lemmas.Bool.{lt-ltb}
@@ -95,11 +95,16 @@ pub skips-of : (text rest : List ℕ) → IsUtf8 text → SkipsBlank text rest �
 skips-of text rest u h =
     let v = skips-utf8 text rest h u in
     let none : space_len rest ≡ 0 = grind (arith, h.3, suffix-blank [] rest v) in
-    grind (arith, drop_spaces-blank, drop_spaces-none)
+    ap drop_spaces h.1 ∙ (ap (λ (t : List ℕ). drop_spaces (t ++ rest)) h.2.spelled
+    ∙ (drop_spaces-blank h.2.characters rest h.2.each ∙ drop_spaces-none rest none))
 
 some_space-is : (front text rest : List ℕ) → IsUtf8 (front ++ text) → after_some_space text ≡ Some rest → IsUtf8 text
     × BeginsBlank text × SkipsBlank text rest
-some_space-is front text rest u h = grind (arith, nat_tests, suffix-utf8 front text, suffix-blank front text, skips-is)
+some_space-is front text rest u h =
+    let b = cond_some (nat_lt 0 (space_len text)) (drop_spaces text) rest h in
+    let some : 0 < space_len text = grind (arith, nat_tests, b.0) in
+    let v = suffix-utf8 front text u some in
+    (v, suffix-blank front text u some, subst (λ (t : List ℕ). SkipsBlank text t) b.1 (skips-is text v))
 
 pub byte-is : (c : ℕ) (text rest : List ℕ) → after_byte c text ≡ Some rest → text ≡ c ∷ rest
 byte-is c text rest h = grind arith
@@ -309,7 +314,7 @@ form-of limit text w rest u (caret_form t p r h) =
 -- ---- the next boundary
 
 first-is : (front text : List ℕ) → IsUtf8 (front ++ text) → IsFirstBoundary text (from_boundary text)
-first-is front [] u = grind (arith, from_boundary-nil)
+first-is front [] u = rw from_boundary-nil ([], refl, inl refl, λ x y e h. omega arith)
 first-is front (b ∷ text) u = elim (cases_Bool (is_boundary (b ∷ text))) [
   | inl here ↦
       let stop = suffix-boundary front (b ∷ text) u here in
