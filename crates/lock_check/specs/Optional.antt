@@ -1,7 +1,7 @@
 -- Statement: which dependencies may be absent.
 use Rattle.std.specs.Prelude.{◌≡◌, ⊤, Bool, true, false}
 use Rattle.lock_check.specs.declared.lock.Field.{Field}
-use Rattle.lock_check.specs.declared.lock.Field.TheVariants.{Development, Optional, Peer, Production, Requires, Workspaces}
+use Rattle.lock_check.specs.declared.lock.Field.TheVariants.{Optional, Peer}
 
 -- an optional one may, and a peer of which `peerDependenciesMeta` says so; all others have to be there, workspaces too
 abbrev pub MayBeAbsent : Field → Bool → Type 0

@@ -1,4 +1,4 @@
-use Rattle.std.proofs.Common.{inl, inr, sym, ap, drop, ◌∙◌}
+use Rattle.std.proofs.Common.{inl, inr, ap, drop, ◌∙◌}
 use Rattle.lock_check.proofs.Parts.{at_then, behind_at}
 use Rattle.lock_check.proofs.specifier.alias.Goals.{in-Some, in-None}
 use Rattle.lock_check.proofs.specifier.alias.Goals as goal
