@@ -51,6 +51,7 @@ fn laws_of_range_texts(rt: HostRuntime) {
     laws::grammar();
     laws::meaning();
     laws::printed_ranges_come_back(">1.2.3");
+    laws::build_of_the_least();
     laws::one_flaw();
     laws::ignored_words_mean_nothing();
     assert!(rt; true);
