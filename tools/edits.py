@@ -45,11 +45,12 @@ class Place:
         head = HEADER.findall(above)[-1]
         self.name, block = head[1], BLOCK.findall(above) if head[0] else []
         self.module = [it for it in file[len("src/") : -len(".rt")].split("/") if it not in ("lib", "main")]
-        self.crate, self.owner, self.trait = crate, "", ""
+        self.crate, self.owner, self.trait, self.has_arguments = crate, "", "", False
         if block:
             words = re.sub(r"^(?:impl|.*?\btrait)\b|<[^<>]*(?:<[^<>]*>[^<>]*)*>", "", block[-1]).strip().split(" for ")
             self.owner = words[-1].strip().split("::")[-1]
             self.trait = words[0].strip().split("::")[-1] if len(words) > 1 else ""
+            self.has_arguments = bool(self.trait) and f"{self.trait}<" in block[-1]
         if self.owner and not self.trait:
             # A check names the methods of a type by the module of that type.
             self.module = self.home_of(self.owner, folder)

@@ -1,2 +1,6 @@
+pub mod Optional
+pub mod Readings
+pub mod Replacements
 pub mod Shown
+pub mod Specifiers
 pub mod Verdicts

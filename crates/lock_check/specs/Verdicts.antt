@@ -1,9 +1,13 @@
--- Statement: what a range says of a version.
-use Rattle.std.specs.Prelude.{◌≡◌, true, false, List}
+-- Statement: what a range says of a version, and the text of a range of the text of a locked version.
+use Rattle.std.specs.Prelude.{◌≡◌, ℕ, true, false, List}
 use Rattle.nodejs_semver.specs.Cuts.{Span}
 use Rattle.nodejs_semver.specs.Versions.{VersionValue}
 use Rattle.nodejs_semver.specs.Ranges.Gate.{accepts}
 use Rattle.nodejs_semver.specs.Ranges.Least.{IsLeastOf}
+use Rattle.semver_core.specs.declared.TheConstants.{MAX_SAFE_INTEGER}
+use Rattle.lock_check.specs.Readings.{IsLocked, IsNotLocked, IsNotWanted, IsWanted}
+use Rattle.lock_check.specs.declared.verdict.Judgement.{Judgement}
+use Rattle.lock_check.specs.declared.verdict.Judgement.TheVariants.{NoRange, NoVersion, Read}
 use Rattle.lock_check.specs.declared.verdict.Verdict.{Verdict}
 use Rattle.lock_check.specs.declared.verdict.Verdict.TheVariants.{Accepted, Rejected}
 
@@ -11,3 +15,11 @@ use Rattle.lock_check.specs.declared.verdict.Verdict.TheVariants.{Accepted, Reje
 abbrev pub IsVerdict : List (Span VersionValue) → VersionValue → Verdict → Type 0
 IsVerdict range v Accepted = accepts range v false ≡ true
 IsVerdict range v (Rejected least) = (accepts range v false ≡ false) × IsLeastOf (λ w. accepts range w false) least
+
+-- the first text is a range and the second one a version, of which that is the verdict; or one of them is none
+abbrev pub IsJudgement : List ℕ → List ℕ → Judgement → Type 0
+IsJudgement wanted locked NoRange = IsNotWanted MAX_SAFE_INTEGER wanted
+IsJudgement wanted locked NoVersion = (range : List (Span VersionValue)) × IsWanted MAX_SAFE_INTEGER wanted range
+    × IsNotLocked MAX_SAFE_INTEGER locked
+IsJudgement wanted locked (Read verdict) = (range : List (Span VersionValue)) × (v : VersionValue)
+    × IsWanted MAX_SAFE_INTEGER wanted range × IsLocked MAX_SAFE_INTEGER locked v × IsVerdict range v verdict

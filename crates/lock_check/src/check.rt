@@ -5,13 +5,13 @@ use crate::finding::{Finding, Outcome};
 use crate::folder::{is_installed, joined};
 use crate::lock::{Dependency, Field, Lock, Package, Wanted, add_dependencies};
 use crate::overrides::Overrides;
+use crate::reading::{is_unsure, strict_range};
 use crate::scopes::Scopes;
 use crate::specifier::{Specifier, is_tag};
-use crate::verdict::{Verdict, judge};
+use crate::verdict::{Judgement, Verdict, judge_texts};
 use crate::workspaces::{add_workspaces, are_read};
 use anyhow::Result;
-use nodejs_semver::diagnosis::{IgnoredKind, ignored_words, version_flaw};
-use nodejs_semver::{Failure, Range, Version};
+use semver_core::scan::trim;
 use serde_json::Value;
 use std::alloc::Global;
 
@@ -94,10 +94,10 @@ fn finding<'a>(
 ) -> Result<Finding<'a>> {
     let Edge { dependency, locked } = edge;
     let Some(wanted) = wanted else {
-        let outcome = Outcome::NoReference;
         return Ok(Finding {
             dependency,
-            outcome,
+            outcome: Outcome::NoReference,
+            lenient: "",
         });
     };
     let is_changed = wanted.is_other_than(dependency.wanted);
@@ -111,9 +111,24 @@ fn finding<'a>(
         None => Outcome::Missing,
         Some(locked) => locked_outcome(alloc, lock, dependency, locked)?,
     };
+    let lenient = match dependency.wanted.specifier() {
+        Specifier::Range(text) | Specifier::Repository(Some(text)) if outcome.is_of_range() => {
+            lenient_text(alloc, text)?
+        }
+        _ => "",
+    };
     Ok(Finding {
         dependency,
         outcome,
+        lenient,
+    })
+}
+
+// The range text, if npm's strict reading rejects it, and else nothing.
+fn lenient_text(alloc: Global, text: &str) -> Result<&str> {
+    Ok(match strict_range(alloc, text)? {
+        Some(_) => "",
+        None => text,
     })
 }
 
@@ -189,7 +204,7 @@ impl<'a> Target<'a> {
     fn outcome(self, alloc: Global, wanted: Specifier<'a>) -> Result<Outcome<'a>> {
         match wanted {
             Specifier::Unsupported => Ok(Outcome::Unsupported),
-            Specifier::Range(text) => self.range_outcome(alloc, text),
+            Specifier::Range(text) => self.registry_outcome(alloc, text),
             Specifier::Folder(path) => self.folder_outcome(alloc, path),
             Specifier::Packed(path) => self.packed_outcome(alloc, path),
             Specifier::Page(url) if !self.is_link() && self.resolved() == Some(url) => {
@@ -262,30 +277,28 @@ impl<'a> Target<'a> {
         }
     }
 
-    // What a range text says of it.
-    fn range_outcome(self, alloc: Global, wanted: &str) -> Result<Outcome<'a>> {
-        // To npm these ranges accept every version, pre-releases too.
-        if matches!(wanted.trim(), "" | "*") {
+    // What the text of a range says of it that is asked of a registry. To npm `*` accepts every
+    // locked version, pre-releases too, and the empty text is `*`.
+    fn registry_outcome(self, alloc: Global, wanted: &str) -> Result<Outcome<'a>> {
+        if wanted.is_empty() || trim(wanted) == "*" {
             return Ok(Outcome::Satisfied);
         }
-        let range = range(alloc, wanted)?;
-        let is_unbounded = has_word_without_bounds(wanted);
-        if range.is_none() && !is_unbounded {
-            return Ok(self.tag_outcome(wanted));
-        }
-        let Some(text) = self.package.text("version") else {
-            return Ok(Outcome::Unversioned);
-        };
-        // npm leaves out such marks before a locked version.
-        let bare = text.trim_start_matches(['v', '=', ' ']);
-        match (version_flaw(text), range) {
-            (Some(flaw), _) if version_flaw(bare).is_some() => Ok(Outcome::NoVersion {
-                version: text,
-                flaw,
-            }),
-            (_, Some(range)) if !is_unbounded => version_outcome(alloc, &range, bare, text),
-            _ => Ok(Outcome::Unbounded),
-        }
+        self.range_outcome(alloc, wanted)
+    }
+
+    // What a range text says of it.
+    fn range_outcome(self, alloc: Global, wanted: &str) -> Result<Outcome<'a>> {
+        let locked = self.package.text("version");
+        let version = locked.unwrap_or("");
+        let is_unsure = is_unsure(alloc, wanted)?;
+        Ok(match judge_texts(alloc, wanted, version)? {
+            Judgement::NoVersion if locked.is_none() => Outcome::Unversioned,
+            Judgement::NoVersion => Outcome::NoVersion { version },
+            _ if is_unsure => Outcome::Unsure,
+            Judgement::NoRange => self.tag_outcome(wanted),
+            Judgement::Read(Verdict::Accepted) => Outcome::Satisfied,
+            Judgement::Read(Verdict::Rejected(smallest)) => Outcome::Rejected { version, smallest },
+        })
     }
 
     // npm wants what a tag names to come from an address of a package.
@@ -303,39 +316,4 @@ fn is_relative(path: &str) -> bool {
     !path.starts_with('/')
         && !path.starts_with('~')
         && !path.contains(|letter: char| matches!(letter, ':' | '%' | '?' | '#' | '\\'))
-}
-
-// Whether some word of a range text has no bounds here. To npm `^*` is any version, and `2 - 1`
-// none.
-fn has_word_without_bounds(text: &str) -> bool {
-    ignored_words(text).any(|word| word.kind == IgnoredKind::WithoutBounds)
-}
-
-// What the range says of a version. It is locked by the whole text.
-fn version_outcome<'a>(
-    alloc: Global,
-    range: &Range,
-    bare: &str,
-    text: &'a str,
-) -> Result<Outcome<'a>> {
-    match judge(alloc, range, &version(alloc, bare)?)? {
-        Verdict::Accepted => Ok(Outcome::Satisfied),
-        Verdict::Rejected(smallest) => Ok(Outcome::Rejected {
-            version: text,
-            smallest,
-        }),
-    }
-}
-
-/// The range of a text, or `None` if nothing is read of it.
-pub fn range(alloc: Global, text: &str) -> Result<Option<Range>> {
-    Ok(Failure::refused_as_none(Range::parse(alloc, text))?)
-}
-
-fn version(alloc: Global, text: &str) -> Result<Version> {
-    match Version::parse(alloc, text) {
-        Ok(version) => Ok(version),
-        Err(Failure::Refused(error)) => Err(error.into()),
-        Err(Failure::Memory(error)) => Err(error.into()),
-    }
 }

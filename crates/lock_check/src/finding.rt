@@ -5,9 +5,8 @@ ghost use Rattle.std.specs.Prelude.{◌≡◌, ◌<◌};
 use crate::check::Findings;
 use crate::lock::{Dependency, Lock, Wanted};
 use crate::shown::Shown;
-use crate::specifier::Specifier;
 use nodejs_semver::Version;
-use nodejs_semver::diagnosis::{IgnoredWords, VersionFlaw, ignored_words};
+use nodejs_semver::diagnosis::{IgnoredWords, ignored_words, version_flaw};
 use std::fmt;
 use std::process::ExitCode;
 
@@ -16,6 +15,9 @@ use std::process::ExitCode;
 pub struct Finding<'a> {
     pub dependency: Dependency<'a>,
     pub outcome: Outcome<'a>,
+    /// The range text, if npm's strict reading rejects it, so that words of it may be ignored; else
+    /// empty.
+    pub lenient: &'a str,
 }
 
 /// What is found for a dependency.
@@ -32,7 +34,6 @@ pub enum Outcome<'a> {
     /// The locked version is not one version as a whole.
     NoVersion {
         version: &'a str,
-        flaw: VersionFlaw,
     },
     /// The locked package has no text `version`.
     Unversioned,
@@ -54,8 +55,9 @@ pub enum Outcome<'a> {
     Missing,
     /// The same of a dependency that may be absent.
     Absent,
-    /// It is skipped, since npm reads a word of its range text that is ignored here.
-    Unbounded,
+    /// It is skipped, since npm's loose reading may have bounds for a word of its range text that
+    /// is ignored here.
+    Unsure,
     /// It is skipped, since its range text is an address that is not compared.
     Address,
     /// It is skipped, since the package is a link that may be to a workspace.
@@ -93,6 +95,18 @@ impl Outcome<'_> {
         self.kind() == Kind::Satisfied
     }
 
+    /// Whether the range text was read.
+    pub fn is_of_range(&self) -> bool {
+        matches!(
+            self,
+            Outcome::Satisfied
+                | Outcome::Rejected { .. }
+                | Outcome::NoVersion { .. }
+                | Outcome::Unversioned
+                | Outcome::Unsure
+        )
+    }
+
     fn kind(&self) -> Kind {
         match self {
             Outcome::Satisfied | Outcome::Tagged => Kind::Satisfied,
@@ -108,8 +122,7 @@ impl Outcome<'_> {
             | Outcome::NoReference => Kind::Rejected,
             Outcome::Missing => Kind::Missing,
             Outcome::Absent => Kind::Absent,
-            Outcome::Unbounded | Outcome::Address | Outcome::Link | Outcome::OwnPeer =>
-                Kind::Skipped,
+            Outcome::Unsure | Outcome::Address | Outcome::Link | Outcome::OwnPeer => Kind::Skipped,
         }
     }
 }
@@ -120,19 +133,9 @@ impl Finding<'_> {
         !matches!(self.outcome.kind(), Kind::Satisfied | Kind::Absent)
     }
 
-    /// The ignored words of the range text, if it was read as a range.
+    /// The ignored words of the range text.
     pub fn ignored(&self) -> IgnoredWords<'_> {
-        ignored_words(match (&self.outcome, self.dependency.wanted.specifier()) {
-            (
-                Outcome::Satisfied
-                | Outcome::Rejected { .. }
-                | Outcome::NoVersion { .. }
-                | Outcome::Unversioned
-                | Outcome::Unbounded,
-                Specifier::Range(text) | Specifier::Repository(Some(text)),
-            ) => text,
-            _ => "",
-        })
+        ignored_words(self.lenient)
     }
 }
 
@@ -166,9 +169,7 @@ impl fmt::Display for Finding<'_> {
                 version,
                 smallest: Some(smallest),
             } => write!(f, ", not {}; smallest accepted: {smallest}", Shown(version)),
-            Outcome::NoVersion { version, flaw } => {
-                write!(f, ", not {}; no version: {flaw}", Shown(version))
-            }
+            Outcome::NoVersion { version } => write_no_version(f, version),
             Outcome::Unversioned => write!(f, ", not locked to a version"),
             Outcome::Unread => write!(f, ", rejected: no range, tag or address"),
             Outcome::Unsupported => write!(f, ", rejected: no text that npm reads"),
@@ -179,11 +180,20 @@ impl fmt::Display for Finding<'_> {
             Outcome::NoReference => write!(f, ", rejected: its override refers to nothing"),
             Outcome::Missing => write!(f, ", missing"),
             Outcome::Absent => write!(f, ", absent"),
-            Outcome::Unbounded => write!(f, ", skipped: npm reads a word that is ignored here"),
+            Outcome::Unsure => write!(f, ", skipped: npm reads a word that is ignored here"),
             Outcome::Address => write!(f, ", skipped: an address"),
             Outcome::Link => write!(f, ", skipped: a link that may be a workspace"),
             Outcome::OwnPeer => write!(f, ", skipped: a peer in its own folder"),
         }
+    }
+}
+
+// A text that is no version, and its flaw. npm rejects the mark `V`, which is none to `parse`.
+fn write_no_version<W: fmt::Write>(f: &mut fmt::Formatter<W>, text: &str) -> fmt::Result {
+    write!(f, ", not {}; no version", Shown(text))?;
+    match version_flaw(text) {
+        Some(flaw) => write!(f, ": {flaw}"),
+        None => Ok(()),
     }
 }
 

@@ -1,5 +1,7 @@
 // The packages of a lock file, and what they depend on.
 
+ghost use Rattle.lock_check.specs.Optional.{MayBeAbsent};
+
 use crate::fault::Fault;
 use crate::folder::{is_installed, joined};
 use crate::specifier::Specifier;
@@ -131,7 +133,9 @@ impl<'a> Wanted<'a> {
 
 impl<'a> Dependency<'a> {
     /// Whether it may be absent.
-    pub fn is_optional(self) -> bool {
+    pub fn is_optional(self) -> bool
+        ensures { MayBeAbsent self.entry.field result }
+    {
         match self.field {
             Field::Development | Field::Production | Field::Requires | Field::Workspaces => false,
             Field::Optional => true,

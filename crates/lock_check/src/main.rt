@@ -18,10 +18,10 @@
 //! A lock file may come from anyone. What is printed of it stands on one line, in printable ASCII:
 //! all other characters, quotes and backslashes are escaped, as `\u{1b}`.
 //!
-//! It also names each word of a range that is ignored, with its place; this does not count as a
-//! finding. npm ignores malformed words too, as `>=1.0.0,` in `>=1.0.0, <2.0.0`. A word that has a
-//! form but no bounds here, as `^*`, has bounds to npm, so a dependency with such a word is
-//! skipped.
+//! Ranges and versions are read as npm's library node-semver reads them strictly; of a text that it
+//! then rejects the lenient reading of `parse` decides. Each word that this ignores is named with
+//! its place, which does not count as a finding, since npm ignores such words too: `>=1.0.0,` in
+//! `>=1.0.0, <2.0.0`.
 #![tactic(auto)]
 
 mod check;
@@ -31,6 +31,7 @@ mod folder;
 mod lock;
 mod nested;
 mod overrides;
+mod reading;
 mod scopes;
 mod shown;
 mod specifier;
@@ -40,6 +41,7 @@ mod workspaces;
 use crate::check::{Findings, check};
 use crate::finding::{Counts, Finding};
 use crate::lock::Lock;
+use crate::reading::unmarked;
 use anyhow::{Context, Result};
 use serde_json::{Map, Value, put};
 use std::alloc::Global;
@@ -88,10 +90,8 @@ fn run(rt: &HostRuntime) -> Result<ExitCode> {
     Ok(counts.exit_code())
 }
 
-// Some editors put a byte order mark at the front.
 fn json(alloc: Global, text: &str) -> Result<Value> {
-    let text = text.strip_prefix('\u{feff}').unwrap_or(text);
-    Ok(Value::from_str(alloc, text)?)
+    Ok(Value::from_str(alloc, unmarked(text))?)
 }
 
 // The packages of a lock file, by their folders.

@@ -1,11 +1,13 @@
 // `overrides` of the root project, which changes what packages depend on.
 
-use crate::check::range;
+ghost use Rattle.lock_check.specs.Replacements.{IsReplacement};
+
 use crate::fault::Fault;
 use crate::lock::{Dependency, Package, Wanted};
+use crate::reading::{range, strict_range};
 use crate::specifier::Specifier;
 use anyhow::Result;
-use nodejs_semver::Range;
+use nodejs_semver::RangeRef;
 use serde_json::{Map, Value};
 use std::alloc::Global;
 
@@ -36,7 +38,7 @@ struct Rule<'a> {
     outer: Scope,
     name: &'a str,
     // The range behind the name, as in `NAME@RANGE`.
-    range: Option<Range>,
+    range: Option<RangeRef<'a>>,
     replacement: Replacement<'a>,
 }
 
@@ -56,7 +58,9 @@ const REFERENCED: &[&str] = &[
 ];
 
 impl<'a> Replacement<'a> {
-    fn of(text: &'a str) -> Replacement<'a> {
+    fn of(text: &'a str) -> Replacement<'a>
+        ensures { IsReplacement text.now result }
+    {
         match text.strip_prefix('$') {
             Some(name) => Replacement::Reference(name),
             None if matches!(text, "" | "*") => Replacement::Nothing,
@@ -79,7 +83,7 @@ impl<'a> Rule<'a> {
         };
         let range = match wanted {
             "*" => None,
-            wanted => match range(alloc, wanted)? {
+            wanted => match strict_range(alloc, wanted)? {
                 Some(range) => Some(range),
                 None => return Ok(None),
             },

@@ -1,5 +1,7 @@
 // What a text in place of a range is to npm.
 
+ghost use Rattle.lock_check.specs.Specifiers.{IsAlias};
+
 // The ends of the names of packed packages.
 const PACKED: &[&str] = &[".tgz", ".tar.gz", ".tar"];
 
@@ -87,7 +89,9 @@ fn is_packed(text: &str) -> bool {
 }
 
 // What stands behind `npm:`, a name and a range. A name may begin with an at sign of its own.
-fn alias(target: &str) -> Specifier<'_> {
+fn alias(target: &str) -> Specifier<'_>
+    ensures { IsAlias target.now result }
+{
     let (name, plain) = match target.strip_prefix('@') {
         Some(name) => (name, true),
         None => (target, is_plain(target)),

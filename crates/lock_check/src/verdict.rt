@@ -1,9 +1,10 @@
 // What a range says of a version.
 
 ghost use Rattle.std.specs.Prelude.{IfOk};
-ghost use Rattle.lock_check.specs.Verdicts.{IsVerdict};
+ghost use Rattle.lock_check.specs.Verdicts.{IsJudgement, IsVerdict};
 
-use nodejs_semver::{Range, Version};
+use crate::reading::{range, version};
+use nodejs_semver::{RangeRef, Version, VersionRef};
 use std::alloc::{AllocError, Global};
 
 /// What a range says of a version.
@@ -15,8 +16,23 @@ pub enum Verdict {
     Rejected(Option<Version>),
 }
 
+/// What the text of a range says of the text of a version.
+#[derive(Drop)]
+pub enum Judgement {
+    /// The first text is no range.
+    NoRange,
+    /// The first text is a range, and the second one is no version.
+    NoVersion,
+    /// Both are read.
+    Read(Verdict),
+}
+
 /// What the range says of the version. Fails only if allocation fails.
-pub fn judge(alloc: Global, range: &Range, version: &Version) -> Result<Verdict, AllocError>
+pub fn judge(
+    alloc: Global,
+    range: &RangeRef<'_>,
+    version: &VersionRef<'_>,
+) -> Result<Verdict, AllocError>
     ensures { IfOk result (IsVerdict range.now version.now) }
 {
     if range.satisfies(version) {
@@ -24,4 +40,19 @@ pub fn judge(alloc: Global, range: &Range, version: &Version) -> Result<Verdict,
     }
     let smallest = range.min_version(alloc)?;
     Ok(Verdict::Rejected(smallest))
+}
+
+/// What the range of the first text says of the version that the second one is. Fails only if
+/// allocation fails.
+pub fn judge_texts(alloc: Global, wanted: &str, locked: &str) -> Result<Judgement, AllocError>
+    ensures { IfOk result (IsJudgement wanted.now locked.now) }
+{
+    let Some(range) = range(alloc, wanted)? else {
+        return Ok(Judgement::NoRange);
+    };
+    let Some(version) = version(locked) else {
+        return Ok(Judgement::NoVersion);
+    };
+    let verdict = judge(alloc, &range, &version)?;
+    Ok(Judgement::Read(verdict))
 }

@@ -1,5 +1,7 @@
 pub mod BestOf
 pub mod Next
+pub mod LeastBuild
+pub mod Kinds
 pub mod LeastHeld
 pub mod LeastOf
 pub mod LeastPieces

@@ -5,7 +5,8 @@ pub use Rattle.nodejs_semver.specs.Ranges.Least.{IsLeastOf, least_build}
 pub use Rattle.nodejs_semver.specs.Ranges.View.{span_of}
 pub use Rattle.nodejs_semver.specs.Text.Bars.{IsCutAtBars}
 pub use Rattle.nodejs_semver.specs.Text.PartialText.{AreComponents, Partial}
-pub use Rattle.nodejs_semver.specs.Text.Runs.{Run, fits, interval_of, run_items}
+pub use Rattle.nodejs_semver.specs.Text.Runs.{Run, fits, interval_of}
+pub use Rattle.nodejs_semver.specs.Internal.RunsFrom.{run_items}
 unfoldable pub use Rattle.nodejs_semver.specs.Text.Table.{table}
 pub use Rattle.nodejs_semver.specs.Text.WordText.{Word, hyphen, malformed, plain}
 pub use Rattle.nodejs_semver.specs.Text.WrittenSet.{run_writes}

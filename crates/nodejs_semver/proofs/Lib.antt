@@ -6,6 +6,7 @@ pub mod Diagnosing
 pub mod Dividing
 pub mod Everyday
 pub mod Strict
+pub mod NpmTexts
 pub mod Printing
 pub mod Questions
 pub mod Reading

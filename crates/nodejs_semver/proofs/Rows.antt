@@ -1,4 +1,5 @@
 pub mod Ranges
 pub mod Printed
 pub mod NpmVersions
+pub mod NpmTexts
 pub mod NpmRanges

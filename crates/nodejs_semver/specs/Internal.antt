@@ -18,6 +18,8 @@ pub mod Ignored
 pub mod Sets
 pub mod Questions
 pub mod NpmReadings
+pub mod NpmLooseVersions
+pub mod NpmTuples
 pub mod NpmParts
 pub mod NpmWords
 pub mod NpmViews

@@ -3,6 +3,7 @@ pub mod Subsets
 pub mod Unions
 pub mod Simple
 pub mod Grammar
+pub mod Coerced
 pub mod VersionText
 pub mod RangeText
 pub mod Table

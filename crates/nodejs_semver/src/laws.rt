@@ -4,6 +4,7 @@
 mod builds;
 mod diagnosis;
 pub mod headline;
+mod least;
 mod outside;
 mod printing;
 mod program;
@@ -11,6 +12,7 @@ mod texts;
 
 pub use crate::laws::builds::order_with_builds;
 pub use crate::laws::diagnosis::{ignored_words_mean_nothing, one_flaw};
+pub use crate::laws::least::build_of_the_least;
 pub use crate::laws::outside::outside_by_cuts;
 pub use crate::laws::printing::{printed_in_field, printed_ranges_come_back, reread_range};
 pub use crate::laws::program::{headline_of_texts, membership};

@@ -10,8 +10,10 @@
 mod alternatives;
 mod borrowed_subsets;
 mod builds;
+mod coerced;
 mod comparators;
 mod hyphens;
+mod loose_versions;
 mod partial;
 mod places;
 mod ranges;
@@ -23,6 +25,8 @@ mod versions;
 mod words;
 
 pub use crate::npm::builds::cmp_build;
-pub use crate::npm::ranges::range;
+pub use crate::npm::coerced::{coerce, coerce_loose, coerce_rtl, coerce_rtl_loose};
+pub use crate::npm::loose_versions::version_loose;
+pub use crate::npm::ranges::{range, range_loose};
 pub use crate::npm::sides::{gtr, ltr};
 pub use crate::npm::versions::version;

@@ -18,7 +18,7 @@ pub(crate) use crate::readers::fast::read_common;
 pub(crate) use crate::readers::found::{Filled, Found};
 pub(crate) use crate::readers::kinds::ignored_front;
 pub use crate::readers::loose::{is_blank, range_loose};
-pub(crate) use crate::readers::partial::{build_front, pre_release_front};
+pub(crate) use crate::readers::partial::{build_front, marked_list, pre_release_front};
 pub(crate) use crate::readers::spaces::{skip_spaces, space_len};
 pub(crate) use crate::readers::syntax::{Bounds, Comparator};
 pub(crate) use crate::readers::table::{lowest, release};

@@ -1,2 +1,3 @@
 pub mod Compared
 pub mod NextLaws
+pub mod Naturals

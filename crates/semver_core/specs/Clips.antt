@@ -4,4 +4,5 @@ use Rattle.std.specs.declared.cmp.Ordering.{Ordering}
 use Rattle.semver_core.specs.Cuts.{Span, interval, greater_lower, lesser_upper}
 
 abbrev pub clip : {V : Type 0} → (V → V → Ordering) → Span V → Span V → Option (Span V)
-clip R s t = interval R (record { lower = greater_lower R t.lower s.lower; upper = lesser_upper R s.upper t.upper })
+clip R s t = let lower = greater_lower R t.lower s.lower in let upper = lesser_upper R s.upper t.upper in
+    interval R (record { lower = lower; upper = upper })

@@ -71,7 +71,8 @@ holds R s v = is_past R (lower_cut s.lower) v && not (is_past R (upper_cut s.upp
 -- t lies within s, as cuts
 abbrev pub covers : {V : Type 0} → (V → V → Ordering) → Span V → Span V → Bool
 covers R s t =
-    is_le (cut_cmp R (lower_cut s.lower) (lower_cut t.lower)) && is_le (cut_cmp R (upper_cut t.upper) (upper_cut s.upper))
+    is_le (cut_cmp R (lower_cut s.lower) (lower_cut t.lower))
+    && is_le (cut_cmp R (upper_cut t.upper) (upper_cut s.upper))
 
 -- the lower bound that is further up, the second of equal ones
 abbrev pub greater_lower : {V : Type 0} → (V → V → Ordering) → Bound V → Bound V → Bound V
@@ -83,19 +84,20 @@ lesser_upper R b c = if is_gt (cut_cmp R (upper_cut b) (upper_cut c)) then c els
 
 -- what two spans have in common
 abbrev pub meet : {V : Type 0} → (V → V → Ordering) → Span V → Span V → Option (Span V)
-meet R s t = interval R (record { lower = greater_lower R s.lower t.lower; upper = lesser_upper R s.upper t.upper })
+meet R s t =
+    interval R (record { lower = greater_lower R s.lower t.lower; upper = lesser_upper R s.upper t.upper })
 
 -- what is left of s below t, and above t: t's bound is turned round, and so stands for the same cut
 abbrev pub left_below : {V : Type 0} → (V → V → Ordering) → Span V → Span V → Option (Span V)
-left_below R s t =
-    if is_lt (cut_cmp R (lower_cut s.lower) (lower_cut t.lower)) then Some (record { lower = s.lower; upper = t.lower }) else None
+left_below R s t = if is_lt (cut_cmp R (lower_cut s.lower) (lower_cut t.lower))
+    then Some (record { lower = s.lower; upper = t.lower }) else None
 
 abbrev pub left_above : {V : Type 0} → (V → V → Ordering) → Span V → Span V → Option (Span V)
-left_above R s t =
-    if is_lt (cut_cmp R (upper_cut t.upper) (upper_cut s.upper)) then Some (record { lower = t.upper; upper = s.upper }) else None
+left_above R s t = if is_lt (cut_cmp R (upper_cut t.upper) (upper_cut s.upper))
+    then Some (record { lower = t.upper; upper = s.upper }) else None
 
 -- the lower and the upper remainder of s, which is s alone where the two have nothing in common
-abbrev pub remainders : {V : Type 0} → (V → V → Ordering) → Span V → Span V → Option (Span V) × Option (Span V)
+abbrev pub remainders : {V : Type 0} → (V → V → Ordering) → (s t : Span V) → Option (Span V) × Option (Span V)
 remainders R s t = if is_some (meet R s t) then (left_below R s t, left_above R s t) else (Some s, None)
 
 -- whether there is a span that holds the point

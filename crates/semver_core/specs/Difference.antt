@@ -18,7 +18,7 @@ kind_up low high = if not (is_release low) && is_release high then
 
 -- none between equal versions
 abbrev pub kind_between : VersionValue → VersionValue → Option VersionDiff
-kind_between v w = elim (precedence v w) [ Less ↦ Some (kind_up v w) | Equal ↦ None | Greater ↦ Some (kind_up w v) ]
+kind_between v w = elim (precedence v w) [ Less ↦ Some (kind_up v w) | Equal ↦ None | _ ↦ Some (kind_up w v) ]
 
 -- the word of a kind
 abbrev pub kind_word : VersionDiff → List ℕ

@@ -10,3 +10,4 @@ pub mod Hashes
 pub mod Readable
 pub mod CommonReading
 pub mod Borrowed
+pub mod Naturals

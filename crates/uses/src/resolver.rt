@@ -1,12 +1,14 @@
 //! A resolver: a release of each package that is needed, so that every requirement is met.
 
+ghost use Rattle.nodejs_semver.specs.Failures.{NoValue, RefusedOnlyIf};
+ghost use Rattle.nodejs_semver.specs.Npm.Ranges.{HasAlternatives, IsRangeOf};
 ghost use Rattle.uses.specs.Internal.Search.{HasNoPlan, IsUnmet, NeedsAll};
-ghost use Rattle.std.specs.Prelude.{◌≡◌, All, Contains, IfErr, IfNone, IfOk, IfSome};
+ghost use Rattle.std.specs.Prelude.{◌≡◌, All, Contains, IfErr, IfNone, IfOk, IfSome, false};
 ghost use Rattle.std.specs.Prelude.{slice_index_or};
 ghost use Rattle.uses.specs.Resolver.{ArePicked, IsConflict, IsFailure, IsMet, IsPicked};
 ghost use Rattle.uses.specs.Resolver.{MeetsAll, release_at};
 
-use nodejs_semver::{Failure, Range, Version};
+use nodejs_semver::{Failure, MAX_SAFE_INTEGER, Range, SemverError, Version, npm};
 use std::alloc::Global;
 use thiserror::Error;
 
@@ -17,6 +19,32 @@ pub struct Requirement {
     pub package: usize,
     /// The versions that will do.
     pub range: Range,
+}
+
+impl Requirement {
+    /// The demand for a release of the package of this number in the range of a text, which is read
+    /// as npm reads it: `^*` is any release, and a text with a malformed word, as `>=1.0.0, <2.0.0`, is rejected.
+    /// Returns `Refused` only if npm's library node-semver rejects the text.
+    ///
+    /// ```rust
+    /// let requirement = Requirement::read(alloc, 0, "^1.2")?;
+    /// ```
+    pub fn read(
+        alloc: Global,
+        number: usize,
+        text: &str,
+    ) -> Result<Requirement, Failure<SemverError>>
+        ensures package { IfOk result (λ q. q.package ≡ number) }
+        ensures range { IfOk result (λ q. IsRangeOf MAX_SAFE_INTEGER false text.now q.range) }
+        ensures refused { RefusedOnlyIf result
+            (NoValue (HasAlternatives MAX_SAFE_INTEGER false text.now)) }
+    {
+        let range = npm::range(alloc, text, false)?.to_range(alloc)?;
+        Ok(Requirement {
+            package: number,
+            range,
+        })
+    }
 }
 
 /// A package of a registry.

@@ -196,6 +196,32 @@ fn registry(alloc: Global) -> Result<Vec<Package>, Fail> {
     Ok(packages)
 }
 
+// Whether a range text is read, and then whether the range accepts a version; without a version
+// whether the text is rejected.
+fn is_read(alloc: Global, text: &str, version: &str, wanted: Option<bool>) -> bool {
+    match (
+        Requirement::read(alloc, 0, text),
+        Version::parse(alloc, version),
+    ) {
+        (Ok(read), Ok(version)) => wanted == Some(read.range.satisfies(&version)),
+        (Err(Failure::Refused(_)), _) => wanted.is_none(),
+        (_, _) => false,
+    }
+}
+
+// The answers are node-semver's. `parse` answers otherwise, but for the first two.
+#[test]
+fn a_requirement_as_npm_reads_it(rt: HostRuntime) {
+    let alloc = rt.alloc();
+    assert!(rt; is_read(alloc, "^1.2", "1.3.0", Some(true)));
+    assert!(rt; is_read(alloc, "^1.2", "1.3.0-beta", Some(false)));
+    assert!(rt; is_read(alloc, "^*", "0.0.0", Some(true)));
+    assert!(rt; is_read(alloc, "1 0", "1.1.1", Some(false)));
+    assert!(rt; is_read(alloc, ">=0 || 2.0.0-a", "2.0.0-a", Some(false)));
+    assert!(rt; is_read(alloc, ">=1.0.0, <2.0.0", "1.0.0", None));
+    assert!(rt; is_read(alloc, "^01.2", "1.2.0", None));
+}
+
 // Requirements of the root, and the releases that are picked or why there are none.
 const ASKED: &[(&[(usize, &str)], &str)] = &[
     (&[(0, "*"), (1, "*")], "0@1.0.0 1@1.0.0 2@1.2.0 "),

@@ -12,7 +12,7 @@ use Rattle.nodejs_semver.proofs.Algebra.FlatMaps.{all_weaker}
 use Rattle.nodejs_semver.proofs.Values.{map-further}
 use Rattle.nodejs_semver.proofs.Algebra.Triples.{le_of_lt, le_trans, lt_is, lt_le}
 use Rattle.semver_core.specs.Internal.OrderLaws.{precedence_total}
-use Rattle.nodejs_semver.specs.Ranges.Best.{IsBest, IsMax, IsMin, Stands, replaces}
+use Rattle.nodejs_semver.specs.Ranges.Best.{IsBest, IsMax, IsMin, replaces}
 use Rattle.semver_core.specs.Values.Order.{precedence}
 use Rattle.semver_core.specs.Values.Versions.{VersionValue}
 
@@ -26,35 +26,34 @@ module _ {V : Type 0} (in_front behind : V → V → Bool) (ranks : Ranks in_fro
   one_more : (best : Option V) (x : V) (new : Bool) → new ≡ replaces in_front set best x → IsBest in_front behind set list best
       → IsBest in_front behind set (list ++ x ∷ []) (if new then Some x else best)
   one_more None x new is h = rw is (elim (cases_Bool (set x)) [
-    | inl s ↦ rw s (record
-        { front = list; back = []; divided = refl; inside = s; before = all_weaker _ _ (λ w g. rw g refl) list h; after = refl })
+    | inl s ↦ rw s (s, list, [], refl, all_weaker _ _ (λ w g. rw g refl) list h, refl)
     | inr s ↦ rw s (list_all-append (λ w. not (set w)) list (x ∷ []) ∙ and_from _ _ h (rw s refl))
   ])
   one_more (Some b) x new is h =
-      let stays : (not (set x) || behind x b) ≡ true → Stands in_front behind set (list ++ x ∷ []) b = λ t. record {
-        front = h.front;
-        back = h.back ++ x ∷ [];
-        divided = ap (λ l. l ++ x ∷ []) h.divided ∙ append_assoc h.front (b ∷ h.back) (x ∷ []);
-        inside = h.inside;
-        before = h.before;
-        after = list_all-append (λ w. not (set w) || behind w b) h.back (x ∷ []) ∙ and_from _ _ h.after (rw t refl);
-      } in
+      let stays : (not (set x) || behind x b) ≡ true → IsBest in_front behind set (list ++ x ∷ []) (Some b) = λ t. (
+        h.0,
+        h.1,
+        h.2 ++ x ∷ [],
+        ap (λ l. l ++ x ∷ []) h.3 ∙ append_assoc h.1 (b ∷ h.2) (x ∷ []),
+        h.4,
+        list_all-append (λ w. not (set w) || behind w b) h.2 (x ∷ []) ∙ and_from _ _ h.5 (rw t refl),
+      ) in
       rw is (elim (cases_Bool (in_front b x)) [
         | inr worse ↦ rw worse (stays (rw (ranks.other b x worse) (grind arith)))
         | inl better ↦ elim (cases_Bool (set x)) [
           | inr s ↦ rw (better, s) (stays (rw s refl))
-          | inl s ↦ rw (better, s) (record {
-            front = list;
-            back = [];
-            divided = refl;
-            inside = s;
-            before = ap (list_all (λ w. not (set w) || in_front w x)) h.divided
-                ∙ list_all-append (λ w. not (set w) || in_front w x) h.front (b ∷ h.back)
-                ∙ and_from _ _ (all_weaker _ _ (λ w g. grind (arith, ranks.passes w b x better)) h.front h.before)
-                (and_from _ _ (rw (h.inside, better) refl)
-                (all_weaker _ _ (λ w g. grind (arith, ranks.weaker w b x better)) h.back h.after));
-            after = refl;
-          })
+          | inl s ↦ rw (better, s) (
+            s,
+            list,
+            [],
+            refl,
+            ap (list_all (λ w. not (set w) || in_front w x)) h.3
+                ∙ list_all-append (λ w. not (set w) || in_front w x) h.1 (b ∷ h.2)
+                ∙ and_from _ _ (all_weaker _ _ (λ w g. grind (arith, ranks.passes w b x better)) h.1 h.4)
+                (and_from _ _ (rw (h.0, better) refl)
+                (all_weaker _ _ (λ w g. grind (arith, ranks.weaker w b x better)) h.2 h.5)),
+            refl,
+          )
         ]
       ])
 
@@ -98,17 +97,17 @@ module _ {V : Type 0} (in_front behind beaten : V → V → Bool) (front : (w v 
   in_set_only : (s a b : Bool) → (a ≡ true → b ≡ true) → (not s || a) ≡ true → s ≡ true → b ≡ true
   in_set_only s a b f h k = grind arith
 
-  all_beaten : (list : List V) (v : V) → Stands in_front behind set list v → All (λ w. set w ≡ true → beaten w v ≡ true) list
+  all_beaten : (list : List V) (v : V) → IsBest in_front behind set list (Some v) → All (λ w. set w ≡ true → beaten w v ≡ true) list
   all_beaten list v h =
       let Says : (V → V → Bool) → V → Type 0 = λ relation w. (not (set w) || relation w v) ≡ true in
       let Beaten : V → Type 0 = λ w. set w ≡ true → beaten w v ≡ true in
-      All-same Beaten list (h.front ++ v ∷ h.back) h.divided
-      (All-append Beaten h.front (v ∷ h.back)
-      (All-weaker (Says in_front) Beaten (λ w q. in_set_only (set w) (in_front w v) (beaten w v) (front w v) q) h.front
-      (AllPass-from_list_all _ h.front h.before))
-      (All-cons Beaten v h.back (λ k. tied v)
-      (All-weaker (Says behind) Beaten (λ w q. in_set_only (set w) (behind w v) (beaten w v) (back w v) q) h.back
-      (AllPass-from_list_all _ h.back h.after))))
+      All-same Beaten list (h.1 ++ v ∷ h.2) h.3
+      (All-append Beaten h.1 (v ∷ h.2)
+      (All-weaker (Says in_front) Beaten (λ w q. in_set_only (set w) (in_front w v) (beaten w v) (front w v) q) h.1
+      (AllPass-from_list_all _ h.1 h.4))
+      (All-cons Beaten v h.2 (λ k. tied v)
+      (All-weaker (Says behind) Beaten (λ w q. in_set_only (set w) (behind w v) (beaten w v) (back w v) q) h.2
+      (AllPass-from_list_all _ h.2 h.5))))
 
   best_says : (list : List V) (r : Option (Bor V)) → IsBest in_front behind set list (option_copied r) → Says beaten set list r
   best_says list None h = (
@@ -119,8 +118,8 @@ module _ {V : Type 0} (in_front behind beaten : V → V → Bool) (front : (w v 
         (AllPass-from_list_all _ list h),
   )
   best_says list (Some v) h =
-      let member = Contains-append_right h.front (v.now ∷ h.back) v.now (0, omega arith, refl) in
-      (subst (λ l. Contains l v.now) (sym h.divided) member, h.inside, all_beaten list v.now h, tt)
+      let member = Contains-append_right h.1 (v.now ∷ h.2) v.now (0, omega arith, refl) in
+      (subst (λ l. Contains l v.now) (sym h.3) member, h.0, all_beaten list v.now h, tt)
 
 tied_le : (v : VersionValue) → is_le (precedence v v) ≡ true
 tied_le v = ap is_le (tied_itself precedence_total v)

@@ -116,22 +116,22 @@ no-great limit Starts front k p text s g = λ v r.
     let tail = r.pre_release ++ (r.build ++ r.rest) in
     let found = first_numeral limit k text tail (p.only text tail s (v, r, refl)) in
     let m = found.1 in
-    let same = digits_once g.digits m.digits g.rest found.0 g.each m.is.number.each g.ended m.is.ended
-    (sym g.divided ∙ m.divided) in
-    absurd (omega (arith, g.above, m.is.number.value, m.is.number.safe, ap (λ (d : List ℕ). digits_value 10 d) same.0))
+    let same = digits_once g.0 m.digits g.1 found.0 g.3 m.is.number.each g.4 m.is.ended
+    (sym g.2 ∙ m.divided) in
+    absurd (omega (arith, g.5, m.is.number.value, m.is.number.safe, ap (λ (d : List ℕ). digits_value 10 d) same.0))
 
 -- the digits of a number are not read as the front of another
 no-great-front : (limit : ℕ) (Starts : List ℕ → Type 0) (front : List ℕ) (k : ℕ) → Place limit Starts front k → (text : List ℕ)
-    → (g : BeginsGreat limit text) → IsFront limit (front ++ g.digits) → ⊥
+    → (g : BeginsGreat limit text) → IsFront limit (front ++ g.0) → ⊥
 no-great-front limit Starts front k p text g f =
-    let whole = subst (λ (t : List ℕ). IsWhole limit t) (append_assoc front g.digits f.0) f.1 in
-    let begun = great-begins limit g.digits f.0 g.each g.above in
+    let whole = subst (λ (t : List ℕ). IsWhole limit t) (append_assoc front g.0 f.0) f.1 in
+    let begun = great-begins limit g.0 f.0 g.3 g.5 in
     let tail = whole.1.pre_release ++ (whole.1.build ++ whole.1.rest) in
-    let found = first_numeral limit k (g.digits ++ f.0) tail
-    (p.only (g.digits ++ f.0) tail (p.digit (g.digits ++ f.0) begun) (whole.0, whole.1, refl)) in
+    let found = first_numeral limit k (g.0 ++ f.0) tail
+    (p.only (g.0 ++ f.0) tail (p.digit (g.0 ++ f.0) begun) (whole.0, whole.1, refl)) in
     let m = found.1 in
-    let most = grown 0 g.digits m.digits f.0 found.0 g.each m.is.ended m.divided in
-    absurd (omega (arith, g.above, m.is.number.value, m.is.number.safe, most))
+    let most = grown 0 g.0 m.digits f.0 found.0 g.3 m.is.ended m.divided in
+    absurd (omega (arith, g.5, m.is.number.value, m.is.number.safe, most))
 
 no-dot : (limit : ℕ) (Starts : List ℕ → Type 0) (front d : List ℕ) (n k : ℕ) → Place limit Starts front (suc k)
     → IsNumber limit d n → (text : List ℕ)

@@ -36,8 +36,7 @@ begins_great limit text at some none =
     let run = take len y in
     let divided : y ≡ run ++ drop len y = sym (take-append-drop len y) in
     elim (cases_lt limit (digits_value 10 run)) [
-      | inl above ↦ record
-          { digits = run; rest = drop len y; divided = divided; each = run-digits y; ended = run-ends y; above = above }
+      | inl above ↦ (run, drop len y, divided, run-digits y, run-ends y, above)
       | inr safe ↦ absurd (none (digits_value 10 run) run (drop len y) divided (record {
         number = record { some = run-some y some; each = run-digits y; value = refl; safe = safe };
         ended = run-ends y;

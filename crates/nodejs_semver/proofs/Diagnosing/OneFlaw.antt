@@ -167,20 +167,20 @@ expected-ends limit text what at n c d x f some inside g =
         x.wrong b (more ++ rest) other begins_so whole.0 whole.1
 
 great-ends : (limit : ℕ) (text : List ℕ) (at n d : ℕ) → (x : IsGreatAt limit text at)
-    → IsFront limit (take (at + (length x.great.digits + n)) text ++ d ∷ []) → ⊥
+    → IsFront limit (take (at + (length x.great.0 + n)) text ++ d ∷ []) → ⊥
 great-ends limit text at n d x g =
-    let m = length x.great.digits in
+    let m = length x.great.0 in
     let y = drop at text in
-    let digits : take m y ≡ x.great.digits =
-    ap (λ (t : List ℕ). take m t) x.great.divided ∙ take-append_seam x.great.digits x.great.rest in
-    let front : take (at + (m + n)) text ≡ (take at text ++ x.great.digits) ++ take n (drop m y) =
+    let digits : take m y ≡ x.great.0 =
+    ap (λ (t : List ℕ). take m t) x.great.2 ∙ take-append_seam x.great.0 x.great.1 in
+    let front : take (at + (m + n)) text ≡ (take at text ++ x.great.0) ++ take n (drop m y) =
     take-add at (m + n) text ∙ (ap (λ (t : List ℕ). take at text ++ t)
     (take-add m n y ∙ ap (λ (t : List ℕ). t ++ take n (drop m y)) digits)
-    ∙ sym (append_assoc (take at text) x.great.digits (take n (drop m y)))) in
-    x.wrong (shorter limit (take at text ++ x.great.digits) (take n (drop m y) ++ d ∷ [])
+    ∙ sym (append_assoc (take at text) x.great.0 (take n (drop m y)))) in
+    x.wrong (shorter limit (take at text ++ x.great.0) (take n (drop m y) ++ d ∷ [])
     (subst (λ (t : List ℕ). IsFront limit t)
     (ap (λ (t : List ℕ). t ++ d ∷ []) front
-    ∙ append_assoc (take at text ++ x.great.digits) (take n (drop m y)) (d ∷ [])) g))
+    ∙ append_assoc (take at text ++ x.great.0) (take n (drop m y)) (d ∷ [])) g))
 
 -- ---- a number that is too great has digits from its place on
 
@@ -191,18 +191,11 @@ digits-go_on (c ∷ d) rest zero h lt = (and_parts (is_ascii_digit c) (list_all 
 digits-go_on (c ∷ d) rest (suc k) h lt =
     digits-go_on d rest k (and_parts (is_ascii_digit c) (list_all is_ascii_digit d) h).1 (omega arith)
 
-digit-inside : (limit : ℕ) (text : List ℕ) (at k : ℕ) → (x : IsGreatAt limit text at) → k < length x.great.digits
+digit-inside : (limit : ℕ) (text : List ℕ) (at k : ℕ) → (x : IsGreatAt limit text at) → k < length x.great.0
     → begins is_ascii_digit (drop (at + k) text) ≡ true
 digit-inside limit text at k x lt =
-    ap (λ (t : List ℕ). begins is_ascii_digit t) (sym (drop-drop k at text) ∙ ap (λ (t : List ℕ). drop k t) x.great.divided)
-    ∙ digits-go_on x.great.digits x.great.rest k x.great.each lt
-
-great-some : (limit : ℕ) (text : List ℕ) (at : ℕ) → (x : IsGreatAt limit text at) → 0 < length x.great.digits
-great-some limit text at x = go x.great.digits x.great.above
-  where
-    go : (d : List ℕ) → limit < digits_value 10 d → 0 < length d
-    go [] h = absurd (omega arith)
-    go (c ∷ d) h = omega arith
+    ap (λ (t : List ℕ). begins is_ascii_digit t) (sym (drop-drop k at text) ∙ ap (λ (t : List ℕ). drop k t) x.great.2)
+    ∙ digits-go_on x.great.0 x.great.1 k x.great.3 lt
 
 last-byte : (text : List ℕ) (p c : ℕ) (rest : List ℕ) → drop p text ≡ c ∷ rest → take (p + 1) text ≡ take p text ++ c ∷ []
 last-byte text p c rest e = take-add p 1 text ∙ ap (λ (t : List ℕ). take p text ++ take 1 t) e
@@ -246,17 +239,17 @@ expected-before limit text what at later d x lt inside g =
     (omega (arith, place, inside)) (subst (λ (n : ℕ). GoesOn limit (take n text) d) (sym place) g)
 
 great-before : (limit : ℕ) (text : List ℕ) (at later d : ℕ) → (x : IsGreatAt limit text at)
-    → at + length x.great.digits ≤ later → GoesOn limit (take later text) d → ⊥
+    → at + length x.great.0 ≤ later → GoesOn limit (take later text) d → ⊥
 great-before limit text at later d x le g =
-    let n = later - (at + length x.great.digits) in
-    let place : later ≡ at + (length x.great.digits + n) = omega (arith, le) in
+    let n = later - (at + length x.great.0) in
+    let place : later ≡ at + (length x.great.0 + n) = omega (arith, le) in
     great-ends limit text at n d x (subst (λ (m : ℕ). IsFront limit (take m text ++ d ∷ [])) place g.1)
 
 expected-not-great : (limit : ℕ) (text : List ℕ) (what : Expected) (at other : ℕ) → IsExpectedAt limit text what at
     → IsGreatAt limit text other → ⊥
 expected-not-great limit text what at other x y = elim (cases_lt at other) [
   | inl before ↦ expected-before limit text what at other 48 x before y.inside (great-goes_on limit text other y)
-  | inr le ↦ elim (cases_lt at (other + length y.great.digits)) [
+  | inr le ↦ elim (cases_lt at (other + length y.great.0)) [
     | inl within ↦
         let place : other + (at - other) ≡ at = omega (arith, le) in
         let digit = digit-inside limit text other (at - other) y (omega (arith, within, le)) in
@@ -267,7 +260,7 @@ expected-not-great limit text what at other x y = elim (cases_lt at other) [
 
 great-not-before : (limit : ℕ) (text : List ℕ) (at later : ℕ) → IsGreatAt limit text at → IsGreatAt limit text later
     → at < later → ⊥
-great-not-before limit text at later x y lt = elim (cases_lt (at + length x.great.digits) later) [
+great-not-before limit text at later x y lt = elim (cases_lt (at + length x.great.0) later) [
   | inl behind ↦ great-before limit text at later 48 x (omega (arith, behind)) (great-goes_on limit text later y)
   | inr within ↦
       let place : at + (later - at - 1) + 1 ≡ later = omega (arith, lt) in

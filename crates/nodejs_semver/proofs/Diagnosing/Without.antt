@@ -120,7 +120,7 @@ pieces-ignored limit pieces list u (blank_piece piece rest others blank more) e 
 pieces-ignored limit pieces list u (next_piece piece rest runs others dark h more) e =
     let parts = nothing-in (map (interval_of precedence) runs) others e in
     let none : filter_map (table limit) h.0 ≡ [] =
-    sym h.2.whole ∙ ap (λ (l : List (Run VersionValue)). flat_map run_items l) (no-runs runs parts.0) in (
+    sym h.2.0 ∙ ap (λ (l : List (Run VersionValue)). flat_map run_items l) (no-runs runs parts.0) in (
       (h.0, h.1, dark-words limit piece h.0 u.0 dark h.1, all-ignored limit h.0 none),
       pieces-ignored limit rest others u.1 more parts.1,
     )
@@ -132,7 +132,7 @@ ignored-mean : (limit : ℕ) (pieces : List (List ℕ)) → AllByRecursion (IsIg
 ignored-mean limit [] h = no_piece
 ignored-mean limit (piece ∷ pieces) h =
     let none = ignored-bounds limit h.0.0 h.0.3 in
-    let runs : HasRuns limit piece [] = (h.0.0, h.0.1, record { whole = sym none; each = tt; longest = tt }) in
+    let runs : HasRuns limit piece [] = (h.0.0, h.0.1, (sym none, tt, tt)) in
     next_piece piece pieces [] [] (filled limit piece h.0) runs (ignored-mean limit pieces h.1)
 
 not-blank : (limit : ℕ) (text : List ℕ) (pieces : List (List ℕ)) → IsCutAtBars text pieces

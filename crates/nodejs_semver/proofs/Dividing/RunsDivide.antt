@@ -51,8 +51,11 @@ module _ {V : Type 0} (R : V → V → Ordering) where
       ]
 
   pub runs-divide : (bounds : List (Span V)) → list_all (is_interval R) bounds ≡ true → AreRuns R bounds (runs_of R bounds)
-  runs-divide [] all = record { whole = refl; each = tt; longest = tt }
-  runs-divide (s ∷ rest) all = grind (arith, from-here (single s) rest)
+  runs-divide [] all = (refl, tt, tt)
+  runs-divide (s ∷ rest) all =
+      let (first, others) = and_parts (is_interval R s) (list_all (is_interval R) rest) all in
+      let d = from-here (single s) rest first others in
+      (d.whole, d.each, d.longest)
 
 pub all-cons : {B : Type 0} (p : B → Bool) (o : Option B) (ys : List B) → ((b : B) → o ≡ Some b → p b ≡ true)
     → list_all p ys ≡ true → list_all p (cons_option o ys) ≡ true

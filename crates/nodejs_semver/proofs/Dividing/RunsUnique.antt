@@ -45,7 +45,7 @@ module _ {V : Type 0} {R : V → V → Ordering} (o : IsTotalOrder R) where
       (from-run (single s.first) s.others rest (λ q h. from-last q rest each.1 h) each.0 longest.1))
 
   pub runs-unique : (bounds : List (Span V)) (runs : List (Run V)) → AreRuns R bounds runs → runs ≡ runs_of R bounds
-  runs-unique bounds runs h = of_whole runs h.each h.longest ∙ ap (λ (l : List (Span V)). runs_of R l) h.whole
+  runs-unique bounds runs h = of_whole runs h.1 h.2 ∙ ap (λ (l : List (Span V)). runs_of R l) h.0
     where
       of_whole : (runs : List (Run V)) → AllByRecursion (λ r. fits R r ≡ true) runs → AreLongest R runs
           → runs ≡ runs_of R (flat_map run_items runs)

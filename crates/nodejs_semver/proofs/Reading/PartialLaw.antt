@@ -86,31 +86,21 @@ front-begins limit text p rest u h =
     let some = begins-some is_component_byte s.0 (components-begin limit s.0 p s.1.is) in
     let x = b.0 ++ s.0 in (
       m.mark ++ x,
-      record {
-        divided = simp append_assoc (cc (m.divided, b.2, s.1.split));
-        is = record {
-          mark = m.mark;
-          blank = b.0;
-          components = s.0;
-          divided = refl;
-          mark_is = m.is;
-          blank_is =
-              b.1;
-          components_are = s.1.is;
-        };
-        whole = quiet-append m.mark x rest (omega (arith, length-append b.0 s.0)) (quiet-append b.0 s.0 rest some s.1.quiet);
-      },
+      (
+        simp append_assoc (cc (m.divided, b.2, s.1.split)),
+        (m.mark, b.0, s.0, refl, m.is, b.1, s.1.is),
+        quiet-append m.mark x rest (omega (arith, length-append b.0 s.0)) (quiet-append b.0 s.0 rest some s.1.quiet),
+      ),
     )
 
 front-passes : (limit : ℕ) (t more : List ℕ) (p : Partial) → IsPartial limit t p → Quiet t more
     → (r : Partial × List ℕ) × (partial_front limit (t ++ more) ≡ Some r) × Passes r p more
 unfolding partial_front
-front-passes limit t more p h quiet =
-    let x = h.components in
-    let begin = components-begin limit x p h.components_are in
-    let whole : t ≡ (h.mark ++ h.blank) ++ x = h.divided ∙ simp append_assoc in
-    let last : Quiet x more = quiet-last (h.mark ++ h.blank) x more (begins-some is_component_byte x begin) (rw whole at quiet) in
-    let behind : t ++ more ≡ h.mark ++ (h.blank ++ (x ++ more)) = ap (λ (u : List ℕ). u ++ more) h.divided ∙ simp append_assoc in
+front-passes limit t more p (mark, blank, x, divided, mark_is, blank_is, are) quiet =
+    let begin = components-begin limit x p are in
+    let whole : t ≡ (mark ++ blank) ++ x = divided ∙ simp append_assoc in
+    let last : Quiet x more = quiet-last (mark ++ blank) x more (begins-some is_component_byte x begin) (rw whole at quiet) in
+    let behind : t ++ more ≡ mark ++ (blank ++ (x ++ more)) = ap (λ (u : List ℕ). u ++ more) divided ∙ simp append_assoc in
     grind (arith, components-then, unmarked, drop_spaces-blank, drop_spaces-none, front-dark)
 
 -- components alone are read exactly where nothing goes on
@@ -131,7 +121,7 @@ pub partials_are : (limit : ℕ) (text : List ℕ) (p : Partial) → IsUtf8 text
     ↔ IsPartial limit text p
 partials_are limit text p u = (
   λ h. let f = front-begins limit text p [] u h in
-      subst (λ (t : List ℕ). IsPartial limit t p) (sym (f.1.divided ∙ append-nil f.0)) f.1.is,
+      subst (λ (t : List ℕ). IsPartial limit t p) (sym (f.1.0 ∙ append-nil f.0)) f.1.1,
   whole-of limit text p,
 )
 
@@ -140,20 +130,20 @@ partials_are limit text p u = (
 longest-is : (limit : ℕ) (text : List ℕ) (p : Partial) (rest : List ℕ) → IsUtf8 text → partial_front limit text ≡ Some (p, rest)
     → IsLongestPartial limit text p rest
 longest-is limit text p rest u h = let f = front-begins limit text p rest u h in
-    record { front = f.0; begins = f.1; longest = no_longer f.0 f.1.divided }
+    (f.0, f.1, no_longer f.0 f.1.0)
   where
-    no_longer : (front : List ℕ) → text ≡ front ++ rest → (other : List ℕ) (q : Partial) (behind : List ℕ)
+    no_longer : (front : List ℕ) → text ≡ front ++ rest → (other behind : List ℕ) (q : Partial)
         → BeginsPartial limit text other q behind
         → length other ≤ length front
-    no_longer front whole other q behind k =
-        let far = front-passes limit other behind q k.is k.whole in
-        let same = same_Some (p, rest) far.0 (sym h ∙ (ap (λ (t : List ℕ). partial_front limit t) k.divided ∙ far.1)) in
+    no_longer front whole other behind q k =
+        let far = front-passes limit other behind q k.1 k.2 in
+        let same = same_Some (p, rest) far.0 (sym h ∙ (ap (λ (t : List ℕ). partial_front limit t) k.0 ∙ far.1)) in
         omega (
           arith,
           far.2.le,
           ap (λ (q : Partial × List ℕ). length q.1) same,
           ap length whole,
-          ap length k.divided,
+          ap length k.0,
           length-append front rest,
           length-append other behind,
         )
@@ -161,30 +151,30 @@ longest-is limit text p rest u h = let f = front-begins limit text p rest u h in
 longest-of : (limit : ℕ) (text : List ℕ) (p : Partial) (rest : List ℕ) → IsUtf8 text → IsLongestPartial limit text p rest
     → partial_front limit text ≡ Some (p, rest)
 longest-of limit text p rest u h =
-    let far = front-passes limit h.front rest p h.begins.is h.begins.whole in
-    let read : partial_front limit text ≡ Some far.0 = ap (λ (t : List ℕ). partial_front limit t) h.begins.divided ∙ far.1 in
+    let far = front-passes limit h.0 rest p h.1.1 h.1.2 in
+    let read : partial_front limit text ≡ Some far.0 = ap (λ (t : List ℕ). partial_front limit t) h.1.0 ∙ far.1 in
     let near = front-begins limit text far.0.0 far.0.1 u read in
-    let n = length h.front in
+    let n = length h.0 in
     let same : length near.0 ≡ n =
     omega (
       arith,
-      h.longest near.0 far.0.0 far.0.1 near.1,
+      h.2 near.0 far.0.1 far.0.0 near.1,
       far.2.le,
-      ap length h.begins.divided,
-      ap length near.1.divided,
-      length-append h.front rest,
+      ap length h.1.0,
+      ap length near.1.0,
+      length-append h.0 rest,
       length-append near.0 far.0.1,
     ) in
-    let whole : near.0 ++ far.0.1 ≡ h.front ++ rest = sym near.1.divided ∙ h.begins.divided in
-    let front : near.0 ≡ h.front =
-    sym (take_at near.0 far.0.1 n same) ∙ (ap (λ (t : List ℕ). take n t) whole ∙ take_at h.front rest n refl) in
+    let whole : near.0 ++ far.0.1 ≡ h.0 ++ rest = sym near.1.0 ∙ h.1.0 in
+    let front : near.0 ≡ h.0 =
+    sym (take_at near.0 far.0.1 n same) ∙ (ap (λ (t : List ℕ). take n t) whole ∙ take_at h.0 rest n refl) in
     let behind : far.0.1 ≡ rest =
-    sym (drop_at near.0 far.0.1 n same) ∙ (ap (λ (t : List ℕ). drop n t) whole ∙ drop_at h.front rest n refl) in
+    sym (drop_at near.0 far.0.1 n same) ∙ (ap (λ (t : List ℕ). drop n t) whole ∙ drop_at h.0 rest n refl) in
     let value : far.0.0 ≡ p =
     ap (λ (q : Partial × List ℕ). q.0)
     (same_Some (far.0.0, []) (p, [])
-    (sym (whole-of limit near.0 far.0.0 near.1.is)
-    ∙ (ap (λ (t : List ℕ). partial_front limit t) front ∙ whole-of limit h.front p h.begins.is))) in
+    (sym (whole-of limit near.0 far.0.0 near.1.1)
+    ∙ (ap (λ (t : List ℕ). partial_front limit t) front ∙ whole-of limit h.0 p h.1.1))) in
     grind arith
 
 pub longest_are : (limit : ℕ) (text : List ℕ) (p : Partial) (rest : List ℕ) → IsUtf8 text

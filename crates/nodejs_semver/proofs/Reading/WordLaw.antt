@@ -4,7 +4,7 @@ use Rattle.nodejs_semver.proofs.Common.{true, false, Some, None, inl, inr, subst
 use Rattle.nodejs_semver.proofs.Common.{Option, IsUtf8, ◌==◌, cases_Bool, eqb-true, nat_tests, cond_some, same_Some, drop_at}
 use Rattle.nodejs_semver.proofs.Common.{take_at, IsUtf8-drop, IsCharBoundary-after_ascii, IsTrim, drop_spaces, space_len}
 use Rattle.nodejs_semver.proofs.Common.{drop_spaces-none, space_len-nil, Partial, Word, hyphen, plain, bind_some}
-use Rattle.std.specs.Prelude.{encode_utf8_all, IsCharBoundary}
+use Rattle.std.specs.Prelude.{encode_utf8_all, IsCharBoundary, nat_lt}
 use Rattle.std.specs.Char.{encode_utf8}
 use Rattle.std.proofs.Math.Seq.{get_or-append_seam}
 use Rattle.std.proofs.lemmas.Bool.{lt-ltb}
@@ -41,7 +41,7 @@ past-all (c ∷ cs) rest u =
 
 pub skips-utf8 : (text rest : List ℕ) → SkipsBlank text rest → IsUtf8 text → IsUtf8 rest
 skips-utf8 text rest h u =
-    past-all h.is.characters rest (subst (λ (t : List ℕ). IsUtf8 t) (h.divided ∙ ap (λ (t : List ℕ). t ++ rest) h.is.spelled) u)
+    past-all h.2.characters rest (subst (λ (t : List ℕ). IsUtf8 t) (h.1 ∙ ap (λ (t : List ℕ). t ++ rest) h.2.spelled) u)
 
 -- ---- boundaries
 
@@ -74,7 +74,7 @@ boundary-utf8 front rest u (inr blank) = suffix-utf8 front rest u (blank-len res
 
 rest-utf8 : (limit : ℕ) (text : List ℕ) (p : Partial) (rest : List ℕ) → IsUtf8 text → IsLongestPartial limit text p rest
     → IsBoundary rest → IsUtf8 rest
-rest-utf8 limit text p rest u h b = boundary-utf8 h.front rest (subst (λ (t : List ℕ). IsUtf8 t) h.begins.divided u) b
+rest-utf8 limit text p rest u h b = boundary-utf8 h.0 rest (subst (λ (t : List ℕ). IsUtf8 t) h.1.0 u) b
 
 boundary-of : (rest : List ℕ) → IsBoundary rest → is_boundary rest ≡ true
 unfolding is_boundary
@@ -84,23 +84,27 @@ boundary-of rest h = grind (arith, blank-len)
 
 pub skips-is : (text : List ℕ) → IsUtf8 text → SkipsBlank text (drop_spaces text)
 skips-is text u =
-    let s = spaced text u in
-    record {
-      blank = s.0;
-      divided = s.2;
-      is = s.1;
-      ended = λ (h : BeginsBlank (drop_spaces text)). absurd (omega (arith, spaces-gone 0 text, blank-len (drop_spaces text) h));
-    }
+    let s = spaced text u in (
+      s.0,
+      s.2,
+      s.1,
+      λ (h : BeginsBlank (drop_spaces text)). absurd (omega (arith, spaces-gone 0 text, blank-len (drop_spaces text) h)),
+    )
 
 pub skips-of : (text rest : List ℕ) → IsUtf8 text → SkipsBlank text rest → drop_spaces text ≡ rest
 skips-of text rest u h =
     let v = skips-utf8 text rest h u in
-    let none : space_len rest ≡ 0 = grind (arith, h.ended, suffix-blank [] rest v) in
-    grind (arith, drop_spaces-blank, drop_spaces-none)
+    let none : space_len rest ≡ 0 = grind (arith, h.3, suffix-blank [] rest v) in
+    ap drop_spaces h.1 ∙ (ap (λ (t : List ℕ). drop_spaces (t ++ rest)) h.2.spelled
+    ∙ (drop_spaces-blank h.2.characters rest h.2.each ∙ drop_spaces-none rest none))
 
 some_space-is : (front text rest : List ℕ) → IsUtf8 (front ++ text) → after_some_space text ≡ Some rest → IsUtf8 text
     × BeginsBlank text × SkipsBlank text rest
-some_space-is front text rest u h = grind (arith, nat_tests, suffix-utf8 front text, suffix-blank front text, skips-is)
+some_space-is front text rest u h =
+    let b = cond_some (nat_lt 0 (space_len text)) (drop_spaces text) rest h in
+    let some : 0 < space_len text = grind (arith, nat_tests, b.0) in
+    let v = suffix-utf8 front text u some in
+    (v, suffix-blank front text u some, subst (λ (t : List ℕ). SkipsBlank text t) b.1 (skips-is text v))
 
 pub byte-is : (c : ℕ) (text rest : List ℕ) → after_byte c text ≡ Some rest → text ≡ c ∷ rest
 byte-is c text rest h = grind arith
@@ -112,7 +116,7 @@ bounded-is : (limit : ℕ) (text : List ℕ) (p : Partial) (rest : List ℕ) (w 
     → IsLongestPartial limit text p rest → at_boundary w rest ≡ Some x → (x.0 ≡ w) × IsWhole limit text p x.1
 bounded-is limit text p rest w x u read h =
     let b = cond_some (is_boundary rest) (w, rest) x h in
-    let stop = suffix-boundary read.front rest (rw read.begins.divided at u) b.0 in
+    let stop = suffix-boundary read.0 rest (rw read.1.0 at u) b.0 in
     rw (← b.1) (refl, record { read = read; ended = stop })
 
 -- no partial begins with a byte of a sign
@@ -133,7 +137,7 @@ hyphen-is : (limit : ℕ) (text : List ℕ) (p : Partial) (before : List ℕ) (x
     → IsLongestPartial limit text p before → upper_behind limit before ≡ Some x → IsHyphen limit text p x.0 x.1
 hyphen-is limit text p before x u read h =
     let sign = bind_some (after_some_space before) _ x h in
-    let s = some_space-is read.front before sign.0 (subst (λ (t : List ℕ). IsUtf8 t) read.begins.divided u) sign.1 in
+    let s = some_space-is read.0 before sign.0 (subst (λ (t : List ℕ). IsUtf8 t) read.1.0 u) sign.1 in
     let gap = bind_some (after_byte 45 sign.0) _ x sign.2 in
     let dash = byte-is 45 sign.0 gap.0 gap.1 in
     let w = tail-utf8 45 gap.0 (omega arith) (subst (λ (t : List ℕ). IsUtf8 t) dash (skips-utf8 before sign.0 s.2 s.0)) in
@@ -143,19 +147,20 @@ hyphen-is limit text p before x u read h =
     let q = bind_some (partial_front limit second.0) _ x second.2 in
     let there = (longest_are limit second.0 q.0.0 q.0.1 v).0 q.1 in
     let b = cond_some (is_boundary q.0.1) q.0 x q.2 in
-    let stop = suffix-boundary there.front q.0.1 (subst (λ (t : List ℕ). IsUtf8 t) there.begins.divided v) b.0 in
-    grind arith
+    let stop = suffix-boundary there.0 q.0.1 (subst (λ (t : List ℕ). IsUtf8 t) there.1.0 v) b.0 in
+    let start : SkipsBlank before (45 ∷ gap.0) = rw dash at s.2 in
+    rw (← b.1) (before, gap.0, read, s.1, start, t.1, (second.0, t.2, record { read = there; ended = stop }))
 
 hyphen-of : (limit : ℕ) (text : List ℕ) (lower upper : Partial) (rest : List ℕ) → IsUtf8 text
-    → (h : IsHyphen limit text lower upper rest) → upper_behind limit h.before ≡ Some (upper, rest)
-hyphen-of limit text lower upper rest u h =
-    let v = rest-utf8 limit text lower h.before u h.first (inr h.space_before) in
-    let w = tail-utf8 45 h.after (omega arith) (skips-utf8 h.before (45 ∷ h.after) h.dash v) in
-    let z = skips-utf8 h.after h.second.0 h.second.1 w in
-    let read = (longest_are limit h.second.0 upper rest z).1 h.second.2.read in
-    rw (lt-ltb 0 (space_len h.before) (blank-len h.before h.space_before), skips-of h.before (45 ∷ h.after) v h.dash)
-    (rw (lt-ltb 0 (space_len h.after) (blank-len h.after h.space_after), skips-of h.after h.second.0 w h.second.1)
-    (rw (read, boundary-of rest h.second.2.ended) refl))
+    → (h : IsHyphen limit text lower upper rest) → upper_behind limit h.0 ≡ Some (upper, rest)
+hyphen-of limit text lower upper rest u (before, after, first, space_before, dash, space_after, second) =
+    let v = rest-utf8 limit text lower before u first (inr space_before) in
+    let w = tail-utf8 45 after (omega arith) (skips-utf8 before (45 ∷ after) dash v) in
+    let z = skips-utf8 after second.0 second.1 w in
+    let read = (longest_are limit second.0 upper rest z).1 second.2.read in
+    rw (lt-ltb 0 (space_len before) (blank-len before space_before), skips-of before (45 ∷ after) v dash)
+    (rw (lt-ltb 0 (space_len after) (blank-len after space_after), skips-of after second.0 w second.1)
+    (rw (read, boundary-of rest second.2.ended) refl))
 
 -- ---- signs
 
@@ -206,7 +211,7 @@ plain-is limit text x u h =
     no_hyphen : (p : Partial) (rest : List ℕ) → partial_front limit text ≡ Some (p, rest) → upper_behind limit rest ≡ None
         → (lower upper : Partial) (other : List ℕ) → IsHyphen limit text lower upper other → ⊥
     no_hyphen p rest e none lower upper other j =
-        let same = same_Some (p, rest) (lower, j.before) (sym e ∙ (longest_are limit text lower j.before u).1 j.first) in
+        let same = same_Some (p, rest) (lower, j.0) (sym e ∙ (longest_are limit text lower j.0 u).1 j.2) in
         cc (sym none ∙ (ap (λ (t : Partial × List ℕ). upper_behind limit t.1) same ∙ hyphen-of limit text lower upper other u j))
 
 -- the partial behind a sign and whitespace
@@ -284,8 +289,8 @@ no_greater limit text x h = grind (arith, nat_tests, opening-none)
 form-of : (limit : ℕ) (text : List ℕ) (w : Word) (rest : List ℕ) → IsUtf8 text → IsForm limit text w rest
     → behind_sign limit (sign_at text) ≡ Some (w, rest)
 form-of limit text w rest u (hyphen_form t lower upper r h) =
-    let read = (longest_are limit t lower h.before u).1 h.first in
-    rw (unsigned-at limit t (lower, h.before) read, read, hyphen-of limit t lower upper r u h) refl
+    let read = (longest_are limit t lower h.0 u).1 h.2 in
+    rw (unsigned-at limit t (lower, h.0) read, read, hyphen-of limit t lower upper r u h) refl
 form-of limit text w rest u (plain_form t p r h none) =
     let read = (longest_are limit t p r u).1 h.read in
     let alone : upper_behind limit r ≡ None = elim (option-cases (upper_behind limit r)) [
@@ -309,32 +314,32 @@ form-of limit text w rest u (caret_form t p r h) =
 -- ---- the next boundary
 
 first-is : (front text : List ℕ) → IsUtf8 (front ++ text) → IsFirstBoundary text (from_boundary text)
-first-is front [] u = grind (arith, from_boundary-nil)
+first-is front [] u = rw from_boundary-nil ([], refl, inl refl, λ x y e h. omega arith)
 first-is front (b ∷ text) u = elim (cases_Bool (is_boundary (b ∷ text))) [
   | inl here ↦
       let stop = suffix-boundary front (b ∷ text) u here in
       rw (from_boundary-stop (b ∷ text) here)
-      (record { passed = []; divided = refl; boundary = stop; first = λ before after e h. omega arith })
+      ([], refl, stop, λ before after e h. omega arith)
   | inr goes ↦
       rw (from_boundary-more (b ∷ text) 0 (omega arith) goes)
       (longer goes (first-is (front ++ (b ∷ [])) text (rw append_assoc u)))
 ]
   where
     longer : is_boundary (b ∷ text) ≡ false → IsFirstBoundary text (from_boundary text) → IsFirstBoundary (b ∷ text) (from_boundary text)
-    longer goes f = record { passed = b ∷ f.passed; divided = ap (λ (t : List ℕ). b ∷ t) f.divided; boundary = f.boundary; first = first }
+    longer goes f = (b ∷ f.0, ap (λ (t : List ℕ). b ∷ t) f.1, f.2, first)
       where
-        first : (before after : List ℕ) → b ∷ text ≡ before ++ after → IsBoundary after → length (b ∷ f.passed) ≤ length before
+        first : (before after : List ℕ) → b ∷ text ≡ before ++ after → IsBoundary after → length (b ∷ f.0) ≤ length before
         first [] after e h = cc (sym goes ∙ (ap (λ (t : List ℕ). is_boundary t) e ∙ boundary-of after h))
-        first (c ∷ before) after e h = let less = f.first before after (ap (λ (t : List ℕ). drop 1 t) e) h in omega arith
+        first (c ∷ before) after e h = let less = f.3 before after (ap (λ (t : List ℕ). drop 1 t) e) h in omega arith
 
 first-of : (text rest : List ℕ) → IsUtf8 text → IsFirstBoundary text rest → from_boundary text ≡ rest
 first-of text rest u h =
     let f = first-is [] text u in
-    let one = f.first h.passed rest h.divided h.boundary in
-    let two = h.first f.passed (from_boundary text) f.divided f.boundary in
-    let same : length h.passed ≡ length f.passed = omega (arith, one, two) in
-    sym (drop_at f.passed (from_boundary text) (length f.passed) refl)
-    ∙ (ap (λ (t : List ℕ). drop (length f.passed) t) (sym f.divided ∙ h.divided) ∙ drop_at h.passed rest (length f.passed) same)
+    let one = f.3 h.0 rest h.1 h.2 in
+    let two = h.3 f.0 (from_boundary text) f.1 f.2 in
+    let same : length h.0 ≡ length f.0 = omega (arith, one, two) in
+    sym (drop_at f.0 (from_boundary text) (length f.0) refl)
+    ∙ (ap (λ (t : List ℕ). drop (length f.0) t) (sym f.1 ∙ h.1) ∙ drop_at h.0 rest (length f.0) same)
 
 -- ---- the word
 
@@ -363,8 +368,8 @@ behind-utf8 limit text p rest u h = whole-utf8 limit h.0 p rest (skips-utf8 text
 
 form-utf8 : (limit : ℕ) (text : List ℕ) (w : Word) (rest : List ℕ) → IsUtf8 text → IsForm limit text w rest → IsUtf8 rest
 form-utf8 limit text w rest u (hyphen_form t lower upper r h) =
-    let v = rest-utf8 limit t lower h.before u h.first (inr h.space_before) in
-    behind-utf8 limit h.after upper r (tail-utf8 45 h.after (omega arith) (skips-utf8 h.before (45 ∷ h.after) h.dash v)) h.second
+    let v = rest-utf8 limit t lower h.0 u h.2 (inr h.3) in
+    behind-utf8 limit h.1 upper r (tail-utf8 45 h.1 (omega arith) (skips-utf8 h.0 (45 ∷ h.1) h.4 v)) h.6
 form-utf8 limit text w rest u (plain_form t p r h none) = whole-utf8 limit t p r u h
 form-utf8 limit text w rest u (compare_form c sign t p r s h) = behind-utf8 limit t p r (sign-utf8 c sign t s u) h
 form-utf8 limit text w rest u (tilde_form t p r h) = behind-utf8 limit t p r (tail-utf8 126 t (omega arith) u) h
@@ -375,7 +380,7 @@ form-utf8 limit text w rest u (caret_form t p r h) = behind-utf8 limit t p r (ta
 pub word-utf8 : (limit : ℕ) (text : List ℕ) (w : Word) (rest : List ℕ) → IsUtf8 text → IsWordAt limit text w rest → IsUtf8 rest
 word-utf8 limit text w rest u (formed t v r h) = form-utf8 limit t v r u h
 word-utf8 limit text w rest u (no_form t r none h) =
-    boundary-utf8 h.passed r (subst (λ (s : List ℕ). IsUtf8 s) h.divided u) h.boundary
+    boundary-utf8 h.0 r (subst (λ (s : List ℕ). IsUtf8 s) h.1 u) h.2
 
 -- what is trimmed is UTF-8
 pub trim-utf8 : (text middle : List ℕ) → IsUtf8 text → IsTrim text middle → IsUtf8 middle

@@ -7,7 +7,7 @@ use Rattle.std.specs.List.{join_with_byte}
 use Rattle.semver_core.specs.Text.Characters.{IsBlank}
 use Rattle.semver_core.specs.Text.Identifiers.{AlphaNumeric}
 use Rattle.semver_core.specs.Values.Versions.{VersionValue, release_value}
-use Rattle.nodejs_semver.specs.Npm.RangeText.{AreWords, IsPartial, caret_equal, last, late_above, number, one, spelling, tilde_twice, word}
+use Rattle.nodejs_semver.specs.Npm.RangeText.{AreWords, IsPartial, are_marks, are_spelled, begins_letter, caret_equal, is_spelled, last, late_above, number, one, sign, spelling, tilde_twice, word}
 use Rattle.nodejs_semver.specs.Npm.Ranges.{accepts, is_valid}
 use Rattle.nodejs_semver.specs.Npm.Table.{Comparison, Partial, Sign, caret, compared, hyphen_lower, hyphen_upper, major, minor, table, tilde, whole, wildcard}
 use Rattle.nodejs_semver.specs.Text.WordText.{above, at_least, at_most, below, equal}
@@ -136,19 +136,39 @@ blank = record { characters = 32 ∷ []; each = refl; spelled = refl }
 no_blank : IsBlank []
 no_blank = record { characters = []; each = refl; spelled = refl }
 
-abbrev one_is : IsPartial (codes "1") (major 1)
-one_is = one (codes "1") (Some 1) (number (codes "1") 1 (record {
-  number = record { some = lit< tt; each = refl; value = refl; safe = lit≤ tt };
-  shortest = refl;
-}) (lit≤ tt))
+abbrev one_is : IsPartial false (codes "1") (major 1)
+one_is = one (codes "1") (Some 1) (number (codes "1") 1 (record { some = lit< tt; each = refl; value = refl; safe = lit≤ tt }) refl (lit≤ tt))
 
 -- `> =1` is `>=1`, `^ = 1` is `^1` and `~> >1` is `~1`
-row-late : AreWords false (codes "> =1") (table false (compared at_least) (major 1) (codes "1"))
-row-late = last _ _ (word (codes "> =") [] (codes "1") (compared at_least) (major 1) (late_above (codes " ") blank) refl one_is)
+row-late : AreWords false false (codes "> =1") (table false (compared at_least) (major 1) (codes "1"))
+row-late = last _ _ (word (codes "> =") [] (codes "1") (compared at_least) (major 1) (late_above (codes " ") blank) refl refl one_is)
 
-row-caret_equal : AreWords false (codes "^ = 1") (table false caret (major 1) (codes "1"))
-row-caret_equal = last _ _ (word (codes "^ = ") [] (codes "1") caret (major 1) (caret_equal (codes " ") (codes " ") blank blank) refl one_is)
+row-caret_equal : AreWords false false (codes "^ = 1") (table false caret (major 1) (codes "1"))
+row-caret_equal = last _ _ (word (codes "^ = ") [] (codes "1") caret (major 1) (caret_equal (codes " ") (codes " ") blank blank) refl refl one_is)
 
-row-tilde_twice : AreWords false (codes "~> >1") (table false tilde (major 1) (codes "1"))
+row-tilde_twice : AreWords false false (codes "~> >1") (table false tilde (major 1) (codes "1"))
 row-tilde_twice =
-    last _ _ (word (codes "~> >") [] (codes "1") tilde (major 1) (tilde_twice above (codes " ") [] blank (lit< tt) no_blank (inl refl)) refl one_is)
+    last _ _ (word (codes "~> >") [] (codes "1") tilde (major 1) (tilde_twice above (codes " ") [] blank (lit< tt) no_blank (inl refl)) refl refl one_is)
+
+-- loosely `^01` is `^1`, and `01` stands for no number strictly, `00` for none at all
+row-leading : AreWords true false (codes "^01") (table false caret (major 1) (codes "01"))
+row-leading = last _ _ (word (codes "^") [] (codes "01") caret (major 1) (sign caret [] no_blank) refl refl
+    (one (codes "01") (Some 1) (number (codes "01") 1 (record { some = lit< tt; each = refl; value = refl; safe = lit≤ tt }) refl (lit≤ tt))))
+
+row-spelled : is_spelled true 1 (codes "01") ∷ is_spelled false 1 (codes "01") ∷ is_spelled true 0 (codes "00") ∷ is_spelled false 0 (codes "0") ∷ []
+    ≡ true ∷ false ∷ false ∷ true ∷ []
+row-spelled = refl
+
+-- `beta` may stand without `-` loosely, where it begins with a letter, and the identifier `01`
+row-bare : map begins_letter (codes "beta" ∷ codes "-beta" ∷ codes "1beta" ∷ []) ≡ true ∷ false ∷ false ∷ []
+row-bare = refl
+
+row-identifiers : are_spelled true (codes "rc.01") ∷ are_spelled false (codes "rc.01") ∷ are_spelled false (codes "rc.1") ∷ []
+    ≡ true ∷ false ∷ true ∷ []
+row-identifiers = refl
+
+-- `==1.2.3` and `>=vv1.2.3` have marks that stand there loosely, and `>=1.2.3` is read as one sign
+row-marks : map (λ loose. are_marks loose (compared equal) (plain 1 2 3) (codes "=") ∷ (are_marks loose (compared at_least) (plain 1 2 3) (codes "vv")
+    ∷ (are_marks loose (compared above) (plain 1 2 3) (codes "=") ∷ []))) (true ∷ false ∷ [])
+    ≡ (true ∷ true ∷ false ∷ []) ∷ ((false ∷ false ∷ false ∷ []) ∷ [])
+row-marks = refl

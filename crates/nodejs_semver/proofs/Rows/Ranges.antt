@@ -7,6 +7,7 @@ use Rattle.semver_core.specs.declared.cuts.bound.Bound.{Bound}
 use Rattle.semver_core.specs.declared.cuts.bound.Bound.TheVariants.{Unbounded, Before, After}
 use Rattle.nodejs_semver.specs.Ranges.Gate.{accepts}
 use Rattle.nodejs_semver.specs.Ranges.Algebra.{intersection, difference, covers_one}
+use Rattle.nodejs_semver.specs.Ranges.Least.{least_build}
 use Rattle.nodejs_semver.specs.Ranges.View.{any_version}
 
 -- `1.2.3-a` with one letter, `1.2.3-0` and `1.2.3+a`
@@ -121,3 +122,24 @@ row-meets = refl
 
 row-meets_none : intersection (record { lower = Before (release_value 1 2 3); upper = After (release_value 1 2 3) } ∷ record { lower = Before (release_value 5 0 0); upper = Unbounded } ∷ []) (record { lower = Before (release_value 1 9 4); upper = After (release_value 1 9 4) } ∷ record { lower = Before (release_value 2 0 0); upper = Before (zeroth 4 0 0) } ∷ []) ≡ None
 row-meets_none = refl
+
+-- `1.2.3` comes from `>=1.2.3+a`, `1.2.4` from `>1.2.3+a`, and `1.2.3-a.0` from `>1.2.3-a+b`
+row-build_at : least_build (from (built 1 2 3 97)) (release_value 1 2 3) ≡ AlphaNumeric (97 ∷ []) ∷ []
+row-build_at = refl
+
+row-build_past_release : least_build (between (After (built 1 2 3 97)) Unbounded) (release_value 1 2 4) ≡ AlphaNumeric (97 ∷ []) ∷ []
+row-build_past_release = refl
+
+row-build_past_pre_release : least_build
+    (between (After (record (lettered 1 2 3 97) { build = AlphaNumeric (98 ∷ []) ∷ [] })) Unbounded)
+    (record (release_value 1 2 3) { pre_release = AlphaNumeric (97 ∷ []) ∷ Numeric 0 ∷ [] }) ≡ AlphaNumeric (98 ∷ []) ∷ []
+row-build_past_pre_release = refl
+
+-- `1.0.1-0` of `>1.0.0+a <1.0.1-5` comes from no lower bound, nor does `0.0.0` of `<=1.0.0 || >=0.0.0+a`
+row-build_of_none : least_build
+    (between (After (built 1 0 0 97)) (Before (record (release_value 1 0 1) { pre_release = Numeric 5 ∷ [] }))) (zeroth 1 0 1) ≡ []
+row-build_of_none = refl
+
+row-build_of_the_first : least_build
+    (record { lower = Unbounded; upper = After (release_value 1 0 0) } ∷ from (built 0 0 0 97)) (release_value 0 0 0) ≡ []
+row-build_of_the_first = refl

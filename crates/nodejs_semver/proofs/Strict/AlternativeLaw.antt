@@ -17,10 +17,10 @@ use Rattle.semver_core.proofs.Text.Trims.{drop_spaces-blank}
 use Rattle.nodejs_semver.specs.Internal.Fronts.{begins_byte, is_wildcard}
 use Rattle.nodejs_semver.specs.Internal.NpmWords.{Ended, after_ends, alternative_of, drop_ends, end_front, hyphen_comparisons, hyphen_ends}
 use Rattle.nodejs_semver.specs.Internal.NpmWords.{last_end, partial_front, words_within}
-use Rattle.nodejs_semver.specs.Npm.Grammar.{IsStrictBuild, IsStrictPreRelease, dashed, no_build, no_pre_release, plus}
+use Rattle.nodejs_semver.specs.Npm.Grammar.{IsStrictBuild, no_build, plus}
 use Rattle.nodejs_semver.specs.Npm.RangeText as Text
-use Rattle.nodejs_semver.specs.Npm.RangeText.{AreEndMarks, AreWords, IsAlternative, IsPartial, IsPlace, IsSignText, IsWord, hyphen, is_free_lower, is_free_upper}
-use Rattle.nodejs_semver.specs.Npm.RangeText.{is_mark, is_one_v, last, more, nothing, one, spelling, three, two, word, words}
+use Rattle.nodejs_semver.specs.Npm.RangeText.{AreEndMarks, AreWords, IsAlternative, IsPartial, IsPlace, IsPreRelease, IsSignText, IsWord, bare, dashed, hyphen, is_free_lower, is_free_upper}
+use Rattle.nodejs_semver.specs.Npm.RangeText.{is_mark, is_one_v, last, more, no_pre_release, nothing, one, spelling, three, two, word, words}
 use Rattle.nodejs_semver.specs.Npm.RangeText.{caret_equal, late_above, late_below, no_sign, sign, tilde_sign, tilde_twice}
 use Rattle.nodejs_semver.specs.Npm.Table.{Comparison, Partial, Sign, caret, compared, hyphen_lower, hyphen_upper, major, minor, tilde, whole, wildcard}
 use Rattle.nodejs_semver.specs.Text.WordText.{above, at_least, at_most, below, equal}
@@ -41,11 +41,11 @@ abbrev is_other : ℕ → Bool
 is_other b = not (b == 45)
 
 -- a `-` stands behind a byte that is none
-abbrev loose : List ℕ → Bool
-loose [] = false
-loose (b ∷ rest) = (not (is_tight b) && begins_byte 45 rest) || loose rest
+abbrev apart : List ℕ → Bool
+apart [] = false
+apart (b ∷ rest) = (not (is_tight b) && begins_byte 45 rest) || apart rest
 
-tight-passed : (u v : List ℕ) → list_all is_tight u ≡ true → loose (u ++ v) ≡ loose v
+tight-passed : (u v : List ℕ) → list_all is_tight u ≡ true → apart (u ++ v) ≡ apart v
 tight-passed [] v h = refl
 tight-passed (b ∷ u) v h =
     let each = and_parts (is_tight b) (list_all is_tight u) h in
@@ -58,15 +58,15 @@ other-first (b ∷ u) v h k = grind (arith, nat_tests)
 and-none : (a b : Bool) → b ≡ false → (a && b) ≡ false
 and-none a b h = grind arith
 
-other-passed : (u v : List ℕ) → list_all is_other u ≡ true → begins_byte 45 v ≡ false → loose (u ++ v) ≡ loose v
+other-passed : (u v : List ℕ) → list_all is_other u ≡ true → begins_byte 45 v ≡ false → apart (u ++ v) ≡ apart v
 other-passed [] v h k = refl
 other-passed (b ∷ u) v h k =
     let each = and_parts (is_other b) (list_all is_other u) h in
     rw (and-none (not (is_tight b)) (begins_byte 45 (u ++ v)) (other-first u v each.1 k)) (other-passed u v each.1 k)
 
-loose-more : (u v : List ℕ) → loose v ≡ true → loose (u ++ v) ≡ true
+loose-more : (u v : List ℕ) → apart v ≡ true → apart (u ++ v) ≡ true
 loose-more [] v h = h
-loose-more (b ∷ u) v h = or_right (not (is_tight b) && begins_byte 45 (u ++ v)) (loose (u ++ v)) (loose-more u v h)
+loose-more (b ∷ u) v h = or_right (not (is_tight b) && begins_byte 45 (u ++ v)) (apart (u ++ v)) (loose-more u v h)
 
 -- ---- bytes of whitespace
 
@@ -135,14 +135,14 @@ blank-other x h = rw h.spelled (go h.characters h.each)
         rw b.spelled (all-join is_other b.front (b.end ∷ []) b.front_other (rw b.end_other refl)) in
         all-join is_other (encode_utf8 c) (encode_utf8_all cs) first (go cs parts.1)
 
-loose-blank : (x z : List ℕ) → IsBlank x → 0 < length x → loose (x ++ (45 ∷ z)) ≡ true
-loose-blank x z h some = subst (λ (t : List ℕ). loose (t ++ (45 ∷ z)) ≡ true) (sym h.spelled)
+loose-blank : (x z : List ℕ) → IsBlank x → 0 < length x → apart (x ++ (45 ∷ z)) ≡ true
+loose-blank x z h some = subst (λ (t : List ℕ). apart (t ++ (45 ∷ z)) ≡ true) (sym h.spelled)
     (go h.characters h.each (subst (λ (t : List ℕ). 0 < length t) h.spelled some))
   where
     some-bytes : (d : ℕ) (cs : List ℕ) → 0 < length (encode_utf8_all (d ∷ cs))
     some-bytes d cs = omega (arith, length-append (encode_utf8 d) (encode_utf8_all cs), length-encode d, (len_utf8_bounds d).0)
 
-    go : (cs : List ℕ) → list_all is_whitespace cs ≡ true → 0 < length (encode_utf8_all cs) → loose (encode_utf8_all cs ++ (45 ∷ z)) ≡ true
+    go : (cs : List ℕ) → list_all is_whitespace cs ≡ true → 0 < length (encode_utf8_all cs) → apart (encode_utf8_all cs ++ (45 ∷ z)) ≡ true
     go [] each k = absurd (omega arith)
     go (c ∷ []) each k =
         let b = bytes-of c (and_parts (is_whitespace c) true each).0 in
@@ -166,12 +166,12 @@ digits-tight (c ∷ digits) h =
     digit-tight : (c : ℕ) → is_ascii_digit c ≡ true → is_tight c ≡ true
     digit-tight c h = grind (arith, nat_tests)
 
-place-tight : (x : List ℕ) (a : Option ℕ) → IsPlace x a → list_all is_tight x ≡ true
-place-tight x a (Text.any b h) = rw (wild b h) refl
+place-tight : (loose : Bool) (x : List ℕ) (a : Option ℕ) → IsPlace loose x a → list_all is_tight x ≡ true
+place-tight loose x a (Text.any b h) = rw (wild b h) refl
   where
     wild : (b : ℕ) → is_wildcard b ≡ true → is_tight b ≡ true
     wild b h = grind (arith, nat_tests)
-place-tight x a (Text.number digits n k short) = digits-tight digits k.number.each
+place-tight loose x a (Text.number digits n k spelled short) = digits-tight digits k.each
 
 pieces-tight : (t : List ℕ) → tail_runs (pieces t) ≡ true → list_all is_tight t ≡ true
 pieces-tight [] h = refl
@@ -188,22 +188,23 @@ pieces-tight (c ∷ t) h = elim (cases_Bool (c == 46)) [
     first-tight c [] h = grind arith
     first-tight c (p ∷ ps) h = grind arith
 
-pre-tight : (p : List ℕ) (l : List Id) → IsStrictPreRelease p l → list_all is_tight p ≡ true
-pre-tight p l no_pre_release = refl
-pre-tight p l (dashed t list h s) = pieces-tight t (runs_tail (pieces t) h.runs)
+pre-tight : (loose : Bool) (p : List ℕ) (l : List Id) → IsPreRelease loose p l → list_all is_tight p ≡ true
+pre-tight loose p l no_pre_release = refl
+pre-tight loose p l (dashed t list h s) = pieces-tight t (runs_tail (pieces t) h.runs)
+pre-tight loose p l (bare t list e f h s) = pieces-tight t (runs_tail (pieces t) h.runs)
 
 build-tight : (p : List ℕ) (l : List Id) → IsStrictBuild p l → list_all is_tight p ≡ true
 build-tight p l no_build = refl
 build-tight p l (plus t list h) = pieces-tight t (runs_tail (pieces t) h.runs)
 
-partial-tight : (x : List ℕ) (p : Partial) → IsPartial x p → list_all is_tight x ≡ true
-partial-tight x p (one x1 a h) = place-tight x1 a h
-partial-tight x p (two x1 y a b h k) = all-join is_tight x1 (46 ∷ y) (place-tight x1 a h) (place-tight y b k)
-partial-tight x p (three x1 y z pre build a b c ids builds h k l m s n t) =
-    let last_part = all-join is_tight pre build (pre-tight pre ids m) (build-tight build builds n) in
-    let third = all-join is_tight z (pre ++ build) (place-tight z c l) last_part in
-    let second = all-join is_tight y (46 ∷ (z ++ (pre ++ build))) (place-tight y b k) third in
-    all-join is_tight x1 (46 ∷ (y ++ 46 ∷ (z ++ (pre ++ build)))) (place-tight x1 a h) second
+partial-tight : (loose : Bool) (x : List ℕ) (p : Partial) → IsPartial loose x p → list_all is_tight x ≡ true
+partial-tight loose x p (one x1 a h) = place-tight loose x1 a h
+partial-tight loose x p (two x1 y a b h k) = all-join is_tight x1 (46 ∷ y) (place-tight loose x1 a h) (place-tight loose y b k)
+partial-tight loose x p (three x1 y z pre build a b c ids builds h k l m s n t) =
+    let last_part = all-join is_tight pre build (pre-tight loose pre ids m) (build-tight build builds n) in
+    let third = all-join is_tight z (pre ++ build) (place-tight loose z c l) last_part in
+    let second = all-join is_tight y (46 ∷ (z ++ (pre ++ build))) (place-tight loose y b k) third in
+    all-join is_tight x1 (46 ∷ (y ++ 46 ∷ (z ++ (pre ++ build)))) (place-tight loose x1 a h) second
 
 spelling-other : (s : Sign) (y : List ℕ) → list_all is_other y ≡ true → list_all is_other (spelling s ++ y) ≡ true
 spelling-other (compared above) y h = h
@@ -238,22 +239,22 @@ component-first : (u : List ℕ) → begins_component u ≡ true → begins_byte
 component-first u h = grind (arith, nat_tests)
 
 -- a word begins with no `-`, and what is behind it decides
-word-first : (include : Bool) (w v : List ℕ) (cs : List Comparison) → IsWord include w cs
-    → (loose (w ++ v) ≡ loose v) × (begins_byte 45 (w ++ v) ≡ false)
-word-first include w v cs (word signs marks x s p h m k) =
+word-first : (loose : Bool) (include : Bool) (w v : List ℕ) (cs : List Comparison) → IsWord loose include w cs
+    → (apart (w ++ v) ≡ apart v) × (begins_byte 45 (w ++ v) ≡ false)
+word-first loose include w v cs (word signs marks x s p h m e k) =
     let text_is : (signs ++ (marks ++ x)) ++ v ≡ (signs ++ marks) ++ (x ++ v) = simp append_assoc refl in
-    let front = all-join is_other signs marks (sign-other signs s h) (marks-other marks (marks-all s p marks m)) in
-    let first = component-first (x ++ v) (partial-begins x v p k) in (
-      rw text_is (other-passed (signs ++ marks) (x ++ v) front first ∙ tight-passed x v (partial-tight x p k)),
+    let front = all-join is_other signs marks (sign-other signs s h) (marks-other marks (marks-all loose s p marks m)) in
+    let first = component-first (x ++ v) (partial-begins loose x v p k) in (
+      rw text_is (other-passed (signs ++ marks) (x ++ v) front first ∙ tight-passed x v (partial-tight loose x p k)),
       rw text_is (other-first (signs ++ marks) (x ++ v) front first),
     )
 
-words-first : (include : Bool) (text : List ℕ) (cs : List Comparison) → AreWords include text cs
-    → (loose text ≡ false) × (begins_byte 45 text ≡ false)
-words-first include text cs (last t ds h) = rw append-nil at (word-first include t [] ds h)
-words-first include text cs (more t blank rest ds es h hb some k) =
-    let w = word-first include t (blank ++ rest) ds h in
-    let r = words-first include rest es k in
+words-first : (loose : Bool) (include : Bool) (text : List ℕ) (cs : List Comparison) → AreWords loose include text cs
+    → (apart text ≡ false) × (begins_byte 45 text ≡ false)
+words-first loose include text cs (last t ds h) = rw append-nil at (word-first loose include t [] ds h)
+words-first loose include text cs (more t blank rest ds es h hb some k) =
+    let w = word-first loose include t (blank ++ rest) ds h in
+    let r = words-first loose include rest es k in
     (w.0 ∙ other-passed blank rest (blank-other blank hb) r.1 ∙ r.0, w.1)
 
 -- ---- hyphen ranges: what is written is read
@@ -290,17 +291,17 @@ ends-after zero (b ∷ rest) = go (λ n. ends-after n rest) (space_len (b ∷ re
         let here : after_spaces 0 (b ∷ rest) ≡ after_spaces n rest = rw (e, after_spaces) refl in
         ap drop_ends here ∙ f n ∙ sym (ends-space b rest n (no-mark n e) e ∙ sym (after_ends-drop n rest))
 
-record UpperRead (include : Bool) (q : Partial) (second text : List ℕ) : Type 0 where
+record UpperRead (loose : Bool) (include : Bool) (q : Partial) (second text : List ℕ) : Type 0 where
   taken : List ℕ
-  is : last_end (is_free_upper include) second ≡ Some (q, taken)
+  is : last_end loose (is_free_upper include) second ≡ Some (q, taken)
   same : hyphen_upper include q taken ≡ hyphen_upper include q text
 
-upper-read : (include : Bool) (gap b y : List ℕ) (q : Partial) → IsBlank gap → AreEndMarks (is_free_upper include q) b → IsPartial y q
-    → UpperRead include q (drop_spaces (gap ++ (b ++ y))) (b ++ y)
+upper-read : (loose : Bool) (include : Bool) (gap b y : List ℕ) (q : Partial) → IsBlank gap → AreEndMarks (is_free_upper include q) b → IsPartial loose y q
+    → UpperRead loose include q (drop_spaces (gap ++ (b ++ y))) (b ++ y)
 unfolding end_front
-upper-read include gap b y q hg h k =
-    let begin : begins_component y ≡ true = rw append-nil at (partial-begins y [] q k) in
-    let read : partial_front y ≡ Some (q, []) = rw append-nil at (partial-read y [] q k refl) in
+upper-read loose include gap b y q hg h k =
+    let begin : begins_component y ≡ true = rw append-nil at (partial-begins loose y [] q k) in
+    let read : partial_front loose y ≡ Some (q, []) = rw append-nil at (partial-read loose y [] q k refl) in
     let second = drop_spaces (gap ++ (b ++ y)) in
     let at_gap : second ≡ drop_spaces (b ++ y) =
     ap (λ (t : List ℕ). drop_spaces (t ++ (b ++ y))) hg.spelled ∙ drop_spaces-blank hg.characters (b ++ y) hg.each in
@@ -315,26 +316,26 @@ upper-read include gap b y q hg h k =
           }
       | inr bound ↦
           let none : second ≡ b ++ y = at_gap ∙ drop_spaces-none (b ++ y) (bound-dark b y (rw bound at h) begin) in
-          let at_end : end_front (is_free_upper include) (b ++ y) ≡ Some ((q, b ++ y), []) =
-          rw append-nil at (end-read (is_free_upper include) b y [] q h k refl) in
+          let at_end : end_front loose (is_free_upper include) (b ++ y) ≡ Some ((q, b ++ y), []) =
+          rw append-nil at (end-read loose (is_free_upper include) b y [] q h k refl) in
           record { taken = b ++ y; is = rw (none, at_end) refl; same = refl }
     ]
   where
     bound-dark : (b y : List ℕ) → AreEndMarks false b → begins_component y ≡ true → space_len (b ++ y) ≡ 0
     bound-dark b y h begin = one-dark b y (marks-one false b h) begin
 
-pub hyphen-read : (include : Bool) (a x blank gap b y : List ℕ) (p q : Partial) → AreEndMarks (is_free_lower p) a → IsPartial x p
-    → IsBlank blank → 0 < length blank → IsBlank gap → 0 < length gap → AreEndMarks (is_free_upper include q) b → IsPartial y q
-    → (e : Ended × Ended) × (hyphen_ends include (a ++ (x ++ (blank ++ 45 ∷ (gap ++ (b ++ y))))) ≡ Some e)
+pub hyphen-read : (loose : Bool) (include : Bool) (a x blank gap b y : List ℕ) (p q : Partial) → AreEndMarks (is_free_lower p) a → IsPartial loose x p
+    → IsBlank blank → 0 < length blank → IsBlank gap → 0 < length gap → AreEndMarks (is_free_upper include q) b → IsPartial loose y q
+    → (e : Ended × Ended) × (hyphen_ends loose include (a ++ (x ++ (blank ++ 45 ∷ (gap ++ (b ++ y))))) ≡ Some e)
     × (hyphen_comparisons include e ≡ hyphen_lower include p (a ++ x) ++ hyphen_upper include q (b ++ y))
 unfolding hyphen_ends
-hyphen-read include a x blank gap b y p q ha hx hb some hg more_gap hc hy =
+hyphen-read loose include a x blank gap b y p q ha hx hb some hg more_gap hc hy =
     let z = gap ++ (b ++ y) in
     let rest = blank ++ (45 ∷ z) in
     let quiet = boundary-quiet rest (blank-boundary blank (45 ∷ z) hb some) in
-    let lower = end-read is_free_lower a x rest p ha hx quiet in
+    let lower = end-read loose is_free_lower a x rest p ha hx quiet in
     let dash = dash-read blank z hb some (blank-space gap (b ++ y) hg more_gap) in
-    let upper = upper-read include gap b y q hg hc hy in (
+    let upper = upper-read loose include gap b y q hg hc hy in (
       ((p, a ++ x), (q, upper.taken)),
       rw (lower, dash, upper.is) refl,
       ap (λ (l : List Comparison). hyphen_lower include p (a ++ x) ++ l) upper.same,
@@ -342,44 +343,44 @@ hyphen-read include a x blank gap b y p q ha hx hb some hg more_gap hc hy =
 
 -- ---- alternatives
 
-no-words : (include : Bool) (n : ℕ) (text : List ℕ) → IsUtf8 text → loose text ≡ true → words_within include n text ≡ None
-no-words include n text u h = elim (option-cases (words_within include n text)) [
+no-words : (loose : Bool) (include : Bool) (n : ℕ) (text : List ℕ) → IsUtf8 text → apart text ≡ true → words_within loose include n text ≡ None
+no-words loose include n text u h = elim (option-cases (words_within loose include n text)) [
   | inl none ↦ none
-  | inr some ↦ cc (h, (words-first include text some.0 (words-found include n text some.0 u some.1)).0)
+  | inr some ↦ cc (h, (words-first loose include text some.0 (words-found loose include n text some.0 u some.1)).0)
 ]
 
-by-words : (include : Bool) (text : List ℕ) (cs : List Comparison) → AreWords include text cs → alternative_of include text ≡ Some cs
+by-words : (loose : Bool) (include : Bool) (text : List ℕ) (cs : List Comparison) → AreWords loose include text cs → alternative_of loose include text ≡ Some cs
 unfolding alternative_of
-by-words include [] cs h = cc (words-solid include [] cs h)
-by-words include (b ∷ text) cs h = rw (words-read include (length (b ∷ text)) (b ∷ text) cs h (omega arith)) refl
+by-words loose include [] cs h = cc (words-solid loose include [] cs h)
+by-words loose include (b ∷ text) cs h = rw (words-read loose include (length (b ∷ text)) (b ∷ text) cs h (omega arith)) refl
 
-by-hyphen : (include : Bool) (text : List ℕ) (e : Ended × Ended) → IsUtf8 text → loose text ≡ true → hyphen_ends include text ≡ Some e
-    → alternative_of include text ≡ Some (hyphen_comparisons include e)
+by-hyphen : (loose : Bool) (include : Bool) (text : List ℕ) (e : Ended × Ended) → IsUtf8 text → apart text ≡ true → hyphen_ends loose include text ≡ Some e
+    → alternative_of loose include text ≡ Some (hyphen_comparisons include e)
 unfolding alternative_of
-by-hyphen include [] e u l h = cc l
-by-hyphen include (b ∷ text) e u l h = rw (no-words include (length (b ∷ text)) (b ∷ text) u l, h) refl
+by-hyphen loose include [] e u l h = cc l
+by-hyphen loose include (b ∷ text) e u l h = rw (no-words loose include (length (b ∷ text)) (b ∷ text) u l, h) refl
 
-pub alternative-read : (include : Bool) (text : List ℕ) (cs : List Comparison) → IsUtf8 text → IsAlternative include text cs
-    → alternative_of include text ≡ Some cs
+pub alternative-read : (loose : Bool) (include : Bool) (text : List ℕ) (cs : List Comparison) → IsUtf8 text → IsAlternative loose include text cs
+    → alternative_of loose include text ≡ Some cs
 unfolding alternative_of
-alternative-read include text cs u nothing = refl
-alternative-read include text cs u (words t ds h) = by-words include t ds h
-alternative-read include text cs u (hyphen a x blank gap b y p q ha hx hb some hg more_gap hc hy) =
-    let r = hyphen-read include a x blank gap b y p q ha hx hb some hg more_gap hc hy in
+alternative-read loose include text cs u nothing = refl
+alternative-read loose include text cs u (words t ds h) = by-words loose include t ds h
+alternative-read loose include text cs u (hyphen a x blank gap b y p q ha hx hb some hg more_gap hc hy) =
+    let r = hyphen-read loose include a x blank gap b y p q ha hx hb some hg more_gap hc hy in
     let behind = blank ++ 45 ∷ (gap ++ (b ++ y)) in
     let l = loose-more a (x ++ behind) (loose-more x behind (loose-blank blank (gap ++ (b ++ y)) hb some)) in
-    by-hyphen include (a ++ (x ++ behind)) r.0 u l r.1 ∙ ap (λ (l : List Comparison). Some l) r.2
+    by-hyphen loose include (a ++ (x ++ behind)) r.0 u l r.1 ∙ ap (λ (l : List Comparison). Some l) r.2
 
-pub alternative-found : (include : Bool) (text : List ℕ) (cs : List Comparison) → IsUtf8 text → alternative_of include text ≡ Some cs
-    → IsAlternative include text cs
+pub alternative-found : (loose : Bool) (include : Bool) (text : List ℕ) (cs : List Comparison) → IsUtf8 text → alternative_of loose include text ≡ Some cs
+    → IsAlternative loose include text cs
 unfolding alternative_of
-alternative-found include [] cs u h = subst (λ (l : List Comparison). IsAlternative include [] l) (same_Some _ _ h) nothing
-alternative-found include (b ∷ text) cs u h = elim (option-cases (words_within include (length (b ∷ text)) (b ∷ text))) [
+alternative-found loose include [] cs u h = subst (λ (l : List Comparison). IsAlternative loose include [] l) (same_Some _ _ h) nothing
+alternative-found loose include (b ∷ text) cs u h = elim (option-cases (words_within loose include (length (b ∷ text)) (b ∷ text))) [
   | inr some ↦
       let e = same_Some _ _ (rw some.1 at h) in
-      let is : IsAlternative include (b ∷ text) some.0 = words (b ∷ text) some.0 (words-found include (length (b ∷ text)) (b ∷ text) some.0 u some.1) in
-      subst (λ (l : List Comparison). IsAlternative include (b ∷ text) l) e is
+      let is : IsAlternative loose include (b ∷ text) some.0 = words (b ∷ text) some.0 (words-found loose include (length (b ∷ text)) (b ∷ text) some.0 u some.1) in
+      subst (λ (l : List Comparison). IsAlternative loose include (b ∷ text) l) e is
   | inl none ↦
-      let e = bind_some (hyphen_ends include (b ∷ text)) (λ e. Some (hyphen_comparisons include e)) cs (rw none at h) in
-      subst (λ (l : List Comparison). IsAlternative include (b ∷ text) l) (same_Some _ _ e.2) (hyphen-found include (b ∷ text) e.0 u e.1)
+      let e = bind_some (hyphen_ends loose include (b ∷ text)) (λ e. Some (hyphen_comparisons include e)) cs (rw none at h) in
+      subst (λ (l : List Comparison). IsAlternative loose include (b ∷ text) l) (same_Some _ _ e.2) (hyphen-found loose include (b ∷ text) e.0 u e.1)
 ]

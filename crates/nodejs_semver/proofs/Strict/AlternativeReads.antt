@@ -21,15 +21,15 @@ use Rattle.nodejs_semver.proofs.Strict.Valid.{hyphen-valid, words-valid}
 -- ---- hyphen ranges
 
 -- what is read of a hyphen range is all that is valid
-hyphen-read : (include : Bool) (text : List ℕ)
-    → valid_hyphen include text ≡ (hyphen_of MAX_SAFE_INTEGER include text >>? λ e. valid_only MAX_SAFE_INTEGER (hyphen_comparisons include e))
+hyphen-read : (loose : Bool) (include : Bool) (text : List ℕ)
+    → valid_hyphen loose include text ≡ (hyphen_of loose MAX_SAFE_INTEGER include text >>? λ e. valid_only MAX_SAFE_INTEGER (hyphen_comparisons include e))
 unfolding valid_hyphen
-hyphen-read include text =
-    rw (hyphen_limited MAX_SAFE_INTEGER include text) (sym (hyphen-valid MAX_SAFE_INTEGER include (hyphen_ends include text)))
+hyphen-read loose include text =
+    rw (hyphen_limited loose MAX_SAFE_INTEGER include text) (sym (hyphen-valid MAX_SAFE_INTEGER include (hyphen_ends loose include text)))
 
-pub hyphen-none : (include : Bool) (text : List ℕ) → hyphen_of MAX_SAFE_INTEGER include text ≡ None → IsFound include (valid_hyphen include text) None
-hyphen-none include text h =
-    let none : valid_hyphen include text ≡ None = hyphen-read include text ∙ rw h refl in
+pub hyphen-none : (loose : Bool) (include : Bool) (text : List ℕ) → hyphen_of loose MAX_SAFE_INTEGER include text ≡ None → IsFound include (valid_hyphen loose include text) None
+hyphen-none loose include text h =
+    let none : valid_hyphen loose include text ≡ None = hyphen-read loose include text ∙ rw h refl in
     rw none tt
 
 none-left : (cs ds : List Comparison) → list_all (is_valid MAX_SAFE_INTEGER) cs ≡ false → valid_only MAX_SAFE_INTEGER (cs ++ ds) ≡ None
@@ -42,57 +42,57 @@ valid-both cs ds h = rw (list_all-append (is_valid MAX_SAFE_INTEGER) cs ds, h) (
   | inr bad ↦ rw bad refl
 ])
 
-pub lower-invalid : (include : Bool) (text : List ℕ) (e : Ended × Ended) (all : Option (Span VersionValue))
-    → hyphen_of MAX_SAFE_INTEGER include text ≡ Some e → NarrowedBy include all (hyphen_lower include e.0.0 e.0.1) None
-    → IsFound include (valid_hyphen include text) None
-lower-invalid include text e all h n =
-    let none : valid_hyphen include text ≡ None =
-    hyphen-read include text ∙ rw h (none-left (hyphen_lower include e.0.0 e.0.1) (hyphen_upper include e.1.0 e.1.1) n) in
+pub lower-invalid : (loose : Bool) (include : Bool) (text : List ℕ) (e : Ended × Ended) (all : Option (Span VersionValue))
+    → hyphen_of loose MAX_SAFE_INTEGER include text ≡ Some e → NarrowedBy include all (hyphen_lower include e.0.0 e.0.1) None
+    → IsFound include (valid_hyphen loose include text) None
+lower-invalid loose include text e all h n =
+    let none : valid_hyphen loose include text ≡ None =
+    hyphen-read loose include text ∙ rw h (none-left (hyphen_lower include e.0.0 e.0.1) (hyphen_upper include e.1.0 e.1.1) n) in
     rw none tt
 
-pub upper-read : (include : Bool) (text : List ℕ) (e : Ended × Ended) (all : Option (Span VersionValue)) (a : Alternative) (r : Option Alternative)
-    → hyphen_of MAX_SAFE_INTEGER include text ≡ Some e → IsNarrowed include [] all
+pub upper-read : (loose : Bool) (include : Bool) (text : List ℕ) (e : Ended × Ended) (all : Option (Span VersionValue)) (a : Alternative) (r : Option Alternative)
+    → hyphen_of loose MAX_SAFE_INTEGER include text ≡ Some e → IsNarrowed include [] all
     → NarrowedBy include all (hyphen_lower include e.0.0 e.0.1) (Some a)
-    → NarrowedBy include a.interval (hyphen_upper include e.1.0 e.1.1) r → IsFound include (valid_hyphen include text) r
-upper-read include text e all a None h first n m =
+    → NarrowedBy include a.interval (hyphen_upper include e.1.0 e.1.1) r → IsFound include (valid_hyphen loose include text) r
+upper-read loose include text e all a None h first n m =
     let ds = hyphen_upper include e.1.0 e.1.1 in
-    let none : valid_hyphen include text ≡ None =
-    hyphen-read include text ∙ rw h (valid-both (hyphen_lower include e.0.0 e.0.1) ds n.0 ∙ rw m refl) in
+    let none : valid_hyphen loose include text ≡ None =
+    hyphen-read loose include text ∙ rw h (valid-both (hyphen_lower include e.0.0 e.0.1) ds n.0 ∙ rw m refl) in
     rw none tt
-upper-read include text e all a (Some b) h first n m =
+upper-read loose include text e all a (Some b) h first n m =
     let cs = hyphen_lower include e.0.0 e.0.1 in
     let ds = hyphen_upper include e.1.0 e.1.1 in
-    let some : valid_hyphen include text ≡ Some (cs ++ ds) = hyphen-read include text ∙ rw h (valid-both cs ds n.0 ∙ rw m.0 refl) in
+    let some : valid_hyphen loose include text ≡ Some (cs ++ ds) = hyphen-read loose include text ∙ rw h (valid-both cs ds n.0 ∙ rw m.0 refl) in
     rw some (m.1 cs (n.1 [] first))
 
 -- ---- alternatives
 
-pub no-text : (include : Bool) (all : Alternative) → IsNarrowed include [] all.interval → IsFound include (valid_alternative include []) (Some all)
+pub no-text : (loose : Bool) (include : Bool) (all : Alternative) → IsNarrowed include [] all.interval → IsFound include (valid_alternative loose include []) (Some all)
 unfolding valid_alternative alternative_of
-no-text include all h = h
+no-text loose include all h = h
 
 -- the words of an alternative
-words-are : (include : Bool) (text : List ℕ) (cs : List Comparison) → 0 < length text → words_of include text ≡ Some cs
-    → valid_alternative include text ≡ Some cs
+words-are : (loose : Bool) (include : Bool) (text : List ℕ) (cs : List Comparison) → 0 < length text → words_of loose include text ≡ Some cs
+    → valid_alternative loose include text ≡ Some cs
 unfolding valid_alternative alternative_of
-words-are include [] cs some h = absurd (omega (arith, some))
-words-are include (b ∷ text) cs some h =
-    let read = sym (words-valid MAX_SAFE_INTEGER include (length (b ∷ text)) (b ∷ text)) ∙ h in
-    let w = bind_some (words_within include (length (b ∷ text)) (b ∷ text)) (λ cs. valid_only MAX_SAFE_INTEGER cs) cs read in
+words-are loose include [] cs some h = absurd (omega (arith, some))
+words-are loose include (b ∷ text) cs some h =
+    let read = sym (words-valid loose MAX_SAFE_INTEGER include (length (b ∷ text)) (b ∷ text)) ∙ h in
+    let w = bind_some (words_within loose include (length (b ∷ text)) (b ∷ text)) (λ cs. valid_only MAX_SAFE_INTEGER cs) cs read in
     rw w.1 w.2
 
 -- a text that is no words
-hyphen-is : (include : Bool) (text : List ℕ) → IsUtf8 text → 0 < length text → words_of include text ≡ None
-    → valid_alternative include text ≡ valid_hyphen include text
+hyphen-is : (loose : Bool) (include : Bool) (text : List ℕ) → IsUtf8 text → 0 < length text → words_of loose include text ≡ None
+    → valid_alternative loose include text ≡ valid_hyphen loose include text
 unfolding valid_alternative valid_hyphen alternative_of
-hyphen-is include [] u some h = absurd (omega (arith, some))
-hyphen-is include (b ∷ text) u some h = elim (option-cases (hyphen_ends include (b ∷ text))) [
+hyphen-is loose include [] u some h = absurd (omega (arith, some))
+hyphen-is loose include (b ∷ text) u some h = elim (option-cases (hyphen_ends loose include (b ∷ text))) [
   | inr e ↦
-      let is = alternative-read include (b ∷ text) (hyphen_comparisons include e.0) u (hyphen-found include (b ∷ text) e.0 u e.1) in
+      let is = alternative-read loose include (b ∷ text) (hyphen_comparisons include e.0) u (hyphen-found loose include (b ∷ text) e.0 u e.1) in
       rw (is, e.1) refl
   | inl none ↦
-      let invalid = sym (words-valid MAX_SAFE_INTEGER include (length (b ∷ text)) (b ∷ text)) ∙ h in
-      rw none (or-none (words_within include (length (b ∷ text)) (b ∷ text)) invalid)
+      let invalid = sym (words-valid loose MAX_SAFE_INTEGER include (length (b ∷ text)) (b ∷ text)) ∙ h in
+      rw none (or-none (words_within loose include (length (b ∷ text)) (b ∷ text)) invalid)
 ]
   where
     or-none : (o : Option (List Comparison)) → (o >>? λ cs. valid_only MAX_SAFE_INTEGER cs) ≡ None
@@ -100,19 +100,19 @@ hyphen-is include (b ∷ text) u some h = elim (option-cases (hyphen_ends includ
     or-none None h = refl
     or-none (Some cs) h = h
 
-pub words-found : (include : Bool) (text : List ℕ) (a : Alternative) → 0 < length text → IsFound include (words_of include text) (Some a)
-    → IsFound include (valid_alternative include text) (Some a)
-words-found include text a some h = go (words_of include text) refl h
+pub words-found : (loose : Bool) (include : Bool) (text : List ℕ) (a : Alternative) → 0 < length text → IsFound include (words_of loose include text) (Some a)
+    → IsFound include (valid_alternative loose include text) (Some a)
+words-found loose include text a some h = go (words_of loose include text) refl h
   where
-    go : (o : Option (List Comparison)) → words_of include text ≡ o → IsFound include o (Some a) → IsFound include (valid_alternative include text) (Some a)
+    go : (o : Option (List Comparison)) → words_of loose include text ≡ o → IsFound include o (Some a) → IsFound include (valid_alternative loose include text) (Some a)
     go None e k = absurd k
-    go (Some cs) e k = rw (words-are include text cs some e) k
+    go (Some cs) e k = rw (words-are loose include text cs some e) k
 
-pub no-words : (include : Bool) (text : List ℕ) (r : Option Alternative) → IsUtf8 text → 0 < length text
-    → IsFound include (words_of include text) None → IsFound include (valid_hyphen include text) r
-    → IsFound include (valid_alternative include text) r
-no-words include text r u some h k = go (words_of include text) refl h
+pub no-words : (loose : Bool) (include : Bool) (text : List ℕ) (r : Option Alternative) → IsUtf8 text → 0 < length text
+    → IsFound include (words_of loose include text) None → IsFound include (valid_hyphen loose include text) r
+    → IsFound include (valid_alternative loose include text) r
+no-words loose include text r u some h k = go (words_of loose include text) refl h
   where
-    go : (o : Option (List Comparison)) → words_of include text ≡ o → IsFound include o None → IsFound include (valid_alternative include text) r
-    go None e l = rw (hyphen-is include text u some e) k
+    go : (o : Option (List Comparison)) → words_of loose include text ≡ o → IsFound include o None → IsFound include (valid_alternative loose include text) r
+    go None e l = rw (hyphen-is loose include text u some e) k
     go (Some cs) e l = absurd l

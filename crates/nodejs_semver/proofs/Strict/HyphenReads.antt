@@ -58,18 +58,18 @@ end-limited limit free text behind (Some p) =
       | inr bad ↦ elim (cases_Bool (is_small limit p.0)) [ inl small ↦ rw (bad, small, bad) refl | inr big ↦ rw (bad, big) refl ]
     ]
 
-pub end_here : (free : Partial → Bool) (text behind : List ℕ) (o : Front Partial) → behind ≡ drop_ends text
-    → o ≡ counted_front MAX_SAFE_INTEGER behind
-    → (o >>? λ p. ended_end free text behind p) ≡ limited_end MAX_SAFE_INTEGER (end_front free text)
+pub end_here : (loose : Bool) (free : Partial → Bool) (text behind : List ℕ) (o : Front Partial) → behind ≡ drop_ends text
+    → o ≡ counted_front loose MAX_SAFE_INTEGER behind
+    → (o >>? λ p. ended_end free text behind p) ≡ limited_end MAX_SAFE_INTEGER (end_front loose free text)
 unfolding end_front
-end_here free text behind o e read =
-    rw (read ∙ counted_limited MAX_SAFE_INTEGER behind, e) (sym (end-limited MAX_SAFE_INTEGER free text (drop_ends text) (partial_front (drop_ends text))))
+end_here loose free text behind o e read =
+    rw (read ∙ counted_limited loose MAX_SAFE_INTEGER behind, e) (sym (end-limited MAX_SAFE_INTEGER free text (drop_ends text) (partial_front loose (drop_ends text))))
 
 -- the same of one partial, of which it is known whether any marks may stand before it
-pub end_some : (free : Partial → Bool) (any_marks : Bool) (text behind : List ℕ) (p : Partial) (rest : List ℕ) → behind ≡ drop_ends text
-    → Some (p, rest) ≡ counted_front MAX_SAFE_INTEGER behind → any_marks ≡ free p
-    → ended_end (λ q. any_marks) text behind (p, rest) ≡ limited_end MAX_SAFE_INTEGER (end_front free text)
-end_some free any_marks text behind p rest e read same = rw same (end_here free text behind (Some (p, rest)) e read)
+pub end_some : (loose : Bool) (free : Partial → Bool) (any_marks : Bool) (text behind : List ℕ) (p : Partial) (rest : List ℕ) → behind ≡ drop_ends text
+    → Some (p, rest) ≡ counted_front loose MAX_SAFE_INTEGER behind → any_marks ≡ free p
+    → ended_end (λ q. any_marks) text behind (p, rest) ≡ limited_end MAX_SAFE_INTEGER (end_front loose free text)
+end_some loose free any_marks text behind p rest e read same = rw same (end_here loose free text behind (Some (p, rest)) e read)
 
 -- ---- a hyphen range
 
@@ -95,26 +95,26 @@ lower-big : (limit : ℕ) (a : Ended) (o : Option Ended) → is_small limit a.0 
 lower-big limit a None h = refl
 lower-big limit a (Some b) h = rw h refl
 
-pub hyphen_limited : (limit : ℕ) (include : Bool) (text : List ℕ) → hyphen_of limit include text ≡ limited_hyphen limit (hyphen_ends include text)
+pub hyphen_limited : (loose : Bool) (limit : ℕ) (include : Bool) (text : List ℕ) → hyphen_of loose limit include text ≡ limited_hyphen limit (hyphen_ends loose include text)
 unfolding hyphen_ends
-hyphen_limited limit include text = go (end_front is_free_lower text)
+hyphen_limited loose limit include text = go (end_front loose is_free_lower text)
   where
     behind : (a : Ended) (o : Option (List ℕ)) → is_small limit a.0 ≡ true
-        → (o >>? λ second. last_limited limit include second >>? λ b. pair a b)
-        ≡ limited_hyphen limit (o >>? λ second. last_end (is_free_upper include) second >>? λ b. pair a b)
+        → (o >>? λ second. last_limited loose limit include second >>? λ b. pair a b)
+        ≡ limited_hyphen limit (o >>? λ second. last_end loose (is_free_upper include) second >>? λ b. pair a b)
     behind a None h = refl
     behind a (Some second) h =
-        last-limited limit (is_free_upper include) a second (end_front (is_free_upper include) second)
-        ∙ lower-small limit a (last_end (is_free_upper include) second) h
+        last-limited limit (is_free_upper include) a second (end_front loose (is_free_upper include) second)
+        ∙ lower-small limit a (last_end loose (is_free_upper include) second) h
 
     big : (a : Ended) (o : Option (List ℕ)) → is_small limit a.0 ≡ false
-        → None ≡ limited_hyphen limit (o >>? λ second. last_end (is_free_upper include) second >>? λ b. pair a b)
+        → None ≡ limited_hyphen limit (o >>? λ second. last_end loose (is_free_upper include) second >>? λ b. pair a b)
     big a None h = refl
-    big a (Some second) h = lower-big limit a (last_end (is_free_upper include) second) h
+    big a (Some second) h = lower-big limit a (last_end loose (is_free_upper include) second) h
 
     go : (o : Front Ended)
-        → (limited_end limit o >>? λ a. after_dash a.1 >>? λ second. last_limited limit include second >>? λ b. pair a.0 b)
-        ≡ limited_hyphen limit (o >>? λ a. after_dash a.1 >>? λ second. last_end (is_free_upper include) second >>? λ b. pair a.0 b)
+        → (limited_end limit o >>? λ a. after_dash a.1 >>? λ second. last_limited loose limit include second >>? λ b. pair a.0 b)
+        ≡ limited_hyphen limit (o >>? λ a. after_dash a.1 >>? λ second. last_end loose (is_free_upper include) second >>? λ b. pair a.0 b)
     go None = refl
     go (Some a) = elim (cases_Bool (is_small limit a.0.0)) [
       | inl small ↦ rw small (behind a.0 (after_dash a.1) small)

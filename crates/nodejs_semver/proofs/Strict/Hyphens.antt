@@ -129,7 +129,7 @@ ends-from (c ∷ cs) text u e =
 pub ends-found : (text : List ℕ) → IsUtf8 text → EndsAt text
 ends-found text u = ends-from u.0 text u u.1.1
 
-ends-read : (cs u : List ℕ) → list_all is_end cs ≡ true → begins is_mark u ≡ false → space_len u ≡ 0 → drop_ends (encode_utf8_all cs ++ u) ≡ u
+pub ends-read : (cs u : List ℕ) → list_all is_end cs ≡ true → begins is_mark u ≡ false → space_len u ≡ 0 → drop_ends (encode_utf8_all cs ++ u) ≡ u
 ends-read [] u h other dark = ends-none u other dark
 ends-read (c ∷ cs) u h other dark =
     let each = and_parts (is_end c) (list_all is_end cs) h in
@@ -174,38 +174,38 @@ pub marks-one : (free : Bool) (a : List ℕ) → AreEndMarks free a → (free ||
 marks-one true a h = refl
 marks-one false a h = rw h.spelled (one-bytes h.characters h.one)
 
-pub end-read : (free : Partial → Bool) (a x rest : List ℕ) (p : Partial) → AreEndMarks (free p) a → IsPartial x p
-    → begins is_solid rest ≡ false → end_front free (a ++ (x ++ rest)) ≡ Some ((p, a ++ x), rest)
+pub end-read : (loose : Bool) (free : Partial → Bool) (a x rest : List ℕ) (p : Partial) → AreEndMarks (free p) a → IsPartial loose x p
+    → begins is_solid rest ≡ false → end_front loose free (a ++ (x ++ rest)) ≡ Some ((p, a ++ x), rest)
 unfolding end_front
-end-read free a x rest p h k quiet =
+end-read loose free a x rest p h k quiet =
     let u = x ++ rest in
-    let passed = marks-passed (free p) a u h (partial-begins x rest p k) in
+    let passed = marks-passed (free p) a u h (partial-begins loose x rest p k) in
     let text : take (length (a ++ u) - length rest) (a ++ u) ≡ a ++ x =
     rw (append_assoc a x rest) at (front-text (a ++ x) rest) in
-    rw (passed, partial-read x rest p k quiet, front-text a u, marks-one (free p) a h, text) refl
+    rw (passed, partial-read loose x rest p k quiet, front-text a u, marks-one (free p) a h, text) refl
 
 -- ---- an end: what is read is written
 
-pub record EndAt (free : Bool) (text : List ℕ) (p : Partial) (taken rest : List ℕ) : Type 0 where
+pub record EndAt (loose : Bool) (free : Bool) (text : List ℕ) (p : Partial) (taken rest : List ℕ) : Type 0 where
   pub marks : List ℕ
   pub piece : List ℕ
   pub split : text ≡ marks ++ (piece ++ rest)
   pub are : AreEndMarks free marks
-  pub is : IsPartial piece p
+  pub is : IsPartial loose piece p
   pub text_is : taken ≡ marks ++ piece
 
-pub end-found : (free : Partial → Bool) (text : List ℕ) (e : Ended × List ℕ) → IsUtf8 text → end_front free text ≡ Some e
-    → EndAt (free e.0.0) text e.0.0 e.0.1 e.1
+pub end-found : (loose : Bool) (free : Partial → Bool) (text : List ℕ) (e : Ended × List ℕ) → IsUtf8 text → end_front loose free text ≡ Some e
+    → EndAt loose (free e.0.0) text e.0.0 e.0.1 e.1
 unfolding end_front
-end-found free text e u h =
+end-found loose free text e u h =
     let ends = ends-found text u in
     let behind = drop_ends text in
     let marks = encode_utf8_all ends.characters in
-    let p = bind_some (partial_front behind) (λ p. ended_end free text behind p) e h in
+    let p = bind_some (partial_front loose behind) (λ p. ended_end free text behind p) e h in
     let front = take (length text - length behind) text in
     let taken = take (length text - length p.0.1) text in
     let t = cond_some (free p.0.0 || is_one_v front) ((p.0.0, taken), p.0.1) e p.2 in
-    let part = partial-found behind p.0.0 p.0.1 p.1 in
+    let part = partial-found loose behind p.0.0 p.0.1 p.1 in
     let whole : text ≡ marks ++ (part.piece ++ p.0.1) = ends.split ∙ ap (λ (t : List ℕ). marks ++ t) part.split in
     let front_is : front ≡ marks =
     ap (λ (t : List ℕ). take (length t - length behind) t) ends.split ∙ front-text marks behind in
@@ -215,9 +215,9 @@ end-found free text e u h =
     let one : (free p.0.0 || is_one_v ends.characters) ≡ true =
     characters-one (free p.0.0) ends.characters (subst (λ (x : List ℕ). (free p.0.0 || is_one_v x) ≡ true) front_is t.0) in
     let are : AreEndMarks (free p.0.0) marks = record { characters = ends.characters; spelled = refl; each = ends.each; one = one } in
-    let found : EndAt (free p.0.0) text p.0.0 taken p.0.1 =
+    let found : EndAt loose (free p.0.0) text p.0.0 taken p.0.1 =
     record { marks = marks; piece = part.piece; split = whole; are = are; is = part.is; text_is = taken_is } in
-    subst (λ (q : Ended × List ℕ). EndAt (free q.0.0) text q.0.0 q.0.1 q.1) t.1 found
+    subst (λ (q : Ended × List ℕ). EndAt loose (free q.0.0) text q.0.0 q.0.1 q.1) t.1 found
   where
     characters-one : (free : Bool) (cs : List ℕ) → (free || is_one_v (encode_utf8_all cs)) ≡ true → (free || is_one_v cs) ≡ true
     characters-one true cs h = refl
@@ -268,29 +268,29 @@ dash-found text second u h =
 
 -- ---- hyphen ranges
 
-put-together : (include : Bool) (text all : List ℕ) (p q : Partial) (t u v w : List ℕ) → text ≡ all → t ≡ v → u ≡ w
-    → IsAlternative include all (hyphen_lower include p v ++ hyphen_upper include q w)
-    → IsAlternative include text (hyphen_lower include p t ++ hyphen_upper include q u)
-put-together include text all p q t u v w e f g is = rw (e, f, g) is
+put-together : (loose : Bool) (include : Bool) (text all : List ℕ) (p q : Partial) (t u v w : List ℕ) → text ≡ all → t ≡ v → u ≡ w
+    → IsAlternative loose include all (hyphen_lower include p v ++ hyphen_upper include q w)
+    → IsAlternative loose include text (hyphen_lower include p t ++ hyphen_upper include q u)
+put-together loose include text all p q t u v w e f g is = rw (e, f, g) is
 
-pub hyphen-found : (include : Bool) (text : List ℕ) (e : Ended × Ended) → IsUtf8 text → hyphen_ends include text ≡ Some e
-    → IsAlternative include text (hyphen_comparisons include e)
+pub hyphen-found : (loose : Bool) (include : Bool) (text : List ℕ) (e : Ended × Ended) → IsUtf8 text → hyphen_ends loose include text ≡ Some e
+    → IsAlternative loose include text (hyphen_comparisons include e)
 unfolding hyphen_ends
-hyphen-found include text e u h =
+hyphen-found loose include text e u h =
     let free = is_free_upper include in
-    let a = bind_some (end_front is_free_lower text) _ e h in
+    let a = bind_some (end_front loose is_free_lower text) _ e h in
     let second = bind_some (after_dash a.0.1) _ e a.2 in
-    let b = bind_some (last_end free second.0) (λ b. Some (a.0.0, b)) e second.2 in
-    let l = bind_some (end_front free second.0) _ b.0 b.1 in
+    let b = bind_some (last_end loose free second.0) (λ b. Some (a.0.0, b)) e second.2 in
+    let l = bind_some (end_front loose free second.0) _ b.0 b.1 in
     let ended = cond_some (is_empty l.0.1) l.0.0 b.0 l.2 in
-    let lower = end-found is_free_lower text a.0 u a.1 in
+    let lower = end-found loose is_free_lower text a.0 u a.1 in
     let space = bind_some (after_some_space a.0.1) _ second.0 second.1 in
     let boundary = space-boundary a.0.1 (space-taken a.0.1 space.0 space.1).0 in
     let front = lower.marks ++ lower.piece in
     let whole : text ≡ front ++ a.0.1 = lower.split ∙ sym (append_assoc lower.marks lower.piece a.0.1) in
     let v = rest-utf8 front a.0.1 (subst (λ (t : List ℕ). IsUtf8 t) whole u) boundary in
     let dash = dash-found a.0.1 second.0 v second.1 in
-    let upper = end-found free second.0 l.0 dash.utf8 l.1 in
+    let upper = end-found loose free second.0 l.0 dash.utf8 l.1 in
     let none = empty-is l.0.1 ended.0 in
     let last : second.0 ≡ upper.marks ++ upper.piece =
     upper.split ∙ ap (λ (t : List ℕ). upper.marks ++ (upper.piece ++ t)) none ∙ ap (λ (t : List ℕ). upper.marks ++ t) (append-nil upper.piece) in
@@ -300,9 +300,9 @@ hyphen-found include text e u h =
     lower.split ∙ ap (λ (t : List ℕ). lower.marks ++ (lower.piece ++ t))
     (dash.split ∙ ap (λ (t : List ℕ). dash.blank ++ (45 ∷ (dash.gap ++ t))) last) in
     let both : (a.0.0, l.0.0) ≡ e = ap (λ (x : Ended). (a.0.0, x)) ended.1 ∙ same_Some _ _ b.2 in
-    let found : IsAlternative include text (hyphen_comparisons include (a.0.0, l.0.0)) =
-    put-together include text _ a.0.0.0 l.0.0.0 a.0.0.1 l.0.0.1 front (upper.marks ++ upper.piece) text_is lower.text_is upper.text_is is in
-    subst (λ (q : Ended × Ended). IsAlternative include text (hyphen_comparisons include q)) both found
+    let found : IsAlternative loose include text (hyphen_comparisons include (a.0.0, l.0.0)) =
+    put-together loose include text _ a.0.0.0 l.0.0.0 a.0.0.1 l.0.0.1 front (upper.marks ++ upper.piece) text_is lower.text_is upper.text_is is in
+    subst (λ (q : Ended × Ended). IsAlternative loose include text (hyphen_comparisons include q)) both found
 
 -- ---- one `v` at most is no whitespace
 

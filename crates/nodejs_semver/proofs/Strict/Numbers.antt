@@ -7,7 +7,7 @@ use Rattle.std.proofs.lemmas.List.{take_rest}
 use Rattle.std.specs.List.{list_all}
 use Rattle.semver_core.specs.Text.Characters.{begins, IsPieceAt, NoPieceAt}
 use Rattle.semver_core.specs.Text.Numbers.{IsWholeNumber}
-use Rattle.nodejs_semver.specs.Internal.Fronts.{Front}
+use Rattle.nodejs_semver.specs.Internal.Fronts.{Front, number_front}
 use Rattle.nodejs_semver.specs.Internal.NpmReadings.{begins_padded, dotted_number, strict_number}
 use Rattle.nodejs_semver.specs.Npm.Grammar.{IsStrictNumber, has_leading_zero}
 use Rattle.nodejs_semver.proofs.Reading.Numbers.{front_none, front_some, number-found, number-read}
@@ -33,6 +33,17 @@ unfolding strict_number
 strict_some limit text n end h piece = rw (h, take_rest text end) (front_some limit text n end piece)
 
 pub ruleset numbers_found = (strict_padded, strict_none, strict_some)
+
+-- the same with leading zeros
+pub front_missing : (limit : ℕ) (text : List ℕ) → ((n : ℕ) → NoPieceAt (λ digits rest. IsWholeNumber limit digits rest n) text 0)
+    → number_front limit text ≡ None
+front_missing limit text none = front_none limit text none
+
+pub front_there : (limit : ℕ) (text : List ℕ) (n end : ℕ) → IsPieceAt (λ digits rest. IsWholeNumber limit digits rest n) text 0 end
+    → number_front limit text ≡ found n (take (length text - end) (drop end text))
+front_there limit text n end piece = rw (take_rest text end) (front_some limit text n end piece)
+
+pub ruleset numbers_in = (front_missing, front_there)
 
 -- ---- a number is written where one is read, and read where one is written
 

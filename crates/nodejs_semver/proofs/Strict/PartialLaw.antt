@@ -1,20 +1,20 @@
 -- Partial versions of node-semver's range texts: the function that reads them finds exactly what the statement has.
-use Rattle.nodejs_semver.proofs.Common.{◌≡◌, ℕ, List, [], ◌∷◌, ◌++◌, drop, refl, sym, ap, ◌∙◌, arith, true, false, Some, None, Option, inl, inr}
+use Rattle.nodejs_semver.proofs.Common.{Bool, ◌≡◌, ℕ, List, [], ◌∷◌, ◌++◌, drop, refl, sym, ap, ◌∙◌, arith, true, false, Some, None, Option, inl, inr}
 use Rattle.nodejs_semver.proofs.Common.{◌&&◌, and_parts, cases_Bool, nat_tests, append_assoc, begins, bind_some, is_ascii_digit, list_all, same_Some}
 use Rattle.nodejs_semver.proofs.Common.{subst, Id}
 use Rattle.semver_core.specs.Text.Identifiers.{goes_on, listed, pieces}
 use Rattle.semver_core.proofs.Text.Runs.{list_len_stop}
 use Rattle.nodejs_semver.specs.Internal.Fronts.{Front, begins_byte, build_front}
-use Rattle.nodejs_semver.specs.Internal.NpmReadings.{dashed_front, is_strict_list}
+use Rattle.nodejs_semver.specs.Internal.NpmWords.{pre_front}
 use Rattle.nodejs_semver.specs.Internal.NpmWords.{are_short_builds, are_short_identifiers, dotted_place, partial_front, place_front}
 use Rattle.nodejs_semver.specs.Internal.NpmWords.{qualified_partial, second_front, third_front}
 use Rattle.nodejs_semver.specs.Internal.Words.{is_boundary}
-use Rattle.nodejs_semver.specs.Npm.Grammar.{IsStrictBuild, IsStrictPreRelease}
-use Rattle.nodejs_semver.specs.Npm.RangeText.{IsPartial, IsPlace, is_short_build, is_short_identifier, one, partial_of, three, two}
+use Rattle.nodejs_semver.specs.Npm.Grammar.{IsStrictBuild}
+use Rattle.nodejs_semver.specs.Npm.RangeText.{IsPartial, IsPlace, IsPreRelease, are_spelled, begins_letter, is_short_build, is_short_identifier, one, partial_of, three, two, undashed}
 use Rattle.nodejs_semver.specs.Npm.Table.{Partial}
 use Rattle.nodejs_semver.proofs.Reading.Bytes.{is_solid, solid-dark}
 use Rattle.nodejs_semver.proofs.Strict.Places.{dotted_place-found, dotted_place-read, place-found, place-read}
-use Rattle.nodejs_semver.proofs.Strict.Qualifiers.{Ends, build-found, build-taken, dashed-found, dashed-taken, quiet-behind}
+use Rattle.nodejs_semver.proofs.Strict.Qualifiers.{Ends, build-found, build-taken, pre-found, pre-quiet, pre-taken}
 
 -- ---- nothing goes on at a boundary
 
@@ -33,6 +33,9 @@ quiet-on (b ∷ rest) h = grind (arith, nat_tests)
 quiet-digit : (more : List ℕ) → begins is_solid more ≡ false → begins is_ascii_digit more ≡ false
 quiet-digit more h = grind (arith, nat_tests)
 
+quiet-letter : (more : List ℕ) → begins is_solid more ≡ false → begins_letter more ≡ false
+quiet-letter more h = grind (arith, nat_tests)
+
 quiet-byte : (c : ℕ) (more : List ℕ) → is_solid c ≡ true → begins is_solid more ≡ false → begins_byte c more ≡ false
 quiet-byte c more s h = grind (arith, nat_tests)
 
@@ -42,76 +45,77 @@ quiet-ends more h = record {
   dash = quiet-byte 45 more refl h;
   plus = quiet-byte 43 more refl h;
   digit = quiet-digit more h;
+  letter = quiet-letter more h;
 }
 
-quiet-dot : (more : List ℕ) → begins is_solid more ≡ false → dotted_place more ≡ None
+quiet-dot : (loose : Bool) (more : List ℕ) → begins is_solid more ≡ false → dotted_place loose more ≡ None
 unfolding dotted_place
-quiet-dot [] h = refl
-quiet-dot (b ∷ rest) h = rw (quiet-byte 46 (b ∷ rest) refl h) refl
+quiet-dot loose [] h = refl
+quiet-dot loose (b ∷ rest) h = rw (quiet-byte 46 (b ∷ rest) refl h) refl
 
 -- ---- what is written is read
 
-qualified-read : (a b c : Option ℕ) (pre build more : List ℕ) (l m : List Id) → IsStrictPreRelease pre l
-    → list_all is_short_identifier (pieces (drop 1 pre)) ≡ true → IsStrictBuild build m
+qualified-read : (loose : Bool) (a b c : Option ℕ) (pre build more : List ℕ) (l m : List Id) → IsPreRelease loose pre l
+    → list_all is_short_identifier (pieces (undashed pre)) ≡ true → IsStrictBuild build m
     → list_all is_short_build (pieces (drop 1 build)) ≡ true → Ends more
-    → qualified_partial a b c (pre ++ (build ++ more)) ≡ Some (partial_of a b c l m, more)
+    → qualified_partial loose a b c (pre ++ (build ++ more)) ≡ Some (partial_of a b c l m, more)
 unfolding qualified_partial
-qualified-read a b c pre build more l m h s k t e =
-    let front = dashed-taken pre build more l m h k e in
+qualified-read loose a b c pre build more l m h s k t e =
+    let front = pre-taken loose pre build more l m h k e in
     let last = build-taken build more m k e in
     rw (front.0, last.0, front.2, s, t, front.1, last.1) refl
 
-pub partial-read : (x more : List ℕ) (p : Partial) → IsPartial x p → begins is_solid more ≡ false
-    → partial_front (x ++ more) ≡ Some (p, more)
+pub partial-read : (loose : Bool) (x more : List ℕ) (p : Partial) → IsPartial loose x p → begins is_solid more ≡ false
+    → partial_front loose (x ++ more) ≡ Some (p, more)
 unfolding partial_front
-partial-read x more p (one x1 a h) quiet = rw (place-read x more a h (quiet-digit more quiet), quiet-dot more quiet) refl
-partial-read x more p (two x1 y a b h k) quiet =
+partial-read loose x more p (one x1 a h) quiet = rw (place-read loose x more a h (quiet-digit more quiet), quiet-dot loose more quiet) refl
+partial-read loose x more p (two x1 y a b h k) quiet =
     rw (
       append_assoc x1 (46 ∷ y) more,
-      place-read x1 (46 ∷ (y ++ more)) a h refl,
-      dotted_place-read y more b k (quiet-digit more quiet),
-      quiet-dot more quiet,
+      place-read loose x1 (46 ∷ (y ++ more)) a h refl,
+      dotted_place-read loose y more b k (quiet-digit more quiet),
+      quiet-dot loose more quiet,
     ) refl
-partial-read x more p (three x1 y z pre build a b c ids builds h k l m s n t) quiet =
+partial-read loose x more p (three x1 y z pre build a b c ids builds h k l m s n t) quiet =
     let ends = quiet-ends more quiet in
     let behind = pre ++ (build ++ more) in
     let last = z ++ behind in
     let whole : (x1 ++ 46 ∷ (y ++ 46 ∷ (z ++ (pre ++ build)))) ++ more ≡ x1 ++ (46 ∷ (y ++ (46 ∷ last))) = simp append_assoc refl in
     rw (
       whole,
-      place-read x1 (46 ∷ (y ++ (46 ∷ last))) a h refl,
-      dotted_place-read y (46 ∷ last) b k refl,
-      dotted_place-read z behind c l (quiet-behind pre build more ids builds m n ends),
-      qualified-read a b c pre build more ids builds m s n t ends,
+      place-read loose x1 (46 ∷ (y ++ (46 ∷ last))) a h refl,
+      dotted_place-read loose y (46 ∷ last) b k refl,
+      dotted_place-read loose z behind c l (pre-quiet loose pre build more ids builds m n ends),
+      qualified-read loose a b c pre build more ids builds m s n t ends,
     ) refl
 
 -- ---- what is read is written
 
-record QualifiedAt (a b c : Option ℕ) (text : List ℕ) (p : Partial) (rest : List ℕ) : Type 0 where
+record QualifiedAt (loose : Bool) (a b c : Option ℕ) (text : List ℕ) (p : Partial) (rest : List ℕ) : Type 0 where
   pre : List ℕ
   build : List ℕ
   ids : List Id
   builds : List Id
   split : text ≡ pre ++ (build ++ rest)
-  pre_is : IsStrictPreRelease pre ids
-  pre_short : list_all is_short_identifier (pieces (drop 1 pre)) ≡ true
+  pre_is : IsPreRelease loose pre ids
+  pre_short : list_all is_short_identifier (pieces (undashed pre)) ≡ true
   build_is : IsStrictBuild build builds
   build_short : list_all is_short_build (pieces (drop 1 build)) ≡ true
   same : partial_of a b c ids builds ≡ p
 
-qualified-found : (a b c : Option ℕ) (text : List ℕ) (p : Partial) (rest : List ℕ) → qualified_partial a b c text ≡ Some (p, rest)
-    → QualifiedAt a b c text p rest
+qualified-found : (loose : Bool) (a b c : Option ℕ) (text : List ℕ) (p : Partial) (rest : List ℕ) → qualified_partial loose a b c text ≡ Some (p, rest)
+    → QualifiedAt loose a b c text p rest
 unfolding qualified_partial
-qualified-found a b c text p rest h =
-    let front = dashed_front text in
+qualified-found loose a b c text p rest h =
+    let front = pre_front loose text in
     let last = build_front front.1 in
     let test = are_short_identifiers front.0 && are_short_builds last.0 in
-    elim (cases_Bool (is_strict_list front.0 && test)) [
+    elim (cases_Bool (are_spelled loose front.0 && test)) [
       | inr other ↦ cc (rw other at h)
       | inl good ↦
-          let parts = and_parts (is_strict_list front.0) test good in
+          let parts = and_parts (are_spelled loose front.0) test good in
           let shorts = and_parts (are_short_identifiers front.0) (are_short_builds last.0) parts.1 in
-          let f = dashed-found text parts.0 in
+          let f = pre-found loose text parts.0 in
           let g = build-found front.1 in
           let e = same_Some _ _ (rw good at h) in
           record {
@@ -128,39 +132,39 @@ qualified-found a b c text p rest h =
           }
     ]
 
-pub record PartialAt (text : List ℕ) (p : Partial) (rest : List ℕ) : Type 0 where
+pub record PartialAt (loose : Bool) (text : List ℕ) (p : Partial) (rest : List ℕ) : Type 0 where
   pub piece : List ℕ
   pub split : text ≡ piece ++ rest
-  pub is : IsPartial piece p
+  pub is : IsPartial loose piece p
 
-third-found : (a b : Option ℕ) (x y behind : List ℕ) (o : Front (Option ℕ)) (p : Partial) (rest : List ℕ) → IsPlace x a → IsPlace y b
-    → dotted_place behind ≡ o → third_front a b behind o ≡ Some (p, rest) → PartialAt (x ++ (46 ∷ (y ++ behind))) p rest
-third-found a b x y behind None p rest h k e r =
+third-found : (loose : Bool) (a b : Option ℕ) (x y behind : List ℕ) (o : Front (Option ℕ)) (p : Partial) (rest : List ℕ) → IsPlace loose x a → IsPlace loose y b
+    → dotted_place loose behind ≡ o → third_front loose a b behind o ≡ Some (p, rest) → PartialAt loose (x ++ (46 ∷ (y ++ behind))) p rest
+third-found loose a b x y behind None p rest h k e r =
     let same = same_Some _ _ r in
     rw (← ap (λ (q : Partial × List ℕ). q.0) same, ← ap (λ (q : Partial × List ℕ). q.1) same)
     (record { piece = x ++ (46 ∷ y); split = sym (append_assoc x (46 ∷ y) behind); is = two x y a b h k })
-third-found a b x y behind (Some c) p rest h k e r =
-    let z = dotted_place-found behind c.0 c.1 e in
-    let q = qualified-found a b c.0 c.1 p rest r in
+third-found loose a b x y behind (Some c) p rest h k e r =
+    let z = dotted_place-found loose behind c.0 c.1 e in
+    let q = qualified-found loose a b c.0 c.1 p rest r in
     let whole : x ++ (46 ∷ (y ++ behind)) ≡ (x ++ 46 ∷ (y ++ 46 ∷ (z.0 ++ (q.pre ++ q.build)))) ++ rest =
     ap (λ (t : List ℕ). x ++ (46 ∷ (y ++ t))) (z.1 ∙ ap (λ (t : List ℕ). 46 ∷ (z.0 ++ t)) q.split) ∙ simp append_assoc refl in
     let piece = x ++ 46 ∷ (y ++ 46 ∷ (z.0 ++ (q.pre ++ q.build))) in
     let is = three x y z.0 q.pre q.build a b c.0 q.ids q.builds h k z.2 q.pre_is q.pre_short q.build_is q.build_short in
-    record { piece = piece; split = whole; is = subst (λ (o : Partial). IsPartial piece o) q.same is }
+    record { piece = piece; split = whole; is = subst (λ (o : Partial). IsPartial loose piece o) q.same is }
 
-second-found : (a : Option ℕ) (x behind : List ℕ) (o : Front (Option ℕ)) (p : Partial) (rest : List ℕ) → IsPlace x a
-    → dotted_place behind ≡ o → second_front a behind o ≡ Some (p, rest) → PartialAt (x ++ behind) p rest
-second-found a x behind None p rest h e r =
+second-found : (loose : Bool) (a : Option ℕ) (x behind : List ℕ) (o : Front (Option ℕ)) (p : Partial) (rest : List ℕ) → IsPlace loose x a
+    → dotted_place loose behind ≡ o → second_front loose a behind o ≡ Some (p, rest) → PartialAt loose (x ++ behind) p rest
+second-found loose a x behind None p rest h e r =
     let same = same_Some _ _ r in
     rw (← ap (λ (q : Partial × List ℕ). q.0) same, ← ap (λ (q : Partial × List ℕ). q.1) same)
     (record { piece = x; split = refl; is = one x a h })
-second-found a x behind (Some b) p rest h e r =
-    let y = dotted_place-found behind b.0 b.1 e in
-    rw y.1 (third-found a b.0 x y.0 b.1 (dotted_place b.1) p rest h y.2 refl r)
+second-found loose a x behind (Some b) p rest h e r =
+    let y = dotted_place-found loose behind b.0 b.1 e in
+    rw y.1 (third-found loose a b.0 x y.0 b.1 (dotted_place loose b.1) p rest h y.2 refl r)
 
-pub partial-found : (text : List ℕ) (p : Partial) (rest : List ℕ) → partial_front text ≡ Some (p, rest) → PartialAt text p rest
+pub partial-found : (loose : Bool) (text : List ℕ) (p : Partial) (rest : List ℕ) → partial_front loose text ≡ Some (p, rest) → PartialAt loose text p rest
 unfolding partial_front
-partial-found text p rest h =
-    let a = bind_some (place_front text) (λ a. second_front a.0 a.1 (dotted_place a.1)) (p, rest) h in
-    let x = place-found text a.0.0 a.0.1 a.1 in
-    rw x.split (second-found a.0.0 x.piece a.0.1 (dotted_place a.0.1) p rest x.is refl a.2)
+partial-found loose text p rest h =
+    let a = bind_some (place_front loose text) (λ a. second_front loose a.0 a.1 (dotted_place loose a.1)) (p, rest) h in
+    let x = place-found loose text a.0.0 a.0.1 a.1 in
+    rw x.split (second-found loose a.0.0 x.piece a.0.1 (dotted_place loose a.0.1) p rest x.is refl a.2)

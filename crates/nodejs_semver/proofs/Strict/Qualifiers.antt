@@ -1,14 +1,18 @@
 -- The pre-release and the build behind the numbers: what is read is written, and what is written is read.
-use Rattle.std.proofs.Common.{◌≡◌, ℕ, List, [], ◌∷◌, ◌++◌, drop, take, refl, sym, ap, ◌∙◌, arith, true, false, inl, inr}
+use Rattle.std.proofs.Common.{◌≡◌, ◌<◌, ◌&&◌, ℕ, zero, suc, Bool, length, subst, List, [], ◌∷◌, ◌++◌, drop, take, refl, sym, ap, ◌∙◌, arith, true, false, inl, inr}
 use Rattle.std.specs.Char.{is_ascii_digit}
 use Rattle.std.proofs.lemmas.Bool.{cases_Bool}
+use Rattle.std.proofs.lemmas.Bool.Decides.{nat_tests}
 use Rattle.std.proofs.lemmas.List.{take-append-drop}
 use Rattle.semver_core.specs.Text.Characters.{begins}
-use Rattle.semver_core.specs.Text.Identifiers.{Id, listed}
+use Rattle.semver_core.specs.Text.Identifiers.{Id, IsIdentifiers, listed}
 use Rattle.semver_core.specs.Internal.Reading.{list_len}
 use Rattle.nodejs_semver.specs.Internal.Fronts.{begins_byte, begins_identifier, build_front, pre_release_front}
 use Rattle.nodejs_semver.specs.Internal.NpmReadings.{dashed_front, is_strict_list}
-use Rattle.nodejs_semver.specs.Npm.Grammar.{IsStrictBuild, IsStrictPreRelease, dashed, no_build, no_pre_release, plus}
+use Rattle.nodejs_semver.specs.Internal.NpmWords.{pre_front}
+use Rattle.nodejs_semver.specs.Npm.Grammar as Grammar
+use Rattle.nodejs_semver.specs.Npm.Grammar.{IsStrictBuild, IsStrictPreRelease, no_build, plus}
+use Rattle.nodejs_semver.specs.Npm.RangeText.{IsPreRelease, are_spelled, bare, begins_letter, dashed, no_pre_release, undashed}
 use Rattle.nodejs_semver.proofs.Reading.IdentifierLists.{front-identifiers, written-begins, written-exact, written-spelled}
 
 -- ---- what is read is written
@@ -22,7 +26,7 @@ dash-found : (text y : List ℕ) → text ≡ 45 ∷ y → begins_identifier y �
 dash-found text y e some h = (
   45 ∷ take (list_len y) y,
   e ∙ ap (λ (t : List ℕ). 45 ∷ t) (sym (take-append-drop (list_len y) y)),
-  dashed (take (list_len y) y) (listed (take (list_len y) y)) (front-identifiers y some) h,
+  Grammar.dashed (take (list_len y) y) (listed (take (list_len y) y)) (front-identifiers y some) h,
   refl,
 )
 
@@ -31,9 +35,9 @@ pub dashed-found : (text : List ℕ) → is_strict_list (dashed_front text).0 �
     × (drop 1 piece ≡ (dashed_front text).0)
 unfolding dashed_front pre_release_front listed
 dashed-found text h = elim (cases_Bool (begins_byte 45 text)) [
-  | inr other ↦ rw other ([], refl, no_pre_release, refl)
+  | inr other ↦ rw other ([], refl, Grammar.no_pre_release, refl)
   | inl dash ↦ elim (cases_Bool (begins_identifier (drop 1 text))) [
-    | inr none ↦ rw (dash, none) ([], refl, no_pre_release, refl)
+    | inr none ↦ rw (dash, none) ([], refl, Grammar.no_pre_release, refl)
     | inl some ↦ rw (dash, some) (dash-found text (drop 1 text) (byte-begins 45 text dash) some (rw (dash, some) at h))
   ]
 ]
@@ -67,10 +71,11 @@ pub record Ends (rest : List ℕ) : Type 0 where
   pub dash : begins_byte 45 rest ≡ false
   pub plus : begins_byte 43 rest ≡ false
   pub digit : begins is_ascii_digit rest ≡ false
+  pub letter : begins_letter rest ≡ false
 
 pub ends-nil : Ends []
 unfolding list_len
-ends-nil = record { run = refl; dash = refl; plus = refl; digit = refl }
+ends-nil = record { run = refl; dash = refl; plus = refl; digit = refl; letter = refl }
 
 -- build metadata, or nothing, ends a list and begins with no digit
 pub build-quiet : (b more : List ℕ) (l : List Id) → IsStrictBuild b l → Ends more
@@ -81,8 +86,8 @@ build-quiet b more l (plus t list h) e = (refl, refl, refl)
 
 pub quiet-behind : (p b more : List ℕ) (l m : List Id) → IsStrictPreRelease p l → IsStrictBuild b m → Ends more
     → begins is_ascii_digit (p ++ (b ++ more)) ≡ false
-quiet-behind p b more l m no_pre_release k e = (build-quiet b more m k e).2
-quiet-behind p b more l m (dashed t list h s) k e = refl
+quiet-behind p b more l m Grammar.no_pre_release k e = (build-quiet b more m k e).2
+quiet-behind p b more l m (Grammar.dashed t list h s) k e = refl
 
 pub build-taken : (b more : List ℕ) (l : List Id) → IsStrictBuild b l → Ends more
     → (build_front (b ++ more) ≡ (drop 1 b, more)) × (listed (drop 1 b) ≡ l)
@@ -96,8 +101,136 @@ build-taken b more l (plus t list h) e =
 pub dashed-taken : (p b more : List ℕ) (l m : List Id) → IsStrictPreRelease p l → IsStrictBuild b m → Ends more
     → (dashed_front (p ++ (b ++ more)) ≡ (drop 1 p, b ++ more)) × (listed (drop 1 p) ≡ l) × (is_strict_list (drop 1 p) ≡ true)
 unfolding dashed_front pre_release_front listed
-dashed-taken p b more l m no_pre_release k e = (rw (build-quiet b more m k e).1 refl, refl, refl)
-dashed-taken p b more l m (dashed t list h s) k e =
+dashed-taken p b more l m Grammar.no_pre_release k e = (rw (build-quiet b more m k e).1 refl, refl, refl)
+dashed-taken p b more l m (Grammar.dashed t list h s) k e =
     let begins = written-begins t (b ++ more) list h in
     let exact = written-exact t (b ++ more) list h (build-quiet b more m k e).0 in
     (rw (begins, exact) refl, written-spelled t list h, s)
+
+-- ---- the pre-releases of range texts
+
+letter-first : (text : List ℕ) → begins_letter text ≡ true → (begins_byte 45 text ≡ false) × (begins_identifier text ≡ true)
+letter-first [] h = cc h
+letter-first (b ∷ text) h = (grind (arith, nat_tests), grind (arith, nat_tests))
+
+letter-digit : (text : List ℕ) → begins_letter text ≡ true → begins is_ascii_digit text ≡ false
+letter-digit [] h = cc h
+letter-digit (b ∷ text) h = grind (arith, nat_tests)
+
+letter-on : (text more : List ℕ) → begins_letter text ≡ true → begins_letter (text ++ more) ≡ true
+letter-on [] more h = cc h
+letter-on (b ∷ text) more h = h
+
+letter-take : (n : ℕ) (text : List ℕ) → begins_letter text ≡ true → 0 < length (take n text) → begins_letter (take n text) ≡ true
+letter-take n [] h some = cc h
+letter-take zero (b ∷ text) h some = absurd (omega arith)
+letter-take (suc n) (b ∷ text) h some = h
+
+some-identifiers : (text : List ℕ) (list : List Id) → IsIdentifiers text list → 0 < length text
+some-identifiers [] list h = cc h.runs
+some-identifiers (c ∷ text) list h = omega arith
+
+and-none : (b : Bool) → (b && false) ≡ false
+and-none b = grind arith
+
+spelled-nil : (loose : Bool) → are_spelled loose [] ≡ true
+spelled-nil true = refl
+spelled-nil false = refl
+
+undashed-bare : (text : List ℕ) → begins_byte 45 text ≡ false → undashed text ≡ text
+undashed-bare text h = rw h refl
+
+-- a pre-release at the front of a text, of which this is read
+abbrev PreFound : Bool → List ℕ → List ℕ → List ℕ → Type 0
+PreFound loose text read rest =
+    (piece : List ℕ) × (text ≡ piece ++ rest) × IsPreRelease loose piece (listed read) × (undashed piece ≡ read)
+
+none-found : (loose : Bool) (text : List ℕ) → PreFound loose text [] text
+unfolding listed
+none-found loose text = ([], refl, no_pre_release, refl)
+
+after-dash : (loose : Bool) (text y : List ℕ) → text ≡ 45 ∷ y → begins_identifier y ≡ true → are_spelled loose (take (list_len y) y) ≡ true
+    → PreFound loose text (take (list_len y) y) (drop (list_len y) y)
+after-dash loose text y e some h = (
+  45 ∷ take (list_len y) y,
+  e ∙ ap (λ (t : List ℕ). 45 ∷ t) (sym (take-append-drop (list_len y) y)),
+  dashed (take (list_len y) y) (listed (take (list_len y) y)) (front-identifiers y some) h,
+  refl,
+)
+
+without-dash : (text : List ℕ) → begins_letter text ≡ true → are_spelled true (take (list_len text) text) ≡ true
+    → PreFound true text (take (list_len text) text) (drop (list_len text) text)
+without-dash text letter h =
+    let first = letter-first text letter in
+    let read = take (list_len text) text in
+    let is = front-identifiers text first.1 in
+    let begins = letter-take (list_len text) text letter (some-identifiers read (listed read) is) in (
+      read,
+      sym (take-append-drop (list_len text) text),
+      bare read (listed read) refl begins is h,
+      undashed-bare read (letter-first read begins).0,
+    )
+
+dashed_front-found : (loose : Bool) (text : List ℕ) → are_spelled loose (dashed_front text).0 ≡ true
+    → PreFound loose text (dashed_front text).0 (dashed_front text).1
+unfolding dashed_front pre_release_front
+dashed_front-found loose text h = elim (cases_Bool (begins_byte 45 text)) [
+  | inr other ↦ rw other (none-found loose text)
+  | inl dash ↦ elim (cases_Bool (begins_identifier (drop 1 text))) [
+    | inr none ↦ rw (dash, none) (none-found loose text)
+    | inl some ↦ rw (dash, some) (after-dash loose text (drop 1 text) (byte-begins 45 text dash) some (rw (dash, some) at h))
+  ]
+]
+
+letter_front : (text : List ℕ) → begins_letter text ≡ true → pre_release_front text ≡ (take (list_len text) text, drop (list_len text) text)
+unfolding pre_release_front
+letter_front text h = let first = letter-first text h in rw (first.0, first.1) refl
+
+pub pre-found : (loose : Bool) (text : List ℕ) → are_spelled loose (pre_front loose text).0 ≡ true
+    → PreFound loose text (pre_front loose text).0 (pre_front loose text).1
+unfolding pre_front
+pre-found false text h = dashed_front-found false text h
+pre-found true text h = elim (cases_Bool (begins_letter text)) [
+  | inr other ↦ rw other (dashed_front-found true text (rw other at h))
+  | inl letter ↦
+      let e = letter_front text letter in
+      rw (letter, e) (without-dash text letter (rw (letter, e) at h))
+]
+
+-- build metadata, or nothing, begins with no letter
+build-letter : (b more : List ℕ) (l : List Id) → IsStrictBuild b l → Ends more → begins_letter (b ++ more) ≡ false
+build-letter b more l no_build e = e.letter
+build-letter b more l (plus t list h) e = refl
+
+pub pre-quiet : (loose : Bool) (p b more : List ℕ) (l m : List Id) → IsPreRelease loose p l → IsStrictBuild b m → Ends more
+    → begins is_ascii_digit (p ++ (b ++ more)) ≡ false
+pre-quiet loose p b more l m no_pre_release k e = (build-quiet b more m k e).2
+pre-quiet loose p b more l m (dashed t list h s) k e = refl
+pre-quiet loose p b more l m (bare t list x f h s) k e = letter-digit (t ++ (b ++ more)) (letter-on t (b ++ more) f)
+
+abbrev PreTaken : Bool → List ℕ → List ℕ → List Id → Type 0
+PreTaken loose p rest l = (pre_front loose (p ++ rest) ≡ (undashed p, rest)) × (listed (undashed p) ≡ l)
+    × (are_spelled loose (undashed p) ≡ true)
+
+bare-taken : (t rest : List ℕ) (list : List Id) → begins_letter t ≡ true → IsIdentifiers t list → are_spelled true t ≡ true
+    → list_len rest ≡ 0 → PreTaken true t rest list
+unfolding pre_front listed
+bare-taken t rest list f h s stop =
+    let own = undashed-bare t (letter-first t f).0 in
+    let on = letter-on t rest f in
+    let exact = written-exact t rest list h stop in
+    rw own (rw (on, letter_front (t ++ rest) on) exact, written-spelled t list h, s)
+
+-- the text is the pre-release and this rest, and the identifiers are spelled as they have to be
+pub pre-taken : (loose : Bool) (p b more : List ℕ) (l m : List Id) → IsPreRelease loose p l → IsStrictBuild b m → Ends more
+    → PreTaken loose p (b ++ more) l
+unfolding pre_front dashed_front pre_release_front listed
+pre-taken loose p b more l m no_pre_release k e =
+    (rw (build-letter b more m k e, and-none loose, (build-quiet b more m k e).1) refl, refl, spelled-nil loose)
+pre-taken loose p b more l m (dashed t list h s) k e =
+    let begins = written-begins t (b ++ more) list h in
+    let exact = written-exact t (b ++ more) list h (build-quiet b more m k e).0 in
+    (rw (and-none loose, begins, exact) refl, written-spelled t list h, s)
+pre-taken loose p b more l m (bare t list x f h s) k e =
+    let read : PreTaken true t (b ++ more) list = bare-taken t (b ++ more) list f h (rw x at s) (build-quiet b more m k e).0 in
+    subst (λ (r : Bool). PreTaken r t (b ++ more) list) (sym x) read

@@ -13,7 +13,7 @@ use Rattle.nodejs_semver.specs.Internal.NpmReads.{Adds, AreAllFound, AreFound, I
 use Rattle.nodejs_semver.specs.Internal.NpmWords.{alternative_of, alternatives_of, valid_only}
 use Rattle.nodejs_semver.specs.Internal.PartFronts.{later_parts}
 use Rattle.nodejs_semver.specs.Internal.Parts.{cut_bars, parts}
-use Rattle.nodejs_semver.specs.Npm.Ranges.{HasAlternatives, IsRangeOf, is_valid}
+use Rattle.nodejs_semver.specs.Npm.Ranges.{HasAlternativesIn, IsRangeIn, is_valid}
 use Rattle.nodejs_semver.specs.Npm.Table.{Comparison}
 use Rattle.nodejs_semver.specs.declared.npm.alternatives.Alternative.{Alternative}
 use Rattle.nodejs_semver.proofs.Dividing.BarsDivide.{bars_once}
@@ -36,10 +36,10 @@ flat-append [] o = append-nil (option_to_list o)
 flat-append (p ∷ os) o = ap (λ (l : List (Span VersionValue)). option_to_list p ++ l) (flat-append os o)
     ∙ sym (append_assoc (option_to_list p) (flat_map option_to_list os) (option_to_list o))
 
-pub adds : (include : Bool) (text : List ℕ) (a : Alternative) (before after : List (Span VersionValue))
-    → IsFound include (valid_alternative include text) (Some a) → after ≡ before ++ option_to_list a.interval
-    → Adds include (valid_alternative include text) before after
-adds include text a before after h e = go (valid_alternative include text) h
+pub adds : (loose : Bool) (include : Bool) (text : List ℕ) (a : Alternative) (before after : List (Span VersionValue))
+    → IsFound include (valid_alternative loose include text) (Some a) → after ≡ before ++ option_to_list a.interval
+    → Adds include (valid_alternative loose include text) before after
+adds loose include text a before after h e = go (valid_alternative loose include text) h
   where
     go : (o : Option (List Comparison)) → IsFound include o (Some a) → Adds include o before after
     go None k = absurd k
@@ -49,8 +49,8 @@ adds include text a before after h e = go (valid_alternative include text) h
       are = e ∙ ap (λ (s : List (Span VersionValue)). s ++ option_to_list a.interval) l.are ∙ sym (flat-append l.intervals a.interval);
     }
 
-pub none-found : (include : Bool) (text : List ℕ) → IsFound include (valid_alternative include text) None → valid_alternative include text ≡ None
-none-found include text h = go (valid_alternative include text) h
+pub none-found : (loose : Bool) (include : Bool) (text : List ℕ) → IsFound include (valid_alternative loose include text) None → valid_alternative loose include text ≡ None
+none-found loose include text h = go (valid_alternative loose include text) h
   where
     go : (o : Option (List Comparison)) → IsFound include o None → o ≡ None
     go None k = refl
@@ -59,17 +59,17 @@ none-found include text h = go (valid_alternative include text) h
 -- ---- the alternatives, up to a rest of the text
 
 -- what was read of a text, and what is left
-pub record AreReadTo (include : Bool) (text : List ℕ) (found : List (Span VersionValue)) (rest : Option (List ℕ)) : Type 0 where
+pub record AreReadTo (loose : Bool) (include : Bool) (text : List ℕ) (found : List (Span VersionValue)) (rest : Option (List ℕ)) : Type 0 where
   pub read : List (List Comparison)
   pub are : AreFound include read found
-  pub same : valid_alternatives include (parts text) ≡ (valid_alternatives include (later_parts rest) >>? λ more. Some (read ++ more))
+  pub same : valid_alternatives loose include (parts text) ≡ (valid_alternatives loose include (later_parts rest) >>? λ more. Some (read ++ more))
   pub count : length (parts text) ≡ length read + length (later_parts rest)
 
-pub read-none : (include : Bool) (text : List ℕ) → AreReadTo include text [] (Some text)
-read-none include text = record {
+pub read-none : (loose : Bool) (include : Bool) (text : List ℕ) → AreReadTo loose include text [] (Some text)
+read-none loose include text = record {
   read = [];
   are = record { intervals = []; narrowed = tt; are = refl };
-  same = whole (valid_alternatives include (parts text));
+  same = whole (valid_alternatives loose include (parts text));
   count = omega arith;
 }
   where
@@ -77,54 +77,54 @@ read-none include text = record {
     whole None = refl
     whole (Some ls) = refl
 
-alternatives-step : (include : Bool) (part : List ℕ) (others : List (List ℕ)) → valid_alternatives include (part ∷ others)
-    ≡ (valid_alternative include part >>? λ cs. valid_alternatives include others >>? λ rest. Some (cs ∷ rest))
+alternatives-step : (loose : Bool) (include : Bool) (part : List ℕ) (others : List (List ℕ)) → valid_alternatives loose include (part ∷ others)
+    ≡ (valid_alternative loose include part >>? λ cs. valid_alternatives loose include others >>? λ rest. Some (cs ∷ rest))
 unfolding valid_alternatives
-alternatives-step include part others = refl
+alternatives-step loose include part others = refl
 
-pub read-next : (include : Bool) (text : List ℕ) (found after : List (Span VersionValue)) (rest : List ℕ) (part : List ℕ)
-    (behind : Option (List ℕ)) → AreReadTo include text found (Some rest) → part ∷ later_parts behind ≡ parts rest
-    → Adds include (valid_alternative include part) found after → AreReadTo include text after behind
-read-next include text found after rest part behind h e a = go (valid_alternative include part) refl a
+pub read-next : (loose : Bool) (include : Bool) (text : List ℕ) (found after : List (Span VersionValue)) (rest : List ℕ) (part : List ℕ)
+    (behind : Option (List ℕ)) → AreReadTo loose include text found (Some rest) → part ∷ later_parts behind ≡ parts rest
+    → Adds include (valid_alternative loose include part) found after → AreReadTo loose include text after behind
+read-next loose include text found after rest part behind h e a = go (valid_alternative loose include part) refl a
   where
     joined : (cs : List Comparison) (o : Option (List (List Comparison)))
         → ((o >>? λ rest. Some (cs ∷ rest)) >>? λ more. Some (h.read ++ more)) ≡ (o >>? λ more. Some ((h.read ++ cs ∷ []) ++ more))
     joined cs None = refl
     joined cs (Some ls) = ap (λ (l : List (List Comparison)). Some l) (sym (append_assoc h.read (cs ∷ []) ls))
 
-    go : (o : Option (List Comparison)) → valid_alternative include part ≡ o → Adds include o found after → AreReadTo include text after behind
+    go : (o : Option (List Comparison)) → valid_alternative loose include part ≡ o → Adds include o found after → AreReadTo loose include text after behind
     go None d k = absurd k
     go (Some cs) d k =
-        let step : valid_alternatives include (parts rest) ≡ (valid_alternatives include (later_parts behind) >>? λ ls. Some (cs ∷ ls)) =
-        ap (λ (l : List (List ℕ)). valid_alternatives include l) (sym e) ∙ alternatives-step include part (later_parts behind) ∙ rw d refl in
+        let step : valid_alternatives loose include (parts rest) ≡ (valid_alternatives loose include (later_parts behind) >>? λ ls. Some (cs ∷ ls)) =
+        ap (λ (l : List (List ℕ)). valid_alternatives loose include l) (sym e) ∙ alternatives-step loose include part (later_parts behind) ∙ rw d refl in
         record {
           read = h.read ++ cs ∷ [];
           are = k h.read h.are;
-          same = h.same ∙ rw step (joined cs (valid_alternatives include (later_parts behind)));
+          same = h.same ∙ rw step (joined cs (valid_alternatives loose include (later_parts behind)));
           count = omega (arith, h.count, ap length e, length-append h.read (cs ∷ []));
         }
 
-pub read-malformed : (include : Bool) (text : List ℕ) (found : List (Span VersionValue)) (rest : List ℕ) (part : List ℕ)
-    (behind : Option (List ℕ)) → AreReadTo include text found (Some rest) → part ∷ later_parts behind ≡ parts rest
-    → valid_alternative include part ≡ None → valid_alternatives include (parts text) ≡ None
-read-malformed include text found rest part behind h e k =
-    let step : valid_alternatives include (parts rest) ≡ None =
-    ap (λ (l : List (List ℕ)). valid_alternatives include l) (sym e) ∙ alternatives-step include part (later_parts behind) ∙ rw k refl in
+pub read-malformed : (loose : Bool) (include : Bool) (text : List ℕ) (found : List (Span VersionValue)) (rest : List ℕ) (part : List ℕ)
+    (behind : Option (List ℕ)) → AreReadTo loose include text found (Some rest) → part ∷ later_parts behind ≡ parts rest
+    → valid_alternative loose include part ≡ None → valid_alternatives loose include (parts text) ≡ None
+read-malformed loose include text found rest part behind h e k =
+    let step : valid_alternatives loose include (parts rest) ≡ None =
+    ap (λ (l : List (List ℕ)). valid_alternatives loose include l) (sym e) ∙ alternatives-step loose include part (later_parts behind) ∙ rw k refl in
     h.same ∙ rw step refl
 
 -- the same of a call that rejects the part
-pub read-refused : {A E : Type 0} (r : Result A (Failure E)) (include : Bool) (text : List ℕ) (found : List (Span VersionValue)) (rest : List ℕ)
-    (part : List ℕ) (behind : Option (List ℕ)) → AreReadTo include text found (Some rest) → part ∷ later_parts behind ≡ parts rest
-    → RefusedOnlyIf r (valid_alternative include part ≡ None) → RefusedOnlyIf r (valid_alternatives include (parts text) ≡ None)
-read-refused (Ok v) include text found rest part behind h e k = tt
-read-refused (Err (Refused x)) include text found rest part behind h e k = read-malformed include text found rest part behind h e k
-read-refused (Err (Memory x)) include text found rest part behind h e k = tt
+pub read-refused : (loose : Bool) {A E : Type 0} (r : Result A (Failure E)) (include : Bool) (text : List ℕ) (found : List (Span VersionValue)) (rest : List ℕ)
+    (part : List ℕ) (behind : Option (List ℕ)) → AreReadTo loose include text found (Some rest) → part ∷ later_parts behind ≡ parts rest
+    → RefusedOnlyIf r (valid_alternative loose include part ≡ None) → RefusedOnlyIf r (valid_alternatives loose include (parts text) ≡ None)
+read-refused loose (Ok v) include text found rest part behind h e k = tt
+read-refused loose (Err (Refused x)) include text found rest part behind h e k = read-malformed loose include text found rest part behind h e k
+read-refused loose (Err (Memory x)) include text found rest part behind h e k = tt
 
-pub read-all : (include : Bool) (text : List ℕ) (found : List (Span VersionValue)) → AreReadTo include text found None
-    → AreAllFound include (valid_alternatives include (parts text)) found
+pub read-all : (loose : Bool) (include : Bool) (text : List ℕ) (found : List (Span VersionValue)) → AreReadTo loose include text found None
+    → AreAllFound include (valid_alternatives loose include (parts text)) found
 unfolding valid_alternatives
-read-all include text found h =
-    let whole : valid_alternatives include (parts text) ≡ Some h.read = h.same ∙ ap (λ (l : List (List Comparison)). Some l) (append-nil h.read) in
+read-all loose include text found h =
+    let whole : valid_alternatives loose include (parts text) ≡ Some h.read = h.same ∙ ap (λ (l : List (List Comparison)). Some l) (append-nil h.read) in
     rw whole h.are
 
 -- an interval more than there is: the text has two alternatives
@@ -140,10 +140,10 @@ narrowed-length include [] (p ∷ os) h = absurd h
 narrowed-length include (c ∷ ls) [] h = absurd h
 narrowed-length include (c ∷ ls) (p ∷ os) h = omega (arith, narrowed-length include ls os h.1)
 
-pub two-parts : (include : Bool) (text : List ℕ) (found : List (Span VersionValue)) (rest : List ℕ) (part : List ℕ)
-    (behind : Option (List ℕ)) → AreReadTo include text found (Some rest) → part ∷ later_parts behind ≡ parts rest
+pub two-parts : (loose : Bool) (include : Bool) (text : List ℕ) (found : List (Span VersionValue)) (rest : List ℕ) (part : List ℕ)
+    (behind : Option (List ℕ)) → AreReadTo loose include text found (Some rest) → part ∷ later_parts behind ≡ parts rest
     → 0 < length found → 1 < length (parts text)
-two-parts include text found rest part behind h e some =
+two-parts loose include text found rest part behind h e some =
     omega (
       arith,
       h.count,
@@ -156,11 +156,11 @@ two-parts include text found rest part behind h e some =
 
 -- ---- the range of a text
 
-all-valid : (include : Bool) (texts : List (List ℕ)) → valid_alternatives include texts
-    ≡ (alternatives_of include texts >>? λ ls. if list_all (list_all (is_valid MAX_SAFE_INTEGER)) ls then Some ls else None)
+all-valid : (loose : Bool) (include : Bool) (texts : List (List ℕ)) → valid_alternatives loose include texts
+    ≡ (alternatives_of loose include texts >>? λ ls. if list_all (list_all (is_valid MAX_SAFE_INTEGER)) ls then Some ls else None)
 unfolding valid_alternatives valid_alternative alternatives_of
-all-valid include [] = refl
-all-valid include (text ∷ texts) = go (all-valid include texts) (alternative_of include text)
+all-valid loose include [] = refl
+all-valid loose include (text ∷ texts) = go (all-valid loose include texts) (alternative_of loose include text)
   where
     behind : (cs : List Comparison) (o : Option (List (List Comparison))) → list_all (is_valid MAX_SAFE_INTEGER) cs ≡ true
         → ((o >>? λ ls. if list_all (list_all (is_valid MAX_SAFE_INTEGER)) ls then Some ls else None) >>? λ rest. Some (cs ∷ rest))
@@ -176,49 +176,49 @@ all-valid include (text ∷ texts) = go (all-valid include texts) (alternative_o
     invalid cs None h = refl
     invalid cs (Some ls) h = rw h refl
 
-    go : (valid_alternatives include texts
-        ≡ (alternatives_of include texts >>? λ ls. if list_all (list_all (is_valid MAX_SAFE_INTEGER)) ls then Some ls else None))
+    go : (valid_alternatives loose include texts
+        ≡ (alternatives_of loose include texts >>? λ ls. if list_all (list_all (is_valid MAX_SAFE_INTEGER)) ls then Some ls else None))
         → (o : Option (List Comparison))
-        → ((o >>? λ cs. valid_only MAX_SAFE_INTEGER cs) >>? λ cs. valid_alternatives include texts >>? λ rest. Some (cs ∷ rest))
-        ≡ ((o >>? λ cs. alternatives_of include texts >>? λ rest. Some (cs ∷ rest))
+        → ((o >>? λ cs. valid_only MAX_SAFE_INTEGER cs) >>? λ cs. valid_alternatives loose include texts >>? λ rest. Some (cs ∷ rest))
+        ≡ ((o >>? λ cs. alternatives_of loose include texts >>? λ rest. Some (cs ∷ rest))
         >>? λ ls. if list_all (list_all (is_valid MAX_SAFE_INTEGER)) ls then Some ls else None)
     go f None = refl
     go f (Some cs) = elim (cases_Bool (list_all (is_valid MAX_SAFE_INTEGER) cs)) [
-      | inl good ↦ rw (good, f) (behind cs (alternatives_of include texts) good)
-      | inr bad ↦ rw bad (invalid cs (alternatives_of include texts) bad)
+      | inl good ↦ rw (good, f) (behind cs (alternatives_of loose include texts) good)
+      | inr bad ↦ rw bad (invalid cs (alternatives_of loose include texts) bad)
     ]
 
 -- the alternatives that are read are those of the text
-pub alternatives-read : (include : Bool) (text : List ℕ) (ls : List (List Comparison)) → IsUtf8 text
-    → valid_alternatives include (parts text) ≡ Some ls → HasAlternatives MAX_SAFE_INTEGER include text ls
-alternatives-read include text ls u h =
-    let e = sym (all-valid include (parts text)) ∙ h in
-    let l = bind_some (alternatives_of include (parts text)) (λ ls. if list_all (list_all (is_valid MAX_SAFE_INTEGER)) ls then Some ls else None) ls e in
+pub alternatives-read : (loose : Bool) (include : Bool) (text : List ℕ) (ls : List (List Comparison)) → IsUtf8 text
+    → valid_alternatives loose include (parts text) ≡ Some ls → HasAlternativesIn loose MAX_SAFE_INTEGER include text ls
+alternatives-read loose include text ls u h =
+    let e = sym (all-valid loose include (parts text)) ∙ h in
+    let l = bind_some (alternatives_of loose include (parts text)) (λ ls. if list_all (list_all (is_valid MAX_SAFE_INTEGER)) ls then Some ls else None) ls e in
     let k = cond_some (list_all (list_all (is_valid MAX_SAFE_INTEGER)) l.0) l.0 ls l.2 in
-    subst (λ (x : List (List Comparison)). HasAlternatives MAX_SAFE_INTEGER include text x) k.1
-    ((alternatives_are MAX_SAFE_INTEGER include text l.0 u).1 (l.1, k.0))
+    subst (λ (x : List (List Comparison)). HasAlternativesIn loose MAX_SAFE_INTEGER include text x) k.1
+    ((alternatives_are loose MAX_SAFE_INTEGER include text l.0 u).1 (l.1, k.0))
 
-pub none-read : (include : Bool) (text : List ℕ) → IsUtf8 text → valid_alternatives include (parts text) ≡ None
-    → NoValue (HasAlternatives MAX_SAFE_INTEGER include text)
-none-read include text u h ls has =
-    let k = (alternatives_are MAX_SAFE_INTEGER include text ls u).0 has in
-    let some : valid_alternatives include (parts text) ≡ Some ls = all-valid include (parts text) ∙ rw (k.0, k.1) refl in
+pub none-read : (loose : Bool) (include : Bool) (text : List ℕ) → IsUtf8 text → valid_alternatives loose include (parts text) ≡ None
+    → NoValue (HasAlternativesIn loose MAX_SAFE_INTEGER include text)
+none-read loose include text u h ls has =
+    let k = (alternatives_are loose MAX_SAFE_INTEGER include text ls u).0 has in
+    let some : valid_alternatives loose include (parts text) ≡ Some ls = all-valid loose include (parts text) ∙ rw (k.0, k.1) refl in
     differ ls (sym h ∙ some)
   where
     differ : (ls : List (List Comparison)) → ◌≡◌ {A = Option (List (List Comparison))} None (Some ls) → ⊥
     differ ls e = cc e
 
-pub range-read : (include : Bool) (text : List ℕ) (found range : List (Span VersionValue)) → IsUtf8 text
-    → AreAllFound include (valid_alternatives include (parts text)) found → AcceptAsRanged found range
-    → IsRangeOf MAX_SAFE_INTEGER include text range
-range-read include text found range u h a = go (valid_alternatives include (parts text)) refl h
+pub range-read : (loose : Bool) (include : Bool) (text : List ℕ) (found range : List (Span VersionValue)) → IsUtf8 text
+    → AreAllFound include (valid_alternatives loose include (parts text)) found → AcceptAsRanged found range
+    → IsRangeIn loose MAX_SAFE_INTEGER include text range
+range-read loose include text found range u h a = go (valid_alternatives loose include (parts text)) refl h
   where
-    go : (o : Option (List (List Comparison))) → valid_alternatives include (parts text) ≡ o → AreAllFound include o found
-        → IsRangeOf MAX_SAFE_INTEGER include text range
+    go : (o : Option (List (List Comparison))) → valid_alternatives loose include (parts text) ≡ o → AreAllFound include o found
+        → IsRangeIn loose MAX_SAFE_INTEGER include text range
     go None e k = absurd k
     go (Some ls) e k = record {
       alternatives = ls;
-      has = alternatives-read include text ls u e;
+      has = alternatives-read loose include text ls u e;
       accepted = a include ls k.intervals k.narrowed k.are;
     }
 
@@ -229,11 +229,11 @@ two-pieces text h pieces cut = omega (arith, h, ap length (bars_once text pieces
     map-length [] = refl
     map-length (t ∷ l) = omega (arith, map-length l)
 
-pub refused-none : {A E : Type 0} (r : Result A (Failure E)) (include : Bool) (text : List ℕ) → IsUtf8 text
-    → RefusedOnlyIf r (valid_alternatives include (parts text) ≡ None) → RefusedOnlyIf r (NoValue (HasAlternatives MAX_SAFE_INTEGER include text))
-refused-none (Ok v) include text u k = tt
-refused-none (Err (Refused x)) include text u k = none-read include text u k
-refused-none (Err (Memory x)) include text u k = tt
+pub refused-none : (loose : Bool) {A E : Type 0} (r : Result A (Failure E)) (include : Bool) (text : List ℕ) → IsUtf8 text
+    → RefusedOnlyIf r (valid_alternatives loose include (parts text) ≡ None) → RefusedOnlyIf r (NoValue (HasAlternativesIn loose MAX_SAFE_INTEGER include text))
+refused-none loose (Ok v) include text u k = tt
+refused-none loose (Err (Refused x)) include text u k = none-read loose include text u k
+refused-none loose (Err (Memory x)) include text u k = tt
 
 pub memory-pieces : {A E : Type 0} (r : Result A (Failure E)) (text : List ℕ) → MemoryOnlyIf r (1 < length (parts text))
     → MemoryOnlyIf r ((pieces : List (List ℕ)) → IsCutAtBars text pieces → 1 < length pieces)
@@ -241,9 +241,9 @@ memory-pieces (Ok v) text k = tt
 memory-pieces (Err (Refused x)) text k = tt
 memory-pieces (Err (Memory x)) text k = two-pieces text k
 
-pub all-spans : (include : Bool) (text : List ℕ) (found : List (Span VersionValue)) → AreAllFound include (valid_alternatives include (parts text)) found
+pub all-spans : (loose : Bool) (include : Bool) (text : List ℕ) (found : List (Span VersionValue)) → AreAllFound include (valid_alternatives loose include (parts text)) found
     → list_all (is_range_span (MAX_SAFE_INTEGER + 1)) found ≡ true
-all-spans include text found h = go (valid_alternatives include (parts text)) h
+all-spans loose include text found h = go (valid_alternatives loose include (parts text)) h
   where
     go : (o : Option (List (List Comparison))) → AreAllFound include o found → list_all (is_range_span (MAX_SAFE_INTEGER + 1)) found ≡ true
     go None k = absurd k

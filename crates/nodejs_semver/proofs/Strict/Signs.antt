@@ -22,7 +22,7 @@ pub record BlankAt (text : List ℕ) : Type 0 where
 pub blank-at : (text : List ℕ) → IsUtf8 text → BlankAt text
 blank-at text u =
     let s = skips-is text u in
-    record { blank = s.blank; is = s.is; split = s.divided; utf8 = skips-utf8 text (drop_spaces text) s u }
+    record { blank = s.0; is = s.2; split = s.1; utf8 = skips-utf8 text (drop_spaces text) s u }
 
 pub blank-nil : IsBlank []
 blank-nil = record { characters = []; each = refl; spelled = refl }

@@ -1,7 +1,7 @@
 -- The signs of node-semver's words before marks and a partial version: what is written is read, or means the same.
 use Rattle.nodejs_semver.proofs.Common.{◌≡◌, ◌⊎◌, ◌<◌, ℕ, Bool, List, [], ◌∷◌, ◌++◌, length, drop, refl, ap, ◌∙◌, arith, true, false, inl, inr}
 use Rattle.nodejs_semver.proofs.Common.{◌&&◌, ◌==◌, ◌||◌, not, and_parts, append_assoc, cases_Bool, eqb-true, nat_tests, begins, list_all}
-use Rattle.nodejs_semver.proofs.Common.{drop_spaces, drop_spaces-none, space_len, is_whitespace}
+use Rattle.nodejs_semver.proofs.Common.{drop_spaces, drop_spaces-none, space_len, is_whitespace, is_empty}
 use Rattle.std.specs.Prelude.{nat_lt, encode_utf8_all, if◌then◌else◌}
 use Rattle.std.specs.Char.{encode_utf8}
 use Rattle.std.proofs.lemmas.Bool.{lt-ltb}
@@ -109,10 +109,10 @@ greater-left y marks u blank h k =
 -- ---- a sign, as it is read
 
 -- read as it is written, or with other marks, to the same comparators
-pub record SignTaken (s : Sign) (p : Partial) (marks x : List ℕ) (r : Sign × List ℕ) (u : List ℕ) : Type 0 where
+pub record SignTaken (loose : Bool) (s : Sign) (p : Partial) (marks x : List ℕ) (r : Sign × List ℕ) (u : List ℕ) : Type 0 where
   pub left : List ℕ
   pub is : r.1 ≡ left ++ u
-  pub marked : are_marks r.0 p left ≡ true
+  pub marked : are_marks loose r.0 p left ≡ true
   pub same : (include : Bool) → table include r.0 p (left ++ x) ≡ table include s p (marks ++ x)
 
 all-caret : (include : Bool) (p : Partial) (text other : List ℕ) → table include caret p text ≡ table include caret p other
@@ -127,46 +127,62 @@ all-tilde include (major M) text other = refl
 all-tilde include (minor M m) text other = refl
 all-tilde include (whole v) text other = refl
 
-caret-taken : (p : Partial) (marks x text u : List ℕ) → MarksLeft text u → SignTaken caret p marks x (caret, text) u
-caret-taken p marks x text u l =
-    record { left = l.left; is = l.is; marked = l.each; same = λ include. all-caret include p (l.left ++ x) (marks ++ x) }
+-- any marks may stand behind `^` and `~`
+free-caret : (loose : Bool) (p : Partial) (marks : List ℕ) → list_all is_mark marks ≡ true → are_marks loose caret p marks ≡ true
+free-caret true p marks h = h
+free-caret false p marks h = h
 
-tilde-taken : (p : Partial) (marks x text u : List ℕ) → MarksLeft text u → SignTaken tilde p marks x (tilde, text) u
-tilde-taken p marks x text u l =
-    record { left = l.left; is = l.is; marked = l.each; same = λ include. all-tilde include p (l.left ++ x) (marks ++ x) }
+free-tilde : (loose : Bool) (p : Partial) (marks : List ℕ) → list_all is_mark marks ≡ true → are_marks loose tilde p marks ≡ true
+free-tilde true p marks h = h
+free-tilde false p marks h = h
 
-kept : (s : Sign) (p : Partial) (marks x text u : List ℕ) → text ≡ marks ++ u → are_marks s p marks ≡ true
-    → SignTaken s p marks x (s, text) u
-kept s p marks x text u e h = record { left = marks; is = e; marked = h; same = λ include. refl }
+caret-taken : (loose : Bool) (p : Partial) (marks x text u : List ℕ) → MarksLeft text u → SignTaken loose caret p marks x (caret, text) u
+caret-taken loose p marks x text u l =
+    record { left = l.left; is = l.is; marked = free-caret loose p l.left l.each; same = λ include. all-caret include p (l.left ++ x) (marks ++ x) }
+
+tilde-taken : (loose : Bool) (p : Partial) (marks x text u : List ℕ) → MarksLeft text u → SignTaken loose tilde p marks x (tilde, text) u
+tilde-taken loose p marks x text u l =
+    record { left = l.left; is = l.is; marked = free-tilde loose p l.left l.each; same = λ include. all-tilde include p (l.left ++ x) (marks ++ x) }
+
+kept : (loose : Bool) (s : Sign) (p : Partial) (marks x text u : List ℕ) → text ≡ marks ++ u → are_marks loose s p marks ≡ true
+    → SignTaken loose s p marks x (s, text) u
+kept loose s p marks x text u e h = record { left = marks; is = e; marked = h; same = λ include. refl }
 
 one-marks : (marks : List ℕ) → is_one_v marks ≡ true → list_all is_mark marks ≡ true
 one-marks [] h = refl
 one-marks (b ∷ []) h = grind (arith, nat_tests)
 one-marks (b ∷ c ∷ marks) h = cc h
 
-pub marks-all : (s : Sign) (p : Partial) (marks : List ℕ) → are_marks s p marks ≡ true → list_all is_mark marks ≡ true
-marks-all (compared above) (whole v) marks h = one-marks marks h
-marks-all (compared at_least) (whole v) marks h = one-marks marks h
-marks-all (compared equal) (whole v) marks h = one-marks marks h
-marks-all (compared at_most) (whole v) marks h = one-marks marks h
-marks-all (compared below) (whole v) marks h = one-marks marks h
-marks-all (compared above) wildcard marks h = (and_parts _ _ h).0
-marks-all (compared above) (major M) marks h = (and_parts _ _ h).0
-marks-all (compared above) (minor M m) marks h = (and_parts _ _ h).0
-marks-all (compared below) wildcard marks h = (and_parts _ _ h).0
-marks-all (compared below) (major M) marks h = (and_parts _ _ h).0
-marks-all (compared below) (minor M m) marks h = (and_parts _ _ h).0
-marks-all (compared at_least) wildcard marks h = h
-marks-all (compared at_least) (major M) marks h = h
-marks-all (compared at_least) (minor M m) marks h = h
-marks-all (compared equal) wildcard marks h = h
-marks-all (compared equal) (major M) marks h = h
-marks-all (compared equal) (minor M m) marks h = h
-marks-all (compared at_most) wildcard marks h = h
-marks-all (compared at_most) (major M) marks h = h
-marks-all (compared at_most) (minor M m) marks h = h
-marks-all caret p marks h = h
-marks-all tilde p marks h = h
+pub marks-all : (loose : Bool) (s : Sign) (p : Partial) (marks : List ℕ) → are_marks loose s p marks ≡ true → list_all is_mark marks ≡ true
+marks-all false (compared above) (whole v) marks h = one-marks marks h
+marks-all false (compared at_least) (whole v) marks h = one-marks marks h
+marks-all false (compared equal) (whole v) marks h = one-marks marks h
+marks-all false (compared at_most) (whole v) marks h = one-marks marks h
+marks-all false (compared below) (whole v) marks h = one-marks marks h
+marks-all false (compared above) wildcard marks h = (and_parts _ _ h).0
+marks-all false (compared above) (major M) marks h = (and_parts _ _ h).0
+marks-all false (compared above) (minor M m) marks h = (and_parts _ _ h).0
+marks-all false (compared below) wildcard marks h = (and_parts _ _ h).0
+marks-all false (compared below) (major M) marks h = (and_parts _ _ h).0
+marks-all false (compared below) (minor M m) marks h = (and_parts _ _ h).0
+marks-all false (compared at_least) wildcard marks h = h
+marks-all false (compared at_least) (major M) marks h = h
+marks-all false (compared at_least) (minor M m) marks h = h
+marks-all false (compared equal) wildcard marks h = h
+marks-all false (compared equal) (major M) marks h = h
+marks-all false (compared equal) (minor M m) marks h = h
+marks-all false (compared at_most) wildcard marks h = h
+marks-all false (compared at_most) (major M) marks h = h
+marks-all false (compared at_most) (minor M m) marks h = h
+marks-all true (compared above) p marks h = (and_parts _ _ h).0
+marks-all true (compared below) p marks h = (and_parts _ _ h).0
+marks-all true (compared at_least) p marks h = h
+marks-all true (compared equal) p marks h = h
+marks-all true (compared at_most) p marks h = h
+marks-all false caret p marks h = h
+marks-all false tilde p marks h = h
+marks-all true caret p marks h = h
+marks-all true tilde p marks h = h
 
 -- `>` and `<` are followed by no `=` among the marks
 one-other : (marks u : List ℕ) → is_one_v marks ≡ true → begins_component u ≡ true → begins_byte 61 (marks ++ u) ≡ false
@@ -178,30 +194,23 @@ not-other : (marks u : List ℕ) → not (begins (λ b. b == 61) marks) ≡ true
 not-other [] u h k = component-other u k
 not-other (b ∷ marks) u h k = grind (arith, nat_tests)
 
-above-other : (p : Partial) (marks u : List ℕ) → are_marks (compared above) p marks ≡ true → begins_component u ≡ true
-    → begins_byte 61 (marks ++ u) ≡ false
-above-other wildcard marks u h k = not-other marks u (and_parts _ _ h).1 k
-above-other (major M) marks u h k = not-other marks u (and_parts _ _ h).1 k
-above-other (minor M m) marks u h k = not-other marks u (and_parts _ _ h).1 k
-above-other (whole v) marks u h k = one-other marks u h k
+above-other : (loose : Bool) (p : Partial) (marks u : List ℕ) → are_marks loose (compared above) p marks ≡ true
+    → begins_component u ≡ true → begins_byte 61 (marks ++ u) ≡ false
+above-other true p marks u h k = not-other marks u (and_parts _ _ h).1 k
+above-other false wildcard marks u h k = not-other marks u (and_parts _ _ h).1 k
+above-other false (major M) marks u h k = not-other marks u (and_parts _ _ h).1 k
+above-other false (minor M m) marks u h k = not-other marks u (and_parts _ _ h).1 k
+above-other false (whole v) marks u h k = one-other marks u h k
 
-below-other : (p : Partial) (marks u : List ℕ) → are_marks (compared below) p marks ≡ true → begins_component u ≡ true
-    → begins_byte 61 (marks ++ u) ≡ false
-below-other wildcard marks u h k = not-other marks u (and_parts _ _ h).1 k
-below-other (major M) marks u h k = not-other marks u (and_parts _ _ h).1 k
-below-other (minor M m) marks u h k = not-other marks u (and_parts _ _ h).1 k
-below-other (whole v) marks u h k = one-other marks u h k
+below-other : (loose : Bool) (p : Partial) (marks u : List ℕ) → are_marks loose (compared below) p marks ≡ true
+    → begins_component u ≡ true → begins_byte 61 (marks ++ u) ≡ false
+below-other true p marks u h k = not-other marks u (and_parts _ _ h).1 k
+below-other false wildcard marks u h k = not-other marks u (and_parts _ _ h).1 k
+below-other false (major M) marks u h k = not-other marks u (and_parts _ _ h).1 k
+below-other false (minor M m) marks u h k = not-other marks u (and_parts _ _ h).1 k
+below-other false (whole v) marks u h k = one-other marks u h k
 
 -- ---- no sign
-
-equal-first : (p : Partial) (b : ℕ) (marks : List ℕ) → (b == 61) ≡ true → are_marks (compared equal) p (b ∷ marks) ≡ true
-    → (are_marks (compared equal) p marks ≡ true)
-    × ((include : Bool) (text other : List ℕ) → table include (compared equal) p text ≡ table include (compared equal) p other)
-equal-first wildcard b marks e h = ((and_parts _ _ h).1, λ include text other. refl)
-equal-first (major M) b marks e h = ((and_parts _ _ h).1, λ include text other. refl)
-equal-first (minor M m) b marks e h = ((and_parts _ _ h).1, λ include text other. refl)
-equal-first (whole v) b [] e h = cc (rw (eqb-true b 61 e) at h)
-equal-first (whole v) b (c ∷ marks) e h = cc h
 
 plain-front : (b : ℕ) (rest : List ℕ) → (is_mark b || begins_component (b ∷ rest)) ≡ true → (b == 61) ≡ false
     → npm_sign (b ∷ rest) ≡ (compared equal, b ∷ rest)
@@ -212,28 +221,17 @@ equal-front : (b : ℕ) (rest : List ℕ) → (b == 61) ≡ true → npm_sign (b
 unfolding npm_sign
 equal-front b rest h = rw (eqb-true b 61 h) refl
 
-abbrev pub Taken : Sign → Partial → List ℕ → List ℕ → List ℕ → List ℕ → Type 0
-Taken s p marks x u text = SignTaken s p marks x (npm_sign text) u
+abbrev pub Taken : (loose : Bool) → Sign → Partial → List ℕ → List ℕ → List ℕ → List ℕ → Type 0
+Taken loose s p marks x u text = SignTaken loose s p marks x (npm_sign text) u
 
-none-taken : (p : Partial) (marks x u : List ℕ) → are_marks (compared equal) p marks ≡ true → begins_component u ≡ true
-    → Taken (compared equal) p marks x u (marks ++ u)
-none-taken p [] x [] h k = cc k
-none-taken p [] x (b ∷ u) h k =
-    rw (plain-front b u (grind (arith, nat_tests)) (component-other (b ∷ u) k)) (kept (compared equal) p [] x (b ∷ u) (b ∷ u) refl h)
-none-taken p (b ∷ marks) x u h k =
-    let each = and_parts (is_mark b) (list_all is_mark marks) (marks-all (compared equal) p (b ∷ marks) h) in
-    elim (cases_Bool (b == 61)) [
-      | inr other ↦
-          rw (plain-front b (marks ++ u) (grind arith) other) (kept (compared equal) p (b ∷ marks) x (b ∷ (marks ++ u)) u refl h)
-      | inl mark ↦
-          let first = equal-first p b marks mark h in
-          rw (equal-front b (marks ++ u) mark) (record {
-            left = marks;
-            is = drop_spaces-none (marks ++ u) (opens marks u each.1 k).dark;
-            marked = first.0;
-            same = λ include. first.1 include (marks ++ x) ((b ∷ marks) ++ x);
-          })
-    ]
+none-taken : (loose : Bool) (p : Partial) (marks x u : List ℕ) → are_marks loose (compared equal) p marks ≡ true
+    → begins_byte 61 marks ≡ false → begins_component u ≡ true → Taken loose (compared equal) p marks x u (marks ++ u)
+none-taken loose p [] x [] h e k = cc k
+none-taken loose p [] x (b ∷ u) h e k =
+    rw (plain-front b u (grind (arith, nat_tests)) (component-other (b ∷ u) k)) (kept loose (compared equal) p [] x (b ∷ u) (b ∷ u) refl h)
+none-taken loose p (b ∷ marks) x u h e k =
+    let each = and_parts (is_mark b) (list_all is_mark marks) (marks-all loose (compared equal) p (b ∷ marks) h) in
+    rw (plain-front b (marks ++ u) (grind arith) e) (kept loose (compared equal) p (b ∷ marks) x (b ∷ (marks ++ u)) u refl h)
 
 -- ---- behind a tilde
 
@@ -269,9 +267,9 @@ twice-left y v h some = elim (blank-cases y h) [
   | inr more ↦ rw (blank-skipped y (62 ∷ v) h (dark-byte 62 v refl), lt-ltb 0 (space_len (y ++ (62 ∷ v))) (more (62 ∷ v))) refl
 ]
 
-tilde-above : (p : Partial) (y z marks x u : List ℕ) → IsBlank y → IsBlank z → list_all is_mark marks ≡ true → begins_component u ≡ true
-    → Taken tilde p marks x u ((126 ∷ (y ++ (62 ∷ z))) ++ (marks ++ u))
-tilde-above p y z marks x u hy hz each k =
+tilde-above : (loose : Bool) (p : Partial) (y z marks x u : List ℕ) → IsBlank y → IsBlank z → list_all is_mark marks ≡ true → begins_component u ≡ true
+    → Taken loose tilde p marks x u ((126 ∷ (y ++ (62 ∷ z))) ++ (marks ++ u))
+tilde-above loose p y z marks x u hy hz each k =
     let t = marks ++ u in
     let o = opens marks u each k in
     rw (
@@ -279,11 +277,11 @@ tilde-above p y z marks x u hy hz each k =
       tilde-front (y ++ (62 ∷ (z ++ t))),
       one_greater-left y (z ++ t) t hy (blank-skipped z t hz o.dark) o.greater,
     )
-    (tilde-taken p marks x (skip_greater (z ++ t)) u (greater-left z marks u hz each k))
+    (tilde-taken loose p marks x (skip_greater (z ++ t)) u (greater-left z marks u hz each k))
 
-tilde-least : (p : Partial) (y z marks x u : List ℕ) → IsBlank y → IsBlank z → list_all is_mark marks ≡ true → begins_component u ≡ true
-    → Taken tilde p marks x u ((126 ∷ (y ++ (62 ∷ (61 ∷ z)))) ++ (marks ++ u))
-tilde-least p y z marks x u hy hz each k =
+tilde-least : (loose : Bool) (p : Partial) (y z marks x u : List ℕ) → IsBlank y → IsBlank z → list_all is_mark marks ≡ true → begins_component u ≡ true
+    → Taken loose tilde p marks x u ((126 ∷ (y ++ (62 ∷ (61 ∷ z)))) ++ (marks ++ u))
+tilde-least loose p y z marks x u hy hz each k =
     let t = marks ++ u in
     let v = 61 ∷ (z ++ t) in
     rw (
@@ -291,30 +289,30 @@ tilde-least p y z marks x u hy hz each k =
       tilde-front (y ++ (62 ∷ v)),
       one_greater-left y v v hy (drop_spaces-none v (dark-byte 61 (z ++ t) refl)) refl,
     )
-    (kept tilde p marks x (drop_spaces (z ++ t)) u (blank-skipped z t hz (opens marks u each k).dark) each)
+    (kept loose tilde p marks x (drop_spaces (z ++ t)) u (blank-skipped z t hz (opens marks u each k).dark) (free-tilde loose p marks each))
 
-tilde-equal : (p : Partial) (y z marks x u : List ℕ) → IsBlank y → IsBlank z → list_all is_mark marks ≡ true → begins_component u ≡ true
-    → Taken tilde p marks x u ((126 ∷ (y ++ (61 ∷ z))) ++ (marks ++ u))
-tilde-equal p y z marks x u hy hz each k =
+tilde-equal : (loose : Bool) (p : Partial) (y z marks x u : List ℕ) → IsBlank y → IsBlank z → list_all is_mark marks ≡ true → begins_component u ≡ true
+    → Taken loose tilde p marks x u ((126 ∷ (y ++ (61 ∷ z))) ++ (marks ++ u))
+tilde-equal loose p y z marks x u hy hz each k =
     let t = marks ++ u in
     let v = 61 ∷ (z ++ t) in
     rw (append_assoc y (61 ∷ z) t, tilde-front (y ++ v), no_greater-left y v hy (dark-byte 61 (z ++ t) refl) refl)
-    (kept tilde p marks x (drop_spaces (z ++ t)) u (blank-skipped z t hz (opens marks u each k).dark) each)
+    (kept loose tilde p marks x (drop_spaces (z ++ t)) u (blank-skipped z t hz (opens marks u each k).dark) (free-tilde loose p marks each))
 
-twice-above : (p : Partial) (y z marks x u : List ℕ) → IsBlank y → 0 < length y → IsBlank z → list_all is_mark marks ≡ true
-    → begins_component u ≡ true → Taken tilde p marks x u ((126 ∷ (62 ∷ (y ++ (62 ∷ z)))) ++ (marks ++ u))
-twice-above p y z marks x u hy some hz each k =
+twice-above : (loose : Bool) (p : Partial) (y z marks x u : List ℕ) → IsBlank y → 0 < length y → IsBlank z → list_all is_mark marks ≡ true
+    → begins_component u ≡ true → Taken loose tilde p marks x u ((126 ∷ (62 ∷ (y ++ (62 ∷ z)))) ++ (marks ++ u))
+twice-above loose p y z marks x u hy some hz each k =
     let t = marks ++ u in
     rw (append_assoc y (62 ∷ z) t, tilde-front (62 ∷ (y ++ (62 ∷ (z ++ t)))), twice-left y (z ++ t) hy some)
-    (tilde-taken p marks x (skip_greater (z ++ t)) u (greater-left z marks u hz each k))
+    (tilde-taken loose p marks x (skip_greater (z ++ t)) u (greater-left z marks u hz each k))
 
-twice-least : (p : Partial) (y z marks x u : List ℕ) → IsBlank y → 0 < length y → IsBlank z → list_all is_mark marks ≡ true
-    → begins_component u ≡ true → Taken tilde p marks x u ((126 ∷ (62 ∷ (y ++ (62 ∷ (61 ∷ z))))) ++ (marks ++ u))
-twice-least p y z marks x u hy some hz each k =
+twice-least : (loose : Bool) (p : Partial) (y z marks x u : List ℕ) → IsBlank y → 0 < length y → IsBlank z → list_all is_mark marks ≡ true
+    → begins_component u ≡ true → Taken loose tilde p marks x u ((126 ∷ (62 ∷ (y ++ (62 ∷ (61 ∷ z))))) ++ (marks ++ u))
+twice-least loose p y z marks x u hy some hz each k =
     let t = marks ++ u in
     let v = 61 ∷ (z ++ t) in
     rw (append_assoc y (62 ∷ (61 ∷ z)) t, tilde-front (62 ∷ (y ++ (62 ∷ v))), twice-left y v hy some)
-    (kept tilde p marks x (drop_spaces (z ++ t)) u (blank-skipped z t hz (opens marks u each k).dark) each)
+    (kept loose tilde p marks x (drop_spaces (z ++ t)) u (blank-skipped z t hz (opens marks u each k).dark) (free-tilde loose p marks each))
 
 -- ---- `>` and `<`
 
@@ -343,58 +341,59 @@ caret-front rest = refl
 
 -- ---- what is written is read
 
-signed-taken : (s : Sign) (p : Partial) (y marks x u : List ℕ) → IsBlank y → are_marks s p marks ≡ true → begins_component u ≡ true
-    → Taken s p marks x u ((spelling s ++ y) ++ (marks ++ u))
-signed-taken (compared at_least) p y marks x u h m k =
-    let dark = (opens marks u (marks-all (compared at_least) p marks m) k).dark in
+signed-taken : (loose : Bool) (s : Sign) (p : Partial) (y marks x u : List ℕ) → IsBlank y → are_marks loose s p marks ≡ true → begins_component u ≡ true
+    → Taken loose s p marks x u ((spelling s ++ y) ++ (marks ++ u))
+signed-taken loose (compared at_least) p y marks x u h m k =
+    let dark = (opens marks u (marks-all loose (compared at_least) p marks m) k).dark in
     rw (above-front (61 ∷ (y ++ (marks ++ u))))
-    (kept (compared at_least) p marks x (drop_spaces (y ++ (marks ++ u))) u (blank-skipped y (marks ++ u) h dark) m)
-signed-taken (compared above) p y marks x u h m k =
+    (kept loose (compared at_least) p marks x (drop_spaces (y ++ (marks ++ u))) u (blank-skipped y (marks ++ u) h dark) m)
+signed-taken loose (compared above) p y marks x u h m k =
     let t = marks ++ u in
-    let dark = (opens marks u (marks-all (compared above) p marks m) k).dark in
-    rw (above-front (y ++ t), one-read above at_least y t h dark (above-other p marks u m k)) (kept (compared above) p marks x t u refl m)
-signed-taken (compared equal) p y marks x u h m k =
-    let dark = (opens marks u (marks-all (compared equal) p marks m) k).dark in
+    let dark = (opens marks u (marks-all loose (compared above) p marks m) k).dark in
+    rw (above-front (y ++ t), one-read above at_least y t h dark (above-other loose p marks u m k)) (kept loose (compared above) p marks x t u refl m)
+signed-taken loose (compared equal) p y marks x u h m k =
+    let dark = (opens marks u (marks-all loose (compared equal) p marks m) k).dark in
     rw (equal-front 61 (y ++ (marks ++ u)) refl)
-    (kept (compared equal) p marks x (drop_spaces (y ++ (marks ++ u))) u (blank-skipped y (marks ++ u) h dark) m)
-signed-taken (compared at_most) p y marks x u h m k =
-    let dark = (opens marks u (marks-all (compared at_most) p marks m) k).dark in
+    (kept loose (compared equal) p marks x (drop_spaces (y ++ (marks ++ u))) u (blank-skipped y (marks ++ u) h dark) m)
+signed-taken loose (compared at_most) p y marks x u h m k =
+    let dark = (opens marks u (marks-all loose (compared at_most) p marks m) k).dark in
     rw (below-front (61 ∷ (y ++ (marks ++ u))))
-    (kept (compared at_most) p marks x (drop_spaces (y ++ (marks ++ u))) u (blank-skipped y (marks ++ u) h dark) m)
-signed-taken (compared below) p y marks x u h m k =
+    (kept loose (compared at_most) p marks x (drop_spaces (y ++ (marks ++ u))) u (blank-skipped y (marks ++ u) h dark) m)
+signed-taken loose (compared below) p y marks x u h m k =
     let t = marks ++ u in
-    let dark = (opens marks u (marks-all (compared below) p marks m) k).dark in
-    rw (below-front (y ++ t), one-read below at_most y t h dark (below-other p marks u m k)) (kept (compared below) p marks x t u refl m)
-signed-taken caret p y marks x u h m k =
-    let dark = (opens marks u m k).dark in
-    rw (caret-front (y ++ (marks ++ u)), blank-skipped y (marks ++ u) h dark)
-    (caret-taken p marks x (skip_equal (marks ++ u)) u (equal-left marks u m k))
-signed-taken tilde p y marks x u h m k =
-    let o = opens marks u m k in
+    let dark = (opens marks u (marks-all loose (compared below) p marks m) k).dark in
+    rw (below-front (y ++ t), one-read below at_most y t h dark (below-other loose p marks u m k)) (kept loose (compared below) p marks x t u refl m)
+signed-taken loose caret p y marks x u h m k =
+    let each = marks-all loose caret p marks m in
+    rw (caret-front (y ++ (marks ++ u)), blank-skipped y (marks ++ u) h (opens marks u each k).dark)
+    (caret-taken loose p marks x (skip_equal (marks ++ u)) u (equal-left marks u each k))
+signed-taken loose tilde p y marks x u h m k =
+    let each = marks-all loose tilde p marks m in
+    let o = opens marks u each k in
     rw (tilde-front (y ++ (marks ++ u)), no_greater-left y (marks ++ u) h o.dark o.greater)
-    (tilde-taken p marks x (skip_equal (marks ++ u)) u (equal-left marks u m k))
+    (tilde-taken loose p marks x (skip_equal (marks ++ u)) u (equal-left marks u each k))
 
-pub sign-taken : (signs : List ℕ) (s : Sign) (p : Partial) (marks x u : List ℕ) → IsSignText signs s → are_marks s p marks ≡ true
-    → begins_component u ≡ true → Taken s p marks x u (signs ++ (marks ++ u))
-sign-taken signs s p marks x u no_sign m k = none-taken p marks x u m k
-sign-taken signs s p marks x u (sign t y h) m k = signed-taken t p y marks x u h m k
-sign-taken signs s p marks x u (late_above y h) m k =
+pub sign-taken : (loose : Bool) (signs : List ℕ) (s : Sign) (p : Partial) (marks x u : List ℕ) → IsSignText signs s → are_marks loose s p marks ≡ true
+    → (is_empty signs && begins_byte 61 marks) ≡ false → begins_component u ≡ true → Taken loose s p marks x u (signs ++ (marks ++ u))
+sign-taken loose signs s p marks x u no_sign m none k = none-taken loose p marks x u m none k
+sign-taken loose signs s p marks x u (sign t y h) m none k = signed-taken loose t p y marks x u h m k
+sign-taken loose signs s p marks x u (late_above y h) m none k =
     let t = marks ++ u in
-    let dark = (opens marks u (marks-all (compared at_least) p marks m) k).dark in
+    let dark = (opens marks u (marks-all loose (compared at_least) p marks m) k).dark in
     rw (append_assoc y (61 ∷ []) t, above-front (y ++ (61 ∷ t)), late-read above at_least y t h dark)
-    (kept (compared at_least) p marks x t u refl m)
-sign-taken signs s p marks x u (late_below y h) m k =
+    (kept loose (compared at_least) p marks x t u refl m)
+sign-taken loose signs s p marks x u (late_below y h) m none k =
     let t = marks ++ u in
-    let dark = (opens marks u (marks-all (compared at_most) p marks m) k).dark in
+    let dark = (opens marks u (marks-all loose (compared at_most) p marks m) k).dark in
     rw (append_assoc y (61 ∷ []) t, below-front (y ++ (61 ∷ t)), late-read below at_most y t h dark)
-    (kept (compared at_most) p marks x t u refl m)
-sign-taken signs s p marks x u (caret_equal y z h l) m k =
+    (kept loose (compared at_most) p marks x t u refl m)
+sign-taken loose signs s p marks x u (caret_equal y z h l) m none k =
     let t = marks ++ u in
     let v = 61 ∷ (z ++ t) in
     rw (append_assoc y (61 ∷ z) t, caret-front (y ++ v), blank-skipped y v h (dark-byte 61 (z ++ t) refl))
-    (kept caret p marks x (drop_spaces (z ++ t)) u (blank-skipped z t l (opens marks u m k).dark) m)
-sign-taken signs s p marks x u (tilde_sign c y z h l (inl e)) m k = rw e (tilde-above p y z marks x u h l m k)
-sign-taken signs s p marks x u (tilde_sign c y z h l (inr (inl e))) m k = rw e (tilde-least p y z marks x u h l m k)
-sign-taken signs s p marks x u (tilde_sign c y z h l (inr (inr e))) m k = rw e (tilde-equal p y z marks x u h l m k)
-sign-taken signs s p marks x u (tilde_twice c y z h some l (inl e)) m k = rw e (twice-above p y z marks x u h some l m k)
-sign-taken signs s p marks x u (tilde_twice c y z h some l (inr e)) m k = rw e (twice-least p y z marks x u h some l m k)
+    (kept loose caret p marks x (drop_spaces (z ++ t)) u (blank-skipped z t l (opens marks u (marks-all loose caret p marks m) k).dark) m)
+sign-taken loose signs s p marks x u (tilde_sign c y z h l (inl e)) m none k = rw e (tilde-above loose p y z marks x u h l (marks-all loose tilde p marks m) k)
+sign-taken loose signs s p marks x u (tilde_sign c y z h l (inr (inl e))) m none k = rw e (tilde-least loose p y z marks x u h l (marks-all loose tilde p marks m) k)
+sign-taken loose signs s p marks x u (tilde_sign c y z h l (inr (inr e))) m none k = rw e (tilde-equal loose p y z marks x u h l (marks-all loose tilde p marks m) k)
+sign-taken loose signs s p marks x u (tilde_twice c y z h some l (inl e)) m none k = rw e (twice-above loose p y z marks x u h some l (marks-all loose tilde p marks m) k)
+sign-taken loose signs s p marks x u (tilde_twice c y z h some l (inr e)) m none k = rw e (twice-least loose p y z marks x u h some l (marks-all loose tilde p marks m) k)

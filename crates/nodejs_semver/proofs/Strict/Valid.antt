@@ -177,33 +177,33 @@ abbrev read_as : Bool → Signed × List ℕ → Front (List Comparison)
 read_as include w = Some (table include w.0.0 w.0.1 w.0.2, w.1)
 
 -- the words that are valid, read one after another
-pub words-valid : (limit : ℕ) (include : Bool) (n : ℕ) (text : List ℕ)
-    → valid_words limit include n text ≡ (words_within include n text >>? λ cs. valid_only limit cs)
+pub words-valid : (loose : Bool) (limit : ℕ) (include : Bool) (n : ℕ) (text : List ℕ)
+    → valid_words loose limit include n text ≡ (words_within loose include n text >>? λ cs. valid_only limit cs)
 unfolding valid_words words_within word_front
-words-valid limit include zero text = refl
-words-valid limit include (suc n) text = go (λ t. words-valid limit include n t) (signed_word text)
+words-valid loose limit include zero text = refl
+words-valid loose limit include (suc n) text = go (λ t. words-valid loose limit include n t) (signed_word loose text)
   where
-    behind : ((t : List ℕ) → valid_words limit include n t ≡ (words_within include n t >>? λ cs. valid_only limit cs))
+    behind : ((t : List ℕ) → valid_words loose limit include n t ≡ (words_within loose include n t >>? λ cs. valid_only limit cs))
         → (w : Signed × List ℕ) (cs : List Comparison)
-        → (valid_only limit cs >>? λ cs. if is_empty w.1 then Some cs else (valid_words limit include n (drop_spaces w.1) >>? λ ds. Some (cs ++ ds)))
-        ≡ ((if is_empty w.1 then Some cs else (words_within include n (drop_spaces w.1) >>? λ ds. Some (cs ++ ds))) >>? λ all. valid_only limit all)
+        → (valid_only limit cs >>? λ cs. if is_empty w.1 then Some cs else (valid_words loose limit include n (drop_spaces w.1) >>? λ ds. Some (cs ++ ds)))
+        ≡ ((if is_empty w.1 then Some cs else (words_within loose include n (drop_spaces w.1) >>? λ ds. Some (cs ++ ds))) >>? λ all. valid_only limit all)
     behind f w cs = elim (cases_Bool (list_all (is_valid limit) cs)) [
       | inl good ↦ elim (cases_Bool (is_empty w.1)) [
         | inl ended ↦ rw (good, ended, good) refl
         | inr goes ↦
-            rw (good, goes, f (drop_spaces w.1)) (valid-append limit cs (words_within include n (drop_spaces w.1)) good)
+            rw (good, goes, f (drop_spaces w.1)) (valid-append limit cs (words_within loose include n (drop_spaces w.1)) good)
       ]
       | inr bad ↦ elim (cases_Bool (is_empty w.1)) [
         | inl ended ↦ rw (bad, ended, bad) refl
-        | inr goes ↦ rw (bad, goes) (none-valid limit cs (words_within include n (drop_spaces w.1)) bad)
+        | inr goes ↦ rw (bad, goes) (none-valid limit cs (words_within loose include n (drop_spaces w.1)) bad)
       ]
     ]
 
-    go : ((t : List ℕ) → valid_words limit include n t ≡ (words_within include n t >>? λ cs. valid_only limit cs))
+    go : ((t : List ℕ) → valid_words loose limit include n t ≡ (words_within loose include n t >>? λ cs. valid_only limit cs))
         → (o : Front Signed) → (limited_word limit o >>? λ w. valid_only limit (table include w.0.0 w.0.1 w.0.2) >>? λ cs.
-        if is_empty w.1 then Some cs else (valid_words limit include n (drop_spaces w.1) >>? λ ds. Some (cs ++ ds)))
+        if is_empty w.1 then Some cs else (valid_words loose limit include n (drop_spaces w.1) >>? λ ds. Some (cs ++ ds)))
         ≡ (((o >>? read_as include) >>? λ w. if is_empty w.1 then Some w.0
-        else (words_within include n (drop_spaces w.1) >>? λ ds. Some (w.0 ++ ds))) >>? λ all. valid_only limit all)
+        else (words_within loose include n (drop_spaces w.1) >>? λ ds. Some (w.0 ++ ds))) >>? λ all. valid_only limit all)
     go f None = refl
     go f (Some w) = elim (cases_Bool (is_small limit w.0.1)) [
       | inl small ↦ rw small (behind f w (table include w.0.0 w.0.1 w.0.2))

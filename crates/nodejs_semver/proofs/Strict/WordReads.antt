@@ -1,5 +1,5 @@
 -- The words that the code reads are those whose numbers are up to the limit.
-use Rattle.nodejs_semver.proofs.Common.{◌≡◌, ◌≤◌, ◌-◌, ℕ, List, length, drop, take, refl, sym, ap, ◌∙◌, arith, true, Some}
+use Rattle.nodejs_semver.proofs.Common.{Bool, ◌≡◌, ◌≤◌, ◌-◌, ℕ, List, length, drop, take, refl, sym, ap, ◌∙◌, arith, true, Some}
 use Rattle.nodejs_semver.proofs.Common.{None, inl, inr, ◌&&◌, cases_Bool, cond_some, length-append, list_all, take_rest, MAX_SAFE_INTEGER}
 use Rattle.std.proofs.Common.{length-drop}
 use Rattle.nodejs_semver.specs.Internal.Fronts.{Front}
@@ -15,40 +15,40 @@ use Rattle.nodejs_semver.proofs.Strict.Places.{prefix-all}
 pub marks_all : (text : List ℕ) (at : ℕ) → at ≡ marks_len text → list_all is_mark (take at text) ≡ true
 marks_all text at e = rw e (prefix-all is_mark text)
 
-word-limited : (limit : ℕ) (s : Sign × List ℕ) (o : Front Partial) → limited_word limit (marked_word s o) ≡ marked_word s (limited limit o)
-word-limited limit s None = refl
-word-limited limit s (Some p) =
-    let test = are_marks s.0 p.0 (take (marks_len s.1) s.1) && is_boundary p.1 in
+word-limited : (loose : Bool) (limit : ℕ) (s : Sign × List ℕ) (o : Front Partial) → limited_word limit (marked_word loose s o) ≡ marked_word loose s (limited limit o)
+word-limited loose limit s None = refl
+word-limited loose limit s (Some p) =
+    let test = are_marks loose s.0 p.0 (take (marks_len s.1) s.1) && is_boundary p.1 in
     elim (cases_Bool test) [
       | inl good ↦ elim (cases_Bool (is_small limit p.0)) [ inl small ↦ rw (good, small, good) refl | inr big ↦ rw (good, big) refl ]
       | inr bad ↦ elim (cases_Bool (is_small limit p.0)) [ inl small ↦ rw (bad, small, bad) refl | inr big ↦ rw (bad, big) refl ]
     ]
 
 -- the word of a sign and of the partial that was read behind the marks
-pub word_here : (text : List ℕ) (s : Sign × List ℕ) (at : ℕ) (o : Front Partial) → s ≡ npm_sign text → at ≡ marks_len s.1
-    → o ≡ counted_front MAX_SAFE_INTEGER (take (length s.1 - at) (drop at s.1)) → marked_word s o ≡ limited_word MAX_SAFE_INTEGER (signed_word text)
+pub word_here : (loose : Bool) (text : List ℕ) (s : Sign × List ℕ) (at : ℕ) (o : Front Partial) → s ≡ npm_sign text → at ≡ marks_len s.1
+    → o ≡ counted_front loose MAX_SAFE_INTEGER (take (length s.1 - at) (drop at s.1)) → marked_word loose s o ≡ limited_word MAX_SAFE_INTEGER (signed_word loose text)
 unfolding signed_word
-word_here text s at o e is read =
+word_here loose text s at o e is read =
     let behind = drop at s.1 in
-    let front : o ≡ limited MAX_SAFE_INTEGER (partial_front behind) =
-    read ∙ ap (λ (t : List ℕ). counted_front MAX_SAFE_INTEGER t) (take_rest s.1 at) ∙ counted_limited MAX_SAFE_INTEGER behind in
-    let whole : signed_word text ≡ marked_word s (partial_front (drop (marks_len s.1) s.1)) = rw (← e) refl in
-    rw (front, is, whole) (sym (word-limited MAX_SAFE_INTEGER s (partial_front (drop (marks_len s.1) s.1))))
+    let front : o ≡ limited MAX_SAFE_INTEGER (partial_front loose behind) =
+    read ∙ ap (λ (t : List ℕ). counted_front loose MAX_SAFE_INTEGER t) (take_rest s.1 at) ∙ counted_limited loose MAX_SAFE_INTEGER behind in
+    let whole : signed_word loose text ≡ marked_word loose s (partial_front loose (drop (marks_len s.1) s.1)) = rw (← e) refl in
+    rw (front, is, whole) (sym (word-limited loose MAX_SAFE_INTEGER s (partial_front loose (drop (marks_len s.1) s.1))))
 
 -- what stands behind a partial is no longer than the text
-pub partial-le : (limit : ℕ) (text : List ℕ) (p : Partial) (rest : List ℕ) → Some (p, rest) ≡ counted_front limit text → length rest ≤ length text
-partial-le limit text p rest h = go (partial_front text) refl (h ∙ counted_limited limit text)
+pub partial-le : (loose : Bool) (limit : ℕ) (text : List ℕ) (p : Partial) (rest : List ℕ) → Some (p, rest) ≡ counted_front loose limit text → length rest ≤ length text
+partial-le loose limit text p rest h = go (partial_front loose text) refl (h ∙ counted_limited loose limit text)
   where
-    go : (o : Front Partial) → partial_front text ≡ o → Some (p, rest) ≡ limited limit o → length rest ≤ length text
+    go : (o : Front Partial) → partial_front loose text ≡ o → Some (p, rest) ≡ limited limit o → length rest ≤ length text
     go None e k = cc k
     go (Some q) e k =
         let same = cond_some (is_small limit q.0) q (p, rest) (sym k) in
-        let at_partial = partial-found text q.0 q.1 e in
+        let at_partial = partial-found loose text q.0 q.1 e in
         omega (arith, ap length at_partial.split, length-append at_partial.piece q.1, ap (λ (x : Partial × List ℕ). length x.1) same.1)
 
-pub behind-le : (limit : ℕ) (text : List ℕ) (at : ℕ) (p : Partial) (rest : List ℕ)
-    → Some (p, rest) ≡ counted_front limit (take (length text - at) (drop at text)) → length rest ≤ length text
-behind-le limit text at p rest h =
-    omega (arith, partial-le limit (drop at text) p rest (h ∙ ap (λ (t : List ℕ). counted_front limit t) (take_rest text at)), length-drop at text)
+pub behind-le : (loose : Bool) (limit : ℕ) (text : List ℕ) (at : ℕ) (p : Partial) (rest : List ℕ)
+    → Some (p, rest) ≡ counted_front loose limit (take (length text - at) (drop at text)) → length rest ≤ length text
+behind-le loose limit text at p rest h =
+    omega (arith, partial-le loose limit (drop at text) p rest (h ∙ ap (λ (t : List ℕ). counted_front loose limit t) (take_rest text at)), length-drop at text)
 
 pub ruleset marks_found = (marks_all)

@@ -14,8 +14,8 @@ use Rattle.nodejs_semver.proofs.Reading.Bytes.{begins-some, is_solid}
 use Rattle.nodejs_semver.proofs.Strict.Signs.{blank-at}
 use Rattle.nodejs_semver.proofs.Strict.Words.{WordAt, word-found, word-solid}
 
-abbrev pub word_at_front : List ℕ → Front Signed
-word_at_front text = limited_word MAX_SAFE_INTEGER (signed_word text)
+abbrev pub word_at_front : (loose : Bool) → List ℕ → Front Signed
+word_at_front loose text = limited_word MAX_SAFE_INTEGER (signed_word loose text)
 
 abbrev pub row_of : Bool → Signed → List Comparison
 row_of include w = table include w.0 w.1 w.2
@@ -24,16 +24,16 @@ limited-some : (o : Front Signed) (w : Signed × List ℕ) → limited_word MAX_
 limited-some None w h = cc h
 limited-some (Some q) w h = ap (λ (x : Signed × List ℕ). Some x) (cond_some (is_small MAX_SAFE_INTEGER q.0.1) q w h).1
 
-pub word-at : (include : Bool) (text : List ℕ) (w : Signed × List ℕ) → IsUtf8 text → word_at_front text ≡ Some w
-    → WordAt include text (row_of include w.0) w.1
+pub word-at : (loose : Bool) (include : Bool) (text : List ℕ) (w : Signed × List ℕ) → IsUtf8 text → word_at_front loose text ≡ Some w
+    → WordAt loose include text (row_of include w.0) w.1
 unfolding word_front
-word-at include text w u h = word-found include text (row_of include w.0) w.1 u (rw (limited-some (signed_word text) w h) refl)
+word-at loose include text w u h = word-found loose include text (row_of include w.0) w.1 u (rw (limited-some (signed_word loose text) w h) refl)
 
 -- the text behind a word and its whitespace is shorter
-pub word-shorter : (include : Bool) (text : List ℕ) (w : Signed × List ℕ) → IsUtf8 text → word_at_front text ≡ Some w
+pub word-shorter : (loose : Bool) (include : Bool) (text : List ℕ) (w : Signed × List ℕ) → IsUtf8 text → word_at_front loose text ≡ Some w
     → length (drop_spaces w.1) < length text
-word-shorter include text w u h =
-    let x = word-at include text w u h in
+word-shorter loose include text w u h =
+    let x = word-at loose include text w u h in
     let b = blank-at w.1 x.utf8 in
     omega (
       arith,
@@ -41,84 +41,84 @@ word-shorter include text w u h =
       length-append x.piece w.1,
       ap length b.split,
       length-append b.blank (drop_spaces w.1),
-      begins-some is_solid x.piece (word-solid include x.piece (row_of include w.0) x.is),
+      begins-some is_solid x.piece (word-solid loose include x.piece (row_of include w.0) x.is),
     )
 
-pub left-utf8 : (include : Bool) (text : List ℕ) (w : Signed × List ℕ) → IsUtf8 text → word_at_front text ≡ Some w → IsUtf8 (drop_spaces w.1)
-left-utf8 include text w u h = (blank-at w.1 (word-at include text w u h).utf8).utf8
+pub left-utf8 : (loose : Bool) (include : Bool) (text : List ℕ) (w : Signed × List ℕ) → IsUtf8 text → word_at_front loose text ≡ Some w → IsUtf8 (drop_spaces w.1)
+left-utf8 loose include text w u h = (blank-at w.1 (word-at loose include text w u h).utf8).utf8
 
 -- the words that follow one
-abbrev pub go_on : Bool → ℕ → Signed × List ℕ → Option (List Comparison)
-go_on include n w = valid_only MAX_SAFE_INTEGER (row_of include w.0) >>? λ cs. if is_empty w.1 then Some cs
-    else (valid_words MAX_SAFE_INTEGER include n (drop_spaces w.1) >>? λ ds. Some (cs ++ ds))
+abbrev pub go_on : (loose : Bool) → Bool → ℕ → Signed × List ℕ → Option (List Comparison)
+go_on loose include n w = valid_only MAX_SAFE_INTEGER (row_of include w.0) >>? λ cs. if is_empty w.1 then Some cs
+    else (valid_words loose MAX_SAFE_INTEGER include n (drop_spaces w.1) >>? λ ds. Some (cs ++ ds))
 
-none-short : (include : Bool) (n : ℕ) (text : List ℕ) → IsUtf8 text → length text ≤ 0 → (o : Front Signed) → word_at_front text ≡ o
-    → None ≡ (o >>? λ w. go_on include n w)
-none-short include n text u h None e = refl
-none-short include n text u h (Some w) e = absurd (omega (arith, h, word-shorter include text w u e))
+none-short : (loose : Bool) (include : Bool) (n : ℕ) (text : List ℕ) → IsUtf8 text → length text ≤ 0 → (o : Front Signed) → word_at_front loose text ≡ o
+    → None ≡ (o >>? λ w. go_on loose include n w)
+none-short loose include n text u h None e = refl
+none-short loose include n text u h (Some w) e = absurd (omega (arith, h, word-shorter loose include text w u e))
 
 -- the number only bounds the words
-enough : (include : Bool) (n m : ℕ) (text : List ℕ) → IsUtf8 text → length text ≤ n → length text ≤ m
-    → valid_words MAX_SAFE_INTEGER include n text ≡ valid_words MAX_SAFE_INTEGER include m text
+enough : (loose : Bool) (include : Bool) (n m : ℕ) (text : List ℕ) → IsUtf8 text → length text ≤ n → length text ≤ m
+    → valid_words loose MAX_SAFE_INTEGER include n text ≡ valid_words loose MAX_SAFE_INTEGER include m text
 unfolding valid_words
-enough include zero zero text u h k = refl
-enough include zero (suc m) text u h k = none-short include m text u h (word_at_front text) refl
-enough include (suc n) zero text u h k = sym (none-short include n text u k (word_at_front text) refl)
-enough include (suc n) (suc m) text u h k = go (λ t u h k. enough include n m t u h k) (word_at_front text) refl
+enough loose include zero zero text u h k = refl
+enough loose include zero (suc m) text u h k = none-short loose include m text u h (word_at_front loose text) refl
+enough loose include (suc n) zero text u h k = sym (none-short loose include n text u k (word_at_front loose text) refl)
+enough loose include (suc n) (suc m) text u h k = go (λ t u h k. enough loose include n m t u h k) (word_at_front loose text) refl
   where
     go : ((t : List ℕ) → IsUtf8 t → length t ≤ n → length t ≤ m
-        → valid_words MAX_SAFE_INTEGER include n t ≡ valid_words MAX_SAFE_INTEGER include m t)
-        → (o : Front Signed) → word_at_front text ≡ o → (o >>? λ w. go_on include n w) ≡ (o >>? λ w. go_on include m w)
+        → valid_words loose MAX_SAFE_INTEGER include n t ≡ valid_words loose MAX_SAFE_INTEGER include m t)
+        → (o : Front Signed) → word_at_front loose text ≡ o → (o >>? λ w. go_on loose include n w) ≡ (o >>? λ w. go_on loose include m w)
     go f None e = refl
     go f (Some w) e =
-        let less = word-shorter include text w u e in
-        rw (f (drop_spaces w.1) (left-utf8 include text w u e) (omega (arith, less, h)) (omega (arith, less, k))) refl
+        let less = word-shorter loose include text w u e in
+        rw (f (drop_spaces w.1) (left-utf8 loose include text w u e) (omega (arith, less, h)) (omega (arith, less, k))) refl
 
 -- ---- the steps
 
-abbrev pub behind_word : Bool → Signed × List ℕ → Option (List Comparison)
-behind_word include w = valid_only MAX_SAFE_INTEGER (row_of include w.0) >>? λ cs. if is_empty w.1 then Some cs
-    else (words_of include (drop_spaces w.1) >>? λ ds. Some (cs ++ ds))
+abbrev pub behind_word : (loose : Bool) → Bool → Signed × List ℕ → Option (List Comparison)
+behind_word loose include w = valid_only MAX_SAFE_INTEGER (row_of include w.0) >>? λ cs. if is_empty w.1 then Some cs
+    else (words_of loose include (drop_spaces w.1) >>? λ ds. Some (cs ++ ds))
 
-pub words-step : (include : Bool) (text : List ℕ) → IsUtf8 text → (o : Front Signed) → word_at_front text ≡ o
-    → words_of include text ≡ (o >>? λ w. behind_word include w)
+pub words-step : (loose : Bool) (include : Bool) (text : List ℕ) → IsUtf8 text → (o : Front Signed) → word_at_front loose text ≡ o
+    → words_of loose include text ≡ (o >>? λ w. behind_word loose include w)
 unfolding valid_words
-words-step include [] u None e = refl
-words-step include [] u (Some w) e = absurd (omega (arith, word-shorter include [] w u e))
-words-step include (b ∷ text) u None e = rw e refl
-words-step include (b ∷ text) u (Some w) e =
-    let less = word-shorter include (b ∷ text) w u e in
-    let left = left-utf8 include (b ∷ text) w u e in
-    rw (e, enough include (length text) (length (drop_spaces w.1)) (drop_spaces w.1) left (omega (arith, less)) (omega arith)) refl
+words-step loose include [] u None e = refl
+words-step loose include [] u (Some w) e = absurd (omega (arith, word-shorter loose include [] w u e))
+words-step loose include (b ∷ text) u None e = rw e refl
+words-step loose include (b ∷ text) u (Some w) e =
+    let less = word-shorter loose include (b ∷ text) w u e in
+    let left = left-utf8 loose include (b ∷ text) w u e in
+    rw (e, enough loose include (length text) (length (drop_spaces w.1)) (drop_spaces w.1) left (omega (arith, less)) (omega arith)) refl
 
 -- what was read of a text, and what is left
-pub record AreWordsTo (include : Bool) (text : List ℕ) (all : Option (Span VersionValue)) (rest : List ℕ) : Type 0 where
+pub record AreWordsTo (loose : Bool) (include : Bool) (text : List ℕ) (all : Option (Span VersionValue)) (rest : List ℕ) : Type 0 where
   pub read : List Comparison
   pub narrowed : IsNarrowed include read all
-  pub same : words_of include text ≡ (words_of include rest >>? λ ds. Some (read ++ ds))
+  pub same : words_of loose include text ≡ (words_of loose include rest >>? λ ds. Some (read ++ ds))
   pub utf8 : IsUtf8 rest
 
-pub words-begin : (include : Bool) (text : List ℕ) (all : Option (Span VersionValue)) → IsUtf8 text → IsNarrowed include [] all
-    → AreWordsTo include text all text
-words-begin include text all u h = record { read = []; narrowed = h; same = whole (words_of include text); utf8 = u }
+pub words-begin : (loose : Bool) (include : Bool) (text : List ℕ) (all : Option (Span VersionValue)) → IsUtf8 text → IsNarrowed include [] all
+    → AreWordsTo loose include text all text
+words-begin loose include text all u h = record { read = []; narrowed = h; same = whole (words_of loose include text); utf8 = u }
   where
     whole : (o : Option (List Comparison)) → o ≡ (o >>? λ ds. Some ([] ++ ds))
     whole None = refl
     whole (Some ds) = refl
 
 -- one word more
-pub words-next : (include : Bool) (text rest : List ℕ) (all : Option (Span VersionValue)) (w : Signed × List ℕ) (a : Alternative)
-    → AreWordsTo include text all rest → word_at_front rest ≡ Some w → NarrowedBy include all (row_of include w.0) (Some a)
-    → is_empty w.1 ≡ false → AreWordsTo include text a.interval (drop_spaces w.1)
-words-next include text rest all w a h e n goes =
+pub words-next : (loose : Bool) (include : Bool) (text rest : List ℕ) (all : Option (Span VersionValue)) (w : Signed × List ℕ) (a : Alternative)
+    → AreWordsTo loose include text all rest → word_at_front loose rest ≡ Some w → NarrowedBy include all (row_of include w.0) (Some a)
+    → is_empty w.1 ≡ false → AreWordsTo loose include text a.interval (drop_spaces w.1)
+words-next loose include text rest all w a h e n goes =
     let row = row_of include w.0 in
-    let step : words_of include rest ≡ (words_of include (drop_spaces w.1) >>? λ ds. Some (row ++ ds)) =
-    words-step include rest h.utf8 (Some w) e ∙ rw (n.0, goes) refl in
+    let step : words_of loose include rest ≡ (words_of loose include (drop_spaces w.1) >>? λ ds. Some (row ++ ds)) =
+    words-step loose include rest h.utf8 (Some w) e ∙ rw (n.0, goes) refl in
     record {
       read = h.read ++ row;
       narrowed = n.1 h.read h.narrowed;
-      same = h.same ∙ rw step (joined h.read row (words_of include (drop_spaces w.1)));
-      utf8 = left-utf8 include rest w h.utf8 e;
+      same = h.same ∙ rw step (joined h.read row (words_of loose include (drop_spaces w.1)));
+      utf8 = left-utf8 loose include rest w h.utf8 e;
     }
   where
     joined : (cs row : List Comparison) (o : Option (List Comparison))
@@ -127,29 +127,29 @@ words-next include text rest all w a h e n goes =
     joined cs row (Some ds) = ap (λ (l : List Comparison). Some l) (sym (append_assoc cs row ds))
 
 -- the last word
-pub words-end : (include : Bool) (text rest : List ℕ) (all : Option (Span VersionValue)) (w : Signed × List ℕ) (a : Alternative)
-    → AreWordsTo include text all rest → word_at_front rest ≡ Some w → NarrowedBy include all (row_of include w.0) (Some a)
-    → is_empty w.1 ≡ true → IsFound include (words_of include text) (Some a)
-words-end include text rest all w a h e n ended =
+pub words-end : (loose : Bool) (include : Bool) (text rest : List ℕ) (all : Option (Span VersionValue)) (w : Signed × List ℕ) (a : Alternative)
+    → AreWordsTo loose include text all rest → word_at_front loose rest ≡ Some w → NarrowedBy include all (row_of include w.0) (Some a)
+    → is_empty w.1 ≡ true → IsFound include (words_of loose include text) (Some a)
+words-end loose include text rest all w a h e n ended =
     let row = row_of include w.0 in
-    let step : words_of include rest ≡ Some row = words-step include rest h.utf8 (Some w) e ∙ rw (n.0, ended) refl in
-    let whole : words_of include text ≡ Some (h.read ++ row) = h.same ∙ rw step refl in
+    let step : words_of loose include rest ≡ Some row = words-step loose include rest h.utf8 (Some w) e ∙ rw (n.0, ended) refl in
+    let whole : words_of loose include text ≡ Some (h.read ++ row) = h.same ∙ rw step refl in
     rw whole (n.1 h.read h.narrowed)
 
 -- no word where one is to be
-pub words-none : (include : Bool) (text rest : List ℕ) (all : Option (Span VersionValue)) → AreWordsTo include text all rest
-    → word_at_front rest ≡ None → IsFound include (words_of include text) None
-words-none include text rest all h e =
-    let whole : words_of include text ≡ None = h.same ∙ rw (words-step include rest h.utf8 None e) refl in
+pub words-none : (loose : Bool) (include : Bool) (text rest : List ℕ) (all : Option (Span VersionValue)) → AreWordsTo loose include text all rest
+    → word_at_front loose rest ≡ None → IsFound include (words_of loose include text) None
+words-none loose include text rest all h e =
+    let whole : words_of loose include text ≡ None = h.same ∙ rw (words-step loose include rest h.utf8 None e) refl in
     rw whole tt
 
 -- a comparator that is not valid
-pub words-invalid : (include : Bool) (text rest : List ℕ) (all : Option (Span VersionValue)) (w : Signed × List ℕ)
-    → AreWordsTo include text all rest → word_at_front rest ≡ Some w → NarrowedBy include all (row_of include w.0) None
-    → IsFound include (words_of include text) None
-words-invalid include text rest all w h e n =
-    let step : words_of include rest ≡ None = words-step include rest h.utf8 (Some w) e ∙ rw n refl in
-    let whole : words_of include text ≡ None = h.same ∙ rw step refl in
+pub words-invalid : (loose : Bool) (include : Bool) (text rest : List ℕ) (all : Option (Span VersionValue)) (w : Signed × List ℕ)
+    → AreWordsTo loose include text all rest → word_at_front loose rest ≡ Some w → NarrowedBy include all (row_of include w.0) None
+    → IsFound include (words_of loose include text) None
+words-invalid loose include text rest all w h e n =
+    let step : words_of loose include rest ≡ None = words-step loose include rest h.utf8 (Some w) e ∙ rw n refl in
+    let whole : words_of loose include text ≡ None = h.same ∙ rw step refl in
     rw whole tt
 
 pub empty-length : (text : List ℕ) → is_empty text ≡ (length text == 0)

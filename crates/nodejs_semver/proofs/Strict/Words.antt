@@ -1,11 +1,12 @@
 -- The words of node-semver's range texts: the functions that read them find exactly what the statement has.
 use Rattle.nodejs_semver.proofs.Common.{◌≡◌, ◌⊎◌, ◌<◌, ◌≤◌, ◌-◌, ℕ, zero, suc, Bool, List, [], ◌∷◌, ◌++◌, length, drop, take, refl, sym, ap, ◌∙◌, arith}
-use Rattle.nodejs_semver.proofs.Common.{true, false, Some, Option, inl, inr, ◌&&◌, and_parts, append_assoc, append-nil, bind_some, cases_Bool}
+use Rattle.nodejs_semver.proofs.Common.{true, false, Some, Option, inl, inr, ◌&&◌, ◌==◌, eqb-true, and_parts, append_assoc, append-nil, bind_some, cases_Bool}
 use Rattle.nodejs_semver.proofs.Common.{cond_some, drop_at, take_at, length-append, list_all, nat_tests, same_Some, subst, begins, IsUtf8, is_empty}
 use Rattle.nodejs_semver.proofs.Common.{drop_spaces, space_len}
 use Rattle.std.proofs.lemmas.Bool.{lt-ltb}
 use Rattle.std.proofs.lemmas.List.{take-append-drop}
 use Rattle.semver_core.specs.Text.Characters.{IsBlank}
+use Rattle.nodejs_semver.specs.Internal.Fronts.{begins_byte}
 use Rattle.nodejs_semver.specs.Internal.NpmWords.{Signed, ended_word, marked_word, marks_len, npm_sign, partial_front, signed_word, word_front, words_within}
 use Rattle.nodejs_semver.specs.Internal.Words.{is_boundary}
 use Rattle.nodejs_semver.specs.Npm.RangeText as Text
@@ -14,7 +15,7 @@ use Rattle.nodejs_semver.specs.Npm.RangeText.{caret_equal, late_above, late_belo
 use Rattle.nodejs_semver.specs.Npm.Table.{Comparison, Partial, Sign, caret, compared, table, tilde}
 use Rattle.nodejs_semver.specs.Text.WordText.{above, at_least, at_most, below, equal}
 use Rattle.nodejs_semver.proofs.Reading.Bytes.{begins-on, begins-some, begins_component, is_component_byte, is_solid, solid-dark}
-use Rattle.nodejs_semver.proofs.Reading.Progress.{spaces-gone}
+use Rattle.nodejs_semver.proofs.Reading.Progress.{spaces-gone, spaces-le}
 use Rattle.nodejs_semver.proofs.Reading.WordLaw.{boundary-utf8, suffix-boundary}
 use Rattle.nodejs_semver.proofs.Strict.PartialLaw.{boundary-quiet, partial-found, partial-read}
 use Rattle.nodejs_semver.proofs.Strict.Places.{digits-begin}
@@ -24,19 +25,19 @@ use Rattle.nodejs_semver.proofs.Strict.SignsRead.{blank-cases, blank-skipped, ma
 
 -- ---- how partials and marks begin
 
-place-begins : (x : List ℕ) (a : Option ℕ) → IsPlace x a → begins_component x ≡ true
-place-begins x a (Text.any b h) = rw h refl
-place-begins x a (Text.number digits n k short) =
-    let digit = digits-begin digits k.number.some k.number.each in
+place-begins : (loose : Bool) (x : List ℕ) (a : Option ℕ) → IsPlace loose x a → begins_component x ≡ true
+place-begins loose x a (Text.any b h) = rw h refl
+place-begins loose x a (Text.number digits n k spelled short) =
+    let digit = digits-begin digits k.some k.each in
     grind arith
 
-pub partial-begins : (x rest : List ℕ) (p : Partial) → IsPartial x p → begins_component (x ++ rest) ≡ true
-partial-begins x rest p (one x1 a h) = begins-on is_component_byte x1 rest (place-begins x1 a h)
-partial-begins x rest p (two x1 y a b h k) =
-    begins-on is_component_byte (x1 ++ (46 ∷ y)) rest (begins-on is_component_byte x1 (46 ∷ y) (place-begins x1 a h))
-partial-begins x rest p (three x1 y z pre build a b c ids builds h k l m s n t) =
+pub partial-begins : (loose : Bool) (x rest : List ℕ) (p : Partial) → IsPartial loose x p → begins_component (x ++ rest) ≡ true
+partial-begins loose x rest p (one x1 a h) = begins-on is_component_byte x1 rest (place-begins loose x1 a h)
+partial-begins loose x rest p (two x1 y a b h k) =
+    begins-on is_component_byte (x1 ++ (46 ∷ y)) rest (begins-on is_component_byte x1 (46 ∷ y) (place-begins loose x1 a h))
+partial-begins loose x rest p (three x1 y z pre build a b c ids builds h k l m s n t) =
     let behind = 46 ∷ (y ++ 46 ∷ (z ++ (pre ++ build))) in
-    begins-on is_component_byte (x1 ++ behind) rest (begins-on is_component_byte x1 behind (place-begins x1 a h))
+    begins-on is_component_byte (x1 ++ behind) rest (begins-on is_component_byte x1 behind (place-begins loose x1 a h))
 
 marks-counted : (marks u : List ℕ) → list_all is_mark marks ≡ true → begins_component u ≡ true → marks_len (marks ++ u) ≡ length marks
 marks-counted [] [] h k = cc k
@@ -50,52 +51,71 @@ front-text front rest = grind (arith, take_at, length-append)
 
 -- ---- one word: what is written is read
 
-marked-read : (s : Sign × List ℕ) (p : Partial) (marks x rest : List ℕ) → s.1 ≡ marks ++ (x ++ rest) → are_marks s.0 p marks ≡ true
-    → IsPartial x p → is_boundary rest ≡ true
-    → marked_word s (partial_front (drop (marks_len s.1) s.1)) ≡ Some ((s.0, p, marks ++ x), rest)
-marked-read s p marks x rest e m k b =
+marked-read : (loose : Bool) (s : Sign × List ℕ) (p : Partial) (marks x rest : List ℕ) → s.1 ≡ marks ++ (x ++ rest) → are_marks loose s.0 p marks ≡ true
+    → IsPartial loose x p → is_boundary rest ≡ true
+    → marked_word loose s (partial_front loose (drop (marks_len s.1) s.1)) ≡ Some ((s.0, p, marks ++ x), rest)
+marked-read loose s p marks x rest e m k b =
     let u = x ++ rest in
-    let count = marks-counted marks u (marks-all s.0 p marks m) (partial-begins x rest p k) in
-    let read = partial-read x rest p k (boundary-quiet rest b) in
+    let count = marks-counted marks u (marks-all loose s.0 p marks m) (partial-begins loose x rest p k) in
+    let read = partial-read loose x rest p k (boundary-quiet rest b) in
     let text : take (length (marks ++ u) - length rest) (marks ++ u) ≡ marks ++ x =
     rw (append_assoc marks x rest) at (front-text (marks ++ x) rest) in
     rw (e, count, drop_at marks u (length marks) refl, read, take_at marks u (length marks) refl, m, b, text) refl
 
-pub word-read : (include : Bool) (w rest : List ℕ) (cs : List Comparison) → IsWord include w cs → is_boundary rest ≡ true
-    → word_front include (w ++ rest) ≡ Some (cs, rest)
+pub word-read : (loose : Bool) (include : Bool) (w rest : List ℕ) (cs : List Comparison) → IsWord loose include w cs → is_boundary rest ≡ true
+    → word_front loose include (w ++ rest) ≡ Some (cs, rest)
 unfolding word_front signed_word
-word-read include w rest cs (word signs marks x s p h m k) b =
+word-read loose include w rest cs (word signs marks x s p h m e k) b =
     let u = x ++ rest in
-    let t = sign-taken signs s p marks x u h m (partial-begins x rest p k) in
+    let t = sign-taken loose signs s p marks x u h m e (partial-begins loose x rest p k) in
     let whole : (signs ++ (marks ++ x)) ++ rest ≡ signs ++ (marks ++ u) = simp append_assoc refl in
-    rw (whole, marked-read (npm_sign (signs ++ (marks ++ u))) p t.left x rest t.is t.marked k b, t.same include) refl
+    rw (whole, marked-read loose (npm_sign (signs ++ (marks ++ u))) p t.left x rest t.is t.marked k b, t.same include) refl
 
 -- ---- one word: what is read is written
 
-pub record WordAt (include : Bool) (text : List ℕ) (cs : List Comparison) (rest : List ℕ) : Type 0 where
+pub record WordAt (loose : Bool) (include : Bool) (text : List ℕ) (cs : List Comparison) (rest : List ℕ) : Type 0 where
   pub piece : List ℕ
   pub split : text ≡ piece ++ rest
-  pub is : IsWord include piece cs
+  pub is : IsWord loose include piece cs
   pub ended : is_boundary rest ≡ true
   pub utf8 : IsUtf8 rest
 
 pub rest-utf8 : (front rest : List ℕ) → IsUtf8 (front ++ rest) → is_boundary rest ≡ true → IsUtf8 rest
 rest-utf8 front rest u b = boundary-utf8 front rest u (suffix-boundary front rest u b)
 
-pub word-found : (include : Bool) (text : List ℕ) (cs : List Comparison) (rest : List ℕ) → IsUtf8 text
-    → word_front include text ≡ Some (cs, rest) → WordAt include text cs rest
+-- without a sign no `=` is at the front, since it would be one
+none-first : (text : List ℕ) → text ≡ (npm_sign text).1 → begins_byte 61 text ≡ false
+unfolding npm_sign
+none-first [] h = refl
+none-first (b ∷ rest) h = elim (cases_Bool (b == 61)) [
+  | inr other ↦ other
+  | inl mark ↦
+      let same : 61 ∷ rest ≡ drop_spaces rest = rw (eqb-true b 61 mark) at h in
+      absurd (omega (arith, ap length same, spaces-le rest))
+]
+
+first-take : (n : ℕ) (text : List ℕ) → begins_byte 61 text ≡ false → begins_byte 61 (take n text) ≡ false
+first-take n text h = grind arith
+
+unsigned : (text signs : List ℕ) (n : ℕ) → text ≡ signs ++ (npm_sign text).1
+    → (is_empty signs && begins_byte 61 (take n (npm_sign text).1)) ≡ false
+unsigned text [] n e = first-take n (npm_sign text).1 (rw e at (none-first text e))
+unsigned text (b ∷ signs) n e = refl
+
+pub word-found : (loose : Bool) (include : Bool) (text : List ℕ) (cs : List Comparison) (rest : List ℕ) → IsUtf8 text
+    → word_front loose include text ≡ Some (cs, rest) → WordAt loose include text cs rest
 unfolding word_front signed_word
-word-found include text cs rest u h =
+word-found loose include text cs rest u h =
     let s = npm_sign text in
     let at_sign = sign-found text u in
     let n = marks_len s.1 in
     let marks = take n s.1 in
-    let w = bind_some (signed_word text) (λ w. Some (table include w.0.0 w.0.1 w.0.2, w.1)) (cs, rest) h in
-    let p = bind_some (partial_front (drop n s.1)) (λ p. ended_word s.0 s.1 n p) w.0 w.1 in
+    let w = bind_some (signed_word loose text) (λ w. Some (table include w.0.0 w.0.1 w.0.2, w.1)) (cs, rest) h in
+    let p = bind_some (partial_front loose (drop n s.1)) (λ p. ended_word loose s.0 s.1 n p) w.0 w.1 in
     let whole_text = take (length s.1 - length p.0.1) s.1 in
-    let t = cond_some (are_marks s.0 p.0.0 marks && is_boundary p.0.1) ((s.0, p.0.0, whole_text), p.0.1) w.0 p.2 in
-    let tests = and_parts (are_marks s.0 p.0.0 marks) (is_boundary p.0.1) t.0 in
-    let part = partial-found (drop n s.1) p.0.0 p.0.1 p.1 in
+    let t = cond_some (are_marks loose s.0 p.0.0 marks && is_boundary p.0.1) ((s.0, p.0.0, whole_text), p.0.1) w.0 p.2 in
+    let tests = and_parts (are_marks loose s.0 p.0.0 marks) (is_boundary p.0.1) t.0 in
+    let part = partial-found loose (drop n s.1) p.0.0 p.0.1 p.1 in
     let front = marks ++ part.piece in
     let behind : s.1 ≡ front ++ p.0.1 =
     sym (take-append-drop n s.1) ∙ ap (λ (t : List ℕ). marks ++ t) part.split ∙ sym (append_assoc marks part.piece p.0.1) in
@@ -105,16 +125,16 @@ word-found include text cs rest u h =
     ap (λ (x : Signed × List ℕ). (table include x.0.0 x.0.1 x.0.2, x.1)) t.1 ∙ same_Some _ _ w.2 in
     let split : text ≡ (at_sign.signs ++ front) ++ p.0.1 =
     at_sign.split ∙ ap (λ (t : List ℕ). at_sign.signs ++ t) behind ∙ sym (append_assoc at_sign.signs front p.0.1) in
-    let is : IsWord include (at_sign.signs ++ front) (table include s.0 p.0.0 whole_text) =
-    rw front_is (word at_sign.signs marks part.piece s.0 p.0.0 at_sign.is tests.0 part.is) in
-    let read : WordAt include text (table include s.0 p.0.0 whole_text) p.0.1 = record {
+    let is : IsWord loose include (at_sign.signs ++ front) (table include s.0 p.0.0 whole_text) =
+    rw front_is (word at_sign.signs marks part.piece s.0 p.0.0 at_sign.is tests.0 (unsigned text at_sign.signs n at_sign.split) part.is) in
+    let read : WordAt loose include text (table include s.0 p.0.0 whole_text) p.0.1 = record {
       piece = at_sign.signs ++ front;
       split = split;
       is = is;
       ended = tests.1;
       utf8 = rest-utf8 front p.0.1 (subst (λ (t : List ℕ). IsUtf8 t) behind at_sign.utf8) tests.1;
     } in
-    subst (λ (q : List Comparison × List ℕ). WordAt include text q.0 q.1) same read
+    subst (λ (q : List Comparison × List ℕ). WordAt loose include text q.0 q.1) same read
 
 -- ---- words
 
@@ -138,18 +158,18 @@ marks-solid [] [] h k = cc k
 marks-solid [] (b ∷ u) h k = grind (arith, nat_tests)
 marks-solid (b ∷ marks) u h k = grind (arith, nat_tests)
 
-pub word-solid : (include : Bool) (w : List ℕ) (cs : List Comparison) → IsWord include w cs → begins is_solid w ≡ true
-word-solid include w cs (word signs marks x s p h m k) =
-    let u : begins_component x ≡ true = rw (append-nil x) at (partial-begins x [] p k) in
+pub word-solid : (loose : Bool) (include : Bool) (w : List ℕ) (cs : List Comparison) → IsWord loose include w cs → begins is_solid w ≡ true
+word-solid loose include w cs (word signs marks x s p h m e k) =
+    let u : begins_component x ≡ true = rw (append-nil x) at (partial-begins loose x [] p k) in
     elim (sign-solid signs s h) [
-      | inl none ↦ rw none (marks-solid marks x (marks-all s p marks m) u)
+      | inl none ↦ rw none (marks-solid marks x (marks-all loose s p marks m) u)
       | inr solid ↦ begins-on is_solid signs (marks ++ x) solid
     ]
 
-pub words-solid : (include : Bool) (text : List ℕ) (cs : List Comparison) → AreWords include text cs → begins is_solid text ≡ true
-words-solid include text cs (last t ds h) = word-solid include t ds h
-words-solid include text cs (more t blank rest ds es h hb some k) =
-    begins-on is_solid t (blank ++ rest) (word-solid include t ds h)
+pub words-solid : (loose : Bool) (include : Bool) (text : List ℕ) (cs : List Comparison) → AreWords loose include text cs → begins is_solid text ≡ true
+words-solid loose include text cs (last t ds h) = word-solid loose include t ds h
+words-solid loose include text cs (more t blank rest ds es h hb some k) =
+    begins-on is_solid t (blank ++ rest) (word-solid loose include t ds h)
 
 pub blank-space : (blank rest : List ℕ) → IsBlank blank → 0 < length blank → 0 < space_len (blank ++ rest)
 blank-space blank rest h some = elim (blank-cases blank h) [
@@ -173,19 +193,19 @@ nil-boundary : is_boundary [] ≡ true
 unfolding is_boundary
 nil-boundary = refl
 
-pub words-read : (include : Bool) (n : ℕ) (text : List ℕ) (cs : List Comparison) → AreWords include text cs → length text ≤ n
-    → words_within include n text ≡ Some cs
+pub words-read : (loose : Bool) (include : Bool) (n : ℕ) (text : List ℕ) (cs : List Comparison) → AreWords loose include text cs → length text ≤ n
+    → words_within loose include n text ≡ Some cs
 unfolding words_within
-words-read include zero text cs h le =
-    absurd (omega (arith, le, begins-some is_solid text (words-solid include text cs h)))
-words-read include (suc n) text cs (last t ds h) le =
-    let read : word_front include t ≡ Some (ds, []) = rw (append-nil t) at (word-read include t [] ds h nil-boundary) in
+words-read loose include zero text cs h le =
+    absurd (omega (arith, le, begins-some is_solid text (words-solid loose include text cs h)))
+words-read loose include (suc n) text cs (last t ds h) le =
+    let read : word_front loose include t ≡ Some (ds, []) = rw (append-nil t) at (word-read loose include t [] ds h nil-boundary) in
     rw read refl
-words-read include (suc n) text cs (more t blank rest ds es h hb some k) le =
-    let read = word-read include t (blank ++ rest) ds h (blank-boundary blank rest hb some) in
-    let dark = solid-dark rest (words-solid include rest es k) in
+words-read loose include (suc n) text cs (more t blank rest ds es h hb some k) le =
+    let read = word-read loose include t (blank ++ rest) ds h (blank-boundary blank rest hb some) in
+    let dark = solid-dark rest (words-solid loose include rest es k) in
     let shorter : length rest ≤ n = omega (arith, le, length-append t (blank ++ rest), length-append blank rest, some) in
-    rw (read, not-empty blank rest some, blank-skipped blank rest hb dark, words-read include n rest es k shorter) refl
+    rw (read, not-empty blank rest some, blank-skipped blank rest hb dark, words-read loose include n rest es k shorter) refl
 
 some-space : (text : List ℕ) → is_boundary text ≡ true → is_empty text ≡ false → 0 < space_len text
 unfolding is_boundary
@@ -195,28 +215,28 @@ pub blank-some : (text blank : List ℕ) → text ≡ blank ++ drop_spaces text 
 blank-some text [] e some = absurd (omega (arith, some, ap space_len e, spaces-gone 0 text))
 blank-some text (b ∷ blank) e some = omega arith
 
-pub words-found : (include : Bool) (n : ℕ) (text : List ℕ) (cs : List Comparison) → IsUtf8 text → words_within include n text ≡ Some cs
-    → AreWords include text cs
+pub words-found : (loose : Bool) (include : Bool) (n : ℕ) (text : List ℕ) (cs : List Comparison) → IsUtf8 text → words_within loose include n text ≡ Some cs
+    → AreWords loose include text cs
 unfolding words_within
-words-found include zero text cs u h = cc h
-words-found include (suc n) text cs u h =
-    let w = bind_some (word_front include text) _ cs h in
-    let at_word = word-found include text w.0.0 w.0.1 u w.1 in
+words-found loose include zero text cs u h = cc h
+words-found loose include (suc n) text cs u h =
+    let w = bind_some (word_front loose include text) _ cs h in
+    let at_word = word-found loose include text w.0.0 w.0.1 u w.1 in
     elim (cases_Bool (is_empty w.0.1)) [
       | inl ended ↦
           let e : text ≡ at_word.piece = at_word.split ∙ ap (λ (t : List ℕ). at_word.piece ++ t) (empty-is w.0.1 ended)
           ∙ append-nil at_word.piece in
-          let is : AreWords include at_word.piece w.0.0 = last at_word.piece w.0.0 at_word.is in
+          let is : AreWords loose include at_word.piece w.0.0 = last at_word.piece w.0.0 at_word.is in
           let same : w.0.0 ≡ cs = same_Some _ _ (rw ended at w.2) in
-          subst (λ (ds : List Comparison). AreWords include text ds) same
-          (subst (λ (t : List ℕ). AreWords include t w.0.0) (sym e) is)
+          subst (λ (ds : List Comparison). AreWords loose include text ds) same
+          (subst (λ (t : List ℕ). AreWords loose include t w.0.0) (sym e) is)
       | inr goes ↦
           let rest = drop_spaces w.0.1 in
-          let d = bind_some (words_within include n rest) (λ ds. Some (w.0.0 ++ ds)) cs (rw goes at w.2) in
+          let d = bind_some (words_within loose include n rest) (λ ds. Some (w.0.0 ++ ds)) cs (rw goes at w.2) in
           let x = blank-at w.0.1 at_word.utf8 in
           let some = blank-some w.0.1 x.blank x.split (some-space w.0.1 at_word.ended goes) in
           let e : text ≡ at_word.piece ++ (x.blank ++ rest) = at_word.split ∙ ap (λ (t : List ℕ). at_word.piece ++ t) x.split in
-          let is = more at_word.piece x.blank rest w.0.0 d.0 at_word.is x.is some (words-found include n rest d.0 x.utf8 d.1) in
-          subst (λ (ds : List Comparison). AreWords include text ds) (same_Some _ _ d.2)
-          (subst (λ (t : List ℕ). AreWords include t (w.0.0 ++ d.0)) (sym e) is)
+          let is = more at_word.piece x.blank rest w.0.0 d.0 at_word.is x.is some (words-found loose include n rest d.0 x.utf8 d.1) in
+          subst (λ (ds : List Comparison). AreWords loose include text ds) (same_Some _ _ d.2)
+          (subst (λ (t : List ℕ). AreWords loose include t (w.0.0 ++ d.0)) (sym e) is)
     ]

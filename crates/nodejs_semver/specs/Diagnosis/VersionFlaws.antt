@@ -41,13 +41,9 @@ pub record IsExpectedAt (limit : ℕ) (text : List ℕ) (what : Expected) (at : 
   pub dot : IsFront limit (take at text ++ 46 ∷ []) → is_expected what 46 ≡ true
 
 -- a run of digits of a value above the limit
-pub record BeginsGreat (limit : ℕ) (text : List ℕ) : Type 0 where
-  pub digits : List ℕ
-  pub rest : List ℕ
-  pub divided : text ≡ digits ++ rest
-  pub each : list_all is_ascii_digit digits ≡ true
-  pub ended : begins is_ascii_digit rest ≡ false
-  pub above : limit < digits_value 10 digits
+abbrev pub BeginsGreat : ℕ → List ℕ → Type 0
+BeginsGreat limit text = (run rest : List ℕ) × (text ≡ run ++ rest) × (list_all is_ascii_digit run ≡ true)
+    × (begins is_ascii_digit rest ≡ false) × (limit < digits_value 10 run)
 
 -- a number is right at this place, and no dot, and no digit stands before it; but the number that begins
 -- there is above the limit, and with it the bytes before go on to no version text
@@ -55,7 +51,7 @@ pub record IsGreatAt (limit : ℕ) (text : List ℕ) (at : ℕ) : Type 0 where
   pub inside : at ≤ length text
   pub right : (c : ℕ) → is_ascii_digit c ≡ true → IsFront limit (take at text ++ c ∷ [])
   pub great : BeginsGreat limit (drop at text)
-  pub wrong : IsFront limit (take at text ++ great.digits) → ⊥
+  pub wrong : IsFront limit (take at text ++ great.0) → ⊥
   pub none : NoValue (Reads limit text)
   pub no_dot : IsFront limit (take at text ++ 46 ∷ []) → ⊥
   pub begun : (front : List ℕ) (c : ℕ) → take at text ≡ front ++ c ∷ [] → is_ascii_digit c ≡ false

@@ -6,7 +6,7 @@ use Rattle.semver_core.specs.Values.Order.{precedence}
 use Rattle.semver_core.specs.Lists.{is_empty}
 use Rattle.semver_core.specs.Values.Versions.{VersionValue}
 use Rattle.nodejs_semver.specs.Internal.Fronts.{after_byte, begins_byte, component_front, dotted_front, Front, minor_front}
-use Rattle.nodejs_semver.specs.Text.Common.{has_plus}
+use Rattle.std.specs.List.{list_any}
 use Rattle.nodejs_semver.specs.Text.PartialText.{Partial}
 use Rattle.semver_core.specs.Internal.Reading.{◌>>?◌}
 use Rattle.nodejs_semver.specs.Text.Table.{table}
@@ -117,6 +117,10 @@ common_within limit (suc n) text =
     part_front limit text >>? λ part.
     if is_empty part.1 then Some (part.0 ∷ [])
     else (after_bars part.1 >>? λ next. common_within limit n next >>? λ list. Some (onto part.0 list))
+
+-- whether a `+` stands in a text
+abbrev pub has_plus : List ℕ → Bool
+has_plus text = list_any (λ b. b == 43) text
 
 -- the intervals of common parts, and those of a common text, which has no build
 abbrev pub common_parts : ℕ → List ℕ → Option (List (Span VersionValue))

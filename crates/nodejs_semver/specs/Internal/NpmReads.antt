@@ -13,17 +13,17 @@ use Rattle.nodejs_semver.specs.Npm.Table.{Comparison}
 use Rattle.nodejs_semver.specs.declared.npm.alternatives.Alternative.{Alternative}
 
 -- the comparators of words, if each is valid
-abbrev pub words_of : Bool → List ℕ → Option (List Comparison)
-words_of include text = valid_words MAX_SAFE_INTEGER include (length text) text
+abbrev pub words_of : Bool → Bool → List ℕ → Option (List Comparison)
+words_of loose include text = valid_words loose MAX_SAFE_INTEGER include (length text) text
 
 -- the comparators of an alternative, if each is valid
-unfoldable pub valid_alternative : Bool → List ℕ → Option (List Comparison)
-valid_alternative include text = alternative_of include text >>? λ cs. valid_only MAX_SAFE_INTEGER cs
+unfoldable pub valid_alternative : Bool → Bool → List ℕ → Option (List Comparison)
+valid_alternative loose include text = alternative_of loose include text >>? λ cs. valid_only MAX_SAFE_INTEGER cs
 
 -- the same of a hyphen range
-unfoldable pub valid_hyphen : Bool → List ℕ → Option (List Comparison)
-valid_hyphen include text =
-    hyphen_ends include text >>? λ e. valid_only MAX_SAFE_INTEGER (hyphen_comparisons include e)
+unfoldable pub valid_hyphen : Bool → Bool → List ℕ → Option (List Comparison)
+valid_hyphen loose include text =
+    hyphen_ends loose include text >>? λ e. valid_only MAX_SAFE_INTEGER (hyphen_comparisons include e)
 
 -- an alternative is found exactly if there are comparators, and is that of these
 abbrev pub IsFound : Bool → Option (List Comparison) → Option Alternative → Type 0
@@ -32,10 +32,10 @@ IsFound include (Some cs) (Some a) = IsNarrowed include cs a.interval
 IsFound include cs a = ⊥
 
 -- the comparators of each of some alternatives, if each is valid
-unfoldable pub valid_alternatives : Bool → List (List ℕ) → Option (List (List Comparison))
-valid_alternatives include [] = Some []
-valid_alternatives include (text ∷ texts) =
-    valid_alternative include text >>? λ cs. valid_alternatives include texts >>? λ rest. Some (cs ∷ rest)
+unfoldable pub valid_alternatives : Bool → Bool → List (List ℕ) → Option (List (List Comparison))
+valid_alternatives loose include [] = Some []
+valid_alternatives loose include (text ∷ texts) =
+    valid_alternative loose include text >>? λ cs. valid_alternatives loose include texts >>? λ rest. Some (cs ∷ rest)
 
 -- the intervals of some alternatives, of those that have one
 pub record AreFound (include : Bool) (alternatives : List (List Comparison)) (found : List (Span VersionValue))

@@ -1,4 +1,4 @@
--- For proofs and private contracts. What node-semver's strict reading finds in a range text, as functions.
+-- For proofs and private contracts. What node-semver's readings, strict or loose, find in a range text, as functions.
 -- Numbers have any value; `limited` leaves out what has a number past the limit that counts.
 use Rattle.std.specs.Prelude.{◌==◌, ◌&&◌, ◌||◌, not, nat_le, nat_lt, ℕ, zero, suc, Bool, true, false, List, [], ◌∷◌, ◌++◌, ◌-◌, length, take, drop, Option, Some, None, if◌then◌else◌, take_while}
 use Rattle.std.specs.Char.{is_ascii_digit}
@@ -8,11 +8,11 @@ use Rattle.semver_core.specs.Internal.Reading.{◌>>?◌}
 use Rattle.semver_core.specs.Internal.Spaces.{drop_spaces, space_len}
 use Rattle.semver_core.specs.Lists.{is_empty}
 use Rattle.semver_core.specs.Text.Identifiers.{Id, listed, pieces}
-use Rattle.nodejs_semver.specs.Internal.Fronts.{Front, after_byte, begins_byte, begins_wildcard, build_front}
-use Rattle.nodejs_semver.specs.Internal.NpmReadings.{begins_padded, dashed_front, is_strict_list}
+use Rattle.nodejs_semver.specs.Internal.Fronts.{Front, after_byte, begins_byte, begins_wildcard, build_front, pre_release_front}
+use Rattle.nodejs_semver.specs.Internal.NpmReadings.{dashed_front}
 use Rattle.nodejs_semver.specs.Internal.Parts.{parts}
 use Rattle.nodejs_semver.specs.Internal.Words.{after_some_space, is_boundary, or_else}
-use Rattle.nodejs_semver.specs.Npm.RangeText.{are_marks, is_free_lower, is_free_upper, is_mark, is_one_v, is_short_build, is_short_identifier, partial_of}
+use Rattle.nodejs_semver.specs.Npm.RangeText.{are_marks, are_spelled, begins_letter, is_free_lower, is_free_upper, is_mark, is_one_v, is_short_build, is_short_identifier, is_spelled, most_digits, partial_of}
 use Rattle.nodejs_semver.specs.Npm.Ranges.{is_valid}
 use Rattle.nodejs_semver.specs.Npm.Table.{Comparison, Partial, Sign, caret, compared, hyphen_lower, hyphen_upper, major, minor, table, tilde, whole, wildcard}
 use Rattle.nodejs_semver.specs.Text.WordText.{Comparator, above, at_least, at_most, below, equal}
@@ -20,18 +20,19 @@ use Rattle.nodejs_semver.specs.Text.WordText.{Comparator, above, at_least, at_mo
 -- ---- partials
 
 -- the place that a run of digits is, with what stands behind it
-abbrev pub run_place : List ℕ → List ℕ → Front (Option ℕ)
-run_place run rest =
-    if not (is_empty run) && nat_le (length run) 257 then Some (Some (digits_value 10 run), rest) else None
+abbrev pub run_place : Bool → List ℕ → List ℕ → Front (Option ℕ)
+run_place loose run rest =
+    if not (is_empty run) && nat_le (length run) (most_digits loose) && is_spelled loose (digits_value 10 run) run
+    then Some (Some (digits_value 10 run), rest) else None
 
 -- a place
-unfoldable pub place_front : List ℕ → Front (Option ℕ)
-place_front text = if begins_wildcard text then Some (None, drop 1 text) else if begins_padded text then None
-    else run_place (take_while is_ascii_digit text) (drop (prefix_len is_ascii_digit text) text)
+unfoldable pub place_front : Bool → List ℕ → Front (Option ℕ)
+place_front loose text = if begins_wildcard text then Some (None, drop 1 text)
+    else run_place loose (take_while is_ascii_digit text) (drop (prefix_len is_ascii_digit text) text)
 
 -- the same behind a dot
-unfoldable pub dotted_place : List ℕ → Front (Option ℕ)
-dotted_place text = after_byte 46 text >>? λ rest. place_front rest
+unfoldable pub dotted_place : Bool → List ℕ → Front (Option ℕ)
+dotted_place loose text = after_byte 46 text >>? λ rest. place_front loose rest
 
 -- the identifiers of a pre-release and of a build may be written
 abbrev pub are_short_identifiers : List ℕ → Bool
@@ -41,29 +42,33 @@ abbrev pub are_short_builds : List ℕ → Bool
 are_short_builds text = list_all is_short_build (pieces text)
 
 -- this pre-release and this build may be written
-abbrev pub may_follow : List ℕ → List ℕ → Bool
-may_follow pre build = is_strict_list pre && (are_short_identifiers pre && are_short_builds build)
+abbrev pub may_follow : Bool → List ℕ → List ℕ → Bool
+may_follow loose pre build = are_spelled loose pre && (are_short_identifiers pre && are_short_builds build)
+
+-- the text of a pre-release, and what stands behind it
+unfoldable pub pre_front : Bool → List ℕ → List ℕ × List ℕ
+pre_front loose text = if loose && begins_letter text then pre_release_front text else dashed_front text
 
 -- the partial of three places, with these texts of its pre-release and of its build, behind which this stands
-abbrev pub ended_partial : Option ℕ → Option ℕ → Option ℕ → List ℕ → List ℕ × List ℕ → Front Partial
-ended_partial a b c pre build = if may_follow pre build.0
+abbrev pub ended_partial : Bool → Option ℕ → Option ℕ → Option ℕ → List ℕ → List ℕ × List ℕ → Front Partial
+ended_partial loose a b c pre build = if may_follow loose pre build.0
     then Some (partial_of a b c (listed pre) (listed build.0), build.1) else None
 
-unfoldable pub qualified_partial : Option ℕ → Option ℕ → Option ℕ → List ℕ → Front Partial
-qualified_partial a b c text = ended_partial a b c (dashed_front text).0 (build_front (dashed_front text).1)
+unfoldable pub qualified_partial : Bool → Option ℕ → Option ℕ → Option ℕ → List ℕ → Front Partial
+qualified_partial loose a b c text = ended_partial loose a b c (pre_front loose text).0 (build_front (pre_front loose text).1)
 
 -- the partial of two places, and of what was found behind them
-abbrev pub third_front : Option ℕ → Option ℕ → List ℕ → Front (Option ℕ) → Front Partial
-third_front a b text None = Some (partial_of a b None [] [], text)
-third_front a b text (Some c) = qualified_partial a b c.0 c.1
+abbrev pub third_front : Bool → Option ℕ → Option ℕ → List ℕ → Front (Option ℕ) → Front Partial
+third_front loose a b text None = Some (partial_of a b None [] [], text)
+third_front loose a b text (Some c) = qualified_partial loose a b c.0 c.1
 
-abbrev pub second_front : Option ℕ → List ℕ → Front (Option ℕ) → Front Partial
-second_front a text None = Some (partial_of a None None [] [], text)
-second_front a text (Some b) = third_front a b.0 b.1 (dotted_place b.1)
+abbrev pub second_front : Bool → Option ℕ → List ℕ → Front (Option ℕ) → Front Partial
+second_front loose a text None = Some (partial_of a None None [] [], text)
+second_front loose a text (Some b) = third_front loose a b.0 b.1 (dotted_place loose b.1)
 
 -- the partial at the front
-unfoldable pub partial_front : List ℕ → Front Partial
-partial_front text = place_front text >>? λ a. second_front a.0 a.1 (dotted_place a.1)
+unfoldable pub partial_front : Bool → List ℕ → Front Partial
+partial_front loose text = place_front loose text >>? λ a. second_front loose a.0 a.1 (dotted_place loose a.1)
 
 -- the numbers that count are up to the limit
 abbrev pub is_small : ℕ → Partial → Bool
@@ -102,24 +107,24 @@ counted (number M) (number m) (number p) pre build =
     Some (whole (record { major = M; minor = m; patch = p; pre_release = pre; build = build }))
 
 -- the same with what stands behind it
-abbrev pub ended_counted : Place → Place → Place → List ℕ → List ℕ × List ℕ → Front Partial
-ended_counted a b c pre build = if may_follow pre build.0
+abbrev pub ended_counted : Bool → Place → Place → Place → List ℕ → List ℕ × List ℕ → Front Partial
+ended_counted loose a b c pre build = if may_follow loose pre build.0
     then (counted a b c (listed pre) (listed build.0) >>? λ p. Some (p, build.1)) else None
 
-unfoldable pub qualified_counted : Place → Place → Place → List ℕ → Front Partial
-qualified_counted a b c text = ended_counted a b c (dashed_front text).0 (build_front (dashed_front text).1)
+unfoldable pub qualified_counted : Bool → Place → Place → Place → List ℕ → Front Partial
+qualified_counted loose a b c text = ended_counted loose a b c (pre_front loose text).0 (build_front (pre_front loose text).1)
 
-abbrev pub third_counted : Place → Place → List ℕ → Front Place → Front Partial
-third_counted a b text None = counted a b any [] [] >>? λ p. Some (p, text)
-third_counted a b text (Some c) = qualified_counted a b c.0 c.1
+abbrev pub third_counted : Bool → Place → Place → List ℕ → Front Place → Front Partial
+third_counted loose a b text None = counted a b any [] [] >>? λ p. Some (p, text)
+third_counted loose a b text (Some c) = qualified_counted loose a b c.0 c.1
 
-abbrev pub second_counted : ℕ → Place → List ℕ → Front Place → Front Partial
-second_counted limit a text None = counted a any any [] [] >>? λ p. Some (p, text)
-second_counted limit a text (Some b) = third_counted a b.0 b.1 (placed limit (dotted_place b.1))
+abbrev pub second_counted : Bool → ℕ → Place → List ℕ → Front Place → Front Partial
+second_counted loose limit a text None = counted a any any [] [] >>? λ p. Some (p, text)
+second_counted loose limit a text (Some b) = third_counted loose a b.0 b.1 (placed limit (dotted_place loose b.1))
 
-abbrev pub counted_front : ℕ → List ℕ → Front Partial
-counted_front limit text =
-    placed limit (place_front text) >>? λ a. second_counted limit a.0 a.1 (placed limit (dotted_place a.1))
+abbrev pub counted_front : Bool → ℕ → List ℕ → Front Partial
+counted_front loose limit text =
+    placed limit (place_front loose text) >>? λ a. second_counted loose limit a.0 a.1 (placed limit (dotted_place loose a.1))
 
 -- ---- signs
 
@@ -167,16 +172,16 @@ Signed = Sign × Partial × List ℕ
 abbrev pub marks_len : List ℕ → ℕ
 marks_len text = prefix_len is_mark text
 
-abbrev pub ended_word : Sign → List ℕ → ℕ → Partial × List ℕ → Front Signed
-ended_word s text n p = if are_marks s p.0 (take n text) && is_boundary p.1
+abbrev pub ended_word : Bool → Sign → List ℕ → ℕ → Partial × List ℕ → Front Signed
+ended_word loose s text n p = if are_marks loose s p.0 (take n text) && is_boundary p.1
     then Some ((s, p.0, take (length text - length p.1) text), p.1) else None
 
 -- the word of a sign, of which this text stands behind the sign
-abbrev pub marked_word : Sign × List ℕ → Front Partial → Front Signed
-marked_word s p = p >>? λ p. ended_word s.0 s.1 (marks_len s.1) p
+abbrev pub marked_word : Bool → Sign × List ℕ → Front Partial → Front Signed
+marked_word loose s p = p >>? λ p. ended_word loose s.0 s.1 (marks_len s.1) p
 
-unfoldable pub signed_word : List ℕ → Front Signed
-signed_word text = let s = npm_sign text in marked_word s (partial_front (drop (marks_len s.1) s.1))
+unfoldable pub signed_word : Bool → List ℕ → Front Signed
+signed_word loose text = let s = npm_sign text in marked_word loose s (partial_front loose (drop (marks_len s.1) s.1))
 
 -- the numbers of its partial that count are up to the limit
 abbrev pub limited_word : ℕ → Front Signed → Front Signed
@@ -184,16 +189,16 @@ limited_word limit None = None
 limited_word limit (Some w) = if is_small limit w.0.1 then Some w else None
 
 -- its comparators
-unfoldable pub word_front : Bool → List ℕ → Front (List Comparison)
-word_front include text = signed_word text >>? λ w. Some (table include w.0.0 w.0.1 w.0.2, w.1)
+unfoldable pub word_front : Bool → Bool → List ℕ → Front (List Comparison)
+word_front loose include text = signed_word loose text >>? λ w. Some (table include w.0.0 w.0.1 w.0.2, w.1)
 
 -- ---- alternatives
 
 -- words up to the end of an alternative, of which there are at most so many
-unfoldable pub words_within : Bool → ℕ → List ℕ → Option (List Comparison)
-words_within include zero text = None
-words_within include (suc n) text = word_front include text >>? λ w. if is_empty w.1 then Some w.0
-    else (words_within include n (drop_spaces w.1) >>? λ ds. Some (w.0 ++ ds))
+unfoldable pub words_within : Bool → Bool → ℕ → List ℕ → Option (List Comparison)
+words_within loose include zero text = None
+words_within loose include (suc n) text = word_front loose include text >>? λ w. if is_empty w.1 then Some w.0
+    else (words_within loose include n (drop_spaces w.1) >>? λ ds. Some (w.0 ++ ds))
 
 -- what follows the marks and the whitespace at the front. The number counts bytes that still belong to a
 -- whitespace character.
@@ -222,21 +227,21 @@ ended_end free text behind p = if free p.0 || is_one_v (take (length text - leng
     then Some ((p.0, take (length text - length p.1) text), p.1) else None
 
 -- an end of a hyphen range
-unfoldable pub end_front : (Partial → Bool) → List ℕ → Front Ended
-end_front free text = partial_front (drop_ends text) >>? λ p. ended_end free text (drop_ends text) p
+unfoldable pub end_front : Bool → (Partial → Bool) → List ℕ → Front Ended
+end_front loose free text = partial_front loose (drop_ends text) >>? λ p. ended_end free text (drop_ends text) p
 
 -- what stands behind whitespace, `-` and whitespace
 abbrev pub after_dash : List ℕ → Option (List ℕ)
 after_dash text = after_some_space text >>? λ dash. after_byte 45 dash >>? λ gap. after_some_space gap
 
 -- the upper end, where it ends the text
-abbrev pub last_end : (Partial → Bool) → List ℕ → Option Ended
-last_end free text = end_front free text >>? λ b. if is_empty b.1 then Some b.0 else None
+abbrev pub last_end : Bool → (Partial → Bool) → List ℕ → Option Ended
+last_end loose free text = end_front loose free text >>? λ b. if is_empty b.1 then Some b.0 else None
 
 -- the ends of the hyphen range that the text is
-unfoldable pub hyphen_ends : Bool → List ℕ → Option (Ended × Ended)
-hyphen_ends include text = end_front is_free_lower text >>? λ a. after_dash a.1 >>? λ second.
-    last_end (is_free_upper include) second >>? λ b. Some (a.0, b)
+unfoldable pub hyphen_ends : Bool → Bool → List ℕ → Option (Ended × Ended)
+hyphen_ends loose include text = end_front loose is_free_lower text >>? λ a. after_dash a.1 >>? λ second.
+    last_end loose (is_free_upper include) second >>? λ b. Some (a.0, b)
 
 -- its comparators
 abbrev pub hyphen_comparisons : Bool → Ended × Ended → List Comparison
@@ -252,40 +257,40 @@ limited_hyphen limit None = None
 limited_hyphen limit (Some e) = if is_small limit e.0.0 && is_small limit e.1.0 then Some e else None
 
 -- the same, end by end
-abbrev pub last_limited : ℕ → Bool → List ℕ → Option Ended
-last_limited limit include text =
-    limited_end limit (end_front (is_free_upper include) text) >>? λ b.
+abbrev pub last_limited : Bool → ℕ → Bool → List ℕ → Option Ended
+last_limited loose limit include text =
+    limited_end limit (end_front loose (is_free_upper include) text) >>? λ b.
     if is_empty b.1 then Some b.0 else None
 
-abbrev pub hyphen_of : ℕ → Bool → List ℕ → Option (Ended × Ended)
-hyphen_of limit include text =
-    limited_end limit (end_front is_free_lower text) >>? λ a. after_dash a.1 >>? λ second.
-    last_limited limit include second >>? λ b. Some (a.0, b)
+abbrev pub hyphen_of : Bool → ℕ → Bool → List ℕ → Option (Ended × Ended)
+hyphen_of loose limit include text =
+    limited_end limit (end_front loose is_free_lower text) >>? λ a. after_dash a.1 >>? λ second.
+    last_limited loose limit include second >>? λ b. Some (a.0, b)
 
 -- the comparators of an alternative
-unfoldable pub alternative_of : Bool → List ℕ → Option (List Comparison)
-alternative_of include [] = Some []
-alternative_of include (b ∷ rest) = or_else (words_within include (length (b ∷ rest)) (b ∷ rest))
-    (hyphen_ends include (b ∷ rest) >>? λ e. Some (hyphen_comparisons include e))
+unfoldable pub alternative_of : Bool → Bool → List ℕ → Option (List Comparison)
+alternative_of loose include [] = Some []
+alternative_of loose include (b ∷ rest) = or_else (words_within loose include (length (b ∷ rest)) (b ∷ rest))
+    (hyphen_ends loose include (b ∷ rest) >>? λ e. Some (hyphen_comparisons include e))
 
 -- the comparators of each of some alternatives
-unfoldable pub alternatives_of : Bool → List (List ℕ) → Option (List (List Comparison))
-alternatives_of include [] = Some []
-alternatives_of include (text ∷ texts) =
-    alternative_of include text >>? λ cs. alternatives_of include texts >>? λ rest. Some (cs ∷ rest)
+unfoldable pub alternatives_of : Bool → Bool → List (List ℕ) → Option (List (List Comparison))
+alternatives_of loose include [] = Some []
+alternatives_of loose include (text ∷ texts) =
+    alternative_of loose include text >>? λ cs. alternatives_of loose include texts >>? λ rest. Some (cs ∷ rest)
 
 -- the alternatives of a range text
-abbrev pub npm_alternatives : Bool → List ℕ → Option (List (List Comparison))
-npm_alternatives include text = alternatives_of include (parts text)
+abbrev pub npm_alternatives : Bool → Bool → List ℕ → Option (List (List Comparison))
+npm_alternatives loose include text = alternatives_of loose include (parts text)
 
 -- the comparators, if each is valid
 abbrev pub valid_only : ℕ → List Comparison → Option (List Comparison)
 valid_only limit cs = if list_all (is_valid limit) cs then Some cs else None
 
 -- words up to the end of an alternative, whose comparators are valid, word by word
-unfoldable pub valid_words : ℕ → Bool → ℕ → List ℕ → Option (List Comparison)
-valid_words limit include zero text = None
-valid_words limit include (suc n) text = limited_word limit (signed_word text) >>? λ w.
+unfoldable pub valid_words : Bool → ℕ → Bool → ℕ → List ℕ → Option (List Comparison)
+valid_words loose limit include zero text = None
+valid_words loose limit include (suc n) text = limited_word limit (signed_word loose text) >>? λ w.
     valid_only limit (table include w.0.0 w.0.1 w.0.2) >>? λ cs.
     if is_empty w.1 then Some cs
-    else (valid_words limit include n (drop_spaces w.1) >>? λ ds. Some (cs ++ ds))
+    else (valid_words loose limit include n (drop_spaces w.1) >>? λ ds. Some (cs ++ ds))

@@ -4,6 +4,10 @@ use Rattle.std.specs.declared.cmp.Ordering.{Ordering}
 use Rattle.semver_core.specs.Cuts.{Span}
 use Rattle.nodejs_semver.specs.Text.Runs.{Run, fits}
 
+-- the bounds of the words of a run
+abbrev pub run_items : {V : Type 0} → Run V → List (Span V)
+run_items r = r.first ∷ r.others
+
 -- a run with one word more
 abbrev pub longer : {V : Type 0} → Run V → Span V → Run V
 longer r s = record r { others = r.others ++ s ∷ [] }

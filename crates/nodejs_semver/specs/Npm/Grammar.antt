@@ -23,8 +23,8 @@ is_strict_identifier text = not (list_all is_ascii_digit text && has_leading_zer
 -- a pre-release: `-` and identifiers joined by dots, or nothing
 pub data IsStrictPreRelease : List ℕ → List Id → Type 0 where
   no_pre_release : IsStrictPreRelease [] []
-  dashed : (text : List ℕ) (list : List Id) → IsIdentifiers text list → list_all is_strict_identifier (pieces text) ≡ true
-      → IsStrictPreRelease (45 ∷ text) list
+  dashed : (text : List ℕ) (list : List Id) → IsIdentifiers text list
+      → list_all is_strict_identifier (pieces text) ≡ true → IsStrictPreRelease (45 ∷ text) list
 
 -- build metadata: `+` and identifiers joined by dots, or nothing
 pub data IsStrictBuild : List ℕ → List Id → Type 0 where

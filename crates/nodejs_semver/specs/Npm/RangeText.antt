@@ -1,12 +1,17 @@
--- Statement: how range texts are written in node-semver's strict reading, and the comparators of each alternative. One thing is
--- left out: node-semver passes over one `*`, and a comparator before it, in a word that is else a whole version, as in `>*1.2.3`.
-use Rattle.std.specs.Prelude.{◌≡◌, ◌⊎◌, ◌==◌, ◌<◌, ◌≤◌, ◌+◌, ◌&&◌, ◌||◌, not, nat_le, ℕ, Bool, true, false, List, [], ◌∷◌, ◌++◌, length, drop, Option, Some, None, encode_utf8_all}
+-- Statement: how range texts are written for node-semver, strictly and by its option `loose`, and the comparators of each
+-- alternative. Left out is one `*`, and a comparator before it, in a word that is else a whole version, as in `>*1.2.3`, which
+-- node-semver passes over. Of the loose reading these are left out too, and a text that has one is rejected: words that are
+-- malformed, which node-semver ignores; zero as several digits; more than 32 digits of a number, and 128 characters of a
+-- pre-release; a pre-release without `-` that begins with none but a letter, and one that is `-` alone; other marks than one `v`
+-- before the whole end of a hyphen range.
+use Rattle.std.specs.Prelude.{◌≡◌, ◌⊎◌, ◌==◌, ◌<◌, ◌≤◌, ◌+◌, ◌&&◌, ◌||◌, not, nat_le, nat_lt, ℕ, Bool, true, false, List, [], ◌∷◌, ◌++◌, length, drop, Option, Some, None, encode_utf8_all, if◌then◌else◌}
 use Rattle.std.specs.Char.{is_ascii_digit}
 use Rattle.std.specs.List.{list_all, prefix_len}
 use Rattle.semver_core.specs.Lists.{is_empty}
 use Rattle.semver_core.specs.Text.Characters.{begins, is_whitespace, IsBlank, IsTrim}
-use Rattle.semver_core.specs.Text.Identifiers.{Id, pieces}
-use Rattle.nodejs_semver.specs.Npm.Grammar.{IsStrictBuild, IsStrictNumber, IsStrictPreRelease}
+use Rattle.semver_core.specs.Text.Identifiers.{Id, IsIdentifiers, pieces}
+use Rattle.semver_core.specs.Text.Numbers.{IsNumber}
+use Rattle.nodejs_semver.specs.Npm.Grammar.{IsStrictBuild, has_leading_zero, is_strict_identifier}
 use Rattle.nodejs_semver.specs.Npm.Table.{Comparison, Partial, Sign, caret, compared, hyphen_lower, hyphen_upper, major, minor, table, tilde, whole, wildcard}
 use Rattle.nodejs_semver.specs.Text.WordText.{Comparator, above, at_least, at_most, below, equal}
 
@@ -20,10 +25,38 @@ is_short_identifier text = let digits = prefix_len is_ascii_digit text in
 abbrev pub is_short_build : List ℕ → Bool
 is_short_build text = nat_le (length text) 250
 
--- a place: `x`, `X`, `*`, or a number of any value without leading zeros
-pub data IsPlace : List ℕ → Option ℕ → Type 0 where
-  any : (b : ℕ) → (b == 120 || b == 88 || b == 42) ≡ true → IsPlace (b ∷ []) None
-  number : (digits : List ℕ) (n : ℕ) → IsStrictNumber n digits n → length digits ≤ 257 → IsPlace digits (Some n)
+-- a number has no leading zeros; loosely it may have some, where it is not zero
+abbrev pub is_spelled : Bool → ℕ → List ℕ → Bool
+is_spelled loose n digits = not (has_leading_zero digits) || (loose && nat_lt 0 n)
+
+abbrev pub most_digits : Bool → ℕ
+most_digits loose = if loose then 32 else 257
+
+-- a place: `x`, `X`, `*`, or a number of any value
+pub data IsPlace (loose : Bool) : List ℕ → Option ℕ → Type 0 where
+  any : (b : ℕ) → (b == 120 || b == 88 || b == 42) ≡ true → IsPlace loose (b ∷ []) None
+  number : (digits : List ℕ) (n : ℕ) → IsNumber n digits n → is_spelled loose n digits ≡ true → length digits ≤ most_digits loose
+      → IsPlace loose digits (Some n)
+
+-- the identifiers of a pre-release: strictly, none that is digits alone has a leading zero
+abbrev pub are_spelled : Bool → List ℕ → Bool
+are_spelled loose text = if loose then nat_le (length text) 128 else list_all is_strict_identifier (pieces text)
+
+-- the text begins with a letter
+abbrev pub begins_letter : List ℕ → Bool
+begins_letter text = begins (λ b. nat_le 65 b && nat_le b 90 || nat_le 97 b && nat_le b 122) text
+
+-- a pre-release: `-` and identifiers joined by dots, or nothing; loosely `-` may be absent before a letter
+pub data IsPreRelease (loose : Bool) : List ℕ → List Id → Type 0 where
+  no_pre_release : IsPreRelease loose [] []
+  dashed : (text : List ℕ) (list : List Id) → IsIdentifiers text list → are_spelled loose text ≡ true
+      → IsPreRelease loose (45 ∷ text) list
+  bare : (text : List ℕ) (list : List Id) → loose ≡ true → begins_letter text ≡ true → IsIdentifiers text list
+      → are_spelled loose text ≡ true → IsPreRelease loose text list
+
+-- a pre-release without its `-`
+abbrev pub undashed : List ℕ → List ℕ
+undashed pre = if begins (λ b. b == 45) pre then drop 1 pre else pre
 
 -- the partial of its places
 abbrev pub partial_of : Option ℕ → Option ℕ → Option ℕ → List Id → List Id → Partial
@@ -34,13 +67,13 @@ partial_of (Some M) None c pre build = major M
 partial_of None b c pre build = wildcard
 
 -- one to three places joined by dots, and behind the third a pre-release and build metadata, or nothing
-pub data IsPartial : List ℕ → Partial → Type 0 where
-  one : (x : List ℕ) (a : Option ℕ) → IsPlace x a → IsPartial x (partial_of a None None [] [])
-  two : (x y : List ℕ) (a b : Option ℕ) → IsPlace x a → IsPlace y b → IsPartial (x ++ 46 ∷ y) (partial_of a b None [] [])
-  three : (x y z pre build : List ℕ) (a b c : Option ℕ) (ids builds : List Id) → IsPlace x a → IsPlace y b → IsPlace z c
-      → IsStrictPreRelease pre ids → list_all is_short_identifier (pieces (drop 1 pre)) ≡ true
+pub data IsPartial (loose : Bool) : List ℕ → Partial → Type 0 where
+  one : (x : List ℕ) (a : Option ℕ) → IsPlace loose x a → IsPartial loose x (partial_of a None None [] [])
+  two : (x y : List ℕ) (a b : Option ℕ) → IsPlace loose x a → IsPlace loose y b → IsPartial loose (x ++ 46 ∷ y) (partial_of a b None [] [])
+  three : (x y z pre build : List ℕ) (a b c : Option ℕ) (ids builds : List Id) → IsPlace loose x a → IsPlace loose y b → IsPlace loose z c
+      → IsPreRelease loose pre ids → list_all is_short_identifier (pieces (undashed pre)) ≡ true
       → IsStrictBuild build builds → list_all is_short_build (pieces (drop 1 build)) ≡ true
-      → IsPartial (x ++ 46 ∷ (y ++ 46 ∷ (z ++ (pre ++ build)))) (partial_of a b c ids builds)
+      → IsPartial loose (x ++ 46 ∷ (y ++ 46 ∷ (z ++ (pre ++ build)))) (partial_of a b c ids builds)
 
 -- ---- words
 
@@ -76,26 +109,27 @@ is_one_v [] = true
 is_one_v (b ∷ []) = b == 118
 is_one_v (b ∷ c ∷ rest) = false
 
--- the marks that may stand between a sign and a partial: one `v` at most before a whole version that is compared, and else any,
--- but no `=` first behind `>` and `<`
-abbrev pub are_marks : Sign → Partial → List ℕ → Bool
-are_marks (compared c) (whole v) marks = is_one_v marks
-are_marks (compared above) p marks = list_all is_mark marks && not (begins (λ b. b == 61) marks)
-are_marks (compared below) p marks = list_all is_mark marks && not (begins (λ b. b == 61) marks)
-are_marks s p marks = list_all is_mark marks
+-- the marks that may stand between a sign and a partial: strictly one `v` at most before a whole version that is compared, and
+-- else any, but no `=` first behind `>` and `<`
+abbrev pub are_marks : Bool → Sign → Partial → List ℕ → Bool
+are_marks false (compared c) (whole v) marks = is_one_v marks
+are_marks loose (compared above) p marks = list_all is_mark marks && not (begins (λ b. b == 61) marks)
+are_marks loose (compared below) p marks = list_all is_mark marks && not (begins (λ b. b == 61) marks)
+are_marks loose s p marks = list_all is_mark marks
 
--- a word: a sign, marks and a partial
-pub data IsWord (include : Bool) : List ℕ → List Comparison → Type 0 where
-  word : (signs marks text : List ℕ) (s : Sign) (p : Partial) → IsSignText signs s → are_marks s p marks ≡ true → IsPartial text p
-      → IsWord include (signs ++ (marks ++ text)) (table include s p (marks ++ text))
+-- a word: a sign, marks and a partial. Without a sign the first mark is no `=`, since that would be the sign.
+pub data IsWord (loose include : Bool) : List ℕ → List Comparison → Type 0 where
+  word : (signs marks text : List ℕ) (s : Sign) (p : Partial) → IsSignText signs s → are_marks loose s p marks ≡ true
+      → (is_empty signs && begins (λ b. b == 61) marks) ≡ false → IsPartial loose text p
+      → IsWord loose include (signs ++ (marks ++ text)) (table include s p (marks ++ text))
 
 -- ---- alternatives
 
 -- one word or more, with whitespace between them
-pub data AreWords (include : Bool) : List ℕ → List Comparison → Type 0 where
-  last : (text : List ℕ) (cs : List Comparison) → IsWord include text cs → AreWords include text cs
-  more : (text blank rest : List ℕ) (cs ds : List Comparison) → IsWord include text cs → IsBlank blank → 0 < length blank
-      → AreWords include rest ds → AreWords include (text ++ (blank ++ rest)) (cs ++ ds)
+pub data AreWords (loose include : Bool) : List ℕ → List Comparison → Type 0 where
+  last : (text : List ℕ) (cs : List Comparison) → IsWord loose include text cs → AreWords loose include text cs
+  more : (text blank rest : List ℕ) (cs ds : List Comparison) → IsWord loose include text cs → IsBlank blank → 0 < length blank
+      → AreWords loose include rest ds → AreWords loose include (text ++ (blank ++ rest)) (cs ++ ds)
 
 -- the marks and the whitespace before an end of a hyphen range: any, but one `v` at most before a whole version that stays as
 -- it is written
@@ -114,16 +148,16 @@ is_free_lower (whole v) = false
 is_free_lower p = true
 
 -- an alternative: nothing, a hyphen range or words
-pub data IsAlternative (include : Bool) : List ℕ → List Comparison → Type 0 where
-  nothing : IsAlternative include [] []
-  hyphen : (a x blank gap b y : List ℕ) (p q : Partial) → AreEndMarks (is_free_lower p) a → IsPartial x p → IsBlank blank
-      → 0 < length blank → IsBlank gap → 0 < length gap → AreEndMarks (is_free_upper include q) b → IsPartial y q
-      → IsAlternative include (a ++ (x ++ (blank ++ 45 ∷ (gap ++ (b ++ y)))))
+pub data IsAlternative (loose include : Bool) : List ℕ → List Comparison → Type 0 where
+  nothing : IsAlternative loose include [] []
+  hyphen : (a x blank gap b y : List ℕ) (p q : Partial) → AreEndMarks (is_free_lower p) a → IsPartial loose x p → IsBlank blank
+      → 0 < length blank → IsBlank gap → 0 < length gap → AreEndMarks (is_free_upper include q) b → IsPartial loose y q
+      → IsAlternative loose include (a ++ (x ++ (blank ++ 45 ∷ (gap ++ (b ++ y)))))
       (hyphen_lower include p (a ++ x) ++ hyphen_upper include q (b ++ y))
-  words : (text : List ℕ) (cs : List Comparison) → AreWords include text cs → IsAlternative include text cs
+  words : (text : List ℕ) (cs : List Comparison) → AreWords loose include text cs → IsAlternative loose include text cs
 
 -- the alternatives between bars, each without the whitespace around it
-pub data AreAlternatives (include : Bool) : List (List ℕ) → List (List Comparison) → Type 0 where
-  none : AreAlternatives include [] []
+pub data AreAlternatives (loose include : Bool) : List (List ℕ) → List (List Comparison) → Type 0 where
+  none : AreAlternatives loose include [] []
   next : (piece text : List ℕ) (others : List (List ℕ)) (cs : List Comparison) (rest : List (List Comparison)) → IsTrim piece text
-      → IsAlternative include text cs → AreAlternatives include others rest → AreAlternatives include (piece ∷ others) (cs ∷ rest)
+      → IsAlternative loose include text cs → AreAlternatives loose include others rest → AreAlternatives loose include (piece ∷ others) (cs ∷ rest)

@@ -18,12 +18,16 @@ abbrev pub is_valid : ℕ → Comparison → Bool
 is_valid limit c = nat_le c.version.major limit && nat_le c.version.minor limit && nat_le c.version.patch limit
     && nat_le (length c.text) MAX_LENGTH
 
--- the text has these alternatives, each a list of comparators. A text that has none is rejected.
-pub record HasAlternatives (limit : ℕ) (include : Bool) (text : List ℕ) (alternatives : List (List Comparison)) : Type 0 where
+-- the text has these alternatives, each a list of comparators. A text that has none is rejected. `loose` says whether it is read
+-- by node-semver's option of this name.
+pub record HasAlternativesIn (loose : Bool) (limit : ℕ) (include : Bool) (text : List ℕ) (alternatives : List (List Comparison)) : Type 0 where
   pub parts : List (List ℕ)
   pub divided : IsCutAtBars text parts
-  pub each : AreAlternatives include parts alternatives
+  pub each : AreAlternatives loose include parts alternatives
   pub valid : list_all (list_all (is_valid limit)) alternatives ≡ true
+
+abbrev pub HasAlternatives : ℕ → Bool → List ℕ → List (List Comparison) → Type 0
+HasAlternatives = HasAlternativesIn false
 
 -- the version satisfies the comparator
 abbrev pub satisfies : VersionValue → Comparison → Bool
@@ -57,8 +61,11 @@ accepts include alternatives v =
 
 -- a range, as its intervals, of a text: asked whether pre-releases are included as its text was, it accepts the
 -- versions that the alternatives of the text accept
-pub record IsRangeOf (limit : ℕ) (include : Bool) (text : List ℕ) (range : List (Span VersionValue)) : Type 0
+pub record IsRangeIn (loose : Bool) (limit : ℕ) (include : Bool) (text : List ℕ) (range : List (Span VersionValue)) : Type 0
   where
     pub alternatives : List (List Comparison)
-    pub has : HasAlternatives limit include text alternatives
+    pub has : HasAlternativesIn loose limit include text alternatives
     pub accepted : (v : VersionValue) → Gate.accepts range v include ≡ accepts include alternatives v
+
+abbrev pub IsRangeOf : ℕ → Bool → List ℕ → List (Span VersionValue) → Type 0
+IsRangeOf = IsRangeIn false

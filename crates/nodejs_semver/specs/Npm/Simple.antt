@@ -8,4 +8,5 @@ use Rattle.nodejs_semver.specs.Ranges.Gate.{accepts}
 
 -- the spans that accept one of the versions, and all spans where none does
 abbrev pub simplified : List VersionValue → List (Span VersionValue) → List (Span VersionValue)
-simplified vs ss = let used = filter (λ s. list_any (λ v. accepts (s ∷ []) v false) vs) ss in if is_empty used then ss else used
+simplified vs ss = let used = filter (λ s. list_any (λ v. accepts (s ∷ []) v false) vs) ss in
+    if is_empty used then ss else used

@@ -1,5 +1,5 @@
--- Statement: what the signs of node-semver's range texts mean: each is one comparator of whole versions, or two. `include` says
--- whether pre-releases are included.
+-- Statement: what the signs of node-semver's range texts mean: each is one comparator of whole versions, or two.
+-- `include` says whether pre-releases are included.
 use Rattle.std.specs.Prelude.{◌==◌, ◌+◌, ◌&&◌, not, ℕ, Bool, true, false, List, [], ◌∷◌, ◌++◌, if◌then◌else◌}
 use Rattle.semver_core.specs.Lists.{is_empty}
 use Rattle.semver_core.specs.Text.Identifiers.{Numeric}
@@ -7,7 +7,8 @@ use Rattle.semver_core.specs.Values.Versions.{VersionValue, is_release, release_
 use Rattle.semver_core.specs.Printing.Text.{version_text}
 use Rattle.nodejs_semver.specs.Text.WordText.{Comparator, above, at_least, at_most, below, equal}
 
--- a partial version: its first place is a wildcard; or M, M.m, M.m.p are numbers. What stands behind a wildcard does not count.
+-- a partial version: its first place is a wildcard; or M, M.m, M.m.p are numbers. What stands behind a
+-- wildcard does not count.
 pub data Partial : Type 0 where
   wildcard : Partial
   major : ℕ → Partial
@@ -19,7 +20,8 @@ pub data Sign : Type 0 where
   compared : Comparator → Sign
   caret tilde : Sign
 
--- a comparator of a whole version, with the text of the version: as it is written, and else as the version prints
+-- a comparator of a whole version, with the text of the version: as it is written, and else as the version
+-- prints
 pub record Comparison : Type 0 where
   pub sign : Comparator
   pub version : VersionValue
@@ -55,8 +57,8 @@ next (whole v) = (v.major, v.minor + 1, 0)
 -- those of the next release in which the first number changes that is not 0, or the last one written
 abbrev pub next_changed : Partial → Numbers
 next_changed (minor M m) = if M == 0 then (0, m + 1, 0) else (M + 1, 0, 0)
-next_changed (whole v) = if not (v.major == 0) then (v.major + 1, 0, 0) else if not (v.minor == 0) then (0, v.minor + 1, 0)
-    else (0, 0, v.patch + 1)
+next_changed (whole v) = if not (v.major == 0) then (v.major + 1, 0, 0)
+    else if not (v.minor == 0) then (0, v.minor + 1, 0) else (0, 0, v.patch + 1)
 next_changed p = next p
 
 -- `>=` of three numbers: of their least pre-release if pre-releases are included; and `<` of that of others
@@ -71,7 +73,8 @@ no_build v = record v { build = [] }
 
 -- the lower end of a caret range of a whole version
 abbrev pub caret_from : Bool → VersionValue → Comparison
-caret_from include v = if include && (is_release v && (v.major == 0)) then from true (first (whole v)) else made at_least (no_build v)
+caret_from include v = if include && (is_release v && (v.major == 0)) then from true (first (whole v))
+    else made at_least (no_build v)
 
 -- the table: by the sign and by the partial, whose text is `text`
 abbrev pub table : Bool → Sign → Partial → List ℕ → List Comparison
@@ -89,14 +92,17 @@ table include (compared above) p text = from include (next p) ∷ []
 table include (compared below) p text = under (first p) ∷ []
 table include (compared at_most) p text = under (next p) ∷ []
 
--- the ends of a hyphen range. The lower one gets `-0` as a text, which belongs to the build where there is one.
+-- the ends of a hyphen range. The lower one gets `-0` as a text, which belongs to the build where there is
+-- one.
 abbrev pub hyphen_lower : Bool → Partial → List ℕ → List Comparison
-hyphen_lower include (whole v) text = if not (include && is_release v) then table include (compared at_least) (whole v) text
+hyphen_lower include (whole v) text = if not (include && is_release v)
+    then table include (compared at_least) (whole v) text
     else if is_empty v.build then from true (first (whole v)) ∷ []
     else table include (compared at_least) (whole v) (text ++ 45 ∷ (48 ∷ []))
 hyphen_lower include p text = table include (compared at_least) p text
 
 abbrev pub hyphen_upper : Bool → Partial → List ℕ → List Comparison
 hyphen_upper include (whole v) text = if not (is_release v) then made at_most (no_build v) ∷ []
-    else if include then under (v.major, v.minor, v.patch + 1) ∷ [] else table include (compared at_most) (whole v) text
+    else if include then under (v.major, v.minor, v.patch + 1) ∷ []
+    else table include (compared at_most) (whole v) text
 hyphen_upper include p text = table include (compared at_most) p text

@@ -1,14 +1,14 @@
 -- Statement: the union of two ranges.
-use Rattle.std.specs.Prelude.{Bool, ◌&&◌, ◌||◌, not, List, ◌++◌, filter}
+use Rattle.std.specs.Prelude.{Bool, ◌&&◌, not, List, ◌++◌, filter}
 use Rattle.std.specs.List.{list_any}
-use Rattle.semver_core.specs.Cuts.{Span, covers, passes}
+use Rattle.semver_core.specs.Cuts.{Span, covers, has_bound}
 use Rattle.semver_core.specs.Values.Order.{precedence}
 use Rattle.semver_core.specs.Values.Versions.{VersionValue}
 use Rattle.nodejs_semver.specs.Ranges.Gate.{lets_in}
 
 -- s lets in the versions of t's bounds, and so every pre-release that t lets in
 abbrev pub lets_in_bounds : Span VersionValue → Span VersionValue → Bool
-lets_in_bounds s t = let kept_out = passes (λ w. not (lets_in s w)) in not (kept_out t.lower || kept_out t.upper)
+lets_in_bounds s t = not (has_bound (λ w. not (lets_in s w)) t)
 
 -- t accepts nothing that s does not accept
 abbrev pub says_all : Span VersionValue → Span VersionValue → Bool

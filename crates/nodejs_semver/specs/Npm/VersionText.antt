@@ -1,13 +1,19 @@
--- Statement: the version texts of node-semver's strict reading, its default.
-use Rattle.std.specs.Prelude.{◌≡◌, ◌⊎◌, ◌≤◌, ℕ, List, [], ◌∷◌, ◌++◌, length}
+-- Statement: the version texts of node-semver's strict reading, its default, and of its loose one.
+use Rattle.std.specs.Prelude.{◌≡◌, ◌⊎◌, ◌==◌, ◌≤◌, ◌||◌, not, ℕ, Bool, true, false, List, [], ◌∷◌, ◌++◌, length, encode_utf8_all}
+use Rattle.std.specs.Char.{is_ascii_digit}
+use Rattle.std.specs.List.{list_all}
 use Rattle.std.specs.Str.{chars}
-use Rattle.semver_core.specs.Text.Characters.{IsTrim}
+use Rattle.semver_core.specs.Text.Characters.{IsTrim, is_whitespace}
+use Rattle.semver_core.specs.Text.Identifiers.{Id, IsIdentifiers}
+use Rattle.semver_core.specs.Text.Numbers.{IsNumber}
 use Rattle.semver_core.specs.Values.Versions.{VersionValue}
 use Rattle.semver_core.specs.declared.TheConstants.{MAX_LENGTH}
 use Rattle.nodejs_semver.specs.Npm.Grammar.{IsStrictNumber, IsStrictPreRelease, IsStrictBuild}
+use Rattle.nodejs_semver.specs.Npm.RangeText.{is_mark}
 
--- the whole text is this version, behind one `v` or none
-pub record IsStrictVersion (limit : ℕ) (text : List ℕ) (v : VersionValue) : Type 0 where
+-- the whole text is this version, in a reading that has these marks, numbers and pre-releases
+pub record IsWritten (Marks : List ℕ → Type 0) (Number : List ℕ → ℕ → Type 0) (PreRelease : List ℕ → List Id → Type 0)
+    (text : List ℕ) (v : VersionValue) : Type 0 where
   pub mark : List ℕ
   pub major : List ℕ
   pub minor : List ℕ
@@ -15,17 +21,50 @@ pub record IsStrictVersion (limit : ℕ) (text : List ℕ) (v : VersionValue) : 
   pub pre_release : List ℕ
   pub build : List ℕ
   pub divided : text ≡ mark ++ (major ++ 46 ∷ (minor ++ 46 ∷ (patch ++ (pre_release ++ build))))
-  pub mark_is : (mark ≡ []) ⊎ (mark ≡ 118 ∷ [])
-  pub major_is : IsStrictNumber limit major v.major
-  pub minor_is : IsStrictNumber limit minor v.minor
-  pub patch_is : IsStrictNumber limit patch v.patch
-  pub pre_release_is : IsStrictPreRelease pre_release v.pre_release
+  pub mark_is : Marks mark
+  pub major_is : Number major v.major
+  pub minor_is : Number minor v.minor
+  pub patch_is : Number patch v.patch
+  pub pre_release_is : PreRelease pre_release v.pre_release
   pub build_is : IsStrictBuild build v.build
+
+-- strict: one `v` or none, no leading zeros, `-` before the pre-release
+abbrev pub IsStrictVersion : ℕ → List ℕ → VersionValue → Type 0
+IsStrictVersion limit = IsWritten (λ mark. (mark ≡ []) ⊎ (mark ≡ 118 ∷ [])) (IsStrictNumber limit) IsStrictPreRelease
+
+-- any of `v`, `=` and whitespace
+pub record AreMarks (text : List ℕ) : Type 0 where
+  pub characters : List ℕ
+  pub spelled : text ≡ encode_utf8_all characters
+  pub each : list_all (λ c. is_mark c || is_whitespace c) characters ≡ true
+
+-- a pre-release without a `-` before it may begin so: it has no `-` to give away, and no digit that the patch number takes. Before a
+-- dot it has: `1.2.3-` is 1.2.3 with the pre-release `-`, and `1.2.34.5` is 1.2.3 with the pre-release `4.5`.
+abbrev pub begins_bare : List ℕ → Bool
+begins_bare [] = false
+begins_bare (c ∷ []) = not (is_ascii_digit c)
+begins_bare (c ∷ d ∷ rest) = d == 46 || not (c == 45 || is_ascii_digit c)
+
+-- identifiers with `-` or nothing before them, or nothing
+pub data IsLoosePreRelease : List ℕ → List Id → Type 0 where
+  no_pre_release : IsLoosePreRelease [] []
+  dashed : (text : List ℕ) (list : List Id) → IsIdentifiers text list → IsLoosePreRelease (45 ∷ text) list
+  bare : (text : List ℕ) (list : List Id) → IsIdentifiers text list → begins_bare text ≡ true → IsLoosePreRelease text list
+
+-- loose: any marks, leading zeros, and a pre-release without `-`
+abbrev pub IsLooseVersion : ℕ → List ℕ → VersionValue → Type 0
+IsLooseVersion limit = IsWritten AreMarks (IsNumber limit) IsLoosePreRelease
 
 -- the text, of at most 256 characters with the whitespace around it, is this version. (node-semver counts UTF-16 units. A
 -- character that is two of them stands in no version text.)
-pub record IsVersionText (limit : ℕ) (text : List ℕ) (v : VersionValue) : Type 0 where
+pub record IsWhole (Is : List ℕ → VersionValue → Type 0) (text : List ℕ) (v : VersionValue) : Type 0 where
   pub short : length (chars text) ≤ MAX_LENGTH
   pub middle : List ℕ
   pub trimmed : IsTrim text middle
-  pub is : IsStrictVersion limit middle v
+  pub is : Is middle v
+
+abbrev pub IsVersionText : ℕ → List ℕ → VersionValue → Type 0
+IsVersionText limit = IsWhole (IsStrictVersion limit)
+
+abbrev pub IsLooseVersionText : ℕ → List ℕ → VersionValue → Type 0
+IsLooseVersionText limit = IsWhole (IsLooseVersion limit)

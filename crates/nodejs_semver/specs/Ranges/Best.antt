@@ -5,20 +5,13 @@ use Rattle.std.specs.Ordering.{is_le, is_lt}
 use Rattle.semver_core.specs.Values.Order.{precedence}
 use Rattle.semver_core.specs.Values.Versions.{VersionValue}
 
--- v is in the set, and has a place in the list such that each version of the set in front of it, and each
--- behind it, has this relation to it
-pub record Stands {V : Type 0} (R S : V → V → Bool) (set : V → Bool) (list : List V) (v : V) : Type 0 where
-  pub front : List V
-  pub back : List V
-  pub divided : list ≡ front ++ v ∷ back
-  pub inside : set v ≡ true
-  pub before : list_all (λ w. not (set w) || R w v) front ≡ true
-  pub after : list_all (λ w. not (set w) || S w v) back ≡ true
-
--- the version that stands so, and None exactly where no version of the list is in the set
+-- a version of the set that has a place in the list such that each version of the set in front of it, and
+-- each behind it, has this relation to it; and None exactly where no version of the list is in the set
 abbrev pub IsBest : {V : Type 0} → (in_front behind : V → V → Bool) → (V → Bool) → List V → Option V → Type 0
 IsBest in_front behind set list None = list_all (λ w. not (set w)) list ≡ true
-IsBest in_front behind set list (Some v) = Stands in_front behind set list v
+IsBest {V} in_front behind set list (Some v) = (set v ≡ true) × (front back : List V)
+    × (list ≡ front ++ v ∷ back) × (list_all (λ w. not (set w) || in_front w v) front ≡ true)
+    × (list_all (λ w. not (set w) || behind w v) back ≡ true)
 
 -- a version takes the place of the best so far: it is in the set, and the best, if there is one, has this
 -- relation to it

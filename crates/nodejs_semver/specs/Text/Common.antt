@@ -47,11 +47,6 @@ pub data AreCommonParts (limit : ℕ) : List ℕ → List (Span VersionValue) �
       → IsCommonPart limit part s → IsGap before → IsGap after → AreCommonParts limit text list
       → AreCommonParts limit (part ++ (before ++ (codes "||" ++ (after ++ text)))) (s ∷ list)
 
--- whether a `+` stands in a text: with it each build begins, and nothing else of these parts
-abbrev pub has_plus : List ℕ → Bool
-has_plus text = list_any (λ b. b == 43) text
-
--- such parts of which no version has a build
-pub record IsCommonRange (limit : ℕ) (text : List ℕ) (list : List (Span VersionValue)) : Type 0 where
-  pub parts : AreCommonParts limit text list
-  pub no_build : has_plus text ≡ false
+-- such parts of which no version has a build: with a `+` each build begins, and nothing else of these parts
+abbrev pub IsCommonRange : ℕ → List ℕ → List (Span VersionValue) → Type 0
+IsCommonRange limit text list = AreCommonParts limit text list × (list_any (λ b. b == 43) text ≡ false)

@@ -27,20 +27,14 @@ pub data IsComponent (limit : ℕ) : List ℕ → Option ℕ → Type 0 where
 pub data AreComponents (limit : ℕ) : List ℕ → Partial → Type 0 where
   one : (x : List ℕ) (a : Option ℕ) → IsComponent limit x a
       → AreComponents limit x (record { major = a; minor = None; patch = None; pre_release = []; build = [] })
-  two : (x y : List ℕ) (a b : Option ℕ) → IsComponent limit x a → IsComponent limit y b
-      → AreComponents limit (x ++ 46 ∷ y)
-      (record { major = a; minor = b; patch = None; pre_release = []; build = [] })
+  two : (x y : List ℕ) (a b : Option ℕ) → IsComponent limit x a → IsComponent limit y b → AreComponents limit
+      (x ++ 46 ∷ y) (record { major = a; minor = b; patch = None; pre_release = []; build = [] })
   three : (x y z pre build : List ℕ) (p : Partial) → IsComponent limit x p.major → IsComponent limit y p.minor
       → IsComponent limit z p.patch → (ends is_ascii_digit z && begins is_ascii_digit (pre ++ build)) ≡ false
       → IsPreRelease pre build p.pre_release → IsBuild build [] p.build
       → AreComponents limit (x ++ 46 ∷ (y ++ 46 ∷ (z ++ (pre ++ build)))) p
 
 -- the whole text is this partial
-pub record IsPartial (limit : ℕ) (text : List ℕ) (p : Partial) : Type 0 where
-  pub mark : List ℕ
-  pub blank : List ℕ
-  pub components : List ℕ
-  pub divided : text ≡ mark ++ (blank ++ components)
-  pub mark_is : (mark ≡ []) ⊎ (mark ≡ codes "v")
-  pub blank_is : IsBlank blank
-  pub components_are : AreComponents limit components p
+abbrev pub IsPartial : ℕ → List ℕ → Partial → Type 0
+IsPartial limit text p = (mark blank components : List ℕ) × (text ≡ mark ++ (blank ++ components))
+    × ((mark ≡ []) ⊎ (mark ≡ codes "v")) × IsBlank blank × AreComponents limit components p

@@ -21,9 +21,6 @@ pub record Run (V : Type 0) : Type 0 where
   pub first : Span V
   pub others : List (Span V)
 
-abbrev pub run_items : {V : Type 0} → Run V → List (Span V)
-run_items r = r.first ∷ r.others
-
 -- the interval of a run
 abbrev pub interval_of : {V : Type 0} → (V → V → Ordering) → Run V → Span V
 interval_of R r = record { lower = greatest_lower R r.first r.others; upper = least_upper R r.first r.others }
@@ -39,7 +36,6 @@ AreLongest R (r ∷ s ∷ rs) =
 AreLongest R _ = Unit {0}
 
 -- the division of a part's bounds into runs, of which there is one
-pub record AreRuns {V : Type 0} (R : V → V → Ordering) (ss : List (Span V)) (rs : List (Run V)) : Type 0 where
-  pub whole : flat_map run_items rs ≡ ss
-  pub each : AllByRecursion (λ r. fits R r ≡ true) rs
-  pub longest : AreLongest R rs
+abbrev pub AreRuns : {V : Type 0} → (V → V → Ordering) → List (Span V) → List (Run V) → Type 0
+AreRuns R ss rs = (flat_map (λ r. r.first ∷ r.others) rs ≡ ss) × AllByRecursion (λ r. fits R r ≡ true) rs
+    × AreLongest R rs

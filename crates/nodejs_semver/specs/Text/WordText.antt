@@ -21,11 +21,8 @@ abbrev pub IsBoundary : List ℕ → Type 0
 IsBoundary text = (text ≡ []) ⊎ BeginsBlank text
 
 -- whitespace or none, and then a text that does not begin with whitespace
-pub record SkipsBlank (text rest : List ℕ) : Type 0 where
-  pub blank : List ℕ
-  pub divided : text ≡ blank ++ rest
-  pub is : IsBlank blank
-  pub ended : BeginsBlank rest → ⊥
+abbrev pub SkipsBlank : List ℕ → List ℕ → Type 0
+SkipsBlank text rest = (blank : List ℕ) × (text ≡ blank ++ rest) × IsBlank blank × (BeginsBlank rest → ⊥)
 
 -- a comparator as it is written
 pub data IsSign : Comparator → List ℕ → Type 0 where
@@ -45,14 +42,10 @@ abbrev pub IsBehind : ℕ → List ℕ → Partial → List ℕ → Type 0
 IsBehind limit text p rest = (start : List ℕ) × SkipsBlank text start × IsWhole limit start p rest
 
 -- a partial, whitespace, `-`, whitespace and a partial up to a boundary
-pub record IsHyphen (limit : ℕ) (text : List ℕ) (lower upper : Partial) (rest : List ℕ) : Type 0 where
-  pub before : List ℕ
-  pub after : List ℕ
-  pub first : IsLongestPartial limit text lower before
-  pub space_before : BeginsBlank before
-  pub dash : SkipsBlank before (codes "-" ++ after)
-  pub space_after : BeginsBlank after
-  pub second : IsBehind limit after upper rest
+abbrev pub IsHyphen : ℕ → List ℕ → Partial → Partial → List ℕ → Type 0
+IsHyphen limit text lower upper rest = (before after : List ℕ) × IsLongestPartial limit text lower before
+    × BeginsBlank before × SkipsBlank before (codes "-" ++ after)
+    × BeginsBlank after × IsBehind limit after upper rest
 
 -- the forms of words. A partial by itself is a word where it begins no hyphen word.
 pub data IsForm (limit : ℕ) : List ℕ → Word → List ℕ → Type 0 where
@@ -70,11 +63,9 @@ pub data IsForm (limit : ℕ) : List ℕ → Word → List ℕ → Type 0 where
       → IsForm limit (codes "^" ++ text) (caret p) rest
 
 -- the rest begins at the first boundary of the text
-pub record IsFirstBoundary (text rest : List ℕ) : Type 0 where
-  pub passed : List ℕ
-  pub divided : text ≡ passed ++ rest
-  pub boundary : IsBoundary rest
-  pub first : (x y : List ℕ) → text ≡ x ++ y → IsBoundary y → length passed ≤ length x
+abbrev pub IsFirstBoundary : List ℕ → List ℕ → Type 0
+IsFirstBoundary text rest = (passed : List ℕ) × (text ≡ passed ++ rest) × IsBoundary rest
+    × ((x y : List ℕ) → text ≡ x ++ y → IsBoundary y → length passed ≤ length x)
 
 -- a word at the front of a text and what follows it: one of the forms, or, where none stands there, what goes
 -- to the next boundary

@@ -1,5 +1,5 @@
 -- Statement. The set of versions that a range text writes, by plain comparisons of versions.
-use Rattle.std.specs.Prelude.{◌≡◌, ◌⊎◌, ℕ, ◌&&◌, not, Bool, true, List}
+use Rattle.std.specs.Prelude.{◌≡◌, ◌⊎◌, ℕ, ◌&&◌, not, Bool, true, List, ◌∷◌}
 use Rattle.std.specs.List.{Any, list_all, list_any}
 use Rattle.std.specs.Ordering.{is_lt}
 use Rattle.std.specs.declared.cmp.Ordering.{Ordering}
@@ -10,7 +10,7 @@ use Rattle.semver_core.specs.Values.Order.{precedence}
 use Rattle.semver_core.specs.Values.Versions.{VersionValue}
 use Rattle.nodejs_semver.specs.Text.Bars.{IsCutAtBars}
 use Rattle.nodejs_semver.specs.Text.Meaning.{HasRuns}
-use Rattle.nodejs_semver.specs.Text.Runs.{Run, run_items}
+use Rattle.nodejs_semver.specs.Text.Runs.{Run}
 
 -- the comparisons `>=w` and `>w` of a lower bound
 abbrev pub is_above : {V : Type 0} → (V → V → Ordering) → Bound V → V → Bool
@@ -26,13 +26,12 @@ is_below R (After w) v = not (is_lt (R w v))
 
 -- a run writes what satisfies the comparisons of every word of it
 abbrev pub run_writes : {V : Type 0} → (V → V → Ordering) → V → Run V → Bool
-run_writes R v r = list_all (λ s. is_above R s.lower v && is_below R s.upper v) (run_items r)
+run_writes R v r = list_all (λ s. is_above R s.lower v && is_below R s.upper v) (r.first ∷ r.others)
 
 -- what stands between bars writes the version: it is whitespace alone, or the version is in what some one of
 -- its runs writes
 abbrev pub PieceWrites : ℕ → VersionValue → List ℕ → Type 0
-PieceWrites limit v piece = IsBlank piece
-    ⊎ ((rs : List (Run VersionValue)) × HasRuns limit piece rs
+PieceWrites limit v piece = IsBlank piece ⊎ ((rs : List (Run VersionValue)) × HasRuns limit piece rs
     × (list_any (run_writes precedence v) rs ≡ true))
 
 -- the text writes the version: some one of its pieces does

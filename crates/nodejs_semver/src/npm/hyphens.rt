@@ -1,4 +1,4 @@
-// The hyphen ranges of node-semver's strict reading: two partial versions with ` - ` between them.
+// The hyphen ranges of node-semver's readings: two partial versions with ` - ` between them.
 
 ghost use Rattle.std.specs.Prelude.{◌≡◌, ◌≤◌, length};
 ghost use Rattle.nodejs_semver.specs.Internal.NpmParts.{npm_partial_view};
@@ -33,7 +33,7 @@ fn mark_len(text: &[u8]) -> usize
 
 // What follows the marks and the whitespace at the front.
 #[tactic(auto, using(crate::proofs::Strict::HyphenReads::ends_passed))]
-fn skip_marks(text: &[u8]) -> &[u8]
+pub(crate) fn skip_marks(text: &[u8]) -> &[u8]
     ensures { result.now ≡ Spec.drop_ends text.now }
 {
     let mut left = text;
@@ -91,12 +91,12 @@ fn ended_end<'a>(
 }
 
 // The lower end of a hyphen range at the front, and the text behind it.
-fn lower_end(text: &[u8]) -> Option<(End<'_>, &[u8])>
+fn lower_end(loose: bool, text: &[u8]) -> Option<(End<'_>, &[u8])>
     ensures { end_front_view result
-        ≡ Spec.limited_end MAX_SAFE_INTEGER (Spec.end_front Text.is_free_lower text.now) }
+        ≡ Spec.limited_end MAX_SAFE_INTEGER (Spec.end_front loose Text.is_free_lower text.now) }
 {
     let behind = skip_marks(text);
-    match partial_front(behind) {
+    match partial_front(loose, behind) {
         Some(read) => {
             let free = is_free_lower(&read.0);
             ended_end(free, text, behind, read.0, read.1)
@@ -106,12 +106,12 @@ fn lower_end(text: &[u8]) -> Option<(End<'_>, &[u8])>
 }
 
 // The upper end of a hyphen range at the front, and the text behind it.
-fn upper_end(include: bool, text: &[u8]) -> Option<(End<'_>, &[u8])>
+fn upper_end(loose: bool, include: bool, text: &[u8]) -> Option<(End<'_>, &[u8])>
     ensures { end_front_view result ≡ Spec.limited_end MAX_SAFE_INTEGER
-        (Spec.end_front (Text.is_free_upper include) text.now) }
+        (Spec.end_front loose (Text.is_free_upper include) text.now) }
 {
     let behind = skip_marks(text);
-    match partial_front(behind) {
+    match partial_front(loose, behind) {
         Some(read) => {
             let free = is_free_upper(include, &read.0);
             ended_end(free, text, behind, read.0, read.1)
@@ -131,18 +131,18 @@ fn after_dash(text: &[u8]) -> Option<&[u8]>
 }
 
 // The upper end, where it ends the text.
-fn last_end(include: bool, text: &[u8]) -> Option<End<'_>>
-    ensures { end_some_view result ≡ Spec.last_limited MAX_SAFE_INTEGER include text.now }
+fn last_end(loose: bool, include: bool, text: &[u8]) -> Option<End<'_>>
+    ensures { end_some_view result ≡ Spec.last_limited loose MAX_SAFE_INTEGER include text.now }
 {
-    let (upper, rest) = upper_end(include, text)?;
+    let (upper, rest) = upper_end(loose, include, text)?;
     if rest.is_empty() { Some(upper) } else { None }
 }
 
 /// The ends of the hyphen range that the text is, if their numbers that count are up to the limit.
-pub(crate) fn hyphen_ends(include: bool, text: &[u8]) -> Option<(End<'_>, End<'_>)>
-    ensures { hyphen_view result ≡ Spec.hyphen_of MAX_SAFE_INTEGER include text.now }
+pub(crate) fn hyphen_ends(loose: bool, include: bool, text: &[u8]) -> Option<(End<'_>, End<'_>)>
+    ensures { hyphen_view result ≡ Spec.hyphen_of loose MAX_SAFE_INTEGER include text.now }
 {
-    let (lower, rest) = lower_end(text)?;
-    let upper = last_end(include, after_dash(rest)?)?;
+    let (lower, rest) = lower_end(loose, text)?;
+    let upper = last_end(loose, include, after_dash(rest)?)?;
     Some((lower, upper))
 }

@@ -1,21 +1,23 @@
-// The partial version at the front of a text, as node-semver's strict reading has it.
+// The partial version at the front of a text, as node-semver's readings have it.
 
 ghost use Rattle.std.specs.Char.{is_ascii_digit};
 ghost use Rattle.std.specs.List.{prefix_len};
-ghost use Rattle.std.specs.Prelude.{◌≡◌, ◌≤◌, [], None, false, length, true};
-ghost use Rattle.nodejs_semver.specs.Internal.Fronts.{begins_wildcard};
-ghost use Rattle.nodejs_semver.specs.Internal.NpmReadings.{strict_number};
+ghost use Rattle.std.specs.Prelude.{◌≡◌, ◌≤◌, ◌&&◌, [], None, false, length, not, true};
+ghost use Rattle.nodejs_semver.specs.Internal.Fronts.{begins_wildcard, front_view, number_front};
+ghost use Rattle.nodejs_semver.specs.Internal.NpmReadings.{begins_padded, strict_number};
 ghost use Rattle.nodejs_semver.specs.Internal.NpmViews.{npm_partial_front_view};
 ghost use Rattle.nodejs_semver.specs.Internal.NpmViews.{npm_partial_some_view};
 ghost use Rattle.nodejs_semver.specs.Internal.NpmViews.{place_front_view, place_view};
 ghost use Rattle.nodejs_semver.specs.Internal.NpmWords as Spec;
+ghost use Rattle.nodejs_semver.specs.Internal.Readings.{pair_view};
 ghost use Rattle.nodejs_semver.specs.Npm.RangeText as Text;
 ghost use Rattle.semver_core.specs.Text.Identifiers.{is_listed, listed};
 ghost use Rattle.semver_core.specs.declared.TheConstants.{MAX_SAFE_INTEGER};
 
 use crate::npm::partial::Partial;
 use crate::npm::versions::{begins_padded, dashed_front, is_strict_list, strict_number};
-use crate::readers::build_front;
+use crate::readers::{build_front, pre_release_front};
+use semver_core::scan::number_in;
 use semver_core::{MAX_SAFE_INTEGER, VersionRef};
 
 /// A place of a partial version: a wildcard, a number up to the limit, or a greater one.
@@ -28,7 +30,7 @@ enum Place {
 
 // How many digits stand at the front.
 #[tactic(auto, using(crate::proofs::Strict::Places::prefix_steps))]
-fn digits_len(text: &[u8]) -> usize
+pub(crate) fn digits_len(text: &[u8]) -> usize
     ensures value { result ≡ prefix_len is_ascii_digit text.now }
     ensures fits { result ≤ length text.now }
 {
@@ -40,42 +42,86 @@ fn digits_len(text: &[u8]) -> usize
     text.len()
 }
 
-// The place at the front where no number up to the limit stands and no wildcard.
+// The most digits that a number may have.
+#[inline(always)]
+fn most_digits(loose: bool) -> usize
+    ensures { result ≡ Text.most_digits loose }
+{
+    if loose { 32 } else { 257 }
+}
+
+// The number up to the limit that the run of digits at the front is, and the text behind it.
+#[inline(always)]
+#[tactic(auto, using(crate::proofs::Strict::Numbers::numbers_in))]
+fn number_front(text: &[u8]) -> Option<(u64, &[u8])>
+    ensures { front_view result ≡ number_front MAX_SAFE_INTEGER text.now }
+{
+    let (number, end) = number_in(text, 0)?;
+    Some((number, &text[end..]))
+}
+
+// The place at the front that is a run of digits past the limit.
 #[inline(never)]
 #[tactic(auto, using(crate::proofs::Strict::Limits::no_places))]
-fn great_place(text: &[u8]) -> Option<(Place, &[u8])>
-    requires no_number { strict_number MAX_SAFE_INTEGER text.now ≡ None }
+fn great_place(loose: bool, text: &[u8]) -> Option<(Place, &[u8])>
+    requires no_number { number_front MAX_SAFE_INTEGER text.now ≡ None }
     requires no_wildcard { begins_wildcard text.now ≡ false }
-    ensures { place_front_view result ≡ Spec.placed MAX_SAFE_INTEGER (Spec.place_front text.now) }
+    requires spelled { (not loose && begins_padded text.now) ≡ false }
+    ensures { place_front_view result
+        ≡ Spec.placed MAX_SAFE_INTEGER (Spec.place_front loose text.now) }
 {
     let len = digits_len(text);
-    if begins_padded(text) || len == 0 || len > 257 {
+    if len == 0 || len > most_digits(loose) {
         return None;
     }
     Some((Place::Great, &text[len..]))
 }
 
+// The place at the front where no number without leading zeros stands and no wildcard.
+#[inline(never)]
+#[tactic(auto, using(crate::proofs::Strict::Limits::padded_places))]
+fn padded_place(loose: bool, text: &[u8]) -> Option<(Place, &[u8])>
+    requires no_number { strict_number MAX_SAFE_INTEGER text.now ≡ None }
+    requires no_wildcard { begins_wildcard text.now ≡ false }
+    ensures { place_front_view result
+        ≡ Spec.placed MAX_SAFE_INTEGER (Spec.place_front loose text.now) }
+{
+    if !begins_padded(text) {
+        return great_place(loose, text);
+    }
+    if !loose || digits_len(text) > most_digits(true) {
+        return None;
+    }
+    match number_front(text) {
+        Some((0, _)) => None,
+        Some((number, rest)) => Some((Place::Number(number), rest)),
+        None => great_place(true, text),
+    }
+}
+
 // The place at the front, and the text behind it.
 #[inline(always)]
 #[tactic(auto, using(crate::proofs::Strict::Limits::places_found))]
-fn place_front(text: &[u8]) -> Option<(Place, &[u8])>
-    ensures { place_front_view result ≡ Spec.placed MAX_SAFE_INTEGER (Spec.place_front text.now) }
+fn place_front(loose: bool, text: &[u8]) -> Option<(Place, &[u8])>
+    ensures { place_front_view result
+        ≡ Spec.placed MAX_SAFE_INTEGER (Spec.place_front loose text.now) }
 {
     match strict_number(text) {
         Some((number, rest)) => Some((Place::Number(number), rest)),
         None if matches!(text, [b'x' | b'X' | b'*', ..]) => Some((Place::Wildcard, &text[1..])),
-        None => great_place(text),
+        None => padded_place(loose, text),
     }
 }
 
 // The same behind a dot.
 #[inline(always)]
 #[tactic(auto, unfolding(crate::specs::Internal::NpmWords::dotted_place))]
-fn dotted_place(text: &[u8]) -> Option<(Place, &[u8])>
-    ensures { place_front_view result ≡ Spec.placed MAX_SAFE_INTEGER (Spec.dotted_place text.now) }
+fn dotted_place(loose: bool, text: &[u8]) -> Option<(Place, &[u8])>
+    ensures { place_front_view result
+        ≡ Spec.placed MAX_SAFE_INTEGER (Spec.dotted_place loose text.now) }
 {
     match text {
-        [b'.', rest @ ..] => place_front(rest),
+        [b'.', rest @ ..] => place_front(loose, rest),
         _ => None,
     }
 }
@@ -148,29 +194,64 @@ fn are_short_builds(text: &[u8]) -> bool
     text.split(|byte| *byte == b'.').all(is_short_build)
 }
 
+// Whether the identifiers of a pre-release are spelled as they have to be.
+#[inline(always)]
+fn are_spelled(loose: bool, pre_release: &[u8]) -> bool
+    ensures { result ≡ Text.are_spelled loose pre_release.now }
+{
+    if loose {
+        pre_release.len() <= 128
+    } else {
+        is_strict_list(pre_release)
+    }
+}
+
 // Whether this pre-release and this build may be written.
 #[inline(always)]
-fn may_follow(pre_release: &[u8], build: &[u8]) -> bool
-    ensures { result ≡ Spec.may_follow pre_release.now build.now }
+fn may_follow(loose: bool, pre_release: &[u8], build: &[u8]) -> bool
+    ensures { result ≡ Spec.may_follow loose pre_release.now build.now }
 {
-    is_strict_list(pre_release) && are_short_identifiers(pre_release) && are_short_builds(build)
+    are_spelled(loose, pre_release) && are_short_identifiers(pre_release) && are_short_builds(build)
+}
+
+// Whether a text begins with a letter.
+#[inline(always)]
+fn begins_letter(text: &[u8]) -> bool
+    ensures { result ≡ Text.begins_letter text.now }
+{
+    matches!(text, [b'A'..=b'Z' | b'a'..=b'z', ..])
+}
+
+// The text of the pre-release at the front, and what stands behind it.
+#[inline(always)]
+#[tactic(auto, unfolding(crate::specs::Internal::NpmWords::pre_front))]
+fn pre_front(loose: bool, text: &[u8]) -> (&[u8], &[u8])
+    ensures listed { is_listed result.0.now ≡ true }
+    ensures value { pair_view result ≡ Spec.pre_front loose text.now }
+{
+    if loose && begins_letter(text) {
+        pre_release_front(text)
+    } else {
+        dashed_front(text)
+    }
 }
 
 // The partial of three places, and of what stands behind them.
 #[inline(always)]
 #[tactic(auto, unfolding(crate::specs::Internal::NpmWords::qualified_counted))]
 fn qualified_partial(
+    loose: bool,
     major: Place,
     minor: Place,
     patch: Place,
     text: &[u8],
 ) -> Option<(Partial<'_>, &[u8])>
-    ensures { npm_partial_front_view result ≡ Spec.qualified_counted (place_view major)
+    ensures { npm_partial_front_view result ≡ Spec.qualified_counted loose (place_view major)
         (place_view minor) (place_view patch) text.now }
 {
-    let (pre_release, rest) = dashed_front(text);
+    let (pre_release, rest) = pre_front(loose, text);
     let (build, rest) = build_front(rest);
-    if !may_follow(pre_release, build) {
+    if !may_follow(loose, pre_release, build) {
         return None;
     }
     Some((long_partial(major, minor, patch, pre_release, build)?, rest))
@@ -178,12 +259,13 @@ fn qualified_partial(
 
 // The partial of two places, and of what stands behind them.
 #[tactic(auto, using(crate::proofs::Reading::IdentifierLists::short_lists))]
-fn third_front(major: Place, minor: Place, text: &[u8]) -> Option<(Partial<'_>, &[u8])>
-    ensures { npm_partial_front_view result ≡ Spec.third_counted (place_view major)
-        (place_view minor) text.now (Spec.placed MAX_SAFE_INTEGER (Spec.dotted_place text.now)) }
+fn third_front(loose: bool, major: Place, minor: Place, text: &[u8]) -> Option<(Partial<'_>, &[u8])>
+    ensures { npm_partial_front_view result ≡ Spec.third_counted loose (place_view major)
+        (place_view minor) text.now
+        (Spec.placed MAX_SAFE_INTEGER (Spec.dotted_place loose text.now)) }
 {
-    match dotted_place(text) {
-        Some((patch, rest)) => qualified_partial(major, minor, patch, rest),
+    match dotted_place(loose, text) {
+        Some((patch, rest)) => qualified_partial(loose, major, minor, patch, rest),
         None => Some((short_partial(major, minor)?, text)),
     }
 }
@@ -191,12 +273,12 @@ fn third_front(major: Place, minor: Place, text: &[u8]) -> Option<(Partial<'_>, 
 /// The partial version at the front whose numbers that count are up to the limit, and the text
 /// behind it.
 #[tactic(auto, using(crate::proofs::Reading::IdentifierLists::short_lists))]
-pub(crate) fn partial_front(text: &[u8]) -> Option<(Partial<'_>, &[u8])>
-    ensures { npm_partial_front_view result ≡ Spec.counted_front MAX_SAFE_INTEGER text.now }
+pub(crate) fn partial_front(loose: bool, text: &[u8]) -> Option<(Partial<'_>, &[u8])>
+    ensures { npm_partial_front_view result ≡ Spec.counted_front loose MAX_SAFE_INTEGER text.now }
 {
-    let (major, rest) = place_front(text)?;
-    match dotted_place(rest) {
-        Some((minor, rest)) => third_front(major, minor, rest),
+    let (major, rest) = place_front(loose, text)?;
+    match dotted_place(loose, rest) {
+        Some((minor, rest)) => third_front(loose, major, minor, rest),
         None => Some((short_partial(major, Place::Wildcard)?, rest)),
     }
 }

@@ -1,12 +1,13 @@
-// The reader of range texts as node-semver's strict reading has them.
+// The reader of range texts as node-semver has them, strictly or loosely.
 
-ghost use Rattle.std.specs.Prelude.{◌≡◌, ◌<◌, ℕ, IfOk, List, None, OnOk, length};
+ghost use Rattle.std.specs.Prelude.{◌≡◌, ◌<◌, ℕ, IfOk, List, None, OnOk, length, true};
 ghost use Rattle.std.specs.Str.{IsUtf8};
 ghost use Rattle.nodejs_semver.specs.Internal.NpmReads.{IsFound, valid_alternative, valid_hyphen};
 ghost use Rattle.nodejs_semver.specs.Internal.NpmReads.{words_of};
 ghost use Rattle.nodejs_semver.specs.Internal.NpmReads.{Adds, AreAllFound, valid_alternatives};
 ghost use Rattle.nodejs_semver.specs.Internal.Parts.{parts};
-ghost use Rattle.nodejs_semver.specs.Npm.Ranges.{HasAlternatives, IsRangeOf};
+ghost use Rattle.nodejs_semver.specs.Npm.Ranges.{HasAlternatives, HasAlternativesIn};
+ghost use Rattle.nodejs_semver.specs.Npm.Ranges.{IsRangeIn, IsRangeOf};
 ghost use Rattle.nodejs_semver.specs.Text.Bars.{IsCutAtBars};
 ghost use Rattle.semver_core.specs.Failures.{MemoryOnlyIf, NoValue, RefusedOnlyIf};
 ghost use Rattle.semver_core.specs.declared.TheConstants.{MAX_SAFE_INTEGER};
@@ -22,14 +23,14 @@ use smallvec::SmallVec;
 use std::alloc::Global;
 
 // The alternative of words, with whitespace between them.
-fn words(include: bool, text: &[u8]) -> Option<Alternative<'_>>
+fn words(loose: bool, include: bool, text: &[u8]) -> Option<Alternative<'_>>
     requires { IsUtf8 text.now }
-    ensures { IsFound include (words_of include text.now) result }
+    ensures { IsFound include (words_of loose include text.now) result }
 {
     let mut all = Alternative::all();
     let mut rest = text;
     'words: loop {
-        let (word, behind) = word_front(rest)?;
+        let (word, behind) = word_front(loose, rest)?;
         all = all.meet(include, word.sign, &word.partial, word.text)?;
         if behind.is_empty() {
             return Some(all);
@@ -39,40 +40,41 @@ fn words(include: bool, text: &[u8]) -> Option<Alternative<'_>>
 }
 
 // The alternative of a hyphen range.
-fn hyphen(include: bool, text: &[u8]) -> Option<Alternative<'_>>
-    ensures { IsFound include (valid_hyphen include text.now) result }
+fn hyphen(loose: bool, include: bool, text: &[u8]) -> Option<Alternative<'_>>
+    ensures { IsFound include (valid_hyphen loose include text.now) result }
 {
-    let (lower, upper) = hyphen_ends(include, text)?;
+    let (lower, upper) = hyphen_ends(loose, include, text)?;
     let from = Alternative::all().meet_lower(include, &lower.partial, lower.text)?;
     from.meet_upper(include, &upper.partial, upper.text)
 }
 
 // The alternative that a text is, without whitespace around it.
-fn alternative(include: bool, text: &[u8]) -> Option<Alternative<'_>>
+fn alternative(loose: bool, include: bool, text: &[u8]) -> Option<Alternative<'_>>
     requires { IsUtf8 text.now }
-    ensures { IsFound include (valid_alternative include text.now) result }
+    ensures { IsFound include (valid_alternative loose include text.now) result }
 {
     if text.is_empty() {
         return Some(Alternative::all());
     }
-    match words(include, text) {
+    match words(loose, include, text) {
         Some(found) => Some(found),
-        None => hyphen(include, text),
+        None => hyphen(loose, include, text),
     }
 }
 
 // Adds the interval of the alternative that a text is, where its cuts meet.
 fn add_alternative<'a>(
+    loose: bool,
     include: bool,
     text: &'a str,
     found: &mut Intervals<VersionRef<'a>>,
 ) -> Result<(), Failure<SemverError>>
     ensures added { OnOk result
-        (Adds include (valid_alternative include text.now) found.old.items found.new.items) }
-    ensures refused { RefusedOnlyIf result (valid_alternative include text.now ≡ None) }
+        (Adds include (valid_alternative loose include text.now) found.old.items found.new.items) }
+    ensures refused { RefusedOnlyIf result (valid_alternative loose include text.now ≡ None) }
     ensures memory { MemoryOnlyIf result (0 < length found.old.items) }
 {
-    let Some(read) = alternative(include, text.as_bytes()) else {
+    let Some(read) = alternative(loose, include, text.as_bytes()) else {
         return Err(Failure::Refused(SemverError));
     };
     if let Some(interval) = read.interval() {
@@ -84,22 +86,40 @@ fn add_alternative<'a>(
 // The intervals of the alternatives of a text. One cursor goes through it.
 fn intervals<'a>(
     alloc: Global,
+    loose: bool,
     include: bool,
     text: &'a str,
 ) -> Result<Intervals<VersionRef<'a>>, Failure<SemverError>>
     ensures ok { IfOk result (λ found.
-        AreAllFound include (valid_alternatives include (parts text.now)) found.items) }
-    ensures refused { RefusedOnlyIf result (valid_alternatives include (parts text.now) ≡ None) }
+        AreAllFound include (valid_alternatives loose include (parts text.now)) found.items) }
+    ensures refused { RefusedOnlyIf result (valid_alternatives loose include (parts text.now) ≡ None) }
     ensures memory { MemoryOnlyIf result (1 < length (parts text.now)) }
 {
     let mut found = SmallVec::new(alloc);
     let mut rest = Some(text);
     'parts: while let Some(text) = rest {
         let (part, after) = next_part(text);
-        add_alternative(include, part, &mut found)?;
+        add_alternative(loose, include, part, &mut found)?;
         rest = after;
     }
     Ok(found)
+}
+
+// The range of a text, read strictly or loosely.
+fn read_range(
+    alloc: Global,
+    loose: bool,
+    include: bool,
+    text: &str,
+) -> Result<RangeRef<'_>, Failure<SemverError>>
+    ensures ok { IfOk result (IsRangeIn loose MAX_SAFE_INTEGER include text.now) }
+    ensures refused { RefusedOnlyIf result
+        (NoValue (HasAlternativesIn loose MAX_SAFE_INTEGER include text.now)) }
+    ensures memory { MemoryOnlyIf result ((pieces : List (List ℕ)) →
+        IsCutAtBars text.now pieces → 1 < length pieces) }
+{
+    let found = intervals(alloc, loose, include, text)?;
+    Ok(range_of(alloc, found))
 }
 
 /// Reads a range text as node-semver's `Range` does, which is strict unless it is told otherwise:
@@ -139,6 +159,40 @@ pub fn range(
     ensures memory { MemoryOnlyIf result ((pieces : List (List ℕ)) →
         IsCutAtBars text.now pieces → 1 < length pieces) }
 {
-    let found = intervals(alloc, include_prerelease, text)?;
-    Ok(range_of(alloc, found))
+    read_range(alloc, false, include_prerelease, text)
+}
+
+/// Reads a range text as node-semver's `Range` does by its option `loose`, as `npm ls` reads the
+/// ranges of dependencies: all that [`range`] reads, and also numbers with leading zeros
+/// (`^01.2.3`), a pre-release without its `-` (`1.2.3beta`), and more marks than one `v` before a
+/// version (`==1.2.3`).
+///
+/// What it reads means what it means to node-semver. It rejects more than node-semver does:
+/// a text with a malformed word, such as `>=1.0.0,` or `latest`, which node-semver ignores where
+/// another word is well formed; zero as several digits (`1.00.0`); a number of more than 32
+/// digits; a pre-release of more than 128 characters, or without its `-` where it does not begin
+/// with a letter; and other marks than one `v` before a whole version in a hyphen range.
+///
+/// All else is as for [`range`]: how to ask the range, what it borrows and when allocation fails.
+///
+/// ```rust
+/// let beta = npm::range_loose(alloc, "==1.2.3beta || ^02.1", false)?;
+/// assert!(rt; beta.satisfies(&VersionRef::parse("1.2.3-beta")?));
+/// assert!(rt; npm::range(alloc, "==1.2.3beta || ^02.1", false).is_err());
+/// ```
+pub fn range_loose(
+    alloc: Global,
+    text: &str,
+    include_prerelease: bool,
+) -> Result<RangeRef<'_>, Failure<SemverError>>
+    // The text has alternatives, and the range accepts the versions that they accept.
+    ensures ok { IfOk result (IsRangeIn true MAX_SAFE_INTEGER include_prerelease text.now) }
+    // A text is rejected only if it has none. The one other error is a failed allocation.
+    ensures refused { RefusedOnlyIf result
+        (NoValue (HasAlternativesIn true MAX_SAFE_INTEGER include_prerelease text.now)) }
+    // Allocation fails only if the text has two alternatives or more.
+    ensures memory { MemoryOnlyIf result ((pieces : List (List ℕ)) →
+        IsCutAtBars text.now pieces → 1 < length pieces) }
+{
+    read_range(alloc, true, include_prerelease, text)
 }

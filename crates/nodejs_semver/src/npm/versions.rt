@@ -52,7 +52,7 @@ fn dotted_number(text: &[u8]) -> Option<(u64, &[u8])>
 
 // The text of the pre-release behind a `-`, and what stands behind it.
 #[inline(always)]
-#[tactic(auto, using(crate::proofs::Reading::IdentifierLists::short_lists), unfolding(crate::specs::Internal::NpmReadings::dashed_front))]
+#[tactic(auto, unfolding(crate::specs::Internal::NpmReadings::dashed_front))]
 pub(crate) fn dashed_front(text: &[u8]) -> (&[u8], &[u8])
     ensures listed { is_listed result.0.now ≡ true }
     ensures value { pair_view result ≡ Spec.dashed_front text.now }
@@ -119,7 +119,7 @@ fn whole_version(text: &[u8]) -> Option<VersionRef<'_>>
 // Whether a text has at most as many characters as a version text may have.
 #[inline(always)]
 #[tactic(auto, using(crate::proofs::Strict::Lengths::characters_counted))]
-fn is_short(text: &str) -> bool
+pub(crate) fn is_short(text: &str) -> bool
     ensures { IsTrue result ↔ (length (chars text.now) ≤ MAX_LENGTH) }
 {
     text.len() <= MAX_LENGTH || text.chars().count() <= MAX_LENGTH

@@ -1,4 +1,4 @@
-// The words of a range text as node-semver's strict reading has them: a sign, marks and a partial
+// The words of a range text as node-semver's readings have them: a sign, marks and a partial
 // version.
 
 ghost use Rattle.std.specs.List.{list_all};
@@ -112,13 +112,13 @@ fn marks_len(text: &[u8]) -> usize
 }
 
 // Whether these marks may stand between the sign and the partial.
-fn are_marks(sign: Sign, partial: &Partial<'_>, marks: &[u8]) -> bool
+fn are_marks(loose: bool, sign: Sign, partial: &Partial<'_>, marks: &[u8]) -> bool
     requires { list_all Text.is_mark marks.now ≡ true }
     ensures { result
-        ≡ Text.are_marks (npm_sign_view sign) (npm_partial_view partial.now) marks.now }
+        ≡ Text.are_marks loose (npm_sign_view sign) (npm_partial_view partial.now) marks.now }
 {
     match (sign, partial) {
-        (Sign::Compared(_), Partial::Whole(_)) => matches!(marks, [] | [b'v']),
+        (Sign::Compared(_), Partial::Whole(_)) if !loose => matches!(marks, [] | [b'v']),
         (Sign::Compared(Comparator::Above | Comparator::Below), _) => {
             !matches!(marks, [b'=', ..])
         }
@@ -129,6 +129,7 @@ fn are_marks(sign: Sign, partial: &Partial<'_>, marks: &[u8]) -> bool
 // The word of a sign, marks and the partial that was read behind them.
 #[tactic(auto, using(crate::proofs::Strict::WordReads::marks_found))]
 fn ended_word<'a>(
+    loose: bool,
     sign: Sign,
     text: &'a [u8],
     marks: usize,
@@ -138,10 +139,10 @@ fn ended_word<'a>(
     requires marks { marks ≡ Spec.marks_len text.now }
     requires inside { marks ≤ length text.now }
     requires rest { length rest.now ≤ length text.now }
-    ensures { signed_front_view result ≡ Spec.ended_word (npm_sign_view sign) text.now
-        (Spec.marks_len text.now) (npm_partial_view partial.entry, rest.now) }
+    ensures { signed_front_view result ≡ Spec.ended_word loose (npm_sign_view sign)
+        text.now (Spec.marks_len text.now) (npm_partial_view partial.entry, rest.now) }
 {
-    if !are_marks(sign, &partial, &text[..marks]) {
+    if !are_marks(loose, sign, &partial, &text[..marks]) {
         return None;
     }
     if !is_boundary(rest) {
@@ -159,14 +160,14 @@ fn ended_word<'a>(
 }
 
 /// The word at the front whose numbers that count are up to the limit, and the text behind it.
-pub(crate) fn word_front(text: &[u8]) -> Option<(Signed<'_>, &[u8])>
+pub(crate) fn word_front(loose: bool, text: &[u8]) -> Option<(Signed<'_>, &[u8])>
     ensures { signed_front_view result
-        ≡ Spec.limited_word MAX_SAFE_INTEGER (Spec.signed_word text.now) }
+        ≡ Spec.limited_word MAX_SAFE_INTEGER (Spec.signed_word loose text.now) }
 {
     let (sign, behind) = sign_front(text);
     let marks = marks_len(behind);
-    match partial_front(&behind[marks..]) {
-        Some(read) => ended_word(sign, behind, marks, read.0, read.1),
+    match partial_front(loose, &behind[marks..]) {
+        Some(read) => ended_word(loose, sign, behind, marks, read.0, read.1),
         None => None,
     }
 }

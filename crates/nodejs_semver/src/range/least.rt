@@ -12,7 +12,7 @@
 ghost use Rattle.nodejs_semver.specs.Ranges.Gate.{accepts};
 ghost use Rattle.nodejs_semver.specs.Internal.Candidates as spec;
 ghost use Rattle.nodejs_semver.specs.Ranges.Least as stated;
-ghost use Rattle.nodejs_semver.specs.Ranges.View.{TakesMemory};
+ghost use Rattle.nodejs_semver.specs.Ranges.View.{TakesMemory, bound_of};
 ghost use Rattle.semver_core.specs.Internal.Sides.{Near, Far};
 ghost use Rattle.semver_core.specs.Cuts.{Beside};
 ghost use Rattle.semver_core.specs.Values.Versions.{VersionValue, is_release};
@@ -27,9 +27,9 @@ use crate::range::gate::{accepts, accepts_one};
 use crate::range::neighbours::{
     bare, bare_release, first_pre, is_first_pre, patch_after, pre_after, with_least_build,
 };
-use crate::{Range, RangeRef};
+use crate::{Range, RangeOf, RangeRef};
 use semver_core::cuts::{Bound, Interval};
-use semver_core::{Version, VersionRef};
+use semver_core::{Version, VersionPoint, VersionRef, Versioned};
 use std::alloc::{AllocError, Global};
 
 impl Range {
@@ -137,7 +137,9 @@ impl Range {
             [first, others @ ..] => Ok(least_among(alloc, first.intervals(), others, &[])?),
         }
     }
+}
 
+impl<V: VersionPoint> RangeOf<V> {
     /// The smallest version that the range accepts with pre-releases included, as
     /// `satisfies_with_prerelease` does, without a build. Returns `None` exactly where the range
     /// holds no version, as `>1.0.0 <1.0.1-0`.
@@ -168,7 +170,7 @@ impl Range {
             ⊎ Any (λ s. (v : VersionValue) × (s.lower ≡ After v) × (is_release v ≡ false))
             self.now) }
     {
-        let intervals = self.intervals();
+        let intervals = self.items();
         let mut best: Option<Version> = None;
         for interval in intervals {
             consider_past_held(self, alloc, &mut best, interval.lower())?;
@@ -233,20 +235,6 @@ impl<'a> RangeRef<'a> {
             owned.push(range.to_range(alloc)?)?;
         }
         Range::least_of_all(alloc, &owned)
-    }
-
-    /// The smallest version that the range accepts with pre-releases included, as
-    /// `Range::min_version_with_prerelease` says. Fails only if allocation fails, which happens
-    /// only where that or `RangeRef::to_range` may fail.
-    pub fn min_version_with_prerelease(&self, alloc: Global) -> Result<Option<Version>, AllocError>
-        ensures least { IfOk result (λ r. stated.IsLeastOf (λ v. accepts self.now v true) r) }
-        ensures build { IfOk result (λ r. IfSome r (λ v. v.build ≡ [])) }
-        ensures memory { OnErr result (((v : VersionValue) × (accepts self.now v true ≡ true))
-            ⊎ Any (λ s. (v : VersionValue) × (s.lower ≡ After v) × (is_release v ≡ false)) self.now
-            ⊎ TakesMemory self.now) }
-    {
-        let range = self.to_range(alloc)?;
-        range.min_version_with_prerelease(alloc)
     }
 }
 
@@ -553,26 +541,32 @@ fn least_among(
 }
 
 // Whether the version is below the best so far, and the range holds it.
-fn improves_held(range: &Range, best: &Option<Version>, version: &Version) -> bool
-    ensures { result ≡ (spec.improves best.now version.now && accepts range.now version.now true) }
+fn improves_held<V: VersionPoint, C: Versioned>(
+    range: &RangeOf<V>,
+    best: &Option<Version>,
+    version: &C,
+) -> bool
+    ensures { result ≡ (spec.improves best.now (C.value version.now)
+        && accepts range.now (C.value version.now) true) }
 {
     let is_below = match best {
         None => true,
-        Some(best) => version.cmp(best).is_lt(),
+        Some(best) => version.cmp_precedence(best).is_lt(),
     };
     is_below && range.satisfies_with_prerelease(version, true)
 }
 
 // Keeps a copy of the version, without its build, where it improves on the best so far.
 #[tactic(auto, using(crate::proofs::Choice::LeastHeld::improves_bare))]
-fn consider_held(
-    range: &Range,
+fn consider_held<V: VersionPoint, C: Versioned>(
+    range: &RangeOf<V>,
     alloc: Global,
     best: &mut Option<Version>,
-    version: &Version,
+    version: &C,
 ) -> Result<(), AllocError>
-    ensures best { OnOk result
-        (best.new ≡ spec.better (λ v. accepts range.now v true) best.old (spec.bare version.now)) }
+    ensures best { OnOk result (best.new
+        ≡ spec.better (λ v. accepts range.now v true) best.old
+        (spec.bare (C.value version.now))) }
     ensures memory { OnErr result ((v : VersionValue) × (accepts range.now v true ≡ true)) }
 {
     if improves_held(range, best, version) {
@@ -582,18 +576,18 @@ fn consider_held(
 }
 
 // Considers the first version past the cut of a lower bound.
-fn consider_past_held(
-    range: &Range,
+fn consider_past_held<V: VersionPoint>(
+    range: &RangeOf<V>,
     alloc: Global,
     best: &mut Option<Version>,
-    bound: &Bound<Version>,
+    bound: &Bound<V>,
 ) -> Result<(), AllocError>
-    requires { spec.Raisable bound.now }
+    requires { spec.Raisable (bound_of V.value bound.now) }
     ensures best { OnOk result
         (best.new ≡ spec.better (λ v. accepts range.now v true) best.old
-        (spec.first_past bound.now)) }
+        (spec.first_past (bound_of V.value bound.now))) }
     ensures memory { OnErr result (((v : VersionValue) × (accepts range.now v true ≡ true))
-        ⊎ spec.IsAfterPre bound.now) }
+        ⊎ spec.IsAfterPre (bound_of V.value bound.now)) }
 {
     match bound {
         Bound::Unbounded => consider_held(

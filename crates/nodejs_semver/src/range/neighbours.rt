@@ -10,17 +10,17 @@ ghost use Rattle.nodejs_semver.specs.Ranges.Least as stated;
 ghost use Rattle.semver_core.specs.Cuts.{holds};
 ghost use Rattle.semver_core.specs.Values.Order.{precedence};
 ghost use Rattle.semver_core.specs.Text.Identifiers.{Numeric};
-ghost use Rattle.semver_core.specs.Values.Views.{ids_view};
+ghost use Rattle.semver_core.specs.Values.Views.{id_view, ids_view, lent_id_view};
 ghost use Rattle.semver_core.specs.declared.cuts.bound.Bound.TheVariants.{After};
 
 use crate::range::gate::accepts_one;
 use semver_core::cuts::{Bound, Interval};
-use semver_core::{Identifier, Version};
+use semver_core::{Identifier, IdentifierRef, IdentifierRefs, Version, Versioned};
 use std::alloc::{AllocError, Global};
 
 // The release of the same three numbers.
-pub(crate) fn bare_release(version: &Version) -> Version
-    ensures { result ≡ spec.bare_release version.now }
+pub(crate) fn bare_release<V: Versioned>(version: &V) -> Version
+    ensures { result ≡ spec.bare_release (V.value version.now) }
 {
     Version::from((version.major(), version.minor(), version.patch()))
 }
@@ -34,25 +34,60 @@ pub(crate) fn patch_after(version: &Version) -> Version
 }
 
 // The first pre-release of the same three numbers.
-pub(crate) fn first_pre(alloc: Global, version: &Version) -> Result<Version, AllocError>
-    ensures value { IfOk result (λ v. v ≡ spec.first_pre version.now) }
+pub(crate) fn first_pre<V: Versioned>(alloc: Global, version: &V) -> Result<Version, AllocError>
+    ensures value { IfOk result (λ v. v ≡ spec.first_pre (V.value version.now)) }
     ensures succeeds { IsOk result }
 {
     Version::with_pre(alloc, version.major(), version.minor(), version.patch(), 0)
 }
 
-// Whether the pre-release is the number 0 alone, as that of `<2.0.0-0`.
-pub(crate) fn is_first_pre(version: &Version) -> bool
-    ensures { IsTrue result → version.now.pre_release ≡ Numeric 0 ∷ [] }
+// Whether the list is the number 0 alone, as the pre-release of `<2.0.0-0`.
+fn is_zero(ids: IdentifierRefs<'_>) -> bool
+    ensures { IsTrue result → ids.entry ≡ Numeric 0 ∷ [] }
 {
-    matches!(version.pre_release(), [Identifier::Numeric(0)])
+    let mut ids = ids;
+    matches!(
+        (ids.next(), ids.next()),
+        (Some(IdentifierRef::Numeric(0)), None)
+    )
+}
+
+// Whether the pre-release is the number 0 alone.
+pub(crate) fn is_first_pre<V: Versioned>(version: &V) -> bool
+    ensures { IsTrue result → (V.value version.now).pre_release ≡ Numeric 0 ∷ [] }
+{
+    is_zero(version.pre_release())
+}
+
+// The identifier with a text of its own.
+fn owned_id(alloc: Global, id: IdentifierRef<'_>) -> Result<Identifier, AllocError>
+    ensures { IfOk result (λ i. id_view i ≡ lent_id_view id.entry) }
+{
+    match id {
+        IdentifierRef::Numeric(number) => Ok(Identifier::Numeric(number)),
+        IdentifierRef::AlphaNumeric(text) => {
+            Ok(Identifier::AlphaNumeric(String::from_str(alloc, text)?))
+        }
+    }
+}
+
+// The identifiers with texts of their own.
+fn owned_ids(alloc: Global, ids: IdentifierRefs<'_>) -> Result<Vec<Identifier>, AllocError>
+    ensures { IfOk result (λ owned. ids_view owned.items ≡ ids.entry) }
+{
+    let mut ids = ids;
+    let mut owned = Vec::new(alloc);
+    'ids: while let Some(id) = ids.next() {
+        owned.push(owned_id(alloc, id)?)?;
+    }
+    Ok(owned)
 }
 
 // The version after a pre-release.
-pub(crate) fn pre_after(alloc: Global, version: &Version) -> Result<Version, AllocError>
-    ensures { IfOk result (λ v. v ≡ spec.pre_after version.now) }
+pub(crate) fn pre_after<V: Versioned>(alloc: Global, version: &V) -> Result<Version, AllocError>
+    ensures { IfOk result (λ v. v ≡ spec.pre_after (V.value version.now)) }
 {
-    let mut pre_release = Identifier::copy_list(alloc, version.pre_release())?;
+    let mut pre_release = owned_ids(alloc, version.pre_release())?;
     pre_release.push(Identifier::Numeric(0))?;
     with_lists(alloc, version, pre_release, Vec::new(alloc))
 }
@@ -72,14 +107,21 @@ fn following(alloc: Global, version: &Version) -> Result<Version, AllocError>
 }
 
 // The version without its build.
-pub(crate) fn bare(alloc: Global, version: &Version) -> Result<Version, AllocError>
-    ensures { IfOk result (λ v. v ≡ spec.bare version.now) }
+pub(crate) fn bare<V: Versioned>(alloc: Global, version: &V) -> Result<Version, AllocError>
+    ensures { IfOk result (λ v. v ≡ spec.bare (V.value version.now)) }
 {
-    if version.build().is_empty() {
-        return version.copy(alloc);
+    if version.is_release() {
+        return Ok(bare_release(version));
     }
-    let pre_release = Identifier::copy_list(alloc, version.pre_release())?;
-    with_lists(alloc, version, pre_release, Vec::new(alloc))
+    if is_first_pre(version) {
+        return first_pre(alloc, version);
+    }
+    with_lists(
+        alloc,
+        version,
+        owned_ids(alloc, version.pre_release())?,
+        Vec::new(alloc),
+    )
 }
 
 // A version that has no build, with this one.
@@ -96,13 +138,13 @@ fn with_build(alloc: Global, version: Version, build: &[Identifier]) -> Result<V
 }
 
 // The same three numbers with these lists, which are dropped if allocation fails.
-fn with_lists(
+fn with_lists<V: Versioned>(
     alloc: Global,
-    version: &Version,
+    version: &V,
     pre_release: Vec<Identifier>,
     build: Vec<Identifier>,
 ) -> Result<Version, AllocError>
-    ensures { IfOk result (λ v. v ≡ record version.now {
+    ensures { IfOk result (λ v. v ≡ record (V.value version.now) {
       pre_release = ids_view pre_release.items;
       build = ids_view build.items;
     }) }

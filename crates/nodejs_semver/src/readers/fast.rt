@@ -3,8 +3,9 @@
 ghost use Rattle.std.specs.Prelude.{◌≡◌, ◌≤◌, ◌⊎◌, [], if◌then◌else◌, IfNone, IfOk, IfSome};
 ghost use Rattle.std.specs.Prelude.{IsFalse, IsTrue, List, None, OnErr, Some, length, true};
 ghost use Rattle.nodejs_semver.specs.Internal.CommonFronts as Spec;
+ghost use Rattle.nodejs_semver.specs.Internal.CommonFronts.{has_plus};
 ghost use Rattle.nodejs_semver.specs.Text.Bars.{has_bars};
-ghost use Rattle.nodejs_semver.specs.Text.Common.{AreCommonParts, IsCommonRange, has_plus};
+ghost use Rattle.nodejs_semver.specs.Text.Common.{AreCommonParts, IsCommonRange};
 ghost use Rattle.nodejs_semver.specs.Text.Meaning.{Means};
 ghost use Rattle.nodejs_semver.specs.Internal.CommonViews.{both_view};
 ghost use Rattle.nodejs_semver.specs.Internal.CommonViews.{bounds_front_view, passed_view};

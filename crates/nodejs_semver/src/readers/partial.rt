@@ -62,7 +62,7 @@ fn split_list(text: &[u8]) -> (&[u8], &[u8])
 // are none, the mark is not skipped either.
 #[inline(always)]
 #[tactic(auto, using(crate::proofs::Reading::IdentifierLists::short_lists))]
-fn marked_list<'a>(text: &'a [u8], behind: &'a [u8]) -> (&'a [u8], &'a [u8])
+pub(crate) fn marked_list<'a>(text: &'a [u8], behind: &'a [u8]) -> (&'a [u8], &'a [u8])
     ensures listed { is_listed result.0.now ≡ true }
     ensures value { pair_view result ≡ Spec.marked_list text.now behind.now }
 {

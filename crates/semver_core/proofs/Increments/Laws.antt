@@ -11,7 +11,8 @@ use Rattle.std.specs.Cmp.Lexicographic.{slice_cmp}
 use Rattle.std.proofs.lemmas.Bool.Decides.{nat_tests}
 use Rattle.std.proofs.lemmas.List.Elements.{All-nil, All-cons}
 use Rattle.semver_core.specs.Text.Identifiers.{Id, Numeric, AlphaNumeric}
-use Rattle.semver_core.specs.Increments.Table.{checked, incremented, by_word, Fault, Overflow, InvalidIncrementArgument, is_false}
+use Rattle.semver_core.specs.Increments.Table.{checked, by_word, Fault, Overflow, InvalidIncrementArgument, is_false}
+use Rattle.semver_core.specs.Internal.IncrementSteps.{incremented}
 use Rattle.semver_core.specs.Increments.Table.{one_more, next_major, next_minor, next_patch, pre_step, release_of, has_numeric}
 use Rattle.semver_core.specs.Increments.Table.{raise_last, advance, identify, first_number, ◌>>=◌}
 use Rattle.semver_core.specs.Internal.IncrementSteps.{list_text}
@@ -86,11 +87,8 @@ apart v w e (by_pre d f g h) a b c = empty_not_below w.pre_release (rw e at h)
 least_release : (These : VersionValue → Type 0) (r : VersionValue) → r.pre_release ≡ [] → IsVersion r → These r
     → ((w : VersionValue) → These w → (w.pre_release ≡ []) × (r.major ≤ w.major) × (r.minor ≤ w.minor) × (r.patch ≤ w.patch))
     → IsLeastVersion These r
-least_release These r e k this upto = record {
-  is_version = k;
-  inside = this;
-  least = λ w t. let u = upto w t in upto_patch r w u.1 u.2 u.3 (rw (e, u.0) refl);
-}
+least_release These r e k this upto =
+    (k, this, λ w t. let u = upto w t in upto_patch r w u.1 u.2 u.3 (rw (e, u.0) refl))
 
 -- the releases above a version: in the same major and minor, in the same major with patch 0, and with minor and patch 0
 abbrev pub IsNextPatch : VersionValue → VersionValue → Type 0
@@ -198,11 +196,11 @@ module _ (v : VersionValue) (id : List ℕ) (base : IdentifierBase) (k : IsVersi
   -- the least version of these numbers or greater ones is a first pre-release
   first_least : (These : VersionValue → Type 0) (a b c : ℕ) → a < 2 ^ 64 → b < 2 ^ 64 → c < 2 ^ 64 → These (first_of a b c)
       → ((w : VersionValue) → These w → (a ≤ w.major) × (b ≤ w.minor) × (c ≤ w.patch)) → IsLeastVersion These (first_of a b c)
-  first_least These a b c p q r this upto = record {
-    is_version = first a b c p q r;
-    inside = this;
-    least = λ w t. let u = upto w t in upto_patch (first_of a b c) w u.0 u.1 u.2 (zero_least w.pre_release);
-  }
+  first_least These a b c p q r this upto = (
+    first a b c p q r,
+    this,
+    λ w t. let u = upto w t in upto_patch (first_of a b c) w u.0 u.1 u.2 (zero_least w.pre_release),
+  )
 
   pub premajor_least : IsLeastOrOverflow (λ w. w.major ≡ v.major + 1) (incremented v (codes "premajor") [] (Value 0))
   premajor_least = by_one (λ r. IsLeastOrOverflow (λ w. w.major ≡ v.major + 1) (r >>= pre_step [] (Value 0))) v.major
@@ -237,11 +235,11 @@ pub prerelease_least : (v : VersionValue) → IsVersion v → (is_release v ≡ 
 prerelease_least v k rises none =
     pick (λ r. IsOkAnd r (IsLeastVersion (IsAbove v))) (is_release v) (next_patch v >>= pre_step [] (Value 0))
     (pre_step [] (Value 0) v) (λ h. by_one (λ r. IsOkAnd (r >>= pre_step [] (Value 0)) (IsLeastVersion (IsAbove v))) v.patch
-    (λ n. Ok (record v { patch = n; pre_release = [] })) (λ e. omega (arith, e, rises h)) (λ other. record {
-      is_version = first v [] (Value 0) k v.major v.minor (v.patch + 1) k.major k.minor (omega (arith, k.patch, other));
-      inside = above_patch v (record v { patch = v.patch + 1; pre_release = Numeric 0 ∷ [] }) refl refl (omega arith);
-      least = λ w this. least_after_release v w (none_left v.pre_release h) this;
-    }))
+    (λ n. Ok (record v { patch = n; pre_release = [] })) (λ e. omega (arith, e, rises h)) (λ other. (
+      first v [] (Value 0) k v.major v.minor (v.patch + 1) k.major k.minor (omega (arith, k.patch, other)),
+      above_patch v (record v { patch = v.patch + 1; pre_release = Numeric 0 ∷ [] }) refl refl (omega arith),
+      λ w this. least_after_release v w (none_left v.pre_release h) this,
+    )))
     (λ h. rw (advance_zero v.pre_release h (none h)) (next_of_pre_release v k (filled v.pre_release h)))
 
 -- a list that goes on is above itself

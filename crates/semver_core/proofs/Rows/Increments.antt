@@ -3,7 +3,8 @@ use Rattle.std.specs.Prelude.{◌≡◌, ℕ, List, [], ◌∷◌, ◌++◌, Res
 use Rattle.semver_core.specs.Text.Identifiers.{Id, Numeric, AlphaNumeric}
 use Rattle.semver_core.specs.Values.Versions.{VersionValue, release_value}
 use Rattle.std.specs.Fmt.{digits}
-use Rattle.semver_core.specs.Increments.Table.{Fault, incremented, InvalidIdentifier}
+use Rattle.semver_core.specs.Increments.Table.{Fault, InvalidIdentifier}
+use Rattle.semver_core.specs.Internal.IncrementSteps.{incremented}
 use Rattle.semver_core.specs.Increments.Table.{InvalidIncrementArgument, NotAPrerelease, Overflow}
 use Rattle.semver_core.specs.declared.increment.IdentifierBase.{IdentifierBase}
 use Rattle.semver_core.specs.declared.increment.IdentifierBase.TheVariants.{False, Value}

@@ -54,15 +54,14 @@ least_after_release v u none h = upto (below_cases v u h)
 
 pub next_of_pre_release : (v : VersionValue) → IsVersion v → 0 < length v.pre_release
     → IsLeastVersion (IsAbove v) (record v { pre_release = v.pre_release ++ Numeric 0 ∷ [] })
-next_of_pre_release v is_version some = record {
-  is_version = record {
+next_of_pre_release v is_version some = (
+  record {
     major = is_version.major;
     minor = is_version.minor;
     patch = is_version.patch;
     pre_release = All-append IsId v.pre_release (Numeric 0 ∷ []) is_version.pre_release zero_alone;
     build = is_version.build;
-  };
-  inside = above_pre v (record v { pre_release = v.pre_release ++ Numeric 0 ∷ [] }) refl refl refl
-      (more_above v.pre_release some);
-  least = λ u h. least_after_pre_release v u some h;
-}
+  },
+  above_pre v (record v { pre_release = v.pre_release ++ Numeric 0 ∷ [] }) refl refl refl (more_above v.pre_release some),
+  λ u h. least_after_pre_release v u some h,
+)

@@ -9,10 +9,8 @@ use Rattle.semver_core.specs.declared.increment.IdentifierBase.{IdentifierBase}
 use Rattle.semver_core.specs.declared.increment.IdentifierBase.TheVariants.{Value}
 
 -- v is a version that is one of these, and none of these is below it: the least of them
-pub record IsLeastVersion (These : VersionValue → Type 0) (v : VersionValue) : Type 0 where
-  pub is_version : IsVersion v
-  pub inside : These v
-  pub least : (w : VersionValue) → These w → is_le (precedence v w) ≡ true
+abbrev pub IsLeastVersion : (VersionValue → Type 0) → VersionValue → Type 0
+IsLeastVersion Set v = IsVersion v × Set v × ((w : VersionValue) → Set w → is_le (precedence v w) ≡ true)
 
 -- what is returned is the least of these, or Overflow where there is none
 abbrev pub IsLeastOrOverflow : (VersionValue → Type 0) → Result VersionValue Fault → Type 0

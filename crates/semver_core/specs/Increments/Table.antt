@@ -75,7 +75,7 @@ identify id base list = if is_empty id || is_kept id list then list
     else AlphaNumeric id ∷ (if is_false base then [] else Numeric (first_number base) ∷ [])
 
 abbrev pub pre_step : List ℕ → IdentifierBase → VersionValue → Result VersionValue Fault
-pre_step id base v = advance v.pre_release id base >>= λ list. Ok (record v { pre_release = identify id base list })
+pre_step id b v = advance v.pre_release id b >>= λ list. Ok (record v { pre_release = identify id b list })
 
 -- the release of the same numbers, and of the next major, minor and patch
 abbrev pub release_of : VersionValue → VersionValue
@@ -94,7 +94,8 @@ next_patch v = one_more v.patch >>= λ n. Ok (record v { patch = n; pre_release 
 abbrev pub by_word : List ℕ → List ℕ → IdentifierBase → VersionValue → Result VersionValue Fault
 by_word word id base v = if bytes_eq word (codes "major")
     then (if v.minor == 0 && (v.patch == 0 && not (is_release v)) then Ok (release_of v) else next_major v)
-    else if bytes_eq word (codes "minor") then (if v.patch == 0 && not (is_release v) then Ok (release_of v) else next_minor v)
+    else if bytes_eq word (codes "minor")
+    then (if v.patch == 0 && not (is_release v) then Ok (release_of v) else next_minor v)
     else if bytes_eq word (codes "patch") then (if is_release v then next_patch v else Ok (release_of v))
     else if bytes_eq word (codes "premajor") then (next_major v >>= pre_step id base)
     else if bytes_eq word (codes "preminor") then (next_minor v >>= pre_step id base)
@@ -108,15 +109,14 @@ by_word word id base v = if bytes_eq word (codes "major")
 
 -- the two checks: what is given as the identifier may be several, joined by dots
 abbrev pub checked : List ℕ → IdentifierBase → Result ⊤ Fault
-checked id base = if is_empty id && is_false base then Err (InvalidIncrementArgument (codes "identifier is empty"))
+checked id base = if is_empty id && is_false base
+    then Err (InvalidIncrementArgument (codes "identifier is empty"))
     else if is_empty id || list_all is_identifier (pieces id) then Ok tt else Err (InvalidIdentifier id)
 
--- the checks where the word begins with `pre`, also where it is none of the words, and then the word's row
-abbrev pub incremented : VersionValue → List ℕ → List ℕ → IdentifierBase → Result VersionValue Fault
-incremented v word id base =
-    (if starts_with nat_eq word (codes "pre") then checked id base else Ok tt) >>= λ _. by_word word id base v
-
--- what `inc` returns, given a version, a word, and perhaps an identifier and a base: no identifier and an
--- empty one are the same, and so are no base and the number 0
-abbrev pub answer_of_inc : VersionValue → List ℕ → Option (List ℕ) → Option IdentifierBase → Result VersionValue Fault
-answer_of_inc v word id base = incremented v word (unwrap_or id []) (unwrap_or base (Value 0))
+-- what `inc` returns, given a version, a word, and perhaps an identifier and a base: the checks where the
+-- word begins with `pre`, also where it is none of the words, and then the word's row. No identifier and an
+-- empty one are the same, and so are no base and the number 0.
+abbrev pub answer_of_inc : VersionValue → (word : List ℕ) → Option (List ℕ) → Option IdentifierBase
+    → Result VersionValue Fault
+answer_of_inc v word id base = let text = unwrap_or id [] in let b = unwrap_or base (Value 0) in
+    (if starts_with nat_eq word (codes "pre") then checked text b else Ok tt) >>= λ _. by_word word text b v

@@ -1,10 +1,11 @@
 -- For proofs and private contracts: what the steps of `inc` say to one another.
 use Rattle.std.specs.Prelude.{◌≡◌, ◌==◌, ◌&&◌, not, if◌then◌else◌, ℕ, List, [], ◌∷◌, ◌++◌, length}
 use Rattle.std.specs.Prelude.{map, Bool, Option, Some, None, Result, Ok, Err, ⊤, ◌-◌, ◌^◌, false, true}
-use Rattle.std.specs.List.{join_with_byte}
+use Rattle.std.specs.List.{join_with_byte, starts_with}
+use Rattle.std.specs.Prelude.{codes, nat_eq}
 use Rattle.semver_core.specs.Text.Identifiers.{Id, Numeric, AlphaNumeric}
 use Rattle.semver_core.specs.Increments.Table.{◌>>=◌, Fault, NotAPrerelease, Overflow, advance, first_number, has_numeric}
-use Rattle.semver_core.specs.Increments.Table.{identify, is_false, next_major, next_minor, next_patch, pre_step, release_of}
+use Rattle.semver_core.specs.Increments.Table.{by_word, checked, identify, is_false, next_major, next_minor, next_patch, pre_step, release_of}
 use Rattle.semver_core.specs.Increments.View.{fault_of}
 use Rattle.semver_core.specs.Printing.Text.{id_text, version_text}
 use Rattle.semver_core.specs.Values.Versions.{VersionValue, is_release}
@@ -23,6 +24,11 @@ abbrev pub ReturnsParts : Result VersionValue Fault → Result PartsRef (Failure
 ReturnsParts expected (Ok parts) = expected ≡ Ok (parts_ref_value parts)
 ReturnsParts expected (Err (Refused e)) = expected ≡ Err (fault_of e)
 ReturnsParts expected (Err (Memory e)) = ⊤
+
+-- the answer of `inc` by an identifier and a base that are given
+abbrev pub incremented : VersionValue → List ℕ → List ℕ → IdentifierBase → Result VersionValue Fault
+incremented v word id base =
+    (if starts_with nat_eq word (codes "pre") then checked id base else Ok tt) >>= λ _. by_word word id base v
 
 -- the rows of the words that have one each
 abbrev pub by_major : VersionValue → Result VersionValue Fault

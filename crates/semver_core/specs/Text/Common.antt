@@ -10,5 +10,5 @@ IsCommon limit text v = (r : Reads limit text v) × (r.mark ≡ 86 ∷ [] → �
 
 -- the text begins with this version, behind `v` or nothing, and this is the place behind it
 abbrev pub IsCommonFront : ℕ → List ℕ → VersionValue → ℕ → Type 0
-IsCommonFront limit text v end =
-    (r : Reads limit text v) × (r.mark ≡ 86 ∷ [] → ⊥) × (r.blank ≡ []) × (r.rest ≡ drop end text) × (end ≤ length text)
+IsCommonFront limit text v end = (r : Reads limit text v) × (r.mark ≡ 86 ∷ [] → ⊥) × (r.blank ≡ [])
+    × (r.rest ≡ drop end text) × (end ≤ length text)

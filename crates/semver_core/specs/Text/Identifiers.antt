@@ -4,6 +4,7 @@ use Rattle.std.specs.Prelude.{[], ◌∷◌, length, map}
 use Rattle.std.specs.Char.{is_ascii_digit}
 use Rattle.std.specs.List.{list_all, slice_split}
 use Rattle.std.specs.Str.Parse.{digits_value}
+use Rattle.semver_core.specs.Lists.{is_empty}
 use Rattle.semver_core.specs.Text.Characters.{begins, is_identifier_char}
 
 -- an identifier: a number, or a text as its bytes
@@ -34,13 +35,11 @@ pub record IsIdentifiers (text : List ℕ) (list : List Id) : Type 0 where
 
 -- the text is empty, or texts of identifiers joined by dots
 unfoldable pub is_listed : List ℕ → Bool
-is_listed [] = true
-is_listed (c ∷ rest) = list_all is_identifier (pieces (c ∷ rest))
+is_listed text = is_empty text || list_all is_identifier (pieces text)
 
 -- the identifiers that such a text spells
 unfoldable pub listed : List ℕ → List Id
-listed [] = []
-listed (c ∷ rest) = map identifier_of (pieces (c ∷ rest))
+listed text = if is_empty text then [] else map identifier_of (pieces text)
 
 -- an identifier list that ends here would go on with this text
 abbrev pub goes_on : List ℕ → Bool

@@ -24,13 +24,14 @@ begins_build (c ∷ rest) = if c == 43 then begins is_identifier_char rest else 
 -- a pre-release: `-` and identifiers, or identifiers that do not begin with `-`, or nothing where neither
 -- stands
 pub data IsPreRelease : List ℕ → List ℕ → List Id → Type 0 where
-  dashed : (text rest : List ℕ) (list : List Id) → IsLongestIdentifiers text rest list → IsPreRelease (45 ∷ text) rest list
-  bare : (text rest : List ℕ) (list : List Id) → IsLongestIdentifiers text rest list → begins (λ c. c == 45) text ≡ false → IsPreRelease text rest list
+  dashed : (x y : List ℕ) (list : List Id) → IsLongestIdentifiers x y list → IsPreRelease (45 ∷ x) y list
+  bare : (text rest : List ℕ) (list : List Id) → IsLongestIdentifiers text rest list
+      → begins (λ c. c == 45) text ≡ false → IsPreRelease text rest list
   no_pre_release : (rest : List ℕ) → begins_pre_release rest ≡ false → IsPreRelease [] rest []
 
 -- build metadata: `+` and identifiers, or nothing where these do not stand
 pub data IsBuild : List ℕ → List ℕ → List Id → Type 0 where
-  plus : (text rest : List ℕ) (list : List Id) → IsLongestIdentifiers text rest list → IsBuild (43 ∷ text) rest list
+  plus : (x y : List ℕ) (list : List Id) → IsLongestIdentifiers x y list → IsBuild (43 ∷ x) y list
   no_build : (rest : List ℕ) → begins_build rest ≡ false → IsBuild [] rest []
 
 -- the text has this version at its front; whatever follows it is ignored
@@ -43,7 +44,8 @@ pub record Reads (limit : ℕ) (text : List ℕ) (v : VersionValue) : Type 0 whe
   pub pre_release : List ℕ
   pub build : List ℕ
   pub rest : List ℕ
-  pub divided : text ≡ mark ++ (blank ++ (major ++ 46 ∷ (minor ++ 46 ∷ (patch ++ (pre_release ++ (build ++ rest))))))
+  pub divided : text ≡ mark ++ (blank ++ (major ++ 46 ∷ (minor ++ 46 ∷ (patch
+      ++ (pre_release ++ (build ++ rest))))))
   pub mark_is : IsMark mark
   pub blank_is : IsBlank blank
   pub major_is : IsNumber limit major v.major

@@ -33,4 +33,4 @@ HasIdentifiers v = (0 < length v.pre_release) ⊎ (0 < length v.build)
 
 -- `M.m.p` without a pre-release and without build metadata
 abbrev pub release_value : ℕ → ℕ → ℕ → VersionValue
-release_value major minor patch = record { major = major; minor = minor; patch = patch; pre_release = []; build = [] }
+release_value M m p = record { major = M; minor = m; patch = p; pre_release = []; build = [] }

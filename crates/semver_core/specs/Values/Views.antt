@@ -1,7 +1,7 @@
 -- Statement: what a contract sees of identifiers and of the parts of a version.
 use Rattle.std.specs.Prelude.{List, map, string_bytes}
 use Rattle.semver_core.specs.Text.Identifiers.{Id, Numeric, AlphaNumeric}
-use Rattle.semver_core.specs.Values.Versions.{VersionValue}
+use Rattle.semver_core.specs.Values.Versions.{VersionValue, release_value}
 use Rattle.semver_core.specs.declared.identifier.Identifier.{Identifier}
 use Rattle.semver_core.specs.declared.identifier.Identifier.TheVariants as variant
 use Rattle.semver_core.specs.declared.borrowed.identifier.IdentifierRef.{IdentifierRef}
@@ -21,4 +21,5 @@ ids_view list = map id_view list
 
 -- the version that parts make
 abbrev pub parts_value : VersionParts → VersionValue
-parts_value p = record { major = p.major; minor = p.minor; patch = p.patch; pre_release = ids_view p.pre_release.items; build = ids_view p.build.items }
+parts_value p = record (release_value p.major p.minor p.patch)
+    { pre_release = ids_view p.pre_release.items; build = ids_view p.build.items }

@@ -147,8 +147,7 @@ fn read(alloc: Global, text: &str) -> Result<Option<Version>, AllocError>
 ///
 /// Returns `None` on every other text, also where `version_loose` returns a version: on `V1.2.3`,
 /// `v 1.2.3`, ` 1.2.3`, and wherever something is left over, as in `1.2.3.4`, `1.2.3-` or
-/// `1.2.3+a+b`. On a common text both readers return the same version. Each byte is looked at once,
-/// save the one that ends a number or an identifier.
+/// `1.2.3+a+b`. On a common text both readers return the same version (`laws::both_readers`).
 ///
 /// Fails only if allocation fails, which happens only where the version at the front of the text
 /// has a pre-release or build metadata.

@@ -1,7 +1,8 @@
 // Versions from triples of numbers.
 
 ghost use Rattle.std.specs.Prelude.{◌≡◌};
-ghost use Rattle.semver_core.specs.Values.Triples.{from_natural, GivesRelease};
+ghost use Rattle.semver_core.specs.Internal.Naturals.{from_natural};
+ghost use Rattle.semver_core.specs.Values.Triples.{GivesRelease};
 ghost use Rattle.semver_core.specs.Values.Versions.{release_value};
 
 use crate::{NegativeNumber, Version};
@@ -18,6 +19,7 @@ fn natural(number: i64) -> Option<u64>
 }
 
 // The release of three numbers, none of them negative.
+#[tactic(auto, using(crate::proofs::Values::Naturals::natural_is))]
 fn release_of(major: i64, minor: i64, patch: i64) -> Result<Version, NegativeNumber>
     ensures { GivesRelease major minor patch result }
 {

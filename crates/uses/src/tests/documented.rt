@@ -39,11 +39,47 @@ fn npm_version(rt: HostRuntime) -> Result<(), Fail> {
 }
 
 #[test]
+fn npm_version_loose(rt: HostRuntime) -> Result<(), Fail> {
+    let beta = npm::version_loose("= v1.02.3beta")?;
+    assert_eq!(rt; beta, VersionRef::parse("1.2.3-beta")?);
+    assert!(rt; npm::version_loose("1.2.3, the second beta").is_err());
+    Ok(())
+}
+
+#[test]
+fn npm_coerce(rt: HostRuntime) -> Result<(), Fail> {
+    assert_eq!(rt;
+        npm::coerce("node-20.11 (LTS)"),
+        Some(VersionRef::parse("20.11.0")?)
+    );
+    assert!(rt; npm::coerce("01.2").is_none());
+    Ok(())
+}
+
+#[test]
+fn npm_coerce_rtl(rt: HostRuntime) -> Result<(), Fail> {
+    assert_eq!(rt;
+        npm::coerce_rtl("app-2 1.4.0"),
+        Some(VersionRef::parse("1.4.0")?)
+    );
+    Ok(())
+}
+
+#[test]
 fn npm_range(rt: HostRuntime) -> Result<(), Fail> {
     let alloc = rt.alloc();
     let range = npm::range(alloc, ">=1.0.0 <2 || ~3.1", false)?;
     assert!(rt; range.satisfies(&VersionRef::parse("3.1.4")?));
     assert!(rt; npm::range(alloc, ">=1.0.0, <2.0.0", false).is_err());
+    Ok(())
+}
+
+#[test]
+fn npm_range_loose(rt: HostRuntime) -> Result<(), Fail> {
+    let alloc = rt.alloc();
+    let beta = npm::range_loose(alloc, "==1.2.3beta || ^02.1", false)?;
+    assert!(rt; beta.satisfies(&VersionRef::parse("1.2.3-beta")?));
+    assert!(rt; npm::range(alloc, "==1.2.3beta || ^02.1", false).is_err());
     Ok(())
 }
 

@@ -10,12 +10,12 @@ range_loose-requires c = record {
   some_part = λ blank. cc (
     (blank_text c.args.text.now c.utf8.text).1 blank,
     (common_parts_are_denoted MAX_SAFE_INTEGER c.args.text.now c.in-Some.fast
-        (if-some (IsCommonRange MAX_SAFE_INTEGER c.args.text.now) _ _ c.in-Some.is c.in_ok-fast.ensures.some).parts).2,
+        (if-some (IsCommonRange MAX_SAFE_INTEGER c.args.text.now) _ _ c.in-Some.is c.in_ok-fast.ensures.some).0).2,
   );
 }
 
 pub returns-in_ok-loose-in-Some-clause-same : goal.returns-in_ok-loose-in-Some-clause-same
 returns-in_ok-loose-in-Some-clause-same c =
     fast_read MAX_SAFE_INTEGER c.args.text.now c.in-Some.fast c.in_ok-loose-in-Some.loose c.utf8.text
-    (if-some (IsCommonRange MAX_SAFE_INTEGER c.args.text.now) _ _ c.in-Some.is c.in_ok-fast.ensures.some).parts
+    (if-some (IsCommonRange MAX_SAFE_INTEGER c.args.text.now) _ _ c.in-Some.is c.in_ok-fast.ensures.some).0
     c.in_ok-loose-in-Some.ensures.some c.in_ok-loose-in-Some.ensures.none

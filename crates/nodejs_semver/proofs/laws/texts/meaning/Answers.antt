@@ -14,6 +14,6 @@ returns c = record {
   one_meaning = meaning.one_meaning;
   written = law.written;
   intervals_hold_what_is_written = denotes_hold;
-  denoted = λ limit text list h. common_parts_are_denoted limit text list h.parts;
+  denoted = λ limit text list h. common_parts_are_denoted limit text list h.0;
   read = common_ranges_are_read;
 }

@@ -6,17 +6,17 @@ use Rattle.nodejs_semver.proofs.npm.ranges.add_alternative.Goals as goal
 pub returns-in_ok-add-clause-added : goal.returns-in_ok-add-clause-added
 returns-in_ok-add-clause-added c =
     let old = c.args.found.now.items in
-    let h = subst (λ (t : List ℕ). IsFound c.args.include (valid_alternative c.args.include t) (Some c.in-Some.read)) c.as_bytes.ensures.value
+    let h = subst (λ (t : List ℕ). IsFound c.args.include (valid_alternative c.args.loose c.args.include t) (Some c.in-Some.read)) c.as_bytes.ensures.value
     c.in-Some.ensures in
     let some : Some c.in-Some-interval.interval ≡ c.in-Some.read.interval = sym c.in-Some-interval.is ∙ c.interval.ensures in
-    adds c.args.include c.args.text.now c.in-Some.read old c.add.new.self.items h
+    adds c.args.loose c.args.include c.args.text.now c.in-Some.read old c.add.new.self.items h
     (c.in_ok-add.ensures.added ∙ ap (λ (o : Option (Span VersionValue)). old ++ option_to_list o) some)
 
 pub returns-in_default-interval-clause-added : goal.returns-in_default-interval-clause-added
 returns-in_default-interval-clause-added c =
     let old = c.args.found.now.items in
-    let h = subst (λ (t : List ℕ). IsFound c.args.include (valid_alternative c.args.include t) (Some c.in-Some.read)) c.as_bytes.ensures.value
+    let h = subst (λ (t : List ℕ). IsFound c.args.include (valid_alternative c.args.loose c.args.include t) (Some c.in-Some.read)) c.as_bytes.ensures.value
     c.in-Some.ensures in
     let none : None ≡ c.in-Some.read.interval = sym c.in_default-interval.is ∙ c.interval.ensures in
-    adds c.args.include c.args.text.now c.in-Some.read old old h
+    adds c.args.loose c.args.include c.args.text.now c.in-Some.read old old h
     (sym (append-nil old) ∙ ap (λ (o : Option (Span VersionValue)). old ++ option_to_list o) none)

@@ -26,7 +26,7 @@ returns-clause-some c =
     let there : IsTrue c.in_ok-read_common.field-0 = search rules in
     let parts = rw c.as_bytes.ensures.value at (c.in_ok-read_common.ensures.some there) in
     let common : IsCommonRange MAX_SAFE_INTEGER c.args.text.now c.read_common.new.found.items =
-    record { parts = parts; no_build = sym c.has_plus.ensures ∙ c.if-has_plus.false } in
+    (parts, sym c.has_plus.ensures ∙ c.if-has_plus.false) in
     IfOk-weaker c.owned_range.result (λ r. r ≡ c.from_intervals.result)
     (λ r. IfSome r (IsCommonRange MAX_SAFE_INTEGER c.args.text.now))
     (λ r e. rw (e, c.from_intervals.ensures, spans_same) (if_some _ c.read_common.new.found.items common))
@@ -47,7 +47,7 @@ returns-clause-memory c =
     let there : IsTrue c.in_ok-read_common.field-0 = search rules in
     let parts = rw c.as_bytes.ensures.value at (c.in_ok-read_common.ensures.some there) in
     let common : IsCommonRange MAX_SAFE_INTEGER c.args.text.now c.read_common.new.found.items =
-    record { parts = parts; no_build = sym c.has_plus.ensures ∙ c.if-has_plus.false } in
+    (parts, sym c.has_plus.ensures ∙ c.if-has_plus.false) in
     on_err_weaker c.owned_range.result
     (λ m. inr (common_so _ MAX_SAFE_INTEGER c.args.text.now c.read_common.new.found.items
     common (rw (c.from_intervals.ensures, spans_same) at m))) c.owned_range.ensures.memory

@@ -2,7 +2,8 @@
 use Rattle.std.proofs.Common.{◌≡◌, ◌+◌, codes, subst, sym, [], ℕ, List, Option}
 use Rattle.std.specs.Prelude.{IsOkAnd, Result, unwrap_or, ⊤}
 use Rattle.semver_core.specs.Increments.Least.{IsAbove, IsLeastOrOverflow, IsLeastVersion, IsPlain}
-use Rattle.semver_core.specs.Increments.Table.{Fault, answer_of_inc, incremented}
+use Rattle.semver_core.specs.Increments.Table.{Fault, answer_of_inc}
+use Rattle.semver_core.specs.Internal.IncrementSteps.{incremented}
 use Rattle.semver_core.specs.Values.Versions.{VersionValue}
 use Rattle.semver_core.specs.declared.increment.IdentifierBase.{IdentifierBase}
 use Rattle.semver_core.specs.declared.increment.IdentifierBase.TheVariants.{Value}

@@ -1,5 +1,10 @@
-use Rattle.std.proofs.Common.{rules}
+use Rattle.std.proofs.Common.{◌≡◌, ◌⊎◌, None, rules}
+use Rattle.semver_core.proofs.Values.Naturals.{one_negative}
 use Rattle.semver_core.proofs.version.convert.release_of.Goals as goal
+use Rattle.semver_core.specs.Internal.Naturals.{from_natural}
 
 pub returns-in_default : goal.returns-in_default
-returns-in_default c = search rules
+returns-in_default c =
+    let none : (from_natural c.args.major ≡ None) ⊎ (from_natural c.args.minor ≡ None) ⊎ (from_natural c.args.patch ≡ None) =
+    search rules in
+    one_negative c.args.major c.args.minor c.args.patch none

@@ -1,0 +1,105 @@
+// Range texts as node-semver has them by its option `loose`. The expected answers are those of
+// node-semver.
+
+ghost use Rattle.std.specs.Prelude.{◌≡◌, ◌⊎◌, IfOk, List, true};
+ghost use Rattle.nodejs_semver.specs.Failures.{NoValue, RefusedOnlyIf};
+ghost use Rattle.nodejs_semver.specs.Npm.Ranges.{HasAlternativesIn, accepts};
+ghost use Rattle.nodejs_semver.specs.Npm.Table.{Comparison};
+ghost use Rattle.nodejs_semver.specs.Parsing.{Parses};
+ghost use Rattle.nodejs_semver.specs.Versions.{VersionValue};
+
+use nodejs_semver::{Failure, MAX_SAFE_INTEGER, SemverError, VersionRef, npm};
+use std::alloc::Global;
+
+// Whether the range of a text accepts the version of another.
+fn admits(
+    alloc: Global,
+    include: bool,
+    range: &str,
+    version: &str,
+) -> Result<bool, Failure<SemverError>>
+    ensures ok { IfOk result (λ answer. (a : List (List Comparison)) × (v : VersionValue)
+        × HasAlternativesIn true MAX_SAFE_INTEGER include range.now a
+        × Parses MAX_SAFE_INTEGER version.now v × (answer ≡ accepts include a v)) }
+    ensures refused { RefusedOnlyIf result
+        (NoValue (HasAlternativesIn true MAX_SAFE_INTEGER include range.now)
+        ⊎ NoValue (Parses MAX_SAFE_INTEGER version.now)) }
+{
+    let range = npm::range_loose(alloc, range, include)?;
+    let version = VersionRef::parse(version)?;
+    Ok(range.satisfies_with_prerelease(&version, include))
+}
+
+// Texts that the strict reading rejects, without pre-releases included, with a version that the
+// range accepts and one that it does not.
+const READ: &[(&str, &str, &str)] = &[
+    ("==1.2.3", "1.2.3", "1.2.4"),
+    ("=v=1.2.3+b", "1.2.3", "1.2.4"),
+    (">=vv1.2.3", "1.2.3", "1.2.2"),
+    ("v=1.2.3 || 2", "2.9.9", "1.2.4"),
+    ("01.02.03", "1.2.3", "1.2.4"),
+    ("^01.2", "1.9.0", "2.0.0"),
+    ("x.01", "9.9.9", "1.0.0-a"),
+    ("1 - 02", "2.9.9", "3.0.0"),
+    ("1.2.3beta", "1.2.3-beta", "1.2.3"),
+    ("~1.2.3beta.01", "1.2.3-beta.1", "1.2.3-beta.0"),
+    ("^0.0.3a", "0.0.3-b", "0.0.4"),
+    ("1.2.3rc1 - 1.3", "1.2.3-rc2", "1.4.0"),
+    ("1.x.xa", "1.9.9", "2.0.0"),
+    ("< =2.0.0-01", "2.0.0-1", "2.0.0-2"),
+    (">=0.0.0 || 1.0.0a", "1.0.0", "1.0.0-a"),
+];
+
+// Texts with pre-releases included.
+const READ_WITH: &[(&str, &str, &str)] = &[
+    ("^01", "1.0.0-a", "2.0.0-0"),
+    ("1.2.3beta - 2", "1.2.3-beta", "1.2.3-a"),
+    ("^0.0.3", "0.0.3-a", "0.0.4-0"),
+    ("==1.2.3", "1.2.3", "1.2.3-a"),
+];
+
+// Texts that node-semver rejects loosely too.
+const REJECTED: &[&str] = &[
+    "foo",
+    "latest",
+    "^9007199254740992",
+    "1.2.3.4",
+    "^^1",
+    "1.2.3.",
+];
+
+// Texts that node-semver reads, and `range_loose` does not.
+const LEFT_OUT: &[&str] = &[
+    ">=1.0.0, <2.0.0",
+    "> = 1",
+    "1.00.0",
+    "1 - ==2.0.0",
+    "1.2.3 -",
+    "1.2.3-",
+];
+
+fn tells(alloc: Global, include: bool, text: &str, version: &str, wanted: bool) -> bool {
+    match admits(alloc, include, text, version) {
+        Ok(answer) => answer == wanted,
+        Err(_) => false,
+    }
+}
+
+#[test]
+fn ranges_are_read_loosely(rt: HostRuntime) {
+    for (text, accepted, rejected) in READ {
+        assert!(rt; npm::range(rt.alloc(), text, false).is_err());
+        assert!(rt; tells(rt.alloc(), false, text, accepted, true));
+        assert!(rt; tells(rt.alloc(), false, text, rejected, false));
+    }
+    for (text, accepted, rejected) in READ_WITH {
+        assert!(rt; tells(rt.alloc(), true, text, accepted, true));
+        assert!(rt; tells(rt.alloc(), true, text, rejected, false));
+    }
+    for text in REJECTED {
+        assert!(rt; npm::range_loose(rt.alloc(), text, false).is_err());
+    }
+    for text in LEFT_OUT {
+        assert!(rt; npm::range_loose(rt.alloc(), text, false).is_err());
+    }
+}

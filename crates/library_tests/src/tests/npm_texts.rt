@@ -1,0 +1,143 @@
+// Version texts as node-semver's loose reading has them, and the versions that its `coerce` finds.
+// The expected answers are those of node-semver.
+
+ghost use Rattle.std.specs.Prelude.{◌≡◌, ◌↔◌, IfErr, IfOk, IsTrue};
+ghost use Rattle.nodejs_semver.specs.Failures.{NoValue};
+ghost use Rattle.nodejs_semver.specs.Npm.Coerced.{IsCoerced, IsLeftmost};
+ghost use Rattle.nodejs_semver.specs.Npm.Grammar.{IsStrictNumber};
+ghost use Rattle.nodejs_semver.specs.Npm.VersionText.{IsLooseVersionText};
+ghost use Rattle.nodejs_semver.specs.Versions.{VersionValue};
+
+use super::{found_prints, prints};
+use nodejs_semver::{MAX_SAFE_INTEGER, SemverError, VersionRef, npm};
+use std::alloc::Global;
+
+// The first number of the version that a text is, read loosely.
+fn major_of(text: &str) -> Result<u64, SemverError>
+    ensures ok { IfOk result (λ n. (v : VersionValue)
+        × IsLooseVersionText MAX_SAFE_INTEGER text.now v × (n ≡ v.major)) }
+    ensures refused { IfErr result (λ _. NoValue (IsLooseVersionText MAX_SAFE_INTEGER text.now)) }
+{
+    match npm::version_loose(text) {
+        Ok(version) => Ok(version.major()),
+        Err(error) => Err(error),
+    }
+}
+
+// Texts, and what node-semver prints of their versions, with their builds.
+const LOOSE: &[(&str, &str)] = &[
+    ("1.2.3", "1.2.3"),
+    (" = v01.02.003 ", "1.2.3"),
+    ("v\u{3000}=v1.2.3\n", "1.2.3"),
+    ("1.2.3beta", "1.2.3-beta"),
+    ("1.2.3-01", "1.2.3-1"),
+    ("1.2.3-", "1.2.3--"),
+    ("1.2.3-.5", "1.2.3--.5"),
+    ("1.2.3--", "1.2.3--"),
+    ("1.2.34.5", "1.2.3-4.5"),
+    ("1.2.90071992547409913.a", "1.2.9007199254740991-3.a"),
+    ("1.2.30a.b+c", "1.2.30-a.b+c"),
+    ("0.0.9007199254740991", "0.0.9007199254740991"),
+];
+
+// Texts of which node-semver reads no version, loose or not.
+const REJECTED: &[&str] = &[
+    "",
+    "=",
+    "1.2",
+    "1.2.x",
+    "^1.2.3",
+    "V1.2.3",
+    "1 .2.3",
+    "1.2.3=",
+    "1.2.3 4",
+    "1.2.3.4",
+    "1.2.34.",
+    "1.2.3+",
+    "1.2.3a..b",
+    "0.0.9007199254740992",
+    "1.2.90071992547409921.a",
+];
+
+fn reads_as(alloc: Global, text: &str, printed: &str) -> bool {
+    match npm::version_loose(text) {
+        Ok(version) => prints(alloc, &version, printed),
+        Err(_) => false,
+    }
+}
+
+#[test]
+fn versions_are_read_loosely(rt: HostRuntime) {
+    for (text, printed) in LOOSE {
+        assert!(rt; reads_as(rt.alloc(), text, printed));
+    }
+    for text in REJECTED {
+        assert!(rt; npm::version_loose(text).is_err());
+    }
+    assert_eq!(rt; major_of("= 020.1.0"), Ok(20));
+}
+
+// Whether `coerce` finds a version in a text.
+fn is_found(text: &str) -> bool
+    ensures { IsTrue result ↔ ((v : VersionValue)
+        × IsCoerced IsLeftmost (IsStrictNumber MAX_SAFE_INTEGER) text.now v) }
+{
+    npm::coerce(text).is_some()
+}
+
+// Texts, and what node-semver prints of the version that it finds from the left and from the right;
+// `-` where it finds none.
+const FOUND: &[(&str, &str, &str)] = &[
+    ("node-20.11 (LTS)", "20.11.0", "20.11.0"),
+    ("v1.2-rc.3", "1.2.0", "3.0.0"),
+    ("1.2.3-4.5", "1.2.3", "4.5.0"),
+    ("1.2.3.4", "1.2.3", "2.3.4"),
+    ("1.2.3.4.5", "1.2.3", "3.4.5"),
+    ("app-2 1.4.0", "2.0.0", "1.4.0"),
+    ("..1..2", "1.0.0", "2.0.0"),
+    ("x1y2z3", "1.0.0", "3.0.0"),
+    ("1.2.", "1.2.0", "1.2.0"),
+    ("1.2.3.04", "1.2.3", "-"),
+    ("01.2", "-", "-"),
+    (
+        "1234567890123456.1",
+        "1234567890123456.1.0",
+        "1234567890123456.1.0",
+    ),
+    ("12345678901234567.1.2", "1.2.0", "1.2.0"),
+    ("1.12345678901234567.3", "1.0.0", "3.0.0"),
+    ("9007199254740992", "-", "-"),
+    ("1.2.9007199254740992", "-", "-"),
+    ("", "-", "-"),
+    ("no number", "-", "-"),
+];
+
+// The same where node-semver is loose, for texts with leading zeros.
+const FOUND_LOOSELY: &[(&str, &str, &str)] = &[
+    ("01.2", "1.2.0", "1.2.0"),
+    ("1.2.3.04", "1.2.3", "2.3.4"),
+    ("a01.02.03b", "1.2.3", "1.2.3"),
+    ("9007199254740992", "-", "-"),
+];
+
+fn finds(alloc: Global, found: Option<VersionRef<'_>>, printed: &str) -> bool {
+    if printed == "-" {
+        found.is_none()
+    } else {
+        found_prints(alloc, found, printed)
+    }
+}
+
+#[test]
+fn versions_are_found_in_texts(rt: HostRuntime) {
+    for (text, first, last) in FOUND {
+        assert!(rt; finds(rt.alloc(), npm::coerce(text), first));
+        assert!(rt; finds(rt.alloc(), npm::coerce_rtl(text), last));
+    }
+    for (text, first, last) in FOUND_LOOSELY {
+        assert!(rt; finds(rt.alloc(), npm::coerce_loose(text), first));
+        assert!(rt; finds(rt.alloc(), npm::coerce_rtl_loose(text), last));
+    }
+    assert!(rt; is_found("about 1.5 s"));
+    assert!(rt; !is_found("about 01.5 s"));
+}

@@ -1,0 +1,19 @@
+-- The parts of a text that std's clauses name.
+use Rattle.std.proofs.Common.{◌≡◌, ◌⊎◌, ℕ, List, ◌∷◌, ◌++◌, drop, take, inl, inr, sym, ap, arith, encode_utf8, ◌∙◌}
+use Rattle.std.specs.Str.Pattern.{FindsChar, SplitsAroundMatch}
+use Rattle.std.proofs.lemmas.List.{take-append-drop}
+use Rattle.std.proofs.lemmas.Str.{encode_ascii}
+
+-- the text behind an `@` in front
+pub at_then : (text rest behind : List ℕ) → text ≡ encode_utf8 64 ++ rest → behind ≡ rest → text ≡ 64 ∷ behind
+at_then text rest behind e same = e ∙ ap (λ t. t ++ rest) (encode_ascii 64 (omega arith)) ∙ ap (λ t. 64 ∷ t) (sym same)
+
+-- what follows the first `@` of a name that may have another one in front
+pub behind_at : (target name front range : List ℕ) → ((name ≡ target) ⊎ (target ≡ 64 ∷ name)) → SplitsAroundMatch (FindsChar 64) name front range
+    → (before : List ℕ) × (target ≡ before ++ 64 ∷ range)
+behind_at target name front range whose s =
+    let i = s.0 in
+    let found = s.2.1 in
+    let cut : name ≡ take i name ++ 64 ∷ range =
+    sym (take-append-drop i name) ∙ ap (λ t. take i name ++ t) (at_then (drop i name) (drop s.1 name) range found.split s.4) in
+    elim whose [ inl e ↦ (take i name, sym e ∙ cut) | inr e ↦ (64 ∷ take i name, e ∙ ap (λ t. 64 ∷ t) cut) ]

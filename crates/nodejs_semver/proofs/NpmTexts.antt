@@ -1,0 +1,3 @@
+pub mod Loose
+pub mod Tuples
+pub mod Coerced

@@ -1,0 +1,182 @@
+-- The version of the tuple that `coerce` looks for.
+use Rattle.nodejs_semver.proofs.Common.{◌≡◌, ◌+◌, ℕ, Bool, List, [], ◌∷◌, ◌++◌, length, drop, take, refl, sym, ap, ◌∙◌, arith, true, false, Some, None}
+use Rattle.nodejs_semver.proofs.Common.{IfSome, Option, inl, inr, append-nil, bind_some, cases_Bool, length-append, same_Some, begins, is_ascii_digit, VersionValue}
+use Rattle.nodejs_semver.proofs.Common.{subst, take_at, drop_at}
+use Rattle.std.specs.Prelude.{IfNone}
+use Rattle.semver_core.specs.Failures.{NoValue}
+use Rattle.semver_core.specs.Text.Numbers.{IsNumber}
+use Rattle.nodejs_semver.specs.Internal.Fronts.{number_front, number_of}
+use Rattle.nodejs_semver.specs.Internal.NpmReadings.{strict_number}
+use Rattle.nodejs_semver.specs.Internal.NpmTuples.{number_in_reading, tuple_release}
+use Rattle.nodejs_semver.specs.Npm.Coerced as Npm
+use Rattle.nodejs_semver.specs.Npm.Coerced.{IsCoerced, IsLeftmost, IsRelease, IsRightmost, IsRun, IsTuple, IsTupleIn}
+use Rattle.nodejs_semver.specs.Npm.Grammar.{IsStrictNumber, has_leading_zero}
+use Rattle.nodejs_semver.proofs.Reading.Numbers.{digits-taken, number-is, number-read}
+use Rattle.nodejs_semver.proofs.Strict.Numbers.{padded-same, strict-read}
+
+-- ---- the numbers of a tuple
+
+-- a function reads the numbers of a reading
+record Reads (zeros : Bool) (limit : ℕ) (Number : List ℕ → ℕ → Type 0) : Type 0 where
+  found : (a rest : List ℕ) (n : ℕ) (r : List ℕ) → IsRun a → begins is_ascii_digit rest ≡ false
+      → number_in_reading zeros limit (a ++ rest) ≡ Some (n, r) → Number a n × (r ≡ rest)
+  read : (a rest : List ℕ) (n : ℕ) → Number a n → begins is_ascii_digit rest ≡ false → number_in_reading zeros limit (a ++ rest) ≡ Some (n, rest)
+
+front-found : (limit : ℕ) (a rest : List ℕ) (n : ℕ) (r : List ℕ) → IsRun a → begins is_ascii_digit rest ≡ false
+    → number_front limit (a ++ rest) ≡ Some (n, r) → IsNumber limit a n × (r ≡ rest)
+front-found limit a rest n r h stop e =
+    let long = digits-taken a rest h.each stop in
+    let x = bind_some (number_of limit a) _ (n, r) (rw (long, take_at a rest (length a) refl, drop_at a rest (length a) refl) at e) in
+    let same = same_Some _ _ x.2 in (
+      subst (λ (k : ℕ). IsNumber limit a k) (ap (λ (p : ℕ × List ℕ). p.0) same) (number-is limit a x.0 x.1),
+      sym (ap (λ (p : ℕ × List ℕ). p.1) same),
+    )
+
+loose-reads : (limit : ℕ) → Reads true limit (IsNumber limit)
+loose-reads limit = record { found = front-found limit; read = number-read limit }
+
+strict-found : (limit : ℕ) (a rest : List ℕ) (n : ℕ) (r : List ℕ) → IsRun a → begins is_ascii_digit rest ≡ false
+    → strict_number limit (a ++ rest) ≡ Some (n, r) → IsStrictNumber limit a n × (r ≡ rest)
+unfolding strict_number
+strict-found limit a rest n r h stop e =
+    let padded = padded-same a rest h.each stop in
+    elim (cases_Bool (has_leading_zero a)) [
+      | inl zero ↦ cc (rw (padded, zero) at e)
+      | inr bare ↦
+          let f = front-found limit a rest n r h stop (rw (padded, bare) at e) in
+          (record { number = f.0; shortest = bare }, f.1)
+    ]
+
+strict-reads : (limit : ℕ) → Reads false limit (IsStrictNumber limit)
+strict-reads limit = record { found = strict-found limit; read = strict-read limit }
+
+-- ---- the release of a tuple
+
+release-found : (zeros : Bool) (limit : ℕ) (Number : List ℕ → ℕ → Type 0) → Reads zeros limit Number → (t : List ℕ)
+    (runs : List (List ℕ)) (v : VersionValue) → IsTuple t runs → tuple_release zeros limit t ≡ Some v → IsRelease Number runs v
+unfolding tuple_release
+release-found zeros limit Number reads t runs v (Npm.one a h) e =
+    let x = bind_some (number_in_reading zeros limit a) _ v e in
+    let f = reads.found a [] x.0.0 x.0.1 h refl (rw (append-nil a) x.1) in
+    subst (λ (w : VersionValue). IsRelease Number runs w) (same_Some _ _ (rw f.1 at x.2)) (Npm.one a x.0.0 f.0)
+release-found zeros limit Number reads t runs v (Npm.two a b h k) e =
+    let x = bind_some (number_in_reading zeros limit (a ++ (46 ∷ b))) _ v e in
+    let f = reads.found a (46 ∷ b) x.0.0 x.0.1 h refl x.1 in
+    let y = bind_some (number_in_reading zeros limit b) _ v (rw f.1 at x.2) in
+    let g = reads.found b [] y.0.0 y.0.1 k refl (rw (append-nil b) y.1) in
+    subst (λ (w : VersionValue). IsRelease Number runs w) (same_Some _ _ (rw g.1 at y.2)) (Npm.two a b x.0.0 y.0.0 f.0 g.0)
+release-found zeros limit Number reads t runs v (Npm.three a b c h k m) e =
+    let x = bind_some (number_in_reading zeros limit (a ++ (46 ∷ (b ++ (46 ∷ c))))) _ v e in
+    let f = reads.found a (46 ∷ (b ++ (46 ∷ c))) x.0.0 x.0.1 h refl x.1 in
+    let y = bind_some (number_in_reading zeros limit (b ++ (46 ∷ c))) _ v (rw f.1 at x.2) in
+    let g = reads.found b (46 ∷ c) y.0.0 y.0.1 k refl y.1 in
+    let z = bind_some (number_in_reading zeros limit c) _ v (rw g.1 at y.2) in
+    let last = reads.found c [] z.0.0 z.0.1 m refl (rw (append-nil c) z.1) in
+    subst (λ (w : VersionValue). IsRelease Number runs w) (same_Some _ _ z.2) (Npm.three a b c x.0.0 y.0.0 z.0.0 f.0 g.0 last.0)
+
+release-read : (zeros : Bool) (limit : ℕ) (Number : List ℕ → ℕ → Type 0) → Reads zeros limit Number → (t : List ℕ)
+    (runs : List (List ℕ)) (v : VersionValue) → IsTuple t runs → IsRelease Number runs v → tuple_release zeros limit t ≡ Some v
+unfolding tuple_release
+release-read zeros limit Number reads t runs v (Npm.one a h) (Npm.one _ x p) =
+    rw (rw (append-nil a) at (reads.read a [] x p refl)) refl
+release-read zeros limit Number reads t runs v (Npm.two a b h k) (Npm.two _ _ x y p q) =
+    rw (reads.read a (46 ∷ b) x p refl, rw (append-nil b) at (reads.read b [] y q refl)) refl
+release-read zeros limit Number reads t runs v (Npm.three a b c h k m) (Npm.three _ _ _ x y z p q r) =
+    rw (reads.read a (46 ∷ (b ++ (46 ∷ c))) x p refl, reads.read b (46 ∷ c) y q refl, rw (append-nil c) at (reads.read c [] z r refl)) refl
+
+-- ---- the tuple that is looked for
+
+same-tuple : (text f t b x y z : List ℕ) → text ≡ f ++ (t ++ b) → text ≡ x ++ (y ++ z) → length f ≡ length x → length t ≡ length y → y ≡ t
+same-tuple text f t b x y z e g same long =
+    let one : drop (length f) text ≡ t ++ b = ap (λ (s : List ℕ). drop (length f) s) e ∙ drop_at f (t ++ b) (length f) refl in
+    let other : drop (length f) text ≡ y ++ z = ap (λ (s : List ℕ). drop (length f) s) g ∙ drop_at x (y ++ z) (length f) (sym same) in
+    sym (take_at y z (length t) (sym long)) ∙ ap (λ (s : List ℕ). take (length t) s) (sym other ∙ one) ∙ take_at t b (length t) refl
+
+abbrev Chosen : Type 1
+Chosen = List ℕ → List ℕ → List ℕ → List ℕ → Type 0
+
+-- only one tuple is chosen
+abbrev IsUnique : Chosen → Type 0
+IsUnique IsChosen = (text f t b x y z : List ℕ) → IsTupleIn text f t b → IsChosen text f t b → IsTupleIn text x y z → IsChosen text x y z → y ≡ t
+
+leftmost-unique : IsUnique IsLeftmost
+leftmost-unique text f t b x y z h k m n =
+    let same : length f ≡ length x = omega (arith, k.first x y z m, n.first f t b h) in
+    let long : length t ≡ length y = omega (arith, k.longest x y z m (sym same), n.longest f t b h same) in
+    same-tuple text f t b x y z h.divided m.divided same long
+
+rightmost-unique : IsUnique IsRightmost
+rightmost-unique text f t b x y z h k m n =
+    let same : length b ≡ length z = omega (arith, k.last x y z m, n.last f t b h) in
+    let long : length t ≡ length y = omega (arith, k.longest x y z m (sym same), n.longest f t b h same) in
+    let one : length text ≡ length f + (length t + length b) = ap length h.divided ∙ length-append f (t ++ b) ∙ omega (arith, length-append t b) in
+    let other : length text ≡ length x + (length y + length z) = ap length m.divided ∙ length-append x (y ++ z) ∙ omega (arith, length-append y z) in
+    same-tuple text f t b x y z h.divided m.divided (omega (arith, one, other, same, long)) long
+
+abbrev Number : Type 1
+Number = List ℕ → ℕ → Type 0
+
+abbrev Found : Chosen → List ℕ → List ℕ → Type 0
+Found C text tuple = (front back : List ℕ) × IsTupleIn text front tuple back × C text front tuple back
+
+coerced-some : (zeros : Bool) (limit : ℕ) (N : Number) → Reads zeros limit N → (C : Chosen) (text tuple : List ℕ) → Found C text tuple
+    → (o : Option VersionValue) → tuple_release zeros limit tuple ≡ o → IfSome o (IsCoerced C N text)
+coerced-some zeros limit N reads C text tuple f None e = tt
+coerced-some zeros limit N reads C text tuple f (Some v) e = record {
+  front = f.0;
+  tuple = tuple;
+  back = f.1;
+  found = f.2;
+  chosen = f.3;
+  is = release-found zeros limit N reads tuple f.2.runs v f.2.is e;
+}
+
+coerced-none : (zeros : Bool) (limit : ℕ) (N : Number) → Reads zeros limit N → (C : Chosen) → IsUnique C → (text tuple : List ℕ) → Found C text tuple
+    → (o : Option VersionValue) → tuple_release zeros limit tuple ≡ o → IfNone o (NoValue (IsCoerced C N text))
+coerced-none zeros limit N reads C unique text tuple f (Some v) e = tt
+coerced-none zeros limit N reads C unique text tuple f None e = λ v w.
+    let same = unique text f.0 tuple f.1 w.front w.tuple w.back f.2 f.3 w.found w.chosen in
+    cc (release-read zeros limit N reads w.tuple w.found.runs v w.found.is w.is, same, e)
+
+-- where there is none, nothing is found
+pub coerced_absent : (o : Option VersionValue) (C : Chosen) (N : Number) (text : List ℕ) → ((x y z : List ℕ) → IsTupleIn text x y z → ⊥)
+    → IfNone o (NoValue (IsCoerced C N text))
+coerced_absent None C N text none = λ v w. none w.front w.tuple w.back w.found
+coerced_absent (Some v) C N text none = tt
+
+-- the four readings
+pub left_some : (limit : ℕ) (text tuple : List ℕ) → Found IsLeftmost text tuple
+    → IfSome (tuple_release false limit tuple) (IsCoerced IsLeftmost (IsStrictNumber limit) text)
+left_some limit text tuple f = coerced-some false limit (IsStrictNumber limit) (strict-reads limit) IsLeftmost text tuple f (tuple_release false limit tuple) refl
+
+pub left_none : (limit : ℕ) (text tuple : List ℕ) → Found IsLeftmost text tuple
+    → IfNone (tuple_release false limit tuple) (NoValue (IsCoerced IsLeftmost (IsStrictNumber limit) text))
+left_none limit text tuple f = coerced-none false limit (IsStrictNumber limit) (strict-reads limit) IsLeftmost leftmost-unique text tuple f (tuple_release false limit tuple) refl
+
+pub left_loose_some : (limit : ℕ) (text tuple : List ℕ) → Found IsLeftmost text tuple
+    → IfSome (tuple_release true limit tuple) (IsCoerced IsLeftmost (IsNumber limit) text)
+left_loose_some limit text tuple f = coerced-some true limit (IsNumber limit) (loose-reads limit) IsLeftmost text tuple f (tuple_release true limit tuple) refl
+
+pub left_loose_none : (limit : ℕ) (text tuple : List ℕ) → Found IsLeftmost text tuple
+    → IfNone (tuple_release true limit tuple) (NoValue (IsCoerced IsLeftmost (IsNumber limit) text))
+left_loose_none limit text tuple f = coerced-none true limit (IsNumber limit) (loose-reads limit) IsLeftmost leftmost-unique text tuple f (tuple_release true limit tuple) refl
+
+pub right_some : (limit : ℕ) (text tuple : List ℕ) → Found IsRightmost text tuple
+    → IfSome (tuple_release false limit tuple) (IsCoerced IsRightmost (IsStrictNumber limit) text)
+right_some limit text tuple f = coerced-some false limit (IsStrictNumber limit) (strict-reads limit) IsRightmost text tuple f (tuple_release false limit tuple) refl
+
+pub right_none : (limit : ℕ) (text tuple : List ℕ) → Found IsRightmost text tuple
+    → IfNone (tuple_release false limit tuple) (NoValue (IsCoerced IsRightmost (IsStrictNumber limit) text))
+right_none limit text tuple f = coerced-none false limit (IsStrictNumber limit) (strict-reads limit) IsRightmost rightmost-unique text tuple f (tuple_release false limit tuple) refl
+
+pub right_loose_some : (limit : ℕ) (text tuple : List ℕ) → Found IsRightmost text tuple
+    → IfSome (tuple_release true limit tuple) (IsCoerced IsRightmost (IsNumber limit) text)
+right_loose_some limit text tuple f = coerced-some true limit (IsNumber limit) (loose-reads limit) IsRightmost text tuple f (tuple_release true limit tuple) refl
+
+pub right_loose_none : (limit : ℕ) (text tuple : List ℕ) → Found IsRightmost text tuple
+    → IfNone (tuple_release true limit tuple) (NoValue (IsCoerced IsRightmost (IsNumber limit) text))
+right_loose_none limit text tuple f = coerced-none true limit (IsNumber limit) (loose-reads limit) IsRightmost rightmost-unique text tuple f (tuple_release true limit tuple) refl
+
+pub ruleset lefts = (coerced_absent, left_some, left_none, left_loose_some, left_loose_none)
+
+pub ruleset rights = (coerced_absent, right_some, right_none, right_loose_some, right_loose_none)

@@ -1,0 +1,365 @@
+-- The longest tuple of numbers at a place of a text, the leftmost one, and the one that ends last.
+use Rattle.nodejs_semver.proofs.Common.{◌≡◌, ◌⊎◌, ◌<◌, ◌≤◌, ◌+◌, ◌-◌, ℕ, suc, Bool, List, [], ◌∷◌, ◌++◌, length, drop, take, refl, sym, ap, ◌∙◌, arith}
+use Rattle.nodejs_semver.proofs.Common.{true, false, inl, inr, append_assoc, cases_Bool, length-append, nat_tests, begins, ends, is_ascii_digit}
+use Rattle.nodejs_semver.proofs.Common.{take_at, drop_at, eqb-true}
+use Rattle.std.proofs.Common.{get_or, length-drop}
+use Rattle.std.proofs.lemmas.Bool.{cases_lt}
+use Rattle.std.proofs.lemmas.List.{length-take-le}
+use Rattle.std.proofs.lemmas.List.Folds.{length-prefix_len}
+use Rattle.std.specs.Prelude.{◌==◌, nat_le}
+use Rattle.std.specs.List.{prefix_len}
+use Rattle.std.proofs.Math.Seq.{drop-append-add}
+use Rattle.std.proofs.lemmas.List.{take-append-drop}
+use Rattle.semver_core.proofs.Text.Pieces.{rest_at}
+use Rattle.nodejs_semver.specs.Internal.NpmTuples.{IsLastBefore, IsLongestAt, behind_first, dotted_len, run_len, tuple_len}
+use Rattle.nodejs_semver.specs.Npm.Coerced.{IsLeftmost, IsRightmost, IsRun, IsTuple, IsTupleIn, one, three, two}
+use Rattle.nodejs_semver.proofs.NpmTexts.Loose.{digits-of}
+use Rattle.nodejs_semver.proofs.Reading.Numbers.{digits-taken, run-ends}
+
+-- ---- runs
+
+record RunAt (text : List ℕ) (n : ℕ) : Type 0 where
+  run : List ℕ
+  rest : List ℕ
+  split : text ≡ run ++ rest
+  is : IsRun run
+  long : length run ≡ n
+  ended : begins is_ascii_digit rest ≡ false
+
+run-at : (text : List ℕ) (n : ℕ) → n ≡ run_len text → 0 < n → RunAt text n
+run-at text n e some = elim (cases_Bool (nat_le (prefix_len is_ascii_digit text) 16)) [
+  | inr long ↦ absurd (omega (arith, some, e, rw long at e))
+  | inl short ↦
+      let same : n ≡ prefix_len is_ascii_digit text = rw short at e in
+      rw same (record {
+        run = take (prefix_len is_ascii_digit text) text;
+        rest = drop (prefix_len is_ascii_digit text) text;
+        split = sym (take-append-drop (prefix_len is_ascii_digit text) text);
+        is = record {
+          some = omega (arith, length-prefix_len is_ascii_digit text, some, same);
+          short = grind (arith, nat_tests, length-prefix_len);
+          each = digits-of (prefix_len is_ascii_digit text) text (omega arith);
+        };
+        long = length-prefix_len is_ascii_digit text;
+        ended = run-ends text;
+      })
+]
+
+run-long : (a z : List ℕ) → IsRun a → begins is_ascii_digit z ≡ false → run_len (a ++ z) ≡ length a
+run-long a z h stop =
+    let n : prefix_len is_ascii_digit (a ++ z) ≡ length a = digits-taken a z h.each stop in
+    let short : nat_le (length a) 16 ≡ true = grind (arith, nat_tests, h.short) in
+    rw (n, short) refl
+
+record DottedAt (text : List ℕ) (n : ℕ) : Type 0 where
+  run : List ℕ
+  rest : List ℕ
+  split : text ≡ 46 ∷ (run ++ rest)
+  is : IsRun run
+  long : 1 + length run ≡ n
+  ended : begins is_ascii_digit rest ≡ false
+
+dotted-at : (text : List ℕ) (n : ℕ) → n ≡ dotted_len text → (n == 0) ≡ false → DottedAt text n
+dotted-at [] n e some = cc (rw e at some)
+dotted-at (b ∷ text) n e some = elim (cases_Bool (b == 46)) [
+  | inr other ↦ cc (rw (rw other at e) at some)
+  | inl dot ↦ elim (cases_Bool (run_len text == 0)) [
+    | inl none ↦ cc (rw (rw (dot, none) at e) at some)
+    | inr more ↦
+        let r = run-at text (run_len text) refl (grind (arith, nat_tests, more)) in
+        record {
+          run = r.run;
+          rest = r.rest;
+          split = rw (eqb-true b 46 dot, ← r.split) refl;
+          is = r.is;
+          long = ap (λ (n : ℕ). 1 + n) r.long ∙ sym (rw (dot, more) at e);
+          ended = r.ended;
+        }
+  ]
+]
+
+dotted-long : (a z : List ℕ) → IsRun a → begins is_ascii_digit z ≡ false → dotted_len (46 ∷ (a ++ z)) ≡ 1 + length a
+dotted-long a z h stop =
+    let some : (length a == 0) ≡ false = grind (arith, nat_tests, h.some) in
+    rw (run-long a z h stop, some) refl
+
+-- ---- the longest tuple at the front
+
+record SpanAt (text : List ℕ) (n : ℕ) : Type 0 where
+  tuple : List ℕ
+  rest : List ℕ
+  runs : List (List ℕ)
+  split : text ≡ tuple ++ rest
+  is : IsTuple tuple runs
+  long : length tuple ≡ n
+  ended : begins is_ascii_digit rest ≡ false
+
+positive : (n : ℕ) → (n == 0) ≡ false → 0 < n
+positive n h = grind (arith, nat_tests)
+
+span-at : (text : List ℕ) (n : ℕ) → n ≡ tuple_len text → 0 < n → SpanAt text n
+unfolding tuple_len
+span-at text n e some = elim (cases_Bool (run_len text == 0)) [
+  | inl none ↦ absurd (omega (arith, some, rw none at e))
+  | inr more ↦
+      let r = run-at text (run_len text) refl (positive (run_len text) more) in
+      let behind : drop (run_len text) text ≡ r.rest = ap (λ (t : List ℕ). drop (run_len text) t) r.split ∙ drop_at r.run r.rest (run_len text) r.long in
+      second r (rw (more, behind) at e)
+]
+  where
+    second : (r : RunAt text (run_len text)) → n ≡ behind_first text (run_len text) (dotted_len r.rest) → SpanAt text n
+    second r e = elim (cases_Bool (dotted_len r.rest == 0)) [
+      | inl none ↦ (let same : n ≡ run_len text = rw none at e in rw same
+          (record { tuple = r.run; rest = r.rest; runs = r.run ∷ []; split = r.split; is = one r.run r.is; long = r.long; ended = r.ended }))
+      | inr more ↦
+          let d = dotted-at r.rest (dotted_len r.rest) refl more in
+          let front = r.run ++ (46 ∷ d.run) in
+          let long : length front ≡ run_len text + dotted_len r.rest =
+          length-append r.run (46 ∷ d.run) ∙ omega (arith, r.long, d.long) in
+          let split : text ≡ front ++ d.rest =
+          r.split ∙ ap (λ (t : List ℕ). r.run ++ t) d.split ∙ sym (append_assoc r.run (46 ∷ d.run) d.rest) in
+          let behind : drop (run_len text + dotted_len r.rest) text ≡ d.rest =
+          ap (λ (t : List ℕ). drop (run_len text + dotted_len r.rest) t) split ∙ drop_at front d.rest _ long in
+          third r d split long (rw (more, behind) at e)
+    ]
+      where
+        third : (r : RunAt text (run_len text)) (d : DottedAt r.rest (dotted_len r.rest)) → text ≡ (r.run ++ (46 ∷ d.run)) ++ d.rest
+            → length (r.run ++ (46 ∷ d.run)) ≡ run_len text + dotted_len r.rest
+            → n ≡ run_len text + dotted_len r.rest + dotted_len d.rest → SpanAt text n
+        third r d split long e = elim (cases_Bool (dotted_len d.rest == 0)) [
+          | inl none ↦ record {
+            tuple = r.run ++ (46 ∷ d.run);
+            rest = d.rest;
+            runs = r.run ∷ d.run ∷ [];
+            split = split;
+            is = two r.run d.run r.is d.is;
+            long = grind (arith, nat_tests, long, e, none);
+            ended = d.ended;
+          }
+          | inr more ↦
+              let p = dotted-at d.rest (dotted_len d.rest) refl more in
+              record {
+                tuple = r.run ++ (46 ∷ (d.run ++ (46 ∷ p.run)));
+                rest = p.rest;
+                runs = r.run ∷ d.run ∷ p.run ∷ [];
+                split = r.split ∙ ap (λ (t : List ℕ). r.run ++ t) (d.split ∙ ap (λ (t : List ℕ). 46 ∷ t)
+                    (ap (λ (t : List ℕ). d.run ++ t) p.split ∙ sym (append_assoc d.run (46 ∷ p.run) p.rest)))
+                    ∙ sym (append_assoc r.run (46 ∷ (d.run ++ (46 ∷ p.run))) p.rest);
+                is = three r.run d.run p.run r.is d.is p.is;
+                long = length-append r.run (46 ∷ (d.run ++ (46 ∷ p.run)))
+                    ∙ omega (arith, length-append d.run (46 ∷ p.run), r.long, d.long, p.long, e);
+                ended = p.ended;
+              }
+        ]
+
+-- no tuple at the front is longer
+span-longest : (y z : List ℕ) (runs : List (List ℕ)) → IsTuple y runs → begins is_ascii_digit z ≡ false → length y ≤ tuple_len (y ++ z)
+unfolding tuple_len
+span-longest y z runs (one a h) stop =
+    let some : (length a == 0) ≡ false = grind (arith, nat_tests, h.some) in
+    rw (run-long a z h stop, some) (least (a ++ z) (length a) (dotted_len (drop (length a) (a ++ z))))
+  where
+    least : (text : List ℕ) (n m : ℕ) → n ≤ behind_first text n m
+    least text n m = elim (cases_Bool (m == 0)) [ inl none ↦ rw none (omega arith) | inr more ↦ rw more (omega arith) ]
+span-longest y z runs (two a b h k) stop =
+    let some : (length a == 0) ≡ false = grind (arith, nat_tests, h.some) in
+    let more : (1 + length b == 0) ≡ false = grind (arith, nat_tests) in
+    rw (append_assoc a (46 ∷ b) z, run-long a (46 ∷ (b ++ z)) h refl, some, drop_at a (46 ∷ (b ++ z)) (length a) refl, dotted-long b z k stop, more)
+    (omega (arith, length-append a (46 ∷ b)))
+span-longest y z runs (three a b c h k m) stop =
+    let some : (length a == 0) ≡ false = grind (arith, nat_tests, h.some) in
+    let more : (1 + length b == 0) ≡ false = grind (arith, nat_tests) in
+    let u = 46 ∷ (c ++ z) in
+    let same : (a ++ (46 ∷ (b ++ (46 ∷ c)))) ++ z ≡ a ++ (46 ∷ (b ++ u)) =
+    append_assoc a (46 ∷ (b ++ (46 ∷ c))) z ∙ ap (λ (t : List ℕ). a ++ (46 ∷ t)) (append_assoc b (46 ∷ c) z) in
+    let behind : drop (length a + (1 + length b)) (a ++ (46 ∷ (b ++ u))) ≡ u =
+    drop-append-add a (46 ∷ (b ++ u)) (1 + length b) ∙ drop_at (46 ∷ b) u (1 + length b) (omega arith) in
+    rw (
+      same,
+      run-long a (46 ∷ (b ++ u)) h refl,
+      some,
+      drop_at a (46 ∷ (b ++ u)) (length a) refl,
+      dotted-long b u k refl,
+      more,
+      behind,
+      dotted-long c z m stop,
+    ) (omega (arith, length-append a (46 ∷ (b ++ (46 ∷ c))), length-append b (46 ∷ c)))
+
+-- ---- the longest tuple at a place
+
+tuple-some : (y : List ℕ) (runs : List (List ℕ)) → IsTuple y runs → 0 < length y
+tuple-some y runs (one a h) = h.some
+tuple-some y runs (two a b h k) = omega (arith, length-append a (46 ∷ b), h.some)
+tuple-some y runs (three a b c h k m) = omega (arith, length-append a (46 ∷ (b ++ (46 ∷ c))), h.some)
+
+last-byte : (p : ℕ → Bool) (x rest : List ℕ) (d : ℕ) → 0 < length x → p (get_or (x ++ rest) (length x - 1) d) ≡ ends p x
+last-byte p [] rest d some = absurd (omega (arith, some))
+last-byte p (c ∷ []) rest d some = refl
+last-byte p (c ∷ e ∷ x) rest d some =
+    let k : length (c ∷ e ∷ x) - 1 ≡ suc (length (e ∷ x) - 1) = omega arith in
+    rw k (last-byte p (e ∷ x) rest d (omega arith))
+
+pub last_before : (text : List ℕ) (at d : ℕ) → 0 < at → at ≤ length text
+    → is_ascii_digit (get_or text (at - 1) d) ≡ ends is_ascii_digit (take at text)
+last_before text at d some fits =
+    let long = length-take-le at text fits in
+    rw (take-append-drop at text, long) at (last-byte is_ascii_digit (take at text) (drop at text) d (omega (arith, long, some)))
+
+-- where a digit stands before, no tuple begins
+pub longest_none : (text : List ℕ) (at : ℕ) → at ≤ length text → ends is_ascii_digit (take at text) ≡ true → IsLongestAt text at 0
+longest_none text at fits digit = record {
+  fits = omega arith;
+  here = λ h. absurd (omega (arith, h));
+  longest = λ x y z is e.
+      let same : take at text ≡ x = ap (λ (t : List ℕ). take at t) is.divided ∙ take_at x (y ++ z) at e in
+      cc (rw same at digit, is.begun);
+}
+
+pub longest_some : (text : List ℕ) (at len : ℕ) → at ≤ length text → ends is_ascii_digit (take at text) ≡ false
+    → len ≡ tuple_len (drop at text) → len ≤ length (drop at text) → IsLongestAt text at len
+longest_some text at len inside dark e short = record {
+  fits = omega (arith, short, inside, length-drop at text);
+  here = λ some.
+      let s = span-at (drop at text) len e some in
+      let taken : take len (drop at text) ≡ s.tuple = ap (λ (t : List ℕ). take len t) s.split ∙ take_at s.tuple s.rest len s.long in
+      let left : drop (at + len) text ≡ s.rest = rest_at text at (at + len) s.tuple s.rest s.split (omega (arith, s.long)) in
+      record {
+        divided = rw (taken, left) (sym (take-append-drop at text) ∙ ap (λ (t : List ℕ). take at text ++ t) s.split);
+        runs = s.runs;
+        is = rw taken s.is;
+        begun = dark;
+        ended = rw left s.ended;
+      };
+  longest = λ x y z is same.
+      let rest : drop at text ≡ y ++ z = ap (λ (t : List ℕ). drop at t) is.divided ∙ drop_at x (y ++ z) at same in
+      rw (e, rest) (span-longest y z is.runs is.is is.ended);
+}
+
+record Parts (text x y z : List ℕ) : Type 0 where
+  whole : length text ≡ length x + (length y + length z)
+  some : 0 < length y
+
+parts : (text x y z : List ℕ) → IsTupleIn text x y z → Parts text x y z
+parts text x y z is = record {
+  whole = ap length is.divided ∙ length-append x (y ++ z) ∙ omega (arith, length-append y z);
+  some = tuple-some y is.runs is.is;
+}
+
+-- ---- the leftmost tuple
+
+abbrev pub BeginsAfter : List ℕ → ℕ → Type 0
+BeginsAfter text at = (x y z : List ℕ) → IsTupleIn text x y z → at ≤ length x
+
+pub first_step : (text : List ℕ) (at len : ℕ) → IsLongestAt text at len → len ≤ 0 → BeginsAfter text at → BeginsAfter text (at + 1)
+first_step text at len there none after = λ x y z is.
+    let past = after x y z is in
+    let some = (parts text x y z is).some in
+    elim (cases_lt at (length x)) [
+      | inl more ↦ omega (arith, more)
+      | inr le ↦ absurd (omega (arith, some, none, there.longest x y z is (omega (arith, le, past))))
+    ]
+
+abbrev pub Found : (List ℕ → List ℕ → List ℕ → List ℕ → Type 0) → List ℕ → List ℕ → Type 0
+Found IsChosen text tuple = (front back : List ℕ) × IsTupleIn text front tuple back × IsChosen text front tuple back
+
+pub first_found : (text : List ℕ) (at len : ℕ) → IsLongestAt text at len → 0 < len → BeginsAfter text at
+    → Found IsLeftmost text (take len (drop at text))
+first_found text at len there some after =
+    let long : length (take at text) ≡ at = length-take-le at text (omega (arith, there.fits)) in
+    let size : length (take len (drop at text)) ≡ len =
+    length-take-le len (drop at text) (omega (arith, there.fits, length-drop at text)) in (
+      take at text,
+      drop (at + len) text,
+      there.here some,
+      record {
+        first = λ x y z is. omega (arith, long, after x y z is);
+        longest = λ x y z is same. omega (arith, size, there.longest x y z is (same ∙ long));
+      },
+    )
+
+pub first_none : (text : List ℕ) (at : ℕ) → length text ≤ at → BeginsAfter text at → (x y z : List ℕ) → IsTupleIn text x y z → ⊥
+first_none text at past after x y z is =
+    let p = parts text x y z is in
+    omega (arith, past, after x y z is, p.whole, p.some)
+
+pub ruleset firsts = (first_found)
+
+-- ---- the tuple that ends last
+
+pub last_begin : (text : List ℕ) → IsLastBefore text 0 0 0
+last_begin text = record {
+  before = omega arith;
+  order = omega arith;
+  fits = omega arith;
+  here = λ h. absurd (omega (arith, h));
+  last = λ x y z is h. absurd (omega (arith, h));
+  longest = λ x y z is h e. absurd (omega (arith, h));
+}
+
+pub last_kept : (text : List ℕ) (at len start end : ℕ) → IsLongestAt text at len → (len ≤ 0) ⊎ (at + len ≤ end)
+    → IsLastBefore text at start end → IsLastBefore text (at + 1) start end
+last_kept text at len start end there less h = record {
+  before = omega (arith, h.before);
+  order = h.order;
+  fits = h.fits;
+  here = h.here;
+  last = λ x y z is lt. elim (cases_lt (length x) at) [
+    | inl sooner ↦ h.last x y z is sooner
+    | inr le ↦ here x y z is (omega (arith, lt, le)) less
+  ];
+  longest = λ x y z is lt e. elim (cases_lt (length x) at) [
+    | inl sooner ↦ h.longest x y z is sooner e
+    | inr le ↦ omega (arith, le, h.before)
+  ];
+}
+  where
+    here : (x y z : List ℕ) → IsTupleIn text x y z → length x ≡ at → (len ≤ 0) ⊎ (at + len ≤ end) → length x + length y ≤ end
+    here x y z is e (inl none) = absurd (omega (arith, none, (parts text x y z is).some, there.longest x y z is e))
+    here x y z is e (inr le) = omega (arith, e, le, there.longest x y z is e)
+
+pub last_taken : (text : List ℕ) (at len start end : ℕ) → IsLongestAt text at len → 0 < len → end < at + len
+    → IsLastBefore text at start end → IsLastBefore text (at + 1) at (at + len)
+last_taken text at len start end there some more h =
+    let size : at + len - at ≡ len = omega arith in
+    record {
+      before = omega arith;
+      order = omega arith;
+      fits = there.fits;
+      here = λ _. rw size (there.here some);
+      last = λ x y z is lt. elim (cases_lt (length x) at) [
+        | inl sooner ↦ omega (arith, more, h.last x y z is sooner)
+        | inr le ↦ omega (arith, lt, le, there.longest x y z is (omega (arith, lt, le)))
+      ];
+      longest = λ x y z is lt e. elim (cases_lt (length x) at) [
+        | inl sooner ↦ absurd (omega (arith, more, e, h.last x y z is sooner))
+        | inr le ↦ le
+      ];
+    }
+
+pub last_found : (text : List ℕ) (at start end : ℕ) → IsLastBefore text at start end → length text ≤ at → 0 < end
+    → Found IsRightmost text (take (end - start) (drop start text))
+last_found text at start end h past some =
+    let size : length (take (end - start) (drop start text)) ≡ end - start =
+    length-take-le (end - start) (drop start text) (omega (arith, h.fits, h.order, length-drop start text)) in
+    let left : length (drop end text) ≡ length text - end = length-drop end text in (
+      take start text,
+      drop end text,
+      h.here some,
+      record {
+        last = λ x y z is.
+            let p = parts text x y z is in
+            omega (arith, left, p.whole, p.some, h.last x y z is (omega (arith, past, p.whole, p.some)));
+        longest = λ x y z is same.
+            let p = parts text x y z is in
+            let begins : length x < at = omega (arith, past, p.whole, p.some) in
+            omega (arith, size, p.whole, same, left, h.fits, h.longest x y z is begins (omega (arith, p.whole, same, left, h.fits)));
+      },
+    )
+
+pub last_none : (text : List ℕ) (at start end : ℕ) → IsLastBefore text at start end → length text ≤ at → end ≡ 0
+    → (x y z : List ℕ) → IsTupleIn text x y z → ⊥
+last_none text at start end h past none x y z is =
+    let p = parts text x y z is in
+    omega (arith, none, p.some, h.last x y z is (omega (arith, past, p.whole, p.some)))
+
+pub ruleset lasts = (last_begin)

@@ -1,0 +1,7 @@
+use Rattle.std.proofs.Common.{sym}
+use Rattle.semver_core.specs.declared.TheConstants.{MAX_SAFE_INTEGER}
+use Rattle.nodejs_semver.proofs.Strict.Numbers.{front_there}
+use Rattle.nodejs_semver.proofs.npm.places.number_front.Goals as goal
+
+pub returns : goal.returns
+returns c = sym (front_there MAX_SAFE_INTEGER c.args.text.now c.in_ok-number.number c.in_ok-number.end c.in_ok-number.ensures.found)

@@ -1,0 +1,25 @@
+use Rattle.std.proofs.Common.{Err, rules}
+use Rattle.std.specs.Prelude.{⊤}
+use Rattle.nodejs_semver.proofs.Strict.RangeReads.{all-spans, memory-pieces, range-read, refused-none}
+use Rattle.nodejs_semver.proofs.npm.ranges.read_range.Goals as goal
+
+pub returns-in_err-found-clause-refused : goal.returns-in_err-found-clause-refused
+returns-in_err-found-clause-refused c =
+    let e = c.from_residual.ensures in
+    let h = refused-none c.args.loose {A = ⊤} (Err c.in_err-found.field-0.0) c.args.include c.args.text.now c.utf8.text
+    c.in_err-found.ensures.refused in
+    search rules
+
+pub returns-in_err-found-clause-memory : goal.returns-in_err-found-clause-memory
+returns-in_err-found-clause-memory c =
+    let e = c.from_residual.ensures in
+    let h = memory-pieces {A = ⊤} (Err c.in_err-found.field-0.0) c.args.text.now c.in_err-found.ensures.memory in
+    search rules
+
+pub range_of-requires : goal.range_of-requires
+range_of-requires c = all-spans c.args.loose c.args.include c.args.text.now c.in_ok-found.found.items c.in_ok-found.ensures.ok
+
+pub returns-clause-ok : goal.returns-clause-ok
+returns-clause-ok c =
+    range-read c.args.loose c.args.include c.args.text.now c.in_ok-found.found.items c.range_of.result c.utf8.text
+    c.in_ok-found.ensures.ok c.range_of.ensures.accepts

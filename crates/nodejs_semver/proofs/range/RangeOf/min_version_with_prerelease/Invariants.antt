@@ -1,0 +1,11 @@
+use Rattle.nodejs_semver.proofs.Common.{◌≡◌, true, take, accepts}
+use Rattle.nodejs_semver.specs.Internal.Candidates.{least_of}
+use Rattle.nodejs_semver.specs.Ranges.View.{spans_of}
+use Rattle.nodejs_semver.proofs.Choice.LeastHeld.{firsts_past}
+use Rattle.nodejs_semver.proofs.range.RangeOf.min_version_with_prerelease.Given as goal
+
+abbrev pub invariant-loop-interval : goal.invariant-loop-interval
+invariant-loop-interval g l =
+    let value = g.V.Versioned.value in
+    l.best ≡ least_of (λ v. accepts (spans_of value l.intervals) v true)
+    (firsts_past (spans_of value (take l.interval-index l.intervals)))

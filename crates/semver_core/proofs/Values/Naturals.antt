@@ -1,0 +1,19 @@
+-- An integer is natural or negative.
+use Rattle.std.proofs.Common.{◌≡◌, ◌⊎◌, refl, inl, inr, ap, ℕ, Option, Some, None, arith}
+use Rattle.std.specs.Prelude.{ℤ, pos, negsuc}
+use Rattle.semver_core.specs.Internal.Naturals.{from_natural}
+
+pub natural_is : (z : ℤ) (n : ℕ) → from_natural z ≡ Some n → z ≡ pos n
+natural_is (pos m) n h = grind arith
+natural_is (negsuc m) n h = cc h
+
+negative_is : (z : ℤ) → from_natural z ≡ None → (n : ℕ) × (z ≡ negsuc n)
+negative_is (pos m) h = cc h
+negative_is (negsuc m) h = (m, refl)
+
+-- of three integers one is negative
+pub one_negative : (a b c : ℤ) → (from_natural a ≡ None) ⊎ (from_natural b ≡ None) ⊎ (from_natural c ≡ None)
+    → (n : ℕ) × ((a ≡ negsuc n) ⊎ (b ≡ negsuc n) ⊎ (c ≡ negsuc n))
+one_negative a b c (inl h) = let m = negative_is a h in (m.0, inl m.1)
+one_negative a b c (inr (inl h)) = let m = negative_is b h in (m.0, inr (inl m.1))
+one_negative a b c (inr (inr h)) = let m = negative_is c h in (m.0, inr (inr m.1))

@@ -1,0 +1,119 @@
+"""The crates of crates.txt, the libraries that `rt ci` built of them, and the toolchain's prover called over these.
+
+`rt ci` proves each library once and leaves it in the crate's out/rlib for the crates above. `rt check` and `rt lib` take no library from
+there, and would prove all of them anew. So tools that need a library after `rt ci`, or beside it, call the prover itself over it."""
+import functools
+import os
+import re
+import shutil
+import subprocess
+import threading
+import time
+
+import edits
+from edits import TOP, text_of
+
+# The file to which the gate writes what `rt ci` says, beside which it runs these tools.
+SAYS = "RT_CI_SAYS"
+PARTS = ("src", "specs", "proofs")
+
+
+@functools.lru_cache(maxsize=None)
+def kit():
+    """The folder of the toolchain."""
+    said = subprocess.run(["rt", "doc"], stdout=subprocess.PIPE, text=True, check=True).stdout
+    return os.path.dirname(said.splitlines()[0])
+
+
+class Crate:
+    """A line of crates.txt."""
+
+    def __init__(self, line, lower):
+        head, _, uses = line.partition(":")
+        self.line, self.name, self.is_static = line, head.split()[0], "staticlib" in head.split()
+        self.deps = [lower[it] for it in uses.split() if it in lower]
+        self.of_kit = ["std", *[it for it in uses.split() if it not in lower]]
+
+    def below(self):
+        """Returns the crates of the repository that it stands on, the lowest first."""
+        return list(dict.fromkeys(it for dep in self.deps for it in [*dep.below(), dep]))
+
+    def files(self):
+        """Returns all files that its proof reads, but those of the crates below."""
+        walked = [found for part in PARTS for found in os.walk(f"{TOP}/crates/{self.name}/{part}")]
+        return sorted(f"{at}/{name}" for at, _, names in walked for name in names)
+
+    def words(self, command, folder, libraries):
+        """Returns the words of the prover's command for the crate in a folder, over libraries that stand in another one."""
+        root = next(it for it in ("src/main.rt", "src/lib.rt") if os.path.exists(f"{folder}/{it}"))
+        words = [f"{kit()}/bin/rattle", command, "--crate-name", self.name, root, "-L", f"dependency={kit()}/rlibs", "-L", f"dependency={libraries}"]
+        for it in self.of_kit:
+            words += ["--extern", f"{it}={kit()}/rlibs/{it}.rlib"]
+        for it in self.deps:
+            words += ["--extern", f"{it.name}={libraries}/{it.name}.rlib"]
+        words += ["--antt-project", f"{kit()}/rattle/logic/antt-project.json", "--logic-built", f"{kit()}/logic_built"]
+        return [*words, *["--crate-type", "staticlib"] * self.is_static]
+
+
+@functools.lru_cache(maxsize=None)
+def crates():
+    """Returns the crates by their names, low to high, as crates.txt lists them."""
+    found = {}
+    for line in text_of(f"{TOP}/crates.txt").splitlines():
+        if re.match(r"\w", line):
+            crate = Crate(line, found)
+            found[crate.name] = crate
+    return found
+
+
+class Libraries:
+    """The libraries, each in a folder as NAME.rlib: those that `rt ci` built of the files as they stand, and where there is none,
+    those that `rt lib` builds in a copy."""
+
+    def __init__(self, room):
+        self.room, self.folder = room, f"{room}/libraries"
+        self.locks, self.copying = {it: threading.Lock() for it in crates()}, threading.Lock()
+        os.makedirs(self.folder)
+
+    def below(self, crate):
+        """Puts the libraries below a crate into the folder, and returns that."""
+        for it in crate.below():
+            with self.locks[it.name]:
+                if not os.path.exists(f"{self.folder}/{it.name}.rlib"):
+                    found = built(it) or self.proved(it)
+                    shutil.copytree(found, f"{self.folder}/new-{it.name}", copy_function=link)
+                    os.rename(f"{self.folder}/new-{it.name}", f"{self.folder}/{it.name}.rlib")
+        return self.folder
+
+    def proved(self, crate):
+        """Builds a library in a copy, with `rt lib`, which takes over what checks in other checkouts on this machine proved."""
+        with self.copying:
+            if not os.path.exists(f"{self.room}/copy"):
+                edits.copied(f"{self.room}/copy")
+        folder = f"{self.room}/copy/crates/{crate.name}"
+        ran = subprocess.run(["rt", "lib"], cwd=folder, stdin=subprocess.DEVNULL, stdout=subprocess.PIPE, stderr=subprocess.STDOUT, text=True, check=False)
+        if ran.returncode:
+            raise SystemExit(f"{crate.name} is not proved as it stands:\n{ran.stdout[-2000:]}")
+        return f"{folder}/out/rlib/{crate.name}.rlib"
+
+
+def built(crate):
+    """Returns the folder of a library that `rt ci` built of the files as they stand, or None. Beside `rt ci` it waits for it."""
+    found = f"{TOP}/crates/{crate.name}/out/rlib/{crate.name}.rlib"
+    if SAYS in os.environ:
+        while not (said := re.search(rf"^rt: {crate.name} (proved$|is kept: |NOT PROVED)|^\d+ passed, \d+ failed", text_of(os.environ[SAYS]), re.M)):
+            time.sleep(1)
+        if not (said[1] or "").startswith(("proved", "is kept")):
+            raise SystemExit(f"{crate.name} is not proved as it stands")
+        return found
+    files = [f"{TOP}/crates.txt", *[it for low in [*crate.below(), crate] for it in low.files()]]
+    made = f"{found}/format"
+    return found if os.path.exists(made) and os.path.getmtime(made) > max(map(os.path.getmtime, files)) else None
+
+
+def link(one, other):
+    """Gives a file of what was proved a second name, where it can: such a file is made anew, and never written into."""
+    try:
+        os.link(one, other)
+    except OSError:
+        shutil.copy2(one, other)
