@@ -1,12 +1,12 @@
 -- Statement. What the exports answer: how their texts are read, and which status is returned and what is written then. The texts
 -- are read from the left, and the first that is rejected decides the status.
-use Rattle.std.specs.Prelude.{◌≡◌, ◌≢◌, ◌<◌, ◌≤◌, ◌^◌, ◌++◌, ◌⊎◌, IfSome, IsUtf8, ℕ, List, [], Option, Some, None, Result, Ok, Err, drop, length}
+use Rattle.std.specs.Prelude.{◌≡◌, ◌≢◌, ◌<◌, ◌≤◌, ◌^◌, ◌++◌, ◌⊎◌, IsUtf8, ℕ, List, [], Option, Some, None, Result, Ok, Err, drop, length}
 use Rattle.semver_core.specs.Cuts.{Span}
 use Rattle.semver_core.specs.Failures.{NoValue}
 use Rattle.semver_core.specs.Increments.Table as increment
 use Rattle.semver_core.specs.Printing.Text.{version_text}
 use Rattle.semver_core.specs.Text.Parsing.{Parses}
-use Rattle.semver_core.specs.Values.Versions.{VersionValue}
+use Rattle.semver_core.specs.Values.Versions.{HasIdentifiers, VersionValue}
 use Rattle.semver_core.specs.declared.TheConstants.{MAX_SAFE_INTEGER}
 use Rattle.semver_core.specs.declared.increment.IdentifierBase.{IdentifierBase}
 use Rattle.nodejs_semver.specs.Text.Meaning.{Means}
@@ -48,30 +48,34 @@ OnRange bytes status Same Answer = ((r : List (Span VersionValue)) × IsRangeOf 
 abbrev pub Kept : (old new : List ℕ) (len_old len_new : ℕ) → Type 0
 Kept old new len_old len_new = (new ≡ old) × (len_new ≡ len_old)
 
--- a text is put in front of a buffer's bytes, or is too long for the buffer; its length is written in both cases
-abbrev pub Puts : (text old new : List ℕ) (len status : ℕ) → Type 0
-Puts text old new len status = (len ≡ length text)
-    × (((status ≡ OK) × (new ≡ text ++ drop (length text) old)) ⊎ ((status ≡ TOO_SMALL) × (length old < length text) × (new ≡ old)))
+-- texts or values are put in front of those of a buffer, or are too many for it; their number is written in both cases
+abbrev pub Puts : {A : Type 0} → (told old new : List A) (len status : ℕ) → Type 0
+Puts told old new len status = (len ≡ length told)
+    × (((status ≡ OK) × (new ≡ told ++ drop (length told) old))
+    ⊎ ((status ≡ TOO_SMALL) × (length old < length told) × (new ≡ old)))
 
 -- memory is missing, which happens only if this holds
 abbrev pub NoMemoryOnlyIf : (status : ℕ) (Same P : Type 0) → Type 0
 NoMemoryOnlyIf status Same P = (status ≡ NO_MEMORY) × Same × P
 
--- a text is printed into a buffer, for which memory may be missing
+-- a text is printed into a buffer, unless it is longer than memory
 abbrev pub Prints : (text old new : List ℕ) (len_old len_new status : ℕ) → Type 0
-Prints text old new len_old len_new status = Puts text old new len_new status ⊎ ((status ≡ NO_MEMORY) × Kept old new len_old len_new)
+Prints text old new len_old len_new status = Puts text old new len_new status
+    ⊎ ((status ≡ TOO_LONG) × (2 ^ 63 ≤ length text) × Kept old new len_old len_new)
 
--- what is found is printed, if there is any
-abbrev pub PrintsFound : {A : Type 0} → (A → Option (List ℕ)) → Option A → (old new : List ℕ) (len_old len_new status : ℕ) → Type 0
-PrintsFound output (Some value) old new len_old len_new status =
-    IfSome (output value) (λ text. Prints text old new len_old len_new status)
-PrintsFound output None old new len_old len_new status = (status ≡ NOTHING) × Kept old new len_old len_new
+-- the text of what is found is printed, if there is any
+abbrev pub PrintsFound : {A : Type 0} → (A → List ℕ) → Option A → (old new : List ℕ)
+    → (len_old len_new status : ℕ) → Type 0
+PrintsFound text (Some value) old new len_old len_new status = Prints (text value) old new len_old len_new status
+PrintsFound text None old new len_old len_new status = (status ≡ NOTHING) × Kept old new len_old len_new
 
--- the next version is printed, or the status says why there is none; memory is never missing in place of an overflow
+-- the next version is printed, or the status says why there is none; memory is never missing in place of an overflow,
+-- and for a version only if it has identifiers
 abbrev pub PrintsResult : Result VersionValue increment.Fault → (old new : List ℕ) (len_old len_new status : ℕ) → Type 0
 PrintsResult (Ok v) old new len_old len_new status = Prints (version_text v) old new len_old len_new status
-PrintsResult (Err fault) old new len_old len_new status =
-    ((status ≡ fault_number fault) ⊎ ((status ≡ NO_MEMORY) × (fault ≢ increment.Overflow))) × Kept old new len_old len_new
+    ⊎ NoMemoryOnlyIf status (Kept old new len_old len_new) (HasIdentifiers v)
+PrintsResult (Err fault) old new len_old len_new status = Kept old new len_old len_new
+    × ((status ≡ fault_number fault) ⊎ ((status ≡ NO_MEMORY) × (fault ≢ increment.Overflow)))
 
 -- the same by a base, if there is one
 abbrev pub PrintsNext : (IdentifierBase → Result VersionValue increment.Fault) → Option IdentifierBase

@@ -10,6 +10,7 @@
 mod choices;
 mod diagnosis;
 mod npm;
+mod pieces;
 mod print;
 mod ranges;
 mod read;

@@ -11,15 +11,13 @@ ghost use Rattle.std.specs.Prelude.{◌≡◌, ◌⊎◌};
 use crate::print::print;
 use crate::{BAD_VERSION, read};
 use nodejs_semver::npm;
-use std::alloc::Global;
 
 /// Prints the version that a whole text is in npm's strict reading: ` v1.2.3 ` as `1.2.3`. What is
 /// printed is the same version to every other function.
 ///
-/// Returns `OK`, `TOO_SMALL`, `NOT_UTF8`, `BAD_VERSION`, `NO_MEMORY` or `TOO_LONG`.
+/// Returns `OK`, `TOO_SMALL`, `NOT_UTF8`, `BAD_VERSION` or `TOO_LONG`.
 #[unsafe(no_mangle)]
 pub extern "C" fn nodejs_semver_npm_version_print(
-    alloc: Global,
     version: &[u8],
     out: &mut [u8],
     len: &mut usize,
@@ -35,7 +33,7 @@ pub extern "C" fn nodejs_semver_npm_version_print(
         Err(status) => return status,
     };
     match npm::version(text) {
-        Ok(version) => print(alloc, &version, out, len),
+        Ok(version) => print(&version, out, len),
         Err(_) => BAD_VERSION,
     }
 }

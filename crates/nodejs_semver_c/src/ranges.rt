@@ -12,7 +12,7 @@ ghost use Rattle.semver_core.specs.Printing.Text.{version_text};
 ghost use Rattle.semver_core.specs.Values.Versions.{VersionValue, is_release};
 ghost use Rattle.semver_core.specs.declared.cuts.bound.Bound.TheVariants.{After};
 ghost use Rattle.std.specs.List.{Any};
-ghost use Rattle.std.specs.Prelude.{◌≡◌, ◌⊎◌, IfSome, Option, Some, false, true};
+ghost use Rattle.std.specs.Prelude.{◌≡◌, ◌⊎◌, IfSome, Option, false, true};
 
 use crate::print::{print, print_found};
 use crate::{NO_MEMORY, OK, read};
@@ -33,7 +33,7 @@ pub extern "C" fn nodejs_semver_range_print(
         (λ r. Prints (range_text r) out.old out.new len.old len.new result) }
 {
     match read::range(alloc, range) {
-        Ok(range) => print(alloc, &range, out, len),
+        Ok(range) => print(&range, out, len),
         Err(status) => status,
     }
 }
@@ -113,14 +113,14 @@ pub extern "C" fn nodejs_semver_range_min_version(
         OnRange range.now result kept (λ r.
         ((found : Option VersionValue) × IsLeastOf (λ v. accepts r v false) found
         × IfSome found (λ v. v.build ≡ least_build r v)
-        × PrintsFound (λ v. Some (version_text v)) found out.old out.new len.old len.new result)
+        × PrintsFound version_text found out.old out.new len.old len.new result)
         ⊎ NoMemoryOnlyIf result kept (((v : VersionValue) × (accepts r v false ≡ true))
         ⊎ Any (λ s. (v : VersionValue) × (s.lower ≡ After v) × (is_release v ≡ false)) r
         ⊎ TakesMemory r)) }
 {
     match read::range(alloc, range) {
         Ok(range) => match range.min_version(alloc) {
-            Ok(found) => print_found(alloc, found, out, len),
+            Ok(found) => print_found(found, out, len),
             Err(_) => NO_MEMORY,
         },
         Err(status) => status,

@@ -10,7 +10,7 @@ use std::alloc::Global;
 
 // How many bytes memory may hold, and how many texts, of 16 bytes each in an array. Rattle counts
 // on this, and a caller in C may pass more.
-const MOST_BYTES: usize = 9_223_372_036_854_775_807;
+pub const MOST_BYTES: usize = 9_223_372_036_854_775_807;
 
 pub const MOST_TEXTS: usize = 576_460_752_303_423_487;
 

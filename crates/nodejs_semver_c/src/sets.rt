@@ -4,7 +4,7 @@ ghost use Rattle.nodejs_semver.specs.Printing.Text.{range_text};
 ghost use Rattle.nodejs_semver.specs.Ranges.Algebra.{covers_one, difference, intersection};
 ghost use Rattle.nodejs_semver_c.specs.Answers.{Kept, NoMemoryOnlyIf, OnRange, PrintsFound};
 ghost use Rattle.nodejs_semver_c.specs.Least.{PrintsBeyond};
-ghost use Rattle.std.specs.Prelude.{◌≡◌, ◌⊎◌, ◌<◌, Some, is_some, length};
+ghost use Rattle.std.specs.Prelude.{◌≡◌, ◌⊎◌, ◌<◌, IsTrue, is_some, length};
 
 use crate::print::print_found;
 use crate::{NO_MEMORY, OK, read};
@@ -24,8 +24,8 @@ pub extern "C" fn nodejs_semver_range_intersect(
 ) -> u32
     ensures { let kept = Kept out.old out.new len.old len.new in
         OnRange range.now result kept (λ r. OnRange other.now result kept (λ s.
-        PrintsFound (λ r. Some (range_text r)) (intersection r s)
-        out.old out.new len.old len.new result)) }
+        PrintsFound range_text (intersection r s) out.old out.new len.old len.new result
+        ⊎ NoMemoryOnlyIf result kept (IsTrue (is_some (intersection r s))))) }
 {
     let range = match read::range(alloc, range) {
         Ok(range) => range,
@@ -36,7 +36,7 @@ pub extern "C" fn nodejs_semver_range_intersect(
         Err(status) => return status,
     };
     match range.intersect(alloc, &other) {
-        Ok(found) => print_found(alloc, found, out, len),
+        Ok(found) => print_found(found, out, len),
         Err(_) => NO_MEMORY,
     }
 }
@@ -54,9 +54,9 @@ pub extern "C" fn nodejs_semver_range_difference(
 ) -> u32
     ensures { let kept = Kept out.old out.new len.old len.new in
         OnRange range.now result kept (λ r. OnRange other.now result kept (λ s.
-        PrintsFound (λ r. Some (range_text r)) (difference r s)
-        out.old out.new len.old len.new result
-        ⊎ NoMemoryOnlyIf result kept (1 < length s))) }
+        PrintsFound range_text (difference r s) out.old out.new len.old len.new result
+        ⊎ NoMemoryOnlyIf result kept
+        (IsTrue (is_some (difference r s)) ⊎ (1 < length s)))) }
 {
     let range = match read::range(alloc, range) {
         Ok(range) => range,
@@ -67,7 +67,7 @@ pub extern "C" fn nodejs_semver_range_difference(
         Err(status) => return status,
     };
     match range.difference(alloc, &other) {
-        Ok(found) => print_found(alloc, found, out, len),
+        Ok(found) => print_found(found, out, len),
         Err(_) => NO_MEMORY,
     }
 }
@@ -109,7 +109,7 @@ fn print_beyond(
     ensures { PrintsBeyond range.now other.now out.old out.new len.old len.new result }
 {
     match range.least_beyond(alloc, other) {
-        Ok(found) => print_found(alloc, found, out, len),
+        Ok(found) => print_found(found, out, len),
         Err(_) => NO_MEMORY,
     }
 }

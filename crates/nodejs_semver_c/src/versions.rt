@@ -36,10 +36,9 @@ pub extern "C" fn nodejs_semver_version_check(version: &[u8]) -> u32
 
 /// Prints the version of a text: `v1.2.3 oops` as `1.2.3`.
 ///
-/// Returns `OK`, `TOO_SMALL`, `NOT_UTF8`, `BAD_VERSION`, `NO_MEMORY` or `TOO_LONG`.
+/// Returns `OK`, `TOO_SMALL`, `NOT_UTF8`, `BAD_VERSION` or `TOO_LONG`.
 #[unsafe(no_mangle)]
 pub extern "C" fn nodejs_semver_version_print(
-    alloc: Global,
     version: &[u8],
     out: &mut [u8],
     len: &mut usize,
@@ -48,7 +47,7 @@ pub extern "C" fn nodejs_semver_version_print(
         (λ v. Prints (version_text v) out.old out.new len.old len.new result) }
 {
     match read::version(version) {
-        Ok(version) => print(alloc, &version, out, len),
+        Ok(version) => print(&version, out, len),
         Err(status) => status,
     }
 }
@@ -180,7 +179,7 @@ fn print_next(
         out.old out.new len.old len.new result }
 {
     match version.inc(alloc, word, Some(identifier), Some(base)) {
-        Ok(next) => print(alloc, &next, out, len),
+        Ok(next) => print(&next, out, len),
         Err(failure) => status_of_failure(&failure),
     }
 }
