@@ -10,7 +10,8 @@ use Rattle.nodejs_semver.specs.Ranges.View.{TakesMemory}
 use Rattle.nodejs_semver_c.specs.Answers.{Kept, NoMemoryOnlyIf, PrintsFound}
 
 -- it is printed, if there is any; or memory is missing where the call may take some
-abbrev pub PrintsBeyond : (r s : List (Span VersionValue)) (old new : List ℕ) (len_old len_new status : ℕ) → Type 0
+abbrev pub PrintsBeyond : (r s : List (Span VersionValue)) (old new : List ℕ)
+    → (len_old len_new status : ℕ) → Type 0
 PrintsBeyond r s old new len_old len_new status =
     ((found : Option VersionValue) × IsLeastOf (beyond r s) found × IfSome found (λ v. v.build ≡ [])
     × PrintsFound version_text found old new len_old len_new status)

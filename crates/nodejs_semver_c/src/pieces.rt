@@ -1,6 +1,7 @@
 // Versions and ranges, put to the front of a buffer piece by piece.
 
-ghost use Rattle.nodejs_semver.specs.Printing.Text.{bounds_text, lower_text, range_text, upper_text};
+ghost use Rattle.nodejs_semver.specs.Printing.Text.{bounds_text, lower_text};
+ghost use Rattle.nodejs_semver.specs.Printing.Text.{range_text, upper_text};
 ghost use Rattle.nodejs_semver_c.specs.Internal.Pieces.{Adds};
 ghost use Rattle.semver_core.specs.Printing.Text.{id_text, marked_list, version_text};
 ghost use Rattle.semver_core.specs.Values.Views.{lent_id_view};

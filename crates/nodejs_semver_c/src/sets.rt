@@ -13,25 +13,28 @@ use std::alloc::Global;
 
 /// Prints what two ranges have in common.
 ///
-/// Returns `OK`, `NOTHING`, `TOO_SMALL`, `NOT_UTF8`, `BAD_RANGE`, `NO_MEMORY` or `TOO_LONG`.
+/// Returns `OK`, `NOTHING`, `TOO_SMALL`, `BAD_ARGUMENT`, `NOT_UTF8`, `BAD_RANGE`, `NO_MEMORY` or
+/// `TOO_LONG`.
 #[unsafe(no_mangle)]
 pub extern "C" fn nodejs_semver_range_intersect(
     alloc: Global,
+    reading: u32,
     range: &[u8],
     other: &[u8],
     out: &mut [u8],
     len: &mut usize,
 ) -> u32
     ensures { let kept = Kept out.old out.new len.old len.new in
-        OnRange range.now result kept (λ r. OnRange other.now result kept (λ s.
+        OnRange reading false range.now result kept (λ r.
+        OnRange reading false other.now result kept (λ s.
         PrintsFound range_text (intersection r s) out.old out.new len.old len.new result
         ⊎ NoMemoryOnlyIf result kept (IsTrue (is_some (intersection r s))))) }
 {
-    let range = match read::range(alloc, range) {
+    let range = match read::range(alloc, reading, false, range) {
         Ok(range) => range,
         Err(status) => return status,
     };
-    let other = match read::range(alloc, other) {
+    let other = match read::range(alloc, reading, false, other) {
         Ok(other) => other,
         Err(status) => return status,
     };
@@ -43,26 +46,29 @@ pub extern "C" fn nodejs_semver_range_intersect(
 
 /// Prints what the first range holds and the second does not.
 ///
-/// Returns `OK`, `NOTHING`, `TOO_SMALL`, `NOT_UTF8`, `BAD_RANGE`, `NO_MEMORY` or `TOO_LONG`.
+/// Returns `OK`, `NOTHING`, `TOO_SMALL`, `BAD_ARGUMENT`, `NOT_UTF8`, `BAD_RANGE`, `NO_MEMORY` or
+/// `TOO_LONG`.
 #[unsafe(no_mangle)]
 pub extern "C" fn nodejs_semver_range_difference(
     alloc: Global,
+    reading: u32,
     range: &[u8],
     other: &[u8],
     out: &mut [u8],
     len: &mut usize,
 ) -> u32
     ensures { let kept = Kept out.old out.new len.old len.new in
-        OnRange range.now result kept (λ r. OnRange other.now result kept (λ s.
+        OnRange reading false range.now result kept (λ r.
+        OnRange reading false other.now result kept (λ s.
         PrintsFound range_text (difference r s) out.old out.new len.old len.new result
         ⊎ NoMemoryOnlyIf result kept
         (IsTrue (is_some (difference r s)) ⊎ (1 < length s)))) }
 {
-    let range = match read::range(alloc, range) {
+    let range = match read::range(alloc, reading, false, range) {
         Ok(range) => range,
         Err(status) => return status,
     };
-    let other = match read::range(alloc, other) {
+    let other = match read::range(alloc, reading, false, other) {
         Ok(other) => other,
         Err(status) => return status,
     };
@@ -75,24 +81,27 @@ pub extern "C" fn nodejs_semver_range_difference(
 /// Prints the smallest version that the first range accepts and the second does not. There is none
 /// exactly if the first range is a subset of the second.
 ///
-/// Returns `OK`, `NOTHING`, `TOO_SMALL`, `NOT_UTF8`, `BAD_RANGE`, `NO_MEMORY` or `TOO_LONG`.
+/// Returns `OK`, `NOTHING`, `TOO_SMALL`, `BAD_ARGUMENT`, `NOT_UTF8`, `BAD_RANGE`, `NO_MEMORY` or
+/// `TOO_LONG`.
 #[unsafe(no_mangle)]
 pub extern "C" fn nodejs_semver_range_least_beyond(
     alloc: Global,
+    reading: u32,
     range: &[u8],
     other: &[u8],
     out: &mut [u8],
     len: &mut usize,
 ) -> u32
     ensures { let kept = Kept out.old out.new len.old len.new in
-        OnRange range.now result kept (λ r. OnRange other.now result kept (λ s.
+        OnRange reading false range.now result kept (λ r.
+        OnRange reading false other.now result kept (λ s.
         PrintsBeyond r s out.old out.new len.old len.new result)) }
 {
-    let range = match read::range(alloc, range) {
+    let range = match read::range(alloc, reading, false, range) {
         Ok(range) => range,
         Err(status) => return status,
     };
-    let other = match read::range(alloc, other) {
+    let other = match read::range(alloc, reading, false, other) {
         Ok(other) => other,
         Err(status) => return status,
     };
@@ -117,23 +126,25 @@ fn print_beyond(
 /// Whether some one interval of the first range covers some one interval of the second. This is not
 /// a subset test.
 ///
-/// Returns `OK`, `NOT_UTF8`, `BAD_RANGE`, `NO_MEMORY` or `TOO_LONG`.
+/// Returns `OK`, `BAD_ARGUMENT`, `NOT_UTF8`, `BAD_RANGE`, `NO_MEMORY` or `TOO_LONG`.
 #[unsafe(no_mangle)]
 pub extern "C" fn nodejs_semver_range_allows_all(
     alloc: Global,
+    reading: u32,
     range: &[u8],
     other: &[u8],
     answer: &mut bool,
 ) -> u32
     ensures { let kept = answer.new ≡ answer.old in
-        OnRange range.now result kept (λ r. OnRange other.now result kept (λ s.
+        OnRange reading false range.now result kept (λ r.
+        OnRange reading false other.now result kept (λ s.
         (result ≡ OK) × (answer.new ≡ covers_one r s))) }
 {
-    let range = match read::range(alloc, range) {
+    let range = match read::range(alloc, reading, false, range) {
         Ok(range) => range,
         Err(status) => return status,
     };
-    let other = match read::range(alloc, other) {
+    let other = match read::range(alloc, reading, false, other) {
         Ok(other) => other,
         Err(status) => return status,
     };
@@ -143,23 +154,25 @@ pub extern "C" fn nodejs_semver_range_allows_all(
 
 /// Whether two ranges have something in common.
 ///
-/// Returns `OK`, `NOT_UTF8`, `BAD_RANGE`, `NO_MEMORY` or `TOO_LONG`.
+/// Returns `OK`, `BAD_ARGUMENT`, `NOT_UTF8`, `BAD_RANGE`, `NO_MEMORY` or `TOO_LONG`.
 #[unsafe(no_mangle)]
 pub extern "C" fn nodejs_semver_range_allows_any(
     alloc: Global,
+    reading: u32,
     range: &[u8],
     other: &[u8],
     answer: &mut bool,
 ) -> u32
     ensures { let kept = answer.new ≡ answer.old in
-        OnRange range.now result kept (λ r. OnRange other.now result kept (λ s.
+        OnRange reading false range.now result kept (λ r.
+        OnRange reading false other.now result kept (λ s.
         (result ≡ OK) × (answer.new ≡ is_some (intersection r s)))) }
 {
-    let range = match read::range(alloc, range) {
+    let range = match read::range(alloc, reading, false, range) {
         Ok(range) => range,
         Err(status) => return status,
     };
-    let other = match read::range(alloc, other) {
+    let other = match read::range(alloc, reading, false, other) {
         Ok(other) => other,
         Err(status) => return status,
     };
