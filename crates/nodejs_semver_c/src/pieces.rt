@@ -4,9 +4,10 @@ ghost use Rattle.nodejs_semver.specs.Printing.Text.{bounds_text, lower_text};
 ghost use Rattle.nodejs_semver.specs.Printing.Text.{range_text, upper_text};
 ghost use Rattle.nodejs_semver_c.specs.Internal.Pieces.{Adds};
 ghost use Rattle.semver_core.specs.Printing.Text.{id_text, marked_list, version_text};
+ghost use Rattle.semver_core.specs.Values.Order.{version_eq};
 ghost use Rattle.semver_core.specs.Values.Views.{lent_id_view};
 ghost use Rattle.std.specs.Fmt.{decimal};
-ghost use Rattle.std.specs.Prelude.{◌++◌};
+ghost use Rattle.std.specs.Prelude.{◌≡◌, ◌++◌};
 
 use itoa::Buffer;
 use nodejs_semver::cuts::{Bound, Interval};
@@ -96,6 +97,12 @@ fn put_upper(bound: &Bound<VersionRef<'_>>, out: &mut [u8], len: &mut usize)
     }
 }
 
+fn are_equal(v: &VersionRef<'_>, w: &VersionRef<'_>) -> bool
+    ensures { result ≡ version_eq v.now w.now }
+{
+    v == w
+}
+
 // An interval: its bounds, or one version where they are `>=v` and `<=w` and v equals w.
 fn put_interval(interval: &Interval<VersionRef<'_>>, out: &mut [u8], len: &mut usize)
     ensures { Adds (bounds_text interval.now.lower interval.now.upper)
@@ -106,7 +113,7 @@ fn put_interval(interval: &Interval<VersionRef<'_>>, out: &mut [u8], len: &mut u
         (Bound::Unbounded, Bound::Unbounded) => put("*", out, len),
         (Bound::Unbounded, _) => put_upper(upper, out, len),
         (_, Bound::Unbounded) => put_lower(lower, out, len),
-        (Bound::Before(v), Bound::After(w)) if v == w => put_version(v, out, len),
+        (Bound::Before(v), Bound::After(w)) if are_equal(v, w) => put_version(v, out, len),
         (_, _) => {
             put_lower(lower, out, len);
             put(" ", out, len);

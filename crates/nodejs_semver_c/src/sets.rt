@@ -4,7 +4,7 @@ ghost use Rattle.nodejs_semver.specs.Printing.Text.{range_text};
 ghost use Rattle.nodejs_semver.specs.Ranges.Algebra.{covers_one, difference, intersection};
 ghost use Rattle.nodejs_semver_c.specs.Answers.{Kept, NoMemoryOnlyIf, OnRange, PrintsFound};
 ghost use Rattle.nodejs_semver_c.specs.Least.{PrintsBeyond};
-ghost use Rattle.std.specs.Prelude.{◌≡◌, ◌⊎◌, ◌<◌, IsTrue, is_some, length};
+ghost use Rattle.std.specs.Prelude.{◌≡◌, ◌⊎◌, ◌<◌, IsTrue, false, is_some, length};
 
 use crate::print::print_found;
 use crate::{NO_MEMORY, OK, read};

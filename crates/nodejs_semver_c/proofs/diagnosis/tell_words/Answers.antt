@@ -7,6 +7,6 @@ words-preserved c =
       front ++ c.in-Some.word ∷ [],
       (
         split ∙ (ap (λ l. front ++ l) c.in-Some.ensures.steps ∙ sym (append_assoc front (c.in-Some.word ∷ []) c.next.new.self)),
-        (c.tell_word.ensures front _ counted told, grind (arith, counted, c.saturating_add.ensures, length-append)),
+        (c.tell_word.ensures front _ counted told, grind (arith, counted, c.saturating_add-count.ensures, length-append)),
       ),
     )

@@ -7,10 +7,10 @@ use Rattle.nodejs_semver_c.proofs.sort.read_all.Goals as goal
 pub versions-init : goal.versions-init
 versions-init c = ([], (refl, (tt, (c.requires, refl))))
 
-pub returns-in-Err : goal.returns-in-Err
-returns-in-Err c =
+pub returns-in-Err-clause-refused : goal.returns-in-Err-clause-refused
+returns-in-Err-clause-refused c =
     let (vs, (counted, (read, (all, kept)))) = c.versions.invariant in
-    inl (refused_at _ _ _ _ _ vs c.versions-test.true read c.in-Err.ensures.refused)
+    inl (refused_at c.args.reading _ _ _ _ vs c.versions-test.true read c.in-Err.ensures.refused)
 
 pub versions-preserved : goal.versions-preserved
 versions-preserved c =
@@ -25,7 +25,7 @@ versions-preserved c =
       ),
     )
 
-pub returns : goal.returns
-returns c =
+pub returns-clause-ok : goal.returns-clause-ok
+returns-clause-ok c =
     let (vs, (counted, (read, (all, kept)))) = c.versions.invariant in
     (kept, (vs, rw (take_all c.versions.at c.args.versions.now c.versions-test.false) at read, all))
