@@ -114,7 +114,7 @@ loop-bars limit text found new rest left next s bars r =
 pub common_so : (P : List (Span VersionValue) → Type 0) (limit : ℕ) (text : List ℕ) (list : List (Span VersionValue))
     → IsCommonRange limit text list → IsSomeAnd (if_any list) P
     → (r : List (Span VersionValue)) × IsCommonRange limit text r × P r
-common_so P limit text [] is h = absurd (omega (arith, list-some limit text [] is.parts))
+common_so P limit text [] is h = absurd (omega (arith, list-some limit text [] is.0))
 common_so P limit text (s ∷ list) is h = (s ∷ list, is, h)
 
 pub loop-goes : (limit : ℕ) (text : List ℕ) (found new : List (Span VersionValue)) (rest left next : List ℕ)
