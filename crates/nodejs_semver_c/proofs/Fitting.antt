@@ -20,5 +20,16 @@ fitted_more f front x old now at d counted lt short told =
     let same : length now ≡ length old = rw told (fitted_length f front old) in
     let place : at ≡ length front = grind (arith, counted, lt, short) in
     let le : length (front ++ x ∷ []) ≤ length old = omega (arith, length-append front (x ∷ []), place, lt, same) in
-    grind (arith, told, place, fitted_whole f front old, fitted_whole f (front ++ x ∷ []) old le, map-append, length-append,
-        filled (map f front) old (f x) d at, length-map, lt, same)
+    grind (
+      arith,
+      told,
+      place,
+      fitted_whole f front old,
+      fitted_whole f (front ++ x ∷ []) old le,
+      map-append,
+      length-append,
+      filled (map f front) old (f x) d at,
+      length-map,
+      lt,
+      same,
+    )

@@ -11,5 +11,9 @@ tell_places-requires c =
 pub returns-in-Ok : goal.returns-in-Ok
 returns-in-Ok c =
     let (kept, (vs, read, all)) = c.in-Ok.ensures.ok in
-    inr (inr (inr (inr (refl, kept, tells_order c.args.reading _ vs _ _ _ _ read all c.sort_unstable.ensures.permutation
-        c.sort_unstable.ensures.sorted (rw c.as_slice.ensures.value at c.tell_places.ensures)))))
+    inr (inr (inr (inr (
+      refl,
+      kept,
+      tells_order c.args.reading _ vs _ _ _ _ read all c.sort_unstable.ensures.permutation
+          c.sort_unstable.ensures.sorted (rw c.as_slice.ensures.value at c.tell_places.ensures),
+    ))))
