@@ -38,9 +38,9 @@ static long ask(bool is_cmp, const pair *pairs, size_t count)
         int32_t order = 0;
         bool answer = false;
         if (is_cmp)
-            nodejs_semver_version_compare(it.one.at, it.one.len, it.other.at, it.other.len, &order);
+            nodejs_semver_version_compare(NODEJS_SEMVER_READING_PORT, it.one.at, it.one.len, it.other.at, it.other.len, &order);
         else
-            nodejs_semver_range_satisfies(it.one.at, it.one.len, it.other.at, it.other.len, false, &answer);
+            nodejs_semver_range_satisfies(NODEJS_SEMVER_READING_PORT, it.one.at, it.one.len, it.other.at, it.other.len, false, &answer);
         sum += order + answer;
     }
     return sum;
@@ -51,7 +51,7 @@ static long ask_many(const pair *pairs, const nodejs_semver_text *versions, size
     long sum = 0;
     uint8_t answers[MANY];
     for (size_t at = 0; at + MANY <= count; at += MANY) {
-        nodejs_semver_range_satisfies_each(pairs[at].one.at, pairs[at].one.len, versions + at, MANY, false, answers, MANY);
+        nodejs_semver_range_satisfies_each(NODEJS_SEMVER_READING_PORT, pairs[at].one.at, pairs[at].one.len, versions + at, MANY, false, answers, MANY);
         for (size_t it = 0; it < MANY; it++)
             sum += answers[it] == NODEJS_SEMVER_ANSWER_YES;
     }

@@ -7,6 +7,8 @@
  * A text is a pointer to bytes in UTF-8 and their number; no byte 0 ends it, and the pointer is not NULL unless the number is 0. It is
  * only read. Nothing is kept between two calls, so nothing has to be freed, and any thread may call at any time.
  *
+ * `reading` says how all texts of a call are read: NODEJS_SEMVER_READING_PORT or NODEJS_SEMVER_READING_NPM.
+ *
  * A text that is answered goes to the front of `out`, a buffer of the caller of `out_size` bytes, with no byte 0 behind it, and its
  * length to `len`. If the buffer is too small, the status is NODEJS_SEMVER_TOO_SMALL, `len` is the length that is needed, and the
  * buffer is unchanged. With every other status nothing is written, unless the function says otherwise.
@@ -47,7 +49,10 @@ enum {
     NODEJS_SEMVER_BAD_VERSION = 4,
     /* A text is no range. */
     NODEJS_SEMVER_BAD_RANGE = 5,
-    /* The word or the base of an increment is unknown, or there is nothing to put into a pre-release. */
+    /*
+     * The reading, or the word or the base of an increment, is unknown, or there is nothing to put into a
+     * pre-release.
+     */
     NODEJS_SEMVER_BAD_ARGUMENT = 6,
     /* The identifier of an increment is not identifiers joined by dots. */
     NODEJS_SEMVER_BAD_IDENTIFIER = 7,
@@ -59,6 +64,20 @@ enum {
     NODEJS_SEMVER_NO_MEMORY = 10,
     /* A text, or an array of texts, has more bytes than there is room for in memory: 2^63 or more. */
     NODEJS_SEMVER_TOO_LONG = 11
+};
+
+/* How the texts of a call are read. */
+enum {
+    /*
+     * The port's own reading: the front of a text that is a version, and the words of a range that it knows. What
+     * is no such word is ignored.
+     */
+    NODEJS_SEMVER_READING_PORT = 0,
+    /*
+     * npm's strict reading: whole texts, and no others. Pre-releases are not included in a range, unless the
+     * function has a flag that says so.
+     */
+    NODEJS_SEMVER_READING_NPM = 1
 };
 
 /* What a new pre-release list begins to count with. */
@@ -123,34 +142,44 @@ enum {
     NODEJS_SEMVER_ANSWER_NO_VERSION = 2
 };
 
+/* An ignored word of a range text. */
+typedef struct {
+    /* The place of its first byte. */
+    size_t start;
+    /* The place behind its last byte. */
+    size_t end;
+    /* NODEJS_SEMVER_WORD_MALFORMED or NODEJS_SEMVER_WORD_WITHOUT_BOUNDS. */
+    uint32_t kind;
+} nodejs_semver_word;
+
 /*
  * Which of some versions is the greatest that a range accepts: `index` gets its place. Where a text is no version,
  * `index` gets the place of the first such text.
  *
- * Returns NODEJS_SEMVER_OK, NODEJS_SEMVER_NOTHING, NODEJS_SEMVER_NOT_UTF8, NODEJS_SEMVER_BAD_RANGE,
- * NODEJS_SEMVER_BAD_VERSION, NODEJS_SEMVER_NO_MEMORY or NODEJS_SEMVER_TOO_LONG.
+ * Returns NODEJS_SEMVER_OK, NODEJS_SEMVER_NOTHING, NODEJS_SEMVER_BAD_ARGUMENT, NODEJS_SEMVER_NOT_UTF8,
+ * NODEJS_SEMVER_BAD_RANGE, NODEJS_SEMVER_BAD_VERSION, NODEJS_SEMVER_NO_MEMORY or NODEJS_SEMVER_TOO_LONG.
  */
-nodejs_semver_status nodejs_semver_range_max_satisfying(const char *range, size_t range_len,
+nodejs_semver_status nodejs_semver_range_max_satisfying(uint32_t reading, const char *range, size_t range_len,
     const nodejs_semver_text *versions, size_t versions_len, size_t *index);
 
 /*
  * Which of some versions is the smallest that a range accepts: `index` gets its place. Where a text is no version,
  * `index` gets the place of the first such text.
  *
- * Returns NODEJS_SEMVER_OK, NODEJS_SEMVER_NOTHING, NODEJS_SEMVER_NOT_UTF8, NODEJS_SEMVER_BAD_RANGE,
- * NODEJS_SEMVER_BAD_VERSION, NODEJS_SEMVER_NO_MEMORY or NODEJS_SEMVER_TOO_LONG.
+ * Returns NODEJS_SEMVER_OK, NODEJS_SEMVER_NOTHING, NODEJS_SEMVER_BAD_ARGUMENT, NODEJS_SEMVER_NOT_UTF8,
+ * NODEJS_SEMVER_BAD_RANGE, NODEJS_SEMVER_BAD_VERSION, NODEJS_SEMVER_NO_MEMORY or NODEJS_SEMVER_TOO_LONG.
  */
-nodejs_semver_status nodejs_semver_range_min_satisfying(const char *range, size_t range_len,
+nodejs_semver_status nodejs_semver_range_min_satisfying(uint32_t reading, const char *range, size_t range_len,
     const nodejs_semver_text *versions, size_t versions_len, size_t *index);
 
 /*
  * Which of some versions a range accepts: `answers` gets one of NODEJS_SEMVER_ANSWER_NO, NODEJS_SEMVER_ANSWER_YES
  * and NODEJS_SEMVER_ANSWER_NO_VERSION for each. If it has room for fewer, nothing is written.
  *
- * Returns NODEJS_SEMVER_OK, NODEJS_SEMVER_TOO_SMALL, NODEJS_SEMVER_NOT_UTF8, NODEJS_SEMVER_BAD_RANGE,
- * NODEJS_SEMVER_NO_MEMORY or NODEJS_SEMVER_TOO_LONG.
+ * Returns NODEJS_SEMVER_OK, NODEJS_SEMVER_TOO_SMALL, NODEJS_SEMVER_BAD_ARGUMENT, NODEJS_SEMVER_NOT_UTF8,
+ * NODEJS_SEMVER_BAD_RANGE, NODEJS_SEMVER_NO_MEMORY or NODEJS_SEMVER_TOO_LONG.
  */
-nodejs_semver_status nodejs_semver_range_satisfies_each(const char *range, size_t range_len,
+nodejs_semver_status nodejs_semver_range_satisfies_each(uint32_t reading, const char *range, size_t range_len,
     const nodejs_semver_text *versions, size_t versions_len, bool include_prerelease, uint8_t *answers,
     size_t answers_size);
 
@@ -164,141 +193,144 @@ nodejs_semver_status nodejs_semver_version_flaw(const char *version, size_t vers
     size_t *place);
 
 /*
- * The ignored word of a range text that has this number, counted from 0: `start` gets the place of its first byte,
- * `end` that behind its last one, and `kind` one of NODEJS_SEMVER_WORD_MALFORMED and
- * NODEJS_SEMVER_WORD_WITHOUT_BOUNDS. There is nothing where the text has no so many ignored words.
+ * The words of a range text that the port's reading ignores: `words` gets as many, from the left, as it has room
+ * for, and `len` their number.
  *
- * Returns NODEJS_SEMVER_OK, NODEJS_SEMVER_NOTHING, NODEJS_SEMVER_NOT_UTF8 or NODEJS_SEMVER_TOO_LONG.
+ * Returns NODEJS_SEMVER_OK, NODEJS_SEMVER_TOO_SMALL, NODEJS_SEMVER_NOT_UTF8 or NODEJS_SEMVER_TOO_LONG.
  */
-nodejs_semver_status nodejs_semver_range_ignored_word(const char *range, size_t range_len, size_t number,
-    size_t *start, size_t *end, uint32_t *kind);
-
-/*
- * Prints the version that a whole text is in npm's strict reading: ` v1.2.3 ` as `1.2.3`. What is printed is the
- * same version to every other function.
- *
- * Returns NODEJS_SEMVER_OK, NODEJS_SEMVER_TOO_SMALL, NODEJS_SEMVER_NOT_UTF8, NODEJS_SEMVER_BAD_VERSION,
- * NODEJS_SEMVER_NO_MEMORY or NODEJS_SEMVER_TOO_LONG.
- */
-nodejs_semver_status nodejs_semver_npm_version_print(const char *version, size_t version_len, char *out,
-    size_t out_size, size_t *len);
+nodejs_semver_status nodejs_semver_range_ignored_words(const char *range, size_t range_len,
+    nodejs_semver_word *words, size_t words_size, size_t *len);
 
 /*
  * Prints the range of a text in its normal form: `^1.2` as `>=1.2.0 <2.0.0-0`.
  *
- * Returns NODEJS_SEMVER_OK, NODEJS_SEMVER_TOO_SMALL, NODEJS_SEMVER_NOT_UTF8, NODEJS_SEMVER_BAD_RANGE,
- * NODEJS_SEMVER_NO_MEMORY or NODEJS_SEMVER_TOO_LONG.
+ * Returns NODEJS_SEMVER_OK, NODEJS_SEMVER_TOO_SMALL, NODEJS_SEMVER_BAD_ARGUMENT, NODEJS_SEMVER_NOT_UTF8,
+ * NODEJS_SEMVER_BAD_RANGE, NODEJS_SEMVER_NO_MEMORY or NODEJS_SEMVER_TOO_LONG.
  */
-nodejs_semver_status nodejs_semver_range_print(const char *range, size_t range_len, char *out, size_t out_size,
-    size_t *len);
+nodejs_semver_status nodejs_semver_range_print(uint32_t reading, const char *range, size_t range_len, char *out,
+    size_t out_size, size_t *len);
 
 /*
  * Whether a range accepts a version. A pre-release is accepted only where a bound names one of the same three
  * numbers, unless pre-releases are included.
  *
- * Returns NODEJS_SEMVER_OK, NODEJS_SEMVER_NOT_UTF8, NODEJS_SEMVER_BAD_RANGE, NODEJS_SEMVER_BAD_VERSION,
- * NODEJS_SEMVER_NO_MEMORY or NODEJS_SEMVER_TOO_LONG.
+ * Returns NODEJS_SEMVER_OK, NODEJS_SEMVER_BAD_ARGUMENT, NODEJS_SEMVER_NOT_UTF8, NODEJS_SEMVER_BAD_RANGE,
+ * NODEJS_SEMVER_BAD_VERSION, NODEJS_SEMVER_NO_MEMORY or NODEJS_SEMVER_TOO_LONG.
  */
-nodejs_semver_status nodejs_semver_range_satisfies(const char *range, size_t range_len, const char *version,
-    size_t version_len, bool include_prerelease, bool *answer);
+nodejs_semver_status nodejs_semver_range_satisfies(uint32_t reading, const char *range, size_t range_len,
+    const char *version, size_t version_len, bool include_prerelease, bool *answer);
 
 /*
  * Whether a version lies above a range, or below it where `above` is false: the range does not accept it, and every
  * interval of the range lies on the other side.
  *
- * Returns NODEJS_SEMVER_OK, NODEJS_SEMVER_NOT_UTF8, NODEJS_SEMVER_BAD_RANGE, NODEJS_SEMVER_BAD_VERSION,
- * NODEJS_SEMVER_NO_MEMORY or NODEJS_SEMVER_TOO_LONG.
+ * Returns NODEJS_SEMVER_OK, NODEJS_SEMVER_BAD_ARGUMENT, NODEJS_SEMVER_NOT_UTF8, NODEJS_SEMVER_BAD_RANGE,
+ * NODEJS_SEMVER_BAD_VERSION, NODEJS_SEMVER_NO_MEMORY or NODEJS_SEMVER_TOO_LONG.
  */
-nodejs_semver_status nodejs_semver_range_outside(const char *range, size_t range_len, const char *version,
-    size_t version_len, bool above, bool include_prerelease, bool *answer);
+nodejs_semver_status nodejs_semver_range_outside(uint32_t reading, const char *range, size_t range_len,
+    const char *version, size_t version_len, bool above, bool include_prerelease, bool *answer);
 
 /*
  * Prints the smallest version that a range accepts.
  *
- * Returns NODEJS_SEMVER_OK, NODEJS_SEMVER_NOTHING, NODEJS_SEMVER_TOO_SMALL, NODEJS_SEMVER_NOT_UTF8,
- * NODEJS_SEMVER_BAD_RANGE, NODEJS_SEMVER_NO_MEMORY or NODEJS_SEMVER_TOO_LONG.
+ * Returns NODEJS_SEMVER_OK, NODEJS_SEMVER_NOTHING, NODEJS_SEMVER_TOO_SMALL, NODEJS_SEMVER_BAD_ARGUMENT,
+ * NODEJS_SEMVER_NOT_UTF8, NODEJS_SEMVER_BAD_RANGE, NODEJS_SEMVER_NO_MEMORY or NODEJS_SEMVER_TOO_LONG.
  */
-nodejs_semver_status nodejs_semver_range_min_version(const char *range, size_t range_len, char *out,
-    size_t out_size, size_t *len);
+nodejs_semver_status nodejs_semver_range_min_version(uint32_t reading, const char *range, size_t range_len,
+    char *out, size_t out_size, size_t *len);
 
 /*
  * Prints what two ranges have in common.
  *
- * Returns NODEJS_SEMVER_OK, NODEJS_SEMVER_NOTHING, NODEJS_SEMVER_TOO_SMALL, NODEJS_SEMVER_NOT_UTF8,
- * NODEJS_SEMVER_BAD_RANGE, NODEJS_SEMVER_NO_MEMORY or NODEJS_SEMVER_TOO_LONG.
+ * Returns NODEJS_SEMVER_OK, NODEJS_SEMVER_NOTHING, NODEJS_SEMVER_TOO_SMALL, NODEJS_SEMVER_BAD_ARGUMENT,
+ * NODEJS_SEMVER_NOT_UTF8, NODEJS_SEMVER_BAD_RANGE, NODEJS_SEMVER_NO_MEMORY or NODEJS_SEMVER_TOO_LONG.
  */
-nodejs_semver_status nodejs_semver_range_intersect(const char *range, size_t range_len, const char *other,
-    size_t other_len, char *out, size_t out_size, size_t *len);
+nodejs_semver_status nodejs_semver_range_intersect(uint32_t reading, const char *range, size_t range_len,
+    const char *other, size_t other_len, char *out, size_t out_size, size_t *len);
 
 /*
  * Prints what the first range holds and the second does not.
  *
- * Returns NODEJS_SEMVER_OK, NODEJS_SEMVER_NOTHING, NODEJS_SEMVER_TOO_SMALL, NODEJS_SEMVER_NOT_UTF8,
- * NODEJS_SEMVER_BAD_RANGE, NODEJS_SEMVER_NO_MEMORY or NODEJS_SEMVER_TOO_LONG.
+ * Returns NODEJS_SEMVER_OK, NODEJS_SEMVER_NOTHING, NODEJS_SEMVER_TOO_SMALL, NODEJS_SEMVER_BAD_ARGUMENT,
+ * NODEJS_SEMVER_NOT_UTF8, NODEJS_SEMVER_BAD_RANGE, NODEJS_SEMVER_NO_MEMORY or NODEJS_SEMVER_TOO_LONG.
  */
-nodejs_semver_status nodejs_semver_range_difference(const char *range, size_t range_len, const char *other,
-    size_t other_len, char *out, size_t out_size, size_t *len);
+nodejs_semver_status nodejs_semver_range_difference(uint32_t reading, const char *range, size_t range_len,
+    const char *other, size_t other_len, char *out, size_t out_size, size_t *len);
 
 /*
  * Prints the smallest version that the first range accepts and the second does not. There is none exactly if the
  * first range is a subset of the second.
  *
- * Returns NODEJS_SEMVER_OK, NODEJS_SEMVER_NOTHING, NODEJS_SEMVER_TOO_SMALL, NODEJS_SEMVER_NOT_UTF8,
- * NODEJS_SEMVER_BAD_RANGE, NODEJS_SEMVER_NO_MEMORY or NODEJS_SEMVER_TOO_LONG.
+ * Returns NODEJS_SEMVER_OK, NODEJS_SEMVER_NOTHING, NODEJS_SEMVER_TOO_SMALL, NODEJS_SEMVER_BAD_ARGUMENT,
+ * NODEJS_SEMVER_NOT_UTF8, NODEJS_SEMVER_BAD_RANGE, NODEJS_SEMVER_NO_MEMORY or NODEJS_SEMVER_TOO_LONG.
  */
-nodejs_semver_status nodejs_semver_range_least_beyond(const char *range, size_t range_len, const char *other,
-    size_t other_len, char *out, size_t out_size, size_t *len);
+nodejs_semver_status nodejs_semver_range_least_beyond(uint32_t reading, const char *range, size_t range_len,
+    const char *other, size_t other_len, char *out, size_t out_size, size_t *len);
 
 /*
  * Whether some one interval of the first range covers some one interval of the second. This is not a subset test.
  *
- * Returns NODEJS_SEMVER_OK, NODEJS_SEMVER_NOT_UTF8, NODEJS_SEMVER_BAD_RANGE, NODEJS_SEMVER_NO_MEMORY or
- * NODEJS_SEMVER_TOO_LONG.
+ * Returns NODEJS_SEMVER_OK, NODEJS_SEMVER_BAD_ARGUMENT, NODEJS_SEMVER_NOT_UTF8, NODEJS_SEMVER_BAD_RANGE,
+ * NODEJS_SEMVER_NO_MEMORY or NODEJS_SEMVER_TOO_LONG.
  */
-nodejs_semver_status nodejs_semver_range_allows_all(const char *range, size_t range_len, const char *other,
-    size_t other_len, bool *answer);
+nodejs_semver_status nodejs_semver_range_allows_all(uint32_t reading, const char *range, size_t range_len,
+    const char *other, size_t other_len, bool *answer);
 
 /*
  * Whether two ranges have something in common.
  *
- * Returns NODEJS_SEMVER_OK, NODEJS_SEMVER_NOT_UTF8, NODEJS_SEMVER_BAD_RANGE, NODEJS_SEMVER_NO_MEMORY or
- * NODEJS_SEMVER_TOO_LONG.
+ * Returns NODEJS_SEMVER_OK, NODEJS_SEMVER_BAD_ARGUMENT, NODEJS_SEMVER_NOT_UTF8, NODEJS_SEMVER_BAD_RANGE,
+ * NODEJS_SEMVER_NO_MEMORY or NODEJS_SEMVER_TOO_LONG.
  */
-nodejs_semver_status nodejs_semver_range_allows_any(const char *range, size_t range_len, const char *other,
-    size_t other_len, bool *answer);
+nodejs_semver_status nodejs_semver_range_allows_any(uint32_t reading, const char *range, size_t range_len,
+    const char *other, size_t other_len, bool *answer);
+
+/*
+ * The order of some versions, ascending by precedence, equal ones as they stand: `order` gets their places. If it
+ * has room for fewer, nothing is written. Where a text is no version, `index` gets the place of the first such
+ * text.
+ *
+ * Returns NODEJS_SEMVER_OK, NODEJS_SEMVER_TOO_SMALL, NODEJS_SEMVER_BAD_ARGUMENT, NODEJS_SEMVER_NOT_UTF8,
+ * NODEJS_SEMVER_BAD_VERSION, NODEJS_SEMVER_NO_MEMORY or NODEJS_SEMVER_TOO_LONG.
+ */
+nodejs_semver_status nodejs_semver_versions_sort(uint32_t reading, const nodejs_semver_text *versions,
+    size_t versions_len, size_t *order, size_t order_size, size_t *index);
 
 /*
  * Whether a text is a version, as npm's loose grammar has it: the status is NODEJS_SEMVER_OK or says why not.
  *
- * Returns NODEJS_SEMVER_OK, NODEJS_SEMVER_NOT_UTF8, NODEJS_SEMVER_BAD_VERSION or NODEJS_SEMVER_TOO_LONG.
+ * Returns NODEJS_SEMVER_OK, NODEJS_SEMVER_BAD_ARGUMENT, NODEJS_SEMVER_NOT_UTF8, NODEJS_SEMVER_BAD_VERSION or
+ * NODEJS_SEMVER_TOO_LONG.
  */
-nodejs_semver_status nodejs_semver_version_check(const char *version, size_t version_len);
+nodejs_semver_status nodejs_semver_version_check(uint32_t reading, const char *version, size_t version_len);
 
 /*
  * Prints the version of a text: `v1.2.3 oops` as `1.2.3`.
  *
- * Returns NODEJS_SEMVER_OK, NODEJS_SEMVER_TOO_SMALL, NODEJS_SEMVER_NOT_UTF8, NODEJS_SEMVER_BAD_VERSION,
- * NODEJS_SEMVER_NO_MEMORY or NODEJS_SEMVER_TOO_LONG.
+ * Returns NODEJS_SEMVER_OK, NODEJS_SEMVER_TOO_SMALL, NODEJS_SEMVER_BAD_ARGUMENT, NODEJS_SEMVER_NOT_UTF8,
+ * NODEJS_SEMVER_BAD_VERSION or NODEJS_SEMVER_TOO_LONG.
  */
-nodejs_semver_status nodejs_semver_version_print(const char *version, size_t version_len, char *out,
-    size_t out_size, size_t *len);
+nodejs_semver_status nodejs_semver_version_print(uint32_t reading, const char *version, size_t version_len,
+    char *out, size_t out_size, size_t *len);
 
 /*
  * How the first version compares to the second: `order` gets -1, 0 or 1. Build metadata does not count.
  *
- * Returns NODEJS_SEMVER_OK, NODEJS_SEMVER_NOT_UTF8, NODEJS_SEMVER_BAD_VERSION or NODEJS_SEMVER_TOO_LONG.
+ * Returns NODEJS_SEMVER_OK, NODEJS_SEMVER_BAD_ARGUMENT, NODEJS_SEMVER_NOT_UTF8, NODEJS_SEMVER_BAD_VERSION or
+ * NODEJS_SEMVER_TOO_LONG.
  */
-nodejs_semver_status nodejs_semver_version_compare(const char *version, size_t version_len, const char *other,
-    size_t other_len, int32_t *order);
+nodejs_semver_status nodejs_semver_version_compare(uint32_t reading, const char *version, size_t version_len,
+    const char *other, size_t other_len, int32_t *order);
 
 /*
  * The kind of difference between two versions: `kind` gets one of NODEJS_SEMVER_KIND_NONE to
  * NODEJS_SEMVER_KIND_PRERELEASE.
  *
- * Returns NODEJS_SEMVER_OK, NODEJS_SEMVER_NOT_UTF8, NODEJS_SEMVER_BAD_VERSION or NODEJS_SEMVER_TOO_LONG.
+ * Returns NODEJS_SEMVER_OK, NODEJS_SEMVER_BAD_ARGUMENT, NODEJS_SEMVER_NOT_UTF8, NODEJS_SEMVER_BAD_VERSION or
+ * NODEJS_SEMVER_TOO_LONG.
  */
-nodejs_semver_status nodejs_semver_version_diff(const char *version, size_t version_len, const char *other,
-    size_t other_len, uint32_t *kind);
+nodejs_semver_status nodejs_semver_version_diff(uint32_t reading, const char *version, size_t version_len,
+    const char *other, size_t other_len, uint32_t *kind);
 
 /*
  * Prints the next version by a word, as `minor` or `prerelease`. An empty identifier is none. The base, one of
@@ -309,9 +341,9 @@ nodejs_semver_status nodejs_semver_version_diff(const char *version, size_t vers
  * NODEJS_SEMVER_BAD_ARGUMENT, NODEJS_SEMVER_BAD_IDENTIFIER, NODEJS_SEMVER_NOT_A_PRERELEASE, NODEJS_SEMVER_OVERFLOW,
  * NODEJS_SEMVER_NO_MEMORY or NODEJS_SEMVER_TOO_LONG.
  */
-nodejs_semver_status nodejs_semver_version_inc(const char *version, size_t version_len, const char *word,
-    size_t word_len, const char *identifier, size_t identifier_len, uint32_t base, char *out, size_t out_size,
-    size_t *len);
+nodejs_semver_status nodejs_semver_version_inc(uint32_t reading, const char *version, size_t version_len,
+    const char *word, size_t word_len, const char *identifier, size_t identifier_len, uint32_t base, char *out,
+    size_t out_size, size_t *len);
 
 #ifdef __cplusplus
 }

@@ -4,6 +4,7 @@
 #include <string.h>
 
 #define TEXT(s) (s), strlen(s)
+#define NPM NODEJS_SEMVER_READING_NPM
 
 static semver_result result_of(nodejs_semver_status status)
 {
@@ -42,7 +43,7 @@ static semver_result result_of(nodejs_semver_status status)
 semver_result semver_compare(const char *version, const char *other, int *order)
 {
     int32_t found;
-    semver_result result = result_of(nodejs_semver_version_compare(TEXT(version), TEXT(other), &found));
+    semver_result result = result_of(nodejs_semver_version_compare(NPM, TEXT(version), TEXT(other), &found));
     if (result == SEMVER_YES)
         *order = found;
     return result;
@@ -51,34 +52,55 @@ semver_result semver_compare(const char *version, const char *other, int *order)
 semver_result semver_satisfies(const char *version, const char *range)
 {
     bool answer = false;
-    semver_result result = result_of(nodejs_semver_range_satisfies(TEXT(range), TEXT(version), false, &answer));
+    semver_result result = result_of(nodejs_semver_range_satisfies(NPM, TEXT(range), TEXT(version), false, &answer));
     return result == SEMVER_YES && !answer ? SEMVER_NO : result;
 }
 
 semver_result semver_inc(const char *version, const char *word, const char *identifier, char **next)
 {
     const char *id = identifier ? identifier : "";
-    PRINTED(next, nodejs_semver_version_inc(TEXT(version), TEXT(word), TEXT(id), NODEJS_SEMVER_BASE_ZERO, out, size, &len));
+    PRINTED(next, nodejs_semver_version_inc(NPM, TEXT(version), TEXT(word), TEXT(id), NODEJS_SEMVER_BASE_ZERO, out, size, &len));
 }
 
 semver_result semver_intersect(const char *range, const char *other, char **both)
 {
-    PRINTED(both, nodejs_semver_range_intersect(TEXT(range), TEXT(other), out, size, &len));
+    PRINTED(both, nodejs_semver_range_intersect(NPM, TEXT(range), TEXT(other), out, size, &len));
 }
 
 semver_result semver_min_version(const char *range, char **smallest)
 {
-    PRINTED(smallest, nodejs_semver_range_min_version(TEXT(range), out, size, &len));
+    PRINTED(smallest, nodejs_semver_range_min_version(NPM, TEXT(range), out, size, &len));
+}
+
+/* The texts of some strings, to be freed, or NULL. */
+static nodejs_semver_text *texts_of(const char *const *versions, size_t count)
+{
+    nodejs_semver_text *texts = calloc(count ? count : 1, sizeof *texts);
+    for (size_t at = 0; texts && at < count; at++)
+        texts[at] = (nodejs_semver_text){versions[at], strlen(versions[at])};
+    return texts;
 }
 
 semver_result semver_max_satisfying(const char *const *versions, size_t count, const char *range, size_t *index)
 {
-    nodejs_semver_text *texts = calloc(count ? count : 1, sizeof *texts);
+    nodejs_semver_text *texts = texts_of(versions, count);
     if (!texts)
         return SEMVER_OUT_OF_MEMORY;
-    for (size_t at = 0; at < count; at++)
-        texts[at] = (nodejs_semver_text){versions[at], strlen(versions[at])};
-    semver_result result = result_of(nodejs_semver_range_max_satisfying(TEXT(range), texts, count, index));
+    semver_result result = result_of(nodejs_semver_range_max_satisfying(NPM, TEXT(range), texts, count, index));
+    free(texts);
+    return result;
+}
+
+semver_result semver_sort(const char **versions, size_t count)
+{
+    nodejs_semver_text *texts = texts_of(versions, count);
+    size_t *order = calloc(count ? count : 1, sizeof *order), index;
+    semver_result result = SEMVER_OUT_OF_MEMORY;
+    if (texts && order)
+        result = result_of(nodejs_semver_versions_sort(NPM, texts, count, order, count, &index));
+    for (size_t at = 0; result == SEMVER_YES && at < count; at++)
+        versions[at] = texts[order[at]].at;
+    free(order);
     free(texts);
     return result;
 }

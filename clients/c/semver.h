@@ -1,4 +1,4 @@
-/* npm's versions and ranges for C programs: texts that end in a byte 0, and answers that are freed by free(). */
+/* npm's versions and ranges for C programs, as npm reads them: texts that end in a byte 0, and answers that are freed by free(). */
 #ifndef SEMVER_H
 #define SEMVER_H
 
@@ -24,5 +24,8 @@ semver_result semver_min_version(const char *range, char **smallest);
 
 /* The place of the greatest of some versions that a range accepts: SEMVER_NO where it accepts none. */
 semver_result semver_max_satisfying(const char *const *versions, size_t count, const char *range, size_t *index);
+
+/* Sorts versions in place, ascending; equal ones keep their order. Nothing is changed where a text is no version. */
+semver_result semver_sort(const char **versions, size_t count);
 
 #endif

@@ -56,6 +56,16 @@ int main(void)
     CHECK(semver_max_satisfying(versions, 4, "^7", &index) == SEMVER_NO);
     CHECK(semver_max_satisfying(versions, 0, "^1", &index) == SEMVER_NO);
 
+    const char *unsorted[] = {"1.10.0", "1.9.0+b", "1.9.0-rc", "1.9.0+a"}, *wrong[] = {"2.0.0", "1.2"};
+    CHECK(semver_sort(unsorted, 4) == SEMVER_YES && !strcmp(unsorted[0], "1.9.0-rc") && !strcmp(unsorted[1], "1.9.0+b"));
+    CHECK(!strcmp(unsorted[2], "1.9.0+a") && !strcmp(unsorted[3], "1.10.0"));
+    CHECK(semver_sort(wrong, 2) == SEMVER_REJECTED && !strcmp(wrong[0], "2.0.0"));
+    CHECK(semver_sort(wrong, 0) == SEMVER_YES);
+
+    /* As npm reads them: a word that means nothing is no range, and a pre-release of a wildcard is below it. */
+    CHECK(semver_satisfies("1.9.0", ">=1.0.0, <2.0.0") == SEMVER_REJECTED);
+    CHECK(semver_satisfies("1.2.3 oops", "*") == SEMVER_REJECTED);
+
     if (!failures)
         puts("passed");
     return failures != 0;

@@ -56,6 +56,7 @@ static napi_value null_or_thrown(napi_env env, nodejs_semver_status status)
     return none;
 }
 
+#define NPM NODEJS_SEMVER_READING_NPM
 #define TEXT(nth) given.texts[nth].at, given.texts[nth].len
 
 /* A function that prints: CALL has OUT, SIZE and LEN in it. */
@@ -84,10 +85,10 @@ static napi_value null_or_thrown(napi_env env, nodejs_semver_status status)
         return answer;                                                                                                 \
     }
 
-PRINTS(inc, 3, nodejs_semver_version_inc(TEXT(0), TEXT(1), TEXT(2), NODEJS_SEMVER_BASE_ZERO, out, size, &len))
-PRINTS(intersect, 2, nodejs_semver_range_intersect(TEXT(0), TEXT(1), out, size, &len))
-PRINTS(subtract, 2, nodejs_semver_range_difference(TEXT(0), TEXT(1), out, size, &len))
-PRINTS(min_version, 1, nodejs_semver_range_min_version(TEXT(0), out, size, &len))
+PRINTS(inc, 3, nodejs_semver_version_inc(NPM, TEXT(0), TEXT(1), TEXT(2), NODEJS_SEMVER_BASE_ZERO, out, size, &len))
+PRINTS(intersect, 2, nodejs_semver_range_intersect(NPM, TEXT(0), TEXT(1), out, size, &len))
+PRINTS(subtract, 2, nodejs_semver_range_difference(NPM, TEXT(0), TEXT(1), out, size, &len))
+PRINTS(min_version, 1, nodejs_semver_range_min_version(NPM, TEXT(0), out, size, &len))
 
 static napi_value compare(napi_env env, napi_callback_info info)
 {
@@ -95,7 +96,7 @@ static napi_value compare(napi_env env, napi_callback_info info)
     napi_value answer = NULL;
     int32_t order = 0;
     if (!given.failed) {
-        nodejs_semver_status status = nodejs_semver_version_compare(TEXT(0), TEXT(1), &order);
+        nodejs_semver_status status = nodejs_semver_version_compare(NPM, TEXT(0), TEXT(1), &order);
         if (status == NODEJS_SEMVER_OK)
             napi_create_int32(env, order, &answer);
         else
@@ -112,7 +113,7 @@ static napi_value satisfies(napi_env env, napi_callback_info info)
     bool include_prerelease = false, accepted = false;
     if (!given.failed) {
         napi_get_value_bool(env, given.others[2], &include_prerelease);
-        nodejs_semver_status status = nodejs_semver_range_satisfies(TEXT(0), TEXT(1), include_prerelease, &accepted);
+        nodejs_semver_status status = nodejs_semver_range_satisfies(NPM, TEXT(0), TEXT(1), include_prerelease, &accepted);
         if (status == NODEJS_SEMVER_OK)
             napi_get_boolean(env, accepted, &answer);
         else

@@ -1,4 +1,5 @@
-// npm's versions and ranges by the C library: node-semver's names and order of arguments. `load(path)` takes the path of the addon.
+// npm's versions and ranges by the C library, as npm reads them: node-semver's names and order of arguments. `load(path)` takes the path
+// of the addon.
 "use strict";
 
 function load(path) {

@@ -20,4 +20,6 @@ assert.throws(() => semver.satisfies("1.9.0", "latest"), /bad range/);
 assert.throws(() => semver.compare("1.2", "1.2.3"), /bad version/);
 assert.throws(() => semver.inc("1.2.3", "sideways"), /bad argument/);
 assert.throws(() => semver.compare(1, "1.2.3"), TypeError);
+assert.throws(() => semver.satisfies("1.9.0", ">=1.0.0, <2.0.0"), /bad range/);
+assert.strictEqual(semver.satisfies("1.0.0-a", "1.x", { includePrerelease: true }), true);
 console.log("passed");

@@ -10,6 +10,8 @@ MESSAGES = {NOT_UTF8: "not UTF-8", BAD_VERSION: "bad version", BAD_RANGE: "bad r
 KINDS = (None, "major", "minor", "patch", "premajor", "preminor", "prepatch", "prerelease")
 FLAWS = ("digit", "dot", "number", "ignored", "too long")
 WORDS = ("malformed", "without bounds")
+PORT, NPM = 0, 1
+WITHOUT_READING = ("version_flaw", "range_ignored_words")
 
 
 class SemverError(ValueError):
@@ -24,11 +26,16 @@ class Text(ctypes.Structure):
     _fields_ = [("at", c_char_p), ("len", c_size_t)]
 
 
-class Semver:
-    """The questions, over the shared object at a path. Texts are str, or bytes that should be UTF-8."""
+class Word(ctypes.Structure):
+    _fields_ = [("start", c_size_t), ("end", c_size_t), ("kind", c_uint32)]
 
-    def __init__(self, path):
-        self._library = ctypes.CDLL(path)
+
+class Semver:
+    """The questions, over the shared object at a path. Texts are str, or bytes that should be UTF-8, and are read as the port reads
+    them, or as npm does, strictly."""
+
+    def __init__(self, path, reading=PORT):
+        self._library, self._reading = ctypes.CDLL(path), c_uint32(reading)
 
     def _ask(self, name, *given, index=None):
         """Whether there is an answer. A text is passed as its bytes and their number."""
@@ -37,7 +44,7 @@ class Semver:
         for it in given:
             text = it.encode() if isinstance(it, str) else it
             words += [c_char_p(text), c_size_t(len(text))] if isinstance(text, bytes) else [text]
-        status = call(*words)
+        status = call(*([] if name in WITHOUT_READING else [self._reading]), *words)
         if status == NO_MEMORY:
             raise MemoryError
         if status in MESSAGES:
@@ -59,7 +66,7 @@ class Semver:
         return answer.value
 
     def version(self, version):
-        """The version at the front of a text, printed."""
+        """The version of a text, printed."""
         return self._text("version_print", version)
 
     def compare(self, version, other):
@@ -74,10 +81,6 @@ class Semver:
         """The next version by a word. The base is 0, 1, or False for no number."""
         code = 2 if base is False else base
         return self._text("version_inc", version, word, identifier, c_uint32(code))
-
-    def npm_version(self, version):
-        """The version that a whole text is in npm's strict reading, printed."""
-        return self._text("npm_version_print", version)
 
     def flaw(self, version):
         """What is wrong with a version text and at which byte, or None if the whole text is one version."""
@@ -123,11 +126,17 @@ class Semver:
         return versions[index.value] if status == OK else None
 
     def ignored_words(self, text):
-        """The words of a range text that mean nothing: where each begins and ends in bytes, and why."""
-        found, (start, end, kind) = [], (c_size_t(), c_size_t(), c_uint32())
-        while self._ask("range_ignored_word", text, c_size_t(len(found)), byref(start), byref(end), byref(kind)) == OK:
-            found.append((start.value, end.value, WORDS[kind.value]))
-        return found
+        """The words of a range text that the port ignores: where each begins and ends in bytes, and why."""
+        found, length = (Word * 8)(), c_size_t()
+        while self._ask("range_ignored_words", text, found, c_size_t(len(found)), byref(length)) == TOO_SMALL:
+            found = (Word * length.value)()
+        return [(it.start, it.end, WORDS[it.kind]) for it in found[:length.value]]
+
+    def sorted(self, versions):
+        """The versions in ascending order; equal ones keep theirs."""
+        order, index = (c_size_t * len(versions))(), c_size_t(len(versions))
+        self._ask("versions_sort", *texts(versions), order, c_size_t(len(versions)), byref(index), index=index)
+        return [versions[at] for at in order]
 
     def satisfies_each(self, versions, range_text, include_prerelease=False):
         """For each version whether a range accepts it, and None for a text that is none."""

@@ -6,6 +6,8 @@
 #include <string.h>
 
 #define T(s) (s), sizeof(s) - 1
+#define PORT NODEJS_SEMVER_READING_PORT
+#define NPM NODEJS_SEMVER_READING_NPM
 #define RANGE "^1.2.3-a.b || ^2 || ^3"
 #define OTHER "1.5 || >=2.4.0-r.c <3.1.0-rc"
 
@@ -23,33 +25,39 @@ static int refused(void)
 void *__wrap_malloc(size_t size) { return refused() ? NULL : __real_malloc(size); }
 void *__wrap_realloc(void *block, size_t size) { return refused() ? NULL : __real_realloc(block, size); }
 
-/* Whether the calls of this number may take memory; the others make no request. */
-static const int FIRST_WITHOUT = 10, CALLS = 16;
+/* Calls from this number on make no request; the others may. */
+static const int FIRST_WITHOUT = 10, CALLS = 20;
 
 static nodejs_semver_status call(int which, char *out, size_t *len)
 {
     nodejs_semver_text texts[] = {{"1.2.0", 5}, {"2.4.0", 5}, {"3.0.0-rc.1", 10}};
+    nodejs_semver_word words[4];
+    size_t order_of[3];
     bool answer;
     int32_t order;
     uint32_t kind;
     size_t end;
     switch (which) {
-    case 0: return nodejs_semver_range_intersect(T(RANGE), T(OTHER), out, 256, len);
-    case 1: return nodejs_semver_range_difference(T(RANGE), T(OTHER), out, 256, len);
-    case 2: return nodejs_semver_range_min_version(T(">1.2.3-a.b || >0.1.0-a <0.1.1-0"), out, 256, len);
-    case 3: return nodejs_semver_range_least_beyond(T(RANGE), T(OTHER), out, 256, len);
-    case 4: return nodejs_semver_version_inc(T("1.2.3-a.b+c.d"), T("prerelease"), T("beta.rc"), 0, out, 256, len);
-    case 5: return nodejs_semver_range_print(T(RANGE), out, 256, len);
-    case 6: return nodejs_semver_version_print(T("1.2.3-a.b+c.d"), out, 256, len);
-    case 7: return nodejs_semver_range_satisfies(T(RANGE), T("2.9.0"), false, &answer);
-    case 8: return nodejs_semver_range_max_satisfying(T(RANGE), texts, 3, len);
-    case 9: return nodejs_semver_range_satisfies_each(T(RANGE), texts, 3, false, (uint8_t *)out, 256);
-    case 10: return nodejs_semver_version_compare(T("1.2.3-a.b"), T("1.2.3+c"), &order);
-    case 11: return nodejs_semver_version_check(T("1.2.3-a.b+c.d"));
-    case 12: return nodejs_semver_range_satisfies(T("^1.2.3-a.b"), T("1.2.3-a.c"), false, &answer);
+    case 0: return nodejs_semver_range_intersect(PORT, T(RANGE), T(OTHER), out, 256, len);
+    case 1: return nodejs_semver_range_difference(NPM, T(RANGE), T(OTHER), out, 256, len);
+    case 2: return nodejs_semver_range_min_version(PORT, T(">1.2.3-a.b || >0.1.0-a <0.1.1-0"), out, 256, len);
+    case 3: return nodejs_semver_range_least_beyond(PORT, T(RANGE), T(OTHER), out, 256, len);
+    case 4: return nodejs_semver_version_inc(PORT, T("1.2.3-a.b+c.d"), T("prerelease"), T("beta.rc"), 0, out, 256, len);
+    case 5: return nodejs_semver_range_print(NPM, T(RANGE), out, 256, len);
+    case 6: return nodejs_semver_versions_sort(NPM, texts, 3, order_of, 3, len);
+    case 7: return nodejs_semver_range_satisfies(PORT, T(RANGE), T("2.9.0"), false, &answer);
+    case 8: return nodejs_semver_range_max_satisfying(NPM, T(RANGE), texts, 3, len);
+    case 9: return nodejs_semver_range_satisfies_each(PORT, T(RANGE), texts, 3, false, (uint8_t *)out, 256);
+    case 10: return nodejs_semver_version_compare(PORT, T("1.2.3-a.b"), T("1.2.3+c"), &order);
+    case 11: return nodejs_semver_version_check(NPM, T("1.2.3-a.b+c.d"));
+    case 12: return nodejs_semver_range_satisfies(NPM, T("^1.2.3-a.b"), T("1.2.3-a.c"), false, &answer);
     case 13: return nodejs_semver_version_flaw(T("1.2.3-a.b oops"), &kind, len);
-    case 14: return nodejs_semver_range_ignored_word(T(RANGE " || foo"), 0, len, &end, &kind);
-    default: return nodejs_semver_range_max_satisfying(T(">=1.2.0 <2.0.0-rc.1"), texts, 3, len);
+    case 14: return nodejs_semver_range_ignored_words(T(RANGE " || foo"), words, 4, &end);
+    case 15: return nodejs_semver_version_print(PORT, T("1.2.3-a.b+c.d"), out, 256, len);
+    case 16: return nodejs_semver_range_print(PORT, T(">1.2.3-a.b <=2.0.0-c.d+e"), out, 256, len);
+    case 17: return nodejs_semver_version_inc(NPM, T("1.2.3"), T("minor"), T(""), 0, out, 256, len);
+    case 18: return nodejs_semver_range_min_version(PORT, T("^1.2.3"), out, 256, len);
+    default: return nodejs_semver_range_max_satisfying(PORT, T(">=1.2.0 <2.0.0-rc.1"), texts, 3, len);
     }
 }
 

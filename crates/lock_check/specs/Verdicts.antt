@@ -2,10 +2,12 @@
 use Rattle.std.specs.Prelude.{◌≡◌, ℕ, true, false, List}
 use Rattle.nodejs_semver.specs.Cuts.{Span}
 use Rattle.nodejs_semver.specs.Versions.{VersionValue}
+use Rattle.nodejs_semver.specs.Failures.{NoValue}
+use Rattle.nodejs_semver.specs.Npm.VersionText.{IsLooseVersionText}
 use Rattle.nodejs_semver.specs.Ranges.Gate.{accepts}
 use Rattle.nodejs_semver.specs.Ranges.Least.{IsLeastOf}
 use Rattle.semver_core.specs.declared.TheConstants.{MAX_SAFE_INTEGER}
-use Rattle.lock_check.specs.Readings.{IsLocked, IsNotLocked, IsNotWanted, IsWanted}
+use Rattle.lock_check.specs.Readings.{IsNotWanted, IsWanted}
 use Rattle.lock_check.specs.declared.verdict.Judgement.{Judgement}
 use Rattle.lock_check.specs.declared.verdict.Judgement.TheVariants.{NoRange, NoVersion, Read}
 use Rattle.lock_check.specs.declared.verdict.Verdict.{Verdict}
@@ -20,6 +22,6 @@ IsVerdict range v (Rejected least) = (accepts range v false ≡ false) × IsLeas
 abbrev pub IsJudgement : List ℕ → List ℕ → Judgement → Type 0
 IsJudgement wanted locked NoRange = IsNotWanted MAX_SAFE_INTEGER wanted
 IsJudgement wanted locked NoVersion = (range : List (Span VersionValue)) × IsWanted MAX_SAFE_INTEGER wanted range
-    × IsNotLocked MAX_SAFE_INTEGER locked
+    × NoValue (IsLooseVersionText MAX_SAFE_INTEGER locked)
 IsJudgement wanted locked (Read verdict) = (range : List (Span VersionValue)) × (v : VersionValue)
-    × IsWanted MAX_SAFE_INTEGER wanted range × IsLocked MAX_SAFE_INTEGER locked v × IsVerdict range v verdict
+    × IsWanted MAX_SAFE_INTEGER wanted range × IsLooseVersionText MAX_SAFE_INTEGER locked v × IsVerdict range v verdict

@@ -5,7 +5,7 @@ use crate::finding::{Finding, Outcome};
 use crate::folder::{is_installed, joined};
 use crate::lock::{Dependency, Field, Lock, Package, Wanted, add_dependencies};
 use crate::overrides::Overrides;
-use crate::reading::{is_unsure, strict_range};
+use crate::reading::{is_unsure, npm_range};
 use crate::scopes::Scopes;
 use crate::specifier::{Specifier, is_tag};
 use crate::verdict::{Judgement, Verdict, judge_texts};
@@ -124,9 +124,9 @@ fn finding<'a>(
     })
 }
 
-// The range text, if npm's strict reading rejects it, and else nothing.
+// The range text, if `parse` decides of it, and else nothing.
 fn lenient_text(alloc: Global, text: &str) -> Result<&str> {
-    Ok(match strict_range(alloc, text)? {
+    Ok(match npm_range(alloc, text)? {
         Some(_) => "",
         None => text,
     })

@@ -15,8 +15,7 @@ use std::process::ExitCode;
 pub struct Finding<'a> {
     pub dependency: Dependency<'a>,
     pub outcome: Outcome<'a>,
-    /// The range text, if npm's strict reading rejects it, so that words of it may be ignored; else
-    /// empty.
+    /// The range text, if `parse` decides of it, so that words of it may be ignored; else empty.
     pub lenient: &'a str,
 }
 

@@ -14,13 +14,13 @@ use Rattle.nodejs_semver_c.specs.declared.TheConstants.{NO_MEMORY}
 
 -- memory may be missing for each answer but an overflow
 no_room : (answer : Result VersionValue Fault) (old : List ℕ) (len : ℕ) → answer ≢ Err Overflow
-    → PrintsResult answer old old len len NO_MEMORY
-no_room (Ok v) old len other = inr (refl, (refl, refl))
-no_room (Err fault) old len other = (inr (refl, λ same. other (ap Err same)), (refl, refl))
+    → IfOk answer HasIdentifiers → PrintsResult answer old old len len NO_MEMORY
+no_room (Ok v) old len other lists = inr (refl, (refl, refl), lists)
+no_room (Err fault) old len other lists = ((refl, refl), inr (refl, λ same. other (ap Err same)))
 
 pub tells_failure : (answer : Result VersionValue Fault) (old : List ℕ) (len : ℕ) (failure : Failure IncrementError)
     → Returns answer (Err failure)
     → MemoryOnlyIf {A = VersionValue} (Err failure) ((answer ≢ Err Overflow) × IfOk answer HasIdentifiers)
     → PrintsResult answer old old len len (failure_number failure)
-tells_failure answer old len (Refused error) returned memory = rw returned (inl refl, (refl, refl))
-tells_failure answer old len (Memory error) returned memory = no_room answer old len memory.0
+tells_failure answer old len (Refused error) returned memory = rw returned ((refl, refl), inl refl)
+tells_failure answer old len (Memory error) returned memory = no_room answer old len memory.0 memory.1

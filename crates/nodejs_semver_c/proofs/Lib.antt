@@ -1,2 +1,5 @@
 mod Failures
+mod Fitting
 mod Places
+mod Putting
+mod Sorting

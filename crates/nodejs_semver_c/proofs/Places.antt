@@ -7,7 +7,7 @@ use Rattle.semver_core.specs.Cuts.{Span}
 use Rattle.semver_core.specs.Values.Versions.{VersionValue}
 use Rattle.nodejs_semver_c.specs.Answers.{RefusesVersion}
 use Rattle.nodejs_semver_c.specs.Internal.Choices.{IsBestAt, IsBestOf, IsPlace}
-use Rattle.nodejs_semver_c.specs.Lists.{AreVersionsOf, TellsPlace}
+use Rattle.nodejs_semver_c.specs.Lists.{AreVersionsOf, RefusesAt, TellsPlace}
 use Rattle.nodejs_semver_c.specs.declared.choices.Best.{Best}
 use Rattle.nodejs_semver_c.specs.declared.choices.Best.TheVariants.{Max, Min}
 
@@ -34,18 +34,25 @@ pub filled : {A : Type 0} (told old : List A) (x d : A) (at : ℕ) → length to
 filled told old x d at counted lt =
     rw (drop_more old at d lt) (set_at told (get_or old at d) (drop (at + 1) old) x at counted ∙ sym (append_assoc told (x ∷ []) (drop (at + 1) old)))
 
+-- a text is rejected behind those that are read
+pub refused_at : (reading : ℕ) (texts : List (Bor (List ℕ))) (at status : ℕ) (d : Bor (List ℕ)) (vs : List VersionValue)
+    → at < length texts → AreVersionsOf reading (take at texts) vs → RefusesVersion reading (get_or texts at d).now status
+    → RefusesAt reading texts at status
+refused_at reading texts at status d vs lt read refused =
+    let le : at ≤ length texts = omega (arith, lt) in
+    (take at texts, drop (suc at) texts, get_or texts at d, split_at texts at d lt, length-take-le at texts le, (vs, read), refused)
+
 -- what is told where all texts are read, and where one is rejected
-module _ (IsFound : List VersionValue → Option VersionValue → Type 0) (texts : List (Bor (List ℕ))) where
-  pub tells_none : (vs : List VersionValue) (best : Option VersionValue) (place old new : ℕ) → best ≡ None → AreVersionsOf texts vs
-      → IsBestAt IsFound vs best place → new ≡ old → TellsPlace IsFound texts old new 1
+module _ (IsFound : List VersionValue → Option VersionValue → Type 0) (reading : ℕ) (texts : List (Bor (List ℕ))) where
+  pub tells_none : (vs : List VersionValue) (best : Option VersionValue) (place old new : ℕ) → best ≡ None → AreVersionsOf reading texts vs
+      → IsBestAt IsFound vs best place → new ≡ old → TellsPlace IsFound reading texts old new 1
   tells_none vs best place old new e read h kept = inl (vs, None, read, rw e at h.0, (refl, kept))
 
   pub tells_some : (vs : List VersionValue) (best : Option VersionValue) (v : VersionValue) (place old : ℕ) → best ≡ Some v
-      → AreVersionsOf texts vs → IsBestAt IsFound vs best place → TellsPlace IsFound texts old place 0
+      → AreVersionsOf reading texts vs → IsBestAt IsFound vs best place → TellsPlace IsFound reading texts old place 0
   tells_some vs best v place old e read h = inl (vs, Some v, read, rw e at h.0, (refl, rw e at h.1))
 
   pub tells_refused : (at old status : ℕ) (d : Bor (List ℕ)) (vs : List VersionValue) → at < length texts
-      → AreVersionsOf (take at texts) vs → RefusesVersion (get_or texts at d).now status → TellsPlace IsFound texts old at status
-  tells_refused at old status d vs lt read refused =
-      let le : at ≤ length texts = omega (arith, lt) in
-      inr (take at texts, drop (suc at) texts, get_or texts at d, split_at texts at d lt, length-take-le at texts le, (vs, read), refused)
+      → AreVersionsOf reading (take at texts) vs → RefusesVersion reading (get_or texts at d).now status
+      → TellsPlace IsFound reading texts old at status
+  tells_refused at old status d vs lt read refused = inr (refused_at reading texts at status d vs lt read refused)

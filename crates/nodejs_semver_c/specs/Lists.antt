@@ -1,20 +1,25 @@
 -- Statement. What is answered about many versions at once.
-use Rattle.std.specs.Prelude.{◌≡◌, ◌≤◌, ◌^◌, ◌++◌, ◌∷◌, ◌⊎◌, Bool, if◌then◌else◌, ℕ, List, Option, Some, None, drop, length}
+use Rattle.std.specs.Prelude.{◌≡◌, ◌≤◌, ◌^◌, ◌++◌, ◌∷◌, ◌⊎◌, Bool, if◌then◌else◌, ℕ, List, Option, Some, None}
+use Rattle.std.specs.Prelude.{drop, length, map}
 use Rattle.std.specs.Borrow.{Bor}
-use Rattle.std.specs.List.{AllZip}
+use Rattle.std.specs.List.{AllZip, range_with_len, zip}
+use Rattle.std.specs.List.Sorted.{IsPermutation, IsSorted}
+use Rattle.std.specs.Ordering.{nat_cmp, ordering_then}
 use Rattle.semver_core.specs.Cuts.{Span}
+use Rattle.semver_core.specs.Values.Order.{precedence}
 use Rattle.semver_core.specs.Values.Versions.{VersionValue}
 use Rattle.nodejs_semver.specs.Ranges.Gate.{accepts}
 use Rattle.nodejs_semver_c.specs.Answers.{IsVersionOf, RefusesVersion}
-use Rattle.nodejs_semver_c.specs.declared.TheConstants.{ANSWER_NO, ANSWER_NO_VERSION, ANSWER_YES, NOTHING, OK, TOO_LONG}
+use Rattle.nodejs_semver_c.specs.declared.TheConstants.{ANSWER_NO, ANSWER_NO_VERSION, ANSWER_YES}
+use Rattle.nodejs_semver_c.specs.declared.TheConstants.{NOTHING, OK, TOO_LONG}
 
--- an answer about an array of texts, or it has more than there is room for in memory, at 16 bytes each, and all is as it was
+-- an answer about an array of texts; or it has more than memory holds, at 16 bytes each, and all is as it was
 abbrev pub OnArray : List (Bor (List ℕ)) → ℕ → Type 0 → Type 0 → Type 0
 OnArray texts status Same Answer = ((status ≡ TOO_LONG) × (2 ^ 59 ≤ length texts) × Same) ⊎ Answer
 
 -- these texts are read as these versions, each as its own
-abbrev pub AreVersionsOf : List (Bor (List ℕ)) → List VersionValue → Type 0
-AreVersionsOf texts vs = AllZip (λ text v. IsVersionOf text.now v) texts vs
+abbrev pub AreVersionsOf : ℕ → List (Bor (List ℕ)) → List VersionValue → Type 0
+AreVersionsOf reading texts vs = AllZip (λ text v. IsVersionOf reading text.now v) texts vs
 
 -- a value stands at this place of a list
 abbrev pub StandsAt : {A : Type 0} → List A → A → ℕ → Type 0
@@ -26,22 +31,37 @@ TellsFound vs None old new status = (status ≡ NOTHING) × (new ≡ old)
 TellsFound vs (Some v) old new status = (status ≡ OK) × StandsAt vs v new
 
 -- the first text that is rejected as a version stands at this place
-abbrev pub RefusesAt : List (Bor (List ℕ)) → (place status : ℕ) → Type 0
-RefusesAt texts place status = (front back : List (Bor (List ℕ))) × (text : Bor (List ℕ)) × (texts ≡ front ++ text ∷ back)
-    × (length front ≡ place) × ((vs : List VersionValue) × AreVersionsOf front vs) × RefusesVersion text.now status
+abbrev pub RefusesAt : ℕ → List (Bor (List ℕ)) → (place status : ℕ) → Type 0
+RefusesAt reading texts place status = (front back : List (Bor (List ℕ))) × (text : Bor (List ℕ))
+    × (texts ≡ front ++ text ∷ back) × (length front ≡ place)
+    × ((vs : List VersionValue) × AreVersionsOf reading front vs) × RefusesVersion reading text.now status
 
 -- the place of the version that is so found, or that of the first text that is none
-abbrev pub TellsPlace : (List VersionValue → Option VersionValue → Type 0) → List (Bor (List ℕ)) → (old new status : ℕ) → Type 0
-TellsPlace IsFound texts old new status = ((vs : List VersionValue) × (found : Option VersionValue) × AreVersionsOf texts vs
-    × IsFound vs found × TellsFound vs found old new status) ⊎ RefusesAt texts new status
+abbrev pub TellsPlace : (List VersionValue → Option VersionValue → Type 0) → ℕ → List (Bor (List ℕ))
+    → (old new status : ℕ) → Type 0
+TellsPlace IsFound reading texts old new status = ((vs : List VersionValue) × (found : Option VersionValue)
+    × AreVersionsOf reading texts vs × IsFound vs found × TellsFound vs found old new status)
+    ⊎ RefusesAt reading texts new status
 
 -- what a range says of the version of a text
-abbrev pub IsAnswer : List (Span VersionValue) → Bool → List ℕ → ℕ → Type 0
-IsAnswer r include bytes answer =
-    ((v : VersionValue) × IsVersionOf bytes v × (answer ≡ (if accepts r v include then ANSWER_YES else ANSWER_NO)))
-    ⊎ ((answer ≡ ANSWER_NO_VERSION) × ((status : ℕ) × RefusesVersion bytes status))
+abbrev pub IsAnswer : List (Span VersionValue) → Bool → ℕ → List ℕ → ℕ → Type 0
+IsAnswer r include reading bytes answer = ((v : VersionValue) × IsVersionOf reading bytes v
+    × (answer ≡ (if accepts r v include then ANSWER_YES else ANSWER_NO)))
+    ⊎ ((answer ≡ ANSWER_NO_VERSION) × ((status : ℕ) × RefusesVersion reading bytes status))
 
 -- and of each of some texts; its answers are put in front of what else stands there
-abbrev pub TellsEach : List (Span VersionValue) → Bool → List (Bor (List ℕ)) → (old new : List ℕ) → Type 0
-TellsEach r include texts old new = (told : List ℕ) × AllZip (λ text answer. IsAnswer r include text.now answer) texts told
+abbrev pub TellsEach : List (Span VersionValue) → Bool → ℕ → List (Bor (List ℕ)) → (old new : List ℕ) → Type 0
+TellsEach r include reading texts old new = (told : List ℕ)
+    × AllZip (λ text answer. IsAnswer r include reading text.now answer) texts told
     × (new ≡ told ++ drop (length told) old)
+
+-- versions with their places
+abbrev pub placed : List VersionValue → List (VersionValue × ℕ)
+placed vs = zip vs (range_with_len 0 (length vs))
+
+-- the places are told in the order of the versions, and of the places where versions are equal
+abbrev pub TellsOrder : ℕ → List (Bor (List ℕ)) → (old new : List ℕ) → Type 0
+TellsOrder reading texts old new = (vs : List VersionValue) × AreVersionsOf reading texts vs
+    × ((sorted : List (VersionValue × ℕ)) × IsPermutation (placed vs) sorted
+    × IsSorted (λ a b. ordering_then (precedence a.0 b.0) (nat_cmp a.1 b.1)) sorted
+    × (new ≡ map (λ p. p.1) sorted ++ drop (length texts) old))

@@ -4,7 +4,8 @@ use Rattle.std.specs.declared.cmp.Ordering.{Ordering}
 use Rattle.std.specs.declared.cmp.Ordering.TheVariants.{Less, Equal, Greater}
 use Rattle.semver_core.specs.Increments.Table as increment
 use Rattle.semver_core.specs.declared.difference.VersionDiff.{VersionDiff}
-use Rattle.semver_core.specs.declared.difference.VersionDiff.TheVariants.{Major, Minor, Patch, PreMajor, PreMinor, PrePatch, PreRelease}
+use Rattle.semver_core.specs.declared.difference.VersionDiff.TheVariants.{Major, Minor, Patch, PreMajor}
+use Rattle.semver_core.specs.declared.difference.VersionDiff.TheVariants.{PreMinor, PrePatch, PreRelease}
 use Rattle.semver_core.specs.declared.increment.IdentifierBase.{IdentifierBase}
 use Rattle.semver_core.specs.declared.increment.IdentifierBase.TheVariants.{False, Value}
 use Rattle.nodejs_semver.specs.declared.range.outside.OutsideDirection.{OutsideDirection}
@@ -13,10 +14,12 @@ use Rattle.nodejs_semver.specs.declared.diagnosis.versions.Expected.TheVariants.
 use Rattle.nodejs_semver.specs.declared.diagnosis.versions.VersionFlaw.{VersionFlaw}
 use Rattle.nodejs_semver.specs.declared.diagnosis.versions.VersionFlaw.TheVariants as Flaw
 use Rattle.semver_core.specs.declared.TheConstants.{MAX_LENGTH}
-use Rattle.nodejs_semver_c.specs.declared.TheConstants.{FLAW_DIGIT, FLAW_DOT, FLAW_IGNORED, FLAW_NUMBER, FLAW_TOO_LONG}
-use Rattle.nodejs_semver_c.specs.declared.TheConstants.{BAD_ARGUMENT, BAD_IDENTIFIER, NOT_A_PRERELEASE, OVERFLOW}
-use Rattle.nodejs_semver_c.specs.declared.TheConstants.{BASE_NONE, BASE_ONE, BASE_ZERO, KIND_MAJOR, KIND_MINOR, KIND_NONE}
-use Rattle.nodejs_semver_c.specs.declared.TheConstants.{KIND_PATCH, KIND_PREMAJOR, KIND_PREMINOR, KIND_PREPATCH, KIND_PRERELEASE}
+use Rattle.nodejs_semver_c.specs.declared.TheConstants.{FLAW_DIGIT, FLAW_DOT, FLAW_IGNORED, FLAW_NUMBER}
+use Rattle.nodejs_semver_c.specs.declared.TheConstants.{FLAW_TOO_LONG, OVERFLOW}
+use Rattle.nodejs_semver_c.specs.declared.TheConstants.{BAD_ARGUMENT, BAD_IDENTIFIER, NOT_A_PRERELEASE}
+use Rattle.nodejs_semver_c.specs.declared.TheConstants.{BASE_NONE, BASE_ONE, BASE_ZERO, KIND_PRERELEASE}
+use Rattle.nodejs_semver_c.specs.declared.TheConstants.{KIND_MAJOR, KIND_MINOR, KIND_NONE, KIND_PATCH}
+use Rattle.nodejs_semver_c.specs.declared.TheConstants.{KIND_PREMAJOR, KIND_PREMINOR, KIND_PREPATCH}
 
 abbrev pub order_number : Ordering → ℤ
 order_number Less = negsuc 0
@@ -39,7 +42,8 @@ side_of above = if above then Higher else Lower
 
 -- the base that a number stands for, if there is one
 abbrev pub base_of : ℕ → Option IdentifierBase
-base_of n = if n == BASE_ZERO then Some (Value 0) else if n == BASE_ONE then Some (Value 1) else if n == BASE_NONE then Some False else None
+base_of n = if n == BASE_ZERO then Some (Value 0) else if n == BASE_ONE then Some (Value 1)
+    else if n == BASE_NONE then Some False else None
 
 -- the status of an error
 abbrev pub fault_number : increment.Fault → ℕ

@@ -46,23 +46,26 @@ impl Best {
 /// Which of some versions is the greatest that a range accepts: `index` gets its place. Where a
 /// text is no version, `index` gets the place of the first such text.
 ///
-/// Returns `OK`, `NOTHING`, `NOT_UTF8`, `BAD_RANGE`, `BAD_VERSION`, `NO_MEMORY` or `TOO_LONG`.
+/// Returns `OK`, `NOTHING`, `BAD_ARGUMENT`, `NOT_UTF8`, `BAD_RANGE`, `BAD_VERSION`, `NO_MEMORY` or
+/// `TOO_LONG`.
 #[unsafe(no_mangle)]
 pub extern "C" fn nodejs_semver_range_max_satisfying(
     alloc: Global,
+    reading: u32,
     range: &[u8],
     versions: &[&[u8]],
     index: &mut usize,
 ) -> u32
     ensures { let kept = index.new ≡ index.old in
-        OnArray versions.now result kept (OnRange range.now result kept (λ r.
-        TellsPlace (IsMax (λ v. accepts r v false)) versions.now index.old index.new result)) }
+        OnArray versions.now result kept (OnRange reading false range.now result kept (λ r.
+        TellsPlace (IsMax (λ v. accepts r v false)) reading versions.now
+        index.old index.new result)) }
 {
     if versions.len() > MOST_TEXTS {
         return TOO_LONG;
     }
-    match read::range(alloc, range) {
-        Ok(range) => best_of(Best::Max, &range, versions, index),
+    match read::range(alloc, reading, false, range) {
+        Ok(range) => best_of(Best::Max, &range, reading, versions, index),
         Err(status) => status,
     }
 }
@@ -70,34 +73,44 @@ pub extern "C" fn nodejs_semver_range_max_satisfying(
 /// Which of some versions is the smallest that a range accepts: `index` gets its place. Where a
 /// text is no version, `index` gets the place of the first such text.
 ///
-/// Returns `OK`, `NOTHING`, `NOT_UTF8`, `BAD_RANGE`, `BAD_VERSION`, `NO_MEMORY` or `TOO_LONG`.
+/// Returns `OK`, `NOTHING`, `BAD_ARGUMENT`, `NOT_UTF8`, `BAD_RANGE`, `BAD_VERSION`, `NO_MEMORY` or
+/// `TOO_LONG`.
 #[unsafe(no_mangle)]
 pub extern "C" fn nodejs_semver_range_min_satisfying(
     alloc: Global,
+    reading: u32,
     range: &[u8],
     versions: &[&[u8]],
     index: &mut usize,
 ) -> u32
     ensures { let kept = index.new ≡ index.old in
-        OnArray versions.now result kept (OnRange range.now result kept (λ r.
-        TellsPlace (IsMin (λ v. accepts r v false)) versions.now index.old index.new result)) }
+        OnArray versions.now result kept (OnRange reading false range.now result kept (λ r.
+        TellsPlace (IsMin (λ v. accepts r v false)) reading versions.now
+        index.old index.new result)) }
 {
     if versions.len() > MOST_TEXTS {
         return TOO_LONG;
     }
-    match read::range(alloc, range) {
-        Ok(range) => best_of(Best::Min, &range, versions, index),
+    match read::range(alloc, reading, false, range) {
+        Ok(range) => best_of(Best::Min, &range, reading, versions, index),
         Err(status) => status,
     }
 }
 
-fn best_of(which: Best, range: &RangeRef<'_>, versions: &[&[u8]], index: &mut usize) -> u32
-    ensures { TellsPlace (IsBestOf which range.now) versions.now index.old index.new result }
+fn best_of(
+    which: Best,
+    range: &RangeRef<'_>,
+    reading: u32,
+    versions: &[&[u8]],
+    index: &mut usize,
+) -> u32
+    ensures { TellsPlace (IsBestOf which range.now) reading versions.now
+        index.old index.new result }
 {
     let mut best = None;
     let mut place = 0;
     'versions: for at in 0..versions.len() {
-        match read::version(versions[at]) {
+        match read::version(reading, versions[at]) {
             Ok(version) => keep_better(which, range, version, at, &mut best, &mut place),
             Err(status) => {
                 *index = at;
@@ -136,10 +149,11 @@ fn keep_better<'t>(
 /// Which of some versions a range accepts: `answers` gets one of `ANSWER_NO`, `ANSWER_YES` and
 /// `ANSWER_NO_VERSION` for each. If it has room for fewer, nothing is written.
 ///
-/// Returns `OK`, `TOO_SMALL`, `NOT_UTF8`, `BAD_RANGE`, `NO_MEMORY` or `TOO_LONG`.
+/// Returns `OK`, `TOO_SMALL`, `BAD_ARGUMENT`, `NOT_UTF8`, `BAD_RANGE`, `NO_MEMORY` or `TOO_LONG`.
 #[unsafe(no_mangle)]
 pub extern "C" fn nodejs_semver_range_satisfies_each(
     alloc: Global,
+    reading: u32,
     range: &[u8],
     versions: &[&[u8]],
     include_prerelease: bool,
@@ -148,8 +162,8 @@ pub extern "C" fn nodejs_semver_range_satisfies_each(
     ensures { let kept = answers.new ≡ answers.old in
         OnArray versions.now result kept (
         ((result ≡ TOO_SMALL) × (length answers.old < length versions.now) × kept)
-        ⊎ OnRange range.now result kept (λ r. (result ≡ OK)
-        × TellsEach r include_prerelease versions.now answers.old answers.new)) }
+        ⊎ OnRange reading include_prerelease range.now result kept (λ r. (result ≡ OK)
+        × TellsEach r include_prerelease reading versions.now answers.old answers.new)) }
 {
     if versions.len() > MOST_TEXTS {
         return TOO_LONG;
@@ -157,9 +171,9 @@ pub extern "C" fn nodejs_semver_range_satisfies_each(
     if answers.len() < versions.len() {
         return TOO_SMALL;
     }
-    match read::range(alloc, range) {
+    match read::range(alloc, reading, include_prerelease, range) {
         Ok(range) => {
-            answer_each(&range, versions, include_prerelease, answers);
+            answer_each(&range, include_prerelease, reading, versions, answers);
             OK
         }
         Err(status) => status,
@@ -168,22 +182,23 @@ pub extern "C" fn nodejs_semver_range_satisfies_each(
 
 fn answer_each(
     range: &RangeRef<'_>,
-    versions: &[&[u8]],
     include_prerelease: bool,
+    reading: u32,
+    versions: &[&[u8]],
     answers: &mut [u8],
 )
     requires { length versions.now ≤ length answers.old }
-    ensures { TellsEach range.now include_prerelease versions.now answers.old answers.new }
+    ensures { TellsEach range.now include_prerelease reading versions.now answers.old answers.new }
 {
     'versions: for at in 0..versions.len() {
-        answers[at] = answer_of(range, versions[at], include_prerelease);
+        answers[at] = answer_of(range, include_prerelease, reading, versions[at]);
     }
 }
 
-fn answer_of(range: &RangeRef<'_>, version: &[u8], include_prerelease: bool) -> u8
-    ensures { IsAnswer range.now include_prerelease version.now result }
+fn answer_of(range: &RangeRef<'_>, include_prerelease: bool, reading: u32, version: &[u8]) -> u8
+    ensures { IsAnswer range.now include_prerelease reading version.now result }
 {
-    match read::version(version) {
+    match read::version(reading, version) {
         Ok(version) if range.satisfies_with_prerelease(&version, include_prerelease) => ANSWER_YES,
         Ok(_) => ANSWER_NO,
         Err(_) => ANSWER_NO_VERSION,

@@ -5,15 +5,14 @@ ghost use Rattle.nodejs_semver.specs.Diagnosis.VersionFlaws.{IsExact, IsFlaw};
 ghost use Rattle.nodejs_semver.specs.declared.diagnosis.ranges.IgnoredWord.{IgnoredWord};
 ghost use Rattle.nodejs_semver.specs.declared.diagnosis.versions.VersionFlaw.{VersionFlaw};
 ghost use Rattle.nodejs_semver_c.specs.Answers.{OnText};
-ghost use Rattle.nodejs_semver_c.specs.Lists.{StandsAt};
 ghost use Rattle.nodejs_semver_c.specs.Numbers.{flaw_number, flaw_place};
-ghost use Rattle.nodejs_semver_c.specs.Words.{word_number};
+ghost use Rattle.nodejs_semver_c.specs.Words.{TellsWords, fitted, told_word, word_number};
 ghost use Rattle.semver_core.specs.declared.TheConstants.{MAX_SAFE_INTEGER};
-ghost use Rattle.std.specs.Prelude.{◌≡◌, ◌⊎◌, ◌≤◌, List, MatchOption, length};
+ghost use Rattle.std.specs.Prelude.{◌≡◌, ◌⊎◌, ◌-◌, ◌^◌, ◌++◌, ◌∷◌, [], List, length, min};
 
 use crate::{
-    FLAW_DIGIT, FLAW_DOT, FLAW_IGNORED, FLAW_NUMBER, FLAW_TOO_LONG, NOTHING, OK, WORD_MALFORMED,
-    WORD_WITHOUT_BOUNDS, read,
+    FLAW_DIGIT, FLAW_DOT, FLAW_IGNORED, FLAW_NUMBER, FLAW_TOO_LONG, NOTHING, OK, TOO_SMALL,
+    WORD_MALFORMED, WORD_WITHOUT_BOUNDS, read,
 };
 use nodejs_semver::MAX_LENGTH;
 use nodejs_semver::diagnosis::{
@@ -76,54 +75,75 @@ fn told(flaw: VersionFlaw) -> (u32, usize)
     }
 }
 
-/// The ignored word of a range text that has this number, counted from 0: `start` gets the place of
-/// its first byte, `end` that behind its last one, and `kind` one of `WORD_MALFORMED` and
-/// `WORD_WITHOUT_BOUNDS`. There is nothing where the text has no so many ignored words.
+/// An ignored word of a range text.
+#[repr(C)]
+#[derive(Clone, Copy)]
+pub struct Word {
+    /// The place of its first byte.
+    pub start: usize,
+    /// The place behind its last byte.
+    pub end: usize,
+    /// `WORD_MALFORMED` or `WORD_WITHOUT_BOUNDS`.
+    pub kind: u32,
+}
+
+/// The words of a range text that the port's reading ignores: `words` gets as many, from the left,
+/// as it has room for, and `len` their number.
 ///
-/// Returns `OK`, `NOTHING`, `NOT_UTF8` or `TOO_LONG`.
+/// Returns `OK`, `TOO_SMALL`, `NOT_UTF8` or `TOO_LONG`.
 #[unsafe(no_mangle)]
-pub extern "C" fn nodejs_semver_range_ignored_word(
+pub extern "C" fn nodejs_semver_range_ignored_words(
     range: &[u8],
-    number: usize,
-    start: &mut usize,
-    end: &mut usize,
-    kind: &mut u32,
+    words: &mut [Word],
+    len: &mut usize,
 ) -> u32
-    ensures { let kept =
-        (start.new ≡ start.old) × (end.new ≡ end.old) × (kind.new ≡ kind.old) in
+    ensures { let kept = (words.new ≡ words.old) × (len.new ≡ len.old) in
         OnText range.now result kept (
         (ws : List IgnoredWord) × AreIgnored MAX_SAFE_INTEGER range.now ws
-        × (((result ≡ NOTHING) × (length ws ≤ number) × kept)
-        ⊎ ((word : IgnoredWord) × StandsAt ws word number × (result ≡ OK)
-        × (start.new ≡ word.start) × (end.new ≡ word.end)
-        × (kind.new ≡ word_number word.kind)))) }
+        × TellsWords ws words.old words.new len.new result) }
 {
     let text = match read::text(range) {
         Ok(text) => text,
         Err(status) => return status,
     };
-    match nth_ignored(text, number) {
-        None => NOTHING,
-        Some(word) => {
-            *start = word.start;
-            *end = word.end;
-            *kind = number_of(word.kind);
-            OK
-        }
+    *len = tell_words(text, words);
+    if *len <= words.len() { OK } else { TOO_SMALL }
+}
+
+// Tells the first ignored words, and returns the number of all.
+fn tell_words(text: &str, words: &mut [Word]) -> usize
+    ensures { (ws : List IgnoredWord) × AreIgnored MAX_SAFE_INTEGER text.now ws
+        × (words.new ≡ fitted told_word ws words.old)
+        × (result ≡ min (length ws) (2 ^ 64 - 1)) }
+{
+    let mut left = ignored_words(text);
+    let mut count = 0usize;
+    'words: while let Some(word) = left.next() {
+        tell_word(word, count, words);
+        count = count.saturating_add(1);
+    }
+    count
+}
+
+// Tells a word behind the `at` words before it, if there is room.
+fn tell_word(word: IgnoredWord, at: usize, words: &mut [Word])
+    ensures { (front : List IgnoredWord) (old : List Word) → at ≡ min (length front) (2 ^ 64 - 1)
+        → words.old ≡ fitted told_word front old
+        → words.new ≡ fitted told_word (front ++ word ∷ []) old }
+{
+    if at < words.len() {
+        words[at] = told_word(word);
     }
 }
 
-fn nth_ignored(text: &str, number: usize) -> Option<IgnoredWord>
-    ensures { (ws : List IgnoredWord) × AreIgnored MAX_SAFE_INTEGER text.now ws
-        × MatchOption result (length ws ≤ number) (λ word. StandsAt ws word number) }
+fn told_word(word: IgnoredWord) -> Word
+    ensures { result ≡ told_word word }
 {
-    let mut words = ignored_words(text);
-    'skipped: for _at in 0..number {
-        let Some(_word) = words.next() else {
-            return None;
-        };
+    Word {
+        start: word.start,
+        end: word.end,
+        kind: number_of(word.kind),
     }
-    words.next()
 }
 
 fn number_of(kind: IgnoredKind) -> u32

@@ -9,11 +9,12 @@
 
 mod choices;
 mod diagnosis;
-mod npm;
+mod pieces;
 mod print;
 mod ranges;
 mod read;
 mod sets;
+mod sort;
 mod versions;
 
 /// The question is answered.
@@ -34,7 +35,8 @@ pub const BAD_VERSION: u32 = 4;
 /// A text is no range.
 pub const BAD_RANGE: u32 = 5;
 
-/// The word or the base of an increment is unknown, or there is nothing to put into a pre-release.
+/// The reading, or the word or the base of an increment, is unknown, or there is nothing to put
+/// into a pre-release.
 pub const BAD_ARGUMENT: u32 = 6;
 
 /// The identifier of an increment is not identifiers joined by dots.
@@ -51,6 +53,14 @@ pub const NO_MEMORY: u32 = 10;
 
 /// A text, or an array of texts, has more bytes than there is room for in memory: 2^63 or more.
 pub const TOO_LONG: u32 = 11;
+
+/// The port's own reading: the front of a text that is a version, and the words of a range that it
+/// knows. What is no such word is ignored.
+pub const READING_PORT: u32 = 0;
+
+/// npm's strict reading: whole texts, and no others. Pre-releases are not included in a range,
+/// unless the function has a flag that says so.
+pub const READING_NPM: u32 = 1;
 
 /// A new pre-release list begins to count with 0.
 pub const BASE_ZERO: u32 = 0;

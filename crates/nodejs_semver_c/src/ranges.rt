@@ -12,7 +12,7 @@ ghost use Rattle.semver_core.specs.Printing.Text.{version_text};
 ghost use Rattle.semver_core.specs.Values.Versions.{VersionValue, is_release};
 ghost use Rattle.semver_core.specs.declared.cuts.bound.Bound.TheVariants.{After};
 ghost use Rattle.std.specs.List.{Any};
-ghost use Rattle.std.specs.Prelude.{◌≡◌, ◌⊎◌, IfSome, Option, Some, false, true};
+ghost use Rattle.std.specs.Prelude.{◌≡◌, ◌⊎◌, IfSome, Option, false, true};
 
 use crate::print::{print, print_found};
 use crate::{NO_MEMORY, OK, read};
@@ -21,19 +21,20 @@ use std::alloc::Global;
 
 /// Prints the range of a text in its normal form: `^1.2` as `>=1.2.0 <2.0.0-0`.
 ///
-/// Returns `OK`, `TOO_SMALL`, `NOT_UTF8`, `BAD_RANGE`, `NO_MEMORY` or `TOO_LONG`.
+/// Returns `OK`, `TOO_SMALL`, `BAD_ARGUMENT`, `NOT_UTF8`, `BAD_RANGE`, `NO_MEMORY` or `TOO_LONG`.
 #[unsafe(no_mangle)]
 pub extern "C" fn nodejs_semver_range_print(
     alloc: Global,
+    reading: u32,
     range: &[u8],
     out: &mut [u8],
     len: &mut usize,
 ) -> u32
-    ensures { OnRange range.now result (Kept out.old out.new len.old len.new)
+    ensures { OnRange reading false range.now result (Kept out.old out.new len.old len.new)
         (λ r. Prints (range_text r) out.old out.new len.old len.new result) }
 {
-    match read::range(alloc, range) {
-        Ok(range) => print(alloc, &range, out, len),
+    match read::range(alloc, reading, false, range) {
+        Ok(range) => print(&range, out, len),
         Err(status) => status,
     }
 }
@@ -41,24 +42,26 @@ pub extern "C" fn nodejs_semver_range_print(
 /// Whether a range accepts a version. A pre-release is accepted only where a bound names one of the
 /// same three numbers, unless pre-releases are included.
 ///
-/// Returns `OK`, `NOT_UTF8`, `BAD_RANGE`, `BAD_VERSION`, `NO_MEMORY` or `TOO_LONG`.
+/// Returns `OK`, `BAD_ARGUMENT`, `NOT_UTF8`, `BAD_RANGE`, `BAD_VERSION`, `NO_MEMORY` or `TOO_LONG`.
 #[unsafe(no_mangle)]
 pub extern "C" fn nodejs_semver_range_satisfies(
     alloc: Global,
+    reading: u32,
     range: &[u8],
     version: &[u8],
     include_prerelease: bool,
     answer: &mut bool,
 ) -> u32
     ensures { let kept = answer.new ≡ answer.old in
-        OnRange range.now result kept (λ r. OnVersion version.now result kept (λ v.
+        OnRange reading include_prerelease range.now result kept (λ r.
+        OnVersion reading version.now result kept (λ v.
         (result ≡ OK) × (answer.new ≡ accepts r v include_prerelease))) }
 {
-    let range = match read::range(alloc, range) {
+    let range = match read::range(alloc, reading, include_prerelease, range) {
         Ok(range) => range,
         Err(status) => return status,
     };
-    let version = match read::version(version) {
+    let version = match read::version(reading, version) {
         Ok(version) => version,
         Err(status) => return status,
     };
@@ -69,10 +72,11 @@ pub extern "C" fn nodejs_semver_range_satisfies(
 /// Whether a version lies above a range, or below it where `above` is false: the range does not
 /// accept it, and every interval of the range lies on the other side.
 ///
-/// Returns `OK`, `NOT_UTF8`, `BAD_RANGE`, `BAD_VERSION`, `NO_MEMORY` or `TOO_LONG`.
+/// Returns `OK`, `BAD_ARGUMENT`, `NOT_UTF8`, `BAD_RANGE`, `BAD_VERSION`, `NO_MEMORY` or `TOO_LONG`.
 #[unsafe(no_mangle)]
 pub extern "C" fn nodejs_semver_range_outside(
     alloc: Global,
+    reading: u32,
     range: &[u8],
     version: &[u8],
     above: bool,
@@ -80,14 +84,15 @@ pub extern "C" fn nodejs_semver_range_outside(
     answer: &mut bool,
 ) -> u32
     ensures { let kept = answer.new ≡ answer.old in
-        OnRange range.now result kept (λ r. OnVersion version.now result kept (λ v.
+        OnRange reading include_prerelease range.now result kept (λ r.
+        OnVersion reading version.now result kept (λ v.
         (result ≡ OK) × (answer.new ≡ is_outside (side_of above) include_prerelease r v))) }
 {
-    let range = match read::range(alloc, range) {
+    let range = match read::range(alloc, reading, include_prerelease, range) {
         Ok(range) => range,
         Err(status) => return status,
     };
-    let version = match read::version(version) {
+    let version = match read::version(reading, version) {
         Ok(version) => version,
         Err(status) => return status,
     };
@@ -101,26 +106,28 @@ pub extern "C" fn nodejs_semver_range_outside(
 
 /// Prints the smallest version that a range accepts.
 ///
-/// Returns `OK`, `NOTHING`, `TOO_SMALL`, `NOT_UTF8`, `BAD_RANGE`, `NO_MEMORY` or `TOO_LONG`.
+/// Returns `OK`, `NOTHING`, `TOO_SMALL`, `BAD_ARGUMENT`, `NOT_UTF8`, `BAD_RANGE`, `NO_MEMORY` or
+/// `TOO_LONG`.
 #[unsafe(no_mangle)]
 pub extern "C" fn nodejs_semver_range_min_version(
     alloc: Global,
+    reading: u32,
     range: &[u8],
     out: &mut [u8],
     len: &mut usize,
 ) -> u32
     ensures { let kept = Kept out.old out.new len.old len.new in
-        OnRange range.now result kept (λ r.
+        OnRange reading false range.now result kept (λ r.
         ((found : Option VersionValue) × IsLeastOf (λ v. accepts r v false) found
         × IfSome found (λ v. v.build ≡ least_build r v)
-        × PrintsFound (λ v. Some (version_text v)) found out.old out.new len.old len.new result)
+        × PrintsFound version_text found out.old out.new len.old len.new result)
         ⊎ NoMemoryOnlyIf result kept (((v : VersionValue) × (accepts r v false ≡ true))
         ⊎ Any (λ s. (v : VersionValue) × (s.lower ≡ After v) × (is_release v ≡ false)) r
         ⊎ TakesMemory r)) }
 {
-    match read::range(alloc, range) {
+    match read::range(alloc, reading, false, range) {
         Ok(range) => match range.min_version(alloc) {
-            Ok(found) => print_found(alloc, found, out, len),
+            Ok(found) => print_found(found, out, len),
             Err(_) => NO_MEMORY,
         },
         Err(status) => status,

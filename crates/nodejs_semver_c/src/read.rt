@@ -2,15 +2,20 @@
 
 ghost use Rattle.nodejs_semver_c.specs.Answers.{IsRangeOf, IsVersionOf};
 ghost use Rattle.nodejs_semver_c.specs.Answers.{RefusesRange, RefusesText, RefusesVersion};
+ghost use Rattle.nodejs_semver_c.specs.Readings.{IsWide, Spells, SpellsNoRange, SpellsRange};
+ghost use Rattle.nodejs_semver_c.specs.Readings.{reading_of};
+ghost use Rattle.semver_core.specs.Failures.{MemoryOnlyIf, NoValue, RefusedOnlyIf};
 ghost use Rattle.std.specs.Prelude.{◌≡◌, IfErr, IfOk, IsUtf8};
 
-use crate::{BAD_RANGE, BAD_VERSION, NO_MEMORY, NOT_UTF8, TOO_LONG};
-use nodejs_semver::{Failure, RangeRef, VersionRef};
+use crate::{
+    BAD_ARGUMENT, BAD_RANGE, BAD_VERSION, NO_MEMORY, NOT_UTF8, READING_NPM, READING_PORT, TOO_LONG,
+};
+use nodejs_semver::{Failure, RangeRef, SemverError, VersionRef, npm};
 use std::alloc::Global;
 
 // How many bytes memory may hold, and how many texts, of 16 bytes each in an array. Rattle counts
 // on this, and a caller in C may pass more.
-const MOST_BYTES: usize = 9_223_372_036_854_775_807;
+pub const MOST_BYTES: usize = 9_223_372_036_854_775_807;
 
 pub const MOST_TEXTS: usize = 576_460_752_303_423_487;
 
@@ -29,33 +34,94 @@ pub fn text(bytes: &[u8]) -> Result<&str, u32>
     }
 }
 
+/// How the texts of a call are read.
+#[derive(Clone, Copy)]
+pub enum Reading {
+    /// As the port reads them: what is no version, or no word of a range, is ignored.
+    Port,
+    /// As node-semver reads them, strictly.
+    Npm,
+}
+
+// The reading that a number stands for.
+fn reading_of(reading: u32) -> Option<Reading>
+    ensures { result ≡ reading_of reading }
+{
+    match reading {
+        READING_PORT => Some(Reading::Port),
+        READING_NPM => Some(Reading::Npm),
+        _ => None,
+    }
+}
+
+impl Reading {
+    #[inline(always)]
+    fn spelled(self, text: &str) -> Result<VersionRef<'_>, SemverError>
+        ensures ok { IfOk result (Spells self text.now) }
+        ensures refused { IfErr result (λ _. NoValue (Spells self text.now)) }
+    {
+        match self {
+            Reading::Port => VersionRef::parse(text),
+            Reading::Npm => npm::version(text),
+        }
+    }
+
+    #[inline(always)]
+    fn spelled_range(
+        self,
+        alloc: Global,
+        include_prerelease: bool,
+        text: &str,
+    ) -> Result<RangeRef<'_>, Failure<SemverError>>
+        ensures ok { IfOk result (SpellsRange self include_prerelease text.now) }
+        ensures refused { RefusedOnlyIf result (SpellsNoRange self include_prerelease text.now) }
+        ensures memory { MemoryOnlyIf result (IsWide self text.now) }
+    {
+        match self {
+            Reading::Port => RangeRef::parse(alloc, text),
+            Reading::Npm => npm::range(alloc, text, include_prerelease),
+        }
+    }
+}
+
 /// The version of a text, or the status that rejects it.
 #[inline(always)]
-pub fn version(bytes: &[u8]) -> Result<VersionRef<'_>, u32>
-    ensures ok { IfOk result (IsVersionOf bytes.now) }
-    ensures refused { IfErr result (RefusesVersion bytes.now) }
+pub fn version(reading: u32, bytes: &[u8]) -> Result<VersionRef<'_>, u32>
+    ensures ok { IfOk result (IsVersionOf reading bytes.now) }
+    ensures refused { IfErr result (RefusesVersion reading bytes.now) }
 {
+    let Some(reading) = reading_of(reading) else {
+        return Err(BAD_ARGUMENT);
+    };
     let text = match text(bytes) {
         Ok(text) => text,
         Err(status) => return Err(status),
     };
-    match VersionRef::parse(text) {
+    match reading.spelled(text) {
         Ok(version) => Ok(version),
         Err(_) => Err(BAD_VERSION),
     }
 }
 
-/// The range of a text, or the status that rejects it.
+/// The range of a text, or the status that rejects it. npm may include pre-releases in it.
 #[inline(always)]
-pub fn range(alloc: Global, bytes: &[u8]) -> Result<RangeRef<'_>, u32>
-    ensures ok { IfOk result (IsRangeOf bytes.now) }
-    ensures refused { IfErr result (RefusesRange bytes.now) }
+pub fn range(
+    alloc: Global,
+    reading: u32,
+    include_prerelease: bool,
+    bytes: &[u8],
+) -> Result<RangeRef<'_>, u32>
+    ensures ok { IfOk result (IsRangeOf reading include_prerelease bytes.now) }
+    ensures refused { IfErr result (RefusesRange reading include_prerelease bytes.now) }
 {
+    let Some(reading) = reading_of(reading) else {
+        return Err(BAD_ARGUMENT);
+    };
     let text = match text(bytes) {
         Ok(text) => text,
         Err(status) => return Err(status),
     };
-    match RangeRef::parse(alloc, text) {
+    match reading.spelled_range(alloc, include_prerelease, text) {
         Ok(range) => Ok(range),
         Err(Failure::Refused(_)) => Err(BAD_RANGE),
         Err(Failure::Memory(_)) => Err(NO_MEMORY),

@@ -23,12 +23,12 @@ use std::cmp::Ordering;
 
 /// Whether a text is a version, as npm's loose grammar has it: the status is `OK` or says why not.
 ///
-/// Returns `OK`, `NOT_UTF8`, `BAD_VERSION` or `TOO_LONG`.
+/// Returns `OK`, `BAD_ARGUMENT`, `NOT_UTF8`, `BAD_VERSION` or `TOO_LONG`.
 #[unsafe(no_mangle)]
-pub extern "C" fn nodejs_semver_version_check(version: &[u8]) -> u32
-    ensures { OnVersion version.now result ⊤ (λ v. result ≡ OK) }
+pub extern "C" fn nodejs_semver_version_check(reading: u32, version: &[u8]) -> u32
+    ensures { OnVersion reading version.now result ⊤ (λ v. result ≡ OK) }
 {
-    match read::version(version) {
+    match read::version(reading, version) {
         Ok(_) => OK,
         Err(status) => status,
     }
@@ -36,19 +36,19 @@ pub extern "C" fn nodejs_semver_version_check(version: &[u8]) -> u32
 
 /// Prints the version of a text: `v1.2.3 oops` as `1.2.3`.
 ///
-/// Returns `OK`, `TOO_SMALL`, `NOT_UTF8`, `BAD_VERSION`, `NO_MEMORY` or `TOO_LONG`.
+/// Returns `OK`, `TOO_SMALL`, `BAD_ARGUMENT`, `NOT_UTF8`, `BAD_VERSION` or `TOO_LONG`.
 #[unsafe(no_mangle)]
 pub extern "C" fn nodejs_semver_version_print(
-    alloc: Global,
+    reading: u32,
     version: &[u8],
     out: &mut [u8],
     len: &mut usize,
 ) -> u32
-    ensures { OnVersion version.now result (Kept out.old out.new len.old len.new)
+    ensures { OnVersion reading version.now result (Kept out.old out.new len.old len.new)
         (λ v. Prints (version_text v) out.old out.new len.old len.new result) }
 {
-    match read::version(version) {
-        Ok(version) => print(alloc, &version, out, len),
+    match read::version(reading, version) {
+        Ok(version) => print(&version, out, len),
         Err(status) => status,
     }
 }
@@ -56,22 +56,24 @@ pub extern "C" fn nodejs_semver_version_print(
 /// How the first version compares to the second: `order` gets -1, 0 or 1. Build metadata does not
 /// count.
 ///
-/// Returns `OK`, `NOT_UTF8`, `BAD_VERSION` or `TOO_LONG`.
+/// Returns `OK`, `BAD_ARGUMENT`, `NOT_UTF8`, `BAD_VERSION` or `TOO_LONG`.
 #[unsafe(no_mangle)]
 pub extern "C" fn nodejs_semver_version_compare(
+    reading: u32,
     version: &[u8],
     other: &[u8],
     order: &mut i32,
 ) -> u32
     ensures { let kept = order.new ≡ order.old in
-        OnVersion version.now result kept (λ v. OnVersion other.now result kept (λ w.
+        OnVersion reading version.now result kept (λ v.
+        OnVersion reading other.now result kept (λ w.
         (result ≡ OK) × (order.new ≡ order_number (precedence v w)))) }
 {
-    let version = match read::version(version) {
+    let version = match read::version(reading, version) {
         Ok(version) => version,
         Err(status) => return status,
     };
-    let other = match read::version(other) {
+    let other = match read::version(reading, other) {
         Ok(other) => other,
         Err(status) => return status,
     };
@@ -92,18 +94,24 @@ fn number_of(order: Ordering) -> i32
 /// The kind of difference between two versions: `kind` gets one of `KIND_NONE` to
 /// `KIND_PRERELEASE`.
 ///
-/// Returns `OK`, `NOT_UTF8`, `BAD_VERSION` or `TOO_LONG`.
+/// Returns `OK`, `BAD_ARGUMENT`, `NOT_UTF8`, `BAD_VERSION` or `TOO_LONG`.
 #[unsafe(no_mangle)]
-pub extern "C" fn nodejs_semver_version_diff(version: &[u8], other: &[u8], kind: &mut u32) -> u32
+pub extern "C" fn nodejs_semver_version_diff(
+    reading: u32,
+    version: &[u8],
+    other: &[u8],
+    kind: &mut u32,
+) -> u32
     ensures { let kept = kind.new ≡ kind.old in
-        OnVersion version.now result kept (λ v. OnVersion other.now result kept (λ w.
+        OnVersion reading version.now result kept (λ v.
+        OnVersion reading other.now result kept (λ w.
         (result ≡ OK) × (kind.new ≡ kind_number (kind_between v w)))) }
 {
-    let version = match read::version(version) {
+    let version = match read::version(reading, version) {
         Ok(version) => version,
         Err(status) => return status,
     };
-    let other = match read::version(other) {
+    let other = match read::version(reading, other) {
         Ok(other) => other,
         Err(status) => return status,
     };
@@ -135,6 +143,7 @@ fn kind_of(kind: Option<VersionDiff>) -> u32
 #[unsafe(no_mangle)]
 pub extern "C" fn nodejs_semver_version_inc(
     alloc: Global,
+    reading: u32,
     version: &[u8],
     word: &[u8],
     identifier: &[u8],
@@ -143,12 +152,12 @@ pub extern "C" fn nodejs_semver_version_inc(
     len: &mut usize,
 ) -> u32
     ensures { let kept = Kept out.old out.new len.old len.new in
-        OnVersion version.now result kept (λ v. OnText word.now result kept (
+        OnVersion reading version.now result kept (λ v. OnText word.now result kept (
         OnText identifier.now result kept (
         PrintsNext (λ base. answer_of_inc v word.now (Some identifier.now) (Some base))
         (base_of base) out.old out.new len.old len.new result))) }
 {
-    let version = match read::version(version) {
+    let version = match read::version(reading, version) {
         Ok(version) => version,
         Err(status) => return status,
     };
@@ -180,7 +189,7 @@ fn print_next(
         out.old out.new len.old len.new result }
 {
     match version.inc(alloc, word, Some(identifier), Some(base)) {
-        Ok(next) => print(alloc, &next, out, len),
+        Ok(next) => print(&next, out, len),
         Err(failure) => status_of_failure(&failure),
     }
 }

@@ -18,5 +18,6 @@ abbrev pub IsPlace : List VersionValue → Option VersionValue → ℕ → Type 
 IsPlace vs None place = ⊤
 IsPlace vs (Some v) place = StandsAt vs v place
 
-abbrev pub IsBestAt : (List VersionValue → Option VersionValue → Type 0) → List VersionValue → Option VersionValue → ℕ → Type 0
+abbrev pub IsBestAt : (List VersionValue → Option VersionValue → Type 0) → List VersionValue
+    → Option VersionValue → ℕ → Type 0
 IsBestAt IsFound vs best place = IsFound vs best × IsPlace vs best place

@@ -6,5 +6,5 @@ use Rattle.nodejs_semver_c.proofs.choices.answer_each.Given as goal
 -- the texts so far are answered, and what stands behind their answers is as it was
 abbrev pub invariant-versions : goal.invariant-versions
 invariant-versions l = (told : List ℕ) × ((length told ≡ l.at)
-    × (AllZip (λ text answer. IsAnswer l.range l.include_prerelease text.now answer) (take l.at l.versions) told
+    × (AllZip (λ text answer. IsAnswer l.range l.include_prerelease l.reading text.now answer) (take l.at l.versions) told
     × (l.answers ≡ told ++ drop l.at l.initial.answers)))

@@ -9,7 +9,7 @@ versions-init c = ([], (refl, (tt, ((best_of_none c.args.which c.args.range.now,
 pub returns-in-Err : goal.returns-in-Err
 returns-in-Err c =
     let (vs, (counted, (read, (best, kept)))) = c.versions.invariant in
-    tells_refused _ _ _ _ _ _ vs c.versions-test.true read c.in-Err.ensures.refused
+    tells_refused _ c.args.reading _ _ _ _ (record { ref_ptr = (0, 0); now = [] }) vs c.versions-test.true read c.in-Err.ensures.refused
 
 pub versions-preserved : goal.versions-preserved
 versions-preserved c =
@@ -27,9 +27,9 @@ versions-preserved c =
 pub returns-in-None : goal.returns-in-None
 returns-in-None c =
     let (vs, (counted, (read, (best, kept)))) = c.versions.invariant in
-    tells_none _ _ vs _ _ _ _ c.in-None.is (rw (take_all c.versions.at c.args.versions.now c.versions-test.false) at read) best kept
+    tells_none _ c.args.reading _ vs _ _ _ _ c.in-None.is (rw (take_all c.versions.at c.args.versions.now c.versions-test.false) at read) best kept
 
 pub returns-in-Some : goal.returns-in-Some
 returns-in-Some c =
     let (vs, (counted, (read, (best, kept)))) = c.versions.invariant in
-    tells_some _ _ vs _ _ _ _ c.in-Some.is (rw (take_all c.versions.at c.args.versions.now c.versions-test.false) at read) best
+    tells_some _ c.args.reading _ vs _ _ _ _ c.in-Some.is (rw (take_all c.versions.at c.args.versions.now c.versions-test.false) at read) best

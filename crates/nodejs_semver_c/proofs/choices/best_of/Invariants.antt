@@ -6,5 +6,5 @@ use Rattle.nodejs_semver_c.proofs.choices.best_of.Given as goal
 
 -- the texts so far are read, and the best of their versions stands at the place
 abbrev pub invariant-versions : goal.invariant-versions
-invariant-versions l = (vs : List VersionValue) × ((length vs ≡ l.at) × (AreVersionsOf (take l.at l.versions) vs
+invariant-versions l = (vs : List VersionValue) × ((length vs ≡ l.at) × (AreVersionsOf l.reading (take l.at l.versions) vs
     × (IsBestAt (IsBestOf l.which l.range) vs l.best l.place × (l.index ≡ l.initial.index))))
