@@ -3,7 +3,7 @@ use Rattle.std.proofs.Common.{◌≡◌, ◌≢◌, ◌+◌, ◌<◌, ◌≤◌,
 use Rattle.npm_semver.specs.Arguments.{Asked, Asks, IsAsked, asked_by, left_by, next, none, nothing_asked, some, word_of}
 use Rattle.npm_semver.specs.Words.{FirstWord, IsUncut, front, whole}
 use Rattle.npm_semver.specs.declared.question.Word.{Word}
-use Rattle.npm_semver.specs.declared.question.Word.TheVariants.{Help, IncludePrerelease, Reverse, Range, Version, Increment, Identifier, Base, Text}
+use Rattle.npm_semver.specs.declared.question.Word.TheVariants.{Help, IncludePrerelease, Reverse, Range, Version, Increment, Identifier, Base, Unsupported, Text}
 
 pub cut_front : (words rest : List (List ℕ)) (argument word behind : List ℕ) → words ≡ argument ∷ rest → argument ≡ word ++ (61 ∷ behind)
     → IsUncut word → FirstWord words word (behind ∷ rest)
@@ -34,6 +34,7 @@ size_left Version behind = size_drop behind
 size_left Increment behind = grind (arith, size_drop behind)
 size_left Identifier behind = size_drop behind
 size_left Base behind = size_drop behind
+size_left Unsupported behind = omega arith
 size_left Text behind = omega arith
 
 -- one more word is read

@@ -1,10 +1,11 @@
 -- Texts that are read one after another.
-use Rattle.std.proofs.Common.{◌≡◌, ◌∷◌, ◌++◌, ◌&&◌, [], ℕ, Bool, true, false, List, Option, Some, None, if◌then◌else◌}
+use Rattle.std.proofs.Common.{◌≡◌, ◌∷◌, ◌++◌, ◌&&◌, [], ℕ, Bool, true, false, List, Option, Some, None, IfSome, IfNone, append-nil, if◌then◌else◌}
 use Rattle.std.specs.List.{list_all}
 use Rattle.semver_core.specs.Cuts.{Span}
 use Rattle.semver_core.specs.Failures.{NoValue}
 use Rattle.semver_core.specs.Values.Versions.{VersionValue}
 use Rattle.semver_core.specs.declared.TheConstants.{MAX_SAFE_INTEGER}
+use Rattle.nodejs_semver.specs.Npm.Ranges.{HasAlternatives, IsRangeOf}
 use Rattle.nodejs_semver.specs.Npm.VersionText.{IsVersionText}
 use Rattle.npm_semver.specs.Listing.{AllSay, AreListed, Says, no_range, no_version, range, version}
 use Rattle.npm_semver.specs.Listing as Listing
@@ -31,9 +32,10 @@ read_more include texts ranges text read (Readings.more t ts r rs i are) is = Re
 
 pub no_more : (include : Bool) (ranges texts : List (List ℕ)) (vs : List VersionValue) (text : List ℕ) → AreListed include ranges texts vs
     → NoValue (IsVersionText MAX_SAFE_INTEGER text) → AreListed include ranges (texts ++ text ∷ []) vs
-no_more include ranges texts vs text Listing.none no = no_version text [] [] no Listing.none
-no_more include ranges texts vs text (no_version t ts ws n are) no = no_version t _ _ n (no_more include ranges ts ws text are no)
-no_more include ranges texts vs text (version t ts w a ws is say are) no = version t _ w a ws is say (no_more include ranges ts ws text are no)
+no_more include ranges texts vs text Listing.none none_is = no_version text [] [] none_is Listing.none
+no_more include ranges texts vs text (no_version t ts ws n are) none_is = no_version t _ _ n (no_more include ranges ts ws text are none_is)
+no_more include ranges texts vs text (version t ts w a ws is say are) none_is =
+    version t _ w a ws is say (no_more include ranges ts ws text are none_is)
 
 pub one_more : (include : Bool) (ranges texts : List (List ℕ)) (vs : List VersionValue) (text : List ℕ) (v : VersionValue) (accepted : Bool)
     → AreListed include ranges texts vs → IsVersionText MAX_SAFE_INTEGER text v → AllSay include v ranges accepted
@@ -45,3 +47,21 @@ one_more include ranges texts vs text v accepted (version t ts w true ws i s are
     version t _ w true _ i s (one_more include ranges ts ws text v accepted are is says)
 one_more include ranges texts vs text v accepted (version t ts w false ws i s are) is says =
     version t _ w false _ i s (one_more include ranges ts ws text v accepted are is says)
+
+-- what a text is read as
+pub is_read : (include : Bool) (text : List ℕ) (read : Option (List (Span VersionValue))) → IfSome read (IsRangeOf MAX_SAFE_INTEGER include text)
+    → IfNone read (NoValue (HasAlternatives MAX_SAFE_INTEGER include text)) → IsRead include text read
+is_read include text (Some r) some_is none_is = some_is
+is_read include text None some_is none_is = none_is
+
+-- a version that all ranges accept, and one that some range does not accept
+pub kept_more : (include : Bool) (ranges texts : List (List ℕ)) (vs : List VersionValue) (text : List ℕ) (v : VersionValue) (accepted : Bool)
+    → accepted ≡ true → AreListed include ranges texts vs → IsVersionText MAX_SAFE_INTEGER text v → AllSay include v ranges accepted
+    → AreListed include ranges (texts ++ text ∷ []) (vs ++ v ∷ [])
+kept_more include ranges texts vs text v accepted e are is say = rw e at (one_more include ranges texts vs text v accepted are is say)
+
+pub dropped_more : (include : Bool) (ranges texts : List (List ℕ)) (vs : List VersionValue) (text : List ℕ) (v : VersionValue) (accepted : Bool)
+    → accepted ≡ false → AreListed include ranges texts vs → IsVersionText MAX_SAFE_INTEGER text v → AllSay include v ranges accepted
+    → AreListed include ranges (texts ++ text ∷ []) vs
+dropped_more include ranges texts vs text v accepted e are is say =
+    rw (e, append-nil) at (one_more include ranges texts vs text v accepted are is say)

@@ -7,7 +7,7 @@ use Rattle.semver_core.specs.declared.increment.IdentifierBase.{IdentifierBase}
 use Rattle.semver_core.specs.declared.increment.IdentifierBase.TheVariants.{False, Value}
 use Rattle.npm_semver.specs.Words.{FirstWord, value}
 use Rattle.npm_semver.specs.declared.question.Word.{Word}
-use Rattle.npm_semver.specs.declared.question.Word.TheVariants.{Help, IncludePrerelease, Reverse, Range, Version, Increment, Identifier, Base, Text}
+use Rattle.npm_semver.specs.declared.question.Word.TheVariants.{Help, IncludePrerelease, Reverse, Range, Version, Increment, Identifier, Base, Unsupported, Text}
 
 abbrev pub is_one_of : List (List ℕ) → List ℕ → Bool
 is_one_of words text = list_any (bytes_eq text) words
@@ -23,10 +23,11 @@ word_of word =
     else if is_one_of (codes "-i" ∷ codes "--inc" ∷ codes "--increment" ∷ []) word then Increment
     else if is_one_of (codes "--preid" ∷ []) word then Identifier
     else if is_one_of (codes "-n" ∷ []) word then Base
+    else if is_one_of (codes "-l" ∷ codes "--loose" ∷ codes "-c" ∷ codes "--coerce" ∷ codes "--rtl" ∷ codes "--ltr" ∷ []) word then Unsupported
     else Text
 
 -- what is asked: the texts that may be versions, the range texts, the level, the identifier and the first number of a next version,
--- whether the greatest version is printed first, and whether pre-releases are included
+-- whether the greatest version is printed first, whether pre-releases are included, and whether all options are supported
 pub record Asked : Type 0 where
   pub versions : List (List ℕ)
   pub ranges : List (List ℕ)
@@ -35,9 +36,10 @@ pub record Asked : Type 0 where
   pub base : IdentifierBase
   pub is_reversed : Bool
   pub include_prerelease : Bool
+  pub is_supported : Bool
 
 abbrev pub nothing_asked : Asked
-nothing_asked = record { versions = []; ranges = []; level = None; identifier = None; base = Value 0; is_reversed = false; include_prerelease = false }
+nothing_asked = record { versions = []; ranges = []; level = None; identifier = None; base = Value 0; is_reversed = false; include_prerelease = false; is_supported = true }
 
 abbrev pub is_level : List ℕ → Bool
 is_level = is_one_of (codes "major" ∷ codes "minor" ∷ codes "patch" ∷ codes "premajor" ∷ codes "preminor" ∷ codes "prepatch"
@@ -66,6 +68,7 @@ asked_by Version text behind q = record q { versions = q.versions ++ take 1 behi
 asked_by Increment text behind q = record q { level = Some (level_of behind) }
 asked_by Identifier text behind q = record q { identifier = value behind }
 asked_by Base text behind q = record q { base = base_of (value behind) }
+asked_by Unsupported text behind q = record q { is_supported = false }
 asked_by Text text behind q = record q { versions = q.versions ++ text ∷ [] }
 
 -- the words that are left then
@@ -73,6 +76,7 @@ abbrev pub left_by : Word → List (List ℕ) → List (List ℕ)
 left_by Help behind = behind
 left_by IncludePrerelease behind = behind
 left_by Reverse behind = behind
+left_by Unsupported behind = behind
 left_by Text behind = behind
 left_by Increment behind = if has_level behind then drop 1 behind else behind
 left_by word behind = drop 1 behind

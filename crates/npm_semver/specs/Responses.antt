@@ -39,9 +39,10 @@ increment_written q level (v ∷ w ∷ vs) = nothing_written true
 -- what is written for what is asked
 pub data Responds : Option Asked → Written → Type 0 where
   help : (text : List ℕ) → Responds None (record { output = text; is_error_told = false; is_success = true })
-  versions : (q : Asked) (vs : List VersionValue) → q.level ≡ None → IsListing q.include_prerelease q.ranges q.versions vs
+  unsupported : (q : Asked) → q.is_supported ≡ false → Responds (Some q) (nothing_written true)
+  versions : (q : Asked) (vs : List VersionValue) → q.is_supported ≡ true → q.level ≡ None → IsListing q.include_prerelease q.ranges q.versions vs
       → Responds (Some q) (record { output = flat_map line (in_order q.is_reversed vs); is_error_told = false; is_success = not (is_empty vs) })
-  increment : (q : Asked) (level : List ℕ) (vs : List VersionValue) → q.level ≡ Some level → AreListed q.include_prerelease [] q.versions vs
+  increment : (q : Asked) (level : List ℕ) (vs : List VersionValue) → q.is_supported ≡ true → q.level ≡ Some level → AreListed q.include_prerelease [] q.versions vs
       → Responds (Some q) (increment_written q level vs)
 
 -- what is written for the arguments behind the program's name

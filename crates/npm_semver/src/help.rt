@@ -15,5 +15,6 @@ usage: semver [options] <version>...
   -h, --help                  print this text
 
 Prints each version without its build metadata, in ascending order. Texts that are no versions are
-left out. Exits with 1 if nothing is left.
+left out. Exits with 1 if nothing is printed. The options -l, -c, --rtl and --ltr of npm's program
+are not supported: they are an error.
 ";

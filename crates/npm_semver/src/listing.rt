@@ -1,9 +1,10 @@
 // The versions among some texts that ranges accept.
 
-ghost use Rattle.std.specs.Prelude.{◌≡◌, ℕ, List, IfOk};
+ghost use Rattle.std.specs.Prelude.{◌≡◌, ◌++◌, ◌∷◌, [], ℕ, List, IfNone, IfOk, IfSome, OnOk};
 ghost use Rattle.std.specs.List.{list_all};
-
-
+ghost use Rattle.semver_core.specs.Failures.{NoValue};
+ghost use Rattle.semver_core.specs.declared.TheConstants.{MAX_SAFE_INTEGER};
+ghost use Rattle.nodejs_semver.specs.Npm.Ranges.{HasAlternatives, IsRangeOf};
 ghost use Rattle.npm_semver.specs.Listing.{AreListed, IsListing};
 ghost use Rattle.npm_semver.specs.Internal.Asked.{texts};
 ghost use Rattle.npm_semver.specs.Internal.Readings.{AreRead, says};
@@ -40,14 +41,26 @@ fn read_ranges<'a>(
 {
     let mut ranges = Vec::new(alloc);
     for &text in range_texts {
-        let range = Failure::refused_as_none(npm::range(alloc, text, include_prerelease))?;
-        ranges.push(range)?;
+        ranges.push(read_range(alloc, include_prerelease, text)?)?;
     }
     Ok(ranges)
 }
 
-// Reads the versions that all ranges accept.
-pub(crate) fn read_versions<'a>(
+fn read_range(
+    alloc: Global,
+    include_prerelease: bool,
+    text: &str,
+) -> Result<Option<RangeRef<'_>>, AllocError>
+    ensures some { IfOk result (λ range. IfSome range
+        (IsRangeOf MAX_SAFE_INTEGER include_prerelease text.now)) }
+    ensures none { IfOk result (λ range. IfNone range
+        (NoValue (HasAlternatives MAX_SAFE_INTEGER include_prerelease text.now))) }
+{
+    Failure::refused_as_none(npm::range(alloc, text, include_prerelease))
+}
+
+/// Returns the versions among the texts that all ranges accept, in the order of the texts.
+pub fn read_versions<'a>(
     alloc: Global,
     include_prerelease: bool,
     ranges: &[Option<RangeRef<'_>>],
@@ -59,13 +72,31 @@ pub(crate) fn read_versions<'a>(
 {
     let mut listed = Vec::new(alloc);
     for &text in version_texts {
-        if let Ok(version) = npm::version(text)
-            && all_accept(include_prerelease, ranges, &version)
-        {
-            listed.push(version)?;
-        }
+        push_version(include_prerelease, ranges, text, &mut listed)?;
     }
     Ok(listed)
+}
+
+// Appends the version of a text, if it is one and all ranges accept it.
+fn push_version<'a>(
+    include_prerelease: bool,
+    ranges: &[Option<RangeRef<'_>>],
+    text: &'a str,
+    listed: &mut Vec<VersionRef<'a>>,
+) -> Result<(), AllocError>
+    ensures { OnOk result ((range_texts before : List (List ℕ)) →
+        AreRead include_prerelease range_texts ranges.now →
+        AreListed include_prerelease range_texts before listed.old.items →
+        AreListed include_prerelease range_texts (before ++ text.now ∷ []) listed.new.items) }
+{
+    let Ok(version) = npm::version(text) else {
+        return Ok(());
+    };
+    if !all_accept(include_prerelease, ranges, &version) {
+        return Ok(());
+    }
+    listed.push(version)?;
+    Ok(())
 }
 
 // Whether each of the ranges accepts a version.

@@ -17,7 +17,9 @@ fn main(rt: HostRuntime) -> Result<ExitCode> {
     let alloc = rt.alloc();
     let arguments: Vec<String> = env::args(&rt)?.skip(1).collect(alloc)?;
     let response = run(alloc, &arguments)?;
-    eprint!(rt; "{}", response.errors)?;
+    if let Some(refusal) = &response.refusal {
+        eprintln!(rt; "semver: {refusal}")?;
+    }
     print!(rt; "{}", response.output)?;
     if response.is_success {
         Ok(ExitCode::SUCCESS)

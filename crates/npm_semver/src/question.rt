@@ -25,6 +25,8 @@ pub enum Word {
     Increment,
     Identifier,
     Base,
+    /// An option of the real program that this one does not have.
+    Unsupported,
     Text,
 }
 
@@ -42,6 +44,7 @@ impl Word {
             "-i" | "--inc" | "--increment" => Word::Increment,
             "--preid" => Word::Identifier,
             "-n" => Word::Base,
+            "-l" | "--loose" | "-c" | "--coerce" | "--rtl" | "--ltr" => Word::Unsupported,
             _ => Word::Text,
         }
     }
@@ -74,6 +77,8 @@ pub struct Question<'a> {
     pub is_reversed: bool,
     /// Whether ranges accept every pre-release within their bounds.
     pub include_prerelease: bool,
+    /// Whether this program has all options that are asked for.
+    pub is_supported: bool,
 }
 
 impl<'a> Question<'a> {
@@ -88,6 +93,7 @@ impl<'a> Question<'a> {
             base: IdentifierBase::Value(0),
             is_reversed: false,
             include_prerelease: false,
+            is_supported: true,
         }
     }
 
@@ -115,6 +121,7 @@ impl<'a> Question<'a> {
             Word::Increment => self.level = Some(take_level(words)),
             Word::Identifier => self.identifier = words.take_value(),
             Word::Base => self.base = base(words.take_value()),
+            Word::Unsupported => self.is_supported = false,
             Word::Text => self.versions.push(text)?,
         }
         Ok(())
