@@ -98,12 +98,7 @@ impl<'a> Question<'a> {
     }
 
     // Adds what a word asks, and takes the value of an option.
-    fn add(
-        &mut self,
-        word: Word,
-        text: &'a str,
-        words: &mut Words<'a>,
-    ) -> Result<(), AllocError>
+    fn add(&mut self, word: Word, text: &'a str, words: &mut Words<'a>) -> Result<(), AllocError>
         ensures ok { OnOk result
             (asked_of self.new ≡ asked_by word text.now words.old (asked_of self.old)) }
         ensures left { OnOk result (words.new ≡ left_by word words.old) }

@@ -149,9 +149,7 @@ fn next(
 {
     match version.inc(alloc, level, question.identifier, Some(question.base)) {
         Ok(next) => found(alloc, &next),
-        Err(Failure::Refused(error)) => {
-            Ok(nothing(alloc, Some(Refusal::NotIncremented(error))))
-        }
+        Err(Failure::Refused(error)) => { Ok(nothing(alloc, Some(Refusal::NotIncremented(error)))) }
         Err(Failure::Memory(error)) => Err(error),
     }
 }

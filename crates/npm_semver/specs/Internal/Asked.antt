@@ -18,7 +18,7 @@ asked_of q = record {
   base = q.base;
   is_reversed = q.is_reversed;
   include_prerelease = q.include_prerelease;
-  is_supported = q.is_supported
+  is_supported = q.is_supported;
 }
 
 abbrev pub request_of : Request → Option Asked

@@ -9,4 +9,4 @@ loop-text-init c = λ range_texts are. rw c.new-listed.ensures.items none
 pub loop-text-preserved : goal.loop-text-preserved
 loop-text-preserved c = λ range_texts are.
     rw (take_more c.args.version_texts.now c.loop-text.text-index (record { ref_ptr = (0, 0); now = [] }) c.loop-text-test.true, map-append)
-        (c.in_ok-push_version.ensures range_texts _ are (c.loop-text.invariant range_texts are))
+    (c.in_ok-push_version.ensures range_texts _ are (c.loop-text.invariant range_texts are))

@@ -7,5 +7,5 @@ pub returns : goal.returns
 returns c =
     let wrote = rw (c.new-output.ensures.bytes, c.deref-2.ensures.value, c.put_in_order.ensures) at c.in_ok-write_lines.ensures in
     lists (asked_of c.args.question.now) c.in_ok-listed.listed.items _ _ c.requires.supported (rw c.requires.level refl)
-        (rw (c.as_slice-ranges.ensures.value, c.as_slice-versions.ensures.value) at c.in_ok-listed.ensures) wrote
-        (rw c.deref.ensures.value at c.is_filled-is_success.ensures)
+    (rw (c.as_slice-ranges.ensures.value, c.as_slice-versions.ensures.value) at c.in_ok-listed.ensures) wrote
+    (rw c.deref.ensures.value at c.is_filled-is_success.ensures)
