@@ -70,8 +70,7 @@ holds R s v = is_past R (lower_cut s.lower) v && not (is_past R (upper_cut s.upp
 
 -- t lies within s, as cuts
 abbrev pub covers : {V : Type 0} → (V → V → Ordering) → Span V → Span V → Bool
-covers R s t =
-    is_le (cut_cmp R (lower_cut s.lower) (lower_cut t.lower))
+covers R s t = is_le (cut_cmp R (lower_cut s.lower) (lower_cut t.lower))
     && is_le (cut_cmp R (upper_cut t.upper) (upper_cut s.upper))
 
 -- the lower bound that is further up, the second of equal ones

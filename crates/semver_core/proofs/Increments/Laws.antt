@@ -20,12 +20,12 @@ use Rattle.semver_core.specs.Lists.{is_empty}
 use Rattle.std.specs.Cmp.{tied_itself}
 use Rattle.std.specs.Str.{bytes_eq}
 use Rattle.semver_core.specs.Internal.OrderLaws.{id_total}
-use Rattle.semver_core.specs.Increments.Least.{IsLeastOrOverflow, IsLeastVersion, IsAbove}
+use Rattle.semver_core.specs.Increments.Least.{IsLeastOrOverflow, IsLeastVersion}
 use Rattle.semver_core.specs.Values.Order.{id_cmp, pre_cmp}
 use Rattle.semver_core.specs.Internal.Successors.{Below, by_major, by_minor, by_patch, by_pre, below_cases, less_first}
 use Rattle.semver_core.specs.Internal.Successors.{above_major, above_minor, above_patch, above_pre, upto_patch}
 use Rattle.semver_core.specs.Internal.Successors.{zero_least, below_more, empty_not_below}
-use Rattle.semver_core.proofs.Values.NextLaws.{least_after_release, next_of_pre_release}
+use Rattle.semver_core.proofs.Values.NextLaws.{IsAbove, least_after_release, next_of_pre_release}
 use Rattle.semver_core.specs.Values.Versions.{VersionValue, IsVersion, IsId, is_release}
 use Rattle.semver_core.specs.declared.increment.IdentifierBase.{IdentifierBase}
 use Rattle.semver_core.specs.declared.increment.IdentifierBase.TheVariants.{Value}
@@ -88,7 +88,7 @@ least_release : (These : VersionValue → Type 0) (r : VersionValue) → r.pre_r
     → ((w : VersionValue) → These w → (w.pre_release ≡ []) × (r.major ≤ w.major) × (r.minor ≤ w.minor) × (r.patch ≤ w.patch))
     → IsLeastVersion These r
 least_release These r e k this upto =
-    (k, this, λ w t. let u = upto w t in upto_patch r w u.1 u.2 u.3 (rw (e, u.0) refl))
+    (k, (this, λ w t. let u = upto w t in upto_patch r w u.1 u.2 u.3 (rw (e, u.0) refl)))
 
 -- the releases above a version: in the same major and minor, in the same major with patch 0, and with minor and patch 0
 abbrev pub IsNextPatch : VersionValue → VersionValue → Type 0
@@ -198,8 +198,7 @@ module _ (v : VersionValue) (id : List ℕ) (base : IdentifierBase) (k : IsVersi
       → ((w : VersionValue) → These w → (a ≤ w.major) × (b ≤ w.minor) × (c ≤ w.patch)) → IsLeastVersion These (first_of a b c)
   first_least These a b c p q r this upto = (
     first a b c p q r,
-    this,
-    λ w t. let u = upto w t in upto_patch (first_of a b c) w u.0 u.1 u.2 (zero_least w.pre_release),
+    (this, λ w t. let u = upto w t in upto_patch (first_of a b c) w u.0 u.1 u.2 (zero_least w.pre_release)),
   )
 
   pub premajor_least : IsLeastOrOverflow (λ w. w.major ≡ v.major + 1) (incremented v (codes "premajor") [] (Value 0))
@@ -237,8 +236,10 @@ prerelease_least v k rises none =
     (pre_step [] (Value 0) v) (λ h. by_one (λ r. IsOkAnd (r >>= pre_step [] (Value 0)) (IsLeastVersion (IsAbove v))) v.patch
     (λ n. Ok (record v { patch = n; pre_release = [] })) (λ e. omega (arith, e, rises h)) (λ other. (
       first v [] (Value 0) k v.major v.minor (v.patch + 1) k.major k.minor (omega (arith, k.patch, other)),
-      above_patch v (record v { patch = v.patch + 1; pre_release = Numeric 0 ∷ [] }) refl refl (omega arith),
-      λ w this. least_after_release v w (none_left v.pre_release h) this,
+      (
+        above_patch v (record v { patch = v.patch + 1; pre_release = Numeric 0 ∷ [] }) refl refl (omega arith),
+        λ w this. least_after_release v w (none_left v.pre_release h) this,
+      ),
     )))
     (λ h. rw (advance_zero v.pre_release h (none h)) (next_of_pre_release v k (filled v.pre_release h)))
 

@@ -3,10 +3,14 @@ use Rattle.semver_core.proofs.Common.{◌≡◌, refl, sym, ◌∙◌, ap, ◌+�
 use Rattle.semver_core.proofs.Common.{Less, Id, Numeric, VersionValue}
 use Rattle.std.proofs.Common.{lit<}
 use Rattle.std.proofs.lemmas.List.Elements.{All-append, All-cons, All-nil}
-use Rattle.semver_core.specs.Increments.Least.{IsAbove, IsLeastVersion}
+use Rattle.semver_core.specs.Increments.Least.{IsLeastVersion}
 use Rattle.semver_core.specs.Values.Order.{pre_cmp, precedence}
 use Rattle.semver_core.specs.Internal.Successors.{Below, by_major, by_minor, by_patch, by_pre, below_cases, below_more, next_least, zero_least, empty_not_below, above_patch, above_pre, upto_major, upto_minor, upto_patch}
 use Rattle.semver_core.specs.Values.Versions.{IsId, IsVersion, release_value}
+
+-- w is above v
+abbrev pub IsAbove : VersionValue → VersionValue → Type 0
+IsAbove v w = precedence v w ≡ Less
 
 pub first_of_all : (v : VersionValue) → is_le (precedence (record (release_value 0 0 0) { pre_release = Numeric 0 ∷ [] }) v) ≡ true
 first_of_all v = upto_patch (record (release_value 0 0 0) { pre_release = Numeric 0 ∷ [] }) v (omega arith) (omega arith) (omega arith) (zero_least v.pre_release)
@@ -62,6 +66,8 @@ next_of_pre_release v is_version some = (
     pre_release = All-append IsId v.pre_release (Numeric 0 ∷ []) is_version.pre_release zero_alone;
     build = is_version.build;
   },
-  above_pre v (record v { pre_release = v.pre_release ++ Numeric 0 ∷ [] }) refl refl refl (more_above v.pre_release some),
-  λ u h. least_after_pre_release v u some h,
+  (
+    above_pre v (record v { pre_release = v.pre_release ++ Numeric 0 ∷ [] }) refl refl refl (more_above v.pre_release some),
+    λ u h. least_after_pre_release v u some h,
+  ),
 )

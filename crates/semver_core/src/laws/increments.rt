@@ -2,9 +2,10 @@
 
 ghost use Rattle.std.specs.Prelude.{◌≡◌, ◌+◌, ◌-◌, ◌^◌, ◌<◌, [], ℕ, List, Ok, Option, codes};
 ghost use Rattle.std.specs.Prelude.{IsOkAnd, false, true, unwrap_or};
-ghost use Rattle.semver_core.specs.Increments.Least.{IsAbove, IsLeastOrOverflow, IsLeastVersion};
-ghost use Rattle.semver_core.specs.Increments.Least.{IsPlain};
+ghost use Rattle.std.specs.declared.cmp.Ordering.TheVariants.{Less};
+ghost use Rattle.semver_core.specs.Increments.Least.{IsLeastOrOverflow, IsLeastVersion, IsPlain};
 ghost use Rattle.semver_core.specs.Increments.Table.{answer_of_inc, has_numeric};
+ghost use Rattle.semver_core.specs.Values.Order.{precedence};
 ghost use Rattle.semver_core.specs.Values.Versions.{VersionValue, IsVersion, is_release};
 ghost use Rattle.semver_core.specs.declared.increment.IdentifierBase.{IdentifierBase};
 
@@ -24,16 +25,16 @@ ghost use Rattle.semver_core.specs.declared.increment.IdentifierBase.{Identifier
 pub fn least_increments()
     ensures patch { (v : VersionValue) (id : Option (List ℕ)) (base : Option IdentifierBase)
         → IsVersion v
-        → IsLeastOrOverflow (λ w. IsAbove v w × (w.pre_release ≡ []) × (w.major ≡ v.major)
-        × (w.minor ≡ v.minor)) (answer_of_inc v (codes "patch") id base) }
+        → IsLeastOrOverflow (λ w. (precedence v w ≡ Less) × (w.pre_release ≡ [])
+        × (w.major ≡ v.major) × (w.minor ≡ v.minor)) (answer_of_inc v (codes "patch") id base) }
     ensures minor { (v : VersionValue) (id : Option (List ℕ)) (base : Option IdentifierBase)
         → IsVersion v
-        → IsLeastOrOverflow (λ w. IsAbove v w × (w.pre_release ≡ []) × (w.major ≡ v.major)
-        × (w.patch ≡ 0)) (answer_of_inc v (codes "minor") id base) }
+        → IsLeastOrOverflow (λ w. (precedence v w ≡ Less) × (w.pre_release ≡ [])
+        × (w.major ≡ v.major) × (w.patch ≡ 0)) (answer_of_inc v (codes "minor") id base) }
     ensures major { (v : VersionValue) (id : Option (List ℕ)) (base : Option IdentifierBase)
         → IsVersion v
-        → IsLeastOrOverflow (λ w. IsAbove v w × (w.pre_release ≡ []) × (w.minor ≡ 0)
-        × (w.patch ≡ 0)) (answer_of_inc v (codes "major") id base) }
+        → IsLeastOrOverflow (λ w. (precedence v w ≡ Less) × (w.pre_release ≡ [])
+        × (w.minor ≡ 0) × (w.patch ≡ 0)) (answer_of_inc v (codes "major") id base) }
     ensures premajor { (v : VersionValue) (id : Option (List ℕ)) (base : Option IdentifierBase)
         → IsVersion v → IsPlain id base
         → IsLeastOrOverflow (λ w. w.major ≡ v.major + 1)
@@ -51,11 +52,12 @@ pub fn least_increments()
         → IsVersion v → IsPlain id base
         → (is_release v ≡ true → v.patch < 2 ^ 64 - 1)
         → (is_release v ≡ false → has_numeric v.pre_release ≡ false)
-        → IsOkAnd (answer_of_inc v (codes "prerelease") id base) (IsLeastVersion (IsAbove v)) }
+        → IsOkAnd (answer_of_inc v (codes "prerelease") id base)
+        (IsLeastVersion (λ w. precedence v w ≡ Less)) }
     ensures above { (v w : VersionValue) (word : List ℕ) (id : Option (List ℕ))
         (base : Option IdentifierBase)
         → unwrap_or id [] ≡ [] → (word ≡ codes "pre" → is_release v ≡ false)
-        → answer_of_inc v word id base ≡ Ok w → IsAbove v w }
+        → answer_of_inc v word id base ≡ Ok w → precedence v w ≡ Less }
     ensures build { (v w : VersionValue) (word : List ℕ) (id : Option (List ℕ))
         (base : Option IdentifierBase)
         → answer_of_inc v word id base ≡ Ok w → w.build ≡ v.build }

@@ -3,8 +3,8 @@
 ghost use Rattle.std.specs.Ordering.{is_le};
 ghost use Rattle.std.specs.Prelude.{◌≡◌, ◌↔◌, ◌||◌, ◌<◌, ◌+◌, ◌-◌, ◌^◌, ◌∷◌, ◌++◌, [], ℕ, List};
 ghost use Rattle.std.specs.Prelude.{Err, IsTrue, Ok, false, length, true};
-ghost use Rattle.std.specs.declared.cmp.Ordering.TheVariants.{Equal};
-ghost use Rattle.semver_core.specs.Increments.Least.{IsAbove, IsLeastVersion};
+ghost use Rattle.std.specs.declared.cmp.Ordering.TheVariants.{Equal, Less};
+ghost use Rattle.semver_core.specs.Increments.Least.{IsLeastVersion};
 ghost use Rattle.semver_core.specs.Increments.Table.{Overflow, asked, has_numeric, is_kept};
 ghost use Rattle.semver_core.specs.Increments.Table.{raise_last};
 ghost use Rattle.semver_core.specs.Text.Identifiers.{Id, Numeric};
@@ -61,11 +61,11 @@ pub fn order_and_increments()
     ensures first { (v : VersionValue) → is_le (precedence
         (record (release_value 0 0 0) { pre_release = Numeric 0 ∷ [] }) v) ≡ true }
     ensures pre_release { (v : VersionValue) → IsVersion v → 0 < length v.pre_release
-        → IsLeastVersion (IsAbove v)
+        → IsLeastVersion (λ w. precedence v w ≡ Less)
         (record v { pre_release = v.pre_release ++ Numeric 0 ∷ [] }) }
     ensures release { (v : VersionValue) → IsVersion v → v.pre_release ≡ []
         → v.patch < 2 ^ 64 - 1
-        → IsLeastVersion (IsAbove v)
+        → IsLeastVersion (λ w. precedence v w ≡ Less)
         (record v { patch = v.patch + 1; pre_release = Numeric 0 ∷ [] }) }
     ensures raised { (front back : List Id) (n : ℕ) → has_numeric back ≡ false → n < 2 ^ 64 - 1
         → raise_last (front ++ Numeric n ∷ back) ≡ Ok (front ++ Numeric (n + 1) ∷ back) }
