@@ -1,6 +1,7 @@
 -- The words that most proofs of this crate use, brought together here.
-pub use Rattle.nodejs_semver.specs.Ranges.Algebra.{list_holds, remainder}
-pub use Rattle.nodejs_semver.specs.Ranges.Gate.{accepts, lets_in, names}
+pub use Rattle.nodejs_semver.specs.Ranges.Algebra.{list_holds}
+pub use Rattle.nodejs_semver.specs.Ranges.Gate.{accepts, lets_in}
+pub use Rattle.nodejs_semver.specs.Internal.Shorthands.{names, remainder}
 pub use Rattle.nodejs_semver.specs.Ranges.Least.{IsLeastOf, least_build}
 pub use Rattle.nodejs_semver.specs.Ranges.View.{span_of}
 pub use Rattle.nodejs_semver.specs.Text.Bars.{IsCutAtBars}

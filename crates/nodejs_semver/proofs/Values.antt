@@ -12,7 +12,8 @@ use Rattle.std.specs.List.{flat_map, join_by}
 use Rattle.nodejs_semver.proofs.Algebra.FlatMaps.{take_next}
 use Rattle.nodejs_semver.specs.Internal.Sets.{AreTaking, meets_of, minus, span_text}
 use Rattle.nodejs_semver.specs.Printing.Text.{range_text}
-use Rattle.nodejs_semver.specs.Ranges.View.{TakesMemory, bound_of, spans_of}
+use Rattle.nodejs_semver.specs.Ranges.View.{TakesMemory, bound_of}
+use Rattle.nodejs_semver.specs.Internal.Shorthands.{spans_of}
 use Rattle.semver_core.specs.Cuts.{has_bound, passes}
 use Rattle.semver_core.specs.Values.Memory.{takes_memory}
 

@@ -1,3 +1,4 @@
+pub mod Shorthands
 pub mod Parts
 pub mod RunsFrom
 pub mod Fronts

@@ -6,7 +6,7 @@ ghost use Rattle.nodejs_semver.specs.Internal.Sets.{AreTaking, is_range_span};
 ghost use Rattle.semver_core.specs.declared.TheConstants.{MAX_SAFE_INTEGER};
 ghost use Rattle.semver_core.specs.Lists.{if_any};
 ghost use Rattle.nodejs_semver.specs.Ranges.View.{IsRange, TakesMemory, any_version};
-ghost use Rattle.nodejs_semver.specs.Ranges.View.{spans_of};
+ghost use Rattle.nodejs_semver.specs.Internal.Shorthands.{spans_of};
 
 mod algebra;
 mod best;
@@ -48,7 +48,8 @@ impl<V: VersionPoint> Model for RangeOf<V> {
     ghost use Rattle.semver_core.specs.Cuts.{Span};
     ghost use Rattle.semver_core.specs.Values.Versions.{VersionValue};
     ghost use Rattle.semver_core.specs.declared.TheConstants.{MAX_SAFE_INTEGER};
-    ghost use Rattle.nodejs_semver.specs.Ranges.View.{IsRange, spans_of};
+    ghost use Rattle.nodejs_semver.specs.Ranges.View.{IsRange};
+    ghost use Rattle.nodejs_semver.specs.Internal.Shorthands.{spans_of};
 
     ghost Value = { List (Span VersionValue) };
 

@@ -15,7 +15,8 @@ use Rattle.semver_core.specs.Values.Versions.{VersionValue, is_release}
 use Rattle.semver_core.specs.declared.TheConstants.{MAX_SAFE_INTEGER}
 use Rattle.nodejs_semver.specs.Ranges.Gate.{accepts}
 use Rattle.nodejs_semver.specs.Ranges.Algebra.{intersection, difference, list_holds}
-use Rattle.nodejs_semver.specs.Ranges.View.{IsRange, is_range_bound, span_of, spans_of}
+use Rattle.nodejs_semver.specs.Ranges.View.{IsRange, is_range_bound, span_of}
+use Rattle.nodejs_semver.specs.Internal.Shorthands.{spans_of}
 use Rattle.nodejs_semver.proofs.Algebra.Accepting.{accepts-held, accepts-release, list_holds-meets_of, list_holds-minus}
 use Rattle.nodejs_semver.proofs.Algebra.Accepting.{option_list_holds-if_any}
 use Rattle.nodejs_semver.proofs.Algebra.FlatMaps.{all_weaker}

@@ -5,7 +5,7 @@ use Rattle.std.proofs.lemmas.List.{get_or-map, length-map}
 use Rattle.std.proofs.lemmas.List.Elements.{All-get_or}
 use Rattle.std.specs.List.{All, Any}
 use Rattle.nodejs_semver.specs.Internal.Candidates.{IsRaisable}
-use Rattle.nodejs_semver.specs.Ranges.View.{spans_of}
+use Rattle.nodejs_semver.specs.Internal.Shorthands.{spans_of}
 
 module _ {V : Type 0} (value : V → VersionValue) (xs : List (Span V)) (i : ℕ) (x : Span V) (within : i < length xs)
     (at : x ≡ get_or xs i x) where

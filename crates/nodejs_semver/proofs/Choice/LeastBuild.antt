@@ -5,7 +5,8 @@ use Rattle.std.proofs.Math.Bool.{or-false}
 use Rattle.std.specs.List.{find}
 use Rattle.std.specs.Option.{option_and_then}
 use Rattle.semver_core.specs.Values.Order.{version_eq}
-use Rattle.nodejs_semver.specs.Ranges.Least.{begins_with, build_by}
+use Rattle.nodejs_semver.specs.Ranges.Least.{begins_with}
+use Rattle.nodejs_semver.specs.Internal.Shorthands.{build_by}
 
 -- the first that passes is found behind those that do not
 found : {X : Type 0} (p : X → Bool) (front : List X) (x : X) (back : List X) → list_any p front ≡ false → p x ≡ true

@@ -18,7 +18,8 @@ use Rattle.nodejs_semver.proofs.Choice.LeastPieces.{candidate, lets_in_alike}
 use Rattle.nodejs_semver.proofs.Choice.Next.{next_patch_above, next_pre_above, release_above}
 use Rattle.nodejs_semver.specs.Internal.Candidates.{has_build, bare, after_cut, release_after, firsts, list_marks, removed_marks}
 use Rattle.nodejs_semver.specs.Internal.Candidates.{candidates, among, improves, better, least_of, is_reached, all_accept}
-use Rattle.nodejs_semver.specs.Ranges.Least.{beyond, begins_with, build_by}
+use Rattle.nodejs_semver.specs.Ranges.Least.{beyond, begins_with}
+use Rattle.nodejs_semver.specs.Internal.Shorthands.{build_by}
 use Rattle.semver_core.specs.Text.Identifiers.{Numeric}
 use Rattle.semver_core.specs.Values.Versions.{release_value}
 

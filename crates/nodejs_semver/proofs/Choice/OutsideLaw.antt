@@ -3,7 +3,8 @@ use Rattle.nodejs_semver.proofs.Common.{◌≡◌, refl, ◌∙◌, ap, arith, �
 use Rattle.nodejs_semver.proofs.Common.{list_any, list_all, Span, is_interval, is_past, lower_cut, upper_cut, holds, one_way}
 use Rattle.nodejs_semver.proofs.Common.{precedence, precedence_total, VersionValue, Bound}
 use Rattle.semver_core.proofs.CutLaws.{is_past-down}
-use Rattle.nodejs_semver.specs.Ranges.Outside.{is_bounded, lies_below, lies_above, is_outside}
+use Rattle.nodejs_semver.specs.Ranges.Outside.{is_bounded, is_outside}
+use Rattle.nodejs_semver.specs.Internal.Shorthands.{lies_below, lies_above}
 use Rattle.nodejs_semver.specs.declared.range.outside.OutsideDirection.{OutsideDirection}
 use Rattle.nodejs_semver.specs.declared.range.outside.OutsideDirection.TheVariants.{Higher, Lower}
 use Rattle.nodejs_semver.specs.Ranges.View.{IsRange}

@@ -24,8 +24,8 @@ use Rattle.semver_core.proofs.Text.Pieces.{digits_grow, some_inside}
 use Rattle.semver_core.proofs.Text.Texts.{build_complete, divided_at, mark_is, number_begins, pre_complete, triple_complete}
 use Rattle.semver_core.proofs.Text.Trims.{after_blank_drops_spaces}
 use Rattle.nodejs_semver.proofs.Reading.Progress.{spaces-gone}
-use Rattle.nodejs_semver.specs.Diagnosis.VersionFlaws.{BeginsGreat, IsExact, IsExpectedAt, IsFlaw, IsFront, IsGreatAt}
-use Rattle.nodejs_semver.specs.Internal.Stuck.{Stuck, begins_dot, at_great, at_digit, at_dot, later, IsWhole}
+use Rattle.nodejs_semver.specs.Diagnosis.VersionFlaws.{IsExact, IsExpectedAt, IsFlaw, IsFront, IsGreatAt}
+use Rattle.nodejs_semver.specs.Internal.Stuck.{BeginsGreat, Stuck, begins_dot, at_great, at_digit, at_dot, later, IsWhole}
 use Rattle.nodejs_semver.proofs.Diagnosing.Numbers.{digits_once}
 use Rattle.nodejs_semver.proofs.Diagnosing.OneFlaw.{only_flaw}
 use Rattle.nodejs_semver.proofs.Diagnosing.Fronts.{Numeral, HasTail, Leads, Numbers, Place, begins_alike, first_numeral}

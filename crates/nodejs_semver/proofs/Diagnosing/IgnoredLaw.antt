@@ -7,11 +7,12 @@ use Rattle.semver_core.specs.Internal.Spaces.{drop_spaces, space_len, trim}
 use Rattle.semver_core.specs.Lists.{is_empty}
 use Rattle.semver_core.specs.Text.Characters.{IsTrim}
 use Rattle.semver_core.proofs.Text.Trims.{drop_spaces-blank, drop_spaces-dark, middle_is_trim, trim_is_middle}
-use Rattle.nodejs_semver.specs.Diagnosis.IgnoredWords.{AreAllIgnored, AreIgnored, AreIgnoredOf, IsBounded, IsWhollyBounded}
+use Rattle.nodejs_semver.specs.Diagnosis.IgnoredWords.{AreAllIgnored, AreIgnored, AreIgnoredOf, IsWhollyBounded}
 use Rattle.nodejs_semver.specs.Diagnosis.IgnoredWords.{if_ignored, ignored_as, next_piece, next_word, no_piece, no_word}
 use Rattle.nodejs_semver.specs.Internal.Ignored.{all_ignored, ignored_of, ignored_within, part_end}
 use Rattle.nodejs_semver.specs.Internal.Parts.{cut_bars}
 use Rattle.nodejs_semver.specs.Internal.Words.{word_at, words, words_within}
+use Rattle.nodejs_semver.specs.Text.Meaning.{HasWords}
 use Rattle.nodejs_semver.specs.Text.Table.{table}
 use Rattle.nodejs_semver.specs.Text.WordText.{Word}
 use Rattle.nodejs_semver.specs.declared.diagnosis.ranges.IgnoredWord.{IgnoredWord}
@@ -23,6 +24,10 @@ use Rattle.nodejs_semver.proofs.Dividing.Trimmed.{trim-starts}
 use Rattle.nodejs_semver.proofs.Reading.Progress.{spaces-gone, spaces-le, word-shorter}
 use Rattle.nodejs_semver.proofs.Reading.WordLaw.{skips-is, skips-utf8, trim-utf8, word-utf8, words_are}
 use Rattle.std.proofs.lemmas.Bool.{and_parts}
+
+-- each word of what stands between bars has bounds
+abbrev IsBounded : ℕ → List ℕ → Type 0
+IsBounded limit p = (ws : List Word) × HasWords limit p ws × (list_all (λ w. is_some (table limit w)) ws ≡ true)
 
 -- ---- they are the ignored words
 

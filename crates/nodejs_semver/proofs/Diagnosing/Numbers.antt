@@ -10,7 +10,7 @@ use Rattle.semver_core.specs.Internal.Reading.{number_at, triple_at}
 use Rattle.semver_core.specs.Text.Characters.{begins, IsPieceAt, NoPieceAt}
 use Rattle.semver_core.specs.Text.Numbers.{IsWholeNumber}
 use Rattle.semver_core.proofs.Text.Pieces.{number_complete}
-use Rattle.nodejs_semver.specs.Diagnosis.VersionFlaws.{BeginsGreat}
+use Rattle.nodejs_semver.specs.Internal.Stuck.{BeginsGreat}
 use Rattle.nodejs_semver.specs.Internal.Stuck.{IsNumberAt, Stuck, begins_dot, at_digit, at_great, at_dot, later}
 use Rattle.nodejs_semver.proofs.Reading.Numbers.{digits-taken, run-ends}
 use Rattle.nodejs_semver.specs.declared.diagnosis.versions.VersionFlaw.TheVariants as Flaw

@@ -6,7 +6,7 @@ use Rattle.std.specs.Prelude.{filter_map, is_none}
 use Rattle.std.specs.List.{AllZip, filter}
 use Rattle.semver_core.proofs.Text.Trims.{middle_is_trim}
 use Rattle.semver_core.specs.Text.Characters.{IsBlank}
-use Rattle.nodejs_semver.specs.Diagnosis.IgnoredWords.{AreAlike, IsAlike, IsIgnored, IsWhollyIgnored, ignored_as}
+use Rattle.nodejs_semver.specs.Diagnosis.IgnoredWords.{AreAlike, IsWhollyIgnored, ignored_as}
 use Rattle.nodejs_semver.specs.Internal.Denotes.{denotes, part_bounds, part_denotes}
 use Rattle.nodejs_semver.specs.Internal.Parts.{cut_bars}
 use Rattle.nodejs_semver.specs.Internal.RunsFrom.{runs_of}
@@ -17,6 +17,16 @@ use Rattle.nodejs_semver.specs.Text.Meaning.{every_version, next_piece, next_wor
 use Rattle.nodejs_semver.proofs.Algebra.FlatMaps.{empty_is}
 use Rattle.nodejs_semver.proofs.Dividing.BarsDivide.{bars_once}
 use Rattle.nodejs_semver.proofs.Dividing.MeaningLaw.{blank-empty, empty-blank, one_meaning, pieces-utf8, words-law}
+
+-- two pieces have the same words but for ignored ones, and words both or neither; a piece has words, and all are ignored
+abbrev IsAlike : ℕ → List ℕ → List ℕ → Type 0
+IsAlike limit piece other = (ws us : List Word) × HasWords limit piece ws × HasWords limit other us
+    × (filter (λ w. is_none (ignored_as limit w)) ws ≡ filter (λ w. is_none (ignored_as limit w)) us)
+    × (is_empty ws ≡ is_empty us)
+
+abbrev IsIgnored : ℕ → List ℕ → Type 0
+IsIgnored limit piece = (ws : List Word) × HasWords limit piece ws × (is_empty ws ≡ false)
+    × (list_all (λ w. is_some (ignored_as limit w)) ws ≡ true)
 
 -- ---- the bounds of the words
 

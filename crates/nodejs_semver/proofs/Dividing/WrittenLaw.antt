@@ -4,6 +4,9 @@ use Rattle.nodejs_semver.proofs.Common.{inr, Bool, arith, subst, ◌↔◌, IsTr
 use Rattle.nodejs_semver.proofs.Common.{or_right, trim, is_empty, precedence, VersionValue, Span, list_holds, accepts}
 use Rattle.nodejs_semver.proofs.Common.{IsCutAtBars, Run, run_writes}
 use Rattle.std.specs.List.{Any}
+use Rattle.std.specs.Prelude.{◌⊎◌}
+use Rattle.semver_core.specs.Text.Characters.{IsBlank}
+use Rattle.nodejs_semver.specs.Text.Meaning.{HasRuns}
 use Rattle.std.proofs.lemmas.List.Folds.{Any-from_list_any, list_any-from_Any}
 use Rattle.nodejs_semver.specs.Internal.Denotes.{denotes, part_bounds}
 use Rattle.nodejs_semver.proofs.Algebra.Accepting.{accepts-held}
@@ -12,7 +15,7 @@ use Rattle.nodejs_semver.proofs.Algebra.Holds.{denotes_hold}
 use Rattle.nodejs_semver.specs.Internal.Parts.{cut_bars}
 use Rattle.nodejs_semver.specs.Internal.RunsFrom.{runs_of}
 use Rattle.nodejs_semver.specs.Internal.Writes.{part_writes, writes}
-use Rattle.nodejs_semver.specs.Text.WrittenSet.{PieceWrites, Writes}
+use Rattle.nodejs_semver.specs.Text.WrittenSet.{Writes}
 use Rattle.nodejs_semver.proofs.Dividing.BarsDivide.{bars_divide, bars_once}
 use Rattle.nodejs_semver.proofs.Dividing.MeaningLaw.{blank-empty, empty-blank, has-runs, pieces-utf8, runs-once}
 
@@ -21,6 +24,11 @@ piece-at : (pieces : List (List ℕ)) → AllByRecursion IsUtf8 pieces → (k : 
 piece-at [] u k d h = absurd (omega arith)
 piece-at (piece ∷ pieces) u zero d h = u.0
 piece-at (piece ∷ pieces) u (suc k) d h = piece-at pieces u.1 k d (omega arith)
+
+-- what stands between bars writes the version
+abbrev PieceWrites : ℕ → VersionValue → List ℕ → Type 0
+PieceWrites limit v piece = IsBlank piece ⊎ ((rs : List (Run VersionValue)) × HasRuns limit piece rs
+    × (list_any (run_writes precedence v) rs ≡ true))
 
 -- one piece
 piece-writes : (limit : ℕ) (v : VersionValue) (piece : List ℕ) → IsUtf8 piece → part_writes limit v (trim piece) ≡ true

@@ -15,7 +15,8 @@ use Rattle.nodejs_semver.specs.Internal.Questions.{admits, is_used}
 use Rattle.nodejs_semver.specs.Internal.Sets.{AreTaking, is_range_span}
 use Rattle.nodejs_semver.specs.Npm.Simple.{simplified}
 use Rattle.nodejs_semver.specs.Ranges.Gate.{accepts, lets_in}
-use Rattle.nodejs_semver.specs.Ranges.View.{IsRange, span_of, spans_of}
+use Rattle.nodejs_semver.specs.Ranges.View.{IsRange, span_of}
+use Rattle.nodejs_semver.specs.Internal.Shorthands.{spans_of}
 
 -- the spans that admit one of the versions
 abbrev used_of : List VersionValue → List (Span VersionValue) → List (Span VersionValue)

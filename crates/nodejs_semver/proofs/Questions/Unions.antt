@@ -17,9 +17,10 @@ use Rattle.semver_core.specs.declared.cuts.bound.Bound.TheVariants.{Unbounded, B
 use Rattle.nodejs_semver.proofs.Algebra.FlatMaps.{list_any-map}
 use Rattle.nodejs_semver.specs.Internal.Questions.{is_said}
 use Rattle.nodejs_semver.specs.Internal.Sets.{AreTaking, same_triple}
-use Rattle.nodejs_semver.specs.Ranges.View.{IsRange, span_of, spans_of}
+use Rattle.nodejs_semver.specs.Ranges.View.{IsRange, span_of}
+use Rattle.nodejs_semver.specs.Internal.Shorthands.{names, spans_of}
 use Rattle.nodejs_semver.specs.Npm.Unions.{lets_in_bounds, says_all, union}
-use Rattle.nodejs_semver.specs.Ranges.Gate.{accepts, lets_in, names}
+use Rattle.nodejs_semver.specs.Ranges.Gate.{accepts, lets_in}
 
 -- what a span holds, one that covers it holds
 covers-holds : (s t : Span VersionValue) (v : VersionValue) → covers precedence s t ≡ true → holds precedence t v ≡ true

@@ -19,8 +19,7 @@ ignored_as limit word = if is_some (table limit word) then None else Some Withou
 
 -- the word between two places, if it is ignored
 abbrev pub if_ignored : Option IgnoredKind → ℕ → ℕ → List IgnoredWord
-if_ignored None start end = []
-if_ignored (Some kind) start end = record { start = start; end = end; kind = kind } ∷ []
+if_ignored found i j = elim found [ None ↦ [] | Some kind ↦ record { start = i; end = j; kind = kind } ∷ [] ]
 
 -- the ignored words of a part, from the left. The part ends at this place of the text.
 pub data AreIgnoredOf (limit place : ℕ) : List ℕ → List IgnoredWord → Type 0 where
@@ -41,30 +40,20 @@ pub data AreAllIgnored (limit : ℕ) : ℕ → List (List ℕ) → List IgnoredW
 abbrev pub AreIgnored : ℕ → List ℕ → List IgnoredWord → Type 0
 AreIgnored limit text ws = (ps : List (List ℕ)) × IsCutAtBars text ps × AreAllIgnored limit 0 ps ws
 
--- another piece has, but for ignored words, the words of this one, and a word if this one has any
-abbrev pub IsAlike : ℕ → List ℕ → List ℕ → Type 0
-IsAlike limit piece other = (ws us : List Word) × HasWords limit piece ws × HasWords limit other us
-    × (filter (λ w. is_none (ignored_as limit w)) ws ≡ filter (λ w. is_none (ignored_as limit w)) us)
-    × (is_empty ws ≡ is_empty us)
-
--- the pieces of another text are alike, each the one at its place
+-- the pieces of another text have, but for ignored words, the same words each as the piece at its place, and
+-- some word exactly where that has one
 abbrev pub AreAlike : ℕ → List ℕ → List ℕ → Type 0
 AreAlike limit text other = (ps qs : List (List ℕ)) × IsCutAtBars text ps × IsCutAtBars other qs
-    × AllZip (IsAlike limit) ps qs
+    × AllZip (λ piece other. (ws us : List Word) × HasWords limit piece ws × HasWords limit other us
+    × (filter (λ w. is_none (ignored_as limit w)) ws ≡ filter (λ w. is_none (ignored_as limit w)) us)
+    × (is_empty ws ≡ is_empty us)) ps qs
 
--- what stands between bars has words, and all of them are ignored
-abbrev pub IsIgnored : ℕ → List ℕ → Type 0
-IsIgnored limit piece = (ws : List Word) × HasWords limit piece ws × (is_empty ws ≡ false)
-    × (list_all (λ w. is_some (ignored_as limit w)) ws ≡ true)
-
--- each piece of the text is so
+-- each piece of the text has words, and all of them are ignored
 abbrev pub IsWhollyIgnored : ℕ → List ℕ → Type 0
-IsWhollyIgnored limit text = (ps : List (List ℕ)) × IsCutAtBars text ps × AllByRecursion (IsIgnored limit) ps
+IsWhollyIgnored max text = (ps : List (List ℕ)) × IsCutAtBars text ps × AllByRecursion (λ p. (ws : List Word)
+    × HasWords max p ws × (is_empty ws ≡ false) × (list_all (λ w. is_some (ignored_as max w)) ws ≡ true)) ps
 
--- each word of what stands between bars has bounds
-abbrev pub IsBounded : ℕ → List ℕ → Type 0
-IsBounded max p = (ws : List Word) × HasWords max p ws × (list_all (λ w. is_some (table max w)) ws ≡ true)
-
--- each word of the range text has bounds
+-- each word of each piece of the text has bounds
 abbrev pub IsWhollyBounded : ℕ → List ℕ → Type 0
-IsWhollyBounded limit text = (ps : List (List ℕ)) × IsCutAtBars text ps × AllByRecursion (IsBounded limit) ps
+IsWhollyBounded max text = (ps : List (List ℕ)) × IsCutAtBars text ps × AllByRecursion (λ p. (ws : List Word)
+    × HasWords max p ws × (list_all (λ w. is_some (table max w)) ws ≡ true)) ps

@@ -24,8 +24,7 @@ abbrev pub IsFront : ℕ → List ℕ → Type 0
 IsFront limit front = (x : List ℕ) × ((v : VersionValue) × (r : Reads limit (front ++ x) v) × (r.rest ≡ []))
 
 abbrev pub is_expected : Expected → ℕ → Bool
-is_expected Digit c = is_ascii_digit c
-is_expected Dot c = c == 46
+is_expected what c = elim what [ Digit ↦ is_ascii_digit c | Dot ↦ c == 46 ]
 
 -- with each digit, or with the dot, at this place the bytes before it go on to a version text. With the
 -- character that stands there, which is no digit, they don't, whatever follows; and the text itself has no
@@ -40,17 +39,13 @@ pub record IsExpectedAt (limit : ℕ) (text : List ℕ) (what : Expected) (at : 
   pub none : NoValue (Reads limit text)
   pub dot : IsFront limit (take at text ++ 46 ∷ []) → is_expected what 46 ≡ true
 
--- a run of digits of a value above the limit
-abbrev pub BeginsGreat : ℕ → List ℕ → Type 0
-BeginsGreat limit text = (run rest : List ℕ) × (text ≡ run ++ rest) × (list_all is_ascii_digit run ≡ true)
-    × (begins is_ascii_digit rest ≡ false) × (limit < digits_value 10 run)
-
--- a number is right at this place, and no dot, and no digit stands before it; but the number that begins
--- there is above the limit, and with it the bytes before go on to no version text
+-- a number is right at this place, and no dot, and no digit stands before it; but the run of digits that
+-- begins there is of a value above the limit, and with it the bytes before go on to no version text
 pub record IsGreatAt (limit : ℕ) (text : List ℕ) (at : ℕ) : Type 0 where
   pub inside : at ≤ length text
   pub right : (c : ℕ) → is_ascii_digit c ≡ true → IsFront limit (take at text ++ c ∷ [])
-  pub great : BeginsGreat limit (drop at text)
+  pub great : (run rest : List ℕ) × (drop at text ≡ run ++ rest) × (list_all is_ascii_digit run ≡ true)
+      × (begins is_ascii_digit rest ≡ false) × (limit < digits_value 10 run)
   pub wrong : IsFront limit (take at text ++ great.0) → ⊥
   pub none : NoValue (Reads limit text)
   pub no_dot : IsFront limit (take at text ++ 46 ∷ []) → ⊥

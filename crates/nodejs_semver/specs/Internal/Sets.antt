@@ -9,7 +9,8 @@ use Rattle.semver_core.specs.Cuts.{Span, bound_eq, has_bound, is_interval, meet}
 use Rattle.semver_core.specs.Values.Order.{precedence, version_eq}
 use Rattle.semver_core.specs.Values.Versions.{VersionValue}
 use Rattle.nodejs_semver.specs.Printing.Text.{bounds_text}
-use Rattle.nodejs_semver.specs.Ranges.Algebra.{list_holds, remainder}
+use Rattle.nodejs_semver.specs.Ranges.Algebra.{list_holds}
+use Rattle.nodejs_semver.specs.Internal.Shorthands.{remainder}
 use Rattle.nodejs_semver.specs.Ranges.Gate.{accepts}
 use Rattle.nodejs_semver.specs.Ranges.View.{is_range_bound}
 

@@ -1,11 +1,12 @@
 -- For proofs and private contracts: where the reader of numbers stops.
-use Rattle.std.specs.Prelude.{◌≡◌, ◌==◌, ◌+◌, ◌≤◌, ℕ, suc, Bool, true, false, List, [], drop, length}
+use Rattle.std.specs.Prelude.{◌≡◌, ◌==◌, ◌+◌, ◌<◌, ◌≤◌, ℕ, suc, Bool, true, false, List, [], ◌++◌, drop, length}
 use Rattle.std.specs.Char.{is_ascii_digit}
+use Rattle.std.specs.List.{list_all}
+use Rattle.std.specs.Str.Parse.{digits_value}
 use Rattle.semver_core.specs.Text.Characters.{begins, IsPieceAt}
 use Rattle.semver_core.specs.Text.Numbers.{IsWholeNumber}
 use Rattle.semver_core.specs.Text.VersionText.{Reads}
 use Rattle.semver_core.specs.Values.Versions.{VersionValue}
-use Rattle.nodejs_semver.specs.Diagnosis.VersionFlaws.{BeginsGreat}
 use Rattle.nodejs_semver.specs.declared.diagnosis.versions.Expected.TheVariants.{Digit, Dot}
 use Rattle.nodejs_semver.specs.declared.diagnosis.versions.VersionFlaw.{VersionFlaw}
 use Rattle.nodejs_semver.specs.declared.diagnosis.versions.VersionFlaw.TheVariants as Flaw
@@ -15,6 +16,11 @@ pub record IsNumberAt (limit : ℕ) (text : List ℕ) (at end : ℕ) : Type 0 wh
   pub n : ℕ
   pub piece : IsPieceAt (λ digits rest. IsWholeNumber limit digits rest n) text at end
   pub inside : end ≤ length text
+
+-- a run of digits of a value above the limit
+abbrev pub BeginsGreat : ℕ → List ℕ → Type 0
+BeginsGreat limit text = (run rest : List ℕ) × (text ≡ run ++ rest) × (list_all is_ascii_digit run ≡ true)
+    × (begins is_ascii_digit rest ≡ false) × (limit < digits_value 10 run)
 
 -- the text is a version as a whole, whatever its length
 abbrev pub IsWhole : ℕ → List ℕ → Type 0

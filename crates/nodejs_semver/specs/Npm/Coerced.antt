@@ -38,7 +38,8 @@ pub record IsRightmost (text front tuple back : List ℕ) : Type 0 where
 -- the release of these numbers, with 0 for each that is absent
 pub data IsRelease (Number : List ℕ → ℕ → Type 0) : List (List ℕ) → VersionValue → Type 0 where
   one : (a : List ℕ) (x : ℕ) → Number a x → IsRelease Number (a ∷ []) (release_value x 0 0)
-  two : (a b : List ℕ) (x y : ℕ) → Number a x → Number b y → IsRelease Number (a ∷ b ∷ []) (release_value x y 0)
+  two : (a b : List ℕ) (x y : ℕ) → Number a x → Number b y
+      → IsRelease Number (a ∷ b ∷ []) (release_value x y 0)
   three : (a b c : List ℕ) (x y z : ℕ) → Number a x → Number b y → Number c z
       → IsRelease Number (a ∷ b ∷ c ∷ []) (release_value x y z)
 

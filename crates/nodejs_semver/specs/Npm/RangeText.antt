@@ -1,10 +1,14 @@
--- Statement: how range texts are written for node-semver, strictly and by its option `loose`, and the comparators of each
--- alternative. Left out is one `*`, and a comparator before it, in a word that is else a whole version, as in `>*1.2.3`, which
--- node-semver passes over. Of the loose reading these are left out too, and a text that has one is rejected: words that are
--- malformed, which node-semver ignores; zero as several digits; more than 32 digits of a number, and 128 characters of a
--- pre-release; a pre-release without `-` that begins with none but a letter, and one that is `-` alone; other marks than one `v`
+-- Statement: how range texts are written for node-semver, strictly and by its option `loose`, and the
+-- comparators of each alternative. Left out is one `*`, and a comparator before it, in a word that is else
+-- a whole version, as in `>*1.2.3`, which node-semver passes over. Of the loose reading these are left out
+-- too, and a text that has one is rejected: words that are malformed, which node-semver ignores; zero as
+-- several digits; more than 32 digits of a number, and 128 characters of a pre-release; a pre-release
+-- without `-` that begins with none but a letter, and one that is `-` alone; other marks than one `v`
 -- before the whole end of a hyphen range.
-use Rattle.std.specs.Prelude.{◌≡◌, ◌⊎◌, ◌==◌, ◌<◌, ◌≤◌, ◌+◌, ◌&&◌, ◌||◌, not, nat_le, nat_lt, ℕ, Bool, true, false, List, [], ◌∷◌, ◌++◌, length, drop, Option, Some, None, encode_utf8_all, if◌then◌else◌}
+use Rattle.std.specs.Prelude.{◌≡◌, ◌⊎◌, ◌==◌, ◌<◌, ◌≤◌, ◌+◌, ◌&&◌, ◌||◌, not, nat_le, nat_lt, ℕ, Bool, true}
+use Rattle.std.specs.Prelude.{false}
+use Rattle.std.specs.Prelude.{List, [], ◌∷◌, ◌++◌, length, drop, Option, Some, None, encode_utf8_all}
+use Rattle.std.specs.Prelude.{if◌then◌else◌}
 use Rattle.std.specs.Char.{is_ascii_digit}
 use Rattle.std.specs.List.{list_all, prefix_len}
 use Rattle.semver_core.specs.Lists.{is_empty}
@@ -12,15 +16,18 @@ use Rattle.semver_core.specs.Text.Characters.{begins, is_whitespace, IsBlank, Is
 use Rattle.semver_core.specs.Text.Identifiers.{Id, IsIdentifiers, pieces}
 use Rattle.semver_core.specs.Text.Numbers.{IsNumber}
 use Rattle.nodejs_semver.specs.Npm.Grammar.{IsStrictBuild, has_leading_zero, is_strict_identifier}
-use Rattle.nodejs_semver.specs.Npm.Table.{Comparison, Partial, Sign, caret, compared, hyphen_lower, hyphen_upper, major, minor, table, tilde, whole, wildcard}
+use Rattle.nodejs_semver.specs.Npm.Table.{Comparison, Partial, Sign, caret, compared, hyphen_lower}
+use Rattle.nodejs_semver.specs.Npm.Table.{hyphen_upper}
+use Rattle.nodejs_semver.specs.Npm.Table.{major, minor, table, tilde, whole, wildcard}
 use Rattle.nodejs_semver.specs.Text.WordText.{Comparator, above, at_least, at_most, below, equal}
 
 -- ---- partials
 
--- node-semver's regular expressions count: numbers, the digits at the front of an identifier, and what follows these
+-- node-semver's regular expressions count: numbers, the digits at the front of an identifier, and what
+-- follows these
 abbrev pub is_short_identifier : List ℕ → Bool
-is_short_identifier text = let digits = prefix_len is_ascii_digit text in
-    nat_le (length text) digits && nat_le digits 257 || nat_le digits 256 && nat_le (length text) (digits + 251)
+is_short_identifier text = let run = prefix_len is_ascii_digit text in
+    nat_le (length text) run && nat_le run 257 || nat_le run 256 && nat_le (length text) (run + 251)
 
 abbrev pub is_short_build : List ℕ → Bool
 is_short_build text = nat_le (length text) 250
@@ -35,12 +42,12 @@ most_digits loose = if loose then 32 else 257
 -- a place: `x`, `X`, `*`, or a number of any value
 pub data IsPlace (loose : Bool) : List ℕ → Option ℕ → Type 0 where
   any : (b : ℕ) → (b == 120 || b == 88 || b == 42) ≡ true → IsPlace loose (b ∷ []) None
-  number : (digits : List ℕ) (n : ℕ) → IsNumber n digits n → is_spelled loose n digits ≡ true → length digits ≤ most_digits loose
-      → IsPlace loose digits (Some n)
+  number : (run : List ℕ) (n : ℕ) → IsNumber n run n → is_spelled loose n run ≡ true
+      → length run ≤ most_digits loose → IsPlace loose run (Some n)
 
 -- the identifiers of a pre-release: strictly, none that is digits alone has a leading zero
 abbrev pub are_spelled : Bool → List ℕ → Bool
-are_spelled loose text = if loose then nat_le (length text) 128 else list_all is_strict_identifier (pieces text)
+are_spelled loose ids = if loose then nat_le (length ids) 128 else list_all is_strict_identifier (pieces ids)
 
 -- the text begins with a letter
 abbrev pub begins_letter : List ℕ → Bool
@@ -69,10 +76,12 @@ partial_of None b c pre build = wildcard
 -- one to three places joined by dots, and behind the third a pre-release and build metadata, or nothing
 pub data IsPartial (loose : Bool) : List ℕ → Partial → Type 0 where
   one : (x : List ℕ) (a : Option ℕ) → IsPlace loose x a → IsPartial loose x (partial_of a None None [] [])
-  two : (x y : List ℕ) (a b : Option ℕ) → IsPlace loose x a → IsPlace loose y b → IsPartial loose (x ++ 46 ∷ y) (partial_of a b None [] [])
-  three : (x y z pre build : List ℕ) (a b c : Option ℕ) (ids builds : List Id) → IsPlace loose x a → IsPlace loose y b → IsPlace loose z c
-      → IsPreRelease loose pre ids → list_all is_short_identifier (pieces (undashed pre)) ≡ true
-      → IsStrictBuild build builds → list_all is_short_build (pieces (drop 1 build)) ≡ true
+  two : (x y : List ℕ) (a b : Option ℕ) → IsPlace loose x a → IsPlace loose y b
+      → IsPartial loose (x ++ 46 ∷ y) (partial_of a b None [] [])
+  three : (x y z pre build : List ℕ) (a b c : Option ℕ) (ids builds : List Id) → IsPlace loose x a
+      → IsPlace loose y b → IsPlace loose z c → IsPreRelease loose pre ids
+      → list_all is_short_identifier (pieces (undashed pre)) ≡ true → IsStrictBuild build builds
+      → list_all is_short_build (pieces (drop 1 build)) ≡ true
       → IsPartial loose (x ++ 46 ∷ (y ++ 46 ∷ (z ++ (pre ++ build)))) (partial_of a b c ids builds)
 
 -- ---- words
@@ -86,18 +95,20 @@ spelling (compared below) = 60 ∷ []
 spelling caret = 94 ∷ []
 spelling tilde = 126 ∷ []
 
--- the sign of a word, with the whitespace behind it. A `=` behind `>` or `<` belongs to the sign, whitespace between them or not;
--- `^` may have a `=` behind it, `~` one of `>`, `>=` and `=`, and `~>` one of `>` and `>=`.
+-- the sign of a word, with the whitespace behind it. A `=` behind `>` or `<` belongs to the sign,
+-- whitespace between them or not; `^` may have a `=` behind it, `~` one of `>`, `>=` and `=`, and `~>` one
+-- of `>` and `>=`.
 pub data IsSignText : List ℕ → Sign → Type 0 where
   no_sign : IsSignText [] (compared equal)
   sign : (s : Sign) (x : List ℕ) → IsBlank x → IsSignText (spelling s ++ x) s
   late_above : (x : List ℕ) → IsBlank x → IsSignText (62 ∷ (x ++ 61 ∷ [])) (compared at_least)
   late_below : (x : List ℕ) → IsBlank x → IsSignText (60 ∷ (x ++ 61 ∷ [])) (compared at_most)
   caret_equal : (x y : List ℕ) → IsBlank x → IsBlank y → IsSignText (94 ∷ (x ++ 61 ∷ y)) caret
-  tilde_sign : (c : Comparator) (x y : List ℕ) → IsBlank x → IsBlank y → (c ≡ above) ⊎ (c ≡ at_least) ⊎ (c ≡ equal)
+  tilde_sign : (c : Comparator) (x y : List ℕ) → IsBlank x → IsBlank y
+      → (c ≡ above) ⊎ (c ≡ at_least) ⊎ (c ≡ equal)
       → IsSignText (126 ∷ (x ++ (spelling (compared c) ++ y))) tilde
-  tilde_twice : (c : Comparator) (x y : List ℕ) → IsBlank x → 0 < length x → IsBlank y → (c ≡ above) ⊎ (c ≡ at_least)
-      → IsSignText (126 ∷ (62 ∷ (x ++ (spelling (compared c) ++ y)))) tilde
+  tilde_twice : (c : Comparator) (x y : List ℕ) → IsBlank x → 0 < length x → IsBlank y
+      → (c ≡ above) ⊎ (c ≡ at_least) → IsSignText (126 ∷ (62 ∷ (x ++ (spelling (compared c) ++ y)))) tilde
 
 -- `v` or `=`
 abbrev pub is_mark : ℕ → Bool
@@ -109,8 +120,8 @@ is_one_v [] = true
 is_one_v (b ∷ []) = b == 118
 is_one_v (b ∷ c ∷ rest) = false
 
--- the marks that may stand between a sign and a partial: strictly one `v` at most before a whole version that is compared, and
--- else any, but no `=` first behind `>` and `<`
+-- the marks that may stand between a sign and a partial: strictly one `v` at most before a whole version
+-- that is compared, and else any, but no `=` first behind `>` and `<`
 abbrev pub are_marks : Bool → Sign → Partial → List ℕ → Bool
 are_marks false (compared c) (whole v) marks = is_one_v marks
 are_marks loose (compared above) p marks = list_all is_mark marks && not (begins (λ b. b == 61) marks)
@@ -119,20 +130,22 @@ are_marks loose s p marks = list_all is_mark marks
 
 -- a word: a sign, marks and a partial. Without a sign the first mark is no `=`, since that would be the sign.
 pub data IsWord (loose include : Bool) : List ℕ → List Comparison → Type 0 where
-  word : (signs marks text : List ℕ) (s : Sign) (p : Partial) → IsSignText signs s → are_marks loose s p marks ≡ true
-      → (is_empty signs && begins (λ b. b == 61) marks) ≡ false → IsPartial loose text p
+  word : (signs marks text : List ℕ) (s : Sign) (p : Partial) → IsSignText signs s
+      → are_marks loose s p marks ≡ true → (is_empty signs && begins (λ b. b == 61) marks) ≡ false
+      → IsPartial loose text p
       → IsWord loose include (signs ++ (marks ++ text)) (table include s p (marks ++ text))
 
 -- ---- alternatives
 
 -- one word or more, with whitespace between them
 pub data AreWords (loose include : Bool) : List ℕ → List Comparison → Type 0 where
-  last : (text : List ℕ) (cs : List Comparison) → IsWord loose include text cs → AreWords loose include text cs
-  more : (text blank rest : List ℕ) (cs ds : List Comparison) → IsWord loose include text cs → IsBlank blank → 0 < length blank
-      → AreWords loose include rest ds → AreWords loose include (text ++ (blank ++ rest)) (cs ++ ds)
+  last : (x : List ℕ) (cs : List Comparison) → IsWord loose include x cs → AreWords loose include x cs
+  more : (x blank rest : List ℕ) (cs ds : List Comparison) → IsWord loose include x cs → IsBlank blank
+      → 0 < length blank → AreWords loose include rest ds
+      → AreWords loose include (x ++ (blank ++ rest)) (cs ++ ds)
 
--- the marks and the whitespace before an end of a hyphen range: any, but one `v` at most before a whole version that stays as
--- it is written
+-- the marks and the whitespace before an end of a hyphen range: any, but one `v` at most before a whole
+-- version that stays as it is written
 pub record AreEndMarks (free : Bool) (text : List ℕ) : Type 0 where
   pub characters : List ℕ
   pub spelled : text ≡ encode_utf8_all characters
@@ -140,24 +153,24 @@ pub record AreEndMarks (free : Bool) (text : List ℕ) : Type 0 where
   pub one : (free || is_one_v characters) ≡ true
 
 abbrev pub is_free_upper : Bool → Partial → Bool
-is_free_upper include (whole v) = include || not (is_empty v.pre_release)
-is_free_upper include p = true
+is_free_upper include p = elim p [ whole v ↦ include || not (is_empty v.pre_release) | _ ↦ true ]
 
 abbrev pub is_free_lower : Partial → Bool
-is_free_lower (whole v) = false
-is_free_lower p = true
+is_free_lower p = elim p [ whole v ↦ false | _ ↦ true ]
 
 -- an alternative: nothing, a hyphen range or words
 pub data IsAlternative (loose include : Bool) : List ℕ → List Comparison → Type 0 where
   nothing : IsAlternative loose include [] []
-  hyphen : (a x blank gap b y : List ℕ) (p q : Partial) → AreEndMarks (is_free_lower p) a → IsPartial loose x p → IsBlank blank
-      → 0 < length blank → IsBlank gap → 0 < length gap → AreEndMarks (is_free_upper include q) b → IsPartial loose y q
+  hyphen : (a x blank gap b y : List ℕ) (p q : Partial) → AreEndMarks (is_free_lower p) a
+      → IsPartial loose x p → IsBlank blank → 0 < length blank → IsBlank gap → 0 < length gap
+      → AreEndMarks (is_free_upper include q) b → IsPartial loose y q
       → IsAlternative loose include (a ++ (x ++ (blank ++ 45 ∷ (gap ++ (b ++ y)))))
       (hyphen_lower include p (a ++ x) ++ hyphen_upper include q (b ++ y))
-  words : (text : List ℕ) (cs : List Comparison) → AreWords loose include text cs → IsAlternative loose include text cs
+  words : (x : List ℕ) (cs : List Comparison) → AreWords loose include x cs → IsAlternative loose include x cs
 
 -- the alternatives between bars, each without the whitespace around it
 pub data AreAlternatives (loose include : Bool) : List (List ℕ) → List (List Comparison) → Type 0 where
   none : AreAlternatives loose include [] []
-  next : (piece text : List ℕ) (others : List (List ℕ)) (cs : List Comparison) (rest : List (List Comparison)) → IsTrim piece text
-      → IsAlternative loose include text cs → AreAlternatives loose include others rest → AreAlternatives loose include (piece ∷ others) (cs ∷ rest)
+  next : (piece text : List ℕ) (others : List (List ℕ)) (cs : List Comparison) (rest : List (List Comparison))
+      → IsTrim piece text → IsAlternative loose include text cs → AreAlternatives loose include others rest
+      → AreAlternatives loose include (piece ∷ others) (cs ∷ rest)

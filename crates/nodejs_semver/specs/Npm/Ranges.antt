@@ -1,5 +1,6 @@
 -- Statement: which range texts node-semver rejects, and which versions the others accept.
-use Rattle.std.specs.Prelude.{◌≡◌, ◌==◌, ◌&&◌, ◌||◌, not, nat_le, ℕ, Bool, true, false, List, length, codes, if◌then◌else◌}
+use Rattle.std.specs.Prelude.{◌≡◌, ◌==◌, ◌&&◌, ◌||◌, not, nat_le, ℕ, Bool, true, false, List, length, codes}
+use Rattle.std.specs.Prelude.{if◌then◌else◌}
 use Rattle.std.specs.List.{filter, list_all, list_any}
 use Rattle.std.specs.Ordering.{is_eq, is_ge, is_gt, is_le, is_lt}
 use Rattle.std.specs.Str.{bytes_eq}
@@ -15,12 +16,13 @@ use Rattle.nodejs_semver.specs.Text.WordText.{above, at_least, at_most, below, e
 
 -- the numbers of a comparator are up to the limit, and its version has at most 256 characters as a text
 abbrev pub is_valid : ℕ → Comparison → Bool
-is_valid limit c = nat_le c.version.major limit && nat_le c.version.minor limit && nat_le c.version.patch limit
-    && nat_le (length c.text) MAX_LENGTH
+is_valid limit c = nat_le c.version.major limit && nat_le c.version.minor limit
+    && nat_le c.version.patch limit && nat_le (length c.text) MAX_LENGTH
 
--- the text has these alternatives, each a list of comparators. A text that has none is rejected. `loose` says whether it is read
--- by node-semver's option of this name.
-pub record HasAlternativesIn (loose : Bool) (limit : ℕ) (include : Bool) (text : List ℕ) (alternatives : List (List Comparison)) : Type 0 where
+-- the text has these alternatives, each a list of comparators. A text that has none is rejected. `loose` says
+-- whether it is read by node-semver's option of this name.
+pub record HasAlternativesIn (loose : Bool) (limit : ℕ) (include : Bool) (text : List ℕ)
+    (alternatives : List (List Comparison)) : Type 0 where
   pub parts : List (List ℕ)
   pub divided : IsCutAtBars text parts
   pub each : AreAlternatives loose include parts alternatives
@@ -41,31 +43,32 @@ satisfies v c = elim c.sign [
 
 -- the comparator names a pre-release of the same three numbers
 abbrev pub names : VersionValue → Comparison → Bool
-names v c = not (is_release c.version) && ((c.version.major == v.major) && ((c.version.minor == v.minor) && (c.version.patch == v.patch)))
+names v c = not (is_release c.version)
+    && ((c.version.major == v.major) && ((c.version.minor == v.minor) && (c.version.patch == v.patch)))
 
 -- a comparator that counts: `>=0.0.0`, written so, is none unless pre-releases are included
 abbrev pub counts : Bool → Comparison → Bool
 counts include c = include || not (elim c.sign [ at_least ↦ bytes_eq c.text (codes "0.0.0") | _ ↦ false ])
 
--- all comparators of the alternative are satisfied, and the version is a release, or pre-releases are included, or one comparator
--- of this alternative names a pre-release of the same three numbers
+-- all comparators of the alternative are satisfied, and the version is a release, or pre-releases are
+-- included, or one comparator of this alternative names a pre-release of the same three numbers
 abbrev pub meets : Bool → VersionValue → List Comparison → Bool
 meets include v cs = list_all (satisfies v) cs && (is_release v || (include || list_any (names v) cs))
 
--- the alternatives accept the version: some one does. Without pre-releases included, an alternative in which no comparator counts
--- accepts each release, and leaves the others out.
+-- the alternatives accept the version: some one does. Without pre-releases included, an alternative in
+-- which no comparator counts accepts each release, and leaves the others out.
 abbrev pub accepts : Bool → List (List Comparison) → VersionValue → Bool
 accepts include alternatives v =
     if not include && list_any (λ cs. not (list_any (counts include) cs)) alternatives then is_release v
     else list_any (λ cs. meets include v (filter (counts include) cs)) alternatives
 
--- a range, as its intervals, of a text: asked whether pre-releases are included as its text was, it accepts the
--- versions that the alternatives of the text accept
-pub record IsRangeIn (loose : Bool) (limit : ℕ) (include : Bool) (text : List ℕ) (range : List (Span VersionValue)) : Type 0
-  where
-    pub alternatives : List (List Comparison)
-    pub has : HasAlternativesIn loose limit include text alternatives
-    pub accepted : (v : VersionValue) → Gate.accepts range v include ≡ accepts include alternatives v
+-- a range, as its intervals, of a text: asked whether pre-releases are included as its text was, it accepts
+-- the versions that the alternatives of the text accept
+pub record IsRangeIn (loose : Bool) (limit : ℕ) (include : Bool) (text : List ℕ)
+    (range : List (Span VersionValue)) : Type 0 where
+  pub alternatives : List (List Comparison)
+  pub has : HasAlternativesIn loose limit include text alternatives
+  pub accepted : (v : VersionValue) → Gate.accepts range v include ≡ accepts include alternatives v
 
 abbrev pub IsRangeOf : ℕ → Bool → List ℕ → List (Span VersionValue) → Type 0
 IsRangeOf = IsRangeIn false

@@ -1,5 +1,5 @@
--- Statement: what the signs of node-semver's range texts mean: each is one comparator of whole versions, or two.
--- `include` says whether pre-releases are included.
+-- Statement: what the signs of node-semver's range texts mean: each is one comparator of whole versions, or
+-- two. `include` says whether pre-releases are included.
 use Rattle.std.specs.Prelude.{◌==◌, ◌+◌, ◌&&◌, not, ℕ, Bool, true, false, List, [], ◌∷◌, ◌++◌, if◌then◌else◌}
 use Rattle.semver_core.specs.Lists.{is_empty}
 use Rattle.semver_core.specs.Text.Identifiers.{Numeric}

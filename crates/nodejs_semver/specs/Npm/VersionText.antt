@@ -1,5 +1,7 @@
 -- Statement: the version texts of node-semver's strict reading, its default, and of its loose one.
-use Rattle.std.specs.Prelude.{◌≡◌, ◌⊎◌, ◌==◌, ◌≤◌, ◌||◌, not, ℕ, Bool, true, false, List, [], ◌∷◌, ◌++◌, length, encode_utf8_all}
+use Rattle.std.specs.Prelude.{◌≡◌, ◌⊎◌, ◌==◌, ◌≤◌, ◌||◌, not, ℕ, Bool, true, false, List, [], ◌∷◌, ◌++◌}
+use Rattle.std.specs.Prelude.{length}
+use Rattle.std.specs.Prelude.{encode_utf8_all}
 use Rattle.std.specs.Char.{is_ascii_digit}
 use Rattle.std.specs.List.{list_all}
 use Rattle.std.specs.Str.{chars}
@@ -12,8 +14,8 @@ use Rattle.nodejs_semver.specs.Npm.Grammar.{IsStrictNumber, IsStrictPreRelease, 
 use Rattle.nodejs_semver.specs.Npm.RangeText.{is_mark}
 
 -- the whole text is this version, in a reading that has these marks, numbers and pre-releases
-pub record IsWritten (Marks : List ℕ → Type 0) (Number : List ℕ → ℕ → Type 0) (PreRelease : List ℕ → List Id → Type 0)
-    (text : List ℕ) (v : VersionValue) : Type 0 where
+pub record IsWritten (Marks : List ℕ → Type 0) (Number : List ℕ → ℕ → Type 0)
+    (PreRelease : List ℕ → List Id → Type 0) (text : List ℕ) (v : VersionValue) : Type 0 where
   pub mark : List ℕ
   pub major : List ℕ
   pub minor : List ℕ
@@ -30,7 +32,8 @@ pub record IsWritten (Marks : List ℕ → Type 0) (Number : List ℕ → ℕ �
 
 -- strict: one `v` or none, no leading zeros, `-` before the pre-release
 abbrev pub IsStrictVersion : ℕ → List ℕ → VersionValue → Type 0
-IsStrictVersion limit = IsWritten (λ mark. (mark ≡ []) ⊎ (mark ≡ 118 ∷ [])) (IsStrictNumber limit) IsStrictPreRelease
+IsStrictVersion limit =
+    IsWritten (λ mark. (mark ≡ []) ⊎ (mark ≡ 118 ∷ [])) (IsStrictNumber limit) IsStrictPreRelease
 
 -- any of `v`, `=` and whitespace
 pub record AreMarks (text : List ℕ) : Type 0 where
@@ -38,8 +41,9 @@ pub record AreMarks (text : List ℕ) : Type 0 where
   pub spelled : text ≡ encode_utf8_all characters
   pub each : list_all (λ c. is_mark c || is_whitespace c) characters ≡ true
 
--- a pre-release without a `-` before it may begin so: it has no `-` to give away, and no digit that the patch number takes. Before a
--- dot it has: `1.2.3-` is 1.2.3 with the pre-release `-`, and `1.2.34.5` is 1.2.3 with the pre-release `4.5`.
+-- a pre-release without a `-` before it may begin so: it has no `-` to give away, and no digit that the
+-- patch number takes. Before a dot it has: `1.2.3-` is 1.2.3 with the pre-release `-`, and `1.2.34.5` is
+-- 1.2.3 with the pre-release `4.5`.
 abbrev pub begins_bare : List ℕ → Bool
 begins_bare [] = false
 begins_bare (c ∷ []) = not (is_ascii_digit c)
@@ -49,14 +53,15 @@ begins_bare (c ∷ d ∷ rest) = d == 46 || not (c == 45 || is_ascii_digit c)
 pub data IsLoosePreRelease : List ℕ → List Id → Type 0 where
   no_pre_release : IsLoosePreRelease [] []
   dashed : (text : List ℕ) (list : List Id) → IsIdentifiers text list → IsLoosePreRelease (45 ∷ text) list
-  bare : (text : List ℕ) (list : List Id) → IsIdentifiers text list → begins_bare text ≡ true → IsLoosePreRelease text list
+  bare : (text : List ℕ) (list : List Id) → IsIdentifiers text list → begins_bare text ≡ true
+      → IsLoosePreRelease text list
 
 -- loose: any marks, leading zeros, and a pre-release without `-`
 abbrev pub IsLooseVersion : ℕ → List ℕ → VersionValue → Type 0
 IsLooseVersion limit = IsWritten AreMarks (IsNumber limit) IsLoosePreRelease
 
--- the text, of at most 256 characters with the whitespace around it, is this version. (node-semver counts UTF-16 units. A
--- character that is two of them stands in no version text.)
+-- the text, of at most 256 characters with the whitespace around it, is this version. (node-semver counts
+-- UTF-16 units. A character that is two of them stands in no version text.)
 pub record IsWhole (Is : List ℕ → VersionValue → Type 0) (text : List ℕ) (v : VersionValue) : Type 0 where
   pub short : length (chars text) ≤ MAX_LENGTH
   pub middle : List ℕ

@@ -8,13 +8,10 @@ use Rattle.semver_core.specs.Printing.RoundTrip.{is_within}
 use Rattle.semver_core.specs.Values.Order.{version_eq}
 use Rattle.nodejs_semver.specs.Ranges.Outside.{is_bounded}
 
--- no number of the bound is above the limit
-abbrev pub is_small : ℕ → Bound VersionValue → Bool
-is_small limit b = not (passes (λ v. not (is_within limit v)) b)
-
 -- an interval of a range that comes back: it is not `*`, and no number of its bounds is above the limit
 abbrev pub is_printable : ℕ → Span VersionValue → Bool
-is_printable n s = (is_bounded s.lower || is_bounded s.upper) && (is_small n s.lower && is_small n s.upper)
+is_printable n s = (is_bounded s.lower || is_bounded s.upper)
+    && (not (passes (λ v. not (is_within n v)) s.lower) && not (passes (λ v. not (is_within n v)) s.upper))
 
 -- the interval that is read from a printed one: where its ends tie, the printed version stands for both
 abbrev pub bounds_back : Bound VersionValue → Bound VersionValue → Span VersionValue

@@ -10,25 +10,23 @@ use Rattle.semver_core.specs.declared.cuts.bound.Bound.TheVariants.{Unbounded, B
 
 -- `>=v` and `>v`; nothing without a bound
 abbrev pub lower_text : Bound VersionValue → List ℕ
-lower_text Unbounded = []
-lower_text (Before v) = 62 ∷ 61 ∷ version_text v
-lower_text (After v) = 62 ∷ version_text v
+lower_text b =
+    elim b [ Before v ↦ codes ">=" ++ version_text v | After v ↦ codes ">" ++ version_text v | _ ↦ [] ]
 
 -- `<v` and `<=v`; nothing without a bound
 abbrev pub upper_text : Bound VersionValue → List ℕ
-upper_text Unbounded = []
-upper_text (Before v) = 60 ∷ version_text v
-upper_text (After v) = 60 ∷ 61 ∷ version_text v
+upper_text b =
+    elim b [ Before v ↦ codes "<" ++ version_text v | After v ↦ codes "<=" ++ version_text v | _ ↦ [] ]
 
 -- `*` without bounds, one bound, `v` for `>=v` and `<=w` where v and w tie, and else two bounds with a space
 -- between them
 abbrev pub bounds_text : Bound VersionValue → Bound VersionValue → List ℕ
-bounds_text Unbounded Unbounded = 42 ∷ []
+bounds_text Unbounded Unbounded = codes "*"
 bounds_text Unbounded upper = upper_text upper
 bounds_text lower Unbounded = lower_text lower
 bounds_text (Before v) (After w) =
-    if version_eq v w then version_text v else lower_text (Before v) ++ 32 ∷ upper_text (After w)
-bounds_text lower upper = lower_text lower ++ 32 ∷ upper_text upper
+    if version_eq v w then version_text v else lower_text (Before v) ++ (codes " " ++ upper_text (After w))
+bounds_text lower upper = lower_text lower ++ (codes " " ++ upper_text upper)
 
 -- intervals joined by `||`
 abbrev pub range_text : List (Span VersionValue) → List ℕ

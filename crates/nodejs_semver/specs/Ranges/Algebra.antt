@@ -16,14 +16,11 @@ list_holds R ss v = list_any (λ s. holds R s v) ss
 abbrev pub intersection : (ss ts : List (Span VersionValue)) → Option (List (Span VersionValue))
 intersection ss ts = if_any (flat_map (λ s. flat_map (λ t. option_to_list (meet precedence s t)) ts) ss)
 
--- the remainder of one span by another, as a list
-abbrev pub remainder : {V : Type 0} → (V → V → Ordering) → Span V → Span V → List (Span V)
-remainder R s t = option_to_list (remainders R s t).0 ++ option_to_list (remainders R s t).1
-
--- what is left of the first list, the spans of the second taken away one after another; none if nothing is
--- left
+-- what is left of the first list, the spans of the second taken away one after another: the lower and the upper
+-- remainder of each; none if nothing is left
 abbrev pub difference : (ss ts : List (Span VersionValue)) → Option (List (Span VersionValue))
-difference ss ts = if_any (fold (λ left t. flat_map (λ s. remainder precedence s t) left) ss ts)
+difference ss ts = if_any (fold (λ left t. flat_map (λ s. option_to_list (remainders precedence s t).0
+    ++ option_to_list (remainders precedence s t).1) left) ss ts)
 
 -- some one span of the first list covers some one span of the second
 abbrev pub covers_one : List (Span VersionValue) → List (Span VersionValue) → Bool

@@ -1,10 +1,9 @@
 -- Statement: the least version that a range accepts, the least that it accepts and another does not, and the
 -- least that several accept.
 use Rattle.std.specs.Prelude.{◌≡◌, ◌+◌, Bool, true, false, ◌&&◌, not, List, [], ◌∷◌, ◌++◌, if◌then◌else◌}
-use Rattle.std.specs.Prelude.{Option, Some}
-use Rattle.std.specs.Prelude.{None, find, option_and_then}
-use Rattle.std.specs.Ordering.{is_le}
+use Rattle.std.specs.Prelude.{Option, Some, None, find, option_and_then}
 use Rattle.semver_core.specs.Cuts.{Span, holds}
+use Rattle.semver_core.specs.Increments.Least.{IsLeast}
 use Rattle.semver_core.specs.Text.Identifiers.{Id, Numeric}
 use Rattle.semver_core.specs.Values.Order.{precedence, version_eq}
 use Rattle.semver_core.specs.Values.Versions.{VersionValue, is_release}
@@ -12,10 +11,10 @@ use Rattle.semver_core.specs.declared.cuts.bound.Bound.{Bound}
 use Rattle.semver_core.specs.declared.cuts.bound.Bound.TheVariants.{Unbounded, Before, After}
 use Rattle.nodejs_semver.specs.Ranges.Gate.{lets_in, accepts}
 
--- the result is in the set and nothing in the set is below it, or it is None and the set is empty
+-- the result is the least version of the set, or it is None and the set is empty
 abbrev pub IsLeastOf : (VersionValue → Bool) → Option VersionValue → Type 0
 IsLeastOf set None = (v : VersionValue) → set v ≡ false
-IsLeastOf set (Some v) = (set v ≡ true) × ((w : VersionValue) → set w ≡ true → is_le (precedence v w) ≡ true)
+IsLeastOf set (Some v) = IsLeast (λ w. set w ≡ true) v
 
 -- the first list accepts the version, and the second does not
 abbrev pub beyond : List (Span VersionValue) → List (Span VersionValue) → VersionValue → Bool
@@ -29,12 +28,9 @@ begins_with (Before w) = Some w
 begins_with (After w) = Some (if is_release w then record w { patch = w.patch + 1; pre_release = [] }
     else record w { pre_release = w.pre_release ++ Numeric 0 ∷ [] })
 
--- the build of that version, if the result is it, and else none
-abbrev pub build_by : Option VersionValue → VersionValue → List Id
-build_by None v = []
-build_by (Some x) v = if version_eq x v then x.build else []
-
--- the build of a result: that of the lower bound from which it comes, of the first span that accepts it
+-- the build of a result: of the version with which the first span begins that accepts it, if that is the
+-- result, and else none
 abbrev pub least_build : List (Span VersionValue) → VersionValue → List Id
-least_build ss v = build_by (option_and_then (λ s. begins_with s.lower)
-    (find (λ s. holds precedence s v && lets_in s v) ss)) v
+least_build ss v =
+    elim (option_and_then (λ s. begins_with s.lower) (find (λ s. holds precedence s v && lets_in s v) ss))
+    [ None ↦ [] | Some x ↦ if version_eq x v then x.build else [] ]

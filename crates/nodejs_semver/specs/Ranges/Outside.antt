@@ -14,24 +14,19 @@ use Rattle.nodejs_semver.specs.declared.range.outside.RangeError.TheVariants.{In
 abbrev pub is_bounded : {V : Type 0} → Bound V → Bool
 is_bounded = passes (λ w. true)
 
--- the span has an upper bound, and its lower cut is not after the version
-abbrev pub lies_below : Span VersionValue → VersionValue → Bool
-lies_below s v = is_bounded s.upper && is_past precedence (lower_cut s.lower) v
-
--- the span has no bound at all, or it has a lower bound and its upper cut is not before the version
-abbrev pub lies_above : Span VersionValue → VersionValue → Bool
-lies_above s v = (not (is_bounded s.lower) && not (is_bounded s.upper))
-    || (is_bounded s.lower && not (is_past precedence (upper_cut s.upper) v))
-
--- the version is not accepted, and each span lies on the other side
+-- the version is not accepted, and each span lies on the other side: below, if it has an upper bound, and
+-- its lower cut is not after the version; above, if it has no bound at all, or a lower bound, and its upper
+-- cut is not before the version
 abbrev pub is_outside : OutsideDirection → Bool → List (Span VersionValue) → VersionValue → Bool
-is_outside d include ss v = not (accepts ss v include)
-    && list_all (λ s. elim d [ Higher ↦ lies_below s v | Lower ↦ lies_above s v ]) ss
+is_outside d include ss v = not (accepts ss v include) && list_all (λ s. elim d [
+  | Higher ↦ is_bounded s.upper && is_past precedence (lower_cut s.lower) v
+  | Lower ↦ (not (is_bounded s.lower) && not (is_bounded s.upper))
+      || (is_bounded s.lower && not (is_past precedence (upper_cut s.upper) v))
+]) ss
 
 -- the character of a direction, `>` or `<`
 abbrev pub direction_char : OutsideDirection → ℕ
-direction_char Higher = 62
-direction_char Lower = 60
+direction_char d = elim d [ Higher ↦ 62 | Lower ↦ 60 ]
 
 -- the direction of a character: every other character is an error
 abbrev pub direction_of : ℕ → Result OutsideDirection RangeError

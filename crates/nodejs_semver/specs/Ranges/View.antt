@@ -1,7 +1,5 @@
 -- Statement: what every range is.
 use Rattle.std.specs.Prelude.{◌≡◌, ◌+◌, ◌<◌, ◌⊎◌, ◌&&◌, ℕ, Bool, true, List, [], ◌∷◌, length, map, Option}
-use Rattle.std.specs.Borrow.{Bor}
-use Rattle.std.specs.Option.{option_map}
 use Rattle.std.specs.List.{list_all, list_any}
 use Rattle.semver_core.specs.Cuts.{Span, has_bound, is_interval}
 use Rattle.semver_core.specs.Values.Memory.{takes_memory}
@@ -13,25 +11,14 @@ use Rattle.semver_core.specs.Printing.RoundTrip.{is_readable}
 
 -- numbers up to the limit, and identifiers in normal form
 abbrev pub is_range_bound : ℕ → Bound VersionValue → Bool
-is_range_bound limit Unbounded = true
-is_range_bound limit (Before v) = is_readable limit v
-is_range_bound limit (After v) = is_readable limit v
+is_range_bound limit b = elim b [ Before v ↦ is_readable limit v | After v ↦ is_readable limit v | _ ↦ true ]
 
--- the value of a version that is borrowed, if there is one; the bound, the span and the spans of the values
--- of versions, whatever holds these
-abbrev pub value_of : {V : Type 0} → (V → VersionValue) → Option (Bor V) → Option VersionValue
-value_of value r = option_map (λ v. value v.now) r
-
+-- the bound and the span of the values of versions, whatever holds these
 abbrev pub bound_of : {V : Type 0} → (V → VersionValue) → Bound V → Bound VersionValue
-bound_of value Unbounded = Unbounded
-bound_of value (Before v) = Before (value v)
-bound_of value (After v) = After (value v)
+bound_of value b = elim b [ Unbounded ↦ Unbounded | Before v ↦ Before (value v) | After v ↦ After (value v) ]
 
 abbrev pub span_of : {V : Type 0} → (V → VersionValue) → Span V → Span VersionValue
 span_of value s = record { lower = bound_of value s.lower; upper = bound_of value s.upper }
-
-abbrev pub spans_of : {V : Type 0} → (V → VersionValue) → List (Span V) → List (Span VersionValue)
-spans_of value ss = map (span_of value) ss
 
 -- the intervals of a range: one or more, each with its lower cut below its upper one; no number of a bound is
 -- above the limit by more than one

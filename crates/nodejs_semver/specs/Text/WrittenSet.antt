@@ -14,26 +14,17 @@ use Rattle.nodejs_semver.specs.Text.Runs.{Run}
 
 -- the comparisons `>=w` and `>w` of a lower bound
 abbrev pub is_above : {V : Type 0} → (V → V → Ordering) → Bound V → V → Bool
-is_above R Unbounded v = true
-is_above R (Before w) v = not (is_lt (R v w))
-is_above R (After w) v = is_lt (R w v)
+is_above R b v = elim b [ Unbounded ↦ true | Before w ↦ not (is_lt (R v w)) | After w ↦ is_lt (R w v) ]
 
 -- the comparisons `<w` and `<=w` of an upper bound
 abbrev pub is_below : {V : Type 0} → (V → V → Ordering) → Bound V → V → Bool
-is_below R Unbounded v = true
-is_below R (Before w) v = is_lt (R v w)
-is_below R (After w) v = not (is_lt (R w v))
+is_below R b v = elim b [ Unbounded ↦ true | Before w ↦ is_lt (R v w) | After w ↦ not (is_lt (R w v)) ]
 
 -- a run writes what satisfies the comparisons of every word of it
 abbrev pub run_writes : {V : Type 0} → (V → V → Ordering) → V → Run V → Bool
 run_writes R v r = list_all (λ s. is_above R s.lower v && is_below R s.upper v) (r.first ∷ r.others)
 
--- what stands between bars writes the version: it is whitespace alone, or the version is in what some one of
--- its runs writes
-abbrev pub PieceWrites : ℕ → VersionValue → List ℕ → Type 0
-PieceWrites limit v piece = IsBlank piece ⊎ ((rs : List (Run VersionValue)) × HasRuns limit piece rs
-    × (list_any (run_writes precedence v) rs ≡ true))
-
--- the text writes the version: some one of its pieces does
+-- the text writes the version: some one of its pieces is whitespace alone, or has a run that writes it
 unfoldable pub Writes : ℕ → List ℕ → VersionValue → Type 0
-Writes limit text v = (pieces : List (List ℕ)) × IsCutAtBars text pieces × Any (PieceWrites limit v) pieces
+Writes limit text v = (ps : List (List ℕ)) × IsCutAtBars text ps × Any (λ p. IsBlank p ⊎
+    ((rs : List (Run VersionValue)) × HasRuns limit p rs × (list_any (run_writes precedence v) rs ≡ true))) ps

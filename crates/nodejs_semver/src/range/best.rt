@@ -2,7 +2,8 @@
 
 ghost use Rattle.nodejs_semver.specs.Ranges.Gate.{accepts};
 ghost use Rattle.nodejs_semver.specs.Ranges.Best.{IsMax, IsMin, replaces};
-ghost use Rattle.nodejs_semver.specs.Ranges.View.{spans_of, value_of};
+ghost use Rattle.std.specs.Option.{option_map};
+ghost use Rattle.nodejs_semver.specs.Internal.Shorthands.{spans_of};
 ghost use Rattle.semver_core.specs.Values.Order.{precedence};
 ghost use Rattle.semver_core.specs.Values.Versions.{VersionValue};
 ghost use Rattle.std.specs.Option.{option_copied};
@@ -175,7 +176,7 @@ fn greatest<'v, V: VersionPoint, W: Versioned>(
     versions: &'v [W],
 ) -> Option<&'v W>
     ensures { IsMax (λ v. accepts (spans_of V.value intervals.now) v false)
-        (map W.value versions.now) (value_of W.value result) }
+        (map W.value versions.now) (option_map (λ v. W.value v.now) result) }
 {
     let mut best = None;
     for version in versions {
@@ -192,7 +193,7 @@ fn least<'v, V: VersionPoint, W: Versioned>(
     versions: &'v [W],
 ) -> Option<&'v W>
     ensures { IsMin (λ v. accepts (spans_of V.value intervals.now) v false)
-        (map W.value versions.now) (value_of W.value result) }
+        (map W.value versions.now) (option_map (λ v. W.value v.now) result) }
 {
     let mut best = None;
     for version in versions {
@@ -212,7 +213,7 @@ fn is_new_max<V: VersionPoint, W: Versioned>(
 ) -> bool
     ensures { result ≡ replaces (λ b v. is_le (precedence b v))
         (λ v. accepts (spans_of V.value intervals.now) v false)
-        (value_of W.value best.entry) (W.value version.now) }
+        (option_map (λ v. W.value v.now) best.entry) (W.value version.now) }
 {
     match best {
         Some(best) => best.cmp_precedence(version).is_le() && accepts(intervals, version, false),
@@ -229,7 +230,7 @@ fn is_new_min<V: VersionPoint, W: Versioned>(
 ) -> bool
     ensures { result ≡ replaces (λ b v. is_lt (precedence v b))
         (λ v. accepts (spans_of V.value intervals.now) v false)
-        (value_of W.value best.entry) (W.value version.now) }
+        (option_map (λ v. W.value v.now) best.entry) (W.value version.now) }
 {
     match best {
         Some(best) => version.cmp_precedence(best).is_lt() && accepts(intervals, version, false),

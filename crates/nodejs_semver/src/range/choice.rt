@@ -2,7 +2,7 @@
 
 ghost use Rattle.nodejs_semver.specs.Ranges.Best.{IsMax, replaces};
 ghost use Rattle.nodejs_semver.specs.Ranges.Gate.{accepts};
-ghost use Rattle.nodejs_semver.specs.Ranges.View.{value_of};
+ghost use Rattle.std.specs.Option.{option_map};
 ghost use Rattle.semver_core.specs.Values.Order.{precedence};
 ghost use Rattle.semver_core.specs.Values.Versions.{is_release};
 ghost use Rattle.std.specs.List.{list_all};
@@ -27,7 +27,7 @@ impl<V: VersionPoint> RangeOf<V> {
         versions: &'v [W],
     ) -> Option<&'v W>
         ensures { IsMax (λ v. list_all (λ range. accepts range v false) ranges.now)
-            (map W.value versions.now) (value_of W.value result) }
+            (map W.value versions.now) (option_map (λ v. W.value v.now) result) }
     {
         let mut best = None;
         for version in versions {
@@ -47,7 +47,7 @@ impl<V: VersionPoint> RangeOf<V> {
 /// assert_eq!(rt; newest_release(&versions), Some(&versions[0]));
 /// ```
 pub fn newest_release<W: Versioned>(versions: &[W]) -> Option<&W>
-    ensures { IsMax is_release (map W.value versions.now) (value_of W.value result) }
+    ensures { IsMax is_release (map W.value versions.now) (option_map (λ v. W.value v.now) result) }
 {
     let mut best = None;
     for version in versions {
@@ -62,7 +62,7 @@ pub fn newest_release<W: Versioned>(versions: &[W]) -> Option<&W>
 #[inline(always)]
 fn is_new_release<W: Versioned>(version: &W, best: Option<&W>) -> bool
     ensures { result ≡ replaces (λ b v. is_le (precedence b v)) is_release
-        (value_of W.value best.entry) (W.value version.now) }
+        (option_map (λ v. W.value v.now) best.entry) (W.value version.now) }
 {
     match best {
         Some(best) => best.cmp_precedence(version).is_le() && version.is_release(),
@@ -78,7 +78,7 @@ fn is_new_shared<V: VersionPoint, W: Versioned>(
 ) -> bool
     ensures { result ≡ replaces (λ b v. is_le (precedence b v))
         (λ v. list_all (λ range. accepts range v false) ranges.now)
-        (value_of W.value best.entry) (W.value version.now) }
+        (option_map (λ v. W.value v.now) best.entry) (W.value version.now) }
 {
     match best {
         Some(best) => best.cmp_precedence(version).is_le() && all_accept(ranges, version),

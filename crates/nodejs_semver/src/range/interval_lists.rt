@@ -8,7 +8,7 @@ ghost use Rattle.nodejs_semver.specs.Internal.Sets.{meets_of, minus};
 ghost use Rattle.semver_core.specs.Clips.{clip};
 ghost use Rattle.semver_core.specs.Cuts.{Start, is_interval, meet, covers};
 ghost use Rattle.semver_core.specs.Lists.{if_any};
-ghost use Rattle.nodejs_semver.specs.Ranges.Algebra.{remainder};
+ghost use Rattle.nodejs_semver.specs.Internal.Shorthands.{remainder};
 ghost use Rattle.semver_core.specs.declared.cuts.bound.Bound.TheVariants.{Unbounded};
 ghost use Rattle.nodejs_semver.specs.Internal.Along.{IsAlong};
 

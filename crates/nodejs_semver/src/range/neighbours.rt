@@ -5,6 +5,7 @@ ghost use Rattle.std.specs.Prelude.{IsOk, IsTrue, Some, find};
 ghost use Rattle.std.specs.List.{list_any};
 ghost use Rattle.std.specs.Option.{option_copied};
 ghost use Rattle.nodejs_semver.specs.Internal.Candidates as spec;
+ghost use Rattle.nodejs_semver.specs.Internal.Shorthands.{build_by};
 ghost use Rattle.nodejs_semver.specs.Ranges.Gate.{lets_in};
 ghost use Rattle.nodejs_semver.specs.Ranges.Least as stated;
 ghost use Rattle.semver_core.specs.Cuts.{holds};
@@ -165,7 +166,7 @@ fn with_build_by(
     requires raisable { spec.Raisable bound.now }
     requires bare { version.build ≡ [] }
     ensures { IfOk result (λ v. v
-        ≡ record version { build = stated.build_by (stated.begins_with bound.now) version }) }
+        ≡ record version { build = build_by (stated.begins_with bound.now) version }) }
 {
     match bound {
         Bound::Before(first) if first.cmp(&version).is_eq() => {

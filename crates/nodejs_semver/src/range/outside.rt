@@ -1,7 +1,8 @@
 // Versions that lie above or below a range.
 
 ghost use Rattle.nodejs_semver.specs.Ranges.Outside as spec;
-ghost use Rattle.nodejs_semver.specs.Ranges.View.{bound_of, span_of, spans_of};
+ghost use Rattle.nodejs_semver.specs.Ranges.View.{bound_of, span_of};
+ghost use Rattle.nodejs_semver.specs.Internal.Shorthands.{lies_above, lies_below, spans_of};
 ghost use Rattle.nodejs_semver.specs.declared.range.outside.OutsideDirection.TheVariants as side;
 ghost use Rattle.std.specs.Prelude.{Ok, ◌≡◌};
 
@@ -112,8 +113,8 @@ fn lies_opposite<V: VersionPoint, W: Versioned>(
 ) -> bool
     ensures { result
         ≡ elim direction [
-          | side.Higher ↦ spec.lies_below (span_of V.value interval.now) (W.value version.now)
-          | side.Lower ↦ spec.lies_above (span_of V.value interval.now) (W.value version.now)
+          | side.Higher ↦ lies_below (span_of V.value interval.now) (W.value version.now)
+          | side.Lower ↦ lies_above (span_of V.value interval.now) (W.value version.now)
         ] }
 {
     let (lower, upper) = (interval.lower(), interval.upper());

@@ -6,7 +6,8 @@ ghost use Rattle.std.specs.Prelude.{◌≡◌, ◌++◌, Some};
 ghost use Rattle.semver_core.specs.Printing.Text.{version_text};
 ghost use Rattle.nodejs_semver.specs.Internal.Sets.{span_text};
 ghost use Rattle.nodejs_semver.specs.Printing.Text.{lower_text, upper_text, range_text};
-ghost use Rattle.nodejs_semver.specs.Ranges.View.{bound_of, span_of, spans_of};
+ghost use Rattle.nodejs_semver.specs.Ranges.View.{bound_of, span_of};
+ghost use Rattle.nodejs_semver.specs.Internal.Shorthands.{spans_of};
 
 use crate::RangeOf;
 use semver_core::VersionPoint;

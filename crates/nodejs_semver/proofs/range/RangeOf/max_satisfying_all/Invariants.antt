@@ -2,7 +2,7 @@ use Rattle.std.proofs.Common.{false, map, take}
 use Rattle.std.specs.List.{list_all}
 use Rattle.nodejs_semver.specs.Ranges.Best.{IsMax}
 use Rattle.nodejs_semver.specs.Ranges.Gate.{accepts}
-use Rattle.nodejs_semver.specs.Ranges.View.{value_of}
+use Rattle.nodejs_semver.specs.Internal.Shorthands.{value_of}
 use Rattle.nodejs_semver.proofs.range.RangeOf.max_satisfying_all.Given as goal
 
 abbrev pub invariant-loop-version : goal.invariant-loop-version

@@ -3,8 +3,7 @@ use Rattle.nodejs_semver.proofs.Common.{span_of}
 use Rattle.std.proofs.Common.{tests}
 use Rattle.std.proofs.lemmas.Iterator.Search.{all_from_yields_List}
 use Rattle.std.proofs.lemmas.List.Folds.{list_all-map}
-use Rattle.nodejs_semver.specs.Ranges.Outside.{lies_above, lies_below}
-use Rattle.nodejs_semver.specs.Ranges.View.{spans_of}
+use Rattle.nodejs_semver.specs.Internal.Shorthands.{lies_above, lies_below, spans_of}
 use Rattle.nodejs_semver.specs.declared.range.outside.OutsideDirection.TheVariants.{Higher, Lower}
 use Rattle.nodejs_semver.proofs.range.outside.lies_outside.Goals as goal
 
