@@ -8,7 +8,6 @@
 //! their `union`, `is_subset`, `accepts_same` and `simplify`.
 
 mod alternatives;
-mod borrowed_subsets;
 mod builds;
 mod coerced;
 mod comparators;

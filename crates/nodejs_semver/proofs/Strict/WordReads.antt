@@ -23,12 +23,12 @@ marks-utf8 [] u = u
 marks-utf8 (c ∷ rest) u = elim (cases_Bool (is_mark c)) [
   | inr other ↦ rw other u
   | inl mark ↦
-    let low : c < 128 = elim (or_cases (c == 118) (c == 61) mark) [
-      | inl v ↦ omega (arith, eqb-true c 118 v)
-      | inr equals ↦ omega (arith, eqb-true c 61 equals)
-    ] in
-    let more : 1 + prefix_len is_mark rest ≡ suc (prefix_len is_mark rest) = omega arith in
-    rw (mark, more) (marks-utf8 rest (IsUtf8-drop (c ∷ rest) 1 u (IsCharBoundary-after_ascii (c ∷ rest) 0 u (omega arith) low)))
+      let low : c < 128 = elim (or_cases (c == 118) (c == 61) mark) [
+        | inl v ↦ omega (arith, eqb-true c 118 v)
+        | inr equals ↦ omega (arith, eqb-true c 61 equals)
+      ] in
+      let more : 1 + prefix_len is_mark rest ≡ suc (prefix_len is_mark rest) = omega arith in
+      rw (mark, more) (marks-utf8 rest (IsUtf8-drop (c ∷ rest) 1 u (IsCharBoundary-after_ascii (c ∷ rest) 0 u (omega arith) low)))
 ]
 
 word-limited : (loose : Bool) (limit : ℕ) (s : Sign × List ℕ) (o : Front Partial) → limited_word limit (marked_word loose s o) ≡ marked_word loose s (limited limit o)
