@@ -8,7 +8,6 @@
 //! their `union`, `is_subset`, `accepts_same` and `simplify`.
 
 mod alternatives;
-mod borrowed_subsets;
 mod builds;
 mod coerced;
 mod comparators;
@@ -29,4 +28,4 @@ pub use crate::npm::coerced::{coerce, coerce_loose, coerce_rtl, coerce_rtl_loose
 pub use crate::npm::loose_versions::version_loose;
 pub use crate::npm::ranges::{range, range_loose};
 pub use crate::npm::sides::{gtr, ltr};
-pub use crate::npm::versions::version;
+pub use crate::npm::versions::{clean, version};

@@ -94,3 +94,47 @@ fn characters_are_counted(rt: HostRuntime) {
     assert!(rt; is_version_before(rt.alloc(), " ", 251));
     assert!(rt; !is_version_before(rt.alloc(), " ", 252));
 }
+
+// Texts, and what node-semver's `clean` makes of them, with the build; `-` where that is nothing.
+const CLEANED: &[(&str, &str)] = &[
+    (" =v1.2.3 ", "1.2.3"),
+    ("= v1.2.3", "1.2.3"),
+    ("v v1.2.3", "1.2.3"),
+    ("v=v=1.2.3-a+b", "1.2.3-a+b"),
+    (">1.2.3", "-"),
+    ("1.2.3 foo", "-"),
+    ("==01.2.3", "-"),
+    ("=1.2", "-"),
+    ("v", "-"),
+    ("", "-"),
+];
+
+fn cleans_to(alloc: Global, text: &str, printed: &str) -> bool {
+    match npm::clean(text) {
+        Ok(version) => prints(alloc, &version, printed),
+        Err(_) => printed == "-",
+    }
+}
+
+// Whether a text of this front, this character so many times and `1.2.3` is one that is cleaned.
+fn is_cleaned_behind(alloc: Global, front: &str, between: &str, count: usize) -> bool {
+    match long_text(alloc, front, between, count) {
+        Ok(text) => cleans(alloc, text),
+        Err(_) => false,
+    }
+}
+
+fn cleans(alloc: Global, mut text: String) -> bool {
+    text.push_str("1.2.3").is_ok() && cleans_to(alloc, text.as_str(), "1.2.3")
+}
+
+// What is taken off is not counted.
+#[test]
+fn versions_are_cleaned(rt: HostRuntime) {
+    for (text, printed) in CLEANED {
+        assert!(rt; cleans_to(rt.alloc(), text, printed));
+    }
+    assert!(rt; is_cleaned_behind(rt.alloc(), "", "=", 300));
+    assert!(rt; is_cleaned_behind(rt.alloc(), "", " ", 300));
+    assert!(rt; !is_cleaned_behind(rt.alloc(), "=", " ", 300));
+}

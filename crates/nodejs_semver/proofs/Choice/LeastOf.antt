@@ -17,9 +17,9 @@ use Rattle.nodejs_semver.proofs.Algebra.Triples.{le_of_lt, le_trans, lt_is, trip
 use Rattle.nodejs_semver.proofs.Choice.LeastPieces.{candidate, lets_in_alike}
 use Rattle.nodejs_semver.proofs.Choice.Next.{next_patch_above, next_pre_above, release_above}
 use Rattle.nodejs_semver.specs.Internal.Candidates.{has_build, bare, after_cut, release_after, firsts, list_marks, removed_marks}
-use Rattle.nodejs_semver.specs.Internal.Candidates.{candidates, among, improves, better, least_of, is_reached, all_accept}
-use Rattle.nodejs_semver.specs.Ranges.Least.{beyond, begins_with}
+use Rattle.nodejs_semver.specs.Internal.Candidates.{candidates, among, improves, better, least_of, is_reached, all_accept, wanted}
 use Rattle.nodejs_semver.specs.Internal.Shorthands.{build_by}
+use Rattle.nodejs_semver.specs.Ranges.Least.{beyond, begins_with}
 use Rattle.semver_core.specs.Text.Identifiers.{Numeric}
 use Rattle.semver_core.specs.Values.Versions.{release_value}
 
@@ -101,27 +101,40 @@ module _ (set : VersionValue → Bool) where
           → ((v : VersionValue) → set v ≡ true → is_reached r v ≡ true) → IsLeastOf set r
       by_answer r h f = grind arith
 
--- the least candidate of the set is its least version
-pub least_among : (ks : List (Span VersionValue)) (kss : List (List (Span VersionValue))) (ls : List (Span VersionValue))
-    → IsLeastOf (among ks kss ls) (least_of (among ks kss ls) (candidates (ks ∷ kss) ls))
-least_among ks kss ls = least_named (among ks kss ls) (candidates (ks ∷ kss) ls) (candidate ks kss ls)
+-- a set with the same versions has the same least one
+same_least : (p q : VersionValue → Bool) (r : Option VersionValue) → ((v : VersionValue) → p v ≡ q v) → IsLeastOf p r → IsLeastOf q r
+same_least p q r e h = subst (λ (set : VersionValue → Bool). IsLeastOf set r) (λ i v. e v i) h
 
--- of no lists it is the least version, and of one or more the least that the first and the others accept
+-- the least candidate of the set is its least version
+pub least_wanted : (kss : List (List (Span VersionValue))) (ls : List (Span VersionValue)) → 0 < length kss
+    → IsLeastOf (wanted kss ls) (least_of (wanted kss ls) (candidates kss ls))
+least_wanted [] ls n = absurd (omega arith)
+least_wanted (ks ∷ kss) ls n =
+    subst (λ (set : VersionValue → Bool). IsLeastOf set (least_of set (candidates (ks ∷ kss) ls)))
+    (λ i v. same (all_accept kss v) (accepts ks v false) (accepts ls v false) i)
+    (least_named (among ks kss ls) (candidates (ks ∷ kss) ls) (candidate ks kss ls))
+  where
+    same : (q a b : Bool) → (q && (a && not b)) ≡ ((a && q) && not b)
+    same q a b = grind arith
+
+-- of no lists it is the least version, and of more the least that all accept and nothing rejects
 pub least_of_none : (lists : List (List (Span VersionValue))) (v : VersionValue) → length lists < 1
     → v ≡ record (release_value 0 0 0) { pre_release = Numeric 0 ∷ [] } → IsLeastOf (all_accept lists) (Some v)
 least_of_none [] v n e = subst (λ (x : VersionValue). IsLeastOf (all_accept []) (Some x)) (sym e) (refl, λ w h. first_of_all w)
 least_of_none (ks ∷ kss) v n e = absurd (omega arith)
 
-pub least_of_lists : (lists : List (List (Span VersionValue))) (ks : List (Span VersionValue)) (r : Option VersionValue)
-    → 0 < length lists → ks ≡ get_or lists 0 ks
-    → IsLeastOf (among ks (take (length lists - 1) (drop 1 lists)) []) r → IsLeastOf (all_accept lists) r
-least_of_lists [] ks r n e h = absurd (omega arith)
-least_of_lists (first ∷ others) ks r n e h =
-    subst (λ (set : VersionValue → Bool). IsLeastOf set r) (λ i v. same (all_accept others v) (accepts (e i) v false) i)
-    (subst (λ (kss : List (List (Span VersionValue))). IsLeastOf (among ks kss []) r) (take_rest (first ∷ others) 1) h)
-  where
-    same : (a b : Bool) → (a && (b && true)) ≡ (b && a)
-    same a b = grind arith
+pub least_of_lists : (lists : List (List (Span VersionValue))) (r : Option VersionValue) → IsLeastOf (wanted lists []) r
+    → IsLeastOf (all_accept lists) r
+least_of_lists lists r h = same_least (wanted lists []) (all_accept lists) r (λ v. and-true (all_accept lists v)) h
+
+-- of one list it is the least beyond the other
+pub least_of_one : (ks ls : List (Span VersionValue)) (r : Option VersionValue) → IsLeastOf (wanted (ks ∷ []) ls) r
+    → IsLeastOf (beyond ks ls) r
+least_of_one ks ls r h = same_least (wanted (ks ∷ []) ls) (beyond ks ls) r (λ v. ap (λ a. a && not (accepts ls v false)) (and-true _)) h
+
+pub least_of_itself : (ks : List (Span VersionValue)) (r : Option VersionValue) → IsLeastOf (beyond ks []) r
+    → IsLeastOf (λ v. accepts ks v false) r
+least_of_itself ks r h = same_least (beyond ks []) (λ v. accepts ks v false) r (λ v. and-true _) h
 
 -- ---- no candidate has a build
 
@@ -163,10 +176,9 @@ all_built : (kss : List (List (Span VersionValue))) (v : VersionValue) (b : List
 all_built [] v b = refl
 all_built (ks ∷ kss) v b = ap₂ (λ p q. p && q) (accepts_built ks v b) (all_built kss v b)
 
-pub improves_bare : (best : Option VersionValue) (w : VersionValue) (ks : List (Span VersionValue))
-    (kss : List (List (Span VersionValue))) (ls : List (Span VersionValue))
-    → (improves best (bare w) && among ks kss ls (bare w)) ≡ (improves best w && among ks kss ls w)
-improves_bare best w ks kss ls = grind (arith, all_built, accepts_built)
+pub improves_bare : (best : Option VersionValue) (w : VersionValue) (kss : List (List (Span VersionValue)))
+    (ls : List (Span VersionValue)) → (improves best (bare w) && wanted kss ls (bare w)) ≡ (improves best w && wanted kss ls w)
+improves_bare best w kss ls = grind (arith, all_built, accepts_built)
 
 -- the least beyond nothing is the least that is accepted, whatever its build
 pub least_accepted : (ks : List (Span VersionValue)) (v : VersionValue) (b : List Id) → IsLeastOf (beyond ks []) (Some v)

@@ -1,28 +1,35 @@
--- When the least version of several ranges may need memory: what the search says of the first and of the others, said of all.
-use Rattle.nodejs_semver.proofs.Common.{◌≡◌, refl, subst, true, ◌⊎◌, ◌+◌, ◌-◌, ◌<◌, List, [], ◌∷◌, length, get_or, take, drop}
-use Rattle.nodejs_semver.proofs.Common.{arith, common_steps, take_rest, Span, VersionValue}
+-- When the search for a least version may need memory, said of the one list that is searched.
+use Rattle.nodejs_semver.proofs.Common.{◌≡◌, true, false, ◌&&◌, not, ◌⊎◌, ◌<◌, List, [], ◌∷◌, length, get_or, arith, common_steps, and-true}
+use Rattle.nodejs_semver.proofs.Common.{ap, sym, ◌∙◌, inl, inr, subst, Span, VersionValue}
 use Rattle.std.proofs.Common.{Any}
-use Rattle.nodejs_semver.specs.Internal.Candidates.{all_accept, BeginsAfterPre, Finds, MayAllocate}
+use Rattle.nodejs_semver.specs.Internal.Candidates.{all_accept, BeginsAfterPre, EndsAfterPre, Finds, MayAllocate}
+use Rattle.nodejs_semver.specs.Ranges.Gate.{accepts}
+use Rattle.nodejs_semver.specs.Ranges.Least.{beyond}
 
-Any-here : {X : Type 0} (P : X → Type 0) (x : X) (xs : List X) → P x → Any P (x ∷ xs)
-Any-here P x xs h = (0, x, omega arith, refl, h)
+Any-none : {X : Type 0} (P : X → Type 0) → Any P [] → ⊥
+Any-none P h = omega (arith, h.2)
 
-Any-there : {X : Type 0} (P : X → Type 0) (x : X) (xs : List X) → Any P xs → Any P (x ∷ xs)
-Any-there P x xs h = (h.0 + 1, h.1, grind (arith, h.2), grind (arith, common_steps, h.3), h.4)
+Any-one : {X : Type 0} (P : X → Type 0) (x : X) → Any P (x ∷ []) → P x
+Any-one P x h = grind (arith, common_steps, h.2, h.3, h.4)
 
--- a version that the first list and each of the others accept is one that all accept
-all_of : (ks : List (Span VersionValue)) (kss : List (List (Span VersionValue))) → Finds ks kss []
-    → (v : VersionValue) × (all_accept (ks ∷ kss) v ≡ true)
-all_of ks kss h = (h.0, grind (arith, h.1))
+pub one_allocates : (ks ls : List (Span VersionValue)) → MayAllocate (ks ∷ []) ls
+    → ((v : VersionValue) × (beyond ks ls v ≡ true)) ⊎ BeginsAfterPre ks ⊎ EndsAfterPre ls
+one_allocates ks ls h = elim h [
+  | inl found ↦ inl (found.0, ap (λ a. a && not (accepts ls found.0 false)) (sym (and-true _)) ∙ found.1)
+  | inr more ↦ inr (elim more [ inl begins ↦ inl (Any-one BeginsAfterPre ks begins) | inr ends ↦ inr ends ])
+]
 
-one_of : (ks : List (Span VersionValue)) (kss : List (List (Span VersionValue))) → MayAllocate ks kss []
-    → ((v : VersionValue) × (all_accept (ks ∷ kss) v ≡ true)) ⊎ Any BeginsAfterPre (ks ∷ kss)
-one_of ks kss h = grind (arith, all_of, Any-here BeginsAfterPre ks kss, Any-there BeginsAfterPre ks kss)
+-- beyond nothing
+pub alone_allocates : (ks : List (Span VersionValue)) → MayAllocate (ks ∷ []) []
+    → ((v : VersionValue) × (accepts ks v false ≡ true)) ⊎ BeginsAfterPre ks
+alone_allocates ks h = elim (one_allocates ks [] h) [
+  | inl found ↦ inl (found.0, sym (and-true _) ∙ found.1)
+  | inr more ↦ elim more [ inl begins ↦ inr begins | inr ends ↦ absurd (Any-none _ ends) ]
+]
 
-pub lists_allocate : (lists : List (List (Span VersionValue))) (ks : List (Span VersionValue))
-    → 0 < length lists → ks ≡ get_or lists 0 ks → MayAllocate ks (take (length lists - 1) (drop 1 lists)) []
+pub all_allocate : (lists : List (List (Span VersionValue))) → MayAllocate lists []
     → ((v : VersionValue) × (all_accept lists v ≡ true)) ⊎ Any BeginsAfterPre lists
-lists_allocate [] ks n e h = absurd (omega arith)
-lists_allocate (first ∷ others) ks n e h =
-    one_of first others (subst (λ k. MayAllocate k others []) e
-    (subst (λ (kss : List (List (Span VersionValue))). MayAllocate ks kss []) (take_rest (first ∷ others) 1) h))
+all_allocate lists h = elim h [
+  | inl found ↦ inl (found.0, sym (and-true _) ∙ found.1)
+  | inr more ↦ elim more [ inl begins ↦ inr begins | inr ends ↦ absurd (Any-none _ ends) ]
+]

@@ -3,15 +3,16 @@ use Rattle.nodejs_semver.proofs.Common.{◌≡◌, sym, ◌∙◌, ap, subst, �
 use Rattle.nodejs_semver.proofs.Common.{◌++◌, Option, Some, None, length, get_or, take, inl, inr, refl, arith, cond_both}
 use Rattle.nodejs_semver.proofs.Common.{or_cases, list_any-append, first_so, tied_itself, list_any, Near, not_if, tells, Span}
 use Rattle.nodejs_semver.proofs.Common.{holds, is_past, lower_cut, precedence_total, precedence, VersionValue, accepts, lets_in}
-use Rattle.nodejs_semver.proofs.Common.{least_build}
-use Rattle.std.proofs.Common.{is_le, is_lt}
+use Rattle.nodejs_semver.proofs.Common.{least_build, IfSome, span_of}
+use Rattle.std.proofs.Common.{is_le, is_lt, option_map}
 use Rattle.std.proofs.Math.Bool.{or-false}
 use Rattle.std.proofs.lemmas.Bool.{false≢true}
 use Rattle.std.proofs.lemmas.List.Folds.{find-append}
 use Rattle.std.specs.List.{find}
 use Rattle.std.specs.Option.{option_or}
-use Rattle.nodejs_semver.proofs.Algebra.FlatMaps.{take_next}
 use Rattle.nodejs_semver.proofs.Algebra.Triples.{le_trans, lt_is, lt_le, le_of_lt}
+use Rattle.nodejs_semver.proofs.Values.{map-further}
+use Rattle.nodejs_semver.specs.Internal.Shorthands.{spans_of}
 use Rattle.nodejs_semver.specs.Internal.Candidates.{StartsWith, IsLeastBuilt, IsLeastSoFar, lesser}
 use Rattle.nodejs_semver.proofs.Algebra.Gate.{past_order}
 
@@ -70,10 +71,14 @@ step ss (Some b) s w h start =
     (λ e. fresh ss s w start (λ x k. lt_le precedence_total w b x (lt_is precedence_total w b ∙ ap not e) (h.0.1 x k)))
 
 -- one more span, at its place
-pub one_further : (ss : List (Span VersionValue)) (i : ℕ) (best : Option VersionValue) (s : Span VersionValue)
-    (w next : VersionValue)
-    → i < length ss → s ≡ get_or ss i s → IsLeastSoFar (take i ss) best → StartsWith s w → next ≡ lesser best w
-    → IsLeastBuilt (take (i + 1) ss) next
-one_further ss i best s w next fits at h start e =
-    subst (IsLeastBuilt (take (i + 1) ss)) (sym e) (subst (λ l. IsLeastBuilt l (lesser best w))
-    (sym (take_next ss i s fits at)) (step (take i ss) best s w h start))
+pub one_further : {V : Type 0} (value : V → VersionValue) (xs : List (Span V)) (i : ℕ) (x : Span V) (best : Option VersionValue)
+    (w next : VersionValue) → i < length xs → x ≡ get_or xs i x → IsLeastSoFar (spans_of value (take i xs)) best
+    → StartsWith (span_of value x) w → next ≡ lesser best w → IsLeastBuilt (spans_of value (take (i + 1) xs)) next
+one_further value xs i x best w next within at h start e =
+    subst (IsLeastBuilt (spans_of value (take (i + 1) xs))) (sym e) (subst (λ l. IsLeastBuilt l (lesser best w))
+    (sym (map-further (span_of value) xs i x within at)) (step (spans_of value (take i xs)) best (span_of value x) w h start))
+
+pub least_so_far : {A : Type 0} (g : A → VersionValue) (ss : List (Span VersionValue)) (best : Option A)
+    → IsLeastSoFar ss (option_map g best) → IfSome best (λ a. IsLeastBuilt ss (g a))
+least_so_far g ss None h = tt
+least_so_far g ss (Some a) h = h

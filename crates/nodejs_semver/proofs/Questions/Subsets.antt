@@ -30,6 +30,12 @@ pub by_least : (a b : List (Span VersionValue)) (set : VersionValue → Bool) (i
 by_least a b set include e None h = (λ t. subset_of include a b (λ v. sym (e v) ∙ h v), λ s. refl)
 by_least a b set include e (Some w) h = (λ t. cc t, λ s. cc (sym (h.0) ∙ e w ∙ left_of include a b s w))
 
+-- nothing is in a set that has no least version
+pub none_in : (set : VersionValue → Bool) (r : Option VersionValue) → IsLeastOf set r
+    → IsTrue (is_none r) ↔ ((v : VersionValue) → set v ≡ false)
+none_in set None h = (λ t. h, λ s. refl)
+none_in set (Some w) h = (λ t. cc t, λ s. cc (sym (h.0) ∙ s w))
+
 by_difference : (a b d : List (Span VersionValue))
     → ((v : VersionValue) → accepts d v true ≡ (accepts a v true && not (accepts b v true)))
     → (answer : Bool) → IsTrue answer ↔ ((v : VersionValue) → accepts d v true ≡ false) → IsTrue answer ↔ IsSubset true a b

@@ -1,6 +1,7 @@
 -- Version texts of the strict reading: the function that reads them finds exactly what the statement has.
-use Rattle.std.proofs.Common.{◌≡◌, ◌≤◌, ◌⊎◌, ◌&&◌, ℕ, List, [], ◌∷◌, ◌++◌, length, append-nil, refl, sym, ap, ◌∙◌, arith, true, false, Some, None, inl, inr}
+use Rattle.std.proofs.Common.{◌≡◌, ◌≤◌, ◌⊎◌, ◌&&◌, ℕ, List, [], ◌∷◌, ◌++◌, drop, length, append-nil, refl, subst, sym, ap, ◌∙◌, arith, true, false, Some, None, inl, inr}
 use Rattle.std.specs.Char.{is_ascii_digit}
+use Rattle.std.specs.List.{prefix_len}
 use Rattle.std.specs.Str.{chars}
 use Rattle.std.specs.Prelude.{◌==◌}
 use Rattle.std.proofs.lemmas.Bool.{and_parts, cases_Bool, eqb-true}
@@ -17,7 +18,8 @@ use Rattle.nodejs_semver.specs.Internal.Fronts.{build_front, drop_v}
 use Rattle.nodejs_semver.specs.Internal.NpmReadings.{dashed_front, dotted_number, is_strict_list, qualified_version}
 use Rattle.nodejs_semver.specs.Internal.NpmReadings.{strict_number, strict_version}
 use Rattle.nodejs_semver.specs.Npm.Grammar.{IsStrictBuild, IsStrictNumber, IsStrictPreRelease}
-use Rattle.nodejs_semver.specs.Npm.VersionText.{IsStrictVersion, IsVersionText}
+use Rattle.nodejs_semver.specs.Npm.RangeText.{is_mark}
+use Rattle.nodejs_semver.specs.Npm.VersionText.{IsClean, IsStrictVersion, IsVersionText}
 use Rattle.nodejs_semver.proofs.Strict.Numbers.{dotted-found, dotted-read, strict-found, strict-read}
 use Rattle.nodejs_semver.proofs.Strict.Qualifiers.{build-found, build-taken, dashed-found, dashed-taken, ends-nil, quiet-behind}
 
@@ -140,3 +142,10 @@ pub text_refused : (limit : ℕ) (text middle : List ℕ) → IsTrim text middle
 text_refused limit text middle trimmed h = λ v w.
     let same = middle_is_trim text middle trimmed ∙ sym (middle_is_trim text w.middle w.trimmed) in
     cc (strict-read-version limit w.middle v w.is, h, same)
+
+-- the same of a text that is cleaned
+pub clean_refused : (limit : ℕ) (text middle rest : List ℕ) → IsTrim text middle → rest ≡ drop (prefix_len is_mark middle) middle
+    → NoValue (IsVersionText limit rest) → NoValue (IsClean limit text)
+clean_refused limit text middle rest trimmed e none = λ v w.
+    let same : w.middle ≡ middle = middle_is_trim text w.middle w.trimmed ∙ sym (middle_is_trim text middle trimmed) in
+    none v (subst (λ (t : List ℕ). IsVersionText limit t v) (ap (λ (m : List ℕ). drop (prefix_len is_mark m) m) same ∙ sym e) w.is)

@@ -1,7 +1,9 @@
 -- The words that the code reads are those whose numbers are up to the limit.
 use Rattle.nodejs_semver.proofs.Common.{Bool, ◌≡◌, ◌≤◌, ◌-◌, ℕ, List, length, drop, take, refl, sym, ap, ◌∙◌, arith, true, Some}
 use Rattle.nodejs_semver.proofs.Common.{None, inl, inr, ◌&&◌, cases_Bool, cond_some, length-append, list_all, take_rest, MAX_SAFE_INTEGER}
+use Rattle.nodejs_semver.proofs.Common.{[], ◌∷◌, ◌+◌, ◌<◌, ◌==◌, suc, IsCharBoundary-after_ascii, IsUtf8, IsUtf8-drop, eqb-true, or_cases}
 use Rattle.std.proofs.Common.{length-drop}
+use Rattle.std.specs.List.{prefix_len}
 use Rattle.nodejs_semver.specs.Internal.Fronts.{Front}
 use Rattle.nodejs_semver.specs.Internal.NpmWords.{counted_front, is_small, limited, limited_word, marked_word, marks_len}
 use Rattle.nodejs_semver.specs.Internal.NpmWords.{npm_sign, partial_front, signed_word}
@@ -14,6 +16,20 @@ use Rattle.nodejs_semver.proofs.Strict.Places.{prefix-all}
 
 pub marks_all : (text : List ℕ) (at : ℕ) → at ≡ marks_len text → list_all is_mark (take at text) ≡ true
 marks_all text at e = rw e (prefix-all is_mark text)
+
+-- what stands behind marks is a text
+pub marks-utf8 : (text : List ℕ) → IsUtf8 text → IsUtf8 (drop (marks_len text) text)
+marks-utf8 [] u = u
+marks-utf8 (c ∷ rest) u = elim (cases_Bool (is_mark c)) [
+  | inr other ↦ rw other u
+  | inl mark ↦
+      let low : c < 128 = elim (or_cases (c == 118) (c == 61) mark) [
+        | inl v ↦ omega (arith, eqb-true c 118 v)
+        | inr equals ↦ omega (arith, eqb-true c 61 equals)
+      ] in
+      let more : 1 + prefix_len is_mark rest ≡ suc (prefix_len is_mark rest) = omega arith in
+      rw (mark, more) (marks-utf8 rest (IsUtf8-drop (c ∷ rest) 1 u (IsCharBoundary-after_ascii (c ∷ rest) 0 u (omega arith) low)))
+]
 
 word-limited : (loose : Bool) (limit : ℕ) (s : Sign × List ℕ) (o : Front Partial) → limited_word limit (marked_word loose s o) ≡ marked_word loose s (limited limit o)
 word-limited loose limit s None = refl

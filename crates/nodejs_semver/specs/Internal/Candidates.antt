@@ -85,6 +85,10 @@ all_accept lists v = list_all (λ ss. accepts ss v false) lists
 abbrev pub among : List (Span VersionValue) → List (List (Span VersionValue)) → List (Span VersionValue) → VersionValue → Bool
 among ks kss ls v = all_accept kss v && beyond ks ls v
 
+-- each of the lists accepts the version, and the last list does not
+abbrev pub wanted : List (List (Span VersionValue)) → List (Span VersionValue) → VersionValue → Bool
+wanted kss ls v = all_accept kss v && not (accepts ls v false)
+
 -- the least version of a set that a list names, the first of equal ones
 abbrev pub improves : Option VersionValue → VersionValue → Bool
 improves None x = true
@@ -141,8 +145,8 @@ lesser None next = next
 lesser (Some best) next = if is_le (precedence best next) then best else next
 
 -- there is such a version
-abbrev pub Finds : List (Span VersionValue) → List (List (Span VersionValue)) → List (Span VersionValue) → Type 0
-Finds ks kss ls = (v : VersionValue) × (among ks kss ls v ≡ true)
+abbrev pub Finds : List (List (Span VersionValue)) → List (Span VersionValue) → Type 0
+Finds kss ls = (v : VersionValue) × (wanted kss ls v ≡ true)
 
 -- the bound is `>v` of a pre-release v: the version after v is made before it is known to be in the set
 abbrev pub IsAfterPre : Bound VersionValue → Type 0
@@ -155,5 +159,5 @@ abbrev pub EndsAfterPre : List (Span VersionValue) → Type 0
 EndsAfterPre ss = Any (λ s. IsAfterPre s.upper) ss
 
 -- when the search may allocate: it finds a version, or has to make one to try it
-abbrev pub MayAllocate : List (Span VersionValue) → List (List (Span VersionValue)) → List (Span VersionValue) → Type 0
-MayAllocate ks kss ls = Finds ks kss ls ⊎ BeginsAfterPre ks ⊎ Any BeginsAfterPre kss ⊎ EndsAfterPre ls
+abbrev pub MayAllocate : List (List (Span VersionValue)) → List (Span VersionValue) → Type 0
+MayAllocate kss ls = Finds kss ls ⊎ Any BeginsAfterPre kss ⊎ EndsAfterPre ls

@@ -1,9 +1,8 @@
 -- Statement: the version texts of node-semver's strict reading, its default, and of its loose one.
 use Rattle.std.specs.Prelude.{◌≡◌, ◌⊎◌, ◌==◌, ◌≤◌, ◌||◌, not, ℕ, Bool, true, false, List, [], ◌∷◌, ◌++◌}
-use Rattle.std.specs.Prelude.{length}
-use Rattle.std.specs.Prelude.{encode_utf8_all}
+use Rattle.std.specs.Prelude.{drop, encode_utf8_all, length}
 use Rattle.std.specs.Char.{is_ascii_digit}
-use Rattle.std.specs.List.{list_all}
+use Rattle.std.specs.List.{list_all, prefix_len}
 use Rattle.std.specs.Str.{chars}
 use Rattle.semver_core.specs.Text.Characters.{IsTrim, is_whitespace}
 use Rattle.semver_core.specs.Text.Identifiers.{Id, IsIdentifiers}
@@ -73,3 +72,9 @@ IsVersionText limit = IsWhole (IsStrictVersion limit)
 
 abbrev pub IsLooseVersionText : ℕ → List ℕ → VersionValue → Type 0
 IsLooseVersionText limit = IsWhole (IsLooseVersion limit)
+
+-- node-semver's `clean`: without the whitespace around it, and without the `v` and `=` then at its front, the text is this version
+pub record IsClean (limit : ℕ) (text : List ℕ) (v : VersionValue) : Type 0 where
+  pub middle : List ℕ
+  pub trimmed : IsTrim text middle
+  pub is : IsVersionText limit (drop (prefix_len is_mark middle) middle) v

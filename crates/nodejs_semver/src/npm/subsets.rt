@@ -7,10 +7,11 @@ ghost use Rattle.semver_core.specs.Values.Versions.{VersionValue};
 ghost use Rattle.std.specs.Prelude.{◌≡◌, ◌↔◌, ◌<◌, ◌⊎◌, IfOk, IsTrue, OnErr};
 ghost use Rattle.std.specs.Prelude.{false, is_some, length, true};
 
-use crate::Range;
+use crate::RangeOf;
+use semver_core::VersionPoint;
 use std::alloc::{AllocError, Global};
 
-impl Range {
+impl<V: VersionPoint> RangeOf<V> {
     /// Whether the other range accepts by `satisfies` every version that this one accepts. Where it
     /// does not, `least_beyond` returns the smallest version that shows it. It fails only where
     /// that does.
@@ -22,7 +23,11 @@ impl Range {
     /// let wide = Range::parse(alloc, "1 || 2")?;
     /// assert!(rt; narrow.is_subset(alloc, &wide)?);
     /// ```
-    pub fn is_subset(&self, alloc: Global, other: &Range) -> Result<bool, AllocError>
+    pub fn is_subset<W: VersionPoint>(
+        &self,
+        alloc: Global,
+        other: &RangeOf<W>,
+    ) -> Result<bool, AllocError>
         ensures subset { IfOk result (λ r. IsTrue r ↔ IsSubset false self.now other.now) }
         ensures memory { OnErr result (MayTakeMemory self.now other.now) }
     {
@@ -37,7 +42,7 @@ impl Range {
     pub fn is_subset_with_prerelease(
         &self,
         alloc: Global,
-        other: &Range,
+        other: &RangeOf<V>,
     ) -> Result<bool, AllocError>
         ensures subset { IfOk result (λ r. IsTrue r ↔ IsSubset true self.now other.now) }
         ensures memory { OnErr result
@@ -50,9 +55,12 @@ impl Range {
     }
 
     /// Whether both ranges accept the same versions by `satisfies`, however they are written:
-    /// `>=1 <3` and `1 || 2` do. It fails only where `is_subset` does, of one
-    /// or of the other.
-    pub fn accepts_same(&self, alloc: Global, other: &Range) -> Result<bool, AllocError>
+    /// `>=1 <3` and `1 || 2` do. It fails only where `is_subset` does, of one or of the other.
+    pub fn accepts_same<W: VersionPoint>(
+        &self,
+        alloc: Global,
+        other: &RangeOf<W>,
+    ) -> Result<bool, AllocError>
         ensures same { IfOk result (λ r. IsTrue r ↔ AcceptSame false self.now other.now) }
         ensures memory { OnErr result
             (MayTakeMemory self.now other.now ⊎ MayTakeMemory other.now self.now) }
@@ -68,7 +76,7 @@ impl Range {
     pub fn accepts_same_with_prerelease(
         &self,
         alloc: Global,
-        other: &Range,
+        other: &RangeOf<V>,
     ) -> Result<bool, AllocError>
         ensures same { IfOk result (λ r. IsTrue r ↔ AcceptSame true self.now other.now) }
         ensures memory { OnErr result (IsTrue (is_some (difference self.now other.now))
@@ -83,7 +91,7 @@ impl Range {
 }
 
 // Whether the range holds no version.
-fn holds_none(alloc: Global, range: &Range) -> Result<bool, AllocError>
+fn holds_none<V: VersionPoint>(alloc: Global, range: &RangeOf<V>) -> Result<bool, AllocError>
     ensures { IfOk result (λ r. IsTrue r
         ↔ ((v : VersionValue) → accepts range.now v true ≡ false)) }
 {

@@ -1,18 +1,21 @@
 // Version texts as node-semver's strict reading has them.
 
 ghost use Rattle.std.specs.Char.{is_ascii_digit};
-ghost use Rattle.std.specs.List.{list_all};
-ghost use Rattle.std.specs.Prelude.{◌≡◌, ◌↔◌, ◌≤◌, IfErr, IfOk, IsTrue, length, true};
+ghost use Rattle.std.specs.List.{list_all, prefix_len};
+ghost use Rattle.std.specs.Prelude.{◌≡◌, ◌↔◌, ◌≤◌, IfErr, IfOk, IsTrue, drop, length};
+ghost use Rattle.std.specs.Prelude.{true};
 ghost use Rattle.std.specs.Str.{chars};
 ghost use Rattle.nodejs_semver.specs.Internal.Fronts.{front_view};
 ghost use Rattle.nodejs_semver.specs.Internal.NpmReadings as Spec;
 ghost use Rattle.nodejs_semver.specs.Internal.Readings.{pair_view};
 ghost use Rattle.nodejs_semver.specs.Npm.Grammar.{is_strict_identifier};
-ghost use Rattle.nodejs_semver.specs.Npm.VersionText.{IsVersionText};
+ghost use Rattle.nodejs_semver.specs.Npm.RangeText.{is_mark};
+ghost use Rattle.nodejs_semver.specs.Npm.VersionText.{IsClean, IsVersionText};
 ghost use Rattle.semver_core.specs.Failures.{NoValue};
 ghost use Rattle.semver_core.specs.Text.Identifiers.{is_listed};
 ghost use Rattle.semver_core.specs.declared.TheConstants.{MAX_SAFE_INTEGER};
 
+use crate::npm::words::marks_len;
 use crate::readers::{build_front, pre_release_front};
 use semver_core::scan::{number_in, trim};
 use semver_core::{MAX_LENGTH, MAX_SAFE_INTEGER, SemverError, VersionRef};
@@ -154,4 +157,32 @@ pub fn version(text: &str) -> Result<VersionRef<'_>, SemverError>
         Some(version) => Ok(version),
         None => Err(SemverError),
     }
+}
+
+// The text behind the marks, `v` and `=`, at its front.
+fn unmarked(text: &str) -> &str
+    ensures { result.now ≡ drop (prefix_len is_mark text.now) text.now }
+{
+    &text[marks_len(text.as_bytes())..]
+}
+
+/// Reads a version text as node-semver's `clean` does unless it is told to be loose: as
+/// [`version`] does, once the whitespace around the text and then all `v` and `=` at its front are
+/// taken off. Only what is left is held to `MAX_LENGTH` characters.
+///
+/// Rejects every other text. The version borrows the text: nothing is allocated. `clean` of
+/// node-semver returns the version as a text without its build metadata.
+///
+/// ```rust
+/// assert_eq!(rt; npm::clean(" =v1.2.3 ")?, VersionRef::parse("1.2.3")?);
+/// assert!(rt; npm::version(" =v1.2.3 ").is_err());
+/// assert!(rt; npm::clean("=1.2.03").is_err());
+/// ```
+pub fn clean(text: &str) -> Result<VersionRef<'_>, SemverError>
+    // What is read is the version that the text is.
+    ensures ok { IfOk result (λ v. IsClean MAX_SAFE_INTEGER text.now v) }
+    // A text is rejected only if it is no version.
+    ensures refused { IfErr result (λ _. NoValue (IsClean MAX_SAFE_INTEGER text.now)) }
+{
+    version(unmarked(trim(text)))
 }

@@ -99,7 +99,7 @@ fn sign_front(text: &[u8]) -> (Sign, &[u8])
 
 // How many marks, `v` and `=`, stand at the front.
 #[tactic(auto, using(crate::proofs::Strict::Places::prefix_steps))]
-fn marks_len(text: &[u8]) -> usize
+pub(crate) fn marks_len(text: &[u8]) -> usize
     ensures value { result ≡ Spec.marks_len text.now }
     ensures fits { result ≤ length text.now }
 {

@@ -87,7 +87,7 @@ fn is_new_shared<V: VersionPoint, W: Versioned>(
 }
 
 // Whether each of the ranges accepts a version.
-fn all_accept<V: VersionPoint, W: Versioned>(ranges: &[RangeOf<V>], version: &W) -> bool
+pub(crate) fn all_accept<V: VersionPoint, W: Versioned>(ranges: &[RangeOf<V>], version: &W) -> bool
     ensures { result ≡ list_all (λ range. accepts range (W.value version.now) false) ranges.now }
 {
     ranges.iter().all(

@@ -12,27 +12,29 @@
 ghost use Rattle.nodejs_semver.specs.Ranges.Gate.{accepts};
 ghost use Rattle.nodejs_semver.specs.Internal.Candidates as spec;
 ghost use Rattle.nodejs_semver.specs.Ranges.Least as stated;
-ghost use Rattle.nodejs_semver.specs.Ranges.View.{TakesMemory, bound_of};
+ghost use Rattle.nodejs_semver.specs.Internal.Shorthands.{spans_of, value_of};
+ghost use Rattle.nodejs_semver.specs.Ranges.View.{bound_of, span_of};
 ghost use Rattle.semver_core.specs.Internal.Sides.{Near, Far};
 ghost use Rattle.semver_core.specs.Cuts.{Beside};
 ghost use Rattle.semver_core.specs.Values.Versions.{VersionValue, is_release};
 ghost use Rattle.std.specs.List.{Any, flat_map, list_all};
-ghost use Rattle.std.specs.Option.{option_copied};
 ghost use Rattle.semver_core.specs.declared.cuts.bound.Bound.TheVariants.{After};
 ghost use Rattle.std.specs.Prelude.{All, IfOk, IfSome, IsOk, OnErr, OnOk, [], false, fold, length};
 ghost use Rattle.std.specs.Prelude.{true};
 ghost use Rattle.std.specs.Prelude.{◌&&◌, ◌-◌, ◌<◌, ◌≡◌, ◌^◌, ◌⊎◌};
 
+use crate::RangeOf;
+use crate::range::choice::all_accept;
 use crate::range::gate::{accepts, accepts_one};
 use crate::range::neighbours::{
-    bare, bare_release, first_pre, is_first_pre, patch_after, pre_after, with_least_build,
+    bare, bare_release, first_pre, is_first_pre, owned, patch_after, pre_after, with_least_build,
 };
-use crate::{Range, RangeOf, RangeRef};
 use semver_core::cuts::{Bound, Interval};
-use semver_core::{Version, VersionPoint, VersionRef, Versioned};
+use semver_core::{Version, VersionPoint, Versioned};
 use std::alloc::{AllocError, Global};
+use std::slice::from_ref;
 
-impl Range {
+impl<V: VersionPoint> RangeOf<V> {
     /// The smallest version that the range accepts by `satisfies`. Returns `None` exactly where it
     /// accepts no version at all, as `>1.0.0 <1.0.1-0`.
     ///
@@ -61,11 +63,14 @@ impl Range {
             ⊎ Any (λ s. (v : VersionValue) × (s.lower ≡ After v) × (is_release v ≡ false))
             self.now) }
     {
-        let intervals = self.intervals();
-        match least_among(alloc, intervals, &[], &[])? {
+        if let Some(version) = least_start(self.items()) {
+            let found = owned(alloc, version)?;
+            return Ok(Some(found));
+        }
+        match least_among::<V, Version>(alloc, from_ref(self), &[])? {
             None => Ok(None),
             Some(version) => {
-                let built = with_least_build(alloc, version, intervals)?;
+                let built = with_least_build(alloc, version, self.items())?;
                 Ok(Some(built))
             }
         }
@@ -90,7 +95,11 @@ impl Range {
     /// assert_eq!(rt; narrow.least_beyond(alloc, &wide)?, None);
     /// ```
     #[tactic(auto, using(crate::proofs::Choice::Raised::raisable))]
-    pub fn least_beyond(&self, alloc: Global, other: &Range) -> Result<Option<Version>, AllocError>
+    pub fn least_beyond<W: VersionPoint>(
+        &self,
+        alloc: Global,
+        other: &RangeOf<W>,
+    ) -> Result<Option<Version>, AllocError>
         ensures least { IfOk result (λ r. stated.IsLeastOf (stated.beyond self.now other.now) r) }
         ensures build { IfOk result (λ r. IfSome r (λ v. v.build ≡ [])) }
         ensures memory { OnErr result
@@ -99,7 +108,7 @@ impl Range {
             ⊎ Any (λ s. (v : VersionValue) × (s.upper ≡ After v) × (is_release v ≡ false))
             other.now) }
     {
-        least_among(alloc, self.intervals(), &[], other.intervals())
+        least_among(alloc, from_ref(self), other.items())
     }
 
     /// The smallest version that each of the ranges accepts by `satisfies`, without a build.
@@ -121,7 +130,7 @@ impl Range {
     /// assert_eq!(rt; least, Some(Version::from((1u64, 2, 3))));
     /// ```
     #[tactic(auto, using(crate::proofs::Choice::Raised::raisable))]
-    pub fn least_of_all(alloc: Global, ranges: &[Range]) -> Result<Option<Version>, AllocError>
+    pub fn least_of_all(alloc: Global, ranges: &[RangeOf<V>]) -> Result<Option<Version>, AllocError>
         ensures least { IfOk result (λ r. stated.IsLeastOf
             (λ v. list_all (λ range. accepts range v false) ranges.now) r) }
         ensures build { IfOk result (λ r. IfSome r (λ v. v.build ≡ [])) }
@@ -132,14 +141,13 @@ impl Range {
             ranges.now) }
         ensures none { ranges.now ≡ [] → IsOk result }
     {
-        match ranges {
-            [] => Ok(Some(Version::with_pre(alloc, 0, 0, 0, 0)?)),
-            [first, others @ ..] => Ok(least_among(alloc, first.intervals(), others, &[])?),
+        if ranges.is_empty() {
+            let least = Version::with_pre(alloc, 0, 0, 0, 0)?;
+            return Ok(Some(least));
         }
+        least_among::<V, Version>(alloc, ranges, &[])
     }
-}
 
-impl<V: VersionPoint> RangeOf<V> {
     /// The smallest version that the range accepts with pre-releases included, as
     /// `satisfies_with_prerelease` does, without a build. Returns `None` exactly where the range
     /// holds no version, as `>1.0.0 <1.0.1-0`.
@@ -179,70 +187,10 @@ impl<V: VersionPoint> RangeOf<V> {
     }
 }
 
-impl<'a> RangeRef<'a> {
-    /// The smallest version that the range accepts, as `Range::min_version` says. Fails only if
-    /// allocation fails, which happens only where `Range::min_version` or `RangeRef::to_range` may
-    /// fail.
-    pub fn min_version(&self, alloc: Global) -> Result<Option<Version>, AllocError>
-        ensures least { IfOk result (λ r. stated.IsLeastOf (λ v. accepts self.now v false) r) }
-        ensures build { IfOk result (λ r. IfSome r (λ v. v.build ≡ stated.least_build self.now v)) }
-        ensures memory { OnErr result (((v : VersionValue) × (accepts self.now v false ≡ true))
-            ⊎ Any (λ s. (v : VersionValue) × (s.lower ≡ After v) × (is_release v ≡ false)) self.now
-            ⊎ TakesMemory self.now) }
-    {
-        if let Some(version) = least_start(self.intervals()) {
-            let found = version.to_version(alloc)?;
-            return Ok(Some(found));
-        }
-        let range = self.to_range(alloc)?;
-        range.min_version(alloc)
-    }
-
-    /// The smallest version that this range accepts and the other does not, as
-    /// `Range::least_beyond` says. Fails only if allocation fails, which happens only where that
-    /// may fail, or `RangeRef::to_range` for one of the two.
-    pub fn least_beyond(
-        &self,
-        alloc: Global,
-        other: &RangeRef<'_>,
-    ) -> Result<Option<Version>, AllocError>
-        ensures least { IfOk result (λ r. stated.IsLeastOf (stated.beyond self.now other.now) r) }
-        ensures build { IfOk result (λ r. IfSome r (λ v. v.build ≡ [])) }
-        ensures memory { OnErr result
-            (((v : VersionValue) × (stated.beyond self.now other.now v ≡ true))
-            ⊎ Any (λ s. (v : VersionValue) × (s.lower ≡ After v) × (is_release v ≡ false)) self.now
-            ⊎ Any (λ s. (v : VersionValue) × (s.upper ≡ After v) × (is_release v ≡ false)) other.now
-            ⊎ TakesMemory self.now ⊎ TakesMemory other.now) }
-    {
-        let range = self.to_range(alloc)?;
-        let removed = other.to_range(alloc)?;
-        range.least_beyond(alloc, &removed)
-    }
-
-    /// The smallest version that each of the ranges accepts, as `Range::least_of_all` says. Fails
-    /// only if allocation fails, which never happens for no ranges.
-    pub fn least_of_all(
-        alloc: Global,
-        ranges: &[RangeRef<'_>],
-    ) -> Result<Option<Version>, AllocError>
-        ensures least { IfOk result (λ r. stated.IsLeastOf
-            (λ v. list_all (λ range. accepts range v false) ranges.now) r) }
-        ensures build { IfOk result (λ r. IfSome r (λ v. v.build ≡ [])) }
-        ensures memory { OnErr result (0 < length ranges.now) }
-    {
-        let mut owned = Vec::new(alloc);
-        for range in ranges {
-            owned.push(range.to_range(alloc)?)?;
-        }
-        Range::least_of_all(alloc, &owned)
-    }
-}
-
 // The version with which the interval begins, where the interval accepts it.
 #[inline(always)]
-#[tactic(auto, using(crate::proofs::Values::span_same))]
-fn start<'v, 'a>(interval: &'v Interval<VersionRef<'a>>) -> Option<&'v VersionRef<'a>>
-    ensures { IfSome result (λ v. spec.StartsWith interval.now v.now) }
+fn start<V: VersionPoint>(interval: &Interval<V>) -> Option<&V>
+    ensures { IfSome result (λ v. spec.StartsWith (span_of V.value interval.now) (V.value v.now)) }
 {
     match interval.lower() {
         Bound::Before(version) if accepts_one(interval, version, false) => Some(version),
@@ -252,19 +200,20 @@ fn start<'v, 'a>(interval: &'v Interval<VersionRef<'a>>) -> Option<&'v VersionRe
 
 // The best so far, or the next version where that is below it.
 #[inline(always)]
-fn lesser<'v, 'a>(best: Option<&'v VersionRef<'a>>, next: &'v VersionRef<'a>) -> &'v VersionRef<'a>
-    ensures { result.now ≡ spec.lesser (option_copied best.entry) next.now }
+fn lesser<'v, V: Versioned>(best: Option<&'v V>, next: &'v V) -> &'v V
+    ensures { V.value result.now ≡ spec.lesser (value_of V.value best.entry) (V.value next.now) }
 {
     match best {
-        Some(best) if best.cmp(next).is_le() => best,
+        Some(best) if best.cmp_precedence(next).is_le() => best,
         _ => next,
     }
 }
 
 // The least version that the intervals accept, where each of them begins with one that it accepts.
 // Most do, and then no version has to be made.
-fn least_start<'v, 'a>(intervals: &'v [Interval<VersionRef<'a>>]) -> Option<&'v VersionRef<'a>>
-    ensures { IfSome result (λ v. spec.IsLeastBuilt intervals.now v.now) }
+fn least_start<V: VersionPoint>(intervals: &[Interval<V>]) -> Option<&V>
+    ensures { IfSome result (λ v.
+        spec.IsLeastBuilt (spans_of V.value intervals.now) (V.value v.now)) }
 {
     let mut least = None;
     for interval in intervals {
@@ -273,271 +222,261 @@ fn least_start<'v, 'a>(intervals: &'v [Interval<VersionRef<'a>>]) -> Option<&'v 
     least
 }
 
-// The search for the least version that `kept` and each range of `also` accept and `removed` does
-// not: `best` is the least candidate so far that is such a version.
-#[derive(Drop)]
-struct Search<'a> {
-    kept: &'a [Interval<Version>],
-    also: &'a [Range],
-    removed: &'a [Interval<Version>],
-    best: Option<Version>,
-}
+// The search goes through the candidates for the least version that each range of `kept` accepts and
+// no interval of `removed`: `best` is the least so far that is such a version.
 
-impl<'a> Search<'a> {
-    // Whether the version is below the best so far, and one of those that are searched for.
-    #[inline(always)]
-    #[tactic(auto, using(crate::proofs::Values::spans_same))]
-    fn improves(&self, version: &Version) -> bool
-        ensures { result ≡ (spec.improves self.now.best version.now
-            && spec.among self.now.kept.now self.now.also.now self.now.removed.now version.now) }
-    {
-        let is_below = match &self.best {
-            None => true,
-            Some(best) => version.cmp(best).is_lt(),
-        };
-        is_below
-            && accepts(self.kept, version, false)
-            && !accepts(self.removed, version, false)
-            && satisfies_all(self.also, version)
-    }
-
-    // Whether the best so far is not above the version: nothing from the version on improves on it.
-    fn is_reached(&self, version: &Version) -> bool
-        ensures { result ≡ spec.is_reached self.now.best version.now }
-    {
-        match &self.best {
-            None => false,
-            Some(best) => best.cmp(version).is_le(),
-        }
-    }
-
-    // Keeps a copy of the version, without its build, where it improves on the best so far.
-    // Otherwise nothing is copied.
-    #[inline(never)]
-    #[tactic(auto, using(crate::proofs::Choice::LeastOf::improves_bare))]
-    fn consider(&mut self, alloc: Global, version: &Version) -> Result<(), AllocError>
-        ensures best { let set =
-            spec.among self.old.kept.now self.old.also.now self.old.removed.now in
-            OnOk result (self.new ≡ record self.old {
-              best =
-                  spec.better set self.old.best (spec.bare version.now);
-            }) }
-        ensures memory { OnErr result
-            (spec.Finds self.old.kept.now self.old.also.now self.old.removed.now) }
-    {
-        if self.improves(version) {
-            self.best = Some(bare(alloc, version)?);
-        }
-        Ok(())
-    }
-
-    // Considers the first versions from this one on. Mostly a better one is known.
-    #[inline(always)]
-    #[tactic(auto, using(crate::proofs::Choice::LeastOf::reached_near))]
-    fn consider_from(&mut self, alloc: Global, version: &Version) -> Result<(), AllocError>
-        ensures best { let set =
-            spec.among self.old.kept.now self.old.also.now self.old.removed.now in
-            OnOk result (self.new ≡ record self.old {
-              best =
-                  fold (spec.better set) self.old.best (spec.firsts (Beside version.now Near));
-            }) }
-        ensures memory { OnErr result
-            (spec.Finds self.old.kept.now self.old.also.now self.old.removed.now) }
-    {
-        if self.is_reached(version) {
-            return Ok(());
-        }
-        self.consider(alloc, version)?;
-        if version.is_release() {
-            return Ok(());
-        }
-        self.consider(alloc, &bare_release(version))
-    }
-
-    // Considers the first versions after this one. That after a pre-release is made before it is
-    // known to improve on the best so far.
-    #[tactic(auto, using(crate::proofs::Choice::LeastOf::reached_far))]
-    fn consider_after(&mut self, alloc: Global, version: &Version) -> Result<(), AllocError>
-        requires { version.now.patch < 2 ^ 64 - 1 }
-        ensures best { let set =
-            spec.among self.old.kept.now self.old.also.now self.old.removed.now in
-            OnOk result (self.new ≡ record self.old {
-              best =
-                  fold (spec.better set) self.old.best (spec.firsts (Beside version.now Far));
-            }) }
-        ensures memory { OnErr result
-            (spec.Finds self.old.kept.now self.old.also.now self.old.removed.now
-            ⊎ (is_release version.now ≡ false)) }
-    {
-        if self.is_reached(version) {
-            return Ok(());
-        }
-        if version.is_release() {
-            return self.consider(alloc, &patch_after(version));
-        }
-        self.consider(alloc, &pre_after(alloc, version)?)?;
-        self.consider(alloc, &bare_release(version))
-    }
-
-    // Considers the first versions past the cut of a bound.
-    fn consider_past(&mut self, alloc: Global, bound: &Bound<Version>) -> Result<(), AllocError>
-        requires { spec.Raisable bound.now }
-        ensures best { let set =
-            spec.among self.old.kept.now self.old.also.now self.old.removed.now in
-            OnOk result (self.new ≡ record self.old {
-              best =
-                  fold (spec.better set) self.old.best
-                  (flat_map spec.firsts (spec.beside bound.now));
-            }) }
-        ensures memory { OnErr result
-            (spec.Finds self.old.kept.now self.old.also.now self.old.removed.now
-            ⊎ spec.IsAfterPre bound.now) }
-    {
-        match bound {
-            Bound::Unbounded => Ok(()),
-            Bound::Before(version) => self.consider_from(alloc, version),
-            Bound::After(version) => self.consider_after(alloc, version),
-        }
-    }
-
-    // Considers the first versions from the first pre-release with these three numbers on. Mostly
-    // the version is that pre-release, as in `<2.0.0-0`, and none is made.
-    fn consider_first_pre(&mut self, alloc: Global, version: &Version) -> Result<(), AllocError>
-        ensures best { let set =
-            spec.among self.old.kept.now self.old.also.now self.old.removed.now in
-            OnOk result (self.new ≡ record self.old {
-              best =
-                  fold (spec.better set) self.old.best
-                  (spec.firsts (Beside (spec.first_pre version.now) Near));
-            }) }
-        ensures memory { OnErr result
-            (spec.Finds self.old.kept.now self.old.also.now self.old.removed.now) }
-    {
-        if is_first_pre(version) {
-            return self.consider_from(alloc, version);
-        }
-        self.consider_from(alloc, &first_pre(alloc, version)?)
-    }
-
-    // Considers the first versions past the cut below the pre-releases that a bound names.
-    fn consider_named(&mut self, alloc: Global, bound: &Bound<Version>) -> Result<(), AllocError>
-        ensures best { let set =
-            spec.among self.old.kept.now self.old.also.now self.old.removed.now in
-            OnOk result (self.new ≡ record self.old {
-              best =
-                  fold (spec.better set) self.old.best
-                  (flat_map spec.firsts (spec.below_named bound.now));
-            }) }
-        ensures memory { OnErr result
-            (spec.Finds self.old.kept.now self.old.also.now self.old.removed.now) }
-    {
-        match bound {
-            Bound::Before(version) | Bound::After(version) if !version.is_release() => {
-                self.consider_first_pre(alloc, version)
-            }
-            _ => Ok(()),
-        }
-    }
-
-    // Considers all that a list brings which accepts the versions searched for.
-    #[inline(always)]
-    fn consider_list(&mut self, alloc: Global, list: &[Interval<Version>]) -> Result<(), AllocError>
-        requires { All spec.IsRaisable list.now }
-        ensures best { let set =
-            spec.among self.old.kept.now self.old.also.now self.old.removed.now in
-            OnOk result (self.new ≡ record self.old {
-              best =
-                  fold (spec.better set) self.old.best
-                  (flat_map spec.firsts (spec.list_marks list.now));
-            }) }
-        ensures memory { OnErr result
-            (spec.Finds self.old.kept.now self.old.also.now self.old.removed.now
-            ⊎ spec.BeginsAfterPre list.now) }
-    {
-        for interval in list {
-            self.consider_past(alloc, interval.lower())?;
-            self.consider_named(alloc, interval.upper())?;
-        }
-        Ok(())
-    }
-
-    // Considers all that the further ranges bring.
-    #[tactic(auto, using(crate::proofs::Choice::Raised::raisable))]
-    fn consider_also(&mut self, alloc: Global) -> Result<(), AllocError>
-        ensures best { let set =
-            spec.among self.old.kept.now self.old.also.now self.old.removed.now in
-            OnOk result (self.new ≡ record self.old {
-              best =
-                  fold (spec.better set) self.old.best
-                  (flat_map spec.firsts (flat_map spec.list_marks self.old.also.now));
-            }) }
-        ensures memory { OnErr result
-            (spec.Finds self.old.kept.now self.old.also.now self.old.removed.now
-            ⊎ Any spec.BeginsAfterPre self.old.also.now) }
-    {
-        let ranges = self.also;
-        for range in ranges {
-            self.consider_list(alloc, range.intervals())?;
-        }
-        Ok(())
-    }
-
-    // Considers all that the last list brings.
-    fn consider_removed(&mut self, alloc: Global) -> Result<(), AllocError>
-        requires { All spec.IsRaisable self.old.removed.now }
-        ensures best { let set =
-            spec.among self.old.kept.now self.old.also.now self.old.removed.now in
-            OnOk result (self.new ≡ record self.old {
-              best =
-                  fold (spec.better set) self.old.best
-                  (flat_map spec.firsts (flat_map spec.removed_marks self.old.removed.now));
-            }) }
-        ensures memory { OnErr result
-            (spec.Finds self.old.kept.now self.old.also.now self.old.removed.now
-            ⊎ spec.EndsAfterPre self.old.removed.now) }
-    {
-        let intervals = self.removed;
-        for interval in intervals {
-            self.consider_past(alloc, interval.upper())?;
-        }
-        Ok(())
-    }
-}
-
-// Whether each of the ranges accepts the version.
-fn satisfies_all(ranges: &[Range], version: &Version) -> bool
-    ensures { result ≡ spec.all_accept ranges.now version.now }
+// Whether the version is below the best so far, and one of those that are searched for.
+#[inline(always)]
+fn improves<V: VersionPoint, W: VersionPoint, C: Versioned>(
+    kept: &[RangeOf<V>],
+    removed: &[Interval<W>],
+    best: &Option<Version>,
+    version: &C,
+) -> bool
+    ensures { result ≡ (spec.improves best.now (C.value version.now)
+        && spec.wanted kept.now (spans_of W.value removed.now) (C.value version.now)) }
 {
-    ranges.iter().all(|range| range.satisfies(version))
-}
-
-// The least version that the first list and each range accept and the last list does not, without a
-// build.
-fn least_among(
-    alloc: Global,
-    kept: &[Interval<Version>],
-    also: &[Range],
-    removed: &[Interval<Version>],
-) -> Result<Option<Version>, AllocError>
-    requires kept { All spec.IsRaisable kept.now }
-    requires removed { All spec.IsRaisable removed.now }
-    ensures least { IfOk result (λ r.
-        stated.IsLeastOf (spec.among kept.now also.now removed.now) r) }
-    ensures build { IfOk result (λ r. IfSome r (λ v. v.build ≡ [])) }
-    ensures memory { OnErr result (spec.MayAllocate kept.now also.now removed.now) }
-{
-    let best = None;
-    let mut search = Search {
-        kept,
-        also,
-        removed,
-        best,
+    let is_below = match best {
+        None => true,
+        Some(best) => version.cmp_precedence(best).is_lt(),
     };
-    search.consider(alloc, &Version::from((0u64, 0, 0)))?;
-    search.consider_list(alloc, kept)?;
-    search.consider_also(alloc)?;
-    search.consider_removed(alloc)?;
-    Ok(search.best)
+    is_below && all_accept(kept, version) && !accepts(removed, version, false)
+}
+
+// Whether the best so far is not above the version: nothing from the version on improves on it.
+fn is_reached<C: Versioned>(best: &Option<Version>, version: &C) -> bool
+    ensures { result ≡ spec.is_reached best.now (C.value version.now) }
+{
+    match best {
+        None => false,
+        Some(best) => best.cmp_precedence(version).is_le(),
+    }
+}
+
+// Keeps a copy of the version, without its build, where it improves on the best so far. Otherwise
+// nothing is copied.
+#[inline(never)]
+#[tactic(auto, using(crate::proofs::Choice::LeastOf::improves_bare))]
+fn consider<V: VersionPoint, W: VersionPoint, C: Versioned>(
+    alloc: Global,
+    kept: &[RangeOf<V>],
+    removed: &[Interval<W>],
+    best: &mut Option<Version>,
+    version: &C,
+) -> Result<(), AllocError>
+    ensures best { OnOk result (best.new
+        ≡ spec.better (spec.wanted kept.now (spans_of W.value removed.now)) best.old
+        (spec.bare (C.value version.now))) }
+    ensures memory { OnErr result (spec.Finds kept.now (spans_of W.value removed.now)) }
+{
+    if improves(kept, removed, best, version) {
+        *best = Some(bare(alloc, version)?);
+    }
+    Ok(())
+}
+
+// Considers the first versions from this one on. Mostly a better one is known.
+#[inline(always)]
+#[tactic(auto, using(crate::proofs::Choice::LeastOf::reached_near))]
+fn consider_from<V: VersionPoint, W: VersionPoint, C: Versioned>(
+    alloc: Global,
+    kept: &[RangeOf<V>],
+    removed: &[Interval<W>],
+    best: &mut Option<Version>,
+    version: &C,
+) -> Result<(), AllocError>
+    ensures best { OnOk result (best.new
+        ≡ fold (spec.better (spec.wanted kept.now (spans_of W.value removed.now))) best.old
+        (spec.firsts (Beside (C.value version.now) Near))) }
+    ensures memory { OnErr result (spec.Finds kept.now (spans_of W.value removed.now)) }
+{
+    if is_reached(best, version) {
+        return Ok(());
+    }
+    consider(alloc, kept, removed, best, version)?;
+    if version.is_release() {
+        return Ok(());
+    }
+    consider(alloc, kept, removed, best, &bare_release(version))
+}
+
+// Considers the first versions after this one. That after a pre-release is made before it is known
+// to improve on the best so far.
+#[tactic(auto, using(crate::proofs::Choice::LeastOf::reached_far))]
+fn consider_after<V: VersionPoint, W: VersionPoint, C: Versioned>(
+    alloc: Global,
+    kept: &[RangeOf<V>],
+    removed: &[Interval<W>],
+    best: &mut Option<Version>,
+    version: &C,
+) -> Result<(), AllocError>
+    requires { (C.value version.now).patch < 2 ^ 64 - 1 }
+    ensures best { OnOk result (best.new
+        ≡ fold (spec.better (spec.wanted kept.now (spans_of W.value removed.now))) best.old
+        (spec.firsts (Beside (C.value version.now) Far))) }
+    ensures memory { OnErr result (spec.Finds kept.now (spans_of W.value removed.now)
+        ⊎ (is_release (C.value version.now) ≡ false)) }
+{
+    if is_reached(best, version) {
+        return Ok(());
+    }
+    if version.is_release() {
+        return consider(alloc, kept, removed, best, &patch_after(version));
+    }
+    consider(alloc, kept, removed, best, &pre_after(alloc, version)?)?;
+    consider(alloc, kept, removed, best, &bare_release(version))
+}
+
+// Considers the first versions past the cut of a bound.
+fn consider_past<V: VersionPoint, W: VersionPoint, C: Versioned>(
+    alloc: Global,
+    kept: &[RangeOf<V>],
+    removed: &[Interval<W>],
+    best: &mut Option<Version>,
+    bound: &Bound<C>,
+) -> Result<(), AllocError>
+    requires { spec.Raisable (bound_of C.value bound.now) }
+    ensures best { OnOk result (best.new
+        ≡ fold (spec.better (spec.wanted kept.now (spans_of W.value removed.now))) best.old
+        (flat_map spec.firsts (spec.beside (bound_of C.value bound.now)))) }
+    ensures memory { OnErr result (spec.Finds kept.now (spans_of W.value removed.now)
+        ⊎ spec.IsAfterPre (bound_of C.value bound.now)) }
+{
+    match bound {
+        Bound::Unbounded => Ok(()),
+        Bound::Before(version) => consider_from(alloc, kept, removed, best, version),
+        Bound::After(version) => consider_after(alloc, kept, removed, best, version),
+    }
+}
+
+// Considers the first versions from the first pre-release with these three numbers on. Mostly the
+// version is that pre-release, as in `<2.0.0-0`, and none is made.
+fn consider_first_pre<V: VersionPoint, W: VersionPoint, C: Versioned>(
+    alloc: Global,
+    kept: &[RangeOf<V>],
+    removed: &[Interval<W>],
+    best: &mut Option<Version>,
+    version: &C,
+) -> Result<(), AllocError>
+    ensures best { OnOk result (best.new
+        ≡ fold (spec.better (spec.wanted kept.now (spans_of W.value removed.now))) best.old
+        (spec.firsts (Beside (spec.first_pre (C.value version.now)) Near))) }
+    ensures memory { OnErr result (spec.Finds kept.now (spans_of W.value removed.now)) }
+{
+    if is_first_pre(version) {
+        return consider_from(alloc, kept, removed, best, version);
+    }
+    consider_from(alloc, kept, removed, best, &first_pre(alloc, version)?)
+}
+
+// Considers the first versions past the cut below the pre-releases that a bound names.
+fn consider_named<V: VersionPoint, W: VersionPoint, C: Versioned>(
+    alloc: Global,
+    kept: &[RangeOf<V>],
+    removed: &[Interval<W>],
+    best: &mut Option<Version>,
+    bound: &Bound<C>,
+) -> Result<(), AllocError>
+    ensures best { OnOk result (best.new
+        ≡ fold (spec.better (spec.wanted kept.now (spans_of W.value removed.now))) best.old
+        (flat_map spec.firsts (spec.below_named (bound_of C.value bound.now)))) }
+    ensures memory { OnErr result (spec.Finds kept.now (spans_of W.value removed.now)) }
+{
+    match bound {
+        Bound::Before(version) | Bound::After(version) if !version.is_release() => {
+            consider_first_pre(alloc, kept, removed, best, version)
+        }
+        _ => Ok(()),
+    }
+}
+
+// Considers all that the intervals of a range bring which accepts the versions searched for.
+#[inline(always)]
+fn consider_range<V: VersionPoint, W: VersionPoint>(
+    alloc: Global,
+    kept: &[RangeOf<V>],
+    removed: &[Interval<W>],
+    best: &mut Option<Version>,
+    range: &RangeOf<V>,
+) -> Result<(), AllocError>
+    ensures best { OnOk result (best.new
+        ≡ fold (spec.better (spec.wanted kept.now (spans_of W.value removed.now))) best.old
+        (flat_map spec.firsts (spec.list_marks range.now))) }
+    ensures memory { OnErr result (spec.Finds kept.now (spans_of W.value removed.now)
+        ⊎ spec.BeginsAfterPre range.now) }
+{
+    let intervals = range.items();
+    for interval in intervals {
+        consider_past(alloc, kept, removed, best, interval.lower())?;
+        consider_named(alloc, kept, removed, best, interval.upper())?;
+    }
+    Ok(())
+}
+
+// Considers all that the ranges bring which accept the versions searched for.
+fn consider_kept<V: VersionPoint, W: VersionPoint>(
+    alloc: Global,
+    kept: &[RangeOf<V>],
+    removed: &[Interval<W>],
+    best: &mut Option<Version>,
+) -> Result<(), AllocError>
+    ensures best { OnOk result (best.new
+        ≡ fold (spec.better (spec.wanted kept.now (spans_of W.value removed.now))) best.old
+        (flat_map spec.firsts (flat_map spec.list_marks kept.now))) }
+    ensures memory { OnErr result (spec.Finds kept.now (spans_of W.value removed.now)
+        ⊎ Any spec.BeginsAfterPre kept.now) }
+{
+    for range in kept {
+        consider_range(alloc, kept, removed, best, range)?;
+    }
+    Ok(())
+}
+
+// Considers all that the other intervals bring.
+fn consider_removed<V: VersionPoint, W: VersionPoint>(
+    alloc: Global,
+    kept: &[RangeOf<V>],
+    removed: &[Interval<W>],
+    best: &mut Option<Version>,
+) -> Result<(), AllocError>
+    requires { All spec.IsRaisable (spans_of W.value removed.now) }
+    ensures best { OnOk result (best.new
+        ≡ fold (spec.better (spec.wanted kept.now (spans_of W.value removed.now))) best.old
+        (flat_map spec.firsts (flat_map spec.removed_marks (spans_of W.value removed.now)))) }
+    ensures memory { OnErr result (spec.Finds kept.now (spans_of W.value removed.now)
+        ⊎ spec.EndsAfterPre (spans_of W.value removed.now)) }
+{
+    for interval in removed {
+        consider_past(alloc, kept, removed, best, interval.upper())?;
+    }
+    Ok(())
+}
+
+// The least version that each of the ranges, one or more, accepts and no interval of `removed`,
+// without a build.
+fn least_among<V: VersionPoint, W: VersionPoint>(
+    alloc: Global,
+    kept: &[RangeOf<V>],
+    removed: &[Interval<W>],
+) -> Result<Option<Version>, AllocError>
+    requires some { 0 < length kept.now }
+    requires removed { All spec.IsRaisable (spans_of W.value removed.now) }
+    ensures least { IfOk result (λ r.
+        stated.IsLeastOf (spec.wanted kept.now (spans_of W.value removed.now)) r) }
+    ensures build { IfOk result (λ r. IfSome r (λ v. v.build ≡ [])) }
+    ensures memory { OnErr result (spec.MayAllocate kept.now (spans_of W.value removed.now)) }
+{
+    let mut best = None;
+    consider(
+        alloc,
+        kept,
+        removed,
+        &mut best,
+        &Version::from((0u64, 0, 0)),
+    )?;
+    consider_kept(alloc, kept, removed, &mut best)?;
+    consider_removed(alloc, kept, removed, &mut best)?;
+    Ok(best)
 }
 
 // Whether the version is below the best so far, and the range holds it.

@@ -1,13 +1,13 @@
 // Versions beside another one, and the build that the least version has.
 
 ghost use Rattle.std.specs.Prelude.{◌≡◌, ◌&&◌, ◌+◌, ◌-◌, ◌<◌, ◌^◌, [], ◌∷◌, All, IfOk, IfSome};
-ghost use Rattle.std.specs.Prelude.{IsOk, IsTrue, Some, find};
+ghost use Rattle.std.specs.Prelude.{IsOk, IsTrue, Some, find, option_map};
 ghost use Rattle.std.specs.List.{list_any};
-ghost use Rattle.std.specs.Option.{option_copied};
 ghost use Rattle.nodejs_semver.specs.Internal.Candidates as spec;
-ghost use Rattle.nodejs_semver.specs.Internal.Shorthands.{build_by};
+ghost use Rattle.nodejs_semver.specs.Internal.Shorthands.{build_by, spans_of};
 ghost use Rattle.nodejs_semver.specs.Ranges.Gate.{lets_in};
 ghost use Rattle.nodejs_semver.specs.Ranges.Least as stated;
+ghost use Rattle.nodejs_semver.specs.Ranges.View.{bound_of, span_of};
 ghost use Rattle.semver_core.specs.Cuts.{holds};
 ghost use Rattle.semver_core.specs.Values.Order.{precedence};
 ghost use Rattle.semver_core.specs.Text.Identifiers.{Numeric};
@@ -16,7 +16,7 @@ ghost use Rattle.semver_core.specs.declared.cuts.bound.Bound.TheVariants.{After}
 
 use crate::range::gate::accepts_one;
 use semver_core::cuts::{Bound, Interval};
-use semver_core::{Identifier, IdentifierRef, IdentifierRefs, Version, Versioned};
+use semver_core::{Identifier, IdentifierRef, IdentifierRefs, Version, VersionPoint, Versioned};
 use std::alloc::{AllocError, Global};
 
 // The release of the same three numbers.
@@ -27,9 +27,9 @@ pub(crate) fn bare_release<V: Versioned>(version: &V) -> Version
 }
 
 // The release after a release.
-pub(crate) fn patch_after(version: &Version) -> Version
-    requires { version.now.patch < 2 ^ 64 - 1 }
-    ensures { result ≡ spec.patch_after version.now }
+pub(crate) fn patch_after<V: Versioned>(version: &V) -> Version
+    requires { (V.value version.now).patch < 2 ^ 64 - 1 }
+    ensures { result ≡ spec.patch_after (V.value version.now) }
 {
     Version::from((version.major(), version.minor(), version.patch() + 1))
 }
@@ -95,10 +95,10 @@ pub(crate) fn pre_after<V: Versioned>(alloc: Global, version: &V) -> Result<Vers
 
 // The first version after this one, without a build: the next patch of a release, and a pre-release
 // with one more identifier.
-fn following(alloc: Global, version: &Version) -> Result<Version, AllocError>
-    requires { version.now.patch < 2 ^ 64 - 1 }
-    ensures { IfOk result (λ next. stated.begins_with (After version.now)
-        ≡ Some (record next { build = version.now.build })) }
+fn following<V: Versioned>(alloc: Global, version: &V) -> Result<Version, AllocError>
+    requires { (V.value version.now).patch < 2 ^ 64 - 1 }
+    ensures { IfOk result (λ next. stated.begins_with (After (V.value version.now))
+        ≡ Some (record next { build = (V.value version.now).build })) }
 {
     if version.is_release() {
         Ok(patch_after(version))
@@ -125,16 +125,29 @@ pub(crate) fn bare<V: Versioned>(alloc: Global, version: &V) -> Result<Version, 
     )
 }
 
+// The whole version.
+pub(crate) fn owned<V: Versioned>(alloc: Global, version: &V) -> Result<Version, AllocError>
+    ensures { IfOk result (λ v. v ≡ V.value version.now) }
+{
+    let pre_release = owned_ids(alloc, version.pre_release())?;
+    let build = owned_ids(alloc, version.build())?;
+    with_lists(alloc, version, pre_release, build)
+}
+
 // A version that has no build, with this one.
-fn with_build(alloc: Global, version: Version, build: &[Identifier]) -> Result<Version, AllocError>
+fn with_build(
+    alloc: Global,
+    version: Version,
+    build: IdentifierRefs<'_>,
+) -> Result<Version, AllocError>
     requires { version.build ≡ [] }
-    ensures { IfOk result (λ v. v ≡ record version { build = ids_view build.now }) }
+    ensures { IfOk result (λ v. v ≡ record version { build = build.entry }) }
 {
     if build.is_empty() {
         return Ok(version);
     }
     let pre_release = Identifier::copy_list(alloc, version.pre_release())?;
-    let build = Identifier::copy_list(alloc, build)?;
+    let build = owned_ids(alloc, build)?;
     with_lists(alloc, &version, pre_release, build)
 }
 
@@ -158,18 +171,19 @@ fn with_lists<V: Versioned>(
 }
 
 // The version with the build of the bound, where an interval above the bound begins with it.
-fn with_build_by(
+fn with_build_by<V: Versioned>(
     alloc: Global,
     version: Version,
-    bound: &Bound<Version>,
+    bound: &Bound<V>,
 ) -> Result<Version, AllocError>
-    requires raisable { spec.Raisable bound.now }
+    requires raisable { spec.Raisable (bound_of V.value bound.now) }
     requires bare { version.build ≡ [] }
-    ensures { IfOk result (λ v. v
-        ≡ record version { build = build_by (stated.begins_with bound.now) version }) }
+    ensures { IfOk result (λ v. v ≡ record version {
+      build = build_by (stated.begins_with (bound_of V.value bound.now)) version;
+    }) }
 {
     match bound {
-        Bound::Before(first) if first.cmp(&version).is_eq() => {
+        Bound::Before(first) if first.cmp_precedence(&version).is_eq() => {
             with_build(alloc, version, first.build())
         }
         Bound::After(end) if following(alloc, end)?.cmp(&version).is_eq() => {
@@ -180,15 +194,15 @@ fn with_build_by(
 }
 
 // The first interval that accepts the version.
-#[tactic(auto, using(crate::proofs::Values::span_same))]
-fn first_accepting<'a>(
-    intervals: &'a [Interval<Version>],
+fn first_accepting<'a, V: VersionPoint>(
+    intervals: &'a [Interval<V>],
     version: &Version,
-) -> Option<&'a Interval<Version>>
-    requires { All spec.IsRaisable intervals.now }
-    ensures value { option_copied result
-        ≡ find (λ s. holds precedence s version.now && lets_in s version.now) intervals.now }
-    ensures raisable { IfSome result (λ s. spec.Raisable s.now.lower) }
+) -> Option<&'a Interval<V>>
+    requires { All spec.IsRaisable (spans_of V.value intervals.now) }
+    ensures value { option_map (λ s. span_of V.value s.now) result
+        ≡ find (λ s. holds precedence s version.now && lets_in s version.now)
+        (spans_of V.value intervals.now) }
+    ensures raisable { IfSome result (λ s. spec.Raisable (bound_of V.value s.now.lower)) }
 {
     intervals
         .iter()
@@ -196,8 +210,8 @@ fn first_accepting<'a>(
 }
 
 // Whether the bound's version has a build.
-fn has_build(bound: &Bound<Version>) -> bool
-    ensures { result ≡ spec.has_build bound.now }
+fn has_build<V: Versioned>(bound: &Bound<V>) -> bool
+    ensures { result ≡ spec.has_build (bound_of V.value bound.now) }
 {
     match bound {
         Bound::Unbounded => false,
@@ -206,23 +220,24 @@ fn has_build(bound: &Bound<Version>) -> bool
 }
 
 // Whether one of the lower bounds has a build.
-fn begin_with_build(intervals: &[Interval<Version>]) -> bool
-    ensures { result ≡ list_any (λ s. spec.has_build s.lower) intervals.now }
+fn begin_with_build<V: VersionPoint>(intervals: &[Interval<V>]) -> bool
+    ensures { result ≡ list_any (λ s. spec.has_build s.lower) (spans_of V.value intervals.now) }
 {
     intervals.iter().any(|interval| has_build(interval.lower()))
 }
 
 // The version with the build of the bound with which the first interval that accepts it begins.
 #[tactic(auto, using(crate::proofs::Choice::LeastOf::unbuilt_stays))]
-pub(crate) fn with_least_build(
+pub(crate) fn with_least_build<V: VersionPoint>(
     alloc: Global,
     version: Version,
-    intervals: &[Interval<Version>],
+    intervals: &[Interval<V>],
 ) -> Result<Version, AllocError>
-    requires raisable { All spec.IsRaisable intervals.now }
+    requires raisable { All spec.IsRaisable (spans_of V.value intervals.now) }
     requires bare { version.build ≡ [] }
-    ensures { IfOk result (λ v. v
-        ≡ record version { build = stated.least_build intervals.now version }) }
+    ensures { IfOk result (λ v. v ≡ record version {
+      build = stated.least_build (spans_of V.value intervals.now) version;
+    }) }
 {
     if !begin_with_build(intervals) {
         return Ok(version);

@@ -1,6 +1,9 @@
-use Rattle.std.proofs.Common.{take, option_copied}
+use Rattle.std.proofs.Common.{take}
 use Rattle.nodejs_semver.specs.Internal.Candidates.{IsLeastSoFar}
+use Rattle.nodejs_semver.specs.Internal.Shorthands.{spans_of, value_of}
 use Rattle.nodejs_semver.proofs.range.least.least_start.Given as goal
 
 abbrev pub invariant-loop-interval : goal.invariant-loop-interval
-invariant-loop-interval l = IsLeastSoFar (take l.interval-index l.intervals) (option_copied l.least)
+invariant-loop-interval g l =
+    let value = g.V.Versioned.value in
+    IsLeastSoFar (spans_of value (take l.interval-index l.intervals)) (value_of value l.least)

@@ -1,0 +1,18 @@
+use Rattle.nodejs_semver.proofs.Common.{[], ◌∷◌, IsLeastOf}
+use Rattle.std.proofs.lemmas.Result.{IfOk-weaker, on_err_weaker}
+use Rattle.nodejs_semver.proofs.Choice.LeastOf.{least_of_one}
+use Rattle.nodejs_semver.proofs.Choice.Memory.{one_allocates}
+use Rattle.nodejs_semver.specs.Internal.Candidates.{wanted}
+use Rattle.nodejs_semver.proofs.range.RangeOf.least_beyond.Goals as goal
+
+pub returns-clause-least : goal.returns-clause-least
+returns-clause-least g c =
+    let kept = c.args.self.now in
+    let removed = c.args.other.now in
+    IfOk-weaker c.least_among.result (IsLeastOf (wanted (kept ∷ []) removed)) _ (least_of_one kept removed)
+    (rw (c.from_ref.ensures.value, c.items.ensures.value) at c.least_among.ensures.least)
+
+pub returns-clause-memory : goal.returns-clause-memory
+returns-clause-memory g c =
+    on_err_weaker c.least_among.result (one_allocates c.args.self.now c.args.other.now)
+    (rw (c.from_ref.ensures.value, c.items.ensures.value) at c.least_among.ensures.memory)

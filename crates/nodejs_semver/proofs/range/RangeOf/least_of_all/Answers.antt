@@ -1,0 +1,14 @@
+use Rattle.nodejs_semver.proofs.Common.{length, sym, ◌∙◌, arith, eqb-true}
+use Rattle.std.proofs.lemmas.Result.{on_err_weaker}
+use Rattle.nodejs_semver.proofs.Choice.LeastOf.{least_of_none}
+use Rattle.nodejs_semver.proofs.Choice.Memory.{all_allocate}
+use Rattle.nodejs_semver.proofs.range.RangeOf.least_of_all.Goals as goal
+
+pub returns-then-is_empty-clause-least : goal.returns-then-is_empty-clause-least
+returns-then-is_empty-clause-least g c =
+    least_of_none c.args.ranges.now c.in_ok-least.least
+    (omega (arith, eqb-true (length c.args.ranges.now) 0 (sym c.is_empty.ensures ∙ c.if-is_empty.true))) c.in_ok-least.ensures.value
+
+pub returns-clause-memory : goal.returns-clause-memory
+returns-clause-memory g c =
+    on_err_weaker c.least_among.result (λ m. all_allocate c.args.ranges.now m) c.least_among.ensures.memory

@@ -1,0 +1,28 @@
+use Rattle.nodejs_semver.proofs.Common.{◌≡◌, [], ◌∷◌, false, None, Some, sym, subst, VersionValue, accepts, IsLeastOf, least_build}
+use Rattle.nodejs_semver.proofs.Choice.LeastOf.{least_accepted, least_build_built, least_of_itself, least_of_one}
+use Rattle.nodejs_semver.specs.Internal.Candidates.{wanted}
+use Rattle.nodejs_semver.proofs.range.RangeOf.min_version.Goals as goal
+
+pub returns-in-None-clause-least : goal.returns-in-None-clause-least
+returns-in-None-clause-least g c =
+    let ks = c.args.self.now in
+    let h : IsLeastOf (wanted (ks ∷ []) []) None =
+    rw (c.from_ref.ensures.value, c.in-None.is) at c.in_ok-least_among.ensures.least in
+    least_of_itself ks None (least_of_one ks [] None h)
+
+pub returns-in_ok-built-in-Some-2-clause-least : goal.returns-in_ok-built-in-Some-2-clause-least
+returns-in_ok-built-in-Some-2-clause-least g c =
+    let ks = c.args.self.now in
+    let v = c.in-Some-2.version in
+    let h : IsLeastOf (wanted (ks ∷ []) []) (Some v) =
+    rw (c.from_ref.ensures.value, c.in-Some-2.is) at c.in_ok-least_among.ensures.least in
+    subst (λ (x : VersionValue). IsLeastOf (λ w. accepts ks w false) (Some x))
+    (sym (rw c.items-in-Some-2.ensures.value at c.in_ok-built-in-Some-2.ensures))
+    (least_accepted ks v (least_build ks v) (least_of_one ks [] (Some v) h))
+
+pub returns-in_ok-built-in-Some-2-clause-build : goal.returns-in_ok-built-in-Some-2-clause-build
+returns-in_ok-built-in-Some-2-clause-build g c =
+    let ks = c.args.self.now in
+    subst (λ (x : VersionValue). x.build ≡ least_build ks x)
+    (sym (rw c.items-in-Some-2.ensures.value at c.in_ok-built-in-Some-2.ensures))
+    (sym (least_build_built ks c.in-Some-2.version _))

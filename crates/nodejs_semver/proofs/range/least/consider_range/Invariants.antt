@@ -1,0 +1,9 @@
+use Rattle.std.proofs.Common.{◌≡◌, take, fold, flat_map}
+use Rattle.nodejs_semver.specs.Internal.Candidates.{better, firsts, list_marks, wanted}
+use Rattle.nodejs_semver.specs.Internal.Shorthands.{spans_of}
+use Rattle.nodejs_semver.proofs.range.least.consider_range.Given as goal
+
+abbrev pub invariant-loop-interval : goal.invariant-loop-interval
+invariant-loop-interval g l =
+    l.best ≡ fold (better (wanted l.kept (spans_of g.W.Versioned.value l.removed))) l.initial.best
+    (flat_map firsts (list_marks (spans_of g.V.Versioned.value (take l.interval-index l.intervals))))
