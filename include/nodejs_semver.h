@@ -297,7 +297,7 @@ nodejs_semver_status nodejs_semver_versions_sort(uint32_t reading, const nodejs_
     size_t versions_len, size_t *order, size_t order_size, size_t *index);
 
 /*
- * Whether a text is a version, as npm's loose grammar has it: the status is NODEJS_SEMVER_OK or says why not.
+ * Whether a text is a version: the status is NODEJS_SEMVER_OK or says why not.
  *
  * Returns NODEJS_SEMVER_OK, NODEJS_SEMVER_BAD_ARGUMENT, NODEJS_SEMVER_NOT_UTF8, NODEJS_SEMVER_BAD_VERSION or
  * NODEJS_SEMVER_TOO_LONG.
@@ -305,7 +305,7 @@ nodejs_semver_status nodejs_semver_versions_sort(uint32_t reading, const nodejs_
 nodejs_semver_status nodejs_semver_version_check(uint32_t reading, const char *version, size_t version_len);
 
 /*
- * Prints the version of a text: `v1.2.3 oops` as `1.2.3`.
+ * Prints the version of a text: in the port's reading `v1.2.3 oops` as `1.2.3`.
  *
  * Returns NODEJS_SEMVER_OK, NODEJS_SEMVER_TOO_SMALL, NODEJS_SEMVER_BAD_ARGUMENT, NODEJS_SEMVER_NOT_UTF8,
  * NODEJS_SEMVER_BAD_VERSION or NODEJS_SEMVER_TOO_LONG.

@@ -48,7 +48,7 @@ class Semver:
         if status == NO_MEMORY:
             raise MemoryError
         if status in MESSAGES:
-            raise SemverError(status, index and index.value)
+            raise SemverError(status, None if index is None else index.value)
         return status
 
     def _text(self, name, *given):

@@ -65,9 +65,10 @@ class Test(unittest.TestCase):
                               (lambda: semver.inc("1.2.3", "sideways"), "bad argument"), (lambda: semver.version(b"1.2.3\xff"), "not UTF-8")]:
             with self.assertRaisesRegex(SemverError, message):
                 call()
-        with self.assertRaises(SemverError) as caught:
-            semver.max_satisfying(["1.2.3", "1.2", "x"], "^1")
-        self.assertEqual((caught.exception.status, caught.exception.index), (BAD_VERSION, 1))
+        for versions, index in [(["1.2.3", "1.2", "x"], 1), (["1.2"], 0)]:
+            with self.assertRaises(SemverError) as caught:
+                semver.max_satisfying(versions, "^1")
+            self.assertEqual((caught.exception.status, caught.exception.index), (BAD_VERSION, index))
 
 
 unittest.main()

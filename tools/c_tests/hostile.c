@@ -46,6 +46,106 @@ static void buffers(void)
     }
 }
 
+/* All that a function may write. */
+typedef struct {
+    char *out;
+    size_t size, len, index, order[2];
+    nodejs_semver_word words[2];
+    int32_t compared;
+    uint32_t number;
+    uint8_t answers[2];
+    bool answer;
+} written;
+
+static const nodejs_semver_text VERSIONS[] = {{"1.2.0", 5}, {"1.3.0", 5}};
+#define OUT w->out, w->size, &w->len
+#define VERSION T("1.2.4-rc.1")
+#define RANGE T("^1.2 || 3")
+
+/* The calls of all functions, one for each text that is passed; the first ones print. */
+enum { PRINTING = 12, CALLS = 31 };
+
+static nodejs_semver_status call(int which, uint32_t reading, const char *text, size_t len, written *w)
+{
+    switch (which) {
+    case 0: return nodejs_semver_version_print(reading, text, len, OUT);
+    case 1: return nodejs_semver_version_inc(reading, text, len, T("prerelease"), T("beta"), 0, OUT);
+    case 2: return nodejs_semver_version_inc(reading, VERSION, text, len, T("beta"), 0, OUT);
+    case 3: return nodejs_semver_version_inc(reading, VERSION, T("prerelease"), text, len, 0, OUT);
+    case 4: return nodejs_semver_range_print(reading, text, len, OUT);
+    case 5: return nodejs_semver_range_min_version(reading, text, len, OUT);
+    case 6: return nodejs_semver_range_intersect(reading, text, len, RANGE, OUT);
+    case 7: return nodejs_semver_range_intersect(reading, RANGE, text, len, OUT);
+    case 8: return nodejs_semver_range_difference(reading, text, len, RANGE, OUT);
+    case 9: return nodejs_semver_range_difference(reading, RANGE, text, len, OUT);
+    case 10: return nodejs_semver_range_least_beyond(reading, text, len, RANGE, OUT);
+    case 11: return nodejs_semver_range_least_beyond(reading, RANGE, text, len, OUT);
+    case 12: return nodejs_semver_version_check(reading, text, len);
+    case 13: return nodejs_semver_version_compare(reading, text, len, VERSION, &w->compared);
+    case 14: return nodejs_semver_version_compare(reading, VERSION, text, len, &w->compared);
+    case 15: return nodejs_semver_version_diff(reading, text, len, VERSION, &w->number);
+    case 16: return nodejs_semver_version_diff(reading, VERSION, text, len, &w->number);
+    case 17: return nodejs_semver_version_flaw(text, len, &w->number, &w->index);
+    case 18: return nodejs_semver_range_ignored_words(text, len, w->words, 2, &w->len);
+    case 19: return nodejs_semver_range_satisfies(reading, text, len, VERSION, true, &w->answer);
+    case 20: return nodejs_semver_range_satisfies(reading, RANGE, text, len, false, &w->answer);
+    case 21: return nodejs_semver_range_satisfies_each(reading, text, len, VERSIONS, 2, true, w->answers, 2);
+    case 22: return nodejs_semver_range_max_satisfying(reading, text, len, VERSIONS, 2, &w->index);
+    case 23: return nodejs_semver_range_min_satisfying(reading, text, len, VERSIONS, 2, &w->index);
+    case 24: return nodejs_semver_range_outside(reading, text, len, VERSION, true, true, &w->answer);
+    case 25: return nodejs_semver_range_outside(reading, RANGE, text, len, false, false, &w->answer);
+    case 26: return nodejs_semver_range_allows_all(reading, text, len, RANGE, &w->answer);
+    case 27: return nodejs_semver_range_allows_all(reading, RANGE, text, len, &w->answer);
+    case 28: return nodejs_semver_range_allows_any(reading, text, len, RANGE, &w->answer);
+    case 29: return nodejs_semver_range_allows_any(reading, RANGE, text, len, &w->answer);
+    default: return nodejs_semver_versions_sort(reading, (nodejs_semver_text[]){{text, len}}, 1, w->order, 1, &w->index);
+    }
+}
+
+/* Each text of each function in turn: of bytes that are no UTF-8, longer than memory, and NULL with length 0. With a status that rejects
+ * it nothing is written, but the place in an array. */
+static void texts(void)
+{
+    for (int which = 0; which < CALLS; which++)
+        for (uint32_t reading = PORT; reading <= NPM; reading++) {
+            char *invalid = exact("1.2.3\xff", 6), *out = exact("xxxxxxxx", 8);
+            written was, now;
+            memset(&was, 'x', sizeof was);
+            was.out = out;
+            was.size = 8;
+            if (which == CALLS - 1)
+                was.index = 0;
+            memcpy(&now, &was, sizeof was);
+            CHECK(call(which, reading, invalid, 6, &now) == NODEJS_SEMVER_NOT_UTF8 && !memcmp(&was, &now, sizeof was));
+            CHECK(call(which, reading, invalid, HUGE_LENGTH, &now) == NODEJS_SEMVER_TOO_LONG && !memcmp(&was, &now, sizeof was));
+            CHECK(call(which, reading, invalid, SIZE_MAX, &now) == NODEJS_SEMVER_TOO_LONG && !memcmp(&was, &now, sizeof was));
+            CHECK(!memcmp(out, "xxxxxxxx", 8));
+            if (which != CALLS - 1)
+                CHECK(call(which, reading, NULL, 0, &now) <= NODEJS_SEMVER_BAD_IDENTIFIER);
+            free(invalid);
+            free(out);
+        }
+}
+
+/* A buffer that is one byte short, and one that has just the room, for each text that is printed. */
+static void short_by_one(void)
+{
+    const char *given[PRINTING] = {"1.2.3-a.b+c", "1.2.3", "minor", "rc.1", "^1.2 || ^3", "^1.2.3-a", ">1.5", "1", "*", "1.3", "*", "1.3"};
+    for (int which = 0; which < PRINTING; which++)
+        for (uint32_t reading = PORT; reading <= NPM; reading++) {
+            written none = {0};
+            CHECK(call(which, reading, given[which], strlen(given[which]), &none) == NODEJS_SEMVER_TOO_SMALL && none.len > 4);
+            for (size_t size = none.len - 1; size <= none.len; size++) {
+                written now = {.out = malloc(size), .size = size};
+                memset(now.out, 'x', size);
+                nodejs_semver_status status = call(which, reading, given[which], strlen(given[which]), &now);
+                CHECK(now.len == none.len && status == (size < none.len ? NODEJS_SEMVER_TOO_SMALL : NODEJS_SEMVER_OK));
+                CHECK((memchr(now.out, 'x', size) == now.out) == (size < none.len));
+                free(now.out);
+            }
+        }
+}
+
 /* Every cut of some texts, each in memory of its own size. */
 static void cuts(void)
 {
@@ -158,6 +258,8 @@ static void huge(void)
 int main(void)
 {
     buffers();
+    texts();
+    short_by_one();
     cuts();
     nothing();
     readings();

@@ -25,60 +25,72 @@ static int refused(void)
 void *__wrap_malloc(size_t size) { return refused() ? NULL : __real_malloc(size); }
 void *__wrap_realloc(void *block, size_t size) { return refused() ? NULL : __real_realloc(block, size); }
 
-/* Calls from this number on make no request; the others may. */
-static const int FIRST_WITHOUT = 10, CALLS = 20;
+/* All that the calls may write. */
+typedef struct {
+    char out[256];
+    size_t len, index, order[3];
+    nodejs_semver_word words[4];
+    int32_t compared;
+    uint32_t number;
+    uint8_t answers[3];
+    bool answer;
+} written;
+#define OUT w->out, sizeof w->out, &w->len
+#define TEXTS texts, sizeof texts / sizeof *texts
 
-static nodejs_semver_status call(int which, char *out, size_t *len)
+/* Calls from this number on make no request; each of the others does. */
+enum { FIRST_WITHOUT = 14, CALLS = 26 };
+
+static nodejs_semver_status call(int which, written *w)
 {
     nodejs_semver_text texts[] = {{"1.2.0", 5}, {"2.4.0", 5}, {"3.0.0-rc.1", 10}};
-    nodejs_semver_word words[4];
-    size_t order_of[3];
-    bool answer;
-    int32_t order;
-    uint32_t kind;
-    size_t end;
     switch (which) {
-    case 0: return nodejs_semver_range_intersect(PORT, T(RANGE), T(OTHER), out, 256, len);
-    case 1: return nodejs_semver_range_difference(NPM, T(RANGE), T(OTHER), out, 256, len);
-    case 2: return nodejs_semver_range_min_version(PORT, T(">1.2.3-a.b || >0.1.0-a <0.1.1-0"), out, 256, len);
-    case 3: return nodejs_semver_range_least_beyond(PORT, T(RANGE), T(OTHER), out, 256, len);
-    case 4: return nodejs_semver_version_inc(PORT, T("1.2.3-a.b+c.d"), T("prerelease"), T("beta.rc"), 0, out, 256, len);
-    case 5: return nodejs_semver_range_print(NPM, T(RANGE), out, 256, len);
-    case 6: return nodejs_semver_versions_sort(NPM, texts, 3, order_of, 3, len);
-    case 7: return nodejs_semver_range_satisfies(PORT, T(RANGE), T("2.9.0"), false, &answer);
-    case 8: return nodejs_semver_range_max_satisfying(NPM, T(RANGE), texts, 3, len);
-    case 9: return nodejs_semver_range_satisfies_each(PORT, T(RANGE), texts, 3, false, (uint8_t *)out, 256);
-    case 10: return nodejs_semver_version_compare(PORT, T("1.2.3-a.b"), T("1.2.3+c"), &order);
-    case 11: return nodejs_semver_version_check(NPM, T("1.2.3-a.b+c.d"));
-    case 12: return nodejs_semver_range_satisfies(NPM, T("^1.2.3-a.b"), T("1.2.3-a.c"), false, &answer);
-    case 13: return nodejs_semver_version_flaw(T("1.2.3-a.b oops"), &kind, len);
-    case 14: return nodejs_semver_range_ignored_words(T(RANGE " || foo"), words, 4, &end);
-    case 15: return nodejs_semver_version_print(PORT, T("1.2.3-a.b+c.d"), out, 256, len);
-    case 16: return nodejs_semver_range_print(PORT, T(">1.2.3-a.b <=2.0.0-c.d+e"), out, 256, len);
-    case 17: return nodejs_semver_version_inc(NPM, T("1.2.3"), T("minor"), T(""), 0, out, 256, len);
-    case 18: return nodejs_semver_range_min_version(PORT, T("^1.2.3"), out, 256, len);
-    default: return nodejs_semver_range_max_satisfying(PORT, T(">=1.2.0 <2.0.0-rc.1"), texts, 3, len);
+    case 0: return nodejs_semver_range_intersect(PORT, T(RANGE), T(OTHER), OUT);
+    case 1: return nodejs_semver_range_difference(NPM, T(RANGE), T(OTHER), OUT);
+    case 2: return nodejs_semver_range_min_version(PORT, T(">1.2.3-a.b || >0.1.0-a <0.1.1-0"), OUT);
+    case 3: return nodejs_semver_range_least_beyond(PORT, T(RANGE), T(OTHER), OUT);
+    case 4: return nodejs_semver_version_inc(PORT, T("1.2.3-a.b+c.d"), T("prerelease"), T("beta.rc"), 0, OUT);
+    case 5: return nodejs_semver_range_print(NPM, T(RANGE), OUT);
+    case 6: return nodejs_semver_versions_sort(NPM, TEXTS, w->order, 3, &w->index);
+    case 7: return nodejs_semver_range_satisfies(PORT, T(RANGE), T("2.9.0"), false, &w->answer);
+    case 8: return nodejs_semver_range_max_satisfying(NPM, T(RANGE), TEXTS, &w->index);
+    case 9: return nodejs_semver_range_min_satisfying(PORT, T(RANGE), TEXTS, &w->index);
+    case 10: return nodejs_semver_range_satisfies_each(PORT, T(RANGE), TEXTS, false, w->answers, 3);
+    case 11: return nodejs_semver_range_outside(NPM, T(RANGE), T("0.1.0"), false, true, &w->answer);
+    case 12: return nodejs_semver_range_allows_all(PORT, T(RANGE), T(OTHER), &w->answer);
+    case 13: return nodejs_semver_range_allows_any(NPM, T(RANGE), T(OTHER), &w->answer);
+    case 14: return nodejs_semver_version_compare(PORT, T("1.2.3-a.b"), T("1.2.3+c"), &w->compared);
+    case 15: return nodejs_semver_version_check(NPM, T("1.2.3-a.b+c.d"));
+    case 16: return nodejs_semver_version_diff(NPM, T("1.2.3-a.b"), T("1.2.3"), &w->number);
+    case 17: return nodejs_semver_range_satisfies(NPM, T("^1.2.3-a.b"), T("1.2.3-a.c"), false, &w->answer);
+    case 18: return nodejs_semver_version_flaw(T("1.2.3-a.b oops"), &w->number, &w->index);
+    case 19: return nodejs_semver_range_ignored_words(T(RANGE " || foo"), w->words, 4, &w->len);
+    case 20: return nodejs_semver_version_print(PORT, T("1.2.3-a.b+c.d"), OUT);
+    case 21: return nodejs_semver_range_print(PORT, T(">1.2.3-a.b <=2.0.0-c.d+e"), OUT);
+    case 22: return nodejs_semver_version_inc(NPM, T("1.2.3"), T("minor"), T(""), 0, OUT);
+    case 23: return nodejs_semver_range_min_version(PORT, T("^1.2.3"), OUT);
+    case 24: return nodejs_semver_range_allows_any(PORT, T("^1.2.3-a.b"), T("<2.0.0-rc"), &w->answer);
+    default: return nodejs_semver_range_max_satisfying(PORT, T(">=1.2.0 <2.0.0-rc.1"), TEXTS, &w->index);
     }
 }
 
 int main(void)
 {
     long failed = 0;
-    for (int which = 0; which < CALLS; which++)
+    for (int which = 0; which < CALLS; which++) {
+        bool asks = false;
         for (long n = 0;; n++) {
-            char out[256], was[256];
-            size_t len = 12345;
-            memset(out, 'x', sizeof out);
-            memcpy(was, out, sizeof out);
+            written was, now;
+            memset(&was, 'x', sizeof was);
+            memcpy(&now, &was, sizeof was);
             asked = 0;
             left = n;
-            nodejs_semver_status status = call(which, out, &len);
+            nodejs_semver_status status = call(which, &now);
             left = -1;
-            if (asked && which >= FIRST_WITHOUT)
-                return printf("call %d asks for memory\n", which), 1;
+            asks |= asked > 0;
             if (status == NODEJS_SEMVER_NO_MEMORY) {
                 failed++;
-                if (len != 12345 || memcmp(out, was, sizeof out))
+                if (memcmp(&was, &now, sizeof was))
                     return printf("call %d wrote, though allocation %ld failed\n", which, n), 1;
             } else if (status != NODEJS_SEMVER_OK) {
                 return printf("call %d: status %u where allocation %ld failed\n", which, status, n), 1;
@@ -86,6 +98,9 @@ int main(void)
                 break;
             }
         }
+        if (asks != (which < FIRST_WITHOUT))
+            return printf("call %d asks for %s memory\n", which, asks ? "some" : "no"), 1;
+    }
     printf("passed: %ld calls without memory\n", failed);
     return 0;
 }

@@ -1,7 +1,7 @@
 -- The front of an array, filled as far as there is room.
-use Rattle.std.proofs.Common.{◌≡◌, ◌<◌, ◌≤◌, ◌+◌, ◌-◌, ◌^◌, ◌∷◌, ◌++◌, ℕ, List, [], arith, drop, drop_of_length-le, length}
-use Rattle.std.proofs.Common.{length-append, length-drop, length-take, map, min, refl, set, take, take_all}
-use Rattle.std.proofs.lemmas.List.{length-map, map-append, take-append-le}
+use Rattle.std.proofs.Common.{◌≡◌, ◌<◌, ◌≤◌, ◌-◌, ◌^◌, ◌∷◌, ◌++◌, ℕ, List, [], arith, drop, length}
+use Rattle.std.proofs.Common.{length-append, length-drop, length-take, map, min, set, take_all}
+use Rattle.std.proofs.lemmas.List.{length-map, map-append}
 use Rattle.nodejs_semver_c.specs.Words.{fitted}
 use Rattle.nodejs_semver_c.proofs.Places.{filled}
 

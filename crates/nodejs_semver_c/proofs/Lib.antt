@@ -1,5 +1,6 @@
 mod Failures
 mod Fitting
 mod Places
+mod Printing
 mod Putting
 mod Sorting

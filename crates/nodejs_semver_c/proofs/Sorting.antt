@@ -1,6 +1,6 @@
 -- Versions with their places, as more of them are read, and their places, as more of them are told.
 use Rattle.std.proofs.Common.{◌≡◌, ◌+◌, ◌<◌, ◌≤◌, ◌∷◌, ◌++◌, ◌∙◌, ℕ, List, [], Bor, IsPermutation, IsSorted, ap, arith, drop}
-use Rattle.std.proofs.Common.{get_or, length, length-append, map, nat_cmp, refl, set, suc, sym, take, zip}
+use Rattle.std.proofs.Common.{get_or, length, length-append, map, nat_cmp, refl, set, suc, take, zip}
 use Rattle.std.proofs.lemmas.List.{length-map, length-take-le, map-append, take_more}
 use Rattle.std.proofs.lemmas.List.Sorted.{length_permutation}
 use Rattle.std.specs.List.{AllZip, range_with_len}

@@ -1,5 +1,5 @@
 -- Statement. How the texts of a call are read.
-use Rattle.std.specs.Prelude.{◌≡◌, ◌<◌, ◌==◌, if◌then◌else◌, Bool, ℕ, List, [], Option, Some, None, length}
+use Rattle.std.specs.Prelude.{◌<◌, ◌==◌, if◌then◌else◌, Bool, ℕ, List, [], Option, Some, None, length}
 use Rattle.semver_core.specs.Cuts.{Span}
 use Rattle.semver_core.specs.Failures.{NoValue}
 use Rattle.semver_core.specs.Text.Parsing.{Parses}

@@ -93,10 +93,7 @@ pub fn version(reading: u32, bytes: &[u8]) -> Result<VersionRef<'_>, u32>
     let Some(reading) = reading_of(reading) else {
         return Err(BAD_ARGUMENT);
     };
-    let text = match text(bytes) {
-        Ok(text) => text,
-        Err(status) => return Err(status),
-    };
+    let text = text(bytes)?;
     match reading.spelled(text) {
         Ok(version) => Ok(version),
         Err(_) => Err(BAD_VERSION),
@@ -117,10 +114,7 @@ pub fn range(
     let Some(reading) = reading_of(reading) else {
         return Err(BAD_ARGUMENT);
     };
-    let text = match text(bytes) {
-        Ok(text) => text,
-        Err(status) => return Err(status),
-    };
+    let text = text(bytes)?;
     match reading.spelled_range(alloc, include_prerelease, text) {
         Ok(range) => Ok(range),
         Err(Failure::Refused(_)) => Err(BAD_RANGE),

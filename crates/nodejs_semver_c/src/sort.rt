@@ -1,7 +1,8 @@
 // The order of many versions.
 
 ghost use Rattle.nodejs_semver_c.specs.Answers.{NoMemoryOnlyIf};
-ghost use Rattle.nodejs_semver_c.specs.Lists.{AreVersionsOf, OnArray, RefusesAt, TellsOrder, placed};
+ghost use Rattle.nodejs_semver_c.specs.Lists.{AreVersionsOf, OnArray, RefusesAt, TellsOrder};
+ghost use Rattle.nodejs_semver_c.specs.Lists.{placed};
 ghost use Rattle.semver_core.specs.Values.Versions.{VersionValue};
 ghost use Rattle.std.specs.Prelude.{◌≡◌, ◌<◌, ◌≤◌, ◌⊎◌, ◌++◌, [], IfErr, List, OnOk, drop};
 ghost use Rattle.std.specs.Prelude.{length, map};

@@ -21,7 +21,7 @@ use nodejs_semver::{Failure, IdentifierBase, IncrementError, VersionDiff, Versio
 use std::alloc::Global;
 use std::cmp::Ordering;
 
-/// Whether a text is a version, as npm's loose grammar has it: the status is `OK` or says why not.
+/// Whether a text is a version: the status is `OK` or says why not.
 ///
 /// Returns `OK`, `BAD_ARGUMENT`, `NOT_UTF8`, `BAD_VERSION` or `TOO_LONG`.
 #[unsafe(no_mangle)]
@@ -34,7 +34,7 @@ pub extern "C" fn nodejs_semver_version_check(reading: u32, version: &[u8]) -> u
     }
 }
 
-/// Prints the version of a text: `v1.2.3 oops` as `1.2.3`.
+/// Prints the version of a text: in the port's reading `v1.2.3 oops` as `1.2.3`.
 ///
 /// Returns `OK`, `TOO_SMALL`, `BAD_ARGUMENT`, `NOT_UTF8`, `BAD_VERSION` or `TOO_LONG`.
 #[unsafe(no_mangle)]

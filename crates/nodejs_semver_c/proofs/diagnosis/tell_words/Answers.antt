@@ -1,4 +1,4 @@
-use Rattle.std.proofs.Common.{◌∷◌, ◌++◌, ◌∙◌, [], ap, append_assoc, arith, length-append, refl, rules, sym}
+use Rattle.std.proofs.Common.{◌∷◌, ◌++◌, ◌∙◌, [], ap, append_assoc, arith, length-append, sym}
 use Rattle.nodejs_semver_c.proofs.diagnosis.tell_words.Goals as goal
 
 pub words-preserved : goal.words-preserved

@@ -1,6 +1,6 @@
 use Rattle.std.proofs.Common.{ap, refl, rules, take_all}
 use Rattle.nodejs_semver.specs.Printing.Text.{range_text}
-use Rattle.nodejs_semver.proofs.Printing.Steps.{bars_step, range_step}
+use Rattle.nodejs_semver_c.proofs.Printing.{bars_step, joined_step}
 use Rattle.nodejs_semver_c.proofs.Putting.{adds_nothing, adds_same, adds_then}
 use Rattle.nodejs_semver_c.proofs.pieces.put_range.Goals as goal
 
@@ -12,7 +12,7 @@ loop-interval-preserved c =
     let i = c.loop-interval.interval-index in (
       search rules,
       bars_step _ i c.interval-item.result c.loop-interval-test.true c.interval-item.is,
-      adds_same (range_step _ _ i _ _ c.loop-interval-test.true c.loop-interval.invariant.1 c.interval-item.is)
+      adds_same (joined_step _ _ i _ _ c.loop-interval-test.true c.loop-interval.invariant.1 c.interval-item.is)
           (adds_then c.loop-interval.invariant.2 (adds_then c.put.ensures c.put_interval.ensures)),
     )
 

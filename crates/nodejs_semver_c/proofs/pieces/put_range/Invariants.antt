@@ -2,7 +2,7 @@ use Rattle.std.proofs.Common.{◌≡◌, take}
 use denote.Text.{Utf8}
 use denote.Shadow.{shadow}
 use Rattle.nodejs_semver.specs.Printing.Text.{range_text}
-use Rattle.nodejs_semver.proofs.Printing.Steps.{bars_after}
+use Rattle.nodejs_semver_c.proofs.Printing.{bars_after}
 use Rattle.nodejs_semver_c.specs.Internal.Pieces.{Adds}
 use Rattle.nodejs_semver_c.proofs.pieces.put_range.Given as goal
 

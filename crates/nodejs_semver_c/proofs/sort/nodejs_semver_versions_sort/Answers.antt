@@ -1,4 +1,4 @@
-use Rattle.std.proofs.Common.{◌∙◌, arith, inl, inr, refl, sym}
+use Rattle.std.proofs.Common.{arith, inr, refl}
 use Rattle.nodejs_semver_c.proofs.Sorting.{sorted_length, tells_order}
 use Rattle.nodejs_semver_c.proofs.sort.nodejs_semver_versions_sort.Goals as goal
 

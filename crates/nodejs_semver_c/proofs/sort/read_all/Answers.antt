@@ -1,4 +1,4 @@
-use Rattle.std.proofs.Common.{◌∷◌, ◌++◌, ◌∙◌, [], ap, arith, inl, inr, length-append, refl, rules, sym, take_all}
+use Rattle.std.proofs.Common.{◌∷◌, ◌++◌, [], arith, inl, length-append, refl, rules, take_all}
 use Rattle.std.proofs.lemmas.List.{take_more}
 use Rattle.nodejs_semver_c.proofs.Places.{AllZip-append, refused_at}
 use Rattle.nodejs_semver_c.proofs.Sorting.{placed_more}

@@ -1,7 +1,7 @@
 use Rattle.std.proofs.Common.{◌++◌, append_assoc, refl, rules}
 use Rattle.semver_core.specs.Printing.Text.{id_text}
 use Rattle.semver_core.specs.Values.Views.{lent_id_view}
-use Rattle.semver_core.proofs.Printing.Prints.{marked_step}
+use Rattle.npm_semver.proofs.Printing.{marked_step}
 use Rattle.npm_semver.proofs.run.write_pre_release.Goals as goal
 
 pub ids-preserved : goal.ids-preserved
