@@ -1,5 +1,5 @@
 -- The parts of a text that std's clauses name.
-use Rattle.std.proofs.Common.{◌≡◌, ◌⊎◌, ℕ, List, ◌∷◌, ◌++◌, drop, take, inl, inr, sym, ap, arith, encode_utf8, ◌∙◌}
+use Rattle.std.proofs.Common.{◌≡◌, ◌≢◌, ◌⊎◌, ℕ, List, ◌∷◌, ◌++◌, drop, take, inl, inr, sym, ap, arith, encode_utf8, ◌∙◌}
 use Rattle.std.specs.Str.Pattern.{FindsChar, SplitsAroundMatch}
 use Rattle.std.proofs.lemmas.List.{take-append-drop}
 use Rattle.std.proofs.lemmas.Str.{encode_ascii}
@@ -17,3 +17,7 @@ behind_at target name front range whose s =
     let cut : name ≡ take i name ++ 64 ∷ range =
     sym (take-append-drop i name) ∙ ap (λ t. take i name ++ t) (at_then (drop i name) (drop s.1 name) range found.split s.4) in
     elim whose [ inl e ↦ (take i name, sym e ∙ cut) | inr e ↦ (64 ∷ take i name, e ∙ ap (λ t. 64 ∷ t) cut) ]
+
+-- a text that does not begin with an encoded `$` does not begin with its byte
+pub no_dollar : (text : List ℕ) → ((rest : List ℕ) → text ≢ encode_utf8 36 ++ rest) → (name : List ℕ) → text ≢ 36 ∷ name
+no_dollar text none name e = none name (e ∙ ap (λ t. t ++ name) (sym (encode_ascii 36 (omega arith))))
