@@ -18,8 +18,8 @@
 //! A lock file may come from anyone. What is printed of it stands on one line, in printable ASCII:
 //! all other characters, quotes and backslashes are escaped, as `\u{1b}`.
 //!
-//! Ranges and versions are read as npm's library node-semver reads them. It ignores malformed words,
-//! which its readings here reject: of a text with such a word the lenient reading of `parse`
+//! Ranges and versions are read as npm's library node-semver reads them. It ignores malformed
+//! words, which its readings here reject: of a text with such a word the lenient reading of `parse`
 //! decides. Each word that this ignores is named with its place, which does not count as a finding:
 //! `>=1.0.0,` in `>=1.0.0, <2.0.0`.
 #![tactic(auto)]

@@ -26,8 +26,8 @@ pub fn strict_range(alloc: Global, text: &str) -> Result<Option<RangeRef<'_>>, A
     Failure::refused_as_none(npm::range(alloc, text, false))
 }
 
-/// The range that node-semver's strict reading finds in a text, or else its loose reading; `None` if
-/// both reject the text. Fails only if allocation fails.
+/// The range that node-semver's strict reading finds in a text, or else its loose reading; `None`
+/// if both reject the text. Fails only if allocation fails.
 pub fn npm_range(alloc: Global, text: &str) -> Result<Option<RangeRef<'_>>, AllocError>
     ensures some { IfOk result (λ r. IfSome r (IsNpmRange MAX_SAFE_INTEGER text.now)) }
     ensures none { IfOk result (λ r. IfNone r (IsNoNpmRange MAX_SAFE_INTEGER text.now)) }

@@ -23,8 +23,9 @@ pub struct Requirement {
 
 impl Requirement {
     /// The demand for a release of the package of this number in the range of a text, which is read
-    /// as npm reads it: `^*` is any release, and a text with a malformed word, as `>=1.0.0, <2.0.0`, is rejected.
-    /// Returns `Refused` only if npm's library node-semver rejects the text.
+    /// as npm reads it: `^*` is any release, and a text with a malformed word, as
+    /// `>=1.0.0, <2.0.0`, is rejected. Returns `Refused` only if npm's library node-semver rejects
+    /// the text.
     ///
     /// ```rust
     /// let requirement = Requirement::read(alloc, 0, "^1.2")?;
