@@ -1,3 +1,5 @@
 pub mod Cuts
 pub mod Listed
 pub mod Answering
+pub mod Refused
+pub mod ReadTexts

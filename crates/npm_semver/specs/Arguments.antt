@@ -5,9 +5,13 @@ use Rattle.std.specs.List.{list_all, list_any}
 use Rattle.std.specs.Str.{bytes_eq}
 use Rattle.semver_core.specs.declared.increment.IdentifierBase.{IdentifierBase}
 use Rattle.semver_core.specs.declared.increment.IdentifierBase.TheVariants.{False, Value}
+use Rattle.npm_semver.specs.Readings.{strictly}
 use Rattle.npm_semver.specs.Words.{FirstWord, value}
+use Rattle.npm_semver.specs.declared.question.Pick.{Pick}
+use Rattle.npm_semver.specs.declared.question.Pick.TheVariants as Picks
 use Rattle.npm_semver.specs.declared.question.Word.{Word}
-use Rattle.npm_semver.specs.declared.question.Word.TheVariants.{Help, IncludePrerelease, Reverse, Range, Version, Increment, Identifier, Base, Unsupported, Text}
+use Rattle.npm_semver.specs.declared.reading.Reading.{Reading}
+use Rattle.npm_semver.specs.declared.question.Word.TheVariants.{Help, IncludePrerelease, Reverse, Range, Version, Increment, Identifier, Base, Loose, Coerce, FromRight, FromLeft, Greatest, Least, Json, Text}
 
 abbrev pub is_one_of : List (List ℕ) → List ℕ → Bool
 is_one_of words text = list_any (bytes_eq text) words
@@ -23,11 +27,17 @@ word_of word =
     else if is_one_of (codes "-i" ∷ codes "--inc" ∷ codes "--increment" ∷ []) word then Increment
     else if is_one_of (codes "--preid" ∷ []) word then Identifier
     else if is_one_of (codes "-n" ∷ []) word then Base
-    else if is_one_of (codes "-l" ∷ codes "--loose" ∷ codes "-c" ∷ codes "--coerce" ∷ codes "--rtl" ∷ codes "--ltr" ∷ []) word then Unsupported
+    else if is_one_of (codes "-l" ∷ codes "--loose" ∷ []) word then Loose
+    else if is_one_of (codes "-c" ∷ codes "--coerce" ∷ []) word then Coerce
+    else if is_one_of (codes "--rtl" ∷ []) word then FromRight
+    else if is_one_of (codes "--ltr" ∷ []) word then FromLeft
+    else if is_one_of (codes "--max" ∷ []) word then Greatest
+    else if is_one_of (codes "--min" ∷ []) word then Least
+    else if is_one_of (codes "--json" ∷ []) word then Json
     else Text
 
 -- what is asked: the texts that may be versions, the range texts, the level, the identifier and the first number of a next version,
--- whether the greatest version is printed first, whether pre-releases are included, and whether all options are supported
+-- whether the greatest version is printed first, how texts are read, which versions are printed, and whether as JSON
 pub record Asked : Type 0 where
   pub versions : List (List ℕ)
   pub ranges : List (List ℕ)
@@ -35,11 +45,12 @@ pub record Asked : Type 0 where
   pub identifier : Option (List ℕ)
   pub base : IdentifierBase
   pub is_reversed : Bool
-  pub include_prerelease : Bool
-  pub is_supported : Bool
+  pub reading : Reading
+  pub pick : Pick
+  pub is_json : Bool
 
 abbrev pub nothing_asked : Asked
-nothing_asked = record { versions = []; ranges = []; level = None; identifier = None; base = Value 0; is_reversed = false; include_prerelease = false; is_supported = true }
+nothing_asked = record { versions = []; ranges = []; level = None; identifier = None; base = Value 0; is_reversed = false; reading = strictly; pick = Picks.All; is_json = false }
 
 abbrev pub is_level : List ℕ → Bool
 is_level = is_one_of (codes "major" ∷ codes "minor" ∷ codes "patch" ∷ codes "premajor" ∷ codes "preminor" ∷ codes "prepatch"
@@ -61,25 +72,30 @@ base_of (Some text) = if bytes_eq text (codes "false") then False
 -- what is asked in all once this word is read, behind which these words stand
 abbrev pub asked_by : Word → List ℕ → List (List ℕ) → Asked → Asked
 asked_by Help text behind q = q
-asked_by IncludePrerelease text behind q = record q { include_prerelease = true }
+asked_by IncludePrerelease text behind q = record q { reading = record q.reading { include_prerelease = true } }
+asked_by Loose text behind q = record q { reading = record q.reading { is_loose = true } }
+asked_by Coerce text behind q = record q { reading = record q.reading { is_coerced = true } }
+asked_by FromRight text behind q = record q { reading = record q.reading { from_right = true } }
+asked_by FromLeft text behind q = record q { reading = record q.reading { from_right = false } }
+asked_by Greatest text behind q = record q { pick = Picks.Greatest }
+asked_by Least text behind q = record q { pick = Picks.Least }
+asked_by Json text behind q = record q { is_json = true }
 asked_by Reverse text behind q = record q { is_reversed = true }
 asked_by Range text behind q = record q { ranges = q.ranges ++ unwrap_or (value behind) (codes "undefined") ∷ [] }
 asked_by Version text behind q = record q { versions = q.versions ++ take 1 behind }
 asked_by Increment text behind q = record q { level = Some (level_of behind) }
 asked_by Identifier text behind q = record q { identifier = value behind }
 asked_by Base text behind q = record q { base = base_of (value behind) }
-asked_by Unsupported text behind q = record q { is_supported = false }
 asked_by Text text behind q = record q { versions = q.versions ++ text ∷ [] }
 
 -- the words that are left then
 abbrev pub left_by : Word → List (List ℕ) → List (List ℕ)
-left_by Help behind = behind
-left_by IncludePrerelease behind = behind
-left_by Reverse behind = behind
-left_by Unsupported behind = behind
-left_by Text behind = behind
+left_by Range behind = drop 1 behind
+left_by Version behind = drop 1 behind
+left_by Identifier behind = drop 1 behind
+left_by Base behind = drop 1 behind
 left_by Increment behind = if has_level behind then drop 1 behind else behind
-left_by word behind = drop 1 behind
+left_by word behind = behind
 
 -- what these words ask, beside what is asked before them; None is the text of `--help`
 pub data Asks : List (List ℕ) → Asked → Option Asked → Type 0 where

@@ -6,6 +6,8 @@ mod arguments;
 mod help;
 mod listing;
 mod question;
+mod reading;
+mod refusal;
 mod run;
 
 use crate::run::run;

@@ -11,6 +11,7 @@ ghost use Rattle.npm_semver.specs.declared.question.Word.TheVariants as Word;
 ghost use Rattle.npm_semver.specs.Internal.Asked.{asked_of, request_of};
 
 use crate::arguments::Words;
+use crate::reading::Reading;
 use nodejs_semver::IdentifierBase;
 use std::alloc::{AllocError, Global};
 
@@ -25,8 +26,13 @@ pub enum Word {
     Increment,
     Identifier,
     Base,
-    /// An option of the real program that this one does not have.
-    Unsupported,
+    Loose,
+    Coerce,
+    FromRight,
+    FromLeft,
+    Greatest,
+    Least,
+    Json,
     Text,
 }
 
@@ -44,10 +50,24 @@ impl Word {
             "-i" | "--inc" | "--increment" => Word::Increment,
             "--preid" => Word::Identifier,
             "-n" => Word::Base,
-            "-l" | "--loose" | "-c" | "--coerce" | "--rtl" | "--ltr" => Word::Unsupported,
+            "-l" | "--loose" => Word::Loose,
+            "-c" | "--coerce" => Word::Coerce,
+            "--rtl" => Word::FromRight,
+            "--ltr" => Word::FromLeft,
+            "--max" => Word::Greatest,
+            "--min" => Word::Least,
+            "--json" => Word::Json,
             _ => Word::Text,
         }
     }
+}
+
+/// Which versions are printed.
+#[derive(Clone, Copy)]
+pub enum Pick {
+    All,
+    Greatest,
+    Least,
 }
 
 /// What a command line asks for.
@@ -75,10 +95,12 @@ pub struct Question<'a> {
     pub base: IdentifierBase,
     /// Whether the greatest version is printed first.
     pub is_reversed: bool,
-    /// Whether ranges accept every pre-release within their bounds.
-    pub include_prerelease: bool,
-    /// Whether this program has all options that are asked for.
-    pub is_supported: bool,
+    /// How texts are read.
+    pub reading: Reading,
+    /// Which of the versions are printed.
+    pub pick: Pick,
+    /// Whether they are printed as JSON.
+    pub is_json: bool,
 }
 
 impl<'a> Question<'a> {
@@ -92,8 +114,9 @@ impl<'a> Question<'a> {
             identifier: None,
             base: IdentifierBase::Value(0),
             is_reversed: false,
-            include_prerelease: false,
-            is_supported: true,
+            reading: Reading::strict(),
+            pick: Pick::All,
+            is_json: false,
         }
     }
 
@@ -105,7 +128,7 @@ impl<'a> Question<'a> {
     {
         match word {
             Word::Help => {}
-            Word::IncludePrerelease => self.include_prerelease = true,
+            Word::IncludePrerelease => self.reading.include_prerelease = true,
             Word::Reverse => self.is_reversed = true,
             Word::Range => self.ranges.push(words.take_value().unwrap_or("undefined"))?,
             Word::Version => {
@@ -116,7 +139,13 @@ impl<'a> Question<'a> {
             Word::Increment => self.level = Some(take_level(words)),
             Word::Identifier => self.identifier = words.take_value(),
             Word::Base => self.base = base(words.take_value()),
-            Word::Unsupported => self.is_supported = false,
+            Word::Loose => self.reading.is_loose = true,
+            Word::Coerce => self.reading.is_coerced = true,
+            Word::FromRight => self.reading.from_right = true,
+            Word::FromLeft => self.reading.from_right = false,
+            Word::Greatest => self.pick = Pick::Greatest,
+            Word::Least => self.pick = Pick::Least,
+            Word::Json => self.is_json = true,
             Word::Text => self.versions.push(text)?,
         }
         Ok(())

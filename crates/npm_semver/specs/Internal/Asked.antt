@@ -17,8 +17,9 @@ asked_of q = record {
   identifier = option_map (λ t. t.now) q.identifier;
   base = q.base;
   is_reversed = q.is_reversed;
-  include_prerelease = q.include_prerelease;
-  is_supported = q.is_supported;
+  reading = q.reading;
+  pick = q.pick;
+  is_json = q.is_json;
 }
 
 abbrev pub request_of : Request → Option Asked
