@@ -3,6 +3,7 @@ use Rattle.std.specs.Prelude.{◌≡◌, ◌≢◌, ◌==◌, ◌&&◌, ◌∷�
 use Rattle.std.specs.Char.{is_ascii_digit}
 use Rattle.std.specs.List.{list_all, list_any}
 use Rattle.std.specs.Str.{bytes_eq}
+use Rattle.semver_core.specs.Text.Characters.{begins}
 use Rattle.semver_core.specs.declared.increment.IdentifierBase.{IdentifierBase}
 use Rattle.semver_core.specs.declared.increment.IdentifierBase.TheVariants.{False, Value}
 use Rattle.npm_semver.specs.Readings.{strictly}
@@ -11,7 +12,7 @@ use Rattle.npm_semver.specs.declared.question.Pick.{Pick}
 use Rattle.npm_semver.specs.declared.question.Pick.TheVariants as Picks
 use Rattle.npm_semver.specs.declared.question.Word.{Word}
 use Rattle.npm_semver.specs.declared.reading.Reading.{Reading}
-use Rattle.npm_semver.specs.declared.question.Word.TheVariants.{Help, IncludePrerelease, Reverse, Range, Version, Increment, Identifier, Base, Loose, Coerce, FromRight, FromLeft, Greatest, Least, Json, Text}
+use Rattle.npm_semver.specs.declared.question.Word.TheVariants.{Help, IncludePrerelease, Reverse, Range, Version, Increment, Identifier, Base, Loose, Coerce, FromRight, FromLeft, Greatest, Least, Json, Strict, Why, Input, Unknown, Text}
 
 abbrev pub is_one_of : List (List ℕ) → List ℕ → Bool
 is_one_of words text = list_any (bytes_eq text) words
@@ -34,10 +35,15 @@ word_of word =
     else if is_one_of (codes "--max" ∷ []) word then Greatest
     else if is_one_of (codes "--min" ∷ []) word then Least
     else if is_one_of (codes "--json" ∷ []) word then Json
+    else if is_one_of (codes "--strict" ∷ []) word then Strict
+    else if is_one_of (codes "--why" ∷ []) word then Why
+    else if is_one_of (codes "-" ∷ []) word then Input
+    else if begins (λ b. b == 45) word then Unknown
     else Text
 
 -- what is asked: the texts that may be versions, the range texts, the level, the identifier and the first number of a next version,
--- whether the greatest version is printed first, how texts are read, which versions are printed, and whether as JSON
+-- whether the greatest version is printed first, how texts are read, which versions are printed, and whether as JSON, whether what is
+-- not read is an error, and is told, whether some word looks like an option and is none, and whether the lines of the input may be versions
 pub record Asked : Type 0 where
   pub versions : List (List ℕ)
   pub ranges : List (List ℕ)
@@ -48,9 +54,27 @@ pub record Asked : Type 0 where
   pub reading : Reading
   pub pick : Pick
   pub is_json : Bool
+  pub is_strict : Bool
+  pub is_why : Bool
+  pub has_unknown : Bool
+  pub reads_input : Bool
 
 abbrev pub nothing_asked : Asked
-nothing_asked = record { versions = []; ranges = []; level = None; identifier = None; base = Value 0; is_reversed = false; reading = strictly; pick = Picks.All; is_json = false }
+nothing_asked = record {
+  versions = [];
+  ranges = [];
+  level = None;
+  identifier = None;
+  base = Value 0;
+  is_reversed = false;
+  reading = strictly;
+  pick = Picks.All;
+  is_json = false;
+  is_strict = false;
+  is_why = false;
+  has_unknown = false;
+  reads_input = false;
+}
 
 abbrev pub is_level : List ℕ → Bool
 is_level = is_one_of (codes "major" ∷ codes "minor" ∷ codes "patch" ∷ codes "premajor" ∷ codes "preminor" ∷ codes "prepatch"
@@ -80,6 +104,10 @@ asked_by FromLeft text behind q = record q { reading = record q.reading { from_r
 asked_by Greatest text behind q = record q { pick = Picks.Greatest }
 asked_by Least text behind q = record q { pick = Picks.Least }
 asked_by Json text behind q = record q { is_json = true }
+asked_by Strict text behind q = record q { is_strict = true }
+asked_by Why text behind q = record q { is_why = true }
+asked_by Input text behind q = record q { reads_input = true }
+asked_by Unknown text behind q = record q { versions = q.versions ++ text ∷ []; has_unknown = true }
 asked_by Reverse text behind q = record q { is_reversed = true }
 asked_by Range text behind q = record q { ranges = q.ranges ++ unwrap_or (value behind) (codes "undefined") ∷ [] }
 asked_by Version text behind q = record q { versions = q.versions ++ take 1 behind }

@@ -1,6 +1,7 @@
 -- Statement: what the command writes for what its arguments ask.
-use Rattle.std.specs.Prelude.{◌≡◌, ◌&&◌, ◌∷◌, ◌++◌, [], not, ℕ, Bool, true, false, List, Option, Some, None, Result, Ok, Err, reverse, take, if◌then◌else◌}
+use Rattle.std.specs.Prelude.{◌≡◌, ◌&&◌, ◌||◌, ◌∷◌, ◌++◌, [], not, ℕ, Bool, true, false, List, Option, Some, None, Result, Ok, Err, option_map, reverse, take, if◌then◌else◌}
 use Rattle.std.specs.List.{flat_map}
+use Rattle.std.specs.Str.Lines.{lines}
 use Rattle.semver_core.specs.Failures.{NoValue}
 use Rattle.semver_core.specs.Increments.Table.{Fault, answer_of_inc}
 use Rattle.semver_core.specs.Lists.{is_empty}
@@ -8,7 +9,7 @@ use Rattle.semver_core.specs.Printing.Text.{version_text}
 use Rattle.semver_core.specs.Values.Versions.{VersionValue}
 use Rattle.npm_semver.specs.Arguments.{Asked, IsAsked}
 use Rattle.npm_semver.specs.Listing.{AreListed, IsListing}
-use Rattle.npm_semver.specs.Readings.{HasRange, SomeText}
+use Rattle.npm_semver.specs.Readings.{HasRange, IsVersionIn, SomeText}
 use Rattle.npm_semver.specs.declared.question.Pick.{Pick}
 use Rattle.npm_semver.specs.declared.question.Pick.TheVariants.{All, Greatest, Least}
 
@@ -19,14 +20,14 @@ bare v = version_text (record v { build = [] })
 abbrev pub line : VersionValue → List ℕ
 line v = bare v ++ 10 ∷ []
 
--- a JSON string of a text that has nothing to escape
-abbrev pub quoted : List ℕ → List ℕ
-quoted text = 34 ∷ (text ++ 34 ∷ [])
+-- a JSON string, in which nothing is to be escaped
+abbrev pub quoted : VersionValue → List ℕ
+quoted v = 34 ∷ (bare v ++ 34 ∷ [])
 
--- texts of versions as a JSON array of strings, on a line
-abbrev pub json : (VersionValue → List ℕ) → List VersionValue → List ℕ
-json text [] = 91 ∷ 93 ∷ 10 ∷ []
-json text (v ∷ vs) = 91 ∷ (quoted (text v) ++ (flat_map (λ w. 44 ∷ quoted (text w)) vs ++ 93 ∷ 10 ∷ []))
+-- the versions as a JSON array of strings, on a line
+abbrev pub json : List VersionValue → List ℕ
+json [] = 91 ∷ 93 ∷ 10 ∷ []
+json (v ∷ vs) = 91 ∷ (quoted v ++ (flat_map (λ w. 44 ∷ quoted w) vs ++ 93 ∷ 10 ∷ []))
 
 abbrev pub in_order : Bool → List VersionValue → List VersionValue
 in_order is_reversed vs = if is_reversed then reverse vs else vs
@@ -38,7 +39,7 @@ picked Greatest vs = take 1 (reverse vs)
 picked Least vs = take 1 vs
 
 abbrev pub text_of : Asked → List VersionValue → List ℕ
-text_of q vs = let printed = in_order q.is_reversed (picked q.pick vs) in if q.is_json then json bare printed else flat_map line printed
+text_of q vs = let printed = in_order q.is_reversed (picked q.pick vs) in if q.is_json then json printed else flat_map line printed
 
 -- what is written to standard output, whether something is written to standard error, and whether the command succeeds
 pub record Written : Type 0 where
@@ -52,7 +53,7 @@ nothing_written is_error_told = record { output = []; is_error_told = is_error_t
 
 -- the next version, or why there is none
 abbrev pub next_written : Bool → Result VersionValue Fault → Written
-next_written is_json (Ok w) = record { output = if is_json then json version_text (w ∷ []) else version_text w ++ 10 ∷ []; is_error_told = false; is_success = true }
+next_written is_json (Ok w) = record { output = if is_json then json (w ∷ []) else line w; is_error_told = false; is_success = true }
 next_written is_json (Err fault) = nothing_written true
 
 -- a next version is asked for of one version, with no range
@@ -63,12 +64,18 @@ increment_written q level (v ∷ w ∷ vs) = nothing_written true
 
 -- some range text has to be one, and is none: loosely npm's program reads more
 abbrev pub HasUnread : Asked → Type 0
-HasUnread q = (q.reading.is_loose ≡ true) × SomeText (λ text. NoValue (HasRange q.reading text)) q.ranges
+HasUnread q = ((q.reading.is_loose || q.is_strict) ≡ true) × SomeText (λ text. NoValue (HasRange q.reading text)) q.ranges
+
+-- some text has to be a version, and is none
+abbrev pub HasNoVersion : Asked → Type 0
+HasNoVersion q = (q.is_strict ≡ true) × SomeText (λ text. NoValue (IsVersionIn q.reading text)) q.versions
 
 -- why nothing is answered. With `-c` and `-p` npm's program keeps pre-releases.
 pub data IsRefused (q : Asked) : Type 0 where
   coerced : (q.reading.is_coerced && q.reading.include_prerelease) ≡ true → IsRefused q
+  unknown : (q.is_strict && q.has_unknown) ≡ true → IsRefused q
   unread : HasUnread q → IsRefused q
+  no_version : HasNoVersion q → IsRefused q
 
 -- what is written for what is asked
 pub data Responds : Option Asked → Written → Type 0 where
@@ -79,8 +86,22 @@ pub data Responds : Option Asked → Written → Type 0 where
   increment : (q : Asked) (level : List ℕ) (vs : List VersionValue) → (IsRefused q → ⊥) → q.level ≡ Some level → AreListed q.reading [] q.versions vs
       → Responds (Some q) (increment_written q level vs)
 
--- what is written for the arguments behind the program's name
-pub record IsResponse (arguments : List (List ℕ)) (written : Written) : Type 0 where
+-- `-` stands for the lines of the input
+abbrev pub with_lines : List ℕ → Asked → Asked
+with_lines input q = if q.reads_input then record q { versions = q.versions ++ lines input } else q
+
+-- what is written for the arguments behind the program's name, and this input
+pub record IsResponse (arguments : List (List ℕ)) (input : List ℕ) (written : Written) : Type 0 where
   pub asked : Option Asked
   pub is_asked : IsAsked arguments asked
-  pub responds : Responds asked written
+  pub responds : Responds (option_map (with_lines input) asked) written
+
+-- whether the input is read
+abbrev pub reads_input : Option Asked → Bool
+reads_input None = false
+reads_input (Some q) = q.reads_input
+
+-- whether it is told why texts are left out
+abbrev pub tells_why : Option Asked → Bool
+tells_why None = false
+tells_why (Some q) = q.is_why

@@ -84,8 +84,8 @@ fn push_version<'a>(
     Ok(())
 }
 
-// Whether each of the ranges accepts a version.
-fn all_accept(
+/// Whether each of the ranges accepts a version.
+pub fn all_accept(
     include_prerelease: bool,
     ranges: &[Option<RangeRef<'_>>],
     version: &VersionRef<'_>,

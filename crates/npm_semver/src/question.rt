@@ -7,8 +7,11 @@ ghost use Rattle.npm_semver.specs.Arguments.{left_by, nothing_asked, word_of};
 ghost use Rattle.std.specs.Prelude.{◌==◌};
 ghost use Rattle.std.specs.Char.{is_ascii_digit};
 ghost use Rattle.std.specs.List.{list_all};
+ghost use Rattle.std.specs.Str.Lines.{lines};
+ghost use Rattle.semver_core.specs.Text.Characters.{begins};
+ghost use Rattle.npm_semver.specs.Responses.{with_lines};
 ghost use Rattle.npm_semver.specs.declared.question.Word.TheVariants as Word;
-ghost use Rattle.npm_semver.specs.Internal.Asked.{asked_of, request_of};
+ghost use Rattle.npm_semver.specs.Internal.Asked.{asked_of, request_of, texts};
 
 use crate::arguments::Words;
 use crate::reading::Reading;
@@ -33,6 +36,11 @@ pub enum Word {
     Greatest,
     Least,
     Json,
+    Strict,
+    Why,
+    Input,
+    /// A word that begins with `-` and is no option.
+    Unknown,
     Text,
 }
 
@@ -57,9 +65,19 @@ impl Word {
             "--max" => Word::Greatest,
             "--min" => Word::Least,
             "--json" => Word::Json,
+            "--strict" => Word::Strict,
+            "--why" => Word::Why,
+            "-" => Word::Input,
+            _ if begins_with_dash(word) => Word::Unknown,
             _ => Word::Text,
         }
     }
+}
+
+fn begins_with_dash(word: &str) -> bool
+    ensures { result ≡ begins (λ b. b == 45) word.now }
+{
+    matches!(word.as_bytes(), [b'-', ..])
 }
 
 /// Which versions are printed.
@@ -101,6 +119,14 @@ pub struct Question<'a> {
     pub pick: Pick,
     /// Whether they are printed as JSON.
     pub is_json: bool,
+    /// Whether a text or an option that is not read is an error.
+    pub is_strict: bool,
+    /// Whether it is told why texts are left out.
+    pub is_why: bool,
+    /// Whether some word looks like an option and is none.
+    pub has_unknown: bool,
+    /// Whether the lines of the input may be versions too.
+    pub reads_input: bool,
 }
 
 impl<'a> Question<'a> {
@@ -117,6 +143,10 @@ impl<'a> Question<'a> {
             reading: Reading::strict(),
             pick: Pick::All,
             is_json: false,
+            is_strict: false,
+            is_why: false,
+            has_unknown: false,
+            reads_input: false,
         }
     }
 
@@ -146,10 +176,34 @@ impl<'a> Question<'a> {
             Word::Greatest => self.pick = Pick::Greatest,
             Word::Least => self.pick = Pick::Least,
             Word::Json => self.is_json = true,
+            Word::Strict => self.is_strict = true,
+            Word::Why => self.is_why = true,
+            Word::Input => self.reads_input = true,
+            Word::Unknown => {
+                self.has_unknown = true;
+                self.versions.push(text)?;
+            }
             Word::Text => self.versions.push(text)?,
         }
         Ok(())
     }
+
+    /// Adds the lines of the input to the texts that may be versions, if `-` asks for them.
+    pub fn add_lines(&mut self, alloc: Global, input: &'a str) -> Result<(), AllocError>
+        ensures { OnOk result (asked_of self.new ≡ with_lines input.now (asked_of self.old)) }
+    {
+        if self.reads_input {
+            let lines = lines_of(alloc, input)?;
+            self.versions.extend_from_slice(&lines)?;
+        }
+        Ok(())
+    }
+}
+
+fn lines_of(alloc: Global, input: &str) -> Result<Vec<&str>, AllocError>
+    ensures { IfOk result (λ found. texts found.items ≡ lines input.now) }
+{
+    input.lines().collect(alloc)
 }
 
 // Whether a word is a level, where it stands behind `-i`.

@@ -1,6 +1,6 @@
 // The program as a function of its arguments.
 
-ghost use Rattle.std.specs.Prelude.{◌≡◌, ◌++◌, ◌∷◌, [], not, is_some, IfOk, OnOk, None, Ok, Some};
+ghost use Rattle.std.specs.Prelude.{◌≡◌, ◌++◌, ◌∷◌, [], not, is_some, IfOk, OnOk, None, Option, Ok, Some};
 ghost use Rattle.std.specs.Prelude.{map, string_bytes, if◌then◌else◌};
 ghost use Rattle.std.specs.List.{flat_map};
 ghost use Rattle.semver_core.specs.Increments.Table.{answer_of_inc};
@@ -8,7 +8,8 @@ ghost use Rattle.semver_core.specs.Lists.{is_empty};
 ghost use Rattle.semver_core.specs.Printing.Text.{marked_list};
 ghost use Rattle.npm_semver.specs.Responses.{IsRefused, IsResponse, Responds, bare, json, line};
 ghost use Rattle.npm_semver.specs.Responses.{in_order, next_written, nothing_written, picked};
-ghost use Rattle.npm_semver.specs.Responses.{quoted};
+ghost use Rattle.npm_semver.specs.Responses.{quoted, reads_input, tells_why, with_lines};
+ghost use Rattle.npm_semver.specs.Arguments.{Asked, IsAsked};
 ghost use Rattle.npm_semver.specs.Internal.Asked.{asked_of};
 ghost use Rattle.npm_semver.specs.Internal.Written.{written};
 
@@ -31,18 +32,59 @@ pub struct Response {
     pub is_success: bool,
 }
 
-/// Returns what the command writes for the arguments behind the program's name. Fails only if
-/// allocation fails.
-pub fn run(alloc: Global, arguments: &[String]) -> Result<Response, AllocError>
+/// Returns what the command writes for the arguments behind the program's name, and for the input,
+/// which it reads only if the arguments ask for it. Fails only if allocation fails.
+pub fn run(alloc: Global, arguments: &[String], input: &str) -> Result<Response, AllocError>
     ensures { IfOk result (λ response.
-        IsResponse (map string_bytes arguments.now) (written response)) }
+        IsResponse (map string_bytes arguments.now) input.now (written response)) }
 {
     match Request::of(alloc, arguments)? {
         Request::Help => help(alloc),
-        Request::Versions(question) => match refusal_of(alloc, &question)? {
-            Some(refusal) => Ok(nothing(alloc, Some(refusal))),
-            None => answer(alloc, &question),
-        },
+        Request::Versions(question) => respond(alloc, question, input),
+    }
+}
+
+/// What arguments ask for beside what is printed.
+#[derive(Clone, Copy)]
+pub struct Needs {
+    /// Whether the lines of the input may be versions.
+    pub input: bool,
+    /// Whether it is told why texts are left out.
+    pub reasons: bool,
+}
+
+/// Returns what the arguments ask for beside what is printed. Fails only if allocation fails.
+pub fn needs_of(alloc: Global, arguments: &[String]) -> Result<Needs, AllocError>
+    ensures { IfOk result (λ needs. (asked : Option Asked)
+        × IsAsked (map string_bytes arguments.now) asked × (needs.input ≡ reads_input asked)
+        × (needs.reasons ≡ tells_why asked)) }
+{
+    match Request::of(alloc, arguments)? {
+        Request::Help => Ok(Needs {
+            input: false,
+            reasons: false,
+        }),
+        Request::Versions(question) => Ok(Needs {
+            input: question.reads_input,
+            reasons: question.is_why,
+        }),
+    }
+}
+
+// What is written for a question and an input.
+fn respond<'a>(
+    alloc: Global,
+    question: Question<'a>,
+    input: &'a str,
+) -> Result<Response, AllocError>
+    ensures { IfOk result (λ response.
+        Responds (Some (with_lines input.now (asked_of question.entry))) (written response)) }
+{
+    let mut question = question;
+    question.add_lines(alloc, input)?;
+    match refusal_of(alloc, &question)? {
+        Some(refusal) => Ok(nothing(alloc, Some(refusal))),
+        None => answer(alloc, &question),
     }
 }
 
@@ -161,15 +203,16 @@ fn next(
         (asked_of question.now).identifier (Some question.now.base))) }
 {
     match version.inc(alloc, level, question.identifier, Some(question.base)) {
-        Ok(next) => found(alloc, question.is_json, &next),
+        Ok(next) => found(alloc, question.is_json, next),
         Err(Failure::Refused(error)) => { Ok(nothing(alloc, Some(Refusal::NotIncremented(error)))) }
         Err(Failure::Memory(error)) => Err(error),
     }
 }
 
-fn found(alloc: Global, is_json: bool, next: &Version) -> Result<Response, AllocError>
-    ensures { IfOk result (λ response. written response ≡ next_written is_json (Ok next.now)) }
+fn found(alloc: Global, is_json: bool, next: Version) -> Result<Response, AllocError>
+    ensures { IfOk result (λ response. written response ≡ next_written is_json (Ok next)) }
 {
+    let next = without_build(alloc, next)?;
     let mut output = String::new(alloc);
     if is_json {
         writeln!(output, "[\"{next}\"]")?;
@@ -183,6 +226,27 @@ fn found(alloc: Global, is_json: bool, next: &Version) -> Result<Response, Alloc
     })
 }
 
+// A version without its build metadata.
+fn without_build(alloc: Global, version: Version) -> Result<Version, AllocError>
+    ensures { IfOk result (λ bare. bare ≡ record version { build = [] }) }
+{
+    let Ok(parts) = version.into_parts(alloc) else {
+        return Err(AllocError);
+    };
+    let (major, minor, patch) = (parts.major, parts.minor, parts.patch);
+    match Version::new(
+        alloc,
+        major,
+        minor,
+        patch,
+        parts.pre_release,
+        Vec::new(alloc),
+    ) {
+        Ok(bare) => Ok(bare),
+        Err(_) => Err(AllocError),
+    }
+}
+
 // Writes versions as JSON, or each on a line.
 fn write_all(
     is_json: bool,
@@ -190,7 +254,7 @@ fn write_all(
     output: &mut String,
 ) -> Result<(), AllocError>
     ensures { OnOk result (string_bytes output.new ≡ string_bytes output.old
-        ++ (if is_json then json bare versions.now else flat_map line versions.now)) }
+        ++ (if is_json then json versions.now else flat_map line versions.now)) }
 {
     if is_json {
         write_json(versions, output)
@@ -201,7 +265,7 @@ fn write_all(
 
 fn write_json(versions: &[VersionRef<'_>], output: &mut String) -> Result<(), AllocError>
     ensures { OnOk result (string_bytes output.new
-        ≡ string_bytes output.old ++ json bare versions.now) }
+        ≡ string_bytes output.old ++ json versions.now) }
 {
     let Some((first, others)) = versions.split_first() else {
         return output.push_str("[]\n");
@@ -215,7 +279,7 @@ fn write_json(versions: &[VersionRef<'_>], output: &mut String) -> Result<(), Al
 // Writes JSON strings, each behind a comma.
 fn write_others(versions: &[VersionRef<'_>], output: &mut String) -> Result<(), AllocError>
     ensures { OnOk result (string_bytes output.new
-        ≡ string_bytes output.old ++ flat_map (λ v. 44 ∷ quoted (bare v)) versions.now) }
+        ≡ string_bytes output.old ++ flat_map (λ v. 44 ∷ quoted v) versions.now) }
 {
     for version in versions {
         output.push(',')?;
@@ -226,7 +290,7 @@ fn write_others(versions: &[VersionRef<'_>], output: &mut String) -> Result<(), 
 
 fn write_quoted(version: &VersionRef<'_>, output: &mut String) -> Result<(), AllocError>
     ensures { OnOk result (string_bytes output.new
-        ≡ string_bytes output.old ++ quoted (bare version.now)) }
+        ≡ string_bytes output.old ++ quoted version.now) }
 {
     output.push('"')?;
     write_bare(version, output)?;

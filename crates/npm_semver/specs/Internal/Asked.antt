@@ -20,6 +20,10 @@ asked_of q = record {
   reading = q.reading;
   pick = q.pick;
   is_json = q.is_json;
+  is_strict = q.is_strict;
+  is_why = q.is_why;
+  has_unknown = q.has_unknown;
+  reads_input = q.reads_input;
 }
 
 abbrev pub request_of : Request → Option Asked

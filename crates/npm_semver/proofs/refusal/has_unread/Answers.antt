@@ -6,7 +6,7 @@ pub returns : goal.returns
 returns c =
     let are = rw c.as_slice.ensures.value at c.in_ok-ranges.ensures in record {
       some = λ is. (
-        grind (arith, c.if-not-question.false),
+        grind (arith, c.demands_ranges.ensures, c.if-not-demands_ranges.false),
         some_unread _ _ _ are (rw c.deref.ensures.value at (sym c.has_none.ensures ∙ is)),
       );
       none = λ is unread. all_read _ _ _ are (rw c.deref.ensures.value at (sym c.has_none.ensures ∙ is)) unread.1;
