@@ -3,3 +3,4 @@ pub mod Listed
 pub mod Answering
 pub mod Refused
 pub mod ReadTexts
+pub mod LawLemmas

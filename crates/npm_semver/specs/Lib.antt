@@ -4,3 +4,4 @@ pub mod Readings
 pub mod Listing
 pub mod Responses
 pub mod Internal
+pub mod Laws

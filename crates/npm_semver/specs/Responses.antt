@@ -51,9 +51,12 @@ pub record Written : Type 0 where
 abbrev pub nothing_written : Bool → Written
 nothing_written is_error_told = record { output = []; is_error_told = is_error_told; is_success = false }
 
+abbrev pub next_text : Bool → VersionValue → List ℕ
+next_text is_json w = if is_json then json (w ∷ []) else line w
+
 -- the next version, or why there is none
 abbrev pub next_written : Bool → Result VersionValue Fault → Written
-next_written is_json (Ok w) = record { output = if is_json then json (w ∷ []) else line w; is_error_told = false; is_success = true }
+next_written is_json (Ok w) = record { output = next_text is_json w; is_error_told = false; is_success = true }
 next_written is_json (Err fault) = nothing_written true
 
 -- a next version is asked for of one version, with no range

@@ -4,6 +4,7 @@
 
 mod arguments;
 mod help;
+mod laws;
 mod listing;
 mod question;
 mod reading;
