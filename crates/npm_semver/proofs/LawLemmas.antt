@@ -1,5 +1,5 @@
 -- What follows from what is written for a question.
-use Rattle.std.proofs.Common.{◌≡◌, ◌≢◌, ◌∷◌, [], ℕ, Bool, true, false, not, List, Option, Some, None, Result, Ok, Err, ap, arith, codes, inl, inr, refl, sym, unwrap_or, if◌then◌else◌, ◌∙◌}
+use Rattle.std.proofs.Common.{◌≡◌, ◌≢◌, ◌∷◌, [], ℕ, Bool, true, false, List, Option, Some, None, Result, Ok, Err, ap, arith, codes, inl, inr, refl, sym, unwrap_or, if◌then◌else◌, ◌∙◌}
 use Rattle.std.proofs.lemmas.List.Sorted.{length_permutation}
 use Rattle.std.specs.List.Sorted.{IsPermutation}
 use Rattle.semver_core.specs.Increments.Least.{IsAbove}

@@ -1,5 +1,5 @@
 -- Statement: what laws over what the command writes cite.
-use Rattle.std.specs.Prelude.{◌≡◌, ◌⊎◌, ◌∷◌, [], ℕ, true, false, List}
+use Rattle.std.specs.Prelude.{◌⊎◌, ◌∷◌, [], ℕ, true, false, List}
 use Rattle.semver_core.specs.Failures.{NoValue}
 use Rattle.semver_core.specs.Values.Versions.{VersionValue}
 use Rattle.npm_semver.specs.Arguments.{Asked}
