@@ -4,3 +4,4 @@ pub mod Answering
 pub mod Refused
 pub mod ReadTexts
 pub mod LawLemmas
+pub mod Exchanges

@@ -41,9 +41,10 @@ word_of word =
     else if begins (λ b. b == 45) word then Unknown
     else Text
 
--- what is asked: the texts that may be versions, the range texts, the level, the identifier and the first number of a next version,
--- whether the greatest version is printed first, how texts are read, which versions are printed, and whether as JSON, whether what is
--- not read is an error, and is told, whether some word looks like an option and is none, and whether the lines of the input may be versions
+-- what is asked: the texts that may be versions, the range texts, the level, the identifier and the first
+-- number of a next version, whether the greatest version is printed first, how texts are read, which versions
+-- are printed, and whether as JSON, whether what is not read is an error, and is told, whether some word
+-- looks like an option and is none, and whether the lines of the input may be versions
 pub record Asked : Type 0 where
   pub versions : List (List ℕ)
   pub ranges : List (List ℕ)
@@ -77,8 +78,8 @@ nothing_asked = record {
 }
 
 abbrev pub is_level : List ℕ → Bool
-is_level = is_one_of (codes "major" ∷ codes "minor" ∷ codes "patch" ∷ codes "premajor" ∷ codes "preminor" ∷ codes "prepatch"
-    ∷ codes "prerelease" ∷ [])
+is_level = is_one_of (codes "major" ∷ codes "minor" ∷ codes "patch" ∷ codes "premajor" ∷ codes "preminor"
+    ∷ codes "prepatch" ∷ codes "prerelease" ∷ [])
 
 -- `-i` has a level as its value only if the word behind it is one, and else it is `patch`
 abbrev pub has_level : List (List ℕ) → Bool
@@ -96,7 +97,8 @@ base_of (Some text) = if bytes_eq text (codes "false") then False
 -- what is asked in all once this word is read, behind which these words stand
 abbrev pub asked_by : Word → List ℕ → List (List ℕ) → Asked → Asked
 asked_by Help text behind q = q
-asked_by IncludePrerelease text behind q = record q { reading = record q.reading { include_prerelease = true } }
+asked_by IncludePrerelease text behind q =
+    record q { reading = record q.reading { include_prerelease = true } }
 asked_by Loose text behind q = record q { reading = record q.reading { is_loose = true } }
 asked_by Coerce text behind q = record q { reading = record q.reading { is_coerced = true } }
 asked_by FromRight text behind q = record q { reading = record q.reading { from_right = true } }
@@ -109,7 +111,8 @@ asked_by Why text behind q = record q { is_why = true }
 asked_by Input text behind q = record q { reads_input = true }
 asked_by Unknown text behind q = record q { versions = q.versions ++ text ∷ []; has_unknown = true }
 asked_by Reverse text behind q = record q { is_reversed = true }
-asked_by Range text behind q = record q { ranges = q.ranges ++ unwrap_or (value behind) (codes "undefined") ∷ [] }
+asked_by Range text behind q =
+    record q { ranges = q.ranges ++ unwrap_or (value behind) (codes "undefined") ∷ [] }
 asked_by Version text behind q = record q { versions = q.versions ++ take 1 behind }
 asked_by Increment text behind q = record q { level = Some (level_of behind) }
 asked_by Identifier text behind q = record q { identifier = value behind }
@@ -128,12 +131,15 @@ left_by word behind = behind
 -- what these words ask, beside what is asked before them; None is the text of `--help`
 pub data Asks : List (List ℕ) → Asked → Option Asked → Type 0 where
   all : (q : Asked) → Asks [] q (Some q)
-  help : (words behind : List (List ℕ)) (word : List ℕ) (q : Asked) → FirstWord words word behind → word_of word ≡ Help → Asks words q None
-  next : (words behind : List (List ℕ)) (word : List ℕ) (q : Asked) (asked : Option Asked) → FirstWord words word behind → word_of word ≢ Help
-      → Asks (left_by (word_of word) behind) (asked_by (word_of word) word behind q) asked → Asks words q asked
+  help : (words behind : List (List ℕ)) (word : List ℕ) (q : Asked) → FirstWord words word behind
+      → word_of word ≡ Help → Asks words q None
+  next : (words behind : List (List ℕ)) (word : List ℕ) (q : Asked) (asked : Option Asked)
+      → FirstWord words word behind → word_of word ≢ Help
+      → Asks (left_by (word_of word) behind) (asked_by (word_of word) word behind q) asked
+      → Asks words q asked
 
 -- what the arguments ask: no arguments ask for the text of `--help`
 pub data IsAsked : List (List ℕ) → Option Asked → Type 0 where
   none : IsAsked [] None
-  some : (argument : List ℕ) (arguments : List (List ℕ)) (asked : Option Asked) → Asks (argument ∷ arguments) nothing_asked asked
-      → IsAsked (argument ∷ arguments) asked
+  some : (argument : List ℕ) (arguments : List (List ℕ)) (asked : Option Asked)
+      → Asks (argument ∷ arguments) nothing_asked asked → IsAsked (argument ∷ arguments) asked

@@ -12,7 +12,8 @@ IsAccepted q text = (v : VersionValue) × IsVersionIn q.reading text v × AllSay
 
 -- the text is no version, or one that not all range texts accept
 abbrev pub IsLeftOut : Asked → List ℕ → Type 0
-IsLeftOut q text = NoValue (IsVersionIn q.reading text) ⊎ ((v : VersionValue) × IsVersionIn q.reading text v × AllSay q.reading v q.ranges false)
+IsLeftOut q text = NoValue (IsVersionIn q.reading text)
+    ⊎ ((v : VersionValue) × IsVersionIn q.reading text v × AllSay q.reading v q.ranges false)
 
 -- each text of these is so
 pub data EachText (Is : List ℕ → Type 0) : List (List ℕ) → Type 0 where

@@ -26,9 +26,9 @@ pub data AreListed (r : Reading) (ranges : List (List ℕ)) : List (List ℕ) �
   none : AreListed r ranges [] []
   no_version : (text : List ℕ) (texts : List (List ℕ)) (vs : List VersionValue) → NoValue (IsVersionIn r text)
       → AreListed r ranges texts vs → AreListed r ranges (text ∷ texts) vs
-  version : (text : List ℕ) (texts : List (List ℕ)) (v : VersionValue) (accepted : Bool) (vs : List VersionValue)
-      → IsVersionIn r text v → AllSay r v ranges accepted → AreListed r ranges texts vs
-      → AreListed r ranges (text ∷ texts) (if accepted then v ∷ vs else vs)
+  version : (text : List ℕ) (texts : List (List ℕ)) (v : VersionValue) (accepted : Bool)
+      (vs : List VersionValue) → IsVersionIn r text v → AllSay r v ranges accepted
+      → AreListed r ranges texts vs → AreListed r ranges (text ∷ texts) (if accepted then v ∷ vs else vs)
 
 -- the versions that are printed: those, in ascending order
 pub record IsListing (r : Reading) (ranges texts : List (List ℕ)) (printed : List VersionValue) : Type 0 where

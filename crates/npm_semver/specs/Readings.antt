@@ -28,12 +28,13 @@ IsNumeral true = IsNumber MAX_SAFE_INTEGER
 abbrev pub IsFoundIn : Reading → List ℕ → VersionValue → Type 0
 IsFoundIn r = IsCoerced (IsChosen r.from_right) (IsNumeral r.is_loose)
 
--- the text is the version: strictly, also where the reading is loose; where it is coerced, what is found in it, and only
--- if nothing is found what it is strictly
+-- the text is the version: strictly, also where the reading is loose; where it is coerced, what is found in
+-- it, and only if nothing is found what it is strictly
 pub data IsVersionIn (r : Reading) (text : List ℕ) (v : VersionValue) : Type 0 where
   strict : r.is_coerced ≡ false → IsVersionText MAX_SAFE_INTEGER text v → IsVersionIn r text v
   found : r.is_coerced ≡ true → IsFoundIn r text v → IsVersionIn r text v
-  not_found : r.is_coerced ≡ true → NoValue (IsFoundIn r text) → IsVersionText MAX_SAFE_INTEGER text v → IsVersionIn r text v
+  not_found : r.is_coerced ≡ true → NoValue (IsFoundIn r text) → IsVersionText MAX_SAFE_INTEGER text v
+      → IsVersionIn r text v
 
 -- the text is a range of these alternatives
 abbrev pub HasRange : Reading → List ℕ → List (List Comparison) → Type 0

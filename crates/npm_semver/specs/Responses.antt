@@ -39,9 +39,10 @@ picked Greatest vs = take 1 (reverse vs)
 picked Least vs = take 1 vs
 
 abbrev pub text_of : Asked → List VersionValue → List ℕ
-text_of q vs = let printed = in_order q.is_reversed (picked q.pick vs) in if q.is_json then json printed else flat_map line printed
+text_of q vs = let printed = in_order q.is_reversed (picked q.pick vs) in
+    if q.is_json then json printed else flat_map line printed
 
--- what is written to standard output, whether something is written to standard error, and whether the command succeeds
+-- what is written to standard output, whether an error is told, and whether the command succeeds
 pub record Written : Type 0 where
   pub output : List ℕ
   pub is_error_told : Bool
@@ -56,18 +57,22 @@ next_text is_json w = if is_json then json (w ∷ []) else line w
 
 -- the next version, or why there is none
 abbrev pub next_written : Bool → Result VersionValue Fault → Written
-next_written is_json (Ok w) = record { output = next_text is_json w; is_error_told = false; is_success = true }
+next_written is_json (Ok w) =
+    record { output = next_text is_json w; is_error_told = false; is_success = true }
 next_written is_json (Err fault) = nothing_written true
 
 -- a next version is asked for of one version, with no range
 abbrev pub increment_written : Asked → List ℕ → List VersionValue → Written
 increment_written q level [] = nothing_written false
-increment_written q level (v ∷ []) = if is_empty q.ranges then next_written q.is_json (answer_of_inc v level q.identifier (Some q.base)) else nothing_written true
+increment_written q level (v ∷ []) =
+    if is_empty q.ranges then next_written q.is_json (answer_of_inc v level q.identifier (Some q.base))
+    else nothing_written true
 increment_written q level (v ∷ w ∷ vs) = nothing_written true
 
 -- some range text has to be one, and is none: loosely npm's program reads more
 abbrev pub HasUnread : Asked → Type 0
-HasUnread q = ((q.reading.is_loose || q.is_strict) ≡ true) × SomeText (λ text. NoValue (HasRange q.reading text)) q.ranges
+HasUnread q = ((q.reading.is_loose || q.is_strict) ≡ true)
+    × SomeText (λ text. NoValue (HasRange q.reading text)) q.ranges
 
 -- some text has to be a version, and is none
 abbrev pub HasNoVersion : Asked → Type 0
@@ -84,9 +89,11 @@ pub data IsRefused (q : Asked) : Type 0 where
 pub data Responds : Option Asked → Written → Type 0 where
   help : (text : List ℕ) → Responds None (record { output = text; is_error_told = false; is_success = true })
   refused : (q : Asked) → IsRefused q → Responds (Some q) (nothing_written true)
-  versions : (q : Asked) (vs : List VersionValue) → (IsRefused q → ⊥) → q.level ≡ None → IsListing q.reading q.ranges q.versions vs
-      → Responds (Some q) (record { output = text_of q vs; is_error_told = false; is_success = not (is_empty vs) })
-  increment : (q : Asked) (level : List ℕ) (vs : List VersionValue) → (IsRefused q → ⊥) → q.level ≡ Some level → AreListed q.reading [] q.versions vs
+  versions : (q : Asked) (vs : List VersionValue) → (IsRefused q → ⊥) → q.level ≡ None
+      → IsListing q.reading q.ranges q.versions vs → Responds (Some q)
+      (record { output = text_of q vs; is_error_told = false; is_success = not (is_empty vs) })
+  increment : (q : Asked) (level : List ℕ) (vs : List VersionValue) → (IsRefused q → ⊥)
+      → q.level ≡ Some level → AreListed q.reading [] q.versions vs
       → Responds (Some q) (increment_written q level vs)
 
 -- `-` stands for the lines of the input
