@@ -1,24 +1,23 @@
 -- What is written where a next version is asked for.
-use Rattle.std.proofs.Common.{◌≡◌, ◌==◌, ◌<◌, ◌≤◌, ◌∷◌, [], ℕ, Bool, true, false, not, List, Option, Some, None, Result, Ok, Err, IfOk, arith, length, refl, slice_get, sym, ap, unwrap_or, ◌∙◌}
+use Rattle.std.proofs.Common.{◌≡◌, ◌==◌, ◌<◌, ◌≤◌, ◌∷◌, [], ℕ, Bool, true, false, not, List, Some, None, Result, Ok, Err, IfOk, arith, length, refl, slice_get, sym, ap, unwrap_or, ◌∙◌}
 use Rattle.std.specs.Borrow.{Bor}
-use Rattle.std.specs.List.{flat_map}
 use Rattle.std.specs.declared.alloc.AllocError.{AllocError}
 use Rattle.semver_core.specs.Increments.Table.{answer_of_inc}
 use Rattle.semver_core.specs.Lists.{is_empty}
 use Rattle.semver_core.specs.Values.Versions.{VersionValue}
 use Rattle.npm_semver.specs.Arguments.{Asked}
 use Rattle.npm_semver.specs.Listing.{AreListed, IsListing}
-use Rattle.npm_semver.specs.Responses.{Responds, Written, in_order, increment, increment_written, line, next_written, nothing_written, versions}
+use Rattle.npm_semver.specs.Responses.{IsRefused, Responds, Written, increment, increment_written, next_written, nothing_written, text_of, versions}
 use Rattle.npm_semver.specs.Internal.Asked.{texts}
 use Rattle.npm_semver.specs.Internal.Written.{written}
 use Rattle.npm_semver.specs.declared.run.Response.{Response}
 
-pub responds : (q : Asked) (level : List ℕ) (vs : List VersionValue) (w : Written) → q.is_supported ≡ true → q.level ≡ Some level
-    → AreListed q.include_prerelease [] q.versions vs → w ≡ increment_written q level vs → Responds (Some q) w
+pub responds : (q : Asked) (level : List ℕ) (vs : List VersionValue) (w : Written) → (IsRefused q → ⊥) → q.level ≡ Some level
+    → AreListed q.reading [] q.versions vs → w ≡ increment_written q level vs → Responds (Some q) w
 responds q level vs w can has listed e = rw e (increment q level vs can has listed)
 
-pub if_responds : (r : Result Response AllocError) (q : Asked) (level : List ℕ) (vs : List VersionValue) (w : Written) → q.is_supported ≡ true → q.level ≡ Some level
-    → AreListed q.include_prerelease [] q.versions vs → w ≡ increment_written q level vs → IfOk r (λ x. written x ≡ w)
+pub if_responds : (r : Result Response AllocError) (q : Asked) (level : List ℕ) (vs : List VersionValue) (w : Written) → (IsRefused q → ⊥) → q.level ≡ Some level
+    → AreListed q.reading [] q.versions vs → w ≡ increment_written q level vs → IfOk r (λ x. written x ≡ w)
     → IfOk r (λ x. Responds (Some q) (written x))
 if_responds (Ok x) q level vs w can has listed e is = responds q level vs (written x) can has listed (is ∙ e)
 if_responds (Err error) q level vs w can has listed e is = tt
@@ -40,7 +39,7 @@ module _ (q : Asked) (level : List ℕ) where
   of_ranges (w ∷ x ∷ vs) v first e = refl
 
   pub of_one : (vs : List VersionValue) (v : VersionValue) → Some v ≡ slice_get vs 0 → length vs ≤ 1 → is_empty q.ranges ≡ true
-      → next_written (answer_of_inc v level q.identifier (Some q.base)) ≡ increment_written q level vs
+      → next_written q.is_json (answer_of_inc v level q.identifier (Some q.base)) ≡ increment_written q level vs
   of_one [] v first le e = absurd (grind (arith, first))
   of_one (w ∷ []) v first le e = let same : v ≡ w = ap (λ o. unwrap_or o v) first in rw (e, same) refl
   of_one (w ∷ x ∷ vs) v first le e = absurd (omega arith)
@@ -49,7 +48,7 @@ pub empty_texts : (xs : List (Bor (List ℕ))) (b : Bool) → b ≡ (length xs =
 empty_texts [] b e = sym e
 empty_texts (x ∷ xs) b e = grind (arith, e)
 
-pub lists : (q : Asked) (vs : List VersionValue) (output : List ℕ) (done : Bool) → q.is_supported ≡ true → q.level ≡ None
-    → IsListing q.include_prerelease q.ranges q.versions vs → output ≡ flat_map line (in_order q.is_reversed vs) → done ≡ not (is_empty vs)
+pub lists : (q : Asked) (vs : List VersionValue) (output : List ℕ) (done : Bool) → (IsRefused q → ⊥) → q.level ≡ None
+    → IsListing q.reading q.ranges q.versions vs → output ≡ text_of q vs → done ≡ not (is_empty vs)
     → Responds (Some q) (record { output = output; is_error_told = false; is_success = done })
 lists q vs output done can has listing out is = rw (out, is) (versions q vs can has listing)

@@ -1,9 +1,9 @@
 -- The first word of some arguments, by where their first one is cut, and how the words that are left grow fewer.
-use Rattle.std.proofs.Common.{◌≡◌, ◌≢◌, ◌+◌, ◌<◌, ◌≤◌, ◌∷◌, ◌++◌, [], ℕ, List, Option, Some, None, arith, length, drop, ◌==◌, length-append, false, true, map, nat_eq, sym, ◌∙◌, refl}
+use Rattle.std.proofs.Common.{◌≡◌, ◌≢◌, ◌+◌, ◌<◌, ◌≤◌, ◌∷◌, ◌++◌, [], ℕ, List, Option, None, arith, length, drop, ◌==◌, length-append, false, true, map, ◌∙◌}
 use Rattle.npm_semver.specs.Arguments.{Asked, Asks, IsAsked, asked_by, left_by, next, none, nothing_asked, some, word_of}
 use Rattle.npm_semver.specs.Words.{FirstWord, IsUncut, front, whole}
 use Rattle.npm_semver.specs.declared.question.Word.{Word}
-use Rattle.npm_semver.specs.declared.question.Word.TheVariants.{Help, IncludePrerelease, Reverse, Range, Version, Increment, Identifier, Base, Unsupported, Text}
+use Rattle.npm_semver.specs.declared.question.Word.TheVariants.{Help, IncludePrerelease, Reverse, Range, Version, Increment, Identifier, Base, Loose, Coerce, FromRight, FromLeft, Greatest, Least, Json, Strict, Why, Input, Unknown, Text}
 
 pub cut_front : (words rest : List (List ℕ)) (argument word behind : List ℕ) → words ≡ argument ∷ rest → argument ≡ word ++ (61 ∷ behind)
     → IsUncut word → FirstWord words word (behind ∷ rest)
@@ -34,7 +34,17 @@ size_left Version behind = size_drop behind
 size_left Increment behind = grind (arith, size_drop behind)
 size_left Identifier behind = size_drop behind
 size_left Base behind = size_drop behind
-size_left Unsupported behind = omega arith
+size_left Loose behind = omega arith
+size_left Coerce behind = omega arith
+size_left FromRight behind = omega arith
+size_left FromLeft behind = omega arith
+size_left Greatest behind = omega arith
+size_left Least behind = omega arith
+size_left Json behind = omega arith
+size_left Strict behind = omega arith
+size_left Why behind = omega arith
+size_left Input behind = omega arith
+size_left Unknown behind = omega arith
 size_left Text behind = omega arith
 
 -- one more word is read

@@ -3,11 +3,16 @@ use Rattle.std.specs.Prelude.{◌≡◌, ◌≢◌, ◌==◌, ◌&&◌, ◌∷�
 use Rattle.std.specs.Char.{is_ascii_digit}
 use Rattle.std.specs.List.{list_all, list_any}
 use Rattle.std.specs.Str.{bytes_eq}
+use Rattle.semver_core.specs.Text.Characters.{begins}
 use Rattle.semver_core.specs.declared.increment.IdentifierBase.{IdentifierBase}
 use Rattle.semver_core.specs.declared.increment.IdentifierBase.TheVariants.{False, Value}
+use Rattle.npm_semver.specs.Readings.{strictly}
 use Rattle.npm_semver.specs.Words.{FirstWord, value}
+use Rattle.npm_semver.specs.declared.question.Pick.{Pick}
+use Rattle.npm_semver.specs.declared.question.Pick.TheVariants as Picks
 use Rattle.npm_semver.specs.declared.question.Word.{Word}
-use Rattle.npm_semver.specs.declared.question.Word.TheVariants.{Help, IncludePrerelease, Reverse, Range, Version, Increment, Identifier, Base, Unsupported, Text}
+use Rattle.npm_semver.specs.declared.reading.Reading.{Reading}
+use Rattle.npm_semver.specs.declared.question.Word.TheVariants.{Help, IncludePrerelease, Reverse, Range, Version, Increment, Identifier, Base, Loose, Coerce, FromRight, FromLeft, Greatest, Least, Json, Strict, Why, Input, Unknown, Text}
 
 abbrev pub is_one_of : List (List ℕ) → List ℕ → Bool
 is_one_of words text = list_any (bytes_eq text) words
@@ -23,11 +28,23 @@ word_of word =
     else if is_one_of (codes "-i" ∷ codes "--inc" ∷ codes "--increment" ∷ []) word then Increment
     else if is_one_of (codes "--preid" ∷ []) word then Identifier
     else if is_one_of (codes "-n" ∷ []) word then Base
-    else if is_one_of (codes "-l" ∷ codes "--loose" ∷ codes "-c" ∷ codes "--coerce" ∷ codes "--rtl" ∷ codes "--ltr" ∷ []) word then Unsupported
+    else if is_one_of (codes "-l" ∷ codes "--loose" ∷ []) word then Loose
+    else if is_one_of (codes "-c" ∷ codes "--coerce" ∷ []) word then Coerce
+    else if is_one_of (codes "--rtl" ∷ []) word then FromRight
+    else if is_one_of (codes "--ltr" ∷ []) word then FromLeft
+    else if is_one_of (codes "--max" ∷ []) word then Greatest
+    else if is_one_of (codes "--min" ∷ []) word then Least
+    else if is_one_of (codes "--json" ∷ []) word then Json
+    else if is_one_of (codes "--strict" ∷ []) word then Strict
+    else if is_one_of (codes "--why" ∷ []) word then Why
+    else if is_one_of (codes "-" ∷ []) word then Input
+    else if begins (λ b. b == 45) word then Unknown
     else Text
 
--- what is asked: the texts that may be versions, the range texts, the level, the identifier and the first number of a next version,
--- whether the greatest version is printed first, whether pre-releases are included, and whether all options are supported
+-- what is asked: the texts that may be versions, the range texts, the level, the identifier and the first
+-- number of a next version, whether the greatest version is printed first, how texts are read, which versions
+-- are printed, and whether as JSON, whether what is not read is an error, and is told, whether some word
+-- looks like an option and is none, and whether the lines of the input may be versions
 pub record Asked : Type 0 where
   pub versions : List (List ℕ)
   pub ranges : List (List ℕ)
@@ -35,15 +52,34 @@ pub record Asked : Type 0 where
   pub identifier : Option (List ℕ)
   pub base : IdentifierBase
   pub is_reversed : Bool
-  pub include_prerelease : Bool
-  pub is_supported : Bool
+  pub reading : Reading
+  pub pick : Pick
+  pub is_json : Bool
+  pub is_strict : Bool
+  pub is_why : Bool
+  pub has_unknown : Bool
+  pub reads_input : Bool
 
 abbrev pub nothing_asked : Asked
-nothing_asked = record { versions = []; ranges = []; level = None; identifier = None; base = Value 0; is_reversed = false; include_prerelease = false; is_supported = true }
+nothing_asked = record {
+  versions = [];
+  ranges = [];
+  level = None;
+  identifier = None;
+  base = Value 0;
+  is_reversed = false;
+  reading = strictly;
+  pick = Picks.All;
+  is_json = false;
+  is_strict = false;
+  is_why = false;
+  has_unknown = false;
+  reads_input = false;
+}
 
 abbrev pub is_level : List ℕ → Bool
-is_level = is_one_of (codes "major" ∷ codes "minor" ∷ codes "patch" ∷ codes "premajor" ∷ codes "preminor" ∷ codes "prepatch"
-    ∷ codes "prerelease" ∷ [])
+is_level = is_one_of (codes "major" ∷ codes "minor" ∷ codes "patch" ∷ codes "premajor" ∷ codes "preminor"
+    ∷ codes "prepatch" ∷ codes "prerelease" ∷ [])
 
 -- `-i` has a level as its value only if the word behind it is one, and else it is `patch`
 abbrev pub has_level : List (List ℕ) → Bool
@@ -61,35 +97,49 @@ base_of (Some text) = if bytes_eq text (codes "false") then False
 -- what is asked in all once this word is read, behind which these words stand
 abbrev pub asked_by : Word → List ℕ → List (List ℕ) → Asked → Asked
 asked_by Help text behind q = q
-asked_by IncludePrerelease text behind q = record q { include_prerelease = true }
+asked_by IncludePrerelease text behind q =
+    record q { reading = record q.reading { include_prerelease = true } }
+asked_by Loose text behind q = record q { reading = record q.reading { is_loose = true } }
+asked_by Coerce text behind q = record q { reading = record q.reading { is_coerced = true } }
+asked_by FromRight text behind q = record q { reading = record q.reading { from_right = true } }
+asked_by FromLeft text behind q = record q { reading = record q.reading { from_right = false } }
+asked_by Greatest text behind q = record q { pick = Picks.Greatest }
+asked_by Least text behind q = record q { pick = Picks.Least }
+asked_by Json text behind q = record q { is_json = true }
+asked_by Strict text behind q = record q { is_strict = true }
+asked_by Why text behind q = record q { is_why = true }
+asked_by Input text behind q = record q { reads_input = true }
+asked_by Unknown text behind q = record q { versions = q.versions ++ text ∷ []; has_unknown = true }
 asked_by Reverse text behind q = record q { is_reversed = true }
-asked_by Range text behind q = record q { ranges = q.ranges ++ unwrap_or (value behind) (codes "undefined") ∷ [] }
+asked_by Range text behind q =
+    record q { ranges = q.ranges ++ unwrap_or (value behind) (codes "undefined") ∷ [] }
 asked_by Version text behind q = record q { versions = q.versions ++ take 1 behind }
 asked_by Increment text behind q = record q { level = Some (level_of behind) }
 asked_by Identifier text behind q = record q { identifier = value behind }
 asked_by Base text behind q = record q { base = base_of (value behind) }
-asked_by Unsupported text behind q = record q { is_supported = false }
 asked_by Text text behind q = record q { versions = q.versions ++ text ∷ [] }
 
 -- the words that are left then
 abbrev pub left_by : Word → List (List ℕ) → List (List ℕ)
-left_by Help behind = behind
-left_by IncludePrerelease behind = behind
-left_by Reverse behind = behind
-left_by Unsupported behind = behind
-left_by Text behind = behind
+left_by Range behind = drop 1 behind
+left_by Version behind = drop 1 behind
+left_by Identifier behind = drop 1 behind
+left_by Base behind = drop 1 behind
 left_by Increment behind = if has_level behind then drop 1 behind else behind
-left_by word behind = drop 1 behind
+left_by word behind = behind
 
 -- what these words ask, beside what is asked before them; None is the text of `--help`
 pub data Asks : List (List ℕ) → Asked → Option Asked → Type 0 where
   all : (q : Asked) → Asks [] q (Some q)
-  help : (words behind : List (List ℕ)) (word : List ℕ) (q : Asked) → FirstWord words word behind → word_of word ≡ Help → Asks words q None
-  next : (words behind : List (List ℕ)) (word : List ℕ) (q : Asked) (asked : Option Asked) → FirstWord words word behind → word_of word ≢ Help
-      → Asks (left_by (word_of word) behind) (asked_by (word_of word) word behind q) asked → Asks words q asked
+  help : (words behind : List (List ℕ)) (word : List ℕ) (q : Asked) → FirstWord words word behind
+      → word_of word ≡ Help → Asks words q None
+  next : (words behind : List (List ℕ)) (word : List ℕ) (q : Asked) (asked : Option Asked)
+      → FirstWord words word behind → word_of word ≢ Help
+      → Asks (left_by (word_of word) behind) (asked_by (word_of word) word behind q) asked
+      → Asks words q asked
 
 -- what the arguments ask: no arguments ask for the text of `--help`
 pub data IsAsked : List (List ℕ) → Option Asked → Type 0 where
   none : IsAsked [] None
-  some : (argument : List ℕ) (arguments : List (List ℕ)) (asked : Option Asked) → Asks (argument ∷ arguments) nothing_asked asked
-      → IsAsked (argument ∷ arguments) asked
+  some : (argument : List ℕ) (arguments : List (List ℕ)) (asked : Option Asked)
+      → Asks (argument ∷ arguments) nothing_asked asked → IsAsked (argument ∷ arguments) asked

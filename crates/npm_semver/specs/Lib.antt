@@ -1,5 +1,7 @@
 pub mod Words
 pub mod Arguments
+pub mod Readings
 pub mod Listing
 pub mod Responses
 pub mod Internal
+pub mod Laws

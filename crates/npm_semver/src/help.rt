@@ -6,6 +6,9 @@ usage: semver [options] <version>...
 
   -r, --range <range>         print only versions that the range accepts; of several ranges, all
   -p, --include-prerelease    let ranges accept every pre-release within their bounds
+  -l, --loose                 read ranges, and the numbers that -c finds, loosely
+  -c, --coerce                print the version that is found anywhere in a text
+      --rtl, --ltr            find the numbers that end last, or the leftmost (default)
   -i, --increment [<level>]   print the next version: major, minor, patch (default), premajor,
                               preminor, prepatch or prerelease; takes one version
       --preid <identifier>    the identifier of the pre-release
@@ -14,7 +17,16 @@ usage: semver [options] <version>...
   -v, --version <version>     a version, even if it looks like an option
   -h, --help                  print this text
 
+beyond npm's program:
+
+  -                           versions from standard input, one a line
+      --max, --min            print the greatest or the least version alone
+      --json                  print a JSON array of strings
+      --strict                make a text that is no version or no range, or an unknown option, an
+                              error
+      --why                   tell on standard error why each text is left out
+
 Prints each version without its build metadata, in ascending order. Texts that are no versions are
-left out. Exits with 1 if nothing is printed. The options -l, -c, --rtl and --ltr of npm's program
-are not supported: they are an error.
+left out. Exits with 1 if no version is printed, and says why if the question cannot be answered:
+with -l, where a range has a word that is not read, and with -c and -p together.
 ";

@@ -1,15 +1,13 @@
 // The versions among some texts that ranges accept.
 
-ghost use Rattle.std.specs.Prelude.{◌≡◌, ◌++◌, ◌∷◌, [], ℕ, List, IfNone, IfOk, IfSome, OnOk};
+ghost use Rattle.std.specs.Prelude.{◌≡◌, ◌++◌, ◌∷◌, [], ℕ, List, IfOk, OnOk};
 ghost use Rattle.std.specs.List.{list_all};
-ghost use Rattle.semver_core.specs.Failures.{NoValue};
-ghost use Rattle.semver_core.specs.declared.TheConstants.{MAX_SAFE_INTEGER};
-ghost use Rattle.nodejs_semver.specs.Npm.Ranges.{HasAlternatives, IsRangeOf};
 ghost use Rattle.npm_semver.specs.Listing.{AreListed, IsListing};
 ghost use Rattle.npm_semver.specs.Internal.Asked.{texts};
 ghost use Rattle.npm_semver.specs.Internal.Readings.{AreRead, says};
 
-use nodejs_semver::{Failure, RangeRef, VersionRef, npm};
+use crate::reading::Reading;
+use nodejs_semver::{RangeRef, VersionRef};
 use std::alloc::{AllocError, Global};
 
 /// Returns the versions among the texts that all ranges accept, in ascending order. A text that is
@@ -17,90 +15,77 @@ use std::alloc::{AllocError, Global};
 /// fails.
 pub fn listing<'a>(
     alloc: Global,
-    include_prerelease: bool,
+    reading: Reading,
     ranges: &[&str],
     versions: &[&'a str],
 ) -> Result<Vec<VersionRef<'a>>, AllocError>
     ensures { IfOk result (λ printed.
-        IsListing include_prerelease (texts ranges.now) (texts versions.now) printed.items) }
+        IsListing reading (texts ranges.now) (texts versions.now) printed.items) }
 {
-    let ranges = read_ranges(alloc, include_prerelease, ranges)?;
-    let mut listed = read_versions(alloc, include_prerelease, &ranges, versions)?;
+    let ranges = read_ranges(alloc, reading, ranges)?;
+    let mut listed = read_versions(alloc, reading, &ranges, versions)?;
     listed.sort()?;
     Ok(listed)
 }
 
-// Reads the range texts; `None` stands for one that is no range.
-fn read_ranges<'a>(
+/// Reads the range texts; `None` stands for one that is no range.
+pub fn read_ranges<'a>(
     alloc: Global,
-    include_prerelease: bool,
+    reading: Reading,
     range_texts: &[&'a str],
 ) -> Result<Vec<Option<RangeRef<'a>>>, AllocError>
     ensures { IfOk result (λ ranges.
-        AreRead include_prerelease (texts range_texts.now) ranges.items) }
+        AreRead reading (texts range_texts.now) ranges.items) }
 {
     let mut ranges = Vec::new(alloc);
     for &text in range_texts {
-        ranges.push(read_range(alloc, include_prerelease, text)?)?;
+        ranges.push(reading.range(alloc, text)?)?;
     }
     Ok(ranges)
-}
-
-fn read_range(
-    alloc: Global,
-    include_prerelease: bool,
-    text: &str,
-) -> Result<Option<RangeRef<'_>>, AllocError>
-    ensures some { IfOk result (λ range. IfSome range
-        (IsRangeOf MAX_SAFE_INTEGER include_prerelease text.now)) }
-    ensures none { IfOk result (λ range. IfNone range
-        (NoValue (HasAlternatives MAX_SAFE_INTEGER include_prerelease text.now))) }
-{
-    Failure::refused_as_none(npm::range(alloc, text, include_prerelease))
 }
 
 /// Returns the versions among the texts that all ranges accept, in the order of the texts.
 pub fn read_versions<'a>(
     alloc: Global,
-    include_prerelease: bool,
+    reading: Reading,
     ranges: &[Option<RangeRef<'_>>],
     version_texts: &[&'a str],
 ) -> Result<Vec<VersionRef<'a>>, AllocError>
     ensures { IfOk result (λ listed. (range_texts : List (List ℕ)) →
-        AreRead include_prerelease range_texts ranges.now →
-        AreListed include_prerelease range_texts (texts version_texts.now) listed.items) }
+        AreRead reading range_texts ranges.now →
+        AreListed reading range_texts (texts version_texts.now) listed.items) }
 {
     let mut listed = Vec::new(alloc);
     for &text in version_texts {
-        push_version(include_prerelease, ranges, text, &mut listed)?;
+        push_version(reading, ranges, text, &mut listed)?;
     }
     Ok(listed)
 }
 
 // Appends the version of a text, if it is one and all ranges accept it.
 fn push_version<'a>(
-    include_prerelease: bool,
+    reading: Reading,
     ranges: &[Option<RangeRef<'_>>],
     text: &'a str,
     listed: &mut Vec<VersionRef<'a>>,
 ) -> Result<(), AllocError>
     ensures { OnOk result ((range_texts before : List (List ℕ)) →
-        AreRead include_prerelease range_texts ranges.now →
-        AreListed include_prerelease range_texts before listed.old.items →
-        AreListed include_prerelease range_texts (before ++ text.now ∷ []) listed.new.items) }
+        AreRead reading range_texts ranges.now →
+        AreListed reading range_texts before listed.old.items →
+        AreListed reading range_texts (before ++ text.now ∷ []) listed.new.items) }
 {
-    let Ok(version) = npm::version(text) else {
+    let Some(version) = reading.version(text) else {
         return Ok(());
     };
-    if !all_accept(include_prerelease, ranges, &version) {
+    if !all_accept(reading.include_prerelease, ranges, &version) {
         return Ok(());
     }
     listed.push(version)?;
     Ok(())
 }
 
-// Whether each of the ranges accepts a version.
-fn all_accept(
+/// Whether each of the ranges accepts a version.
+pub fn all_accept(
     include_prerelease: bool,
     ranges: &[Option<RangeRef<'_>>],
     version: &VersionRef<'_>,

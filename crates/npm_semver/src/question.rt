@@ -7,10 +7,14 @@ ghost use Rattle.npm_semver.specs.Arguments.{left_by, nothing_asked, word_of};
 ghost use Rattle.std.specs.Prelude.{◌==◌};
 ghost use Rattle.std.specs.Char.{is_ascii_digit};
 ghost use Rattle.std.specs.List.{list_all};
+ghost use Rattle.std.specs.Str.Lines.{lines};
+ghost use Rattle.semver_core.specs.Text.Characters.{begins};
+ghost use Rattle.npm_semver.specs.Responses.{with_lines};
 ghost use Rattle.npm_semver.specs.declared.question.Word.TheVariants as Word;
-ghost use Rattle.npm_semver.specs.Internal.Asked.{asked_of, request_of};
+ghost use Rattle.npm_semver.specs.Internal.Asked.{asked_of, request_of, texts};
 
 use crate::arguments::Words;
+use crate::reading::Reading;
 use nodejs_semver::IdentifierBase;
 use std::alloc::{AllocError, Global};
 
@@ -25,8 +29,18 @@ pub enum Word {
     Increment,
     Identifier,
     Base,
-    /// An option of the real program that this one does not have.
-    Unsupported,
+    Loose,
+    Coerce,
+    FromRight,
+    FromLeft,
+    Greatest,
+    Least,
+    Json,
+    Strict,
+    Why,
+    Input,
+    /// A word that begins with `-` and is no option.
+    Unknown,
     Text,
 }
 
@@ -44,10 +58,34 @@ impl Word {
             "-i" | "--inc" | "--increment" => Word::Increment,
             "--preid" => Word::Identifier,
             "-n" => Word::Base,
-            "-l" | "--loose" | "-c" | "--coerce" | "--rtl" | "--ltr" => Word::Unsupported,
+            "-l" | "--loose" => Word::Loose,
+            "-c" | "--coerce" => Word::Coerce,
+            "--rtl" => Word::FromRight,
+            "--ltr" => Word::FromLeft,
+            "--max" => Word::Greatest,
+            "--min" => Word::Least,
+            "--json" => Word::Json,
+            "--strict" => Word::Strict,
+            "--why" => Word::Why,
+            "-" => Word::Input,
+            _ if begins_with_dash(word) => Word::Unknown,
             _ => Word::Text,
         }
     }
+}
+
+fn begins_with_dash(word: &str) -> bool
+    ensures { result ≡ begins (λ b. b == 45) word.now }
+{
+    matches!(word.as_bytes(), [b'-', ..])
+}
+
+/// Which versions are printed.
+#[derive(Clone, Copy)]
+pub enum Pick {
+    All,
+    Greatest,
+    Least,
 }
 
 /// What a command line asks for.
@@ -75,10 +113,20 @@ pub struct Question<'a> {
     pub base: IdentifierBase,
     /// Whether the greatest version is printed first.
     pub is_reversed: bool,
-    /// Whether ranges accept every pre-release within their bounds.
-    pub include_prerelease: bool,
-    /// Whether this program has all options that are asked for.
-    pub is_supported: bool,
+    /// How texts are read.
+    pub reading: Reading,
+    /// Which of the versions are printed.
+    pub pick: Pick,
+    /// Whether they are printed as JSON.
+    pub is_json: bool,
+    /// Whether a text or an option that is not read is an error.
+    pub is_strict: bool,
+    /// Whether it is told why texts are left out.
+    pub is_why: bool,
+    /// Whether some word looks like an option and is none.
+    pub has_unknown: bool,
+    /// Whether the lines of the input may be versions too.
+    pub reads_input: bool,
 }
 
 impl<'a> Question<'a> {
@@ -92,8 +140,13 @@ impl<'a> Question<'a> {
             identifier: None,
             base: IdentifierBase::Value(0),
             is_reversed: false,
-            include_prerelease: false,
-            is_supported: true,
+            reading: Reading::strict(),
+            pick: Pick::All,
+            is_json: false,
+            is_strict: false,
+            is_why: false,
+            has_unknown: false,
+            reads_input: false,
         }
     }
 
@@ -105,7 +158,7 @@ impl<'a> Question<'a> {
     {
         match word {
             Word::Help => {}
-            Word::IncludePrerelease => self.include_prerelease = true,
+            Word::IncludePrerelease => self.reading.include_prerelease = true,
             Word::Reverse => self.is_reversed = true,
             Word::Range => self.ranges.push(words.take_value().unwrap_or("undefined"))?,
             Word::Version => {
@@ -116,11 +169,41 @@ impl<'a> Question<'a> {
             Word::Increment => self.level = Some(take_level(words)),
             Word::Identifier => self.identifier = words.take_value(),
             Word::Base => self.base = base(words.take_value()),
-            Word::Unsupported => self.is_supported = false,
+            Word::Loose => self.reading.is_loose = true,
+            Word::Coerce => self.reading.is_coerced = true,
+            Word::FromRight => self.reading.from_right = true,
+            Word::FromLeft => self.reading.from_right = false,
+            Word::Greatest => self.pick = Pick::Greatest,
+            Word::Least => self.pick = Pick::Least,
+            Word::Json => self.is_json = true,
+            Word::Strict => self.is_strict = true,
+            Word::Why => self.is_why = true,
+            Word::Input => self.reads_input = true,
+            Word::Unknown => {
+                self.has_unknown = true;
+                self.versions.push(text)?;
+            }
             Word::Text => self.versions.push(text)?,
         }
         Ok(())
     }
+
+    /// Adds the lines of the input to the texts that may be versions, if `-` asks for them.
+    pub fn add_lines(&mut self, alloc: Global, input: &'a str) -> Result<(), AllocError>
+        ensures { OnOk result (asked_of self.new ≡ with_lines input.now (asked_of self.old)) }
+    {
+        if self.reads_input {
+            let lines = lines_of(alloc, input)?;
+            self.versions.extend_from_slice(&lines)?;
+        }
+        Ok(())
+    }
+}
+
+fn lines_of(alloc: Global, input: &str) -> Result<Vec<&str>, AllocError>
+    ensures { IfOk result (λ found. texts found.items ≡ lines input.now) }
+{
+    input.lines().collect(alloc)
 }
 
 // Whether a word is a level, where it stands behind `-i`.

@@ -1,22 +1,24 @@
 // The program as a function of its arguments.
 
-ghost use Rattle.std.specs.Prelude.{◌≡◌, ◌++◌, ◌∷◌, [], not, is_some, true, IfOk, OnOk, None, Ok, Some};
-ghost use Rattle.std.specs.Prelude.{map, string_bytes};
+ghost use Rattle.std.specs.Prelude.{◌≡◌, ◌++◌, ◌∷◌, [], not, is_some, IfOk, OnOk, None, Option, Ok, Some};
+ghost use Rattle.std.specs.Prelude.{map, string_bytes, if◌then◌else◌};
 ghost use Rattle.std.specs.List.{flat_map};
 ghost use Rattle.semver_core.specs.Increments.Table.{answer_of_inc};
 ghost use Rattle.semver_core.specs.Lists.{is_empty};
 ghost use Rattle.semver_core.specs.Printing.Text.{marked_list};
-ghost use Rattle.npm_semver.specs.Responses.{IsResponse, Responds, line, next_written};
-ghost use Rattle.npm_semver.specs.Responses.{in_order, nothing_written};
+ghost use Rattle.npm_semver.specs.Responses.{IsRefused, IsResponse, Responds, bare, json, line};
+ghost use Rattle.npm_semver.specs.Responses.{in_order, next_written, nothing_written, picked};
+ghost use Rattle.npm_semver.specs.Responses.{quoted, reads_input, tells_why, with_lines};
+ghost use Rattle.npm_semver.specs.Arguments.{Asked, IsAsked};
 ghost use Rattle.npm_semver.specs.Internal.Asked.{asked_of};
 ghost use Rattle.npm_semver.specs.Internal.Written.{written};
 
 use crate::help::HELP;
 use crate::listing::{listing, read_versions};
-use crate::question::{Question, Request};
-use nodejs_semver::{Failure, IdentifierRefs, IncrementError, Version, VersionRef};
+use crate::question::{Pick, Question, Request};
+use crate::refusal::{Refusal, refusal_of};
+use nodejs_semver::{Failure, IdentifierRefs, Version, VersionRef};
 use std::alloc::{AllocError, Global};
-use thiserror::Error;
 
 /// What the command writes, and whether it succeeds.
 #[derive(Drop)]
@@ -30,32 +32,71 @@ pub struct Response {
     pub is_success: bool,
 }
 
-/// Why nothing is printed.
-#[derive(Debug, Drop, Error)]
-pub enum Refusal {
-    #[error("-i takes one version and no range")]
-    NotOneVersion,
-    #[error("the options -l, -c, --rtl and --ltr are not supported")]
-    Unsupported,
-    #[error("{0}")]
-    NotIncremented(IncrementError),
-}
-
-/// Returns what the command writes for the arguments behind the program's name. Fails only if
-/// allocation fails.
-pub fn run(alloc: Global, arguments: &[String]) -> Result<Response, AllocError>
+/// Returns what the command writes for the arguments behind the program's name, and for the input,
+/// which it reads only if the arguments ask for it. Fails only if allocation fails.
+pub fn run(alloc: Global, arguments: &[String], input: &str) -> Result<Response, AllocError>
     ensures { IfOk result (λ response.
-        IsResponse (map string_bytes arguments.now) (written response)) }
+        IsResponse (map string_bytes arguments.now) input.now (written response)) }
 {
     match Request::of(alloc, arguments)? {
         Request::Help => help(alloc),
-        Request::Versions(question) if !question.is_supported => {
-            Ok(nothing(alloc, Some(Refusal::Unsupported)))
-        }
-        Request::Versions(question) => match question.level {
-            Some(level) => increment(alloc, &question, level),
-            None => list(alloc, &question),
-        },
+        Request::Versions(question) => respond(alloc, question, input),
+    }
+}
+
+/// What arguments ask for beside what is printed.
+#[derive(Clone, Copy)]
+pub struct Needs {
+    /// Whether the lines of the input may be versions.
+    pub input: bool,
+    /// Whether it is told why texts are left out.
+    pub reasons: bool,
+}
+
+/// Returns what the arguments ask for beside what is printed. Fails only if allocation fails.
+pub fn needs_of(alloc: Global, arguments: &[String]) -> Result<Needs, AllocError>
+    ensures { IfOk result (λ needs. (asked : Option Asked)
+        × IsAsked (map string_bytes arguments.now) asked × (needs.input ≡ reads_input asked)
+        × (needs.reasons ≡ tells_why asked)) }
+{
+    match Request::of(alloc, arguments)? {
+        Request::Help => Ok(Needs {
+            input: false,
+            reasons: false,
+        }),
+        Request::Versions(question) => Ok(Needs {
+            input: question.reads_input,
+            reasons: question.is_why,
+        }),
+    }
+}
+
+// What is written for a question and an input.
+fn respond<'a>(
+    alloc: Global,
+    question: Question<'a>,
+    input: &'a str,
+) -> Result<Response, AllocError>
+    ensures { IfOk result (λ response.
+        Responds (Some (with_lines input.now (asked_of question.entry))) (written response)) }
+{
+    let mut question = question;
+    question.add_lines(alloc, input)?;
+    match refusal_of(alloc, &question)? {
+        Some(refusal) => Ok(nothing(alloc, Some(refusal))),
+        None => answer(alloc, &question),
+    }
+}
+
+// The answer to a question that is not refused.
+fn answer(alloc: Global, question: &Question<'_>) -> Result<Response, AllocError>
+    requires { IsRefused (asked_of question.now) → ⊥ }
+    ensures { IfOk result (λ response.
+        Responds (Some (asked_of question.now)) (written response)) }
+{
+    match question.level {
+        Some(level) => increment(alloc, question, level),
+        None => list(alloc, question),
     }
 }
 
@@ -82,18 +123,19 @@ fn nothing(alloc: Global, refusal: Option<Refusal>) -> Response
 
 // The versions that are asked for.
 fn list(alloc: Global, question: &Question<'_>) -> Result<Response, AllocError>
-    requires supported { question.now.is_supported ≡ true }
+    requires answered { IsRefused (asked_of question.now) → ⊥ }
     requires level { question.now.level ≡ None }
     ensures { IfOk result (λ response.
         Responds (Some (asked_of question.now)) (written response)) }
 {
     let ranges = question.ranges.as_slice();
     let versions = question.versions.as_slice();
-    let mut listed = listing(alloc, question.include_prerelease, ranges, versions)?;
+    let mut listed = listing(alloc, question.reading, ranges, versions)?;
     let is_success = is_filled(&listed);
+    pick(question.pick, &mut listed);
     put_in_order(question.is_reversed, &mut listed);
     let mut output = String::new(alloc);
-    write_lines(&listed, &mut output)?;
+    write_all(question.is_json, &listed, &mut output)?;
     Ok(Response {
         output,
         refusal: None,
@@ -107,6 +149,19 @@ fn is_filled(versions: &[VersionRef<'_>]) -> bool
     !versions.is_empty()
 }
 
+fn pick(pick: Pick, versions: &mut Vec<VersionRef<'_>>)
+    ensures { versions.new.items ≡ picked pick versions.old.items }
+{
+    match pick {
+        Pick::All => {}
+        Pick::Greatest => {
+            versions.reverse();
+            versions.truncate(1);
+        }
+        Pick::Least => versions.truncate(1),
+    }
+}
+
 fn put_in_order(is_reversed: bool, versions: &mut Vec<VersionRef<'_>>)
     ensures { versions.new.items ≡ in_order is_reversed versions.old.items }
 {
@@ -117,13 +172,13 @@ fn put_in_order(is_reversed: bool, versions: &mut Vec<VersionRef<'_>>)
 
 // The next version.
 fn increment(alloc: Global, question: &Question<'_>, level: &str) -> Result<Response, AllocError>
-    requires supported { question.now.is_supported ≡ true }
+    requires answered { IsRefused (asked_of question.now) → ⊥ }
     requires level { (asked_of question.now).level ≡ Some level.now }
     ensures { IfOk result (λ response.
         Responds (Some (asked_of question.now)) (written response)) }
 {
     let (texts, ranges) = (question.versions.as_slice(), question.ranges.as_slice());
-    let read = read_versions(alloc, question.include_prerelease, &[], texts)?;
+    let read = read_versions(alloc, question.reading, &[], texts)?;
     let versions = read.as_slice();
     let Some(version) = versions.first() else {
         return Ok(nothing(alloc, None));
@@ -143,27 +198,103 @@ fn next(
     level: &str,
     version: &VersionRef<'_>,
 ) -> Result<Response, AllocError>
-    ensures { IfOk result (λ response. written response ≡ next_written
+    ensures { IfOk result (λ response. written response ≡ next_written question.now.is_json
         (answer_of_inc version.now level.now
         (asked_of question.now).identifier (Some question.now.base))) }
 {
     match version.inc(alloc, level, question.identifier, Some(question.base)) {
-        Ok(next) => found(alloc, &next),
+        Ok(next) => found(alloc, question.is_json, next),
         Err(Failure::Refused(error)) => { Ok(nothing(alloc, Some(Refusal::NotIncremented(error)))) }
         Err(Failure::Memory(error)) => Err(error),
     }
 }
 
-fn found(alloc: Global, next: &Version) -> Result<Response, AllocError>
-    ensures { IfOk result (λ response. written response ≡ next_written (Ok next.now)) }
+fn found(alloc: Global, is_json: bool, next: Version) -> Result<Response, AllocError>
+    ensures { IfOk result (λ response. written response ≡ next_written is_json (Ok next)) }
 {
+    let next = without_build(alloc, next)?;
     let mut output = String::new(alloc);
-    writeln!(output, "{next}")?;
+    if is_json {
+        writeln!(output, "[\"{next}\"]")?;
+    } else {
+        writeln!(output, "{next}")?;
+    }
     Ok(Response {
         output,
         refusal: None,
         is_success: true,
     })
+}
+
+// A version without its build metadata.
+fn without_build(alloc: Global, version: Version) -> Result<Version, AllocError>
+    ensures { IfOk result (λ bare. bare ≡ record version { build = [] }) }
+{
+    let Ok(parts) = version.into_parts(alloc) else {
+        return Err(AllocError);
+    };
+    let (major, minor, patch) = (parts.major, parts.minor, parts.patch);
+    match Version::new(
+        alloc,
+        major,
+        minor,
+        patch,
+        parts.pre_release,
+        Vec::new(alloc),
+    ) {
+        Ok(bare) => Ok(bare),
+        Err(_) => Err(AllocError),
+    }
+}
+
+// Writes versions as JSON, or each on a line.
+fn write_all(
+    is_json: bool,
+    versions: &[VersionRef<'_>],
+    output: &mut String,
+) -> Result<(), AllocError>
+    ensures { OnOk result (string_bytes output.new ≡ string_bytes output.old
+        ++ (if is_json then json versions.now else flat_map line versions.now)) }
+{
+    if is_json {
+        write_json(versions, output)
+    } else {
+        write_lines(versions, output)
+    }
+}
+
+fn write_json(versions: &[VersionRef<'_>], output: &mut String) -> Result<(), AllocError>
+    ensures { OnOk result (string_bytes output.new
+        ≡ string_bytes output.old ++ json versions.now) }
+{
+    let Some((first, others)) = versions.split_first() else {
+        return output.push_str("[]\n");
+    };
+    output.push('[')?;
+    write_quoted(first, output)?;
+    write_others(others, output)?;
+    output.push_str("]\n")
+}
+
+// Writes JSON strings, each behind a comma.
+fn write_others(versions: &[VersionRef<'_>], output: &mut String) -> Result<(), AllocError>
+    ensures { OnOk result (string_bytes output.new
+        ≡ string_bytes output.old ++ flat_map (λ v. 44 ∷ quoted v) versions.now) }
+{
+    for version in versions {
+        output.push(',')?;
+        write_quoted(version, output)?;
+    }
+    Ok(())
+}
+
+fn write_quoted(version: &VersionRef<'_>, output: &mut String) -> Result<(), AllocError>
+    ensures { OnOk result (string_bytes output.new
+        ≡ string_bytes output.old ++ quoted version.now) }
+{
+    output.push('"')?;
+    write_bare(version, output)?;
+    output.push('"')
 }
 
 fn write_lines(versions: &[VersionRef<'_>], output: &mut String) -> Result<(), AllocError>
@@ -176,14 +307,20 @@ fn write_lines(versions: &[VersionRef<'_>], output: &mut String) -> Result<(), A
     Ok(())
 }
 
-// Writes a version without its build metadata, and a line feed.
 fn write_line(version: &VersionRef<'_>, output: &mut String) -> Result<(), AllocError>
     ensures { OnOk result (string_bytes output.new ≡ string_bytes output.old ++ line version.now) }
 {
+    write_bare(version, output)?;
+    output.push('\n')
+}
+
+// Writes a version without its build metadata.
+fn write_bare(version: &VersionRef<'_>, output: &mut String) -> Result<(), AllocError>
+    ensures { OnOk result (string_bytes output.new ≡ string_bytes output.old ++ bare version.now) }
+{
     let (major, minor, patch) = (version.major(), version.minor(), version.patch());
     write!(output, "{major}.{minor}.{patch}")?;
-    write_pre_release(version.pre_release(), output)?;
-    output.push('\n')
+    write_pre_release(version.pre_release(), output)
 }
 
 // Writes `-` and identifiers joined by dots, or nothing where there are none.

@@ -17,8 +17,13 @@ asked_of q = record {
   identifier = option_map (λ t. t.now) q.identifier;
   base = q.base;
   is_reversed = q.is_reversed;
-  include_prerelease = q.include_prerelease;
-  is_supported = q.is_supported;
+  reading = q.reading;
+  pick = q.pick;
+  is_json = q.is_json;
+  is_strict = q.is_strict;
+  is_why = q.is_why;
+  has_unknown = q.has_unknown;
+  reads_input = q.reads_input;
 }
 
 abbrev pub request_of : Request → Option Asked

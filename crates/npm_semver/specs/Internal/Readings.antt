@@ -4,17 +4,19 @@ use Rattle.semver_core.specs.Cuts.{Span}
 use Rattle.semver_core.specs.Failures.{NoValue}
 use Rattle.semver_core.specs.Values.Versions.{VersionValue}
 use Rattle.semver_core.specs.declared.TheConstants.{MAX_SAFE_INTEGER}
-use Rattle.nodejs_semver.specs.Npm.Ranges.{HasAlternatives, IsRangeOf}
+use Rattle.nodejs_semver.specs.Npm.Ranges.{IsRangeIn}
 use Rattle.nodejs_semver.specs.Ranges.Gate.{accepts}
+use Rattle.npm_semver.specs.Readings.{HasRange}
+use Rattle.npm_semver.specs.declared.reading.Reading.{Reading}
 
-abbrev pub IsRead : Bool → List ℕ → Option (List (Span VersionValue)) → Type 0
-IsRead include text (Some range) = IsRangeOf MAX_SAFE_INTEGER include text range
-IsRead include text None = NoValue (HasAlternatives MAX_SAFE_INTEGER include text)
+abbrev pub IsRead : Reading → List ℕ → Option (List (Span VersionValue)) → Type 0
+IsRead r text (Some range) = IsRangeIn r.is_loose MAX_SAFE_INTEGER r.include_prerelease text range
+IsRead r text None = NoValue (HasRange r text)
 
-pub data AreRead (include : Bool) : List (List ℕ) → List (Option (List (Span VersionValue))) → Type 0 where
-  none : AreRead include [] []
+pub data AreRead (r : Reading) : List (List ℕ) → List (Option (List (Span VersionValue))) → Type 0 where
+  none : AreRead r [] []
   more : (text : List ℕ) (texts : List (List ℕ)) (range : Option (List (Span VersionValue))) (ranges : List (Option (List (Span VersionValue))))
-      → IsRead include text range → AreRead include texts ranges → AreRead include (text ∷ texts) (range ∷ ranges)
+      → IsRead r text range → AreRead r texts ranges → AreRead r (text ∷ texts) (range ∷ ranges)
 
 abbrev pub says : Bool → VersionValue → Option (List (Span VersionValue)) → Bool
 says include v (Some range) = accepts range v include

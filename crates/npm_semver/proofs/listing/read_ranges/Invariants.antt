@@ -4,4 +4,4 @@ use Rattle.npm_semver.specs.Internal.Readings.{AreRead}
 use Rattle.npm_semver.proofs.listing.read_ranges.Given as goal
 
 abbrev pub invariant-loop-text : goal.invariant-loop-text
-invariant-loop-text l = AreRead l.include_prerelease (texts (take l.text-index l.range_texts)) l.ranges.items
+invariant-loop-text l = AreRead l.reading (texts (take l.text-index l.range_texts)) l.ranges.items

@@ -5,5 +5,5 @@ use Rattle.npm_semver.specs.Internal.Readings.{AreRead}
 use Rattle.npm_semver.proofs.listing.read_versions.Given as goal
 
 abbrev pub invariant-loop-text : goal.invariant-loop-text
-invariant-loop-text l = (range_texts : List (List ℕ)) → AreRead l.include_prerelease range_texts l.ranges
-    → AreListed l.include_prerelease range_texts (texts (take l.text-index l.version_texts)) l.listed.items
+invariant-loop-text l = (range_texts : List (List ℕ)) → AreRead l.reading range_texts l.ranges
+    → AreListed l.reading range_texts (texts (take l.text-index l.version_texts)) l.listed.items

@@ -6,26 +6,26 @@ use Rattle.npm_semver.proofs.run.increment.Goals as goal
 
 pub returns-in_default : goal.returns-in_default
 returns-in_default c =
-    responds (asked_of c.args.question.now) _ c.in_ok-read.read.items _ c.requires.supported c.requires.level
+    responds (asked_of c.args.question.now) _ c.in_ok-read.read.items _ c.requires.answered c.requires.level
     (rw c.as_slice-texts.ensures.value at (c.in_ok-read.ensures [] none))
     (c.nothing.ensures ∙ of_none (asked_of c.args.question.now) c.args.level.now _ (rw c.as_slice-versions.ensures.value at c.in_default.ensures.value))
 
 pub returns-then-versions-gt1 : goal.returns-then-versions-gt1
 returns-then-versions-gt1 c =
-    responds (asked_of c.args.question.now) _ c.in_ok-read.read.items _ c.requires.supported c.requires.level
+    responds (asked_of c.args.question.now) _ c.in_ok-read.read.items _ c.requires.answered c.requires.level
     (rw c.as_slice-texts.ensures.value at (c.in_ok-read.ensures [] none))
     (c.nothing-then-versions-gt1.ensures ∙ of_many (asked_of c.args.question.now) c.args.level.now _ (rw c.as_slice-versions.ensures.value at c.if-versions-gt1.true))
 
 pub returns-then-not-is_empty : goal.returns-then-not-is_empty
 returns-then-not-is_empty c =
-    responds (asked_of c.args.question.now) _ c.in_ok-read.read.items _ c.requires.supported c.requires.level
+    responds (asked_of c.args.question.now) _ c.in_ok-read.read.items _ c.requires.answered c.requires.level
     (rw c.as_slice-texts.ensures.value at (c.in_ok-read.ensures [] none))
     (c.nothing-then-not-is_empty.ensures ∙ of_ranges (asked_of c.args.question.now) c.args.level.now _ _ (rw c.as_slice-versions.ensures.value at c.in-Some.ensures.value)
     (empty_texts _ _ (rw c.as_slice-ranges.ensures.value at c.if-not-is_empty.ensures)))
 
 pub returns : goal.returns
 returns c =
-    if_responds _ (asked_of c.args.question.now) _ c.in_ok-read.read.items _ c.requires.supported c.requires.level
+    if_responds _ (asked_of c.args.question.now) _ c.in_ok-read.read.items _ c.requires.answered c.requires.level
     (rw c.as_slice-texts.ensures.value at (c.in_ok-read.ensures [] none))
     (of_one (asked_of c.args.question.now) c.args.level.now _ _ (rw c.as_slice-versions.ensures.value at c.in-Some.ensures.value)
     (rw c.as_slice-versions.ensures.value at c.if-versions-gt1.false)

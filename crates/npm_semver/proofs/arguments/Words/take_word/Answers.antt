@@ -1,4 +1,4 @@
-use Rattle.std.proofs.Common.{◌≡◌, ◌∷◌, ◌++◌, ℕ, List, arith, refl}
+use Rattle.std.proofs.Common.{arith}
 use Rattle.std.proofs.lemmas.Str.Pattern.{split_parts}
 use Rattle.npm_semver.proofs.Cuts.{cut_front, uncut_word}
 use Rattle.npm_semver.proofs.arguments.Words.take_word.Goals as goal

@@ -1,4 +1,4 @@
-use Rattle.std.proofs.Common.{arith, sym, ◌∙◌}
+use Rattle.std.proofs.Common.{arith, sym}
 use Rattle.npm_semver.specs.Arguments.{all, help}
 use Rattle.npm_semver.proofs.Cuts.{asks_next, is_empty_asked, is_filled, size_behind, size_left}
 use Rattle.npm_semver.proofs.question.Request.of.Goals as goal

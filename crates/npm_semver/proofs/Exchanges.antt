@@ -1,0 +1,105 @@
+-- Two neighbouring parts of the version texts are exchanged.
+use Rattle.std.proofs.Common.{◌≡◌, ◌⊎◌, ◌∷◌, ◌++◌, [], ℕ, true, false, List, Some, None, ap, append_assoc, arith, inl, inr, refl}
+use Rattle.std.proofs.lemmas.List.Sorted.{IsPermutation-append_comm, IsPermutation-append_left, IsPermutation-append_right, IsPermutation-sym, IsPermutation-trans}
+use Rattle.std.specs.List.Sorted.{IsPermutation}
+use Rattle.semver_core.specs.Values.Versions.{VersionValue}
+use Rattle.npm_semver.specs.Arguments.{Asked}
+use Rattle.npm_semver.specs.Listing.{AreListed, IsListing}
+use Rattle.npm_semver.specs.Listing as Listing
+use Rattle.npm_semver.specs.Readings.{SomeText, here, later}
+use Rattle.npm_semver.specs.Responses.{IsRefused, Responds, Written, coerced, increment, no_version, refused, unknown, unread, versions}
+use Rattle.npm_semver.specs.declared.reading.Reading.{Reading}
+
+moved : (f u w k : List VersionValue) → IsPermutation (f ++ (u ++ (w ++ k))) (f ++ (w ++ (u ++ k)))
+moved f u w k =
+    let both : IsPermutation ((u ++ w) ++ k) ((w ++ u) ++ k) = IsPermutation-append_left k (u ++ w) (w ++ u) (IsPermutation-append_comm u w) in
+    IsPermutation-append_right f (u ++ (w ++ k)) (w ++ (u ++ k)) (rw (append_assoc u w k, append_assoc w u k) at both)
+
+moved_lists : (vs behind rest f u w k : List VersionValue) → vs ≡ f ++ behind → behind ≡ u ++ rest → rest ≡ w ++ k
+    → IsPermutation vs (f ++ (w ++ (u ++ k)))
+moved_lists vs behind rest f u w k e e2 e3 = rw (e, e2, e3) (moved f u w k)
+
+module _ (r : Reading) (ranges : List (List ℕ)) where
+  split : (xs ys : List (List ℕ)) (vs : List VersionValue) → AreListed r ranges (xs ++ ys) vs
+      → (us ws : List VersionValue) × AreListed r ranges xs us × AreListed r ranges ys ws × (vs ≡ us ++ ws)
+  split [] ys vs are = ([], vs, Listing.none, are, refl)
+  split (x ∷ xs) ys vs (Listing.no_version text rest zs lacks are) =
+      let (us, ws, first, second, e) = split xs ys zs are in (us, ws, Listing.no_version x xs us lacks first, second, e)
+  split (x ∷ xs) ys vs (Listing.version text rest v true zs is say are) =
+      let (us, ws, first, second, e) = split xs ys zs are in
+      (v ∷ us, ws, Listing.version x xs v true us is say first, second, ap (λ l. v ∷ l) e)
+  split (x ∷ xs) ys vs (Listing.version text rest v false zs is say are) =
+      let (us, ws, first, second, e) = split xs ys zs are in (us, ws, Listing.version x xs v false us is say first, second, e)
+
+  join : (xs ys : List (List ℕ)) (us ws : List VersionValue) → AreListed r ranges xs us → AreListed r ranges ys ws
+      → AreListed r ranges (xs ++ ys) (us ++ ws)
+  join xs ys us ws Listing.none second = second
+  join xs ys us ws (Listing.no_version text rest vs lacks are) second =
+      Listing.no_version text (rest ++ ys) (vs ++ ws) lacks (join rest ys vs ws are second)
+  join xs ys us ws (Listing.version text rest v true vs is say are) second =
+      Listing.version text (rest ++ ys) v true (vs ++ ws) is say (join rest ys vs ws are second)
+  join xs ys us ws (Listing.version text rest v false vs is say are) second =
+      Listing.version text (rest ++ ys) v false (vs ++ ws) is say (join rest ys vs ws are second)
+
+  exchanged : (front a b back : List (List ℕ)) (vs : List VersionValue) → AreListed r ranges (front ++ (a ++ (b ++ back))) vs
+      → (ws : List VersionValue) × AreListed r ranges (front ++ (b ++ (a ++ back))) ws × IsPermutation vs ws
+  exchanged front a b back vs are =
+      let (f, behind, of_front, are_behind, e) = split front (a ++ (b ++ back)) vs are in
+      let (u, rest, of_a, are_rest, e2) = split a (b ++ back) behind are_behind in
+      let (w, k, of_b, of_back, e3) = split b back rest are_rest in (
+        f ++ (w ++ (u ++ k)),
+        join front (b ++ (a ++ back)) f (w ++ (u ++ k)) of_front (join b (a ++ back) w (u ++ k) of_b (join a back u k of_a of_back)),
+        moved_lists vs behind rest f u w k e e2 e3,
+      )
+
+  listing_exchanged : (front a b back : List (List ℕ)) (printed : List VersionValue) → IsListing r ranges (front ++ (a ++ (b ++ back))) printed
+      → IsListing r ranges (front ++ (b ++ (a ++ back))) printed
+  listing_exchanged front a b back printed listing =
+      let (ws, are, same) = exchanged front a b back listing.listed listing.are in record {
+        listed = ws;
+        are = are;
+        same = IsPermutation-trans ws listing.listed printed (IsPermutation-sym listing.listed ws same) listing.same;
+        sorted = listing.sorted;
+      }
+
+module _ (Is : List ℕ → Type 0) where
+  some_split : (xs ys : List (List ℕ)) → SomeText Is (xs ++ ys) → SomeText Is xs ⊎ SomeText Is ys
+  some_split [] ys some = inr some
+  some_split (x ∷ xs) ys (here text rest is) = inl (here x xs is)
+  some_split (x ∷ xs) ys (later text rest some) = elim (some_split xs ys some) [ inl l ↦ inl (later x xs l) | inr s ↦ inr s ]
+
+  some_left : (xs ys : List (List ℕ)) → SomeText Is xs → SomeText Is (xs ++ ys)
+  some_left xs ys (here text rest is) = here text (rest ++ ys) is
+  some_left xs ys (later text rest some) = later text (rest ++ ys) (some_left rest ys some)
+
+  some_right : (xs ys : List (List ℕ)) → SomeText Is ys → SomeText Is (xs ++ ys)
+  some_right [] ys some = some
+  some_right (x ∷ xs) ys some = later x (xs ++ ys) (some_right xs ys some)
+
+  some_behind : (a b back : List (List ℕ)) → SomeText Is (a ++ (b ++ back)) → SomeText Is (b ++ (a ++ back))
+  some_behind a b back some = elim (some_split a (b ++ back) some) [
+    | inl l ↦ some_right b (a ++ back) (some_left a back l)
+    | inr s ↦ elim (some_split b back s) [ inl l ↦ some_left b (a ++ back) l | inr k ↦ some_right b (a ++ back) (some_right a back k) ]
+  ]
+
+  some_exchanged : (front a b back : List (List ℕ)) → SomeText Is (front ++ (a ++ (b ++ back))) → SomeText Is (front ++ (b ++ (a ++ back)))
+  some_exchanged front a b back some = elim (some_split front (a ++ (b ++ back)) some) [
+    | inl l ↦ some_left front (b ++ (a ++ back)) l
+    | inr s ↦ some_right front (b ++ (a ++ back)) (some_behind a b back s)
+  ]
+
+refused_exchanged : (q : Asked) (front a b back : List (List ℕ)) → IsRefused (record q { versions = front ++ (a ++ (b ++ back)) })
+    → IsRefused (record q { versions = front ++ (b ++ (a ++ back)) })
+refused_exchanged q front a b back (coerced e) = coerced e
+refused_exchanged q front a b back (unknown e) = unknown e
+refused_exchanged q front a b back (unread some) = unread some
+refused_exchanged q front a b back (no_version some) = no_version (some.0, some_exchanged _ front a b back some.1)
+
+pub responds_exchanged : (q : Asked) (front a b back : List (List ℕ)) (written : Written)
+    → Responds (Some (record q { versions = front ++ (a ++ (b ++ back)) })) written → q.level ≡ None
+    → Responds (Some (record q { versions = front ++ (b ++ (a ++ back)) })) written
+responds_exchanged q front a b back written (refused _ is) level = refused _ (refused_exchanged q front a b back is)
+responds_exchanged q front a b back written (versions _ vs can no_level listing) level =
+    versions (record q { versions = front ++ (b ++ (a ++ back)) }) vs (λ is. can (refused_exchanged q front b a back is)) no_level
+    (listing_exchanged q.reading q.ranges front a b back vs listing)
+responds_exchanged q front a b back written (increment _ word vs can has are) level = absurd (grind (arith, level, has))

@@ -1,0 +1,35 @@
+-- The versions that texts are, by how they are read.
+use Rattle.std.proofs.Common.{◌≡◌, ℕ, true, false, List, Option, Result, Ok, Err, IfOk, IfErr, IfSome, IfNone, arith}
+use Rattle.std.specs.Result.{result_ok}
+use Rattle.semver_core.specs.Failures.{NoValue}
+use Rattle.semver_core.specs.Values.Versions.{VersionValue}
+use Rattle.semver_core.specs.declared.TheConstants.{MAX_SAFE_INTEGER}
+use Rattle.nodejs_semver.specs.Npm.VersionText.{IsVersionText}
+use Rattle.npm_semver.specs.Readings.{IsFoundIn, IsVersionIn, found, not_found, strict}
+use Rattle.npm_semver.specs.declared.reading.Reading.{Reading}
+
+module _ (r : Reading) (text : List ℕ) where
+  no_strict : r.is_coerced ≡ false → NoValue (IsVersionText MAX_SAFE_INTEGER text) → NoValue (IsVersionIn r text)
+  no_strict plain none v (strict p is) = none v is
+  no_strict plain none v (found p is) = absurd (grind (arith, plain, p))
+  no_strict plain none v (not_found p lacks is) = none v is
+
+  no_coerced : NoValue (IsFoundIn r text) → NoValue (IsVersionText MAX_SAFE_INTEGER text) → NoValue (IsVersionIn r text)
+  no_coerced lacks none v (strict p is) = none v is
+  no_coerced lacks none v (found p is) = lacks v is
+  no_coerced lacks none v (not_found p n is) = none v is
+
+  pub none_strict : {E : Type 0} (answer : Result VersionValue E) (o : Option VersionValue) → o ≡ result_ok answer → r.is_coerced ≡ false
+      → IfErr answer (λ _. NoValue (IsVersionText MAX_SAFE_INTEGER text)) → IfNone o (NoValue (IsVersionIn r text))
+  none_strict (Ok v) o e plain none = rw e tt
+  none_strict (Err error) o e plain none = rw e (no_strict plain none)
+
+  pub none_coerced : {E : Type 0} (answer : Result VersionValue E) (o : Option VersionValue) → o ≡ result_ok answer → NoValue (IsFoundIn r text)
+      → IfErr answer (λ _. NoValue (IsVersionText MAX_SAFE_INTEGER text)) → IfNone o (NoValue (IsVersionIn r text))
+  none_coerced (Ok v) o e lacks none = rw e tt
+  none_coerced (Err error) o e lacks none = rw e (no_coerced lacks none)
+
+  pub some_coerced : {E : Type 0} (answer : Result VersionValue E) (o : Option VersionValue) → o ≡ result_ok answer → r.is_coerced ≡ true
+      → NoValue (IsFoundIn r text) → IfOk answer (IsVersionText MAX_SAFE_INTEGER text) → IfSome o (IsVersionIn r text)
+  some_coerced (Ok v) o e is_coerced lacks is = rw e (not_found is_coerced lacks is)
+  some_coerced (Err error) o e is_coerced lacks is = rw e tt

@@ -1,0 +1,46 @@
+-- Statement: how texts are read: the version that a text is, strictly or coerced, and the range.
+use Rattle.std.specs.Prelude.{◌≡◌, ◌∷◌, ℕ, Bool, true, false, List}
+use Rattle.semver_core.specs.Failures.{NoValue}
+use Rattle.semver_core.specs.Text.Numbers.{IsNumber}
+use Rattle.semver_core.specs.Values.Versions.{VersionValue}
+use Rattle.semver_core.specs.declared.TheConstants.{MAX_SAFE_INTEGER}
+use Rattle.nodejs_semver.specs.Npm.Coerced.{IsCoerced, IsLeftmost, IsRightmost}
+use Rattle.nodejs_semver.specs.Npm.Grammar.{IsStrictNumber}
+use Rattle.nodejs_semver.specs.Npm.Ranges.{HasAlternativesIn}
+use Rattle.nodejs_semver.specs.Npm.Table.{Comparison}
+use Rattle.nodejs_semver.specs.Npm.VersionText.{IsVersionText}
+use Rattle.npm_semver.specs.declared.reading.Reading.{Reading}
+
+-- without an option: strictly, and without pre-releases
+abbrev pub strictly : Reading
+strictly = record { include_prerelease = false; is_loose = false; is_coerced = false; from_right = false }
+
+-- the numbers that are coerced: of the leftmost, or of those that end last
+abbrev pub IsChosen : Bool → List ℕ → List ℕ → List ℕ → List ℕ → Type 0
+IsChosen false = IsLeftmost
+IsChosen true = IsRightmost
+
+-- loosely they may have leading zeros
+abbrev pub IsNumeral : Bool → List ℕ → ℕ → Type 0
+IsNumeral false = IsStrictNumber MAX_SAFE_INTEGER
+IsNumeral true = IsNumber MAX_SAFE_INTEGER
+
+abbrev pub IsFoundIn : Reading → List ℕ → VersionValue → Type 0
+IsFoundIn r = IsCoerced (IsChosen r.from_right) (IsNumeral r.is_loose)
+
+-- the text is the version: strictly, also where the reading is loose; where it is coerced, what is found in
+-- it, and only if nothing is found what it is strictly
+pub data IsVersionIn (r : Reading) (text : List ℕ) (v : VersionValue) : Type 0 where
+  strict : r.is_coerced ≡ false → IsVersionText MAX_SAFE_INTEGER text v → IsVersionIn r text v
+  found : r.is_coerced ≡ true → IsFoundIn r text v → IsVersionIn r text v
+  not_found : r.is_coerced ≡ true → NoValue (IsFoundIn r text) → IsVersionText MAX_SAFE_INTEGER text v
+      → IsVersionIn r text v
+
+-- the text is a range of these alternatives
+abbrev pub HasRange : Reading → List ℕ → List (List Comparison) → Type 0
+HasRange r = HasAlternativesIn r.is_loose MAX_SAFE_INTEGER r.include_prerelease
+
+-- some text of these is so
+pub data SomeText (Is : List ℕ → Type 0) : List (List ℕ) → Type 0 where
+  here : (text : List ℕ) (texts : List (List ℕ)) → Is text → SomeText Is (text ∷ texts)
+  later : (text : List ℕ) (texts : List (List ℕ)) → SomeText Is texts → SomeText Is (text ∷ texts)
