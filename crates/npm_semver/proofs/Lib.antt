@@ -1,3 +1,4 @@
 pub mod Cuts
 pub mod Listed
 pub mod Answering
+pub mod Answered

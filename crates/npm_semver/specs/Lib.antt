@@ -2,4 +2,5 @@ pub mod Words
 pub mod Arguments
 pub mod Listing
 pub mod Responses
+pub mod Subcommands
 pub mod Internal

@@ -7,8 +7,10 @@ mod help;
 mod listing;
 mod question;
 mod run;
+mod subcommands;
 
 use crate::run::run;
+use crate::subcommands::{Reply, Subcommand};
 use anyhow::Result;
 use std::env;
 use std::process::ExitCode;
@@ -16,6 +18,11 @@ use std::process::ExitCode;
 fn main(rt: HostRuntime) -> Result<ExitCode> {
     let alloc = rt.alloc();
     let arguments: Vec<String> = env::args(&rt)?.skip(1).collect(alloc)?;
+    if let Some((word, words)) = arguments.split_first()
+        && let Some(subcommand) = Subcommand::of(word)
+    {
+        return finish(&rt, &subcommand.reply(alloc, words)?);
+    }
     let response = run(alloc, &arguments)?;
     if let Some(refusal) = &response.refusal {
         eprintln!(rt; "semver: {refusal}")?;
@@ -26,4 +33,13 @@ fn main(rt: HostRuntime) -> Result<ExitCode> {
     } else {
         Ok(ExitCode::FAILURE)
     }
+}
+
+// Writes what a subcommand says.
+fn finish(rt: &HostRuntime, reply: &Reply<'_>) -> Result<ExitCode> {
+    if let Some(trouble) = &reply.trouble {
+        eprintln!(rt; "semver: {trouble}")?;
+    }
+    print!(rt; "{}", reply.output)?;
+    Ok(ExitCode::from(reply.status.code()))
 }
