@@ -6,3 +6,4 @@ pub mod Refused
 pub mod ReadTexts
 pub mod LawLemmas
 pub mod Exchanges
+pub mod Answered

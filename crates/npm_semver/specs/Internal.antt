@@ -2,3 +2,4 @@ pub mod Waiting
 pub mod Written
 pub mod Readings
 pub mod Asked
+pub mod Said

@@ -10,9 +10,11 @@ mod question;
 mod reading;
 mod refusal;
 mod run;
+mod subcommands;
 mod why;
 
 use crate::run::{needs_of, run};
+use crate::subcommands::{Reply, Subcommand};
 use crate::why::reasons;
 use anyhow::Result;
 use std::process::ExitCode;
@@ -21,6 +23,11 @@ use std::{env, io};
 fn main(rt: HostRuntime) -> Result<ExitCode> {
     let alloc = rt.alloc();
     let arguments: Vec<String> = env::args(&rt)?.skip(1).collect(alloc)?;
+    if let Some((word, words)) = arguments.split_first()
+        && let Some(subcommand) = Subcommand::of(word)
+    {
+        return finish(&rt, &subcommand.reply(alloc, words)?);
+    }
     let needs = needs_of(alloc, &arguments)?;
     let input = if needs.input {
         io::read_to_string(alloc, rt.stdin())?
@@ -40,4 +47,13 @@ fn main(rt: HostRuntime) -> Result<ExitCode> {
     } else {
         Ok(ExitCode::FAILURE)
     }
+}
+
+// Writes what a subcommand says.
+fn finish(rt: &HostRuntime, reply: &Reply<'_>) -> Result<ExitCode> {
+    if let Some(trouble) = &reply.trouble {
+        eprintln!(rt; "semver: {trouble}")?;
+    }
+    print!(rt; "{}", reply.output)?;
+    Ok(ExitCode::from(reply.status.code()))
 }

@@ -1,0 +1,5 @@
+use Rattle.npm_semver.proofs.Answered.{drawn}
+use Rattle.npm_semver.proofs.subcommands.explanation.drawn.Goals as goal
+
+pub returns-clause-ok : goal.returns-clause-ok
+returns-clause-ok c = drawn _ _ _ _ c.in_ok-range.ensures.ok c.answer.ensures

@@ -1,0 +1,29 @@
+-- For proofs. What a reply says, and the words of a subcommand and of a comparison, as the statement has them.
+use Rattle.std.specs.Prelude.{not, ℕ, Bool, List, codes, is_some, string_bytes}
+use Rattle.std.specs.Ordering.{is_eq, is_ge, is_gt, is_le, is_lt}
+use Rattle.std.specs.declared.cmp.Ordering.{Ordering}
+use Rattle.npm_semver.specs.Subcommands.{Said, say}
+use Rattle.npm_semver.specs.declared.subcommands.Subcommand.{Subcommand}
+use Rattle.npm_semver.specs.declared.subcommands.Subcommand.TheVariants.{Compare, Diff, Next, Range, Least, Explain}
+use Rattle.npm_semver.specs.declared.subcommands.replies.Reply.{Reply}
+use Rattle.npm_semver.specs.declared.subcommands.versions.Relation.{Relation}
+use Rattle.npm_semver.specs.declared.subcommands.versions.Relation.TheVariants.{Less, AtMost, Equal, Unequal, AtLeast, Greater}
+
+abbrev pub said : Reply → Said
+said r = say (string_bytes r.output) (is_some r.trouble) r.status
+
+abbrev pub name_of : Subcommand → List ℕ
+name_of Compare = codes "compare"
+name_of Diff = codes "diff"
+name_of Next = codes "next"
+name_of Range = codes "range"
+name_of Least = codes "least"
+name_of Explain = codes "explain"
+
+abbrev pub relation : Relation → Ordering → Bool
+relation Less = is_lt
+relation AtMost = is_le
+relation Equal = is_eq
+relation Unequal = λ order. not (is_eq order)
+relation AtLeast = is_ge
+relation Greater = is_gt

@@ -1,0 +1,121 @@
+-- Statement: what the subcommands answer.
+use Rattle.std.specs.Prelude.{◌≡◌, ◌∷◌, ◌++◌, [], not, ℕ, Bool, true, false, List, Option, Some, None, Result, Ok, Err, codes, option_map, is_some, is_none, unwrap_or, if◌then◌else◌}
+use Rattle.std.specs.List.{list_all}
+use Rattle.std.specs.Ordering.{is_eq, is_ge, is_gt, is_le, is_lt}
+use Rattle.std.specs.declared.cmp.Ordering.{Ordering}
+use Rattle.std.specs.declared.cmp.Ordering.TheVariants.{Less, Equal, Greater}
+use Rattle.semver_core.specs.Cuts.{Span}
+use Rattle.semver_core.specs.Difference.{kind_between, kind_word}
+use Rattle.semver_core.specs.Failures.{NoValue}
+use Rattle.semver_core.specs.Increments.Table.{Fault, NotAPrerelease, Overflow, answer_of_inc}
+use Rattle.semver_core.specs.Printing.Text.{version_text}
+use Rattle.semver_core.specs.Values.Order.{precedence}
+use Rattle.semver_core.specs.Values.Versions.{VersionValue}
+use Rattle.semver_core.specs.declared.TheConstants.{MAX_SAFE_INTEGER}
+use Rattle.nodejs_semver.specs.Npm.Ranges.{IsRangeOf}
+use Rattle.nodejs_semver.specs.Npm.VersionText.{IsVersionText}
+use Rattle.nodejs_semver.specs.Printing.Text.{range_text}
+use Rattle.nodejs_semver.specs.Ranges.Algebra.{difference, intersection}
+use Rattle.nodejs_semver.specs.Ranges.Gate.{accepts}
+use Rattle.nodejs_semver.specs.Ranges.Least.{IsLeastOf, beyond}
+use Rattle.npm_semver.specs.Arguments.{is_one_of}
+use Rattle.npm_semver.specs.declared.subcommands.replies.Status.{Status}
+use Rattle.npm_semver.specs.declared.subcommands.replies.Status.TheVariants.{Yes, No, Malformed}
+
+abbrev pub Range : Type 0
+Range = List (Span VersionValue)
+
+-- what is written to standard output, whether a message is written to standard error, and the exit status
+pub data Said : Type 0 where
+  say : (output : List ℕ) (is_error_told : Bool) (status : Status) → Said
+
+-- yes or no, with a text on a line or nothing
+abbrev pub reply : Bool → Option (List ℕ) → Said
+reply is_yes None = say [] false (if is_yes then Yes else No)
+reply is_yes (Some text) = say (text ++ 10 ∷ []) false (if is_yes then Yes else No)
+
+abbrev pub sign : Ordering → List ℕ
+sign order = elim order [ Less ↦ codes "<" | Equal ↦ codes "=" | Greater ↦ codes ">" ]
+
+-- what a comparison says of an order
+abbrev pub relation_of : List ℕ → Option (Ordering → Bool)
+relation_of word = if is_one_of (codes "<" ∷ codes "lt" ∷ []) word then Some is_lt
+    else if is_one_of (codes "<=" ∷ codes "le" ∷ []) word then Some is_le
+    else if is_one_of (codes "=" ∷ codes "==" ∷ codes "eq" ∷ []) word then Some is_eq
+    else if is_one_of (codes "!=" ∷ codes "ne" ∷ []) word then Some (λ order. not (is_eq order))
+    else if is_one_of (codes ">=" ∷ codes "ge" ∷ []) word then Some is_ge
+    else if is_one_of (codes ">" ∷ codes "gt" ∷ []) word then Some is_gt else None
+
+abbrev pub AreVersions : List ℕ → List ℕ → VersionValue → VersionValue → Type 0
+AreVersions a b v w = IsVersionText MAX_SAFE_INTEGER a v × IsVersionText MAX_SAFE_INTEGER b w
+
+-- no option, or an identifier
+pub data HasIdentifier : List (List ℕ) → Option (List ℕ) → Type 0 where
+  none : HasIdentifier [] None
+  behind : (id : List ℕ) → HasIdentifier (codes "--preid" ∷ id ∷ []) (Some id)
+  joined : (id : List ℕ) → HasIdentifier ((codes "--preid=" ++ id) ∷ []) (Some id)
+
+-- no, if there is no next version; a level or an identifier that is none is malformed
+abbrev pub status_of : Fault → Status
+status_of fault = elim fault [ NotAPrerelease text ↦ No | Overflow ↦ No | _ ↦ Malformed ]
+
+-- what is said for what `inc` returns: no, with a message, also if the next version is not above
+abbrev pub next_said : VersionValue → Result VersionValue Fault → Said
+next_said v (Ok w) = if is_lt (precedence v w) then reply true (Some (version_text w)) else say [] true No
+next_said v (Err fault) = say [] true (status_of fault)
+
+-- a range is printed if it accepts a version
+pub data IsShown : Option Range → Said → Type 0 where
+  some : (r : Range) (v : VersionValue) → accepts r v false ≡ true
+      → IsShown (Some r) (reply true (Some (range_text r)))
+  none : (found : Option Range) → NoValue (λ v. accepts (unwrap_or found []) v false ≡ true)
+      → IsShown found (reply false None)
+
+-- the text is a range, as npm reads it without pre-releases included
+abbrev pub IsRange : List ℕ → Range → Type 0
+IsRange = IsRangeOf MAX_SAFE_INTEGER false
+
+pub data AreRanges : List (List ℕ) → List Range → Type 0 where
+  none : AreRanges [] []
+  more : (text : List ℕ) (texts : List (List ℕ)) (r : Range) (rs : List Range) → IsRange text r
+      → AreRanges texts rs → AreRanges (text ∷ texts) (r ∷ rs)
+
+-- the words of a question, from the name of a subcommand on, and the answer
+pub data Answers : List (List ℕ) → Said → Type 0 where
+  compare : (a b : List ℕ) (v w : VersionValue) → AreVersions a b v w
+      → Answers (codes "compare" ∷ a ∷ b ∷ []) (reply true (Some (sign (precedence v w))))
+  test : (a word b : List ℕ) (v w : VersionValue) (relation : Ordering → Bool) → AreVersions a b v w
+      → relation_of word ≡ Some relation
+      → Answers (codes "compare" ∷ a ∷ word ∷ b ∷ []) (reply (relation (precedence v w)) None)
+  diff : (a b : List ℕ) (v w : VersionValue) → AreVersions a b v w
+      → Answers (codes "diff" ∷ a ∷ b ∷ []) (reply true (option_map kind_word (kind_between v w)))
+  next : (level a : List ℕ) (words : List (List ℕ)) (id : Option (List ℕ)) (v : VersionValue)
+      → IsVersionText MAX_SAFE_INTEGER a v → HasIdentifier words id
+      → Answers (codes "next" ∷ level ∷ a ∷ words) (next_said v (answer_of_inc v level id None))
+  range : (a : List ℕ) (r : Range) (said : Said) → IsRange a r → IsShown (Some r) said
+      → Answers (codes "range" ∷ a ∷ []) said
+  and : (a b : List ℕ) (r s : Range) (said : Said) → IsRange a r → IsRange b s
+      → IsShown (intersection r s) said → Answers (codes "range" ∷ a ∷ codes "and" ∷ b ∷ []) said
+  minus : (a b : List ℕ) (r s : Range) (said : Said) → IsRange a r → IsRange b s
+      → IsShown (difference r s) said → Answers (codes "range" ∷ a ∷ codes "minus" ∷ b ∷ []) said
+  within : (a b : List ℕ) (r s : Range) (least : Option VersionValue) → IsRange a r → IsRange b s
+      → IsLeastOf (beyond r s) least → Answers (codes "range" ∷ a ∷ codes "within" ∷ b ∷ [])
+      (reply (is_none least) (option_map version_text least))
+  least : (a : List ℕ) (words : List (List ℕ)) (rs : List Range) (least : Option VersionValue)
+      → AreRanges (a ∷ words) rs → IsLeastOf (λ v. list_all (λ r. accepts r v false) rs) least
+      → Answers (codes "least" ∷ a ∷ words) (reply (is_some least) (option_map version_text least))
+  explain : (a : List ℕ) (r : Range) (text : List ℕ) → IsRange a r
+      → Answers (codes "explain" ∷ a ∷ []) (say text false Yes)
+
+-- what is said of the words: their answer, or that they ask nothing
+pub data IsReply (words : List (List ℕ)) : Said → Type 0 where
+  answered : (said : Said) → Answers words said → IsReply words said
+  malformed : NoValue (Answers words) → IsReply words (say [] true Malformed)
+
+-- the first word names a subcommand
+abbrev pub is_subcommand : List ℕ → Bool
+is_subcommand = is_one_of (codes "compare" ∷ codes "diff" ∷ codes "next" ∷ codes "range" ∷ codes "least"
+    ∷ codes "explain" ∷ [])
+
+abbrev pub exit_status : Status → ℕ
+exit_status status = elim status [ Yes ↦ 0 | No ↦ 1 | Malformed ↦ 2 ]
