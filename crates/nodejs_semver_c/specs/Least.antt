@@ -6,7 +6,6 @@ use Rattle.semver_core.specs.Printing.Text.{version_text}
 use Rattle.semver_core.specs.Values.Versions.{VersionValue, is_release}
 use Rattle.semver_core.specs.declared.cuts.bound.Bound.TheVariants.{After}
 use Rattle.nodejs_semver.specs.Ranges.Least.{IsLeastOf, beyond}
-use Rattle.nodejs_semver.specs.Ranges.View.{TakesMemory}
 use Rattle.nodejs_semver_c.specs.Answers.{Kept, NoMemoryOnlyIf, PrintsFound}
 
 -- it is printed, if there is any; or memory is missing where the call may take some
@@ -17,5 +16,4 @@ PrintsBeyond r s old new len_old len_new status =
     × PrintsFound version_text found old new len_old len_new status)
     ⊎ NoMemoryOnlyIf status (Kept old new len_old len_new) (((v : VersionValue) × (beyond r s v ≡ true))
     ⊎ Any (λ i. (v : VersionValue) × (i.lower ≡ After v) × (is_release v ≡ false)) r
-    ⊎ Any (λ i. (v : VersionValue) × (i.upper ≡ After v) × (is_release v ≡ false)) s
-    ⊎ TakesMemory r ⊎ TakesMemory s)
+    ⊎ Any (λ i. (v : VersionValue) × (i.upper ≡ After v) × (is_release v ≡ false)) s)

@@ -4,7 +4,6 @@ ghost use Rattle.nodejs_semver.specs.Printing.Text.{range_text};
 ghost use Rattle.nodejs_semver.specs.Ranges.Gate.{accepts};
 ghost use Rattle.nodejs_semver.specs.Ranges.Least.{IsLeastOf, least_build};
 ghost use Rattle.nodejs_semver.specs.Ranges.Outside.{is_outside};
-ghost use Rattle.nodejs_semver.specs.Ranges.View.{TakesMemory};
 ghost use Rattle.nodejs_semver_c.specs.Answers.{Kept, NoMemoryOnlyIf, OnRange, OnVersion};
 ghost use Rattle.nodejs_semver_c.specs.Answers.{Prints, PrintsFound};
 ghost use Rattle.nodejs_semver_c.specs.Numbers.{side_of};
@@ -122,8 +121,7 @@ pub extern "C" fn nodejs_semver_range_min_version(
         × IfSome found (λ v. v.build ≡ least_build r v)
         × PrintsFound version_text found out.old out.new len.old len.new result)
         ⊎ NoMemoryOnlyIf result kept (((v : VersionValue) × (accepts r v false ≡ true))
-        ⊎ Any (λ s. (v : VersionValue) × (s.lower ≡ After v) × (is_release v ≡ false)) r
-        ⊎ TakesMemory r)) }
+        ⊎ Any (λ s. (v : VersionValue) × (s.lower ≡ After v) × (is_release v ≡ false)) r)) }
 {
     match read::range(alloc, reading, false, range) {
         Ok(range) => match range.min_version(alloc) {
