@@ -1,7 +1,11 @@
 -- The parts of a text that std's clauses name.
-use Rattle.std.proofs.Common.{◌≡◌, ◌≢◌, ◌⊎◌, ℕ, List, ◌∷◌, ◌++◌, drop, take, inl, inr, sym, ap, arith, encode_utf8, ◌∙◌}
+use Rattle.std.proofs.Common.{◌≡◌, ◌≢◌, ◌⊎◌, ◌==◌, ℕ, List, ◌∷◌, ◌++◌, false, length, drop, take, inl, inr, sym, ap, subst, arith}
+use Rattle.std.proofs.Common.{encode_utf8, ◌∙◌}
+use Rattle.std.specs.List.{Contains, position_or_len}
+use Rattle.std.specs.Prelude.{slice_index_or}
 use Rattle.std.specs.Str.Pattern.{FindsChar, SplitsAroundMatch}
 use Rattle.std.proofs.lemmas.List.{take-append-drop}
+use Rattle.std.proofs.lemmas.List.Sums.{fails_before_first}
 use Rattle.std.proofs.lemmas.Str.{encode_ascii}
 
 -- the text behind an `@` in front
@@ -21,3 +25,13 @@ behind_at target name front range whose s =
 -- a text that does not begin with an encoded `$` does not begin with its byte
 pub no_dollar : (text : List ℕ) → ((rest : List ℕ) → text ≢ encode_utf8 36 ++ rest) → (name : List ℕ) → text ≢ 36 ∷ name
 no_dollar text none name e = none name (e ∙ ap (λ t. t ++ name) (sym (encode_ascii 36 (omega arith))))
+
+-- a text in which no place has the byte `@`
+pub no_sign : (text target : List ℕ) → text ≡ target → position_or_len (λ b. b == 64) text ≡ length text → ¬ (Contains target 64)
+no_sign text target same none has =
+    let whole : position_or_len (λ b. b == 64) target ≡ length target =
+    subst (λ t. position_or_len (λ b. b == 64) t ≡ length t) same none in
+    let fails : (slice_index_or target has.0 64 == 64) ≡ false =
+    fails_before_first (λ b. b == 64) target has.0 64 (omega (arith, whole, has.1)) in
+    let two : (64 == 64) ≡ false = subst (λ x. (x == 64) ≡ false) has.2 fails in
+    absurd (cc)

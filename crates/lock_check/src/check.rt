@@ -7,7 +7,7 @@ use crate::lock::{Dependency, Field, Lock, Package, Wanted, add_dependencies};
 use crate::overrides::Overrides;
 use crate::reading::{is_unsure, npm_range};
 use crate::scopes::Scopes;
-use crate::specifier::{Specifier, is_tag};
+use crate::specifier::{Specifier, is_name, is_tag};
 use crate::verdict::{Judgement, Verdict, judge_texts};
 use crate::workspaces::{add_workspaces, are_read};
 use anyhow::Result;
@@ -150,6 +150,9 @@ fn locked_outcome<'a>(
     if target.is_own_peer() {
         return Ok(Outcome::OwnPeer);
     }
+    if !is_name(dependency.name) {
+        return Ok(Outcome::Unnamed);
+    }
     if target.is_link_of_root() {
         return Ok(Outcome::Link);
     }
@@ -278,9 +281,9 @@ impl<'a> Target<'a> {
     }
 
     // What the text of a range says of it that is asked of a registry. To npm `*` accepts every
-    // locked version, pre-releases too, and the empty text is `*`.
+    // locked version, pre-releases too.
     fn registry_outcome(self, alloc: Global, wanted: &str) -> Result<Outcome<'a>> {
-        if wanted.is_empty() || trim(wanted) == "*" {
+        if trim(wanted) == "*" {
             return Ok(Outcome::Satisfied);
         }
         self.range_outcome(alloc, wanted)

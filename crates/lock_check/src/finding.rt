@@ -40,6 +40,8 @@ pub enum Outcome<'a> {
     Unread,
     /// The range text is one that npm rejects, as a URL of a protocol that it does not read.
     Unsupported,
+    /// The name is none that a package may have.
+    Unnamed,
     /// The package comes from another address than the one that is wanted.
     Elsewhere,
     /// A tag is wanted, and the package does not come from the address of a package.
@@ -114,6 +116,7 @@ impl Outcome<'_> {
             | Outcome::Unversioned
             | Outcome::Unread
             | Outcome::Unsupported
+            | Outcome::Unnamed
             | Outcome::Elsewhere
             | Outcome::Untraced
             | Outcome::NoFolder
@@ -172,6 +175,7 @@ impl fmt::Display for Finding<'_> {
             Outcome::Unversioned => write!(f, ", not locked to a version"),
             Outcome::Unread => write!(f, ", rejected: no range, tag or address"),
             Outcome::Unsupported => write!(f, ", rejected: no text that npm reads"),
+            Outcome::Unnamed => write!(f, ", rejected: no name of a package"),
             Outcome::Elsewhere => write!(f, ", rejected: locked to another place"),
             Outcome::Untraced => write!(f, ", rejected: a tag, locked to no address of a package"),
             Outcome::NoFolder => write!(f, ", rejected: a link to a folder that is not there"),

@@ -1,7 +1,6 @@
 // Which rules of `overrides` hold for each dependency.
 
 use crate::check::Edge;
-use crate::folder::is_installed;
 use crate::lock::{Lock, Package, Wanted};
 use crate::overrides::{Overrides, Scope};
 use anyhow::Result;
@@ -79,10 +78,10 @@ fn reading_order(alloc: Global, edges: &[Edge<'_>]) -> Result<Vec<usize>> {
 }
 
 // Whether rules hold for a dependency: to npm, not for one of a workspace or another folder outside
-// `node_modules`.
+// `node_modules`, or of what is installed there.
 fn is_overridden(edge: &Edge<'_>) -> bool {
     let folder = edge.dependency.package.folder;
-    folder.is_empty() || is_installed(folder)
+    folder.is_empty() || folder.starts_with("node_modules/")
 }
 
 // Whether a package comes packed in another, or is locked by a file of another.

@@ -5,6 +5,9 @@ ghost use Rattle.lock_check.specs.Specifiers.{IsAlias};
 // The ends of the names of packed packages.
 const PACKED: &[&str] = &[".tgz", ".tar.gz", ".tar"];
 
+// Names that no package may have.
+const RESERVED: &[&str] = &["node_modules", "favicon.ico"];
+
 // The schemes of the URLs that npm reads, but for those of packages at other places; behind `git+`
 // those of the second list.
 const SCHEMES: &[&str] = &[
@@ -33,7 +36,8 @@ const HOSTS: &[&str] = &[
 /// What a text in place of a range is to npm.
 #[derive(Clone, Copy)]
 pub enum Specifier<'a> {
-    /// A range, or else a tag: the text, or that behind the name of an alias `npm:NAME@RANGE`.
+    /// A range, or else a tag: the text, or that behind the name of an alias `npm:NAME@RANGE`. The
+    /// empty text is `*`.
     Range(&'a str),
     /// The path of a folder.
     Folder(&'a str),
@@ -61,6 +65,7 @@ impl<'a> Specifier<'a> {
             Some(_) => Specifier::Repository(tagged(text)),
             None if is_repository(text) => Specifier::Repository(tagged(text)),
             None if text.contains('/') || is_packed(text) => at_path(text),
+            None if text.is_empty() => Specifier::Range("*"),
             None => Specifier::Range(text),
         }
     }
@@ -88,24 +93,67 @@ fn is_packed(text: &str) -> bool {
     PACKED.iter().any(|end| text.ends_with(*end))
 }
 
-// What stands behind `npm:`, a name and a range. A name may begin with an at sign of its own.
+// What stands behind `npm:`, a name and a range. A name may begin with an at sign of its own. A text
+// without another one that is no name is a range itself.
 fn alias(target: &str) -> Specifier<'_>
     ensures { IsAlias target.now result }
 {
-    let (name, plain) = match target.strip_prefix('@') {
-        Some(name) => (name, true),
-        None => (target, is_plain(target)),
+    let (text, is_scoped) = match target.strip_prefix('@') {
+        Some(text) => (text, true),
+        None => (target, false),
     };
-    match name.split_once('@') {
-        _ if !plain => Specifier::Unsupported,
-        None | Some((_, "")) => Specifier::Range("*"),
-        Some((_, range)) if is_plain(range) => Specifier::Range(range),
-        Some(_) => Specifier::Unsupported,
+    match text.split_once('@') {
+        Some((name, _)) if !is_aliased(name, is_scoped) => Specifier::Unsupported,
+        Some((_, "")) => Specifier::Range("*"),
+        Some((_, range)) if is_of_registry(range) => Specifier::Range(range),
+        None if is_aliased(text, is_scoped) => Specifier::Range("*"),
+        None if !is_scoped && is_of_registry(text) => Specifier::Range(text),
+        _ => Specifier::Unsupported,
     }
+}
+
+// Whether a text is a name that an alias may have, which is no path. Of a name with a scope it is
+// what stands behind the at sign.
+fn is_aliased(text: &str, is_scoped: bool) -> bool {
+    if is_scoped {
+        is_scope_and_name(text)
+    } else {
+        is_bare_name(text) && !is_packed(text)
+    }
+}
+
+// Whether a text is asked of a registry, and is neither a path nor an address.
+fn is_of_registry(text: &str) -> bool {
+    is_plain(text) && !text.starts_with('.') && !is_packed(text)
 }
 
 fn is_plain(text: &str) -> bool {
     !text.contains('/') && !text.contains(':')
+}
+
+/// Whether npm takes a text for the name of a package, with a scope or without one: each of its
+/// bytes may stand in a URL as it is, and it does not begin as a hidden file does.
+pub fn is_name(text: &str) -> bool {
+    match text.strip_prefix('@') {
+        Some(text) => is_scope_and_name(text),
+        None => is_bare_name(text),
+    }
+}
+
+fn is_scope_and_name(text: &str) -> bool {
+    text.split_once('/')
+        .is_some_and(|(scope, name)| is_part(scope) && is_part(name))
+}
+
+fn is_bare_name(text: &str) -> bool {
+    is_part(text)
+        && !text.starts_with('.')
+        && !text.starts_with('_')
+        && !RESERVED.iter().any(|it| it.eq_ignore_ascii_case(text))
+}
+
+fn is_part(text: &str) -> bool {
+    !text.is_empty() && text.bytes().all(is_tag_byte)
 }
 
 // Whether a URL is that of a file, and of no repository at a host that npm knows.

@@ -33,7 +33,7 @@ impl<'a> Pattern<'a> {
         }
     }
 
-    // Whether a folder that the lock file has fits the pattern.
+    // Whether a folder that the lock file has below the root project fits the pattern.
     fn fits(self, folder: &str) -> bool {
         match self {
             Pattern::Folder(text) => text == folder,
@@ -104,7 +104,7 @@ pub fn add_workspaces<'a>(
             continue;
         }
         for folder in lock.packages.keys() {
-            if !is_installed(folder) && pattern.fits(folder) {
+            if !folder.is_empty() && !is_installed(folder) && pattern.fits(folder) {
                 add_workspace(lock, root, folder, found)?;
             }
         }
