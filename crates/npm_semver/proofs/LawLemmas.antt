@@ -2,7 +2,8 @@
 use Rattle.std.proofs.Common.{◌≡◌, ◌≢◌, ◌∷◌, [], ℕ, Bool, true, false, List, Option, Some, None, Result, Ok, Err, ap, arith, codes, inl, inr, refl, sym, unwrap_or, if◌then◌else◌, ◌∙◌}
 use Rattle.std.proofs.lemmas.List.Sorted.{length_permutation}
 use Rattle.std.specs.List.Sorted.{IsPermutation}
-use Rattle.semver_core.specs.Increments.Least.{IsAbove}
+use Rattle.semver_core.specs.Values.Order.{precedence}
+use Rattle.std.specs.declared.cmp.Ordering.TheVariants.{Less}
 use Rattle.semver_core.specs.Increments.Table.{Fault, answer_of_inc}
 use Rattle.semver_core.specs.Lists.{is_empty}
 use Rattle.semver_core.specs.Values.Versions.{VersionValue}
@@ -52,20 +53,20 @@ success_none q written (versions _ vs can no_level listing) level allowed e =
 success_none q written (increment _ word vs can has are) level allowed e = absurd (grind (arith, level, has))
 
 -- what is written of an answer that is above a version
-one_above : (is_json is_asked : Bool) (v : VersionValue) (answer : Result VersionValue Fault) → ((w : VersionValue) → answer ≡ Ok w → IsAbove v w)
+one_above : (is_json is_asked : Bool) (v : VersionValue) (answer : Result VersionValue Fault) → ((w : VersionValue) → answer ≡ Ok w → (precedence v w ≡ Less))
     → (if is_asked then next_written is_json answer else nothing_written true).is_success ≡ true
-    → (w : VersionValue) × ((if is_asked then next_written is_json answer else nothing_written true).output ≡ next_text is_json w) × IsAbove v w
+    → (w : VersionValue) × ((if is_asked then next_written is_json answer else nothing_written true).output ≡ next_text is_json w) × (precedence v w ≡ Less)
 one_above is_json false v answer above e = absurd (grind (arith, e))
 one_above is_json true v (Err fault) above e = absurd (grind (arith, e))
 one_above is_json true v (Ok w) above e = (w, refl, above w refl)
 
 abbrev Rises : Type 0
 Rises = (v w : VersionValue) (word : List ℕ) (id : Option (List ℕ)) (base : Option IdentifierBase) → unwrap_or id [] ≡ [] → word ≢ codes "pre"
-    → answer_of_inc v word id base ≡ Ok w → IsAbove v w
+    → answer_of_inc v word id base ≡ Ok w → (precedence v w ≡ Less)
 
 written_above : Rises → (q : Asked) (word : List ℕ) (vs : List VersionValue) → word ≢ codes "pre" → unwrap_or q.identifier [] ≡ []
     → AreListed q.reading [] q.versions vs → (increment_written q word vs).is_success ≡ true
-    → (v w : VersionValue) × AreListed q.reading [] q.versions (v ∷ []) × ((increment_written q word vs).output ≡ next_text q.is_json w) × IsAbove v w
+    → (v w : VersionValue) × AreListed q.reading [] q.versions (v ∷ []) × ((increment_written q word vs).output ≡ next_text q.is_json w) × (precedence v w ≡ Less)
 written_above rises q word [] other plain are e = absurd (grind (arith, e))
 written_above rises q word (v ∷ []) other plain are e =
     let (w, out, above) = one_above q.is_json (is_empty q.ranges) v (answer_of_inc v word q.identifier (Some q.base))
@@ -75,7 +76,7 @@ written_above rises q word (v ∷ w ∷ vs) other plain are e = absurd (grind (a
 
 pub next_above : Rises → (q : Asked) (level : List ℕ) (written : Written) → Responds (Some q) written → q.level ≡ Some level → is_level level ≡ true
     → unwrap_or q.identifier [] ≡ [] → written.is_success ≡ true
-    → (v w : VersionValue) × AreListed q.reading [] q.versions (v ∷ []) × (written.output ≡ next_text q.is_json w) × IsAbove v w
+    → (v w : VersionValue) × AreListed q.reading [] q.versions (v ∷ []) × (written.output ≡ next_text q.is_json w) × (precedence v w ≡ Less)
 next_above rises q level written (refused _ is) asked known plain e = absurd (grind (arith, e))
 next_above rises q level written (versions _ vs can no_level listing) asked known plain e = absurd (grind (arith, asked, no_level))
 next_above rises q level written (increment _ word vs can has are) asked known plain e =

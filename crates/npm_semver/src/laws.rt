@@ -1,7 +1,8 @@
 // What follows from what the command writes for a question.
 
 ghost use Rattle.std.specs.Prelude.{◌≡◌, ◌∷◌, ◌++◌, [], ℕ, List, None, Some, false, true, unwrap_or};
-ghost use Rattle.semver_core.specs.Increments.Least.{IsAbove};
+ghost use Rattle.std.specs.declared.cmp.Ordering.TheVariants.{Less};
+ghost use Rattle.semver_core.specs.Values.Order.{precedence};
 ghost use Rattle.semver_core.specs.Values.Versions.{VersionValue};
 ghost use Rattle.npm_semver.specs.Arguments.{Asked, is_level};
 ghost use Rattle.npm_semver.specs.Laws.{EachText, IsAccepted, IsLeftOut};
@@ -36,7 +37,7 @@ pub fn next_versions()
         → q.level ≡ Some level → is_level level ≡ true → unwrap_or q.identifier [] ≡ []
         → written.is_success ≡ true
         → (v w : VersionValue) × AreListed q.reading [] q.versions (v ∷ [])
-        × (written.output ≡ next_text q.is_json w) × IsAbove v w }
+        × (written.output ≡ next_text q.is_json w) × (precedence v w ≡ Less) }
 {
     least_increments();
 }
