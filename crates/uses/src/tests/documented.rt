@@ -39,6 +39,14 @@ fn npm_version(rt: HostRuntime) -> Result<(), Fail> {
 }
 
 #[test]
+fn npm_clean(rt: HostRuntime) -> Result<(), Fail> {
+    assert_eq!(rt; npm::clean(" =v1.2.3 ")?, VersionRef::parse("1.2.3")?);
+    assert!(rt; npm::version(" =v1.2.3 ").is_err());
+    assert!(rt; npm::clean("=1.2.03").is_err());
+    Ok(())
+}
+
+#[test]
 fn npm_version_loose(rt: HostRuntime) -> Result<(), Fail> {
     let beta = npm::version_loose("= v1.02.3beta")?;
     assert_eq!(rt; beta, VersionRef::parse("1.2.3-beta")?);
