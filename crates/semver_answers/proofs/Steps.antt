@@ -2,7 +2,7 @@
 use Rattle.std.proofs.Common.{◌≡◌, ◌==◌, ◌<◌, ◌≤◌, ◌++◌, ◌∷◌, ◌∙◌, ◌⊎◌, ℕ, true, false, List, [], Option, Result}
 use Rattle.std.proofs.Common.{Ok, Err, IfErr, OnErr, OnOk, is_ok, if◌then◌else◌, length, take, drop, refl, sym}
 use Rattle.std.proofs.Common.{ap, arith, append_assoc, append-nil, inl, inr}
-use Rattle.std.proofs.KnownBytes.{Appends-kept, Appends-trans, Consumes-kept, Consumes-trans}
+use Rattle.std.proofs.KnownBytes.{Appends-kept, Appends-nil, Appends-trans, Consumes-kept, Consumes-nil, Consumes-trans}
 use Rattle.std.proofs.Math.Seq.{drop-append_seam, take-append_seam}
 use Rattle.std.proofs.lemmas.Bool.{cases_Bool, cases_lt, eqb-true, false≢true}
 use Rattle.std.proofs.lemmas.Grind.{flat_map-append}
@@ -28,14 +28,14 @@ AllZip-append R (x ∷ xs) ys (v ∷ vs) ws h k = (h.0, AllZip-append R xs ys vs
 AllZip-append R xs ys vs ws h k = absurd h
 
 Answers-one : (line answer : List ℕ) → IsAnswer line answer → Answers (line ∷ []) (ended answer)
-Answers-one line answer h = record { answers = answer ∷ []; each = (h, tt); output_is = sym (append-nil (ended answer)) }
+Answers-one line answer h = (answer ∷ [], (h, tt), sym (append-nil (ended answer)))
 
 pub Answers-append : (xs ys : List (List ℕ)) (a b : List ℕ) → Answers xs a → Answers ys b → Answers (xs ++ ys) (a ++ b)
-Answers-append xs ys a b h k = record {
-  answers = h.answers ++ k.answers;
-  each = AllZip-append IsAnswer xs ys h.answers k.answers h.each k.each;
-  output_is = rw (h.output_is, k.output_is) (sym (flat_map-append ended h.answers k.answers));
-}
+Answers-append xs ys a b h k = (
+  h.0 ++ k.0,
+  AllZip-append IsAnswer xs ys h.0 k.0 h.1 k.1,
+  rw (h.2, k.2) (sym (flat_map-append ended h.0 k.0)),
+)
 
 front_all : (xs : List (List ℕ)) (a : List ℕ) → Answers xs a → AnswersFront xs a
 front_all xs a h = (xs, [], sym (append-nil xs), h)
@@ -46,25 +46,13 @@ front_after xs ys a b h (f, r, e, k) = (xs ++ f, r, rw e (sym (append_assoc xs f
 -- some lines are answered, and the answer to the next is torn
 torn : (front : List (List ℕ)) (line : List ℕ) (rest : List (List ℕ)) (output answer begun left : List ℕ) → Answers front output
     → IsAnswer line answer → ended answer ≡ begun ++ left → AnswersTorn (front ++ line ∷ rest) (output ++ begun)
-torn front line rest output answer begun left answers is_answer e = record {
-  front = front;
-  line = line;
-  rest = rest;
-  divided = refl;
-  output = output;
-  answers = answers;
-  answer = answer;
-  is_answer = is_answer;
-  begun = begun;
-  left = left;
-  torn = e;
-  written_is = refl;
-}
+torn front line rest output answer begun left answers is_answer e =
+    (front, rest, line, output, answer, begun, left, refl, answers, is_answer, e, refl)
 
 torn_after : (xs ys : List (List ℕ)) (a b : List ℕ) → Answers xs a → AnswersTorn ys b → AnswersTorn (xs ++ ys) (a ++ b)
-torn_after xs ys a b h t =
-    rw (t.divided, t.written_is, sym (append_assoc xs t.front (t.line ∷ t.rest)), sym (append_assoc a t.output t.begun))
-    (torn (xs ++ t.front) _ t.rest _ _ _ _ (Answers-append xs t.front a t.output h t.answers) t.is_answer t.torn)
+torn_after xs ys a b h (front, rest, line, output, answer, begun, left, divided, answers, is_answer, e, written_is) =
+    rw (divided, written_is, sym (append_assoc xs front (line ∷ rest)), sym (append_assoc a output begun))
+    (torn (xs ++ front) _ rest _ _ _ _ (Answers-append xs front a output h answers) is_answer e)
 
 -- a front of a text that ends within its first part
 front_of : (part rest written left : List ℕ) → part ++ rest ≡ written ++ left → length written ≤ length part → part ≡ written ++ drop (length written) part
@@ -85,7 +73,7 @@ torn_at : (lines rest answers : List (List ℕ)) (written left : List ℕ) → A
 torn_at [] rest [] written left h e some = absurd (omega (arith, ap length e, length-append written left))
 torn_at (l ∷ ls) rest (a ∷ answers) written left h e some = elim (cases_lt (length written) (length (ended a))) [
   | inl lt ↦
-      let none : Answers [] [] = record { answers = []; each = tt; output_is = refl } in
+      let none : Answers [] [] = ([], tt, refl) in
       torn [] l (ls ++ rest) [] a written _ none h.0 (front_of (ended a) (flat_map ended answers) written left e (omega arith))
   | inr ge ↦
       let parts = parted (ended a) (flat_map ended answers) written left e ge in
@@ -98,7 +86,7 @@ torn_at lines rest answers written left h e some = absurd h
 torn_front : (lines : List (List ℕ)) (out bytes : List ℕ) (u v : Option (List ℕ)) → AnswersFront lines out → bytes ≡ out
     → (w : WritesFront u v bytes) → AnswersTorn lines w.front
 torn_front lines out bytes u v (front, rest, divided, h) same w =
-    rw divided (torn_at front rest h.answers w.front w.left h.each (sym h.output_is ∙ sym same ∙ w.divided) w.some_left)
+    rw divided (torn_at front rest h.0 w.front w.left h.1 (sym h.2 ∙ sym same ∙ w.divided) w.some_left)
 
 -- the answer to a last line
 pub last_answer : (p old new : List ℕ) (n : ℕ) → old ≡ [] → n ≡ length p → (n == 0) ≡ false → GrowsByAnswer (p ++ []) old new
@@ -184,35 +172,41 @@ turned_on Said join a b c u v w p q r bs cs t s = record {
 }
 
 -- a run that read these bytes, of whose lines something is said, and wrote these
-ran : {Said : List (List ℕ) → List ℕ → Type 0} {a c u w : Option (List ℕ)} {q b o : List ℕ} (result : Result ⊤ RunFault)
+ran : {Said : List (List ℕ) → List ℕ → Type 0} {q b o : List ℕ} (a c u w : Option (List ℕ)) (result : Result ⊤ RunFault)
     (s : List ℕ) (t : Told Said [] b q o) → Consumes a c b → Appends u w s → Writes result c t.lines q s → Ran result a c u w
-ran {q} {b} result s t i j k =
+ran {q} {b} a c u w result s t i j k =
     let l = t.has_lines refl in
-    record { read = b; written = s; consumed = i; appended = j; lines = t.lines; rest = q; has_lines = l; writes = k }
+    (b, s, q, t.lines, i, j, l, k)
+
+-- a run that reads and writes nothing
+pub nothing_ran : (a u : Option (List ℕ)) → Ran (Err Memory) a a u u
+nothing_ran a u =
+    let lines : HasLines [] [] [] = record { divided = refl; each = refl; last = refl } in
+    ([], [], [], [], Consumes-nil a, Appends-nil u, lines, ([], [], refl, ([], tt, refl)))
 
 -- a fault after what was read
 pub stopped_ran : (a b c u v w : Option (List ℕ)) (q bytes : List ℕ) → Turned Answers a b u v [] q bytes → (fault : RunFault)
     → Stopped b c v w q fault → Ran (Err fault) a c u w
 stopped_ran a b c u v w q bytes t Read (kept, same) =
-    ran (Err Read) t.written t.told (Consumes-kept a b c _ t.consumed kept) (Appends-kept u v w _ t.appended same) t.told.said
+    ran a c u w (Err Read) t.written t.told (Consumes-kept a b c _ t.consumed kept) (Appends-kept u v w _ t.appended same) t.told.said
 stopped_ran a b c u v w q bytes t Memory (more, rest, s) =
     let all = turned_on AnswersFront front_after a b c u v w [] q rest bytes more t s in
-    ran (Err Memory) all.written all.told all.consumed all.appended all.told.said
+    ran a c u w (Err Memory) all.written all.told all.consumed all.appended all.told.said
 stopped_ran a b c u v w q bytes t Write (more, rest, s) =
     let all = turned_on AnswersTorn torn_after a b c u v w [] q rest bytes more t s in
-    ran (Err Write) all.written all.told all.consumed all.appended (inl all.told.said)
+    ran a c u w (Err Write) all.written all.told all.consumed all.appended (inl all.told.said)
 
 -- the end of the input
 pub finished_ran : (a b u v w : Option (List ℕ)) (q bytes : List ℕ) → Turned Answers a b u v [] q bytes → IsAtEnd b
     → (result : Result ⊤ RunFault) → Finished v w q result → Ran result a b u w
 finished_ran a b u v w q bytes t end (Ok done) (x, k, h) =
-    ran (Ok done) _ t.told t.consumed (Appends-trans u v w _ x t.appended k) (end, Answers-append _ _ _ _ t.told.said h)
+    ran a b u w (Ok done) _ t.told t.consumed (Appends-trans u v w _ x t.appended k) (end, Answers-append _ _ _ _ t.told.said h)
 finished_ran a b u v w q bytes t end (Err Read) h = absurd h
 finished_ran a b u v w q bytes t end (Err Memory) same =
-    ran (Err Memory) t.written t.told t.consumed (Appends-kept u v w _ t.appended same) (front_all _ _ t.told.said)
+    ran a b u w (Err Memory) t.written t.told t.consumed (Appends-kept u v w _ t.appended same) (front_all _ _ t.told.said)
 finished_ran a b u v w q bytes t e (Err Write) (x, k, h) =
     let torn = torn_after t.told.lines (last_line q) t.written x t.told.said h in
-    ran (Err Write) (t.written ++ x) t.told t.consumed (Appends-trans u v w _ x t.appended k) (inr (e, torn))
+    ran a b u w (Err Write) (t.written ++ x) t.told t.consumed (Appends-trans u v w _ x t.appended k) (inr (e, torn))
 
 -- a write that failed in the midst of the answers to what was read
 pub turn_torn : (a b u v : Option (List ℕ)) (p chunk after out bytes : List ℕ) (taken : Result ⊤ AllocError) → Consumes a b chunk

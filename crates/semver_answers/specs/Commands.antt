@@ -29,7 +29,8 @@ use Rattle.semver_answers.specs.declared.question.AboutVersion.TheVariants.{Ver,
 use Rattle.semver_answers.specs.declared.question.AboutVersions.{AboutVersions}
 use Rattle.semver_answers.specs.declared.question.AboutVersions.TheVariants.{Cmp, Diff}
 
--- a question about the texts of fields: about a version, two versions, a range, two ranges, a range and a version, or a
+-- a question about the texts of fields: about a version, two versions, a range, two ranges, a range and a
+-- version, or a
 -- range and some versions, which are the fields of the second text
 pub data Question : Type 0 where
   Version : List ℕ → AboutVersion → Question
@@ -67,8 +68,8 @@ HasBase question = ⊤
 abbrev pub Asks : List (List ℕ) → Question → Type 0
 Asks line question = (line ≡ line_of question) × HasBase question
 
--- the reply about a version, about two, about a range, about two, about a range and a version, about a range and some
--- versions
+-- the reply about a version, about two, about a range, about two, about a range and a version, about a
+-- range and some versions
 abbrev pub version_reply : AboutVersion → VersionValue → List ℕ
 version_reply Ver v = version_text v
 version_reply (Inc word) v = next_text (answer_of_inc v word.now None None)
@@ -81,17 +82,16 @@ versions_reply Diff v w = or_none kind_word (kind_between v w)
 
 abbrev pub RangeReply : AboutRange → List (Span VersionValue) → List ℕ → Type 0
 RangeReply Print r = Says (range_text r)
-RangeReply Least r = SaysFound (λ found. IsLeastOf (λ v. accepts r v false) found × IfSome found (λ v. v.build ≡ least_build r v))
+RangeReply Least r = SaysFound (λ found. IsLeastOf (λ v. accepts r v false) found
+    × IfSome found (λ v. v.build ≡ least_build r v))
 
 abbrev pub RangesReply : AboutRanges → List (Span VersionValue) → List (Span VersionValue) → List ℕ → Type 0
 RangesReply And r s = Says (or_none range_text (intersection r s))
 RangesReply Minus r s = Says (or_none range_text (difference r s))
 RangesReply Beyond r s = SaysFound (λ found. IsLeastOf (beyond r s) found × IfSome found (λ v. v.build ≡ []))
 
-abbrev pub match_reply : AboutMatch → List (Span VersionValue) → VersionValue → Bool
-match_reply Sat r v = accepts r v false
-match_reply Pre r v = accepts r v true
-match_reply (Out side) r v = is_outside side false r v
+abbrev pub matches : AboutMatch → List (Span VersionValue) → VersionValue → Bool
+matches a r v = elim a [ Sat ↦ accepts r v false | Pre ↦ accepts r v true | Out d ↦ is_outside d false r v ]
 
 abbrev pub BestReply : AboutBest → List (Span VersionValue) → List VersionValue → List ℕ → Type 0
 BestReply Max r vs = SaysFound (IsMax (λ v. accepts r v false) vs)
@@ -100,8 +100,8 @@ BestReply Min r vs = SaysFound (IsMin (λ v. accepts r v false) vs)
 -- the answer to each question
 abbrev pub IsReply : Question → List ℕ → Type 0
 IsReply (Version v asked) = On (IsVersionOf v) (λ v. Says (version_reply asked v))
-IsReply (Versions (v, w) asked) = On (IsVersionOf v) (λ v. On (IsVersionOf w) (λ w. Says (versions_reply asked v w)))
+IsReply (Versions (v, w) a) = On (IsVersionOf v) (λ v. On (IsVersionOf w) (λ w. Says (versions_reply a v w)))
 IsReply (Range r asked) = On (IsRangeOf r) (RangeReply asked)
 IsReply (Ranges (r, s) asked) = On (IsRangeOf r) (λ r. On (IsRangeOf s) (RangesReply asked r))
-IsReply (Match (r, v) asked) = On (IsRangeOf r) (λ r. On (IsVersionOf v) (λ v. Says (truth_word (match_reply asked r v))))
+IsReply (Match (r, v) a) = On (IsRangeOf r) (λ r. On (IsVersionOf v) (λ v. Says (truth_word (matches a r v))))
 IsReply (Best (r, vs) asked) = On (IsRangeOf r) (λ r. On (AreVersionsOf (fields vs)) (BestReply asked r))

@@ -12,14 +12,12 @@ use Rattle.semver_answers.specs.declared.fault.Fault.TheVariants.{BadLine, BadVe
 
 -- the name of a base, which is `false`, 0 or 1
 abbrev pub base_word : IdentifierBase → List ℕ
-base_word False = codes "false"
-base_word (Value n) = if n == 0 then codes "0" else codes "1"
+base_word base = elim base [ False ↦ codes "false" | Value n ↦ if n == 0 then codes "0" else codes "1" ]
 
 -- why a line has no other answer
 abbrev pub fault_word : Fault → List ℕ
-fault_word BadLine = codes "bad line"
-fault_word BadVersion = codes "bad version"
-fault_word BadRange = codes "bad range"
+fault_word why =
+    elim why [ BadLine ↦ codes "bad line" | BadVersion ↦ codes "bad version" | BadRange ↦ codes "bad range" ]
 
 -- whether it is so
 abbrev pub truth_word : Bool → List ℕ
@@ -27,14 +25,11 @@ truth_word is_so = if is_so then codes "true" else codes "false"
 
 -- how the first of two versions compares to the second
 abbrev pub order_word : Ordering → List ℕ
-order_word Less = codes "less"
-order_word Equal = codes "equal"
-order_word Greater = codes "greater"
+order_word o = elim o [ Less ↦ codes "less" | Equal ↦ codes "equal" | Greater ↦ codes "greater" ]
 
 -- a value as this text, where there is one
 abbrev pub or_none : {A : Type 0} → (A → List ℕ) → Option A → List ℕ
-or_none text None = codes "none"
-or_none text (Some value) = text value
+or_none text found = elim found [ None ↦ codes "none" | Some value ↦ text value ]
 
 -- the next version, printed, or why there is none
 abbrev pub next_text : Result VersionValue increment.Fault → List ℕ

@@ -1,5 +1,5 @@
--- Statement. What the texts of a question are read as, and what is replied. The texts are read from the left, and the
--- first that is no version, or no range, decides the error.
+-- Statement. What the texts of a question are read as, and what is replied. The texts are read from the
+-- left, and the first that is no version, or no range, decides the error.
 use Rattle.std.specs.Prelude.{◌≡◌, ◌<◌, ℕ, List, [], length, Option, Result, Ok, Err}
 use Rattle.std.specs.List.{AllZip, Any}
 use Rattle.semver_core.specs.Failures.{NoValue}
@@ -26,10 +26,11 @@ IsRangeOf text (Err fault) = Means MAX_SAFE_INTEGER text [] × (fault ≡ BadRan
 -- some texts are read as these versions, each as its own, or one of them as none
 abbrev pub AreVersionsOf : List (List ℕ) → Result (List VersionValue) Fault → Type 0
 AreVersionsOf texts (Ok vs) = AllZip (Parses MAX_SAFE_INTEGER) texts vs
-AreVersionsOf texts (Err fault) = Any (λ text. NoValue (Parses MAX_SAFE_INTEGER text)) texts × (fault ≡ BadVersion)
+AreVersionsOf texts (Err fault) = Any (λ t. NoValue (Parses MAX_SAFE_INTEGER t)) texts × (fault ≡ BadVersion)
 
 -- a reply about what was read, or the word of the error
-pub data On {A : Type 0} (Reads : Result A Fault → Type 0) (Reply : A → List ℕ → Type 0) (answer : List ℕ) : Type 0 where
+pub data On {A : Type 0} (Reads : Result A Fault → Type 0) (Reply : A → List ℕ → Type 0)
+    (answer : List ℕ) : Type 0 where
   read : (value : A) → Reads (Ok value) → Reply value answer → On Reads Reply answer
   fault : (why : Fault) → Reads (Err why) → answer ≡ fault_word why → On Reads Reply answer
 

@@ -8,7 +8,7 @@ ghost use Rattle.std.specs.Prelude.{◌≡◌, ◌∷◌, ℕ, List, IfOk, IfSom
 ghost use Rattle.semver_core.specs.Increments.Table.{answer_of_inc};
 ghost use Rattle.semver_answers.specs.Answers.{IsAnswer};
 ghost use Rattle.semver_answers.specs.Commands.{BestReply, IsReply, Match, RangeReply, RangesReply};
-ghost use Rattle.semver_answers.specs.Commands.{match_reply, version_reply, versions_reply};
+ghost use Rattle.semver_answers.specs.Commands.{matches, version_reply, versions_reply};
 ghost use Rattle.semver_answers.specs.Internal.CommandWords.{command_word};
 ghost use Rattle.semver_answers.specs.Internal.KindWords.{IsTwo, best_word, range_word};
 ghost use Rattle.semver_answers.specs.Internal.KindWords.{match_word, ranges_word, versions_word};
@@ -395,7 +395,7 @@ impl AboutRanges {
 impl AboutMatch {
     #[inline(always)]
     fn reply(self, r: &RangeRef<'_>, v: &VersionRef<'_>) -> bool
-        ensures { result ≡ match_reply self r.now v.now }
+        ensures { result ≡ matches self r.now v.now }
     {
         match self {
             AboutMatch::Sat => r.satisfies(v),
