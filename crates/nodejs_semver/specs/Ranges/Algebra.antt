@@ -16,8 +16,8 @@ list_holds R ss v = list_any (λ s. holds R s v) ss
 abbrev pub intersection : (ss ts : List (Span VersionValue)) → Option (List (Span VersionValue))
 intersection ss ts = if_any (flat_map (λ s. flat_map (λ t. option_to_list (meet precedence s t)) ts) ss)
 
--- what is left of the first list, the spans of the second taken away one after another: the lower and the upper
--- remainder of each; none if nothing is left
+-- what is left of the first list, the spans of the second taken away one after another: the lower and the
+-- upper remainder of each; none if nothing is left
 abbrev pub difference : (ss ts : List (Span VersionValue)) → Option (List (Span VersionValue))
 difference ss ts = if_any (fold (λ left t. flat_map (λ s. option_to_list (remainders precedence s t).0
     ++ option_to_list (remainders precedence s t).1) left) ss ts)
