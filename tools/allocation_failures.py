@@ -20,7 +20,8 @@ NEVER = [
     *(f"VersionRef::parse: nothing from {text}" for text in ["1.2", "1.2-a.1.b"]),
     "VersionRef::pre_release: 3 from 1.2.3-a.1.b+c.2.d", "VersionRef::pre_release: 0 from 1.2.3",
     "VersionRef::diff: Some(Patch) from 1.2.3-a.1.b+c.2.d", "VersionRef::diff: None from 1.2.3",
-    "VersionRef::to_version: 1.2.3 from 1.2.3",
+    "VersionRef::to_version: 1.2.3 from 1.2.3", "VersionRef::to_version: 1.2.3-0 from 1.2.3-0",
+    "Version::from_texts: 1.2.3-0 from 0",
     "scan::identifiers: nothing from 1.2.3-a.1.b+c.2.d", "Version::new: 7.8.9 from 1.2.3",
     "Version::into_parts: VersionParts { major: 1, minor: 2, patch: 3, pre_release: [], build: [] } from 1.2.3",
     "Version::copy: 1.2.3 from 1.2.3", "Version::with_pre: 1.2.3-4 from 4", "Identifier::copy: 2 from 2",
@@ -29,7 +30,7 @@ NEVER = [
     " from increment would overflow a version component",
     "Identifier::copy_list: [] from 1.2.3",
     "Range::parse: nothing from foo", "range_loose: nothing from foo", "range_fast: nothing from foo",
-    "Range::parse: * from ||", "range_fast: nothing from ||",
+    "Range::parse: * from ||", "range_fast: nothing from ||", "Range::parse: >=1.2.3 <2.0.0-0 from ^1.2.3",
     "RangeRef::parse: >=1.2.3-a.1.b <2.0.0-0 from ^1.2.3-a.1.b", "RangeRef::parse: nothing from foo", "RangeRef::parse: * from ||",
     *(f"{call}: {answer} from >=1.2.3-a.1.b <2.0.0-0" for call, answer in [
         ("RangeRef::satisfies", "true"), ("RangeRef::satisfies_with_prerelease", "true"), ("VersionRef::satisfies", "false"),

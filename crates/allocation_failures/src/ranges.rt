@@ -17,7 +17,7 @@ const FIVE: &str = "1.3.0 || 1.5.0 || 2.3.5 || >=5.1.0-c <5.2.0 || >=6.0.0-e";
 
 /// Makes each call on ranges and on intervals.
 pub fn show_all(rt: &impl Print, alloc: Global) -> io::Result<()> {
-    for text in [THREE, FIVE, COMMON, "foo", "||"] {
+    for text in [THREE, FIVE, COMMON, "^1.2.3", "foo", "||"] {
         show(rt, "Range::parse", read(Range::parse(alloc, text)), &text)?;
         readers(rt, alloc, text)?;
     }

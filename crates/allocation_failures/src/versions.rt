@@ -90,10 +90,20 @@ fn borrowed(rt: &impl Print, alloc: Global, text: &str) -> io::Result<()> {
     )
 }
 
+// The calls on texts of identifiers. For the pre-release 0 alone they never fail.
 #[tactic(auto, unfolding(semver_core::specs::Text::Identifiers::is_listed))]
 fn from_texts(rt: &impl Print, alloc: Global) -> io::Result<()> {
     let version = Version::from_texts(alloc, 1, 2, 3, b"a.1.b", b"c.2.d");
-    show(rt, "Version::from_texts", Outcome::from(version), &"texts")
+    show(rt, "Version::from_texts", Outcome::from(version), &"texts")?;
+    let version = Version::from_texts(alloc, 1, 2, 3, b"0", b"");
+    show(rt, "Version::from_texts", Outcome::from(version), &"0")?;
+    let version = VersionRef::from_texts(1, 2, 3, b"0", b"");
+    show(
+        rt,
+        "VersionRef::to_version",
+        Outcome::from(version.to_version(alloc)),
+        &version,
+    )
 }
 
 fn identifiers(rt: &impl Print, alloc: Global, text: &str, at: usize) -> io::Result<()> {

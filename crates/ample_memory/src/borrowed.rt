@@ -2,7 +2,7 @@
 
 use crate::ample::Calls;
 use crate::ranges::OTHERS;
-use nodejs_semver::{RangeRef, VersionRef};
+use nodejs_semver::{RangeRef, VersionRef, npm};
 use std::alloc::{AllocError, Global};
 
 // A few words of `inc`.
@@ -22,6 +22,7 @@ fn about_version(
     version: &VersionRef<'_>,
 ) -> Result<(), AllocError> {
     calls.asked(version.to_version(alloc))?;
+    calls.asked(version.to_string(alloc))?;
     for &word in INCREMENTS {
         calls.tried(version.inc(alloc, word, Some("beta"), None))?;
     }
@@ -30,6 +31,8 @@ fn about_version(
 
 /// Makes each call that may allocate on the range that borrows this text.
 pub fn ask_range(alloc: Global, calls: &mut Calls, text: &str) -> Result<(), AllocError> {
+    calls.tried(npm::range(alloc, text, false))?;
+    calls.tried(npm::range_loose(alloc, text, false))?;
     match calls.answered(RangeRef::parse(alloc, text)) {
         Ok(Some(range)) => about(alloc, calls, &range),
         Ok(None) => Ok(()),
@@ -40,6 +43,7 @@ pub fn ask_range(alloc: Global, calls: &mut Calls, text: &str) -> Result<(), All
 // Makes each call that may allocate on a range.
 fn about<'a>(alloc: Global, calls: &mut Calls, range: &RangeRef<'a>) -> Result<(), AllocError> {
     calls.asked(range.to_range(alloc))?;
+    calls.asked(range.to_string(alloc))?;
     calls.found(range.min_version(alloc))?;
     calls.found(range.min_version_with_prerelease(alloc))?;
     for &other in OTHERS {
@@ -81,5 +85,6 @@ fn pair<'a>(
 ) -> Result<(), AllocError> {
     calls.found(one.intersect(alloc, other))?;
     calls.found(one.difference(alloc, other))?;
+    calls.asked(one.union(alloc, other))?;
     calls.found(one.least_beyond(alloc, other))
 }

@@ -8,7 +8,16 @@ use nodejs_semver::json::{
 use nodejs_semver::{Range, Version};
 use std::alloc::{AllocError, Global};
 
-const WRONG: &[&str] = &["12", "1.5", "[1, {}]", "null", "\"1.2", "{\"a\": \"^1\"} x"];
+const WRONG: &[&str] = &[
+    "12",
+    "1.5",
+    "true",
+    "false",
+    "[1, {}]",
+    "null",
+    "\"1.2",
+    "{\"a\": \"^1\"} x",
+];
 
 // A function that owns a value has no exit while it owns it: each would let go of the value.
 

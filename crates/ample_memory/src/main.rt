@@ -2,9 +2,9 @@
 //! of them reports an allocation failure.
 //!
 //! No contract can say that an allocation was really refused, so that a body which reports a
-//! failure without one is proved. This program is what rejects it: versions of up to 1,000
-//! identifiers, ranges of up to 1,000 intervals, texts of up to 2,000,000 bytes, the least and the
-//! greatest numbers. For each group it prints how many calls it made.
+//! failure without one is proved. This program is what rejects it: versions of 1 to 40 and of 1,000
+//! identifiers, ranges of 1 to 40 and of 1,000 intervals, texts of up to 2,000,000 bytes, the least
+//! and the greatest numbers. For each group it prints how many calls it made.
 #![tactic(auto)]
 
 mod ample;
@@ -23,14 +23,14 @@ use std::{fmt, io};
 // What the values of a group have in common.
 #[derive(Clone, Copy)]
 enum Group {
-    // Versions with so many identifiers.
-    Identifiers(u32),
+    // Versions with so many identifiers, from the one count to the other.
+    Identifiers(u32, u32),
     // Versions of so many bytes.
     LongVersions(u32),
     // Versions of a number.
     Number(u64),
-    // Ranges of so many intervals.
-    Intervals(u32),
+    // Ranges of so many intervals, from the one count to the other.
+    Intervals(u32, u32),
     // Ranges that accept no version.
     Empty,
     // Ranges of so many bytes.
@@ -41,44 +41,57 @@ impl Group {
     // Makes each call about the values of the group.
     fn ask(self, alloc: Global, calls: &mut Calls) -> Result<(), AllocError> {
         match self {
-            Group::Identifiers(count) => versions::ask_many(alloc, calls, count as usize),
+            Group::Identifiers(from, to) => versions::ask_counts(alloc, calls, from, to),
             Group::LongVersions(length) => versions::ask_long(alloc, calls, length as usize),
             Group::Number(number) => numbers::ask(alloc, calls, number),
-            Group::Intervals(count) => ranges::ask_many(alloc, calls, count as usize),
+            Group::Intervals(from, to) => ranges::ask_counts(alloc, calls, from, to),
             Group::Empty => ranges::ask_empty(alloc, calls),
             Group::LongRanges(length) => ranges::ask_long(alloc, calls, length as usize),
         }
     }
 
-    // The words before a size, the size, if it has one, and the words behind it.
-    fn words(&self) -> (&'static str, Option<u64>, &'static str) {
+    // The words of the group before its least size, between its sizes, and behind the greatest.
+    fn words(&self) -> (&'static str, &'static str, &'static str) {
+        match self {
+            Group::Identifiers(_, _) => ("", " to ", " identifiers"),
+            Group::LongVersions(_) => ("versions of ", "", " bytes"),
+            Group::Number(_) => ("the number ", "", ""),
+            Group::Intervals(_, _) => ("", " to ", " intervals"),
+            Group::Empty => ("ranges that accept no version", "", ""),
+            Group::LongRanges(_) => ("ranges of ", "", " bytes"),
+        }
+    }
+
+    // Its least size, and the greatest one, if these are two.
+    fn sizes(&self) -> (Option<u64>, Option<u64>) {
         match *self {
-            Group::Identifiers(count) => ("", Some(u64::from(count)), " identifiers"),
-            Group::LongVersions(length) => ("versions of ", Some(u64::from(length)), " bytes"),
-            Group::Number(number) => ("the number ", Some(number), ""),
-            Group::Intervals(count) => ("", Some(u64::from(count)), " intervals"),
-            Group::Empty => ("ranges that accept no version", None, ""),
-            Group::LongRanges(length) => ("ranges of ", Some(u64::from(length)), " bytes"),
+            Group::Identifiers(from, to) | Group::Intervals(from, to) => {
+                let greatest = if from < to { Some(u64::from(to)) } else { None };
+                (Some(u64::from(from)), greatest)
+            }
+            Group::LongVersions(length) | Group::LongRanges(length) => {
+                (Some(u64::from(length)), None)
+            }
+            Group::Number(number) => (Some(number), None),
+            Group::Empty => (None, None),
         }
     }
 }
 
 impl fmt::Display for Group {
     fn fmt<W: fmt::Write>(&self, f: &mut fmt::Formatter<W>) -> fmt::Result {
-        let (before, size, behind) = self.words();
-        match size {
-            Some(size) => write!(f, "{before}{size}{behind}"),
-            None => f.write_str(before),
+        let (before, between, behind) = self.words();
+        match self.sizes() {
+            (Some(from), Some(to)) => write!(f, "{before}{from}{between}{to}{behind}"),
+            (Some(size), None) => write!(f, "{before}{size}{behind}"),
+            (None, _) => f.write_str(before),
         }
     }
 }
 
 const GROUPS: &[Group] = &[
-    Group::Identifiers(1),
-    Group::Identifiers(2),
-    Group::Identifiers(3),
-    Group::Identifiers(20),
-    Group::Identifiers(1000),
+    Group::Identifiers(1, 40),
+    Group::Identifiers(1000, 1000),
     Group::LongVersions(255),
     Group::LongVersions(256),
     Group::LongVersions(257),
@@ -88,11 +101,8 @@ const GROUPS: &[Group] = &[
     Group::Number(MAX_SAFE_INTEGER),
     Group::Number(MAX_SAFE_INTEGER + 1),
     Group::Number(u64::MAX),
-    Group::Intervals(1),
-    Group::Intervals(2),
-    Group::Intervals(3),
-    Group::Intervals(20),
-    Group::Intervals(1000),
+    Group::Intervals(1, 40),
+    Group::Intervals(1000, 1000),
     Group::Empty,
     Group::LongRanges(255),
     Group::LongRanges(256),

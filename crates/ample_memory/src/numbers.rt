@@ -4,14 +4,19 @@ ghost use Rattle.std.specs.Prelude.{◌<◌};
 
 use crate::ample::Calls;
 use crate::versions::{self, WORDS};
-use nodejs_semver::{Identifier, Version};
+use nodejs_semver::{Identifier, Version, VersionRef};
 use std::alloc::{AllocError, Global};
+
+// Pre-releases and build metadata.
+const LISTS: &[(&str, &str)] = &[("", ""), ("0", ""), ("a", ""), ("", "b"), ("a.7", "b.7")];
 
 /// Makes each call on versions about those of a number.
 pub fn ask(alloc: Global, calls: &mut Calls, number: u64) -> Result<(), AllocError> {
     versions::ask_about(alloc, calls, Version::from((number, number, number)), WORDS)?;
     with_pre(alloc, calls, number)?;
-    from_texts(alloc, calls, number)?;
+    for &(pre_release, build) in LISTS {
+        from_texts(alloc, calls, number, pre_release, build)?;
+    }
     new(alloc, calls, number, false, false)?;
     new(alloc, calls, number, true, false)?;
     new(alloc, calls, number, false, true)?;
@@ -35,9 +40,22 @@ fn with_pre(alloc: Global, calls: &mut Calls, number: u64) -> Result<(), AllocEr
     ask_made(alloc, calls, version)
 }
 
-#[tactic(auto, unfolding(semver_core::specs::Text::Identifiers::is_listed))]
-fn from_texts(alloc: Global, calls: &mut Calls, number: u64) -> Result<(), AllocError> {
-    let version = Version::from_texts(alloc, number, number, number, b"", b"");
+// Makes the version of these numbers and lists, of its own and borrowed, if both are lists.
+fn from_texts(
+    alloc: Global,
+    calls: &mut Calls,
+    number: u64,
+    pre_release: &str,
+    build: &str,
+) -> Result<(), AllocError> {
+    let (pre_release, build) = (pre_release.as_bytes(), build.as_bytes());
+    if !Identifier::is_list(pre_release) || !Identifier::is_list(build) {
+        return Ok(());
+    }
+    let lent = VersionRef::from_texts(number, number, number, pre_release, build);
+    calls.asked(lent.to_string(alloc))?;
+    calls.asked(lent.to_version(alloc))?;
+    let version = Version::from_texts(alloc, number, number, number, pre_release, build);
     ask_made(alloc, calls, version)
 }
 

@@ -2,11 +2,11 @@
 
 use crate::ample::Calls;
 use crate::{borrowed, json, texts};
-use nodejs_semver::Range;
 use nodejs_semver::cuts::{Interval, Point};
-use nodejs_semver::laws::both_readers;
-use nodejs_semver::laws::headline::headline;
+use nodejs_semver::laws::headline::{headline, headline_at};
+use nodejs_semver::laws::{both_readers, headline_of_texts, membership, printed_in_field};
 use nodejs_semver::readers::{is_blank, range_fast, range_loose};
+use nodejs_semver::{Range, Version};
 use std::alloc::{AllocError, Global};
 
 /// The ranges beside which each range is asked.
@@ -24,6 +24,7 @@ const BEGINNINGS: &[(&str, char)] = &[
     ("1 f", 'o'),
     ("^0", '0'),
     ("^1", '1'),
+    ("^9007199254740991 ", ' '),
     ("||1", ' '),
     ("1", '|'),
 ];
@@ -35,8 +36,16 @@ const EMPTY: &[&str] = &[
     "<0.0.0||>1.0.0 <1.0.1-0||>1.0.0-a <1.0.0-a.0",
 ];
 
-/// Makes each call on ranges about ranges of so many intervals, with and without build metadata.
-pub fn ask_many(alloc: Global, calls: &mut Calls, count: usize) -> Result<(), AllocError> {
+/// Makes each call on ranges about ranges of so many intervals.
+pub fn ask_counts(alloc: Global, calls: &mut Calls, from: u32, to: u32) -> Result<(), AllocError> {
+    for count in from..=to {
+        ask_many(alloc, calls, count as usize)?;
+    }
+    Ok(())
+}
+
+// Makes each call about ranges of so many intervals, with and without build metadata.
+fn ask_many(alloc: Global, calls: &mut Calls, count: usize) -> Result<(), AllocError> {
     for &behind in BEHIND {
         ask_found(alloc, calls, texts::range(alloc, count, behind))?;
     }
@@ -74,6 +83,9 @@ fn ask_found(
 // Makes each call on ranges about that of a text.
 fn ask(alloc: Global, calls: &mut Calls, text: &str) -> Result<(), AllocError> {
     calls.tried(headline(alloc, text, "^3 || 5.x"))?;
+    headline_of_version(alloc, calls, text, "1.2.3+b")?;
+    calls.tried(headline_of_texts(alloc, text, "^3 || 5.x", "1.2.3+b"))?;
+    calls.tried(membership(alloc, text, "1.2.3+b"))?;
     calls.found(both_readers(alloc, text))?;
     calls.found(range_fast(alloc, text))?;
     borrowed::ask_range(alloc, calls, text)?;
@@ -87,11 +99,25 @@ fn ask(alloc: Global, calls: &mut Calls, text: &str) -> Result<(), AllocError> {
     }
 }
 
+fn headline_of_version(
+    alloc: Global,
+    calls: &mut Calls,
+    text: &str,
+    version: &str,
+) -> Result<(), AllocError> {
+    match calls.answered(Version::parse(alloc, version)) {
+        Ok(Some(version)) => calls.tried(headline_at(alloc, text, "^3 || 5.x", &version)),
+        Ok(None) => Ok(()),
+        Err(error) => Err(error),
+    }
+}
+
 // Makes each call on a range.
 fn about(alloc: Global, calls: &mut Calls, range: &Range) -> Result<(), AllocError> {
     calls.asked(range.copy(alloc))?;
     calls.found(range.min_version(alloc))?;
     calls.found(range.min_version_with_prerelease(alloc))?;
+    calls.asked(printed_in_field(alloc, range, 101, 1))?;
     json::ask_range(alloc, calls, range)?;
     for &other in OTHERS {
         beside(alloc, calls, range, other)?;
@@ -123,35 +149,24 @@ fn pair(alloc: Global, calls: &mut Calls, one: &Range, other: &Range) -> Result<
     calls.found(one.intersect(alloc, other))?;
     calls.found(one.difference(alloc, other))?;
     calls.found(one.least_beyond(alloc, other))?;
-    least_of_both(alloc, calls, one, other)?;
+    calls.asked(one.union(alloc, other))?;
+    calls.asked(one.is_subset(alloc, other))?;
+    calls.asked(one.is_subset_with_prerelease(alloc, other))?;
+    least_of(alloc, calls, &[one, other])?;
+    least_of(alloc, calls, &[one, other, one])?;
     match (one.intervals().first(), other.intervals().first()) {
         (Some(one), Some(other)) => intervals(alloc, calls, one, other),
         _ => Ok(()),
     }
 }
 
-fn least_of_both(
-    alloc: Global,
-    calls: &mut Calls,
-    one: &Range,
-    other: &Range,
-) -> Result<(), AllocError> {
-    match one.copy(alloc) {
-        Ok(one) => least_of_copies(alloc, calls, one, other),
-        Err(error) => Err(error),
+// The least version of these ranges.
+fn least_of(alloc: Global, calls: &mut Calls, ranges: &[&Range]) -> Result<(), AllocError> {
+    let mut copies = Vec::new(alloc);
+    for range in ranges {
+        copies.push(range.copy(alloc)?)?;
     }
-}
-
-fn least_of_copies(
-    alloc: Global,
-    calls: &mut Calls,
-    one: Range,
-    other: &Range,
-) -> Result<(), AllocError> {
-    match other.copy(alloc) {
-        Ok(other) => calls.found(Range::least_of_all(alloc, &[one, other])),
-        Err(error) => Err(error),
-    }
+    calls.found(Range::least_of_all(alloc, &copies))
 }
 
 // Makes each call on two intervals.

@@ -4,6 +4,7 @@ use crate::ample::Calls;
 use crate::{borrowed, json, texts};
 use nodejs_semver::readers::{version_fast, version_loose};
 use nodejs_semver::{Failure, Identifier, IdentifierBase, IncrementError, Version, VersionParts};
+use semver_core::laws::{identifier_in_field, version_in_field};
 use semver_core::scan;
 use std::alloc::{AllocError, Global};
 
@@ -22,19 +23,37 @@ pub const WORDS: &[&str] = &[
     "fake",
 ];
 
-const IDENTIFIERS: &[&str] = &["", "beta", "a/b", "a.7"];
+// Identifiers of several lengths, one that is a number, and texts that are no identifier.
+const IDENTIFIERS: &[&str] = &[
+    "",
+    "7",
+    "beta",
+    "alpha",
+    "a.7",
+    "a/b",
+    "an-identifier-of-more-than-forty-characters",
+];
 
 const BASES: &[IdentifierBase] = &[
     IdentifierBase::False,
     IdentifierBase::Value(0),
     IdentifierBase::Value(1),
+    IdentifierBase::Value(2),
+    IdentifierBase::Value(u64::MAX),
 ];
 
 // A few of them, for versions of millions of bytes.
 const FEW: &[&str] = &["major", "prerelease", "fake"];
 
-/// Makes each call on versions about one with so many identifiers in each of its lists.
-pub fn ask_many(alloc: Global, calls: &mut Calls, count: usize) -> Result<(), AllocError> {
+/// Makes each call on versions about those with so many identifiers in each of their lists.
+pub fn ask_counts(alloc: Global, calls: &mut Calls, from: u32, to: u32) -> Result<(), AllocError> {
+    for count in from..=to {
+        ask_many(alloc, calls, count as usize)?;
+    }
+    Ok(())
+}
+
+fn ask_many(alloc: Global, calls: &mut Calls, count: usize) -> Result<(), AllocError> {
     ask_found(alloc, calls, texts::version(alloc, count), WORDS)?;
     ask(alloc, calls, "1.2.3", WORDS)?;
     ask(alloc, calls, "1.2", WORDS)
@@ -115,7 +134,9 @@ fn lent(
     }
     for identifier in version.build() {
         calls.asked(identifier.copy(alloc))?;
+        calls.asked(identifier_in_field(alloc, identifier, 101, 1))?;
     }
+    calls.asked(version_in_field(alloc, version, 101, 1))?;
     calls.asked(Identifier::copy_list(alloc, version.pre_release()))?;
     json::ask_version(alloc, calls, version)
 }

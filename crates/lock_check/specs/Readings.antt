@@ -1,5 +1,6 @@
--- Statement: what a range text is, and what stands in a file behind a byte order mark. npm asks node-semver's loose reading of a
--- range text, which has the same answer as the strict one wherever that has one. Of a text that neither reads here `parse` decides.
+-- Statement: what a range text is, and what stands in a file behind a byte order mark. npm asks
+-- node-semver's loose reading of a range text, which has the same answer as the strict one wherever that
+-- has one. Of a text that neither reads here `parse` decides.
 use Rattle.std.specs.Prelude.{◌≡◌, ◌<◌, ℕ, true, false, List, [], ◌++◌, length}
 use Rattle.std.specs.Char.{encode_utf8}
 use Rattle.nodejs_semver.specs.Cuts.{Span}
@@ -11,10 +12,11 @@ use Rattle.nodejs_semver.specs.Versions.{VersionValue}
 -- node-semver reads the text as this range, strictly or else loosely; or neither way
 pub data IsNpmRange (limit : ℕ) (text : List ℕ) (range : List (Span VersionValue)) : Type 0 where
   strict : IsRangeOf limit false text range → IsNpmRange limit text range
-  loose : NoValue (HasAlternatives limit false text) → IsRangeIn true limit false text range → IsNpmRange limit text range
+  loose : NoValue (HasAlternatives limit false text) → IsRangeIn true limit false text range
+      → IsNpmRange limit text range
 
 abbrev pub IsNoNpmRange : ℕ → List ℕ → Type 0
-IsNoNpmRange limit text = NoValue (HasAlternatives limit false text) × NoValue (HasAlternativesIn true limit false text)
+IsNoNpmRange n text = NoValue (HasAlternatives n false text) × NoValue (HasAlternativesIn true n false text)
 
 -- the text is that range, or the one that `parse` reads; or none of them
 pub data IsWanted (limit : ℕ) (text : List ℕ) (range : List (Span VersionValue)) : Type 0 where

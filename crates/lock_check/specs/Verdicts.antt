@@ -13,15 +13,17 @@ use Rattle.lock_check.specs.declared.verdict.Judgement.TheVariants.{NoRange, NoV
 use Rattle.lock_check.specs.declared.verdict.Verdict.{Verdict}
 use Rattle.lock_check.specs.declared.verdict.Verdict.TheVariants.{Accepted, Rejected}
 
--- the range accepts the version; or it does not, and that is the least version that it accepts, None if it accepts none
+-- the range accepts the version; or it does not, and that is the least version that it accepts, None if it
+-- accepts none
 abbrev pub IsVerdict : List (Span VersionValue) → VersionValue → Verdict → Type 0
-IsVerdict range v Accepted = accepts range v false ≡ true
-IsVerdict range v (Rejected least) = (accepts range v false ≡ false) × IsLeastOf (λ w. accepts range w false) least
+IsVerdict r v Accepted = accepts r v false ≡ true
+IsVerdict r v (Rejected least) = (accepts r v false ≡ false) × IsLeastOf (λ w. accepts r w false) least
 
--- the first text is a range and the second one a version, of which that is the verdict; or one of them is none
+-- the first text is a range and the second one a version, of which that is the verdict; or one of them is
+-- none
 abbrev pub IsJudgement : List ℕ → List ℕ → Judgement → Type 0
 IsJudgement wanted locked NoRange = IsNotWanted MAX_SAFE_INTEGER wanted
-IsJudgement wanted locked NoVersion = (range : List (Span VersionValue)) × IsWanted MAX_SAFE_INTEGER wanted range
+IsJudgement wanted locked NoVersion = (r : List (Span VersionValue)) × IsWanted MAX_SAFE_INTEGER wanted r
     × NoValue (IsLooseVersionText MAX_SAFE_INTEGER locked)
-IsJudgement wanted locked (Read verdict) = (range : List (Span VersionValue)) × (v : VersionValue)
-    × IsWanted MAX_SAFE_INTEGER wanted range × IsLooseVersionText MAX_SAFE_INTEGER locked v × IsVerdict range v verdict
+IsJudgement wanted locked (Read told) = (r : List (Span VersionValue)) × (v : VersionValue)
+    × IsWanted MAX_SAFE_INTEGER wanted r × IsLooseVersionText MAX_SAFE_INTEGER locked v × IsVerdict r v told

@@ -1,5 +1,6 @@
 -- Statement: releases of packages that meet every requirement, and why there are none.
-use Rattle.std.specs.Prelude.{◌≡◌, ℕ, ⊤, true, false, List, [], length, take, replicate, Option, None, Some, All, Contains, slice_get}
+use Rattle.std.specs.Prelude.{◌≡◌, ℕ, ⊤, true, false, List, [], length, take, replicate, Option, None, Some}
+use Rattle.std.specs.Prelude.{All, Contains, slice_get}
 use Rattle.std.specs.Prelude.{slice_index_or, slice_set}
 use Rattle.std.specs.Option.{option_map}
 use Rattle.nodejs_semver.specs.Ranges.Gate.{accepts}
@@ -47,10 +48,10 @@ IsBegun packages root f = (p : ℕ) (r : Release) → f p ≡ Some r → Contain
 -- on the way to a plan a package is needed of which no release has a version in the range; or it is needed
 -- twice, and what is taken of it meets the first requirement and not the second
 abbrev pub IsConflict : List Package → List Requirement → Conflict → Type 0
-IsConflict packages root (Unmatched q) = (f : ℕ → Option Release) × IsBegun packages root f
-    × IsNeeded root f q.now × All (λ r. accepts q.now.range r.version false ≡ false) (releases_of packages q.now.package)
-IsConflict packages root (Clash q s) = (f : ℕ → Option Release) × IsBegun packages root f
-    × IsNeeded root f q.now × IsNeeded root f s.now × (q.now.package ≡ s.now.package) × IsMet f q.now × ¬ (IsMet f s.now)
+IsConflict ps root (Unmatched q) = (f : ℕ → Option Release) × IsBegun ps root f × IsNeeded root f q.now
+    × All (λ r. accepts q.now.range r.version false ≡ false) (releases_of ps q.now.package)
+IsConflict ps root (Clash q s) = (f : ℕ → Option Release) × IsBegun ps root f × IsNeeded root f q.now
+    × IsNeeded root f s.now × (q.now.package ≡ s.now.package) × IsMet f q.now × ¬ (IsMet f s.now)
 
 -- there is no plan, and this is a conflict
 abbrev pub IsFailure : List Package → List Requirement → Failure Conflict → Type 0
@@ -62,9 +63,9 @@ abbrev pub release_at : List (Option Pick) → ℕ → Option Release
 release_at picks p = option_map (λ pick. pick.release.now) (slice_index_or picks p None)
 
 -- a place for each package; what is taken is one of its releases, for a needed requirement that it meets
-pub record IsPicked (packages : List Package) (root : List Requirement) (picks : List (Option Pick)) : Type 0 where
-  pub as_many : length picks ≡ length packages
-  pub choice : IsChoice packages (release_at picks)
+pub record IsPicked (ps : List Package) (root : List Requirement) (picks : List (Option Pick)) : Type 0 where
+  pub as_many : length picks ≡ length ps
+  pub choice : IsChoice ps (release_at picks)
   pub needed : (p : ℕ) (k : Pick) → slice_index_or picks p None ≡ Some k → (k.requirement.now.package ≡ p)
       × IsNeeded root (release_at picks) k.requirement.now × IsMet (release_at picks) k.requirement.now
 

@@ -8,8 +8,9 @@ use Rattle.uses.specs.declared.subset.Answer.{Answer}
 use Rattle.uses.specs.declared.subset.Answer.TheVariants.{Subset, Witness}
 use Rattle.std.specs.Prelude.{Some}
 
--- the second accepts what the first accepts; or this is the least version that the first accepts and the second does not
+-- the second accepts what the first accepts; or this is the least version that the first accepts and the
+-- second does not
 abbrev pub IsAnswer : List (Span VersionValue) → List (Span VersionValue) → Answer → Type 0
-IsAnswer first second Subset = (v : VersionValue) → accepts first v false ≡ true → accepts second v false ≡ true
-IsAnswer first second (Witness w) = (accepts first w false ≡ true) × (accepts second w false ≡ false)
-    × IsLeastOf (beyond first second) (Some w)
+IsAnswer r s Subset = (v : VersionValue) → accepts r v false ≡ true → accepts s v false ≡ true
+IsAnswer r s (Witness w) = (accepts r w false ≡ true) × (accepts s w false ≡ false)
+    × IsLeastOf (beyond r s) (Some w)

@@ -197,3 +197,20 @@ fn reread_range_gives_an_equal_range(rt: HostRuntime) -> Result<(), Fail> {
     assert!(rt; is_same(reread_range(rt.alloc(), &range).ok(), &range));
     Ok(())
 }
+
+// The same of a version with both lists, and of a range of three intervals.
+#[test]
+#[tactic(auto, unfolding(semver_core::specs::Text::Identifiers::is_listed))]
+fn reread_gives_a_version_with_identifiers(rt: HostRuntime) -> Result<(), Fail> {
+    let version = Version::from_texts(rt.alloc(), 1, 2, 3, b"a.7", b"b")?;
+    assert!(rt; is_same(reread(rt.alloc(), &version).ok(), &version));
+    Ok(())
+}
+
+#[test]
+fn reread_range_gives_three_intervals(rt: HostRuntime) -> Result<(), Fail> {
+    meaning();
+    let range = Range::parse(rt.alloc(), ">3||2||<1.0.0-a")?;
+    assert!(rt; is_same(reread_range(rt.alloc(), &range).ok(), &range));
+    Ok(())
+}
