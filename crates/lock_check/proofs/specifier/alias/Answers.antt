@@ -21,5 +21,8 @@ returns-in-None-2 c =
       | in-Some w ↦ let scoped = ap (λ p. p.1) w.is_scoped-is in let bare = c.if-not-is_scoped.true in absurd (cc)
       | in-None w ↦ ap (λ p. p.0.now) w.is_scoped-is
     ] in
-    inr (inr (whole, no_sign c.match-strip_prefix.is_scoped.0.now c.args.target.now whole
-    (c.in-None-split_once.ensures.byte (omega arith) (λ w o h. h))))
+    inr (inr (
+      whole,
+      no_sign c.match-strip_prefix.is_scoped.0.now c.args.target.now whole
+          (c.in-None-split_once.ensures.byte (omega arith) (λ w o h. h)),
+    ))
