@@ -93,8 +93,8 @@ fn is_packed(text: &str) -> bool {
     PACKED.iter().any(|end| text.ends_with(*end))
 }
 
-// What stands behind `npm:`, a name and a range. A name may begin with an at sign of its own. A text
-// without another one that is no name is a range itself.
+// What stands behind `npm:`, a name and a range. A name may begin with an at sign of its own. A
+// text without another one that is no name is a range itself.
 fn alias(target: &str) -> Specifier<'_>
     ensures { IsAlias target.now result }
 {

@@ -1,5 +1,6 @@
 -- Statement: what the arguments of the command ask for.
-use Rattle.std.specs.Prelude.{◌≡◌, ◌≢◌, ◌==◌, ◌&&◌, ◌∷◌, ◌++◌, [], not, ℕ, Bool, true, false, List, Option, Some, None, codes, drop, take, unwrap_or, if◌then◌else◌}
+use Rattle.std.specs.Prelude.{◌≡◌, ◌≢◌, ◌==◌, ◌&&◌, ◌∷◌, ◌++◌, [], not, ℕ, Bool, true, false, List, Option}
+use Rattle.std.specs.Prelude.{Some, None, codes, drop, take, unwrap_or, if◌then◌else◌}
 use Rattle.std.specs.Char.{is_ascii_digit}
 use Rattle.std.specs.List.{list_all, list_any}
 use Rattle.std.specs.Str.{bytes_eq}
@@ -12,7 +13,10 @@ use Rattle.npm_semver.specs.declared.question.Pick.{Pick}
 use Rattle.npm_semver.specs.declared.question.Pick.TheVariants as Picks
 use Rattle.npm_semver.specs.declared.question.Word.{Word}
 use Rattle.npm_semver.specs.declared.reading.Reading.{Reading}
-use Rattle.npm_semver.specs.declared.question.Word.TheVariants.{Help, IncludePrerelease, Reverse, Range, Version, Increment, Identifier, Base, Loose, Coerce, FromRight, FromLeft, Greatest, Least, Json, Strict, Why, Input, Unknown, Text}
+use Rattle.npm_semver.specs.declared.question.Word.TheVariants.{Help, IncludePrerelease, Reverse, Range}
+use Rattle.npm_semver.specs.declared.question.Word.TheVariants.{Version, Increment, Identifier, Base, Loose}
+use Rattle.npm_semver.specs.declared.question.Word.TheVariants.{Coerce, FromRight, FromLeft, Greatest, Least}
+use Rattle.npm_semver.specs.declared.question.Word.TheVariants.{Json, Strict, Why, Input, Unknown, Text}
 
 abbrev pub is_one_of : List (List ℕ) → List ℕ → Bool
 is_one_of words text = list_any (bytes_eq text) words

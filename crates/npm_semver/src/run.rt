@@ -1,6 +1,7 @@
 // The program as a function of its arguments.
 
-ghost use Rattle.std.specs.Prelude.{◌≡◌, ◌++◌, ◌∷◌, [], not, is_some, IfOk, OnOk, None, Option, Ok, Some};
+ghost use Rattle.std.specs.Prelude.{◌≡◌, ◌++◌, ◌∷◌, [], not, is_some, IfOk, OnOk, None, Option, Ok};
+ghost use Rattle.std.specs.Prelude.{Some};
 ghost use Rattle.std.specs.Prelude.{map, string_bytes, if◌then◌else◌};
 ghost use Rattle.std.specs.List.{flat_map};
 ghost use Rattle.semver_core.specs.Increments.Table.{answer_of_inc};

@@ -73,7 +73,8 @@ IsVersionText limit = IsWhole (IsStrictVersion limit)
 abbrev pub IsLooseVersionText : ℕ → List ℕ → VersionValue → Type 0
 IsLooseVersionText limit = IsWhole (IsLooseVersion limit)
 
--- node-semver's `clean`: without the whitespace around it, and without the `v` and `=` then at its front, the text is this version
+-- node-semver's `clean`: without the whitespace around it, and without the `v` and `=` then at its front, the
+-- text is this version
 pub record IsClean (limit : ℕ) (text : List ℕ) (v : VersionValue) : Type 0 where
   pub middle : List ℕ
   pub trimmed : IsTrim text middle

@@ -92,7 +92,8 @@ fn intervals<'a>(
 ) -> Result<Intervals<VersionRef<'a>>, Failure<SemverError>>
     ensures ok { IfOk result (λ found.
         AreAllFound include (valid_alternatives loose include (parts text.now)) found.items) }
-    ensures refused { RefusedOnlyIf result (valid_alternatives loose include (parts text.now) ≡ None) }
+    ensures refused { RefusedOnlyIf result
+        (valid_alternatives loose include (parts text.now) ≡ None) }
     ensures memory { MemoryOnlyIf result (1 < length (parts text.now)) }
 {
     let mut found = SmallVec::new(alloc);

@@ -222,8 +222,8 @@ fn least_start<V: VersionPoint>(intervals: &[Interval<V>]) -> Option<&V>
     least
 }
 
-// The search goes through the candidates for the least version that each range of `kept` accepts and
-// no interval of `removed`: `best` is the least so far that is such a version.
+// The search goes through the candidates for the least version that each range of `kept` accepts
+// and no interval of `removed`: `best` is the least so far that is such a version.
 
 // Whether the version is below the best so far, and one of those that are searched for.
 #[inline(always)]

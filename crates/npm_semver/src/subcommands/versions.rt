@@ -177,9 +177,9 @@ fn kind<'a>(alloc: Global, kind: Option<VersionDiff>) -> Result<Reply<'a>, Alloc
 
 const NEXT: &str = "next LEVEL VERSION [--preid IDENTIFIER]";
 
-/// `next LEVEL VERSION [--preid IDENTIFIER]` prints the next version. If there is none, or none that
-/// is above the given one, the answer is no, and says why. Returns `Refused` exactly if the words
-/// are none of these; a level or an identifier that is none is malformed too.
+/// `next LEVEL VERSION [--preid IDENTIFIER]` prints the next version. If there is none, or none
+/// that is above the given one, the answer is no, and says why. Returns `Refused` exactly if the
+/// words are none of these; a level or an identifier that is none is malformed too.
 pub fn next<'a>(alloc: Global, words: &'a [String]) -> Result<Reply<'a>, Failure<Trouble<'a>>>
     ensures ok { IfOk result (λ reply.
         Answers (codes "next" ∷ map string_bytes words.now) (said reply)) }
