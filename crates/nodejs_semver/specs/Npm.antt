@@ -8,3 +8,4 @@ pub mod VersionText
 pub mod RangeText
 pub mod Table
 pub mod Ranges
+pub mod Flaws

@@ -1,0 +1,4 @@
+pub mod Steps
+pub mod Read
+pub mod Written
+pub mod Stops

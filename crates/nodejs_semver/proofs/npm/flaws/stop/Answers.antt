@@ -1,0 +1,24 @@
+use Rattle.std.proofs.Common.{◌≡◌, ◌∙◌, rules, sym}
+use Rattle.nodejs_semver.proofs.Stopping.Stops.{passed_end, passed_more, passed_none, passed_whole}
+use Rattle.nodejs_semver.proofs.npm.flaws.stop.Goals as goal
+
+pub letters-init : goal.letters-init
+letters-init c =
+    let all : c.into_iter-letter-iterator.result.rest.now ≡ c.args.text.now = search rules in
+    passed_none c.args.text.now c.into_iter-letter-iterator.result.rest.now all
+
+pub letters-preserved : goal.letters-preserved
+letters-preserved c =
+    passed_more c.args.text.now c.letters.at c.letters.state c.in-Some-next.read c.letters.letter-iterator.rest.now c.letters.yielded
+    c.next.new.self.rest.now c.in-Some.letter c.len_utf8-at.result c.letters.invariant c.in-Some.ensures.steps.0
+    c.len_utf8-at.ensures.value (sym c.in-Some-next.ensures)
+
+pub returns-then-is_whole : goal.returns-then-is_whole
+returns-then-is_whole c =
+    passed_whole c.args.text.now c.letters.at c.letters.state c.letters.letter-iterator.rest.now c.letters.yielded
+    c.letters.invariant c.in-None.ensures.steps.0.0 (sym c.is_whole.ensures ∙ c.if-is_whole.true)
+
+pub returns-else-is_whole : goal.returns-else-is_whole
+returns-else-is_whole c =
+    passed_end c.args.text.now c.letters.at c.letters.state c.letters.letter-iterator.rest.now c.letters.yielded
+    c.letters.invariant c.in-None.ensures.steps.0.0 (sym c.is_whole.ensures ∙ c.if-is_whole.false)
