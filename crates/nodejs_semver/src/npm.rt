@@ -26,7 +26,7 @@ mod words;
 
 pub use crate::npm::builds::cmp_build;
 pub use crate::npm::coerced::{coerce, coerce_loose, coerce_rtl, coerce_rtl_loose};
-pub use crate::npm::flaws::{Flaw, version_flaw};
+pub use crate::npm::flaws::{Flaw, Wrong, version_flaw};
 pub use crate::npm::loose_versions::version_loose;
 pub use crate::npm::ranges::{range, range_loose};
 pub use crate::npm::sides::{gtr, ltr};

@@ -7,64 +7,21 @@ use Rattle.std.proofs.lemmas.Option.{same_Some}
 use Rattle.std.proofs.lemmas.Str.{cons_from_encodes, encodes-append, encodes_same, length-encode}
 use Rattle.semver_core.specs.Values.Versions.{VersionValue}
 use Rattle.semver_core.specs.declared.TheConstants.{MAX_LENGTH, MAX_SAFE_INTEGER}
-use Rattle.nodejs_semver.specs.Internal.NpmStates.{is_whole, next, run}
-use Rattle.nodejs_semver.specs.Npm.Flaws.{IsFlaw, IsFront, IsSpelled, IsStop}
+use Rattle.nodejs_semver.specs.Internal.NpmStates.{is_whole, next, run, wrong_at}
+use Rattle.nodejs_semver.specs.Npm.Flaws.{GoesOn, IsFlaw, IsFront, IsSpelled, IsStop, IsWrong, wrong_of}
 use Rattle.nodejs_semver.specs.Npm.VersionText.{IsVersionText}
 use Rattle.nodejs_semver.specs.declared.npm.flaws.Flaw.{Flaw}
 use Rattle.nodejs_semver.specs.declared.npm.flaws.Flaw.TheVariants.{At, TooLong}
 use Rattle.nodejs_semver.specs.declared.npm.flaws.State.{State}
 use Rattle.nodejs_semver.specs.declared.npm.flaws.State.TheVariants.{Start, Digit, Number, Dash, Zero, Padded, PreRelease, Plus, Build, End}
+use Rattle.nodejs_semver.specs.declared.npm.flaws.Wrong.{Wrong}
 use Rattle.nodejs_semver.proofs.Stopping.Steps.{run-nil, run-none, run-step, run-then}
 use Rattle.nodejs_semver.proofs.Stopping.Read.{Whole, spelled-read}
 use Rattle.nodejs_semver.proofs.Stopping.Written.{read-spelled}
+use Rattle.nodejs_semver.proofs.Stopping.Fronts.{front-stops, read-front}
+use Rattle.nodejs_semver.proofs.Stopping.Wrongs.{ended-wrong, goes_on, stopped-wrong, one_wrong}
 
--- ---- what is read goes on to a version
-
-finished : (limit : ℕ) (s : State) → is_whole s ≡ true → (more : List ℕ) × Whole limit s more
-finished limit s w = ([], (s, run-nil limit s, w))
-
-stepped : (limit : ℕ) (s t : State) (c : ℕ) → next limit s c ≡ Some t → (more : List ℕ) × Whole limit t more
-    → (more : List ℕ) × Whole limit s more
-stepped limit s t c h f = (c ∷ f.0, (f.1.0, run-step limit s t c f.0 h ∙ f.1.1, f.1.2))
-
-finish-numbers : (limit left : ℕ) → ((n : ℕ) → (more : List ℕ) × Whole limit (Number left n) more)
-    × ((more : List ℕ) × Whole limit (Digit left) more)
-unfolding next
-finish-numbers limit zero = (
-  λ n. finished limit (Number 0 n) refl,
-  stepped limit (Digit 0) (Number 0 0) 48 refl (finished limit (Number 0 0) refl),
-)
-finish-numbers limit (suc k) =
-    let later = (finish-numbers limit k).1 in (
-      λ n. stepped limit (Number (suc k) n) (Digit k) 46 refl later,
-      stepped limit (Digit (suc k)) (Number (suc k) 0) 48 refl
-          (stepped limit (Number (suc k) 0) (Digit k) 46 refl later),
-    )
-
-finish : (limit : ℕ) (s : State) → (more : List ℕ) × Whole limit s more
-unfolding next
-finish limit Start = stepped limit Start (Number 2 0) 48 refl ((finish-numbers limit 2).0 0)
-finish limit (Digit left) = (finish-numbers limit left).1
-finish limit (Number left n) = (finish-numbers limit left).0 n
-finish limit Dash = stepped limit Dash PreRelease 97 refl (finished limit PreRelease refl)
-finish limit Zero = finished limit Zero refl
-finish limit Padded = stepped limit Padded PreRelease 97 refl (finished limit PreRelease refl)
-finish limit PreRelease = finished limit PreRelease refl
-finish limit Plus = stepped limit Plus Build 97 refl (finished limit Build refl)
-finish limit Build = finished limit Build refl
-finish limit End = finished limit End refl
-
-read-front : (limit : ℕ) (before : List ℕ) (s : State) → 9 ≤ limit → run limit Start before ≡ Some s → IsFront limit before
-read-front limit before s nine h =
-    let f = finish limit s in
-    (f.0, read-spelled limit (before ++ f.0) nine (f.1.0, run-then limit Start s before f.0 h ∙ f.1.1, f.1.2))
-
--- ---- and what is not read does not
-
-front-stops : (limit : ℕ) (before : List ℕ) (s : State) (c : ℕ) (rest : List ℕ) → run limit Start before ≡ Some s
-    → next limit s c ≡ None → Whole limit Start (before ++ c ∷ rest) → ⊥
-front-stops limit before s c rest h none w =
-    cc (sym (run-then limit Start s before (c ∷ rest) h ∙ run-none limit s c rest none) ∙ w.1)
+-- ---- where a text stops
 
 stop-next : (limit : ℕ) (text before : List ℕ) (s : State) (c : ℕ) (rest : List ℕ) → 9 ≤ limit
     → text ≡ encode_utf8_all (before ++ c ∷ rest) → run limit Start before ≡ Some s → next limit s c ≡ None
@@ -101,6 +58,21 @@ stop-end limit text before s nine e h none = record {
       let r = spelled-read limit before (subst (λ (t : List ℕ). IsSpelled limit t) e w) in
       cc (same_Some _ _ (sym h ∙ r.1), r.2, none);
 }
+
+-- what is wrong where a text stops
+wrong-next : (limit : ℕ) (text before : List ℕ) (s : State) (c : ℕ) (rest : List ℕ) → 9 ≤ limit
+    → text ≡ encode_utf8_all (before ++ c ∷ rest) → run limit Start before ≡ Some s → next limit s c ≡ None
+    → IsWrong limit text (wrong_at s (Some c)) (length (encode_utf8_all before))
+unfolding stop-next
+wrong-next limit text before s c rest nine e h none =
+    (stop-next limit text before s c rest nine e h none, goes_on limit before s nine h, stopped-wrong limit before s c rest nine h none)
+
+wrong-end : (limit : ℕ) (text before : List ℕ) (s : State) → 9 ≤ limit → text ≡ encode_utf8_all before
+    → run limit Start before ≡ Some s → is_whole s ≡ false
+    → IsWrong limit text (wrong_at s None) (length (encode_utf8_all before))
+unfolding stop-end
+wrong-end limit text before s nine e h none =
+    (stop-end limit text before s nine e h none, goes_on limit before s nine h, ended-wrong limit before s nine h none)
 
 -- ---- the loop
 
@@ -150,27 +122,26 @@ passed_room text at s rest passed next-rest c n p e size =
       length-append (encode_utf8 c) next-rest,
     )
 
-pub passed_stop : (text : List ℕ) (at : ℕ) (s : State) (rest passed next-rest : List ℕ) (c : ℕ) → IsUtf8 text
+pub passed_stop : (text : List ℕ) (at : ℕ) (s : State) (rest passed next-rest : List ℕ) (c : ℕ) (w : Wrong) → IsUtf8 text
     → Passed text at s rest passed → rest ≡ encode_utf8 c ++ next-rest → next MAX_SAFE_INTEGER s c ≡ None
-    → IsStop MAX_SAFE_INTEGER text at
-passed_stop text at s rest passed next-rest c u p e none =
+    → w ≡ wrong_at s (Some c) → IsWrong MAX_SAFE_INTEGER text w at
+passed_stop text at s rest passed next-rest c w u p e none is =
     let b = behind passed u.0 rest (u.1.1 ∙ p.divided) in
     let d = cons_from_encodes b.0 next-rest c (b.2 ∙ e) in
     let whole : text ≡ encode_utf8_all (passed ++ c ∷ d.0) =
     sym u.1.1 ∙ ap encode_utf8_all (b.1 ∙ ap (λ (x : List ℕ). passed ++ x) d.1) in
-    subst (λ (n : ℕ). IsStop MAX_SAFE_INTEGER text n) (sym p.place)
-    (stop-next MAX_SAFE_INTEGER text passed s c d.0 (omega arith) whole p.reads none)
+    rw (is, p.place) (wrong-next MAX_SAFE_INTEGER text passed s c d.0 (omega arith) whole p.reads none)
 
 at-end : (text : List ℕ) (at : ℕ) (s : State) (rest passed : List ℕ) → Passed text at s rest passed → length rest ≡ 0
     → text ≡ encode_utf8_all passed
 at-end text at s [] passed p h = p.divided ∙ append-nil (encode_utf8_all passed)
 at-end text at s (c ∷ rest) passed p h = absurd (omega (arith, h))
 
-pub passed_end : (text : List ℕ) (at : ℕ) (s : State) (rest passed : List ℕ) → Passed text at s rest passed
-    → length rest ≡ 0 → is_whole s ≡ false → IsStop MAX_SAFE_INTEGER text at
-passed_end text at s rest passed p h none =
-    subst (λ (n : ℕ). IsStop MAX_SAFE_INTEGER text n) (sym p.place)
-    (stop-end MAX_SAFE_INTEGER text passed s (omega arith) (at-end text at s rest passed p h) p.reads none)
+pub passed_end : (text : List ℕ) (at : ℕ) (s : State) (rest passed : List ℕ) (w : Wrong) → Passed text at s rest passed
+    → length rest ≡ 0 → is_whole s ≡ false → w ≡ wrong_at s None → IsWrong MAX_SAFE_INTEGER text w at
+passed_end text at s rest passed w p h none is =
+    rw (is, p.place)
+    (wrong-end MAX_SAFE_INTEGER text passed s (omega arith) (at-end text at s rest passed p h) p.reads none)
 
 pub passed_whole : (text : List ℕ) (at : ℕ) (s : State) (rest passed : List ℕ) → Passed text at s rest passed
     → length rest ≡ 0 → is_whole s ≡ true → IsSpelled MAX_SAFE_INTEGER text
@@ -183,21 +154,21 @@ pub ruleset stops = (passed_none, passed_more, passed_room, passed_stop, passed_
 -- ---- a text has one flaw
 
 -- two divisions of one text: they are the same, or one goes on where the other ends
-divisions : (xs us ys vs : List ℕ) → xs ++ us ≡ ys ++ vs → (xs ≡ ys)
+divisions : (xs us ys vs : List ℕ) → xs ++ us ≡ ys ++ vs → ((xs ≡ ys) × (us ≡ vs))
     ⊎ (((c : ℕ) × (r : List ℕ) × (ys ≡ xs ++ c ∷ r) × (us ≡ c ∷ (r ++ vs)))
     ⊎ ((c : ℕ) × (r : List ℕ) × (xs ≡ ys ++ c ∷ r) × (vs ≡ c ∷ (r ++ us))))
-divisions [] us [] vs e = inl refl
+divisions [] us [] vs e = inl (refl, e)
 divisions [] us (c ∷ ys) vs e = inr (inl (c, ys, refl, e))
 divisions (c ∷ xs) us [] vs e = inr (inr (c, xs, refl, sym e))
 divisions (c ∷ xs) us (d ∷ ys) vs e =
     let first : c ≡ d = cc e in
     elim (divisions xs us ys vs (cc e)) [
-      | inl same ↦ inl (cc (first, same))
+      | inl same ↦ inl (cc (first, same.0), same.1)
       | inr (inl m) ↦ inr (inl (m.0, m.1, cc (first, m.2), m.3))
       | inr (inr m) ↦ inr (inr (m.0, m.1, cc (first, m.2), m.3))
     ]
 
--- a stop is no front's part
+-- no front goes further than a stop
 not-behind : (limit : ℕ) (text : List ℕ) (a c : ℕ) (r front vs : List ℕ) → (x : IsStop limit text a) → front ≡ x.before ++ c ∷ r
     → x.behind ≡ c ∷ (r ++ vs) → IsFront limit front → ⊥
 not-behind limit text a c r front vs x e k f =
@@ -207,20 +178,35 @@ not-behind limit text a c r front vs x e k f =
           (ap (λ (t : List ℕ). t ++ f.0) e ∙ simp append_assoc) f.1,
     )
 
-pub one_stop : (limit : ℕ) (text : List ℕ) (a b : ℕ) → IsStop limit text a → IsStop limit text b → a ≡ b
-one_stop limit text a b x y =
+same-stop : (limit : ℕ) (text : List ℕ) (a b : ℕ) (x : IsStop limit text a) (y : IsStop limit text b)
+    → (x.before ≡ y.before) × (x.behind ≡ y.behind)
+same-stop limit text a b x y =
     elim (divisions x.before x.behind y.before y.behind
     (encodes_same (x.before ++ x.behind) (y.before ++ y.behind) (sym x.divided ∙ y.divided))) [
-      | inl same ↦ x.place ∙ (ap (λ (t : List ℕ). length (encode_utf8_all t)) same ∙ sym y.place)
+      | inl same ↦ same
       | inr (inl m) ↦ absurd (not-behind limit text a m.0 m.1 y.before y.behind x m.2 m.3 y.right)
       | inr (inr m) ↦ absurd (not-behind limit text b m.0 m.1 x.before x.behind y m.2 m.3 x.right)
     ]
 
+same-wrong : (limit : ℕ) (before before' behind behind' : List ℕ) → before ≡ before' → behind ≡ behind'
+    → (x : GoesOn limit before) (y : GoesOn limit before')
+    → wrong_of x.may x.great before behind ≡ wrong_of y.may y.great before' behind'
+same-wrong limit before before' behind behind' e k x y =
+    one_wrong limit before behind x (subst (λ (t : List ℕ). GoesOn limit t) (sym e) y)
+    ∙ (ap (λ (t : List ℕ). wrong_of y.may y.great t behind) e ∙ ap (λ (t : List ℕ). wrong_of y.may y.great before' t) k)
+
 pub one_flaw : (limit : ℕ) (text : List ℕ) (f g : Flaw) → IsFlaw limit text f → IsFlaw limit text g → f ≡ g
 one_flaw limit text TooLong TooLong x y = refl
-one_flaw limit text TooLong (At b) x y = absurd (omega (arith, x, y.0))
-one_flaw limit text (At a) TooLong x y = absurd (omega (arith, y, x.0))
-one_flaw limit text (At a) (At b) x y = ap (λ (n : ℕ). At n) (one_stop limit text a b x.1 y.1)
+one_flaw limit text TooLong (At v b) x y = absurd (omega (arith, x, y.0))
+one_flaw limit text (At w a) TooLong x y = absurd (omega (arith, y, x.0))
+one_flaw limit text (At w a) (At v b) x y =
+    let s = x.1.0 in
+    let t = y.1.0 in
+    let same = same-stop limit text a b s t in
+    let place : a ≡ b = s.place ∙ (ap (λ (c : List ℕ). length (encode_utf8_all c)) same.0 ∙ sym t.place) in
+    let wrong : w ≡ v =
+    x.1.2 ∙ (same-wrong limit s.before t.before s.behind t.behind same.0 same.1 x.1.1 y.1.1 ∙ sym y.1.2) in
+    cc (place, wrong)
 
 spelled : (limit : ℕ) (text : List ℕ) (v : VersionValue) → IsVersionText limit text v → IsSpelled limit text
 spelled limit text v h = record { version = v; middle = h.middle; trimmed = h.trimmed; is = h.is }
@@ -228,7 +214,7 @@ spelled limit text v h = record { version = v; middle = h.middle; trimmed = h.tr
 -- a version has none
 pub no_flaw : (limit : ℕ) (text : List ℕ) (f : Flaw) (v : VersionValue) → IsVersionText limit text v → IsFlaw limit text f → ⊥
 no_flaw limit text TooLong v h x = omega (arith, x, h.short)
-no_flaw limit text (At a) v h x = x.1.none (spelled limit text v h)
+no_flaw limit text (At w a) v h x = x.1.0.none (spelled limit text v h)
 
 pub flaw_none : (limit : ℕ) (text : List ℕ) (f : Flaw) → IsFlaw limit text f
     → (Some f ≡ None) ↔ ((v : VersionValue) × IsVersionText limit text v)

@@ -4,6 +4,9 @@ use Rattle.std.specs.Prelude.{Option, Some, None, if◌then◌else◌}
 use Rattle.std.specs.Char.{digit_value, is_ascii_digit}
 use Rattle.semver_core.specs.Internal.Reading.{◌>>?◌}
 use Rattle.semver_core.specs.Text.Characters.{is_identifier_char, is_whitespace}
+use Rattle.nodejs_semver.specs.Npm.Flaws.{is_any_mark, is_letter}
+use Rattle.nodejs_semver.specs.declared.npm.flaws.Wrong.{Wrong}
+use Rattle.nodejs_semver.specs.declared.npm.flaws.Wrong.TheVariants as Wrong
 use Rattle.nodejs_semver.specs.declared.npm.flaws.State.{State}
 use Rattle.nodejs_semver.specs.declared.npm.flaws.State.TheVariants.{Start, Digit, Number, Dash, Zero, Padded, PreRelease, Plus, Build, End}
 
@@ -68,3 +71,27 @@ is_whole PreRelease = true
 is_whole Build = true
 is_whole End = true
 is_whole s = false
+
+-- what is wrong where what is read goes no further, by the next character
+abbrev pub passes : (ℕ → Bool) → Option ℕ → Bool
+passes test None = false
+passes test (Some c) = test c
+
+abbrev pub wrong_number : ℕ → ℕ → Option ℕ → Wrong
+wrong_number zero n o =
+    if passes is_ascii_digit o then (if n == 0 then Wrong.LeadingZero else Wrong.NumberTooGreat)
+    else if passes is_letter o then Wrong.MissingHyphen else Wrong.Behind
+wrong_number (suc k) n o =
+    if passes is_ascii_digit o then (if n == 0 then Wrong.LeadingZero else Wrong.NumberTooGreat) else Wrong.Dot
+
+abbrev pub wrong_start : Option ℕ → Wrong
+wrong_start o = if passes is_any_mark o then Wrong.Mark else Wrong.Digit
+
+unfoldable pub wrong_at : State → Option ℕ → Wrong
+wrong_at Start o = wrong_start o
+wrong_at (Digit left) o = wrong_start o
+wrong_at (Number left n) o = wrong_number left n o
+wrong_at Dash o = Wrong.Identifier
+wrong_at Plus o = Wrong.Identifier
+wrong_at Padded o = Wrong.LeadingZero
+wrong_at s o = Wrong.Behind

@@ -3,7 +3,7 @@
 ghost use Rattle.std.specs.Char.{digit_value, is_ascii_digit};
 ghost use Rattle.std.specs.Prelude.{◌≡◌, ◌↔◌, ◌≤◌, IfSome, MatchOption, None, Some, true};
 ghost use Rattle.nodejs_semver.specs.Internal.NpmStates as Spec;
-ghost use Rattle.nodejs_semver.specs.Npm.Flaws.{IsFlaw, IsSpelled, IsStop};
+ghost use Rattle.nodejs_semver.specs.Npm.Flaws.{IsFlaw, IsSpelled, IsWrong};
 ghost use Rattle.nodejs_semver.specs.Npm.VersionText.{IsVersionText};
 ghost use Rattle.semver_core.specs.Text.Characters.{is_identifier_char, is_whitespace};
 ghost use Rattle.semver_core.specs.Values.Versions.{VersionValue};
@@ -20,7 +20,29 @@ pub enum Flaw {
     TooLong,
     /// The bytes before this place begin a version text. With the character that stands there they
     /// do not; or the text ends there and is no version.
-    At { at: usize },
+    At { wrong: Wrong, at: usize },
+}
+
+/// What is wrong at the place where a text stops being a version text.
+#[derive(Clone, Copy, PartialEq, Eq, Debug)]
+pub enum Wrong {
+    /// A `=`, a `V` or a further `v` stands where a number begins.
+    Mark,
+    /// A digit goes on with the number `0`. Or an identifier of the pre-release ends that is digits
+    /// with a leading zero.
+    LeadingZero,
+    /// A digit makes a number greater than `MAX_SAFE_INTEGER`.
+    NumberTooGreat,
+    /// A letter stands behind the numbers, where the pre-release begins with a `-`.
+    MissingHyphen,
+    /// A number begins at this place, with a digit.
+    Digit,
+    /// A number ends at this place, and another one follows behind a dot.
+    Dot,
+    /// An identifier begins at this place, with a letter, a digit or `-`.
+    Identifier,
+    /// What stands before this place is a version, and this is behind it.
+    Behind,
 }
 
 /// What was read of a version text, which is the front of one.
@@ -190,22 +212,58 @@ fn is_whole(state: State) -> bool
     }
 }
 
-// The place where a text stops being a version text.
+// What is wrong behind a digit of a number.
+fn wrong_number(left: u8, value: u64, next: Option<char>) -> Wrong
+    ensures { result ≡ Spec.wrong_number left value next }
+{
+    match next {
+        Some(letter) if letter.is_ascii_digit() => match value {
+            0 => Wrong::LeadingZero,
+            _ => Wrong::NumberTooGreat,
+        },
+        _ if left > 0 => Wrong::Dot,
+        Some(letter) if letter.is_ascii_alphabetic() => Wrong::MissingHyphen,
+        _ => Wrong::Behind,
+    }
+}
+
+// What is wrong where what is read does not go on with the next character, or with the end.
+#[tactic(auto, unfolding(crate::specs::Internal::NpmStates::wrong_at))]
+fn wrong_at(state: State, next: Option<char>) -> Wrong
+    ensures { result ≡ Spec.wrong_at state next }
+{
+    match state {
+        State::Start | State::Digit { .. } => match next {
+            Some('v' | 'V' | '=') => Wrong::Mark,
+            _ => Wrong::Digit,
+        },
+        State::Number { left, value } => wrong_number(left, value, next),
+        State::Dash | State::Plus => Wrong::Identifier,
+        State::Padded => Wrong::LeadingZero,
+        State::Zero | State::PreRelease | State::Build | State::End => Wrong::Behind,
+    }
+}
+
+// What is wrong where a text stops being a version text, and that place.
 #[tactic(auto, using(crate::proofs::Stopping::Stops::stops))]
-fn stop(text: &str) -> Option<usize>
+fn stop(text: &str) -> Option<(Wrong, usize)>
     ensures { MatchOption result (IsSpelled MAX_SAFE_INTEGER text.now)
-        (λ at. IsStop MAX_SAFE_INTEGER text.now at) }
+        (λ stop. IsWrong MAX_SAFE_INTEGER text.now stop.0 stop.1) }
 {
     let mut state = State::Start;
     let mut at = 0;
     'letters: for letter in text.chars() {
         let Some(read) = next(state, letter) else {
-            return Some(at);
+            return Some((wrong_at(state, Some(letter)), at));
         };
         state = read;
         at += letter.len_utf8();
     }
-    if is_whole(state) { None } else { Some(at) }
+    if is_whole(state) {
+        None
+    } else {
+        Some((wrong_at(state, None), at))
+    }
 }
 
 /// Returns what is wrong with a version text of node-semver's strict reading, or `None` if it is
@@ -213,8 +271,10 @@ fn stop(text: &str) -> Option<usize>
 ///
 /// ```rust
 /// assert_eq!(rt; npm::version_flaw(" v1.2.3-rc.1 "), None);
-/// assert_eq!(rt; npm::version_flaw("1.02.3"), Some(Flaw::At { at: 3 }));
-/// assert_eq!(rt; npm::version_flaw("1.2.3beta"), Some(Flaw::At { at: 5 }));
+/// let wrong = Wrong::LeadingZero;
+/// assert_eq!(rt; npm::version_flaw("1.02.3"), Some(Flaw::At { wrong, at: 3 }));
+/// let wrong = Wrong::MissingHyphen;
+/// assert_eq!(rt; npm::version_flaw("1.2.3beta"), Some(Flaw::At { wrong, at: 5 }));
 /// ```
 #[tactic(auto, using(crate::proofs::Stopping::Stops::flaws))]
 pub fn version_flaw(text: &str) -> Option<Flaw>
@@ -230,7 +290,7 @@ pub fn version_flaw(text: &str) -> Option<Flaw>
         return Some(Flaw::TooLong);
     }
     match stop(text) {
-        Some(at) => Some(Flaw::At { at }),
+        Some((wrong, at)) => Some(Flaw::At { wrong, at }),
         None => None,
     }
 }
