@@ -9,3 +9,4 @@ pub mod RangeText
 pub mod Table
 pub mod Ranges
 pub mod Flaws
+pub mod Messages

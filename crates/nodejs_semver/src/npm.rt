@@ -14,6 +14,7 @@ mod comparators;
 mod flaws;
 mod hyphens;
 mod loose_versions;
+mod messages;
 mod partial;
 mod places;
 mod ranges;
