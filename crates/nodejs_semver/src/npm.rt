@@ -3,6 +3,7 @@
 //! Its reading of texts is the strict one, which npm uses, beside the lenient one of
 //! [`VersionRef::parse`](crate::VersionRef) and [`Range::parse`](crate::Range): a version text has
 //! no leading zeros, one `v` in front at most, a `-` before its pre-release, and nothing behind it.
+//! [`version_flaw`] says what is wrong with another text, and where.
 //!
 //! A version lies above or below a range by name, and an order counts builds. Ranges have from here
 //! their `union`, `is_subset`, `accepts_same` and `simplify`.

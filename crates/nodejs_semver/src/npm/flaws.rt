@@ -269,6 +269,10 @@ fn stop(text: &str) -> Option<(Wrong, usize)>
 /// Returns what is wrong with a version text of node-semver's strict reading, or `None` if it is
 /// one, which [`version`](crate::npm::version) then reads. Allocates nothing.
 ///
+/// The place is where the text stops being one: with the bytes before it some version text begins,
+/// and with the next character none does. Of `1.02.3` that is the place of the 2, of
+/// `1.2.3-01` the end, since `1.2.3-01a` is a version.
+///
 /// ```rust
 /// assert_eq!(rt; npm::version_flaw(" v1.2.3-rc.1 "), None);
 /// let wrong = Wrong::LeadingZero;
