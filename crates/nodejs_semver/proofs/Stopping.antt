@@ -5,3 +5,4 @@ pub mod Fronts
 pub mod Lasts
 pub mod Wrongs
 pub mod Stops
+pub mod Ranges

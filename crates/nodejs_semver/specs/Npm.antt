@@ -10,3 +10,4 @@ pub mod Table
 pub mod Ranges
 pub mod Flaws
 pub mod Messages
+pub mod RangeFlaws
