@@ -5,7 +5,7 @@ ghost use Rattle.nodejs_semver.specs.Npm.VersionText.{IsVersionText};
 ghost use Rattle.nodejs_semver.specs.Versions.{VersionValue};
 
 use super::{long_text, prints};
-use nodejs_semver::npm::{Flaw, Wrong};
+use nodejs_semver::npm::{Flaw, RangeFlaw, Wrong};
 use nodejs_semver::{MAX_SAFE_INTEGER, npm};
 use std::alloc::Global;
 
@@ -133,5 +133,39 @@ fn flaws_print(rt: HostRuntime) {
             at: 12,
         };
         assert!(rt; prints(alloc, &flaw, text));
+    }
+}
+
+// Range texts that are read.
+const RANGES: &[&str] = &[
+    "",
+    "*",
+    "^1.2 || >=2.0.0 <3",
+    "1.2.3 - 2.3",
+    " ~> >1 ||",
+    ">1 <1",
+];
+
+// Others, and the bytes of the first alternative that is rejected.
+const FLAWED_RANGES: &[(&str, usize, usize)] = &[
+    ("latest", 0, 6),
+    (">=1.0.0, <2.0.0", 0, 15),
+    ("^1.2 || >=2.0.0, <3 || 4", 8, 19),
+    ("1 ||  ^01.2  || foo", 6, 11),
+    ("||\u{3000}==1.2.3", 5, 12),
+    ("^1 || >9007199254740991", 6, 23),
+];
+
+#[test]
+fn a_range_flaw_has_its_place(rt: HostRuntime) {
+    for text in RANGES {
+        assert!(rt; npm::range_flaw(text, false).is_none());
+    }
+    for (text, start, end) in FLAWED_RANGES {
+        let flaw = RangeFlaw {
+            start: *start,
+            end: *end,
+        };
+        assert!(rt; npm::range_flaw(text, false) == Some(flaw));
     }
 }

@@ -1,10 +1,11 @@
-// How the flaws of version texts print.
+// How the flaws of version texts and of range texts print.
 
 ghost use Rattle.std.specs.Prelude.{◌≡◌, Some};
-ghost use Rattle.nodejs_semver.specs.Npm.Messages.{flaw_text, wrong_text};
+ghost use Rattle.nodejs_semver.specs.Npm.Messages.{flaw_text, range_flaw_text, wrong_text};
 
 use crate::diagnosis::write_at;
 use crate::npm::flaws::{Flaw, Wrong};
+use crate::npm::range_flaws::RangeFlaw;
 use std::fmt;
 
 // What is wrong, before its place.
@@ -35,5 +36,18 @@ impl fmt::Display for Flaw {
             Flaw::TooLong => f.write_str("longer than 256 characters"),
             Flaw::At { wrong, at } => write_at(wrong_message(wrong), at, f),
         }
+    }
+}
+
+/// A flaw prints as a message with its place, as in `malformed alternative at bytes 8 to 19`. Width,
+/// fill and precision change nothing.
+impl fmt::Display for RangeFlaw {
+    ghost output = { λ flaw. Some (range_flaw_text flaw) };
+
+    ghost styled_output = { λ flaw _. Some (range_flaw_text flaw) };
+
+    fn fmt<W: fmt::Write>(&self, f: &mut fmt::Formatter<W>) -> fmt::Result {
+        write_at("malformed alternative at bytes ", self.start, f)?;
+        write_at(" to ", self.end, f)
     }
 }
