@@ -16,6 +16,7 @@ mod laws;
 mod lent;
 mod lists;
 mod npm;
+mod npm_flaws;
 mod npm_loose_ranges;
 mod npm_ranges;
 mod npm_texts;

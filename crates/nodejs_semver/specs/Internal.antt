@@ -27,3 +27,4 @@ pub mod NpmViews
 pub mod NpmMeaning
 pub mod NpmAlternatives
 pub mod NpmReads
+pub mod NpmStates

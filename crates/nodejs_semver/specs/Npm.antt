@@ -8,3 +8,6 @@ pub mod VersionText
 pub mod RangeText
 pub mod Table
 pub mod Ranges
+pub mod Flaws
+pub mod Messages
+pub mod RangeFlaws

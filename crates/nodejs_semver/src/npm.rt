@@ -3,6 +3,7 @@
 //! Its reading of texts is the strict one, which npm uses, beside the lenient one of
 //! [`VersionRef::parse`](crate::VersionRef) and [`Range::parse`](crate::Range): a version text has
 //! no leading zeros, one `v` in front at most, a `-` before its pre-release, and nothing behind it.
+//! [`version_flaw`] says what is wrong with another text, and where.
 //!
 //! A version lies above or below a range by name, and an order counts builds. Ranges have from here
 //! their `union`, `is_subset`, `accepts_same` and `simplify`.
@@ -11,10 +12,13 @@ mod alternatives;
 mod builds;
 mod coerced;
 mod comparators;
+mod flaws;
 mod hyphens;
 mod loose_versions;
+mod messages;
 mod partial;
 mod places;
+mod range_flaws;
 mod ranges;
 mod sides;
 mod simplified;
@@ -25,7 +29,9 @@ mod words;
 
 pub use crate::npm::builds::cmp_build;
 pub use crate::npm::coerced::{coerce, coerce_loose, coerce_rtl, coerce_rtl_loose};
+pub use crate::npm::flaws::{Flaw, Wrong, version_flaw};
 pub use crate::npm::loose_versions::version_loose;
+pub use crate::npm::range_flaws::{RangeFlaw, range_flaw};
 pub use crate::npm::ranges::{range, range_loose};
 pub use crate::npm::sides::{gtr, ltr};
 pub use crate::npm::versions::{clean, version};

@@ -8,8 +8,12 @@ use crate::diagnosis::{Expected, IgnoredKind, IgnoredWord, VersionFlaw};
 use itoa::Buffer;
 use std::fmt;
 
-// A message and a place.
-fn write_at<W: fmt::Write>(message: &str, at: usize, f: &mut fmt::Formatter<W>) -> fmt::Result
+/// Writes a message and a place.
+pub(crate) fn write_at<W: fmt::Write>(
+    message: &str,
+    at: usize,
+    f: &mut fmt::Formatter<W>,
+) -> fmt::Result
     ensures { DisplaysStyledOnOk W.write_str_gives f.old result
         (Some (message.now ++ decimal at)) f.new }
 {

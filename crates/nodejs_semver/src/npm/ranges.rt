@@ -48,8 +48,8 @@ fn hyphen(loose: bool, include: bool, text: &[u8]) -> Option<Alternative<'_>>
     from.meet_upper(include, &upper.partial, upper.text)
 }
 
-// The alternative that a text is, without whitespace around it.
-fn alternative(loose: bool, include: bool, text: &[u8]) -> Option<Alternative<'_>>
+/// The alternative that a text is, without whitespace around it.
+pub(crate) fn alternative(loose: bool, include: bool, text: &[u8]) -> Option<Alternative<'_>>
     requires { IsUtf8 text.now }
     ensures { IsFound include (valid_alternative loose include text.now) result }
 {

@@ -1,0 +1,277 @@
+-- The first alternative of a range text that is malformed.
+use Rattle.nodejs_semver.proofs.Common.{◌≡◌, ◌<◌, ◌≤◌, ◌+◌, ◌-◌, ℕ, Bool, List, [], ◌∷◌, ◌++◌, length, refl, sym, ap, ◌∙◌, arith, true, false, Some, None, Option, ◌↔◌, AllByRecursion, IsUtf8, subst, list_all, trim, bind_some, inl, inr, MAX_SAFE_INTEGER, and_parts, append_assoc}
+use Rattle.std.specs.Option.{is_none}
+use Rattle.semver_core.specs.Failures.{NoValue}
+use Rattle.semver_core.specs.Internal.Reading.{◌>>?◌}
+use Rattle.semver_core.specs.Text.Characters.{IsAfterBlank, IsTrim}
+use Rattle.semver_core.proofs.Text.Trims.{after_blank-place, middle_is_trim, one_after_blank}
+use Rattle.nodejs_semver.specs.Internal.NpmReads.{IsFound, valid_alternative}
+use Rattle.nodejs_semver.specs.Internal.NpmWords.{alternative_of, valid_only}
+use Rattle.nodejs_semver.specs.Internal.PartFronts.{front_part}
+use Rattle.nodejs_semver.specs.Internal.Parts.{cut_bars}
+use Rattle.nodejs_semver.specs.Npm.RangeFlaws.{IsAlternativeText, IsRangeFlaw, bytes_of}
+use Rattle.nodejs_semver.specs.Npm.RangeText.{AreAlternatives, next, none}
+use Rattle.nodejs_semver.specs.Npm.Ranges.{HasAlternatives, is_valid}
+use Rattle.nodejs_semver.specs.Npm.Table.{Comparison}
+use Rattle.nodejs_semver.specs.Text.Bars.{IsCutAtBars}
+use Rattle.nodejs_semver.specs.declared.npm.alternatives.Alternative.{Alternative}
+use Rattle.nodejs_semver.specs.declared.npm.range_flaws.RangeFlaw.{RangeFlaw}
+use Rattle.nodejs_semver.proofs.Diagnosing.IgnoredParts.{part_ends, part_fits, sizes_of}
+use Rattle.nodejs_semver.proofs.Dividing.BarLemmas.{cut_bars-front, parts_after}
+use Rattle.nodejs_semver.proofs.Dividing.BarsDivide.{bars_divide, bars_once}
+use Rattle.nodejs_semver.proofs.Dividing.MeaningLaw.{pieces-utf8}
+use Rattle.nodejs_semver.proofs.Reading.WordLaw.{trim-utf8}
+use Rattle.nodejs_semver.proofs.Strict.AlternativeLaw.{alternative-found, alternative-read}
+
+pub trimmed_fits : (text middle : List ℕ) (start : ℕ) → IsUtf8 text → IsAfterBlank text 0 start → IsTrim text middle
+    → start + length middle ≤ length text
+trimmed_fits text middle start u a t =
+    omega (arith, part_ends 0 start text middle (after_blank-place text 0 start u a) (middle_is_trim text middle t), part_fits text 0)
+
+-- ---- one piece
+
+-- its comparators, valid ones
+abbrev pub IsPiece : Bool → List ℕ → Type 0
+IsPiece include piece = (cs : List Comparison) × IsAlternativeText MAX_SAFE_INTEGER include piece cs
+
+valid-some : (cs ds : List Comparison) → valid_only MAX_SAFE_INTEGER cs ≡ Some ds
+    → (list_all (is_valid MAX_SAFE_INTEGER) cs ≡ true) × (cs ≡ ds)
+valid-some cs ds h = grind arith
+
+pub piece_right : (include : Bool) (piece part : List ℕ) (a : Alternative) → IsUtf8 piece → IsTrim piece part
+    → IsFound include (valid_alternative false include part) (Some a) → IsPiece include piece
+unfolding valid_alternative
+piece_right include piece part a u t h = go (valid_alternative false include part) refl h
+  where
+    go : (o : Option (List Comparison)) → valid_alternative false include part ≡ o → IsFound include o (Some a) → IsPiece include piece
+    go None e k = absurd k
+    go (Some ds) e k =
+        let b = bind_some (alternative_of false include part) (λ cs. valid_only MAX_SAFE_INTEGER cs) ds e in
+        let v = valid-some b.0 ds b.2 in (
+          b.0,
+          record {
+            middle = part;
+            trimmed = t;
+            is = alternative-found false include part b.0 (trim-utf8 piece part u t) b.1;
+            valid = v.0;
+          },
+        )
+
+pub piece_wrong : (include : Bool) (piece part : List ℕ) → IsUtf8 piece → IsTrim piece part
+    → IsFound include (valid_alternative false include part) None → NoValue (IsAlternativeText MAX_SAFE_INTEGER include piece)
+unfolding valid_alternative
+piece_wrong include piece part u t h = λ cs w.
+    let same : w.middle ≡ part = middle_is_trim piece w.middle w.trimmed ∙ sym (middle_is_trim piece part t) in
+    let read : alternative_of false include part ≡ Some cs =
+    ap (λ (m : List ℕ). alternative_of false include m) (sym same)
+    ∙ alternative-read false include w.middle cs (trim-utf8 piece w.middle u w.trimmed) w.is in
+    let some : valid_alternative false include part ≡ Some cs = rw (read, w.valid) refl in
+    rw some at h
+
+-- ---- all pieces
+
+all-right : (include : Bool) (ps : List (List ℕ)) → AllByRecursion (IsPiece include) ps
+    → (ls : List (List Comparison)) × AreAlternatives false include ps ls × (list_all (list_all (is_valid MAX_SAFE_INTEGER)) ls ≡ true)
+all-right include [] h = ([], none, refl)
+all-right include (p ∷ ps) h =
+    let more = all-right include ps h.1 in
+    let w = h.0.1 in
+    (h.0.0 ∷ more.0, next p w.middle ps h.0.0 more.0 w.trimmed w.is more.1, rw (w.valid, more.2) refl)
+
+-- the piece behind some is one too, where a text has alternatives
+piece-of : (include : Bool) (front : List (List ℕ)) (piece : List ℕ) (behind : List (List ℕ)) (ls : List (List Comparison))
+    → AreAlternatives false include (front ++ piece ∷ behind) ls → list_all (list_all (is_valid MAX_SAFE_INTEGER)) ls ≡ true
+    → IsPiece include piece
+piece-of include [] piece behind ls (next p text others cs rest t is more) v =
+    let each = and_parts (list_all (is_valid MAX_SAFE_INTEGER) cs) (list_all (list_all (is_valid MAX_SAFE_INTEGER)) rest) v in
+    (cs, record { middle = text; trimmed = t; is = is; valid = each.0 })
+piece-of include (q ∷ front) piece behind ls (next p text others cs rest t is more) v =
+    let each = and_parts (list_all (is_valid MAX_SAFE_INTEGER) cs) (list_all (list_all (is_valid MAX_SAFE_INTEGER)) rest) v in
+    piece-of include front piece behind rest more each.1
+
+pub flawed-none : (include : Bool) (text : List ℕ) (flaw : RangeFlaw) → IsRangeFlaw MAX_SAFE_INTEGER include text flaw
+    → (ls : List (List Comparison)) → HasAlternatives MAX_SAFE_INTEGER include text ls → ⊥
+flawed-none include text flaw x ls h =
+    let same : h.parts ≡ x.front ++ x.piece ∷ x.behind = bars_once text h.parts h.divided ∙ sym (bars_once text (x.front ++ x.piece ∷ x.behind) x.divided) in
+    let p = piece-of include x.front x.piece x.behind ls
+    (subst (λ (ps : List (List ℕ)). AreAlternatives false include ps ls) same h.each) h.valid in
+    x.wrong p.0 p.1
+
+-- ---- the loop
+
+-- so many bytes are left of a text
+abbrev Leaves : ℕ → List (List ℕ) → Option (List ℕ) → Type 0
+Leaves n front None = Unit {0}
+Leaves n front (Some rest) = bytes_of front + length rest ≡ n
+
+-- these pieces were passed, and this is left
+pub record Passed (include : Bool) (text : List ℕ) (rest : Option (List ℕ)) : Type 0 where
+  pub front : List (List ℕ)
+  pub divided : cut_bars false text ≡ front ++ parts_after rest
+  pub right : AllByRecursion (IsPiece include) front
+  pub leaves : Leaves (length text) front rest
+
+pub passed_none : (include : Bool) (text : List ℕ) → Passed include text (Some text)
+passed_none include text = record { front = []; divided = refl; right = tt; leaves = omega arith }
+
+all-append : (include : Bool) (ps : List (List ℕ)) (p : List ℕ) → AllByRecursion (IsPiece include) ps → IsPiece include p
+    → AllByRecursion (IsPiece include) (ps ++ p ∷ [])
+all-append include [] p h k = (k, tt)
+all-append include (q ∷ ps) p h k = (h.0, all-append include ps p h.1 k)
+
+bytes-append : (ps : List (List ℕ)) (p : List ℕ) → bytes_of (ps ++ p ∷ []) ≡ bytes_of ps + (length p + 2)
+bytes-append [] p = omega arith
+bytes-append (q ∷ ps) p = omega (arith, bytes-append ps p)
+
+front-divides : (include : Bool) (text rest : List ℕ) (cut : List ℕ × Option (List ℕ)) → (h : Passed include text (Some rest))
+    → cut ≡ front_part rest → cut_bars false text ≡ h.front ++ cut.0 ∷ parts_after cut.1
+front-divides include text rest cut h e =
+    h.divided ∙ ap (λ (l : List (List ℕ)). h.front ++ l)
+    (cut_bars-front rest ∙ ap (λ (c : List ℕ × Option (List ℕ)). c.0 ∷ parts_after c.1) (sym e))
+
+pub passed_more : (include : Bool) (text rest : List ℕ) (cut : List ℕ × Option (List ℕ)) → Passed include text (Some rest)
+    → cut ≡ front_part rest → IsPiece include cut.0 → Passed include text cut.1
+passed_more include text rest cut h e p = record {
+  front = h.front ++ cut.0 ∷ [];
+  divided = front-divides include text rest cut h e ∙ sym (append_assoc h.front (cut.0 ∷ []) (parts_after cut.1));
+  right = all-append include h.front cut.0 h.right p;
+  leaves = left cut.1 refl;
+}
+  where
+    left : (o : Option (List ℕ)) → cut.1 ≡ o → Leaves (length text) (h.front ++ cut.0 ∷ []) o
+    left None k = tt
+    left (Some t) k = omega (arith, bytes-append h.front cut.0, (sizes_of rest cut e).behind t k, h.leaves)
+
+pub passed_room : (include : Bool) (text rest : List ℕ) (cut : List ℕ × Option (List ℕ)) → Passed include text (Some rest)
+    → cut ≡ front_part rest → (length rest ≤ length text) × (length cut.0 ≤ length rest)
+passed_room include text rest cut h e = (omega (arith, h.leaves), (sizes_of rest cut e).front)
+
+pub passed_wrong : (include : Bool) (text rest : List ℕ) (cut : List ℕ × Option (List ℕ)) (part : List ℕ) (blank : ℕ) (flaw : RangeFlaw)
+    → Passed include text (Some rest)
+    → cut ≡ front_part rest → IsAfterBlank cut.0 0 blank → IsTrim cut.0 part
+    → NoValue (IsAlternativeText MAX_SAFE_INTEGER include cut.0)
+    → flaw.start ≡ length text - length rest + blank → flaw.end ≡ flaw.start + length part
+    → IsRangeFlaw MAX_SAFE_INTEGER include text flaw
+passed_wrong include text rest cut part blank flaw h e a t w start end = record {
+  front = h.front;
+  piece = cut.0;
+  behind = parts_after cut.1;
+  divided = subst (λ (ps : List (List ℕ)). IsCutAtBars text ps) (front-divides include text rest cut h e) (bars_divide text);
+  right = h.right;
+  wrong = w;
+  blank = blank;
+  after_blank = a;
+  middle = part;
+  trimmed = t;
+  start = omega (arith, start, h.leaves);
+  end = end;
+}
+
+-- a piece is UTF-8 as the text is
+piece-utf8 : (front : List (List ℕ)) (piece : List ℕ) (behind : List (List ℕ)) → AllByRecursion IsUtf8 (front ++ piece ∷ behind)
+    → IsUtf8 piece
+piece-utf8 [] piece behind h = h.0
+piece-utf8 (q ∷ front) piece behind h = piece-utf8 front piece behind h.1
+
+next-utf8 : (include : Bool) (text rest : List ℕ) (cut : List ℕ × Option (List ℕ)) → IsUtf8 text → Passed include text (Some rest)
+    → cut ≡ front_part rest → IsUtf8 cut.0
+next-utf8 include text rest cut u h e =
+    piece-utf8 h.front cut.0 (parts_after cut.1)
+    (subst (λ (ps : List (List ℕ)). AllByRecursion IsUtf8 ps) (front-divides include text rest cut h e)
+    (pieces-utf8 text (cut_bars false text) (bars_divide text) u))
+
+-- what is read of the next piece
+pub wrong_here : (include : Bool) (text rest : List ℕ) (cut : List ℕ × Option (List ℕ)) (part bytes : List ℕ) (blank : ℕ)
+    (found : Option Alternative) (flaw : RangeFlaw) → IsUtf8 text → Passed include text (Some rest) → cut ≡ front_part rest
+    → IsAfterBlank cut.0 0 blank → IsTrim cut.0 part → bytes ≡ part → IsFound include (valid_alternative false include bytes) found
+    → is_none found ≡ true → flaw.start ≡ length text - length rest + blank → flaw.end ≡ flaw.start + length part
+    → IsRangeFlaw MAX_SAFE_INTEGER include text flaw
+wrong_here include text rest cut part bytes blank None flaw u h e a t same found empty start end =
+    passed_wrong include text rest cut part blank flaw h e a t
+    (piece_wrong include cut.0 part (next-utf8 include text rest cut u h e) t
+    (subst (λ (x : List ℕ). IsFound include (valid_alternative false include x) None) same found)) start end
+wrong_here include text rest cut part bytes blank (Some x) flaw u h e a t same found empty start end = cc empty
+
+pub right_here : (include : Bool) (text rest : List ℕ) (cut : List ℕ × Option (List ℕ)) (part bytes : List ℕ)
+    (found : Option Alternative) → IsUtf8 text → Passed include text (Some rest) → cut ≡ front_part rest
+    → IsTrim cut.0 part → bytes ≡ part → IsFound include (valid_alternative false include bytes) found
+    → is_none found ≡ false → Passed include text cut.1
+right_here include text rest cut part bytes None u h e t same found empty = cc empty
+right_here include text rest cut part bytes (Some x) u h e t same found empty =
+    passed_more include text rest cut h e
+    (piece_right include cut.0 part x (next-utf8 include text rest cut u h e) t
+    (subst (λ (b : List ℕ). IsFound include (valid_alternative false include b) (Some x)) same found))
+
+pub passed_all : (include : Bool) (text : List ℕ) → Passed include text None
+    → (ls : List (List Comparison)) × HasAlternatives MAX_SAFE_INTEGER include text ls
+passed_all include text h =
+    let a = all-right include (h.front ++ []) (right h.front h.right) in (
+      a.0,
+      record {
+        parts = h.front ++ [];
+        divided = subst (λ (ps : List (List ℕ)). IsCutAtBars text ps) h.divided (bars_divide text);
+        each = a.1;
+        valid = a.2;
+      },
+    )
+  where
+    right : (ps : List (List ℕ)) → AllByRecursion (IsPiece include) ps → AllByRecursion (IsPiece include) (ps ++ [])
+    right [] h = tt
+    right (p ∷ ps) h = (h.0, right ps h.1)
+
+-- ---- a text has one such flaw
+
+-- the first pieces that are wrong are one
+one-piece : (include : Bool) (xs : List (List ℕ)) (p : List ℕ) (us ys : List (List ℕ)) (q : List ℕ) (vs : List (List ℕ))
+    → AllByRecursion (IsPiece include) xs → AllByRecursion (IsPiece include) ys
+    → NoValue (IsAlternativeText MAX_SAFE_INTEGER include p) → NoValue (IsAlternativeText MAX_SAFE_INTEGER include q)
+    → xs ++ p ∷ us ≡ ys ++ q ∷ vs → (xs ≡ ys) × (p ≡ q)
+one-piece include [] p us [] q vs h k w z e = (refl, cc e)
+one-piece include [] p us (y ∷ ys) q vs h k w z e =
+    let same : p ≡ y = cc e in
+    absurd (w k.0.0 (subst (λ (t : List ℕ). IsAlternativeText MAX_SAFE_INTEGER include t k.0.0) (sym same) k.0.1))
+one-piece include (x ∷ xs) p us [] q vs h k w z e =
+    let same : x ≡ q = cc e in
+    absurd (z h.0.0 (subst (λ (t : List ℕ). IsAlternativeText MAX_SAFE_INTEGER include t h.0.0) same h.0.1))
+one-piece include (x ∷ xs) p us (y ∷ ys) q vs h k w z e =
+    let first : x ≡ y = cc e in
+    let more = one-piece include xs p us ys q vs h.1 k.1 w z (cc e) in
+    (cc (first, more.0), more.1)
+
+pub one_range_flaw : (include : Bool) (text : List ℕ) (f g : RangeFlaw) → IsUtf8 text → IsRangeFlaw MAX_SAFE_INTEGER include text f
+    → IsRangeFlaw MAX_SAFE_INTEGER include text g → f ≡ g
+one_range_flaw include text f g u x y =
+    let pieces = bars_once text (x.front ++ x.piece ∷ x.behind) x.divided
+    ∙ sym (bars_once text (y.front ++ y.piece ∷ y.behind) y.divided) in
+    let same = one-piece include x.front x.piece x.behind y.front y.piece y.behind x.right y.right x.wrong y.wrong pieces in
+    let utf8 = piece-utf8 x.front x.piece x.behind (pieces-utf8 text (x.front ++ x.piece ∷ x.behind) x.divided u) in
+    let blank : x.blank ≡ y.blank =
+    one_after_blank x.piece 0 x.blank y.blank utf8 x.after_blank
+    (subst (λ (t : List ℕ). IsAfterBlank t 0 y.blank) (sym same.1) y.after_blank) in
+    let middle : x.middle ≡ y.middle =
+    middle_is_trim x.piece x.middle x.trimmed ∙ (ap trim same.1 ∙ sym (middle_is_trim y.piece y.middle y.trimmed)) in
+    let start : f.start ≡ g.start = omega (arith, x.start, y.start, ap bytes_of same.0, blank) in
+    let end : f.end ≡ g.end = omega (arith, x.end, y.end, start, ap length middle) in
+    flaws-same f g start end
+  where
+    flaws-same : (f g : RangeFlaw) → f.start ≡ g.start → f.end ≡ g.end → f ≡ g
+    flaws-same f g s e =
+        let both : record { start = f.start; end = f.end } ≡ record { start = g.start; end = g.end } =
+        rw (s, e) refl in
+        both
+
+-- what the call says
+pub flawed : (include : Bool) (text : List ℕ) (f : RangeFlaw) → IsUtf8 text → IsRangeFlaw MAX_SAFE_INTEGER include text f
+    → ((Some f ≡ None) ↔ ((ls : List (List Comparison)) × HasAlternatives MAX_SAFE_INTEGER include text ls))
+    × ((g : RangeFlaw) → IsRangeFlaw MAX_SAFE_INTEGER include text g → Some f ≡ Some g)
+flawed include text f u x = (
+  (λ e. cc e, λ h. absurd (flawed-none include text f x h.0 h.1)),
+  λ g y. ap (λ (h : RangeFlaw). Some h) (one_range_flaw include text f g u x y),
+)
+
+pub unflawed : (include : Bool) (text : List ℕ) (found : Option RangeFlaw) → found ≡ None → Passed include text None
+    → ((found ≡ None) ↔ ((ls : List (List Comparison)) × HasAlternatives MAX_SAFE_INTEGER include text ls))
+    × ((g : RangeFlaw) → IsRangeFlaw MAX_SAFE_INTEGER include text g → found ≡ Some g)
+unflawed include text found e h =
+    let ls = passed_all include text h in
+    ((λ k. ls, λ k. e), λ g y. absurd (flawed-none include text g y ls.0 ls.1))

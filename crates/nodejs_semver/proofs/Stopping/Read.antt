@@ -1,0 +1,289 @@
+-- A text that is written as a version is read to its end as one.
+use Rattle.std.proofs.Common.{◌≡◌, ◌⊎◌, ◌<◌, ◌≤◌, ◌+◌, ◌*◌, ◌&&◌, ◌||◌, ℕ, zero, suc, Bool, true, false, Some, None, List, [], ◌∷◌, ◌++◌, length, refl, sym, ap, ◌∙◌, arith, inl, inr, nat_lt, append_assoc, append-nil, subst}
+use Rattle.std.specs.Prelude.{◌==◌, encode_utf8_all}
+use Rattle.std.specs.Char.{digit_value, is_ascii_digit}
+use Rattle.std.specs.List.{list_all, onto_first}
+use Rattle.std.specs.Str.Parse.{digits_value, digits_value_after}
+use Rattle.std.proofs.lemmas.Bool.{and_from, and_parts, cases_Bool, eqb-true}
+use Rattle.std.proofs.lemmas.Bool.Decides.{nat_tests}
+use Rattle.std.proofs.lemmas.List.Folds.{list_all-append}
+use Rattle.std.proofs.lemmas.Str.{encode_ascii, encodes_same}
+use Rattle.semver_core.specs.Text.Characters.{IsTrim, is_identifier_char, is_whitespace}
+use Rattle.semver_core.specs.Text.Identifiers.{Id, is_identifier, pieces}
+use Rattle.semver_core.specs.Values.Versions.{VersionValue}
+use Rattle.semver_core.proofs.Text.Pieces.{digits_grow, runs_tail, tail_runs}
+use Rattle.nodejs_semver.specs.Internal.NpmStates.{is_whole, next, run}
+use Rattle.nodejs_semver.specs.Npm.Flaws.{IsSpelled}
+use Rattle.nodejs_semver.specs.Npm.Grammar.{IsStrictBuild, IsStrictNumber, IsStrictPreRelease, dashed, is_strict_identifier, no_build, no_pre_release, plus}
+use Rattle.nodejs_semver.specs.Npm.VersionText.{IsStrictVersion}
+use Rattle.nodejs_semver.specs.declared.npm.flaws.State.{State}
+use Rattle.nodejs_semver.specs.declared.npm.flaws.State.TheVariants.{Start, Digit, Number, Dash, Zero, Padded, PreRelease, Plus, Build, End}
+use Rattle.nodejs_semver.proofs.Stopping.Steps.{digit-plain, identifier-more, identifier_read, run-nil, run-step, run-then, spaces-behind, spaces-start, start-digit}
+
+-- ---- numbers
+
+digits-read : (limit left v : ℕ) (ds : List ℕ) → list_all is_ascii_digit ds ≡ true → 0 < v → digits_value_after 10 v ds ≤ limit
+    → run limit (Number left v) ds ≡ Some (Number left (digits_value_after 10 v ds))
+unfolding run next
+digits-read limit left v [] each some safe = refl
+digits-read limit left v (c ∷ ds) each some safe =
+    let h = and_parts (is_ascii_digit c) (list_all is_ascii_digit ds) each in
+    let grows = digits_grow (v * 10 + digit_value c) ds in
+    let small : (v == 0 || nat_lt limit (v * 10 + digit_value c)) ≡ false = grind (arith, nat_tests) in
+    rw (h.0, small) (digits-read limit left (v * 10 + digit_value c) ds h.1 (omega arith) safe)
+
+number-read : (limit left n : ℕ) (digits : List ℕ) → IsStrictNumber limit digits n
+    → run limit (Digit left) digits ≡ Some (Number left n)
+unfolding run next
+number-read limit left n [] h = absurd (omega (arith, h.number.some))
+number-read limit left n (c ∷ []) h =
+    let digit = (and_parts (is_ascii_digit c) true h.number.each).0 in
+    let first : 0 * 10 + digit_value c ≡ digit_value c = omega arith in
+    rw digit (ap (λ (m : ℕ). Some (Number left m)) (sym (h.number.value ∙ first)))
+number-read limit left n (c ∷ d ∷ ds) h =
+    let each = and_parts (is_ascii_digit c) (list_all is_ascii_digit (d ∷ ds)) h.number.each in
+    let first : 0 * 10 + digit_value c ≡ digit_value c = omega arith in
+    let value : n ≡ digits_value_after 10 (digit_value c) (d ∷ ds) = rw first at h.number.value in
+    let some : 0 < digit_value c = positive c each.0 h.shortest in
+    let safe : digits_value_after 10 (digit_value c) (d ∷ ds) ≤ limit = rw value at h.number.safe in
+    run-step limit (Digit left) (Number left (digit_value c)) c (d ∷ ds) (rw each.0 refl)
+    ∙ digits-read limit left (digit_value c) (d ∷ ds) each.1 some safe
+    ∙ ap (λ (m : ℕ). Some (Number left m)) (sym value)
+  where
+    positive : (c : ℕ) → is_ascii_digit c ≡ true → (c == 48) ≡ false → 0 < digit_value c
+    positive c h k = grind (arith, nat_tests)
+
+-- the numbers and the dots, behind the mark
+numbers-read : (limit a b c : ℕ) (x y z rest : List ℕ) → IsStrictNumber limit x a → IsStrictNumber limit y b
+    → IsStrictNumber limit z c
+    → run limit (Digit 2) (x ++ 46 ∷ (y ++ 46 ∷ (z ++ rest))) ≡ run limit (Number 0 c) rest
+unfolding next
+numbers-read limit a b c x y z rest ha hb hc =
+    run-then limit (Digit 2) (Number 2 a) x _ (number-read limit 2 a x ha)
+    ∙ run-step limit (Number 2 a) (Digit 1) 46 _ refl
+    ∙ run-then limit (Digit 1) (Number 1 b) y _ (number-read limit 1 b y hb)
+    ∙ run-step limit (Number 1 b) (Digit 0) 46 _ refl
+    ∙ run-then limit (Digit 0) (Number 0 c) z _ (number-read limit 0 c z hc)
+
+marked-read : (limit a : ℕ) (mark x rest : List ℕ) → (mark ≡ []) ⊎ (mark ≡ 118 ∷ []) → IsStrictNumber limit x a
+    → run limit Start (mark ++ (x ++ rest)) ≡ run limit (Digit 2) (x ++ rest)
+unfolding next
+marked-read limit a mark x rest (inr e) h = rw e (run-step limit Start (Digit 2) 118 (x ++ rest) refl)
+marked-read limit a mark [] rest (inl e) h = absurd (omega (arith, h.number.some))
+marked-read limit a mark (c ∷ x) rest (inl e) h =
+    rw e (start-digit limit c (x ++ rest) (and_parts (is_ascii_digit c) (list_all is_ascii_digit x) h.number.each).0)
+
+-- ---- identifiers
+
+-- the first of these pieces, behind these characters, and the others have no leading zeros
+abbrev pub strict_behind : List ℕ → List (List ℕ) → Bool
+strict_behind x [] = is_strict_identifier x
+strict_behind x (p ∷ ps) = is_strict_identifier (x ++ p) && list_all is_strict_identifier ps
+
+pub runs-first : (c : ℕ) (ps : List (List ℕ)) → tail_runs (onto_first c ps) ≡ true
+    → (is_identifier_char c ≡ true) × (tail_runs ps ≡ true)
+runs-first c [] h = ((and_parts (is_identifier_char c) true (and_parts (is_identifier_char c && true) true h).0).0, refl)
+runs-first c (p ∷ ps) h =
+    let both = and_parts (is_identifier_char c && list_all is_identifier_char p) (list_all is_identifier ps) h in
+    let first = and_parts (is_identifier_char c) (list_all is_identifier_char p) both.0 in
+    (first.0, and_from (list_all is_identifier_char p) (list_all is_identifier ps) first.1 both.1)
+
+pub strict-onto : (x : List ℕ) (c : ℕ) (ps : List (List ℕ))
+    → strict_behind x (onto_first c ps) ≡ strict_behind (x ++ c ∷ []) ps
+strict-onto x c [] = grind arith
+strict-onto x c (p ∷ ps) = rw (append_assoc x (c ∷ []) p) refl
+
+-- the build metadata: behind a character of an identifier, and behind `+` or a dot
+builds : (limit : ℕ) (t : List ℕ) → (tail_runs (pieces t) ≡ true → run limit Build t ≡ Some Build)
+    × (list_all is_identifier (pieces t) ≡ true → run limit Plus t ≡ Some Build)
+unfolding run next
+builds limit [] = (λ h. refl, λ h. cc h)
+builds limit (c ∷ t) = elim (cases_Bool (c == 46)) [
+  | inl dot ↦ rw (eqb-true c 46 dot) (λ h. (builds limit t).1 h, λ h. cc h)
+  | inr other ↦ (
+    λ h. let f = runs-first c (pieces t) (rw other at h) in rw f.0 ((builds limit t).0 f.1),
+    λ h. let f = runs-first c (pieces t) (runs_tail (onto_first c (pieces t)) (rw other at h)) in
+        rw f.0 ((builds limit t).0 f.1),
+  )
+]
+
+-- a pre-release ends here
+abbrev IsEnd : State → Type 0
+IsEnd s = (s ≡ Zero) ⊎ (s ≡ PreRelease)
+
+read-end : (a : ℕ) (x : List ℕ) → is_strict_identifier (a ∷ x) ≡ true → IsEnd (identifier_read (a ∷ x))
+read-end a [] h = elim (cases_Bool (a == 48)) [ inl none ↦ rw none (inl refl) | inr other ↦ rw other (inr refl) ]
+read-end a (b ∷ x) h = elim (cases_Bool (list_all is_ascii_digit (a ∷ b ∷ x) && a == 48)) [
+  | inl padded ↦ cc (rw padded at h)
+  | inr other ↦ rw other (inr refl)
+]
+
+end-dot : (limit : ℕ) (s : State) → IsEnd s → next limit s 46 ≡ Some Dash
+unfolding next
+end-dot limit s (inl e) = rw e refl
+end-dot limit s (inr e) = rw e refl
+
+-- it is read so far
+record Ended (limit : ℕ) (s : State) (t : List ℕ) : Type 0 where
+  state : State
+  reads : run limit s t ≡ Some state
+  is : IsEnd state
+
+ended-step : (limit : ℕ) (s u : State) (c : ℕ) (t : List ℕ) → next limit s c ≡ Some u → Ended limit u t → Ended limit s (c ∷ t)
+ended-step limit s u c t h e = record { state = e.state; reads = run-step limit s u c t h ∙ e.reads; is = e.is }
+
+-- the identifiers of a pre-release: behind some characters of one, and behind `-` or a dot
+identifiers : (limit : ℕ) (t : List ℕ)
+    → ((a : ℕ) (x : List ℕ) → tail_runs (pieces t) ≡ true → strict_behind (a ∷ x) (pieces t) ≡ true
+    → Ended limit (identifier_read (a ∷ x)) t)
+    × (list_all is_identifier (pieces t) ≡ true → list_all is_strict_identifier (pieces t) ≡ true → Ended limit Dash t)
+identifiers limit [] = (
+  λ a x h k. record {
+    state = identifier_read (a ∷ x);
+    reads = run-nil limit (identifier_read (a ∷ x));
+    is = read-end a x (rw (append-nil x) at (and_parts (is_strict_identifier ((a ∷ x) ++ [])) true k).0);
+  },
+  λ h k. cc h,
+)
+identifiers limit (c ∷ t) = elim (cases_Bool (c == 46)) [
+  | inl dot ↦ rw (eqb-true c 46 dot) (
+    λ a x h k.
+        let both = and_parts (is_strict_identifier ((a ∷ x) ++ [])) (list_all is_strict_identifier (pieces t)) k in
+        let end = read-end a x (rw (append-nil x) at both.0) in
+        ended-step limit (identifier_read (a ∷ x)) Dash 46 t (end-dot limit (identifier_read (a ∷ x)) end)
+        ((identifiers limit t).1 h both.1),
+    λ h k. cc h,
+  )
+  | inr other ↦ (
+    λ a x h k.
+        let f = runs-first c (pieces t) (rw other at h) in
+        let strict = sym (strict-onto (a ∷ x) c (pieces t)) ∙ rw other at k in
+        ended-step limit (identifier_read (a ∷ x)) (identifier_read (a ∷ (x ++ c ∷ []))) c t
+        (identifier-more limit (a ∷ x) c f.0) ((identifiers limit t).0 a (x ++ c ∷ []) f.1 strict),
+    λ h k.
+        let f = runs-first c (pieces t) (runs_tail (onto_first c (pieces t)) (rw other at h)) in
+        let strict = sym (strict-onto [] c (pieces t)) ∙ strict-first (onto_first c (pieces t)) (rw other at k) in
+        ended-step limit Dash (identifier_read (c ∷ [])) c t (identifier-more limit [] c f.0)
+        ((identifiers limit t).0 c [] f.1 strict),
+  )
+]
+  where
+    strict-first : (ps : List (List ℕ)) → list_all is_strict_identifier ps ≡ true → strict_behind [] ps ≡ true
+    strict-first [] h = refl
+    strict-first (p ∷ ps) h = h
+
+-- ---- what stands behind the numbers
+
+record Ready (limit : ℕ) (s : State) (t : List ℕ) : Type 0 where
+  state : State
+  reads : run limit s t ≡ Some state
+  whole : is_whole state ≡ true
+  plus : next limit state 43 ≡ Some Plus
+
+pre_release-read : (limit n : ℕ) (p : List ℕ) (l : List Id) → IsStrictPreRelease p l → Ready limit (Number 0 n) p
+unfolding next
+pre_release-read limit n p l no_pre_release =
+    record { state = Number 0 n; reads = run-nil limit (Number 0 n); whole = refl; plus = refl }
+pre_release-read limit n p l (dashed text list h strict) =
+    let e = (identifiers limit text).1 h.runs strict in
+    let reads : run limit (Number 0 n) (45 ∷ text) ≡ Some e.state =
+    run-step limit (Number 0 n) Dash 45 text refl ∙ e.reads in
+    go e.state reads e.is
+  where
+    go : (s : State) → run limit (Number 0 n) (45 ∷ text) ≡ Some s → IsEnd s → Ready limit (Number 0 n) (45 ∷ text)
+    go s reads (inl e) = record { state = Zero; reads = reads ∙ ap Some e; whole = refl; plus = refl }
+    go s reads (inr e) = record { state = PreRelease; reads = reads ∙ ap Some e; whole = refl; plus = refl }
+
+-- the text is read to its end, and is a version
+abbrev pub Whole : ℕ → State → List ℕ → Type 0
+Whole limit s text = (t : State) × (run limit s text ≡ Some t) × (is_whole t ≡ true)
+
+build-read : (limit : ℕ) (s : State) (b : List ℕ) (l : List Id) → is_whole s ≡ true → next limit s 43 ≡ Some Plus
+    → IsStrictBuild b l → Whole limit s b
+build-read limit s b l whole next no_build = (s, run-nil limit s, whole)
+build-read limit s b l whole next (plus text list h) =
+    (Build, run-step limit s Plus 43 text next ∙ (builds limit text).1 h.runs, refl)
+
+middle-read : (limit : ℕ) (middle : List ℕ) (v : VersionValue) → IsStrictVersion limit middle v → Whole limit Start middle
+middle-read limit middle v h =
+    let behind = h.pre_release ++ h.build in
+    let numbers : run limit Start middle ≡ run limit (Number 0 v.patch) behind =
+    ap (λ (t : List ℕ). run limit Start t) h.divided
+    ∙ marked-read limit v.major h.mark h.major _ h.mark_is h.major_is
+    ∙ numbers-read limit v.major v.minor v.patch h.major h.minor h.patch behind h.major_is h.minor_is h.patch_is in
+    let p = pre_release-read limit v.patch h.pre_release v.pre_release h.pre_release_is in
+    let b = build-read limit p.state h.build v.build p.whole p.plus h.build_is in
+    (b.0, numbers ∙ run-then limit (Number 0 v.patch) p.state h.pre_release h.build p.reads ∙ b.1, b.2)
+
+-- ---- its characters are bytes
+
+-- a character of a version
+abbrev pub is_plain : ℕ → Bool
+is_plain c = is_identifier_char c || (c == 46 || c == 43)
+
+pub plain-encodes : (cs : List ℕ) → list_all is_plain cs ≡ true → encode_utf8_all cs ≡ cs
+plain-encodes [] h = refl
+plain-encodes (c ∷ cs) h =
+    let each = and_parts (is_plain c) (list_all is_plain cs) h in
+    rw (encode_ascii c (small c each.0), plain-encodes cs each.1) refl
+  where
+    small : (c : ℕ) → is_plain c ≡ true → c < 128
+    small c h = grind (arith, nat_tests)
+
+plain-digits : (ds : List ℕ) → list_all is_ascii_digit ds ≡ true → list_all is_plain ds ≡ true
+plain-digits [] h = refl
+plain-digits (c ∷ ds) h =
+    let each = and_parts (is_ascii_digit c) (list_all is_ascii_digit ds) h in
+    rw ((digit-plain c each.0).0, plain-digits ds each.1) refl
+
+plain-runs : (t : List ℕ) → tail_runs (pieces t) ≡ true → list_all is_plain t ≡ true
+plain-runs [] h = refl
+plain-runs (c ∷ t) h = elim (cases_Bool (c == 46)) [
+  | inl dot ↦ rw (eqb-true c 46 dot) (plain-runs t (runs_tail (pieces t) (rw dot at h)))
+  | inr other ↦
+      let f = runs-first c (pieces t) (rw other at h) in
+      rw (f.0, plain-runs t f.1) refl
+]
+
+plain-both : (x y : List ℕ) → list_all is_plain x ≡ true → list_all is_plain y ≡ true → list_all is_plain (x ++ y) ≡ true
+plain-both x y h k = list_all-append is_plain x y ∙ and_from (list_all is_plain x) (list_all is_plain y) h k
+
+plain-middle : (limit : ℕ) (middle : List ℕ) (v : VersionValue) → IsStrictVersion limit middle v → list_all is_plain middle ≡ true
+plain-middle limit middle v h =
+    rw h.divided (plain-both h.mark _ (mark h.mark h.mark_is)
+    (plain-both h.major _ (plain-digits h.major h.major_is.number.each)
+    (plain-both h.minor _ (plain-digits h.minor h.minor_is.number.each)
+    (plain-both h.patch _ (plain-digits h.patch h.patch_is.number.each)
+    (plain-both h.pre_release h.build (pre h.pre_release v.pre_release h.pre_release_is)
+    (build h.build v.build h.build_is))))))
+  where
+    mark : (m : List ℕ) → (m ≡ []) ⊎ (m ≡ 118 ∷ []) → list_all is_plain m ≡ true
+    mark m (inl e) = rw e refl
+    mark m (inr e) = rw e refl
+
+    pre : (p : List ℕ) (l : List Id) → IsStrictPreRelease p l → list_all is_plain p ≡ true
+    pre p l no_pre_release = refl
+    pre p l (dashed text list h strict) = plain-runs text (runs_tail (pieces text) h.runs)
+
+    build : (b : List ℕ) (l : List Id) → IsStrictBuild b l → list_all is_plain b ≡ true
+    build b l no_build = refl
+    build b l (plus text list h) = plain-runs text (runs_tail (pieces text) h.runs)
+
+-- ---- texts
+
+pub spelled-read : (limit : ℕ) (cs : List ℕ) → IsSpelled limit (encode_utf8_all cs) → Whole limit Start cs
+spelled-read limit cs h =
+    let t = h.trimmed in
+    let divided : cs ≡ t.before ++ (t.characters ++ t.after) = encodes_same cs (t.before ++ (t.characters ++ t.after)) t.divided in
+    let plain = plain-encodes h.middle (plain-middle limit h.middle h.version h.is) in
+    let middle : h.middle ≡ t.characters = encodes_same h.middle t.characters (plain ∙ t.middle_is) in
+    let m = middle-read limit h.middle h.version h.is in
+    let e = spaces-behind limit m.0 t.after m.2 t.blank_after in (
+      e.0,
+      ap (λ (x : List ℕ). run limit Start x) divided
+          ∙ run-then limit Start Start t.before _ (spaces-start limit t.before t.blank_before)
+          ∙ ap (λ (x : List ℕ). run limit Start (x ++ t.after)) (sym middle)
+          ∙ run-then limit Start m.0 h.middle t.after m.1
+          ∙ e.1,
+      e.2,
+    )

@@ -1,0 +1,236 @@
+-- Where a text stops being a version text.
+use Rattle.std.proofs.Common.{◌≡◌, ◌⊎◌, inl, inr, ◌<◌, ◌≤◌, ◌+◌, ◌↔◌, ◌++◌, ◌∷◌, ℕ, zero, suc, List, [], Option, Some, None, length, refl, sym, ap, ◌∙◌, subst, arith, true, false, append_assoc, append-nil, length-append, IsUtf8, IfSome, MatchOption}
+use Rattle.std.specs.Prelude.{encode_utf8_all}
+use Rattle.std.specs.Char.{encode_utf8, len_utf8}
+use Rattle.std.specs.Str.{chars}
+use Rattle.std.proofs.lemmas.Option.{same_Some}
+use Rattle.std.proofs.lemmas.Str.{cons_from_encodes, encodes-append, encodes_same, length-encode}
+use Rattle.semver_core.specs.Values.Versions.{VersionValue}
+use Rattle.semver_core.specs.declared.TheConstants.{MAX_LENGTH, MAX_SAFE_INTEGER}
+use Rattle.nodejs_semver.specs.Internal.NpmStates.{is_whole, next, run, wrong_at}
+use Rattle.nodejs_semver.specs.Npm.Flaws.{GoesOn, IsFlaw, IsFront, IsSpelled, IsStop, IsWrong, wrong_of}
+use Rattle.nodejs_semver.specs.Npm.VersionText.{IsVersionText}
+use Rattle.nodejs_semver.specs.declared.npm.flaws.Flaw.{Flaw}
+use Rattle.nodejs_semver.specs.declared.npm.flaws.Flaw.TheVariants.{At, TooLong}
+use Rattle.nodejs_semver.specs.declared.npm.flaws.State.{State}
+use Rattle.nodejs_semver.specs.declared.npm.flaws.State.TheVariants.{Start, Digit, Number, Dash, Zero, Padded, PreRelease, Plus, Build, End}
+use Rattle.nodejs_semver.specs.declared.npm.flaws.Wrong.{Wrong}
+use Rattle.nodejs_semver.proofs.Stopping.Steps.{run-nil, run-none, run-step, run-then}
+use Rattle.nodejs_semver.proofs.Stopping.Read.{Whole, spelled-read}
+use Rattle.nodejs_semver.proofs.Stopping.Written.{read-spelled}
+use Rattle.nodejs_semver.proofs.Stopping.Fronts.{front-stops, read-front}
+use Rattle.nodejs_semver.proofs.Stopping.Wrongs.{ended-wrong, goes_on, stopped-wrong, one_wrong}
+
+-- ---- where a text stops
+
+stop-next : (limit : ℕ) (text before : List ℕ) (s : State) (c : ℕ) (rest : List ℕ) → 9 ≤ limit
+    → text ≡ encode_utf8_all (before ++ c ∷ rest) → run limit Start before ≡ Some s → next limit s c ≡ None
+    → IsStop limit text (length (encode_utf8_all before))
+stop-next limit text before s c rest nine e h none = record {
+  before = before;
+  behind = c ∷ rest;
+  divided = e;
+  place = refl;
+  right = read-front limit before s nine h;
+  wrong = wrong;
+  none = λ w.
+      front-stops limit before s c rest h none
+      (spelled-read limit (before ++ c ∷ rest) (subst (λ (t : List ℕ). IsSpelled limit t) e w));
+}
+  where
+    wrong : (d : ℕ) (r : List ℕ) → c ∷ rest ≡ d ∷ r → IsFront limit (before ++ d ∷ []) → ⊥
+    wrong d r same f =
+        let first : c ≡ d = cc same in
+        front-stops limit before s c f.0 h none
+        (spelled-read limit (before ++ c ∷ f.0) (subst (λ (t : List ℕ). IsSpelled limit (encode_utf8_all t))
+        (append_assoc before (d ∷ []) f.0 ∙ ap (λ (b : ℕ). before ++ b ∷ f.0) (sym first)) f.1))
+
+stop-end : (limit : ℕ) (text before : List ℕ) (s : State) → 9 ≤ limit → text ≡ encode_utf8_all before
+    → run limit Start before ≡ Some s → is_whole s ≡ false → IsStop limit text (length (encode_utf8_all before))
+stop-end limit text before s nine e h none = record {
+  before = before;
+  behind = [];
+  divided = e ∙ ap encode_utf8_all (sym (append-nil before));
+  place = refl;
+  right = read-front limit before s nine h;
+  wrong = λ c rest same f. cc same;
+  none = λ w.
+      let r = spelled-read limit before (subst (λ (t : List ℕ). IsSpelled limit t) e w) in
+      cc (same_Some _ _ (sym h ∙ r.1), r.2, none);
+}
+
+-- what is wrong where a text stops
+wrong-next : (limit : ℕ) (text before : List ℕ) (s : State) (c : ℕ) (rest : List ℕ) → 9 ≤ limit
+    → text ≡ encode_utf8_all (before ++ c ∷ rest) → run limit Start before ≡ Some s → next limit s c ≡ None
+    → IsWrong limit text (wrong_at s (Some c)) (length (encode_utf8_all before))
+unfolding stop-next
+wrong-next limit text before s c rest nine e h none =
+    (stop-next limit text before s c rest nine e h none, goes_on limit before s nine h, stopped-wrong limit before s c rest nine h none)
+
+wrong-end : (limit : ℕ) (text before : List ℕ) (s : State) → 9 ≤ limit → text ≡ encode_utf8_all before
+    → run limit Start before ≡ Some s → is_whole s ≡ false
+    → IsWrong limit text (wrong_at s None) (length (encode_utf8_all before))
+unfolding stop-end
+wrong-end limit text before s nine e h none =
+    (stop-end limit text before s nine e h none, goes_on limit before s nine h, ended-wrong limit before s nine h none)
+
+-- ---- the loop
+
+-- how far a text has been read
+pub record Passed (text : List ℕ) (at : ℕ) (state : State) (rest passed : List ℕ) : Type 0 where
+  pub divided : text ≡ encode_utf8_all passed ++ rest
+  pub place : at ≡ length (encode_utf8_all passed)
+  pub reads : run MAX_SAFE_INTEGER Start passed ≡ Some state
+
+-- the characters behind those that are passed
+behind : (passed all rest : List ℕ) → encode_utf8_all all ≡ encode_utf8_all passed ++ rest
+    → (more : List ℕ) × (all ≡ passed ++ more) × (encode_utf8_all more ≡ rest)
+behind [] all rest e = (all, refl, e)
+behind (c ∷ passed) all rest e =
+    let first = cons_from_encodes all (encode_utf8_all passed ++ rest) c (e ∙ append_assoc (encode_utf8 c) (encode_utf8_all passed) rest) in
+    let r = behind passed first.0 rest first.2 in
+    (r.0, first.1 ∙ ap (λ (t : List ℕ). c ∷ t) r.1, r.2)
+
+pub passed_none : (text rest : List ℕ) → rest ≡ text → Passed text 0 Start rest []
+passed_none text rest e = record { divided = sym e; place = refl; reads = run-nil MAX_SAFE_INTEGER Start }
+
+pub passed_more : (text : List ℕ) (at : ℕ) (s t : State) (rest passed next-rest : List ℕ) (c n : ℕ) → Passed text at s rest passed
+    → rest ≡ encode_utf8 c ++ next-rest → n ≡ len_utf8 c → next MAX_SAFE_INTEGER s c ≡ Some t
+    → Passed text (at + n) t next-rest (passed ++ c ∷ [])
+passed_more text at s t rest passed next-rest c n p e size h =
+    let one : encode_utf8_all (passed ++ c ∷ []) ≡ encode_utf8_all passed ++ encode_utf8 c =
+    encodes-append passed (c ∷ []) ∙ ap (λ (x : List ℕ). encode_utf8_all passed ++ x) (append-nil (encode_utf8 c)) in
+    record {
+      divided = p.divided ∙ (ap (λ (x : List ℕ). encode_utf8_all passed ++ x) e
+          ∙ (sym (append_assoc (encode_utf8_all passed) (encode_utf8 c) next-rest) ∙ ap (λ (x : List ℕ). x ++ next-rest) (sym one)));
+      place = omega (arith, p.place, size, length-encode c, ap length one, length-append (encode_utf8_all passed) (encode_utf8 c));
+      reads = run-then MAX_SAFE_INTEGER Start s passed (c ∷ []) p.reads
+          ∙ (run-step MAX_SAFE_INTEGER s t c [] h ∙ run-nil MAX_SAFE_INTEGER t);
+    }
+
+pub passed_room : (text : List ℕ) (at : ℕ) (s : State) (rest passed next-rest : List ℕ) (c n : ℕ) → Passed text at s rest passed
+    → rest ≡ encode_utf8 c ++ next-rest → n ≡ len_utf8 c → at + n ≤ length text
+passed_room text at s rest passed next-rest c n p e size =
+    omega (
+      arith,
+      p.place,
+      size,
+      length-encode c,
+      ap length p.divided,
+      ap length e,
+      length-append (encode_utf8_all passed) rest,
+      length-append (encode_utf8 c) next-rest,
+    )
+
+pub passed_stop : (text : List ℕ) (at : ℕ) (s : State) (rest passed next-rest : List ℕ) (c : ℕ) (w : Wrong) → IsUtf8 text
+    → Passed text at s rest passed → rest ≡ encode_utf8 c ++ next-rest → next MAX_SAFE_INTEGER s c ≡ None
+    → w ≡ wrong_at s (Some c) → IsWrong MAX_SAFE_INTEGER text w at
+passed_stop text at s rest passed next-rest c w u p e none is =
+    let b = behind passed u.0 rest (u.1.1 ∙ p.divided) in
+    let d = cons_from_encodes b.0 next-rest c (b.2 ∙ e) in
+    let whole : text ≡ encode_utf8_all (passed ++ c ∷ d.0) =
+    sym u.1.1 ∙ ap encode_utf8_all (b.1 ∙ ap (λ (x : List ℕ). passed ++ x) d.1) in
+    rw (is, p.place) (wrong-next MAX_SAFE_INTEGER text passed s c d.0 (omega arith) whole p.reads none)
+
+at-end : (text : List ℕ) (at : ℕ) (s : State) (rest passed : List ℕ) → Passed text at s rest passed → length rest ≡ 0
+    → text ≡ encode_utf8_all passed
+at-end text at s [] passed p h = p.divided ∙ append-nil (encode_utf8_all passed)
+at-end text at s (c ∷ rest) passed p h = absurd (omega (arith, h))
+
+pub passed_end : (text : List ℕ) (at : ℕ) (s : State) (rest passed : List ℕ) (w : Wrong) → Passed text at s rest passed
+    → length rest ≡ 0 → is_whole s ≡ false → w ≡ wrong_at s None → IsWrong MAX_SAFE_INTEGER text w at
+passed_end text at s rest passed w p h none is =
+    rw (is, p.place)
+    (wrong-end MAX_SAFE_INTEGER text passed s (omega arith) (at-end text at s rest passed p h) p.reads none)
+
+pub passed_whole : (text : List ℕ) (at : ℕ) (s : State) (rest passed : List ℕ) → Passed text at s rest passed
+    → length rest ≡ 0 → is_whole s ≡ true → IsSpelled MAX_SAFE_INTEGER text
+passed_whole text at s rest passed p h whole =
+    subst (λ (t : List ℕ). IsSpelled MAX_SAFE_INTEGER t) (sym (at-end text at s rest passed p h))
+    (read-spelled MAX_SAFE_INTEGER passed (omega arith) (s, p.reads, whole))
+
+pub ruleset stops = (passed_none, passed_more, passed_room, passed_stop, passed_end, passed_whole)
+
+-- ---- a text has one flaw
+
+-- two divisions of one text: they are the same, or one goes on where the other ends
+divisions : (xs us ys vs : List ℕ) → xs ++ us ≡ ys ++ vs → ((xs ≡ ys) × (us ≡ vs))
+    ⊎ (((c : ℕ) × (r : List ℕ) × (ys ≡ xs ++ c ∷ r) × (us ≡ c ∷ (r ++ vs)))
+    ⊎ ((c : ℕ) × (r : List ℕ) × (xs ≡ ys ++ c ∷ r) × (vs ≡ c ∷ (r ++ us))))
+divisions [] us [] vs e = inl (refl, e)
+divisions [] us (c ∷ ys) vs e = inr (inl (c, ys, refl, e))
+divisions (c ∷ xs) us [] vs e = inr (inr (c, xs, refl, sym e))
+divisions (c ∷ xs) us (d ∷ ys) vs e =
+    let first : c ≡ d = cc e in
+    elim (divisions xs us ys vs (cc e)) [
+      | inl same ↦ inl (cc (first, same.0), same.1)
+      | inr (inl m) ↦ inr (inl (m.0, m.1, cc (first, m.2), m.3))
+      | inr (inr m) ↦ inr (inr (m.0, m.1, cc (first, m.2), m.3))
+    ]
+
+-- no front goes further than a stop
+not-behind : (limit : ℕ) (text : List ℕ) (a c : ℕ) (r front vs : List ℕ) → (x : IsStop limit text a) → front ≡ x.before ++ c ∷ r
+    → x.behind ≡ c ∷ (r ++ vs) → IsFront limit front → ⊥
+not-behind limit text a c r front vs x e k f =
+    x.wrong c (r ++ vs) k (
+      r ++ f.0,
+      subst (λ (t : List ℕ). IsSpelled limit (encode_utf8_all t))
+          (ap (λ (t : List ℕ). t ++ f.0) e ∙ simp append_assoc) f.1,
+    )
+
+same-stop : (limit : ℕ) (text : List ℕ) (a b : ℕ) (x : IsStop limit text a) (y : IsStop limit text b)
+    → (x.before ≡ y.before) × (x.behind ≡ y.behind)
+same-stop limit text a b x y =
+    elim (divisions x.before x.behind y.before y.behind
+    (encodes_same (x.before ++ x.behind) (y.before ++ y.behind) (sym x.divided ∙ y.divided))) [
+      | inl same ↦ same
+      | inr (inl m) ↦ absurd (not-behind limit text a m.0 m.1 y.before y.behind x m.2 m.3 y.right)
+      | inr (inr m) ↦ absurd (not-behind limit text b m.0 m.1 x.before x.behind y m.2 m.3 x.right)
+    ]
+
+same-wrong : (limit : ℕ) (before before' behind behind' : List ℕ) → before ≡ before' → behind ≡ behind'
+    → (x : GoesOn limit before) (y : GoesOn limit before')
+    → wrong_of x.may x.great before behind ≡ wrong_of y.may y.great before' behind'
+same-wrong limit before before' behind behind' e k x y =
+    one_wrong limit before behind x (subst (λ (t : List ℕ). GoesOn limit t) (sym e) y)
+    ∙ (ap (λ (t : List ℕ). wrong_of y.may y.great t behind) e ∙ ap (λ (t : List ℕ). wrong_of y.may y.great before' t) k)
+
+pub one_flaw : (limit : ℕ) (text : List ℕ) (f g : Flaw) → IsFlaw limit text f → IsFlaw limit text g → f ≡ g
+one_flaw limit text TooLong TooLong x y = refl
+one_flaw limit text TooLong (At v b) x y = absurd (omega (arith, x, y.0))
+one_flaw limit text (At w a) TooLong x y = absurd (omega (arith, y, x.0))
+one_flaw limit text (At w a) (At v b) x y =
+    let s = x.1.0 in
+    let t = y.1.0 in
+    let same = same-stop limit text a b s t in
+    let place : a ≡ b = s.place ∙ (ap (λ (c : List ℕ). length (encode_utf8_all c)) same.0 ∙ sym t.place) in
+    let wrong : w ≡ v =
+    x.1.2 ∙ (same-wrong limit s.before t.before s.behind t.behind same.0 same.1 x.1.1 y.1.1 ∙ sym y.1.2) in
+    cc (place, wrong)
+
+spelled : (limit : ℕ) (text : List ℕ) (v : VersionValue) → IsVersionText limit text v → IsSpelled limit text
+spelled limit text v h = record { version = v; middle = h.middle; trimmed = h.trimmed; is = h.is }
+
+-- a version has none
+pub no_flaw : (limit : ℕ) (text : List ℕ) (f : Flaw) (v : VersionValue) → IsVersionText limit text v → IsFlaw limit text f → ⊥
+no_flaw limit text TooLong v h x = omega (arith, x, h.short)
+no_flaw limit text (At w a) v h x = x.1.0.none (spelled limit text v h)
+
+pub flaw_none : (limit : ℕ) (text : List ℕ) (f : Flaw) → IsFlaw limit text f
+    → (Some f ≡ None) ↔ ((v : VersionValue) × IsVersionText limit text v)
+flaw_none limit text f x = (λ e. cc e, λ h. absurd (no_flaw limit text f h.0 h.1 x))
+
+pub flaw_only : (limit : ℕ) (text : List ℕ) (f : Flaw) → IsFlaw limit text f → (g : Flaw) → IsFlaw limit text g → Some f ≡ Some g
+flaw_only limit text f x g y = ap (λ (h : Flaw). Some h) (one_flaw limit text f g x y)
+
+pub spelled_none : (limit : ℕ) (text : List ℕ) (none : Option Flaw) → length (chars text) ≤ MAX_LENGTH → IsSpelled limit text
+    → none ≡ None → (none ≡ None) ↔ ((v : VersionValue) × IsVersionText limit text v)
+spelled_none limit text none short h e =
+    (λ k. (h.version, record { short = short; middle = h.middle; trimmed = h.trimmed; is = h.is }), λ k. e)
+
+pub spelled_only : (limit : ℕ) (text : List ℕ) (none : Option Flaw) → length (chars text) ≤ MAX_LENGTH → IsSpelled limit text
+    → (f : Flaw) → IsFlaw limit text f → none ≡ Some f
+spelled_only limit text none short h f x =
+    absurd (no_flaw limit text f h.version (record { short = short; middle = h.middle; trimmed = h.trimmed; is = h.is }) x)
+
+pub ruleset flaws = (flaw_none, flaw_only, spelled_none, spelled_only)

@@ -1,0 +1,559 @@
+-- A text that is read to its end as a version is written as one.
+use Rattle.std.proofs.Common.{◌≡◌, ◌⊎◌, ◌<◌, ◌≤◌, ◌+◌, ◌*◌, ◌&&◌, ◌||◌, not, ℕ, zero, suc, Bool, true, false, Option, Some, None, List, [], ◌∷◌, ◌++◌, length, refl, sym, ap, ◌∙◌, arith, inl, inr, nat_lt, append_assoc, append-nil, length-append, subst}
+use Rattle.std.specs.Prelude.{◌==◌, encode_utf8_all, if◌then◌else◌, map, reverse}
+use Rattle.std.specs.Char.{digit_value, is_ascii_digit}
+use Rattle.std.specs.List.{list_all, onto_first}
+use Rattle.std.specs.Str.Parse.{digits_value}
+use Rattle.std.proofs.lemmas.Bool.{and_from, and_parts, cases_Bool, eqb-true}
+use Rattle.std.proofs.lemmas.Bool.Decides.{nat_tests}
+use Rattle.std.proofs.lemmas.Int.Digits.{digits_value_push}
+use Rattle.std.proofs.lemmas.List.{reverse-append}
+use Rattle.std.proofs.lemmas.List.Folds.{list_all-append}
+use Rattle.std.proofs.lemmas.Option.{same_Some}
+use Rattle.semver_core.specs.Internal.Reading.{◌>>?◌}
+use Rattle.semver_core.specs.Text.Characters.{IsTrim, begins, is_identifier_char, is_whitespace}
+use Rattle.semver_core.specs.Text.Identifiers.{Id, IsIdentifiers, identifier_of, is_identifier, pieces}
+use Rattle.semver_core.specs.Values.Versions.{VersionValue}
+use Rattle.semver_core.proofs.Text.Pieces.{onto_tail, runs_tail, tail_runs}
+use Rattle.semver_core.proofs.Text.Texts.{bind_some}
+use Rattle.nodejs_semver.specs.Internal.NpmStates.{ended, is_whole, next, run}
+use Rattle.nodejs_semver.specs.Npm.Flaws.{IsSpelled}
+use Rattle.nodejs_semver.specs.Npm.Grammar.{IsStrictBuild, IsStrictNumber, IsStrictPreRelease, dashed, has_leading_zero, is_strict_identifier, no_build, no_pre_release, plus}
+use Rattle.nodejs_semver.specs.Npm.VersionText.{IsStrictVersion}
+use Rattle.nodejs_semver.specs.declared.npm.flaws.State.{State}
+use Rattle.nodejs_semver.specs.declared.npm.flaws.State.TheVariants.{Start, Digit, Number, Dash, Zero, Padded, PreRelease, Plus, Build, End}
+use Rattle.nodejs_semver.proofs.Stopping.Steps.{digit-plain, identifier-more, identifier_read}
+use Rattle.nodejs_semver.proofs.Stopping.Read.{Whole, is_plain, plain-encodes, runs-first, strict-onto, strict_behind}
+
+-- ---- steps
+
+-- from what a step gives the rest is read to the end
+abbrev From : ℕ → Option State → List ℕ → Type 0
+From limit None cs = ⊥
+From limit (Some t) cs = Whole limit t cs
+
+from : (limit : ℕ) (s : State) (c : ℕ) (cs : List ℕ) → Whole limit s (c ∷ cs) → From limit (next limit s c) cs
+unfolding run
+from limit s c cs w = go (next limit s c) w.1
+  where
+    go : (o : Option State) → (o >>? λ t. run limit t cs) ≡ Some w.0 → From limit o cs
+    go None e = cc e
+    go (Some t) e = (w.0, e, w.2)
+
+none-whole : (limit : ℕ) (s : State) → is_whole s ≡ false → Whole limit s [] → ⊥
+unfolding run
+none-whole limit s h w = cc (same_Some _ _ w.1, w.2, h)
+
+-- ---- whitespace
+
+spaces-written : (limit : ℕ) (cs : List ℕ) → Whole limit End cs → list_all is_whitespace cs ≡ true
+unfolding next
+spaces-written limit [] w = refl
+spaces-written limit (c ∷ cs) w = elim (cases_Bool (is_whitespace c)) [
+  | inl white ↦ rw (white, spaces-written limit cs (rw white at (from limit End c cs w))) refl
+  | inr other ↦ absurd (rw other at (from limit End c cs w))
+]
+
+-- ---- build metadata
+
+-- the text is these characters and whitespace
+record Spaced (cs : List ℕ) (Is : List ℕ → Type 0) : Type 0 where
+  text : List ℕ
+  after : List ℕ
+  divided : cs ≡ text ++ after
+  plain : list_all is_plain text ≡ true
+  blank : list_all is_whitespace after ≡ true
+  is : Is text
+
+none-spaced : (cs : List ℕ) (Is : List ℕ → Type 0) → list_all is_whitespace cs ≡ true → Is [] → Spaced cs Is
+none-spaced cs Is h k = record { text = []; after = cs; divided = refl; plain = refl; blank = h; is = k }
+
+more-spaced : (c : ℕ) (cs : List ℕ) (Is As : List ℕ → Type 0) → is_plain c ≡ true → ((t : List ℕ) → Is t → As (c ∷ t))
+    → Spaced cs Is → Spaced (c ∷ cs) As
+more-spaced c cs Is As h along s = record {
+  text = c ∷ s.text;
+  after = s.after;
+  divided = ap (λ (t : List ℕ). c ∷ t) s.divided;
+  plain = and_from (is_plain c) (list_all is_plain s.text) h s.plain;
+  blank = s.blank;
+  is = along s.text s.is;
+}
+
+identifier-plain : (c : ℕ) → is_identifier_char c ≡ true → (is_plain c ≡ true) × ((c == 46) ≡ false)
+identifier-plain c h = (rw h refl, grind (arith, nat_tests))
+
+runs-onto : (c : ℕ) (ps : List (List ℕ)) → is_identifier_char c ≡ true → tail_runs ps ≡ true → tail_runs (onto_first c ps) ≡ true
+runs-onto c ps h k = runs_tail (onto_first c ps) (onto_tail c ps h k)
+
+-- behind a character of an identifier, and behind `+` or a dot
+builds : (limit : ℕ) (cs : List ℕ)
+    → (Whole limit Build cs → Spaced cs (λ t. tail_runs (pieces t) ≡ true))
+    × (Whole limit Plus cs → Spaced cs (λ t. list_all is_identifier (pieces t) ≡ true))
+unfolding next
+builds limit [] = (λ w. none-spaced [] _ refl refl, λ w. absurd (none-whole limit Plus refl w))
+builds limit (c ∷ cs) = elim (cases_Bool (is_identifier_char c)) [
+  | inl letter ↦
+      let p = identifier-plain c letter in (
+        λ w. more-spaced c cs _ _ p.0 (λ t k. rw p.1 (runs-onto c (pieces t) letter k))
+            ((builds limit cs).0 (rw letter at (from limit Build c cs w))),
+        λ w. more-spaced c cs _ _ p.0 (λ t k. rw p.1 (onto_tail c (pieces t) letter k))
+            ((builds limit cs).0 (rw letter at (from limit Plus c cs w))),
+      )
+  | inr other ↦ (
+    λ w. behind other (builds limit cs).1 (from limit Build c cs w),
+    λ w. absurd (rw other at (from limit Plus c cs w)),
+  )
+]
+  where
+    behind : is_identifier_char c ≡ false → (Whole limit Plus cs → Spaced cs (λ t. list_all is_identifier (pieces t) ≡ true))
+        → From limit (next limit Build c) cs → Spaced (c ∷ cs) (λ t. tail_runs (pieces t) ≡ true)
+    behind other later w = elim (cases_Bool (c == 46)) [
+      | inl dot ↦ more-spaced c cs _ _ (rw (other, dot) refl) (λ t k. rw dot k) (later (rw (other, dot) at w))
+      | inr apart ↦ elim (cases_Bool (is_whitespace c)) [
+        | inl white ↦
+            none-spaced (c ∷ cs) _ (rw (white, spaces-written limit cs (rw (other, apart, white) at w)) refl) refl
+        | inr dark ↦ absurd (rw (other, apart, dark) at w)
+      ]
+    ]
+
+-- ---- pre-releases
+
+-- the text is these characters, build metadata and whitespace
+record Qualified (cs : List ℕ) (Is : List ℕ → Type 0) : Type 0 where
+  text : List ℕ
+  build : List ℕ
+  after : List ℕ
+  divided : cs ≡ text ++ (build ++ after)
+  plain : list_all is_plain text ≡ true
+  plain_build : list_all is_plain build ≡ true
+  blank : list_all is_whitespace after ≡ true
+  build_is : (l : List Id) × IsStrictBuild build l
+  is : Is text
+
+more-qualified : (c : ℕ) (cs : List ℕ) (Is As : List ℕ → Type 0) → is_plain c ≡ true → ((t : List ℕ) → Is t → As (c ∷ t))
+    → Qualified cs Is → Qualified (c ∷ cs) As
+more-qualified c cs Is As h along q = record {
+  text = c ∷ q.text;
+  build = q.build;
+  after = q.after;
+  divided = ap (λ (t : List ℕ). c ∷ t) q.divided;
+  plain = and_from (is_plain c) (list_all is_plain q.text) h q.plain;
+  plain_build = q.plain_build;
+  blank = q.blank;
+  build_is = q.build_is;
+  is = along q.text q.is;
+}
+
+-- nothing stands before the build metadata
+blank-qualified : (cs : List ℕ) (Is : List ℕ → Type 0) → list_all is_whitespace cs ≡ true → Is [] → Qualified cs Is
+blank-qualified cs Is h k = record {
+  text = [];
+  build = [];
+  after = cs;
+  divided = refl;
+  plain = refl;
+  plain_build = refl;
+  blank = h;
+  build_is = ([], no_build);
+  is = k;
+}
+
+build-qualified : (cs : List ℕ) (Is : List ℕ → Type 0) → Spaced cs (λ t. list_all is_identifier (pieces t) ≡ true) → Is []
+    → Qualified (43 ∷ cs) Is
+build-qualified cs Is s k = record {
+  text = [];
+  build = 43 ∷ s.text;
+  after = s.after;
+  divided = ap (λ (t : List ℕ). 43 ∷ t) s.divided;
+  plain = refl;
+  plain_build = s.plain;
+  blank = s.blank;
+  build_is = (
+    map identifier_of (pieces s.text),
+    plus s.text (map identifier_of (pieces s.text)) (record { runs = s.is; spelled = refl }),
+  );
+  is = k;
+}
+
+ended-written : (limit c : ℕ) (cs : List ℕ) (Is : List ℕ → Type 0) → From limit (ended c) cs → Is [] → Qualified (c ∷ cs) Is
+ended-written limit c cs Is w k = elim (cases_Bool (c == 43)) [
+  | inl sign ↦
+      subst (λ (b : ℕ). Qualified (b ∷ cs) Is) (sym (eqb-true c 43 sign))
+      (build-qualified cs Is ((builds limit cs).1 (rw sign at w)) k)
+  | inr apart ↦ elim (cases_Bool (is_whitespace c)) [
+    | inl white ↦ blank-qualified (c ∷ cs) Is (rw (white, spaces-written limit cs (rw (apart, white) at w)) refl) k
+    | inr dark ↦ absurd (rw (apart, dark) at w)
+  ]
+]
+
+-- an identifier ends behind these characters, or goes on
+data Reads (a : ℕ) (x : List ℕ) (s : State) : Type 0 where
+  ends : (s ≡ Zero) ⊎ (s ≡ PreRelease) → is_strict_identifier (a ∷ x) ≡ true → Reads a x s
+  padded : s ≡ Padded → Reads a x s
+
+reads : (a : ℕ) (x : List ℕ) → Reads a x (identifier_read (a ∷ x))
+reads a [] = elim (cases_Bool (a == 48)) [
+  | inl none ↦ rw none (ends (inl refl) (strict-one (is_ascii_digit a && true)))
+  | inr other ↦ rw other (ends (inr refl) (strict-one (is_ascii_digit a && true)))
+]
+  where
+    strict-one : (b : Bool) → not (b && false) ≡ true
+    strict-one b = grind arith
+reads a (b ∷ x) = elim (cases_Bool (list_all is_ascii_digit (a ∷ b ∷ x) && a == 48)) [
+  | inl zeros ↦ rw zeros (padded refl)
+  | inr other ↦ rw other (ends (inr refl) (ap not other))
+]
+
+letter-digit : (c : ℕ) → is_identifier_char c ≡ false → is_ascii_digit c ≡ false
+letter-digit c h = grind (arith, nat_tests)
+
+abbrev IsTail : ℕ → List ℕ → List ℕ → Type 0
+IsTail a x t = (tail_runs (pieces t) ≡ true) × (strict_behind (a ∷ x) (pieces t) ≡ true)
+
+abbrev IsList : List ℕ → Type 0
+IsList t = (list_all is_identifier (pieces t) ≡ true) × (list_all is_strict_identifier (pieces t) ≡ true)
+
+tail-end : (a : ℕ) (x : List ℕ) → is_strict_identifier (a ∷ x) ≡ true → IsTail a x []
+tail-end a x h = (refl, rw (append-nil x, h) refl)
+
+-- behind an identifier of the pre-release
+behind-written : (limit a : ℕ) (x : List ℕ) (s : State) (c : ℕ) (cs : List ℕ) → Reads a x s → is_identifier_char c ≡ false
+    → (Whole limit Dash cs → Qualified cs IsList) → From limit (next limit s c) cs → Qualified (c ∷ cs) (IsTail a x)
+unfolding next
+behind-written limit a x s c cs (padded e) other later w = absurd (rw (e, other, letter-digit c other) at w)
+behind-written limit a x s c cs (ends e strict) other later w = go e
+  where
+    step : (From limit (if c == 46 then Some Dash else ended c) cs) → Qualified (c ∷ cs) (IsTail a x)
+    step w = elim (cases_Bool (c == 46)) [
+      | inl dot ↦
+          more-qualified c cs IsList (IsTail a x) (rw (other, dot) refl)
+          (λ t k. (rw dot k.0, rw (dot, append-nil x, strict) k.1)) (later (rw dot at w))
+      | inr apart ↦ ended-written limit c cs (IsTail a x) (rw apart at w) (tail-end a x strict)
+    ]
+
+    go : (s ≡ Zero) ⊎ (s ≡ PreRelease) → Qualified (c ∷ cs) (IsTail a x)
+    go (inl e) = step (rw (e, other, letter-digit c other) at w)
+    go (inr e) = step (rw (e, other) at w)
+
+list-onto : (c : ℕ) (ps : List (List ℕ)) → strict_behind (c ∷ []) ps ≡ true → list_all is_strict_identifier (onto_first c ps) ≡ true
+list-onto c [] h = rw h refl
+list-onto c (p ∷ ps) h = h
+
+whole-strict : (a : ℕ) (x : List ℕ) (s : State) → Reads a x s → is_whole s ≡ true → is_strict_identifier (a ∷ x) ≡ true
+whole-strict a x s (ends e strict) w = strict
+whole-strict a x s (padded e) w = cc (rw e at w)
+
+whole-now : (limit : ℕ) (s : State) → Whole limit s [] → is_whole s ≡ true
+unfolding run
+whole-now limit s w = rw (same_Some _ _ w.1) w.2
+
+identifiers : (limit : ℕ) (cs : List ℕ)
+    → ((a : ℕ) (x : List ℕ) → Whole limit (identifier_read (a ∷ x)) cs → Qualified cs (IsTail a x))
+    × (Whole limit Dash cs → Qualified cs IsList)
+unfolding next
+identifiers limit [] = (
+  λ a x w. blank-qualified [] (IsTail a x) refl (tail-end a x (whole-strict a x _ (reads a x) (whole-now limit _ w))),
+  λ w. absurd (none-whole limit Dash refl w),
+)
+identifiers limit (c ∷ cs) = elim (cases_Bool (is_identifier_char c)) [
+  | inl letter ↦
+      let p = identifier-plain c letter in (
+        λ a x w.
+            let next : Whole limit (identifier_read (a ∷ (x ++ c ∷ []))) cs =
+            rw (identifier-more limit (a ∷ x) c letter) at (from limit (identifier_read (a ∷ x)) c cs w) in
+            more-qualified c cs (IsTail a (x ++ c ∷ [])) (IsTail a x) p.0 (λ t k. (
+              rw p.1 (runs-onto c (pieces t) letter k.0),
+              rw p.1 (strict-onto (a ∷ x) c (pieces t) ∙ k.1),
+            )) ((identifiers limit cs).0 a (x ++ c ∷ []) next),
+        λ w.
+            let next : Whole limit (identifier_read (c ∷ [])) cs =
+            rw (identifier-more limit [] c letter) at (from limit Dash c cs w) in
+            more-qualified c cs (IsTail c []) IsList p.0 (λ t k. (
+              rw p.1 (onto_tail c (pieces t) letter k.0),
+              rw p.1 (list-onto c (pieces t) k.1),
+            )) ((identifiers limit cs).0 c [] next),
+      )
+  | inr other ↦ (
+    λ a x w. behind-written limit a x _ c cs (reads a x) other (identifiers limit cs).1 (from limit (identifier_read (a ∷ x)) c cs w),
+    λ w. absurd (dash-stops c other (from limit Dash c cs w)),
+  )
+]
+  where
+    dash-stops : (c : ℕ) → is_identifier_char c ≡ false → From limit (next limit Dash c) cs → ⊥
+    dash-stops c h w =
+        let zero_letter : (c == 48) ≡ false = grind (arith, nat_tests) in
+        rw (zero_letter, h) at w
+
+-- ---- numbers
+
+-- what stands behind the patch number
+abbrev Pre : List ℕ → Type 0
+Pre t = (l : List Id) × IsStrictPreRelease t l
+
+dashed-pre : (t : List ℕ) → IsList t → Pre (45 ∷ t)
+dashed-pre t h = (
+  map identifier_of (pieces t),
+  dashed t (map identifier_of (pieces t)) (record { runs = h.0; spelled = refl }) h.1,
+)
+
+-- what stands behind a number with so many to come
+abbrev Behind : ℕ → ℕ → List ℕ → Type 0
+Behind limit zero cs = Qualified cs Pre
+Behind limit (suc k) cs = (rest : List ℕ) × (cs ≡ 46 ∷ rest) × Whole limit (Digit k) rest
+
+behind-number : (limit left n c : ℕ) (cs : List ℕ) → is_ascii_digit c ≡ false → From limit (next limit (Number left n) c) cs
+    → Behind limit left (c ∷ cs)
+unfolding next
+behind-number limit zero n c cs other w = elim (cases_Bool (c == 45)) [
+  | inl dash ↦
+      let q = (identifiers limit cs).1 (rw (other, dash) at w) in
+      subst (λ (b : ℕ). Qualified (b ∷ cs) Pre) (sym (eqb-true c 45 dash)) (more-qualified 45 cs IsList Pre refl dashed-pre q)
+  | inr apart ↦ ended-written limit c cs Pre (rw (other, apart) at w) ([], no_pre_release)
+]
+behind-number limit (suc k) n c cs other w = elim (cases_Bool (c == 46)) [
+  | inl dot ↦ (cs, ap (λ (b : ℕ). b ∷ cs) (eqb-true c 46 dot), rw (other, dot) at w)
+  | inr apart ↦ absurd (rw (other, apart) at w)
+]
+
+-- the text is digits, which go on with those before, and what stands behind a number
+record Numeral (limit left : ℕ) (x cs : List ℕ) : Type 0 where
+  digits : List ℕ
+  rest : List ℕ
+  n : ℕ
+  divided : cs ≡ digits ++ rest
+  plain : list_all is_plain digits ≡ true
+  is : IsStrictNumber limit (x ++ digits) n
+  behind : Behind limit left rest
+
+strict-push : (limit n c : ℕ) (x : List ℕ) → IsStrictNumber limit x n → (n == 0) ≡ false → is_ascii_digit c ≡ true
+    → n * 10 + digit_value c ≤ limit → IsStrictNumber limit (x ++ c ∷ []) (n * 10 + digit_value c)
+strict-push limit n c x h some digit safe = record {
+  number = record {
+    some = omega (arith, length-append x (c ∷ []));
+    each = list_all-append is_ascii_digit x (c ∷ []) ∙ and_from (list_all is_ascii_digit x) (is_ascii_digit c && true) h.number.each (rw digit refl);
+    value = ap (λ (m : ℕ). m * 10 + digit_value c) h.number.value ∙ sym (digits_value_push 10 x c);
+    safe = safe;
+  };
+  shortest = short x h;
+}
+  where
+    short : (x : List ℕ) → IsStrictNumber limit x n → has_leading_zero (x ++ c ∷ []) ≡ false
+    short [] h = refl
+    short (a ∷ []) h = elim (cases_Bool (a == 48)) [
+      | inr other ↦ other
+      | inl none ↦
+          let value : n ≡ 0 = h.number.value ∙ ap (λ (b : ℕ). digits_value 10 (b ∷ [])) (eqb-true a 48 none) in
+          cc (rw value at some)
+    ]
+    short (a ∷ b ∷ x) h = h.shortest
+
+numerals : (limit left n : ℕ) (x cs : List ℕ) → IsStrictNumber limit x n → Whole limit (Number left n) cs → Numeral limit left x cs
+unfolding next
+numerals limit left n x [] h w = record {
+  digits = [];
+  rest = [];
+  n = n;
+  divided = refl;
+  plain = refl;
+  is = rw (append-nil x) h;
+  behind = end left w;
+}
+  where
+    more : (k : ℕ) → (suc k == 0) ≡ false
+    more k = grind arith
+
+    end : (left : ℕ) → Whole limit (Number left n) [] → Behind limit left []
+    end zero w = blank-qualified [] Pre refl ([], no_pre_release)
+    end (suc k) w = absurd (none-whole limit (Number (suc k) n) (more k) w)
+numerals limit left n x (c ∷ cs) h w = elim (cases_Bool (is_ascii_digit c)) [
+  | inr other ↦ record {
+    digits = [];
+    rest = c ∷ cs;
+    n = n;
+    divided = refl;
+    plain = refl;
+    is = rw (append-nil x) h;
+    behind = behind-number limit left n c cs other (from limit (Number left n) c cs w);
+  }
+  | inl digit ↦ elim (cases_Bool (n == 0 || nat_lt limit (n * 10 + digit_value c))) [
+    | inl stop ↦ absurd (rw (digit, stop) at (from limit (Number left n) c cs w))
+    | inr go ↦
+        let tests = or-none (n == 0) (nat_lt limit (n * 10 + digit_value c)) go in
+        let pushed = strict-push limit n c x h tests.0 digit (within (n * 10 + digit_value c) tests.1) in
+        let r = numerals limit left (n * 10 + digit_value c) (x ++ c ∷ []) cs pushed
+        (rw (digit, go) at (from limit (Number left n) c cs w)) in
+        record {
+          digits = c ∷ r.digits;
+          rest = r.rest;
+          n = r.n;
+          divided = ap (λ (t : List ℕ). c ∷ t) r.divided;
+          plain = rw ((digit-plain c digit).0, r.plain) refl;
+          is = subst (λ (t : List ℕ). IsStrictNumber limit t r.n) (append_assoc x (c ∷ []) r.digits) r.is;
+          behind = r.behind;
+        }
+  ]
+]
+  where
+    or-none : (a b : Bool) → (a || b) ≡ false → (a ≡ false) × (b ≡ false)
+    or-none true b h = cc h
+    or-none false b h = (refl, h)
+
+    within : (m : ℕ) → nat_lt limit m ≡ false → m ≤ limit
+    within m h = grind (arith, nat_tests)
+
+-- a whole number
+number-written : (limit left : ℕ) (cs : List ℕ) → 9 ≤ limit → Whole limit (Digit left) cs → Numeral limit left [] cs
+unfolding next
+number-written limit left [] nine w = absurd (none-whole limit (Digit left) refl w)
+number-written limit left (c ∷ cs) nine w = elim (cases_Bool (is_ascii_digit c)) [
+  | inr other ↦ absurd (rw other at (from limit (Digit left) c cs w))
+  | inl digit ↦
+      let first : 0 * 10 + digit_value c ≡ digit_value c = omega arith in
+      let small : digit_value c ≤ limit = at-most c digit in
+      let number : IsStrictNumber limit (c ∷ []) (digit_value c) = record {
+        number = record { some = omega arith; each = rw digit refl; value = sym first; safe = small };
+        shortest = refl;
+      } in
+      let r = numerals limit left (digit_value c) (c ∷ []) cs number (rw digit at (from limit (Digit left) c cs w)) in
+      record {
+        digits = c ∷ r.digits;
+        rest = r.rest;
+        n = r.n;
+        divided = ap (λ (t : List ℕ). c ∷ t) r.divided;
+        plain = rw ((digit-plain c digit).0, r.plain) refl;
+        is = r.is;
+        behind = r.behind;
+      }
+]
+  where
+    at-most : (c : ℕ) → is_ascii_digit c ≡ true → digit_value c ≤ limit
+    at-most c h = grind (arith, nat_tests)
+
+-- ---- versions
+
+-- the characters are a version and whitespace
+record Written (limit : ℕ) (cs : List ℕ) : Type 0 where
+  middle : List ℕ
+  after : List ℕ
+  version : VersionValue
+  divided : cs ≡ middle ++ after
+  plain : list_all is_plain middle ≡ true
+  blank : list_all is_whitespace after ≡ true
+  is : IsStrictVersion limit middle version
+
+plain-both : (x y : List ℕ) → list_all is_plain x ≡ true → list_all is_plain y ≡ true → list_all is_plain (x ++ y) ≡ true
+plain-both x y h k = list_all-append is_plain x y ∙ and_from (list_all is_plain x) (list_all is_plain y) h k
+
+joined : (m cs a r s b t u c v p q w : List ℕ) → cs ≡ a ++ r → r ≡ 46 ∷ s → s ≡ b ++ t → t ≡ 46 ∷ u → u ≡ c ++ v
+    → v ≡ p ++ (q ++ w) → m ++ cs ≡ (m ++ (a ++ 46 ∷ (b ++ 46 ∷ (c ++ (p ++ q))))) ++ w
+joined m cs a r s b t u c v p q w f g h i j k = rw (f, g, h, i, j, k) (simp append_assoc)
+
+version-written : (limit : ℕ) (mark cs : List ℕ) → 9 ≤ limit → list_all is_plain mark ≡ true
+    → (mark ≡ []) ⊎ (mark ≡ 118 ∷ []) → Whole limit (Digit 2) cs → Written limit (mark ++ cs)
+version-written limit mark cs nine plain is w =
+    let a = number-written limit 2 cs nine w in
+    let b = number-written limit 1 a.behind.0 nine a.behind.2 in
+    let c = number-written limit 0 b.behind.0 nine b.behind.2 in
+    let q = c.behind in
+    let tail = q.text ++ q.build in
+    let middle = mark ++ (a.digits ++ 46 ∷ (b.digits ++ 46 ∷ (c.digits ++ tail))) in
+    record {
+      middle = middle;
+      after = q.after;
+      version = record {
+        major = a.n;
+        minor = b.n;
+        patch = c.n;
+        pre_release = q.is.0;
+        build = q.build_is.0;
+      };
+      divided = joined mark cs a.digits a.rest a.behind.0 b.digits b.rest b.behind.0 c.digits c.rest q.text q.build q.after
+          a.divided a.behind.1 b.divided b.behind.1 c.divided q.divided;
+      plain = plain-both mark _ plain
+          (plain-both a.digits _ a.plain (plain-both b.digits _ b.plain (plain-both c.digits _ c.plain
+          (plain-both q.text q.build q.plain q.plain_build))));
+      blank = q.blank;
+      is = record {
+        mark = mark;
+        major = a.digits;
+        minor = b.digits;
+        patch = c.digits;
+        pre_release = q.text;
+        build = q.build;
+        divided = refl;
+        mark_is = is;
+        major_is = a.is;
+        minor_is = b.is;
+        patch_is = c.is;
+        pre_release_is = q.is.1;
+        build_is = q.build_is.1;
+      };
+    }
+
+-- the same behind whitespace
+record Fronted (limit : ℕ) (cs : List ℕ) : Type 0 where
+  before : List ℕ
+  rest : List ℕ
+  divided : cs ≡ before ++ rest
+  blank : list_all is_whitespace before ≡ true
+  written : Written limit rest
+
+fronted : (limit : ℕ) (cs : List ℕ) → 9 ≤ limit → Whole limit Start cs → Fronted limit cs
+unfolding next run
+fronted limit [] nine w = absurd (none-whole limit Start refl w)
+fronted limit (c ∷ cs) nine w = elim (cases_Bool (is_whitespace c)) [
+  | inl white ↦
+      let f = fronted limit cs nine (rw white at (from limit Start c cs w)) in
+      record {
+        before = c ∷ f.before;
+        rest = f.rest;
+        divided = ap (λ (t : List ℕ). c ∷ t) f.divided;
+        blank = rw (white, f.blank) refl;
+        written = f.written;
+      }
+  | inr dark ↦ record { before = []; rest = c ∷ cs; divided = refl; blank = refl; written = here dark }
+]
+  where
+    here : is_whitespace c ≡ false → Written limit (c ∷ cs)
+    here dark = elim (cases_Bool (c == 118)) [
+      | inl mark ↦
+          subst (λ (b : ℕ). Written limit (b ∷ cs)) (sym (eqb-true c 118 mark))
+          (version-written limit (118 ∷ []) cs nine refl (inr refl) (rw (dark, mark) at (from limit Start c cs w)))
+      | inr other ↦ version-written limit [] (c ∷ cs) nine refl (inl refl) (w.0, (rw (dark, other) at w.1), w.2)
+    ]
+
+-- ---- texts
+
+plain-dark : (cs : List ℕ) → list_all is_plain cs ≡ true → begins is_whitespace cs ≡ false
+plain-dark [] h = refl
+plain-dark (c ∷ cs) h = dark c (and_parts (is_plain c) (list_all is_plain cs) h).0
+  where
+    dark : (c : ℕ) → is_plain c ≡ true → is_whitespace c ≡ false
+    dark c h = grind (arith, nat_tests)
+
+plain-reverse : (cs : List ℕ) → list_all is_plain cs ≡ true → list_all is_plain (reverse cs) ≡ true
+plain-reverse [] h = refl
+plain-reverse (c ∷ cs) h =
+    let each = and_parts (is_plain c) (list_all is_plain cs) h in
+    rw (reverse-append (c ∷ []) cs) (plain-both (reverse cs) (c ∷ []) (plain-reverse cs each.1) (rw each.0 refl))
+
+pub read-spelled : (limit : ℕ) (cs : List ℕ) → 9 ≤ limit → Whole limit Start cs → IsSpelled limit (encode_utf8_all cs)
+read-spelled limit cs nine w =
+    let f = fronted limit cs nine w in
+    let v = f.written in
+    record {
+      version = v.version;
+      middle = v.middle;
+      trimmed = record {
+        before = f.before;
+        characters = v.middle;
+        after = v.after;
+        divided = ap encode_utf8_all (f.divided ∙ ap (λ (t : List ℕ). f.before ++ t) v.divided);
+        middle_is = sym (plain-encodes v.middle v.plain);
+        blank_before = f.blank;
+        blank_after = v.blank;
+        begins_dark = plain-dark v.middle v.plain;
+        ends_dark = plain-dark (reverse v.middle) (plain-reverse v.middle v.plain);
+      };
+      is = v.is;
+    }

@@ -1,0 +1,16 @@
+use Rattle.std.proofs.Common.{rules, ◌≤◌, length}
+use Rattle.std.specs.Str.{chars}
+use Rattle.semver_core.specs.declared.TheConstants.{MAX_LENGTH, MAX_SAFE_INTEGER}
+use Rattle.nodejs_semver.specs.declared.npm.flaws.Flaw.TheVariants.{At}
+use Rattle.nodejs_semver.proofs.Stopping.Stops.{flaw_none, flaw_only}
+use Rattle.nodejs_semver.proofs.npm.flaws.version_flaw.Goals as goal
+
+pub returns-in-Some-clause-none : goal.returns-in-Some-clause-none
+returns-in-Some-clause-none c =
+    let short : length (chars c.args.text.now) ≤ MAX_LENGTH = search rules in
+    flaw_none MAX_SAFE_INTEGER c.args.text.now (At c.in-Some.wrong c.in-Some.at) (short, c.in-Some.ensures)
+
+pub returns-in-Some-clause-only : goal.returns-in-Some-clause-only
+returns-in-Some-clause-only c =
+    let short : length (chars c.args.text.now) ≤ MAX_LENGTH = search rules in
+    flaw_only MAX_SAFE_INTEGER c.args.text.now (At c.in-Some.wrong c.in-Some.at) (short, c.in-Some.ensures)

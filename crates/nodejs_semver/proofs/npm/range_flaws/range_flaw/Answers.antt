@@ -1,0 +1,38 @@
+use Rattle.std.proofs.Common.{◌≡◌, None, arith, false, refl, rules, true}
+use Rattle.std.specs.Option.{is_none}
+use Rattle.semver_core.specs.declared.TheConstants.{MAX_SAFE_INTEGER}
+use Rattle.nodejs_semver.specs.Internal.Readings.{part_view}
+use Rattle.nodejs_semver.proofs.Stopping.Ranges.{flawed, right_here, unflawed, wrong_here}
+use Rattle.nodejs_semver.proofs.npm.range_flaws.range_flaw.Goals as goal
+
+pub returns-then-is_none-clause-flaw : goal.returns-then-is_none-clause-flaw
+returns-then-is_none-clause-flaw c =
+    let empty : is_none c.alternative.result ≡ true = first_of (search rules, grind arith) in
+    wrong_here c.args.include_prerelease c.args.text.now c.in-Some.left.now (part_view c.cut_part.result)
+    c.trimmed-blank.result.1.now c.as_bytes.result.now c.trimmed-blank.result.0 c.alternative.result _ c.utf8.text
+    (rw c.in-Some.is at c.pieces.invariant) c.cut_part.ensures c.trimmed-blank.ensures.start c.trimmed-blank.ensures.middle
+    c.as_bytes.ensures.value c.alternative.ensures empty refl refl
+
+pub returns-then-is_none-clause-none : goal.returns-then-is_none-clause-none
+returns-then-is_none-clause-none c =
+    (flawed c.args.include_prerelease c.args.text.now _ c.utf8.text (returns-then-is_none-clause-flaw c)).0
+
+pub returns-then-is_none-clause-only : goal.returns-then-is_none-clause-only
+returns-then-is_none-clause-only c =
+    (flawed c.args.include_prerelease c.args.text.now _ c.utf8.text (returns-then-is_none-clause-flaw c)).1
+
+pub pieces-preserved : goal.pieces-preserved
+pieces-preserved c =
+    let some : is_none c.alternative.result ≡ false = first_of (search rules, grind arith) in
+    right_here c.args.include_prerelease c.args.text.now c.in-Some.left.now (part_view c.cut_part.result)
+    c.trimmed-blank.result.1.now c.as_bytes.result.now c.alternative.result c.utf8.text
+    (rw c.in-Some.is at c.pieces.invariant) c.cut_part.ensures c.trimmed-blank.ensures.middle
+    c.as_bytes.ensures.value c.alternative.ensures some
+
+pub returns-clause-none : goal.returns-clause-none
+returns-clause-none c =
+    (unflawed c.args.include_prerelease c.args.text.now None refl (rw c.in_default.is at c.pieces.invariant)).0
+
+pub returns-clause-only : goal.returns-clause-only
+returns-clause-only c =
+    (unflawed c.args.include_prerelease c.args.text.now None refl (rw c.in_default.is at c.pieces.invariant)).1

@@ -1,0 +1,10 @@
+use Rattle.nodejs_semver.specs.Internal.PartFronts.{left_over}
+use Rattle.nodejs_semver.specs.Internal.Readings.{rest_view}
+use Rattle.nodejs_semver.proofs.Stopping.Ranges.{Passed}
+use Rattle.nodejs_semver.proofs.npm.range_flaws.range_flaw.Given as goal
+
+abbrev pub invariant-pieces : goal.invariant-pieces
+invariant-pieces l = Passed l.include_prerelease l.text (rest_view l.rest)
+
+abbrev pub decreases-pieces : goal.decreases-pieces
+decreases-pieces l = left_over (rest_view l.rest)
