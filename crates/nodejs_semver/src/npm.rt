@@ -13,6 +13,7 @@ mod coerced;
 mod comparators;
 mod hyphens;
 mod loose_versions;
+mod malformed;
 mod partial;
 mod places;
 mod ranges;

@@ -1,20 +1,25 @@
 // The reader of range texts as node-semver has them, strictly or loosely.
 
-ghost use Rattle.std.specs.Prelude.{◌≡◌, ◌<◌, ℕ, IfOk, List, None, OnOk, length, true};
+ghost use Rattle.std.specs.Prelude.{◌≡◌, ◌<◌, ℕ, Bool, IfOk, List, None, OnOk, Option, length};
+ghost use Rattle.std.specs.Prelude.{true};
 ghost use Rattle.std.specs.Str.{IsUtf8};
 ghost use Rattle.nodejs_semver.specs.Internal.NpmReads.{IsFound, valid_alternative, valid_hyphen};
 ghost use Rattle.nodejs_semver.specs.Internal.NpmReads.{words_of};
 ghost use Rattle.nodejs_semver.specs.Internal.NpmReads.{Adds, AreAllFound, valid_alternatives};
+ghost use Rattle.nodejs_semver.specs.Internal.NpmWords.{standing};
 ghost use Rattle.nodejs_semver.specs.Internal.Parts.{parts};
 ghost use Rattle.nodejs_semver.specs.Npm.Ranges.{HasAlternatives, HasAlternativesIn};
 ghost use Rattle.nodejs_semver.specs.Npm.Ranges.{IsRangeIn, IsRangeOf};
+ghost use Rattle.nodejs_semver.specs.Npm.Table.{Comparison};
 ghost use Rattle.nodejs_semver.specs.Text.Bars.{IsCutAtBars};
+ghost use Rattle.semver_core.specs.Internal.Reading.{◌>>?◌};
 ghost use Rattle.semver_core.specs.Failures.{MemoryOnlyIf, NoValue, RefusedOnlyIf};
 ghost use Rattle.semver_core.specs.declared.TheConstants.{MAX_SAFE_INTEGER};
 
 use crate::RangeRef;
 use crate::npm::alternatives::{Alternative, range_of};
 use crate::npm::hyphens::hyphen_ends;
+use crate::npm::malformed::begins_malformed;
 use crate::npm::words::word_front;
 use crate::range::Intervals;
 use crate::readers::{Found, next_part, skip_spaces};
@@ -39,6 +44,18 @@ fn words(loose: bool, include: bool, text: &[u8]) -> Option<Alternative<'_>>
     }
 }
 
+// The alternative of the words of a text, unless a malformed one is first and no comparator counts.
+fn standing<'a>(loose: bool, text: &[u8], found: Option<Alternative<'a>>) -> Option<Alternative<'a>>
+    ensures { (include : Bool) → (all : Option (List Comparison)) → IsFound include all found.entry
+        → IsFound include (all >>? λ cs. standing loose include text.now cs) result }
+{
+    let found = found?;
+    if loose && begins_malformed(text) && !found.counts() {
+        return None;
+    }
+    Some(found)
+}
+
 // The alternative of a hyphen range.
 fn hyphen(loose: bool, include: bool, text: &[u8]) -> Option<Alternative<'_>>
     ensures { IsFound include (valid_hyphen loose include text.now) result }
@@ -56,7 +73,7 @@ fn alternative(loose: bool, include: bool, text: &[u8]) -> Option<Alternative<'_
     if text.is_empty() {
         return Some(Alternative::all());
     }
-    match words(loose, include, text) {
+    match standing(loose, text, words(loose, include, text)) {
         Some(found) => Some(found),
         None => hyphen(loose, include, text),
     }
@@ -166,13 +183,17 @@ pub fn range(
 /// Reads a range text as node-semver's `Range` does by its option `loose`, as `npm ls` reads the
 /// ranges of dependencies: all that [`range`] reads, and also numbers with leading zeros
 /// (`^01.2.3`), a pre-release without its `-` (`1.2.3beta`), and more marks than one `v` before a
-/// version (`==1.2.3`).
+/// version (`==1.2.3`). It ignores a malformed word beside others if that does not begin as a word
+/// does or has a character that stands in none: `>=1.0.0, <2.0.0` is `<2.0.0`, and `foo 1.2` is
+/// `1.2`.
 ///
-/// What it reads means what it means to node-semver. It rejects more than node-semver does:
-/// a text with a malformed word, such as `>=1.0.0,` or `latest`, which node-semver ignores where
-/// another word is well formed; zero as several digits (`1.00.0`); a number of more than 32
-/// digits; a pre-release of more than 128 characters, or without its `-` where it does not begin
-/// with a letter; and other marks than one `v` before a whole version in a hyphen range.
+/// What it reads means what it means to node-semver. It rejects more than node-semver does: a text
+/// with another malformed word, such as `1.2.3.4`, `1.0/2*`, `foo=` or a single `-`, which
+/// node-semver ignores where another word is well formed; an alternative that begins with a
+/// malformed word and has no comparator (`foo *`, or `latest` in `latest || 1`); zero as several
+/// digits (`1.00.0`); a number of more than 32 digits; a pre-release of more than 128 characters,
+/// or without its `-` where it does not begin with a letter; and other marks than one `v` before a
+/// whole version in a hyphen range.
 ///
 /// All else is as for [`range`]: how to ask the range, what it borrows and when allocation fails.
 ///
