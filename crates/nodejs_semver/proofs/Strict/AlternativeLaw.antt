@@ -17,13 +17,13 @@ use Rattle.nodejs_semver.specs.Internal.NpmWords.{Ended, after_ends, alternative
 use Rattle.nodejs_semver.specs.Internal.NpmWords.{last_end, partial_front, standing, words_within}
 use Rattle.nodejs_semver.specs.Npm.Malformed.{is_plain}
 use Rattle.nodejs_semver.specs.Npm.RangeText.{AreEndMarks, AreWords, IsAlternative, IsPartial, IsSignText, IsWord, hyphen, ignored, is_free_lower, is_free_upper}
-use Rattle.nodejs_semver.specs.Npm.RangeText.{is_mark, is_one_v, last, more, nothing, spelling, stands, word, words}
+use Rattle.nodejs_semver.specs.Npm.RangeText.{is_mark, last, more, nothing, spelling, stands, word, words}
 use Rattle.nodejs_semver.specs.Npm.RangeText.{caret_equal, late_above, late_below, no_sign, sign, tilde_sign, tilde_twice}
 use Rattle.nodejs_semver.specs.Npm.Table.{Comparison, Partial, Sign, caret, compared, hyphen_lower, hyphen_upper, major, minor, tilde, whole, wildcard}
 use Rattle.nodejs_semver.specs.Text.WordText.{above, at_least, at_most, below, equal}
 use Rattle.nodejs_semver.proofs.Reading.Bytes.{all-join, begins_component, is_solid}
 use Rattle.nodejs_semver.proofs.Reading.Steps.{option-cases}
-use Rattle.nodejs_semver.proofs.Strict.Hyphens.{after_ends-drop, dash-read, end-read, ends-space, hyphen-found, mark-dark, marks-one, marks-passed, one-dark}
+use Rattle.nodejs_semver.proofs.Strict.Hyphens.{after_ends-drop, dash-read, end-read, ends-space, hyphen-found, mark-dark, marks-passed, marks-whole, whole-dark}
 use Rattle.nodejs_semver.proofs.Strict.Malformed.{all-weaker, is_part, malformed-first, malformed-plain, partial-part}
 use Rattle.nodejs_semver.proofs.Strict.PartialLaw.{boundary-quiet, partial-read}
 use Rattle.nodejs_semver.proofs.Strict.SignsRead.{marks-all}
@@ -262,7 +262,7 @@ record UpperRead (loose : Bool) (include : Bool) (q : Partial) (second text : Li
   is : last_end loose (is_free_upper include) second ≡ Some (q, taken)
   same : hyphen_upper include q taken ≡ hyphen_upper include q text
 
-upper-read : (loose : Bool) (include : Bool) (gap b y : List ℕ) (q : Partial) → IsBlank gap → AreEndMarks (is_free_upper include q) b → IsPartial loose y q
+upper-read : (loose : Bool) (include : Bool) (gap b y : List ℕ) (q : Partial) → IsBlank gap → AreEndMarks loose (is_free_upper include q) b → IsPartial loose y q
     → UpperRead loose include q (drop_spaces (gap ++ (b ++ y))) (b ++ y)
 unfolding end_front
 upper-read loose include gap b y q hg h k =
@@ -274,7 +274,7 @@ upper-read loose include gap b y q hg h k =
     elim (cases_Bool (is_free_upper include q)) [
       | inl free ↦
           let passed : drop_ends second ≡ y =
-          ap drop_ends at_gap ∙ ends-after 0 (b ++ y) ∙ marks-passed (is_free_upper include q) b y h begin in
+          ap drop_ends at_gap ∙ ends-after 0 (b ++ y) ∙ marks-passed loose (is_free_upper include q) b y h begin in
           record {
             taken = take (length second - 0) second;
             is = rw (passed, read, free) refl;
@@ -287,11 +287,11 @@ upper-read loose include gap b y q hg h k =
           record { taken = b ++ y; is = rw (none, at_end) refl; same = refl }
     ]
   where
-    bound-dark : (b y : List ℕ) → AreEndMarks false b → begins_component y ≡ true → space_len (b ++ y) ≡ 0
-    bound-dark b y h begin = one-dark b y (marks-one false b h) begin
+    bound-dark : (b y : List ℕ) → AreEndMarks loose false b → begins_component y ≡ true → space_len (b ++ y) ≡ 0
+    bound-dark b y h begin = whole-dark loose b y (marks-whole loose false b h) begin
 
-pub hyphen-read : (loose : Bool) (include : Bool) (a x blank gap b y : List ℕ) (p q : Partial) → AreEndMarks (is_free_lower p) a → IsPartial loose x p
-    → IsBlank blank → 0 < length blank → IsBlank gap → 0 < length gap → AreEndMarks (is_free_upper include q) b → IsPartial loose y q
+pub hyphen-read : (loose : Bool) (include : Bool) (a x blank gap b y : List ℕ) (p q : Partial) → AreEndMarks loose (is_free_lower p) a → IsPartial loose x p
+    → IsBlank blank → 0 < length blank → IsBlank gap → 0 < length gap → AreEndMarks loose (is_free_upper include q) b → IsPartial loose y q
     → (e : Ended × Ended) × (hyphen_ends loose include (a ++ (x ++ (blank ++ 45 ∷ (gap ++ (b ++ y))))) ≡ Some e)
     × (hyphen_comparisons include e ≡ hyphen_lower include p (a ++ x) ++ hyphen_upper include q (b ++ y))
 unfolding hyphen_ends

@@ -11,7 +11,7 @@ use Rattle.nodejs_semver.specs.Internal.NpmWords.{any_word, ignored_front, limit
 use Rattle.nodejs_semver.specs.Internal.Words.{is_boundary, or_else}
 use Rattle.nodejs_semver.specs.Npm.Grammar.{IsStrictBuild, no_build, plus}
 use Rattle.nodejs_semver.specs.Npm.Malformed.{begins_malformed, is_plain}
-use Rattle.nodejs_semver.specs.Npm.RangeText.{IsPartial, IsPreRelease, are_marks, bare, dashed, is_free_lower, is_free_upper, is_one_v, no_pre_release, one, partial_of, three, two}
+use Rattle.nodejs_semver.specs.Npm.RangeText.{IsPartial, IsPreRelease, are_marks, are_whole_marks, bare, dashed, is_free_lower, is_free_upper, no_pre_release, one, partial_of, three, two}
 use Rattle.nodejs_semver.specs.Npm.Table.{Partial, compared, wildcard}
 use Rattle.nodejs_semver.specs.Text.WordText.{equal}
 use Rattle.nodejs_semver.proofs.Bounds.Bounded.{identifiers-normal}
@@ -77,9 +77,9 @@ end-normal : (loose : Bool) (free : Partial → Bool) (text : List ℕ) (e : End
 unfolding end_front
 end-normal loose free text e h =
     let behind = drop_ends text in
-    let p = bind_some (partial_front loose behind) (λ p. ended_end free text behind p) e h in
+    let p = bind_some (partial_front loose behind) (λ p. ended_end loose free text behind p) e h in
     let read : Ended × List ℕ = ((p.0.0, take (length text - length p.0.1) text), p.0.1) in
-    let same = cond_some (free p.0.0 || is_one_v (take (length text - length behind) text)) read e p.2 in
+    let same = cond_some (free p.0.0 || are_whole_marks loose (take (length text - length behind) text)) read e p.2 in
     subst (λ (x : Ended × List ℕ). are_normal x.0.0 ≡ true) same.1 (front-normal loose behind p.0 p.1)
 
 limited-normal : (loose : Bool) (free : Partial → Bool) (text : List ℕ) (e : Ended × List ℕ) → limited_end MAX_SAFE_INTEGER (end_front loose free text) ≡ Some e

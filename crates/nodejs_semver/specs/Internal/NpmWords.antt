@@ -13,7 +13,7 @@ use Rattle.nodejs_semver.specs.Internal.NpmReadings.{dashed_front}
 use Rattle.nodejs_semver.specs.Internal.Parts.{parts}
 use Rattle.nodejs_semver.specs.Internal.Words.{after_some_space, is_boundary, or_else}
 use Rattle.nodejs_semver.specs.Npm.Malformed.{begins_malformed, is_plain}
-use Rattle.nodejs_semver.specs.Npm.RangeText.{are_marks, are_spelled, begins_letter, is_free_lower, is_free_upper, is_mark, is_one_v, is_short_build, is_short_identifier, is_spelled, most_digits, partial_of, stands}
+use Rattle.nodejs_semver.specs.Npm.RangeText.{are_marks, are_spelled, are_whole_marks, begins_letter, is_free_lower, is_free_upper, is_mark, is_short_build, is_short_identifier, is_spelled, most_digits, partial_of, stands}
 use Rattle.nodejs_semver.specs.Npm.Ranges.{is_valid}
 use Rattle.nodejs_semver.specs.Npm.Table.{Comparison, Partial, Sign, caret, compared, hyphen_lower, hyphen_upper, major, minor, table, tilde, whole, wildcard}
 use Rattle.nodejs_semver.specs.Text.WordText.{Comparator, above, at_least, at_most, below, equal}
@@ -231,13 +231,13 @@ end_len (b ∷ rest) = if is_mark b then 1 else space_len (b ∷ rest)
 abbrev pub Ended : Type 0
 Ended = Partial × List ℕ
 
-abbrev pub ended_end : (Partial → Bool) → List ℕ → List ℕ → Partial × List ℕ → Front Ended
-ended_end free text behind p = if free p.0 || is_one_v (take (length text - length behind) text)
+abbrev pub ended_end : Bool → (Partial → Bool) → List ℕ → List ℕ → Partial × List ℕ → Front Ended
+ended_end loose free text behind p = if free p.0 || are_whole_marks loose (take (length text - length behind) text)
     then Some ((p.0, take (length text - length p.1) text), p.1) else None
 
 -- an end of a hyphen range
 unfoldable pub end_front : Bool → (Partial → Bool) → List ℕ → Front Ended
-end_front loose free text = partial_front loose (drop_ends text) >>? λ p. ended_end free text (drop_ends text) p
+end_front loose free text = partial_front loose (drop_ends text) >>? λ p. ended_end loose free text (drop_ends text) p
 
 -- what stands behind whitespace, `-` and whitespace
 abbrev pub after_dash : List ℕ → Option (List ℕ)

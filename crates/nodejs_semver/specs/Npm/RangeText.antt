@@ -5,7 +5,7 @@
 -- alternative with one of these first in which no comparator counts, of which node-semver ignores some and
 -- takes others for `*`; zero as several digits; more than 32 digits of a number, and 128 characters of a
 -- pre-release; a pre-release without `-` that begins with none but a letter, and one that is `-` alone;
--- other marks than one `v` before the whole end of a hyphen range.
+-- whitespace among the marks of a whole end of a hyphen range.
 use Rattle.std.specs.Prelude.{◌≡◌, ◌⊎◌, ◌==◌, ◌<◌, ◌≤◌, ◌+◌, ◌&&◌, ◌||◌, not, nat_le, nat_lt, ℕ, Bool, true}
 use Rattle.std.specs.Prelude.{false}
 use Rattle.std.specs.Prelude.{List, [], ◌∷◌, ◌++◌, length, drop, Option, Some, None, encode_utf8_all}
@@ -148,13 +148,17 @@ pub data AreWords (loose include : Bool) : List ℕ → List Comparison → Type
       → 0 < length blank → AreWords loose include rest ds
       → AreWords loose include (x ++ (blank ++ rest)) (cs ++ ds)
 
--- the marks and the whitespace before an end of a hyphen range: any, but one `v` at most before a whole
+-- the marks before a whole version in a hyphen range: strictly one `v` at most, and loosely any
+abbrev pub are_whole_marks : Bool → List ℕ → Bool
+are_whole_marks loose marks = if loose then list_all is_mark marks else is_one_v marks
+
+-- the marks and the whitespace before an end of a hyphen range: any, but such marks alone before a whole
 -- version that stays as it is written
-pub record AreEndMarks (free : Bool) (text : List ℕ) : Type 0 where
+pub record AreEndMarks (loose free : Bool) (text : List ℕ) : Type 0 where
   pub characters : List ℕ
   pub spelled : text ≡ encode_utf8_all characters
   pub each : list_all (λ c. is_mark c || is_whitespace c) characters ≡ true
-  pub one : (free || is_one_v characters) ≡ true
+  pub whole : (free || are_whole_marks loose characters) ≡ true
 
 abbrev pub is_free_upper : Bool → Partial → Bool
 is_free_upper include p = elim p [ whole v ↦ include || not (is_empty v.pre_release) | _ ↦ true ]
@@ -169,9 +173,9 @@ stands loose include text cs = not (loose && begins_malformed text) || list_any 
 -- an alternative: nothing, a hyphen range or words
 pub data IsAlternative (loose include : Bool) : List ℕ → List Comparison → Type 0 where
   nothing : IsAlternative loose include [] []
-  hyphen : (a x blank gap b y : List ℕ) (p q : Partial) → AreEndMarks (is_free_lower p) a
+  hyphen : (a x blank gap b y : List ℕ) (p q : Partial) → AreEndMarks loose (is_free_lower p) a
       → IsPartial loose x p → IsBlank blank → 0 < length blank → IsBlank gap → 0 < length gap
-      → AreEndMarks (is_free_upper include q) b → IsPartial loose y q
+      → AreEndMarks loose (is_free_upper include q) b → IsPartial loose y q
       → IsAlternative loose include (a ++ (x ++ (blank ++ 45 ∷ (gap ++ (b ++ y)))))
       (hyphen_lower include p (a ++ x) ++ hyphen_upper include q (b ++ y))
   words : (x : List ℕ) (cs : List Comparison) → AreWords loose include x cs → stands loose include x cs ≡ true

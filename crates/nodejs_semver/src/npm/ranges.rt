@@ -192,7 +192,7 @@ pub fn range(
 /// node-semver ignores where another word is well formed; an alternative that begins with a
 /// malformed word and has no comparator (`foo *`, or `latest` in `latest || 1`); zero as several
 /// digits (`1.00.0`); a number of more than 32 digits; a pre-release of more than 128 characters,
-/// or without its `-` where it does not begin with a letter; and other marks than one `v` before a
+/// or without its `-` where it does not begin with a letter; and whitespace among the marks of a
 /// whole version in a hyphen range.
 ///
 /// All else is as for [`range`]: how to ask the range, what it borrows and when allocation fails.
