@@ -57,6 +57,8 @@ const READ: &[(&str, &str, &str)] = &[
     ("* foo", "1.2.3", "1.2.3-a"),
     ("* && <2.0.0-b", "2.0.0-a", "2.0.0-b"),
     (".5 v1, ~1.2", "1.2.9", "1.3.0"),
+    ("latest || 1", "1.2.9", "2.0.0"),
+    ("1||@next || foo,", "1.2.9", "1.2.9-a"),
 ];
 
 // Texts with pre-releases included.
@@ -72,6 +74,7 @@ const READ_WITH: &[(&str, &str, &str)] = &[
 const REJECTED: &[&str] = &[
     "foo",
     "latest",
+    "latest || foo,",
     "^9007199254740992",
     "1.2.3.4",
     "^^1",
@@ -83,7 +86,7 @@ const LEFT_OUT: &[&str] = &[
     "1.2.3.4 1",
     "foo= 1 2",
     "foo *",
-    "foo || 1",
+    "foo bar || 1",
     "foo >=0",
     "a* 1",
     "- 1",

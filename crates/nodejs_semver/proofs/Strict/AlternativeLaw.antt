@@ -14,8 +14,8 @@ use Rattle.semver_core.specs.Text.Characters.{IsBlank}
 use Rattle.semver_core.proofs.Text.Trims.{drop_spaces-blank}
 use Rattle.nodejs_semver.specs.Internal.Fronts.{begins_byte}
 use Rattle.nodejs_semver.specs.Internal.NpmWords.{Ended, after_ends, alternative_of, drop_ends, end_front, hyphen_comparisons, hyphen_ends}
-use Rattle.nodejs_semver.specs.Internal.NpmWords.{last_end, partial_front, standing, words_within}
-use Rattle.nodejs_semver.specs.Npm.Malformed.{is_plain}
+use Rattle.nodejs_semver.specs.Internal.NpmWords.{is_lost, last_end, partial_front, standing, words_within}
+use Rattle.nodejs_semver.specs.Npm.Malformed.{is_malformed, is_plain}
 use Rattle.nodejs_semver.specs.Npm.RangeText.{AreEndMarks, AreWords, IsAlternative, IsPartial, IsSignText, IsWord, hyphen, ignored, is_free_lower, is_free_upper}
 use Rattle.nodejs_semver.specs.Npm.RangeText.{is_mark, last, more, nothing, spelling, stands, word, words}
 use Rattle.nodejs_semver.specs.Npm.RangeText.{caret_equal, late_above, late_below, no_sign, sign, tilde_sign, tilde_twice}
@@ -24,7 +24,7 @@ use Rattle.nodejs_semver.specs.Text.WordText.{above, at_least, at_most, below, e
 use Rattle.nodejs_semver.proofs.Reading.Bytes.{all-join, begins_component, is_solid}
 use Rattle.nodejs_semver.proofs.Reading.Steps.{option-cases}
 use Rattle.nodejs_semver.proofs.Strict.Hyphens.{after_ends-drop, dash-read, end-read, ends-space, hyphen-found, mark-dark, marks-passed, marks-whole, whole-dark}
-use Rattle.nodejs_semver.proofs.Strict.Malformed.{all-weaker, is_part, malformed-first, malformed-plain, partial-part}
+use Rattle.nodejs_semver.proofs.Strict.Malformed.{all-weaker, is_part, malformed-begins, malformed-first, malformed-plain, partial-part}
 use Rattle.nodejs_semver.proofs.Strict.PartialLaw.{boundary-quiet, partial-read}
 use Rattle.nodejs_semver.proofs.Strict.SignsRead.{marks-all}
 use Rattle.nodejs_semver.proofs.Strict.Words.{blank-boundary, blank-space, partial-begins, words-found, words-read, words-solid}
@@ -355,4 +355,29 @@ alternative-found loose include (b ∷ text) cs u h =
       | inl none ↦
           let e = bind_some (hyphen_ends loose include (b ∷ text)) (λ e. Some (hyphen_comparisons include e)) cs (rw none at h) in
           subst (λ (l : List Comparison). IsAlternative loose include (b ∷ text) l) (same_Some _ _ e.2) (hyphen-found loose include (b ∷ text) e.0 u e.1)
+    ]
+
+-- an alternative is no malformed word alone
+all-plain : (x : List ℕ) → list_all is_plain x ≡ true → apart x ≡ false
+all-plain x h = rw append-nil at (tight-passed x [] (all-weaker is_plain is_tight plain-tight x h))
+
+lost-word : (include : Bool) (x : List ℕ) (cs : List Comparison) → AreWords true include x cs → is_malformed x ≡ true → cs ≡ []
+lost-word include x cs h m =
+    let alone : AreWords true include x [] = last x [] (ignored x refl m) in
+    same_Some _ _ (sym (words-read true include (length x) x cs h (omega arith)) ∙ words-read true include (length x) x [] alone (omega arith))
+
+pub alternative-regular : (loose : Bool) (include : Bool) (text : List ℕ) (cs : List Comparison) → IsAlternative loose include text cs
+    → is_lost loose text ≡ false
+alternative-regular false include text cs h = refl
+alternative-regular true include text cs nothing = refl
+alternative-regular true include text cs (words t ds h s) = elim (cases_Bool (is_malformed t)) [
+  | inr other ↦ other
+  | inl m ↦ cc (rw (lost-word include t ds h m, malformed-begins t m) at s)
+]
+alternative-regular true include text cs (hyphen a x blank gap b y p q ha hx hb some hg more_gap hc hy) =
+    let behind = blank ++ 45 ∷ (gap ++ (b ++ y)) in
+    let l = loose-more a (x ++ behind) (loose-more x behind (loose-blank blank (gap ++ (b ++ y)) hb some)) in
+    elim (cases_Bool (is_malformed (a ++ (x ++ behind)))) [
+      | inr other ↦ other
+      | inl m ↦ cc (l, all-plain (a ++ (x ++ behind)) (malformed-plain (a ++ (x ++ behind)) m))
     ]

@@ -1,6 +1,6 @@
 -- The malformed words that are ignored are no well-formed ones.
 use Rattle.nodejs_semver.proofs.Common.{◌≡◌, ◌⊎◌, ◌<◌, ◌≤◌, ◌+◌, ℕ, zero, suc, Bool, List, [], ◌∷◌, ◌++◌, length, drop, take, refl, sym, ap, ◌∙◌, arith}
-use Rattle.nodejs_semver.proofs.Common.{true, false, Some, None, Option, inl, inr, ◌&&◌, ◌||◌, not, ◌==◌, and_parts, append_assoc}
+use Rattle.nodejs_semver.proofs.Common.{true, false, Some, None, Option, inl, inr, ◌&&◌, ◌||◌, not, ◌==◌, and_parts, append_assoc, append-nil}
 use Rattle.nodejs_semver.proofs.Common.{cases_Bool, eqb-true, list_all, nat_tests, is_whitespace, is_ascii_digit, begins}
 use Rattle.std.proofs.Common.{◌/◌, ◌%◌}
 use Rattle.std.specs.Prelude.{encode_utf8_all, take_while}
@@ -275,6 +275,11 @@ malformed-solid (b ∷ x) h = plain-solid b (and_parts (is_plain b) (list_all is
 -- and with no `-`
 pub malformed-first : (x : List ℕ) → is_malformed x ≡ true → begins (λ b. not (b == 45)) x ≡ true
 malformed-first x h = (and_parts (begins (λ b. not (b == 45)) x) _ (and_parts (list_all is_plain x) _ h).1).0
+
+pub malformed-begins : (x : List ℕ) → is_malformed x ≡ true → begins_malformed x ≡ true
+malformed-begins x h =
+    let run : take_while is_plain x ≡ x = rw append-nil at (run-is x [] (malformed-plain x h) refl).0 in
+    rw run h
 
 pub ignored-read : (loose : Bool) (x rest : List ℕ) → loose ≡ true → is_malformed x ≡ true → is_boundary rest ≡ true
     → ignored_front loose (x ++ rest) ≡ Some ((compared equal, Partial.wildcard, []), rest)

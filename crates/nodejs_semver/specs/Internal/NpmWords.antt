@@ -12,7 +12,7 @@ use Rattle.nodejs_semver.specs.Internal.Fronts.{Front, after_byte, begins_byte, 
 use Rattle.nodejs_semver.specs.Internal.NpmReadings.{dashed_front}
 use Rattle.nodejs_semver.specs.Internal.Parts.{parts}
 use Rattle.nodejs_semver.specs.Internal.Words.{after_some_space, is_boundary, or_else}
-use Rattle.nodejs_semver.specs.Npm.Malformed.{begins_malformed, is_plain}
+use Rattle.nodejs_semver.specs.Npm.Malformed.{begins_malformed, is_malformed, is_plain}
 use Rattle.nodejs_semver.specs.Npm.RangeText.{are_marks, are_spelled, are_whole_marks, begins_letter, is_free_lower, is_free_upper, is_mark, is_short_build, is_short_identifier, is_spelled, most_digits, partial_of, stands}
 use Rattle.nodejs_semver.specs.Npm.Ranges.{is_valid}
 use Rattle.nodejs_semver.specs.Npm.Table.{Comparison, Partial, Sign, caret, compared, hyphen_lower, hyphen_upper, major, minor, table, tilde, whole, wildcard}
@@ -287,10 +287,14 @@ alternative_of loose include (b ∷ rest) = or_else
     (words_within loose include (length (b ∷ rest)) (b ∷ rest) >>? λ cs. standing loose include (b ∷ rest) cs)
     (hyphen_ends loose include (b ∷ rest) >>? λ e. Some (hyphen_comparisons include e))
 
+-- a malformed word alone is no alternative
+abbrev pub is_lost : Bool → List ℕ → Bool
+is_lost loose text = loose && is_malformed text
+
 -- the comparators of each of some alternatives
 unfoldable pub alternatives_of : Bool → Bool → List (List ℕ) → Option (List (List Comparison))
 alternatives_of loose include [] = Some []
-alternatives_of loose include (text ∷ texts) =
+alternatives_of loose include (text ∷ texts) = if is_lost loose text then alternatives_of loose include texts else
     alternative_of loose include text >>? λ cs. alternatives_of loose include texts >>? λ rest. Some (cs ∷ rest)
 
 -- the alternatives of a range text

@@ -2,10 +2,10 @@
 -- comparators of each alternative. Left out is one `*`, and a comparator before it, in a word that is else
 -- a whole version, as in `>*1.2.3`, which node-semver passes over. Of the loose reading these are left out
 -- too, and a text that has one is rejected: malformed words but those that `Malformed` defines; an
--- alternative with one of these first in which no comparator counts, of which node-semver ignores some and
--- takes others for `*`; zero as several digits; more than 32 digits of a number, and 128 characters of a
--- pre-release; a pre-release without `-` that begins with none but a letter, and one that is `-` alone;
--- whitespace among the marks of a whole end of a hyphen range.
+-- alternative of several words with one of these first in which no comparator counts, of which node-semver
+-- ignores some and takes others for `*`; zero as several digits; more than 32 digits of a number, and 128
+-- characters of a pre-release; a pre-release without `-` that begins with none but a letter, and one that is
+-- `-` alone; whitespace among the marks of a whole end of a hyphen range.
 use Rattle.std.specs.Prelude.{◌≡◌, ◌⊎◌, ◌==◌, ◌<◌, ◌≤◌, ◌+◌, ◌&&◌, ◌||◌, not, nat_le, nat_lt, ℕ, Bool, true}
 use Rattle.std.specs.Prelude.{false}
 use Rattle.std.specs.Prelude.{List, [], ◌∷◌, ◌++◌, length, drop, Option, Some, None, encode_utf8_all}
@@ -181,9 +181,13 @@ pub data IsAlternative (loose include : Bool) : List ℕ → List Comparison →
   words : (x : List ℕ) (cs : List Comparison) → AreWords loose include x cs → stands loose include x cs ≡ true
       → IsAlternative loose include x cs
 
--- the alternatives between bars, each without the whitespace around it
+-- the alternatives between bars, each without the whitespace around it. Loosely a malformed word alone is
+-- none.
 pub data AreAlternatives (loose include : Bool) : List (List ℕ) → List (List Comparison) → Type 0 where
   none : AreAlternatives loose include [] []
+  lost : (piece text : List ℕ) (others : List (List ℕ)) (rest : List (List Comparison)) → loose ≡ true
+      → IsTrim piece text → is_malformed text ≡ true → AreAlternatives loose include others rest
+      → AreAlternatives loose include (piece ∷ others) rest
   next : (piece text : List ℕ) (others : List (List ℕ)) (cs : List Comparison) (rest : List (List Comparison))
       → IsTrim piece text → IsAlternative loose include text cs → AreAlternatives loose include others rest
       → AreAlternatives loose include (piece ∷ others) (cs ∷ rest)

@@ -4,6 +4,7 @@ use Rattle.std.specs.Prelude.{if◌then◌else◌}
 use Rattle.std.specs.List.{filter, list_all, list_any}
 use Rattle.std.specs.Ordering.{is_eq, is_ge, is_gt, is_le, is_lt}
 use Rattle.semver_core.specs.Cuts.{Span}
+use Rattle.semver_core.specs.Lists.{is_empty}
 use Rattle.semver_core.specs.Values.Order.{precedence}
 use Rattle.semver_core.specs.Values.Versions.{VersionValue, is_release}
 use Rattle.semver_core.specs.declared.TheConstants.{MAX_LENGTH}
@@ -18,13 +19,14 @@ abbrev pub is_valid : ℕ → Comparison → Bool
 is_valid limit c = nat_le c.version.major limit && nat_le c.version.minor limit
     && nat_le c.version.patch limit && nat_le (length c.text) MAX_LENGTH
 
--- the text has these alternatives, each a list of comparators. A text that has none is rejected. `loose` says
--- whether it is read by node-semver's option of this name.
+-- the text has these alternatives, one or more, each a list of comparators. A text that has none is
+-- rejected. `loose` says whether it is read by node-semver's option of this name.
 pub record HasAlternativesIn (loose : Bool) (limit : ℕ) (include : Bool) (text : List ℕ)
     (alternatives : List (List Comparison)) : Type 0 where
   pub parts : List (List ℕ)
   pub divided : IsCutAtBars text parts
   pub each : AreAlternatives loose include parts alternatives
+  pub some : is_empty alternatives ≡ false
   pub valid : list_all (list_all (is_valid limit)) alternatives ≡ true
 
 abbrev pub HasAlternatives : ℕ → Bool → List ℕ → List (List Comparison) → Type 0

@@ -2,6 +2,7 @@
 
 ghost use Rattle.std.specs.List.{list_all, prefix_len};
 ghost use Rattle.std.specs.Prelude.{◌≡◌, ◌≤◌, length, true};
+ghost use Rattle.nodejs_semver.specs.Internal.NpmWords.{is_lost};
 ghost use Rattle.nodejs_semver.specs.Npm.Malformed as Text;
 
 // Whether a character may stand in such a word.
@@ -69,6 +70,21 @@ fn is_malformed(word: &[u8]) -> bool
         _ if matches!(last, [sign, ..] if is_sign(*sign)) => false,
         [first, ..] => !is_first(*first) || !are_inner(word),
     }
+}
+
+// Whether all characters may stand in such a word.
+#[inline(always)]
+fn are_plain(text: &[u8]) -> bool
+    ensures { result ≡ list_all Text.is_plain text.now }
+{
+    text.iter().all(|byte| is_plain(*byte))
+}
+
+/// Whether a text is a malformed word, and is ignored.
+pub(crate) fn is_lost(loose: bool, text: &[u8]) -> bool
+    ensures { result ≡ is_lost loose text.now }
+{
+    loose && are_plain(text) && is_malformed(text)
 }
 
 /// Whether a malformed word stands at the front.
