@@ -19,9 +19,9 @@
 //! all other characters, quotes and backslashes are escaped, as `\u{1b}`.
 //!
 //! Ranges and versions are read as npm's library node-semver reads them. It ignores malformed
-//! words, which its readings here reject: of a text with such a word the lenient reading of `parse`
-//! decides. Each word that this ignores is named with its place, which does not count as a finding:
-//! `>=1.0.0,` in `>=1.0.0, <2.0.0`.
+//! words, of which its readings here reject some: of a text with such a word the lenient reading of
+//! `parse` decides. Each word that this ignores is named with its place, which does not count as a
+//! finding: `1.2.3.4` in `1.2.3.4 ^1`.
 #![tactic(auto)]
 
 mod check;

@@ -2,7 +2,7 @@
 //
 // `npm ls` asks node-semver's loose reading. Versions are read so. Of ranges the strict reading
 // decides, which reads every range that a registry takes, and of a text that it rejects the loose
-// one. Both reject words that are malformed, which npm ignores; of such a text `parse` decides,
+// one. Some malformed words that npm ignores are rejected by both; of such a text `parse` decides,
 // which ignores them too.
 
 ghost use Rattle.lock_check.specs.Readings.{IsNoNpmRange, IsNotWanted, IsNpmRange};

@@ -7,6 +7,7 @@ pub mod PartialLaw
 pub mod Limits
 pub mod Signs
 pub mod SignsRead
+pub mod Malformed
 pub mod Words
 pub mod WordReads
 pub mod Hyphens

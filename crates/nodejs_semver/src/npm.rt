@@ -15,6 +15,7 @@ mod comparators;
 mod flaws;
 mod hyphens;
 mod loose_versions;
+mod malformed;
 mod messages;
 mod partial;
 mod places;

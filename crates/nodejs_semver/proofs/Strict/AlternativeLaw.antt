@@ -1,41 +1,39 @@
 -- The alternatives of node-semver's range texts: the function that reads them finds exactly what the statement has.
 use Rattle.nodejs_semver.proofs.Common.{◌≡◌, ◌<◌, ◌≤◌, ◌-◌, ◌+◌, ℕ, zero, suc, Bool, List, [], ◌∷◌, ◌++◌, length, take, refl, sym, ap, ◌∙◌, arith}
 use Rattle.nodejs_semver.proofs.Common.{true, false, Some, None, Option, inl, inr, ◌&&◌, ◌||◌, not, ◌==◌, and_parts, append_assoc, append-nil, bind_some}
-use Rattle.nodejs_semver.proofs.Common.{cases_Bool, eqb-true, length-append, list_all, nat_tests, or_right, same_Some, subst, IsUtf8}
-use Rattle.nodejs_semver.proofs.Common.{drop_spaces, drop_spaces-none, space_len, is_release, is_whitespace, is_ascii_digit}
+use Rattle.nodejs_semver.proofs.Common.{begins, cases_Bool, cond_some, length-append, list_all, nat_tests, or_right, same_Some, subst, IsUtf8}
+use Rattle.nodejs_semver.proofs.Common.{drop_spaces, drop_spaces-none, space_len, is_release, is_whitespace}
 use Rattle.std.proofs.Common.{◌/◌, ◌%◌}
 use Rattle.std.specs.Prelude.{encode_utf8_all}
 use Rattle.std.specs.Char.{encode_utf8}
-use Rattle.std.specs.List.{onto_first}
 use Rattle.std.proofs.lemmas.Bool.{cases_lt, le-ltb, lt-ltb}
 use Rattle.std.proofs.lemmas.Str.{encode_ascii, len_utf8_bounds, length-encode}
 use Rattle.semver_core.specs.Internal.Spaces.{after_spaces}
-use Rattle.semver_core.specs.Text.Characters.{IsBlank, is_identifier_char}
-use Rattle.semver_core.specs.Text.Identifiers.{Id, pieces}
-use Rattle.semver_core.proofs.Text.Pieces.{runs_tail, tail_onto, tail_runs}
+use Rattle.semver_core.specs.Internal.Reading.{◌>>?◌}
+use Rattle.semver_core.specs.Text.Characters.{IsBlank}
 use Rattle.semver_core.proofs.Text.Trims.{drop_spaces-blank}
-use Rattle.nodejs_semver.specs.Internal.Fronts.{begins_byte, is_wildcard}
+use Rattle.nodejs_semver.specs.Internal.Fronts.{begins_byte}
 use Rattle.nodejs_semver.specs.Internal.NpmWords.{Ended, after_ends, alternative_of, drop_ends, end_front, hyphen_comparisons, hyphen_ends}
-use Rattle.nodejs_semver.specs.Internal.NpmWords.{last_end, partial_front, words_within}
-use Rattle.nodejs_semver.specs.Npm.Grammar.{IsStrictBuild, no_build, plus}
-use Rattle.nodejs_semver.specs.Npm.RangeText as Text
-use Rattle.nodejs_semver.specs.Npm.RangeText.{AreEndMarks, AreWords, IsAlternative, IsPartial, IsPlace, IsPreRelease, IsSignText, IsWord, bare, dashed, hyphen, is_free_lower, is_free_upper}
-use Rattle.nodejs_semver.specs.Npm.RangeText.{is_mark, is_one_v, last, more, no_pre_release, nothing, one, spelling, three, two, word, words}
+use Rattle.nodejs_semver.specs.Internal.NpmWords.{is_lost, last_end, partial_front, standing, words_within}
+use Rattle.nodejs_semver.specs.Npm.Malformed.{is_malformed, is_plain}
+use Rattle.nodejs_semver.specs.Npm.RangeText.{AreEndMarks, AreWords, IsAlternative, IsPartial, IsSignText, IsWord, hyphen, ignored, is_free_lower, is_free_upper}
+use Rattle.nodejs_semver.specs.Npm.RangeText.{is_mark, last, more, nothing, spelling, stands, word, words}
 use Rattle.nodejs_semver.specs.Npm.RangeText.{caret_equal, late_above, late_below, no_sign, sign, tilde_sign, tilde_twice}
 use Rattle.nodejs_semver.specs.Npm.Table.{Comparison, Partial, Sign, caret, compared, hyphen_lower, hyphen_upper, major, minor, tilde, whole, wildcard}
 use Rattle.nodejs_semver.specs.Text.WordText.{above, at_least, at_most, below, equal}
-use Rattle.nodejs_semver.proofs.Reading.Bytes.{all-join, begins_component}
+use Rattle.nodejs_semver.proofs.Reading.Bytes.{all-join, begins_component, is_solid}
 use Rattle.nodejs_semver.proofs.Reading.Steps.{option-cases}
-use Rattle.nodejs_semver.proofs.Strict.Hyphens.{after_ends-drop, dash-read, end-read, ends-space, hyphen-found, mark-dark, marks-one, marks-passed, one-dark}
+use Rattle.nodejs_semver.proofs.Strict.Hyphens.{after_ends-drop, dash-read, end-read, ends-space, hyphen-found, mark-dark, marks-passed, marks-whole, whole-dark}
+use Rattle.nodejs_semver.proofs.Strict.Malformed.{all-weaker, is_part, malformed-begins, malformed-first, malformed-plain, partial-part}
 use Rattle.nodejs_semver.proofs.Strict.PartialLaw.{boundary-quiet, partial-read}
 use Rattle.nodejs_semver.proofs.Strict.SignsRead.{marks-all}
 use Rattle.nodejs_semver.proofs.Strict.Words.{blank-boundary, blank-space, partial-begins, words-found, words-read, words-solid}
 
 -- ---- no `-` follows whitespace in words
 
--- a character of partials
+-- a visible character of ASCII
 abbrev is_tight : ℕ → Bool
-is_tight b = is_identifier_char b || (b == 46 || (b == 43 || b == 42))
+is_tight b = is_solid b
 
 abbrev is_other : ℕ → Bool
 is_other b = not (b == 45)
@@ -157,54 +155,14 @@ loose-blank x z h some = subst (λ (t : List ℕ). apart (t ++ (45 ∷ z)) ≡ t
 
 -- ---- the texts of words
 
-digits-tight : (digits : List ℕ) → list_all is_ascii_digit digits ≡ true → list_all is_tight digits ≡ true
-digits-tight [] h = refl
-digits-tight (c ∷ digits) h =
-    let each = and_parts (is_ascii_digit c) (list_all is_ascii_digit digits) h in
-    rw (digit-tight c each.0) (digits-tight digits each.1)
-  where
-    digit-tight : (c : ℕ) → is_ascii_digit c ≡ true → is_tight c ≡ true
-    digit-tight c h = grind (arith, nat_tests)
+part-tight : (b : ℕ) → is_part b ≡ true → is_tight b ≡ true
+part-tight b h = grind (arith, nat_tests)
 
-place-tight : (loose : Bool) (x : List ℕ) (a : Option ℕ) → IsPlace loose x a → list_all is_tight x ≡ true
-place-tight loose x a (Text.any b h) = rw (wild b h) refl
-  where
-    wild : (b : ℕ) → is_wildcard b ≡ true → is_tight b ≡ true
-    wild b h = grind (arith, nat_tests)
-place-tight loose x a (Text.number digits n k spelled short) = digits-tight digits k.each
-
-pieces-tight : (t : List ℕ) → tail_runs (pieces t) ≡ true → list_all is_tight t ≡ true
-pieces-tight [] h = refl
-pieces-tight (c ∷ t) h = elim (cases_Bool (c == 46)) [
-  | inl dot ↦
-      let e = eqb-true c 46 dot in
-      rw e (pieces-tight t (runs_tail (pieces t) (rw dot at h)))
-  | inr other ↦
-      let k = rw other at h in
-      rw (first-tight c (pieces t) k) (pieces-tight t (tail_onto c (pieces t) k))
-]
-  where
-    first-tight : (c : ℕ) (ps : List (List ℕ)) → tail_runs (onto_first c ps) ≡ true → is_tight c ≡ true
-    first-tight c [] h = grind arith
-    first-tight c (p ∷ ps) h = grind arith
-
-pre-tight : (loose : Bool) (p : List ℕ) (l : List Id) → IsPreRelease loose p l → list_all is_tight p ≡ true
-pre-tight loose p l no_pre_release = refl
-pre-tight loose p l (dashed t list h s) = pieces-tight t (runs_tail (pieces t) h.runs)
-pre-tight loose p l (bare t list e f h s) = pieces-tight t (runs_tail (pieces t) h.runs)
-
-build-tight : (p : List ℕ) (l : List Id) → IsStrictBuild p l → list_all is_tight p ≡ true
-build-tight p l no_build = refl
-build-tight p l (plus t list h) = pieces-tight t (runs_tail (pieces t) h.runs)
+plain-tight : (b : ℕ) → is_plain b ≡ true → is_tight b ≡ true
+plain-tight b h = grind (arith, nat_tests)
 
 partial-tight : (loose : Bool) (x : List ℕ) (p : Partial) → IsPartial loose x p → list_all is_tight x ≡ true
-partial-tight loose x p (one x1 a h) = place-tight loose x1 a h
-partial-tight loose x p (two x1 y a b h k) = all-join is_tight x1 (46 ∷ y) (place-tight loose x1 a h) (place-tight loose y b k)
-partial-tight loose x p (three x1 y z pre build a b c ids builds h k l m s n t) =
-    let last_part = all-join is_tight pre build (pre-tight loose pre ids m) (build-tight build builds n) in
-    let third = all-join is_tight z (pre ++ build) (place-tight loose z c l) last_part in
-    let second = all-join is_tight y (46 ∷ (z ++ (pre ++ build))) (place-tight loose y b k) third in
-    all-join is_tight x1 (46 ∷ (y ++ 46 ∷ (z ++ (pre ++ build)))) (place-tight loose x1 a h) second
+partial-tight loose x p h = all-weaker is_part is_tight part-tight x (partial-part loose x p h)
 
 spelling-other : (s : Sign) (y : List ℕ) → list_all is_other y ≡ true → list_all is_other (spelling s ++ y) ≡ true
 spelling-other (compared above) y h = h
@@ -241,6 +199,14 @@ component-first u h = grind (arith, nat_tests)
 -- a word begins with no `-`, and what is behind it decides
 word-first : (loose : Bool) (include : Bool) (w v : List ℕ) (cs : List Comparison) → IsWord loose include w cs
     → (apart (w ++ v) ≡ apart v) × (begins_byte 45 (w ++ v) ≡ false)
+word-first loose include w v cs (ignored x l h) = (
+  tight-passed x v (all-weaker is_plain is_tight plain-tight x (malformed-plain x h)),
+  no-dash x v (malformed-first x h),
+)
+  where
+    no-dash : (x v : List ℕ) → begins (λ b. not (b == 45)) x ≡ true → begins_byte 45 (x ++ v) ≡ false
+    no-dash [] v h = cc h
+    no-dash (b ∷ x) v h = grind arith
 word-first loose include w v cs (word signs marks x s p h m e k) =
     let text_is : (signs ++ (marks ++ x)) ++ v ≡ (signs ++ marks) ++ (x ++ v) = simp append_assoc refl in
     let front = all-join is_other signs marks (sign-other signs s h) (marks-other marks (marks-all loose s p marks m)) in
@@ -296,7 +262,7 @@ record UpperRead (loose : Bool) (include : Bool) (q : Partial) (second text : Li
   is : last_end loose (is_free_upper include) second ≡ Some (q, taken)
   same : hyphen_upper include q taken ≡ hyphen_upper include q text
 
-upper-read : (loose : Bool) (include : Bool) (gap b y : List ℕ) (q : Partial) → IsBlank gap → AreEndMarks (is_free_upper include q) b → IsPartial loose y q
+upper-read : (loose : Bool) (include : Bool) (gap b y : List ℕ) (q : Partial) → IsBlank gap → AreEndMarks loose (is_free_upper include q) b → IsPartial loose y q
     → UpperRead loose include q (drop_spaces (gap ++ (b ++ y))) (b ++ y)
 unfolding end_front
 upper-read loose include gap b y q hg h k =
@@ -308,7 +274,7 @@ upper-read loose include gap b y q hg h k =
     elim (cases_Bool (is_free_upper include q)) [
       | inl free ↦
           let passed : drop_ends second ≡ y =
-          ap drop_ends at_gap ∙ ends-after 0 (b ++ y) ∙ marks-passed (is_free_upper include q) b y h begin in
+          ap drop_ends at_gap ∙ ends-after 0 (b ++ y) ∙ marks-passed loose (is_free_upper include q) b y h begin in
           record {
             taken = take (length second - 0) second;
             is = rw (passed, read, free) refl;
@@ -321,11 +287,11 @@ upper-read loose include gap b y q hg h k =
           record { taken = b ++ y; is = rw (none, at_end) refl; same = refl }
     ]
   where
-    bound-dark : (b y : List ℕ) → AreEndMarks false b → begins_component y ≡ true → space_len (b ++ y) ≡ 0
-    bound-dark b y h begin = one-dark b y (marks-one false b h) begin
+    bound-dark : (b y : List ℕ) → AreEndMarks loose false b → begins_component y ≡ true → space_len (b ++ y) ≡ 0
+    bound-dark b y h begin = whole-dark loose b y (marks-whole loose false b h) begin
 
-pub hyphen-read : (loose : Bool) (include : Bool) (a x blank gap b y : List ℕ) (p q : Partial) → AreEndMarks (is_free_lower p) a → IsPartial loose x p
-    → IsBlank blank → 0 < length blank → IsBlank gap → 0 < length gap → AreEndMarks (is_free_upper include q) b → IsPartial loose y q
+pub hyphen-read : (loose : Bool) (include : Bool) (a x blank gap b y : List ℕ) (p q : Partial) → AreEndMarks loose (is_free_lower p) a → IsPartial loose x p
+    → IsBlank blank → 0 < length blank → IsBlank gap → 0 < length gap → AreEndMarks loose (is_free_upper include q) b → IsPartial loose y q
     → (e : Ended × Ended) × (hyphen_ends loose include (a ++ (x ++ (blank ++ 45 ∷ (gap ++ (b ++ y))))) ≡ Some e)
     × (hyphen_comparisons include e ≡ hyphen_lower include p (a ++ x) ++ hyphen_upper include q (b ++ y))
 unfolding hyphen_ends
@@ -349,10 +315,11 @@ no-words loose include n text u h = elim (option-cases (words_within loose inclu
   | inr some ↦ cc (h, (words-first loose include text some.0 (words-found loose include n text some.0 u some.1)).0)
 ]
 
-by-words : (loose : Bool) (include : Bool) (text : List ℕ) (cs : List Comparison) → AreWords loose include text cs → alternative_of loose include text ≡ Some cs
+by-words : (loose : Bool) (include : Bool) (text : List ℕ) (cs : List Comparison) → AreWords loose include text cs → stands loose include text cs ≡ true
+    → alternative_of loose include text ≡ Some cs
 unfolding alternative_of
-by-words loose include [] cs h = cc (words-solid loose include [] cs h)
-by-words loose include (b ∷ text) cs h = rw (words-read loose include (length (b ∷ text)) (b ∷ text) cs h (omega arith)) refl
+by-words loose include [] cs h s = cc (words-solid loose include [] cs h)
+by-words loose include (b ∷ text) cs h s = rw (words-read loose include (length (b ∷ text)) (b ∷ text) cs h (omega arith), s) refl
 
 by-hyphen : (loose : Bool) (include : Bool) (text : List ℕ) (e : Ended × Ended) → IsUtf8 text → apart text ≡ true → hyphen_ends loose include text ≡ Some e
     → alternative_of loose include text ≡ Some (hyphen_comparisons include e)
@@ -364,7 +331,7 @@ pub alternative-read : (loose : Bool) (include : Bool) (text : List ℕ) (cs : L
     → alternative_of loose include text ≡ Some cs
 unfolding alternative_of
 alternative-read loose include text cs u nothing = refl
-alternative-read loose include text cs u (words t ds h) = by-words loose include t ds h
+alternative-read loose include text cs u (words t ds h s) = by-words loose include t ds h s
 alternative-read loose include text cs u (hyphen a x blank gap b y p q ha hx hb some hg more_gap hc hy) =
     let r = hyphen-read loose include a x blank gap b y p q ha hx hb some hg more_gap hc hy in
     let behind = blank ++ 45 ∷ (gap ++ (b ++ y)) in
@@ -375,12 +342,42 @@ pub alternative-found : (loose : Bool) (include : Bool) (text : List ℕ) (cs : 
     → IsAlternative loose include text cs
 unfolding alternative_of
 alternative-found loose include [] cs u h = subst (λ (l : List Comparison). IsAlternative loose include [] l) (same_Some _ _ h) nothing
-alternative-found loose include (b ∷ text) cs u h = elim (option-cases (words_within loose include (length (b ∷ text)) (b ∷ text))) [
-  | inr some ↦
-      let e = same_Some _ _ (rw some.1 at h) in
-      let is : IsAlternative loose include (b ∷ text) some.0 = words (b ∷ text) some.0 (words-found loose include (length (b ∷ text)) (b ∷ text) some.0 u some.1) in
-      subst (λ (l : List Comparison). IsAlternative loose include (b ∷ text) l) e is
-  | inl none ↦
-      let e = bind_some (hyphen_ends loose include (b ∷ text)) (λ e. Some (hyphen_comparisons include e)) cs (rw none at h) in
-      subst (λ (l : List Comparison). IsAlternative loose include (b ∷ text) l) (same_Some _ _ e.2) (hyphen-found loose include (b ∷ text) e.0 u e.1)
+alternative-found loose include (b ∷ text) cs u h =
+    let found = words_within loose include (length (b ∷ text)) (b ∷ text) in
+    elim (option-cases (found >>? λ cs. standing loose include (b ∷ text) cs)) [
+      | inr some ↦
+          let e = same_Some _ _ (rw some.1 at h) in
+          let w = bind_some found (λ cs. standing loose include (b ∷ text) cs) some.0 some.1 in
+          let s = cond_some (stands loose include (b ∷ text) w.0) w.0 some.0 w.2 in
+          let is : IsAlternative loose include (b ∷ text) w.0 =
+          words (b ∷ text) w.0 (words-found loose include (length (b ∷ text)) (b ∷ text) w.0 u w.1) s.0 in
+          subst (λ (l : List Comparison). IsAlternative loose include (b ∷ text) l) (s.1 ∙ e) is
+      | inl none ↦
+          let e = bind_some (hyphen_ends loose include (b ∷ text)) (λ e. Some (hyphen_comparisons include e)) cs (rw none at h) in
+          subst (λ (l : List Comparison). IsAlternative loose include (b ∷ text) l) (same_Some _ _ e.2) (hyphen-found loose include (b ∷ text) e.0 u e.1)
+    ]
+
+-- an alternative is no malformed word alone
+all-plain : (x : List ℕ) → list_all is_plain x ≡ true → apart x ≡ false
+all-plain x h = rw append-nil at (tight-passed x [] (all-weaker is_plain is_tight plain-tight x h))
+
+lost-word : (include : Bool) (x : List ℕ) (cs : List Comparison) → AreWords true include x cs → is_malformed x ≡ true → cs ≡ []
+lost-word include x cs h m =
+    let alone : AreWords true include x [] = last x [] (ignored x refl m) in
+    same_Some _ _ (sym (words-read true include (length x) x cs h (omega arith)) ∙ words-read true include (length x) x [] alone (omega arith))
+
+pub alternative-regular : (loose : Bool) (include : Bool) (text : List ℕ) (cs : List Comparison) → IsAlternative loose include text cs
+    → is_lost loose text ≡ false
+alternative-regular false include text cs h = refl
+alternative-regular true include text cs nothing = refl
+alternative-regular true include text cs (words t ds h s) = elim (cases_Bool (is_malformed t)) [
+  | inr other ↦ other
+  | inl m ↦ cc (rw (lost-word include t ds h m, malformed-begins t m) at s)
 ]
+alternative-regular true include text cs (hyphen a x blank gap b y p q ha hx hb some hg more_gap hc hy) =
+    let behind = blank ++ 45 ∷ (gap ++ (b ++ y)) in
+    let l = loose-more a (x ++ behind) (loose-more x behind (loose-blank blank (gap ++ (b ++ y)) hb some)) in
+    elim (cases_Bool (is_malformed (a ++ (x ++ behind)))) [
+      | inr other ↦ other
+      | inl m ↦ cc (l, all-plain (a ++ (x ++ behind)) (malformed-plain (a ++ (x ++ behind)) m))
+    ]

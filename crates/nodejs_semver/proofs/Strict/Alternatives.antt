@@ -11,8 +11,8 @@ use Rattle.nodejs_semver.proofs.Algebra.FlatMaps.{any_weaker}
 use Rattle.nodejs_semver.specs.Internal.NpmAlternatives.{AcceptAsRanged, AreNarrowed, nothing, ranged}
 use Rattle.nodejs_semver.specs.Internal.NpmMeaning.{IsNarrowed, counted, is_unbounded}
 use Rattle.nodejs_semver.specs.Npm.Ranges as Npm
-use Rattle.nodejs_semver.specs.Npm.Ranges.{counts, meets, names, satisfies}
-use Rattle.nodejs_semver.specs.Npm.Table.{Comparison, lowest}
+use Rattle.nodejs_semver.specs.Npm.Ranges.{meets, names, satisfies}
+use Rattle.nodejs_semver.specs.Npm.Table.{Comparison, counts, lowest}
 use Rattle.nodejs_semver.specs.Internal.Sets.{is_range_span}
 use Rattle.nodejs_semver.specs.Ranges.View.{IsRange, any_version}
 
@@ -43,7 +43,7 @@ uncounted include (c ∷ cs) h = elim (cases_Bool (counts include c)) [
 zero : VersionValue
 zero = lowest (0, 0, 0)
 
-one_open : (include : Bool) (cs : List Comparison) (o : Option (Span VersionValue)) → IsNarrowed include cs o
+pub one_open : (include : Bool) (cs : List Comparison) (o : Option (Span VersionValue)) → IsNarrowed include cs o
     → list_any is_unbounded (option_to_list o) ≡ not (list_any (counts include) cs)
 one_open include cs None h = elim (cases_Bool (list_any (counts include) cs)) [
   | inl e ↦ rw e refl

@@ -5,7 +5,7 @@ use Rattle.semver_core.specs.Internal.Reading.{◌>>?◌}
 use Rattle.nodejs_semver.specs.Internal.Fronts.{Front}
 use Rattle.nodejs_semver.specs.Internal.NpmWords.{Ended, after_dash, after_ends, counted_front, drop_ends, end_front, end_len, ended_end, hyphen_ends}
 use Rattle.nodejs_semver.specs.Internal.NpmWords.{hyphen_of, is_small, last_end, last_limited, limited, limited_end, limited_hyphen, partial_front}
-use Rattle.nodejs_semver.specs.Npm.RangeText.{is_free_lower, is_free_upper, is_mark, is_one_v}
+use Rattle.nodejs_semver.specs.Npm.RangeText.{are_whole_marks, is_free_lower, is_free_upper, is_mark}
 use Rattle.nodejs_semver.specs.Npm.Table.{Partial}
 use Rattle.nodejs_semver.proofs.Strict.Hyphens.{after_ends-drop, ends-mark, ends-more, ends-space, ends-stop}
 use Rattle.nodejs_semver.proofs.Strict.Limits.{counted_limited}
@@ -48,11 +48,11 @@ pub ruleset ends_passed = (ends_stop, ends_step)
 
 -- ---- an end
 
-end-limited : (limit : ℕ) (free : Partial → Bool) (text behind : List ℕ) (o : Front Partial)
-    → limited_end limit (o >>? λ p. ended_end free text behind p) ≡ (limited limit o >>? λ p. ended_end free text behind p)
-end-limited limit free text behind None = refl
-end-limited limit free text behind (Some p) =
-    let test = free p.0 || is_one_v (take (length text - length behind) text) in
+end-limited : (loose : Bool) (limit : ℕ) (free : Partial → Bool) (text behind : List ℕ) (o : Front Partial)
+    → limited_end limit (o >>? λ p. ended_end loose free text behind p) ≡ (limited limit o >>? λ p. ended_end loose free text behind p)
+end-limited loose limit free text behind None = refl
+end-limited loose limit free text behind (Some p) =
+    let test = free p.0 || are_whole_marks loose (take (length text - length behind) text) in
     elim (cases_Bool test) [
       | inl good ↦ elim (cases_Bool (is_small limit p.0)) [ inl small ↦ rw (good, small, good) refl | inr big ↦ rw (good, big) refl ]
       | inr bad ↦ elim (cases_Bool (is_small limit p.0)) [ inl small ↦ rw (bad, small, bad) refl | inr big ↦ rw (bad, big) refl ]
@@ -60,15 +60,15 @@ end-limited limit free text behind (Some p) =
 
 pub end_here : (loose : Bool) (free : Partial → Bool) (text behind : List ℕ) (o : Front Partial) → behind ≡ drop_ends text
     → o ≡ counted_front loose MAX_SAFE_INTEGER behind
-    → (o >>? λ p. ended_end free text behind p) ≡ limited_end MAX_SAFE_INTEGER (end_front loose free text)
+    → (o >>? λ p. ended_end loose free text behind p) ≡ limited_end MAX_SAFE_INTEGER (end_front loose free text)
 unfolding end_front
 end_here loose free text behind o e read =
-    rw (read ∙ counted_limited loose MAX_SAFE_INTEGER behind, e) (sym (end-limited MAX_SAFE_INTEGER free text (drop_ends text) (partial_front loose (drop_ends text))))
+    rw (read ∙ counted_limited loose MAX_SAFE_INTEGER behind, e) (sym (end-limited loose MAX_SAFE_INTEGER free text (drop_ends text) (partial_front loose (drop_ends text))))
 
 -- the same of one partial, of which it is known whether any marks may stand before it
 pub end_some : (loose : Bool) (free : Partial → Bool) (any_marks : Bool) (text behind : List ℕ) (p : Partial) (rest : List ℕ) → behind ≡ drop_ends text
     → Some (p, rest) ≡ counted_front loose MAX_SAFE_INTEGER behind → any_marks ≡ free p
-    → ended_end (λ q. any_marks) text behind (p, rest) ≡ limited_end MAX_SAFE_INTEGER (end_front loose free text)
+    → ended_end loose (λ q. any_marks) text behind (p, rest) ≡ limited_end MAX_SAFE_INTEGER (end_front loose free text)
 end_some loose free any_marks text behind p rest e read same = rw same (end_here loose free text behind (Some (p, rest)) e read)
 
 -- ---- a hyphen range

@@ -12,7 +12,7 @@ use Rattle.semver_core.proofs.Text.SpaceLaw.{space_len-dark, space_len-white}
 use Rattle.nodejs_semver.specs.Internal.Fronts.{after_byte}
 use Rattle.nodejs_semver.specs.Internal.NpmWords.{Ended, after_dash, after_ends, drop_ends, end_front, ended_end, hyphen_comparisons, hyphen_ends, last_end, partial_front}
 use Rattle.nodejs_semver.specs.Internal.Words.{after_some_space}
-use Rattle.nodejs_semver.specs.Npm.RangeText.{AreEndMarks, IsAlternative, IsPartial, hyphen, is_free_lower, is_free_upper, is_mark, is_one_v}
+use Rattle.nodejs_semver.specs.Npm.RangeText.{AreEndMarks, IsAlternative, IsPartial, are_whole_marks, hyphen, is_free_lower, is_free_upper, is_mark, is_one_v}
 use Rattle.nodejs_semver.specs.Npm.Table.{Partial, hyphen_lower, hyphen_upper}
 use Rattle.nodejs_semver.proofs.Dividing.MeaningLaw.{no_characters}
 use Rattle.nodejs_semver.proofs.Reading.Bytes.{begins_component, component-solid, is_solid, solid-dark}
@@ -159,6 +159,34 @@ one-characters (c ∷ cs) h = elim (one-first (encode_utf8_all (c ∷ cs)) h) [
       rw (no_characters cs same.1, same.0) refl
 ]
 
+-- ---- marks of whole versions, as characters and as bytes
+
+all-bytes : (cs : List ℕ) → list_all is_mark cs ≡ true → list_all is_mark (encode_utf8_all cs) ≡ true
+all-bytes [] h = refl
+all-bytes (c ∷ cs) h =
+    let each = and_parts (is_mark c) (list_all is_mark cs) h in
+    rw (encode_ascii c (mark-ascii c each.0), each.0) (all-bytes cs each.1)
+
+all-characters : (cs : List ℕ) → list_all is_mark (encode_utf8_all cs) ≡ true → list_all is_mark cs ≡ true
+all-characters [] h = refl
+all-characters (c ∷ cs) h = go (λ k. all-characters cs k) (encode_utf8_all (c ∷ cs)) refl h
+  where
+    go : (list_all is_mark (encode_utf8_all cs) ≡ true → list_all is_mark cs ≡ true) → (text : List ℕ) → encode_utf8_all (c ∷ cs) ≡ text
+        → list_all is_mark text ≡ true → list_all is_mark (c ∷ cs) ≡ true
+    go f [] e k = cc (no_characters (c ∷ cs) e)
+    go f (b ∷ text) e k =
+        let each = and_parts (is_mark b) (list_all is_mark text) k in
+        let same = encode_same c b (encode_utf8_all cs) text (e ∙ rw (encode_ascii b (mark-ascii b each.0)) refl) in
+        rw (same.0, each.0) (f (rw same.1 each.1))
+
+whole-bytes : (loose : Bool) (cs : List ℕ) → are_whole_marks loose cs ≡ true → are_whole_marks loose (encode_utf8_all cs) ≡ true
+whole-bytes true cs h = all-bytes cs h
+whole-bytes false cs h = one-bytes cs h
+
+whole-characters : (loose : Bool) (cs : List ℕ) → are_whole_marks loose (encode_utf8_all cs) ≡ true → are_whole_marks loose cs ≡ true
+whole-characters true cs h = all-characters cs h
+whole-characters false cs h = one-characters cs h
+
 -- ---- an end: what is written is read
 
 component-end : (u : List ℕ) → begins_component u ≡ true → begins is_mark u ≡ false
@@ -167,22 +195,22 @@ component-end u h = grind (arith, nat_tests)
 component-dark : (u : List ℕ) → begins_component u ≡ true → space_len u ≡ 0
 component-dark u h = solid-dark u (component-solid u h)
 
-pub marks-passed : (free : Bool) (a u : List ℕ) → AreEndMarks free a → begins_component u ≡ true → drop_ends (a ++ u) ≡ u
-marks-passed free a u h k = rw h.spelled (ends-read h.characters u h.each (component-end u k) (component-dark u k))
+pub marks-passed : (loose free : Bool) (a u : List ℕ) → AreEndMarks loose free a → begins_component u ≡ true → drop_ends (a ++ u) ≡ u
+marks-passed loose free a u h k = rw h.spelled (ends-read h.characters u h.each (component-end u k) (component-dark u k))
 
-pub marks-one : (free : Bool) (a : List ℕ) → AreEndMarks free a → (free || is_one_v a) ≡ true
-marks-one true a h = refl
-marks-one false a h = rw h.spelled (one-bytes h.characters h.one)
+pub marks-whole : (loose free : Bool) (a : List ℕ) → AreEndMarks loose free a → (free || are_whole_marks loose a) ≡ true
+marks-whole loose true a h = refl
+marks-whole loose false a h = rw h.spelled (whole-bytes loose h.characters h.whole)
 
-pub end-read : (loose : Bool) (free : Partial → Bool) (a x rest : List ℕ) (p : Partial) → AreEndMarks (free p) a → IsPartial loose x p
+pub end-read : (loose : Bool) (free : Partial → Bool) (a x rest : List ℕ) (p : Partial) → AreEndMarks loose (free p) a → IsPartial loose x p
     → begins is_solid rest ≡ false → end_front loose free (a ++ (x ++ rest)) ≡ Some ((p, a ++ x), rest)
 unfolding end_front
 end-read loose free a x rest p h k quiet =
     let u = x ++ rest in
-    let passed = marks-passed (free p) a u h (partial-begins loose x rest p k) in
+    let passed = marks-passed loose (free p) a u h (partial-begins loose x rest p k) in
     let text : take (length (a ++ u) - length rest) (a ++ u) ≡ a ++ x =
     rw (append_assoc a x rest) at (front-text (a ++ x) rest) in
-    rw (passed, partial-read loose x rest p k quiet, front-text a u, marks-one (free p) a h, text) refl
+    rw (passed, partial-read loose x rest p k quiet, front-text a u, marks-whole loose (free p) a h, text) refl
 
 -- ---- an end: what is read is written
 
@@ -190,7 +218,7 @@ pub record EndAt (loose : Bool) (free : Bool) (text : List ℕ) (p : Partial) (t
   pub marks : List ℕ
   pub piece : List ℕ
   pub split : text ≡ marks ++ (piece ++ rest)
-  pub are : AreEndMarks free marks
+  pub are : AreEndMarks loose free marks
   pub is : IsPartial loose piece p
   pub text_is : taken ≡ marks ++ piece
 
@@ -201,10 +229,10 @@ end-found loose free text e u h =
     let ends = ends-found text u in
     let behind = drop_ends text in
     let marks = encode_utf8_all ends.characters in
-    let p = bind_some (partial_front loose behind) (λ p. ended_end free text behind p) e h in
+    let p = bind_some (partial_front loose behind) (λ p. ended_end loose free text behind p) e h in
     let front = take (length text - length behind) text in
     let taken = take (length text - length p.0.1) text in
-    let t = cond_some (free p.0.0 || is_one_v front) ((p.0.0, taken), p.0.1) e p.2 in
+    let t = cond_some (free p.0.0 || are_whole_marks loose front) ((p.0.0, taken), p.0.1) e p.2 in
     let part = partial-found loose behind p.0.0 p.0.1 p.1 in
     let whole : text ≡ marks ++ (part.piece ++ p.0.1) = ends.split ∙ ap (λ (t : List ℕ). marks ++ t) part.split in
     let front_is : front ≡ marks =
@@ -212,16 +240,17 @@ end-found loose free text e u h =
     let taken_is : taken ≡ marks ++ part.piece =
     ap (λ (t : List ℕ). take (length t - length p.0.1) t) (whole ∙ sym (append_assoc marks part.piece p.0.1))
     ∙ front-text (marks ++ part.piece) p.0.1 in
-    let one : (free p.0.0 || is_one_v ends.characters) ≡ true =
-    characters-one (free p.0.0) ends.characters (subst (λ (x : List ℕ). (free p.0.0 || is_one_v x) ≡ true) front_is t.0) in
-    let are : AreEndMarks (free p.0.0) marks = record { characters = ends.characters; spelled = refl; each = ends.each; one = one } in
+    let written : (free p.0.0 || are_whole_marks loose ends.characters) ≡ true =
+    characters-whole (free p.0.0) ends.characters (subst (λ (x : List ℕ). (free p.0.0 || are_whole_marks loose x) ≡ true) front_is t.0) in
+    let are : AreEndMarks loose (free p.0.0) marks = record { characters = ends.characters; spelled = refl; each = ends.each; whole = written } in
     let found : EndAt loose (free p.0.0) text p.0.0 taken p.0.1 =
     record { marks = marks; piece = part.piece; split = whole; are = are; is = part.is; text_is = taken_is } in
     subst (λ (q : Ended × List ℕ). EndAt loose (free q.0.0) text q.0.0 q.0.1 q.1) t.1 found
   where
-    characters-one : (free : Bool) (cs : List ℕ) → (free || is_one_v (encode_utf8_all cs)) ≡ true → (free || is_one_v cs) ≡ true
-    characters-one true cs h = refl
-    characters-one false cs h = one-characters cs h
+    characters-whole : (free : Bool) (cs : List ℕ) → (free || are_whole_marks loose (encode_utf8_all cs)) ≡ true
+        → (free || are_whole_marks loose cs) ≡ true
+    characters-whole true cs h = refl
+    characters-whole false cs h = whole-characters loose cs h
 
 -- ---- what stands between the ends
 
@@ -304,10 +333,12 @@ hyphen-found loose include text e u h =
     put-together loose include text _ a.0.0.0 l.0.0.0 a.0.0.1 l.0.0.1 front (upper.marks ++ upper.piece) text_is lower.text_is upper.text_is is in
     subst (λ (q : Ended × Ended). IsAlternative loose include text (hyphen_comparisons include q)) both found
 
--- ---- one `v` at most is no whitespace
+-- ---- marks are no whitespace
 
-pub one-dark : (b u : List ℕ) → is_one_v b ≡ true → begins_component u ≡ true → space_len (b ++ u) ≡ 0
-one-dark b u h k = elim (one-first b h) [
+pub whole-dark : (loose : Bool) (b u : List ℕ) → are_whole_marks loose b ≡ true → begins_component u ≡ true → space_len (b ++ u) ≡ 0
+whole-dark true [] u h k = component-dark u k
+whole-dark true (c ∷ b) u h k = mark-dark c (b ++ u) (and_parts (is_mark c) (list_all is_mark b) h).0
+whole-dark false b u h k = elim (one-first b h) [
   | inl none ↦ rw none (component-dark u k)
   | inr one ↦ rw one (mark-dark 118 u refl)
 ]

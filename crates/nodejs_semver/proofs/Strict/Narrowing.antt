@@ -20,8 +20,8 @@ use Rattle.nodejs_semver.specs.Internal.NpmMeaning.{AreRead, IsCommon, IsNarrowe
 use Rattle.nodejs_semver.specs.Internal.Readings.{bounds_view}
 use Rattle.nodejs_semver.specs.declared.npm.alternatives.Alternative.{Alternative}
 use Rattle.nodejs_semver.specs.declared.readers.syntax.Bounds.{Bounds}
-use Rattle.nodejs_semver.specs.Npm.Ranges.{counts, names, satisfies}
-use Rattle.nodejs_semver.specs.Npm.Table.{Comparison}
+use Rattle.nodejs_semver.specs.Npm.Ranges.{names, satisfies}
+use Rattle.nodejs_semver.specs.Npm.Table.{Comparison, counts}
 use Rattle.nodejs_semver.specs.Ranges.View.{is_range_bound}
 use Rattle.nodejs_semver.specs.Text.Table as Spans
 use Rattle.nodejs_semver.specs.Text.WordText.{Comparator, above, at_least, at_most, below, equal}

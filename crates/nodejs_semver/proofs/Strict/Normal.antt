@@ -1,16 +1,19 @@
 -- The identifiers of the partials that are read are in normal form.
-use Rattle.nodejs_semver.proofs.Common.{◌≡◌, ℕ, Bool, List, [], refl, true, Some, None, Option, ◌&&◌, bind_some, same_Some, ◌||◌, if◌then◌else◌}
+use Rattle.nodejs_semver.proofs.Common.{◌≡◌, ℕ, Bool, List, [], refl, true, false, Some, None, Option, ◌&&◌, bind_some, same_Some, ◌||◌, if◌then◌else◌}
 use Rattle.nodejs_semver.proofs.Common.{cond_some, drop, is_empty, length, list_all, subst, take, Id, MAX_SAFE_INTEGER, ◌-◌}
+use Rattle.std.specs.List.{prefix_len}
 use Rattle.semver_core.specs.Internal.Reading.{◌>>?◌}
 use Rattle.semver_core.specs.Printing.RoundTrip.{is_normal}
 use Rattle.nodejs_semver.specs.Internal.Fronts.{Front}
 use Rattle.nodejs_semver.specs.Internal.NpmParts.{are_normal}
 use Rattle.nodejs_semver.specs.Internal.NpmWords.{Ended, Signed, after_dash, drop_ends, end_front, ended_end, ended_word, hyphen_of, is_small, last_limited}
-use Rattle.nodejs_semver.specs.Internal.NpmWords.{limited_end, limited_word, marks_len, npm_sign, partial_front, signed_word}
-use Rattle.nodejs_semver.specs.Internal.Words.{is_boundary}
+use Rattle.nodejs_semver.specs.Internal.NpmWords.{any_word, ignored_front, limited_end, limited_word, marks_len, npm_sign, partial_front, signed_word}
+use Rattle.nodejs_semver.specs.Internal.Words.{is_boundary, or_else}
 use Rattle.nodejs_semver.specs.Npm.Grammar.{IsStrictBuild, no_build, plus}
-use Rattle.nodejs_semver.specs.Npm.RangeText.{IsPartial, IsPreRelease, are_marks, bare, dashed, is_free_lower, is_free_upper, is_one_v, no_pre_release, one, partial_of, three, two}
-use Rattle.nodejs_semver.specs.Npm.Table.{Partial}
+use Rattle.nodejs_semver.specs.Npm.Malformed.{begins_malformed, is_plain}
+use Rattle.nodejs_semver.specs.Npm.RangeText.{IsPartial, IsPreRelease, are_marks, are_whole_marks, bare, dashed, is_free_lower, is_free_upper, no_pre_release, one, partial_of, three, two}
+use Rattle.nodejs_semver.specs.Npm.Table.{Partial, compared, wildcard}
+use Rattle.nodejs_semver.specs.Text.WordText.{equal}
 use Rattle.nodejs_semver.proofs.Bounds.Bounded.{identifiers-normal}
 use Rattle.nodejs_semver.proofs.Strict.PartialLaw.{partial-found}
 
@@ -51,13 +54,22 @@ signed-normal loose text w h =
     let same = cond_some (are_marks loose s.0 p.0.0 (take n s.1) && is_boundary p.0.1) read w p.2 in
     subst (λ (x : Signed × List ℕ). are_normal x.0.1 ≡ true) same.1 (front-normal loose (drop n s.1) p.0 p.1)
 
-pub word-normal : (loose : Bool) (text : List ℕ) (w : Signed × List ℕ) → limited_word MAX_SAFE_INTEGER (signed_word loose text) ≡ Some w → are_normal w.0.1 ≡ true
-word-normal loose text w h = go (signed_word loose text) refl h
+any-normal : (loose : Bool) (text : List ℕ) (w : Signed × List ℕ) → any_word loose text ≡ Some w → are_normal w.0.1 ≡ true
+unfolding any_word ignored_front
+any-normal loose text w h = go (loose && (begins_malformed text && is_boundary (drop (prefix_len is_plain text) text))) h
   where
-    go : (o : Front Signed) → signed_word loose text ≡ o → limited_word MAX_SAFE_INTEGER o ≡ Some w → are_normal w.0.1 ≡ true
+    go : (b : Bool) → or_else (if b then Some ((compared equal, wildcard, []), drop (prefix_len is_plain text) text) else None) (signed_word loose text) ≡ Some w
+        → are_normal w.0.1 ≡ true
+    go true k = subst (λ (x : Signed × List ℕ). are_normal x.0.1 ≡ true) (same_Some _ _ k) refl
+    go false k = signed-normal loose text w k
+
+pub word-normal : (loose : Bool) (text : List ℕ) (w : Signed × List ℕ) → limited_word MAX_SAFE_INTEGER (any_word loose text) ≡ Some w → are_normal w.0.1 ≡ true
+word-normal loose text w h = go (any_word loose text) refl h
+  where
+    go : (o : Front Signed) → any_word loose text ≡ o → limited_word MAX_SAFE_INTEGER o ≡ Some w → are_normal w.0.1 ≡ true
     go None e k = cc k
     go (Some q) e k =
-        subst (λ (x : Signed × List ℕ). are_normal x.0.1 ≡ true) (cond_some (is_small MAX_SAFE_INTEGER q.0.1) q w k).1 (signed-normal loose text q e)
+        subst (λ (x : Signed × List ℕ). are_normal x.0.1 ≡ true) (cond_some (is_small MAX_SAFE_INTEGER q.0.1) q w k).1 (any-normal loose text q e)
 
 -- ---- the ends of a hyphen range
 
@@ -65,9 +77,9 @@ end-normal : (loose : Bool) (free : Partial → Bool) (text : List ℕ) (e : End
 unfolding end_front
 end-normal loose free text e h =
     let behind = drop_ends text in
-    let p = bind_some (partial_front loose behind) (λ p. ended_end free text behind p) e h in
+    let p = bind_some (partial_front loose behind) (λ p. ended_end loose free text behind p) e h in
     let read : Ended × List ℕ = ((p.0.0, take (length text - length p.0.1) text), p.0.1) in
-    let same = cond_some (free p.0.0 || is_one_v (take (length text - length behind) text)) read e p.2 in
+    let same = cond_some (free p.0.0 || are_whole_marks loose (take (length text - length behind) text)) read e p.2 in
     subst (λ (x : Ended × List ℕ). are_normal x.0.0 ≡ true) same.1 (front-normal loose behind p.0 p.1)
 
 limited-normal : (loose : Bool) (free : Partial → Bool) (text : List ℕ) (e : Ended × List ℕ) → limited_end MAX_SAFE_INTEGER (end_front loose free text) ≡ Some e

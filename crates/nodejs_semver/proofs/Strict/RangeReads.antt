@@ -1,7 +1,7 @@
 -- The alternatives of a range text, read one after another.
 use Rattle.nodejs_semver.proofs.Common.{◌≡◌, ◌<◌, ◌≤◌, ◌+◌, ℕ, Bool, List, [], ◌∷◌, ◌++◌, length, refl, sym, ap, ◌∙◌, arith, true, false, subst, IsUtf8}
 use Rattle.nodejs_semver.proofs.Common.{Some, None, Option, append_assoc, append-nil, flat_map, length-append, option_to_list, Span, VersionValue, MAX_SAFE_INTEGER}
-use Rattle.nodejs_semver.proofs.Common.{IsCutAtBars, bind_some, if◌then◌else◌, cases_Bool, cond_some, inl, inr, list_all, map, trim}
+use Rattle.nodejs_semver.proofs.Common.{not, is_empty, IsCutAtBars, bind_some, if◌then◌else◌, cases_Bool, cond_some, inl, inr, list_all, map, trim}
 use Rattle.std.proofs.Common.{Err, Ok, Result}
 use Rattle.semver_core.specs.Failures.{MemoryOnlyIf, NoValue, RefusedOnlyIf}
 use Rattle.semver_core.specs.declared.error.Failure.{Failure}
@@ -9,8 +9,8 @@ use Rattle.semver_core.specs.declared.error.Failure.TheVariants.{Memory, Refused
 use Rattle.semver_core.specs.Internal.Reading.{◌>>?◌}
 use Rattle.nodejs_semver.specs.Internal.NpmAlternatives.{AcceptAsRanged, AreNarrowed}
 use Rattle.nodejs_semver.specs.Internal.NpmMeaning.{IsNarrowed}
-use Rattle.nodejs_semver.specs.Internal.NpmReads.{Adds, AreAllFound, AreFound, IsFound, valid_alternative, valid_alternatives}
-use Rattle.nodejs_semver.specs.Internal.NpmWords.{alternative_of, alternatives_of, valid_only}
+use Rattle.nodejs_semver.specs.Internal.NpmReads.{Adds, AddsPart, AreAllFound, AreFound, IsFound, some_only, valid_alternative, valid_alternatives, valid_range}
+use Rattle.nodejs_semver.specs.Internal.NpmWords.{alternative_of, alternatives_of, is_lost, valid_only}
 use Rattle.nodejs_semver.specs.Internal.PartFronts.{later_parts}
 use Rattle.nodejs_semver.specs.Internal.Parts.{cut_bars, parts}
 use Rattle.nodejs_semver.specs.Npm.Ranges.{HasAlternativesIn, IsRangeIn, is_valid}
@@ -59,72 +59,116 @@ none-found loose include text h = go (valid_alternative loose include text) h
 -- ---- the alternatives, up to a rest of the text
 
 -- what was read of a text, and what is left
-pub record AreReadTo (loose : Bool) (include : Bool) (text : List ℕ) (found : List (Span VersionValue)) (rest : Option (List ℕ)) : Type 0 where
+pub record AreReadTo (loose : Bool) (include : Bool) (text : List ℕ) (is_some : Bool) (found : List (Span VersionValue)) (rest : Option (List ℕ)) : Type 0 where
   pub read : List (List Comparison)
   pub are : AreFound include read found
   pub same : valid_alternatives loose include (parts text) ≡ (valid_alternatives loose include (later_parts rest) >>? λ more. Some (read ++ more))
-  pub count : length (parts text) ≡ length read + length (later_parts rest)
+  pub count : length read + length (later_parts rest) ≤ length (parts text)
+  pub some : is_some ≡ not (is_empty read)
 
-pub read-none : (loose : Bool) (include : Bool) (text : List ℕ) → AreReadTo loose include text [] (Some text)
+pub read-none : (loose : Bool) (include : Bool) (text : List ℕ) → AreReadTo loose include text false [] (Some text)
 read-none loose include text = record {
   read = [];
   are = record { intervals = []; narrowed = tt; are = refl };
   same = whole (valid_alternatives loose include (parts text));
   count = omega arith;
+  some = refl;
 }
   where
     whole : (o : Option (List (List Comparison))) → o ≡ (o >>? λ ls. Some ([] ++ ls))
     whole None = refl
     whole (Some ls) = refl
 
-alternatives-step : (loose : Bool) (include : Bool) (part : List ℕ) (others : List (List ℕ)) → valid_alternatives loose include (part ∷ others)
+alternatives-step : (loose : Bool) (include : Bool) (part : List ℕ) (others : List (List ℕ)) → is_lost loose part ≡ false
+    → valid_alternatives loose include (part ∷ others)
     ≡ (valid_alternative loose include part >>? λ cs. valid_alternatives loose include others >>? λ rest. Some (cs ∷ rest))
 unfolding valid_alternatives
-alternatives-step loose include part others = refl
+alternatives-step loose include part others h = rw h refl
 
-pub read-next : (loose : Bool) (include : Bool) (text : List ℕ) (found after : List (Span VersionValue)) (rest : List ℕ) (part : List ℕ)
-    (behind : Option (List ℕ)) → AreReadTo loose include text found (Some rest) → part ∷ later_parts behind ≡ parts rest
-    → Adds include (valid_alternative loose include part) found after → AreReadTo loose include text after behind
-read-next loose include text found after rest part behind h e a = go (valid_alternative loose include part) refl a
+lost-step : (loose : Bool) (include : Bool) (part : List ℕ) (others : List (List ℕ)) → is_lost loose part ≡ true
+    → valid_alternatives loose include (part ∷ others) ≡ valid_alternatives loose include others
+unfolding valid_alternatives
+lost-step loose include part others h = rw h refl
+
+some-end : (ls : List (List Comparison)) (cs : List Comparison) → true ≡ not (is_empty (ls ++ cs ∷ []))
+some-end [] cs = refl
+some-end (l ∷ ls) cs = refl
+
+read-next : (loose : Bool) (include : Bool) (text : List ℕ) (was : Bool) (found after : List (Span VersionValue)) (rest : List ℕ) (part : List ℕ)
+    (behind : Option (List ℕ)) → AreReadTo loose include text was found (Some rest) → part ∷ later_parts behind ≡ parts rest → is_lost loose part ≡ false
+    → Adds include (valid_alternative loose include part) found after → AreReadTo loose include text true after behind
+read-next loose include text was found after rest part behind h e l a = go (valid_alternative loose include part) refl a
   where
     joined : (cs : List Comparison) (o : Option (List (List Comparison)))
         → ((o >>? λ rest. Some (cs ∷ rest)) >>? λ more. Some (h.read ++ more)) ≡ (o >>? λ more. Some ((h.read ++ cs ∷ []) ++ more))
     joined cs None = refl
     joined cs (Some ls) = ap (λ (l : List (List Comparison)). Some l) (sym (append_assoc h.read (cs ∷ []) ls))
 
-    go : (o : Option (List Comparison)) → valid_alternative loose include part ≡ o → Adds include o found after → AreReadTo loose include text after behind
+    go : (o : Option (List Comparison)) → valid_alternative loose include part ≡ o → Adds include o found after → AreReadTo loose include text true after behind
     go None d k = absurd k
     go (Some cs) d k =
         let step : valid_alternatives loose include (parts rest) ≡ (valid_alternatives loose include (later_parts behind) >>? λ ls. Some (cs ∷ ls)) =
-        ap (λ (l : List (List ℕ)). valid_alternatives loose include l) (sym e) ∙ alternatives-step loose include part (later_parts behind) ∙ rw d refl in
+        ap (λ (l : List (List ℕ)). valid_alternatives loose include l) (sym e) ∙ alternatives-step loose include part (later_parts behind) l ∙ rw d refl in
         record {
           read = h.read ++ cs ∷ [];
           are = k h.read h.are;
           same = h.same ∙ rw step (joined cs (valid_alternatives loose include (later_parts behind)));
           count = omega (arith, h.count, ap length e, length-append h.read (cs ∷ []));
+          some = some-end h.read cs;
         }
 
-pub read-malformed : (loose : Bool) (include : Bool) (text : List ℕ) (found : List (Span VersionValue)) (rest : List ℕ) (part : List ℕ)
-    (behind : Option (List ℕ)) → AreReadTo loose include text found (Some rest) → part ∷ later_parts behind ≡ parts rest
-    → valid_alternative loose include part ≡ None → valid_alternatives loose include (parts text) ≡ None
-read-malformed loose include text found rest part behind h e k =
+-- one part more
+pub read-part : (loose : Bool) (include : Bool) (text : List ℕ) (was is : Bool) (found after : List (Span VersionValue)) (rest : List ℕ) (part : List ℕ)
+    (behind : Option (List ℕ)) → AreReadTo loose include text was found (Some rest) → part ∷ later_parts behind ≡ parts rest
+    → AddsPart include (is_lost loose part) (valid_alternative loose include part) was is found after → AreReadTo loose include text is after behind
+read-part loose include text was is found after rest part behind h e a = go (is_lost loose part) refl a
+  where
+    go : (l : Bool) → is_lost loose part ≡ l → AddsPart include l (valid_alternative loose include part) was is found after
+        → AreReadTo loose include text is after behind
+    go false d k = subst (λ (b : Bool). AreReadTo loose include text b after behind) (sym k.0)
+        (read-next loose include text was found after rest part behind h e d k.1)
+    go true d k =
+        let step : valid_alternatives loose include (parts rest) ≡ valid_alternatives loose include (later_parts behind) =
+        ap (λ (l : List (List ℕ)). valid_alternatives loose include l) (sym e) ∙ lost-step loose include part (later_parts behind) d in
+        record {
+          read = h.read;
+          are = subst (λ (l : List (Span VersionValue)). AreFound include h.read l) (sym k.1) h.are;
+          same = h.same ∙ ap (λ (o : Option (List (List Comparison))). o >>? λ more. Some (h.read ++ more)) step;
+          count = omega (arith, h.count, ap length e);
+          some = k.0 ∙ h.some;
+        }
+
+read-malformed : (loose : Bool) (include : Bool) (text : List ℕ) (was : Bool) (found : List (Span VersionValue)) (rest : List ℕ) (part : List ℕ)
+    (behind : Option (List ℕ)) → AreReadTo loose include text was found (Some rest) → part ∷ later_parts behind ≡ parts rest → is_lost loose part ≡ false
+    → valid_alternative loose include part ≡ None → valid_range loose include text ≡ None
+read-malformed loose include text was found rest part behind h e l k =
     let step : valid_alternatives loose include (parts rest) ≡ None =
-    ap (λ (l : List (List ℕ)). valid_alternatives loose include l) (sym e) ∙ alternatives-step loose include part (later_parts behind) ∙ rw k refl in
-    h.same ∙ rw step refl
+    ap (λ (l : List (List ℕ)). valid_alternatives loose include l) (sym e) ∙ alternatives-step loose include part (later_parts behind) l ∙ rw k refl in
+    let whole : valid_alternatives loose include (parts text) ≡ None = h.same ∙ rw step refl in
+    rw whole refl
 
 -- the same of a call that rejects the part
-pub read-refused : (loose : Bool) {A E : Type 0} (r : Result A (Failure E)) (include : Bool) (text : List ℕ) (found : List (Span VersionValue)) (rest : List ℕ)
-    (part : List ℕ) (behind : Option (List ℕ)) → AreReadTo loose include text found (Some rest) → part ∷ later_parts behind ≡ parts rest
-    → RefusedOnlyIf r (valid_alternative loose include part ≡ None) → RefusedOnlyIf r (valid_alternatives loose include (parts text) ≡ None)
-read-refused loose (Ok v) include text found rest part behind h e k = tt
-read-refused loose (Err (Refused x)) include text found rest part behind h e k = read-malformed loose include text found rest part behind h e k
-read-refused loose (Err (Memory x)) include text found rest part behind h e k = tt
+pub read-refused : (loose : Bool) {A E : Type 0} (r : Result A (Failure E)) (include : Bool) (text : List ℕ) (was : Bool) (found : List (Span VersionValue)) (rest : List ℕ)
+    (part : List ℕ) (behind : Option (List ℕ)) → AreReadTo loose include text was found (Some rest) → part ∷ later_parts behind ≡ parts rest
+    → RefusedOnlyIf r ((is_lost loose part ≡ false) × (valid_alternative loose include part ≡ None)) → RefusedOnlyIf r (valid_range loose include text ≡ None)
+read-refused loose (Ok v) include text was found rest part behind h e k = tt
+read-refused loose (Err (Refused x)) include text was found rest part behind h e k = read-malformed loose include text was found rest part behind h e k.0 k.1
+read-refused loose (Err (Memory x)) include text was found rest part behind h e k = tt
 
-pub read-all : (loose : Bool) (include : Bool) (text : List ℕ) (found : List (Span VersionValue)) → AreReadTo loose include text found None
-    → AreAllFound include (valid_alternatives loose include (parts text)) found
+all-read : (loose : Bool) (include : Bool) (text : List ℕ) (is_some : Bool) (found : List (Span VersionValue)) (h : AreReadTo loose include text is_some found None)
+    → valid_alternatives loose include (parts text) ≡ Some h.read
 unfolding valid_alternatives
+all-read loose include text is_some found h = h.same ∙ ap (λ (l : List (List Comparison)). Some l) (append-nil h.read)
+
+-- no part was an alternative
+pub read-nothing : (loose : Bool) (include : Bool) (text : List ℕ) (found : List (Span VersionValue)) → AreReadTo loose include text false found None
+    → valid_range loose include text ≡ None
+read-nothing loose include text found h = rw (all-read loose include text false found h, sym h.some) refl
+
+pub read-all : (loose : Bool) (include : Bool) (text : List ℕ) (found : List (Span VersionValue)) → AreReadTo loose include text true found None
+    → AreAllFound include (valid_range loose include text) found
 read-all loose include text found h =
-    let whole : valid_alternatives loose include (parts text) ≡ Some h.read = h.same ∙ ap (λ (l : List (List Comparison)). Some l) (append-nil h.read) in
+    let whole : valid_range loose include text ≡ Some h.read = rw (all-read loose include text true found h, sym h.some) refl in
     rw whole h.are
 
 -- an interval more than there is: the text has two alternatives
@@ -140,10 +184,10 @@ narrowed-length include [] (p ∷ os) h = absurd h
 narrowed-length include (c ∷ ls) [] h = absurd h
 narrowed-length include (c ∷ ls) (p ∷ os) h = omega (arith, narrowed-length include ls os h.1)
 
-pub two-parts : (loose : Bool) (include : Bool) (text : List ℕ) (found : List (Span VersionValue)) (rest : List ℕ) (part : List ℕ)
-    (behind : Option (List ℕ)) → AreReadTo loose include text found (Some rest) → part ∷ later_parts behind ≡ parts rest
+pub two-parts : (loose : Bool) (include : Bool) (text : List ℕ) (was : Bool) (found : List (Span VersionValue)) (rest : List ℕ) (part : List ℕ)
+    (behind : Option (List ℕ)) → AreReadTo loose include text was found (Some rest) → part ∷ later_parts behind ≡ parts rest
     → 0 < length found → 1 < length (parts text)
-two-parts loose include text found rest part behind h e some =
+two-parts loose include text was found rest part behind h e some =
     omega (
       arith,
       h.count,
@@ -160,7 +204,10 @@ all-valid : (loose : Bool) (include : Bool) (texts : List (List ℕ)) → valid_
     ≡ (alternatives_of loose include texts >>? λ ls. if list_all (list_all (is_valid MAX_SAFE_INTEGER)) ls then Some ls else None)
 unfolding valid_alternatives valid_alternative alternatives_of
 all-valid loose include [] = refl
-all-valid loose include (text ∷ texts) = go (all-valid loose include texts) (alternative_of loose include text)
+all-valid loose include (text ∷ texts) = elim (cases_Bool (is_lost loose text)) [
+  | inl lost ↦ rw lost (all-valid loose include texts)
+  | inr regular ↦ rw regular (go (all-valid loose include texts) (alternative_of loose include text))
+]
   where
     behind : (cs : List Comparison) (o : Option (List (List Comparison))) → list_all (is_valid MAX_SAFE_INTEGER) cs ≡ true
         → ((o >>? λ ls. if list_all (list_all (is_valid MAX_SAFE_INTEGER)) ls then Some ls else None) >>? λ rest. Some (cs ∷ rest))
@@ -188,32 +235,40 @@ all-valid loose include (text ∷ texts) = go (all-valid loose include texts) (a
       | inr bad ↦ rw bad (invalid cs (alternatives_of loose include texts) bad)
     ]
 
+not-false : (b : Bool) → not b ≡ true → b ≡ false
+not-false true h = cc h
+not-false false h = refl
+
 -- the alternatives that are read are those of the text
 pub alternatives-read : (loose : Bool) (include : Bool) (text : List ℕ) (ls : List (List Comparison)) → IsUtf8 text
-    → valid_alternatives loose include (parts text) ≡ Some ls → HasAlternativesIn loose MAX_SAFE_INTEGER include text ls
+    → valid_range loose include text ≡ Some ls → HasAlternativesIn loose MAX_SAFE_INTEGER include text ls
 alternatives-read loose include text ls u h =
-    let e = sym (all-valid loose include (parts text)) ∙ h in
-    let l = bind_some (alternatives_of loose include (parts text)) (λ ls. if list_all (list_all (is_valid MAX_SAFE_INTEGER)) ls then Some ls else None) ls e in
-    let k = cond_some (list_all (list_all (is_valid MAX_SAFE_INTEGER)) l.0) l.0 ls l.2 in
-    subst (λ (x : List (List Comparison)). HasAlternativesIn loose MAX_SAFE_INTEGER include text x) k.1
-    ((alternatives_are loose MAX_SAFE_INTEGER include text l.0 u).1 (l.1, k.0))
+    let a = bind_some (valid_alternatives loose include (parts text)) (λ all. some_only all) ls h in
+    let s = cond_some (not (is_empty a.0)) a.0 ls a.2 in
+    let e = sym (all-valid loose include (parts text)) ∙ a.1 in
+    let l = bind_some (alternatives_of loose include (parts text)) (λ ls. if list_all (list_all (is_valid MAX_SAFE_INTEGER)) ls then Some ls else None) a.0 e in
+    let k = cond_some (list_all (list_all (is_valid MAX_SAFE_INTEGER)) l.0) l.0 a.0 l.2 in
+    let some : is_empty l.0 ≡ false = ap (λ (x : List (List Comparison)). is_empty x) k.1 ∙ not-false (is_empty a.0) s.0 in
+    subst (λ (x : List (List Comparison)). HasAlternativesIn loose MAX_SAFE_INTEGER include text x) (k.1 ∙ s.1)
+    ((alternatives_are loose MAX_SAFE_INTEGER include text l.0 u).1 (l.1, k.0, some))
 
-pub none-read : (loose : Bool) (include : Bool) (text : List ℕ) → IsUtf8 text → valid_alternatives loose include (parts text) ≡ None
+pub none-read : (loose : Bool) (include : Bool) (text : List ℕ) → IsUtf8 text → valid_range loose include text ≡ None
     → NoValue (HasAlternativesIn loose MAX_SAFE_INTEGER include text)
 none-read loose include text u h ls has =
     let k = (alternatives_are loose MAX_SAFE_INTEGER include text ls u).0 has in
-    let some : valid_alternatives loose include (parts text) ≡ Some ls = all-valid loose include (parts text) ∙ rw (k.0, k.1) refl in
+    let read : valid_alternatives loose include (parts text) ≡ Some ls = all-valid loose include (parts text) ∙ rw (k.0, k.1) refl in
+    let some : valid_range loose include text ≡ Some ls = rw (read, k.2) refl in
     differ ls (sym h ∙ some)
   where
     differ : (ls : List (List Comparison)) → ◌≡◌ {A = Option (List (List Comparison))} None (Some ls) → ⊥
     differ ls e = cc e
 
 pub range-read : (loose : Bool) (include : Bool) (text : List ℕ) (found range : List (Span VersionValue)) → IsUtf8 text
-    → AreAllFound include (valid_alternatives loose include (parts text)) found → AcceptAsRanged found range
+    → AreAllFound include (valid_range loose include text) found → AcceptAsRanged found range
     → IsRangeIn loose MAX_SAFE_INTEGER include text range
-range-read loose include text found range u h a = go (valid_alternatives loose include (parts text)) refl h
+range-read loose include text found range u h a = go (valid_range loose include text) refl h
   where
-    go : (o : Option (List (List Comparison))) → valid_alternatives loose include (parts text) ≡ o → AreAllFound include o found
+    go : (o : Option (List (List Comparison))) → valid_range loose include text ≡ o → AreAllFound include o found
         → IsRangeIn loose MAX_SAFE_INTEGER include text range
     go None e k = absurd k
     go (Some ls) e k = record {
@@ -230,7 +285,7 @@ two-pieces text h pieces cut = omega (arith, h, ap length (bars_once text pieces
     map-length (t ∷ l) = omega (arith, map-length l)
 
 pub refused-none : (loose : Bool) {A E : Type 0} (r : Result A (Failure E)) (include : Bool) (text : List ℕ) → IsUtf8 text
-    → RefusedOnlyIf r (valid_alternatives loose include (parts text) ≡ None) → RefusedOnlyIf r (NoValue (HasAlternativesIn loose MAX_SAFE_INTEGER include text))
+    → RefusedOnlyIf r (valid_range loose include text ≡ None) → RefusedOnlyIf r (NoValue (HasAlternativesIn loose MAX_SAFE_INTEGER include text))
 refused-none loose (Ok v) include text u k = tt
 refused-none loose (Err (Refused x)) include text u k = none-read loose include text u k
 refused-none loose (Err (Memory x)) include text u k = tt
@@ -241,9 +296,9 @@ memory-pieces (Ok v) text k = tt
 memory-pieces (Err (Refused x)) text k = tt
 memory-pieces (Err (Memory x)) text k = two-pieces text k
 
-pub all-spans : (loose : Bool) (include : Bool) (text : List ℕ) (found : List (Span VersionValue)) → AreAllFound include (valid_alternatives loose include (parts text)) found
+pub all-spans : (loose : Bool) (include : Bool) (text : List ℕ) (found : List (Span VersionValue)) → AreAllFound include (valid_range loose include text) found
     → list_all (is_range_span (MAX_SAFE_INTEGER + 1)) found ≡ true
-all-spans loose include text found h = go (valid_alternatives loose include (parts text)) h
+all-spans loose include text found h = go (valid_range loose include text) h
   where
     go : (o : Option (List (List Comparison))) → AreAllFound include o found → list_all (is_range_span (MAX_SAFE_INTEGER + 1)) found ≡ true
     go None k = absurd k

@@ -11,8 +11,8 @@ use Rattle.semver_core.specs.declared.TheConstants.{MAX_LENGTH}
 use Rattle.nodejs_semver.specs.Internal.NpmMeaning.{AreRead, IsCommon, is_part, is_zero}
 use Rattle.nodejs_semver.specs.Internal.NpmParts.{are_normal, npm_partial_view, npm_sign_view, within}
 use Rattle.nodejs_semver.specs.Internal.Readings.{comparator_view}
-use Rattle.nodejs_semver.specs.Npm.Ranges.{counts, is_valid}
-use Rattle.nodejs_semver.specs.Npm.Table.{Comparison, Numbers, Partial, caret, caret_from, compared, first, from, hyphen_upper, lowest}
+use Rattle.nodejs_semver.specs.Npm.Ranges.{is_valid}
+use Rattle.nodejs_semver.specs.Npm.Table.{Comparison, Numbers, Partial, caret, caret_from, compared, counts, first, from, hyphen_upper, lowest}
 use Rattle.nodejs_semver.specs.Npm.Table.{made, major, minor, next, next_changed, no_build, table, tilde, under, whole}
 use Rattle.nodejs_semver.specs.Npm.Table.{wildcard}
 use Rattle.nodejs_semver.specs.Text.Table as Spans

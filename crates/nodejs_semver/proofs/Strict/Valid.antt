@@ -5,7 +5,7 @@ use Rattle.std.specs.Prelude.{nat_le}
 use Rattle.std.proofs.lemmas.List.Folds.{list_all-append}
 use Rattle.semver_core.specs.Internal.Reading.{◌>>?◌}
 use Rattle.nodejs_semver.specs.Internal.Fronts.{Front}
-use Rattle.nodejs_semver.specs.Internal.NpmWords.{Ended, Signed, hyphen_comparisons, is_small, limited_hyphen, limited_word, signed_word, valid_only, valid_words, word_front, words_within}
+use Rattle.nodejs_semver.specs.Internal.NpmWords.{Ended, Signed, hyphen_comparisons, is_small, limited_hyphen, limited_word, any_word, valid_only, valid_words, word_front, words_within}
 use Rattle.nodejs_semver.specs.Npm.Ranges.{is_valid}
 use Rattle.nodejs_semver.specs.Npm.Table.{Comparison, Numbers, Partial, Sign, caret, caret_from, compared, from, hyphen_lower, hyphen_upper, major, minor}
 use Rattle.nodejs_semver.specs.Npm.Table.{made, next, next_changed, no_build, table, tilde, under, whole, wildcard}
@@ -181,7 +181,7 @@ pub words-valid : (loose : Bool) (limit : ℕ) (include : Bool) (n : ℕ) (text 
     → valid_words loose limit include n text ≡ (words_within loose include n text >>? λ cs. valid_only limit cs)
 unfolding valid_words words_within word_front
 words-valid loose limit include zero text = refl
-words-valid loose limit include (suc n) text = go (λ t. words-valid loose limit include n t) (signed_word loose text)
+words-valid loose limit include (suc n) text = go (λ t. words-valid loose limit include n t) (any_word loose text)
   where
     behind : ((t : List ℕ) → valid_words loose limit include n t ≡ (words_within loose include n t >>? λ cs. valid_only limit cs))
         → (w : Signed × List ℕ) (cs : List Comparison)

@@ -7,7 +7,7 @@ use Rattle.nodejs_semver.specs.Internal.Fronts.{Front}
 use Rattle.nodejs_semver.specs.Internal.NpmAlternatives.{NarrowedBy}
 use Rattle.nodejs_semver.specs.Internal.NpmMeaning.{IsNarrowed}
 use Rattle.nodejs_semver.specs.Internal.NpmReads.{IsFound, words_of}
-use Rattle.nodejs_semver.specs.Internal.NpmWords.{Signed, is_small, limited_word, signed_word, valid_only, valid_words, word_front}
+use Rattle.nodejs_semver.specs.Internal.NpmWords.{Signed, any_word, is_small, limited_word, valid_only, valid_words, word_front}
 use Rattle.nodejs_semver.specs.Npm.Table.{Comparison, table}
 use Rattle.nodejs_semver.specs.declared.npm.alternatives.Alternative.{Alternative}
 use Rattle.nodejs_semver.proofs.Reading.Bytes.{begins-some, is_solid}
@@ -15,7 +15,7 @@ use Rattle.nodejs_semver.proofs.Strict.Signs.{blank-at}
 use Rattle.nodejs_semver.proofs.Strict.Words.{WordAt, word-found, word-solid}
 
 abbrev pub word_at_front : (loose : Bool) → List ℕ → Front Signed
-word_at_front loose text = limited_word MAX_SAFE_INTEGER (signed_word loose text)
+word_at_front loose text = limited_word MAX_SAFE_INTEGER (any_word loose text)
 
 abbrev pub row_of : Bool → Signed → List Comparison
 row_of include w = table include w.0 w.1 w.2
@@ -27,7 +27,7 @@ limited-some (Some q) w h = ap (λ (x : Signed × List ℕ). Some x) (cond_some 
 pub word-at : (loose : Bool) (include : Bool) (text : List ℕ) (w : Signed × List ℕ) → IsUtf8 text → word_at_front loose text ≡ Some w
     → WordAt loose include text (row_of include w.0) w.1
 unfolding word_front
-word-at loose include text w u h = word-found loose include text (row_of include w.0) w.1 u (rw (limited-some (signed_word loose text) w h) refl)
+word-at loose include text w u h = word-found loose include text (row_of include w.0) w.1 u (rw (limited-some (any_word loose text) w h) refl)
 
 -- the text behind a word and its whitespace is shorter
 pub word-shorter : (loose : Bool) (include : Bool) (text : List ℕ) (w : Signed × List ℕ) → IsUtf8 text → word_at_front loose text ≡ Some w

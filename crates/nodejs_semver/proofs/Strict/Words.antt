@@ -1,22 +1,28 @@
 -- The words of node-semver's range texts: the functions that read them find exactly what the statement has.
 use Rattle.nodejs_semver.proofs.Common.{◌≡◌, ◌⊎◌, ◌<◌, ◌≤◌, ◌-◌, ℕ, zero, suc, Bool, List, [], ◌∷◌, ◌++◌, length, drop, take, refl, sym, ap, ◌∙◌, arith}
-use Rattle.nodejs_semver.proofs.Common.{true, false, Some, Option, inl, inr, ◌&&◌, ◌==◌, eqb-true, and_parts, append_assoc, append-nil, bind_some, cases_Bool}
+use Rattle.nodejs_semver.proofs.Common.{true, false, Some, None, Option, inl, inr, ◌&&◌, ◌==◌, eqb-true, and_parts, append_assoc, append-nil, bind_some, cases_Bool}
 use Rattle.nodejs_semver.proofs.Common.{cond_some, drop_at, take_at, length-append, list_all, nat_tests, same_Some, subst, begins, IsUtf8, is_empty}
 use Rattle.nodejs_semver.proofs.Common.{drop_spaces, space_len}
+use Rattle.std.specs.List.{prefix_len}
 use Rattle.std.proofs.lemmas.Bool.{lt-ltb}
 use Rattle.std.proofs.lemmas.List.{take-append-drop}
+use Rattle.semver_core.specs.Internal.Reading.{◌>>?◌}
 use Rattle.semver_core.specs.Text.Characters.{IsBlank}
-use Rattle.nodejs_semver.specs.Internal.Fronts.{begins_byte}
-use Rattle.nodejs_semver.specs.Internal.NpmWords.{Signed, ended_word, marked_word, marks_len, npm_sign, partial_front, signed_word, word_front, words_within}
+use Rattle.nodejs_semver.specs.Internal.Fronts.{Front, begins_byte}
+use Rattle.nodejs_semver.specs.Internal.NpmWords.{Signed, any_word, ended_word, ignored_front, marked_word, marks_len, npm_sign, partial_front, signed_word}
+use Rattle.nodejs_semver.specs.Internal.NpmWords.{word_front, words_within}
 use Rattle.nodejs_semver.specs.Internal.Words.{is_boundary}
 use Rattle.nodejs_semver.specs.Npm.RangeText as Text
-use Rattle.nodejs_semver.specs.Npm.RangeText.{AreWords, IsPartial, IsPlace, IsSignText, IsWord, are_marks, is_mark, last, more, one, spelling, three, two, word}
+use Rattle.nodejs_semver.specs.Npm.Malformed.{begins_malformed, is_plain}
+use Rattle.nodejs_semver.specs.Npm.RangeText.{AreWords, IsPartial, IsPlace, IsSignText, IsWord, are_marks, ignored, is_mark, last, more, one, spelling, three, two, word}
 use Rattle.nodejs_semver.specs.Npm.RangeText.{caret_equal, late_above, late_below, no_sign, sign, tilde_sign, tilde_twice}
-use Rattle.nodejs_semver.specs.Npm.Table.{Comparison, Partial, Sign, caret, compared, table, tilde}
+use Rattle.nodejs_semver.specs.Npm.Table.{Comparison, Partial, Sign, caret, compared, table, tilde, wildcard}
 use Rattle.nodejs_semver.specs.Text.WordText.{above, at_least, at_most, below, equal}
 use Rattle.nodejs_semver.proofs.Reading.Bytes.{begins-on, begins-some, begins_component, is_component_byte, is_solid, solid-dark}
 use Rattle.nodejs_semver.proofs.Reading.Progress.{spaces-gone, spaces-le}
+use Rattle.nodejs_semver.proofs.Reading.Steps.{option-cases}
 use Rattle.nodejs_semver.proofs.Reading.WordLaw.{boundary-utf8, suffix-boundary}
+use Rattle.nodejs_semver.proofs.Strict.Malformed.{boundary-plain, ignored-read, malformed-solid, word-regular}
 use Rattle.nodejs_semver.proofs.Strict.PartialLaw.{boundary-quiet, partial-found, partial-read}
 use Rattle.nodejs_semver.proofs.Strict.Places.{digits-begin}
 use Rattle.nodejs_semver.proofs.Strict.VersionLaw.{empty-is}
@@ -62,14 +68,23 @@ marked-read loose s p marks x rest e m k b =
     rw (append_assoc marks x rest) at (front-text (marks ++ x) rest) in
     rw (e, count, drop_at marks u (length marks) refl, read, take_at marks u (length marks) refl, m, b, text) refl
 
+pub none-ignored : (loose : Bool) (text : List ℕ) → begins_malformed text ≡ false → ignored_front loose text ≡ None
+unfolding ignored_front
+none-ignored true text h = rw h refl
+none-ignored false text h = refl
+
 pub word-read : (loose : Bool) (include : Bool) (w rest : List ℕ) (cs : List Comparison) → IsWord loose include w cs → is_boundary rest ≡ true
     → word_front loose include (w ++ rest) ≡ Some (cs, rest)
-unfolding word_front signed_word
+unfolding word_front any_word signed_word ignored_front
+word-read loose include w rest cs (ignored x l h) b = rw (ignored-read loose x rest l h b) refl
 word-read loose include w rest cs (word signs marks x s p h m e k) b =
     let u = x ++ rest in
+    let begin : begins_component x ≡ true = rw (append-nil x) at (partial-begins loose x [] p k) in
+    let regular = word-regular loose signs marks x rest s p h (marks-all loose s p marks m) k begin (boundary-plain rest b) in
+    let none : ignored_front loose ((signs ++ (marks ++ x)) ++ rest) ≡ None = none-ignored loose ((signs ++ (marks ++ x)) ++ rest) regular in
     let t = sign-taken loose signs s p marks x u h m e (partial-begins loose x rest p k) in
     let whole : (signs ++ (marks ++ x)) ++ rest ≡ signs ++ (marks ++ u) = simp append_assoc refl in
-    rw (whole, marked-read loose (npm_sign (signs ++ (marks ++ u))) p t.left x rest t.is t.marked k b, t.same include) refl
+    rw (none, whole, marked-read loose (npm_sign (signs ++ (marks ++ u))) p t.left x rest t.is t.marked k b, t.same include) refl
 
 -- ---- one word: what is read is written
 
@@ -102,10 +117,13 @@ unsigned : (text signs : List ℕ) (n : ℕ) → text ≡ signs ++ (npm_sign tex
 unsigned text [] n e = first-take n (npm_sign text).1 (rw e at (none-first text e))
 unsigned text (b ∷ signs) n e = refl
 
-pub word-found : (loose : Bool) (include : Bool) (text : List ℕ) (cs : List Comparison) (rest : List ℕ) → IsUtf8 text
-    → word_front loose include text ≡ Some (cs, rest) → WordAt loose include text cs rest
-unfolding word_front signed_word
-word-found loose include text cs rest u h =
+abbrev read_as : Bool → Signed × List ℕ → Front (List Comparison)
+read_as include w = Some (table include w.0.0 w.0.1 w.0.2, w.1)
+
+signed-found : (loose : Bool) (include : Bool) (text : List ℕ) (cs : List Comparison) (rest : List ℕ) → IsUtf8 text
+    → (signed_word loose text >>? read_as include) ≡ Some (cs, rest) → WordAt loose include text cs rest
+unfolding signed_word
+signed-found loose include text cs rest u h =
     let s = npm_sign text in
     let at_sign = sign-found text u in
     let n = marks_len s.1 in
@@ -136,6 +154,37 @@ word-found loose include text cs rest u h =
     } in
     subst (λ (q : List Comparison × List ℕ). WordAt loose include text q.0 q.1) same read
 
+ignored-found : (loose : Bool) (include : Bool) (text : List ℕ) (w : Signed × List ℕ) → IsUtf8 text → ignored_front loose text ≡ Some w
+    → WordAt loose include text (table include w.0.0 w.0.1 w.0.2) w.1
+unfolding ignored_front
+ignored-found loose include text w u h =
+    let n = prefix_len is_plain text in
+    let rest = drop n text in
+    let run = take n text in
+    let read : Signed × List ℕ = ((compared equal, wildcard, []), rest) in
+    let t = cond_some (loose && (begins_malformed text && is_boundary rest)) read w h in
+    let tests = and_parts loose (begins_malformed text && is_boundary rest) t.0 in
+    let both = and_parts (begins_malformed text) (is_boundary rest) tests.1 in
+    let split : text ≡ run ++ rest = sym (take-append-drop n text) in
+    let found : WordAt loose include text [] rest = record {
+      piece = run;
+      split = split;
+      is = ignored run tests.0 both.0;
+      ended = both.1;
+      utf8 = rest-utf8 run rest (subst (λ (t : List ℕ). IsUtf8 t) split u) both.1;
+    } in
+    subst (λ (x : Signed × List ℕ). WordAt loose include text (table include x.0.0 x.0.1 x.0.2) x.1) t.1 found
+
+pub word-found : (loose : Bool) (include : Bool) (text : List ℕ) (cs : List Comparison) (rest : List ℕ) → IsUtf8 text
+    → word_front loose include text ≡ Some (cs, rest) → WordAt loose include text cs rest
+unfolding word_front any_word
+word-found loose include text cs rest u h = elim (option-cases (ignored_front loose text)) [
+  | inl none ↦ signed-found loose include text cs rest u (rw none at h)
+  | inr some ↦
+      let same = same_Some _ _ (rw some.1 at h) in
+      subst (λ (q : List Comparison × List ℕ). WordAt loose include text q.0 q.1) same (ignored-found loose include text some.0 u some.1)
+]
+
 -- ---- words
 
 sign-solid : (signs : List ℕ) (s : Sign) → IsSignText signs s → (signs ≡ []) ⊎ (begins is_solid signs ≡ true)
@@ -159,6 +208,7 @@ marks-solid [] (b ∷ u) h k = grind (arith, nat_tests)
 marks-solid (b ∷ marks) u h k = grind (arith, nat_tests)
 
 pub word-solid : (loose : Bool) (include : Bool) (w : List ℕ) (cs : List Comparison) → IsWord loose include w cs → begins is_solid w ≡ true
+word-solid loose include w cs (ignored x l h) = malformed-solid x h
 word-solid loose include w cs (word signs marks x s p h m e k) =
     let u : begins_component x ≡ true = rw (append-nil x) at (partial-begins loose x [] p k) in
     elim (sign-solid signs s h) [

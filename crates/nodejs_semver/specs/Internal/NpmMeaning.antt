@@ -9,8 +9,8 @@ use Rattle.semver_core.specs.declared.TheConstants.{MAX_SAFE_INTEGER}
 use Rattle.semver_core.specs.declared.cuts.bound.Bound.{Bound}
 use Rattle.semver_core.specs.declared.cuts.bound.Bound.TheVariants.{Unbounded}
 use Rattle.nodejs_semver.specs.Internal.Readings.{bounds_view}
-use Rattle.nodejs_semver.specs.Npm.Ranges.{counts, is_valid, names, satisfies}
-use Rattle.nodejs_semver.specs.Npm.Table.{Comparison, Partial, major, minor}
+use Rattle.nodejs_semver.specs.Npm.Ranges.{is_valid, names, satisfies}
+use Rattle.nodejs_semver.specs.Npm.Table.{Comparison, Partial, counts, major, minor}
 use Rattle.nodejs_semver.specs.Ranges.Gate.{lets_in}
 use Rattle.nodejs_semver.specs.Ranges.View.{is_range_bound}
 use Rattle.nodejs_semver.specs.declared.readers.syntax.Bounds.{Bounds}

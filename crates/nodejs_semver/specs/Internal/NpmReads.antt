@@ -1,5 +1,5 @@
 -- For proofs and private contracts. What the readers of node-semver's range texts find, by the comparators.
-use Rattle.std.specs.Prelude.{◌≡◌, Bool, List, [], ◌∷◌, ◌++◌, ℕ, Option, Some, None, length, flat_map}
+use Rattle.std.specs.Prelude.{◌≡◌, not, if◌then◌else◌, true, false, Bool, List, [], ◌∷◌, ◌++◌, ℕ, Option, Some, None, length, flat_map}
 use Rattle.std.specs.Option.{option_to_list}
 use Rattle.semver_core.specs.Cuts.{Span}
 use Rattle.semver_core.specs.Internal.Reading.{◌>>?◌}
@@ -8,7 +8,9 @@ use Rattle.semver_core.specs.declared.TheConstants.{MAX_SAFE_INTEGER}
 use Rattle.nodejs_semver.specs.Internal.NpmAlternatives.{AreNarrowed}
 use Rattle.nodejs_semver.specs.Internal.NpmMeaning.{IsNarrowed}
 use Rattle.nodejs_semver.specs.Internal.NpmWords.{alternative_of, hyphen_comparisons, hyphen_ends}
-use Rattle.nodejs_semver.specs.Internal.NpmWords.{valid_only, valid_words}
+use Rattle.nodejs_semver.specs.Internal.NpmWords.{is_lost, valid_only, valid_words}
+use Rattle.nodejs_semver.specs.Internal.Parts.{parts}
+use Rattle.semver_core.specs.Lists.{is_empty}
 use Rattle.nodejs_semver.specs.Npm.Table.{Comparison}
 use Rattle.nodejs_semver.specs.declared.npm.alternatives.Alternative.{Alternative}
 
@@ -34,7 +36,7 @@ IsFound include cs a = ⊥
 -- the comparators of each of some alternatives, if each is valid
 unfoldable pub valid_alternatives : Bool → Bool → List (List ℕ) → Option (List (List Comparison))
 valid_alternatives loose include [] = Some []
-valid_alternatives loose include (text ∷ texts) =
+valid_alternatives loose include (text ∷ texts) = if is_lost loose text then valid_alternatives loose include texts else
     valid_alternative loose include text >>? λ cs. valid_alternatives loose include texts >>? λ rest. Some (cs ∷ rest)
 
 -- the intervals of some alternatives, of those that have one
@@ -50,6 +52,19 @@ abbrev pub Adds : Bool → Option (List Comparison) → List (Span VersionValue)
 Adds include None before after = ⊥
 Adds include (Some cs) before after = (alternatives : List (List Comparison))
     → AreFound include alternatives before → AreFound include (alternatives ++ cs ∷ []) after
+
+-- one part more, which may be no alternative. The flags say whether there was one before it, and with it.
+abbrev pub AddsPart : Bool → Bool → Option (List Comparison) → Bool → Bool → List (Span VersionValue)
+    → List (Span VersionValue) → Type 0
+AddsPart include true all was is before after = (is ≡ was) × (after ≡ before)
+AddsPart include false all was is before after = (is ≡ true) × Adds include all before after
+
+-- some alternative or more
+abbrev pub some_only : List (List Comparison) → Option (List (List Comparison))
+some_only all = if not (is_empty all) then Some all else None
+
+abbrev pub valid_range : Bool → Bool → List ℕ → Option (List (List Comparison))
+valid_range loose include text = valid_alternatives loose include (parts text) >>? λ all. some_only all
 
 -- the intervals of all alternatives
 abbrev pub AreAllFound : Bool → Option (List (List Comparison)) → List (Span VersionValue) → Type 0

@@ -12,7 +12,8 @@ use Rattle.nodejs_semver.specs.Internal.Fronts.{Front, after_byte, begins_byte, 
 use Rattle.nodejs_semver.specs.Internal.NpmReadings.{dashed_front}
 use Rattle.nodejs_semver.specs.Internal.Parts.{parts}
 use Rattle.nodejs_semver.specs.Internal.Words.{after_some_space, is_boundary, or_else}
-use Rattle.nodejs_semver.specs.Npm.RangeText.{are_marks, are_spelled, begins_letter, is_free_lower, is_free_upper, is_mark, is_one_v, is_short_build, is_short_identifier, is_spelled, most_digits, partial_of}
+use Rattle.nodejs_semver.specs.Npm.Malformed.{begins_malformed, is_malformed, is_plain}
+use Rattle.nodejs_semver.specs.Npm.RangeText.{are_marks, are_spelled, are_whole_marks, begins_letter, is_free_lower, is_free_upper, is_mark, is_short_build, is_short_identifier, is_spelled, most_digits, partial_of, stands}
 use Rattle.nodejs_semver.specs.Npm.Ranges.{is_valid}
 use Rattle.nodejs_semver.specs.Npm.Table.{Comparison, Partial, Sign, caret, compared, hyphen_lower, hyphen_upper, major, minor, table, tilde, whole, wildcard}
 use Rattle.nodejs_semver.specs.Text.WordText.{Comparator, above, at_least, at_most, below, equal}
@@ -183,6 +184,14 @@ marked_word loose s p = p >>? λ p. ended_word loose s.0 s.1 (marks_len s.1) p
 unfoldable pub signed_word : Bool → List ℕ → Front Signed
 signed_word loose text = let s = npm_sign text in marked_word loose s (partial_front loose (drop (marks_len s.1) s.1))
 
+-- the malformed word at the front, as one that has no comparators
+unfoldable pub ignored_front : Bool → List ℕ → Front Signed
+ignored_front loose text = let rest = drop (prefix_len is_plain text) text in
+    if loose && (begins_malformed text && is_boundary rest) then Some ((compared equal, wildcard, []), rest) else None
+
+unfoldable pub any_word : Bool → List ℕ → Front Signed
+any_word loose text = or_else (ignored_front loose text) (signed_word loose text)
+
 -- the numbers of its partial that count are up to the limit
 abbrev pub limited_word : ℕ → Front Signed → Front Signed
 limited_word limit None = None
@@ -190,7 +199,7 @@ limited_word limit (Some w) = if is_small limit w.0.1 then Some w else None
 
 -- its comparators
 unfoldable pub word_front : Bool → Bool → List ℕ → Front (List Comparison)
-word_front loose include text = signed_word loose text >>? λ w. Some (table include w.0.0 w.0.1 w.0.2, w.1)
+word_front loose include text = any_word loose text >>? λ w. Some (table include w.0.0 w.0.1 w.0.2, w.1)
 
 -- ---- alternatives
 
@@ -222,13 +231,13 @@ end_len (b ∷ rest) = if is_mark b then 1 else space_len (b ∷ rest)
 abbrev pub Ended : Type 0
 Ended = Partial × List ℕ
 
-abbrev pub ended_end : (Partial → Bool) → List ℕ → List ℕ → Partial × List ℕ → Front Ended
-ended_end free text behind p = if free p.0 || is_one_v (take (length text - length behind) text)
+abbrev pub ended_end : Bool → (Partial → Bool) → List ℕ → List ℕ → Partial × List ℕ → Front Ended
+ended_end loose free text behind p = if free p.0 || are_whole_marks loose (take (length text - length behind) text)
     then Some ((p.0, take (length text - length p.1) text), p.1) else None
 
 -- an end of a hyphen range
 unfoldable pub end_front : Bool → (Partial → Bool) → List ℕ → Front Ended
-end_front loose free text = partial_front loose (drop_ends text) >>? λ p. ended_end free text (drop_ends text) p
+end_front loose free text = partial_front loose (drop_ends text) >>? λ p. ended_end loose free text (drop_ends text) p
 
 -- what stands behind whitespace, `-` and whitespace
 abbrev pub after_dash : List ℕ → Option (List ℕ)
@@ -267,16 +276,25 @@ hyphen_of loose limit include text =
     limited_end limit (end_front loose is_free_lower text) >>? λ a. after_dash a.1 >>? λ second.
     last_limited loose limit include second >>? λ b. Some (a.0, b)
 
+-- the comparators of words that are an alternative
+abbrev pub standing : Bool → Bool → List ℕ → List Comparison → Option (List Comparison)
+standing loose include text cs = if stands loose include text cs then Some cs else None
+
 -- the comparators of an alternative
 unfoldable pub alternative_of : Bool → Bool → List ℕ → Option (List Comparison)
 alternative_of loose include [] = Some []
-alternative_of loose include (b ∷ rest) = or_else (words_within loose include (length (b ∷ rest)) (b ∷ rest))
+alternative_of loose include (b ∷ rest) = or_else
+    (words_within loose include (length (b ∷ rest)) (b ∷ rest) >>? λ cs. standing loose include (b ∷ rest) cs)
     (hyphen_ends loose include (b ∷ rest) >>? λ e. Some (hyphen_comparisons include e))
+
+-- a malformed word alone is no alternative
+abbrev pub is_lost : Bool → List ℕ → Bool
+is_lost loose text = loose && is_malformed text
 
 -- the comparators of each of some alternatives
 unfoldable pub alternatives_of : Bool → Bool → List (List ℕ) → Option (List (List Comparison))
 alternatives_of loose include [] = Some []
-alternatives_of loose include (text ∷ texts) =
+alternatives_of loose include (text ∷ texts) = if is_lost loose text then alternatives_of loose include texts else
     alternative_of loose include text >>? λ cs. alternatives_of loose include texts >>? λ rest. Some (cs ∷ rest)
 
 -- the alternatives of a range text
@@ -290,7 +308,7 @@ valid_only limit cs = if list_all (is_valid limit) cs then Some cs else None
 -- words up to the end of an alternative, whose comparators are valid, word by word
 unfoldable pub valid_words : Bool → ℕ → Bool → ℕ → List ℕ → Option (List Comparison)
 valid_words loose limit include zero text = None
-valid_words loose limit include (suc n) text = limited_word limit (signed_word loose text) >>? λ w.
+valid_words loose limit include (suc n) text = limited_word limit (any_word loose text) >>? λ w.
     valid_only limit (table include w.0.0 w.0.1 w.0.2) >>? λ cs.
     if is_empty w.1 then Some cs
     else (valid_words loose limit include n (drop_spaces w.1) >>? λ ds. Some (cs ++ ds))

@@ -1,22 +1,24 @@
 -- Statement: how range texts are written for node-semver, strictly and by its option `loose`, and the
 -- comparators of each alternative. Left out is one `*`, and a comparator before it, in a word that is else
 -- a whole version, as in `>*1.2.3`, which node-semver passes over. Of the loose reading these are left out
--- too, and a text that has one is rejected: words that are malformed, which node-semver ignores; zero as
--- several digits; more than 32 digits of a number, and 128 characters of a pre-release; a pre-release
--- without `-` that begins with none but a letter, and one that is `-` alone; other marks than one `v`
--- before the whole end of a hyphen range.
+-- too, and a text that has one is rejected: malformed words but those that `Malformed` defines; an
+-- alternative of several words with one of these first in which no comparator counts, of which node-semver
+-- ignores some and takes others for `*`; zero as several digits; more than 32 digits of a number, and 128
+-- characters of a pre-release; a pre-release without `-` that begins with none but a letter, and one that is
+-- `-` alone; whitespace among the marks of a whole end of a hyphen range.
 use Rattle.std.specs.Prelude.{◌≡◌, ◌⊎◌, ◌==◌, ◌<◌, ◌≤◌, ◌+◌, ◌&&◌, ◌||◌, not, nat_le, nat_lt, ℕ, Bool, true}
 use Rattle.std.specs.Prelude.{false}
 use Rattle.std.specs.Prelude.{List, [], ◌∷◌, ◌++◌, length, drop, Option, Some, None, encode_utf8_all}
 use Rattle.std.specs.Prelude.{if◌then◌else◌}
 use Rattle.std.specs.Char.{is_ascii_digit}
-use Rattle.std.specs.List.{list_all, prefix_len}
+use Rattle.std.specs.List.{list_all, list_any, prefix_len}
 use Rattle.semver_core.specs.Lists.{is_empty}
 use Rattle.semver_core.specs.Text.Characters.{begins, is_whitespace, IsBlank, IsTrim}
 use Rattle.semver_core.specs.Text.Identifiers.{Id, IsIdentifiers, pieces}
 use Rattle.semver_core.specs.Text.Numbers.{IsNumber}
 use Rattle.nodejs_semver.specs.Npm.Grammar.{IsStrictBuild, has_leading_zero, is_strict_identifier}
-use Rattle.nodejs_semver.specs.Npm.Table.{Comparison, Partial, Sign, caret, compared, hyphen_lower}
+use Rattle.nodejs_semver.specs.Npm.Malformed.{begins_malformed, is_malformed}
+use Rattle.nodejs_semver.specs.Npm.Table.{Comparison, Partial, Sign, caret, compared, counts, hyphen_lower}
 use Rattle.nodejs_semver.specs.Npm.Table.{hyphen_upper}
 use Rattle.nodejs_semver.specs.Npm.Table.{major, minor, table, tilde, whole, wildcard}
 use Rattle.nodejs_semver.specs.Text.WordText.{Comparator, above, at_least, at_most, below, equal}
@@ -129,7 +131,9 @@ are_marks loose (compared below) p marks = list_all is_mark marks && not (begins
 are_marks loose s p marks = list_all is_mark marks
 
 -- a word: a sign, marks and a partial. Without a sign the first mark is no `=`, since that would be the sign.
+-- Loosely it may also be malformed, and has then no comparators.
 pub data IsWord (loose include : Bool) : List ℕ → List Comparison → Type 0 where
+  ignored : (x : List ℕ) → loose ≡ true → is_malformed x ≡ true → IsWord loose include x []
   word : (signs marks text : List ℕ) (s : Sign) (p : Partial) → IsSignText signs s
       → are_marks loose s p marks ≡ true → (is_empty signs && begins (λ b. b == 61) marks) ≡ false
       → IsPartial loose text p
@@ -144,13 +148,17 @@ pub data AreWords (loose include : Bool) : List ℕ → List Comparison → Type
       → 0 < length blank → AreWords loose include rest ds
       → AreWords loose include (x ++ (blank ++ rest)) (cs ++ ds)
 
--- the marks and the whitespace before an end of a hyphen range: any, but one `v` at most before a whole
+-- the marks before a whole version in a hyphen range: strictly one `v` at most, and loosely any
+abbrev pub are_whole_marks : Bool → List ℕ → Bool
+are_whole_marks loose marks = if loose then list_all is_mark marks else is_one_v marks
+
+-- the marks and the whitespace before an end of a hyphen range: any, but such marks alone before a whole
 -- version that stays as it is written
-pub record AreEndMarks (free : Bool) (text : List ℕ) : Type 0 where
+pub record AreEndMarks (loose free : Bool) (text : List ℕ) : Type 0 where
   pub characters : List ℕ
   pub spelled : text ≡ encode_utf8_all characters
   pub each : list_all (λ c. is_mark c || is_whitespace c) characters ≡ true
-  pub one : (free || is_one_v characters) ≡ true
+  pub whole : (free || are_whole_marks loose characters) ≡ true
 
 abbrev pub is_free_upper : Bool → Partial → Bool
 is_free_upper include p = elim p [ whole v ↦ include || not (is_empty v.pre_release) | _ ↦ true ]
@@ -158,19 +166,28 @@ is_free_upper include p = elim p [ whole v ↦ include || not (is_empty v.pre_re
 abbrev pub is_free_lower : Partial → Bool
 is_free_lower p = elim p [ whole v ↦ false | _ ↦ true ]
 
+-- words are an alternative if no malformed one is first, or some comparator of them counts
+abbrev pub stands : Bool → Bool → List ℕ → List Comparison → Bool
+stands loose include text cs = not (loose && begins_malformed text) || list_any (counts include) cs
+
 -- an alternative: nothing, a hyphen range or words
 pub data IsAlternative (loose include : Bool) : List ℕ → List Comparison → Type 0 where
   nothing : IsAlternative loose include [] []
-  hyphen : (a x blank gap b y : List ℕ) (p q : Partial) → AreEndMarks (is_free_lower p) a
+  hyphen : (a x blank gap b y : List ℕ) (p q : Partial) → AreEndMarks loose (is_free_lower p) a
       → IsPartial loose x p → IsBlank blank → 0 < length blank → IsBlank gap → 0 < length gap
-      → AreEndMarks (is_free_upper include q) b → IsPartial loose y q
+      → AreEndMarks loose (is_free_upper include q) b → IsPartial loose y q
       → IsAlternative loose include (a ++ (x ++ (blank ++ 45 ∷ (gap ++ (b ++ y)))))
       (hyphen_lower include p (a ++ x) ++ hyphen_upper include q (b ++ y))
-  words : (x : List ℕ) (cs : List Comparison) → AreWords loose include x cs → IsAlternative loose include x cs
+  words : (x : List ℕ) (cs : List Comparison) → AreWords loose include x cs → stands loose include x cs ≡ true
+      → IsAlternative loose include x cs
 
--- the alternatives between bars, each without the whitespace around it
+-- the alternatives between bars, each without the whitespace around it. Loosely a malformed word alone is
+-- none.
 pub data AreAlternatives (loose include : Bool) : List (List ℕ) → List (List Comparison) → Type 0 where
   none : AreAlternatives loose include [] []
+  lost : (piece text : List ℕ) (others : List (List ℕ)) (rest : List (List Comparison)) → loose ≡ true
+      → IsTrim piece text → is_malformed text ≡ true → AreAlternatives loose include others rest
+      → AreAlternatives loose include (piece ∷ others) rest
   next : (piece text : List ℕ) (others : List (List ℕ)) (cs : List Comparison) (rest : List (List Comparison))
       → IsTrim piece text → IsAlternative loose include text cs → AreAlternatives loose include others rest
       → AreAlternatives loose include (piece ∷ others) (cs ∷ rest)

@@ -1,15 +1,15 @@
 -- Statement: which range texts node-semver rejects, and which versions the others accept.
-use Rattle.std.specs.Prelude.{◌≡◌, ◌==◌, ◌&&◌, ◌||◌, not, nat_le, ℕ, Bool, true, false, List, length, codes}
+use Rattle.std.specs.Prelude.{◌≡◌, ◌==◌, ◌&&◌, ◌||◌, not, nat_le, ℕ, Bool, true, false, List, length}
 use Rattle.std.specs.Prelude.{if◌then◌else◌}
 use Rattle.std.specs.List.{filter, list_all, list_any}
 use Rattle.std.specs.Ordering.{is_eq, is_ge, is_gt, is_le, is_lt}
-use Rattle.std.specs.Str.{bytes_eq}
 use Rattle.semver_core.specs.Cuts.{Span}
+use Rattle.semver_core.specs.Lists.{is_empty}
 use Rattle.semver_core.specs.Values.Order.{precedence}
 use Rattle.semver_core.specs.Values.Versions.{VersionValue, is_release}
 use Rattle.semver_core.specs.declared.TheConstants.{MAX_LENGTH}
 use Rattle.nodejs_semver.specs.Npm.RangeText.{AreAlternatives}
-use Rattle.nodejs_semver.specs.Npm.Table.{Comparison}
+use Rattle.nodejs_semver.specs.Npm.Table.{Comparison, counts}
 use Rattle.nodejs_semver.specs.Ranges.Gate as Gate
 use Rattle.nodejs_semver.specs.Text.Bars.{IsCutAtBars}
 use Rattle.nodejs_semver.specs.Text.WordText.{above, at_least, at_most, below, equal}
@@ -19,13 +19,14 @@ abbrev pub is_valid : ℕ → Comparison → Bool
 is_valid limit c = nat_le c.version.major limit && nat_le c.version.minor limit
     && nat_le c.version.patch limit && nat_le (length c.text) MAX_LENGTH
 
--- the text has these alternatives, each a list of comparators. A text that has none is rejected. `loose` says
--- whether it is read by node-semver's option of this name.
+-- the text has these alternatives, one or more, each a list of comparators. A text that has none is
+-- rejected. `loose` says whether it is read by node-semver's option of this name.
 pub record HasAlternativesIn (loose : Bool) (limit : ℕ) (include : Bool) (text : List ℕ)
     (alternatives : List (List Comparison)) : Type 0 where
   pub parts : List (List ℕ)
   pub divided : IsCutAtBars text parts
   pub each : AreAlternatives loose include parts alternatives
+  pub some : is_empty alternatives ≡ false
   pub valid : list_all (list_all (is_valid limit)) alternatives ≡ true
 
 abbrev pub HasAlternatives : ℕ → Bool → List ℕ → List (List Comparison) → Type 0
@@ -45,10 +46,6 @@ satisfies v c = elim c.sign [
 abbrev pub names : VersionValue → Comparison → Bool
 names v c = not (is_release c.version)
     && ((c.version.major == v.major) && ((c.version.minor == v.minor) && (c.version.patch == v.patch)))
-
--- a comparator that counts: `>=0.0.0`, written so, is none unless pre-releases are included
-abbrev pub counts : Bool → Comparison → Bool
-counts include c = include || not (elim c.sign [ at_least ↦ bytes_eq c.text (codes "0.0.0") | _ ↦ false ])
 
 -- all comparators of the alternative are satisfied, and the version is a release, or pre-releases are
 -- included, or one comparator of this alternative names a pre-release of the same three numbers

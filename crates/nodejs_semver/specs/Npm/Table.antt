@@ -1,6 +1,8 @@
 -- Statement: what the signs of node-semver's range texts mean: each is one comparator of whole versions, or
 -- two. `include` says whether pre-releases are included.
-use Rattle.std.specs.Prelude.{◌==◌, ◌+◌, ◌&&◌, not, ℕ, Bool, true, false, List, [], ◌∷◌, ◌++◌, if◌then◌else◌}
+use Rattle.std.specs.Prelude.{◌==◌, ◌+◌, ◌&&◌, ◌||◌, not, ℕ, Bool, true, false, List, [], ◌∷◌, ◌++◌, codes}
+use Rattle.std.specs.Prelude.{if◌then◌else◌}
+use Rattle.std.specs.Str.{bytes_eq}
 use Rattle.semver_core.specs.Lists.{is_empty}
 use Rattle.semver_core.specs.Text.Identifiers.{Numeric}
 use Rattle.semver_core.specs.Values.Versions.{VersionValue, is_release, release_value}
@@ -29,6 +31,10 @@ pub record Comparison : Type 0 where
 
 abbrev pub made : Comparator → VersionValue → Comparison
 made c v = record { sign = c; version = v; text = version_text v }
+
+-- a comparator that counts: `>=0.0.0`, written so, is none unless pre-releases are included
+abbrev pub counts : Bool → Comparison → Bool
+counts include c = include || not (elim c.sign [ at_least ↦ bytes_eq c.text (codes "0.0.0") | _ ↦ false ])
 
 -- three numbers as a release, and as the least pre-release of it, `M.m.p-0`
 abbrev pub Numbers : Type 0

@@ -1,7 +1,8 @@
 // What an alternative of a range text accepts: the interval that its comparators have in common.
 
 ghost use Rattle.std.specs.List.{list_all, list_any};
-ghost use Rattle.std.specs.Prelude.{◌≡◌, ◌+◌, ◌∷◌, [], Bool, true};
+ghost use Rattle.std.specs.Option.{option_to_list};
+ghost use Rattle.std.specs.Prelude.{◌≡◌, ◌+◌, ◌∷◌, [], Bool, not, true};
 ghost use Rattle.nodejs_semver.specs.Internal.NpmAlternatives.{AcceptAsRanged, NarrowedBy};
 ghost use Rattle.nodejs_semver.specs.Internal.NpmAlternatives.{met, ranged};
 ghost use Rattle.nodejs_semver.specs.Internal.NpmMeaning.{IsNarrowed, is_unbounded};
@@ -106,6 +107,16 @@ impl<'a> Alternative<'a> {
     {
         let interval = common(self.interval, Interval::new(bounds.lower, bounds.upper));
         Alternative { interval }
+    }
+
+    /// Whether some comparator counts: there is an interval with bounds, or the cuts do not meet.
+    pub(crate) fn counts(&self) -> bool
+        ensures { result ≡ not (list_any is_unbounded (option_to_list self.now.interval)) }
+    {
+        match &self.interval {
+            Some(interval) => !is_unbounded(interval),
+            None => true,
+        }
     }
 
     /// The interval, where the cuts meet.

@@ -1,5 +1,6 @@
 // The hyphen ranges of node-semver's readings: two partial versions with ` - ` between them.
 
+ghost use Rattle.std.specs.List.{list_all};
 ghost use Rattle.std.specs.Prelude.{◌≡◌, ◌≤◌, length};
 ghost use Rattle.nodejs_semver.specs.Internal.NpmParts.{npm_partial_view};
 ghost use Rattle.nodejs_semver.specs.Internal.NpmViews.{end_front_view, end_some_view, hyphen_view};
@@ -46,11 +47,30 @@ pub(crate) fn skip_marks(text: &[u8]) -> &[u8]
     }
 }
 
-// Whether a text is `v` or nothing.
-fn is_one_v(text: &[u8]) -> bool
-    ensures { result ≡ Text.is_one_v text.now }
+#[inline(always)]
+fn is_mark(byte: u8) -> bool
+    ensures { result ≡ Text.is_mark byte }
 {
-    matches!(text, [] | [b'v'])
+    matches!(byte, b'v' | b'=')
+}
+
+// Whether a text is marks alone.
+#[inline(always)]
+fn are_marks(text: &[u8]) -> bool
+    ensures { result ≡ list_all Text.is_mark text.now }
+{
+    text.iter().all(|byte| is_mark(*byte))
+}
+
+// Whether marks of a text may stand before a whole version.
+fn are_whole_marks(loose: bool, text: &[u8]) -> bool
+    ensures { result ≡ Text.are_whole_marks loose text.now }
+{
+    if loose {
+        are_marks(text)
+    } else {
+        matches!(text, [] | [b'v'])
+    }
 }
 
 // Whether any marks may stand before the lower end of a hyphen range.
@@ -72,6 +92,7 @@ fn is_free_upper(include: bool, partial: &Partial<'_>) -> bool
 
 // The end whose partial was read at `behind`, which stands behind its marks.
 fn ended_end<'a>(
+    loose: bool,
     free: bool,
     text: &'a [u8],
     behind: &'a [u8],
@@ -80,10 +101,10 @@ fn ended_end<'a>(
 ) -> Option<(End<'a>, &'a [u8])>
     requires behind { length behind.now ≤ length text.now }
     requires rest { length rest.now ≤ length text.now }
-    ensures { end_front_view result ≡ Spec.ended_end (λ p. free) text.now behind.now
+    ensures { end_front_view result ≡ Spec.ended_end loose (λ p. free) text.now behind.now
         (npm_partial_view partial.entry, rest.now) }
 {
-    if !free && !is_one_v(&text[..text.len() - behind.len()]) {
+    if !free && !are_whole_marks(loose, &text[..text.len() - behind.len()]) {
         return None;
     }
     let text = &text[..text.len() - rest.len()];
@@ -99,7 +120,7 @@ fn lower_end(loose: bool, text: &[u8]) -> Option<(End<'_>, &[u8])>
     match partial_front(loose, behind) {
         Some(read) => {
             let free = is_free_lower(&read.0);
-            ended_end(free, text, behind, read.0, read.1)
+            ended_end(loose, free, text, behind, read.0, read.1)
         }
         None => None,
     }
@@ -114,7 +135,7 @@ fn upper_end(loose: bool, include: bool, text: &[u8]) -> Option<(End<'_>, &[u8])
     match partial_front(loose, behind) {
         Some(read) => {
             let free = is_free_upper(include, &read.0);
-            ended_end(free, text, behind, read.0, read.1)
+            ended_end(loose, free, text, behind, read.0, read.1)
         }
         None => None,
     }

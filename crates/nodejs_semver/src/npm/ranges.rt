@@ -1,20 +1,25 @@
 // The reader of range texts as node-semver has them, strictly or loosely.
 
-ghost use Rattle.std.specs.Prelude.{◌≡◌, ◌<◌, ℕ, IfOk, List, None, OnOk, length, true};
+ghost use Rattle.std.specs.Prelude.{◌≡◌, ◌<◌, ℕ, Bool, IfOk, List, None, OnOk, Option, length};
+ghost use Rattle.std.specs.Prelude.{false, true};
 ghost use Rattle.std.specs.Str.{IsUtf8};
 ghost use Rattle.nodejs_semver.specs.Internal.NpmReads.{IsFound, valid_alternative, valid_hyphen};
 ghost use Rattle.nodejs_semver.specs.Internal.NpmReads.{words_of};
-ghost use Rattle.nodejs_semver.specs.Internal.NpmReads.{Adds, AreAllFound, valid_alternatives};
+ghost use Rattle.nodejs_semver.specs.Internal.NpmReads.{Adds, AddsPart, AreAllFound, valid_range};
+ghost use Rattle.nodejs_semver.specs.Internal.NpmWords.{is_lost, standing};
 ghost use Rattle.nodejs_semver.specs.Internal.Parts.{parts};
 ghost use Rattle.nodejs_semver.specs.Npm.Ranges.{HasAlternatives, HasAlternativesIn};
 ghost use Rattle.nodejs_semver.specs.Npm.Ranges.{IsRangeIn, IsRangeOf};
+ghost use Rattle.nodejs_semver.specs.Npm.Table.{Comparison};
 ghost use Rattle.nodejs_semver.specs.Text.Bars.{IsCutAtBars};
+ghost use Rattle.semver_core.specs.Internal.Reading.{◌>>?◌};
 ghost use Rattle.semver_core.specs.Failures.{MemoryOnlyIf, NoValue, RefusedOnlyIf};
 ghost use Rattle.semver_core.specs.declared.TheConstants.{MAX_SAFE_INTEGER};
 
 use crate::RangeRef;
 use crate::npm::alternatives::{Alternative, range_of};
 use crate::npm::hyphens::hyphen_ends;
+use crate::npm::malformed::{begins_malformed, is_lost};
 use crate::npm::words::word_front;
 use crate::range::Intervals;
 use crate::readers::{Found, next_part, skip_spaces};
@@ -39,6 +44,18 @@ fn words(loose: bool, include: bool, text: &[u8]) -> Option<Alternative<'_>>
     }
 }
 
+// The alternative of the words of a text, unless a malformed one is first and no comparator counts.
+fn standing<'a>(loose: bool, text: &[u8], found: Option<Alternative<'a>>) -> Option<Alternative<'a>>
+    ensures { (include : Bool) → (all : Option (List Comparison)) → IsFound include all found.entry
+        → IsFound include (all >>? λ cs. standing loose include text.now cs) result }
+{
+    let found = found?;
+    if loose && begins_malformed(text) && !found.counts() {
+        return None;
+    }
+    Some(found)
+}
+
 // The alternative of a hyphen range.
 fn hyphen(loose: bool, include: bool, text: &[u8]) -> Option<Alternative<'_>>
     ensures { IsFound include (valid_hyphen loose include text.now) result }
@@ -56,7 +73,7 @@ pub(crate) fn alternative(loose: bool, include: bool, text: &[u8]) -> Option<Alt
     if text.is_empty() {
         return Some(Alternative::all());
     }
-    match words(loose, include, text) {
+    match standing(loose, text, words(loose, include, text)) {
         Some(found) => Some(found),
         None => hyphen(loose, include, text),
     }
@@ -83,6 +100,28 @@ fn add_alternative<'a>(
     Ok(())
 }
 
+// The same of a part of the text, which may be a malformed word alone. Returns whether this part or
+// one before it is an alternative.
+fn add_part<'a>(
+    loose: bool,
+    include: bool,
+    text: &'a str,
+    is_some: bool,
+    found: &mut Intervals<VersionRef<'a>>,
+) -> Result<bool, Failure<SemverError>>
+    ensures added { IfOk result (λ some. AddsPart include (is_lost loose text.now)
+        (valid_alternative loose include text.now) is_some some found.old.items found.new.items) }
+    ensures refused { RefusedOnlyIf result ((is_lost loose text.now ≡ false)
+        × (valid_alternative loose include text.now ≡ None)) }
+    ensures memory { MemoryOnlyIf result (0 < length found.old.items) }
+{
+    if is_lost(loose, text.as_bytes()) {
+        return Ok(is_some);
+    }
+    add_alternative(loose, include, text, found)?;
+    Ok(true)
+}
+
 // The intervals of the alternatives of a text. One cursor goes through it.
 fn intervals<'a>(
     alloc: Global,
@@ -91,19 +130,23 @@ fn intervals<'a>(
     text: &'a str,
 ) -> Result<Intervals<VersionRef<'a>>, Failure<SemverError>>
     ensures ok { IfOk result (λ found.
-        AreAllFound include (valid_alternatives loose include (parts text.now)) found.items) }
-    ensures refused { RefusedOnlyIf result
-        (valid_alternatives loose include (parts text.now) ≡ None) }
+        AreAllFound include (valid_range loose include text.now) found.items) }
+    ensures refused { RefusedOnlyIf result (valid_range loose include text.now ≡ None) }
     ensures memory { MemoryOnlyIf result (1 < length (parts text.now)) }
 {
     let mut found = SmallVec::new(alloc);
+    let mut is_some = false;
     let mut rest = Some(text);
     'parts: while let Some(text) = rest {
         let (part, after) = next_part(text);
-        add_alternative(loose, include, part, &mut found)?;
+        is_some = add_part(loose, include, part, is_some, &mut found)?;
         rest = after;
     }
-    Ok(found)
+    if is_some {
+        Ok(found)
+    } else {
+        Err(Failure::Refused(SemverError))
+    }
 }
 
 // The range of a text, read strictly or loosely.
@@ -166,13 +209,17 @@ pub fn range(
 /// Reads a range text as node-semver's `Range` does by its option `loose`, as `npm ls` reads the
 /// ranges of dependencies: all that [`range`] reads, and also numbers with leading zeros
 /// (`^01.2.3`), a pre-release without its `-` (`1.2.3beta`), and more marks than one `v` before a
-/// version (`==1.2.3`).
+/// version (`==1.2.3`). It ignores a malformed word beside others if that does not begin as a word
+/// does or has a character that stands in none: `>=1.0.0, <2.0.0` is `<2.0.0`, `foo 1.2` is `1.2`,
+/// and `latest || 1` is `1`.
 ///
-/// What it reads means what it means to node-semver. It rejects more than node-semver does:
-/// a text with a malformed word, such as `>=1.0.0,` or `latest`, which node-semver ignores where
-/// another word is well formed; zero as several digits (`1.00.0`); a number of more than 32
-/// digits; a pre-release of more than 128 characters, or without its `-` where it does not begin
-/// with a letter; and other marks than one `v` before a whole version in a hyphen range.
+/// What it reads means what it means to node-semver. It rejects more than node-semver does: a text
+/// with another malformed word, such as `1.2.3.4`, `1.0/2*`, `foo=` or a single `-`, which
+/// node-semver ignores where another word is well formed; an alternative of several words that
+/// begins with a malformed one and in which no comparator counts (`foo *`, or `foo bar` in
+/// `foo bar || 1`); zero as several digits (`1.00.0`); a number of more than 32 digits; a
+/// pre-release of more than 128 characters, or without its `-` where it does not begin with a
+/// letter; and whitespace among the marks of a whole version in a hyphen range.
 ///
 /// All else is as for [`range`]: how to ask the range, what it borrows and when allocation fails.
 ///

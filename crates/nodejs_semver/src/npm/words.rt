@@ -11,6 +11,7 @@ ghost use Rattle.nodejs_semver.specs.Npm.RangeText as Text;
 ghost use Rattle.semver_core.specs.Internal.Spaces.{drop_spaces};
 ghost use Rattle.semver_core.specs.declared.TheConstants.{MAX_SAFE_INTEGER};
 
+use crate::npm::malformed::{begins_malformed, plain_len};
 use crate::npm::partial::{Partial, Sign};
 use crate::npm::places::partial_front;
 use crate::readers::{Comparator, after_some_space, is_boundary, skip_spaces};
@@ -159,8 +160,9 @@ fn ended_word<'a>(
     ))
 }
 
-/// The word at the front whose numbers that count are up to the limit, and the text behind it.
-pub(crate) fn word_front(loose: bool, text: &[u8]) -> Option<(Signed<'_>, &[u8])>
+// The well-formed word at the front whose numbers that count are up to the limit, and the text
+// behind it.
+fn signed_word(loose: bool, text: &[u8]) -> Option<(Signed<'_>, &[u8])>
     ensures { signed_front_view result
         ≡ Spec.limited_word MAX_SAFE_INTEGER (Spec.signed_word loose text.now) }
 {
@@ -170,4 +172,39 @@ pub(crate) fn word_front(loose: bool, text: &[u8]) -> Option<(Signed<'_>, &[u8])
         Some(read) => ended_word(loose, sign, behind, marks, read.0, read.1),
         None => None,
     }
+}
+
+// The malformed word at the front that is ignored, as a word without comparators, and the text
+// behind it.
+fn ignored_word(loose: bool, text: &[u8]) -> Option<(Signed<'_>, &[u8])>
+    ensures { signed_front_view result ≡ Spec.ignored_front loose text.now }
+{
+    if !loose || !begins_malformed(text) {
+        return None;
+    }
+    let rest = &text[plain_len(text)..];
+    if !is_boundary(rest) {
+        return None;
+    }
+    Some((
+        Signed {
+            sign: Sign::Compared(Comparator::Equal),
+            partial: Partial::Wildcard,
+            text: b"",
+        },
+        rest,
+    ))
+}
+
+/// The word at the front, ignored or with numbers that count up to the limit, and the text behind
+/// it.
+pub(crate) fn word_front(loose: bool, text: &[u8]) -> Option<(Signed<'_>, &[u8])>
+    ensures { signed_front_view result
+        ≡ Spec.limited_word MAX_SAFE_INTEGER (Spec.any_word loose text.now) }
+{
+    let ignored = ignored_word(loose, text);
+    if ignored.is_some() {
+        return ignored;
+    }
+    signed_word(loose, text)
 }

@@ -1,5 +1,5 @@
 use Rattle.nodejs_semver.proofs.Common.{◌≡◌, ◌<◌, ℕ, List, [], arith, length, ◌∙◌, subst, sym, Some}
-use Rattle.nodejs_semver.specs.Internal.NpmReads.{IsFound, valid_alternative}
+use Rattle.nodejs_semver.specs.Internal.NpmReads.{IsFound, valid_alternative, words_of}
 use Rattle.nodejs_semver.proofs.Strict.AlternativeReads.{no-text, no-words, words-found}
 use Rattle.nodejs_semver.proofs.Strict.VersionLaw.{empty-is}
 use Rattle.nodejs_semver.proofs.Strict.WordSteps.{empty-length}
@@ -14,9 +14,12 @@ returns-then-is_empty c =
 pub returns-in-Some : goal.returns-in-Some
 returns-in-Some c =
     let some : 0 < length c.args.text.now = grind arith in
-    words-found c.args.loose c.args.include c.args.text.now c.in-Some.found some c.in-Some.ensures
+    let all = words_of c.args.loose c.args.include c.args.text.now in
+    words-found c.args.loose c.args.include c.args.text.now c.in-Some.found some (c.in-Some.ensures c.args.include all c.words.ensures)
 
 pub returns-in-None : goal.returns-in-None
 returns-in-None c =
     let some : 0 < length c.args.text.now = grind arith in
-    no-words c.args.loose c.args.include c.args.text.now c.hyphen.result c.requires some c.in-None.ensures c.hyphen.ensures
+    let all = words_of c.args.loose c.args.include c.args.text.now in
+    no-words c.args.loose c.args.include c.args.text.now c.hyphen.result c.requires some
+    (c.in-None.ensures c.args.include all c.words.ensures) c.hyphen.ensures

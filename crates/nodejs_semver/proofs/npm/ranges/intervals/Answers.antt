@@ -1,23 +1,28 @@
 use Rattle.std.proofs.Common.{Err, rules}
 use Rattle.std.specs.Prelude.{⊤}
 use Rattle.nodejs_semver.specs.Internal.Readings.{rest_view}
-use Rattle.nodejs_semver.proofs.Strict.RangeReads.{read-all, read-next, read-refused}
+use Rattle.nodejs_semver.proofs.Strict.RangeReads.{read-all, read-nothing, read-part, read-refused}
 use Rattle.nodejs_semver.proofs.npm.ranges.intervals.Goals as goal
 
-pub returns-in_err-add_alternative-clause-refused :
-    goal.returns-in_err-add_alternative-clause-refused
-returns-in_err-add_alternative-clause-refused c =
+pub returns-in_err-is_some-clause-refused :
+    goal.returns-in_err-is_some-clause-refused
+returns-in_err-is_some-clause-refused c =
     let e = c.from_residual.ensures in
-    let h = read-refused c.args.loose {A = ⊤} (Err c.in_err-add_alternative.field-0.0) c.args.include c.args.text.now c.parts.found.items c.in-Some.text.now
+    let h = read-refused c.args.loose {A = ⊤} (Err c.in_err-is_some.field-0.0) c.args.include c.args.text.now c.parts.is_some c.parts.found.items c.in-Some.text.now
     c.next_part.result.0.now (rest_view c.next_part.result.1) (rw c.in-Some.is at c.parts.invariant) c.next_part.ensures.value
-    c.in_err-add_alternative.ensures.refused in
+    c.in_err-is_some.ensures.refused in
     search rules
 
 pub parts-preserved : goal.parts-preserved
 parts-preserved c =
-    read-next c.args.loose c.args.include c.args.text.now c.parts.found.items c.add_alternative.new.found.items c.in-Some.text.now
+    read-part c.args.loose c.args.include c.args.text.now c.parts.is_some c.in_ok-is_some.is_some c.parts.found.items c.add_part.new.found.items c.in-Some.text.now
     c.next_part.result.0.now (rest_view c.next_part.result.1) (rw c.in-Some.is at c.parts.invariant) c.next_part.ensures.value
-    c.in_ok-add_alternative.ensures.added
+    c.in_ok-is_some.ensures.added
 
-pub returns-clause-ok : goal.returns-clause-ok
-returns-clause-ok c = read-all c.args.loose c.args.include c.args.text.now c.parts.found.items (rw c.in_default.is at c.parts.invariant)
+pub returns-then-is_some-clause-ok : goal.returns-then-is_some-clause-ok
+returns-then-is_some-clause-ok c =
+    read-all c.args.loose c.args.include c.args.text.now c.parts.found.items (rw (c.in_default.is, c.if-is_some.true) at c.parts.invariant)
+
+pub returns-clause-refused : goal.returns-clause-refused
+returns-clause-refused c =
+    read-nothing c.args.loose c.args.include c.args.text.now c.parts.found.items (rw (c.in_default.is, c.if-is_some.false) at c.parts.invariant)

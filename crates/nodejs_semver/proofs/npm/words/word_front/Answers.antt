@@ -1,21 +1,13 @@
-use Rattle.std.proofs.Common.{◌∙◌, Some, None}
-use Rattle.semver_core.specs.declared.TheConstants.{MAX_SAFE_INTEGER}
-use Rattle.nodejs_semver.specs.Internal.NpmParts.{npm_partial_view, npm_sign_view}
-use Rattle.nodejs_semver.proofs.Strict.WordReads.{behind-le, word_here}
+use Rattle.std.proofs.Common.{◌∙◌, sym}
+use Rattle.nodejs_semver.specs.Internal.NpmViews.{signed_front_view}
+use Rattle.nodejs_semver.proofs.Strict.WordReads.{any-ignored, any-signed}
 use Rattle.nodejs_semver.proofs.npm.words.word_front.Goals as goal
 
-pub ended_word-requires-clause-rest : goal.ended_word-requires-clause-rest
-ended_word-requires-clause-rest c =
-    behind-le c.args.loose MAX_SAFE_INTEGER c.sign_front-sign.result.1.now c.marks_len-marks.result (npm_partial_view c.in-Some.read.0)
-    c.in-Some.read.1.now c.in-Some.ensures
+pub returns-then-is_some : goal.returns-then-is_some
+returns-then-is_some c =
+    any-ignored c.args.loose c.args.text.now c.ignored_word-ignored.result c.ignored_word-ignored.ensures (sym c.is_some.ensures ∙ c.if-is_some.true)
 
-pub returns-in-Some : goal.returns-in-Some
-returns-in-Some c =
-    c.ended_word.ensures ∙ word_here c.args.loose c.args.text.now (npm_sign_view c.sign_front-sign.result.0, c.sign_front-sign.result.1.now)
-    c.marks_len-marks.result (Some (npm_partial_view c.in-Some.read.0, c.in-Some.read.1.now)) c.sign_front-sign.ensures
-    c.marks_len-marks.ensures.value c.in-Some.ensures
-
-pub returns-in-None : goal.returns-in-None
-returns-in-None c =
-    word_here c.args.loose c.args.text.now (npm_sign_view c.sign_front-sign.result.0, c.sign_front-sign.result.1.now) c.marks_len-marks.result None
-    c.sign_front-sign.ensures c.marks_len-marks.ensures.value c.in-None.ensures
+pub returns : goal.returns
+returns c =
+    any-signed c.args.loose c.args.text.now c.ignored_word-ignored.result (signed_front_view c.signed_word.result) c.ignored_word-ignored.ensures
+    (sym c.is_some.ensures ∙ c.if-is_some.false) c.signed_word.ensures

@@ -1,0 +1,294 @@
+-- The malformed words that are ignored are no well-formed ones.
+use Rattle.nodejs_semver.proofs.Common.{◌≡◌, ◌⊎◌, ◌<◌, ◌≤◌, ◌+◌, ℕ, zero, suc, Bool, List, [], ◌∷◌, ◌++◌, length, drop, take, refl, sym, ap, ◌∙◌, arith}
+use Rattle.nodejs_semver.proofs.Common.{true, false, Some, None, Option, inl, inr, ◌&&◌, ◌||◌, not, ◌==◌, and_parts, append_assoc, append-nil}
+use Rattle.nodejs_semver.proofs.Common.{cases_Bool, eqb-true, list_all, nat_tests, is_whitespace, is_ascii_digit, begins}
+use Rattle.std.proofs.Common.{◌/◌, ◌%◌}
+use Rattle.std.specs.Prelude.{encode_utf8_all, take_while}
+use Rattle.std.specs.Char.{encode_utf8}
+use Rattle.std.specs.List.{onto_first, prefix_len}
+use Rattle.std.proofs.lemmas.Bool.{cases_lt, le-ltb, lt-ltb}
+use Rattle.std.proofs.lemmas.Str.{encode_ascii}
+use Rattle.semver_core.specs.Text.Characters.{IsBlank, is_identifier_char}
+use Rattle.semver_core.specs.Text.Identifiers.{Id, pieces}
+use Rattle.semver_core.proofs.Text.Pieces.{runs_tail, tail_onto, tail_runs}
+use Rattle.nodejs_semver.specs.Internal.Fronts.{is_wildcard}
+use Rattle.nodejs_semver.specs.Internal.NpmWords.{Signed, ignored_front}
+use Rattle.nodejs_semver.specs.Internal.Words.{is_boundary}
+use Rattle.nodejs_semver.specs.Npm.Grammar.{IsStrictBuild, no_build, plus}
+use Rattle.nodejs_semver.specs.Npm.Malformed.{begins_malformed, is_first, is_inner, is_malformed, is_plain, is_sign}
+use Rattle.nodejs_semver.specs.Npm.RangeText as Text
+use Rattle.nodejs_semver.specs.Npm.RangeText.{IsPartial, IsPlace, IsPreRelease, IsSignText, bare, dashed}
+use Rattle.nodejs_semver.specs.Npm.RangeText.{is_mark, no_pre_release, one, spelling, three, two}
+use Rattle.nodejs_semver.specs.Npm.RangeText.{caret_equal, late_above, late_below, no_sign, sign, tilde_sign, tilde_twice}
+use Rattle.nodejs_semver.specs.Npm.Table.{Partial, Sign, caret, compared, tilde}
+use Rattle.nodejs_semver.specs.Text.WordText.{above, at_least, at_most, below, equal}
+use Rattle.nodejs_semver.proofs.Reading.Bytes.{all-join, begins-on, begins_component, is_solid}
+use Rattle.nodejs_semver.proofs.Strict.PartialLaw.{boundary-quiet}
+use Rattle.nodejs_semver.proofs.Strict.Places.{prefix-all}
+
+-- ---- the characters of partials
+
+abbrev pub is_part : ℕ → Bool
+is_part b = is_identifier_char b || (b == 46 || (b == 43 || b == 42))
+
+digits-part : (digits : List ℕ) → list_all is_ascii_digit digits ≡ true → list_all is_part digits ≡ true
+digits-part [] h = refl
+digits-part (c ∷ digits) h =
+    let each = and_parts (is_ascii_digit c) (list_all is_ascii_digit digits) h in
+    rw (digit-part c each.0) (digits-part digits each.1)
+  where
+    digit-part : (c : ℕ) → is_ascii_digit c ≡ true → is_part c ≡ true
+    digit-part c h = grind (arith, nat_tests)
+
+place-part : (loose : Bool) (x : List ℕ) (a : Option ℕ) → IsPlace loose x a → list_all is_part x ≡ true
+place-part loose x a (Text.any b h) = rw (wild b h) refl
+  where
+    wild : (b : ℕ) → is_wildcard b ≡ true → is_part b ≡ true
+    wild b h = grind (arith, nat_tests)
+place-part loose x a (Text.number digits n k spelled short) = digits-part digits k.each
+
+pieces-part : (t : List ℕ) → tail_runs (pieces t) ≡ true → list_all is_part t ≡ true
+pieces-part [] h = refl
+pieces-part (c ∷ t) h = elim (cases_Bool (c == 46)) [
+  | inl dot ↦
+      let e = eqb-true c 46 dot in
+      rw e (pieces-part t (runs_tail (pieces t) (rw dot at h)))
+  | inr other ↦
+      let k = rw other at h in
+      rw (first-part c (pieces t) k) (pieces-part t (tail_onto c (pieces t) k))
+]
+  where
+    first-part : (c : ℕ) (ps : List (List ℕ)) → tail_runs (onto_first c ps) ≡ true → is_part c ≡ true
+    first-part c [] h = grind arith
+    first-part c (p ∷ ps) h = grind arith
+
+pre-part : (loose : Bool) (p : List ℕ) (l : List Id) → IsPreRelease loose p l → list_all is_part p ≡ true
+pre-part loose p l no_pre_release = refl
+pre-part loose p l (dashed t list h s) = pieces-part t (runs_tail (pieces t) h.runs)
+pre-part loose p l (bare t list e f h s) = pieces-part t (runs_tail (pieces t) h.runs)
+
+build-part : (p : List ℕ) (l : List Id) → IsStrictBuild p l → list_all is_part p ≡ true
+build-part p l no_build = refl
+build-part p l (plus t list h) = pieces-part t (runs_tail (pieces t) h.runs)
+
+pub partial-part : (loose : Bool) (x : List ℕ) (p : Partial) → IsPartial loose x p → list_all is_part x ≡ true
+partial-part loose x p (one x1 a h) = place-part loose x1 a h
+partial-part loose x p (two x1 y a b h k) = all-join is_part x1 (46 ∷ y) (place-part loose x1 a h) (place-part loose y b k)
+partial-part loose x p (three x1 y z pre build a b c ids builds h k l m s n t) =
+    let last_part = all-join is_part pre build (pre-part loose pre ids m) (build-part build builds n) in
+    let third = all-join is_part z (pre ++ build) (place-part loose z c l) last_part in
+    let second = all-join is_part y (46 ∷ (z ++ (pre ++ build))) (place-part loose y b k) third in
+    all-join is_part x1 (46 ∷ (y ++ 46 ∷ (z ++ (pre ++ build)))) (place-part loose x1 a h) second
+
+pub all-weaker : (p q : ℕ → Bool) → ((b : ℕ) → p b ≡ true → q b ≡ true) → (x : List ℕ) → list_all p x ≡ true → list_all q x ≡ true
+all-weaker p q f [] h = refl
+all-weaker p q f (b ∷ x) h =
+    let each = and_parts (p b) (list_all p x) h in
+    rw (f b each.0) (all-weaker p q f x each.1)
+
+-- ---- the characters of whitespace
+
+-- no visible character
+abbrev is_dark : ℕ → Bool
+is_dark b = not (is_plain b)
+
+high-dark : (n : ℕ) → 128 ≤ n → is_dark n ≡ true
+high-dark n h = grind (arith, nat_tests)
+
+bytes-dark : (c : ℕ) → is_whitespace c ≡ true → list_all is_dark (encode_utf8 c) ≡ true
+unfolding encode_utf8
+bytes-dark c h = elim (cases_lt c 128) [
+  | inl low ↦ rw (encode_ascii c low, white-dark c h low) refl
+  | inr more_one ↦ elim (cases_lt c 2048) [
+    | inl two_bytes ↦
+        rw (le-ltb c 128 more_one, lt-ltb c 2048 two_bytes, high-dark (192 + c / 64) (omega arith), high-dark (128 + c % 64) (omega arith)) refl
+    | inr more_two ↦ elim (cases_lt c 65536) [
+      | inl three_bytes ↦
+          rw (
+            le-ltb c 128 more_one,
+            le-ltb c 2048 more_two,
+            lt-ltb c 65536 three_bytes,
+            high-dark (224 + c / 4096) (omega arith),
+            high-dark (128 + (c / 64) % 64) (omega arith),
+            high-dark (128 + c % 64) (omega arith),
+          ) refl
+      | inr four ↦ absurd (wide c h four)
+    ]
+  ]
+]
+  where
+    wide : (c : ℕ) → is_whitespace c ≡ true → 65536 ≤ c → ⊥
+    wide c h k = grind (arith, nat_tests)
+
+    white-dark : (c : ℕ) → is_whitespace c ≡ true → c < 128 → is_dark c ≡ true
+    white-dark c h k = grind (arith, nat_tests)
+
+-- ---- the characters of words
+
+-- a character of words, or none that is plain
+abbrev is_tame : ℕ → Bool
+is_tame b = is_inner b || not (is_plain b)
+
+dark-tame : (b : ℕ) → is_dark b ≡ true → is_tame b ≡ true
+dark-tame b h = grind arith
+
+blank-tame : (x : List ℕ) → IsBlank x → list_all is_tame x ≡ true
+blank-tame x h = rw h.spelled (all-weaker is_dark is_tame dark-tame (encode_utf8_all h.characters) (go h.characters h.each))
+  where
+    go : (cs : List ℕ) → list_all is_whitespace cs ≡ true → list_all is_dark (encode_utf8_all cs) ≡ true
+    go [] each = refl
+    go (c ∷ cs) each =
+        let parts = and_parts (is_whitespace c) (list_all is_whitespace cs) each in
+        all-join is_dark (encode_utf8 c) (encode_utf8_all cs) (bytes-dark c parts.0) (go cs parts.1)
+
+part-tame : (b : ℕ) → is_part b ≡ true → is_tame b ≡ true
+part-tame b h = grind (arith, nat_tests)
+
+mark-tame : (b : ℕ) → is_mark b ≡ true → is_tame b ≡ true
+mark-tame b h = grind (arith, nat_tests)
+
+spelling-tame : (s : Sign) (y : List ℕ) → list_all is_tame y ≡ true → list_all is_tame (spelling s ++ y) ≡ true
+spelling-tame (compared above) y h = h
+spelling-tame (compared at_least) y h = h
+spelling-tame (compared equal) y h = h
+spelling-tame (compared at_most) y h = h
+spelling-tame (compared below) y h = h
+spelling-tame caret y h = h
+spelling-tame tilde y h = h
+
+sign-tame : (signs : List ℕ) (s : Sign) → IsSignText signs s → list_all is_tame signs ≡ true
+sign-tame signs s no_sign = refl
+sign-tame signs s (sign t y h) = spelling-tame t y (blank-tame y h)
+sign-tame signs s (late_above y h) = all-join is_tame y (61 ∷ []) (blank-tame y h) refl
+sign-tame signs s (late_below y h) = all-join is_tame y (61 ∷ []) (blank-tame y h) refl
+sign-tame signs s (caret_equal y z h k) = all-join is_tame y (61 ∷ z) (blank-tame y h) (blank-tame z k)
+sign-tame signs s (tilde_sign c y z h k which) =
+    all-join is_tame y (spelling (compared c) ++ z) (blank-tame y h) (spelling-tame (compared c) z (blank-tame z k))
+sign-tame signs s (tilde_twice c y z h some k which) =
+    all-join is_tame y (spelling (compared c) ++ z) (blank-tame y h) (spelling-tame (compared c) z (blank-tame z k))
+
+sign-first : (signs : List ℕ) (s : Sign) → IsSignText signs s → (signs ≡ []) ⊎ (begins is_first signs ≡ true)
+sign-first signs s no_sign = inl refl
+sign-first signs s (sign (compared above) y h) = inr refl
+sign-first signs s (sign (compared at_least) y h) = inr refl
+sign-first signs s (sign (compared equal) y h) = inr refl
+sign-first signs s (sign (compared at_most) y h) = inr refl
+sign-first signs s (sign (compared below) y h) = inr refl
+sign-first signs s (sign caret y h) = inr refl
+sign-first signs s (sign tilde y h) = inr refl
+sign-first signs s (late_above y h) = inr refl
+sign-first signs s (late_below y h) = inr refl
+sign-first signs s (caret_equal y z h k) = inr refl
+sign-first signs s (tilde_sign c y z h k which) = inr refl
+sign-first signs s (tilde_twice c y z h some k which) = inr refl
+
+-- a first character of words, or none that is plain
+abbrev is_start : ℕ → Bool
+is_start b = is_first b || not (is_plain b)
+
+first-start : (u : List ℕ) → begins is_first u ≡ true → begins is_start u ≡ true
+first-start u h = grind arith
+
+marks-start : (marks u : List ℕ) → list_all is_mark marks ≡ true → begins_component u ≡ true → begins is_start (marks ++ u) ≡ true
+marks-start [] [] h k = cc k
+marks-start [] (b ∷ u) h k = grind (arith, nat_tests)
+marks-start (b ∷ marks) u h k = grind (arith, nat_tests)
+
+-- ---- no malformed word is at the front of a text that begins as a word does
+
+tame-inner : (w rest : List ℕ) → list_all is_tame w ≡ true → begins is_plain rest ≡ false
+    → list_all is_inner (take_while is_plain (w ++ rest)) ≡ true
+tame-inner [] [] h k = refl
+tame-inner [] (b ∷ rest) h k = rw k refl
+tame-inner (b ∷ w) rest h k =
+    let each = and_parts (is_tame b) (list_all is_tame w) h in
+    elim (cases_Bool (is_plain b)) [
+      | inl plain ↦
+          let inner : is_inner b ≡ true = or-left (is_inner b) (is_plain b) each.0 plain in
+          let e : 1 + prefix_len is_plain (w ++ rest) ≡ suc (prefix_len is_plain (w ++ rest)) = omega arith in
+          rw (plain, e, inner) (tame-inner w rest each.1 k)
+      | inr other ↦ rw other refl
+    ]
+  where
+    or-left : (a p : Bool) → (a || not p) ≡ true → p ≡ true → a ≡ true
+    or-left a p h k = grind arith
+
+run-start : (text : List ℕ) → begins is_start text ≡ true → (take_while is_plain text ≡ []) ⊎ (begins is_first (take_while is_plain text) ≡ true)
+run-start [] h = inl refl
+run-start (b ∷ text) h = elim (cases_Bool (is_plain b)) [
+  | inr other ↦ inl (rw other refl)
+  | inl plain ↦
+      let e : 1 + prefix_len is_plain text ≡ suc (prefix_len is_plain text) = omega arith in
+      inr (rw (plain, e) (or-left (is_first b) (is_plain b) h plain))
+]
+  where
+    or-left : (a p : Bool) → (a || not p) ≡ true → p ≡ true → a ≡ true
+    or-left a p h k = grind arith
+
+none-malformed : (run : List ℕ) → list_all is_inner run ≡ true → (run ≡ []) ⊎ (begins is_first run ≡ true) → is_malformed run ≡ false
+none-malformed run h (inl e) = rw e refl
+none-malformed run h (inr first) = rw (first, h) (grind arith)
+
+pub word-regular : (loose : Bool) (signs marks x rest : List ℕ) (s : Sign) (p : Partial) → IsSignText signs s
+    → list_all is_mark marks ≡ true → IsPartial loose x p → begins_component x ≡ true → begins is_plain rest ≡ false
+    → begins_malformed ((signs ++ (marks ++ x)) ++ rest) ≡ false
+word-regular loose signs marks x rest s p h m k first stop =
+    let w = signs ++ (marks ++ x) in
+    let tame = all-join is_tame signs (marks ++ x) (sign-tame signs s h)
+    (all-join is_tame marks x (all-weaker is_mark is_tame mark-tame marks m) (all-weaker is_part is_tame part-tame x (partial-part loose x p k))) in
+    let start : begins is_start w ≡ true = elim (sign-first signs s h) [
+      | inl none ↦ rw none (marks-start marks x m first)
+      | inr some ↦ begins-on is_start signs (marks ++ x) (first-start signs some)
+    ] in
+    none-malformed (take_while is_plain (w ++ rest)) (tame-inner w rest tame stop) (run-start (w ++ rest) (begins-on is_start w rest start))
+
+-- ---- a malformed word at the front
+
+pub boundary-plain : (rest : List ℕ) → is_boundary rest ≡ true → begins is_plain rest ≡ false
+boundary-plain [] h = refl
+boundary-plain (b ∷ rest) h = let quiet = boundary-quiet (b ∷ rest) h in plain-quiet b quiet
+  where
+    plain-quiet : (b : ℕ) → is_solid b ≡ false → is_plain b ≡ false
+    plain-quiet b h = grind (arith, nat_tests)
+
+run-is : (x rest : List ℕ) → list_all is_plain x ≡ true → begins is_plain rest ≡ false
+    → (take_while is_plain (x ++ rest) ≡ x) × (drop (prefix_len is_plain (x ++ rest)) (x ++ rest) ≡ rest)
+run-is [] [] h k = (refl, refl)
+run-is [] (b ∷ rest) h k = (rw k refl, rw k refl)
+run-is (b ∷ x) rest h k =
+    let each = and_parts (is_plain b) (list_all is_plain x) h in
+    let e : 1 + prefix_len is_plain (x ++ rest) ≡ suc (prefix_len is_plain (x ++ rest)) = omega arith in
+    let r = run-is x rest each.1 k in
+    (rw (each.0, e) (ap (λ (l : List ℕ). b ∷ l) r.0), rw (each.0, e) r.1)
+
+pub malformed-plain : (x : List ℕ) → is_malformed x ≡ true → list_all is_plain x ≡ true
+malformed-plain x h = (and_parts (list_all is_plain x) _ h).0
+
+-- it begins with a visible character
+pub malformed-solid : (x : List ℕ) → is_malformed x ≡ true → begins is_solid x ≡ true
+malformed-solid [] h = cc h
+malformed-solid (b ∷ x) h = plain-solid b (and_parts (is_plain b) (list_all is_plain x) (malformed-plain (b ∷ x) h)).0
+  where
+    plain-solid : (b : ℕ) → is_plain b ≡ true → is_solid b ≡ true
+    plain-solid b h = grind (arith, nat_tests)
+
+-- and with no `-`
+pub malformed-first : (x : List ℕ) → is_malformed x ≡ true → begins (λ b. not (b == 45)) x ≡ true
+malformed-first x h = (and_parts (begins (λ b. not (b == 45)) x) _ (and_parts (list_all is_plain x) _ h).1).0
+
+pub malformed-begins : (x : List ℕ) → is_malformed x ≡ true → begins_malformed x ≡ true
+malformed-begins x h =
+    let run : take_while is_plain x ≡ x = rw append-nil at (run-is x [] (malformed-plain x h) refl).0 in
+    rw run h
+
+pub ignored-read : (loose : Bool) (x rest : List ℕ) → loose ≡ true → is_malformed x ≡ true → is_boundary rest ≡ true
+    → ignored_front loose (x ++ rest) ≡ Some ((compared equal, Partial.wildcard, []), rest)
+unfolding ignored_front
+ignored-read loose x rest l h b =
+    let r = run-is x rest (malformed-plain x h) (boundary-plain rest b) in
+    rw (l, r.0, r.1, h, b) refl
+
+pub plain_all : (text : List ℕ) (at : ℕ) → at ≡ prefix_len is_plain text → list_all is_plain (take at text) ≡ true
+plain_all text at e = rw e (prefix-all is_plain text)
+
+pub ruleset plain_runs = (plain_all)

@@ -1,0 +1,23 @@
+use Rattle.std.proofs.Common.{◌∙◌, sym}
+use Rattle.nodejs_semver.proofs.Strict.WordReads.{ignored-here, no-boundary, not-loose}
+use Rattle.nodejs_semver.proofs.Strict.Words.{none-ignored}
+use Rattle.nodejs_semver.proofs.npm.words.ignored_word.Goals as goal
+use Rattle.nodejs_semver.proofs.npm.words.ignored_word.Goals.{then-not-loose-via-else-not-loose+then-not-begins_malformed, then-not-loose-via-then-not-loose}
+
+pub returns-then-not-loose : goal.returns-then-not-loose
+returns-then-not-loose c = elim c.then-not-loose.branch [
+  | then-not-loose-via-then-not-loose w ↦ sym (not-loose c.args.loose c.args.text.now w.if-not-loose.true)
+  | then-not-loose-via-else-not-loose+then-not-begins_malformed w ↦
+      sym (none-ignored c.args.loose c.args.text.now (sym w.begins_malformed.ensures ∙ w.if-not-begins_malformed.true))
+]
+
+pub returns-then-not-is_boundary : goal.returns-then-not-is_boundary
+returns-then-not-is_boundary c =
+    sym (no-boundary c.args.loose c.args.text.now c.plain_len.result c.is_boundary.result c.plain_len.ensures.value c.is_boundary.ensures
+    c.if-not-is_boundary.true)
+
+pub returns : goal.returns
+returns c =
+    ignored-here c.args.loose c.args.text.now c.plain_len.result c.is_boundary.result c.if-not-loose.false
+    (sym c.begins_malformed.ensures ∙ c.if-not-begins_malformed.false) c.plain_len.ensures.value c.is_boundary.ensures
+    c.if-not-is_boundary.false
