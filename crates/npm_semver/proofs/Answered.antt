@@ -42,11 +42,15 @@ no_test_of a word b none said (Spec.test x t y v w relation are is) = none w are
 pub no_relation : (a word b : List ℕ) → None ≡ relation_of word → NoValue (Answers (codes "compare" ∷ a ∷ word ∷ b ∷ []))
 no_relation a word b none said (Spec.test x t y v w relation are is) = let e : None ≡ Some relation = none ∙ is in absurd (cc)
 
+pub ruleset no_tests = (no_test, no_test_of, no_relation)
+
 pub no_difference : (a b : List ℕ) → NoVersion a → NoValue (Answers (codes "diff" ∷ a ∷ b ∷ []))
 no_difference a b none said (Spec.diff x y v w are) = none v are.0
 
 pub no_difference_of : (a b : List ℕ) → NoVersion b → NoValue (Answers (codes "diff" ∷ a ∷ b ∷ []))
 no_difference_of a b none said (Spec.diff x y v w are) = none w are.1
+
+pub ruleset no_differences = (no_difference, no_difference_of)
 
 pub no_next : (level a : List ℕ) (words : List (List ℕ)) → NoVersion a → NoValue (Answers (codes "next" ∷ level ∷ a ∷ words))
 no_next level a words none said (Spec.next l x ws id v is has) = none v is
