@@ -1,5 +1,5 @@
 -- Words that are no question, and what the others are answered.
-use Rattle.std.proofs.Common.{◌≡◌, ◌∷◌, ◌++◌, [], ℕ, Bool, true, false, List, Option, Some, None, codes, map, refl, sym, option_map, ◌≢◌, ◌∙◌, ◌<◌, arith, length, get_or, suc, zero, take, ◌+◌, ◌==◌, is_none, is_some}
+use Rattle.std.proofs.Common.{◌≡◌, ◌∷◌, ◌++◌, [], ℕ, Bool, true, false, List, Option, Some, None, codes, map, refl, sym, option_map, append_assoc, ◌≢◌, ◌∙◌, ◌<◌, arith, length, get_or, suc, zero, take, ◌+◌, ◌==◌, is_none, is_some}
 use Rattle.std.proofs.lemmas.List.{map-append, take_more}
 use Rattle.std.specs.List.{list_all}
 use Rattle.std.specs.declared.cmp.Ordering.{Ordering}
@@ -19,6 +19,7 @@ use Rattle.nodejs_semver.specs.Ranges.Least.{IsLeastOf, beyond}
 use Rattle.nodejs_semver.specs.Ranges.Algebra.{difference, intersection}
 use Rattle.npm_semver.specs.Subcommands.{Answers, AreRanges, HasIdentifier, IsRange, IsShown, Range, Said, next_said, relation_of, reply, say, sign}
 use Rattle.npm_semver.specs.Subcommands as Spec
+use Rattle.npm_semver.specs.Internal.Appends.{Extends}
 use Rattle.npm_semver.specs.declared.subcommands.replies.Status.TheVariants.{Yes}
 
 abbrev NoVersion : List ℕ → Type 0
@@ -182,6 +183,7 @@ no_drawing a none said (Spec.explain x r text is) = none r is
 pub no_least : (words : List (List ℕ)) → NoValue (AreRanges words) → NoValue (Answers (codes "least" ∷ words))
 no_least words none said (Spec.least a ws rs least are is) = none rs are
 
-pub drawn : (a : List ℕ) (r : Range) (text : List ℕ) (said : Said) → IsRange a r → said ≡ say text false Yes
+pub drawn : (a : List ℕ) (r : Range) (text : List ℕ) (said : Said) → IsRange a r → Extends (range_text r ++ 10 ∷ []) text → said ≡ say text false Yes
     → Answers (codes "explain" ∷ a ∷ []) said
-drawn a r text said is says = rw says (Spec.explain a r text is)
+drawn a r text said is (more, e) says =
+    rw (says, e ∙ append_assoc (range_text r) (10 ∷ []) more) (Spec.explain a r more is)
