@@ -40,15 +40,14 @@ pub fn one_answer()
     npm_reads_once();
 }
 
-/// Asked for versions, the answer does not depend on the order of the texts: it stays right where
+/// The answer does not depend on the order of the texts that may be versions: it stays right where
 /// two neighbouring parts of them are exchanged, and it is the only one that is.
 pub fn exchanges()
     ensures right { (q : Asked) (front a b back : List (List ℕ)) (written : Written)
         → Responds (Some (record q { versions = front ++ (a ++ (b ++ back)) })) written
-        → q.level ≡ None
         → Responds (Some (record q { versions = front ++ (b ++ (a ++ back)) })) written }
     ensures same { (q : Asked) (front a b back : List (List ℕ)) (one other : Written)
-        → EachText IsUtf8 q.ranges → q.level ≡ None
+        → EachText IsUtf8 q.ranges
         → Responds (Some (record q { versions = front ++ (a ++ (b ++ back)) })) one
         → Responds (Some (record q { versions = front ++ (b ++ (a ++ back)) })) other
         → one ≡ other }
