@@ -14,6 +14,8 @@ pub mod Hyphens
 pub mod AlternativeLaw
 pub mod HyphenReads
 pub mod RangesLaw
+pub mod Once
+pub mod Reread
 pub mod Valid
 pub mod Narrowing
 pub mod Printed

@@ -1,5 +1,5 @@
 -- Words that are no question, and what the others are answered.
-use Rattle.std.proofs.Common.{◌≡◌, ◌∷◌, ◌++◌, [], ℕ, Bool, true, false, List, Option, Some, None, codes, map, refl, sym, option_map, ◌≢◌, ◌∙◌, ◌<◌, arith, length, get_or, suc, zero, take, ◌+◌, ◌==◌, is_none, is_some}
+use Rattle.std.proofs.Common.{◌≡◌, ◌∷◌, ◌++◌, [], ℕ, Bool, true, false, List, Option, Some, None, codes, map, refl, sym, option_map, append_assoc, ◌≢◌, ◌∙◌, ◌<◌, arith, length, get_or, suc, zero, take, ◌+◌, ◌==◌, is_none, is_some}
 use Rattle.std.proofs.lemmas.List.{map-append, take_more}
 use Rattle.std.specs.List.{list_all}
 use Rattle.std.specs.declared.cmp.Ordering.{Ordering}
@@ -19,6 +19,7 @@ use Rattle.nodejs_semver.specs.Ranges.Least.{IsLeastOf, beyond}
 use Rattle.nodejs_semver.specs.Ranges.Algebra.{difference, intersection}
 use Rattle.npm_semver.specs.Subcommands.{Answers, AreRanges, HasIdentifier, IsRange, IsShown, Range, Said, next_said, relation_of, reply, say, sign}
 use Rattle.npm_semver.specs.Subcommands as Spec
+use Rattle.npm_semver.specs.Internal.Appends.{Extends}
 use Rattle.npm_semver.specs.declared.subcommands.replies.Status.TheVariants.{Yes}
 
 abbrev NoVersion : List ℕ → Type 0
@@ -42,11 +43,15 @@ no_test_of a word b none said (Spec.test x t y v w relation are is) = none w are
 pub no_relation : (a word b : List ℕ) → None ≡ relation_of word → NoValue (Answers (codes "compare" ∷ a ∷ word ∷ b ∷ []))
 no_relation a word b none said (Spec.test x t y v w relation are is) = let e : None ≡ Some relation = none ∙ is in absurd (cc)
 
+pub ruleset no_tests = (no_test, no_test_of, no_relation)
+
 pub no_difference : (a b : List ℕ) → NoVersion a → NoValue (Answers (codes "diff" ∷ a ∷ b ∷ []))
 no_difference a b none said (Spec.diff x y v w are) = none v are.0
 
 pub no_difference_of : (a b : List ℕ) → NoVersion b → NoValue (Answers (codes "diff" ∷ a ∷ b ∷ []))
 no_difference_of a b none said (Spec.diff x y v w are) = none w are.1
+
+pub ruleset no_differences = (no_difference, no_difference_of)
 
 pub no_next : (level a : List ℕ) (words : List (List ℕ)) → NoVersion a → NoValue (Answers (codes "next" ∷ level ∷ a ∷ words))
 no_next level a words none said (Spec.next l x ws id v is has) = none v is
@@ -178,6 +183,7 @@ no_drawing a none said (Spec.explain x r text is) = none r is
 pub no_least : (words : List (List ℕ)) → NoValue (AreRanges words) → NoValue (Answers (codes "least" ∷ words))
 no_least words none said (Spec.least a ws rs least are is) = none rs are
 
-pub drawn : (a : List ℕ) (r : Range) (text : List ℕ) (said : Said) → IsRange a r → said ≡ say text false Yes
+pub drawn : (a : List ℕ) (r : Range) (text : List ℕ) (said : Said) → IsRange a r → Extends (range_text r ++ 10 ∷ []) text → said ≡ say text false Yes
     → Answers (codes "explain" ∷ a ∷ []) said
-drawn a r text said is says = rw says (Spec.explain a r text is)
+drawn a r text said is (more, e) says =
+    rw (says, e ∙ append_assoc (range_text r) (10 ∷ []) more) (Spec.explain a r more is)

@@ -1,13 +1,14 @@
 -- Two neighbouring parts of the version texts are exchanged.
-use Rattle.std.proofs.Common.{◌≡◌, ◌⊎◌, ◌∷◌, ◌++◌, [], ℕ, true, false, List, Some, None, ap, append_assoc, arith, inl, inr, refl}
-use Rattle.std.proofs.lemmas.List.Sorted.{IsPermutation-append_comm, IsPermutation-append_left, IsPermutation-append_right, IsPermutation-sym, IsPermutation-trans}
+use Rattle.std.proofs.Common.{◌≡◌, ◌⊎◌, ◌∷◌, ◌++◌, [], ℕ, true, false, List, Some, ap, append_assoc, arith, inl, inr, refl}
+use Rattle.std.proofs.lemmas.List.Elements.{All-cons, All-head, All-nil}
+use Rattle.std.proofs.lemmas.List.Sorted.{All-permutation, length_permutation, IsPermutation-append_comm, IsPermutation-append_left, IsPermutation-append_right, IsPermutation-sym, IsPermutation-trans}
 use Rattle.std.specs.List.Sorted.{IsPermutation}
 use Rattle.semver_core.specs.Values.Versions.{VersionValue}
 use Rattle.npm_semver.specs.Arguments.{Asked}
 use Rattle.npm_semver.specs.Listing.{AreListed, IsListing}
 use Rattle.npm_semver.specs.Listing as Listing
 use Rattle.npm_semver.specs.Readings.{SomeText, here, later}
-use Rattle.npm_semver.specs.Responses.{IsRefused, Responds, Written, coerced, increment, no_version, refused, unknown, unread, versions}
+use Rattle.npm_semver.specs.Responses.{IsRefused, Responds, Written, coerced, increment, increment_written, no_version, refused, unknown, unread, versions}
 use Rattle.npm_semver.specs.declared.reading.Reading.{Reading}
 
 moved : (f u w k : List VersionValue) → IsPermutation (f ++ (u ++ (w ++ k))) (f ++ (w ++ (u ++ k)))
@@ -95,11 +96,28 @@ refused_exchanged q front a b back (unknown e) = unknown e
 refused_exchanged q front a b back (unread some) = unread some
 refused_exchanged q front a b back (no_version some) = no_version (some.0, some_exchanged _ front a b back some.1)
 
+-- what is written for a next version does not depend on the order of the versions
+one_order : (q : Asked) (texts more : List (List ℕ)) (level : List ℕ) (vs ws : List VersionValue) → IsPermutation vs ws
+    → increment_written (record q { versions = texts }) level vs ≡ increment_written (record q { versions = more }) level ws
+one_order q texts more level [] [] moved = refl
+one_order q texts more level [] (w ∷ ws) moved = absurd (grind (arith, length_permutation [] (w ∷ ws) moved))
+one_order q texts more level (v ∷ []) [] moved = absurd (grind (arith, length_permutation (v ∷ []) [] moved))
+one_order q texts more level (v ∷ []) (w ∷ []) moved =
+    let same = All-permutation (λ u. v ≡ u) (v ∷ []) (w ∷ []) moved (All-cons (λ u. v ≡ u) v [] refl (All-nil (λ u. v ≡ u))) in
+    ap (λ (u : VersionValue). increment_written (record q { versions = texts }) level (u ∷ [])) (All-head (λ u. v ≡ u) w [] same)
+one_order q texts more level (v ∷ []) (w ∷ x ∷ ws) moved = absurd (omega (arith, length_permutation (v ∷ []) (w ∷ x ∷ ws) moved))
+one_order q texts more level (v ∷ u ∷ vs) [] moved = absurd (omega (arith, length_permutation (v ∷ u ∷ vs) [] moved))
+one_order q texts more level (v ∷ u ∷ vs) (w ∷ []) moved = absurd (omega (arith, length_permutation (v ∷ u ∷ vs) (w ∷ []) moved))
+one_order q texts more level (v ∷ u ∷ vs) (w ∷ x ∷ ws) moved = refl
+
 pub responds_exchanged : (q : Asked) (front a b back : List (List ℕ)) (written : Written)
-    → Responds (Some (record q { versions = front ++ (a ++ (b ++ back)) })) written → q.level ≡ None
+    → Responds (Some (record q { versions = front ++ (a ++ (b ++ back)) })) written
     → Responds (Some (record q { versions = front ++ (b ++ (a ++ back)) })) written
-responds_exchanged q front a b back written (refused _ is) level = refused _ (refused_exchanged q front a b back is)
-responds_exchanged q front a b back written (versions _ vs can no_level listing) level =
+responds_exchanged q front a b back written (refused _ is) = refused _ (refused_exchanged q front a b back is)
+responds_exchanged q front a b back written (versions _ vs can no_level listing) =
     versions (record q { versions = front ++ (b ++ (a ++ back)) }) vs (λ is. can (refused_exchanged q front b a back is)) no_level
     (listing_exchanged q.reading q.ranges front a b back vs listing)
-responds_exchanged q front a b back written (increment _ word vs can has are) level = absurd (grind (arith, level, has))
+responds_exchanged q front a b back written (increment _ word vs can has are) =
+    let (ws, listed, moved) = exchanged q.reading [] front a b back vs are in
+    rw (one_order q (front ++ (a ++ (b ++ back))) (front ++ (b ++ (a ++ back))) word vs ws moved)
+    (increment (record q { versions = front ++ (b ++ (a ++ back)) }) word ws (λ is. can (refused_exchanged q front b a back is)) has listed)

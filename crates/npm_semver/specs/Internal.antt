@@ -3,3 +3,4 @@ pub mod Written
 pub mod Readings
 pub mod Asked
 pub mod Said
+pub mod Appends

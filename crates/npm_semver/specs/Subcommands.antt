@@ -105,8 +105,8 @@ pub data Answers : List (List ℕ) → Said → Type 0 where
   least : (a : List ℕ) (words : List (List ℕ)) (rs : List Range) (least : Option VersionValue)
       → AreRanges (a ∷ words) rs → IsLeastOf (λ v. list_all (λ r. accepts r v false) rs) least
       → Answers (codes "least" ∷ a ∷ words) (reply (is_some least) (option_map version_text least))
-  explain : (a : List ℕ) (r : Range) (text : List ℕ) → IsRange a r
-      → Answers (codes "explain" ∷ a ∷ []) (say text false Yes)
+  explain : (a : List ℕ) (r : Range) (drawing : List ℕ) → IsRange a r
+      → Answers (codes "explain" ∷ a ∷ []) (say (range_text r ++ 10 ∷ drawing) false Yes)
 
 -- what is said of the words: their answer, or that they ask nothing
 pub data IsReply (words : List (List ℕ)) : Said → Type 0 where

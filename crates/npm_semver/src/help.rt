@@ -3,6 +3,12 @@
 pub const HELP: &str = "semver: sorts, filters and increments npm's versions
 
 usage: semver [options] <version>...
+       semver compare <version> [<operator>] <version>
+       semver diff <version> <version>
+       semver next <level> <version> [--preid <identifier>]
+       semver range <range> [and|minus|within <range>]
+       semver least <range>...
+       semver explain <range>
 
   -r, --range <range>         print only versions that the range accepts; of several ranges, all
   -p, --include-prerelease    let ranges accept every pre-release within their bounds
@@ -28,5 +34,6 @@ beyond npm's program:
 
 Prints each version without its build metadata, in ascending order. Texts that are no versions are
 left out. Exits with 1 if no version is printed, and says why if the question cannot be answered:
-with -l, where a range has a word that is not read, and with -c and -p together.
+with -l, where a range has a word that is not read, and with -c and -p together. The subcommands
+exit with 0 for yes, 1 for no and 2 for a malformed question.
 ";

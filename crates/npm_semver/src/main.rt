@@ -13,7 +13,8 @@ mod run;
 mod subcommands;
 mod why;
 
-use crate::run::{needs_of, run};
+use crate::question::Request;
+use crate::run::respond;
 use crate::subcommands::{Reply, Subcommand};
 use crate::why::reasons;
 use anyhow::Result;
@@ -28,16 +29,17 @@ fn main(rt: HostRuntime) -> Result<ExitCode> {
     {
         return finish(&rt, &subcommand.reply(alloc, words)?);
     }
-    let needs = needs_of(alloc, &arguments)?;
-    let input = if needs.input {
+    let asked = Request::of(alloc, &arguments)?;
+    let input = if asked.reads_input() {
         io::read_to_string(alloc, rt.stdin())?
     } else {
         String::new(alloc)
     };
-    if needs.reasons {
-        eprint!(rt; "{}", reasons(alloc, &arguments, &input)?)?;
+    let request = asked.with_lines(alloc, &input)?;
+    if request.tells_why() {
+        eprint!(rt; "{}", reasons(alloc, &request)?)?;
     }
-    let response = run(alloc, &arguments, &input)?;
+    let response = respond(alloc, &request)?;
     if let Some(refusal) = &response.refusal {
         eprintln!(rt; "semver: {refusal}")?;
     }

@@ -9,7 +9,7 @@ ghost use Rattle.std.specs.Char.{is_ascii_digit};
 ghost use Rattle.std.specs.List.{list_all};
 ghost use Rattle.std.specs.Str.Lines.{lines};
 ghost use Rattle.semver_core.specs.Text.Characters.{begins};
-ghost use Rattle.npm_semver.specs.Responses.{with_lines};
+ghost use Rattle.npm_semver.specs.Responses.{reads_input, tells_why, with_lines};
 ghost use Rattle.npm_semver.specs.declared.question.Word.TheVariants as Word;
 ghost use Rattle.npm_semver.specs.Internal.Asked.{asked_of, request_of, texts};
 
@@ -188,8 +188,8 @@ impl<'a> Question<'a> {
         Ok(())
     }
 
-    /// Adds the lines of the input to the texts that may be versions, if `-` asks for them.
-    pub fn add_lines(&mut self, alloc: Global, input: &'a str) -> Result<(), AllocError>
+    // Adds the lines of the input to the texts that may be versions, if `-` asks for them.
+    fn add_lines(&mut self, alloc: Global, input: &'a str) -> Result<(), AllocError>
         ensures { OnOk result (asked_of self.new ≡ with_lines input.now (asked_of self.old)) }
     {
         if self.reads_input {
@@ -275,5 +275,41 @@ impl<'a> Request<'a> {
             question.add(word, text, &mut words)?;
         }
         Ok(Request::Versions(question))
+    }
+
+    /// Whether the lines of the input may be versions.
+    pub fn reads_input(&self) -> bool
+        ensures { result ≡ reads_input (request_of self.now) }
+    {
+        match self {
+            Request::Help => false,
+            Request::Versions(question) => question.reads_input,
+        }
+    }
+
+    /// Whether it is told why texts are left out.
+    pub fn tells_why(&self) -> bool
+        ensures { result ≡ tells_why (request_of self.now) }
+    {
+        match self {
+            Request::Help => false,
+            Request::Versions(question) => question.is_why,
+        }
+    }
+
+    /// What is asked if this is the input: its lines may be versions if the arguments ask for it.
+    /// Fails only if allocation fails.
+    pub fn with_lines(self, alloc: Global, input: &'a str) -> Result<Request<'a>, AllocError>
+        ensures { IfOk result (λ request.
+            request_of request ≡ option_map (with_lines input.now) (request_of self.entry)) }
+    {
+        match self {
+            Request::Help => Ok(Request::Help),
+            Request::Versions(question) => {
+                let mut question = question;
+                question.add_lines(alloc, input)?;
+                Ok(Request::Versions(question))
+            }
+        }
     }
 }

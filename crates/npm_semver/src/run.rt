@@ -1,6 +1,6 @@
 // The program as a function of its arguments.
 
-ghost use Rattle.std.specs.Prelude.{◌≡◌, ◌++◌, ◌∷◌, [], not, is_some, IfOk, OnOk, None, Option, Ok};
+ghost use Rattle.std.specs.Prelude.{◌≡◌, ◌++◌, ◌∷◌, [], not, is_some, IfOk, OnOk, None, Ok};
 ghost use Rattle.std.specs.Prelude.{Some};
 ghost use Rattle.std.specs.Prelude.{map, string_bytes, if◌then◌else◌};
 ghost use Rattle.std.specs.List.{flat_map};
@@ -9,9 +9,8 @@ ghost use Rattle.semver_core.specs.Lists.{is_empty};
 ghost use Rattle.semver_core.specs.Printing.Text.{marked_list};
 ghost use Rattle.npm_semver.specs.Responses.{IsRefused, IsResponse, Responds, bare, json, line};
 ghost use Rattle.npm_semver.specs.Responses.{in_order, next_written, nothing_written, picked};
-ghost use Rattle.npm_semver.specs.Responses.{quoted, reads_input, tells_why, with_lines};
-ghost use Rattle.npm_semver.specs.Arguments.{Asked, IsAsked};
-ghost use Rattle.npm_semver.specs.Internal.Asked.{asked_of};
+ghost use Rattle.npm_semver.specs.Responses.{quoted};
+ghost use Rattle.npm_semver.specs.Internal.Asked.{asked_of, request_of};
 ghost use Rattle.npm_semver.specs.Internal.Written.{written};
 
 use crate::help::HELP;
@@ -34,63 +33,40 @@ pub struct Response {
 }
 
 /// Returns what the command writes for the arguments behind the program's name, and for the input,
-/// which it reads only if the arguments ask for it. Fails only if allocation fails.
+/// which counts only if the arguments ask for it. Fails only if allocation fails.
 pub fn run(alloc: Global, arguments: &[String], input: &str) -> Result<Response, AllocError>
     ensures { IfOk result (λ response.
         IsResponse (map string_bytes arguments.now) input.now (written response)) }
 {
-    match Request::of(alloc, arguments)? {
-        Request::Help => help(alloc),
-        Request::Versions(question) => respond(alloc, question, input),
-    }
+    let asked = Request::of(alloc, arguments)?;
+    let request = asked.with_lines(alloc, input)?;
+    respond(alloc, &request)
 }
 
-/// What arguments ask for beside what is printed.
-#[derive(Clone, Copy)]
-pub struct Needs {
-    /// Whether the lines of the input may be versions.
-    pub input: bool,
-    /// Whether it is told why texts are left out.
-    pub reasons: bool,
-}
-
-/// Returns what the arguments ask for beside what is printed. Fails only if allocation fails.
-pub fn needs_of(alloc: Global, arguments: &[String]) -> Result<Needs, AllocError>
-    ensures { IfOk result (λ needs. (asked : Option Asked)
-        × IsAsked (map string_bytes arguments.now) asked × (needs.input ≡ reads_input asked)
-        × (needs.reasons ≡ tells_why asked)) }
-{
-    match Request::of(alloc, arguments)? {
-        Request::Help => Ok(Needs {
-            input: false,
-            reasons: false,
-        }),
-        Request::Versions(question) => Ok(Needs {
-            input: question.reads_input,
-            reasons: question.is_why,
-        }),
-    }
-}
-
-// What is written for a question and an input.
-fn respond<'a>(
-    alloc: Global,
-    question: Question<'a>,
-    input: &'a str,
-) -> Result<Response, AllocError>
+/// Returns what the command writes for a request. Fails only if allocation fails.
+pub fn respond(alloc: Global, request: &Request<'_>) -> Result<Response, AllocError>
     ensures { IfOk result (λ response.
-        Responds (Some (with_lines input.now (asked_of question.entry))) (written response)) }
+        Responds (request_of request.now) (written response)) }
 {
-    let mut question = question;
-    question.add_lines(alloc, input)?;
-    match refusal_of(alloc, &question)? {
-        Some(refusal) => Ok(nothing(alloc, Some(refusal))),
-        None => answer(alloc, &question),
+    match request {
+        Request::Help => help(alloc),
+        Request::Versions(question) => answer(alloc, question),
     }
 }
 
-// The answer to a question that is not refused.
+// What is written for a question.
 fn answer(alloc: Global, question: &Question<'_>) -> Result<Response, AllocError>
+    ensures { IfOk result (λ response.
+        Responds (Some (asked_of question.now)) (written response)) }
+{
+    match refusal_of(alloc, question)? {
+        Some(refusal) => Ok(nothing(alloc, Some(refusal))),
+        None => print(alloc, question),
+    }
+}
+
+// What is written for a question that is not refused.
+fn print(alloc: Global, question: &Question<'_>) -> Result<Response, AllocError>
     requires { IsRefused (asked_of question.now) → ⊥ }
     ensures { IfOk result (λ response.
         Responds (Some (asked_of question.now)) (written response)) }

@@ -8,8 +8,6 @@ ghost use Rattle.npm_semver.specs.Internal.Said.{name_of, said};
 mod explanation;
 mod ranges;
 mod replies;
-#[cfg(test)]
-mod tests;
 mod versions;
 
 use crate::subcommands::explanation::explain;

@@ -11,22 +11,19 @@ use std::alloc::{AllocError, Global};
 /// Returns for each range text that is no range, and for each text that is no version or is not
 /// accepted, a line that says so, the text, and carets under the place. In texts every character
 /// that is not printable ASCII is escaped.
-pub fn reasons(alloc: Global, arguments: &[String], input: &str) -> Result<String, AllocError> {
+pub fn reasons(alloc: Global, request: &Request<'_>) -> Result<String, AllocError> {
     let mut told = String::new(alloc);
-    if let Request::Versions(question) = Request::of(alloc, arguments)? {
-        write_reasons(alloc, question, input, &mut told)?;
+    if let Request::Versions(question) = request {
+        write_reasons(alloc, question, &mut told)?;
     }
     Ok(told)
 }
 
-fn write_reasons<'a>(
+fn write_reasons(
     alloc: Global,
-    question: Question<'a>,
-    input: &'a str,
+    question: &Question<'_>,
     told: &mut String,
 ) -> Result<(), AllocError> {
-    let mut question = question;
-    question.add_lines(alloc, input)?;
     let ranges = read_ranges(alloc, question.reading, question.ranges.as_slice())?;
     for (&text, range) in question.ranges.iter().zip(ranges.iter()) {
         if range.is_none() {

@@ -1,8 +1,10 @@
 // The subcommand that draws a range for a person.
 
-ghost use Rattle.std.specs.Prelude.{◌∷◌, [], IfOk, codes, map, string_bytes};
+ghost use Rattle.std.specs.Prelude.{◌++◌, ◌∷◌, [], IfOk, OnOk, codes, map, string_bytes};
+ghost use Rattle.nodejs_semver.specs.Printing.Text.{range_text};
 ghost use Rattle.semver_core.specs.Failures.{NoValue, RefusedOnlyIf};
 ghost use Rattle.npm_semver.specs.Subcommands.{Answers};
+ghost use Rattle.npm_semver.specs.Internal.Appends.{Extends};
 ghost use Rattle.npm_semver.specs.Internal.Said.{said};
 
 use crate::subcommands::ranges::read_range;
@@ -48,30 +50,70 @@ fn drawn<'a>(alloc: Global, text: &'a str) -> Result<Reply<'a>, Failure<Trouble<
     Ok(answer(true, drawing(alloc, &range)?))
 }
 
-fn drawing(alloc: Global, range: &RangeRef<'_>) -> Result<String, AllocError> {
-    let intervals = range.intervals();
+// The normal form of a range on a line, and below it the drawing.
+fn drawing(alloc: Global, range: &RangeRef<'_>) -> Result<String, AllocError>
+    ensures { IfOk result (λ text. Extends (range_text range.now ++ 10 ∷ []) (string_bytes text)) }
+{
     let mut output = String::new(alloc);
     writeln!(output, "{range}")?;
+    write_drawing(alloc, range.intervals(), &mut output)?;
+    Ok(output)
+}
+
+fn write_drawing(
+    alloc: Global,
+    intervals: &[Interval<VersionRef<'_>>],
+    output: &mut String,
+) -> Result<(), AllocError>
+    ensures { OnOk result (Extends (string_bytes output.old) (string_bytes output.new)) }
+{
     let mut versions = bounds(alloc, intervals)?;
     versions.sort()?;
     versions.dedup();
-    for version in &versions {
-        write_row(intervals, version, &mut output)?;
+    write_rows(intervals, &versions, output)?;
+    write_ends(intervals, output)?;
+    output.push_str(legend(intervals, &versions))
+}
+
+fn write_rows(
+    intervals: &[Interval<VersionRef<'_>>],
+    versions: &[VersionRef<'_>],
+    output: &mut String,
+) -> Result<(), AllocError>
+    ensures { OnOk result (Extends (string_bytes output.old) (string_bytes output.new)) }
+{
+    for version in versions {
+        write_lines(intervals, version, output)?;
+        write_marks(intervals, version, output)?;
+        write_version(intervals, version, output)?;
     }
+    Ok(())
+}
+
+// Which intervals go on below the last version that bounds one.
+fn write_ends(intervals: &[Interval<VersionRef<'_>>], output: &mut String) -> Result<(), AllocError>
+    ensures { OnOk result (Extends (string_bytes output.old) (string_bytes output.new)) }
+{
     for interval in intervals {
-        output.push_str(if is_open(interval.upper()) {
-            "  ▼"
-        } else {
-            "   "
-        })?;
+        output.push_str(end(interval))?;
     }
-    let accepts_some = versions.iter().any(|version| is_noted(intervals, version));
-    output.push_str(if accepts_some {
+    Ok(())
+}
+
+fn end(interval: &Interval<VersionRef<'_>>) -> &'static str {
+    if is_open(interval.upper()) {
+        "  ▼"
+    } else {
+        "   "
+    }
+}
+
+fn legend(intervals: &[Interval<VersionRef<'_>>], versions: &[VersionRef<'_>]) -> &'static str {
+    if versions.iter().any(|version| is_noted(intervals, version)) {
         WITH_PRE_RELEASES
     } else {
         RELEASES_ALONE
-    })?;
-    Ok(output)
+    }
 }
 
 // The versions that bound the intervals.
@@ -97,29 +139,58 @@ fn push_bound<'a>(
     Ok(())
 }
 
-// The line of each interval below a version, and what it is at the version.
-fn write_row(
+// The line of each interval below a version.
+fn write_lines(
     intervals: &[Interval<VersionRef<'_>>],
     version: &VersionRef<'_>,
     output: &mut String,
-) -> Result<(), AllocError> {
+) -> Result<(), AllocError>
+    ensures { OnOk result (Extends (string_bytes output.old) (string_bytes output.new)) }
+{
     for interval in intervals {
-        output.push_str(if leads_to(interval, version) {
-            "  ┃"
-        } else {
-            "   "
-        })?;
+        output.push_str(line(interval, version))?;
     }
-    output.push('\n')?;
+    output.push('\n')
+}
+
+fn line(interval: &Interval<VersionRef<'_>>, version: &VersionRef<'_>) -> &'static str {
+    if leads_to(interval, version) {
+        "  ┃"
+    } else {
+        "   "
+    }
+}
+
+// What each interval is at a version.
+fn write_marks(
+    intervals: &[Interval<VersionRef<'_>>],
+    version: &VersionRef<'_>,
+    output: &mut String,
+) -> Result<(), AllocError>
+    ensures { OnOk result (Extends (string_bytes output.old) (string_bytes output.new)) }
+{
     for interval in intervals {
         output.push_str(mark(interval, version))?;
     }
-    write!(output, "  {version}")?;
-    if is_noted(intervals, version) {
-        let (major, minor, patch) = (version.major(), version.minor(), version.patch());
-        write!(output, "  and pre-releases of {major}.{minor}.{patch}")?;
+    Ok(())
+}
+
+// A version behind the intervals, and which pre-releases are accepted there.
+fn write_version(
+    intervals: &[Interval<VersionRef<'_>>],
+    version: &VersionRef<'_>,
+    output: &mut String,
+) -> Result<(), AllocError>
+    ensures { OnOk result (Extends (string_bytes output.old) (string_bytes output.new)) }
+{
+    if !is_noted(intervals, version) {
+        return writeln!(output, "  {version}");
     }
-    output.push('\n')
+    let (major, minor, patch) = (version.major(), version.minor(), version.patch());
+    writeln!(
+        output,
+        "  {version}  and pre-releases of {major}.{minor}.{patch}"
+    )
 }
 
 // What an interval is at a version that bounds some interval.

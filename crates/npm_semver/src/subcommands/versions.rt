@@ -113,7 +113,7 @@ fn sign<'a>(alloc: Global, order: Ordering) -> Result<Reply<'a>, AllocError>
 }
 
 // Whether two versions compare so.
-#[tactic(auto, using(crate::proofs::Answered::no_test, crate::proofs::Answered::no_test_of, crate::proofs::Answered::no_relation))]
+#[tactic(auto, using(crate::proofs::Answered::no_tests))]
 fn test<'a>(
     alloc: Global,
     one: &'a str,
@@ -147,7 +147,7 @@ pub fn diff<'a>(alloc: Global, words: &'a [String]) -> Result<Reply<'a>, Failure
     }
 }
 
-#[tactic(auto, using(crate::proofs::Answered::no_difference, crate::proofs::Answered::no_difference_of))]
+#[tactic(auto, using(crate::proofs::Answered::no_differences))]
 fn difference<'a>(
     alloc: Global,
     one: &'a str,

@@ -1,0 +1,21 @@
+-- A text is one version at most, and has one list of alternatives at most.
+use Rattle.std.proofs.Common.{◌≡◌, ◌∙◌, ℕ, Bool, List, IsUtf8, ap, sym}
+use Rattle.std.proofs.lemmas.Option.{same_Some}
+use Rattle.semver_core.specs.Values.Versions.{VersionValue}
+use Rattle.semver_core.proofs.Text.Trims.{middle_is_trim}
+use Rattle.nodejs_semver.specs.Internal.NpmReadings.{strict_version}
+use Rattle.nodejs_semver.specs.Npm.Ranges.{HasAlternativesIn}
+use Rattle.nodejs_semver.specs.Npm.Table.{Comparison}
+use Rattle.nodejs_semver.specs.Npm.VersionText.{IsVersionText}
+use Rattle.nodejs_semver.proofs.Strict.RangesLaw.{alternatives_are}
+use Rattle.nodejs_semver.proofs.Strict.VersionLaw.{strict-read-version}
+
+pub version_once : (limit : ℕ) (text : List ℕ) (v w : VersionValue) → IsVersionText limit text v → IsVersionText limit text w → v ≡ w
+version_once limit text v w h k =
+    let same : h.middle ≡ k.middle = middle_is_trim text h.middle h.trimmed ∙ sym (middle_is_trim text k.middle k.trimmed) in
+    same_Some v w (sym (strict-read-version limit h.middle v h.is) ∙ ap (λ (t : List ℕ). strict_version limit t) same ∙ strict-read-version limit k.middle w k.is)
+
+pub alternatives_once : (loose : Bool) (limit : ℕ) (include : Bool) (text : List ℕ) (a b : List (List Comparison)) → IsUtf8 text
+    → HasAlternativesIn loose limit include text a → HasAlternativesIn loose limit include text b → a ≡ b
+alternatives_once loose limit include text a b u h k =
+    same_Some a b (sym ((alternatives_are loose limit include text a u).0 h).0 ∙ ((alternatives_are loose limit include text b u).0 k).0)

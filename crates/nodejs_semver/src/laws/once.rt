@@ -1,0 +1,32 @@
+// A text has one reading.
+
+ghost use Rattle.nodejs_semver.specs.Npm.Ranges.{HasAlternativesIn};
+ghost use Rattle.nodejs_semver.specs.Npm.Table.{Comparison, no_build};
+ghost use Rattle.nodejs_semver.specs.Npm.VersionText.{IsVersionText};
+ghost use Rattle.semver_core.specs.Printing.Text.{version_text};
+ghost use Rattle.semver_core.specs.Text.Characters.{is_identifier_char};
+ghost use Rattle.semver_core.specs.Values.Versions.{VersionValue};
+ghost use Rattle.semver_core.specs.declared.TheConstants.{MAX_SAFE_INTEGER};
+ghost use Rattle.std.specs.List.{list_all};
+ghost use Rattle.std.specs.Prelude.{◌≡◌, ◌==◌, ◌||◌, ℕ, Bool, List, true};
+ghost use Rattle.std.specs.Str.{IsUtf8};
+
+/// In node-semver's strict reading a text is one version at most, and what this version prints
+/// without its build is a text that is the same version without its build, of letters, digits,
+/// hyphens, dots and plus signs. A range text has one list of alternatives at most, strictly and
+/// loosely.
+///
+/// A caller that needs these facts in a proof calls this function, which does nothing at run time.
+pub fn npm_reads_once()
+    ensures version { (limit : ℕ) (text : List ℕ) (v w : VersionValue)
+        → IsVersionText limit text v → IsVersionText limit text w → v ≡ w }
+    ensures printed { (text : List ℕ) (v : VersionValue) → IsUtf8 text
+        → IsVersionText MAX_SAFE_INTEGER text v
+        → IsVersionText MAX_SAFE_INTEGER (version_text (no_build v)) (no_build v)
+        × (list_all (λ c. is_identifier_char c || (c == 46 || c == 43))
+        (version_text (no_build v)) ≡ true) }
+    ensures alternatives { (loose : Bool) (limit : ℕ) (include : Bool) (text : List ℕ)
+        (a b : List (List Comparison)) → IsUtf8 text
+        → HasAlternativesIn loose limit include text a
+        → HasAlternativesIn loose limit include text b → a ≡ b }
+{}
