@@ -90,7 +90,17 @@ pub(crate) fn version_field(text: &str) -> (Result<VersionRef<'_>, SemverError>,
             return (Ok(version), rest_at(text, end));
         }
     }
-    whole_version_field(text)
+    rare_version_field(text)
+}
+
+// `whole_version_field`, inlined: room for what the call returns is made only where it is called.
+#[inline(always)]
+fn rare_version_field(text: &str) -> (Result<VersionRef<'_>, SemverError>, Option<&str>)
+    ensures read { ReadsVersion text.now result.0 result.1 }
+    ensures utf8 { IfSome result.1 (λ rest. IsUtf8 rest.now) }
+{
+    let (version, rest) = whole_version_field(text);
+    (version, rest)
 }
 
 // `version_field` where the end of the field is looked for first.

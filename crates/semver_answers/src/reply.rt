@@ -368,7 +368,10 @@ impl AboutRange {
     {
         match self {
             AboutRange::Print => printed(r, room),
-            AboutRange::Least => version_or_none(r.min_version(alloc), room),
+            AboutRange::Least => match r.least_start() {
+                Some(version) => printed(version, room),
+                None => version_or_none(r.min_version(alloc), room),
+            },
         }
     }
 }

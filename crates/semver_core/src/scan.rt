@@ -180,7 +180,23 @@ pub(crate) fn digits(bytes: &[u8], at: usize) -> Option<(u64, usize)>
     let Some(third) = digit(bytes, at + 2) else {
         return Some((value, at + 2));
     };
-    more_digits(bytes, at, at + 3, value * 10 + third)
+    long_number(bytes, at, at + 3, value * 10 + third)
+}
+
+// `more_digits`, inlined: room for what the call returns is made only where it is called.
+#[inline(always)]
+fn long_number(bytes: &[u8], at: usize, next: usize, front: u64) -> Option<(u64, usize)>
+    requires order { at < next }
+    requires inside { next ≤ length bytes.now }
+    requires small { front ≤ MAX_SAFE_INTEGER }
+    ensures found { result ≡ placed at
+        (digits_from MAX_SAFE_INTEGER front (next - at) (drop next bytes.now)) }
+    ensures place { IfSome result (λ found. found.1 ≤ length bytes.now) }
+{
+    let Some((number, end)) = more_digits(bytes, at, next, front) else {
+        return None;
+    };
+    Some((number, end))
 }
 
 // The number at a place of which these digits were read, up to another place.

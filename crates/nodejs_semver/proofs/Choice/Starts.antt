@@ -4,7 +4,7 @@ use Rattle.nodejs_semver.proofs.Common.{◌++◌, Option, Some, None, length, ge
 use Rattle.nodejs_semver.proofs.Common.{or_cases, list_any-append, first_so, tied_itself, list_any, Near, not_if, tells, Span}
 use Rattle.nodejs_semver.proofs.Common.{holds, is_past, lower_cut, precedence_total, precedence, VersionValue, accepts, lets_in}
 use Rattle.nodejs_semver.proofs.Common.{least_build, IfSome, span_of}
-use Rattle.std.proofs.Common.{is_le, is_lt, option_map}
+use Rattle.std.proofs.Common.{IfNone, is_le, is_lt, option_map}
 use Rattle.std.proofs.Math.Bool.{or-false}
 use Rattle.std.proofs.lemmas.Bool.{false≢true}
 use Rattle.std.proofs.lemmas.List.Folds.{find-append}
@@ -82,3 +82,7 @@ pub least_so_far : {A : Type 0} (g : A → VersionValue) (ss : List (Span Versio
     → IsLeastSoFar ss (option_map g best) → IfSome best (λ a. IsLeastBuilt ss (g a))
 least_so_far g ss None h = tt
 least_so_far g ss (Some a) h = h
+
+pub on_none : {A : Type 0} {P : Type 0} (found : Option A) → P → IfNone found P
+on_none None h = h
+on_none (Some a) h = tt

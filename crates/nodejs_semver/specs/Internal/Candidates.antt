@@ -130,6 +130,10 @@ has_build (After w) = not (is_empty w.build)
 abbrev pub StartsWith : Span VersionValue → VersionValue → Type 0
 StartsWith s v = (s.lower ≡ Before v) × ((holds precedence s v && lets_in s v) ≡ true)
 
+-- the span begins with no version
+abbrev pub BeginsOtherwise : Span VersionValue → Type 0
+BeginsOtherwise s = (v : VersionValue) → s.lower ≡ Before v → ⊥
+
 -- the least version that the spans accept, with its build
 abbrev pub IsLeastBuilt : List (Span VersionValue) → VersionValue → Type 0
 IsLeastBuilt ss v = IsLeastOf (λ w. accepts ss w false) (Some v) × (v.build ≡ least_build ss v)

@@ -18,14 +18,14 @@ ghost use Rattle.semver_core.specs.Internal.Sides.{Near, Far};
 ghost use Rattle.semver_core.specs.Cuts.{Beside};
 ghost use Rattle.semver_core.specs.Values.Versions.{VersionValue, is_release};
 ghost use Rattle.std.specs.List.{Any, flat_map, list_all};
-ghost use Rattle.semver_core.specs.declared.cuts.bound.Bound.TheVariants.{After};
-ghost use Rattle.std.specs.Prelude.{All, IfOk, IfSome, IsOk, OnErr, OnOk, [], false, fold, length};
-ghost use Rattle.std.specs.Prelude.{true};
+ghost use Rattle.semver_core.specs.declared.cuts.bound.Bound.TheVariants.{After, Before};
+ghost use Rattle.std.specs.Prelude.{All, IfNone, IfOk, IfSome, IsOk, OnErr, OnOk, Some, [], false};
+ghost use Rattle.std.specs.Prelude.{fold, length, true};
 ghost use Rattle.std.specs.Prelude.{◌&&◌, ◌-◌, ◌<◌, ◌≡◌, ◌^◌, ◌⊎◌};
 
 use crate::RangeOf;
 use crate::range::choice::all_accept;
-use crate::range::gate::{accepts, accepts_one};
+use crate::range::gate::accepts;
 use crate::range::neighbours::{
     bare, bare_release, first_pre, is_first_pre, owned, patch_after, pre_after, with_least_build,
 };
@@ -35,6 +35,31 @@ use std::alloc::{AllocError, Global};
 use std::slice::from_ref;
 
 impl<V: VersionPoint> RangeOf<V> {
+    /// The smallest version that the range accepts by `satisfies`, where it stands in the range: of
+    /// the versions with which the intervals begin it is the least, and has its build. Returns
+    /// `None` only where an interval begins with none, as that of `>1.2.3` and that of `<2.0.0`;
+    /// what such a range accepts, `min_version` says.
+    ///
+    /// ```rust
+    /// let range = Range::parse(alloc, "^2.1 || ^1.2.3")?;
+    /// assert_eq!(rt; range.least_start(), Some(&Version::from((1u64, 2, 3))));
+    /// ```
+    pub fn least_start(&self) -> Option<&V>
+        ensures least { IfSome result (λ v.
+            stated.IsLeastOf (λ w. accepts self.now w false) (Some (V.value v.now))) }
+        ensures build { IfSome result (λ v.
+            (V.value v.now).build ≡ stated.least_build self.now (V.value v.now)) }
+        ensures none { IfNone result
+            (Any (λ s. (v : VersionValue) → s.lower ≡ Before v → ⊥) self.now) }
+    {
+        let intervals = self.items();
+        let mut least = None;
+        for interval in intervals {
+            least = Some(lesser(least, start(interval)?));
+        }
+        least
+    }
+
     /// The smallest version that the range accepts by `satisfies`. Returns `None` exactly where it
     /// accepts no version at all, as `>1.0.0 <1.0.1-0`.
     ///
@@ -63,7 +88,7 @@ impl<V: VersionPoint> RangeOf<V> {
             ⊎ Any (λ s. (v : VersionValue) × (s.lower ≡ After v) × (is_release v ≡ false))
             self.now) }
     {
-        if let Some(version) = least_start(self.items()) {
+        if let Some(version) = self.least_start() {
             let found = owned(alloc, version)?;
             return Ok(Some(found));
         }
@@ -187,13 +212,15 @@ impl<V: VersionPoint> RangeOf<V> {
     }
 }
 
-// The version with which the interval begins, where the interval accepts it.
+// The version with which the interval begins, which the interval accepts.
 #[inline(always)]
 fn start<V: VersionPoint>(interval: &Interval<V>) -> Option<&V>
-    ensures { IfSome result (λ v. spec.StartsWith (span_of V.value interval.now) (V.value v.now)) }
+    ensures some { IfSome result (λ v.
+        spec.StartsWith (span_of V.value interval.now) (V.value v.now)) }
+    ensures none { IfNone result (spec.BeginsOtherwise (span_of V.value interval.now)) }
 {
     match interval.lower() {
-        Bound::Before(version) if accepts_one(interval, version, false) => Some(version),
+        Bound::Before(version) => Some(version),
         _ => None,
     }
 }
@@ -207,19 +234,6 @@ fn lesser<'v, V: Versioned>(best: Option<&'v V>, next: &'v V) -> &'v V
         Some(best) if best.cmp_precedence(next).is_le() => best,
         _ => next,
     }
-}
-
-// The least version that the intervals accept, where each of them begins with one that it accepts.
-// Most do, and then no version has to be made.
-fn least_start<V: VersionPoint>(intervals: &[Interval<V>]) -> Option<&V>
-    ensures { IfSome result (λ v.
-        spec.IsLeastBuilt (spans_of V.value intervals.now) (V.value v.now)) }
-{
-    let mut least = None;
-    for interval in intervals {
-        least = Some(lesser(least, start(interval)?));
-    }
-    least
 }
 
 // The search goes through the candidates for the least version that each range of `kept` accepts

@@ -58,6 +58,17 @@ fn split_list(text: &[u8]) -> (&[u8], &[u8])
     (text, b"")
 }
 
+// `split_list`, inlined: room for what the call returns is made only where it is called.
+#[inline(always)]
+fn some_list(text: &[u8]) -> (&[u8], &[u8])
+    requires { Spec.begins_identifier text.now ≡ true }
+    ensures listed { is_listed result.0.now ≡ true }
+    ensures value { pair_view result ≡ Spec.split_list text.now }
+{
+    let (list, rest) = split_list(text);
+    (list, rest)
+}
+
 // The identifiers at the front of what stands behind their mark, and what follows them. Where there
 // are none, the mark is not skipped either.
 #[inline(always)]
@@ -67,7 +78,7 @@ pub(crate) fn marked_list<'a>(text: &'a [u8], behind: &'a [u8]) -> (&'a [u8], &'
     ensures value { pair_view result ≡ Spec.marked_list text.now behind.now }
 {
     if begins_identifier(behind) {
-        split_list(behind)
+        some_list(behind)
     } else {
         (b"", text)
     }

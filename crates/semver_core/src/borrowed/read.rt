@@ -53,6 +53,19 @@ fn lists_at(text: &str, at: usize) -> (&[u8], &[u8], usize)
     (pre_release, build, end)
 }
 
+// `lists_at`, inlined: room for what the call returns is made only where it is called.
+#[inline(always)]
+fn some_lists(text: &str, at: usize) -> (&[u8], &[u8], usize)
+    requires { at ≤ length text.now }
+    ensures found { (listed result.0.now, listed result.1.now, result.2) ≡ lists_at text.now at }
+    ensures pre_release { is_listed result.0.now ≡ true }
+    ensures build { is_listed result.1.now ≡ true }
+    ensures place { result.2 ≤ length text.now }
+{
+    let (pre_release, build, end) = lists_at(text, at);
+    (pre_release, build, end)
+}
+
 impl<'a> VersionRef<'a> {
     /// Reads the version at the front of a text of at most `MAX_LENGTH` bytes, as `Version::parse`
     /// reads it. The version borrows the text: nothing is allocated, and the call fails exactly
@@ -80,7 +93,7 @@ impl<'a> VersionRef<'a> {
         if end == text.len() {
             return Ok(VersionRef::from_texts(major, minor, patch, b"", b""));
         }
-        let (pre_release, build, _) = lists_at(text, end);
+        let (pre_release, build, _) = some_lists(text, end);
         Ok(VersionRef::from_texts(major, minor, patch, pre_release, build))
     }
 
@@ -108,7 +121,7 @@ impl<'a> VersionRef<'a> {
         if !begins_lists(text, end) {
             return Some((VersionRef::from_texts(major, minor, patch, b"", b""), end));
         }
-        let (pre_release, build, end) = lists_at(text, end);
+        let (pre_release, build, end) = some_lists(text, end);
         let version = VersionRef::from_texts(major, minor, patch, pre_release, build);
         Some((version, end))
     }

@@ -1,4 +1,6 @@
 use Rattle.nodejs_semver.proofs.Common.{◌≡◌, [], ◌∷◌, false, None, Some, sym, subst, VersionValue, accepts, IsLeastOf, least_build}
+use Rattle.nodejs_semver.proofs.Algebra.FlatMaps.{on_err}
+use Rattle.nodejs_semver.proofs.Choice.Memory.{alone_allocates}
 use Rattle.nodejs_semver.proofs.Choice.LeastOf.{least_accepted, least_build_built, least_of_itself, least_of_one}
 use Rattle.nodejs_semver.specs.Internal.Candidates.{wanted}
 use Rattle.nodejs_semver.proofs.range.RangeOf.min_version.Goals as goal
@@ -17,12 +19,16 @@ returns-in_ok-built-in-Some-2-clause-least g c =
     let h : IsLeastOf (wanted (ks ∷ []) []) (Some v) =
     rw (c.from_ref.ensures.value, c.in-Some-2.is) at c.in_ok-least_among.ensures.least in
     subst (λ (x : VersionValue). IsLeastOf (λ w. accepts ks w false) (Some x))
-    (sym (rw c.items-in-Some-2.ensures.value at c.in_ok-built-in-Some-2.ensures))
+    (sym (rw c.items.ensures.value at c.in_ok-built-in-Some-2.ensures))
     (least_accepted ks v (least_build ks v) (least_of_one ks [] (Some v) h))
 
 pub returns-in_ok-built-in-Some-2-clause-build : goal.returns-in_ok-built-in-Some-2-clause-build
 returns-in_ok-built-in-Some-2-clause-build g c =
     let ks = c.args.self.now in
     subst (λ (x : VersionValue). x.build ≡ least_build ks x)
-    (sym (rw c.items-in-Some-2.ensures.value at c.in_ok-built-in-Some-2.ensures))
+    (sym (rw c.items.ensures.value at c.in_ok-built-in-Some-2.ensures))
     (sym (least_build_built ks c.in-Some-2.version _))
+
+pub returns-in_err-least_among-clause-memory : goal.returns-in_err-least_among-clause-memory
+returns-in_err-least_among-clause-memory g c =
+    on_err _ (alone_allocates c.args.self.now (rw c.from_ref.ensures.value at c.in_err-least_among.ensures.memory))

@@ -28,10 +28,10 @@ returns-then-not-begins_lists-clause-whole c =
 pub returns-clause-some : goal.returns-clause-some
 returns-clause-some c =
     let m = c.in_ok-major in
-    let l = c.lists_at-end in
+    let l = c.some_lists-end in
     front_found MAX_SAFE_INTEGER c.args.text.now m.major m.minor m.patch m.end _ _ l.result.2 _ m.ensures.found
     l.ensures.found c.from_texts-version.ensures l.ensures.place
 
 pub returns-clause-whole : goal.returns-clause-whole
 returns-clause-whole c =
-    front_whole MAX_SAFE_INTEGER c.args.text.now _ c.lists_at-end.result.2 (returns-clause-some c)
+    front_whole MAX_SAFE_INTEGER c.args.text.now _ c.some_lists-end.result.2 (returns-clause-some c)

@@ -1,7 +1,7 @@
 use Rattle.std.proofs.Common.{take}
 use Rattle.nodejs_semver.specs.Internal.Candidates.{IsLeastSoFar}
 use Rattle.nodejs_semver.specs.Internal.Shorthands.{spans_of, value_of}
-use Rattle.nodejs_semver.proofs.range.least.least_start.Given as goal
+use Rattle.nodejs_semver.proofs.range.RangeOf.least_start.Given as goal
 
 abbrev pub invariant-loop-interval : goal.invariant-loop-interval
 invariant-loop-interval g l =
