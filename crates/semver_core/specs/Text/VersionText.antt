@@ -24,7 +24,8 @@ begins_build (c ∷ rest) = if c == 43 then begins is_identifier_char rest else 
 -- a pre-release: `-` and identifiers, or identifiers that do not begin with `-`, or nothing where neither
 -- stands
 pub data IsPreRelease : List ℕ → List ℕ → List Id → Type 0 where
-  dashed : (x y : List ℕ) (list : List Id) → IsLongestIdentifiers x y list → IsPreRelease (codes "-" ++ x) y list
+  dashed : (x y : List ℕ) (list : List Id) → IsLongestIdentifiers x y list
+      → IsPreRelease (codes "-" ++ x) y list
   bare : (text rest : List ℕ) (list : List Id) → IsLongestIdentifiers text rest list
       → begins (λ c. c == 45) text ≡ false → IsPreRelease text rest list
   no_pre_release : (rest : List ℕ) → begins_pre_release rest ≡ false → IsPreRelease [] rest []
