@@ -1,12 +1,13 @@
 -- The parts of a text that std's clauses name.
 use Rattle.std.proofs.Common.{◌≡◌, ◌≢◌, ◌⊎◌, ◌==◌, ℕ, List, ◌∷◌, ◌++◌, false, length, drop, take, inl, inr, sym, ap, subst, arith}
 use Rattle.std.proofs.Common.{encode_utf8, ◌∙◌}
-use Rattle.std.specs.List.{Contains, position_or_len}
-use Rattle.std.specs.Prelude.{slice_index_or}
-use Rattle.std.specs.Str.Pattern.{FindsChar, SplitsAroundMatch}
+use Rattle.std.specs.List.{Contains, list_any, position_or_len}
+use Rattle.std.specs.Prelude.{◌<◌, codes, slice_index_or, true}
+use Rattle.std.specs.Str.Pattern.{FindsChar, HasCharAt, SplitsAroundMatch}
 use Rattle.std.proofs.lemmas.List.{take-append-drop}
 use Rattle.std.proofs.lemmas.List.Sums.{fails_before_first}
 use Rattle.std.proofs.lemmas.Str.{encode_ascii}
+use Rattle.lock_check.specs.Specifiers.{HoldsOneOf}
 
 -- the text behind an `@` in front
 pub at_then : (text rest behind : List ℕ) → text ≡ encode_utf8 64 ++ rest → behind ≡ rest → text ≡ 64 ∷ behind
@@ -35,3 +36,13 @@ no_sign text target same none has =
     fails_before_first (λ b. b == 64) target has.0 64 (omega (arith, whole, has.1)) in
     let two : (64 == 64) ≡ false = subst (λ x. (x == 64) ≡ false) has.2 fails in
     absurd (cc)
+
+-- a character of a text is one of these
+pub held : (text : List ℕ) (i j c : ℕ) → c < 128 → HasCharAt c text i j → list_any (λ d. d == c) (codes "@/:.") ≡ true → HoldsOneOf (codes "@/:.") text
+held text i j c small at is = (
+  take i text,
+  drop j text,
+  c,
+  sym (take-append-drop i text) ∙ ap (λ t. take i text ++ t) (at.split ∙ ap (λ t. t ++ drop j text) (encode_ascii c small)),
+  is,
+)

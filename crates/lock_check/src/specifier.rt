@@ -1,9 +1,7 @@
 // What a text in place of a range is to npm.
 
-ghost use Rattle.lock_check.specs.Specifiers.{IsAlias};
-
-// The ends of the names of packed packages.
-const PACKED: &[&str] = &[".tgz", ".tar.gz", ".tar"];
+ghost use Rattle.lock_check.specs.Specifiers.{HoldsOneOf, IsAlias};
+ghost use Rattle.std.specs.Prelude.{◌≡◌, IsTrue, codes, false};
 
 // Names that no package may have.
 const RESERVED: &[&str] = &["node_modules", "favicon.ico"];
@@ -89,8 +87,11 @@ fn at_path(path: &str) -> Specifier<'_> {
     }
 }
 
-fn is_packed(text: &str) -> bool {
-    PACKED.iter().any(|end| text.ends_with(*end))
+// Whether a text ends as the names of packed packages do.
+fn is_packed(text: &str) -> bool
+    ensures { IsTrue result → HoldsOneOf (codes "@/:.") text.now }
+{
+    text.ends_with(".tgz") || text.ends_with(".tar.gz") || text.ends_with(".tar")
 }
 
 // What stands behind `npm:`, a name and a range. A name may begin with an at sign of its own. A
@@ -123,11 +124,15 @@ fn is_aliased(text: &str, is_scoped: bool) -> bool {
 }
 
 // Whether a text is asked of a registry, and is neither a path nor an address.
-fn is_of_registry(text: &str) -> bool {
+fn is_of_registry(text: &str) -> bool
+    ensures { result ≡ false → HoldsOneOf (codes "@/:.") text.now }
+{
     is_plain(text) && !text.starts_with('.') && !is_packed(text)
 }
 
-fn is_plain(text: &str) -> bool {
+fn is_plain(text: &str) -> bool
+    ensures { result ≡ false → HoldsOneOf (codes "@/:.") text.now }
+{
     !text.contains('/') && !text.contains(':')
 }
 

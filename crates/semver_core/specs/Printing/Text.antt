@@ -1,5 +1,5 @@
 -- Statement. How identifiers and versions print, as UTF-8 bytes.
-use Rattle.std.specs.Prelude.{ℕ, List, [], ◌∷◌, ◌++◌, map}
+use Rattle.std.specs.Prelude.{ℕ, List, [], ◌∷◌, ◌++◌, codes, map}
 use Rattle.std.specs.Fmt.{decimal}
 use Rattle.std.specs.List.{join_with_byte}
 use Rattle.semver_core.specs.Text.Identifiers.{Id, Numeric, AlphaNumeric}
@@ -17,5 +17,5 @@ marked_list mark (x ∷ xs) = mark ++ join_with_byte 46 (map id_text (x ∷ xs))
 
 -- `M.m.p`, then `-` and the pre-release, then `+` and the build
 abbrev pub version_text : VersionValue → List ℕ
-version_text v = decimal v.major ++ 46 ∷ (decimal v.minor ++ 46 ∷ (decimal v.patch
-    ++ (marked_list (45 ∷ []) v.pre_release ++ marked_list (43 ∷ []) v.build)))
+version_text v = decimal v.major ++ (codes "." ++ (decimal v.minor ++ (codes "." ++ (decimal v.patch
+    ++ (marked_list (codes "-") v.pre_release ++ marked_list (codes "+") v.build)))))

@@ -1,5 +1,5 @@
 -- Statement: version texts. A text is divided as a whole; how a reader goes through it does not matter.
-use Rattle.std.specs.Prelude.{◌≡◌, ◌==◌, if◌then◌else◌, ℕ, Bool, false, List, [], ◌∷◌, ◌++◌}
+use Rattle.std.specs.Prelude.{◌≡◌, ◌==◌, if◌then◌else◌, ℕ, Bool, false, List, [], ◌∷◌, ◌++◌, codes}
 use Rattle.semver_core.specs.Text.Characters.{begins, is_identifier_char, IsBlank}
 use Rattle.semver_core.specs.Text.Identifiers.{Id, IsLongestIdentifiers}
 use Rattle.semver_core.specs.Text.Numbers.{IsNumber, IsWholeNumber}
@@ -8,8 +8,8 @@ use Rattle.semver_core.specs.Values.Versions.{VersionValue}
 -- `v`, `V` or nothing
 pub data IsMark : List ℕ → Type 0 where
   no_mark : IsMark []
-  small_mark : IsMark (118 ∷ [])
-  capital_mark : IsMark (86 ∷ [])
+  small_mark : IsMark (codes "v")
+  capital_mark : IsMark (codes "V")
 
 -- the text begins with identifiers, behind one `-` or without it
 abbrev pub begins_pre_release : List ℕ → Bool
@@ -24,14 +24,15 @@ begins_build (c ∷ rest) = if c == 43 then begins is_identifier_char rest else 
 -- a pre-release: `-` and identifiers, or identifiers that do not begin with `-`, or nothing where neither
 -- stands
 pub data IsPreRelease : List ℕ → List ℕ → List Id → Type 0 where
-  dashed : (x y : List ℕ) (list : List Id) → IsLongestIdentifiers x y list → IsPreRelease (45 ∷ x) y list
+  dashed : (x y : List ℕ) (list : List Id) → IsLongestIdentifiers x y list
+      → IsPreRelease (codes "-" ++ x) y list
   bare : (text rest : List ℕ) (list : List Id) → IsLongestIdentifiers text rest list
       → begins (λ c. c == 45) text ≡ false → IsPreRelease text rest list
   no_pre_release : (rest : List ℕ) → begins_pre_release rest ≡ false → IsPreRelease [] rest []
 
 -- build metadata: `+` and identifiers, or nothing where these do not stand
 pub data IsBuild : List ℕ → List ℕ → List Id → Type 0 where
-  plus : (x y : List ℕ) (list : List Id) → IsLongestIdentifiers x y list → IsBuild (43 ∷ x) y list
+  plus : (x y : List ℕ) (list : List Id) → IsLongestIdentifiers x y list → IsBuild (codes "+" ++ x) y list
   no_build : (rest : List ℕ) → begins_build rest ≡ false → IsBuild [] rest []
 
 -- the text has this version at its front; whatever follows it is ignored
@@ -44,8 +45,8 @@ pub record Reads (limit : ℕ) (text : List ℕ) (v : VersionValue) : Type 0 whe
   pub pre_release : List ℕ
   pub build : List ℕ
   pub rest : List ℕ
-  pub divided : text ≡ mark ++ (blank ++ (major ++ 46 ∷ (minor ++ 46 ∷ (patch
-      ++ (pre_release ++ (build ++ rest))))))
+  pub divided : text ≡ mark ++ (blank ++ (major ++ (codes "." ++ (minor ++ (codes "." ++ (patch
+      ++ (pre_release ++ (build ++ rest))))))))
   pub mark_is : IsMark mark
   pub blank_is : IsBlank blank
   pub major_is : IsNumber limit major v.major
