@@ -3,6 +3,7 @@
 use nodejs_semver::diagnosis::{
     Expected, IgnoredKind, IgnoredWord, VersionFlaw, ignored_words, version_flaw,
 };
+use nodejs_semver::npm::{Flaw, RangeFlaw, Wrong};
 use nodejs_semver::{
     Failure, Identifier, Range, Version, VersionDiff, VersionRef, newest_release, npm,
 };
@@ -374,5 +375,37 @@ fn ltr(rt: HostRuntime) -> Result<(), Fail> {
     let alloc = rt.alloc();
     let range = Range::parse(alloc, "^1.2")?;
     assert!(rt; npm::ltr(&Version::from((1u64, 1, 9)), &range, false));
+    Ok(())
+}
+
+#[test]
+fn npm_version_flaw(rt: HostRuntime) -> Result<(), Fail> {
+    assert_eq!(rt; npm::version_flaw(" v1.2.3-rc.1 "), None);
+    let wrong = Wrong::LeadingZero;
+    assert_eq!(rt;
+        npm::version_flaw("1.02.3"),
+        Some(Flaw::At { wrong, at: 3 })
+    );
+    let wrong = Wrong::MissingHyphen;
+    assert_eq!(rt;
+        npm::version_flaw("1.2.3beta"),
+        Some(Flaw::At { wrong, at: 5 })
+    );
+    Ok(())
+}
+
+#[test]
+fn npm_range_flaw(rt: HostRuntime) -> Result<(), Fail> {
+    assert_eq!(rt; npm::range_flaw("^1.2 || >=2.0.0 <3", false), None);
+    let flaw = npm::range_flaw("^1.2 || >=2.0.0, <3 || 4", false);
+    assert_eq!(rt; flaw, Some(RangeFlaw { start: 8, end: 19 }));
+    Ok(())
+}
+
+#[test]
+fn least_start(rt: HostRuntime) -> Result<(), Fail> {
+    let alloc = rt.alloc();
+    let range = Range::parse(alloc, "^2.1 || ^1.2.3")?;
+    assert_eq!(rt; range.least_start(), Some(&Version::from((1u64, 2, 3))));
     Ok(())
 }
