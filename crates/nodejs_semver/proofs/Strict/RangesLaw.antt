@@ -4,7 +4,7 @@ use Rattle.nodejs_semver.proofs.Common.{bind_some, list_all, map, same_Some, sub
 use Rattle.semver_core.proofs.Text.Trims.{middle_is_trim, trim_is_middle}
 use Rattle.nodejs_semver.specs.Internal.NpmWords.{alternative_of, alternatives_of, npm_alternatives}
 use Rattle.nodejs_semver.specs.Internal.Parts.{cut_bars}
-use Rattle.nodejs_semver.specs.Npm.RangeText.{AreAlternatives, next, none}
+use Rattle.nodejs_semver.specs.Npm.RangeText.{AreAlternatives}
 use Rattle.nodejs_semver.specs.Npm.Ranges.{HasAlternativesIn, is_valid}
 use Rattle.nodejs_semver.specs.Npm.Table.{Comparison}
 use Rattle.nodejs_semver.proofs.Dividing.BarsDivide.{bars_divide, bars_once}
@@ -15,24 +15,27 @@ use Rattle.nodejs_semver.proofs.Strict.AlternativeLaw.{alternative-found, altern
 each-read : (loose : Bool) (include : Bool) (pieces : List (List ℕ)) (ls : List (List Comparison)) → AllByRecursion IsUtf8 pieces
     → AreAlternatives loose include pieces ls → alternatives_of loose include (map trim pieces) ≡ Some ls
 unfolding alternatives_of
-each-read loose include pieces ls u none = refl
-each-read loose include pieces ls u (next piece text others cs rest is_trim is more) =
-    let v = trim-utf8 piece text u.0 is_trim in
+each-read loose include [] [] u h = refl
+each-read loose include [] (cs ∷ rest) u h = absurd h
+each-read loose include (piece ∷ others) [] u h = absurd h
+each-read loose include (piece ∷ others) (cs ∷ rest) u h =
+    let text = h.0.0 in
+    let v = trim-utf8 piece text u.0 h.0.1 in
     let read : alternative_of loose include (trim piece) ≡ Some cs =
-    ap (λ (t : List ℕ). alternative_of loose include t) (sym (middle_is_trim piece text is_trim)) ∙ alternative-read loose include text cs v is in
-    rw (read, each-read loose include others rest u.1 more) refl
+    ap (λ (t : List ℕ). alternative_of loose include t) (sym (middle_is_trim piece text h.0.1)) ∙ alternative-read loose include text cs v h.0.2 in
+    rw (read, each-read loose include others rest u.1 h.1) refl
 
 each-found : (loose : Bool) (include : Bool) (pieces : List (List ℕ)) (ls : List (List Comparison)) → AllByRecursion IsUtf8 pieces
     → alternatives_of loose include (map trim pieces) ≡ Some ls → AreAlternatives loose include pieces ls
 unfolding alternatives_of
-each-found loose include [] ls u h = subst (λ (l : List (List Comparison)). AreAlternatives loose include [] l) (same_Some _ _ h) none
+each-found loose include [] ls u h = subst (λ (l : List (List Comparison)). AreAlternatives loose include [] l) (same_Some _ _ h) tt
 each-found loose include (piece ∷ others) ls u h =
     let cs = bind_some (alternative_of loose include (trim piece)) _ ls h in
     let rest = bind_some (alternatives_of loose include (map trim others)) (λ rest. Some (cs.0 ∷ rest)) ls cs.2 in
     let is_trim = trim_is_middle piece u.0 in
     let is = alternative-found loose include (trim piece) cs.0 (trim-utf8 piece (trim piece) u.0 is_trim) cs.1 in
     let found : AreAlternatives loose include (piece ∷ others) (cs.0 ∷ rest.0) =
-    next piece (trim piece) others cs.0 rest.0 is_trim is (each-found loose include others rest.0 u.1 rest.1) in
+    ((trim piece, is_trim, is), each-found loose include others rest.0 u.1 rest.1) in
     subst (λ (l : List (List Comparison)). AreAlternatives loose include (piece ∷ others) l) (same_Some _ _ rest.2) found
 
 -- a text has the alternatives that are read, if they are valid

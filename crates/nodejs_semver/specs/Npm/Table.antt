@@ -1,6 +1,7 @@
 -- Statement: what the signs of node-semver's range texts mean: each is one comparator of whole versions, or
 -- two. `include` says whether pre-releases are included.
 use Rattle.std.specs.Prelude.{◌==◌, ◌+◌, ◌&&◌, not, ℕ, Bool, true, false, List, [], ◌∷◌, ◌++◌, if◌then◌else◌}
+use Rattle.std.specs.Prelude.{codes}
 use Rattle.semver_core.specs.Lists.{is_empty}
 use Rattle.semver_core.specs.Text.Identifiers.{Numeric}
 use Rattle.semver_core.specs.Values.Versions.{VersionValue, is_release, release_value}
@@ -98,7 +99,7 @@ abbrev pub hyphen_lower : Bool → Partial → List ℕ → List Comparison
 hyphen_lower include (whole v) text = if not (include && is_release v)
     then table include (compared at_least) (whole v) text
     else if is_empty v.build then from true (first (whole v)) ∷ []
-    else table include (compared at_least) (whole v) (text ++ 45 ∷ (48 ∷ []))
+    else table include (compared at_least) (whole v) (text ++ codes "-0")
 hyphen_lower include p text = table include (compared at_least) p text
 
 abbrev pub hyphen_upper : Bool → Partial → List ℕ → List Comparison
