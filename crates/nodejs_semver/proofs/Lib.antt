@@ -5,6 +5,7 @@ pub mod Common
 pub mod Diagnosing
 pub mod Dividing
 pub mod Everyday
+pub mod JsonTexts
 pub mod Stopping
 pub mod Strict
 pub mod NpmTexts

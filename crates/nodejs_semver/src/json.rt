@@ -1,6 +1,6 @@
 //! Versions and ranges as JSON: the string of the printed text.
 
-ghost use Rattle.std.specs.Prelude.{◌≡◌, IfOk, IsSomeAnd, IsTrue, is_some, string_bytes, []};
+ghost use Rattle.std.specs.Prelude.{◌≡◌, ◌<◌, IfOk, IsSomeAnd, IsTrue, is_some, length, string_bytes, []};
 ghost use Rattle.serde_json.specs.Data.{string};
 ghost use Rattle.serde_json.specs.Find.{as_str};
 ghost use Rattle.serde_json.specs.View.{view};
@@ -54,8 +54,10 @@ pub fn version_to_json_text(alloc: Global, version: &Version) -> Result<String, 
 /// the text is not one JSON value, the value is not a string, or the string has no version; the
 /// only other error is an allocation failure.
 pub fn version_from_json_text(alloc: Global, text: &str) -> Result<Version, Failure<SemverError>>
-    ensures { ReadsString (Parses MAX_SAFE_INTEGER)
+    ensures reads { ReadsString (Parses MAX_SAFE_INTEGER)
         (λ text. NoValue (Parses MAX_SAFE_INTEGER text)) (json_string text.now) result }
+    // Allocation fails only for a text that is not empty.
+    ensures memory { MemoryOnlyIf result (0 < length text.now) }
 {
     match Value::from_str(alloc, text) {
         Ok(value) => version_from_value(alloc, &value),
@@ -98,8 +100,10 @@ pub fn range_to_json_text(alloc: Global, range: &Range) -> Result<String, AllocE
 /// text is not one JSON value, the value is not a string, or the string has no range; the only
 /// other error is an allocation failure.
 pub fn range_from_json_text(alloc: Global, text: &str) -> Result<Range, Failure<SemverError>>
-    ensures { ReadsString (Means MAX_SAFE_INTEGER)
+    ensures reads { ReadsString (Means MAX_SAFE_INTEGER)
         (λ text. Means MAX_SAFE_INTEGER text []) (json_string text.now) result }
+    // Allocation fails only for a text that is not empty.
+    ensures memory { MemoryOnlyIf result (0 < length text.now) }
 {
     match Value::from_str(alloc, text) {
         Ok(value) => range_from_value(alloc, &value),

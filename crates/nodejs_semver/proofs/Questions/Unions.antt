@@ -19,7 +19,8 @@ use Rattle.nodejs_semver.specs.Internal.Questions.{is_said}
 use Rattle.nodejs_semver.specs.Internal.Sets.{AreTaking, same_triple}
 use Rattle.nodejs_semver.specs.Ranges.View.{IsRange, span_of}
 use Rattle.nodejs_semver.specs.Internal.Shorthands.{names, spans_of}
-use Rattle.nodejs_semver.specs.Npm.Unions.{lets_in_bounds, says_all, union}
+use Rattle.nodejs_semver.specs.Internal.Shorthands.{lets_in_bounds}
+use Rattle.nodejs_semver.specs.Npm.Unions.{says_all, union}
 use Rattle.nodejs_semver.specs.Ranges.Gate.{accepts, lets_in}
 
 -- what a span holds, one that covers it holds

@@ -1,5 +1,5 @@
 -- Statement: the version that node-semver's `coerce` finds in any text, without its pre-release.
-use Rattle.std.specs.Prelude.{◌≡◌, ◌<◌, ◌≤◌, ℕ, true, false, List, [], ◌∷◌, ◌++◌, length}
+use Rattle.std.specs.Prelude.{◌≡◌, ◌<◌, ◌≤◌, ℕ, true, false, List, [], ◌∷◌, ◌++◌, codes, length}
 use Rattle.std.specs.Char.{is_ascii_digit}
 use Rattle.std.specs.List.{list_all}
 use Rattle.semver_core.specs.Text.Characters.{begins, ends}
@@ -14,8 +14,9 @@ pub record IsRun (text : List ℕ) : Type 0 where
 -- one to three runs joined by dots
 pub data IsTuple : List ℕ → List (List ℕ) → Type 0 where
   one : (a : List ℕ) → IsRun a → IsTuple a (a ∷ [])
-  two : (a b : List ℕ) → IsRun a → IsRun b → IsTuple (a ++ 46 ∷ b) (a ∷ b ∷ [])
-  three : (a b c : List ℕ) → IsRun a → IsRun b → IsRun c → IsTuple (a ++ 46 ∷ (b ++ 46 ∷ c)) (a ∷ b ∷ c ∷ [])
+  two : (a b : List ℕ) → IsRun a → IsRun b → IsTuple (a ++ (codes "." ++ b)) (a ∷ b ∷ [])
+  three : (a b c : List ℕ) → IsRun a → IsRun b → IsRun c
+      → IsTuple (a ++ (codes "." ++ (b ++ (codes "." ++ c)))) (a ∷ b ∷ c ∷ [])
 
 -- between these a tuple stands in the text, and no further digit beside it
 pub record IsTupleIn (text front tuple back : List ℕ) : Type 0 where

@@ -1,5 +1,5 @@
 -- Statement: how node-semver's strict reading has numbers, pre-releases and build metadata written.
-use Rattle.std.specs.Prelude.{◌≡◌, ◌==◌, ◌&&◌, not, ℕ, Bool, true, false, List, [], ◌∷◌}
+use Rattle.std.specs.Prelude.{◌≡◌, ◌==◌, ◌&&◌, not, ℕ, Bool, true, false, List, [], ◌∷◌, ◌++◌, codes}
 use Rattle.std.specs.Char.{is_ascii_digit}
 use Rattle.std.specs.List.{list_all}
 use Rattle.semver_core.specs.Text.Identifiers.{Id, IsIdentifiers, pieces}
@@ -24,9 +24,9 @@ is_strict_identifier text = not (list_all is_ascii_digit text && has_leading_zer
 pub data IsStrictPreRelease : List ℕ → List Id → Type 0 where
   no_pre_release : IsStrictPreRelease [] []
   dashed : (text : List ℕ) (list : List Id) → IsIdentifiers text list
-      → list_all is_strict_identifier (pieces text) ≡ true → IsStrictPreRelease (45 ∷ text) list
+      → list_all is_strict_identifier (pieces text) ≡ true → IsStrictPreRelease (codes "-" ++ text) list
 
 -- build metadata: `+` and identifiers joined by dots, or nothing
 pub data IsStrictBuild : List ℕ → List Id → Type 0 where
   no_build : IsStrictBuild [] []
-  plus : (text : List ℕ) (list : List Id) → IsIdentifiers text list → IsStrictBuild (43 ∷ text) list
+  plus : (text : List ℕ) (list : List Id) → IsIdentifiers text list → IsStrictBuild (codes "+" ++ text) list

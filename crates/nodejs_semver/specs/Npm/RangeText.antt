@@ -9,7 +9,7 @@
 use Rattle.std.specs.Prelude.{◌≡◌, ◌⊎◌, ◌==◌, ◌<◌, ◌≤◌, ◌+◌, ◌&&◌, ◌||◌, not, nat_le, nat_lt, ℕ, Bool, true}
 use Rattle.std.specs.Prelude.{false}
 use Rattle.std.specs.Prelude.{List, [], ◌∷◌, ◌++◌, length, drop, Option, Some, None, encode_utf8_all}
-use Rattle.std.specs.Prelude.{if◌then◌else◌}
+use Rattle.std.specs.Prelude.{codes, if◌then◌else◌}
 use Rattle.std.specs.Char.{is_ascii_digit}
 use Rattle.std.specs.List.{list_all, list_any, prefix_len}
 use Rattle.semver_core.specs.Lists.{is_empty}
@@ -59,7 +59,7 @@ begins_letter text = begins (λ b. nat_le 65 b && nat_le b 90 || nat_le 97 b && 
 pub data IsPreRelease (loose : Bool) : List ℕ → List Id → Type 0 where
   no_pre_release : IsPreRelease loose [] []
   dashed : (text : List ℕ) (list : List Id) → IsIdentifiers text list → are_spelled loose text ≡ true
-      → IsPreRelease loose (45 ∷ text) list
+      → IsPreRelease loose (codes "-" ++ text) list
   bare : (text : List ℕ) (list : List Id) → loose ≡ true → begins_letter text ≡ true → IsIdentifiers text list
       → are_spelled loose text ≡ true → IsPreRelease loose text list
 
@@ -79,23 +79,24 @@ partial_of None b c pre build = wildcard
 pub data IsPartial (loose : Bool) : List ℕ → Partial → Type 0 where
   one : (x : List ℕ) (a : Option ℕ) → IsPlace loose x a → IsPartial loose x (partial_of a None None [] [])
   two : (x y : List ℕ) (a b : Option ℕ) → IsPlace loose x a → IsPlace loose y b
-      → IsPartial loose (x ++ 46 ∷ y) (partial_of a b None [] [])
+      → IsPartial loose (x ++ (codes "." ++ y)) (partial_of a b None [] [])
   three : (x y z pre build : List ℕ) (a b c : Option ℕ) (ids builds : List Id) → IsPlace loose x a
       → IsPlace loose y b → IsPlace loose z c → IsPreRelease loose pre ids
       → list_all is_short_identifier (pieces (undashed pre)) ≡ true → IsStrictBuild build builds
       → list_all is_short_build (pieces (drop 1 build)) ≡ true
-      → IsPartial loose (x ++ 46 ∷ (y ++ 46 ∷ (z ++ (pre ++ build)))) (partial_of a b c ids builds)
+      → IsPartial loose (x ++ (codes "." ++ (y ++ (codes "." ++ (z ++ (pre ++ build))))))
+      (partial_of a b c ids builds)
 
 -- ---- words
 
 abbrev pub spelling : Sign → List ℕ
-spelling (compared at_least) = 62 ∷ 61 ∷ []
-spelling (compared above) = 62 ∷ []
-spelling (compared equal) = 61 ∷ []
-spelling (compared at_most) = 60 ∷ 61 ∷ []
-spelling (compared below) = 60 ∷ []
-spelling caret = 94 ∷ []
-spelling tilde = 126 ∷ []
+spelling (compared at_least) = codes ">="
+spelling (compared above) = codes ">"
+spelling (compared equal) = codes "="
+spelling (compared at_most) = codes "<="
+spelling (compared below) = codes "<"
+spelling caret = codes "^"
+spelling tilde = codes "~"
 
 -- the sign of a word, with the whitespace behind it. A `=` behind `>` or `<` belongs to the sign,
 -- whitespace between them or not; `^` may have a `=` behind it, `~` one of `>`, `>=` and `=`, and `~>` one
@@ -103,14 +104,16 @@ spelling tilde = 126 ∷ []
 pub data IsSignText : List ℕ → Sign → Type 0 where
   no_sign : IsSignText [] (compared equal)
   sign : (s : Sign) (x : List ℕ) → IsBlank x → IsSignText (spelling s ++ x) s
-  late_above : (x : List ℕ) → IsBlank x → IsSignText (62 ∷ (x ++ 61 ∷ [])) (compared at_least)
-  late_below : (x : List ℕ) → IsBlank x → IsSignText (60 ∷ (x ++ 61 ∷ [])) (compared at_most)
-  caret_equal : (x y : List ℕ) → IsBlank x → IsBlank y → IsSignText (94 ∷ (x ++ 61 ∷ y)) caret
+  late_above : (x : List ℕ) → IsBlank x → IsSignText (codes ">" ++ (x ++ codes "=")) (compared at_least)
+  late_below : (x : List ℕ) → IsBlank x → IsSignText (codes "<" ++ (x ++ codes "=")) (compared at_most)
+  caret_equal : (x y : List ℕ) → IsBlank x → IsBlank y
+      → IsSignText (codes "^" ++ (x ++ (codes "=" ++ y))) caret
   tilde_sign : (c : Comparator) (x y : List ℕ) → IsBlank x → IsBlank y
       → (c ≡ above) ⊎ (c ≡ at_least) ⊎ (c ≡ equal)
-      → IsSignText (126 ∷ (x ++ (spelling (compared c) ++ y))) tilde
+      → IsSignText (codes "~" ++ (x ++ (spelling (compared c) ++ y))) tilde
   tilde_twice : (c : Comparator) (x y : List ℕ) → IsBlank x → 0 < length x → IsBlank y
-      → (c ≡ above) ⊎ (c ≡ at_least) → IsSignText (126 ∷ (62 ∷ (x ++ (spelling (compared c) ++ y)))) tilde
+      → (c ≡ above) ⊎ (c ≡ at_least)
+      → IsSignText (codes "~>" ++ (x ++ (spelling (compared c) ++ y))) tilde
 
 -- `v` or `=`
 abbrev pub is_mark : ℕ → Bool
@@ -176,7 +179,7 @@ pub data IsAlternative (loose include : Bool) : List ℕ → List Comparison →
   hyphen : (a x blank gap b y : List ℕ) (p q : Partial) → AreEndMarks loose (is_free_lower p) a
       → IsPartial loose x p → IsBlank blank → 0 < length blank → IsBlank gap → 0 < length gap
       → AreEndMarks loose (is_free_upper include q) b → IsPartial loose y q
-      → IsAlternative loose include (a ++ (x ++ (blank ++ 45 ∷ (gap ++ (b ++ y)))))
+      → IsAlternative loose include (a ++ (x ++ (blank ++ (codes "-" ++ (gap ++ (b ++ y))))))
       (hyphen_lower include p (a ++ x) ++ hyphen_upper include q (b ++ y))
   words : (x : List ℕ) (cs : List Comparison) → AreWords loose include x cs → stands loose include x cs ≡ true
       → IsAlternative loose include x cs

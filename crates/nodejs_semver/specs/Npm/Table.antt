@@ -104,7 +104,7 @@ abbrev pub hyphen_lower : Bool → Partial → List ℕ → List Comparison
 hyphen_lower include (whole v) text = if not (include && is_release v)
     then table include (compared at_least) (whole v) text
     else if is_empty v.build then from true (first (whole v)) ∷ []
-    else table include (compared at_least) (whole v) (text ++ 45 ∷ (48 ∷ []))
+    else table include (compared at_least) (whole v) (text ++ codes "-0")
 hyphen_lower include p text = table include (compared at_least) p text
 
 abbrev pub hyphen_upper : Bool → Partial → List ℕ → List Comparison

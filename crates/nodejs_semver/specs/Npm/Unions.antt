@@ -6,13 +6,10 @@ use Rattle.semver_core.specs.Values.Order.{precedence}
 use Rattle.semver_core.specs.Values.Versions.{VersionValue}
 use Rattle.nodejs_semver.specs.Ranges.Gate.{lets_in}
 
--- s lets in the versions of t's bounds, and so every pre-release that t lets in
-abbrev pub lets_in_bounds : Span VersionValue → Span VersionValue → Bool
-lets_in_bounds s t = not (has_bound (λ w. not (lets_in s w)) t)
-
--- t accepts nothing that s does not accept
+-- t accepts nothing that s does not accept: s lets in the versions of t's bounds, and so every pre-release
+-- that t lets in
 abbrev pub says_all : Span VersionValue → Span VersionValue → Bool
-says_all s t = covers precedence s t && lets_in_bounds s t
+says_all s t = covers precedence s t && not (has_bound (λ w. not (lets_in s w)) t)
 
 -- the spans of the first list, and then those of the second of which no span of the first says all
 abbrev pub union : List (Span VersionValue) → List (Span VersionValue) → List (Span VersionValue)

@@ -1,6 +1,6 @@
 -- Statement: the version texts of node-semver's strict reading, its default, and of its loose one.
 use Rattle.std.specs.Prelude.{◌≡◌, ◌⊎◌, ◌==◌, ◌≤◌, ◌||◌, not, ℕ, Bool, true, false, List, [], ◌∷◌, ◌++◌}
-use Rattle.std.specs.Prelude.{drop, encode_utf8_all, length}
+use Rattle.std.specs.Prelude.{codes, drop, encode_utf8_all, length}
 use Rattle.std.specs.Char.{is_ascii_digit}
 use Rattle.std.specs.List.{list_all, prefix_len}
 use Rattle.std.specs.Str.{chars}
@@ -21,18 +21,14 @@ pub record IsWritten (Marks : List ℕ → Type 0) (Number : List ℕ → ℕ �
   pub patch : List ℕ
   pub pre_release : List ℕ
   pub build : List ℕ
-  pub divided : text ≡ mark ++ (major ++ 46 ∷ (minor ++ 46 ∷ (patch ++ (pre_release ++ build))))
+  pub divided : text ≡ mark ++ (major ++ (codes "." ++ (minor ++ (codes "." ++ (patch
+      ++ (pre_release ++ build))))))
   pub mark_is : Marks mark
   pub major_is : Number major v.major
   pub minor_is : Number minor v.minor
   pub patch_is : Number patch v.patch
   pub pre_release_is : PreRelease pre_release v.pre_release
   pub build_is : IsStrictBuild build v.build
-
--- strict: one `v` or none, no leading zeros, `-` before the pre-release
-abbrev pub IsStrictVersion : ℕ → List ℕ → VersionValue → Type 0
-IsStrictVersion limit =
-    IsWritten (λ mark. (mark ≡ []) ⊎ (mark ≡ 118 ∷ [])) (IsStrictNumber limit) IsStrictPreRelease
 
 -- any of `v`, `=` and whitespace
 pub record AreMarks (text : List ℕ) : Type 0 where
@@ -51,7 +47,8 @@ begins_bare (c ∷ d ∷ rest) = d == 46 || not (c == 45 || is_ascii_digit c)
 -- identifiers with `-` or nothing before them, or nothing
 pub data IsLoosePreRelease : List ℕ → List Id → Type 0 where
   no_pre_release : IsLoosePreRelease [] []
-  dashed : (text : List ℕ) (list : List Id) → IsIdentifiers text list → IsLoosePreRelease (45 ∷ text) list
+  dashed : (text : List ℕ) (list : List Id) → IsIdentifiers text list
+      → IsLoosePreRelease (codes "-" ++ text) list
   bare : (text : List ℕ) (list : List Id) → IsIdentifiers text list → begins_bare text ≡ true
       → IsLoosePreRelease text list
 
@@ -67,8 +64,10 @@ pub record IsWhole (Is : List ℕ → VersionValue → Type 0) (text : List ℕ)
   pub trimmed : IsTrim text middle
   pub is : Is middle v
 
+-- strict: one `v` or none, no leading zeros, `-` before the pre-release
 abbrev pub IsVersionText : ℕ → List ℕ → VersionValue → Type 0
-IsVersionText limit = IsWhole (IsStrictVersion limit)
+IsVersionText limit =
+    IsWhole (IsWritten (λ mark. (mark ≡ []) ⊎ (mark ≡ codes "v")) (IsStrictNumber limit) IsStrictPreRelease)
 
 abbrev pub IsLooseVersionText : ℕ → List ℕ → VersionValue → Type 0
 IsLooseVersionText limit = IsWhole (IsLooseVersion limit)

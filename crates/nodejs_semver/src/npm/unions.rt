@@ -2,7 +2,8 @@
 
 ghost use Rattle.nodejs_semver.specs.Internal.Questions.{is_said};
 ghost use Rattle.nodejs_semver.specs.Internal.Sets.{AreTaking};
-ghost use Rattle.nodejs_semver.specs.Npm.Unions.{lets_in_bounds, says_all, union};
+ghost use Rattle.nodejs_semver.specs.Internal.Shorthands.{lets_in_bounds};
+ghost use Rattle.nodejs_semver.specs.Npm.Unions.{says_all, union};
 ghost use Rattle.nodejs_semver.specs.Ranges.Gate.{accepts, lets_in};
 ghost use Rattle.nodejs_semver.specs.Ranges.View.{TakesMemory, bound_of, span_of};
 ghost use Rattle.semver_core.specs.Cuts.{covers, has_bound, passes};

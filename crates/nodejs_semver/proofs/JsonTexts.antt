@@ -1,0 +1,19 @@
+-- What the reader of JSON leaves to be said of memory.
+use Rattle.std.proofs.Common.{◌≡◌, ◌<◌, ℕ, List, [], ◌∷◌, length, Some, Result, Ok, Err, arith}
+use Rattle.serde_json.proofs.OnLiterals.{serde_json_on_literals}
+use Rattle.serde_json.specs.Data.{Data}
+use Rattle.serde_json.specs.Read.{read}
+use Rattle.semver_core.specs.Failures.{MemoryOnlyIf}
+use Rattle.semver_core.specs.declared.error.Failure.{Failure}
+use Rattle.semver_core.specs.declared.error.Failure.TheVariants.{Memory, Refused}
+
+-- a text that has a value is not empty
+pub read-some : (text : List ℕ) (d : Data) → read text ≡ Some d → 0 < length text
+unfolding serde_json_on_literals
+read-some [] d h = absurd (cc)
+read-some (b ∷ rest) d h = omega arith
+
+pub memory-if : {A E : Type 0} (r : Result A (Failure E)) (P : Type 0) → P → MemoryOnlyIf r P
+memory-if (Ok v) P p = tt
+memory-if (Err (Refused e)) P p = tt
+memory-if (Err (Memory e)) P p = p
