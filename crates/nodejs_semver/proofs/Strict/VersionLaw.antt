@@ -19,8 +19,7 @@ use Rattle.nodejs_semver.specs.Internal.NpmReadings.{dashed_front, dotted_number
 use Rattle.nodejs_semver.specs.Internal.NpmReadings.{strict_number, strict_version}
 use Rattle.nodejs_semver.specs.Npm.Grammar.{IsStrictBuild, IsStrictNumber, IsStrictPreRelease}
 use Rattle.nodejs_semver.specs.Npm.RangeText.{is_mark}
-use Rattle.nodejs_semver.specs.Internal.NpmReadings.{IsStrictVersion}
-use Rattle.nodejs_semver.specs.Npm.VersionText.{IsClean, IsVersionText}
+use Rattle.nodejs_semver.specs.Npm.VersionText.{IsClean, IsStrictVersion, IsVersionText}
 use Rattle.nodejs_semver.proofs.Strict.Numbers.{dotted-found, dotted-read, strict-found, strict-read}
 use Rattle.nodejs_semver.proofs.Strict.Qualifiers.{build-found, build-taken, dashed-found, dashed-taken, ends-nil, quiet-behind}
 

@@ -1,5 +1,5 @@
 -- For proofs and private contracts. What node-semver's strict reading finds in a text, as functions.
-use Rattle.std.specs.Prelude.{◌≡◌, ◌⊎◌, codes, ◌==◌, ◌&&◌, ℕ, Bool, false, List, [], ◌∷◌, Option, Some, None, if◌then◌else◌}
+use Rattle.std.specs.Prelude.{◌==◌, ◌&&◌, ℕ, Bool, false, List, [], ◌∷◌, Option, Some, None, if◌then◌else◌}
 use Rattle.std.specs.Char.{is_ascii_digit}
 use Rattle.std.specs.List.{list_all}
 use Rattle.semver_core.specs.Internal.Reading.{◌>>?◌}
@@ -7,8 +7,7 @@ use Rattle.semver_core.specs.Lists.{is_empty}
 use Rattle.semver_core.specs.Text.Identifiers.{listed, pieces}
 use Rattle.semver_core.specs.Values.Versions.{VersionValue}
 use Rattle.nodejs_semver.specs.Internal.Fronts.{Front, after_byte, begins_byte, build_front, drop_v, number_front, pre_release_front}
-use Rattle.nodejs_semver.specs.Npm.Grammar.{IsStrictNumber, IsStrictPreRelease, is_strict_identifier}
-use Rattle.nodejs_semver.specs.Npm.VersionText.{IsWritten}
+use Rattle.nodejs_semver.specs.Npm.Grammar.{is_strict_identifier}
 
 -- the text begins with `0` and a digit
 abbrev pub begins_padded : List ℕ → Bool
@@ -45,8 +44,3 @@ qualified_version major minor patch text =
 unfoldable pub strict_version : ℕ → List ℕ → Option VersionValue
 strict_version limit text = strict_number limit (drop_v text) >>? λ a. dotted_number limit a.1 >>? λ b.
     dotted_number limit b.1 >>? λ c. qualified_version a.0 b.0 c.0 c.1
-
--- the whole text is this version, read strictly
-abbrev pub IsStrictVersion : ℕ → List ℕ → VersionValue → Type 0
-IsStrictVersion limit =
-    IsWritten (λ mark. (mark ≡ []) ⊎ (mark ≡ codes "v")) (IsStrictNumber limit) IsStrictPreRelease

@@ -30,6 +30,11 @@ pub record IsWritten (Marks : List ℕ → Type 0) (Number : List ℕ → ℕ �
   pub pre_release_is : PreRelease pre_release v.pre_release
   pub build_is : IsStrictBuild build v.build
 
+-- strict: one `v` or none, no leading zeros, `-` before the pre-release
+abbrev pub IsStrictVersion : ℕ → List ℕ → VersionValue → Type 0
+IsStrictVersion limit =
+    IsWritten (λ mark. (mark ≡ []) ⊎ (mark ≡ codes "v")) (IsStrictNumber limit) IsStrictPreRelease
+
 -- any of `v`, `=` and whitespace
 pub record AreMarks (text : List ℕ) : Type 0 where
   pub characters : List ℕ
@@ -64,10 +69,8 @@ pub record IsWhole (Is : List ℕ → VersionValue → Type 0) (text : List ℕ)
   pub trimmed : IsTrim text middle
   pub is : Is middle v
 
--- strict: one `v` or none, no leading zeros, `-` before the pre-release
 abbrev pub IsVersionText : ℕ → List ℕ → VersionValue → Type 0
-IsVersionText limit =
-    IsWhole (IsWritten (λ mark. (mark ≡ []) ⊎ (mark ≡ codes "v")) (IsStrictNumber limit) IsStrictPreRelease)
+IsVersionText limit = IsWhole (IsStrictVersion limit)
 
 abbrev pub IsLooseVersionText : ℕ → List ℕ → VersionValue → Type 0
 IsLooseVersionText limit = IsWhole (IsLooseVersion limit)
