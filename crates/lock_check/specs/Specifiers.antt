@@ -10,7 +10,8 @@ HoldsOneOf marks text = (front back : List ℕ) × (b : ℕ) × (text ≡ front 
     × (list_any (λ c. c == b) marks ≡ true)
 
 -- what stands behind `npm:` is a name, and behind an `@` the range; without one any version will do, or those
--- of the range that the text is, if it has no `@`. npm rejects other texts, and none without such a character.
+-- of the range that the text is, if it has no `@`. npm rejects other texts, each of which has one of four
+-- characters.
 abbrev pub IsAlias : List ℕ → Specifier → Type 0
 IsAlias target (Range range) = ((name : List ℕ) × (target ≡ name ++ 64 ∷ range.now)) ⊎ (range.now ≡ codes "*")
     ⊎ ((range.now ≡ target) × ¬ (Contains target 64))

@@ -1,6 +1,6 @@
 -- Statement: what is wrong with a version text of node-semver's strict reading, and at which byte.
-use Rattle.std.specs.Prelude.{◌≡◌, ◌==◌, ◌<◌, ◌≤◌, ◌||◌, ◌↔◌, ℕ, Bool, true, List, [], ◌∷◌, ◌++◌, encode_utf8_all}
-use Rattle.std.specs.Prelude.{if◌then◌else◌, length}
+use Rattle.std.specs.Prelude.{◌≡◌, ◌==◌, ◌<◌, ◌≤◌, ◌||◌, ◌↔◌, ℕ, Bool, true, List, [], ◌∷◌, ◌++◌}
+use Rattle.std.specs.Prelude.{encode_utf8_all, if◌then◌else◌, length}
 use Rattle.std.specs.Char.{is_ascii_digit}
 use Rattle.std.specs.Int.{is_in_range}
 use Rattle.std.specs.Str.{chars}
@@ -11,7 +11,8 @@ use Rattle.nodejs_semver.specs.Npm.VersionText.{IsStrictVersion}
 use Rattle.nodejs_semver.specs.declared.npm.flaws.Flaw.{Flaw}
 use Rattle.nodejs_semver.specs.declared.npm.flaws.Flaw.TheVariants.{At, TooLong}
 use Rattle.nodejs_semver.specs.declared.npm.flaws.Wrong.{Wrong}
-use Rattle.nodejs_semver.specs.declared.npm.flaws.Wrong.TheVariants.{Behind, Digit, Dot, Identifier, LeadingZero, Mark}
+use Rattle.nodejs_semver.specs.declared.npm.flaws.Wrong.TheVariants.{Behind, Digit, Dot, Identifier}
+use Rattle.nodejs_semver.specs.declared.npm.flaws.Wrong.TheVariants.{LeadingZero, Mark}
 use Rattle.nodejs_semver.specs.declared.npm.flaws.Wrong.TheVariants.{MissingHyphen, NumberTooGreat}
 
 -- the text is a version, with whitespace around it, whatever its length
@@ -55,7 +56,8 @@ is_any_mark c = c == 118 || c == 86 || c == 61
 abbrev pub wrong_of : (ℕ → Bool) → (ℕ → Bool) → List ℕ → List ℕ → Wrong
 wrong_of may great before behind =
     if begins great behind then NumberTooGreat
-    else if may 97 then (if may 46 then Behind else if ends is_ascii_digit before then LeadingZero else Identifier)
+    else if may 97 then (if may 46 then Behind
+    else if ends is_ascii_digit before then LeadingZero else Identifier)
     else if may 46 then (if begins is_ascii_digit behind then LeadingZero else Dot)
     else if may 45 then (if begins is_ascii_digit behind then LeadingZero
     else if begins is_letter behind then MissingHyphen else Behind)

@@ -5,7 +5,8 @@ use Rattle.nodejs_semver.specs.declared.npm.flaws.Flaw.{Flaw}
 use Rattle.nodejs_semver.specs.declared.npm.flaws.Flaw.TheVariants.{At, TooLong}
 use Rattle.nodejs_semver.specs.declared.npm.range_flaws.RangeFlaw.{RangeFlaw}
 use Rattle.nodejs_semver.specs.declared.npm.flaws.Wrong.{Wrong}
-use Rattle.nodejs_semver.specs.declared.npm.flaws.Wrong.TheVariants.{Behind, Digit, Dot, Identifier, LeadingZero, Mark}
+use Rattle.nodejs_semver.specs.declared.npm.flaws.Wrong.TheVariants.{Behind, Digit, Dot, Identifier}
+use Rattle.nodejs_semver.specs.declared.npm.flaws.Wrong.TheVariants.{LeadingZero, Mark}
 use Rattle.nodejs_semver.specs.declared.npm.flaws.Wrong.TheVariants.{MissingHyphen, NumberTooGreat}
 
 abbrev pub wrong_text : Wrong → List ℕ

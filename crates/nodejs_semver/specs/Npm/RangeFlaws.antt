@@ -1,4 +1,4 @@
--- Statement: which part of a range text node-semver's strict reading rejects first, and at which bytes it stands.
+-- Statement: which part of a range text node-semver's strict reading rejects first, and where it stands.
 use Rattle.std.specs.Prelude.{◌≡◌, ◌+◌, ℕ, Bool, true, false, List, [], ◌∷◌, ◌++◌, length}
 use Rattle.std.specs.List.{AllByRecursion, list_all}
 use Rattle.semver_core.specs.Failures.{NoValue}
@@ -10,7 +10,8 @@ use Rattle.nodejs_semver.specs.Text.Bars.{IsCutAtBars}
 use Rattle.nodejs_semver.specs.declared.npm.range_flaws.RangeFlaw.{RangeFlaw}
 
 -- the text, without the whitespace around it, is an alternative of these comparators, and they are valid
-pub record IsAlternativeText (limit : ℕ) (include : Bool) (text : List ℕ) (cs : List Comparison) : Type 0 where
+pub record IsAlternativeText (limit : ℕ) (include : Bool) (text : List ℕ) (cs : List Comparison)
+    : Type 0 where
   pub middle : List ℕ
   pub trimmed : IsTrim text middle
   pub is : IsAlternative false include middle cs

@@ -39,8 +39,8 @@ impl fmt::Display for Flaw {
     }
 }
 
-/// A flaw prints as a message with its place, as in `malformed alternative at bytes 8 to 19`. Width,
-/// fill and precision change nothing.
+/// A flaw prints as a message with its place, as in `malformed alternative at bytes 8 to 19`.
+/// Width, fill and precision change nothing.
 impl fmt::Display for RangeFlaw {
     ghost output = { λ flaw. Some (range_flaw_text flaw) };
 

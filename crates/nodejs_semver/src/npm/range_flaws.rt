@@ -49,8 +49,8 @@ pub fn range_flaw(text: &str, include_prerelease: bool) -> Option<RangeFlaw>
     // What is returned is the first alternative that is none.
     ensures flaw { IfSome result (IsRangeFlaw MAX_SAFE_INTEGER include_prerelease text.now) }
     // A text has one such flaw: no other would be right.
-    ensures only { (flaw : RangeFlaw) → IsRangeFlaw MAX_SAFE_INTEGER include_prerelease text.now flaw
-        → result ≡ Some flaw }
+    ensures only { (flaw : RangeFlaw)
+        → IsRangeFlaw MAX_SAFE_INTEGER include_prerelease text.now flaw → result ≡ Some flaw }
 {
     let mut rest = Some(text);
     'pieces: while let Some(left) = rest {
