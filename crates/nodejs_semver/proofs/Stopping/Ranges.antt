@@ -1,5 +1,5 @@
 -- The first alternative of a range text that is malformed.
-use Rattle.nodejs_semver.proofs.Common.{◌≡◌, ◌<◌, ◌≤◌, ◌+◌, ◌-◌, ℕ, Bool, List, [], ◌∷◌, ◌++◌, length, refl, sym, ap, ◌∙◌, arith, true, false, Some, None, Option, ◌↔◌, AllByRecursion, IsUtf8, subst, list_all, trim, bind_some, inl, inr, MAX_SAFE_INTEGER, and_parts, append_assoc}
+use Rattle.nodejs_semver.proofs.Common.{◌≡◌, ◌<◌, ◌≤◌, ◌+◌, ◌-◌, ℕ, Bool, List, [], ◌∷◌, ◌++◌, length, refl, sym, ap, ◌∙◌, arith, true, false, Some, None, Option, ◌↔◌, AllByRecursion, IsUtf8, is_empty, subst, list_all, trim, bind_some, inl, inr, MAX_SAFE_INTEGER, and_parts, append_assoc}
 use Rattle.std.specs.Option.{is_none}
 use Rattle.semver_core.specs.Failures.{NoValue}
 use Rattle.semver_core.specs.Internal.Reading.{◌>>?◌}
@@ -10,10 +10,10 @@ use Rattle.nodejs_semver.specs.Internal.NpmWords.{alternative_of, valid_only}
 use Rattle.nodejs_semver.specs.Internal.PartFronts.{front_part}
 use Rattle.nodejs_semver.specs.Internal.Parts.{cut_bars}
 use Rattle.nodejs_semver.specs.Npm.RangeFlaws.{IsAlternativeText, IsRangeFlaw, bytes_of}
-use Rattle.nodejs_semver.specs.Npm.RangeText.{AreAlternatives, next, none}
+use Rattle.nodejs_semver.specs.Npm.RangeText.{AreAlternatives, lost, next, none}
 use Rattle.nodejs_semver.specs.Npm.Ranges.{HasAlternatives, is_valid}
 use Rattle.nodejs_semver.specs.Npm.Table.{Comparison}
-use Rattle.nodejs_semver.specs.Text.Bars.{IsCutAtBars}
+use Rattle.nodejs_semver.specs.Text.Bars.{IsCutAtBars, more_pieces, one_piece}
 use Rattle.nodejs_semver.specs.declared.npm.alternatives.Alternative.{Alternative}
 use Rattle.nodejs_semver.specs.declared.npm.range_flaws.RangeFlaw.{RangeFlaw}
 use Rattle.nodejs_semver.proofs.Diagnosing.IgnoredParts.{part_ends, part_fits, sizes_of}
@@ -78,13 +78,20 @@ all-right include (p ∷ ps) h =
     let w = h.0.1 in
     (h.0.0 ∷ more.0, next p w.middle ps h.0.0 more.0 w.trimmed w.is more.1, rw (w.valid, more.2) refl)
 
+all-some : (include : Bool) (ps : List (List ℕ)) (h : AllByRecursion (IsPiece include) ps) → is_empty ps ≡ false
+    → is_empty (all-right include ps h).0 ≡ false
+all-some include [] h some = cc some
+all-some include (p ∷ ps) h some = refl
+
 -- the piece behind some is one too, where a text has alternatives
 piece-of : (include : Bool) (front : List (List ℕ)) (piece : List ℕ) (behind : List (List ℕ)) (ls : List (List Comparison))
     → AreAlternatives false include (front ++ piece ∷ behind) ls → list_all (list_all (is_valid MAX_SAFE_INTEGER)) ls ≡ true
     → IsPiece include piece
+piece-of include [] piece behind ls (lost p text others rest l t m more) v = cc l
 piece-of include [] piece behind ls (next p text others cs rest t is more) v =
     let each = and_parts (list_all (is_valid MAX_SAFE_INTEGER) cs) (list_all (list_all (is_valid MAX_SAFE_INTEGER)) rest) v in
     (cs, record { middle = text; trimmed = t; is = is; valid = each.0 })
+piece-of include (q ∷ front) piece behind ls (lost p text others rest l t m more) v = cc l
 piece-of include (q ∷ front) piece behind ls (next p text others cs rest t is more) v =
     let each = and_parts (list_all (is_valid MAX_SAFE_INTEGER) cs) (list_all (list_all (is_valid MAX_SAFE_INTEGER)) rest) v in
     piece-of include front piece behind rest more each.1
@@ -202,15 +209,21 @@ right_here include text rest cut part bytes (Some x) u h e t same found empty =
     (piece_right include cut.0 part x (next-utf8 include text rest cut u h e) t
     (subst (λ (b : List ℕ). IsFound include (valid_alternative false include b) (Some x)) same found))
 
+some-pieces : (text : List ℕ) (pieces : List (List ℕ)) → IsCutAtBars text pieces → is_empty pieces ≡ false
+some-pieces text pieces (one_piece t h) = refl
+some-pieces text pieces (more_pieces x rest others h k more) = refl
+
 pub passed_all : (include : Bool) (text : List ℕ) → Passed include text None
     → (ls : List (List Comparison)) × HasAlternatives MAX_SAFE_INTEGER include text ls
 passed_all include text h =
-    let a = all-right include (h.front ++ []) (right h.front h.right) in (
+    let a = all-right include (h.front ++ []) (right h.front h.right) in
+    let cut = subst (λ (ps : List (List ℕ)). IsCutAtBars text ps) h.divided (bars_divide text) in (
       a.0,
       record {
         parts = h.front ++ [];
-        divided = subst (λ (ps : List (List ℕ)). IsCutAtBars text ps) h.divided (bars_divide text);
+        divided = cut;
         each = a.1;
+        some = all-some include (h.front ++ []) (right h.front h.right) (some-pieces text (h.front ++ []) cut);
         valid = a.2;
       },
     )

@@ -223,14 +223,14 @@ flaw_none limit text f x = (λ e. cc e, λ h. absurd (no_flaw limit text f h.0 h
 pub flaw_only : (limit : ℕ) (text : List ℕ) (f : Flaw) → IsFlaw limit text f → (g : Flaw) → IsFlaw limit text g → Some f ≡ Some g
 flaw_only limit text f x g y = ap (λ (h : Flaw). Some h) (one_flaw limit text f g x y)
 
-pub spelled_none : (limit : ℕ) (text : List ℕ) (none : Option Flaw) → length (chars text) ≤ MAX_LENGTH → IsSpelled limit text
-    → none ≡ None → (none ≡ None) ↔ ((v : VersionValue) × IsVersionText limit text v)
-spelled_none limit text none short h e =
+pub spelled_none : (limit : ℕ) (text : List ℕ) (found : Option Flaw) → length (chars text) ≤ MAX_LENGTH → IsSpelled limit text
+    → found ≡ None → (found ≡ None) ↔ ((v : VersionValue) × IsVersionText limit text v)
+spelled_none limit text found short h e =
     (λ k. (h.version, record { short = short; middle = h.middle; trimmed = h.trimmed; is = h.is }), λ k. e)
 
-pub spelled_only : (limit : ℕ) (text : List ℕ) (none : Option Flaw) → length (chars text) ≤ MAX_LENGTH → IsSpelled limit text
-    → (f : Flaw) → IsFlaw limit text f → none ≡ Some f
-spelled_only limit text none short h f x =
+pub spelled_only : (limit : ℕ) (text : List ℕ) (found : Option Flaw) → length (chars text) ≤ MAX_LENGTH → IsSpelled limit text
+    → (f : Flaw) → IsFlaw limit text f → found ≡ Some f
+spelled_only limit text found short h f x =
     absurd (no_flaw limit text f h.version (record { short = short; middle = h.middle; trimmed = h.trimmed; is = h.is }) x)
 
 pub ruleset flaws = (flaw_none, flaw_only, spelled_none, spelled_only)
