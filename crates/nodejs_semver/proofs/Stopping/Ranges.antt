@@ -80,6 +80,7 @@ all-right include (p ∷ ps) h =
 
 all-some : (include : Bool) (ps : List (List ℕ)) (h : AllByRecursion (IsPiece include) ps) → is_empty ps ≡ false
     → is_empty (all-right include ps h).0 ≡ false
+unfolding all-right
 all-some include [] h some = cc some
 all-some include (p ∷ ps) h some = refl
 
