@@ -3,6 +3,7 @@
 #![tactic(auto)]
 
 mod arguments;
+mod entry;
 mod help;
 mod laws;
 mod listing;
