@@ -16,7 +16,8 @@ use Rattle.npm_semver.specs.declared.reading.Reading.{Reading}
 use Rattle.npm_semver.specs.declared.question.Word.TheVariants.{Help, IncludePrerelease, Reverse, Range}
 use Rattle.npm_semver.specs.declared.question.Word.TheVariants.{Version, Increment, Identifier, Base, Loose}
 use Rattle.npm_semver.specs.declared.question.Word.TheVariants.{Coerce, FromRight, FromLeft, Greatest, Least}
-use Rattle.npm_semver.specs.declared.question.Word.TheVariants.{AsWritten, Json, Strict, Why, Input, Unknown, Text}
+use Rattle.npm_semver.specs.declared.question.Word.TheVariants.{AsWritten, Json, Strict, Why}
+use Rattle.npm_semver.specs.declared.question.Word.TheVariants.{Input, Unknown, Text}
 
 abbrev pub is_one_of : List (List ℕ) → List ℕ → Bool
 is_one_of words text = list_any (bytes_eq text) words
@@ -49,7 +50,7 @@ word_of word =
 -- what is asked: the texts that may be versions, the range texts, the level, the identifier and the first
 -- number of a next version, whether the greatest version is printed first, how texts are read, which versions
 -- are printed, whether as they were given, and whether as JSON, whether what is not read is an error, and is
--- told, whether some word looks like an option and is none, and whether the lines of the input may be versions
+-- told, whether some word looks like an option and is none, and whether lines of the input may be versions
 pub record Asked : Type 0 where
   pub versions : List (List ℕ)
   pub ranges : List (List ℕ)

@@ -60,7 +60,9 @@ impl<'a> Ord for Entry<'a> {
     ghost matches_eq = { λ d e. refl };
 
     fn cmp(&self, other: &Entry<'a>) -> Ordering {
-        let by_version = self.version.cmp(&other.version);
-        by_version.then(self.text.cmp(other.text))
+        match self.version.cmp(&other.version) {
+            Ordering::Equal => self.text.cmp(other.text),
+            order => order,
+        }
     }
 }

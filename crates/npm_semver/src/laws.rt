@@ -57,8 +57,9 @@ pub fn exchanges()
     whitespace_ends();
 }
 
-/// Asked for versions that are not coerced, on lines and not as they were given, the command changes
-/// nothing that it has printed itself: asked the same of its own lines, it prints them again.
+/// Asked for versions that are not coerced, on lines and not as they were given, the command
+/// changes nothing that it has printed itself: asked the same of its own lines, it prints them
+/// again.
 pub fn again()
     ensures { (q : Asked) (written : Written) → EachText IsUtf8 q.versions
         → Responds (Some q) written → q.level ≡ None → q.reading.is_coerced ≡ false
