@@ -1,8 +1,15 @@
 -- What is printed as lines, read again, prints the same.
-use Rattle.std.proofs.Common.{◌≡◌, ◌∙◌, ◌||◌, ◌==◌, ◌+◌, ◌-◌, ◌<◌, ◌∷◌, ◌++◌, [], ℕ, zero, suc, Bool, true, false, not, List, Some, None, IsUtf8, ap, arith, get_or, length, map, refl, reverse, sym, take, if◌then◌else◌}
+use Rattle.std.proofs.Common.{◌≡◌, ◌∙◌, ◌||◌, ◌==◌, ◌+◌, ◌-◌, ◌<◌, ◌∷◌, ◌++◌, [], ℕ, append-nil, zero, suc, Bool, true, false, not, List, Some, None, IsUtf8, ap, arith, get_or, length, map, refl, reverse, sym, take, if◌then◌else◌}
 use Rattle.std.proofs.lemmas.Bool.{and_parts}
 use Rattle.std.proofs.lemmas.Bool.Decides.{nat_tests}
-use Rattle.std.proofs.lemmas.List.{get_or-map, length-map}
+use Rattle.std.proofs.lemmas.List.{get_or-map, length-map, reverse-append}
+use Rattle.std.proofs.lemmas.List.Folds.{list_all-append}
+use Rattle.std.proofs.lemmas.Str.Ascii.{encode_ascii}
+use Rattle.std.specs.Prelude.{encode_utf8_all}
+use Rattle.std.specs.Cmp.Lexicographic.{nat_list_cmp_total, slice_cmp}
+use Rattle.std.specs.Ordering.{is_lt, nat_cmp, ordering_then}
+use Rattle.std.specs.declared.cmp.Ordering.{Ordering}
+use Rattle.std.specs.declared.cmp.Ordering.TheVariants.{Less, Equal, Greater}
 use Rattle.std.proofs.lemmas.List.Elements.{All-cons, All-nil, All-take, recursion_from_All}
 use Rattle.std.proofs.lemmas.List.Sorted.{All-permutation, IsPermutation-map, IsPermutation-refl, IsPermutation-reverse, IsPermutation-sym}
 use Rattle.std.proofs.lemmas.List.Splits.{length-slice_split, slice_split_at}
@@ -11,7 +18,8 @@ use Rattle.std.specs.List.Sorted.{IsPermutation, IsSorted}
 use Rattle.std.specs.Str.Lines.{lines, lines_of_parts, strip_carriage_return}
 use Rattle.semver_core.specs.Failures.{NoValue}
 use Rattle.semver_core.specs.Lists.{is_empty}
-use Rattle.semver_core.specs.Text.Characters.{is_identifier_char}
+use Rattle.semver_core.specs.Text.Characters.{IsTrim, begins, is_identifier_char, is_whitespace}
+use Rattle.semver_core.specs.Printing.Text.{version_text}
 use Rattle.semver_core.specs.Values.Order.{precedence}
 use Rattle.semver_core.specs.Values.Versions.{VersionValue}
 use Rattle.semver_core.specs.declared.TheConstants.{MAX_SAFE_INTEGER}
@@ -19,14 +27,14 @@ use Rattle.nodejs_semver.specs.Npm.VersionText.{IsVersionText}
 use Rattle.npm_semver.specs.Arguments.{Asked}
 use Rattle.npm_semver.specs.Laws.{EachText}
 use Rattle.npm_semver.specs.Laws as Each
-use Rattle.npm_semver.specs.Listing.{AllSay, AreListed, IsListing, Says}
+use Rattle.npm_semver.specs.Listing.{AllSay, AreListed, Entry, IsListing, Says, order}
 use Rattle.npm_semver.specs.Listing as Listing
 use Rattle.npm_semver.specs.Readings.{IsVersionIn, SomeText, found, here, later, not_found, strict}
-use Rattle.npm_semver.specs.Responses.{IsRefused, Responds, Written, bare, json, coerced, in_order, increment, line, no_version, picked, refused, text_of, unknown, unread, versions}
+use Rattle.npm_semver.specs.Responses.{IsRefused, Responds, Written, bare, json, coerced, in_order, increment, line, no_version, picked, refused, shown, text_of, unknown, unread, unshown, versions}
 use Rattle.npm_semver.specs.declared.question.Pick.{Pick}
 use Rattle.npm_semver.specs.declared.question.Pick.TheVariants as Picks
 use Rattle.npm_semver.specs.declared.reading.Reading.{Reading}
-use Rattle.npm_semver.proofs.Ties.{same_emptiness, text_unbuilt, unbuilt}
+use Rattle.npm_semver.proofs.Ties.{same_emptiness, not_itself, text_map, unbuilt, unbuilt_same}
 
 abbrev is_plain : ℕ → Bool
 is_plain c = is_identifier_char c || (c == 46 || c == 43)
@@ -66,11 +74,51 @@ line_joined : (text rest : List ℕ) → (text ++ 10 ∷ []) ++ rest ≡ text ++
 line_joined [] rest = refl
 line_joined (c ∷ text) rest = ap (λ (t : List ℕ). c ∷ t) (line_joined text rest)
 
-all_lines : (vs : List VersionValue) → AllByRecursion (λ v. list_all is_plain (bare v) ≡ true) vs → lines (flat_map line vs) ≡ map bare vs
+all_lines : (texts : List (List ℕ)) → AllByRecursion (λ t. list_all is_plain t ≡ true) texts → lines (flat_map line texts) ≡ texts
 all_lines [] h = refl
-all_lines (v ∷ vs) h =
-    ap lines (line_joined (bare v) (flat_map line vs)) ∙ one_line (bare v) (flat_map line vs) h.0
-    ∙ ap (λ (l : List (List ℕ)). bare v ∷ l) (all_lines vs h.1)
+all_lines (t ∷ ts) h =
+    ap lines (line_joined t (flat_map line ts)) ∙ one_line t (flat_map line ts) h.0
+    ∙ ap (λ (l : List (List ℕ)). t ∷ l) (all_lines ts h.1)
+
+-- ---- a text without whitespace is trimmed
+
+plain_ascii : (c : ℕ) → is_plain c ≡ true → c < 128
+plain_ascii c h = grind (arith, nat_tests, h)
+
+plain_dark : (c : ℕ) → is_plain c ≡ true → is_whitespace c ≡ false
+plain_dark c h = grind (arith, nat_tests)
+
+encoded : (text : List ℕ) → list_all is_plain text ≡ true → encode_utf8_all text ≡ text
+encoded [] h = refl
+encoded (c ∷ rest) h =
+    let (one, others) = and_parts (is_plain c) (list_all is_plain rest) h in
+    ap (λ (t : List ℕ). t ++ encode_utf8_all rest) (encode_ascii c (plain_ascii c one)) ∙ ap (λ (t : List ℕ). c ∷ t) (encoded rest others)
+
+begins_dark : (text : List ℕ) → list_all is_plain text ≡ true → begins is_whitespace text ≡ false
+begins_dark [] h = refl
+begins_dark (c ∷ rest) h = plain_dark c (and_parts (is_plain c) (list_all is_plain rest) h).0
+
+both : (a b : List ℕ) → list_all is_plain a ≡ true → list_all is_plain b ≡ true → list_all is_plain (a ++ b) ≡ true
+both a b h k = rw (list_all-append is_plain a b, h, k) refl
+
+backwards : (text : List ℕ) → list_all is_plain text ≡ true → list_all is_plain (reverse text) ≡ true
+backwards [] h = refl
+backwards (c ∷ rest) h =
+    let (one, others) = and_parts (is_plain c) (list_all is_plain rest) h in
+    rw (reverse-append (c ∷ []) rest) (both (reverse rest) (c ∷ []) (backwards rest others) (rw one refl))
+
+plain_trim : (text : List ℕ) → list_all is_plain text ≡ true → IsTrim text text
+plain_trim text h = record {
+  before = [];
+  characters = text;
+  after = [];
+  divided = sym (encoded text h) ∙ ap encode_utf8_all (sym (append-nil text));
+  middle_is = sym (encoded text h);
+  blank_before = refl;
+  blank_after = refl;
+  begins_dark = begins_dark text h;
+  ends_dark = begins_dark (reverse text) (backwards text h);
+}
 
 -- ---- versions that are accepted
 
@@ -83,133 +131,159 @@ unbuilt_all r v ranges b Listing.none = Listing.none
 unbuilt_all r v ranges b (Listing.more text texts c d is are) =
     Listing.more text texts c d (unbuilt_says r v text c is) (unbuilt_all r v texts d are)
 
+-- what an entry is where it is read again as it prints
+abbrev again_entry : Entry → Entry
+again_entry e = record { version = unbuilt e.version; text = bare e.version }
+
 module _ (reread : Reread) (r : Reading) (ranges : List (List ℕ)) (plainly : r.is_coerced ≡ false) where
   -- the version is read and accepted as it prints
-  abbrev Kept : VersionValue → Type 0
-  Kept v = IsVersionText MAX_SAFE_INTEGER (bare v) (unbuilt v) × (list_all is_plain (bare v) ≡ true) × AllSay r (unbuilt v) ranges true
+  abbrev Kept : Entry → Type 0
+  Kept e = IsVersionText MAX_SAFE_INTEGER (bare e.version) (unbuilt e.version) × (list_all is_plain (bare e.version) ≡ true)
+      × AllSay r (unbuilt e.version) ranges true
 
-  kept : (text : List ℕ) (v : VersionValue) → IsUtf8 text → IsVersionIn r text v → AllSay r v ranges true → Kept v
-  kept text v u (strict p is) say = let (again, plain) = reread text v u is in (again, plain, unbuilt_all r v ranges true say)
-  kept text v u (found p is) say = absurd (grind (arith, p, plainly))
-  kept text v u (not_found p lacks is) say = absurd (grind (arith, p, plainly))
+  kept : (text middle : List ℕ) (v : VersionValue) → IsUtf8 text → IsVersionIn r text v → AllSay r v ranges true
+      → Kept (record { version = v; text = middle })
+  kept text middle v u (strict p is) say = let (again, plain) = reread text v u is in (again, plain, unbuilt_all r v ranges true say)
+  kept text middle v u (found p is) say = absurd (grind (arith, p, plainly))
+  kept text middle v u (not_found p lacks is) say = absurd (grind (arith, p, plainly))
 
-  all_kept : (texts : List (List ℕ)) (vs : List VersionValue) → EachText IsUtf8 texts → AreListed r ranges texts vs → All Kept vs
-  all_kept [] vs u Listing.none = All-nil Kept
-  all_kept (t ∷ ts) vs (Each.more _ _ first others) (Listing.no_version text rest ws lacks are) = all_kept ts ws others are
-  all_kept (t ∷ ts) vs (Each.more _ _ first others) (Listing.version text rest v true ws is say are) =
-      All-cons Kept v ws (kept t v first is say) (all_kept ts ws others are)
-  all_kept (t ∷ ts) vs (Each.more _ _ first others) (Listing.version text rest v false ws is say are) = all_kept ts ws others are
+  all_kept : (texts : List (List ℕ)) (es : List Entry) → EachText IsUtf8 texts → AreListed r ranges texts es → All Kept es
+  all_kept [] es u Listing.none = All-nil Kept
+  all_kept (t ∷ ts) es (Each.more _ _ first others) (Listing.no_version text rest ds lacks are) = all_kept ts ds others are
+  all_kept (t ∷ ts) es (Each.more _ _ first others) (Listing.rejected text rest v ds is say are) = all_kept ts ds others are
+  all_kept (t ∷ ts) es (Each.more _ _ first others) (Listing.accepted text middle rest v ds is say trim are) =
+      All-cons Kept (record { version = v; text = middle }) ds (kept t middle v first is say) (all_kept ts ds others are)
 
-  kept_plain : (vs : List VersionValue) → AllByRecursion Kept vs → AllByRecursion (λ v. list_all is_plain (bare v) ≡ true) vs
+  kept_plain : (es : List Entry) → AllByRecursion Kept es → AllByRecursion (λ t. list_all is_plain t ≡ true) (map (shown false) es)
   kept_plain [] h = tt
-  kept_plain (v ∷ vs) h = (h.0.1, kept_plain vs h.1)
+  kept_plain (e ∷ es) h = (h.0.1, kept_plain es h.1)
 
-  listed_again : (vs : List VersionValue) → AllByRecursion Kept vs → AreListed r ranges (map bare vs) (map unbuilt vs)
+  listed_again : (es : List Entry) → AllByRecursion Kept es → AreListed r ranges (map (shown false) es) (map again_entry es)
   listed_again [] h = Listing.none
-  listed_again (v ∷ vs) h = Listing.version (bare v) (map bare vs) (unbuilt v) true (map unbuilt vs) (strict plainly h.0.0) h.0.2 (listed_again vs h.1)
+  listed_again (e ∷ es) h = Listing.accepted (bare e.version) (bare e.version) (map (shown false) es) (unbuilt e.version) (map again_entry es)
+      (strict plainly h.0.0) h.0.2 (plain_trim (bare e.version) h.0.1) (listed_again es h.1)
 
-  none_lacks : (vs : List VersionValue) → AllByRecursion Kept vs → SomeText (λ text. NoValue (IsVersionIn r text)) (map bare vs) → ⊥
+  none_lacks : (es : List Entry) → AllByRecursion Kept es → SomeText (λ text. NoValue (IsVersionIn r text)) (map (shown false) es) → ⊥
   none_lacks [] h some = elim some [ ]
-  none_lacks (v ∷ vs) h (here _ _ none) = none (unbuilt v) (strict plainly h.0.0)
-  none_lacks (v ∷ vs) h (later _ _ some) = none_lacks vs h.1 some
+  none_lacks (e ∷ es) h (here _ _ none) = none (unbuilt e.version) (strict plainly h.0.0)
+  none_lacks (e ∷ es) h (later _ _ some) = none_lacks es h.1 some
 
 -- ---- those that are picked, in order
 
-picked_all : (P : VersionValue → Type 0) (pick : Pick) (vs : List VersionValue) → All P vs → All P (picked pick vs)
-picked_all P Picks.All vs h = h
-picked_all P Picks.Greatest vs h = All-take P 1 (reverse vs) (All-permutation P vs (reverse vs) (IsPermutation-reverse vs) h)
-picked_all P Picks.Least vs h = All-take P 1 vs h
+picked_all : (P : Entry → Type 0) (pick : Pick) (es : List Entry) → All P es → All P (picked pick es)
+picked_all P Picks.All es h = h
+picked_all P Picks.Greatest es h = All-take P 1 (reverse es) (All-permutation P es (reverse es) (IsPermutation-reverse es) h)
+picked_all P Picks.Least es h = All-take P 1 es h
 
-sorted_unbuilt : (vs : List VersionValue) → IsSorted precedence vs → IsSorted precedence (map unbuilt vs)
-sorted_unbuilt vs up = λ k d le lt.
-    let long : length (map unbuilt vs) ≡ length vs = length-map vs unbuilt in
-    rw (get_or-map unbuilt vs (k + 1) d d (omega (arith, long, lt)), get_or-map unbuilt vs k d d (omega (arith, long, lt)))
-    (up k d le (omega (arith, long, lt)))
+-- versions that tie print alike
+not_under : (v w : VersionValue) (o : Ordering) (t : Ordering) → o ≡ precedence v w → is_lt (ordering_then o t) ≡ false
+    → is_lt (ordering_then o (slice_cmp nat_cmp (bare v) (bare w))) ≡ false
+not_under v w Less t is e = e
+not_under v w Equal t is e =
+    let alike : bare v ≡ bare w = ap version_text (unbuilt_same v w (sym is)) in
+    rw alike (not_itself (slice_cmp nat_cmp (bare w) (bare w)) (nat_list_cmp_total.antisymm (bare w) (bare w)))
+not_under v w Greater t is e = refl
 
-one_sorted : (vs : List VersionValue) → IsSorted precedence (take 1 vs)
+sorted_again : (es : List Entry) → IsSorted order es → IsSorted order (map again_entry es)
+sorted_again es up = λ k d le lt.
+    let long : length (map again_entry es) ≡ length es = length-map es again_entry in
+    let one = get_or es (k + 1) d in
+    let other = get_or es k d in
+    rw (get_or-map again_entry es (k + 1) d d (omega (arith, long, lt)), get_or-map again_entry es k d d (omega (arith, long, lt)))
+    (not_under one.version other.version (precedence one.version other.version) (slice_cmp nat_cmp one.text other.text) refl
+    (up k d le (omega (arith, long, lt))))
+
+one_sorted : (vs : List Entry) → IsSorted order (take 1 vs)
 one_sorted [] = λ k d le lt. absurd (omega (arith, lt))
 one_sorted (v ∷ vs) = λ k d le lt. absurd (omega (arith, lt))
 
-picked_sorted : (pick : Pick) (vs : List VersionValue) → IsSorted precedence vs → IsSorted precedence (picked pick vs)
+picked_sorted : (pick : Pick) (vs : List Entry) → IsSorted order vs → IsSorted order (picked pick vs)
 picked_sorted Picks.All vs up = up
 picked_sorted Picks.Greatest vs up = one_sorted (reverse vs)
 picked_sorted Picks.Least vs up = one_sorted vs
 
-first_twice : (vs : List VersionValue) → take 1 (take 1 vs) ≡ take 1 vs
+first_twice : (vs : List Entry) → take 1 (take 1 vs) ≡ take 1 vs
 first_twice [] = refl
 first_twice (v ∷ vs) = refl
 
-last_twice : (vs : List VersionValue) → take 1 (reverse (take 1 vs)) ≡ take 1 vs
+last_twice : (vs : List Entry) → take 1 (reverse (take 1 vs)) ≡ take 1 vs
 last_twice [] = refl
 last_twice (v ∷ vs) = refl
 
-picked_twice : (pick : Pick) (vs : List VersionValue) → picked pick (picked pick vs) ≡ picked pick vs
+picked_twice : (pick : Pick) (vs : List Entry) → picked pick (picked pick vs) ≡ picked pick vs
 picked_twice Picks.All vs = refl
 picked_twice Picks.Greatest vs = last_twice (reverse vs)
 picked_twice Picks.Least vs = first_twice vs
 
-first_empty : (vs : List VersionValue) → is_empty (take 1 vs) ≡ is_empty vs
+first_empty : (vs : List Entry) → is_empty (take 1 vs) ≡ is_empty vs
 first_empty [] = refl
 first_empty (v ∷ vs) = refl
 
-picked_empty : (pick : Pick) (vs : List VersionValue) → is_empty (picked pick vs) ≡ is_empty vs
+picked_empty : (pick : Pick) (vs : List Entry) → is_empty (picked pick vs) ≡ is_empty vs
 picked_empty Picks.All vs = refl
 picked_empty Picks.Greatest vs = first_empty (reverse vs) ∙ sym (same_emptiness vs (reverse vs) (IsPermutation-reverse vs))
 picked_empty Picks.Least vs = first_empty vs
 
-map_empty : (vs : List VersionValue) → is_empty (map unbuilt vs) ≡ is_empty vs
+map_empty : (vs : List Entry) → is_empty (map again_entry vs) ≡ is_empty vs
 map_empty [] = refl
 map_empty (v ∷ vs) = refl
 
-ordered : (is_reversed : Bool) (vs : List VersionValue) → IsPermutation (in_order is_reversed vs) vs
+ordered : (is_reversed : Bool) (vs : List Entry) → IsPermutation (in_order is_reversed vs) vs
 ordered true vs = IsPermutation-sym vs (reverse vs) (IsPermutation-reverse vs)
 ordered false vs = IsPermutation-refl vs
 
 -- ---- the answer again
 
-abbrev written_in : Asked → List VersionValue → List ℕ
-written_in q printed = if q.is_json then json (in_order q.is_reversed printed) else flat_map line (in_order q.is_reversed printed)
+abbrev written_in : Asked → List Entry → List ℕ
+written_in q printed = if q.is_json then json (map (shown q.as_written) (in_order q.is_reversed printed))
+    else flat_map line (map (shown q.as_written) (in_order q.is_reversed printed))
 
-lines_asked : (q : Asked) (vs : List VersionValue) → q.is_json ≡ false → text_of q vs ≡ flat_map line (in_order q.is_reversed (picked q.pick vs))
-lines_asked q vs plain = rw plain refl
+lines_asked : (q : Asked) (es : List Entry) → q.is_json ≡ false → q.as_written ≡ false
+    → text_of q es ≡ flat_map line (map (shown false) (in_order q.is_reversed (picked q.pick es)))
+lines_asked q es plain bare_asked = rw (plain, bare_asked) refl
 
-again_of : Reread → (q : Asked) (vs : List VersionValue) → (IsRefused q → ⊥) → q.level ≡ None → q.reading.is_coerced ≡ false → q.is_json ≡ false
-    → EachText IsUtf8 q.versions → IsListing q.reading q.ranges q.versions vs
-    → Responds (Some (record q { versions = lines (text_of q vs) })) (record { output = text_of q vs; is_error_told = false; is_success = not (is_empty vs) })
-again_of reread q vs can level plainly as_lines u listing =
-    let chosen : List VersionValue = picked q.pick vs in
-    let shown : List VersionValue = in_order q.is_reversed chosen in
-    let moved : IsPermutation shown chosen = ordered q.is_reversed chosen in
-    let of_vs = All-permutation (Kept reread q.reading q.ranges plainly) listing.listed vs listing.same
+shown_again : (as_written : Bool) → as_written ≡ false → (e : Entry) → shown as_written (again_entry e) ≡ shown as_written e
+shown_again as_written bare_asked e = rw bare_asked refl
+
+again_of : Reread → (q : Asked) (es : List Entry) → (IsRefused q → ⊥) → q.level ≡ None → q.reading.is_coerced ≡ false → q.is_json ≡ false
+    → q.as_written ≡ false → EachText IsUtf8 q.versions → IsListing q.reading q.ranges q.versions es
+    → Responds (Some (record q { versions = lines (text_of q es) })) (record { output = text_of q es; is_error_told = false; is_success = not (is_empty es) })
+again_of reread q es can level plainly as_lines bare_asked u listing =
+    let chosen : List Entry = picked q.pick es in
+    let printed : List Entry = in_order q.is_reversed chosen in
+    let moved : IsPermutation printed chosen = ordered q.is_reversed chosen in
+    let of_es = All-permutation (Kept reread q.reading q.ranges plainly) listing.listed es listing.same
     (all_kept reread q.reading q.ranges plainly q.versions listing.listed u listing.are) in
-    let of_shown = recursion_from_All (Kept reread q.reading q.ranges plainly) shown
-    (All-permutation (Kept reread q.reading q.ranges plainly) chosen shown (IsPermutation-sym shown chosen moved)
-    (picked_all (Kept reread q.reading q.ranges plainly) q.pick vs of_vs)) in
-    let texts : lines (text_of q vs) ≡ map bare shown =
-    ap lines (lines_asked q vs as_lines) ∙ all_lines shown (kept_plain reread q.reading q.ranges plainly shown of_shown) in
-    let allowed : IsRefused (record q { versions = map bare shown }) → ⊥ = λ is. elim is [
+    let of_printed = recursion_from_All (Kept reread q.reading q.ranges plainly) printed
+    (All-permutation (Kept reread q.reading q.ranges plainly) chosen printed (IsPermutation-sym printed chosen moved)
+    (picked_all (Kept reread q.reading q.ranges plainly) q.pick es of_es)) in
+    let texts : lines (text_of q es) ≡ map (shown false) printed =
+    ap lines (lines_asked q es as_lines bare_asked)
+    ∙ all_lines (map (shown false) printed) (kept_plain reread q.reading q.ranges plainly printed of_printed) in
+    let allowed : IsRefused (record q { versions = map (shown false) printed }) → ⊥ = λ is. elim is [
       | coerced e ↦ can (coerced e)
       | unknown e ↦ can (unknown e)
       | unread some ↦ can (unread some)
-      | no_version lacks ↦ none_lacks reread q.reading q.ranges plainly shown of_shown lacks.1
+      | no_version lacks ↦ none_lacks reread q.reading q.ranges plainly printed of_printed lacks.1
+      | unshown some ↦ absurd (grind (arith, plainly, some.0))
     ] in
-    let output : text_of q (map unbuilt chosen) ≡ text_of q vs = text_unbuilt q chosen
-    ∙ ap (λ (l : List VersionValue). written_in q l) (picked_twice q.pick vs) in
-    let filled : is_empty (map unbuilt chosen) ≡ is_empty vs = map_empty chosen ∙ picked_empty q.pick vs in
-    let found : Responds (Some (record q { versions = map bare shown }))
-    (record { output = text_of q (map unbuilt chosen); is_error_told = false; is_success = not (is_empty (map unbuilt chosen)) }) =
-    versions (record q { versions = map bare shown }) (map unbuilt chosen) allowed level (record {
-      listed = map unbuilt shown;
-      are = listed_again reread q.reading q.ranges plainly shown of_shown;
-      same = IsPermutation-map unbuilt shown chosen moved;
-      sorted = sorted_unbuilt chosen (picked_sorted q.pick vs listing.sorted);
+    let output : text_of q (map again_entry chosen) ≡ text_of q es = text_map again_entry q (shown_again q.as_written bare_asked) chosen
+    ∙ ap (λ (l : List Entry). written_in q l) (picked_twice q.pick es) in
+    let filled : is_empty (map again_entry chosen) ≡ is_empty es = map_empty chosen ∙ picked_empty q.pick es in
+    let found : Responds (Some (record q { versions = map (shown false) printed }))
+    (record { output = text_of q (map again_entry chosen); is_error_told = false; is_success = not (is_empty (map again_entry chosen)) }) =
+    versions (record q { versions = map (shown false) printed }) (map again_entry chosen) allowed level (record {
+      listed = map again_entry printed;
+      are = listed_again reread q.reading q.ranges plainly printed of_printed;
+      same = IsPermutation-map again_entry printed chosen moved;
+      sorted = sorted_again chosen (picked_sorted q.pick es listing.sorted);
     }) in
     rw (texts, ← output, ← filled) found
 
 pub responds_again : Reread → (q : Asked) (written : Written) → EachText IsUtf8 q.versions → Responds (Some q) written → q.level ≡ None
-    → q.reading.is_coerced ≡ false → q.is_json ≡ false → written.is_error_told ≡ false
+    → q.reading.is_coerced ≡ false → q.is_json ≡ false → q.as_written ≡ false → written.is_error_told ≡ false
     → Responds (Some (record q { versions = lines written.output })) written
-responds_again reread q written u (refused _ is) level plainly as_lines untold = absurd (grind (arith, untold))
-responds_again reread q written u (versions _ vs can none_is listing) level plainly as_lines untold =
-    again_of reread q vs can level plainly as_lines u listing
-responds_again reread q written u (increment _ word vs can has are) level plainly as_lines untold = absurd (grind (arith, level, has))
+responds_again reread q written u (refused _ is) level plainly as_lines bare_asked untold = absurd (grind (arith, untold))
+responds_again reread q written u (versions _ es can none_is listing) level plainly as_lines bare_asked untold =
+    again_of reread q es can level plainly as_lines bare_asked u listing
+responds_again reread q written u (increment _ word es can has are) level plainly as_lines bare_asked untold = absurd (grind (arith, level, has))

@@ -1,49 +1,49 @@
 -- Two neighbouring parts of the version texts are exchanged.
-use Rattle.std.proofs.Common.{◌≡◌, ◌⊎◌, ◌∷◌, ◌++◌, [], ℕ, true, false, List, Some, ap, append_assoc, arith, inl, inr, refl}
+use Rattle.std.proofs.Common.{◌≡◌, ◌⊎◌, ◌∷◌, ◌++◌, [], ℕ, List, Some, ap, append_assoc, arith, inl, inr, refl}
 use Rattle.std.proofs.lemmas.List.Elements.{All-cons, All-head, All-nil}
 use Rattle.std.proofs.lemmas.List.Sorted.{All-permutation, length_permutation, IsPermutation-append_comm, IsPermutation-append_left, IsPermutation-append_right, IsPermutation-sym, IsPermutation-trans}
 use Rattle.std.specs.List.Sorted.{IsPermutation}
-use Rattle.semver_core.specs.Values.Versions.{VersionValue}
 use Rattle.npm_semver.specs.Arguments.{Asked}
-use Rattle.npm_semver.specs.Listing.{AreListed, IsListing}
+use Rattle.npm_semver.specs.Listing.{AreListed, Entry, IsListing}
 use Rattle.npm_semver.specs.Listing as Listing
 use Rattle.npm_semver.specs.Readings.{SomeText, here, later}
-use Rattle.npm_semver.specs.Responses.{IsRefused, Responds, Written, coerced, increment, increment_written, no_version, refused, unknown, unread, versions}
+use Rattle.npm_semver.specs.Responses.{IsRefused, Responds, Written, coerced, increment, increment_written, no_version, refused, unknown, unread, unshown, versions}
 use Rattle.npm_semver.specs.declared.reading.Reading.{Reading}
 
-moved : (f u w k : List VersionValue) → IsPermutation (f ++ (u ++ (w ++ k))) (f ++ (w ++ (u ++ k)))
+moved : (f u w k : List Entry) → IsPermutation (f ++ (u ++ (w ++ k))) (f ++ (w ++ (u ++ k)))
 moved f u w k =
     let both : IsPermutation ((u ++ w) ++ k) ((w ++ u) ++ k) = IsPermutation-append_left k (u ++ w) (w ++ u) (IsPermutation-append_comm u w) in
     IsPermutation-append_right f (u ++ (w ++ k)) (w ++ (u ++ k)) (rw (append_assoc u w k, append_assoc w u k) at both)
 
-moved_lists : (vs behind rest f u w k : List VersionValue) → vs ≡ f ++ behind → behind ≡ u ++ rest → rest ≡ w ++ k
+moved_lists : (vs behind rest f u w k : List Entry) → vs ≡ f ++ behind → behind ≡ u ++ rest → rest ≡ w ++ k
     → IsPermutation vs (f ++ (w ++ (u ++ k)))
 moved_lists vs behind rest f u w k e e2 e3 = rw (e, e2, e3) (moved f u w k)
 
 module _ (r : Reading) (ranges : List (List ℕ)) where
-  split : (xs ys : List (List ℕ)) (vs : List VersionValue) → AreListed r ranges (xs ++ ys) vs
-      → (us ws : List VersionValue) × AreListed r ranges xs us × AreListed r ranges ys ws × (vs ≡ us ++ ws)
+  split : (xs ys : List (List ℕ)) (vs : List Entry) → AreListed r ranges (xs ++ ys) vs
+      → (us ws : List Entry) × AreListed r ranges xs us × AreListed r ranges ys ws × (vs ≡ us ++ ws)
   split [] ys vs are = ([], vs, Listing.none, are, refl)
   split (x ∷ xs) ys vs (Listing.no_version text rest zs lacks are) =
       let (us, ws, first, second, e) = split xs ys zs are in (us, ws, Listing.no_version x xs us lacks first, second, e)
-  split (x ∷ xs) ys vs (Listing.version text rest v true zs is say are) =
+  split (x ∷ xs) ys vs (Listing.rejected text rest v zs is say are) =
+      let (us, ws, first, second, e) = split xs ys zs are in (us, ws, Listing.rejected x xs v us is say first, second, e)
+  split (x ∷ xs) ys vs (Listing.accepted text middle rest v zs is say trim are) =
       let (us, ws, first, second, e) = split xs ys zs are in
-      (v ∷ us, ws, Listing.version x xs v true us is say first, second, ap (λ l. v ∷ l) e)
-  split (x ∷ xs) ys vs (Listing.version text rest v false zs is say are) =
-      let (us, ws, first, second, e) = split xs ys zs are in (us, ws, Listing.version x xs v false us is say first, second, e)
+      let entry : Entry = record { version = v; text = middle } in
+      (entry ∷ us, ws, Listing.accepted x middle xs v us is say trim first, second, ap (λ l. entry ∷ l) e)
 
-  join : (xs ys : List (List ℕ)) (us ws : List VersionValue) → AreListed r ranges xs us → AreListed r ranges ys ws
+  join : (xs ys : List (List ℕ)) (us ws : List Entry) → AreListed r ranges xs us → AreListed r ranges ys ws
       → AreListed r ranges (xs ++ ys) (us ++ ws)
   join xs ys us ws Listing.none second = second
   join xs ys us ws (Listing.no_version text rest vs lacks are) second =
       Listing.no_version text (rest ++ ys) (vs ++ ws) lacks (join rest ys vs ws are second)
-  join xs ys us ws (Listing.version text rest v true vs is say are) second =
-      Listing.version text (rest ++ ys) v true (vs ++ ws) is say (join rest ys vs ws are second)
-  join xs ys us ws (Listing.version text rest v false vs is say are) second =
-      Listing.version text (rest ++ ys) v false (vs ++ ws) is say (join rest ys vs ws are second)
+  join xs ys us ws (Listing.rejected text rest v vs is say are) second =
+      Listing.rejected text (rest ++ ys) v (vs ++ ws) is say (join rest ys vs ws are second)
+  join xs ys us ws (Listing.accepted text middle rest v vs is say trim are) second =
+      Listing.accepted text middle (rest ++ ys) v (vs ++ ws) is say trim (join rest ys vs ws are second)
 
-  exchanged : (front a b back : List (List ℕ)) (vs : List VersionValue) → AreListed r ranges (front ++ (a ++ (b ++ back))) vs
-      → (ws : List VersionValue) × AreListed r ranges (front ++ (b ++ (a ++ back))) ws × IsPermutation vs ws
+  exchanged : (front a b back : List (List ℕ)) (vs : List Entry) → AreListed r ranges (front ++ (a ++ (b ++ back))) vs
+      → (ws : List Entry) × AreListed r ranges (front ++ (b ++ (a ++ back))) ws × IsPermutation vs ws
   exchanged front a b back vs are =
       let (f, behind, of_front, are_behind, e) = split front (a ++ (b ++ back)) vs are in
       let (u, rest, of_a, are_rest, e2) = split a (b ++ back) behind are_behind in
@@ -53,7 +53,7 @@ module _ (r : Reading) (ranges : List (List ℕ)) where
         moved_lists vs behind rest f u w k e e2 e3,
       )
 
-  listing_exchanged : (front a b back : List (List ℕ)) (printed : List VersionValue) → IsListing r ranges (front ++ (a ++ (b ++ back))) printed
+  listing_exchanged : (front a b back : List (List ℕ)) (printed : List Entry) → IsListing r ranges (front ++ (a ++ (b ++ back))) printed
       → IsListing r ranges (front ++ (b ++ (a ++ back))) printed
   listing_exchanged front a b back printed listing =
       let (ws, are, same) = exchanged front a b back listing.listed listing.are in record {
@@ -95,16 +95,17 @@ refused_exchanged q front a b back (coerced e) = coerced e
 refused_exchanged q front a b back (unknown e) = unknown e
 refused_exchanged q front a b back (unread some) = unread some
 refused_exchanged q front a b back (no_version some) = no_version (some.0, some_exchanged _ front a b back some.1)
+refused_exchanged q front a b back (unshown some) = unshown (some.0, some_exchanged _ front a b back some.1)
 
 -- what is written for a next version does not depend on the order of the versions
-one_order : (q : Asked) (texts more : List (List ℕ)) (level : List ℕ) (vs ws : List VersionValue) → IsPermutation vs ws
+one_order : (q : Asked) (texts more : List (List ℕ)) (level : List ℕ) (vs ws : List Entry) → IsPermutation vs ws
     → increment_written (record q { versions = texts }) level vs ≡ increment_written (record q { versions = more }) level ws
 one_order q texts more level [] [] moved = refl
 one_order q texts more level [] (w ∷ ws) moved = absurd (grind (arith, length_permutation [] (w ∷ ws) moved))
 one_order q texts more level (v ∷ []) [] moved = absurd (grind (arith, length_permutation (v ∷ []) [] moved))
 one_order q texts more level (v ∷ []) (w ∷ []) moved =
     let same = All-permutation (λ u. v ≡ u) (v ∷ []) (w ∷ []) moved (All-cons (λ u. v ≡ u) v [] refl (All-nil (λ u. v ≡ u))) in
-    ap (λ (u : VersionValue). increment_written (record q { versions = texts }) level (u ∷ [])) (All-head (λ u. v ≡ u) w [] same)
+    ap (λ (u : Entry). increment_written (record q { versions = texts }) level (u ∷ [])) (All-head (λ u. v ≡ u) w [] same)
 one_order q texts more level (v ∷ []) (w ∷ x ∷ ws) moved = absurd (omega (arith, length_permutation (v ∷ []) (w ∷ x ∷ ws) moved))
 one_order q texts more level (v ∷ u ∷ vs) [] moved = absurd (omega (arith, length_permutation (v ∷ u ∷ vs) [] moved))
 one_order q texts more level (v ∷ u ∷ vs) (w ∷ []) moved = absurd (omega (arith, length_permutation (v ∷ u ∷ vs) (w ∷ []) moved))

@@ -11,32 +11,32 @@ use Rattle.semver_core.specs.declared.increment.IdentifierBase.{IdentifierBase}
 use Rattle.npm_semver.specs.Arguments.{Asked, is_level}
 use Rattle.npm_semver.specs.Laws.{EachText, IsAccepted, IsLeftOut}
 use Rattle.npm_semver.specs.Laws as Each
-use Rattle.npm_semver.specs.Listing.{AreListed}
+use Rattle.npm_semver.specs.Listing.{AreListed, Entry}
 use Rattle.npm_semver.specs.Listing as Listing
 use Rattle.npm_semver.specs.Readings.{SomeText, here, later}
 use Rattle.npm_semver.specs.Responses.{IsRefused, Responds, Written, increment, increment_written, next_written, next_text, nothing_written, refused, versions}
 
 -- a list and another order of it are both filled or both empty
-same_filled : (xs ys : List VersionValue) → IsPermutation xs ys → is_empty xs ≡ is_empty ys
+same_filled : (xs ys : List Entry) → IsPermutation xs ys → is_empty xs ≡ is_empty ys
 same_filled [] [] p = refl
 same_filled [] (y ∷ ys) p = absurd (grind (arith, length_permutation [] (y ∷ ys) p))
 same_filled (x ∷ xs) [] p = absurd (grind (arith, length_permutation (x ∷ xs) [] p))
 same_filled (x ∷ xs) (y ∷ ys) p = refl
 
 module _ (q : Asked) where
-  some_listed : (texts : List (List ℕ)) (vs : List VersionValue) → AreListed q.reading q.ranges texts vs → is_empty vs ≡ false
+  some_listed : (texts : List (List ℕ)) (es : List Entry) → AreListed q.reading q.ranges texts es → is_empty es ≡ false
       → SomeText (IsAccepted q) texts
-  some_listed texts vs Listing.none e = absurd (grind (arith, e))
-  some_listed texts vs (Listing.no_version text rest ws lacks are) e = later text rest (some_listed rest ws are e)
-  some_listed texts vs (Listing.version text rest v true ws is say are) e = here text rest (v, is, say)
-  some_listed texts vs (Listing.version text rest v false ws is say are) e = later text rest (some_listed rest ws are e)
+  some_listed texts es Listing.none e = absurd (grind (arith, e))
+  some_listed texts es (Listing.no_version text rest ds lacks are) e = later text rest (some_listed rest ds are e)
+  some_listed texts es (Listing.rejected text rest v ds is say are) e = later text rest (some_listed rest ds are e)
+  some_listed texts es (Listing.accepted text middle rest v ds is say trim are) e = here text rest (v, is, say)
 
-  none_listed : (texts : List (List ℕ)) (vs : List VersionValue) → AreListed q.reading q.ranges texts vs → is_empty vs ≡ true
+  none_listed : (texts : List (List ℕ)) (es : List Entry) → AreListed q.reading q.ranges texts es → is_empty es ≡ true
       → EachText (IsLeftOut q) texts
-  none_listed texts vs Listing.none e = Each.none
-  none_listed texts vs (Listing.no_version text rest ws lacks are) e = Each.more text rest (inl lacks) (none_listed rest ws are e)
-  none_listed texts vs (Listing.version text rest v true ws is say are) e = absurd (grind (arith, e))
-  none_listed texts vs (Listing.version text rest v false ws is say are) e = Each.more text rest (inr (v, is, say)) (none_listed rest ws are e)
+  none_listed texts es Listing.none e = Each.none
+  none_listed texts es (Listing.no_version text rest ds lacks are) e = Each.more text rest (inl lacks) (none_listed rest ds are e)
+  none_listed texts es (Listing.rejected text rest v ds is say are) e = Each.more text rest (inr (v, is, say)) (none_listed rest ds are e)
+  none_listed texts es (Listing.accepted text middle rest v ds is say trim are) e = absurd (grind (arith, e))
 
 pub success_some : (q : Asked) (written : Written) → Responds (Some q) written → q.level ≡ None → written.is_success ≡ true
     → SomeText (IsAccepted q) q.versions
@@ -64,19 +64,21 @@ abbrev Rises : Type 0
 Rises = (v w : VersionValue) (word : List ℕ) (id : Option (List ℕ)) (base : Option IdentifierBase) → unwrap_or id [] ≡ [] → word ≢ codes "pre"
     → answer_of_inc v word id base ≡ Ok w → (precedence v w ≡ Less)
 
-written_above : Rises → (q : Asked) (word : List ℕ) (vs : List VersionValue) → word ≢ codes "pre" → unwrap_or q.identifier [] ≡ []
-    → AreListed q.reading [] q.versions vs → (increment_written q word vs).is_success ≡ true
-    → (v w : VersionValue) × AreListed q.reading [] q.versions (v ∷ []) × ((increment_written q word vs).output ≡ next_text q.is_json w) × (precedence v w ≡ Less)
+written_above : Rises → (q : Asked) (word : List ℕ) (es : List Entry) → word ≢ codes "pre" → unwrap_or q.identifier [] ≡ []
+    → AreListed q.reading [] q.versions es → (increment_written q word es).is_success ≡ true
+    → (e : Entry) × (w : VersionValue) × AreListed q.reading [] q.versions (e ∷ []) × ((increment_written q word es).output ≡ next_text q.is_json w)
+    × (precedence e.version w ≡ Less)
 written_above rises q word [] other plain are e = absurd (grind (arith, e))
-written_above rises q word (v ∷ []) other plain are e =
-    let (w, out, above) = one_above q.is_json (is_empty q.ranges) v (answer_of_inc v word q.identifier (Some q.base))
-    (λ w is. rises v w word q.identifier (Some q.base) plain other is) e in
-    (v, w, are, out, above)
-written_above rises q word (v ∷ w ∷ vs) other plain are e = absurd (grind (arith, e))
+written_above rises q word (d ∷ []) other plain are e =
+    let (w, out, above) = one_above q.is_json (is_empty q.ranges) d.version (answer_of_inc d.version word q.identifier (Some q.base))
+    (λ w is. rises d.version w word q.identifier (Some q.base) plain other is) e in
+    (d, w, are, out, above)
+written_above rises q word (d ∷ f ∷ es) other plain are e = absurd (grind (arith, e))
 
 pub next_above : Rises → (q : Asked) (level : List ℕ) (written : Written) → Responds (Some q) written → q.level ≡ Some level → is_level level ≡ true
     → unwrap_or q.identifier [] ≡ [] → written.is_success ≡ true
-    → (v w : VersionValue) × AreListed q.reading [] q.versions (v ∷ []) × (written.output ≡ next_text q.is_json w) × (precedence v w ≡ Less)
+    → (e : Entry) × (w : VersionValue) × AreListed q.reading [] q.versions (e ∷ []) × (written.output ≡ next_text q.is_json w)
+    × (precedence e.version w ≡ Less)
 next_above rises q level written (refused _ is) asked known plain e = absurd (grind (arith, e))
 next_above rises q level written (versions _ vs can no_level listing) asked known plain e = absurd (grind (arith, asked, no_level))
 next_above rises q level written (increment _ word vs can has are) asked known plain e =

@@ -1,12 +1,13 @@
 -- Texts that are read one after another.
-use Rattle.std.proofs.Common.{◌≡◌, ◌∷◌, ◌++◌, [], ℕ, Bool, true, false, List, Option, Some, None, IfSome, IfNone, append-nil, if◌then◌else◌}
+use Rattle.std.proofs.Common.{◌≡◌, ◌∷◌, ◌++◌, [], ℕ, Bool, true, false, List, Option, Some, None, IfSome, IfNone}
 use Rattle.std.specs.List.{list_all}
 use Rattle.semver_core.specs.Cuts.{Span}
 use Rattle.semver_core.specs.Failures.{NoValue}
+use Rattle.semver_core.specs.Text.Characters.{IsTrim}
 use Rattle.semver_core.specs.Values.Versions.{VersionValue}
 use Rattle.semver_core.specs.declared.TheConstants.{MAX_SAFE_INTEGER}
 use Rattle.nodejs_semver.specs.Npm.Ranges.{IsRangeIn}
-use Rattle.npm_semver.specs.Listing.{AllSay, AreListed, Says, no_range, no_version, range, version}
+use Rattle.npm_semver.specs.Listing.{AllSay, AreListed, Entry, Says, accepted, no_range, no_version, range, rejected}
 use Rattle.npm_semver.specs.Listing as Listing
 use Rattle.npm_semver.specs.Internal.Readings.{AreRead, IsRead, says}
 use Rattle.npm_semver.specs.Internal.Readings as Readings
@@ -31,38 +32,35 @@ pub read_more : (r : Reading) (texts : List (List ℕ)) (ranges : List (Option (
 read_more r texts ranges text read Readings.none is = Readings.more text [] read [] is Readings.none
 read_more r texts ranges text read (Readings.more t ts u us i are) is = Readings.more t _ u _ i (read_more r ts us text read are is)
 
-pub no_more : (r : Reading) (ranges texts : List (List ℕ)) (vs : List VersionValue) (text : List ℕ) → AreListed r ranges texts vs
-    → NoValue (IsVersionIn r text) → AreListed r ranges (texts ++ text ∷ []) vs
-no_more r ranges texts vs text Listing.none none_is = no_version text [] [] none_is Listing.none
-no_more r ranges texts vs text (no_version t ts ws n are) none_is = no_version t _ _ n (no_more r ranges ts ws text are none_is)
-no_more r ranges texts vs text (version t ts w a ws is say are) none_is =
-    version t _ w a ws is say (no_more r ranges ts ws text are none_is)
+module _ (r : Reading) (ranges : List (List ℕ)) where
+  -- one more text: no version, a version that some range does not accept, and one that all ranges accept
+  pub no_more : (texts : List (List ℕ)) (es : List Entry) (text : List ℕ) → AreListed r ranges texts es → NoValue (IsVersionIn r text)
+      → AreListed r ranges (texts ++ text ∷ []) es
+  no_more texts es text Listing.none lacks = no_version text [] [] lacks Listing.none
+  no_more texts es text (no_version t ts ds n are) lacks = no_version t _ _ n (no_more ts ds text are lacks)
+  no_more texts es text (rejected t ts w ds is say are) lacks = rejected t _ w _ is say (no_more ts ds text are lacks)
+  no_more texts es text (accepted t m ts w ds is say trim are) lacks = accepted t m _ w _ is say trim (no_more ts ds text are lacks)
 
-pub one_more : (r : Reading) (ranges texts : List (List ℕ)) (vs : List VersionValue) (text : List ℕ) (v : VersionValue) (accepted : Bool)
-    → AreListed r ranges texts vs → IsVersionIn r text v → AllSay r v ranges accepted
-    → AreListed r ranges (texts ++ text ∷ []) (vs ++ (if accepted then v ∷ [] else []))
-one_more r ranges texts vs text v accepted Listing.none is says = version text [] v accepted [] is says Listing.none
-one_more r ranges texts vs text v accepted (no_version t ts ws n are) is says =
-    no_version t _ _ n (one_more r ranges ts ws text v accepted are is says)
-one_more r ranges texts vs text v accepted (version t ts w true ws i s are) is says =
-    version t _ w true _ i s (one_more r ranges ts ws text v accepted are is says)
-one_more r ranges texts vs text v accepted (version t ts w false ws i s are) is says =
-    version t _ w false _ i s (one_more r ranges ts ws text v accepted are is says)
+  pub dropped_more : (texts : List (List ℕ)) (es : List Entry) (text : List ℕ) (v : VersionValue) (b : Bool) → b ≡ false
+      → AreListed r ranges texts es → IsVersionIn r text v → AllSay r v ranges b → AreListed r ranges (texts ++ text ∷ []) es
+  dropped_more texts es text v b e Listing.none is say = rejected text [] v [] is (rw e at say) Listing.none
+  dropped_more texts es text v b e (no_version t ts ds n are) is say = no_version t _ _ n (dropped_more ts ds text v b e are is say)
+  dropped_more texts es text v b e (rejected t ts w ds i s are) is say = rejected t _ w _ i s (dropped_more ts ds text v b e are is say)
+  dropped_more texts es text v b e (accepted t m ts w ds i s c are) is say = accepted t m _ w _ i s c (dropped_more ts ds text v b e are is say)
+
+  pub kept_more : (texts : List (List ℕ)) (es : List Entry) (text middle : List ℕ) (v : VersionValue) (b : Bool) → b ≡ true
+      → AreListed r ranges texts es → IsVersionIn r text v → AllSay r v ranges b → IsTrim text middle
+      → AreListed r ranges (texts ++ text ∷ []) (es ++ record { version = v; text = middle } ∷ [])
+  kept_more texts es text middle v b e Listing.none is say trim = accepted text middle [] v [] is (rw e at say) trim Listing.none
+  kept_more texts es text middle v b e (no_version t ts ds n are) is say trim =
+      no_version t _ _ n (kept_more ts ds text middle v b e are is say trim)
+  kept_more texts es text middle v b e (rejected t ts w ds i s are) is say trim =
+      rejected t _ w _ i s (kept_more ts ds text middle v b e are is say trim)
+  kept_more texts es text middle v b e (accepted t m ts w ds i s c are) is say trim =
+      accepted t m _ w _ i s c (kept_more ts ds text middle v b e are is say trim)
 
 -- what a text is read as
 pub is_read : (r : Reading) (text : List ℕ) (read : Option (List (Span VersionValue))) → IfSome read (IsRangeIn r.is_loose MAX_SAFE_INTEGER r.include_prerelease text)
     → IfNone read (NoValue (HasRange r text)) → IsRead r text read
 is_read r text (Some read) some_is none_is = some_is
 is_read r text None some_is none_is = none_is
-
--- a version that all ranges accept, and one that some range does not accept
-pub kept_more : (r : Reading) (ranges texts : List (List ℕ)) (vs : List VersionValue) (text : List ℕ) (v : VersionValue) (accepted : Bool)
-    → accepted ≡ true → AreListed r ranges texts vs → IsVersionIn r text v → AllSay r v ranges accepted
-    → AreListed r ranges (texts ++ text ∷ []) (vs ++ v ∷ [])
-kept_more r ranges texts vs text v accepted e are is say = rw e at (one_more r ranges texts vs text v accepted are is say)
-
-pub dropped_more : (r : Reading) (ranges texts : List (List ℕ)) (vs : List VersionValue) (text : List ℕ) (v : VersionValue) (accepted : Bool)
-    → accepted ≡ false → AreListed r ranges texts vs → IsVersionIn r text v → AllSay r v ranges accepted
-    → AreListed r ranges (texts ++ text ∷ []) vs
-dropped_more r ranges texts vs text v accepted e are is say =
-    rw (e, append-nil) at (one_more r ranges texts vs text v accepted are is say)

@@ -16,7 +16,8 @@ use Rattle.npm_semver.specs.declared.reading.Reading.{Reading}
 use Rattle.npm_semver.specs.declared.question.Word.TheVariants.{Help, IncludePrerelease, Reverse, Range}
 use Rattle.npm_semver.specs.declared.question.Word.TheVariants.{Version, Increment, Identifier, Base, Loose}
 use Rattle.npm_semver.specs.declared.question.Word.TheVariants.{Coerce, FromRight, FromLeft, Greatest, Least}
-use Rattle.npm_semver.specs.declared.question.Word.TheVariants.{Json, Strict, Why, Input, Unknown, Text}
+use Rattle.npm_semver.specs.declared.question.Word.TheVariants.{AsWritten, Json, Strict, Why}
+use Rattle.npm_semver.specs.declared.question.Word.TheVariants.{Input, Unknown, Text}
 
 abbrev pub is_one_of : List (List ℕ) → List ℕ → Bool
 is_one_of words text = list_any (bytes_eq text) words
@@ -38,6 +39,7 @@ word_of word =
     else if is_one_of (codes "--ltr" ∷ []) word then FromLeft
     else if is_one_of (codes "--max" ∷ []) word then Greatest
     else if is_one_of (codes "--min" ∷ []) word then Least
+    else if is_one_of (codes "--as-written" ∷ []) word then AsWritten
     else if is_one_of (codes "--json" ∷ []) word then Json
     else if is_one_of (codes "--strict" ∷ []) word then Strict
     else if is_one_of (codes "--why" ∷ []) word then Why
@@ -47,8 +49,8 @@ word_of word =
 
 -- what is asked: the texts that may be versions, the range texts, the level, the identifier and the first
 -- number of a next version, whether the greatest version is printed first, how texts are read, which versions
--- are printed, and whether as JSON, whether what is not read is an error, and is told, whether some word
--- looks like an option and is none, and whether the lines of the input may be versions
+-- are printed, whether as they were given, and whether as JSON, whether what is not read is an error, and is
+-- told, whether some word looks like an option and is none, and whether lines of the input may be versions
 pub record Asked : Type 0 where
   pub versions : List (List ℕ)
   pub ranges : List (List ℕ)
@@ -58,6 +60,7 @@ pub record Asked : Type 0 where
   pub is_reversed : Bool
   pub reading : Reading
   pub pick : Pick
+  pub as_written : Bool
   pub is_json : Bool
   pub is_strict : Bool
   pub is_why : Bool
@@ -74,6 +77,7 @@ nothing_asked = record {
   is_reversed = false;
   reading = strictly;
   pick = Picks.All;
+  as_written = false;
   is_json = false;
   is_strict = false;
   is_why = false;
@@ -109,6 +113,7 @@ asked_by FromRight text behind q = record q { reading = record q.reading { from_
 asked_by FromLeft text behind q = record q { reading = record q.reading { from_right = false } }
 asked_by Greatest text behind q = record q { pick = Picks.Greatest }
 asked_by Least text behind q = record q { pick = Picks.Least }
+asked_by AsWritten text behind q = record q { as_written = true }
 asked_by Json text behind q = record q { is_json = true }
 asked_by Strict text behind q = record q { is_strict = true }
 asked_by Why text behind q = record q { is_why = true }

@@ -4,3 +4,4 @@ pub mod Readings
 pub mod Asked
 pub mod Said
 pub mod Appends
+pub mod EntryOrder

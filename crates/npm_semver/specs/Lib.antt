@@ -3,6 +3,7 @@ pub mod Arguments
 pub mod Readings
 pub mod Listing
 pub mod Responses
+pub mod Reasons
 pub mod Subcommands
 pub mod Internal
 pub mod Laws

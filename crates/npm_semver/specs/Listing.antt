@@ -1,7 +1,11 @@
 -- Statement: the versions that are printed.
-use Rattle.std.specs.Prelude.{◌&&◌, ◌∷◌, [], ℕ, Bool, true, false, List, if◌then◌else◌}
+use Rattle.std.specs.Prelude.{◌&&◌, ◌∷◌, [], ℕ, Bool, true, false, List}
+use Rattle.std.specs.Cmp.Lexicographic.{slice_cmp}
 use Rattle.std.specs.List.Sorted.{IsPermutation, IsSorted}
+use Rattle.std.specs.Ordering.{nat_cmp, ordering_then}
+use Rattle.std.specs.declared.cmp.Ordering.{Ordering}
 use Rattle.semver_core.specs.Failures.{NoValue}
+use Rattle.semver_core.specs.Text.Characters.{IsTrim}
 use Rattle.semver_core.specs.Values.Order.{precedence}
 use Rattle.semver_core.specs.Values.Versions.{VersionValue}
 use Rattle.nodejs_semver.specs.Npm.Ranges.{accepts}
@@ -21,18 +25,30 @@ pub data AllSay (r : Reading) (v : VersionValue) : List (List ℕ) → Bool → 
   more : (text : List ℕ) (texts : List (List ℕ)) (a b : Bool) → Says r v text a → AllSay r v texts b
       → AllSay r v (text ∷ texts) (a && b)
 
--- the versions among these texts that all range texts accept, in the order of the texts
-pub data AreListed (r : Reading) (ranges : List (List ℕ)) : List (List ℕ) → List VersionValue → Type 0 where
-  none : AreListed r ranges [] []
-  no_version : (text : List ℕ) (texts : List (List ℕ)) (vs : List VersionValue) → NoValue (IsVersionIn r text)
-      → AreListed r ranges texts vs → AreListed r ranges (text ∷ texts) vs
-  version : (text : List ℕ) (texts : List (List ℕ)) (v : VersionValue) (accepted : Bool)
-      (vs : List VersionValue) → IsVersionIn r text v → AllSay r v ranges accepted
-      → AreListed r ranges texts vs → AreListed r ranges (text ∷ texts) (if accepted then v ∷ vs else vs)
+-- a version, and the text that it was given as, without the whitespace around it
+pub record Entry : Type 0 where
+  pub version : VersionValue
+  pub text : List ℕ
 
--- the versions that are printed: those, in ascending order
-pub record IsListing (r : Reading) (ranges texts : List (List ℕ)) (printed : List VersionValue) : Type 0 where
-  pub listed : List VersionValue
+-- the versions among these texts that all range texts accept, in the order of the texts
+pub data AreListed (r : Reading) (ranges : List (List ℕ)) : List (List ℕ) → List Entry → Type 0 where
+  none : AreListed r ranges [] []
+  no_version : (text : List ℕ) (texts : List (List ℕ)) (es : List Entry) → NoValue (IsVersionIn r text)
+      → AreListed r ranges texts es → AreListed r ranges (text ∷ texts) es
+  rejected : (text : List ℕ) (texts : List (List ℕ)) (v : VersionValue) (es : List Entry)
+      → IsVersionIn r text v → AllSay r v ranges false → AreListed r ranges texts es
+      → AreListed r ranges (text ∷ texts) es
+  accepted : (text middle : List ℕ) (texts : List (List ℕ)) (v : VersionValue) (es : List Entry)
+      → IsVersionIn r text v → AllSay r v ranges true → IsTrim text middle → AreListed r ranges texts es
+      → AreListed r ranges (text ∷ texts) (record { version = v; text = middle } ∷ es)
+
+-- by precedence, and of versions that tie by the bytes of their texts
+abbrev pub order : Entry → Entry → Ordering
+order d e = ordering_then (precedence d.version e.version) (slice_cmp nat_cmp d.text e.text)
+
+-- what is printed: those, in ascending order
+pub record IsListing (r : Reading) (ranges texts : List (List ℕ)) (printed : List Entry) : Type 0 where
+  pub listed : List Entry
   pub are : AreListed r ranges texts listed
   pub same : IsPermutation listed printed
-  pub sorted : IsSorted precedence printed
+  pub sorted : IsSorted order printed

@@ -1,7 +1,9 @@
 -- Statement: what the command writes for what its arguments ask.
-use Rattle.std.specs.Prelude.{◌≡◌, ◌&&◌, ◌||◌, ◌∷◌, ◌++◌, [], not, ℕ, Bool, true, false, List, Option, Some}
-use Rattle.std.specs.Prelude.{None, Result, Ok, Err, option_map, reverse, take, if◌then◌else◌}
-use Rattle.std.specs.List.{flat_map}
+use Rattle.std.specs.Prelude.{◌≡◌, ◌&&◌, ◌||◌, ◌==◌, ◌∷◌, ◌++◌, [], not, ℕ, Bool, true, false, List}
+use Rattle.std.specs.Prelude.{Option, Some, None, Result, Ok, Err, map, option_map, reverse, take}
+use Rattle.std.specs.Prelude.{if◌then◌else◌}
+use Rattle.std.specs.Int.{is_in_range}
+use Rattle.std.specs.List.{flat_map, list_all}
 use Rattle.std.specs.Str.Lines.{lines}
 use Rattle.semver_core.specs.Failures.{NoValue}
 use Rattle.semver_core.specs.Increments.Table.{Fault, answer_of_inc}
@@ -9,7 +11,7 @@ use Rattle.semver_core.specs.Lists.{is_empty}
 use Rattle.semver_core.specs.Printing.Text.{version_text}
 use Rattle.semver_core.specs.Values.Versions.{VersionValue}
 use Rattle.npm_semver.specs.Arguments.{Asked, IsAsked}
-use Rattle.npm_semver.specs.Listing.{AreListed, IsListing}
+use Rattle.npm_semver.specs.Listing.{AreListed, Entry, IsListing}
 use Rattle.npm_semver.specs.Readings.{HasRange, IsVersionIn, SomeText}
 use Rattle.npm_semver.specs.declared.question.Pick.{Pick}
 use Rattle.npm_semver.specs.declared.question.Pick.TheVariants.{All, Greatest, Least}
@@ -18,29 +20,33 @@ use Rattle.npm_semver.specs.declared.question.Pick.TheVariants.{All, Greatest, L
 abbrev pub bare : VersionValue → List ℕ
 bare v = version_text (record v { build = [] })
 
-abbrev pub line : VersionValue → List ℕ
-line v = bare v ++ 10 ∷ []
+-- or its text is printed as it was given
+abbrev pub shown : Bool → Entry → List ℕ
+shown as_written e = if as_written then e.text else bare e.version
+
+abbrev pub line : List ℕ → List ℕ
+line text = text ++ 10 ∷ []
 
 -- a JSON string, in which nothing is to be escaped
-abbrev pub quoted : VersionValue → List ℕ
-quoted v = 34 ∷ (bare v ++ 34 ∷ [])
+abbrev pub quoted : List ℕ → List ℕ
+quoted text = 34 ∷ (text ++ 34 ∷ [])
 
--- the versions as a JSON array of strings, on a line
-abbrev pub json : List VersionValue → List ℕ
+-- a JSON array of strings, on a line
+abbrev pub json : List (List ℕ) → List ℕ
 json [] = 91 ∷ 93 ∷ 10 ∷ []
-json (v ∷ vs) = 91 ∷ (quoted v ++ (flat_map (λ w. 44 ∷ quoted w) vs ++ 93 ∷ 10 ∷ []))
+json (t ∷ ts) = 91 ∷ (quoted t ++ (flat_map (λ u. 44 ∷ quoted u) ts ++ 93 ∷ 10 ∷ []))
 
-abbrev pub in_order : Bool → List VersionValue → List VersionValue
-in_order is_reversed vs = if is_reversed then reverse vs else vs
+abbrev pub in_order : Bool → List Entry → List Entry
+in_order is_reversed es = if is_reversed then reverse es else es
 
--- all versions, or the one that is greatest or least, of versions in ascending order
-abbrev pub picked : Pick → List VersionValue → List VersionValue
-picked All vs = vs
-picked Greatest vs = take 1 (reverse vs)
-picked Least vs = take 1 vs
+-- all of them, or the one that is greatest or least, if they are in ascending order
+abbrev pub picked : Pick → List Entry → List Entry
+picked All es = es
+picked Greatest es = take 1 (reverse es)
+picked Least es = take 1 es
 
-abbrev pub text_of : Asked → List VersionValue → List ℕ
-text_of q vs = let printed = in_order q.is_reversed (picked q.pick vs) in
+abbrev pub text_of : Asked → List Entry → List ℕ
+text_of q es = let printed = map (shown q.as_written) (in_order q.is_reversed (picked q.pick es)) in
     if q.is_json then json printed else flat_map line printed
 
 -- what is written to standard output, whether an error is told, and whether the command succeeds
@@ -54,7 +60,7 @@ abbrev pub nothing_written : Bool → Written
 nothing_written is_error_told = record { output = []; is_error_told = is_error_told; is_success = false }
 
 abbrev pub next_text : Bool → VersionValue → List ℕ
-next_text is_json w = if is_json then json (w ∷ []) else line w
+next_text is_json w = if is_json then json (bare w ∷ []) else line (bare w)
 
 -- the next version, or why there is none
 abbrev pub next_written : Bool → Result VersionValue Fault → Written
@@ -63,12 +69,12 @@ next_written is_json (Ok w) =
 next_written is_json (Err fault) = nothing_written true
 
 -- a next version is asked for of one version, with no range
-abbrev pub increment_written : Asked → List ℕ → List VersionValue → Written
+abbrev pub increment_written : Asked → List ℕ → List Entry → Written
 increment_written q level [] = nothing_written false
-increment_written q level (v ∷ []) =
-    if is_empty q.ranges then next_written q.is_json (answer_of_inc v level q.identifier (Some q.base))
+increment_written q level (e ∷ []) = if is_empty q.ranges
+    then next_written q.is_json (answer_of_inc e.version level q.identifier (Some q.base))
     else nothing_written true
-increment_written q level (v ∷ w ∷ vs) = nothing_written true
+increment_written q level (d ∷ e ∷ es) = nothing_written true
 
 -- some range text has to be one, and is none: loosely npm's program reads more
 abbrev pub HasUnread : Asked → Type 0
@@ -79,23 +85,34 @@ HasUnread q = ((q.reading.is_loose || q.is_strict) ≡ true)
 abbrev pub HasNoVersion : Asked → Type 0
 HasNoVersion q = (q.is_strict ≡ true) × SomeText (λ text. NoValue (IsVersionIn q.reading text)) q.versions
 
+-- the character stands in a JSON string as it is
+abbrev pub is_plain : ℕ → Bool
+is_plain c = not (is_in_range 0 31 c || c == 34 || c == 92)
+
+-- some text may be printed as it was given, though more than a version stands in it, and is no line or no
+-- JSON string as it is
+abbrev pub HasUnshown : Asked → Type 0
+HasUnshown q = ((q.reading.is_coerced && q.as_written) ≡ true)
+    × SomeText (λ text. list_all is_plain text ≡ false) q.versions
+
 -- why nothing is answered. With `-c` and `-p` npm's program keeps pre-releases.
 pub data IsRefused (q : Asked) : Type 0 where
   coerced : (q.reading.is_coerced && q.reading.include_prerelease) ≡ true → IsRefused q
   unknown : (q.is_strict && q.has_unknown) ≡ true → IsRefused q
   unread : HasUnread q → IsRefused q
   no_version : HasNoVersion q → IsRefused q
+  unshown : HasUnshown q → IsRefused q
 
 -- what is written for what is asked
 pub data Responds : Option Asked → Written → Type 0 where
   help : (text : List ℕ) → Responds None (record { output = text; is_error_told = false; is_success = true })
   refused : (q : Asked) → IsRefused q → Responds (Some q) (nothing_written true)
-  versions : (q : Asked) (vs : List VersionValue) → (IsRefused q → ⊥) → q.level ≡ None
-      → IsListing q.reading q.ranges q.versions vs → Responds (Some q)
-      (record { output = text_of q vs; is_error_told = false; is_success = not (is_empty vs) })
-  increment : (q : Asked) (level : List ℕ) (vs : List VersionValue) → (IsRefused q → ⊥)
-      → q.level ≡ Some level → AreListed q.reading [] q.versions vs
-      → Responds (Some q) (increment_written q level vs)
+  versions : (q : Asked) (es : List Entry) → (IsRefused q → ⊥) → q.level ≡ None
+      → IsListing q.reading q.ranges q.versions es → Responds (Some q)
+      (record { output = text_of q es; is_error_told = false; is_success = not (is_empty es) })
+  increment : (q : Asked) (level : List ℕ) (es : List Entry) → (IsRefused q → ⊥)
+      → q.level ≡ Some level → AreListed q.reading [] q.versions es
+      → Responds (Some q) (increment_written q level es)
 
 -- `-` stands for the lines of the input
 abbrev pub with_lines : List ℕ → Asked → Asked

@@ -28,12 +28,14 @@ beyond npm's program:
   -                           versions from standard input, one a line
       --max, --min            print the greatest or the least version alone
       --json                  print a JSON array of strings
+      --as-written            print each text as it was given, without the whitespace around it
       --strict                make a text that is no version or no range, or an unknown option, an
                               error
       --why                   tell on standard error why each text is left out
 
 Prints each version without its build metadata, in ascending order. Texts that are no versions are
 left out. Exits with 1 if no version is printed, and says why if the question cannot be answered:
-with -l, where a range has a word that is not read, and with -c and -p together. The subcommands
-exit with 0 for yes, 1 for no and 2 for a malformed question.
+with -l, where a range has a word that is not read, with -c and -p together, and with -c and
+--as-written, where a text has a control character, a quote or a backslash. The subcommands exit
+with 0 for yes, 1 for no and 2 for a malformed question.
 ";

@@ -9,12 +9,12 @@ ghost use Rattle.semver_core.specs.Values.Order.{precedence};
 ghost use Rattle.semver_core.specs.Values.Versions.{VersionValue};
 ghost use Rattle.npm_semver.specs.Arguments.{Asked, IsAsked, is_level};
 ghost use Rattle.npm_semver.specs.Laws.{EachText, IsAccepted, IsLeftOut};
-ghost use Rattle.npm_semver.specs.Listing.{AreListed};
+ghost use Rattle.npm_semver.specs.Listing.{AreListed, Entry};
 ghost use Rattle.npm_semver.specs.Readings.{SomeText};
 ghost use Rattle.npm_semver.specs.Responses.{IsRefused, Responds, Written, next_text};
 
 use nodejs_semver::laws::npm_reads_once;
-use semver_core::laws::least_increments;
+use semver_core::laws::{least_increments, whitespace_ends};
 
 /// Asked for versions, the command succeeds exactly if some text is a version that all ranges
 /// accept.
@@ -38,6 +38,7 @@ pub fn one_answer()
         → Responds (Some q) one → Responds (Some q) other → one ≡ other }
 {
     npm_reads_once();
+    whitespace_ends();
 }
 
 /// The answer does not depend on the order of the texts that may be versions: it stays right where
@@ -53,14 +54,16 @@ pub fn exchanges()
         → one ≡ other }
 {
     npm_reads_once();
+    whitespace_ends();
 }
 
-/// Asked for versions that are not coerced, on lines, the command changes nothing that it has
-/// printed itself: asked the same of its own lines, it prints them again.
+/// Asked for versions that are not coerced, on lines and not as they were given, the command
+/// changes nothing that it has printed itself: asked the same of its own lines, it prints them
+/// again.
 pub fn again()
     ensures { (q : Asked) (written : Written) → EachText IsUtf8 q.versions
         → Responds (Some q) written → q.level ≡ None → q.reading.is_coerced ≡ false
-        → q.is_json ≡ false → written.is_error_told ≡ false
+        → q.is_json ≡ false → q.as_written ≡ false → written.is_error_told ≡ false
         → Responds (Some (record q { versions = lines written.output })) written }
 {
     npm_reads_once();
@@ -72,8 +75,8 @@ pub fn next_versions()
     ensures above { (q : Asked) (level : List ℕ) (written : Written) → Responds (Some q) written
         → q.level ≡ Some level → is_level level ≡ true → unwrap_or q.identifier [] ≡ []
         → written.is_success ≡ true
-        → (v w : VersionValue) × AreListed q.reading [] q.versions (v ∷ [])
-        × (written.output ≡ next_text q.is_json w) × (precedence v w ≡ Less) }
+        → (e : Entry) × (w : VersionValue) × AreListed q.reading [] q.versions (e ∷ [])
+        × (written.output ≡ next_text q.is_json w) × (precedence e.version w ≡ Less) }
 {
     least_increments();
 }

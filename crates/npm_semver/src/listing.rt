@@ -6,19 +6,21 @@ ghost use Rattle.npm_semver.specs.Listing.{AreListed, IsListing};
 ghost use Rattle.npm_semver.specs.Internal.Asked.{texts};
 ghost use Rattle.npm_semver.specs.Internal.Readings.{AreRead, says};
 
+use crate::entry::Entry;
 use crate::reading::Reading;
 use nodejs_semver::{RangeRef, VersionRef};
+use semver_core::scan;
 use std::alloc::{AllocError, Global};
 
-/// Returns the versions among the texts that all ranges accept, in ascending order. A text that is
-/// no version is left out, and a text that is no range accepts none. Fails only if allocation
-/// fails.
+/// Returns the versions among the texts that all ranges accept, in ascending order, each with its
+/// text. A text that is no version is left out, and a text that is no range accepts none. Fails
+/// only if allocation fails.
 pub fn listing<'a>(
     alloc: Global,
     reading: Reading,
     ranges: &[&str],
     versions: &[&'a str],
-) -> Result<Vec<VersionRef<'a>>, AllocError>
+) -> Result<Vec<Entry<'a>>, AllocError>
     ensures { IfOk result (λ printed.
         IsListing reading (texts ranges.now) (texts versions.now) printed.items) }
 {
@@ -44,13 +46,14 @@ pub fn read_ranges<'a>(
     Ok(ranges)
 }
 
-/// Returns the versions among the texts that all ranges accept, in the order of the texts.
+/// Returns the versions among the texts that all ranges accept, in the order of the texts, each
+/// with its text.
 pub fn read_versions<'a>(
     alloc: Global,
     reading: Reading,
     ranges: &[Option<RangeRef<'_>>],
     version_texts: &[&'a str],
-) -> Result<Vec<VersionRef<'a>>, AllocError>
+) -> Result<Vec<Entry<'a>>, AllocError>
     ensures { IfOk result (λ listed. (range_texts : List (List ℕ)) →
         AreRead reading range_texts ranges.now →
         AreListed reading range_texts (texts version_texts.now) listed.items) }
@@ -67,7 +70,7 @@ fn push_version<'a>(
     reading: Reading,
     ranges: &[Option<RangeRef<'_>>],
     text: &'a str,
-    listed: &mut Vec<VersionRef<'a>>,
+    listed: &mut Vec<Entry<'a>>,
 ) -> Result<(), AllocError>
     ensures { OnOk result ((range_texts before : List (List ℕ)) →
         AreRead reading range_texts ranges.now →
@@ -80,7 +83,8 @@ fn push_version<'a>(
     if !all_accept(reading.include_prerelease, ranges, &version) {
         return Ok(());
     }
-    listed.push(version)?;
+    let text = scan::trim(text);
+    listed.push(Entry { version, text })?;
     Ok(())
 }
 

@@ -3,6 +3,7 @@
 #![tactic(auto)]
 
 mod arguments;
+mod entry;
 mod help;
 mod laws;
 mod listing;
@@ -16,7 +17,7 @@ mod why;
 use crate::question::Request;
 use crate::run::respond;
 use crate::subcommands::{Reply, Subcommand};
-use crate::why::reasons;
+use crate::why::told;
 use anyhow::Result;
 use std::process::ExitCode;
 use std::{env, io};
@@ -37,7 +38,7 @@ fn main(rt: HostRuntime) -> Result<ExitCode> {
     };
     let request = asked.with_lines(alloc, &input)?;
     if request.tells_why() {
-        eprint!(rt; "{}", reasons(alloc, &request)?)?;
+        eprint!(rt; "{}", told(alloc, &request)?)?;
     }
     let response = respond(alloc, &request)?;
     if let Some(refusal) = &response.refusal {

@@ -35,6 +35,7 @@ pub enum Word {
     FromLeft,
     Greatest,
     Least,
+    AsWritten,
     Json,
     Strict,
     Why,
@@ -64,6 +65,7 @@ impl Word {
             "--ltr" => Word::FromLeft,
             "--max" => Word::Greatest,
             "--min" => Word::Least,
+            "--as-written" => Word::AsWritten,
             "--json" => Word::Json,
             "--strict" => Word::Strict,
             "--why" => Word::Why,
@@ -117,6 +119,8 @@ pub struct Question<'a> {
     pub reading: Reading,
     /// Which of the versions are printed.
     pub pick: Pick,
+    /// Whether they are printed as they were given.
+    pub as_written: bool,
     /// Whether they are printed as JSON.
     pub is_json: bool,
     /// Whether a text or an option that is not read is an error.
@@ -142,6 +146,7 @@ impl<'a> Question<'a> {
             is_reversed: false,
             reading: Reading::strict(),
             pick: Pick::All,
+            as_written: false,
             is_json: false,
             is_strict: false,
             is_why: false,
@@ -175,6 +180,7 @@ impl<'a> Question<'a> {
             Word::FromLeft => self.reading.from_right = false,
             Word::Greatest => self.pick = Pick::Greatest,
             Word::Least => self.pick = Pick::Least,
+            Word::AsWritten => self.as_written = true,
             Word::Json => self.is_json = true,
             Word::Strict => self.is_strict = true,
             Word::Why => self.is_why = true,

@@ -1,10 +1,11 @@
 // Why nothing is answered.
 
 ghost use Rattle.std.specs.Prelude.{◌≡◌, ◌&&◌, ◌||◌, IfNone, IfOk, IfSome, false, true};
-ghost use Rattle.std.specs.List.{list_any};
+ghost use Rattle.std.specs.List.{list_all, list_any};
 ghost use Rattle.std.specs.Option.{is_none};
 ghost use Rattle.npm_semver.specs.Internal.Asked.{asked_of};
-ghost use Rattle.npm_semver.specs.Responses.{HasNoVersion, HasUnread, IsRefused};
+ghost use Rattle.npm_semver.specs.Responses.{HasNoVersion, HasUnread, HasUnshown, IsRefused};
+ghost use Rattle.npm_semver.specs.Responses.{is_plain};
 
 use crate::listing::{read_ranges, read_versions};
 use crate::question::Question;
@@ -25,6 +26,8 @@ pub enum Refusal {
     UnreadRange,
     #[error("a text is no version")]
     NoVersion,
+    #[error("with -c and --as-written a text has a control character, a quote or a backslash")]
+    UnshownText,
     #[error("{0}")]
     NotIncremented(IncrementError),
 }
@@ -47,6 +50,9 @@ pub fn refusal_of(alloc: Global, question: &Question<'_>) -> Result<Option<Refus
     }
     if has_no_version(alloc, question)? {
         return Ok(Some(Refusal::NoVersion));
+    }
+    if has_unshown(question) {
+        return Ok(Some(Refusal::UnshownText));
     }
     Ok(None)
 }
@@ -96,6 +102,44 @@ fn has_no_version(alloc: Global, question: &Question<'_>) -> Result<bool, AllocE
     let texts = question.versions.as_slice();
     let read = read_versions(alloc, question.reading, &[], texts)?;
     Ok(read.len() < texts.len())
+}
+
+// Whether some text may be printed as it was given, and is no line or no JSON string.
+fn has_unshown(question: &Question<'_>) -> bool
+    ensures some { result ≡ true → HasUnshown (asked_of question.now) }
+    ensures none { result ≡ false → HasUnshown (asked_of question.now) → ⊥ }
+{
+    if !shows_coerced(question) {
+        return false;
+    }
+    !are_plain(question.versions.as_slice())
+}
+
+fn shows_coerced(question: &Question<'_>) -> bool
+    ensures { result ≡ question.now.reading.is_coerced && question.now.as_written }
+{
+    question.reading.is_coerced && question.as_written
+}
+
+fn are_plain(texts: &[&str]) -> bool
+    ensures { result ≡ list_all (λ t. list_all is_plain t.now) texts.now }
+{
+    texts.iter().all(
+        |text| -> bool
+            ensures { result ≡ list_all is_plain text.now.now }
+        { is_plain_text(text.as_bytes()) },
+    )
+}
+
+// Whether each byte stands in a JSON string as it is.
+fn is_plain_text(text: &[u8]) -> bool
+    ensures { result ≡ list_all is_plain text.now }
+{
+    text.iter().all(
+        |byte| -> bool
+            ensures { result ≡ is_plain byte.now }
+        { !matches!(*byte, 0..=31 | b'"' | b'\\') },
+    )
 }
 
 fn has_none(ranges: &[Option<RangeRef<'_>>]) -> bool

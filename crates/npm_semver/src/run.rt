@@ -9,10 +9,11 @@ ghost use Rattle.semver_core.specs.Lists.{is_empty};
 ghost use Rattle.semver_core.specs.Printing.Text.{marked_list};
 ghost use Rattle.npm_semver.specs.Responses.{IsRefused, IsResponse, Responds, bare, json, line};
 ghost use Rattle.npm_semver.specs.Responses.{in_order, next_written, nothing_written, picked};
-ghost use Rattle.npm_semver.specs.Responses.{quoted};
+ghost use Rattle.npm_semver.specs.Responses.{quoted, shown};
 ghost use Rattle.npm_semver.specs.Internal.Asked.{asked_of, request_of};
 ghost use Rattle.npm_semver.specs.Internal.Written.{written};
 
+use crate::entry::Entry;
 use crate::help::HELP;
 use crate::listing::{listing, read_versions};
 use crate::question::{Pick, Question, Request};
@@ -112,7 +113,7 @@ fn list(alloc: Global, question: &Question<'_>) -> Result<Response, AllocError>
     pick(question.pick, &mut listed);
     put_in_order(question.is_reversed, &mut listed);
     let mut output = String::new(alloc);
-    write_all(question.is_json, &listed, &mut output)?;
+    write_all(question.is_json, question.as_written, &listed, &mut output)?;
     Ok(Response {
         output,
         refusal: None,
@@ -120,30 +121,30 @@ fn list(alloc: Global, question: &Question<'_>) -> Result<Response, AllocError>
     })
 }
 
-fn is_filled(versions: &[VersionRef<'_>]) -> bool
-    ensures { result ≡ not (is_empty versions.now) }
+fn is_filled(entries: &[Entry<'_>]) -> bool
+    ensures { result ≡ not (is_empty entries.now) }
 {
-    !versions.is_empty()
+    !entries.is_empty()
 }
 
-fn pick(pick: Pick, versions: &mut Vec<VersionRef<'_>>)
-    ensures { versions.new.items ≡ picked pick versions.old.items }
+fn pick(pick: Pick, entries: &mut Vec<Entry<'_>>)
+    ensures { entries.new.items ≡ picked pick entries.old.items }
 {
     match pick {
         Pick::All => {}
         Pick::Greatest => {
-            versions.reverse();
-            versions.truncate(1);
+            entries.reverse();
+            entries.truncate(1);
         }
-        Pick::Least => versions.truncate(1),
+        Pick::Least => entries.truncate(1),
     }
 }
 
-fn put_in_order(is_reversed: bool, versions: &mut Vec<VersionRef<'_>>)
-    ensures { versions.new.items ≡ in_order is_reversed versions.old.items }
+fn put_in_order(is_reversed: bool, entries: &mut Vec<Entry<'_>>)
+    ensures { entries.new.items ≡ in_order is_reversed entries.old.items }
 {
     if is_reversed {
-        versions.reverse();
+        entries.reverse();
     }
 }
 
@@ -156,29 +157,30 @@ fn increment(alloc: Global, question: &Question<'_>, level: &str) -> Result<Resp
 {
     let (texts, ranges) = (question.versions.as_slice(), question.ranges.as_slice());
     let read = read_versions(alloc, question.reading, &[], texts)?;
-    let versions = read.as_slice();
-    let Some(version) = versions.first() else {
+    let entries = read.as_slice();
+    let Some(entry) = entries.first() else {
         return Ok(nothing(alloc, None));
     };
-    if versions.len() > 1 {
+    if entries.len() > 1 {
         return Ok(nothing(alloc, Some(Refusal::NotOneVersion)));
     }
     if !ranges.is_empty() {
         return Ok(nothing(alloc, Some(Refusal::NotOneVersion)));
     }
-    next(alloc, question, level, version)
+    next(alloc, question, level, entry)
 }
 
 fn next(
     alloc: Global,
     question: &Question<'_>,
     level: &str,
-    version: &VersionRef<'_>,
+    entry: &Entry<'_>,
 ) -> Result<Response, AllocError>
     ensures { IfOk result (λ response. written response ≡ next_written question.now.is_json
-        (answer_of_inc version.now level.now
+        (answer_of_inc entry.now.version level.now
         (asked_of question.now).identifier (Some question.now.base))) }
 {
+    let version = &entry.version;
     match version.inc(alloc, level, question.identifier, Some(question.base)) {
         Ok(next) => found(alloc, question.is_json, next),
         Err(Failure::Refused(error)) => { Ok(nothing(alloc, Some(Refusal::NotIncremented(error)))) }
@@ -224,71 +226,91 @@ fn without_build(alloc: Global, version: Version) -> Result<Version, AllocError>
     }
 }
 
-// Writes versions as JSON, or each on a line.
+// Writes versions, or their texts, as JSON, or each on a line.
 fn write_all(
     is_json: bool,
-    versions: &[VersionRef<'_>],
+    as_written: bool,
+    entries: &[Entry<'_>],
     output: &mut String,
 ) -> Result<(), AllocError>
     ensures { OnOk result (string_bytes output.new ≡ string_bytes output.old
-        ++ (if is_json then json versions.now else flat_map line versions.now)) }
+        ++ (if is_json then json (map (shown as_written) entries.now)
+        else flat_map line (map (shown as_written) entries.now))) }
 {
     if is_json {
-        write_json(versions, output)
+        write_json(as_written, entries, output)
     } else {
-        write_lines(versions, output)
+        write_lines(as_written, entries, output)
     }
 }
 
-fn write_json(versions: &[VersionRef<'_>], output: &mut String) -> Result<(), AllocError>
+fn write_json(
+    as_written: bool,
+    entries: &[Entry<'_>],
+    output: &mut String,
+) -> Result<(), AllocError>
     ensures { OnOk result (string_bytes output.new
-        ≡ string_bytes output.old ++ json versions.now) }
+        ≡ string_bytes output.old ++ json (map (shown as_written) entries.now)) }
 {
-    let Some((first, others)) = versions.split_first() else {
+    let Some((first, others)) = entries.split_first() else {
         return output.push_str("[]\n");
     };
     output.push('[')?;
-    write_quoted(first, output)?;
-    write_others(others, output)?;
+    write_quoted(as_written, first, output)?;
+    write_others(as_written, others, output)?;
     output.push_str("]\n")
 }
 
 // Writes JSON strings, each behind a comma.
-fn write_others(versions: &[VersionRef<'_>], output: &mut String) -> Result<(), AllocError>
-    ensures { OnOk result (string_bytes output.new
-        ≡ string_bytes output.old ++ flat_map (λ v. 44 ∷ quoted v) versions.now) }
+fn write_others(
+    as_written: bool,
+    entries: &[Entry<'_>],
+    output: &mut String,
+) -> Result<(), AllocError>
+    ensures { OnOk result (string_bytes output.new ≡ string_bytes output.old
+        ++ flat_map (λ t. 44 ∷ quoted t) (map (shown as_written) entries.now)) }
 {
-    for version in versions {
+    for entry in entries {
         output.push(',')?;
-        write_quoted(version, output)?;
+        write_quoted(as_written, entry, output)?;
     }
     Ok(())
 }
 
-fn write_quoted(version: &VersionRef<'_>, output: &mut String) -> Result<(), AllocError>
+fn write_quoted(as_written: bool, entry: &Entry<'_>, output: &mut String) -> Result<(), AllocError>
     ensures { OnOk result (string_bytes output.new
-        ≡ string_bytes output.old ++ quoted version.now) }
+        ≡ string_bytes output.old ++ quoted (shown as_written entry.now)) }
 {
     output.push('"')?;
-    write_bare(version, output)?;
+    write_shown(as_written, entry, output)?;
     output.push('"')
 }
 
-fn write_lines(versions: &[VersionRef<'_>], output: &mut String) -> Result<(), AllocError>
-    ensures { OnOk result (string_bytes output.new
-        ≡ string_bytes output.old ++ flat_map line versions.now) }
+fn write_lines(
+    as_written: bool,
+    entries: &[Entry<'_>],
+    output: &mut String,
+) -> Result<(), AllocError>
+    ensures { OnOk result (string_bytes output.new ≡ string_bytes output.old
+        ++ flat_map line (map (shown as_written) entries.now)) }
 {
-    for version in versions {
-        write_line(version, output)?;
+    for entry in entries {
+        write_shown(as_written, entry, output)?;
+        output.push('\n')?;
     }
     Ok(())
 }
 
-fn write_line(version: &VersionRef<'_>, output: &mut String) -> Result<(), AllocError>
-    ensures { OnOk result (string_bytes output.new ≡ string_bytes output.old ++ line version.now) }
+// Writes the text of a version as it was given, or the version without its build metadata.
+fn write_shown(as_written: bool, entry: &Entry<'_>, output: &mut String) -> Result<(), AllocError>
+    ensures { OnOk result (string_bytes output.new
+        ≡ string_bytes output.old ++ shown as_written entry.now) }
 {
-    write_bare(version, output)?;
-    output.push('\n')
+    if as_written {
+        output.push_str(entry.text)
+    } else {
+        write_bare(&entry.version, output)
+    }
 }
 
 // Writes a version without its build metadata.

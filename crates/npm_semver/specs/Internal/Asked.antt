@@ -19,6 +19,7 @@ asked_of q = record {
   is_reversed = q.is_reversed;
   reading = q.reading;
   pick = q.pick;
+  as_written = q.as_written;
   is_json = q.is_json;
   is_strict = q.is_strict;
   is_why = q.is_why;

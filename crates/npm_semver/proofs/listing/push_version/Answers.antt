@@ -11,4 +11,5 @@ returns-then-not-all_accept c = λ range_texts before are listed.
 
 pub returns : goal.returns
 returns c = λ range_texts before are listed.
-    rw c.in_ok-push.ensures.items (kept_more _ _ _ _ _ _ _ (sym c.if-not-all_accept.ensures) listed c.in-Some.ensures.some (all_say _ _ _ _ are))
+    rw c.in_ok-push.ensures.items
+    (kept_more _ _ _ _ _ _ _ _ (sym c.if-not-all_accept.ensures) listed c.in-Some.ensures.some (all_say _ _ _ _ are) c.trim-text.ensures.middle)
