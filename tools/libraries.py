@@ -11,11 +11,14 @@ import threading
 import time
 
 import edits
+from bodiless import contracts
 from edits import TOP, text_of
 
 # The file to which the gate writes what `rt ci` says, beside which it runs these tools.
 SAYS = "RT_CI_SAYS"
 PARTS = ("src", "specs", "proofs")
+# How many seconds `rt ci` may take to say that a crate is kept, once those below it are there.
+WAIT = 30
 
 
 @functools.lru_cache(maxsize=None)
@@ -68,10 +71,10 @@ def crates():
 
 class Libraries:
     """The libraries, each in a folder as NAME.rlib: those that `rt ci` built of the files as they stand, and where there is none,
-    those that `rt lib` builds in a copy."""
+    those that `rt lib` builds in a copy. Where contracts are enough, a library that `rt ci` is still to prove is made of these alone."""
 
-    def __init__(self, room):
-        self.room, self.folder = room, f"{room}/libraries"
+    def __init__(self, room, are_contracts_enough=False):
+        self.room, self.folder, self.are_contracts_enough = room, f"{room}/libraries", are_contracts_enough
         self.locks, self.copying = {it: threading.Lock() for it in crates()}, threading.Lock()
         os.makedirs(self.folder)
 
@@ -80,10 +83,31 @@ class Libraries:
         for it in crate.below():
             with self.locks[it.name]:
                 if not os.path.exists(f"{self.folder}/{it.name}.rlib"):
-                    found = built(it) or self.proved(it)
+                    found = self.of_contracts(it) or built(it) or self.proved(it)
                     shutil.copytree(found, f"{self.folder}/new-{it.name}", copy_function=link)
                     os.rename(f"{self.folder}/new-{it.name}", f"{self.folder}/{it.name}.rlib")
         return self.folder
+
+    def of_contracts(self, crate):
+        """Builds a library of the contracts alone, beside `rt ci`, or None. What is the lowest, or is kept, need not be waited for."""
+        if not self.are_contracts_enough or SAYS not in os.environ or not all(built(it) for it in crate.deps) or not crate.deps:
+            return None
+        time.sleep(WAIT)
+        if said_of(crate):
+            return None
+        folder = f"{self.room}/contracts/crates/{crate.name}"
+        with self.copying:
+            if not os.path.exists(f"{self.room}/contracts"):
+                edits.copied(f"{self.room}/contracts")
+        for file, text in contracts(crate.name, folder).items():
+            edits.write(f"{folder}/{file}", text) if text is not None else os.remove(f"{folder}/{file}")
+        made = f"{self.room}/contracts/{crate.name}.rlib"
+        words = [*crate.words("build", folder, self.folder), "--jobs", "1", "-o", made]
+        ran = subprocess.run(words, cwd=folder, stdin=subprocess.DEVNULL, stdout=subprocess.PIPE, stderr=subprocess.STDOUT, text=True, check=False)
+        if ran.returncode:
+            print(f"no library of the contracts of {crate.name} alone:\n{ran.stdout[-2000:]}", flush=True)
+            return None
+        return made
 
     def proved(self, crate):
         """Builds a library in a copy, with `rt lib`, which takes over what checks in other checkouts on this machine proved."""
@@ -97,11 +121,16 @@ class Libraries:
         return f"{folder}/out/rlib/{crate.name}.rlib"
 
 
+def said_of(crate):
+    """Returns what `rt ci` said of a crate, or that it has ended, or None."""
+    return re.search(rf"^rt: {crate.name} (proved$|is kept: |NOT PROVED)|^\d+ passed, \d+ failed", text_of(os.environ[SAYS]), re.M)
+
+
 def built(crate):
     """Returns the folder of a library that `rt ci` built of the files as they stand, or None. Beside `rt ci` it waits for it."""
     found = f"{TOP}/crates/{crate.name}/out/rlib/{crate.name}.rlib"
     if SAYS in os.environ:
-        while not (said := re.search(rf"^rt: {crate.name} (proved$|is kept: |NOT PROVED)|^\d+ passed, \d+ failed", text_of(os.environ[SAYS]), re.M)):
+        while not (said := said_of(crate)):
             time.sleep(1)
         if not (said[1] or "").startswith(("proved", "is kept")):
             raise SystemExit(f"{crate.name} is not proved as it stands")

@@ -18,6 +18,7 @@ pub mod Once
 pub mod Reread
 pub mod Valid
 pub mod Narrowing
+pub mod Bare
 pub mod Printed
 pub mod Rows
 pub mod Alternatives

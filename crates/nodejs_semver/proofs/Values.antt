@@ -1,21 +1,24 @@
 -- What holds of spans of versions holds of the spans of their values, where the order of the versions is that of the values.
 use Rattle.nodejs_semver.proofs.Common.{◌≡◌, ◌∙◌, Bool, List, [], ◌∷◌, ◌++◌, refl, ap, ap₂, sym, Option, Some, None, map}
-use Rattle.nodejs_semver.proofs.Common.{if◌then◌else◌, is_some, length, option_to_list, Ordering, ℕ, ◌+◌, ◌<◌, get_or, take}
-use Rattle.nodejs_semver.proofs.Common.{arith, list_all, Span, cut_cmp, greater_lower, interval, is_interval, lesser_upper}
-use Rattle.nodejs_semver.proofs.Common.{lower_cut, meet, upper_cut, left_below, left_above, precedence, VersionValue, Bound}
-use Rattle.nodejs_semver.proofs.Common.{After, Before, Unbounded, inl, inr, list_any, or_cases, or_left, or_right, remainder, span_of, true}
-use Rattle.std.proofs.lemmas.List.{length-map}
-use Rattle.std.proofs.Common.{codes, option_map}
-use Rattle.std.proofs.lemmas.List.{map-append}
+use Rattle.nodejs_semver.proofs.Common.{if◌then◌else◌, is_some, length, option_to_list, Ordering, ℕ, ◌+◌, ◌<◌, get_or, take, arith}
+use Rattle.nodejs_semver.proofs.Common.{list_all, Span, cut_cmp, greater_lower, interval, is_interval, lesser_upper, lower_cut}
+use Rattle.nodejs_semver.proofs.Common.{meet, upper_cut, left_below, left_above, precedence, VersionValue, Bound, After, Before}
+use Rattle.nodejs_semver.proofs.Common.{Unbounded, inl, inr, list_any, or_cases, or_left, or_right, remainder, span_of, true}
+use Rattle.nodejs_semver.proofs.Common.{meets_of, minus, bound_of, spans_of}
+use Rattle.std.proofs.lemmas.List.{length-map, map-append}
+use Rattle.std.proofs.Common.{codes, option_map, Equal, Greater}
 use Rattle.std.proofs.lemmas.List.Folds.{flat_map-map, list_all-map}
 use Rattle.std.specs.List.{flat_map, join_by}
 use Rattle.nodejs_semver.proofs.Algebra.FlatMaps.{take_next}
-use Rattle.nodejs_semver.specs.Internal.Sets.{AreTaking, meets_of, minus, span_text}
+use Rattle.nodejs_semver.specs.Internal.Sets.{AreTaking, span_text}
 use Rattle.nodejs_semver.specs.Printing.Text.{range_text}
-use Rattle.nodejs_semver.specs.Ranges.View.{TakesMemory, bound_of}
-use Rattle.nodejs_semver.specs.Internal.Shorthands.{spans_of}
+use Rattle.nodejs_semver.specs.Ranges.View.{TakesMemory}
 use Rattle.semver_core.specs.Cuts.{has_bound, passes}
 use Rattle.semver_core.specs.Values.Memory.{takes_memory}
+use Rattle.semver_core.specs.Cuts.{Beside, is_past}
+use Rattle.semver_core.specs.Internal.OrderLaws.{precedence_total}
+use Rattle.std.specs.Ordering.{is_ge, is_gt, is_le, ordering_reverse, ordering_then}
+use Rattle.std.specs.Prelude.{false}
 
 -- versions that are their own values
 pub span_same : (s : Span VersionValue) → span_of (λ v. v) s ≡ s
@@ -147,3 +150,18 @@ module _ {V : Type 0} (takes : V → Bool) (value : V → VersionValue)
       → TakesMemory ts
   taking-values ss ts e (inl many) = inl (omega (arith, many, length-map ss (span_of value), ap length e))
   taking-values ss ts e (inr any) = inr (rw (sym e) (any-values ss any))
+
+-- a version lies past the cut of a bound by its order to the version that the bound names
+pub past-before : (v w : VersionValue) → is_past precedence (Beside v false) w ≡ is_ge (precedence w v)
+past-before v w = turned (precedence v w) (precedence w v) (precedence_total.antisymm v w)
+  where
+    turned : (r s : Ordering) → r ≡ ordering_reverse s → is_le (ordering_then r Equal) ≡ is_ge s
+    turned r s e = grind arith
+
+pub past-after : (v w : VersionValue) → is_past precedence (Beside v true) w ≡ is_gt (precedence w v)
+past-after v w = turned (precedence v w) (precedence w v) (precedence_total.antisymm v w)
+  where
+    turned : (r s : Ordering) → r ≡ ordering_reverse s → is_le (ordering_then r Greater) ≡ is_gt s
+    turned r s e = grind arith
+
+pub ruleset past_named = (past-before, past-after)

@@ -1,10 +1,8 @@
 -- A version is made or copied without memory where it has no identifiers, or the pre-release 0 alone.
-use Rattle.std.proofs.Common.{◌≡◌, true, List, [], ◌∷◌, ◌==◌, refl, arith, inl, inr}
-use Rattle.std.specs.Prelude.{IsOk, OnErr, Result, Ok, Err}
-use Rattle.std.proofs.lemmas.Bool.{cases_Bool, eqb-true}
-use Rattle.std.proofs.lemmas.Bool.Decides.{nat_tests}
-use Rattle.semver_core.specs.Text.Identifiers.{Id, Numeric, AlphaNumeric}
-use Rattle.semver_core.specs.Values.Versions.{HasIdentifiers, VersionValue}
+use Rattle.semver_core.proofs.Common.{◌≡◌, true, List, [], ◌∷◌, refl, arith, inl, inr, Result, Ok, Err, cases_Bool, eqb-true}
+use Rattle.semver_core.proofs.Common.{nat_tests, Id, Numeric, AlphaNumeric, HasIdentifiers, VersionValue}
+use Rattle.std.proofs.Common.{◌==◌}
+use Rattle.std.specs.Prelude.{IsOk, OnErr}
 use Rattle.semver_core.specs.Values.Memory.{takes_memory}
 
 taken : (v : VersionValue) (pre build : List Id) → v.pre_release ≡ pre → v.build ≡ build → HasIdentifiers v

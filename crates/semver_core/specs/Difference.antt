@@ -1,6 +1,6 @@
 -- Statement: what kind of difference there is between two versions.
 use Rattle.std.specs.Prelude.{◌==◌, ◌&&◌, not, ℕ, if◌then◌else◌, List, codes, Option, Some, None}
-use Rattle.std.specs.declared.cmp.Ordering.TheVariants.{Less, Equal, Greater}
+use Rattle.std.specs.declared.cmp.Ordering.TheVariants.{Less, Equal}
 use Rattle.semver_core.specs.Values.Order.{precedence}
 use Rattle.semver_core.specs.Values.Versions.{VersionValue, is_release}
 use Rattle.semver_core.specs.declared.difference.VersionDiff.{VersionDiff}

@@ -230,8 +230,8 @@ impl Version {
     ///
     /// ```rust
     /// let release = Version::from((1u64, 2, 3));
-    /// let beta = release.inc(alloc, "prerelease", Some("beta"), None)?;
-    /// assert_eq!(rt; beta, Version::parse(alloc, "1.2.4-beta.0")?);
+    /// let beta = release.inc(alloc, "prerelease", Some("beta"), None).ok();
+    /// assert!(rt; beta == Version::parse(alloc, "1.2.4-beta.0").ok());
     /// ```
     pub fn inc(
         &self,
@@ -258,8 +258,8 @@ impl<'a> VersionRef<'a> {
     ///
     /// ```rust
     /// let release = VersionRef::parse("1.2.3")?;
-    /// let beta = release.inc(alloc, "prerelease", Some("beta"), None)?;
-    /// assert_eq!(rt; beta, Version::parse(alloc, "1.2.4-beta.0")?);
+    /// let beta = release.inc(alloc, "prerelease", Some("beta"), None).ok();
+    /// assert!(rt; beta == Version::parse(alloc, "1.2.4-beta.0").ok());
     /// ```
     pub fn inc(
         &self,

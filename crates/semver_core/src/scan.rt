@@ -50,13 +50,6 @@ pub fn is_whitespace_code(code: u32) -> bool
         || matches!(code, 0x2028 | 0x2029 | 0x202F | 0x205F | 0x3000 | 0xFEFF)
 }
 
-#[inline(always)]
-fn is_whitespace(character: char) -> bool
-    ensures { result ≡ is_whitespace character }
-{
-    is_whitespace_code(u32::from(character))
-}
-
 /// Returns the place behind the whitespace that begins at a place, which is that place itself if no
 /// whitespace stands there.
 ///
@@ -72,7 +65,7 @@ pub fn skip_whitespace(text: &str, at: usize) -> usize
 {
     let mut end = at;
     'spaces: for character in text[at..].chars() {
-        if !is_whitespace(character) {
+        if !is_whitespace_code(u32::from(character)) {
             return end;
         }
         end += character.len_utf8();
@@ -101,7 +94,7 @@ fn trim_end(text: &str) -> &str
     let mut rest = text;
     let mut before = text.chars();
     'spaces: while let Some(character) = before.next_back() {
-        if !is_whitespace(character) {
+        if !is_whitespace_code(u32::from(character)) {
             return rest;
         }
         rest = before.as_str();
@@ -423,7 +416,6 @@ pub(crate) fn read_listed(
     requires listed { is_listed bytes.now ≡ true }
     requires empty { list.old.items ≡ [] }
     ensures whole { OnOk result (ids_view list.new.items ≡ listed bytes.now) }
-    ensures some { OnOk result (0 < length bytes.now → 0 < length list.new.items) }
 {
     if !bytes.is_empty() {
         read_into(alloc, text_front(bytes), 0, list)?;

@@ -63,7 +63,7 @@ impl Version {
     ///
     /// ```rust
     /// let version = Version::parse(alloc, "v1.2.3-beta.1, the second beta")?;
-    /// assert_eq!(rt; version, Version::parse(alloc, "1.2.3-beta.1+another.build")?);
+    /// assert!(rt; version == Version::parse(alloc, "1.2.3-beta.1+another.build")?);
     /// assert!(rt; Version::parse(alloc, "1.2").is_err());
     /// ```
     #[inline(always)]

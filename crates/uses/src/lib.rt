@@ -7,5 +7,3 @@ pub mod index;
 pub mod release;
 pub mod resolver;
 pub mod subset;
-#[cfg(test)]
-mod tests;

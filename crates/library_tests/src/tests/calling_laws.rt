@@ -9,7 +9,6 @@ use nodejs_semver::diagnosis::{VersionFlaw, version_flaw};
 use nodejs_semver::laws::ignored_words_mean_nothing;
 use nodejs_semver::{Failure, MAX_SAFE_INTEGER, Range, SemverError};
 use std::alloc::Global;
-use std::test::Fail;
 
 // The one flaw of a version text.
 fn the_flaw(text: &str) -> Option<VersionFlaw>
@@ -28,9 +27,9 @@ fn range_of_all(alloc: Global, text: &str) -> Result<Range, Failure<SemverError>
 }
 
 #[test]
-fn laws_serve_callers(rt: HostRuntime) -> Result<(), Fail> {
-    assert_eq!(rt; the_flaw("1.2.3 "), Some(VersionFlaw::Ignored { at: 5 }));
-    let range = range_of_all(rt.alloc(), "foo 1.2.3")?;
-    assert_eq!(rt; range, Range::parse(rt.alloc(), "1.2.3 bar")?);
-    Ok(())
+fn laws_serve_callers(rt: HostRuntime) {
+    assert!(rt; the_flaw("1.2.3 ") == Some(VersionFlaw::Ignored { at: 5 }));
+    let range = range_of_all(rt.alloc(), "foo 1.2.3").ok();
+    assert!(rt; range.is_some());
+    assert!(rt; range == Range::parse(rt.alloc(), "1.2.3 bar").ok());
 }

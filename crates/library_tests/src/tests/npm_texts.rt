@@ -72,7 +72,7 @@ fn versions_are_read_loosely(rt: HostRuntime) {
     for text in REJECTED {
         assert!(rt; npm::version_loose(text).is_err());
     }
-    assert_eq!(rt; major_of("= 020.1.0"), Ok(20));
+    assert!(rt; major_of("= 020.1.0") == Ok(20));
 }
 
 // Whether `coerce` finds a version in a text.

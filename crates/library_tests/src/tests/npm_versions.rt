@@ -75,7 +75,7 @@ fn versions_are_read_strictly(rt: HostRuntime) {
     for text in REJECTED {
         assert!(rt; !is_version(text));
     }
-    assert_eq!(rt; major_of("v20.1.0"), Ok(20));
+    assert!(rt; major_of("v20.1.0") == Ok(20));
 }
 
 // Whether a text of `1.2.3`, and this character so many times behind it, is a version.

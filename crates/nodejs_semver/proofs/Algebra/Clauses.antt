@@ -1,26 +1,34 @@
 -- What the intersection and the difference of two lists hold and accept, and that their intervals are those of a range.
-use Rattle.std.proofs.Common.{ap, ap₂, subst, ◌≡◌, ◌≢◌, sym, ◌∙◌, ℕ, ◌+◌, ◌<◌, ◌⊎◌, inl, inr, true, false, ◌&&◌, not}
-use Rattle.std.proofs.Common.{Ordering, List, length, Option, IsTrue, is_some, arith, IfOk, Result}
+use Rattle.nodejs_semver.proofs.Common.{ap, ap₂, subst, ◌≡◌, sym, ◌∙◌, ℕ, ◌+◌, ◌<◌, ◌⊎◌, inl, inr, true, false, ◌&&◌, not, Ordering}
+use Rattle.nodejs_semver.proofs.Common.{Bool, [], ◌∷◌, get_or, meet, option_to_list}
+use Rattle.nodejs_semver.proofs.Common.{List, length, Option, IsTrue, is_some, arith, first_so, list_all, Span, is_interval, if_any}
+use Rattle.nodejs_semver.proofs.Common.{precedence, precedence_total, VersionValue, is_release, MAX_SAFE_INTEGER, accepts}
+use Rattle.nodejs_semver.proofs.Common.{list_holds, span_of, meets_of, minus, is_range_span, IsRange, is_range_bound, spans_of}
+use Rattle.std.proofs.Common.{◌≢◌, IfOk, Result}
 use Rattle.nodejs_semver.proofs.Values.{all_intervals-values, meets_of-values, minus-values}
 use Rattle.std.proofs.lemmas.List.{length-map}
 use Rattle.std.proofs.lemmas.Result.{IfOk-weaker}
-use Rattle.std.specs.Cmp.{first_so}
-use Rattle.std.specs.List.{list_all}
-use Rattle.nodejs_semver.specs.Internal.Sets.{option_list_holds, option_accepts, meets_of, minus, is_range_span}
-use Rattle.semver_core.specs.Cuts.{Span, is_interval}
-use Rattle.semver_core.specs.Lists.{if_any}
-use Rattle.semver_core.specs.Values.Order.{precedence}
-use Rattle.semver_core.specs.Internal.OrderLaws.{precedence_total}
-use Rattle.semver_core.specs.Values.Versions.{VersionValue, is_release}
-use Rattle.semver_core.specs.declared.TheConstants.{MAX_SAFE_INTEGER}
-use Rattle.nodejs_semver.specs.Ranges.Gate.{accepts}
-use Rattle.nodejs_semver.specs.Ranges.Algebra.{intersection, difference, list_holds}
-use Rattle.nodejs_semver.specs.Ranges.View.{IsRange, is_range_bound, span_of}
-use Rattle.nodejs_semver.specs.Internal.Shorthands.{spans_of}
+use Rattle.nodejs_semver.specs.Internal.Sets.{option_list_holds, option_accepts}
+use Rattle.nodejs_semver.specs.Ranges.Algebra.{intersection, difference}
 use Rattle.nodejs_semver.proofs.Algebra.Accepting.{accepts-held, accepts-release, list_holds-meets_of, list_holds-minus}
 use Rattle.nodejs_semver.proofs.Algebra.Accepting.{option_list_holds-if_any}
 use Rattle.nodejs_semver.proofs.Algebra.FlatMaps.{all_weaker}
 use Rattle.nodejs_semver.proofs.Algebra.Spans.{fine-meets_of, fine-minus}
+
+-- what two lists of one interval each have in common
+pub meets_of-lone : {V : Type 0} (R : V → V → Ordering) (xs ys : List (Span V)) (s t : Span V) → length xs ≡ 1 → length ys ≡ 1
+    → s ≡ get_or xs 0 s → t ≡ get_or ys 0 t → meets_of R xs ys ≡ option_to_list (meet R s t)
+meets_of-lone R (x ∷ []) (y ∷ []) s t e f g h = grind arith
+meets_of-lone R (x ∷ []) [] s t e f g h = grind arith
+meets_of-lone R (x ∷ []) (y ∷ z ∷ zs) s t e f g h = grind arith
+meets_of-lone R [] ys s t e f g h = grind arith
+meets_of-lone R (x ∷ z ∷ zs) ys s t e f g h = grind arith
+
+pub listed_some : {A : Type 0} (m : Option A) → IsTrue (is_some m) → 0 < length (option_to_list m)
+listed_some m e = grind arith
+
+pub listed_none : {A : Type 0} (m : Option A) (is : Bool) → is ≡ is_some m → is ≡ false → option_to_list m ≡ []
+listed_none m is e f = grind arith
 
 option_accepts-held : (r : Option (List (Span VersionValue))) (v : VersionValue)
     → option_accepts r v true ≡ option_list_holds precedence r v

@@ -4,15 +4,14 @@ use Rattle.nodejs_semver.proofs.Common.{get_or, take, drop, Bool, true, false, �
 use Rattle.nodejs_semver.proofs.Common.{◌++◌, Option, Some, None, is_some, arith, append-nil, take_all, option_to_list, Ordering}
 use Rattle.nodejs_semver.proofs.Common.{and_from, and_parts, cases_Bool, IsTotalOrder, list_all, between_parts, gt_lt, lt, not_if}
 use Rattle.nodejs_semver.proofs.Common.{one_way, remainders_by, turned_lower, turned_upper, clip, Span, Cut, Start, cut_cmp}
-use Rattle.nodejs_semver.proofs.Common.{lower_cut, upper_cut, is_interval, greater_lower, lesser_upper, remainder, Bound}
-use Rattle.nodejs_semver.proofs.Common.{Unbounded}
+use Rattle.nodejs_semver.proofs.Common.{lower_cut, upper_cut, is_interval, greater_lower, lesser_upper, remainder, Bound, Unbounded}
+use Rattle.nodejs_semver.proofs.Common.{minus}
 use Rattle.std.proofs.Common.{length-drop, get_or-drop, is_lt}
 use Rattle.std.proofs.lemmas.Bool.{not-false}
 use Rattle.std.proofs.Math.Bool.{and-false}
 use Rattle.std.proofs.lemmas.Grind.{flat_map-append, fold-append}
 use Rattle.std.specs.List.{AllWithin, flat_map}
 use Rattle.std.specs.List.Sorted.{IsPartitionedBy, IsPartitionPoint}
-use Rattle.nodejs_semver.specs.Internal.Sets.{minus}
 use Rattle.semver_core.proofs.CutLaws.{is_some-interval, between, below_lesser, below_upto, between_from, irreflexive, lt_trans}
 use Rattle.semver_core.proofs.CutLaws.{greater_below, not_above, not_below, upto_below}
 use Rattle.nodejs_semver.proofs.Algebra.FlatMaps.{flat_flat, flat_same}

@@ -1,9 +1,8 @@
 -- What a range text's intervals hold is what the text writes.
 use Rattle.nodejs_semver.proofs.Common.{◌≡◌, ℕ, List, [], ◌∷◌, refl, sym, ap₂, ◌∙◌, true, Bool, map, ◌||◌, flat_map, Ordering}
 use Rattle.nodejs_semver.proofs.Common.{arith, list_any-append, IsTotalOrder, list_all, list_any, list_holds, precedence}
-use Rattle.nodejs_semver.proofs.Common.{precedence_total, VersionValue, Run, interval_of, is_empty, run_writes}
-use Rattle.nodejs_semver.specs.Internal.Denotes.{denotes, part_denotes}
-use Rattle.nodejs_semver.specs.Internal.Parts.{parts}
+use Rattle.nodejs_semver.proofs.Common.{precedence_total, VersionValue, Run, interval_of, is_empty, run_writes, denotes}
+use Rattle.nodejs_semver.proofs.Common.{part_denotes, parts}
 use Rattle.nodejs_semver.specs.Internal.Writes.{part_writes, writes}
 use Rattle.nodejs_semver.proofs.Dividing.BarLemmas.{parts-front}
 use Rattle.nodejs_semver.proofs.Dividing.RunLemmas.{run-holds}

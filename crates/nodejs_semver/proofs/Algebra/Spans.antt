@@ -1,10 +1,9 @@
 -- What the set algebra makes of intervals whose bounds meet a test are such intervals again.
 use Rattle.nodejs_semver.proofs.Common.{◌≡◌, refl, ◌∙◌, Bool, true, ◌&&◌, List, [], ◌∷◌, ◌++◌, Some, None, option_to_list, is_gt}
 use Rattle.nodejs_semver.proofs.Common.{Ordering, arith, and_parts, cond_both, list_all-append, IsTotalOrder, list_all}
-use Rattle.nodejs_semver.proofs.Common.{remainders_by, turned_lower, turned_upper, Span, cut_cmp, lower_cut, upper_cut}
-use Rattle.nodejs_semver.proofs.Common.{is_interval, meet, left_below, left_above, Bound, remainder}
+use Rattle.nodejs_semver.proofs.Common.{remainders_by, turned_lower, turned_upper, Span, cut_cmp, lower_cut, upper_cut, is_interval}
+use Rattle.nodejs_semver.proofs.Common.{meet, left_below, left_above, Bound, remainder, meets_of, minus}
 use Rattle.std.specs.List.{flat_map}
-use Rattle.nodejs_semver.specs.Internal.Sets.{meets_of, minus}
 use Rattle.nodejs_semver.proofs.Algebra.FlatMaps.{all_flat, all_weaker}
 
 module _ {V : Type 0} {R : V → V → Ordering} (o : IsTotalOrder R) (F : Bound V → Bool) where

@@ -2,11 +2,9 @@
 use Rattle.nodejs_semver.proofs.Common.{◌≡◌, ℕ, zero, suc, ◌+◌, List, [], ◌∷◌, length, map, refl, Bool, true, arith, cond_both}
 use Rattle.nodejs_semver.proofs.Common.{and_from, and_parts, flat_map, if◌then◌else◌, AllByRecursion, list_all, list_all-append}
 use Rattle.nodejs_semver.proofs.Common.{Span, Bound, precedence, drop_spaces, VersionValue, Run, fits, interval_of, run_items}
-use Rattle.nodejs_semver.proofs.Common.{table, first_so, second_so}
+use Rattle.nodejs_semver.proofs.Common.{table, first_so, second_so, is_range_span, denotes, part_bounds, part_denotes}
+use Rattle.nodejs_semver.proofs.Common.{is_range_bound}
 use Rattle.std.specs.Prelude.{filter_map}
-use Rattle.nodejs_semver.specs.Internal.Sets.{is_range_span}
-use Rattle.nodejs_semver.specs.Internal.Denotes.{denotes, part_bounds, part_denotes}
-use Rattle.nodejs_semver.specs.Ranges.View.{is_range_bound}
 use Rattle.nodejs_semver.specs.Text.Runs.{greatest_lower, least_upper}
 use Rattle.nodejs_semver.specs.Internal.Words.{word_at, words_within}
 use Rattle.nodejs_semver.proofs.Bounds.Bounded.{word-fine}

@@ -1,15 +1,14 @@
 -- For proofs. What the rows of the word table give: intervals, whose bounds are such as a range may have.
-use Rattle.nodejs_semver.proofs.Common.{◌≡◌, ℕ, zero, suc, ◌≤◌, ◌+◌, List, refl, arith, Bool, true, Some, None, Less, Option}
-use Rattle.nodejs_semver.proofs.Common.{◌&&◌, tied_itself, list_all, Span, interval, is_interval, Bound, Before, After, Id}
-use Rattle.nodejs_semver.proofs.Common.{precedence, precedence_total, above_patch, VersionValue, Partial, table, Word, hyphen}
-use Rattle.nodejs_semver.proofs.Common.{malformed, plain, and_from}
+use Rattle.nodejs_semver.proofs.Common.{◌≡◌, ℕ, zero, suc, ◌≤◌, ◌+◌, List, refl, arith, Bool, true, Some, None, Less, Option, ◌&&◌}
+use Rattle.nodejs_semver.proofs.Common.{tied_itself, list_all, Span, interval, is_interval, Bound, Before, After, Id, precedence}
+use Rattle.nodejs_semver.proofs.Common.{precedence_total, above_patch, VersionValue, Partial, table, Word, hyphen, malformed, plain}
+use Rattle.nodejs_semver.proofs.Common.{and_from, is_range_bound, Comparator, compare, tilde}
 use Rattle.std.specs.Prelude.{unwrap_or}
 use Rattle.semver_core.specs.Printing.RoundTrip.{is_normal, is_readable}
 use Rattle.semver_core.specs.Internal.Successors.{above_major, above_minor}
 use Rattle.semver_core.specs.Values.Versions.{release_value}
-use Rattle.nodejs_semver.specs.Ranges.View.{is_range_bound}
 use Rattle.nodejs_semver.specs.Text.Table.{lowest, row, version_of, without_build}
-use Rattle.nodejs_semver.specs.Text.WordText.{Comparator, at_most, below, caret, compare, equal, tilde, above}
+use Rattle.nodejs_semver.specs.Text.WordText.{at_most, below, caret, equal, above}
 use Rattle.nodejs_semver.proofs.Bounds.Bounded.{Fine, FineWord, Fits}
 
 -- ---- the versions of the table

@@ -1,20 +1,16 @@
 -- The version that is found in a list is the best one of those in the set.
-use Rattle.std.proofs.Common.{arith, ◌<◌, ◌+◌, ℕ, length, take, get_or, subst, ◌≡◌, refl, sym, ◌∙◌, ap, Bool, true, false}
-use Rattle.std.proofs.Common.{◌||◌, not, if◌then◌else◌, inl, inr, List, [], ◌∷◌, ◌++◌, Option, Some, None, IfSome, IfNone, Bor}
-use Rattle.std.proofs.Common.{append_assoc, option_copied, map, Ordering, is_lt, is_le}
-use Rattle.std.proofs.lemmas.Bool.{and_from, cases_Bool, not-true}
-use Rattle.std.proofs.lemmas.List.Folds.{list_all-append}
+use Rattle.nodejs_semver.proofs.Common.{arith, ◌<◌, ◌+◌, ℕ, length, take, get_or, subst, ◌≡◌, refl, sym, ◌∙◌, ap, Bool, true, false}
+use Rattle.nodejs_semver.proofs.Common.{◌||◌, not, if◌then◌else◌, inl, inr, List, [], ◌∷◌, ◌++◌, Option, Some, None, IfSome}
+use Rattle.nodejs_semver.proofs.Common.{append_assoc, map, Ordering, and_from, cases_Bool, not-true, list_all-append, IsTotalOrder}
+use Rattle.nodejs_semver.proofs.Common.{tied_itself, list_all, precedence_total, precedence, VersionValue}
+use Rattle.std.proofs.Common.{IfNone, Bor, option_copied, is_lt, is_le}
 use Rattle.std.proofs.lemmas.List.Elements.{All-append, All-cons, All-same, All-weaker, Contains-append_right}
 use Rattle.std.proofs.lemmas.List.Sums.{AllPass-from_list_all}
-use Rattle.std.specs.Cmp.{IsTotalOrder, tied_itself}
-use Rattle.std.specs.List.{All, Contains, list_all}
+use Rattle.std.specs.List.{All, Contains}
 use Rattle.nodejs_semver.proofs.Algebra.FlatMaps.{all_weaker}
 use Rattle.nodejs_semver.proofs.Values.{map-further}
 use Rattle.nodejs_semver.proofs.Algebra.Triples.{le_of_lt, le_trans, lt_is, lt_le}
-use Rattle.semver_core.specs.Internal.OrderLaws.{precedence_total}
 use Rattle.nodejs_semver.specs.Ranges.Best.{IsBest, IsMax, IsMin, replaces}
-use Rattle.semver_core.specs.Values.Order.{precedence}
-use Rattle.semver_core.specs.Values.Versions.{VersionValue}
 
 -- what holds of the two relations of the best
 record Ranks {V : Type 0} (in_front behind : V → V → Bool) : Type 0 where

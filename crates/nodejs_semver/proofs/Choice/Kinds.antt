@@ -1,16 +1,15 @@
 -- Spans of versions of any kind, read one by one as the spans of their values.
-use Rattle.nodejs_semver.proofs.Common.{◌≡◌, refl, sym, ◌∙◌, ap, subst, ℕ, ◌+◌, ◌<◌, Bool, List, [], ◌∷◌, ◌++◌, length, get_or, take, arith, Span}
-use Rattle.nodejs_semver.proofs.Common.{Option, Some, None, IfSome, map, cond_both, common_steps, VersionValue, span_of}
+use Rattle.nodejs_semver.proofs.Common.{◌≡◌, refl, sym, ◌∙◌, ap, subst, ℕ, ◌+◌, ◌<◌, Bool, List, [], ◌∷◌, ◌++◌, length, get_or}
+use Rattle.nodejs_semver.proofs.Common.{take, arith, Span, Option, Some, None, IfSome, map, cond_both, common_steps, VersionValue}
+use Rattle.nodejs_semver.proofs.Common.{span_of, find, All, Any, IsRaisable, Raisable, better, firsts, list_marks, removed_marks}
+use Rattle.nodejs_semver.proofs.Common.{spans_of, bound_of}
 use Rattle.std.proofs.Common.{fold, option_map}
 use Rattle.std.proofs.lemmas.Grind.{flat_map-append}
-use Rattle.std.proofs.lemmas.List.Elements.{All-head, All-tail}
-use Rattle.std.specs.List.{find, flat_map}
+use Rattle.std.proofs.lemmas.List.Elements.{All-head, All-tail, All-get_or}
+use Rattle.std.specs.List.{flat_map}
 use Rattle.std.proofs.lemmas.List.{get_or-map, length-map}
-use Rattle.std.proofs.lemmas.List.Elements.{All-get_or}
-use Rattle.std.specs.List.{All, Any}
-use Rattle.nodejs_semver.specs.Internal.Candidates.{IsRaisable, Raisable, below_named, beside, better, firsts, list_marks, removed_marks}
-use Rattle.nodejs_semver.specs.Internal.Shorthands.{spans_of}
-use Rattle.nodejs_semver.specs.Ranges.View.{bound_of}
+use Rattle.nodejs_semver.specs.Internal.Candidates.{below_named, beside, candidates, zero}
+use Rattle.nodejs_semver.proofs.Algebra.FlatMaps.{take_next}
 use Rattle.nodejs_semver.proofs.Values.{map-further}
 
 module _ {V : Type 0} (value : V → VersionValue) (xs : List (Span V)) (i : ℕ) (x : Span V) (within : i < length xs)
@@ -57,6 +56,31 @@ fold-append : (set : VersionValue → Bool) (o : Option VersionValue) (xs ys : L
     → fold (better set) o (xs ++ ys) ≡ fold (better set) (fold (better set) o xs) ys
 fold-append set o [] ys = refl
 fold-append set o (x ∷ xs) ys = fold-append set (better set o x) xs ys
+
+pub any_here : {X : Type 0} (P : X → Type 0) (xs : List X) (i : ℕ) (x : X) → i < length xs → x ≡ get_or xs i x → P x → Any P xs
+any_here P xs i x within at h = (i, x, within, sym at, h)
+
+-- all marks, after the first version of all
+pub all_marks : (set : VersionValue → Bool) (kss : List (List (Span VersionValue))) (ls : List (Span VersionValue))
+    (old first mid new : Option VersionValue) → first ≡ better set old zero
+    → mid ≡ fold (better set) first (flat_map firsts (flat_map list_marks kss))
+    → new ≡ fold (better set) mid (flat_map firsts (flat_map removed_marks ls)) → new ≡ fold (better set) old (candidates kss ls)
+all_marks set kss ls old first mid new f m n =
+    let ks = flat_map list_marks kss in
+    let rs = flat_map removed_marks ls in
+    n
+    ∙ ap (λ o. fold (better set) o (flat_map firsts rs)) m
+    ∙ sym (fold-append set first (flat_map firsts ks) (flat_map firsts rs))
+    ∙ ap (fold (better set) first) (sym (flat_map-append firsts ks rs))
+    ∙ ap (λ o. fold (better set) o (flat_map firsts (ks ++ rs))) f
+
+pub range_further : (set : VersionValue → Bool) (kss : List (List (Span VersionValue))) (i : ℕ) (ks : List (Span VersionValue))
+    → i < length kss → ks ≡ get_or kss i ks → (start old new : Option VersionValue)
+    → old ≡ fold (better set) start (flat_map firsts (flat_map list_marks (take i kss)))
+    → new ≡ fold (better set) old (flat_map firsts (list_marks ks))
+    → new ≡ fold (better set) start (flat_map firsts (flat_map list_marks (take (i + 1) kss)))
+range_further set kss i ks within at start old new e k =
+    grind (arith, common_steps, e, k, take_next kss i ks within at, fold-append, flat_map-append)
 
 module _ {V : Type 0} (value : V → VersionValue) (set : VersionValue → Bool) (xs : List (Span V)) (i : ℕ) (x : Span V)
     (within : i < length xs) (at : x ≡ get_or xs i x) (start old new : Option VersionValue) where

@@ -1,8 +1,7 @@
 -- The build of a least version is that of the lower bound from which it comes.
-use Rattle.nodejs_semver.proofs.Common.{◌≡◌, refl, sym, ◌∙◌, ap, Bool, true, false, ◌&&◌, ◌||◌, List, [], ◌∷◌, ◌++◌, Option, Some, None, arith}
-use Rattle.nodejs_semver.proofs.Common.{list_any, Span, holds, precedence, VersionValue, accepts, lets_in, least_build}
+use Rattle.nodejs_semver.proofs.Common.{◌≡◌, refl, sym, ◌∙◌, ap, Bool, true, false, ◌&&◌, List, [], ◌∷◌, ◌++◌, Option, Some, None}
+use Rattle.nodejs_semver.proofs.Common.{arith, list_any, Span, holds, precedence, VersionValue, accepts, lets_in, least_build, find}
 use Rattle.std.proofs.Math.Bool.{or-false}
-use Rattle.std.specs.List.{find}
 use Rattle.std.specs.Option.{option_and_then}
 use Rattle.semver_core.specs.Values.Order.{version_eq}
 use Rattle.nodejs_semver.specs.Ranges.Least.{begins_with}

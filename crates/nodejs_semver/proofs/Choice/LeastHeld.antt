@@ -3,12 +3,11 @@ use Rattle.nodejs_semver.proofs.Common.{◌≡◌, refl, ◌∙◌, ap, Bool, tr
 use Rattle.nodejs_semver.proofs.Common.{if◌then◌else◌, Option, IfSome, arith, is_le, and_from, or_cases, or_left, or_right}
 use Rattle.nodejs_semver.proofs.Common.{list_any, first_so, tied_itself, alike_right, Near, Far, Span, holds, is_past, lower_cut}
 use Rattle.nodejs_semver.proofs.Common.{upper_cut, Beside, Bound, Unbounded, Before, After, precedence, precedence_total}
-use Rattle.nodejs_semver.proofs.Common.{VersionValue, is_release, above_patch, cut_total, tells, accepts, IsLeastOf}
+use Rattle.nodejs_semver.proofs.Common.{VersionValue, is_release, above_patch, cut_total, tells, accepts, IsLeastOf, All, least_of}
 use Rattle.std.specs.Ordering.{is_gt}
 use Rattle.std.proofs.lemmas.List.Elements.{All-cons, All-nil}
-use Rattle.std.specs.List.{All}
 use Rattle.semver_core.proofs.Values.NextLaws.{first_of_all, least_after_release}
-use Rattle.nodejs_semver.specs.Internal.Candidates.{bare, first_pre, pre_after, patch_after, first_past, improves, least_of}
+use Rattle.nodejs_semver.specs.Internal.Candidates.{bare, first_pre, pre_after, patch_after, first_past, improves}
 use Rattle.nodejs_semver.proofs.Algebra.FlatMaps.{any_same, empty_is}
 use Rattle.nodejs_semver.proofs.Algebra.Triples.{triple_total}
 use Rattle.nodejs_semver.proofs.Algebra.Gate.{past_order}

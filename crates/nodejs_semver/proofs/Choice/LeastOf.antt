@@ -1,16 +1,15 @@
 -- The first least version of a set among a list, which is the least of the set where each of its versions has one of the list
 -- below it.
 use Rattle.nodejs_semver.proofs.Common.{◌≡◌, refl, sym, ◌∙◌, ap, ap₂, subst, Bool, true, false, ◌&&◌, ◌||◌, not, List, [], ◌∷◌}
-use Rattle.nodejs_semver.proofs.Common.{◌++◌, Option, Some, None, if◌then◌else◌, IfSome, ◌<◌, ◌-◌, length, get_or, take, drop}
-use Rattle.nodejs_semver.proofs.Common.{arith, and-true, cond_both, take_rest, first_so, tied_itself, alike_right, list_any}
-use Rattle.nodejs_semver.proofs.Common.{is_le, Near, Far, cut_total, Span, Cut, Start, Beside, holds, Bound, precedence_total}
-use Rattle.nodejs_semver.proofs.Common.{lets_in, accepts, IsLeastOf, least_build, Id, precedence, VersionValue, is_release}
+use Rattle.nodejs_semver.proofs.Common.{◌++◌, Option, Some, None, if◌then◌else◌, IfSome, ◌<◌, length, arith, and-true}
+use Rattle.nodejs_semver.proofs.Common.{cond_both, first_so, tied_itself, alike_right, list_any, is_le, Near, Far, cut_total, Span}
+use Rattle.nodejs_semver.proofs.Common.{Cut, Start, Beside, holds, Bound, precedence_total, lets_in, accepts, IsLeastOf}
+use Rattle.nodejs_semver.proofs.Common.{least_build, Id, precedence, VersionValue, is_release}
 use Rattle.std.proofs.Common.{option_and_then}
 use Rattle.std.proofs.Math.Bool.{or-false}
 use Rattle.std.proofs.lemmas.Bool.{or_parts}
 use Rattle.std.proofs.lemmas.List.Elements.{All-append, All-from_recursion, All-head, All-nil, All-tail}
 use Rattle.std.specs.List.{All, find, flat_map, fold}
-use Rattle.std.specs.Ordering.{is_lt}
 use Rattle.semver_core.proofs.Values.NextLaws.{first_of_all}
 use Rattle.nodejs_semver.proofs.Algebra.FlatMaps.{any_same}
 use Rattle.nodejs_semver.proofs.Algebra.Triples.{le_of_lt, le_trans, lt_is, triple_total}
@@ -40,11 +39,11 @@ module _ (set : VersionValue → Bool) where
       → is_reached (better set best x) v ≡ true
   reaches None x v h = grind arith
   reaches (Some b) x v h =
-      cond_both (is_lt (precedence x b) && set x) (Some x) (Some b) (λ o. is_reached o v ≡ true)
+      cond_both (not (is_le (precedence b x)) && set x) (Some x) (Some b) (λ o. is_reached o v ≡ true)
       (λ e. replaced (is_le (precedence b v)) (set x) (is_le (precedence x v)) h
-      (λ k. le_trans precedence_total x b v (le_of_lt (precedence x b) (first_so _ _ e)) k))
+      (λ k. le_trans precedence_total x b v (le_of_lt (precedence x b) (lt_is precedence_total x b ∙ first_so _ _ e)) k))
       (λ e. kept (is_le (precedence b v)) (set x) (is_le (precedence x v)) (is_le (precedence b x)) h
-      (rw (lt_is precedence_total x b) at e) (le_trans precedence_total b x v))
+      e (le_trans precedence_total b x v))
     where
       replaced : (r s l : Bool) → (r || (s && l)) ≡ true → (r ≡ true → l ≡ true) → l ≡ true
       replaced r s l h f = grind arith
@@ -69,7 +68,7 @@ module _ (set : VersionValue → Bool) where
       → better set best x ≡ best
   no_better None w x h k = cc
   no_better (Some b) w x h k = ap (λ q. if q && set x then Some x else Some b)
-      (lt_is precedence_total x b ∙ ap not (le_trans precedence_total b w x h k))
+      (ap not (le_trans precedence_total b w x h k))
 
   reached : (best : Option VersionValue) (w : VersionValue) (s : Bool) → is_reached best w ≡ true
       → fold (better set) best (firsts (Beside w s)) ≡ best
@@ -123,10 +122,6 @@ pub least_of_none : (lists : List (List (Span VersionValue))) (v : VersionValue)
 least_of_none [] v n e = subst (λ (x : VersionValue). IsLeastOf (all_accept []) (Some x)) (sym e) (refl, λ w h. first_of_all w)
 least_of_none (ks ∷ kss) v n e = absurd (omega arith)
 
-pub least_of_lists : (lists : List (List (Span VersionValue))) (r : Option VersionValue) → IsLeastOf (wanted lists []) r
-    → IsLeastOf (all_accept lists) r
-least_of_lists lists r h = same_least (wanted lists []) (all_accept lists) r (λ v. and-true (all_accept lists v)) h
-
 -- of one list it is the least beyond the other
 pub least_of_one : (ks ls : List (Span VersionValue)) (r : Option VersionValue) → IsLeastOf (wanted (ks ∷ []) ls) r
     → IsLeastOf (beyond ks ls) r
@@ -176,9 +171,14 @@ all_built : (kss : List (List (Span VersionValue))) (v : VersionValue) (b : List
 all_built [] v b = refl
 all_built (ks ∷ kss) v b = ap₂ (λ p q. p && q) (accepts_built ks v b) (all_built kss v b)
 
-pub improves_bare : (best : Option VersionValue) (w : VersionValue) (kss : List (List (Span VersionValue)))
+improves_bare : (best : Option VersionValue) (w : VersionValue) (kss : List (List (Span VersionValue)))
     (ls : List (Span VersionValue)) → (improves best (bare w) && wanted kss ls (bare w)) ≡ (improves best w && wanted kss ls w)
 improves_bare best w kss ls = grind (arith, all_built, accepts_built)
+
+pub better_bare : (b : Bool) (best : Option VersionValue) (w : VersionValue) (kss : List (List (Span VersionValue)))
+    (ls : List (Span VersionValue)) → b ≡ (improves best w && wanted kss ls w)
+    → (if b then Some (bare w) else best) ≡ better (wanted kss ls) best (bare w)
+better_bare b best w kss ls e = ap (λ t. if t then Some (bare w) else best) (e ∙ sym (improves_bare best w kss ls))
 
 -- the least beyond nothing is the least that is accepted, whatever its build
 pub least_accepted : (ks : List (Span VersionValue)) (v : VersionValue) (b : List Id) → IsLeastOf (beyond ks []) (Some v)

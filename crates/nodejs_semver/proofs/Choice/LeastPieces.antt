@@ -1,11 +1,11 @@
 -- The least version beyond is the first of its kind past a mark: a lower cut of what is kept, an upper cut of what is removed,
 -- or the cut below the pre-releases that an upper bound of what is kept names.
-use Rattle.nodejs_semver.proofs.Common.{◌≡◌, refl, sym, ◌∙◌, ap, Bool, true, false, ◌&&◌, ◌||◌, not, List, [], ◌∷◌, ◌++◌, inl}
-use Rattle.nodejs_semver.proofs.Common.{inr, arith, Less, Equal, and_from, and_parts, cases_Bool, cond_both, not-true, or_cases}
-use Rattle.nodejs_semver.proofs.Common.{or_left, or_right, list_all-append, alike_right, first_so, second_so, tied_itself}
-use Rattle.nodejs_semver.proofs.Common.{list_all, list_any, is_le, Near, Far, gt_lt, past_lt, tells, Span, holds, Cut, Start}
-use Rattle.nodejs_semver.proofs.Common.{Beside, lower_cut, upper_cut, is_past, Bound, Unbounded, Before, After, precedence_total}
-use Rattle.nodejs_semver.proofs.Common.{names, lets_in, accepts, precedence, VersionValue, is_release}
+use Rattle.nodejs_semver.proofs.Common.{◌≡◌, refl, sym, ◌∙◌, ap, Bool, true, false, ◌&&◌, ◌||◌, not, List, [], ◌∷◌, ◌++◌, inl, inr}
+use Rattle.nodejs_semver.proofs.Common.{arith, Less, Equal, and_from, and_parts, cases_Bool, cond_both, not-true, or_cases, or_left}
+use Rattle.nodejs_semver.proofs.Common.{or_right, list_all-append, alike_right, first_so, second_so, tied_itself, list_all}
+use Rattle.nodejs_semver.proofs.Common.{list_any, is_le, Near, Far, gt_lt, past_lt, tells, Span, holds, Cut, Start, Beside}
+use Rattle.nodejs_semver.proofs.Common.{lower_cut, upper_cut, is_past, Bound, Unbounded, Before, After, precedence_total, names}
+use Rattle.nodejs_semver.proofs.Common.{lets_in, accepts, precedence, VersionValue, is_release, firsts, list_marks, removed_marks}
 use Rattle.std.specs.List.{flat_map}
 use Rattle.std.specs.Ordering.{ordering_then, is_gt, bool_cmp}
 use Rattle.semver_core.proofs.CutLaws.{chain, irreflexive, is_past-down, not_above}
@@ -13,12 +13,11 @@ use Rattle.nodejs_semver.proofs.Algebra.FlatMaps.{empty_is, all_flat, all_weaker
 use Rattle.nodejs_semver.proofs.Algebra.Gate.{below, in_order, past_order}
 use Rattle.nodejs_semver.proofs.Algebra.Triples.{named, named_parts, not_gt_then, pre_upto, same_triple_is, triple_between}
 use Rattle.nodejs_semver.proofs.Algebra.Triples.{triple_cmp, triple_total, triple_upto, upto_by_both}
-use Rattle.nodejs_semver.proofs.Choice.Next.{first_pre_least, next_patch_above, next_patch_least, next_pre}
-use Rattle.nodejs_semver.proofs.Choice.Next.{next_pre_above, next_pre_least, release_above, zero_first}
+use Rattle.nodejs_semver.proofs.Choice.Next.{first_pre_least, next_patch_above, next_patch_least, next_pre, next_pre_above}
+use Rattle.nodejs_semver.proofs.Choice.Next.{next_pre_least, release_above, zero_first}
 use Rattle.semver_core.specs.Cuts.{End}
-use Rattle.nodejs_semver.specs.Internal.Candidates.{bare, bare_release, first_pre, pre_after, patch_after, after_cut}
-use Rattle.nodejs_semver.specs.Internal.Candidates.{release_after, firsts, beside, below_at, below_named, kept_marks}
-use Rattle.nodejs_semver.specs.Internal.Candidates.{list_marks, removed_marks, candidates, among, all_accept}
+use Rattle.nodejs_semver.specs.Internal.Candidates.{bare, bare_release, first_pre, pre_after, patch_after, after_cut, release_after}
+use Rattle.nodejs_semver.specs.Internal.Candidates.{beside, below_at, below_named, kept_marks, candidates, among, all_accept}
 use Rattle.semver_core.specs.Values.Order.{pre_cmp}
 
 -- ---- the greatest mark

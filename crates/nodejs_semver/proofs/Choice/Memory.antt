@@ -1,9 +1,8 @@
 -- When the search for a least version may need memory, said of the one list that is searched.
-use Rattle.nodejs_semver.proofs.Common.{◌≡◌, true, false, ◌&&◌, not, ◌⊎◌, ◌<◌, List, [], ◌∷◌, length, get_or, arith, common_steps, and-true}
-use Rattle.nodejs_semver.proofs.Common.{ap, sym, ◌∙◌, inl, inr, subst, Span, VersionValue}
+use Rattle.nodejs_semver.proofs.Common.{◌≡◌, true, false, ◌&&◌, not, ◌⊎◌, List, [], ◌∷◌, arith, common_steps, and-true, ap, sym}
+use Rattle.nodejs_semver.proofs.Common.{◌∙◌, inl, inr, Span, VersionValue, accepts}
 use Rattle.std.proofs.Common.{Any}
-use Rattle.nodejs_semver.specs.Internal.Candidates.{all_accept, BeginsAfterPre, EndsAfterPre, Finds, MayAllocate}
-use Rattle.nodejs_semver.specs.Ranges.Gate.{accepts}
+use Rattle.nodejs_semver.specs.Internal.Candidates.{all_accept, BeginsAfterPre, EndsAfterPre, MayAllocate}
 use Rattle.nodejs_semver.specs.Ranges.Least.{beyond}
 
 Any-none : {X : Type 0} (P : X → Type 0) → Any P [] → ⊥

@@ -1,6 +1,6 @@
 -- What comes next after a version, and first of all.
-use Rattle.nodejs_semver.proofs.Common.{refl, ◌≡◌, sym, ◌∙◌, ap, ◌<◌, true, false, List, [], length, arith, is_gt, Ordering, Less}
-use Rattle.nodejs_semver.proofs.Common.{Equal, not-true, tells, above_patch, is_empty, Id, precedence, VersionValue, is_release}
+use Rattle.nodejs_semver.proofs.Common.{refl, ◌≡◌, sym, ◌∙◌, ap, true, false, [], arith, is_gt, Ordering, Less, Equal, not-true}
+use Rattle.nodejs_semver.proofs.Common.{tells, above_patch, precedence, VersionValue, is_release}
 use Rattle.std.proofs.Common.{is_le}
 use Rattle.semver_core.proofs.Values.NextLaws.{least_after_pre_release}
 use Rattle.nodejs_semver.proofs.Algebra.Triples.{triple_cmp, upto_by_both}
@@ -10,9 +10,6 @@ use Rattle.semver_core.specs.Internal.Successors.{upto_major, upto_minor, upto_p
 
 pub le_not_gt : (r : Ordering) → is_le r ≡ true → is_gt r ≡ false
 le_not_gt r h = not-true _ (sym (tells r).0 ∙ h)
-
-pub some_in : (xs : List Id) → is_empty xs ≡ false → 0 < length xs
-some_in xs h = grind arith
 
 -- Numeric 0 alone is the least pre-release
 pub first_pre_least : (w v : VersionValue) → triple_cmp w v ≡ Equal → is_gt (precedence (first_pre w) v) ≡ false
@@ -27,7 +24,7 @@ next_pre_above w k = grind (arith, above_pre, below_more)
 
 pub next_pre_least : (w v : VersionValue) → is_release w ≡ false → precedence w v ≡ Less
     → is_gt (precedence (pre_after w) v) ≡ false
-next_pre_least w v k h = le_not_gt _ (least_after_pre_release w v (some_in w.pre_release k) h)
+next_pre_least w v k h = le_not_gt _ (least_after_pre_release w v (grind arith) h)
 
 pub release_above : (w : VersionValue) → is_release w ≡ false → precedence w (bare_release w) ≡ Less
 release_above w k = grind (arith, above_pre)

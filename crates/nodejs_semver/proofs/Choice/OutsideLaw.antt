@@ -1,13 +1,12 @@
 -- A version that a range does not hold lies outside it exactly where each cut says so.
 use Rattle.nodejs_semver.proofs.Common.{◌≡◌, refl, ◌∙◌, ap, arith, ℕ, ◌+◌, Bool, true, false, ◌&&◌, ◌||◌, not, List, [], ◌∷◌}
 use Rattle.nodejs_semver.proofs.Common.{list_any, list_all, Span, is_interval, is_past, lower_cut, upper_cut, holds, one_way}
-use Rattle.nodejs_semver.proofs.Common.{precedence, precedence_total, VersionValue, Bound}
+use Rattle.nodejs_semver.proofs.Common.{precedence, precedence_total, VersionValue, Bound, IsRange}
 use Rattle.semver_core.proofs.CutLaws.{is_past-down}
 use Rattle.nodejs_semver.specs.Ranges.Outside.{is_bounded, is_outside}
 use Rattle.nodejs_semver.specs.Internal.Shorthands.{lies_below, lies_above}
 use Rattle.nodejs_semver.specs.declared.range.outside.OutsideDirection.{OutsideDirection}
 use Rattle.nodejs_semver.specs.declared.range.outside.OutsideDirection.TheVariants.{Higher, Lower}
-use Rattle.nodejs_semver.specs.Ranges.View.{IsRange}
 use Rattle.nodejs_semver.proofs.Algebra.Clauses.{all_intervals}
 
 -- what lies past the upper cut of an interval lies past its lower cut

@@ -1,18 +1,16 @@
 -- The least version of spans each of which begins with a version that it accepts.
 use Rattle.nodejs_semver.proofs.Common.{◌≡◌, sym, ◌∙◌, ap, subst, ℕ, ◌+◌, ◌<◌, Bool, true, false, ◌&&◌, ◌||◌, not, List, [], ◌∷◌}
-use Rattle.nodejs_semver.proofs.Common.{◌++◌, Option, Some, None, length, get_or, take, inl, inr, refl, arith, cond_both}
-use Rattle.nodejs_semver.proofs.Common.{or_cases, list_any-append, first_so, tied_itself, list_any, Near, not_if, tells, Span}
-use Rattle.nodejs_semver.proofs.Common.{holds, is_past, lower_cut, precedence_total, precedence, VersionValue, accepts, lets_in}
-use Rattle.nodejs_semver.proofs.Common.{least_build, IfSome, span_of}
-use Rattle.std.proofs.Common.{IfNone, is_le, is_lt, option_map}
+use Rattle.nodejs_semver.proofs.Common.{◌++◌, Option, Some, None, length, get_or, take, inl, inr, refl, arith, cond_both, or_cases}
+use Rattle.nodejs_semver.proofs.Common.{list_any-append, first_so, tied_itself, list_any, Near, not_if, tells, Span, holds, is_past}
+use Rattle.nodejs_semver.proofs.Common.{lower_cut, precedence_total, precedence, VersionValue, accepts, lets_in, least_build}
+use Rattle.nodejs_semver.proofs.Common.{span_of, find, spans_of}
+use Rattle.std.proofs.Common.{IfNone, is_le, is_lt}
 use Rattle.std.proofs.Math.Bool.{or-false}
 use Rattle.std.proofs.lemmas.Bool.{false≢true}
 use Rattle.std.proofs.lemmas.List.Folds.{find-append}
-use Rattle.std.specs.List.{find}
 use Rattle.std.specs.Option.{option_or}
 use Rattle.nodejs_semver.proofs.Algebra.Triples.{le_trans, lt_is, lt_le, le_of_lt}
 use Rattle.nodejs_semver.proofs.Values.{map-further}
-use Rattle.nodejs_semver.specs.Internal.Shorthands.{spans_of}
 use Rattle.nodejs_semver.specs.Internal.Candidates.{StartsWith, IsLeastBuilt, IsLeastSoFar, lesser}
 use Rattle.nodejs_semver.proofs.Algebra.Gate.{past_order}
 
@@ -77,11 +75,6 @@ pub one_further : {V : Type 0} (value : V → VersionValue) (xs : List (Span V))
 one_further value xs i x best w next within at h start e =
     subst (IsLeastBuilt (spans_of value (take (i + 1) xs))) (sym e) (subst (λ l. IsLeastBuilt l (lesser best w))
     (sym (map-further (span_of value) xs i x within at)) (step (spans_of value (take i xs)) best (span_of value x) w h start))
-
-pub least_so_far : {A : Type 0} (g : A → VersionValue) (ss : List (Span VersionValue)) (best : Option A)
-    → IsLeastSoFar ss (option_map g best) → IfSome best (λ a. IsLeastBuilt ss (g a))
-least_so_far g ss None h = tt
-least_so_far g ss (Some a) h = h
 
 pub on_none : {A : Type 0} {P : Type 0} (found : Option A) → P → IfNone found P
 on_none None h = h

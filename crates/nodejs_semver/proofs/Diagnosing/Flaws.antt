@@ -1,24 +1,19 @@
 -- Where the reader of numbers stops, the text is wrong there and has no version.
-use Rattle.std.proofs.Common.{◌≡◌, ◌<◌, ◌≤◌, ◌+◌, ◌*◌, ◌-◌, ℕ, zero, suc, List, [], ◌∷◌, ◌++◌, length, drop, take, refl, sym, ap, ◌∙◌}
-use Rattle.std.proofs.Common.{subst, arith, true, false, eqb, Some, append_assoc, length-append, length-drop, ◌==◌, ◌↔◌, IsUtf8}
-use Rattle.std.proofs.Common.{slice_range, Option, None, MatchOption, IfSome, get_or, inl, inr}
-use Rattle.std.specs.Char.{digit_value, encode_utf8, is_ascii_digit}
-use Rattle.std.specs.List.{list_all}
+use Rattle.nodejs_semver.proofs.Common.{◌≡◌, ◌<◌, ◌≤◌, ◌+◌, ◌-◌, ℕ, zero, suc, List, [], ◌∷◌, ◌++◌, length, drop, take, refl, sym}
+use Rattle.nodejs_semver.proofs.Common.{ap, ◌∙◌, subst, arith, true, false, Some, append_assoc, length-append, IsUtf8, Option, None}
+use Rattle.nodejs_semver.proofs.Common.{IfSome, get_or, inl, inr, is_ascii_digit, list_all, and_parts, cases_Bool, eqb-true}
+use Rattle.nodejs_semver.proofs.Common.{nat_tests, take_rest, list_len, space_len, begins, Id, VersionValue}
+use Rattle.std.proofs.Common.{◌*◌, eqb, length-drop, ◌==◌, ◌↔◌, slice_range, MatchOption}
+use Rattle.std.specs.Char.{digit_value, encode_utf8}
 use Rattle.std.specs.Str.Parse.{digits_value, digits_value_after}
-use Rattle.std.proofs.lemmas.Bool.{and_parts, cases_Bool, eqb-true}
-use Rattle.std.proofs.lemmas.Bool.Decides.{nat_tests}
-use Rattle.std.proofs.lemmas.List.{take-append-drop, drop-drop, drop_all, drop_more, take_rest}
+use Rattle.std.proofs.lemmas.List.{take-append-drop, drop-drop, drop_all, drop_more}
 use Rattle.std.proofs.Math.Seq.{take-add, take-append_seam}
 use Rattle.semver_core.specs.Failures.{NoValue}
-use Rattle.semver_core.specs.Internal.Reading.{mark_len, triple_at, pre_release_at, build_at}
-use Rattle.semver_core.specs.Internal.Reading.{list_at, list_len, or_nothing, qualified}
+use Rattle.semver_core.specs.Internal.Reading.{mark_len, triple_at, pre_release_at, build_at, list_at, or_nothing, qualified}
 use Rattle.nodejs_semver.specs.Internal.Fronts.{begins_byte, begins_identifier, build_front, marked_list, pre_release_front}
-use Rattle.semver_core.specs.Internal.Spaces.{space_len}
-use Rattle.semver_core.specs.Text.Characters.{begins, IsAfterBlank}
-use Rattle.semver_core.specs.Text.Identifiers.{Id}
+use Rattle.semver_core.specs.Text.Characters.{IsAfterBlank}
 use Rattle.semver_core.specs.Text.Numbers.{IsNumber}
 use Rattle.semver_core.specs.Text.VersionText.{Reads}
-use Rattle.semver_core.specs.Values.Versions.{VersionValue}
 use Rattle.semver_core.specs.declared.TheConstants.{MAX_LENGTH}
 use Rattle.semver_core.proofs.Text.Pieces.{digits_grow, some_inside}
 use Rattle.semver_core.proofs.Text.Texts.{build_complete, divided_at, mark_is, number_begins, pre_complete, triple_complete}
@@ -28,8 +23,8 @@ use Rattle.nodejs_semver.specs.Diagnosis.VersionFlaws.{IsExact, IsExpectedAt, Is
 use Rattle.nodejs_semver.specs.Internal.Stuck.{BeginsGreat, Stuck, begins_dot, at_great, at_digit, at_dot, later, IsWhole}
 use Rattle.nodejs_semver.proofs.Diagnosing.Numbers.{digits_once}
 use Rattle.nodejs_semver.proofs.Diagnosing.OneFlaw.{only_flaw}
-use Rattle.nodejs_semver.proofs.Diagnosing.Fronts.{Numeral, HasTail, Leads, Numbers, Place, begins_alike, first_numeral}
-use Rattle.nodejs_semver.proofs.Diagnosing.Fronts.{lead_place, next_place, numeral_begins, numeral_once}
+use Rattle.nodejs_semver.proofs.Diagnosing.Fronts.{Numeral, HasTail, Leads, Numbers, Place, begins_alike, first_numeral, lead_place}
+use Rattle.nodejs_semver.proofs.Diagnosing.Fronts.{next_place, numeral_begins, numeral_once}
 use Rattle.nodejs_semver.specs.declared.diagnosis.versions.VersionFlaw.{VersionFlaw}
 use Rattle.nodejs_semver.specs.declared.diagnosis.versions.VersionFlaw.TheVariants as Flaw
 

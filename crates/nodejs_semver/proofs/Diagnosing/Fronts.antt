@@ -1,22 +1,17 @@
 -- Which texts have a version, where so much of them was read.
-use Rattle.std.proofs.Common.{◌≡◌, ◌<◌, ℕ, zero, suc, List, [], ◌∷◌, ◌++◌, length, drop, refl, sym, ap, ◌∙◌}
-use Rattle.std.proofs.Common.{subst, arith, true, false, not, Bool, append_assoc, encode_utf8_all, length-append}
-use Rattle.std.specs.Char.{encode_utf8, is_ascii_digit}
-use Rattle.std.specs.List.{list_all}
-use Rattle.std.proofs.lemmas.Bool.{and_from, and_parts}
-use Rattle.std.proofs.lemmas.Bool.Decides.{nat_tests}
-use Rattle.std.proofs.lemmas.List.Folds.{list_all-append}
+use Rattle.nodejs_semver.proofs.Common.{◌≡◌, ◌<◌, ℕ, zero, suc, List, [], ◌∷◌, ◌++◌, length, drop, refl, sym, ap, ◌∙◌, subst, arith}
+use Rattle.nodejs_semver.proofs.Common.{true, false, not, Bool, append_assoc, length-append, is_ascii_digit, list_all, and_from}
+use Rattle.nodejs_semver.proofs.Common.{and_parts, nat_tests, list_all-append, drop_spaces, space_len, begins, is_whitespace}
+use Rattle.nodejs_semver.proofs.Common.{VersionValue, drop_spaces-none, encode_utf8, IsBlank}
+use Rattle.std.proofs.Common.{encode_utf8_all}
 use Rattle.std.proofs.lemmas.Str.{char_from_byte, length-encode, len_utf8_bounds}
 use Rattle.nodejs_semver.specs.Internal.Stuck.{IsWhole}
 use Rattle.semver_core.specs.Internal.Reading.{mark_len}
-use Rattle.semver_core.specs.Internal.Spaces.{drop_spaces, space_len}
-use Rattle.semver_core.specs.Text.Characters.{begins, is_whitespace, IsBlank}
 use Rattle.semver_core.specs.Text.Numbers.{IsNumber, IsWholeNumber}
 use Rattle.semver_core.specs.Text.VersionText.{IsMark, Reads, no_mark, small_mark, capital_mark, no_pre_release, no_build}
-use Rattle.semver_core.specs.Values.Versions.{VersionValue, release_value}
+use Rattle.semver_core.specs.Values.Versions.{release_value}
 use Rattle.semver_core.proofs.Text.Texts.{no_mark_at, number_begins}
 use Rattle.semver_core.proofs.Text.SpaceLaw.{front_is_first_character}
-use Rattle.semver_core.proofs.Text.Spaces.{drop_spaces-none}
 use Rattle.semver_core.proofs.Text.Trims.{drop_spaces-blank}
 use Rattle.nodejs_semver.proofs.Diagnosing.Numbers.{digits_once}
 

@@ -1,11 +1,9 @@
 -- Why the word at the front of a part is ignored, by what was read of it.
-use Rattle.std.proofs.Common.{◌≡◌, ◌∙◌, ap, ℕ, List, Bool, Some, refl, Option, is_some, arith}
+use Rattle.nodejs_semver.proofs.Common.{◌≡◌, ◌∙◌, ap, ℕ, List, Bool, Some, refl, Option, is_some, arith, Partial, table, Word}
+use Rattle.nodejs_semver.proofs.Common.{hyphen, malformed}
 use Rattle.nodejs_semver.specs.Diagnosis.IgnoredWords.{ignored_as}
 use Rattle.nodejs_semver.specs.Internal.Ignored.{kind_at, unless_bounded}
 use Rattle.nodejs_semver.specs.Internal.Words.{Sign, signed_word, word_at}
-use Rattle.nodejs_semver.specs.Text.PartialText.{Partial}
-use Rattle.nodejs_semver.specs.Text.Table.{table}
-use Rattle.nodejs_semver.specs.Text.WordText.{Word, hyphen, malformed}
 use Rattle.nodejs_semver.specs.declared.diagnosis.ranges.IgnoredKind.{IgnoredKind}
 use Rattle.nodejs_semver.specs.declared.diagnosis.ranges.IgnoredKind.TheVariants.{Malformed}
 

@@ -1,20 +1,17 @@
 -- What is computed of the ignored words of a text is what the statement says of them.
-use Rattle.std.proofs.Common.{◌≡◌, ◌≤◌, ◌+◌, ◌-◌, ℕ, zero, suc, List, [], ◌∷◌, ◌++◌, length, refl, sym, ap, ◌∙◌, arith, true}
-use Rattle.std.proofs.Common.{false, Bool, inl, inr, subst, length-append, ◌↔◌, ◌&&◌, ◌⊎◌, IsUtf8, encode_utf8_all, is_some}
-use Rattle.std.specs.List.{AllByRecursion, list_all}
+use Rattle.nodejs_semver.proofs.Common.{◌≡◌, ◌≤◌, ◌+◌, ◌-◌, ℕ, zero, suc, List, [], ◌∷◌, ◌++◌, length, refl, sym, ap, ◌∙◌, arith}
+use Rattle.nodejs_semver.proofs.Common.{true, false, Bool, inl, inr, subst, length-append, ◌&&◌, ◌⊎◌, IsUtf8, is_some}
+use Rattle.nodejs_semver.proofs.Common.{AllByRecursion, list_all, drop_spaces, space_len, trim, is_empty, IsTrim, table, Word}
+use Rattle.nodejs_semver.proofs.Common.{and_parts}
+use Rattle.std.proofs.Common.{◌↔◌, encode_utf8_all}
 use Rattle.std.proofs.lemmas.Str.{encodes-append}
-use Rattle.semver_core.specs.Internal.Spaces.{drop_spaces, space_len, trim}
-use Rattle.semver_core.specs.Lists.{is_empty}
-use Rattle.semver_core.specs.Text.Characters.{IsTrim}
 use Rattle.semver_core.proofs.Text.Trims.{drop_spaces-blank, drop_spaces-dark, middle_is_trim, trim_is_middle}
-use Rattle.nodejs_semver.specs.Diagnosis.IgnoredWords.{AreAllIgnored, AreIgnored, AreIgnoredOf, IsWhollyBounded}
-use Rattle.nodejs_semver.specs.Diagnosis.IgnoredWords.{if_ignored, ignored_as, next_piece, next_word, no_piece, no_word}
+use Rattle.nodejs_semver.specs.Diagnosis.IgnoredWords.{AreAllIgnored, AreIgnored, AreIgnoredOf, IsWhollyBounded, if_ignored}
+use Rattle.nodejs_semver.specs.Diagnosis.IgnoredWords.{ignored_as, next_piece, next_word, no_piece, no_word}
 use Rattle.nodejs_semver.specs.Internal.Ignored.{all_ignored, ignored_of, ignored_within, part_end}
 use Rattle.nodejs_semver.specs.Internal.Parts.{cut_bars}
 use Rattle.nodejs_semver.specs.Internal.Words.{word_at, words, words_within}
 use Rattle.nodejs_semver.specs.Text.Meaning.{HasWords}
-use Rattle.nodejs_semver.specs.Text.Table.{table}
-use Rattle.nodejs_semver.specs.Text.WordText.{Word}
 use Rattle.nodejs_semver.specs.declared.diagnosis.ranges.IgnoredWord.{IgnoredWord}
 use Rattle.nodejs_semver.proofs.Algebra.FlatMaps.{empty_is}
 use Rattle.nodejs_semver.proofs.Diagnosing.IgnoredParts.{ignored_nil, ignored_step}
@@ -23,7 +20,6 @@ use Rattle.nodejs_semver.proofs.Dividing.MeaningLaw.{pieces-utf8, words-law}
 use Rattle.nodejs_semver.proofs.Dividing.Trimmed.{trim-starts}
 use Rattle.nodejs_semver.proofs.Reading.Progress.{spaces-gone, spaces-le, word-shorter}
 use Rattle.nodejs_semver.proofs.Reading.WordLaw.{skips-is, skips-utf8, trim-utf8, word-utf8, words_are}
-use Rattle.std.proofs.lemmas.Bool.{and_parts}
 
 -- each word of what stands between bars has bounds
 abbrev IsBounded : ℕ → List ℕ → Type 0

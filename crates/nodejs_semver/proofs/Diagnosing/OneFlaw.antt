@@ -1,31 +1,26 @@
 -- A text has one flaw: behind the place of a flaw no version text goes on.
-use Rattle.std.proofs.Common.{◌≡◌, ◌<◌, ◌≤◌, ◌+◌, ◌-◌, ℕ, zero, suc, List, [], ◌∷◌, ◌++◌, length, drop, take, refl, sym, ap, ◌∙◌}
-use Rattle.std.proofs.Common.{subst, arith, true, false, inl, inr, append_assoc, length-append, length-drop, length-take-le, ◌⊎◌}
-use Rattle.std.proofs.Common.{IfSome, None, Option, Some, ◌↔◌, IsUtf8, IsCharBoundary, encode_utf8_all, get_or, ◌==◌}
-use Rattle.std.specs.Char.{encode_utf8, is_ascii_digit, IsScalar}
-use Rattle.std.specs.List.{list_all, onto_first}
-use Rattle.std.specs.Str.Parse.{digits_value}
-use Rattle.std.proofs.lemmas.Bool.{and_parts, cases_Bool, cases_lt, eqb-true}
-use Rattle.std.proofs.lemmas.Bool.Decides.{nat_tests}
+use Rattle.nodejs_semver.proofs.Common.{◌≡◌, ◌<◌, ◌≤◌, ◌+◌, ◌-◌, ℕ, zero, suc, List, [], ◌∷◌, ◌++◌, length, drop, take, refl, sym}
+use Rattle.nodejs_semver.proofs.Common.{ap, ◌∙◌, subst, arith, true, inl, inr, append_assoc, length-append, ◌⊎◌, IfSome, None}
+use Rattle.nodejs_semver.proofs.Common.{Option, Some, IsUtf8, get_or, is_ascii_digit, list_all, and_parts, cases_Bool, eqb-true}
+use Rattle.nodejs_semver.proofs.Common.{nat_tests, IsUtf8-drop, drop_spaces, begins, is_whitespace, Id, VersionValue}
+use Rattle.std.proofs.Common.{length-drop, length-take-le, ◌↔◌, encode_utf8_all, ◌==◌}
+use Rattle.std.specs.Char.{encode_utf8, IsScalar}
+use Rattle.std.specs.List.{onto_first}
+use Rattle.std.proofs.lemmas.Bool.{cases_lt}
 use Rattle.std.proofs.lemmas.List.{take-append-drop, drop-drop}
-use Rattle.std.proofs.lemmas.Str.{IsCharBoundary-before_ascii, IsCharBoundary-from_take, IsUtf8-append, IsUtf8-drop, IsUtf8-encode}
-use Rattle.std.proofs.lemmas.Str.{IsUtf8-take, encode_ascii}
+use Rattle.std.proofs.lemmas.Str.{IsCharBoundary-before_ascii, IsCharBoundary-from_take, IsUtf8-append, IsUtf8-encode, IsUtf8-take}
+use Rattle.std.proofs.lemmas.Str.{encode_ascii}
 use Rattle.std.proofs.Math.Seq.{take-add, take-append_seam, drop-append_seam}
 use lib.Utf8.{low_scalar}
-use Rattle.semver_core.specs.Failures.{NoValue}
 use Rattle.semver_core.specs.Internal.Reading.{mark_len}
-use Rattle.semver_core.specs.Internal.Spaces.{drop_spaces}
-use Rattle.semver_core.specs.Text.Characters.{begins, is_identifier_char, is_whitespace}
-use Rattle.semver_core.specs.Text.Identifiers.{Id, is_identifier, pieces}
-use Rattle.semver_core.specs.Text.VersionText.{IsBuild, IsMark, IsPreRelease, Reads, no_mark, small_mark, capital_mark}
-use Rattle.semver_core.specs.Text.VersionText.{dashed, bare, no_pre_release, plus, no_build}
-use Rattle.semver_core.specs.Values.Versions.{VersionValue}
-use Rattle.semver_core.specs.declared.TheConstants.{MAX_LENGTH}
+use Rattle.semver_core.specs.Text.Identifiers.{is_identifier, pieces}
+use Rattle.semver_core.specs.Text.VersionText.{IsBuild, IsMark, IsPreRelease, Reads, no_mark, small_mark, capital_mark, dashed}
+use Rattle.semver_core.specs.Text.VersionText.{bare, no_pre_release, plus, no_build}
 use Rattle.semver_core.proofs.Text.Pieces.{first_char, runs_tail, some_inside, tail_onto, tail_runs}
 use Rattle.semver_core.proofs.Text.Runs.{ascii}
 use Rattle.semver_core.proofs.Text.Spaces.{after_spaces-end}
 use Rattle.semver_core.proofs.Text.Texts.{number_begins, read_at, rest_of}
-use Rattle.nodejs_semver.specs.Diagnosis.VersionFlaws.{IsExact, IsExpectedAt, IsFlaw, IsFront, IsGreatAt, is_expected}
+use Rattle.nodejs_semver.specs.Diagnosis.VersionFlaws.{IsExact, IsExpectedAt, IsFlaw, IsFront, IsGreatAt}
 use Rattle.nodejs_semver.specs.Internal.Stuck.{IsWhole}
 use Rattle.nodejs_semver.proofs.Diagnosing.Fronts.{digit_starts, past_lead}
 use Rattle.nodejs_semver.specs.declared.diagnosis.versions.Expected.{Expected}

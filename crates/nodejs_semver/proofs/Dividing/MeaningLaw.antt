@@ -1,24 +1,21 @@
 -- What a text denotes is its one meaning.
-use Rattle.nodejs_semver.proofs.Common.{◌≡◌, ℕ, zero, suc, ◌<◌, ◌≤◌, List, [], ◌∷◌, ◌++◌, length, get_or, refl, sym, ap, ◌∙◌}
-use Rattle.nodejs_semver.proofs.Common.{arith, true, false, inl, inr, subst, append-nil, length-append, ◌↔◌, IfSome, IsTrue}
-use Rattle.nodejs_semver.proofs.Common.{IsUtf8, Option, map, flat_map, ◌⊎◌, AllByRecursion, list_all, list_any, cases_Bool}
-use Rattle.nodejs_semver.proofs.Common.{and_from, list_all-append, IsUtf8-drop, IsCharBoundary-after_ascii, IsTrim, is_whitespace}
-use Rattle.nodejs_semver.proofs.Common.{Span, precedence, drop_spaces, space_len, trim, is_empty, if_any, VersionValue}
-use Rattle.nodejs_semver.proofs.Common.{IsCutAtBars, Run, table, Word}
+use Rattle.nodejs_semver.proofs.Common.{◌≡◌, ℕ, zero, suc, ◌<◌, ◌≤◌, List, [], ◌∷◌, ◌++◌, length, get_or, refl, sym, ap, ◌∙◌, arith}
+use Rattle.nodejs_semver.proofs.Common.{true, false, inl, inr, subst, append-nil, length-append, ◌↔◌, IfSome, IsTrue, IsUtf8}
+use Rattle.nodejs_semver.proofs.Common.{Option, map, flat_map, ◌⊎◌, AllByRecursion, list_all, list_any, cases_Bool, and_from}
+use Rattle.nodejs_semver.proofs.Common.{list_all-append, IsUtf8-drop, IsCharBoundary-after_ascii, IsTrim, is_whitespace, Span}
+use Rattle.nodejs_semver.proofs.Common.{precedence, drop_spaces, space_len, trim, is_empty, if_any, VersionValue, IsCutAtBars, Run}
+use Rattle.nodejs_semver.proofs.Common.{table, Word, Failure, IsBlank, denotes, part_bounds, part_denotes, part_intervals, parts}
+use Rattle.nodejs_semver.proofs.Common.{Means, runs_of, words}
 use Rattle.std.proofs.Common.{IfNone, IsSomeAnd, encode_utf8_all, filter_map, encode_utf8, take_at, drop_at, Result}
 use Rattle.semver_core.specs.Failures.{MemoryOnlyIf}
-use Rattle.semver_core.specs.declared.error.Failure.{Failure}
 use Rattle.std.proofs.lemmas.Bool.{false_from_ne_true}
 use Rattle.std.proofs.lemmas.Str.{IsUtf8-take, IsCharBoundary-before_ascii, len_utf8_bounds, length-encode}
-use Rattle.semver_core.specs.Text.Characters.{IsBlank}
 use Rattle.semver_core.proofs.Text.Trims.{middle_is_trim, trim_is_middle, trim_parts}
-use Rattle.nodejs_semver.specs.Internal.Denotes.{denotes, part_bounds, part_denotes, part_intervals}
-use Rattle.nodejs_semver.specs.Internal.Parts.{cut_bars, parts}
+use Rattle.nodejs_semver.specs.Internal.Parts.{cut_bars}
 use Rattle.nodejs_semver.specs.Text.Bars.{more_pieces, one_piece}
-use Rattle.nodejs_semver.specs.Text.Meaning.{AreAllIntervals, AreWords, HasRuns, IsBlankText, Means, all_intervals}
-use Rattle.nodejs_semver.specs.Text.Meaning.{blank_piece, every_version, next_piece, next_word, no_piece, no_word}
-use Rattle.nodejs_semver.specs.Internal.RunsFrom.{runs_of}
-use Rattle.nodejs_semver.specs.Internal.Words.{word_at, words}
+use Rattle.nodejs_semver.specs.Text.Meaning.{AreAllIntervals, AreWords, HasRuns, IsBlankText, all_intervals, blank_piece}
+use Rattle.nodejs_semver.specs.Text.Meaning.{every_version, next_piece, next_word, no_piece, no_word}
+use Rattle.nodejs_semver.specs.Internal.Words.{word_at}
 use Rattle.nodejs_semver.proofs.Algebra.FlatMaps.{empty_is}
 use Rattle.nodejs_semver.proofs.Dividing.BarsDivide.{bars_divide, bars_once}
 use Rattle.nodejs_semver.proofs.Dividing.PartSteps.{words-none}

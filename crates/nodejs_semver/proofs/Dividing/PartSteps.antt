@@ -1,10 +1,9 @@
 -- One word of a part after another.
 use Rattle.nodejs_semver.proofs.Common.{◌≡◌, ℕ, ◌<◌, List, [], ◌∷◌, ◌++◌, length, ap, ◌∙◌, arith, Some, None, append_assoc, refl}
 use Rattle.nodejs_semver.proofs.Common.{length-append, Option, option_to_list, Span, meet, precedence, precedence_total}
-use Rattle.nodejs_semver.proofs.Common.{VersionValue, space_len}
+use Rattle.nodejs_semver.proofs.Common.{VersionValue, space_len, words, part_bounds, part_intervals}
 use Rattle.std.specs.List.{cons_option}
-use Rattle.nodejs_semver.specs.Internal.Words.{words, words_within}
-use Rattle.nodejs_semver.specs.Internal.Denotes.{part_bounds, part_intervals}
+use Rattle.nodejs_semver.specs.Internal.Words.{words_within}
 use Rattle.nodejs_semver.specs.Internal.Meets.{joined, joined_from, next_at}
 use Rattle.nodejs_semver.proofs.Dividing.MeetLemmas.{joined-goes, joined-stops, runs-joined}
 use Rattle.nodejs_semver.proofs.Reading.Progress.{words-step, word-shorter, spaces-le, spaces-gone}

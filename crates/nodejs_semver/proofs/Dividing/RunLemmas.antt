@@ -2,12 +2,10 @@
 use Rattle.nodejs_semver.proofs.Common.{◌≡◌, List, [], ◌∷◌, ◌++◌, refl, sym, ap₂, ◌∙◌, true, false, Bool, arith, Ordering, ◌&&◌}
 use Rattle.nodejs_semver.proofs.Common.{not, if◌then◌else◌, is_gt, IsTotalOrder, and-true, list_all, Cut, Span, cut_cmp}
 use Rattle.nodejs_semver.proofs.Common.{greater_lower, holds, is_past, lesser_upper, lower_cut, upper_cut, Bound, between_parts}
-use Rattle.nodejs_semver.proofs.Common.{cut_total, gt_lt, past_lt, Run, fits, interval_of, run_writes}
+use Rattle.nodejs_semver.proofs.Common.{cut_total, gt_lt, past_lt, Run, fits, interval_of, run_writes, longer}
 use Rattle.std.specs.Cmp.{upto}
 use Rattle.std.proofs.Math.Bool.{not-not}
-use Rattle.nodejs_semver.specs.Internal.RunsFrom.{longer}
-use Rattle.semver_core.proofs.CutLaws.{lt_trans}
-use Rattle.semver_core.proofs.CutLaws.{is_past-greater_lower, is_past-lesser_upper}
+use Rattle.semver_core.proofs.CutLaws.{lt_trans, is_past-greater_lower, is_past-lesser_upper}
 use Rattle.nodejs_semver.specs.Text.Runs.{greatest_lower, least_upper}
 use Rattle.nodejs_semver.specs.Text.WrittenSet.{is_above, is_below}
 

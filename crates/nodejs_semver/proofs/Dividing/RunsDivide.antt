@@ -1,13 +1,12 @@
 -- What is made from the left is a division into runs.
-use Rattle.nodejs_semver.proofs.Common.{◌≡◌, ℕ, List, [], ◌∷◌, ◌++◌, refl, sym, ap, ◌∙◌, inl, inr, true, false, Bool}
-use Rattle.nodejs_semver.proofs.Common.{append_assoc, subst, Some, flat_map, Option, Ordering, arith, AllByRecursion, list_all}
-use Rattle.nodejs_semver.proofs.Common.{and_parts, cases_Bool, Span, is_interval, precedence, table, Run, fits, run_items}
+use Rattle.nodejs_semver.proofs.Common.{◌≡◌, ℕ, List, [], ◌∷◌, ◌++◌, refl, sym, ap, ◌∙◌, inl, inr, true, false, Bool, append_assoc}
+use Rattle.nodejs_semver.proofs.Common.{subst, Some, flat_map, Option, Ordering, arith, AllByRecursion, list_all, and_parts}
+use Rattle.nodejs_semver.proofs.Common.{cases_Bool, Span, is_interval, precedence, table, Run, fits, run_items, part_bounds, words}
+use Rattle.nodejs_semver.proofs.Common.{runs_of, longer}
 use Rattle.std.proofs.Common.{filter_map}
 use Rattle.std.specs.List.{cons_option}
-use Rattle.nodejs_semver.specs.Internal.Denotes.{part_bounds}
-use Rattle.nodejs_semver.specs.Internal.Words.{words}
 use Rattle.nodejs_semver.specs.Text.Runs.{AreLongest, AreRuns}
-use Rattle.nodejs_semver.specs.Internal.RunsFrom.{runs_from, runs_of, longer}
+use Rattle.nodejs_semver.specs.Internal.RunsFrom.{runs_from}
 use Rattle.nodejs_semver.proofs.Dividing.MeetLemmas.{runs-goes, runs-stops}
 use Rattle.nodejs_semver.proofs.Bounds.TableRows.{table-interval}
 

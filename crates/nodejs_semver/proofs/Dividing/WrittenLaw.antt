@@ -1,19 +1,15 @@
 -- What is computed of the versions that a text writes is what it writes.
-use Rattle.nodejs_semver.proofs.Common.{◌≡◌, ◌<◌, ℕ, zero, suc, List, [], ◌∷◌, length, get_or, ap, sym, ◌∙◌, true, false, inl}
-use Rattle.nodejs_semver.proofs.Common.{inr, Bool, arith, subst, ◌↔◌, IsTrue, IsUtf8, map, AllByRecursion, list_any, cases_Bool}
-use Rattle.nodejs_semver.proofs.Common.{or_right, trim, is_empty, precedence, VersionValue, Span, list_holds, accepts}
-use Rattle.nodejs_semver.proofs.Common.{IsCutAtBars, Run, run_writes}
-use Rattle.std.specs.List.{Any}
+use Rattle.nodejs_semver.proofs.Common.{◌≡◌, ◌<◌, ℕ, zero, suc, List, [], ◌∷◌, length, get_or, ap, sym, ◌∙◌, true, false, inl, inr}
+use Rattle.nodejs_semver.proofs.Common.{Bool, arith, subst, ◌↔◌, IsTrue, IsUtf8, map, AllByRecursion, list_any, cases_Bool}
+use Rattle.nodejs_semver.proofs.Common.{or_right, trim, is_empty, precedence, VersionValue, Span, list_holds, accepts, IsCutAtBars}
+use Rattle.nodejs_semver.proofs.Common.{Run, run_writes, Any, IsBlank, denotes, part_bounds, runs_of}
 use Rattle.std.specs.Prelude.{◌⊎◌}
-use Rattle.semver_core.specs.Text.Characters.{IsBlank}
 use Rattle.nodejs_semver.specs.Text.Meaning.{HasRuns}
 use Rattle.std.proofs.lemmas.List.Folds.{Any-from_list_any, list_any-from_Any}
-use Rattle.nodejs_semver.specs.Internal.Denotes.{denotes, part_bounds}
 use Rattle.nodejs_semver.proofs.Algebra.Accepting.{accepts-held}
 use Rattle.nodejs_semver.proofs.Algebra.FlatMaps.{list_any-map}
 use Rattle.nodejs_semver.proofs.Algebra.Holds.{denotes_hold}
 use Rattle.nodejs_semver.specs.Internal.Parts.{cut_bars}
-use Rattle.nodejs_semver.specs.Internal.RunsFrom.{runs_of}
 use Rattle.nodejs_semver.specs.Internal.Writes.{part_writes, writes}
 use Rattle.nodejs_semver.specs.Text.WrittenSet.{Writes}
 use Rattle.nodejs_semver.proofs.Dividing.BarsDivide.{bars_divide, bars_once}

@@ -1,14 +1,10 @@
 -- The interval of a part and what follows it, as the fast reader makes them.
-use Rattle.std.proofs.Common.{arith, ◌≡◌, ℕ, List, [], ◌∷◌, ◌++◌, drop, sym, ap, ◌∙◌, Bool, true, false, Some, None}
+use Rattle.nodejs_semver.proofs.Common.{arith, ◌≡◌, ℕ, List, [], ◌∷◌, ◌++◌, drop, sym, ap, ◌∙◌, Bool, true, false, Some, None, Span}
+use Rattle.nodejs_semver.proofs.Common.{interval, meet, precedence, VersionValue, Bound, Unbounded, Front}
 use Rattle.std.specs.Prelude.{Option, if◌then◌else◌}
-use Rattle.semver_core.specs.Cuts.{Span, interval, meet}
-use Rattle.semver_core.specs.Values.Order.{precedence}
-use Rattle.semver_core.specs.Values.Versions.{VersionValue}
-use Rattle.semver_core.specs.declared.cuts.bound.Bound.{Bound}
-use Rattle.semver_core.specs.declared.cuts.bound.Bound.TheVariants.{Unbounded}
-use Rattle.nodejs_semver.specs.Internal.CommonFronts.{begins_second, both_of, comparison_front, comparisons_front, part_read, passed, pushed, word_read}
+use Rattle.nodejs_semver.specs.Internal.CommonFronts.{begins_second, both_of, comparison_front, comparisons_front, part_read}
+use Rattle.nodejs_semver.specs.Internal.CommonFronts.{passed, pushed, word_read}
 use Rattle.nodejs_semver.specs.Internal.CommonViews.{both_view}
-use Rattle.nodejs_semver.specs.Internal.Fronts.{Front}
 use Rattle.semver_core.specs.Internal.Reading.{◌>>?◌}
 
 -- two comparisons of which the first has no upper and the second no lower bound

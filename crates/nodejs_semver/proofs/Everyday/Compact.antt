@@ -1,14 +1,11 @@
 -- The bytes of an everyday part: it is neither cut at bars nor trimmed.
-use Rattle.std.proofs.Common.{◌≡◌, ℕ, List, [], ◌∷◌, ◌++◌, refl, ◌∙◌, arith, Bool, true, Option, ◌==◌, ◌||◌}
-use Rattle.std.specs.List.{list_all}
-use Rattle.std.proofs.lemmas.Bool.{and_from}
-use Rattle.std.proofs.lemmas.Bool.Decides.{nat_tests}
-use Rattle.semver_core.specs.Text.Characters.{begins, ends, is_identifier_char}
-use Rattle.semver_core.specs.Text.Identifiers.{Id, IsIdentifiers, pieces}
-use Rattle.semver_core.specs.Text.VersionText.{IsBuild, IsPreRelease}
+use Rattle.nodejs_semver.proofs.Common.{◌≡◌, ℕ, List, [], ◌∷◌, ◌++◌, refl, ◌∙◌, arith, Bool, true, Option, ◌||◌, list_all, and_from}
+use Rattle.nodejs_semver.proofs.Common.{nat_tests, begins, ends, Id, IsIdentifiers, pieces, IsBuild, IsPreRelease, AreComponents}
+use Rattle.nodejs_semver.proofs.Common.{Partial, Comparator, IsSign}
+use Rattle.std.proofs.Common.{◌==◌}
+use Rattle.semver_core.specs.Text.Characters.{is_identifier_char}
 use Rattle.semver_core.proofs.Text.Pieces.{first_char, runs_tail, tail_onto, tail_runs}
-use Rattle.nodejs_semver.specs.Text.PartialText.{AreComponents, IsComponent, Partial}
-use Rattle.nodejs_semver.specs.Text.WordText.{Comparator, IsSign}
+use Rattle.nodejs_semver.specs.Text.PartialText.{IsComponent}
 use Rattle.nodejs_semver.proofs.Reading.Bytes.{all-end, all-join, ends-append, ends-some, is_solid}
 use Rattle.nodejs_semver.proofs.Reading.Components.{components-begin}
 use Rattle.nodejs_semver.proofs.Algebra.FlatMaps.{all_weaker}

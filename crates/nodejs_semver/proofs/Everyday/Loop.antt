@@ -1,14 +1,13 @@
 -- One part of a common text after another.
-use Rattle.std.proofs.Common.{◌≡◌, ℕ, zero, suc, ◌<◌, ◌≤◌, List, [], ◌∷◌, ◌++◌, length, refl, arith, true, false, Some, None}
-use Rattle.std.proofs.Common.{append_assoc, subst, sym, ◌⊎◌, IsSomeAnd, Option}
+use Rattle.nodejs_semver.proofs.Common.{◌≡◌, ℕ, zero, suc, ◌<◌, ◌≤◌, List, [], ◌∷◌, ◌++◌, length, refl, arith, true, false, Some}
+use Rattle.nodejs_semver.proofs.Common.{None, append_assoc, subst, sym, ◌⊎◌, Option, Span, if_any, is_empty, VersionValue}
+use Rattle.nodejs_semver.proofs.Common.{AreCommonParts}
+use Rattle.std.proofs.Common.{IsSomeAnd}
 use Rattle.semver_core.specs.Failures.{NoValue}
-use Rattle.semver_core.specs.Cuts.{Span}
 use Rattle.semver_core.specs.Internal.Reading.{◌>>?◌}
-use Rattle.semver_core.specs.Lists.{if_any, is_empty}
-use Rattle.semver_core.specs.Values.Versions.{VersionValue}
 use Rattle.nodejs_semver.specs.Internal.CommonFronts.{after_bars, common_parts, common_within, part_front, passed}
 use Rattle.nodejs_semver.specs.Text.Bars.{has_bars}
-use Rattle.nodejs_semver.specs.Text.Common.{AreCommonParts, IsCommonRange}
+use Rattle.nodejs_semver.specs.Text.Common.{IsCommonRange}
 use Rattle.nodejs_semver.proofs.Everyday.Bounds.{Added, behind, passed-none, passed-some}
 use Rattle.nodejs_semver.proofs.Everyday.Texts.{list-some}
 use Rattle.nodejs_semver.proofs.Everyday.Parts.{bars-sound, common_parts_are_read, next-shorter, part-sound}

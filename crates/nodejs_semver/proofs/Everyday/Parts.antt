@@ -1,30 +1,29 @@
 -- What the fast reader finds is the parts of a common text, and it finds each of them.
-use Rattle.std.proofs.Common.{◌≡◌, ℕ, zero, suc, ◌<◌, ◌≤◌, List, [], ◌∷◌, ◌++◌, length, drop, refl, ap, ◌∙◌, arith, true, false}
-use Rattle.std.proofs.Common.{Some, inl, inr, append-nil, append_assoc, length-append, ◌↔◌, Option, ◌==◌}
-use Rattle.std.proofs.lemmas.Bool.{cases_Bool, eqb-true}
-use Rattle.std.proofs.lemmas.Bool.Decides.{nat_tests}
-use Rattle.semver_core.specs.Text.Characters.{begins}
-use Rattle.semver_core.specs.Cuts.{Span, meet}
-use Rattle.semver_core.specs.Values.Order.{precedence}
-use Rattle.semver_core.specs.Lists.{is_empty}
-use Rattle.semver_core.specs.Values.Versions.{VersionValue}
-use Rattle.nodejs_semver.specs.Internal.CommonFronts.{after_bars, after_gap, bare_front, begins_dash, begins_second, caret_front, common_parts, common_range, common_within, comparison_front, comparisons_front, is_sign, onto, part_front, part_read, partials_front, tilde_front, word_read}
-use Rattle.nodejs_semver.specs.Text.Common.{AreCommonParts, IsCommonPart, IsCommonRange, IsCommonWord, IsComparison, IsGap, caret_word, compare_word, comparison, hyphen_word, more_parts, one_part, one_word, plain_word, tilde_greater_word, tilde_word, two_comparisons}
-use Rattle.nodejs_semver.specs.Internal.Fronts.{after_byte, Front}
-use Rattle.nodejs_semver.specs.Text.PartialText.{AreComponents, Partial}
+use Rattle.nodejs_semver.proofs.Common.{◌≡◌, ℕ, zero, suc, ◌<◌, ◌≤◌, List, [], ◌∷◌, ◌++◌, length, drop, refl, ap, ◌∙◌, arith, true}
+use Rattle.nodejs_semver.proofs.Common.{false, Some, inl, inr, append-nil, append_assoc, length-append, Option, cases_Bool}
+use Rattle.nodejs_semver.proofs.Common.{eqb-true, nat_tests, begins, Span, meet, precedence, is_empty, VersionValue, AreCommonParts}
+use Rattle.nodejs_semver.proofs.Common.{Front, AreComponents, Partial, table, IsSign, Comparator, Word, hyphen, plain, tilde}
+use Rattle.nodejs_semver.proofs.Common.{tilde_sign, same_Some, bind_some}
+use Rattle.std.proofs.Common.{◌↔◌, ◌==◌}
+use Rattle.nodejs_semver.specs.Internal.CommonFronts.{after_bars, after_gap, bare_front, begins_dash, begins_second, caret_front}
+use Rattle.nodejs_semver.specs.Internal.CommonFronts.{common_parts, common_range, common_within, comparison_front}
+use Rattle.nodejs_semver.specs.Internal.CommonFronts.{comparisons_front, is_sign, onto, part_front, part_read, partials_front}
+use Rattle.nodejs_semver.specs.Internal.CommonFronts.{tilde_front, word_read}
+use Rattle.nodejs_semver.specs.Text.Common.{IsCommonPart, IsCommonRange, IsCommonWord, IsComparison, IsGap, caret_word}
+use Rattle.nodejs_semver.specs.Text.Common.{compare_word, comparison, hyphen_word, more_parts, one_part, one_word, plain_word}
+use Rattle.nodejs_semver.specs.Text.Common.{tilde_greater_word, tilde_word, two_comparisons}
+use Rattle.nodejs_semver.specs.Internal.Fronts.{after_byte}
 use Rattle.semver_core.specs.Internal.Reading.{◌>>?◌}
-use Rattle.nodejs_semver.specs.Text.Table.{table}
-use Rattle.nodejs_semver.specs.Text.WordText.{IsSign, above_sign, at_least_sign, at_most_sign, below_sign, equal_sign, Comparator}
-use Rattle.nodejs_semver.specs.Text.WordText.{Word, above, at_least, at_most, below, hyphen, plain, tilde}
-use Rattle.nodejs_semver.specs.Internal.Words.{comparator_at, tilde_sign}
-use Rattle.nodejs_semver.proofs.Everyday.Pieces.{bare-begins, bare-exact, bare-sound}
+use Rattle.nodejs_semver.specs.Text.WordText.{above_sign, at_least_sign, at_most_sign, below_sign, equal_sign, above, at_least}
+use Rattle.nodejs_semver.specs.Text.WordText.{at_most, below}
+use Rattle.nodejs_semver.specs.Internal.Words.{comparator_at}
+use Rattle.nodejs_semver.proofs.Everyday.Pieces.{bare-exact, bare-sound}
+use Rattle.nodejs_semver.proofs.Reading.Components.{components-begin}
 use Rattle.nodejs_semver.proofs.Reading.Quiet.{Stop, stop-bar, stop-nil, stop-space}
 use Rattle.nodejs_semver.proofs.Everyday.Texts.{part-tidy}
 use Rattle.nodejs_semver.proofs.Everyday.Words.{no-equal, no-greater, sign-begins}
 use Rattle.nodejs_semver.proofs.Reading.Bytes.{begins-on, begins_component, is_solid}
 use Rattle.nodejs_semver.proofs.Reading.WordLaw.{tilde-cases, Signed, sign-is}
-use Rattle.std.proofs.lemmas.Option.{same_Some}
-use Rattle.semver_core.proofs.Text.Texts.{bind_some}
 
 -- what may follow a part: the end, or bars with one space or none before them
 pub record Ends (more : List ℕ) : Type 0 where
@@ -53,7 +52,7 @@ comparator-of c sign text equal_sign h = refl
 
 comparison-exact : (limit : ℕ) (x : List ℕ) (w : Word) (more : List ℕ) → IsComparison limit x w → Stop more → comparison_front limit (x ++ more) ≡ Some (w, more)
 unfolding comparison_front
-comparison-exact limit x w more h stop = grind (arith, comparator-of, bare-begins, append_assoc, bare-exact)
+comparison-exact limit x w more h stop = grind (arith, comparator-of, components-begin, append_assoc, bare-exact)
 
 -- a comparison at the front
 abbrev Compared : ℕ → List ℕ → Word × List ℕ → Type 0
@@ -139,14 +138,14 @@ comparisons-part limit text h = grind arith
 word-exact : (limit : ℕ) (x : List ℕ) (w : Word) (s : Span VersionValue) (more : List ℕ) → IsCommonWord limit x w → table limit w ≡ Some s → Ends more
     → part_front limit (x ++ more) ≡ Some (s, more)
 unfolding part_front tilde_front caret_front partials_front comparisons_front
-word-exact limit x w s more (plain_word text p h) bounds e = grind (arith, begins-on, bare-begins, partials-part, bare-exact)
+word-exact limit x w s more (plain_word text p h) bounds e = grind (arith, begins-on, components-begin, partials-part, bare-exact)
 word-exact limit x w s more (compare_word text word is) bounds e =
     grind (arith, begins-on, comparison-begins, comparisons-part, comparison-exact)
-word-exact limit x w s more (tilde_word text p h) bounds e = grind (arith, begins-on, bare-begins, no-greater, bare-exact)
+word-exact limit x w s more (tilde_word text p h) bounds e = grind (arith, begins-on, components-begin, no-greater, bare-exact)
 word-exact limit x w s more (tilde_greater_word text p h) bounds e = rw (bare-exact limit text more p h e.stop, bounds) refl
 word-exact limit x w s more (caret_word text p h) bounds e = rw (bare-exact limit text more p h e.stop, bounds) refl
 word-exact limit x w s more (hyphen_word u v p q h k) bounds e =
-    grind (arith, begins-on, bare-begins, bare-exact, stop-space, append_assoc, partials-part)
+    grind (arith, begins-on, components-begin, bare-exact, stop-space, append_assoc, partials-part)
 
 -- a part that ends there is read whole
 pub part-exact : (limit : ℕ) (x : List ℕ) (s : Span VersionValue) (more : List ℕ) → IsCommonPart limit x s → Ends more → part_front limit (x ++ more) ≡ Some (s, more)

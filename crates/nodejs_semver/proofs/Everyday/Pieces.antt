@@ -1,15 +1,10 @@
 -- A partial of a common text is read exactly, whatever may follow it there.
-use Rattle.std.proofs.Common.{arith, ◌≡◌, ℕ, List, ◌++◌, ap, ◌∙◌, true, Some, Option}
+use Rattle.nodejs_semver.proofs.Common.{arith, ◌≡◌, ℕ, List, ◌++◌, ap, ◌∙◌, Some, Option, Front, AreComponents, Partial}
 use Rattle.semver_core.specs.Internal.Reading.{◌>>?◌}
 use Rattle.nodejs_semver.specs.Internal.CommonFronts.{bare_front}
-use Rattle.nodejs_semver.specs.Internal.Fronts.{dotted_front, Front, minor_front}
-use Rattle.nodejs_semver.specs.Text.PartialText.{AreComponents, Partial}
-use Rattle.nodejs_semver.proofs.Reading.Bytes.{begins_component}
-use Rattle.nodejs_semver.proofs.Reading.Components.{components-begin, components-read, components-then}
+use Rattle.nodejs_semver.specs.Internal.Fronts.{dotted_front, minor_front}
+use Rattle.nodejs_semver.proofs.Reading.Components.{components-read, components-then}
 use Rattle.nodejs_semver.proofs.Reading.Quiet.{Stop, quiet-before}
-
-pub bare-begins : (limit : ℕ) (x : List ℕ) (p : Partial) → AreComponents limit x p → begins_component x ≡ true
-bare-begins limit x p h = components-begin limit x p h
 
 -- it is read at the front
 pub bare-exact : (limit : ℕ) (x more : List ℕ) (p : Partial) → AreComponents limit x p → Stop more → bare_front limit (x ++ more) ≡ Some (p, more)

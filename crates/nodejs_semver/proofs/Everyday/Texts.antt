@@ -1,26 +1,19 @@
 -- Everyday parts between bars denote their intervals: the parts are cut at the bars and are trimmed to themselves.
-use Rattle.std.proofs.Common.{◌≡◌, ℕ, ◌<◌, List, [], ◌∷◌, ◌++◌, length, map, refl, sym, ap, ◌∙◌, arith, true, false, inl}
-use Rattle.std.proofs.Common.{append-nil, append_assoc, Some, flat_map}
-use Rattle.std.specs.List.{list_all, onto_first}
-use Rattle.std.proofs.lemmas.Bool.{and_parts, eqb-true}
-use Rattle.std.proofs.lemmas.Bool.Decides.{nat_tests}
-use Rattle.semver_core.specs.Text.Characters.{begins, ends}
-use Rattle.semver_core.specs.Cuts.{Span}
-use Rattle.semver_core.specs.Internal.Spaces.{after_spaces, drop_end_spaces, drop_spaces, space_len, trim}
-use Rattle.semver_core.specs.Lists.{is_empty}
-use Rattle.semver_core.specs.Values.Versions.{VersionValue}
-use Rattle.semver_core.proofs.Text.Spaces.{drop_spaces-none}
-use Rattle.nodejs_semver.specs.Text.Common.{AreCommonParts, IsCommonPart, IsCommonWord, IsGap, caret_word, compare_word}
-use Rattle.nodejs_semver.specs.Text.Common.{comparison, hyphen_word, more_parts, one_part, one_word, plain_word}
-use Rattle.nodejs_semver.specs.Text.Common.{tilde_greater_word, tilde_word, two_comparisons}
-use Rattle.nodejs_semver.specs.Internal.Denotes.{denotes, part_denotes}
-use Rattle.nodejs_semver.specs.Internal.Parts.{cut_bars, parts}
+use Rattle.nodejs_semver.proofs.Common.{◌≡◌, ℕ, ◌<◌, List, [], ◌∷◌, ◌++◌, length, map, refl, sym, ap, ◌∙◌, arith, true, false, inl}
+use Rattle.nodejs_semver.proofs.Common.{append-nil, append_assoc, Some, flat_map, list_all, and_parts, eqb-true, nat_tests, begins}
+use Rattle.nodejs_semver.proofs.Common.{ends, Span, drop_spaces, space_len, trim, is_empty, VersionValue, drop_spaces-none}
+use Rattle.nodejs_semver.proofs.Common.{AreCommonParts, denotes, part_denotes, parts, table, Word}
+use Rattle.std.specs.List.{onto_first}
+use Rattle.semver_core.specs.Internal.Spaces.{after_spaces, drop_end_spaces}
+use Rattle.semver_core.proofs.Text.Trims.{keep_byte}
+use Rattle.nodejs_semver.specs.Text.Common.{IsCommonPart, IsCommonWord, IsGap, caret_word, compare_word, comparison, hyphen_word}
+use Rattle.nodejs_semver.specs.Text.Common.{more_parts, one_part, one_word, plain_word, tilde_greater_word, tilde_word}
+use Rattle.nodejs_semver.specs.Text.Common.{two_comparisons}
+use Rattle.nodejs_semver.specs.Internal.Parts.{cut_bars}
 use Rattle.nodejs_semver.specs.Text.Bars.{is_bar}
-use Rattle.nodejs_semver.specs.Text.Table.{table}
-use Rattle.nodejs_semver.specs.Text.WordText.{Word}
 use Rattle.nodejs_semver.proofs.Everyday.Compact.{Compact, compact-partial, compact-signed, is_part_byte}
-use Rattle.nodejs_semver.proofs.Everyday.Words.{Tidy, caret-tidy, compared-tidy, hyphen-tidy, no-greater}
-use Rattle.nodejs_semver.proofs.Everyday.Words.{plain-tidy, tilde-tidy, two-tidy, space-gone}
+use Rattle.nodejs_semver.proofs.Everyday.Words.{Tidy, caret-tidy, compared-tidy, hyphen-tidy, no-greater, plain-tidy, tilde-tidy}
+use Rattle.nodejs_semver.proofs.Everyday.Words.{two-tidy, space-gone}
 use Rattle.nodejs_semver.proofs.Reading.Bytes.{all-join, is_solid, solid-dark}
 use Rattle.nodejs_semver.proofs.Reading.Components.{components-begin}
 
@@ -36,10 +29,6 @@ left-over [] gap h e = cc e
 left-over (b ∷ []) gap h e = ap is_empty (solid-kept b gap e)
 left-over (b ∷ c ∷ text) gap h e =
     grind (arith, solid-kept b ((c ∷ text) ++ gap), space-gone, eqb-true b 32, left-over (c ∷ text) gap)
-
-keep_byte : (b : ℕ) (rest : List ℕ) → is_empty (drop_spaces (b ∷ rest)) ≡ false → drop_end_spaces (b ∷ rest) ≡ b ∷ drop_end_spaces rest
-unfolding drop_end_spaces
-keep_byte b rest h = rw (h, drop_end_spaces) refl
 
 gap-gone : (gap : List ℕ) → IsGap gap → drop_end_spaces gap ≡ []
 unfolding drop_end_spaces after_spaces space_len

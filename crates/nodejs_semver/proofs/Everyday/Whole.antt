@@ -1,15 +1,7 @@
 -- The range that the fast reader makes of the intervals of a common text.
-use Rattle.std.proofs.Common.{ap, ◌≡◌, ◌∙◌, ℕ, ◌<◌, ◌+◌, List, [], length, sym, arith, true, Some, subst}
+use Rattle.nodejs_semver.proofs.Common.{ap, ◌≡◌, ◌∙◌, ℕ, ◌<◌, ◌+◌, List, [], length, sym, arith, true, Some, subst, list_all}
+use Rattle.nodejs_semver.proofs.Common.{is_range_span, Span, if_any, VersionValue, AreCommonParts, denotes, Means, IsRange}
 use Rattle.std.specs.Prelude.{Option, IfNone, IfSome, IsUtf8}
-use Rattle.std.specs.List.{list_all}
-use Rattle.nodejs_semver.specs.Internal.Sets.{is_range_span}
-use Rattle.semver_core.specs.Cuts.{Span}
-use Rattle.semver_core.specs.Lists.{if_any}
-use Rattle.semver_core.specs.Values.Versions.{VersionValue}
-use Rattle.nodejs_semver.specs.Text.Common.{AreCommonParts}
-use Rattle.nodejs_semver.specs.Internal.Denotes.{denotes}
-use Rattle.nodejs_semver.specs.Text.Meaning.{Means}
-use Rattle.nodejs_semver.specs.Ranges.View.{IsRange}
 use Rattle.nodejs_semver.proofs.Bounds.Table.{denotes-bounded}
 use Rattle.nodejs_semver.proofs.Dividing.MeaningLaw.{meant, one_meaning}
 use Rattle.nodejs_semver.proofs.Everyday.Texts.{common_parts_are_denoted}

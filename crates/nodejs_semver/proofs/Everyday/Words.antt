@@ -1,22 +1,15 @@
 -- The words of an everyday part are what the range grammar reads in it.
-use Rattle.std.proofs.Common.{◌≡◌, ℕ, List, [], ◌∷◌, ◌++◌, refl, sym, ◌∙◌, arith, Bool, true}
-use Rattle.std.proofs.Common.{false, Some, append-nil, append_assoc}
-use Rattle.semver_core.specs.Cuts.{Span, meet}
-use Rattle.semver_core.specs.Text.Characters.{begins}
-use Rattle.semver_core.specs.Values.Order.{precedence}
-use Rattle.semver_core.specs.Internal.OrderLaws.{precedence_total}
-use Rattle.semver_core.specs.Internal.Spaces.{after_spaces, drop_spaces, space_len}
-use Rattle.semver_core.specs.Values.Versions.{VersionValue}
-use Rattle.semver_core.proofs.Text.Spaces.{drop_spaces-none}
-use Rattle.nodejs_semver.specs.Internal.Denotes.{part_intervals}
+use Rattle.nodejs_semver.proofs.Common.{◌≡◌, ℕ, List, [], ◌∷◌, ◌++◌, refl, sym, ◌∙◌, arith, Bool, true, false, Some, append-nil}
+use Rattle.nodejs_semver.proofs.Common.{append_assoc, Span, meet, begins, precedence, precedence_total, drop_spaces, space_len}
+use Rattle.nodejs_semver.proofs.Common.{VersionValue, drop_spaces-none, part_intervals, AreComponents, Partial, table, IsSign}
+use Rattle.nodejs_semver.proofs.Common.{Comparator, Word, compare, hyphen, plain, tilde, tilde_sign, words}
+use Rattle.semver_core.specs.Internal.Spaces.{after_spaces}
 use Rattle.nodejs_semver.specs.Internal.Fronts.{partial_front}
 use Rattle.nodejs_semver.specs.Internal.Meets.{joined_from}
 use Rattle.nodejs_semver.specs.Internal.RunsFrom.{runs_from}
-use Rattle.nodejs_semver.specs.Text.PartialText.{AreComponents, Partial}
-use Rattle.nodejs_semver.specs.Text.Table.{table}
-use Rattle.nodejs_semver.specs.Text.WordText.{IsSign, Comparator, Word, caret, compare, hyphen, plain, tilde}
+use Rattle.nodejs_semver.specs.Text.WordText.{caret}
 use Rattle.nodejs_semver.specs.Internal.CommonFronts.{is_sign}
-use Rattle.nodejs_semver.specs.Internal.Words.{is_boundary, or_equal, tilde_sign, word_at, words, words_within}
+use Rattle.nodejs_semver.specs.Internal.Words.{is_boundary, or_equal, word_at, words_within}
 use Rattle.nodejs_semver.proofs.Dividing.MeetLemmas.{joined-goes, runs-joined}
 use Rattle.nodejs_semver.proofs.Everyday.Compact.{Compact, compact-compared, compact-partial, compact-signed, compact-spaced}
 use Rattle.nodejs_semver.proofs.Reading.Bytes.{begins-on, begins_component, component-solid, is_solid, solid-dark}

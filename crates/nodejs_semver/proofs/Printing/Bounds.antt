@@ -1,21 +1,17 @@
 -- For proofs. The text of an interval is a part that means it.
-use Rattle.std.proofs.Common.{◌≡◌, ◌<◌, ◌^◌, ◌||◌, ℕ, true, List, [], ◌∷◌, ◌++◌, refl, inl, inr, Some}
+use Rattle.nodejs_semver.proofs.Common.{◌≡◌, ◌<◌, ◌||◌, ℕ, true, List, [], ◌∷◌, ◌++◌, refl, inl, inr, Some, cases_Bool, Span}
+use Rattle.nodejs_semver.proofs.Common.{is_interval, meet, precedence, precedence_total, VersionValue, Bound, Unbounded, Before}
+use Rattle.nodejs_semver.proofs.Common.{After, table}
+use Rattle.std.proofs.Common.{◌^◌}
 use Rattle.std.specs.Cmp.{eq_by_cmp_equiv}
-use Rattle.std.proofs.lemmas.Bool.{cases_Bool}
-use Rattle.semver_core.specs.Cuts.{Span, is_interval, meet}
 use Rattle.semver_core.specs.Internal.Readable.{IsReadable}
-use Rattle.semver_core.specs.Values.Order.{precedence, version_eq}
-use Rattle.semver_core.specs.Internal.OrderLaws.{precedence_total}
+use Rattle.semver_core.specs.Values.Order.{version_eq}
 use Rattle.semver_core.specs.Printing.Text.{version_text}
-use Rattle.semver_core.specs.Values.Versions.{VersionValue}
-use Rattle.semver_core.specs.declared.cuts.bound.Bound.{Bound}
-use Rattle.semver_core.specs.declared.cuts.bound.Bound.TheVariants.{Unbounded, Before, After}
 use Rattle.nodejs_semver.specs.Printing.RoundTrip.{bounds_back}
 use Rattle.nodejs_semver.specs.Ranges.Outside.{is_bounded}
 use Rattle.nodejs_semver.specs.Printing.Text.{bounds_text}
-use Rattle.nodejs_semver.specs.Text.Table.{table}
-use Rattle.nodejs_semver.specs.Text.WordText.{Comparator, IsSign, above_sign, at_least_sign, at_most_sign, below_sign}
-use Rattle.nodejs_semver.specs.Text.WordText.{compare, at_least, above, equal, at_most, below}
+use Rattle.nodejs_semver.specs.Text.WordText.{Comparator, IsSign, above_sign, at_least_sign, at_most_sign, below_sign, compare}
+use Rattle.nodejs_semver.specs.Text.WordText.{at_least, above, equal, at_most, below}
 use Rattle.nodejs_semver.proofs.Everyday.Words.{Tidy, compared-tidy, plain-tidy, two-tidy}
 use Rattle.nodejs_semver.proofs.Printing.Versions.{components_are, whole}
 

@@ -1,20 +1,13 @@
 -- For proofs. Printed ranges come back.
-use Rattle.std.proofs.Common.{◌≡◌, ◌+◌, ◌<◌, ◌^◌, ℕ, true, List, [], ◌∷◌, ◌++◌, map, refl, ap}
-use Rattle.std.proofs.Common.{◌∙◌, append-nil, arith, inl, ◌&&◌, ◌||◌}
-use Rattle.std.specs.List.{list_all}
-use Rattle.std.proofs.lemmas.Bool.{and_from, and_parts}
-use Rattle.nodejs_semver.specs.Internal.Sets.{is_range_span, span_eq}
-use Rattle.semver_core.specs.Cuts.{Span, is_interval}
-use Rattle.semver_core.specs.Values.Order.{precedence}
-use Rattle.semver_core.specs.Values.Versions.{VersionValue}
-use Rattle.semver_core.specs.declared.cuts.bound.Bound.{Bound}
-use Rattle.semver_core.specs.declared.cuts.bound.Bound.TheVariants.{Unbounded, Before, After}
+use Rattle.nodejs_semver.proofs.Common.{◌≡◌, ◌+◌, ◌<◌, ℕ, true, List, [], ◌∷◌, ◌++◌, map, refl, ap, ◌∙◌, append-nil, arith, inl}
+use Rattle.nodejs_semver.proofs.Common.{◌&&◌, ◌||◌, list_all, and_from, and_parts, Span, is_interval, precedence, VersionValue}
+use Rattle.nodejs_semver.proofs.Common.{Bound, Unbounded, Before, After, is_range_span, denotes, IsRange, is_range_bound}
+use Rattle.std.proofs.Common.{◌^◌}
+use Rattle.nodejs_semver.specs.Internal.Sets.{span_eq}
 use Rattle.nodejs_semver.specs.Printing.RoundTrip.{is_printable, bounds_back}
 use Rattle.nodejs_semver.specs.Internal.Shorthands.{is_small}
-use Rattle.nodejs_semver.specs.Internal.Denotes.{denotes}
 use Rattle.nodejs_semver.specs.Printing.Text.{bounds_text, range_text}
 use Rattle.nodejs_semver.specs.Ranges.Outside.{is_bounded}
-use Rattle.nodejs_semver.specs.Ranges.View.{IsRange, is_range_bound}
 use Rattle.nodejs_semver.specs.Internal.SameLaws.{bound_refl}
 use Rattle.nodejs_semver.specs.Ranges.Equality.{range_eq}
 use Rattle.nodejs_semver.proofs.Everyday.Words.{Tidy}

@@ -1,16 +1,12 @@
 -- For proofs. A range that is printed and parsed.
-use Rattle.std.proofs.Common.{◌≡◌, ◌<◌, ◌^◌, ℕ, true, List, [], ◌∷◌, map, sym, ◌∙◌, subst, arith, Result, IfOk, IsUtf8}
+use Rattle.nodejs_semver.proofs.Common.{◌≡◌, ◌<◌, ℕ, true, List, [], ◌∷◌, map, sym, ◌∙◌, subst, arith, IsUtf8, list_all, Span}
+use Rattle.nodejs_semver.proofs.Common.{VersionValue, Failure, Means, IsRange}
+use Rattle.std.proofs.Common.{◌^◌, Result, IfOk}
 use Rattle.std.proofs.lemmas.Result.{IfOk-weaker}
-use Rattle.std.specs.List.{list_all}
-use Rattle.semver_core.specs.Cuts.{Span}
 use Rattle.semver_core.specs.Failures.{RefusedOnlyIf}
-use Rattle.semver_core.specs.Values.Versions.{VersionValue}
-use Rattle.semver_core.specs.declared.error.Failure.{Failure}
 use Rattle.nodejs_semver.specs.Printing.RoundTrip.{is_printable}
-use Rattle.nodejs_semver.specs.Text.Meaning.{Means}
 use Rattle.nodejs_semver.proofs.Dividing.MeaningLaw.{one_meaning}
 use Rattle.nodejs_semver.specs.Printing.Text.{range_text}
-use Rattle.nodejs_semver.specs.Ranges.View.{IsRange}
 use Rattle.nodejs_semver.proofs.Printing.Ranges.{read_back, reads_back}
 
 -- what is read from the text of a printable range

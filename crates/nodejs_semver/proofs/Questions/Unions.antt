@@ -1,10 +1,10 @@
 -- What the union of two lists of spans accepts.
 use Rattle.std.proofs.Common.{◌≡◌, refl, sym, ap, ap₂, ◌∙◌, Bool, true, false, ◌&&◌, ◌||◌, ◌==◌, not, List, [], ◌∷◌, ◌++◌, filter, arith}
-use Rattle.std.proofs.Common.{ℕ, ◌+◌, ◌<◌, ◌⊎◌, append-nil, append_assoc, drop, get_or, inl, inr, suc, zero, if◌then◌else◌, length, length-append, map, Ordering, take}
+use Rattle.std.proofs.Common.{ℕ, ◌+◌, ◌<◌, ◌⊎◌, append-nil, append_assoc, get_or, inl, inr, suc, zero, if◌then◌else◌, length, length-append, map, Ordering, take}
 use Rattle.std.proofs.lemmas.List.{map-append}
 use Rattle.std.proofs.lemmas.List.Elements.{filter_more}
 use Rattle.std.proofs.lemmas.List.Folds.{list_all-append}
-use Rattle.std.proofs.lemmas.Bool.{and_parts, cases_Bool, not-true, or_cases, or_left, or_parts, or_right}
+use Rattle.std.proofs.lemmas.Bool.{and_parts, not-true, or_cases, or_left, or_parts, or_right}
 use Rattle.std.proofs.lemmas.List.Folds.{list_any-append}
 use Rattle.std.specs.List.{list_all, list_any}
 use Rattle.semver_core.proofs.CutLaws.{gt_lt, is_past-down, tells}

@@ -1,6 +1,6 @@
 -- Identifiers joined by dots: the longest list at the front of a text.
-use Rattle.nodejs_semver.proofs.Common.{◌≡◌, ℕ, Bool, ◌≤◌, ◌+◌, List, [], ◌∷◌, ◌++◌, length, take, drop, refl, arith, true, false}
-use Rattle.nodejs_semver.proofs.Common.{length-append, ◌==◌, take_at, drop_at, Id, list_len, is_empty}
+use Rattle.nodejs_semver.proofs.Common.{◌≡◌, ℕ, ◌≤◌, ◌+◌, List, [], ◌∷◌, ◌++◌, length, take, drop, refl, arith, true, false}
+use Rattle.nodejs_semver.proofs.Common.{length-append, take_at, drop_at, Id, list_len, is_empty}
 use Rattle.std.proofs.Common.{length-drop}
 use Rattle.std.proofs.lemmas.List.{take_all}
 use Rattle.semver_core.specs.Text.Identifiers.{IsIdentifiers, Numeric, goes_on, is_listed, listed, pieces}
@@ -61,9 +61,6 @@ pub ruleset split_here = (list_stopped, list_past, listed_taken)
 pub listed_empty : (t : List ℕ) → is_empty (listed t) ≡ is_empty t
 unfolding listed
 listed_empty t = grind arith
-
-pub listed_empty-length : (t : List ℕ) → (b : Bool) → (length t == 0) ≡ b → is_empty (listed t) ≡ b
-listed_empty-length t b h = grind (arith, listed_empty)
 
 -- `0`
 pub zero_listed : is_listed (48 ∷ []) ≡ true

@@ -3,17 +3,16 @@ use Rattle.nodejs_semver.proofs.Common.{◌≡◌, ◌⊎◌, ℕ, ◌<◌, ◌�
 use Rattle.nodejs_semver.proofs.Common.{true, Some, inl, inr, subst, append-nil, append_assoc, length-append, ◌==◌, ◌↔◌, IsUtf8}
 use Rattle.nodejs_semver.proofs.Common.{list_all, cases_Bool, eqb-true, nat_tests, take_at, drop_at, IsUtf8-drop}
 use Rattle.nodejs_semver.proofs.Common.{IsCharBoundary-after_ascii, is_whitespace, drop_spaces, space_len, drop_spaces-none}
-use Rattle.nodejs_semver.proofs.Common.{AreComponents, Partial, same_Some}
+use Rattle.nodejs_semver.proofs.Common.{AreComponents, Partial, same_Some, IsBlank}
 use Rattle.std.specs.Prelude.{encode_utf8_all}
 use Rattle.std.proofs.lemmas.Str.{encodes-append}
-use Rattle.semver_core.specs.Text.Characters.{IsBlank}
 use Rattle.semver_core.proofs.Text.SpaceLaw.{space_len-white}
 use Rattle.semver_core.proofs.Text.Trims.{drop_spaces-blank, fronted}
 use Rattle.nodejs_semver.specs.Internal.Fronts.{drop_v, partial_front}
 use Rattle.nodejs_semver.specs.Text.LongestText.{BeginsPartial, IsLongestPartial}
 use Rattle.nodejs_semver.specs.Text.PartialText.{IsPartial}
-use Rattle.nodejs_semver.proofs.Reading.Bytes.{begins-on, begins-some, begins_component}
-use Rattle.nodejs_semver.proofs.Reading.Bytes.{component-solid, is_component_byte, solid-dark}
+use Rattle.nodejs_semver.proofs.Reading.Bytes.{begins-on, begins-some, begins_component, component-solid, is_component_byte}
+use Rattle.nodejs_semver.proofs.Reading.Bytes.{solid-dark}
 use Rattle.nodejs_semver.proofs.Reading.Components.{Passes, Read, components-begin, components-read, components-then}
 use Rattle.nodejs_semver.proofs.Reading.Quiet.{Quiet, Stop, quiet-append, quiet-before, quiet-last, stop-nil}
 use Rattle.nodejs_semver.proofs.Dividing.Trimmed.{dark-starts}

@@ -1,12 +1,11 @@
 -- Each word takes a byte or more, so the list of words is a recursion.
 use Rattle.nodejs_semver.proofs.Common.{◌≡◌, ℕ, zero, suc, ◌<◌, ◌≤◌, List, [], ◌∷◌, length, refl, ap, arith, Some, None}
 use Rattle.nodejs_semver.proofs.Common.{length-append, false, cond_some, same_Some, drop_spaces, space_len, Word, Partial}
-use Rattle.nodejs_semver.proofs.Common.{drop_spaces-none, space_len-nil, bind_some}
+use Rattle.nodejs_semver.proofs.Common.{drop_spaces-none, space_len-nil, bind_some, Sign, sign_at, tilde_sign, upper_of, words}
 use Rattle.std.specs.Prelude.{nat_lt}
 use Rattle.semver_core.specs.Internal.Spaces.{after_spaces}
-use Rattle.nodejs_semver.specs.Internal.Words.{Reading, Sign, after_some_space, behind_sign, careted, compared}
-use Rattle.nodejs_semver.specs.Internal.Words.{from_boundary, is_boundary, sign_at, tilde_sign, tilded, unsigned}
-use Rattle.nodejs_semver.specs.Internal.Words.{upper_of, word_at, word_behind, words, words_within}
+use Rattle.nodejs_semver.specs.Internal.Words.{Reading, after_some_space, behind_sign, careted, compared, from_boundary}
+use Rattle.nodejs_semver.specs.Internal.Words.{is_boundary, tilded, unsigned, word_at, word_behind, words_within}
 use Rattle.nodejs_semver.specs.Internal.Fronts.{after_byte, component_front, dotted_front, drop_v, minor_front, partial_front}
 use Rattle.nodejs_semver.proofs.Reading.Components.{component-shorter, minor_front-le}
 use Rattle.semver_core.proofs.Text.Spaces.{after_spaces-end}

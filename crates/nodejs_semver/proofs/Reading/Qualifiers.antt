@@ -1,18 +1,14 @@
 -- The pre-release and the build at the front of a text: what is read is written there, and what is written is read.
-use Rattle.std.proofs.Common.{◌≡◌, ℕ, ◌≤◌, List, [], ◌∷◌, ◌++◌, length, take, drop, refl, sym, ap, arith, true}
-use Rattle.std.proofs.Common.{false, inl, inr, append-nil, append_assoc, length-append}
-use Rattle.std.specs.Char.{is_ascii_digit}
-use Rattle.std.proofs.lemmas.Bool.{cases_Bool}
-use Rattle.std.proofs.lemmas.Bool.Decides.{nat_tests}
+use Rattle.nodejs_semver.proofs.Common.{◌≡◌, ℕ, ◌≤◌, List, [], ◌∷◌, ◌++◌, length, take, drop, refl, sym, ap, arith, true, false}
+use Rattle.nodejs_semver.proofs.Common.{inl, inr, append-nil, append_assoc, length-append, is_ascii_digit, cases_Bool, nat_tests}
+use Rattle.nodejs_semver.proofs.Common.{begins, Id, list_len, IsIdentifiers, IsBuild, IsPreRelease, begins_identifier}
 use Rattle.std.proofs.lemmas.List.{take-append-drop}
-use Rattle.semver_core.specs.Text.Characters.{begins}
-use Rattle.semver_core.specs.Text.Identifiers.{Id, IsIdentifiers, goes_on, listed}
-use Rattle.semver_core.specs.Text.VersionText.{IsBuild, IsPreRelease, begins_pre_release, dashed, bare, no_pre_release, plus, no_build}
-use Rattle.semver_core.specs.Internal.Reading.{list_len}
+use Rattle.semver_core.specs.Text.Identifiers.{goes_on, listed}
+use Rattle.semver_core.specs.Text.VersionText.{begins_pre_release, dashed, bare, no_pre_release, plus, no_build}
 use Rattle.semver_core.proofs.Text.Pieces.{list_ended}
-use Rattle.nodejs_semver.specs.Internal.Fronts.{begins_byte, begins_identifier, build_front, pre_release_front}
-use Rattle.nodejs_semver.proofs.Reading.IdentifierLists.{front-identifiers, written-begins}
-use Rattle.nodejs_semver.proofs.Reading.IdentifierLists.{written-exact, written-le, written-spelled}
+use Rattle.nodejs_semver.specs.Internal.Fronts.{begins_byte, build_front, pre_release_front}
+use Rattle.nodejs_semver.proofs.Reading.IdentifierLists.{front-identifiers, written-begins, written-exact, written-le}
+use Rattle.nodejs_semver.proofs.Reading.IdentifierLists.{written-spelled}
 use Rattle.nodejs_semver.proofs.Reading.Quiet.{Quiet, Stop, quiet-before}
 
 -- no run of digits goes on behind the list at the front

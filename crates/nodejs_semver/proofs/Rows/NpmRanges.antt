@@ -7,7 +7,8 @@ use Rattle.std.specs.List.{join_with_byte}
 use Rattle.semver_core.specs.Text.Characters.{IsBlank}
 use Rattle.semver_core.specs.Text.Identifiers.{AlphaNumeric}
 use Rattle.semver_core.specs.Values.Versions.{VersionValue, release_value}
-use Rattle.nodejs_semver.specs.Npm.RangeText.{AreWords, IsPartial, are_marks, are_spelled, begins_letter, caret_equal, is_spelled, last, late_above, number, one, sign, spelling, tilde_twice, word}
+use Rattle.nodejs_semver.specs.Npm.Malformed.{is_malformed}
+use Rattle.nodejs_semver.specs.Npm.RangeText.{AreWords, IsPartial, are_marks, are_spelled, begins_letter, caret_equal, is_lost, is_spelled, last, late_above, number, one, sign, spelling, tilde_twice, word}
 use Rattle.nodejs_semver.specs.Npm.Ranges.{accepts, is_valid}
 use Rattle.nodejs_semver.specs.Npm.Table.{Comparison, Partial, Sign, caret, compared, hyphen_lower, hyphen_upper, major, minor, table, tilde, whole, wildcard}
 use Rattle.nodejs_semver.specs.Text.WordText.{above, at_least, at_most, below, equal}
@@ -172,3 +173,17 @@ row-marks : map (λ loose. are_marks loose (compared equal) (plain 1 2 3) (codes
     ∷ (are_marks loose (compared above) (plain 1 2 3) (codes "=") ∷ []))) (true ∷ false ∷ [])
     ≡ (true ∷ true ∷ false ∷ []) ∷ ((false ∷ false ∷ false ∷ []) ∷ [])
 row-marks = refl
+
+-- ---- malformed words
+
+-- `-1`, `1|2`, `1.2.3.4` and `2,` are ignored, and `-`, `foo=`, `1.2.34.5`, `1/*` and nothing are not
+row-malformed : map is_malformed (codes "-1" ∷ (codes "1|2" ∷ (codes "1.2.3.4" ∷ (codes "2," ∷ []))))
+    ++ map is_malformed (codes "-" ∷ (codes "foo=" ∷ (codes "1.2.34.5" ∷ (codes "1/*" ∷ ([] ∷ [])))))
+    ≡ true ∷ (true ∷ (true ∷ (true ∷ (false ∷ (false ∷ (false ∷ (false ∷ (false ∷ []))))))))
+row-malformed = refl
+
+-- `foo` and `foo * bar` are no alternatives, and `foo *`, `foo *.1`, strictly `foo`, and `foo 1 bar` are
+row-lost : map (λ text. is_lost true text []) (codes "foo" ∷ (codes "foo * bar" ∷ (codes "foo *" ∷ (codes "foo *.1" ∷ []))))
+    ++ is_lost false (codes "foo") [] ∷ (is_lost true (codes "foo 1 bar") (table false (compared equal) (major 1) []) ∷ [])
+    ≡ true ∷ (true ∷ (false ∷ (false ∷ (false ∷ (false ∷ [])))))
+row-lost = refl

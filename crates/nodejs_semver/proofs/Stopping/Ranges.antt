@@ -1,8 +1,7 @@
 -- The first alternative of a range text that is malformed.
-use Rattle.nodejs_semver.proofs.Common.{◌≡◌, ◌<◌, ◌≤◌, ◌+◌, ◌-◌, ℕ, Bool, List, [], ◌∷◌, ◌++◌, length, refl, sym, ap, ◌∙◌, arith, true, false, Some, None, Option, ◌↔◌, AllByRecursion, IsUtf8, is_empty, subst, list_all, trim, bind_some, inl, inr, MAX_SAFE_INTEGER, and_parts, append_assoc}
+use Rattle.nodejs_semver.proofs.Common.{◌≡◌, ◌≤◌, ◌+◌, ◌-◌, ℕ, Bool, List, [], ◌∷◌, ◌++◌, length, refl, sym, ap, ◌∙◌, arith, true, false, Some, None, Option, ◌↔◌, AllByRecursion, IsUtf8, is_empty, subst, list_all, trim, bind_some, MAX_SAFE_INTEGER, and_parts, append_assoc}
 use Rattle.std.specs.Option.{is_none}
 use Rattle.semver_core.specs.Failures.{NoValue}
-use Rattle.semver_core.specs.Internal.Reading.{◌>>?◌}
 use Rattle.semver_core.specs.Text.Characters.{IsAfterBlank, IsTrim}
 use Rattle.semver_core.proofs.Text.Trims.{after_blank-place, middle_is_trim, one_after_blank}
 use Rattle.nodejs_semver.specs.Internal.NpmReads.{IsFound, valid_alternative}
@@ -10,7 +9,7 @@ use Rattle.nodejs_semver.specs.Internal.NpmWords.{alternative_of, valid_only}
 use Rattle.nodejs_semver.specs.Internal.PartFronts.{front_part}
 use Rattle.nodejs_semver.specs.Internal.Parts.{cut_bars}
 use Rattle.nodejs_semver.specs.Npm.RangeFlaws.{IsAlternativeText, IsRangeFlaw, bytes_of}
-use Rattle.nodejs_semver.specs.Npm.RangeText.{AreAlternatives, lost, next, none}
+use Rattle.nodejs_semver.specs.Npm.RangeText.{AreAlternatives, next, none}
 use Rattle.nodejs_semver.specs.Npm.Ranges.{HasAlternatives, is_valid}
 use Rattle.nodejs_semver.specs.Npm.Table.{Comparison}
 use Rattle.nodejs_semver.specs.Text.Bars.{IsCutAtBars, more_pieces, one_piece}
@@ -88,11 +87,9 @@ all-some include (p ∷ ps) h some = refl
 piece-of : (include : Bool) (front : List (List ℕ)) (piece : List ℕ) (behind : List (List ℕ)) (ls : List (List Comparison))
     → AreAlternatives false include (front ++ piece ∷ behind) ls → list_all (list_all (is_valid MAX_SAFE_INTEGER)) ls ≡ true
     → IsPiece include piece
-piece-of include [] piece behind ls (lost p text others rest l t m more) v = cc l
 piece-of include [] piece behind ls (next p text others cs rest t is more) v =
     let each = and_parts (list_all (is_valid MAX_SAFE_INTEGER) cs) (list_all (list_all (is_valid MAX_SAFE_INTEGER)) rest) v in
     (cs, record { middle = text; trimmed = t; is = is; valid = each.0 })
-piece-of include (q ∷ front) piece behind ls (lost p text others rest l t m more) v = cc l
 piece-of include (q ∷ front) piece behind ls (next p text others cs rest t is more) v =
     let each = and_parts (list_all (is_valid MAX_SAFE_INTEGER) cs) (list_all (list_all (is_valid MAX_SAFE_INTEGER)) rest) v in
     piece-of include front piece behind rest more each.1

@@ -1,5 +1,5 @@
 -- Where a text stops being a version text.
-use Rattle.std.proofs.Common.{◌≡◌, ◌⊎◌, inl, inr, ◌<◌, ◌≤◌, ◌+◌, ◌↔◌, ◌++◌, ◌∷◌, ℕ, zero, suc, List, [], Option, Some, None, length, refl, sym, ap, ◌∙◌, subst, arith, true, false, append_assoc, append-nil, length-append, IsUtf8, IfSome, MatchOption}
+use Rattle.std.proofs.Common.{◌≡◌, ◌⊎◌, inl, inr, ◌≤◌, ◌+◌, ◌↔◌, ◌++◌, ◌∷◌, ℕ, List, [], Option, Some, None, length, refl, sym, ap, ◌∙◌, subst, arith, true, false, append_assoc, append-nil, length-append, IsUtf8}
 use Rattle.std.specs.Prelude.{encode_utf8_all}
 use Rattle.std.specs.Char.{encode_utf8, len_utf8}
 use Rattle.std.specs.Str.{chars}
@@ -13,10 +13,10 @@ use Rattle.nodejs_semver.specs.Npm.VersionText.{IsVersionText}
 use Rattle.nodejs_semver.specs.declared.npm.flaws.Flaw.{Flaw}
 use Rattle.nodejs_semver.specs.declared.npm.flaws.Flaw.TheVariants.{At, TooLong}
 use Rattle.nodejs_semver.specs.declared.npm.flaws.State.{State}
-use Rattle.nodejs_semver.specs.declared.npm.flaws.State.TheVariants.{Start, Digit, Number, Dash, Zero, Padded, PreRelease, Plus, Build, End}
+use Rattle.nodejs_semver.specs.declared.npm.flaws.State.TheVariants.{Start}
 use Rattle.nodejs_semver.specs.declared.npm.flaws.Wrong.{Wrong}
-use Rattle.nodejs_semver.proofs.Stopping.Steps.{run-nil, run-none, run-step, run-then}
-use Rattle.nodejs_semver.proofs.Stopping.Read.{Whole, spelled-read}
+use Rattle.nodejs_semver.proofs.Stopping.Steps.{run-nil, run-step, run-then}
+use Rattle.nodejs_semver.proofs.Stopping.Read.{spelled-read}
 use Rattle.nodejs_semver.proofs.Stopping.Written.{read-spelled}
 use Rattle.nodejs_semver.proofs.Stopping.Fronts.{front-stops, read-front}
 use Rattle.nodejs_semver.proofs.Stopping.Wrongs.{ended-wrong, goes_on, stopped-wrong, one_wrong}

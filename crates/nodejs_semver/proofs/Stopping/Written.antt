@@ -1,5 +1,5 @@
 -- A text that is read to its end as a version is written as one.
-use Rattle.std.proofs.Common.{◌≡◌, ◌⊎◌, ◌<◌, ◌≤◌, ◌+◌, ◌*◌, ◌&&◌, ◌||◌, not, ℕ, zero, suc, Bool, true, false, Option, Some, None, List, [], ◌∷◌, ◌++◌, length, refl, sym, ap, ◌∙◌, arith, inl, inr, nat_lt, append_assoc, append-nil, length-append, subst}
+use Rattle.std.proofs.Common.{◌≡◌, ◌⊎◌, ◌≤◌, ◌+◌, ◌*◌, ◌&&◌, ◌||◌, not, ℕ, zero, suc, Bool, true, false, Option, Some, None, List, [], ◌∷◌, ◌++◌, refl, sym, ap, ◌∙◌, arith, inl, inr, nat_lt, append_assoc, append-nil, length-append, subst}
 use Rattle.std.specs.Prelude.{◌==◌, encode_utf8_all, if◌then◌else◌, map, reverse}
 use Rattle.std.specs.Char.{digit_value, is_ascii_digit}
 use Rattle.std.specs.List.{list_all, onto_first}
@@ -11,11 +11,10 @@ use Rattle.std.proofs.lemmas.List.{reverse-append}
 use Rattle.std.proofs.lemmas.List.Folds.{list_all-append}
 use Rattle.std.proofs.lemmas.Option.{same_Some}
 use Rattle.semver_core.specs.Internal.Reading.{◌>>?◌}
-use Rattle.semver_core.specs.Text.Characters.{IsTrim, begins, is_identifier_char, is_whitespace}
-use Rattle.semver_core.specs.Text.Identifiers.{Id, IsIdentifiers, identifier_of, is_identifier, pieces}
+use Rattle.semver_core.specs.Text.Characters.{begins, is_identifier_char, is_whitespace}
+use Rattle.semver_core.specs.Text.Identifiers.{Id, identifier_of, is_identifier, pieces}
 use Rattle.semver_core.specs.Values.Versions.{VersionValue}
 use Rattle.semver_core.proofs.Text.Pieces.{onto_tail, runs_tail, tail_runs}
-use Rattle.semver_core.proofs.Text.Texts.{bind_some}
 use Rattle.nodejs_semver.specs.Internal.NpmStates.{ended, is_whole, next, run}
 use Rattle.nodejs_semver.specs.Npm.Flaws.{IsSpelled}
 use Rattle.nodejs_semver.specs.Npm.Grammar.{IsStrictBuild, IsStrictNumber, IsStrictPreRelease, dashed, has_leading_zero, is_strict_identifier, no_build, no_pre_release, plus}
@@ -23,7 +22,7 @@ use Rattle.nodejs_semver.specs.Npm.VersionText.{IsStrictVersion}
 use Rattle.nodejs_semver.specs.declared.npm.flaws.State.{State}
 use Rattle.nodejs_semver.specs.declared.npm.flaws.State.TheVariants.{Start, Digit, Number, Dash, Zero, Padded, PreRelease, Plus, Build, End}
 use Rattle.nodejs_semver.proofs.Stopping.Steps.{digit-plain, identifier-more, identifier_read}
-use Rattle.nodejs_semver.proofs.Stopping.Read.{Whole, is_plain, plain-encodes, runs-first, strict-onto, strict_behind}
+use Rattle.nodejs_semver.proofs.Stopping.Read.{Whole, is_plain, plain-encodes, strict-onto, strict_behind}
 
 -- ---- steps
 

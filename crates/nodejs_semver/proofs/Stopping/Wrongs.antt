@@ -1,18 +1,17 @@
 -- What is wrong where a text stops being a version text.
-use Rattle.std.proofs.Common.{◌≡◌, ◌⊎◌, ◌<◌, ◌≤◌, ◌+◌, ◌*◌, ◌&&◌, ◌||◌, ◌↔◌, not, ℕ, zero, suc, Bool, true, false, Option, Some, None, List, [], ◌∷◌, ◌++◌, refl, sym, ap, ◌∙◌, subst, arith, inl, inr, nat_lt, append_assoc, is_some}
-use Rattle.std.specs.Prelude.{◌==◌, encode_utf8_all, if◌then◌else◌}
+use Rattle.std.proofs.Common.{◌≡◌, ◌≤◌, ◌+◌, ◌*◌, ◌||◌, ◌↔◌, ℕ, zero, suc, Bool, true, false, Option, Some, None, List, [], ◌∷◌, ◌++◌, refl, sym, ap, ◌∙◌, subst, arith, inl, inr, nat_lt, append_assoc, is_some}
+use Rattle.std.specs.Prelude.{◌==◌, encode_utf8_all}
 use Rattle.std.specs.Char.{digit_value, is_ascii_digit}
 use Rattle.std.proofs.lemmas.Bool.{cases_Bool}
 use Rattle.std.proofs.lemmas.Bool.Decides.{nat_tests}
 use Rattle.std.proofs.lemmas.Option.{same_Some}
 use Rattle.semver_core.proofs.Text.Texts.{bind_some}
-use Rattle.semver_core.specs.Text.Characters.{begins, ends, is_identifier_char, is_whitespace}
+use Rattle.semver_core.specs.Text.Characters.{ends}
 use Rattle.nodejs_semver.specs.Internal.NpmStates.{is_whole, next, run, wrong_at}
-use Rattle.nodejs_semver.specs.Npm.Flaws.{GoesOn, IsFront, IsSpelled, is_any_mark, is_letter, wrong_of}
+use Rattle.nodejs_semver.specs.Npm.Flaws.{GoesOn, IsFront, IsSpelled, wrong_of}
 use Rattle.nodejs_semver.specs.declared.npm.flaws.State.{State}
 use Rattle.nodejs_semver.specs.declared.npm.flaws.State.TheVariants.{Start, Digit, Number, Dash, Zero, Padded, PreRelease, Plus, Build, End}
-use Rattle.nodejs_semver.specs.declared.npm.flaws.Wrong.{Wrong}
-use Rattle.nodejs_semver.proofs.Stopping.Steps.{run-nil, run-none, run-step, run-then}
+use Rattle.nodejs_semver.proofs.Stopping.Steps.{run-nil, run-step, run-then}
 use Rattle.nodejs_semver.proofs.Stopping.Lasts.{dash-read, padded-read, plus-read}
 use Rattle.nodejs_semver.proofs.Stopping.Read.{Whole, spelled-read}
 use Rattle.nodejs_semver.proofs.Stopping.Fronts.{front-stops, read-front}

@@ -1,7 +1,7 @@
 -- The alternatives of node-semver's range texts: the function that reads them finds exactly what the statement has.
 use Rattle.nodejs_semver.proofs.Common.{◌≡◌, ◌<◌, ◌≤◌, ◌-◌, ◌+◌, ℕ, zero, suc, Bool, List, [], ◌∷◌, ◌++◌, length, take, refl, sym, ap, ◌∙◌, arith}
-use Rattle.nodejs_semver.proofs.Common.{true, false, Some, None, Option, inl, inr, ◌&&◌, ◌||◌, not, ◌==◌, and_parts, append_assoc, append-nil, bind_some}
-use Rattle.nodejs_semver.proofs.Common.{begins, cases_Bool, cond_some, length-append, list_all, nat_tests, or_right, same_Some, subst, IsUtf8}
+use Rattle.nodejs_semver.proofs.Common.{true, false, Some, None, inl, inr, ◌&&◌, ◌||◌, not, ◌==◌, and_parts, append_assoc, append-nil, bind_some}
+use Rattle.nodejs_semver.proofs.Common.{begins, cases_Bool, length-append, list_all, nat_tests, or_right, same_Some, subst, IsUtf8}
 use Rattle.nodejs_semver.proofs.Common.{drop_spaces, drop_spaces-none, space_len, is_release, is_whitespace}
 use Rattle.std.proofs.Common.{◌/◌, ◌%◌}
 use Rattle.std.specs.Prelude.{encode_utf8_all}
@@ -9,39 +9,44 @@ use Rattle.std.specs.Char.{encode_utf8}
 use Rattle.std.proofs.lemmas.Bool.{cases_lt, le-ltb, lt-ltb}
 use Rattle.std.proofs.lemmas.Str.{encode_ascii, len_utf8_bounds, length-encode}
 use Rattle.semver_core.specs.Internal.Spaces.{after_spaces}
-use Rattle.semver_core.specs.Internal.Reading.{◌>>?◌}
 use Rattle.semver_core.specs.Text.Characters.{IsBlank}
 use Rattle.semver_core.proofs.Text.Trims.{drop_spaces-blank}
-use Rattle.nodejs_semver.specs.Internal.Fronts.{begins_byte}
+use Rattle.std.specs.Str.{bytes_eq}
+use Rattle.semver_core.specs.Lists.{is_empty}
 use Rattle.nodejs_semver.specs.Internal.NpmWords.{Ended, after_ends, alternative_of, drop_ends, end_front, hyphen_comparisons, hyphen_ends}
-use Rattle.nodejs_semver.specs.Internal.NpmWords.{is_lost, last_end, partial_front, standing, words_within}
-use Rattle.nodejs_semver.specs.Npm.Malformed.{is_malformed, is_plain}
+use Rattle.nodejs_semver.specs.Internal.NpmWords.{last_end, partial_front, words_within}
+use Rattle.nodejs_semver.specs.Npm.Malformed.{is_plain, is_visible}
 use Rattle.nodejs_semver.specs.Npm.RangeText.{AreEndMarks, AreWords, IsAlternative, IsPartial, IsSignText, IsWord, hyphen, ignored, is_free_lower, is_free_upper}
-use Rattle.nodejs_semver.specs.Npm.RangeText.{is_mark, last, more, nothing, spelling, stands, word, words}
+use Rattle.nodejs_semver.specs.Npm.RangeText.{is_mark, last, more, nothing, spelling, word, words}
 use Rattle.nodejs_semver.specs.Npm.RangeText.{caret_equal, late_above, late_below, no_sign, sign, tilde_sign, tilde_twice}
 use Rattle.nodejs_semver.specs.Npm.Table.{Comparison, Partial, Sign, caret, compared, hyphen_lower, hyphen_upper, major, minor, tilde, whole, wildcard}
 use Rattle.nodejs_semver.specs.Text.WordText.{above, at_least, at_most, below, equal}
-use Rattle.nodejs_semver.proofs.Reading.Bytes.{all-join, begins_component, is_solid}
+use Rattle.nodejs_semver.proofs.Reading.Bytes.{all-join, begins_component}
 use Rattle.nodejs_semver.proofs.Reading.Steps.{option-cases}
 use Rattle.nodejs_semver.proofs.Strict.Hyphens.{after_ends-drop, dash-read, end-read, ends-space, hyphen-found, mark-dark, marks-passed, marks-whole, whole-dark}
-use Rattle.nodejs_semver.proofs.Strict.Malformed.{all-weaker, is_part, malformed-begins, malformed-first, malformed-plain, partial-part}
+use Rattle.nodejs_semver.proofs.Strict.Malformed.{all-weaker, boundary-dark, is_part, malformed-more, malformed-plain, partial-part}
 use Rattle.nodejs_semver.proofs.Strict.PartialLaw.{boundary-quiet, partial-read}
 use Rattle.nodejs_semver.proofs.Strict.SignsRead.{marks-all}
-use Rattle.nodejs_semver.proofs.Strict.Words.{blank-boundary, blank-space, partial-begins, words-found, words-read, words-solid}
+use Rattle.nodejs_semver.proofs.Strict.Words.{blank-boundary, blank-space, partial-begins, words-found, words-read, words-visible}
 
--- ---- no `-` follows whitespace in words
+-- ---- no `-` stands alone behind whitespace in words
 
 -- a visible character of ASCII
 abbrev is_tight : ℕ → Bool
-is_tight b = is_solid b
+is_tight b = is_visible b
 
 abbrev is_other : ℕ → Bool
 is_other b = not (b == 45)
 
--- a `-` stands behind a byte that is none
+-- a `-` behind which no visible character stands
+abbrev lone : List ℕ → Bool
+lone [] = false
+lone (b ∷ rest) = (b == 45) && not (begins is_tight rest)
+
+-- such a `-` stands behind a byte that is no visible character
 abbrev apart : List ℕ → Bool
 apart [] = false
-apart (b ∷ rest) = (not (is_tight b) && begins_byte 45 rest) || apart rest
+apart (b ∷ rest) = (not (is_tight b) && lone rest) || apart rest
 
 tight-passed : (u v : List ℕ) → list_all is_tight u ≡ true → apart (u ++ v) ≡ apart v
 tight-passed [] v h = refl
@@ -49,22 +54,22 @@ tight-passed (b ∷ u) v h =
     let each = and_parts (is_tight b) (list_all is_tight u) h in
     rw each.0 (tight-passed u v each.1)
 
-other-first : (u v : List ℕ) → list_all is_other u ≡ true → begins_byte 45 v ≡ false → begins_byte 45 (u ++ v) ≡ false
+other-first : (u v : List ℕ) → list_all is_other u ≡ true → lone v ≡ false → lone (u ++ v) ≡ false
 other-first [] v h k = k
 other-first (b ∷ u) v h k = grind (arith, nat_tests)
 
 and-none : (a b : Bool) → b ≡ false → (a && b) ≡ false
 and-none a b h = grind arith
 
-other-passed : (u v : List ℕ) → list_all is_other u ≡ true → begins_byte 45 v ≡ false → apart (u ++ v) ≡ apart v
+other-passed : (u v : List ℕ) → list_all is_other u ≡ true → lone v ≡ false → apart (u ++ v) ≡ apart v
 other-passed [] v h k = refl
 other-passed (b ∷ u) v h k =
     let each = and_parts (is_other b) (list_all is_other u) h in
-    rw (and-none (not (is_tight b)) (begins_byte 45 (u ++ v)) (other-first u v each.1 k)) (other-passed u v each.1 k)
+    rw (and-none (not (is_tight b)) (lone (u ++ v)) (other-first u v each.1 k)) (other-passed u v each.1 k)
 
 loose-more : (u v : List ℕ) → apart v ≡ true → apart (u ++ v) ≡ true
 loose-more [] v h = h
-loose-more (b ∷ u) v h = or_right (not (is_tight b) && begins_byte 45 (u ++ v)) (apart (u ++ v)) (loose-more u v h)
+loose-more (b ∷ u) v h = or_right (not (is_tight b) && lone (u ++ v)) (apart (u ++ v)) (loose-more u v h)
 
 -- ---- bytes of whitespace
 
@@ -133,8 +138,8 @@ blank-other x h = rw h.spelled (go h.characters h.each)
         rw b.spelled (all-join is_other b.front (b.end ∷ []) b.front_other (rw b.end_other refl)) in
         all-join is_other (encode_utf8 c) (encode_utf8_all cs) first (go cs parts.1)
 
-loose-blank : (x z : List ℕ) → IsBlank x → 0 < length x → apart (x ++ (45 ∷ z)) ≡ true
-loose-blank x z h some = subst (λ (t : List ℕ). apart (t ++ (45 ∷ z)) ≡ true) (sym h.spelled)
+loose-blank : (x z : List ℕ) → IsBlank x → 0 < length x → begins is_tight z ≡ false → apart (x ++ (45 ∷ z)) ≡ true
+loose-blank x z h some ends = subst (λ (t : List ℕ). apart (t ++ (45 ∷ z)) ≡ true) (sym h.spelled)
     (go h.characters h.each (subst (λ (t : List ℕ). 0 < length t) h.spelled some))
   where
     some-bytes : (d : ℕ) (cs : List ℕ) → 0 < length (encode_utf8_all (d ∷ cs))
@@ -146,7 +151,7 @@ loose-blank x z h some = subst (λ (t : List ℕ). apart (t ++ (45 ∷ z)) ≡ t
         let b = bytes-of c (and_parts (is_whitespace c) true each).0 in
         let text_is : encode_utf8_all (c ∷ []) ++ (45 ∷ z) ≡ b.front ++ (b.end ∷ (45 ∷ z)) =
         rw (append-nil (encode_utf8 c), b.spelled) (append_assoc b.front (b.end ∷ []) (45 ∷ z)) in
-        rw text_is (loose-more b.front (b.end ∷ (45 ∷ z)) (rw b.end_loose refl))
+        rw text_is (loose-more b.front (b.end ∷ (45 ∷ z)) (rw (b.end_loose, ends) refl))
     go (c ∷ d ∷ cs) each k =
         let parts = and_parts (is_whitespace c) (list_all is_whitespace (d ∷ cs)) each in
         let rest = encode_utf8_all (d ∷ cs) in
@@ -193,20 +198,25 @@ marks-other (b ∷ marks) h =
     mark-other : (b : ℕ) → is_mark b ≡ true → is_other b ≡ true
     mark-other b h = grind (arith, nat_tests)
 
-component-first : (u : List ℕ) → begins_component u ≡ true → begins_byte 45 u ≡ false
-component-first u h = grind (arith, nat_tests)
+component-first : (u : List ℕ) → begins_component u ≡ true → lone u ≡ false
+component-first [] h = refl
+component-first (b ∷ u) h = grind (arith, nat_tests)
 
--- a word begins with no `-`, and what is behind it decides
+-- a word begins with no such `-`, and what is behind it decides
 word-first : (loose : Bool) (include : Bool) (w v : List ℕ) (cs : List Comparison) → IsWord loose include w cs
-    → (apart (w ++ v) ≡ apart v) × (begins_byte 45 (w ++ v) ≡ false)
+    → (apart (w ++ v) ≡ apart v) × (lone (w ++ v) ≡ false)
 word-first loose include w v cs (ignored x l h) = (
   tight-passed x v (all-weaker is_plain is_tight plain-tight x (malformed-plain x h)),
-  no-dash x v (malformed-first x h),
+  no-dash x v (malformed-plain x h) (malformed-more x h),
 )
   where
-    no-dash : (x v : List ℕ) → begins (λ b. not (b == 45)) x ≡ true → begins_byte 45 (x ++ v) ≡ false
-    no-dash [] v h = cc h
-    no-dash (b ∷ x) v h = grind arith
+    no-dash : (x v : List ℕ) → list_all is_plain x ≡ true → (is_empty x || bytes_eq x (45 ∷ [])) ≡ false → lone (x ++ v) ≡ false
+    no-dash [] v h k = cc k
+    no-dash (b ∷ []) v h k = grind arith
+    no-dash (b ∷ c ∷ x) v h k =
+        let each = and_parts (is_plain b) (list_all is_plain (c ∷ x)) h in
+        let tight = plain-tight c (and_parts (is_plain c) (list_all is_plain x) each.1).0 in
+        rw tight (and-none (b == 45) false refl)
 word-first loose include w v cs (word signs marks x s p h m e k) =
     let text_is : (signs ++ (marks ++ x)) ++ v ≡ (signs ++ marks) ++ (x ++ v) = simp append_assoc refl in
     let front = all-join is_other signs marks (sign-other signs s h) (marks-other marks (marks-all loose s p marks m)) in
@@ -216,7 +226,7 @@ word-first loose include w v cs (word signs marks x s p h m e k) =
     )
 
 words-first : (loose : Bool) (include : Bool) (text : List ℕ) (cs : List Comparison) → AreWords loose include text cs
-    → (apart text ≡ false) × (begins_byte 45 text ≡ false)
+    → (apart text ≡ false) × (lone text ≡ false)
 words-first loose include text cs (last t ds h) = rw append-nil at (word-first loose include t [] ds h)
 words-first loose include text cs (more t blank rest ds es h hb some k) =
     let w = word-first loose include t (blank ++ rest) ds h in
@@ -315,11 +325,11 @@ no-words loose include n text u h = elim (option-cases (words_within loose inclu
   | inr some ↦ cc (h, (words-first loose include text some.0 (words-found loose include n text some.0 u some.1)).0)
 ]
 
-by-words : (loose : Bool) (include : Bool) (text : List ℕ) (cs : List Comparison) → AreWords loose include text cs → stands loose include text cs ≡ true
+by-words : (loose : Bool) (include : Bool) (text : List ℕ) (cs : List Comparison) → AreWords loose include text cs
     → alternative_of loose include text ≡ Some cs
 unfolding alternative_of
-by-words loose include [] cs h s = cc (words-solid loose include [] cs h)
-by-words loose include (b ∷ text) cs h s = rw (words-read loose include (length (b ∷ text)) (b ∷ text) cs h (omega arith), s) refl
+by-words loose include [] cs h = cc (words-visible loose include [] cs h)
+by-words loose include (b ∷ text) cs h = rw (words-read loose include (length (b ∷ text)) (b ∷ text) cs h (omega arith)) refl
 
 by-hyphen : (loose : Bool) (include : Bool) (text : List ℕ) (e : Ended × Ended) → IsUtf8 text → apart text ≡ true → hyphen_ends loose include text ≡ Some e
     → alternative_of loose include text ≡ Some (hyphen_comparisons include e)
@@ -331,11 +341,12 @@ pub alternative-read : (loose : Bool) (include : Bool) (text : List ℕ) (cs : L
     → alternative_of loose include text ≡ Some cs
 unfolding alternative_of
 alternative-read loose include text cs u nothing = refl
-alternative-read loose include text cs u (words t ds h s) = by-words loose include t ds h s
+alternative-read loose include text cs u (words t ds h) = by-words loose include t ds h
 alternative-read loose include text cs u (hyphen a x blank gap b y p q ha hx hb some hg more_gap hc hy) =
     let r = hyphen-read loose include a x blank gap b y p q ha hx hb some hg more_gap hc hy in
     let behind = blank ++ 45 ∷ (gap ++ (b ++ y)) in
-    let l = loose-more a (x ++ behind) (loose-more x behind (loose-blank blank (gap ++ (b ++ y)) hb some)) in
+    let ends = boundary-dark (gap ++ (b ++ y)) (blank-boundary gap (b ++ y) hg more_gap) in
+    let l = loose-more a (x ++ behind) (loose-more x behind (loose-blank blank (gap ++ (b ++ y)) hb some ends)) in
     by-hyphen loose include (a ++ (x ++ behind)) r.0 u l r.1 ∙ ap (λ (l : List Comparison). Some l) r.2
 
 pub alternative-found : (loose : Bool) (include : Bool) (text : List ℕ) (cs : List Comparison) → IsUtf8 text → alternative_of loose include text ≡ Some cs
@@ -344,40 +355,12 @@ unfolding alternative_of
 alternative-found loose include [] cs u h = subst (λ (l : List Comparison). IsAlternative loose include [] l) (same_Some _ _ h) nothing
 alternative-found loose include (b ∷ text) cs u h =
     let found = words_within loose include (length (b ∷ text)) (b ∷ text) in
-    elim (option-cases (found >>? λ cs. standing loose include (b ∷ text) cs)) [
+    elim (option-cases found) [
       | inr some ↦
-          let e = same_Some _ _ (rw some.1 at h) in
-          let w = bind_some found (λ cs. standing loose include (b ∷ text) cs) some.0 some.1 in
-          let s = cond_some (stands loose include (b ∷ text) w.0) w.0 some.0 w.2 in
-          let is : IsAlternative loose include (b ∷ text) w.0 =
-          words (b ∷ text) w.0 (words-found loose include (length (b ∷ text)) (b ∷ text) w.0 u w.1) s.0 in
-          subst (λ (l : List Comparison). IsAlternative loose include (b ∷ text) l) (s.1 ∙ e) is
+          let is : IsAlternative loose include (b ∷ text) some.0 =
+          words (b ∷ text) some.0 (words-found loose include (length (b ∷ text)) (b ∷ text) some.0 u some.1) in
+          subst (λ (l : List Comparison). IsAlternative loose include (b ∷ text) l) (same_Some _ _ (rw some.1 at h)) is
       | inl none ↦
           let e = bind_some (hyphen_ends loose include (b ∷ text)) (λ e. Some (hyphen_comparisons include e)) cs (rw none at h) in
           subst (λ (l : List Comparison). IsAlternative loose include (b ∷ text) l) (same_Some _ _ e.2) (hyphen-found loose include (b ∷ text) e.0 u e.1)
-    ]
-
--- an alternative is no malformed word alone
-all-plain : (x : List ℕ) → list_all is_plain x ≡ true → apart x ≡ false
-all-plain x h = rw append-nil at (tight-passed x [] (all-weaker is_plain is_tight plain-tight x h))
-
-lost-word : (include : Bool) (x : List ℕ) (cs : List Comparison) → AreWords true include x cs → is_malformed x ≡ true → cs ≡ []
-lost-word include x cs h m =
-    let alone : AreWords true include x [] = last x [] (ignored x refl m) in
-    same_Some _ _ (sym (words-read true include (length x) x cs h (omega arith)) ∙ words-read true include (length x) x [] alone (omega arith))
-
-pub alternative-regular : (loose : Bool) (include : Bool) (text : List ℕ) (cs : List Comparison) → IsAlternative loose include text cs
-    → is_lost loose text ≡ false
-alternative-regular false include text cs h = refl
-alternative-regular true include text cs nothing = refl
-alternative-regular true include text cs (words t ds h s) = elim (cases_Bool (is_malformed t)) [
-  | inr other ↦ other
-  | inl m ↦ cc (rw (lost-word include t ds h m, malformed-begins t m) at s)
-]
-alternative-regular true include text cs (hyphen a x blank gap b y p q ha hx hb some hg more_gap hc hy) =
-    let behind = blank ++ 45 ∷ (gap ++ (b ++ y)) in
-    let l = loose-more a (x ++ behind) (loose-more x behind (loose-blank blank (gap ++ (b ++ y)) hb some)) in
-    elim (cases_Bool (is_malformed (a ++ (x ++ behind)))) [
-      | inr other ↦ other
-      | inl m ↦ cc (l, all-plain (a ++ (x ++ behind)) (malformed-plain (a ++ (x ++ behind)) m))
     ]

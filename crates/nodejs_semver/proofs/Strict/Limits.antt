@@ -1,5 +1,5 @@
 -- Places and partial versions with numbers past the limit: what the code reads is what stands there, where no such number counts.
-use Rattle.nodejs_semver.proofs.Common.{◌≡◌, ◌≤◌, ◌<◌, ◌-◌, ◌++◌, ℕ, Bool, List, [], ◌∷◌, length, drop, take, refl, sym, ap, ◌∙◌, arith, true, false, Some}
+use Rattle.nodejs_semver.proofs.Common.{◌≡◌, ◌≤◌, ◌<◌, ◌-◌, ◌++◌, ℕ, Bool, List, [], length, drop, take, refl, sym, ap, ◌∙◌, arith, true, false, Some}
 use Rattle.nodejs_semver.proofs.Common.{None, Option, inl, inr, ◌&&◌, ◌||◌, not, cases_Bool, nat_tests, is_ascii_digit, list_all, bind_some, cond_some, same_Some}
 use Rattle.nodejs_semver.proofs.Common.{is_empty, MAX_SAFE_INTEGER, Id, take_rest, if◌then◌else◌}
 use Rattle.std.specs.List.{prefix_len}

@@ -1,29 +1,30 @@
 -- The malformed words that are ignored are no well-formed ones.
 use Rattle.nodejs_semver.proofs.Common.{◌≡◌, ◌⊎◌, ◌<◌, ◌≤◌, ◌+◌, ℕ, zero, suc, Bool, List, [], ◌∷◌, ◌++◌, length, drop, take, refl, sym, ap, ◌∙◌, arith}
-use Rattle.nodejs_semver.proofs.Common.{true, false, Some, None, Option, inl, inr, ◌&&◌, ◌||◌, not, ◌==◌, and_parts, append_assoc, append-nil}
-use Rattle.nodejs_semver.proofs.Common.{cases_Bool, eqb-true, list_all, nat_tests, is_whitespace, is_ascii_digit, begins}
+use Rattle.nodejs_semver.proofs.Common.{true, false, Some, Option, inl, inr, ◌&&◌, ◌||◌, not, ◌==◌, and_parts, append-nil}
+use Rattle.nodejs_semver.proofs.Common.{cases_Bool, eqb-true, list_all, nat_tests, is_whitespace, is_ascii_digit, begins, space_len}
 use Rattle.std.proofs.Common.{◌/◌, ◌%◌}
-use Rattle.std.specs.Prelude.{encode_utf8_all, take_while}
+use Rattle.std.specs.Prelude.{◌-◌, encode_utf8_all, get_or, take_while}
 use Rattle.std.specs.Char.{encode_utf8}
 use Rattle.std.specs.List.{onto_first, prefix_len}
+use Rattle.std.specs.Str.{bytes_eq}
+use Rattle.semver_core.specs.Lists.{is_empty}
 use Rattle.std.proofs.lemmas.Bool.{cases_lt, le-ltb, lt-ltb}
 use Rattle.std.proofs.lemmas.Str.{encode_ascii}
 use Rattle.semver_core.specs.Text.Characters.{IsBlank, is_identifier_char}
 use Rattle.semver_core.specs.Text.Identifiers.{Id, pieces}
 use Rattle.semver_core.proofs.Text.Pieces.{runs_tail, tail_onto, tail_runs}
 use Rattle.nodejs_semver.specs.Internal.Fronts.{is_wildcard}
-use Rattle.nodejs_semver.specs.Internal.NpmWords.{Signed, ignored_front}
+use Rattle.nodejs_semver.specs.Internal.NpmWords.{ignored_front}
 use Rattle.nodejs_semver.specs.Internal.Words.{is_boundary}
 use Rattle.nodejs_semver.specs.Npm.Grammar.{IsStrictBuild, no_build, plus}
-use Rattle.nodejs_semver.specs.Npm.Malformed.{begins_malformed, is_first, is_inner, is_malformed, is_plain, is_sign}
+use Rattle.nodejs_semver.specs.Npm.Malformed.{after_dot, begins_malformed, has_four_parts, is_first, is_inner, is_malformed, is_plain, is_visible, last_visible}
 use Rattle.nodejs_semver.specs.Npm.RangeText as Text
 use Rattle.nodejs_semver.specs.Npm.RangeText.{IsPartial, IsPlace, IsPreRelease, IsSignText, bare, dashed}
 use Rattle.nodejs_semver.specs.Npm.RangeText.{is_mark, no_pre_release, one, spelling, three, two}
 use Rattle.nodejs_semver.specs.Npm.RangeText.{caret_equal, late_above, late_below, no_sign, sign, tilde_sign, tilde_twice}
 use Rattle.nodejs_semver.specs.Npm.Table.{Partial, Sign, caret, compared, tilde}
 use Rattle.nodejs_semver.specs.Text.WordText.{above, at_least, at_most, below, equal}
-use Rattle.nodejs_semver.proofs.Reading.Bytes.{all-join, begins-on, begins_component, is_solid}
-use Rattle.nodejs_semver.proofs.Strict.PartialLaw.{boundary-quiet}
+use Rattle.nodejs_semver.proofs.Reading.Bytes.{all-join, begins-on, begins_component}
 use Rattle.nodejs_semver.proofs.Strict.Places.{prefix-all}
 
 -- ---- the characters of partials
@@ -132,14 +133,17 @@ is_tame b = is_inner b || not (is_plain b)
 dark-tame : (b : ℕ) → is_dark b ≡ true → is_tame b ≡ true
 dark-tame b h = grind arith
 
-blank-tame : (x : List ℕ) → IsBlank x → list_all is_tame x ≡ true
-blank-tame x h = rw h.spelled (all-weaker is_dark is_tame dark-tame (encode_utf8_all h.characters) (go h.characters h.each))
+blank-dark : (x : List ℕ) → IsBlank x → list_all is_dark x ≡ true
+blank-dark x h = rw h.spelled (go h.characters h.each)
   where
     go : (cs : List ℕ) → list_all is_whitespace cs ≡ true → list_all is_dark (encode_utf8_all cs) ≡ true
     go [] each = refl
     go (c ∷ cs) each =
         let parts = and_parts (is_whitespace c) (list_all is_whitespace cs) each in
         all-join is_dark (encode_utf8 c) (encode_utf8_all cs) (bytes-dark c parts.0) (go cs parts.1)
+
+blank-tame : (x : List ℕ) → IsBlank x → list_all is_tame x ≡ true
+blank-tame x h = all-weaker is_dark is_tame dark-tame x (blank-dark x h)
 
 part-tame : (b : ℕ) → is_part b ≡ true → is_tame b ≡ true
 part-tame b h = grind (arith, nat_tests)
@@ -225,9 +229,135 @@ run-start (b ∷ text) h = elim (cases_Bool (is_plain b)) [
     or-left : (a p : Bool) → (a || not p) ≡ true → p ≡ true → a ≡ true
     or-left a p h k = grind arith
 
-none-malformed : (run : List ℕ) → list_all is_inner run ≡ true → (run ≡ []) ⊎ (begins is_first run ≡ true) → is_malformed run ≡ false
-none-malformed run h (inl e) = rw e refl
-none-malformed run h (inr first) = rw (first, h) (grind arith)
+none-malformed : (run : List ℕ) → list_all is_inner run ≡ true → (run ≡ []) ⊎ (begins is_first run ≡ true)
+    → has_four_parts run ≡ false → is_malformed run ≡ false
+none-malformed run h (inl e) k = rw e refl
+none-malformed run h (inr first) k = rw (k, first, h) (grind arith)
+
+-- ---- no well-formed word has four parts
+
+abbrev is_dotless : ℕ → Bool
+is_dotless b = not (b == 46)
+
+dotless-passed : (u v : List ℕ) → list_all is_dotless u ≡ true → after_dot (u ++ v) ≡ after_dot v
+dotless-passed [] v h = refl
+dotless-passed (b ∷ u) v h =
+    let each = and_parts (is_dotless b) (list_all is_dotless u) h in
+    rw (other (b == 46) each.0) (dotless-passed u v each.1)
+  where
+    other : (a : Bool) → not a ≡ true → a ≡ false
+    other a h = grind arith
+
+dark-dotless : (b : ℕ) → is_dark b ≡ true → is_dotless b ≡ true
+dark-dotless b h = grind (arith, nat_tests)
+
+mark-dotless : (b : ℕ) → is_mark b ≡ true → is_dotless b ≡ true
+mark-dotless b h = grind (arith, nat_tests)
+
+digit-dotless : (b : ℕ) → is_ascii_digit b ≡ true → is_dotless b ≡ true
+digit-dotless b h = grind (arith, nat_tests)
+
+place-dotless : (loose : Bool) (x : List ℕ) (a : Option ℕ) → IsPlace loose x a → (list_all is_dotless x ≡ true) × (0 < length x)
+place-dotless loose x a (Text.any b h) = (rw (wild b h) refl, omega arith)
+  where
+    wild : (b : ℕ) → is_wildcard b ≡ true → is_dotless b ≡ true
+    wild b h = grind (arith, nat_tests)
+place-dotless loose x a (Text.number digits n k spelled short) =
+    (all-weaker is_ascii_digit is_dotless digit-dotless digits k.each, k.some)
+
+blank-dotless : (x : List ℕ) → IsBlank x → list_all is_dotless x ≡ true
+blank-dotless x h = all-weaker is_dark is_dotless dark-dotless x (blank-dark x h)
+
+spelling-dotless : (s : Sign) (y : List ℕ) → list_all is_dotless y ≡ true → list_all is_dotless (spelling s ++ y) ≡ true
+spelling-dotless (compared above) y h = h
+spelling-dotless (compared at_least) y h = h
+spelling-dotless (compared equal) y h = h
+spelling-dotless (compared at_most) y h = h
+spelling-dotless (compared below) y h = h
+spelling-dotless caret y h = h
+spelling-dotless tilde y h = h
+
+sign-dotless : (signs : List ℕ) (s : Sign) → IsSignText signs s → list_all is_dotless signs ≡ true
+sign-dotless signs s no_sign = refl
+sign-dotless signs s (sign t y h) = spelling-dotless t y (blank-dotless y h)
+sign-dotless signs s (late_above y h) = all-join is_dotless y (61 ∷ []) (blank-dotless y h) refl
+sign-dotless signs s (late_below y h) = all-join is_dotless y (61 ∷ []) (blank-dotless y h) refl
+sign-dotless signs s (caret_equal y z h k) = all-join is_dotless y (61 ∷ z) (blank-dotless y h) (blank-dotless z k)
+sign-dotless signs s (tilde_sign c y z h k which) =
+    all-join is_dotless y (spelling (compared c) ++ z) (blank-dotless y h) (spelling-dotless (compared c) z (blank-dotless z k))
+sign-dotless signs s (tilde_twice c y z h some k which) =
+    all-join is_dotless y (spelling (compared c) ++ z) (blank-dotless y h) (spelling-dotless (compared c) z (blank-dotless z k))
+
+abbrev is_dot : ℕ → Bool
+is_dot b = b == 46
+
+pre-first : (loose : Bool) (p b : List ℕ) (l m : List Id) → IsPreRelease loose p l → IsStrictBuild b m → begins is_dot (p ++ b) ≡ false
+pre-first loose p b l m no_pre_release no_build = refl
+pre-first loose p b l m no_pre_release (plus t list h) = refl
+pre-first loose p b l m (dashed t list h s) k = refl
+pre-first loose p b l m (bare [] list e f h s) k = cc f
+pre-first loose p b l m (bare (c ∷ t) list e f h s) k = grind (arith, nat_tests)
+
+third : (z q : List ℕ) → list_all is_dotless z ≡ true → 0 < length z → begins is_dot q ≡ false → begins is_dot (drop 1 (z ++ q)) ≡ false
+third [] q h s k = absurd (omega (arith, s))
+third (c ∷ []) q h s k = k
+third (c ∷ d ∷ z) q h s k = grind arith
+
+partial-parts : (loose : Bool) (x : List ℕ) (p : Partial) → IsPartial loose x p → has_four_parts x ≡ false
+partial-parts loose x p (one x1 a h) =
+    let e : after_dot x1 ≡ [] = rw append-nil at (dotless-passed x1 [] (place-dotless loose x1 a h).0) in
+    rw e refl
+partial-parts loose x p (two x1 y a b h k) =
+    let d : after_dot (x1 ++ 46 ∷ y) ≡ y = dotless-passed x1 (46 ∷ y) (place-dotless loose x1 a h).0 in
+    let e : after_dot y ≡ [] = rw append-nil at (dotless-passed y [] (place-dotless loose y b k).0) in
+    rw (d, e) refl
+partial-parts loose x p (three x1 y z pre build a b c ids builds h k l m s n t) =
+    let q = z ++ (pre ++ build) in
+    let d : after_dot (x1 ++ 46 ∷ (y ++ 46 ∷ q)) ≡ y ++ 46 ∷ q = dotless-passed x1 (46 ∷ (y ++ 46 ∷ q)) (place-dotless loose x1 a h).0 in
+    let e : after_dot (y ++ 46 ∷ q) ≡ q = dotless-passed y (46 ∷ q) (place-dotless loose y b k).0 in
+    let place = place-dotless loose z c l in
+    rw (d, e) (third z (pre ++ build) place.0 place.1 (pre-first loose pre build ids builds m n))
+
+word-parts : (loose : Bool) (signs marks x : List ℕ) (s : Sign) (p : Partial) → IsSignText signs s → list_all is_mark marks ≡ true
+    → IsPartial loose x p → has_four_parts (signs ++ (marks ++ x)) ≡ false
+word-parts loose signs marks x s p h m k =
+    let e : after_dot (signs ++ (marks ++ x)) ≡ after_dot x =
+    dotless-passed signs (marks ++ x) (sign-dotless signs s h)
+    ∙ dotless-passed marks x (all-weaker is_mark is_dotless mark-dotless marks m) in
+    rw e (partial-parts loose x p k)
+
+-- nor has its front
+dot-cases : (r s : List ℕ) → (after_dot r ≡ []) ⊎ (after_dot (r ++ s) ≡ after_dot r ++ s)
+dot-cases [] s = inl refl
+dot-cases (b ∷ r) s = elim (cases_Bool (b == 46)) [
+  | inl dot ↦ inr (rw dot refl)
+  | inr other ↦ elim (dot-cases r s) [ inl none ↦ inl (rw other none) | inr some ↦ inr (rw other some) ]
+]
+
+front-parts : (r s : List ℕ) → has_four_parts (r ++ s) ≡ false → has_four_parts r ≡ false
+front-parts r s h = elim (dot-cases r s) [
+  | inl none ↦ rw none refl
+  | inr some ↦ elim (dot-cases (after_dot r) s) [
+    | inl none ↦ rw none refl
+    | inr more ↦ front (after_dot (after_dot r)) s (rw (some, more) at h)
+  ]
+]
+  where
+    front : (t s : List ℕ) → begins is_dot (drop 1 (t ++ s)) ≡ false → begins is_dot (drop 1 t) ≡ false
+    front [] s h = refl
+    front (c ∷ []) s h = refl
+    front (c ∷ d ∷ t) s h = h
+
+run-front : (w rest : List ℕ) → begins is_plain rest ≡ false → (s : List ℕ) × (w ≡ take_while is_plain (w ++ rest) ++ s)
+run-front [] [] h = ([], refl)
+run-front [] (b ∷ rest) h = ([], rw h refl)
+run-front (b ∷ w) rest h = elim (cases_Bool (is_plain b)) [
+  | inr other ↦ (b ∷ w, rw other refl)
+  | inl plain ↦
+      let r = run-front w rest h in
+      let e : 1 + prefix_len is_plain (w ++ rest) ≡ suc (prefix_len is_plain (w ++ rest)) = omega arith in
+      (r.0, rw (plain, e) (ap (λ (l : List ℕ). b ∷ l) r.1))
+]
 
 pub word-regular : (loose : Bool) (signs marks x rest : List ℕ) (s : Sign) (p : Partial) → IsSignText signs s
     → list_all is_mark marks ≡ true → IsPartial loose x p → begins_component x ≡ true → begins is_plain rest ≡ false
@@ -240,15 +370,32 @@ word-regular loose signs marks x rest s p h m k first stop =
       | inl none ↦ rw none (marks-start marks x m first)
       | inr some ↦ begins-on is_start signs (marks ++ x) (first-start signs some)
     ] in
-    none-malformed (take_while is_plain (w ++ rest)) (tame-inner w rest tame stop) (run-start (w ++ rest) (begins-on is_start w rest start))
+    let run = take_while is_plain (w ++ rest) in
+    let front = run-front w rest stop in
+    let parts = front-parts run front.0 (ap has_four_parts (sym front.1) ∙ word-parts loose signs marks x s p h m k) in
+    none-malformed run (tame-inner w rest tame stop) (run-start (w ++ rest) (begins-on is_start w rest start)) parts
+
+-- ---- visible characters
+
+pub visible-dark : (text : List ℕ) → begins is_visible text ≡ true → space_len text ≡ 0
+unfolding space_len
+visible-dark text h = grind (arith, nat_tests)
+
+pub boundary-dark : (more : List ℕ) → is_boundary more ≡ true → begins is_visible more ≡ false
+unfolding is_boundary
+boundary-dark [] h = refl
+boundary-dark (b ∷ rest) h = elim (cases_Bool (begins is_visible (b ∷ rest))) [
+  | inr other ↦ other
+  | inl visible ↦ cc (rw (visible-dark (b ∷ rest) visible) at h)
+]
 
 -- ---- a malformed word at the front
 
 pub boundary-plain : (rest : List ℕ) → is_boundary rest ≡ true → begins is_plain rest ≡ false
 boundary-plain [] h = refl
-boundary-plain (b ∷ rest) h = let quiet = boundary-quiet (b ∷ rest) h in plain-quiet b quiet
+boundary-plain (b ∷ rest) h = plain-quiet b (boundary-dark (b ∷ rest) h)
   where
-    plain-quiet : (b : ℕ) → is_solid b ≡ false → is_plain b ≡ false
+    plain-quiet : (b : ℕ) → is_visible b ≡ false → is_plain b ≡ false
     plain-quiet b h = grind (arith, nat_tests)
 
 run-is : (x rest : List ℕ) → list_all is_plain x ≡ true → begins is_plain rest ≡ false
@@ -265,21 +412,19 @@ pub malformed-plain : (x : List ℕ) → is_malformed x ≡ true → list_all is
 malformed-plain x h = (and_parts (list_all is_plain x) _ h).0
 
 -- it begins with a visible character
-pub malformed-solid : (x : List ℕ) → is_malformed x ≡ true → begins is_solid x ≡ true
-malformed-solid [] h = cc h
-malformed-solid (b ∷ x) h = plain-solid b (and_parts (is_plain b) (list_all is_plain x) (malformed-plain (b ∷ x) h)).0
+pub malformed-visible : (x : List ℕ) → is_malformed x ≡ true → begins is_visible x ≡ true
+malformed-visible [] h = cc h
+malformed-visible (b ∷ x) h = plain-visible b (and_parts (is_plain b) (list_all is_plain x) (malformed-plain (b ∷ x) h)).0
   where
-    plain-solid : (b : ℕ) → is_plain b ≡ true → is_solid b ≡ true
-    plain-solid b h = grind (arith, nat_tests)
+    plain-visible : (b : ℕ) → is_plain b ≡ true → is_visible b ≡ true
+    plain-visible b h = grind (arith, nat_tests)
 
--- and with no `-`
-pub malformed-first : (x : List ℕ) → is_malformed x ≡ true → begins (λ b. not (b == 45)) x ≡ true
-malformed-first x h = (and_parts (begins (λ b. not (b == 45)) x) _ (and_parts (list_all is_plain x) _ h).1).0
-
-pub malformed-begins : (x : List ℕ) → is_malformed x ≡ true → begins_malformed x ≡ true
-malformed-begins x h =
-    let run : take_while is_plain x ≡ x = rw append-nil at (run-is x [] (malformed-plain x h) refl).0 in
-    rw run h
+-- and is no `-` alone
+pub malformed-more : (x : List ℕ) → is_malformed x ≡ true → (is_empty x || bytes_eq x (45 ∷ [])) ≡ false
+malformed-more x h = opposite _ (and_parts (not (is_empty x || bytes_eq x (45 ∷ []))) _ (and_parts (list_all is_plain x) _ h).1).0
+  where
+    opposite : (a : Bool) → not a ≡ true → a ≡ false
+    opposite a h = grind arith
 
 pub ignored-read : (loose : Bool) (x rest : List ℕ) → loose ≡ true → is_malformed x ≡ true → is_boundary rest ≡ true
     → ignored_front loose (x ++ rest) ≡ Some ((compared equal, Partial.wildcard, []), rest)
@@ -292,3 +437,91 @@ pub plain_all : (text : List ℕ) (at : ℕ) → at ≡ prefix_len is_plain text
 plain_all text at e = rw e (prefix-all is_plain text)
 
 pub ruleset plain_runs = (plain_all)
+
+-- ---- the first dot
+
+pub dot_here : (text : List ℕ) (at d : ℕ) → after_dot text ≡ after_dot (drop at text) → at < length text → get_or text at d ≡ 46
+    → drop (at + 1) text ≡ after_dot text
+dot_here text at d e h k = sym (e ∙ go text at h k)
+  where
+    go : (text : List ℕ) (at : ℕ) → at < length text → get_or text at d ≡ 46 → after_dot (drop at text) ≡ drop (at + 1) text
+    go [] at h k = absurd (omega (arith, h))
+    go (b ∷ text) zero h k = rw k refl
+    go (b ∷ text) (suc at) h k =
+        let e : suc at + 1 ≡ suc (at + 1) = omega arith in
+        rw e (go text at (omega (arith, h)) k)
+
+pub dot_behind : (text : List ℕ) (at d : ℕ) → after_dot text ≡ after_dot (drop at text) → at < length text → (get_or text at d == 46) ≡ false
+    → after_dot text ≡ after_dot (drop (at + 1) text)
+dot_behind text at d e h k = e ∙ go text at h k
+  where
+    go : (text : List ℕ) (at : ℕ) → at < length text → (get_or text at d == 46) ≡ false → after_dot (drop at text) ≡ after_dot (drop (at + 1) text)
+    go [] at h k = absurd (omega (arith, h))
+    go (b ∷ text) zero h k = rw k refl
+    go (b ∷ text) (suc at) h k =
+        let e : suc at + 1 ≡ suc (at + 1) = omega arith in
+        rw e (go text at (omega (arith, h)) k)
+
+pub no_dot : (text : List ℕ) → after_dot text ≡ after_dot (drop (length text) text) → [] ≡ after_dot text
+no_dot text e = sym (e ∙ go text)
+  where
+    go : (text : List ℕ) → after_dot (drop (length text) text) ≡ []
+    go [] = refl
+    go (b ∷ text) = go text
+
+pub ruleset dots = (dot_here, dot_behind, no_dot)
+
+-- ---- the visible characters at the end
+
+dark-in : (text : List ℕ) (at d : ℕ) → at < length text → is_visible (get_or text at d) ≡ false → list_all is_visible text ≡ false
+dark-in [] at d h k = absurd (omega (arith, h))
+dark-in (b ∷ text) zero d h k = rw k refl
+dark-in (b ∷ text) (suc at) d h k = and-none (is_visible b) (list_all is_visible text) (dark-in text at d (omega (arith, h)) k)
+  where
+    and-none : (a c : Bool) → c ≡ false → (a && c) ≡ false
+    and-none a c h = grind arith
+
+all-last : (text : List ℕ) → list_all is_visible text ≡ true → last_visible text ≡ text
+all-last [] h = refl
+all-last (b ∷ text) h = rw h refl
+
+last-behind : (text : List ℕ) (at d : ℕ) → at < length text → is_visible (get_or text at d) ≡ false
+    → list_all is_visible (drop (suc at) text) ≡ true → last_visible text ≡ drop (suc at) text
+last-behind [] at d h k l = absurd (omega (arith, h))
+last-behind (b ∷ text) zero d h k l = rw (dark-in (b ∷ text) zero d h k) (all-last text l)
+last-behind (b ∷ text) (suc at) d h k l =
+    rw (dark-in (b ∷ text) (suc at) d h k) (last-behind text at d (omega (arith, h)) k l)
+
+more-visible : (text : List ℕ) (at d : ℕ) → at < length text → is_visible (get_or text at d) ≡ true
+    → list_all is_visible (drop (suc at) text) ≡ true → list_all is_visible (drop at text) ≡ true
+more-visible [] at d h k l = absurd (omega (arith, h))
+more-visible (b ∷ text) zero d h k l = rw (k, l) refl
+more-visible (b ∷ text) (suc at) d h k l = more-visible text at d (omega (arith, h)) k l
+
+none-behind : (text : List ℕ) → list_all is_visible (drop (length text) text) ≡ true
+none-behind [] = refl
+none-behind (b ∷ text) = none-behind text
+
+-- the last one is at the front, or behind one that is not visible
+pub last_all : (text : List ℕ) (start : ℕ) → list_all is_visible (drop start text) ≡ true → start ≡ 0
+    → drop start text ≡ last_visible text
+last_all text start h e = rw e (sym (all-last text (rw e at h)))
+
+pub last_found : (text : List ℕ) (start d : ℕ) → list_all is_visible (drop start text) ≡ true → 0 < start → start ≤ length text
+    → is_visible (get_or text (start - 1) d) ≡ false → drop start text ≡ last_visible text
+last_found text zero d h some fits k = absurd (omega (arith, some))
+last_found text (suc at) d h some fits k =
+    let e : suc at - 1 ≡ at = omega arith in
+    sym (last-behind text at d (omega (arith, fits)) (rw e at k) h)
+
+pub last_step : (text : List ℕ) (start d : ℕ) → list_all is_visible (drop start text) ≡ true → 0 < start → start ≤ length text
+    → is_visible (get_or text (start - 1) d) ≡ true → list_all is_visible (drop (start - 1) text) ≡ true
+last_step text zero d h some fits k = absurd (omega (arith, some))
+last_step text (suc at) d h some fits k =
+    let e : suc at - 1 ≡ at = omega arith in
+    rw e (more-visible text at d (omega (arith, fits)) (rw e at k) h)
+
+pub last_begin : (text : List ℕ) (start : ℕ) → start ≡ length text → list_all is_visible (drop start text) ≡ true
+last_begin text start e = rw e (none-behind text)
+
+pub ruleset last_runs = (last_all, last_found, last_step, last_begin)

@@ -13,7 +13,7 @@ use Rattle.semver_core.specs.Text.Numbers.{IsNumber}
 use Rattle.semver_core.proofs.Text.Pieces.{digits_grow}
 use Rattle.nodejs_semver.specs.Internal.Fronts.{begins_wildcard}
 use Rattle.nodejs_semver.specs.Internal.NpmWords.{dotted_place, place_front, run_place}
-use Rattle.nodejs_semver.specs.Npm.Grammar.{IsStrictNumber, has_leading_zero}
+use Rattle.nodejs_semver.specs.Npm.Grammar.{IsStrictNumber}
 use Rattle.nodejs_semver.specs.Npm.RangeText as Text
 use Rattle.nodejs_semver.specs.Npm.RangeText.{IsPlace, is_spelled, most_digits}
 use Rattle.nodejs_semver.proofs.Reading.Numbers.{digits-taken, number-no_wildcard}

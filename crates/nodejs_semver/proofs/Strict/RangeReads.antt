@@ -1,7 +1,7 @@
 -- The alternatives of a range text, read one after another.
 use Rattle.nodejs_semver.proofs.Common.{◌≡◌, ◌<◌, ◌≤◌, ◌+◌, ℕ, Bool, List, [], ◌∷◌, ◌++◌, length, refl, sym, ap, ◌∙◌, arith, true, false, subst, IsUtf8}
 use Rattle.nodejs_semver.proofs.Common.{Some, None, Option, append_assoc, append-nil, flat_map, length-append, option_to_list, Span, VersionValue, MAX_SAFE_INTEGER}
-use Rattle.nodejs_semver.proofs.Common.{not, is_empty, IsCutAtBars, bind_some, if◌then◌else◌, cases_Bool, cond_some, inl, inr, list_all, map, trim}
+use Rattle.nodejs_semver.proofs.Common.{◌&&◌, not, is_empty, IsCutAtBars, bind_some, if◌then◌else◌, cases_Bool, cond_some, inl, inr, list_all, map, trim}
 use Rattle.std.proofs.Common.{Err, Ok, Result}
 use Rattle.semver_core.specs.Failures.{MemoryOnlyIf, NoValue, RefusedOnlyIf}
 use Rattle.semver_core.specs.declared.error.Failure.{Failure}
@@ -9,8 +9,10 @@ use Rattle.semver_core.specs.declared.error.Failure.TheVariants.{Memory, Refused
 use Rattle.semver_core.specs.Internal.Reading.{◌>>?◌}
 use Rattle.nodejs_semver.specs.Internal.NpmAlternatives.{AcceptAsRanged, AreNarrowed}
 use Rattle.nodejs_semver.specs.Internal.NpmMeaning.{IsNarrowed}
-use Rattle.nodejs_semver.specs.Internal.NpmReads.{Adds, AddsPart, AreAllFound, AreFound, IsFound, some_only, valid_alternative, valid_alternatives, valid_range}
-use Rattle.nodejs_semver.specs.Internal.NpmWords.{alternative_of, alternatives_of, is_lost, valid_only}
+use Rattle.nodejs_semver.specs.Internal.NpmReads.{AddsOne, AddsPart, AreAllFound, AreFound, IsFound, some_only, valid_alternative, valid_alternatives, valid_range}
+use Rattle.nodejs_semver.specs.Internal.NpmWords.{alternative_of, alternatives_of, kept, valid_only}
+use Rattle.nodejs_semver.specs.Npm.Malformed.{begins_malformed, ends_malformed}
+use Rattle.nodejs_semver.specs.Npm.RangeText.{is_lost}
 use Rattle.nodejs_semver.specs.Internal.PartFronts.{later_parts}
 use Rattle.nodejs_semver.specs.Internal.Parts.{cut_bars, parts}
 use Rattle.nodejs_semver.specs.Npm.Ranges.{HasAlternativesIn, IsRangeIn, is_valid}
@@ -36,18 +38,42 @@ flat-append [] o = append-nil (option_to_list o)
 flat-append (p ∷ os) o = ap (λ (l : List (Span VersionValue)). option_to_list p ++ l) (flat-append os o)
     ∙ sym (append_assoc (option_to_list p) (flat_map option_to_list os) (option_to_list o))
 
-pub adds : (loose : Bool) (include : Bool) (text : List ℕ) (a : Alternative) (before after : List (Span VersionValue))
-    → IsFound include (valid_alternative loose include text) (Some a) → after ≡ before ++ option_to_list a.interval
-    → Adds include (valid_alternative loose include text) before after
-adds loose include text a before after h e = go (valid_alternative loose include text) h
+same-end : (loose : Bool) (text : List ℕ) (a : Alternative) (cs : List Comparison) → a.is_bare ≡ is_empty cs
+    → (loose && (a.is_bare && (begins_malformed text && ends_malformed text))) ≡ is_lost loose text cs
+same-end loose text a cs e = rw e refl
+
+-- one part more, which is lost or not
+pub part-lost : (loose : Bool) (include : Bool) (text : List ℕ) (a : Alternative) (was : Bool) (before : List (Span VersionValue))
+    → IsFound include (valid_alternative loose include text) (Some a)
+    → (loose && (a.is_bare && (begins_malformed text && ends_malformed text))) ≡ true
+    → AddsPart loose include text (valid_alternative loose include text) was was before before
+part-lost loose include text a was before h l = go (valid_alternative loose include text) h
   where
-    go : (o : Option (List Comparison)) → IsFound include o (Some a) → Adds include o before after
+    go : (o : Option (List Comparison)) → IsFound include o (Some a) → AddsPart loose include text o was was before before
     go None k = absurd k
-    go (Some cs) k = λ ls l. record {
-      intervals = l.intervals ++ a.interval ∷ [];
-      narrowed = narrowed-append include ls l.intervals cs a.interval l.narrowed k;
-      are = e ∙ ap (λ (s : List (Span VersionValue)). s ++ option_to_list a.interval) l.are ∙ sym (flat-append l.intervals a.interval);
-    }
+    go (Some cs) k =
+        let lost : is_lost loose text cs ≡ true = sym (same-end loose text a cs k.1) ∙ l in
+        rw lost (refl, refl)
+
+pub part-added : (loose : Bool) (include : Bool) (text : List ℕ) (a : Alternative) (was : Bool) (before after : List (Span VersionValue))
+    → IsFound include (valid_alternative loose include text) (Some a)
+    → (loose && (a.is_bare && (begins_malformed text && ends_malformed text))) ≡ false
+    → after ≡ before ++ option_to_list a.interval
+    → AddsPart loose include text (valid_alternative loose include text) was true before after
+part-added loose include text a was before after h l e = go (valid_alternative loose include text) h
+  where
+    go : (o : Option (List Comparison)) → IsFound include o (Some a) → AddsPart loose include text o was true before after
+    go None k = absurd k
+    go (Some cs) k =
+        let regular : is_lost loose text cs ≡ false = sym (same-end loose text a cs k.1) ∙ l in
+        rw regular (
+          refl,
+          λ ls l. record {
+            intervals = l.intervals ++ a.interval ∷ [];
+            narrowed = narrowed-append include ls l.intervals cs a.interval l.narrowed k.0;
+            are = e ∙ ap (λ (s : List (Span VersionValue)). s ++ option_to_list a.interval) l.are ∙ sym (flat-append l.intervals a.interval);
+          },
+        )
 
 pub none-found : (loose : Bool) (include : Bool) (text : List ℕ) → IsFound include (valid_alternative loose include text) None → valid_alternative loose include text ≡ None
 none-found loose include text h = go (valid_alternative loose include text) h
@@ -79,57 +105,45 @@ read-none loose include text = record {
     whole None = refl
     whole (Some ls) = refl
 
-alternatives-step : (loose : Bool) (include : Bool) (part : List ℕ) (others : List (List ℕ)) → is_lost loose part ≡ false
-    → valid_alternatives loose include (part ∷ others)
-    ≡ (valid_alternative loose include part >>? λ cs. valid_alternatives loose include others >>? λ rest. Some (cs ∷ rest))
-unfolding valid_alternatives
-alternatives-step loose include part others h = rw h refl
-
-lost-step : (loose : Bool) (include : Bool) (part : List ℕ) (others : List (List ℕ)) → is_lost loose part ≡ true
-    → valid_alternatives loose include (part ∷ others) ≡ valid_alternatives loose include others
-unfolding valid_alternatives
-lost-step loose include part others h = rw h refl
-
 some-end : (ls : List (List Comparison)) (cs : List Comparison) → true ≡ not (is_empty (ls ++ cs ∷ []))
 some-end [] cs = refl
 some-end (l ∷ ls) cs = refl
 
-read-next : (loose : Bool) (include : Bool) (text : List ℕ) (was : Bool) (found after : List (Span VersionValue)) (rest : List ℕ) (part : List ℕ)
-    (behind : Option (List ℕ)) → AreReadTo loose include text was found (Some rest) → part ∷ later_parts behind ≡ parts rest → is_lost loose part ≡ false
-    → Adds include (valid_alternative loose include part) found after → AreReadTo loose include text true after behind
-read-next loose include text was found after rest part behind h e l a = go (valid_alternative loose include part) refl a
-  where
-    joined : (cs : List Comparison) (o : Option (List (List Comparison)))
-        → ((o >>? λ rest. Some (cs ∷ rest)) >>? λ more. Some (h.read ++ more)) ≡ (o >>? λ more. Some ((h.read ++ cs ∷ []) ++ more))
-    joined cs None = refl
-    joined cs (Some ls) = ap (λ (l : List (List Comparison)). Some l) (sym (append_assoc h.read (cs ∷ []) ls))
+alternatives-step : (loose : Bool) (include : Bool) (part : List ℕ) (others : List (List ℕ)) → valid_alternatives loose include (part ∷ others)
+    ≡ (valid_alternative loose include part >>? λ cs. valid_alternatives loose include others >>? λ rest. Some (kept loose part cs rest))
+unfolding valid_alternatives
+alternatives-step loose include part others = refl
 
-    go : (o : Option (List Comparison)) → valid_alternative loose include part ≡ o → Adds include o found after → AreReadTo loose include text true after behind
-    go None d k = absurd k
-    go (Some cs) d k =
-        let step : valid_alternatives loose include (parts rest) ≡ (valid_alternatives loose include (later_parts behind) >>? λ ls. Some (cs ∷ ls)) =
-        ap (λ (l : List (List ℕ)). valid_alternatives loose include l) (sym e) ∙ alternatives-step loose include part (later_parts behind) l ∙ rw d refl in
-        record {
-          read = h.read ++ cs ∷ [];
-          are = k h.read h.are;
-          same = h.same ∙ rw step (joined cs (valid_alternatives loose include (later_parts behind)));
-          count = omega (arith, h.count, ap length e, length-append h.read (cs ∷ []));
-          some = some-end h.read cs;
-        }
+-- the same of the text that is left
+rest-step : (loose : Bool) (include : Bool) (rest part : List ℕ) (behind : Option (List ℕ)) (o : Option (List Comparison))
+    → part ∷ later_parts behind ≡ parts rest → valid_alternative loose include part ≡ o → valid_alternatives loose include (parts rest)
+    ≡ (o >>? λ cs. valid_alternatives loose include (later_parts behind) >>? λ ls. Some (kept loose part cs ls))
+rest-step loose include rest part behind o e d =
+    ap (λ (l : List (List ℕ)). valid_alternatives loose include l) (sym e) ∙ alternatives-step loose include part (later_parts behind) ∙ rw d refl
 
 -- one part more
 pub read-part : (loose : Bool) (include : Bool) (text : List ℕ) (was is : Bool) (found after : List (Span VersionValue)) (rest : List ℕ) (part : List ℕ)
     (behind : Option (List ℕ)) → AreReadTo loose include text was found (Some rest) → part ∷ later_parts behind ≡ parts rest
-    → AddsPart include (is_lost loose part) (valid_alternative loose include part) was is found after → AreReadTo loose include text is after behind
-read-part loose include text was is found after rest part behind h e a = go (is_lost loose part) refl a
+    → AddsPart loose include part (valid_alternative loose include part) was is found after → AreReadTo loose include text is after behind
+read-part loose include text was is found after rest part behind h e a = go (valid_alternative loose include part) refl a
   where
-    go : (l : Bool) → is_lost loose part ≡ l → AddsPart include l (valid_alternative loose include part) was is found after
-        → AreReadTo loose include text is after behind
-    go false d k = subst (λ (b : Bool). AreReadTo loose include text b after behind) (sym k.0)
-        (read-next loose include text was found after rest part behind h e d k.1)
-    go true d k =
-        let step : valid_alternatives loose include (parts rest) ≡ valid_alternatives loose include (later_parts behind) =
-        ap (λ (l : List (List ℕ)). valid_alternatives loose include l) (sym e) ∙ lost-step loose include part (later_parts behind) d in
+    later : Option (List (List Comparison))
+    later = valid_alternatives loose include (later_parts behind)
+
+    joined : (cs : List Comparison) (o : Option (List (List Comparison)))
+        → ((o >>? λ ls. Some (cs ∷ ls)) >>? λ more. Some (h.read ++ more)) ≡ (o >>? λ more. Some ((h.read ++ cs ∷ []) ++ more))
+    joined cs None = refl
+    joined cs (Some ls) = ap (λ (l : List (List Comparison)). Some l) (sym (append_assoc h.read (cs ∷ []) ls))
+
+    whole : (o : Option (List (List Comparison))) → (o >>? λ ls. Some ls) ≡ o
+    whole None = refl
+    whole (Some ls) = refl
+
+    one : (cs : List Comparison) (l : Bool) → is_lost loose part cs ≡ l → valid_alternative loose include part ≡ Some cs
+        → AddsOne include l cs was is found after → AreReadTo loose include text is after behind
+    one cs true f d k =
+        let step : valid_alternatives loose include (parts rest) ≡ later =
+        rest-step loose include rest part behind (Some cs) e d ∙ rw f (whole later) in
         record {
           read = h.read;
           are = subst (λ (l : List (Span VersionValue)). AreFound include h.read l) (sym k.1) h.are;
@@ -137,23 +151,32 @@ read-part loose include text was is found after rest part behind h e a = go (is_
           count = omega (arith, h.count, ap length e);
           some = k.0 ∙ h.some;
         }
+    one cs false f d k =
+        let step : valid_alternatives loose include (parts rest) ≡ (later >>? λ ls. Some (cs ∷ ls)) =
+        rest-step loose include rest part behind (Some cs) e d ∙ rw f refl in
+        record {
+          read = h.read ++ cs ∷ [];
+          are = k.1 h.read h.are;
+          same = h.same ∙ rw step (joined cs later);
+          count = omega (arith, h.count, ap length e, length-append h.read (cs ∷ []));
+          some = k.0 ∙ some-end h.read cs;
+        }
 
-read-malformed : (loose : Bool) (include : Bool) (text : List ℕ) (was : Bool) (found : List (Span VersionValue)) (rest : List ℕ) (part : List ℕ)
-    (behind : Option (List ℕ)) → AreReadTo loose include text was found (Some rest) → part ∷ later_parts behind ≡ parts rest → is_lost loose part ≡ false
-    → valid_alternative loose include part ≡ None → valid_range loose include text ≡ None
-read-malformed loose include text was found rest part behind h e l k =
-    let step : valid_alternatives loose include (parts rest) ≡ None =
-    ap (λ (l : List (List ℕ)). valid_alternatives loose include l) (sym e) ∙ alternatives-step loose include part (later_parts behind) l ∙ rw k refl in
-    let whole : valid_alternatives loose include (parts text) ≡ None = h.same ∙ rw step refl in
-    rw whole refl
+    go : (o : Option (List Comparison)) → valid_alternative loose include part ≡ o → AddsPart loose include part o was is found after
+        → AreReadTo loose include text is after behind
+    go None d k = absurd k
+    go (Some cs) d k = one cs (is_lost loose part cs) refl d k
 
 -- the same of a call that rejects the part
 pub read-refused : (loose : Bool) {A E : Type 0} (r : Result A (Failure E)) (include : Bool) (text : List ℕ) (was : Bool) (found : List (Span VersionValue)) (rest : List ℕ)
     (part : List ℕ) (behind : Option (List ℕ)) → AreReadTo loose include text was found (Some rest) → part ∷ later_parts behind ≡ parts rest
-    → RefusedOnlyIf r ((is_lost loose part ≡ false) × (valid_alternative loose include part ≡ None)) → RefusedOnlyIf r (valid_range loose include text ≡ None)
+    → RefusedOnlyIf r (valid_alternative loose include part ≡ None) → RefusedOnlyIf r (valid_range loose include text ≡ None)
 read-refused loose (Ok v) include text was found rest part behind h e k = tt
-read-refused loose (Err (Refused x)) include text was found rest part behind h e k = read-malformed loose include text was found rest part behind h e k.0 k.1
 read-refused loose (Err (Memory x)) include text was found rest part behind h e k = tt
+read-refused loose (Err (Refused x)) include text was found rest part behind h e k =
+    let step : valid_alternatives loose include (parts rest) ≡ None = rest-step loose include rest part behind None e k in
+    let whole : valid_alternatives loose include (parts text) ≡ None = h.same ∙ rw step refl in
+    rw whole refl
 
 all-read : (loose : Bool) (include : Bool) (text : List ℕ) (is_some : Bool) (found : List (Span VersionValue)) (h : AreReadTo loose include text is_some found None)
     → valid_alternatives loose include (parts text) ≡ Some h.read
@@ -200,39 +223,55 @@ two-parts loose include text was found rest part behind h e some =
 
 -- ---- the range of a text
 
+-- an alternative that is lost has no comparators, and so none that is not valid
+lost-valid : (loose : Bool) (text : List ℕ) (cs : List Comparison) → is_lost loose text cs ≡ true → list_all (is_valid MAX_SAFE_INTEGER) cs ≡ true
+lost-valid loose text [] h = refl
+lost-valid true text (c ∷ cs) h = cc h
+lost-valid false text (c ∷ cs) h = cc h
+
 all-valid : (loose : Bool) (include : Bool) (texts : List (List ℕ)) → valid_alternatives loose include texts
     ≡ (alternatives_of loose include texts >>? λ ls. if list_all (list_all (is_valid MAX_SAFE_INTEGER)) ls then Some ls else None)
 unfolding valid_alternatives valid_alternative alternatives_of
 all-valid loose include [] = refl
-all-valid loose include (text ∷ texts) = elim (cases_Bool (is_lost loose text)) [
-  | inl lost ↦ rw lost (all-valid loose include texts)
-  | inr regular ↦ rw regular (go (all-valid loose include texts) (alternative_of loose include text))
-]
+all-valid loose include (text ∷ texts) = go (all-valid loose include texts) (alternative_of loose include text)
   where
     behind : (cs : List Comparison) (o : Option (List (List Comparison))) → list_all (is_valid MAX_SAFE_INTEGER) cs ≡ true
-        → ((o >>? λ ls. if list_all (list_all (is_valid MAX_SAFE_INTEGER)) ls then Some ls else None) >>? λ rest. Some (cs ∷ rest))
-        ≡ ((o >>? λ rest. Some (cs ∷ rest)) >>? λ ls. if list_all (list_all (is_valid MAX_SAFE_INTEGER)) ls then Some ls else None)
+        → ((o >>? λ ls. if list_all (list_all (is_valid MAX_SAFE_INTEGER)) ls then Some ls else None) >>? λ rest. Some (kept loose text cs rest))
+        ≡ ((o >>? λ rest. Some (kept loose text cs rest)) >>? λ ls. if list_all (list_all (is_valid MAX_SAFE_INTEGER)) ls then Some ls else None)
     behind cs None h = refl
     behind cs (Some ls) h = elim (cases_Bool (list_all (list_all (is_valid MAX_SAFE_INTEGER)) ls)) [
-      | inl good ↦ rw (h, good) refl
-      | inr bad ↦ rw (h, bad) refl
+      | inl good ↦ elim (cases_Bool (is_lost loose text cs)) [
+        | inl lost ↦ rw (lost, good) refl
+        | inr regular ↦ rw (regular, h, good) refl
+      ]
+      | inr bad ↦ elim (cases_Bool (is_lost loose text cs)) [
+        | inl lost ↦ rw (lost, bad) refl
+        | inr regular ↦ rw (regular, h, bad) refl
+      ]
     ]
 
     invalid : (cs : List Comparison) (o : Option (List (List Comparison))) → list_all (is_valid MAX_SAFE_INTEGER) cs ≡ false
-        → None ≡ ((o >>? λ rest. Some (cs ∷ rest)) >>? λ ls. if list_all (list_all (is_valid MAX_SAFE_INTEGER)) ls then Some ls else None)
-    invalid cs None h = refl
-    invalid cs (Some ls) h = rw h refl
+        → is_lost loose text cs ≡ false
+        → None ≡ ((o >>? λ rest. Some (kept loose text cs rest)) >>? λ ls. if list_all (list_all (is_valid MAX_SAFE_INTEGER)) ls then Some ls else None)
+    invalid cs None h k = refl
+    invalid cs (Some ls) h k = rw (k, h) refl
+
+    regular-of : (cs : List Comparison) → list_all (is_valid MAX_SAFE_INTEGER) cs ≡ false → is_lost loose text cs ≡ false
+    regular-of cs h = elim (cases_Bool (is_lost loose text cs)) [
+      | inr regular ↦ regular
+      | inl lost ↦ cc (h, lost-valid loose text cs lost)
+    ]
 
     go : (valid_alternatives loose include texts
         ≡ (alternatives_of loose include texts >>? λ ls. if list_all (list_all (is_valid MAX_SAFE_INTEGER)) ls then Some ls else None))
         → (o : Option (List Comparison))
-        → ((o >>? λ cs. valid_only MAX_SAFE_INTEGER cs) >>? λ cs. valid_alternatives loose include texts >>? λ rest. Some (cs ∷ rest))
-        ≡ ((o >>? λ cs. alternatives_of loose include texts >>? λ rest. Some (cs ∷ rest))
+        → ((o >>? λ cs. valid_only MAX_SAFE_INTEGER cs) >>? λ cs. valid_alternatives loose include texts >>? λ rest. Some (kept loose text cs rest))
+        ≡ ((o >>? λ cs. alternatives_of loose include texts >>? λ rest. Some (kept loose text cs rest))
         >>? λ ls. if list_all (list_all (is_valid MAX_SAFE_INTEGER)) ls then Some ls else None)
     go f None = refl
     go f (Some cs) = elim (cases_Bool (list_all (is_valid MAX_SAFE_INTEGER) cs)) [
       | inl good ↦ rw (good, f) (behind cs (alternatives_of loose include texts) good)
-      | inr bad ↦ rw bad (invalid cs (alternatives_of loose include texts) bad)
+      | inr bad ↦ rw bad (invalid cs (alternatives_of loose include texts) bad (regular-of cs bad))
     ]
 
 not-false : (b : Bool) → not b ≡ true → b ≡ false

@@ -1,51 +1,40 @@
 -- Range texts as node-semver reads them: the function that reads the alternatives finds exactly what the statement has.
 use Rattle.nodejs_semver.proofs.Common.{◌≡◌, ℕ, Bool, List, [], ◌∷◌, refl, sym, ap, ◌∙◌, true, false, Some, ◌↔◌, AllByRecursion, IsUtf8}
-use Rattle.nodejs_semver.proofs.Common.{and_parts, cases_Bool, inl, inr, is_empty, bind_some, list_all, map, same_Some, subst, trim}
+use Rattle.nodejs_semver.proofs.Common.{is_empty, bind_some, list_all, map, same_Some, subst, trim}
 use Rattle.semver_core.proofs.Text.Trims.{middle_is_trim, trim_is_middle}
-use Rattle.nodejs_semver.specs.Internal.NpmWords.{alternative_of, alternatives_of, is_lost, npm_alternatives}
+use Rattle.nodejs_semver.specs.Internal.NpmWords.{alternative_of, alternatives_of, kept, npm_alternatives}
 use Rattle.nodejs_semver.specs.Internal.Parts.{cut_bars}
-use Rattle.nodejs_semver.specs.Npm.Malformed.{is_malformed}
-use Rattle.nodejs_semver.specs.Npm.RangeText.{AreAlternatives, lost, next, none}
+use Rattle.nodejs_semver.specs.Npm.RangeText.{AreAlternatives, next, none}
 use Rattle.nodejs_semver.specs.Npm.Ranges.{HasAlternativesIn, is_valid}
 use Rattle.nodejs_semver.specs.Npm.Table.{Comparison}
 use Rattle.nodejs_semver.proofs.Dividing.BarsDivide.{bars_divide, bars_once}
 use Rattle.nodejs_semver.proofs.Dividing.MeaningLaw.{pieces-utf8}
 use Rattle.nodejs_semver.proofs.Reading.WordLaw.{trim-utf8}
-use Rattle.nodejs_semver.proofs.Strict.AlternativeLaw.{alternative-found, alternative-read, alternative-regular}
+use Rattle.nodejs_semver.proofs.Strict.AlternativeLaw.{alternative-found, alternative-read}
 
 each-read : (loose : Bool) (include : Bool) (pieces : List (List ℕ)) (ls : List (List Comparison)) → AllByRecursion IsUtf8 pieces
     → AreAlternatives loose include pieces ls → alternatives_of loose include (map trim pieces) ≡ Some ls
 unfolding alternatives_of
 each-read loose include pieces ls u none = refl
-each-read loose include pieces ls u (lost piece text others rest l is_trim m more) =
-    let there : is_lost loose (trim piece) ≡ true =
-    ap (λ (t : List ℕ). is_lost loose t) (sym (middle_is_trim piece text is_trim)) ∙ rw (l, m) refl in
-    rw there (each-read loose include others rest u.1 more)
 each-read loose include pieces ls u (next piece text others cs rest is_trim is more) =
     let v = trim-utf8 piece text u.0 is_trim in
+    let same : text ≡ trim piece = middle_is_trim piece text is_trim in
     let read : alternative_of loose include (trim piece) ≡ Some cs =
-    ap (λ (t : List ℕ). alternative_of loose include t) (sym (middle_is_trim piece text is_trim)) ∙ alternative-read loose include text cs v is in
-    let regular : is_lost loose (trim piece) ≡ false =
-    ap (λ (t : List ℕ). is_lost loose t) (sym (middle_is_trim piece text is_trim)) ∙ alternative-regular loose include text cs is in
-    rw (regular, read, each-read loose include others rest u.1 more) refl
+    ap (λ (t : List ℕ). alternative_of loose include t) (sym same) ∙ alternative-read loose include text cs v is in
+    rw (read, each-read loose include others rest u.1 more) (ap (λ (t : List ℕ). Some (kept loose t cs rest)) (sym same))
 
 each-found : (loose : Bool) (include : Bool) (pieces : List (List ℕ)) (ls : List (List Comparison)) → AllByRecursion IsUtf8 pieces
     → alternatives_of loose include (map trim pieces) ≡ Some ls → AreAlternatives loose include pieces ls
 unfolding alternatives_of
 each-found loose include [] ls u h = subst (λ (l : List (List Comparison)). AreAlternatives loose include [] l) (same_Some _ _ h) none
-each-found loose include (piece ∷ others) ls u h = elim (cases_Bool (is_lost loose (trim piece))) [
-  | inl there ↦
-      let tests = and_parts loose (is_malformed (trim piece)) there in
-      lost piece (trim piece) others ls tests.0 (trim_is_middle piece u.0) tests.1 (each-found loose include others ls u.1 (rw there at h))
-  | inr regular ↦
-      let cs = bind_some (alternative_of loose include (trim piece)) _ ls (rw regular at h) in
-      let rest = bind_some (alternatives_of loose include (map trim others)) (λ rest. Some (cs.0 ∷ rest)) ls cs.2 in
-      let is_trim = trim_is_middle piece u.0 in
-      let is = alternative-found loose include (trim piece) cs.0 (trim-utf8 piece (trim piece) u.0 is_trim) cs.1 in
-      let found : AreAlternatives loose include (piece ∷ others) (cs.0 ∷ rest.0) =
-      next piece (trim piece) others cs.0 rest.0 is_trim is (each-found loose include others rest.0 u.1 rest.1) in
-      subst (λ (l : List (List Comparison)). AreAlternatives loose include (piece ∷ others) l) (same_Some _ _ rest.2) found
-]
+each-found loose include (piece ∷ others) ls u h =
+    let cs = bind_some (alternative_of loose include (trim piece)) _ ls h in
+    let rest = bind_some (alternatives_of loose include (map trim others)) (λ rest. Some (kept loose (trim piece) cs.0 rest)) ls cs.2 in
+    let is_trim = trim_is_middle piece u.0 in
+    let is = alternative-found loose include (trim piece) cs.0 (trim-utf8 piece (trim piece) u.0 is_trim) cs.1 in
+    let found : AreAlternatives loose include (piece ∷ others) (kept loose (trim piece) cs.0 rest.0) =
+    next piece (trim piece) others cs.0 rest.0 is_trim is (each-found loose include others rest.0 u.1 rest.1) in
+    subst (λ (l : List (List Comparison)). AreAlternatives loose include (piece ∷ others) l) (same_Some _ _ rest.2) found
 
 -- a text has the alternatives that are read, if they are valid
 pub alternatives_are : (loose : Bool) (limit : ℕ) (include : Bool) (text : List ℕ) (ls : List (List Comparison)) → IsUtf8 text

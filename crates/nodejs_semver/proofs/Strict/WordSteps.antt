@@ -1,7 +1,7 @@
 -- The words of an alternative, read one after another: what was read, and what is left.
 use Rattle.nodejs_semver.proofs.Common.{◌≡◌, ◌<◌, ◌≤◌, ℕ, zero, suc, Bool, List, [], ◌∷◌, ◌++◌, length, refl, sym, ap, ◌∙◌, arith, true, false}
 use Rattle.nodejs_semver.proofs.Common.{Some, None, Option, append_assoc, cond_some, length-append, if◌then◌else◌, is_empty, IsUtf8, Span, VersionValue}
-use Rattle.nodejs_semver.proofs.Common.{drop_spaces, ◌==◌, MAX_SAFE_INTEGER}
+use Rattle.nodejs_semver.proofs.Common.{drop_spaces, ◌==◌, ◌&&◌, MAX_SAFE_INTEGER}
 use Rattle.semver_core.specs.Internal.Reading.{◌>>?◌}
 use Rattle.nodejs_semver.specs.Internal.Fronts.{Front}
 use Rattle.nodejs_semver.specs.Internal.NpmAlternatives.{NarrowedBy}
@@ -10,9 +10,10 @@ use Rattle.nodejs_semver.specs.Internal.NpmReads.{IsFound, words_of}
 use Rattle.nodejs_semver.specs.Internal.NpmWords.{Signed, any_word, is_small, limited_word, valid_only, valid_words, word_front}
 use Rattle.nodejs_semver.specs.Npm.Table.{Comparison, table}
 use Rattle.nodejs_semver.specs.declared.npm.alternatives.Alternative.{Alternative}
-use Rattle.nodejs_semver.proofs.Reading.Bytes.{begins-some, is_solid}
+use Rattle.nodejs_semver.proofs.Reading.Bytes.{begins-some}
+use Rattle.nodejs_semver.specs.Npm.Malformed.{is_visible}
 use Rattle.nodejs_semver.proofs.Strict.Signs.{blank-at}
-use Rattle.nodejs_semver.proofs.Strict.Words.{WordAt, word-found, word-solid}
+use Rattle.nodejs_semver.proofs.Strict.Words.{WordAt, word-found, word-visible}
 
 abbrev pub word_at_front : (loose : Bool) → List ℕ → Front Signed
 word_at_front loose text = limited_word MAX_SAFE_INTEGER (any_word loose text)
@@ -41,7 +42,7 @@ word-shorter loose include text w u h =
       length-append x.piece w.1,
       ap length b.split,
       length-append b.blank (drop_spaces w.1),
-      begins-some is_solid x.piece (word-solid loose include x.piece (row_of include w.0) x.is),
+      begins-some is_visible x.piece (word-visible loose include x.piece (row_of include w.0) x.is),
     )
 
 pub left-utf8 : (loose : Bool) (include : Bool) (text : List ℕ) (w : Signed × List ℕ) → IsUtf8 text → word_at_front loose text ≡ Some w → IsUtf8 (drop_spaces w.1)
@@ -91,31 +92,39 @@ words-step loose include (b ∷ text) u (Some w) e =
     let left = left-utf8 loose include (b ∷ text) w u e in
     rw (e, enough loose include (length text) (length (drop_spaces w.1)) (drop_spaces w.1) left (omega (arith, less)) (omega arith)) refl
 
+pub empty-append : (cs ds : List Comparison) → is_empty (cs ++ ds) ≡ (is_empty cs && is_empty ds)
+empty-append [] ds = refl
+empty-append (c ∷ cs) ds = refl
+
 -- what was read of a text, and what is left
-pub record AreWordsTo (loose : Bool) (include : Bool) (text : List ℕ) (all : Option (Span VersionValue)) (rest : List ℕ) : Type 0 where
+pub record AreWordsTo (loose : Bool) (include : Bool) (text : List ℕ) (all : Option (Span VersionValue)) (is_bare : Bool) (rest : List ℕ)
+    : Type 0 where
   pub read : List Comparison
+  pub bare : is_bare ≡ is_empty read
   pub narrowed : IsNarrowed include read all
   pub same : words_of loose include text ≡ (words_of loose include rest >>? λ ds. Some (read ++ ds))
   pub utf8 : IsUtf8 rest
 
-pub words-begin : (loose : Bool) (include : Bool) (text : List ℕ) (all : Option (Span VersionValue)) → IsUtf8 text → IsNarrowed include [] all
-    → AreWordsTo loose include text all text
-words-begin loose include text all u h = record { read = []; narrowed = h; same = whole (words_of loose include text); utf8 = u }
+pub words-begin : (loose : Bool) (include : Bool) (text : List ℕ) (all : Option (Span VersionValue)) (is_bare : Bool) → IsUtf8 text
+    → IsNarrowed include [] all → is_bare ≡ true → AreWordsTo loose include text all is_bare text
+words-begin loose include text all is_bare u h b = record { read = []; bare = b; narrowed = h; same = whole (words_of loose include text); utf8 = u }
   where
     whole : (o : Option (List Comparison)) → o ≡ (o >>? λ ds. Some ([] ++ ds))
     whole None = refl
     whole (Some ds) = refl
 
 -- one word more
-pub words-next : (loose : Bool) (include : Bool) (text rest : List ℕ) (all : Option (Span VersionValue)) (w : Signed × List ℕ) (a : Alternative)
-    → AreWordsTo loose include text all rest → word_at_front loose rest ≡ Some w → NarrowedBy include all (row_of include w.0) (Some a)
-    → is_empty w.1 ≡ false → AreWordsTo loose include text a.interval (drop_spaces w.1)
-words-next loose include text rest all w a h e n goes =
+pub words-next : (loose : Bool) (include : Bool) (text rest : List ℕ) (all : Option (Span VersionValue)) (is_bare : Bool) (w : Signed × List ℕ)
+    (a : Alternative) → AreWordsTo loose include text all is_bare rest → word_at_front loose rest ≡ Some w
+    → NarrowedBy include all (row_of include w.0) (Some a) → a.is_bare ≡ (is_bare && is_empty (row_of include w.0))
+    → is_empty w.1 ≡ false → AreWordsTo loose include text a.interval a.is_bare (drop_spaces w.1)
+words-next loose include text rest all is_bare w a h e n b goes =
     let row = row_of include w.0 in
     let step : words_of loose include rest ≡ (words_of loose include (drop_spaces w.1) >>? λ ds. Some (row ++ ds)) =
     words-step loose include rest h.utf8 (Some w) e ∙ rw (n.0, goes) refl in
     record {
       read = h.read ++ row;
+      bare = b ∙ rw h.bare (sym (empty-append h.read row));
       narrowed = n.1 h.read h.narrowed;
       same = h.same ∙ rw step (joined h.read row (words_of loose include (drop_spaces w.1)));
       utf8 = left-utf8 loose include rest w h.utf8 e;
@@ -127,27 +136,28 @@ words-next loose include text rest all w a h e n goes =
     joined cs row (Some ds) = ap (λ (l : List Comparison). Some l) (sym (append_assoc cs row ds))
 
 -- the last word
-pub words-end : (loose : Bool) (include : Bool) (text rest : List ℕ) (all : Option (Span VersionValue)) (w : Signed × List ℕ) (a : Alternative)
-    → AreWordsTo loose include text all rest → word_at_front loose rest ≡ Some w → NarrowedBy include all (row_of include w.0) (Some a)
+pub words-end : (loose : Bool) (include : Bool) (text rest : List ℕ) (all : Option (Span VersionValue)) (is_bare : Bool) (w : Signed × List ℕ)
+    (a : Alternative) → AreWordsTo loose include text all is_bare rest → word_at_front loose rest ≡ Some w
+    → NarrowedBy include all (row_of include w.0) (Some a) → a.is_bare ≡ (is_bare && is_empty (row_of include w.0))
     → is_empty w.1 ≡ true → IsFound include (words_of loose include text) (Some a)
-words-end loose include text rest all w a h e n ended =
+words-end loose include text rest all is_bare w a h e n b ended =
     let row = row_of include w.0 in
     let step : words_of loose include rest ≡ Some row = words-step loose include rest h.utf8 (Some w) e ∙ rw (n.0, ended) refl in
     let whole : words_of loose include text ≡ Some (h.read ++ row) = h.same ∙ rw step refl in
-    rw whole (n.1 h.read h.narrowed)
+    rw whole (n.1 h.read h.narrowed, b ∙ rw h.bare (sym (empty-append h.read row)))
 
 -- no word where one is to be
-pub words-none : (loose : Bool) (include : Bool) (text rest : List ℕ) (all : Option (Span VersionValue)) → AreWordsTo loose include text all rest
-    → word_at_front loose rest ≡ None → IsFound include (words_of loose include text) None
-words-none loose include text rest all h e =
+pub words-none : (loose : Bool) (include : Bool) (text rest : List ℕ) (all : Option (Span VersionValue)) (is_bare : Bool)
+    → AreWordsTo loose include text all is_bare rest → word_at_front loose rest ≡ None → IsFound include (words_of loose include text) None
+words-none loose include text rest all is_bare h e =
     let whole : words_of loose include text ≡ None = h.same ∙ rw (words-step loose include rest h.utf8 None e) refl in
     rw whole tt
 
 -- a comparator that is not valid
-pub words-invalid : (loose : Bool) (include : Bool) (text rest : List ℕ) (all : Option (Span VersionValue)) (w : Signed × List ℕ)
-    → AreWordsTo loose include text all rest → word_at_front loose rest ≡ Some w → NarrowedBy include all (row_of include w.0) None
+pub words-invalid : (loose : Bool) (include : Bool) (text rest : List ℕ) (all : Option (Span VersionValue)) (is_bare : Bool)
+    (w : Signed × List ℕ) → AreWordsTo loose include text all is_bare rest → word_at_front loose rest ≡ Some w → NarrowedBy include all (row_of include w.0) None
     → IsFound include (words_of loose include text) None
-words-invalid loose include text rest all w h e n =
+words-invalid loose include text rest all is_bare w h e n =
     let step : words_of loose include rest ≡ None = words-step loose include rest h.utf8 (Some w) e ∙ rw n refl in
     let whole : words_of loose include text ≡ None = h.same ∙ rw step refl in
     rw whole tt

@@ -13,16 +13,16 @@ use Rattle.nodejs_semver.specs.Internal.NpmWords.{Signed, any_word, ended_word, 
 use Rattle.nodejs_semver.specs.Internal.NpmWords.{word_front, words_within}
 use Rattle.nodejs_semver.specs.Internal.Words.{is_boundary}
 use Rattle.nodejs_semver.specs.Npm.RangeText as Text
-use Rattle.nodejs_semver.specs.Npm.Malformed.{begins_malformed, is_plain}
+use Rattle.nodejs_semver.specs.Npm.Malformed.{begins_malformed, is_plain, is_visible}
 use Rattle.nodejs_semver.specs.Npm.RangeText.{AreWords, IsPartial, IsPlace, IsSignText, IsWord, are_marks, ignored, is_mark, last, more, one, spelling, three, two, word}
 use Rattle.nodejs_semver.specs.Npm.RangeText.{caret_equal, late_above, late_below, no_sign, sign, tilde_sign, tilde_twice}
 use Rattle.nodejs_semver.specs.Npm.Table.{Comparison, Partial, Sign, caret, compared, table, tilde, wildcard}
 use Rattle.nodejs_semver.specs.Text.WordText.{above, at_least, at_most, below, equal}
-use Rattle.nodejs_semver.proofs.Reading.Bytes.{begins-on, begins-some, begins_component, is_component_byte, is_solid, solid-dark}
+use Rattle.nodejs_semver.proofs.Reading.Bytes.{begins-on, begins-some, begins_component, is_component_byte}
 use Rattle.nodejs_semver.proofs.Reading.Progress.{spaces-gone, spaces-le}
 use Rattle.nodejs_semver.proofs.Reading.Steps.{option-cases}
 use Rattle.nodejs_semver.proofs.Reading.WordLaw.{boundary-utf8, suffix-boundary}
-use Rattle.nodejs_semver.proofs.Strict.Malformed.{boundary-plain, ignored-read, malformed-solid, word-regular}
+use Rattle.nodejs_semver.proofs.Strict.Malformed.{boundary-plain, ignored-read, malformed-visible, visible-dark, word-regular}
 use Rattle.nodejs_semver.proofs.Strict.PartialLaw.{boundary-quiet, partial-found, partial-read}
 use Rattle.nodejs_semver.proofs.Strict.Places.{digits-begin}
 use Rattle.nodejs_semver.proofs.Strict.VersionLaw.{empty-is}
@@ -187,39 +187,39 @@ word-found loose include text cs rest u h = elim (option-cases (ignored_front lo
 
 -- ---- words
 
-sign-solid : (signs : List ℕ) (s : Sign) → IsSignText signs s → (signs ≡ []) ⊎ (begins is_solid signs ≡ true)
-sign-solid signs s no_sign = inl refl
-sign-solid signs s (sign (compared above) y h) = inr refl
-sign-solid signs s (sign (compared at_least) y h) = inr refl
-sign-solid signs s (sign (compared equal) y h) = inr refl
-sign-solid signs s (sign (compared at_most) y h) = inr refl
-sign-solid signs s (sign (compared below) y h) = inr refl
-sign-solid signs s (sign caret y h) = inr refl
-sign-solid signs s (sign tilde y h) = inr refl
-sign-solid signs s (late_above y h) = inr refl
-sign-solid signs s (late_below y h) = inr refl
-sign-solid signs s (caret_equal y z h k) = inr refl
-sign-solid signs s (tilde_sign c y z h k which) = inr refl
-sign-solid signs s (tilde_twice c y z h some k which) = inr refl
+sign-visible : (signs : List ℕ) (s : Sign) → IsSignText signs s → (signs ≡ []) ⊎ (begins is_visible signs ≡ true)
+sign-visible signs s no_sign = inl refl
+sign-visible signs s (sign (compared above) y h) = inr refl
+sign-visible signs s (sign (compared at_least) y h) = inr refl
+sign-visible signs s (sign (compared equal) y h) = inr refl
+sign-visible signs s (sign (compared at_most) y h) = inr refl
+sign-visible signs s (sign (compared below) y h) = inr refl
+sign-visible signs s (sign caret y h) = inr refl
+sign-visible signs s (sign tilde y h) = inr refl
+sign-visible signs s (late_above y h) = inr refl
+sign-visible signs s (late_below y h) = inr refl
+sign-visible signs s (caret_equal y z h k) = inr refl
+sign-visible signs s (tilde_sign c y z h k which) = inr refl
+sign-visible signs s (tilde_twice c y z h some k which) = inr refl
 
-marks-solid : (marks u : List ℕ) → list_all is_mark marks ≡ true → begins_component u ≡ true → begins is_solid (marks ++ u) ≡ true
-marks-solid [] [] h k = cc k
-marks-solid [] (b ∷ u) h k = grind (arith, nat_tests)
-marks-solid (b ∷ marks) u h k = grind (arith, nat_tests)
+marks-visible : (marks u : List ℕ) → list_all is_mark marks ≡ true → begins_component u ≡ true → begins is_visible (marks ++ u) ≡ true
+marks-visible [] [] h k = cc k
+marks-visible [] (b ∷ u) h k = grind (arith, nat_tests)
+marks-visible (b ∷ marks) u h k = grind (arith, nat_tests)
 
-pub word-solid : (loose : Bool) (include : Bool) (w : List ℕ) (cs : List Comparison) → IsWord loose include w cs → begins is_solid w ≡ true
-word-solid loose include w cs (ignored x l h) = malformed-solid x h
-word-solid loose include w cs (word signs marks x s p h m e k) =
+pub word-visible : (loose : Bool) (include : Bool) (w : List ℕ) (cs : List Comparison) → IsWord loose include w cs → begins is_visible w ≡ true
+word-visible loose include w cs (ignored x l h) = malformed-visible x h
+word-visible loose include w cs (word signs marks x s p h m e k) =
     let u : begins_component x ≡ true = rw (append-nil x) at (partial-begins loose x [] p k) in
-    elim (sign-solid signs s h) [
-      | inl none ↦ rw none (marks-solid marks x (marks-all loose s p marks m) u)
-      | inr solid ↦ begins-on is_solid signs (marks ++ x) solid
+    elim (sign-visible signs s h) [
+      | inl none ↦ rw none (marks-visible marks x (marks-all loose s p marks m) u)
+      | inr visible ↦ begins-on is_visible signs (marks ++ x) visible
     ]
 
-pub words-solid : (loose : Bool) (include : Bool) (text : List ℕ) (cs : List Comparison) → AreWords loose include text cs → begins is_solid text ≡ true
-words-solid loose include text cs (last t ds h) = word-solid loose include t ds h
-words-solid loose include text cs (more t blank rest ds es h hb some k) =
-    begins-on is_solid t (blank ++ rest) (word-solid loose include t ds h)
+pub words-visible : (loose : Bool) (include : Bool) (text : List ℕ) (cs : List Comparison) → AreWords loose include text cs → begins is_visible text ≡ true
+words-visible loose include text cs (last t ds h) = word-visible loose include t ds h
+words-visible loose include text cs (more t blank rest ds es h hb some k) =
+    begins-on is_visible t (blank ++ rest) (word-visible loose include t ds h)
 
 pub blank-space : (blank rest : List ℕ) → IsBlank blank → 0 < length blank → 0 < space_len (blank ++ rest)
 blank-space blank rest h some = elim (blank-cases blank h) [
@@ -247,13 +247,13 @@ pub words-read : (loose : Bool) (include : Bool) (n : ℕ) (text : List ℕ) (cs
     → words_within loose include n text ≡ Some cs
 unfolding words_within
 words-read loose include zero text cs h le =
-    absurd (omega (arith, le, begins-some is_solid text (words-solid loose include text cs h)))
+    absurd (omega (arith, le, begins-some is_visible text (words-visible loose include text cs h)))
 words-read loose include (suc n) text cs (last t ds h) le =
     let read : word_front loose include t ≡ Some (ds, []) = rw (append-nil t) at (word-read loose include t [] ds h nil-boundary) in
     rw read refl
 words-read loose include (suc n) text cs (more t blank rest ds es h hb some k) le =
     let read = word-read loose include t (blank ++ rest) ds h (blank-boundary blank rest hb some) in
-    let dark = solid-dark rest (words-solid loose include rest es k) in
+    let dark = visible-dark rest (words-visible loose include rest es k) in
     let shorter : length rest ≤ n = omega (arith, le, length-append t (blank ++ rest), length-append blank rest, some) in
     rw (read, not-empty blank rest some, blank-skipped blank rest hb dark, words-read loose include n rest es k shorter) refl
 

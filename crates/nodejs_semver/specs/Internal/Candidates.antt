@@ -2,7 +2,7 @@
 use Rattle.std.specs.Prelude.{◌≡◌, ◌+◌, Bool, true, false, ◌&&◌, not, List, [], ◌∷◌, ◌++◌}
 use Rattle.std.specs.Prelude.{if◌then◌else◌, Option, Some, None, fold, ⊤, ◌<◌, ◌^◌, ◌-◌, ◌⊎◌}
 use Rattle.std.specs.List.{Any, flat_map, list_all}
-use Rattle.std.specs.Ordering.{is_le, is_lt}
+use Rattle.std.specs.Ordering.{is_le}
 use Rattle.semver_core.specs.Internal.Sides.{Near, Far}
 use Rattle.semver_core.specs.Cuts.{Span, Cut, Start, Beside, End, holds}
 use Rattle.semver_core.specs.Text.Identifiers.{Numeric}
@@ -89,10 +89,14 @@ among ks kss ls v = all_accept kss v && beyond ks ls v
 abbrev pub wanted : List (List (Span VersionValue)) → List (Span VersionValue) → VersionValue → Bool
 wanted kss ls v = all_accept kss v && not (accepts ls v false)
 
+-- the best so far is not above x: nothing from x on improves on it
+abbrev pub is_reached : Option VersionValue → VersionValue → Bool
+is_reached None x = false
+is_reached (Some b) x = is_le (precedence b x)
+
 -- the least version of a set that a list names, the first of equal ones
 abbrev pub improves : Option VersionValue → VersionValue → Bool
-improves None x = true
-improves (Some b) x = is_lt (precedence x b)
+improves best x = not (is_reached best x)
 
 abbrev pub better : (VersionValue → Bool) → Option VersionValue → VersionValue → Option VersionValue
 better set best x = if improves best x && set x then Some x else best
@@ -114,11 +118,6 @@ abbrev pub first_past : Bound VersionValue → VersionValue
 first_past Unbounded = first_pre zero
 first_past (Before w) = bare w
 first_past (After w) = if is_release w then first_pre (patch_after w) else pre_after w
-
--- the best so far is not above x: nothing from x on improves on it
-abbrev pub is_reached : Option VersionValue → VersionValue → Bool
-is_reached None x = false
-is_reached (Some b) x = is_le (precedence b x)
 
 -- whether the bound's version has a build
 abbrev pub has_build : Bound VersionValue → Bool

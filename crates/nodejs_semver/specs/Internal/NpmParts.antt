@@ -1,12 +1,13 @@
 -- For proofs and private contracts. The signs and the partial versions of node-semver's range texts, seen without
 -- places in memory.
-use Rattle.std.specs.Prelude.{◌&&◌, nat_le, Bool, true}
+use Rattle.std.specs.Prelude.{◌&&◌, nat_le, Bool, true, false}
 use Rattle.std.specs.List.{list_all}
 use Rattle.semver_core.specs.Printing.RoundTrip.{is_normal}
 use Rattle.semver_core.specs.declared.TheConstants.{MAX_SAFE_INTEGER}
 use Rattle.nodejs_semver.specs.Internal.Readings.{comparator_view}
 use Rattle.nodejs_semver.specs.Npm.Table as Spec
 use Rattle.nodejs_semver.specs.Npm.Table.{Numbers, caret, compared, major, minor, tilde, whole, wildcard}
+use Rattle.nodejs_semver.specs.Text.WordText.{above, below}
 use Rattle.nodejs_semver.specs.declared.npm.partial.Partial.{Partial}
 use Rattle.nodejs_semver.specs.declared.npm.partial.Partial.TheVariants.{Major, Minor, Whole, Wildcard}
 use Rattle.nodejs_semver.specs.declared.npm.partial.Sign.{Sign}
@@ -31,3 +32,13 @@ within n = nat_le n.0 MAX_SAFE_INTEGER && nat_le n.1 MAX_SAFE_INTEGER && nat_le 
 abbrev pub are_normal : Spec.Partial → Bool
 are_normal (whole v) = list_all is_normal v.pre_release && list_all is_normal v.build
 are_normal p = true
+
+-- a word of a wildcard has no comparators, unless its sign is `<` or `>`
+abbrev pub is_wildcard : Spec.Partial → Bool
+is_wildcard wildcard = true
+is_wildcard p = false
+
+abbrev pub has_no_comparators : Spec.Sign → Spec.Partial → Bool
+has_no_comparators (compared above) p = false
+has_no_comparators (compared below) p = false
+has_no_comparators s p = is_wildcard p

@@ -8,7 +8,8 @@ use Rattle.semver_core.specs.declared.TheConstants.{MAX_SAFE_INTEGER}
 use Rattle.nodejs_semver.specs.Internal.NpmAlternatives.{AreNarrowed}
 use Rattle.nodejs_semver.specs.Internal.NpmMeaning.{IsNarrowed}
 use Rattle.nodejs_semver.specs.Internal.NpmWords.{alternative_of, hyphen_comparisons, hyphen_ends}
-use Rattle.nodejs_semver.specs.Internal.NpmWords.{is_lost, valid_only, valid_words}
+use Rattle.nodejs_semver.specs.Internal.NpmWords.{kept, valid_only, valid_words}
+use Rattle.nodejs_semver.specs.Npm.RangeText.{is_lost}
 use Rattle.nodejs_semver.specs.Internal.Parts.{parts}
 use Rattle.semver_core.specs.Lists.{is_empty}
 use Rattle.nodejs_semver.specs.Npm.Table.{Comparison}
@@ -30,14 +31,14 @@ valid_hyphen loose include text =
 -- an alternative is found exactly if there are comparators, and is that of these
 abbrev pub IsFound : Bool → Option (List Comparison) → Option Alternative → Type 0
 IsFound include None None = Unit {0}
-IsFound include (Some cs) (Some a) = IsNarrowed include cs a.interval
+IsFound include (Some cs) (Some a) = IsNarrowed include cs a.interval × (a.is_bare ≡ is_empty cs)
 IsFound include cs a = ⊥
 
 -- the comparators of each of some alternatives, if each is valid
 unfoldable pub valid_alternatives : Bool → Bool → List (List ℕ) → Option (List (List Comparison))
 valid_alternatives loose include [] = Some []
-valid_alternatives loose include (text ∷ texts) = if is_lost loose text then valid_alternatives loose include texts else
-    valid_alternative loose include text >>? λ cs. valid_alternatives loose include texts >>? λ rest. Some (cs ∷ rest)
+valid_alternatives loose include (text ∷ texts) = valid_alternative loose include text >>? λ cs.
+    valid_alternatives loose include texts >>? λ rest. Some (kept loose text cs rest)
 
 -- the intervals of some alternatives, of those that have one
 pub record AreFound (include : Bool) (alternatives : List (List Comparison)) (found : List (Span VersionValue))
@@ -46,18 +47,19 @@ pub record AreFound (include : Bool) (alternatives : List (List Comparison)) (fo
   pub narrowed : AreNarrowed include alternatives intervals
   pub are : found ≡ flat_map option_to_list intervals
 
--- one alternative more, of which there are comparators
-abbrev pub Adds : Bool → Option (List Comparison) → List (Span VersionValue) → List (Span VersionValue)
-    → Type 0
-Adds include None before after = ⊥
-Adds include (Some cs) before after = (alternatives : List (List Comparison))
-    → AreFound include alternatives before → AreFound include (alternatives ++ cs ∷ []) after
-
--- one part more, which may be no alternative. The flags say whether there was one before it, and with it.
-abbrev pub AddsPart : Bool → Bool → Option (List Comparison) → Bool → Bool → List (Span VersionValue)
+-- one part more with these comparators, which may be lost. The flags say whether there was an alternative
+-- before it, and with it.
+abbrev pub AddsOne : Bool → Bool → List Comparison → Bool → Bool → List (Span VersionValue)
     → List (Span VersionValue) → Type 0
-AddsPart include true all was is before after = (is ≡ was) × (after ≡ before)
-AddsPart include false all was is before after = (is ≡ true) × Adds include all before after
+AddsOne include true cs was is before after = (is ≡ was) × (after ≡ before)
+AddsOne include false cs was is before after = (is ≡ true) × ((alternatives : List (List Comparison))
+    → AreFound include alternatives before → AreFound include (alternatives ++ cs ∷ []) after)
+
+abbrev pub AddsPart : Bool → Bool → List ℕ → Option (List Comparison) → Bool → Bool → List (Span VersionValue)
+    → List (Span VersionValue) → Type 0
+AddsPart loose include text None was is before after = ⊥
+AddsPart loose include text (Some cs) was is before after =
+    AddsOne include (is_lost loose text cs) cs was is before after
 
 -- some alternative or more
 abbrev pub some_only : List (List Comparison) → Option (List (List Comparison))

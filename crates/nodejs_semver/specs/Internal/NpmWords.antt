@@ -12,8 +12,8 @@ use Rattle.nodejs_semver.specs.Internal.Fronts.{Front, after_byte, begins_byte, 
 use Rattle.nodejs_semver.specs.Internal.NpmReadings.{dashed_front}
 use Rattle.nodejs_semver.specs.Internal.Parts.{parts}
 use Rattle.nodejs_semver.specs.Internal.Words.{after_some_space, is_boundary, or_else}
-use Rattle.nodejs_semver.specs.Npm.Malformed.{begins_malformed, is_malformed, is_plain}
-use Rattle.nodejs_semver.specs.Npm.RangeText.{are_marks, are_spelled, are_whole_marks, begins_letter, is_free_lower, is_free_upper, is_mark, is_short_build, is_short_identifier, is_spelled, most_digits, partial_of, stands}
+use Rattle.nodejs_semver.specs.Npm.Malformed.{begins_malformed, is_plain}
+use Rattle.nodejs_semver.specs.Npm.RangeText.{are_marks, are_spelled, are_whole_marks, begins_letter, is_free_lower, is_free_upper, is_lost, is_mark, is_short_build, is_short_identifier, is_spelled, most_digits, partial_of}
 use Rattle.nodejs_semver.specs.Npm.Ranges.{is_valid}
 use Rattle.nodejs_semver.specs.Npm.Table.{Comparison, Partial, Sign, caret, compared, hyphen_lower, hyphen_upper, major, minor, table, tilde, whole, wildcard}
 use Rattle.nodejs_semver.specs.Text.WordText.{Comparator, above, at_least, at_most, below, equal}
@@ -276,26 +276,22 @@ hyphen_of loose limit include text =
     limited_end limit (end_front loose is_free_lower text) >>? λ a. after_dash a.1 >>? λ second.
     last_limited loose limit include second >>? λ b. Some (a.0, b)
 
--- the comparators of words that are an alternative
-abbrev pub standing : Bool → Bool → List ℕ → List Comparison → Option (List Comparison)
-standing loose include text cs = if stands loose include text cs then Some cs else None
-
 -- the comparators of an alternative
 unfoldable pub alternative_of : Bool → Bool → List ℕ → Option (List Comparison)
 alternative_of loose include [] = Some []
 alternative_of loose include (b ∷ rest) = or_else
-    (words_within loose include (length (b ∷ rest)) (b ∷ rest) >>? λ cs. standing loose include (b ∷ rest) cs)
+    (words_within loose include (length (b ∷ rest)) (b ∷ rest))
     (hyphen_ends loose include (b ∷ rest) >>? λ e. Some (hyphen_comparisons include e))
 
--- a malformed word alone is no alternative
-abbrev pub is_lost : Bool → List ℕ → Bool
-is_lost loose text = loose && is_malformed text
+-- alternatives with one more before them, unless that is lost
+abbrev pub kept : Bool → List ℕ → List Comparison → List (List Comparison) → List (List Comparison)
+kept loose text cs rest = if is_lost loose text cs then rest else cs ∷ rest
 
 -- the comparators of each of some alternatives
 unfoldable pub alternatives_of : Bool → Bool → List (List ℕ) → Option (List (List Comparison))
 alternatives_of loose include [] = Some []
-alternatives_of loose include (text ∷ texts) = if is_lost loose text then alternatives_of loose include texts else
-    alternative_of loose include text >>? λ cs. alternatives_of loose include texts >>? λ rest. Some (cs ∷ rest)
+alternatives_of loose include (text ∷ texts) = alternative_of loose include text >>? λ cs.
+    alternatives_of loose include texts >>? λ rest. Some (kept loose text cs rest)
 
 -- the alternatives of a range text
 abbrev pub npm_alternatives : Bool → Bool → List ℕ → Option (List (List Comparison))

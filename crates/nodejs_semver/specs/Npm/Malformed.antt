@@ -1,12 +1,18 @@
 -- Statement: the malformed words that are ignored loosely, as node-semver ignores them. They are visible
--- ASCII characters without `*` and `|`.
-use Rattle.std.specs.Prelude.{◌==◌, ◌-◌, ◌&&◌, ◌||◌, not, nat_le, ℕ, Bool, List, drop, length, take_while}
+-- ASCII characters without `*`.
+use Rattle.std.specs.Prelude.{◌==◌, ◌-◌, ◌&&◌, ◌||◌, not, nat_le, ℕ, Bool, List, [], ◌∷◌, codes, drop}
+use Rattle.std.specs.Prelude.{if◌then◌else◌, length, take_while}
 use Rattle.std.specs.Char.{is_ascii_digit}
 use Rattle.std.specs.List.{list_all}
+use Rattle.std.specs.Str.{bytes_eq}
+use Rattle.semver_core.specs.Lists.{is_empty}
 use Rattle.semver_core.specs.Text.Characters.{begins, is_identifier_char}
 
+abbrev pub is_visible : ℕ → Bool
+is_visible b = nat_le 33 b && nat_le b 126
+
 abbrev pub is_plain : ℕ → Bool
-is_plain b = nat_le 33 b && (nat_le b 126 && not (b == 42 || b == 124))
+is_plain b = is_visible b && not (b == 42)
 
 -- `<`, `=`, `>`, `^` or `~`
 abbrev pub is_sign : ℕ → Bool
@@ -19,13 +25,31 @@ is_first b = is_sign b || (is_ascii_digit b || (b == 118 || (b == 120 || b == 88
 abbrev pub is_inner : ℕ → Bool
 is_inner b = is_sign b || (is_identifier_char b || (b == 43 || b == 46))
 
--- a malformed word: it does not begin as a well-formed one does, or has a character that stands in none. Its
--- first character is no `-`, and its last one no sign, with which node-semver may ignore the next word too.
+-- the text behind its first dot
+abbrev pub after_dot : List ℕ → List ℕ
+after_dot [] = []
+after_dot (b ∷ rest) = if b == 46 then rest else after_dot rest
+
+-- it has four parts between dots, and the third is one character, as in `1.2.3.4`
+abbrev pub has_four_parts : List ℕ → Bool
+has_four_parts word = begins (λ b. b == 46) (drop 1 (after_dot (after_dot word)))
+
+-- a malformed word: it does not begin as a well-formed one does, or has a character that stands in none, or
+-- four parts. It is no `-` alone, as stands in hyphen ranges, and its last character is no sign, with which
+-- node-semver may ignore the next word too.
 abbrev pub is_malformed : List ℕ → Bool
-is_malformed word = list_all is_plain word && (begins (λ b. not (b == 45)) word
+is_malformed word = list_all is_plain word && (not (is_empty word || bytes_eq word (codes "-"))
     && (not (begins is_sign (drop (length word - 1) word))
-    && not (begins is_first word && list_all is_inner word)))
+    && (has_four_parts word || not (begins is_first word && list_all is_inner word))))
 
 -- such characters stand at the front up to another one, and are one
 abbrev pub begins_malformed : List ℕ → Bool
 begins_malformed text = is_malformed (take_while is_plain text)
+
+-- the visible characters at the end are one
+abbrev pub last_visible : List ℕ → List ℕ
+last_visible [] = []
+last_visible (b ∷ rest) = if list_all is_visible (b ∷ rest) then b ∷ rest else last_visible rest
+
+abbrev pub ends_malformed : List ℕ → Bool
+ends_malformed text = is_malformed (last_visible text)

@@ -1,26 +1,23 @@
 -- Statement: how range texts are written for node-semver, strictly and by its option `loose`, and the
 -- comparators of each alternative. Left out is one `*`, and a comparator before it, in a word that is else
 -- a whole version, as in `>*1.2.3`, which node-semver passes over. Of the loose reading these are left out
--- too, and a text that has one is rejected: malformed words but those that `Malformed` defines; an
--- alternative of several words with one of these first in which no comparator counts, of which node-semver
--- ignores some and takes others for `*`; zero as several digits; more than 32 digits of a number, and 128
--- characters of a pre-release; a pre-release without `-` that begins with none but a letter, and one that is
--- `-` alone; whitespace among the marks of a whole end of a hyphen range.
+-- too, and a text that has one is rejected: malformed words but those that `Malformed` defines; zero as
+-- several digits; more than 32 digits of a number, and 128 characters of a pre-release; a pre-release without
+-- `-` that begins with none but a letter, and one that is `-` alone; whitespace among the marks of a whole
+-- end of a hyphen range.
 use Rattle.std.specs.Prelude.{◌≡◌, ◌⊎◌, ◌==◌, ◌<◌, ◌≤◌, ◌+◌, ◌&&◌, ◌||◌, not, nat_le, nat_lt, ℕ, Bool, true}
-use Rattle.std.specs.Prelude.{false}
-use Rattle.std.specs.Prelude.{List, [], ◌∷◌, ◌++◌, length, drop, Option, Some, None, encode_utf8_all}
-use Rattle.std.specs.Prelude.{codes, if◌then◌else◌}
+use Rattle.std.specs.Prelude.{false, List, [], ◌∷◌, ◌++◌, length, drop, Option, Some, None, codes}
+use Rattle.std.specs.Prelude.{encode_utf8_all, if◌then◌else◌}
 use Rattle.std.specs.Char.{is_ascii_digit}
-use Rattle.std.specs.List.{list_all, list_any, prefix_len}
+use Rattle.std.specs.List.{list_all, prefix_len}
 use Rattle.semver_core.specs.Lists.{is_empty}
 use Rattle.semver_core.specs.Text.Characters.{begins, is_whitespace, IsBlank, IsTrim}
 use Rattle.semver_core.specs.Text.Identifiers.{Id, IsIdentifiers, pieces}
 use Rattle.semver_core.specs.Text.Numbers.{IsNumber}
 use Rattle.nodejs_semver.specs.Npm.Grammar.{IsStrictBuild, has_leading_zero, is_strict_identifier}
-use Rattle.nodejs_semver.specs.Npm.Malformed.{begins_malformed, is_malformed}
-use Rattle.nodejs_semver.specs.Npm.Table.{Comparison, Partial, Sign, caret, compared, counts, hyphen_lower}
-use Rattle.nodejs_semver.specs.Npm.Table.{hyphen_upper}
-use Rattle.nodejs_semver.specs.Npm.Table.{major, minor, table, tilde, whole, wildcard}
+use Rattle.nodejs_semver.specs.Npm.Malformed.{begins_malformed, ends_malformed, is_malformed}
+use Rattle.nodejs_semver.specs.Npm.Table.{Comparison, Partial, Sign, caret, compared, hyphen_lower, major}
+use Rattle.nodejs_semver.specs.Npm.Table.{hyphen_upper, minor, table, tilde, whole, wildcard}
 use Rattle.nodejs_semver.specs.Text.WordText.{Comparator, above, at_least, at_most, below, equal}
 
 -- ---- partials
@@ -169,10 +166,6 @@ is_free_upper include p = elim p [ whole v ↦ include || not (is_empty v.pre_re
 abbrev pub is_free_lower : Partial → Bool
 is_free_lower p = elim p [ whole v ↦ false | _ ↦ true ]
 
--- words are an alternative if no malformed one is first, or some comparator of them counts
-abbrev pub stands : Bool → Bool → List ℕ → List Comparison → Bool
-stands loose include text cs = not (loose && begins_malformed text) || list_any (counts include) cs
-
 -- an alternative: nothing, a hyphen range or words
 pub data IsAlternative (loose include : Bool) : List ℕ → List Comparison → Type 0 where
   nothing : IsAlternative loose include [] []
@@ -181,16 +174,15 @@ pub data IsAlternative (loose include : Bool) : List ℕ → List Comparison →
       → AreEndMarks loose (is_free_upper include q) b → IsPartial loose y q
       → IsAlternative loose include (a ++ (x ++ (blank ++ (codes "-" ++ (gap ++ (b ++ y))))))
       (hyphen_lower include p (a ++ x) ++ hyphen_upper include q (b ++ y))
-  words : (x : List ℕ) (cs : List Comparison) → AreWords loose include x cs → stands loose include x cs ≡ true
-      → IsAlternative loose include x cs
+  words : (x : List ℕ) (cs : List Comparison) → AreWords loose include x cs → IsAlternative loose include x cs
 
--- the alternatives between bars, each without the whitespace around it. Loosely a malformed word alone is
--- none.
+-- loosely words without comparators are no alternative if the first and the last one are malformed
+abbrev pub is_lost : Bool → List ℕ → List Comparison → Bool
+is_lost loose text cs = loose && (is_empty cs && (begins_malformed text && ends_malformed text))
+
+-- the alternatives between bars, each without the whitespace around it
 pub data AreAlternatives (loose include : Bool) : List (List ℕ) → List (List Comparison) → Type 0 where
   none : AreAlternatives loose include [] []
-  lost : (piece text : List ℕ) (others : List (List ℕ)) (rest : List (List Comparison)) → loose ≡ true
-      → IsTrim piece text → is_malformed text ≡ true → AreAlternatives loose include others rest
-      → AreAlternatives loose include (piece ∷ others) rest
   next : (piece text : List ℕ) (others : List (List ℕ)) (cs : List Comparison) (rest : List (List Comparison))
       → IsTrim piece text → IsAlternative loose include text cs → AreAlternatives loose include others rest
-      → AreAlternatives loose include (piece ∷ others) (cs ∷ rest)
+      → AreAlternatives loose include (piece ∷ others) (if is_lost loose text cs then rest else cs ∷ rest)

@@ -1,5 +1,5 @@
 -- Statement: a range that is made simple for some versions.
-use Rattle.std.specs.Prelude.{Bool, false, List, [], ◌∷◌, filter, if◌then◌else◌}
+use Rattle.std.specs.Prelude.{false, List, [], ◌∷◌, filter, if◌then◌else◌}
 use Rattle.std.specs.List.{list_any}
 use Rattle.semver_core.specs.Cuts.{Span}
 use Rattle.semver_core.specs.Lists.{is_empty}

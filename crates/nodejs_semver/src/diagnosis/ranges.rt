@@ -149,9 +149,9 @@ impl<'a> Iterator for IgnoredWords<'a> {
 ///
 /// ```rust
 /// let mut words = ignored_words(">=1.0.0, <2.0.0");
-/// let kind = IgnoredKind::Malformed;
-/// assert_eq!(rt; words.next(), Some(IgnoredWord { start: 0, end: 8, kind }));
-/// assert_eq!(rt; words.next(), None);
+/// let (start, end, kind) = (0, 8, IgnoredKind::Malformed);
+/// assert!(rt; words.next() == Some(IgnoredWord { start, end, kind }));
+/// assert!(rt; words.next().is_none());
 /// ```
 pub fn ignored_words(text: &str) -> IgnoredWords<'_>
     // Exactly the ignored words of the text, in order.

@@ -136,10 +136,10 @@ fn flaw_within(text: &str) -> Option<VersionFlaw>
 /// and ignores a part of it where that is `Ignored`.
 ///
 /// ```rust
-/// assert_eq!(rt; version_flaw("1.2.3-rc.1"), None);
-/// assert_eq!(rt; version_flaw("5.0.0.9 oops"), Some(VersionFlaw::Ignored { at: 5 }));
-/// let digit = Expected::Digit;
-/// assert_eq!(rt; version_flaw("1.x"), Some(VersionFlaw::Expected { what: digit, at: 2 }));
+/// assert!(rt; version_flaw("1.2.3-rc.1").is_none());
+/// assert!(rt; version_flaw("5.0.0.9 oops") == Some(VersionFlaw::Ignored { at: 5 }));
+/// let what = Expected::Digit;
+/// assert!(rt; version_flaw("1.x") == Some(VersionFlaw::Expected { what, at: 2 }));
 /// ```
 #[tactic(auto, using(crate::proofs::Diagnosing::Flaws::flaws_decided))]
 pub fn version_flaw(text: &str) -> Option<VersionFlaw>

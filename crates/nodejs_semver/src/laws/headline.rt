@@ -10,7 +10,8 @@ ghost use Rattle.semver_core.specs.Cuts.{Span};
 ghost use Rattle.semver_core.specs.Failures.{RefusedOnlyIf};
 ghost use Rattle.semver_core.specs.Values.Versions.{VersionValue};
 
-use crate::{Failure, MAX_SAFE_INTEGER, Range, SemverError, Version};
+use crate::{Failure, MAX_SAFE_INTEGER, Range, RangeOf, SemverError, Version};
+use semver_core::{VersionPoint, Versioned};
 use std::alloc::{AllocError, Global};
 
 /// What the public calls return for two texts. No range stands for the empty set.
@@ -127,8 +128,8 @@ pub fn headline_at(
 }
 
 // Whether there is a range that accepts the version, with pre-releases included.
-fn is_in(range: &Option<Range>, version: &Version) -> bool
-    ensures { result ≡ accepts (unwrap_or range.now []) version.now true }
+pub(super) fn is_in<V: VersionPoint, W: Versioned>(range: &Option<RangeOf<V>>, version: &W) -> bool
+    ensures { result ≡ accepts (unwrap_or range.now []) (W.value version.now) true }
 {
     match range {
         None => false,

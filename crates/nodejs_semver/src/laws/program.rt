@@ -12,7 +12,7 @@ ghost use Rattle.semver_core.specs.Text.Parsing.{Parses};
 ghost use Rattle.semver_core.specs.Values.Versions.{VersionValue};
 ghost use Rattle.semver_core.specs.declared.TheConstants.{MAX_SAFE_INTEGER};
 
-use crate::laws::headline::FindingsAt;
+use crate::laws::headline::{FindingsAt, is_in};
 use crate::{Failure, MAX_SAFE_INTEGER, RangeRef, SemverError, VersionRef};
 use semver_core::laws::one_reading;
 use std::alloc::{AllocError, Global};
@@ -48,9 +48,9 @@ pub fn headline_of_texts<'t>(
         → IsLeastOf (λ w. accepts list w false) found.least) }
 {
     one_reading(v);
+    let version = VersionRef::parse(v)?;
     let first = RangeRef::parse(alloc, a)?;
     let second = RangeRef::parse(alloc, b)?;
-    let version = VersionRef::parse(v)?;
     Ok(findings_at(alloc, &first, &second, &version)?)
 }
 
@@ -79,16 +79,6 @@ fn findings_at<'t>(
     })
 }
 
-// Whether there is a range that accepts the version, with pre-releases included.
-fn is_in(range: &Option<RangeRef<'_>>, version: &VersionRef<'_>) -> bool
-    ensures { result ≡ accepts (unwrap_or range.now []) version.now true }
-{
-    match range {
-        None => false,
-        Some(range) => range.satisfies_with_prerelease(version, true),
-    }
-}
-
 /// Whether the version of a version text is in the set that a range text writes, by the calls that
 /// the program makes. Of a range text that means one interval it always answers: no memory is
 /// taken, so that no premise on memory is left.
@@ -101,7 +91,7 @@ pub fn membership(alloc: Global, a: &str, v: &str) -> Result<bool, Failure<Semve
         ⊎ NoValue (Parses MAX_SAFE_INTEGER v.now)) }
 {
     one_reading(v);
-    let range = RangeRef::parse(alloc, a)?;
     let version = VersionRef::parse(v)?;
+    let range = RangeRef::parse(alloc, a)?;
     Ok(range.satisfies_with_prerelease(&version, true))
 }

@@ -1,34 +1,36 @@
 // What an alternative of a range text accepts: the interval that its comparators have in common.
 
 ghost use Rattle.std.specs.List.{list_all, list_any};
-ghost use Rattle.std.specs.Option.{option_to_list};
-ghost use Rattle.std.specs.Prelude.{◌≡◌, ◌+◌, ◌∷◌, [], Bool, not, true};
+ghost use Rattle.std.specs.Prelude.{◌≡◌, ◌+◌, ◌∷◌, ◌&&◌, [], Bool, IfSome, true};
 ghost use Rattle.nodejs_semver.specs.Internal.NpmAlternatives.{AcceptAsRanged, NarrowedBy};
 ghost use Rattle.nodejs_semver.specs.Internal.NpmAlternatives.{met, ranged};
 ghost use Rattle.nodejs_semver.specs.Internal.NpmMeaning.{IsNarrowed, is_unbounded};
-ghost use Rattle.nodejs_semver.specs.Internal.NpmParts.{are_normal, npm_partial_view};
+ghost use Rattle.nodejs_semver.specs.Internal.NpmParts.{are_normal, has_no_comparators};
+ghost use Rattle.nodejs_semver.specs.Internal.NpmParts.{is_wildcard, npm_partial_view};
 ghost use Rattle.nodejs_semver.specs.Internal.NpmParts.{npm_sign_view};
 ghost use Rattle.nodejs_semver.specs.Internal.Readings.{bounds_view};
 ghost use Rattle.nodejs_semver.specs.Internal.Sets.{is_range_span};
 ghost use Rattle.nodejs_semver.specs.Npm.Table.{hyphen_lower, hyphen_upper, table};
 ghost use Rattle.semver_core.specs.Cuts.{interval};
+ghost use Rattle.semver_core.specs.Lists.{is_empty};
 ghost use Rattle.semver_core.specs.Values.Order.{precedence};
 ghost use Rattle.semver_core.specs.declared.TheConstants.{MAX_SAFE_INTEGER};
 
 use crate::npm::comparators::{lower_end, row, upper_end};
 use crate::npm::partial::{Partial, Sign};
 use crate::range::{Intervals, RangeRef};
-use crate::readers::{Bounds, lowest};
+use crate::readers::{Bounds, Comparator, lowest};
 use semver_core::VersionRef;
 use semver_core::cuts::{Bound, Interval};
 use smallvec::SmallVec;
 use std::alloc::Global;
 
 /// What the comparators that were read so far have in common; no interval where their cuts do not
-/// meet.
+/// meet. It is bare if there were none.
 #[derive(Drop)]
 pub(crate) struct Alternative<'a> {
     interval: Option<Interval<VersionRef<'a>>>,
+    is_bare: bool,
 }
 
 // What two intervals have in common.
@@ -42,13 +44,34 @@ fn common<'a>(
     first?.into_intersection(second?).ok()
 }
 
+// Whether a partial is a wildcard.
+#[inline(always)]
+fn is_wildcard(partial: &Partial<'_>) -> bool
+    ensures { result ≡ is_wildcard (npm_partial_view partial.now) }
+{
+    matches!(partial, Partial::Wildcard)
+}
+
+// Whether a word of a sign and a partial has no comparators.
+#[inline(always)]
+fn has_no_comparators(sign: Sign, partial: &Partial<'_>) -> bool
+    ensures { result ≡ has_no_comparators (npm_sign_view sign) (npm_partial_view partial.now) }
+{
+    match sign {
+        Sign::Compared(Comparator::Above | Comparator::Below) => false,
+        _ => is_wildcard(partial),
+    }
+}
+
 impl<'a> Alternative<'a> {
     /// No comparator was read yet.
     pub(crate) fn all() -> Alternative<'a>
-        ensures { (include : Bool) → IsNarrowed include [] result.interval }
+        ensures narrowed { (include : Bool) → IsNarrowed include [] result.interval }
+        ensures bare { result.is_bare ≡ true }
     {
         Alternative {
             interval: Some(Interval::default()),
+            is_bare: true,
         }
     }
 
@@ -63,10 +86,13 @@ impl<'a> Alternative<'a> {
         text: &[u8],
     ) -> Option<Alternative<'a>>
         requires { are_normal (npm_partial_view partial.now) ≡ true }
-        ensures { let row = table include (npm_sign_view sign) (npm_partial_view partial.now) in
+        ensures narrowed { let row = table include (npm_sign_view sign) (npm_partial_view partial.now) in
             NarrowedBy include self.entry.interval (row text.now) result }
+        ensures bare { let row = table include (npm_sign_view sign) (npm_partial_view partial.now) in
+            IfSome result (λ a. a.is_bare ≡ (self.entry.is_bare && is_empty (row text.now))) }
     {
-        Some(self.narrow(row(include, sign, partial, text)?))
+        let is_bare = has_no_comparators(sign, partial);
+        Some(self.narrow(row(include, sign, partial, text)?, is_bare))
     }
 
     /// The same with the lower end of a hyphen range.
@@ -78,10 +104,13 @@ impl<'a> Alternative<'a> {
         text: &[u8],
     ) -> Option<Alternative<'a>>
         requires { are_normal (npm_partial_view partial.now) ≡ true }
-        ensures { let p = npm_partial_view partial.now in
+        ensures narrowed { let p = npm_partial_view partial.now in
             NarrowedBy include self.entry.interval (hyphen_lower include p text.now) result }
+        ensures bare { let p = npm_partial_view partial.now in IfSome result (λ a.
+            a.is_bare ≡ (self.entry.is_bare && is_empty (hyphen_lower include p text.now))) }
     {
-        Some(self.narrow(lower_end(include, partial, text)?))
+        let is_bare = is_wildcard(partial);
+        Some(self.narrow(lower_end(include, partial, text)?, is_bare))
     }
 
     /// The same with the upper end of a hyphen range.
@@ -93,30 +122,33 @@ impl<'a> Alternative<'a> {
         text: &[u8],
     ) -> Option<Alternative<'a>>
         requires { are_normal (npm_partial_view partial.now) ≡ true }
-        ensures { let p = npm_partial_view partial.now in
+        ensures narrowed { let p = npm_partial_view partial.now in
             NarrowedBy include self.entry.interval (hyphen_upper include p text.now) result }
+        ensures bare { let p = npm_partial_view partial.now in IfSome result (λ a.
+            a.is_bare ≡ (self.entry.is_bare && is_empty (hyphen_upper include p text.now))) }
     {
-        Some(self.narrow(upper_end(include, partial, text)?))
+        let is_bare = is_wildcard(partial);
+        Some(self.narrow(upper_end(include, partial, text)?, is_bare))
     }
 
-    // The same with bounds that more comparators have in common.
+    // The same with bounds that more comparators have in common, or that none has.
     #[inline(always)]
-    fn narrow(self, bounds: Bounds<'a>) -> Alternative<'a>
-        ensures { result.interval
+    fn narrow(self, bounds: Bounds<'a>, is_bare: bool) -> Alternative<'a>
+        ensures bounds { result.interval
             ≡ met self.entry.interval (interval precedence (bounds_view bounds.entry)) }
+        ensures bare { result.is_bare ≡ (self.entry.is_bare && is_bare) }
     {
-        let interval = common(self.interval, Interval::new(bounds.lower, bounds.upper));
-        Alternative { interval }
+        Alternative {
+            interval: common(self.interval, Interval::new(bounds.lower, bounds.upper)),
+            is_bare: self.is_bare && is_bare,
+        }
     }
 
-    /// Whether some comparator counts: there is an interval with bounds, or the cuts do not meet.
-    pub(crate) fn counts(&self) -> bool
-        ensures { result ≡ not (list_any is_unbounded (option_to_list self.now.interval)) }
+    /// Whether no comparator was read.
+    pub(crate) fn is_bare(&self) -> bool
+        ensures { result ≡ self.now.is_bare }
     {
-        match &self.interval {
-            Some(interval) => !is_unbounded(interval),
-            None => true,
-        }
+        self.is_bare
     }
 
     /// The interval, where the cuts meet.

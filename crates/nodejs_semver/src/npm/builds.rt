@@ -17,9 +17,9 @@ use std::cmp::Ordering;
 /// 1.0.0+1.a, and 1.0.0+01 ties with both. Here `+01` is the number 1.
 ///
 /// ```rust
-/// let one = Version::parse(alloc, "1.0.0+9")?;
-/// let other = Version::parse(alloc, "1.0.0+10")?;
-/// assert_eq!(rt; npm::cmp_build(&one, &other), Ordering::Less);
+/// let one = VersionRef::parse("1.0.0+9")?;
+/// let other = VersionRef::parse("1.0.0+10")?;
+/// assert!(rt; npm::cmp_build(&one, &other) == Ordering::Less);
 /// ```
 pub fn cmp_build<V: Versioned, W: Versioned>(version: &V, other: &W) -> Ordering
     ensures { result ≡ build_order (V.value version.now) (W.value other.now) }

@@ -158,7 +158,7 @@ fn release(zeros: bool, tuple: &[u8]) -> Option<VersionRef<'_>>
 /// text may have any length, and is read once; nothing is allocated.
 ///
 /// ```rust
-/// assert_eq!(rt; npm::coerce("node-20.11 (LTS)"), Some(VersionRef::parse("20.11.0")?));
+/// assert!(rt; npm::coerce("node-20.11 (LTS)") == VersionRef::parse("20.11.0").ok());
 /// assert!(rt; npm::coerce("01.2").is_none());
 /// ```
 #[tactic(auto, using(crate::proofs::NpmTexts::Coerced::lefts))]
@@ -188,7 +188,7 @@ pub fn coerce_loose(text: &str) -> Option<VersionRef<'_>>
 /// three that end last. `coerce_rtl("1.2.3.4")` is 2.3.4.
 ///
 /// ```rust
-/// assert_eq!(rt; npm::coerce_rtl("app-2 1.4.0"), Some(VersionRef::parse("1.4.0")?));
+/// assert!(rt; npm::coerce_rtl("app-2 1.4.0") == VersionRef::parse("1.4.0").ok());
 /// ```
 #[tactic(auto, using(crate::proofs::NpmTexts::Coerced::rights))]
 pub fn coerce_rtl(text: &str) -> Option<VersionRef<'_>>

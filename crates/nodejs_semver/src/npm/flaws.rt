@@ -274,11 +274,11 @@ fn stop(text: &str) -> Option<(Wrong, usize)>
 /// `1.2.3-01` the end, since `1.2.3-01a` is a version.
 ///
 /// ```rust
-/// assert_eq!(rt; npm::version_flaw(" v1.2.3-rc.1 "), None);
-/// let wrong = Wrong::LeadingZero;
-/// assert_eq!(rt; npm::version_flaw("1.02.3"), Some(Flaw::At { wrong, at: 3 }));
-/// let wrong = Wrong::MissingHyphen;
-/// assert_eq!(rt; npm::version_flaw("1.2.3beta"), Some(Flaw::At { wrong, at: 5 }));
+/// assert!(rt; npm::version_flaw(" v1.2.3-rc.1 ").is_none());
+/// let (wrong, at) = (Wrong::LeadingZero, 3);
+/// assert!(rt; npm::version_flaw("1.02.3") == Some(Flaw::At { wrong, at }));
+/// let (wrong, at) = (Wrong::MissingHyphen, 5);
+/// assert!(rt; npm::version_flaw("1.2.3beta") == Some(Flaw::At { wrong, at }));
 /// ```
 #[tactic(auto, using(crate::proofs::Stopping::Stops::flaws))]
 pub fn version_flaw(text: &str) -> Option<Flaw>

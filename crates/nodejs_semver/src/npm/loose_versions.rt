@@ -124,8 +124,7 @@ fn whole_version(text: &[u8]) -> Option<VersionRef<'_>>
 /// version borrows the text: nothing is allocated.
 ///
 /// ```rust
-/// let beta = npm::version_loose("= v1.02.3beta")?;
-/// assert_eq!(rt; beta, VersionRef::parse("1.2.3-beta")?);
+/// assert!(rt; npm::version_loose("= v1.02.3beta") == VersionRef::parse("1.2.3-beta"));
 /// assert!(rt; npm::version_loose("1.2.3, the second beta").is_err());
 /// ```
 pub fn version_loose(text: &str) -> Result<VersionRef<'_>, SemverError>

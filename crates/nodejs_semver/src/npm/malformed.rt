@@ -1,16 +1,26 @@
 // The malformed words of range texts that node-semver's loose reading ignores.
 
 ghost use Rattle.std.specs.List.{list_all, prefix_len};
-ghost use Rattle.std.specs.Prelude.{◌≡◌, ◌≤◌, length, true};
-ghost use Rattle.nodejs_semver.specs.Internal.NpmWords.{is_lost};
+ghost use Rattle.std.specs.Prelude.{◌≡◌, ◌≤◌, ◌&&◌, ◌||◌, ◌-◌, codes, drop, length};
+ghost use Rattle.std.specs.Prelude.{not, true};
+ghost use Rattle.std.specs.Str.{bytes_eq};
 ghost use Rattle.nodejs_semver.specs.Npm.Malformed as Text;
+ghost use Rattle.semver_core.specs.Lists.{is_empty};
+ghost use Rattle.semver_core.specs.Text.Characters.{begins};
+
+#[inline(always)]
+fn is_visible(byte: u8) -> bool
+    ensures { result ≡ Text.is_visible byte }
+{
+    matches!(byte, b'!'..=b'~')
+}
 
 // Whether a character may stand in such a word.
 #[inline(always)]
 fn is_plain(byte: u8) -> bool
     ensures { result ≡ Text.is_plain byte }
 {
-    matches!(byte, b'!'..=b'~') && byte != b'*' && byte != b'|'
+    is_visible(byte) && byte != b'*'
 }
 
 // Whether a character is of a sign.
@@ -59,17 +69,61 @@ fn are_inner(word: &[u8]) -> bool
     word.iter().all(|byte| is_inner(*byte))
 }
 
+// The text behind its first dot.
+#[tactic(auto, using(crate::proofs::Strict::Malformed::dots))]
+fn after_dot(text: &[u8]) -> &[u8]
+    ensures { result.now ≡ Text.after_dot text.now }
+{
+    'bytes: for at in 0..text.len() {
+        if text[at] == b'.' {
+            return &text[at + 1..];
+        }
+    }
+    b""
+}
+
+// Whether a word has four parts between dots, of which the third is one character.
+fn has_four_parts(word: &[u8]) -> bool
+    ensures { result ≡ Text.has_four_parts word.now }
+{
+    matches!(after_dot(after_dot(word)), [_, b'.', ..])
+}
+
+// Whether a text is `-` alone, or nothing.
+fn is_dash(word: &[u8]) -> bool
+    ensures { result ≡ (is_empty word.now || bytes_eq word.now (codes "-")) }
+{
+    matches!(word, [] | [b'-'])
+}
+
+// Whether its last character is of a sign.
+fn ends_in_sign(word: &[u8]) -> bool
+    ensures { result ≡ begins Text.is_sign (drop (length word.now - 1) word.now) }
+{
+    let last = &word[word.len().saturating_sub(1)..];
+    matches!(last, [sign, ..] if is_sign(*sign))
+}
+
+// Whether a word begins as well-formed ones do, and has no other characters than they have.
+fn is_regular(word: &[u8]) -> bool
+    ensures { result ≡ (begins Text.is_first word.now && list_all Text.is_inner word.now) }
+{
+    matches!(word, [first, ..] if is_first(*first)) && are_inner(word)
+}
+
+fn is_misfit(word: &[u8]) -> bool
+    ensures { result ≡ (Text.has_four_parts word.now
+        || not (begins Text.is_first word.now && list_all Text.is_inner word.now)) }
+{
+    has_four_parts(word) || !is_regular(word)
+}
+
 // Whether such characters are a malformed word.
 fn is_malformed(word: &[u8]) -> bool
     requires { list_all Text.is_plain word.now ≡ true }
     ensures { result ≡ Text.is_malformed word.now }
 {
-    let last = &word[word.len().saturating_sub(1)..];
-    match word {
-        [] | [b'-', ..] => false,
-        _ if matches!(last, [sign, ..] if is_sign(*sign)) => false,
-        [first, ..] => !is_first(*first) || !are_inner(word),
-    }
+    !is_dash(word) && !ends_in_sign(word) && is_misfit(word)
 }
 
 // Whether all characters may stand in such a word.
@@ -80,11 +134,24 @@ fn are_plain(text: &[u8]) -> bool
     text.iter().all(|byte| is_plain(*byte))
 }
 
-/// Whether a text is a malformed word, and is ignored.
-pub(crate) fn is_lost(loose: bool, text: &[u8]) -> bool
-    ensures { result ≡ is_lost loose text.now }
+// The visible characters at the end.
+#[tactic(auto, using(crate::proofs::Strict::Malformed::last_runs))]
+fn last_visible(text: &[u8]) -> &[u8]
+    ensures { result.now ≡ Text.last_visible text.now }
 {
-    loose && are_plain(text) && is_malformed(text)
+    let mut start = text.len();
+    'visible: while start > 0 && is_visible(text[start - 1]) {
+        start -= 1;
+    }
+    &text[start..]
+}
+
+/// Whether a malformed word stands at the end.
+pub(crate) fn ends_malformed(text: &[u8]) -> bool
+    ensures { result ≡ Text.ends_malformed text.now }
+{
+    let last = last_visible(text);
+    are_plain(last) && is_malformed(last)
 }
 
 /// Whether a malformed word stands at the front.

@@ -1,25 +1,23 @@
 // The reader of range texts as node-semver has them, strictly or loosely.
 
-ghost use Rattle.std.specs.Prelude.{◌≡◌, ◌<◌, ℕ, Bool, IfOk, List, None, OnOk, Option, length};
-ghost use Rattle.std.specs.Prelude.{false, true};
+ghost use Rattle.std.specs.Prelude.{◌≡◌, ◌<◌, ◌&&◌, ℕ, IfOk, List, None, length, true};
 ghost use Rattle.std.specs.Str.{IsUtf8};
 ghost use Rattle.nodejs_semver.specs.Internal.NpmReads.{IsFound, valid_alternative, valid_hyphen};
 ghost use Rattle.nodejs_semver.specs.Internal.NpmReads.{words_of};
-ghost use Rattle.nodejs_semver.specs.Internal.NpmReads.{Adds, AddsPart, AreAllFound, valid_range};
-ghost use Rattle.nodejs_semver.specs.Internal.NpmWords.{is_lost, standing};
+ghost use Rattle.nodejs_semver.specs.Internal.NpmReads.{AddsPart, AreAllFound, valid_range};
 ghost use Rattle.nodejs_semver.specs.Internal.Parts.{parts};
+ghost use Rattle.nodejs_semver.specs.Npm.Malformed.{begins_malformed, ends_malformed};
 ghost use Rattle.nodejs_semver.specs.Npm.Ranges.{HasAlternatives, HasAlternativesIn};
 ghost use Rattle.nodejs_semver.specs.Npm.Ranges.{IsRangeIn, IsRangeOf};
 ghost use Rattle.nodejs_semver.specs.Npm.Table.{Comparison};
 ghost use Rattle.nodejs_semver.specs.Text.Bars.{IsCutAtBars};
-ghost use Rattle.semver_core.specs.Internal.Reading.{◌>>?◌};
 ghost use Rattle.semver_core.specs.Failures.{MemoryOnlyIf, NoValue, RefusedOnlyIf};
 ghost use Rattle.semver_core.specs.declared.TheConstants.{MAX_SAFE_INTEGER};
 
 use crate::RangeRef;
 use crate::npm::alternatives::{Alternative, range_of};
 use crate::npm::hyphens::hyphen_ends;
-use crate::npm::malformed::{begins_malformed, is_lost};
+use crate::npm::malformed::{begins_malformed, ends_malformed};
 use crate::npm::words::word_front;
 use crate::range::Intervals;
 use crate::readers::{Found, next_part, skip_spaces};
@@ -44,18 +42,6 @@ fn words(loose: bool, include: bool, text: &[u8]) -> Option<Alternative<'_>>
     }
 }
 
-// The alternative of the words of a text, unless a malformed one is first and no comparator counts.
-fn standing<'a>(loose: bool, text: &[u8], found: Option<Alternative<'a>>) -> Option<Alternative<'a>>
-    ensures { (include : Bool) → (all : Option (List Comparison)) → IsFound include all found.entry
-        → IsFound include (all >>? λ cs. standing loose include text.now cs) result }
-{
-    let found = found?;
-    if loose && begins_malformed(text) && !found.counts() {
-        return None;
-    }
-    Some(found)
-}
-
 // The alternative of a hyphen range.
 fn hyphen(loose: bool, include: bool, text: &[u8]) -> Option<Alternative<'_>>
     ensures { IsFound include (valid_hyphen loose include text.now) result }
@@ -73,35 +59,23 @@ pub(crate) fn alternative(loose: bool, include: bool, text: &[u8]) -> Option<Alt
     if text.is_empty() {
         return Some(Alternative::all());
     }
-    match standing(loose, text, words(loose, include, text)) {
+    match words(loose, include, text) {
         Some(found) => Some(found),
         None => hyphen(loose, include, text),
     }
 }
 
-// Adds the interval of the alternative that a text is, where its cuts meet.
-fn add_alternative<'a>(
-    loose: bool,
-    include: bool,
-    text: &'a str,
-    found: &mut Intervals<VersionRef<'a>>,
-) -> Result<(), Failure<SemverError>>
-    ensures added { OnOk result
-        (Adds include (valid_alternative loose include text.now) found.old.items found.new.items) }
-    ensures refused { RefusedOnlyIf result (valid_alternative loose include text.now ≡ None) }
-    ensures memory { MemoryOnlyIf result (0 < length found.old.items) }
+// Whether words without comparators are no alternative, as the first and the last one are
+// malformed.
+fn is_lost(loose: bool, text: &[u8], read: &Alternative<'_>) -> bool
+    ensures { result ≡ (loose
+        && (read.now.is_bare && (begins_malformed text.now && ends_malformed text.now))) }
 {
-    let Some(read) = alternative(loose, include, text.as_bytes()) else {
-        return Err(Failure::Refused(SemverError));
-    };
-    if let Some(interval) = read.interval() {
-        found.add(interval)?;
-    }
-    Ok(())
+    loose && read.is_bare() && begins_malformed(text) && ends_malformed(text)
 }
 
-// The same of a part of the text, which may be a malformed word alone. Returns whether this part or
-// one before it is an alternative.
+// Adds the interval of the alternative that a part of the text is, where its cuts meet, unless it
+// is lost. Returns whether this part or one before it is an alternative.
 fn add_part<'a>(
     loose: bool,
     include: bool,
@@ -109,16 +83,20 @@ fn add_part<'a>(
     is_some: bool,
     found: &mut Intervals<VersionRef<'a>>,
 ) -> Result<bool, Failure<SemverError>>
-    ensures added { IfOk result (λ some. AddsPart include (is_lost loose text.now)
+    ensures added { IfOk result (λ some. AddsPart loose include text.now
         (valid_alternative loose include text.now) is_some some found.old.items found.new.items) }
-    ensures refused { RefusedOnlyIf result ((is_lost loose text.now ≡ false)
-        × (valid_alternative loose include text.now ≡ None)) }
+    ensures refused { RefusedOnlyIf result (valid_alternative loose include text.now ≡ None) }
     ensures memory { MemoryOnlyIf result (0 < length found.old.items) }
 {
-    if is_lost(loose, text.as_bytes()) {
+    let Some(read) = alternative(loose, include, text.as_bytes()) else {
+        return Err(Failure::Refused(SemverError));
+    };
+    if is_lost(loose, text.as_bytes(), &read) {
         return Ok(is_some);
     }
-    add_alternative(loose, include, text, found)?;
+    if let Some(interval) = read.interval() {
+        found.add(interval)?;
+    }
     Ok(true)
 }
 
@@ -185,8 +163,9 @@ fn read_range(
 /// of two alternatives or more.
 ///
 /// ```rust
+/// let version = VersionRef::parse("3.1.4")?;
 /// let range = npm::range(alloc, ">=1.0.0 <2 || ~3.1", false)?;
-/// assert!(rt; range.satisfies(&VersionRef::parse("3.1.4")?));
+/// assert!(rt; range.satisfies(&version));
 /// assert!(rt; npm::range(alloc, ">=1.0.0, <2.0.0", false).is_err());
 /// ```
 pub fn range(
@@ -209,23 +188,23 @@ pub fn range(
 /// Reads a range text as node-semver's `Range` does by its option `loose`, as `npm ls` reads the
 /// ranges of dependencies: all that [`range`] reads, and also numbers with leading zeros
 /// (`^01.2.3`), a pre-release without its `-` (`1.2.3beta`), and more marks than one `v` before a
-/// version (`==1.2.3`). It ignores a malformed word beside others if that does not begin as a word
-/// does or has a character that stands in none: `>=1.0.0, <2.0.0` is `<2.0.0`, `foo 1.2` is `1.2`,
-/// and `latest || 1` is `1`.
+/// version (`==1.2.3`). It ignores a malformed word if that does not begin as a word does, has a
+/// character that stands in none, or has four parts, as in `1.2.3.4`: `>=1.0.0, <2.0.0` is
+/// `<2.0.0`, and `foo 1.2` is `1.2`. Words without comparators are no alternative if the first and
+/// the last one are malformed: `latest || 1` is `1`, and `foo *` is `*`.
 ///
 /// What it reads means what it means to node-semver. It rejects more than node-semver does: a text
-/// with another malformed word, such as `1.2.3.4`, `1.0/2*`, `foo=` or a single `-`, which
-/// node-semver ignores where another word is well formed; an alternative of several words that
-/// begins with a malformed one and in which no comparator counts (`foo *`, or `foo bar` in
-/// `foo bar || 1`); zero as several digits (`1.00.0`); a number of more than 32 digits; a
-/// pre-release of more than 128 characters, or without its `-` where it does not begin with a
-/// letter; and whitespace among the marks of a whole version in a hyphen range.
+/// with another malformed word, such as `1.2-`, `1.0/2*`, `foo=` or a single `-`, which node-semver
+/// ignores where another word is well formed; zero as several digits (`1.00.0`); a number of more
+/// than 32 digits; a pre-release of more than 128 characters, or without its `-` where it does not
+/// begin with a letter; and whitespace among the marks of a whole version in a hyphen range.
 ///
 /// All else is as for [`range`]: how to ask the range, what it borrows and when allocation fails.
 ///
 /// ```rust
-/// let beta = npm::range_loose(alloc, "==1.2.3beta || ^02.1", false)?;
-/// assert!(rt; beta.satisfies(&VersionRef::parse("1.2.3-beta")?));
+/// let version = VersionRef::parse("1.2.3-beta")?;
+/// let range = npm::range_loose(alloc, "==1.2.3beta || ^02.1", false)?;
+/// assert!(rt; range.satisfies(&version));
 /// assert!(rt; npm::range(alloc, "==1.2.3beta || ^02.1", false).is_err());
 /// ```
 pub fn range_loose(

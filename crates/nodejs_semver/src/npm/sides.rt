@@ -11,8 +11,9 @@ use semver_core::{VersionPoint, Versioned};
 /// whether pre-releases are included. node-semver's answers differ where it drops `>=0.0.0`.
 ///
 /// ```rust
+/// let version = VersionRef::parse("2.0.0")?;
 /// let range = Range::parse(alloc, "^1.2")?;
-/// assert!(rt; npm::gtr(&Version::from((2u64, 0, 0)), &range, false));
+/// assert!(rt; npm::gtr(&version, &range, false));
 /// ```
 pub fn gtr<V: VersionPoint, W: Versioned>(
     version: &W,
@@ -32,8 +33,9 @@ pub fn gtr<V: VersionPoint, W: Versioned>(
 /// whether pre-releases are included.
 ///
 /// ```rust
+/// let version = VersionRef::parse("1.1.9")?;
 /// let range = Range::parse(alloc, "^1.2")?;
-/// assert!(rt; npm::ltr(&Version::from((1u64, 1, 9)), &range, false));
+/// assert!(rt; npm::ltr(&version, &range, false));
 /// ```
 pub fn ltr<V: VersionPoint, W: Versioned>(
     version: &W,

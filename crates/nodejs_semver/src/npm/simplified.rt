@@ -28,9 +28,10 @@ impl<V: VersionPoint> RangeOf<V> {
     /// the empty text, which accepts 1.0.0.
     ///
     /// ```rust
+    /// let versions = [VersionRef::parse("2.1.0")?];
     /// let range = Range::parse(alloc, "^1 || ^2 || ^3")?;
-    /// let simple = range.simplify(alloc, &[Version::from((2u64, 1, 0))])?;
-    /// assert_eq!(rt; simple, Range::parse(alloc, "^2")?);
+    /// let simple = range.simplify(alloc, &versions).ok();
+    /// assert!(rt; simple == Range::parse(alloc, "^2").ok());
     /// ```
     ///
     /// Time grows with the number of intervals times that of the versions.

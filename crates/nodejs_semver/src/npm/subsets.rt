@@ -21,7 +21,7 @@ impl<V: VersionPoint> RangeOf<V> {
     /// ```rust
     /// let narrow = Range::parse(alloc, ">=1 <3")?;
     /// let wide = Range::parse(alloc, "1 || 2")?;
-    /// assert!(rt; narrow.is_subset(alloc, &wide)?);
+    /// assert!(rt; narrow.is_subset(alloc, &wide) == Ok(true));
     /// ```
     pub fn is_subset<W: VersionPoint>(
         &self,

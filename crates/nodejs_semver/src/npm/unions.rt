@@ -31,8 +31,9 @@ impl<V: VersionPoint> RangeOf<V> {
     ///
     /// ```rust
     /// let one = Range::parse(alloc, "^1.2")?;
-    /// let either = one.union(alloc, &Range::parse(alloc, ">=2.0.0-rc.1 || ~1.4")?)?;
-    /// assert_eq!(rt; either, Range::parse(alloc, "^1.2 || >=2.0.0-rc.1 || ~1.4")?);
+    /// let other = Range::parse(alloc, ">=2.0.0-rc.1 || ~1.4")?;
+    /// let either = Range::parse(alloc, "^1.2 || >=2.0.0-rc.1 || ~1.4").ok();
+    /// assert!(rt; one.union(alloc, &other).ok() == either);
     /// ```
     ///
     /// As measured, time grows with the number of intervals of one times that of the other.

@@ -139,8 +139,7 @@ pub(crate) fn is_short(text: &str) -> bool
 /// whitespace around the version counted. The version borrows the text: nothing is allocated.
 ///
 /// ```rust
-/// let beta = npm::version(" v1.2.3-beta.1 ")?;
-/// assert_eq!(rt; beta, VersionRef::parse("1.2.3-beta.1")?);
+/// assert!(rt; npm::version(" v1.2.3-beta.1 ") == VersionRef::parse("1.2.3-beta.1"));
 /// assert!(rt; npm::version("1.2.03").is_err());
 /// assert!(rt; npm::version("1.2.3, the second beta").is_err());
 /// ```
@@ -174,7 +173,7 @@ fn unmarked(text: &str) -> &str
 /// node-semver returns the version as a text without its build metadata.
 ///
 /// ```rust
-/// assert_eq!(rt; npm::clean(" =v1.2.3 ")?, VersionRef::parse("1.2.3")?);
+/// assert!(rt; npm::clean(" =v1.2.3 ") == VersionRef::parse("1.2.3"));
 /// assert!(rt; npm::version(" =v1.2.3 ").is_err());
 /// assert!(rt; npm::clean("=1.2.03").is_err());
 /// ```

@@ -25,9 +25,9 @@ impl<V: VersionPoint> RangeOf<V> {
     ///
     /// ```rust
     /// let one = Range::parse(alloc, ">=1.2.3-a")?;
-    /// let both = one.intersect(alloc, &Range::parse(alloc, ">=1.0.0")?)?;
+    /// let other = Range::parse(alloc, ">=1.0.0")?;
     /// // It accepts 1.2.3-a, which the second range does not accept.
-    /// assert_eq!(rt; both, Some(Range::parse(alloc, ">=1.2.3-a")?));
+    /// assert!(rt; one.intersect(alloc, &other) == Ok(Some(one)));
     /// ```
     ///
     /// The list is not normalised: n intervals and m others make at most n times m intervals, and
@@ -73,8 +73,9 @@ impl<V: VersionPoint> RangeOf<V> {
     ///
     /// ```rust
     /// let one = Range::parse(alloc, "^1.2")?;
-    /// let left = one.difference(alloc, &Range::parse(alloc, "1.5.0")?)?;
-    /// assert_eq!(rt; left, Some(Range::parse(alloc, ">=1.2.0 <1.5.0 || >1.5.0 <2.0.0-0")?));
+    /// let other = Range::parse(alloc, "1.5.0")?;
+    /// let left = Range::parse(alloc, ">=1.2.0 <1.5.0 || >1.5.0 <2.0.0-0").ok();
+    /// assert!(rt; one.difference(alloc, &other) == Ok(left));
     /// ```
     ///
     /// Each interval of this range is left in as many pieces as the other's have gaps in it: n
@@ -114,8 +115,18 @@ impl<V: VersionPoint> RangeOf<V> {
         ensures list { IfOk result (λ r. r ≡ intersection self.now other.now) }
         ensures memory { OnErr result (IsTrue (is_some (intersection self.now other.now))) }
     {
+        let (these, others) = (self.items(), other.items());
+        if these.len() == 1 && others.len() == 1 {
+            let (one, another) = (&these[0], &others[0]);
+            if !one.meets(another) {
+                return Ok(None);
+            }
+            let mut found = SmallVec::new(alloc);
+            interval_lists::push_common(alloc, &mut found, one, another, 1)?;
+            return Ok(RangeOf::from_intervals(found));
+        }
         let mut found = SmallVec::new(alloc);
-        interval_lists::push_all_intersections(alloc, &mut found, self.items(), other.items())?;
+        interval_lists::push_all_intersections(alloc, &mut found, these, others)?;
         Ok(RangeOf::from_intervals(found))
     }
 

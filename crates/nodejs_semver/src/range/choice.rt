@@ -18,9 +18,9 @@ impl<V: VersionPoint> RangeOf<V> {
     /// accepted by all; of no ranges it is the greatest version. Of equal versions it is the last.
     ///
     /// ```rust
+    /// let versions = [VersionRef::parse("1.3.0")?, VersionRef::parse("1.5.0")?];
     /// let ranges = [Range::parse(alloc, "^1.2")?, Range::parse(alloc, "<1.4")?];
-    /// let versions = [Version::from((1u64, 3, 0)), Version::from((1u64, 5, 0))];
-    /// assert_eq!(rt; Range::max_satisfying_all(&ranges, &versions), Some(&versions[0]));
+    /// assert!(rt; Range::max_satisfying_all(&ranges, &versions) == Some(&versions[0]));
     /// ```
     pub fn max_satisfying_all<'v, W: Versioned>(
         ranges: &[RangeOf<V>],
@@ -43,8 +43,11 @@ impl<V: VersionPoint> RangeOf<V> {
 /// Returns `None` exactly where the list has no release. Of equal versions it is the last.
 ///
 /// ```rust
-/// let versions = [Version::from((1u64, 2, 0)), Version::parse(alloc, "2.0.0-rc.1")?];
-/// assert_eq!(rt; newest_release(&versions), Some(&versions[0]));
+/// let versions = [
+///     VersionRef::parse("1.2.0")?,
+///     VersionRef::parse("2.0.0-rc.1")?,
+/// ];
+/// assert!(rt; newest_release(&versions) == Some(&versions[0]));
 /// ```
 pub fn newest_release<W: Versioned>(versions: &[W]) -> Option<&W>
     ensures { IsMax is_release (map W.value versions.now) (option_map (λ v. W.value v.now) result) }

@@ -94,27 +94,29 @@ pub(crate) fn accepts_one<V: VersionPoint, W: Versioned>(
 
 // Whether the version lies past the cut of the lower bound.
 #[inline(always)]
+#[tactic(auto, using(crate::proofs::Values::past_named))]
 pub(crate) fn is_past_lower<V: Versioned, W: Versioned>(bound: &Bound<V>, version: &W) -> bool
     ensures { result
         ≡ is_past precedence (lower_cut (bound_of V.value bound.now)) (W.value version.now) }
 {
     match bound {
         Bound::Unbounded => true,
-        Bound::Before(v) => v.cmp_precedence(version).is_le(),
-        Bound::After(v) => v.cmp_precedence(version).is_lt(),
+        Bound::Before(v) => version.cmp_precedence(v).is_ge(),
+        Bound::After(v) => version.cmp_precedence(v).is_gt(),
     }
 }
 
 // Whether the version lies past the cut of the upper bound.
 #[inline(always)]
+#[tactic(auto, using(crate::proofs::Values::past_named))]
 pub(crate) fn is_past_upper<V: Versioned, W: Versioned>(bound: &Bound<V>, version: &W) -> bool
     ensures { result
         ≡ is_past precedence (upper_cut (bound_of V.value bound.now)) (W.value version.now) }
 {
     match bound {
         Bound::Unbounded => false,
-        Bound::Before(v) => v.cmp_precedence(version).is_le(),
-        Bound::After(v) => v.cmp_precedence(version).is_lt(),
+        Bound::Before(v) => version.cmp_precedence(v).is_ge(),
+        Bound::After(v) => version.cmp_precedence(v).is_gt(),
     }
 }
 

@@ -91,7 +91,7 @@ fn covers_one<V: Point>(interval: &Interval<V>, others: &[Interval<V>]) -> bool
     others.iter().any(|other| interval.covers(other))
 }
 
-// Puts what one interval has in common with each of the others at the end.
+// Puts what one interval has in common with each of the others at the end. Most pairs do not meet.
 fn push_intersections<V: Point>(
     alloc: Global,
     found: &mut Intervals<V>,
@@ -105,33 +105,16 @@ fn push_intersections<V: Point>(
         (0 < length (flat_map (λ t. option_to_list (meet V.cmp interval.now t)) others.now)) }
 {
     for other in others {
-        push_intersection(alloc, found, interval, other, others.len())?;
+        if interval.meets(other) {
+            push_common(alloc, found, interval, other, others.len())?;
+        }
     }
     Ok(())
 }
 
-// Puts what two intervals have in common at the end. Most pairs do not meet.
-#[inline(always)]
-fn push_intersection<V: Point>(
-    alloc: Global,
-    found: &mut Intervals<V>,
-    interval: &Interval<V>,
-    other: &Interval<V>,
-    room: usize,
-) -> Result<(), AllocError>
-    ensures items { OnOk result (found.new.items
-        ≡ found.old.items ++ option_to_list (meet V.cmp interval.now other.now)) }
-    ensures memory { OnErr result (IsTrue (is_some (meet V.cmp interval.now other.now))) }
-{
-    if !interval.meets(other) {
-        return Ok(());
-    }
-    push_common(alloc, found, interval, other, room)
-}
-
 // Out of the loop over the pairs, which then keeps no interval of its own.
 #[inline(never)]
-fn push_common<V: Point>(
+pub(crate) fn push_common<V: Point>(
     alloc: Global,
     found: &mut Intervals<V>,
     interval: &Interval<V>,
@@ -178,7 +161,7 @@ fn complement_of_few<V: Point>(
     let mut left = SmallVec::new(alloc);
     left.push_reserved(Interval::default());
     for interval in intervals {
-        let mut next = SmallVec::with_capacity(alloc, 4)?;
+        let mut next = SmallVec::new(alloc);
         push_remainders(alloc, &mut next, &left, interval)?;
         left = next;
     }

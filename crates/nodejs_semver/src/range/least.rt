@@ -27,8 +27,9 @@ use crate::RangeOf;
 use crate::range::choice::all_accept;
 use crate::range::gate::accepts;
 use crate::range::neighbours::{
-    bare, bare_release, first_pre, is_first_pre, owned, patch_after, pre_after, with_least_build,
+    bare, bare_release, first_pre, owned, patch_after, pre_after, with_least_build,
 };
+use crate::readers::{lowest, release};
 use semver_core::cuts::{Bound, Interval};
 use semver_core::{Version, VersionPoint, Versioned};
 use std::alloc::{AllocError, Global};
@@ -42,7 +43,7 @@ impl<V: VersionPoint> RangeOf<V> {
     ///
     /// ```rust
     /// let range = Range::parse(alloc, "^2.1 || ^1.2.3")?;
-    /// assert_eq!(rt; range.least_start(), Some(&Version::from((1u64, 2, 3))));
+    /// assert!(rt; range.least_start() == Some(&Version::from((1u64, 2, 3))));
     /// ```
     pub fn least_start(&self) -> Option<&V>
         ensures least { IfSome result (λ v.
@@ -77,8 +78,8 @@ impl<V: VersionPoint> RangeOf<V> {
     ///
     /// ```rust
     /// let range = Range::parse(alloc, ">1.0.0 <1.0.1-5")?;
-    /// let smallest = range.min_version(alloc)?;
-    /// assert_eq!(rt; smallest, Some(Version::parse(alloc, "1.0.1-0")?));
+    /// let smallest = Version::parse(alloc, "1.0.1-0").ok();
+    /// assert!(rt; range.min_version(alloc) == Ok(smallest));
     /// ```
     #[tactic(auto, using(crate::proofs::Choice::Raised::raisable))]
     pub fn min_version(&self, alloc: Global) -> Result<Option<Version>, AllocError>
@@ -116,8 +117,9 @@ impl<V: VersionPoint> RangeOf<V> {
     /// ```rust
     /// let wide = Range::parse(alloc, "^1")?;
     /// let narrow = Range::parse(alloc, "^1.2")?;
-    /// assert_eq!(rt; wide.least_beyond(alloc, &narrow)?, Some(Version::from((1u64, 0, 0))));
-    /// assert_eq!(rt; narrow.least_beyond(alloc, &wide)?, None);
+    /// let smallest = Some(Version::from((1u64, 0, 0)));
+    /// assert!(rt; wide.least_beyond(alloc, &narrow) == Ok(smallest));
+    /// assert!(rt; narrow.least_beyond(alloc, &wide) == Ok(None));
     /// ```
     #[tactic(auto, using(crate::proofs::Choice::Raised::raisable))]
     pub fn least_beyond<W: VersionPoint>(
@@ -150,9 +152,12 @@ impl<V: VersionPoint> RangeOf<V> {
     /// Time grows at most with the square of the number of intervals of all ranges.
     ///
     /// ```rust
-    /// let ranges = [Range::parse(alloc, ">=1.2.3-a")?, Range::parse(alloc, ">=1.0.0")?];
-    /// let least = Range::least_of_all(alloc, &ranges)?;
-    /// assert_eq!(rt; least, Some(Version::from((1u64, 2, 3))));
+    /// let ranges = [
+    ///     Range::parse(alloc, ">=1.2.3-a")?,
+    ///     Range::parse(alloc, ">=1.0.0")?,
+    /// ];
+    /// let least = Some(Version::from((1u64, 2, 3)));
+    /// assert!(rt; Range::least_of_all(alloc, &ranges) == Ok(least));
     /// ```
     #[tactic(auto, using(crate::proofs::Choice::Raised::raisable))]
     pub fn least_of_all(alloc: Global, ranges: &[RangeOf<V>]) -> Result<Option<Version>, AllocError>
@@ -190,10 +195,11 @@ impl<V: VersionPoint> RangeOf<V> {
     /// Time grows at most with the square of the number of intervals.
     ///
     /// ```rust
-    /// let none = Range::parse(alloc, ">1.0.0 <1.0.1-0")?.min_version_with_prerelease(alloc)?;
-    /// assert!(rt; none.is_none());
-    /// let first = Range::parse(alloc, ">1.0.0")?.min_version_with_prerelease(alloc)?;
-    /// assert_eq!(rt; first, Some(Version::parse(alloc, "1.0.1-0")?));
+    /// let range = Range::parse(alloc, ">1.0.0 <1.0.1-0")?;
+    /// assert!(rt; range.min_version_with_prerelease(alloc) == Ok(None));
+    /// let range = Range::parse(alloc, ">1.0.0")?;
+    /// let first = Version::parse(alloc, "1.0.1-0").ok();
+    /// assert!(rt; range.min_version_with_prerelease(alloc) == Ok(first));
     /// ```
     #[tactic(auto, using(crate::proofs::Choice::Raised::raisable))]
     pub fn min_version_with_prerelease(&self, alloc: Global) -> Result<Option<Version>, AllocError>
@@ -250,11 +256,7 @@ fn improves<V: VersionPoint, W: VersionPoint, C: Versioned>(
     ensures { result ≡ (spec.improves best.now (C.value version.now)
         && spec.wanted kept.now (spans_of W.value removed.now) (C.value version.now)) }
 {
-    let is_below = match best {
-        None => true,
-        Some(best) => version.cmp_precedence(best).is_lt(),
-    };
-    is_below && all_accept(kept, version) && !accepts(removed, version, false)
+    !is_reached(best, version) && all_accept(kept, version) && !accepts(removed, version, false)
 }
 
 // Whether the best so far is not above the version: nothing from the version on improves on it.
@@ -270,7 +272,6 @@ fn is_reached<C: Versioned>(best: &Option<Version>, version: &C) -> bool
 // Keeps a copy of the version, without its build, where it improves on the best so far. Otherwise
 // nothing is copied.
 #[inline(never)]
-#[tactic(auto, using(crate::proofs::Choice::LeastOf::improves_bare))]
 fn consider<V: VersionPoint, W: VersionPoint, C: Versioned>(
     alloc: Global,
     kept: &[RangeOf<V>],
@@ -316,7 +317,6 @@ fn consider_from<V: VersionPoint, W: VersionPoint, C: Versioned>(
 
 // Considers the first versions after this one. That after a pre-release is made before it is known
 // to improve on the best so far.
-#[tactic(auto, using(crate::proofs::Choice::LeastOf::reached_far))]
 fn consider_after<V: VersionPoint, W: VersionPoint, C: Versioned>(
     alloc: Global,
     kept: &[RangeOf<V>],
@@ -337,7 +337,8 @@ fn consider_after<V: VersionPoint, W: VersionPoint, C: Versioned>(
     if version.is_release() {
         return consider(alloc, kept, removed, best, &patch_after(version));
     }
-    consider(alloc, kept, removed, best, &pre_after(alloc, version)?)?;
+    let tried = consider(alloc, kept, removed, best, &pre_after(alloc, version)?);
+    tried?;
     consider(alloc, kept, removed, best, &bare_release(version))
 }
 
@@ -363,26 +364,6 @@ fn consider_past<V: VersionPoint, W: VersionPoint, C: Versioned>(
     }
 }
 
-// Considers the first versions from the first pre-release with these three numbers on. Mostly the
-// version is that pre-release, as in `<2.0.0-0`, and none is made.
-fn consider_first_pre<V: VersionPoint, W: VersionPoint, C: Versioned>(
-    alloc: Global,
-    kept: &[RangeOf<V>],
-    removed: &[Interval<W>],
-    best: &mut Option<Version>,
-    version: &C,
-) -> Result<(), AllocError>
-    ensures best { OnOk result (best.new
-        ≡ fold (spec.better (spec.wanted kept.now (spans_of W.value removed.now))) best.old
-        (spec.firsts (Beside (spec.first_pre (C.value version.now)) Near))) }
-    ensures memory { OnErr result (spec.Finds kept.now (spans_of W.value removed.now)) }
-{
-    if is_first_pre(version) {
-        return consider_from(alloc, kept, removed, best, version);
-    }
-    consider_from(alloc, kept, removed, best, &first_pre(alloc, version)?)
-}
-
 // Considers the first versions past the cut below the pre-releases that a bound names.
 fn consider_named<V: VersionPoint, W: VersionPoint, C: Versioned>(
     alloc: Global,
@@ -398,7 +379,7 @@ fn consider_named<V: VersionPoint, W: VersionPoint, C: Versioned>(
 {
     match bound {
         Bound::Before(version) | Bound::After(version) if !version.is_release() => {
-            consider_first_pre(alloc, kept, removed, best, version)
+            consider_from(alloc, kept, removed, best, &first_pre(version))
         }
         _ => Ok(()),
     }
@@ -427,25 +408,6 @@ fn consider_range<V: VersionPoint, W: VersionPoint>(
     Ok(())
 }
 
-// Considers all that the ranges bring which accept the versions searched for.
-fn consider_kept<V: VersionPoint, W: VersionPoint>(
-    alloc: Global,
-    kept: &[RangeOf<V>],
-    removed: &[Interval<W>],
-    best: &mut Option<Version>,
-) -> Result<(), AllocError>
-    ensures best { OnOk result (best.new
-        ≡ fold (spec.better (spec.wanted kept.now (spans_of W.value removed.now))) best.old
-        (flat_map spec.firsts (flat_map spec.list_marks kept.now))) }
-    ensures memory { OnErr result (spec.Finds kept.now (spans_of W.value removed.now)
-        ⊎ Any spec.BeginsAfterPre kept.now) }
-{
-    for range in kept {
-        consider_range(alloc, kept, removed, best, range)?;
-    }
-    Ok(())
-}
-
 // Considers all that the other intervals bring.
 fn consider_removed<V: VersionPoint, W: VersionPoint>(
     alloc: Global,
@@ -466,6 +428,26 @@ fn consider_removed<V: VersionPoint, W: VersionPoint>(
     Ok(())
 }
 
+// Considers all candidates.
+fn consider_all<V: VersionPoint, W: VersionPoint>(
+    alloc: Global,
+    kept: &[RangeOf<V>],
+    removed: &[Interval<W>],
+    best: &mut Option<Version>,
+) -> Result<(), AllocError>
+    requires { All spec.IsRaisable (spans_of W.value removed.now) }
+    ensures best { OnOk result (best.new
+        ≡ fold (spec.better (spec.wanted kept.now (spans_of W.value removed.now))) best.old
+        (spec.candidates kept.now (spans_of W.value removed.now))) }
+    ensures memory { OnErr result (spec.MayAllocate kept.now (spans_of W.value removed.now)) }
+{
+    consider(alloc, kept, removed, best, &release(0, 0, 0))?;
+    for range in kept {
+        consider_range(alloc, kept, removed, best, range)?;
+    }
+    consider_removed(alloc, kept, removed, best)
+}
+
 // The least version that each of the ranges, one or more, accepts and no interval of `removed`,
 // without a build.
 fn least_among<V: VersionPoint, W: VersionPoint>(
@@ -481,15 +463,7 @@ fn least_among<V: VersionPoint, W: VersionPoint>(
     ensures memory { OnErr result (spec.MayAllocate kept.now (spans_of W.value removed.now)) }
 {
     let mut best = None;
-    consider(
-        alloc,
-        kept,
-        removed,
-        &mut best,
-        &Version::from((0u64, 0, 0)),
-    )?;
-    consider_kept(alloc, kept, removed, &mut best)?;
-    consider_removed(alloc, kept, removed, &mut best)?;
+    consider_all(alloc, kept, removed, &mut best)?;
     Ok(best)
 }
 
@@ -502,11 +476,7 @@ fn improves_held<V: VersionPoint, C: Versioned>(
     ensures { result ≡ (spec.improves best.now (C.value version.now)
         && accepts range.now (C.value version.now) true) }
 {
-    let is_below = match best {
-        None => true,
-        Some(best) => version.cmp_precedence(best).is_lt(),
-    };
-    is_below && range.satisfies_with_prerelease(version, true)
+    !is_reached(best, version) && range.satisfies_with_prerelease(version, true)
 }
 
 // Keeps a copy of the version, without its build, where it improves on the best so far.
@@ -543,18 +513,13 @@ fn consider_past_held<V: VersionPoint>(
         ⊎ spec.IsAfterPre (bound_of V.value bound.now)) }
 {
     match bound {
-        Bound::Unbounded => consider_held(
-            range,
-            alloc,
-            best,
-            &Version::with_pre(alloc, 0, 0, 0, 0)?,
-        ),
+        Bound::Unbounded => consider_held(range, alloc, best, &lowest(0, 0, 0)),
         Bound::Before(version) => consider_held(range, alloc, best, version),
-        Bound::After(version) if version.is_release() => {
-            let (major, minor, patch) = (version.major(), version.minor(), version.patch());
-            let first = Version::with_pre(alloc, major, minor, patch + 1, 0)?;
-            consider_held(range, alloc, best, &first)
+        Bound::After(version) => {
+            if version.is_release() {
+                return consider_held(range, alloc, best, &first_pre(&patch_after(version)));
+            }
+            consider_held(range, alloc, best, &pre_after(alloc, version)?)
         }
-        Bound::After(version) => consider_held(range, alloc, best, &pre_after(alloc, version)?),
     }
 }

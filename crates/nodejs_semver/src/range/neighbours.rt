@@ -15,49 +15,44 @@ ghost use Rattle.semver_core.specs.Values.Views.{id_view, ids_view, lent_id_view
 ghost use Rattle.semver_core.specs.declared.cuts.bound.Bound.TheVariants.{After};
 
 use crate::range::gate::accepts_one;
+use crate::readers::{lowest, release};
 use semver_core::cuts::{Bound, Interval};
-use semver_core::{Identifier, IdentifierRef, IdentifierRefs, Version, VersionPoint, Versioned};
+use semver_core::{
+    Identifier, IdentifierRef, IdentifierRefs, Version, VersionPoint, VersionRef, Versioned,
+};
 use std::alloc::{AllocError, Global};
 
 // The release of the same three numbers.
-pub(crate) fn bare_release<V: Versioned>(version: &V) -> Version
+pub(crate) fn bare_release<V: Versioned>(version: &V) -> VersionRef<'static>
     ensures { result ≡ spec.bare_release (V.value version.now) }
 {
-    Version::from((version.major(), version.minor(), version.patch()))
+    release(version.major(), version.minor(), version.patch())
 }
 
 // The release after a release.
-pub(crate) fn patch_after<V: Versioned>(version: &V) -> Version
+pub(crate) fn patch_after<V: Versioned>(version: &V) -> VersionRef<'static>
     requires { (V.value version.now).patch < 2 ^ 64 - 1 }
     ensures { result ≡ spec.patch_after (V.value version.now) }
 {
-    Version::from((version.major(), version.minor(), version.patch() + 1))
+    release(version.major(), version.minor(), version.patch() + 1)
 }
 
 // The first pre-release of the same three numbers.
-pub(crate) fn first_pre<V: Versioned>(alloc: Global, version: &V) -> Result<Version, AllocError>
-    ensures value { IfOk result (λ v. v ≡ spec.first_pre (V.value version.now)) }
-    ensures succeeds { IsOk result }
+pub(crate) fn first_pre<V: Versioned>(version: &V) -> VersionRef<'static>
+    ensures { result ≡ spec.first_pre (V.value version.now) }
 {
-    Version::with_pre(alloc, version.major(), version.minor(), version.patch(), 0)
+    lowest(version.major(), version.minor(), version.patch())
 }
 
-// Whether the list is the number 0 alone, as the pre-release of `<2.0.0-0`.
-fn is_zero(ids: IdentifierRefs<'_>) -> bool
-    ensures { IsTrue result → ids.entry ≡ Numeric 0 ∷ [] }
+// Whether the pre-release is the number 0 alone, as that of `<2.0.0-0`.
+pub(crate) fn is_first_pre<V: Versioned>(version: &V) -> bool
+    ensures { IsTrue result → (V.value version.now).pre_release ≡ Numeric 0 ∷ [] }
 {
-    let mut ids = ids;
+    let mut ids = version.pre_release();
     matches!(
         (ids.next(), ids.next()),
         (Some(IdentifierRef::Numeric(0)), None)
     )
-}
-
-// Whether the pre-release is the number 0 alone.
-pub(crate) fn is_first_pre<V: Versioned>(version: &V) -> bool
-    ensures { IsTrue result → (V.value version.now).pre_release ≡ Numeric 0 ∷ [] }
-{
-    is_zero(version.pre_release())
 }
 
 // The identifier with a text of its own.
@@ -101,7 +96,7 @@ fn following<V: Versioned>(alloc: Global, version: &V) -> Result<Version, AllocE
         ≡ Some (record next { build = (V.value version.now).build })) }
 {
     if version.is_release() {
-        Ok(patch_after(version))
+        patch_after(version).to_version(alloc)
     } else {
         pre_after(alloc, version)
     }
@@ -112,10 +107,10 @@ pub(crate) fn bare<V: Versioned>(alloc: Global, version: &V) -> Result<Version, 
     ensures { IfOk result (λ v. v ≡ spec.bare (V.value version.now)) }
 {
     if version.is_release() {
-        return Ok(bare_release(version));
+        return bare_release(version).to_version(alloc);
     }
     if is_first_pre(version) {
-        return first_pre(alloc, version);
+        return first_pre(version).to_version(alloc);
     }
     with_lists(
         alloc,

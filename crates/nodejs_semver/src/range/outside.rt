@@ -2,7 +2,7 @@
 
 ghost use Rattle.nodejs_semver.specs.Ranges.Outside as spec;
 ghost use Rattle.nodejs_semver.specs.Ranges.View.{bound_of, span_of};
-ghost use Rattle.nodejs_semver.specs.Internal.Shorthands.{lies_above, lies_below, spans_of};
+ghost use Rattle.nodejs_semver.specs.Internal.Shorthands.{lies_above, lies_below};
 ghost use Rattle.nodejs_semver.specs.declared.range.outside.OutsideDirection.TheVariants as side;
 ghost use Rattle.std.specs.Prelude.{Ok, ◌≡◌};
 
@@ -84,25 +84,12 @@ impl<V: VersionPoint> RangeOf<V> {
         ensures { result
             ≡ Ok (spec.is_outside direction include_prerelease self.now (W.value version.now)) }
     {
-        Ok(lies_outside(self.items(), version, direction, include_prerelease))
+        let intervals = self.items();
+        let lies_beside = intervals
+            .iter()
+            .all(|interval| lies_opposite(interval, version, direction));
+        Ok(lies_beside && !accepts(intervals, version, include_prerelease))
     }
-}
-
-// Whether the version is not accepted, and each interval lies on the other side.
-fn lies_outside<V: VersionPoint, W: Versioned>(
-    intervals: &[Interval<V>],
-    version: &W,
-    direction: OutsideDirection,
-    include_prerelease: bool,
-) -> bool
-    ensures { result
-        ≡ spec.is_outside direction include_prerelease (spans_of V.value intervals.now)
-        (W.value version.now) }
-{
-    intervals
-        .iter()
-        .all(|interval| lies_opposite(interval, version, direction))
-        && !accepts(intervals, version, include_prerelease)
 }
 
 // Whether the interval lies on the other side of the version.

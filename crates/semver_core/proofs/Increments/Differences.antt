@@ -1,13 +1,11 @@
 -- `diff` is symmetric.
-use Rattle.std.proofs.Common.{◌≡◌, refl, ◌∙◌, ap}
+use Rattle.semver_core.proofs.Common.{◌≡◌, refl, ◌∙◌, ap, Less, Equal, Greater, VersionValue}
 use Rattle.std.specs.Prelude.{Option, Some, None}
 use Rattle.std.specs.declared.cmp.Ordering.{Ordering}
-use Rattle.std.specs.declared.cmp.Ordering.TheVariants.{Less, Equal, Greater}
 use Rattle.std.specs.Ordering.{ordering_reverse}
 use Rattle.semver_core.specs.Difference.{kind_between, kind_up}
 use Rattle.semver_core.specs.Values.Order.{precedence}
 use Rattle.semver_core.specs.Internal.OrderLaws.{precedence_total}
-use Rattle.semver_core.specs.Values.Versions.{VersionValue}
 use Rattle.semver_core.specs.declared.difference.VersionDiff.{VersionDiff}
 
 abbrev kind_by : Ordering → VersionValue → VersionValue → Option VersionDiff

@@ -1,32 +1,24 @@
 -- The last number of a list.
-use Rattle.std.proofs.Common.{◌≡◌, refl, sym, ap, ◌∙◌, ℕ, ◌+◌, ◌<◌, ◌≤◌, Bool, true, false, List, [], ◌∷◌, ◌++◌, length, take}
-use Rattle.std.proofs.Common.{get_or, append_assoc, arith, drop, inl, inr}
-use Rattle.std.specs.Prelude.{Option, Some, None, set, Result, Ok, Err, if◌then◌else◌, suc, zero, ◌==◌, ◌^◌, ◌-◌, ◌↔◌, IsTrue}
+use Rattle.semver_core.proofs.Common.{◌≡◌, refl, sym, ap, ◌∙◌, ℕ, ◌+◌, ◌<◌, ◌≤◌, Bool, true, false, List, [], ◌∷◌, ◌++◌, length}
+use Rattle.semver_core.proofs.Common.{take, get_or, append_assoc, arith, drop, inl, inr, Result, Ok, Err, ◌==◌, list_all, Id}
+use Rattle.semver_core.proofs.Common.{Numeric, AlphaNumeric, list_text, has_numeric, advance, raise_last, one_more, Fault, is_empty}
+use Rattle.semver_core.proofs.Common.{id_text, IdentifierBase, id_view, ids_view, Identifier, nat_tests, cases_lt, is_ascii_digit}
+use Rattle.semver_core.proofs.Common.{digits_value, tied_itself, bytes_eq, id_cmp}
+use Rattle.std.specs.Prelude.{Option, Some, None, set, if◌then◌else◌, suc, zero, ◌^◌, ◌-◌, ◌↔◌, IsTrue}
 use Rattle.std.proofs.Math.Seq.{take-append_seam}
 use Rattle.std.proofs.lemmas.List.{length-set, take_all, take_more, length-map}
-use Rattle.std.specs.List.{refill, list_all}
+use Rattle.std.specs.List.{refill}
 use Rattle.semver_core.proofs.Text.Runs.{ids_view_push, numerals}
-use Rattle.semver_core.specs.Text.Identifiers.{Id, Numeric, AlphaNumeric}
-use Rattle.semver_core.specs.Internal.IncrementSteps.{list_text, IsLastNumber, Tracks}
-use Rattle.semver_core.specs.Increments.Table.{asked, has_numeric, is_kept, advance, raise_last, one_more, Fault, Overflow, ◌>>=◌}
-use Rattle.semver_core.specs.Lists.{is_empty}
-use Rattle.semver_core.specs.Printing.Text.{id_text}
-use Rattle.semver_core.specs.declared.increment.IdentifierBase.{IdentifierBase}
-use Rattle.semver_core.specs.Values.Views.{id_view, ids_view}
-use Rattle.semver_core.specs.declared.identifier.Identifier.{Identifier}
+use Rattle.semver_core.specs.Internal.IncrementSteps.{IsLastNumber, Tracks}
+use Rattle.semver_core.specs.Increments.Table.{asked, is_kept, Overflow, ◌>>=◌}
 use Rattle.std.proofs.lemmas.Grind.{common_steps}
-use Rattle.std.proofs.lemmas.Bool.Decides.{nat_tests}
-use Rattle.std.proofs.lemmas.Bool.{cases_lt}
 use Rattle.std.proofs.lemmas.Str.Parse.{parse_digits}
-use Rattle.std.specs.Char.{is_ascii_digit}
 use Rattle.std.specs.Result.{MatchResult}
-use Rattle.std.specs.Str.Parse.{ParsesUnsigned, digits_value}
+use Rattle.std.specs.Str.Parse.{ParsesUnsigned}
 use Rattle.std.specs.Ordering.{is_eq}
-use Rattle.std.specs.Cmp.{Equal-is, tied_itself}
+use Rattle.std.specs.Cmp.{Equal-is}
 use Rattle.semver_core.specs.Internal.OrderLaws.{id_same, id_total}
 use Rattle.std.proofs.lemmas.Map.Text.{is_eq-slice_cmp}
-use Rattle.std.specs.Str.{bytes_eq}
-use Rattle.semver_core.specs.Values.Order.{id_cmp}
 
 no_more : (xs : List Id) (text : List ℕ) → has_numeric xs ≡ false → has_numeric (xs ++ AlphaNumeric text ∷ []) ≡ false
 no_more [] text h = refl

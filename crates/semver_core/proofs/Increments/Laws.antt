@@ -1,33 +1,25 @@
 -- The versions that `inc` returns: they are the least ones, above the version, and keep its build.
-use Rattle.std.proofs.Common.{◌≡◌, refl, ◌∙◌, ap, subst, ℕ, ◌+◌, ◌-◌, ◌^◌, ◌<◌, ◌≤◌, ◌==◌, ◌&&◌, not, Bool, true}
-use Rattle.std.proofs.Common.{false, List, [], ◌∷◌, ◌++◌, length, arith, if◌then◌else◌, codes}
-use Rattle.std.specs.Prelude.{Result, Ok, Err, IsOkAnd, ⊤, nat_eq}
-use Rattle.std.proofs.lemmas.Bool.{and_parts}
+use Rattle.semver_core.proofs.Common.{◌≡◌, refl, ◌∙◌, ap, subst, ℕ, ◌+◌, ◌-◌, ◌<◌, ◌≤◌, Bool, true, false, List, [], ◌∷◌, ◌++◌}
+use Rattle.semver_core.proofs.Common.{length, arith, Result, Ok, Err, ⊤, and_parts, Less, slice_cmp, nat_tests, Id, Numeric}
+use Rattle.semver_core.proofs.Common.{AlphaNumeric, Fault, one_more, has_numeric, raise_last, advance, list_text, is_empty}
+use Rattle.semver_core.proofs.Common.{tied_itself, bytes_eq, id_cmp, VersionValue, IsId, IdentifierBase}
+use Rattle.std.proofs.Common.{◌^◌, ◌==◌, ◌&&◌, not, if◌then◌else◌, codes}
+use Rattle.std.specs.Prelude.{IsOkAnd, nat_eq}
 use Rattle.std.proofs.lemmas.Slice.Eq.{bytes_eq-Decides}
 use Rattle.std.specs.List.{starts_with}
-use Rattle.std.specs.declared.cmp.Ordering.TheVariants.{Less}
 use Rattle.std.specs.Ordering.{ordering_then}
-use Rattle.std.specs.Cmp.Lexicographic.{slice_cmp}
-use Rattle.std.proofs.lemmas.Bool.Decides.{nat_tests}
 use Rattle.std.proofs.lemmas.List.Elements.{All-nil, All-cons}
-use Rattle.semver_core.specs.Text.Identifiers.{Id, Numeric, AlphaNumeric}
-use Rattle.semver_core.specs.Increments.Table.{checked, by_word, Fault, Overflow, InvalidIncrementArgument, is_false}
+use Rattle.semver_core.specs.Increments.Table.{checked, by_word, Overflow, InvalidIncrementArgument, is_false, next_major}
+use Rattle.semver_core.specs.Increments.Table.{next_minor, next_patch, pre_step, release_of, identify, first_number, ◌>>=◌}
 use Rattle.semver_core.specs.Internal.IncrementSteps.{incremented}
-use Rattle.semver_core.specs.Increments.Table.{one_more, next_major, next_minor, next_patch, pre_step, release_of, has_numeric}
-use Rattle.semver_core.specs.Increments.Table.{raise_last, advance, identify, first_number, ◌>>=◌}
-use Rattle.semver_core.specs.Internal.IncrementSteps.{list_text}
-use Rattle.semver_core.specs.Lists.{is_empty}
-use Rattle.std.specs.Cmp.{tied_itself}
-use Rattle.std.specs.Str.{bytes_eq}
 use Rattle.semver_core.specs.Internal.OrderLaws.{id_total}
 use Rattle.semver_core.specs.Increments.Least.{IsLeastOrOverflow, IsLeastVersion}
-use Rattle.semver_core.specs.Values.Order.{id_cmp, pre_cmp}
-use Rattle.semver_core.specs.Internal.Successors.{Below, by_major, by_minor, by_patch, by_pre, below_cases, less_first}
-use Rattle.semver_core.specs.Internal.Successors.{above_major, above_minor, above_patch, above_pre, upto_patch}
-use Rattle.semver_core.specs.Internal.Successors.{zero_least, below_more, empty_not_below}
+use Rattle.semver_core.specs.Values.Order.{pre_cmp}
+use Rattle.semver_core.specs.Internal.Successors.{Below, by_major, by_minor, by_patch, by_pre, below_cases, less_first, above_major}
+use Rattle.semver_core.specs.Internal.Successors.{above_minor, above_patch, above_pre, upto_patch, zero_least, below_more}
+use Rattle.semver_core.specs.Internal.Successors.{empty_not_below}
 use Rattle.semver_core.proofs.Values.NextLaws.{IsAbove, least_after_release, next_of_pre_release}
-use Rattle.semver_core.specs.Values.Versions.{VersionValue, IsVersion, IsId, is_release}
-use Rattle.semver_core.specs.declared.increment.IdentifierBase.{IdentifierBase}
+use Rattle.semver_core.specs.Values.Versions.{IsVersion, is_release}
 use Rattle.semver_core.specs.declared.increment.IdentifierBase.TheVariants.{Value}
 
 pick : {A : Type 0} (P : A → Type 0) (t : Bool) (x y : A) → (t ≡ true → P x) → (t ≡ false → P y) → P (if t then x else y)

@@ -1,19 +1,15 @@
 -- When an allocation may fail in `inc`.
-use Rattle.std.proofs.Common.{◌≡◌, refl, sym, subst, ap, ◌∙◌, ℕ, ◌<◌, Bool, true, false, List, [], ◌∷◌, ◌++◌, length, arith, inl}
-use Rattle.std.specs.Prelude.{◌≢◌, ◌==◌, ◌&&◌, ◌||◌, ◌^◌, ◌-◌, Result, Ok, Err, IfOk, ⊤, if◌then◌else◌, codes}
-use Rattle.std.specs.Str.{bytes_eq}
+use Rattle.semver_core.proofs.Common.{◌≡◌, refl, sym, subst, ap, ◌∙◌, ℕ, ◌<◌, Bool, true, false, List, [], ◌∷◌, ◌++◌, length, arith}
+use Rattle.semver_core.proofs.Common.{inl, ◌==◌, Result, Ok, Err, ⊤, bytes_eq, Fault, advance, has_numeric, one_more, raise_last}
+use Rattle.semver_core.proofs.Common.{list_text, is_empty, Id, Numeric, AlphaNumeric, HasIdentifiers, VersionValue, IdentifierBase}
+use Rattle.std.specs.Prelude.{◌≢◌, ◌&&◌, ◌||◌, ◌^◌, ◌-◌, IfOk, if◌then◌else◌, codes}
 use Rattle.semver_core.specs.Failures.{MemoryOnlyIf}
-use Rattle.semver_core.specs.Increments.Table.{Fault, InvalidIdentifier, InvalidIncrementArgument, NotAPrerelease, Overflow}
-use Rattle.semver_core.specs.Increments.Table.{◌>>=◌, advance, first_number, has_numeric, identify, is_false, is_kept, one_more}
-use Rattle.semver_core.specs.Increments.Table.{pre_step, raise_last}
+use Rattle.semver_core.specs.Increments.Table.{InvalidIdentifier, InvalidIncrementArgument, NotAPrerelease, Overflow, ◌>>=◌}
+use Rattle.semver_core.specs.Increments.Table.{first_number, identify, is_false, is_kept, pre_step}
 use Rattle.semver_core.specs.Increments.View.{Returns}
-use Rattle.semver_core.specs.Internal.IncrementSteps.{FailsWith, MayAllocate, ends_at_max, list_text}
-use Rattle.semver_core.specs.Lists.{is_empty}
-use Rattle.semver_core.specs.Text.Identifiers.{Id, Numeric, AlphaNumeric}
-use Rattle.semver_core.specs.Values.Versions.{HasIdentifiers, VersionValue}
+use Rattle.semver_core.specs.Internal.IncrementSteps.{FailsWith, MayAllocate, ends_at_max}
 use Rattle.semver_core.specs.declared.error.Failure.{Failure}
 use Rattle.semver_core.specs.declared.error.Failure.TheVariants.{Refused, Memory}
-use Rattle.semver_core.specs.declared.increment.IdentifierBase.{IdentifierBase}
 use Rattle.semver_core.specs.declared.increment.IncrementError.{IncrementError}
 
 -- in the words of the public clause

@@ -1,15 +1,10 @@
 -- A list that the identifier of `inc` replaces, whatever the number at its end.
-use Rattle.std.proofs.Common.{◌≡◌, ◌∙◌, ◌==◌, ◌-◌, ◌^◌, ◌++◌, ◌∷◌, ◌+◌, ℕ, true, false, not, List, [], arith, inl, inr, refl}
-use Rattle.std.specs.Prelude.{Ok}
-use Rattle.std.proofs.lemmas.Bool.{and_parts, cases_Bool}
-use Rattle.semver_core.specs.Increments.Table.{◌>>=◌, advance, first_number, has_numeric, is_false, is_kept, one_more, raise_last}
+use Rattle.semver_core.proofs.Common.{◌≡◌, ◌∙◌, ◌-◌, ◌++◌, ◌∷◌, ◌+◌, ℕ, true, false, List, [], arith, inl, inr, refl, Ok, and_parts}
+use Rattle.semver_core.proofs.Common.{cases_Bool, advance, has_numeric, one_more, raise_last, is_empty, Id, Numeric, AlphaNumeric}
+use Rattle.semver_core.proofs.Common.{IdentifierBase, is_ascii_digit, list_all, bytes_eq}
+use Rattle.std.proofs.Common.{◌==◌, ◌^◌, not}
+use Rattle.semver_core.specs.Increments.Table.{◌>>=◌, first_number, is_false, is_kept}
 use Rattle.semver_core.specs.Internal.IncrementSteps.{begun, can_rise, stepped}
-use Rattle.semver_core.specs.Lists.{is_empty}
-use Rattle.semver_core.specs.Text.Identifiers.{Id, Numeric, AlphaNumeric}
-use Rattle.semver_core.specs.declared.increment.IdentifierBase.{IdentifierBase}
-use Rattle.std.specs.Char.{is_ascii_digit}
-use Rattle.std.specs.List.{list_all}
-use Rattle.std.specs.Str.{bytes_eq}
 use Rattle.semver_core.proofs.Increments.LastNumber.{asked_digits, asked_text}
 
 one : (n : ℕ) (xs : List Id) → not (n == 2 ^ 64 - 1) ≡ true
@@ -51,7 +46,3 @@ pub text_replaced : (text : List ℕ) (xs list : List Id) (id : List ℕ) (base 
 text_replaced text xs list id base some numbered differs h e =
     let a = advances text xs id base numbered h in
     rw (e, a.1, some, other text id a.0 differs) refl
-
-pub none_replaced : (list : List Id) (id : List ℕ) (base : IdentifierBase) → is_empty id ≡ false → list ≡ []
-    → stepped list id base ≡ Ok (begun id base)
-none_replaced list id base some e = rw (e, some) refl

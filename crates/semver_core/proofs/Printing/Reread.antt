@@ -1,10 +1,9 @@
 -- Serves proofs: a version that is printed and parsed.
-use Rattle.std.proofs.Common.{◌≡◌, List, ℕ, Ok, Err, Result}
+use Rattle.semver_core.proofs.Common.{◌≡◌, List, ℕ, NoValue, Reads, VersionValue}
+use Rattle.std.proofs.Common.{Ok, Err, Result}
 use Rattle.std.specs.Prelude.{IfOk}
-use Rattle.semver_core.specs.Failures.{RefusedOnlyIf, NoValue}
+use Rattle.semver_core.specs.Failures.{RefusedOnlyIf}
 use Rattle.semver_core.specs.Text.Parsing.{Parses}
-use Rattle.semver_core.specs.Text.VersionText.{Reads}
-use Rattle.semver_core.specs.Values.Versions.{VersionValue}
 use Rattle.semver_core.specs.declared.error.Failure.{Failure}
 use Rattle.semver_core.specs.declared.error.Failure.TheVariants.{Refused, Memory}
 

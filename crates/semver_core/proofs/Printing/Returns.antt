@@ -1,23 +1,20 @@
 -- Serves proofs: a printed version reads as itself.
-use Rattle.std.proofs.Common.{zero, suc, refl, ◌≡◌, ◌<◌, ◌≤◌, ◌^◌, ◌==◌, ℕ, true, false, ltb, List, [], ◌∷◌}
-use Rattle.std.proofs.Common.{◌++◌, length, map, sym, ap, ◌∙◌, arith, eqb, subst, append-nil}
+use Rattle.semver_core.proofs.Common.{refl, ◌≡◌, ◌<◌, ◌≤◌, ℕ, true, false, ltb, List, [], ◌∷◌, ◌++◌, length, sym, ap, ◌∙◌, arith}
+use Rattle.semver_core.proofs.Common.{eqb, subst, append-nil, and_parts, lt-ltb, nat_tests, first_so, second_so, is_ascii_digit}
+use Rattle.semver_core.proofs.Common.{list_all, All, digits_value, begins, is_identifier_char, Id, Numeric, AlphaNumeric}
+use Rattle.semver_core.proofs.Common.{identifier_of, is_identifier, pieces, goes_on, IsNumber, VersionValue, Reads, no_mark}
+use Rattle.semver_core.proofs.Common.{begins_pre_release, id_text}
+use Rattle.std.proofs.Common.{zero, suc, ◌^◌, ◌==◌, map}
 use Rattle.std.specs.Prelude.{not}
-use Rattle.std.proofs.lemmas.Bool.{and_parts, lt-ltb, not-true}
+use Rattle.std.proofs.lemmas.Bool.{not-true}
 use borrow.Author.Tests.{ltb-true}
-use Rattle.std.proofs.lemmas.Bool.Decides.{nat_tests}
 use Rattle.std.proofs.lemmas.Fmt.{decimal_is_IsNumeral, digits_decimal, digits_value-decimal}
 use Rattle.std.proofs.lemmas.List.Splits.{slice_split_none, slice_split_at}
-use Rattle.std.specs.Cmp.{first_so, second_so}
 use Rattle.std.specs.Fmt.{decimal}
-use Rattle.std.specs.Char.{is_ascii_digit}
-use Rattle.std.specs.List.{list_all, join_with_byte, All}
-use Rattle.std.specs.Str.Parse.{digits_value}
-use Rattle.semver_core.specs.Text.Characters.{begins, is_identifier_char}
-use Rattle.semver_core.specs.Text.Identifiers.{Id, Numeric, AlphaNumeric, identifier_of, is_identifier, is_u64_text, pieces, goes_on, IsIdentifiers}
-use Rattle.semver_core.specs.Text.Numbers.{IsNumber}
-use Rattle.semver_core.specs.Values.Versions.{VersionValue}
-use Rattle.semver_core.specs.Text.VersionText.{Reads, IsPreRelease, IsBuild, no_mark, dashed, no_pre_release, plus, no_build, begins_pre_release}
-use Rattle.semver_core.specs.Printing.Text.{id_text, marked_list, version_text}
+use Rattle.std.specs.List.{join_with_byte}
+use Rattle.semver_core.specs.Text.Identifiers.{is_u64_text, IsIdentifiers}
+use Rattle.semver_core.specs.Text.VersionText.{IsPreRelease, IsBuild, dashed, no_pre_release, plus, no_build}
+use Rattle.semver_core.specs.Printing.Text.{marked_list, version_text}
 use Rattle.semver_core.specs.Printing.RoundTrip.{is_normal, is_readable}
 use Rattle.semver_core.specs.Internal.Readable.{IsReadable, readable}
 use Rattle.semver_core.proofs.Text.Runs.{not_dot, of_digits, numerals}
@@ -116,7 +113,7 @@ no_digit [] [] = refl
 no_digit [] (b ∷ bs) = refl
 no_digit (id ∷ ids) builds = refl
 
-number_back : (limit n : ℕ) → limit < 2 ^ 64 → n ≤ limit → IsNumber limit (decimal n) n
+pub number_back : (limit n : ℕ) → limit < 2 ^ 64 → n ≤ limit → IsNumber limit (decimal n) n
 number_back limit n max small =
     let fits : n < 2 ^ 64 = omega arith in
     record { some = decimal_some n fits; each = decimal_digits n fits; value = sym (decimal_value n fits); safe = small }

@@ -3,6 +3,7 @@ use Rattle.semver_core.proofs.Common.{◌≡◌, ℕ, ◌<◌, ◌≤◌, ◌+�
 use Rattle.semver_core.proofs.Common.{add-one, Some, drop-cons, drop_all, list_all, Reads, NoValue, begins, is_identifier_char}
 use Rattle.semver_core.proofs.Common.{goes_on, identifier_of, is_identifier, is_listed, listed, pieces, VersionValue}
 use Rattle.std.specs.Prelude.{map}
+use Rattle.std.proofs.lemmas.List.{take_rest}
 use Rattle.semver_core.specs.Internal.Reading.{list_from, list_len}
 use Rattle.semver_core.proofs.Text.Pieces.{begins_taken, begun_runs, taken_runs}
 use Rattle.semver_core.proofs.Text.Runs.{list_len_stop}
@@ -24,6 +25,8 @@ end_stop xs i h = list_len_stop (drop i xs) h
 pub end_past : (xs : List ℕ) (i : ℕ) → length xs ≤ i → list_len (drop i xs) ≡ 0
 unfolding list_len
 end_past xs i le = rw (drop_all i xs le) refl
+
+pub ruleset list_ends = (end_step, end_stop, end_past, take_rest)
 
 -- what stands there
 pub runs_taken : (t : List ℕ) → begins is_identifier_char t ≡ true → list_all is_identifier (pieces (take (list_len t) t)) ≡ true
@@ -60,7 +63,7 @@ pub nothing_listed : is_listed [] ≡ true
 unfolding is_listed
 nothing_listed = refl
 
-pub ruleset lists_cut = (end_step, end_stop, end_past, cut_listed, cut_found, nothing_spelled, nothing_listed)
+pub ruleset lists_cut = (cut_listed, cut_found, take_rest, nothing_spelled, nothing_listed)
 
 -- ---- the clauses of the readers
 

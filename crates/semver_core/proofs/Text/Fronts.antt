@@ -1,7 +1,7 @@
 -- The version that a text begins with is that of the text up to the place behind it.
 use Rattle.semver_core.proofs.Common.{◌≡◌, ◌≤◌, ℕ, true, false, List, [], ◌∷◌, ◌++◌, Bool, length, drop, take}
 use Rattle.semver_core.proofs.Common.{Some, None, refl, sym, ap, ◌∙◌, arith, inl, inr, eqb, cases_Bool, eqb-true, append-nil}
-use Rattle.semver_core.proofs.Common.{append_assoc, take-append-drop, is_ascii_digit, begins, is_identifier_char, nat_tests, list_all}
+use Rattle.semver_core.proofs.Common.{append_assoc, take-append-drop, is_ascii_digit, begins, nat_tests, list_all}
 use Rattle.semver_core.proofs.Common.{first_so, second_so, Id, VersionValue, goes_on, pieces, onto_first, is_identifier, subst}
 use Rattle.semver_core.proofs.Common.{IsLongestIdentifiers, IsNumber, IsWholeNumber}
 use Rattle.std.proofs.lemmas.List.{append_cancel_right}
@@ -131,9 +131,6 @@ both_all p (c ∷ a) b h k =
 
 plain_digit : (c : ℕ) → is_ascii_digit c ≡ true → is_plain c ≡ true
 plain_digit c h = grind (arith, nat_tests)
-
-plain_char : (c : ℕ) → is_identifier_char c ≡ true → is_plain c ≡ true
-plain_char c h = rw h refl
 
 plain_runs : (text : List ℕ) → tail_runs (pieces text) ≡ true → list_all is_plain text ≡ true
 plain_runs [] h = refl

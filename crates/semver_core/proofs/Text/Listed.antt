@@ -1,15 +1,14 @@
 -- A text that spells a list of identifiers is its own longest list.
-use Rattle.semver_core.proofs.Common.{◌≡◌, ℕ, ◌<◌, ◌+◌, get_or, List, [], ◌∷◌, length, refl, sym, ap, ◌∙◌, arith, take, true}
-use Rattle.semver_core.proofs.Common.{Some, inl, inr, append-nil, ◌==◌, IsUtf8, eqb, cases_Bool, eqb-true, list_all, onto_first}
-use Rattle.semver_core.proofs.Common.{begins, is_identifier_char, Id, Numeric, identifier_of, IsLongestIdentifiers, is_identifier}
-use Rattle.semver_core.proofs.Common.{is_listed, listed, pieces, id_view, ids_view, Identifier}
+use Rattle.semver_core.proofs.Common.{◌≡◌, ℕ, ◌<◌, ◌+◌, List, [], ◌∷◌, length, refl, sym, ap, ◌∙◌, arith, take, true, Some, inl}
+use Rattle.semver_core.proofs.Common.{inr, append-nil, ◌==◌, IsUtf8, eqb, cases_Bool, eqb-true, list_all, onto_first, begins}
+use Rattle.semver_core.proofs.Common.{is_identifier_char, Id, identifier_of, IsLongestIdentifiers, is_identifier, is_listed, listed}
+use Rattle.semver_core.proofs.Common.{pieces, id_view, ids_view, Identifier, list_at}
 use Rattle.std.specs.Str.{IsAscii}
 use Rattle.std.proofs.lemmas.Str.{IsAscii-take, IsUtf8-from_ascii}
 use Rattle.std.proofs.lemmas.Str.Ascii.{IsAscii-nil, IsAscii-cons}
 use Rattle.std.specs.List.{count_by}
 use Rattle.std.proofs.lemmas.List.Splits.{length-slice_split}
 use Rattle.std.proofs.lemmas.List.{length-map}
-use Rattle.semver_core.specs.Internal.Reading.{list_at}
 use Rattle.semver_core.proofs.Text.Runs.{ascii as small_char}
 use Rattle.semver_core.proofs.Text.Pieces.{first_char, list_complete, runs_begin, runs_tail, some_inside, tail_onto, tail_runs}
 
@@ -54,12 +53,6 @@ pub listed_none : (text : List ℕ) → length text ≡ 0 → listed text ≡ []
 unfolding listed
 listed_none [] h = refl
 listed_none (c ∷ rest) h = absurd (omega arith)
-
-pub listed_zero : (text : List ℕ) → length text ≡ 1 → get_or text 0 0 ≡ 48 → listed text ≡ Numeric 0 ∷ []
-unfolding listed
-listed_zero [] len e = cc
-listed_zero (c ∷ []) len e = rw e refl
-listed_zero (c ∷ d ∷ rest) len e = absurd (omega arith)
 
 pub listed_count : (text : List ℕ) → 0 < length text → length (listed text) ≡ count_by (λ c. c == 46) text + 1
 unfolding listed

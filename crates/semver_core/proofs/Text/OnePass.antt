@@ -1,13 +1,12 @@
 -- A run that is read in one pass.
-use Rattle.semver_core.proofs.Common.{◌≡◌, ◌<◌, ◌≤◌, ◌+◌, ◌*◌, ◌-◌, ℕ, true, false, ltb, List, [], ◌∷◌, length, drop, take}
-use Rattle.semver_core.proofs.Common.{get_or, Option, Some, None, refl, sym, ap, ◌∙◌, arith, inl, inr, add-one, add_comm}
-use Rattle.semver_core.proofs.Common.{drop-cons, cases_Bool, nat_tests, drop_all, length-drop, first_so, second_so}
-use Rattle.semver_core.proofs.Common.{is_ascii_digit, digit_value, list_all, is_identifier_char, Numeric, identifier_of}
+use Rattle.semver_core.proofs.Common.{◌≡◌, ◌<◌, ◌≤◌, ◌+◌, ◌*◌, ◌-◌, ℕ, true, false, ltb, List, [], ◌∷◌, length, drop, take, get_or}
+use Rattle.semver_core.proofs.Common.{Option, Some, None, refl, sym, ap, ◌∙◌, arith, inl, inr, add-one, add_comm, drop-cons}
+use Rattle.semver_core.proofs.Common.{cases_Bool, nat_tests, drop_all, length-drop, first_so, second_so, is_ascii_digit}
+use Rattle.semver_core.proofs.Common.{digit_value, list_all, is_identifier_char, Numeric, identifier_of, prefix_len, digits_value}
+use Rattle.semver_core.proofs.Common.{AlphaNumeric}
 use Rattle.std.proofs.Common.{◌^◌, add-zero}
-use Rattle.std.specs.List.{prefix_len}
-use Rattle.std.specs.Str.Parse.{digits_value, digits_value_after}
+use Rattle.std.specs.Str.Parse.{digits_value_after}
 use Rattle.semver_core.specs.Internal.CommonReading.{grown, run_from, number_of_run, id_by}
-use Rattle.semver_core.specs.Text.Identifiers.{AlphaNumeric}
 use Rattle.semver_core.proofs.Text.Digits.{digit_value-is}
 use Rattle.semver_core.proofs.Text.Pieces.{digits_grow}
 use Rattle.std.proofs.lemmas.List.Sums.{prefix_len-le-length}

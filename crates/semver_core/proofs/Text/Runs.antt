@@ -3,7 +3,7 @@ use Rattle.semver_core.proofs.Common.{◌≡◌, ◌<◌, ◌≤◌, ◌+◌, �
 use Rattle.semver_core.proofs.Common.{get_or, refl, sym, ap, ◌∙◌, arith, Some, ltb, eqb, rules, inl, inr, add_comm, add-one}
 use Rattle.semver_core.proofs.Common.{append_assoc, zero-add, cases_Bool, eqb-true, drop-cons, length-drop, drop-drop, nat_tests}
 use Rattle.semver_core.proofs.Common.{is_ascii_digit, list_all, All, begins, is_identifier_char, Id, Numeric, identifier_of}
-use Rattle.semver_core.proofs.Common.{goes_on, ids_view, id_view, Identifier}
+use Rattle.semver_core.proofs.Common.{goes_on, ids_view, id_view, Identifier, prefix_len, digits_value, list_of, list_at}
 use Rattle.std.proofs.Common.{◌^◌, map, suc}
 use Rattle.std.proofs.Math.Seq.{take-add}
 use Rattle.std.proofs.lemmas.List.{get_or-take, length-take, get_or-drop}
@@ -12,9 +12,7 @@ use Rattle.std.proofs.lemmas.Str.{IsCharBoundary-after_ascii}
 use Rattle.std.specs.Str.{IsUtf8, IsCharBoundary}
 use Rattle.std.proofs.lemmas.Str.Parse.{IsDigitsTest, IsNumeralModel, numerals_by_value}
 use Rattle.std.proofs.lemmas.List.Splits.{slice_split_none, slice_split_at}
-use Rattle.std.specs.List.{prefix_len}
-use Rattle.std.specs.Str.Parse.{digits_value}
-use Rattle.semver_core.specs.Internal.Reading.{list_len, list_of, list_at}
+use Rattle.semver_core.specs.Internal.Reading.{list_len}
 
 digits_test : IsDigitsTest (λ ds. list_all is_ascii_digit ds ≡ true)
 digits_test = search rules

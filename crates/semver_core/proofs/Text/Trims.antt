@@ -44,7 +44,7 @@ drop_spaces-blank (c ∷ cs) rest h =
 
 -- at the end
 
-keep_byte : (b : ℕ) (rest : List ℕ) → is_empty (drop_spaces (b ∷ rest)) ≡ false → drop_end_spaces (b ∷ rest) ≡ b ∷ drop_end_spaces rest
+pub keep_byte : (b : ℕ) (rest : List ℕ) → is_empty (drop_spaces (b ∷ rest)) ≡ false → drop_end_spaces (b ∷ rest) ≡ b ∷ drop_end_spaces rest
 unfolding drop_end_spaces
 keep_byte b rest h = rw (h, drop_end_spaces) refl
 

@@ -1,20 +1,18 @@
 -- Which texts spell the number 0 alone, and that a text spells identifiers of versions.
-use Rattle.std.proofs.Common.{◌≡◌, ℕ, ◌<◌, ◌+◌, ◌*◌, ◌^◌, ◌==◌, List, [], ◌∷◌, length, refl, ap, ◌∙◌, subst, map}
-use Rattle.std.proofs.Common.{arith, true, inl, inr, Bool}
+use Rattle.semver_core.proofs.Common.{◌≡◌, ℕ, ◌<◌, ◌+◌, ◌*◌, List, [], ◌∷◌, length, refl, ap, ◌∙◌, subst, arith, true, inl, inr}
+use Rattle.semver_core.proofs.Common.{Bool, digit_value, is_ascii_digit, list_all, onto_first, digits_value, cases_Bool, eqb-true}
+use Rattle.semver_core.proofs.Common.{and_parts, nat_tests, is_identifier_char, Id, Numeric, AlphaNumeric, identifier_of}
+use Rattle.semver_core.proofs.Common.{is_identifier, is_listed, listed, pieces, IsId}
+use Rattle.std.proofs.Common.{◌^◌, ◌==◌, map}
 use Rattle.std.specs.Prelude.{All}
 use Rattle.std.specs.Str.{IsAscii}
-use Rattle.std.specs.Char.{digit_value, is_ascii_digit}
-use Rattle.std.specs.List.{list_all, onto_first, join_with_byte}
-use Rattle.std.specs.Str.Parse.{digits_value, digits_value_after}
-use Rattle.std.proofs.lemmas.Bool.{cases_Bool, eqb-true, and_parts}
-use Rattle.std.proofs.lemmas.Bool.Decides.{nat_tests}
+use Rattle.std.specs.List.{join_with_byte}
+use Rattle.std.specs.Str.Parse.{digits_value_after}
 use Rattle.std.proofs.lemmas.List.Elements.{All-nil, All-cons}
 use Rattle.std.proofs.lemmas.List.Splits.{join_with_byte-slice_split, length-slice_split}
 use Rattle.std.proofs.lemmas.Str.{IsUtf8-from_ascii}
 use Rattle.std.proofs.lemmas.Str.Ascii.{IsAscii-nil, IsAscii-cons}
-use Rattle.semver_core.specs.Text.Characters.{is_identifier_char}
-use Rattle.semver_core.specs.Text.Identifiers.{Id, Numeric, AlphaNumeric, identifier_of, is_identifier, is_listed, is_u64_text, listed, pieces}
-use Rattle.semver_core.specs.Values.Versions.{IsId}
+use Rattle.semver_core.specs.Text.Identifiers.{is_u64_text}
 use Rattle.semver_core.proofs.Text.Pieces.{digits_grow}
 use Rattle.semver_core.proofs.Text.Runs.{ascii as small_char, of_digits}
 

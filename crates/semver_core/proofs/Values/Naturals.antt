@@ -1,5 +1,5 @@
 -- An integer is natural or negative.
-use Rattle.std.proofs.Common.{◌≡◌, ◌⊎◌, refl, inl, inr, ap, ℕ, Option, Some, None, arith}
+use Rattle.std.proofs.Common.{◌≡◌, ◌⊎◌, refl, inl, inr, ℕ, Some, None, arith}
 use Rattle.std.specs.Prelude.{ℤ, pos, negsuc}
 use Rattle.semver_core.specs.Internal.Naturals.{from_natural}
 

@@ -1,6 +1,6 @@
 -- For proofs: the order is total, and what it does not tell apart has equal keys.
 use Rattle.std.proofs.Common.{◌≡◌, List, [], ◌∷◌, ◌++◌, refl, ap, true}
-use Rattle.std.specs.Ordering.{is_eq, ordering_reverse, ordering_then}
+use Rattle.std.specs.Ordering.{is_eq, nat_cmp, on, ordering_reverse, ordering_then, then_cmp}
 use Rattle.std.specs.Cmp.{Equal-is, IsTotalOrder, nat_cmp_total, on_total, then_total}
 use Rattle.std.specs.Cmp.Lexicographic.{lists_total, nat_list_cmp_total, slice_cmp}
 use Rattle.std.specs.FinMap.{IsAntisymmetric, nat_cmp-IsAntisymmetric, slice_cmp-IsAntisymmetric}
@@ -11,6 +11,10 @@ use Rattle.semver_core.specs.Internal.Hashes.{id_writes, version_writes}
 use Rattle.semver_core.specs.Text.Identifiers.{Id, Numeric, AlphaNumeric}
 use Rattle.semver_core.specs.Values.Order.{id_cmp, pre_cmp, precedence}
 use Rattle.semver_core.specs.Values.Versions.{VersionValue}
+
+-- the order of the three numbers
+abbrev pub numbers_cmp : VersionValue → VersionValue → Ordering
+numbers_cmp = then_cmp (on (λ v. v.major) nat_cmp) (then_cmp (on (λ v. v.minor) nat_cmp) (on (λ v. v.patch) nat_cmp))
 
 id_antisymm : (x y : Id) → id_cmp x y ≡ ordering_reverse (id_cmp y x)
 id_antisymm (Numeric m) (Numeric n) = nat_cmp_total.antisymm m n

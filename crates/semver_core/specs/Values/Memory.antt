@@ -1,5 +1,5 @@
 -- Statement: which versions are made and copied with memory.
-use Rattle.std.specs.Prelude.{◌&&◌, ◌||◌, not, Bool, List, [], ◌∷◌}
+use Rattle.std.specs.Prelude.{◌&&◌, ◌||◌, not, Bool, [], ◌∷◌}
 use Rattle.std.specs.Ordering.{is_eq}
 use Rattle.semver_core.specs.Lists.{is_empty}
 use Rattle.semver_core.specs.Text.Identifiers.{Numeric}

@@ -12,8 +12,23 @@ ghost use Rattle.semver_core.specs.Internal.Reading.{list_from, list_len, lists_
 ghost use Rattle.semver_core.specs.Values.Versions.{VersionValue, release_value};
 
 use crate::readers::{begins_lists, build_start, leading_numbers, numbers, pre_release_start};
-use crate::scan::goes_on_at;
+use crate::scan::goes_on;
 use crate::{MAX_LENGTH, MAX_SAFE_INTEGER, SemverError, VersionRef};
+
+// How many bytes the identifiers at the front take.
+#[inline(always)]
+#[tactic(auto, using(crate::proofs::Text::Ends::list_ends))]
+fn list_len(bytes: &[u8]) -> usize
+    ensures exact { result ≡ list_len bytes.now }
+    ensures inside { result ≤ length bytes.now }
+{
+    'bytes: for len in 0..bytes.len() {
+        if !goes_on(&bytes[len..]) {
+            return len;
+        }
+    }
+    bytes.len()
+}
 
 // The text of the identifiers that begin at a place, and the place after them. Where there is none,
 // that is the place where the list was expected.
@@ -31,12 +46,8 @@ fn list_from(text: &str, at: usize, start: Option<usize>) -> (&[u8], usize)
     let Some(start) = start else {
         return (b"", at);
     };
-    'bytes: for end in start..text.len() {
-        if !goes_on_at(text, end) {
-            return (&text.as_bytes()[start..end], end);
-        }
-    }
-    (&text.as_bytes()[start..], text.len())
+    let end = start + list_len(&text.as_bytes()[start..]);
+    (&text.as_bytes()[start..end], end)
 }
 
 // The texts of the pre-release and of the build at a place, and the place after them.

@@ -1,7 +1,7 @@
 // The order of the cuts that two bounds make.
 ghost use Rattle.std.specs.Prelude.{◌≡◌};
 ghost use Rattle.std.specs.Ordering.{is_lt};
-ghost use Rattle.semver_core.specs.Cuts.{cut_cmp, greater_lower, is_past, lesser_upper};
+ghost use Rattle.semver_core.specs.Cuts.{cut_cmp, greater_lower, lesser_upper};
 ghost use Rattle.semver_core.specs.Cuts.{lower_cut, upper_cut};
 
 use crate::cuts::bound::Bound;
@@ -47,28 +47,6 @@ pub(crate) fn is_below<V: Ord>(lower: &Bound<V>, upper: &Bound<V>) -> bool
         (Bound::Before(v), Bound::Before(w))
         | (Bound::After(v), Bound::Before(w))
         | (Bound::After(v), Bound::After(w)) => v.cmp(w).is_lt(),
-    }
-}
-
-/// Whether the point lies after the cut of the lower bound.
-pub(crate) fn is_past_lower<V: Ord>(lower: &Bound<V>, point: &V) -> bool
-    ensures { result ≡ is_past V.cmp (lower_cut lower.now) point.now }
-{
-    match lower {
-        Bound::Unbounded => true,
-        Bound::Before(v) => v.cmp(point).is_le(),
-        Bound::After(v) => v.cmp(point).is_lt(),
-    }
-}
-
-/// Whether the point lies after the cut of the upper bound.
-pub(crate) fn is_past_upper<V: Ord>(upper: &Bound<V>, point: &V) -> bool
-    ensures { result ≡ is_past V.cmp (upper_cut upper.now) point.now }
-{
-    match upper {
-        Bound::Unbounded => false,
-        Bound::Before(v) => v.cmp(point).is_le(),
-        Bound::After(v) => v.cmp(point).is_lt(),
     }
 }
 

@@ -10,8 +10,8 @@ ghost use Rattle.semver_core.specs.Clips.{clip};
 
 use crate::cuts::bound::{Bound, Point};
 use crate::cuts::cut_order::{
-    greater_lower, into_greater_lower, into_lesser_upper, is_below, is_past_lower, is_past_upper,
-    lesser_upper, lower_order, upper_order,
+    greater_lower, into_greater_lower, into_lesser_upper, is_below, lesser_upper, lower_order,
+    upper_order,
 };
 use std::alloc::{AllocError, Global};
 use std::marker::Model;
@@ -119,14 +119,22 @@ impl<V: Point> Interval<V> {
     pub fn begins_below(&self, point: &V) -> bool
         ensures { result ≡ is_past V.cmp (lower_cut self.now.lower) point.now }
     {
-        is_past_lower(&self.lower, point)
+        match &self.lower {
+            Bound::Unbounded => true,
+            Bound::Before(v) => v.cmp(point).is_le(),
+            Bound::After(v) => v.cmp(point).is_lt(),
+        }
     }
 
     /// Whether the interval ends below the point: its upper cut is not after the point.
     pub fn ends_below(&self, point: &V) -> bool
         ensures { result ≡ is_past V.cmp (upper_cut self.now.upper) point.now }
     {
-        is_past_upper(&self.upper, point)
+        match &self.upper {
+            Bound::Unbounded => false,
+            Bound::Before(v) => v.cmp(point).is_le(),
+            Bound::After(v) => v.cmp(point).is_lt(),
+        }
     }
 
     /// Whether the other interval lies within this one: its lower cut is not below, and its upper

@@ -17,6 +17,7 @@ use crate::increment::pre_release::{
 };
 use crate::increment::{IdentifierBase, IncrementError, one_more, refused_argument};
 use crate::version::lists::{Identifiers, Lists, Qualifier};
+use crate::version::parts::copied;
 use crate::{Failure, Identifier, IdentifierRefs, Version};
 use std::alloc::{AllocError, Global};
 
@@ -150,22 +151,6 @@ fn release_of(alloc: Global, version: &PartsRef<'_>) -> Result<Version, Failure<
         version.patch,
         Qualifier::Lists(lists),
     ))
-}
-
-// Lists with identifiers of their own.
-fn copied(
-    alloc: Global,
-    pre_release: &IdentifierRefs<'_>,
-    build: &IdentifierRefs<'_>,
-) -> Result<Box<Lists>, AllocError>
-    ensures pre_release { IfOk result (λ lists.
-        ids_view lists.value.pre_release.items ≡ pre_release.now) }
-    ensures build { IfOk result (λ lists. ids_view lists.value.build.items ≡ build.now) }
-{
-    let mut lists = Lists::boxed(alloc)?;
-    pre_release.copy_into(alloc, &mut lists.pre_release)?;
-    build.copy_into(alloc, &mut lists.build)?;
-    Ok(lists)
 }
 
 // The first pre-release of the numbers of a version without identifiers, which takes no memory.

@@ -5,7 +5,6 @@ ghost use Rattle.std.specs.Prelude.{string_bytes, true, false, if◌then◌else�
 ghost use Rattle.std.specs.Char.{is_ascii_digit};
 ghost use Rattle.std.specs.List.{list_all};
 ghost use Rattle.std.specs.Ordering.{is_eq};
-ghost use Rattle.std.specs.Str.{bytes_eq};
 ghost use Rattle.std.specs.Str.Parse.{digits_value};
 ghost use Rattle.semver_core.specs.Failures.{MemoryOnlyIf};
 ghost use Rattle.semver_core.specs.Text.Identifiers.{Numeric};

@@ -10,7 +10,7 @@ ghost use Rattle.semver_core.specs.Internal.CommonReading.{small_len, whole_at, 
 ghost use Rattle.semver_core.specs.Internal.Reading.{part_at, qualified, triple_at};
 ghost use Rattle.semver_core.specs.Values.Versions.{HasIdentifiers, VersionValue};
 
-use crate::readers::loose::{begins_lists, front_of_numbers, lists_at, past};
+use crate::readers::loose::{begins_lists, front_of_numbers, lists_at, stands_at};
 use crate::{MAX_SAFE_INTEGER, Version, scan};
 use std::alloc::{AllocError, Global};
 
@@ -24,10 +24,10 @@ fn number_and_dot(bytes: &[u8], at: usize) -> Option<(u64, usize)>
     let Some((number, end)) = scan::digits(bytes, at) else {
         return None;
     };
-    match past(bytes, end, b'.') {
-        Some(next) => Some((number, next)),
-        None => None,
+    if !stands_at(bytes, end, b'.') {
+        return None;
     }
+    Some((number, end + 1))
 }
 
 // Three numbers with dots between them, and the place behind them.

@@ -1,14 +1,13 @@
 //! The reader of version texts.
 
-ghost use Rattle.std.specs.Prelude.{◌≡◌, ◌==◌, ◌≤◌, ◌<◌, ◌+◌, ◌⊎◌, [], true, length, drop, None};
-ghost use Rattle.std.specs.Prelude.{Some, Option, IfOk, IfSome, IfNone, IsSomeAnd, IsCharBoundary};
-ghost use Rattle.std.specs.Prelude.{◌∷◌, List, ℕ, IsFalse, OnErr, OnSome, false, take};
+ghost use Rattle.std.specs.Prelude.{◌≡◌, ◌≤◌, ◌<◌, ◌+◌, ◌⊎◌, [], true, length, drop, Some, IfOk};
+ghost use Rattle.std.specs.Prelude.{◌==◌, IfSome, IfNone, IsFalse, IsTrue, OnErr, OnSome, false};
 ghost use Rattle.std.specs.List.{prefix_len};
 ghost use Rattle.semver_core.specs.Failures.{NoValue};
 ghost use Rattle.semver_core.specs.Text.Characters.{begins, is_identifier_char, IsAfterBlank};
-ghost use Rattle.semver_core.specs.Text.Identifiers.{Id, goes_on, identifier_of};
+ghost use Rattle.semver_core.specs.Text.Identifiers.{goes_on};
 ghost use Rattle.semver_core.specs.Text.VersionText.{Reads};
-ghost use Rattle.semver_core.specs.Internal.Reading.{past, pre_release_at, build_at};
+ghost use Rattle.semver_core.specs.Internal.Reading.{pre_release_at, build_at};
 ghost use Rattle.semver_core.specs.Internal.Reading.{list_from, lists_at, mark_len, qualified};
 ghost use Rattle.semver_core.specs.Values.Versions.{VersionValue, HasIdentifiers};
 ghost use Rattle.semver_core.specs.Values.Views.{ids_view};
@@ -19,18 +18,15 @@ use crate::version::lists::{Identifiers, Lists, Qualifier};
 use crate::{MAX_SAFE_INTEGER, Version, scan};
 use std::alloc::{AllocError, Global};
 
-// The place behind a byte, if that is the mark.
+// Whether a mark stands at a place.
 #[inline(always)]
 #[tactic(auto, using(crate::proofs::Text::Places::places))]
-pub(crate) fn past(bytes: &[u8], at: usize, mark: u8) -> Option<usize>
+pub(crate) fn stands_at(bytes: &[u8], at: usize, mark: u8) -> bool
     requires { at ≤ length bytes.now }
-    ensures found { result ≡ past mark bytes.now at }
-    ensures place { IfSome result (λ next. next ≤ length bytes.now) }
+    ensures stands { result ≡ begins (λ b. b == mark) (drop at bytes.now) }
+    ensures inside { IsTrue result → at < length bytes.now }
 {
-    match &bytes[at..] {
-        [byte, ..] if *byte == mark => Some(at + 1),
-        _ => None,
-    }
+    matches!(&bytes[at..], [byte, ..] if *byte == mark)
 }
 
 // Whether a pre-release or a build may begin at a place: with a character of identifiers, which `-`
@@ -56,9 +52,10 @@ pub(crate) fn pre_release_start(text: &str, at: usize) -> Option<usize>
         begins is_identifier_char (drop start text.now) ≡ true) }
     ensures inside { IfSome result (λ start. start ≤ length text.now) }
 {
-    let start = match past(text.as_bytes(), at, b'-') {
-        Some(next) => next,
-        None => at,
+    let start = if stands_at(text.as_bytes(), at, b'-') {
+        at + 1
+    } else {
+        at
     };
     if scan::begins_at(text, start) {
         Some(start)
@@ -76,9 +73,8 @@ pub(crate) fn build_start(text: &str, at: usize) -> Option<usize>
         begins is_identifier_char (drop start text.now) ≡ true) }
     ensures inside { IfSome result (λ start. start ≤ length text.now) }
 {
-    let start = past(text.as_bytes(), at, b'+')?;
-    if scan::begins_at(text, start) {
-        Some(start)
+    if stands_at(text.as_bytes(), at, b'+') && scan::begins_at(text, at + 1) {
+        Some(at + 1)
     } else {
         None
     }
@@ -131,21 +127,6 @@ fn alone(text: &str, start: Option<usize>) -> Option<usize>
     }
 }
 
-// The pre-release of one identifier, which begins at a place, and the place after it.
-fn one_at(alloc: Global, text: &str, start: usize) -> Result<(Qualifier, usize), AllocError>
-    requires place { start ≤ length text.now }
-    requires here { begins is_identifier_char (drop start text.now) ≡ true }
-    ensures found { let run = prefix_len is_identifier_char (drop start text.now) in
-        IfOk result (λ found. ◌≡◌ {A = List Id × List Id × ℕ}
-        (pre_release_of found.0, build_of found.0, found.1)
-        (identifier_of (take run (drop start text.now)) ∷ [], [], start + run)) }
-    ensures full { IfOk result (λ found. IsFull found.0) }
-    ensures fits { IfOk result (λ found. found.1 ≤ length text.now) }
-{
-    let (id, end) = scan::read_run(alloc, text, start)?;
-    Ok((Qualifier::One(id), end))
-}
-
 // The pre-release and the build at a place, and the place after them; no box where there is one
 // identifier in a pre-release, or none.
 #[inline(always)]
@@ -167,7 +148,8 @@ pub(crate) fn lists_at(
         return Ok((Qualifier::Absent, at));
     }
     if let Some(first) = alone(text, start) {
-        return one_at(alloc, text, first);
+        let (id, end) = scan::read_run(alloc, text, first)?;
+        return Ok((Qualifier::One(id), end));
     }
     let mut lists = Lists::boxed(alloc)?;
     let next = read_from(alloc, text, at, start, &mut lists.pre_release)?;

@@ -12,7 +12,7 @@ ghost use Rattle.semver_core.specs.Values.Views.{ids_view, parts_value};
 
 use crate::cuts::Point;
 use crate::version::lists::{Identifiers, Lists, Qualifier};
-use crate::{Identifier, Version, scan};
+use crate::{Identifier, IdentifierRefs, Version};
 use smallvec::SmallVec;
 use std::alloc::{AllocError, Global};
 
@@ -125,8 +125,8 @@ impl Version {
     /// ```rust
     /// let (pre_release, build) = (b"rc.1", b"exp");
     /// if Identifier::is_list(pre_release) && Identifier::is_list(build) {
-    ///     let version = Version::from_texts(alloc, 1, 2, 3, pre_release, build)?;
-    ///     assert_eq!(rt; version, Version::parse(alloc, "1.2.3-rc.1+exp")?);
+    ///     let version = Version::from_texts(alloc, 1, 2, 3, pre_release, build).ok();
+    ///     assert!(rt; version == Version::parse(alloc, "1.2.3-rc.1+exp").ok());
     /// }
     /// ```
     #[tactic(auto, using(crate::proofs::Text::Listed::listed_none))]
@@ -158,7 +158,8 @@ impl Version {
                 Ok(Version::from_parts(major, minor, patch, zero))
             }
             _ => {
-                let lists = lists_of_texts(alloc, pre_release, build)?;
+                let pre_release = IdentifierRefs::of_text(pre_release);
+                let lists = copied(alloc, &pre_release, &IdentifierRefs::of_text(build))?;
                 Ok(Version::from_parts(major, minor, patch, Qualifier::Lists(lists)))
             }
         }
@@ -172,7 +173,7 @@ impl Version {
     /// ```rust
     /// let version = Version::parse(alloc, "1.2.3-beta.1+exp")?;
     /// match version.into_parts(alloc) {
-    ///     Ok(parts) => assert_eq!(rt; (parts.patch, parts.pre_release.len()), (3, 2)),
+    ///     Ok(parts) => assert!(rt; parts.patch == 3 && parts.pre_release.len() == 2),
     ///     Err(version) => assert!(rt; version.is_prerelease()),
     /// }
     /// ```
@@ -224,7 +225,11 @@ impl Version {
             Qualifier::One(id) => Qualifier::One(id.copy(alloc)?),
             Qualifier::Lists(lists) => match number_alone(lists) {
                 Some(number) => Qualifier::One(Identifier::Numeric(number)),
-                None => Qualifier::Lists(copy_lists(alloc, lists)?),
+                None => {
+                    let pre_release = IdentifierRefs::of_items(&lists.pre_release);
+                    let build = IdentifierRefs::of_items(&lists.build);
+                    Qualifier::Lists(copied(alloc, &pre_release, &build)?)
+                }
             },
         };
         Ok(Version::from_parts(self.major, self.minor, self.patch, qualifier))
@@ -244,19 +249,6 @@ fn number_alone(lists: &Lists) -> Option<u64>
     }
 }
 
-// A copy of both lists.
-fn copy_lists(alloc: Global, lists: &Lists) -> Result<Box<Lists>, AllocError>
-    ensures pre_release { IfOk result (λ copy.
-        ids_view copy.value.pre_release.items ≡ ids_view lists.now.pre_release.items) }
-    ensures build { IfOk result (λ copy.
-        ids_view copy.value.build.items ≡ ids_view lists.now.build.items) }
-{
-    let mut copy = Lists::boxed(alloc)?;
-    copy_into(alloc, &lists.pre_release, &mut copy.pre_release)?;
-    copy_into(alloc, &lists.build, &mut copy.build)?;
-    Ok(copy)
-}
-
 // Whether each byte is the digit 0: so the number 0 is spelled, as by `0` and `00`.
 #[inline(always)]
 fn is_zeros(text: &[u8]) -> bool
@@ -265,23 +257,21 @@ fn is_zeros(text: &[u8]) -> bool
     text.iter().all(|byte| *byte == b'0')
 }
 
-// The lists that two texts spell. A pointer is returned, so that a version without lists is made
-// where it goes.
+// Lists with identifiers of their own. A pointer is returned, so that a version without lists is
+// made where it goes.
 #[inline(never)]
-fn lists_of_texts(alloc: Global, pre_release: &[u8], build: &[u8]) -> Result<Box<Lists>, AllocError>
-    requires pre_release { is_listed pre_release.now ≡ true }
-    requires build { is_listed build.now ≡ true }
+pub(crate) fn copied(
+    alloc: Global,
+    pre_release: &IdentifierRefs<'_>,
+    build: &IdentifierRefs<'_>,
+) -> Result<Box<Lists>, AllocError>
     ensures pre_release { IfOk result (λ lists.
-        ids_view lists.value.pre_release.items ≡ listed pre_release.now) }
-    ensures build { IfOk result (λ lists. ids_view lists.value.build.items ≡ listed build.now) }
-    ensures first { IfOk result (λ lists.
-        0 < length pre_release.now → 0 < length lists.value.pre_release.items) }
-    ensures second { IfOk result (λ lists.
-        0 < length build.now → 0 < length lists.value.build.items) }
+        ids_view lists.value.pre_release.items ≡ pre_release.now) }
+    ensures build { IfOk result (λ lists. ids_view lists.value.build.items ≡ build.now) }
 {
     let mut lists = Lists::boxed(alloc)?;
-    scan::read_listed(alloc, pre_release, &mut lists.pre_release)?;
-    scan::read_listed(alloc, build, &mut lists.build)?;
+    pre_release.copy_into(alloc, &mut lists.pre_release)?;
+    build.copy_into(alloc, &mut lists.build)?;
     Ok(lists)
 }
 

@@ -6,15 +6,29 @@ ghost use Rattle.std.specs.List.{fold};
 ghost use Rattle.std.specs.Cmp.{eq_by_cmp_equiv, partial_equiv_from_equiv, po};
 ghost use Rattle.semver_core.specs.Internal.Hashes.{id_writes, version_writes};
 ghost use Rattle.semver_core.specs.Values.Order.{pre_cmp, precedence, version_eq};
-ghost use Rattle.semver_core.specs.Internal.OrderLaws.{precedence_total, version_alike};
+ghost use Rattle.semver_core.specs.Internal.OrderLaws.{numbers_cmp, precedence_total, version_alike};
 
 use crate::borrowed::identifiers::cmp_lists;
 use crate::{Version, VersionRef, Versioned};
 use std::cmp::Ordering;
 use std::hash::{Hash, Hasher};
 
+// The order of the three numbers of two versions of any kinds.
+#[inline(always)]
+pub(crate) fn cmp_numbers<V: Versioned, W: Versioned>(v: &V, w: &W) -> Ordering
+    ensures { result ≡ numbers_cmp (V.value v.now) (W.value w.now) }
+{
+    match v.major().cmp(&w.major()) {
+        Ordering::Equal => match v.minor().cmp(&w.minor()) {
+            Ordering::Equal => v.patch().cmp(&w.patch()),
+            order => order,
+        },
+        order => order,
+    }
+}
+
 // The order of the pre-releases of two versions of any kinds.
-#[inline(never)]
+#[inline(always)]
 #[tactic(auto, using(crate::proofs::Values::Compared::pre_compared))]
 pub(crate) fn cmp_pre<V: Versioned, W: Versioned>(v: &V, w: &W) -> Ordering
     ensures { result ≡ pre_cmp (V.value v.now).pre_release (W.value w.now).pre_release }
@@ -26,6 +40,14 @@ pub(crate) fn cmp_pre<V: Versioned, W: Versioned>(v: &V, w: &W) -> Ordering
         (false, true) => Ordering::Less,
         (false, false) => cmp_lists(a, b),
     }
+}
+
+// `cmp_pre` of two owned versions, which is not inlined where these are compared.
+#[inline(never)]
+fn cmp_owned_pre(v: &Version, w: &Version) -> Ordering
+    ensures { result ≡ pre_cmp v.now.pre_release w.now.pre_release }
+{
+    cmp_pre(v, w)
 }
 
 /// Equality of the three numbers and the pre-releases: versions are equal where they tie in the
@@ -69,7 +91,10 @@ impl Ord for Version {
 
     #[inline(always)]
     fn cmp(&self, other: &Version) -> Ordering {
-        self.cmp_precedence(other)
+        match cmp_numbers(self, other) {
+            Ordering::Equal => cmp_owned_pre(self, other),
+            order => order,
+        }
     }
 }
 

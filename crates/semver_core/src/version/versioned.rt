@@ -10,7 +10,7 @@ ghost use Rattle.semver_core.specs.Values.Versions.{VersionValue, is_release};
 
 use crate::cuts::Point;
 use crate::print::{write_decimal, write_dotted, write_list};
-use crate::version::precedence::cmp_pre;
+use crate::version::precedence::{cmp_numbers, cmp_pre};
 use crate::{IdentifierRefs, Version, VersionRef};
 use std::cmp::Ordering;
 use std::fmt;
@@ -55,14 +55,8 @@ pub trait Versioned {
     final fn cmp_precedence<W: Versioned>(&self, other: &W) -> Ordering
         ensures { result ≡ precedence (value self.now) (W.value other.now) }
     {
-        match self.major().cmp(&other.major()) {
-            Ordering::Equal => match self.minor().cmp(&other.minor()) {
-                Ordering::Equal => match self.patch().cmp(&other.patch()) {
-                    Ordering::Equal => cmp_pre(self, other),
-                    order => order,
-                },
-                order => order,
-            },
+        match cmp_numbers(self, other) {
+            Ordering::Equal => cmp_pre(self, other),
             order => order,
         }
     }

@@ -1,9 +1,5 @@
-use Rattle.std.proofs.Common.{rules}
 use Rattle.nodejs_semver.proofs.JsonTexts.{memory-if, read-some}
 use Rattle.nodejs_semver.proofs.json.version_from_json_text.Goals as goal
-
-pub returns-in-Ok-clause-reads : goal.returns-in-Ok-clause-reads
-returns-in-Ok-clause-reads c = search rules
 
 pub returns-in-Ok-clause-memory : goal.returns-in-Ok-clause-memory
 returns-in-Ok-clause-memory c =

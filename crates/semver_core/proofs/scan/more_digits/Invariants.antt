@@ -1,6 +1,5 @@
-use Rattle.std.proofs.Common.{◌≡◌, ◌-◌, ◌<◌, ◌≤◌, drop, length}
+use Rattle.semver_core.proofs.Common.{◌≡◌, ◌-◌, ◌<◌, ◌≤◌, drop, length, MAX_SAFE_INTEGER}
 use Rattle.semver_core.specs.Internal.Reading.{digits_from}
-use Rattle.semver_core.specs.declared.TheConstants.{MAX_SAFE_INTEGER}
 use Rattle.semver_core.proofs.scan.more_digits.Given as goal
 
 abbrev pub invariant-digits : goal.invariant-digits

@@ -1,5 +1,4 @@
-use Rattle.std.proofs.Common.{◌≡◌, arith, false}
-use Rattle.semver_core.specs.declared.TheConstants.{MAX_SAFE_INTEGER}
+use Rattle.nodejs_semver.proofs.Common.{◌≡◌, arith, false, MAX_SAFE_INTEGER}
 use Rattle.nodejs_semver.specs.Internal.Ignored.{all_ignored, left_list}
 use Rattle.nodejs_semver.specs.Internal.Parts.{cut_bars}
 use Rattle.nodejs_semver.proofs.Diagnosing.IgnoredLaw.{are_ignored, none_ignored}

@@ -1,5 +1,4 @@
-use Rattle.std.proofs.Common.{arith, refl}
-use Rattle.semver_core.specs.declared.TheConstants.{MAX_SAFE_INTEGER}
+use Rattle.nodejs_semver.proofs.Common.{arith, refl, MAX_SAFE_INTEGER}
 use Rattle.nodejs_semver.proofs.Diagnosing.IgnoredParts.{rest-sizes, word_read}
 use Rattle.nodejs_semver.proofs.diagnosis.ranges.read_word.Goals as goal
 

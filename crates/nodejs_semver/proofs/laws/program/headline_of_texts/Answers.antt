@@ -1,9 +1,5 @@
-use Rattle.std.proofs.Common.{◌≡◌, ◌↔◌, IsTrue, List, false, subst}
-use Rattle.semver_core.specs.Cuts.{Span}
-use Rattle.semver_core.specs.Values.Versions.{VersionValue}
-use Rattle.semver_core.specs.declared.TheConstants.{MAX_SAFE_INTEGER}
-use Rattle.nodejs_semver.specs.Ranges.Gate.{accepts}
-use Rattle.nodejs_semver.specs.Ranges.Least.{IsLeastOf}
+use Rattle.nodejs_semver.proofs.Common.{◌≡◌, IsTrue, List, false, subst, Span, VersionValue, MAX_SAFE_INTEGER, accepts, IsLeastOf}
+use Rattle.std.proofs.Common.{◌↔◌}
 use Rattle.nodejs_semver.specs.Text.WrittenSet.{Writes}
 use Rattle.nodejs_semver.proofs.Dividing.MeaningLaw.{means_some, same_meaning}
 use Rattle.nodejs_semver.proofs.Sets.{both_written, first_written}

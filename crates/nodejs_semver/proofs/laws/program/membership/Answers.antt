@@ -1,13 +1,10 @@
-use Rattle.std.proofs.Common.{◌≡◌, ◌∷◌, ◌<◌, ◌↔◌, [], IsTrue, List, arith, ap, length, subst, IsUtf8, ℕ}
+use Rattle.nodejs_semver.proofs.Common.{◌≡◌, ◌∷◌, ◌<◌, [], IsTrue, List, arith, ap, length, subst, IsUtf8, ℕ, Span, VersionValue}
+use Rattle.nodejs_semver.proofs.Common.{MAX_SAFE_INTEGER, Failure, Means}
+use Rattle.std.proofs.Common.{◌↔◌}
 use Rattle.std.specs.Prelude.{Err}
-use Rattle.semver_core.specs.Cuts.{Span}
 use Rattle.semver_core.specs.Failures.{MemoryOnlyIf, RefusedOnlyIf}
-use Rattle.semver_core.specs.Values.Versions.{VersionValue}
-use Rattle.semver_core.specs.declared.TheConstants.{MAX_SAFE_INTEGER}
-use Rattle.semver_core.specs.declared.error.Failure.{Failure}
 use Rattle.semver_core.specs.declared.error.Failure.TheVariants.{Memory, Refused}
 use Rattle.semver_core.specs.declared.error.SemverError.{SemverError}
-use Rattle.nodejs_semver.specs.Text.Meaning.{Means}
 use Rattle.nodejs_semver.specs.Text.WrittenSet.{Writes}
 use Rattle.nodejs_semver.proofs.Dividing.MeaningLaw.{same_meaning}
 use Rattle.nodejs_semver.proofs.laws.program.membership.Goals as goal

@@ -1,6 +1,5 @@
 use Rattle.std.proofs.Common.{◌≡◌, None, arith, false, refl, rules, true}
 use Rattle.std.specs.Option.{is_none}
-use Rattle.semver_core.specs.declared.TheConstants.{MAX_SAFE_INTEGER}
 use Rattle.nodejs_semver.specs.Internal.Readings.{part_view}
 use Rattle.nodejs_semver.proofs.Stopping.Ranges.{flawed, right_here, unflawed, wrong_here}
 use Rattle.nodejs_semver.proofs.npm.range_flaws.range_flaw.Goals as goal

@@ -1,5 +1,5 @@
 use Rattle.nodejs_semver.proofs.Common.{◌≡◌, ◌<◌, ℕ, List, [], arith, length, ◌∙◌, subst, sym, Some}
-use Rattle.nodejs_semver.specs.Internal.NpmReads.{IsFound, valid_alternative, words_of}
+use Rattle.nodejs_semver.specs.Internal.NpmReads.{IsFound, valid_alternative}
 use Rattle.nodejs_semver.proofs.Strict.AlternativeReads.{no-text, no-words, words-found}
 use Rattle.nodejs_semver.proofs.Strict.VersionLaw.{empty-is}
 use Rattle.nodejs_semver.proofs.Strict.WordSteps.{empty-length}
@@ -9,17 +9,14 @@ pub returns-then-is_empty : goal.returns-then-is_empty
 returns-then-is_empty c =
     let e : c.args.text.now ≡ [] = empty-is c.args.text.now (empty-length c.args.text.now ∙ sym c.if-is_empty.ensures) in
     subst (λ (t : List ℕ). IsFound c.args.include (valid_alternative c.args.loose c.args.include t) (Some c.all.result)) (sym e)
-    (no-text c.args.loose c.args.include c.all.result (c.all.ensures c.args.include))
+    (no-text c.args.loose c.args.include c.all.result (c.all.ensures.narrowed c.args.include) c.all.ensures.bare)
 
 pub returns-in-Some : goal.returns-in-Some
 returns-in-Some c =
     let some : 0 < length c.args.text.now = grind arith in
-    let all = words_of c.args.loose c.args.include c.args.text.now in
-    words-found c.args.loose c.args.include c.args.text.now c.in-Some.found some (c.in-Some.ensures c.args.include all c.words.ensures)
+    words-found c.args.loose c.args.include c.args.text.now c.in-Some.found some c.in-Some.ensures
 
 pub returns-in-None : goal.returns-in-None
 returns-in-None c =
     let some : 0 < length c.args.text.now = grind arith in
-    let all = words_of c.args.loose c.args.include c.args.text.now in
-    no-words c.args.loose c.args.include c.args.text.now c.hyphen.result c.requires some
-    (c.in-None.ensures c.args.include all c.words.ensures) c.hyphen.ensures
+    no-words c.args.loose c.args.include c.args.text.now c.hyphen.result c.requires some c.in-None.ensures c.hyphen.ensures

@@ -1,4 +1,4 @@
-use Rattle.nodejs_semver.proofs.Common.{sym}
+use Rattle.nodejs_semver.proofs.Common.{refl, sym, ◌∙◌}
 use Rattle.nodejs_semver.specs.Internal.NpmViews.{end_view}
 use Rattle.nodejs_semver.specs.Internal.NpmWords.{Ended}
 use Rattle.nodejs_semver.proofs.Strict.AlternativeReads.{hyphen-none, lower-invalid, upper-read}
@@ -18,7 +18,7 @@ pub returns-in_err-from : goal.returns-in_err-from
 returns-in_err-from c =
     let e : Ended × Ended = (end_view c.in_ok-lower.lower, end_view c.in_ok-lower.upper) in
     rw c.from_residual-in_err-from.ensures (lower-invalid c.args.loose c.args.include c.args.text.now e c.all.result.interval
-    (sym c.in_ok-lower.ensures) c.in_err-from.ensures)
+    (sym c.in_ok-lower.ensures) c.in_err-from.ensures.narrowed)
 
 pub meet_upper-requires : goal.meet_upper-requires
 meet_upper-requires c =
@@ -29,4 +29,5 @@ pub returns : goal.returns
 returns c =
     let e : Ended × Ended = (end_view c.in_ok-lower.lower, end_view c.in_ok-lower.upper) in
     upper-read c.args.loose c.args.include c.args.text.now e c.all.result.interval c.in_ok-from.from c.meet_upper.result
-    (sym c.in_ok-lower.ensures) (c.all.ensures c.args.include) c.in_ok-from.ensures c.meet_upper.ensures
+    (sym c.in_ok-lower.ensures) (c.all.ensures.narrowed c.args.include) c.in_ok-from.ensures.narrowed c.meet_upper.ensures.narrowed
+    (c.in_ok-from.ensures.bare ∙ rw c.all.ensures.bare refl) c.meet_upper.ensures.bare

@@ -1,4 +1,4 @@
-use Rattle.std.proofs.Common.{ap, sym, take_all, not, ◌∙◌}
+use Rattle.std.proofs.Common.{sym, take_all, ◌∙◌}
 use Rattle.nodejs_semver.proofs.Algebra.FlatMaps.{on_err}
 use Rattle.nodejs_semver.proofs.Questions.Unions.{goes_behind, stays_behind, taken_at}
 use Rattle.nodejs_semver.proofs.npm.simplified.push_used.Goals as goal

@@ -1,5 +1,4 @@
-use Rattle.nodejs_semver.proofs.Common.{length, sym, ◌∙◌, arith, eqb-true}
-use Rattle.std.proofs.lemmas.Result.{on_err_weaker}
+use Rattle.nodejs_semver.proofs.Common.{length, sym, ◌∙◌, arith, eqb-true, on_err_weaker}
 use Rattle.nodejs_semver.proofs.Choice.LeastOf.{least_of_none}
 use Rattle.nodejs_semver.proofs.Choice.Memory.{all_allocate}
 use Rattle.nodejs_semver.proofs.range.RangeOf.least_of_all.Goals as goal

@@ -1,8 +1,7 @@
-use Rattle.nodejs_semver.proofs.Common.{subst}
+use Rattle.nodejs_semver.proofs.Common.{subst, Any}
 use Rattle.nodejs_semver.proofs.Choice.Kinds.{any_at}
 use Rattle.nodejs_semver.proofs.Choice.Starts.{on_none, one_further}
 use Rattle.nodejs_semver.specs.Internal.Candidates.{BeginsOtherwise}
-use Rattle.std.specs.List.{Any}
 use Rattle.nodejs_semver.proofs.range.RangeOf.least_start.Goals as goal
 
 pub loop-interval-preserved : goal.loop-interval-preserved

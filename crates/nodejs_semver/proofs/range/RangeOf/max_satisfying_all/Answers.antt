@@ -1,5 +1,4 @@
-use Rattle.std.proofs.Common.{map, refl, take, take_all}
-use Rattle.nodejs_semver.specs.Internal.Shorthands.{value_of}
+use Rattle.nodejs_semver.proofs.Common.{map, refl, take, take_all, value_of}
 use Rattle.nodejs_semver.proofs.Choice.BestOf.{max_more, one_further}
 use Rattle.nodejs_semver.proofs.range.RangeOf.max_satisfying_all.Goals as goal
 use Rattle.nodejs_semver.proofs.range.RangeOf.max_satisfying_all.Goals.{then-is_new_shared, else-is_new_shared}

@@ -1,8 +1,4 @@
-use Rattle.std.proofs.Common.{false, map, take}
-use Rattle.std.specs.List.{list_all}
-use Rattle.nodejs_semver.specs.Ranges.Best.{IsMax}
-use Rattle.nodejs_semver.specs.Ranges.Gate.{accepts}
-use Rattle.nodejs_semver.specs.Internal.Shorthands.{value_of}
+use Rattle.nodejs_semver.proofs.Common.{false, map, take, list_all, accepts, IsMax, value_of}
 use Rattle.nodejs_semver.proofs.range.RangeOf.max_satisfying_all.Given as goal
 
 abbrev pub invariant-loop-version : goal.invariant-loop-version

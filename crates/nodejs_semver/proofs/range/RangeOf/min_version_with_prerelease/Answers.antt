@@ -1,11 +1,10 @@
-use Rattle.nodejs_semver.proofs.Common.{◌≡◌, true, inl, inr, sym, subst, arith, common_steps, accepts, IsLeastOf}
-use Rattle.std.specs.List.{All}
+use Rattle.nodejs_semver.proofs.Common.{◌≡◌, true, inl, inr, sym, subst, arith, common_steps, accepts, IsLeastOf, All}
+use Rattle.nodejs_semver.proofs.Common.{BeginsAfterPre, IsRaisable, Raisable, least_of, bound_of}
 use Rattle.nodejs_semver.proofs.Algebra.FlatMaps.{on_err}
 use Rattle.nodejs_semver.proofs.Choice.Kinds.{any_at, raisable_at}
 use Rattle.nodejs_semver.proofs.Choice.LeastHeld.{firsts_past, least_held, held_bare}
 use Rattle.nodejs_semver.proofs.Choice.Raised.{raisable}
-use Rattle.nodejs_semver.specs.Internal.Candidates.{BeginsAfterPre, IsAfterPre, IsRaisable, Raisable, least_of}
-use Rattle.nodejs_semver.specs.Ranges.View.{bound_of}
+use Rattle.nodejs_semver.specs.Internal.Candidates.{IsAfterPre}
 use Rattle.nodejs_semver.proofs.range.RangeOf.min_version_with_prerelease.Goals as goal
 
 pub consider_past_held-requires : goal.consider_past_held-requires

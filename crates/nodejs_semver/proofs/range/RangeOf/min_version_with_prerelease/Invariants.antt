@@ -1,6 +1,4 @@
-use Rattle.nodejs_semver.proofs.Common.{◌≡◌, true, take, accepts}
-use Rattle.nodejs_semver.specs.Internal.Candidates.{least_of}
-use Rattle.nodejs_semver.specs.Internal.Shorthands.{spans_of}
+use Rattle.nodejs_semver.proofs.Common.{◌≡◌, true, take, accepts, least_of, spans_of}
 use Rattle.nodejs_semver.proofs.Choice.LeastHeld.{firsts_past}
 use Rattle.nodejs_semver.proofs.range.RangeOf.min_version_with_prerelease.Given as goal
 

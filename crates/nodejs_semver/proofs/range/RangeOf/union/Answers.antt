@@ -1,5 +1,4 @@
-use Rattle.std.proofs.Common.{◌∙◌, ap, arith, refl}
-use Rattle.nodejs_semver.specs.Ranges.Gate.{accepts}
+use Rattle.nodejs_semver.proofs.Common.{◌∙◌, ap, arith, refl, accepts}
 use Rattle.nodejs_semver.proofs.Algebra.FlatMaps.{on_err}
 use Rattle.nodejs_semver.proofs.Values.{taking-values}
 use Rattle.nodejs_semver.proofs.Questions.Unions.{more-taking, union-accepts, union-made, union-valid}

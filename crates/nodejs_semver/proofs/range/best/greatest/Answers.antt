@@ -1,5 +1,4 @@
-use Rattle.std.proofs.Common.{refl, take_all}
-use Rattle.nodejs_semver.specs.Internal.Shorthands.{value_of}
+use Rattle.nodejs_semver.proofs.Common.{refl, take_all, value_of}
 use Rattle.nodejs_semver.proofs.Choice.BestOf.{max_more, one_further}
 use Rattle.nodejs_semver.proofs.range.best.greatest.Goals as goal
 use Rattle.nodejs_semver.proofs.range.best.greatest.Goals.{then-is_new_max, else-is_new_max}

@@ -1,5 +1,4 @@
-use Rattle.std.proofs.Common.{refl, take_all}
-use Rattle.nodejs_semver.specs.Internal.Shorthands.{value_of}
+use Rattle.nodejs_semver.proofs.Common.{refl, take_all, value_of}
 use Rattle.nodejs_semver.proofs.Choice.BestOf.{min_more, one_further}
 use Rattle.nodejs_semver.proofs.range.best.least.Goals as goal
 use Rattle.nodejs_semver.proofs.range.best.least.Goals.{then-is_new_min, else-is_new_min}

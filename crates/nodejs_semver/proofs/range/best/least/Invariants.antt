@@ -1,7 +1,5 @@
-use Rattle.std.proofs.Common.{false, map, take}
+use Rattle.nodejs_semver.proofs.Common.{false, map, take, accepts, spans_of, value_of}
 use Rattle.nodejs_semver.specs.Ranges.Best.{IsMin}
-use Rattle.nodejs_semver.specs.Ranges.Gate.{accepts}
-use Rattle.nodejs_semver.specs.Internal.Shorthands.{spans_of, value_of}
 use Rattle.nodejs_semver.proofs.range.best.least.Given as goal
 
 abbrev pub invariant-loop-version : goal.invariant-loop-version

@@ -1,7 +1,4 @@
-use Rattle.std.proofs.Common.{map, take}
-use Rattle.semver_core.specs.Values.Versions.{is_release}
-use Rattle.nodejs_semver.specs.Ranges.Best.{IsMax}
-use Rattle.nodejs_semver.specs.Internal.Shorthands.{value_of}
+use Rattle.nodejs_semver.proofs.Common.{map, take, is_release, IsMax, value_of}
 use Rattle.nodejs_semver.proofs.range.choice.newest_release.Given as goal
 
 abbrev pub invariant-loop-version : goal.invariant-loop-version

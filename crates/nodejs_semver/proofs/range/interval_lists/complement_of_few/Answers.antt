@@ -1,13 +1,12 @@
-use Rattle.std.proofs.Common.{◌∙◌, ap, rules, sym, take_all}
+use Rattle.nodejs_semver.proofs.Common.{◌∙◌, ap, rules, sym, take_all, minus}
 use Rattle.std.proofs.lemmas.List.Sums.{fold_more}
-use Rattle.nodejs_semver.specs.Internal.Sets.{minus}
 use Rattle.nodejs_semver.proofs.range.interval_lists.complement_of_few.Goals as goal
 
 pub loop-interval-preserved : goal.loop-interval-preserved
 loop-interval-preserved g c =
     rw (fold_more _ _ c.args.intervals.now _ c.interval-item.result c.loop-interval-test.true, sym c.interval-item.is)
     (rw (sym c.loop-interval.invariant, sym c.deref.ensures)
-    (rw c.in_ok-next.ensures.items at c.in_ok-push_remainders.ensures.items))
+    (rw c.new-next.ensures.items at c.in_ok-push_remainders.ensures.items))
 
 pub returns : goal.returns
 returns g c =

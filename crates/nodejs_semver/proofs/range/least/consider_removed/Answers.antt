@@ -1,9 +1,7 @@
-use Rattle.nodejs_semver.proofs.Common.{inl, inr, sym, subst, arith}
+use Rattle.nodejs_semver.proofs.Common.{inl, inr, sym, subst, arith, Raisable, wanted, spans_of, bound_of}
 use Rattle.nodejs_semver.proofs.Algebra.FlatMaps.{on_err}
 use Rattle.nodejs_semver.proofs.Choice.Kinds.{any_at, raisable_at, removed_further}
-use Rattle.nodejs_semver.specs.Internal.Candidates.{IsAfterPre, Raisable, wanted}
-use Rattle.nodejs_semver.specs.Internal.Shorthands.{spans_of}
-use Rattle.nodejs_semver.specs.Ranges.View.{bound_of}
+use Rattle.nodejs_semver.specs.Internal.Candidates.{IsAfterPre}
 use Rattle.nodejs_semver.proofs.range.least.consider_removed.Goals as goal
 
 pub consider_past-requires : goal.consider_past-requires

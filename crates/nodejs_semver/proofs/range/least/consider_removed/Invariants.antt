@@ -1,6 +1,5 @@
-use Rattle.std.proofs.Common.{◌≡◌, take, fold, flat_map}
-use Rattle.nodejs_semver.specs.Internal.Candidates.{better, firsts, removed_marks, wanted}
-use Rattle.nodejs_semver.specs.Internal.Shorthands.{spans_of}
+use Rattle.nodejs_semver.proofs.Common.{◌≡◌, take, flat_map, better, firsts, removed_marks, wanted, spans_of}
+use Rattle.std.proofs.Common.{fold}
 use Rattle.nodejs_semver.proofs.range.least.consider_removed.Given as goal
 
 abbrev pub invariant-loop-interval : goal.invariant-loop-interval

@@ -1,8 +1,6 @@
-use Rattle.nodejs_semver.proofs.Common.{◌≡◌, ◌&&◌, rules, Bool, Span, VersionValue, YieldsList-from_slice, holds, precedence, lets_in, span_of}
-use Rattle.std.proofs.Common.{option_map, tests}
+use Rattle.nodejs_semver.proofs.Common.{◌&&◌, rules, YieldsList-from_slice, holds, precedence, lets_in, span_of, spans_of}
+use Rattle.std.proofs.Common.{tests}
 use Rattle.std.proofs.lemmas.Iterator.Search.{find_from_yields_List}
-use Rattle.std.specs.List.{find}
-use Rattle.nodejs_semver.specs.Internal.Shorthands.{spans_of}
 use Rattle.nodejs_semver.proofs.Choice.Kinds.{found_raisable, found_value}
 use Rattle.nodejs_semver.proofs.range.neighbours.first_accepting.Goals as goal
 

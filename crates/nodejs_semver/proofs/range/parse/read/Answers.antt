@@ -1,6 +1,4 @@
-use Rattle.std.proofs.Common.{List, ℕ, rules, subst, IsTrue}
-use Rattle.semver_core.specs.declared.TheConstants.{MAX_SAFE_INTEGER}
-use Rattle.nodejs_semver.specs.Text.Common.{AreCommonParts}
+use Rattle.nodejs_semver.proofs.Common.{List, ℕ, rules, subst, IsTrue, MAX_SAFE_INTEGER, AreCommonParts}
 use Rattle.nodejs_semver.proofs.Everyday.Whole.{common_list}
 use Rattle.nodejs_semver.proofs.range.parse.read.Goals as goal
 

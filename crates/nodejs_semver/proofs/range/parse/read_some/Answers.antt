@@ -1,8 +1,5 @@
-use Rattle.std.proofs.Common.{◌≡◌, ◌<◌, ◌⊎◌, [], length, arith, sym, true, rules}
-use Rattle.semver_core.specs.declared.TheConstants.{MAX_SAFE_INTEGER}
-use Rattle.std.proofs.lemmas.Grind.{common_steps}
-use Rattle.std.specs.List.{list_any}
-use Rattle.nodejs_semver.specs.Internal.Denotes.{denotes}
+use Rattle.nodejs_semver.proofs.Common.{◌≡◌, ◌<◌, ◌⊎◌, [], length, arith, sym, true, rules, MAX_SAFE_INTEGER, common_steps}
+use Rattle.nodejs_semver.proofs.Common.{list_any, denotes}
 use Rattle.nodejs_semver.proofs.Everyday.Whole.{denoted_range}
 use Rattle.nodejs_semver.proofs.Dividing.MeaningLaw.{meant, meant_so}
 use Rattle.nodejs_semver.proofs.Dividing.WrittenLaw.{accepted_written}

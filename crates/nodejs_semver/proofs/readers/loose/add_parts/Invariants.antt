@@ -1,7 +1,5 @@
-use Rattle.nodejs_semver.proofs.Common.{◌≡◌, ◌++◌, ◌∷◌, flat_map, MAX_SAFE_INTEGER}
-use Rattle.nodejs_semver.specs.Internal.Denotes.{part_denotes}
-use Rattle.nodejs_semver.specs.Internal.PartFronts.{later_parts, left_over}
-use Rattle.nodejs_semver.specs.Internal.Readings.{rest_view}
+use Rattle.nodejs_semver.proofs.Common.{◌≡◌, ◌++◌, ◌∷◌, flat_map, MAX_SAFE_INTEGER, part_denotes, later_parts, rest_view}
+use Rattle.nodejs_semver.specs.Internal.PartFronts.{left_over}
 use Rattle.nodejs_semver.proofs.readers.loose.add_parts.Given as goal
 
 abbrev pub invariant-parts : goal.invariant-parts

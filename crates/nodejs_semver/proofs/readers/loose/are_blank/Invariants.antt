@@ -1,6 +1,5 @@
-use Rattle.nodejs_semver.proofs.Common.{◌≡◌, list_all, is_empty}
-use Rattle.nodejs_semver.specs.Internal.PartFronts.{later_parts, left_over}
-use Rattle.nodejs_semver.specs.Internal.Readings.{rest_view}
+use Rattle.nodejs_semver.proofs.Common.{◌≡◌, list_all, is_empty, later_parts, rest_view}
+use Rattle.nodejs_semver.specs.Internal.PartFronts.{left_over}
 use Rattle.nodejs_semver.proofs.readers.loose.are_blank.Given as goal
 
 abbrev pub invariant-parts : goal.invariant-parts

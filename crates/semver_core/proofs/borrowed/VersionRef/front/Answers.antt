@@ -1,5 +1,4 @@
-use Rattle.semver_core.proofs.Common.{listed, sym, []}
-use Rattle.semver_core.specs.declared.TheConstants.{MAX_SAFE_INTEGER}
+use Rattle.semver_core.proofs.Common.{listed, sym, [], MAX_SAFE_INTEGER}
 use Rattle.semver_core.proofs.Text.Ends.{nothing_listed}
 use Rattle.semver_core.proofs.Text.Fronts.{front_found, front_not, front_whole}
 use Rattle.semver_core.proofs.borrowed.VersionRef.front.Goals as goal

@@ -1,5 +1,4 @@
-use Rattle.semver_core.proofs.Common.{arith, rules, NoValue, listed, Reads}
-use Rattle.semver_core.specs.declared.TheConstants.{MAX_SAFE_INTEGER}
+use Rattle.semver_core.proofs.Common.{arith, rules, NoValue, listed, Reads, MAX_SAFE_INTEGER}
 use Rattle.semver_core.proofs.Text.Ends.{not_parsed, short_parsed}
 use Rattle.semver_core.proofs.Text.Whole.{release_read}
 use Rattle.semver_core.proofs.borrowed.VersionRef.parse.Goals as goal

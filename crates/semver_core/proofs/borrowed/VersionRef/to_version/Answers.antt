@@ -1,10 +1,6 @@
-use Rattle.std.proofs.Common.{◌∙◌, ap, rules}
-use Rattle.semver_core.specs.Values.Versions.{VersionValue}
+use Rattle.semver_core.proofs.Common.{◌∙◌, ap, VersionValue}
 use Rattle.semver_core.proofs.Text.Zeros.{listed_empty}
 use Rattle.semver_core.proofs.borrowed.VersionRef.to_version.Goals as goal
-
-pub returns-clause-whole : goal.returns-clause-whole
-returns-clause-whole c = search rules
 
 pub returns-clause-zero : goal.returns-clause-zero
 returns-clause-zero c = λ zero none.

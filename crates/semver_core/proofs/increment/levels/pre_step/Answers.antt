@@ -1,10 +1,6 @@
-use Rattle.std.proofs.Common.{◌≡◌, ◌∙◌, refl, List, ℕ}
-use Rattle.std.specs.Prelude.{Result, Ok, Err}
-use Rattle.semver_core.specs.Increments.Table.{◌>>=◌, Fault, advance, identify, pre_step}
+use Rattle.semver_core.proofs.Common.{◌≡◌, ◌∙◌, refl, List, ℕ, Result, Ok, Err, Fault, advance, Id, VersionValue, IdentifierBase}
+use Rattle.semver_core.specs.Increments.Table.{◌>>=◌, identify, pre_step}
 use Rattle.semver_core.specs.Internal.IncrementSteps.{parts_ref_value, stepped}
-use Rattle.semver_core.specs.Text.Identifiers.{Id}
-use Rattle.semver_core.specs.Values.Versions.{VersionValue}
-use Rattle.semver_core.specs.declared.increment.IdentifierBase.{IdentifierBase}
 use Rattle.semver_core.proofs.Increments.Memory.{step_fails}
 use Rattle.semver_core.proofs.increment.levels.pre_step.Goals as goal
 

@@ -1,9 +1,7 @@
-use Rattle.std.proofs.Common.{◌∙◌, ap, rules, subst, sym}
-use Rattle.std.specs.Prelude.{Ok, set}
-use Rattle.semver_core.specs.Text.Identifiers.{Numeric}
+use Rattle.semver_core.proofs.Common.{◌∙◌, ap, rules, subst, sym, Ok, Numeric, ids_view}
+use Rattle.std.specs.Prelude.{set}
 use Rattle.semver_core.specs.Increments.Table.{◌>>=◌}
 use Rattle.semver_core.specs.Internal.IncrementSteps.{Steps}
-use Rattle.semver_core.specs.Values.Views.{ids_view}
 use Rattle.semver_core.specs.declared.identifier.Identifier.TheVariants as variant
 use Rattle.semver_core.proofs.Increments.LastNumber.{advance_at, number_set}
 use Rattle.semver_core.proofs.increment.pre_release.advance.Goals as goal

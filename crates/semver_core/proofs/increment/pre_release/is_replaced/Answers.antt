@@ -1,7 +1,4 @@
-use Rattle.std.proofs.Common.{◌≡◌, ◌∙◌, ◌∷◌, false, sym, arith}
-use Rattle.std.specs.Str.{bytes_eq}
-use Rattle.semver_core.specs.Lists.{is_empty}
-use Rattle.semver_core.specs.Text.Identifiers.{AlphaNumeric}
+use Rattle.semver_core.proofs.Common.{◌≡◌, ◌∙◌, ◌∷◌, false, sym, arith, bytes_eq, is_empty, AlphaNumeric}
 use Rattle.semver_core.proofs.Increments.Replaced.{text_replaced}
 use Rattle.semver_core.proofs.increment.pre_release.is_replaced.Goals as goal
 

@@ -1,6 +1,5 @@
-use Rattle.std.proofs.Common.{take}
+use Rattle.semver_core.proofs.Common.{take, ids_view}
 use Rattle.semver_core.specs.Internal.IncrementSteps.{Tracks}
-use Rattle.semver_core.specs.Values.Views.{ids_view}
 use Rattle.semver_core.proofs.increment.pre_release.last_number.Given as goal
 
 abbrev pub invariant-ids : goal.invariant-ids

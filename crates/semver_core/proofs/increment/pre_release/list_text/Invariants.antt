@@ -1,7 +1,5 @@
-use Rattle.std.proofs.Common.{◌≡◌, take}
+use Rattle.semver_core.proofs.Common.{◌≡◌, take, list_text, ids_view}
 use Rattle.std.specs.Prelude.{string_bytes}
-use Rattle.semver_core.specs.Internal.IncrementSteps.{list_text}
-use Rattle.semver_core.specs.Values.Views.{ids_view}
 use Rattle.semver_core.proofs.increment.pre_release.list_text.Given as goal
 
 abbrev pub invariant-parts : goal.invariant-parts

@@ -1,6 +1,5 @@
-use Rattle.std.proofs.Common.{◌≡◌, ◌∙◌, arith}
+use Rattle.semver_core.proofs.Common.{◌≡◌, ◌∙◌, arith, MAX_SAFE_INTEGER}
 use Rattle.semver_core.specs.Printing.Text.{version_text}
-use Rattle.semver_core.specs.declared.TheConstants.{MAX_SAFE_INTEGER}
 use Rattle.semver_core.proofs.Printing.Reread.{reread_same}
 use Rattle.semver_core.proofs.laws.printing.reread.Goals as goal
 

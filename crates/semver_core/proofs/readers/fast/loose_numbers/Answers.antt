@@ -1,10 +1,8 @@
-use Rattle.std.proofs.Common.{Option, Some, None, ◌≡◌, ◌∙◌, ap, arith, sym, ℕ, List, IfSome, IfNone}
-use Rattle.semver_core.specs.Failures.{NoValue}
-use Rattle.semver_core.specs.declared.TheConstants.{MAX_SAFE_INTEGER}
+use Rattle.semver_core.proofs.Common.{Option, Some, None, ◌≡◌, ◌∙◌, ap, arith, sym, ℕ, List, NoValue, MAX_SAFE_INTEGER, qualified}
+use Rattle.semver_core.proofs.Common.{triple_at, IsAfterBlank, Reads}
+use Rattle.std.proofs.Common.{IfSome, IfNone}
 use Rattle.semver_core.specs.Internal.CommonReading.{small_len}
-use Rattle.semver_core.specs.Internal.Reading.{mark_len, qualified, triple_at}
-use Rattle.semver_core.specs.Text.Characters.{IsAfterBlank}
-use Rattle.semver_core.specs.Text.VersionText.{Reads}
+use Rattle.semver_core.specs.Internal.Reading.{mark_len}
 use Rattle.semver_core.proofs.Text.Whole.{loose_not, loose_read}
 use Rattle.semver_core.proofs.readers.fast.loose_numbers.Goals as goal
 

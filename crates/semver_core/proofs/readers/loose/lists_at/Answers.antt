@@ -1,10 +1,7 @@
-use Rattle.std.proofs.Common.{◌≡◌, ◌∙◌, ◌+◌, ◌∷◌, ℕ, List, [], Option, Some, true, false, ap, drop, refl, subst, sym, take}
-use Rattle.std.proofs.lemmas.Result.{IfOk-weaker}
-use Rattle.std.specs.List.{prefix_len}
+use Rattle.semver_core.proofs.Common.{◌≡◌, ◌∙◌, ◌+◌, ◌∷◌, ℕ, List, [], Option, Some, true, false, ap, drop, refl, subst, sym, take}
+use Rattle.semver_core.proofs.Common.{prefix_len, begins, is_identifier_char, Id, goes_on, identifier_of}
 use Rattle.std.specs.Prelude.{IfSome}
 use Rattle.semver_core.specs.Internal.Reading.{build_at, list_from, lists_at, or_nothing, pre_release_at}
-use Rattle.semver_core.specs.Text.Characters.{begins, is_identifier_char}
-use Rattle.semver_core.specs.Text.Identifiers.{Id, goes_on, identifier_of}
 use Rattle.semver_core.proofs.Text.Runs.{list_done}
 use Rattle.semver_core.proofs.readers.loose.lists_at.Goals as goal
 
@@ -34,7 +31,7 @@ returns-in-Some-clause-found c =
     c.pre_release_start-start.ensures.found ∙ ap (λ (o : Option ℕ). list_from text c.args.at o) c.in-Some.ensures.same in
     let whole = one_found text c.args.at first (first + run) (identifier_of (take run (drop first text))) refl refl begun
     c.in-Some.ensures.ends c.in-Some.ensures.unbuilt found in
-    IfOk-weaker c.one_at.result _ _ (λ r e. e ∙ whole) c.one_at.ensures.found
+    rw (c.in_ok-id.ensures.id, c.in_ok-id.ensures.end) whole
 
 pub returns-clause-found : goal.returns-clause-found
 returns-clause-found c =

@@ -1,7 +1,6 @@
-use Rattle.std.proofs.Common.{Err, rules}
+use Rattle.nodejs_semver.proofs.Common.{rules, MAX_SAFE_INTEGER, Means}
+use Rattle.std.proofs.Common.{Err}
 use Rattle.std.specs.Prelude.{⊤}
-use Rattle.semver_core.specs.declared.TheConstants.{MAX_SAFE_INTEGER}
-use Rattle.nodejs_semver.specs.Text.Meaning.{Means}
 use Rattle.nodejs_semver.proofs.Dividing.MeaningLaw.{only_several}
 use Rattle.nodejs_semver.proofs.Values.{spans_same}
 use Rattle.nodejs_semver.proofs.range.parse.RangeRef.parse.Goals as goal

@@ -1,0 +1,6 @@
+use Rattle.std.proofs.Common.{◌≡◌, drop}
+use Rattle.nodejs_semver.specs.Npm.Malformed.{after_dot}
+use Rattle.nodejs_semver.proofs.npm.malformed.after_dot.Given as goal
+
+abbrev pub invariant-bytes : goal.invariant-bytes
+invariant-bytes l = after_dot l.text ≡ after_dot (drop l.at l.text)

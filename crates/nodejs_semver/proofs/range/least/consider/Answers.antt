@@ -1,0 +1,10 @@
+use Rattle.nodejs_semver.proofs.Common.{true, false, sym, ap, ◌∙◌, Some}
+use Rattle.nodejs_semver.proofs.Choice.LeastOf.{better_bare}
+use Rattle.nodejs_semver.proofs.range.least.consider.Goals as goal
+
+pub returns-in_ok-bare-clause-best : goal.returns-in_ok-bare-clause-best
+returns-in_ok-bare-clause-best g c =
+    ap Some c.in_ok-bare.ensures ∙ better_bare true _ _ _ _ (sym c.if-improves.true ∙ c.improves.ensures)
+
+pub returns-else-improves-clause-best : goal.returns-else-improves-clause-best
+returns-else-improves-clause-best g c = better_bare false _ _ _ _ (sym c.if-improves.false ∙ c.improves.ensures)

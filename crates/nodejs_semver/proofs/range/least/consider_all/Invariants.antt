@@ -1,0 +1,9 @@
+use Rattle.std.proofs.Common.{◌≡◌, take, fold, flat_map}
+use Rattle.nodejs_semver.specs.Internal.Candidates.{better, firsts, list_marks, wanted}
+use Rattle.nodejs_semver.specs.Internal.Shorthands.{spans_of}
+use Rattle.nodejs_semver.proofs.range.least.consider_all.Given as goal
+
+abbrev pub invariant-loop-range : goal.invariant-loop-range
+invariant-loop-range g l =
+    l.best ≡ fold (better (wanted l.kept (spans_of g.W.Versioned.value l.removed))) l.initial.best
+    (flat_map firsts (flat_map list_marks (take l.range-index l.kept)))

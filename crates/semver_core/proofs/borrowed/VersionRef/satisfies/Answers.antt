@@ -1,5 +1,0 @@
-use Rattle.std.proofs.Common.{rules}
-use Rattle.semver_core.proofs.borrowed.VersionRef.satisfies.Goals as goal
-
-pub returns : goal.returns
-returns g c = search rules

@@ -1,0 +1,6 @@
+use Rattle.std.proofs.Common.{◌≡◌, ◌+◌, drop}
+use Rattle.semver_core.specs.Internal.Reading.{list_len}
+use Rattle.semver_core.proofs.borrowed.read.list_len.Given as goal
+
+abbrev pub invariant-bytes : goal.invariant-bytes
+invariant-bytes l = list_len l.bytes ≡ l.len + list_len (drop l.len l.bytes)
