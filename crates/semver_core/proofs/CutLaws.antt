@@ -1,21 +1,15 @@
 -- Shared with the layers above: tests of what a comparison answers, the order of cuts, and the points of what two spans have in
 -- common or one leaves of another.
-use Rattle.std.proofs.Common.{◌≡◌, refl, sym, ◌∙◌, ap, Bool, true, false, ◌&&◌, ◌||◌, not, Option, Some, None, arith, is_some}
-use Rattle.std.proofs.Common.{inl, inr, ℕ, subst}
-use Rattle.std.proofs.lemmas.Bool.{and_parts, cases_Bool, cond_both}
-use Rattle.std.proofs.Math.Bool.{and_comm}
-use Rattle.std.specs.declared.cmp.Ordering.{Ordering}
-use Rattle.std.specs.declared.cmp.Ordering.TheVariants.{Less, Equal, Greater}
-use Rattle.std.specs.Ordering.{nat_cmp, ordering_reverse, is_lt, is_le, is_gt, on, then_cmp, bool_cmp}
-use Rattle.std.specs.Option.{option_cmp}
-use Rattle.std.specs.Cmp.Lexicographic.{options_total}
-use Rattle.std.specs.Cmp.{IsTotalOrder, upto, tied_itself, on_total, then_total, nat_cmp_total, bool_cmp_total}
-use Rattle.semver_core.specs.Internal.Sides.{Near}
-use Rattle.semver_core.specs.Clips.{clip}
-use Rattle.semver_core.specs.Cuts.{Cut, Start, Beside, End, cut_cmp, is_past, lower_cut, upper_cut, Span, is_interval, interval}
-use Rattle.semver_core.specs.Cuts.{holds, greater_lower, lesser_upper, meet, left_below, left_above, remainders, option_holds}
-use Rattle.semver_core.specs.declared.cuts.bound.Bound.{Bound}
-use Rattle.semver_core.specs.declared.cuts.bound.Bound.TheVariants.{Unbounded, Before, After}
+use Rattle.semver_core.proofs.Common.{Bool, None, Option, Some, ap, arith, false, inl, inr, refl, subst, sym, true, ℕ, ◌||◌, ◌∙◌}
+use Rattle.semver_core.proofs.Common.{◌≡◌, and_parts, cases_Bool, tied_itself, is_le, Equal, Greater, Less, clip, Span}
+use Rattle.semver_core.proofs.Common.{greater_lower, is_interval, lesser_upper, meet, option_holds, remainders, is_some, not}
+use Rattle.semver_core.proofs.Common.{◌&&◌, upto, ordering_reverse, Ordering}
+use Rattle.semver_core.specs.Cuts.{Cut, Start, Beside, End, cut_cmp, is_past, lower_cut, upper_cut, interval, holds, left_below}
+use Rattle.semver_core.specs.{Cuts.left_above, Internal.Sides.Near, declared.cuts.bound.Bound.Bound}
+use Rattle.{semver_core.specs.declared.cuts.bound.Bound.TheVariants.{Unbounded, Before, After}, std.proofs.Math.Bool.and_comm}
+use Rattle.std.{proofs.lemmas.Bool.cond_both, specs.Cmp.{IsTotalOrder, on_total, then_total, nat_cmp_total, bool_cmp_total}}
+use Rattle.std.specs.{Cmp.Lexicographic.options_total, Option.option_cmp, Ordering.{nat_cmp, is_lt, is_gt, on, then_cmp}}
+use Rattle.std.specs.Ordering.{bool_cmp}
 
 -- what the tests of an answer say together
 pub tells : (r : Ordering) → (is_le r ≡ not (is_gt r))

@@ -1,9 +1,7 @@
 -- A version is made or copied without memory where it has no identifiers, or the pre-release 0 alone.
-use Rattle.semver_core.proofs.Common.{◌≡◌, true, List, [], ◌∷◌, refl, arith, inl, inr, Result, Ok, Err, cases_Bool, eqb-true}
-use Rattle.semver_core.proofs.Common.{nat_tests, Id, Numeric, AlphaNumeric, HasIdentifiers, VersionValue}
-use Rattle.std.proofs.Common.{◌==◌}
-use Rattle.std.specs.Prelude.{IsOk, OnErr}
-use Rattle.semver_core.specs.Values.Memory.{takes_memory}
+use Rattle.semver_core.proofs.Common.{AlphaNumeric, Id, Numeric, VersionValue, HasIdentifiers, List, [], arith, inl, inr, refl}
+use Rattle.semver_core.proofs.Common.{true, ◌∷◌, ◌≡◌, nat_tests, cases_Bool, eqb-true, ◌==◌, Err, Ok, Result}
+use Rattle.{semver_core.specs.Values.Memory.takes_memory, std.specs.Prelude.{IsOk, OnErr}}
 
 taken : (v : VersionValue) (pre build : List Id) → v.pre_release ≡ pre → v.build ≡ build → HasIdentifiers v
     → (v.pre_release ≡ Numeric 0 ∷ [] → v.build ≡ [] → ⊥) → takes_memory v ≡ true

@@ -1,12 +1,7 @@
 -- `diff` is symmetric.
-use Rattle.semver_core.proofs.Common.{◌≡◌, refl, ◌∙◌, ap, Less, Equal, Greater, VersionValue}
-use Rattle.std.specs.Prelude.{Option, Some, None}
-use Rattle.std.specs.declared.cmp.Ordering.{Ordering}
-use Rattle.std.specs.Ordering.{ordering_reverse}
-use Rattle.semver_core.specs.Difference.{kind_between, kind_up}
-use Rattle.semver_core.specs.Values.Order.{precedence}
-use Rattle.semver_core.specs.Internal.OrderLaws.{precedence_total}
-use Rattle.semver_core.specs.declared.difference.VersionDiff.{VersionDiff}
+use Rattle.semver_core.proofs.Common.{VersionValue, None, Option, Some, ap, refl, ◌∙◌, ◌≡◌, Equal, Greater, Less, kind_between}
+use Rattle.semver_core.proofs.Common.{precedence_total, precedence, VersionDiff, ordering_reverse, Ordering}
+use Rattle.semver_core.specs.Difference.{kind_up}
 
 abbrev kind_by : Ordering → VersionValue → VersionValue → Option VersionDiff
 kind_by r v w = elim r [ Less ↦ Some (kind_up v w) | Equal ↦ None | Greater ↦ Some (kind_up w v) ]

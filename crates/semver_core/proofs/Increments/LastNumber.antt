@@ -1,24 +1,15 @@
 -- The last number of a list.
-use Rattle.semver_core.proofs.Common.{◌≡◌, refl, sym, ap, ◌∙◌, ℕ, ◌+◌, ◌<◌, ◌≤◌, Bool, true, false, List, [], ◌∷◌, ◌++◌, length}
-use Rattle.semver_core.proofs.Common.{take, get_or, append_assoc, arith, drop, inl, inr, Result, Ok, Err, ◌==◌, list_all, Id}
-use Rattle.semver_core.proofs.Common.{Numeric, AlphaNumeric, list_text, has_numeric, advance, raise_last, one_more, Fault, is_empty}
-use Rattle.semver_core.proofs.Common.{id_text, IdentifierBase, id_view, ids_view, Identifier, nat_tests, cases_lt, is_ascii_digit}
-use Rattle.semver_core.proofs.Common.{digits_value, tied_itself, bytes_eq, id_cmp}
-use Rattle.std.specs.Prelude.{Option, Some, None, set, if◌then◌else◌, suc, zero, ◌^◌, ◌-◌, ◌↔◌, IsTrue}
-use Rattle.std.proofs.Math.Seq.{take-append_seam}
-use Rattle.std.proofs.lemmas.List.{length-set, take_all, take_more, length-map}
-use Rattle.std.specs.List.{refill}
-use Rattle.semver_core.proofs.Text.Runs.{ids_view_push, numerals}
-use Rattle.semver_core.specs.Internal.IncrementSteps.{IsLastNumber, Tracks}
-use Rattle.semver_core.specs.Increments.Table.{asked, is_kept, Overflow, ◌>>=◌}
-use Rattle.std.proofs.lemmas.Grind.{common_steps}
-use Rattle.std.proofs.lemmas.Str.Parse.{parse_digits}
-use Rattle.std.specs.Result.{MatchResult}
-use Rattle.std.specs.Str.Parse.{ParsesUnsigned}
-use Rattle.std.specs.Ordering.{is_eq}
-use Rattle.std.specs.Cmp.{Equal-is}
-use Rattle.semver_core.specs.Internal.OrderLaws.{id_same, id_total}
-use Rattle.std.proofs.lemmas.Map.Text.{is_eq-slice_cmp}
+use Rattle.semver_core.proofs.Common.{Fault, advance, has_numeric, one_more, raise_last, list_text, is_empty, id_text}
+use Rattle.semver_core.proofs.Common.{AlphaNumeric, Id, Numeric, id_cmp, id_view, ids_view, Identifier, IdentifierBase, Bool}
+use Rattle.semver_core.proofs.Common.{List, None, Option, Some, [], ap, append_assoc, arith, drop, false, get_or, inl, inr}
+use Rattle.semver_core.proofs.Common.{length, refl, sym, take, true, ℕ, ◌++◌, ◌+◌, ◌-◌, ◌<◌, ◌∙◌, ◌∷◌, ◌≡◌, ◌≤◌, nat_tests}
+use Rattle.semver_core.proofs.Common.{cases_lt, is_ascii_digit, tied_itself, list_all, ◌==◌, Err, Ok, Result, digits_value}
+use Rattle.semver_core.proofs.Common.{bytes_eq, Overflow, is_kept, ◌>>=◌, Tracks, id_total, if◌then◌else◌, set, suc, zero, ◌^◌}
+use Rattle.semver_core.proofs.Common.{take-append_seam, length-map, take_all}
+use Rattle.semver_core.specs.{Increments.Table.asked, Internal.IncrementSteps.IsLastNumber, Internal.OrderLaws.id_same}
+use Rattle.std.proofs.lemmas.{Grind.common_steps, List.{length-set, take_more}, Map.Text.is_eq-slice_cmp, Str.Parse.parse_digits}
+use Rattle.std.specs.{Cmp.Equal-is, List.refill, Ordering.is_eq, Prelude.{◌↔◌, IsTrue}, Result.MatchResult}
+use Rattle.{std.specs.Str.Parse.ParsesUnsigned, semver_core.proofs.Text.Runs.{ids_view_push, numerals}}
 
 no_more : (xs : List Id) (text : List ℕ) → has_numeric xs ≡ false → has_numeric (xs ++ AlphaNumeric text ∷ []) ≡ false
 no_more [] text h = refl

@@ -1,26 +1,17 @@
 -- The versions that `inc` returns: they are the least ones, above the version, and keep its build.
-use Rattle.semver_core.proofs.Common.{◌≡◌, refl, ◌∙◌, ap, subst, ℕ, ◌+◌, ◌-◌, ◌<◌, ◌≤◌, Bool, true, false, List, [], ◌∷◌, ◌++◌}
-use Rattle.semver_core.proofs.Common.{length, arith, Result, Ok, Err, ⊤, and_parts, Less, slice_cmp, nat_tests, Id, Numeric}
-use Rattle.semver_core.proofs.Common.{AlphaNumeric, Fault, one_more, has_numeric, raise_last, advance, list_text, is_empty}
-use Rattle.semver_core.proofs.Common.{tied_itself, bytes_eq, id_cmp, VersionValue, IsId, IdentifierBase}
-use Rattle.std.proofs.Common.{◌^◌, ◌==◌, ◌&&◌, not, if◌then◌else◌, codes}
-use Rattle.std.specs.Prelude.{IsOkAnd, nat_eq}
-use Rattle.std.proofs.lemmas.Slice.Eq.{bytes_eq-Decides}
-use Rattle.std.specs.List.{starts_with}
-use Rattle.std.specs.Ordering.{ordering_then}
-use Rattle.std.proofs.lemmas.List.Elements.{All-nil, All-cons}
-use Rattle.semver_core.specs.Increments.Table.{checked, by_word, Overflow, InvalidIncrementArgument, is_false, next_major}
-use Rattle.semver_core.specs.Increments.Table.{next_minor, next_patch, pre_step, release_of, identify, first_number, ◌>>=◌}
-use Rattle.semver_core.specs.Internal.IncrementSteps.{incremented}
-use Rattle.semver_core.specs.Internal.OrderLaws.{id_total}
-use Rattle.semver_core.specs.Increments.Least.{IsLeastOrOverflow, IsLeastVersion}
-use Rattle.semver_core.specs.Values.Order.{pre_cmp}
-use Rattle.semver_core.specs.Internal.Successors.{Below, by_major, by_minor, by_patch, by_pre, below_cases, less_first, above_major}
-use Rattle.semver_core.specs.Internal.Successors.{above_minor, above_patch, above_pre, upto_patch, zero_least, below_more}
-use Rattle.semver_core.specs.Internal.Successors.{empty_not_below}
-use Rattle.semver_core.proofs.Values.NextLaws.{IsAbove, least_after_release, next_of_pre_release}
-use Rattle.semver_core.specs.Values.Versions.{IsVersion, is_release}
-use Rattle.semver_core.specs.declared.increment.IdentifierBase.TheVariants.{Value}
+use Rattle.semver_core.proofs.Common.{Fault, advance, has_numeric, one_more, raise_last, list_text, is_empty, AlphaNumeric, Id}
+use Rattle.semver_core.proofs.Common.{Numeric, id_cmp, VersionValue, IsId, IdentifierBase, Bool, List, [], ap, arith, false}
+use Rattle.semver_core.proofs.Common.{length, refl, subst, true, ℕ, ◌++◌, ◌+◌, ◌-◌, ◌<◌, ◌∙◌, ◌∷◌, ◌≡◌, ◌≤◌, nat_tests, and_parts}
+use Rattle.semver_core.proofs.Common.{slice_cmp, tied_itself, ◌==◌, Err, Ok, Result, ⊤, bytes_eq, Less, IsLeastOrOverflow}
+use Rattle.semver_core.proofs.Common.{IsLeastVersion, InvalidIncrementArgument, Overflow, first_number, identify, is_false}
+use Rattle.semver_core.proofs.Common.{pre_step, ◌>>=◌, incremented, id_total, Below, above_patch, above_pre, below_cases}
+use Rattle.semver_core.proofs.Common.{below_more, by_major, by_minor, by_patch, by_pre, empty_not_below, upto_patch, zero_least}
+use Rattle.semver_core.proofs.Common.{pre_cmp, IsVersion, Value, IsOkAnd, codes, if◌then◌else◌, nat_eq, not, ◌&&◌, ◌^◌, All-cons}
+use Rattle.semver_core.proofs.Common.{All-nil, ordering_then}
+use Rattle.semver_core.specs.Increments.Table.{checked, by_word, next_major, next_minor, next_patch, release_of}
+use Rattle.semver_core.specs.{Internal.Successors.{less_first, above_major, above_minor}, Values.Versions.is_release}
+use Rattle.{std.proofs.lemmas.Slice.Eq.bytes_eq-Decides, std.specs.List.starts_with, semver_core.proofs.Values.NextLaws.IsAbove}
+use Rattle.semver_core.proofs.Values.NextLaws.{least_after_release, next_of_pre_release}
 
 pick : {A : Type 0} (P : A → Type 0) (t : Bool) (x y : A) → (t ≡ true → P x) → (t ≡ false → P y) → P (if t then x else y)
 pick P true x y f g = f refl

@@ -1,16 +1,12 @@
 -- When an allocation may fail in `inc`.
-use Rattle.semver_core.proofs.Common.{◌≡◌, refl, sym, subst, ap, ◌∙◌, ℕ, ◌<◌, Bool, true, false, List, [], ◌∷◌, ◌++◌, length, arith}
-use Rattle.semver_core.proofs.Common.{inl, ◌==◌, Result, Ok, Err, ⊤, bytes_eq, Fault, advance, has_numeric, one_more, raise_last}
-use Rattle.semver_core.proofs.Common.{list_text, is_empty, Id, Numeric, AlphaNumeric, HasIdentifiers, VersionValue, IdentifierBase}
-use Rattle.std.specs.Prelude.{◌≢◌, ◌&&◌, ◌||◌, ◌^◌, ◌-◌, IfOk, if◌then◌else◌, codes}
-use Rattle.semver_core.specs.Failures.{MemoryOnlyIf}
-use Rattle.semver_core.specs.Increments.Table.{InvalidIdentifier, InvalidIncrementArgument, NotAPrerelease, Overflow, ◌>>=◌}
-use Rattle.semver_core.specs.Increments.Table.{first_number, identify, is_false, is_kept, pre_step}
-use Rattle.semver_core.specs.Increments.View.{Returns}
-use Rattle.semver_core.specs.Internal.IncrementSteps.{FailsWith, MayAllocate, ends_at_max}
-use Rattle.semver_core.specs.declared.error.Failure.{Failure}
-use Rattle.semver_core.specs.declared.error.Failure.TheVariants.{Refused, Memory}
-use Rattle.semver_core.specs.declared.increment.IncrementError.{IncrementError}
+use Rattle.semver_core.proofs.Common.{Fault, advance, has_numeric, one_more, raise_last, list_text, is_empty, AlphaNumeric, Id}
+use Rattle.semver_core.proofs.Common.{Numeric, VersionValue, HasIdentifiers, IdentifierBase, Bool, List, [], ap, arith, false}
+use Rattle.semver_core.proofs.Common.{inl, length, refl, subst, sym, true, ℕ, ◌++◌, ◌-◌, ◌<◌, ◌||◌, ◌∙◌, ◌∷◌, ◌≡◌, ◌==◌, Err, Ok}
+use Rattle.semver_core.proofs.Common.{Result, ⊤, bytes_eq, InvalidIdentifier, InvalidIncrementArgument, NotAPrerelease, Overflow}
+use Rattle.semver_core.proofs.Common.{first_number, identify, is_false, is_kept, pre_step, ◌>>=◌, ends_at_max, Failure, Memory}
+use Rattle.semver_core.proofs.Common.{Refused, IfOk, codes, if◌then◌else◌, ◌&&◌, ◌^◌}
+use Rattle.semver_core.specs.{Failures.MemoryOnlyIf, Increments.View.Returns, Internal.IncrementSteps.{FailsWith, MayAllocate}}
+use Rattle.{semver_core.specs.declared.increment.IncrementError.IncrementError, std.specs.Prelude.◌≢◌}
 
 -- in the words of the public clause
 may_allocate : {A : Type 0} (P : A → Type 0) (answer : Result A Fault) → MayAllocate P answer

@@ -1,11 +1,9 @@
 -- A list that the identifier of `inc` replaces, whatever the number at its end.
-use Rattle.semver_core.proofs.Common.{◌≡◌, ◌∙◌, ◌-◌, ◌++◌, ◌∷◌, ◌+◌, ℕ, true, false, List, [], arith, inl, inr, refl, Ok, and_parts}
-use Rattle.semver_core.proofs.Common.{cases_Bool, advance, has_numeric, one_more, raise_last, is_empty, Id, Numeric, AlphaNumeric}
-use Rattle.semver_core.proofs.Common.{IdentifierBase, is_ascii_digit, list_all, bytes_eq}
-use Rattle.std.proofs.Common.{◌==◌, ◌^◌, not}
-use Rattle.semver_core.specs.Increments.Table.{◌>>=◌, first_number, is_false, is_kept}
-use Rattle.semver_core.specs.Internal.IncrementSteps.{begun, can_rise, stepped}
-use Rattle.semver_core.proofs.Increments.LastNumber.{asked_digits, asked_text}
+use Rattle.semver_core.proofs.Common.{advance, has_numeric, one_more, raise_last, is_empty, AlphaNumeric, Id, Numeric}
+use Rattle.semver_core.proofs.Common.{IdentifierBase, List, [], arith, false, inl, inr, refl, true, ℕ, ◌++◌, ◌+◌, ◌-◌, ◌∙◌, ◌∷◌}
+use Rattle.semver_core.proofs.Common.{◌≡◌, and_parts, cases_Bool, is_ascii_digit, list_all, ◌==◌, Ok, bytes_eq, first_number}
+use Rattle.semver_core.proofs.Common.{is_false, is_kept, ◌>>=◌, can_rise, stepped, not, ◌^◌}
+use Rattle.semver_core.{specs.Internal.IncrementSteps.begun, proofs.Increments.LastNumber.{asked_digits, asked_text}}
 
 one : (n : ℕ) (xs : List Id) → not (n == 2 ^ 64 - 1) ≡ true
     → (one_more n >>= λ more. Ok (Numeric more ∷ xs)) ≡ Ok (Numeric (n + 1) ∷ xs)

@@ -1,11 +1,7 @@
 -- Serves proofs: what a loop over identifiers has written.
-use Rattle.std.proofs.Common.{◌≡◌, ◌<◌, ◌+◌, ◌*◌, ℕ, zero, suc, List, [], ◌∷◌, ◌++◌, arith}
-use Rattle.std.proofs.Common.{refl, ap, ◌∙◌, append_assoc, append-nil}
-use Rattle.std.specs.Fmt.{decimal, digits}
+use Rattle.semver_core.proofs.Common.{id_text, Id, List, [], ap, append-nil, append_assoc, arith, refl, ℕ, ◌*◌, ◌++◌, ◌+◌, ◌<◌}
+use Rattle.semver_core.proofs.Common.{◌∙◌, ◌∷◌, ◌≡◌, marked_list, codes, suc, zero, decimal, digits}
 use Rattle.std.specs.List.{slice_range}
-use Rattle.std.specs.Prelude.{codes}
-use Rattle.semver_core.specs.Text.Identifiers.{Id}
-use Rattle.semver_core.specs.Printing.Text.{id_text, marked_list}
 
 -- a marked list is its first identifier, and the others with a dot before each
 pub marked_first : (mark : List ℕ) (x : Id) (xs : List Id) → mark ++ (id_text x ++ marked_list (46 ∷ []) xs) ≡ marked_list mark (x ∷ xs)

@@ -1,11 +1,6 @@
 -- Serves proofs: a version that is printed and parsed.
-use Rattle.semver_core.proofs.Common.{◌≡◌, List, ℕ, NoValue, Reads, VersionValue}
-use Rattle.std.proofs.Common.{Ok, Err, Result}
-use Rattle.std.specs.Prelude.{IfOk}
-use Rattle.semver_core.specs.Failures.{RefusedOnlyIf}
-use Rattle.semver_core.specs.Text.Parsing.{Parses}
-use Rattle.semver_core.specs.declared.error.Failure.{Failure}
-use Rattle.semver_core.specs.declared.error.Failure.TheVariants.{Refused, Memory}
+use Rattle.semver_core.proofs.Common.{NoValue, Reads, VersionValue, List, ℕ, ◌≡◌, Err, Ok, Result, RefusedOnlyIf, Parses, Failure}
+use Rattle.semver_core.proofs.Common.{Memory, Refused, IfOk}
 
 pub reread_same : {E : Type 0} (limit : ℕ) (text : List ℕ) (r : Result VersionValue E) (v : VersionValue)
     → ((w : VersionValue) → Reads limit text w → w ≡ v)

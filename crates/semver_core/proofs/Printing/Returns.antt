@@ -1,23 +1,14 @@
 -- Serves proofs: a printed version reads as itself.
-use Rattle.semver_core.proofs.Common.{refl, ◌≡◌, ◌<◌, ◌≤◌, ℕ, true, false, ltb, List, [], ◌∷◌, ◌++◌, length, sym, ap, ◌∙◌, arith}
-use Rattle.semver_core.proofs.Common.{eqb, subst, append-nil, and_parts, lt-ltb, nat_tests, first_so, second_so, is_ascii_digit}
-use Rattle.semver_core.proofs.Common.{list_all, All, digits_value, begins, is_identifier_char, Id, Numeric, AlphaNumeric}
-use Rattle.semver_core.proofs.Common.{identifier_of, is_identifier, pieces, goes_on, IsNumber, VersionValue, Reads, no_mark}
-use Rattle.semver_core.proofs.Common.{begins_pre_release, id_text}
-use Rattle.std.proofs.Common.{zero, suc, ◌^◌, ◌==◌, map}
-use Rattle.std.specs.Prelude.{not}
-use Rattle.std.proofs.lemmas.Bool.{not-true}
-use borrow.Author.Tests.{ltb-true}
-use Rattle.std.proofs.lemmas.Fmt.{decimal_is_IsNumeral, digits_decimal, digits_value-decimal}
-use Rattle.std.proofs.lemmas.List.Splits.{slice_split_none, slice_split_at}
-use Rattle.std.specs.Fmt.{decimal}
-use Rattle.std.specs.List.{join_with_byte}
-use Rattle.semver_core.specs.Text.Identifiers.{is_u64_text, IsIdentifiers}
-use Rattle.semver_core.specs.Text.VersionText.{IsPreRelease, IsBuild, dashed, no_pre_release, plus, no_build}
-use Rattle.semver_core.specs.Printing.Text.{marked_list, version_text}
-use Rattle.semver_core.specs.Printing.RoundTrip.{is_normal, is_readable}
-use Rattle.semver_core.specs.Internal.Readable.{IsReadable, readable}
-use Rattle.semver_core.proofs.Text.Runs.{not_dot, of_digits, numerals}
+use Rattle.semver_core.proofs.Common.{id_text, begins, is_identifier_char, AlphaNumeric, Id, Numeric, goes_on, identifier_of}
+use Rattle.semver_core.proofs.Common.{is_identifier, pieces, IsNumber, Reads, begins_pre_release, no_mark, VersionValue, List, []}
+use Rattle.semver_core.proofs.Common.{ap, append-nil, arith, eqb, false, length, ltb, refl, subst, sym, true, ℕ, ◌++◌, ◌<◌, ◌∙◌}
+use Rattle.semver_core.proofs.Common.{◌∷◌, ◌≡◌, ◌≤◌, nat_tests, and_parts, lt-ltb, is_ascii_digit, first_so, second_so, All}
+use Rattle.semver_core.proofs.Common.{list_all, ◌==◌, digits_value, is_normal, marked_list, version_text, is_u64_text, IsBuild}
+use Rattle.semver_core.proofs.Common.{IsPreRelease, dashed, no_build, no_pre_release, plus, map, not, suc, zero, ◌^◌, not-true}
+use Rattle.semver_core.proofs.Common.{slice_split_at, slice_split_none, decimal, join_with_byte, ltb-true}
+use Rattle.semver_core.specs.{Internal.Readable.{IsReadable, readable}, Printing.RoundTrip.is_readable}
+use Rattle.{semver_core.specs.Text.Identifiers.IsIdentifiers, std.proofs.lemmas.Fmt.{decimal_is_IsNumeral, digits_decimal}}
+use Rattle.{std.proofs.lemmas.Fmt.digits_value-decimal, semver_core.proofs.Text.Runs.{not_dot, of_digits, numerals}}
 
 -- ---- one identifier
 

@@ -1,11 +1,7 @@
 -- Worked rows, computed: which texts are common, and which are not. Some ten rows are one equation.
+use Rattle.semver_core.proofs.Common.{AlphaNumeric, Id, Numeric, VersionValue, Bool, List, Some, [], false, refl, ℕ, ◌++◌, ◌∷◌}
+use Rattle.semver_core.proofs.Common.{◌≡◌, encode_utf8, common_of, digits_from, list_len, release_value, codes, is_some, map}
 use Rattle.std.specs.List.{list_any}
-use Rattle.std.specs.Prelude.{ℕ, ◌≡◌, Bool, false, List, [], ◌∷◌, ◌++◌, Some, is_some, map, refl, codes}
-use Rattle.std.specs.Char.{encode_utf8}
-use Rattle.semver_core.specs.Internal.CommonReading.{common_of}
-use Rattle.semver_core.specs.Text.Identifiers.{Id, Numeric, AlphaNumeric}
-use Rattle.semver_core.specs.Internal.Reading.{digits_from, list_len}
-use Rattle.semver_core.specs.Values.Versions.{VersionValue, release_value}
 
 -- the limit on numbers
 abbrev limit : ℕ

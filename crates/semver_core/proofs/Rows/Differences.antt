@@ -1,9 +1,6 @@
 -- Rows of the table of `diff`, computed, as one equation.
-use Rattle.std.specs.Prelude.{◌≡◌, ℕ, List, [], ◌∷◌, Option, Some, None, codes, map, refl}
-use Rattle.semver_core.specs.Text.Identifiers.{Id, Numeric, AlphaNumeric}
-use Rattle.semver_core.specs.Values.Versions.{VersionValue}
-use Rattle.semver_core.specs.Difference.{kind_between}
-use Rattle.semver_core.specs.declared.difference.VersionDiff.{VersionDiff}
+use Rattle.semver_core.proofs.Common.{AlphaNumeric, Id, Numeric, VersionValue, List, None, Option, Some, [], refl, ℕ, ◌∷◌, ◌≡◌}
+use Rattle.semver_core.proofs.Common.{kind_between, VersionDiff, codes, map}
 use Rattle.semver_core.specs.declared.difference.VersionDiff.TheVariants.{Major, Minor, Patch, PreMajor, PreRelease}
 
 abbrev version : ℕ → ℕ → ℕ → List Id → List Id → VersionValue

@@ -1,13 +1,8 @@
 -- Rows of the table of `inc`, computed. Some ten rows are one equation.
-use Rattle.std.specs.Prelude.{◌≡◌, ℕ, List, [], ◌∷◌, ◌++◌, Result, Ok, Err, codes, map, refl, ◌^◌, ◌-◌}
-use Rattle.semver_core.specs.Text.Identifiers.{Id, Numeric, AlphaNumeric}
-use Rattle.semver_core.specs.Values.Versions.{VersionValue, release_value}
-use Rattle.std.specs.Fmt.{digits}
-use Rattle.semver_core.specs.Increments.Table.{Fault, InvalidIdentifier}
-use Rattle.semver_core.specs.Internal.IncrementSteps.{incremented}
-use Rattle.semver_core.specs.Increments.Table.{InvalidIncrementArgument, NotAPrerelease, Overflow}
-use Rattle.semver_core.specs.declared.increment.IdentifierBase.{IdentifierBase}
-use Rattle.semver_core.specs.declared.increment.IdentifierBase.TheVariants.{False, Value}
+use Rattle.semver_core.proofs.Common.{Fault, AlphaNumeric, Id, Numeric, VersionValue, IdentifierBase, List, [], refl, ℕ, ◌++◌}
+use Rattle.semver_core.proofs.Common.{◌-◌, ◌∷◌, ◌≡◌, Err, Ok, Result, InvalidIdentifier, InvalidIncrementArgument, NotAPrerelease}
+use Rattle.semver_core.proofs.Common.{Overflow, incremented, release_value, Value, codes, map, ◌^◌, digits}
+use Rattle.semver_core.specs.declared.increment.IdentifierBase.TheVariants.{False}
 
 abbrev version : ℕ → ℕ → ℕ → List Id → VersionValue
 version a b c list = record (release_value a b c) { pre_release = list }

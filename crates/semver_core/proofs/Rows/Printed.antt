@@ -1,10 +1,6 @@
 -- Worked rows of printing, computed, as one equation each.
-use Rattle.std.specs.Prelude.{◌≡◌, ℕ, List, [], ◌∷◌, true, false, codes, map, refl}
-use Rattle.std.specs.Fmt.{digits}
-use Rattle.semver_core.specs.Text.Identifiers.{Id, Numeric, AlphaNumeric}
-use Rattle.semver_core.specs.Printing.RoundTrip.{is_normal}
-use Rattle.semver_core.specs.Printing.Text.{version_text}
-use Rattle.semver_core.specs.Values.Versions.{VersionValue}
+use Rattle.semver_core.proofs.Common.{AlphaNumeric, Id, Numeric, VersionValue, List, [], false, refl, true, ℕ, ◌∷◌, ◌≡◌}
+use Rattle.semver_core.proofs.Common.{is_normal, version_text, codes, map, digits}
 
 abbrev value : ℕ → ℕ → ℕ → List Id → List Id → VersionValue
 value major minor patch pre_release build = record { major = major; minor = minor; patch = patch; pre_release = pre_release; build = build }

@@ -1,10 +1,7 @@
 -- Worked examples of the definitions, computed, in groups.
-use Rattle.std.specs.Prelude.{◌≡◌, ℕ, true, false, List, [], ◌∷◌, map, codes, refl}
-use Rattle.std.specs.declared.cmp.Ordering.TheVariants.{Less, Equal, Greater}
-use Rattle.semver_core.specs.Text.Characters.{is_whitespace, is_identifier_char}
-use Rattle.semver_core.specs.Text.Identifiers.{Numeric, AlphaNumeric, identifier_of, pieces, goes_on}
-use Rattle.semver_core.specs.Values.Order.{id_cmp, precedence}
-use Rattle.semver_core.specs.Values.Versions.{VersionValue, release_value}
+use Rattle.semver_core.proofs.Common.{is_identifier_char, is_whitespace, AlphaNumeric, Numeric, goes_on, identifier_of, pieces}
+use Rattle.semver_core.proofs.Common.{id_cmp, VersionValue, List, [], false, refl, true, ℕ, ◌∷◌, ◌≡◌, Equal, Greater, Less}
+use Rattle.semver_core.proofs.Common.{precedence, release_value, codes, map}
 
 -- the ideographic space and the byte order mark are whitespace; the next line and the space of no width are not
 whitespace : map is_whitespace (0x3000 ∷ 0xFEFF ∷ 0x85 ∷ 0x200B ∷ []) ≡ true ∷ true ∷ false ∷ false ∷ []

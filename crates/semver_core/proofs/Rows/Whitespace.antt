@@ -1,7 +1,6 @@
 -- Worked rows, computed. A text is written by the code points of its characters.
-use Rattle.std.specs.Prelude.{◌≡◌, ℕ, List, [], ◌∷◌, encode_utf8_all, map, refl}
-use Rattle.std.specs.Char.{encode_utf8}
-use Rattle.semver_core.specs.Internal.Spaces.{space_len, after_spaces, drop_spaces, drop_end_spaces, trim}
+use Rattle.semver_core.proofs.Common.{List, [], refl, ℕ, ◌∷◌, ◌≡◌, encode_utf8, encode_utf8_all, after_spaces, drop_end_spaces}
+use Rattle.semver_core.proofs.Common.{drop_spaces, space_len, trim, map}
 
 abbrev Trims : List (List ℕ × List ℕ) → Type 0
 Trims rows = map (λ row. trim (encode_utf8_all row.0)) rows ≡ map (λ row. encode_utf8_all row.1) rows

@@ -1,15 +1,11 @@
 -- Whitespace, character by character.
-use Rattle.semver_core.proofs.Common.{◌≡◌, ◌≤◌, ◌+◌, ◌-◌, ℕ, true, false, List, [], ◌∷◌, ◌++◌, length, drop, take, refl, sym, ap}
-use Rattle.semver_core.proofs.Common.{◌∙◌, arith, append-nil, drop-drop, length-drop, len_utf8, encode_utf8, list_all}
-use Rattle.semver_core.proofs.Common.{encode_utf8_all, IsCharBoundary, IsUtf8, is_whitespace, BeginsBlank, IsAfterBlank, IsBlank}
-use Rattle.std.proofs.Common.{length-append}
-use Rattle.std.proofs.lemmas.List.{drop_at, take_at}
-use Rattle.std.proofs.lemmas.Str.{len_utf8_bounds}
-use Rattle.std.proofs.lemmas.Str.{IsCharBoundary-past_char, IsUtf8-drop, encode_same, encodes-append, length-encode}
+use Rattle.semver_core.proofs.Common.{BeginsBlank, IsAfterBlank, IsBlank, is_whitespace, List, [], ap, append-nil, arith, drop}
+use Rattle.semver_core.proofs.Common.{false, length, refl, sym, take, true, ℕ, ◌++◌, ◌+◌, ◌-◌, ◌∙◌, ◌∷◌, ◌≡◌, ◌≤◌, drop-drop}
+use Rattle.semver_core.proofs.Common.{length-drop, len_utf8, encode_utf8, list_all, IsCharBoundary, IsUtf8, encode_utf8_all}
+use Rattle.semver_core.proofs.Common.{slice_range, take-add, drop_at, take_at, list_all-append, IsUtf8-drop, encode_same}
+use Rattle.semver_core.proofs.Common.{encodes-append, len_utf8_bounds, length-encode}
+use Rattle.std.proofs.{Common.length-append, lemmas.Str.IsCharBoundary-past_char}
 use mathlib.Core.Bool.{true≢false}
-use Rattle.std.proofs.Math.Seq.{take-add}
-use Rattle.std.proofs.lemmas.List.Folds.{list_all-append}
-use Rattle.std.specs.Prelude.{slice_range}
 
 -- how far whitespace has been passed
 pub record Passed (text : List ℕ) (at end : ℕ) (rest passed : List ℕ) : Type 0 where

@@ -1,9 +1,6 @@
 -- The clauses of the calls that read a piece, from what they compute.
-use Rattle.semver_core.proofs.Common.{◌≡◌, ℕ, List, Option, Some, None, sym, IsWholeNumber}
-use Rattle.semver_core.specs.Internal.Reading.{number_at}
-use Rattle.std.specs.Option.{IfSome, IfNone}
-use Rattle.semver_core.specs.Text.Characters.{IsPieceAt, NoPieceAt}
-use Rattle.semver_core.proofs.Text.Pieces.{number_sound, number_complete}
+use Rattle.semver_core.proofs.Common.{IsWholeNumber, List, None, Option, Some, sym, ℕ, ◌≡◌, number_at, IsPieceAt, IfSome, IfNone}
+use Rattle.semver_core.{specs.Text.Characters.NoPieceAt, proofs.Text.Pieces.{number_sound, number_complete}}
 
 pub number_found : (limit : ℕ) (text : List ℕ) (at : ℕ) (r : Option (ℕ × ℕ)) → r ≡ number_at limit text at
     → IfSome r (λ found. IsPieceAt (λ digits rest. IsWholeNumber limit digits rest found.0) text at found.1)

@@ -1,9 +1,8 @@
 -- What a loop over digits reads, step by step.
-use Rattle.semver_core.proofs.Common.{◌≡◌, ◌<◌, ◌≤◌, ◌+◌, ◌-◌, ◌*◌, ℕ, true, false, List, length, drop, get_or, refl, arith}
-use Rattle.semver_core.proofs.Common.{add-one, Some, None, ltb, ◌==◌, drop-cons, nat_tests, is_ascii_digit, digit_value, drop_all}
-use Rattle.std.proofs.Common.{if◌then◌else◌}
+use Rattle.semver_core.proofs.Common.{List, None, Some, add-one, arith, drop, false, get_or, length, ltb, refl, true, ℕ, ◌*◌, ◌+◌}
+use Rattle.semver_core.proofs.Common.{◌-◌, ◌<◌, ◌≡◌, ◌≤◌, drop-cons, nat_tests, drop_all, digit_value, is_ascii_digit, ◌==◌}
+use Rattle.semver_core.proofs.Common.{digits_end, digits_from, placed, if◌then◌else◌}
 use Rattle.std.proofs.lemmas.Str.{digit_value_digit}
-use Rattle.semver_core.specs.Internal.Reading.{digits_from, digits_end, placed}
 
 pub digit_value-is : (c : ℕ) → is_ascii_digit c ≡ true → digit_value c ≡ c - 48
 digit_value-is c h = let e = digit_value_digit c (grind (arith, nat_tests)) in omega arith

@@ -1,15 +1,10 @@
 -- Where the identifiers that begin at a place end, and that what stands there spells them.
-use Rattle.semver_core.proofs.Common.{◌≡◌, ℕ, ◌<◌, ◌≤◌, ◌+◌, ◌-◌, List, [], ◌∷◌, length, drop, take, refl, arith, true, false}
-use Rattle.semver_core.proofs.Common.{add-one, Some, drop-cons, drop_all, list_all, Reads, NoValue, begins, is_identifier_char}
-use Rattle.semver_core.proofs.Common.{goes_on, identifier_of, is_identifier, is_listed, listed, pieces, VersionValue}
-use Rattle.std.specs.Prelude.{map}
-use Rattle.std.proofs.lemmas.List.{take_rest}
-use Rattle.semver_core.specs.Internal.Reading.{list_from, list_len}
-use Rattle.semver_core.proofs.Text.Pieces.{begins_taken, begun_runs, taken_runs}
+use Rattle.semver_core.proofs.Common.{NoValue, begins, is_identifier_char, goes_on, identifier_of, is_identifier, pieces}
+use Rattle.semver_core.proofs.Common.{is_listed, listed, Reads, VersionValue, HasIdentifiers, List, Some, [], add-one, arith}
+use Rattle.semver_core.proofs.Common.{drop, false, length, refl, take, true, ℕ, ◌+◌, ◌-◌, ◌<◌, ◌∷◌, ◌≡◌, ◌≤◌, drop-cons, drop_all}
+use Rattle.semver_core.proofs.Common.{list_all, list_from, list_len, Parses, map, take_rest}
+use Rattle.semver_core.{specs.declared.TheConstants.MAX_LENGTH, proofs.Text.Pieces.{begins_taken, begun_runs, taken_runs}}
 use Rattle.semver_core.proofs.Text.Runs.{list_len_stop}
-use Rattle.semver_core.specs.Text.Parsing.{Parses}
-use Rattle.semver_core.specs.Values.Versions.{HasIdentifiers}
-use Rattle.semver_core.specs.declared.TheConstants.{MAX_LENGTH}
 
 -- the loop
 pub end_step : (xs : List ℕ) (i : ℕ) → i < length xs → goes_on (drop i xs) ≡ true

@@ -1,13 +1,10 @@
 -- A text that spells a list of identifiers spells the first one and then the others.
-use Rattle.semver_core.proofs.Common.{◌≡◌, ℕ, ◌<◌, ◌≤◌, ◌+◌, List, [], ◌∷◌, length, drop, take, refl, sym, ap, ◌∙◌, arith, true}
-use Rattle.semver_core.proofs.Common.{false, inl, inr, add-one, add_comm, zero-add, Option, Some, ◌==◌, eqb, is_empty, slice_cmp}
-use Rattle.semver_core.proofs.Common.{Less, Equal, Greater, id_cmp, nat_tests, cases_Bool, eqb-true, list_all, onto_first, Id}
-use Rattle.semver_core.proofs.Common.{identifier_of, is_identifier, is_listed, listed, pieces, drop-drop}
-use Rattle.std.specs.Prelude.{map}
-use Rattle.semver_core.proofs.Text.Listed.{listed_none, listed_some}
-use Rattle.semver_core.specs.Internal.CommonReading.{number_of_run, run_from, run_len}
-use Rattle.semver_core.proofs.Text.OnePass.{scan_end, scan_fits}
-use Rattle.semver_core.proofs.Text.Pieces.{first_char, runs_tail, tail_onto, tail_runs}
+use Rattle.semver_core.proofs.Common.{is_empty, Id, identifier_of, is_identifier, pieces, is_listed, listed, id_cmp, List, Option}
+use Rattle.semver_core.proofs.Common.{Some, [], add-one, add_comm, ap, arith, drop, eqb, false, inl, inr, length, refl, sym, take}
+use Rattle.semver_core.proofs.Common.{true, zero-add, ℕ, ◌+◌, ◌<◌, ◌∙◌, ◌∷◌, ◌≡◌, ◌≤◌, nat_tests, cases_Bool, eqb-true, drop-drop}
+use Rattle.semver_core.proofs.Common.{slice_cmp, list_all, onto_first, ◌==◌, Equal, Greater, Less, number_of_run, run_from, map}
+use Rattle.semver_core.{specs.Internal.CommonReading.run_len, proofs.Text.Listed.{listed_none, listed_some}}
+use Rattle.semver_core.proofs.Text.{OnePass.{scan_end, scan_fits}, Pieces.{first_char, runs_tail, tail_onto, tail_runs}}
 
 -- what stands behind the first run and its dot
 abbrev pub others : List ℕ → List ℕ

@@ -1,18 +1,15 @@
 -- The version that a text begins with is that of the text up to the place behind it.
-use Rattle.semver_core.proofs.Common.{◌≡◌, ◌≤◌, ℕ, true, false, List, [], ◌∷◌, ◌++◌, Bool, length, drop, take}
-use Rattle.semver_core.proofs.Common.{Some, None, refl, sym, ap, ◌∙◌, arith, inl, inr, eqb, cases_Bool, eqb-true, append-nil}
-use Rattle.semver_core.proofs.Common.{append_assoc, take-append-drop, is_ascii_digit, begins, nat_tests, list_all}
-use Rattle.semver_core.proofs.Common.{first_so, second_so, Id, VersionValue, goes_on, pieces, onto_first, is_identifier, subst}
-use Rattle.semver_core.proofs.Common.{IsLongestIdentifiers, IsNumber, IsWholeNumber}
-use Rattle.std.proofs.lemmas.List.{append_cancel_right}
-use Rattle.semver_core.specs.Text.Common.{IsCommon, IsCommonFront}
-use Rattle.semver_core.specs.Text.VersionText.{IsPreRelease, IsBuild, IsMark, begins_pre_release}
-use Rattle.semver_core.specs.Text.VersionText.{dashed, bare, no_pre_release, plus, no_build, no_mark, small_mark, capital_mark}
-use Rattle.semver_core.specs.Internal.CommonReading.{is_plain, small_len}
-use Rattle.semver_core.specs.Internal.Reading.{triple_at, lists_at, qualified}
-use Rattle.semver_core.proofs.Text.Pieces.{first_char, runs_tail, tail_onto, tail_runs}
-use Rattle.semver_core.proofs.Text.Texts.{divided_at, number_begins, read_at}
-use Rattle.semver_core.proofs.Text.Whole.{nothing_blank, past_small, small_is}
+use Rattle.semver_core.proofs.Common.{qualified, triple_at, begins, Id, IsLongestIdentifiers, goes_on, is_identifier, pieces}
+use Rattle.semver_core.proofs.Common.{IsNumber, IsWholeNumber, begins_pre_release, no_mark, VersionValue, Bool, List, None, Some}
+use Rattle.semver_core.proofs.Common.{[], ap, append-nil, append_assoc, arith, drop, eqb, false, inl, inr, length, refl, subst}
+use Rattle.semver_core.proofs.Common.{sym, take, true, ℕ, ◌++◌, ◌∙◌, ◌∷◌, ◌≡◌, ◌≤◌, nat_tests, cases_Bool, eqb-true}
+use Rattle.semver_core.proofs.Common.{take-append-drop, is_ascii_digit, first_so, second_so, list_all, onto_first, small_len}
+use Rattle.semver_core.proofs.Common.{lists_at, IsCommon, IsBuild, IsMark, IsPreRelease, bare, capital_mark, dashed, no_build}
+use Rattle.semver_core.proofs.Common.{no_pre_release, plus, small_mark}
+use Rattle.semver_core.specs.{Internal.CommonReading.is_plain, Text.Common.IsCommonFront}
+use Rattle.{std.proofs.lemmas.List.append_cancel_right, semver_core.proofs.Text.Pieces.{first_char, runs_tail, tail_onto}}
+use Rattle.semver_core.proofs.Text.{Pieces.tail_runs, Texts.{divided_at, number_begins, read_at}, Whole.nothing_blank}
+use Rattle.semver_core.proofs.Text.Whole.{past_small, small_is}
 
 -- ---- a text without what follows it
 

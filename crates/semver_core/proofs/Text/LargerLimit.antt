@@ -1,6 +1,5 @@
 -- For proofs. What a larger limit on numbers leaves as it is.
-use Rattle.semver_core.proofs.Common.{◌≡◌, ◌≤◌, ℕ, List, arith, Reads, IsNumber, IsWholeNumber, VersionValue}
-use Rattle.semver_core.specs.Internal.Reading.{HasOneReading}
+use Rattle.semver_core.proofs.Common.{IsNumber, IsWholeNumber, Reads, VersionValue, List, arith, ℕ, ◌≡◌, ◌≤◌, HasOneReading}
 
 number_kept : (small large : ℕ) (digits : List ℕ) (n : ℕ) → small ≤ large → IsNumber small digits n → IsNumber large digits n
 number_kept small large digits n le h = record { some = h.some; each = h.each; value = h.value; safe = omega (arith, le, h.safe) }

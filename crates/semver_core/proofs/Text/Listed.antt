@@ -1,16 +1,12 @@
 -- A text that spells a list of identifiers is its own longest list.
-use Rattle.semver_core.proofs.Common.{◌≡◌, ℕ, ◌<◌, ◌+◌, List, [], ◌∷◌, length, refl, sym, ap, ◌∙◌, arith, take, true, Some, inl}
-use Rattle.semver_core.proofs.Common.{inr, append-nil, ◌==◌, IsUtf8, eqb, cases_Bool, eqb-true, list_all, onto_first, begins}
-use Rattle.semver_core.proofs.Common.{is_identifier_char, Id, identifier_of, IsLongestIdentifiers, is_identifier, is_listed, listed}
-use Rattle.semver_core.proofs.Common.{pieces, id_view, ids_view, Identifier, list_at}
-use Rattle.std.specs.Str.{IsAscii}
-use Rattle.std.proofs.lemmas.Str.{IsAscii-take, IsUtf8-from_ascii}
-use Rattle.std.proofs.lemmas.Str.Ascii.{IsAscii-nil, IsAscii-cons}
-use Rattle.std.specs.List.{count_by}
-use Rattle.std.proofs.lemmas.List.Splits.{length-slice_split}
-use Rattle.std.proofs.lemmas.List.{length-map}
+use Rattle.semver_core.proofs.Common.{list_at, begins, is_identifier_char, Id, IsLongestIdentifiers, identifier_of, is_identifier}
+use Rattle.semver_core.proofs.Common.{pieces, is_listed, listed, id_view, ids_view, Identifier, List, Some, [], ap, append-nil}
+use Rattle.semver_core.proofs.Common.{arith, eqb, inl, inr, length, refl, sym, take, true, ℕ, ◌+◌, ◌<◌, ◌∙◌, ◌∷◌, ◌≡◌, cases_Bool}
+use Rattle.semver_core.proofs.Common.{eqb-true, list_all, onto_first, IsUtf8, ◌==◌, length-map, length-slice_split}
+use Rattle.semver_core.proofs.Common.{IsUtf8-from_ascii, IsAscii-cons, IsAscii-nil, IsAscii}
+use Rattle.{std.proofs.lemmas.Str.IsAscii-take, std.specs.List.count_by, semver_core.proofs.Text.Pieces.first_char}
+use Rattle.semver_core.proofs.Text.Pieces.{list_complete, runs_begin, runs_tail, some_inside, tail_onto, tail_runs}
 use Rattle.semver_core.proofs.Text.Runs.{ascii as small_char}
-use Rattle.semver_core.proofs.Text.Pieces.{first_char, list_complete, runs_begin, runs_tail, some_inside, tail_onto, tail_runs}
 
 ascii : (text : List ℕ) → tail_runs (pieces text) ≡ true → IsAscii text
 ascii [] h = IsAscii-nil

@@ -1,16 +1,12 @@
 -- A run that is read in one pass.
-use Rattle.semver_core.proofs.Common.{◌≡◌, ◌<◌, ◌≤◌, ◌+◌, ◌*◌, ◌-◌, ℕ, true, false, ltb, List, [], ◌∷◌, length, drop, take, get_or}
-use Rattle.semver_core.proofs.Common.{Option, Some, None, refl, sym, ap, ◌∙◌, arith, inl, inr, add-one, add_comm, drop-cons}
-use Rattle.semver_core.proofs.Common.{cases_Bool, nat_tests, drop_all, length-drop, first_so, second_so, is_ascii_digit}
-use Rattle.semver_core.proofs.Common.{digit_value, list_all, is_identifier_char, Numeric, identifier_of, prefix_len, digits_value}
-use Rattle.semver_core.proofs.Common.{AlphaNumeric}
-use Rattle.std.proofs.Common.{◌^◌, add-zero}
-use Rattle.std.specs.Str.Parse.{digits_value_after}
-use Rattle.semver_core.specs.Internal.CommonReading.{grown, run_from, number_of_run, id_by}
-use Rattle.semver_core.proofs.Text.Digits.{digit_value-is}
+use Rattle.semver_core.proofs.Common.{is_identifier_char, AlphaNumeric, Numeric, identifier_of, List, None, Option, Some, []}
+use Rattle.semver_core.proofs.Common.{add-one, add_comm, ap, arith, drop, false, get_or, inl, inr, length, ltb, refl, sym, take}
+use Rattle.semver_core.proofs.Common.{true, ℕ, ◌*◌, ◌+◌, ◌-◌, ◌<◌, ◌∙◌, ◌∷◌, ◌≡◌, ◌≤◌, drop-cons, nat_tests, cases_Bool, drop_all}
+use Rattle.semver_core.proofs.Common.{length-drop, digit_value, is_ascii_digit, first_so, second_so, list_all, prefix_len}
+use Rattle.semver_core.proofs.Common.{digits_value, number_of_run, run_from, add-zero, ◌^◌, prefix_len-le-length}
+use Rattle.semver_core.proofs.Common.{digits_value_after, ltb-true}
+use Rattle.semver_core.{specs.Internal.CommonReading.{grown, id_by}, proofs.Text.Digits.digit_value-is}
 use Rattle.semver_core.proofs.Text.Pieces.{digits_grow}
-use Rattle.std.proofs.lemmas.List.Sums.{prefix_len-le-length}
-use borrow.Author.Tests.{ltb-true}
 
 -- the loop
 pub run_step : (n : Option ℕ) (xs : List ℕ) (i : ℕ) → i < length xs → is_identifier_char (get_or xs i 0) ≡ true

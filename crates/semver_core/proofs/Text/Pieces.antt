@@ -1,16 +1,13 @@
 -- A number and an identifier list are read exactly where the grammar has them.
-use Rattle.semver_core.proofs.Common.{◌≡◌, ◌<◌, ◌≤◌, ◌+◌, ◌*◌, ℕ, Bool, true, false, ltb, List, [], ◌∷◌, ◌++◌, length, drop, take}
-use Rattle.semver_core.proofs.Common.{Option, Some, None, refl, sym, ap, ◌∙◌, arith, inl, inr, add-one, add_comm, zero-add, eqb}
-use Rattle.semver_core.proofs.Common.{◌==◌, and_parts, cases_Bool, eqb-true, lt-ltb, nat_tests, drop-drop, take-append-drop}
-use Rattle.semver_core.proofs.Common.{first_so, second_so, is_ascii_digit, digit_value, list_all, onto_first, begins}
-use Rattle.semver_core.proofs.Common.{is_identifier_char, Id, is_identifier, pieces, goes_on, IsLongestIdentifiers, IsNumber}
-use Rattle.semver_core.proofs.Common.{IsWholeNumber}
-use Rattle.std.proofs.Common.{◌&&◌}
-use Rattle.std.proofs.Math.Seq.{take-append_seam, drop-append_seam}
-use Rattle.semver_core.proofs.Text.Runs.{list_len_stop, not_dot}
-use Rattle.std.specs.Str.Parse.{digits_value_after}
+use Rattle.semver_core.proofs.Common.{list_at, list_of, begins, is_identifier_char, Id, IsLongestIdentifiers, goes_on}
+use Rattle.semver_core.proofs.Common.{is_identifier, pieces, IsNumber, IsWholeNumber, Bool, List, None, Option, Some, [], add-one}
+use Rattle.semver_core.proofs.Common.{add_comm, ap, arith, drop, eqb, false, inl, inr, length, ltb, refl, sym, take, true}
+use Rattle.semver_core.proofs.Common.{zero-add, ℕ, ◌*◌, ◌++◌, ◌+◌, ◌<◌, ◌∙◌, ◌∷◌, ◌≡◌, ◌≤◌, nat_tests, and_parts, cases_Bool}
+use Rattle.semver_core.proofs.Common.{eqb-true, lt-ltb, drop-drop, take-append-drop, digit_value, is_ascii_digit, first_so}
+use Rattle.semver_core.proofs.Common.{second_so, list_all, onto_first, ◌==◌, digits_end, digits_from, list_len, number_at, placed}
+use Rattle.semver_core.proofs.Common.{◌&&◌, take-append_seam, digits_value_after}
+use Rattle.{std.proofs.Math.Seq.drop-append_seam, semver_core.proofs.Text.Runs.{list_len_stop, not_dot}}
 use borrow.Author.Tests.{ltb-false, le-ltb}
-use Rattle.semver_core.specs.Internal.Reading.{digits_end, digits_from, list_len, list_of, placed, number_at, list_at}
 
 pub some_inside : {A : Type 0} (x y : A) → Some x ≡ Some y → x ≡ y
 some_inside x y e = cc

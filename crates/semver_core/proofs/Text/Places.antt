@@ -1,6 +1,6 @@
 -- Places in a text.
-use Rattle.semver_core.proofs.Common.{◌≡◌, ◌<◌, ℕ, Bool, true, List, length, drop, inl, inr, cases_lt, drop_all, begins}
-use Rattle.std.proofs.lemmas.List.{take_rest}
+use Rattle.semver_core.proofs.Common.{begins, Bool, List, drop, inl, inr, length, true, ℕ, ◌<◌, ◌≡◌, cases_lt, drop_all}
+use Rattle.semver_core.proofs.Common.{take_rest}
 
 pub begins_before_end : (test : ℕ → Bool) (text : List ℕ) (at : ℕ) → begins test (drop at text) ≡ true → at < length text
 begins_before_end test text at h = elim (cases_lt at (length text)) [

@@ -1,18 +1,13 @@
 -- Runs of identifier characters, and lists of them.
-use Rattle.semver_core.proofs.Common.{◌≡◌, ◌<◌, ◌≤◌, ◌+◌, ◌-◌, ◌==◌, ℕ, true, false, List, [], ◌∷◌, ◌++◌, length, drop, take}
-use Rattle.semver_core.proofs.Common.{get_or, refl, sym, ap, ◌∙◌, arith, Some, ltb, eqb, rules, inl, inr, add_comm, add-one}
-use Rattle.semver_core.proofs.Common.{append_assoc, zero-add, cases_Bool, eqb-true, drop-cons, length-drop, drop-drop, nat_tests}
-use Rattle.semver_core.proofs.Common.{is_ascii_digit, list_all, All, begins, is_identifier_char, Id, Numeric, identifier_of}
-use Rattle.semver_core.proofs.Common.{goes_on, ids_view, id_view, Identifier, prefix_len, digits_value, list_of, list_at}
-use Rattle.std.proofs.Common.{◌^◌, map, suc}
-use Rattle.std.proofs.Math.Seq.{take-add}
-use Rattle.std.proofs.lemmas.List.{get_or-take, length-take, get_or-drop}
-use Rattle.std.proofs.lemmas.List.Sums.{prefix_len_passes, prefix_len-le-length}
-use Rattle.std.proofs.lemmas.Str.{IsCharBoundary-after_ascii}
-use Rattle.std.specs.Str.{IsUtf8, IsCharBoundary}
-use Rattle.std.proofs.lemmas.Str.Parse.{IsDigitsTest, IsNumeralModel, numerals_by_value}
-use Rattle.std.proofs.lemmas.List.Splits.{slice_split_none, slice_split_at}
-use Rattle.semver_core.specs.Internal.Reading.{list_len}
+use Rattle.semver_core.proofs.Common.{list_at, list_of, begins, is_identifier_char, Id, Numeric, goes_on, identifier_of, id_view}
+use Rattle.semver_core.proofs.Common.{ids_view, Identifier, List, Some, [], add-one, add_comm, ap, append_assoc, arith, drop, eqb}
+use Rattle.semver_core.proofs.Common.{false, get_or, inl, inr, length, ltb, refl, rules, sym, take, true, zero-add, ℕ, ◌++◌, ◌+◌}
+use Rattle.semver_core.proofs.Common.{◌-◌, ◌<◌, ◌∙◌, ◌∷◌, ◌≡◌, ◌≤◌, drop-cons, nat_tests, cases_Bool, eqb-true, drop-drop}
+use Rattle.semver_core.proofs.Common.{length-drop, is_ascii_digit, All, list_all, prefix_len, IsCharBoundary, IsUtf8, ◌==◌}
+use Rattle.semver_core.proofs.Common.{digits_value, list_len, map, suc, ◌^◌, take-add, slice_split_at, slice_split_none}
+use Rattle.semver_core.proofs.Common.{prefix_len-le-length, IsCharBoundary-after_ascii}
+use Rattle.std.proofs.lemmas.{List.{get_or-take, length-take, get_or-drop}, List.Sums.prefix_len_passes, Str.Parse.IsDigitsTest}
+use Rattle.std.proofs.lemmas.Str.Parse.{IsNumeralModel, numerals_by_value}
 
 digits_test : IsDigitsTest (λ ds. list_all is_ascii_digit ds ≡ true)
 digits_test = search rules

@@ -1,12 +1,9 @@
 -- Serves proofs. Whitespace is told by its code point: the bytes of a character are whitespace where the character is.
-use Rattle.semver_core.proofs.Common.{◌≡◌, ℕ, ◌<◌, ◌≤◌, ◌+◌, ◌*◌, List, [], ◌∷◌, ◌++◌, refl, ap, ◌∙◌, arith, true, false, inl}
-use Rattle.semver_core.proofs.Common.{inr, encode_utf8, len_utf8, cases_lt, lt-ltb, nat_tests, is_whitespace}
-use Rattle.std.proofs.Common.{◌/◌, ◌%◌}
-use Rattle.std.specs.Prelude.{if◌then◌else◌}
-use Rattle.std.specs.Int.{is_in_range}
-use Rattle.std.proofs.lemmas.Bool.{le-ltb, le-leb}
-use Rattle.std.proofs.lemmas.Str.{encode_ascii, len_utf8_ascii}
-use Rattle.semver_core.specs.Internal.Spaces.{space_len, space_len_two, space_len_three, goes_on_with}
+use Rattle.semver_core.proofs.Common.{is_whitespace, List, [], ap, arith, false, inl, inr, refl, true, ℕ, ◌*◌, ◌++◌, ◌+◌, ◌<◌}
+use Rattle.semver_core.proofs.Common.{◌∙◌, ◌∷◌, ◌≡◌, ◌≤◌, nat_tests, cases_lt, lt-ltb, len_utf8, encode_utf8, space_len}
+use Rattle.semver_core.proofs.Common.{if◌then◌else◌, ◌%◌, ◌/◌, le-ltb, encode_ascii}
+use Rattle.{semver_core.specs.Internal.Spaces.{space_len_two, space_len_three, goes_on_with}, std.proofs.lemmas.Bool.le-leb}
+use Rattle.std.{proofs.lemmas.Str.len_utf8_ascii, specs.Int.is_in_range}
 
 two_code : (c : ℕ) → 128 ≤ c → c < 2048 → ((192 + c / 64) % 32) * 64 + (128 + c % 64) % 64 ≡ c
 two_code c h l =

@@ -1,6 +1,6 @@
 -- Serves proofs. Whitespace at the front of a text, byte by byte.
-use Rattle.std.proofs.Common.{◌≡◌, ℕ, zero, suc, ◌<◌, List, [], ◌∷◌, drop, refl, sym, ap, ◌∙◌, arith, ◌++◌}
-use Rattle.semver_core.specs.Internal.Spaces.{after_spaces, drop_spaces, space_len}
+use Rattle.semver_core.proofs.Common.{List, [], ap, arith, drop, refl, sym, ℕ, ◌++◌, ◌<◌, ◌∙◌, ◌∷◌, ◌≡◌, after_spaces}
+use Rattle.semver_core.proofs.Common.{drop_spaces, space_len, suc, zero}
 
 -- bytes that belong to a whitespace character are skipped
 pub after_spaces-drop : (n : ℕ) (text : List ℕ) → after_spaces n text ≡ drop_spaces (drop n text)

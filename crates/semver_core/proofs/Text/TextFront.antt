@@ -1,8 +1,7 @@
 -- The longest front of some bytes that is a text.
-use Rattle.semver_core.proofs.Common.{◌≡◌, ℕ, List, [], ◌∷◌, ◌++◌, length, take, refl, sym, ap, ◌∙◌, arith, IsUtf8}
-use Rattle.std.specs.Str.Lossy.{utf8_valid_len}
-use Rattle.std.proofs.lemmas.List.{take_at, take_all}
-use Rattle.std.proofs.lemmas.Str.{utf8_valid_len-IsUtf8}
+use Rattle.semver_core.proofs.Common.{List, [], ap, arith, length, refl, sym, take, ℕ, ◌++◌, ◌∙◌, ◌∷◌, ◌≡◌, IsUtf8, take_all}
+use Rattle.semver_core.proofs.Common.{take_at}
+use Rattle.std.{proofs.lemmas.Str.utf8_valid_len-IsUtf8, specs.Str.Lossy.utf8_valid_len}
 
 pub no_front : (bytes : List ℕ) → length bytes ≡ 0 → [] ≡ take (utf8_valid_len bytes) bytes
 unfolding utf8_valid_len

@@ -1,22 +1,18 @@
 -- A version is read exactly where the grammar has it.
-use Rattle.semver_core.proofs.Common.{◌≡◌, ◌==◌, ◌<◌, ◌+◌, ℕ, true, false, List, [], ◌∷◌, ◌++◌, length, drop, take, Option, Some}
-use Rattle.semver_core.proofs.Common.{None, refl, sym, ap, ◌∙◌, subst, arith, inl, inr, eqb, append_assoc, ◌||◌, cases_Bool}
-use Rattle.semver_core.proofs.Common.{eqb-true, NoValue, begins, is_identifier_char, IsBlank, is_whitespace, BeginsBlank}
-use Rattle.semver_core.proofs.Common.{IsAfterBlank, Reads, first_so, second_so, list_all, encode_utf8, is_ascii_digit}
-use Rattle.semver_core.proofs.Common.{encode_utf8_all, IsUtf8, IsCharBoundary, nat_tests, take-append-drop, Id}
-use Rattle.semver_core.proofs.Common.{IsLongestIdentifiers, IsNumber, IsWholeNumber, VersionValue}
-use Rattle.std.proofs.Common.{add-zero}
-use Rattle.semver_core.specs.Text.Characters.{IsPieceAt}
-use Rattle.semver_core.specs.Text.VersionText.{IsMark, IsPreRelease, IsBuild, begins_pre_release, begins_build, dashed}
-use Rattle.semver_core.specs.Text.VersionText.{bare, no_pre_release, plus, no_build, no_mark, small_mark, capital_mark}
+use Rattle.semver_core.proofs.Common.{NoValue, list_at, list_of, qualified, triple_at, BeginsBlank, IsAfterBlank, IsBlank, begins}
+use Rattle.semver_core.proofs.Common.{is_identifier_char, is_whitespace, Id, IsLongestIdentifiers, IsNumber, IsWholeNumber, Reads}
+use Rattle.semver_core.proofs.Common.{begins_pre_release, no_mark, VersionValue, List, None, Option, Some, [], ap, append_assoc}
+use Rattle.semver_core.proofs.Common.{arith, drop, eqb, false, inl, inr, length, refl, subst, sym, take, true, ℕ, ◌++◌, ◌+◌, ◌<◌}
+use Rattle.semver_core.proofs.Common.{◌||◌, ◌∙◌, ◌∷◌, ◌≡◌, nat_tests, cases_Bool, eqb-true, take-append-drop, is_ascii_digit}
+use Rattle.semver_core.proofs.Common.{encode_utf8, first_so, second_so, list_all, IsCharBoundary, IsUtf8, encode_utf8_all, ◌==◌}
+use Rattle.semver_core.proofs.Common.{HasOneReading, build_at, list_len, mark_len, number_at, or_nothing, pre_release_at}
+use Rattle.semver_core.proofs.Common.{IsPieceAt, IsBuild, IsMark, IsPreRelease, bare, begins_build, capital_mark, dashed}
+use Rattle.semver_core.proofs.Common.{no_build, no_pre_release, plus, small_mark, add-zero, slice_range, drop_split}
+use Rattle.semver_core.proofs.Common.{IsCharBoundary-after_ascii, IsCharBoundary-start, encode_same}
+use Rattle.{semver_core.specs.Internal.Reading.{◌>>?◌, part_at, past, version_at}, std.proofs.lemmas.Str.char_from_byte}
+use Rattle.semver_core.proofs.Text.Pieces.{some_inside, rest_at, number_sound, number_complete, list_sound, list_complete}
+use Rattle.semver_core.proofs.Text.{Pieces.{list_none, runs_begin}, Runs.drop_next}
 use borrow.Author.Tests.{eq-eqb}
-use Rattle.std.specs.Prelude.{slice_range}
-use Rattle.std.proofs.lemmas.Str.{encode_same, char_from_byte, IsCharBoundary-start, IsCharBoundary-after_ascii}
-use Rattle.std.proofs.lemmas.List.Folds.{drop_split}
-use Rattle.semver_core.specs.Internal.Reading.{◌>>?◌, list_of, list_len, number_at, list_at, part_at, past, triple_at, or_nothing}
-use Rattle.semver_core.specs.Internal.Reading.{pre_release_at, build_at, qualified, version_at, mark_len, HasOneReading}
-use Rattle.semver_core.proofs.Text.Pieces.{some_inside, rest_at, number_sound, number_complete, list_sound, list_complete, list_none, runs_begin}
-use Rattle.semver_core.proofs.Text.Runs.{drop_next}
 
 pub bind_some : {A B : Type 0} (o : Option A) (f : A → Option B) (y : B) → (o >>? f) ≡ Some y → (x : A) × (o ≡ Some x) × (f x ≡ Some y)
 bind_some None f y e = cc

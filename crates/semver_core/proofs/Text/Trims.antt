@@ -1,21 +1,16 @@
 -- Serves proofs. The text without the whitespace round it, by bytes and by characters.
-use Rattle.std.proofs.Common.{◌≡◌, ℕ, ◌<◌, ◌≤◌, ◌-◌, ◌+◌, ◌/◌, ◌%◌, List, [], ◌∷◌, ◌++◌, length, drop, take, refl, sym, ap}
-use Rattle.std.proofs.Common.{◌∙◌, subst, arith, true, false, inl, inr, append_assoc, append-nil}
-use Rattle.std.specs.Prelude.{⊤, encode_utf8_all, IsCharBoundary, IsUtf8, reverse}
-use Rattle.std.specs.Char.{encode_utf8, len_utf8, IsScalar}
-use Rattle.std.specs.List.{list_all}
-use Rattle.std.proofs.lemmas.Bool.{and_parts, and_from, cases_Bool, cases_lt, lt-ltb, le-ltb}
-use Rattle.std.proofs.lemmas.List.{length-drop, drop_at, reverse-append, length-reverse}
-use Rattle.std.proofs.lemmas.List.Folds.{drop_split, list_all-append}
-use Rattle.std.proofs.Math.Seq.{take-append_seam}
-use Rattle.std.proofs.lemmas.Str.{IsCharBoundary-at_seam, IsUtf8-drop, IsUtf8-encode, IsUtf8-take}
-use Rattle.std.proofs.lemmas.Str.{encode_ascii, encodes-append, length-encode, len_utf8_bounds}
-use Rattle.semver_core.specs.Text.Characters.{is_whitespace, begins, IsTrim, BeginsBlank, IsAfterBlank}
-use Rattle.semver_core.specs.Internal.Spaces.{space_len, after_spaces, drop_spaces, drop_end_spaces, trim}
-use Rattle.semver_core.specs.Lists.{is_empty}
-use Rattle.semver_core.proofs.Text.Blanks.{Passed, passed_none, passed_more, passed_stop, passed_end}
-use Rattle.semver_core.proofs.Text.Spaces.{drop_spaces-more, drop_spaces-none}
-use Rattle.semver_core.proofs.Text.SpaceLaw.{space_len-white, space_len-dark, space_len-inside}
+use Rattle.semver_core.proofs.Common.{is_empty, BeginsBlank, IsAfterBlank, begins, is_whitespace, List, [], ap, append-nil}
+use Rattle.semver_core.proofs.Common.{append_assoc, arith, drop, false, inl, inr, length, refl, subst, sym, take, true, ℕ, ◌++◌}
+use Rattle.semver_core.proofs.Common.{◌+◌, ◌-◌, ◌<◌, ◌∙◌, ◌∷◌, ◌≡◌, ◌≤◌, and_parts, cases_Bool, cases_lt, lt-ltb, length-drop}
+use Rattle.semver_core.proofs.Common.{len_utf8, encode_utf8, list_all, IsCharBoundary, IsUtf8, encode_utf8_all, ⊤, after_spaces}
+use Rattle.semver_core.proofs.Common.{drop_end_spaces, drop_spaces, space_len, trim, ◌%◌, ◌/◌, take-append_seam, le-ltb, drop_at}
+use Rattle.semver_core.proofs.Common.{drop_split, list_all-append, IsUtf8-drop, encode_ascii, encodes-append, len_utf8_bounds}
+use Rattle.semver_core.proofs.Common.{length-encode}
+use Rattle.{semver_core.specs.Text.Characters.IsTrim, std.proofs.lemmas.Bool.and_from, std.proofs.lemmas.List.reverse-append}
+use Rattle.std.proofs.lemmas.{List.length-reverse, Str.{IsCharBoundary-at_seam, IsUtf8-encode, IsUtf8-take}}
+use Rattle.{std.specs.Char.IsScalar, std.specs.Prelude.reverse, semver_core.proofs.Text.Blanks.{Passed, passed_none, passed_more}}
+use Rattle.semver_core.proofs.Text.{Blanks.{passed_stop, passed_end}, SpaceLaw.{space_len-white, space_len-dark}}
+use Rattle.semver_core.proofs.Text.{SpaceLaw.space_len-inside, Spaces.{drop_spaces-more, drop_spaces-none}}
 
 -- at the front
 

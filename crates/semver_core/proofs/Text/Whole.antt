@@ -1,18 +1,14 @@
 -- The fast reader's answer is the common text's version.
-use Rattle.semver_core.proofs.Common.{◌≡◌, ◌<◌, ◌≤◌, ℕ, true, false, List, [], ◌∷◌, ◌++◌, length, drop, take, get_or, Option}
-use Rattle.semver_core.proofs.Common.{Some, None, refl, sym, ap, ◌∙◌, arith, inl, inr, eqb, cases_Bool, eqb-true, nat_tests}
-use Rattle.semver_core.proofs.Common.{take-append-drop, drop_all, drop-cons, is_ascii_digit, NoValue, begins, IsAfterBlank}
-use Rattle.semver_core.proofs.Common.{IsBlank, Reads, Id, VersionValue, is_identifier_char, ◌||◌, ◌==◌}
-use Rattle.std.proofs.lemmas.List.{nil_from_length, take_rest}
-use Rattle.std.specs.Option.{IfSome, IfNone}
-use Rattle.semver_core.specs.Text.Common.{IsCommon}
-use Rattle.semver_core.specs.Internal.CommonReading.{small_len, at_end, whole_at, common_of}
-use Rattle.semver_core.specs.Text.VersionText.{IsMark, begins_build, begins_pre_release, no_mark, small_mark, capital_mark}
-use Rattle.semver_core.specs.Internal.Reading.{triple_at, lists_at, mark_len, qualified, HasOneReading}
-use Rattle.semver_core.specs.Values.Versions.{HasIdentifiers, release_value}
-use Rattle.semver_core.proofs.Text.Pieces.{some_inside}
-use Rattle.semver_core.proofs.Text.Texts.{rest_of, divided_at, bind_some, none_build}
-use Rattle.semver_core.proofs.Text.Texts.{loose_none, loose_some, number_begins, none_pre, read_at}
+use Rattle.semver_core.proofs.Common.{NoValue, qualified, triple_at, IsAfterBlank, IsBlank, begins, is_identifier_char, Id, Reads}
+use Rattle.semver_core.proofs.Common.{begins_pre_release, no_mark, VersionValue, HasIdentifiers, List, None, Option, Some, [], ap}
+use Rattle.semver_core.proofs.Common.{arith, drop, eqb, false, get_or, inl, inr, length, refl, sym, take, true, ℕ, ◌++◌, ◌<◌}
+use Rattle.semver_core.proofs.Common.{◌||◌, ◌∙◌, ◌∷◌, ◌≡◌, ◌≤◌, drop-cons, nat_tests, cases_Bool, eqb-true, drop_all}
+use Rattle.semver_core.proofs.Common.{take-append-drop, is_ascii_digit, ◌==◌, common_of, small_len, HasOneReading, lists_at}
+use Rattle.semver_core.proofs.Common.{mark_len, IsCommon, IsMark, begins_build, capital_mark, small_mark, release_value, IfSome}
+use Rattle.semver_core.proofs.Common.{take_rest, IfNone}
+use Rattle.{semver_core.specs.Internal.CommonReading.{at_end, whole_at}, std.proofs.lemmas.List.nil_from_length}
+use Rattle.semver_core.proofs.Text.{Pieces.some_inside, Texts.{rest_of, divided_at, bind_some, none_build, loose_none}}
+use Rattle.semver_core.proofs.Text.Texts.{loose_some, number_begins, none_pre, read_at}
 
 at_end_some : {A : Type 0} (rest : List ℕ) (x y : A) → at_end rest x ≡ Some y → (rest ≡ []) × (x ≡ y)
 at_end_some [] x y e = (refl, some_inside x y e)

@@ -1,19 +1,11 @@
 -- Which texts spell the number 0 alone, and that a text spells identifiers of versions.
-use Rattle.semver_core.proofs.Common.{◌≡◌, ℕ, ◌<◌, ◌+◌, ◌*◌, List, [], ◌∷◌, length, refl, ap, ◌∙◌, subst, arith, true, inl, inr}
-use Rattle.semver_core.proofs.Common.{Bool, digit_value, is_ascii_digit, list_all, onto_first, digits_value, cases_Bool, eqb-true}
-use Rattle.semver_core.proofs.Common.{and_parts, nat_tests, is_identifier_char, Id, Numeric, AlphaNumeric, identifier_of}
-use Rattle.semver_core.proofs.Common.{is_identifier, is_listed, listed, pieces, IsId}
-use Rattle.std.proofs.Common.{◌^◌, ◌==◌, map}
-use Rattle.std.specs.Prelude.{All}
-use Rattle.std.specs.Str.{IsAscii}
-use Rattle.std.specs.List.{join_with_byte}
-use Rattle.std.specs.Str.Parse.{digits_value_after}
-use Rattle.std.proofs.lemmas.List.Elements.{All-nil, All-cons}
-use Rattle.std.proofs.lemmas.List.Splits.{join_with_byte-slice_split, length-slice_split}
-use Rattle.std.proofs.lemmas.Str.{IsUtf8-from_ascii}
-use Rattle.std.proofs.lemmas.Str.Ascii.{IsAscii-nil, IsAscii-cons}
-use Rattle.semver_core.specs.Text.Identifiers.{is_u64_text}
-use Rattle.semver_core.proofs.Text.Pieces.{digits_grow}
+use Rattle.semver_core.proofs.Common.{is_identifier_char, AlphaNumeric, Id, Numeric, identifier_of, is_identifier, pieces}
+use Rattle.semver_core.proofs.Common.{is_listed, listed, IsId, Bool, List, [], ap, arith, inl, inr, length, refl, subst, true, ℕ}
+use Rattle.semver_core.proofs.Common.{◌*◌, ◌+◌, ◌<◌, ◌∙◌, ◌∷◌, ◌≡◌, nat_tests, and_parts, cases_Bool, eqb-true, digit_value}
+use Rattle.semver_core.proofs.Common.{is_ascii_digit, All, list_all, onto_first, ◌==◌, digits_value, is_u64_text, map, ◌^◌}
+use Rattle.semver_core.proofs.Common.{All-cons, All-nil, length-slice_split, IsUtf8-from_ascii, IsAscii-cons, IsAscii-nil}
+use Rattle.semver_core.proofs.Common.{join_with_byte, IsAscii, digits_value_after}
+use Rattle.{std.proofs.lemmas.List.Splits.join_with_byte-slice_split, semver_core.proofs.Text.Pieces.digits_grow}
 use Rattle.semver_core.proofs.Text.Runs.{ascii as small_char, of_digits}
 
 abbrev is_zero : ℕ → Bool

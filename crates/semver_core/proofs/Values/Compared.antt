@@ -1,8 +1,6 @@
 -- Comparing the identifiers of the program is comparing what contracts see of them.
-use Rattle.semver_core.proofs.Common.{◌≡◌, true, false, List, [], ◌∷◌, refl, ap, slice_cmp, Less, Equal, Greater, is_empty, Id}
-use Rattle.semver_core.proofs.Common.{id_cmp, id_view, ids_view, Identifier}
-use Rattle.std.specs.Ordering.{ordering_then}
-use Rattle.semver_core.specs.Values.Order.{pre_cmp}
+use Rattle.semver_core.proofs.Common.{is_empty, Id, id_cmp, id_view, ids_view, Identifier, List, [], ap, false, refl, true, ◌∷◌}
+use Rattle.semver_core.proofs.Common.{◌≡◌, slice_cmp, Equal, Greater, Less, pre_cmp, ordering_then}
 
 pub ids_view_cmp : (xs ys : List Identifier)
     → slice_cmp (λ a b. id_cmp (id_view a) (id_view b)) xs ys ≡ slice_cmp id_cmp (ids_view xs) (ids_view ys)

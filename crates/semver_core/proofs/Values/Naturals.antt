@@ -1,7 +1,6 @@
 -- An integer is natural or negative.
-use Rattle.std.proofs.Common.{◌≡◌, ◌⊎◌, refl, inl, inr, ℕ, Some, None, arith}
+use Rattle.semver_core.proofs.Common.{None, Some, arith, inl, inr, refl, ℕ, ◌≡◌, from_natural, ◌⊎◌}
 use Rattle.std.specs.Prelude.{ℤ, pos, negsuc}
-use Rattle.semver_core.specs.Internal.Naturals.{from_natural}
 
 pub natural_is : (z : ℤ) (n : ℕ) → from_natural z ≡ Some n → z ≡ pos n
 natural_is (pos m) n h = grind arith

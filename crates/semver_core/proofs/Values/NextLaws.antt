@@ -1,12 +1,10 @@
 -- The version after a pre-release, and after a release.
-use Rattle.semver_core.proofs.Common.{◌≡◌, refl, sym, ◌∙◌, ap, ◌+◌, ◌<◌, true, List, [], ◌∷◌, ◌++◌, length, arith, All, is_le}
-use Rattle.semver_core.proofs.Common.{Less, Id, Numeric, VersionValue}
-use Rattle.std.proofs.Common.{lit<}
-use Rattle.std.proofs.lemmas.List.Elements.{All-append, All-cons, All-nil}
-use Rattle.semver_core.specs.Increments.Least.{IsLeastVersion}
-use Rattle.semver_core.specs.Values.Order.{pre_cmp, precedence}
-use Rattle.semver_core.specs.Internal.Successors.{Below, by_major, by_minor, by_patch, by_pre, below_cases, below_more, next_least, zero_least, empty_not_below, above_patch, above_pre, upto_major, upto_minor, upto_patch}
-use Rattle.semver_core.specs.Values.Versions.{IsId, IsVersion, release_value}
+use Rattle.semver_core.proofs.Common.{Id, Numeric, VersionValue, IsId, List, [], ap, arith, length, refl, sym, true, ◌++◌, ◌+◌}
+use Rattle.semver_core.proofs.Common.{◌<◌, ◌∙◌, ◌∷◌, ◌≡◌, All, is_le, Less, IsLeastVersion, Below, above_patch, above_pre}
+use Rattle.semver_core.proofs.Common.{below_cases, below_more, by_major, by_minor, by_patch, by_pre, empty_not_below, upto_patch}
+use Rattle.semver_core.proofs.Common.{zero_least, pre_cmp, precedence, IsVersion, release_value, All-cons, All-nil}
+use Rattle.{semver_core.specs.Internal.Successors.{next_least, upto_major, upto_minor}, std.proofs.Common.lit<}
+use Rattle.std.proofs.lemmas.List.Elements.{All-append}
 
 -- w is above v
 abbrev pub IsAbove : VersionValue → VersionValue → Type 0

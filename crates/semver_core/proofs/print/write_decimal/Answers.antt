@@ -1,5 +1,4 @@
-use Rattle.std.proofs.Common.{rules, ◌∙◌}
-use Rattle.std.proofs.Output.{has_written_styled_of_eq}
+use Rattle.semver_core.proofs.Common.{rules, ◌∙◌, has_written_styled_of_eq}
 use Rattle.semver_core.proofs.Printing.Prints.{digit_text}
 use Rattle.semver_core.proofs.print.write_decimal.Goals as goal
 

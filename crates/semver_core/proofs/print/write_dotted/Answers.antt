@@ -1,5 +1,4 @@
-use Rattle.std.proofs.Common.{refl, rules, ◌∙◌}
-use Rattle.std.proofs.Output.{has_written_styled_append, has_written_styled_of_eq}
+use Rattle.semver_core.proofs.Common.{refl, rules, ◌∙◌, has_written_styled_append, has_written_styled_of_eq}
 use Rattle.semver_core.proofs.Printing.Prints.{digit_text}
 use Rattle.semver_core.proofs.print.write_dotted.Goals as goal
 

@@ -1,8 +1,6 @@
-use Rattle.std.proofs.Common.{◌≡◌, ℕ, List, ◌++◌, length}
-use denote.Text.{Utf8}
-use denote.Shadow.{shadow}
+use Rattle.semver_core.proofs.Common.{List, length, ℕ, ◌++◌, ◌≡◌, marked_list}
 use Rattle.std.specs.Fmt.{HasWrittenStyled, IsFlush}
-use Rattle.semver_core.specs.Printing.Text.{marked_list}
+use denote.{Shadow.shadow, Text.Utf8}
 use Rattle.semver_core.proofs.print.write_list.Given as goal
 
 abbrev pub invariant-ids : goal.invariant-ids

@@ -1,9 +1,7 @@
 -- The table is held against the definition at each of the 256 bytes, by computing.
-use Rattle.std.proofs.Common.{◌≡◌, ℕ, zero, suc, ◌<◌, Bool, true, false, ◌&&◌, not, nat_eq, get_or, List, refl, arith, inl, inr}
-use Rattle.std.specs.Bool.{beq}
-use Rattle.std.proofs.lemmas.Bool.{cases_eq}
-use Rattle.semver_core.specs.Text.Characters.{is_identifier_char}
-use Rattle.semver_core.specs.declared.scan.TheConstants.{IDENTIFIER_CHARS}
+use Rattle.semver_core.proofs.Common.{is_identifier_char, Bool, List, arith, false, get_or, inl, inr, refl, true, ℕ, ◌<◌, ◌≡◌}
+use Rattle.semver_core.proofs.Common.{nat_eq, not, suc, zero, ◌&&◌}
+use Rattle.{semver_core.specs.declared.scan.TheConstants.IDENTIFIER_CHARS, std.proofs.lemmas.Bool.cases_eq, std.specs.Bool.beq}
 use Rattle.semver_core.proofs.scan.is_identifier_char.Goals as goal
 
 -- two tests agree below n

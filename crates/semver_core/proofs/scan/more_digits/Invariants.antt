@@ -1,5 +1,4 @@
-use Rattle.semver_core.proofs.Common.{◌≡◌, ◌-◌, ◌<◌, ◌≤◌, drop, length, MAX_SAFE_INTEGER}
-use Rattle.semver_core.specs.Internal.Reading.{digits_from}
+use Rattle.semver_core.proofs.Common.{MAX_SAFE_INTEGER, drop, length, ◌-◌, ◌<◌, ◌≡◌, ◌≤◌, digits_from}
 use Rattle.semver_core.proofs.scan.more_digits.Given as goal
 
 abbrev pub invariant-digits : goal.invariant-digits

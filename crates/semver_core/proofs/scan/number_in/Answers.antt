@@ -1,4 +1,4 @@
-use Rattle.semver_core.specs.declared.TheConstants.{MAX_SAFE_INTEGER}
+use Rattle.semver_core.proofs.Common.{MAX_SAFE_INTEGER}
 use Rattle.semver_core.proofs.Text.Clauses.{number_found, number_none}
 use Rattle.semver_core.proofs.scan.number_in.Goals as goal
 

@@ -1,5 +1,4 @@
-use Rattle.std.proofs.Common.{◌≡◌, drop, Some}
-use Rattle.semver_core.specs.Internal.CommonReading.{run_from}
+use Rattle.semver_core.proofs.Common.{Some, drop, ◌≡◌, run_from}
 use Rattle.semver_core.proofs.scan.scan_run.Given as goal
 
 abbrev pub invariant-digits : goal.invariant-digits

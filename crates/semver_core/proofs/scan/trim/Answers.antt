@@ -1,4 +1,4 @@
-use Rattle.std.proofs.lemmas.Str.{IsCharBoundary-start}
+use Rattle.semver_core.proofs.Common.{IsCharBoundary-start}
 use Rattle.semver_core.proofs.Text.Trims.{trim_in_two}
 use Rattle.semver_core.proofs.scan.trim.Goals as goal
 

@@ -1,4 +1,4 @@
-use Rattle.semver_core.proofs.Common.{rules, length, sym, ap, ◌∙◌, ◌++◌, encode_utf8}
+use Rattle.semver_core.proofs.Common.{ap, length, rules, sym, ◌++◌, ◌∙◌, encode_utf8}
 use Rattle.semver_core.proofs.Text.Trims.{shortened_more, shortened_stop, shortened_out}
 use Rattle.semver_core.proofs.scan.trim_end.Goals as goal
 

@@ -1,4 +1,4 @@
-use Rattle.std.proofs.Common.{◌≡◌, length}
+use Rattle.semver_core.proofs.Common.{length, ◌≡◌}
 use Rattle.semver_core.proofs.Text.Trims.{Shortened}
 use Rattle.semver_core.proofs.scan.trim_end.Given as goal
 

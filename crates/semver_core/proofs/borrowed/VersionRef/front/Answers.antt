@@ -1,6 +1,5 @@
-use Rattle.semver_core.proofs.Common.{listed, sym, [], MAX_SAFE_INTEGER}
-use Rattle.semver_core.proofs.Text.Ends.{nothing_listed}
-use Rattle.semver_core.proofs.Text.Fronts.{front_found, front_not, front_whole}
+use Rattle.semver_core.proofs.Common.{listed, MAX_SAFE_INTEGER, [], sym}
+use Rattle.semver_core.proofs.Text.{Ends.nothing_listed, Fronts.{front_found, front_not, front_whole}}
 use Rattle.semver_core.proofs.borrowed.VersionRef.front.Goals as goal
 
 pub returns-in_err-major-clause-none : goal.returns-in_err-major-clause-none

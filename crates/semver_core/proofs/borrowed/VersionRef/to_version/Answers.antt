@@ -1,4 +1,4 @@
-use Rattle.semver_core.proofs.Common.{◌∙◌, ap, VersionValue}
+use Rattle.semver_core.proofs.Common.{VersionValue, ap, ◌∙◌}
 use Rattle.semver_core.proofs.Text.Zeros.{listed_empty}
 use Rattle.semver_core.proofs.borrowed.VersionRef.to_version.Goals as goal
 

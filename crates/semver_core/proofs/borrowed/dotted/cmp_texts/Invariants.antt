@@ -1,4 +1,4 @@
-use Rattle.semver_core.proofs.Common.{◌≡◌, length, true, slice_cmp, is_listed, listed, id_cmp}
+use Rattle.semver_core.proofs.Common.{is_listed, listed, id_cmp, length, true, ◌≡◌, slice_cmp}
 use Rattle.semver_core.proofs.borrowed.dotted.cmp_texts.Given as goal
 
 abbrev pub invariant-ids : goal.invariant-ids

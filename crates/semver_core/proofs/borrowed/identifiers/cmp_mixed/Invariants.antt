@@ -1,4 +1,4 @@
-use Rattle.semver_core.proofs.Common.{◌≡◌, length, slice_cmp, id_cmp}
+use Rattle.semver_core.proofs.Common.{id_cmp, length, ◌≡◌, slice_cmp}
 use Rattle.semver_core.proofs.borrowed.identifiers.cmp_mixed.Given as goal
 
 abbrev pub invariant-ids : goal.invariant-ids

@@ -1,5 +1,4 @@
-use Rattle.std.proofs.Common.{◌≡◌, ◌+◌, drop}
-use Rattle.semver_core.specs.Internal.Reading.{list_len}
+use Rattle.semver_core.proofs.Common.{drop, ◌+◌, ◌≡◌, list_len}
 use Rattle.semver_core.proofs.borrowed.read.list_len.Given as goal
 
 abbrev pub invariant-bytes : goal.invariant-bytes

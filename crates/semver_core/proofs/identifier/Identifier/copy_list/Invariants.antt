@@ -1,5 +1,4 @@
-use Rattle.semver_core.proofs.Common.{◌≡◌, ◌≤◌, length, take, ids_view}
-use Rattle.std.specs.Prelude.{vec_capacity, vec_len}
+use Rattle.semver_core.proofs.Common.{ids_view, length, take, ◌≡◌, ◌≤◌, vec_capacity, vec_len}
 use Rattle.semver_core.proofs.identifier.Identifier.copy_list.Given as goal
 
 abbrev pub invariant-loop-id : goal.invariant-loop-id

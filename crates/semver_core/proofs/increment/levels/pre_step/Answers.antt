@@ -1,7 +1,6 @@
-use Rattle.semver_core.proofs.Common.{◌≡◌, ◌∙◌, refl, List, ℕ, Result, Ok, Err, Fault, advance, Id, VersionValue, IdentifierBase}
-use Rattle.semver_core.specs.Increments.Table.{◌>>=◌, identify, pre_step}
-use Rattle.semver_core.specs.Internal.IncrementSteps.{parts_ref_value, stepped}
-use Rattle.semver_core.proofs.Increments.Memory.{step_fails}
+use Rattle.semver_core.proofs.Common.{Fault, advance, Id, VersionValue, IdentifierBase, List, refl, ℕ, ◌∙◌, ◌≡◌, Err, Ok, Result}
+use Rattle.semver_core.proofs.Common.{identify, pre_step, ◌>>=◌, stepped}
+use Rattle.semver_core.{specs.Internal.IncrementSteps.parts_ref_value, proofs.Increments.Memory.step_fails}
 use Rattle.semver_core.proofs.increment.levels.pre_step.Goals as goal
 
 -- the pre step is that of the list

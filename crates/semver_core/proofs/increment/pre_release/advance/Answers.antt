@@ -1,9 +1,6 @@
-use Rattle.semver_core.proofs.Common.{◌∙◌, ap, rules, subst, sym, Ok, Numeric, ids_view}
-use Rattle.std.specs.Prelude.{set}
-use Rattle.semver_core.specs.Increments.Table.{◌>>=◌}
-use Rattle.semver_core.specs.Internal.IncrementSteps.{Steps}
+use Rattle.semver_core.proofs.Common.{Numeric, ids_view, ap, rules, subst, sym, ◌∙◌, Ok, ◌>>=◌, set}
+use Rattle.semver_core.{specs.Internal.IncrementSteps.Steps, proofs.Increments.LastNumber.{advance_at, number_set}}
 use Rattle.semver_core.specs.declared.identifier.Identifier.TheVariants as variant
-use Rattle.semver_core.proofs.Increments.LastNumber.{advance_at, number_set}
 use Rattle.semver_core.proofs.increment.pre_release.advance.Goals as goal
 
 pub returns-in_err-one_more-in-Some-clause-value : goal.returns-in_err-one_more-in-Some-clause-value

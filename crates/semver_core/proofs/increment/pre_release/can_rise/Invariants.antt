@@ -1,5 +1,4 @@
-use Rattle.std.proofs.Common.{◌≡◌, length}
-use Rattle.semver_core.specs.Internal.IncrementSteps.{can_rise}
+use Rattle.semver_core.proofs.Common.{length, ◌≡◌, can_rise}
 use Rattle.semver_core.proofs.increment.pre_release.can_rise.Given as goal
 
 abbrev pub invariant-ids : goal.invariant-ids

@@ -1,4 +1,4 @@
-use Rattle.semver_core.proofs.Common.{◌≡◌, ◌∙◌, ◌∷◌, false, sym, arith, bytes_eq, is_empty, AlphaNumeric}
+use Rattle.semver_core.proofs.Common.{is_empty, AlphaNumeric, arith, false, sym, ◌∙◌, ◌∷◌, ◌≡◌, bytes_eq}
 use Rattle.semver_core.proofs.Increments.Replaced.{text_replaced}
 use Rattle.semver_core.proofs.increment.pre_release.is_replaced.Goals as goal
 

@@ -1,5 +1,4 @@
-use Rattle.semver_core.proofs.Common.{take, ids_view}
-use Rattle.semver_core.specs.Internal.IncrementSteps.{Tracks}
+use Rattle.semver_core.proofs.Common.{ids_view, take, Tracks}
 use Rattle.semver_core.proofs.increment.pre_release.last_number.Given as goal
 
 abbrev pub invariant-ids : goal.invariant-ids

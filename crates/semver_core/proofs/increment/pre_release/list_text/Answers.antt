@@ -1,4 +1,4 @@
-use Rattle.std.specs.Prelude.{string_bytes}
+use Rattle.semver_core.proofs.Common.{string_bytes}
 use Rattle.semver_core.proofs.Increments.LastNumber.{text_so_far, text_whole}
 use Rattle.semver_core.proofs.increment.pre_release.list_text.Goals as goal
 

@@ -1,4 +1,4 @@
-use Rattle.std.proofs.Common.{rules}
+use Rattle.semver_core.proofs.Common.{rules}
 use Rattle.semver_core.proofs.Increments.Memory.{ends_overflows, ends_below}
 use Rattle.semver_core.proofs.increment.pre_release.unless_overflow.Goals as goal
 

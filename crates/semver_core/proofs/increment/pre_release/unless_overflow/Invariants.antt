@@ -1,5 +1,4 @@
-use Rattle.std.proofs.Common.{◌≡◌, length, false}
-use Rattle.semver_core.specs.Internal.IncrementSteps.{ends_at_max}
+use Rattle.semver_core.proofs.Common.{false, length, ◌≡◌, ends_at_max}
 use Rattle.semver_core.proofs.increment.pre_release.unless_overflow.Given as goal
 
 abbrev pub invariant-ids : goal.invariant-ids

@@ -1,14 +1,10 @@
 -- What is proved of each row of the table, whatever the identifier and the base are.
-use Rattle.semver_core.proofs.Common.{◌≡◌, ◌+◌, subst, sym, [], ℕ, List, Option, Result, ⊤, Fault, VersionValue, IdentifierBase}
-use Rattle.std.proofs.Common.{codes}
-use Rattle.std.specs.Prelude.{IsOkAnd, unwrap_or}
-use Rattle.semver_core.specs.Increments.Least.{IsLeastVersion, IsLeastOrOverflow, IsPlain}
-use Rattle.semver_core.specs.Increments.Table.{answer_of_inc}
-use Rattle.semver_core.specs.Internal.IncrementSteps.{incremented}
-use Rattle.semver_core.specs.declared.increment.IdentifierBase.TheVariants.{Value}
-use Rattle.semver_core.proofs.Values.NextLaws.{IsAbove}
-use Rattle.semver_core.proofs.Increments.Laws.{IsMinorAbove, IsPatchAbove, increment_rises, patch_least, minor_least, major_least}
-use Rattle.semver_core.proofs.Increments.Laws.{premajor_least, preminor_least, prepatch_least, prerelease_least}
+use Rattle.semver_core.proofs.Common.{Fault, VersionValue, IdentifierBase, List, Option, [], subst, sym, ℕ, ◌+◌, ◌≡◌, Result, ⊤}
+use Rattle.semver_core.proofs.Common.{IsLeastOrOverflow, IsLeastVersion, incremented, Value, IsOkAnd, codes}
+use Rattle.semver_core.specs.Increments.{Least.IsPlain, Table.answer_of_inc}
+use Rattle.{std.specs.Prelude.unwrap_or, semver_core.proofs.Increments.Laws.{IsMinorAbove, IsPatchAbove, increment_rises}}
+use Rattle.semver_core.proofs.Increments.Laws.{patch_least, minor_least, major_least, premajor_least, preminor_least}
+use Rattle.semver_core.proofs.{Increments.Laws.{prepatch_least, prerelease_least}, Values.NextLaws.IsAbove}
 use Rattle.semver_core.proofs.laws.increments.least_increments.Goals as goal
 
 -- without identifier and with base 0

@@ -1,12 +1,6 @@
-use Rattle.std.proofs.Common.{◌≡◌, ◌∙◌, ap, arith, not, sym, true, []}
-use Rattle.std.specs.declared.cmp.Ordering.{Ordering}
-use Rattle.std.specs.declared.cmp.Ordering.TheVariants.{Less, Equal, Greater}
-use Rattle.std.proofs.lemmas.Bool.{not-true}
-use Rattle.std.specs.Ordering.{is_le, ordering_reverse}
-use Rattle.std.specs.Cmp.{upto, tied_itself}
-use Rattle.semver_core.specs.Values.Order.{precedence}
-use Rattle.semver_core.specs.Internal.OrderLaws.{precedence_total, same_key}
-use Rattle.semver_core.proofs.CutLaws.{lt_not_gt, tells}
+use Rattle.semver_core.proofs.Common.{[], ap, arith, sym, true, ◌∙◌, ◌≡◌, tied_itself, is_le, Equal, Greater, Less}
+use Rattle.semver_core.proofs.Common.{precedence_total, precedence, not, not-true, upto, ordering_reverse, Ordering}
+use Rattle.semver_core.{specs.Internal.OrderLaws.same_key, proofs.CutLaws.{lt_not_gt, tells}}
 use Rattle.semver_core.proofs.Increments.LastNumber.{list_kept, list_overflows, list_raised}
 use Rattle.semver_core.proofs.Values.NextLaws as law
 use Rattle.semver_core.proofs.laws.order.order_and_increments.Goals as goal

@@ -1,5 +1,4 @@
-use Rattle.semver_core.proofs.Common.{◌≡◌, ◌∙◌, arith, MAX_SAFE_INTEGER}
-use Rattle.semver_core.specs.Printing.Text.{version_text}
+use Rattle.semver_core.proofs.Common.{MAX_SAFE_INTEGER, arith, ◌∙◌, ◌≡◌, version_text}
 use Rattle.semver_core.proofs.Printing.Reread.{reread_same}
 use Rattle.semver_core.proofs.laws.printing.reread.Goals as goal
 

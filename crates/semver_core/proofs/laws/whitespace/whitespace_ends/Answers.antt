@@ -1,5 +1,4 @@
-use Rattle.std.proofs.Common.{sym, ◌∙◌}
-use Rattle.semver_core.specs.Internal.Spaces.{trim}
+use Rattle.semver_core.proofs.Common.{sym, ◌∙◌, trim}
 use Rattle.semver_core.proofs.Text.Trims.{middle_is_trim, one_after_blank, some_after_blank, trim_is_middle}
 use Rattle.semver_core.proofs.laws.whitespace.whitespace_ends.Goals as goal
 

@@ -1,8 +1,5 @@
-use Rattle.semver_core.proofs.Common.{Option, Some, None, ◌≡◌, ◌∙◌, ap, arith, sym, ℕ, List, NoValue, MAX_SAFE_INTEGER, qualified}
-use Rattle.semver_core.proofs.Common.{triple_at, IsAfterBlank, Reads}
-use Rattle.std.proofs.Common.{IfSome, IfNone}
-use Rattle.semver_core.specs.Internal.CommonReading.{small_len}
-use Rattle.semver_core.specs.Internal.Reading.{mark_len}
+use Rattle.semver_core.proofs.Common.{NoValue, qualified, triple_at, IsAfterBlank, Reads, MAX_SAFE_INTEGER, List, None, Option}
+use Rattle.semver_core.proofs.Common.{Some, ap, arith, sym, ℕ, ◌∙◌, ◌≡◌, small_len, mark_len, IfSome, IfNone}
 use Rattle.semver_core.proofs.Text.Whole.{loose_not, loose_read}
 use Rattle.semver_core.proofs.readers.fast.loose_numbers.Goals as goal
 

@@ -1,4 +1,4 @@
-use Rattle.std.proofs.Common.{sym}
+use Rattle.semver_core.proofs.Common.{sym}
 use Rattle.semver_core.proofs.Text.Whole.{lists_left}
 use Rattle.semver_core.proofs.readers.fast.version_of_whole.Goals as goal
 

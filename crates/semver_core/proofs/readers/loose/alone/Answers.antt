@@ -1,6 +1,4 @@
-use Rattle.std.proofs.Common.{◌≡◌, ◌∙◌, ◌≤◌, ℕ, List, Option, Some, length, ap, subst, sym}
-use Rattle.std.specs.Prelude.{IfSome}
-use Rattle.semver_core.specs.Internal.Reading.{list_from}
+use Rattle.semver_core.proofs.Common.{List, Option, Some, ap, length, subst, sym, ℕ, ◌∙◌, ◌≡◌, ◌≤◌, list_from, IfSome}
 use Rattle.semver_core.proofs.Text.OnePass.{run_place}
 use Rattle.semver_core.proofs.readers.loose.alone.Goals as goal
 

@@ -1,7 +1,6 @@
-use Rattle.semver_core.proofs.Common.{◌≡◌, ◌∙◌, ◌+◌, ◌∷◌, ℕ, List, [], Option, Some, true, false, ap, drop, refl, subst, sym, take}
-use Rattle.semver_core.proofs.Common.{prefix_len, begins, is_identifier_char, Id, goes_on, identifier_of}
-use Rattle.std.specs.Prelude.{IfSome}
-use Rattle.semver_core.specs.Internal.Reading.{build_at, list_from, lists_at, or_nothing, pre_release_at}
+use Rattle.semver_core.proofs.Common.{begins, is_identifier_char, Id, goes_on, identifier_of, List, Option, Some, [], ap, drop}
+use Rattle.semver_core.proofs.Common.{false, refl, subst, sym, take, true, ℕ, ◌+◌, ◌∙◌, ◌∷◌, ◌≡◌, prefix_len, build_at, list_from}
+use Rattle.semver_core.proofs.Common.{lists_at, or_nothing, pre_release_at, IfSome}
 use Rattle.semver_core.proofs.Text.Runs.{list_done}
 use Rattle.semver_core.proofs.readers.loose.lists_at.Goals as goal
 

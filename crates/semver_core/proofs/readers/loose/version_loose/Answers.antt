@@ -1,4 +1,4 @@
-use Rattle.std.proofs.Common.{arith}
+use Rattle.semver_core.proofs.Common.{arith}
 use Rattle.semver_core.proofs.Text.Whole.{release_read}
 use Rattle.semver_core.proofs.readers.loose.version_loose.Goals as goal
 

@@ -1,7 +1,6 @@
-use Rattle.std.proofs.Common.{◌≡◌, ◌⊎◌, None, rules}
+use Rattle.semver_core.proofs.Common.{None, rules, ◌≡◌, from_natural, ◌⊎◌}
 use Rattle.semver_core.proofs.Values.Naturals.{one_negative}
 use Rattle.semver_core.proofs.version.convert.release_of.Goals as goal
-use Rattle.semver_core.specs.Internal.Naturals.{from_natural}
 
 pub returns-in_default : goal.returns-in_default
 returns-in_default c =

@@ -1,4 +1,4 @@
-use Rattle.semver_core.proofs.Common.{◌≡◌, ◌≤◌, length, take, ids_view}
+use Rattle.semver_core.proofs.Common.{ids_view, length, take, ◌≡◌, ◌≤◌}
 use Rattle.semver_core.proofs.version.parts.copy_into.Given as goal
 
 abbrev pub invariant-loop-id : goal.invariant-loop-id

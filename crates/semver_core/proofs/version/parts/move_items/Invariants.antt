@@ -1,5 +1,4 @@
-use Rattle.std.proofs.Common.{◌≡◌, ◌≤◌, ◌+◌, ◌++◌, length}
-use Rattle.std.specs.Prelude.{vec_capacity, vec_len}
+use Rattle.semver_core.proofs.Common.{length, ◌++◌, ◌+◌, ◌≡◌, ◌≤◌, vec_capacity, vec_len}
 use Rattle.semver_core.proofs.version.parts.move_items.Given as goal
 
 abbrev pub invariant-loop-id : goal.invariant-loop-id

@@ -1,6 +1,5 @@
-use Rattle.std.proofs.Common.{◌≡◌, length}
-use Rattle.std.specs.List.{flat_map, fold}
-use Rattle.semver_core.specs.Internal.Hashes.{id_writes}
+use Rattle.semver_core.proofs.Common.{length, ◌≡◌}
+use Rattle.{semver_core.specs.Internal.Hashes.id_writes, std.specs.List.{flat_map, fold}}
 use Rattle.semver_core.proofs.version.precedence.hash_version.Given as goal
 
 abbrev pub invariant-ids : goal.invariant-ids

@@ -1,6 +1,4 @@
-use Rattle.std.proofs.Common.{◌≡◌, ◌∙◌, Some, ap, refl, sym}
-use Rattle.semver_core.specs.Clips.{clip}
-use Rattle.semver_core.specs.Cuts.{greater_lower, lesser_upper, option_holds}
+use Rattle.semver_core.proofs.Common.{Some, ap, refl, sym, ◌∙◌, ◌≡◌, clip, greater_lower, lesser_upper, option_holds}
 use Rattle.semver_core.proofs.CutLaws.{apart, bounded, clip-meets, clip-ordered, none_of, option_holds-clip}
 use Rattle.semver_core.proofs.cuts.interval.Interval.clip.Goals as goal
 

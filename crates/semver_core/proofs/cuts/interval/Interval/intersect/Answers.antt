@@ -1,5 +1,4 @@
-use Rattle.std.proofs.Common.{◌≡◌, ◌∙◌, Some, ap, refl, sym}
-use Rattle.semver_core.specs.Cuts.{meet, option_holds}
+use Rattle.semver_core.proofs.Common.{Some, ap, refl, sym, ◌∙◌, ◌≡◌, meet, option_holds}
 use Rattle.semver_core.proofs.CutLaws.{apart, bounded, is_some-interval, option_holds-meet}
 use Rattle.semver_core.proofs.cuts.interval.Interval.intersect.Goals as goal
 

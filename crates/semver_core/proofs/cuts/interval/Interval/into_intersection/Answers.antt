@@ -1,4 +1,4 @@
-use Rattle.std.proofs.Common.{rules}
+use Rattle.semver_core.proofs.Common.{rules}
 use Rattle.semver_core.proofs.CutLaws.{none_of}
 use Rattle.semver_core.proofs.cuts.interval.Interval.into_intersection.Goals as goal
 

@@ -1,5 +1,4 @@
-use Rattle.std.proofs.Common.{◌≡◌, true, rules}
-use Rattle.semver_core.specs.Cuts.{is_interval}
+use Rattle.semver_core.proofs.Common.{rules, true, ◌≡◌, is_interval}
 use Rattle.semver_core.proofs.CutLaws.{meets_both}
 use Rattle.semver_core.proofs.cuts.interval.Interval.meets.Goals as goal
 

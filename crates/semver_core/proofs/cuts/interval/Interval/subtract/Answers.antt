@@ -1,5 +1,4 @@
-use Rattle.std.proofs.Common.{ap, ◌∙◌, ◌||◌, None, Option, Some, rules, ◌≡◌}
-use Rattle.semver_core.specs.Cuts.{Span, option_holds, remainders}
+use Rattle.semver_core.proofs.Common.{None, Option, Some, ap, rules, ◌||◌, ◌∙◌, ◌≡◌, Span, option_holds, remainders}
 use Rattle.semver_core.proofs.CutLaws.{remainders-hold}
 use Rattle.semver_core.proofs.cuts.interval.Interval.subtract.Goals as goal
 

@@ -1,5 +1,4 @@
-use Rattle.std.proofs.Common.{append_assoc, refl, rules}
-use Rattle.std.proofs.Output.{has_written_styled_append, has_written_styled_of_eq}
+use Rattle.semver_core.proofs.Common.{append_assoc, refl, rules, has_written_styled_append, has_written_styled_of_eq}
 use Rattle.semver_core.proofs.version.versioned.Versioned.print.Goals as goal
 
 pub returns : goal.returns
