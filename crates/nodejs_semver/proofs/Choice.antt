@@ -1,11 +1,4 @@
 pub mod BestOf
-pub mod Next
-pub mod LeastBuild
 pub mod Kinds
-pub mod LeastHeld
-pub mod LeastOf
-pub mod LeastPieces
-pub mod Memory
+pub mod Least
 pub mod OutsideLaw
-pub mod Raised
-pub mod Starts

@@ -1,11 +1,9 @@
 -- What the reader of JSON leaves to be said of memory.
-use Rattle.std.proofs.Common.{◌≡◌, ◌<◌, ℕ, List, [], ◌∷◌, length, Some, Result, Ok, Err, arith}
+use Rattle.nodejs_semver.proofs.Common.{Err, Failure, List, Memory, MemoryOnlyIf, Ok, Refused, Result, Some, [], arith, length, ℕ}
+use Rattle.nodejs_semver.proofs.Common.{◌<◌, ◌∷◌, ◌≡◌}
 use Rattle.serde_json.proofs.OnLiterals.{serde_json_on_literals}
 use Rattle.serde_json.specs.Data.{Data}
 use Rattle.serde_json.specs.Read.{read}
-use Rattle.semver_core.specs.Failures.{MemoryOnlyIf}
-use Rattle.semver_core.specs.declared.error.Failure.{Failure}
-use Rattle.semver_core.specs.declared.error.Failure.TheVariants.{Memory, Refused}
 
 -- a text that has a value is not empty
 pub read-some : (text : List ℕ) (d : Data) → read text ≡ Some d → 0 < length text

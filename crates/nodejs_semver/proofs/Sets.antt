@@ -1,5 +1,5 @@
 -- Tests of two sets, and of what both hold and the first alone. Callers may cite these lemmas.
-use Rattle.std.proofs.Common.{◌≡◌, Bool, true, false, refl, sym, ◌∙◌, ◌↔◌, ◌&&◌, not, IsTrue}
+use Rattle.nodejs_semver.proofs.Common.{Bool, IsTrue, false, not, refl, sym, true, ◌&&◌, ◌↔◌, ◌∙◌, ◌≡◌}
 
 pub both_written : {A B : Type 0} (a b c : Bool) → c ≡ (a && b) → IsTrue a ↔ A → IsTrue b ↔ B → IsTrue c ↔ (A × B)
 both_written true true c e f g = (λ t. (f.0 refl, g.0 refl), λ p. e)

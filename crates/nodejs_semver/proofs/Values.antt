@@ -1,24 +1,15 @@
 -- What holds of spans of versions holds of the spans of their values, where the order of the versions is that of the values.
-use Rattle.nodejs_semver.proofs.Common.{◌≡◌, ◌∙◌, Bool, List, [], ◌∷◌, ◌++◌, refl, ap, ap₂, sym, Option, Some, None, map}
-use Rattle.nodejs_semver.proofs.Common.{if◌then◌else◌, is_some, length, option_to_list, Ordering, ℕ, ◌+◌, ◌<◌, get_or, take, arith}
-use Rattle.nodejs_semver.proofs.Common.{list_all, Span, cut_cmp, greater_lower, interval, is_interval, lesser_upper, lower_cut}
-use Rattle.nodejs_semver.proofs.Common.{meet, upper_cut, left_below, left_above, precedence, VersionValue, Bound, After, Before}
-use Rattle.nodejs_semver.proofs.Common.{Unbounded, inl, inr, list_any, or_cases, or_left, or_right, remainder, span_of, true}
-use Rattle.nodejs_semver.proofs.Common.{meets_of, minus, bound_of, spans_of}
-use Rattle.std.proofs.lemmas.List.{length-map, map-append}
-use Rattle.std.proofs.Common.{codes, option_map, Equal, Greater}
-use Rattle.std.proofs.lemmas.List.Folds.{flat_map-map, list_all-map}
-use Rattle.std.specs.List.{flat_map, join_by}
+use Rattle.nodejs_semver.proofs.Common.{After, AreTaking, Before, Beside, Bool, Bound, Equal, Greater, List, None, Option}
+use Rattle.nodejs_semver.proofs.Common.{Ordering, Some, Span, TakesMemory, Unbounded, VersionValue, [], ap, append-nil}
+use Rattle.nodejs_semver.proofs.Common.{append_assoc, ap₂, arith, bound_of, codes, cut_cmp, false, flat_map, flat_map-append}
+use Rattle.nodejs_semver.proofs.Common.{flat_map-map, get_or, greater_lower, has_bound, if◌then◌else◌, inl, inr, interval, is_ge}
+use Rattle.nodejs_semver.proofs.Common.{is_gt, is_interval, is_le, is_past, is_some, join_by, left_above, left_below, length}
+use Rattle.nodejs_semver.proofs.Common.{length-map, lesser_upper, list_all, list_all-map, list_any, lower_cut, map, map-append}
+use Rattle.nodejs_semver.proofs.Common.{meet, meets_of, minus, option_map, option_to_list, ordering_reverse, ordering_then}
+use Rattle.nodejs_semver.proofs.Common.{passes, precedence, precedence_total, range_text, refl, remainder, span_of, span_text}
+use Rattle.nodejs_semver.proofs.Common.{spans_of, sym, take, true, upper_cut, ℕ, ◌++◌, ◌+◌, ◌<◌, ◌∙◌, ◌∷◌, ◌≡◌}
 use Rattle.nodejs_semver.proofs.Algebra.FlatMaps.{take_next}
-use Rattle.nodejs_semver.specs.Internal.Sets.{AreTaking, span_text}
-use Rattle.nodejs_semver.specs.Printing.Text.{range_text}
-use Rattle.nodejs_semver.specs.Ranges.View.{TakesMemory}
-use Rattle.semver_core.specs.Cuts.{has_bound, passes}
 use Rattle.semver_core.specs.Values.Memory.{takes_memory}
-use Rattle.semver_core.specs.Cuts.{Beside, is_past}
-use Rattle.semver_core.specs.Internal.OrderLaws.{precedence_total}
-use Rattle.std.specs.Ordering.{is_ge, is_gt, is_le, ordering_reverse, ordering_then}
-use Rattle.std.specs.Prelude.{false}
 
 -- versions that are their own values
 pub span_same : (s : Span VersionValue) → span_of (λ v. v) s ≡ s
@@ -122,8 +113,7 @@ module _ {V : Type 0} (R : V → V → Ordering) (value : V → VersionValue)
       → spans_of value (minus R ss ts) ≡ minus precedence (spans_of value ss) (spans_of value ts)
   minus-values ss [] = refl
   minus-values ss (t ∷ ts) =
-      minus-values (flat_map (λ s. remainder R s t) ss) ts
-      ∙ ap (λ l. minus precedence l (spans_of value ts))
+      minus-values (flat_map (λ s. remainder R s t) ss) ts ∙ ap (λ l. minus precedence l (spans_of value ts))
       (flat-map (span_of value) _ (λ s. remainder precedence s (span_of value t)) (λ s. remainder-values s t) ss)
 
 -- what takes memory to copy, wherever the values of the versions do
@@ -137,14 +127,7 @@ module _ {V : Type 0} (takes : V → Bool) (value : V → VersionValue)
   any-values : (ss : List (Span V)) → list_any (has_bound takes) ss ≡ true
       → list_any (has_bound takes_memory) (spans_of value ss) ≡ true
   any-values [] h = h
-  any-values (s ∷ ss) h =
-      elim (or_cases _ _ h) [
-        | inl here ↦ elim (or_cases _ _ here) [
-          | inl low ↦ or_left _ _ (or_left _ _ (passes-values s.lower low))
-          | inr high ↦ or_left _ _ (or_right _ _ (passes-values s.upper high))
-        ]
-        | inr there ↦ or_right _ _ (any-values ss there)
-      ]
+  any-values (s ∷ ss) h = grind (arith, passes-values, any-values ss)
 
   pub taking-values : (ss : List (Span V)) (ts : List (Span VersionValue)) → spans_of value ss ≡ ts → AreTaking takes ss
       → TakesMemory ts
@@ -165,3 +148,28 @@ past-after v w = turned (precedence v w) (precedence w v) (precedence_total.anti
     turned r s e = grind arith
 
 pub ruleset past_named = (past-before, past-after)
+
+-- ---- what a loop over intervals has written
+
+abbrev joined : {A : Type 0} → (A → List ℕ) → List A → List ℕ
+joined text xs = join_by text (codes "||") xs
+
+-- what stands before the next interval: nothing, and after the first one two bars
+abbrev pub bars_after : {A : Type 0} → List A → List ℕ
+bars_after [] = []
+bars_after (s ∷ rest) = 124 ∷ 124 ∷ []
+
+range_push : {A : Type 0} (text : A → List ℕ) (xs : List A) (x : A)
+    → joined text (xs ++ x ∷ []) ≡ joined text xs ++ (bars_after xs ++ text x)
+range_push text xs x = grind (arith, append-nil, flat_map-append, append_assoc)
+
+pub range_step : {A : Type 0} (text : A → List ℕ) (xs : List A) (i : ℕ) (separator : List ℕ) (x : A) → i < length xs
+    → separator ≡ bars_after (take i xs) → x ≡ get_or xs i x
+    → joined text (take i xs) ++ (separator ++ text x) ≡ joined text (take (i + 1) xs)
+range_step text xs i separator x lt e h =
+    ap (λ s. joined text (take i xs) ++ (s ++ text x)) e
+    ∙ sym (ap (joined text) (take_next xs i x lt h) ∙ range_push text (take i xs) x)
+
+pub bars_step : {A : Type 0} (xs : List A) (i : ℕ) (x : A) → i < length xs → x ≡ get_or xs i x
+    → 124 ∷ 124 ∷ [] ≡ bars_after (take (i + 1) xs)
+bars_step xs i x lt h = grind (arith, take_next)

@@ -1,18 +1,15 @@
 -- What two lists of spans hold and accept: their intersection, and what one leaves of the other.
-use Rattle.nodejs_semver.proofs.Common.{◌≡◌, refl, sym, ◌∙◌, Bool, true, false, ◌&&◌, ◌||◌, not, if◌then◌else◌, List, [], ◌∷◌}
-use Rattle.nodejs_semver.proofs.Common.{◌++◌, Option, is_some, arith, option_to_list, is_gt, Ordering, and-true, and_parts}
-use Rattle.nodejs_semver.proofs.Common.{not-true, or_left, or_right, list_any-append, IsTotalOrder, list_any, between_parts, lt}
-use Rattle.nodejs_semver.proofs.Common.{remainders_by, turned_lower, turned_upper, Span, cut_cmp, lower_cut, upper_cut, is_past}
-use Rattle.nodejs_semver.proofs.Common.{is_interval, interval, holds, meet, left_below, left_above, Bound, precedence_total}
-use Rattle.nodejs_semver.proofs.Common.{if_any, list_holds, remainder, names, lets_in, accepts, precedence, VersionValue}
-use Rattle.nodejs_semver.proofs.Common.{is_release}
-use Rattle.std.proofs.lemmas.Bool.{and_cases, not-false, or_parts}
-use Rattle.std.specs.List.{flat_map}
-use Rattle.nodejs_semver.specs.Internal.Sets.{option_list_holds, option_accepts, meets_of, minus}
+use Rattle.nodejs_semver.proofs.Common.{Bool, Bound, IsTotalOrder, List, Option, Ordering, Span, VersionValue, [], accepts}
+use Rattle.nodejs_semver.proofs.Common.{and-true, and_cases, and_parts, arith, between_parts, cut_cmp, false, flat_map, holds}
+use Rattle.nodejs_semver.proofs.Common.{if_any, if◌then◌else◌, interval, is_gt, is_interval, is_past, is_release, is_some}
+use Rattle.nodejs_semver.proofs.Common.{left_above, left_below, lets_in, list_any, list_any-append, list_holds, lower_cut, lt}
+use Rattle.nodejs_semver.proofs.Common.{meet, meets_of, minus, names, not, not-false, not-true, option_accepts, option_holds}
+use Rattle.nodejs_semver.proofs.Common.{option_list_holds, option_to_list, or_left, or_parts, or_right, precedence}
+use Rattle.nodejs_semver.proofs.Common.{precedence_total, refl, remainder, remainders_by, sym, true, turned_lower, turned_upper}
+use Rattle.nodejs_semver.proofs.Common.{upper_cut, ◌&&◌, ◌++◌, ◌||◌, ◌∙◌, ◌∷◌, ◌≡◌}
 use Rattle.semver_core.proofs.CutLaws.{option_holds-interval, option_holds-meet, past_below, remainders-hold}
 use Rattle.nodejs_semver.proofs.Algebra.FlatMaps.{any_either, any_flat, any_pairs, any_same, any_weaker}
 use Rattle.nodejs_semver.proofs.Algebra.Gate.{both, lets_in-meet, names_above, names_below}
-use Rattle.semver_core.specs.Cuts.{option_holds}
 
 -- ---- the points of lists
 
@@ -24,8 +21,7 @@ module _ {V : Type 0} {R : V → V → Ordering} (o : IsTotalOrder R) where
   pub list_holds-meets_of : (ss ts : List (Span V)) (v : V) → list_holds R
       (meets_of R ss ts) v ≡ (list_holds R ss v && list_holds R ts v)
   list_holds-meets_of ss ts v =
-      any_flat _ _ ss
-      ∙ any_same _ _ (λ s. any_flat _ _ ts ∙ any_same _ (λ t. holds R s v && holds R t v)
+      any_flat _ _ ss ∙ any_same _ _ (λ s. any_flat _ _ ts ∙ any_same _ (λ t. holds R s v && holds R t v)
       (λ t. holds_option (meet R s t) v ∙ option_holds-meet o s t v) ts) ss
       ∙ any_pairs (λ s. holds R s v) (λ t. holds R t v) ss ts
 
@@ -111,8 +107,7 @@ pub one_accepts : (ss ts : List (Span VersionValue)) (v : VersionValue)
     → option_accepts (if_any (meets_of precedence ss ts)) v false ≡ true → (accepts ss v false || accepts ts v false) ≡ true
 one_accepts ss ts v h =
     any_either _ (admits v) (admits v) (λ s t. one_in (holds precedence s v) (lets_in s v) (holds precedence t v)
-    (lets_in t v)) ss ts
-    (sym (option_accepts-if_any (meets_of precedence ss ts) v false ∙ accepts-meets_of ss ts v) ∙ h)
+    (lets_in t v)) ss ts (sym (option_accepts-if_any (meets_of precedence ss ts) v false ∙ accepts-meets_of ss ts v) ∙ h)
   where
     one_in : (p l q m : Bool) → ((p && q) && (l || m)) ≡ true → ((p && l) || (q && m)) ≡ true
     one_in p l q m h = grind arith

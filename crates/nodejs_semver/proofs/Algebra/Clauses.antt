@@ -1,19 +1,65 @@
--- What the intersection and the difference of two lists hold and accept, and that their intervals are those of a range.
-use Rattle.nodejs_semver.proofs.Common.{ap, ap₂, subst, ◌≡◌, sym, ◌∙◌, ℕ, ◌+◌, ◌<◌, ◌⊎◌, inl, inr, true, false, ◌&&◌, not, Ordering}
-use Rattle.nodejs_semver.proofs.Common.{Bool, [], ◌∷◌, get_or, meet, option_to_list}
-use Rattle.nodejs_semver.proofs.Common.{List, length, Option, IsTrue, is_some, arith, first_so, list_all, Span, is_interval, if_any}
-use Rattle.nodejs_semver.proofs.Common.{precedence, precedence_total, VersionValue, is_release, MAX_SAFE_INTEGER, accepts}
-use Rattle.nodejs_semver.proofs.Common.{list_holds, span_of, meets_of, minus, is_range_span, IsRange, is_range_bound, spans_of}
-use Rattle.std.proofs.Common.{◌≢◌, IfOk, Result}
+-- That the intersection and the difference of two lists are intervals of a range, and what they hold and accept.
+use Rattle.nodejs_semver.proofs.Common.{Bool, Bound, IfOk, IfOk-weaker, IsRange, IsTotalOrder, IsTrue, List, MAX_SAFE_INTEGER}
+use Rattle.nodejs_semver.proofs.Common.{None, Option, Ordering, Result, Some, Span, VersionValue, [], accepts, and_parts, ap, ap₂}
+use Rattle.nodejs_semver.proofs.Common.{arith, cond_both, cut_cmp, difference, false, first_so, flat_map, get_or, if_any, inl}
+use Rattle.nodejs_semver.proofs.Common.{inr, intersection, is_gt, is_interval, is_range_bound, is_range_span, is_release, is_some}
+use Rattle.nodejs_semver.proofs.Common.{left_above, left_below, length, length-map, list_all, list_all-append, list_holds}
+use Rattle.nodejs_semver.proofs.Common.{lower_cut, meet, meets_of, minus, not, option_accepts, option_list_holds, option_to_list}
+use Rattle.nodejs_semver.proofs.Common.{precedence, precedence_total, refl, remainder, remainders_by, span_of, spans_of, subst}
+use Rattle.nodejs_semver.proofs.Common.{sym, true, turned_lower, turned_upper, upper_cut, ℕ, ◌&&◌, ◌++◌, ◌+◌, ◌<◌, ◌∙◌, ◌∷◌, ◌≡◌}
+use Rattle.nodejs_semver.proofs.Common.{◌≢◌, ◌⊎◌}
+use Rattle.nodejs_semver.proofs.Algebra.FlatMaps.{all_flat, all_weaker}
 use Rattle.nodejs_semver.proofs.Values.{all_intervals-values, meets_of-values, minus-values}
-use Rattle.std.proofs.lemmas.List.{length-map}
-use Rattle.std.proofs.lemmas.Result.{IfOk-weaker}
-use Rattle.nodejs_semver.specs.Internal.Sets.{option_list_holds, option_accepts}
-use Rattle.nodejs_semver.specs.Ranges.Algebra.{intersection, difference}
 use Rattle.nodejs_semver.proofs.Algebra.Accepting.{accepts-held, accepts-release, list_holds-meets_of, list_holds-minus}
 use Rattle.nodejs_semver.proofs.Algebra.Accepting.{option_list_holds-if_any}
-use Rattle.nodejs_semver.proofs.Algebra.FlatMaps.{all_weaker}
-use Rattle.nodejs_semver.proofs.Algebra.Spans.{fine-meets_of, fine-minus}
+
+module _ {V : Type 0} {R : V → V → Ordering} (o : IsTotalOrder R) (F : Bound V → Bool) where
+  -- an interval with such bounds
+  abbrev pub is_fine : Span V → Bool
+  is_fine s = is_interval R s && (F s.lower && F s.upper)
+
+  fine_bounds : (s : Span V) → is_fine s ≡ true → (F s.lower ≡ true) × (F s.upper ≡ true)
+  fine_bounds s h = and_parts (F s.lower) (F s.upper) (and_parts (is_interval R s) (F s.lower && F s.upper) h).1
+
+  one_fine : (s : Span V) → is_interval R s ≡ true → F s.lower ≡ true → F s.upper ≡ true → list_all is_fine (s ∷ []) ≡ true
+  one_fine s h k l = rw (h, k, l) refl
+
+  fine-meet : (s t : Span V) → is_fine s ≡ true → is_fine t ≡ true → list_all is_fine (option_to_list (meet R s t)) ≡ true
+  fine-meet s t h k =
+      let (a, b) = fine_bounds s h in
+      let (c, d) = fine_bounds t k in
+      cond_both _ (Some _) None (λ m. list_all is_fine (option_to_list m) ≡ true) (λ i. one_fine _ i
+      (cond_both (is_gt (cut_cmp R (lower_cut s.lower) (lower_cut t.lower))) s.lower t.lower (λ e. F e ≡ true) (λ _. a) (λ _. c))
+      (cond_both (is_gt (cut_cmp R (upper_cut s.upper) (upper_cut t.upper))) t.upper s.upper (λ e. F e ≡ true) (λ _. d) (λ _. b)))
+      (λ _. refl)
+
+  -- what is left below t begins below t's lower cut, which its upper bound makes again; and so above t
+  fine-left_below : (s t : Span V) → F s.lower ≡ true → F t.lower ≡ true
+      → list_all is_fine (option_to_list (left_below R s t)) ≡ true
+  fine-left_below s t h k = grind (arith, turned_lower)
+
+  fine-left_above : (s t : Span V) → F t.upper ≡ true → F s.upper ≡ true
+      → list_all is_fine (option_to_list (left_above R s t)) ≡ true
+  fine-left_above s t h k = grind (arith, turned_upper)
+
+  fine-remainder : (s t : Span V) → is_fine s ≡ true → is_fine t ≡ true → list_all is_fine (remainder R s t) ≡ true
+  fine-remainder s t h k =
+      remainders_by o s t (λ r. list_all is_fine (option_to_list r.0 ++ option_to_list r.1) ≡ true)
+      (λ _. grind (arith, fine_bounds, list_all-append, fine-left_below, fine-left_above)) (λ _. rw h refl)
+
+  pub fine-meets_of : (ss ts : List (Span V)) → list_all is_fine ss ≡ true → list_all is_fine ts ≡ true
+      → list_all is_fine (meets_of R ss ts) ≡ true
+  fine-meets_of ss ts h k = grind (arith, all_flat, all_weaker, fine-meet)
+
+  pub fine-minus : (ss ts : List (Span V)) → list_all is_fine ss ≡ true → list_all is_fine ts ≡ true
+      → list_all is_fine (minus R ss ts) ≡ true
+  fine-minus ss [] h k = h
+  fine-minus ss (t ∷ ts) h k =
+      let (first, rest) = and_parts (is_fine t) (list_all is_fine ts) k in
+      fine-minus (flat_map (λ s. remainder R s t) ss) ts (all_flat is_fine _ ss
+      ∙ all_weaker is_fine _ (λ s e. fine-remainder s t e first) ss h) rest
+
+-- ---- what the intersection and the difference hold and accept
 
 -- what two lists of one interval each have in common
 pub meets_of-lone : {V : Type 0} (R : V → V → Ordering) (xs ys : List (Span V)) (s t : Span V) → length xs ≡ 1 → length ys ≡ 1
@@ -59,8 +105,7 @@ intersection-all a b v =
 
 pub difference-all : (a b : List (Span VersionValue)) (v : VersionValue)
     → option_accepts (difference a b) v true ≡ (accepts a v true && not (accepts b v true))
-difference-all a b v =
-    rw (option_accepts-held (difference a b) v, accepts-held a v, accepts-held b v) (difference-set a b v)
+difference-all a b v = rw (option_accepts-held (difference a b) v, accepts-held a v, accepts-held b v) (difference-set a b v)
 
 pub intersection-releases : (a b : List (Span VersionValue)) (v : VersionValue) → is_release v ≡ true
     → option_accepts (intersection a b) v false ≡ (accepts a v false && accepts b v false)

@@ -1,19 +1,16 @@
 -- What is left of a list is what of each of its spans lies within what is left of the whole line.
-use Rattle.nodejs_semver.proofs.Common.{append_assoc, ap₂, ◌≡◌, refl, sym, ◌∙◌, ap, subst, ℕ, zero, suc, ◌+◌, ◌<◌, ◌≤◌, length}
-use Rattle.nodejs_semver.proofs.Common.{get_or, take, drop, Bool, true, false, ◌&&◌, not, inl, inr, if◌then◌else◌, List, [], ◌∷◌}
-use Rattle.nodejs_semver.proofs.Common.{◌++◌, Option, Some, None, is_some, arith, append-nil, take_all, option_to_list, Ordering}
-use Rattle.nodejs_semver.proofs.Common.{and_from, and_parts, cases_Bool, IsTotalOrder, list_all, between_parts, gt_lt, lt, not_if}
-use Rattle.nodejs_semver.proofs.Common.{one_way, remainders_by, turned_lower, turned_upper, clip, Span, Cut, Start, cut_cmp}
-use Rattle.nodejs_semver.proofs.Common.{lower_cut, upper_cut, is_interval, greater_lower, lesser_upper, remainder, Bound, Unbounded}
-use Rattle.nodejs_semver.proofs.Common.{minus}
-use Rattle.std.proofs.Common.{length-drop, get_or-drop, is_lt}
-use Rattle.std.proofs.lemmas.Bool.{not-false}
-use Rattle.std.proofs.Math.Bool.{and-false}
-use Rattle.std.proofs.lemmas.Grind.{flat_map-append, fold-append}
-use Rattle.std.specs.List.{AllWithin, flat_map}
+use Rattle.nodejs_semver.proofs.Common.{Bool, Bound, Cut, IsTotalOrder, List, None, Option, Ordering, Some, Span, Start}
+use Rattle.nodejs_semver.proofs.Common.{Unbounded, [], and-false, and_from, and_parts, ap, append-nil, append_assoc, ap₂, arith}
+use Rattle.nodejs_semver.proofs.Common.{below_lesser, below_upto, between, between_from, between_parts, cases_Bool, clip, cut_cmp}
+use Rattle.nodejs_semver.proofs.Common.{drop, false, flat_map, flat_map-append, fold-append, get_or, get_or-drop, greater_below}
+use Rattle.nodejs_semver.proofs.Common.{greater_lower, gt_lt, if◌then◌else◌, inl, inr, irreflexive, is_interval, is_lt, is_some}
+use Rattle.nodejs_semver.proofs.Common.{is_some-interval, length, length-drop, lesser_upper, list_all, lower_cut, lt, lt_trans}
+use Rattle.nodejs_semver.proofs.Common.{minus, not, not-false, not_above, not_below, not_if, one_way, option_to_list, refl}
+use Rattle.nodejs_semver.proofs.Common.{remainder, remainders_by, subst, suc, sym, take, take_all, true, turned_lower}
+use Rattle.nodejs_semver.proofs.Common.{turned_upper, upper_cut, zero, ℕ, ◌&&◌, ◌++◌, ◌+◌, ◌<◌, ◌∙◌, ◌∷◌, ◌≡◌, ◌≤◌}
+use Rattle.semver_core.proofs.CutLaws.{upto_below}
+use Rattle.std.specs.List.{AllWithin}
 use Rattle.std.specs.List.Sorted.{IsPartitionedBy, IsPartitionPoint}
-use Rattle.semver_core.proofs.CutLaws.{is_some-interval, between, below_lesser, below_upto, between_from, irreflexive, lt_trans}
-use Rattle.semver_core.proofs.CutLaws.{greater_below, not_above, not_below, upto_below}
 use Rattle.nodejs_semver.proofs.Algebra.FlatMaps.{flat_flat, flat_same}
 use Rattle.nodejs_semver.proofs.Dividing.RunLemmas.{greater_assoc, lesser_assoc}
 use Rattle.nodejs_semver.specs.Internal.Along.{IsAlong}
@@ -61,12 +58,10 @@ module _ {V : Type 0} {R : V → V → Ordering} (o : IsTotalOrder R) where
 
   -- what of an interval lies below a lower bound of another, and what above an upper one, is what that one leaves
   abbrev below : Span V → Bound V → List (Span V)
-  below s b =
-      pick (lt o (lower_cut s.lower) (lower_cut b)) (record { lower = s.lower; upper = lesser_upper R s.upper b })
+  below s b = pick (lt o (lower_cut s.lower) (lower_cut b)) (record { lower = s.lower; upper = lesser_upper R s.upper b })
 
   abbrev above : Span V → Bound V → List (Span V)
-  above s b =
-      pick (lt o (upper_cut b) (upper_cut s.upper)) (record { lower = greater_lower R b s.lower; upper = s.upper })
+  above s b = pick (lt o (upper_cut b) (upper_cut s.upper)) (record { lower = greater_lower R b s.lower; upper = s.upper })
 
   left_lower : (s t : Span V) → lt o (lower_cut s.lower) (lower_cut t.lower) ≡ true
       → lesser_upper R s.upper t.lower ≡ (if lt o (lower_cut t.lower) (upper_cut s.upper) then t.lower else s.upper)
@@ -93,15 +88,13 @@ module _ {V : Type 0} {R : V → V → Ordering} (o : IsTotalOrder R) where
       ≡ clips (below c b) s
   clip_below s c b =
       clip_piece s c _ _ _ _ (ap (λ (u : Bound V). record { lower = greater_lower R c.lower s.lower; upper = u })
-      (lesser_assoc o s.upper c.upper b))
-      (rw (
+      (lesser_assoc o s.upper c.upper b)) (rw (
         between o c.lower s.lower s.upper c.upper,
         greater_below o c.lower s.lower (lower_cut b),
         between o c.lower s.lower s.upper (lesser_upper R c.upper b),
         below_lesser o c.upper b,
         below_lesser o c.upper b,
-      )
-      (elim (cases_Bool (lt o (lower_cut c.lower) (lower_cut b))) [
+      ) (elim (cases_Bool (lt o (lower_cut c.lower) (lower_cut b))) [
         | inl h ↦ rw (turned_lower o b _ h, h) (search all_five)
         | inr h ↦ rw h (and-false _)
       ]))
@@ -110,15 +103,13 @@ module _ {V : Type 0} {R : V → V → Ordering} (o : IsTotalOrder R) where
       ≡ clips (above c b) s
   clip_above s c b =
       clip_piece s c _ _ _ _ (ap (λ (u : Bound V). record { lower = u; upper = lesser_upper R s.upper c.upper })
-      (sym (greater_assoc o b c.lower s.lower)))
-      (rw (
+      (sym (greater_assoc o b c.lower s.lower))) (rw (
         between o c.lower s.lower s.upper c.upper,
         below_lesser o s.upper c.upper (upper_cut b),
         between o (greater_lower R b c.lower) s.lower s.upper c.upper,
         greater_below o b c.lower,
         greater_below o b c.lower,
-      )
-      (elim (cases_Bool (lt o (upper_cut b) (upper_cut c.upper))) [
+      ) (elim (cases_Bool (lt o (upper_cut b) (upper_cut c.upper))) [
         | inl h ↦ rw (turned_upper o b _ h, h) (search five_all)
         | inr h ↦ rw (h, and-false (lt o (upper_cut b) (upper_cut s.upper)), and-false _) refl
       ]))
@@ -149,8 +140,7 @@ module _ {V : Type 0} {R : V → V → Ordering} (o : IsTotalOrder R) where
   clips_remainder : (s t : Span V) (cs : List (Span V))
       → flat_map (λ m. remainder R m t) (clips cs s) ≡ clips (flat_map (λ c. remainder R c t) cs) s
   clips_remainder s t cs =
-      flat_flat (λ m. remainder R m t) (λ c. option_to_list (clip R s c)) cs
-      ∙ flat_same _ _ (λ c. clip_remainder s c t) cs
+      flat_flat (λ m. remainder R m t) (λ c. option_to_list (clip R s c)) cs ∙ flat_same _ _ (λ c. clip_remainder s c t) cs
       ∙ sym (flat_flat (λ d. option_to_list (clip R s d)) (λ c. remainder R c t) cs)
 
   minus_clips : (cs ss ts : List (Span V)) → minus R (flat_map (clips cs) ss) ts ≡ flat_map (clips (minus R cs ts)) ss
@@ -158,8 +148,7 @@ module _ {V : Type 0} {R : V → V → Ordering} (o : IsTotalOrder R) where
   minus_clips cs ss (t ∷ ts) =
       ap (λ l. minus R l ts)
       (flat_flat (λ s. remainder R s t) (clips cs) ss ∙ flat_same _ (clips (flat_map (λ c. remainder R c t) cs))
-      (λ s. clips_remainder s t cs) ss)
-      ∙ minus_clips (flat_map (λ c. remainder R c t) cs) ss ts
+      (λ s. clips_remainder s t cs) ss) ∙ minus_clips (flat_map (λ c. remainder R c t) cs) ss ts
 
   -- an interval lies within the whole line
   clips_whole : (s : Span V) → is_interval R s ≡ true → clips (whole ∷ []) s ≡ s ∷ []
@@ -226,17 +215,14 @@ module _ {V : Type 0} {R : V → V → Ordering} (o : IsTotalOrder R) where
   pub minus-clips : (ss ts cs : List (Span V)) → list_all (is_interval R) ss ≡ true → cs ≡ minus R (whole ∷ []) ts
       → flat_map (λ s. flat_map (λ c. option_to_list (clip R s c)) cs) ss ≡ minus R ss ts
   minus-clips ss ts cs h e =
-      ap (λ (l : List (Span V)). flat_map (clips l) ss) e
-      ∙ sym (minus_clips (whole ∷ []) ss ts)
+      ap (λ (l : List (Span V)). flat_map (clips l) ss) e ∙ sym (minus_clips (whole ∷ []) ss ts)
       ∙ ap (λ l. minus R l ts) (all_whole ss h)
 
   -- what is left of the line by one list after another
   pub gaps-joined : (ts us cs ds es left : List (Span V)) → cs ≡ minus R (whole ∷ []) ts → ds ≡ minus R (whole ∷ []) us
       → left ≡ flat_map (λ s. flat_map (λ c. option_to_list (clip R s c)) ds) cs → es ≡ ts ++ us → left ≡ minus R (whole ∷ []) es
   gaps-joined ts us cs ds es left e k f g =
-      f
-      ∙ minus-clips cs us ds (along_all Start cs (along-gaps ts cs e)) k
-      ∙ ap (λ l. minus R l us) e
+      f ∙ minus-clips cs us ds (along_all Start cs (along-gaps ts cs e)) k ∙ ap (λ l. minus R l us) e
       ∙ sym (fold-append (λ (left : List (Span V)) (t : Span V). flat_map (λ s. remainder R s t) left) (whole ∷ []) ts us)
       ∙ ap (λ l. minus R (whole ∷ []) l) (sym g)
 
@@ -292,8 +278,7 @@ module _ {V : Type 0} {R : V → V → Ordering} (o : IsTotalOrder R) where
 
   none_of : (s : Span V) (cs : List (Span V)) → lt o (lower_cut s.lower) (upper_cut s.upper) ≡ false → clips cs s ≡ []
   none_of s [] h = refl
-  none_of s (c ∷ cs) h =
-      ap (λ l. l ++ clips cs s) (no_clip s c (not_if _ _ (λ e. (in_clip s c e).1.0) h)) ∙ none_of s cs h
+  none_of s (c ∷ cs) h = ap (λ l. l ++ clips cs s) (no_clip s c (not_if _ _ (λ e. (in_clip s c e).1.0) h)) ∙ none_of s cs h
 
   stop_at : (s : Span V) (a : Cut V) (es : List (Span V)) (i : ℕ) (d : Span V) → IsAlong R a es → i < length es
       → lt o (lower_cut s.lower) (upper_cut (get_or es i d).upper) ≡ true → is_some (clip R s (get_or es i d)) ≡ false
@@ -317,14 +302,12 @@ module _ {V : Type 0} {R : V → V → Ordering} (o : IsTotalOrder R) where
     clips-to_end near i e k = ap (λ l. clips l s) (take_all i near k) ∙ ap (λ l. clips l s) e ∙ sym (skipped s cs r p.0 b)
 
     to_none : (i : ℕ) (d : Span V) → IsAlong R Start cs → i < length (drop r cs)
-        → is_some (clip R s (get_or (drop r cs) i d)) ≡ false
-        → clips (take i (drop r cs)) s ≡ clips cs s
+        → is_some (clip R s (get_or (drop r cs) i d)) ≡ false → clips (take i (drop r cs)) s ≡ clips cs s
     to_none i d h k n =
         let at : get_or (drop r cs) i d ≡ get_or cs (r + i) d = get_or-drop r cs i d in
         let short = p.1 (r + i) d (omega arith) (omega (arith, length-drop r cs)) in
         stop_at s Start (drop r cs) i d (along_drop Start cs r h) k
-        (ap (λ (q : Span V). lt o (lower_cut s.lower) (upper_cut q.upper)) at ∙ not-false _ short) n
-        ∙ sym (skipped s cs r p.0 b)
+        (ap (λ (q : Span V). lt o (lower_cut s.lower) (upper_cut q.upper)) at ∙ not-false _ short) n ∙ sym (skipped s cs r p.0 b)
 
     pub clips-to_none : (near : List (Span V)) (i : ℕ) (d : Span V) (part : Option (Span V)) → near ≡ drop r cs
         → IsAlong R Start cs → i < length near

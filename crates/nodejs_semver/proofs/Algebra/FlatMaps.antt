@@ -1,13 +1,9 @@
 -- Lists that are joined from a list for each element of another, and tests of their elements.
-use Rattle.std.proofs.Common.{append_assoc, ◌≡◌, refl, sym, ◌∙◌, ap, ap₂, ℕ, ◌+◌, ◌<◌, Bool, true, false, ◌&&◌, ◌||◌, List}
-use Rattle.std.proofs.Common.{[], ◌∷◌, ◌++◌, length, get_or, take, not, inl, inr, arith, Option, is_some}
-use Rattle.std.proofs.Common.{option_to_list, map, Result, Ok, Err, OnErr}
-use Rattle.std.proofs.lemmas.Bool.{and_parts, or_cases}
-use Rattle.std.proofs.lemmas.Grind.{flat_map-append}
-use Rattle.std.proofs.lemmas.List.{append-nil, take_more}
-use Rattle.std.proofs.lemmas.List.Folds.{Any-from_list_any, length-flat_map-take, list_all-append, list_any-append, list_any_at}
-use Rattle.semver_core.specs.Lists.{is_empty}
-use Rattle.std.specs.List.{flat_map, list_all, list_any}
+use Rattle.nodejs_semver.proofs.Common.{Bool, Err, List, Ok, OnErr, Option, Result, [], and_parts, ap, append-nil, append_assoc}
+use Rattle.nodejs_semver.proofs.Common.{ap₂, arith, false, flat_map, flat_map-append, get_or, inl, inr, is_empty, is_some, length}
+use Rattle.nodejs_semver.proofs.Common.{list_all, list_all-append, list_any, list_any-append, map, not, option_to_list, or_cases}
+use Rattle.nodejs_semver.proofs.Common.{refl, sym, take, take_more, true, ℕ, ◌&&◌, ◌++◌, ◌+◌, ◌<◌, ◌||◌, ◌∙◌, ◌∷◌, ◌≡◌}
+use Rattle.std.proofs.lemmas.List.Folds.{Any-from_list_any, length-flat_map-take, list_any_at}
 
 pub empty_is : {A : Type 0} (xs : List A) → is_empty xs ≡ true → xs ≡ []
 empty_is xs h = grind arith
@@ -21,11 +17,8 @@ take_next xs i x within at = take_more xs i x within ∙ ap (λ y. take i xs ++ 
 pub flat_step : {A B : Type 0} (f : A → List B) (xs : List A) (i : ℕ) (x : A) (old new : List B) → i < length xs
     → x ≡ get_or xs i x → old ≡ flat_map f (take i xs) → new ≡ old ++ f x → new ≡ flat_map f (take (i + 1) xs)
 flat_step f xs i x old new h at e k =
-    k
-    ∙ ap (λ l. l ++ f x) e
-    ∙ ap (λ l. flat_map f (take i xs) ++ l) (sym (append-nil (f x)))
-    ∙ sym (flat_map-append f (take i xs) (x ∷ []))
-    ∙ ap (flat_map f) (sym (take_next xs i x h at))
+    k ∙ ap (λ l. l ++ f x) e ∙ ap (λ l. flat_map f (take i xs) ++ l) (sym (append-nil (f x)))
+    ∙ sym (flat_map-append f (take i xs) (x ∷ [])) ∙ ap (flat_map f) (sym (take_next xs i x h at))
 
 -- the same behind a front
 pub flat_behind : {A B : Type 0} (f : A → List B) (xs : List A) (i : ℕ) (x : A) (front old new part : List B) → i < length xs
@@ -40,8 +33,7 @@ flat_flat f g [] = refl
 flat_flat f g (x ∷ xs) = flat_map-append f (g x) (flat_map g xs) ∙ ap (λ l. flat_map f (g x) ++ l) (flat_flat f g xs)
 
 pub flat_same : {A B : Type 0} (f g : A → List B) → ((x : A) → f x ≡ g x) → (xs : List A) → flat_map f xs ≡ flat_map g xs
-flat_same f g h [] = refl
-flat_same f g h (x ∷ xs) = ap₂ (λ k l. k ++ l) (h x) (flat_same f g h xs)
+flat_same f g h xs = λ i. flat_map (λ x. h x i) xs
 
 -- what holds in any case holds of a failure
 pub on_err : {T E P : Type 0} (r : Result T E) → P → OnErr r P
@@ -68,8 +60,7 @@ all_flat p f [] = refl
 all_flat p f (x ∷ xs) = list_all-append p (f x) (flat_map f xs) ∙ ap (λ b. list_all p (f x) && b) (all_flat p f xs)
 
 pub any_same : {A : Type 0} (p q : A → Bool) → ((x : A) → p x ≡ q x) → (xs : List A) → list_any p xs ≡ list_any q xs
-any_same p q h [] = refl
-any_same p q h (x ∷ xs) = ap₂ (λ a b. a || b) (h x) (any_same p q h xs)
+any_same p q h xs = λ i. list_any (λ x. h x i) xs
 
 pub any_weaker : {A : Type 0} (p q : A → Bool) → ((x : A) → p x ≡ true → q x ≡ true) → (xs : List A) → list_any p xs ≡ true
     → list_any q xs ≡ true

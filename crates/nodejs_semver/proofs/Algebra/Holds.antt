@@ -1,8 +1,7 @@
 -- What a range text's intervals hold is what the text writes.
-use Rattle.nodejs_semver.proofs.Common.{◌≡◌, ℕ, List, [], ◌∷◌, refl, sym, ap₂, ◌∙◌, true, Bool, map, ◌||◌, flat_map, Ordering}
-use Rattle.nodejs_semver.proofs.Common.{arith, list_any-append, IsTotalOrder, list_all, list_any, list_holds, precedence}
-use Rattle.nodejs_semver.proofs.Common.{precedence_total, VersionValue, Run, interval_of, is_empty, run_writes, denotes}
-use Rattle.nodejs_semver.proofs.Common.{part_denotes, parts}
+use Rattle.nodejs_semver.proofs.Common.{Bool, IsTotalOrder, List, Ordering, Run, VersionValue, [], ap₂, arith, denotes, flat_map}
+use Rattle.nodejs_semver.proofs.Common.{interval_of, is_empty, list_all, list_any, list_any-append, list_holds, map, part_denotes}
+use Rattle.nodejs_semver.proofs.Common.{parts, precedence, precedence_total, refl, run_writes, sym, true, ℕ, ◌||◌, ◌∙◌, ◌∷◌, ◌≡◌}
 use Rattle.nodejs_semver.specs.Internal.Writes.{part_writes, writes}
 use Rattle.nodejs_semver.proofs.Dividing.BarLemmas.{parts-front}
 use Rattle.nodejs_semver.proofs.Dividing.RunLemmas.{run-holds}

@@ -1,15 +1,11 @@
 -- What is read of bounds: no number is above the limit by more than one, and identifiers are what their texts spell.
-use Rattle.nodejs_semver.proofs.Common.{◌≡◌, ℕ, ◌≤◌, List, [], ◌∷◌, map, refl, true, Some, None, arith, Option, list_all, Id}
-use Rattle.nodejs_semver.proofs.Common.{AreComponents, Partial, Word, hyphen, malformed, plain, bind_some, same_Some, cond_some}
-use Rattle.semver_core.specs.Text.Identifiers.{IsIdentifiers, identifier_of, is_identifier, pieces}
-use Rattle.semver_core.specs.Printing.RoundTrip.{is_normal}
+use Rattle.nodejs_semver.proofs.Common.{AreComponents, Id, IsBuild, IsIdentifiers, IsPreRelease, List, None, Option, Partial}
+use Rattle.nodejs_semver.proofs.Common.{Sign, Some, Word, [], arith, bind_some, caret, compare, cond_some, hyphen, identifier_of}
+use Rattle.nodejs_semver.proofs.Common.{is_identifier, is_normal, list_all, malformed, map, partial_front, pieces, plain, refl}
+use Rattle.nodejs_semver.proofs.Common.{same_Some, sign_at, tilde, true, upper_of, word_at, ℕ, ◌∷◌, ◌≡◌, ◌≤◌}
+use Rattle.nodejs_semver.specs.Internal.Words.{Reading, at_boundary, behind_sign, or_else, or_malformed, signed_word, word_behind}
 use Rattle.nodejs_semver.specs.Text.PartialText.{IsComponent}
-use Rattle.nodejs_semver.specs.Internal.Words.{Reading, Sign, at_boundary, behind_sign, or_else, or_malformed}
-use Rattle.nodejs_semver.specs.Internal.Words.{sign_at, signed_word, upper_of, word_at, word_behind}
-use Rattle.nodejs_semver.specs.Internal.Fronts.{partial_front}
 use Rattle.semver_core.specs.Internal.Reading.{◌>>?◌}
-use Rattle.nodejs_semver.specs.Text.WordText.{caret, compare, tilde}
-use Rattle.semver_core.specs.Text.VersionText.{IsBuild, IsPreRelease}
 use Rattle.nodejs_semver.proofs.Reading.PartialLaw.{front-read}
 
 -- ---- identifiers

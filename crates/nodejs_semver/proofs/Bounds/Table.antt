@@ -1,12 +1,10 @@
 -- For proofs. The bounds of what is read are such as a range may have.
-use Rattle.nodejs_semver.proofs.Common.{◌≡◌, ℕ, zero, suc, ◌+◌, List, [], ◌∷◌, length, map, refl, Bool, true, arith, cond_both}
-use Rattle.nodejs_semver.proofs.Common.{and_from, and_parts, flat_map, if◌then◌else◌, AllByRecursion, list_all, list_all-append}
-use Rattle.nodejs_semver.proofs.Common.{Span, Bound, precedence, drop_spaces, VersionValue, Run, fits, interval_of, run_items}
-use Rattle.nodejs_semver.proofs.Common.{table, first_so, second_so, is_range_span, denotes, part_bounds, part_denotes}
-use Rattle.nodejs_semver.proofs.Common.{is_range_bound}
-use Rattle.std.specs.Prelude.{filter_map}
+use Rattle.nodejs_semver.proofs.Common.{AllByRecursion, Bool, Bound, List, Run, Span, VersionValue, [], and_from, arith}
+use Rattle.nodejs_semver.proofs.Common.{cond_both, denotes, drop_spaces, filter_map, first_so, fits, flat_map, if◌then◌else◌}
+use Rattle.nodejs_semver.proofs.Common.{interval_of, is_range_bound, is_range_span, length, list_all, list_all-append, map}
+use Rattle.nodejs_semver.proofs.Common.{part_bounds, part_denotes, precedence, refl, run_items, second_so, suc, table, true}
+use Rattle.nodejs_semver.proofs.Common.{word_at, words_within, zero, ℕ, ◌+◌, ◌∷◌, ◌≡◌}
 use Rattle.nodejs_semver.specs.Text.Runs.{greatest_lower, least_upper}
-use Rattle.nodejs_semver.specs.Internal.Words.{word_at, words_within}
 use Rattle.nodejs_semver.proofs.Bounds.Bounded.{word-fine}
 use Rattle.nodejs_semver.proofs.Dividing.RunsDivide.{all-cons, part_divides}
 use Rattle.nodejs_semver.proofs.Bounds.TableRows.{are_bounds, table-bounded}
@@ -18,8 +16,7 @@ words-bounded limit (suc n) [] = refl
 words-bounded limit (suc n) (b ∷ text) =
     let read = word_at limit (b ∷ text) in
     all-cons (are_bounds (limit + 1)) (table limit read.0) (filter_map (table limit) (words_within limit n (drop_spaces read.1)))
-    (λ s e. table-bounded limit read.0 s (word-fine limit (b ∷ text)) e)
-    (words-bounded limit n (drop_spaces read.1))
+    (λ s e. table-bounded limit read.0 s (word-fine limit (b ∷ text)) e) (words-bounded limit n (drop_spaces read.1))
 
 part-bounded : (limit : ℕ) (part : List ℕ) → list_all (are_bounds (limit + 1)) (part_bounds limit part) ≡ true
 part-bounded limit part = words-bounded limit (length part) part
@@ -31,17 +28,12 @@ pick limit t b c f g = cond_both t b c (λ e. is_range_bound limit e ≡ true) (
 
 lower-bounded : (limit : ℕ) (s : Span VersionValue) (ts : List (Span VersionValue)) → list_all (are_bounds limit) (s ∷ ts) ≡ true → is_range_bound limit (greatest_lower precedence s ts) ≡ true
 lower-bounded limit s [] h = first_so _ _ (first_so (are_bounds limit s) true h)
-lower-bounded limit s (t ∷ rest) h =
-    let (first, others) = and_parts (are_bounds limit s) (list_all (are_bounds limit) (t ∷ rest)) h in
-    pick limit _ s.lower (greatest_lower precedence t rest) (first_so _ _ first) (lower-bounded limit t rest others)
+lower-bounded limit s (t ∷ rest) h = grind (arith, pick, lower-bounded limit t rest)
 
 upper-bounded : (limit : ℕ) (s : Span VersionValue) (ts : List (Span VersionValue)) → list_all (are_bounds limit) (s ∷ ts) ≡ true → is_range_bound limit (least_upper precedence s ts) ≡ true
 upper-bounded limit s [] h =
     second_so (is_range_bound limit s.lower) (is_range_bound limit s.upper) (first_so (are_bounds limit s) true h)
-upper-bounded limit s (t ∷ rest) h =
-    let (first, others) = and_parts (are_bounds limit s) (list_all (are_bounds limit) (t ∷ rest)) h in
-    pick limit _ (least_upper precedence t rest) s.upper (upper-bounded limit t rest others)
-    (and_parts (is_range_bound limit s.lower) _ first).1
+upper-bounded limit s (t ∷ rest) h = grind (arith, pick, upper-bounded limit t rest)
 
 run-bounded : (limit : ℕ) (r : Run VersionValue) → list_all (are_bounds limit) (run_items r) ≡ true → fits precedence r ≡ true → is_range_span limit (interval_of precedence r) ≡ true
 run-bounded limit r h one =

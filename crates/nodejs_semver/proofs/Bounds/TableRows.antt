@@ -1,14 +1,11 @@
 -- For proofs. What the rows of the word table give: intervals, whose bounds are such as a range may have.
-use Rattle.nodejs_semver.proofs.Common.{◌≡◌, ℕ, zero, suc, ◌≤◌, ◌+◌, List, refl, arith, Bool, true, Some, None, Less, Option, ◌&&◌}
-use Rattle.nodejs_semver.proofs.Common.{tied_itself, list_all, Span, interval, is_interval, Bound, Before, After, Id, precedence}
-use Rattle.nodejs_semver.proofs.Common.{precedence_total, above_patch, VersionValue, Partial, table, Word, hyphen, malformed, plain}
-use Rattle.nodejs_semver.proofs.Common.{and_from, is_range_bound, Comparator, compare, tilde}
+use Rattle.nodejs_semver.proofs.Common.{After, Before, Bool, Bound, Comparator, Id, Less, List, None, Option, Partial, Some, Span}
+use Rattle.nodejs_semver.proofs.Common.{VersionValue, Word, above, above_patch, and_from, arith, at_most, below, caret, compare}
+use Rattle.nodejs_semver.proofs.Common.{equal, hyphen, interval, is_interval, is_normal, is_range_bound, is_readable, list_all}
+use Rattle.nodejs_semver.proofs.Common.{lowest, malformed, plain, precedence, precedence_total, refl, release_value, row, suc}
+use Rattle.nodejs_semver.proofs.Common.{table, tied_itself, tilde, true, version_of, without_build, zero, ℕ, ◌&&◌, ◌+◌, ◌≡◌, ◌≤◌}
 use Rattle.std.specs.Prelude.{unwrap_or}
-use Rattle.semver_core.specs.Printing.RoundTrip.{is_normal, is_readable}
 use Rattle.semver_core.specs.Internal.Successors.{above_major, above_minor}
-use Rattle.semver_core.specs.Values.Versions.{release_value}
-use Rattle.nodejs_semver.specs.Text.Table.{lowest, row, version_of, without_build}
-use Rattle.nodejs_semver.specs.Text.WordText.{at_most, below, caret, equal, above}
 use Rattle.nodejs_semver.proofs.Bounds.Bounded.{Fine, FineWord, Fits}
 
 -- ---- the versions of the table

@@ -1,16 +1,14 @@
 -- The version that is found in a list is the best one of those in the set.
-use Rattle.nodejs_semver.proofs.Common.{arith, ◌<◌, ◌+◌, ℕ, length, take, get_or, subst, ◌≡◌, refl, sym, ◌∙◌, ap, Bool, true, false}
-use Rattle.nodejs_semver.proofs.Common.{◌||◌, not, if◌then◌else◌, inl, inr, List, [], ◌∷◌, ◌++◌, Option, Some, None, IfSome}
-use Rattle.nodejs_semver.proofs.Common.{append_assoc, map, Ordering, and_from, cases_Bool, not-true, list_all-append, IsTotalOrder}
-use Rattle.nodejs_semver.proofs.Common.{tied_itself, list_all, precedence_total, precedence, VersionValue}
-use Rattle.std.proofs.Common.{IfNone, Bor, option_copied, is_lt, is_le}
-use Rattle.std.proofs.lemmas.List.Elements.{All-append, All-cons, All-same, All-weaker, Contains-append_right}
-use Rattle.std.proofs.lemmas.List.Sums.{AllPass-from_list_all}
-use Rattle.std.specs.List.{All, Contains}
+use Rattle.nodejs_semver.proofs.Common.{All, All-append, All-cons, All-same, All-weaker, AllPass-from_list_all, Bool, Bor}
+use Rattle.nodejs_semver.proofs.Common.{Contains, IfNone, IfSome, IsBest, IsMax, IsMin, IsTotalOrder, List, None, Option}
+use Rattle.nodejs_semver.proofs.Common.{Ordering, Some, VersionValue, [], and_from, ap, append_assoc, arith, cases_Bool, false}
+use Rattle.nodejs_semver.proofs.Common.{get_or, if◌then◌else◌, inl, inr, is_le, is_lt, length, list_all, list_all-append, map}
+use Rattle.nodejs_semver.proofs.Common.{not, not-true, option_copied, precedence, precedence_total, refl, replaces, subst, sym}
+use Rattle.nodejs_semver.proofs.Common.{take, tied_itself, true, ℕ, ◌++◌, ◌+◌, ◌<◌, ◌||◌, ◌∙◌, ◌∷◌, ◌≡◌}
+use Rattle.std.proofs.lemmas.List.Elements.{Contains-append_right}
 use Rattle.nodejs_semver.proofs.Algebra.FlatMaps.{all_weaker}
 use Rattle.nodejs_semver.proofs.Values.{map-further}
-use Rattle.nodejs_semver.proofs.Algebra.Triples.{le_of_lt, le_trans, lt_is, lt_le}
-use Rattle.nodejs_semver.specs.Ranges.Best.{IsBest, IsMax, IsMin, replaces}
+use Rattle.nodejs_semver.proofs.Algebra.Gate.{le_of_lt, le_trans, lt_is, lt_le}
 
 -- what holds of the two relations of the best
 record Ranks {V : Type 0} (in_front behind : V → V → Bool) : Type 0 where
@@ -46,8 +44,7 @@ module _ {V : Type 0} (in_front behind : V → V → Bool) (ranks : Ranks in_fro
             ap (list_all (λ w. not (set w) || in_front w x)) h.3
                 ∙ list_all-append (λ w. not (set w) || in_front w x) h.1 (b ∷ h.2)
                 ∙ and_from _ _ (all_weaker _ _ (λ w g. grind (arith, ranks.passes w b x better)) h.1 h.4)
-                (and_from _ _ (rw (h.0, better) refl)
-                (all_weaker _ _ (λ w g. grind (arith, ranks.weaker w b x better)) h.2 h.5)),
+                (and_from _ _ (rw (h.0, better) refl) (all_weaker _ _ (λ w g. grind (arith, ranks.weaker w b x better)) h.2 h.5)),
             refl,
           )
         ]
@@ -88,8 +85,7 @@ Says beaten set list r = IfSome r (λ v. Contains list v.now) × IfSome r (λ v.
     × IfSome r (λ v. All (λ w. set w ≡ true → beaten w v.now ≡ true) list) × IfNone r (All (λ w. set w ≡ false) list)
 
 module _ {V : Type 0} (in_front behind beaten : V → V → Bool) (front : (w v : V) → in_front w v ≡ true → beaten w v ≡ true)
-    (back : (w v : V) → behind w v ≡ true → beaten w v ≡ true)
-    (tied : (v : V) → beaten v v ≡ true) (set : V → Bool) where
+    (back : (w v : V) → behind w v ≡ true → beaten w v ≡ true) (tied : (v : V) → beaten v v ≡ true) (set : V → Bool) where
   in_set_only : (s a b : Bool) → (a ≡ true → b ≡ true) → (not s || a) ≡ true → s ≡ true → b ≡ true
   in_set_only s a b f h k = grind arith
 
@@ -97,11 +93,9 @@ module _ {V : Type 0} (in_front behind beaten : V → V → Bool) (front : (w v 
   all_beaten list v h =
       let Says : (V → V → Bool) → V → Type 0 = λ relation w. (not (set w) || relation w v) ≡ true in
       let Beaten : V → Type 0 = λ w. set w ≡ true → beaten w v ≡ true in
-      All-same Beaten list (h.1 ++ v ∷ h.2) h.3
-      (All-append Beaten h.1 (v ∷ h.2)
+      All-same Beaten list (h.1 ++ v ∷ h.2) h.3 (All-append Beaten h.1 (v ∷ h.2)
       (All-weaker (Says in_front) Beaten (λ w q. in_set_only (set w) (in_front w v) (beaten w v) (front w v) q) h.1
-      (AllPass-from_list_all _ h.1 h.4))
-      (All-cons Beaten v h.2 (λ k. tied v)
+      (AllPass-from_list_all _ h.1 h.4)) (All-cons Beaten v h.2 (λ k. tied v)
       (All-weaker (Says behind) Beaten (λ w q. in_set_only (set w) (behind w v) (beaten w v) (back w v) q) h.2
       (AllPass-from_list_all _ h.2 h.5))))
 
@@ -110,8 +104,7 @@ module _ {V : Type 0} (in_front behind beaten : V → V → Bool) (front : (w v 
     tt,
     tt,
     tt,
-    All-weaker (λ w. not (set w) ≡ true) (λ w. set w ≡ false) (λ w q. not-true (set w) q) list
-        (AllPass-from_list_all _ list h),
+    All-weaker (λ w. not (set w) ≡ true) (λ w. set w ≡ false) (λ w q. not-true (set w) q) list (AllPass-from_list_all _ list h),
   )
   best_says list (Some v) h =
       let member = Contains-append_right h.1 (v.now ∷ h.2) v.now (0, omega arith, refl) in

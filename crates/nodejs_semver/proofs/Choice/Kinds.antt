@@ -1,16 +1,19 @@
 -- Spans of versions of any kind, read one by one as the spans of their values.
-use Rattle.nodejs_semver.proofs.Common.{◌≡◌, refl, sym, ◌∙◌, ap, subst, ℕ, ◌+◌, ◌<◌, Bool, List, [], ◌∷◌, ◌++◌, length, get_or}
-use Rattle.nodejs_semver.proofs.Common.{take, arith, Span, Option, Some, None, IfSome, map, cond_both, common_steps, VersionValue}
-use Rattle.nodejs_semver.proofs.Common.{span_of, find, All, Any, IsRaisable, Raisable, better, firsts, list_marks, removed_marks}
-use Rattle.nodejs_semver.proofs.Common.{spans_of, bound_of}
-use Rattle.std.proofs.Common.{fold, option_map}
-use Rattle.std.proofs.lemmas.Grind.{flat_map-append}
-use Rattle.std.proofs.lemmas.List.Elements.{All-head, All-tail, All-get_or}
-use Rattle.std.specs.List.{flat_map}
-use Rattle.std.proofs.lemmas.List.{get_or-map, length-map}
-use Rattle.nodejs_semver.specs.Internal.Candidates.{below_named, beside, candidates, zero}
+use Rattle.nodejs_semver.proofs.Common.{All, All-get_or, All-head, All-tail, All-weaker, AllPass-from_list_all, Any}
+use Rattle.nodejs_semver.proofs.Common.{BeginsAfterPre, Bool, IfNone, IfSome, IsLeastSoFar, IsRaisable, IsRange, List}
+use Rattle.nodejs_semver.proofs.Common.{MAX_SAFE_INTEGER, Near, None, Option, Raisable, Some, Span, VersionValue, [], accepts}
+use Rattle.nodejs_semver.proofs.Common.{all_accept, and-true, and_parts, ap, arith, below_named, beside, better, beyond, bound_of}
+use Rattle.nodejs_semver.proofs.Common.{candidates, common_steps, cond_both, false, false≢true, find, find-append, first_so}
+use Rattle.nodejs_semver.proofs.Common.{firsts, flat_map, flat_map-append, fold, fold-append, get_or, get_or-map, holds, inl, inr}
+use Rattle.nodejs_semver.proofs.Common.{is_le, is_lt, is_past, is_range_span, least_build, length, length-map, lets_in, list_any}
+use Rattle.nodejs_semver.proofs.Common.{list_any-append, list_marks, lower_cut, map, not, not_if, option_map, or-false, or_cases}
+use Rattle.nodejs_semver.proofs.Common.{precedence, precedence_total, refl, removed_marks, span_of, spans_of, subst, sym, take}
+use Rattle.nodejs_semver.proofs.Common.{tells, tied_itself, true, ℕ, ◌&&◌, ◌++◌, ◌+◌, ◌-◌, ◌<◌, ◌^◌, ◌||◌, ◌∙◌, ◌∷◌, ◌≡◌, ◌⊎◌}
+use Rattle.nodejs_semver.specs.Internal.Candidates.{zero, StartsWith, IsLeastBuilt, lesser, EndsAfterPre, MayAllocate}
 use Rattle.nodejs_semver.proofs.Algebra.FlatMaps.{take_next}
 use Rattle.nodejs_semver.proofs.Values.{map-further}
+use Rattle.std.specs.Option.{option_or}
+use Rattle.nodejs_semver.proofs.Algebra.Gate.{le_trans, lt_is, lt_le, le_of_lt, past_order}
 
 module _ {V : Type 0} (value : V → VersionValue) (xs : List (Span V)) (i : ℕ) (x : Span V) (within : i < length xs)
     (at : x ≡ get_or xs i x) where
@@ -22,8 +25,7 @@ module _ {V : Type 0} (value : V → VersionValue) (xs : List (Span V)) (i : ℕ
 
   pub raisable_at : All IsRaisable (spans_of value xs) → IsRaisable (span_of value x)
   raisable_at h =
-      subst IsRaisable (same_at (span_of value x))
-      (All-get_or IsRaisable (spans_of value xs) i (span_of value x) long_at h)
+      subst IsRaisable (same_at (span_of value x)) (All-get_or IsRaisable (spans_of value xs) i (span_of value x) long_at h)
 
   pub any_at : (P : Span VersionValue → Type 0) → P (span_of value x) → Any P (spans_of value xs)
   any_at P h = (i, span_of value x, long_at, same_at (span_of value x), h)
@@ -52,11 +54,6 @@ found_raisable g p ss (Some a) e h = (subst (λ o. IfSome o IsRaisable) (sym e) 
 
 -- ---- one further span in the search for a least version
 
-fold-append : (set : VersionValue → Bool) (o : Option VersionValue) (xs ys : List VersionValue)
-    → fold (better set) o (xs ++ ys) ≡ fold (better set) (fold (better set) o xs) ys
-fold-append set o [] ys = refl
-fold-append set o (x ∷ xs) ys = fold-append set (better set o x) xs ys
-
 pub any_here : {X : Type 0} (P : X → Type 0) (xs : List X) (i : ℕ) (x : X) → i < length xs → x ≡ get_or xs i x → P x → Any P xs
 any_here P xs i x within at h = (i, x, within, sym at, h)
 
@@ -68,9 +65,8 @@ pub all_marks : (set : VersionValue → Bool) (kss : List (List (Span VersionVal
 all_marks set kss ls old first mid new f m n =
     let ks = flat_map list_marks kss in
     let rs = flat_map removed_marks ls in
-    n
-    ∙ ap (λ o. fold (better set) o (flat_map firsts rs)) m
-    ∙ sym (fold-append set first (flat_map firsts ks) (flat_map firsts rs))
+    n ∙ ap (λ o. fold (better set) o (flat_map firsts rs)) m
+    ∙ sym (fold-append (better set) first (flat_map firsts ks) (flat_map firsts rs))
     ∙ ap (fold (better set) first) (sym (flat_map-append firsts ks rs))
     ∙ ap (λ o. fold (better set) o (flat_map firsts (ks ++ rs))) f
 
@@ -97,3 +93,110 @@ module _ {V : Type 0} (value : V → VersionValue) (set : VersionValue → Bool)
       → new ≡ fold (better set) start (flat_map firsts (list_marks (spans_of value (take (i + 1) xs))))
   kept_further between e k m =
       grind (arith, common_steps, e, k, m, map-further (span_of value) xs i x within at, fold-append, flat_map-append)
+
+-- ---- the patch of a bound of a range can be raised
+
+module _ (limit : ℕ) (far : limit < 2 ^ 64 - 1) where
+  span_raisable : (s : Span VersionValue) → is_range_span limit s ≡ true → IsRaisable s
+  span_raisable s h = grind (arith, and_parts)
+
+pub raisable : (ss : List (Span VersionValue)) → IsRange MAX_SAFE_INTEGER ss → All IsRaisable ss
+raisable ss h = grind (arith, All-weaker, span_raisable, AllPass-from_list_all)
+
+-- ---- the least version of spans each of which begins with a version that it accepts
+
+-- what the span accepts is not below its start
+above_start : (s : Span VersionValue) (w x : VersionValue) → StartsWith s w → holds precedence s x ≡ true
+    → is_le (precedence w x) ≡ true
+above_start s w x start h =
+    (tells (precedence w x)).0
+    ∙ ap not (past_order w x Near (sym (ap (λ b. is_past precedence (lower_cut b) x) start.0) ∙ first_so _ _ h))
+
+-- what one more span accepts
+one_more : (ss : List (Span VersionValue)) (s : Span VersionValue) (x : VersionValue)
+    → accepts (ss ++ s ∷ []) x false ≡ (accepts ss x false || (holds precedence s x && lets_in s x))
+one_more ss s x = list_any-append _ ss (s ∷ []) ∙ ap (λ t. accepts ss x false || t) (or-false _)
+
+-- the first that passes is found, and so in front of others
+find_none : {X : Type 0} (p : X → Bool) (xs : List X) → list_any p xs ≡ false → find p xs ≡ None
+find_none p [] h = refl
+find_none p (x ∷ xs) h = grind (arith, find_none p xs)
+
+find_some : {X : Type 0} (p : X → Bool) (xs : List X) (o : Option X) → list_any p xs ≡ true → option_or (find p xs) o ≡ find p xs
+find_some p [] o h = absurd (false≢true h)
+find_some p (x ∷ xs) o h = grind (arith, find_some p xs o)
+
+-- a start below all that was accepted so far is the least version
+fresh : (ss : List (Span VersionValue)) (s : Span VersionValue) (w : VersionValue) → StartsWith s w
+    → ((x : VersionValue) → accepts ss x false ≡ true → is_lt (precedence w x) ≡ true) → IsLeastBuilt (ss ++ s ∷ []) w
+fresh ss s w start above = ((one_more ss s w ∙ grind (arith, start.1), least), sym built)
+  where
+    least : (x : VersionValue) → accepts (ss ++ s ∷ []) x false ≡ true → is_le (precedence w x) ≡ true
+    least x h = grind (arith, or_cases, one_more, le_of_lt, above_start, first_so)
+
+    fails : accepts ss w false ≡ false
+    fails = not_if _ _ (above w) (ap is_lt (tied_itself precedence_total w))
+
+    built : least_build (ss ++ s ∷ []) w ≡ w.build
+    built = grind (arith, find-append, find_none, fails, tied_itself, precedence_total)
+
+-- a least version stays so in front of a start that is not below it
+kept : (ss : List (Span VersionValue)) (s : Span VersionValue) (v w : VersionValue) → IsLeastBuilt ss v → StartsWith s w
+    → is_le (precedence v w) ≡ true → IsLeastBuilt (ss ++ s ∷ []) v
+kept ss s v w h start le = ((one_more ss s v ∙ grind (arith, h.0.0), least), built)
+  where
+    least : (x : VersionValue) → accepts (ss ++ s ∷ []) x false ≡ true → is_le (precedence v x) ≡ true
+    least x k = elim (or_cases _ _ (sym (one_more ss s x) ∙ k))
+        [ inl m ↦ h.0.1 x m | inr m ↦ le_trans precedence_total v w x le (above_start s w x start (first_so _ _ m)) ]
+
+    built : v.build ≡ least_build (ss ++ s ∷ []) v
+    built = grind (arith, find-append, find_some)
+
+step : (ss : List (Span VersionValue)) (best : Option VersionValue) (s : Span VersionValue) (w : VersionValue)
+    → IsLeastSoFar ss best → StartsWith s w → IsLeastBuilt (ss ++ s ∷ []) (lesser best w)
+step ss None s w e start = fresh ss s w start (λ x h. absurd (false≢true (rw e at h)))
+step ss (Some b) s w h start =
+    cond_both (is_le (precedence b w)) b w (IsLeastBuilt (ss ++ s ∷ [])) (kept ss s b w h start)
+    (λ e. fresh ss s w start (λ x k. lt_le precedence_total w b x (lt_is precedence_total w b ∙ ap not e) (h.0.1 x k)))
+
+-- one more span, at its place
+pub one_further : {V : Type 0} (value : V → VersionValue) (xs : List (Span V)) (i : ℕ) (x : Span V) (best : Option VersionValue)
+    (w next : VersionValue) → i < length xs → x ≡ get_or xs i x → IsLeastSoFar (spans_of value (take i xs)) best
+    → StartsWith (span_of value x) w → next ≡ lesser best w → IsLeastBuilt (spans_of value (take (i + 1) xs)) next
+one_further value xs i x best w next within at h start e =
+    subst (IsLeastBuilt (spans_of value (take (i + 1) xs))) (sym e) (subst (λ l. IsLeastBuilt l (lesser best w))
+    (sym (map-further (span_of value) xs i x within at)) (step (spans_of value (take i xs)) best (span_of value x) w h start))
+
+pub on_none : {A : Type 0} {P : Type 0} (found : Option A) → P → IfNone found P
+on_none None h = h
+on_none (Some a) h = tt
+
+-- ---- when the search for a least version may need memory
+
+Any-none : {X : Type 0} (P : X → Type 0) → Any P [] → ⊥
+Any-none P h = omega (arith, h.2)
+
+Any-one : {X : Type 0} (P : X → Type 0) (x : X) → Any P (x ∷ []) → P x
+Any-one P x h = grind (arith, common_steps, h.2, h.3, h.4)
+
+pub one_allocates : (ks ls : List (Span VersionValue)) → MayAllocate (ks ∷ []) ls
+    → ((v : VersionValue) × (beyond ks ls v ≡ true)) ⊎ BeginsAfterPre ks ⊎ EndsAfterPre ls
+one_allocates ks ls h = elim h [
+  | inl found ↦ inl (found.0, ap (λ a. a && not (accepts ls found.0 false)) (sym (and-true _)) ∙ found.1)
+  | inr more ↦ inr (elim more [ inl begins ↦ inl (Any-one BeginsAfterPre ks begins) | inr ends ↦ inr ends ])
+]
+
+-- beyond nothing
+pub alone_allocates : (ks : List (Span VersionValue)) → MayAllocate (ks ∷ []) []
+    → ((v : VersionValue) × (accepts ks v false ≡ true)) ⊎ BeginsAfterPre ks
+alone_allocates ks h = elim (one_allocates ks [] h) [
+  | inl found ↦ inl (found.0, sym (and-true _) ∙ found.1)
+  | inr more ↦ elim more [ inl begins ↦ inr begins | inr ends ↦ absurd (Any-none _ ends) ]
+]
+
+pub all_allocate : (lists : List (List (Span VersionValue))) → MayAllocate lists []
+    → ((v : VersionValue) × (all_accept lists v ≡ true)) ⊎ Any BeginsAfterPre lists
+all_allocate lists h = elim h [
+  | inl found ↦ inl (found.0, sym (and-true _) ∙ found.1)
+  | inr more ↦ elim more [ inl begins ↦ inr begins | inr ends ↦ absurd (Any-none _ ends) ]
+]

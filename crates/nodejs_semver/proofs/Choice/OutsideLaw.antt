@@ -1,12 +1,10 @@
 -- A version that a range does not hold lies outside it exactly where each cut says so.
-use Rattle.nodejs_semver.proofs.Common.{◌≡◌, refl, ◌∙◌, ap, arith, ℕ, ◌+◌, Bool, true, false, ◌&&◌, ◌||◌, not, List, [], ◌∷◌}
-use Rattle.nodejs_semver.proofs.Common.{list_any, list_all, Span, is_interval, is_past, lower_cut, upper_cut, holds, one_way}
-use Rattle.nodejs_semver.proofs.Common.{precedence, precedence_total, VersionValue, Bound, IsRange}
-use Rattle.semver_core.proofs.CutLaws.{is_past-down}
+use Rattle.nodejs_semver.proofs.Common.{Bool, Bound, Higher, IsRange, List, Lower, Span, VersionValue, [], ap, arith, false}
+use Rattle.nodejs_semver.proofs.Common.{holds, is_interval, is_past, is_past-down, lies_above, lies_below, list_all, list_any}
+use Rattle.nodejs_semver.proofs.Common.{lower_cut, not, one_way, precedence, precedence_total, refl, true, upper_cut, ℕ, ◌&&◌}
+use Rattle.nodejs_semver.proofs.Common.{◌+◌, ◌||◌, ◌∙◌, ◌∷◌, ◌≡◌}
 use Rattle.nodejs_semver.specs.Ranges.Outside.{is_bounded, is_outside}
-use Rattle.nodejs_semver.specs.Internal.Shorthands.{lies_below, lies_above}
 use Rattle.nodejs_semver.specs.declared.range.outside.OutsideDirection.{OutsideDirection}
-use Rattle.nodejs_semver.specs.declared.range.outside.OutsideDirection.TheVariants.{Higher, Lower}
 use Rattle.nodejs_semver.proofs.Algebra.Clauses.{all_intervals}
 
 -- what lies past the upper cut of an interval lies past its lower cut

@@ -86,10 +86,10 @@ impl<'a> Alternative<'a> {
         text: &[u8],
     ) -> Option<Alternative<'a>>
         requires { are_normal (npm_partial_view partial.now) ≡ true }
-        ensures narrowed { let row = table include (npm_sign_view sign) (npm_partial_view partial.now) in
-            NarrowedBy include self.entry.interval (row text.now) result }
-        ensures bare { let row = table include (npm_sign_view sign) (npm_partial_view partial.now) in
-            IfSome result (λ a. a.is_bare ≡ (self.entry.is_bare && is_empty (row text.now))) }
+        ensures narrowed { NarrowedBy include self.entry.interval
+            (table include (npm_sign_view sign) (npm_partial_view partial.now) text.now) result }
+        ensures bare { IfSome result (λ a. a.is_bare ≡ (self.entry.is_bare && is_empty
+            (table include (npm_sign_view sign) (npm_partial_view partial.now) text.now))) }
     {
         let is_bare = has_no_comparators(sign, partial);
         Some(self.narrow(row(include, sign, partial, text)?, is_bare))

@@ -81,7 +81,7 @@ impl<V: VersionPoint> RangeOf<V> {
     /// let smallest = Version::parse(alloc, "1.0.1-0").ok();
     /// assert!(rt; range.min_version(alloc) == Ok(smallest));
     /// ```
-    #[tactic(auto, using(crate::proofs::Choice::Raised::raisable))]
+    #[tactic(auto, using(crate::proofs::Choice::Kinds::raisable))]
     pub fn min_version(&self, alloc: Global) -> Result<Option<Version>, AllocError>
         ensures least { IfOk result (λ r. stated.IsLeastOf (λ v. accepts self.now v false) r) }
         ensures build { IfOk result (λ r. IfSome r (λ v. v.build ≡ stated.least_build self.now v)) }
@@ -121,7 +121,7 @@ impl<V: VersionPoint> RangeOf<V> {
     /// assert!(rt; wide.least_beyond(alloc, &narrow) == Ok(smallest));
     /// assert!(rt; narrow.least_beyond(alloc, &wide) == Ok(None));
     /// ```
-    #[tactic(auto, using(crate::proofs::Choice::Raised::raisable))]
+    #[tactic(auto, using(crate::proofs::Choice::Kinds::raisable))]
     pub fn least_beyond<W: VersionPoint>(
         &self,
         alloc: Global,
@@ -159,7 +159,7 @@ impl<V: VersionPoint> RangeOf<V> {
     /// let least = Some(Version::from((1u64, 2, 3)));
     /// assert!(rt; Range::least_of_all(alloc, &ranges) == Ok(least));
     /// ```
-    #[tactic(auto, using(crate::proofs::Choice::Raised::raisable))]
+    #[tactic(auto, using(crate::proofs::Choice::Kinds::raisable))]
     pub fn least_of_all(alloc: Global, ranges: &[RangeOf<V>]) -> Result<Option<Version>, AllocError>
         ensures least { IfOk result (λ r. stated.IsLeastOf
             (λ v. list_all (λ range. accepts range v false) ranges.now) r) }
@@ -201,7 +201,7 @@ impl<V: VersionPoint> RangeOf<V> {
     /// let first = Version::parse(alloc, "1.0.1-0").ok();
     /// assert!(rt; range.min_version_with_prerelease(alloc) == Ok(first));
     /// ```
-    #[tactic(auto, using(crate::proofs::Choice::Raised::raisable))]
+    #[tactic(auto, using(crate::proofs::Choice::Kinds::raisable))]
     pub fn min_version_with_prerelease(&self, alloc: Global) -> Result<Option<Version>, AllocError>
         ensures least { IfOk result (λ r. stated.IsLeastOf (λ v. accepts self.now v true) r) }
         ensures build { IfOk result (λ r. IfSome r (λ v. v.build ≡ [])) }
@@ -292,7 +292,7 @@ fn consider<V: VersionPoint, W: VersionPoint, C: Versioned>(
 
 // Considers the first versions from this one on. Mostly a better one is known.
 #[inline(always)]
-#[tactic(auto, using(crate::proofs::Choice::LeastOf::reached_near))]
+#[tactic(auto, using(crate::proofs::Choice::Least::reached_near))]
 fn consider_from<V: VersionPoint, W: VersionPoint, C: Versioned>(
     alloc: Global,
     kept: &[RangeOf<V>],
@@ -480,7 +480,7 @@ fn improves_held<V: VersionPoint, C: Versioned>(
 }
 
 // Keeps a copy of the version, without its build, where it improves on the best so far.
-#[tactic(auto, using(crate::proofs::Choice::LeastHeld::improves_bare))]
+#[tactic(auto, using(crate::proofs::Choice::Least::improves_held))]
 fn consider_held<V: VersionPoint, C: Versioned>(
     range: &RangeOf<V>,
     alloc: Global,

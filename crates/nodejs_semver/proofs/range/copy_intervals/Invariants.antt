@@ -1,4 +1,4 @@
-use Rattle.std.proofs.Common.{◌≡◌, length, max, take}
+use Rattle.nodejs_semver.proofs.Common.{length, max, take, ◌≡◌}
 use Rattle.nodejs_semver.proofs.range.copy_intervals.Given as goal
 
 abbrev pub invariant-loop-interval : goal.invariant-loop-interval

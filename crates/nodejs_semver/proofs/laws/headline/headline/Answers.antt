@@ -1,4 +1,4 @@
-use Rattle.nodejs_semver.proofs.Common.{List, false, subst, Span, VersionValue, MAX_SAFE_INTEGER, accepts, IsLeastOf}
+use Rattle.nodejs_semver.proofs.Common.{IsLeastOf, List, MAX_SAFE_INTEGER, Span, VersionValue, accepts, false, subst}
 use Rattle.nodejs_semver.proofs.Dividing.MeaningLaw.{means_some, same_meaning}
 use Rattle.nodejs_semver.proofs.Sets.{both_written, first_written}
 use Rattle.nodejs_semver.proofs.laws.headline.headline.Goals as goal

@@ -1,6 +1,5 @@
-use Rattle.nodejs_semver.proofs.Common.{◌≡◌, IsTrue, List, false, subst, Span, VersionValue, MAX_SAFE_INTEGER, accepts, IsLeastOf}
-use Rattle.std.proofs.Common.{◌↔◌}
-use Rattle.nodejs_semver.specs.Text.WrittenSet.{Writes}
+use Rattle.nodejs_semver.proofs.Common.{IsLeastOf, IsTrue, List, MAX_SAFE_INTEGER, Span, VersionValue, Writes, accepts, false}
+use Rattle.nodejs_semver.proofs.Common.{subst, ◌↔◌}
 use Rattle.nodejs_semver.proofs.Dividing.MeaningLaw.{means_some, same_meaning}
 use Rattle.nodejs_semver.proofs.Sets.{both_written, first_written}
 use Rattle.nodejs_semver.proofs.laws.program.headline_of_texts.Goals as goal
@@ -14,26 +13,23 @@ returns-clause-read c = (
 
 pub returns-clause-first : goal.returns-clause-first
 returns-clause-first c = λ w p.
-    let v = c.in_ok-version.version in
-    let same : v ≡ w = c.one_reading.ensures MAX_SAFE_INTEGER v w c.in_ok-version.ensures.ok.reads p.reads in
+    let same = c.one_reading.ensures MAX_SAFE_INTEGER c.in_ok-version.version w c.in_ok-version.ensures.ok.reads p.reads in
     subst (λ (x : VersionValue). IsTrue c.in_ok-findings_at.field-0.in_first ↔ Writes MAX_SAFE_INTEGER c.args.a.now x) same
-    (rw c.in_ok-findings_at.ensures.first (c.in_ok-first.ensures.set v))
+    (rw c.in_ok-findings_at.ensures.first (c.in_ok-first.ensures.set _))
 
 pub returns-clause-both : goal.returns-clause-both
 returns-clause-both c = λ w p.
-    let v = c.in_ok-version.version in
-    let same : v ≡ w = c.one_reading.ensures MAX_SAFE_INTEGER v w c.in_ok-version.ensures.ok.reads p.reads in
+    let same = c.one_reading.ensures MAX_SAFE_INTEGER c.in_ok-version.version w c.in_ok-version.ensures.ok.reads p.reads in
     subst (λ (x : VersionValue). IsTrue c.in_ok-findings_at.field-0.in_both
     ↔ (Writes MAX_SAFE_INTEGER c.args.a.now x × Writes MAX_SAFE_INTEGER c.args.b.now x)) same
-    (both_written _ _ _ c.in_ok-findings_at.ensures.both (c.in_ok-first.ensures.set v) (c.in_ok-second.ensures.set v))
+    (both_written _ _ _ c.in_ok-findings_at.ensures.both (c.in_ok-first.ensures.set _) (c.in_ok-second.ensures.set _))
 
 pub returns-clause-first_alone : goal.returns-clause-first_alone
 returns-clause-first_alone c = λ w p.
-    let v = c.in_ok-version.version in
-    let same : v ≡ w = c.one_reading.ensures MAX_SAFE_INTEGER v w c.in_ok-version.ensures.ok.reads p.reads in
+    let same = c.one_reading.ensures MAX_SAFE_INTEGER c.in_ok-version.version w c.in_ok-version.ensures.ok.reads p.reads in
     subst (λ (x : VersionValue). IsTrue c.in_ok-findings_at.field-0.in_first_alone
     ↔ (Writes MAX_SAFE_INTEGER c.args.a.now x × (Writes MAX_SAFE_INTEGER c.args.b.now x → ⊥))) same
-    (first_written _ _ _ c.in_ok-findings_at.ensures.first_alone (c.in_ok-first.ensures.set v) (c.in_ok-second.ensures.set v))
+    (first_written _ _ _ c.in_ok-findings_at.ensures.first_alone (c.in_ok-first.ensures.set _) (c.in_ok-second.ensures.set _))
 
 pub returns-clause-least : goal.returns-clause-least
 returns-clause-least c = λ list means.

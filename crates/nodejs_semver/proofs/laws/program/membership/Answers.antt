@@ -1,11 +1,7 @@
-use Rattle.nodejs_semver.proofs.Common.{◌≡◌, ◌∷◌, ◌<◌, [], IsTrue, List, arith, ap, length, subst, IsUtf8, ℕ, Span, VersionValue}
-use Rattle.nodejs_semver.proofs.Common.{MAX_SAFE_INTEGER, Failure, Means}
-use Rattle.std.proofs.Common.{◌↔◌}
-use Rattle.std.specs.Prelude.{Err}
-use Rattle.semver_core.specs.Failures.{MemoryOnlyIf, RefusedOnlyIf}
-use Rattle.semver_core.specs.declared.error.Failure.TheVariants.{Memory, Refused}
+use Rattle.nodejs_semver.proofs.Common.{Err, Failure, IsTrue, IsUtf8, List, MAX_SAFE_INTEGER, Means, Memory, MemoryOnlyIf}
+use Rattle.nodejs_semver.proofs.Common.{Refused, Span, VersionValue, Writes, [], ap, arith, length, subst, ℕ, ◌<◌, ◌↔◌, ◌∷◌}
+use Rattle.semver_core.specs.Failures.{RefusedOnlyIf}
 use Rattle.semver_core.specs.declared.error.SemverError.{SemverError}
-use Rattle.nodejs_semver.specs.Text.WrittenSet.{Writes}
 use Rattle.nodejs_semver.proofs.Dividing.MeaningLaw.{same_meaning}
 use Rattle.nodejs_semver.proofs.laws.program.membership.Goals as goal
 
@@ -26,7 +22,6 @@ returns-in_err-version-clause-answered c = λ s w m p. absurd (c.in_err-version.
 
 pub returns-clause-member : goal.returns-clause-member
 returns-clause-member c = λ w p.
-    let v = c.in_ok-version.version in
-    let same : v ≡ w = c.one_reading.ensures MAX_SAFE_INTEGER v w c.in_ok-version.ensures.ok.reads p.reads in
+    let same = c.one_reading.ensures MAX_SAFE_INTEGER c.in_ok-version.version w c.in_ok-version.ensures.ok.reads p.reads in
     subst (λ (x : VersionValue). IsTrue c.satisfies_with_prerelease.result ↔ Writes MAX_SAFE_INTEGER c.args.a.now x) same
-    (rw c.satisfies_with_prerelease.ensures.gate (c.in_ok-range.ensures.set v))
+    (rw c.satisfies_with_prerelease.ensures.gate (c.in_ok-range.ensures.set _))

@@ -1,4 +1,4 @@
-use Rattle.semver_core.specs.declared.TheConstants.{MAX_SAFE_INTEGER}
+use Rattle.nodejs_semver.proofs.Common.{MAX_SAFE_INTEGER}
 use Rattle.nodejs_semver.specs.Text.Common.{IsCommonRange}
 use Rattle.nodejs_semver.proofs.Everyday.Whole.{fast_read, if-some}
 use Rattle.nodejs_semver.proofs.Dividing.MeaningLaw.{blank_text}

@@ -2,8 +2,7 @@ use Rattle.nodejs_semver.proofs.Questions.Subsets.{left_some, of_difference}
 use Rattle.nodejs_semver.proofs.range.RangeOf.is_subset_with_prerelease.Goals as goal
 
 pub returns-in-Some-clause-subset : goal.returns-in-Some-clause-subset
-returns-in-Some-clause-subset g c =
-    of_difference _ _ _ _ (rw c.in-Some.is at c.in_ok-difference.ensures.all) c.holds_none.ensures
+returns-in-Some-clause-subset g c = of_difference _ _ _ _ (rw c.in-Some.is at c.in_ok-difference.ensures.all) c.holds_none.ensures
 
 pub returns-in-Some-clause-memory : goal.returns-in-Some-clause-memory
 returns-in-Some-clause-memory g c = left_some _ _ _ _ _ c.in_ok-difference.ensures.list c.in-Some.is

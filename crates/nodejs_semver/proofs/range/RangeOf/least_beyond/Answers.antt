@@ -1,7 +1,6 @@
-use Rattle.nodejs_semver.proofs.Common.{[], ◌∷◌, IsLeastOf, on_err_weaker, wanted}
-use Rattle.std.proofs.lemmas.Result.{IfOk-weaker}
-use Rattle.nodejs_semver.proofs.Choice.LeastOf.{least_of_one}
-use Rattle.nodejs_semver.proofs.Choice.Memory.{one_allocates}
+use Rattle.nodejs_semver.proofs.Common.{IfOk-weaker, IsLeastOf, [], on_err_weaker, wanted, ◌∷◌}
+use Rattle.nodejs_semver.proofs.Choice.Least.{least_of_one}
+use Rattle.nodejs_semver.proofs.Choice.Kinds.{one_allocates}
 use Rattle.nodejs_semver.proofs.range.RangeOf.least_beyond.Goals as goal
 
 pub returns-clause-least : goal.returns-clause-least

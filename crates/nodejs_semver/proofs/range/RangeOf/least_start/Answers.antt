@@ -1,7 +1,5 @@
-use Rattle.nodejs_semver.proofs.Common.{subst, Any}
-use Rattle.nodejs_semver.proofs.Choice.Kinds.{any_at}
-use Rattle.nodejs_semver.proofs.Choice.Starts.{on_none, one_further}
-use Rattle.nodejs_semver.specs.Internal.Candidates.{BeginsOtherwise}
+use Rattle.nodejs_semver.proofs.Common.{Any, BeginsOtherwise, subst}
+use Rattle.nodejs_semver.proofs.Choice.Kinds.{any_at, on_none, one_further}
 use Rattle.nodejs_semver.proofs.range.RangeOf.least_start.Goals as goal
 
 pub loop-interval-preserved : goal.loop-interval-preserved

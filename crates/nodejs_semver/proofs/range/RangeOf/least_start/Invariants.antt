@@ -1,5 +1,4 @@
-use Rattle.nodejs_semver.proofs.Common.{take, spans_of, value_of}
-use Rattle.nodejs_semver.specs.Internal.Candidates.{IsLeastSoFar}
+use Rattle.nodejs_semver.proofs.Common.{IsLeastSoFar, spans_of, take, value_of}
 use Rattle.nodejs_semver.proofs.range.RangeOf.least_start.Given as goal
 
 abbrev pub invariant-loop-interval : goal.invariant-loop-interval

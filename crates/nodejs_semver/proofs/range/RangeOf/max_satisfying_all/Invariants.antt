@@ -1,4 +1,4 @@
-use Rattle.nodejs_semver.proofs.Common.{false, map, take, list_all, accepts, IsMax, value_of}
+use Rattle.nodejs_semver.proofs.Common.{IsMax, accepts, false, list_all, map, take, value_of}
 use Rattle.nodejs_semver.proofs.range.RangeOf.max_satisfying_all.Given as goal
 
 abbrev pub invariant-loop-version : goal.invariant-loop-version

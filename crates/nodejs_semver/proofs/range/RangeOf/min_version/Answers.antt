@@ -1,8 +1,8 @@
-use Rattle.nodejs_semver.proofs.Common.{◌≡◌, [], ◌∷◌, false, None, Some, sym, subst, VersionValue, accepts, IsLeastOf, least_build}
+use Rattle.nodejs_semver.proofs.Common.{IsLeastOf, None, Some, VersionValue, [], accepts, false, least_build, subst, sym, wanted}
+use Rattle.nodejs_semver.proofs.Common.{◌∷◌, ◌≡◌}
 use Rattle.nodejs_semver.proofs.Algebra.FlatMaps.{on_err}
-use Rattle.nodejs_semver.proofs.Choice.Memory.{alone_allocates}
-use Rattle.nodejs_semver.proofs.Choice.LeastOf.{least_accepted, least_build_built, least_of_itself, least_of_one}
-use Rattle.nodejs_semver.specs.Internal.Candidates.{wanted}
+use Rattle.nodejs_semver.proofs.Choice.Kinds.{alone_allocates}
+use Rattle.nodejs_semver.proofs.Choice.Least.{least_accepted, least_build_built, least_of_itself, least_of_one}
 use Rattle.nodejs_semver.proofs.range.RangeOf.min_version.Goals as goal
 
 pub returns-in-None-clause-least : goal.returns-in-None-clause-least
@@ -25,8 +25,7 @@ returns-in_ok-built-in-Some-2-clause-least g c =
 pub returns-in_ok-built-in-Some-2-clause-build : goal.returns-in_ok-built-in-Some-2-clause-build
 returns-in_ok-built-in-Some-2-clause-build g c =
     let ks = c.args.self.now in
-    subst (λ (x : VersionValue). x.build ≡ least_build ks x)
-    (sym (rw c.items.ensures.value at c.in_ok-built-in-Some-2.ensures))
+    subst (λ (x : VersionValue). x.build ≡ least_build ks x) (sym (rw c.items.ensures.value at c.in_ok-built-in-Some-2.ensures))
     (sym (least_build_built ks c.in-Some-2.version _))
 
 pub returns-in_err-least_among-clause-memory : goal.returns-in_err-least_among-clause-memory

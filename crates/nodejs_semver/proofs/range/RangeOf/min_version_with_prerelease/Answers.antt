@@ -1,10 +1,8 @@
-use Rattle.nodejs_semver.proofs.Common.{◌≡◌, true, inl, inr, sym, subst, arith, common_steps, accepts, IsLeastOf, All}
-use Rattle.nodejs_semver.proofs.Common.{BeginsAfterPre, IsRaisable, Raisable, least_of, bound_of}
+use Rattle.nodejs_semver.proofs.Common.{All, BeginsAfterPre, IsAfterPre, IsLeastOf, IsRaisable, Raisable, accepts, arith}
+use Rattle.nodejs_semver.proofs.Common.{bound_of, common_steps, inl, inr, least_of, subst, sym, true, ◌≡◌}
 use Rattle.nodejs_semver.proofs.Algebra.FlatMaps.{on_err}
-use Rattle.nodejs_semver.proofs.Choice.Kinds.{any_at, raisable_at}
-use Rattle.nodejs_semver.proofs.Choice.LeastHeld.{firsts_past, least_held, held_bare}
-use Rattle.nodejs_semver.proofs.Choice.Raised.{raisable}
-use Rattle.nodejs_semver.specs.Internal.Candidates.{IsAfterPre}
+use Rattle.nodejs_semver.proofs.Choice.Kinds.{any_at, raisable_at, raisable}
+use Rattle.nodejs_semver.proofs.Choice.Least.{firsts_past, least_held, held_bare}
 use Rattle.nodejs_semver.proofs.range.RangeOf.min_version_with_prerelease.Goals as goal
 
 pub consider_past_held-requires : goal.consider_past_held-requires

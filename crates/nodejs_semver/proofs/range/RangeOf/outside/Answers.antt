@@ -1,10 +1,6 @@
-use Rattle.nodejs_semver.proofs.Common.{◌≡◌, ◌∙◌, Bool, ap, arith, rules, sym, YieldsList-from_slice, list_all, Span, VersionValue}
-use Rattle.nodejs_semver.proofs.Common.{span_of}
-use Rattle.std.proofs.Common.{tests}
+use Rattle.nodejs_semver.proofs.Common.{Bool, Higher, Lower, Span, VersionValue, YieldsList-from_slice, ap, arith, lies_above}
+use Rattle.nodejs_semver.proofs.Common.{lies_below, list_all, list_all-map, rules, span_of, sym, tests, ◌∙◌, ◌≡◌}
 use Rattle.std.proofs.lemmas.Iterator.Search.{all_from_yields_List}
-use Rattle.std.proofs.lemmas.List.Folds.{list_all-map}
-use Rattle.nodejs_semver.specs.Internal.Shorthands.{lies_above, lies_below}
-use Rattle.nodejs_semver.specs.declared.range.outside.OutsideDirection.TheVariants.{Higher, Lower}
 use Rattle.nodejs_semver.proofs.range.RangeOf.outside.Goals as goal
 
 pub returns-then-lies_beside : goal.returns-then-lies_beside

@@ -1,5 +1,4 @@
-use Rattle.std.proofs.Common.{◌∙◌, arith, refl, sym}
-use Rattle.std.proofs.lemmas.Result.{IfOk-weaker}
+use Rattle.nodejs_semver.proofs.Common.{IfOk-weaker, arith, refl, sym, ◌∙◌}
 use Rattle.nodejs_semver.proofs.Algebra.FlatMaps.{on_err}
 use Rattle.nodejs_semver.proofs.Questions.Simplified.{copy-same, copy-shorter, none-list, some-list, some-same, some-shorter}
 use Rattle.nodejs_semver.proofs.Questions.Simplified.{used-taking, used-valid}
@@ -15,46 +14,28 @@ returns-in_err-push_used-clause-memory g c =
 
 pub from_intervals-requires : goal.from_intervals-requires
 from_intervals-requires g c =
-    let items = rw c.new-used.ensures.items at c.in_ok-push_used.ensures.whole in (
-      omega arith,
-      (
-        omega arith,
-        used-valid g.V.Versioned.value g.W.Versioned.value c.args.versions.now _ _ _ _
-            c.items.ensures.value items c.items.ensures.valid,
-      ),
-    )
+    let valid = used-valid g.V.Versioned.value g.W.Versioned.value c.args.versions.now _ _ _ _ c.items.ensures.value
+    (rw c.new-used.ensures.items at c.in_ok-push_used.ensures.whole) c.items.ensures.valid in
+    (omega arith, (omega arith, valid))
 
-pub returns-in-Some-clause-list : goal.returns-in-Some-clause-list
-returns-in-Some-clause-list g c =
+pub returns-in-Some : goal.returns-in-Some
+returns-in-Some g c =
     let items = rw c.new-used.ensures.items at c.in_ok-push_used.ensures.whole in
-    some-list g.V.Versioned.value g.W.Versioned.value c.args.versions.now _ _ _ _ c.items.ensures.value items c.in-Some.ensures
+    let v = g.V.Versioned.value in
+    let w = g.W.Versioned.value in record {
+      list = some-list v w c.args.versions.now _ _ _ _ c.items.ensures.value items c.in-Some.ensures;
+      same = some-same v w c.args.versions.now _ _ _ _ c.items.ensures.value items c.in-Some.ensures;
+      shorter = some-shorter v w c.args.versions.now _ _ _ _ c.items.ensures.value items c.in-Some.ensures;
+      memory = tt;
+    }
 
-pub returns-in-Some-clause-same : goal.returns-in-Some-clause-same
-returns-in-Some-clause-same g c =
+pub returns-in-None : goal.returns-in-None
+returns-in-None g c =
     let items = rw c.new-used.ensures.items at c.in_ok-push_used.ensures.whole in
-    some-same g.V.Versioned.value g.W.Versioned.value c.args.versions.now _ _ _ _ c.items.ensures.value items c.in-Some.ensures
-
-pub returns-in-Some-clause-shorter : goal.returns-in-Some-clause-shorter
-returns-in-Some-clause-shorter g c =
-    let items = rw c.new-used.ensures.items at c.in_ok-push_used.ensures.whole in
-    some-shorter g.V.Versioned.value g.W.Versioned.value c.args.versions.now _ _ _ _ c.items.ensures.value items c.in-Some.ensures
-
-pub returns-in-None-clause-list : goal.returns-in-None-clause-list
-returns-in-None-clause-list g c =
-    let items = rw c.new-used.ensures.items at c.in_ok-push_used.ensures.whole in
-    IfOk-weaker c.copy.result _ _ (λ r e. e ∙ none-list g.V.Versioned.value g.W.Versioned.value c.args.versions.now _ _ _
-    c.items.ensures.value items c.in-None.ensures) c.copy.ensures.whole
-
-pub returns-in-None-clause-same : goal.returns-in-None-clause-same
-returns-in-None-clause-same g c =
-    IfOk-weaker c.copy.result _ _ (λ r e. copy-same r c.args.self.now _ e) c.copy.ensures.whole
-
-pub returns-in-None-clause-shorter : goal.returns-in-None-clause-shorter
-returns-in-None-clause-shorter g c =
-    IfOk-weaker c.copy.result _ _ (λ r e. copy-shorter r c.args.self.now e) c.copy.ensures.whole
-
-pub returns-in-None-clause-memory : goal.returns-in-None-clause-memory
-returns-in-None-clause-memory g c =
-    let items = rw c.new-used.ensures.items at c.in_ok-push_used.ensures.whole in
-    rw (sym (none-list g.V.Versioned.value g.W.Versioned.value c.args.versions.now _ _ _
-    c.items.ensures.value items c.in-None.ensures)) c.copy.ensures.memory
+    let none = none-list g.V.Versioned.value g.W.Versioned.value c.args.versions.now _ _ _ c.items.ensures.value items c.in-None.ensures in
+    record {
+      list = IfOk-weaker c.copy.result _ _ (λ r e. e ∙ none) c.copy.ensures.whole;
+      same = IfOk-weaker c.copy.result _ _ (λ r e. copy-same r c.args.self.now _ e) c.copy.ensures.whole;
+      shorter = IfOk-weaker c.copy.result _ _ (λ r e. copy-shorter r c.args.self.now e) c.copy.ensures.whole;
+      memory = rw (sym none) c.copy.ensures.memory;
+    }

@@ -1,4 +1,4 @@
-use Rattle.nodejs_semver.proofs.Common.{◌∙◌, ap, arith, refl, accepts}
+use Rattle.nodejs_semver.proofs.Common.{accepts, ap, arith, refl, ◌∙◌}
 use Rattle.nodejs_semver.proofs.Algebra.FlatMaps.{on_err}
 use Rattle.nodejs_semver.proofs.Values.{taking-values}
 use Rattle.nodejs_semver.proofs.Questions.Unions.{more-taking, union-accepts, union-made, union-valid}
@@ -6,15 +6,9 @@ use Rattle.nodejs_semver.proofs.range.RangeOf.union.Goals as goal
 
 pub of_some-requires : goal.of_some-requires
 of_some-requires g c =
-    let valid = union-valid _ _ _ c.items-these.ensures.valid c.items-others.ensures.valid in
-    let first = c.in_ok-intervals.ensures.whole in (
-      omega arith,
-      (
-        omega arith,
-        rw (union-made _ _ _ _ _ _ _ c.items-these.ensures.value c.items-others.ensures.value first
-            c.in_ok-push_others.ensures.whole) valid,
-      ),
-    )
+    let made = union-made _ _ _ _ _ _ _ c.items-these.ensures.value c.items-others.ensures.value c.in_ok-intervals.ensures.whole
+    c.in_ok-push_others.ensures.whole in
+    (omega arith, (omega arith, rw made (union-valid _ _ _ c.items-these.ensures.valid c.items-others.ensures.valid)))
 
 pub returns-clause-list : goal.returns-clause-list
 returns-clause-list g c =

@@ -1,4 +1,4 @@
-use Rattle.nodejs_semver.proofs.Common.{false, map, take, accepts, IsMax, spans_of, value_of}
+use Rattle.nodejs_semver.proofs.Common.{IsMax, accepts, false, map, spans_of, take, value_of}
 use Rattle.nodejs_semver.proofs.range.best.greatest.Given as goal
 
 abbrev pub invariant-loop-version : goal.invariant-loop-version

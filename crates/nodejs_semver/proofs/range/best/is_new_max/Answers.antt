@@ -1,4 +1,4 @@
-use Rattle.std.proofs.Common.{sym, ap, ◌∙◌, is_le}
+use Rattle.nodejs_semver.proofs.Common.{ap, is_le, sym, ◌∙◌}
 use Rattle.nodejs_semver.proofs.range.best.is_new_max.Goals as goal
 
 pub returns-then-is_le : goal.returns-then-is_le

@@ -1,4 +1,4 @@
-use Rattle.std.proofs.Common.{sym, ap, ◌∙◌, is_lt}
+use Rattle.nodejs_semver.proofs.Common.{ap, is_lt, sym, ◌∙◌}
 use Rattle.nodejs_semver.proofs.range.best.is_new_min.Goals as goal
 
 pub returns-then-is_lt : goal.returns-then-is_lt

@@ -1,5 +1,4 @@
-use Rattle.nodejs_semver.proofs.Common.{false, map, take, accepts, spans_of, value_of}
-use Rattle.nodejs_semver.specs.Ranges.Best.{IsMin}
+use Rattle.nodejs_semver.proofs.Common.{IsMin, accepts, false, map, spans_of, take, value_of}
 use Rattle.nodejs_semver.proofs.range.best.least.Given as goal
 
 abbrev pub invariant-loop-version : goal.invariant-loop-version

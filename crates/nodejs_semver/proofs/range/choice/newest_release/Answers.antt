@@ -1,4 +1,4 @@
-use Rattle.nodejs_semver.proofs.Common.{map, refl, take, take_all, is_release, value_of}
+use Rattle.nodejs_semver.proofs.Common.{is_release, map, refl, take, take_all, value_of}
 use Rattle.nodejs_semver.proofs.Choice.BestOf.{max_more, one_further}
 use Rattle.nodejs_semver.proofs.range.choice.newest_release.Goals as goal
 use Rattle.nodejs_semver.proofs.range.choice.newest_release.Goals.{then-is_new_release, else-is_new_release}

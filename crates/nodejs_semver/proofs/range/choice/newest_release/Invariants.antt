@@ -1,4 +1,4 @@
-use Rattle.nodejs_semver.proofs.Common.{map, take, is_release, IsMax, value_of}
+use Rattle.nodejs_semver.proofs.Common.{IsMax, is_release, map, take, value_of}
 use Rattle.nodejs_semver.proofs.range.choice.newest_release.Given as goal
 
 abbrev pub invariant-loop-version : goal.invariant-loop-version

@@ -1,5 +1,5 @@
-use Rattle.nodejs_semver.proofs.Common.{◌∙◌, ◌&&◌, ◌||◌, rules, sym, YieldsList-from_slice, holds, precedence, lets_in, span_of}
-use Rattle.std.proofs.Common.{tests}
+use Rattle.nodejs_semver.proofs.Common.{YieldsList-from_slice, holds, lets_in, precedence, rules, span_of, sym, tests, ◌&&◌, ◌||◌}
+use Rattle.nodejs_semver.proofs.Common.{◌∙◌}
 use Rattle.std.proofs.lemmas.Iterator.Search.{any_from_yields_List}
 use Rattle.nodejs_semver.proofs.Algebra.FlatMaps.{list_any-map}
 use Rattle.nodejs_semver.proofs.range.gate.accepts.Goals as goal

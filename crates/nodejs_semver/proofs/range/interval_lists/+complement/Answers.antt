@@ -1,4 +1,4 @@
-use Rattle.std.proofs.Common.{arith, sym, take-append-drop}
+use Rattle.nodejs_semver.proofs.Common.{arith, sym, take-append-drop}
 use Rattle.nodejs_semver.proofs.Algebra.Differences.{along-gaps, gaps-joined}
 use Rattle.nodejs_semver.proofs.range.interval_lists.+complement.Goals as goal
 

@@ -1,5 +1,4 @@
-use Rattle.nodejs_semver.proofs.Common.{◌∙◌, ap, rules, sym, take_all, minus}
-use Rattle.std.proofs.lemmas.List.Sums.{fold_more}
+use Rattle.nodejs_semver.proofs.Common.{ap, fold_more, minus, rules, sym, take_all, ◌∙◌}
 use Rattle.nodejs_semver.proofs.range.interval_lists.complement_of_few.Goals as goal
 
 pub loop-interval-preserved : goal.loop-interval-preserved

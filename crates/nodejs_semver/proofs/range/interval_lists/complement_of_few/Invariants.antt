@@ -1,4 +1,4 @@
-use Rattle.nodejs_semver.proofs.Common.{minus, ◌≡◌, take}
+use Rattle.nodejs_semver.proofs.Common.{minus, take, ◌≡◌}
 use Rattle.nodejs_semver.proofs.range.interval_lists.complement_of_few.Given as goal
 
 abbrev pub invariant-loop-interval : goal.invariant-loop-interval

@@ -1,4 +1,4 @@
-use Rattle.nodejs_semver.proofs.Common.{◌∙◌, is_some, rules, YieldsList-from_slice, list_any, meet}
+use Rattle.nodejs_semver.proofs.Common.{YieldsList-from_slice, is_some, list_any, meet, rules, ◌∙◌}
 use Rattle.std.proofs.lemmas.Iterator.Search.{any_from_yields_List}
 use Rattle.nodejs_semver.proofs.Algebra.Accepting.{meets_one_some}
 use Rattle.nodejs_semver.proofs.range.interval_lists.meet_somewhere.Goals as goal

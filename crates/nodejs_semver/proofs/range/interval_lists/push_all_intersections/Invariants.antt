@@ -1,4 +1,4 @@
-use Rattle.nodejs_semver.proofs.Common.{meets_of, ◌≡◌, ◌++◌, take}
+use Rattle.nodejs_semver.proofs.Common.{meets_of, take, ◌++◌, ◌≡◌}
 use Rattle.nodejs_semver.proofs.range.interval_lists.push_all_intersections.Given as goal
 
 abbrev pub invariant-loop-interval : goal.invariant-loop-interval

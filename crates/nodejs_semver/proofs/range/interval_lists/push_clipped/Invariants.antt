@@ -1,4 +1,4 @@
-use Rattle.nodejs_semver.proofs.Common.{◌≡◌, ◌++◌, take, flat_map, option_to_list, clip}
+use Rattle.nodejs_semver.proofs.Common.{clip, flat_map, option_to_list, take, ◌++◌, ◌≡◌}
 use Rattle.nodejs_semver.proofs.range.interval_lists.push_clipped.Given as goal
 
 abbrev pub invariant-loop-piece : goal.invariant-loop-piece

@@ -1,4 +1,4 @@
-use Rattle.nodejs_semver.proofs.Common.{◌≡◌, ◌++◌, take, flat_map, option_to_list, meet}
+use Rattle.nodejs_semver.proofs.Common.{flat_map, meet, option_to_list, take, ◌++◌, ◌≡◌}
 use Rattle.nodejs_semver.proofs.range.interval_lists.push_intersections.Given as goal
 
 abbrev pub invariant-loop-other : goal.invariant-loop-other

@@ -1,4 +1,4 @@
-use Rattle.nodejs_semver.proofs.Common.{◌≡◌, ◌++◌, take, flat_map, remainder}
+use Rattle.nodejs_semver.proofs.Common.{flat_map, remainder, take, ◌++◌, ◌≡◌}
 use Rattle.nodejs_semver.proofs.range.interval_lists.push_remainders.Given as goal
 
 abbrev pub invariant-loop-interval : goal.invariant-loop-interval

@@ -1,5 +1,5 @@
-use Rattle.nodejs_semver.proofs.Common.{true, false, sym, ap, ◌∙◌, Some}
-use Rattle.nodejs_semver.proofs.Choice.LeastOf.{better_bare}
+use Rattle.nodejs_semver.proofs.Common.{Some, ap, false, sym, true, ◌∙◌}
+use Rattle.nodejs_semver.proofs.Choice.Least.{better_bare}
 use Rattle.nodejs_semver.proofs.range.least.consider.Goals as goal
 
 pub returns-in_ok-bare-clause-best : goal.returns-in_ok-bare-clause-best

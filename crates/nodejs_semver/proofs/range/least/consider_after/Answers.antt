@@ -1,7 +1,6 @@
-use Rattle.std.proofs.Common.{inl, inr, sym, ◌∙◌}
-use Rattle.std.proofs.lemmas.Result.{on_err_weaker}
+use Rattle.nodejs_semver.proofs.Common.{inl, inr, on_err_weaker, sym, ◌∙◌}
 use Rattle.nodejs_semver.proofs.Algebra.FlatMaps.{on_err}
-use Rattle.nodejs_semver.proofs.Choice.LeastOf.{reached_far}
+use Rattle.nodejs_semver.proofs.Choice.Least.{reached_far}
 use Rattle.nodejs_semver.proofs.range.least.consider_after.Goals as goal
 
 pub returns-then-is_reached-clause-best : goal.returns-then-is_reached-clause-best

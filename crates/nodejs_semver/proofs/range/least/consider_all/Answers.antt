@@ -1,10 +1,6 @@
-use Rattle.nodejs_semver.proofs.Common.{inl, inr}
-use Rattle.std.proofs.Common.{take_all}
-use Rattle.std.proofs.lemmas.Result.{on_err_weaker, on_ok_weaker}
+use Rattle.nodejs_semver.proofs.Common.{BeginsAfterPre, inl, inr, on_err_weaker, on_ok_weaker, spans_of, take_all, wanted}
 use Rattle.nodejs_semver.proofs.Algebra.FlatMaps.{on_err}
 use Rattle.nodejs_semver.proofs.Choice.Kinds.{all_marks, any_here, range_further}
-use Rattle.nodejs_semver.specs.Internal.Candidates.{BeginsAfterPre, wanted}
-use Rattle.nodejs_semver.specs.Internal.Shorthands.{spans_of}
 use Rattle.nodejs_semver.proofs.range.least.consider_all.Goals as goal
 
 pub loop-range-preserved : goal.loop-range-preserved

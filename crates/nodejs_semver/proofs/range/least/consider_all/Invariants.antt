@@ -1,6 +1,4 @@
-use Rattle.std.proofs.Common.{◌≡◌, take, fold, flat_map}
-use Rattle.nodejs_semver.specs.Internal.Candidates.{better, firsts, list_marks, wanted}
-use Rattle.nodejs_semver.specs.Internal.Shorthands.{spans_of}
+use Rattle.nodejs_semver.proofs.Common.{better, firsts, flat_map, fold, list_marks, spans_of, take, wanted, ◌≡◌}
 use Rattle.nodejs_semver.proofs.range.least.consider_all.Given as goal
 
 abbrev pub invariant-loop-range : goal.invariant-loop-range

@@ -1,4 +1,4 @@
-use Rattle.std.proofs.Common.{inl, inr, refl, sym, ◌∙◌}
+use Rattle.nodejs_semver.proofs.Common.{inl, inr, refl, sym, ◌∙◌}
 use Rattle.nodejs_semver.proofs.range.least.consider_named.Goals as goal
 
 pub returns-in-Before-clause-best : goal.returns-in-Before-clause-best

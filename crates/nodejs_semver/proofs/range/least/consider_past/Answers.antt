@@ -1,4 +1,4 @@
-use Rattle.std.proofs.Common.{append-nil}
+use Rattle.nodejs_semver.proofs.Common.{append-nil}
 use Rattle.nodejs_semver.proofs.range.least.consider_past.Goals as goal
 
 pub returns-in-Before-clause-best : goal.returns-in-Before-clause-best

@@ -1,6 +1,5 @@
-use Rattle.std.proofs.Common.{inr, sym, ap, ◌∙◌}
+use Rattle.nodejs_semver.proofs.Common.{ap, bound_of, inr, sym, ◌∙◌}
 use Rattle.nodejs_semver.proofs.Algebra.FlatMaps.{on_err}
-use Rattle.nodejs_semver.specs.Ranges.View.{bound_of}
 use Rattle.nodejs_semver.proofs.range.least.consider_past_held.Goals as goal
 
 pub returns-in-Unbounded-clause-best : goal.returns-in-Unbounded-clause-best
@@ -21,16 +20,10 @@ returns-in_ok-pre_after-in-After-clause-best g c =
 
 pub returns-in_ok-pre_after-in-After-clause-memory : goal.returns-in_ok-pre_after-in-After-clause-memory
 returns-in_ok-pre_after-in-After-clause-memory g c =
-    on_err _ (inr (
-      g.V.Versioned.value c.in-After.version,
-      ap (bound_of g.V.Versioned.value) c.in-After.is,
-      sym c.is_release.ensures ∙ c.if-is_release.false,
-    ))
+    let pre = sym c.is_release.ensures ∙ c.if-is_release.false in
+    on_err _ (inr (g.V.Versioned.value c.in-After.version, ap (bound_of g.V.Versioned.value) c.in-After.is, pre))
 
 pub returns-in_err-pre_after-in-After-clause-memory : goal.returns-in_err-pre_after-in-After-clause-memory
 returns-in_err-pre_after-in-After-clause-memory g c =
-    on_err _ (inr (
-      g.V.Versioned.value c.in-After.version,
-      ap (bound_of g.V.Versioned.value) c.in-After.is,
-      sym c.is_release.ensures ∙ c.if-is_release.false,
-    ))
+    let pre = sym c.is_release.ensures ∙ c.if-is_release.false in
+    on_err _ (inr (g.V.Versioned.value c.in-After.version, ap (bound_of g.V.Versioned.value) c.in-After.is, pre))

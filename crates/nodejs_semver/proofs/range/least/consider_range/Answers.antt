@@ -1,9 +1,7 @@
-use Rattle.nodejs_semver.proofs.Common.{inl, inr, sym, subst, arith, All, BeginsAfterPre, IsRaisable, Raisable, wanted, spans_of}
-use Rattle.nodejs_semver.proofs.Common.{bound_of}
+use Rattle.nodejs_semver.proofs.Common.{All, BeginsAfterPre, IsAfterPre, IsRaisable, Raisable, arith, bound_of, inl, inr}
+use Rattle.nodejs_semver.proofs.Common.{spans_of, subst, sym, wanted}
 use Rattle.nodejs_semver.proofs.Algebra.FlatMaps.{on_err}
-use Rattle.nodejs_semver.proofs.Choice.Kinds.{any_at, kept_further, raisable_at}
-use Rattle.nodejs_semver.proofs.Choice.Raised.{raisable}
-use Rattle.nodejs_semver.specs.Internal.Candidates.{IsAfterPre}
+use Rattle.nodejs_semver.proofs.Choice.Kinds.{any_at, kept_further, raisable_at, raisable}
 use Rattle.nodejs_semver.proofs.range.least.consider_range.Goals as goal
 
 pub consider_past-requires : goal.consider_past-requires

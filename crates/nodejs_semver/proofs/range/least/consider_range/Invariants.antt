@@ -1,5 +1,4 @@
-use Rattle.nodejs_semver.proofs.Common.{◌≡◌, take, flat_map, better, firsts, list_marks, wanted, spans_of}
-use Rattle.std.proofs.Common.{fold}
+use Rattle.nodejs_semver.proofs.Common.{better, firsts, flat_map, fold, list_marks, spans_of, take, wanted, ◌≡◌}
 use Rattle.nodejs_semver.proofs.range.least.consider_range.Given as goal
 
 abbrev pub invariant-loop-interval : goal.invariant-loop-interval

@@ -1,7 +1,6 @@
-use Rattle.nodejs_semver.proofs.Common.{inl, inr, sym, subst, arith, Raisable, wanted, spans_of, bound_of}
+use Rattle.nodejs_semver.proofs.Common.{IsAfterPre, Raisable, arith, bound_of, inl, inr, spans_of, subst, sym, wanted}
 use Rattle.nodejs_semver.proofs.Algebra.FlatMaps.{on_err}
 use Rattle.nodejs_semver.proofs.Choice.Kinds.{any_at, raisable_at, removed_further}
-use Rattle.nodejs_semver.specs.Internal.Candidates.{IsAfterPre}
 use Rattle.nodejs_semver.proofs.range.least.consider_removed.Goals as goal
 
 pub consider_past-requires : goal.consider_past-requires

@@ -1,8 +1,6 @@
-use Rattle.nodejs_semver.proofs.Common.{sym, subst, IsLeastOf}
+use Rattle.nodejs_semver.proofs.Common.{IsLeastOf, spans_of, subst, sym, wanted}
 use Rattle.nodejs_semver.proofs.Algebra.FlatMaps.{on_err}
-use Rattle.nodejs_semver.proofs.Choice.LeastOf.{least_bare, least_wanted}
-use Rattle.nodejs_semver.specs.Internal.Candidates.{wanted}
-use Rattle.nodejs_semver.specs.Internal.Shorthands.{spans_of}
+use Rattle.nodejs_semver.proofs.Choice.Least.{least_bare, least_wanted}
 use Rattle.nodejs_semver.proofs.range.least.least_among.Goals as goal
 
 pub returns-in_err-consider_all-clause-memory : goal.returns-in_err-consider_all-clause-memory

@@ -1,8 +1,6 @@
-use Rattle.nodejs_semver.proofs.Common.{◌∙◌, rules, sym, YieldsList-from_slice, span_of}
-use Rattle.std.proofs.Common.{tests}
+use Rattle.nodejs_semver.proofs.Common.{YieldsList-from_slice, has_build, rules, span_of, sym, tests, ◌∙◌}
 use Rattle.std.proofs.lemmas.Iterator.Search.{any_from_yields_List}
 use Rattle.nodejs_semver.proofs.Algebra.FlatMaps.{list_any-map}
-use Rattle.nodejs_semver.specs.Internal.Candidates.{has_build}
 use Rattle.nodejs_semver.proofs.range.neighbours.begin_with_build.Goals as goal
 
 pub returns : goal.returns

@@ -1,5 +1,4 @@
-use Rattle.nodejs_semver.proofs.Common.{◌&&◌, rules, YieldsList-from_slice, holds, precedence, lets_in, span_of, spans_of}
-use Rattle.std.proofs.Common.{tests}
+use Rattle.nodejs_semver.proofs.Common.{YieldsList-from_slice, holds, lets_in, precedence, rules, span_of, spans_of, tests, ◌&&◌}
 use Rattle.std.proofs.lemmas.Iterator.Search.{find_from_yields_List}
 use Rattle.nodejs_semver.proofs.Choice.Kinds.{found_raisable, found_value}
 use Rattle.nodejs_semver.proofs.range.neighbours.first_accepting.Goals as goal

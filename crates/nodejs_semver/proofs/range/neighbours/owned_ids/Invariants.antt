@@ -1,4 +1,4 @@
-use Rattle.std.proofs.Common.{◌≡◌, ◌++◌, length}
+use Rattle.nodejs_semver.proofs.Common.{length, ◌++◌, ◌≡◌}
 use Rattle.semver_core.specs.Values.Views.{ids_view}
 use Rattle.nodejs_semver.proofs.range.neighbours.owned_ids.Given as goal
 

@@ -1,4 +1,4 @@
-use Rattle.nodejs_semver.proofs.Common.{List, ℕ, rules, subst, IsTrue, MAX_SAFE_INTEGER, AreCommonParts}
+use Rattle.nodejs_semver.proofs.Common.{AreCommonParts, IsTrue, List, MAX_SAFE_INTEGER, rules, subst, ℕ}
 use Rattle.nodejs_semver.proofs.Everyday.Whole.{common_list}
 use Rattle.nodejs_semver.proofs.range.parse.read.Goals as goal
 

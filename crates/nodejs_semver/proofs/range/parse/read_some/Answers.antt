@@ -1,5 +1,5 @@
-use Rattle.nodejs_semver.proofs.Common.{◌≡◌, ◌<◌, ◌⊎◌, [], length, arith, sym, true, rules, MAX_SAFE_INTEGER, common_steps}
-use Rattle.nodejs_semver.proofs.Common.{list_any, denotes}
+use Rattle.nodejs_semver.proofs.Common.{MAX_SAFE_INTEGER, [], arith, common_steps, denotes, length, list_any, rules, sym, true}
+use Rattle.nodejs_semver.proofs.Common.{◌<◌, ◌≡◌, ◌⊎◌}
 use Rattle.nodejs_semver.proofs.Everyday.Whole.{denoted_range}
 use Rattle.nodejs_semver.proofs.Dividing.MeaningLaw.{meant, meant_so}
 use Rattle.nodejs_semver.proofs.Dividing.WrittenLaw.{accepted_written}

@@ -1,9 +1,8 @@
-use Rattle.std.proofs.Common.{◌∙◌, ap, is_eq, refl, rules, sym}
-use Rattle.std.proofs.Output.{has_written_styled_append, has_written_styled_of_eq}
+use Rattle.nodejs_semver.proofs.Common.{ap, has_written_styled_append, has_written_styled_of_eq, is_eq, refl, rules, sym, ◌∙◌}
+use Rattle.nodejs_semver.proofs.range.print.write_interval.Goals as goal
 use Rattle.nodejs_semver.proofs.range.print.write_interval.Goals.{in_default-via-in-Before-After+else-are_equal}
 use Rattle.nodejs_semver.proofs.range.print.write_interval.Goals.{in_default-via-in-Before+in_default}
 use Rattle.nodejs_semver.proofs.range.print.write_interval.Goals.{in_default-via-in_default+in_default}
-use Rattle.nodejs_semver.proofs.range.print.write_interval.Goals as goal
 
 pub returns-in_ok-write_str-in_default : goal.returns-in_ok-write_str-in_default
 returns-in_ok-write_str-in_default g c flush ok =
@@ -14,13 +13,11 @@ returns-in_ok-write_str-in_default g c flush ok =
       | in_default-via-in-Before-After+else-are_equal w ↦ search rules
       | in_default-via-in-Before+in_default w ↦ search rules
       | in_default-via-in_default+in_default w ↦ search rules
-    ])
-    (has_written_styled_append _ _ _ _ _ _ lower (has_written_styled_append _ _ _ _ _ _ space upper))
+    ]) (has_written_styled_append _ _ _ _ _ _ lower (has_written_styled_append _ _ _ _ _ _ space upper))
 
 pub returns-in-Before-After : goal.returns-in-Before-After
 returns-in-Before-After g c flush ok =
     has_written_styled_of_eq _ _ _ _ _
     (rw (sym c.lower-lower.ensures.value ∙ c.in-Before-After.is-0, sym c.upper-upper.ensures ∙ c.in-Before-After.is-1)
     (rw (ap is_eq (sym (g.met.V.VersionPoint.ordered c.in-Before-After.v c.in-Before-After.w))
-    ∙ sym c.if-are_equal.ensures) refl))
-    (c.print.ensures flush ok)
+    ∙ sym c.if-are_equal.ensures) refl)) (c.print.ensures flush ok)

@@ -1,7 +1,5 @@
-use Rattle.std.proofs.Common.{ap, refl, rules, take_all, ◌∙◌}
-use Rattle.std.proofs.Output.{has_written_styled_append, has_written_styled_of_eq}
-use Rattle.nodejs_semver.proofs.Printing.Steps.{range_step, bars_step}
-use Rattle.nodejs_semver.proofs.Values.{printed, printed-values}
+use Rattle.nodejs_semver.proofs.Common.{ap, has_written_styled_append, has_written_styled_of_eq, refl, rules, take_all, ◌∙◌}
+use Rattle.nodejs_semver.proofs.Values.{range_step, bars_step, printed, printed-values}
 use Rattle.nodejs_semver.proofs.range.print.write_intervals.Goals as goal
 
 pub loop-interval-preserved : goal.loop-interval-preserved
@@ -22,5 +20,4 @@ pub returns : goal.returns
 returns g c flush ok =
     has_written_styled_of_eq _ _ _ _ _
     (ap (printed g.V.Versioned.value) (take_all _ c.args.intervals.now c.loop-interval-test.false)
-    ∙ printed-values g.V.Versioned.value c.args.intervals.now)
-    (c.loop-interval.invariant.2 flush)
+    ∙ printed-values g.V.Versioned.value c.args.intervals.now) (c.loop-interval.invariant.2 flush)

@@ -1,4 +1,4 @@
-use Rattle.nodejs_semver.proofs.Common.{refl, has_written_styled_append}
+use Rattle.nodejs_semver.proofs.Common.{has_written_styled_append, refl}
 use Rattle.nodejs_semver.proofs.range.print.write_signed.Goals as goal
 
 pub returns : goal.returns

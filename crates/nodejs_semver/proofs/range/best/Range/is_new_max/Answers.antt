@@ -1,8 +1,6 @@
 use Rattle.nodejs_semver.proofs.Choice.BestOf.{max_more}
 use Rattle.nodejs_semver.proofs.range.best.Range.is_new_max.Goals as goal
 
-pub returns-clause-exact : goal.returns-clause-exact
-returns-clause-exact c = rw c.items.ensures.value at c.is_new_max.ensures
-
-pub returns-clause-best : goal.returns-clause-best
-returns-clause-best c = λ list. max_more _ list _ _ _ (rw c.items.ensures.value at c.is_new_max.ensures)
+pub returns : goal.returns
+returns c =
+    let exact = rw c.items.ensures.value at c.is_new_max.ensures in record { exact = exact; best = λ list. max_more _ list _ _ _ exact }

@@ -1,4 +1,4 @@
-use Rattle.std.proofs.lemmas.List.{map-id}
+use Rattle.nodejs_semver.proofs.Common.{map-id}
 use Rattle.nodejs_semver.proofs.Choice.BestOf.{min_says}
 use Rattle.nodejs_semver.proofs.range.best.Range.min_satisfying.Goals as goal
 

@@ -1,6 +1,4 @@
-use Rattle.nodejs_semver.proofs.Common.{rules, MAX_SAFE_INTEGER, Means}
-use Rattle.std.proofs.Common.{Err}
-use Rattle.std.specs.Prelude.{⊤}
+use Rattle.nodejs_semver.proofs.Common.{Err, MAX_SAFE_INTEGER, Means, rules, ⊤}
 use Rattle.nodejs_semver.proofs.Dividing.MeaningLaw.{only_several}
 use Rattle.nodejs_semver.proofs.Values.{spans_same}
 use Rattle.nodejs_semver.proofs.range.parse.RangeRef.parse.Goals as goal

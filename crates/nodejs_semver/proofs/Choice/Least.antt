@@ -1,0 +1,633 @@
+-- The least version beyond is the first of its kind past a mark: a lower cut of what is kept, an upper cut of what is removed,
+-- or the cut below the pre-releases that an upper bound of what is kept names. First what comes next after a version.
+use Rattle.nodejs_semver.proofs.Common.{After, All, All-append, All-cons, All-head, All-tail, Before, Beside, Bool, Bound, Cut}
+use Rattle.nodejs_semver.proofs.Common.{End, Equal, Far, Id, IfSome, IsLeastOf, Less, List, Near, None, Numeric, Option, Ordering}
+use Rattle.nodejs_semver.proofs.Common.{Some, Span, Start, Unbounded, VersionValue, [], above_patch, accepts, alike_right}
+use Rattle.nodejs_semver.proofs.Common.{all_accept, and-true, and_from, and_parts, ap, ap₂, arith, begins_with, below_named}
+use Rattle.nodejs_semver.proofs.Common.{beside, better, beyond, bool_cmp, build_by, candidates, cases_Bool, chain, cond_both}
+use Rattle.nodejs_semver.proofs.Common.{cut_total, false, find, first_so, firsts, flat_map, fold, gt_lt, has_build, holds}
+use Rattle.nodejs_semver.proofs.Common.{if◌then◌else◌, inl, inr, irreflexive, is_gt, is_le, is_past, is_past-down, is_release}
+use Rattle.nodejs_semver.proofs.Common.{least_build, least_of, length, lets_in, list_all, list_all-append, list_any, list_marks}
+use Rattle.nodejs_semver.proofs.Common.{lower_cut, map, names, not, not-true, not_above, option_and_then, or-false, or_cases}
+use Rattle.nodejs_semver.proofs.Common.{or_left, or_parts, or_right, ordering_then, past_lt, pre_cmp, precedence}
+use Rattle.nodejs_semver.proofs.Common.{precedence_total, refl, release_value, removed_marks, second_so, subst, sym, tells}
+use Rattle.nodejs_semver.proofs.Common.{tied_itself, true, upper_cut, version_eq, wanted, ◌&&◌, ◌++◌, ◌<◌, ◌||◌, ◌∙◌, ◌∷◌, ◌≡◌}
+use Rattle.std.proofs.lemmas.List.Elements.{All-from_recursion, All-nil}
+use Rattle.nodejs_semver.specs.Internal.Candidates.{zero, bare_release, first_pre, pre_after, patch_after, bare, after_cut}
+use Rattle.nodejs_semver.specs.Internal.Candidates.{release_after, below_at, kept_marks, among, improves, is_reached, first_past}
+use Rattle.semver_core.proofs.Values.NextLaws.{least_after_pre_release, first_of_all, least_after_release}
+use Rattle.nodejs_semver.proofs.Algebra.Gate.{triple_cmp, upto_by_both, below, in_order, past_order, named, named_parts}
+use Rattle.nodejs_semver.proofs.Algebra.Gate.{not_gt_then, pre_upto, same_triple_is, triple_between, triple_total, triple_upto}
+use Rattle.nodejs_semver.proofs.Algebra.Gate.{le_of_lt, le_trans, lt_is}
+use Rattle.semver_core.specs.Internal.Successors.{Below, above_pre, below_cases, below_more, upto_major, upto_minor, upto_patch}
+use Rattle.semver_core.specs.Internal.Successors.{zero_least}
+use Rattle.nodejs_semver.proofs.Algebra.FlatMaps.{empty_is, all_flat, all_weaker, any_flat, any_under, pick_both, any_same}
+
+pub le_not_gt : (r : Ordering) → is_le r ≡ true → is_gt r ≡ false
+le_not_gt r h = not-true _ (sym (tells r).0 ∙ h)
+
+-- Numeric 0 alone is the least pre-release
+pub first_pre_least : (w v : VersionValue) → triple_cmp w v ≡ Equal → is_gt (precedence (first_pre w) v) ≡ false
+first_pre_least w v e = upto_by_both (first_pre w) v (ap is_gt e) (le_not_gt _ (zero_least v.pre_release))
+
+-- the list with Numeric 0 after it is above it, and not above what is above it
+pub next_pre : (w : VersionValue) → is_release w ≡ false → is_release (pre_after w) ≡ false
+next_pre w k = grind arith
+
+pub next_pre_above : (w : VersionValue) → is_release w ≡ false → precedence w (pre_after w) ≡ Less
+next_pre_above w k = grind (arith, above_pre, below_more)
+
+pub next_pre_least : (w v : VersionValue) → is_release w ≡ false → precedence w v ≡ Less
+    → is_gt (precedence (pre_after w) v) ≡ false
+next_pre_least w v k h = le_not_gt _ (least_after_pre_release w v (grind arith) h)
+
+pub release_above : (w : VersionValue) → is_release w ≡ false → precedence w (bare_release w) ≡ Less
+release_above w k = grind (arith, above_pre)
+
+pub next_patch_above : (w : VersionValue) → precedence w (patch_after w) ≡ Less
+next_patch_above w = above_patch w (patch_after w) refl refl (omega arith)
+
+-- the next patch of a release is not above a release that is above it
+pub next_patch_least : (w v : VersionValue) → w.pre_release ≡ [] → v.pre_release ≡ [] → precedence w v ≡ Less
+    → is_gt (precedence (patch_after w) v) ≡ false
+next_patch_least w v e f h = le_not_gt _ (by_part (below_cases w v h))
+  where
+    by_part : Below w v → is_le (precedence (patch_after w) v) ≡ true
+    by_part h = grind (arith, upto_major, upto_minor, upto_patch)
+
+-- 0.0.0 is the least release
+pub zero_first : (v : VersionValue) → v.pre_release ≡ [] → is_gt (precedence zero v) ≡ false
+zero_first v e = grind (arith, le_not_gt, upto_patch)
+
+-- ---- the greatest mark below a version
+
+-- ---- the greatest mark
+
+-- a mark that v lies past is not above g
+abbrev under : VersionValue → Cut VersionValue → Cut VersionValue → Bool
+under v g d = not (is_past precedence d v) || not (below g d)
+
+under_past : (v : VersionValue) (g d : Cut VersionValue) → under v g d ≡ true → is_past precedence d v ≡ true → below g d ≡ false
+under_past v g d h p = not-true _ (rw p at h)
+
+-- some mark has what every mark has that v lies past and that no such mark is above
+greatest : (v : VersionValue) (P : Cut VersionValue → Bool) (c : Cut VersionValue) (ds : List (Cut VersionValue))
+    → is_past precedence c v ≡ true
+    → ((g : Cut VersionValue) → is_past precedence g v ≡ true → list_all (under v g) (c ∷ ds) ≡ true → P g ≡ true)
+    → list_any P (c ∷ ds) ≡ true
+greatest v P c [] h f = or_left (P c) false (f c h (rw (irreflexive precedence_total c, h) refl))
+greatest v P c (d ∷ ds) h f =
+    by_test (is_past precedence d v) (below c d) refl refl (λ p. greatest v P d ds p) (greatest v P c ds h)
+  where
+    kept : (((g : Cut VersionValue) → is_past precedence g v ≡ true → list_all (under v g) (c ∷ ds) ≡ true → P g ≡ true)
+        → list_any P (c ∷ ds) ≡ true)
+        → ((g : Cut VersionValue) → under v g c ≡ true → under v g d ≡ true) → list_any P (c ∷ d ∷ ds) ≡ true
+    kept rest more = grind (arith, and_parts, and_from)
+
+    by_test : (p t : Bool) → is_past precedence d v ≡ p → below c d ≡ t
+        → (is_past precedence d v ≡ true → ((g : Cut VersionValue) → is_past precedence g v ≡ true
+        → list_all (under v g) (d ∷ ds) ≡ true → P g ≡ true) → list_any P (d ∷ ds) ≡ true)
+        → (((g : Cut VersionValue) → is_past precedence g v ≡ true → list_all (under v g) (c ∷ ds) ≡ true → P g ≡ true)
+        → list_any P (c ∷ ds) ≡ true) → list_any P (c ∷ d ∷ ds) ≡ true
+    by_test true true p t from_d from_c =
+        grind (arith, or_right, and_from, below, not_above, precedence_total, under_past, first_so)
+    by_test true false p t from_d from_c = kept from_c (λ g e. or_right (not (is_past precedence d v)) (not (below g d))
+        (ap not (chain precedence_total d c g t (under_past v g c e h))))
+    by_test false t p e from_d from_c = kept from_c (λ g e. or_left (not (is_past precedence d v)) (not (below g d)) (ap not p))
+
+-- ---- versions that are let in alike
+
+-- releases alike, and of one triple if they are none
+pub record Alike (x v : VersionValue) : Type 0 where
+  pub release : is_release x ≡ is_release v
+  pub triple : is_release v ≡ false → triple_cmp x v ≡ Equal
+
+pub lets_in_alike : (s : Span VersionValue) (x v : VersionValue) → Alike x v → lets_in s x ≡ lets_in s v
+lets_in_alike s x v k = grind (arith, same_triple_is, alike_right, triple_total)
+
+kind_of_release : (x v : VersionValue) → is_release x ≡ true → is_release v ≡ true → Alike x v
+kind_of_release x v h k = record { release = h ∙ sym k; triple = λ e. cc }
+
+-- ---- the first versions past a mark
+
+-- x is past the mark, not above v, and of v's kind
+pub record Begins (g : Cut VersionValue) (v x : VersionValue) : Type 0 where
+  pub past : is_past precedence g x ≡ true
+  pub below : is_gt (precedence x v) ≡ false
+  pub alike : Alike x v
+
+pub past_near : (w x : VersionValue) → precedence w x ≡ Equal → is_past precedence (Beside w Near) x ≡ true
+past_near w x e = ap (λ q. is_le (ordering_then q Equal)) e
+
+pub past_less : (w x : VersionValue) (s : Bool) → precedence w x ≡ Less → is_past precedence (Beside w s) x ≡ true
+past_less w x s e = ap (λ q. is_le (ordering_then q (bool_cmp s Near))) e
+
+-- what lies past the far side of a point is above the point
+pub far_less : (w v : VersionValue) → is_past precedence (Beside w Far) v ≡ true → precedence w v ≡ Less
+far_less w v h = grind arith
+
+near_begins : (w v : VersionValue) → is_past precedence (Beside w Near) v ≡ true → Alike (bare w) v
+    → Begins (Beside w Near) v (bare w)
+near_begins w v h k =
+    record { past = past_near w (bare w) (tied_itself precedence_total w); below = past_order w v Near h; alike = k }
+
+begins_release : (g : Cut VersionValue) (v : VersionValue) → is_release v ≡ true → is_past precedence g v ≡ true
+    → (P : VersionValue → Bool) → ((x : VersionValue) → Begins g v x → P x ≡ true) → list_any P (firsts g) ≡ true
+begins_release Start v k h P f = grind (arith, zero_first, empty_is, kind_of_release)
+begins_release End v k h P f = cc
+begins_release (Beside w s) v k h P f =
+    cond_both (is_release w) (release_after w s ∷ []) (after_cut w s ∷ bare_release w ∷ []) (λ l. list_any P l ≡ true)
+    (λ r. or_left (P (release_after w s)) false (f (release_after w s) (by_side s h r)))
+    (λ r. or_right (P (after_cut w s)) _ (or_left (P (bare_release w)) false (f (bare_release w) (record {
+      past = past_less w (bare_release w) s (release_above w r);
+      below = upto_by_both (bare_release w) v (triple_upto w v (past_order w v s h))
+          (ap (λ l. is_gt (pre_cmp [] l)) (empty_is v.pre_release k));
+      alike = kind_of_release (bare_release w) v refl k;
+    }))))
+  where
+    by_side : (s : Bool) → is_past precedence (Beside w s) v ≡ true → is_release w ≡ true
+        → Begins (Beside w s) v (release_after w s)
+    by_side Near h r = near_begins w v h (kind_of_release (bare w) v r k)
+    by_side Far h r = record {
+      past = past_less w (patch_after w) Far (next_patch_above w);
+      below = next_patch_least w v (empty_is w.pre_release r) (empty_is v.pre_release k) (far_less w v h);
+      alike = kind_of_release (patch_after w) v refl k;
+    }
+
+-- a mark not below the pre-releases of v's triple is beside one of them, if v lies past it
+begins_pre : (g : Cut VersionValue) (w v : VersionValue) → is_release v ≡ false → triple_cmp w v ≡ Equal
+    → below g (Beside (first_pre w) Near) ≡ false → is_past precedence g v ≡ true
+    → (P : VersionValue → Bool) → ((x : VersionValue) → Begins g v x → P x ≡ true) → list_any P (firsts g) ≡ true
+begins_pre Start w v k e m h P f = cc
+begins_pre End w v k e m h P f = cc
+begins_pre (Beside u s) w v k e m h P f =
+    let up = past_order u v s h in
+    let tied = triple_between (first_pre w) u v e (in_order (first_pre w) u Near s m) up in
+    let pre = pre_upto u v k tied up in
+    rw pre (or_left (P (after_cut u s)) _ (f (after_cut u s) (by_side s h tied pre)))
+  where
+    by_side : (s : Bool) → is_past precedence (Beside u s) v ≡ true → triple_cmp u v ≡ Equal → is_release u ≡ false
+        → Begins (Beside u s) v (after_cut u s)
+    by_side Near h t r = near_begins u v h (record { release = r ∙ sym k; triple = λ _. t })
+    by_side Far h t r = record {
+      past = past_less u (pre_after u) Far (next_pre_above u r);
+      below = next_pre_least u v r (far_less u v h);
+      alike = record { release = next_pre u r ∙ sym k; triple = λ _. t };
+    }
+
+-- ---- the span that lets a pre-release in names the triple
+
+-- the cut below the pre-releases that w names is not above g
+record NamedBy (v : VersionValue) (g : Cut VersionValue) (w : VersionValue) : Type 0 where
+  pub triple : triple_cmp w v ≡ Equal
+  pub above : below g (Beside (first_pre w) Near) ≡ false
+
+-- by a lower bound, past which v lies
+named_lower : (w v : VersionValue) (s : Bool) (g : Cut VersionValue) → named w v ≡ true
+    → is_past precedence (Beside w s) v ≡ true → under v g (Beside w s) ≡ true → (x : VersionValue) × NamedBy v g x
+named_lower w v s g n p e =
+    let (pre, tied) = named_parts w v n in
+    let first = first_pre_least w w (tied_itself triple_total w) in (
+      w,
+      record {
+        triple = tied;
+        above = chain precedence_total (Beside (first_pre w) Near) (Beside w s) g
+            (sym (gt_lt precedence_total (Beside (first_pre w) Near) (Beside w s))
+            ∙ not_gt_then (precedence (first_pre w) w) (bool_cmp Near s) first (by_side s)) (under_past v g (Beside w s) e p);
+      },
+    )
+  where
+    by_side : (s : Bool) → is_gt (bool_cmp Near s) ≡ false
+    by_side s = grind arith
+
+-- by an upper bound, with the cut below the pre-releases that it names
+named_upper : (w v : VersionValue) (g : Cut VersionValue) → is_release v ≡ false → named w v ≡ true
+    → list_all (under v g) (below_at w) ≡ true → (x : VersionValue) × NamedBy v g x
+named_upper w v g k n e = grind (arith, named_parts, under_past, past_up)
+  where
+    past_up : triple_cmp w v ≡ Equal → is_past precedence (Beside (first_pre w) Near) v ≡ true
+    past_up tied = grind (arith, tells, not_gt_then, first_pre_least)
+
+named_span : (s : Span VersionValue) (v : VersionValue) (g : Cut VersionValue) → is_release v ≡ false
+    → (holds precedence s v && lets_in s v) ≡ true → list_all (under v g) (kept_marks s) ≡ true
+    → (x : VersionValue) × NamedBy v g x
+named_span s v g k h e =
+    let (held, let_in) = and_parts (holds precedence s v) (lets_in s v) h in
+    let (low, up) = and_parts (list_all (under v g) (beside s.lower)) _
+    (sym (list_all-append (under v g) (beside s.lower) (below_named s.upper)) ∙ e) in
+    elim (or_cases (names s.lower v) (names s.upper v) (rw k at let_in)) [
+      | inl n ↦ by_lower s.lower n (first_so _ _ held) low
+      | inr n ↦ by_upper s.upper n up
+    ]
+  where
+    by_lower : (b : Bound VersionValue) → names b v ≡ true → is_past precedence (lower_cut b) v ≡ true
+        → list_all (under v g) (beside b) ≡ true → (x : VersionValue) × NamedBy v g x
+    by_lower Unbounded n p e = cc
+    by_lower (Before w) n p e = named_lower w v Near g n p (first_so _ _ e)
+    by_lower (After w) n p e = named_lower w v Far g n p (first_so _ _ e)
+
+    by_upper : (b : Bound VersionValue) → names b v ≡ true → list_all (under v g) (below_named b) ≡ true → (x : VersionValue)
+        × NamedBy v g x
+    by_upper Unbounded n e = cc
+    by_upper (Before w) n e = named_upper w v g k n e
+    by_upper (After w) n e = named_upper w v g k n e
+
+-- ---- what begins a piece is accepted alike
+
+-- what lies past a cut and not above v, v lies past
+pub past_up : (v x : VersionValue) → is_gt (precedence x v) ≡ false → (d : Cut VersionValue) → is_past precedence d x ≡ true
+    → is_past precedence d v ≡ true
+past_up v x h d p =
+    past_lt precedence_total d v
+    ∙ ap not (chain precedence_total d (Beside x Near) (Beside v Near) (not-true _ (sym (past_lt precedence_total d x) ∙ p))
+    (sym (gt_lt precedence_total (Beside x Near) (Beside v Near)) ∙ not_gt_then (precedence x v) Equal h refl))
+
+module _ (v x : VersionValue) (g : Cut VersionValue) (b : Begins g v x) where
+  mark_past : (d : Cut VersionValue) → under v g d ≡ true → is_past precedence d v ≡ true → is_past precedence d x ≡ true
+  mark_past d e p = is_past-down precedence_total d g x (under_past v g d e p) b.past
+
+  lower_past : (c : Bound VersionValue) → list_all (under v g) (beside c) ≡ true → is_past precedence (lower_cut c) v ≡ true
+      → is_past precedence (lower_cut c) x ≡ true
+  lower_past c e p = grind (arith, mark_past, first_so)
+
+  upper_past : (c : Bound VersionValue) → list_all (under v g) (beside c) ≡ true → is_past precedence (upper_cut c) v ≡ true
+      → is_past precedence (upper_cut c) x ≡ true
+  upper_past c e p = grind (arith, mark_past, first_so)
+
+  admitted : (p q l p' q' l' : Bool) → (p ≡ true → p' ≡ true) → (q' ≡ true → q ≡ true) → l ≡ l'
+      → (not ((p && not q) && l) || ((p' && not q') && l')) ≡ true
+  admitted p q l p' q' l' f h e = grind arith
+
+  pub kept_accept : (ss : List (Span VersionValue)) → list_all (under v g) (flat_map kept_marks ss) ≡ true
+      → accepts ss v false ≡ true → accepts ss x false ≡ true
+  kept_accept ss top h =
+      any_under (λ s. holds precedence s v && lets_in s v) (λ s. holds precedence s x && lets_in s x) ss h
+      (all_weaker (λ s. list_all (under v g) (kept_marks s)) _ (λ s e.
+      admitted _ _ _ _ _ _ (lower_past s.lower (first_so _ _ (sym
+      (list_all-append (under v g) (beside s.lower) (below_named s.upper)) ∙ e))) (past_up v x b.below (upper_cut s.upper))
+      (sym (lets_in_alike s x v b.alike))) ss (sym (all_flat (under v g) kept_marks ss) ∙ top))
+
+  all_accepted : (kss : List (List (Span VersionValue))) → list_all (under v g) (flat_map list_marks kss) ≡ true
+      → all_accept kss v ≡ true → all_accept kss x ≡ true
+  all_accepted [] top h = refl
+  all_accepted (ss ∷ kss) top h =
+      let tops = and_parts (list_all (under v g) (list_marks ss)) _
+      (sym (list_all-append (under v g) (list_marks ss) (flat_map list_marks kss)) ∙ top) in
+      let both = and_parts (accepts ss v false) (all_accept kss v) h in
+      and_from (accepts ss x false) (all_accept kss x) (kept_accept ss tops.0 both.0) (all_accepted kss tops.1 both.1)
+
+  pub removed_accept : (ss : List (Span VersionValue)) → list_all (under v g) (flat_map removed_marks ss) ≡ true
+      → accepts ss x false ≡ true → accepts ss v false ≡ true
+  removed_accept ss top h =
+      any_under (λ s. holds precedence s x && lets_in s x) (λ s. holds precedence s v && lets_in s v) ss h
+      (all_weaker (λ s. list_all (under v g) (removed_marks s)) _ (λ s e.
+      admitted _ _ _ _ _ _ (past_up v x b.below (lower_cut s.lower)) (upper_past s.upper e) (lets_in_alike s x v b.alike)) ss
+      (sym (all_flat (under v g) removed_marks ss) ∙ top))
+
+-- whatever is in the set, a candidate that is not above it is in the set too
+pub candidate : (ks : List (Span VersionValue)) (kss : List (List (Span VersionValue))) (ls : List (Span VersionValue))
+    (v : VersionValue) → among ks kss ls v ≡ true
+    → list_any (λ x. among ks kss ls x && is_le (precedence x v)) (candidates (ks ∷ kss) ls) ≡ true
+candidate ks kss ls v h =
+    any_flat found firsts (Start ∷ marks) ∙ greatest v (λ g. list_any found (firsts g)) Start marks refl at
+  where
+    found : VersionValue → Bool
+    found x = among ks kss ls x && is_le (precedence x v)
+
+    marks : List (Cut VersionValue)
+    marks = flat_map list_marks (ks ∷ kss) ++ flat_map removed_marks ls
+
+    among_too : (r a b q c d : Bool) → (r ≡ true → q ≡ true) → (a ≡ true → c ≡ true) → (d ≡ true → b ≡ true)
+        → (r && (a && not b)) ≡ true → (q && (c && not d)) ≡ true
+    among_too r a b q c d e f g h = grind arith
+
+    at : (g : Cut VersionValue) → is_past precedence g v ≡ true → list_all (under v g) (Start ∷ marks) ≡ true
+        → list_any found (firsts g) ≡ true
+    at g past top =
+        let tops = and_parts (list_all (under v g) (flat_map list_marks (ks ∷ kss))) _
+        (sym (list_all-append (under v g) (flat_map list_marks (ks ∷ kss)) (flat_map removed_marks ls))
+        ∙ second_so (under v g Start) (list_all (under v g) marks) top) in
+        let kept = and_parts (list_all (under v g) (list_marks ks)) _
+        (sym (list_all-append (under v g) (list_marks ks) (flat_map list_marks kss)) ∙ tops.0) in
+        let done : (x : VersionValue) → Begins g v x → found x ≡ true = λ x b.
+        and_from (among ks kss ls x) (is_le (precedence x v))
+        (among_too (all_accept kss v) (accepts ks v false) (accepts ls v false)
+        (all_accept kss x) (accepts ks x false) (accepts ls x false)
+        (all_accepted v x g b kss kept.1) (kept_accept v x g b ks kept.0) (removed_accept v x g b ls tops.1) h)
+        ((tells (precedence x v)).0 ∙ ap not b.below) in
+        elim (cases_Bool (is_release v)) [
+          | inl r ↦ begins_release g v r past found done
+          | inr r ↦
+              let (s, (admitted, span)) = pick_both (λ s. holds precedence s v && lets_in s v)
+              (λ s. list_all (under v g) (kept_marks s)) ks (first_so _ _ (second_so (all_accept kss v) _ h))
+              (sym (all_flat (under v g) kept_marks ks) ∙ kept.0) in
+              let (w, n) = named_span s v g r admitted span in
+              begins_pre g w v r n.triple n.above past found done
+        ]
+
+-- ---- the least of a list of versions
+
+module _ (set : VersionValue → Bool) where
+  -- ---- what is best so far is in the set, and no version of it that was seen is below
+
+  better_fine : (best : Option VersionValue) (x : VersionValue) → IfSome best (λ b. set b ≡ true)
+      → IfSome (better set best x) (λ b. set b ≡ true)
+  better_fine best x h = grind arith
+
+  fold_fine : (best : Option VersionValue) (xs : List VersionValue) → IfSome best (λ b. set b ≡ true)
+      → IfSome (fold (better set) best xs) (λ b. set b ≡ true)
+  fold_fine best [] h = h
+  fold_fine best (x ∷ xs) h = fold_fine (better set best x) xs (better_fine best x h)
+
+  -- v is reached by the best so far, or by x
+  reaches : (best : Option VersionValue) (x v : VersionValue) → (is_reached best v || (set x && is_le (precedence x v))) ≡ true
+      → is_reached (better set best x) v ≡ true
+  reaches None x v h = grind arith
+  reaches (Some b) x v h =
+      cond_both (not (is_le (precedence b x)) && set x) (Some x) (Some b) (λ o. is_reached o v ≡ true)
+      (λ e. replaced (is_le (precedence b v)) (set x) (is_le (precedence x v)) h
+      (λ k. le_trans precedence_total x b v (le_of_lt (precedence x b) (lt_is precedence_total x b ∙ first_so _ _ e)) k))
+      (λ e. kept (is_le (precedence b v)) (set x) (is_le (precedence x v)) (is_le (precedence b x)) h
+      e (le_trans precedence_total b x v))
+    where
+      replaced : (r s l : Bool) → (r || (s && l)) ≡ true → (r ≡ true → l ≡ true) → l ≡ true
+      replaced r s l h f = grind arith
+
+      kept : (r s l d : Bool) → (r || (s && l)) ≡ true → (not d && s) ≡ false → (d ≡ true → l ≡ true → r ≡ true) → r ≡ true
+      kept r s l d h e f = grind arith
+
+  fold_reaches : (best : Option VersionValue) (xs : List VersionValue) (v : VersionValue)
+      → (is_reached best v || list_any (λ x. set x && is_le (precedence x v)) xs) ≡ true
+      → is_reached (fold (better set) best xs) v ≡ true
+  fold_reaches best [] v h = sym (or-false _) ∙ h
+  fold_reaches best (x ∷ xs) v h =
+      fold_reaches (better set best x) xs v (shift (is_reached best v) (set x && is_le (precedence x v))
+      (list_any (λ x. set x && is_le (precedence x v)) xs) _ h (reaches best x v))
+    where
+      shift : (r a l q : Bool) → (r || (a || l)) ≡ true → ((r || a) ≡ true → q ≡ true) → (q || l) ≡ true
+      shift r a l q h f = grind arith
+
+  -- ---- nothing from w on improves on a best that is not above w
+
+  no_better : (best : Option VersionValue) (w x : VersionValue) → is_reached best w ≡ true → is_le (precedence w x) ≡ true
+      → better set best x ≡ best
+  no_better None w x h k = cc
+  no_better (Some b) w x h k = ap (λ q. if q && set x then Some x else Some b) (ap not (le_trans precedence_total b w x h k))
+
+  reached : (best : Option VersionValue) (w : VersionValue) (s : Bool) → is_reached best w ≡ true
+      → fold (better set) best (firsts (Beside w s)) ≡ best
+  reached best w s h = grind (arith, no_better, by_release, by_pre, release_above)
+    where
+      by_release : (s : Bool) → is_le (precedence w (release_after w s)) ≡ true
+      by_release Near = ap is_le (tied_itself precedence_total w)
+      by_release Far = ap is_le (next_patch_above w)
+
+      by_pre : (s : Bool) → is_release w ≡ false → is_le (precedence w (after_cut w s)) ≡ true
+      by_pre Near k = ap is_le (tied_itself precedence_total w)
+      by_pre Far k = ap is_le (next_pre_above w k)
+
+  pub reached_near : (best : Option VersionValue) (w : VersionValue) → is_reached best w ≡ true
+      → fold (better set) best (firsts (Beside w Near)) ≡ best
+  reached_near best w h = reached best w Near h
+
+  pub reached_far : (best : Option VersionValue) (w : VersionValue) → is_reached best w ≡ true
+      → fold (better set) best (firsts (Beside w Far)) ≡ best
+  reached_far best w h = reached best w Far h
+
+  -- the least version that a list names, where each version of the set has one of the list that is not above it
+  pub least_named : (xs : List VersionValue)
+      → ((v : VersionValue) → set v ≡ true → list_any (λ x. set x && is_le (precedence x v)) xs ≡ true)
+      → IsLeastOf set (least_of set xs)
+  least_named xs f = by_answer (least_of set xs) (fold_fine None xs tt) (λ v h. fold_reaches None xs v (f v h))
+    where
+      by_answer : (r : Option VersionValue) → IfSome r (λ b. set b ≡ true)
+          → ((v : VersionValue) → set v ≡ true → is_reached r v ≡ true) → IsLeastOf set r
+      by_answer r h f = grind arith
+
+-- a set with the same versions has the same least one
+same_least : (p q : VersionValue → Bool) (r : Option VersionValue) → ((v : VersionValue) → p v ≡ q v) → IsLeastOf p r → IsLeastOf q r
+same_least p q r e h = subst (λ (set : VersionValue → Bool). IsLeastOf set r) (λ i v. e v i) h
+
+-- the least candidate of the set is its least version
+pub least_wanted : (kss : List (List (Span VersionValue))) (ls : List (Span VersionValue)) → 0 < length kss
+    → IsLeastOf (wanted kss ls) (least_of (wanted kss ls) (candidates kss ls))
+least_wanted [] ls n = absurd (omega arith)
+least_wanted (ks ∷ kss) ls n =
+    subst (λ (set : VersionValue → Bool). IsLeastOf set (least_of set (candidates (ks ∷ kss) ls)))
+    (λ i v. same (all_accept kss v) (accepts ks v false) (accepts ls v false) i)
+    (least_named (among ks kss ls) (candidates (ks ∷ kss) ls) (candidate ks kss ls))
+  where
+    same : (q a b : Bool) → (q && (a && not b)) ≡ ((a && q) && not b)
+    same q a b = grind arith
+
+-- of no lists it is the least version, and of more the least that all accept and nothing rejects
+pub least_of_none : (lists : List (List (Span VersionValue))) (v : VersionValue) → length lists < 1
+    → v ≡ record (release_value 0 0 0) { pre_release = Numeric 0 ∷ [] } → IsLeastOf (all_accept lists) (Some v)
+least_of_none [] v n e = subst (λ (x : VersionValue). IsLeastOf (all_accept []) (Some x)) (sym e) (refl, λ w h. first_of_all w)
+least_of_none (ks ∷ kss) v n e = absurd (omega arith)
+
+-- of one list it is the least beyond the other
+pub least_of_one : (ks ls : List (Span VersionValue)) (r : Option VersionValue) → IsLeastOf (wanted (ks ∷ []) ls) r
+    → IsLeastOf (beyond ks ls) r
+least_of_one ks ls r h = same_least (wanted (ks ∷ []) ls) (beyond ks ls) r (λ v. ap (λ a. a && not (accepts ls v false)) (and-true _)) h
+
+pub least_of_itself : (ks : List (Span VersionValue)) (r : Option VersionValue) → IsLeastOf (beyond ks []) r
+    → IsLeastOf (λ v. accepts ks v false) r
+least_of_itself ks r h = same_least (beyond ks []) (λ v. accepts ks v false) r (λ v. and-true _) h
+
+-- ---- no candidate has a build
+
+abbrev IsBare : VersionValue → Type 0
+IsBare v = v.build ≡ []
+
+all_bare : (ds : List (Cut VersionValue)) → All IsBare (flat_map firsts ds)
+all_bare [] = All-nil IsBare
+all_bare (d ∷ ds) = grind (arith, All-append, All-from_recursion, all_bare ds)
+
+fold_bare : (set : VersionValue → Bool) (best : Option VersionValue) (xs : List VersionValue) → IfSome best IsBare
+    → All IsBare xs → IfSome (fold (better set) best xs) IsBare
+fold_bare set best [] h e = h
+fold_bare set best (x ∷ xs) h e =
+    fold_bare set (better set best x) xs (cond_both (improves best x && set x) (Some x) best (λ o. IfSome o IsBare)
+    (λ _. All-head IsBare x xs e) (λ _. h)) (All-tail IsBare x xs e)
+
+pub list_bare : (set : VersionValue → Bool) (xs : List VersionValue) (r : Option VersionValue) → All (λ v. v.build ≡ []) xs
+    → r ≡ least_of set xs → IfSome r (λ v. v.build ≡ [])
+list_bare set xs r bare e = subst (λ o. IfSome o IsBare) (sym e) (fold_bare set None xs tt bare)
+
+pub least_bare : (set : VersionValue → Bool) (kss : List (List (Span VersionValue))) (ls : List (Span VersionValue))
+    (r : Option VersionValue) → r ≡ least_of set (candidates kss ls) → IfSome r (λ v. v.build ≡ [])
+least_bare set kss ls r e =
+    list_bare set (candidates kss ls) r (all_bare (Start ∷ (flat_map list_marks kss ++ flat_map removed_marks ls))) e
+
+-- ---- a version with another build is accepted alike
+
+admits_built : (s : Span VersionValue) (v : VersionValue) (b : List Id)
+    → (holds precedence s (record v { build = b }) && lets_in s (record v { build = b })) ≡ (holds precedence s v && lets_in s v)
+admits_built s v b = grind (arith, alike_right, cut_total, precedence_total, lets_in_alike, tied_itself, triple_total)
+
+accepts_built : (ks : List (Span VersionValue)) (v : VersionValue) (b : List Id)
+    → accepts ks (record v { build = b }) false ≡ accepts ks v false
+accepts_built ks v b = any_same _ _ (λ s. admits_built s v b) ks
+
+all_built : (kss : List (List (Span VersionValue))) (v : VersionValue) (b : List Id)
+    → all_accept kss (record v { build = b }) ≡ all_accept kss v
+all_built [] v b = refl
+all_built (ks ∷ kss) v b = ap₂ (λ p q. p && q) (accepts_built ks v b) (all_built kss v b)
+
+improves_bare : (best : Option VersionValue) (w : VersionValue) (kss : List (List (Span VersionValue)))
+    (ls : List (Span VersionValue)) → (improves best (bare w) && wanted kss ls (bare w)) ≡ (improves best w && wanted kss ls w)
+improves_bare best w kss ls = grind (arith, all_built, accepts_built)
+
+pub better_bare : (b : Bool) (best : Option VersionValue) (w : VersionValue) (kss : List (List (Span VersionValue)))
+    (ls : List (Span VersionValue)) → b ≡ (improves best w && wanted kss ls w)
+    → (if b then Some (bare w) else best) ≡ better (wanted kss ls) best (bare w)
+better_bare b best w kss ls e = ap (λ t. if t then Some (bare w) else best) (e ∙ sym (improves_bare best w kss ls))
+
+-- the least beyond nothing is the least that is accepted, whatever its build
+pub least_accepted : (ks : List (Span VersionValue)) (v : VersionValue) (b : List Id) → IsLeastOf (beyond ks []) (Some v)
+    → IsLeastOf (λ w. accepts ks w false) (Some (record v { build = b }))
+least_accepted ks v b h = (accepts_built ks v b ∙ sym (and-true _) ∙ h.0, λ w e. h.1 w (and-true _ ∙ e))
+
+-- the version with which the span begins that is found, if one is
+abbrev first_of : Option (Span VersionValue) → Option VersionValue
+first_of found = option_and_then (λ s. begins_with s.lower) found
+
+find_same : {X : Type 0} (p q : X → Bool) (xs : List X) → ((x : X) → p x ≡ q x) → find p xs ≡ find q xs
+find_same p q xs f = λ i. find (λ x. f x i) xs
+
+pub least_build_built : (ks : List (Span VersionValue)) (v : VersionValue) (b : List Id)
+    → least_build ks (record v { build = b }) ≡ least_build ks v
+least_build_built ks v b = grind (arith, find_same, admits_built)
+
+-- ---- no build comes from a bound that has none
+
+no_build : (b : Bound VersionValue) (v : VersionValue) → has_build b ≡ false → build_by (begins_with b) v ≡ []
+no_build b v h = grind arith
+
+pub unbuilt_stays : (ss : List (Span VersionValue)) (v : VersionValue) → v.build ≡ []
+    → list_any (λ s. has_build s.lower) ss ≡ false → v ≡ record v { build = least_build ss v }
+unbuilt_stays ss v bare h = ap (λ b. record v { build = b }) (bare ∙ sym (unbuilt ss h))
+  where
+    unbuilt : (ss : List (Span VersionValue)) → list_any (λ s. has_build s.lower) ss ≡ false → least_build ss v ≡ []
+    unbuilt [] h = refl
+    unbuilt (s ∷ ss) h =
+        let (here, there) = or_parts (has_build s.lower) (list_any (λ s. has_build s.lower) ss) h in
+        cond_both (holds precedence s v && lets_in s v) (Some s) (find (λ s. holds precedence s v && lets_in s v) ss)
+        (λ o. build_by (first_of o) v ≡ []) (λ _. no_build s.lower v here) (λ _. unbuilt ss there)
+
+-- ---- the least version that spans hold, the first past one of their lower cuts
+
+-- the first version past a lower cut is past it, and not above any that is
+past_lower : (b : Bound VersionValue) → is_past precedence (lower_cut b) (first_past b) ≡ true
+past_lower Unbounded = refl
+past_lower (Before w) = past_near w w (tied_itself precedence_total w)
+past_lower (After w) = by_kind (is_release w) refl
+  where
+    by_kind : (r : Bool) → is_release w ≡ r
+        → is_past precedence (Beside w Far) (if r then first_pre (patch_after w) else pre_after w) ≡ true
+    by_kind r k = grind (arith, past_less, above_patch, next_pre_above)
+
+least_past : (b : Bound VersionValue) (v : VersionValue) → is_past precedence (lower_cut b) v ≡ true
+    → is_gt (precedence (first_past b) v) ≡ false
+least_past Unbounded v h = le_not_gt _ (first_of_all v)
+least_past (Before w) v h = past_order w v Near h
+least_past (After w) v h = by_kind (is_release w) refl
+  where
+    by_kind : (r : Bool) → is_release w ≡ r → is_gt (precedence (if r then first_pre (patch_after w) else pre_after w) v) ≡ false
+    by_kind r k = grind (arith, le_not_gt, least_after_release, empty_is, far_less, next_pre_least)
+
+-- the first version past the lower cut of a span that holds v is held as well
+held : (a b c d : Bool) → c ≡ true → (d ≡ true → b ≡ true) → (a && not b) ≡ true → (c && not d) ≡ true
+held a b c d e f h = grind arith
+
+least_in : (s : Span VersionValue) (v : VersionValue) → holds precedence s v ≡ true
+    → is_gt (precedence (first_past s.lower) v) ≡ false
+least_in s v h = least_past s.lower v
+    (first_so (is_past precedence (lower_cut s.lower) v) (not (is_past precedence (upper_cut s.upper) v)) h)
+
+first_held : (s : Span VersionValue) (v : VersionValue) → holds precedence s v ≡ true
+    → holds precedence s (first_past s.lower) ≡ true
+first_held s v h =
+    held (is_past precedence (lower_cut s.lower) v) (is_past precedence (upper_cut s.upper) v)
+    (is_past precedence (lower_cut s.lower) (first_past s.lower)) (is_past precedence (upper_cut s.upper) (first_past s.lower))
+    (past_lower s.lower) (past_up v (first_past s.lower) (least_in s v h) (upper_cut s.upper))
+    h
+
+abbrev pub firsts_past : List (Span VersionValue) → List VersionValue
+firsts_past ss = map (λ s. first_past s.lower) ss
+
+-- whatever the spans hold, a first version that is not above it is in every set that has what they hold
+held_candidate : (set : VersionValue → Bool) (ss : List (Span VersionValue)) (v : VersionValue)
+    → ((x : VersionValue) → accepts ss x true ≡ true → set x ≡ true) → accepts ss v true ≡ true
+    → list_any (λ x. set x && is_le (precedence x v)) (firsts_past ss) ≡ true
+held_candidate set [] v f h = cc
+held_candidate set (s ∷ ss) v f h = elim (or_cases (holds precedence s v && true) (accepts ss v true) h) [
+  | inl k ↦
+      let x = first_past s.lower in
+      let held_v = first_so (holds precedence s v) true k in
+      or_left (set x && is_le (precedence x v)) _ (and_from (set x) (is_le (precedence x v))
+      (f x (or_left (holds precedence s x && true) (accepts ss x true) (ap (λ q. q && true) (first_held s v held_v))))
+      ((tells (precedence x v)).0 ∙ ap not (least_in s v held_v)))
+  | inr k ↦
+      or_right (set (first_past s.lower) && is_le (precedence (first_past s.lower) v)) _
+      (held_candidate set ss v (λ x e. f x (or_right (holds precedence s x && true) (accepts ss x true) e)) k)
+]
+
+-- the least first version that is held is the least version that is held, and it has no build
+pub least_held : (ss : List (Span VersionValue))
+    → IsLeastOf (λ v. accepts ss v true) (least_of (λ v. accepts ss v true) (firsts_past ss))
+least_held ss = least_named (λ v. accepts ss v true) (firsts_past ss)
+    (λ v h. held_candidate (λ v. accepts ss v true) ss v (λ x e. e) h)
+
+past_bare : (b : Bound VersionValue) → (first_past b).build ≡ []
+past_bare b = grind arith
+
+bare_firsts : (ss : List (Span VersionValue)) → All (λ v. v.build ≡ []) (firsts_past ss)
+bare_firsts [] = All-nil (λ v. v.build ≡ [])
+bare_firsts (s ∷ ss) = All-cons (λ v. v.build ≡ []) (first_past s.lower) (firsts_past ss) (past_bare s.lower) (bare_firsts ss)
+
+pub held_bare : (ss : List (Span VersionValue)) (r : Option VersionValue) → r ≡ least_of (λ v. accepts ss v true) (firsts_past ss)
+    → IfSome r (λ v. v.build ≡ [])
+held_bare ss r e = list_bare (λ v. accepts ss v true) (firsts_past ss) r (bare_firsts ss) e
+
+-- a version without its build improves on the best so far, and is held, as it does and is with it
+pub improves_held : (best : Option VersionValue) (w : VersionValue) (ss : List (Span VersionValue))
+    → (improves best (bare w) && accepts ss (bare w) true) ≡ (improves best w && accepts ss w true)
+improves_held best w ss = grind (arith, held_built)
+  where
+    one_built : (s : Span VersionValue) → (holds precedence s (bare w) && true) ≡ (holds precedence s w && true)
+    one_built s = grind (arith, alike_right, cut_total, precedence_total, tied_itself, triple_total)
+
+    held_built : accepts ss (bare w) true ≡ accepts ss w true
+    held_built = any_same _ _ one_built ss
+
+-- ---- the build of a least version, that of the lower bound from which it comes
+
+-- the first that passes is found behind those that do not
+found : {X : Type 0} (p : X → Bool) (front : List X) (x : X) (back : List X) → list_any p front ≡ false → p x ≡ true
+    → find p (front ++ x ∷ back) ≡ Some x
+found p [] x back none h = rw h refl
+found p (y ∷ front) x back none h = grind (arith, found p front x back)
+
+first : (front back : List (Span VersionValue)) (s : Span VersionValue) (v : VersionValue) → accepts front v false ≡ false
+    → accepts (s ∷ []) v false ≡ true → least_build (front ++ s ∷ back) v ≡ build_by (begins_with s.lower) v
+first front back s v none one =
+    let passes : Span VersionValue → Bool = λ t. holds precedence t v && lets_in t v in
+    let is : find passes (front ++ s ∷ back) ≡ Some s = found passes front s back none (sym (or-false (passes s)) ∙ one) in
+    ap (λ o. build_by (option_and_then (λ t. begins_with t.lower) o) v) is
+
+pub build_of_bound : (front back : List (Span VersionValue)) (s : Span VersionValue) (v x : VersionValue)
+    → accepts front v false ≡ false → accepts (s ∷ []) v false ≡ true → begins_with s.lower ≡ Some x
+    → version_eq x v ≡ true → least_build (front ++ s ∷ back) v ≡ x.build
+build_of_bound front back s v x none one begins tie =
+    first front back s v none one ∙ (ap (λ o. build_by o v) begins ∙ rw tie refl)
+
+pub build_of_none : (front back : List (Span VersionValue)) (s : Span VersionValue) (v : VersionValue)
+    → accepts front v false ≡ false → accepts (s ∷ []) v false ≡ true
+    → ((x : VersionValue) → begins_with s.lower ≡ Some x → version_eq x v ≡ false) → least_build (front ++ s ∷ back) v ≡ []
+build_of_none front back s v none one other = first front back s v none one ∙ begun (begins_with s.lower) refl
+  where
+    begun : (o : Option VersionValue) → begins_with s.lower ≡ o → build_by o v ≡ []
+    begun None e = refl
+    begun (Some x) e = rw (other x e) refl
