@@ -106,3 +106,22 @@ pub use Rattle.std.proofs.lemmas.Result.{IfOk-weaker, on_ok_weaker}
 pub use Rattle.std.specs.List.{Contains, join_by}
 pub use Rattle.std.specs.Ordering.{bool_cmp, is_ge, nat_cmp, on, ordering_reverse, ordering_then, then_cmp}
 pub use Rattle.std.specs.Prelude.{filter_map, ⊤}
+-- words of readers
+pub use Rattle.nodejs_semver.specs.Internal.CommonFronts.{begins_second, is_sign, passed, pushed, word_read}
+unfoldable pub use Rattle.nodejs_semver.specs.Internal.CommonFronts.{comparison_front, comparisons_front}
+unfoldable pub use Rattle.nodejs_semver.specs.Internal.Fronts.{component_front}
+pub use Rattle.nodejs_semver.specs.Internal.Meets.{joined, next_at}
+unfoldable pub use Rattle.nodejs_semver.specs.Internal.Meets.{joined_from}
+unfoldable pub use Rattle.nodejs_semver.specs.Internal.Parts.{cut_bars}
+unfoldable pub use Rattle.nodejs_semver.specs.Internal.RunsFrom.{runs_from}
+pub use Rattle.nodejs_semver.specs.Text.Bars.{has_bars, is_bar, more_pieces, one_piece}
+pub use Rattle.semver_core.proofs.Text.Trims.{after_blank-place, drop_spaces-blank, middle_is_trim, trim_is_middle}
+unfoldable pub use Rattle.semver_core.specs.Internal.Spaces.{after_spaces, drop_end_spaces}
+pub use Rattle.semver_core.specs.Text.Characters.{IsAfterBlank, IsPieceAt, NoPieceAt, is_identifier_char}
+pub use Rattle.semver_core.specs.Text.Numbers.{IsNumber, IsWholeNumber}
+pub use Rattle.std.proofs.Common.{IsCharBoundary, IsSomeAnd, OnOk, decimal, encode_utf8_all, eqb, length-take-le, lit≤, nat_lt}
+pub use Rattle.std.proofs.Common.{◌*◌}
+pub use Rattle.std.proofs.lemmas.Bool.{and_right, cases_lt, le-ltb, lt-ltb}
+pub use Rattle.std.proofs.lemmas.List.{drop_all, drop_more}
+pub use Rattle.std.proofs.lemmas.Str.{IsCharBoundary-before_ascii, IsUtf8-take, encodes-append, len_utf8_bounds, length-encode}
+pub use Rattle.std.specs.List.{filter, onto_first, prefix_len}

@@ -2,9 +2,4 @@ pub mod BarLemmas
 pub mod BarsDivide
 pub mod RunLemmas
 pub mod RunsDivide
-pub mod RunsUnique
-pub mod MeetLemmas
 pub mod MeaningLaw
-pub mod PartSteps
-pub mod Trimmed
-pub mod WrittenLaw

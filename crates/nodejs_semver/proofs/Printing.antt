@@ -7,7 +7,7 @@ use Rattle.semver_core.specs.Printing.Text.{marked_list, version_text}
 use Rattle.semver_core.specs.Values.Versions.{VersionValue}
 use Rattle.semver_core.proofs.Printing.Returns.{build_back, number_back, pre_back}
 use Rattle.nodejs_semver.specs.Text.PartialText.{AreComponents, Partial, number, three}
-use Rattle.nodejs_semver.proofs.Reading.Quiet.{quiet-before}
+use Rattle.nodejs_semver.proofs.Reading.Bytes.{quiet-before}
 use Rattle.nodejs_semver.proofs.Common.{◌≡◌, ◌<◌, ◌||◌, ℕ, true, List, [], ◌∷◌, ◌++◌, refl, inl, inr, Some, cases_Bool, Span}
 use Rattle.nodejs_semver.proofs.Common.{is_interval, meet, precedence, precedence_total, VersionValue, Bound, Unbounded, Before}
 use Rattle.nodejs_semver.proofs.Common.{After, table}

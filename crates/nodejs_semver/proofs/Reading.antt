@@ -2,11 +2,5 @@ pub mod Steps
 pub mod Bytes
 pub mod Numbers
 pub mod IdentifierLists
-pub mod Boundaries
-pub mod Quiet
-pub mod Qualifiers
-pub mod Components
-pub mod Progress
 pub mod PartialLaw
 pub mod WordLaw
-pub mod SignLaw

@@ -1,31 +1,28 @@
 -- Where the reader of numbers stops, the text is wrong there and has no version.
 use Rattle.nodejs_semver.proofs.Common.{◌≡◌, ◌<◌, ◌≤◌, ◌+◌, ◌-◌, ℕ, zero, suc, List, [], ◌∷◌, ◌++◌, length, drop, take, refl, sym}
-use Rattle.nodejs_semver.proofs.Common.{ap, ◌∙◌, subst, arith, true, false, Some, append_assoc, length-append, IsUtf8, Option, None}
-use Rattle.nodejs_semver.proofs.Common.{IfSome, get_or, inl, inr, is_ascii_digit, list_all, and_parts, cases_Bool, eqb-true}
-use Rattle.nodejs_semver.proofs.Common.{nat_tests, take_rest, list_len, space_len, begins, Id, VersionValue}
-use Rattle.std.proofs.Common.{◌*◌, eqb, length-drop, ◌==◌, ◌↔◌, slice_range, MatchOption}
-use Rattle.std.specs.Char.{digit_value, encode_utf8}
+use Rattle.nodejs_semver.proofs.Common.{ap, ◌∙◌, subst, arith, true, false, Some, append_assoc, length-append, IsUtf8, Option}
+use Rattle.nodejs_semver.proofs.Common.{None, IfSome, get_or, inl, inr, is_ascii_digit, list_all, and_parts, cases_Bool, eqb-true}
+use Rattle.nodejs_semver.proofs.Common.{nat_tests, take_rest, list_len, space_len, begins, Id, VersionValue, ◌==◌, ◌↔◌}
+use Rattle.nodejs_semver.proofs.Common.{encode_utf8, begins_identifier, ◌*◌, eqb, drop_all, drop_more, IsAfterBlank, IsNumber}
+use Rattle.std.proofs.Common.{length-drop, slice_range, MatchOption}
+use Rattle.std.specs.Char.{digit_value}
 use Rattle.std.specs.Str.Parse.{digits_value, digits_value_after}
-use Rattle.std.proofs.lemmas.List.{take-append-drop, drop-drop, drop_all, drop_more}
+use Rattle.std.proofs.lemmas.List.{take-append-drop, drop-drop}
 use Rattle.std.proofs.Math.Seq.{take-add, take-append_seam}
 use Rattle.semver_core.specs.Failures.{NoValue}
 use Rattle.semver_core.specs.Internal.Reading.{mark_len, triple_at, pre_release_at, build_at, list_at, or_nothing, qualified}
-use Rattle.nodejs_semver.specs.Internal.Fronts.{begins_byte, begins_identifier, build_front, marked_list, pre_release_front}
-use Rattle.semver_core.specs.Text.Characters.{IsAfterBlank}
-use Rattle.semver_core.specs.Text.Numbers.{IsNumber}
 use Rattle.semver_core.specs.Text.VersionText.{Reads}
 use Rattle.semver_core.specs.declared.TheConstants.{MAX_LENGTH}
 use Rattle.semver_core.proofs.Text.Pieces.{digits_grow, some_inside}
 use Rattle.semver_core.proofs.Text.Texts.{build_complete, divided_at, mark_is, number_begins, pre_complete, triple_complete}
 use Rattle.semver_core.proofs.Text.Trims.{after_blank_drops_spaces}
-use Rattle.nodejs_semver.proofs.Reading.Progress.{spaces-gone}
+use Rattle.nodejs_semver.specs.Internal.Fronts.{begins_byte, build_front, marked_list, pre_release_front}
 use Rattle.nodejs_semver.specs.Diagnosis.VersionFlaws.{IsExact, IsExpectedAt, IsFlaw, IsFront, IsGreatAt}
 use Rattle.nodejs_semver.specs.Internal.Stuck.{BeginsGreat, Stuck, begins_dot, at_great, at_digit, at_dot, later, IsWhole}
-use Rattle.nodejs_semver.proofs.Diagnosing.Numbers.{digits_once}
-use Rattle.nodejs_semver.proofs.Diagnosing.OneFlaw.{only_flaw}
-use Rattle.nodejs_semver.proofs.Diagnosing.Fronts.{Numeral, HasTail, Leads, Numbers, Place, begins_alike, first_numeral, lead_place}
-use Rattle.nodejs_semver.proofs.Diagnosing.Fronts.{next_place, numeral_begins, numeral_once}
 use Rattle.nodejs_semver.specs.declared.diagnosis.versions.VersionFlaw.{VersionFlaw}
+use Rattle.nodejs_semver.proofs.Reading.PartialLaw.{spaces-gone}
+use Rattle.nodejs_semver.proofs.Diagnosing.OneFlaw.{digits_once, only_flaw, Numeral, HasTail, Leads, Numbers, Place, begins_alike}
+use Rattle.nodejs_semver.proofs.Diagnosing.OneFlaw.{first_numeral, lead_place, next_place, numeral_begins, numeral_once}
 use Rattle.nodejs_semver.specs.declared.diagnosis.versions.VersionFlaw.TheVariants as Flaw
 
 -- so many dots and zeros

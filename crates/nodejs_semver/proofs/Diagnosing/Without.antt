@@ -1,13 +1,12 @@
 -- A range text means what its words mean that are not ignored.
 use Rattle.nodejs_semver.proofs.Common.{◌≡◌, ◌↔◌, ℕ, List, [], ◌∷◌, ◌++◌, ap, ◌∙◌, arith, refl, sym, true, false, IsUtf8}
-use Rattle.nodejs_semver.proofs.Common.{AllByRecursion, IsCutAtBars, Run, Span, VersionValue, Word, flat_map, inl, inr, interval_of}
-use Rattle.nodejs_semver.proofs.Common.{is_empty, is_some, list_all, map, precedence, run_items, table, trim, cases_Bool, IsBlank}
-use Rattle.nodejs_semver.proofs.Common.{denotes, part_bounds, part_denotes, words, Means}
+use Rattle.nodejs_semver.proofs.Common.{AllByRecursion, IsCutAtBars, Run, Span, VersionValue, Word, flat_map, inl, inr}
+use Rattle.nodejs_semver.proofs.Common.{interval_of, is_empty, is_some, list_all, map, precedence, run_items, table, trim}
+use Rattle.nodejs_semver.proofs.Common.{cases_Bool, IsBlank, denotes, part_bounds, part_denotes, words, Means, filter}
+use Rattle.nodejs_semver.proofs.Common.{middle_is_trim, more_pieces, one_piece}
 use Rattle.std.specs.Prelude.{filter_map, is_none}
-use Rattle.std.specs.List.{AllZip, filter}
-use Rattle.semver_core.proofs.Text.Trims.{middle_is_trim}
+use Rattle.std.specs.List.{AllZip}
 use Rattle.nodejs_semver.specs.Diagnosis.IgnoredWords.{AreAlike, IsWhollyIgnored, ignored_as}
-use Rattle.nodejs_semver.specs.Text.Bars.{more_pieces, one_piece}
 use Rattle.nodejs_semver.specs.Text.Meaning.{AreAllIntervals, AreWords, HasRuns, HasWords, all_intervals, blank_piece}
 use Rattle.nodejs_semver.specs.Text.Meaning.{every_version, next_piece, next_word, no_piece, no_word}
 use Rattle.nodejs_semver.proofs.Dividing.BarsDivide.{bars_once}

@@ -1,14 +1,10 @@
 -- The parts of a text, cut at its bars.
 use Rattle.nodejs_semver.proofs.Common.{begins, ◌≡◌, ℕ, suc, ◌<◌, ◌≤◌, ◌+◌, List, [], ◌∷◌, length, drop, get_or, refl, arith}
 use Rattle.nodejs_semver.proofs.Common.{true, false, Some, None, inl, inr, subst, Option, IsUtf8, eqb-true, cases_Bool}
-use Rattle.nodejs_semver.proofs.Common.{IsCharBoundary-after_ascii, trim, second_so}
-use Rattle.std.proofs.Common.{nat_lt, IsCharBoundary}
-use Rattle.std.proofs.lemmas.Bool.{cases_lt, lt-ltb, le-ltb}
-use Rattle.std.proofs.lemmas.Str.{IsCharBoundary-before_ascii}
-use Rattle.std.proofs.lemmas.List.{drop_more, get_or-drop}
-use Rattle.nodejs_semver.specs.Internal.Parts.{cut_bars, parts}
-use Rattle.nodejs_semver.specs.Text.Bars.{is_bar}
-use Rattle.nodejs_semver.specs.Internal.PartFronts.{bars_at, begins_bars, front_part, later_parts}
+use Rattle.nodejs_semver.proofs.Common.{IsCharBoundary-after_ascii, trim, second_so, parts, later_parts, nat_lt, IsCharBoundary}
+use Rattle.nodejs_semver.proofs.Common.{cases_lt, lt-ltb, le-ltb, IsCharBoundary-before_ascii, drop_more, cut_bars, is_bar}
+use Rattle.std.proofs.lemmas.List.{get_or-drop}
+use Rattle.nodejs_semver.specs.Internal.PartFronts.{bars_at, begins_bars, front_part}
 
 pub bars_fit : (text : List ℕ) → bars_at text ≤ length text
 unfolding bars_at

@@ -1,10 +1,8 @@
 -- For proofs. A text has one division at its bars, which is the one that `cut_bars` computes.
 use Rattle.nodejs_semver.proofs.Common.{begins, ends, and-true, ◌≡◌, ℕ, List, [], ◌∷◌, ◌++◌, refl, sym, ◌∙◌, inl, inr, true}
-use Rattle.nodejs_semver.proofs.Common.{false, subst, ◌&&◌, arith, and_parts, cases_Bool, eqb-true, IsCutAtBars}
-use Rattle.std.specs.List.{onto_first}
-use Rattle.std.proofs.lemmas.Bool.{and_right, or_from}
-use Rattle.nodejs_semver.specs.Internal.Parts.{cut_bars}
-use Rattle.nodejs_semver.specs.Text.Bars.{is_bar, has_bars, more_pieces, one_piece}
+use Rattle.nodejs_semver.proofs.Common.{false, subst, ◌&&◌, arith, and_parts, cases_Bool, eqb-true, IsCutAtBars, onto_first}
+use Rattle.nodejs_semver.proofs.Common.{and_right, cut_bars, is_bar, has_bars, more_pieces, one_piece}
+use Rattle.std.proofs.lemmas.Bool.{or_from}
 
 -- ---- no other division
 

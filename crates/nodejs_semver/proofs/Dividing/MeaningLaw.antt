@@ -1,29 +1,32 @@
--- What a text denotes is its one meaning.
-use Rattle.nodejs_semver.proofs.Common.{◌≡◌, ℕ, zero, suc, ◌<◌, ◌≤◌, List, [], ◌∷◌, ◌++◌, length, get_or, refl, sym, ap, ◌∙◌, arith}
-use Rattle.nodejs_semver.proofs.Common.{true, false, inl, inr, subst, append-nil, length-append, ◌↔◌, IfSome, IsTrue, IsUtf8}
-use Rattle.nodejs_semver.proofs.Common.{Option, map, flat_map, ◌⊎◌, AllByRecursion, list_all, list_any, cases_Bool, and_from}
-use Rattle.nodejs_semver.proofs.Common.{list_all-append, IsUtf8-drop, IsCharBoundary-after_ascii, IsTrim, is_whitespace, Span}
-use Rattle.nodejs_semver.proofs.Common.{precedence, drop_spaces, space_len, trim, is_empty, if_any, VersionValue, IsCutAtBars, Run}
-use Rattle.nodejs_semver.proofs.Common.{table, Word, Failure, IsBlank, denotes, part_bounds, part_denotes, part_intervals, parts}
-use Rattle.nodejs_semver.proofs.Common.{Means, runs_of, words}
-use Rattle.std.proofs.Common.{IfNone, IsSomeAnd, encode_utf8_all, filter_map, encode_utf8, take_at, drop_at, Result}
-use Rattle.semver_core.specs.Failures.{MemoryOnlyIf}
+-- What a text denotes is its one meaning, and the versions that are computed of it are those that it writes.
+use Rattle.nodejs_semver.proofs.Common.{◌≡◌, ℕ, zero, suc, ◌<◌, ◌≤◌, List, [], ◌∷◌, ◌++◌, length, get_or, refl, sym, ap, ◌∙◌}
+use Rattle.nodejs_semver.proofs.Common.{arith, true, false, inl, inr, subst, append-nil, length-append, ◌↔◌, IfSome, IsTrue}
+use Rattle.nodejs_semver.proofs.Common.{IsUtf8, Option, map, flat_map, ◌⊎◌, AllByRecursion, list_all, list_any, cases_Bool}
+use Rattle.nodejs_semver.proofs.Common.{and_from, list_all-append, IsUtf8-drop, IsCharBoundary-after_ascii, IsTrim, is_whitespace}
+use Rattle.nodejs_semver.proofs.Common.{Span, precedence, drop_spaces, space_len, trim, is_empty, if_any, VersionValue}
+use Rattle.nodejs_semver.proofs.Common.{IsCutAtBars, Run, table, Word, Failure, IsBlank, denotes, part_bounds, part_denotes}
+use Rattle.nodejs_semver.proofs.Common.{part_intervals, parts, Means, runs_of, words, encode_utf8, take_at, drop_at, Bool}
+use Rattle.nodejs_semver.proofs.Common.{or_right, list_holds, accepts, run_writes, Any, IsSomeAnd, encode_utf8_all, IsUtf8-take}
+use Rattle.nodejs_semver.proofs.Common.{IsCharBoundary-before_ascii, len_utf8_bounds, length-encode, middle_is_trim}
+use Rattle.nodejs_semver.proofs.Common.{trim_is_middle, cut_bars, more_pieces, one_piece}
+use Rattle.std.proofs.Common.{IfNone, filter_map, Result}
 use Rattle.std.proofs.lemmas.Bool.{false_from_ne_true}
-use Rattle.std.proofs.lemmas.Str.{IsUtf8-take, IsCharBoundary-before_ascii, len_utf8_bounds, length-encode}
-use Rattle.semver_core.proofs.Text.Trims.{middle_is_trim, trim_is_middle, trim_parts}
-use Rattle.nodejs_semver.specs.Internal.Parts.{cut_bars}
-use Rattle.nodejs_semver.specs.Text.Bars.{more_pieces, one_piece}
+use Rattle.std.proofs.lemmas.List.Folds.{Any-from_list_any, list_any-from_Any}
+use Rattle.semver_core.specs.Failures.{MemoryOnlyIf}
+use Rattle.semver_core.proofs.Text.Trims.{trim_parts}
 use Rattle.nodejs_semver.specs.Text.Meaning.{AreAllIntervals, AreWords, HasRuns, IsBlankText, all_intervals, blank_piece}
 use Rattle.nodejs_semver.specs.Text.Meaning.{every_version, next_piece, next_word, no_piece, no_word}
 use Rattle.nodejs_semver.specs.Internal.Words.{word_at}
-use Rattle.nodejs_semver.proofs.Algebra.FlatMaps.{empty_is}
+use Rattle.nodejs_semver.specs.Internal.Writes.{part_writes, writes}
+use Rattle.nodejs_semver.specs.Text.WrittenSet.{Writes}
+use Rattle.nodejs_semver.proofs.Algebra.FlatMaps.{empty_is, list_any-map}
 use Rattle.nodejs_semver.proofs.Dividing.BarsDivide.{bars_divide, bars_once}
-use Rattle.nodejs_semver.proofs.Dividing.PartSteps.{words-none}
-use Rattle.nodejs_semver.proofs.Reading.Progress.{spaces-gone, spaces-le, word-shorter, words-step}
-use Rattle.nodejs_semver.proofs.Dividing.RunsDivide.{part_divides}
-use Rattle.nodejs_semver.proofs.Dividing.RunsUnique.{runs_are}
-use Rattle.nodejs_semver.proofs.Dividing.Trimmed.{trim-starts}
+use Rattle.nodejs_semver.proofs.Dividing.RunsDivide.{words-none, part_divides, runs_are}
+use Rattle.nodejs_semver.proofs.Reading.PartialLaw.{spaces-gone, spaces-le, word-shorter, words-step}
+use Rattle.nodejs_semver.proofs.Reading.Bytes.{trim-starts}
 use Rattle.nodejs_semver.proofs.Reading.WordLaw.{skips-is, skips-of, skips-utf8, trim-utf8, word-utf8, words_are}
+use Rattle.nodejs_semver.proofs.Algebra.Accepting.{accepts-held}
+use Rattle.nodejs_semver.proofs.Algebra.Holds.{denotes_hold}
 
 -- ---- the words of a part
 
@@ -233,3 +236,62 @@ filled_text text u h = false_from_ne_true _ (λ blank. h ((blank_text text u).0 
 pub filled_denotes : (limit : ℕ) (text : List ℕ) (ps : List (List ℕ)) → IsUtf8 text → (IsBlankText text → ⊥) → ps ≡ parts text
     → flat_map (part_denotes limit) ps ≡ denotes limit text
 filled_denotes limit text ps u h e = rw (e, filled_text text u h) refl
+
+-- ---- what is computed of the versions that a text writes is what it writes
+
+piece-at : (pieces : List (List ℕ)) → AllByRecursion IsUtf8 pieces → (k : ℕ) (d : List ℕ) → k < length pieces
+    → IsUtf8 (get_or pieces k d)
+piece-at [] u k d h = absurd (omega arith)
+piece-at (piece ∷ pieces) u zero d h = u.0
+piece-at (piece ∷ pieces) u (suc k) d h = piece-at pieces u.1 k d (omega arith)
+
+-- what stands between bars writes the version
+abbrev PieceWrites : ℕ → VersionValue → List ℕ → Type 0
+PieceWrites limit v piece = IsBlank piece ⊎ ((rs : List (Run VersionValue)) × HasRuns limit piece rs
+    × (list_any (run_writes precedence v) rs ≡ true))
+
+-- one piece
+piece-writes : (limit : ℕ) (v : VersionValue) (piece : List ℕ) → IsUtf8 piece → part_writes limit v (trim piece) ≡ true
+    → PieceWrites limit v piece
+piece-writes limit v piece u h = elim (cases_Bool (is_empty (trim piece))) [
+  | inl empty ↦ inl (empty-blank piece u empty)
+  | inr some ↦ inr (runs_of precedence (part_bounds limit (trim piece)), has-runs limit piece u, rw some at h)
+]
+
+piece-written : (limit : ℕ) (v : VersionValue) (piece : List ℕ) → IsUtf8 piece → PieceWrites limit v piece
+    → part_writes limit v (trim piece) ≡ true
+piece-written limit v piece u (inl blank) = grind (arith, blank-empty)
+piece-written limit v piece u (inr (runs, has, some)) =
+    or_right (is_empty (trim piece)) _
+    (ap (λ (rs : List (Run VersionValue)). list_any (run_writes precedence v) rs) (sym (runs-once limit piece runs u has))
+    ∙ some)
+
+pub written : (limit : ℕ) (text : List ℕ) (v : VersionValue) → IsUtf8 text → (writes limit text v ≡ true) ↔ Writes limit text v
+unfolding Writes
+written limit text v u = (
+  λ h. let some = Any-from_list_any test here (sym (list_any-map (part_writes limit v) trim here) ∙ h) in (
+    here,
+    bars_divide text,
+    (some.0, some.1, some.2, some.3, piece-writes limit v some.1 (at here (bars_divide text) some) some.4),
+  ),
+  λ w. ap (λ (ps : List (List ℕ)). list_any (part_writes limit v) (map trim ps)) (sym (bars_once text w.0 w.1))
+      ∙ list_any-map (part_writes limit v) trim w.0
+      ∙ list_any-from_Any test w.0 (w.2.0, w.2.1, w.2.2, w.2.3, piece-written limit v w.2.1 (at w.0 w.1 w.2) w.2.4),
+)
+  where
+    here : List (List ℕ)
+    here = cut_bars false text
+
+    test : List ℕ → Bool
+    test piece = part_writes limit v (trim piece)
+
+    at : {P : List ℕ → Type 0} (pieces : List (List ℕ)) → IsCutAtBars text pieces → (h : Any P pieces) → IsUtf8 h.1
+    at pieces cut h = subst IsUtf8 h.3 (piece-at pieces (pieces-utf8 text pieces cut u) h.0 h.1 h.2)
+
+-- with pre-releases included, the intervals that a text means accept what it writes
+pub accepted_written : (limit : ℕ) (text : List ℕ) (list : List (Span VersionValue)) → IsUtf8 text → list ≡ denotes limit text
+    → (v : VersionValue) → IsTrue (accepts list v true) ↔ Writes limit text v
+accepted_written limit text list u h v =
+    let same : accepts list v true ≡ writes limit text v =
+    accepts-held list v ∙ ap (λ (l : List (Span VersionValue)). list_holds precedence l v) h ∙ denotes_hold limit text v in
+    let law = written limit text v u in (λ e. law.0 (sym same ∙ e), λ w. same ∙ law.1 w)

@@ -1,14 +1,17 @@
--- What is made from the left is a division into runs.
-use Rattle.nodejs_semver.proofs.Common.{◌≡◌, ℕ, List, [], ◌∷◌, ◌++◌, refl, sym, ap, ◌∙◌, inl, inr, true, false, Bool, append_assoc}
-use Rattle.nodejs_semver.proofs.Common.{subst, Some, flat_map, Option, Ordering, arith, AllByRecursion, list_all, and_parts}
-use Rattle.nodejs_semver.proofs.Common.{cases_Bool, Span, is_interval, precedence, table, Run, fits, run_items, part_bounds, words}
-use Rattle.nodejs_semver.proofs.Common.{runs_of, longer}
+-- A part has one division into runs, and it is the one that is made from the left.
+use Rattle.nodejs_semver.proofs.Common.{◌≡◌, ℕ, List, [], ◌∷◌, ◌++◌, refl, sym, ap, ◌∙◌, inl, inr, true, false, Bool}
+use Rattle.nodejs_semver.proofs.Common.{append_assoc, subst, Some, flat_map, Option, Ordering, arith, AllByRecursion, list_all}
+use Rattle.nodejs_semver.proofs.Common.{and_parts, cases_Bool, Span, is_interval, precedence, table, Run, fits, run_items}
+use Rattle.nodejs_semver.proofs.Common.{part_bounds, words, runs_of, longer, append-nil, IsTotalOrder, precedence_total}
+use Rattle.nodejs_semver.proofs.Common.{VersionValue, ◌<◌, length, None, length-append, option_to_list, meet, space_len}
+use Rattle.nodejs_semver.proofs.Common.{part_intervals, runs_from, joined, joined_from, next_at}
 use Rattle.std.proofs.Common.{filter_map}
 use Rattle.std.specs.List.{cons_option}
 use Rattle.nodejs_semver.specs.Text.Runs.{AreLongest, AreRuns}
-use Rattle.nodejs_semver.specs.Internal.RunsFrom.{runs_from}
-use Rattle.nodejs_semver.proofs.Dividing.MeetLemmas.{runs-goes, runs-stops}
+use Rattle.nodejs_semver.specs.Internal.Words.{words_within}
+use Rattle.nodejs_semver.proofs.Dividing.RunLemmas.{runs-goes, runs-stops, fits-shrinks, joined-goes, joined-stops, runs-joined}
 use Rattle.nodejs_semver.proofs.Bounds.TableRows.{table-interval}
+use Rattle.nodejs_semver.proofs.Reading.PartialLaw.{words-step, word-shorter, spaces-le, spaces-gone}
 
 abbrev pub single : {V : Type 0} → Span V → Run V
 single s = record { first = s; others = [] }
@@ -69,3 +72,149 @@ part-intervals limit part = filtered-each (is_interval precedence) (table limit)
 
 pub part_divides : (limit : ℕ) (part : List ℕ) → AreRuns precedence (part_bounds limit part) (runs_of precedence (part_bounds limit part))
 part_divides limit part = runs-divide precedence (part_bounds limit part) (part-intervals limit part)
+
+-- ---- a part has one division into runs, and it is the one that is made from the left
+
+abbrev extended : {V : Type 0} → Run V → List (Span V) → Run V
+extended r xs = record { first = r.first; others = r.others ++ xs }
+
+module _ {V : Type 0} {R : V → V → Ordering} (o : IsTotalOrder R) where
+  -- a run that fits with more words fits without them
+  shrinks-all : (r : Run V) (xs : List (Span V)) → fits R (extended r xs) ≡ true → fits R r ≡ true
+  shrinks-all r [] h = subst (λ (l : List (Span V)). fits R (record { first = r.first; others = l }) ≡ true) (append-nil r.others) h
+  shrinks-all r (x ∷ xs) h =
+      fits-shrinks o r x (shrinks-all (longer r x) xs (subst (λ (l : List (Span V)). fits R (record { first = r.first; others = l }) ≡ true) (sym (append_assoc r.others (x ∷ []) xs)) h))
+
+  with-none : (r : Run V) → extended r [] ≡ r
+  with-none r = ap (λ (l : List (Span V)). record { first = r.first; others = l }) (append-nil r.others)
+
+  with-more : (r : Run V) (x : Span V) (xs : List (Span V)) → extended r (x ∷ xs) ≡ extended (longer r x) xs
+  with-more r x xs = ap (λ (l : List (Span V)). record { first = r.first; others = l }) (sym (append_assoc r.others (x ∷ []) xs))
+
+  -- the runs that begin with the run under way, whose other words are xs, where those that follow are what is made of them
+  from-run : (r : Run V) (xs : List (Span V)) (rest : List (Run V))
+      → ((r : Run V) → AreLongest R (r ∷ rest) → runs_from R r (flat_map run_items rest) ≡ r ∷ rest)
+      → fits R (extended r xs) ≡ true → AreLongest R (extended r xs ∷ rest)
+      → runs_from R r (xs ++ flat_map run_items rest) ≡ extended r xs ∷ rest
+  unfolding runs_from
+  from-run r [] rest last fit longest = grind (arith, with-none)
+  from-run r (x ∷ xs) rest last fit longest =
+      let fits_on : fits R (extended (longer r x) xs) ≡ true = subst (λ (q : Run V). fits R q ≡ true) (with-more r x xs) fit in
+      rw (shrinks-all (longer r x) xs fits_on, runs_from)
+      (from-run (longer r x) xs rest last fits_on (subst (λ (q : Run V). AreLongest R (q ∷ rest)) (with-more r x xs) longest)
+      ∙ ap (λ (q : Run V). q ∷ rest) (sym (with-more r x xs)))
+
+  from-last : (r : Run V) (rest : List (Run V)) → AllByRecursion (λ r. fits R r ≡ true) rest → AreLongest R (r ∷ rest)
+      → runs_from R r (flat_map run_items rest) ≡ r ∷ rest
+  unfolding runs_from
+  from-last r [] each longest = refl
+  from-last r (s ∷ rest) each longest =
+      rw (longest.0, runs_from) (ap (λ (rs : List (Run V)). r ∷ rs)
+      (from-run (single s.first) s.others rest (λ q h. from-last q rest each.1 h) each.0 longest.1))
+
+  pub runs-unique : (bounds : List (Span V)) (runs : List (Run V)) → AreRuns R bounds runs → runs ≡ runs_of R bounds
+  runs-unique bounds runs h = of_whole runs h.1 h.2 ∙ ap (λ (l : List (Span V)). runs_of R l) h.0
+    where
+      of_whole : (runs : List (Run V)) → AllByRecursion (λ r. fits R r ≡ true) runs → AreLongest R runs
+          → runs ≡ runs_of R (flat_map run_items runs)
+      of_whole [] each longest = refl
+      of_whole (r ∷ rest) each longest = grind (arith, from-run, from-last)
+
+pub runs_are : (bounds : List (Span VersionValue)) (runs : List (Run VersionValue)) → AreRuns precedence bounds runs → runs ≡ runs_of precedence bounds
+runs_are bounds runs h = runs-unique precedence_total bounds runs h
+
+-- ---- one word of a part after another
+
+-- the running interval and one word more
+pub join_goes : (running next common : Span VersionValue) (done rest : List (Span VersionValue))
+    → meet precedence running next ≡ Some common → done ++ joined_from precedence common rest ≡ done ++ joined_from precedence running (next ∷ rest)
+join_goes running next common done rest m = grind (arith, joined-goes)
+
+pub join_stops : (running next : Span VersionValue) (done rest : List (Span VersionValue))
+    → meet precedence running next ≡ None → (done ++ running ∷ []) ++ joined_from precedence next rest ≡ done ++ joined_from precedence running (next ∷ rest)
+join_stops running next done rest m = grind (arith, append_assoc, joined-stops)
+
+-- what is left behind a word that was read
+pub read-shorter : (limit : ℕ) (text after : List ℕ) (o : Option (Span VersionValue)) → 0 < length text → space_len text ≡ 0
+    → (o, after) ≡ next_at limit text → length after < length text
+read-shorter limit [] after o some h e = absurd (omega arith)
+read-shorter limit (b ∷ rest) after o some h e = grind (arith, spaces-le, word-shorter)
+
+pub read-starts : (limit : ℕ) (text after : List ℕ) (o : Option (Span VersionValue)) → (o, after) ≡ next_at limit text → space_len after ≡ 0
+read-starts limit text after o e = grind (arith, spaces-gone)
+
+pub read-is : (limit : ℕ) (text after : List ℕ) (o p : Option (Span VersionValue)) → p ≡ o → (o, after) ≡ next_at limit text → (p, after) ≡ next_at limit text
+read-is limit text after o p h e = rw h e
+
+pub read-next : (limit : ℕ) (text after : List ℕ) → after ≡ (next_at limit text).1 → ◌≡◌ {A = Option (Span VersionValue) × List ℕ} ((next_at limit text).0, after) (next_at limit text)
+read-next limit text after h = rw h refl
+
+-- the bounds of the word at the front, before those of what follows
+pub bounds-step : (limit : ℕ) (text after : List ℕ) (o : Option (Span VersionValue)) → 0 < length text → space_len text ≡ 0
+    → (o, after) ≡ next_at limit text → part_bounds limit text ≡ cons_option o (part_bounds limit after)
+bounds-step limit text after o some h e = grind (arith, words-step)
+
+pub words-none : (limit : ℕ) (text : List ℕ) → length text ≡ 0 → words limit text ≡ []
+unfolding words_within
+words-none limit text h = grind arith
+
+bounds-end : (limit : ℕ) (text : List ℕ) → length text ≡ 0 → part_bounds limit text ≡ []
+bounds-end limit text h = rw (words-none limit text h) refl
+
+-- the end of the part
+pub words-last : (limit : ℕ) (rest : List ℕ) (last : Span VersionValue) → length rest ≡ 0 → joined_from precedence last (part_bounds limit rest) ≡ last ∷ []
+unfolding joined_from
+words-last limit rest last none = ap (λ (l : List (Span VersionValue)). joined_from precedence last l) (bounds-end limit rest none)
+
+-- the intervals of a part, before any word is read
+pub part-begins : (limit : ℕ) (part : List ℕ) → joined precedence None (part_bounds limit part) ≡ part_intervals limit part
+part-begins limit part = runs-joined precedence_total (part_bounds limit part)
+
+-- a word before which none had an interval, and what follows it
+pub part-step : (limit : ℕ) (text after : List ℕ) (o : Option (Span VersionValue)) → 0 < length text → space_len text ≡ 0
+    → (o, after) ≡ next_at limit text
+    → joined precedence None (part_bounds limit text) ≡ joined precedence None (cons_option o (part_bounds limit after))
+part-step limit text after o some h e =
+    ap (λ (l : List (Span VersionValue)). joined precedence None l) (bounds-step limit text after o some h e)
+
+-- a last word before which no word had one
+pub part-last : (limit : ℕ) (text after : List ℕ) (o : Option (Span VersionValue)) → 0 < length text → space_len text ≡ 0 → length after ≡ 0
+    → (o, after) ≡ next_at limit text → joined precedence None (part_bounds limit text) ≡ option_to_list o
+part-last limit text after None some h none e =
+    part-step limit text after None some h e
+    ∙ ap (λ (l : List (Span VersionValue)). joined precedence None l) (bounds-end limit after none)
+part-last limit text after (Some s) some h none e = part-step limit text after (Some s) some h e ∙ words-last limit after s none
+
+-- ---- lists that are to have two intervals or more
+
+-- a running interval is never lost
+some-behind : (o : Option (Span VersionValue)) (running next : Span VersionValue) (rest : List (Span VersionValue))
+    → meet precedence running next ≡ o → ((s : Span VersionValue) → 0 < length (joined_from precedence s rest))
+    → 0 < length (joined_from precedence running (next ∷ rest))
+some-behind (Some common) running next rest m behind = rw (joined-goes precedence running next common rest m) (behind common)
+some-behind None running next rest m behind = rw (joined-stops precedence running next rest m) (omega arith)
+
+joined-some : (running : Span VersionValue) (rest : List (Span VersionValue)) → 0 < length (joined_from precedence running rest)
+unfolding joined_from
+joined-some running [] = omega arith
+joined-some running (next ∷ rest) =
+    some-behind (meet precedence running next) running next rest refl (λ s. joined-some s rest)
+
+pub longer_joined : (found : List (Span VersionValue)) (running : Span VersionValue) (rest : List (Span VersionValue))
+    → 0 < length found → 1 < length (found ++ joined_from precedence running rest)
+longer_joined found running rest some =
+    omega (arith, length-append found (joined_from precedence running rest), joined-some running rest)
+
+-- one interval more, where there is one
+pub had_one : (found : List (Span VersionValue)) (o : Option (Span VersionValue)) → 1 < length (found ++ option_to_list o)
+    → 0 < length found
+had_one found o long = grind (arith, length-append)
+
+-- the intervals of a part are no fewer than those of its first word
+pub longer_part : (limit : ℕ) (part rest : List ℕ) (old found : List (Span VersionValue)) → found ≡ old
+    → joined precedence None (part_bounds limit rest) ≡ part_intervals limit part → 0 < length rest → space_len rest ≡ 0
+    → 1 < length (found ++ option_to_list (next_at limit rest).0) → 1 < length (old ++ part_intervals limit part)
+longer_part limit part rest old found same whole some starts long =
+    let next = next_at limit rest in
+    let step = part-step limit rest next.1 next.0 some starts refl in
+    rw (← whole, step, ← same) (grind (arith, length-append, joined-some))

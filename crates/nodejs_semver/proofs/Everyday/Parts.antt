@@ -1,29 +1,46 @@
 -- What the fast reader finds is the parts of a common text, and it finds each of them.
-use Rattle.nodejs_semver.proofs.Common.{◌≡◌, ℕ, zero, suc, ◌<◌, ◌≤◌, List, [], ◌∷◌, ◌++◌, length, drop, refl, ap, ◌∙◌, arith, true}
-use Rattle.nodejs_semver.proofs.Common.{false, Some, inl, inr, append-nil, append_assoc, length-append, Option, cases_Bool}
-use Rattle.nodejs_semver.proofs.Common.{eqb-true, nat_tests, begins, Span, meet, precedence, is_empty, VersionValue, AreCommonParts}
-use Rattle.nodejs_semver.proofs.Common.{Front, AreComponents, Partial, table, IsSign, Comparator, Word, hyphen, plain, tilde}
-use Rattle.nodejs_semver.proofs.Common.{tilde_sign, same_Some, bind_some}
-use Rattle.std.proofs.Common.{◌↔◌, ◌==◌}
-use Rattle.nodejs_semver.specs.Internal.CommonFronts.{after_bars, after_gap, bare_front, begins_dash, begins_second, caret_front}
-use Rattle.nodejs_semver.specs.Internal.CommonFronts.{common_parts, common_range, common_within, comparison_front}
-use Rattle.nodejs_semver.specs.Internal.CommonFronts.{comparisons_front, is_sign, onto, part_front, part_read, partials_front}
-use Rattle.nodejs_semver.specs.Internal.CommonFronts.{tilde_front, word_read}
+use Rattle.nodejs_semver.proofs.Common.{arith, ◌≡◌, ℕ, List, ◌++◌, ap, ◌∙◌, Some, Option, Front, AreComponents, Partial, zero}
+use Rattle.nodejs_semver.proofs.Common.{suc, ◌<◌, ◌≤◌, [], ◌∷◌, length, drop, refl, true, false, inl, inr, append-nil}
+use Rattle.nodejs_semver.proofs.Common.{append_assoc, length-append, cases_Bool, eqb-true, nat_tests, begins, Span, meet}
+use Rattle.nodejs_semver.proofs.Common.{precedence, is_empty, VersionValue, AreCommonParts, table, IsSign, Comparator, Word}
+use Rattle.nodejs_semver.proofs.Common.{hyphen, plain, tilde, tilde_sign, same_Some, bind_some, ◌↔◌, ◌==◌, sym, Bool, None}
+use Rattle.nodejs_semver.proofs.Common.{interval, Bound, Unbounded, if◌then◌else◌, subst, ◌⊎◌, if_any, IsSomeAnd, begins_second}
+use Rattle.nodejs_semver.proofs.Common.{comparison_front, comparisons_front, is_sign, word_read, passed, pushed, has_bars}
+use Rattle.semver_core.specs.Internal.Reading.{◌>>?◌}
+use Rattle.semver_core.specs.Failures.{NoValue}
+use Rattle.nodejs_semver.specs.Internal.CommonFronts.{bare_front, after_bars, after_gap, begins_dash, caret_front, common_parts}
+use Rattle.nodejs_semver.specs.Internal.CommonFronts.{common_range, common_within, onto, part_front, part_read, partials_front}
+use Rattle.nodejs_semver.specs.Internal.CommonFronts.{tilde_front, both_of}
+use Rattle.nodejs_semver.specs.Internal.Fronts.{dotted_front, minor_front, after_byte}
 use Rattle.nodejs_semver.specs.Text.Common.{IsCommonPart, IsCommonRange, IsCommonWord, IsComparison, IsGap, caret_word}
 use Rattle.nodejs_semver.specs.Text.Common.{compare_word, comparison, hyphen_word, more_parts, one_part, one_word, plain_word}
 use Rattle.nodejs_semver.specs.Text.Common.{tilde_greater_word, tilde_word, two_comparisons}
-use Rattle.nodejs_semver.specs.Internal.Fronts.{after_byte}
-use Rattle.semver_core.specs.Internal.Reading.{◌>>?◌}
 use Rattle.nodejs_semver.specs.Text.WordText.{above_sign, at_least_sign, at_most_sign, below_sign, equal_sign, above, at_least}
 use Rattle.nodejs_semver.specs.Text.WordText.{at_most, below}
 use Rattle.nodejs_semver.specs.Internal.Words.{comparator_at}
-use Rattle.nodejs_semver.proofs.Everyday.Pieces.{bare-exact, bare-sound}
-use Rattle.nodejs_semver.proofs.Reading.Components.{components-begin}
-use Rattle.nodejs_semver.proofs.Reading.Quiet.{Stop, stop-bar, stop-nil, stop-space}
-use Rattle.nodejs_semver.proofs.Everyday.Texts.{part-tidy}
+use Rattle.nodejs_semver.specs.Internal.CommonViews.{both_view}
+use Rattle.nodejs_semver.proofs.Reading.PartialLaw.{components-read, components-then, components-begin}
+use Rattle.nodejs_semver.proofs.Reading.Bytes.{Stop, quiet-before, stop-bar, stop-nil, stop-space, begins-on, begins_component}
+use Rattle.nodejs_semver.proofs.Reading.Bytes.{is_solid}
+use Rattle.nodejs_semver.proofs.Everyday.Texts.{part-tidy, list-some}
 use Rattle.nodejs_semver.proofs.Everyday.Words.{no-equal, no-greater, sign-begins}
-use Rattle.nodejs_semver.proofs.Reading.Bytes.{begins-on, begins_component, is_solid}
 use Rattle.nodejs_semver.proofs.Reading.WordLaw.{tilde-cases, Signed, sign-is}
+
+-- it is read at the front
+pub bare-exact : (limit : ℕ) (x more : List ℕ) (p : Partial) → AreComponents limit x p → Stop more → bare_front limit (x ++ more) ≡ Some (p, more)
+unfolding bare_front
+bare-exact limit x more p h stop =
+    let a = components-then limit x more p h (quiet-before x more stop.digit) in
+    ap (λ (o : Front (Option ℕ)). o >>? λ a. Some (minor_front limit a.0 a.1 (dotted_front limit a.1))) a.1
+    ∙ ap (λ (q : Partial × List ℕ). Some q) (a.2.exact stop)
+
+-- and what is read there is one
+pub bare-sound : (limit : ℕ) (text : List ℕ) (p : Partial) (more : List ℕ) → bare_front limit text ≡ Some (p, more) → (x : List ℕ)
+    × (text ≡ x ++ more) × AreComponents limit x p
+unfolding bare_front
+bare-sound limit text p more h = grind (arith, components-read)
+
+-- ---- what the fast reader finds is the parts of a common text, and it finds each of them
 
 -- what may follow a part: the end, or bars with one space or none before them
 pub record Ends (more : List ℕ) : Type 0 where
@@ -312,3 +329,205 @@ common_parts_are_read limit text list = (within-sound limit (length text) text l
 
 pub common_ranges_are_read : (limit : ℕ) (text : List ℕ) (list : List (Span VersionValue)) → (common_range limit text ≡ Some list) ↔ IsCommonRange limit text list
 common_ranges_are_read limit text list = grind (arith, common_parts_are_read)
+
+-- ---- the interval of a part and what follows it, as the fast reader makes them
+
+-- two comparisons of which the first has no upper and the second no lower bound
+pub half_open : (a b : Bound VersionValue)
+    → both_of (record { lower = a; upper = Unbounded }) (record { lower = Unbounded; upper = b }) ≡ interval precedence (record { lower = a; upper = b })
+half_open a b = grind arith
+
+-- what follows a part, and the list with its interval
+abbrev pub Behind : Type 0
+Behind = Option (List ℕ) × List (Span VersionValue)
+
+abbrev pub behind : Option (List ℕ) → List (Span VersionValue) → Behind
+behind r list = (r, list)
+
+pub passed-part : (there : Bool) (rest : List ℕ) (done new : List (Span VersionValue)) (o : Option (Span VersionValue)) (r : Option (List ℕ))
+    → both_view there new ≡ pushed done o → r ≡ (if there then Some rest else None) → behind r new ≡ passed done (part_read rest o)
+passed-part there rest done new o r h k = grind arith
+
+-- the step behind the first comparison
+abbrev behind-first : ℕ → Span VersionValue × List ℕ → Front (Span VersionValue)
+behind-first limit s =
+    if begins_second s.1
+    then (word_read limit (comparison_front limit (drop 1 s.1)) >>? λ t. part_read t.1 (meet precedence s.0 t.0))
+    else Some s
+
+-- one comparison
+pub first-read : (limit : ℕ) (text : List ℕ) (a : Span VersionValue) (rest : List ℕ)
+    → part_read rest (interval precedence a) ≡ word_read limit (comparison_front limit text) → begins_second rest ≡ false
+    → part_read rest (interval precedence a) ≡ comparisons_front limit text
+unfolding comparisons_front
+first-read limit text a rest h second = rw (← h) (go (interval precedence a))
+  where
+    go : (o : Option (Span VersionValue)) → part_read rest o ≡ (part_read rest o >>? λ s. behind-first limit s)
+    go o = grind arith
+
+-- no second comparison is read
+pub none-second : (limit : ℕ) (text : List ℕ) (a : Span VersionValue) (rest : List ℕ)
+    → part_read rest (interval precedence a) ≡ word_read limit (comparison_front limit text) → begins_second rest ≡ true
+    → word_read limit (comparison_front limit (drop 1 rest)) ≡ None → comparisons_front limit text ≡ None
+unfolding comparisons_front
+none-second limit text a rest h second k = rw (← h) (go (interval precedence a))
+  where
+    go : (o : Option (Span VersionValue)) → (part_read rest o >>? λ s. behind-first limit s) ≡ None
+    go o = grind arith
+
+second-read : (limit : ℕ) (text : List ℕ) (a b : Span VersionValue) (rest more : List ℕ) → part_read rest (interval precedence a) ≡ word_read limit (comparison_front limit text)
+    → begins_second rest ≡ true → part_read more (interval precedence b) ≡ word_read limit (comparison_front limit (drop 1 rest))
+    → comparisons_front limit text ≡ part_read more (both_of a b)
+unfolding comparisons_front
+second-read limit text a b rest more h second k = rw (← h) (go (interval precedence a))
+  where
+    last : (s : Span VersionValue) (o : Option (Span VersionValue))
+        → (part_read more o >>? λ t. part_read t.1 (meet precedence s t.0)) ≡ part_read more (o >>? λ t. meet precedence s t)
+    last s o = grind arith
+
+    go : (o : Option (Span VersionValue))
+        → (part_read rest o >>? λ s. behind-first limit s)
+        ≡ part_read more (o >>? λ s. interval precedence b >>? λ t. meet precedence s t)
+    go o = grind (arith, last)
+
+-- two comparisons
+pub passed-second : (limit : ℕ) (text : List ℕ) (a b : Span VersionValue) (rest more : List ℕ) (there : Bool) (done new : List (Span VersionValue)) (r : Option (List ℕ))
+    → part_read rest (interval precedence a) ≡ word_read limit (comparison_front limit text) → begins_second rest ≡ true
+    → part_read more (interval precedence b) ≡ word_read limit (comparison_front limit (drop 1 rest))
+    → both_view there new ≡ pushed done (both_of a b) → r ≡ (if there then Some more else None) → behind r new ≡ passed done (comparisons_front limit text)
+passed-second limit text a b rest more there done new r h second k p e =
+    passed-part there more done new (both_of a b) r p e
+    ∙ ap (λ (o : Front (Span VersionValue)). passed done o) (sym (second-read limit text a b rest more h second k))
+
+-- what was added, and that nothing was
+pub record Added (done new : List (Span VersionValue)) (o : Front (Span VersionValue)) (rest : List ℕ) : Type 0 where
+  pub interval_is : Span VersionValue
+  pub found : o ≡ Some (interval_is, rest)
+  pub list : new ≡ done ++ interval_is ∷ []
+
+pub passed-some : (done new : List (Span VersionValue)) (o : Front (Span VersionValue)) (r : Option (List ℕ)) (rest : List ℕ) → behind r new ≡ passed done o → r ≡ Some rest
+    → Added done new o rest
+passed-some done new o r rest h k = grind arith
+
+pub passed-none : (done new : List (Span VersionValue)) (o : Front (Span VersionValue)) (r : Option (List ℕ)) → behind r new ≡ passed done o → r ≡ None → o ≡ None
+passed-none done new o r h k = grind arith
+
+-- ---- one part of a common text after another
+
+abbrev HasBars : List ℕ → Type 0
+HasBars text = has_bars text ≡ true
+
+behind-bars : (front rest : List ℕ) → HasBars rest → HasBars (front ++ rest)
+behind-bars [] rest h = h
+behind-bars (b ∷ front) rest h =
+    let more = behind-bars front rest h in
+    grind (arith, more)
+
+-- the intervals that were found, and those that are read in what is left of the text, are those of the whole text
+pub record Reaches (limit : ℕ) (text : List ℕ) (found : List (Span VersionValue)) (rest : List ℕ) : Type 0 where
+  pub bytes : ℕ
+  pub room : length rest ≤ bytes
+  pub whole : (common_within limit bytes rest >>? λ tail. Some (found ++ tail)) ≡ common_parts limit text
+  pub some : (found ≡ []) ⊎ HasBars text
+  pub within : HasBars rest → HasBars text
+
+pub loop-starts : (limit : ℕ) (text rest : List ℕ) (found : List (Span VersionValue)) → rest ≡ text → found ≡ []
+    → Reaches limit text found rest
+loop-starts limit text rest found e f = grind arith
+
+-- ---- one part
+
+stops-part : (limit n : ℕ) (rest : List ℕ) → part_front limit rest ≡ None → common_within limit n rest ≡ None
+unfolding common_within
+stops-part limit n rest h = grind arith
+
+stops-bars : (limit n : ℕ) (rest left : List ℕ) (s : Span VersionValue) → part_front limit rest ≡ Some (s, left)
+    → is_empty left ≡ false → after_bars left ≡ None → common_within limit n rest ≡ None
+unfolding common_within
+stops-bars limit n rest left s h k m = grind arith
+
+ends-there : (limit n : ℕ) (rest left : List ℕ) (s : Span VersionValue) → length rest ≤ n → part_front limit rest ≡ Some (s, left)
+    → is_empty left ≡ true → common_within limit n rest ≡ Some (s ∷ [])
+unfolding common_within part_front
+ends-there limit n rest left s h k m = grind arith
+
+goes-on : (limit n : ℕ) (rest left next : List ℕ) (s : Span VersionValue) → length rest ≤ n
+    → part_front limit rest ≡ Some (s, left) → is_empty left ≡ false → after_bars left ≡ Some next → (m : ℕ) × (length next ≤ m)
+    × (common_within limit n rest ≡ (common_within limit m next >>? λ list. Some (s ∷ list)))
+unfolding common_within part_front
+goes-on limit zero [] left next s l h e k = cc h
+goes-on limit zero (b ∷ rest) left next s l h e k = absurd (omega arith)
+goes-on limit (suc n) rest left next s l h e k = (n, omega (arith, next-shorter limit rest s left next h k), rw (h, e, k) refl)
+
+-- ---- the steps of the loop
+
+filled-of : (text : List ℕ) → 0 < length text → is_empty text ≡ false
+filled-of text h = grind arith
+
+-- no part, or no bars behind one: the text is no common one
+uncommon : (limit : ℕ) (text : List ℕ) (found : List (Span VersionValue)) (rest : List ℕ) (r : Reaches limit text found rest)
+    → common_within limit r.bytes rest ≡ None → NoValue (AreCommonParts limit text)
+uncommon limit text found rest r none = grind (arith, common_parts_are_read)
+
+-- the reader was at a place, and its next step added a part
+pub record Step (limit : ℕ) (found new : List (Span VersionValue)) (rest left : List ℕ) : Type 0 where
+  pub after : Option (List ℕ)
+  pub added : behind after new ≡ passed found (part_front limit rest)
+  pub there : after ≡ Some left
+
+added-by : (limit : ℕ) (found new : List (Span VersionValue)) (rest left : List ℕ) → Step limit found new rest left
+    → Added found new (part_front limit rest) left
+added-by limit found new rest left s = passed-some found new (part_front limit rest) s.after left s.added s.there
+
+pub loop-no_part : (limit : ℕ) (text : List ℕ) (found new : List (Span VersionValue)) (rest : List ℕ) (after : Option (List ℕ)) → behind after new ≡ passed found (part_front limit rest)
+    → after ≡ None → Reaches limit text found rest → NoValue (AreCommonParts limit text)
+loop-no_part limit text found new rest after h e r =
+    uncommon limit text found rest r (stops-part limit r.bytes rest (passed-none found new (part_front limit rest) after h e))
+
+pub loop-no_bars : (limit : ℕ) (text : List ℕ) (found new : List (Span VersionValue)) (rest left : List ℕ) → Step limit found new rest left → 0 < length left → after_bars left ≡ None
+    → Reaches limit text found rest → NoValue (AreCommonParts limit text)
+loop-no_bars limit text found new rest left s some bars r =
+    let a = added-by limit found new rest left s in
+    uncommon limit text found rest r (stops-bars limit r.bytes rest left a.interval_is a.found (filled-of left some) bars)
+
+pub loop-ends : (limit : ℕ) (text : List ℕ) (found new : List (Span VersionValue)) (rest left : List ℕ) → Step limit found new rest left → length left ≡ 0
+    → Reaches limit text found rest → AreCommonParts limit text new
+loop-ends limit text found new rest left s none r =
+    let a = added-by limit found new rest left s in
+    grind (arith, ends-there, common_parts_are_read)
+
+-- bars stand behind a part
+bars-there : (limit : ℕ) (rest left next : List ℕ) (s : Span VersionValue) → part_front limit rest ≡ Some (s, left)
+    → after_bars left ≡ Some next → HasBars rest
+bars-there limit rest left next s h k =
+    let p = part-sound limit rest (s, left) h in
+    let b = bars-sound left next k in
+    let there : HasBars left = subst HasBars (sym b.divided) (behind-bars b.before _ refl) in
+    subst HasBars (sym p.1) (behind-bars p.0 left there)
+
+pub loop-bars : (limit : ℕ) (text : List ℕ) (found new : List (Span VersionValue)) (rest left next : List ℕ)
+    → Step limit found new rest left → after_bars left ≡ Some next → Reaches limit text found rest → HasBars text
+loop-bars limit text found new rest left next s bars r =
+    let a = added-by limit found new rest left s in
+    r.within (bars-there limit rest left next a.interval_is a.found bars)
+
+-- what holds of the list of a common text holds of a list that it means
+pub common_so : (P : List (Span VersionValue) → Type 0) (limit : ℕ) (text : List ℕ) (list : List (Span VersionValue))
+    → IsCommonRange limit text list → IsSomeAnd (if_any list) P
+    → (r : List (Span VersionValue)) × IsCommonRange limit text r × P r
+common_so P limit text [] is h = absurd (omega (arith, list-some limit text [] is.0))
+common_so P limit text (s ∷ list) is h = (s ∷ list, is, h)
+
+pub loop-goes : (limit : ℕ) (text : List ℕ) (found new : List (Span VersionValue)) (rest left next : List ℕ)
+    → Step limit found new rest left → 0 < length left
+    → after_bars left ≡ Some next → Reaches limit text found rest → Reaches limit text new next
+loop-goes limit text found new rest left next s some bars r =
+    let a = added-by limit found new rest left s in
+    let g = goes-on limit r.bytes rest left next a.interval_is r.room a.found (filled-of left some) bars in
+    let b = loop-bars limit text found new rest left next s bars r in
+    grind (arith, append_assoc, b)
+
+pub loop-shorter : (limit : ℕ) (found new : List (Span VersionValue)) (rest left next : List ℕ) → Step limit found new rest left → after_bars left ≡ Some next → length next < length rest
+loop-shorter limit found new rest left next s bars =
+    let a = added-by limit found new rest left s in
+    next-shorter limit rest a.interval_is left next a.found bars

@@ -1,21 +1,18 @@
 -- Everyday parts between bars denote their intervals: the parts are cut at the bars and are trimmed to themselves.
-use Rattle.nodejs_semver.proofs.Common.{◌≡◌, ℕ, ◌<◌, List, [], ◌∷◌, ◌++◌, length, map, refl, sym, ap, ◌∙◌, arith, true, false, inl}
-use Rattle.nodejs_semver.proofs.Common.{append-nil, append_assoc, Some, flat_map, list_all, and_parts, eqb-true, nat_tests, begins}
-use Rattle.nodejs_semver.proofs.Common.{ends, Span, drop_spaces, space_len, trim, is_empty, VersionValue, drop_spaces-none}
-use Rattle.nodejs_semver.proofs.Common.{AreCommonParts, denotes, part_denotes, parts, table, Word}
-use Rattle.std.specs.List.{onto_first}
-use Rattle.semver_core.specs.Internal.Spaces.{after_spaces, drop_end_spaces}
+use Rattle.nodejs_semver.proofs.Common.{◌≡◌, ℕ, ◌<◌, List, [], ◌∷◌, ◌++◌, length, map, refl, sym, ap, ◌∙◌, arith, true, false}
+use Rattle.nodejs_semver.proofs.Common.{inl, append-nil, append_assoc, Some, flat_map, list_all, and_parts, eqb-true, nat_tests}
+use Rattle.nodejs_semver.proofs.Common.{begins, ends, Span, drop_spaces, space_len, trim, is_empty, VersionValue}
+use Rattle.nodejs_semver.proofs.Common.{drop_spaces-none, AreCommonParts, denotes, part_denotes, parts, table, Word, onto_first}
+use Rattle.nodejs_semver.proofs.Common.{after_spaces, drop_end_spaces, cut_bars, is_bar}
 use Rattle.semver_core.proofs.Text.Trims.{keep_byte}
 use Rattle.nodejs_semver.specs.Text.Common.{IsCommonPart, IsCommonWord, IsGap, caret_word, compare_word, comparison, hyphen_word}
 use Rattle.nodejs_semver.specs.Text.Common.{more_parts, one_part, one_word, plain_word, tilde_greater_word, tilde_word}
 use Rattle.nodejs_semver.specs.Text.Common.{two_comparisons}
-use Rattle.nodejs_semver.specs.Internal.Parts.{cut_bars}
-use Rattle.nodejs_semver.specs.Text.Bars.{is_bar}
-use Rattle.nodejs_semver.proofs.Everyday.Compact.{Compact, compact-partial, compact-signed, is_part_byte}
-use Rattle.nodejs_semver.proofs.Everyday.Words.{Tidy, caret-tidy, compared-tidy, hyphen-tidy, no-greater, plain-tidy, tilde-tidy}
-use Rattle.nodejs_semver.proofs.Everyday.Words.{two-tidy, space-gone}
+use Rattle.nodejs_semver.proofs.Everyday.Words.{Compact, compact-partial, compact-signed, is_part_byte, Tidy, caret-tidy}
+use Rattle.nodejs_semver.proofs.Everyday.Words.{compared-tidy, hyphen-tidy, no-greater, plain-tidy, tilde-tidy, two-tidy}
+use Rattle.nodejs_semver.proofs.Everyday.Words.{space-gone}
 use Rattle.nodejs_semver.proofs.Reading.Bytes.{all-join, is_solid, solid-dark}
-use Rattle.nodejs_semver.proofs.Reading.Components.{components-begin}
+use Rattle.nodejs_semver.proofs.Reading.PartialLaw.{components-begin}
 
 -- ---- trimming
 

@@ -1,7 +1,8 @@
 -- The range that the fast reader makes of the intervals of a common text.
 use Rattle.nodejs_semver.proofs.Common.{ap, ◌≡◌, ◌∙◌, ℕ, ◌<◌, ◌+◌, List, [], length, sym, arith, true, Some, subst, list_all}
 use Rattle.nodejs_semver.proofs.Common.{is_range_span, Span, if_any, VersionValue, AreCommonParts, denotes, Means, IsRange}
-use Rattle.std.specs.Prelude.{Option, IfNone, IfSome, IsUtf8}
+use Rattle.nodejs_semver.proofs.Common.{Option, IfSome, IsUtf8}
+use Rattle.std.specs.Prelude.{IfNone}
 use Rattle.nodejs_semver.proofs.Bounds.Table.{denotes-bounded}
 use Rattle.nodejs_semver.proofs.Dividing.MeaningLaw.{meant, one_meaning}
 use Rattle.nodejs_semver.proofs.Everyday.Texts.{common_parts_are_denoted}

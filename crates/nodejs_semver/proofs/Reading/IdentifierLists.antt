@@ -1,13 +1,13 @@
 -- Identifiers joined by dots: the longest list at the front of a text.
 use Rattle.nodejs_semver.proofs.Common.{◌≡◌, ℕ, ◌≤◌, ◌+◌, List, [], ◌∷◌, ◌++◌, length, take, drop, refl, arith, true, false}
-use Rattle.nodejs_semver.proofs.Common.{length-append, take_at, drop_at, Id, list_len, is_empty}
+use Rattle.nodejs_semver.proofs.Common.{length-append, take_at, drop_at, Id, list_len, is_empty, take_all, IsIdentifiers, pieces}
+use Rattle.nodejs_semver.proofs.Common.{begins_identifier}
 use Rattle.std.proofs.Common.{length-drop}
-use Rattle.std.proofs.lemmas.List.{take_all}
-use Rattle.semver_core.specs.Text.Identifiers.{IsIdentifiers, Numeric, goes_on, is_listed, listed, pieces}
+use Rattle.semver_core.specs.Text.Identifiers.{Numeric, goes_on, is_listed, listed}
 use Rattle.semver_core.proofs.Text.Ends.{end_past, is_spelled, nothing_listed, nothing_spelled, runs_taken}
 use Rattle.semver_core.proofs.Text.Pieces.{list_len-append, runs_begin, runs_tail}
 use Rattle.semver_core.proofs.Text.Runs.{list_len_stop}
-use Rattle.nodejs_semver.specs.Internal.Fronts.{begins_identifier, split_list}
+use Rattle.nodejs_semver.specs.Internal.Fronts.{split_list}
 
 -- ---- what is read is a list
 

@@ -1,12 +1,10 @@
 -- Numbers: as a whole text, and at the front of one.
 use Rattle.nodejs_semver.proofs.Common.{◌≡◌, ℕ, suc, ◌+◌, ◌≤◌, List, [], ◌∷◌, ◌++◌, length, drop, refl, ap, ◌∙◌, arith, true}
 use Rattle.nodejs_semver.proofs.Common.{false, Some, None, inl, inr, ◌↔◌, not, is_ascii_digit, list_all, and_parts, cases_Bool}
-use Rattle.nodejs_semver.proofs.Common.{nat_tests, take_at, drop_at, begins}
-use Rattle.std.specs.List.{prefix_len}
+use Rattle.nodejs_semver.proofs.Common.{nat_tests, take_at, drop_at, begins, prefix_len, IsPieceAt, NoPieceAt, IsNumber}
+use Rattle.nodejs_semver.proofs.Common.{IsWholeNumber, component_front}
 use Rattle.std.proofs.lemmas.List.{take-append-drop}
-use Rattle.semver_core.specs.Text.Characters.{IsPieceAt, NoPieceAt}
-use Rattle.semver_core.specs.Text.Numbers.{IsNumber, IsWholeNumber}
-use Rattle.nodejs_semver.specs.Internal.Fronts.{begins_wildcard, component_front, number_front, number_of, is_wildcard}
+use Rattle.nodejs_semver.specs.Internal.Fronts.{begins_wildcard, number_front, number_of, is_wildcard}
 use Rattle.nodejs_semver.proofs.Reading.Steps.{option-cases}
 
 -- ---- a whole text

@@ -1,21 +1,466 @@
 -- The partial that is read at the front of a text is the longest one that is written there.
-use Rattle.nodejs_semver.proofs.Common.{◌≡◌, ◌⊎◌, ℕ, ◌<◌, ◌≤◌, List, [], ◌∷◌, ◌++◌, length, take, drop, refl, sym, ap, ◌∙◌, arith}
-use Rattle.nodejs_semver.proofs.Common.{true, Some, inl, inr, subst, append-nil, append_assoc, length-append, ◌==◌, ◌↔◌, IsUtf8}
-use Rattle.nodejs_semver.proofs.Common.{list_all, cases_Bool, eqb-true, nat_tests, take_at, drop_at, IsUtf8-drop}
-use Rattle.nodejs_semver.proofs.Common.{IsCharBoundary-after_ascii, is_whitespace, drop_spaces, space_len, drop_spaces-none}
-use Rattle.nodejs_semver.proofs.Common.{AreComponents, Partial, same_Some, IsBlank}
-use Rattle.std.specs.Prelude.{encode_utf8_all}
-use Rattle.std.proofs.lemmas.Str.{encodes-append}
+use Rattle.nodejs_semver.proofs.Common.{◌≡◌, ℕ, ◌≤◌, List, [], ◌∷◌, ◌++◌, length, take, drop, refl, sym, ap, arith, true, false}
+use Rattle.nodejs_semver.proofs.Common.{inl, inr, append-nil, append_assoc, length-append, is_ascii_digit, cases_Bool, nat_tests}
+use Rattle.nodejs_semver.proofs.Common.{begins, Id, list_len, IsIdentifiers, IsBuild, IsPreRelease, begins_identifier, ◌<◌, ◌∙◌}
+use Rattle.nodejs_semver.proofs.Common.{Some, None, Option, AreComponents, Partial, same_Some, bind_some, Front, zero, suc}
+use Rattle.nodejs_semver.proofs.Common.{cond_some, drop_spaces, space_len, Word, drop_spaces-none, space_len-nil, Sign, sign_at}
+use Rattle.nodejs_semver.proofs.Common.{tilde_sign, upper_of, words, ◌⊎◌, subst, ◌==◌, ◌↔◌, IsUtf8, list_all, eqb-true, take_at}
+use Rattle.nodejs_semver.proofs.Common.{drop_at, IsUtf8-drop, IsCharBoundary-after_ascii, is_whitespace, IsBlank, nat_lt}
+use Rattle.nodejs_semver.proofs.Common.{encode_utf8_all, encodes-append, after_spaces, drop_spaces-blank, component_front}
+use Rattle.std.proofs.lemmas.List.{take-append-drop}
+use Rattle.semver_core.specs.Text.Identifiers.{goes_on, listed}
+use Rattle.semver_core.specs.Text.VersionText.{begins_pre_release, dashed, bare, no_pre_release, plus, no_build}
+use Rattle.semver_core.proofs.Text.Pieces.{list_ended}
+use Rattle.semver_core.proofs.Text.Spaces.{after_spaces-end}
 use Rattle.semver_core.proofs.Text.SpaceLaw.{space_len-white}
-use Rattle.semver_core.proofs.Text.Trims.{drop_spaces-blank, fronted}
-use Rattle.nodejs_semver.specs.Internal.Fronts.{drop_v, partial_front}
+use Rattle.semver_core.proofs.Text.Trims.{fronted}
+use Rattle.nodejs_semver.specs.Internal.Fronts.{begins_byte, build_front, pre_release_front, begins_wildcard, dotted_front}
+use Rattle.nodejs_semver.specs.Internal.Fronts.{minor_front, number_front, patch_front, after_byte, drop_v, partial_front}
+use Rattle.nodejs_semver.specs.Text.PartialText.{IsComponent, number, one, three, two, wildcard, IsPartial}
+use Rattle.nodejs_semver.specs.Internal.Words.{Reading, after_some_space, behind_sign, careted, compared, from_boundary}
+use Rattle.nodejs_semver.specs.Internal.Words.{is_boundary, tilded, unsigned, word_at, word_behind, words_within}
 use Rattle.nodejs_semver.specs.Text.LongestText.{BeginsPartial, IsLongestPartial}
-use Rattle.nodejs_semver.specs.Text.PartialText.{IsPartial}
-use Rattle.nodejs_semver.proofs.Reading.Bytes.{begins-on, begins-some, begins_component, component-solid, is_component_byte}
-use Rattle.nodejs_semver.proofs.Reading.Bytes.{solid-dark}
-use Rattle.nodejs_semver.proofs.Reading.Components.{Passes, Read, components-begin, components-read, components-then}
-use Rattle.nodejs_semver.proofs.Reading.Quiet.{Quiet, Stop, quiet-append, quiet-before, quiet-last, stop-nil}
-use Rattle.nodejs_semver.proofs.Dividing.Trimmed.{dark-starts}
+use Rattle.nodejs_semver.proofs.Reading.IdentifierLists.{front-identifiers, written-begins, written-exact, written-le}
+use Rattle.nodejs_semver.proofs.Reading.IdentifierLists.{written-spelled}
+use Rattle.nodejs_semver.proofs.Reading.Bytes.{Quiet, Stop, quiet-before, all-end, begins-on, begins_component, quiet-dotted}
+use Rattle.nodejs_semver.proofs.Reading.Bytes.{quiet-behind, quiet-both, quiet-front, quiet-further, begins-some, component-solid}
+use Rattle.nodejs_semver.proofs.Reading.Bytes.{is_component_byte, solid-dark, quiet-append, quiet-last, stop-nil, dark-starts}
+use Rattle.nodejs_semver.proofs.Reading.Numbers.{number-found, number-read, number_first, wildcard-no_digit}
+
+-- no run of digits goes on behind the list at the front
+ended-digit : (text : List ℕ) → goes_on text ≡ false → begins is_ascii_digit text ≡ false
+ended-digit text k = grind (arith, nat_tests)
+
+ended-quiet : (front text : List ℕ) → Quiet front (drop (list_len text) text)
+ended-quiet front text = let r = drop (list_len text) text in quiet-before front r (ended-digit r (list_ended text))
+
+-- ---- what is read is written
+
+pub record PreRead (x p left read : List ℕ) : Type 0 where
+  pub split : x ≡ p ++ left
+  pub is : (b : List ℕ) → goes_on b ≡ false → begins_pre_release b ≡ false → IsPreRelease p b (listed read)
+  pub stop : Quiet p left
+
+nothing-read : (x : List ℕ) → PreRead x [] x []
+unfolding listed
+nothing-read x = record { split = refl; is = λ b g h. no_pre_release b h; stop = refl }
+
+dash-read : (y : List ℕ) → begins_identifier y ≡ true
+    → PreRead (45 ∷ y) (45 ∷ take (list_len y) y) (drop (list_len y) y) (take (list_len y) y)
+dash-read y h = record {
+  split = ap (λ (t : List ℕ). 45 ∷ t) (sym (take-append-drop (list_len y) y));
+  is = λ b g k. dashed (take (list_len y) y) b (listed (take (list_len y) y))
+      (record { identifiers = front-identifiers y h; ended = g });
+  stop = ended-quiet (45 ∷ take (list_len y) y) y;
+}
+
+begins-take : (n : ℕ) (x : List ℕ) → begins_byte 45 x ≡ false → begins_byte 45 (take n x) ≡ false
+begins-take n x h = grind arith
+
+bare-read : (x : List ℕ) → begins_byte 45 x ≡ false → begins_identifier x ≡ true
+    → PreRead x (take (list_len x) x) (drop (list_len x) x) (take (list_len x) x)
+bare-read x d h = record {
+  split = sym (take-append-drop (list_len x) x);
+  is = λ b g k. bare (take (list_len x) x) b (listed (take (list_len x) x))
+      (record { identifiers = front-identifiers x h; ended = g }) (begins-take (list_len x) x d);
+  stop = ended-quiet (take (list_len x) x) x;
+}
+
+byte-begins : (c : ℕ) (x : List ℕ) → begins_byte c x ≡ true → x ≡ c ∷ drop 1 x
+byte-begins c x h = grind arith
+
+pub pre-read : (x : List ℕ) → (p : List ℕ) × PreRead x p (pre_release_front x).1 (pre_release_front x).0
+unfolding pre_release_front
+pre-read x = elim (cases_Bool (begins_byte 45 x)) [
+  | inl dash ↦ let y = drop 1 x in elim (cases_Bool (begins_identifier y)) [
+    | inl some ↦ rw (dash, some, byte-begins 45 x dash) (45 ∷ take (list_len y) y, dash-read y some)
+    | inr none ↦ rw (dash, none) ([], nothing-read x)
+  ]
+  | inr other ↦ elim (cases_Bool (begins_identifier x)) [
+    | inl some ↦ rw (other, some) (take (list_len x) x, bare-read x other some)
+    | inr none ↦ rw (other, none) ([], nothing-read x)
+  ]
+]
+
+pub record BuildRead (y b left read : List ℕ) : Type 0 where
+  pub split : y ≡ b ++ left
+  pub is : IsBuild b [] (listed read)
+  pub goes : goes_on b ≡ false
+  pub pre : begins_pre_release b ≡ false
+  pub stop : Quiet b left
+
+nothing-built : (y : List ℕ) → BuildRead y [] y []
+unfolding listed
+nothing-built y = record { split = refl; is = no_build [] refl; goes = refl; pre = refl; stop = refl }
+
+plus-read : (z : List ℕ) → begins_identifier z ≡ true
+    → BuildRead (43 ∷ z) (43 ∷ take (list_len z) z) (drop (list_len z) z) (take (list_len z) z)
+plus-read z h = record {
+  split = ap (λ (t : List ℕ). 43 ∷ t) (sym (take-append-drop (list_len z) z));
+  is = plus (take (list_len z) z) [] (listed (take (list_len z) z))
+      (record { identifiers = front-identifiers z h; ended = refl });
+  goes = refl;
+  pre = refl;
+  stop = ended-quiet (43 ∷ take (list_len z) z) z;
+}
+
+pub build-read : (y : List ℕ) → (b : List ℕ) × BuildRead y b (build_front y).1 (build_front y).0
+unfolding build_front
+build-read y = elim (cases_Bool (begins_byte 43 y)) [
+  | inl mark ↦ let z = drop 1 y in elim (cases_Bool (begins_identifier z)) [
+    | inl some ↦ rw (mark, some, byte-begins 43 y mark) (43 ∷ take (list_len z) z, plus-read z some)
+    | inr none ↦ rw (mark, none) ([], nothing-built y)
+  ]
+  | inr other ↦ rw other ([], nothing-built y)
+]
+
+-- ---- what is written is read
+
+pub pre_release_front-le : (x : List ℕ) → length (pre_release_front x).1 ≤ length x
+pre_release_front-le x = let r = pre-read x in omega (arith, ap length r.1.split, length-append r.0 (pre_release_front x).1)
+
+pub build_front-le : (x : List ℕ) → length (build_front x).1 ≤ length x
+build_front-le x = let r = build-read x in omega (arith, ap length r.1.split, length-append r.0 (build_front x).1)
+
+-- a pair of the text of a list, and what is left
+record Taken (front : List ℕ × List ℕ) (y : List ℕ) (l : List Id) : Type 0 where
+  pub text : List ℕ
+  pub is : front ≡ (text, y)
+  pub list : listed text ≡ l
+
+record PreWritten (p y : List ℕ) (l : List Id) : Type 0 where
+  pub le : length (pre_release_front (p ++ y)).1 ≤ length y
+  pub exact : list_len y ≡ 0 → begins_byte 45 y ≡ false → begins_identifier y ≡ false → Taken (pre_release_front (p ++ y)) y l
+
+pre-written : (p y b : List ℕ) (l : List Id) → IsPreRelease p b l → PreWritten p y l
+unfolding pre_release_front listed
+pre-written p y b l (dashed t r list h) =
+    let begins = written-begins t y list h.identifiers in
+    record {
+      le = rw begins (written-le t y list h.identifiers);
+      exact = λ run d i. record
+          { text = t; is = rw begins (written-exact t y list h.identifiers run); list = written-spelled t list h.identifiers };
+    }
+pre-written p y b l (bare t r list h d) = undashed t h.identifiers d
+  where
+    undashed : (t : List ℕ) → IsIdentifiers t list → begins_byte 45 t ≡ false → PreWritten t y list
+    undashed [] k e = cc k.runs
+    undashed (c ∷ t) k e = record {
+      le = rw (written-begins (c ∷ t) y list k, e) (written-le (c ∷ t) y list k);
+      exact = λ run d i. record {
+        text = c ∷ t;
+        is = rw (written-begins (c ∷ t) y list k, e) (written-exact (c ∷ t) y list k run);
+        list = written-spelled (c ∷ t) list k;
+      };
+    }
+pre-written p y b l (no_pre_release r h) = grind (arith, pre_release_front-le)
+
+-- the qualifier of a partial is passed, and no more is where nothing goes on
+pub record QualifierRead (text more : List ℕ) (l m : List Id) : Type 0 where
+  pub pre : listed (pre_release_front text).0 ≡ l
+  pub build : listed (build_front (pre_release_front text).1).0 ≡ m
+  pub rest : (build_front (pre_release_front text).1).1 ≡ more
+
+pub record QualifierPassed (text more : List ℕ) (l m : List Id) : Type 0 where
+  pub le : length (build_front (pre_release_front text).1).1 ≤ length more
+  pub exact : Stop more → QualifierRead text more l m
+
+read-as : (text y more : List ℕ) (l m : List Id) → Taken (pre_release_front text) y l → Taken (build_front y) more m
+    → QualifierRead text more l m
+read-as text y more l m p b = grind arith
+
+pub qualifier-passed : (pre build more : List ℕ) (l m : List Id) → IsPreRelease pre build l → IsBuild build [] m
+    → QualifierPassed ((pre ++ build) ++ more) more l m
+unfolding build_front listed list_len
+qualifier-passed pre build more l m h (plus z r list k) =
+    let p = (pre-written pre (43 ∷ (z ++ more)) (43 ∷ z) l h).exact refl refl refl in
+    let begins = written-begins z more list k.identifiers in
+    let whole = append_assoc pre (43 ∷ z) more in
+    rw whole
+    (record {
+      le = rw (p.is, begins) (written-le z more list k.identifiers);
+      exact = λ stop. read-as (pre ++ (43 ∷ (z ++ more))) (43 ∷ (z ++ more)) more l list p
+          (record {
+            text = z;
+            is = rw begins (written-exact z more list k.identifiers stop.run);
+            list =
+                written-spelled z list k.identifiers;
+          });
+    })
+qualifier-passed pre build more l m h (no_build r k) =
+    let p = pre-written pre more [] l h in
+    grind (arith, append-nil, build_front-le)
+
+-- ---- one component
+
+component-some : (limit : ℕ) (c : List ℕ) (v : Option ℕ) → IsComponent limit c v → 0 < length c
+component-some limit c v h = grind arith
+
+pub components-begin : (limit : ℕ) (x : List ℕ) (p : Partial) → AreComponents limit x p → begins_component x ≡ true
+components-begin limit x p h = grind (arith, begins-on)
+
+component-then : (limit : ℕ) (c more : List ℕ) (v : Option ℕ) → IsComponent limit c v → Quiet c more
+    → component_front limit (c ++ more) ≡ Some (v, more)
+unfolding component_front
+component-then limit c more v (wildcard b h) quiet = rw h refl
+component-then limit c more v (number digits n h) quiet =
+    let stop : begins is_ascii_digit more ≡ false = rw (all-end is_ascii_digit digits h.some h.each) at quiet in
+    number_first limit (digits ++ more) more n (number-read limit digits more n h stop)
+
+dotted-then : (limit : ℕ) (c more : List ℕ) (v : Option ℕ) → IsComponent limit c v → Quiet c more
+    → dotted_front limit (46 ∷ (c ++ more)) ≡ Some (v, more)
+unfolding dotted_front
+dotted-then limit c more v h quiet = component-then limit c more v h quiet
+
+record Component (limit : ℕ) (x c r : List ℕ) (v : Option ℕ) : Type 0 where
+  pub split : x ≡ c ++ r
+  pub is : IsComponent limit c v
+  pub quiet : Quiet c r
+
+component-read : (limit : ℕ) (x : List ℕ) (a : Option ℕ × List ℕ) → component_front limit x ≡ Some a
+    → (c : List ℕ) × Component limit x c a.1 a.0
+unfolding component_front
+component-read limit x a h = elim (cases_Bool (begins_wildcard x)) [
+  | inl wild ↦ wild_case x wild (rw wild at h)
+  | inr other ↦
+      let n = bind_some (number_front limit x) (λ n. Some (Some n.0, n.1)) a (rw other at h) in
+      let f = number-found limit x n.0.0 n.0.1 n.1 in
+      let quiet = quiet-before f.run n.0.1 f.ended in
+      rw (← same_Some _ _ n.2) (f.run, record { split = f.split; is = number f.run n.0.0 f.is; quiet = quiet })
+]
+  where
+    wild_case : (x : List ℕ) → begins_wildcard x ≡ true → ◌≡◌ {A = Front (Option ℕ)} (Some (None, drop 1 x)) (Some a)
+        → (c : List ℕ) × Component limit x c a.1 a.0
+    wild_case [] w k = cc w
+    wild_case (b ∷ y) w k =
+        rw (← same_Some _ _ k) (b ∷ [], record { split = refl; is = wildcard b w; quiet = rw (wildcard-no_digit b w) refl })
+
+dotted-read : (limit : ℕ) (x : List ℕ) (v : Option ℕ) (r : List ℕ) → dotted_front limit x ≡ Some (v, r) → (c : List ℕ)
+    × (x ≡ 46 ∷ (c ++ r)) × Component limit (c ++ r) c r v
+unfolding dotted_front
+dotted-read limit x v r h = grind (arith, component-read)
+
+-- ---- what is read is written
+
+pub record Read (limit : ℕ) (x s left : List ℕ) (p : Partial) : Type 0 where
+  pub split : x ≡ s ++ left
+  pub is : AreComponents limit s p
+  pub quiet : Quiet s left
+
+patch-read : (limit : ℕ) (a b : Option ℕ) (x c d y : List ℕ) (o : Front (Option ℕ)) → dotted_front limit y ≡ o
+    → x ≡ c ++ (46 ∷ (d ++ y)) → IsComponent limit c a
+    → IsComponent limit d b → Quiet d y → (s : List ℕ) × Read limit x s (patch_front a b y o).1 (patch_front a b y o).0
+patch-read limit a b x c d y None e whole h k quiet =
+    let split = rw (← append_assoc c (46 ∷ d) y) at whole in
+    (c ++ (46 ∷ d), record { split = split; is = two c d a b h k; quiet = quiet-dotted c d y (component-some limit d b k) quiet })
+patch-read limit a b x c d y (Some o) e whole h k quiet =
+    let t = dotted-read limit y o.0 o.1 e in
+    let pre = pre-read o.1 in
+    let build = build-read (pre_release_front o.1).1 in
+    let left = (build_front (pre_release_front o.1).1).1 in
+    let q = pre.0 ++ build.0 in
+    let tail = t.0 ++ q in
+    let third : Quiet t.0 (q ++ left) = rw (append_assoc, ← build.1.split, ← pre.1.split) t.2.quiet in
+    let behind : Quiet q left = quiet-both pre.0 build.0 left (rw build.1.split at pre.1.stop) build.1.stop in
+    let some : 0 < length tail = grind (arith, component-some limit t.0 o.0 t.2.is, length-append t.0 q) in (
+      c ++ (46 ∷ (d ++ (46 ∷ tail))),
+      record {
+        split = simp append_assoc (cc (whole, t.1, pre.1.split, build.1.split));
+        is = three c d t.0 pre.0 build.0 (patch_front a b y (Some o)).0 h k t.2.is (quiet-front t.0 q left third)
+            (pre.1.is build.0 build.1.goes build.1.pre) build.1.is;
+        quiet = quiet-dotted c (d ++ (46 ∷ tail)) left (omega (arith, length-append d (46 ∷ tail)))
+            (quiet-dotted d tail left some (quiet-both t.0 q left third behind));
+      },
+    )
+
+minor-read : (limit : ℕ) (a : Option ℕ) (x c y : List ℕ) (o : Front (Option ℕ)) → dotted_front limit y ≡ o
+    → Component limit x c y a → (s : List ℕ) × Read limit x s (minor_front limit a y o).1 (minor_front limit a y o).0
+minor-read limit a x c y None e m = (c, record { split = m.split; is = one c a m.is; quiet = m.quiet })
+minor-read limit a x c y (Some o) e m =
+    let t = dotted-read limit y o.0 o.1 e in
+    patch-read limit a o.0 x c t.0 o.1 (dotted_front limit o.1) refl
+    (m.split ∙ ap (λ (u : List ℕ). c ++ u) t.1) m.is t.2.is t.2.quiet
+
+pub components-read : (limit : ℕ) (x : List ℕ) (a : Option ℕ × List ℕ) → component_front limit x ≡ Some a
+    → (s : List ℕ) × Read limit x s (minor_front limit a.0 a.1 (dotted_front limit a.1)).1
+    (minor_front limit a.0 a.1 (dotted_front limit a.1)).0
+components-read limit x a h =
+    let c = component-read limit x a h in
+    minor-read limit a.0 x c.0 a.1 (dotted_front limit a.1) refl c.1
+
+-- ---- what is written is read: no more is left, and just that where nothing goes on there
+
+dotted_front-le : (limit : ℕ) (x : List ℕ) (v : Option ℕ) (r : List ℕ) → dotted_front limit x ≡ Some (v, r) → length r ≤ length x
+dotted_front-le limit x v r h = let c = dotted-read limit x v r h in omega (arith, ap length c.1, length-append c.0 r)
+
+patch_front-le : (limit : ℕ) (a b : Option ℕ) (x : List ℕ) (o : Front (Option ℕ)) → dotted_front limit x ≡ o
+    → length (patch_front a b x o).1 ≤ length x
+patch_front-le limit a b x None h = omega arith
+patch_front-le limit a b x (Some c) h =
+    omega (arith, dotted_front-le limit x c.0 c.1 h, pre_release_front-le c.1, build_front-le (pre_release_front c.1).1)
+
+pub minor_front-le : (limit : ℕ) (a : Option ℕ) (x : List ℕ) (o : Front (Option ℕ)) → dotted_front limit x ≡ o
+    → length (minor_front limit a x o).1 ≤ length x
+minor_front-le limit a x None h = omega arith
+minor_front-le limit a x (Some b) h =
+    omega (arith, dotted_front-le limit x b.0 b.1 h, patch_front-le limit a b.0 b.1 (dotted_front limit b.1) refl)
+
+pub component-shorter : (limit : ℕ) (x : List ℕ) (v : Option ℕ) (r : List ℕ) → component_front limit x ≡ Some (v, r)
+    → length r < length x
+component-shorter limit x v r h = grind (arith, component-read, length-append)
+
+pub record Passes (r : Partial × List ℕ) (p : Partial) (more : List ℕ) : Type 0 where
+  pub le : length r.1 ≤ length more
+  pub exact : Stop more → r ≡ (p, more)
+
+pub components-then : (limit : ℕ) (x more : List ℕ) (p : Partial) → AreComponents limit x p → Quiet x more
+    → (a : Option ℕ × List ℕ) × (component_front limit (x ++ more) ≡ Some a)
+    × Passes (minor_front limit a.0 a.1 (dotted_front limit a.1)) p more
+components-then limit x more p (one c a h) quiet = (
+  (a, more),
+  component-then limit c more a h quiet,
+  record { le = minor_front-le limit a more (dotted_front limit more) refl; exact = λ stop. rw (stop.dot limit) refl },
+)
+components-then limit x more p (two c d a b h k) quiet =
+    let last = quiet-behind c d more (component-some limit d b k) quiet in (
+      (a, 46 ∷ (d ++ more)),
+      rw (append_assoc c (46 ∷ d) more) (component-then limit c (46 ∷ (d ++ more)) a h (quiet-before c (46 ∷ (d ++ more)) refl)),
+      rw (dotted-then limit d more b k last)
+          (record {
+            le = patch_front-le limit a b more (dotted_front limit more) refl;
+            exact =
+                λ stop. rw (stop.dot limit) refl;
+          }),
+    )
+components-then limit x more p (three c d e pre build q h k l quiet_e m n) quiet =
+    let tail = e ++ (pre ++ build) in
+    let some : 0 < length tail = let one = component-some limit e q.patch l in omega (arith, length-append e (pre ++ build)) in
+    let second : dotted_front limit (46 ∷ ((d ++ (46 ∷ tail)) ++ more)) ≡ Some (q.minor, 46 ∷ (tail ++ more)) =
+    rw (append_assoc d (46 ∷ tail) more)
+    (dotted-then limit d (46 ∷ (tail ++ more)) q.minor k (quiet-before d (46 ∷ (tail ++ more)) refl)) in
+    let first : component_front limit ((c ++ (46 ∷ (d ++ (46 ∷ tail)))) ++ more)
+    ≡ Some (q.major, 46 ∷ ((d ++ (46 ∷ tail)) ++ more)) =
+    rw (append_assoc c (46 ∷ (d ++ (46 ∷ tail))) more)
+    (component-then limit c (46 ∷ ((d ++ (46 ∷ tail)) ++ more)) q.major h
+    (quiet-before c (46 ∷ ((d ++ (46 ∷ tail)) ++ more)) refl)) in
+    let passed = qualifier-passed pre build more q.pre_release q.build m n in
+    grind (arith, length-append, quiet-behind, append_assoc, dotted-then, quiet-further)
+
+-- ---- each word takes a byte or more, so the list of words is a recursion
+
+pub spaces-le : (text : List ℕ) → length (drop_spaces text) ≤ length text
+spaces-le text = let e = after_spaces-end 0 text in omega (arith, ap length e.1, length-append e.0 (drop_spaces text))
+
+partial-shorter : (limit : ℕ) (text : List ℕ) (x : Partial) (r : List ℕ) → partial_front limit text ≡ Some (x, r)
+    → length r < length text
+unfolding partial_front
+partial-shorter limit text x r h =
+    let body = drop_spaces (drop_v text) in
+    let a = bind_some (component_front limit body) (λ a. Some (minor_front limit a.0 a.1 (dotted_front limit a.1))) (x, r) h in
+    let same = same_Some (minor_front limit a.0.0 a.0.1 (dotted_front limit a.0.1)) (x, r) a.2 in
+    omega (
+      arith,
+      component-shorter limit body a.0.0 a.0.1 a.1,
+      minor_front-le limit a.0.0 a.0.1 (dotted_front limit a.0.1) refl,
+      spaces-le (drop_v text),
+      v-le text,
+      ap (λ (q : Partial × List ℕ). length q.1) same,
+    )
+  where
+    v-le : (text : List ℕ) → length (drop_v text) ≤ length text
+    v-le text = grind arith
+
+some-space-le : (text r : List ℕ) → after_some_space text ≡ Some r → length r ≤ length text
+some-space-le text r h = omega (arith, ap length (cond_some (nat_lt 0 (space_len text)) (drop_spaces text) r h).1, spaces-le text)
+
+byte-le : (c : ℕ) (text r : List ℕ) → after_byte c text ≡ Some r → length r ≤ length text
+byte-le c text r h = grind arith
+
+upper-le : (limit : ℕ) (s : Sign) (text : List ℕ) (q : Partial × List ℕ) → upper_of limit s text ≡ Some q
+    → length q.1 ≤ length text
+upper-le limit unsigned text q h =
+    let sign = bind_some (after_some_space text) _ q h in
+    let gap = bind_some (after_byte 45 sign.0) _ q sign.2 in
+    let second = bind_some (after_some_space gap.0) _ q gap.2 in
+    let read = bind_some (partial_front limit second.0) _ q second.2 in
+    let same : read.0 ≡ q = (cond_some (is_boundary read.0.1) read.0 q read.2).1 in
+    omega (
+      arith,
+      some-space-le text sign.0 sign.1,
+      byte-le 45 sign.0 gap.0 gap.1,
+      some-space-le gap.0 second.0 second.1,
+      partial-shorter limit second.0 read.0.0 read.0.1 read.1,
+      ap (λ (x : Partial × List ℕ). length x.1) same,
+    )
+upper-le limit (compared c) text q h = cc h
+upper-le limit (tilded greater) text q h = cc h
+upper-le limit careted text q h = cc h
+
+word_behind-le : (limit : ℕ) (s : Sign) (p : Partial) (rest : List ℕ) (x : Word) (r : List ℕ)
+    → word_behind limit s p rest ≡ Some (x, r) → length r ≤ length rest
+word_behind-le limit s p rest x r h = grind (arith, upper-le)
+
+sign-le : (rest : List ℕ) → length (tilde_sign rest).1 ≤ length rest
+sign-le rest = grind arith
+
+sign_at-le : (text : List ℕ) → length (sign_at text).1 ≤ length text
+sign_at-le text = grind (arith, spaces-le, sign-le)
+
+form-shorter : (limit : ℕ) (text : List ℕ) (x : Word) (r : List ℕ) → behind_sign limit (sign_at text) ≡ Some (x, r)
+    → length r < length text
+form-shorter limit text x r h =
+    let s = sign_at text in
+    let p = bind_some (partial_front limit s.1) (λ p. word_behind limit s.0 p.0 p.1) (x, r) h in
+    omega (arith, sign_at-le text, partial-shorter limit s.1 p.0.0 p.0.1 p.1, word_behind-le limit s.0 p.0.0 p.0.1 x r p.2)
+
+boundary-le : (text : List ℕ) → length (from_boundary text) ≤ length text
+unfolding from_boundary
+boundary-le [] = omega arith
+boundary-le (b ∷ rest) = grind (arith, boundary-le rest)
+
+no-boundary : (b : ℕ) (rest : List ℕ) → space_len (b ∷ rest) ≡ 0 → is_boundary (b ∷ rest) ≡ false
+unfolding is_boundary
+no-boundary b rest h = rw h refl
+
+-- a word that begins with no whitespace takes a byte or more
+pub word-shorter : (limit b : ℕ) (rest : List ℕ) → space_len (b ∷ rest) ≡ 0 → length (word_at limit (b ∷ rest)).1 < length (b ∷ rest)
+unfolding word_at from_boundary
+word-shorter limit b rest h = go (behind_sign limit (sign_at (b ∷ rest))) refl
+  where
+    go : (o : Reading) → behind_sign limit (sign_at (b ∷ rest)) ≡ o → length (word_at limit (b ∷ rest)).1 < length (b ∷ rest)
+    go (Some x) e = rw e (form-shorter limit (b ∷ rest) x.0 x.1 e)
+    go None e = rw (e, from_boundary, no-boundary b rest h) (omega (arith, boundary-le rest))
+
+-- no whitespace is left in front
+pub spaces-gone : (n : ℕ) (text : List ℕ) → space_len (after_spaces n text) ≡ 0
+unfolding after_spaces
+spaces-gone n [] = space_len-nil
+spaces-gone (suc n) (b ∷ rest) = spaces-gone n rest
+spaces-gone zero (b ∷ rest) = go (λ n. spaces-gone n rest) (space_len (b ∷ rest)) refl
+  where
+    go : ((n : ℕ) → space_len (after_spaces n rest) ≡ 0) → (n : ℕ) → space_len (b ∷ rest) ≡ n → space_len (after_spaces 0 (b ∷ rest)) ≡ 0
+    go f n e = grind (arith, drop_spaces-none)
+
+-- how many words are allowed for does not matter, where there is room for each byte
+pub words-enough : (limit n m : ℕ) (text : List ℕ) → space_len text ≡ 0 → length text ≤ n → length text ≤ m → words_within limit n text ≡ words_within limit m text
+unfolding words_within
+words-enough limit zero zero [] h a b = refl
+words-enough limit zero (suc m) [] h a b = refl
+words-enough limit (suc n) zero [] h a b = refl
+words-enough limit (suc n) (suc m) [] h a b = refl
+words-enough limit zero m (c ∷ text) h a b = absurd (omega arith)
+words-enough limit (suc n) zero (c ∷ text) h a b = absurd (omega arith)
+words-enough limit (suc n) (suc m) (c ∷ text) h a b =
+    let rest = drop_spaces (word_at limit (c ∷ text)).1 in
+    let less = word-shorter limit c text h in
+    let le = spaces-le (word_at limit (c ∷ text)).1 in
+    ap (λ (l : List Word). (word_at limit (c ∷ text)).0 ∷ l) (words-enough limit n m rest (spaces-gone 0 (word_at limit (c ∷ text)).1) (omega arith) (omega arith))
+
+-- the words of a text are the word at its front, and the words of what follows it
+pub words-step : (limit : ℕ) (text : List ℕ) → 0 < length text → space_len text ≡ 0
+    → words limit text ≡ (word_at limit text).0 ∷ words limit (drop_spaces (word_at limit text).1)
+unfolding words_within
+words-step limit text h k = grind (arith, word-shorter, spaces-le, words-enough, spaces-gone)
 
 -- ---- a text that begins with a component has neither `v` nor whitespace in front
 

@@ -1,32 +1,48 @@
--- The word that is computed is the one that is written.
-use Rattle.nodejs_semver.proofs.Common.{◌≡◌, ◌⊎◌, ℕ, ◌<◌, ◌≤◌, Bool, List, [], ◌∷◌, ◌++◌, length, drop, refl, sym, ap, ◌∙◌, arith}
-use Rattle.nodejs_semver.proofs.Common.{true, false, Some, None, inl, inr, subst, append_assoc, length-append, IfSome, ◌↔◌, ◌||◌}
-use Rattle.nodejs_semver.proofs.Common.{Option, IsUtf8, ◌==◌, cases_Bool, eqb-true, nat_tests, cond_some, same_Some, drop_at}
-use Rattle.nodejs_semver.proofs.Common.{take_at, IsUtf8-drop, IsCharBoundary-after_ascii, IsTrim, drop_spaces, space_len}
-use Rattle.nodejs_semver.proofs.Common.{drop_spaces-none, space_len-nil, Partial, Word, hyphen, plain, bind_some}
-use Rattle.std.specs.Prelude.{encode_utf8_all, IsCharBoundary, nat_lt}
-use Rattle.std.specs.Char.{encode_utf8}
+-- The word that is computed is the one that is written, and the one that its sign tells.
+use Rattle.nodejs_semver.proofs.Common.{◌≡◌, ℕ, ◌<◌, ◌+◌, List, [], ◌∷◌, length, drop, get_or, refl, true, false, ◌⊎◌, ◌≤◌, Bool}
+use Rattle.nodejs_semver.proofs.Common.{◌++◌, sym, ap, ◌∙◌, arith, Some, None, inl, inr, subst, append_assoc, length-append}
+use Rattle.nodejs_semver.proofs.Common.{IfSome, ◌↔◌, ◌||◌, Option, IsUtf8, ◌==◌, cases_Bool, eqb-true, nat_tests, cond_some}
+use Rattle.nodejs_semver.proofs.Common.{same_Some, drop_at, take_at, IsUtf8-drop, IsCharBoundary-after_ascii, IsTrim, drop_spaces}
+use Rattle.nodejs_semver.proofs.Common.{space_len, drop_spaces-none, space_len-nil, Partial, Word, hyphen, plain, bind_some}
+use Rattle.nodejs_semver.proofs.Common.{encode_utf8, upper_of, Sign, sign_at, tilde_sign, IsSign, Comparator, append-nil, Span}
+use Rattle.nodejs_semver.proofs.Common.{VersionValue, table, malformed, option_to_list, drop_more, encode_utf8_all}
+use Rattle.nodejs_semver.proofs.Common.{IsCharBoundary, nat_lt, lt-ltb, encodes-append, len_utf8_bounds, IsUtf8-take}
+use Rattle.nodejs_semver.proofs.Common.{drop_spaces-blank, component_front, pushed}
 use Rattle.std.proofs.Math.Seq.{get_or-append_seam}
-use Rattle.std.proofs.lemmas.Bool.{lt-ltb}
-use Rattle.std.proofs.lemmas.Str.{IsUtf8-past_char, encodes-append, len_utf8_bounds, IsUtf8-nil, IsUtf8-take}
-use Rattle.std.proofs.lemmas.Str.{IsCharBoundary-at_seam}
+use Rattle.std.proofs.lemmas.Str.{IsUtf8-past_char, IsUtf8-nil, IsCharBoundary-at_seam}
 use Rattle.semver_core.specs.Text.Characters.{BeginsBlank}
 use Rattle.semver_core.proofs.Text.SpaceLaw.{space_len-dark, space_len-inside, space_len-white}
-use Rattle.semver_core.proofs.Text.Trims.{drop_spaces-blank}
-use Rattle.nodejs_semver.specs.Internal.Words.{upper_of, signed_word, Sign, after_some_space, at_boundary, behind_sign, careted}
-use Rattle.nodejs_semver.specs.Internal.Words.{comparator_at, compared, comparing, from_boundary, is_boundary, or_equal, sign_at}
-use Rattle.nodejs_semver.specs.Internal.Words.{tilde_sign, tilded, unsigned, upper_behind, word_at}
-use Rattle.nodejs_semver.specs.Internal.Fronts.{after_byte, component_front, number_of, partial_front}
+use Rattle.semver_core.specs.Internal.Reading.{◌>>?◌}
+use Rattle.nodejs_semver.specs.Internal.Words.{is_boundary, from_boundary, signed_word, after_some_space, at_boundary}
+use Rattle.nodejs_semver.specs.Internal.Words.{behind_sign, careted, comparator_at, compared, comparing, or_equal, tilded}
+use Rattle.nodejs_semver.specs.Internal.Words.{unsigned, upper_behind, word_at, hyphen_pushed, or_malformed, word_behind}
+use Rattle.nodejs_semver.specs.Internal.Words.{word_pushed}
+use Rattle.nodejs_semver.specs.Internal.Fronts.{after_byte, number_of, partial_front}
 use Rattle.nodejs_semver.specs.Text.LongestText.{IsLongestPartial}
-use Rattle.nodejs_semver.specs.Text.WordText.{IsBehind, IsBoundary, IsFirstBoundary, IsForm, IsHyphen, IsSign, IsWhole, IsWordAt}
+use Rattle.nodejs_semver.specs.Text.WordText.{IsBehind, IsBoundary, IsFirstBoundary, IsForm, IsHyphen, IsWhole, IsWordAt}
 use Rattle.nodejs_semver.specs.Text.WordText.{SkipsBlank, above_sign, at_least_sign, at_most_sign, below_sign, caret_form}
 use Rattle.nodejs_semver.specs.Text.WordText.{compare_form, equal_sign, formed, hyphen_form, no_form, plain_form, tilde_form}
-use Rattle.nodejs_semver.specs.Text.WordText.{tilde_greater_form, Comparator}
+use Rattle.nodejs_semver.specs.Text.WordText.{tilde_greater_form}
+use Rattle.nodejs_semver.specs.Internal.CommonViews.{both_view}
 use Rattle.nodejs_semver.proofs.Reading.Bytes.{solid-dark}
-use Rattle.nodejs_semver.proofs.Reading.Boundaries.{from_boundary-nil, from_boundary-stop, from_boundary-more}
-use Rattle.nodejs_semver.proofs.Reading.PartialLaw.{longest_are, spaced}
+use Rattle.nodejs_semver.proofs.Reading.PartialLaw.{longest_are, spaced, spaces-gone}
 use Rattle.nodejs_semver.proofs.Reading.Steps.{option-cases}
-use Rattle.nodejs_semver.proofs.Reading.Progress.{spaces-gone}
+
+pub from_boundary-stop : (text : List ℕ) → is_boundary text ≡ true → from_boundary text ≡ text
+unfolding from_boundary
+from_boundary-stop [] h = refl
+from_boundary-stop (b ∷ rest) h = rw (h, from_boundary) refl
+
+pub from_boundary-more : (text : List ℕ) (i : ℕ) → i < length text → is_boundary (drop i text) ≡ false
+    → from_boundary (drop i text) ≡ from_boundary (drop (i + 1) text)
+unfolding from_boundary
+from_boundary-more text i lt h =
+    let goes : is_boundary (get_or text i 0 ∷ drop (i + 1) text) ≡ false = rw (drop_more text i 0 lt) at h in
+    rw (drop_more text i 0 lt) (rw (goes, from_boundary) refl)
+
+pub from_boundary-nil : from_boundary [] ≡ []
+unfolding from_boundary
+from_boundary-nil = refl
 
 -- ---- UTF-8 behind a byte, and behind characters
 
@@ -395,3 +411,68 @@ trim-utf8 text middle u h =
 
 pub words_are : (limit : ℕ) (text : List ℕ) (word : Word) (rest : List ℕ) → IsUtf8 text → (word_at limit text ≡ (word, rest)) ↔ IsWordAt limit text word rest
 words_are limit text word rest u = (λ h. rw h at (word-is limit text u), word-of limit text word rest u)
+
+-- ---- the word at the front of a text, by what was read of it
+
+pub word-as : (limit : ℕ) (text : List ℕ) (s : Sign × List ℕ) (o : Option (Partial × List ℕ)) → s ≡ sign_at text
+    → o ≡ partial_front limit s.1 → word_at limit text ≡ or_malformed (o >>? λ p. word_behind limit s.0 p.0 p.1) text
+unfolding word_at
+word-as limit text s o h k = grind arith
+
+-- no second partial stands at the end of a part
+pub upper_none : (limit : ℕ) (s : Sign) (rest : List ℕ) → length rest ≡ 0 → upper_of limit s rest ≡ None
+unfolding space_len
+upper_none limit s rest h = grind arith
+
+-- ---- a list to which the interval of a word was added
+
+pub pushed_malformed : (limit : ℕ) (old : List (Span VersionValue)) (w : Word × List ℕ) (rest behind : List ℕ) → w ≡ (malformed, behind) → rest ≡ behind
+    → ◌≡◌ {A = (Bool × List ℕ) × List (Span VersionValue)} ((false, rest), old) (word_pushed limit old w)
+unfolding table
+pushed_malformed limit old w rest behind e h = rw (e, h, append-nil old) refl
+
+pub pushed_word : (limit : ℕ) (old new : List (Span VersionValue)) (there : Bool) (word : Word) (w : Word × List ℕ) (rest : List ℕ) → w ≡ (word, rest)
+    → both_view there new ≡ pushed old (table limit word) → ◌≡◌ {A = (Bool × List ℕ) × List (Span VersionValue)} ((there, rest), new) (word_pushed limit old w)
+pushed_word limit old new there word w rest e h = grind (arith, append-nil)
+
+-- a hyphen word was read
+pub pushed_hyphen : (limit : ℕ) (text : List ℕ) (s : Sign × List ℕ) (o : Option (Partial × List ℕ)) (p : Partial) (rest : List ℕ) (u : Option (Partial × List ℕ))
+    (old new : List (Span VersionValue)) (read : Bool × List ℕ)
+    → s ≡ sign_at text → o ≡ partial_front limit s.1 → o ≡ Some (p, rest) → u ≡ upper_of limit s.0 rest
+    → ◌≡◌ {A = Option (Bool × List ℕ) × List (Span VersionValue)} (Some read, new) (hyphen_pushed limit old p u)
+    → ◌≡◌ {A = (Bool × List ℕ) × List (Span VersionValue)} (read, new) (word_pushed limit old (word_at limit text))
+pushed_hyphen limit text s o p rest None old new read h k e m n = grind arith
+pushed_hyphen limit text s o p rest (Some q) old new read h k e m n =
+    let w : word_at limit text ≡ (hyphen p q.0, q.1) = word-as limit text s o h k ∙ rw (e, sym m) refl in
+    grind arith
+
+-- none was read
+pub no_hyphen : (limit : ℕ) (p : Partial) (u : Option (Partial × List ℕ)) (old new : List (Span VersionValue))
+    → ◌≡◌ {A = Option (Bool × List ℕ) × List (Span VersionValue)} (None, new) (hyphen_pushed limit old p u) → (u ≡ None) × (new ≡ old)
+no_hyphen limit p u old new h = grind arith
+
+-- ---- a list that is to have two intervals or more
+
+-- that has them with the interval of a hyphen word, where one is read
+pub longer_hyphen : (limit : ℕ) (text : List ℕ) (s : Sign × List ℕ) (o : Option (Partial × List ℕ)) (p : Partial) (rest : List ℕ)
+    (u : Option (Partial × List ℕ)) (old : List (Span VersionValue))
+    → s ≡ sign_at text → o ≡ partial_front limit s.1 → o ≡ Some (p, rest) → u ≡ upper_of limit s.0 rest
+    → 1 < length (hyphen_pushed limit old p u).1 → 1 < length (word_pushed limit old (word_at limit text)).1
+longer_hyphen limit text s o p rest None old h k e m long =
+    omega (arith, length-append old (option_to_list (table limit (word_at limit text).0)))
+longer_hyphen limit text s o p rest (Some q) old h k e m long =
+    let w : word_at limit text ≡ (hyphen p q.0, q.1) = word-as limit text s o h k ∙ rw (e, sym m) refl in
+    rw w long
+
+-- that has them with the interval of the word of one partial
+pub longer_signed : (limit : ℕ) (text : List ℕ) (s : Sign × List ℕ) (o : Option (Partial × List ℕ)) (p : Partial) (rest : List ℕ)
+    (old new : List (Span VersionValue)) → s ≡ sign_at text → o ≡ partial_front limit s.1 → o ≡ Some (p, rest)
+    → ◌≡◌ {A = Option (Bool × List ℕ) × List (Span VersionValue)} (None, new)
+    (hyphen_pushed limit old p (upper_of limit s.0 rest))
+    → is_boundary rest ≡ true → 1 < length (new ++ option_to_list (table limit (signed_word s.0 p)))
+    → 1 < length (word_pushed limit old (word_at limit text)).1
+longer_signed limit text s o p rest old new h k e m ends long =
+    let none = no_hyphen limit p (upper_of limit s.0 rest) old new m in
+    let w : word_at limit text ≡ (signed_word s.0 p, rest) = word-as limit text s o h k ∙ rw (e, none.0, ends) refl in
+    let interval = option_to_list (table limit (signed_word s.0 p)) in
+    rw w (subst (λ (l : List (Span VersionValue)). 1 < length (l ++ interval)) none.1 long)

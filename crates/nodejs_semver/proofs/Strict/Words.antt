@@ -19,7 +19,7 @@ use Rattle.nodejs_semver.specs.Npm.RangeText.{caret_equal, late_above, late_belo
 use Rattle.nodejs_semver.specs.Npm.Table.{Comparison, Partial, Sign, caret, compared, table, tilde, wildcard}
 use Rattle.nodejs_semver.specs.Text.WordText.{above, at_least, at_most, below, equal}
 use Rattle.nodejs_semver.proofs.Reading.Bytes.{begins-on, begins-some, begins_component, is_component_byte}
-use Rattle.nodejs_semver.proofs.Reading.Progress.{spaces-gone, spaces-le}
+use Rattle.nodejs_semver.proofs.Reading.PartialLaw.{spaces-gone, spaces-le}
 use Rattle.nodejs_semver.proofs.Reading.Steps.{option-cases}
 use Rattle.nodejs_semver.proofs.Reading.WordLaw.{boundary-utf8, suffix-boundary}
 use Rattle.nodejs_semver.proofs.Strict.Malformed.{boundary-plain, ignored-read, malformed-visible, visible-dark, word-regular}

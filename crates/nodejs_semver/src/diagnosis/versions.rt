@@ -1,8 +1,7 @@
 // What is wrong with a version text.
 
 ghost use Rattle.std.specs.Char.{is_ascii_digit};
-ghost use Rattle.std.specs.Prelude.{◌≡◌, ◌+◌, ◌≤◌, ◌↔◌};
-ghost use Rattle.std.specs.Prelude.{ℕ, IfErr, IfOk, IfSome, Some, None, drop};
+ghost use Rattle.std.specs.Prelude.{◌≡◌, ◌+◌, ◌≤◌, ◌↔◌, ℕ, IfErr, IfOk, IfSome, Some, None, drop};
 ghost use Rattle.std.specs.Prelude.{false, length, true, MatchOption};
 ghost use Rattle.semver_core.specs.Internal.Reading.{mark_len, triple_at};
 ghost use Rattle.semver_core.specs.Text.Characters.{begins, IsAfterBlank};
@@ -57,7 +56,7 @@ fn begins_digit(bytes: &[u8], at: usize) -> bool
 }
 
 // The place behind the number at a place.
-#[tactic(auto, using(crate::proofs::Diagnosing::Numbers::number_stops))]
+#[tactic(auto, using(crate::proofs::Diagnosing::OneFlaw::number_stops))]
 fn number_end(bytes: &[u8], at: usize) -> Result<usize, VersionFlaw>
     requires { at ≤ length bytes.now }
     ensures found { IfOk result (λ end. IsNumberAt MAX_SAFE_INTEGER bytes.now at end) }
@@ -92,7 +91,7 @@ fn dot_end(bytes: &[u8], at: usize) -> Result<usize, VersionFlaw>
 }
 
 // The place behind three numbers with dots between them.
-#[tactic(auto, using(crate::proofs::Diagnosing::Numbers::numbers_stop))]
+#[tactic(auto, using(crate::proofs::Diagnosing::OneFlaw::numbers_stop))]
 fn numbers_end(bytes: &[u8], at: usize) -> Result<usize, VersionFlaw>
     requires { at ≤ length bytes.now }
     ensures place { IfOk result (λ end. end ≤ length bytes.now) }

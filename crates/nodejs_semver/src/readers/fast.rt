@@ -3,15 +3,13 @@
 ghost use Rattle.std.specs.Prelude.{◌≡◌, ◌≤◌, ◌⊎◌, [], if◌then◌else◌, IfNone, IfOk, IfSome};
 ghost use Rattle.std.specs.Prelude.{IsFalse, IsTrue, List, None, OnErr, Some, length, true};
 ghost use Rattle.nodejs_semver.specs.Internal.CommonFronts as Spec;
-ghost use Rattle.nodejs_semver.specs.Internal.CommonFronts.{has_plus};
 ghost use Rattle.nodejs_semver.specs.Text.Bars.{has_bars};
 ghost use Rattle.nodejs_semver.specs.Text.Common.{AreCommonParts, IsCommonRange};
 ghost use Rattle.nodejs_semver.specs.Text.Meaning.{Means};
-ghost use Rattle.nodejs_semver.specs.Internal.CommonViews.{both_view};
-ghost use Rattle.nodejs_semver.specs.Internal.CommonViews.{bounds_front_view, passed_view};
+ghost use Rattle.nodejs_semver.specs.Internal.CommonViews.{both_view, bounds_front_view};
+ghost use Rattle.nodejs_semver.specs.Internal.CommonViews.{passed_view};
 ghost use Rattle.nodejs_semver.specs.Internal.Readings.{bounds_view, partial_front_view};
-ghost use Rattle.nodejs_semver.specs.Internal.Readings.{partial_view, rest_view};
-ghost use Rattle.nodejs_semver.specs.Internal.Readings.{table_view};
+ghost use Rattle.nodejs_semver.specs.Internal.Readings.{partial_view, rest_view, table_view};
 ghost use Rattle.semver_core.specs.Failures.{NoValue};
 ghost use Rattle.nodejs_semver.specs.Ranges.View.{TakesMemory};
 ghost use Rattle.semver_core.specs.Cuts.{Span, interval, is_interval};
@@ -86,7 +84,7 @@ fn push_common<'a, S: Found<'a>>(
 
 // Adds what two comparisons have in common, where that is an interval. Mostly the first one has a
 // lower bound and the second an upper one.
-#[tactic(auto, using(crate::proofs::Everyday::Bounds::half_open))]
+#[tactic(auto, using(crate::proofs::Everyday::Parts::half_open))]
 fn push_both<'a, S: Found<'a>>(
     first: Bounds<'a>,
     second: Bounds<'a>,
@@ -313,7 +311,7 @@ pub(crate) fn read_common<'a, S: Found<'a>>(
 
 // Whether a `+` stands in a text.
 fn has_plus(text: &str) -> bool
-    ensures { result ≡ has_plus text.now }
+    ensures { result ≡ Spec.has_plus text.now }
 {
     text.as_bytes().contains(&b'+')
 }

@@ -1,6 +1,6 @@
-use Rattle.nodejs_semver.proofs.Common.{◌-◌, ◌++◌, List, ℕ, ◌∙◌, ap, arith, length, sym, space_len, MAX_SAFE_INTEGER}
+use Rattle.nodejs_semver.proofs.Common.{◌-◌, ◌++◌, List, ℕ, ◌∙◌, ap, arith, length, sym, space_len, MAX_SAFE_INTEGER, rest_view}
 use Rattle.nodejs_semver.specs.Internal.Ignored.{ignored_behind, ignored_of, part_end}
-use Rattle.nodejs_semver.specs.Internal.Readings.{part_view, rest_view}
+use Rattle.nodejs_semver.specs.Internal.Readings.{part_view}
 use Rattle.nodejs_semver.proofs.Diagnosing.IgnoredParts.{all_step, part_ends, part_fits, sizes_of}
 use Rattle.nodejs_semver.proofs.diagnosis.ranges.before_words.Goals as goal
 

@@ -1,4 +1,4 @@
-use Rattle.std.proofs.Common.{arith}
+use Rattle.nodejs_semver.proofs.Common.{arith}
 use Rattle.nodejs_semver.proofs.Diagnosing.IgnoredParts.{part_over}
 use Rattle.nodejs_semver.proofs.diagnosis.ranges.first_ignored.Goals as goal
 

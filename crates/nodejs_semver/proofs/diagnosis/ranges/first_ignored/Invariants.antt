@@ -1,4 +1,4 @@
-use Rattle.std.proofs.Common.{◌≡◌}
+use Rattle.nodejs_semver.proofs.Common.{◌≡◌}
 use Rattle.nodejs_semver.specs.Internal.Ignored.{left_list, left_size}
 use Rattle.nodejs_semver.proofs.diagnosis.ranges.first_ignored.Given as goal
 

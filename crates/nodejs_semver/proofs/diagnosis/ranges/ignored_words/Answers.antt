@@ -1,7 +1,6 @@
-use Rattle.nodejs_semver.proofs.Common.{◌≡◌, arith, false, MAX_SAFE_INTEGER}
+use Rattle.nodejs_semver.proofs.Common.{◌≡◌, arith, false, MAX_SAFE_INTEGER, cut_bars}
 use Rattle.nodejs_semver.specs.Internal.Ignored.{all_ignored, left_list}
-use Rattle.nodejs_semver.specs.Internal.Parts.{cut_bars}
-use Rattle.nodejs_semver.proofs.Diagnosing.IgnoredLaw.{are_ignored, none_ignored}
+use Rattle.nodejs_semver.proofs.Diagnosing.IgnoredParts.{are_ignored, none_ignored}
 use Rattle.nodejs_semver.proofs.diagnosis.ranges.ignored_words.Goals as goal
 
 computed : (c : goal.After-before_words)

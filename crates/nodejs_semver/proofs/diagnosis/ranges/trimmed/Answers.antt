@@ -1,6 +1,6 @@
+use Rattle.nodejs_semver.proofs.Common.{after_blank-place, middle_is_trim}
 use Rattle.std.proofs.lemmas.Str.{IsCharBoundary-start}
-use Rattle.semver_core.proofs.Text.Trims.{after_blank-place, middle_is_trim}
-use Rattle.nodejs_semver.proofs.Dividing.Trimmed.{trim-starts}
+use Rattle.nodejs_semver.proofs.Reading.Bytes.{trim-starts}
 use Rattle.nodejs_semver.proofs.diagnosis.ranges.trimmed.Goals as goal
 
 pub skip_whitespace-requires : goal.skip_whitespace-requires

@@ -1,6 +1,5 @@
 use Rattle.nodejs_semver.proofs.Common.{◌≡◌, ◌-◌, ◌<◌, ℕ, zero, suc, List, length, false, sym, ap, ◌∙◌, arith, ◌==◌, eqb-true}
-use Rattle.nodejs_semver.proofs.Common.{MAX_SAFE_INTEGER}
-use Rattle.std.proofs.Common.{lit≤}
+use Rattle.nodejs_semver.proofs.Common.{MAX_SAFE_INTEGER, lit≤}
 use Rattle.nodejs_semver.proofs.Diagnosing.Flaws.{ended, ignored_left, left_fits, stuck_flaw, whole_left}
 use Rattle.nodejs_semver.proofs.diagnosis.versions.flaw_within.Goals as goal
 

@@ -1,4 +1,4 @@
-use Rattle.std.proofs.Common.{arith}
+use Rattle.nodejs_semver.proofs.Common.{arith}
 use Rattle.semver_core.proofs.Text.Texts.{mark_boundary}
 use Rattle.nodejs_semver.proofs.diagnosis.versions.front_of_numbers.Goals as goal
 

@@ -1,4 +1,4 @@
-use Rattle.semver_core.specs.declared.TheConstants.{MAX_SAFE_INTEGER}
+use Rattle.nodejs_semver.proofs.Common.{MAX_SAFE_INTEGER}
 use Rattle.nodejs_semver.proofs.Diagnosing.Flaws.{decided_only}
 use Rattle.nodejs_semver.proofs.diagnosis.versions.version_flaw.Goals as goal
 

@@ -1,10 +1,8 @@
 use Rattle.nodejs_semver.proofs.Algebra.Holds.{denotes_hold}
-use Rattle.nodejs_semver.proofs.Dividing.RunsDivide.{part_divides}
-use Rattle.nodejs_semver.proofs.Dividing.RunsUnique.{runs_are}
+use Rattle.nodejs_semver.proofs.Dividing.MeaningLaw as meaning
+use Rattle.nodejs_semver.proofs.Dividing.RunsDivide.{part_divides, runs_are}
 use Rattle.nodejs_semver.proofs.Everyday.Parts.{common_ranges_are_read}
 use Rattle.nodejs_semver.proofs.Everyday.Texts.{common_parts_are_denoted}
-use Rattle.nodejs_semver.proofs.Dividing.MeaningLaw as meaning
-use Rattle.nodejs_semver.proofs.Dividing.WrittenLaw as law
 use Rattle.nodejs_semver.proofs.laws.texts.meaning.Goals as goal
 
 pub returns : goal.returns
@@ -12,7 +10,7 @@ returns c = record {
   divided = part_divides;
   once = runs_are;
   one_meaning = meaning.one_meaning;
-  written = law.written;
+  written = meaning.written;
   intervals_hold_what_is_written = denotes_hold;
   denoted = λ limit text list h. common_parts_are_denoted limit text list h.0;
   read = common_ranges_are_read;

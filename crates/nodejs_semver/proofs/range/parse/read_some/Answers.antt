@@ -2,7 +2,7 @@ use Rattle.nodejs_semver.proofs.Common.{MAX_SAFE_INTEGER, [], arith, common_step
 use Rattle.nodejs_semver.proofs.Common.{◌<◌, ◌≡◌, ◌⊎◌}
 use Rattle.nodejs_semver.proofs.Everyday.Whole.{denoted_range}
 use Rattle.nodejs_semver.proofs.Dividing.MeaningLaw.{meant, meant_so}
-use Rattle.nodejs_semver.proofs.Dividing.WrittenLaw.{accepted_written}
+use Rattle.nodejs_semver.proofs.Dividing.MeaningLaw.{accepted_written}
 use Rattle.nodejs_semver.proofs.range.parse.read_some.Goals as goal
 
 pub returns-clause-range : goal.returns-clause-range

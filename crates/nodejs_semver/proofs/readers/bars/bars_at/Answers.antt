@@ -1,5 +1,4 @@
-use Rattle.std.proofs.Common.{arith}
-use Rattle.std.proofs.lemmas.List.{take_rest, drop_all}
+use Rattle.nodejs_semver.proofs.Common.{arith, take_rest, drop_all}
 use Rattle.nodejs_semver.proofs.Dividing.BarLemmas.{bars_at-stop, bars_at-more, bars_at-nil}
 use Rattle.nodejs_semver.proofs.readers.bars.bars_at.Goals as goal
 

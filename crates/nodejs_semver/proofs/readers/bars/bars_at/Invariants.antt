@@ -1,4 +1,4 @@
-use Rattle.std.proofs.Common.{◌≡◌, ◌+◌, drop}
+use Rattle.nodejs_semver.proofs.Common.{◌≡◌, ◌+◌, drop}
 use Rattle.nodejs_semver.specs.Internal.PartFronts.{bars_at}
 use Rattle.nodejs_semver.proofs.readers.bars.bars_at.Given as goal
 

@@ -1,7 +1,6 @@
-use Rattle.nodejs_semver.proofs.Common.{◌∷◌, List, ℕ, sym, ap, ◌∙◌, Option, trim, later_parts, rest_view}
-use Rattle.semver_core.proofs.Text.Trims.{middle_is_trim}
+use Rattle.nodejs_semver.proofs.Common.{◌∷◌, List, ℕ, sym, ap, ◌∙◌, Option, trim, later_parts, rest_view, middle_is_trim}
 use Rattle.nodejs_semver.proofs.Dividing.BarLemmas.{parts-front}
-use Rattle.nodejs_semver.proofs.Dividing.Trimmed.{trim-starts}
+use Rattle.nodejs_semver.proofs.Reading.Bytes.{trim-starts}
 use Rattle.nodejs_semver.proofs.readers.bars.next_part.Goals as goal
 
 pub returns-clause-value : goal.returns-clause-value

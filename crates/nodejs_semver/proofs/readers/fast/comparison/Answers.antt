@@ -1,5 +1,4 @@
-use Rattle.std.proofs.Common.{arith}
-use Rattle.nodejs_semver.specs.Internal.CommonFronts.{comparison_front}
+use Rattle.nodejs_semver.proofs.Common.{arith, comparison_front}
 use Rattle.nodejs_semver.proofs.Bounds.TableReadings.{compared}
 use Rattle.nodejs_semver.proofs.readers.fast.comparison.Goals as goal
 

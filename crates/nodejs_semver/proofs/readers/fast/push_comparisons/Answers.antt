@@ -1,13 +1,9 @@
-use Rattle.std.proofs.Common.{◌≡◌, rules, List, ℕ, sym, ap, ◌∙◌, true, refl}
-use Rattle.std.proofs.lemmas.List.{take_rest}
-use Rattle.semver_core.specs.Cuts.{Span}
-use Rattle.semver_core.specs.Values.Versions.{VersionValue}
-use Rattle.semver_core.specs.declared.TheConstants.{MAX_SAFE_INTEGER}
-use Rattle.nodejs_semver.specs.Internal.CommonFronts.{begins_second, comparison_front, comparisons_front, passed, word_read}
+use Rattle.nodejs_semver.proofs.Common.{◌≡◌, rules, List, ℕ, sym, ap, ◌∙◌, true, refl, take_rest, Span, VersionValue}
+use Rattle.nodejs_semver.proofs.Common.{MAX_SAFE_INTEGER, Front, rest_view, begins_second, comparison_front, comparisons_front}
+use Rattle.nodejs_semver.proofs.Common.{passed, word_read}
 use Rattle.nodejs_semver.specs.Internal.CommonViews.{bounds_front_view}
-use Rattle.nodejs_semver.specs.Internal.Fronts.{Front}
-use Rattle.nodejs_semver.specs.Internal.Readings.{bounds_view, rest_view}
-use Rattle.nodejs_semver.proofs.Everyday.Bounds.{first-read, none-second, passed-part, passed-second}
+use Rattle.nodejs_semver.specs.Internal.Readings.{bounds_view}
+use Rattle.nodejs_semver.proofs.Everyday.Parts.{first-read, none-second, passed-part, passed-second}
 use Rattle.nodejs_semver.proofs.readers.fast.push_comparisons.Goals as goal
 
 pub returns-in_default-clause-added : goal.returns-in_default-clause-added

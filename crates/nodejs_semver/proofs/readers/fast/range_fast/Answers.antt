@@ -1,12 +1,9 @@
-use Rattle.std.proofs.Common.{◌≡◌, ◌∙◌, ap, arith, List, [], ◌∷◌, ℕ, inr, rules, subst, sym}
-use Rattle.std.proofs.lemmas.Result.{IfOk-weaker, on_err_weaker}
-use Rattle.std.specs.Prelude.{IfSome, IsTrue, IsUtf8}
-use Rattle.semver_core.specs.declared.TheConstants.{MAX_SAFE_INTEGER}
+use Rattle.nodejs_semver.proofs.Common.{◌≡◌, ◌∙◌, ap, arith, List, [], ◌∷◌, ℕ, inr, rules, subst, sym, on_err_weaker, IfSome}
+use Rattle.nodejs_semver.proofs.Common.{IsTrue, IsUtf8, MAX_SAFE_INTEGER, Means, if_any}
+use Rattle.std.proofs.lemmas.Result.{IfOk-weaker}
 use Rattle.nodejs_semver.specs.Text.Common.{IsCommonRange}
-use Rattle.nodejs_semver.specs.Text.Meaning.{Means}
-use Rattle.semver_core.specs.Lists.{if_any}
 use Rattle.nodejs_semver.proofs.Values.{spans_same}
-use Rattle.nodejs_semver.proofs.Everyday.Loop.{common_so}
+use Rattle.nodejs_semver.proofs.Everyday.Parts.{common_so}
 use Rattle.nodejs_semver.proofs.Everyday.Whole.{common_bounded, common_means}
 use Rattle.nodejs_semver.proofs.readers.fast.range_fast.Goals as goal
 

@@ -1,9 +1,7 @@
-use Rattle.std.proofs.Common.{arith, refl, sym, ap, ◌∙◌, inr}
-use Rattle.semver_core.specs.declared.TheConstants.{MAX_SAFE_INTEGER}
-use Rattle.nodejs_semver.specs.Internal.Readings.{rest_view}
+use Rattle.nodejs_semver.proofs.Common.{arith, refl, sym, ap, ◌∙◌, inr, MAX_SAFE_INTEGER, rest_view}
 use Rattle.nodejs_semver.proofs.Algebra.FlatMaps.{on_err}
-use Rattle.nodejs_semver.proofs.Everyday.Loop.{loop-bars, loop-ends, loop-goes, loop-no_bars}
-use Rattle.nodejs_semver.proofs.Everyday.Loop.{loop-no_part, loop-shorter, loop-starts}
+use Rattle.nodejs_semver.proofs.Everyday.Parts.{loop-bars, loop-ends, loop-goes, loop-no_bars, loop-no_part, loop-shorter}
+use Rattle.nodejs_semver.proofs.Everyday.Parts.{loop-starts}
 use Rattle.nodejs_semver.proofs.readers.fast.read_common.Goals as goal
 
 pub parts-init : goal.parts-init

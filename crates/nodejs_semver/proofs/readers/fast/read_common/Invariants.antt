@@ -1,6 +1,5 @@
-use Rattle.std.proofs.Common.{length}
-use Rattle.semver_core.specs.declared.TheConstants.{MAX_SAFE_INTEGER}
-use Rattle.nodejs_semver.proofs.Everyday.Loop.{Reaches}
+use Rattle.nodejs_semver.proofs.Common.{length, MAX_SAFE_INTEGER}
+use Rattle.nodejs_semver.proofs.Everyday.Parts.{Reaches}
 use Rattle.nodejs_semver.proofs.readers.fast.read_common.Given as goal
 
 -- what was found, and what is read in the rest of the text, is what is read in the text

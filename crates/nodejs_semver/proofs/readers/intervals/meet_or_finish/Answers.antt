@@ -1,6 +1,5 @@
-use Rattle.nodejs_semver.proofs.Common.{◌++◌, ◌∷◌, [], List, sym, ap, ◌∙◌, Span, precedence, VersionValue}
-use Rattle.nodejs_semver.specs.Internal.Meets.{joined_from}
-use Rattle.nodejs_semver.proofs.Dividing.PartSteps.{join_goes, join_stops}
+use Rattle.nodejs_semver.proofs.Common.{◌++◌, ◌∷◌, [], List, sym, ap, ◌∙◌, Span, precedence, VersionValue, joined_from}
+use Rattle.nodejs_semver.proofs.Dividing.RunsDivide.{join_goes, join_stops}
 use Rattle.nodejs_semver.proofs.readers.intervals.meet_or_finish.Goals as goal
 
 pub returns-in-Ok-clause-joined : goal.returns-in-Ok-clause-joined

@@ -1,5 +1,5 @@
-use Rattle.std.proofs.Common.{arith}
-use Rattle.nodejs_semver.proofs.Reading.SignLaw.{upper_none}
+use Rattle.nodejs_semver.proofs.Common.{arith}
+use Rattle.nodejs_semver.proofs.Reading.WordLaw.{upper_none}
 use Rattle.nodejs_semver.proofs.readers.intervals.push_upper.Goals as goal
 
 pub returns-in_default-empty : goal.returns-in_default-empty

@@ -1,6 +1,5 @@
-use Rattle.nodejs_semver.proofs.Common.{◌≡◌, ◌<◌, None, length, precedence, MAX_SAFE_INTEGER, space_len}
-use Rattle.nodejs_semver.specs.Internal.Denotes.{part_bounds, part_intervals}
-use Rattle.nodejs_semver.specs.Internal.Meets.{joined}
+use Rattle.nodejs_semver.proofs.Common.{◌≡◌, ◌<◌, None, length, precedence, MAX_SAFE_INTEGER, space_len, part_bounds}
+use Rattle.nodejs_semver.proofs.Common.{part_intervals, joined}
 use Rattle.nodejs_semver.proofs.readers.intervals.read_part.Given as goal
 
 abbrev pub invariant-words : goal.invariant-words

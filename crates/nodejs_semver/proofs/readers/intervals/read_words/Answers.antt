@@ -1,10 +1,8 @@
 use Rattle.nodejs_semver.proofs.Common.{◌≡◌, ◌<◌, ◌++◌, ◌∷◌, List, length, sym, ap, ◌∙◌, arith, subst, Some, None}
 use Rattle.nodejs_semver.proofs.Common.{MatchResult-from_err, on_err_weaker, Span, precedence, VersionValue, MAX_SAFE_INTEGER}
-use Rattle.std.proofs.Common.{OnOk}
-use Rattle.nodejs_semver.specs.Internal.Denotes.{part_bounds}
-use Rattle.nodejs_semver.specs.Internal.Meets.{joined_from, next_at}
-use Rattle.nodejs_semver.proofs.Dividing.PartSteps.{bounds-step, had_one, longer_joined, read-is, read-shorter, read-starts}
-use Rattle.nodejs_semver.proofs.Dividing.PartSteps.{words-last}
+use Rattle.nodejs_semver.proofs.Common.{part_bounds, OnOk, joined_from, next_at}
+use Rattle.nodejs_semver.proofs.Dividing.RunsDivide.{bounds-step, had_one, longer_joined, read-is, read-shorter, read-starts}
+use Rattle.nodejs_semver.proofs.Dividing.RunsDivide.{words-last}
 use Rattle.nodejs_semver.proofs.readers.intervals.read_words.Goals as goal
 
 pub words-smaller-in-Some : goal.words-smaller-in-Some

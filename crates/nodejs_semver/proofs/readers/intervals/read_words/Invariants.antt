@@ -1,5 +1,4 @@
-use Rattle.nodejs_semver.proofs.Common.{◌≡◌, ◌++◌, length, precedence, MAX_SAFE_INTEGER, space_len, part_bounds}
-use Rattle.nodejs_semver.specs.Internal.Meets.{joined_from}
+use Rattle.nodejs_semver.proofs.Common.{◌≡◌, ◌++◌, length, precedence, MAX_SAFE_INTEGER, space_len, part_bounds, joined_from}
 use Rattle.nodejs_semver.proofs.readers.intervals.read_words.Given as goal
 
 abbrev pub invariant-words : goal.invariant-words

@@ -1,9 +1,9 @@
 use Rattle.nodejs_semver.proofs.Common.{◌≡◌, ap, arith, is_some, true, false, rules, ◌∙◌, sym, refl, MAX_SAFE_INTEGER, table}
 use Rattle.nodejs_semver.specs.Internal.Readings.{partial_front_view, partial_view, sign_pair_view, sign_view}
 use Rattle.nodejs_semver.specs.Internal.Words.{from_boundary, is_boundary, signed_word}
-use Rattle.nodejs_semver.proofs.Diagnosing.IgnoredKinds.{at_hyphen, at_malformed, at_signed}
+use Rattle.nodejs_semver.proofs.Diagnosing.IgnoredParts.{at_hyphen, at_malformed, at_signed}
+use Rattle.nodejs_semver.proofs.Reading.WordLaw.{word-as}
 use Rattle.nodejs_semver.proofs.readers.kinds.ignored_front.Goals as goal
-use Rattle.nodejs_semver.proofs.Reading.SignLaw.{word-as}
 
 pub returns-in_default : goal.returns-in_default
 returns-in_default c =

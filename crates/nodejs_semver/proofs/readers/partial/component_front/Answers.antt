@@ -1,5 +1,5 @@
 use Rattle.nodejs_semver.proofs.Common.{ℕ, List, Option, Some, ap, sym, ◌∙◌, arith, rules, take_rest, same_Some, MAX_SAFE_INTEGER}
-use Rattle.nodejs_semver.specs.Internal.Fronts.{Front, component_front}
+use Rattle.nodejs_semver.proofs.Common.{Front, component_front}
 use Rattle.nodejs_semver.proofs.Reading.Numbers.{front_none, front_small, front_some, number_first}
 use Rattle.nodejs_semver.proofs.readers.partial.component_front.Goals as goal
 

@@ -1,6 +1,5 @@
-use Rattle.std.proofs.Common.{arith}
-use Rattle.std.proofs.lemmas.List.{take_rest, drop_all}
-use Rattle.nodejs_semver.proofs.Reading.Boundaries.{from_boundary-stop, from_boundary-more, from_boundary-nil}
+use Rattle.nodejs_semver.proofs.Common.{arith, take_rest, drop_all}
+use Rattle.nodejs_semver.proofs.Reading.WordLaw.{from_boundary-stop, from_boundary-more, from_boundary-nil}
 use Rattle.nodejs_semver.proofs.readers.words.skip_to_boundary.Goals as goal
 
 pub returns-then-is_boundary : goal.returns-then-is_boundary

@@ -1,4 +1,4 @@
-use Rattle.std.proofs.Common.{◌≡◌, drop}
+use Rattle.nodejs_semver.proofs.Common.{◌≡◌, drop}
 use Rattle.nodejs_semver.specs.Internal.Words.{from_boundary}
 use Rattle.nodejs_semver.proofs.readers.words.skip_to_boundary.Given as goal
 

@@ -1,5 +1,6 @@
-use Rattle.std.proofs.Common.{ap, refl, sym, ◌∙◌, List, ℕ, ◌++◌, append_assoc, decimal, codes}
-use Rattle.std.proofs.Output.{has_written_styled_append, has_written_styled_of_eq}
+use Rattle.nodejs_semver.proofs.Common.{ap, refl, sym, ◌∙◌, List, ℕ, ◌++◌, append_assoc, has_written_styled_append, decimal}
+use Rattle.std.proofs.Common.{codes}
+use Rattle.std.proofs.Output.{has_written_styled_of_eq}
 use Rattle.nodejs_semver.specs.Diagnosis.Messages.{kind_text}
 use Rattle.nodejs_semver.proofs.diagnosis.messages.IgnoredWordDisplay.fmt.Goals as goal
 
