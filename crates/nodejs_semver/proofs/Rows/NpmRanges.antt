@@ -176,10 +176,10 @@ row-marks = refl
 
 -- ---- malformed words
 
--- `-1`, `1|2`, `1.2.3.4` and `2,` are ignored, and `-`, `foo=`, `1.2.34.5`, `1/*` and nothing are not
-row-malformed : map is_malformed (codes "-1" ∷ (codes "1|2" ∷ (codes "1.2.3.4" ∷ (codes "2," ∷ []))))
-    ++ map is_malformed (codes "-" ∷ (codes "foo=" ∷ (codes "1.2.34.5" ∷ (codes "1/*" ∷ ([] ∷ [])))))
-    ≡ true ∷ (true ∷ (true ∷ (true ∷ (false ∷ (false ∷ (false ∷ (false ∷ (false ∷ []))))))))
+-- `-1`, `1|2`, `1.2.3.4`, `1/*` and `1.2-` are ignored, and `-`, `foo=`, `1.2.34.5`, `1.2.3-` and nothing are not
+row-malformed : map is_malformed (codes "-1" ∷ (codes "1|2" ∷ (codes "1.2.3.4" ∷ (codes "1/*" ∷ (codes "1.2-" ∷ [])))))
+    ++ map is_malformed (codes "-" ∷ (codes "foo=" ∷ (codes "1.2.34.5" ∷ (codes "1.2.3-" ∷ ([] ∷ [])))))
+    ≡ true ∷ (true ∷ (true ∷ (true ∷ (true ∷ (false ∷ (false ∷ (false ∷ (false ∷ (false ∷ [])))))))))
 row-malformed = refl
 
 -- `foo` and `foo * bar` are no alternatives, and `foo *`, `foo *.1`, strictly `foo`, and `foo 1 bar` are

@@ -13,7 +13,7 @@ use Rattle.nodejs_semver.specs.Internal.NpmWords.{Signed, any_word, ended_word, 
 use Rattle.nodejs_semver.specs.Internal.NpmWords.{word_front, words_within}
 use Rattle.nodejs_semver.specs.Internal.Words.{is_boundary}
 use Rattle.nodejs_semver.specs.Npm.RangeText as Text
-use Rattle.nodejs_semver.specs.Npm.Malformed.{begins_malformed, is_plain, is_visible}
+use Rattle.nodejs_semver.specs.Npm.Malformed.{begins_malformed, is_visible}
 use Rattle.nodejs_semver.specs.Npm.RangeText.{AreWords, IsPartial, IsPlace, IsSignText, IsWord, are_marks, ignored, is_mark, last, more, one, spelling, three, two, word}
 use Rattle.nodejs_semver.specs.Npm.RangeText.{caret_equal, late_above, late_below, no_sign, sign, tilde_sign, tilde_twice}
 use Rattle.nodejs_semver.specs.Npm.Table.{Comparison, Partial, Sign, caret, compared, table, tilde, wildcard}
@@ -22,7 +22,7 @@ use Rattle.nodejs_semver.proofs.Reading.Bytes.{begins-on, begins-some, begins_co
 use Rattle.nodejs_semver.proofs.Reading.Progress.{spaces-gone, spaces-le}
 use Rattle.nodejs_semver.proofs.Reading.Steps.{option-cases}
 use Rattle.nodejs_semver.proofs.Reading.WordLaw.{boundary-utf8, suffix-boundary}
-use Rattle.nodejs_semver.proofs.Strict.Malformed.{boundary-plain, ignored-read, malformed-visible, visible-dark, word-regular}
+use Rattle.nodejs_semver.proofs.Strict.Malformed.{boundary-dark, ignored-read, malformed-visible, visible-dark, word-regular}
 use Rattle.nodejs_semver.proofs.Strict.PartialLaw.{boundary-quiet, partial-found, partial-read}
 use Rattle.nodejs_semver.proofs.Strict.Places.{digits-begin}
 use Rattle.nodejs_semver.proofs.Strict.VersionLaw.{empty-is}
@@ -80,7 +80,7 @@ word-read loose include w rest cs (ignored x l h) b = rw (ignored-read loose x r
 word-read loose include w rest cs (word signs marks x s p h m e k) b =
     let u = x ++ rest in
     let begin : begins_component x ≡ true = rw (append-nil x) at (partial-begins loose x [] p k) in
-    let regular = word-regular loose signs marks x rest s p h (marks-all loose s p marks m) k begin (boundary-plain rest b) in
+    let regular = word-regular loose signs marks x rest s p h (marks-all loose s p marks m) k begin (boundary-dark rest b) in
     let none : ignored_front loose ((signs ++ (marks ++ x)) ++ rest) ≡ None = none-ignored loose ((signs ++ (marks ++ x)) ++ rest) regular in
     let t = sign-taken loose signs s p marks x u h m e (partial-begins loose x rest p k) in
     let whole : (signs ++ (marks ++ x)) ++ rest ≡ signs ++ (marks ++ u) = simp append_assoc refl in
@@ -158,7 +158,7 @@ ignored-found : (loose : Bool) (include : Bool) (text : List ℕ) (w : Signed ×
     → WordAt loose include text (table include w.0.0 w.0.1 w.0.2) w.1
 unfolding ignored_front
 ignored-found loose include text w u h =
-    let n = prefix_len is_plain text in
+    let n = prefix_len is_visible text in
     let rest = drop n text in
     let run = take n text in
     let read : Signed × List ℕ = ((compared equal, wildcard, []), rest) in

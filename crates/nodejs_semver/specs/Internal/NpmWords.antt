@@ -12,7 +12,7 @@ use Rattle.nodejs_semver.specs.Internal.Fronts.{Front, after_byte, begins_byte, 
 use Rattle.nodejs_semver.specs.Internal.NpmReadings.{dashed_front}
 use Rattle.nodejs_semver.specs.Internal.Parts.{parts}
 use Rattle.nodejs_semver.specs.Internal.Words.{after_some_space, is_boundary, or_else}
-use Rattle.nodejs_semver.specs.Npm.Malformed.{begins_malformed, is_plain}
+use Rattle.nodejs_semver.specs.Npm.Malformed.{begins_malformed, is_visible}
 use Rattle.nodejs_semver.specs.Npm.RangeText.{are_marks, are_spelled, are_whole_marks, begins_letter, is_free_lower, is_free_upper, is_lost, is_mark, is_short_build, is_short_identifier, is_spelled, most_digits, partial_of}
 use Rattle.nodejs_semver.specs.Npm.Ranges.{is_valid}
 use Rattle.nodejs_semver.specs.Npm.Table.{Comparison, Partial, Sign, caret, compared, hyphen_lower, hyphen_upper, major, minor, table, tilde, whole, wildcard}
@@ -186,7 +186,7 @@ signed_word loose text = let s = npm_sign text in marked_word loose s (partial_f
 
 -- the malformed word at the front, as one that has no comparators
 unfoldable pub ignored_front : Bool → List ℕ → Front Signed
-ignored_front loose text = let rest = drop (prefix_len is_plain text) text in
+ignored_front loose text = let rest = drop (prefix_len is_visible text) text in
     if loose && (begins_malformed text && is_boundary rest) then Some ((compared equal, wildcard, []), rest) else None
 
 unfoldable pub any_word : Bool → List ℕ → Front Signed
