@@ -151,13 +151,14 @@ row-tilde_twice : AreWords false false (codes "~> >1") (table false tilde (major
 row-tilde_twice =
     last _ _ (word (codes "~> >") [] (codes "1") tilde (major 1) (tilde_twice above (codes " ") [] blank (lit< tt) no_blank (inl refl)) refl refl one_is)
 
--- loosely `^01` is `^1`, and `01` stands for no number strictly, `00` for none at all
+-- loosely `^01` is `^1`, `01` stands for no number strictly, and `00` for none but loosely behind a major number
 row-leading : AreWords true false (codes "^01") (table false caret (major 1) (codes "01"))
 row-leading = last _ _ (word (codes "^") [] (codes "01") caret (major 1) (sign caret [] no_blank) refl refl
     (one (codes "01") (Some 1) (number (codes "01") 1 (record { some = lit< tt; each = refl; value = refl; safe = lit≤ tt }) refl (lit≤ tt))))
 
-row-spelled : is_spelled true 1 (codes "01") ∷ is_spelled false 1 (codes "01") ∷ is_spelled true 0 (codes "00") ∷ is_spelled false 0 (codes "0") ∷ []
-    ≡ true ∷ false ∷ false ∷ true ∷ []
+row-spelled : is_spelled true false 1 (codes "01") ∷ is_spelled false true 1 (codes "01") ∷ is_spelled true false 0 (codes "00")
+    ∷ is_spelled true true 0 (codes "00") ∷ is_spelled false false 0 (codes "0") ∷ []
+    ≡ true ∷ false ∷ false ∷ true ∷ true ∷ []
 row-spelled = refl
 
 -- `beta` may stand without `-` loosely, where it begins with a letter, and the identifier `01`

@@ -19,7 +19,7 @@ use Rattle.nodejs_semver.specs.Internal.Words.{is_boundary}
 use Rattle.nodejs_semver.specs.Npm.Grammar.{IsStrictBuild, no_build, plus}
 use Rattle.nodejs_semver.specs.Npm.Malformed.{after_dot, are_first, begins_malformed, has_four_parts, is_first, is_inner, is_malformed, is_visible, last_visible}
 use Rattle.nodejs_semver.specs.Npm.RangeText as Text
-use Rattle.nodejs_semver.specs.Npm.RangeText.{IsPartial, IsPlace, IsPreRelease, IsSignText, bare, dashed}
+use Rattle.nodejs_semver.specs.Npm.RangeText.{IsPartial, IsPlace, IsPreRelease, IsSignText, bare, dashed, has_zeros}
 use Rattle.nodejs_semver.specs.Npm.RangeText.{is_mark, no_pre_release, one, spelling, three, two}
 use Rattle.nodejs_semver.specs.Npm.RangeText.{caret_equal, late_above, late_below, no_sign, sign, tilde_sign, tilde_twice}
 use Rattle.nodejs_semver.specs.Npm.Table.{Partial, Sign, caret, compared, tilde}
@@ -41,12 +41,12 @@ digits-part (c ∷ digits) h =
     digit-part : (c : ℕ) → is_ascii_digit c ≡ true → is_part c ≡ true
     digit-part c h = grind (arith, nat_tests)
 
-place-part : (loose : Bool) (x : List ℕ) (a : Option ℕ) → IsPlace loose x a → list_all is_part x ≡ true
-place-part loose x a (Text.any b h) = rw (wild b h) refl
+place-part : (loose zeros : Bool) (x : List ℕ) (a : Option ℕ) → IsPlace loose zeros x a → list_all is_part x ≡ true
+place-part loose zeros x a (Text.any b h) = rw (wild b h) refl
   where
     wild : (b : ℕ) → is_wildcard b ≡ true → is_part b ≡ true
     wild b h = grind (arith, nat_tests)
-place-part loose x a (Text.number digits n k spelled short) = digits-part digits k.each
+place-part loose zeros x a (Text.number digits n k spelled short) = digits-part digits k.each
 
 pieces-part : (t : List ℕ) → tail_runs (pieces t) ≡ true → list_all is_part t ≡ true
 pieces-part [] h = refl
@@ -73,13 +73,13 @@ build-part p l no_build = refl
 build-part p l (plus t list h) = pieces-part t (runs_tail (pieces t) h.runs)
 
 pub partial-part : (loose : Bool) (x : List ℕ) (p : Partial) → IsPartial loose x p → list_all is_part x ≡ true
-partial-part loose x p (one x1 a h) = place-part loose x1 a h
-partial-part loose x p (two x1 y a b h k) = all-join is_part x1 (46 ∷ y) (place-part loose x1 a h) (place-part loose y b k)
+partial-part loose x p (one x1 a h) = place-part loose false x1 a h
+partial-part loose x p (two x1 y a b h k) = all-join is_part x1 (46 ∷ y) (place-part loose false x1 a h) (place-part loose (has_zeros a) y b k)
 partial-part loose x p (three x1 y z pre build a b c ids builds h k l m s n t) =
     let last_part = all-join is_part pre build (pre-part loose pre ids m) (build-part build builds n) in
-    let third = all-join is_part z (pre ++ build) (place-part loose z c l) last_part in
-    let second = all-join is_part y (46 ∷ (z ++ (pre ++ build))) (place-part loose y b k) third in
-    all-join is_part x1 (46 ∷ (y ++ 46 ∷ (z ++ (pre ++ build)))) (place-part loose x1 a h) second
+    let third = all-join is_part z (pre ++ build) (place-part loose (has_zeros a) z c l) last_part in
+    let second = all-join is_part y (46 ∷ (z ++ (pre ++ build))) (place-part loose (has_zeros a) y b k) third in
+    all-join is_part x1 (46 ∷ (y ++ 46 ∷ (z ++ (pre ++ build)))) (place-part loose false x1 a h) second
 
 pub all-weaker : (p q : ℕ → Bool) → ((b : ℕ) → p b ≡ true → q b ≡ true) → (x : List ℕ) → list_all p x ≡ true → list_all q x ≡ true
 all-weaker p q f [] h = refl
@@ -257,12 +257,12 @@ mark-dotless b h = grind (arith, nat_tests)
 digit-dotless : (b : ℕ) → is_ascii_digit b ≡ true → is_dotless b ≡ true
 digit-dotless b h = grind (arith, nat_tests)
 
-place-dotless : (loose : Bool) (x : List ℕ) (a : Option ℕ) → IsPlace loose x a → (list_all is_dotless x ≡ true) × (0 < length x)
-place-dotless loose x a (Text.any b h) = (rw (wild b h) refl, omega arith)
+place-dotless : (loose zeros : Bool) (x : List ℕ) (a : Option ℕ) → IsPlace loose zeros x a → (list_all is_dotless x ≡ true) × (0 < length x)
+place-dotless loose zeros x a (Text.any b h) = (rw (wild b h) refl, omega arith)
   where
     wild : (b : ℕ) → is_wildcard b ≡ true → is_dotless b ≡ true
     wild b h = grind (arith, nat_tests)
-place-dotless loose x a (Text.number digits n k spelled short) =
+place-dotless loose zeros x a (Text.number digits n k spelled short) =
     (all-weaker is_ascii_digit is_dotless digit-dotless digits k.each, k.some)
 
 blank-dotless : (x : List ℕ) → IsBlank x → list_all is_dotless x ≡ true
@@ -305,17 +305,17 @@ third (c ∷ d ∷ z) q h s k = grind arith
 
 partial-parts : (loose : Bool) (x : List ℕ) (p : Partial) → IsPartial loose x p → has_four_parts x ≡ false
 partial-parts loose x p (one x1 a h) =
-    let e : after_dot x1 ≡ [] = rw append-nil at (dotless-passed x1 [] (place-dotless loose x1 a h).0) in
+    let e : after_dot x1 ≡ [] = rw append-nil at (dotless-passed x1 [] (place-dotless loose false x1 a h).0) in
     rw e refl
 partial-parts loose x p (two x1 y a b h k) =
-    let d : after_dot (x1 ++ 46 ∷ y) ≡ y = dotless-passed x1 (46 ∷ y) (place-dotless loose x1 a h).0 in
-    let e : after_dot y ≡ [] = rw append-nil at (dotless-passed y [] (place-dotless loose y b k).0) in
+    let d : after_dot (x1 ++ 46 ∷ y) ≡ y = dotless-passed x1 (46 ∷ y) (place-dotless loose false x1 a h).0 in
+    let e : after_dot y ≡ [] = rw append-nil at (dotless-passed y [] (place-dotless loose (has_zeros a) y b k).0) in
     rw (d, e) refl
 partial-parts loose x p (three x1 y z pre build a b c ids builds h k l m s n t) =
     let q = z ++ (pre ++ build) in
-    let d : after_dot (x1 ++ 46 ∷ (y ++ 46 ∷ q)) ≡ y ++ 46 ∷ q = dotless-passed x1 (46 ∷ (y ++ 46 ∷ q)) (place-dotless loose x1 a h).0 in
-    let e : after_dot (y ++ 46 ∷ q) ≡ q = dotless-passed y (46 ∷ q) (place-dotless loose y b k).0 in
-    let place = place-dotless loose z c l in
+    let d : after_dot (x1 ++ 46 ∷ (y ++ 46 ∷ q)) ≡ y ++ 46 ∷ q = dotless-passed x1 (46 ∷ (y ++ 46 ∷ q)) (place-dotless loose false x1 a h).0 in
+    let e : after_dot (y ++ 46 ∷ q) ≡ q = dotless-passed y (46 ∷ q) (place-dotless loose (has_zeros a) y b k).0 in
+    let place = place-dotless loose (has_zeros a) z c l in
     rw (d, e) (third z (pre ++ build) place.0 place.1 (pre-first loose pre build ids builds m n))
 
 word-parts : (loose : Bool) (signs marks x : List ℕ) (s : Sign) (p : Partial) → IsSignText signs s → list_all is_mark marks ≡ true
@@ -398,12 +398,12 @@ visible-behind (b ∷ u) h =
       | inr other ↦ rw other (visible-behind u each.1)
     ]
 
-place-start : (loose : Bool) (x : List ℕ) (a : Option ℕ) → IsPlace loose x a → list_all is_start x ≡ true
-place-start loose x a (Text.any b h) = rw (wild b h) refl
+place-start : (loose zeros : Bool) (x : List ℕ) (a : Option ℕ) → IsPlace loose zeros x a → list_all is_start x ≡ true
+place-start loose zeros x a (Text.any b h) = rw (wild b h) refl
   where
     wild : (b : ℕ) → is_wildcard b ≡ true → is_start b ≡ true
     wild b h = grind (arith, nat_tests)
-place-start loose x a (Text.number digits n k spelled short) = all-weaker is_ascii_digit is_start digit-start digits k.each
+place-start loose zeros x a (Text.number digits n k spelled short) = all-weaker is_ascii_digit is_start digit-start digits k.each
   where
     digit-start : (b : ℕ) → is_ascii_digit b ≡ true → is_start b ≡ true
     digit-start b h = grind (arith, nat_tests)
@@ -411,16 +411,16 @@ place-start loose x a (Text.number digits n k spelled short) = all-weaker is_asc
 partial-start : (loose : Bool) (x : List ℕ) (p : Partial) → IsPartial loose x p
     → (are_start x ≡ true) × (are_start (after_dot x) ≡ true)
 partial-start loose x p (one x1 a h) =
-    let e : after_dot x1 ≡ [] = rw append-nil at (dotless-passed x1 [] (place-dotless loose x1 a h).0) in
-    (start-all x1 (place-start loose x1 a h), rw e refl)
+    let e : after_dot x1 ≡ [] = rw append-nil at (dotless-passed x1 [] (place-dotless loose false x1 a h).0) in
+    (start-all x1 (place-start loose false x1 a h), rw e refl)
 partial-start loose x p (two x1 y a b h k) =
-    let d : after_dot (x1 ++ 46 ∷ y) ≡ y = dotless-passed x1 (46 ∷ y) (place-dotless loose x1 a h).0 in
-    (start-joined x1 (46 ∷ y) (place-start loose x1 a h) refl, rw d (start-all y (place-start loose y b k)))
+    let d : after_dot (x1 ++ 46 ∷ y) ≡ y = dotless-passed x1 (46 ∷ y) (place-dotless loose false x1 a h).0 in
+    (start-joined x1 (46 ∷ y) (place-start loose false x1 a h) refl, rw d (start-all y (place-start loose (has_zeros a) y b k)))
 partial-start loose x p (three x1 y z pre build a b c ids builds h k l m s n t) =
     let q = z ++ (pre ++ build) in
-    let d : after_dot (x1 ++ 46 ∷ (y ++ 46 ∷ q)) ≡ y ++ 46 ∷ q = dotless-passed x1 (46 ∷ (y ++ 46 ∷ q)) (place-dotless loose x1 a h).0 in (
-      start-joined x1 (46 ∷ (y ++ 46 ∷ q)) (place-start loose x1 a h) refl,
-      rw d (start-joined y (46 ∷ q) (place-start loose y b k) refl),
+    let d : after_dot (x1 ++ 46 ∷ (y ++ 46 ∷ q)) ≡ y ++ 46 ∷ q = dotless-passed x1 (46 ∷ (y ++ 46 ∷ q)) (place-dotless loose false x1 a h).0 in (
+      start-joined x1 (46 ∷ (y ++ 46 ∷ q)) (place-start loose false x1 a h) refl,
+      rw d (start-joined y (46 ∷ q) (place-start loose (has_zeros a) y b k) refl),
     )
 
 -- the characters of signs and blanks begin words, or are not visible

@@ -31,19 +31,19 @@ use Rattle.nodejs_semver.proofs.Strict.SignsRead.{blank-cases, blank-skipped, ma
 
 -- ---- how partials and marks begin
 
-place-begins : (loose : Bool) (x : List ℕ) (a : Option ℕ) → IsPlace loose x a → begins_component x ≡ true
-place-begins loose x a (Text.any b h) = rw h refl
-place-begins loose x a (Text.number digits n k spelled short) =
+place-begins : (loose zeros : Bool) (x : List ℕ) (a : Option ℕ) → IsPlace loose zeros x a → begins_component x ≡ true
+place-begins loose zeros x a (Text.any b h) = rw h refl
+place-begins loose zeros x a (Text.number digits n k spelled short) =
     let digit = digits-begin digits k.some k.each in
     grind arith
 
 pub partial-begins : (loose : Bool) (x rest : List ℕ) (p : Partial) → IsPartial loose x p → begins_component (x ++ rest) ≡ true
-partial-begins loose x rest p (one x1 a h) = begins-on is_component_byte x1 rest (place-begins loose x1 a h)
+partial-begins loose x rest p (one x1 a h) = begins-on is_component_byte x1 rest (place-begins loose false x1 a h)
 partial-begins loose x rest p (two x1 y a b h k) =
-    begins-on is_component_byte (x1 ++ (46 ∷ y)) rest (begins-on is_component_byte x1 (46 ∷ y) (place-begins loose x1 a h))
+    begins-on is_component_byte (x1 ++ (46 ∷ y)) rest (begins-on is_component_byte x1 (46 ∷ y) (place-begins loose false x1 a h))
 partial-begins loose x rest p (three x1 y z pre build a b c ids builds h k l m s n t) =
     let behind = 46 ∷ (y ++ 46 ∷ (z ++ (pre ++ build))) in
-    begins-on is_component_byte (x1 ++ behind) rest (begins-on is_component_byte x1 behind (place-begins loose x1 a h))
+    begins-on is_component_byte (x1 ++ behind) rest (begins-on is_component_byte x1 behind (place-begins loose false x1 a h))
 
 marks-counted : (marks u : List ℕ) → list_all is_mark marks ≡ true → begins_component u ≡ true → marks_len (marks ++ u) ≡ length marks
 marks-counted [] [] h k = cc k
