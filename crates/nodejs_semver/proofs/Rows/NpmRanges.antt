@@ -151,13 +151,14 @@ row-tilde_twice : AreWords false false (codes "~> >1") (table false tilde (major
 row-tilde_twice =
     last _ _ (word (codes "~> >") [] (codes "1") tilde (major 1) (tilde_twice above (codes " ") [] blank (lit< tt) no_blank (inl refl)) refl refl one_is)
 
--- loosely `^01` is `^1`, and `01` stands for no number strictly, `00` for none at all
+-- loosely `^01` is `^1`, `01` stands for no number strictly, and `00` for none but loosely behind a major number
 row-leading : AreWords true false (codes "^01") (table false caret (major 1) (codes "01"))
 row-leading = last _ _ (word (codes "^") [] (codes "01") caret (major 1) (sign caret [] no_blank) refl refl
     (one (codes "01") (Some 1) (number (codes "01") 1 (record { some = lit< tt; each = refl; value = refl; safe = lit≤ tt }) refl (lit≤ tt))))
 
-row-spelled : is_spelled true 1 (codes "01") ∷ is_spelled false 1 (codes "01") ∷ is_spelled true 0 (codes "00") ∷ is_spelled false 0 (codes "0") ∷ []
-    ≡ true ∷ false ∷ false ∷ true ∷ []
+row-spelled : is_spelled true false 1 (codes "01") ∷ is_spelled false true 1 (codes "01") ∷ is_spelled true false 0 (codes "00")
+    ∷ is_spelled true true 0 (codes "00") ∷ is_spelled false false 0 (codes "0") ∷ []
+    ≡ true ∷ false ∷ false ∷ true ∷ true ∷ []
 row-spelled = refl
 
 -- `beta` may stand without `-` loosely, where it begins with a letter, and the identifier `01`
@@ -176,10 +177,10 @@ row-marks = refl
 
 -- ---- malformed words
 
--- `-1`, `1|2`, `1.2.3.4` and `2,` are ignored, and `-`, `foo=`, `1.2.34.5`, `1/*` and nothing are not
-row-malformed : map is_malformed (codes "-1" ∷ (codes "1|2" ∷ (codes "1.2.3.4" ∷ (codes "2," ∷ []))))
-    ++ map is_malformed (codes "-" ∷ (codes "foo=" ∷ (codes "1.2.34.5" ∷ (codes "1/*" ∷ ([] ∷ [])))))
-    ≡ true ∷ (true ∷ (true ∷ (true ∷ (false ∷ (false ∷ (false ∷ (false ∷ (false ∷ []))))))))
+-- `-1`, `1|2`, `1.2.3.4`, `1/*` and `1.2-` are ignored, and `-`, `foo=`, `1.2.34.5`, `1.2.3-` and nothing are not
+row-malformed : map is_malformed (codes "-1" ∷ (codes "1|2" ∷ (codes "1.2.3.4" ∷ (codes "1/*" ∷ (codes "1.2-" ∷ [])))))
+    ++ map is_malformed (codes "-" ∷ (codes "foo=" ∷ (codes "1.2.34.5" ∷ (codes "1.2.3-" ∷ ([] ∷ [])))))
+    ≡ true ∷ (true ∷ (true ∷ (true ∷ (true ∷ (false ∷ (false ∷ (false ∷ (false ∷ (false ∷ [])))))))))
 row-malformed = refl
 
 -- `foo` and `foo * bar` are no alternatives, and `foo *`, `foo *.1`, strictly `foo`, and `foo 1 bar` are

@@ -15,7 +15,7 @@ use Rattle.std.specs.Str.{bytes_eq}
 use Rattle.semver_core.specs.Lists.{is_empty}
 use Rattle.nodejs_semver.specs.Internal.NpmWords.{Ended, after_ends, alternative_of, drop_ends, end_front, hyphen_comparisons, hyphen_ends}
 use Rattle.nodejs_semver.specs.Internal.NpmWords.{last_end, partial_front, words_within}
-use Rattle.nodejs_semver.specs.Npm.Malformed.{is_plain, is_visible}
+use Rattle.nodejs_semver.specs.Npm.Malformed.{is_visible}
 use Rattle.nodejs_semver.specs.Npm.RangeText.{AreEndMarks, AreWords, IsAlternative, IsPartial, IsSignText, IsWord, hyphen, ignored, is_free_lower, is_free_upper}
 use Rattle.nodejs_semver.specs.Npm.RangeText.{is_mark, last, more, nothing, spelling, word, words}
 use Rattle.nodejs_semver.specs.Npm.RangeText.{caret_equal, late_above, late_below, no_sign, sign, tilde_sign, tilde_twice}
@@ -24,7 +24,7 @@ use Rattle.nodejs_semver.specs.Text.WordText.{above, at_least, at_most, below, e
 use Rattle.nodejs_semver.proofs.Reading.Bytes.{all-join, begins_component}
 use Rattle.nodejs_semver.proofs.Reading.Steps.{option-cases}
 use Rattle.nodejs_semver.proofs.Strict.Hyphens.{after_ends-drop, dash-read, end-read, ends-space, hyphen-found, mark-dark, marks-passed, marks-whole, whole-dark}
-use Rattle.nodejs_semver.proofs.Strict.Malformed.{all-weaker, boundary-dark, is_part, malformed-more, malformed-plain, partial-part}
+use Rattle.nodejs_semver.proofs.Strict.Malformed.{all-weaker, boundary-dark, is_part, malformed-all, malformed-more, partial-part}
 use Rattle.nodejs_semver.proofs.Strict.PartialLaw.{boundary-quiet, partial-read}
 use Rattle.nodejs_semver.proofs.Strict.SignsRead.{marks-all}
 use Rattle.nodejs_semver.proofs.Strict.Words.{blank-boundary, blank-space, partial-begins, words-found, words-read, words-visible}
@@ -163,9 +163,6 @@ loose-blank x z h some ends = subst (λ (t : List ℕ). apart (t ++ (45 ∷ z)) 
 part-tight : (b : ℕ) → is_part b ≡ true → is_tight b ≡ true
 part-tight b h = grind (arith, nat_tests)
 
-plain-tight : (b : ℕ) → is_plain b ≡ true → is_tight b ≡ true
-plain-tight b h = grind (arith, nat_tests)
-
 partial-tight : (loose : Bool) (x : List ℕ) (p : Partial) → IsPartial loose x p → list_all is_tight x ≡ true
 partial-tight loose x p h = all-weaker is_part is_tight part-tight x (partial-part loose x p h)
 
@@ -206,16 +203,16 @@ component-first (b ∷ u) h = grind (arith, nat_tests)
 word-first : (loose : Bool) (include : Bool) (w v : List ℕ) (cs : List Comparison) → IsWord loose include w cs
     → (apart (w ++ v) ≡ apart v) × (lone (w ++ v) ≡ false)
 word-first loose include w v cs (ignored x l h) = (
-  tight-passed x v (all-weaker is_plain is_tight plain-tight x (malformed-plain x h)),
-  no-dash x v (malformed-plain x h) (malformed-more x h),
+  tight-passed x v (malformed-all x h),
+  no-dash x v (malformed-all x h) (malformed-more x h),
 )
   where
-    no-dash : (x v : List ℕ) → list_all is_plain x ≡ true → (is_empty x || bytes_eq x (45 ∷ [])) ≡ false → lone (x ++ v) ≡ false
+    no-dash : (x v : List ℕ) → list_all is_visible x ≡ true → (is_empty x || bytes_eq x (45 ∷ [])) ≡ false → lone (x ++ v) ≡ false
     no-dash [] v h k = cc k
     no-dash (b ∷ []) v h k = grind arith
     no-dash (b ∷ c ∷ x) v h k =
-        let each = and_parts (is_plain b) (list_all is_plain (c ∷ x)) h in
-        let tight = plain-tight c (and_parts (is_plain c) (list_all is_plain x) each.1).0 in
+        let each = and_parts (is_visible b) (list_all is_visible (c ∷ x)) h in
+        let tight = (and_parts (is_visible c) (list_all is_visible x) each.1).0 in
         rw tight (and-none (b == 45) false refl)
 word-first loose include w v cs (word signs marks x s p h m e k) =
     let text_is : (signs ++ (marks ++ x)) ++ v ≡ (signs ++ marks) ++ (x ++ v) = simp append_assoc refl in

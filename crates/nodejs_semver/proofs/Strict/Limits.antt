@@ -3,7 +3,7 @@ use Rattle.nodejs_semver.proofs.Common.{◌≡◌, ◌≤◌, ◌<◌, ◌-◌, 
 use Rattle.nodejs_semver.proofs.Common.{None, Option, inl, inr, ◌&&◌, ◌||◌, not, cases_Bool, nat_tests, is_ascii_digit, list_all, bind_some, cond_some, same_Some}
 use Rattle.nodejs_semver.proofs.Common.{is_empty, MAX_SAFE_INTEGER, Id, take_rest, if◌then◌else◌}
 use Rattle.std.specs.List.{prefix_len}
-use Rattle.std.specs.Prelude.{nat_le, take_while}
+use Rattle.std.specs.Prelude.{nat_le, nat_lt, take_while}
 use Rattle.std.specs.Str.Parse.{digits_value}
 use Rattle.std.proofs.lemmas.Bool.{lt-ltb}
 use Rattle.std.proofs.lemmas.List.{take-append-drop}
@@ -14,11 +14,11 @@ use Rattle.semver_core.specs.Text.Numbers.{IsNumber}
 use Rattle.nodejs_semver.specs.Internal.Fronts.{Front, begins_wildcard, build_front, number_front, number_of}
 use Rattle.nodejs_semver.specs.Internal.NpmReadings.{begins_padded, strict_number}
 use Rattle.nodejs_semver.specs.Internal.NpmWords.{Place, any, are_short_builds, are_short_identifiers, counted, counted_front, dotted_place, great}
-use Rattle.nodejs_semver.specs.Internal.NpmWords.{is_small, limited, number, partial_front, place_front, place_of, placed, pre_front, qualified_counted}
+use Rattle.nodejs_semver.specs.Internal.NpmWords.{is_small, limited, number, partial_front, place_front, place_of, place_zeros, placed, pre_front, qualified_counted}
 use Rattle.nodejs_semver.specs.Internal.NpmWords.{qualified_partial, run_place, second_counted, second_front, third_counted, third_front}
 use Rattle.nodejs_semver.specs.Npm.Grammar.{has_leading_zero}
 use Rattle.nodejs_semver.specs.Npm.RangeText as Text
-use Rattle.nodejs_semver.specs.Npm.RangeText.{IsPlace, are_spelled, is_spelled, most_digits, partial_of}
+use Rattle.nodejs_semver.specs.Npm.RangeText.{IsPlace, are_spelled, has_zeros, is_spelled, most_digits, partial_of}
 use Rattle.nodejs_semver.specs.Npm.Table.{Partial}
 use Rattle.nodejs_semver.proofs.Reading.Numbers.{digits-taken, number-found, number-of, run-ends}
 use Rattle.nodejs_semver.proofs.Strict.Numbers.{padded-same}
@@ -29,50 +29,51 @@ use Rattle.nodejs_semver.proofs.Strict.Places.{number-short, place-read, prefix-
 abbrev pub some_place : Place → List ℕ → Front Place
 some_place p rest = Some (p, rest)
 
-spelled-bare : (loose : Bool) (n : ℕ) (digits : List ℕ) → has_leading_zero digits ≡ false → is_spelled loose n digits ≡ true
-spelled-bare loose n digits h = rw h refl
+spelled-bare : (loose zeros : Bool) (n : ℕ) (digits : List ℕ) → has_leading_zero digits ≡ false → is_spelled loose zeros n digits ≡ true
+spelled-bare loose zeros n digits h = rw h refl
 
-spelled-some : (n : ℕ) (digits : List ℕ) → 0 < n → is_spelled true n digits ≡ true
-spelled-some n digits h = rw (lt-ltb 0 n h) (or-right (not (has_leading_zero digits)))
-  where
-    or-right : (b : Bool) → (b || true) ≡ true
-    or-right b = grind arith
+or-right : (b : Bool) → (b || true) ≡ true
+or-right b = grind arith
+
+spelled-some : (zeros : Bool) (n : ℕ) (digits : List ℕ) → (zeros || nat_lt 0 n) ≡ true → is_spelled true zeros n digits ≡ true
+spelled-some zeros n digits h = rw h (or-right (not (has_leading_zero digits)))
 
 -- the run at the front, where it is not padded, or read loosely
-spelled-great : (loose : Bool) (text run : List ℕ) → 0 < digits_value 10 run → run ≡ take_while is_ascii_digit text
-    → (not loose && begins_padded text) ≡ false → is_spelled loose (digits_value 10 run) run ≡ true
-spelled-great true text run some is bare = spelled-some (digits_value 10 run) run some
-spelled-great false text run some is bare =
+spelled-great : (loose zeros : Bool) (text run : List ℕ) → 0 < digits_value 10 run → run ≡ take_while is_ascii_digit text
+    → (not loose && begins_padded text) ≡ false → is_spelled loose zeros (digits_value 10 run) run ≡ true
+spelled-great true zeros text run some is bare =
+    spelled-some zeros (digits_value 10 run) run (rw (lt-ltb 0 (digits_value 10 run) some) (or-right zeros))
+spelled-great false zeros text run some is bare =
     let behind = drop (prefix_len is_ascii_digit text) text in
     let whole : text ≡ run ++ behind = sym (take-append-drop (prefix_len is_ascii_digit text) text) ∙ ap (λ (t : List ℕ). t ++ behind) (sym is) in
     let each : list_all is_ascii_digit run ≡ true = rw is (prefix-all is_ascii_digit text) in
     let shortest = sym (padded-same run behind each (run-ends text)) ∙ ap begins_padded (sym whole) ∙ bare in
-    spelled-bare false (digits_value 10 run) run shortest
+    spelled-bare false zeros (digits_value 10 run) run shortest
 
 few-digits : (loose : Bool) (run : List ℕ) → length run ≤ 20 → length run ≤ most_digits loose
 few-digits true run h = omega (arith, h)
 few-digits false run h = omega (arith, h)
 
 -- a number up to the limit was found
-pub number_placed : (loose : Bool) (text : List ℕ) (n : ℕ) (rest : List ℕ) → strict_number MAX_SAFE_INTEGER text ≡ Some (n, rest)
-    → placed MAX_SAFE_INTEGER (place_front loose text) ≡ Some (number n, rest)
+pub number_placed : (loose zeros : Bool) (text : List ℕ) (n : ℕ) (rest : List ℕ) → strict_number MAX_SAFE_INTEGER text ≡ Some (n, rest)
+    → placed MAX_SAFE_INTEGER (place_front loose zeros text) ≡ Some (number n, rest)
 unfolding strict_number
-number_placed loose text n rest h = elim (cases_Bool (begins_padded text)) [
+number_placed loose zeros text n rest h = elim (cases_Bool (begins_padded text)) [
   | inl padded ↦ cc (rw padded at h)
   | inr bare ↦
       let f = number-found MAX_SAFE_INTEGER text n rest (rw bare at h) in
       let shortest = sym (padded-same f.run rest f.is.each f.ended) ∙ ap begins_padded (sym f.split) ∙ bare in
       let short = number-short f.run n (record { number = f.is; shortest = shortest }) in
       let same : IsNumber n f.run n = record { some = f.is.some; each = f.is.each; value = f.is.value; safe = omega arith } in
-      let place : IsPlace loose f.run (Some n) = Text.number f.run n same (spelled-bare loose n f.run shortest) (few-digits loose f.run short) in
+      let place : IsPlace loose zeros f.run (Some n) = Text.number f.run n same (spelled-bare loose zeros n f.run shortest) (few-digits loose f.run short) in
       let small : nat_le n MAX_SAFE_INTEGER ≡ true = grind (arith, nat_tests, f.is.safe) in
-      rw (f.split, place-read loose f.run rest (Some n) place f.ended, small) refl
+      rw (f.split, place-read loose zeros f.run rest (Some n) place f.ended, small) refl
 ]
 
-pub wildcard_placed : (loose : Bool) (text : List ℕ) → begins_wildcard text ≡ true
-    → placed MAX_SAFE_INTEGER (place_front loose text) ≡ Some (any, drop 1 text)
+pub wildcard_placed : (loose zeros : Bool) (text : List ℕ) → begins_wildcard text ≡ true
+    → placed MAX_SAFE_INTEGER (place_front loose zeros text) ≡ Some (any, drop 1 text)
 unfolding place_front
-wildcard_placed loose text h = rw h refl
+wildcard_placed loose zeros text h = rw h refl
 
 -- a run of digits that is no number up to the limit
 past-limit : (limit : ℕ) (run : List ℕ) → 1 ≤ length run → list_all is_ascii_digit run ≡ true → number_of limit run ≡ None
@@ -89,65 +90,65 @@ bind-none None f h = refl
 bind-none (Some x) f h = cc h
 
 -- what stands where no wildcard does, by the digits at the front
-run-placed : (loose : Bool) (text : List ℕ) → begins_wildcard text ≡ false → place_front loose text
-    ≡ run_place loose (take_while is_ascii_digit text) (drop (prefix_len is_ascii_digit text) text)
+run-placed : (loose zeros : Bool) (text : List ℕ) → begins_wildcard text ≡ false → place_front loose zeros text
+    ≡ run_place loose zeros (take_while is_ascii_digit text) (drop (prefix_len is_ascii_digit text) text)
 unfolding place_front
-run-placed loose text h = rw h refl
+run-placed loose zeros text h = rw h refl
 
-pub none_placed : (loose : Bool) (text : List ℕ) → begins_wildcard text ≡ false → prefix_len is_ascii_digit text ≡ 0
-    → placed MAX_SAFE_INTEGER (place_front loose text) ≡ None
-none_placed loose text h k = rw (run-placed loose text h, k) refl
+pub none_placed : (loose zeros : Bool) (text : List ℕ) → begins_wildcard text ≡ false → prefix_len is_ascii_digit text ≡ 0
+    → placed MAX_SAFE_INTEGER (place_front loose zeros text) ≡ None
+none_placed loose zeros text h k = rw (run-placed loose zeros text h, k) refl
 
-pub long_placed : (loose : Bool) (text : List ℕ) → begins_wildcard text ≡ false → most_digits loose < prefix_len is_ascii_digit text
-    → placed MAX_SAFE_INTEGER (place_front loose text) ≡ None
-long_placed loose text h k =
+pub long_placed : (loose zeros : Bool) (text : List ℕ) → begins_wildcard text ≡ false → most_digits loose < prefix_len is_ascii_digit text
+    → placed MAX_SAFE_INTEGER (place_front loose zeros text) ≡ None
+long_placed loose zeros text h k =
     let run = take_while is_ascii_digit text in
     let len = length-prefix_len is_ascii_digit text in
     let long : nat_le (length run) (most_digits loose) ≡ false = grind (arith, nat_tests) in
     let there = some-run run (omega (arith, len, k)) in
-    rw (run-placed loose text h, there, long) refl
+    rw (run-placed loose zeros text h, there, long) refl
 
 -- a run that is not spelled as it has to be
-pub misspelled_placed : (loose : Bool) (text : List ℕ) → begins_wildcard text ≡ false
-    → is_spelled loose (digits_value 10 (take_while is_ascii_digit text)) (take_while is_ascii_digit text) ≡ false
-    → placed MAX_SAFE_INTEGER (place_front loose text) ≡ None
-misspelled_placed loose text h k =
+pub misspelled_placed : (loose zeros : Bool) (text : List ℕ) → begins_wildcard text ≡ false
+    → is_spelled loose zeros (digits_value 10 (take_while is_ascii_digit text)) (take_while is_ascii_digit text) ≡ false
+    → placed MAX_SAFE_INTEGER (place_front loose zeros text) ≡ None
+misspelled_placed loose zeros text h k =
     let run = take_while is_ascii_digit text in
-    rw (run-placed loose text h, k, and-none (not (is_empty run) && nat_le (length run) (most_digits loose))) refl
+    rw (run-placed loose zeros text h, k, and-none (not (is_empty run) && nat_le (length run) (most_digits loose))) refl
   where
     and-none : (b : Bool) → (b && false) ≡ false
     and-none b = grind arith
 
 -- a run of some value
-run-valued : (loose : Bool) (text : List ℕ) → begins_wildcard text ≡ false → 1 ≤ prefix_len is_ascii_digit text
+run-valued : (loose zeros : Bool) (text : List ℕ) → begins_wildcard text ≡ false → 1 ≤ prefix_len is_ascii_digit text
     → prefix_len is_ascii_digit text ≤ most_digits loose
-    → is_spelled loose (digits_value 10 (take_while is_ascii_digit text)) (take_while is_ascii_digit text) ≡ true
-    → placed MAX_SAFE_INTEGER (place_front loose text)
+    → is_spelled loose zeros (digits_value 10 (take_while is_ascii_digit text)) (take_while is_ascii_digit text) ≡ true
+    → placed MAX_SAFE_INTEGER (place_front loose zeros text)
     ≡ some_place (place_of MAX_SAFE_INTEGER (Some (digits_value 10 (take_while is_ascii_digit text)))) (drop (prefix_len is_ascii_digit text) text)
-run-valued loose text dark some short spelled =
+run-valued loose zeros text dark some short spelled =
     let run = take_while is_ascii_digit text in
     let len = length-prefix_len is_ascii_digit text in
     let there = some-run run (omega (arith, len, some)) in
     let fits : nat_le (length run) (most_digits loose) ≡ true = grind (arith, nat_tests) in
-    rw (run-placed loose text dark, there, fits, spelled) refl
+    rw (run-placed loose zeros text dark, there, fits, spelled) refl
 
 -- a number up to the limit with leading zeros, read loosely
-pub padded_placed : (text : List ℕ) (n : ℕ) (rest : List ℕ) → begins_wildcard text ≡ false
-    → number_front MAX_SAFE_INTEGER text ≡ Some (n, rest) → prefix_len is_ascii_digit text ≤ 32 → 0 < n
-    → placed MAX_SAFE_INTEGER (place_front true text) ≡ Some (number n, rest)
-padded_placed text n rest dark h short some =
+pub padded_placed : (zeros : Bool) (text : List ℕ) (n : ℕ) (rest : List ℕ) → begins_wildcard text ≡ false
+    → number_front MAX_SAFE_INTEGER text ≡ Some (n, rest) → prefix_len is_ascii_digit text ≤ 32 → (zeros || nat_lt 0 n) ≡ true
+    → placed MAX_SAFE_INTEGER (place_front true zeros text) ≡ Some (number n, rest)
+padded_placed zeros text n rest dark h short some =
     let f = number-found MAX_SAFE_INTEGER text n rest h in
     let size : prefix_len is_ascii_digit text ≡ length f.run =
     ap (λ (t : List ℕ). prefix_len is_ascii_digit t) f.split ∙ digits-taken f.run rest f.is.each f.ended in
     let same : IsNumber n f.run n = record { some = f.is.some; each = f.is.each; value = f.is.value; safe = omega arith } in
-    let place : IsPlace true f.run (Some n) = Text.number f.run n same (spelled-some n f.run some) (omega (arith, size, short)) in
+    let place : IsPlace true zeros f.run (Some n) = Text.number f.run n same (spelled-some zeros n f.run some) (omega (arith, size, short)) in
     let small : nat_le n MAX_SAFE_INTEGER ≡ true = grind (arith, nat_tests, f.is.safe) in
-    rw (f.split, place-read true f.run rest (Some n) place f.ended, small) refl
+    rw (f.split, place-read true zeros f.run rest (Some n) place f.ended, small) refl
 
-pub great_placed : (loose : Bool) (text : List ℕ) (at : ℕ) → number_front MAX_SAFE_INTEGER text ≡ None → begins_wildcard text ≡ false
+pub great_placed : (loose zeros : Bool) (text : List ℕ) (at : ℕ) → number_front MAX_SAFE_INTEGER text ≡ None → begins_wildcard text ≡ false
     → (not loose && begins_padded text) ≡ false → at ≡ prefix_len is_ascii_digit text → 1 ≤ at → at ≤ most_digits loose
-    → placed MAX_SAFE_INTEGER (place_front loose text) ≡ some_place great (take (length text - at) (drop at text))
-great_placed loose text at front dark bare is first last =
+    → placed MAX_SAFE_INTEGER (place_front loose zeros text) ≡ some_place great (take (length text - at) (drop at text))
+great_placed loose zeros text at front dark bare is first last =
     let some : 1 ≤ prefix_len is_ascii_digit text = omega (arith, is, first) in
     let short : prefix_len is_ascii_digit text ≤ most_digits loose = omega (arith, is, last) in
     let run = take_while is_ascii_digit text in
@@ -156,8 +157,8 @@ great_placed loose text at front dark bare is first last =
     let missing = bind-none (number_of MAX_SAFE_INTEGER run) (λ n. (n, drop (prefix_len is_ascii_digit text) text)) front in
     let past = past-limit MAX_SAFE_INTEGER run (omega (arith, len, some)) each missing in
     let positive : 0 < digits_value 10 run = grind (arith, nat_tests) in
-    let spelled = spelled-great loose text run positive in
-    run-valued loose text dark some short (spelled refl bare) ∙ rw (past, take_rest text at, is) refl
+    let spelled = spelled-great loose zeros text run positive in
+    run-valued loose zeros text dark some short (spelled refl bare) ∙ rw (past, take_rest text at, is) refl
 
 -- ---- leading zeros
 
@@ -169,10 +170,10 @@ run-leading text =
     sym (padded-same run behind (prefix-all is_ascii_digit text) (run-ends text)) ∙ ap begins_padded (sym whole)
 
 -- strictly there are none
-pub strict_leading_placed : (loose : Bool) (text : List ℕ) → begins_wildcard text ≡ false → begins_padded text ≡ true → loose ≡ false
-    → placed MAX_SAFE_INTEGER (place_front loose text) ≡ None
-strict_leading_placed true text dark padded e = cc e
-strict_leading_placed false text dark padded e = misspelled_placed false text dark (rw (run-leading text, padded) refl)
+pub strict_leading_placed : (loose zeros : Bool) (text : List ℕ) → begins_wildcard text ≡ false → begins_padded text ≡ true → loose ≡ false
+    → placed MAX_SAFE_INTEGER (place_front loose zeros text) ≡ None
+strict_leading_placed true zeros text dark padded e = cc e
+strict_leading_placed false zeros text dark padded e = misspelled_placed false zeros text dark (rw (run-leading text, padded) refl)
 
 number-value : (limit : ℕ) (run : List ℕ) (n : ℕ) → number_of limit run ≡ Some n → digits_value 10 run ≡ n
 unfolding number_of
@@ -180,15 +181,15 @@ number-value limit run n h =
     (cond_some (not (is_empty run) && list_all is_ascii_digit run && nat_le (digits_value 10 run) limit) (digits_value 10 run) n h).1
 
 -- zero has none
-pub zero_placed : (text : List ℕ) (rest : List ℕ) → begins_wildcard text ≡ false → begins_padded text ≡ true
-    → number_front MAX_SAFE_INTEGER text ≡ Some (0, rest) → placed MAX_SAFE_INTEGER (place_front true text) ≡ None
-zero_placed text rest dark padded h =
+pub zero_placed : (zeros : Bool) (text : List ℕ) (rest : List ℕ) → zeros ≡ false → begins_wildcard text ≡ false → begins_padded text ≡ true
+    → number_front MAX_SAFE_INTEGER text ≡ Some (0, rest) → placed MAX_SAFE_INTEGER (place_front true zeros text) ≡ None
+zero_placed zeros text rest none dark padded h =
     let run = take_while is_ascii_digit text in
     let behind = drop (prefix_len is_ascii_digit text) text in
     let f = bind_some (number_of MAX_SAFE_INTEGER run) (λ n. Some (n, behind)) (0, rest) h in
     let value : digits_value 10 run ≡ 0 =
     number-value MAX_SAFE_INTEGER run f.0 f.1 ∙ ap (λ (q : ℕ × List ℕ). q.0) (same_Some _ _ f.2) in
-    misspelled_placed true text dark (rw (run-leading text, padded, value) refl)
+    misspelled_placed true zeros text dark (rw (run-leading text, padded, value, none) refl)
 
 pub unpadded_front : (text : List ℕ) → begins_padded text ≡ false → strict_number MAX_SAFE_INTEGER text ≡ None
     → number_front MAX_SAFE_INTEGER text ≡ None
@@ -233,16 +234,21 @@ third-limited : (loose : Bool) (limit : ℕ) (a b : Option ℕ) (text : List ℕ
 third-limited loose limit a b text None = counted-short limit a b text
 third-limited loose limit a b text (Some c) = qualified-limited loose limit a b c.0 c.1
 
+zeros-placed : (limit : ℕ) (a : Option ℕ) → place_zeros (place_of limit a) ≡ has_zeros a
+zeros-placed limit None = refl
+zeros-placed limit (Some n) = grind (arith, nat_tests)
+
 second-limited : (loose : Bool) (limit : ℕ) (a : Option ℕ) (text : List ℕ) (o : Front (Option ℕ))
     → second_counted loose limit (place_of limit a) text (placed limit o) ≡ limited limit (second_front loose a text o)
 second-limited loose limit a text None = counted-short limit a None text
-second-limited loose limit a text (Some b) = third-limited loose limit a b.0 b.1 (dotted_place loose b.1)
+second-limited loose limit a text (Some b) =
+    rw (zeros-placed limit a) (third-limited loose limit a b.0 b.1 (dotted_place loose (has_zeros a) b.1))
 
 pub counted_limited : (loose : Bool) (limit : ℕ) (text : List ℕ) → counted_front loose limit text ≡ limited limit (partial_front loose text)
 unfolding partial_front
-counted_limited loose limit text = go (place_front loose text)
+counted_limited loose limit text = go (place_front loose false text)
   where
-    go : (o : Front (Option ℕ)) → (placed limit o >>? λ a. second_counted loose limit a.0 a.1 (placed limit (dotted_place loose a.1)))
-        ≡ limited limit (o >>? λ a. second_front loose a.0 a.1 (dotted_place loose a.1))
+    go : (o : Front (Option ℕ)) → (placed limit o >>? λ a. second_counted loose limit a.0 a.1 (placed limit (dotted_place loose (place_zeros a.0) a.1)))
+        ≡ limited limit (o >>? λ a. second_front loose a.0 a.1 (dotted_place loose (has_zeros a.0) a.1))
     go None = refl
-    go (Some a) = second-limited loose limit a.0 a.1 (dotted_place loose a.1)
+    go (Some a) = rw (zeros-placed limit a.0) (second-limited loose limit a.0 a.1 (dotted_place loose (has_zeros a.0) a.1))

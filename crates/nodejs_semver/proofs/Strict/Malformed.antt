@@ -17,9 +17,9 @@ use Rattle.nodejs_semver.specs.Internal.Fronts.{is_wildcard}
 use Rattle.nodejs_semver.specs.Internal.NpmWords.{ignored_front}
 use Rattle.nodejs_semver.specs.Internal.Words.{is_boundary}
 use Rattle.nodejs_semver.specs.Npm.Grammar.{IsStrictBuild, no_build, plus}
-use Rattle.nodejs_semver.specs.Npm.Malformed.{after_dot, begins_malformed, has_four_parts, is_first, is_inner, is_malformed, is_plain, is_visible, last_visible}
+use Rattle.nodejs_semver.specs.Npm.Malformed.{after_dot, are_first, begins_malformed, has_four_parts, is_first, is_inner, is_malformed, is_visible, last_visible}
 use Rattle.nodejs_semver.specs.Npm.RangeText as Text
-use Rattle.nodejs_semver.specs.Npm.RangeText.{IsPartial, IsPlace, IsPreRelease, IsSignText, bare, dashed}
+use Rattle.nodejs_semver.specs.Npm.RangeText.{IsPartial, IsPlace, IsPreRelease, IsSignText, bare, dashed, has_zeros}
 use Rattle.nodejs_semver.specs.Npm.RangeText.{is_mark, no_pre_release, one, spelling, three, two}
 use Rattle.nodejs_semver.specs.Npm.RangeText.{caret_equal, late_above, late_below, no_sign, sign, tilde_sign, tilde_twice}
 use Rattle.nodejs_semver.specs.Npm.Table.{Partial, Sign, caret, compared, tilde}
@@ -41,12 +41,12 @@ digits-part (c ∷ digits) h =
     digit-part : (c : ℕ) → is_ascii_digit c ≡ true → is_part c ≡ true
     digit-part c h = grind (arith, nat_tests)
 
-place-part : (loose : Bool) (x : List ℕ) (a : Option ℕ) → IsPlace loose x a → list_all is_part x ≡ true
-place-part loose x a (Text.any b h) = rw (wild b h) refl
+place-part : (loose zeros : Bool) (x : List ℕ) (a : Option ℕ) → IsPlace loose zeros x a → list_all is_part x ≡ true
+place-part loose zeros x a (Text.any b h) = rw (wild b h) refl
   where
     wild : (b : ℕ) → is_wildcard b ≡ true → is_part b ≡ true
     wild b h = grind (arith, nat_tests)
-place-part loose x a (Text.number digits n k spelled short) = digits-part digits k.each
+place-part loose zeros x a (Text.number digits n k spelled short) = digits-part digits k.each
 
 pieces-part : (t : List ℕ) → tail_runs (pieces t) ≡ true → list_all is_part t ≡ true
 pieces-part [] h = refl
@@ -73,13 +73,13 @@ build-part p l no_build = refl
 build-part p l (plus t list h) = pieces-part t (runs_tail (pieces t) h.runs)
 
 pub partial-part : (loose : Bool) (x : List ℕ) (p : Partial) → IsPartial loose x p → list_all is_part x ≡ true
-partial-part loose x p (one x1 a h) = place-part loose x1 a h
-partial-part loose x p (two x1 y a b h k) = all-join is_part x1 (46 ∷ y) (place-part loose x1 a h) (place-part loose y b k)
+partial-part loose x p (one x1 a h) = place-part loose false x1 a h
+partial-part loose x p (two x1 y a b h k) = all-join is_part x1 (46 ∷ y) (place-part loose false x1 a h) (place-part loose (has_zeros a) y b k)
 partial-part loose x p (three x1 y z pre build a b c ids builds h k l m s n t) =
     let last_part = all-join is_part pre build (pre-part loose pre ids m) (build-part build builds n) in
-    let third = all-join is_part z (pre ++ build) (place-part loose z c l) last_part in
-    let second = all-join is_part y (46 ∷ (z ++ (pre ++ build))) (place-part loose y b k) third in
-    all-join is_part x1 (46 ∷ (y ++ 46 ∷ (z ++ (pre ++ build)))) (place-part loose x1 a h) second
+    let third = all-join is_part z (pre ++ build) (place-part loose (has_zeros a) z c l) last_part in
+    let second = all-join is_part y (46 ∷ (z ++ (pre ++ build))) (place-part loose (has_zeros a) y b k) third in
+    all-join is_part x1 (46 ∷ (y ++ 46 ∷ (z ++ (pre ++ build)))) (place-part loose false x1 a h) second
 
 pub all-weaker : (p q : ℕ → Bool) → ((b : ℕ) → p b ≡ true → q b ≡ true) → (x : List ℕ) → list_all p x ≡ true → list_all q x ≡ true
 all-weaker p q f [] h = refl
@@ -91,7 +91,7 @@ all-weaker p q f (b ∷ x) h =
 
 -- no visible character
 abbrev is_dark : ℕ → Bool
-is_dark b = not (is_plain b)
+is_dark b = not (is_visible b)
 
 high-dark : (n : ℕ) → 128 ≤ n → is_dark n ≡ true
 high-dark n h = grind (arith, nat_tests)
@@ -126,9 +126,9 @@ bytes-dark c h = elim (cases_lt c 128) [
 
 -- ---- the characters of words
 
--- a character of words, or none that is plain
+-- a character of words, or none that is visible
 abbrev is_tame : ℕ → Bool
-is_tame b = is_inner b || not (is_plain b)
+is_tame b = is_inner b || not (is_visible b)
 
 dark-tame : (b : ℕ) → is_dark b ≡ true → is_tame b ≡ true
 dark-tame b h = grind arith
@@ -186,9 +186,9 @@ sign-first signs s (caret_equal y z h k) = inr refl
 sign-first signs s (tilde_sign c y z h k which) = inr refl
 sign-first signs s (tilde_twice c y z h some k which) = inr refl
 
--- a first character of words, or none that is plain
+-- a first character of words, or none that is visible
 abbrev is_start : ℕ → Bool
-is_start b = is_first b || not (is_plain b)
+is_start b = is_first b || not (is_visible b)
 
 first-start : (u : List ℕ) → begins is_first u ≡ true → begins is_start u ≡ true
 first-start u h = grind arith
@@ -200,39 +200,39 @@ marks-start (b ∷ marks) u h k = grind (arith, nat_tests)
 
 -- ---- no malformed word is at the front of a text that begins as a word does
 
-tame-inner : (w rest : List ℕ) → list_all is_tame w ≡ true → begins is_plain rest ≡ false
-    → list_all is_inner (take_while is_plain (w ++ rest)) ≡ true
+tame-inner : (w rest : List ℕ) → list_all is_tame w ≡ true → begins is_visible rest ≡ false
+    → list_all is_inner (take_while is_visible (w ++ rest)) ≡ true
 tame-inner [] [] h k = refl
 tame-inner [] (b ∷ rest) h k = rw k refl
 tame-inner (b ∷ w) rest h k =
     let each = and_parts (is_tame b) (list_all is_tame w) h in
-    elim (cases_Bool (is_plain b)) [
-      | inl plain ↦
-          let inner : is_inner b ≡ true = or-left (is_inner b) (is_plain b) each.0 plain in
-          let e : 1 + prefix_len is_plain (w ++ rest) ≡ suc (prefix_len is_plain (w ++ rest)) = omega arith in
-          rw (plain, e, inner) (tame-inner w rest each.1 k)
+    elim (cases_Bool (is_visible b)) [
+      | inl visible ↦
+          let inner : is_inner b ≡ true = or-left (is_inner b) (is_visible b) each.0 visible in
+          let e : 1 + prefix_len is_visible (w ++ rest) ≡ suc (prefix_len is_visible (w ++ rest)) = omega arith in
+          rw (visible, e, inner) (tame-inner w rest each.1 k)
       | inr other ↦ rw other refl
     ]
   where
     or-left : (a p : Bool) → (a || not p) ≡ true → p ≡ true → a ≡ true
     or-left a p h k = grind arith
 
-run-start : (text : List ℕ) → begins is_start text ≡ true → (take_while is_plain text ≡ []) ⊎ (begins is_first (take_while is_plain text) ≡ true)
+run-start : (text : List ℕ) → begins is_start text ≡ true → (take_while is_visible text ≡ []) ⊎ (begins is_first (take_while is_visible text) ≡ true)
 run-start [] h = inl refl
-run-start (b ∷ text) h = elim (cases_Bool (is_plain b)) [
+run-start (b ∷ text) h = elim (cases_Bool (is_visible b)) [
   | inr other ↦ inl (rw other refl)
-  | inl plain ↦
-      let e : 1 + prefix_len is_plain text ≡ suc (prefix_len is_plain text) = omega arith in
-      inr (rw (plain, e) (or-left (is_first b) (is_plain b) h plain))
+  | inl visible ↦
+      let e : 1 + prefix_len is_visible text ≡ suc (prefix_len is_visible text) = omega arith in
+      inr (rw (visible, e) (or-left (is_first b) (is_visible b) h visible))
 ]
   where
     or-left : (a p : Bool) → (a || not p) ≡ true → p ≡ true → a ≡ true
     or-left a p h k = grind arith
 
 none-malformed : (run : List ℕ) → list_all is_inner run ≡ true → (run ≡ []) ⊎ (begins is_first run ≡ true)
-    → has_four_parts run ≡ false → is_malformed run ≡ false
-none-malformed run h (inl e) k = rw e refl
-none-malformed run h (inr first) k = rw (k, first, h) (grind arith)
+    → has_four_parts run ≡ false → (are_first run ≡ true) × (are_first (after_dot run) ≡ true) → is_malformed run ≡ false
+none-malformed run h (inl e) k parts = rw e refl
+none-malformed run h (inr first) k parts = rw (k, first, h, parts.0, parts.1) (grind arith)
 
 -- ---- no well-formed word has four parts
 
@@ -257,12 +257,12 @@ mark-dotless b h = grind (arith, nat_tests)
 digit-dotless : (b : ℕ) → is_ascii_digit b ≡ true → is_dotless b ≡ true
 digit-dotless b h = grind (arith, nat_tests)
 
-place-dotless : (loose : Bool) (x : List ℕ) (a : Option ℕ) → IsPlace loose x a → (list_all is_dotless x ≡ true) × (0 < length x)
-place-dotless loose x a (Text.any b h) = (rw (wild b h) refl, omega arith)
+place-dotless : (loose zeros : Bool) (x : List ℕ) (a : Option ℕ) → IsPlace loose zeros x a → (list_all is_dotless x ≡ true) × (0 < length x)
+place-dotless loose zeros x a (Text.any b h) = (rw (wild b h) refl, omega arith)
   where
     wild : (b : ℕ) → is_wildcard b ≡ true → is_dotless b ≡ true
     wild b h = grind (arith, nat_tests)
-place-dotless loose x a (Text.number digits n k spelled short) =
+place-dotless loose zeros x a (Text.number digits n k spelled short) =
     (all-weaker is_ascii_digit is_dotless digit-dotless digits k.each, k.some)
 
 blank-dotless : (x : List ℕ) → IsBlank x → list_all is_dotless x ≡ true
@@ -305,17 +305,17 @@ third (c ∷ d ∷ z) q h s k = grind arith
 
 partial-parts : (loose : Bool) (x : List ℕ) (p : Partial) → IsPartial loose x p → has_four_parts x ≡ false
 partial-parts loose x p (one x1 a h) =
-    let e : after_dot x1 ≡ [] = rw append-nil at (dotless-passed x1 [] (place-dotless loose x1 a h).0) in
+    let e : after_dot x1 ≡ [] = rw append-nil at (dotless-passed x1 [] (place-dotless loose false x1 a h).0) in
     rw e refl
 partial-parts loose x p (two x1 y a b h k) =
-    let d : after_dot (x1 ++ 46 ∷ y) ≡ y = dotless-passed x1 (46 ∷ y) (place-dotless loose x1 a h).0 in
-    let e : after_dot y ≡ [] = rw append-nil at (dotless-passed y [] (place-dotless loose y b k).0) in
+    let d : after_dot (x1 ++ 46 ∷ y) ≡ y = dotless-passed x1 (46 ∷ y) (place-dotless loose false x1 a h).0 in
+    let e : after_dot y ≡ [] = rw append-nil at (dotless-passed y [] (place-dotless loose (has_zeros a) y b k).0) in
     rw (d, e) refl
 partial-parts loose x p (three x1 y z pre build a b c ids builds h k l m s n t) =
     let q = z ++ (pre ++ build) in
-    let d : after_dot (x1 ++ 46 ∷ (y ++ 46 ∷ q)) ≡ y ++ 46 ∷ q = dotless-passed x1 (46 ∷ (y ++ 46 ∷ q)) (place-dotless loose x1 a h).0 in
-    let e : after_dot (y ++ 46 ∷ q) ≡ q = dotless-passed y (46 ∷ q) (place-dotless loose y b k).0 in
-    let place = place-dotless loose z c l in
+    let d : after_dot (x1 ++ 46 ∷ (y ++ 46 ∷ q)) ≡ y ++ 46 ∷ q = dotless-passed x1 (46 ∷ (y ++ 46 ∷ q)) (place-dotless loose false x1 a h).0 in
+    let e : after_dot (y ++ 46 ∷ q) ≡ q = dotless-passed y (46 ∷ q) (place-dotless loose (has_zeros a) y b k).0 in
+    let place = place-dotless loose (has_zeros a) z c l in
     rw (d, e) (third z (pre ++ build) place.0 place.1 (pre-first loose pre build ids builds m n))
 
 word-parts : (loose : Bool) (signs marks x : List ℕ) (s : Sign) (p : Partial) → IsSignText signs s → list_all is_mark marks ≡ true
@@ -348,19 +348,149 @@ front-parts r s h = elim (dot-cases r s) [
     front (c ∷ []) s h = refl
     front (c ∷ d ∷ t) s h = h
 
-run-front : (w rest : List ℕ) → begins is_plain rest ≡ false → (s : List ℕ) × (w ≡ take_while is_plain (w ++ rest) ++ s)
+-- ---- the first two parts of a well-formed word
+
+-- in front of the first dot no visible character but such as begin words
+abbrev are_start : List ℕ → Bool
+are_start [] = true
+are_start (b ∷ rest) = b == 46 || is_start b && are_start rest
+
+start-joined : (u v : List ℕ) → list_all is_start u ≡ true → are_start v ≡ true → are_start (u ++ v) ≡ true
+start-joined [] v h k = k
+start-joined (b ∷ u) v h k =
+    let each = and_parts (is_start b) (list_all is_start u) h in
+    rw (each.0, start-joined u v each.1 k) (or-true (b == 46))
+  where
+    or-true : (a : Bool) → (a || true) ≡ true
+    or-true a = grind arith
+
+start-all : (u : List ℕ) → list_all is_start u ≡ true → are_start u ≡ true
+start-all u h = rw append-nil at (start-joined u [] h refl)
+
+start-front : (u s : List ℕ) → are_start (u ++ s) ≡ true → are_start u ≡ true
+start-front [] s h = refl
+start-front (b ∷ u) s h = elim (cases_Bool (b == 46)) [
+  | inl dot ↦ rw dot refl
+  | inr other ↦
+      let each = and_parts (is_start b) (are_start (u ++ s)) (rw other at h) in
+      rw (other, each.0) (start-front u s each.1)
+]
+
+start-visible : (u : List ℕ) → list_all is_visible u ≡ true → are_start u ≡ true → are_first u ≡ true
+start-visible [] h k = refl
+start-visible (b ∷ u) h k = elim (cases_Bool (b == 46)) [
+  | inl dot ↦ rw dot refl
+  | inr other ↦
+      let visible = and_parts (is_visible b) (list_all is_visible u) h in
+      let each = and_parts (is_start b) (are_start u) (rw other at k) in
+      rw (other, or-left (is_first b) (is_visible b) each.0 visible.0) (start-visible u visible.1 each.1)
+]
+  where
+    or-left : (a p : Bool) → (a || not p) ≡ true → p ≡ true → a ≡ true
+    or-left a p h k = grind arith
+
+visible-behind : (u : List ℕ) → list_all is_visible u ≡ true → list_all is_visible (after_dot u) ≡ true
+visible-behind [] h = refl
+visible-behind (b ∷ u) h =
+    let each = and_parts (is_visible b) (list_all is_visible u) h in
+    elim (cases_Bool (b == 46)) [
+      | inl dot ↦ rw dot each.1
+      | inr other ↦ rw other (visible-behind u each.1)
+    ]
+
+place-start : (loose zeros : Bool) (x : List ℕ) (a : Option ℕ) → IsPlace loose zeros x a → list_all is_start x ≡ true
+place-start loose zeros x a (Text.any b h) = rw (wild b h) refl
+  where
+    wild : (b : ℕ) → is_wildcard b ≡ true → is_start b ≡ true
+    wild b h = grind (arith, nat_tests)
+place-start loose zeros x a (Text.number digits n k spelled short) = all-weaker is_ascii_digit is_start digit-start digits k.each
+  where
+    digit-start : (b : ℕ) → is_ascii_digit b ≡ true → is_start b ≡ true
+    digit-start b h = grind (arith, nat_tests)
+
+partial-start : (loose : Bool) (x : List ℕ) (p : Partial) → IsPartial loose x p
+    → (are_start x ≡ true) × (are_start (after_dot x) ≡ true)
+partial-start loose x p (one x1 a h) =
+    let e : after_dot x1 ≡ [] = rw append-nil at (dotless-passed x1 [] (place-dotless loose false x1 a h).0) in
+    (start-all x1 (place-start loose false x1 a h), rw e refl)
+partial-start loose x p (two x1 y a b h k) =
+    let d : after_dot (x1 ++ 46 ∷ y) ≡ y = dotless-passed x1 (46 ∷ y) (place-dotless loose false x1 a h).0 in
+    (start-joined x1 (46 ∷ y) (place-start loose false x1 a h) refl, rw d (start-all y (place-start loose (has_zeros a) y b k)))
+partial-start loose x p (three x1 y z pre build a b c ids builds h k l m s n t) =
+    let q = z ++ (pre ++ build) in
+    let d : after_dot (x1 ++ 46 ∷ (y ++ 46 ∷ q)) ≡ y ++ 46 ∷ q = dotless-passed x1 (46 ∷ (y ++ 46 ∷ q)) (place-dotless loose false x1 a h).0 in (
+      start-joined x1 (46 ∷ (y ++ 46 ∷ q)) (place-start loose false x1 a h) refl,
+      rw d (start-joined y (46 ∷ q) (place-start loose (has_zeros a) y b k) refl),
+    )
+
+-- the characters of signs and blanks begin words, or are not visible
+spelling-start : (s : Sign) (y : List ℕ) → list_all is_start y ≡ true → list_all is_start (spelling s ++ y) ≡ true
+spelling-start (compared above) y h = h
+spelling-start (compared at_least) y h = h
+spelling-start (compared equal) y h = h
+spelling-start (compared at_most) y h = h
+spelling-start (compared below) y h = h
+spelling-start caret y h = h
+spelling-start tilde y h = h
+
+blank-start : (x : List ℕ) → IsBlank x → list_all is_start x ≡ true
+blank-start x h = all-weaker is_dark is_start dark-start x (blank-dark x h)
+  where
+    dark-start : (b : ℕ) → is_dark b ≡ true → is_start b ≡ true
+    dark-start b h = grind arith
+
+sign-start : (signs : List ℕ) (s : Sign) → IsSignText signs s → list_all is_start signs ≡ true
+sign-start signs s no_sign = refl
+sign-start signs s (sign t y h) = spelling-start t y (blank-start y h)
+sign-start signs s (late_above y h) = all-join is_start y (61 ∷ []) (blank-start y h) refl
+sign-start signs s (late_below y h) = all-join is_start y (61 ∷ []) (blank-start y h) refl
+sign-start signs s (caret_equal y z h k) = all-join is_start y (61 ∷ z) (blank-start y h) (blank-start z k)
+sign-start signs s (tilde_sign c y z h k which) =
+    all-join is_start y (spelling (compared c) ++ z) (blank-start y h) (spelling-start (compared c) z (blank-start z k))
+sign-start signs s (tilde_twice c y z h some k which) =
+    all-join is_start y (spelling (compared c) ++ z) (blank-start y h) (spelling-start (compared c) z (blank-start z k))
+
+word-start : (loose : Bool) (signs marks x : List ℕ) (s : Sign) (p : Partial) → IsSignText signs s → list_all is_mark marks ≡ true
+    → IsPartial loose x p
+    → (are_start (signs ++ (marks ++ x)) ≡ true) × (are_start (after_dot (signs ++ (marks ++ x))) ≡ true)
+word-start loose signs marks x s p h m k =
+    let parts = partial-start loose x p k in
+    let e : after_dot (signs ++ (marks ++ x)) ≡ after_dot x =
+    dotless-passed signs (marks ++ x) (sign-dotless signs s h)
+    ∙ dotless-passed marks x (all-weaker is_mark is_dotless mark-dotless marks m) in (
+      start-joined signs (marks ++ x) (sign-start signs s h)
+          (start-joined marks x (all-weaker is_mark is_start mark-start marks m) parts.0),
+      rw e parts.1,
+    )
+  where
+    mark-start : (b : ℕ) → is_mark b ≡ true → is_start b ≡ true
+    mark-start b h = grind (arith, nat_tests)
+
+-- and so of its front, if that is visible
+firsts-front : (r s : List ℕ) → list_all is_visible r ≡ true
+    → (are_start (r ++ s) ≡ true) × (are_start (after_dot (r ++ s)) ≡ true)
+    → (are_first r ≡ true) × (are_first (after_dot r) ≡ true)
+firsts-front r s h k = (
+  start-visible r h (start-front r s k.0),
+  elim (dot-cases r s) [
+    | inl none ↦ rw none refl
+    | inr some ↦ start-visible (after_dot r) (visible-behind r h) (start-front (after_dot r) s (rw some at k.1))
+  ],
+)
+
+run-front : (w rest : List ℕ) → begins is_visible rest ≡ false → (s : List ℕ) × (w ≡ take_while is_visible (w ++ rest) ++ s)
 run-front [] [] h = ([], refl)
 run-front [] (b ∷ rest) h = ([], rw h refl)
-run-front (b ∷ w) rest h = elim (cases_Bool (is_plain b)) [
+run-front (b ∷ w) rest h = elim (cases_Bool (is_visible b)) [
   | inr other ↦ (b ∷ w, rw other refl)
-  | inl plain ↦
+  | inl visible ↦
       let r = run-front w rest h in
-      let e : 1 + prefix_len is_plain (w ++ rest) ≡ suc (prefix_len is_plain (w ++ rest)) = omega arith in
-      (r.0, rw (plain, e) (ap (λ (l : List ℕ). b ∷ l) r.1))
+      let e : 1 + prefix_len is_visible (w ++ rest) ≡ suc (prefix_len is_visible (w ++ rest)) = omega arith in
+      (r.0, rw (visible, e) (ap (λ (l : List ℕ). b ∷ l) r.1))
 ]
 
 pub word-regular : (loose : Bool) (signs marks x rest : List ℕ) (s : Sign) (p : Partial) → IsSignText signs s
-    → list_all is_mark marks ≡ true → IsPartial loose x p → begins_component x ≡ true → begins is_plain rest ≡ false
+    → list_all is_mark marks ≡ true → IsPartial loose x p → begins_component x ≡ true → begins is_visible rest ≡ false
     → begins_malformed ((signs ++ (marks ++ x)) ++ rest) ≡ false
 word-regular loose signs marks x rest s p h m k first stop =
     let w = signs ++ (marks ++ x) in
@@ -370,10 +500,14 @@ word-regular loose signs marks x rest s p h m k first stop =
       | inl none ↦ rw none (marks-start marks x m first)
       | inr some ↦ begins-on is_start signs (marks ++ x) (first-start signs some)
     ] in
-    let run = take_while is_plain (w ++ rest) in
+    let run = take_while is_visible (w ++ rest) in
     let front = run-front w rest stop in
     let parts = front-parts run front.0 (ap has_four_parts (sym front.1) ∙ word-parts loose signs marks x s p h m k) in
+    let starts = word-start loose signs marks x s p h m k in
+    let fronts : (are_start (run ++ front.0) ≡ true) × (are_start (after_dot (run ++ front.0)) ≡ true) =
+    (ap are_start (sym front.1) ∙ starts.0, ap (λ (l : List ℕ). are_start (after_dot l)) (sym front.1) ∙ starts.1) in
     none-malformed run (tame-inner w rest tame stop) (run-start (w ++ rest) (begins-on is_start w rest start)) parts
+    (firsts-front run front.0 (prefix-all is_visible (w ++ rest)) fronts)
 
 -- ---- visible characters
 
@@ -391,37 +525,27 @@ boundary-dark (b ∷ rest) h = elim (cases_Bool (begins is_visible (b ∷ rest))
 
 -- ---- a malformed word at the front
 
-pub boundary-plain : (rest : List ℕ) → is_boundary rest ≡ true → begins is_plain rest ≡ false
-boundary-plain [] h = refl
-boundary-plain (b ∷ rest) h = plain-quiet b (boundary-dark (b ∷ rest) h)
-  where
-    plain-quiet : (b : ℕ) → is_visible b ≡ false → is_plain b ≡ false
-    plain-quiet b h = grind (arith, nat_tests)
-
-run-is : (x rest : List ℕ) → list_all is_plain x ≡ true → begins is_plain rest ≡ false
-    → (take_while is_plain (x ++ rest) ≡ x) × (drop (prefix_len is_plain (x ++ rest)) (x ++ rest) ≡ rest)
+run-is : (x rest : List ℕ) → list_all is_visible x ≡ true → begins is_visible rest ≡ false
+    → (take_while is_visible (x ++ rest) ≡ x) × (drop (prefix_len is_visible (x ++ rest)) (x ++ rest) ≡ rest)
 run-is [] [] h k = (refl, refl)
 run-is [] (b ∷ rest) h k = (rw k refl, rw k refl)
 run-is (b ∷ x) rest h k =
-    let each = and_parts (is_plain b) (list_all is_plain x) h in
-    let e : 1 + prefix_len is_plain (x ++ rest) ≡ suc (prefix_len is_plain (x ++ rest)) = omega arith in
+    let each = and_parts (is_visible b) (list_all is_visible x) h in
+    let e : 1 + prefix_len is_visible (x ++ rest) ≡ suc (prefix_len is_visible (x ++ rest)) = omega arith in
     let r = run-is x rest each.1 k in
     (rw (each.0, e) (ap (λ (l : List ℕ). b ∷ l) r.0), rw (each.0, e) r.1)
 
-pub malformed-plain : (x : List ℕ) → is_malformed x ≡ true → list_all is_plain x ≡ true
-malformed-plain x h = (and_parts (list_all is_plain x) _ h).0
+pub malformed-all : (x : List ℕ) → is_malformed x ≡ true → list_all is_visible x ≡ true
+malformed-all x h = (and_parts (list_all is_visible x) _ h).0
 
 -- it begins with a visible character
 pub malformed-visible : (x : List ℕ) → is_malformed x ≡ true → begins is_visible x ≡ true
 malformed-visible [] h = cc h
-malformed-visible (b ∷ x) h = plain-visible b (and_parts (is_plain b) (list_all is_plain x) (malformed-plain (b ∷ x) h)).0
-  where
-    plain-visible : (b : ℕ) → is_plain b ≡ true → is_visible b ≡ true
-    plain-visible b h = grind (arith, nat_tests)
+malformed-visible (b ∷ x) h = (and_parts (is_visible b) (list_all is_visible x) (malformed-all (b ∷ x) h)).0
 
 -- and is no `-` alone
 pub malformed-more : (x : List ℕ) → is_malformed x ≡ true → (is_empty x || bytes_eq x (45 ∷ [])) ≡ false
-malformed-more x h = opposite _ (and_parts (not (is_empty x || bytes_eq x (45 ∷ []))) _ (and_parts (list_all is_plain x) _ h).1).0
+malformed-more x h = opposite _ (and_parts (not (is_empty x || bytes_eq x (45 ∷ []))) _ (and_parts (list_all is_visible x) _ h).1).0
   where
     opposite : (a : Bool) → not a ≡ true → a ≡ false
     opposite a h = grind arith
@@ -430,13 +554,13 @@ pub ignored-read : (loose : Bool) (x rest : List ℕ) → loose ≡ true → is_
     → ignored_front loose (x ++ rest) ≡ Some ((compared equal, Partial.wildcard, []), rest)
 unfolding ignored_front
 ignored-read loose x rest l h b =
-    let r = run-is x rest (malformed-plain x h) (boundary-plain rest b) in
+    let r = run-is x rest (malformed-all x h) (boundary-dark rest b) in
     rw (l, r.0, r.1, h, b) refl
 
-pub plain_all : (text : List ℕ) (at : ℕ) → at ≡ prefix_len is_plain text → list_all is_plain (take at text) ≡ true
-plain_all text at e = rw e (prefix-all is_plain text)
+pub visible_front : (text : List ℕ) (at : ℕ) → at ≡ prefix_len is_visible text → list_all is_visible (take at text) ≡ true
+visible_front text at e = rw e (prefix-all is_visible text)
 
-pub ruleset plain_runs = (plain_all)
+pub ruleset begins_visible = (visible_front)
 
 -- ---- the first dot
 
@@ -470,6 +594,48 @@ no_dot text e = sym (e ∙ go text)
     go (b ∷ text) = go text
 
 pub ruleset dots = (dot_here, dot_behind, no_dot)
+
+-- ---- the characters in front of the first dot
+
+pub first_dot : (text : List ℕ) (at d : ℕ) → are_first text ≡ are_first (drop at text) → at < length text → get_or text at d ≡ 46
+    → are_first text ≡ true
+first_dot text at d e h k = e ∙ go text at h k
+  where
+    go : (text : List ℕ) (at : ℕ) → at < length text → get_or text at d ≡ 46 → are_first (drop at text) ≡ true
+    go [] at h k = absurd (omega (arith, h))
+    go (b ∷ text) zero h k = rw k refl
+    go (b ∷ text) (suc at) h k = go text at (omega (arith, h)) k
+
+pub first_other : (text : List ℕ) (at d : ℕ) → are_first text ≡ are_first (drop at text) → at < length text → (get_or text at d == 46) ≡ false
+    → is_first (get_or text at d) ≡ false → are_first text ≡ false
+first_other text at d e h k l = e ∙ go text at h k l
+  where
+    go : (text : List ℕ) (at : ℕ) → at < length text → (get_or text at d == 46) ≡ false → is_first (get_or text at d) ≡ false
+        → are_first (drop at text) ≡ false
+    go [] at h k l = absurd (omega (arith, h))
+    go (b ∷ text) zero h k l = rw (k, l) refl
+    go (b ∷ text) (suc at) h k l = go text at (omega (arith, h)) k l
+
+pub first_step : (text : List ℕ) (at d : ℕ) → are_first text ≡ are_first (drop at text) → at < length text → (get_or text at d == 46) ≡ false
+    → is_first (get_or text at d) ≡ true → are_first text ≡ are_first (drop (at + 1) text)
+first_step text at d e h k l = e ∙ go text at h k l
+  where
+    go : (text : List ℕ) (at : ℕ) → at < length text → (get_or text at d == 46) ≡ false → is_first (get_or text at d) ≡ true
+        → are_first (drop at text) ≡ are_first (drop (at + 1) text)
+    go [] at h k l = absurd (omega (arith, h))
+    go (b ∷ text) zero h k l = rw (k, l) refl
+    go (b ∷ text) (suc at) h k l =
+        let e : suc at + 1 ≡ suc (at + 1) = omega arith in
+        rw e (go text at (omega (arith, h)) k l)
+
+pub first_end : (text : List ℕ) → are_first text ≡ are_first (drop (length text) text) → are_first text ≡ true
+first_end text e = e ∙ go text
+  where
+    go : (text : List ℕ) → are_first (drop (length text) text) ≡ true
+    go [] = refl
+    go (b ∷ text) = go text
+
+pub ruleset firsts = (first_dot, first_other, first_step, first_end)
 
 -- ---- the visible characters at the end
 
@@ -523,5 +689,14 @@ last_step text (suc at) d h some fits k =
 
 pub last_begin : (text : List ℕ) (start : ℕ) → start ≡ length text → list_all is_visible (drop start text) ≡ true
 last_begin text start e = rw e (none-behind text)
+
+pub visible_last : (text : List ℕ) → list_all is_visible (last_visible text) ≡ true
+visible_last [] = refl
+visible_last (b ∷ text) = elim (cases_Bool (list_all is_visible (b ∷ text))) [
+  | inl all ↦ rw (all, all) refl
+  | inr other ↦ rw other (visible_last text)
+]
+
+pub ruleset ends_visible = (visible_last)
 
 pub ruleset last_runs = (last_all, last_found, last_step, last_begin)

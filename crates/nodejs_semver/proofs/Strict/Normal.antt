@@ -10,7 +10,7 @@ use Rattle.nodejs_semver.specs.Internal.NpmWords.{Ended, Signed, after_dash, dro
 use Rattle.nodejs_semver.specs.Internal.NpmWords.{any_word, ignored_front, limited_end, limited_word, marks_len, npm_sign, partial_front, signed_word}
 use Rattle.nodejs_semver.specs.Internal.Words.{is_boundary, or_else}
 use Rattle.nodejs_semver.specs.Npm.Grammar.{IsStrictBuild, no_build, plus}
-use Rattle.nodejs_semver.specs.Npm.Malformed.{begins_malformed, is_plain}
+use Rattle.nodejs_semver.specs.Npm.Malformed.{begins_malformed, is_visible}
 use Rattle.nodejs_semver.specs.Npm.RangeText.{IsPartial, IsPreRelease, are_marks, are_whole_marks, bare, dashed, is_free_lower, is_free_upper, no_pre_release, one, partial_of, three, two}
 use Rattle.nodejs_semver.specs.Npm.Table.{Partial, compared, wildcard}
 use Rattle.nodejs_semver.specs.Text.WordText.{equal}
@@ -56,9 +56,9 @@ signed-normal loose text w h =
 
 any-normal : (loose : Bool) (text : List ℕ) (w : Signed × List ℕ) → any_word loose text ≡ Some w → are_normal w.0.1 ≡ true
 unfolding any_word ignored_front
-any-normal loose text w h = go (loose && (begins_malformed text && is_boundary (drop (prefix_len is_plain text) text))) h
+any-normal loose text w h = go (loose && (begins_malformed text && is_boundary (drop (prefix_len is_visible text) text))) h
   where
-    go : (b : Bool) → or_else (if b then Some ((compared equal, wildcard, []), drop (prefix_len is_plain text) text) else None) (signed_word loose text) ≡ Some w
+    go : (b : Bool) → or_else (if b then Some ((compared equal, wildcard, []), drop (prefix_len is_visible text) text) else None) (signed_word loose text) ≡ Some w
         → are_normal w.0.1 ≡ true
     go true k = subst (λ (x : Signed × List ℕ). are_normal x.0.1 ≡ true) (same_Some _ _ k) refl
     go false k = signed-normal loose text w k

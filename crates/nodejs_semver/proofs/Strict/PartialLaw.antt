@@ -10,7 +10,7 @@ use Rattle.nodejs_semver.specs.Internal.NpmWords.{are_short_builds, are_short_id
 use Rattle.nodejs_semver.specs.Internal.NpmWords.{qualified_partial, second_front, third_front}
 use Rattle.nodejs_semver.specs.Internal.Words.{is_boundary}
 use Rattle.nodejs_semver.specs.Npm.Grammar.{IsStrictBuild}
-use Rattle.nodejs_semver.specs.Npm.RangeText.{IsPartial, IsPlace, IsPreRelease, are_spelled, begins_letter, is_short_build, is_short_identifier, one, partial_of, three, two, undashed}
+use Rattle.nodejs_semver.specs.Npm.RangeText.{IsPartial, IsPlace, IsPreRelease, are_spelled, begins_letter, has_zeros, is_short_build, is_short_identifier, one, partial_of, three, two, undashed}
 use Rattle.nodejs_semver.specs.Npm.Table.{Partial}
 use Rattle.nodejs_semver.proofs.Reading.Bytes.{is_solid, solid-dark}
 use Rattle.nodejs_semver.proofs.Strict.Places.{dotted_place-found, dotted_place-read, place-found, place-read}
@@ -48,10 +48,10 @@ quiet-ends more h = record {
   letter = quiet-letter more h;
 }
 
-quiet-dot : (loose : Bool) (more : List ℕ) → begins is_solid more ≡ false → dotted_place loose more ≡ None
+quiet-dot : (loose zeros : Bool) (more : List ℕ) → begins is_solid more ≡ false → dotted_place loose zeros more ≡ None
 unfolding dotted_place
-quiet-dot loose [] h = refl
-quiet-dot loose (b ∷ rest) h = rw (quiet-byte 46 (b ∷ rest) refl h) refl
+quiet-dot loose zeros [] h = refl
+quiet-dot loose zeros (b ∷ rest) h = rw (quiet-byte 46 (b ∷ rest) refl h) refl
 
 -- ---- what is written is read
 
@@ -68,13 +68,13 @@ qualified-read loose a b c pre build more l m h s k t e =
 pub partial-read : (loose : Bool) (x more : List ℕ) (p : Partial) → IsPartial loose x p → begins is_solid more ≡ false
     → partial_front loose (x ++ more) ≡ Some (p, more)
 unfolding partial_front
-partial-read loose x more p (one x1 a h) quiet = rw (place-read loose x more a h (quiet-digit more quiet), quiet-dot loose more quiet) refl
+partial-read loose x more p (one x1 a h) quiet = rw (place-read loose false x more a h (quiet-digit more quiet), quiet-dot loose (has_zeros a) more quiet) refl
 partial-read loose x more p (two x1 y a b h k) quiet =
     rw (
       append_assoc x1 (46 ∷ y) more,
-      place-read loose x1 (46 ∷ (y ++ more)) a h refl,
-      dotted_place-read loose y more b k (quiet-digit more quiet),
-      quiet-dot loose more quiet,
+      place-read loose false x1 (46 ∷ (y ++ more)) a h refl,
+      dotted_place-read loose (has_zeros a) y more b k (quiet-digit more quiet),
+      quiet-dot loose (has_zeros a) more quiet,
     ) refl
 partial-read loose x more p (three x1 y z pre build a b c ids builds h k l m s n t) quiet =
     let ends = quiet-ends more quiet in
@@ -83,9 +83,9 @@ partial-read loose x more p (three x1 y z pre build a b c ids builds h k l m s n
     let whole : (x1 ++ 46 ∷ (y ++ 46 ∷ (z ++ (pre ++ build)))) ++ more ≡ x1 ++ (46 ∷ (y ++ (46 ∷ last))) = simp append_assoc refl in
     rw (
       whole,
-      place-read loose x1 (46 ∷ (y ++ (46 ∷ last))) a h refl,
-      dotted_place-read loose y (46 ∷ last) b k refl,
-      dotted_place-read loose z behind c l (pre-quiet loose pre build more ids builds m n ends),
+      place-read loose false x1 (46 ∷ (y ++ (46 ∷ last))) a h refl,
+      dotted_place-read loose (has_zeros a) y (46 ∷ last) b k refl,
+      dotted_place-read loose (has_zeros a) z behind c l (pre-quiet loose pre build more ids builds m n ends),
       qualified-read loose a b c pre build more ids builds m s n t ends,
     ) refl
 
@@ -137,14 +137,14 @@ pub record PartialAt (loose : Bool) (text : List ℕ) (p : Partial) (rest : List
   pub split : text ≡ piece ++ rest
   pub is : IsPartial loose piece p
 
-third-found : (loose : Bool) (a b : Option ℕ) (x y behind : List ℕ) (o : Front (Option ℕ)) (p : Partial) (rest : List ℕ) → IsPlace loose x a → IsPlace loose y b
-    → dotted_place loose behind ≡ o → third_front loose a b behind o ≡ Some (p, rest) → PartialAt loose (x ++ (46 ∷ (y ++ behind))) p rest
+third-found : (loose : Bool) (a b : Option ℕ) (x y behind : List ℕ) (o : Front (Option ℕ)) (p : Partial) (rest : List ℕ) → IsPlace loose false x a → IsPlace loose (has_zeros a) y b
+    → dotted_place loose (has_zeros a) behind ≡ o → third_front loose a b behind o ≡ Some (p, rest) → PartialAt loose (x ++ (46 ∷ (y ++ behind))) p rest
 third-found loose a b x y behind None p rest h k e r =
     let same = same_Some _ _ r in
     rw (← ap (λ (q : Partial × List ℕ). q.0) same, ← ap (λ (q : Partial × List ℕ). q.1) same)
     (record { piece = x ++ (46 ∷ y); split = sym (append_assoc x (46 ∷ y) behind); is = two x y a b h k })
 third-found loose a b x y behind (Some c) p rest h k e r =
-    let z = dotted_place-found loose behind c.0 c.1 e in
+    let z = dotted_place-found loose (has_zeros a) behind c.0 c.1 e in
     let q = qualified-found loose a b c.0 c.1 p rest r in
     let whole : x ++ (46 ∷ (y ++ behind)) ≡ (x ++ 46 ∷ (y ++ 46 ∷ (z.0 ++ (q.pre ++ q.build)))) ++ rest =
     ap (λ (t : List ℕ). x ++ (46 ∷ (y ++ t))) (z.1 ∙ ap (λ (t : List ℕ). 46 ∷ (z.0 ++ t)) q.split) ∙ simp append_assoc refl in
@@ -152,19 +152,20 @@ third-found loose a b x y behind (Some c) p rest h k e r =
     let is = three x y z.0 q.pre q.build a b c.0 q.ids q.builds h k z.2 q.pre_is q.pre_short q.build_is q.build_short in
     record { piece = piece; split = whole; is = subst (λ (o : Partial). IsPartial loose piece o) q.same is }
 
-second-found : (loose : Bool) (a : Option ℕ) (x behind : List ℕ) (o : Front (Option ℕ)) (p : Partial) (rest : List ℕ) → IsPlace loose x a
-    → dotted_place loose behind ≡ o → second_front loose a behind o ≡ Some (p, rest) → PartialAt loose (x ++ behind) p rest
+second-found : (loose : Bool) (a : Option ℕ) (x behind : List ℕ) (o : Front (Option ℕ)) (p : Partial) (rest : List ℕ) → IsPlace loose false x a
+    → dotted_place loose (has_zeros a) behind ≡ o → second_front loose a behind o ≡ Some (p, rest) → PartialAt loose (x ++ behind) p rest
 second-found loose a x behind None p rest h e r =
     let same = same_Some _ _ r in
     rw (← ap (λ (q : Partial × List ℕ). q.0) same, ← ap (λ (q : Partial × List ℕ). q.1) same)
     (record { piece = x; split = refl; is = one x a h })
 second-found loose a x behind (Some b) p rest h e r =
-    let y = dotted_place-found loose behind b.0 b.1 e in
-    rw y.1 (third-found loose a b.0 x y.0 b.1 (dotted_place loose b.1) p rest h y.2 refl r)
+    let y = dotted_place-found loose (has_zeros a) behind b.0 b.1 e in
+    rw y.1 (third-found loose a b.0 x y.0 b.1 (dotted_place loose (has_zeros a) b.1) p rest h y.2 refl r)
 
 pub partial-found : (loose : Bool) (text : List ℕ) (p : Partial) (rest : List ℕ) → partial_front loose text ≡ Some (p, rest) → PartialAt loose text p rest
 unfolding partial_front
 partial-found loose text p rest h =
-    let a = bind_some (place_front loose text) (λ a. second_front loose a.0 a.1 (dotted_place loose a.1)) (p, rest) h in
-    let x = place-found loose text a.0.0 a.0.1 a.1 in
-    rw x.split (second-found loose a.0.0 x.piece a.0.1 (dotted_place loose a.0.1) p rest x.is refl a.2)
+    let a = bind_some (place_front loose false text)
+    (λ a. second_front loose a.0 a.1 (dotted_place loose (has_zeros a.0) a.1)) (p, rest) h in
+    let x = place-found loose false text a.0.0 a.0.1 a.1 in
+    rw x.split (second-found loose a.0.0 x.piece a.0.1 (dotted_place loose (has_zeros a.0.0) a.0.1) p rest x.is refl a.2)

@@ -26,11 +26,11 @@ pub some-run : (run : List ℕ) → 1 ≤ length run → not (is_empty run) ≡ 
 some-run [] h = absurd (omega arith)
 some-run (c ∷ run) h = refl
 
-run-read : (loose : Bool) (digits more : List ℕ) → 0 < length digits → list_all is_ascii_digit digits ≡ true → length digits ≤ most_digits loose
-    → is_spelled loose (digits_value 10 digits) digits ≡ true → begins is_ascii_digit more ≡ false
-    → run_place loose (take_while is_ascii_digit (digits ++ more)) (drop (prefix_len is_ascii_digit (digits ++ more)) (digits ++ more))
+run-read : (loose zeros : Bool) (digits more : List ℕ) → 0 < length digits → list_all is_ascii_digit digits ≡ true → length digits ≤ most_digits loose
+    → is_spelled loose zeros (digits_value 10 digits) digits ≡ true → begins is_ascii_digit more ≡ false
+    → run_place loose zeros (take_while is_ascii_digit (digits ++ more)) (drop (prefix_len is_ascii_digit (digits ++ more)) (digits ++ more))
     ≡ Some (Some (digits_value 10 digits), more)
-run-read loose digits more some each short spelled stop =
+run-read loose zeros digits more some each short spelled stop =
     let e : take_while is_ascii_digit (digits ++ more) ≡ digits = grind (arith, digits-taken, take_at, drop_at, nat_tests) in
     let d : drop (prefix_len is_ascii_digit (digits ++ more)) (digits ++ more) ≡ more = grind (arith, digits-taken, take_at, drop_at, nat_tests) in
     let there = some-run digits (omega (arith, some)) in
@@ -40,26 +40,26 @@ run-read loose digits more some each short spelled stop =
 pub digits-begin : (digits : List ℕ) → 0 < length digits → list_all is_ascii_digit digits ≡ true → begins is_ascii_digit digits ≡ true
 digits-begin digits some each = grind arith
 
-pub place-read : (loose : Bool) (x more : List ℕ) (a : Option ℕ) → IsPlace loose x a → begins is_ascii_digit more ≡ false
-    → place_front loose (x ++ more) ≡ Some (a, more)
+pub place-read : (loose zeros : Bool) (x more : List ℕ) (a : Option ℕ) → IsPlace loose zeros x a → begins is_ascii_digit more ≡ false
+    → place_front loose zeros (x ++ more) ≡ Some (a, more)
 unfolding place_front
-place-read loose x more a (Text.any b h) stop = rw h refl
-place-read loose x more a (Text.number digits n k spelled short) stop =
+place-read loose zeros x more a (Text.any b h) stop = rw h refl
+place-read loose zeros x more a (Text.number digits n k spelled short) stop =
     let dark = number-no_wildcard digits more (digits-begin digits k.some k.each) in
-    let written = ap (λ (m : ℕ). is_spelled loose m digits) (sym k.value) ∙ spelled in
-    rw (dark, run-read loose digits more k.some k.each short written stop, k.value) refl
+    let written = ap (λ (m : ℕ). is_spelled loose zeros m digits) (sym k.value) ∙ spelled in
+    rw (dark, run-read loose zeros digits more k.some k.each short written stop, k.value) refl
 
-pub dotted_place-read : (loose : Bool) (x more : List ℕ) (a : Option ℕ) → IsPlace loose x a → begins is_ascii_digit more ≡ false
-    → dotted_place loose (46 ∷ (x ++ more)) ≡ Some (a, more)
+pub dotted_place-read : (loose zeros : Bool) (x more : List ℕ) (a : Option ℕ) → IsPlace loose zeros x a → begins is_ascii_digit more ≡ false
+    → dotted_place loose zeros (46 ∷ (x ++ more)) ≡ Some (a, more)
 unfolding dotted_place
-dotted_place-read loose x more a h stop = place-read loose x more a h stop
+dotted_place-read loose zeros x more a h stop = place-read loose zeros x more a h stop
 
 -- ---- what is read is written
 
-pub record PlaceAt (loose : Bool) (text : List ℕ) (a : Option ℕ) (rest : List ℕ) : Type 0 where
+pub record PlaceAt (loose zeros : Bool) (text : List ℕ) (a : Option ℕ) (rest : List ℕ) : Type 0 where
   pub piece : List ℕ
   pub split : text ≡ piece ++ rest
-  pub is : IsPlace loose piece a
+  pub is : IsPlace loose zeros piece a
 
 pub prefix-all : (p : ℕ → Bool) (text : List ℕ) → list_all p (take_while p text) ≡ true
 prefix-all p [] = refl
@@ -75,27 +75,27 @@ run-number : (run : List ℕ) → not (is_empty run) ≡ true → list_all is_as
 run-number [] h k = cc h
 run-number (c ∷ run) h k = record { some = omega arith; each = k; value = refl; safe = omega arith }
 
-run-found : (loose : Bool) (run rest : List ℕ) (a : Option ℕ) (left : List ℕ) → run_place loose run rest ≡ Some (a, left)
-    → list_all is_ascii_digit run ≡ true → IsPlace loose run a × (rest ≡ left)
-run-found loose run rest a left h each =
+run-found : (loose zeros : Bool) (run rest : List ℕ) (a : Option ℕ) (left : List ℕ) → run_place loose zeros run rest ≡ Some (a, left)
+    → list_all is_ascii_digit run ≡ true → IsPlace loose zeros run a × (rest ≡ left)
+run-found loose zeros run rest a left h each =
     let n = digits_value 10 run in
     let fits = nat_le (length run) (most_digits loose) in
-    elim (cases_Bool (not (is_empty run) && fits && is_spelled loose n run)) [
+    elim (cases_Bool (not (is_empty run) && fits && is_spelled loose zeros n run)) [
       | inr other ↦ cc (rw other at h)
       | inl good ↦
-          let parts = and_parts (not (is_empty run) && fits) (is_spelled loose n run) good in
+          let parts = and_parts (not (is_empty run) && fits) (is_spelled loose zeros n run) good in
           let some = and_parts (not (is_empty run)) fits parts.0 in
           let e = same_Some _ _ (rw good at h) in
           let short : length run ≤ most_digits loose = grind (arith, nat_tests) in
-          let is : IsPlace loose run (Some n) = Text.number run n (run-number run some.0 each) parts.1 short in
+          let is : IsPlace loose zeros run (Some n) = Text.number run n (run-number run some.0 each) parts.1 short in
           (rw (← ap (λ (p : Option ℕ × List ℕ). p.0) e) is, ap (λ (p : Option ℕ × List ℕ). p.1) e)
     ]
 
-pub place-found : (loose : Bool) (text : List ℕ) (a : Option ℕ) (rest : List ℕ) → place_front loose text ≡ Some (a, rest)
-    → PlaceAt loose text a rest
+pub place-found : (loose zeros : Bool) (text : List ℕ) (a : Option ℕ) (rest : List ℕ) → place_front loose zeros text ≡ Some (a, rest)
+    → PlaceAt loose zeros text a rest
 unfolding place_front
-place-found loose [] a rest h = cc h
-place-found loose (c ∷ text) a rest h = elim (cases_Bool (begins_wildcard (c ∷ text))) [
+place-found loose zeros [] a rest h = cc h
+place-found loose zeros (c ∷ text) a rest h = elim (cases_Bool (begins_wildcard (c ∷ text))) [
   | inl wild ↦
       let e = same_Some _ _ (rw wild at h) in
       rw (← ap (λ (p : Option ℕ × List ℕ). p.0) e, ← ap (λ (p : Option ℕ × List ℕ). p.1) e)
@@ -104,17 +104,17 @@ place-found loose (c ∷ text) a rest h = elim (cases_Bool (begins_wildcard (c �
       let run = take_while is_ascii_digit (c ∷ text) in
       let behind = drop (prefix_len is_ascii_digit (c ∷ text)) (c ∷ text) in
       let whole : c ∷ text ≡ run ++ behind = sym (take-append-drop (prefix_len is_ascii_digit (c ∷ text)) (c ∷ text)) in
-      let f = run-found loose run behind a rest (rw dark at h) (prefix-all is_ascii_digit (c ∷ text)) in
+      let f = run-found loose zeros run behind a rest (rw dark at h) (prefix-all is_ascii_digit (c ∷ text)) in
       record { piece = run; split = whole ∙ ap (λ (t : List ℕ). run ++ t) f.1; is = f.0 }
 ]
 
-pub dotted_place-found : (loose : Bool) (text : List ℕ) (a : Option ℕ) (rest : List ℕ) → dotted_place loose text ≡ Some (a, rest)
-    → (x : List ℕ) × (text ≡ 46 ∷ (x ++ rest)) × IsPlace loose x a
+pub dotted_place-found : (loose zeros : Bool) (text : List ℕ) (a : Option ℕ) (rest : List ℕ) → dotted_place loose zeros text ≡ Some (a, rest)
+    → (x : List ℕ) × (text ≡ 46 ∷ (x ++ rest)) × IsPlace loose zeros x a
 unfolding dotted_place
-dotted_place-found loose [] a rest h = cc h
-dotted_place-found loose (c ∷ t) a rest h = elim (cases_Bool (c == 46)) [
+dotted_place-found loose zeros [] a rest h = cc h
+dotted_place-found loose zeros (c ∷ t) a rest h = elim (cases_Bool (c == 46)) [
   | inl dot ↦
-      let f = place-found loose t a rest (rw dot at h) in
+      let f = place-found loose zeros t a rest (rw dot at h) in
       (f.piece, rw (eqb-true c 46 dot, ← f.split) refl, f.is)
   | inr other ↦ cc (rw other at h)
 ]

@@ -10,7 +10,7 @@ use Rattle.nodejs_semver.specs.Internal.NpmWords.{npm_sign, partial_front, signe
 use Rattle.nodejs_semver.specs.Internal.Words.{is_boundary, or_else}
 use Rattle.nodejs_semver.specs.Internal.NpmViews.{signed_front_view}
 use Rattle.nodejs_semver.specs.declared.npm.words.Signed as Runtime
-use Rattle.nodejs_semver.specs.Npm.Malformed.{begins_malformed, is_plain}
+use Rattle.nodejs_semver.specs.Npm.Malformed.{begins_malformed, is_visible}
 use Rattle.nodejs_semver.specs.Npm.RangeText.{are_marks, is_mark}
 use Rattle.nodejs_semver.specs.Npm.Table.{Partial, Sign, compared, wildcard}
 use Rattle.nodejs_semver.specs.Text.WordText.{equal}
@@ -79,13 +79,13 @@ pub not-loose : (loose : Bool) (text : List ℕ) → loose ≡ false → ignored
 unfolding ignored_front
 not-loose loose text h = rw h refl
 
-pub no-boundary : (loose : Bool) (text : List ℕ) (at : ℕ) (ends : Bool) → at ≡ prefix_len is_plain text
+pub no-boundary : (loose : Bool) (text : List ℕ) (at : ℕ) (ends : Bool) → at ≡ prefix_len is_visible text
     → ends ≡ is_boundary (take (length text - at) (drop at text)) → ends ≡ false → ignored_front loose text ≡ None
 unfolding ignored_front
 no-boundary loose text at ends e h k =
-    let none : is_boundary (drop (prefix_len is_plain text) text) ≡ false =
+    let none : is_boundary (drop (prefix_len is_visible text) text) ≡ false =
     ap (λ (n : ℕ). is_boundary (drop n text)) (sym e) ∙ ap is_boundary (sym (take_rest text at)) ∙ sym h ∙ k in
-    rw none (no-ending loose (begins_malformed text) (drop (prefix_len is_plain text) text))
+    rw none (no-ending loose (begins_malformed text) (drop (prefix_len is_visible text) text))
   where
     no-ending : (a b : Bool) (rest : List ℕ)
         → ◌≡◌ {A = Front Signed} (if a && (b && false) then Some ((compared equal, wildcard, []), rest) else None) None
@@ -94,13 +94,13 @@ no-boundary loose text at ends e h k =
     no-ending false b rest = refl
 
 pub ignored-here : (loose : Bool) (text : List ℕ) (at : ℕ) (ends : Bool) → loose ≡ true → begins_malformed text ≡ true
-    → at ≡ prefix_len is_plain text → ends ≡ is_boundary (take (length text - at) (drop at text)) → ends ≡ true
+    → at ≡ prefix_len is_visible text → ends ≡ is_boundary (take (length text - at) (drop at text)) → ends ≡ true
     → ◌≡◌ {A = Front Signed} (Some ((compared equal, wildcard, []), take (length text - at) (drop at text))) (ignored_front loose text)
 unfolding ignored_front
 ignored-here loose text at ends l m e h k =
-    let is : take (length text - at) (drop at text) ≡ drop (prefix_len is_plain text) text =
+    let is : take (length text - at) (drop at text) ≡ drop (prefix_len is_visible text) text =
     take_rest text at ∙ ap (λ (n : ℕ). drop n text) e in
-    let ended : is_boundary (drop (prefix_len is_plain text) text) ≡ true = ap is_boundary (sym is) ∙ sym h ∙ k in
+    let ended : is_boundary (drop (prefix_len is_visible text) text) ≡ true = ap is_boundary (sym is) ∙ sym h ∙ k in
     rw (l, m, ended, is) refl
 
 any-limited : (loose : Bool) (text : List ℕ)
@@ -109,7 +109,7 @@ unfolding any_word ignored_front
 any-limited loose text = go (loose && (begins_malformed text && is_boundary rest)) (signed_word loose text)
   where
     rest : List ℕ
-    rest = drop (prefix_len is_plain text) text
+    rest = drop (prefix_len is_visible text) text
 
     go : (b : Bool) (o : Front Signed)
         → limited_word MAX_SAFE_INTEGER (or_else (if b then Some ((compared equal, wildcard, []), rest) else None) o)

@@ -13,7 +13,7 @@ use Rattle.nodejs_semver.specs.Internal.NpmWords.{Signed, any_word, ended_word, 
 use Rattle.nodejs_semver.specs.Internal.NpmWords.{word_front, words_within}
 use Rattle.nodejs_semver.specs.Internal.Words.{is_boundary}
 use Rattle.nodejs_semver.specs.Npm.RangeText as Text
-use Rattle.nodejs_semver.specs.Npm.Malformed.{begins_malformed, is_plain, is_visible}
+use Rattle.nodejs_semver.specs.Npm.Malformed.{begins_malformed, is_visible}
 use Rattle.nodejs_semver.specs.Npm.RangeText.{AreWords, IsPartial, IsPlace, IsSignText, IsWord, are_marks, ignored, is_mark, last, more, one, spelling, three, two, word}
 use Rattle.nodejs_semver.specs.Npm.RangeText.{caret_equal, late_above, late_below, no_sign, sign, tilde_sign, tilde_twice}
 use Rattle.nodejs_semver.specs.Npm.Table.{Comparison, Partial, Sign, caret, compared, table, tilde, wildcard}
@@ -22,7 +22,7 @@ use Rattle.nodejs_semver.proofs.Reading.Bytes.{begins-on, begins-some, begins_co
 use Rattle.nodejs_semver.proofs.Reading.PartialLaw.{spaces-gone, spaces-le}
 use Rattle.nodejs_semver.proofs.Reading.Steps.{option-cases}
 use Rattle.nodejs_semver.proofs.Reading.WordLaw.{boundary-utf8, suffix-boundary}
-use Rattle.nodejs_semver.proofs.Strict.Malformed.{boundary-plain, ignored-read, malformed-visible, visible-dark, word-regular}
+use Rattle.nodejs_semver.proofs.Strict.Malformed.{boundary-dark, ignored-read, malformed-visible, visible-dark, word-regular}
 use Rattle.nodejs_semver.proofs.Strict.PartialLaw.{boundary-quiet, partial-found, partial-read}
 use Rattle.nodejs_semver.proofs.Strict.Places.{digits-begin}
 use Rattle.nodejs_semver.proofs.Strict.VersionLaw.{empty-is}
@@ -31,19 +31,19 @@ use Rattle.nodejs_semver.proofs.Strict.SignsRead.{blank-cases, blank-skipped, ma
 
 -- ---- how partials and marks begin
 
-place-begins : (loose : Bool) (x : List ℕ) (a : Option ℕ) → IsPlace loose x a → begins_component x ≡ true
-place-begins loose x a (Text.any b h) = rw h refl
-place-begins loose x a (Text.number digits n k spelled short) =
+place-begins : (loose zeros : Bool) (x : List ℕ) (a : Option ℕ) → IsPlace loose zeros x a → begins_component x ≡ true
+place-begins loose zeros x a (Text.any b h) = rw h refl
+place-begins loose zeros x a (Text.number digits n k spelled short) =
     let digit = digits-begin digits k.some k.each in
     grind arith
 
 pub partial-begins : (loose : Bool) (x rest : List ℕ) (p : Partial) → IsPartial loose x p → begins_component (x ++ rest) ≡ true
-partial-begins loose x rest p (one x1 a h) = begins-on is_component_byte x1 rest (place-begins loose x1 a h)
+partial-begins loose x rest p (one x1 a h) = begins-on is_component_byte x1 rest (place-begins loose false x1 a h)
 partial-begins loose x rest p (two x1 y a b h k) =
-    begins-on is_component_byte (x1 ++ (46 ∷ y)) rest (begins-on is_component_byte x1 (46 ∷ y) (place-begins loose x1 a h))
+    begins-on is_component_byte (x1 ++ (46 ∷ y)) rest (begins-on is_component_byte x1 (46 ∷ y) (place-begins loose false x1 a h))
 partial-begins loose x rest p (three x1 y z pre build a b c ids builds h k l m s n t) =
     let behind = 46 ∷ (y ++ 46 ∷ (z ++ (pre ++ build))) in
-    begins-on is_component_byte (x1 ++ behind) rest (begins-on is_component_byte x1 behind (place-begins loose x1 a h))
+    begins-on is_component_byte (x1 ++ behind) rest (begins-on is_component_byte x1 behind (place-begins loose false x1 a h))
 
 marks-counted : (marks u : List ℕ) → list_all is_mark marks ≡ true → begins_component u ≡ true → marks_len (marks ++ u) ≡ length marks
 marks-counted [] [] h k = cc k
@@ -80,7 +80,7 @@ word-read loose include w rest cs (ignored x l h) b = rw (ignored-read loose x r
 word-read loose include w rest cs (word signs marks x s p h m e k) b =
     let u = x ++ rest in
     let begin : begins_component x ≡ true = rw (append-nil x) at (partial-begins loose x [] p k) in
-    let regular = word-regular loose signs marks x rest s p h (marks-all loose s p marks m) k begin (boundary-plain rest b) in
+    let regular = word-regular loose signs marks x rest s p h (marks-all loose s p marks m) k begin (boundary-dark rest b) in
     let none : ignored_front loose ((signs ++ (marks ++ x)) ++ rest) ≡ None = none-ignored loose ((signs ++ (marks ++ x)) ++ rest) regular in
     let t = sign-taken loose signs s p marks x u h m e (partial-begins loose x rest p k) in
     let whole : (signs ++ (marks ++ x)) ++ rest ≡ signs ++ (marks ++ u) = simp append_assoc refl in
@@ -158,7 +158,7 @@ ignored-found : (loose : Bool) (include : Bool) (text : List ℕ) (w : Signed ×
     → WordAt loose include text (table include w.0.0 w.0.1 w.0.2) w.1
 unfolding ignored_front
 ignored-found loose include text w u h =
-    let n = prefix_len is_plain text in
+    let n = prefix_len is_visible text in
     let rest = drop n text in
     let run = take n text in
     let read : Signed × List ℕ = ((compared equal, wildcard, []), rest) in

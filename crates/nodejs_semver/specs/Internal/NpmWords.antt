@@ -12,8 +12,8 @@ use Rattle.nodejs_semver.specs.Internal.Fronts.{Front, after_byte, begins_byte, 
 use Rattle.nodejs_semver.specs.Internal.NpmReadings.{dashed_front}
 use Rattle.nodejs_semver.specs.Internal.Parts.{parts}
 use Rattle.nodejs_semver.specs.Internal.Words.{after_some_space, is_boundary, or_else}
-use Rattle.nodejs_semver.specs.Npm.Malformed.{begins_malformed, is_plain}
-use Rattle.nodejs_semver.specs.Npm.RangeText.{are_marks, are_spelled, are_whole_marks, begins_letter, is_free_lower, is_free_upper, is_lost, is_mark, is_short_build, is_short_identifier, is_spelled, most_digits, partial_of}
+use Rattle.nodejs_semver.specs.Npm.Malformed.{begins_malformed, is_visible}
+use Rattle.nodejs_semver.specs.Npm.RangeText.{are_marks, are_spelled, are_whole_marks, begins_letter, has_zeros, is_free_lower, is_free_upper, is_lost, is_mark, is_short_build, is_short_identifier, is_spelled, most_digits, partial_of}
 use Rattle.nodejs_semver.specs.Npm.Ranges.{is_valid}
 use Rattle.nodejs_semver.specs.Npm.Table.{Comparison, Partial, Sign, caret, compared, hyphen_lower, hyphen_upper, major, minor, table, tilde, whole, wildcard}
 use Rattle.nodejs_semver.specs.Text.WordText.{Comparator, above, at_least, at_most, below, equal}
@@ -21,19 +21,19 @@ use Rattle.nodejs_semver.specs.Text.WordText.{Comparator, above, at_least, at_mo
 -- ---- partials
 
 -- the place that a run of digits is, with what stands behind it
-abbrev pub run_place : Bool → List ℕ → List ℕ → Front (Option ℕ)
-run_place loose run rest =
-    if not (is_empty run) && nat_le (length run) (most_digits loose) && is_spelled loose (digits_value 10 run) run
+abbrev pub run_place : Bool → Bool → List ℕ → List ℕ → Front (Option ℕ)
+run_place loose zeros run rest =
+    if not (is_empty run) && nat_le (length run) (most_digits loose) && is_spelled loose zeros (digits_value 10 run) run
     then Some (Some (digits_value 10 run), rest) else None
 
 -- a place
-unfoldable pub place_front : Bool → List ℕ → Front (Option ℕ)
-place_front loose text = if begins_wildcard text then Some (None, drop 1 text)
-    else run_place loose (take_while is_ascii_digit text) (drop (prefix_len is_ascii_digit text) text)
+unfoldable pub place_front : Bool → Bool → List ℕ → Front (Option ℕ)
+place_front loose zeros text = if begins_wildcard text then Some (None, drop 1 text)
+    else run_place loose zeros (take_while is_ascii_digit text) (drop (prefix_len is_ascii_digit text) text)
 
 -- the same behind a dot
-unfoldable pub dotted_place : Bool → List ℕ → Front (Option ℕ)
-dotted_place loose text = after_byte 46 text >>? λ rest. place_front loose rest
+unfoldable pub dotted_place : Bool → Bool → List ℕ → Front (Option ℕ)
+dotted_place loose zeros text = after_byte 46 text >>? λ rest. place_front loose zeros rest
 
 -- the identifiers of a pre-release and of a build may be written
 abbrev pub are_short_identifiers : List ℕ → Bool
@@ -65,11 +65,12 @@ third_front loose a b text (Some c) = qualified_partial loose a b c.0 c.1
 
 abbrev pub second_front : Bool → Option ℕ → List ℕ → Front (Option ℕ) → Front Partial
 second_front loose a text None = Some (partial_of a None None [] [], text)
-second_front loose a text (Some b) = third_front loose a b.0 b.1 (dotted_place loose b.1)
+second_front loose a text (Some b) = third_front loose a b.0 b.1 (dotted_place loose (has_zeros a) b.1)
 
 -- the partial at the front
 unfoldable pub partial_front : Bool → List ℕ → Front Partial
-partial_front loose text = place_front loose text >>? λ a. second_front loose a.0 a.1 (dotted_place loose a.1)
+partial_front loose text =
+    place_front loose false text >>? λ a. second_front loose a.0 a.1 (dotted_place loose (has_zeros a.0) a.1)
 
 -- the numbers that count are up to the limit
 abbrev pub is_small : ℕ → Partial → Bool
@@ -91,6 +92,12 @@ pub data Place : Type 0 where
 abbrev pub place_of : ℕ → Option ℕ → Place
 place_of limit None = any
 place_of limit (Some n) = if nat_le n limit then number n else great
+
+-- zero may be several digits behind such a major number
+abbrev pub place_zeros : Place → Bool
+place_zeros any = true
+place_zeros (number M) = nat_lt 0 M
+place_zeros great = true
 
 abbrev pub placed : ℕ → Front (Option ℕ) → Front Place
 placed limit None = None
@@ -121,11 +128,12 @@ third_counted loose a b text (Some c) = qualified_counted loose a b c.0 c.1
 
 abbrev pub second_counted : Bool → ℕ → Place → List ℕ → Front Place → Front Partial
 second_counted loose limit a text None = counted a any any [] [] >>? λ p. Some (p, text)
-second_counted loose limit a text (Some b) = third_counted loose a b.0 b.1 (placed limit (dotted_place loose b.1))
+second_counted loose limit a text (Some b) = third_counted loose a b.0 b.1 (placed limit (dotted_place loose (place_zeros a) b.1))
 
 abbrev pub counted_front : Bool → ℕ → List ℕ → Front Partial
 counted_front loose limit text =
-    placed limit (place_front loose text) >>? λ a. second_counted loose limit a.0 a.1 (placed limit (dotted_place loose a.1))
+    placed limit (place_front loose false text) >>? λ a.
+    second_counted loose limit a.0 a.1 (placed limit (dotted_place loose (place_zeros a.0) a.1))
 
 -- ---- signs
 
@@ -186,7 +194,7 @@ signed_word loose text = let s = npm_sign text in marked_word loose s (partial_f
 
 -- the malformed word at the front, as one that has no comparators
 unfoldable pub ignored_front : Bool → List ℕ → Front Signed
-ignored_front loose text = let rest = drop (prefix_len is_plain text) text in
+ignored_front loose text = let rest = drop (prefix_len is_visible text) text in
     if loose && (begins_malformed text && is_boundary rest) then Some ((compared equal, wildcard, []), rest) else None
 
 unfoldable pub any_word : Bool → List ℕ → Front Signed

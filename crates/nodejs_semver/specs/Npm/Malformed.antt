@@ -1,6 +1,6 @@
 -- Statement: the malformed words that are ignored loosely, as node-semver ignores them. They are visible
--- ASCII characters without `*`.
-use Rattle.std.specs.Prelude.{◌==◌, ◌-◌, ◌&&◌, ◌||◌, not, nat_le, ℕ, Bool, List, [], ◌∷◌, codes, drop}
+-- ASCII characters.
+use Rattle.std.specs.Prelude.{◌==◌, ◌-◌, ◌&&◌, ◌||◌, not, nat_le, ℕ, Bool, true, List, [], ◌∷◌, codes, drop}
 use Rattle.std.specs.Prelude.{if◌then◌else◌, length, take_while}
 use Rattle.std.specs.Char.{is_ascii_digit}
 use Rattle.std.specs.List.{list_all}
@@ -11,19 +11,16 @@ use Rattle.semver_core.specs.Text.Characters.{begins, is_identifier_char}
 abbrev pub is_visible : ℕ → Bool
 is_visible b = nat_le 33 b && nat_le b 126
 
-abbrev pub is_plain : ℕ → Bool
-is_plain b = is_visible b && not (b == 42)
-
 -- `<`, `=`, `>`, `^` or `~`
 abbrev pub is_sign : ℕ → Bool
 is_sign b = nat_le 60 b && nat_le b 62 || (b == 94 || b == 126)
 
--- a character that begins well-formed words: a sign, a digit, `v`, `x` or `X`; and one that stands in them
+-- a character that begins well-formed words: a sign, a digit, `v`, or a wildcard; and one that stands in them
 abbrev pub is_first : ℕ → Bool
-is_first b = is_sign b || (is_ascii_digit b || (b == 118 || (b == 120 || b == 88)))
+is_first b = is_sign b || (is_ascii_digit b || (b == 118 || (b == 120 || (b == 88 || b == 42))))
 
 abbrev pub is_inner : ℕ → Bool
-is_inner b = is_sign b || (is_identifier_char b || (b == 43 || b == 46))
+is_inner b = is_sign b || (is_identifier_char b || (b == 43 || (b == 46 || b == 42)))
 
 -- the text behind its first dot
 abbrev pub after_dot : List ℕ → List ℕ
@@ -34,19 +31,28 @@ after_dot (b ∷ rest) = if b == 46 then rest else after_dot rest
 abbrev pub has_four_parts : List ℕ → Bool
 has_four_parts word = begins (λ b. b == 46) (drop 1 (after_dot (after_dot word)))
 
--- a malformed word: it does not begin as a well-formed one does, or has a character that stands in none, or
--- four parts. It is no `-` alone, as stands in hyphen ranges, and its last character is no sign, with which
--- node-semver may ignore the next word too.
+-- the characters in front of its first dot are such as begin well-formed words
+abbrev pub are_first : List ℕ → Bool
+are_first [] = true
+are_first (b ∷ rest) = b == 46 || is_first b && are_first rest
+
+-- it may be well-formed: it begins so, has only such characters in its first two parts, and no characters but
+-- those of well-formed words
+abbrev pub is_regular : List ℕ → Bool
+is_regular word = begins is_first word && list_all is_inner word
+    && (are_first word && are_first (after_dot word))
+
+-- a malformed word: one that may not be well-formed, or one with four parts. It is no `-` alone, as stands in
+-- hyphen ranges, and its last character is no sign, with which node-semver may ignore the next word too.
 abbrev pub is_malformed : List ℕ → Bool
-is_malformed word = list_all is_plain word && (not (is_empty word || bytes_eq word (codes "-"))
+is_malformed word = list_all is_visible word && (not (is_empty word || bytes_eq word (codes "-"))
     && (not (begins is_sign (drop (length word - 1) word))
-    && (has_four_parts word || not (begins is_first word && list_all is_inner word))))
+    && (has_four_parts word || not (is_regular word))))
 
--- such characters stand at the front up to another one, and are one
+-- the visible characters at the front are one, and those at the end
 abbrev pub begins_malformed : List ℕ → Bool
-begins_malformed text = is_malformed (take_while is_plain text)
+begins_malformed text = is_malformed (take_while is_visible text)
 
--- the visible characters at the end are one
 abbrev pub last_visible : List ℕ → List ℕ
 last_visible [] = []
 last_visible (b ∷ rest) = if list_all is_visible (b ∷ rest) then b ∷ rest else last_visible rest

@@ -2,9 +2,9 @@
 -- comparators of each alternative. Left out is one `*`, and a comparator before it, in a word that is else
 -- a whole version, as in `>*1.2.3`, which node-semver passes over. Of the loose reading these are left out
 -- too, and a text that has one is rejected: malformed words but those that `Malformed` defines; zero as
--- several digits; more than 32 digits of a number, and 128 characters of a pre-release; a pre-release without
--- `-` that begins with none but a letter, and one that is `-` alone; whitespace among the marks of a whole
--- end of a hyphen range.
+-- several digits, where it is the major number or that is zero; more than 32 digits of a number, and 128
+-- characters of a pre-release; a pre-release without `-` that begins with none but a letter, and one that is
+-- `-` alone; whitespace among the marks of a whole end of a hyphen range.
 use Rattle.std.specs.Prelude.{◌≡◌, ◌⊎◌, ◌==◌, ◌<◌, ◌≤◌, ◌+◌, ◌&&◌, ◌||◌, not, nat_le, nat_lt, ℕ, Bool, true}
 use Rattle.std.specs.Prelude.{false, List, [], ◌∷◌, ◌++◌, length, drop, Option, Some, None, codes}
 use Rattle.std.specs.Prelude.{encode_utf8_all, if◌then◌else◌}
@@ -31,18 +31,23 @@ is_short_identifier text = let run = prefix_len is_ascii_digit text in
 abbrev pub is_short_build : List ℕ → Bool
 is_short_build text = nat_le (length text) 250
 
--- a number has no leading zeros; loosely it may have some, where it is not zero
-abbrev pub is_spelled : Bool → ℕ → List ℕ → Bool
-is_spelled loose n digits = not (has_leading_zero digits) || (loose && nat_lt 0 n)
+-- a number has no leading zeros; loosely it may have some, zero only where `zeros` says so
+abbrev pub is_spelled : Bool → Bool → ℕ → List ℕ → Bool
+is_spelled loose zeros n digits = not (has_leading_zero digits) || (loose && (zeros || nat_lt 0 n))
 
 abbrev pub most_digits : Bool → ℕ
 most_digits loose = if loose then 32 else 257
 
 -- a place: `x`, `X`, `*`, or a number of any value
-pub data IsPlace (loose : Bool) : List ℕ → Option ℕ → Type 0 where
-  any : (b : ℕ) → (b == 120 || b == 88 || b == 42) ≡ true → IsPlace loose (b ∷ []) None
-  number : (run : List ℕ) (n : ℕ) → IsNumber n run n → is_spelled loose n run ≡ true
-      → length run ≤ most_digits loose → IsPlace loose run (Some n)
+pub data IsPlace (loose zeros : Bool) : List ℕ → Option ℕ → Type 0 where
+  any : (b : ℕ) → (b == 120 || b == 88 || b == 42) ≡ true → IsPlace loose zeros (b ∷ []) None
+  number : (run : List ℕ) (n : ℕ) → IsNumber n run n → is_spelled loose zeros n run ≡ true
+      → length run ≤ most_digits loose → IsPlace loose zeros run (Some n)
+
+-- zero may be several digits behind this major number: where that is zero, the table asks how zero is written
+abbrev pub has_zeros : Option ℕ → Bool
+has_zeros None = true
+has_zeros (Some M) = nat_lt 0 M
 
 -- the identifiers of a pre-release: strictly, none that is digits alone has a leading zero
 abbrev pub are_spelled : Bool → List ℕ → Bool
@@ -74,11 +79,11 @@ partial_of None b c pre build = wildcard
 
 -- one to three places joined by dots, and behind the third a pre-release and build metadata, or nothing
 pub data IsPartial (loose : Bool) : List ℕ → Partial → Type 0 where
-  one : (x : List ℕ) (a : Option ℕ) → IsPlace loose x a → IsPartial loose x (partial_of a None None [] [])
-  two : (x y : List ℕ) (a b : Option ℕ) → IsPlace loose x a → IsPlace loose y b
+  one : (x : List ℕ) (a : Option ℕ) → IsPlace loose false x a → IsPartial loose x (partial_of a None None [] [])
+  two : (x y : List ℕ) (a b : Option ℕ) → IsPlace loose false x a → IsPlace loose (has_zeros a) y b
       → IsPartial loose (x ++ (codes "." ++ y)) (partial_of a b None [] [])
-  three : (x y z pre build : List ℕ) (a b c : Option ℕ) (ids builds : List Id) → IsPlace loose x a
-      → IsPlace loose y b → IsPlace loose z c → IsPreRelease loose pre ids
+  three : (x y z pre build : List ℕ) (a b c : Option ℕ) (ids builds : List Id) → IsPlace loose false x a
+      → IsPlace loose (has_zeros a) y b → IsPlace loose (has_zeros a) z c → IsPreRelease loose pre ids
       → list_all is_short_identifier (pieces (undashed pre)) ≡ true → IsStrictBuild build builds
       → list_all is_short_build (pieces (drop 1 build)) ≡ true
       → IsPartial loose (x ++ (codes "." ++ (y ++ (codes "." ++ (z ++ (pre ++ build))))))

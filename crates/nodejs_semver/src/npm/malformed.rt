@@ -8,19 +8,12 @@ ghost use Rattle.nodejs_semver.specs.Npm.Malformed as Text;
 ghost use Rattle.semver_core.specs.Lists.{is_empty};
 ghost use Rattle.semver_core.specs.Text.Characters.{begins};
 
+// Whether a character may stand in such a word.
 #[inline(always)]
 fn is_visible(byte: u8) -> bool
     ensures { result ≡ Text.is_visible byte }
 {
     matches!(byte, b'!'..=b'~')
-}
-
-// Whether a character may stand in such a word.
-#[inline(always)]
-fn is_plain(byte: u8) -> bool
-    ensures { result ≡ Text.is_plain byte }
-{
-    is_visible(byte) && byte != b'*'
 }
 
 // Whether a character is of a sign.
@@ -36,7 +29,7 @@ fn is_sign(byte: u8) -> bool
 fn is_first(byte: u8) -> bool
     ensures { result ≡ Text.is_first byte }
 {
-    is_sign(byte) || byte.is_ascii_digit() || matches!(byte, b'v' | b'x' | b'X')
+    is_sign(byte) || byte.is_ascii_digit() || matches!(byte, b'v' | b'x' | b'X' | b'*')
 }
 
 // Whether a character may stand in a well-formed word.
@@ -44,17 +37,17 @@ fn is_first(byte: u8) -> bool
 fn is_inner(byte: u8) -> bool
     ensures { result ≡ Text.is_inner byte }
 {
-    is_sign(byte) || byte.is_ascii_alphanumeric() || matches!(byte, b'-' | b'+' | b'.')
+    is_sign(byte) || byte.is_ascii_alphanumeric() || matches!(byte, b'-' | b'+' | b'.' | b'*')
 }
 
 /// How many such characters stand at the front.
 #[tactic(auto, using(crate::proofs::Strict::Places::prefix_steps))]
-pub(crate) fn plain_len(text: &[u8]) -> usize
-    ensures value { result ≡ prefix_len Text.is_plain text.now }
+pub(crate) fn visible_len(text: &[u8]) -> usize
+    ensures value { result ≡ prefix_len Text.is_visible text.now }
     ensures fits { result ≤ length text.now }
 {
-    'plain: for at in 0..text.len() {
-        if !is_plain(text[at]) {
+    'visible: for at in 0..text.len() {
+        if !is_visible(text[at]) {
             return at;
         }
     }
@@ -104,34 +97,48 @@ fn ends_in_sign(word: &[u8]) -> bool
     matches!(last, [sign, ..] if is_sign(*sign))
 }
 
-// Whether a word begins as well-formed ones do, and has no other characters than they have.
-fn is_regular(word: &[u8]) -> bool
-    ensures { result ≡ (begins Text.is_first word.now && list_all Text.is_inner word.now) }
+// Whether the characters in front of the first dot are such as begin well-formed words.
+#[tactic(auto, using(crate::proofs::Strict::Malformed::firsts))]
+fn are_first(text: &[u8]) -> bool
+    ensures { result ≡ Text.are_first text.now }
 {
-    matches!(word, [first, ..] if is_first(*first)) && are_inner(word)
+    'bytes: for at in 0..text.len() {
+        if text[at] == b'.' {
+            return true;
+        }
+        if !is_first(text[at]) {
+            return false;
+        }
+    }
+    true
+}
+
+// Whether the first two parts of a word have such characters alone.
+fn has_first_parts(word: &[u8]) -> bool
+    ensures { result ≡ (Text.are_first word.now && Text.are_first (Text.after_dot word.now)) }
+{
+    are_first(word) && are_first(after_dot(word))
+}
+
+// Whether a word may be well-formed by its first character, by all, and by its first two parts.
+fn is_regular(word: &[u8]) -> bool
+    ensures { result ≡ Text.is_regular word.now }
+{
+    matches!(word, [first, ..] if is_first(*first)) && are_inner(word) && has_first_parts(word)
 }
 
 fn is_misfit(word: &[u8]) -> bool
-    ensures { result ≡ (Text.has_four_parts word.now
-        || not (begins Text.is_first word.now && list_all Text.is_inner word.now)) }
+    ensures { result ≡ (Text.has_four_parts word.now || not (Text.is_regular word.now)) }
 {
     has_four_parts(word) || !is_regular(word)
 }
 
 // Whether such characters are a malformed word.
 fn is_malformed(word: &[u8]) -> bool
-    requires { list_all Text.is_plain word.now ≡ true }
+    requires { list_all Text.is_visible word.now ≡ true }
     ensures { result ≡ Text.is_malformed word.now }
 {
     !is_dash(word) && !ends_in_sign(word) && is_misfit(word)
-}
-
-// Whether all characters may stand in such a word.
-#[inline(always)]
-fn are_plain(text: &[u8]) -> bool
-    ensures { result ≡ list_all Text.is_plain text.now }
-{
-    text.iter().all(|byte| is_plain(*byte))
 }
 
 // The visible characters at the end.
@@ -147,17 +154,17 @@ fn last_visible(text: &[u8]) -> &[u8]
 }
 
 /// Whether a malformed word stands at the end.
+#[tactic(auto, using(crate::proofs::Strict::Malformed::ends_visible))]
 pub(crate) fn ends_malformed(text: &[u8]) -> bool
     ensures { result ≡ Text.ends_malformed text.now }
 {
-    let last = last_visible(text);
-    are_plain(last) && is_malformed(last)
+    is_malformed(last_visible(text))
 }
 
 /// Whether a malformed word stands at the front.
-#[tactic(auto, using(crate::proofs::Strict::Malformed::plain_runs))]
+#[tactic(auto, using(crate::proofs::Strict::Malformed::begins_visible))]
 pub(crate) fn begins_malformed(text: &[u8]) -> bool
     ensures { result ≡ Text.begins_malformed text.now }
 {
-    is_malformed(&text[..plain_len(text)])
+    is_malformed(&text[..visible_len(text)])
 }

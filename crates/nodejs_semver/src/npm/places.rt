@@ -63,12 +63,12 @@ fn number_front(text: &[u8]) -> Option<(u64, &[u8])>
 // The place at the front that is a run of digits past the limit.
 #[inline(never)]
 #[tactic(auto, using(crate::proofs::Strict::Limits::no_places))]
-fn great_place(loose: bool, text: &[u8]) -> Option<(Place, &[u8])>
+fn great_place(loose: bool, zeros: bool, text: &[u8]) -> Option<(Place, &[u8])>
     requires no_number { number_front MAX_SAFE_INTEGER text.now ≡ None }
     requires no_wildcard { begins_wildcard text.now ≡ false }
     requires spelled { (not loose && begins_padded text.now) ≡ false }
     ensures { place_front_view result
-        ≡ Spec.placed MAX_SAFE_INTEGER (Spec.place_front loose text.now) }
+        ≡ Spec.placed MAX_SAFE_INTEGER (Spec.place_front loose zeros text.now) }
 {
     let len = digits_len(text);
     if len == 0 || len > most_digits(loose) {
@@ -80,50 +80,58 @@ fn great_place(loose: bool, text: &[u8]) -> Option<(Place, &[u8])>
 // The place at the front where no number without leading zeros stands and no wildcard.
 #[inline(never)]
 #[tactic(auto, using(crate::proofs::Strict::Limits::padded_places))]
-fn padded_place(loose: bool, text: &[u8]) -> Option<(Place, &[u8])>
+fn padded_place(loose: bool, zeros: bool, text: &[u8]) -> Option<(Place, &[u8])>
     requires no_number { strict_number MAX_SAFE_INTEGER text.now ≡ None }
     requires no_wildcard { begins_wildcard text.now ≡ false }
     ensures { place_front_view result
-        ≡ Spec.placed MAX_SAFE_INTEGER (Spec.place_front loose text.now) }
+        ≡ Spec.placed MAX_SAFE_INTEGER (Spec.place_front loose zeros text.now) }
 {
     if !begins_padded(text) {
-        return great_place(loose, text);
+        return great_place(loose, zeros, text);
     }
     if !loose || digits_len(text) > most_digits(true) {
         return None;
     }
     match number_front(text) {
-        Some((0, _)) => None,
+        Some((0, _)) if !zeros => None,
         Some((number, rest)) => Some((Place::Number(number), rest)),
-        None => great_place(true, text),
+        None => great_place(true, zeros, text),
     }
 }
 
 // The place at the front, and the text behind it.
 #[inline(always)]
 #[tactic(auto, using(crate::proofs::Strict::Limits::places_found))]
-fn place_front(loose: bool, text: &[u8]) -> Option<(Place, &[u8])>
+fn place_front(loose: bool, zeros: bool, text: &[u8]) -> Option<(Place, &[u8])>
     ensures { place_front_view result
-        ≡ Spec.placed MAX_SAFE_INTEGER (Spec.place_front loose text.now) }
+        ≡ Spec.placed MAX_SAFE_INTEGER (Spec.place_front loose zeros text.now) }
 {
     match strict_number(text) {
         Some((number, rest)) => Some((Place::Number(number), rest)),
         None if matches!(text, [b'x' | b'X' | b'*', ..]) => Some((Place::Wildcard, &text[1..])),
-        None => padded_place(loose, text),
+        None => padded_place(loose, zeros, text),
     }
 }
 
 // The same behind a dot.
 #[inline(always)]
 #[tactic(auto, unfolding(crate::specs::Internal::NpmWords::dotted_place))]
-fn dotted_place(loose: bool, text: &[u8]) -> Option<(Place, &[u8])>
+fn dotted_place(loose: bool, zeros: bool, text: &[u8]) -> Option<(Place, &[u8])>
     ensures { place_front_view result
-        ≡ Spec.placed MAX_SAFE_INTEGER (Spec.dotted_place loose text.now) }
+        ≡ Spec.placed MAX_SAFE_INTEGER (Spec.dotted_place loose zeros text.now) }
 {
     match text {
-        [b'.', rest @ ..] => place_front(loose, rest),
+        [b'.', rest @ ..] => place_front(loose, zeros, rest),
         _ => None,
     }
+}
+
+// Whether zero may be several digits behind a major number.
+#[inline(always)]
+fn has_zeros(major: Place) -> bool
+    ensures { result ≡ Spec.place_zeros (place_view major) }
+{
+    !matches!(major, Place::Number(0))
 }
 
 // The partial of two places, if its numbers are up to the limit.
@@ -262,9 +270,10 @@ fn qualified_partial(
 fn third_front(loose: bool, major: Place, minor: Place, text: &[u8]) -> Option<(Partial<'_>, &[u8])>
     ensures { npm_partial_front_view result ≡ Spec.third_counted loose (place_view major)
         (place_view minor) text.now
-        (Spec.placed MAX_SAFE_INTEGER (Spec.dotted_place loose text.now)) }
+        (Spec.placed MAX_SAFE_INTEGER
+        (Spec.dotted_place loose (Spec.place_zeros (place_view major)) text.now)) }
 {
-    match dotted_place(loose, text) {
+    match dotted_place(loose, has_zeros(major), text) {
         Some((patch, rest)) => qualified_partial(loose, major, minor, patch, rest),
         None => Some((short_partial(major, minor)?, text)),
     }
@@ -276,8 +285,8 @@ fn third_front(loose: bool, major: Place, minor: Place, text: &[u8]) -> Option<(
 pub(crate) fn partial_front(loose: bool, text: &[u8]) -> Option<(Partial<'_>, &[u8])>
     ensures { npm_partial_front_view result ≡ Spec.counted_front loose MAX_SAFE_INTEGER text.now }
 {
-    let (major, rest) = place_front(loose, text)?;
-    match dotted_place(loose, rest) {
+    let (major, rest) = place_front(loose, false, text)?;
+    match dotted_place(loose, has_zeros(major), rest) {
         Some((minor, rest)) => third_front(loose, major, minor, rest),
         None => Some((short_partial(major, Place::Wildcard)?, rest)),
     }

@@ -11,7 +11,7 @@ ghost use Rattle.nodejs_semver.specs.Npm.RangeText as Text;
 ghost use Rattle.semver_core.specs.Internal.Spaces.{drop_spaces};
 ghost use Rattle.semver_core.specs.declared.TheConstants.{MAX_SAFE_INTEGER};
 
-use crate::npm::malformed::{begins_malformed, plain_len};
+use crate::npm::malformed::{begins_malformed, visible_len};
 use crate::npm::partial::{Partial, Sign};
 use crate::npm::places::partial_front;
 use crate::readers::{Comparator, after_some_space, is_boundary, skip_spaces};
@@ -182,7 +182,7 @@ fn ignored_word(loose: bool, text: &[u8]) -> Option<(Signed<'_>, &[u8])>
     if !loose || !begins_malformed(text) {
         return None;
     }
-    let rest = &text[plain_len(text)..];
+    let rest = &text[visible_len(text)..];
     if !is_boundary(rest) {
         return None;
     }

@@ -13,11 +13,11 @@ returns-then-not-loose c = elim c.then-not-loose.branch [
 
 pub returns-then-not-is_boundary : goal.returns-then-not-is_boundary
 returns-then-not-is_boundary c =
-    sym (no-boundary c.args.loose c.args.text.now c.plain_len.result c.is_boundary.result c.plain_len.ensures.value c.is_boundary.ensures
+    sym (no-boundary c.args.loose c.args.text.now c.visible_len.result c.is_boundary.result c.visible_len.ensures.value c.is_boundary.ensures
     c.if-not-is_boundary.true)
 
 pub returns : goal.returns
 returns c =
-    ignored-here c.args.loose c.args.text.now c.plain_len.result c.is_boundary.result c.if-not-loose.false
-    (sym c.begins_malformed.ensures ∙ c.if-not-begins_malformed.false) c.plain_len.ensures.value c.is_boundary.ensures
+    ignored-here c.args.loose c.args.text.now c.visible_len.result c.is_boundary.result c.if-not-loose.false
+    (sym c.begins_malformed.ensures ∙ c.if-not-begins_malformed.false) c.visible_len.ensures.value c.is_boundary.ensures
     c.if-not-is_boundary.false

@@ -1,0 +1,7 @@
+use Rattle.std.proofs.Common.{◌≡◌, ◌+◌, drop}
+use Rattle.std.specs.List.{prefix_len}
+use Rattle.nodejs_semver.specs.Npm.Malformed.{is_visible}
+use Rattle.nodejs_semver.proofs.npm.malformed.visible_len.Given as goal
+
+abbrev pub invariant-visible : goal.invariant-visible
+invariant-visible l = prefix_len is_visible l.text ≡ l.at + prefix_len is_visible (drop l.at l.text)
