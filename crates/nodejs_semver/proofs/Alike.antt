@@ -1,0 +1,4 @@
+pub mod Tests
+pub mod Ends
+pub mod Rows
+pub mod Texts
