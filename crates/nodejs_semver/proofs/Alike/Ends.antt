@@ -1,7 +1,7 @@
 -- The ends of the spans of both tables, beside their comparators.
 use Rattle.nodejs_semver.proofs.Common.{◌≡◌, ◌≤◌, ◌<◌, ◌+◌, ◌==◌, refl, sym, ap, ap₂, ◌∙◌, ℕ, Bool, true, false, ◌&&◌, ◌||◌, not, List, [], ◌∷◌}
 use Rattle.nodejs_semver.proofs.Common.{arith, and_parts, cases_Bool, eqb-true, inl, inr, is_le, is_gt, nat_tests, list_all, Ordering, VersionValue, and-true}
-use Rattle.nodejs_semver.proofs.Common.{After, Before, Unbounded, is_release, names, precedence, precedence_total, MAX_SAFE_INTEGER}
+use Rattle.nodejs_semver.proofs.Common.{After, Before, Id, Unbounded, is_empty, is_interval, is_release, ◌⊎◌, names, precedence, precedence_total, MAX_SAFE_INTEGER}
 use Rattle.std.specs.Ordering.{is_eq, is_ge, is_lt, nat_cmp, ordering_reverse, ordering_then}
 use Rattle.std.specs.declared.cmp.Ordering.TheVariants.{Equal, Greater}
 use Rattle.std.specs.Prelude.{◌^◌, codes, nat_le}
@@ -9,7 +9,7 @@ use Rattle.std.specs.Str.{bytes_eq}
 use Rattle.semver_core.specs.Internal.Successors.{le_weak, upto_patch, zero_least}
 use Rattle.semver_core.specs.Printing.Text.{version_text}
 use Rattle.semver_core.specs.Text.Identifiers.{Numeric}
-use Rattle.semver_core.specs.Values.Order.{pre_cmp}
+use Rattle.semver_core.specs.Values.Order.{pre_cmp, version_eq}
 use Rattle.nodejs_semver.specs.Internal.NpmMeaning.{is_zero}
 use Rattle.nodejs_semver.specs.Npm.Ranges as Npm
 use Rattle.nodejs_semver.specs.Npm.Ranges.{is_valid, satisfies}
@@ -42,7 +42,7 @@ under-named v n h =
     (zero_least v.pre_release))
 
 -- 0.0.0 is the least release
-zero_from : (v : VersionValue) (w : VersionValue) → is_release v ≡ true → is_zero w ≡ true → is_ge (precedence v w) ≡ true
+pub zero_from : (v : VersionValue) (w : VersionValue) → is_release v ≡ true → is_zero w ≡ true → is_ge (precedence v w) ≡ true
 zero_from v w h z =
     let (major, behind_major) = and_parts (w.major == 0) _ z in
     let (minor, behind_minor) = and_parts (w.minor == 0) _ behind_major in
@@ -236,7 +236,7 @@ most_minor-tame v limit M m k = most-tame v (M, m, limit) (M, m + 1, 0)
 pub record Spelled (w : VersionValue) (text : List ℕ) : Type 0 where
   pub zero : bytes_eq text (codes "0.0.0") ≡ true → is_zero w ≡ true
 
-zero-release : (w : VersionValue) → is_zero w ≡ true → is_release w ≡ true
+pub zero-release : (w : VersionValue) → is_zero w ≡ true → is_release w ≡ true
 zero-release w z =
     let (major, behind_major) = and_parts (w.major == 0) _ z in
     let (minor, behind_minor) = and_parts (w.minor == 0) _ behind_major in
@@ -256,6 +256,28 @@ counted-pre w text p s = elim (cases_Bool (bytes_eq text (codes "0.0.0"))) [
 
 pub made-spelled : (w : VersionValue) → is_valid MAX_SAFE_INTEGER (made at_least w) ≡ true → Spelled w (version_text w)
 made-spelled w h = record { zero = λ e. made-zero w h (ap not e) }
+
+pub zero_equal : (w : VersionValue) → is_zero w ≡ true → version_eq w (release (0, 0, 0)) ≡ true
+zero_equal w z =
+    let (major, behind_major) = and_parts (w.major == 0) _ z in
+    let (minor, behind_minor) = and_parts (w.minor == 0) _ behind_major in
+    let (patch, lists) = and_parts (w.patch == 0) _ behind_minor in
+    let (pre, build) = and_parts (is_release w) _ lists in
+    rw (eqb-true _ _ major, eqb-true _ _ minor, eqb-true _ _ patch, empty_is w.pre_release pre) refl
+
+-- one that is not 0.0.0
+pub whole_from-firm : (v w : VersionValue) (text : List ℕ) → Spelled w text → version_eq w (release (0, 0, 0)) ≡ false
+    → Exact v (from_lower (Before w) v) (names (Before w) v) (record { sign = at_least; version = w; text = text } ∷ [])
+whole_from-firm v w text s h = counted-exact v _ _ (record { sign = at_least; version = w; text = text }) counted (lower-before w v) refl
+  where
+    differ : true ≡ false → ⊥
+    differ e = cc
+
+    counted : not (bytes_eq text (codes "0.0.0")) ≡ true
+    counted = elim (cases_Bool (bytes_eq text (codes "0.0.0"))) [
+      | inl e ↦ absurd (differ (sym (zero_equal w (s.zero e)) ∙ h))
+      | inr e ↦ rw e refl
+    ]
 
 -- such a lower end, of a release and of a pre-release
 pub whole_from-tame : (v w : VersionValue) (text : List ℕ) → Spelled w text → is_release w ≡ true
@@ -288,3 +310,55 @@ exact-tame v test name cs h n = record {
   here = rw n refl;
   there = rw (sym (sym n ∙ h.named)) refl;
 }
+
+-- ---- a lower end that need not count
+
+-- `>=0.0.0` of the table, where no comparator of it counts
+pub record OpenLow (v w : VersionValue) (cs : List Comparison) : Type 0 where
+  pub zero : is_zero w ≡ true
+  pub all : passed v cs ≡ true
+  pub none : named_by v cs ≡ false
+
+pub uncounted-open : (v : VersionValue) (c : Comparison) → is_zero c.version ≡ true → counts false c ≡ false → OpenLow v c.version (c ∷ [])
+uncounted-open v c z h = record { zero = z; all = rw h refl; none = rw h refl }
+
+-- the lower end of a hyphen range: exact or open
+pub from-firm : (v : VersionValue) (n : Numbers) → is_valid MAX_SAFE_INTEGER (from false n) ≡ true
+    → Exact v (from_lower (Before (release n)) v) (names (Before (release n)) v) (from false n ∷ []) ⊎ OpenLow v (release n) (from false n ∷ [])
+from-firm v n h = elim (cases_Bool (counts false (from false n))) [
+  | inl k ↦ inl (counted-exact v _ _ (from false n) k (lower-before (release n) v) refl)
+  | inr k ↦ inr (uncounted-open v (from false n) (made-zero (release n) h k) k)
+]
+
+pub whole_from-either : (v w : VersionValue) (text : List ℕ) → Spelled w text
+    → Exact v (from_lower (Before w) v) (names (Before w) v) (record { sign = at_least; version = w; text = text } ∷ [])
+    ⊎ OpenLow v w (record { sign = at_least; version = w; text = text } ∷ [])
+whole_from-either v w text s = elim (cases_Bool (counts false (record { sign = at_least; version = w; text = text }))) [
+  | inl k ↦ inl (counted-exact v _ _ (record { sign = at_least; version = w; text = text }) k (lower-before w v) refl)
+  | inr k ↦ inr (uncounted-open v (record { sign = at_least; version = w; text = text }) (s.zero (opposite _ k)) k)
+]
+
+open_bits : (t r : Ordering) → is_le (ordering_then t Greater) ≡ true → is_le (ordering_then t r) ≡ true
+open_bits t r h = grind arith
+
+upto_bits : (r s : Ordering) → is_lt (ordering_then r s) ≡ true → is_le r ≡ true
+upto_bits r s h = grind arith
+
+above_none : (x y : List Id) → is_empty x ≡ true → is_empty y ≡ false → pre_cmp x y ≡ Greater
+above_none [] [] h k = cc k
+above_none [] (b ∷ y) h k = refl
+above_none (a ∷ x) y h k = cc h
+
+-- from a release to a pre-release: what that names lies above the release
+pub open-named : (v z w : VersionValue) → is_release z ≡ true → is_release w ≡ false
+    → is_interval precedence (record { lower = Before z; upper = After w }) ≡ true → names (After w) v ≡ true
+    → from_lower (Before z) v ≡ true
+open-named v z w h p i n =
+    let (major, behind_major) = and_parts (w.major == v.major) _ (and_parts (not (is_release w)) _ n).1 in
+    let (minor, patch) = and_parts (w.minor == v.minor) (w.patch == v.patch) behind_major in
+    let same : triple_cmp z w ≡ triple_cmp z v = rw (eqb-true _ _ major, eqb-true _ _ minor, eqb-true _ _ patch) refl in
+    let upto : is_le (ordering_then (triple_cmp z w) (pre_cmp z.pre_release w.pre_release)) ≡ true =
+    ap is_le (sym (in_two_steps z w)) ∙ upto_bits (precedence z w) _ i in
+    let parts : is_le (ordering_then (triple_cmp z v) Greater) ≡ true =
+    sym (ap₂ (λ (t s : Ordering). is_le (ordering_then t s)) same (above_none z.pre_release w.pre_release h p)) ∙ upto in
+    lower-before z v ∙ ge_is v z ∙ ap is_le (in_two_steps z v) ∙ open_bits (triple_cmp z v) (pre_cmp z.pre_release v.pre_release) parts

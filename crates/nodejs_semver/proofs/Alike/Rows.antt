@@ -34,7 +34,7 @@ abbrev pub Good : Bool → VersionValue → Option (Span VersionValue) → List 
 Good pre v None cs = Unit {0}
 Good pre v (Some s) cs = SameWord pre v s cs
 
-tame-word : (pre : Bool) (v : VersionValue) (b u : Bound VersionValue) (cs ds : List Comparison) → Tame v (from_lower b v) (names b v) cs
+pub tame-word : (pre : Bool) (v : VersionValue) (b u : Bound VersionValue) (cs ds : List Comparison) → Tame v (from_lower b v) (names b v) cs
     → Tame v (to_upper u v) (names u v) ds → SameWord pre v (record { lower = b; upper = u }) (cs ++ ds)
 tame-word pre v b u cs ds h k = record {
   same = tame-both v b u cs ds h k;
@@ -44,7 +44,7 @@ tame-word pre v b u cs ds h k = record {
 written : (pre r : Bool) → (pre || r) ≡ true → r ≡ false → pre ≡ false → ⊥
 written pre r h e f = grind arith
 
-exact-word : (pre r : Bool) (v : VersionValue) (b u : Bound VersionValue) (cs ds : List Comparison) → (pre || r) ≡ true → r ≡ false
+pub exact-word : (pre r : Bool) (v : VersionValue) (b u : Bound VersionValue) (cs ds : List Comparison) → (pre || r) ≡ true → r ≡ false
     → Exact v (from_lower b v) (names b v) cs → Exact v (to_upper u v) (names u v) ds
     → SameWord pre v (record { lower = b; upper = u }) (cs ++ ds)
 exact-word pre r v b u cs ds p e h k = record {

@@ -43,12 +43,17 @@ pub record Tame (v : VersionValue) (test name : Bool) (cs : List Comparison) : T
 
 -- ---- two ends
 
-meets-both : (v : VersionValue) (cs ds : List Comparison) → meets false v (filter (counts false) (cs ++ ds))
+pub passed-both : (v : VersionValue) (cs ds : List Comparison) → passed v (cs ++ ds) ≡ (passed v cs && passed v ds)
+passed-both v cs ds = ap (λ l. list_all (satisfies v) l) (filter-append (counts false) cs ds)
+    ∙ list_all-append (satisfies v) (filter (counts false) cs) (filter (counts false) ds)
+
+pub named-both : (v : VersionValue) (cs ds : List Comparison) → named_by v (cs ++ ds) ≡ (named_by v cs || named_by v ds)
+named-both v cs ds = ap (λ l. list_any (Npm.names v) l) (filter-append (counts false) cs ds)
+    ∙ list_any-append (Npm.names v) (filter (counts false) cs) (filter (counts false) ds)
+
+pub meets-both : (v : VersionValue) (cs ds : List Comparison) → meets false v (filter (counts false) (cs ++ ds))
     ≡ ((passed v cs && passed v ds) && (is_release v || (named_by v cs || named_by v ds)))
-meets-both v cs ds =
-    ap (λ l. meets false v l) (filter-append (counts false) cs ds)
-    ∙ ap₂ (λ (a b : Bool). a && (is_release v || b)) (list_all-append (satisfies v) (filter (counts false) cs) (filter (counts false) ds))
-    (list_any-append (Npm.names v) (filter (counts false) cs) (filter (counts false) ds))
+meets-both v cs ds = ap₂ (λ (a b : Bool). a && (is_release v || b)) (passed-both v cs ds) (named-both v cs ds)
 
 tame_bits : (r t n t' n' u m u' m' : Bool) → (r ≡ true → t ≡ t') → (r ≡ true → u ≡ u') → (n && t) ≡ false → (m && u) ≡ false
     → (n' && t') ≡ false → (m' && u') ≡ false → ((t && u) && (r || (n || m))) ≡ ((t' && u') && (r || (n' || m')))
@@ -72,3 +77,15 @@ tame-released v t n u m cs ds h k e =
 pub exact-both : (v : VersionValue) (b u : Bound VersionValue) (cs ds : List Comparison) → Exact v (from_lower b v) (names b v) cs
     → Exact v (to_upper u v) (names u v) ds → Alike v (record { lower = b; upper = u }) (cs ++ ds)
 exact-both v b u cs ds h k = rw (h.tested, h.named, k.tested, k.named) (sym (meets-both v cs ds))
+
+-- a span and comparators that are the same to every version
+pub record ExactWord (v : VersionValue) (s : Span VersionValue) (cs : List Comparison) : Type 0 where
+  pub held : holds precedence s v ≡ passed v cs
+  pub let_in : lets_in s v ≡ (is_release v || named_by v cs)
+
+pub exact-span : (v : VersionValue) (b u : Bound VersionValue) (cs ds : List Comparison) → Exact v (from_lower b v) (names b v) cs
+    → Exact v (to_upper u v) (names u v) ds → ExactWord v (record { lower = b; upper = u }) (cs ++ ds)
+exact-span v b u cs ds h k = record {
+  held = rw (h.tested, k.tested) (sym (passed-both v cs ds));
+  let_in = rw (h.named, k.named) (ap (λ n. is_release v || n) (sym (named-both v cs ds)));
+}

@@ -2,24 +2,30 @@
 use Rattle.nodejs_semver.proofs.Common.{◌≡◌, refl, sym, ap, ap₂, ◌∙◌, subst, ℕ, Bool, true, false, ◌&&◌, ◌||◌, not, List, [], ◌∷◌, ◌++◌}
 use Rattle.nodejs_semver.proofs.Common.{AllByRecursion, AreCommonParts, IsBlank, IsSign, IsTrim, IsUtf8, MAX_SAFE_INTEGER, Some, Span, Word}
 use Rattle.nodejs_semver.proofs.Common.{VersionValue, accepts, append-nil, append_assoc, arith, begins, cases_Bool, first_so, holds, inl}
+use Rattle.std.proofs.Common.{lit<}
 use Rattle.nodejs_semver.proofs.Common.{inr, is_empty, is_release, lets_in, list_all, list_any, precedence, second_so, trim, ◌==◌}
+use Rattle.std.specs.Char.{encode_utf8}
 use Rattle.std.specs.List.{filter}
+use Rattle.std.specs.Prelude.{codes}
 use Rattle.semver_core.proofs.Text.Trims.{trim_is_middle}
 use Rattle.nodejs_semver.specs.Internal.Parts.{cut_bars}
-use Rattle.nodejs_semver.specs.Npm.Alike.{ArePlain, IsPlainAlternative, IsPlainText, IsPlainWord, IsWithin, bare, more, one, one_word, signed}
+use Rattle.nodejs_semver.specs.Npm.Alike.{ArePlain, IsPlainAlternative, IsPlainText, IsPlainWord, IsWithin, bare, between, more}
+use Rattle.nodejs_semver.specs.Npm.Alike.{one, one_word, signed, two_words}
 use Rattle.nodejs_semver.specs.Npm.RangeText as Npm
-use Rattle.nodejs_semver.specs.Npm.RangeText.{AreAlternatives, IsAlternative, IsSignText, IsWord, are_marks, next, none, spelling}
+use Rattle.nodejs_semver.specs.Npm.RangeText.{AreAlternatives, AreEndMarks, IsAlternative, IsSignText, is_free_lower, is_free_upper, IsWord, are_marks, next, none, spelling}
 use Rattle.nodejs_semver.specs.Npm.Ranges as Ranges
 use Rattle.nodejs_semver.specs.Npm.Ranges.{HasAlternatives, is_valid, meets}
 use Rattle.nodejs_semver.specs.Npm.Table as Table
 use Rattle.nodejs_semver.specs.Npm.Table.{Comparison, Sign, compared, counts, major, minor, whole, wildcard}
 use Rattle.nodejs_semver.specs.Text.Common as Common
 use Rattle.nodejs_semver.specs.Text.Common.{IsCommonPart, IsCommonWord, IsGap, caret_word, compare_word, comparison, more_parts, one_part}
-use Rattle.nodejs_semver.specs.Text.Common.{plain_word, tilde_word}
+use Rattle.nodejs_semver.specs.Text.Common.{hyphen_word, plain_word, tilde_word, two_comparisons}
 use Rattle.nodejs_semver.specs.Text.Meaning.{Means}
 use Rattle.nodejs_semver.specs.Text.WordText.{Comparator, above, above_sign, at_least, at_least_sign, at_most, at_most_sign, below}
 use Rattle.nodejs_semver.specs.Text.WordText.{below_sign, equal, equal_sign}
 use Rattle.nodejs_semver.proofs.Algebra.FlatMaps.{any_weaker}
+use Rattle.nodejs_semver.proofs.Alike.Hyphens.{between-good}
+use Rattle.nodejs_semver.proofs.Alike.Pairs.{two-good}
 use Rattle.nodejs_semver.proofs.Alike.Rows.{Good, SameWord, word-good}
 use Rattle.nodejs_semver.proofs.Alike.Tests.{Released}
 use Rattle.nodejs_semver.proofs.Dividing.BarsDivide.{bars_divide}
@@ -28,6 +34,7 @@ use Rattle.nodejs_semver.proofs.Dividing.MeaningLaw.{pieces-utf8}
 use Rattle.nodejs_semver.proofs.Everyday.Compact.{Compact, is_part_byte}
 use Rattle.nodejs_semver.proofs.Everyday.Texts.{common_parts_are_denoted, compact-trim, cut-first, cut-last, part-tidy}
 use Rattle.nodejs_semver.proofs.Reading.Bytes.{all-join}
+use Rattle.nodejs_semver.proofs.Strict.Rows.{either_true}
 
 -- ---- here
 
@@ -49,6 +56,10 @@ word-common limit pre text word cs (signed Table.tilde t p h m) = tilde_word t p
 part-common : (limit : ℕ) (pre : Bool) (text : List ℕ) (s : Span VersionValue) (cs : List Comparison)
     → IsPlainAlternative limit pre text s cs → IsCommonPart limit text s
 part-common limit pre text s cs (one_word t word s' cs' h e) = Common.one_word t word s' (word-common limit pre t word cs' h) e
+part-common limit pre text s cs (two_words c d x y p q a b m hp mp ep hq mq eq e apart) =
+    two_comparisons _ _ _ _ a b m (comparison c (spelling (compared c)) x p (sign_is c) hp.here)
+    (comparison d (spelling (compared d)) y q (sign_is d) hq.here) ep eq e
+part-common limit pre text s cs (between x y p q m h k some e) = Common.one_word _ _ m (hyphen_word x y p q h.here k.here) e
 
 parts-common : (limit : ℕ) (pre : Bool) (text : List ℕ) (list : List (Span VersionValue)) (all : List (List Comparison))
     → ArePlain limit pre text list all → AreCommonParts limit text list
@@ -75,6 +86,13 @@ no_marks Table.tilde p = refl
 no_blank : IsBlank []
 no_blank = record { characters = []; each = refl; spelled = refl }
 
+one_blank : IsBlank (codes " ")
+unfolding encode_utf8
+one_blank = record { characters = 32 ∷ []; each = refl; spelled = refl }
+
+no_ends : (free : Bool) → AreEndMarks false free []
+no_ends free = record { characters = []; spelled = refl; each = refl; whole = either_true free }
+
 sign_text : (s : Sign) → IsSignText (spelling s) s
 sign_text (compared at_least) = Npm.sign (compared at_least) [] no_blank
 sign_text (compared above) = Npm.sign (compared above) [] no_blank
@@ -96,6 +114,12 @@ word-is limit pre text word cs (signed s t p h m) =
 part-is : (limit : ℕ) (pre : Bool) (text : List ℕ) (s : Span VersionValue) (cs : List Comparison)
     → IsPlainAlternative limit pre text s cs → IsAlternative false false text cs
 part-is limit pre text s cs (one_word t word s' cs' h e) = Npm.words t cs' (Npm.last t cs' (word-is limit pre t word cs' h))
+part-is limit pre text s cs (two_words c d x y p q a b m hp mp ep hq mq eq e apart) =
+    Npm.words _ _ (Npm.more _ (codes " ") _ _ _ (word-is limit pre _ _ _ (signed (compared c) x p hp mp)) one_blank (lit< tt)
+    (Npm.last _ _ (word-is limit pre _ _ _ (signed (compared d) y q hq mq))))
+part-is limit pre text s cs (between x y p q m h k some e) =
+    Npm.hyphen [] x (codes " ") (codes " ") [] y _ _ (no_ends (is_free_lower _)) h.npm one_blank (lit< tt) one_blank (lit< tt)
+    (no_ends (is_free_upper false _)) k.npm
 
 part-compact : (limit : ℕ) (pre : Bool) (text : List ℕ) (s : Span VersionValue) (cs : List Comparison)
     → IsPlainAlternative limit pre text s cs → Compact text
@@ -162,6 +186,9 @@ part-same : (pre : Bool) (v : VersionValue) (text : List ℕ) (s : Span VersionV
     → IsPlainAlternative MAX_SAFE_INTEGER pre text s cs → list_all (is_valid MAX_SAFE_INTEGER) cs ≡ true → SameWord pre v s cs
 part-same pre v text s cs w (one_word t word s' cs' h e) k =
     subst (λ o. Good pre v o cs') e (word-good pre v t word cs' w h k)
+part-same pre v text s cs w (two_words c d x y p q a b m hp mp ep hq mq eq e apart) k =
+    two-good pre v c d x y p q a b m w hp mp ep hq mq eq e apart k
+part-same pre v text s cs w (between x y p q m h g some e) k = between-good pre v x y p q m h g some e k
 
 each-same : (pre : Bool) (v : VersionValue) (text : List ℕ) (list : List (Span VersionValue)) (all : List (List Comparison))
     → IsWithin MAX_SAFE_INTEGER v → ArePlain MAX_SAFE_INTEGER pre text list all

@@ -2,17 +2,18 @@
 use Rattle.std.specs.Prelude.{◌≡◌, ◌≤◌, ◌&&◌, ◌||◌, not, ℕ, Bool, true, false, List, [], ◌∷◌, ◌++◌, Some, None}
 use Rattle.std.specs.Prelude.{codes, is_some}
 use Rattle.std.specs.List.{list_all, list_any}
-use Rattle.semver_core.specs.Cuts.{Span}
+use Rattle.semver_core.specs.Cuts.{Span, meet}
 use Rattle.semver_core.specs.Lists.{is_empty}
-use Rattle.semver_core.specs.Values.Versions.{VersionValue}
+use Rattle.semver_core.specs.Values.Order.{precedence, version_eq}
+use Rattle.semver_core.specs.Values.Versions.{VersionValue, release_value}
 use Rattle.nodejs_semver.specs.Npm.RangeText.{IsPartial, partial_of, spelling}
 use Rattle.nodejs_semver.specs.Npm.Ranges.{is_valid}
 use Rattle.nodejs_semver.specs.Npm.Table as Npm
 use Rattle.nodejs_semver.specs.Npm.Table.{Comparison, Sign, compared, counts, hyphen_lower, hyphen_upper}
 use Rattle.nodejs_semver.specs.Text.Common.{IsGap}
 use Rattle.nodejs_semver.specs.Text.PartialText.{AreComponents, Partial}
-use Rattle.nodejs_semver.specs.Text.Table.{table}
-use Rattle.nodejs_semver.specs.Text.WordText.{Word, at_least, caret, compare, equal, hyphen, plain, tilde}
+use Rattle.nodejs_semver.specs.Text.Table.{table, version_of}
+use Rattle.nodejs_semver.specs.Text.WordText.{Comparator, Word, at_least, caret, compare, equal, hyphen, plain, tilde}
 
 -- no number of the version is above the limit
 pub record IsWithin (limit : ℕ) (v : VersionValue) : Type 0 where
@@ -56,10 +57,29 @@ pub data IsPlainWord (limit : ℕ) (pre : Bool) : List ℕ → Word → List Com
   signed : (s : Sign) (text : List ℕ) (p : Partial) → IsPlainPartial limit pre text p → may_have s p ≡ true
       → IsPlainWord limit pre (spelling s ++ text) (word_of s p) (Npm.table false s (npm_partial p) text)
 
--- an alternative, its interval here, and its comparators to node-semver: one word
+-- of two comparators beside each other neither is of a pre-release, or both are of three numbers that are not
+-- 0.0.0
+abbrev pub is_firm : Partial → Bool
+is_firm p = is_some p.patch && not (version_eq (version_of p) (release_value 0 0 0))
+
+abbrev pub are_apart : Partial → Partial → Bool
+are_apart p q = (is_empty p.pre_release && is_empty q.pre_release) || (is_firm p && is_firm q)
+
+-- an alternative, its interval here, and its comparators to node-semver: one word, two comparisons that meet, or
+-- a hyphen range
 pub data IsPlainAlternative (limit : ℕ) (pre : Bool) : List ℕ → Span VersionValue → List Comparison → Type 0 where
   one_word : (text : List ℕ) (word : Word) (s : Span VersionValue) (cs : List Comparison)
       → IsPlainWord limit pre text word cs → table limit word ≡ Some s → IsPlainAlternative limit pre text s cs
+  two_words : (c d : Comparator) (x y : List ℕ) (p q : Partial) (s t both : Span VersionValue)
+      → IsPlainPartial limit pre x p → may_have (compared c) p ≡ true → table limit (compare c p) ≡ Some s
+      → IsPlainPartial limit pre y q → may_have (compared d) q ≡ true → table limit (compare d q) ≡ Some t
+      → meet precedence s t ≡ Some both → are_apart p q ≡ true → IsPlainAlternative limit pre
+      ((spelling (compared c) ++ x) ++ (codes " " ++ (spelling (compared d) ++ y))) both
+      (Npm.table false (compared c) (npm_partial p) x ++ Npm.table false (compared d) (npm_partial q) y)
+  between : (x y : List ℕ) (p q : Partial) (s : Span VersionValue) → IsPlainPartial limit pre x p
+      → IsPlainPartial limit pre y q → is_some q.major ≡ true → table limit (hyphen p q) ≡ Some s
+      → IsPlainAlternative limit pre (x ++ (codes " - " ++ y)) s
+      (hyphen_lower false (npm_partial p) x ++ hyphen_upper false (npm_partial q) y)
 
 -- alternatives with `||` between them, and one space or none on each side of that
 pub data ArePlain (limit : ℕ) (pre : Bool) : List ℕ → List (Span VersionValue) → List (List Comparison) → Type 0 where
