@@ -1,4 +1,5 @@
 pub mod Algebra
+pub mod Alike
 pub mod Bounds
 pub mod Choice
 pub mod Common

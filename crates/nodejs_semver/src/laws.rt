@@ -1,6 +1,7 @@
 //! Laws of the words that contracts speak in. Each is the contract of a function that does nothing,
 //! or hardly anything, else; no caller needs this module.
 
+mod alike;
 mod builds;
 mod diagnosis;
 pub mod headline;
@@ -11,6 +12,7 @@ mod printing;
 mod program;
 mod texts;
 
+pub use crate::laws::alike::npm_reads_alike;
 pub use crate::laws::builds::order_with_builds;
 pub use crate::laws::diagnosis::{ignored_words_mean_nothing, one_flaw};
 pub use crate::laws::least::build_of_the_least;

@@ -44,7 +44,7 @@ gap-passed : (before text : List ℕ) → IsGap before → drop_spaces (before +
 gap-passed before text h = grind (arith, space-gone)
 
 -- a compact text with a space or none on each side is trimmed to itself
-compact-trim : (before text after : List ℕ) → IsGap before → IsGap after → Compact text → trim (before ++ (text ++ after)) ≡ text
+pub compact-trim : (before text after : List ℕ) → IsGap before → IsGap after → Compact text → trim (before ++ (text ++ after)) ≡ text
 compact-trim before text after g k c =
     rw (gap-passed before (text ++ after) g, front-kept text after c.front) (end-kept text after k c.each c.end)
 
@@ -53,14 +53,14 @@ compact-trim before text after g k c =
 no-bar : (b : ℕ) → is_part_byte b ≡ true → is_bar b ≡ false
 no-bar b h = grind (arith, nat_tests)
 
-cut-last : (piece : List ℕ) → list_all is_part_byte piece ≡ true → cut_bars false piece ≡ piece ∷ []
+pub cut-last : (piece : List ℕ) → list_all is_part_byte piece ≡ true → cut_bars false piece ≡ piece ∷ []
 unfolding cut_bars
 cut-last [] h = refl
 cut-last (b ∷ piece) h =
     let each = and_parts (is_part_byte b) (list_all is_part_byte piece) h in
     rw (no-bar b each.0, cut_bars) (ap (λ (ps : List (List ℕ)). onto_first b ps) (cut-last piece each.1))
 
-cut-first : (piece rest : List ℕ) → list_all is_part_byte piece ≡ true → cut_bars false (piece ++ 124 ∷ (124 ∷ rest)) ≡ piece ∷ cut_bars false rest
+pub cut-first : (piece rest : List ℕ) → list_all is_part_byte piece ≡ true → cut_bars false (piece ++ 124 ∷ (124 ∷ rest)) ≡ piece ∷ cut_bars false rest
 unfolding cut_bars
 cut-first [] rest h = refl
 cut-first (b ∷ piece) rest h = grind (arith, no-bar, cut-first piece rest)

@@ -137,7 +137,7 @@ module _ (F : Bound VersionValue → Bool) where
   kept_lesser : (b c : Bound VersionValue) → F b ≡ true → F c ≡ true → F (lesser_upper precedence b c) ≡ true
   kept_lesser b c h k = cond_both (is_gt (cut_cmp precedence (upper_cut b) (upper_cut c))) c b (λ e. F e ≡ true) (λ _. k) (λ _. h)
 
-holds-both : (s t : Span VersionValue) (v : VersionValue) → holds precedence (both s t) v ≡ (holds precedence s v && holds precedence t v)
+pub holds-both : (s t : Span VersionValue) (v : VersionValue) → holds precedence (both s t) v ≡ (holds precedence s v && holds precedence t v)
 holds-both s t v =
     rw (is_past-greater_lower precedence_total s.lower t.lower v, is_past-lesser_upper precedence_total s.upper t.upper v) (crossed (is_past precedence (lower_cut s.lower) v)
     (is_past precedence (lower_cut t.lower) v) (is_past precedence (upper_cut s.upper) v) (is_past precedence (upper_cut t.upper) v))
@@ -145,7 +145,7 @@ holds-both s t v =
     crossed : (a b c d : Bool) → ((a && b) && not (c || d)) ≡ ((a && not c) && (b && not d))
     crossed a b c d = grind arith
 
-lets_in-both : (s t : Span VersionValue) (v : VersionValue) → holds precedence s v ≡ true → holds precedence t v ≡ true
+pub lets_in-both : (s t : Span VersionValue) (v : VersionValue) → holds precedence s v ≡ true → holds precedence t v ≡ true
     → lets_in (both s t) v ≡ (lets_in s v || lets_in t v)
 lets_in-both s t v h k = exact _ _ (lets_in_one s t v) (lets_in-meet s t v h k)
   where

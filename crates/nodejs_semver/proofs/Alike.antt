@@ -1,0 +1,6 @@
+pub mod Tests
+pub mod Ends
+pub mod Rows
+pub mod Pairs
+pub mod Hyphens
+pub mod Texts

@@ -1,0 +1,169 @@
+-- Hyphen ranges: their ends, and both together.
+use Rattle.nodejs_semver.proofs.Common.{◌≡◌, ◌+◌, ◌⊎◌, refl, sym, ap, ap₂, ◌∙◌, subst, ℕ, Bool, true, false, ◌&&◌, ◌||◌, not, List, []}
+use Rattle.nodejs_semver.proofs.Common.{◌∷◌, ◌++◌, Option, Some, None, arith, and_parts, cases_Bool, first_so, inl, inr, is_empty, list_all}
+use Rattle.nodejs_semver.proofs.Common.{After, Before, Bound, Id, MAX_SAFE_INTEGER, Partial, Span, VersionValue, hyphen, interval}
+use Rattle.nodejs_semver.proofs.Common.{is_interval, is_release, list_all-append, names, precedence, table}
+use Rattle.std.specs.Prelude.{is_some}
+use Rattle.nodejs_semver.specs.Npm.Alike.{IsPlainPartial, is_plain, npm_partial}
+use Rattle.nodejs_semver.specs.Npm.RangeText.{IsPartial, partial_of}
+use Rattle.nodejs_semver.specs.Npm.Ranges.{is_valid}
+use Rattle.nodejs_semver.specs.Npm.Table.{Comparison, from, hyphen_lower, hyphen_upper, lowest, made, no_build, under}
+use Rattle.nodejs_semver.specs.Text.Table.{version_of}
+use Rattle.nodejs_semver.specs.Text.WordText.{at_most}
+use Rattle.nodejs_semver.proofs.Alike.Ends.{OpenLow, any-tame, counted-exact, exact-tame, from-firm, from-tame, lower-before, not_named}
+use Rattle.nodejs_semver.proofs.Alike.Ends.{open-named, under-exact, under-tame, upper-after, whole_from-either, whole_from-tame}
+use Rattle.nodejs_semver.proofs.Alike.Ends.{whole_most-exact, zero-release, zero_from}
+use Rattle.nodejs_semver.proofs.Alike.Rows.{Form, SameWord, any, exact-word, form, one, partial, tame-word, text-spelled, three, two}
+use Rattle.nodejs_semver.proofs.Alike.Tests.{Alike, Exact, Tame, from_lower, meets-both, named_by, passed, to_upper}
+
+-- ---- the lower end
+
+record Low (v w : VersionValue) (cs : List Comparison) : Type 0 where
+  tame : is_release w ≡ true → Tame v (from_lower (Before w) v) (names (Before w) v) cs
+  firm : Exact v (from_lower (Before w) v) (names (Before w) v) cs ⊎ OpenLow v w cs
+
+low-form : (pre : Bool) (v : VersionValue) (text : List ℕ) (a b c : Option ℕ) (x y : List Id) → Form pre a b c x y
+    → IsPartial false text (partial_of a b c x y)
+    → list_all (is_valid MAX_SAFE_INTEGER) (hyphen_lower false (partial_of a b c x y) text) ≡ true
+    → Low v (version_of (partial a b c x y)) (hyphen_lower false (partial_of a b c x y) text)
+low-form pre v text a b c x y any t h = record {
+  tame = λ _. any-tame v;
+  firm = inr (record { zero = refl; all = refl; none = refl });
+}
+low-form pre v text a b c x y (one M) t h =
+    let k = first_so (is_valid MAX_SAFE_INTEGER (from false (M, 0, 0))) _ h in
+    record { tame = λ _. from-tame v (M, 0, 0) k; firm = from-firm v (M, 0, 0) k }
+low-form pre v text a b c x y (two M m) t h =
+    let k = first_so (is_valid MAX_SAFE_INTEGER (from false (M, m, 0))) _ h in
+    record { tame = λ _. from-tame v (M, m, 0) k; firm = from-firm v (M, m, 0) k }
+low-form pre v text a b c x y (three M m p x' y' e) t h =
+    let w : VersionValue = record { major = M; minor = m; patch = p; pre_release = x'; build = y' } in
+    let s = text-spelled text w t in
+    record { tame = whole_from-tame v w text s; firm = whole_from-either v w text s }
+
+-- ---- both ends
+
+-- an upper end: `r` says whether it accepts no pre-release
+record Up (v : VersionValue) (u : Bound VersionValue) (r : Bool) (ds : List Comparison) : Type 0 where
+  tame : r ≡ true → Tame v (to_upper u v) (names u v) ds
+  exact : Exact v (to_upper u v) (names u v) ds
+
+interval-is : (s t : Span VersionValue) → interval precedence s ≡ Some t → (t ≡ s) × (is_interval precedence s ≡ true)
+interval-is s t e = grind arith
+
+differ : (a : Bool) → a ≡ true → a ≡ false → ⊥
+differ a h k = grind arith
+
+module _ (pre : Bool) (v w : VersionValue) (u : Bound VersionValue) (r : Bool) (cs ds : List Comparison) (low : Low v w cs) (up : Up v u r ds)
+    (p : (pre || is_release w) ≡ true) (q : (pre || r) ≡ true)
+    (open_low : r ≡ false → OpenLow v w cs → is_interval precedence (record { lower = Before w; upper = u }) ≡ true
+    → Alike v (record { lower = Before w; upper = u }) (cs ++ ds)) where
+  abbrev whole_span : Span VersionValue
+  whole_span = record { lower = Before w; upper = u }
+
+  written : r ≡ false → pre ≡ false → ⊥
+  written e f = bits pre r q e f
+    where
+      bits : (a b : Bool) → (a || b) ≡ true → b ≡ false → a ≡ false → ⊥
+      bits a b h e f = grind arith
+
+  by_upper : is_interval precedence whole_span ≡ true → r ≡ false → SameWord pre v whole_span (cs ++ ds)
+  by_upper i e = elim low.firm [
+    | inl exact ↦ exact-word pre r v (Before w) u cs ds q e exact up.exact
+    | inr opened ↦ record { same = open_low e opened i; released = λ f. absurd (written e f) }
+  ]
+
+  by_lower : is_interval precedence whole_span ≡ true → SameWord pre v whole_span (cs ++ ds)
+  by_lower i = elim (cases_Bool (is_release w)) [
+    | inl e ↦ elim (cases_Bool r) [
+      | inl f ↦ tame-word pre v (Before w) u cs ds (low.tame e) (up.tame f)
+      | inr f ↦ by_upper i f
+    ]
+    | inr e ↦ elim low.firm [
+      | inl exact ↦ exact-word pre (is_release w) v (Before w) u cs ds p e exact up.exact
+      | inr opened ↦ absurd (differ (is_release w) (zero-release w opened.zero) e)
+    ]
+  ]
+
+  ends : (s : Span VersionValue) → interval precedence whole_span ≡ Some s → SameWord pre v s (cs ++ ds)
+  ends s e = let (same, i) = interval-is whole_span s e in
+      subst (λ t. SameWord pre v t (cs ++ ds)) (sym same) (by_lower i)
+
+-- up to three numbers
+under-up : (v : VersionValue) (n : ℕ × ℕ × ℕ) → Up v (Before (lowest n)) true (under n ∷ [])
+under-up v n = record { tame = λ _. under-tame v n; exact = under-exact v n }
+
+open_bits : (r l u n : Bool) → (r ≡ true → l ≡ true) → (n ≡ true → l ≡ true)
+    → ((l && u) && (r || (false || n))) ≡ ((true && u) && (r || (false || n)))
+open_bits r l u n f g = grind arith
+
+open-alike : (v w z : VersionValue) (cs ds : List Comparison) → OpenLow v w cs → is_release z ≡ false
+    → is_interval precedence (record { lower = Before w; upper = After z }) ≡ true
+    → Exact v (to_upper (After z) v) (names (After z) v) ds → Alike v (record { lower = Before w; upper = After z }) (cs ++ ds)
+open-alike v w z cs ds o h i k =
+    let none : names (Before w) v ≡ false = not_named w v (zero-release w o.zero) in
+    rw none (open_bits (is_release v) (from_lower (Before w) v) (to_upper (After z) v) (names (After z) v)
+    (λ r. lower-before w v ∙ zero_from v w r o.zero) (open-named v w z (zero-release w o.zero) h i)
+    ∙ together (passed v cs) (passed v ds) (named_by v cs) (named_by v ds) (to_upper (After z) v) (names (After z) v) (is_release v)
+    o.all o.none k.tested k.named)
+    ∙ sym (meets-both v cs ds)
+  where
+    together : (a b c d u n r : Bool) → a ≡ true → c ≡ false → u ≡ b → n ≡ d
+        → ((true && u) && (r || (false || n))) ≡ ((a && b) && (r || (c || d)))
+    together a b c d u n r e f g h = rw (e, f, g, h) refl
+
+-- ---- hyphen ranges
+
+plain-written : (pre : Bool) (p : Partial) → is_plain pre p ≡ true → (pre || is_empty p.pre_release) ≡ true
+plain-written pre p h = by p.patch h
+  where
+    first : (a b c : Bool) → (a && (b && c)) ≡ true → c ≡ true
+    first a b c h = grind arith
+
+    second : (q a b c : Bool) → (a && (b && c)) ≡ true → (q || b) ≡ true
+    second q a b c h = grind arith
+
+    by : (c : Option ℕ) → is_plain pre (partial p.major p.minor c p.pre_release p.build) ≡ true → (pre || is_empty p.pre_release) ≡ true
+    by (Some n) h = first (is_some p.major) (is_some p.minor) (pre || is_empty p.pre_release) h
+    by None h = second pre (is_some p.major || not (is_some p.minor)) (is_empty p.pre_release) (is_empty p.build) h
+
+either_true : (a : Bool) → (a || true) ≡ true
+either_true a = grind arith
+
+hyphen-form : (pre : Bool) (v : VersionValue) (p : Partial) (cs : List Comparison) (text : List ℕ) (s : Span VersionValue)
+    (a b c : Option ℕ) (x y : List Id) → Low v (version_of p) cs → (pre || is_release (version_of p)) ≡ true → Form pre a b c x y
+    → is_some a ≡ true → table MAX_SAFE_INTEGER (hyphen p (partial a b c x y)) ≡ Some s
+    → SameWord pre v s (cs ++ hyphen_upper false (partial_of a b c x y) text)
+unfolding table
+hyphen-form pre v p cs text s a b c x y low w any m e = cc m
+hyphen-form pre v p cs text s a b c x y low w (one M) m e =
+    ends pre v (version_of p) (Before (lowest (M + 1, 0, 0))) true cs (under (M + 1, 0, 0) ∷ []) low (under-up v (M + 1, 0, 0)) w (either_true pre)
+    (λ f. absurd (differ true refl f)) s e
+hyphen-form pre v p cs text s a b c x y low w (two M n) m e =
+    ends pre v (version_of p) (Before (lowest (M, n + 1, 0))) true cs (under (M, n + 1, 0) ∷ []) low (under-up v (M, n + 1, 0)) w (either_true pre)
+    (λ f. absurd (differ true refl f)) s e
+hyphen-form pre v p cs text s a b c x y low w (three M n o [] y' q) m e =
+    let z : VersionValue = record { major = M; minor = n; patch = o; pre_release = []; build = y' } in
+    let exact = whole_most-exact v z text in
+    ends pre v (version_of p) (After z) true cs (record { sign = at_most; version = z; text = text } ∷ []) low
+    (record { tame = λ _. exact-tame v _ _ _ exact refl; exact = exact }) w (either_true pre)
+    (λ f. absurd (differ true refl f)) s e
+hyphen-form pre v p cs text s a b c x y low w (three M n o (i ∷ x') y' q) m e =
+    let z : VersionValue = record { major = M; minor = n; patch = o; pre_release = i ∷ x'; build = y' } in
+    let exact : Exact v (to_upper (After z) v) (names (After z) v) (made at_most (no_build z) ∷ []) =
+    counted-exact v _ _ (made at_most (no_build z)) refl (upper-after z v) refl in
+    ends pre v (version_of p) (After z) false cs (made at_most (no_build z) ∷ []) low
+    (record { tame = λ f. absurd (differ false f refl); exact = exact }) w q
+    (λ _ opened i. open-alike v (version_of p) z cs (made at_most (no_build z) ∷ []) opened refl i exact) s e
+
+pub between-good : (pre : Bool) (v : VersionValue) (x y : List ℕ) (p q : Partial) (s : Span VersionValue)
+    → IsPlainPartial MAX_SAFE_INTEGER pre x p → IsPlainPartial MAX_SAFE_INTEGER pre y q → is_some q.major ≡ true
+    → table MAX_SAFE_INTEGER (hyphen p q) ≡ Some s
+    → list_all (is_valid MAX_SAFE_INTEGER) (hyphen_lower false (npm_partial p) x ++ hyphen_upper false (npm_partial q) y) ≡ true
+    → SameWord pre v s (hyphen_lower false (npm_partial p) x ++ hyphen_upper false (npm_partial q) y)
+between-good pre v x y p q s h g m e k =
+    let cs = hyphen_lower false (npm_partial p) x in
+    let (kc, kd) = and_parts _ _ (sym (list_all-append (is_valid MAX_SAFE_INTEGER) cs (hyphen_upper false (npm_partial q) y)) ∙ k) in
+    hyphen-form pre v p cs y s q.major q.minor q.patch q.pre_release q.build
+    (low-form pre v x p.major p.minor p.patch p.pre_release p.build (form pre p.major p.minor p.patch p.pre_release p.build h.plain) h.npm kc)
+    (plain-written pre p h.plain) (form pre q.major q.minor q.patch q.pre_release q.build g.plain) m e

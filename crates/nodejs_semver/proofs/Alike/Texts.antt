@@ -1,0 +1,248 @@
+-- Plain texts: what they mean here, their alternatives to node-semver, and that both accept the same versions.
+use Rattle.nodejs_semver.proofs.Common.{◌≡◌, refl, sym, ap, ap₂, ◌∙◌, subst, ℕ, Bool, true, false, ◌&&◌, ◌||◌, not, List, [], ◌∷◌, ◌++◌}
+use Rattle.nodejs_semver.proofs.Common.{AllByRecursion, AreCommonParts, IsBlank, IsSign, IsTrim, IsUtf8, MAX_SAFE_INTEGER, Some, Span, Word}
+use Rattle.nodejs_semver.proofs.Common.{VersionValue, accepts, append-nil, append_assoc, arith, begins, cases_Bool, first_so, holds, inl}
+use Rattle.std.proofs.Common.{lit<}
+use Rattle.nodejs_semver.proofs.Common.{inr, is_empty, is_release, lets_in, list_all, list_any, precedence, second_so, trim, ◌==◌}
+use Rattle.std.specs.Char.{encode_utf8}
+use Rattle.std.specs.List.{filter}
+use Rattle.std.specs.Prelude.{codes}
+use Rattle.semver_core.proofs.Text.Trims.{trim_is_middle}
+use Rattle.nodejs_semver.specs.Internal.Parts.{cut_bars}
+use Rattle.nodejs_semver.specs.Npm.Alike.{ArePlain, IsPlainAlternative, IsPlainText, IsPlainWord, IsWithin, bare, between, more}
+use Rattle.nodejs_semver.specs.Npm.Alike.{one, one_word, signed, two_words}
+use Rattle.nodejs_semver.specs.Npm.RangeText as Npm
+use Rattle.nodejs_semver.specs.Npm.RangeText.{AreAlternatives, AreEndMarks, IsAlternative, IsSignText, is_free_lower, is_free_upper, IsWord, are_marks, next, none, spelling}
+use Rattle.nodejs_semver.specs.Npm.Ranges as Ranges
+use Rattle.nodejs_semver.specs.Npm.Ranges.{HasAlternatives, is_valid, meets}
+use Rattle.nodejs_semver.specs.Npm.Table as Table
+use Rattle.nodejs_semver.specs.Npm.Table.{Comparison, Sign, compared, counts, major, minor, whole, wildcard}
+use Rattle.nodejs_semver.specs.Text.Common as Common
+use Rattle.nodejs_semver.specs.Text.Common.{IsCommonPart, IsCommonWord, IsGap, caret_word, compare_word, comparison, more_parts, one_part}
+use Rattle.nodejs_semver.specs.Text.Common.{hyphen_word, plain_word, tilde_word, two_comparisons}
+use Rattle.nodejs_semver.specs.Text.Meaning.{Means}
+use Rattle.nodejs_semver.specs.Text.WordText.{Comparator, above, above_sign, at_least, at_least_sign, at_most, at_most_sign, below}
+use Rattle.nodejs_semver.specs.Text.WordText.{below_sign, equal, equal_sign}
+use Rattle.nodejs_semver.proofs.Algebra.FlatMaps.{any_weaker}
+use Rattle.nodejs_semver.proofs.Alike.Hyphens.{between-good}
+use Rattle.nodejs_semver.proofs.Alike.Pairs.{two-good}
+use Rattle.nodejs_semver.proofs.Alike.Rows.{Good, SameWord, word-good}
+use Rattle.nodejs_semver.proofs.Alike.Tests.{Released}
+use Rattle.nodejs_semver.proofs.Dividing.BarsDivide.{bars_divide}
+use Rattle.nodejs_semver.proofs.Dividing.MeaningLaw as meaning
+use Rattle.nodejs_semver.proofs.Dividing.MeaningLaw.{pieces-utf8}
+use Rattle.nodejs_semver.proofs.Everyday.Compact.{Compact, is_part_byte}
+use Rattle.nodejs_semver.proofs.Everyday.Texts.{common_parts_are_denoted, compact-trim, cut-first, cut-last, part-tidy}
+use Rattle.nodejs_semver.proofs.Reading.Bytes.{all-join}
+use Rattle.nodejs_semver.proofs.Strict.Rows.{either_true}
+
+-- ---- here
+
+sign_is : (c : Comparator) → IsSign c (spelling (compared c))
+sign_is at_least = at_least_sign
+sign_is above = above_sign
+sign_is equal = equal_sign
+sign_is at_most = at_most_sign
+sign_is below = below_sign
+
+word-common : (limit : ℕ) (pre : Bool) (text : List ℕ) (word : Word) (cs : List Comparison) → IsPlainWord limit pre text word cs
+    → IsCommonWord limit text word
+word-common limit pre text word cs (bare t p h) = plain_word t p h.here
+word-common limit pre text word cs (signed (compared c) t p h m) =
+    compare_word _ _ (comparison c (spelling (compared c)) t p (sign_is c) h.here)
+word-common limit pre text word cs (signed Table.caret t p h m) = caret_word t p h.here
+word-common limit pre text word cs (signed Table.tilde t p h m) = tilde_word t p h.here
+
+part-common : (limit : ℕ) (pre : Bool) (text : List ℕ) (s : Span VersionValue) (cs : List Comparison)
+    → IsPlainAlternative limit pre text s cs → IsCommonPart limit text s
+part-common limit pre text s cs (one_word t word s' cs' h e) = Common.one_word t word s' (word-common limit pre t word cs' h) e
+part-common limit pre text s cs (two_words c d x y p q a b m hp mp ep hq mq eq e apart) =
+    two_comparisons _ _ _ _ a b m (comparison c (spelling (compared c)) x p (sign_is c) hp.here)
+    (comparison d (spelling (compared d)) y q (sign_is d) hq.here) ep eq e
+part-common limit pre text s cs (between x y p q m h k some e) = Common.one_word _ _ m (hyphen_word x y p q h.here k.here) e
+
+parts-common : (limit : ℕ) (pre : Bool) (text : List ℕ) (list : List (Span VersionValue)) (all : List (List Comparison))
+    → ArePlain limit pre text list all → AreCommonParts limit text list
+parts-common limit pre text list all (one t s cs h) = one_part t s (part-common limit pre t s cs h)
+parts-common limit pre text list all (more t before after rest s cs ss others h b a k) =
+    more_parts t before after rest s ss (part-common limit pre t s cs h) b a (parts-common limit pre rest ss others k)
+
+pub plain-means : (text : List ℕ) (list : List (Span VersionValue)) (all : List (List Comparison)) → IsUtf8 text
+    → IsPlainText MAX_SAFE_INTEGER text list all → Means MAX_SAFE_INTEGER text list
+plain-means text list all u h = (meaning.one_meaning MAX_SAFE_INTEGER text list u).0
+    (common_parts_are_denoted MAX_SAFE_INTEGER text list (parts-common MAX_SAFE_INTEGER h.pre text list all h.divided)).0
+
+-- ---- to node-semver
+
+no_marks : (s : Sign) (p : Table.Partial) → are_marks false s p [] ≡ true
+no_marks (compared at_least) p = grind arith
+no_marks (compared above) p = grind arith
+no_marks (compared equal) p = grind arith
+no_marks (compared at_most) p = grind arith
+no_marks (compared below) p = grind arith
+no_marks Table.caret p = refl
+no_marks Table.tilde p = refl
+
+no_blank : IsBlank []
+no_blank = record { characters = []; each = refl; spelled = refl }
+
+one_blank : IsBlank (codes " ")
+unfolding encode_utf8
+one_blank = record { characters = 32 ∷ []; each = refl; spelled = refl }
+
+no_ends : (free : Bool) → AreEndMarks false free []
+no_ends free = record { characters = []; spelled = refl; each = refl; whole = either_true free }
+
+sign_text : (s : Sign) → IsSignText (spelling s) s
+sign_text (compared at_least) = Npm.sign (compared at_least) [] no_blank
+sign_text (compared above) = Npm.sign (compared above) [] no_blank
+sign_text (compared equal) = Npm.sign (compared equal) [] no_blank
+sign_text (compared at_most) = Npm.sign (compared at_most) [] no_blank
+sign_text (compared below) = Npm.sign (compared below) [] no_blank
+sign_text Table.caret = Npm.sign Table.caret [] no_blank
+sign_text Table.tilde = Npm.sign Table.tilde [] no_blank
+
+no_mark : (a : Bool) → (a && false) ≡ false
+no_mark a = grind arith
+
+word-is : (limit : ℕ) (pre : Bool) (text : List ℕ) (word : Word) (cs : List Comparison) → IsPlainWord limit pre text word cs
+    → IsWord false false text cs
+word-is limit pre text word cs (bare t p h) = Npm.word [] [] t (compared equal) _ Npm.no_sign (no_marks (compared equal) _) refl h.npm
+word-is limit pre text word cs (signed s t p h m) =
+    Npm.word (spelling s) [] t s _ (sign_text s) (no_marks s _) (no_mark (is_empty (spelling s))) h.npm
+
+part-is : (limit : ℕ) (pre : Bool) (text : List ℕ) (s : Span VersionValue) (cs : List Comparison)
+    → IsPlainAlternative limit pre text s cs → IsAlternative false false text cs
+part-is limit pre text s cs (one_word t word s' cs' h e) = Npm.words t cs' (Npm.last t cs' (word-is limit pre t word cs' h))
+part-is limit pre text s cs (two_words c d x y p q a b m hp mp ep hq mq eq e apart) =
+    Npm.words _ _ (Npm.more _ (codes " ") _ _ _ (word-is limit pre _ _ _ (signed (compared c) x p hp mp)) one_blank (lit< tt)
+    (Npm.last _ _ (word-is limit pre _ _ _ (signed (compared d) y q hq mq))))
+part-is limit pre text s cs (between x y p q m h k some e) =
+    Npm.hyphen [] x (codes " ") (codes " ") [] y _ _ (no_ends (is_free_lower _)) h.npm one_blank (lit< tt) one_blank (lit< tt)
+    (no_ends (is_free_upper false _)) k.npm
+
+part-compact : (limit : ℕ) (pre : Bool) (text : List ℕ) (s : Span VersionValue) (cs : List Comparison)
+    → IsPlainAlternative limit pre text s cs → Compact text
+part-compact limit pre text s cs h = (part-tidy limit text s (part-common limit pre text s cs h)).compact
+
+gap-bytes : (gap : List ℕ) → IsGap gap → list_all is_part_byte gap ≡ true
+gap-bytes gap g = grind arith
+
+trimmed : (piece part : List ℕ) → IsUtf8 piece → trim piece ≡ part → IsTrim piece part
+trimmed piece part u e = subst (λ (t : List ℕ). IsTrim piece t) e (trim_is_middle piece u)
+
+-- one alternative among others
+joined : (pieces others : List (List ℕ)) (piece part : List ℕ) (cs : List Comparison) (rest : List (List Comparison))
+    → pieces ≡ piece ∷ others → trim piece ≡ part → IsAlternative false false part cs → AllByRecursion IsUtf8 pieces
+    → (AllByRecursion IsUtf8 others → AreAlternatives false false others rest) → AreAlternatives false false pieces (cs ∷ rest)
+joined pieces others piece part cs rest e t is u f =
+    let v : AllByRecursion IsUtf8 (piece ∷ others) = subst (AllByRecursion IsUtf8) e u in
+    subst (λ (ps : List (List ℕ)). AreAlternatives false false ps (cs ∷ rest)) (sym e)
+    (next piece part others cs rest (trimmed piece part v.0 t) is (f v.1))
+
+all-are : (limit : ℕ) (pre : Bool) (text : List ℕ) (list : List (Span VersionValue)) (all : List (List Comparison)) (gap : List ℕ)
+    → IsGap gap → ArePlain limit pre text list all → AllByRecursion IsUtf8 (cut_bars false (gap ++ text))
+    → AreAlternatives false false (cut_bars false (gap ++ text)) all
+all-are limit pre text list all gap g (one t s cs h) u =
+    let c = part-compact limit pre t s cs h in
+    let same : trim (gap ++ t) ≡ t = rw append-nil at (compact-trim gap t [] g (inl refl) c) in
+    joined _ [] (gap ++ t) t cs [] (cut-last (gap ++ t) (all-join is_part_byte gap t (gap-bytes gap g) c.each)) same
+    (part-is limit pre t s cs h) u (λ _. none)
+all-are limit pre text list all gap g (more t before after rest s cs ss others h b a k) u =
+    let c = part-compact limit pre t s cs h in
+    let piece = gap ++ (t ++ before) in
+    let behind = 124 ∷ (124 ∷ (after ++ rest)) in
+    let whole : gap ++ (t ++ (before ++ behind)) ≡ piece ++ behind =
+    sym (append_assoc gap (t ++ before) behind ∙ ap (λ (x : List ℕ). gap ++ x) (append_assoc t before behind)) in
+    let bytes : list_all is_part_byte piece ≡ true = all-join is_part_byte gap (t ++ before) (gap-bytes gap g)
+    (all-join is_part_byte t before c.each (gap-bytes before b)) in
+    joined _ (cut_bars false (after ++ rest)) piece t cs others
+    (ap (λ (x : List ℕ). cut_bars false x) whole ∙ cut-first piece (after ++ rest) bytes)
+    (compact-trim gap t before g b c) (part-is limit pre t s cs h) u
+    (λ v. all-are limit pre rest ss others after a k v)
+
+some-all : (limit : ℕ) (pre : Bool) (text : List ℕ) (list : List (Span VersionValue)) (all : List (List Comparison))
+    → ArePlain limit pre text list all → is_empty all ≡ false
+some-all limit pre text list all (one t s cs h) = refl
+some-all limit pre text list all (more t before after rest s cs ss others h b a k) = refl
+
+pub plain-has : (text : List ℕ) (list : List (Span VersionValue)) (all : List (List Comparison)) → IsUtf8 text
+    → IsPlainText MAX_SAFE_INTEGER text list all → HasAlternatives MAX_SAFE_INTEGER false text all
+plain-has text list all u h = let cut = bars_divide text in record {
+  parts = cut_bars false text;
+  divided = cut;
+  each = all-are MAX_SAFE_INTEGER h.pre text list all [] (inl refl) h.divided (pieces-utf8 text (cut_bars false text) cut u);
+  some = some-all MAX_SAFE_INTEGER h.pre text list all h.divided;
+  valid = h.valid;
+}
+
+-- ---- what both accept
+
+-- what an alternative accepts
+abbrev alternative_accepts : VersionValue → List Comparison → Bool
+alternative_accepts v cs = meets false v (filter (counts false) cs)
+
+part-same : (pre : Bool) (v : VersionValue) (text : List ℕ) (s : Span VersionValue) (cs : List Comparison) → IsWithin MAX_SAFE_INTEGER v
+    → IsPlainAlternative MAX_SAFE_INTEGER pre text s cs → list_all (is_valid MAX_SAFE_INTEGER) cs ≡ true → SameWord pre v s cs
+part-same pre v text s cs w (one_word t word s' cs' h e) k =
+    subst (λ o. Good pre v o cs') e (word-good pre v t word cs' w h k)
+part-same pre v text s cs w (two_words c d x y p q a b m hp mp ep hq mq eq e apart) k =
+    two-good pre v c d x y p q a b m w hp mp ep hq mq eq e apart k
+part-same pre v text s cs w (between x y p q m h g some e) k = between-good pre v x y p q m h g some e k
+
+each-same : (pre : Bool) (v : VersionValue) (text : List ℕ) (list : List (Span VersionValue)) (all : List (List Comparison))
+    → IsWithin MAX_SAFE_INTEGER v → ArePlain MAX_SAFE_INTEGER pre text list all
+    → list_all (list_all (is_valid MAX_SAFE_INTEGER)) all ≡ true → accepts list v false ≡ list_any (alternative_accepts v) all
+each-same pre v text list all w (one t s cs h) k =
+    ap (λ (a : Bool). a || false) (part-same pre v t s cs w h (first_so (list_all (is_valid MAX_SAFE_INTEGER) cs) true k)).same
+each-same pre v text list all w (more t before after rest s cs ss others h b a m) k =
+    ap₂ (λ (x y : Bool). x || y) (part-same pre v t s cs w h (first_so (list_all (is_valid MAX_SAFE_INTEGER) cs) _ k)).same
+    (each-same pre v rest ss others w m (second_so (list_all (is_valid MAX_SAFE_INTEGER) cs) _ k))
+
+-- where no pre-release is written, none is accepted
+each-released : (pre : Bool) (v : VersionValue) (text : List ℕ) (list : List (Span VersionValue)) (all : List (List Comparison))
+    → IsWithin MAX_SAFE_INTEGER v → ArePlain MAX_SAFE_INTEGER pre text list all
+    → list_all (list_all (is_valid MAX_SAFE_INTEGER)) all ≡ true → pre ≡ false → is_release v ≡ false
+    → list_any (alternative_accepts v) all ≡ false
+each-released pre v text list all w (one t s cs h) k p r =
+    ap (λ (a : Bool). a || false) ((part-same pre v t s cs w h (first_so (list_all (is_valid MAX_SAFE_INTEGER) cs) true k)).released p r)
+each-released pre v text list all w (more t before after rest s cs ss others h b a m) k p r =
+    ap₂ (λ (x y : Bool). x || y) ((part-same pre v t s cs w h (first_so (list_all (is_valid MAX_SAFE_INTEGER) cs) _ k)).released p r)
+    (each-released pre v rest ss others w m (second_so (list_all (is_valid MAX_SAFE_INTEGER) cs) _ k) p r)
+
+abbrev is_bare : List Comparison → Bool
+is_bare cs = not (list_any (counts false) cs)
+
+none-counted : (cs : List Comparison) → is_bare cs ≡ true → filter (counts false) cs ≡ []
+none-counted [] h = refl
+none-counted (c ∷ cs) h = elim (cases_Bool (counts false c)) [
+  | inl e ↦ absurd (differ (counts false c) (list_any (counts false) cs) e h)
+  | inr e ↦ rw e (none-counted cs (rest (counts false c) (list_any (counts false) cs) h))
+]
+  where
+    differ : (a b : Bool) → a ≡ true → not (a || b) ≡ true → ⊥
+    differ a b e h = grind arith
+
+    rest : (a b : Bool) → not (a || b) ≡ true → not b ≡ true
+    rest a b h = grind arith
+
+bare-accepts : (v : VersionValue) → is_release v ≡ true → (cs : List Comparison) → is_bare cs ≡ true → alternative_accepts v cs ≡ true
+bare-accepts v r cs h = rw (none-counted cs h, r) refl
+
+pub plain-same : (text : List ℕ) (list : List (Span VersionValue)) (all : List (List Comparison)) (v : VersionValue)
+    → IsPlainText MAX_SAFE_INTEGER text list all → IsWithin MAX_SAFE_INTEGER v → accepts list v false ≡ Ranges.accepts false all v
+plain-same text list all v h w =
+    let same = each-same h.pre v text list all w h.divided h.valid in
+    elim (cases_Bool (list_any is_bare all)) [
+      | inr e ↦ rw e same
+      | inl e ↦ rw e (same ∙ opened e)
+    ]
+  where
+    closed : (p e : Bool) → e ≡ true → (p && e) ≡ false → p ≡ false
+    closed p e f g = grind arith
+
+    opened : list_any is_bare all ≡ true → list_any (alternative_accepts v) all ≡ is_release v
+    opened e = elim (cases_Bool (is_release v)) [
+      | inl r ↦ any_weaker is_bare (alternative_accepts v) (bare-accepts v r) all e ∙ sym r
+      | inr r ↦ each-released h.pre v text list all w h.divided h.valid (closed h.pre (list_any is_bare all) e h.counted) r ∙ sym r
+    ]
