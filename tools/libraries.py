@@ -16,9 +16,12 @@ from edits import TOP, text_of
 
 # The file to which the gate writes what `rt ci` says, beside which it runs these tools.
 SAYS = "RT_CI_SAYS"
+ENDED = r"^\d+ passed, \d+ failed"
 PARTS = ("src", "specs", "proofs")
 # How many seconds `rt ci` may take to say that a crate is kept, once those below it are there.
 WAIT = 30
+# How many KiB are to be free beside `rt ci` for another check to begin.
+ROOM = 3_000_000
 
 
 @functools.lru_cache(maxsize=None)
@@ -123,7 +126,14 @@ class Libraries:
 
 def said_of(crate):
     """Returns what `rt ci` said of a crate, or that it has ended, or None."""
-    return re.search(rf"^rt: {crate.name} (proved$|is kept: |NOT PROVED)|^\d+ passed, \d+ failed", text_of(os.environ[SAYS]), re.M)
+    return re.search(rf"^rt: {crate.name} (proved$|is kept: |NOT PROVED)|{ENDED}", text_of(os.environ[SAYS]), re.M)
+
+
+def wait_for_room():
+    """Waits while `rt ci`, beside which this runs, leaves too little memory for another check."""
+    free = lambda: int(re.search(r"^MemAvailable: +(\d+)", text_of("/proc/meminfo"), re.M)[1])
+    while SAYS in os.environ and not re.search(ENDED, text_of(os.environ[SAYS]), re.M) and free() < ROOM:
+        time.sleep(5)
 
 
 def built(crate):
