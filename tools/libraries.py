@@ -7,6 +7,7 @@ import os
 import re
 import shutil
 import subprocess
+import tempfile
 import threading
 import time
 
@@ -92,7 +93,8 @@ class Libraries:
         return self.folder
 
     def of_contracts(self, crate):
-        """Builds a library of the contracts alone, beside `rt ci`, or None. What is the lowest, or is kept, need not be waited for."""
+        """Builds a library of the contracts alone, beside `rt ci`, or None. What is the lowest, or is kept, need not be waited for, and what
+        `rt ci` proves first is taken."""
         if not self.are_contracts_enough or SAYS not in os.environ or not all(built(it) for it in crate.deps) or not crate.deps:
             return None
         time.sleep(WAIT)
@@ -106,10 +108,19 @@ class Libraries:
             edits.write(f"{folder}/{file}", text) if text is not None else os.remove(f"{folder}/{file}")
         made = f"{self.room}/contracts/{crate.name}.rlib"
         words = [*crate.words("build", folder, self.folder), "--jobs", "1", "-o", made]
-        ran = subprocess.run(words, cwd=folder, stdin=subprocess.DEVNULL, stdout=subprocess.PIPE, stderr=subprocess.STDOUT, text=True, check=False)
-        if ran.returncode:
-            print(f"no library of the contracts of {crate.name} alone:\n{ran.stdout[-2000:]}", flush=True)
-            return None
+        with tempfile.TemporaryFile("w+", errors="replace") as said:
+            ran = subprocess.Popen(words, cwd=folder, stdin=subprocess.DEVNULL, stdout=said, stderr=subprocess.STDOUT)
+            while ran.poll() is None:
+                if said_of(crate):
+                    # The real one is there first.
+                    ran.kill()
+                    ran.wait()
+                    return None
+                time.sleep(1)
+            said.seek(0)
+            if ran.returncode:
+                print(f"no library of the contracts of {crate.name} alone:\n{said.read()[-2000:]}", flush=True)
+                return None
         return made
 
     def proved(self, crate):
