@@ -7,6 +7,7 @@ import os
 import re
 import shutil
 import subprocess
+import tempfile
 import threading
 import time
 
@@ -16,9 +17,12 @@ from edits import TOP, text_of
 
 # The file to which the gate writes what `rt ci` says, beside which it runs these tools.
 SAYS = "RT_CI_SAYS"
+ENDED = r"^\d+ passed, \d+ failed"
 PARTS = ("src", "specs", "proofs")
 # How many seconds `rt ci` may take to say that a crate is kept, once those below it are there.
 WAIT = 30
+# How many KiB are to be free beside `rt ci` for another check to begin.
+ROOM = 3_000_000
 
 
 @functools.lru_cache(maxsize=None)
@@ -89,7 +93,8 @@ class Libraries:
         return self.folder
 
     def of_contracts(self, crate):
-        """Builds a library of the contracts alone, beside `rt ci`, or None. What is the lowest, or is kept, need not be waited for."""
+        """Builds a library of the contracts alone, beside `rt ci`, or None. What is the lowest, or is kept, need not be waited for, and what
+        `rt ci` proves first is taken."""
         if not self.are_contracts_enough or SAYS not in os.environ or not all(built(it) for it in crate.deps) or not crate.deps:
             return None
         time.sleep(WAIT)
@@ -103,10 +108,19 @@ class Libraries:
             edits.write(f"{folder}/{file}", text) if text is not None else os.remove(f"{folder}/{file}")
         made = f"{self.room}/contracts/{crate.name}.rlib"
         words = [*crate.words("build", folder, self.folder), "--jobs", "1", "-o", made]
-        ran = subprocess.run(words, cwd=folder, stdin=subprocess.DEVNULL, stdout=subprocess.PIPE, stderr=subprocess.STDOUT, text=True, check=False)
-        if ran.returncode:
-            print(f"no library of the contracts of {crate.name} alone:\n{ran.stdout[-2000:]}", flush=True)
-            return None
+        with tempfile.TemporaryFile("w+", errors="replace") as said:
+            ran = subprocess.Popen(words, cwd=folder, stdin=subprocess.DEVNULL, stdout=said, stderr=subprocess.STDOUT)
+            while ran.poll() is None:
+                if said_of(crate):
+                    # The real one is there first.
+                    ran.kill()
+                    ran.wait()
+                    return None
+                time.sleep(1)
+            said.seek(0)
+            if ran.returncode:
+                print(f"no library of the contracts of {crate.name} alone:\n{said.read()[-2000:]}", flush=True)
+                return None
         return made
 
     def proved(self, crate):
@@ -123,7 +137,14 @@ class Libraries:
 
 def said_of(crate):
     """Returns what `rt ci` said of a crate, or that it has ended, or None."""
-    return re.search(rf"^rt: {crate.name} (proved$|is kept: |NOT PROVED)|^\d+ passed, \d+ failed", text_of(os.environ[SAYS]), re.M)
+    return re.search(rf"^rt: {crate.name} (proved$|is kept: |NOT PROVED)|{ENDED}", text_of(os.environ[SAYS]), re.M)
+
+
+def wait_for_room():
+    """Waits while `rt ci`, beside which this runs, leaves too little memory for another check."""
+    free = lambda: int(re.search(r"^MemAvailable: +(\d+)", text_of("/proc/meminfo"), re.M)[1])
+    while SAYS in os.environ and not re.search(ENDED, text_of(os.environ[SAYS]), re.M) and free() < ROOM:
+        time.sleep(5)
 
 
 def built(crate):
