@@ -16,7 +16,7 @@ use Rattle.nodejs_semver.specs.Npm.Ranges.{is_valid, satisfies}
 use Rattle.nodejs_semver.specs.Npm.Table.{Comparison, Numbers, counts, from, lowest, made, no_build, release, under}
 use Rattle.nodejs_semver.specs.Text.WordText.{Comparator, above, at_least, at_most, below, equal}
 use Rattle.nodejs_semver.proofs.Algebra.FlatMaps.{empty_is}
-use Rattle.nodejs_semver.proofs.Algebra.Triples.{in_two_steps, lt_is, triple_cmp}
+use Rattle.nodejs_semver.proofs.Algebra.Gate.{in_two_steps, lt_is, triple_cmp}
 use Rattle.nodejs_semver.proofs.Alike.Tests.{Exact, Tame, from_lower, named_by, passed, to_upper}
 use Rattle.nodejs_semver.proofs.Strict.Printed.{prints_zero}
 use Rattle.nodejs_semver.proofs.Values.{past-after, past-before}

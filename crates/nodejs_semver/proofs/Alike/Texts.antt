@@ -31,7 +31,7 @@ use Rattle.nodejs_semver.proofs.Alike.Tests.{Released}
 use Rattle.nodejs_semver.proofs.Dividing.BarsDivide.{bars_divide}
 use Rattle.nodejs_semver.proofs.Dividing.MeaningLaw as meaning
 use Rattle.nodejs_semver.proofs.Dividing.MeaningLaw.{pieces-utf8}
-use Rattle.nodejs_semver.proofs.Everyday.Compact.{Compact, is_part_byte}
+use Rattle.nodejs_semver.proofs.Everyday.Words.{Compact, is_part_byte}
 use Rattle.nodejs_semver.proofs.Everyday.Texts.{common_parts_are_denoted, compact-trim, cut-first, cut-last, part-tidy}
 use Rattle.nodejs_semver.proofs.Reading.Bytes.{all-join}
 use Rattle.nodejs_semver.proofs.Strict.Rows.{either_true}
