@@ -1,15 +1,13 @@
 // The words of increments, a row each.
 
 ghost use Rattle.std.specs.Prelude.{◌≡◌, ◌<◌, ◌∷◌, [], IfOk, Ok, OnOk, length, ⊤};
-ghost use Rattle.semver_core.specs.Failures.{MemoryOnlyIf};
-ghost use Rattle.semver_core.specs.Increments.Table as spec;
-ghost use Rattle.semver_core.specs.Increments.View.{Returns};
-ghost use Rattle.semver_core.specs.Internal.IncrementSteps as steps;
+ghost use Rattle.semver_core.specs.{Failures.MemoryOnlyIf, Increments.View.Returns};
+ghost use Rattle.semver_core.specs.{Text.Identifiers.Numeric, Values.Versions.HasIdentifiers};
 ghost use Rattle.semver_core.specs.Internal.IncrementSteps.{MayAllocate, ReturnsParts, Steps};
 ghost use Rattle.semver_core.specs.Internal.IncrementSteps.{begun, parts_ref_value, stepped};
-ghost use Rattle.semver_core.specs.Text.Identifiers.{Numeric};
-ghost use Rattle.semver_core.specs.Values.Versions.{HasIdentifiers};
 ghost use Rattle.semver_core.specs.Values.Views.{ids_view};
+ghost use Rattle.semver_core.specs.Increments.Table as spec;
+ghost use Rattle.semver_core.specs.Internal.IncrementSteps as steps;
 
 use crate::increment::parts_ref::PartsRef;
 use crate::increment::pre_release::{
