@@ -1,11 +1,10 @@
 -- When an allocation may fail in `inc`.
 use Rattle.semver_core.proofs.Common.{cases_Bool, inr, Fault, advance, has_numeric, one_more, raise_last, list_text, is_empty}
 use Rattle.semver_core.proofs.Common.{AlphaNumeric, Id, Numeric, VersionValue, HasIdentifiers, IdentifierBase, Bool, List, [], ap}
-use Rattle.semver_core.proofs.Common.{arith, false, inl, length, refl, subst, sym, true, ℕ, ◌++◌, ◌-◌, ◌<◌, ◌||◌, ◌∙◌, ◌∷◌, ◌≡◌}
-use Rattle.semver_core.proofs.Common.{◌==◌, Err, Ok, Result, ⊤, bytes_eq, InvalidIdentifier, InvalidIncrementArgument}
-use Rattle.semver_core.proofs.Common.{NotAPrerelease, Overflow, first_number, identify, is_false, is_kept, pre_step, ◌>>=◌}
-use Rattle.semver_core.proofs.Common.{ends_at_max, Failure, Memory, Refused, IfOk, codes, if◌then◌else◌, ◌&&◌, ◌^◌, MemoryOnlyIf}
-use Rattle.semver_core.proofs.Common.{Returns, FailsWith, MayAllocate, IncrementError, ◌≢◌, cond_both}
+use Rattle.semver_core.proofs.Common.{arith, false, inl, length, refl, subst, sym, true, ℕ, ◌-◌, ◌<◌, ◌||◌, ◌∙◌, ◌∷◌, ◌≡◌, ◌==◌}
+use Rattle.semver_core.proofs.Common.{Err, Ok, Result, ⊤, bytes_eq, Overflow, identify, is_false, is_kept, pre_step, ◌>>=◌}
+use Rattle.semver_core.proofs.Common.{ends_at_max, Failure, Memory, Refused, IfOk, ◌&&◌, ◌^◌, MemoryOnlyIf, Returns, FailsWith}
+use Rattle.semver_core.proofs.Common.{MayAllocate, IncrementError, ◌≢◌, cond_both}
 
 -- in the words of the public clause
 may_allocate : {A : Type 0} (P : A → Type 0) (answer : Result A Fault) → MayAllocate P answer

@@ -87,18 +87,14 @@ pub build_back : (ids : List Id) → list_all is_normal ids ≡ true → IsBuild
 build_back [] h = no_build [] refl
 build_back (id ∷ ids) h = plus _ [] (id ∷ ids) (record { identifiers = joined_is id ids h; ended = refl })
 
--- no identifier list goes on with what a build begins with
-build_stops : (ids : List Id) → goes_on (marked_list (43 ∷ []) ids ++ []) ≡ false
-build_stops [] = refl
-build_stops (id ∷ ids) = refl
-
-build_no_pre : (ids : List Id) → begins_pre_release (marked_list (43 ∷ []) ids ++ []) ≡ false
-build_no_pre [] = refl
-build_no_pre (id ∷ ids) = refl
+-- no identifier list goes on with what a build begins with, and no pre-release begins so
+build_stops : (ids : List Id) → (goes_on (marked_list (43 ∷ []) ids ++ []) ≡ false) × (begins_pre_release (marked_list (43 ∷ []) ids ++ []) ≡ false)
+build_stops [] = (refl, refl)
+build_stops (id ∷ ids) = (refl, refl)
 
 pub pre_back : (ids builds : List Id) → list_all is_normal ids ≡ true → IsPreRelease (marked_list (45 ∷ []) ids) (marked_list (43 ∷ []) builds ++ []) ids
-pre_back [] builds h = no_pre_release (marked_list (43 ∷ []) builds ++ []) (build_no_pre builds)
-pre_back (id ∷ ids) builds h = dashed _ (marked_list (43 ∷ []) builds ++ []) (id ∷ ids) (record { identifiers = joined_is id ids h; ended = build_stops builds })
+pre_back [] builds h = no_pre_release (marked_list (43 ∷ []) builds ++ []) (build_stops builds).1
+pre_back (id ∷ ids) builds h = dashed _ (marked_list (43 ∷ []) builds ++ []) (id ∷ ids) (record { identifiers = joined_is id ids h; ended = (build_stops builds).0 })
 
 no_digit : (ids builds : List Id) → begins is_ascii_digit (marked_list (45 ∷ []) ids ++ (marked_list (43 ∷ []) builds ++ [])) ≡ false
 no_digit [] [] = refl

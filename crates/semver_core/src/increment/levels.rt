@@ -11,7 +11,7 @@ ghost use Rattle.semver_core.specs.Internal.IncrementSteps as steps;
 
 use crate::increment::parts_ref::PartsRef;
 use crate::increment::pre_release::{
-    advance, first_number, is_replaced, new_list, put_identifier, unless_overflow,
+    advance, first_number, is_kept, is_replaced, new_list, unless_overflow,
 };
 use crate::increment::{IdentifierBase, IncrementError, one_more, refused_argument};
 use crate::version::lists::{Identifiers, Lists, Qualifier};
@@ -230,6 +230,8 @@ fn step(
         (spec.advance (ids_view list.old.items) id.now base)) }
 {
     advance(alloc, list, id, base)?;
-    put_identifier(alloc, list, id, base)?;
+    if !id.is_empty() && !is_kept(id, list) {
+        new_list(alloc, list, id, base)?;
+    }
     Ok(())
 }

@@ -38,23 +38,6 @@ pub(super) fn advance(
     }
 }
 
-// The fourth step: the list, or the one that the identifier begins.
-pub(super) fn put_identifier(
-    alloc: Global,
-    list: &mut Identifiers,
-    id: &str,
-    base: IdentifierBase,
-) -> Result<(), AllocError>
-    ensures { OnOk result (ids_view list.new.items
-        ≡ spec.identify id.now base (ids_view list.old.items)) }
-{
-    if id.is_empty() || is_kept(id, list) {
-        Ok(())
-    } else {
-        new_list(alloc, list, id, base)
-    }
-}
-
 // Whether the list that an identifier begins replaces this one, whatever the number at its end:
 // then it need not be copied first. It begins with another text, and each number can rise.
 pub(super) fn is_replaced(ids: &IdentifierRefs<'_>, id: &str, base: IdentifierBase) -> bool
@@ -200,7 +183,7 @@ pub(super) fn new_list(
 }
 
 // Whether the list begins with what the identifier matches, and then a number.
-fn is_kept(wanted: &str, list: &[Identifier]) -> bool
+pub(super) fn is_kept(wanted: &str, list: &[Identifier]) -> bool
     requires { 0 < length wanted.now }
     ensures { result ≡ spec.is_kept wanted.now (ids_view list.now) }
 {
