@@ -3,13 +3,12 @@
 use Rattle.semver_core.proofs.Common.{Bool, None, Option, Some, ap, arith, false, inl, inr, refl, subst, sym, true, ℕ, ◌||◌, ◌∙◌}
 use Rattle.semver_core.proofs.Common.{◌≡◌, and_parts, cases_Bool, tied_itself, is_le, Equal, Greater, Less, clip, Span}
 use Rattle.semver_core.proofs.Common.{greater_lower, is_interval, lesser_upper, meet, option_holds, remainders, is_some, not}
-use Rattle.semver_core.proofs.Common.{◌&&◌, upto, ordering_reverse, Ordering}
+use Rattle.semver_core.proofs.Common.{◌&&◌, upto, ordering_reverse, Ordering, cond_both}
 use Rattle.semver_core.specs.Cuts.{Cut, Start, Beside, End, cut_cmp, is_past, lower_cut, upper_cut, interval, holds, left_below}
 use Rattle.semver_core.specs.{Cuts.left_above, Internal.Sides.Near, declared.cuts.bound.Bound.Bound}
 use Rattle.{semver_core.specs.declared.cuts.bound.Bound.TheVariants.{Unbounded, Before, After}, std.proofs.Math.Bool.and_comm}
-use Rattle.std.{proofs.lemmas.Bool.cond_both, specs.Cmp.{IsTotalOrder, on_total, then_total, nat_cmp_total, bool_cmp_total}}
-use Rattle.std.specs.{Cmp.Lexicographic.options_total, Option.option_cmp, Ordering.{nat_cmp, is_lt, is_gt, on, then_cmp}}
-use Rattle.std.specs.Ordering.{bool_cmp}
+use Rattle.std.specs.Cmp.{IsTotalOrder, on_total, then_total, nat_cmp_total, bool_cmp_total, Lexicographic.options_total}
+use Rattle.std.specs.{Option.option_cmp, Ordering.{nat_cmp, is_lt, is_gt, on, then_cmp, bool_cmp}}
 
 -- what the tests of an answer say together
 pub tells : (r : Ordering) → (is_le r ≡ not (is_gt r))
@@ -29,8 +28,7 @@ none_of (Some x) h = cc
 
 pub lt_not_gt : (r : Ordering) → is_lt r ≡ true → is_gt r ≡ false
 lt_not_gt Less h = refl
-lt_not_gt Equal h = cc
-lt_not_gt Greater h = cc
+lt_not_gt r h = cc
 
 module _ {V : Type 0} {R : V → V → Ordering} (o : IsTotalOrder R) where
   -- a cut by its place among the three kinds, and then by its point and its side
@@ -48,14 +46,9 @@ module _ {V : Type 0} {R : V → V → Ordering} (o : IsTotalOrder R) where
 
   keyed : (c d : Cut V) → then_cmp (on rank nat_cmp) (on beside (option_cmp beside_cmp)) c d ≡ cut_cmp R c d
   keyed Start Start = refl
-  keyed Start (Beside w t) = refl
-  keyed Start End = refl
-  keyed (Beside v s) Start = refl
   keyed (Beside v s) (Beside w t) = refl
-  keyed (Beside v s) End = refl
-  keyed End Start = refl
-  keyed End (Beside w t) = refl
   keyed End End = refl
+  keyed c d = refl
 
   pub cut_total : IsTotalOrder (cut_cmp R)
   cut_total = subst IsTotalOrder (λ i c d. keyed c d i) (then_total (on_total rank nat_cmp_total) (on_total beside (options_total
@@ -134,15 +127,13 @@ module _ {V : Type 0} {R : V → V → Ordering} (o : IsTotalOrder R) where
   -- a bound turned round stands for the same cut, if there is something on the other side of it
   pub turned_lower : (b : Bound V) (a : Cut V) → lt a (lower_cut b) ≡ true → upper_cut b ≡ lower_cut b
   turned_lower Unbounded Start h = cc
-  turned_lower Unbounded (Beside v s) h = cc
-  turned_lower Unbounded End h = cc
+  turned_lower Unbounded a h = cc
   turned_lower (Before v) a h = refl
   turned_lower (After v) a h = refl
 
   pub turned_upper : (b : Bound V) (a : Cut V) → lt (upper_cut b) a ≡ true → lower_cut b ≡ upper_cut b
   turned_upper Unbounded Start h = cc
-  turned_upper Unbounded (Beside v s) h = cc
-  turned_upper Unbounded End h = cc
+  turned_upper Unbounded a h = cc
   turned_upper (Before v) a h = refl
   turned_upper (After v) a h = refl
 

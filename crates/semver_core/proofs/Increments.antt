@@ -1,5 +1,3 @@
 pub mod Laws
 pub mod LastNumber
-pub mod Differences
 pub mod Memory
-pub mod Replaced

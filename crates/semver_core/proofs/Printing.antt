@@ -1,3 +1,1 @@
-pub mod Prints
 pub mod Returns
-pub mod Reread

@@ -47,7 +47,7 @@ impl<'a> VersionRef<'a> {
     ///
     /// It requires that both texts spell lists, which `Identifier::is_list` tests.
     #[inline(always)]
-    #[tactic(auto, using(crate::proofs::Text::Zeros::listed_valid))]
+    #[tactic(auto, using(crate::proofs::Text::Listed::listed_valid))]
     pub fn from_texts(
         major: u64,
         minor: u64,

@@ -1,9 +1,7 @@
 // The kind of difference between two versions.
 
-ghost use Rattle.std.specs.Prelude.{◌≡◌, ◌↔◌, IsNone};
-ghost use Rattle.std.specs.declared.cmp.Ordering.TheVariants.{Equal};
-ghost use Rattle.semver_core.specs.Difference.{kind_between, kind_up};
-ghost use Rattle.semver_core.specs.Values.Order.{precedence};
+ghost use Rattle.std.specs.{Prelude.{◌≡◌, ◌↔◌, IsNone}, declared.cmp.Ordering.TheVariants.Equal};
+ghost use Rattle.semver_core.specs.{Difference.{kind_between, kind_up}, Values.Order.precedence};
 
 use crate::{Version, VersionRef, Versioned};
 use std::cmp::Ordering;
@@ -118,7 +116,7 @@ impl Version {
     /// let kind = Version::from((1u64, 2, 3)).diff(&beta);
     /// assert!(rt; kind == Some(VersionDiff::PreMinor));
     /// ```
-    #[tactic(auto, using(crate::proofs::Increments::Differences::difference_symmetric))]
+    #[tactic(auto, using(crate::proofs::Values::Compared::difference_symmetric))]
     pub fn diff(&self, other: &Version) -> Option<VersionDiff>
         ensures value { result ≡ kind_between self.now other.now }
         ensures none { IsNone result ↔ (precedence self.now other.now ≡ Equal) }
@@ -130,7 +128,7 @@ impl Version {
 
 impl<'a> VersionRef<'a> {
     /// The kind of difference between this version and another, as `Version::diff` returns it.
-    #[tactic(auto, using(crate::proofs::Increments::Differences::difference_symmetric))]
+    #[tactic(auto, using(crate::proofs::Values::Compared::difference_symmetric))]
     pub fn diff(&self, other: &VersionRef<'_>) -> Option<VersionDiff>
         ensures value { result ≡ kind_between self.now other.now }
         ensures none { IsNone result ↔ (precedence self.now other.now ≡ Equal) }

@@ -1,13 +1,11 @@
 // Increments: the next version by a word, as release tools ask for it.
 
-ghost use Rattle.std.specs.Prelude.{◌≡◌, ◌≢◌, Err, IfOk, OnErr, true};
-ghost use Rattle.std.specs.Option.{option_copied};
-ghost use Rattle.semver_core.specs.Failures.{MemoryOnlyIf};
-ghost use Rattle.semver_core.specs.Increments.Table as spec;
-ghost use Rattle.semver_core.specs.Increments.View.{Returns, fault_of};
+ghost use Rattle.std.specs.{Option.option_copied, Prelude.{◌≡◌, ◌≢◌, Err, IfOk, OnErr, true}};
+ghost use Rattle.semver_core.specs.{Failures.MemoryOnlyIf, Increments.View.{Returns, fault_of}};
 ghost use Rattle.semver_core.specs.Internal.IncrementSteps.{MayAllocate, RefusedWith};
 ghost use Rattle.semver_core.specs.Internal.IncrementSteps.{parts_ref_value};
 ghost use Rattle.semver_core.specs.Values.Versions.{HasIdentifiers};
+ghost use Rattle.semver_core.specs.Increments.Table as spec;
 
 use crate::increment::levels::by_word;
 use crate::increment::parts_ref::PartsRef;

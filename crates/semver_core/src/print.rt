@@ -1,7 +1,6 @@
 // How identifiers and versions print.
 
-ghost use Rattle.std.specs.Fmt.{DisplaysStyledOnOk, decimal};
-ghost use Rattle.std.specs.Prelude.{◌++◌, ◌∷◌, [], Some};
+ghost use Rattle.std.specs.{Fmt.{DisplaysStyledOnOk, decimal}, Prelude.{◌++◌, ◌∷◌, [], Some}};
 ghost use Rattle.semver_core.specs.Printing.Text.{id_text, marked_list, version_text};
 ghost use Rattle.semver_core.specs.Values.Views.{id_view};
 

@@ -4,24 +4,18 @@
 //! A call on a `&str` takes a place in it, a byte index. A call on a `&[u8]` reads at the front of
 //! the bytes, save `number_in`, which takes a place.
 
-ghost use Rattle.std.specs.Prelude.{◌≡◌, ◌≤◌, ◌==◌, ◌+◌, ◌-◌, ◌*◌, ◌<◌, if◌then◌else◌};
-ghost use Rattle.std.specs.Prelude.{ℕ, List, [], length};
-ghost use Rattle.std.specs.Prelude.{drop, take, IfOk, IfSome, IfNone, OnErr, OnOk, IsCharBoundary};
-ghost use Rattle.std.specs.Prelude.{IsUtf8, Ok, None, Some, false, true};
-ghost use Rattle.std.specs.Char.{is_ascii_digit};
-ghost use Rattle.std.specs.List.{prefix_len};
+ghost use Rattle.std.specs.{Char.is_ascii_digit, List.prefix_len, Prelude.{◌≡◌, ◌≤◌, ◌==◌, ◌+◌}};
+ghost use Rattle.std.specs.{Prelude.{None, Some, false, true}, Str.Lossy.utf8_valid_len};
+ghost use Rattle.std.specs.Prelude.{◌-◌, ◌*◌, ◌<◌, if◌then◌else◌, ℕ, List, [], length, drop, take};
+ghost use Rattle.std.specs.Prelude.{IfOk, IfSome, IfNone, OnErr, OnOk, IsCharBoundary, IsUtf8, Ok};
+ghost use Rattle.semver_core.specs.Internal.{Reading.placed, Spaces.drop_end_spaces};
 ghost use Rattle.semver_core.specs.Internal.CommonReading.{grown, run_from, number_of_run};
-ghost use Rattle.semver_core.specs.Text.Characters.{is_identifier_char, is_whitespace, begins};
-ghost use Rattle.semver_core.specs.Text.Characters.{IsAfterBlank, IsPieceAt, NoPieceAt};
-ghost use Rattle.semver_core.specs.Text.Identifiers.{Id, identifier_of, goes_on, is_listed, listed};
-ghost use Rattle.semver_core.specs.Text.Identifiers.{IsLongestIdentifiers};
-ghost use Rattle.semver_core.specs.Text.Numbers.{IsWholeNumber};
 ghost use Rattle.semver_core.specs.Internal.Reading.{digits_end, digits_from, list_at, number_at};
-ghost use Rattle.semver_core.specs.Internal.Reading.{placed};
+ghost use Rattle.semver_core.specs.Text.{Identifiers.IsLongestIdentifiers, Numbers.IsWholeNumber};
+ghost use Rattle.semver_core.specs.Text.Characters.{is_identifier_char, is_whitespace, begins};
+ghost use Rattle.semver_core.specs.Text.Characters.{IsAfterBlank, IsPieceAt, NoPieceAt, IsTrim};
+ghost use Rattle.semver_core.specs.Text.Identifiers.{Id, identifier_of, goes_on, is_listed, listed};
 ghost use Rattle.semver_core.specs.Values.Views.{id_view, ids_view};
-ghost use Rattle.semver_core.specs.Text.Characters.{IsTrim};
-ghost use Rattle.semver_core.specs.Internal.Spaces.{drop_end_spaces};
-ghost use Rattle.std.specs.Str.Lossy.{utf8_valid_len};
 
 use crate::version::lists::Identifiers;
 use crate::{Identifier, MAX_SAFE_INTEGER};
@@ -30,7 +24,7 @@ use std::alloc::{AllocError, Global};
 
 /// Returns the longest text at the front of some bytes, which is all of them where they are UTF-8:
 /// of the bytes `31 FF` it is `1`.
-#[tactic(auto, using(crate::proofs::Text::TextFront::text_fronts))]
+#[tactic(auto, using(crate::proofs::Text::Blanks::text_fronts))]
 pub fn text_front(bytes: &[u8]) -> &str
     ensures longest { result.now ≡ take (utf8_valid_len bytes.now) bytes.now }
     ensures whole { IsUtf8 bytes.now → result.now ≡ bytes.now }
@@ -279,7 +273,7 @@ pub(crate) fn goes_on_at(text: &str, at: usize) -> bool
 // The number that digits write so far, with one byte more: none where a byte is no digit, or the
 // number does not fit.
 #[inline(always)]
-#[tactic(auto, using(crate::proofs::Text::OnePass::grown_either))]
+#[tactic(auto, using(crate::proofs::Text::Digits::grown_either))]
 fn grown(value: u64, byte: u8) -> Option<u64>
     ensures { result ≡ grown (Some value) byte }
 {
@@ -291,7 +285,7 @@ fn grown(value: u64, byte: u8) -> Option<u64>
 
 // Where the run ends that goes on at a place.
 #[inline(always)]
-#[tactic(auto, using(crate::proofs::Text::OnePass::run_ends))]
+#[tactic(auto, using(crate::proofs::Text::Digits::run_ends))]
 pub(crate) fn run_end(bytes: &[u8], start: usize) -> usize
     requires { start ≤ length bytes.now }
     ensures { (result, None) ≡ run_from None start (drop start bytes.now) }
@@ -306,7 +300,7 @@ pub(crate) fn run_end(bytes: &[u8], start: usize) -> usize
 
 // Where the run at a place ends, and the number that it writes, in one pass.
 #[inline(always)]
-#[tactic(auto, using(crate::proofs::Text::OnePass::run_ends))]
+#[tactic(auto, using(crate::proofs::Text::Digits::run_ends))]
 pub(crate) fn scan_run(bytes: &[u8], start: usize) -> (usize, Option<u64>)
     requires { start ≤ length bytes.now }
     ensures { result ≡ run_from (Some 0) start (drop start bytes.now) }

@@ -1,12 +1,13 @@
 -- The last number of a list.
-use Rattle.semver_core.proofs.Common.{Fault, advance, has_numeric, one_more, raise_last, list_text, is_empty, id_text}
+use Rattle.semver_core.proofs.Common.{not-true, Fault, advance, has_numeric, one_more, raise_last, list_text, is_empty, id_text}
 use Rattle.semver_core.proofs.Common.{AlphaNumeric, Id, Numeric, id_cmp, id_view, ids_view, Identifier, IdentifierBase, Bool}
 use Rattle.semver_core.proofs.Common.{List, None, Option, Some, [], ap, append_assoc, arith, drop, false, get_or, inl, inr}
 use Rattle.semver_core.proofs.Common.{length, refl, sym, take, true, ℕ, ◌++◌, ◌+◌, ◌-◌, ◌<◌, ◌∙◌, ◌∷◌, ◌≡◌, ◌≤◌, nat_tests}
 use Rattle.semver_core.proofs.Common.{cases_lt, is_ascii_digit, tied_itself, list_all, ◌==◌, Err, Ok, Result, digits_value}
 use Rattle.semver_core.proofs.Common.{bytes_eq, Overflow, is_kept, ◌>>=◌, Tracks, id_total, if◌then◌else◌, set, suc, zero, ◌^◌}
-use Rattle.semver_core.proofs.Common.{take-append_seam, length-map, take_all}
-use Rattle.semver_core.specs.{Increments.Table.asked, Internal.IncrementSteps.IsLastNumber, Internal.OrderLaws.id_same}
+use Rattle.semver_core.proofs.Common.{take-append_seam, length-map, take_all, and_parts, cases_Bool, first_number, is_false}
+use Rattle.semver_core.proofs.Common.{can_rise, stepped, not}
+use Rattle.semver_core.specs.{Increments.Table.asked, Internal.IncrementSteps.{IsLastNumber, begun}, Internal.OrderLaws.id_same}
 use Rattle.std.proofs.lemmas.{Grind.common_steps, List.{length-set, take_more}, Map.Text.is_eq-slice_cmp, Str.Parse.parse_digits}
 use Rattle.std.specs.{Cmp.Equal-is, List.refill, Ordering.is_eq, Prelude.{◌↔◌, IsTrue}, Result.MatchResult}
 use Rattle.{std.specs.Str.Parse.ParsesUnsigned, semver_core.proofs.Text.Runs.{ids_view_push, numerals}}
@@ -183,3 +184,41 @@ pub advance_at : (list : List Id) (id : List ℕ) (base : IdentifierBase) (i n :
 advance_at list id base i n last = by_raise list id base (number_there list i n last) ∙ raise_at list i n last
 
 pub ruleset tracked = (tracks_number, tracks_text, tracks_whole)
+
+-- ---- A list that the identifier of `inc` replaces, whatever the number at its end.
+
+-- a list of which no number is the largest one rises
+rises : (xs : List Id) → can_rise xs ≡ true → (ys : List Id) × (raise_last xs ≡ Ok ys)
+rises [] h = ([], refl)
+rises (AlphaNumeric text ∷ xs) h =
+    let r = rises xs h in
+    (AlphaNumeric text ∷ r.0, rw r.1 refl)
+rises (Numeric n ∷ xs) h =
+    let both = and_parts (not (n == 2 ^ 64 - 1)) (can_rise xs) h in
+    elim (cases_Bool (has_numeric xs)) [
+      | inl more ↦ let r = rises xs both.1 in (Numeric n ∷ r.0, rw (more, r.1) refl)
+      | inr last ↦ (Numeric (n + 1) ∷ xs, rw (last, not-true (n == 2 ^ 64 - 1) both.0) refl)
+    ]
+
+-- what the first half of the pre step makes of it still begins with the same text
+advances : (text : List ℕ) (xs : List Id) (id : List ℕ) (base : IdentifierBase) → is_false base ≡ false → can_rise xs ≡ true
+    → (ys : List Id) × (advance (AlphaNumeric text ∷ xs) id base ≡ Ok (AlphaNumeric text ∷ ys))
+advances text xs id base some h = elim (cases_Bool (has_numeric xs)) [
+  | inl more ↦ let r = rises xs h in (r.0, rw (more, r.1) refl)
+  | inr none ↦ (xs ++ Numeric (first_number base) ∷ [], rw (none, some) refl)
+]
+
+-- another text is not kept
+other : (text id : List ℕ) (ys : List Id) → bytes_eq text id ≡ false → is_kept id (AlphaNumeric text ∷ ys) ≡ false
+other text id [] differs = refl
+other text id (AlphaNumeric second ∷ ys) differs = refl
+other text id (Numeric n ∷ ys) differs = elim (cases_Bool (list_all is_ascii_digit id)) [
+  | inl digits ↦ asked_digits id text digits
+  | inr word ↦ asked_text id text word ∙ differs
+]
+
+pub text_replaced : (text : List ℕ) (xs list : List Id) (id : List ℕ) (base : IdentifierBase) → is_empty id ≡ false → is_false base ≡ false
+    → bytes_eq text id ≡ false → can_rise xs ≡ true → list ≡ AlphaNumeric text ∷ xs → stepped list id base ≡ Ok (begun id base)
+text_replaced text xs list id base some numbered differs h e =
+    let a = advances text xs id base numbered h in
+    rw (e, a.1, some, other text id a.0 differs) refl

@@ -4,10 +4,10 @@ use Rattle.semver_core.proofs.Common.{Numeric, id_cmp, VersionValue, IsId, Ident
 use Rattle.semver_core.proofs.Common.{length, refl, subst, true, ℕ, ◌++◌, ◌+◌, ◌-◌, ◌<◌, ◌∙◌, ◌∷◌, ◌≡◌, ◌≤◌, nat_tests, and_parts}
 use Rattle.semver_core.proofs.Common.{slice_cmp, tied_itself, ◌==◌, Err, Ok, Result, ⊤, bytes_eq, Less, IsLeastOrOverflow}
 use Rattle.semver_core.proofs.Common.{IsLeastVersion, InvalidIncrementArgument, Overflow, first_number, identify, is_false}
-use Rattle.semver_core.proofs.Common.{pre_step, ◌>>=◌, incremented, id_total, Below, above_patch, above_pre, below_cases}
-use Rattle.semver_core.proofs.Common.{below_more, by_major, by_minor, by_patch, by_pre, empty_not_below, upto_patch, zero_least}
-use Rattle.semver_core.proofs.Common.{pre_cmp, IsVersion, Value, IsOkAnd, codes, if◌then◌else◌, nat_eq, not, ◌&&◌, ◌^◌, All-cons}
-use Rattle.semver_core.proofs.Common.{All-nil, ordering_then}
+use Rattle.semver_core.proofs.Common.{not-true, pre_step, ◌>>=◌, incremented, id_total, Below, above_patch, above_pre}
+use Rattle.semver_core.proofs.Common.{below_cases, below_more, by_major, by_minor, by_patch, by_pre, empty_not_below, upto_patch}
+use Rattle.semver_core.proofs.Common.{zero_least, pre_cmp, IsVersion, Value, IsOkAnd, codes, if◌then◌else◌, nat_eq, not, ◌&&◌}
+use Rattle.semver_core.proofs.Common.{◌^◌, All-cons, All-nil, ordering_then}
 use Rattle.semver_core.specs.Increments.Table.{checked, by_word, next_major, next_minor, next_patch, release_of}
 use Rattle.semver_core.specs.{Internal.Successors.{less_first, above_major, above_minor}, Values.Versions.is_release}
 use Rattle.{std.proofs.lemmas.Slice.Eq.bytes_eq-Decides, std.specs.List.starts_with, semver_core.proofs.Values.NextLaws.IsAbove}
@@ -31,10 +31,6 @@ none_left (x ∷ xs) h = cc
 filled : (xs : List Id) → is_empty xs ≡ false → 0 < length xs
 filled [] h = cc
 filled (x ∷ xs) h = omega arith
-
-some_left : (xs : List Id) → not (is_empty xs) ≡ true → is_empty xs ≡ false
-some_left [] h = cc
-some_left (x ∷ xs) h = refl
 
 -- where a test of a number and of a pre-release fails
 none_else : (n : ℕ) (t : Bool) → (n == 0 && t) ≡ false → n ≡ 0 → t ≡ false
@@ -121,7 +117,7 @@ module _ (v : VersionValue) (id : List ℕ) (base : IdentifierBase) (k : IsVersi
       (λ h. let both = and_parts (v.patch == 0) (not (is_release v)) h in
       let zero : v.patch ≡ 0 = grind (arith, nat_tests, both.0) in
       least_release (IsNextMinor v) (release_of v) refl (is_released v.major v.minor v.patch k.major k.minor k.patch)
-      (release_up v (some_left v.pre_release both.1), refl, refl, zero)
+      (release_up v (not-true (is_release v) both.1), refl, refl, zero)
       (λ w t. (t.1, omega (arith, t.2), (bounds w t.0).1 t.2, omega (arith, zero))))
       (λ h. by_one (IsLeastOrOverflow (IsNextMinor v)) v.minor (λ n. Ok (record v { minor = n; patch = 0; pre_release = [] }))
       (λ e w good t. let p = past h w t in omega (arith, good.minor))
@@ -146,7 +142,7 @@ module _ (v : VersionValue) (id : List ℕ) (base : IdentifierBase) (k : IsVersi
       let minor : v.minor ≡ 0 = grind (arith, nat_tests, first.0) in
       let patch : v.patch ≡ 0 = grind (arith, nat_tests, both.0) in
       least_release (IsNextMajor v) (release_of v) refl (is_released v.major v.minor v.patch k.major k.minor k.patch)
-      (release_up v (some_left v.pre_release both.1), refl, minor, patch)
+      (release_up v (not-true (is_release v) both.1), refl, minor, patch)
       (λ w t. (t.1, (bounds w t.0).0, omega (arith, minor), omega (arith, patch))))
       (λ h. by_one (IsLeastOrOverflow (IsNextMajor v)) v.major
       (λ n. Ok (record v { major = n; minor = 0; patch = 0; pre_release = [] }))
@@ -306,11 +302,11 @@ module _ (v : VersionValue) (id : List ℕ) (base : IdentifierBase) (Up : Type 0
   word_rises word bare some =
       let P = Rises v Up in
       pick P (bytes_eq word (codes "major")) _ _ (λ h. pick P (v.minor == 0 && (v.patch == 0 && not (is_release v))) _ _
-      (λ t. released (some_left v.pre_release
+      (λ t. released (not-true (is_release v)
       (and_parts (v.patch == 0) (not (is_release v)) (and_parts (v.minor == 0) (v.patch == 0 && not (is_release v)) t).1).1))
       (λ t. major.0)) (λ h.
       pick P (bytes_eq word (codes "minor")) _ _ (λ h. pick P (v.patch == 0 && not (is_release v)) _ _
-      (λ t. released (some_left v.pre_release (and_parts (v.patch == 0) (not (is_release v)) t).1)) (λ t. minor.0)) (λ h.
+      (λ t. released (not-true (is_release v) (and_parts (v.patch == 0) (not (is_release v)) t).1)) (λ t. minor.0)) (λ h.
       pick P (bytes_eq word (codes "patch")) _ _ (λ h. pick P (is_release v) _ _ (λ t. patch.0) released) (λ h.
       pick P (bytes_eq word (codes "premajor")) _ _ (λ h. major.1) (λ h.
       pick P (bytes_eq word (codes "preminor")) _ _ (λ h. minor.1) (λ h.

@@ -5,10 +5,13 @@ use Rattle.semver_core.proofs.Common.{ap, append-nil, arith, eqb, false, length,
 use Rattle.semver_core.proofs.Common.{◌∷◌, ◌≡◌, ◌≤◌, nat_tests, and_parts, lt-ltb, is_ascii_digit, first_so, second_so, All}
 use Rattle.semver_core.proofs.Common.{list_all, ◌==◌, digits_value, is_normal, marked_list, version_text, is_u64_text, IsBuild}
 use Rattle.semver_core.proofs.Common.{IsPreRelease, dashed, no_build, no_pre_release, plus, map, not, suc, zero, ◌^◌, not-true}
-use Rattle.semver_core.proofs.Common.{slice_split_at, slice_split_none, decimal, join_with_byte, ltb-true}
+use Rattle.semver_core.proofs.Common.{slice_split_at, slice_split_none, decimal, join_with_byte, ltb-true, NoValue, Err, Ok}
+use Rattle.semver_core.proofs.Common.{Result, RefusedOnlyIf, Parses, Failure, Memory, Refused, IfOk, append_assoc, ◌*◌, ◌+◌}
+use Rattle.semver_core.proofs.Common.{codes, digits}
 use Rattle.semver_core.specs.{Internal.Readable.{IsReadable, readable}, Printing.RoundTrip.is_readable}
 use Rattle.{semver_core.specs.Text.Identifiers.IsIdentifiers, std.proofs.lemmas.Fmt.{decimal_is_IsNumeral, digits_decimal}}
-use Rattle.{std.proofs.lemmas.Fmt.digits_value-decimal, semver_core.proofs.Text.Runs.{not_dot, of_digits, numerals}}
+use Rattle.{std.proofs.lemmas.Fmt.digits_value-decimal, std.specs.List.slice_range, semver_core.proofs.Text.Runs.not_dot}
+use Rattle.semver_core.proofs.Text.Runs.{all_more, of_digits, numerals}
 
 -- ---- one identifier
 
@@ -16,9 +19,7 @@ digit_char : (c : ℕ) → is_ascii_digit c ≡ true → is_identifier_char c �
 digit_char c h = grind (arith, nat_tests)
 
 digits_chars : (ds : List ℕ) → list_all is_ascii_digit ds ≡ true → list_all is_identifier_char ds ≡ true
-digits_chars [] h = refl
-digits_chars (c ∷ ds) h =
-    rw (digit_char c (first_so (is_ascii_digit c) (list_all is_ascii_digit ds) h), digits_chars ds (second_so (is_ascii_digit c) (list_all is_ascii_digit ds) h)) refl
+digits_chars ds h = all_more is_ascii_digit is_identifier_char ds digit_char h
 
 pub decimal_digits : (n : ℕ) → n < 2 ^ 64 → list_all is_ascii_digit (decimal n) ≡ true
 decimal_digits n small = digits_decimal numerals n small
@@ -86,18 +87,14 @@ pub build_back : (ids : List Id) → list_all is_normal ids ≡ true → IsBuild
 build_back [] h = no_build [] refl
 build_back (id ∷ ids) h = plus _ [] (id ∷ ids) (record { identifiers = joined_is id ids h; ended = refl })
 
--- no identifier list goes on with what a build begins with
-build_stops : (ids : List Id) → goes_on (marked_list (43 ∷ []) ids ++ []) ≡ false
-build_stops [] = refl
-build_stops (id ∷ ids) = refl
-
-build_no_pre : (ids : List Id) → begins_pre_release (marked_list (43 ∷ []) ids ++ []) ≡ false
-build_no_pre [] = refl
-build_no_pre (id ∷ ids) = refl
+-- no identifier list goes on with what a build begins with, and no pre-release begins so
+build_stops : (ids : List Id) → (goes_on (marked_list (43 ∷ []) ids ++ []) ≡ false) × (begins_pre_release (marked_list (43 ∷ []) ids ++ []) ≡ false)
+build_stops [] = (refl, refl)
+build_stops (id ∷ ids) = (refl, refl)
 
 pub pre_back : (ids builds : List Id) → list_all is_normal ids ≡ true → IsPreRelease (marked_list (45 ∷ []) ids) (marked_list (43 ∷ []) builds ++ []) ids
-pre_back [] builds h = no_pre_release (marked_list (43 ∷ []) builds ++ []) (build_no_pre builds)
-pre_back (id ∷ ids) builds h = dashed _ (marked_list (43 ∷ []) builds ++ []) (id ∷ ids) (record { identifiers = joined_is id ids h; ended = build_stops builds })
+pre_back [] builds h = no_pre_release (marked_list (43 ∷ []) builds ++ []) (build_stops builds).1
+pre_back (id ∷ ids) builds h = dashed _ (marked_list (43 ∷ []) builds ++ []) (id ∷ ids) (record { identifiers = joined_is id ids h; ended = (build_stops builds).0 })
 
 no_digit : (ids builds : List Id) → begins is_ascii_digit (marked_list (45 ∷ []) ids ++ (marked_list (43 ∷ []) builds ++ [])) ≡ false
 no_digit [] [] = refl
@@ -133,3 +130,47 @@ version_back limit v max h = record {
 -- what comes back from a printed version
 pub printed_back : (limit : ℕ) (text : List ℕ) (v : VersionValue) → limit < 2 ^ 64 → text ≡ version_text v → is_readable limit v ≡ true → Reads limit text v
 printed_back limit text v max e h = subst (λ (t : List ℕ). Reads limit t v) (sym e) (version_back limit v max (readable limit v h))
+
+-- ---- Serves proofs: a version that is printed and parsed.
+
+pub reread_same : {E : Type 0} (limit : ℕ) (text : List ℕ) (r : Result VersionValue E) (v : VersionValue)
+    → ((w : VersionValue) → Reads limit text w → w ≡ v)
+    → IfOk r (λ w. Parses limit text w) → IfOk r (λ w. w ≡ v)
+reread_same limit text (Ok w) v only p = only w p.reads
+reread_same limit text (Err x) v only p = tt
+
+pub reread_read : {E : Type 0} (limit : ℕ) (text : List ℕ) (r : Result VersionValue (Failure E)) (v : VersionValue)
+    → Parses limit text v
+    → RefusedOnlyIf {A = VersionValue} {E = E} r (NoValue (Parses limit text)) → RefusedOnlyIf {A = VersionValue} {E = E} r ⊥
+reread_read limit text (Ok w) v h p = tt
+reread_read limit text (Err (Refused x)) v h p = p v h
+reread_read limit text (Err (Memory x)) v h p = tt
+
+-- ---- Serves proofs: what a loop over identifiers has written.
+
+-- a marked list is its first identifier, and the others with a dot before each
+pub marked_first : (mark : List ℕ) (x : Id) (xs : List Id) → mark ++ (id_text x ++ marked_list (46 ∷ []) xs) ≡ marked_list mark (x ∷ xs)
+marked_first mark x [] = ap (λ l. mark ++ l) (append-nil (id_text x))
+marked_first mark x (y ∷ ys) = refl
+
+-- after one more identifier of the list, and the mark before it
+pub marked_step : (so_far all mark : List ℕ) (ids rest : List Id) (x : Id) → ids ≡ x ∷ rest → so_far ++ marked_list mark ids ≡ all
+    → (so_far ++ (mark ++ id_text x)) ++ marked_list (46 ∷ []) rest ≡ all
+marked_step so_far all mark ids rest x e h = append_assoc so_far (mark ++ id_text x) (marked_list (46 ∷ []) rest)
+    ∙ ap (λ l. so_far ++ l) (append_assoc mark (id_text x) (marked_list (46 ∷ []) rest) ∙ marked_first mark x rest) ∙ rw e at h
+
+-- the digits below ten, each at its own place, without the dot behind it and with it
+pub digit_text : (n : ℕ) → n < 10 → (slice_range (codes "0.1.2.3.4.5.6.7.8.9.") (2 * n) (2 * n + 1) ≡ decimal n)
+    × (slice_range (codes "0.1.2.3.4.5.6.7.8.9.") (2 * n) (2 * n + 2) ≡ decimal n ++ 46 ∷ [])
+unfolding digits
+digit_text zero h = (refl, refl)
+digit_text (suc zero) h = (refl, refl)
+digit_text (suc (suc zero)) h = (refl, refl)
+digit_text (suc (suc (suc zero))) h = (refl, refl)
+digit_text (suc (suc (suc (suc zero)))) h = (refl, refl)
+digit_text (suc (suc (suc (suc (suc zero))))) h = (refl, refl)
+digit_text (suc (suc (suc (suc (suc (suc zero)))))) h = (refl, refl)
+digit_text (suc (suc (suc (suc (suc (suc (suc zero))))))) h = (refl, refl)
+digit_text (suc (suc (suc (suc (suc (suc (suc (suc zero)))))))) h = (refl, refl)
+digit_text (suc (suc (suc (suc (suc (suc (suc (suc (suc zero))))))))) h = (refl, refl)
+digit_text (suc (suc (suc (suc (suc (suc (suc (suc (suc (suc n)))))))))) h = absurd (omega (arith, h))

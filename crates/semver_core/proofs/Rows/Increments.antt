@@ -1,8 +1,7 @@
 -- Rows of the table of `inc`, computed. Some ten rows are one equation.
 use Rattle.semver_core.proofs.Common.{Fault, AlphaNumeric, Id, Numeric, VersionValue, IdentifierBase, List, [], refl, ℕ, ◌++◌}
 use Rattle.semver_core.proofs.Common.{◌-◌, ◌∷◌, ◌≡◌, Err, Ok, Result, InvalidIdentifier, InvalidIncrementArgument, NotAPrerelease}
-use Rattle.semver_core.proofs.Common.{Overflow, incremented, release_value, Value, codes, map, ◌^◌, digits}
-use Rattle.semver_core.specs.declared.increment.IdentifierBase.TheVariants.{False}
+use Rattle.semver_core.proofs.Common.{Overflow, incremented, release_value, Value, codes, map, ◌^◌, digits, False}
 
 abbrev version : ℕ → ℕ → ℕ → List Id → VersionValue
 version a b c list = record (release_value a b c) { pre_release = list }

@@ -3,8 +3,9 @@ use Rattle.semver_core.proofs.Common.{BeginsBlank, IsAfterBlank, IsBlank, is_whi
 use Rattle.semver_core.proofs.Common.{false, length, refl, sym, take, true, ℕ, ◌++◌, ◌+◌, ◌-◌, ◌∙◌, ◌∷◌, ◌≡◌, ◌≤◌, drop-drop}
 use Rattle.semver_core.proofs.Common.{length-drop, len_utf8, encode_utf8, list_all, IsCharBoundary, IsUtf8, encode_utf8_all}
 use Rattle.semver_core.proofs.Common.{slice_range, take-add, drop_at, take_at, list_all-append, IsUtf8-drop, encode_same}
-use Rattle.semver_core.proofs.Common.{encodes-append, len_utf8_bounds, length-encode}
-use Rattle.std.proofs.{Common.length-append, lemmas.Str.IsCharBoundary-past_char}
+use Rattle.semver_core.proofs.Common.{encodes-append, len_utf8_bounds, length-encode, take_all}
+use Rattle.std.proofs.{Common.length-append, lemmas.Str.{IsCharBoundary-past_char, utf8_valid_len-IsUtf8}}
+use Rattle.std.specs.Str.Lossy.{utf8_valid_len}
 use mathlib.Core.Bool.{true≢false}
 
 -- how far whitespace has been passed
@@ -61,3 +62,21 @@ passed_end text at end rest passed p none = after_passed text at end rest passed
     absurd (omega (arith, none, ap length (p.rest_is ∙ b.spelled), size, length-encode b.character, some)))
 
 pub ruleset passing = (passed_none, passed_more, passed_room, passed_stop, passed_end)
+
+-- ---- The longest front of some bytes that is a text.
+
+pub no_front : (bytes : List ℕ) → length bytes ≡ 0 → [] ≡ take (utf8_valid_len bytes) bytes
+unfolding utf8_valid_len
+no_front [] e = refl
+no_front (x ∷ xs) e = absurd (omega (arith, e))
+
+pub front_is : (bytes valid invalid rest : List ℕ) → bytes ≡ valid ++ (invalid ++ rest) → length valid ≡ utf8_valid_len bytes
+    → valid ≡ take (utf8_valid_len bytes) bytes
+front_is bytes valid invalid rest parts size =
+    sym (ap (take (utf8_valid_len bytes)) parts ∙ take_at valid (invalid ++ rest) (utf8_valid_len bytes) size)
+
+pub front_is_all : (bytes front : List ℕ) → front ≡ take (utf8_valid_len bytes) bytes → IsUtf8 bytes → front ≡ bytes
+front_is_all bytes front e u =
+    e ∙ ap (λ n. take n bytes) (utf8_valid_len-IsUtf8 bytes u) ∙ take_all (length bytes) bytes (omega arith)
+
+pub ruleset text_fronts = (no_front, front_is, front_is_all)

@@ -1,19 +1,16 @@
 -- What a loop over digits reads, step by step.
 use Rattle.semver_core.proofs.Common.{List, None, Some, add-one, arith, drop, false, get_or, length, ltb, refl, true, ℕ, ◌*◌, ◌+◌}
 use Rattle.semver_core.proofs.Common.{◌-◌, ◌<◌, ◌≡◌, ◌≤◌, drop-cons, nat_tests, drop_all, digit_value, is_ascii_digit, ◌==◌}
-use Rattle.semver_core.proofs.Common.{digits_end, digits_from, placed, if◌then◌else◌}
-use Rattle.std.proofs.lemmas.Str.{digit_value_digit}
+use Rattle.semver_core.proofs.Common.{digits_end, digits_from, placed, if◌then◌else◌, begins, Bool, inl, inr, cases_lt, take_rest}
+use Rattle.semver_core.proofs.Common.{IsWholeNumber, Option, sym, number_at, IsPieceAt, IfSome, IfNone, is_identifier_char}
+use Rattle.semver_core.proofs.Common.{AlphaNumeric, Numeric, identifier_of, [], add_comm, ap, take, ◌∙◌, ◌∷◌, cases_Bool}
+use Rattle.semver_core.proofs.Common.{length-drop, first_so, second_so, list_all, prefix_len, digits_value, number_of_run}
+use Rattle.semver_core.proofs.Common.{run_from, add-zero, ◌^◌, prefix_len-le-length, digits_value_after, ltb-true}
+use Rattle.semver_core.specs.{Internal.CommonReading.{grown, id_by}, Text.Characters.NoPieceAt}
+use Rattle.{std.proofs.lemmas.Str.digit_value_digit, semver_core.proofs.Text.Pieces.{number_sound, number_complete, digits_grow}}
 
 pub digit_value-is : (c : ℕ) → is_ascii_digit c ≡ true → digit_value c ≡ c - 48
 digit_value-is c h = let e = digit_value_digit c (grind (arith, nat_tests)) in omega arith
-
-pub digits_step : (limit : ℕ) (v at : ℕ) (xs : List ℕ) (i : ℕ) → at ≤ i → i < length xs → is_ascii_digit (get_or xs i 0) ≡ true → v * 10 + (get_or xs i 0 - 48) ≤ limit
-    → digits_from limit v (i - at) (drop i xs) ≡ digits_from limit (v * 10 + (get_or xs i 0 - 48)) (i + 1 - at) (drop (i + 1) xs)
-unfolding digits_from
-digits_step limit v at xs i le lt d small =
-    let count : i + 1 - at ≡ i - at + 1 = omega arith in
-    let fits : ltb limit (v * 10 + (get_or xs i 0 - 48)) ≡ false = grind (arith, nat_tests) in
-    rw (count, drop-cons xs i 0, add-one i, d, digit_value-is (get_or xs i 0) d, fits) refl
 
 pub digits_over : (limit : ℕ) (v k : ℕ) (xs : List ℕ) (i : ℕ) → i < length xs → is_ascii_digit (get_or xs i 0) ≡ true → limit < v * 10 + (get_or xs i 0 - 48)
     → digits_from limit v k (drop i xs) ≡ None
@@ -41,6 +38,150 @@ digits_one_more limit v k xs i lt d small =
     let fits : ltb limit (v * 10 + (get_or xs i 0 - 48)) ≡ false = grind (arith, nat_tests) in
     rw (drop-cons xs i 0, add-one i, d, digit_value-is (get_or xs i 0) d, fits) refl
 
+pub digits_step : (limit : ℕ) (v at : ℕ) (xs : List ℕ) (i : ℕ) → at ≤ i → i < length xs → is_ascii_digit (get_or xs i 0) ≡ true → v * 10 + (get_or xs i 0 - 48) ≤ limit
+    → digits_from limit v (i - at) (drop i xs) ≡ digits_from limit (v * 10 + (get_or xs i 0 - 48)) (i + 1 - at) (drop (i + 1) xs)
+digits_step limit v at xs i le lt d small =
+    let count : i + 1 - at ≡ i - at + 1 = omega arith in rw count (digits_one_more limit v (i - at) xs i lt d small)
+
 pub ruleset digits_one = (digits_one_more, digits_stop, digits_past)
 
 pub ruleset digits_read = (digits_step, digits_over, digits_stop, digits_past, digits_placed)
+
+-- ---- Places in a text.
+
+pub begins_before_end : (test : ℕ → Bool) (text : List ℕ) (at : ℕ) → begins test (drop at text) ≡ true → at < length text
+begins_before_end test text at h = elim (cases_lt at (length text)) [
+  | inl inside ↦ inside
+  | inr past ↦ cc (rw (drop_all at text past) at h)
+]
+
+pub ruleset places = (begins_before_end, take_rest)
+
+-- ---- The clauses of the calls that read a piece, from what they compute.
+
+pub number_found : (limit : ℕ) (text : List ℕ) (at : ℕ) (r : Option (ℕ × ℕ)) → r ≡ number_at limit text at
+    → IfSome r (λ found. IsPieceAt (λ digits rest. IsWholeNumber limit digits rest found.0) text at found.1)
+number_found limit text at None e = tt
+number_found limit text at (Some found) e =
+    let s = number_sound limit text at found.0 found.1 (sym e) in
+    record { piece = s.0; divided = s.1; is = s.2 }
+
+pub number_none : (limit : ℕ) (text : List ℕ) (at : ℕ) (r : Option (ℕ × ℕ)) → r ≡ number_at limit text at
+    → IfNone r ((n : ℕ) → NoPieceAt (λ digits rest. IsWholeNumber limit digits rest n) text at)
+number_none limit text at None e = λ n digits rest d w. cc (e, (number_complete limit text at n digits rest d w).0)
+number_none limit text at (Some found) e = tt
+
+-- ---- A run that is read in one pass.
+
+-- the loop
+pub run_step : (n : Option ℕ) (xs : List ℕ) (i : ℕ) → i < length xs → is_identifier_char (get_or xs i 0) ≡ true
+    → run_from n i (drop i xs) ≡ run_from (grown n (get_or xs i 0)) (i + 1) (drop (i + 1) xs)
+unfolding run_from
+run_step n xs i lt h = rw (drop-cons xs i 0, add-one i, h) refl
+
+pub run_stop : (n : Option ℕ) (xs : List ℕ) (i : ℕ) → i < length xs → is_identifier_char (get_or xs i 0) ≡ false → run_from n i (drop i xs) ≡ (i, n)
+unfolding run_from
+run_stop n xs i lt h = rw (drop-cons xs i 0, h) refl
+
+pub run_past : (n : Option ℕ) (xs : List ℕ) (i : ℕ) → length xs ≤ i → run_from n i (drop i xs) ≡ (i, n)
+unfolding run_from
+run_past n xs i le = rw (drop_all i xs le) refl
+
+-- what it finds
+pub run_found : (n : Option ℕ) (at : ℕ) (t : List ℕ)
+    → run_from n at t ≡ (at + prefix_len is_identifier_char t, number_of_run n (take (prefix_len is_identifier_char t) t))
+unfolding run_from number_of_run
+run_found n at [] = rw (add-zero at) refl
+run_found n at (c ∷ rest) = elim (cases_Bool (is_identifier_char c)) [
+  | inr stop ↦ rw (stop, add-zero at) refl
+  | inl more ↦
+      let sum : at + 1 + prefix_len is_identifier_char rest ≡ at + (1 + prefix_len is_identifier_char rest) = omega arith in
+      let next = run_found (grown n c) (at + 1) rest in
+      rw (more, next, sum, add_comm 1 (prefix_len is_identifier_char rest), add-one (prefix_len is_identifier_char rest)) refl
+]
+
+none_stays : (run : List ℕ) → number_of_run None run ≡ None
+unfolding number_of_run
+none_stays [] = refl
+none_stays (c ∷ run) = none_stays run
+
+of_digits : (v : ℕ) (run : List ℕ) → list_all is_ascii_digit run ≡ true → digits_value_after 10 v run < 2 ^ 64 → number_of_run (Some v) run ≡ Some (digits_value_after 10 v run)
+unfolding number_of_run
+of_digits v [] d small = refl
+of_digits v (c ∷ run) d small =
+    let grows = digits_grow (v * 10 + digit_value c) run in
+    let fits : ltb (v * 10 + digit_value c) (2 ^ 64) ≡ true = grind (arith, nat_tests) in
+    rw (first_so (is_ascii_digit c) (list_all is_ascii_digit run) d, fits) (of_digits (v * 10 + digit_value c) run (second_so (is_ascii_digit c) (list_all is_ascii_digit run) d) small)
+
+of_long : (v : ℕ) (run : List ℕ) → v < 2 ^ 64 → list_all is_ascii_digit run ≡ true → ltb (digits_value_after 10 v run) (2 ^ 64) ≡ false → number_of_run (Some v) run ≡ None
+unfolding number_of_run
+of_long v [] small d big = absurd (grind (arith, nat_tests))
+of_long v (c ∷ run) small d big =
+    let digit = first_so (is_ascii_digit c) (list_all is_ascii_digit run) d in
+    elim (cases_Bool (ltb (v * 10 + digit_value c) (2 ^ 64))) [
+      | inl fits ↦ rw (digit, fits) (of_long (v * 10 + digit_value c) run (grind (arith, nat_tests)) (second_so (is_ascii_digit c) (list_all is_ascii_digit run) d) big)
+      | inr over ↦ rw (digit, over) (none_stays run)
+    ]
+
+of_other : (n : Option ℕ) (run : List ℕ) → list_all is_ascii_digit run ≡ false → number_of_run n run ≡ None
+unfolding number_of_run
+of_other n [] d = cc d
+of_other None (c ∷ run) d = none_stays run
+of_other (Some v) (c ∷ run) d = elim (cases_Bool (is_ascii_digit c)) [
+  | inr other ↦ rw other (none_stays run)
+  | inl digit ↦ of_other (grown (Some v) c) run (rw digit at d)
+]
+
+-- the identifier that a run spells
+pub id_spelled : (run : List ℕ) → id_by (number_of_run (Some 0) run) run ≡ identifier_of run
+id_spelled run = elim (cases_Bool (list_all is_ascii_digit run)) [
+  | inr other ↦ rw (of_other (Some 0) run other, other) refl
+  | inl digits ↦
+      elim (cases_Bool (ltb (digits_value 10 run) (2 ^ 64))) [
+        | inl fits ↦ rw (of_digits 0 run digits (ltb-true _ _ fits), digits, fits) refl
+        | inr over ↦ rw (of_long 0 run (omega arith) digits over, digits, over) refl
+      ]
+]
+
+pub grown_small : (v b : ℕ) → v < 2 ^ 64 → is_ascii_digit b ≡ true → v * 10 + (b - 48) < 2 ^ 64 → grown (Some v) b ≡ Some (v * 10 + (b - 48))
+grown_small v b s d h =
+    let fits : ltb (v * 10 + digit_value b) (2 ^ 64) ≡ true = rw (digit_value-is b d) (grind (arith, nat_tests)) in
+    rw (d, fits, digit_value-is b d) refl
+
+pub grown_big : (v b : ℕ) → is_ascii_digit b ≡ true → 2 ^ 64 ≤ v * 10 + (b - 48) → grown (Some v) b ≡ None
+grown_big v b d h =
+    let over : ltb (v * 10 + digit_value b) (2 ^ 64) ≡ false = rw (digit_value-is b d) (grind (arith, nat_tests)) in
+    rw (d, over) refl
+
+-- the run that `scan_run` found
+pub scan_end : (text : List ℕ) (start : ℕ) (r : ℕ × Option ℕ) → r ≡ run_from (Some 0) start (drop start text)
+    → (r.0 ≡ start + prefix_len is_identifier_char (drop start text))
+    × (r.1 ≡ number_of_run (Some 0) (take (prefix_len is_identifier_char (drop start text)) (drop start text)))
+scan_end text start r e =
+    let both = e ∙ run_found (Some 0) start (drop start text) in
+    (ap (λ (q : ℕ × Option ℕ). q.0) both, ap (λ (q : ℕ × Option ℕ). q.1) both)
+
+pub scan_fits : (text : List ℕ) (start : ℕ) (r : ℕ × Option ℕ) → r ≡ run_from (Some 0) start (drop start text) → start ≤ length text
+    → (start ≤ r.0) × (r.0 ≤ length text)
+scan_fits text start r e le =
+    let end = (scan_end text start r e).0 in
+    (omega (arith, end), omega (arith, end, prefix_len-le-length is_identifier_char (drop start text), length-drop start text))
+
+-- the end of a run, whatever it writes
+pub run_place : (text : List ℕ) (start end : ℕ) → (end, None) ≡ run_from None start (drop start text) → start ≤ length text
+    → (end ≡ start + prefix_len is_identifier_char (drop start text)) × (end ≤ length text)
+run_place text start end e le =
+    let is = ap (λ (q : ℕ × Option ℕ). q.0) (e ∙ run_found None start (drop start text)) in
+    (is, omega (arith, is, le, prefix_len-le-length is_identifier_char (drop start text), length-drop start text))
+
+pub scan_number : (run : List ℕ) (v : ℕ) → Some v ≡ number_of_run (Some 0) run → identifier_of run ≡ Numeric v
+scan_number run v e = sym (id_spelled run) ∙ ap (λ n. id_by n run) (sym e)
+
+pub scan_text : (run : List ℕ) → None ≡ number_of_run (Some 0) run → identifier_of run ≡ AlphaNumeric run
+scan_text run e = sym (id_spelled run) ∙ ap (λ n. id_by n run) (sym e)
+
+pub ruleset grown_either = (grown_small, grown_big)
+
+pub ruleset run_ends = (run_step, run_stop, run_past)
+
+pub ruleset scanned = (scan_number, scan_text)

@@ -2,9 +2,8 @@
 use Rattle.semver_core.proofs.Common.{NoValue, begins, is_identifier_char, goes_on, identifier_of, is_identifier, pieces}
 use Rattle.semver_core.proofs.Common.{is_listed, listed, Reads, VersionValue, HasIdentifiers, List, Some, [], add-one, arith}
 use Rattle.semver_core.proofs.Common.{drop, false, length, refl, take, true, ℕ, ◌+◌, ◌-◌, ◌<◌, ◌∷◌, ◌≡◌, ◌≤◌, drop-cons, drop_all}
-use Rattle.semver_core.proofs.Common.{list_all, list_from, list_len, Parses, map, take_rest}
-use Rattle.semver_core.{specs.declared.TheConstants.MAX_LENGTH, proofs.Text.Pieces.{begins_taken, begun_runs, taken_runs}}
-use Rattle.semver_core.proofs.Text.Runs.{list_len_stop}
+use Rattle.semver_core.proofs.Common.{list_all, list_from, list_len, Parses, map, take_rest, MAX_LENGTH}
+use Rattle.semver_core.proofs.Text.{Pieces.{begins_taken, begun_runs, taken_runs}, Runs.list_len_stop}
 
 -- the loop
 pub end_step : (xs : List ℕ) (i : ℕ) → i < length xs → goes_on (drop i xs) ≡ true
@@ -14,14 +13,11 @@ end_step xs i lt h =
     let more = rw (drop-cons xs i 0 lt) at h in
     rw (drop-cons xs i 0 lt, add-one i, more) refl
 
-pub end_stop : (xs : List ℕ) (i : ℕ) → goes_on (drop i xs) ≡ false → list_len (drop i xs) ≡ 0
-end_stop xs i h = list_len_stop (drop i xs) h
-
 pub end_past : (xs : List ℕ) (i : ℕ) → length xs ≤ i → list_len (drop i xs) ≡ 0
 unfolding list_len
 end_past xs i le = rw (drop_all i xs le) refl
 
-pub ruleset list_ends = (end_step, end_stop, end_past, take_rest)
+pub ruleset list_ends = (end_step, list_len_stop, end_past, take_rest)
 
 -- what stands there
 pub runs_taken : (t : List ℕ) → begins is_identifier_char t ≡ true → list_all is_identifier (pieces (take (list_len t) t)) ≡ true

@@ -3,8 +3,8 @@ use Rattle.semver_core.proofs.Common.{is_empty, Id, identifier_of, is_identifier
 use Rattle.semver_core.proofs.Common.{Some, [], add-one, add_comm, ap, arith, drop, eqb, false, inl, inr, length, refl, sym, take}
 use Rattle.semver_core.proofs.Common.{true, zero-add, ℕ, ◌+◌, ◌<◌, ◌∙◌, ◌∷◌, ◌≡◌, ◌≤◌, nat_tests, cases_Bool, eqb-true, drop-drop}
 use Rattle.semver_core.proofs.Common.{slice_cmp, list_all, onto_first, ◌==◌, Equal, Greater, Less, number_of_run, run_from, map}
-use Rattle.semver_core.{specs.Internal.CommonReading.run_len, proofs.Text.Listed.{listed_none, listed_some}}
-use Rattle.semver_core.proofs.Text.{OnePass.{scan_end, scan_fits}, Pieces.{first_char, runs_tail, tail_onto, tail_runs}}
+use Rattle.semver_core.{specs.Internal.CommonReading.run_len, proofs.Text.Digits.{scan_end, scan_fits}}
+use Rattle.semver_core.proofs.Text.{Listed.{listed_none, listed_some}, Pieces.{first_char, runs_tail, tail_onto, tail_runs}}
 
 -- what stands behind the first run and its dot
 abbrev pub others : List ℕ → List ℕ

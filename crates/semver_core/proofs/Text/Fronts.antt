@@ -3,13 +3,180 @@ use Rattle.semver_core.proofs.Common.{qualified, triple_at, begins, Id, IsLonges
 use Rattle.semver_core.proofs.Common.{IsNumber, IsWholeNumber, begins_pre_release, no_mark, VersionValue, Bool, List, None, Some}
 use Rattle.semver_core.proofs.Common.{[], ap, append-nil, append_assoc, arith, drop, eqb, false, inl, inr, length, refl, subst}
 use Rattle.semver_core.proofs.Common.{sym, take, true, ℕ, ◌++◌, ◌∙◌, ◌∷◌, ◌≡◌, ◌≤◌, nat_tests, cases_Bool, eqb-true}
-use Rattle.semver_core.proofs.Common.{take-append-drop, is_ascii_digit, first_so, second_so, list_all, onto_first, small_len}
-use Rattle.semver_core.proofs.Common.{lists_at, IsCommon, IsBuild, IsMark, IsPreRelease, bare, capital_mark, dashed, no_build}
-use Rattle.semver_core.proofs.Common.{no_pre_release, plus, small_mark}
-use Rattle.semver_core.specs.{Internal.CommonReading.is_plain, Text.Common.IsCommonFront}
-use Rattle.{std.proofs.lemmas.List.append_cancel_right, semver_core.proofs.Text.Pieces.{first_char, runs_tail, tail_onto}}
-use Rattle.semver_core.proofs.Text.{Pieces.tail_runs, Texts.{divided_at, number_begins, read_at}, Whole.nothing_blank}
-use Rattle.semver_core.proofs.Text.Whole.{past_small, small_is}
+use Rattle.semver_core.proofs.Common.{take-append-drop, is_ascii_digit, list_all, list_all-append, small_len, lists_at, IsCommon}
+use Rattle.semver_core.proofs.Common.{IsBuild, IsMark, IsPreRelease, bare, capital_mark, dashed, no_build, no_pre_release, plus}
+use Rattle.semver_core.proofs.Common.{small_mark, NoValue, IsAfterBlank, IsBlank, is_identifier_char, Reads, HasIdentifiers}
+use Rattle.semver_core.proofs.Common.{Option, get_or, ◌<◌, ◌||◌, drop-cons, drop_all, ◌==◌, common_of, HasOneReading, mark_len}
+use Rattle.semver_core.proofs.Common.{begins_build, release_value, IfSome, take_rest, IfNone}
+use Rattle.semver_core.specs.{Internal.CommonReading.{is_plain, at_end, whole_at}, Text.Common.IsCommonFront}
+use Rattle.{std.proofs.lemmas.List.{append_cancel_right, nil_from_length}, semver_core.proofs.Text.Listed.plain_runs}
+use Rattle.semver_core.proofs.Text.{Pieces.{runs_tail, some_inside}, Runs.all_more, Texts.{divided_at, number_begins, read_at}}
+use Rattle.semver_core.proofs.Text.Texts.{rest_of, bind_some, none_build, loose_none, loose_some, none_pre}
+
+-- ---- The fast reader's answer is the common text's version.
+
+at_end_some : {A : Type 0} (rest : List ℕ) (x y : A) → at_end rest x ≡ Some y → (rest ≡ []) × (x ≡ y)
+at_end_some [] x y e = (refl, some_inside x y e)
+at_end_some (c ∷ rest) x y e = cc
+
+capital : (c : ℕ) → c ∷ [] ≡ 86 ∷ [] → c ≡ 86
+capital c f = cc
+
+pub small_is : (text : List ℕ) → IsMark (take (small_len text) text) × (take (small_len text) text ≡ 86 ∷ [] → ⊥)
+small_is [] = (no_mark, λ f. cc f)
+small_is (c ∷ rest) = elim (cases_Bool (eqb c 118)) [
+  | inl small ↦ rw (eqb-true c 118 small) (small_mark, λ f. omega (arith, capital 118 f))
+  | inr other ↦ rw other (no_mark, λ f. cc f)
+]
+
+pub nothing_blank : IsBlank []
+nothing_blank = record { characters = []; each = refl; spelled = refl }
+
+-- what is found is a common text's version
+pub common_sound : (limit : ℕ) (text : List ℕ) (v : VersionValue) → common_of limit text ≡ Some v → IsCommon limit text v
+common_sound limit text v e =
+    let k = small_len text in
+    let found = bind_some (triple_at limit text k) _ v e in
+    let ended = at_end_some (rest_of text found.0) (qualified text found.0) v found.2 in
+    let mark = small_is text in
+    let d = divided_at limit text (take k text) [] k found.0 (sym (take-append-drop k text)) mark.0 nothing_blank found.1 in
+    rw (← ended.1) (d.reads, λ capital. mark.1 (sym d.mark_is ∙ capital), d.blank_is, d.rest_is ∙ ended.0)
+
+no_small : (D : List ℕ) → begins is_ascii_digit D ≡ true → small_len D ≡ 0
+no_small [] h = cc
+no_small (c ∷ D) h = let other : eqb c 118 ≡ false = grind (arith, nat_tests) in rw other refl
+
+pub past_small : (text mark D : List ℕ) → IsMark mark → (mark ≡ 86 ∷ [] → ⊥) → text ≡ mark ++ D → begins is_ascii_digit D ≡ true → drop (small_len text) text ≡ D
+past_small text mark D no_mark s e h = rw (e, no_small D h) refl
+past_small text mark D small_mark s e h = rw e refl
+past_small text mark D capital_mark s e h = absurd (s refl)
+
+-- the version that stands at the front, behind `v` or nothing, is found there
+front_at : (limit : ℕ) (text : List ℕ) (v : VersionValue) (r : Reads limit text v) → (r.mark ≡ 86 ∷ [] → ⊥) → r.blank ≡ []
+    → (t : ℕ × ℕ × ℕ × ℕ) × (triple_at limit text (small_len text) ≡ Some t) × (qualified text t ≡ v) × (rest_of text t ≡ r.rest)
+front_at limit text v r small none =
+    let D = r.major ++ 46 ∷ (r.minor ++ 46 ∷ (r.patch ++ (r.pre_release ++ (r.build ++ r.rest)))) in
+    let digit : begins is_ascii_digit D ≡ true = number_begins r.major _ r.major_is.some r.major_is.each in
+    let divided : text ≡ r.mark ++ D = r.divided ∙ ap (λ b. r.mark ++ (b ++ D)) none in
+    read_at limit text (small_len text) v r (past_small text r.mark D r.mark_is small divided digit)
+
+-- a common text's version is found
+pub common_complete : (limit : ℕ) (text : List ℕ) (v : VersionValue) → IsCommon limit text v → common_of limit text ≡ Some v
+common_complete limit text v c = let found = front_at limit text v c.0 c.1 c.2 in rw (found.1, found.2, found.3, c.3) refl
+
+-- the clauses of a reader whose answer is `common_of`
+pub common_some : (limit : ℕ) (text : List ℕ) (found : Option VersionValue) → found ≡ common_of limit text → IfSome found (λ v. IsCommon limit text v)
+common_some limit text None e = tt
+common_some limit text (Some v) e = common_sound limit text v (sym e)
+
+pub common_none : (limit : ℕ) (text : List ℕ) (found : Option VersionValue) → found ≡ common_of limit text
+    → IfNone found (NoValue (IsCommon limit text))
+common_none limit text None e = λ v c. cc (e, common_complete limit text v c)
+common_none limit text (Some v) e = tt
+
+-- both readers on one text
+pub alike : (limit : ℕ) (text : List ℕ) (fast loose : Option VersionValue) → IfSome fast (λ v. IsCommon limit text v) → IfSome loose (λ v. Reads limit text v)
+    → IfNone loose (NoValue (Reads limit text)) → HasOneReading text → IfSome fast (λ v. loose ≡ Some v)
+alike limit text None loose f l n one = tt
+alike limit text (Some v) None f l n one = absurd (n v f.0)
+alike limit text (Some v) (Some w) f l n one = ap Some (one limit w v l f.0)
+
+-- ---- what the code finds
+
+-- what both lists and the place behind them make
+abbrev whole_of : List ℕ → ℕ → ℕ → ℕ → List Id × List Id × ℕ → Option VersionValue
+whole_of text major minor patch l =
+    at_end (drop l.2 text) (record { major = major; minor = minor; patch = patch; pre_release = l.0; build = l.1 })
+
+pub lists_found : (text : List ℕ) (major minor patch at end : ℕ) (pre build : List Id) → (pre, build, end) ≡ lists_at text at → length text ≤ end
+    → whole_at text (major, minor, patch, at) ≡ Some (record { major = major; minor = minor; patch = patch; pre_release = pre; build = build })
+lists_found text major minor patch at end pre build e le =
+    ap (whole_of text major minor patch) (sym e) ∙ rw (drop_all end text le) refl
+
+pub lists_left : (text : List ℕ) (major minor patch at end : ℕ) (pre build : List Id) → (pre, build, end) ≡ lists_at text at → end < length text
+    → whole_at text (major, minor, patch, at) ≡ None
+lists_left text major minor patch at end pre build e lt =
+    ap (whole_of text major minor patch) (sym e) ∙ rw (drop-cons text end 0 lt) refl
+
+-- numbers at the front, with the lists behind them, are a version of the text
+pub front_read : (limit : ℕ) (text : List ℕ) (t : ℕ × ℕ × ℕ × ℕ) → Some t ≡ triple_at limit text (small_len text) → Reads limit text (qualified text t)
+front_read limit text t e =
+    (divided_at limit text (take (small_len text) text) [] (small_len text) t (sym (take-append-drop (small_len text) text)) (small_is text).0 nothing_blank (sym e)).reads
+
+pub front_memory : (limit : ℕ) (text : List ℕ) (t : ℕ × ℕ × ℕ × ℕ) → Some t ≡ triple_at limit text (small_len text)
+    → HasIdentifiers (qualified text t) → (v : VersionValue) × Reads limit text v × HasIdentifiers v
+front_memory limit text t e h = (qualified text t, front_read limit text t e, h)
+
+pub loose_read : (limit : ℕ) (text : List ℕ) (start : ℕ) (t : ℕ × ℕ × ℕ × ℕ) → IsAfterBlank text (mark_len text) start
+    → Some t ≡ triple_at limit text start → Reads limit text (qualified text t)
+loose_read limit text start t a e = loose_some limit text start (qualified text t) a (rw (← e) refl)
+
+pub loose_not : (limit : ℕ) (text : List ℕ) (start : ℕ) → IsAfterBlank text (mark_len text) start → None ≡ triple_at limit text start
+    → NoValue (Reads limit text)
+loose_not limit text start a e = loose_none limit text start a (rw (← e) refl)
+
+pub ruleset numbers_found = (front_read)
+
+-- what stands behind the numbers
+pub release_read : (limit : ℕ) (text : List ℕ) (major minor patch at : ℕ) (v : VersionValue)
+    → Reads limit text (qualified text (major, minor, patch, at)) → length text ≤ at → v ≡ release_value major minor patch
+    → Reads limit text v
+release_read limit text major minor patch at v r le e =
+    let none = drop_all at text le in
+    let is : qualified text (major, minor, patch, at) ≡ release_value major minor patch =
+    rw (none_pre text at [] none refl, none_build text at [] none refl) refl in
+    rw (e, ← is) r
+
+pub ruleset lists_behind = (lists_found, lists_left)
+
+-- neither a pre-release nor a build begins with such a byte
+other_byte : (c : ℕ) (rest : List ℕ) → (is_identifier_char c || c == 43) ≡ false → (begins_pre_release (c ∷ rest) ≡ false) × (begins_build (c ∷ rest) ≡ false)
+other_byte c rest h = grind (arith, nat_tests)
+
+nothing_at : (text : List ℕ) (at : ℕ) (r : List ℕ) → drop at text ≡ r → begins_pre_release r ≡ false → begins_build r ≡ false → lists_at text at ≡ ([], [], at)
+nothing_at text at r e pre meta = rw (none_pre text at r e pre, none_build text at r e meta) refl
+
+pub none_behind : (text : List ℕ) (at : ℕ) → length (drop at text) ≡ 0 → lists_at text at ≡ ([], [], at)
+none_behind text at e =
+    let none : drop at text ≡ [] = nil_from_length (drop at text) e in
+    nothing_at text at [] none refl refl
+
+pub none_begins : (text : List ℕ) (at c : ℕ) (rest : List ℕ) → drop at text ≡ c ∷ rest → (is_identifier_char c || c == 43) ≡ false → lists_at text at ≡ ([], [], at)
+none_begins text at c rest e h =
+    let other = other_byte c rest h in
+    nothing_at text at (c ∷ rest) e other.0 other.1
+
+pub ruleset no_lists = (none_behind, none_begins, take_rest)
+
+pub ruleset read_common = (common_some, common_none)
+
+-- ---- For proofs. What a larger limit on numbers leaves as it is.
+
+number_kept : (small large : ℕ) (digits : List ℕ) (n : ℕ) → small ≤ large → IsNumber small digits n → IsNumber large digits n
+number_kept small large digits n le h = record { some = h.some; each = h.each; value = h.value; safe = omega (arith, le, h.safe) }
+
+pub keeps_reading : (text : List ℕ) (small large : ℕ) (v : VersionValue) → small ≤ large → Reads small text v → Reads large text v
+keeps_reading text small large v le h = record {
+  mark = h.mark;
+  blank = h.blank;
+  major = h.major;
+  minor = h.minor;
+  patch = h.patch;
+  pre_release = h.pre_release;
+  build = h.build;
+  rest = h.rest;
+  divided = h.divided;
+  mark_is = h.mark_is;
+  blank_is = h.blank_is;
+  major_is = number_kept small large _ _ le h.major_is;
+  minor_is = number_kept small large _ _ le h.minor_is;
+  patch_is = record { number = number_kept small large _ _ le h.patch_is.number; ended = h.patch_is.ended };
+  pre_release_is = h.pre_release_is;
+  build_is = h.build_is;
+}
+
+pub keeps_version : (text : List ℕ) → HasOneReading text → (small large : ℕ) (v w : VersionValue) → small ≤ large → Reads small text v → Reads large text w → w ≡ v
+keeps_version text one small large v w le h k = one large w v k (keeps_reading text small large v le h)
 
 -- ---- a text without what follows it
 
@@ -24,10 +191,7 @@ goes_less (c ∷ d ∷ a) r h = h
 
 pre_less : (a r : List ℕ) → begins_pre_release (a ++ r) ≡ false → begins_pre_release a ≡ false
 pre_less [] r h = refl
-pre_less (c ∷ []) r h = elim (cases_Bool (eqb c 45)) [
-  | inl dash ↦ rw dash refl
-  | inr plain ↦ rw plain (rw plain at h)
-]
+pre_less (c ∷ []) r h = grind (arith, nat_tests)
 pre_less (c ∷ d ∷ a) r h = h
 
 longest_less : (text a r : List ℕ) (ids : List Id) → IsLongestIdentifiers text (a ++ r) ids → IsLongestIdentifiers text a ids
@@ -49,14 +213,7 @@ whole_less limit digits a r n w = record { number = w.number; ended = begins_les
 joined : (m b M n p q u r : List ℕ)
     → m ++ (b ++ (M ++ 46 ∷ (n ++ 46 ∷ (p ++ (q ++ (u ++ r))))))
     ≡ (m ++ (b ++ (M ++ 46 ∷ (n ++ 46 ∷ (p ++ (q ++ (u ++ []))))))) ++ r
-joined m b M n p q u r =
-    let build = ap (λ l. q ++ l) (append_assoc u [] r) in
-    let pre = ap (λ l. p ++ l) (append_assoc q (u ++ []) r ∙ build) in
-    let patch = ap (λ l. n ++ 46 ∷ l) (append_assoc p (q ++ (u ++ [])) r ∙ pre) in
-    let minor = ap (λ l. M ++ 46 ∷ l) (append_assoc n (46 ∷ (p ++ (q ++ (u ++ [])))) r ∙ patch) in
-    let major = ap (λ l. b ++ l) (append_assoc M (46 ∷ (n ++ 46 ∷ (p ++ (q ++ (u ++ []))))) r ∙ minor) in
-    let blank = ap (λ l. m ++ l) (append_assoc b (M ++ 46 ∷ (n ++ 46 ∷ (p ++ (q ++ (u ++ []))))) r ∙ major) in
-    sym (append_assoc m (b ++ (M ++ 46 ∷ (n ++ 46 ∷ (p ++ (q ++ (u ++ [])))))) r ∙ blank)
+joined m b M n p q u r = simp append_assoc
 
 pub front_whole : (limit : ℕ) (text : List ℕ) (v : VersionValue) (end : ℕ) → IsCommonFront limit text v end → IsCommon limit (take end text) v
 front_whole limit text v end c =
@@ -106,39 +263,15 @@ front_found limit text major minor patch at pre build end v e lists is inside =
 
 pub front_not : (limit : ℕ) (text : List ℕ) → None ≡ triple_at limit text (small_len text) → (v : VersionValue) (end : ℕ)
     → IsCommonFront limit text v end → ⊥
-front_not limit text e v end c =
-    let r = c.0 in
-    let D = r.major ++ 46 ∷ (r.minor ++ 46 ∷ (r.patch ++ (r.pre_release ++ (r.build ++ r.rest)))) in
-    let digit : begins is_ascii_digit D ≡ true = number_begins r.major _ r.major_is.some r.major_is.each in
-    let divided : text ≡ r.mark ++ D = r.divided ∙ ap (λ b. r.mark ++ (b ++ D)) c.2 in
-    let found = read_at limit text (small_len text) v r (past_small text r.mark D r.mark_is c.1 divided digit) in
-    cc (e, found.1)
+front_not limit text e v end c = cc (e, (front_at limit text v c.0 c.1 c.2).1)
 
 -- ---- the bytes of a common text
 
-all_more : (p q : ℕ → Bool) (text : List ℕ) → ((c : ℕ) → p c ≡ true → q c ≡ true) → list_all p text ≡ true → list_all q text ≡ true
-all_more p q [] h each = refl
-all_more p q (c ∷ rest) h each =
-    rw (h c (first_so (p c) (list_all p rest) each)) (all_more p q rest h (second_so (p c) (list_all p rest) each))
-
 both_all : (p : ℕ → Bool) (a b : List ℕ) → list_all p a ≡ true → list_all p b ≡ true → list_all p (a ++ b) ≡ true
-both_all p [] b h k = k
-both_all p (c ∷ a) b h k =
-    rw (first_so (p c) (list_all p a) h) (both_all p a b (second_so (p c) (list_all p a) h) k)
+both_all p a b h k = rw (list_all-append, h, k) refl
 
 plain_digit : (c : ℕ) → is_ascii_digit c ≡ true → is_plain c ≡ true
 plain_digit c h = grind (arith, nat_tests)
-
-plain_runs : (text : List ℕ) → tail_runs (pieces text) ≡ true → list_all is_plain text ≡ true
-plain_runs [] h = refl
-plain_runs (c ∷ rest) h = elim (cases_Bool (eqb c 46)) [
-  | inl dot ↦
-      let runs : list_all is_identifier (pieces rest) ≡ true = rw dot at h in
-      rw (eqb-true c 46 dot, plain_runs rest (runs_tail (pieces rest) runs)) refl
-  | inr other ↦
-      let split : tail_runs (onto_first c (pieces rest)) ≡ true = rw other at h in
-      rw (first_char c (pieces rest) split, plain_runs rest (tail_onto c (pieces rest) split)) refl
-]
 
 plain_list : (text rest : List ℕ) (ids : List Id) → IsLongestIdentifiers text rest ids → list_all is_plain text ≡ true
 plain_list text rest ids l = plain_runs text (runs_tail (pieces text) l.identifiers.runs)

@@ -1,13 +1,19 @@
 -- Runs of identifier characters, and lists of them.
-use Rattle.semver_core.proofs.Common.{list_at, list_of, begins, is_identifier_char, Id, Numeric, goes_on, identifier_of, id_view}
-use Rattle.semver_core.proofs.Common.{ids_view, Identifier, List, Some, [], add-one, add_comm, ap, append_assoc, arith, drop, eqb}
-use Rattle.semver_core.proofs.Common.{false, get_or, inl, inr, length, ltb, refl, rules, sym, take, true, zero-add, ℕ, ◌++◌, ◌+◌}
-use Rattle.semver_core.proofs.Common.{◌-◌, ◌<◌, ◌∙◌, ◌∷◌, ◌≡◌, ◌≤◌, drop-cons, nat_tests, cases_Bool, eqb-true, drop-drop}
-use Rattle.semver_core.proofs.Common.{length-drop, is_ascii_digit, All, list_all, prefix_len, IsCharBoundary, IsUtf8, ◌==◌}
-use Rattle.semver_core.proofs.Common.{digits_value, list_len, map, suc, ◌^◌, take-add, slice_split_at, slice_split_none}
-use Rattle.semver_core.proofs.Common.{prefix_len-le-length, IsCharBoundary-after_ascii}
+use Rattle.semver_core.proofs.Common.{Bool, and_parts, list_at, list_of, begins, is_identifier_char, Id, Numeric, goes_on}
+use Rattle.semver_core.proofs.Common.{identifier_of, id_view, ids_view, Identifier, List, Some, [], add-one, add_comm, ap}
+use Rattle.semver_core.proofs.Common.{append_assoc, arith, drop, eqb, false, get_or, inl, inr, length, ltb, refl, rules, sym}
+use Rattle.semver_core.proofs.Common.{take, true, zero-add, ℕ, ◌++◌, ◌+◌, ◌-◌, ◌<◌, ◌∙◌, ◌∷◌, ◌≡◌, ◌≤◌, drop-cons, nat_tests}
+use Rattle.semver_core.proofs.Common.{cases_Bool, eqb-true, drop-drop, length-drop, is_ascii_digit, All, list_all, prefix_len}
+use Rattle.semver_core.proofs.Common.{IsCharBoundary, IsUtf8, ◌==◌, digits_value, list_len, map, suc, ◌^◌, take-add}
+use Rattle.semver_core.proofs.Common.{slice_split_at, slice_split_none, prefix_len-le-length, IsCharBoundary-after_ascii}
 use Rattle.std.proofs.lemmas.{List.{get_or-take, length-take, get_or-drop}, List.Sums.prefix_len_passes, Str.Parse.IsDigitsTest}
 use Rattle.std.proofs.lemmas.Str.Parse.{IsNumeralModel, numerals_by_value}
+
+-- what holds of each character, and what follows from that
+pub all_more : (p q : ℕ → Bool) (text : List ℕ) → ((c : ℕ) → p c ≡ true → q c ≡ true) → list_all p text ≡ true → list_all q text ≡ true
+all_more p q [] h each = refl
+all_more p q (c ∷ rest) h each =
+    let both = and_parts (p c) (list_all p rest) each in rw (h c both.0) (all_more p q rest h both.1)
 
 digits_test : IsDigitsTest (λ ds. list_all is_ascii_digit ds ≡ true)
 digits_test = search rules

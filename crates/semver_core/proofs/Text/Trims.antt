@@ -5,12 +5,10 @@ use Rattle.semver_core.proofs.Common.{◌+◌, ◌-◌, ◌<◌, ◌∙◌, ◌�
 use Rattle.semver_core.proofs.Common.{len_utf8, encode_utf8, list_all, IsCharBoundary, IsUtf8, encode_utf8_all, ⊤, after_spaces}
 use Rattle.semver_core.proofs.Common.{drop_end_spaces, drop_spaces, space_len, trim, ◌%◌, ◌/◌, take-append_seam, le-ltb, drop_at}
 use Rattle.semver_core.proofs.Common.{drop_split, list_all-append, IsUtf8-drop, encode_ascii, encodes-append, len_utf8_bounds}
-use Rattle.semver_core.proofs.Common.{length-encode}
-use Rattle.{semver_core.specs.Text.Characters.IsTrim, std.proofs.lemmas.Bool.and_from, std.proofs.lemmas.List.reverse-append}
-use Rattle.std.proofs.lemmas.{List.length-reverse, Str.{IsCharBoundary-at_seam, IsUtf8-encode, IsUtf8-take}}
-use Rattle.{std.specs.Char.IsScalar, std.specs.Prelude.reverse, semver_core.proofs.Text.Blanks.{Passed, passed_none, passed_more}}
-use Rattle.semver_core.proofs.Text.{Blanks.{passed_stop, passed_end}, SpaceLaw.{space_len-white, space_len-dark}}
-use Rattle.semver_core.proofs.Text.{SpaceLaw.space_len-inside, Spaces.{drop_spaces-more, drop_spaces-none}}
+use Rattle.semver_core.proofs.Common.{length-encode, IsTrim, and_from, reverse-append, length-reverse, IsCharBoundary-at_seam}
+use Rattle.semver_core.proofs.Common.{IsUtf8-encode, IsUtf8-take, IsScalar, reverse}
+use Rattle.semver_core.proofs.Text.{Blanks.{Passed, passed_none, passed_more, passed_stop, passed_end}, SpaceLaw.space_len-white}
+use Rattle.semver_core.proofs.Text.{SpaceLaw.{space_len-dark, space_len-inside}, Spaces.{drop_spaces-more, drop_spaces-none}}
 
 -- at the front
 

@@ -1,32 +1,42 @@
 -- Comparing the identifiers of the program is comparing what contracts see of them.
 use Rattle.semver_core.proofs.Common.{is_empty, Id, id_cmp, id_view, ids_view, Identifier, List, [], ap, false, refl, true, ◌∷◌}
-use Rattle.semver_core.proofs.Common.{◌≡◌, slice_cmp, Equal, Greater, Less, pre_cmp, ordering_then}
+use Rattle.semver_core.proofs.Common.{◌≡◌, slice_cmp, Equal, Greater, Less, pre_cmp, ordering_then, VersionValue, None, Option}
+use Rattle.semver_core.proofs.Common.{Some, ◌∙◌, kind_between, precedence_total, precedence, VersionDiff, ordering_reverse}
+use Rattle.semver_core.proofs.Common.{Ordering, kind_up}
 
 pub ids_view_cmp : (xs ys : List Identifier)
     → slice_cmp (λ a b. id_cmp (id_view a) (id_view b)) xs ys ≡ slice_cmp id_cmp (ids_view xs) (ids_view ys)
 ids_view_cmp [] [] = refl
-ids_view_cmp [] (y ∷ ys) = refl
-ids_view_cmp (x ∷ xs) [] = refl
 ids_view_cmp (x ∷ xs) (y ∷ ys) = ap (ordering_then (id_cmp (id_view x) (id_view y))) (ids_view_cmp xs ys)
+ids_view_cmp xs ys = refl
 
 pub no_pre : (xs ys : List Id) → is_empty xs ≡ true → is_empty ys ≡ true → Equal ≡ pre_cmp xs ys
 no_pre [] [] h k = refl
-no_pre [] (y ∷ ys) h k = cc
-no_pre (x ∷ xs) ys h k = cc
+no_pre xs ys h k = cc
 
 pub first_pre : (xs ys : List Id) → is_empty xs ≡ false → is_empty ys ≡ true → Less ≡ pre_cmp xs ys
-first_pre [] ys h k = cc
 first_pre (x ∷ xs) [] h k = refl
-first_pre (x ∷ xs) (y ∷ ys) h k = cc
+first_pre xs ys h k = cc
 
 pub second_pre : (xs ys : List Id) → is_empty xs ≡ true → is_empty ys ≡ false → Greater ≡ pre_cmp xs ys
-second_pre [] [] h k = cc
 second_pre [] (y ∷ ys) h k = refl
-second_pre (x ∷ xs) ys h k = cc
+second_pre xs ys h k = cc
 
 pub both_pre : (xs ys : List Id) → is_empty xs ≡ false → is_empty ys ≡ false → slice_cmp id_cmp xs ys ≡ pre_cmp xs ys
-both_pre [] ys h k = cc
-both_pre (x ∷ xs) [] h k = cc
 both_pre (x ∷ xs) (y ∷ ys) h k = refl
+both_pre xs ys h k = cc
 
 pub ruleset pre_compared = (no_pre, first_pre, second_pre, both_pre)
+
+-- ---- `diff` is symmetric.
+
+abbrev kind_by : Ordering → VersionValue → VersionValue → Option VersionDiff
+kind_by r v w = elim r [ Less ↦ Some (kind_up v w) | Equal ↦ None | Greater ↦ Some (kind_up w v) ]
+
+turned : (r : Ordering) (v w : VersionValue) → kind_by (ordering_reverse r) v w ≡ kind_by r w v
+turned Less v w = refl
+turned Equal v w = refl
+turned Greater v w = refl
+
+pub difference_symmetric : (v w : VersionValue) → kind_between v w ≡ kind_between w v
+difference_symmetric v w = ap (λ r. kind_by r v w) (precedence_total.antisymm v w) ∙ turned (precedence w v) v w

@@ -1,6 +1,5 @@
 -- An integer is natural or negative.
-use Rattle.semver_core.proofs.Common.{None, Some, arith, inl, inr, refl, ℕ, ◌≡◌, from_natural, ◌⊎◌}
-use Rattle.std.specs.Prelude.{ℤ, pos, negsuc}
+use Rattle.semver_core.proofs.Common.{None, Some, arith, inl, inr, refl, ℕ, ◌≡◌, from_natural, ◌⊎◌, ℤ, pos, negsuc}
 
 pub natural_is : (z : ℤ) (n : ℕ) → from_natural z ≡ Some n → z ≡ pos n
 natural_is (pos m) n h = grind arith

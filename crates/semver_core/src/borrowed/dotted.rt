@@ -19,7 +19,7 @@ pub(crate) enum IdRef<'a> {
 
 // The identifier that a run spells, of this number.
 #[inline(always)]
-#[tactic(auto, using(crate::proofs::Text::OnePass::scanned))]
+#[tactic(auto, using(crate::proofs::Text::Digits::scanned))]
 fn run_id(run: &[u8], number: Option<u64>) -> IdRef<'_>
     requires number { number ≡ number_of_run (Some 0) run.now }
     requires text { IsUtf8 run.now }

@@ -1,8 +1,7 @@
 // The order of the cuts that two bounds make.
-ghost use Rattle.std.specs.Prelude.{◌≡◌};
-ghost use Rattle.std.specs.Ordering.{is_lt};
-ghost use Rattle.semver_core.specs.Cuts.{cut_cmp, greater_lower, lesser_upper};
-ghost use Rattle.semver_core.specs.Cuts.{lower_cut, upper_cut};
+ghost use Rattle.std.specs.{Ordering.is_lt, Prelude.◌≡◌};
+ghost use Rattle.semver_core.specs.Cuts.{cut_cmp, greater_lower, lesser_upper, lower_cut};
+ghost use Rattle.semver_core.specs.Cuts.{upper_cut};
 
 use crate::cuts::bound::Bound;
 use std::cmp::Ordering;

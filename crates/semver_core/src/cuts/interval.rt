@@ -1,12 +1,9 @@
 // An interval: all points between two cuts.
-ghost use Rattle.std.specs.Prelude.{◌≡◌, ◌&&◌, ◌||◌, not, Option, Some, None, IfOk, IfErr, true};
-ghost use Rattle.std.specs.Prelude.{IsTrue, OnErr, is_some};
-ghost use Rattle.std.specs.Ordering.{is_le, is_lt};
-ghost use Rattle.semver_core.specs.Cuts.{covers, cut_cmp, has_bound, holds, interval};
-ghost use Rattle.semver_core.specs.Cuts.{is_interval, is_past};
-ghost use Rattle.semver_core.specs.Cuts.{left_above, left_below, lower_cut, meet};
-ghost use Rattle.semver_core.specs.Cuts.{option_holds, remainders, upper_cut};
-ghost use Rattle.semver_core.specs.Clips.{clip};
+ghost use Rattle.std.specs.{Ordering.{is_le, is_lt}, Prelude.{◌≡◌, ◌&&◌, ◌||◌, not, Option, Some}};
+ghost use Rattle.std.specs.Prelude.{None, IfOk, IfErr, true, IsTrue, OnErr, is_some};
+ghost use Rattle.semver_core.specs.{Clips.clip, Cuts.{covers, cut_cmp, has_bound, holds, interval}};
+ghost use Rattle.semver_core.specs.Cuts.{is_interval, is_past, left_above, left_below, lower_cut};
+ghost use Rattle.semver_core.specs.Cuts.{meet, option_holds, remainders, upper_cut};
 
 use crate::cuts::bound::{Bound, Point};
 use crate::cuts::cut_order::{

@@ -1,19 +1,17 @@
 // The words of increments, a row each.
 
 ghost use Rattle.std.specs.Prelude.{◌≡◌, ◌<◌, ◌∷◌, [], IfOk, Ok, OnOk, length, ⊤};
-ghost use Rattle.semver_core.specs.Failures.{MemoryOnlyIf};
-ghost use Rattle.semver_core.specs.Increments.Table as spec;
-ghost use Rattle.semver_core.specs.Increments.View.{Returns};
-ghost use Rattle.semver_core.specs.Internal.IncrementSteps as steps;
+ghost use Rattle.semver_core.specs.{Failures.MemoryOnlyIf, Increments.View.Returns};
+ghost use Rattle.semver_core.specs.{Text.Identifiers.Numeric, Values.Versions.HasIdentifiers};
 ghost use Rattle.semver_core.specs.Internal.IncrementSteps.{MayAllocate, ReturnsParts, Steps};
 ghost use Rattle.semver_core.specs.Internal.IncrementSteps.{begun, parts_ref_value, stepped};
-ghost use Rattle.semver_core.specs.Text.Identifiers.{Numeric};
-ghost use Rattle.semver_core.specs.Values.Versions.{HasIdentifiers};
 ghost use Rattle.semver_core.specs.Values.Views.{ids_view};
+ghost use Rattle.semver_core.specs.Increments.Table as spec;
+ghost use Rattle.semver_core.specs.Internal.IncrementSteps as steps;
 
 use crate::increment::parts_ref::PartsRef;
 use crate::increment::pre_release::{
-    advance, first_number, is_replaced, new_list, put_identifier, unless_overflow,
+    advance, first_number, is_kept, is_replaced, new_list, unless_overflow,
 };
 use crate::increment::{IdentifierBase, IncrementError, one_more, refused_argument};
 use crate::version::lists::{Identifiers, Lists, Qualifier};
@@ -232,6 +230,8 @@ fn step(
         (spec.advance (ids_view list.old.items) id.now base)) }
 {
     advance(alloc, list, id, base)?;
-    put_identifier(alloc, list, id, base)?;
+    if !id.is_empty() && !is_kept(id, list) {
+        new_list(alloc, list, id, base)?;
+    }
     Ok(())
 }

@@ -1,20 +1,15 @@
 // The pre step: how the pre-release list goes on.
 
-ghost use Rattle.std.specs.Prelude.{◌≡◌, ◌∷◌, ◌++◌, [], ◌<◌, ◌==◌, IfOk, OnOk, length};
-ghost use Rattle.std.specs.Prelude.{string_bytes, true, false, if◌then◌else◌, IsTrue, Ok, ⊤};
-ghost use Rattle.std.specs.Char.{is_ascii_digit};
-ghost use Rattle.std.specs.List.{list_all};
-ghost use Rattle.std.specs.Ordering.{is_eq};
-ghost use Rattle.std.specs.Str.Parse.{digits_value};
-ghost use Rattle.semver_core.specs.Failures.{MemoryOnlyIf};
-ghost use Rattle.semver_core.specs.Text.Identifiers.{Numeric};
-ghost use Rattle.semver_core.specs.Increments.Table as spec;
-ghost use Rattle.semver_core.specs.Increments.Table.{has_numeric};
+ghost use Rattle.std.specs.{Char.is_ascii_digit, List.list_all, Ordering.is_eq, Prelude.{◌≡◌, ◌∷◌}};
+ghost use Rattle.std.specs.{Prelude.{false, if◌then◌else◌, IsTrue, Ok, ⊤}, Str.Parse.digits_value};
+ghost use Rattle.std.specs.Prelude.{◌++◌, [], ◌<◌, ◌==◌, IfOk, OnOk, length, string_bytes, true};
+ghost use Rattle.semver_core.specs.{Failures.MemoryOnlyIf, Increments.Table.has_numeric};
+ghost use Rattle.semver_core.specs.{Text.Identifiers.Numeric, Values.Order.id_cmp};
 ghost use Rattle.semver_core.specs.Internal.IncrementSteps.{FailsWith, MayAllocate, Steps, Tracks};
 ghost use Rattle.semver_core.specs.Internal.IncrementSteps.{begun, can_rise, list_text, stepped};
-ghost use Rattle.semver_core.specs.Printing.Text as printed;
-ghost use Rattle.semver_core.specs.Values.Order.{id_cmp};
 ghost use Rattle.semver_core.specs.Values.Views.{id_view, ids_view};
+ghost use Rattle.semver_core.specs.Increments.Table as spec;
+ghost use Rattle.semver_core.specs.Printing.Text as printed;
 
 use crate::increment::{IdentifierBase, IncrementError, is_false, one_more, refused_argument};
 use crate::version::lists::Identifiers;
@@ -40,23 +35,6 @@ pub(super) fn advance(
             Ok(())
         }
         None => count(alloc, list, id, base),
-    }
-}
-
-// The fourth step: the list, or the one that the identifier begins.
-pub(super) fn put_identifier(
-    alloc: Global,
-    list: &mut Identifiers,
-    id: &str,
-    base: IdentifierBase,
-) -> Result<(), AllocError>
-    ensures { OnOk result (ids_view list.new.items
-        ≡ spec.identify id.now base (ids_view list.old.items)) }
-{
-    if id.is_empty() || is_kept(id, list) {
-        Ok(())
-    } else {
-        new_list(alloc, list, id, base)
     }
 }
 
@@ -205,7 +183,7 @@ pub(super) fn new_list(
 }
 
 // Whether the list begins with what the identifier matches, and then a number.
-fn is_kept(wanted: &str, list: &[Identifier]) -> bool
+pub(super) fn is_kept(wanted: &str, list: &[Identifier]) -> bool
     requires { 0 < length wanted.now }
     ensures { result ≡ spec.is_kept wanted.now (ids_view list.now) }
 {

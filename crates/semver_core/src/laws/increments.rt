@@ -5,8 +5,8 @@ ghost use Rattle.std.specs.Prelude.{IsOkAnd, false, true, unwrap_or};
 ghost use Rattle.std.specs.declared.cmp.Ordering.TheVariants.{Less};
 ghost use Rattle.semver_core.specs.Increments.Least.{IsLeastOrOverflow, IsLeastVersion, IsPlain};
 ghost use Rattle.semver_core.specs.Increments.Table.{answer_of_inc, has_numeric};
-ghost use Rattle.semver_core.specs.Values.Order.{precedence};
-ghost use Rattle.semver_core.specs.Values.Versions.{VersionValue, IsVersion, is_release};
+ghost use Rattle.semver_core.specs.Values.{Order.precedence, Versions.{VersionValue, IsVersion}};
+ghost use Rattle.semver_core.specs.Values.Versions.{is_release};
 ghost use Rattle.semver_core.specs.declared.increment.IdentifierBase.{IdentifierBase};
 
 /// What the table says of each word, which is what `Version::inc` and `VersionRef::inc` return.

@@ -1,16 +1,13 @@
 // What the comparisons of the program say, in the words of the definitions, and laws of the order.
 
-ghost use Rattle.std.specs.Ordering.{is_le};
-ghost use Rattle.std.specs.Prelude.{◌≡◌, ◌↔◌, ◌||◌, ◌<◌, ◌+◌, ◌-◌, ◌^◌, ◌∷◌, ◌++◌, [], ℕ, List};
-ghost use Rattle.std.specs.Prelude.{Err, IsTrue, Ok, false, length, true};
+ghost use Rattle.std.specs.{Ordering.is_le, Prelude.{◌≡◌, ◌↔◌, ◌||◌, ◌<◌, ◌+◌, ◌-◌, ◌^◌, ◌∷◌}};
+ghost use Rattle.std.specs.Prelude.{◌++◌, [], ℕ, List, Err, IsTrue, Ok, false, length, true};
 ghost use Rattle.std.specs.declared.cmp.Ordering.TheVariants.{Equal, Less};
-ghost use Rattle.semver_core.specs.Increments.Least.{IsLeastVersion};
-ghost use Rattle.semver_core.specs.Increments.Table.{Overflow, asked, has_numeric, is_kept};
-ghost use Rattle.semver_core.specs.Increments.Table.{raise_last};
-ghost use Rattle.semver_core.specs.Text.Identifiers.{Id, Numeric};
-ghost use Rattle.semver_core.specs.Values.Order.{id_cmp, precedence};
-ghost use Rattle.semver_core.specs.Values.Versions.{VersionValue, IsVersion, release_value};
-ghost use Rattle.semver_core.specs.Values.Views.{id_view};
+ghost use Rattle.semver_core.specs.{Text.Identifiers.{Id, Numeric}, Values.Order.id_cmp};
+ghost use Rattle.semver_core.specs.Increments.{Least.IsLeastVersion, Table.{Overflow, asked}};
+ghost use Rattle.semver_core.specs.Increments.Table.{has_numeric, is_kept, raise_last};
+ghost use Rattle.semver_core.specs.Values.{Order.precedence, Versions.{VersionValue, IsVersion}};
+ghost use Rattle.semver_core.specs.Values.{Versions.release_value, Views.id_view};
 
 use crate::{Identifier, Version};
 use std::cmp::Ordering;

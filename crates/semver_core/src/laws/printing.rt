@@ -1,12 +1,9 @@
 // Printed versions come back.
 
 ghost use Rattle.std.specs.Prelude.{◌≡◌, ◌<◌, ◌≤◌, ◌^◌, ℕ, IfOk, length, string_bytes, true};
-ghost use Rattle.semver_core.specs.Failures.{RefusedOnlyIf};
-ghost use Rattle.semver_core.specs.Printing.RoundTrip.{is_readable};
-ghost use Rattle.semver_core.specs.Printing.Text.{id_text, version_text};
-ghost use Rattle.semver_core.specs.Text.VersionText.{Reads};
-ghost use Rattle.semver_core.specs.Values.Versions.{VersionValue};
-ghost use Rattle.semver_core.specs.Values.Views.{id_view};
+ghost use Rattle.semver_core.specs.{Failures.RefusedOnlyIf, Printing.RoundTrip.is_readable};
+ghost use Rattle.semver_core.specs.{Printing.Text.{id_text, version_text}, Text.VersionText.Reads};
+ghost use Rattle.semver_core.specs.Values.{Versions.VersionValue, Views.id_view};
 
 use crate::laws::reading::one_reading;
 use crate::{Failure, Identifier, MAX_LENGTH, MAX_SAFE_INTEGER, SemverError, Version};

@@ -2,9 +2,7 @@
 // reader reads it.
 
 ghost use Rattle.std.specs.Prelude.{◌≡◌, ◌≤◌, ℕ, IfNone, IfOk, IfSome, Some};
-ghost use Rattle.semver_core.specs.Failures.{NoValue};
-ghost use Rattle.semver_core.specs.Text.Common.{IsCommon};
-ghost use Rattle.semver_core.specs.Text.VersionText.{Reads};
+ghost use Rattle.semver_core.specs.{Failures.NoValue, Text.Common.IsCommon, Text.VersionText.Reads};
 ghost use Rattle.semver_core.specs.Values.Versions.{VersionValue};
 ghost use Rattle.semver_core.specs.declared.TheConstants.{MAX_SAFE_INTEGER};
 
@@ -55,7 +53,7 @@ pub fn common_reads_alike(text: &str)
 /// no version.
 ///
 /// Fails only if allocation fails.
-#[tactic(auto, using(crate::proofs::Text::Whole::alike))]
+#[tactic(auto, using(crate::proofs::Text::Fronts::alike))]
 pub fn both_readers(
     alloc: Global,
     text: &str,

@@ -2,12 +2,10 @@
 
 ghost use Rattle.std.specs.Prelude.{◌||◌, ◌==◌, get_or, ◌≡◌, ◌≤◌, ◌<◌, length, IfOk, IfSome};
 ghost use Rattle.std.specs.Prelude.{IfNone, None, OnErr};
-ghost use Rattle.semver_core.specs.Text.VersionText.{Reads};
-ghost use Rattle.semver_core.specs.Failures.{NoValue};
-ghost use Rattle.semver_core.specs.Text.Characters.{is_identifier_char};
-ghost use Rattle.semver_core.specs.Text.Common.{IsCommon};
-ghost use Rattle.semver_core.specs.Internal.CommonReading.{small_len, whole_at, common_of};
-ghost use Rattle.semver_core.specs.Internal.Reading.{part_at, qualified, triple_at};
+ghost use Rattle.semver_core.specs.{Failures.NoValue, Internal.CommonReading.{small_len, whole_at}};
+ghost use Rattle.semver_core.specs.{Internal.Reading.triple_at, Text.Characters.is_identifier_char};
+ghost use Rattle.semver_core.specs.Internal.{CommonReading.common_of, Reading.{part_at, qualified}};
+ghost use Rattle.semver_core.specs.Text.{Common.IsCommon, VersionText.Reads};
 ghost use Rattle.semver_core.specs.Values.Versions.{HasIdentifiers, VersionValue};
 
 use crate::readers::loose::{begins_lists, front_of_numbers, lists_at, stands_at};
@@ -70,7 +68,7 @@ pub(crate) fn leading_numbers(text: &str) -> Option<(u64, u64, u64, usize)>
 
 // The numbers of the version at the front of a text, and the place behind them.
 #[inline(always)]
-#[tactic(auto, using(crate::proofs::Text::Whole::numbers_found))]
+#[tactic(auto, using(crate::proofs::Text::Fronts::numbers_found))]
 pub(crate) fn numbers(text: &str) -> Option<(u64, u64, u64, usize)>
     ensures some { IfSome result (λ found.
         Reads MAX_SAFE_INTEGER text.now (qualified text.now found)) }
@@ -103,7 +101,7 @@ fn loose_numbers(text: &str) -> Option<(u64, u64, u64, usize)>
 
 // The version of three numbers and the qualifier that goes from a place to the end of the text.
 #[inline(never)]
-#[tactic(auto, using(crate::proofs::Text::Whole::lists_behind))]
+#[tactic(auto, using(crate::proofs::Text::Fronts::lists_behind))]
 fn version_of_whole(
     alloc: Global,
     text: &str,
@@ -152,7 +150,7 @@ fn read(alloc: Global, text: &str) -> Result<Option<Version>, AllocError>
 /// Fails only if allocation fails, which happens only where the version at the front of the text
 /// has a pre-release or build metadata.
 #[inline(always)]
-#[tactic(auto, using(crate::proofs::Text::Whole::read_common))]
+#[tactic(auto, using(crate::proofs::Text::Fronts::read_common))]
 pub fn version_fast(alloc: Global, text: &str) -> Result<Option<Version>, AllocError>
     // The version is the one that the whole text is.
     ensures some { IfOk result (λ found. IfSome found (λ v. IsCommon MAX_SAFE_INTEGER text.now v)) }

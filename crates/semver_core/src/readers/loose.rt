@@ -1,17 +1,15 @@
 //! The reader of version texts.
 
-ghost use Rattle.std.specs.Prelude.{◌≡◌, ◌≤◌, ◌<◌, ◌+◌, ◌⊎◌, [], true, length, drop, Some, IfOk};
-ghost use Rattle.std.specs.Prelude.{◌==◌, IfSome, IfNone, IsFalse, IsTrue, OnErr, OnSome, false};
-ghost use Rattle.std.specs.List.{prefix_len};
-ghost use Rattle.semver_core.specs.Failures.{NoValue};
-ghost use Rattle.semver_core.specs.Text.Characters.{begins, is_identifier_char, IsAfterBlank};
-ghost use Rattle.semver_core.specs.Text.Identifiers.{goes_on};
-ghost use Rattle.semver_core.specs.Text.VersionText.{Reads};
-ghost use Rattle.semver_core.specs.Internal.Reading.{pre_release_at, build_at};
-ghost use Rattle.semver_core.specs.Internal.Reading.{list_from, lists_at, mark_len, qualified};
-ghost use Rattle.semver_core.specs.Values.Versions.{VersionValue, HasIdentifiers};
-ghost use Rattle.semver_core.specs.Values.Views.{ids_view};
-ghost use Rattle.semver_core.specs.Internal.Inside.{IsFull, build_of, pre_release_of};
+ghost use Rattle.std.specs.{List.prefix_len, Prelude.{◌≡◌, ◌≤◌, ◌<◌, ◌+◌, ◌⊎◌, [], true, length}};
+ghost use Rattle.std.specs.Prelude.{drop, Some, IfOk, ◌==◌, IfSome, IfNone, IsFalse, IsTrue, OnErr};
+ghost use Rattle.std.specs.Prelude.{OnSome, false};
+ghost use Rattle.semver_core.specs.{Failures.NoValue, Internal.Inside.{IsFull, build_of}};
+ghost use Rattle.semver_core.specs.{Internal.Reading.qualified, Text.Characters.begins};
+ghost use Rattle.semver_core.specs.Internal.{Inside.pre_release_of, Reading.pre_release_at};
+ghost use Rattle.semver_core.specs.Internal.Reading.{build_at, list_from, lists_at, mark_len};
+ghost use Rattle.semver_core.specs.Text.{Identifiers.goes_on, VersionText.Reads};
+ghost use Rattle.semver_core.specs.Text.Characters.{is_identifier_char, IsAfterBlank};
+ghost use Rattle.semver_core.specs.Values.{Versions.{VersionValue, HasIdentifiers}, Views.ids_view};
 
 use crate::readers::fast::numbers;
 use crate::version::lists::{Identifiers, Lists, Qualifier};
@@ -20,7 +18,7 @@ use std::alloc::{AllocError, Global};
 
 // Whether a mark stands at a place.
 #[inline(always)]
-#[tactic(auto, using(crate::proofs::Text::Places::places))]
+#[tactic(auto, using(crate::proofs::Text::Digits::places))]
 pub(crate) fn stands_at(bytes: &[u8], at: usize, mark: u8) -> bool
     requires { at ≤ length bytes.now }
     ensures stands { result ≡ begins (λ b. b == mark) (drop at bytes.now) }
@@ -32,7 +30,7 @@ pub(crate) fn stands_at(bytes: &[u8], at: usize, mark: u8) -> bool
 // Whether a pre-release or a build may begin at a place: with a character of identifiers, which `-`
 // is too, or with `+`.
 #[inline(always)]
-#[tactic(auto, using(crate::proofs::Text::Whole::no_lists))]
+#[tactic(auto, using(crate::proofs::Text::Fronts::no_lists))]
 pub(crate) fn begins_lists(text: &str, at: usize) -> bool
     requires { at ≤ length text.now }
     ensures { IsFalse result → lists_at text.now at ≡ ([], [], at) }

@@ -1,12 +1,9 @@
 // What versions of every kind have in common, and what is written once for all of them.
 
-ghost use Rattle.std.proofs.Common.{sym, true≢false};
-ghost use Rattle.std.specs.Fmt.{DisplaysStyledOnOk};
+ghost use Rattle.std.{proofs.Common.{sym, true≢false}, specs.Fmt.DisplaysStyledOnOk};
 ghost use Rattle.std.specs.Prelude.{◌≡◌, Bool, Some, refl, true};
-ghost use Rattle.semver_core.specs.Printing.Text.{version_text};
-ghost use Rattle.semver_core.specs.Values.Memory.{takes_memory};
-ghost use Rattle.semver_core.specs.Values.Order.{precedence};
-ghost use Rattle.semver_core.specs.Values.Versions.{VersionValue, is_release};
+ghost use Rattle.semver_core.specs.{Printing.Text.version_text, Values.Memory.takes_memory};
+ghost use Rattle.semver_core.specs.Values.{Order.precedence, Versions.{VersionValue, is_release}};
 
 use crate::cuts::Point;
 use crate::print::{write_decimal, write_dotted, write_list};

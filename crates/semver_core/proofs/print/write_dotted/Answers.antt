@@ -1,5 +1,5 @@
 use Rattle.semver_core.proofs.Common.{refl, rules, ◌∙◌, has_written_styled_append, has_written_styled_of_eq}
-use Rattle.semver_core.proofs.Printing.Prints.{digit_text}
+use Rattle.semver_core.proofs.Printing.Returns.{digit_text}
 use Rattle.semver_core.proofs.print.write_dotted.Goals as goal
 
 pub returns-then-number-lt10 : goal.returns-then-number-lt10

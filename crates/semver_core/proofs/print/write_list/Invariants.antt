@@ -1,6 +1,4 @@
-use Rattle.semver_core.proofs.Common.{List, length, ℕ, ◌++◌, ◌≡◌, marked_list}
-use Rattle.std.specs.Fmt.{HasWrittenStyled, IsFlush}
-use denote.{Shadow.shadow, Text.Utf8}
+use Rattle.semver_core.proofs.Common.{List, length, ℕ, ◌++◌, ◌≡◌, marked_list, HasWrittenStyled, IsFlush, shadow, Utf8}
 use Rattle.semver_core.proofs.print.write_list.Given as goal
 
 abbrev pub invariant-ids : goal.invariant-ids

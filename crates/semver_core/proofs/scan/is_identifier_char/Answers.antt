@@ -11,9 +11,8 @@ agree_below f g (suc n) = beq (f n) (g n) && agree_below f g n
 
 agree-both : (x y rest : Bool) → (beq x y && rest) ≡ true → (x ≡ y) × (rest ≡ true)
 agree-both true true rest h = (refl, h)
-agree-both true false rest h = cc
-agree-both false true rest h = cc
 agree-both false false rest h = (refl, h)
+agree-both x y rest h = cc
 
 agree-at : (f g : ℕ → Bool) (n : ℕ) → agree_below f g n ≡ true → (b : ℕ) → b < n → f b ≡ g b
 unfolding agree_below

@@ -1,5 +1,5 @@
 use Rattle.semver_core.proofs.Common.{NoValue, listed, Reads, MAX_SAFE_INTEGER, arith, rules}
-use Rattle.semver_core.proofs.Text.{Ends.{not_parsed, short_parsed}, Whole.release_read}
+use Rattle.semver_core.proofs.Text.{Ends.{not_parsed, short_parsed}, Fronts.release_read}
 use Rattle.semver_core.proofs.borrowed.VersionRef.parse.Goals as goal
 
 pub returns-then-end-text-clause-ok : goal.returns-then-end-text-clause-ok

@@ -1,6 +1,5 @@
-use Rattle.semver_core.proofs.Common.{sym, take_rest}
-use Rattle.{std.proofs.Common.length-take-le, semver_core.proofs.Text.Firsts.{front_end, front_fits, front_number, ids_first}}
-use Rattle.semver_core.proofs.Text.{Firsts.ids_others, Listed.front_utf8}
+use Rattle.semver_core.proofs.Common.{sym, take_rest, length-take-le}
+use Rattle.semver_core.proofs.Text.{Firsts.{front_end, front_fits, front_number, ids_first, ids_others}, Listed.front_utf8}
 use Rattle.semver_core.proofs.borrowed.dotted.first_id.Goals as goal
 
 pub slice_bounds-run_id-end : goal.slice_bounds-run_id-end

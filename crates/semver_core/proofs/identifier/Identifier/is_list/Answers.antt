@@ -1,7 +1,5 @@
 use Rattle.semver_core.proofs.Common.{is_identifier, pieces, is_listed, List, [], arith, eqb, length, refl, rules, sym, ℕ, ◌<◌}
-use Rattle.semver_core.proofs.Common.{◌∙◌, ◌∷◌, ◌≡◌, list_all}
-use Rattle.std.proofs.{Common.tests, lemmas.Iterator.Search.all_from_yields_List}
-use Rattle.std.proofs.lemmas.Iterator.Splits.{YieldsList-from_slice_split}
+use Rattle.semver_core.proofs.Common.{◌∙◌, ◌∷◌, ◌≡◌, list_all, tests, all_from_yields_List, YieldsList-from_slice_split}
 use Rattle.semver_core.proofs.identifier.Identifier.is_list.Goals as goal
 
 listed_by_pieces : (text : List ℕ) → 0 < length text → is_listed text ≡ list_all is_identifier (pieces text)

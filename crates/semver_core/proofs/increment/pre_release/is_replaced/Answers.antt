@@ -1,5 +1,5 @@
 use Rattle.semver_core.proofs.Common.{is_empty, AlphaNumeric, arith, false, sym, ◌∙◌, ◌∷◌, ◌≡◌, bytes_eq}
-use Rattle.semver_core.proofs.Increments.Replaced.{text_replaced}
+use Rattle.semver_core.proofs.Increments.LastNumber.{text_replaced}
 use Rattle.semver_core.proofs.increment.pre_release.is_replaced.Goals as goal
 
 pub returns-then-ne : goal.returns-then-ne

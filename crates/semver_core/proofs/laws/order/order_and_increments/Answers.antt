@@ -1,7 +1,6 @@
 use Rattle.semver_core.proofs.Common.{[], ap, arith, sym, true, ◌∙◌, ◌≡◌, tied_itself, is_le, Equal, Greater, Less}
-use Rattle.semver_core.proofs.Common.{precedence_total, precedence, not, not-true, upto, ordering_reverse, Ordering}
-use Rattle.semver_core.{specs.Internal.OrderLaws.same_key, proofs.CutLaws.{lt_not_gt, tells}}
-use Rattle.semver_core.proofs.Increments.LastNumber.{list_kept, list_overflows, list_raised}
+use Rattle.semver_core.proofs.Common.{precedence_total, precedence, not, not-true, upto, ordering_reverse, Ordering, same_key}
+use Rattle.semver_core.proofs.{CutLaws.{lt_not_gt, tells}, Increments.LastNumber.{list_kept, list_overflows, list_raised}}
 use Rattle.semver_core.proofs.Values.NextLaws as law
 use Rattle.semver_core.proofs.laws.order.order_and_increments.Goals as goal
 

@@ -1,4 +1,4 @@
-use Rattle.semver_core.proofs.Text.LargerLimit.{keeps_version}
+use Rattle.semver_core.proofs.Text.Fronts.{keeps_version}
 use Rattle.semver_core.proofs.laws.reading.larger_limits.Goals as goal
 
 pub returns-clause-same : goal.returns-clause-same

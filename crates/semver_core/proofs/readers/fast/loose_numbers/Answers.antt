@@ -1,6 +1,6 @@
 use Rattle.semver_core.proofs.Common.{NoValue, qualified, triple_at, IsAfterBlank, Reads, MAX_SAFE_INTEGER, List, None, Option}
 use Rattle.semver_core.proofs.Common.{Some, ap, arith, sym, ℕ, ◌∙◌, ◌≡◌, small_len, mark_len, IfSome, IfNone}
-use Rattle.semver_core.proofs.Text.Whole.{loose_not, loose_read}
+use Rattle.semver_core.proofs.Text.Fronts.{loose_not, loose_read}
 use Rattle.semver_core.proofs.readers.fast.loose_numbers.Goals as goal
 
 found : (limit : ℕ) (text : List ℕ) (start : ℕ) (o : Option (ℕ × ℕ × ℕ × ℕ)) → IsAfterBlank text (mark_len text) start

@@ -1,4 +1,4 @@
-use Rattle.{std.proofs.lemmas.Result.on_err_weaker, semver_core.proofs.Text.Whole.front_memory}
+use Rattle.{std.proofs.lemmas.Result.on_err_weaker, semver_core.proofs.Text.Fronts.front_memory}
 use Rattle.semver_core.proofs.readers.fast.read.Goals as goal
 
 pub returns-clause-memory : goal.returns-clause-memory

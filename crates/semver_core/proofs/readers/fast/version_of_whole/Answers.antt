@@ -1,5 +1,5 @@
 use Rattle.semver_core.proofs.Common.{sym}
-use Rattle.semver_core.proofs.Text.Whole.{lists_left}
+use Rattle.semver_core.proofs.Text.Fronts.{lists_left}
 use Rattle.semver_core.proofs.readers.fast.version_of_whole.Goals as goal
 
 pub returns-then-end-text-clause-found : goal.returns-then-end-text-clause-found

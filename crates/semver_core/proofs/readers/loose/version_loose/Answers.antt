@@ -1,5 +1,5 @@
 use Rattle.semver_core.proofs.Common.{arith}
-use Rattle.semver_core.proofs.Text.Whole.{release_read}
+use Rattle.semver_core.proofs.Text.Fronts.{release_read}
 use Rattle.semver_core.proofs.readers.loose.version_loose.Goals as goal
 
 pub returns-then-end-text-clause-some : goal.returns-then-end-text-clause-some

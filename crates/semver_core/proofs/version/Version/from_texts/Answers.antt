@@ -1,5 +1,5 @@
 use Rattle.semver_core.proofs.Common.{Numeric, listed, [], arith, length, ◌<◌, ◌∙◌, ◌∷◌, ◌≡◌}
-use Rattle.semver_core.proofs.Text.{Listed.{listed_none, some_listed}, Zeros.{zeros_listed, listed_zeros}}
+use Rattle.semver_core.proofs.Text.Listed.{listed_none, some_listed, zeros_listed, listed_zeros}
 use Rattle.semver_core.proofs.version.Version.from_texts.Goals as goal
 
 pub returns-in_default-empty-clause-whole : goal.returns-in_default-empty-clause-whole
