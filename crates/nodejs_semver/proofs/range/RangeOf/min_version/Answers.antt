@@ -1,6 +1,5 @@
-use Rattle.nodejs_semver.proofs.Common.{IsLeastOf, None, Some, VersionValue, [], accepts, false, least_build, subst, sym, wanted}
-use Rattle.nodejs_semver.proofs.Common.{◌∷◌, ◌≡◌}
-use Rattle.nodejs_semver.proofs.Algebra.FlatMaps.{on_err}
+use Rattle.nodejs_semver.proofs.Common.{IsLeastOf, None, Some, VersionValue, [], accepts, false, least_build, on_err, subst, sym}
+use Rattle.nodejs_semver.proofs.Common.{wanted, ◌∷◌, ◌≡◌}
 use Rattle.nodejs_semver.proofs.Choice.Kinds.{alone_allocates}
 use Rattle.nodejs_semver.proofs.Choice.Least.{least_accepted, least_build_built, least_of_itself, least_of_one}
 use Rattle.nodejs_semver.proofs.range.RangeOf.min_version.Goals as goal

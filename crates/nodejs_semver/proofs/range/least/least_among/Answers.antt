@@ -1,5 +1,4 @@
-use Rattle.nodejs_semver.proofs.Common.{IsLeastOf, spans_of, subst, sym, wanted}
-use Rattle.nodejs_semver.proofs.Algebra.FlatMaps.{on_err}
+use Rattle.nodejs_semver.proofs.Common.{IsLeastOf, on_err, spans_of, subst, sym, wanted}
 use Rattle.nodejs_semver.proofs.Choice.Least.{least_bare, least_wanted}
 use Rattle.nodejs_semver.proofs.range.least.least_among.Goals as goal
 
