@@ -160,6 +160,5 @@ module _ {V : Type 0} (R : V → V → Ordering) (value : V → VersionValue)
 
   pub intervals-ordered : list_all (is_interval R) xs ≡ true
   intervals-ordered =
-      sym (all_intervals-values R value ordered xs)
-      ∙ ap (list_all (is_interval precedence)) p
+      sym (all_intervals-values R value ordered xs) ∙ ap (list_all (is_interval precedence)) p
       ∙ all_intervals (MAX_SAFE_INTEGER + 1) a h.each

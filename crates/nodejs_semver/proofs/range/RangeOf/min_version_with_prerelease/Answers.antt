@@ -14,11 +14,11 @@ returns-in_err-consider_past_held-clause-memory g c =
     on_err _ (begins_after g.V.Versioned.value c.items-intervals.result.now _ c.interval-item.result c.loop-interval-test.true
     c.interval-item.is _ c.items-intervals.ensures.value _ c.lower.ensures.value c.in_err-consider_past_held.ensures.memory)
 
-pub returns-clause-least : goal.returns-clause-least
-returns-clause-least g c =
+pub returns : goal.returns
+returns g c =
     let ss = c.args.self.now in
-    let found : c.loop-interval.best ≡ least_of (λ v. accepts ss v true) (firsts_past ss) = grind (arith, common_steps) in
-    subst (IsLeastOf (λ v. accepts ss v true)) (sym found) (least_held ss)
-
-pub returns-clause-build : goal.returns-clause-build
-returns-clause-build g c = held_bare c.args.self.now c.loop-interval.best (grind (arith, common_steps))
+    let found : c.loop-interval.best ≡ least_of (λ v. accepts ss v true) (firsts_past ss) = grind (arith, common_steps) in record {
+      least = subst (IsLeastOf (λ v. accepts ss v true)) (sym found) (least_held ss);
+      build = held_bare ss _ found;
+      memory = tt;
+    }
