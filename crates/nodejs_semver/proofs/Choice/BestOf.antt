@@ -98,12 +98,9 @@ module _ {V : Type 0} (in_front behind beaten : V → V → Bool) (front : (w v 
       (AllPass-from_list_all _ h.2 h.5))))
 
   best_says : (list : List V) (r : Option (Bor V)) → IsBest in_front behind set list (option_copied r) → Says beaten set list r
-  best_says list None h = (
-    tt,
-    tt,
-    tt,
-    All-weaker (λ w. not (set w) ≡ true) (λ w. set w ≡ false) (λ w q. not-true (set w) q) list (AllPass-from_list_all _ list h),
-  )
+  best_says list None h =
+      let none = All-weaker (λ w. not (set w) ≡ true) (λ w. set w ≡ false) (λ w q. not-true (set w) q) list
+      (AllPass-from_list_all _ list h) in (tt, tt, tt, none)
   best_says list (Some v) h =
       let member = Contains-append_right h.1 (v.now ∷ h.2) v.now (0, omega arith, refl) in
       (subst (λ l. Contains l v.now) (sym h.3) member, h.0, all_beaten list v.now h, tt)
