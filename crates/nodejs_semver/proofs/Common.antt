@@ -68,6 +68,9 @@ pub use Rattle.std.specs.List.{AllByRecursion, list_all, list_any, All, Any, fin
 pub use Rattle.std.specs.Ordering.{is_le}
 pub use Rattle.std.specs.Prelude.{◌==◌, ◌↔◌}
 -- words of ranges
+pub use Rattle.nodejs_semver.proofs.Algebra.FlatMaps.{all_flat, all_weaker, any_either, any_flat, any_pairs, any_same, any_under}
+pub use Rattle.nodejs_semver.proofs.Algebra.FlatMaps.{any_weaker, empty_is, flat_behind, flat_flat, flat_same, flat_some}
+pub use Rattle.nodejs_semver.proofs.Algebra.FlatMaps.{list_any-map, on_err, part_some, pick_both, take_next}
 pub use Rattle.nodejs_semver.specs.Internal.Candidates.{BeginsOtherwise, IsAfterPre, IsLeastSoFar, all_accept, below_named}
 pub use Rattle.nodejs_semver.specs.Internal.Candidates.{beside, candidates, has_build}
 unfoldable pub use Rattle.nodejs_semver.specs.Internal.Fronts.{partial_front}
@@ -85,6 +88,7 @@ pub use Rattle.nodejs_semver.specs.Text.WrittenSet.{Writes}
 pub use Rattle.nodejs_semver.specs.declared.range.outside.OutsideDirection.TheVariants.{Higher, Lower}
 pub use Rattle.semver_core.proofs.CutLaws.{below_lesser, below_upto, between, between_from, chain, greater_below, irreflexive}
 pub use Rattle.semver_core.proofs.CutLaws.{is_past-down, is_some-interval, lt_not_gt, lt_trans, none_of, not_above, not_below}
+pub use Rattle.semver_core.proofs.CutLaws.{option_holds-interval, option_holds-meet, past_below, remainders-hold, upto_below}
 pub use Rattle.semver_core.specs.Cuts.{End, has_bound, option_holds, passes}
 pub use Rattle.semver_core.specs.Failures.{MemoryOnlyIf}
 pub use Rattle.semver_core.specs.Printing.RoundTrip.{is_normal, is_readable}
@@ -92,18 +96,19 @@ pub use Rattle.semver_core.specs.Text.Identifiers.{AlphaNumeric, Numeric, identi
 pub use Rattle.semver_core.specs.Values.Order.{pre_cmp, version_eq}
 pub use Rattle.semver_core.specs.Values.Versions.{release_value}
 pub use Rattle.semver_core.specs.declared.error.Failure.TheVariants.{Memory, Refused}
-pub use Rattle.std.proofs.Common.{Bor, Err, Greater, IfNone, IfOk, Ok, OnErr, Result, codes, fold, get_or-drop, is_eq, is_lt}
+pub use Rattle.std.proofs.Common.{Bor, Err, Greater, IfNone, IfOk, Ok, Result, codes, fold, get_or-drop, is_eq, is_lt}
 pub use Rattle.std.proofs.Common.{length-drop, max, option_and_then, option_copied, option_map, take-append-drop, tests, ◌^◌, ◌≢◌}
 pub use Rattle.std.proofs.Math.Bool.{and-false, or-false}
 pub use Rattle.std.proofs.Output.{has_written_styled_of_eq}
 pub use Rattle.std.proofs.lemmas.Bool.{and_cases, false≢true, not-false, or_parts}
 pub use Rattle.std.proofs.lemmas.Grind.{flat_map-append, fold-append}
-pub use Rattle.std.proofs.lemmas.List.{get_or-map, length-map, map-append, map-id, take_more}
-pub use Rattle.std.proofs.lemmas.List.Elements.{All-append, All-cons, All-get_or, All-head, All-same, All-tail, All-weaker}
+pub use Rattle.std.proofs.lemmas.List.{get_or-map, length-map, map-append, map-id}
+pub use Rattle.std.proofs.lemmas.List.Elements.{All-append, All-cons, All-from_recursion, All-get_or, All-head, All-nil, All-same}
+pub use Rattle.std.proofs.lemmas.List.Elements.{All-tail, All-weaker, Contains-append_right}
 pub use Rattle.std.proofs.lemmas.List.Folds.{find-append, flat_map-map, list_all-map}
 pub use Rattle.std.proofs.lemmas.List.Sums.{AllPass-from_list_all, fold_more}
 pub use Rattle.std.proofs.lemmas.Result.{IfOk-weaker, on_ok_weaker}
-pub use Rattle.std.specs.List.{Contains, join_by}
+pub use Rattle.std.specs.List.{AllWithin, Contains, join_by}
 pub use Rattle.std.specs.Ordering.{bool_cmp, is_ge, nat_cmp, on, ordering_reverse, ordering_then, then_cmp}
 pub use Rattle.std.specs.Prelude.{filter_map, ⊤}
 -- words of readers

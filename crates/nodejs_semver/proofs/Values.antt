@@ -7,8 +7,7 @@ use Rattle.nodejs_semver.proofs.Common.{is_gt, is_interval, is_le, is_past, is_s
 use Rattle.nodejs_semver.proofs.Common.{length-map, lesser_upper, list_all, list_all-map, list_any, lower_cut, map, map-append}
 use Rattle.nodejs_semver.proofs.Common.{meet, meets_of, minus, option_map, option_to_list, ordering_reverse, ordering_then}
 use Rattle.nodejs_semver.proofs.Common.{passes, precedence, precedence_total, range_text, refl, remainder, span_of, span_text}
-use Rattle.nodejs_semver.proofs.Common.{spans_of, sym, take, true, upper_cut, ℕ, ◌++◌, ◌+◌, ◌<◌, ◌∙◌, ◌∷◌, ◌≡◌}
-use Rattle.nodejs_semver.proofs.Algebra.FlatMaps.{take_next}
+use Rattle.nodejs_semver.proofs.Common.{spans_of, sym, take, take_next, true, upper_cut, ℕ, ◌++◌, ◌+◌, ◌<◌, ◌∙◌, ◌∷◌, ◌≡◌}
 use Rattle.semver_core.specs.Values.Memory.{takes_memory}
 
 -- versions that are their own values

@@ -1,14 +1,13 @@
 -- That the intersection and the difference of two lists are intervals of a range, and what they hold and accept.
 use Rattle.nodejs_semver.proofs.Common.{Bool, Bound, IfOk, IfOk-weaker, IsRange, IsTotalOrder, IsTrue, List, MAX_SAFE_INTEGER}
-use Rattle.nodejs_semver.proofs.Common.{None, Option, Ordering, Result, Some, Span, VersionValue, [], accepts, and_parts, ap, ap₂}
-use Rattle.nodejs_semver.proofs.Common.{arith, cond_both, cut_cmp, difference, false, first_so, flat_map, get_or, if_any, inl}
-use Rattle.nodejs_semver.proofs.Common.{inr, intersection, is_gt, is_interval, is_range_bound, is_range_span, is_release, is_some}
-use Rattle.nodejs_semver.proofs.Common.{left_above, left_below, length, length-map, list_all, list_all-append, list_holds}
-use Rattle.nodejs_semver.proofs.Common.{lower_cut, meet, meets_of, minus, not, option_accepts, option_list_holds, option_to_list}
-use Rattle.nodejs_semver.proofs.Common.{precedence, precedence_total, refl, remainder, remainders_by, span_of, spans_of, subst}
-use Rattle.nodejs_semver.proofs.Common.{sym, true, turned_lower, turned_upper, upper_cut, ℕ, ◌&&◌, ◌++◌, ◌+◌, ◌<◌, ◌∙◌, ◌∷◌, ◌≡◌}
-use Rattle.nodejs_semver.proofs.Common.{◌≢◌, ◌⊎◌}
-use Rattle.nodejs_semver.proofs.Algebra.FlatMaps.{all_flat, all_weaker}
+use Rattle.nodejs_semver.proofs.Common.{None, Option, Ordering, Result, Some, Span, VersionValue, [], accepts, all_flat}
+use Rattle.nodejs_semver.proofs.Common.{all_weaker, and_parts, ap, ap₂, arith, cond_both, cut_cmp, difference, false, first_so}
+use Rattle.nodejs_semver.proofs.Common.{flat_map, get_or, if_any, inl, inr, intersection, is_gt, is_interval, is_range_bound}
+use Rattle.nodejs_semver.proofs.Common.{is_range_span, is_release, is_some, left_above, left_below, length, length-map, list_all}
+use Rattle.nodejs_semver.proofs.Common.{list_all-append, list_holds, lower_cut, meet, meets_of, minus, not, option_accepts}
+use Rattle.nodejs_semver.proofs.Common.{option_list_holds, option_to_list, precedence, precedence_total, refl, remainder}
+use Rattle.nodejs_semver.proofs.Common.{remainders_by, span_of, spans_of, subst, sym, true, turned_lower, turned_upper, upper_cut}
+use Rattle.nodejs_semver.proofs.Common.{ℕ, ◌&&◌, ◌++◌, ◌+◌, ◌<◌, ◌∙◌, ◌∷◌, ◌≡◌, ◌≢◌, ◌⊎◌}
 use Rattle.nodejs_semver.proofs.Values.{all_intervals-values, meets_of-values, minus-values}
 use Rattle.nodejs_semver.proofs.Algebra.Accepting.{accepts-held, accepts-release, list_holds-meets_of, list_holds-minus}
 use Rattle.nodejs_semver.proofs.Algebra.Accepting.{option_list_holds-if_any}
@@ -161,6 +160,5 @@ module _ {V : Type 0} (R : V → V → Ordering) (value : V → VersionValue)
 
   pub intervals-ordered : list_all (is_interval R) xs ≡ true
   intervals-ordered =
-      sym (all_intervals-values R value ordered xs)
-      ∙ ap (list_all (is_interval precedence)) p
+      sym (all_intervals-values R value ordered xs) ∙ ap (list_all (is_interval precedence)) p
       ∙ all_intervals (MAX_SAFE_INTEGER + 1) a h.each

@@ -1,9 +1,13 @@
 -- Lists that are joined from a list for each element of another, and tests of their elements.
-use Rattle.nodejs_semver.proofs.Common.{Bool, Err, List, Ok, OnErr, Option, Result, [], and_parts, ap, append-nil, append_assoc}
-use Rattle.nodejs_semver.proofs.Common.{ap₂, arith, false, flat_map, flat_map-append, get_or, inl, inr, is_empty, is_some, length}
-use Rattle.nodejs_semver.proofs.Common.{list_all, list_all-append, list_any, list_any-append, map, not, option_to_list, or_cases}
-use Rattle.nodejs_semver.proofs.Common.{refl, sym, take, take_more, true, ℕ, ◌&&◌, ◌++◌, ◌+◌, ◌<◌, ◌||◌, ◌∙◌, ◌∷◌, ◌≡◌}
-use Rattle.std.proofs.lemmas.List.Folds.{Any-from_list_any, length-flat_map-take, list_any_at}
+use Rattle.std.proofs.Common.{append_assoc, ◌≡◌, refl, sym, ◌∙◌, ap, ap₂, ℕ, ◌+◌, ◌<◌, Bool, true, false, ◌&&◌, ◌||◌, List}
+use Rattle.std.proofs.Common.{[], ◌∷◌, ◌++◌, length, get_or, take, not, inl, inr, arith, Option, is_some}
+use Rattle.std.proofs.Common.{option_to_list, map, Result, Ok, Err, OnErr}
+use Rattle.std.proofs.lemmas.Bool.{and_parts, or_cases}
+use Rattle.std.proofs.lemmas.Grind.{flat_map-append}
+use Rattle.std.proofs.lemmas.List.{append-nil, take_more}
+use Rattle.std.proofs.lemmas.List.Folds.{Any-from_list_any, length-flat_map-take, list_all-append, list_any-append, list_any_at}
+use Rattle.semver_core.specs.Lists.{is_empty}
+use Rattle.std.specs.List.{flat_map, list_all, list_any}
 
 pub empty_is : {A : Type 0} (xs : List A) → is_empty xs ≡ true → xs ≡ []
 empty_is xs h = grind arith

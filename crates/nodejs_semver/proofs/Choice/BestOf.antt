@@ -1,12 +1,10 @@
 -- The version that is found in a list is the best one of those in the set.
 use Rattle.nodejs_semver.proofs.Common.{All, All-append, All-cons, All-same, All-weaker, AllPass-from_list_all, Bool, Bor}
-use Rattle.nodejs_semver.proofs.Common.{Contains, IfNone, IfSome, IsBest, IsMax, IsMin, IsTotalOrder, List, None, Option}
-use Rattle.nodejs_semver.proofs.Common.{Ordering, Some, VersionValue, [], and_from, ap, append_assoc, arith, cases_Bool, false}
-use Rattle.nodejs_semver.proofs.Common.{get_or, if◌then◌else◌, inl, inr, is_le, is_lt, length, list_all, list_all-append, map}
-use Rattle.nodejs_semver.proofs.Common.{not, not-true, option_copied, precedence, precedence_total, refl, replaces, subst, sym}
-use Rattle.nodejs_semver.proofs.Common.{take, tied_itself, true, ℕ, ◌++◌, ◌+◌, ◌<◌, ◌||◌, ◌∙◌, ◌∷◌, ◌≡◌}
-use Rattle.std.proofs.lemmas.List.Elements.{Contains-append_right}
-use Rattle.nodejs_semver.proofs.Algebra.FlatMaps.{all_weaker}
+use Rattle.nodejs_semver.proofs.Common.{Contains, Contains-append_right, IfNone, IfSome, IsBest, IsMax, IsMin, IsTotalOrder, List}
+use Rattle.nodejs_semver.proofs.Common.{None, Option, Ordering, Some, VersionValue, [], all_weaker, and_from, ap, append_assoc}
+use Rattle.nodejs_semver.proofs.Common.{arith, cases_Bool, false, get_or, if◌then◌else◌, inl, inr, is_le, is_lt, length, list_all}
+use Rattle.nodejs_semver.proofs.Common.{list_all-append, map, not, not-true, option_copied, precedence, precedence_total, refl}
+use Rattle.nodejs_semver.proofs.Common.{replaces, subst, sym, take, tied_itself, true, ℕ, ◌++◌, ◌+◌, ◌<◌, ◌||◌, ◌∙◌, ◌∷◌, ◌≡◌}
 use Rattle.nodejs_semver.proofs.Values.{map-further}
 use Rattle.nodejs_semver.proofs.Algebra.Gate.{le_of_lt, le_trans, lt_is, lt_le}
 
@@ -100,12 +98,9 @@ module _ {V : Type 0} (in_front behind beaten : V → V → Bool) (front : (w v 
       (AllPass-from_list_all _ h.2 h.5))))
 
   best_says : (list : List V) (r : Option (Bor V)) → IsBest in_front behind set list (option_copied r) → Says beaten set list r
-  best_says list None h = (
-    tt,
-    tt,
-    tt,
-    All-weaker (λ w. not (set w) ≡ true) (λ w. set w ≡ false) (λ w q. not-true (set w) q) list (AllPass-from_list_all _ list h),
-  )
+  best_says list None h =
+      let none = All-weaker (λ w. not (set w) ≡ true) (λ w. set w ≡ false) (λ w q. not-true (set w) q) list
+      (AllPass-from_list_all _ list h) in (tt, tt, tt, none)
   best_says list (Some v) h =
       let member = Contains-append_right h.1 (v.now ∷ h.2) v.now (0, omega arith, refl) in
       (subst (λ l. Contains l v.now) (sym h.3) member, h.0, all_beaten list v.now h, tt)

@@ -1,20 +1,29 @@
 -- Spans of versions of any kind, read one by one as the spans of their values.
 use Rattle.nodejs_semver.proofs.Common.{All, All-get_or, All-head, All-tail, All-weaker, AllPass-from_list_all, Any}
-use Rattle.nodejs_semver.proofs.Common.{BeginsAfterPre, Bool, IfNone, IfSome, IsLeastSoFar, IsRaisable, IsRange, List}
-use Rattle.nodejs_semver.proofs.Common.{MAX_SAFE_INTEGER, Near, None, Option, Raisable, Some, Span, VersionValue, [], accepts}
-use Rattle.nodejs_semver.proofs.Common.{all_accept, and-true, and_parts, ap, arith, below_named, beside, better, beyond, bound_of}
-use Rattle.nodejs_semver.proofs.Common.{candidates, common_steps, cond_both, false, false≢true, find, find-append, first_so}
-use Rattle.nodejs_semver.proofs.Common.{firsts, flat_map, flat_map-append, fold, fold-append, get_or, get_or-map, holds, inl, inr}
-use Rattle.nodejs_semver.proofs.Common.{is_le, is_lt, is_past, is_range_span, least_build, length, length-map, lets_in, list_any}
-use Rattle.nodejs_semver.proofs.Common.{list_any-append, list_marks, lower_cut, map, not, not_if, option_map, or-false, or_cases}
-use Rattle.nodejs_semver.proofs.Common.{precedence, precedence_total, refl, removed_marks, span_of, spans_of, subst, sym, take}
-use Rattle.nodejs_semver.proofs.Common.{tells, tied_itself, true, ℕ, ◌&&◌, ◌++◌, ◌+◌, ◌-◌, ◌<◌, ◌^◌, ◌||◌, ◌∙◌, ◌∷◌, ◌≡◌, ◌⊎◌}
+use Rattle.nodejs_semver.proofs.Common.{BeginsAfterPre, Bool, Bound, IfNone, IfSome, IsAfterPre, IsLeastSoFar, IsRaisable}
+use Rattle.nodejs_semver.proofs.Common.{IsRange, List, MAX_SAFE_INTEGER, Near, None, Option, Raisable, Some, Span, VersionValue}
+use Rattle.nodejs_semver.proofs.Common.{[], accepts, all_accept, and-true, and_parts, ap, arith, below_named, beside, better}
+use Rattle.nodejs_semver.proofs.Common.{beyond, bound_of, candidates, common_steps, cond_both, false, false≢true, find}
+use Rattle.nodejs_semver.proofs.Common.{find-append, first_so, firsts, flat_map, flat_map-append, fold, fold-append, get_or}
+use Rattle.nodejs_semver.proofs.Common.{get_or-map, holds, inl, inr, is_le, is_lt, is_past, is_range_span, least_build, length}
+use Rattle.nodejs_semver.proofs.Common.{length-map, lets_in, list_any, list_any-append, list_marks, lower_cut, map, not, not_if}
+use Rattle.nodejs_semver.proofs.Common.{option_map, or-false, or_cases, precedence, precedence_total, refl, removed_marks}
+use Rattle.nodejs_semver.proofs.Common.{span_of, spans_of, subst, sym, take, take_next, tells, tied_itself, true, ℕ, ◌&&◌, ◌++◌}
+use Rattle.nodejs_semver.proofs.Common.{◌+◌, ◌-◌, ◌<◌, ◌^◌, ◌||◌, ◌∙◌, ◌∷◌, ◌≡◌, ◌⊎◌}
 use Rattle.nodejs_semver.specs.Internal.Candidates.{zero, StartsWith, IsLeastBuilt, lesser, EndsAfterPre, MayAllocate}
-use Rattle.nodejs_semver.proofs.Algebra.FlatMaps.{take_next}
 use Rattle.nodejs_semver.proofs.Values.{map-further}
 use Rattle.std.specs.Option.{option_or}
 use Rattle.nodejs_semver.proofs.Algebra.Gate.{le_trans, lt_is, lt_le, le_of_lt, past_order}
 
+-- the patch of a bound of a range can be raised
+module _ (limit : ℕ) (far : limit < 2 ^ 64 - 1) where
+  span_raisable : (s : Span VersionValue) → is_range_span limit s ≡ true → IsRaisable s
+  span_raisable s h = grind (arith, and_parts)
+
+pub raisable : (ss : List (Span VersionValue)) → IsRange MAX_SAFE_INTEGER ss → All IsRaisable ss
+raisable ss h = grind (arith, All-weaker, span_raisable, AllPass-from_list_all)
+
+-- one span of a list
 module _ {V : Type 0} (value : V → VersionValue) (xs : List (Span V)) (i : ℕ) (x : Span V) (within : i < length xs)
     (at : x ≡ get_or xs i x) where
   same_at : (d : Span VersionValue) → get_or (spans_of value xs) i d ≡ span_of value x
@@ -29,6 +38,19 @@ module _ {V : Type 0} (value : V → VersionValue) (xs : List (Span V)) (i : ℕ
 
   pub any_at : (P : Span VersionValue → Type 0) → P (span_of value x) → Any P (spans_of value xs)
   any_at P h = (i, span_of value x, long_at, same_at (span_of value x), h)
+
+  pub lower_raisable : (ss : List (Span VersionValue)) → IsRange MAX_SAFE_INTEGER ss → spans_of value xs ≡ ss
+      → (b : Bound V) → b ≡ x.lower → Raisable (bound_of value b)
+  lower_raisable ss h e b k =
+      subst (λ b. Raisable (bound_of value b)) (sym k) (raisable_at (subst (All IsRaisable) (sym e) (raisable ss h))).0
+
+  pub begins_after : {P : Type 0} (ss : List (Span VersionValue)) → spans_of value xs ≡ ss → (b : Bound V) → b ≡ x.lower
+      → P ⊎ IsAfterPre (bound_of value b) → P ⊎ BeginsAfterPre ss
+  begins_after ss e b k h = elim h [
+    | inl found ↦ inl found
+    | inr after ↦
+        inr (subst BeginsAfterPre e (any_at (λ s. IsAfterPre s.lower) (subst (λ b. IsAfterPre (bound_of value b)) k after)))
+  ]
 
 -- what a list of spans of any kind finds is what the spans of its values find
 find-map : {A B : Type 0} (f : A → B) (p : B → Bool) (xs : List A) → find p (map f xs) ≡ option_map f (find (λ x. p (f x)) xs)
@@ -62,13 +84,7 @@ pub all_marks : (set : VersionValue → Bool) (kss : List (List (Span VersionVal
     (old first mid new : Option VersionValue) → first ≡ better set old zero
     → mid ≡ fold (better set) first (flat_map firsts (flat_map list_marks kss))
     → new ≡ fold (better set) mid (flat_map firsts (flat_map removed_marks ls)) → new ≡ fold (better set) old (candidates kss ls)
-all_marks set kss ls old first mid new f m n =
-    let ks = flat_map list_marks kss in
-    let rs = flat_map removed_marks ls in
-    n ∙ ap (λ o. fold (better set) o (flat_map firsts rs)) m
-    ∙ sym (fold-append (better set) first (flat_map firsts ks) (flat_map firsts rs))
-    ∙ ap (fold (better set) first) (sym (flat_map-append firsts ks rs))
-    ∙ ap (λ o. fold (better set) o (flat_map firsts (ks ++ rs))) f
+all_marks set kss ls old first mid new f m n = grind (arith, common_steps, f, m, n, fold-append, flat_map-append)
 
 pub range_further : (set : VersionValue → Bool) (kss : List (List (Span VersionValue))) (i : ℕ) (ks : List (Span VersionValue))
     → i < length kss → ks ≡ get_or kss i ks → (start old new : Option VersionValue)
@@ -93,15 +109,6 @@ module _ {V : Type 0} (value : V → VersionValue) (set : VersionValue → Bool)
       → new ≡ fold (better set) start (flat_map firsts (list_marks (spans_of value (take (i + 1) xs))))
   kept_further between e k m =
       grind (arith, common_steps, e, k, m, map-further (span_of value) xs i x within at, fold-append, flat_map-append)
-
--- ---- the patch of a bound of a range can be raised
-
-module _ (limit : ℕ) (far : limit < 2 ^ 64 - 1) where
-  span_raisable : (s : Span VersionValue) → is_range_span limit s ≡ true → IsRaisable s
-  span_raisable s h = grind (arith, and_parts)
-
-pub raisable : (ss : List (Span VersionValue)) → IsRange MAX_SAFE_INTEGER ss → All IsRaisable ss
-raisable ss h = grind (arith, All-weaker, span_raisable, AllPass-from_list_all)
 
 -- ---- the least version of spans each of which begins with a version that it accepts
 

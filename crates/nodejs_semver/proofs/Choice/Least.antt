@@ -1,18 +1,18 @@
 -- The least version beyond is the first of its kind past a mark: a lower cut of what is kept, an upper cut of what is removed,
 -- or the cut below the pre-releases that an upper bound of what is kept names. First what comes next after a version.
-use Rattle.nodejs_semver.proofs.Common.{After, All, All-append, All-cons, All-head, All-tail, Before, Beside, Bool, Bound, Cut}
-use Rattle.nodejs_semver.proofs.Common.{End, Equal, Far, Id, IfSome, IsLeastOf, Less, List, Near, None, Numeric, Option, Ordering}
-use Rattle.nodejs_semver.proofs.Common.{Some, Span, Start, Unbounded, VersionValue, [], above_patch, accepts, alike_right}
-use Rattle.nodejs_semver.proofs.Common.{all_accept, and-true, and_from, and_parts, ap, ap₂, arith, begins_with, below_named}
-use Rattle.nodejs_semver.proofs.Common.{beside, better, beyond, bool_cmp, build_by, candidates, cases_Bool, chain, cond_both}
-use Rattle.nodejs_semver.proofs.Common.{cut_total, false, find, first_so, firsts, flat_map, fold, gt_lt, has_build, holds}
-use Rattle.nodejs_semver.proofs.Common.{if◌then◌else◌, inl, inr, irreflexive, is_gt, is_le, is_past, is_past-down, is_release}
-use Rattle.nodejs_semver.proofs.Common.{least_build, least_of, length, lets_in, list_all, list_all-append, list_any, list_marks}
-use Rattle.nodejs_semver.proofs.Common.{lower_cut, map, names, not, not-true, not_above, option_and_then, or-false, or_cases}
-use Rattle.nodejs_semver.proofs.Common.{or_left, or_parts, or_right, ordering_then, past_lt, pre_cmp, precedence}
+use Rattle.nodejs_semver.proofs.Common.{After, All, All-append, All-cons, All-from_recursion, All-head, All-nil, All-tail, Before}
+use Rattle.nodejs_semver.proofs.Common.{Beside, Bool, Bound, Cut, End, Equal, Far, Id, IfSome, IsLeastOf, Less, List, Near, None}
+use Rattle.nodejs_semver.proofs.Common.{Numeric, Option, Ordering, Some, Span, Start, Unbounded, VersionValue, [], above_patch}
+use Rattle.nodejs_semver.proofs.Common.{accepts, alike_right, all_accept, all_flat, all_weaker, and-true, and_from, and_parts}
+use Rattle.nodejs_semver.proofs.Common.{any_flat, any_same, any_under, ap, ap₂, arith, begins_with, below_named, beside, better}
+use Rattle.nodejs_semver.proofs.Common.{beyond, bool_cmp, build_by, candidates, cases_Bool, chain, cond_both, cut_total, empty_is}
+use Rattle.nodejs_semver.proofs.Common.{false, find, first_so, firsts, flat_map, fold, gt_lt, has_build, holds, if◌then◌else◌}
+use Rattle.nodejs_semver.proofs.Common.{inl, inr, irreflexive, is_gt, is_le, is_past, is_past-down, is_release, least_build}
+use Rattle.nodejs_semver.proofs.Common.{least_of, length, lets_in, list_all, list_all-append, list_any, list_marks, lower_cut}
+use Rattle.nodejs_semver.proofs.Common.{map, names, not, not-true, not_above, option_and_then, or-false, or_cases, or_left}
+use Rattle.nodejs_semver.proofs.Common.{or_parts, or_right, ordering_then, past_lt, pick_both, pre_cmp, precedence}
 use Rattle.nodejs_semver.proofs.Common.{precedence_total, refl, release_value, removed_marks, second_so, subst, sym, tells}
 use Rattle.nodejs_semver.proofs.Common.{tied_itself, true, upper_cut, version_eq, wanted, ◌&&◌, ◌++◌, ◌<◌, ◌||◌, ◌∙◌, ◌∷◌, ◌≡◌}
-use Rattle.std.proofs.lemmas.List.Elements.{All-from_recursion, All-nil}
 use Rattle.nodejs_semver.specs.Internal.Candidates.{zero, bare_release, first_pre, pre_after, patch_after, bare, after_cut}
 use Rattle.nodejs_semver.specs.Internal.Candidates.{release_after, below_at, kept_marks, among, improves, is_reached, first_past}
 use Rattle.semver_core.proofs.Values.NextLaws.{least_after_pre_release, first_of_all, least_after_release}
@@ -21,7 +21,6 @@ use Rattle.nodejs_semver.proofs.Algebra.Gate.{not_gt_then, pre_upto, same_triple
 use Rattle.nodejs_semver.proofs.Algebra.Gate.{le_of_lt, le_trans, lt_is}
 use Rattle.semver_core.specs.Internal.Successors.{Below, above_pre, below_cases, below_more, upto_major, upto_minor, upto_patch}
 use Rattle.semver_core.specs.Internal.Successors.{zero_least}
-use Rattle.nodejs_semver.proofs.Algebra.FlatMaps.{empty_is, all_flat, all_weaker, any_flat, any_under, pick_both, any_same}
 
 pub le_not_gt : (r : Ordering) → is_le r ≡ true → is_gt r ≡ false
 le_not_gt r h = not-true _ (sym (tells r).0 ∙ h)
@@ -270,11 +269,7 @@ module _ (v x : VersionValue) (g : Cut VersionValue) (b : Begins g v x) where
   all_accepted : (kss : List (List (Span VersionValue))) → list_all (under v g) (flat_map list_marks kss) ≡ true
       → all_accept kss v ≡ true → all_accept kss x ≡ true
   all_accepted [] top h = refl
-  all_accepted (ss ∷ kss) top h =
-      let tops = and_parts (list_all (under v g) (list_marks ss)) _
-      (sym (list_all-append (under v g) (list_marks ss) (flat_map list_marks kss)) ∙ top) in
-      let both = and_parts (accepts ss v false) (all_accept kss v) h in
-      and_from (accepts ss x false) (all_accept kss x) (kept_accept ss tops.0 both.0) (all_accepted kss tops.1 both.1)
+  all_accepted (ss ∷ kss) top h = grind (arith, and_parts, list_all-append, kept_accept, all_accepted kss)
 
   pub removed_accept : (ss : List (Span VersionValue)) → list_all (under v g) (flat_map removed_marks ss) ≡ true
       → accepts ss x false ≡ true → accepts ss v false ≡ true
@@ -538,9 +533,6 @@ least_past (After w) v h = by_kind (is_release w) refl
     by_kind r k = grind (arith, le_not_gt, least_after_release, empty_is, far_less, next_pre_least)
 
 -- the first version past the lower cut of a span that holds v is held as well
-held : (a b c d : Bool) → c ≡ true → (d ≡ true → b ≡ true) → (a && not b) ≡ true → (c && not d) ≡ true
-held a b c d e f h = grind arith
-
 least_in : (s : Span VersionValue) (v : VersionValue) → holds precedence s v ≡ true
     → is_gt (precedence (first_past s.lower) v) ≡ false
 least_in s v h = least_past s.lower v
@@ -548,11 +540,7 @@ least_in s v h = least_past s.lower v
 
 first_held : (s : Span VersionValue) (v : VersionValue) → holds precedence s v ≡ true
     → holds precedence s (first_past s.lower) ≡ true
-first_held s v h =
-    held (is_past precedence (lower_cut s.lower) v) (is_past precedence (upper_cut s.upper) v)
-    (is_past precedence (lower_cut s.lower) (first_past s.lower)) (is_past precedence (upper_cut s.upper) (first_past s.lower))
-    (past_lower s.lower) (past_up v (first_past s.lower) (least_in s v h) (upper_cut s.upper))
-    h
+first_held s v h = grind (arith, past_lower, past_up v (first_past s.lower) (least_in s v h))
 
 abbrev pub firsts_past : List (Span VersionValue) → List VersionValue
 firsts_past ss = map (λ s. first_past s.lower) ss

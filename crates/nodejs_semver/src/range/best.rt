@@ -2,11 +2,10 @@
 
 ghost use Rattle.nodejs_semver.specs.Ranges.Gate.{accepts};
 ghost use Rattle.nodejs_semver.specs.Ranges.Best.{IsMax, IsMin, replaces};
-ghost use Rattle.std.specs.Option.{option_map};
 ghost use Rattle.nodejs_semver.specs.Internal.Shorthands.{spans_of};
 ghost use Rattle.semver_core.specs.Values.Order.{precedence};
 ghost use Rattle.semver_core.specs.Values.Versions.{VersionValue};
-ghost use Rattle.std.specs.Option.{option_copied};
+ghost use Rattle.std.specs.Option.{option_copied, option_map};
 ghost use Rattle.std.specs.Ordering.{is_le, is_lt};
 ghost use Rattle.std.specs.Prelude.{◌≡◌, ◌++◌, ◌∷◌, [], List, All, Contains, IfNone, IfSome, Some};
 ghost use Rattle.std.specs.Prelude.{false, true, if◌then◌else◌, map};

@@ -2,12 +2,11 @@
 
 ghost use Rattle.nodejs_semver.specs.Ranges.Best.{IsMax, replaces};
 ghost use Rattle.nodejs_semver.specs.Ranges.Gate.{accepts};
-ghost use Rattle.std.specs.Option.{option_map};
 ghost use Rattle.semver_core.specs.Values.Order.{precedence};
 ghost use Rattle.semver_core.specs.Values.Versions.{is_release};
 ghost use Rattle.std.specs.List.{list_all};
 ghost use Rattle.std.specs.Ordering.{is_le};
-ghost use Rattle.std.specs.Prelude.{◌≡◌, false, map, true};
+ghost use Rattle.std.specs.Prelude.{◌≡◌, false, map, option_map, true};
 
 use crate::RangeOf;
 use semver_core::{VersionPoint, Versioned};

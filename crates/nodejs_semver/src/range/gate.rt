@@ -7,9 +7,8 @@ ghost use Rattle.nodejs_semver.specs.Ranges.Algebra.{list_holds};
 ghost use Rattle.semver_core.specs.Values.Order.{precedence};
 ghost use Rattle.semver_core.specs.declared.TheConstants.{MAX_SAFE_INTEGER};
 ghost use Rattle.nodejs_semver.specs.Ranges.Gate.{accepts, lets_in};
-ghost use Rattle.nodejs_semver.specs.Internal.Shorthands.{names};
+ghost use Rattle.nodejs_semver.specs.Internal.Shorthands.{names, spans_of};
 ghost use Rattle.nodejs_semver.specs.Ranges.View.{IsRange, bound_of, span_of};
-ghost use Rattle.nodejs_semver.specs.Internal.Shorthands.{spans_of};
 
 use crate::RangeOf;
 use semver_core::cuts::{Bound, Interval};

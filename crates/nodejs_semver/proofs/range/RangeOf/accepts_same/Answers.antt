@@ -1,5 +1,4 @@
-use Rattle.nodejs_semver.proofs.Common.{false, inl, inr, on_err_weaker}
-use Rattle.nodejs_semver.proofs.Algebra.FlatMaps.{on_err}
+use Rattle.nodejs_semver.proofs.Common.{false, inl, inr, on_err, on_err_weaker}
 use Rattle.nodejs_semver.proofs.Questions.Subsets.{of_both}
 use Rattle.nodejs_semver.proofs.range.RangeOf.accepts_same.Goals as goal
 

@@ -1,4 +1,4 @@
-use Rattle.nodejs_semver.proofs.Algebra.FlatMaps.{on_err}
+use Rattle.nodejs_semver.proofs.Common.{on_err}
 use Rattle.nodejs_semver.proofs.Values.{taking-values}
 use Rattle.nodejs_semver.proofs.range.RangeOf.copy.Goals as goal
 

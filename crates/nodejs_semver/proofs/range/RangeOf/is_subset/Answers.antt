@@ -1,5 +1,4 @@
-use Rattle.nodejs_semver.proofs.Common.{None, Some, beyond, false, refl}
-use Rattle.nodejs_semver.proofs.Algebra.FlatMaps.{on_err}
+use Rattle.nodejs_semver.proofs.Common.{None, Some, beyond, false, on_err, refl}
 use Rattle.nodejs_semver.proofs.Questions.Subsets.{by_least}
 use Rattle.nodejs_semver.proofs.range.RangeOf.is_subset.Goals as goal
 use Rattle.nodejs_semver.proofs.range.RangeOf.is_subset.Goals.{in-None, in-Some}

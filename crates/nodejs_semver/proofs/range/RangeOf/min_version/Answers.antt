@@ -1,6 +1,5 @@
-use Rattle.nodejs_semver.proofs.Common.{IsLeastOf, None, Some, VersionValue, [], accepts, false, least_build, subst, sym, wanted}
-use Rattle.nodejs_semver.proofs.Common.{◌∷◌, ◌≡◌}
-use Rattle.nodejs_semver.proofs.Algebra.FlatMaps.{on_err}
+use Rattle.nodejs_semver.proofs.Common.{IsLeastOf, None, Some, VersionValue, [], accepts, false, least_build, on_err, subst, sym}
+use Rattle.nodejs_semver.proofs.Common.{wanted, ◌∷◌, ◌≡◌}
 use Rattle.nodejs_semver.proofs.Choice.Kinds.{alone_allocates}
 use Rattle.nodejs_semver.proofs.Choice.Least.{least_accepted, least_build_built, least_of_itself, least_of_one}
 use Rattle.nodejs_semver.proofs.range.RangeOf.min_version.Goals as goal
@@ -12,21 +11,18 @@ returns-in-None-clause-least g c =
     rw (c.from_ref.ensures.value, c.in-None.is) at c.in_ok-least_among.ensures.least in
     least_of_itself ks None (least_of_one ks [] None h)
 
-pub returns-in_ok-built-in-Some-2-clause-least : goal.returns-in_ok-built-in-Some-2-clause-least
-returns-in_ok-built-in-Some-2-clause-least g c =
+pub returns-in_ok-built-in-Some-2 : goal.returns-in_ok-built-in-Some-2
+returns-in_ok-built-in-Some-2 g c =
     let ks = c.args.self.now in
     let v = c.in-Some-2.version in
     let h : IsLeastOf (wanted (ks ∷ []) []) (Some v) =
     rw (c.from_ref.ensures.value, c.in-Some-2.is) at c.in_ok-least_among.ensures.least in
-    subst (λ (x : VersionValue). IsLeastOf (λ w. accepts ks w false) (Some x))
-    (sym (rw c.items.ensures.value at c.in_ok-built-in-Some-2.ensures))
-    (least_accepted ks v (least_build ks v) (least_of_one ks [] (Some v) h))
-
-pub returns-in_ok-built-in-Some-2-clause-build : goal.returns-in_ok-built-in-Some-2-clause-build
-returns-in_ok-built-in-Some-2-clause-build g c =
-    let ks = c.args.self.now in
-    subst (λ (x : VersionValue). x.build ≡ least_build ks x) (sym (rw c.items.ensures.value at c.in_ok-built-in-Some-2.ensures))
-    (sym (least_build_built ks c.in-Some-2.version _))
+    let built = sym (rw c.items.ensures.value at c.in_ok-built-in-Some-2.ensures) in record {
+      least = subst (λ (x : VersionValue). IsLeastOf (λ w. accepts ks w false) (Some x)) built
+          (least_accepted ks v (least_build ks v) (least_of_one ks [] (Some v) h));
+      build = subst (λ (x : VersionValue). x.build ≡ least_build ks x) built (sym (least_build_built ks v _));
+      memory = tt;
+    }
 
 pub returns-in_err-least_among-clause-memory : goal.returns-in_err-least_among-clause-memory
 returns-in_err-least_among-clause-memory g c =

@@ -1,6 +1,5 @@
-use Rattle.nodejs_semver.proofs.Common.{ap, arith, if_any}
+use Rattle.nodejs_semver.proofs.Common.{ap, arith, if_any, on_err}
 use Rattle.nodejs_semver.proofs.Algebra.Clauses.{intervals-ordered, minus-is, minus-some, minus-valid}
-use Rattle.nodejs_semver.proofs.Algebra.FlatMaps.{on_err}
 use Rattle.nodejs_semver.proofs.range.RangeOf.remaining.Goals as goal
 
 pub push_differences-requires : goal.push_differences-requires

@@ -1,5 +1,4 @@
-use Rattle.nodejs_semver.proofs.Common.{IfOk-weaker, arith, refl, sym, ◌∙◌}
-use Rattle.nodejs_semver.proofs.Algebra.FlatMaps.{on_err}
+use Rattle.nodejs_semver.proofs.Common.{IfOk-weaker, arith, on_err, refl, sym, ◌∙◌}
 use Rattle.nodejs_semver.proofs.Questions.Simplified.{copy-same, copy-shorter, none-list, some-list, some-same, some-shorter}
 use Rattle.nodejs_semver.proofs.Questions.Simplified.{used-taking, used-valid}
 use Rattle.nodejs_semver.proofs.Values.{taking-values}

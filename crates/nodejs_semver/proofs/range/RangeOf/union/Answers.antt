@@ -1,5 +1,4 @@
-use Rattle.nodejs_semver.proofs.Common.{accepts, ap, arith, refl, ◌∙◌}
-use Rattle.nodejs_semver.proofs.Algebra.FlatMaps.{on_err}
+use Rattle.nodejs_semver.proofs.Common.{accepts, ap, arith, on_err, refl, ◌∙◌}
 use Rattle.nodejs_semver.proofs.Values.{taking-values}
 use Rattle.nodejs_semver.proofs.Questions.Unions.{more-taking, union-accepts, union-made, union-valid}
 use Rattle.nodejs_semver.proofs.range.RangeOf.union.Goals as goal

@@ -1,7 +1,6 @@
-use Rattle.nodejs_semver.proofs.Common.{YieldsList-from_slice, holds, lets_in, precedence, rules, span_of, sym, tests, ◌&&◌, ◌||◌}
-use Rattle.nodejs_semver.proofs.Common.{◌∙◌}
+use Rattle.nodejs_semver.proofs.Common.{YieldsList-from_slice, holds, lets_in, list_any-map, precedence, rules, span_of, sym}
+use Rattle.nodejs_semver.proofs.Common.{tests, ◌&&◌, ◌||◌, ◌∙◌}
 use Rattle.std.proofs.lemmas.Iterator.Search.{any_from_yields_List}
-use Rattle.nodejs_semver.proofs.Algebra.FlatMaps.{list_any-map}
 use Rattle.nodejs_semver.proofs.range.gate.accepts.Goals as goal
 
 pub returns : goal.returns

@@ -1,5 +1,4 @@
-use Rattle.nodejs_semver.proofs.Common.{refl, take_all}
-use Rattle.nodejs_semver.proofs.Algebra.FlatMaps.{flat_behind}
+use Rattle.nodejs_semver.proofs.Common.{flat_behind, refl, take_all}
 use Rattle.nodejs_semver.proofs.range.interval_lists.clip_each.Goals as goal
 
 pub loop-interval-preserved : goal.loop-interval-preserved

@@ -1,7 +1,6 @@
-use Rattle.nodejs_semver.proofs.Common.{ap, false, is_some, option_to_list, rules, sym, ◌++◌, ◌∙◌, ◌≡◌}
+use Rattle.nodejs_semver.proofs.Common.{ap, false, flat_behind, is_some, option_to_list, rules, sym, ◌++◌, ◌∙◌, ◌≡◌}
 use Rattle.std.proofs.lemmas.List.Sorted.{IsPartitionPoint-from_clause}
 use Rattle.nodejs_semver.proofs.Algebra.Differences.{falls_short, parted, clips-to_end, clips-to_none}
-use Rattle.nodejs_semver.proofs.Algebra.FlatMaps.{flat_behind}
 use Rattle.nodejs_semver.proofs.range.interval_lists.push_clipped.Goals as goal
 
 pub returns : goal.returns

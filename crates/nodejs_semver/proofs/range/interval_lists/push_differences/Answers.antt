@@ -1,6 +1,5 @@
-use Rattle.nodejs_semver.proofs.Common.{ap, arith, inr, ◌++◌, ◌∙◌}
+use Rattle.nodejs_semver.proofs.Common.{ap, arith, inr, on_err, ◌++◌, ◌∙◌}
 use Rattle.nodejs_semver.proofs.Algebra.Differences.{minus-clips, along-gaps}
-use Rattle.nodejs_semver.proofs.Algebra.FlatMaps.{on_err}
 use Rattle.nodejs_semver.proofs.range.interval_lists.push_differences.Goals as goal
 
 pub clip_each-requires : goal.clip_each-requires

@@ -1,5 +1,5 @@
-use Rattle.nodejs_semver.proofs.Common.{ap, append-nil, none_of, option_to_list, refl, sym, take_all, ◌++◌, ◌∙◌}
-use Rattle.nodejs_semver.proofs.Algebra.FlatMaps.{flat_behind, flat_some, on_err, part_some}
+use Rattle.nodejs_semver.proofs.Common.{ap, append-nil, flat_behind, flat_some, none_of, on_err, option_to_list, part_some, refl}
+use Rattle.nodejs_semver.proofs.Common.{sym, take_all, ◌++◌, ◌∙◌}
 use Rattle.nodejs_semver.proofs.range.interval_lists.push_intersections.Goals as goal
 use Rattle.nodejs_semver.proofs.range.interval_lists.push_intersections.Goals.{then-meets+in_ok-push_common, else-meets}
 

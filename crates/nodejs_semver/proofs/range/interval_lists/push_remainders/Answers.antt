@@ -1,5 +1,4 @@
-use Rattle.nodejs_semver.proofs.Common.{refl, take_all}
-use Rattle.nodejs_semver.proofs.Algebra.FlatMaps.{flat_behind, flat_some, on_err}
+use Rattle.nodejs_semver.proofs.Common.{flat_behind, flat_some, on_err, refl, take_all}
 use Rattle.nodejs_semver.proofs.range.interval_lists.push_remainders.Goals as goal
 
 pub returns-in_err-push_remainder-clause-memory : goal.returns-in_err-push_remainder-clause-memory

@@ -1,5 +1,4 @@
-use Rattle.nodejs_semver.proofs.Common.{inl, inr, on_err_weaker, sym, ◌∙◌}
-use Rattle.nodejs_semver.proofs.Algebra.FlatMaps.{on_err}
+use Rattle.nodejs_semver.proofs.Common.{inl, inr, on_err, on_err_weaker, sym, ◌∙◌}
 use Rattle.nodejs_semver.proofs.Choice.Least.{reached_far}
 use Rattle.nodejs_semver.proofs.range.least.consider_after.Goals as goal
 

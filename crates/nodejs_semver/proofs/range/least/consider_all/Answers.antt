@@ -1,5 +1,4 @@
-use Rattle.nodejs_semver.proofs.Common.{BeginsAfterPre, inl, inr, on_err_weaker, on_ok_weaker, spans_of, take_all, wanted}
-use Rattle.nodejs_semver.proofs.Algebra.FlatMaps.{on_err}
+use Rattle.nodejs_semver.proofs.Common.{BeginsAfterPre, inl, inr, on_err, on_err_weaker, on_ok_weaker, spans_of, take_all, wanted}
 use Rattle.nodejs_semver.proofs.Choice.Kinds.{all_marks, any_here, range_further}
 use Rattle.nodejs_semver.proofs.range.least.consider_all.Goals as goal
 

@@ -1,5 +1,4 @@
-use Rattle.nodejs_semver.proofs.Common.{ap, bound_of, inr, sym, ◌∙◌}
-use Rattle.nodejs_semver.proofs.Algebra.FlatMaps.{on_err}
+use Rattle.nodejs_semver.proofs.Common.{ap, bound_of, inr, on_err, sym, ◌∙◌}
 use Rattle.nodejs_semver.proofs.range.least.consider_past_held.Goals as goal
 
 pub returns-in-Unbounded-clause-best : goal.returns-in-Unbounded-clause-best

@@ -1,5 +1,4 @@
-use Rattle.nodejs_semver.proofs.Common.{IsAfterPre, Raisable, arith, bound_of, inl, inr, spans_of, subst, sym, wanted}
-use Rattle.nodejs_semver.proofs.Algebra.FlatMaps.{on_err}
+use Rattle.nodejs_semver.proofs.Common.{IsAfterPre, Raisable, arith, bound_of, inl, inr, on_err, spans_of, subst, sym, wanted}
 use Rattle.nodejs_semver.proofs.Choice.Kinds.{any_at, raisable_at, removed_further}
 use Rattle.nodejs_semver.proofs.range.least.consider_removed.Goals as goal
 

@@ -1,19 +1,16 @@
-use Rattle.nodejs_semver.proofs.Common.{IsLeastOf, spans_of, subst, sym, wanted}
-use Rattle.nodejs_semver.proofs.Algebra.FlatMaps.{on_err}
+use Rattle.nodejs_semver.proofs.Common.{IsLeastOf, on_err, spans_of, subst, sym, wanted}
 use Rattle.nodejs_semver.proofs.Choice.Least.{least_bare, least_wanted}
 use Rattle.nodejs_semver.proofs.range.least.least_among.Goals as goal
 
 pub returns-in_err-consider_all-clause-memory : goal.returns-in_err-consider_all-clause-memory
 returns-in_err-consider_all-clause-memory g c = on_err _ c.in_err-consider_all.ensures.memory
 
-pub returns-clause-least : goal.returns-clause-least
-returns-clause-least g c =
+pub returns : goal.returns
+returns g c =
     let kept = c.args.kept.now in
     let removed = spans_of g.W.Versioned.value c.args.removed.now in
-    subst (IsLeastOf (wanted kept removed)) (sym c.in_ok-consider_all.ensures.best) (least_wanted kept removed c.requires.some)
-
-pub returns-clause-build : goal.returns-clause-build
-returns-clause-build g c =
-    let kept = c.args.kept.now in
-    let removed = spans_of g.W.Versioned.value c.args.removed.now in
-    least_bare (wanted kept removed) kept removed _ c.in_ok-consider_all.ensures.best
+    let best = c.in_ok-consider_all.ensures.best in record {
+      least = subst (IsLeastOf (wanted kept removed)) (sym best) (least_wanted kept removed c.requires.some);
+      build = least_bare (wanted kept removed) kept removed _ best;
+      memory = tt;
+    }

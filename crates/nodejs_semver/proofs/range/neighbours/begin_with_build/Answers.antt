@@ -1,6 +1,5 @@
-use Rattle.nodejs_semver.proofs.Common.{YieldsList-from_slice, has_build, rules, span_of, sym, tests, ◌∙◌}
+use Rattle.nodejs_semver.proofs.Common.{YieldsList-from_slice, has_build, list_any-map, rules, span_of, sym, tests, ◌∙◌}
 use Rattle.std.proofs.lemmas.Iterator.Search.{any_from_yields_List}
-use Rattle.nodejs_semver.proofs.Algebra.FlatMaps.{list_any-map}
 use Rattle.nodejs_semver.proofs.range.neighbours.begin_with_build.Goals as goal
 
 pub returns : goal.returns
