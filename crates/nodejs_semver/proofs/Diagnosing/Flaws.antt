@@ -1,9 +1,9 @@
 -- Where the reader of numbers stops, the text is wrong there and has no version.
 use Rattle.nodejs_semver.proofs.Common.{◌≡◌, ◌<◌, ◌≤◌, ◌+◌, ◌-◌, ℕ, zero, suc, List, [], ◌∷◌, ◌++◌, length, drop, take, refl, sym}
 use Rattle.nodejs_semver.proofs.Common.{ap, ◌∙◌, subst, arith, true, false, Some, append_assoc, length-append, IsUtf8, Option}
-use Rattle.nodejs_semver.proofs.Common.{None, IfSome, get_or, inl, inr, is_ascii_digit, list_all, and_parts, cases_Bool, eqb-true}
-use Rattle.nodejs_semver.proofs.Common.{nat_tests, take_rest, list_len, space_len, begins, Id, VersionValue, ◌==◌, ◌↔◌}
-use Rattle.nodejs_semver.proofs.Common.{encode_utf8, begins_identifier, ◌*◌, eqb, drop_all, drop_more, IsAfterBlank, IsNumber}
+use Rattle.nodejs_semver.proofs.Common.{None, IfSome, is_ascii_digit, list_all, and_parts, eqb-true, nat_tests, take_rest}
+use Rattle.nodejs_semver.proofs.Common.{space_len, begins, VersionValue, ◌==◌, ◌↔◌, encode_utf8, ◌*◌, eqb, drop_all, drop_more}
+use Rattle.nodejs_semver.proofs.Common.{IsAfterBlank, IsNumber, inl, inr, cases_Bool, Id}
 use Rattle.std.proofs.Common.{length-drop, slice_range, MatchOption}
 use Rattle.std.specs.Char.{digit_value}
 use Rattle.std.specs.Str.Parse.{digits_value, digits_value_after}
@@ -16,7 +16,7 @@ use Rattle.semver_core.specs.declared.TheConstants.{MAX_LENGTH}
 use Rattle.semver_core.proofs.Text.Pieces.{digits_grow, some_inside}
 use Rattle.semver_core.proofs.Text.Texts.{build_complete, divided_at, mark_is, number_begins, pre_complete, triple_complete}
 use Rattle.semver_core.proofs.Text.Trims.{after_blank_drops_spaces}
-use Rattle.nodejs_semver.specs.Internal.Fronts.{begins_byte, build_front, marked_list, pre_release_front}
+use Rattle.nodejs_semver.specs.Internal.Fronts.{build_front, marked_list, pre_release_front, begins_byte}
 use Rattle.nodejs_semver.specs.Diagnosis.VersionFlaws.{IsExact, IsExpectedAt, IsFlaw, IsFront, IsGreatAt}
 use Rattle.nodejs_semver.specs.Internal.Stuck.{BeginsGreat, Stuck, begins_dot, at_great, at_digit, at_dot, later, IsWhole}
 use Rattle.nodejs_semver.specs.declared.diagnosis.versions.VersionFlaw.{VersionFlaw}
@@ -91,16 +91,8 @@ great-begins limit (c ∷ d) rest each above = (and_parts (is_ascii_digit c) (li
 grown : (v : ℕ) (d e x y : List ℕ) → list_all is_ascii_digit d ≡ true → begins is_ascii_digit y ≡ false → d ++ x ≡ e ++ y
     → digits_value_after 10 v d ≤ digits_value_after 10 v e
 grown v [] e x y each ended same = digits_grow v e
-grown v (c ∷ d) [] x y each ended same =
-    let digit = (and_parts (is_ascii_digit c) (list_all is_ascii_digit d) each).0 in
-    cc (sym ended ∙ (ap (λ (t : List ℕ). begins is_ascii_digit t) (sym same) ∙ digit))
-grown v (c ∷ d) (b ∷ e) x y each ended same =
-    let first : c ≡ b = ap (λ (t : List ℕ). get_or t 0 0) same in
-    let rest : d ++ x ≡ e ++ y = ap (λ (t : List ℕ). drop 1 t) same in
-    let more = grown (v * 10 + digit_value c) d e x y (and_parts (is_ascii_digit c) (list_all is_ascii_digit d) each).1
-    ended rest in
-    subst (λ (z : ℕ). digits_value_after 10 (v * 10 + digit_value c) d ≤ digits_value_after 10 (v * 10 + digit_value z) e)
-    first more
+grown v (c ∷ d) [] x y each ended same = grind arith
+grown v (c ∷ d) (b ∷ e) x y each ended same = grind (arith, grown (v * 10 + digit_value c) d e x y)
 
 no-great : (limit : ℕ) (Starts : List ℕ → Type 0) (front : List ℕ) (k : ℕ) → Place limit Starts front k → (text : List ℕ)
     → Starts text → BeginsGreat limit text → NoValue (Reads limit (front ++ text))
@@ -154,8 +146,7 @@ dot-next : (text : List ℕ) (at : ℕ) → begins_dot (drop at text) ≡ true �
 dot-next text at h =
     let within : at < length text = grind (arith, drop_all) in
     let next = drop_more text at 0 within in
-    let dot : begins_dot (get_or text at 0 ∷ drop (at + 1) text) ≡ true = rw next at h in
-    (next ∙ ap (λ (c : ℕ). c ∷ drop (at + 1) text) (eqb-true (get_or text at 0) 46 dot), omega (arith, within))
+    (grind (arith, next, eqb-true), omega (arith, within))
 
 here : (limit : ℕ) (text : List ℕ) (at : ℕ) → NoValue (Reads limit (take at text ++ drop at text)) → NoValue (Reads limit text)
 here limit text at h = subst (λ (t : List ℕ). NoValue (Reads limit t)) (take-append-drop at text) h
@@ -250,19 +241,20 @@ begun limit text start utf8 a =
 
 -- ---- the answers
 
+wrong_flaw : (limit : ℕ) (text : List ℕ) (flaw : VersionFlaw) → length text ≤ MAX_LENGTH → IsWrong limit text flaw
+    → IsFlaw limit text flaw × (IsExact limit text → ⊥)
+wrong_flaw limit text Flaw.TooLong short w = absurd w
+wrong_flaw limit text (Flaw.Ignored at) short w = absurd w
+wrong_flaw limit text flaw short w = ((short, w), λ e. w.none e.0 e.1.reads)
+
 -- the answer where the reader stops
 pub stuck_flaw : (limit : ℕ) (text : List ℕ) (start : ℕ) (flaw : VersionFlaw) → 9 ≤ limit → IsUtf8 text
     → IsAfterBlank text (mark_len text) start
     → length text ≤ MAX_LENGTH → Stuck limit text 2 start flaw → IsFlaw limit text flaw × (IsExact limit text → ⊥)
 stuck_flaw limit text start flaw nine utf8 a short h =
     let b = begun limit text start utf8 a in
-    go flaw (stuck_wrong limit text (Leads (take start text)) 2 start flaw nine b.inside b.place b.leads h)
-  where
-    go : (flaw : VersionFlaw) → IsWrong limit text flaw → IsFlaw limit text flaw × (IsExact limit text → ⊥)
-    go Flaw.TooLong w = absurd w
-    go (Flaw.NumberTooGreat at) w = ((short, w), λ e. w.none e.0 e.1.reads)
-    go (Flaw.Expected what at) w = ((short, w), λ e. w.none e.0 e.1.reads)
-    go (Flaw.Ignored at) w = absurd w
+    wrong_flaw limit text flaw short
+    (stuck_wrong limit text (Leads (take start text)) 2 start flaw nine b.inside b.place b.leads h)
 
 -- three numbers were read, and the place is behind what goes on with them
 pub record Ended (limit : ℕ) (text : List ℕ) (start at : ℕ) : Type 0 where
@@ -287,10 +279,7 @@ pub ruleset flaws_decided = (decided, decided_only)
 -- what is left behind the identifiers at a place
 marked-left : (text : List ℕ) (at start : ℕ)
     → (marked_list (drop at text) (drop start text)).1 ≡ drop (or_nothing at (list_at text start)).1 text
-marked-left text at start = elim (cases_Bool (begins_identifier (drop start text))) [
-  | inl some ↦ rw some (drop-drop (list_len (drop start text)) start text)
-  | inr none ↦ rw none refl
-]
+marked-left text at start = grind (arith, drop-drop)
 
 pre-left : (text : List ℕ) (at : ℕ) → (pre_release_front (drop at text)).1 ≡ drop (pre_release_at text at).1 text
 unfolding pre_release_front
@@ -386,6 +375,5 @@ pub ignored_left : (limit : ℕ) (text : List ℕ) (start n : ℕ) (ignored : Li
     → n ≡ length text - length ignored → IsFlaw limit text (Flaw.Ignored n) × (IsExact limit text → ⊥)
 ignored_left limit text start n ignored utf8 a short e some place =
     let len : length ignored ≡ length text - e.0 = ap length e.2 ∙ length-drop e.0 text in
-    let same : e.0 ≡ n = omega (arith, some, len, place) in
-    subst (λ (m : ℕ). IsFlaw limit text (Flaw.Ignored m) × (IsExact limit text → ⊥)) same
-    (ignored_behind limit text start e.0 utf8 a short e.1 (omega (arith, some, len)))
+    let same : n ≡ e.0 = omega (arith, some, len, place) in
+    rw same (ignored_behind limit text start e.0 utf8 a short e.1 (omega (arith, some, len)))

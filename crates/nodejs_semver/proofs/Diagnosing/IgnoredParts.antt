@@ -56,17 +56,11 @@ ignored_enough : (limit place n m : ℕ) (text : List ℕ) → space_len text �
     → ignored_within limit place n text ≡ ignored_within limit place m text
 unfolding ignored_within
 ignored_enough limit place zero zero text h a b = refl
-ignored_enough limit place zero (suc m) [] h a b = refl
-ignored_enough limit place (suc n) zero [] h a b = refl
-ignored_enough limit place (suc n) (suc m) [] h a b = refl
-ignored_enough limit place zero m (c ∷ text) h a b = absurd (omega arith)
+ignored_enough limit place zero (suc m) (c ∷ text) h a b = absurd (omega arith)
 ignored_enough limit place (suc n) zero (c ∷ text) h a b = absurd (omega arith)
 ignored_enough limit place (suc n) (suc m) (c ∷ text) h a b =
-    let read = kind_at limit (c ∷ text) in
-    let less = word-shorter limit c text h in
-    let le = spaces-le read.1 in
-    ap (λ (l : List IgnoredWord). if_ignored read.0 (place - length (c ∷ text)) (place - length read.1) ++ l)
-    (ignored_enough limit place n m (drop_spaces read.1) (spaces-gone 0 read.1) (omega arith) (omega arith))
+    grind (arith, word-shorter, spaces-le, spaces-gone, ignored_enough limit place n m (drop_spaces (kind_at limit (c ∷ text)).1))
+ignored_enough limit place n m text h a b = refl
 
 pub ignored_step : (limit place : ℕ) (text : List ℕ) → 0 < length text → space_len text ≡ 0 → ignored_of limit place text
     ≡ if_ignored (kind_at limit text).0 (place - length text) (place - length (kind_at limit text).1)
@@ -119,8 +113,7 @@ trim-le (b ∷ rest) = grind (arith, trim-le rest)
 pub part_ends : (place start : ℕ) (piece part : List ℕ) → start ≡ length piece - length (drop_spaces piece) → part ≡ trim piece
     → place + start + length part ≡ part_end place piece
 part_ends place start piece part h e =
-    ap (λ (n : ℕ). place + n + length part) h
-    ∙ ap (λ (t : List ℕ). place + (length piece - length (drop_spaces piece)) + length t) e
+    cc (h, e)
 
 pub part_fits : (piece : List ℕ) (place : ℕ) → part_end place piece ≤ place + length piece
 part_fits piece place = omega (arith, trim-le (drop_spaces piece), spaces-le piece)
