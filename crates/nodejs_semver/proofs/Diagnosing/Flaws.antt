@@ -49,25 +49,16 @@ zeros limit (suc k) c nine h = (48 ∷ dots k, numeral limit c (46 ∷ 48 ∷ do
 
 right-digit : (limit : ℕ) (Starts : List ℕ → Type 0) (front : List ℕ) (k : ℕ) → 9 ≤ limit → Place limit Starts front k
     → (c : ℕ) → is_ascii_digit c ≡ true → IsFront limit (front ++ c ∷ [])
-right-digit limit Starts front k nine p c h = (
-  dots k,
-  subst (λ (t : List ℕ). IsWhole limit t) (sym (append_assoc front (c ∷ []) (dots k)))
-      (p.whole (c ∷ dots k) (zeros limit k c nine h)),
-)
+right-digit limit Starts front k nine p c h = (dots k, rw append_assoc (p.whole (c ∷ dots k) (zeros limit k c nine h)))
 
 right-dot : (limit : ℕ) (Starts : List ℕ → Type 0) (front d : List ℕ) (n k : ℕ) → 9 ≤ limit → Place limit Starts front (suc k)
     → IsNumber limit d n → (c : ℕ) → eqb c 46 ≡ true → IsFront limit ((front ++ d) ++ c ∷ [])
 right-dot limit Starts front d n k nine p number c h =
     let rest = 48 ∷ dots k in
-    let joined : ((front ++ d) ++ c ∷ []) ++ rest ≡ front ++ (d ++ 46 ∷ rest) = rw (eqb-true c 46 h) (simp append_assoc) in (
-      rest,
-      subst (λ (t : List ℕ). IsWhole limit t) (sym joined)
-          (p.whole (d ++ 46 ∷ rest) (
-            rest,
-            record { digits = d; n = n; divided = refl; is = record { number = number; ended = refl } },
-            zeros limit k 48 nine refl,
-          )),
-    )
+    let joined : ((front ++ d) ++ c ∷ []) ++ rest ≡ front ++ (d ++ 46 ∷ rest) = rw (eqb-true c 46 h) (simp append_assoc) in
+    let first : Numeral limit (d ++ 46 ∷ rest) (46 ∷ rest) =
+    record { digits = d; n = n; divided = refl; is = record { number = number; ended = refl } } in
+    (rest, rw joined (p.whole (d ++ 46 ∷ rest) (rest, first, zeros limit k 48 nine refl)))
 
 no-digit : (limit : ℕ) (Starts : List ℕ → Type 0) (front : List ℕ) (k : ℕ) → Place limit Starts front k → (text : List ℕ)
     → Starts text → begins is_ascii_digit text ≡ false → NoValue (Reads limit (front ++ text))
@@ -184,11 +175,9 @@ stuck_wrong limit text Starts k at flaw nine inside p s (at_dot j a end found no
     let front : take end text ≡ take a text ++ m.piece = cut text a end m.piece inside found.inside m.divided in
     record {
       inside = found.inside;
-      right = λ c h. subst (λ (t : List ℕ). IsFront limit (t ++ c ∷ [])) (sym front)
-          (right-dot limit Starts (take a text) m.piece found.n j nine p m.is.number c h);
+      right = λ c h. rw front (right-dot limit Starts (take a text) m.piece found.n j nine p m.is.number c h);
       apart = m.is.ended;
-      wrong = λ c rest other e.
-          subst (λ (t : List ℕ). NoValue (Reads limit (t ++ (encode_utf8 c ++ other)))) (sym front)
+      wrong = λ c rest other e. rw front
           (no-dot limit Starts (take a text) m.piece found.n j p m.is.number (encode_utf8 c ++ other)
           (begins_alike is_ascii_digit c other rest ∙ (ap (λ (t : List ℕ). begins is_ascii_digit t) (sym e) ∙ m.is.ended))
           (begins_alike (λ b. b == 46) c other rest ∙ (ap (λ (t : List ℕ). begins_dot t) (sym e) ∙ none)));
@@ -204,8 +193,7 @@ stuck_wrong limit text Starts k at flaw nine inside p s (later j a end f found d
     m.divided ∙ (ap (λ (t : List ℕ). m.piece ++ t) next.0 ∙ sym (append_assoc m.piece (46 ∷ []) (drop (end + 1) text))) in
     let front : take (end + 1) text ≡ take a text ++ piece = cut text a (end + 1) piece inside next.1 divided in
     stuck_wrong limit text (λ _. Unit {0}) j (end + 1) f nine next.1
-    (subst (λ (t : List ℕ). Place limit (λ _. Unit {0}) t j) (sym front)
-    (next_place limit Starts (take a text) m.piece found.n j p m.is.number)) tt more
+    (rw front (next_place limit Starts (take a text) m.piece found.n j p m.is.number)) tt more
 
 -- ---- behind the mark and the whitespace
 
@@ -230,8 +218,7 @@ begun limit text start utf8 a =
     cut text k start blank (omega (arith, a.after, a.boundary.0)) a.boundary.0 rest in
     record {
       inside = a.boundary.0;
-      place = subst (λ (t : List ℕ). Place limit (Leads t) t 2) (sym front)
-          (lead_place limit (take k text) blank (mark_is text) a.blank);
+      place = rw front (lead_place limit (take k text) blank (mark_is text) a.blank);
       leads = (
         ap (λ (t : List ℕ). space_len t) (after_blank_drops_spaces text k start utf8 a) ∙ spaces-gone 0 (drop k text),
         unmarked text start a.after,

@@ -139,8 +139,7 @@ IsBounded limit p = (ws : List Word) × HasWords limit p ws × (list_all (λ w. 
 
 ignored-read : (limit place n : ℕ) (text : List ℕ) → IsUtf8 text → space_len text ≡ 0 → length text ≤ n
     → AreIgnoredOf limit place text (ignored_of limit place text)
-ignored-read limit place n [] u h l =
-    subst (λ (ws : List IgnoredWord). AreIgnoredOf limit place [] ws) (sym (ignored_nil limit place [] refl)) no_word
+ignored-read limit place n [] u h l = rw (ignored_nil limit place [] refl) no_word
 ignored-read limit place zero (b ∷ rest) u h l = absurd (omega arith)
 ignored-read limit place (suc n) (b ∷ rest) u h l =
     let read = word_at limit (b ∷ rest) in
@@ -151,8 +150,7 @@ ignored-read limit place (suc n) (b ∷ rest) u h l =
     let less = word-shorter limit b rest h in
     let le = spaces-le read.1 in
     let more = ignored-read limit place n next (skips-utf8 read.1 next skipped v) (spaces-gone 0 read.1) (omega arith) in
-    subst (λ (ws : List IgnoredWord). AreIgnoredOf limit place (b ∷ rest) ws)
-    (sym (ignored_step limit place (b ∷ rest) (omega arith) h))
+    rw (ignored_step limit place (b ∷ rest) (omega arith) h)
     (next_word b rest read.1 next read.0 (ignored_of limit place next) is skipped more)
 
 -- where a part begins in its piece, unless it is empty
@@ -169,8 +167,7 @@ piece-read limit place piece u t = elim (part-begins piece (trim piece) t) [
       subst (λ (ws : List IgnoredWord). AreIgnoredOf limit end (trim piece) ws)
       (ignored_nil limit end (trim piece) length-none ∙ sym (ignored_nil limit (part_end place piece) (trim piece) length-none))
       (read end)
-  | inr same ↦ subst (λ (n : ℕ). AreIgnoredOf limit (place + n + length (trim piece)) (trim piece)
-      (ignored_of limit (part_end place piece) (trim piece))) same (read (part_end place piece))
+  | inr same ↦ rw (← same) (read (part_end place piece))
 ]
   where
     end : ℕ

@@ -301,8 +301,7 @@ next_place limit Starts front d n k p number = record {
       (subst (λ (t : List ℕ). HasTail limit t tail) (joined text) h) in
       let same = numeral_once limit d (46 ∷ text) (46 ∷ found.0) n (record { number = number; ended = refl }) found.1 in
       subst (λ (t : List ℕ). Numbers limit k t tail) (sym (ap (λ (t : List ℕ). drop 1 t) same)) found.2;
-  whole = λ text h.
-      subst (λ (t : List ℕ). IsWhole limit t) (sym (joined text))
+  whole = λ text h. rw (joined text)
       (p.whole (d ++ 46 ∷ text)
       (text, record { digits = d; n = n; divided = refl; is = record { number = number; ended = refl } }, h));
 }

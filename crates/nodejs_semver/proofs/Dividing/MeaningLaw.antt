@@ -55,8 +55,7 @@ words-read limit (suc n) (b ∷ rest) u h l =
     let less = word-shorter limit b rest h in
     let le = spaces-le read.1 in
     let more = words-read limit n next (skips-utf8 read.1 next skipped v) (spaces-gone 0 read.1) (omega arith) in
-    subst (λ (list : List Word). AreWords limit (b ∷ rest) list) (sym (words-step limit (b ∷ rest) (omega arith) h))
-    (next_word b rest read.1 next read.0 (words limit next) is skipped more)
+    rw (words-step limit (b ∷ rest) (omega arith) h) (next_word b rest read.1 next read.0 (words limit next) is skipped more)
 
 pub words-law : (limit : ℕ) (text part : List ℕ) (list : List Word) → IsUtf8 text → IsTrim text part → (words limit part ≡ list)
     ↔ AreWords limit part list
