@@ -163,10 +163,8 @@ piece-read : (limit place : ℕ) (piece : List ℕ) → IsUtf8 piece → (t : Is
     (ignored_of limit (part_end place piece) (trim piece))
 piece-read limit place piece u t = elim (part-begins piece (trim piece) t) [
   | inl none ↦
-      let length-none : length (trim piece) ≡ 0 = ap length none in
-      subst (λ (ws : List IgnoredWord). AreIgnoredOf limit end (trim piece) ws)
-      (ignored_nil limit end (trim piece) length-none ∙ sym (ignored_nil limit (part_end place piece) (trim piece) length-none))
-      (read end)
+      let nil = λ (at : ℕ). ignored_nil limit at (trim piece) (ap length none) in
+      rw (nil (part_end place piece)) (rw (nil end) at (read end))
   | inr same ↦ rw (← same) (read (part_end place piece))
 ]
   where

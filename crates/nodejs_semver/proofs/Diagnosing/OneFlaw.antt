@@ -474,26 +474,21 @@ great-before limit text at next d x le g =
 
 expected-not-great : (limit : ℕ) (text : List ℕ) (what : Expected) (at other : ℕ) → IsExpectedAt limit text what at
     → IsGreatAt limit text other → ⊥
-expected-not-great limit text what at other x y = elim (cases_lt at other) [
-  | inl before ↦ expected-before limit text what at other 48 x before y.inside (great-goes_on limit text other y)
-  | inr le ↦ elim (cases_lt at (other + length y.great.0)) [
-    | inl within ↦
-        let place : other + (at - other) ≡ at = omega (arith, le) in
-        let digit = digit-inside limit text other (at - other) y (omega (arith, within, le)) in
-        cc (sym x.apart ∙ (ap (λ (n : ℕ). begins is_ascii_digit (drop n text)) (sym place) ∙ digit))
-    | inr behind ↦ great-before limit text other at (sample what) y behind (expected-goes_on limit text what at x)
-  ]
-]
+expected-not-great limit text what at other x y =
+    let before = λ (lt : at < other). expected-before limit text what at other 48 x lt y.inside (great-goes_on limit text other y) in
+    let behind = λ (le : other + length y.great.0 ≤ at).
+    great-before limit text other at (sample what) y le (expected-goes_on limit text what at x) in
+    let place : other + (at - other) ≡ at = omega (arith, before) in
+    let digit = digit-inside limit text other (at - other) y (omega (arith, before, behind)) in
+    cc (sym x.apart ∙ (ap (λ (n : ℕ). begins is_ascii_digit (drop n text)) (sym place) ∙ digit))
 
 great-not-before : (limit : ℕ) (text : List ℕ) (at next : ℕ) → IsGreatAt limit text at → IsGreatAt limit text next
     → at < next → ⊥
-great-not-before limit text at next x y lt = elim (cases_lt (at + length x.great.0) next) [
-  | inl behind ↦ great-before limit text at next 48 x (omega (arith, behind)) (great-goes_on limit text next y)
-  | inr within ↦
-      let place : at + (next - at - 1) + 1 ≡ next = omega (arith, lt) in
-      not-begun limit text (at + (next - at - 1)) (subst (λ (n : ℕ). IsGreatAt limit text n) (sym place) y)
-      (digit-inside limit text at (next - at - 1) x (omega (arith, within, lt)))
-]
+great-not-before limit text at next x y lt =
+    let behind = λ (le : at + length x.great.0 ≤ next). great-before limit text at next 48 x le (great-goes_on limit text next y) in
+    let place : at + (next - at - 1) + 1 ≡ next = omega (arith, lt) in
+    not-begun limit text (at + (next - at - 1)) (subst (λ (n : ℕ). IsGreatAt limit text n) (sym place) y)
+    (digit-inside limit text at (next - at - 1) x (omega (arith, behind, lt)))
 
 one-expected : (limit : ℕ) (text : List ℕ) (what other : Expected) (a b : ℕ) → IsExpectedAt limit text what a
     → IsExpectedAt limit text other b → Flaw.Expected what a ≡ Flaw.Expected other b
