@@ -1,9 +1,9 @@
 -- Where the reader of numbers stops, the text is wrong there and has no version.
 use Rattle.nodejs_semver.proofs.Common.{◌≡◌, ◌<◌, ◌≤◌, ◌+◌, ◌-◌, ℕ, zero, suc, List, [], ◌∷◌, ◌++◌, length, drop, take, refl, sym}
 use Rattle.nodejs_semver.proofs.Common.{ap, ◌∙◌, subst, arith, true, false, Some, append_assoc, length-append, IsUtf8, Option}
-use Rattle.nodejs_semver.proofs.Common.{None, IfSome, get_or, inl, inr, is_ascii_digit, list_all, and_parts, cases_Bool, eqb-true}
-use Rattle.nodejs_semver.proofs.Common.{nat_tests, take_rest, list_len, space_len, begins, Id, VersionValue, ◌==◌, ◌↔◌}
-use Rattle.nodejs_semver.proofs.Common.{encode_utf8, begins_identifier, ◌*◌, eqb, drop_all, drop_more, IsAfterBlank, IsNumber}
+use Rattle.nodejs_semver.proofs.Common.{None, IfSome, is_ascii_digit, list_all, and_parts, eqb-true, nat_tests, take_rest}
+use Rattle.nodejs_semver.proofs.Common.{space_len, begins, VersionValue, ◌==◌, ◌↔◌, encode_utf8, ◌*◌, eqb, drop_all, drop_more}
+use Rattle.nodejs_semver.proofs.Common.{IsAfterBlank, IsNumber, inl, inr, cases_Bool, Id}
 use Rattle.std.proofs.Common.{length-drop, slice_range, MatchOption}
 use Rattle.std.specs.Char.{digit_value}
 use Rattle.std.specs.Str.Parse.{digits_value, digits_value_after}
@@ -16,7 +16,7 @@ use Rattle.semver_core.specs.declared.TheConstants.{MAX_LENGTH}
 use Rattle.semver_core.proofs.Text.Pieces.{digits_grow, some_inside}
 use Rattle.semver_core.proofs.Text.Texts.{build_complete, divided_at, mark_is, number_begins, pre_complete, triple_complete}
 use Rattle.semver_core.proofs.Text.Trims.{after_blank_drops_spaces}
-use Rattle.nodejs_semver.specs.Internal.Fronts.{begins_byte, build_front, marked_list, pre_release_front}
+use Rattle.nodejs_semver.specs.Internal.Fronts.{build_front, marked_list, pre_release_front, begins_byte}
 use Rattle.nodejs_semver.specs.Diagnosis.VersionFlaws.{IsExact, IsExpectedAt, IsFlaw, IsFront, IsGreatAt}
 use Rattle.nodejs_semver.specs.Internal.Stuck.{BeginsGreat, Stuck, begins_dot, at_great, at_digit, at_dot, later, IsWhole}
 use Rattle.nodejs_semver.specs.declared.diagnosis.versions.VersionFlaw.{VersionFlaw}
@@ -49,25 +49,16 @@ zeros limit (suc k) c nine h = (48 ∷ dots k, numeral limit c (46 ∷ 48 ∷ do
 
 right-digit : (limit : ℕ) (Starts : List ℕ → Type 0) (front : List ℕ) (k : ℕ) → 9 ≤ limit → Place limit Starts front k
     → (c : ℕ) → is_ascii_digit c ≡ true → IsFront limit (front ++ c ∷ [])
-right-digit limit Starts front k nine p c h = (
-  dots k,
-  subst (λ (t : List ℕ). IsWhole limit t) (sym (append_assoc front (c ∷ []) (dots k)))
-      (p.whole (c ∷ dots k) (zeros limit k c nine h)),
-)
+right-digit limit Starts front k nine p c h = (dots k, rw append_assoc (p.whole (c ∷ dots k) (zeros limit k c nine h)))
 
 right-dot : (limit : ℕ) (Starts : List ℕ → Type 0) (front d : List ℕ) (n k : ℕ) → 9 ≤ limit → Place limit Starts front (suc k)
     → IsNumber limit d n → (c : ℕ) → eqb c 46 ≡ true → IsFront limit ((front ++ d) ++ c ∷ [])
 right-dot limit Starts front d n k nine p number c h =
     let rest = 48 ∷ dots k in
-    let joined : ((front ++ d) ++ c ∷ []) ++ rest ≡ front ++ (d ++ 46 ∷ rest) = rw (eqb-true c 46 h) (simp append_assoc) in (
-      rest,
-      subst (λ (t : List ℕ). IsWhole limit t) (sym joined)
-          (p.whole (d ++ 46 ∷ rest) (
-            rest,
-            record { digits = d; n = n; divided = refl; is = record { number = number; ended = refl } },
-            zeros limit k 48 nine refl,
-          )),
-    )
+    let joined : ((front ++ d) ++ c ∷ []) ++ rest ≡ front ++ (d ++ 46 ∷ rest) = rw (eqb-true c 46 h) (simp append_assoc) in
+    let first : Numeral limit (d ++ 46 ∷ rest) (46 ∷ rest) =
+    record { digits = d; n = n; divided = refl; is = record { number = number; ended = refl } } in
+    (rest, rw joined (p.whole (d ++ 46 ∷ rest) (rest, first, zeros limit k 48 nine refl)))
 
 no-digit : (limit : ℕ) (Starts : List ℕ → Type 0) (front : List ℕ) (k : ℕ) → Place limit Starts front k → (text : List ℕ)
     → Starts text → begins is_ascii_digit text ≡ false → NoValue (Reads limit (front ++ text))
@@ -91,16 +82,8 @@ great-begins limit (c ∷ d) rest each above = (and_parts (is_ascii_digit c) (li
 grown : (v : ℕ) (d e x y : List ℕ) → list_all is_ascii_digit d ≡ true → begins is_ascii_digit y ≡ false → d ++ x ≡ e ++ y
     → digits_value_after 10 v d ≤ digits_value_after 10 v e
 grown v [] e x y each ended same = digits_grow v e
-grown v (c ∷ d) [] x y each ended same =
-    let digit = (and_parts (is_ascii_digit c) (list_all is_ascii_digit d) each).0 in
-    cc (sym ended ∙ (ap (λ (t : List ℕ). begins is_ascii_digit t) (sym same) ∙ digit))
-grown v (c ∷ d) (b ∷ e) x y each ended same =
-    let first : c ≡ b = ap (λ (t : List ℕ). get_or t 0 0) same in
-    let rest : d ++ x ≡ e ++ y = ap (λ (t : List ℕ). drop 1 t) same in
-    let more = grown (v * 10 + digit_value c) d e x y (and_parts (is_ascii_digit c) (list_all is_ascii_digit d) each).1
-    ended rest in
-    subst (λ (z : ℕ). digits_value_after 10 (v * 10 + digit_value c) d ≤ digits_value_after 10 (v * 10 + digit_value z) e)
-    first more
+grown v (c ∷ d) [] x y each ended same = grind arith
+grown v (c ∷ d) (b ∷ e) x y each ended same = grind (arith, grown (v * 10 + digit_value c) d e x y)
 
 no-great : (limit : ℕ) (Starts : List ℕ → Type 0) (front : List ℕ) (k : ℕ) → Place limit Starts front k → (text : List ℕ)
     → Starts text → BeginsGreat limit text → NoValue (Reads limit (front ++ text))
@@ -154,8 +137,7 @@ dot-next : (text : List ℕ) (at : ℕ) → begins_dot (drop at text) ≡ true �
 dot-next text at h =
     let within : at < length text = grind (arith, drop_all) in
     let next = drop_more text at 0 within in
-    let dot : begins_dot (get_or text at 0 ∷ drop (at + 1) text) ≡ true = rw next at h in
-    (next ∙ ap (λ (c : ℕ). c ∷ drop (at + 1) text) (eqb-true (get_or text at 0) 46 dot), omega (arith, within))
+    (grind (arith, next, eqb-true), omega (arith, within))
 
 here : (limit : ℕ) (text : List ℕ) (at : ℕ) → NoValue (Reads limit (take at text ++ drop at text)) → NoValue (Reads limit text)
 here limit text at h = subst (λ (t : List ℕ). NoValue (Reads limit t)) (take-append-drop at text) h
@@ -193,11 +175,9 @@ stuck_wrong limit text Starts k at flaw nine inside p s (at_dot j a end found no
     let front : take end text ≡ take a text ++ m.piece = cut text a end m.piece inside found.inside m.divided in
     record {
       inside = found.inside;
-      right = λ c h. subst (λ (t : List ℕ). IsFront limit (t ++ c ∷ [])) (sym front)
-          (right-dot limit Starts (take a text) m.piece found.n j nine p m.is.number c h);
+      right = λ c h. rw front (right-dot limit Starts (take a text) m.piece found.n j nine p m.is.number c h);
       apart = m.is.ended;
-      wrong = λ c rest other e.
-          subst (λ (t : List ℕ). NoValue (Reads limit (t ++ (encode_utf8 c ++ other)))) (sym front)
+      wrong = λ c rest other e. rw front
           (no-dot limit Starts (take a text) m.piece found.n j p m.is.number (encode_utf8 c ++ other)
           (begins_alike is_ascii_digit c other rest ∙ (ap (λ (t : List ℕ). begins is_ascii_digit t) (sym e) ∙ m.is.ended))
           (begins_alike (λ b. b == 46) c other rest ∙ (ap (λ (t : List ℕ). begins_dot t) (sym e) ∙ none)));
@@ -213,8 +193,7 @@ stuck_wrong limit text Starts k at flaw nine inside p s (later j a end f found d
     m.divided ∙ (ap (λ (t : List ℕ). m.piece ++ t) next.0 ∙ sym (append_assoc m.piece (46 ∷ []) (drop (end + 1) text))) in
     let front : take (end + 1) text ≡ take a text ++ piece = cut text a (end + 1) piece inside next.1 divided in
     stuck_wrong limit text (λ _. Unit {0}) j (end + 1) f nine next.1
-    (subst (λ (t : List ℕ). Place limit (λ _. Unit {0}) t j) (sym front)
-    (next_place limit Starts (take a text) m.piece found.n j p m.is.number)) tt more
+    (rw front (next_place limit Starts (take a text) m.piece found.n j p m.is.number)) tt more
 
 -- ---- behind the mark and the whitespace
 
@@ -239,8 +218,7 @@ begun limit text start utf8 a =
     cut text k start blank (omega (arith, a.after, a.boundary.0)) a.boundary.0 rest in
     record {
       inside = a.boundary.0;
-      place = subst (λ (t : List ℕ). Place limit (Leads t) t 2) (sym front)
-          (lead_place limit (take k text) blank (mark_is text) a.blank);
+      place = rw front (lead_place limit (take k text) blank (mark_is text) a.blank);
       leads = (
         ap (λ (t : List ℕ). space_len t) (after_blank_drops_spaces text k start utf8 a) ∙ spaces-gone 0 (drop k text),
         unmarked text start a.after,
@@ -250,19 +228,20 @@ begun limit text start utf8 a =
 
 -- ---- the answers
 
+wrong_flaw : (limit : ℕ) (text : List ℕ) (flaw : VersionFlaw) → length text ≤ MAX_LENGTH → IsWrong limit text flaw
+    → IsFlaw limit text flaw × (IsExact limit text → ⊥)
+wrong_flaw limit text Flaw.TooLong short w = absurd w
+wrong_flaw limit text (Flaw.Ignored at) short w = absurd w
+wrong_flaw limit text flaw short w = ((short, w), λ e. w.none e.0 e.1.reads)
+
 -- the answer where the reader stops
 pub stuck_flaw : (limit : ℕ) (text : List ℕ) (start : ℕ) (flaw : VersionFlaw) → 9 ≤ limit → IsUtf8 text
     → IsAfterBlank text (mark_len text) start
     → length text ≤ MAX_LENGTH → Stuck limit text 2 start flaw → IsFlaw limit text flaw × (IsExact limit text → ⊥)
 stuck_flaw limit text start flaw nine utf8 a short h =
     let b = begun limit text start utf8 a in
-    go flaw (stuck_wrong limit text (Leads (take start text)) 2 start flaw nine b.inside b.place b.leads h)
-  where
-    go : (flaw : VersionFlaw) → IsWrong limit text flaw → IsFlaw limit text flaw × (IsExact limit text → ⊥)
-    go Flaw.TooLong w = absurd w
-    go (Flaw.NumberTooGreat at) w = ((short, w), λ e. w.none e.0 e.1.reads)
-    go (Flaw.Expected what at) w = ((short, w), λ e. w.none e.0 e.1.reads)
-    go (Flaw.Ignored at) w = absurd w
+    wrong_flaw limit text flaw short
+    (stuck_wrong limit text (Leads (take start text)) 2 start flaw nine b.inside b.place b.leads h)
 
 -- three numbers were read, and the place is behind what goes on with them
 pub record Ended (limit : ℕ) (text : List ℕ) (start at : ℕ) : Type 0 where
@@ -287,10 +266,7 @@ pub ruleset flaws_decided = (decided, decided_only)
 -- what is left behind the identifiers at a place
 marked-left : (text : List ℕ) (at start : ℕ)
     → (marked_list (drop at text) (drop start text)).1 ≡ drop (or_nothing at (list_at text start)).1 text
-marked-left text at start = elim (cases_Bool (begins_identifier (drop start text))) [
-  | inl some ↦ rw some (drop-drop (list_len (drop start text)) start text)
-  | inr none ↦ rw none refl
-]
+marked-left text at start = grind (arith, drop-drop)
 
 pre-left : (text : List ℕ) (at : ℕ) → (pre_release_front (drop at text)).1 ≡ drop (pre_release_at text at).1 text
 unfolding pre_release_front
@@ -386,6 +362,5 @@ pub ignored_left : (limit : ℕ) (text : List ℕ) (start n : ℕ) (ignored : Li
     → n ≡ length text - length ignored → IsFlaw limit text (Flaw.Ignored n) × (IsExact limit text → ⊥)
 ignored_left limit text start n ignored utf8 a short e some place =
     let len : length ignored ≡ length text - e.0 = ap length e.2 ∙ length-drop e.0 text in
-    let same : e.0 ≡ n = omega (arith, some, len, place) in
-    subst (λ (m : ℕ). IsFlaw limit text (Flaw.Ignored m) × (IsExact limit text → ⊥)) same
-    (ignored_behind limit text start e.0 utf8 a short e.1 (omega (arith, some, len)))
+    let same : n ≡ e.0 = omega (arith, some, len, place) in
+    rw same (ignored_behind limit text start e.0 utf8 a short e.1 (omega (arith, some, len)))

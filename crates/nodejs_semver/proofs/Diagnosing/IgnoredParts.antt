@@ -56,17 +56,11 @@ ignored_enough : (limit place n m : ℕ) (text : List ℕ) → space_len text �
     → ignored_within limit place n text ≡ ignored_within limit place m text
 unfolding ignored_within
 ignored_enough limit place zero zero text h a b = refl
-ignored_enough limit place zero (suc m) [] h a b = refl
-ignored_enough limit place (suc n) zero [] h a b = refl
-ignored_enough limit place (suc n) (suc m) [] h a b = refl
-ignored_enough limit place zero m (c ∷ text) h a b = absurd (omega arith)
+ignored_enough limit place zero (suc m) (c ∷ text) h a b = absurd (omega arith)
 ignored_enough limit place (suc n) zero (c ∷ text) h a b = absurd (omega arith)
 ignored_enough limit place (suc n) (suc m) (c ∷ text) h a b =
-    let read = kind_at limit (c ∷ text) in
-    let less = word-shorter limit c text h in
-    let le = spaces-le read.1 in
-    ap (λ (l : List IgnoredWord). if_ignored read.0 (place - length (c ∷ text)) (place - length read.1) ++ l)
-    (ignored_enough limit place n m (drop_spaces read.1) (spaces-gone 0 read.1) (omega arith) (omega arith))
+    grind (arith, word-shorter, spaces-le, spaces-gone, ignored_enough limit place n m (drop_spaces (kind_at limit (c ∷ text)).1))
+ignored_enough limit place n m text h a b = refl
 
 pub ignored_step : (limit place : ℕ) (text : List ℕ) → 0 < length text → space_len text ≡ 0 → ignored_of limit place text
     ≡ if_ignored (kind_at limit text).0 (place - length text) (place - length (kind_at limit text).1)
@@ -119,8 +113,7 @@ trim-le (b ∷ rest) = grind (arith, trim-le rest)
 pub part_ends : (place start : ℕ) (piece part : List ℕ) → start ≡ length piece - length (drop_spaces piece) → part ≡ trim piece
     → place + start + length part ≡ part_end place piece
 part_ends place start piece part h e =
-    ap (λ (n : ℕ). place + n + length part) h
-    ∙ ap (λ (t : List ℕ). place + (length piece - length (drop_spaces piece)) + length t) e
+    cc (h, e)
 
 pub part_fits : (piece : List ℕ) (place : ℕ) → part_end place piece ≤ place + length piece
 part_fits piece place = omega (arith, trim-le (drop_spaces piece), spaces-le piece)
@@ -146,8 +139,7 @@ IsBounded limit p = (ws : List Word) × HasWords limit p ws × (list_all (λ w. 
 
 ignored-read : (limit place n : ℕ) (text : List ℕ) → IsUtf8 text → space_len text ≡ 0 → length text ≤ n
     → AreIgnoredOf limit place text (ignored_of limit place text)
-ignored-read limit place n [] u h l =
-    subst (λ (ws : List IgnoredWord). AreIgnoredOf limit place [] ws) (sym (ignored_nil limit place [] refl)) no_word
+ignored-read limit place n [] u h l = rw (ignored_nil limit place [] refl) no_word
 ignored-read limit place zero (b ∷ rest) u h l = absurd (omega arith)
 ignored-read limit place (suc n) (b ∷ rest) u h l =
     let read = word_at limit (b ∷ rest) in
@@ -158,8 +150,7 @@ ignored-read limit place (suc n) (b ∷ rest) u h l =
     let less = word-shorter limit b rest h in
     let le = spaces-le read.1 in
     let more = ignored-read limit place n next (skips-utf8 read.1 next skipped v) (spaces-gone 0 read.1) (omega arith) in
-    subst (λ (ws : List IgnoredWord). AreIgnoredOf limit place (b ∷ rest) ws)
-    (sym (ignored_step limit place (b ∷ rest) (omega arith) h))
+    rw (ignored_step limit place (b ∷ rest) (omega arith) h)
     (next_word b rest read.1 next read.0 (ignored_of limit place next) is skipped more)
 
 -- where a part begins in its piece, unless it is empty
@@ -172,12 +163,9 @@ piece-read : (limit place : ℕ) (piece : List ℕ) → IsUtf8 piece → (t : Is
     (ignored_of limit (part_end place piece) (trim piece))
 piece-read limit place piece u t = elim (part-begins piece (trim piece) t) [
   | inl none ↦
-      let length-none : length (trim piece) ≡ 0 = ap length none in
-      subst (λ (ws : List IgnoredWord). AreIgnoredOf limit end (trim piece) ws)
-      (ignored_nil limit end (trim piece) length-none ∙ sym (ignored_nil limit (part_end place piece) (trim piece) length-none))
-      (read end)
-  | inr same ↦ subst (λ (n : ℕ). AreIgnoredOf limit (place + n + length (trim piece)) (trim piece)
-      (ignored_of limit (part_end place piece) (trim piece))) same (read (part_end place piece))
+      let nil = λ (at : ℕ). ignored_nil limit at (trim piece) (ap length none) in
+      rw (nil (part_end place piece)) (rw (nil end) at (read end))
+  | inr same ↦ rw (← same) (read (part_end place piece))
 ]
   where
     end : ℕ

@@ -1,28 +1,25 @@
 -- A text has one flaw: behind the place of a flaw no version text goes on.
 use Rattle.nodejs_semver.proofs.Common.{◌≡◌, ◌<◌, ◌≤◌, ◌+◌, ℕ, List, [], ◌∷◌, ◌++◌, length, drop, take, refl, sym, ap, ◌∙◌, arith}
-use Rattle.nodejs_semver.proofs.Common.{inl, inr, true, false, Some, suc, length-append, is_ascii_digit, list_all, cases_Bool}
-use Rattle.nodejs_semver.proofs.Common.{take_at, drop_at, begins, zero, subst, not, Bool, append_assoc, and_from, and_parts}
-use Rattle.nodejs_semver.proofs.Common.{nat_tests, list_all-append, drop_spaces, space_len, is_whitespace, VersionValue}
-use Rattle.nodejs_semver.proofs.Common.{drop_spaces-none, encode_utf8, IsBlank, ◌-◌, ◌⊎◌, IfSome, None, Option, IsUtf8, get_or}
-use Rattle.nodejs_semver.proofs.Common.{eqb-true, IsUtf8-drop, Id, ◌↔◌, ◌==◌, pieces, IsBuild, IsPreRelease, encode_utf8_all}
-use Rattle.nodejs_semver.proofs.Common.{length-take-le, prefix_len, onto_first, cases_lt, length-encode, len_utf8_bounds}
-use Rattle.nodejs_semver.proofs.Common.{IsCharBoundary-before_ascii, IsUtf8-take, IsPieceAt, NoPieceAt, IsWholeNumber, IsNumber}
-use Rattle.nodejs_semver.proofs.Common.{drop_spaces-blank}
+use Rattle.nodejs_semver.proofs.Common.{inl, inr, true, false, Some, suc, length-append, is_ascii_digit, list_all, take_at}
+use Rattle.nodejs_semver.proofs.Common.{drop_at, begins, zero, subst, not, Bool, append_assoc, nat_tests, list_all-append}
+use Rattle.nodejs_semver.proofs.Common.{drop_spaces, space_len, is_whitespace, VersionValue, drop_spaces-none, encode_utf8}
+use Rattle.nodejs_semver.proofs.Common.{IsBlank, ◌-◌, IfSome, None, Option, IsUtf8, IsUtf8-drop, ◌↔◌, encode_utf8_all}
+use Rattle.nodejs_semver.proofs.Common.{length-take-le, prefix_len, cases_lt, length-encode, len_utf8_bounds}
+use Rattle.nodejs_semver.proofs.Common.{IsCharBoundary-before_ascii, IsUtf8-take, NoPieceAt, IsWholeNumber, IsNumber}
+use Rattle.nodejs_semver.proofs.Common.{drop_spaces-blank, cases_Bool, and_parts}
 use Rattle.std.proofs.Common.{length-drop}
 use Rattle.std.specs.Str.Parse.{digits_value}
 use Rattle.std.proofs.lemmas.List.{take-append-drop, drop-drop}
 use Rattle.std.proofs.lemmas.Str.{char_from_byte, IsCharBoundary-from_take, IsUtf8-append, IsUtf8-encode, encode_ascii}
+use Rattle.std.proofs.lemmas.Str.{IsUtf8-nil}
 use Rattle.std.specs.Char.{IsScalar}
-use Rattle.std.proofs.Math.Seq.{take-add, take-append_seam, drop-append_seam}
+use Rattle.std.proofs.Math.Seq.{take-add, take-append_seam, drop-append_seam, get_or-append_seam}
 use Rattle.semver_core.specs.Internal.Reading.{number_at, triple_at, mark_len}
-use Rattle.semver_core.proofs.Text.Pieces.{number_complete, first_char, runs_tail, some_inside, tail_onto, tail_runs}
-use Rattle.semver_core.specs.Text.VersionText.{IsMark, Reads, no_mark, small_mark, capital_mark, no_pre_release, no_build, dashed}
-use Rattle.semver_core.specs.Text.VersionText.{bare, plus}
+use Rattle.semver_core.proofs.Text.Pieces.{number_complete, some_inside}
+use Rattle.semver_core.specs.Text.VersionText.{IsMark, Reads, no_mark, no_pre_release, no_build}
 use Rattle.semver_core.specs.Values.Versions.{release_value}
-use Rattle.semver_core.proofs.Text.Texts.{no_mark_at, number_begins, read_at, rest_of}
+use Rattle.semver_core.proofs.Text.Texts.{no_mark_at, number_begins, read_at}
 use Rattle.semver_core.proofs.Text.SpaceLaw.{front_is_first_character}
-use Rattle.semver_core.specs.Text.Identifiers.{is_identifier}
-use Rattle.semver_core.proofs.Text.Runs.{ascii}
 use Rattle.semver_core.proofs.Text.Spaces.{after_spaces-end}
 use Rattle.nodejs_semver.specs.Internal.Stuck.{BeginsGreat, IsNumberAt, Stuck, begins_dot, at_digit, at_great, at_dot, later}
 use Rattle.nodejs_semver.specs.Internal.Stuck.{IsWhole}
@@ -32,6 +29,8 @@ use Rattle.nodejs_semver.specs.declared.diagnosis.versions.Expected.TheVariants.
 use Rattle.nodejs_semver.specs.declared.diagnosis.versions.VersionFlaw.{VersionFlaw}
 use Rattle.nodejs_semver.proofs.Reading.Numbers.{digits-taken, run-ends}
 use lib.Utf8.{low_scalar}
+use Rattle.nodejs_semver.proofs.Reading.PartialLaw.{pre-solid, build-solid, digits-solid}
+use Rattle.nodejs_semver.proofs.Reading.Bytes.{is_solid}
 use Rattle.nodejs_semver.specs.declared.diagnosis.versions.VersionFlaw.TheVariants as Flaw
 
 -- the run of digits at the front of a text
@@ -66,16 +65,8 @@ begins_great limit text at some none =
 pub digits_once : (d e x y : List ℕ) → list_all is_ascii_digit d ≡ true → list_all is_ascii_digit e ≡ true
     → begins is_ascii_digit x ≡ false → begins is_ascii_digit y ≡ false → d ++ x ≡ e ++ y → (d ≡ e) × (x ≡ y)
 digits_once d e x y a b f g same =
-    let len : length d ≡ length e =
-    sym (digits-taken d x a f) ∙ (ap (λ (t : List ℕ). prefix_len is_ascii_digit t) same ∙ digits-taken e y b g) in (
-      sym (take_at d x (length d) refl) ∙ (ap (λ (t : List ℕ). take (length d) t) same ∙ take_at e y (length d) (sym len)),
-      sym (drop_at d x (length d) refl) ∙ (ap (λ (t : List ℕ). drop (length d) t) same ∙ drop_at e y (length d) (sym len)),
-    )
-
--- a number that was found ends behind its digits
-pub number_found : (limit : ℕ) (text : List ℕ) (at n end : ℕ)
-    → IsPieceAt (λ digits rest. IsWholeNumber limit digits rest n) text at end → end ≤ length text → IsNumberAt limit text at end
-number_found limit text at n end s e = record { n = n; piece = s; inside = e }
+    let len : length d ≡ length e = cc (digits-taken d x a f, digits-taken e y b g) in
+    (cc (take_at d x (length d) refl, take_at e y (length d) (sym len)), cc (drop_at d x (length d) refl, drop_at e y (length d) (sym len)))
 
 number-is : (limit : ℕ) (text : List ℕ) (at end : ℕ) → at ≤ length text → (s : IsNumberAt limit text at end)
     → number_at limit text at ≡ Some (s.n, end)
@@ -83,14 +74,7 @@ number-is limit text at end inside s =
     let p = s.piece in
     let found = number_complete limit text at s.n p.piece (drop end text) p.divided p.is in
     let place : at + length p.piece ≡ end =
-    omega (
-      arith,
-      s.inside,
-      ap length p.divided,
-      length-append p.piece (drop end text),
-      length-drop at text,
-      length-drop end text,
-    ) in
+    omega (arith, s.inside, ap length p.divided, length-append {A = ℕ}, length-drop {A = ℕ}) in
     rw place at found.0
 
 -- three of them
@@ -99,10 +83,8 @@ pub triple_found : (limit : ℕ) (text : List ℕ) (at a b end : ℕ) → at ≤
     → a + 1 ≤ length text → IsNumberAt limit text (a + 1) b → begins_dot (drop b text) ≡ true → b + 1 ≤ length text
     → IsNumberAt limit text (b + 1) end → (t : ℕ × ℕ × ℕ × ℕ) × (triple_at limit text at ≡ Some t) × (t.3 ≡ end)
 triple_found limit text at a b end i m d j n e k p =
-    let first = number-is limit text at a i m in
     let second = number-is limit text (a + 1) b j n in
-    let third = number-is limit text (b + 1) end k p in
-    ((m.n, n.n, p.n, end), rw (first, d, second, e, third) refl, refl)
+    ((m.n, n.n, p.n, end), rw (number-is limit text at a i m, d, second, e, number-is limit text (b + 1) end k p) refl, refl)
 
 -- where the reader stops
 pub stuck_great : (limit : ℕ) (text : List ℕ) (at : ℕ) → begins is_ascii_digit (drop at text) ≡ true
@@ -186,27 +168,18 @@ white-bytes c h = grind (arith, nat_tests)
 
 white-texts : (cs : List ℕ) → list_all is_whitespace cs ≡ true → list_all is_dark (encode_utf8_all cs) ≡ true
 white-texts [] h = refl
-white-texts (c ∷ cs) h =
-    let both = and_parts (is_whitespace c) (list_all is_whitespace cs) h in
-    list_all-append is_dark (encode_utf8 c) (encode_utf8_all cs)
-    ∙ and_from _ _ (white-bytes c both.0) (white-texts cs both.1)
+white-texts (c ∷ cs) h = grind (arith, list_all-append, white-bytes, white-texts cs)
 
 mark-dark : (mark : List ℕ) → IsMark mark → list_all is_dark mark ≡ true
-mark-dark mark no_mark = refl
-mark-dark mark small_mark = refl
-mark-dark mark capital_mark = refl
+mark-dark mark h = grind arith
 
 -- no digit ends them
 lead-begun : (mark blank : List ℕ) → IsMark mark → IsBlank blank → (most : List ℕ) (c : ℕ) → mark ++ blank ≡ most ++ c ∷ []
     → is_ascii_digit c ≡ false
 lead-begun mark blank m b most c e =
-    let dark : list_all is_dark (mark ++ blank) ≡ true =
-    list_all-append is_dark mark blank
-    ∙ and_from _ _ (mark-dark mark m) (rw b.spelled (white-texts b.characters b.each)) in
-    let all : list_all is_dark (most ++ c ∷ []) ≡ true = rw (← e) dark in
-    let last = and_parts (list_all is_dark most) (list_all is_dark (c ∷ []))
-    (sym (list_all-append is_dark most (c ∷ [])) ∙ all) in
-    grind (arith, last.1)
+    let dark = list_all-append is_dark mark blank in
+    let last = list_all-append is_dark most (c ∷ []) in
+    grind (arith, dark, last, mark-dark, white-texts)
 
 white-unmarked : (c : ℕ) (rest : List ℕ) → is_whitespace c ≡ true → mark_len (encode_utf8 c ++ rest) ≡ 0
 white-unmarked c rest h = go (encode_utf8 c ++ rest) refl
@@ -242,8 +215,7 @@ past_lead mark blank text m b dark unmarked = go mark m unmarked
     go : (mark : List ℕ) → IsMark mark → (mark ++ blank ≡ [] → mark_len text ≡ 0)
         → drop_spaces (drop (mark_len (mark ++ (blank ++ text))) (mark ++ (blank ++ text))) ≡ text
     go mark no_mark u = rw (none b.characters b.each b.spelled u) spaces
-    go mark small_mark u = spaces
-    go mark capital_mark u = spaces
+    go mark other u = spaces
 
 -- the text begins neither with whitespace nor, where nothing is in front, with a mark
 abbrev pub Leads : List ℕ → List ℕ → Type 0
@@ -329,8 +301,7 @@ next_place limit Starts front d n k p number = record {
       (subst (λ (t : List ℕ). HasTail limit t tail) (joined text) h) in
       let same = numeral_once limit d (46 ∷ text) (46 ∷ found.0) n (record { number = number; ended = refl }) found.1 in
       subst (λ (t : List ℕ). Numbers limit k t tail) (sym (ap (λ (t : List ℕ). drop 1 t) same)) found.2;
-  whole = λ text h.
-      subst (λ (t : List ℕ). IsWhole limit t) (sym (joined text))
+  whole = λ text h. rw (joined text)
       (p.whole (d ++ 46 ∷ text)
       (text, record { digits = d; n = n; divided = refl; is = record { number = number; ended = refl } }, h));
 }
@@ -344,74 +315,35 @@ ascii-then : (c : ℕ) (text : List ℕ) → c < 128 → IsUtf8 text → IsUtf8 
 ascii-then c text low u = IsUtf8-append (c ∷ []) text
     (subst (λ (t : List ℕ). IsUtf8 t) (encode_ascii c low) (IsUtf8-encode c (low_scalar c (omega (arith, low))))) u
 
-nothing : IsUtf8 []
-nothing = ([], (refl, refl))
-
-runs-utf8 : (s : List ℕ) → tail_runs (pieces s) ≡ true → IsUtf8 s
-runs-utf8 [] h = nothing
-runs-utf8 (c ∷ s) h = elim (cases_Bool (c == 46)) [
-  | inl dot ↦
-      let runs : list_all is_identifier (pieces s) ≡ true = rw dot at h in
-      ascii-then c s (omega (arith, eqb-true c 46 dot)) (runs-utf8 s (runs_tail (pieces s) runs))
-  | inr other ↦
-      let split : tail_runs (onto_first c (pieces s)) ≡ true = rw other at h in
-      ascii-then c s (ascii c (first_char c (pieces s) split)) (runs-utf8 s (tail_onto c (pieces s) split))
-]
-
-digit-low : (c : ℕ) → is_ascii_digit c ≡ true → c < 128
-digit-low c h = grind (arith, nat_tests)
-
-digits-utf8 : (d : List ℕ) → list_all is_ascii_digit d ≡ true → IsUtf8 d
-digits-utf8 [] h = nothing
-digits-utf8 (c ∷ d) h =
-    let each = and_parts (is_ascii_digit c) (list_all is_ascii_digit d) h in
-    ascii-then c d (digit-low c each.0) (digits-utf8 d each.1)
+solid-utf8 : (text : List ℕ) → list_all is_solid text ≡ true → IsUtf8 text
+solid-utf8 [] h = IsUtf8-nil
+solid-utf8 (c ∷ text) h = grind (arith, nat_tests, ascii-then, solid-utf8 text)
 
 white-scalar : (c : ℕ) → is_whitespace c ≡ true → IsScalar c
-white-scalar c h = elim (of c h) [ inl low ↦ low_scalar c low | inr mark ↦ rw mark refl ]
-  where
-    of : (c : ℕ) → is_whitespace c ≡ true → (c < 0xD800) ⊎ (c ≡ 0xFEFF)
-    of c h = grind (arith, nat_tests)
+white-scalar c h = grind (arith, nat_tests, low_scalar)
 
 blank-utf8 : (cs : List ℕ) → list_all is_whitespace cs ≡ true → IsUtf8 (encode_utf8_all cs)
-blank-utf8 [] h = nothing
+blank-utf8 [] h = IsUtf8-nil
 blank-utf8 (c ∷ cs) h =
     let each = and_parts (is_whitespace c) (list_all is_whitespace cs) h in
     IsUtf8-append (encode_utf8 c) (encode_utf8_all cs) (IsUtf8-encode c (white-scalar c each.0)) (blank-utf8 cs each.1)
 
-mark-utf8 : (mark : List ℕ) → IsMark mark → IsUtf8 mark
-mark-utf8 mark no_mark = nothing
-mark-utf8 mark small_mark = ascii-then 118 [] (omega arith) nothing
-mark-utf8 mark capital_mark = ascii-then 86 [] (omega arith) nothing
-
-pre-utf8 : (text rest : List ℕ) (list : List Id) → IsPreRelease text rest list → IsUtf8 text
-pre-utf8 text rest list (dashed s r l long) =
-    ascii-then 45 s (omega arith) (runs-utf8 s (runs_tail (pieces s) long.identifiers.runs))
-pre-utf8 text rest list (bare s r l long plain) = runs-utf8 s (runs_tail (pieces s) long.identifiers.runs)
-pre-utf8 text rest list (no_pre_release r none) = nothing
-
-build-utf8 : (text rest : List ℕ) (list : List Id) → IsBuild text rest list → IsUtf8 text
-build-utf8 text rest list (plus s r l long) =
-    ascii-then 43 s (omega arith) (runs-utf8 s (runs_tail (pieces s) long.identifiers.runs))
-build-utf8 text rest list (no_build r none) = nothing
+mark-solid : (mark : List ℕ) → IsMark mark → list_all is_solid mark ≡ true
+mark-solid mark h = grind arith
 
 whole-utf8 : (limit : ℕ) (text : List ℕ) → IsWhole limit text → IsUtf8 text
 whole-utf8 limit text w =
     let r = w.1 in
-    let behind : IsUtf8 (r.build ++ r.rest) =
-    IsUtf8-append r.build r.rest (build-utf8 r.build r.rest w.0.build r.build_is)
-    (subst (λ (t : List ℕ). IsUtf8 t) (sym w.2) nothing) in
-    let patch =
-    IsUtf8-append r.patch (r.pre_release ++ (r.build ++ r.rest)) (digits-utf8 r.patch r.patch_is.number.each)
-    (IsUtf8-append r.pre_release (r.build ++ r.rest) (pre-utf8 r.pre_release _ w.0.pre_release r.pre_release_is) behind) in
-    let minor =
-    IsUtf8-append r.minor _ (digits-utf8 r.minor r.minor_is.each) (ascii-then 46 _ (omega arith) patch) in
-    let major =
-    IsUtf8-append r.major _ (digits-utf8 r.major r.major_is.each) (ascii-then 46 _ (omega arith) minor) in
-    let blank : IsUtf8 r.blank =
-    subst (λ (t : List ℕ). IsUtf8 t) (sym r.blank_is.spelled) (blank-utf8 r.blank_is.characters r.blank_is.each) in
-    subst (λ (t : List ℕ). IsUtf8 t) (sym r.divided)
-    (IsUtf8-append r.mark _ (mark-utf8 r.mark r.mark_is) (IsUtf8-append r.blank _ blank major))
+    let numbers = r.major ++ 46 ∷ (r.minor ++ 46 ∷ (r.patch ++ (r.pre_release ++ (r.build ++ r.rest)))) in
+    let major = digits-solid limit r.major w.0.major r.major_is in
+    let minor = digits-solid limit r.minor w.0.minor r.minor_is in
+    let patch = digits-solid limit r.patch w.0.patch r.patch_is.number in
+    let pre = pre-solid r.pre_release (r.build ++ r.rest) w.0.pre_release r.pre_release_is in
+    let build = build-solid r.build r.rest w.0.build r.build_is in
+    let solid : list_all is_solid numbers ≡ true = grind (arith, list_all-append, w.2) in
+    let blank : IsUtf8 r.blank = rw r.blank_is.spelled (blank-utf8 r.blank_is.characters r.blank_is.each) in
+    let behind = IsUtf8-append r.blank numbers blank (solid-utf8 numbers solid) in
+    rw r.divided (IsUtf8-append r.mark _ (solid-utf8 r.mark (mark-solid r.mark r.mark_is)) behind)
 
 -- bytes with which a version text goes on, and this character behind them
 abbrev GoesOn : ℕ → List ℕ → ℕ → Type 0
@@ -423,14 +355,9 @@ front-utf8 limit front c f =
     let text = front ++ rest in
     let whole = subst (λ (t : List ℕ). IsWhole limit t) (append_assoc front (c ∷ []) f.1.0) f.1.1 in
     let long : length front < length text = omega (arith, length-append front rest) in
-    let here : get_or text (length front) 0 ≡ c = at_seam front in
-    let cut = IsCharBoundary-before_ascii text (length front) long (omega (arith, here, f.0)) in
+    let cut = IsCharBoundary-before_ascii text (length front) long (omega (arith, get_or-append_seam front c f.1.0 0, f.0)) in
     subst (λ (t : List ℕ). IsUtf8 t) (take-append_seam front rest)
     (IsUtf8-take text (length front) (whole-utf8 limit text whole) cut)
-  where
-    at_seam : (p : List ℕ) → get_or (p ++ c ∷ f.1.0) (length p) 0 ≡ c
-    at_seam [] = refl
-    at_seam (b ∷ p) = at_seam p
 
 utf8-behind : (front text : List ℕ) → IsUtf8 front → IsUtf8 (front ++ text) → IsUtf8 text
 utf8-behind front text u w =
@@ -476,12 +403,10 @@ great-ends : (limit : ℕ) (text : List ℕ) (at n d : ℕ) → (x : IsGreatAt l
 great-ends limit text at n d x g =
     let m = length x.great.0 in
     let y = drop at text in
-    let digits : take m y ≡ x.great.0 =
-    ap (λ (t : List ℕ). take m t) x.great.2 ∙ take-append_seam x.great.0 x.great.1 in
+    let digits : take m y ≡ x.great.0 = cc (x.great.2, take-append_seam x.great.0 x.great.1) in
+    let assoc = append_assoc (take at text) x.great.0 (take n (drop m y)) in
     let front : take (at + (m + n)) text ≡ (take at text ++ x.great.0) ++ take n (drop m y) =
-    take-add at (m + n) text ∙ (ap (λ (t : List ℕ). take at text ++ t)
-    (take-add m n y ∙ ap (λ (t : List ℕ). t ++ take n (drop m y)) digits)
-    ∙ sym (append_assoc (take at text) x.great.0 (take n (drop m y)))) in
+    cc (take-add at (m + n) text, take-add m n y, digits, assoc) in
     x.wrong (shorter limit (take at text ++ x.great.0) (take n (drop m y) ++ d ∷ [])
     (subst (λ (t : List ℕ). IsFront limit t)
     (ap (λ (t : List ℕ). t ++ d ∷ []) front
@@ -492,9 +417,8 @@ great-ends limit text at n d x g =
 digits-go_on : (d rest : List ℕ) (k : ℕ) → list_all is_ascii_digit d ≡ true → k < length d
     → begins is_ascii_digit (drop k (d ++ rest)) ≡ true
 digits-go_on [] rest k h lt = absurd (omega arith)
-digits-go_on (c ∷ d) rest zero h lt = (and_parts (is_ascii_digit c) (list_all is_ascii_digit d) h).0
-digits-go_on (c ∷ d) rest (suc k) h lt =
-    digits-go_on d rest k (and_parts (is_ascii_digit c) (list_all is_ascii_digit d) h).1 (omega arith)
+digits-go_on (c ∷ d) rest zero h lt = grind arith
+digits-go_on (c ∷ d) rest (suc k) h lt = grind (arith, digits-go_on d rest k)
 
 digit-inside : (limit : ℕ) (text : List ℕ) (at k : ℕ) → (x : IsGreatAt limit text at) → k < length x.great.0
     → begins is_ascii_digit (drop (at + k) text) ≡ true
@@ -522,18 +446,16 @@ sample Dot = 46
 
 expected-goes_on : (limit : ℕ) (text : List ℕ) (what : Expected) (at : ℕ) → IsExpectedAt limit text what at
     → GoesOn limit (take at text) (sample what)
-expected-goes_on limit text Digit at x = (omega arith, x.right 48 refl)
-expected-goes_on limit text Dot at x = (omega arith, x.right 46 refl)
+expected-goes_on limit text what at x = grind arith
 
 great-goes_on : (limit : ℕ) (text : List ℕ) (at : ℕ) → IsGreatAt limit text at → GoesOn limit (take at text) 48
 great-goes_on limit text at x = (omega arith, x.right 48 refl)
 
 same-expected : (limit : ℕ) (text : List ℕ) (what other : Expected) (at : ℕ) → IsExpectedAt limit text what at
     → IsExpectedAt limit text other at → what ≡ other
-same-expected limit text Digit Digit at x y = refl
-same-expected limit text Dot Dot at x y = refl
 same-expected limit text Digit Dot at x y = cc (x.dot (y.right 46 refl))
 same-expected limit text Dot Digit at x y = cc (y.dot (x.right 46 refl))
+same-expected limit text what other at x y = refl
 
 -- the first is behind the second
 expected-before : (limit : ℕ) (text : List ℕ) (what : Expected) (at next d : ℕ) → IsExpectedAt limit text what at
@@ -552,49 +474,34 @@ great-before limit text at next d x le g =
 
 expected-not-great : (limit : ℕ) (text : List ℕ) (what : Expected) (at other : ℕ) → IsExpectedAt limit text what at
     → IsGreatAt limit text other → ⊥
-expected-not-great limit text what at other x y = elim (cases_lt at other) [
-  | inl before ↦ expected-before limit text what at other 48 x before y.inside (great-goes_on limit text other y)
-  | inr le ↦ elim (cases_lt at (other + length y.great.0)) [
-    | inl within ↦
-        let place : other + (at - other) ≡ at = omega (arith, le) in
-        let digit = digit-inside limit text other (at - other) y (omega (arith, within, le)) in
-        cc (sym x.apart ∙ (ap (λ (n : ℕ). begins is_ascii_digit (drop n text)) (sym place) ∙ digit))
-    | inr behind ↦ great-before limit text other at (sample what) y behind (expected-goes_on limit text what at x)
-  ]
-]
+expected-not-great limit text what at other x y =
+    let before = λ (lt : at < other). expected-before limit text what at other 48 x lt y.inside (great-goes_on limit text other y) in
+    let behind = λ (le : other + length y.great.0 ≤ at).
+    great-before limit text other at (sample what) y le (expected-goes_on limit text what at x) in
+    let place : other + (at - other) ≡ at = omega (arith, before) in
+    let digit = digit-inside limit text other (at - other) y (omega (arith, before, behind)) in
+    cc (sym x.apart ∙ (ap (λ (n : ℕ). begins is_ascii_digit (drop n text)) (sym place) ∙ digit))
 
 great-not-before : (limit : ℕ) (text : List ℕ) (at next : ℕ) → IsGreatAt limit text at → IsGreatAt limit text next
     → at < next → ⊥
-great-not-before limit text at next x y lt = elim (cases_lt (at + length x.great.0) next) [
-  | inl behind ↦ great-before limit text at next 48 x (omega (arith, behind)) (great-goes_on limit text next y)
-  | inr within ↦
-      let place : at + (next - at - 1) + 1 ≡ next = omega (arith, lt) in
-      not-begun limit text (at + (next - at - 1)) (subst (λ (n : ℕ). IsGreatAt limit text n) (sym place) y)
-      (digit-inside limit text at (next - at - 1) x (omega (arith, within, lt)))
-]
+great-not-before limit text at next x y lt =
+    let behind = λ (le : at + length x.great.0 ≤ next). great-before limit text at next 48 x le (great-goes_on limit text next y) in
+    let place : at + (next - at - 1) + 1 ≡ next = omega (arith, lt) in
+    not-begun limit text (at + (next - at - 1)) (subst (λ (n : ℕ). IsGreatAt limit text n) (sym place) y)
+    (digit-inside limit text at (next - at - 1) x (omega (arith, behind, lt)))
 
 one-expected : (limit : ℕ) (text : List ℕ) (what other : Expected) (a b : ℕ) → IsExpectedAt limit text what a
     → IsExpectedAt limit text other b → Flaw.Expected what a ≡ Flaw.Expected other b
-one-expected limit text what other a b x y = elim (cases_lt a b) [
-  | inl lt ↦ absurd (expected-before limit text what a b (sample other) x lt y.inside (expected-goes_on limit text other b y))
-  | inr le ↦ elim (cases_lt b a) [
-    | inl lt ↦ absurd (expected-before limit text other b a (sample what) y lt x.inside (expected-goes_on limit text what a x))
-    | inr ge ↦
-        let same : a ≡ b = omega (arith, le, ge) in
-        ap (λ (n : ℕ). Flaw.Expected what n) same
-        ∙ ap (λ (w : Expected). Flaw.Expected w b)
-        (same-expected limit text what other b (subst (λ (n : ℕ). IsExpectedAt limit text what n) same x) y)
-  ]
-]
+one-expected limit text what other a b x y =
+    let less = λ (lt : a < b). expected-before limit text what a b (sample other) x lt y.inside (expected-goes_on limit text other b y) in
+    let more = λ (lt : b < a). expected-before limit text other b a (sample what) y lt x.inside (expected-goes_on limit text what a x) in
+    let same : a ≡ b = omega (arith, less, more) in
+    ap (λ (n : ℕ). Flaw.Expected what n) same
+    ∙ ap (λ (w : Expected). Flaw.Expected w b)
+    (same-expected limit text what other b (subst (λ (n : ℕ). IsExpectedAt limit text what n) same x) y)
 
 one-great : (limit : ℕ) (text : List ℕ) (a b : ℕ) → IsGreatAt limit text a → IsGreatAt limit text b → a ≡ b
-one-great limit text a b x y = elim (cases_lt a b) [
-  | inl lt ↦ absurd (great-not-before limit text a b x y lt)
-  | inr le ↦ elim (cases_lt b a) [
-    | inl lt ↦ absurd (great-not-before limit text b a y x lt)
-    | inr ge ↦ omega (arith, le, ge)
-  ]
-]
+one-great limit text a b x y = omega (arith, great-not-before limit text a b x y, great-not-before limit text b a y x)
 
 -- what follows a version at the front of a text is one text
 one-rest : (limit : ℕ) (text : List ℕ) (v w : VersionValue) (r : Reads limit text v) (s : Reads limit text w) → r.rest ≡ s.rest
@@ -602,12 +509,10 @@ one-rest limit text v w r s =
     let behind = after_spaces-end 0 (drop (mark_len text) text) in
     let at = mark_len text + length behind.0 in
     let here : drop at text ≡ drop_spaces (drop (mark_len text) text) =
-    sym (drop-drop (length behind.0) (mark_len text) text)
-    ∙ (ap (λ (t : List ℕ). drop (length behind.0) t) behind.1
-    ∙ drop-append_seam behind.0 (drop_spaces (drop (mark_len text) text))) in
+    cc (drop-drop (length behind.0) (mark_len text) text, behind.1, drop-append_seam behind.0 (drop_spaces (drop (mark_len text) text))) in
     let one = read_at limit text at v r (here ∙ numbers v r) in
     let two = read_at limit text at w s (here ∙ numbers w s) in
-    sym one.3 ∙ (ap (λ (t : ℕ × ℕ × ℕ × ℕ). rest_of text t) (some_inside one.0 two.0 (sym one.1 ∙ two.1)) ∙ two.3)
+    cc (one.3, two.3, some_inside one.0 two.0 (sym one.1 ∙ two.1))
   where
     numbers : (v : VersionValue) (r : Reads limit text v) → drop_spaces (drop (mark_len text) text)
         ≡ r.major ++ 46 ∷ (r.minor ++ 46 ∷ (r.patch ++ (r.pre_release ++ (r.build ++ r.rest))))
@@ -625,33 +530,24 @@ one-ignored limit text a b x y =
 
 pub one_flaw : (limit : ℕ) (text : List ℕ) (f g : VersionFlaw) → IsFlaw limit text f → IsFlaw limit text g → f ≡ g
 one_flaw limit text Flaw.TooLong Flaw.TooLong x y = refl
-one_flaw limit text Flaw.TooLong (Flaw.NumberTooGreat b) x y = absurd (omega (arith, x, y.0))
-one_flaw limit text Flaw.TooLong (Flaw.Expected other b) x y = absurd (omega (arith, x, y.0))
-one_flaw limit text Flaw.TooLong (Flaw.Ignored b) x y = absurd (omega (arith, x, y.1.short))
-one_flaw limit text (Flaw.NumberTooGreat a) Flaw.TooLong x y = absurd (omega (arith, y, x.0))
+one_flaw limit text Flaw.TooLong g x y = grind arith
+one_flaw limit text f Flaw.TooLong x y = grind arith
 one_flaw limit text (Flaw.NumberTooGreat a) (Flaw.NumberTooGreat b) x y =
     ap (λ (n : ℕ). Flaw.NumberTooGreat n) (one-great limit text a b x.1 y.1)
-one_flaw limit text (Flaw.NumberTooGreat a) (Flaw.Expected other b) x y =
-    absurd (expected-not-great limit text other b a y.1 x.1)
-one_flaw limit text (Flaw.NumberTooGreat a) (Flaw.Ignored b) x y = absurd (x.1.none y.0 y.1.reads)
-one_flaw limit text (Flaw.Expected what a) Flaw.TooLong x y = absurd (omega (arith, y, x.0))
-one_flaw limit text (Flaw.Expected what a) (Flaw.NumberTooGreat b) x y =
-    absurd (expected-not-great limit text what a b x.1 y.1)
+one_flaw limit text (Flaw.NumberTooGreat a) (Flaw.Expected other b) x y = absurd (expected-not-great limit text other b a y.1 x.1)
+one_flaw limit text (Flaw.Expected what a) (Flaw.NumberTooGreat b) x y = absurd (expected-not-great limit text what a b x.1 y.1)
 one_flaw limit text (Flaw.Expected what a) (Flaw.Expected other b) x y = one-expected limit text what other a b x.1 y.1
-one_flaw limit text (Flaw.Expected what a) (Flaw.Ignored b) x y = absurd (x.1.none y.0 y.1.reads)
-one_flaw limit text (Flaw.Ignored a) Flaw.TooLong x y = absurd (omega (arith, y, x.1.short))
-one_flaw limit text (Flaw.Ignored a) (Flaw.NumberTooGreat b) x y = absurd (y.1.none x.0 x.1.reads)
-one_flaw limit text (Flaw.Ignored a) (Flaw.Expected other b) x y = absurd (y.1.none x.0 x.1.reads)
 one_flaw limit text (Flaw.Ignored a) (Flaw.Ignored b) x y = ap (λ (n : ℕ). Flaw.Ignored n) (one-ignored limit text a b x y)
+one_flaw limit text (Flaw.Ignored a) g x y = absurd (y.1.none x.0 x.1.reads)
+one_flaw limit text f (Flaw.Ignored b) x y = absurd (x.1.none y.0 y.1.reads)
 
 -- a text that is one version as a whole has none
 pub no_flaw : (limit : ℕ) (text : List ℕ) (f : VersionFlaw) → IsExact limit text → IsFlaw limit text f → ⊥
 no_flaw limit text Flaw.TooLong e x = absurd (omega (arith, x, e.1.short))
-no_flaw limit text (Flaw.NumberTooGreat a) e x = x.1.none e.0 e.1.reads
-no_flaw limit text (Flaw.Expected what a) e x = x.1.none e.0 e.1.reads
 no_flaw limit text (Flaw.Ignored a) e x =
     let same = sym x.2 ∙ (one-rest limit text x.0 e.0 x.1.reads e.1.reads ∙ e.2) in
     omega (arith, x.3, ap length same, length-drop a text)
+no_flaw limit text f e x = x.1.none e.0 e.1.reads
 
 -- so what is found is the flaw of the text
 pub only_flaw : (limit : ℕ) (text : List ℕ) (found : Option VersionFlaw) → ((found ≡ None) ↔ IsExact limit text)

@@ -1,11 +1,11 @@
 -- A range text means what its words mean that are not ignored.
 use Rattle.nodejs_semver.proofs.Common.{◌≡◌, ◌↔◌, ℕ, List, [], ◌∷◌, ◌++◌, ap, ◌∙◌, arith, refl, sym, true, false, IsUtf8}
-use Rattle.nodejs_semver.proofs.Common.{AllByRecursion, IsCutAtBars, Run, Span, VersionValue, Word, flat_map, inl, inr}
-use Rattle.nodejs_semver.proofs.Common.{interval_of, is_empty, is_some, list_all, map, precedence, run_items, table, trim}
-use Rattle.nodejs_semver.proofs.Common.{cases_Bool, IsBlank, denotes, part_bounds, part_denotes, words, Means, filter}
-use Rattle.nodejs_semver.proofs.Common.{middle_is_trim, more_pieces, one_piece}
+use Rattle.nodejs_semver.proofs.Common.{AllByRecursion, IsCutAtBars, Run, Span, VersionValue, Word, flat_map, interval_of}
+use Rattle.nodejs_semver.proofs.Common.{is_empty, is_some, list_all, map, precedence, run_items, table, trim, IsBlank, denotes}
+use Rattle.nodejs_semver.proofs.Common.{part_bounds, part_denotes, words, Means, filter, middle_is_trim, more_pieces, one_piece}
 use Rattle.std.specs.Prelude.{filter_map, is_none}
 use Rattle.std.specs.List.{AllZip}
+use Rattle.std.proofs.lemmas.Bool.{false_from_ne_true}
 use Rattle.nodejs_semver.specs.Diagnosis.IgnoredWords.{AreAlike, IsWhollyIgnored, ignored_as}
 use Rattle.nodejs_semver.specs.Text.Meaning.{AreAllIntervals, AreWords, HasRuns, HasWords, all_intervals, blank_piece}
 use Rattle.nodejs_semver.specs.Text.Meaning.{every_version, next_piece, next_word, no_piece, no_word}
@@ -63,31 +63,24 @@ words-are limit piece ws u h =
 
 -- ---- texts that are alike mean the same
 
+empty-alike : (limit : ℕ) (piece other : List ℕ) → IsAlike limit piece other → is_empty (trim piece) ≡ is_empty (trim other)
+empty-alike limit piece other h = piece-words limit piece h.0 h.2 ∙ (h.5 ∙ sym (piece-words limit other h.1 h.3))
+
 piece-alike : (limit : ℕ) (piece other : List ℕ) → IsUtf8 piece → IsUtf8 other → IsAlike limit piece other
     → part_denotes limit (trim piece) ≡ part_denotes limit (trim other)
 piece-alike limit piece other u v h =
-    let ws = h.0 in
-    let us = h.1 in
     let bounds : part_bounds limit (trim piece) ≡ part_bounds limit (trim other) =
-    ap (λ (l : List Word). filter_map (table limit) l) (words-are limit piece ws u h.2)
-    ∙ (sym (kept-bounds limit ws) ∙ (ap (λ (l : List Word). filter_map (table limit) l) h.4
-    ∙ (kept-bounds limit us ∙ ap (λ (l : List Word). filter_map (table limit) l) (sym (words-are limit other us v h.3))))) in
-    let empty : is_empty (trim piece) ≡ is_empty (trim other) =
-    piece-words limit piece ws h.2 ∙ (h.5 ∙ sym (piece-words limit other us h.3)) in
-    rw (empty, bounds) refl
-
-empty-alike : (limit : ℕ) (piece other : List ℕ) → IsAlike limit piece other → is_empty (trim piece) ≡ is_empty (trim other)
-empty-alike limit piece other h = piece-words limit piece h.0 h.2 ∙ (h.5 ∙ sym (piece-words limit other h.1 h.3))
+    cc (words-are limit piece h.0 u h.2, words-are limit other h.1 v h.3, kept-bounds limit h.0, kept-bounds limit h.1, h.4) in
+    rw (empty-alike limit piece other h, bounds) refl
 
 all-alike : (limit : ℕ) (ps qs : List (List ℕ)) → AllByRecursion IsUtf8 ps → AllByRecursion IsUtf8 qs
     → AllZip (IsAlike limit) ps qs → (list_all is_empty (map trim ps) ≡ list_all is_empty (map trim qs))
     × (flat_map (part_denotes limit) (map trim ps) ≡ flat_map (part_denotes limit) (map trim qs))
 all-alike limit [] [] u v h = (refl, refl)
-all-alike limit [] (q ∷ qs) u v h = absurd h
-all-alike limit (p ∷ ps) [] u v h = absurd h
 all-alike limit (p ∷ ps) (q ∷ qs) u v h =
     let more = all-alike limit ps qs u.1 v.1 h.1 in
     (rw (empty-alike limit p q h.0, more.0) refl, rw (piece-alike limit p q u.0 v.0 h.0, more.1) refl)
+all-alike limit ps qs u v h = absurd h
 
 denotes-alike : (limit : ℕ) (text other : List ℕ) → IsUtf8 text → IsUtf8 other → AreAlike limit text other
     → denotes limit text ≡ denotes limit other
@@ -112,10 +105,7 @@ no-runs (r ∷ runs) e = cc e
 
 dark-words : (limit : ℕ) (piece : List ℕ) (ws : List Word) → IsUtf8 piece → (IsBlank piece → ⊥) → HasWords limit piece ws
     → is_empty ws ≡ false
-dark-words limit piece ws u dark h = elim (cases_Bool (is_empty ws)) [
-  | inl none ↦ absurd (dark (empty-blank piece u (piece-words limit piece ws h ∙ none)))
-  | inr some ↦ some
-]
+dark-words limit piece ws u dark h = false_from_ne_true _ (λ e. dark (empty-blank piece u (piece-words limit piece ws h ∙ e)))
 
 pieces-ignored : (limit : ℕ) (pieces : List (List ℕ)) (list : List (Span VersionValue)) → AllByRecursion IsUtf8 pieces
     → AreAllIntervals limit pieces list → list ≡ [] → AllByRecursion (IsIgnored limit) pieces

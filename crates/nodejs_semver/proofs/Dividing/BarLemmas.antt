@@ -1,8 +1,8 @@
 -- The parts of a text, cut at its bars.
 use Rattle.nodejs_semver.proofs.Common.{begins, ◌≡◌, ℕ, suc, ◌<◌, ◌≤◌, ◌+◌, List, [], ◌∷◌, length, drop, get_or, refl, arith}
 use Rattle.nodejs_semver.proofs.Common.{true, false, Some, None, inl, inr, subst, Option, IsUtf8, eqb-true, cases_Bool}
-use Rattle.nodejs_semver.proofs.Common.{IsCharBoundary-after_ascii, trim, second_so, parts, later_parts, nat_lt, IsCharBoundary}
-use Rattle.nodejs_semver.proofs.Common.{cases_lt, lt-ltb, le-ltb, IsCharBoundary-before_ascii, drop_more, cut_bars, is_bar}
+use Rattle.nodejs_semver.proofs.Common.{IsCharBoundary-after_ascii, trim, second_so, parts, later_parts, IsCharBoundary}
+use Rattle.nodejs_semver.proofs.Common.{IsCharBoundary-before_ascii, drop_more, cut_bars, is_bar, nat_tests}
 use Rattle.std.proofs.lemmas.List.{get_or-drop}
 use Rattle.nodejs_semver.specs.Internal.PartFronts.{bars_at, begins_bars, front_part}
 
@@ -44,23 +44,11 @@ pub cut_bars-front : (text : List ℕ) → cut_bars false text ≡ (front_part t
 unfolding bars_at cut_bars
 cut_bars-front [] = refl
 cut_bars-front (b ∷ rest) = elim (cases_Bool (begins_bars (b ∷ rest))) [
-  | inl here ↦ at_bars rest here
+  | inl here ↦ grind arith
   | inr other ↦
-      rw (other, cut_bars) (elim (cases_lt (bars_at rest) (length rest)) [
-        | inl less ↦
-            let more = rw (lt-ltb _ _ less) at (cut_bars-front rest) in
-            let yes : nat_lt (suc (bars_at rest)) (length (b ∷ rest)) ≡ true = lt-ltb _ _ (omega arith) in
-            let sum : suc (bars_at rest) + 2 ≡ suc (bars_at rest + 2) = omega arith in
-            rw (yes, more, sum) refl
-        | inr none ↦
-            let more = rw (le-ltb _ _ none) at (cut_bars-front rest) in
-            let no : nat_lt (suc (bars_at rest)) (length (b ∷ rest)) ≡ false = le-ltb _ _ (omega arith) in
-            rw (no, more) refl
-      ])
+      let sum : suc (bars_at rest) + 2 ≡ suc (bars_at rest + 2) = omega arith in
+      rw (other, cut_bars) (grind (arith, nat_tests, sum, cut_bars-front rest))
 ]
-  where
-    at_bars : (rest : List ℕ) → begins_bars (b ∷ rest) ≡ true → cut_bars false (b ∷ rest) ≡ (front_part (b ∷ rest)).0 ∷ parts_after (front_part (b ∷ rest)).1
-    at_bars rest h = grind arith
 
 -- bars are ASCII, so a text may be cut at them
 bar-low : (b : ℕ) → is_bar b ≡ true → b < 128

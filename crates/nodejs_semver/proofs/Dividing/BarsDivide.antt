@@ -49,13 +49,11 @@ unfolding cut_bars
 bars_divide [] = one_piece [] refl
 bars_divide (b ∷ []) =
     let none = and_right (is_bar b) false refl in
-    subst (λ (ps : List (List ℕ)). IsCutAtBars (b ∷ []) ps) (sym (rw (none, cut_bars) refl)) (onto b [] ([] ∷ []) none (one_piece [] refl))
+    rw (none, cut_bars) (onto b [] ([] ∷ []) none (one_piece [] refl))
 bars_divide (b ∷ c ∷ t) = elim (cases_Bool (is_bar b && is_bar c)) [
   | inl here ↦
-      subst (λ (ps : List (List ℕ)). IsCutAtBars (b ∷ (c ∷ t)) ps) (sym (rw (here, cut_bars) refl))
-      (subst (λ (text : List ℕ). IsCutAtBars text ([] ∷ cut_bars false t))
-      (bars-first b c t (and_parts (is_bar b) (is_bar c) here).0 (and_parts (is_bar b) (is_bar c) here).1)
+      let both = and_parts (is_bar b) (is_bar c) here in
+      rw (here, cut_bars) (subst (λ (text : List ℕ). IsCutAtBars text ([] ∷ cut_bars false t)) (bars-first b c t both.0 both.1)
       (more_pieces [] t (cut_bars false t) refl refl (bars_divide t)))
-  | inr other ↦
-      subst (λ (ps : List (List ℕ)). IsCutAtBars (b ∷ (c ∷ t)) ps) (sym (rw (other, cut_bars) refl)) (onto b (c ∷ t) (cut_bars false (c ∷ t)) other (bars_divide (c ∷ t)))
+  | inr other ↦ rw (other, cut_bars) (onto b (c ∷ t) (cut_bars false (c ∷ t)) other (bars_divide (c ∷ t)))
 ]

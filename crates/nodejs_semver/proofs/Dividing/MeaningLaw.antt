@@ -12,6 +12,7 @@ use Rattle.nodejs_semver.proofs.Common.{trim_is_middle, cut_bars, more_pieces, o
 use Rattle.std.proofs.Common.{IfNone, filter_map, Result}
 use Rattle.std.proofs.lemmas.Bool.{false_from_ne_true}
 use Rattle.std.proofs.lemmas.List.Folds.{Any-from_list_any, list_any-from_Any}
+use Rattle.std.proofs.Math.Seq.{get_or-append_seam}
 use Rattle.semver_core.specs.Failures.{MemoryOnlyIf}
 use Rattle.semver_core.proofs.Text.Trims.{trim_parts}
 use Rattle.nodejs_semver.specs.Text.Meaning.{AreAllIntervals, AreWords, HasRuns, IsBlankText, all_intervals, blank_piece}
@@ -54,8 +55,7 @@ words-read limit (suc n) (b ∷ rest) u h l =
     let less = word-shorter limit b rest h in
     let le = spaces-le read.1 in
     let more = words-read limit n next (skips-utf8 read.1 next skipped v) (spaces-gone 0 read.1) (omega arith) in
-    subst (λ (list : List Word). AreWords limit (b ∷ rest) list) (sym (words-step limit (b ∷ rest) (omega arith) h))
-    (next_word b rest read.1 next read.0 (words limit next) is skipped more)
+    rw (words-step limit (b ∷ rest) (omega arith) h) (next_word b rest read.1 next read.0 (words limit next) is skipped more)
 
 pub words-law : (limit : ℕ) (text part : List ℕ) (list : List Word) → IsUtf8 text → IsTrim text part → (words limit part ≡ list)
     ↔ AreWords limit part list
@@ -79,10 +79,8 @@ has-runs limit piece u =
 pub runs-once : (limit : ℕ) (piece : List ℕ) (runs : List (Run VersionValue)) → IsUtf8 piece → HasRuns limit piece runs
     → runs ≡ runs_of precedence (part_bounds limit (trim piece))
 runs-once limit piece runs u h =
-    runs_are (filter_map (table limit) h.0) runs h.2
-    ∙ ap (λ (ws : List Word). runs_of precedence (filter_map (table limit) ws))
-    (words-once limit h.1.0 h.0 (trim-utf8 piece h.1.0 u h.1.1) (trim-starts piece h.1.0 h.1.1) h.1.2)
-    ∙ ap (λ (t : List ℕ). runs_of precedence (part_bounds limit t)) (middle_is_trim piece h.1.0 h.1.1)
+    let once = words-once limit h.1.0 h.0 (trim-utf8 piece h.1.0 u h.1.1) (trim-starts piece h.1.0 h.1.1) h.1.2 in
+    cc (runs_are (filter_map (table limit) h.0) runs h.2, once, middle_is_trim piece h.1.0 h.1.1)
 
 -- ---- the pieces of a text are UTF-8
 
@@ -90,15 +88,10 @@ utf8-bar : (piece t : List ℕ) → IsUtf8 (piece ++ 124 ∷ (124 ∷ t)) → Is
 utf8-bar piece t u =
     let text = piece ++ 124 ∷ (124 ∷ t) in
     let long : length piece < length text = omega (arith, length-append piece (124 ∷ (124 ∷ t))) in
-    let bar : get_or text (length piece) 0 ≡ 124 = at_bar piece in
-    let cut = IsCharBoundary-before_ascii text (length piece) long (omega (arith, bar)) in
+    let cut = IsCharBoundary-before_ascii text (length piece) long (omega (arith, get_or-append_seam piece 124 (124 ∷ t) 0)) in
     let front : IsUtf8 piece = subst (λ (x : List ℕ). IsUtf8 x) (take_at piece (124 ∷ (124 ∷ t)) (length piece) refl) (IsUtf8-take text (length piece) u cut) in
     let back : IsUtf8 (124 ∷ (124 ∷ t)) = subst (λ (x : List ℕ). IsUtf8 x) (drop_at piece (124 ∷ (124 ∷ t)) (length piece) refl) (IsUtf8-drop text (length piece) u cut) in
     (front, IsUtf8-drop (124 ∷ (124 ∷ t)) 2 back (IsCharBoundary-after_ascii (124 ∷ (124 ∷ t)) 1 back (omega arith) (omega arith)))
-  where
-    at_bar : (p : List ℕ) → get_or (p ++ 124 ∷ (124 ∷ t)) (length p) 0 ≡ 124
-    at_bar [] = refl
-    at_bar (b ∷ p) = at_bar p
 
 pub pieces-utf8 : (text : List ℕ) (pieces : List (List ℕ)) → IsCutAtBars text pieces → IsUtf8 text → AllByRecursion IsUtf8 pieces
 pieces-utf8 text pieces (one_piece piece h) u = (u, tt)
@@ -114,9 +107,7 @@ no_characters (c ∷ cs) h =
     absurd (omega (arith, ap length h, length-append (encode_utf8 c) (encode_utf8_all cs), length-encode c, (len_utf8_bounds c).0))
 
 pub blank-empty : (piece : List ℕ) → IsBlank piece → is_empty (trim piece) ≡ true
-blank-empty piece h =
-    ap (λ (t : List ℕ). is_empty (trim t)) (h.spelled ∙ ap (λ (cs : List ℕ). encode_utf8_all cs) (sym (append-nil h.characters)))
-    ∙ ap (λ (t : List ℕ). is_empty t) (trim_parts h.characters [] [] h.each refl refl refl)
+blank-empty piece h = cc (h.spelled, append-nil h.characters, trim_parts h.characters [] [] h.each refl refl refl)
 
 pub empty-blank : (piece : List ℕ) → IsUtf8 piece → is_empty (trim piece) ≡ true → IsBlank piece
 empty-blank piece u h =

@@ -2,8 +2,8 @@
 use Rattle.nodejs_semver.proofs.Common.{◌≡◌, List, [], ◌∷◌, ◌++◌, refl, sym, ap₂, ◌∙◌, true, false, Bool, arith, Ordering, ◌&&◌}
 use Rattle.nodejs_semver.proofs.Common.{not, if◌then◌else◌, is_gt, IsTotalOrder, and-true, list_all, Cut, Span, cut_cmp}
 use Rattle.nodejs_semver.proofs.Common.{greater_lower, holds, is_past, lesser_upper, lower_cut, upper_cut, Bound, between_parts}
-use Rattle.nodejs_semver.proofs.Common.{cut_total, gt_lt, past_lt, Run, fits, interval_of, run_writes, longer, ap, map, inl, inr}
-use Rattle.nodejs_semver.proofs.Common.{Some, None, Option, cases_Bool, meet, runs_of, runs_from, joined, joined_from}
+use Rattle.nodejs_semver.proofs.Common.{cut_total, gt_lt, past_lt, Run, fits, interval_of, run_writes, longer, ap, map, Some}
+use Rattle.nodejs_semver.proofs.Common.{None, Option, meet, runs_of, runs_from, joined, joined_from, inl, inr, cases_Bool}
 use Rattle.std.specs.Cmp.{upto}
 use Rattle.std.proofs.Math.Bool.{not-not}
 use Rattle.semver_core.proofs.CutLaws.{lt_trans, is_past-greater_lower, is_past-lesser_upper}

@@ -65,7 +65,7 @@ all-cons p o ys one rest = grind arith
 
 pub filtered-each : {A B : Type 0} (p : B → Bool) (f : A → Option B) → ((a : A) (b : B) → f a ≡ Some b → p b ≡ true) → (xs : List A) → list_all p (filter_map f xs) ≡ true
 filtered-each p f each [] = refl
-filtered-each p f each (x ∷ xs) = all-cons p (f x) (filter_map f xs) (each x) (filtered-each p f each xs)
+filtered-each p f each (x ∷ xs) = grind (arith, each x, filtered-each p f each xs)
 
 pub part-intervals : (limit : ℕ) (part : List ℕ) → list_all (is_interval precedence) (part_bounds limit part) ≡ true
 part-intervals limit part = filtered-each (is_interval precedence) (table limit) (table-interval limit) (words limit part)
@@ -99,10 +99,8 @@ module _ {V : Type 0} {R : V → V → Ordering} (o : IsTotalOrder R) where
   unfolding runs_from
   from-run r [] rest last fit longest = grind (arith, with-none)
   from-run r (x ∷ xs) rest last fit longest =
-      let fits_on : fits R (extended (longer r x) xs) ≡ true = subst (λ (q : Run V). fits R q ≡ true) (with-more r x xs) fit in
-      rw (shrinks-all (longer r x) xs fits_on, runs_from)
-      (from-run (longer r x) xs rest last fits_on (subst (λ (q : Run V). AreLongest R (q ∷ rest)) (with-more r x xs) longest)
-      ∙ ap (λ (q : Run V). q ∷ rest) (sym (with-more r x xs)))
+      let same = with-more r x xs in
+      grind (arith, shrinks-all (longer r x) xs, from-run (longer r x) xs rest last, same)
 
   from-last : (r : Run V) (rest : List (Run V)) → AllByRecursion (λ r. fits R r ≡ true) rest → AreLongest R (r ∷ rest)
       → runs_from R r (flat_map run_items rest) ≡ r ∷ rest
@@ -180,10 +178,7 @@ part-step limit text after o some h e =
 -- a last word before which no word had one
 pub part-last : (limit : ℕ) (text after : List ℕ) (o : Option (Span VersionValue)) → 0 < length text → space_len text ≡ 0 → length after ≡ 0
     → (o, after) ≡ next_at limit text → joined precedence None (part_bounds limit text) ≡ option_to_list o
-part-last limit text after None some h none e =
-    part-step limit text after None some h e
-    ∙ ap (λ (l : List (Span VersionValue)). joined precedence None l) (bounds-end limit after none)
-part-last limit text after (Some s) some h none e = part-step limit text after (Some s) some h e ∙ words-last limit after s none
+part-last limit text after o some h none e = grind (arith, part-step limit text after o some h e, bounds-end, words-last)
 
 -- ---- lists that are to have two intervals or more
 

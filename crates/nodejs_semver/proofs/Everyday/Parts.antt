@@ -4,21 +4,20 @@ use Rattle.nodejs_semver.proofs.Common.{suc, ◌<◌, ◌≤◌, [], ◌∷◌, 
 use Rattle.nodejs_semver.proofs.Common.{append_assoc, length-append, cases_Bool, eqb-true, nat_tests, begins, Span, meet}
 use Rattle.nodejs_semver.proofs.Common.{precedence, is_empty, VersionValue, AreCommonParts, table, IsSign, Comparator, Word}
 use Rattle.nodejs_semver.proofs.Common.{hyphen, plain, tilde, tilde_sign, same_Some, bind_some, ◌↔◌, ◌==◌, sym, Bool, None}
-use Rattle.nodejs_semver.proofs.Common.{interval, Bound, Unbounded, if◌then◌else◌, subst, ◌⊎◌, if_any, IsSomeAnd, begins_second}
+use Rattle.nodejs_semver.proofs.Common.{interval, Bound, Unbounded, if◌then◌else◌, ◌⊎◌, if_any, IsSomeAnd, begins_second}
 use Rattle.nodejs_semver.proofs.Common.{comparison_front, comparisons_front, is_sign, word_read, passed, pushed, has_bars}
 use Rattle.semver_core.specs.Internal.Reading.{◌>>?◌}
 use Rattle.semver_core.specs.Failures.{NoValue}
 use Rattle.nodejs_semver.specs.Internal.CommonFronts.{bare_front, after_bars, after_gap, begins_dash, caret_front, common_parts}
-use Rattle.nodejs_semver.specs.Internal.CommonFronts.{common_range, common_within, onto, part_front, part_read, partials_front}
-use Rattle.nodejs_semver.specs.Internal.CommonFronts.{tilde_front, both_of}
-use Rattle.nodejs_semver.specs.Internal.Fronts.{dotted_front, minor_front, after_byte}
+use Rattle.nodejs_semver.specs.Internal.CommonFronts.{common_range, common_within, part_front, part_read, partials_front}
+use Rattle.nodejs_semver.specs.Internal.CommonFronts.{tilde_front, both_of, onto}
+use Rattle.nodejs_semver.specs.Internal.Fronts.{after_byte}
 use Rattle.nodejs_semver.specs.Text.Common.{IsCommonPart, IsCommonRange, IsCommonWord, IsComparison, IsGap, caret_word}
 use Rattle.nodejs_semver.specs.Text.Common.{compare_word, comparison, hyphen_word, more_parts, one_part, one_word, plain_word}
 use Rattle.nodejs_semver.specs.Text.Common.{tilde_greater_word, tilde_word, two_comparisons}
-use Rattle.nodejs_semver.specs.Text.WordText.{above_sign, at_least_sign, at_most_sign, below_sign, equal_sign, above, at_least}
-use Rattle.nodejs_semver.specs.Text.WordText.{at_most, below}
 use Rattle.nodejs_semver.specs.Internal.Words.{comparator_at}
 use Rattle.nodejs_semver.specs.Internal.CommonViews.{both_view}
+use Rattle.nodejs_semver.specs.Text.WordText.{above_sign, below_sign, above, at_least, at_most, below}
 use Rattle.nodejs_semver.proofs.Reading.PartialLaw.{components-read, components-then, components-begin}
 use Rattle.nodejs_semver.proofs.Reading.Bytes.{Stop, quiet-before, stop-bar, stop-nil, stop-space, begins-on, begins_component}
 use Rattle.nodejs_semver.proofs.Reading.Bytes.{is_solid}
@@ -30,9 +29,7 @@ use Rattle.nodejs_semver.proofs.Reading.WordLaw.{tilde-cases, Signed, sign-is}
 pub bare-exact : (limit : ℕ) (x more : List ℕ) (p : Partial) → AreComponents limit x p → Stop more → bare_front limit (x ++ more) ≡ Some (p, more)
 unfolding bare_front
 bare-exact limit x more p h stop =
-    let a = components-then limit x more p h (quiet-before x more stop.digit) in
-    ap (λ (o : Front (Option ℕ)). o >>? λ a. Some (minor_front limit a.0 a.1 (dotted_front limit a.1))) a.1
-    ∙ ap (λ (q : Partial × List ℕ). Some q) (a.2.exact stop)
+    let a = components-then limit x more p h (quiet-before x more stop.digit) in rw (a.1, a.2.exact stop) refl
 
 -- and what is read there is one
 pub bare-sound : (limit : ℕ) (text : List ℕ) (p : Partial) (more : List ℕ) → bare_front limit text ≡ Some (p, more) → (x : List ℕ)
@@ -62,10 +59,8 @@ ends-space z = record { stop = stop-space (124 ∷ z); second = refl; dash = gri
 comparator-of : (c : Comparator) (sign text : List ℕ) → IsSign c sign → begins_component text ≡ true
     → comparator_at (sign ++ text) ≡ Some (c, text)
 comparator-of c sign text above_sign h = ap Some (no-equal above at_least text h)
-comparator-of c sign text at_least_sign h = refl
 comparator-of c sign text below_sign h = ap Some (no-equal below at_most text h)
-comparator-of c sign text at_most_sign h = refl
-comparator-of c sign text equal_sign h = refl
+comparator-of c sign text is h = refl
 
 comparison-exact : (limit : ℕ) (x : List ℕ) (w : Word) (more : List ℕ) → IsComparison limit x w → Stop more → comparison_front limit (x ++ more) ≡ Some (w, more)
 unfolding comparison_front
@@ -214,22 +209,11 @@ pub part-sound : (limit : ℕ) (text : List ℕ) (r : Span VersionValue × List 
     → Parted limit text r
 unfolding part_front
 part-sound limit [] r h = cc h
-part-sound limit (b ∷ rest) r h = elim (cases_Bool (is_sign b)) [
-  | inl sign ↦ comparisons-sound limit (b ∷ rest) r (rw sign at h)
-  | inr other ↦ elim (cases_Bool (b == 126)) [
-    | inl t ↦
-        let read = rw (other, t) at h in
-        rw (eqb-true b 126 t) (word-sound limit (126 ∷ rest) (tilde_front limit rest) r (tilde-sound limit rest) read)
-    | inr more ↦ elim (cases_Bool (b == 94)) [
-      | inl c ↦
-          let read = rw (other, more, c) at h in
-          rw (eqb-true b 94 c) (word-sound limit (94 ∷ rest) (caret_front limit rest) r (caret-sound limit rest) read)
-      | inr none ↦
-          let read = partials_front limit (b ∷ rest) in
-          word-sound limit (b ∷ rest) read r (partials-sound limit (b ∷ rest)) (rw (other, more, none) at h)
-    ]
-  ]
-]
+part-sound limit (b ∷ rest) r h =
+    let tilde = word-sound limit (126 ∷ rest) (tilde_front limit rest) r (tilde-sound limit rest) in
+    let caret = word-sound limit (94 ∷ rest) (caret_front limit rest) r (caret-sound limit rest) in
+    let plain = word-sound limit (b ∷ rest) (partials_front limit (b ∷ rest)) r (partials-sound limit (b ∷ rest)) in
+    grind (arith, comparisons-sound limit (b ∷ rest) r, tilde, caret, plain, eqb-true)
 
 -- ---- the bars between parts
 
@@ -314,9 +298,7 @@ within-sound limit (suc n) text list h =
 within-exact : (limit n : ℕ) (text : List ℕ) (list : List (Span VersionValue)) → length text ≤ n → AreCommonParts limit text list → common_within limit n text ≡ Some list
 unfolding common_within
 within-exact limit zero text list l h = grind (arith, range-begins)
-within-exact limit (suc n) text list l (one_part part s is) =
-    let found : part_front limit part ≡ Some (s, []) = rw append-nil at (part-exact limit part s [] is ends-nil) in
-    rw found refl
+within-exact limit (suc n) text list l (one_part part s is) = grind (arith, part-exact limit part s [] is ends-nil, append-nil)
 within-exact limit (suc n) text list l (more_parts part before after rest s others is b a more) =
     let behind = 124 ∷ (after ++ rest) in
     let found = part-exact limit part s (before ++ 124 ∷ behind) is (ends-behind before behind b) in
@@ -419,9 +401,7 @@ HasBars text = has_bars text ≡ true
 
 behind-bars : (front rest : List ℕ) → HasBars rest → HasBars (front ++ rest)
 behind-bars [] rest h = h
-behind-bars (b ∷ front) rest h =
-    let more = behind-bars front rest h in
-    grind (arith, more)
+behind-bars (b ∷ front) rest h = grind (arith, behind-bars front rest h)
 
 -- the intervals that were found, and those that are read in what is left of the text, are those of the whole text
 pub record Reaches (limit : ℕ) (text : List ℕ) (found : List (Span VersionValue)) (rest : List ℕ) : Type 0 where
@@ -487,8 +467,7 @@ loop-no_part limit text found new rest after h e r =
 pub loop-no_bars : (limit : ℕ) (text : List ℕ) (found new : List (Span VersionValue)) (rest left : List ℕ) → Step limit found new rest left → 0 < length left → after_bars left ≡ None
     → Reaches limit text found rest → NoValue (AreCommonParts limit text)
 loop-no_bars limit text found new rest left s some bars r =
-    let a = added-by limit found new rest left s in
-    uncommon limit text found rest r (stops-bars limit r.bytes rest left a.interval_is a.found (filled-of left some) bars)
+    grind (arith, added-by limit found new rest left s, uncommon limit text found rest r, stops-bars, filled-of)
 
 pub loop-ends : (limit : ℕ) (text : List ℕ) (found new : List (Span VersionValue)) (rest left : List ℕ) → Step limit found new rest left → length left ≡ 0
     → Reaches limit text found rest → AreCommonParts limit text new
@@ -502,8 +481,7 @@ bars-there : (limit : ℕ) (rest left next : List ℕ) (s : Span VersionValue) �
 bars-there limit rest left next s h k =
     let p = part-sound limit rest (s, left) h in
     let b = bars-sound left next k in
-    let there : HasBars left = subst HasBars (sym b.divided) (behind-bars b.before _ refl) in
-    subst HasBars (sym p.1) (behind-bars p.0 left there)
+    grind (arith, behind-bars, p.1, b.divided)
 
 pub loop-bars : (limit : ℕ) (text : List ℕ) (found new : List (Span VersionValue)) (rest left next : List ℕ)
     → Step limit found new rest left → after_bars left ≡ Some next → Reaches limit text found rest → HasBars text

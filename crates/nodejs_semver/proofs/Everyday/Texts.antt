@@ -1,9 +1,9 @@
 -- Everyday parts between bars denote their intervals: the parts are cut at the bars and are trimmed to themselves.
 use Rattle.nodejs_semver.proofs.Common.{◌≡◌, ℕ, ◌<◌, List, [], ◌∷◌, ◌++◌, length, map, refl, sym, ap, ◌∙◌, arith, true, false}
-use Rattle.nodejs_semver.proofs.Common.{inl, append-nil, append_assoc, Some, flat_map, list_all, and_parts, eqb-true, nat_tests}
-use Rattle.nodejs_semver.proofs.Common.{begins, ends, Span, drop_spaces, space_len, trim, is_empty, VersionValue}
-use Rattle.nodejs_semver.proofs.Common.{drop_spaces-none, AreCommonParts, denotes, part_denotes, parts, table, Word, onto_first}
-use Rattle.nodejs_semver.proofs.Common.{after_spaces, drop_end_spaces, cut_bars, is_bar}
+use Rattle.nodejs_semver.proofs.Common.{inl, append-nil, append_assoc, Some, flat_map, list_all, eqb-true, nat_tests, begins}
+use Rattle.nodejs_semver.proofs.Common.{ends, Span, drop_spaces, space_len, trim, is_empty, VersionValue, drop_spaces-none}
+use Rattle.nodejs_semver.proofs.Common.{AreCommonParts, denotes, part_denotes, parts, table, Word, after_spaces, drop_end_spaces}
+use Rattle.nodejs_semver.proofs.Common.{cut_bars, is_bar, and_parts, onto_first}
 use Rattle.semver_core.proofs.Text.Trims.{keep_byte}
 use Rattle.nodejs_semver.specs.Text.Common.{IsCommonPart, IsCommonWord, IsGap, caret_word, compare_word, comparison, hyphen_word}
 use Rattle.nodejs_semver.specs.Text.Common.{more_parts, one_part, one_word, plain_word, tilde_greater_word, tilde_word}
@@ -116,8 +116,7 @@ word-tidy limit x w s (tilde_word text p h) bounds =
 word-tidy limit x w s (tilde_greater_word text p h) bounds =
     search (arith, compact-signed, compact-partial, tilde-tidy, drop_spaces-none, solid-dark)
 word-tidy limit x w s (caret_word text p h) bounds = caret-tidy limit text p s h bounds
-word-tidy limit x w s (hyphen_word first second p q h k) bounds =
-    hyphen-tidy limit first second p q s h k bounds
+word-tidy limit x w s (hyphen_word first second p q h k) bounds = hyphen-tidy limit first second p q s h k bounds
 
 pub part-tidy : (limit : ℕ) (x : List ℕ) (s : Span VersionValue) → IsCommonPart limit x s → Tidy limit x s
 part-tidy limit x s (one_word text word span is bounds) = word-tidy limit text word span is bounds

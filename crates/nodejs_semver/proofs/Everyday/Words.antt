@@ -1,19 +1,15 @@
 -- The words of an everyday part are what the range grammar reads in it.
-use Rattle.nodejs_semver.proofs.Common.{◌≡◌, ℕ, List, [], ◌∷◌, ◌++◌, refl, ◌∙◌, arith, Bool, true, Option, ◌||◌, list_all}
-use Rattle.nodejs_semver.proofs.Common.{and_from, nat_tests, begins, ends, Id, IsIdentifiers, pieces, IsBuild, IsPreRelease}
-use Rattle.nodejs_semver.proofs.Common.{AreComponents, Partial, Comparator, IsSign, ◌==◌, sym, false, Some, append-nil}
-use Rattle.nodejs_semver.proofs.Common.{append_assoc, Span, meet, precedence, precedence_total, drop_spaces, space_len}
-use Rattle.nodejs_semver.proofs.Common.{VersionValue, drop_spaces-none, part_intervals, table, Word, compare, hyphen, plain}
-use Rattle.nodejs_semver.proofs.Common.{tilde, tilde_sign, words, is_identifier_char, after_spaces, joined_from, runs_from}
-use Rattle.nodejs_semver.proofs.Common.{is_sign}
-use Rattle.semver_core.proofs.Text.Pieces.{first_char, runs_tail, tail_onto, tail_runs}
-use Rattle.nodejs_semver.specs.Text.PartialText.{IsComponent}
+use Rattle.nodejs_semver.proofs.Common.{◌≡◌, ℕ, List, [], ◌∷◌, ◌++◌, refl, ◌∙◌, arith, Bool, true, ◌||◌, list_all, and_from}
+use Rattle.nodejs_semver.proofs.Common.{begins, ends, AreComponents, Partial, Comparator, IsSign, ◌==◌, sym, false, Some}
+use Rattle.nodejs_semver.proofs.Common.{append-nil, append_assoc, Span, meet, precedence, precedence_total, drop_spaces}
+use Rattle.nodejs_semver.proofs.Common.{space_len, VersionValue, drop_spaces-none, part_intervals, table, Word, compare, hyphen}
+use Rattle.nodejs_semver.proofs.Common.{plain, tilde, tilde_sign, words, after_spaces, joined_from, runs_from, is_sign}
 use Rattle.nodejs_semver.specs.Internal.Fronts.{partial_front}
 use Rattle.nodejs_semver.specs.Text.WordText.{caret}
 use Rattle.nodejs_semver.specs.Internal.Words.{is_boundary, or_equal, word_at, words_within}
 use Rattle.nodejs_semver.proofs.Reading.Bytes.{all-end, all-join, ends-append, ends-some, is_solid, begins-on, begins_component}
 use Rattle.nodejs_semver.proofs.Reading.Bytes.{component-solid, solid-dark, Stop, stop-nil, stop-space}
-use Rattle.nodejs_semver.proofs.Reading.PartialLaw.{components-begin, front-exact, words-step}
+use Rattle.nodejs_semver.proofs.Reading.PartialLaw.{components-begin, front-exact, words-step, components-solid}
 use Rattle.nodejs_semver.proofs.Algebra.FlatMaps.{all_weaker}
 use Rattle.nodejs_semver.proofs.Dividing.RunLemmas.{joined-goes, runs-joined}
 use Rattle.nodejs_semver.proofs.Reading.WordLaw.{compared-of, unsigned-at}
@@ -27,34 +23,6 @@ pub record Compact (text : List ℕ) : Type 0 where
   pub front : begins is_solid text ≡ true
   pub each : list_all is_part_byte text ≡ true
   pub end : ends is_solid text ≡ true
-
--- ---- the bytes of a partial
-
-identifiers-solid : (text : List ℕ) → tail_runs (pieces text) ≡ true → list_all is_solid text ≡ true
-identifiers-solid [] h = refl
-identifiers-solid (b ∷ rest) h =
-    grind (arith, solid-dot, solid-char, runs_tail, first_char, tail_onto, identifiers-solid rest)
-  where
-    solid-dot : (b : ℕ) → (b == 46) ≡ true → is_solid b ≡ true
-    solid-dot b h = grind (arith, nat_tests)
-
-    solid-char : (b : ℕ) → is_identifier_char b ≡ true → is_solid b ≡ true
-    solid-char b h = grind (arith, nat_tests)
-
-list-solid : (text : List ℕ) (l : List Id) → IsIdentifiers text l → list_all is_solid text ≡ true
-list-solid text l h = identifiers-solid text (runs_tail (pieces text) h.runs)
-
-number-solid : (limit : ℕ) (x : List ℕ) (v : Option ℕ) → IsComponent limit x v → list_all is_solid x ≡ true
-number-solid limit x v h = grind (arith, all_weaker)
-
-pre-solid : (p rest : List ℕ) (l : List Id) → IsPreRelease p rest l → list_all is_solid p ≡ true
-pre-solid p rest l h = grind (arith, list-solid)
-
-build-solid : (b rest : List ℕ) (l : List Id) → IsBuild b rest l → list_all is_solid b ≡ true
-build-solid b rest l h = grind (arith, list-solid)
-
-components-solid : (limit : ℕ) (x : List ℕ) (p : Partial) → AreComponents limit x p → list_all is_solid x ≡ true
-components-solid limit x p h = grind (arith, number-solid, all-join, pre-solid, build-solid)
 
 -- ---- compact texts
 

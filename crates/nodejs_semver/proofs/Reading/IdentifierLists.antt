@@ -1,6 +1,6 @@
 -- Identifiers joined by dots: the longest list at the front of a text.
 use Rattle.nodejs_semver.proofs.Common.{◌≡◌, ℕ, ◌≤◌, ◌+◌, List, [], ◌∷◌, ◌++◌, length, take, drop, refl, arith, true, false}
-use Rattle.nodejs_semver.proofs.Common.{length-append, take_at, drop_at, Id, list_len, is_empty, take_all, IsIdentifiers, pieces}
+use Rattle.nodejs_semver.proofs.Common.{length-append, take_at, drop_at, Id, list_len, take_all, IsIdentifiers, pieces}
 use Rattle.nodejs_semver.proofs.Common.{begins_identifier}
 use Rattle.std.proofs.Common.{length-drop}
 use Rattle.semver_core.specs.Text.Identifiers.{Numeric, goes_on, is_listed, listed}
@@ -56,11 +56,6 @@ whole_listed text i h e le =
     rw all at (listed_taken text h)
 
 pub ruleset split_here = (list_stopped, list_past, listed_taken)
-
--- no list spells no identifiers
-pub listed_empty : (t : List ℕ) → is_empty (listed t) ≡ is_empty t
-unfolding listed
-listed_empty t = grind arith
 
 -- `0`
 pub zero_listed : is_listed (48 ∷ []) ≡ true

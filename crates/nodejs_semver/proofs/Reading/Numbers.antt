@@ -1,8 +1,8 @@
 -- Numbers: as a whole text, and at the front of one.
-use Rattle.nodejs_semver.proofs.Common.{◌≡◌, ℕ, suc, ◌+◌, ◌≤◌, List, [], ◌∷◌, ◌++◌, length, drop, refl, ap, ◌∙◌, arith, true}
-use Rattle.nodejs_semver.proofs.Common.{false, Some, None, inl, inr, ◌↔◌, not, is_ascii_digit, list_all, and_parts, cases_Bool}
-use Rattle.nodejs_semver.proofs.Common.{nat_tests, take_at, drop_at, begins, prefix_len, IsPieceAt, NoPieceAt, IsNumber}
-use Rattle.nodejs_semver.proofs.Common.{IsWholeNumber, component_front}
+use Rattle.nodejs_semver.proofs.Common.{◌≡◌, ℕ, ◌+◌, ◌≤◌, List, [], ◌∷◌, ◌++◌, length, drop, refl, ap, ◌∙◌, arith, true, false}
+use Rattle.nodejs_semver.proofs.Common.{Some, None, inl, inr, ◌↔◌, not, is_ascii_digit, list_all, nat_tests, take_at, drop_at}
+use Rattle.nodejs_semver.proofs.Common.{begins, prefix_len, IsPieceAt, NoPieceAt, IsNumber, IsWholeNumber, component_front, suc}
+use Rattle.nodejs_semver.proofs.Common.{cases_Bool}
 use Rattle.std.proofs.lemmas.List.{take-append-drop}
 use Rattle.nodejs_semver.specs.Internal.Fronts.{begins_wildcard, number_front, number_of, is_wildcard}
 use Rattle.nodejs_semver.proofs.Reading.Steps.{option-cases}
@@ -24,11 +24,8 @@ numbers_are limit text n = (number-is limit text n, number-of limit text n)
 
 pub digits-taken : (run more : List ℕ) → list_all is_ascii_digit run ≡ true → begins is_ascii_digit more ≡ false
     → prefix_len is_ascii_digit (run ++ more) ≡ length run
-digits-taken [] [] h k = refl
-digits-taken [] (c ∷ more) h k = rw k refl
-digits-taken (b ∷ rest) more h k =
-    let each = and_parts (is_ascii_digit b) (list_all is_ascii_digit rest) h in
-    rw each.0 (omega (arith, digits-taken rest more each.1 k))
+digits-taken [] more h k = grind arith
+digits-taken (b ∷ rest) more h k = grind (arith, digits-taken rest more)
 
 pub run-ends : (x : List ℕ) → begins is_ascii_digit (drop (prefix_len is_ascii_digit x) x) ≡ false
 run-ends [] = refl

@@ -6,26 +6,29 @@ use Rattle.nodejs_semver.proofs.Common.{Some, None, Option, AreComponents, Parti
 use Rattle.nodejs_semver.proofs.Common.{cond_some, drop_spaces, space_len, Word, drop_spaces-none, space_len-nil, Sign, sign_at}
 use Rattle.nodejs_semver.proofs.Common.{tilde_sign, upper_of, words, ◌⊎◌, subst, ◌==◌, ◌↔◌, IsUtf8, list_all, eqb-true, take_at}
 use Rattle.nodejs_semver.proofs.Common.{drop_at, IsUtf8-drop, IsCharBoundary-after_ascii, is_whitespace, IsBlank, nat_lt}
-use Rattle.nodejs_semver.proofs.Common.{encode_utf8_all, encodes-append, after_spaces, drop_spaces-blank, component_front}
+use Rattle.nodejs_semver.proofs.Common.{encode_utf8_all, encodes-append, after_spaces, drop_spaces-blank, component_front, pieces}
+use Rattle.nodejs_semver.proofs.Common.{is_identifier_char, IsNumber}
 use Rattle.std.proofs.lemmas.List.{take-append-drop}
 use Rattle.semver_core.specs.Text.Identifiers.{goes_on, listed}
 use Rattle.semver_core.specs.Text.VersionText.{begins_pre_release, dashed, bare, no_pre_release, plus, no_build}
-use Rattle.semver_core.proofs.Text.Pieces.{list_ended}
+use Rattle.semver_core.proofs.Text.Pieces.{list_ended, first_char, runs_tail, tail_onto, tail_runs}
 use Rattle.semver_core.proofs.Text.Spaces.{after_spaces-end}
 use Rattle.semver_core.proofs.Text.SpaceLaw.{space_len-white}
 use Rattle.semver_core.proofs.Text.Trims.{fronted}
 use Rattle.nodejs_semver.specs.Internal.Fronts.{begins_byte, build_front, pre_release_front, begins_wildcard, dotted_front}
 use Rattle.nodejs_semver.specs.Internal.Fronts.{minor_front, number_front, patch_front, after_byte, drop_v, partial_front}
 use Rattle.nodejs_semver.specs.Text.PartialText.{IsComponent, number, one, three, two, wildcard, IsPartial}
-use Rattle.nodejs_semver.specs.Internal.Words.{Reading, after_some_space, behind_sign, careted, compared, from_boundary}
-use Rattle.nodejs_semver.specs.Internal.Words.{is_boundary, tilded, unsigned, word_at, word_behind, words_within}
+use Rattle.nodejs_semver.specs.Internal.Words.{after_some_space, behind_sign, from_boundary, is_boundary, word_at, word_behind}
+use Rattle.nodejs_semver.specs.Internal.Words.{words_within, unsigned, Reading}
 use Rattle.nodejs_semver.specs.Text.LongestText.{BeginsPartial, IsLongestPartial}
 use Rattle.nodejs_semver.proofs.Reading.IdentifierLists.{front-identifiers, written-begins, written-exact, written-le}
 use Rattle.nodejs_semver.proofs.Reading.IdentifierLists.{written-spelled}
 use Rattle.nodejs_semver.proofs.Reading.Bytes.{Quiet, Stop, quiet-before, all-end, begins-on, begins_component, quiet-dotted}
 use Rattle.nodejs_semver.proofs.Reading.Bytes.{quiet-behind, quiet-both, quiet-front, quiet-further, begins-some, component-solid}
 use Rattle.nodejs_semver.proofs.Reading.Bytes.{is_component_byte, solid-dark, quiet-append, quiet-last, stop-nil, dark-starts}
+use Rattle.nodejs_semver.proofs.Reading.Bytes.{all-join, is_solid}
 use Rattle.nodejs_semver.proofs.Reading.Numbers.{number-found, number-read, number_first, wildcard-no_digit}
+use Rattle.nodejs_semver.proofs.Algebra.FlatMaps.{all_weaker}
 
 -- no run of digits goes on behind the list at the front
 ended-digit : (text : List ℕ) → goes_on text ≡ false → begins is_ascii_digit text ≡ false
@@ -346,6 +349,37 @@ components-then limit x more p (three c d e pre build q h k l quiet_e m n) quiet
     let passed = qualifier-passed pre build more q.pre_release q.build m n in
     grind (arith, length-append, quiet-behind, append_assoc, dotted-then, quiet-further)
 
+-- ---- the bytes of a partial
+
+identifiers-solid : (text : List ℕ) → tail_runs (pieces text) ≡ true → list_all is_solid text ≡ true
+identifiers-solid [] h = refl
+identifiers-solid (b ∷ rest) h =
+    grind (arith, solid-dot, solid-char, runs_tail, first_char, tail_onto, identifiers-solid rest)
+  where
+    solid-dot : (b : ℕ) → (b == 46) ≡ true → is_solid b ≡ true
+    solid-dot b h = grind (arith, nat_tests)
+
+    solid-char : (b : ℕ) → is_identifier_char b ≡ true → is_solid b ≡ true
+    solid-char b h = grind (arith, nat_tests)
+
+list-solid : (text : List ℕ) (l : List Id) → IsIdentifiers text l → list_all is_solid text ≡ true
+list-solid text l h = identifiers-solid text (runs_tail (pieces text) h.runs)
+
+pub number-solid : (limit : ℕ) (x : List ℕ) (v : Option ℕ) → IsComponent limit x v → list_all is_solid x ≡ true
+number-solid limit x v h = grind (arith, all_weaker)
+
+pub digits-solid : (limit : ℕ) (d : List ℕ) (n : ℕ) → IsNumber limit d n → list_all is_solid d ≡ true
+digits-solid limit d n h = number-solid limit d (Some n) (number d n h)
+
+pub pre-solid : (p rest : List ℕ) (l : List Id) → IsPreRelease p rest l → list_all is_solid p ≡ true
+pre-solid p rest l h = grind (arith, list-solid)
+
+pub build-solid : (b rest : List ℕ) (l : List Id) → IsBuild b rest l → list_all is_solid b ≡ true
+build-solid b rest l h = grind (arith, list-solid)
+
+pub components-solid : (limit : ℕ) (x : List ℕ) (p : Partial) → AreComponents limit x p → list_all is_solid x ≡ true
+components-solid limit x p h = grind (arith, number-solid, all-join, pre-solid, build-solid)
+
 -- ---- each word takes a byte or more, so the list of words is a recursion
 
 pub spaces-le : (text : List ℕ) → length (drop_spaces text) ≤ length text
@@ -358,17 +392,10 @@ partial-shorter limit text x r h =
     let body = drop_spaces (drop_v text) in
     let a = bind_some (component_front limit body) (λ a. Some (minor_front limit a.0 a.1 (dotted_front limit a.1))) (x, r) h in
     let same = same_Some (minor_front limit a.0.0 a.0.1 (dotted_front limit a.0.1)) (x, r) a.2 in
-    omega (
-      arith,
-      component-shorter limit body a.0.0 a.0.1 a.1,
-      minor_front-le limit a.0.0 a.0.1 (dotted_front limit a.0.1) refl,
-      spaces-le (drop_v text),
-      v-le text,
-      ap (λ (q : Partial × List ℕ). length q.1) same,
-    )
-  where
-    v-le : (text : List ℕ) → length (drop_v text) ≤ length text
-    v-le text = grind arith
+    let some = component-shorter limit body a.0.0 a.0.1 a.1 in
+    let others = minor_front-le limit a.0.0 a.0.1 (dotted_front limit a.0.1) refl in
+    let mark : length (drop_v text) ≤ length text = grind arith in
+    omega (arith, some, others, mark, spaces-le (drop_v text), ap (λ (q : Partial × List ℕ). length q.1) same)
 
 some-space-le : (text r : List ℕ) → after_some_space text ≡ Some r → length r ≤ length text
 some-space-le text r h = omega (arith, ap length (cond_some (nat_lt 0 (space_len text)) (drop_spaces text) r h).1, spaces-le text)
@@ -384,17 +411,10 @@ upper-le limit unsigned text q h =
     let second = bind_some (after_some_space gap.0) _ q gap.2 in
     let read = bind_some (partial_front limit second.0) _ q second.2 in
     let same : read.0 ≡ q = (cond_some (is_boundary read.0.1) read.0 q read.2).1 in
-    omega (
-      arith,
-      some-space-le text sign.0 sign.1,
-      byte-le 45 sign.0 gap.0 gap.1,
-      some-space-le gap.0 second.0 second.1,
-      partial-shorter limit second.0 read.0.0 read.0.1 read.1,
-      ap (λ (x : Partial × List ℕ). length x.1) same,
-    )
-upper-le limit (compared c) text q h = cc h
-upper-le limit (tilded greater) text q h = cc h
-upper-le limit careted text q h = cc h
+    let less = partial-shorter limit second.0 read.0.0 read.0.1 read.1 in
+    let len = ap (λ (x : Partial × List ℕ). length x.1) same in
+    omega (arith, some-space-le text sign.0 sign.1, byte-le 45 sign.0 gap.0 gap.1, some-space-le gap.0 second.0 second.1, less, len)
+upper-le limit s text q h = cc h
 
 word_behind-le : (limit : ℕ) (s : Sign) (p : Partial) (rest : List ℕ) (x : Word) (r : List ℕ)
     → word_behind limit s p rest ≡ Some (x, r) → length r ≤ length rest
@@ -444,17 +464,12 @@ spaces-gone zero (b ∷ rest) = go (λ n. spaces-gone n rest) (space_len (b ∷ 
 -- how many words are allowed for does not matter, where there is room for each byte
 pub words-enough : (limit n m : ℕ) (text : List ℕ) → space_len text ≡ 0 → length text ≤ n → length text ≤ m → words_within limit n text ≡ words_within limit m text
 unfolding words_within
-words-enough limit zero zero [] h a b = refl
-words-enough limit zero (suc m) [] h a b = refl
-words-enough limit (suc n) zero [] h a b = refl
-words-enough limit (suc n) (suc m) [] h a b = refl
-words-enough limit zero m (c ∷ text) h a b = absurd (omega arith)
+words-enough limit zero zero text h a b = refl
+words-enough limit zero (suc m) (c ∷ text) h a b = absurd (omega arith)
 words-enough limit (suc n) zero (c ∷ text) h a b = absurd (omega arith)
 words-enough limit (suc n) (suc m) (c ∷ text) h a b =
-    let rest = drop_spaces (word_at limit (c ∷ text)).1 in
-    let less = word-shorter limit c text h in
-    let le = spaces-le (word_at limit (c ∷ text)).1 in
-    ap (λ (l : List Word). (word_at limit (c ∷ text)).0 ∷ l) (words-enough limit n m rest (spaces-gone 0 (word_at limit (c ∷ text)).1) (omega arith) (omega arith))
+    grind (arith, word-shorter, spaces-le, spaces-gone, words-enough limit n m (drop_spaces (word_at limit (c ∷ text)).1))
+words-enough limit n m text h a b = refl
 
 -- the words of a text are the word at its front, and the words of what follows it
 pub words-step : (limit : ℕ) (text : List ℕ) → 0 < length text → space_len text ≡ 0
@@ -496,9 +511,8 @@ marked : (text : List ℕ) → IsUtf8 text → Marked text (drop_v text)
 marked [] u = record { mark = []; is = inl refl; divided = refl; behind = u }
 marked (b ∷ rest) u = elim (cases_Bool (b == 118)) [
   | inl v ↦
-      let is : b ≡ 118 = eqb-true b 118 v in
-      let behind : IsUtf8 rest = IsUtf8-drop (b ∷ rest) 1 u (IsCharBoundary-after_ascii (b ∷ rest) 0 u (omega arith) (omega arith)) in
-      rw (v, is) (record { mark = 118 ∷ []; is = inr refl; divided = refl; behind = behind })
+      let behind = IsUtf8-drop (b ∷ rest) 1 u (IsCharBoundary-after_ascii (b ∷ rest) 0 u (omega arith) (omega (arith, eqb-true b 118 v))) in
+      rw (v, eqb-true b 118 v) (record { mark = 118 ∷ []; is = inr refl; divided = refl; behind = behind })
   | inr other ↦ rw other (record { mark = []; is = inl refl; divided = refl; behind = u })
 ]
 
@@ -582,15 +596,7 @@ longest-is limit text p rest u h = let f = front-begins limit text p rest u h in
     no_longer front whole other behind q k =
         let far = front-passes limit other behind q k.1 k.2 in
         let same = same_Some (p, rest) far.0 (sym h ∙ (ap (λ (t : List ℕ). partial_front limit t) k.0 ∙ far.1)) in
-        omega (
-          arith,
-          far.2.le,
-          ap (λ (q : Partial × List ℕ). length q.1) same,
-          ap length whole,
-          ap length k.0,
-          length-append front rest,
-          length-append other behind,
-        )
+        grind (arith, far.2.le, same, length-append front rest, length-append other behind, whole, k.0)
 
 longest-of : (limit : ℕ) (text : List ℕ) (p : Partial) (rest : List ℕ) → IsUtf8 text → IsLongestPartial limit text p rest
     → partial_front limit text ≡ Some (p, rest)
@@ -600,26 +606,11 @@ longest-of limit text p rest u h =
     let near = front-begins limit text far.0.0 far.0.1 u read in
     let n = length h.0 in
     let same : length near.0 ≡ n =
-    omega (
-      arith,
-      h.2 near.0 far.0.1 far.0.0 near.1,
-      far.2.le,
-      ap length h.1.0,
-      ap length near.1.0,
-      length-append h.0 rest,
-      length-append near.0 far.0.1,
-    ) in
+    omega (arith, h.2 near.0 far.0.1 far.0.0 near.1, far.2.le, ap length h.1.0, ap length near.1.0, length-append {A = ℕ}) in
     let whole : near.0 ++ far.0.1 ≡ h.0 ++ rest = sym near.1.0 ∙ h.1.0 in
-    let front : near.0 ≡ h.0 =
-    sym (take_at near.0 far.0.1 n same) ∙ (ap (λ (t : List ℕ). take n t) whole ∙ take_at h.0 rest n refl) in
-    let behind : far.0.1 ≡ rest =
-    sym (drop_at near.0 far.0.1 n same) ∙ (ap (λ (t : List ℕ). drop n t) whole ∙ drop_at h.0 rest n refl) in
-    let value : far.0.0 ≡ p =
-    ap (λ (q : Partial × List ℕ). q.0)
-    (same_Some (far.0.0, []) (p, [])
-    (sym (whole-of limit near.0 far.0.0 near.1.1)
-    ∙ (ap (λ (t : List ℕ). partial_front limit t) front ∙ whole-of limit h.0 p h.1.1))) in
-    grind arith
+    let front : near.0 ≡ h.0 = cc (whole, take_at near.0 far.0.1 n same, take_at h.0 rest n refl) in
+    let behind : far.0.1 ≡ rest = cc (whole, drop_at near.0 far.0.1 n same, drop_at h.0 rest n refl) in
+    grind (arith, whole-of limit near.0 far.0.0 near.1.1, whole-of limit h.0 p h.1.1)
 
 pub longest_are : (limit : ℕ) (text : List ℕ) (p : Partial) (rest : List ℕ) → IsUtf8 text
     → (partial_front limit text ≡ Some (p, rest)) ↔ IsLongestPartial limit text p rest

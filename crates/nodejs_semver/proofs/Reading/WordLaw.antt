@@ -354,8 +354,7 @@ first-of text rest u h =
     let one = f.3 h.0 rest h.1 h.2 in
     let two = h.3 f.0 (from_boundary text) f.1 f.2 in
     let same : length h.0 ≡ length f.0 = omega (arith, one, two) in
-    sym (drop_at f.0 (from_boundary text) (length f.0) refl)
-    ∙ (ap (λ (t : List ℕ). drop (length f.0) t) (sym f.1 ∙ h.1) ∙ drop_at h.0 rest (length f.0) same)
+    cc (drop_at f.0 (from_boundary text) (length f.0) refl, drop_at h.0 rest (length f.0) same, f.1, h.1)
 
 -- ---- the word
 

@@ -1,5 +1,4 @@
-use Rattle.nodejs_semver.proofs.Common.{◌-◌, ◌++◌, List, ℕ, ◌∙◌, ap, arith, length, sym, space_len, MAX_SAFE_INTEGER, rest_view}
-use Rattle.nodejs_semver.specs.Internal.Ignored.{ignored_behind, ignored_of, part_end}
+use Rattle.nodejs_semver.proofs.Common.{◌-◌, List, ℕ, ◌∙◌, ap, arith, length, space_len, MAX_SAFE_INTEGER, rest_view}
 use Rattle.nodejs_semver.specs.Internal.Readings.{part_view}
 use Rattle.nodejs_semver.proofs.Diagnosing.IgnoredParts.{all_step, part_ends, part_fits, sizes_of}
 use Rattle.nodejs_semver.proofs.diagnosis.ranges.before_words.Goals as goal
@@ -8,13 +7,9 @@ pub overflow_add-result-2 : goal.overflow_add-result-2
 overflow_add-result-2 c =
     let place = c.args.end - length c.args.text.now in
     let piece = c.cut_part.result.0.now in
-    omega (
-      arith,
-      part_ends place _ piece _ c.trimmed-start.ensures.start c.trimmed-start.ensures.middle,
-      part_fits piece place,
-      (sizes_of c.args.text.now (part_view c.cut_part.result) c.cut_part.ensures).front,
-      c.ranges.end.fits,
-    )
+    let ended = part_ends place _ piece _ c.trimmed-start.ensures.start c.trimmed-start.ensures.middle in
+    let sizes = sizes_of c.args.text.now (part_view c.cut_part.result) c.cut_part.ensures in
+    omega (arith, ended, part_fits piece place, sizes.front, c.ranges.end.fits)
 
 pub invariant_of-result : goal.invariant_of-result
 invariant_of-result c = record {
@@ -28,18 +23,12 @@ pub returns-clause-same : goal.returns-clause-same
 returns-clause-same c =
     let place = c.args.end - length c.args.text.now in
     let piece = c.cut_part.result.0.now in
-    let behind = ignored_behind MAX_SAFE_INTEGER c.args.end (rest_view c.cut_part.result.1) in
     let ended = part_ends place _ piece _ c.trimmed-start.ensures.start c.trimmed-start.ensures.middle in
-    ap (λ (n : ℕ). ignored_of MAX_SAFE_INTEGER n c.as_bytes.result.now ++ behind) ended
-    ∙ (ap (λ (t : List ℕ). ignored_of MAX_SAFE_INTEGER (part_end place piece) t ++ behind)
-    (c.as_bytes.ensures.value ∙ c.trimmed-start.ensures.middle)
-    ∙ sym (all_step MAX_SAFE_INTEGER c.args.end c.args.text.now (part_view c.cut_part.result) c.cut_part.ensures c.requires))
+    let step = all_step MAX_SAFE_INTEGER c.args.end c.args.text.now (part_view c.cut_part.result) c.cut_part.ensures c.requires in
+    cc (ended, c.as_bytes.ensures.value, c.trimmed-start.ensures.middle, step)
 
 pub returns-clause-less : goal.returns-clause-less
 returns-clause-less c =
-    omega (
-      arith,
-      ap length (c.as_bytes.ensures.value ∙ c.trimmed-start.ensures.middle),
-      part_fits c.cut_part.result.0.now 0,
-      (sizes_of c.args.text.now (part_view c.cut_part.result) c.cut_part.ensures).both,
-    )
+    let middle = ap length (c.as_bytes.ensures.value ∙ c.trimmed-start.ensures.middle) in
+    let sizes = sizes_of c.args.text.now (part_view c.cut_part.result) c.cut_part.ensures in
+    omega (arith, middle, part_fits c.cut_part.result.0.now 0, sizes.both)

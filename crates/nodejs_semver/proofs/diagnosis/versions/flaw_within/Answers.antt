@@ -11,18 +11,16 @@ returns-in-Err c =
 
 pub returns-then-is_empty : goal.returns-then-is_empty
 returns-then-is_empty c =
-    let left =
-    ended MAX_SAFE_INTEGER c.args.text.now c.as_bytes-bytes.result.now _ _ c.front_of_numbers.result c.in-Ok.end
-    c.as_bytes-bytes.ensures.value c.in-Ok.ensures.found c.pre_release_front.ensures.value c.build_front.ensures.value in
+    let left = ended MAX_SAFE_INTEGER c.args.text.now _ _ _ c.front_of_numbers.result c.in-Ok.end c.as_bytes-bytes.ensures.value
+    c.in-Ok.ensures.found c.pre_release_front.ensures.value c.build_front.ensures.value in
     whole_left MAX_SAFE_INTEGER c.args.text.now c.front_of_numbers.result c.build_front.result.1.now c.utf8.text
     c.front_of_numbers.ensures c.requires left
     (eqb-true (length c.build_front.result.1.now) 0 (sym c.is_empty.ensures ∙ c.if-is_empty.true))
 
 pub overflow_sub-at : goal.overflow_sub-at
 overflow_sub-at c =
-    let left =
-    ended MAX_SAFE_INTEGER c.args.text.now c.as_bytes-bytes.result.now _ _ c.front_of_numbers.result c.in-Ok.end
-    c.as_bytes-bytes.ensures.value c.in-Ok.ensures.found c.pre_release_front.ensures.value c.build_front.ensures.value in
+    let left = ended MAX_SAFE_INTEGER c.args.text.now _ _ _ c.front_of_numbers.result c.in-Ok.end c.as_bytes-bytes.ensures.value
+    c.in-Ok.ensures.found c.pre_release_front.ensures.value c.build_front.ensures.value in
     let fits = left_fits MAX_SAFE_INTEGER c.args.text.now c.front_of_numbers.result c.build_front.result.1.now left in
     omega (arith, fits, c.as_bytes-bytes.ensures.len)
 
@@ -32,9 +30,8 @@ positive (suc n) h = omega arith
 
 pub returns-else-is_empty : goal.returns-else-is_empty
 returns-else-is_empty c =
-    let left =
-    ended MAX_SAFE_INTEGER c.args.text.now c.as_bytes-bytes.result.now _ _ c.front_of_numbers.result c.in-Ok.end
-    c.as_bytes-bytes.ensures.value c.in-Ok.ensures.found c.pre_release_front.ensures.value c.build_front.ensures.value in
+    let left = ended MAX_SAFE_INTEGER c.args.text.now _ _ _ c.front_of_numbers.result c.in-Ok.end c.as_bytes-bytes.ensures.value
+    c.in-Ok.ensures.found c.pre_release_front.ensures.value c.build_front.ensures.value in
     ignored_left MAX_SAFE_INTEGER c.args.text.now c.front_of_numbers.result _ c.build_front.result.1.now c.utf8.text
     c.front_of_numbers.ensures c.requires left
     (positive (length c.build_front.result.1.now) (sym c.is_empty.ensures ∙ c.if-is_empty.false))

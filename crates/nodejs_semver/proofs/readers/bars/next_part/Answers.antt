@@ -1,4 +1,4 @@
-use Rattle.nodejs_semver.proofs.Common.{◌∷◌, List, ℕ, sym, ap, ◌∙◌, Option, trim, later_parts, rest_view, middle_is_trim}
+use Rattle.nodejs_semver.proofs.Common.{trim, middle_is_trim, ◌∷◌, List, ℕ, sym, ap, ◌∙◌, Option, later_parts, rest_view}
 use Rattle.nodejs_semver.proofs.Dividing.BarLemmas.{parts-front}
 use Rattle.nodejs_semver.proofs.Reading.Bytes.{trim-starts}
 use Rattle.nodejs_semver.proofs.readers.bars.next_part.Goals as goal

@@ -1,5 +1,5 @@
-use Rattle.nodejs_semver.proofs.Common.{◌≡◌, ◌∙◌, ap, arith, List, [], ◌∷◌, ℕ, inr, rules, subst, sym, on_err_weaker, IfSome}
-use Rattle.nodejs_semver.proofs.Common.{IsTrue, IsUtf8, MAX_SAFE_INTEGER, Means, if_any}
+use Rattle.nodejs_semver.proofs.Common.{◌≡◌, ◌∙◌, ap, arith, List, [], ◌∷◌, inr, rules, sym, on_err_weaker, IfSome, IsTrue}
+use Rattle.nodejs_semver.proofs.Common.{MAX_SAFE_INTEGER, Means, if_any}
 use Rattle.std.proofs.lemmas.Result.{IfOk-weaker}
 use Rattle.nodejs_semver.specs.Text.Common.{IsCommonRange}
 use Rattle.nodejs_semver.proofs.Values.{spans_same}
@@ -18,33 +18,26 @@ if_some : {A : Type 0} (P : List A → Type 0) (xs : List A) → P xs → IfSome
 if_some P [] h = tt
 if_some P (x ∷ xs) h = h
 
+common-is : (c : goal.After-owned_range) → IsCommonRange MAX_SAFE_INTEGER c.args.text.now c.read_common.new.found.items
+common-is c =
+    let there : IsTrue c.in_ok-read_common.field-0 = search rules in
+    (rw c.as_bytes.ensures.value at (c.in_ok-read_common.ensures.some there), sym c.has_plus.ensures ∙ c.if-has_plus.false)
+
 pub returns-clause-some : goal.returns-clause-some
 returns-clause-some c =
-    let there : IsTrue c.in_ok-read_common.field-0 = search rules in
-    let parts = rw c.as_bytes.ensures.value at (c.in_ok-read_common.ensures.some there) in
-    let common : IsCommonRange MAX_SAFE_INTEGER c.args.text.now c.read_common.new.found.items =
-    (parts, sym c.has_plus.ensures ∙ c.if-has_plus.false) in
     IfOk-weaker c.owned_range.result (λ r. r ≡ c.from_intervals.result)
     (λ r. IfSome r (IsCommonRange MAX_SAFE_INTEGER c.args.text.now))
-    (λ r e. rw (e, c.from_intervals.ensures, spans_same) (if_some _ c.read_common.new.found.items common))
+    (λ r e. rw (e, c.from_intervals.ensures, spans_same) (if_some _ c.read_common.new.found.items (common-is c)))
     c.owned_range.ensures.whole
 
 pub returns-clause-denoted : goal.returns-clause-denoted
 returns-clause-denoted c =
-    let there : IsTrue c.in_ok-read_common.field-0 = search rules in
     IfOk-weaker c.owned_range.result (λ r. r ≡ c.from_intervals.result) (λ r. IfSome r (Means MAX_SAFE_INTEGER c.args.text.now))
-    (λ r e. rw e
-    (subst (λ (t : List ℕ). IsUtf8 t → IfSome c.from_intervals.result (Means MAX_SAFE_INTEGER t)) c.as_bytes.ensures.value
-    (λ u. common_means MAX_SAFE_INTEGER c.as_bytes.result.now c.read_common.new.found.items c.from_intervals.result u
-    (c.in_ok-read_common.ensures.some there) (c.from_intervals.ensures ∙ ap if_any (spans_same _)))
-    c.utf8.text)) c.owned_range.ensures.whole
+    (λ r e. rw e (common_means MAX_SAFE_INTEGER c.args.text.now c.read_common.new.found.items c.from_intervals.result c.utf8.text
+    (common-is c).0 (c.from_intervals.ensures ∙ ap if_any (spans_same _)))) c.owned_range.ensures.whole
 
 pub returns-clause-memory : goal.returns-clause-memory
 returns-clause-memory c =
-    let there : IsTrue c.in_ok-read_common.field-0 = search rules in
-    let parts = rw c.as_bytes.ensures.value at (c.in_ok-read_common.ensures.some there) in
-    let common : IsCommonRange MAX_SAFE_INTEGER c.args.text.now c.read_common.new.found.items =
-    (parts, sym c.has_plus.ensures ∙ c.if-has_plus.false) in
     on_err_weaker c.owned_range.result
     (λ m. inr (common_so _ MAX_SAFE_INTEGER c.args.text.now c.read_common.new.found.items
-    common (rw (c.from_intervals.ensures, spans_same) at m))) c.owned_range.ensures.memory
+    (common-is c) (rw (c.from_intervals.ensures, spans_same) at m))) c.owned_range.ensures.memory

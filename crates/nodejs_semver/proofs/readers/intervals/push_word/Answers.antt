@@ -1,7 +1,7 @@
 use Rattle.nodejs_semver.proofs.Common.{◌≡◌, ◌∙◌, sym, true, false, ap, rules, refl, Bool, ℕ, List, Option, MatchResult-from_err}
 use Rattle.nodejs_semver.proofs.Common.{Span, VersionValue, MAX_SAFE_INTEGER, table, malformed, upper_of, pushed}
 use Rattle.std.proofs.Common.{Bor}
-use Rattle.nodejs_semver.specs.Internal.Readings.{hyphen_pushed_view, partial_front_view, partial_view, sign_pair_view, sign_view}
+use Rattle.nodejs_semver.specs.Internal.Readings.{hyphen_pushed_view, partial_front_view, partial_view, sign_view}
 use Rattle.nodejs_semver.specs.Internal.Readings.{word_pushed_view}
 use Rattle.nodejs_semver.specs.Internal.Words.{signed_word, from_boundary, is_boundary, word_at}
 use Rattle.nodejs_semver.proofs.Reading.WordLaw.{longer_hyphen, longer_signed, no_hyphen, pushed_hyphen, pushed_malformed}
@@ -12,15 +12,13 @@ pub returns-in_default-clause-added : goal.returns-in_default-clause-added
 returns-in_default-clause-added c =
     let text = c.args.text.now in
     let word : word_at MAX_SAFE_INTEGER text ≡ (malformed, from_boundary text) =
-    word-as MAX_SAFE_INTEGER text (sign_pair_view c.sign_front-sign.result) (partial_front_view c.partial_front.result)
-    c.sign_front-sign.ensures c.partial_front.ensures ∙ rw (ap partial_front_view c.in_default.is) refl in
+    word-as MAX_SAFE_INTEGER text _ _ c.sign_front-sign.ensures c.partial_front.ensures ∙ rw (ap partial_front_view c.in_default.is) refl in
     pushed_malformed MAX_SAFE_INTEGER c.args.found.now.items (word_at MAX_SAFE_INTEGER text) c.skip_to_boundary.result.now (from_boundary text) word c.skip_to_boundary.ensures
 
 pub returns-in-Some-2-clause-added : goal.returns-in-Some-2-clause-added
 returns-in-Some-2-clause-added c =
-    pushed_hyphen MAX_SAFE_INTEGER c.args.text.now (sign_pair_view c.sign_front-sign.result)
-    (partial_front_view c.partial_front.result) (partial_view c.in-Some.partial) c.in-Some.rest.now
-    (upper_of MAX_SAFE_INTEGER (sign_view c.sign_front-sign.result.0) c.in-Some.rest.now) c.args.found.now.items c.push_upper.new.found.items (c.in-Some-2.read.0, c.in-Some-2.read.1.now)
+    pushed_hyphen MAX_SAFE_INTEGER c.args.text.now _ _ (partial_view c.in-Some.partial) c.in-Some.rest.now _ c.args.found.now.items
+    c.push_upper.new.found.items (c.in-Some-2.read.0, c.in-Some-2.read.1.now)
     c.sign_front-sign.ensures c.partial_front.ensures (ap partial_front_view c.in-Some.is) refl
     (sym (ap (λ (o : Option (Bool × Bor (List ℕ))). hyphen_pushed_view o c.push_upper.new.found.items) c.in-Some-2.is)
     ∙ c.in_ok-read.ensures.added)
@@ -34,8 +32,7 @@ returns-then-not-is_boundary-clause-added c =
     ∙ c.in_ok-read.ensures.added) in
     let goes : is_boundary c.in-Some.rest.now ≡ false = search rules in
     let word : word_at MAX_SAFE_INTEGER text ≡ (malformed, from_boundary text) =
-    word-as MAX_SAFE_INTEGER text (sign_pair_view c.sign_front-sign.result) (partial_front_view c.partial_front.result)
-    c.sign_front-sign.ensures c.partial_front.ensures ∙ rw (ap partial_front_view c.in-Some.is, none.0, goes) refl in
+    word-as MAX_SAFE_INTEGER text _ _ c.sign_front-sign.ensures c.partial_front.ensures ∙ rw (ap partial_front_view c.in-Some.is, none.0, goes) refl in
     ap (λ (l : List (Span VersionValue)). word_pushed_view (false, c.skip_to_boundary-then-not-is_boundary.result) l) none.1
     ∙ pushed_malformed MAX_SAFE_INTEGER c.args.found.now.items (word_at MAX_SAFE_INTEGER text) c.skip_to_boundary-then-not-is_boundary.result.now (from_boundary text) word
     c.skip_to_boundary-then-not-is_boundary.ensures
@@ -51,8 +48,7 @@ returns-clause-added c =
     ∙ c.in_ok-read.ensures.added) in
     let ends : is_boundary c.in-Some.rest.now ≡ true = search rules in
     let word : word_at MAX_SAFE_INTEGER text ≡ (signed_word sign partial, c.in-Some.rest.now) =
-    word-as MAX_SAFE_INTEGER text (sign_pair_view c.sign_front-sign.result) (partial_front_view c.partial_front.result)
-    c.sign_front-sign.ensures c.partial_front.ensures ∙ rw (ap partial_front_view c.in-Some.is, none.0, ends) refl in
+    word-as MAX_SAFE_INTEGER text _ _ c.sign_front-sign.ensures c.partial_front.ensures ∙ rw (ap partial_front_view c.in-Some.is, none.0, ends) refl in
     pushed_word MAX_SAFE_INTEGER c.args.found.now.items c.push_signed.new.found.items c.in_ok-there.there (signed_word sign partial) (word_at MAX_SAFE_INTEGER text)
     c.in-Some.rest.now word
     (c.in_ok-there.ensures.added
@@ -61,17 +57,14 @@ returns-clause-added c =
 pub returns-in_err-read-clause-memory : goal.returns-in_err-read-clause-memory
 returns-in_err-read-clause-memory c =
     MatchResult-from_err c.from_residual.result _ _ c.from_residual.ensures.0 (λ _.
-    longer_hyphen MAX_SAFE_INTEGER c.args.text.now (sign_pair_view c.sign_front-sign.result)
-    (partial_front_view c.partial_front.result) (partial_view c.in-Some.partial) c.in-Some.rest.now
-    (upper_of MAX_SAFE_INTEGER (sign_view c.sign_front-sign.result.0) c.in-Some.rest.now) c.args.found.now.items
+    longer_hyphen MAX_SAFE_INTEGER c.args.text.now _ _ (partial_view c.in-Some.partial) c.in-Some.rest.now _ c.args.found.now.items
     c.sign_front-sign.ensures c.partial_front.ensures (ap partial_front_view c.in-Some.is) refl c.in_err-read.ensures.memory)
 
 pub returns-in_err-there-clause-memory : goal.returns-in_err-there-clause-memory
 returns-in_err-there-clause-memory c =
     let ends : is_boundary c.in-Some.rest.now ≡ true = search rules in
     MatchResult-from_err c.from_residual-in_err-there.result _ _ c.from_residual-in_err-there.ensures.0 (λ _.
-    longer_signed MAX_SAFE_INTEGER c.args.text.now (sign_pair_view c.sign_front-sign.result)
-    (partial_front_view c.partial_front.result) (partial_view c.in-Some.partial) c.in-Some.rest.now c.args.found.now.items
+    longer_signed MAX_SAFE_INTEGER c.args.text.now _ _ (partial_view c.in-Some.partial) c.in-Some.rest.now c.args.found.now.items
     c.push_upper.new.found.items c.sign_front-sign.ensures c.partial_front.ensures (ap partial_front_view c.in-Some.is)
     (sym (ap (λ (o : Option (Bool × Bor (List ℕ))). hyphen_pushed_view o c.push_upper.new.found.items) c.in_default-2.is)
     ∙ c.in_ok-read.ensures.added)

@@ -1,6 +1,6 @@
-use Rattle.nodejs_semver.proofs.Common.{◌≡◌, ◌<◌, ◌++◌, List, length, sym, ap, ◌∙◌, arith, subst, Some, None}
-use Rattle.nodejs_semver.proofs.Common.{MatchResult-from_err, Span, VersionValue, MAX_SAFE_INTEGER, precedence, part_bounds}
-use Rattle.nodejs_semver.proofs.Common.{part_intervals, OnOk, joined_from, next_at}
+use Rattle.nodejs_semver.proofs.Common.{◌≡◌, ◌<◌, ◌++◌, List, length, sym, ◌∙◌, arith, subst, Some, None, MatchResult-from_err}
+use Rattle.nodejs_semver.proofs.Common.{Span, VersionValue, MAX_SAFE_INTEGER, precedence, part_bounds, part_intervals, OnOk}
+use Rattle.nodejs_semver.proofs.Common.{joined_from, next_at}
 use Rattle.std.proofs.Common.{OnErr}
 use Rattle.nodejs_semver.proofs.Dividing.RunsDivide.{longer_part, part-begins, part-last, part-step, read-is, read-next}
 use Rattle.nodejs_semver.proofs.Dividing.RunsDivide.{read-shorter, read-starts}
@@ -16,15 +16,10 @@ returns-then-is_empty-clause-added c =
     let none : length after ≡ 0 = grind arith in
     let last = part-last MAX_SAFE_INTEGER rest after (next_at MAX_SAFE_INTEGER rest).0 c.words.invariant.some c.words.invariant.starts none
     (read-next MAX_SAFE_INTEGER rest after c.in_ok-there.ensures.rest) in
-    c.in_ok-there.ensures.found
-    ∙ (ap (λ (l : List (Span VersionValue)). c.words.found.items ++ l) (sym last ∙ c.words.invariant.whole)
-    ∙ ap (λ (l : List (Span VersionValue)). l ++ part_intervals MAX_SAFE_INTEGER c.args.part.now) c.words.invariant.same)
+    cc (c.in_ok-there.ensures.found, last, c.words.invariant.whole, c.words.invariant.same)
 
 pub read_words-requires : goal.read_words-requires
-read_words-requires c =
-    let rest = c.words.rest.now in
-    let after = c.in_ok-there.after.now in
-    read-starts MAX_SAFE_INTEGER rest after (next_at MAX_SAFE_INTEGER rest).0 (read-next MAX_SAFE_INTEGER rest after c.in_ok-there.ensures.rest)
+read_words-requires c = read-starts MAX_SAFE_INTEGER _ _ _ (read-next MAX_SAFE_INTEGER _ _ c.in_ok-there.ensures.rest)
 
 -- what the running interval and those behind it add is the intervals of the part
 whole-at : (c : goal.After-read_words) → c.take_last.new.found.items
@@ -37,9 +32,7 @@ whole-at c =
     let read = read-is MAX_SAFE_INTEGER rest after (next_at MAX_SAFE_INTEGER rest).0 (Some c.in-Some.first) (sym c.in-Some.is ∙ taken.0)
     (read-next MAX_SAFE_INTEGER rest after c.in_ok-there.ensures.rest) in
     let first = part-step MAX_SAFE_INTEGER rest after _ c.words.invariant.some c.words.invariant.starts read in
-    ap (λ (l : List (Span VersionValue)). c.take_last.new.found.items ++ l) (sym first ∙ c.words.invariant.whole)
-    ∙ ap (λ (l : List (Span VersionValue)). l ++ part_intervals MAX_SAFE_INTEGER c.args.part.now)
-    (taken.1 ∙ c.words.invariant.same)
+    cc (first, c.words.invariant.whole, taken.1, c.words.invariant.same)
 
 pub returns-in-Some-clause-added : goal.returns-in-Some-clause-added
 returns-in-Some-clause-added c =
@@ -72,8 +65,7 @@ words-preserved c =
     let read = read-is MAX_SAFE_INTEGER rest after (next_at MAX_SAFE_INTEGER rest).0 None (sym c.in_default.is ∙ taken.0) next in
     record {
       same = taken.1 ∙ c.words.invariant.same;
-      whole = sym (part-step MAX_SAFE_INTEGER rest after None c.words.invariant.some c.words.invariant.starts read)
-          ∙ c.words.invariant.whole;
+      whole = cc (part-step MAX_SAFE_INTEGER rest after None c.words.invariant.some c.words.invariant.starts read, c.words.invariant.whole);
       some = grind arith;
       starts = read-starts MAX_SAFE_INTEGER rest after (next_at MAX_SAFE_INTEGER rest).0 next;
     }

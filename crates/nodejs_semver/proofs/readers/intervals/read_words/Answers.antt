@@ -1,6 +1,6 @@
-use Rattle.nodejs_semver.proofs.Common.{◌≡◌, ◌<◌, ◌++◌, ◌∷◌, List, length, sym, ap, ◌∙◌, arith, subst, Some, None}
-use Rattle.nodejs_semver.proofs.Common.{MatchResult-from_err, on_err_weaker, Span, precedence, VersionValue, MAX_SAFE_INTEGER}
-use Rattle.nodejs_semver.proofs.Common.{part_bounds, OnOk, joined_from, next_at}
+use Rattle.nodejs_semver.proofs.Common.{◌≡◌, ◌<◌, ◌++◌, List, length, sym, ap, ◌∙◌, arith, subst, Some, None}
+use Rattle.nodejs_semver.proofs.Common.{MatchResult-from_err, on_err_weaker, Span, VersionValue, MAX_SAFE_INTEGER, part_bounds}
+use Rattle.nodejs_semver.proofs.Common.{OnOk, next_at}
 use Rattle.nodejs_semver.proofs.Dividing.RunsDivide.{bounds-step, had_one, longer_joined, read-is, read-shorter, read-starts}
 use Rattle.nodejs_semver.proofs.Dividing.RunsDivide.{words-last}
 use Rattle.nodejs_semver.proofs.readers.intervals.read_words.Goals as goal
@@ -23,9 +23,7 @@ words-preserved-in-Some c =
     let read = read-is MAX_SAFE_INTEGER rest after c.in_ok-next.next (Some c.in-Some.next) (sym c.in-Some.is) c.in_ok-next.ensures.value in
     let bounds = bounds-step MAX_SAFE_INTEGER rest after (Some c.in-Some.next) some c.words.invariant.starts read in
     record {
-      whole = c.in_ok-running.ensures.joined (part_bounds MAX_SAFE_INTEGER after)
-          ∙ (ap (λ (l : List (Span VersionValue)). l ++ joined_from precedence c.words.running (c.in-Some.next ∷ part_bounds MAX_SAFE_INTEGER after)) c.in_ok-next.ensures.kept
-          ∙ (ap (λ (l : List (Span VersionValue)). c.words.found.items ++ joined_from precedence c.words.running l) (sym bounds) ∙ c.words.invariant.whole));
+      whole = cc (c.in_ok-running.ensures.joined (part_bounds MAX_SAFE_INTEGER after), c.in_ok-next.ensures.kept, bounds, c.words.invariant.whole);
       starts = read-starts MAX_SAFE_INTEGER rest after c.in_ok-next.next c.in_ok-next.ensures.value;
     }
 
@@ -37,8 +35,7 @@ words-preserved c =
     let read = read-is MAX_SAFE_INTEGER rest after c.in_ok-next.next None (sym c.in_default.is) c.in_ok-next.ensures.value in
     let bounds = bounds-step MAX_SAFE_INTEGER rest after None some c.words.invariant.starts read in
     record {
-      whole = ap (λ (l : List (Span VersionValue)). l ++ joined_from precedence c.words.running (part_bounds MAX_SAFE_INTEGER after)) c.in_ok-next.ensures.kept
-          ∙ (ap (λ (l : List (Span VersionValue)). c.words.found.items ++ joined_from precedence c.words.running l) (sym bounds) ∙ c.words.invariant.whole);
+      whole = cc (c.in_ok-next.ensures.kept, bounds, c.words.invariant.whole);
       starts = read-starts MAX_SAFE_INTEGER rest after c.in_ok-next.next c.in_ok-next.ensures.value;
     }
 

@@ -1,5 +1,5 @@
 use Rattle.nodejs_semver.proofs.Common.{◌≡◌, ap, arith, is_some, true, false, rules, ◌∙◌, sym, refl, MAX_SAFE_INTEGER, table}
-use Rattle.nodejs_semver.specs.Internal.Readings.{partial_front_view, partial_view, sign_pair_view, sign_view}
+use Rattle.nodejs_semver.specs.Internal.Readings.{partial_front_view, partial_view, sign_view}
 use Rattle.nodejs_semver.specs.Internal.Words.{from_boundary, is_boundary, signed_word}
 use Rattle.nodejs_semver.proofs.Diagnosing.IgnoredParts.{at_hyphen, at_malformed, at_signed}
 use Rattle.nodejs_semver.proofs.Reading.WordLaw.{word-as}
@@ -9,8 +9,7 @@ pub returns-in_default : goal.returns-in_default
 returns-in_default c =
     let text = c.args.text.now in
     at_malformed MAX_SAFE_INTEGER text c.skip_to_boundary.result.now (from_boundary text)
-    (word-as MAX_SAFE_INTEGER text (sign_pair_view c.sign_front-sign.result) (partial_front_view c.partial_front.result)
-    c.sign_front-sign.ensures c.partial_front.ensures ∙ rw (ap partial_front_view c.in_default.is) refl)
+    (word-as MAX_SAFE_INTEGER text _ _ c.sign_front-sign.ensures c.partial_front.ensures ∙ rw (ap partial_front_view c.in_default.is) refl)
     c.skip_to_boundary.ensures
 
 pub returns-in-Some-upper_of : goal.returns-in-Some-upper_of
@@ -18,8 +17,7 @@ returns-in-Some-upper_of c =
     let text = c.args.text.now in
     at_hyphen MAX_SAFE_INTEGER text c.in-Some-upper_of.rest.now (partial_view c.in-Some.partial)
     (partial_view c.in-Some-upper_of.upper) c.unless_bounded.result c.is_some.result
-    (word-as MAX_SAFE_INTEGER text (sign_pair_view c.sign_front-sign.result) (partial_front_view c.partial_front.result)
-    c.sign_front-sign.ensures c.partial_front.ensures
+    (word-as MAX_SAFE_INTEGER text _ _ c.sign_front-sign.ensures c.partial_front.ensures
     ∙ rw (ap partial_front_view c.in-Some.is, sym c.upper_of.ensures, ap partial_front_view c.in-Some-upper_of.is) refl)
     (c.is_some.ensures ∙ ap is_some (c.between-interval.ensures ∙ c.hyphen.ensures)) c.unless_bounded.ensures
 
@@ -28,8 +26,7 @@ returns-then-not-is_boundary c =
     let text = c.args.text.now in
     let goes : is_boundary c.in-Some.rest.now ≡ false = search rules in
     at_malformed MAX_SAFE_INTEGER text c.skip_to_boundary-then-not-is_boundary.result.now (from_boundary text)
-    (word-as MAX_SAFE_INTEGER text (sign_pair_view c.sign_front-sign.result) (partial_front_view c.partial_front.result)
-    c.sign_front-sign.ensures c.partial_front.ensures
+    (word-as MAX_SAFE_INTEGER text _ _ c.sign_front-sign.ensures c.partial_front.ensures
     ∙ rw (ap partial_front_view c.in-Some.is, sym c.upper_of.ensures, ap partial_front_view c.in_default-upper_of.is, goes) refl)
     c.skip_to_boundary-then-not-is_boundary.ensures
 
@@ -41,7 +38,6 @@ returns c =
     let bounded : c.is_some-2.result ≡ is_some (table MAX_SAFE_INTEGER word) = grind arith in
     at_signed MAX_SAFE_INTEGER text c.in-Some.rest.now (sign_view c.sign_front-sign.result.0)
     (partial_view c.in-Some.partial) c.unless_bounded-2.result c.is_some-2.result
-    (word-as MAX_SAFE_INTEGER text (sign_pair_view c.sign_front-sign.result) (partial_front_view c.partial_front.result)
-    c.sign_front-sign.ensures c.partial_front.ensures
+    (word-as MAX_SAFE_INTEGER text _ _ c.sign_front-sign.ensures c.partial_front.ensures
     ∙ rw (ap partial_front_view c.in-Some.is, sym c.upper_of.ensures, ap partial_front_view c.in_default-upper_of.is, ends) refl)
     bounded c.unless_bounded-2.ensures

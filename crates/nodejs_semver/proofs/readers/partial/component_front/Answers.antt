@@ -13,13 +13,9 @@ returns-in-Some-clause-value c =
     (front_some MAX_SAFE_INTEGER c.args.text.now c.in-Some.number c.in-Some.end c.in-Some.ensures.found))
 
 pub returns-in-Some-clause-small : goal.returns-in-Some-clause-small
-returns-in-Some-clause-small c =
-    λ x e.
-    omega (
-      arith,
-      same_Some c.in-Some.number x e,
-      front_small MAX_SAFE_INTEGER c.args.text.now c.in-Some.number c.in-Some.end c.in-Some.ensures.found,
-    )
+returns-in-Some-clause-small c = λ x e.
+    let small = front_small MAX_SAFE_INTEGER c.args.text.now c.in-Some.number c.in-Some.end c.in-Some.ensures.found in
+    omega (arith, same_Some c.in-Some.number x e, small)
 
 pub returns-in-None-2-clause-value : goal.returns-in-None-2-clause-value
 unfolding component_front
