@@ -27,17 +27,10 @@ use Rattle.nodejs_semver.proofs.Reading.Steps.{option-cases}
 use Rattle.nodejs_semver.proofs.Reading.WordLaw.{byte-is}
 use Rattle.nodejs_semver.proofs.Strict.Hyphens.{ends-found, ends-read}
 use Rattle.nodejs_semver.proofs.Strict.Qualifiers.{build-found, build-quiet, build-taken, ends-nil}
+use Rattle.nodejs_semver.proofs.Strict.Places.{digits-of}
 use Rattle.nodejs_semver.proofs.Strict.VersionLaw.{empty-is}
 
 -- ---- the patch number that the code finds
-
-pub digits-of : (k : ℕ) (text : List ℕ) → k ≤ prefix_len is_ascii_digit text → list_all is_ascii_digit (take k text) ≡ true
-digits-of zero text h = refl
-digits-of (suc k) [] h = refl
-digits-of (suc k) (c ∷ text) h = elim (cases_Bool (is_ascii_digit c)) [
-  | inl digit ↦ rw digit (digits-of k text (omega (arith, rw digit at h)))
-  | inr other ↦ absurd (omega (arith, rw other at h))
-]
 
 patch-le : (text : List ℕ) → patch_len text ≤ prefix_len is_ascii_digit text
 patch-le text = elim (cases_Bool (begins_byte 46 (drop (prefix_len is_ascii_digit text) text))) [

@@ -13,7 +13,7 @@ use Rattle.std.proofs.lemmas.List.{take-append-drop}
 use Rattle.semver_core.proofs.Text.Pieces.{rest_at}
 use Rattle.nodejs_semver.specs.Internal.NpmTuples.{IsLastBefore, IsLongestAt, behind_first, dotted_len, run_len, tuple_len}
 use Rattle.nodejs_semver.specs.Npm.Coerced.{IsLeftmost, IsRightmost, IsRun, IsTuple, IsTupleIn, one, three, two}
-use Rattle.nodejs_semver.proofs.NpmTexts.Loose.{digits-of}
+use Rattle.nodejs_semver.proofs.Strict.Places.{digits-of}
 use Rattle.nodejs_semver.proofs.Reading.Numbers.{digits-taken, run-ends}
 
 -- ---- runs

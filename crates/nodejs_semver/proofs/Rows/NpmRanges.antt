@@ -8,7 +8,7 @@ use Rattle.semver_core.specs.Text.Characters.{IsBlank}
 use Rattle.semver_core.specs.Text.Identifiers.{AlphaNumeric}
 use Rattle.semver_core.specs.Values.Versions.{VersionValue, release_value}
 use Rattle.nodejs_semver.specs.Npm.Malformed.{is_malformed}
-use Rattle.nodejs_semver.specs.Npm.RangeText.{AreWords, IsPartial, are_marks, are_spelled, begins_letter, caret_equal, is_lost, is_spelled, last, late_above, number, one, sign, spelling, tilde_twice, word}
+use Rattle.nodejs_semver.specs.Npm.RangeText.{AreWords, IsPartial, are_marks, are_spelled, begins_undashed, caret_equal, is_lost, is_spelled, last, late_above, number, one, sign, spelling, tilde_twice, word}
 use Rattle.nodejs_semver.specs.Npm.Ranges.{accepts, is_valid}
 use Rattle.nodejs_semver.specs.Npm.Table.{Comparison, Partial, Sign, caret, compared, hyphen_lower, hyphen_upper, major, minor, table, tilde, whole, wildcard}
 use Rattle.nodejs_semver.specs.Text.WordText.{above, at_least, at_most, below, equal}
@@ -161,8 +161,8 @@ row-spelled : is_spelled true false 1 (codes "01") ∷ is_spelled false true 1 (
     ≡ true ∷ false ∷ false ∷ true ∷ true ∷ []
 row-spelled = refl
 
--- `beta` may stand without `-` loosely, where it begins with a letter, and the identifier `01`
-row-bare : map begins_letter (codes "beta" ∷ codes "-beta" ∷ codes "1beta" ∷ []) ≡ true ∷ false ∷ false ∷ []
+-- `beta` and `4.5` may stand without `-` loosely, and the identifier `01`
+row-bare : map begins_undashed (codes "beta" ∷ codes "-beta" ∷ codes "1beta" ∷ codes "4.5" ∷ []) ≡ true ∷ false ∷ false ∷ true ∷ []
 row-bare = refl
 
 row-identifiers : are_spelled true (codes "rc.01") ∷ are_spelled false (codes "rc.01") ∷ are_spelled false (codes "rc.1") ∷ []

@@ -1,7 +1,7 @@
 -- Places and partial versions with numbers past the limit: what the code reads is what stands there, where no such number counts.
-use Rattle.nodejs_semver.proofs.Common.{◌≡◌, ◌≤◌, ◌<◌, ◌-◌, ◌++◌, ℕ, Bool, List, [], length, drop, take, refl, sym, ap, ◌∙◌, arith, true, false, Some}
+use Rattle.nodejs_semver.proofs.Common.{◌≡◌, ◌≤◌, ◌<◌, ◌-◌, ◌++◌, ◌∷◌, ℕ, Bool, List, [], length, drop, take, refl, sym, ap, ◌∙◌, arith, true, false, Some}
 use Rattle.nodejs_semver.proofs.Common.{None, Option, inl, inr, ◌&&◌, ◌||◌, not, cases_Bool, nat_tests, is_ascii_digit, list_all, bind_some, cond_some, same_Some}
-use Rattle.nodejs_semver.proofs.Common.{is_empty, MAX_SAFE_INTEGER, Id, take_rest, if◌then◌else◌}
+use Rattle.nodejs_semver.proofs.Common.{is_empty, MAX_SAFE_INTEGER, Id, take_rest, if◌then◌else◌, and_parts, append-nil, begins, drop_at, subst, take_at}
 use Rattle.std.specs.List.{prefix_len}
 use Rattle.std.specs.Prelude.{nat_le, nat_lt, take_while}
 use Rattle.std.specs.Str.Parse.{digits_value}
@@ -11,18 +11,18 @@ use Rattle.std.proofs.lemmas.List.Folds.{length-prefix_len}
 use Rattle.semver_core.specs.Internal.Reading.{◌>>?◌}
 use Rattle.semver_core.specs.Text.Identifiers.{listed}
 use Rattle.semver_core.specs.Text.Numbers.{IsNumber}
-use Rattle.nodejs_semver.specs.Internal.Fronts.{Front, begins_wildcard, build_front, number_front, number_of}
+use Rattle.nodejs_semver.specs.Internal.Fronts.{Front, begins_byte, begins_wildcard, build_front, number_front, number_of}
 use Rattle.nodejs_semver.specs.Internal.NpmReadings.{begins_padded, strict_number}
-use Rattle.nodejs_semver.specs.Internal.NpmWords.{Place, any, are_short_builds, are_short_identifiers, counted, counted_front, dotted_place, great}
+use Rattle.nodejs_semver.specs.Internal.NpmWords.{Place, any, are_short_builds, are_short_identifiers, counted, counted_front, dotted_patch, dotted_place, great, patch_place}
 use Rattle.nodejs_semver.specs.Internal.NpmWords.{is_small, limited, number, partial_front, place_front, place_of, place_zeros, placed, pre_front, qualified_counted}
 use Rattle.nodejs_semver.specs.Internal.NpmWords.{qualified_partial, run_place, second_counted, second_front, third_counted, third_front}
 use Rattle.nodejs_semver.specs.Npm.Grammar.{has_leading_zero}
 use Rattle.nodejs_semver.specs.Npm.RangeText as Text
 use Rattle.nodejs_semver.specs.Npm.RangeText.{IsPlace, are_spelled, has_zeros, is_spelled, most_digits, partial_of}
 use Rattle.nodejs_semver.specs.Npm.Table.{Partial}
-use Rattle.nodejs_semver.proofs.Reading.Numbers.{digits-taken, number-found, number-of, run-ends}
+use Rattle.nodejs_semver.proofs.Reading.Numbers.{digits-taken, number-found, number-no_wildcard, number-of, run-ends}
 use Rattle.nodejs_semver.proofs.Strict.Numbers.{padded-same}
-use Rattle.nodejs_semver.proofs.Strict.Places.{number-short, place-read, prefix-all, some-run}
+use Rattle.nodejs_semver.proofs.Strict.Places.{digits-of, number-short, place-read, prefix-all, some-run}
 
 -- ---- places
 
@@ -202,6 +202,55 @@ pub ruleset no_places = (none_placed, long_placed)
 
 pub ruleset padded_places = (strict_leading_placed, long_placed, zero_placed, padded_placed, unpadded_front)
 
+-- ---- the third place
+
+pub patch_whole : (loose zeros : Bool) (text : List ℕ) (at : ℕ) → at ≡ prefix_len is_ascii_digit text
+    → (loose && begins_byte 46 (drop at text)) ≡ false
+    → placed MAX_SAFE_INTEGER (place_front loose zeros text) ≡ placed MAX_SAFE_INTEGER (patch_place loose zeros text)
+unfolding patch_place
+patch_whole loose zeros text at e h = rw (rw e at h) refl
+
+-- digits alone are a place as their run is
+run-first : (loose zeros : Bool) (run more : List ℕ) → begins is_ascii_digit run ≡ true → list_all is_ascii_digit run ≡ true
+    → begins is_ascii_digit more ≡ false → place_front loose zeros (run ++ more) ≡ run_place loose zeros run more
+unfolding place_front
+run-first loose zeros run more first each stop =
+    let dark = number-no_wildcard run more first in
+    let e : take_while is_ascii_digit (run ++ more) ≡ run = grind (arith, digits-taken, take_at, drop_at, nat_tests) in
+    let d : drop (prefix_len is_ascii_digit (run ++ more)) (run ++ more) ≡ more = grind (arith, digits-taken, take_at, drop_at, nat_tests) in
+    rw (dark, e, d) refl
+
+none-alone : (loose zeros : Bool) → place_front loose zeros [] ≡ run_place loose zeros [] []
+unfolding place_front
+none-alone loose zeros = refl
+
+run-alone : (loose zeros : Bool) (run : List ℕ) → list_all is_ascii_digit run ≡ true → place_front loose zeros run ≡ run_place loose zeros run []
+run-alone loose zeros [] h = none-alone loose zeros
+run-alone loose zeros (c ∷ run) h =
+    subst (λ (t : List ℕ). place_front loose zeros t ≡ run_place loose zeros (c ∷ run) []) (append-nil (c ∷ run))
+    (run-first loose zeros (c ∷ run) [] (and_parts (is_ascii_digit c) _ h).0 h refl)
+
+run-behind : (limit : ℕ) (loose zeros : Bool) (run rest : List ℕ) → placed limit (run_place loose zeros run rest)
+    ≡ (placed limit (run_place loose zeros run []) >>? λ p. Some (p.0, rest))
+run-behind limit loose zeros run rest = elim (cases_Bool (not (is_empty run) && nat_le (length run) (most_digits loose)
+    && is_spelled loose zeros (digits_value 10 run) run)) [ inl good ↦ rw good refl | inr other ↦ rw other refl ]
+
+-- the last digit is not its own
+pub patch_cut : (loose zeros : Bool) (text : List ℕ) (at own : ℕ) (o : Front Place) → at ≡ prefix_len is_ascii_digit text
+    → (loose && begins_byte 46 (drop at text)) ≡ true → own ≡ at - 1
+    → o ≡ placed MAX_SAFE_INTEGER (place_front loose zeros (take own text))
+    → (o >>? λ p. Some (p.0, take (length text - own) (drop own text))) ≡ placed MAX_SAFE_INTEGER (patch_place loose zeros text)
+unfolding patch_place
+patch_cut loose zeros text at own o e h less is =
+    let n = prefix_len is_ascii_digit text - 1 in
+    let own_is : own ≡ n = less ∙ ap (λ (k : ℕ). k - 1) e in
+    let run = take n text in
+    let each = digits-of n text (omega arith) in
+    let o_is : o ≡ placed MAX_SAFE_INTEGER (run_place loose zeros run []) =
+    is ∙ ap (λ (k : ℕ). placed MAX_SAFE_INTEGER (place_front loose zeros (take k text))) own_is
+    ∙ ap (λ (q : Front (Option ℕ)). placed MAX_SAFE_INTEGER q) (run-alone loose zeros run each) in
+    rw (take_rest text own, own_is, o_is, rw e at h) (sym (run-behind MAX_SAFE_INTEGER loose zeros run (drop n text)))
+
 -- ---- partial versions
 
 abbrev if_small : ℕ → Partial → Option Partial
@@ -242,7 +291,7 @@ second-limited : (loose : Bool) (limit : ℕ) (a : Option ℕ) (text : List ℕ)
     → second_counted loose limit (place_of limit a) text (placed limit o) ≡ limited limit (second_front loose a text o)
 second-limited loose limit a text None = counted-short limit a None text
 second-limited loose limit a text (Some b) =
-    rw (zeros-placed limit a) (third-limited loose limit a b.0 b.1 (dotted_place loose (has_zeros a) b.1))
+    rw (zeros-placed limit a) (third-limited loose limit a b.0 b.1 (dotted_patch loose (has_zeros a) b.1))
 
 pub counted_limited : (loose : Bool) (limit : ℕ) (text : List ℕ) → counted_front loose limit text ≡ limited limit (partial_front loose text)
 unfolding partial_front

@@ -6,15 +6,15 @@ use Rattle.semver_core.specs.Text.Identifiers.{goes_on, listed, pieces}
 use Rattle.semver_core.proofs.Text.Runs.{list_len_stop}
 use Rattle.nodejs_semver.specs.Internal.Fronts.{Front, begins_byte, build_front}
 use Rattle.nodejs_semver.specs.Internal.NpmWords.{pre_front}
-use Rattle.nodejs_semver.specs.Internal.NpmWords.{are_short_builds, are_short_identifiers, dotted_place, partial_front, place_front}
+use Rattle.nodejs_semver.specs.Internal.NpmWords.{are_short_builds, are_short_identifiers, dotted_patch, dotted_place, partial_front, place_front}
 use Rattle.nodejs_semver.specs.Internal.NpmWords.{qualified_partial, second_front, third_front}
 use Rattle.nodejs_semver.specs.Internal.Words.{is_boundary}
 use Rattle.nodejs_semver.specs.Npm.Grammar.{IsStrictBuild}
-use Rattle.nodejs_semver.specs.Npm.RangeText.{IsPartial, IsPlace, IsPreRelease, are_spelled, begins_letter, has_zeros, is_short_build, is_short_identifier, one, partial_of, three, two, undashed}
+use Rattle.nodejs_semver.specs.Npm.RangeText.{IsPartial, IsPlace, IsPreRelease, are_spelled, begins_undashed, has_zeros, is_short_build, is_short_identifier, one, partial_of, three, two, undashed}
 use Rattle.nodejs_semver.specs.Npm.Table.{Partial}
 use Rattle.nodejs_semver.proofs.Reading.Bytes.{is_solid, solid-dark}
-use Rattle.nodejs_semver.proofs.Strict.Places.{dotted_place-found, dotted_place-read, place-found, place-read}
-use Rattle.nodejs_semver.proofs.Strict.Qualifiers.{Ends, build-found, build-taken, pre-found, pre-quiet, pre-taken}
+use Rattle.nodejs_semver.proofs.Strict.Places.{dotted_patch-found, dotted_place-found, dotted_place-read, patch-read, place-found, place-read}
+use Rattle.nodejs_semver.proofs.Strict.Qualifiers.{Ends, build-found, build-taken, pre-follows, pre-found, pre-taken}
 
 -- ---- nothing goes on at a boundary
 
@@ -33,8 +33,9 @@ quiet-on (b ∷ rest) h = grind (arith, nat_tests)
 quiet-digit : (more : List ℕ) → begins is_solid more ≡ false → begins is_ascii_digit more ≡ false
 quiet-digit more h = grind (arith, nat_tests)
 
-quiet-letter : (more : List ℕ) → begins is_solid more ≡ false → begins_letter more ≡ false
-quiet-letter more h = grind (arith, nat_tests)
+quiet-letter : (more : List ℕ) → begins is_solid more ≡ false → begins_undashed more ≡ false
+quiet-letter [] h = refl
+quiet-letter (b ∷ more) h = grind (arith, nat_tests)
 
 quiet-byte : (c : ℕ) (more : List ℕ) → is_solid c ≡ true → begins is_solid more ≡ false → begins_byte c more ≡ false
 quiet-byte c more s h = grind (arith, nat_tests)
@@ -46,7 +47,13 @@ quiet-ends more h = record {
   plus = quiet-byte 43 more refl h;
   digit = quiet-digit more h;
   letter = quiet-letter more h;
+  dot = quiet-byte 46 more refl h;
 }
+
+quiet-patch : (loose zeros : Bool) (more : List ℕ) → begins is_solid more ≡ false → dotted_patch loose zeros more ≡ None
+unfolding dotted_patch
+quiet-patch loose zeros [] h = refl
+quiet-patch loose zeros (b ∷ rest) h = rw (quiet-byte 46 (b ∷ rest) refl h) refl
 
 quiet-dot : (loose zeros : Bool) (more : List ℕ) → begins is_solid more ≡ false → dotted_place loose zeros more ≡ None
 unfolding dotted_place
@@ -74,7 +81,7 @@ partial-read loose x more p (two x1 y a b h k) quiet =
       append_assoc x1 (46 ∷ y) more,
       place-read loose false x1 (46 ∷ (y ++ more)) a h refl,
       dotted_place-read loose (has_zeros a) y more b k (quiet-digit more quiet),
-      quiet-dot loose (has_zeros a) more quiet,
+      quiet-patch loose (has_zeros a) more quiet,
     ) refl
 partial-read loose x more p (three x1 y z pre build a b c ids builds h k l m s n t) quiet =
     let ends = quiet-ends more quiet in
@@ -85,7 +92,7 @@ partial-read loose x more p (three x1 y z pre build a b c ids builds h k l m s n
       whole,
       place-read loose false x1 (46 ∷ (y ++ (46 ∷ last))) a h refl,
       dotted_place-read loose (has_zeros a) y (46 ∷ last) b k refl,
-      dotted_place-read loose (has_zeros a) z behind c l (pre-quiet loose pre build more ids builds m n ends),
+      patch-read loose (has_zeros a) z behind c l (pre-follows loose pre build more ids builds m n ends),
       qualified-read loose a b c pre build more ids builds m s n t ends,
     ) refl
 
@@ -138,13 +145,13 @@ pub record PartialAt (loose : Bool) (text : List ℕ) (p : Partial) (rest : List
   pub is : IsPartial loose piece p
 
 third-found : (loose : Bool) (a b : Option ℕ) (x y behind : List ℕ) (o : Front (Option ℕ)) (p : Partial) (rest : List ℕ) → IsPlace loose false x a → IsPlace loose (has_zeros a) y b
-    → dotted_place loose (has_zeros a) behind ≡ o → third_front loose a b behind o ≡ Some (p, rest) → PartialAt loose (x ++ (46 ∷ (y ++ behind))) p rest
+    → dotted_patch loose (has_zeros a) behind ≡ o → third_front loose a b behind o ≡ Some (p, rest) → PartialAt loose (x ++ (46 ∷ (y ++ behind))) p rest
 third-found loose a b x y behind None p rest h k e r =
     let same = same_Some _ _ r in
     rw (← ap (λ (q : Partial × List ℕ). q.0) same, ← ap (λ (q : Partial × List ℕ). q.1) same)
     (record { piece = x ++ (46 ∷ y); split = sym (append_assoc x (46 ∷ y) behind); is = two x y a b h k })
 third-found loose a b x y behind (Some c) p rest h k e r =
-    let z = dotted_place-found loose (has_zeros a) behind c.0 c.1 e in
+    let z = dotted_patch-found loose (has_zeros a) behind c.0 c.1 e in
     let q = qualified-found loose a b c.0 c.1 p rest r in
     let whole : x ++ (46 ∷ (y ++ behind)) ≡ (x ++ 46 ∷ (y ++ 46 ∷ (z.0 ++ (q.pre ++ q.build)))) ++ rest =
     ap (λ (t : List ℕ). x ++ (46 ∷ (y ++ t))) (z.1 ∙ ap (λ (t : List ℕ). 46 ∷ (z.0 ++ t)) q.split) ∙ simp append_assoc refl in
@@ -160,7 +167,7 @@ second-found loose a x behind None p rest h e r =
     (record { piece = x; split = refl; is = one x a h })
 second-found loose a x behind (Some b) p rest h e r =
     let y = dotted_place-found loose (has_zeros a) behind b.0 b.1 e in
-    rw y.1 (third-found loose a b.0 x y.0 b.1 (dotted_place loose (has_zeros a) b.1) p rest h y.2 refl r)
+    rw y.1 (third-found loose a b.0 x y.0 b.1 (dotted_patch loose (has_zeros a) b.1) p rest h y.2 refl r)
 
 pub partial-found : (loose : Bool) (text : List ℕ) (p : Partial) (rest : List ℕ) → partial_front loose text ≡ Some (p, rest) → PartialAt loose text p rest
 unfolding partial_front

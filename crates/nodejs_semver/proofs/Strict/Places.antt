@@ -1,22 +1,24 @@
 -- Places of node-semver's partial versions: what is read is written, and what is written is read.
-use Rattle.nodejs_semver.proofs.Common.{◌≡◌, ◌≤◌, ◌<◌, ◌+◌, ℕ, zero, suc, Bool, List, [], ◌∷◌, ◌++◌, length, drop, refl, sym, ap, ◌∙◌, arith}
-use Rattle.nodejs_semver.proofs.Common.{true, false, Some, Option, inl, inr, ◌&&◌, not, and_parts, cases_Bool, nat_tests, take_at, drop_at}
+use Rattle.nodejs_semver.proofs.Common.{◌≡◌, ◌≤◌, ◌<◌, ◌+◌, ◌-◌, ◌||◌, ℕ, zero, suc, Bool, List, [], ◌∷◌, ◌++◌, length, drop, take, refl, sym, ap, ◌∙◌, arith}
+use Rattle.nodejs_semver.proofs.Common.{true, false, None, Some, Option, inl, inr, ◌&&◌, not, and_parts, cases_Bool, nat_tests, take_at, drop_at}
 use Rattle.nodejs_semver.proofs.Common.{begins, is_ascii_digit, list_all, same_Some, is_empty, MAX_SAFE_INTEGER, eqb-true}
 use Rattle.std.proofs.Common.{◌*◌}
 use Rattle.std.specs.Char.{digit_value}
 use Rattle.std.specs.List.{prefix_len}
 use Rattle.std.specs.Prelude.{◌==◌, nat_le, take_while}
 use Rattle.std.specs.Str.Parse.{digits_value, digits_value_after}
+use Rattle.std.proofs.Math.Seq.{drop-append-add}
 use Rattle.std.proofs.lemmas.List.{take-append-drop}
 use Rattle.std.proofs.lemmas.List.Sums.{prefix_len-drop_all, prefix_len-drop_no, prefix_len-drop_yes}
 use Rattle.semver_core.specs.Text.Numbers.{IsNumber}
 use Rattle.semver_core.proofs.Text.Pieces.{digits_grow}
-use Rattle.nodejs_semver.specs.Internal.Fronts.{begins_wildcard}
-use Rattle.nodejs_semver.specs.Internal.NpmWords.{dotted_place, place_front, run_place}
+use Rattle.nodejs_semver.specs.Internal.Fronts.{begins_byte, begins_wildcard}
+use Rattle.nodejs_semver.specs.Internal.NpmWords.{dotted_patch, dotted_place, patch_place, place_front, run_place}
 use Rattle.nodejs_semver.specs.Npm.Grammar.{IsStrictNumber}
 use Rattle.nodejs_semver.specs.Npm.RangeText as Text
 use Rattle.nodejs_semver.specs.Npm.RangeText.{IsPlace, is_spelled, most_digits}
 use Rattle.nodejs_semver.proofs.Reading.Numbers.{digits-taken, number-no_wildcard}
+use Rattle.nodejs_semver.proofs.Strict.Qualifiers.{Follows}
 
 pub ruleset prefix_steps = (prefix_len-drop_all, prefix_len-drop_no, prefix_len-drop_yes)
 
@@ -117,6 +119,80 @@ dotted_place-found loose zeros (c ∷ t) a rest h = elim (cases_Bool (c == 46)) 
       let f = place-found loose zeros t a rest (rw dot at h) in
       (f.piece, rw (eqb-true c 46 dot, ← f.split) refl, f.is)
   | inr other ↦ cc (rw other at h)
+]
+
+-- ---- the third place
+
+pub digits-of : (k : ℕ) (text : List ℕ) → k ≤ prefix_len is_ascii_digit text → list_all is_ascii_digit (take k text) ≡ true
+digits-of zero text h = refl
+digits-of (suc k) [] h = refl
+digits-of (suc k) (c ∷ text) h = elim (cases_Bool (is_ascii_digit c)) [
+  | inl digit ↦ rw digit (digits-of k text (omega (arith, rw digit at h)))
+  | inr other ↦ absurd (omega (arith, rw other at h))
+]
+
+digits-many_on : (digits rest : List ℕ) → list_all is_ascii_digit digits ≡ true
+    → prefix_len is_ascii_digit (digits ++ rest) ≡ length digits + prefix_len is_ascii_digit rest
+digits-many_on [] rest h = omega arith
+digits-many_on (c ∷ digits) rest h =
+    let each = and_parts (is_ascii_digit c) (list_all is_ascii_digit digits) h in
+    rw each.0 (omega (arith, digits-many_on digits rest each.1))
+
+no-digit : (b : ℕ) → (b == 120 || b == 88 || b == 42) ≡ true → (is_ascii_digit b ≡ false) × ((b == 46) ≡ false)
+no-digit b h = (grind (arith, nat_tests), grind (arith, nat_tests))
+
+and-none : (b : Bool) → (b && false) ≡ false
+and-none b = grind arith
+
+wild-read : (loose zeros : Bool) (b : ℕ) (rest : List ℕ) → (b == 120 || b == 88 || b == 42) ≡ true
+    → place_front loose zeros (b ∷ rest) ≡ Some (None, rest)
+unfolding place_front
+wild-read loose zeros b rest h = rw h refl
+
+pub patch-read : (loose zeros : Bool) (x rest : List ℕ) (a : Option ℕ) → IsPlace loose zeros x a → Follows loose rest
+    → dotted_patch loose zeros (46 ∷ (x ++ rest)) ≡ Some (a, rest)
+unfolding dotted_patch patch_place
+patch-read loose zeros x rest a (Text.any b h) f =
+    let dark = no-digit b h in
+    rw (dark.0, dark.1, and-none loose) (wild-read loose zeros b rest h)
+patch-read loose zeros x rest a (Text.number digits n k spelled short) (inl stop) =
+    let len : prefix_len is_ascii_digit (digits ++ rest) ≡ length digits = digits-taken digits rest k.each stop.0 in
+    let e : drop (length digits) (digits ++ rest) ≡ rest = drop_at digits rest (length digits) refl in
+    let read = place-read loose zeros digits rest (Some n) (Text.number digits n k spelled short) stop.0 in
+    rw (len, e, stop.1, and-none loose) read
+patch-read loose zeros x rest a (Text.number digits n k spelled short) (inr lone) =
+    let c = lone.0 in
+    let behind = 46 ∷ lone.1 in
+    let one : prefix_len is_ascii_digit rest ≡ 1 = rw (lone.2, lone.3) refl in
+    let len : prefix_len is_ascii_digit (digits ++ rest) ≡ length digits + 1 = rw one at (digits-many_on digits rest k.each) in
+    let e : drop (length digits + 1) (digits ++ rest) ≡ behind = rw lone.2 (drop-append-add digits (c ∷ behind) 1) in
+    let cut : (loose && begins_byte 46 (drop (prefix_len is_ascii_digit (digits ++ rest)) (digits ++ rest))) ≡ true =
+    rw (len, e, lone.4) refl in
+    let less : length digits + 1 - 1 ≡ length digits = omega arith in
+    let own : take (length digits) (digits ++ rest) ≡ digits = take_at digits rest (length digits) refl in
+    let left : drop (length digits) (digits ++ rest) ≡ rest = drop_at digits rest (length digits) refl in
+    let there = some-run digits (omega (arith, k.some)) in
+    let fits : nat_le (length digits) (most_digits loose) ≡ true = grind (arith, nat_tests) in
+    let written = ap (λ (m : ℕ). is_spelled loose zeros m digits) (sym k.value) ∙ spelled in
+    rw (cut, len, less, own, left, there, fits, written, k.value) refl
+
+pub dotted_patch-found : (loose zeros : Bool) (text : List ℕ) (a : Option ℕ) (rest : List ℕ) → dotted_patch loose zeros text ≡ Some (a, rest)
+    → (x : List ℕ) × (text ≡ 46 ∷ (x ++ rest)) × IsPlace loose zeros x a
+unfolding dotted_patch patch_place
+dotted_patch-found loose zeros [] a rest h = cc h
+dotted_patch-found loose zeros (c ∷ t) a rest h = elim (cases_Bool (c == 46)) [
+  | inr other ↦ cc (rw other at h)
+  | inl dot ↦
+      let n = prefix_len is_ascii_digit t in
+      elim (cases_Bool (loose && begins_byte 46 (drop n t))) [
+        | inr bare ↦
+            let f = place-found loose zeros t a rest (rw (dot, bare) at h) in
+            (f.piece, rw (eqb-true c 46 dot, ← f.split) refl, f.is)
+        | inl cut ↦
+            let run = take (n - 1) t in
+            let f = run-found loose zeros run (drop (n - 1) t) a rest (rw (dot, cut) at h) (digits-of (n - 1) t (omega arith)) in
+            (run, rw (eqb-true c 46 dot) (ap (λ (l : List ℕ). 46 ∷ l) (sym (take-append-drop (n - 1) t) ∙ ap (λ (l : List ℕ). run ++ l) f.1)), f.0)
+      ]
 ]
 
 -- ---- a number up to the limit is short

@@ -1,18 +1,18 @@
 -- The pre-release and the build behind the numbers: what is read is written, and what is written is read.
-use Rattle.std.proofs.Common.{◌≡◌, ◌<◌, ◌&&◌, ℕ, zero, suc, Bool, length, subst, List, [], ◌∷◌, ◌++◌, drop, take, refl, sym, ap, ◌∙◌, arith, true, false, inl, inr}
+use Rattle.std.proofs.Common.{◌≡◌, ◌<◌, ◌&&◌, ◌||◌, ◌==◌, ◌⊎◌, ◌≤◌, ℕ, zero, suc, Bool, length, subst, List, [], ◌∷◌, ◌++◌, drop, take, refl, sym, ap, ◌∙◌, arith, true, false, inl, inr}
 use Rattle.std.specs.Char.{is_ascii_digit}
-use Rattle.std.proofs.lemmas.Bool.{cases_Bool}
+use Rattle.std.proofs.lemmas.Bool.{and_parts, cases_Bool, eqb-true}
 use Rattle.std.proofs.lemmas.Bool.Decides.{nat_tests}
 use Rattle.std.proofs.lemmas.List.{take-append-drop}
-use Rattle.semver_core.specs.Text.Characters.{begins}
-use Rattle.semver_core.specs.Text.Identifiers.{Id, IsIdentifiers, listed}
+use Rattle.semver_core.specs.Text.Characters.{begins, is_identifier_char}
+use Rattle.semver_core.specs.Text.Identifiers.{Id, IsIdentifiers, goes_on, listed}
 use Rattle.semver_core.specs.Internal.Reading.{list_len}
 use Rattle.nodejs_semver.specs.Internal.Fronts.{begins_byte, begins_identifier, build_front, pre_release_front}
 use Rattle.nodejs_semver.specs.Internal.NpmReadings.{dashed_front, is_strict_list}
 use Rattle.nodejs_semver.specs.Internal.NpmWords.{pre_front}
 use Rattle.nodejs_semver.specs.Npm.Grammar as Grammar
 use Rattle.nodejs_semver.specs.Npm.Grammar.{IsStrictBuild, IsStrictPreRelease, no_build, plus}
-use Rattle.nodejs_semver.specs.Npm.RangeText.{IsPreRelease, are_spelled, bare, begins_letter, dashed, no_pre_release, undashed}
+use Rattle.nodejs_semver.specs.Npm.RangeText.{IsPreRelease, are_spelled, bare, begins_undashed, dashed, is_letter, no_pre_release, undashed}
 use Rattle.nodejs_semver.proofs.Reading.IdentifierLists.{front-identifiers, written-begins, written-exact, written-spelled}
 
 -- ---- what is read is written
@@ -71,11 +71,12 @@ pub record Ends (rest : List ℕ) : Type 0 where
   pub dash : begins_byte 45 rest ≡ false
   pub plus : begins_byte 43 rest ≡ false
   pub digit : begins is_ascii_digit rest ≡ false
-  pub letter : begins_letter rest ≡ false
+  pub letter : begins_undashed rest ≡ false
+  pub dot : begins_byte 46 rest ≡ false
 
 pub ends-nil : Ends []
 unfolding list_len
-ends-nil = record { run = refl; dash = refl; plus = refl; digit = refl; letter = refl }
+ends-nil = record { run = refl; dash = refl; plus = refl; digit = refl; letter = refl; dot = refl }
 
 -- build metadata, or nothing, ends a list and begins with no digit
 pub build-quiet : (b more : List ℕ) (l : List Id) → IsStrictBuild b l → Ends more
@@ -109,26 +110,50 @@ dashed-taken p b more l m (Grammar.dashed t list h s) k e =
 
 -- ---- the pre-releases of range texts
 
-letter-first : (text : List ℕ) → begins_letter text ≡ true → (begins_byte 45 text ≡ false) × (begins_identifier text ≡ true)
+letter-first : (text : List ℕ) → begins_undashed text ≡ true → (begins_byte 45 text ≡ false) × (begins_identifier text ≡ true)
 letter-first [] h = cc h
 letter-first (b ∷ text) h = (grind (arith, nat_tests), grind (arith, nat_tests))
 
-letter-digit : (text : List ℕ) → begins_letter text ≡ true → begins is_ascii_digit text ≡ false
-letter-digit [] h = cc h
-letter-digit (b ∷ text) h = grind (arith, nat_tests)
-
-letter-on : (text more : List ℕ) → begins_letter text ≡ true → begins_letter (text ++ more) ≡ true
+letter-on : (text more : List ℕ) → begins_undashed text ≡ true → begins_undashed (text ++ more) ≡ true
 letter-on [] more h = cc h
-letter-on (b ∷ text) more h = h
+letter-on (b ∷ []) more h = grind arith
+letter-on (b ∷ c ∷ []) more h = grind arith
+letter-on (b ∷ c ∷ d ∷ text) more h = h
 
-letter-take : (n : ℕ) (text : List ℕ) → begins_letter text ≡ true → 0 < length (take n text) → begins_letter (take n text) ≡ true
-letter-take n [] h some = cc h
-letter-take zero (b ∷ text) h some = absurd (omega arith)
-letter-take (suc n) (b ∷ text) h some = h
+or-right : (a b : Bool) → (a || b) ≡ true → a ≡ false → b ≡ true
+or-right a b h k = grind arith
 
-some-identifiers : (text : List ℕ) (list : List Id) → IsIdentifiers text list → 0 < length text
-some-identifiers [] list h = cc h.runs
-some-identifiers (c ∷ text) list h = omega arith
+letter-take : (text : List ℕ) → begins_undashed text ≡ true → begins_undashed (take (list_len text) text) ≡ true
+unfolding list_len
+letter-take [] h = cc h
+letter-take (b ∷ text) h = elim (cases_Bool (is_letter b)) [
+  | inl letter ↦
+      let some : is_identifier_char b ≡ true = (letter-first (b ∷ text) h).1 in
+      let one : list_len (b ∷ text) ≡ suc (list_len text) = rw some (omega arith) in
+      rw (one, letter) refl
+  | inr other ↦ lone text (letter-first (b ∷ text) h).1 (or-right (is_letter b) _ h other)
+]
+  where
+    lone : (text : List ℕ) → is_identifier_char b ≡ true
+        → (is_ascii_digit b && (begins_byte 46 text && begins_identifier (drop 1 text))) ≡ true
+        → begins_undashed (take (list_len (b ∷ text)) (b ∷ text)) ≡ true
+    lone [] some k = absurd (none (is_ascii_digit b) k)
+      where
+        none : (a : Bool) → (a && false) ≡ true → ⊥
+        none a k = grind arith
+    lone (c ∷ []) some k = absurd (none (is_ascii_digit b) (c == 46) k)
+      where
+        none : (a d : Bool) → (a && (d && false)) ≡ true → ⊥
+        none a d k = grind arith
+    lone (c ∷ d ∷ text) some k =
+        let digit = and_parts (is_ascii_digit b) _ k in
+        let dot = and_parts (c == 46) (is_identifier_char d) digit.1 in
+        let goes : goes_on (c ∷ d ∷ text) ≡ true = rw (dot.0, dot.1) (or-true (is_identifier_char c)) in
+        let three : list_len (b ∷ c ∷ d ∷ text) ≡ suc (suc (suc (list_len text))) = rw (some, goes, dot.1) (omega arith) in
+        rw three (rw k (or-true (is_letter b)))
+      where
+        or-true : (a : Bool) → (a || true) ≡ true
+        or-true a = grind arith
 
 and-none : (b : Bool) → (b && false) ≡ false
 and-none b = grind arith
@@ -158,13 +183,13 @@ after-dash loose text y e some h = (
   refl,
 )
 
-without-dash : (text : List ℕ) → begins_letter text ≡ true → are_spelled true (take (list_len text) text) ≡ true
+without-dash : (text : List ℕ) → begins_undashed text ≡ true → are_spelled true (take (list_len text) text) ≡ true
     → PreFound true text (take (list_len text) text) (drop (list_len text) text)
 without-dash text letter h =
     let first = letter-first text letter in
     let read = take (list_len text) text in
     let is = front-identifiers text first.1 in
-    let begins = letter-take (list_len text) text letter (some-identifiers read (listed read) is) in (
+    let begins = letter-take text letter in (
       read,
       sym (take-append-drop (list_len text) text),
       bare read (listed read) refl begins is h,
@@ -182,7 +207,7 @@ dashed_front-found loose text h = elim (cases_Bool (begins_byte 45 text)) [
   ]
 ]
 
-letter_front : (text : List ℕ) → begins_letter text ≡ true → pre_release_front text ≡ (take (list_len text) text, drop (list_len text) text)
+letter_front : (text : List ℕ) → begins_undashed text ≡ true → pre_release_front text ≡ (take (list_len text) text, drop (list_len text) text)
 unfolding pre_release_front
 letter_front text h = let first = letter-first text h in rw (first.0, first.1) refl
 
@@ -190,7 +215,7 @@ pub pre-found : (loose : Bool) (text : List ℕ) → are_spelled loose (pre_fron
     → PreFound loose text (pre_front loose text).0 (pre_front loose text).1
 unfolding pre_front
 pre-found false text h = dashed_front-found false text h
-pre-found true text h = elim (cases_Bool (begins_letter text)) [
+pre-found true text h = elim (cases_Bool (begins_undashed text)) [
   | inr other ↦ rw other (dashed_front-found true text (rw other at h))
   | inl letter ↦
       let e = letter_front text letter in
@@ -198,21 +223,50 @@ pre-found true text h = elim (cases_Bool (begins_letter text)) [
 ]
 
 -- build metadata, or nothing, begins with no letter
-build-letter : (b more : List ℕ) (l : List Id) → IsStrictBuild b l → Ends more → begins_letter (b ++ more) ≡ false
+build-letter : (b more : List ℕ) (l : List Id) → IsStrictBuild b l → Ends more → begins_undashed (b ++ more) ≡ false
 build-letter b more l no_build e = e.letter
 build-letter b more l (plus t list h) e = refl
 
-pub pre-quiet : (loose : Bool) (p b more : List ℕ) (l m : List Id) → IsPreRelease loose p l → IsStrictBuild b m → Ends more
-    → begins is_ascii_digit (p ++ (b ++ more)) ≡ false
-pre-quiet loose p b more l m no_pre_release k e = (build-quiet b more m k e).2
-pre-quiet loose p b more l m (dashed t list h s) k e = refl
-pre-quiet loose p b more l m (bare t list x f h s) k e = letter-digit (t ++ (b ++ more)) (letter-on t (b ++ more) f)
+-- what stands behind a third place: no digit and no dot, or loosely one digit before a dot
+abbrev pub Follows : Bool → List ℕ → Type 0
+Follows loose rest = ((begins is_ascii_digit rest ≡ false) × (begins_byte 46 rest ≡ false))
+    ⊎ ((c : ℕ) × (more : List ℕ) × (rest ≡ c ∷ 46 ∷ more) × (is_ascii_digit c ≡ true) × (loose ≡ true))
+
+build-dotless : (b more : List ℕ) (l : List Id) → IsStrictBuild b l → Ends more → begins_byte 46 (b ++ more) ≡ false
+build-dotless b more l no_build e = e.dot
+build-dotless b more l (plus t list h) e = refl
+
+pub pre-follows : (loose : Bool) (p b more : List ℕ) (l m : List Id) → IsPreRelease loose p l → IsStrictBuild b m → Ends more
+    → Follows loose (p ++ (b ++ more))
+pre-follows loose p b more l m no_pre_release k e = inl ((build-quiet b more m k e).2, build-dotless b more m k e)
+pre-follows loose p b more l m (dashed t list h s) k e = inl (refl, refl)
+pre-follows loose p b more l m (bare t list x f h s) k e = go t f
+  where
+    letter-dotless : (c : ℕ) (t : List ℕ) → begins_undashed (c ∷ t) ≡ true → (c == 46) ≡ false
+    letter-dotless c t f = grind (arith, nat_tests)
+
+    no-letter : (c : ℕ) → is_ascii_digit c ≡ true → is_letter c ≡ false
+    no-letter c d = grind (arith, nat_tests)
+
+    behind : (c : ℕ) (t : List ℕ) → is_ascii_digit c ≡ true → (begins_byte 46 t && begins_identifier (drop 1 t)) ≡ true
+        → Follows loose (c ∷ (t ++ (b ++ more)))
+    behind c [] digit h = cc h
+    behind c (d ∷ t) digit h =
+        let dot = (and_parts (d == 46) _ h).0 in
+        inr (c, t ++ (b ++ more), rw (eqb-true d 46 dot) refl, digit, x)
+
+    go : (t : List ℕ) → begins_undashed t ≡ true → Follows loose (t ++ (b ++ more))
+    go [] f = cc f
+    go (c ∷ t) f = elim (cases_Bool (is_ascii_digit c)) [
+      | inr other ↦ inl (other, letter-dotless c t f)
+      | inl digit ↦ behind c t digit (and_parts (is_ascii_digit c) _ (or-right (is_letter c) _ f (no-letter c digit))).1
+    ]
 
 abbrev PreTaken : Bool → List ℕ → List ℕ → List Id → Type 0
 PreTaken loose p rest l = (pre_front loose (p ++ rest) ≡ (undashed p, rest)) × (listed (undashed p) ≡ l)
     × (are_spelled loose (undashed p) ≡ true)
 
-bare-taken : (t rest : List ℕ) (list : List Id) → begins_letter t ≡ true → IsIdentifiers t list → are_spelled true t ≡ true
+bare-taken : (t rest : List ℕ) (list : List Id) → begins_undashed t ≡ true → IsIdentifiers t list → are_spelled true t ≡ true
     → list_len rest ≡ 0 → PreTaken true t rest list
 unfolding pre_front listed
 bare-taken t rest list f h s stop =

@@ -8,12 +8,12 @@ use Rattle.semver_core.specs.Internal.Reading.{◌>>?◌}
 use Rattle.semver_core.specs.Internal.Spaces.{drop_spaces, space_len}
 use Rattle.semver_core.specs.Lists.{is_empty}
 use Rattle.semver_core.specs.Text.Identifiers.{Id, listed, pieces}
-use Rattle.nodejs_semver.specs.Internal.Fronts.{Front, after_byte, begins_byte, begins_wildcard, build_front, pre_release_front}
+use Rattle.nodejs_semver.specs.Internal.Fronts.{Front, after_byte, begins_byte, begins_identifier, begins_wildcard, build_front, pre_release_front}
 use Rattle.nodejs_semver.specs.Internal.NpmReadings.{dashed_front}
 use Rattle.nodejs_semver.specs.Internal.Parts.{parts}
 use Rattle.nodejs_semver.specs.Internal.Words.{after_some_space, is_boundary, or_else}
 use Rattle.nodejs_semver.specs.Npm.Malformed.{begins_malformed, is_visible}
-use Rattle.nodejs_semver.specs.Npm.RangeText.{are_marks, are_spelled, are_whole_marks, begins_letter, has_zeros, is_free_lower, is_free_upper, is_lost, is_mark, is_short_build, is_short_identifier, is_spelled, most_digits, partial_of}
+use Rattle.nodejs_semver.specs.Npm.RangeText.{are_marks, are_spelled, are_whole_marks, begins_undashed, has_zeros, is_free_lower, is_free_upper, is_lost, is_mark, is_short_build, is_short_identifier, is_spelled, most_digits, partial_of}
 use Rattle.nodejs_semver.specs.Npm.Ranges.{is_valid}
 use Rattle.nodejs_semver.specs.Npm.Table.{Comparison, Partial, Sign, caret, compared, hyphen_lower, hyphen_upper, major, minor, table, tilde, whole, wildcard}
 use Rattle.nodejs_semver.specs.Text.WordText.{Comparator, above, at_least, at_most, below, equal}
@@ -35,6 +35,15 @@ place_front loose zeros text = if begins_wildcard text then Some (None, drop 1 t
 unfoldable pub dotted_place : Bool → Bool → List ℕ → Front (Option ℕ)
 dotted_place loose zeros text = after_byte 46 text >>? λ rest. place_front loose zeros rest
 
+-- the third place: loosely the last digit before a dot is not its own
+unfoldable pub patch_place : Bool → Bool → List ℕ → Front (Option ℕ)
+patch_place loose zeros text = let digits = prefix_len is_ascii_digit text in
+    if loose && begins_byte 46 (drop digits text) then run_place loose zeros (take (digits - 1) text) (drop (digits - 1) text)
+    else place_front loose zeros text
+
+unfoldable pub dotted_patch : Bool → Bool → List ℕ → Front (Option ℕ)
+dotted_patch loose zeros text = after_byte 46 text >>? λ rest. patch_place loose zeros rest
+
 -- the identifiers of a pre-release and of a build may be written
 abbrev pub are_short_identifiers : List ℕ → Bool
 are_short_identifiers text = list_all is_short_identifier (pieces text)
@@ -46,9 +55,14 @@ are_short_builds text = list_all is_short_build (pieces text)
 abbrev pub may_follow : Bool → List ℕ → List ℕ → Bool
 may_follow loose pre build = are_spelled loose pre && (are_short_identifiers pre && are_short_builds build)
 
+-- the text begins with one digit before a dot and an identifier
+abbrev pub begins_lone_digit : List ℕ → Bool
+begins_lone_digit [] = false
+begins_lone_digit (b ∷ rest) = is_ascii_digit b && (begins_byte 46 rest && begins_identifier (drop 1 rest))
+
 -- the text of a pre-release, and what stands behind it
 unfoldable pub pre_front : Bool → List ℕ → List ℕ × List ℕ
-pre_front loose text = if loose && begins_letter text then pre_release_front text else dashed_front text
+pre_front loose text = if loose && begins_undashed text then pre_release_front text else dashed_front text
 
 -- the partial of three places, with these texts of its pre-release and of its build, behind which this stands
 abbrev pub ended_partial : Bool → Option ℕ → Option ℕ → Option ℕ → List ℕ → List ℕ × List ℕ → Front Partial
@@ -65,7 +79,7 @@ third_front loose a b text (Some c) = qualified_partial loose a b c.0 c.1
 
 abbrev pub second_front : Bool → Option ℕ → List ℕ → Front (Option ℕ) → Front Partial
 second_front loose a text None = Some (partial_of a None None [] [], text)
-second_front loose a text (Some b) = third_front loose a b.0 b.1 (dotted_place loose (has_zeros a) b.1)
+second_front loose a text (Some b) = third_front loose a b.0 b.1 (dotted_patch loose (has_zeros a) b.1)
 
 -- the partial at the front
 unfoldable pub partial_front : Bool → List ℕ → Front Partial
@@ -128,7 +142,7 @@ third_counted loose a b text (Some c) = qualified_counted loose a b c.0 c.1
 
 abbrev pub second_counted : Bool → ℕ → Place → List ℕ → Front Place → Front Partial
 second_counted loose limit a text None = counted a any any [] [] >>? λ p. Some (p, text)
-second_counted loose limit a text (Some b) = third_counted loose a b.0 b.1 (placed limit (dotted_place loose (place_zeros a) b.1))
+second_counted loose limit a text (Some b) = third_counted loose a b.0 b.1 (placed limit (dotted_patch loose (place_zeros a) b.1))
 
 abbrev pub counted_front : Bool → ℕ → List ℕ → Front Partial
 counted_front loose limit text =

@@ -3,15 +3,15 @@
 -- a whole version, as in `>*1.2.3`, which node-semver passes over. Of the loose reading these are left out
 -- too, and a text that has one is rejected: malformed words but those that `Malformed` defines; zero as
 -- several digits, where it is the major number or that is zero; more than 32 digits of a number, and 128
--- characters of a pre-release; a pre-release without `-` that begins with none but a letter, and one that is
--- `-` alone; whitespace among the marks of a whole end of a hyphen range.
+-- characters of a pre-release; a pre-release without `-` that begins with `-`, as in `1.2.3-`, or
+-- behind `x` with a digit; whitespace among the marks of a whole end of a hyphen range.
 use Rattle.std.specs.Prelude.{◌≡◌, ◌⊎◌, ◌==◌, ◌<◌, ◌≤◌, ◌+◌, ◌&&◌, ◌||◌, not, nat_le, nat_lt, ℕ, Bool, true}
 use Rattle.std.specs.Prelude.{false, List, [], ◌∷◌, ◌++◌, length, drop, Option, Some, None, codes}
 use Rattle.std.specs.Prelude.{encode_utf8_all, if◌then◌else◌}
 use Rattle.std.specs.Char.{is_ascii_digit}
 use Rattle.std.specs.List.{list_all, prefix_len}
 use Rattle.semver_core.specs.Lists.{is_empty}
-use Rattle.semver_core.specs.Text.Characters.{begins, is_whitespace, IsBlank, IsTrim}
+use Rattle.semver_core.specs.Text.Characters.{begins, is_identifier_char, is_whitespace, IsBlank, IsTrim}
 use Rattle.semver_core.specs.Text.Identifiers.{Id, IsIdentifiers, pieces}
 use Rattle.semver_core.specs.Text.Numbers.{IsNumber}
 use Rattle.nodejs_semver.specs.Npm.Grammar.{IsStrictBuild, has_leading_zero, is_strict_identifier}
@@ -53,17 +53,23 @@ has_zeros (Some M) = nat_lt 0 M
 abbrev pub are_spelled : Bool → List ℕ → Bool
 are_spelled loose ids = if loose then nat_le (length ids) 128 else list_all is_strict_identifier (pieces ids)
 
--- the text begins with a letter
-abbrev pub begins_letter : List ℕ → Bool
-begins_letter text = begins (λ b. nat_le 65 b && nat_le b 90 || nat_le 97 b && nat_le b 122) text
+-- a pre-release may begin so without `-`: with a letter, or with one digit before a dot, which the patch number
+-- does not take, as `4.5` in `1.2.34.5`
+abbrev pub is_letter : ℕ → Bool
+is_letter b = nat_le 65 b && nat_le b 90 || nat_le 97 b && nat_le b 122
 
--- a pre-release: `-` and identifiers joined by dots, or nothing; loosely `-` may be absent before a letter
+abbrev pub begins_undashed : List ℕ → Bool
+begins_undashed [] = false
+begins_undashed (b ∷ rest) = is_letter b
+    || is_ascii_digit b && (begins (λ b. b == 46) rest && begins is_identifier_char (drop 1 rest))
+
+-- a pre-release: `-` and identifiers joined by dots, or nothing; loosely `-` may be absent
 pub data IsPreRelease (loose : Bool) : List ℕ → List Id → Type 0 where
   no_pre_release : IsPreRelease loose [] []
   dashed : (text : List ℕ) (list : List Id) → IsIdentifiers text list → are_spelled loose text ≡ true
       → IsPreRelease loose (codes "-" ++ text) list
-  bare : (text : List ℕ) (list : List Id) → loose ≡ true → begins_letter text ≡ true → IsIdentifiers text list
-      → are_spelled loose text ≡ true → IsPreRelease loose text list
+  bare : (text : List ℕ) (list : List Id) → loose ≡ true → begins_undashed text ≡ true
+      → IsIdentifiers text list → are_spelled loose text ≡ true → IsPreRelease loose text list
 
 -- a pre-release without its `-`
 abbrev pub undashed : List ℕ → List ℕ

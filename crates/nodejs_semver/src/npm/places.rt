@@ -2,8 +2,11 @@
 
 ghost use Rattle.std.specs.Char.{is_ascii_digit};
 ghost use Rattle.std.specs.List.{prefix_len};
-ghost use Rattle.std.specs.Prelude.{◌≡◌, ◌≤◌, ◌&&◌, [], None, false, length, not, true};
-ghost use Rattle.nodejs_semver.specs.Internal.Fronts.{begins_wildcard, front_view, number_front};
+ghost use Rattle.std.specs.Prelude.{◌≡◌, ◌≤◌, ◌&&◌, [], None, Some, drop, false, length, not};
+ghost use Rattle.std.specs.Prelude.{true};
+ghost use Rattle.semver_core.specs.Internal.Reading.{◌>>?◌};
+ghost use Rattle.nodejs_semver.specs.Internal.Fronts.{begins_byte, begins_wildcard};
+ghost use Rattle.nodejs_semver.specs.Internal.Fronts.{front_view, number_front};
 ghost use Rattle.nodejs_semver.specs.Internal.NpmReadings.{begins_padded, strict_number};
 ghost use Rattle.nodejs_semver.specs.Internal.NpmViews.{npm_partial_front_view};
 ghost use Rattle.nodejs_semver.specs.Internal.NpmViews.{npm_partial_some_view};
@@ -17,7 +20,7 @@ ghost use Rattle.semver_core.specs.declared.TheConstants.{MAX_SAFE_INTEGER};
 use crate::npm::partial::Partial;
 use crate::npm::versions::{begins_padded, dashed_front, is_strict_list, strict_number};
 use crate::readers::{build_front, pre_release_front};
-use semver_core::scan::number_in;
+use semver_core::scan::{begins_identifier, number_in};
 use semver_core::{MAX_SAFE_INTEGER, VersionRef};
 
 /// A place of a partial version: a wildcard, a number up to the limit, or a greater one.
@@ -126,6 +129,52 @@ fn dotted_place(loose: bool, zeros: bool, text: &[u8]) -> Option<(Place, &[u8])>
     }
 }
 
+// Whether the third place does not take all digits at the front: loosely the last one before a dot
+// begins a pre-release.
+fn shares_digits(loose: bool, text: &[u8], digits: usize) -> bool
+    requires { digits ≤ length text.now }
+    ensures { result ≡ (loose && begins_byte 46 (drop digits text.now)) }
+{
+    loose && matches!(&text[digits..], [b'.', ..])
+}
+
+// A place that was found, with this text behind it.
+fn with_rest<'a>(found: Option<(Place, &'a [u8])>, rest: &'a [u8]) -> Option<(Place, &'a [u8])>
+    ensures { place_front_view result ≡ (place_front_view found.entry >>? λ p.
+        Some (p.0, rest.now)) }
+{
+    match found {
+        Some((place, _)) => Some((place, rest)),
+        None => None,
+    }
+}
+
+// The third place at the front.
+fn patch_place(loose: bool, zeros: bool, text: &[u8]) -> Option<(Place, &[u8])>
+    ensures { place_front_view result
+        ≡ Spec.placed MAX_SAFE_INTEGER (Spec.patch_place loose zeros text.now) }
+{
+    let digits = digits_len(text);
+    if !shares_digits(loose, text, digits) {
+        return place_front(loose, zeros, text);
+    }
+    let own = digits.saturating_sub(1);
+    with_rest(place_front(loose, zeros, &text[..own]), &text[own..])
+}
+
+// The same behind a dot.
+#[inline(always)]
+#[tactic(auto, unfolding(crate::specs::Internal::NpmWords::dotted_patch))]
+fn dotted_patch(loose: bool, zeros: bool, text: &[u8]) -> Option<(Place, &[u8])>
+    ensures { place_front_view result
+        ≡ Spec.placed MAX_SAFE_INTEGER (Spec.dotted_patch loose zeros text.now) }
+{
+    match text {
+        [b'.', rest @ ..] => patch_place(loose, zeros, rest),
+        _ => None,
+    }
+}
+
 // Whether zero may be several digits behind a major number.
 #[inline(always)]
 fn has_zeros(major: Place) -> bool
@@ -222,12 +271,20 @@ fn may_follow(loose: bool, pre_release: &[u8], build: &[u8]) -> bool
     are_spelled(loose, pre_release) && are_short_identifiers(pre_release) && are_short_builds(build)
 }
 
-// Whether a text begins with a letter.
+// Whether a text begins with one digit before a dot and an identifier.
 #[inline(always)]
-fn begins_letter(text: &[u8]) -> bool
-    ensures { result ≡ Text.begins_letter text.now }
+fn begins_lone_digit(text: &[u8]) -> bool
+    ensures { result ≡ Spec.begins_lone_digit text.now }
 {
-    matches!(text, [b'A'..=b'Z' | b'a'..=b'z', ..])
+    matches!(text, [digit, b'.', behind @ ..] if digit.is_ascii_digit() && begins_identifier(behind))
+}
+
+// Whether a text begins as a pre-release may without `-`.
+#[inline(always)]
+fn begins_undashed(text: &[u8]) -> bool
+    ensures { result ≡ Text.begins_undashed text.now }
+{
+    matches!(text, [b'A'..=b'Z' | b'a'..=b'z', ..]) || begins_lone_digit(text)
 }
 
 // The text of the pre-release at the front, and what stands behind it.
@@ -237,7 +294,7 @@ fn pre_front(loose: bool, text: &[u8]) -> (&[u8], &[u8])
     ensures listed { is_listed result.0.now ≡ true }
     ensures value { pair_view result ≡ Spec.pre_front loose text.now }
 {
-    if loose && begins_letter(text) {
+    if loose && begins_undashed(text) {
         pre_release_front(text)
     } else {
         dashed_front(text)
@@ -271,9 +328,9 @@ fn third_front(loose: bool, major: Place, minor: Place, text: &[u8]) -> Option<(
     ensures { npm_partial_front_view result ≡ Spec.third_counted loose (place_view major)
         (place_view minor) text.now
         (Spec.placed MAX_SAFE_INTEGER
-        (Spec.dotted_place loose (Spec.place_zeros (place_view major)) text.now)) }
+        (Spec.dotted_patch loose (Spec.place_zeros (place_view major)) text.now)) }
 {
-    match dotted_place(loose, has_zeros(major), text) {
+    match dotted_patch(loose, has_zeros(major), text) {
         Some((patch, rest)) => qualified_partial(loose, major, minor, patch, rest),
         None => Some((short_partial(major, minor)?, text)),
     }

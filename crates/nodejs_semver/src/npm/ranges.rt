@@ -198,8 +198,8 @@ pub fn range(
 /// with another malformed word, such as `1.2.`, `1x`, `foo=` or a single `-`, which node-semver
 /// ignores where another word is well formed; zero as several digits where the major number is zero
 /// (`0.00.1`); a number of more than 32 digits; a pre-release of more than 128 characters, or
-/// without its `-` where it does not begin with a letter; and whitespace among the marks of a whole
-/// version in a hyphen range.
+/// without its `-` where it begins with one (`1.2.3-`), or behind a wildcard with a digit; and
+/// whitespace among the marks of a whole version in a hyphen range.
 ///
 /// All else is as for [`range`]: how to ask the range, what it borrows and when allocation fails.
 ///
