@@ -3,3 +3,4 @@ pub mod Printed
 pub mod NpmVersions
 pub mod NpmTexts
 pub mod NpmRanges
+pub mod NpmAlike

@@ -12,7 +12,7 @@ mod printing;
 mod program;
 mod texts;
 
-pub use crate::laws::alike::npm_reads_alike;
+pub use crate::laws::alike::{npm_reads_alike, satisfied_alike};
 pub use crate::laws::builds::order_with_builds;
 pub use crate::laws::diagnosis::{ignored_words_mean_nothing, one_flaw};
 pub use crate::laws::least::build_of_the_least;

@@ -1,10 +1,10 @@
 -- The ends of the spans of both tables, beside their comparators.
-use Rattle.nodejs_semver.proofs.Common.{◌≡◌, ◌≤◌, ◌<◌, ◌+◌, ◌==◌, refl, sym, ap, ap₂, ◌∙◌, ℕ, Bool, true, false, ◌&&◌, ◌||◌, not, List, [], ◌∷◌}
-use Rattle.nodejs_semver.proofs.Common.{arith, and_parts, cases_Bool, eqb-true, inl, inr, is_le, is_gt, nat_tests, list_all, Ordering, VersionValue, and-true}
+use Rattle.nodejs_semver.proofs.Common.{◌≡◌, ◌≤◌, ◌+◌, ◌==◌, refl, sym, ap, ap₂, ◌∙◌, ℕ, Bool, true, false, ◌&&◌, ◌||◌, not, List, [], ◌∷◌}
+use Rattle.nodejs_semver.proofs.Common.{arith, and_parts, cases_Bool, eqb-true, inl, inr, is_le, is_gt, nat_tests, Ordering, VersionValue, and-true}
 use Rattle.nodejs_semver.proofs.Common.{After, Before, Id, Unbounded, is_empty, is_interval, is_release, ◌⊎◌, names, precedence, precedence_total, MAX_SAFE_INTEGER}
 use Rattle.std.specs.Ordering.{is_eq, is_ge, is_lt, nat_cmp, ordering_reverse, ordering_then}
 use Rattle.std.specs.declared.cmp.Ordering.TheVariants.{Equal, Greater}
-use Rattle.std.specs.Prelude.{◌^◌, codes, nat_le}
+use Rattle.std.specs.Prelude.{codes, nat_le}
 use Rattle.std.specs.Str.{bytes_eq}
 use Rattle.semver_core.specs.Internal.Successors.{le_weak, upto_patch, zero_least}
 use Rattle.semver_core.specs.Printing.Text.{version_text}
@@ -13,8 +13,8 @@ use Rattle.semver_core.specs.Values.Order.{pre_cmp, version_eq}
 use Rattle.nodejs_semver.specs.Internal.NpmMeaning.{is_zero}
 use Rattle.nodejs_semver.specs.Npm.Ranges as Npm
 use Rattle.nodejs_semver.specs.Npm.Ranges.{is_valid, satisfies}
-use Rattle.nodejs_semver.specs.Npm.Table.{Comparison, Numbers, counts, from, lowest, made, no_build, release, under}
-use Rattle.nodejs_semver.specs.Text.WordText.{Comparator, above, at_least, at_most, below, equal}
+use Rattle.nodejs_semver.specs.Npm.Table.{Comparison, Numbers, counts, from, lowest, made, release, under}
+use Rattle.nodejs_semver.specs.Text.WordText.{above, at_least, at_most, below}
 use Rattle.nodejs_semver.proofs.Algebra.FlatMaps.{empty_is}
 use Rattle.nodejs_semver.proofs.Algebra.Gate.{in_two_steps, lt_is, triple_cmp}
 use Rattle.nodejs_semver.proofs.Alike.Tests.{Exact, Tame, from_lower, named_by, passed, to_upper}
@@ -26,7 +26,7 @@ use Rattle.nodejs_semver.proofs.Values.{past-after, past-before}
 turned : (r s : Ordering) → r ≡ ordering_reverse s → is_ge r ≡ is_le s
 turned r s e = grind arith
 
-ge_is : (v w : VersionValue) → is_ge (precedence v w) ≡ is_le (precedence w v)
+pub ge_is : (v w : VersionValue) → is_ge (precedence v w) ≡ is_le (precedence w v)
 ge_is v w = turned _ _ (precedence_total.antisymm v w)
 
 empty_upto : (v : VersionValue) → is_release v ≡ true → is_le (pre_cmp [] v.pre_release) ≡ true
@@ -66,7 +66,7 @@ not_ge r = grind arith
 not_gt : (r : Ordering) → not (is_gt r) ≡ is_le r
 not_gt r = grind arith
 
-upper-before : (w v : VersionValue) → to_upper (Before w) v ≡ is_lt (precedence v w)
+pub upper-before : (w v : VersionValue) → to_upper (Before w) v ≡ is_lt (precedence v w)
 upper-before w v = ap not (past-before w v) ∙ not_ge (precedence v w)
 
 pub upper-after : (w v : VersionValue) → to_upper (After w) v ≡ is_le (precedence v w)
@@ -127,7 +127,7 @@ opposite : (a : Bool) → not a ≡ false → a ≡ true
 opposite a h = grind arith
 
 -- `>=` of 0.0.0 alone does not count
-made-zero : (w : VersionValue) → is_valid MAX_SAFE_INTEGER (made at_least w) ≡ true → counts false (made at_least w) ≡ false
+pub made-zero : (w : VersionValue) → is_valid MAX_SAFE_INTEGER (made at_least w) ≡ true → counts false (made at_least w) ≡ false
     → is_zero w ≡ true
 made-zero w h k =
     let (numbers, _) = and_parts ((nat_le w.major MAX_SAFE_INTEGER && nat_le w.minor MAX_SAFE_INTEGER) && nat_le w.patch MAX_SAFE_INTEGER) _ h in
@@ -209,18 +209,21 @@ most-tame v w n h = record {
 then_greater : (r : Ordering) → is_lt (ordering_then r Greater) ≡ is_lt r
 then_greater r = grind arith
 
+pub most_major-numbers : (v : VersionValue) (limit M : ℕ) → v.minor ≤ limit → v.patch ≤ limit
+    → is_le (triple_cmp v (release (M, limit, limit))) ≡ is_lt (ordering_then (triple_cmp v (lowest (M + 1, 0, 0))) Greater)
+most_major-numbers v limit M h k = le_first v.major M _ (le_weak v.minor limit _ h (upto_limit v.patch limit k))
+    ∙ sym (then_greater (triple_cmp v (lowest (M + 1, 0, 0))) ∙ lt_first v.major M _ (zero_not_lt v.minor _ (zero_last v.patch)))
+
 pub most_major-tame : (v : VersionValue) (limit M : ℕ) → v.minor ≤ limit → v.patch ≤ limit
     → Tame v (to_upper (After (release (M, limit, limit))) v) (names (After (release (M, limit, limit))) v) (under (M + 1, 0, 0) ∷ [])
-most_major-tame v limit M h k = most-tame v (M, limit, limit) (M + 1, 0, 0)
-    (le_first v.major M _ (le_weak v.minor limit _ h (upto_limit v.patch limit k))
-    ∙ sym (then_greater (triple_cmp v (lowest (M + 1, 0, 0))) ∙ lt_first v.major M _ (zero_not_lt v.minor _ (zero_last v.patch))))
+most_major-tame v limit M h k = most-tame v (M, limit, limit) (M + 1, 0, 0) (most_major-numbers v limit M h k)
 
-pub most_minor-tame : (v : VersionValue) (limit M m : ℕ) → v.patch ≤ limit
-    → Tame v (to_upper (After (release (M, m, limit))) v) (names (After (release (M, m, limit))) v) (under (M, m + 1, 0) ∷ [])
-most_minor-tame v limit M m k = most-tame v (M, m, limit) (M, m + 1, 0)
-    (both_le (nat_cmp v.major M) (nat_cmp v.minor m) (nat_cmp v.patch limit) (nat_le v.minor m) (le_first v.minor m _ (upto_limit v.patch limit k))
+pub most_minor-numbers : (v : VersionValue) (limit M m : ℕ) → v.patch ≤ limit
+    → is_le (triple_cmp v (release (M, m, limit))) ≡ is_lt (ordering_then (triple_cmp v (lowest (M, m + 1, 0))) Greater)
+most_minor-numbers v limit M m k =
+    both_le (nat_cmp v.major M) (nat_cmp v.minor m) (nat_cmp v.patch limit) (nat_le v.minor m) (le_first v.minor m _ (upto_limit v.patch limit k))
     ∙ sym (then_greater (triple_cmp v (lowest (M, m + 1, 0)))
-    ∙ both_lt (nat_cmp v.major M) (nat_cmp v.minor (m + 1)) (nat_cmp v.patch 0) (nat_le v.minor m) (lt_first v.minor m _ (zero_last v.patch))))
+    ∙ both_lt (nat_cmp v.major M) (nat_cmp v.minor (m + 1)) (nat_cmp v.patch 0) (nat_le v.minor m) (lt_first v.minor m _ (zero_last v.patch)))
   where
     both_le : (r s t : Ordering) (b : Bool) → is_le (ordering_then s t) ≡ b
         → is_le (ordering_then r (ordering_then s t)) ≡ (is_lt r || (is_eq r && b))
@@ -229,6 +232,10 @@ most_minor-tame v limit M m k = most-tame v (M, m, limit) (M, m + 1, 0)
     both_lt : (r s t : Ordering) (b : Bool) → is_lt (ordering_then s t) ≡ b
         → is_lt (ordering_then r (ordering_then s t)) ≡ (is_lt r || (is_eq r && b))
     both_lt r s t b h = grind arith
+
+pub most_minor-tame : (v : VersionValue) (limit M m : ℕ) → v.patch ≤ limit
+    → Tame v (to_upper (After (release (M, m, limit))) v) (names (After (release (M, m, limit))) v) (under (M, m + 1, 0) ∷ [])
+most_minor-tame v limit M m k = most-tame v (M, m, limit) (M, m + 1, 0) (most_minor-numbers v limit M m k)
 
 -- ---- whole versions
 

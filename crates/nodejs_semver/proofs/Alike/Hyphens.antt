@@ -1,5 +1,5 @@
 -- Hyphen ranges: their ends, and both together.
-use Rattle.nodejs_semver.proofs.Common.{◌≡◌, ◌+◌, ◌⊎◌, refl, sym, ap, ap₂, ◌∙◌, subst, ℕ, Bool, true, false, ◌&&◌, ◌||◌, not, List, []}
+use Rattle.nodejs_semver.proofs.Common.{◌≡◌, ◌+◌, ◌⊎◌, refl, sym, ◌∙◌, subst, ℕ, Bool, true, false, ◌&&◌, ◌||◌, not, List, []}
 use Rattle.nodejs_semver.proofs.Common.{◌∷◌, ◌++◌, Option, Some, None, arith, and_parts, cases_Bool, first_so, inl, inr, is_empty, list_all}
 use Rattle.nodejs_semver.proofs.Common.{After, Before, Bound, Id, MAX_SAFE_INTEGER, Partial, Span, VersionValue, hyphen, interval}
 use Rattle.nodejs_semver.proofs.Common.{is_interval, is_release, list_all-append, names, precedence, table}

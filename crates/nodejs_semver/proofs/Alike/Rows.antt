@@ -1,20 +1,19 @@
 -- The rows of both tables, sign by sign.
-use Rattle.nodejs_semver.proofs.Common.{◌≡◌, ◌+◌, refl, sym, ap, ap₂, ◌∙◌, subst, ℕ, zero, suc, Bool, true, false, ◌&&◌, ◌||◌, not, List, []}
-use Rattle.nodejs_semver.proofs.Common.{◌∷◌, ◌++◌, Option, Some, None, arith, and_parts, cases_Bool, first_so, inl, inr, is_empty, list_all}
+use Rattle.nodejs_semver.proofs.Common.{◌≡◌, ◌+◌, refl, sym, ap, ap₂, ◌∙◌, subst, ℕ, zero, suc, Bool, true, false, ◌&&◌, ◌||◌, List, []}
+use Rattle.nodejs_semver.proofs.Common.{◌∷◌, ◌++◌, Option, Some, None, arith, cases_Bool, first_so, inl, inr, is_empty, list_all}
 use Rattle.nodejs_semver.proofs.Common.{After, Before, Bound, Id, MAX_SAFE_INTEGER, Partial, Span, Unbounded, VersionValue, is_release}
 use Rattle.nodejs_semver.proofs.Common.{names, precedence, table, nat_tests, ◌==◌}
-use Rattle.std.specs.Ordering.{is_eq, is_ge, is_le}
+use Rattle.std.specs.Ordering.{is_eq}
 use Rattle.std.specs.Prelude.{codes}
-use Rattle.std.specs.Str.{bytes_eq}
 use Rattle.std.proofs.lemmas.Slice.Eq.{bytes_eq-Decides}
 use Rattle.nodejs_semver.specs.Internal.Fronts.{Front, build_front}
 use Rattle.nodejs_semver.specs.Internal.NpmMeaning.{is_zero}
 use Rattle.nodejs_semver.specs.Internal.NpmReadings.{dashed_front}
 use Rattle.semver_core.specs.Text.Identifiers.{listed}
 use Rattle.nodejs_semver.specs.Internal.NpmWords.{partial_front, place_front, dotted_place, qualified_partial, pre_front}
-use Rattle.nodejs_semver.specs.Npm.Alike.{IsPlainPartial, IsPlainWord, IsWithin, bare, is_plain, may_have, npm_partial, signed, word_of}
+use Rattle.nodejs_semver.specs.Npm.Alike.{IsPlainWord, IsWithin, bare, is_plain, may_have, signed, word_of}
 use Rattle.nodejs_semver.specs.Npm.RangeText.{IsPartial, partial_of}
-use Rattle.nodejs_semver.specs.Npm.Ranges.{is_valid, satisfies}
+use Rattle.nodejs_semver.specs.Npm.Ranges.{is_valid}
 use Rattle.nodejs_semver.specs.Npm.Table as Npm
 use Rattle.nodejs_semver.specs.Npm.Table.{Comparison, Numbers, Sign, compared, counts, from, lowest, made, minor, next_changed, release, under, whole}
 use Rattle.nodejs_semver.specs.Text.WordText.{Word, above, at_least, at_most, below, equal, plain}

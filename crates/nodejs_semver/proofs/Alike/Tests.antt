@@ -1,6 +1,6 @@
 -- A version and a span, and what it says of a list of comparators: two ends of a span, each beside comparators.
-use Rattle.nodejs_semver.proofs.Common.{◌≡◌, refl, sym, ap, ap₂, ◌∙◌, Bool, true, false, ◌&&◌, ◌||◌, not, List, [], ◌∷◌, ◌++◌}
-use Rattle.nodejs_semver.proofs.Common.{arith, cases_Bool, inl, inr, list_all, list_any, list_all-append, list_any-append, VersionValue}
+use Rattle.nodejs_semver.proofs.Common.{◌≡◌, sym, ap, ap₂, ◌∙◌, Bool, true, false, ◌&&◌, ◌||◌, not, List, ◌++◌}
+use Rattle.nodejs_semver.proofs.Common.{arith, list_all, list_any, list_all-append, list_any-append, VersionValue}
 use Rattle.nodejs_semver.proofs.Common.{Bound, Span, holds, is_past, is_release, lets_in, lower_cut, names, precedence, upper_cut}
 use Rattle.std.proofs.lemmas.List.Elements.{filter-append}
 use Rattle.std.specs.List.{filter}

@@ -1,9 +1,10 @@
 -- Plain texts: what they mean here, their alternatives to node-semver, and that both accept the same versions.
 use Rattle.nodejs_semver.proofs.Common.{◌≡◌, refl, sym, ap, ap₂, ◌∙◌, subst, ℕ, Bool, true, false, ◌&&◌, ◌||◌, not, List, [], ◌∷◌, ◌++◌}
-use Rattle.nodejs_semver.proofs.Common.{AllByRecursion, AreCommonParts, IsBlank, IsSign, IsTrim, IsUtf8, MAX_SAFE_INTEGER, Some, Span, Word}
-use Rattle.nodejs_semver.proofs.Common.{VersionValue, accepts, append-nil, append_assoc, arith, begins, cases_Bool, first_so, holds, inl}
+use Rattle.nodejs_semver.proofs.Common.{AllByRecursion, AreCommonParts, IsBlank, IsSign, IsTrim, IsUtf8, MAX_SAFE_INTEGER, Span, Word}
+use Rattle.nodejs_semver.proofs.Common.{VersionValue, accepts, append-nil, append_assoc, arith, cases_Bool, first_so, inl}
 use Rattle.std.proofs.Common.{lit<}
-use Rattle.nodejs_semver.proofs.Common.{inr, is_empty, is_release, lets_in, list_all, list_any, precedence, second_so, trim, ◌==◌}
+use Rattle.nodejs_semver.proofs.Common.{length, ◌<◌}
+use Rattle.nodejs_semver.proofs.Common.{inr, is_empty, is_release, list_all, list_any, second_so, trim}
 use Rattle.std.specs.Char.{encode_utf8}
 use Rattle.std.specs.List.{filter}
 use Rattle.std.specs.Prelude.{codes}
@@ -14,7 +15,7 @@ use Rattle.nodejs_semver.specs.Npm.Alike.{one, one_word, signed, two_words}
 use Rattle.nodejs_semver.specs.Npm.RangeText as Npm
 use Rattle.nodejs_semver.specs.Npm.RangeText.{AreAlternatives, AreEndMarks, IsAlternative, IsSignText, is_free_lower, is_free_upper, IsWord, are_marks, next, none, spelling}
 use Rattle.nodejs_semver.specs.Npm.Ranges as Ranges
-use Rattle.nodejs_semver.specs.Npm.Ranges.{HasAlternatives, is_valid, meets}
+use Rattle.nodejs_semver.specs.Npm.Ranges.{HasAlternatives, IsRangeOf, is_valid, meets}
 use Rattle.nodejs_semver.specs.Npm.Table as Table
 use Rattle.nodejs_semver.specs.Npm.Table.{Comparison, Sign, compared, counts, major, minor, whole, wildcard}
 use Rattle.nodejs_semver.specs.Text.Common as Common
@@ -25,15 +26,15 @@ use Rattle.nodejs_semver.specs.Text.WordText.{Comparator, above, above_sign, at_
 use Rattle.nodejs_semver.specs.Text.WordText.{below_sign, equal, equal_sign}
 use Rattle.nodejs_semver.proofs.Algebra.FlatMaps.{any_weaker}
 use Rattle.nodejs_semver.proofs.Alike.Hyphens.{between-good}
-use Rattle.nodejs_semver.proofs.Alike.Pairs.{two-good}
+use Rattle.nodejs_semver.proofs.Alike.Beside.{two-good}
 use Rattle.nodejs_semver.proofs.Alike.Rows.{Good, SameWord, word-good}
-use Rattle.nodejs_semver.proofs.Alike.Tests.{Released}
 use Rattle.nodejs_semver.proofs.Dividing.BarsDivide.{bars_divide}
 use Rattle.nodejs_semver.proofs.Dividing.MeaningLaw as meaning
 use Rattle.nodejs_semver.proofs.Dividing.MeaningLaw.{pieces-utf8}
 use Rattle.nodejs_semver.proofs.Everyday.Words.{Compact, is_part_byte}
-use Rattle.nodejs_semver.proofs.Everyday.Texts.{common_parts_are_denoted, compact-trim, cut-first, cut-last, part-tidy}
+use Rattle.nodejs_semver.proofs.Everyday.Texts.{common_parts_are_denoted, compact-trim, cut-first, cut-last, list-some, part-tidy}
 use Rattle.nodejs_semver.proofs.Reading.Bytes.{all-join}
+use Rattle.nodejs_semver.proofs.Strict.Once.{alternatives_once}
 use Rattle.nodejs_semver.proofs.Strict.Rows.{either_true}
 
 -- ---- here
@@ -246,3 +247,24 @@ plain-same text list all v h w =
       | inl r ↦ any_weaker is_bare (alternative_accepts v) (bare-accepts v r) all e ∙ sym r
       | inr r ↦ each-released h.pre v text list all w h.divided h.valid (closed h.pre (list_any is_bare all) e h.counted) r ∙ sym r
     ]
+
+-- one interval or more
+list-filled : (text : List ℕ) (list : List (Span VersionValue)) (all : List (List Comparison))
+    → IsPlainText MAX_SAFE_INTEGER text list all → 0 < length list
+list-filled text list all h = list-some MAX_SAFE_INTEGER text list (parts-common MAX_SAFE_INTEGER h.pre text list all h.divided)
+
+pub plain-read : (text : List ℕ) (list : List (Span VersionValue)) (all : List (List Comparison)) → IsUtf8 text
+    → IsPlainText MAX_SAFE_INTEGER text list all → Means MAX_SAFE_INTEGER text list × (0 < length list)
+plain-read text list all u h = (plain-means text list all u h, list-filled text list all h)
+
+-- the ranges of both readings accept the same
+pub accepted-alike : (text : List ℕ) (here there : List (Span VersionValue)) (v : VersionValue) → IsUtf8 text
+    → Means MAX_SAFE_INTEGER text here → IsRangeOf MAX_SAFE_INTEGER false text there → (list : List (Span VersionValue))
+    (all : List (List Comparison)) → IsPlainText MAX_SAFE_INTEGER text list all → IsWithin MAX_SAFE_INTEGER v
+    → accepts here v false ≡ accepts there v false
+accepted-alike text here there v u m r list all h w =
+    ap (λ l. accepts l v false) (meaning.same_meaning MAX_SAFE_INTEGER text here list u m (plain-means text list all u h))
+    ∙ plain-same text list all v h w
+    ∙ ap (λ l. Ranges.accepts false l v)
+    (alternatives_once false MAX_SAFE_INTEGER false text all r.alternatives u (plain-has text list all u h) r.has)
+    ∙ sym (r.accepted v)

@@ -1,11 +1,11 @@
 -- Statement: range texts that mean the same here and to node-semver's strict reading.
-use Rattle.std.specs.Prelude.{◌≡◌, ◌≤◌, ◌&&◌, ◌||◌, not, ℕ, Bool, true, false, List, [], ◌∷◌, ◌++◌, Some, None}
+use Rattle.std.specs.Prelude.{◌≡◌, ◌==◌, ◌≤◌, ◌&&◌, ◌||◌, not, ℕ, Bool, true, false, List, [], ◌∷◌, ◌++◌, Some, None}
 use Rattle.std.specs.Prelude.{codes, is_some}
 use Rattle.std.specs.List.{list_all, list_any}
 use Rattle.semver_core.specs.Cuts.{Span, meet}
 use Rattle.semver_core.specs.Lists.{is_empty}
 use Rattle.semver_core.specs.Values.Order.{precedence, version_eq}
-use Rattle.semver_core.specs.Values.Versions.{VersionValue, release_value}
+use Rattle.semver_core.specs.Values.Versions.{VersionValue, is_release, release_value}
 use Rattle.nodejs_semver.specs.Npm.RangeText.{IsPartial, partial_of, spelling}
 use Rattle.nodejs_semver.specs.Npm.Ranges.{is_valid}
 use Rattle.nodejs_semver.specs.Npm.Table as Npm
@@ -57,13 +57,15 @@ pub data IsPlainWord (limit : ℕ) (pre : Bool) : List ℕ → Word → List Com
   signed : (s : Sign) (text : List ℕ) (p : Partial) → IsPlainPartial limit pre text p → may_have s p ≡ true
       → IsPlainWord limit pre (spelling s ++ text) (word_of s p) (Npm.table false s (npm_partial p) text)
 
--- of two comparators beside each other neither is of a pre-release, or both are of three numbers that are not
--- 0.0.0
+-- three numbers that are not 0.0.0, with what stands behind them
 abbrev pub is_firm : Partial → Bool
 is_firm p = is_some p.patch && not (version_eq (version_of p) (release_value 0 0 0))
 
-abbrev pub are_apart : Partial → Partial → Bool
-are_apart p q = (is_empty p.pre_release && is_empty q.pre_release) || (is_firm p && is_firm q)
+-- a comparator of q may stand beside one of p: q is no pre-release of M.0.0 or M.m.0 where p is M or M.m, and
+-- none of 0.0.0 where p is 0.0.0
+abbrev pub is_apart : Partial → Partial → Bool
+is_apart p q = let v = version_of p in let w = version_of q in is_firm p
+    || not (not (is_release w) && ((v.major == w.major) && ((v.minor == w.minor) && (v.patch == w.patch))))
 
 -- an alternative, its interval here, and its comparators to node-semver: one word, two comparisons that meet, or
 -- a hyphen range
@@ -73,7 +75,7 @@ pub data IsPlainAlternative (limit : ℕ) (pre : Bool) : List ℕ → Span Versi
   two_words : (c d : Comparator) (x y : List ℕ) (p q : Partial) (s t both : Span VersionValue)
       → IsPlainPartial limit pre x p → may_have (compared c) p ≡ true → table limit (compare c p) ≡ Some s
       → IsPlainPartial limit pre y q → may_have (compared d) q ≡ true → table limit (compare d q) ≡ Some t
-      → meet precedence s t ≡ Some both → are_apart p q ≡ true → IsPlainAlternative limit pre
+      → meet precedence s t ≡ Some both → (is_apart p q && is_apart q p) ≡ true → IsPlainAlternative limit pre
       ((spelling (compared c) ++ x) ++ (codes " " ++ (spelling (compared d) ++ y))) both
       (Npm.table false (compared c) (npm_partial p) x ++ Npm.table false (compared d) (npm_partial q) y)
   between : (x y : List ℕ) (p q : Partial) (s : Span VersionValue) → IsPlainPartial limit pre x p

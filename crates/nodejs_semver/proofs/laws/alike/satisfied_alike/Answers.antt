@@ -1,0 +1,9 @@
+use Rattle.nodejs_semver.proofs.Common.{◌∙◌, sym}
+use Rattle.nodejs_semver.proofs.Alike.Texts.{accepted-alike}
+use Rattle.nodejs_semver.proofs.laws.alike.satisfied_alike.Goals as goal
+
+pub returns-clause-same : goal.returns-clause-same
+returns-clause-same c = λ list all h w.
+    c.satisfies.ensures.gate
+    ∙ accepted-alike c.args.text.now _ _ c.args.version.now c.utf8.text c.in_ok-here.ensures.ok c.in_ok-there.ensures.ok list all h w
+    ∙ sym c.satisfies-2.ensures.gate
