@@ -1,7 +1,14 @@
 // The set algebra of ranges.
 
-ghost use Rattle.std.specs.Prelude.{◌≡◌, ◌<◌, ◌⊎◌, ◌&&◌, ◌||◌, not, true, false, unwrap_or};
+ghost use Rattle.std.specs.Prelude.{◌≡◌, ◌<◌, ◌⊎◌, ◌&&◌, ◌||◌, ◌+◌, not, true, false, unwrap_or};
 ghost use Rattle.std.specs.Prelude.{IfOk, OnErr, IsTrue, is_some, [], length};
+ghost use Rattle.std.specs.List.{list_all};
+ghost use Rattle.std.specs.Option.{option_to_list};
+ghost use Rattle.nodejs_semver.specs.Internal.Sets.{is_range_span};
+ghost use Rattle.nodejs_semver.specs.Internal.Shorthands.{spans_of};
+ghost use Rattle.semver_core.specs.Cuts.{meet};
+ghost use Rattle.semver_core.specs.Lists.{if_any};
+ghost use Rattle.semver_core.specs.declared.TheConstants.{MAX_SAFE_INTEGER};
 ghost use Rattle.semver_core.specs.Values.Order.{precedence};
 ghost use Rattle.semver_core.specs.Values.Versions.{VersionValue, is_release};
 ghost use Rattle.nodejs_semver.specs.Ranges.Gate.{accepts};
@@ -11,6 +18,7 @@ ghost use Rattle.nodejs_semver.specs.Ranges.Algebra.{list_holds};
 use crate::range::interval_lists;
 use crate::{Range, RangeOf, RangeRef};
 use semver_core::VersionPoint;
+use semver_core::cuts::Interval;
 use smallvec::SmallVec;
 use std::alloc::{AllocError, Global};
 
@@ -121,9 +129,7 @@ impl<V: VersionPoint> RangeOf<V> {
             if !one.meets(another) {
                 return Ok(None);
             }
-            let mut found = SmallVec::new(alloc);
-            interval_lists::push_common(alloc, &mut found, one, another, 1)?;
-            return Ok(RangeOf::from_intervals(found));
+            return common_of_two(alloc, one, another);
         }
         let mut found = SmallVec::new(alloc);
         interval_lists::push_all_intersections(alloc, &mut found, these, others)?;
@@ -140,6 +146,26 @@ impl<V: VersionPoint> RangeOf<V> {
         interval_lists::push_differences(alloc, &mut left, self.items(), other.items())?;
         Ok(RangeOf::from_intervals(left))
     }
+}
+
+// The range of what two intervals have in common, made where it goes, and out of the function that
+// first asks whether they meet. A push onto an empty list would drop what filled its place.
+#[inline(never)]
+fn common_of_two<V: VersionPoint>(
+    alloc: Global,
+    one: &Interval<V>,
+    another: &Interval<V>,
+) -> Result<Option<RangeOf<V>>, AllocError>
+    requires { list_all (is_range_span (MAX_SAFE_INTEGER + 1))
+        (spans_of V.value (option_to_list (meet V.cmp one.now another.now))) ≡ true }
+    ensures list { IfOk result (λ r. r
+        ≡ if_any (spans_of V.value (option_to_list (meet V.cmp one.now another.now)))) }
+    ensures memory { OnErr result (IsTrue (is_some (meet V.cmp one.now another.now))) }
+{
+    let Some(both) = one.intersect(alloc, another)? else {
+        return Ok(None);
+    };
+    Ok(RangeOf::from_intervals(SmallVec::from_buf(alloc, [both])))
 }
 
 impl Range {

@@ -17,7 +17,9 @@ use semver_core::cuts::{Interval, Point};
 use smallvec::SmallVec;
 use std::alloc::{AllocError, Global};
 
-/// Puts the intersections of all pairs at the end, the first list outside.
+/// Puts the intersections of all pairs at the end, the first list outside. Inlined into `common`,
+/// the loop over the pairs would cost an intersection of single intervals some 40 instructions.
+#[inline(never)]
 pub(crate) fn push_all_intersections<V: Point>(
     alloc: Global,
     found: &mut Intervals<V>,
@@ -114,7 +116,7 @@ fn push_intersections<V: Point>(
 
 // Out of the loop over the pairs, which then keeps no interval of its own.
 #[inline(never)]
-pub(crate) fn push_common<V: Point>(
+fn push_common<V: Point>(
     alloc: Global,
     found: &mut Intervals<V>,
     interval: &Interval<V>,

@@ -7,6 +7,7 @@ use crate::cuts::bound::Bound;
 use std::cmp::Ordering;
 
 /// The order of two lower cuts.
+#[inline(always)]
 pub(crate) fn lower_order<V: Ord>(a: &Bound<V>, b: &Bound<V>) -> Ordering
     ensures { result ≡ cut_cmp V.cmp (lower_cut a.now) (lower_cut b.now) }
 {
@@ -22,6 +23,7 @@ pub(crate) fn lower_order<V: Ord>(a: &Bound<V>, b: &Bound<V>) -> Ordering
 }
 
 /// The order of two upper cuts.
+#[inline(always)]
 pub(crate) fn upper_order<V: Ord>(a: &Bound<V>, b: &Bound<V>) -> Ordering
     ensures { result ≡ cut_cmp V.cmp (upper_cut a.now) (upper_cut b.now) }
 {
@@ -37,6 +39,7 @@ pub(crate) fn upper_order<V: Ord>(a: &Bound<V>, b: &Bound<V>) -> Ordering
 }
 
 /// Whether the cut of a lower bound is below that of an upper one.
+#[inline(always)]
 pub(crate) fn is_below<V: Ord>(lower: &Bound<V>, upper: &Bound<V>) -> bool
     ensures { result ≡ is_lt (cut_cmp V.cmp (lower_cut lower.now) (upper_cut upper.now)) }
 {
@@ -49,7 +52,16 @@ pub(crate) fn is_below<V: Ord>(lower: &Bound<V>, upper: &Bound<V>) -> bool
     }
 }
 
+/// `is_below` as a call: inlined into the readers of range texts it cost them up to 6 %.
+#[inline(never)]
+pub(crate) fn lies_below<V: Ord>(lower: &Bound<V>, upper: &Bound<V>) -> bool
+    ensures { result ≡ is_lt (cut_cmp V.cmp (lower_cut lower.now) (upper_cut upper.now)) }
+{
+    is_below(lower, upper)
+}
+
 /// The lower bound that is further up; on a tie, the second.
+#[inline(always)]
 pub(crate) fn greater_lower<'b, V: Ord>(a: &'b Bound<V>, b: &'b Bound<V>) -> &'b Bound<V>
     ensures { result.now ≡ greater_lower V.cmp a.now b.now }
 {
@@ -57,6 +69,7 @@ pub(crate) fn greater_lower<'b, V: Ord>(a: &'b Bound<V>, b: &'b Bound<V>) -> &'b
 }
 
 /// The upper bound that is further down; on a tie, the first.
+#[inline(always)]
 pub(crate) fn lesser_upper<'b, V: Ord>(a: &'b Bound<V>, b: &'b Bound<V>) -> &'b Bound<V>
     ensures { result.now ≡ lesser_upper V.cmp a.now b.now }
 {

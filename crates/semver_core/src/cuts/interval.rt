@@ -7,8 +7,8 @@ ghost use Rattle.semver_core.specs.Cuts.{meet, option_holds, remainders, upper_c
 
 use crate::cuts::bound::{Bound, Point};
 use crate::cuts::cut_order::{
-    greater_lower, into_greater_lower, into_lesser_upper, is_below, lesser_upper, lower_order,
-    upper_order,
+    greater_lower, into_greater_lower, into_lesser_upper, is_below, lesser_upper, lies_below,
+    lower_order, upper_order,
 };
 use std::alloc::{AllocError, Global};
 use std::marker::Model;
@@ -88,7 +88,7 @@ impl<V: Point> Interval<V> {
     pub fn new(lower: Bound<V>, upper: Bound<V>) -> Option<Interval<V>>
         ensures { result ≡ interval V.cmp (record { lower = lower; upper = upper }) }
     {
-        if is_below(&lower, &upper) {
+        if lies_below(&lower, &upper) {
             Some(Interval { lower, upper })
         } else {
             None
@@ -149,7 +149,7 @@ impl<V: Point> Interval<V> {
         ensures { result
             ≡ is_lt (cut_cmp V.cmp (lower_cut other.now.lower) (upper_cut self.now.upper)) }
     {
-        is_below(&other.lower, &self.upper)
+        lies_below(&other.lower, &self.upper)
     }
 
     /// Whether the two have an interval in common, whether it contains a point or not.

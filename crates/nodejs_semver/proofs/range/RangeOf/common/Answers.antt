@@ -1,4 +1,4 @@
-use Rattle.nodejs_semver.proofs.Common.{ap, arith, if_any, length, on_err, spans_of, subst, sym, ◌<◌, ◌∙◌}
+use Rattle.nodejs_semver.proofs.Common.{IfOk-weaker, ap, arith, if_any, length, on_err, on_err_weaker, spans_of, subst, sym, ◌<◌, ◌∙◌}
 use Rattle.nodejs_semver.proofs.Algebra.Clauses.{listed_none, listed_some, meets_of-is, meets_of-lone, meets_of-some}
 use Rattle.nodejs_semver.proofs.Algebra.Clauses.{meets_of-valid}
 use Rattle.nodejs_semver.proofs.range.RangeOf.common.Goals as goal
@@ -11,44 +11,45 @@ returns-then-not-meets-clause-list g c =
     c.items-these.ensures.valid c.items-others.ensures.valid c.items-these.ensures.value c.items-others.ensures.value in
     ap if_any (ap (spans_of g.V.Versioned.value) (sym (lone ∙ listed_none _ _ c.meets.ensures c.if-not-meets.true)) ∙ is)
 
-pub from_intervals-requires : goal.from_intervals-requires
-from_intervals-requires g c =
+pub common_of_two-requires : goal.common_of_two-requires
+common_of_two-requires g c =
     let lone = meets_of-lone g.V.Ord.cmp c.items-these.result.now c.items-others.result.now c.index-these-0.result c.index-others-0.result
     (omega arith) (omega arith) c.index-these-0.is c.index-others-0.is in
     let valid = meets_of-valid _ _ g.met.V.VersionPoint.ordered _ _ _ _
     c.items-these.ensures.valid c.items-others.ensures.valid c.items-these.ensures.value c.items-others.ensures.value in
-    (omega arith, (omega arith, rw (rw c.new-found.ensures.items at c.in_ok-push_common.ensures.items, sym lone) valid))
-
-pub returns-in_err-push_common-clause-memory : goal.returns-in_err-push_common-clause-memory
-returns-in_err-push_common-clause-memory g c =
-    let lone = meets_of-lone g.V.Ord.cmp c.items-these.result.now c.items-others.result.now c.index-these-0.result c.index-others-0.result
-    (omega arith) (omega arith) c.index-these-0.is c.index-others-0.is in
-    on_err c.from_residual.result (meets_of-some _ _ g.met.V.VersionPoint.ordered _ _ _ _
-    c.items-these.ensures.valid c.items-others.ensures.valid c.items-these.ensures.value c.items-others.ensures.value
-    (subst (λ l. 0 < length l) (sym lone) (listed_some _ c.in_err-push_common.ensures.memory)))
-
-pub from_intervals-requires-2 : goal.from_intervals-requires-2
-from_intervals-requires-2 g c =
-    let valid = meets_of-valid _ _ g.met.V.VersionPoint.ordered _ _ _ _
-    c.items-these.ensures.valid c.items-others.ensures.valid c.items-these.ensures.value c.items-others.ensures.value in
-    (omega arith, (omega arith, rw (rw c.new-found-2.ensures.items at c.in_ok-push_all_intersections.ensures.items) valid))
+    (omega arith, rw (sym lone) valid)
 
 pub returns-then-others-eq1-clause-list : goal.returns-then-others-eq1-clause-list
 returns-then-others-eq1-clause-list g c =
     let lone = meets_of-lone g.V.Ord.cmp c.items-these.result.now c.items-others.result.now c.index-these-0.result c.index-others-0.result
     (omega arith) (omega arith) c.index-these-0.is c.index-others-0.is in
-    let items = rw c.new-found.ensures.items at c.in_ok-push_common.ensures.items in
-    rw (c.from_intervals.ensures, items, sym lone) (ap if_any (meets_of-is _ _ g.met.V.VersionPoint.ordered _ _ _ _
-    c.items-these.ensures.valid c.items-others.ensures.valid c.items-these.ensures.value c.items-others.ensures.value))
+    let is = meets_of-is _ _ g.met.V.VersionPoint.ordered _ _ _ _
+    c.items-these.ensures.valid c.items-others.ensures.valid c.items-these.ensures.value c.items-others.ensures.value in
+    IfOk-weaker c.common_of_two.result _ _ (λ r e. e ∙ ap if_any (ap (spans_of g.V.Versioned.value) (sym lone) ∙ is))
+    c.common_of_two.ensures.list
+
+pub returns-then-others-eq1-clause-memory : goal.returns-then-others-eq1-clause-memory
+returns-then-others-eq1-clause-memory g c =
+    let lone = meets_of-lone g.V.Ord.cmp c.items-these.result.now c.items-others.result.now c.index-these-0.result c.index-others-0.result
+    (omega arith) (omega arith) c.index-these-0.is c.index-others-0.is in
+    on_err_weaker c.common_of_two.result (λ e. meets_of-some _ _ g.met.V.VersionPoint.ordered _ _ _ _
+    c.items-these.ensures.valid c.items-others.ensures.valid c.items-these.ensures.value c.items-others.ensures.value
+    (subst (λ l. 0 < length l) (sym lone) (listed_some _ e))) c.common_of_two.ensures.memory
+
+pub from_intervals-requires : goal.from_intervals-requires
+from_intervals-requires g c =
+    let valid = meets_of-valid _ _ g.met.V.VersionPoint.ordered _ _ _ _
+    c.items-these.ensures.valid c.items-others.ensures.valid c.items-these.ensures.value c.items-others.ensures.value in
+    (omega arith, (omega arith, rw (rw c.new-found.ensures.items at c.in_ok-push_all_intersections.ensures.items) valid))
 
 pub returns-clause-list : goal.returns-clause-list
 returns-clause-list g c =
-    let items = rw c.new-found-2.ensures.items at c.in_ok-push_all_intersections.ensures.items in
-    rw (c.from_intervals-2.ensures, items) (ap if_any (meets_of-is _ _ g.met.V.VersionPoint.ordered _ _ _ _
+    let items = rw c.new-found.ensures.items at c.in_ok-push_all_intersections.ensures.items in
+    rw (c.from_intervals.ensures, items) (ap if_any (meets_of-is _ _ g.met.V.VersionPoint.ordered _ _ _ _
     c.items-these.ensures.valid c.items-others.ensures.valid c.items-these.ensures.value c.items-others.ensures.value))
 
 pub returns-in_err-push_all_intersections-clause-memory : goal.returns-in_err-push_all_intersections-clause-memory
 returns-in_err-push_all_intersections-clause-memory g c =
-    on_err c.from_residual-in_err-push_all_intersections.result (meets_of-some _ _ g.met.V.VersionPoint.ordered _ _ _ _
+    on_err c.from_residual.result (meets_of-some _ _ g.met.V.VersionPoint.ordered _ _ _ _
     c.items-these.ensures.valid c.items-others.ensures.valid c.items-these.ensures.value c.items-others.ensures.value
     c.in_err-push_all_intersections.ensures.memory)
