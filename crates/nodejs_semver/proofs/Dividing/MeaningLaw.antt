@@ -38,10 +38,8 @@ words-once limit text list u h (next_word b rest behind next word others is skip
     let v = word-utf8 limit (b ∷ rest) word behind u is in
     let left : drop_spaces behind ≡ next = skips-of behind next v skipped in
     let dark : space_len next ≡ 0 = subst (λ (t : List ℕ). space_len t ≡ 0) left (spaces-gone 0 behind) in
-    let same : others ≡ words limit (drop_spaces behind) =
-    words-once limit next others (skips-utf8 behind next skipped v) dark more ∙ ap (λ (t : List ℕ). words limit t) (sym left) in
-    ap (λ (l : List Word). word ∷ l) same ∙ (ap (λ (r : Word × List ℕ). r.0 ∷ words limit (drop_spaces r.1)) (sym read)
-    ∙ sym (words-step limit (b ∷ rest) (omega arith) h))
+    let step = rw (read, left) at (words-step limit (b ∷ rest) (omega arith) h) in
+    cc (step, words-once limit next others (skips-utf8 behind next skipped v) dark more)
 
 words-read : (limit n : ℕ) (text : List ℕ) → IsUtf8 text → space_len text ≡ 0 → length text ≤ n → AreWords limit text (words limit text)
 words-read limit n [] u h l = subst (λ (list : List Word). AreWords limit [] list) (sym (words-none limit [] refl)) no_word
