@@ -15,6 +15,7 @@ ghost use Rattle.semver_core.specs.declared.TheConstants.{MAX_SAFE_INTEGER};
 use crate::npm::loose_versions::number;
 use crate::npm::places::digits_len;
 use crate::npm::versions::strict_number;
+use crate::readers;
 use semver_core::{MAX_SAFE_INTEGER, VersionRef};
 
 // How long the run of 1 to 16 digits at the front is, and 0 where none stands there.
@@ -41,7 +42,7 @@ fn dotted_len(text: &[u8]) -> usize
 }
 
 // How long the longest tuple at the front is, and 0 where none stands there.
-#[tactic(auto, using(std::proofs::lemmas::List::take_rest), unfolding(crate::specs::Internal::NpmTuples::tuple_len))]
+#[tactic(auto, unfolding(crate::specs::Internal::NpmTuples::tuple_len))]
 fn tuple_len(text: &[u8]) -> usize
     ensures value { result ≡ Spec.tuple_len text.now }
     ensures fits { result ≤ length text.now }
@@ -139,14 +140,14 @@ fn next_number(zeros: bool, text: &[u8]) -> Option<(u64, &[u8])>
 }
 
 // The release that a tuple spells.
-#[tactic(auto, using(crate::proofs::Reading::IdentifierLists::short_lists), unfolding(crate::specs::Internal::NpmTuples::tuple_release))]
+#[tactic(auto, unfolding(crate::specs::Internal::NpmTuples::tuple_release))]
 fn release(zeros: bool, tuple: &[u8]) -> Option<VersionRef<'_>>
     ensures { result ≡ Spec.tuple_release zeros MAX_SAFE_INTEGER tuple.now }
 {
     let (major, rest) = number_front(zeros, tuple)?;
     let (minor, rest) = next_number(zeros, rest)?;
     let (patch, _) = next_number(zeros, rest)?;
-    Some(VersionRef::from_texts(major, minor, patch, b"", b""))
+    Some(readers::release(major, minor, patch))
 }
 
 /// Returns the version that a text has anywhere in it, as node-semver's `coerce` does: the leftmost

@@ -276,7 +276,7 @@ fn may_follow(loose: bool, pre_release: &[u8], build: &[u8]) -> bool
 fn begins_lone_digit(text: &[u8]) -> bool
     ensures { result ≡ Spec.begins_lone_digit text.now }
 {
-    matches!(text, [digit, b'.', behind @ ..] if digit.is_ascii_digit() && begins_identifier(behind))
+    matches!(text, [digit, b'.', rest @ ..] if digit.is_ascii_digit() && begins_identifier(rest))
 }
 
 // Whether a text begins as a pre-release may without `-`.
