@@ -10,7 +10,7 @@ use Rattle.nodejs_semver.specs.Internal.Fronts.{Front, build_front}
 use Rattle.nodejs_semver.specs.Internal.NpmMeaning.{is_zero}
 use Rattle.nodejs_semver.specs.Internal.NpmReadings.{dashed_front}
 use Rattle.semver_core.specs.Text.Identifiers.{listed}
-use Rattle.nodejs_semver.specs.Internal.NpmWords.{partial_front, place_front, dotted_place, qualified_partial, pre_front}
+use Rattle.nodejs_semver.specs.Internal.NpmWords.{partial_front, place_front, dotted_place, dotted_patch, patch_place, qualified_partial, pre_front}
 use Rattle.nodejs_semver.specs.Npm.Alike.{IsPlainWord, IsWithin, bare, is_plain, may_have, signed, word_of}
 use Rattle.nodejs_semver.specs.Npm.RangeText.{IsPartial, partial_of}
 use Rattle.nodejs_semver.specs.Npm.Ranges.{is_valid}
@@ -195,7 +195,7 @@ zero_found None = false
 zero_found (Some p) = elim p.0 [ whole w ↦ is_zero w | _ ↦ false ]
 
 zero_read : zero_found (partial_front false (codes "0.0.0" ++ [])) ≡ true
-unfolding partial_front place_front dotted_place qualified_partial pre_front dashed_front build_front listed zero_found
+unfolding partial_front place_front dotted_place dotted_patch patch_place qualified_partial pre_front dashed_front build_front listed zero_found
 zero_read = refl
 
 pub text-spelled : (text : List ℕ) (w : VersionValue) → IsPartial false text (whole w) → Spelled w text
