@@ -8,3 +8,4 @@ pub mod Lists
 pub mod Printing
 pub mod Text
 pub mod Values
+pub mod Words

@@ -1,9 +1,8 @@
 // Versions that borrow their text.
 
-ghost use Rattle.std.specs.Prelude.{◌≡◌, ◌↔◌, ◌<◌, ◌∷◌, [], IfOk, IsOk, IsTrue, OnErr};
-ghost use Rattle.std.specs.Prelude.{false, length, true};
-ghost use Rattle.semver_core.specs.Text.Identifiers.{Numeric, is_listed, listed};
-ghost use Rattle.semver_core.specs.Values.Versions.{HasIdentifiers, IsVersion, is_release};
+ghost use Rattle.semver_core.specs.Words.{◌≡◌, ◌↔◌, ◌<◌, ◌∷◌, [], false, HasIdentifiers, IfOk};
+ghost use Rattle.semver_core.specs.Words.{is_listed, is_release, IsOk, IsTrue, IsVersion, length};
+ghost use Rattle.semver_core.specs.Words.{listed, Numeric, OnErr, true};
 
 mod dotted;
 pub mod identifier;

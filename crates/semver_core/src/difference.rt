@@ -1,7 +1,7 @@
 // The kind of difference between two versions.
 
-ghost use Rattle.std.specs.{Prelude.{◌≡◌, ◌↔◌, IsNone}, declared.cmp.Ordering.TheVariants.Equal};
-ghost use Rattle.semver_core.specs.{Difference.{kind_between, kind_up}, Values.Order.precedence};
+ghost use Rattle.semver_core.specs.Words.{◌≡◌, ◌↔◌, Equal, IsNone, kind_between, kind_up};
+ghost use Rattle.semver_core.specs.Words.{kind_word, precedence, Some};
 
 use crate::{Version, VersionRef, Versioned};
 use std::cmp::Ordering;
@@ -33,9 +33,6 @@ pub type ReleaseType = VersionDiff;
 /// Writes the word of the kind, as `Version::inc` takes it. Width, fill and precision change
 /// nothing.
 impl fmt::Display for VersionDiff {
-    ghost use Rattle.std.specs.Prelude.{Some};
-    ghost use Rattle.semver_core.specs.Difference.{kind_word};
-
     ghost output = { λ kind. Some (kind_word kind) };
 
     ghost styled_output = { λ kind _. Some (kind_word kind) };

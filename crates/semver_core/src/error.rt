@@ -1,8 +1,6 @@
 // The errors of the crate.
 
-ghost use Rattle.std.specs.Prelude.{◌≡◌, Err, None, Ok, Some};
-ghost use Rattle.std.specs.declared.alloc.AllocError.{AllocError};
-ghost use Rattle.semver_core.specs.declared.error.Failure.TheVariants.{Memory, Refused};
+ghost use Rattle.semver_core.specs.Words.{◌≡◌, AllocError, Memory, Refused};
 
 use std::alloc::AllocError;
 use thiserror::Error;
@@ -49,9 +47,6 @@ impl<E: Drop> Failure<E> {
 
 /// `Memory`, so that `?` passes an allocation failure on.
 impl<E> From<AllocError> for Failure<E> {
-    ghost use Rattle.std.specs.Prelude.{◌≡◌};
-    ghost use Rattle.semver_core.specs.declared.error.Failure.TheVariants.{Memory};
-
     ghost from_gives = { λ error failure. failure ≡ Memory error };
 
     fn from(error: AllocError) -> Failure<E> {
@@ -61,9 +56,6 @@ impl<E> From<AllocError> for Failure<E> {
 
 /// `Refused`, so that `?` passes the error of a borrowed reading on.
 impl From<SemverError> for Failure<SemverError> {
-    ghost use Rattle.std.specs.Prelude.{◌≡◌};
-    ghost use Rattle.semver_core.specs.declared.error.Failure.TheVariants.{Refused};
-
     ghost from_gives = { λ error failure. failure ≡ Refused error };
 
     fn from(error: SemverError) -> Failure<SemverError> {

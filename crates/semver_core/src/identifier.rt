@@ -1,12 +1,10 @@
 // Identifiers: what they are, their order, equality and hash.
 
-ghost use Rattle.std.specs.{Cmp.{partial_equiv_from_equiv, po}, List.list_all, Ordering.is_eq};
-ghost use Rattle.std.specs.{Cmp.{eq_by_cmp_equiv, on_equiv, on_per, on_po, on_total}, Prelude.◌≡◌};
-ghost use Rattle.std.specs.Prelude.{◌≢◌, ◌<◌, ℕ, Some, refl, IfOk, OnErr, length};
-ghost use Rattle.semver_core.specs.Internal.{Hashes.id_writes, OrderLaws.{id_alike, id_total}};
-ghost use Rattle.semver_core.specs.Text.{Characters.is_identifier_char, Identifiers.Numeric};
-ghost use Rattle.semver_core.specs.Text.Identifiers.{is_identifier, is_listed};
-ghost use Rattle.semver_core.specs.Values.{Order.id_cmp, Views.{id_view, ids_view}};
+ghost use Rattle.semver_core.specs.Words.{◌≡◌, ◌≢◌, ◌<◌, ℕ, eq_by_cmp_equiv, id_alike, id_cmp};
+ghost use Rattle.semver_core.specs.Words.{id_total, id_view, id_writes, ids_view, IfOk, is_eq};
+ghost use Rattle.semver_core.specs.Words.{is_identifier, is_identifier_char, is_listed, length};
+ghost use Rattle.semver_core.specs.Words.{list_all, Numeric, on_equiv, on_per, on_po, on_total};
+ghost use Rattle.semver_core.specs.Words.{OnErr, partial_equiv_from_equiv, po, refl, Some};
 
 use crate::scan;
 use std::alloc::{AllocError, Global};

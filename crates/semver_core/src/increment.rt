@@ -1,10 +1,8 @@
 // Increments: the next version by a word, as release tools ask for it.
 
-ghost use Rattle.std.specs.{Option.option_copied, Prelude.{◌≡◌, ◌≢◌, Err, IfOk, OnErr, true}};
-ghost use Rattle.semver_core.specs.{Failures.MemoryOnlyIf, Increments.View.{Returns, fault_of}};
-ghost use Rattle.semver_core.specs.Internal.IncrementSteps.{MayAllocate, RefusedWith};
-ghost use Rattle.semver_core.specs.Internal.IncrementSteps.{parts_ref_value};
-ghost use Rattle.semver_core.specs.Values.Versions.{HasIdentifiers};
+ghost use Rattle.semver_core.specs.Words.{◌≡◌, ◌≢◌, if◌then◌else◌, False, fault_of, HasIdentifiers};
+ghost use Rattle.semver_core.specs.Words.{IfOk, MayAllocate, MemoryOnlyIf, OnErr, option_copied};
+ghost use Rattle.semver_core.specs.Words.{parts_ref_value, RefusedWith, Returns, Value};
 ghost use Rattle.semver_core.specs.Increments.Table as spec;
 
 use crate::increment::levels::by_word;
@@ -30,9 +28,6 @@ pub enum IdentifierBase {
 
 /// The default is `Value(0)`.
 impl Default for IdentifierBase {
-    ghost use Rattle.std.specs.Prelude.{◌≡◌};
-    ghost use Rattle.semver_core.specs.declared.increment.IdentifierBase.TheVariants.{Value};
-
     ghost is_default = { λ base. base ≡ Value 0 };
 
     fn default() -> IdentifierBase {
@@ -42,9 +37,6 @@ impl Default for IdentifierBase {
 
 /// `true` counts from 1, and `false` is `False`.
 impl From<bool> for IdentifierBase {
-    ghost use Rattle.std.specs.Prelude.{◌≡◌, if◌then◌else◌};
-    ghost use Rattle.semver_core.specs.declared.increment.IdentifierBase.TheVariants.{False, Value};
-
     ghost from_gives = { λ flag base. base ≡ (if flag then Value 1 else False) };
 
     fn from(flag: bool) -> IdentifierBase {
@@ -59,9 +51,6 @@ impl From<bool> for IdentifierBase {
 /// The value itself. A literal needs a suffix, since there is an impl for each unsigned type:
 /// `IdentifierBase::from(1u64)`.
 impl From<u64> for IdentifierBase {
-    ghost use Rattle.std.specs.Prelude.{◌≡◌};
-    ghost use Rattle.semver_core.specs.declared.increment.IdentifierBase.TheVariants.{Value};
-
     ghost from_gives = { λ value base. base ≡ Value value };
 
     fn from(value: u64) -> IdentifierBase {
@@ -71,9 +60,6 @@ impl From<u64> for IdentifierBase {
 
 /// The value itself.
 impl From<usize> for IdentifierBase {
-    ghost use Rattle.std.specs.Prelude.{◌≡◌};
-    ghost use Rattle.semver_core.specs.declared.increment.IdentifierBase.TheVariants.{Value};
-
     ghost from_gives = { λ value base. base ≡ Value value };
 
     fn from(value: usize) -> IdentifierBase {

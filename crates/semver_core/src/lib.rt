@@ -3,8 +3,6 @@
 //! Allocating functions take the allocator and report allocation failure in their error type.
 #![tactic(auto)]
 
-ghost use Rattle.std.specs.Prelude.{◌≡◌};
-
 mod borrowed;
 pub mod cuts;
 mod difference;

@@ -1,8 +1,7 @@
 // How identifiers and versions print.
 
-ghost use Rattle.std.specs.{Fmt.{DisplaysStyledOnOk, decimal}, Prelude.{◌++◌, ◌∷◌, [], Some}};
-ghost use Rattle.semver_core.specs.Printing.Text.{id_text, marked_list, version_text};
-ghost use Rattle.semver_core.specs.Values.Views.{id_view};
+ghost use Rattle.semver_core.specs.Words.{◌++◌, ◌∷◌, [], decimal, DisplaysStyledOnOk, id_text};
+ghost use Rattle.semver_core.specs.Words.{id_view, marked_list, Some, version_text};
 
 use crate::{Identifier, IdentifierRefs, Version, VersionRef, Versioned};
 use itoa::Buffer;

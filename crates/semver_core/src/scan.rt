@@ -4,18 +4,14 @@
 //! A call on a `&str` takes a place in it, a byte index. A call on a `&[u8]` reads at the front of
 //! the bytes, save `number_in`, which takes a place.
 
-ghost use Rattle.std.specs.{Char.is_ascii_digit, List.prefix_len, Prelude.{◌≡◌, ◌≤◌, ◌==◌, ◌+◌}};
-ghost use Rattle.std.specs.{Prelude.{None, Some, false, true}, Str.Lossy.utf8_valid_len};
-ghost use Rattle.std.specs.Prelude.{◌-◌, ◌*◌, ◌<◌, if◌then◌else◌, ℕ, List, [], length, drop, take};
-ghost use Rattle.std.specs.Prelude.{IfOk, IfSome, IfNone, OnErr, OnOk, IsCharBoundary, IsUtf8, Ok};
-ghost use Rattle.semver_core.specs.Internal.{Reading.placed, Spaces.drop_end_spaces};
-ghost use Rattle.semver_core.specs.Internal.CommonReading.{grown, run_from, number_of_run};
-ghost use Rattle.semver_core.specs.Internal.Reading.{digits_end, digits_from, list_at, number_at};
-ghost use Rattle.semver_core.specs.Text.{Identifiers.IsLongestIdentifiers, Numbers.IsWholeNumber};
-ghost use Rattle.semver_core.specs.Text.Characters.{is_identifier_char, is_whitespace, begins};
-ghost use Rattle.semver_core.specs.Text.Characters.{IsAfterBlank, IsPieceAt, NoPieceAt, IsTrim};
-ghost use Rattle.semver_core.specs.Text.Identifiers.{Id, identifier_of, goes_on, is_listed, listed};
-ghost use Rattle.semver_core.specs.Values.Views.{id_view, ids_view};
+ghost use Rattle.semver_core.specs.Words.{◌≡◌, ◌≤◌, ◌+◌, ◌-◌, ◌*◌, ◌<◌, ℕ, [], begins, digits_end};
+ghost use Rattle.semver_core.specs.Words.{digits_from, drop, drop_end_spaces, goes_on, grown, Id};
+ghost use Rattle.semver_core.specs.Words.{id_view, identifier_of, ids_view, IfNone, IfOk, IfSome};
+ghost use Rattle.semver_core.specs.Words.{is_identifier_char, is_listed, is_whitespace};
+ghost use Rattle.semver_core.specs.Words.{IsAfterBlank, IsCharBoundary, IsLongestIdentifiers};
+ghost use Rattle.semver_core.specs.Words.{IsPieceAt, IsTrim, IsUtf8, IsWholeNumber, length, List};
+ghost use Rattle.semver_core.specs.Words.{list_at, listed, NoPieceAt, number_at, OnErr, OnOk};
+ghost use Rattle.semver_core.specs.Words.{placed, prefix_len, run_from, take, true, utf8_valid_len};
 
 use crate::version::lists::Identifiers;
 use crate::{Identifier, MAX_SAFE_INTEGER};

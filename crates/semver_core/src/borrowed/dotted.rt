@@ -1,11 +1,8 @@
 // Identifiers that stand in a text, joined by dots, and their order.
 
-ghost use Rattle.std.specs.Cmp.Lexicographic.{slice_cmp};
-ghost use Rattle.std.specs.Prelude.{◌≡◌, ◌<◌, ◌≤◌, ◌∷◌, IsUtf8, Some, drop, length, take, true};
-ghost use Rattle.semver_core.specs.Internal.CommonReading.{number_of_run, run_len};
-ghost use Rattle.semver_core.specs.Text.Identifiers.{identifier_of, is_listed, listed};
-ghost use Rattle.semver_core.specs.Internal.Borrowed.{HasText, id_ref_view};
-ghost use Rattle.semver_core.specs.Values.Order.{id_cmp};
+ghost use Rattle.semver_core.specs.Words.{◌≡◌, ◌<◌, ◌∷◌, drop, HasText, id_cmp, id_ref_view};
+ghost use Rattle.semver_core.specs.Words.{identifier_of, is_listed, IsUtf8, length, listed};
+ghost use Rattle.semver_core.specs.Words.{number_of_run, slice_cmp, true};
 
 use crate::scan;
 use std::cmp::Ordering;

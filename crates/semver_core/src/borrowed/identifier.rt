@@ -1,15 +1,9 @@
 // Identifiers that borrow their text.
 
-ghost use Rattle.std.specs.Cmp.{eq_by_cmp_equiv, on_equiv, on_per, on_po, on_total};
-ghost use Rattle.std.specs.Cmp.{partial_equiv_from_equiv, po};
-ghost use Rattle.std.specs.Ordering.{is_eq};
-ghost use Rattle.std.specs.Prelude.{◌≡◌, Some, refl};
-ghost use Rattle.semver_core.specs.Internal.Borrowed.{id_ref_view};
-ghost use Rattle.semver_core.specs.Internal.Hashes.{id_writes};
-ghost use Rattle.semver_core.specs.Internal.OrderLaws.{id_alike, id_total};
-ghost use Rattle.semver_core.specs.Printing.Text.{id_text};
-ghost use Rattle.semver_core.specs.Values.Order.{id_cmp};
-ghost use Rattle.semver_core.specs.Values.Views.{id_view, lent_id_view};
+ghost use Rattle.semver_core.specs.Words.{◌≡◌, eq_by_cmp_equiv, id_alike, id_cmp, id_ref_view};
+ghost use Rattle.semver_core.specs.Words.{id_text, id_total, id_view, id_writes, is_eq};
+ghost use Rattle.semver_core.specs.Words.{lent_id_view, on_equiv, on_per, on_po, on_total};
+ghost use Rattle.semver_core.specs.Words.{partial_equiv_from_equiv, po, refl, Some};
 
 use crate::Identifier;
 use crate::borrowed::dotted::{IdRef, cmp_ids};

@@ -1,13 +1,8 @@
 // Lists of identifiers, one by one.
 
-ghost use Rattle.std.specs.Cmp.Lexicographic.{slice_cmp};
-ghost use Rattle.std.specs.Iterator.{item_count, YieldsFirstBy};
-ghost use Rattle.std.specs.Prelude.{◌≡◌, ◌∷◌, [], IfNone, IfSome, OnOk, length, true};
-ghost use Rattle.semver_core.specs.Internal.Sources.{ids_of, IsSource};
-ghost use Rattle.semver_core.specs.Lists.{is_empty};
-ghost use Rattle.semver_core.specs.Text.Identifiers.{is_listed, listed};
-ghost use Rattle.semver_core.specs.Values.Order.{id_cmp};
-ghost use Rattle.semver_core.specs.Values.Views.{ids_view, lent_id_view};
+ghost use Rattle.semver_core.specs.Words.{is_listed, item_count, lent_id_view, OnOk, YieldsFirstBy};
+ghost use Rattle.semver_core.specs.Words.{id_cmp, ids_of, ids_view, is_empty, IsSource, slice_cmp};
+ghost use Rattle.semver_core.specs.Words.{◌≡◌, ◌∷◌, [], IfNone, IfSome, length, listed, true};
 
 use crate::borrowed::dotted::{IdRef, cmp_texts, first_id};
 use crate::version::lists::Identifiers;

@@ -1,15 +1,9 @@
 // Reads versions that borrow their text.
 
-ghost use Rattle.std.specs.Prelude.{◌≡◌, ◌≤◌, ◌+◌, ℕ, true, length, drop, take};
-ghost use Rattle.std.specs.Prelude.{IfErr, IfNone, IfOk, IfSome};
-ghost use Rattle.semver_core.specs.Failures.{NoValue};
-ghost use Rattle.semver_core.specs.Text.Characters.{begins, is_identifier_char};
-ghost use Rattle.semver_core.specs.Text.Common.{IsCommon, IsCommonFront};
-ghost use Rattle.semver_core.specs.Text.Identifiers.{is_listed, listed};
-ghost use Rattle.semver_core.specs.Text.Parsing.{Parses};
-ghost use Rattle.semver_core.specs.Text.VersionText.{Reads};
-ghost use Rattle.semver_core.specs.Internal.Reading.{list_from, list_len, lists_at, qualified};
-ghost use Rattle.semver_core.specs.Values.Versions.{VersionValue, release_value};
+ghost use Rattle.semver_core.specs.Words.{◌≡◌, ◌≤◌, ℕ, begins, drop, IfErr, IfNone, IfOk, IfSome};
+ghost use Rattle.semver_core.specs.Words.{is_identifier_char, is_listed, IsCommon, IsCommonFront};
+ghost use Rattle.semver_core.specs.Words.{length, list_from, list_len, listed, lists_at, NoValue};
+ghost use Rattle.semver_core.specs.Words.{Parses, take, true, VersionValue};
 
 use crate::readers::{begins_lists, build_start, leading_numbers, numbers, pre_release_start};
 use crate::scan::goes_on;

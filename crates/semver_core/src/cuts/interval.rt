@@ -1,9 +1,8 @@
 // An interval: all points between two cuts.
-ghost use Rattle.std.specs.{Ordering.{is_le, is_lt}, Prelude.{◌≡◌, ◌&&◌, ◌||◌, not, Option, Some}};
-ghost use Rattle.std.specs.Prelude.{None, IfOk, IfErr, true, IsTrue, OnErr, is_some};
-ghost use Rattle.semver_core.specs.{Clips.clip, Cuts.{covers, cut_cmp, has_bound, holds, interval}};
-ghost use Rattle.semver_core.specs.Cuts.{is_interval, is_past, left_above, left_below, lower_cut};
-ghost use Rattle.semver_core.specs.Cuts.{meet, option_holds, remainders, upper_cut};
+ghost use Rattle.semver_core.specs.Words.{◌≡◌, ◌&&◌, ◌||◌, clip, covers, cut_cmp, has_bound, holds};
+ghost use Rattle.semver_core.specs.Words.{IfErr, IfOk, interval, is_interval, is_lt, is_past};
+ghost use Rattle.semver_core.specs.Words.{is_some, IsTrue, left_above, left_below, lower_cut, meet};
+ghost use Rattle.semver_core.specs.Words.{not, OnErr, option_holds, remainders, true, upper_cut};
 
 use crate::cuts::bound::{Bound, Point};
 use crate::cuts::cut_order::{

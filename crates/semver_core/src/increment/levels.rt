@@ -1,11 +1,8 @@
 // The words of increments, a row each.
 
-ghost use Rattle.std.specs.Prelude.{◌≡◌, ◌<◌, ◌∷◌, [], IfOk, Ok, OnOk, length, ⊤};
-ghost use Rattle.semver_core.specs.{Failures.MemoryOnlyIf, Increments.View.Returns};
-ghost use Rattle.semver_core.specs.{Text.Identifiers.Numeric, Values.Versions.HasIdentifiers};
-ghost use Rattle.semver_core.specs.Internal.IncrementSteps.{MayAllocate, ReturnsParts, Steps};
-ghost use Rattle.semver_core.specs.Internal.IncrementSteps.{begun, parts_ref_value, stepped};
-ghost use Rattle.semver_core.specs.Values.Views.{ids_view};
+ghost use Rattle.semver_core.specs.Words.{◌≡◌, ◌<◌, ◌∷◌, [], ⊤, begun, HasIdentifiers, ids_view};
+ghost use Rattle.semver_core.specs.Words.{IfOk, length, MayAllocate, MemoryOnlyIf, Numeric, OnOk};
+ghost use Rattle.semver_core.specs.Words.{parts_ref_value, Returns, ReturnsParts, stepped, Steps};
 ghost use Rattle.semver_core.specs.Increments.Table as spec;
 ghost use Rattle.semver_core.specs.Internal.IncrementSteps as steps;
 

@@ -1,8 +1,6 @@
 // The version that a word is asked of.
 
-ghost use Rattle.std.specs.Prelude.{◌≡◌};
-ghost use Rattle.semver_core.specs.Internal.IncrementSteps.{parts_ref_value};
-ghost use Rattle.semver_core.specs.Values.Versions.{is_release, release_value};
+ghost use Rattle.semver_core.specs.Words.{◌≡◌, is_release, parts_ref_value, release_value};
 
 use crate::{IdentifierRefs, Versioned};
 

@@ -1,13 +1,11 @@
 // The pre step: how the pre-release list goes on.
 
-ghost use Rattle.std.specs.{Char.is_ascii_digit, List.list_all, Ordering.is_eq, Prelude.{◌≡◌, ◌∷◌}};
-ghost use Rattle.std.specs.{Prelude.{false, if◌then◌else◌, IsTrue, Ok, ⊤}, Str.Parse.digits_value};
-ghost use Rattle.std.specs.Prelude.{◌++◌, [], ◌<◌, ◌==◌, IfOk, OnOk, length, string_bytes, true};
-ghost use Rattle.semver_core.specs.{Failures.MemoryOnlyIf, Increments.Table.has_numeric};
-ghost use Rattle.semver_core.specs.{Text.Identifiers.Numeric, Values.Order.id_cmp};
-ghost use Rattle.semver_core.specs.Internal.IncrementSteps.{FailsWith, MayAllocate, Steps, Tracks};
-ghost use Rattle.semver_core.specs.Internal.IncrementSteps.{begun, can_rise, list_text, stepped};
-ghost use Rattle.semver_core.specs.Values.Views.{id_view, ids_view};
+ghost use Rattle.semver_core.specs.Words.{◌≡◌, ◌∷◌, if◌then◌else◌, ⊤, ◌++◌, [], ◌<◌, ◌==◌, begun};
+ghost use Rattle.semver_core.specs.Words.{can_rise, digits_value, FailsWith, false, has_numeric};
+ghost use Rattle.semver_core.specs.Words.{id_cmp, id_view, ids_view, IfOk, is_ascii_digit, is_eq};
+ghost use Rattle.semver_core.specs.Words.{IsTrue, length, list_all, list_text, MayAllocate};
+ghost use Rattle.semver_core.specs.Words.{MemoryOnlyIf, Numeric, OnOk, stepped, Steps};
+ghost use Rattle.semver_core.specs.Words.{string_bytes, Tracks, true};
 ghost use Rattle.semver_core.specs.Increments.Table as spec;
 ghost use Rattle.semver_core.specs.Printing.Text as printed;
 

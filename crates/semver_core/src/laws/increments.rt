@@ -1,13 +1,9 @@
 // What the table of `inc` says: the least versions.
 
-ghost use Rattle.std.specs.Prelude.{◌≡◌, ◌+◌, ◌-◌, ◌^◌, ◌<◌, [], ℕ, List, Ok, Option, codes};
-ghost use Rattle.std.specs.Prelude.{IsOkAnd, false, true, unwrap_or};
-ghost use Rattle.std.specs.declared.cmp.Ordering.TheVariants.{Less};
-ghost use Rattle.semver_core.specs.Increments.Least.{IsLeastOrOverflow, IsLeastVersion, IsPlain};
-ghost use Rattle.semver_core.specs.Increments.Table.{answer_of_inc, has_numeric};
-ghost use Rattle.semver_core.specs.Values.{Order.precedence, Versions.{VersionValue, IsVersion}};
-ghost use Rattle.semver_core.specs.Values.Versions.{is_release};
-ghost use Rattle.semver_core.specs.declared.increment.IdentifierBase.{IdentifierBase};
+ghost use Rattle.semver_core.specs.Words.{codes, IdentifierBase, IsLeastOrOverflow, IsLeastVersion};
+ghost use Rattle.semver_core.specs.Words.{[], answer_of_inc, has_numeric, is_release, VersionValue};
+ghost use Rattle.semver_core.specs.Words.{IsOkAnd, IsPlain, IsVersion, Less, precedence, unwrap_or};
+ghost use Rattle.semver_core.specs.Words.{◌≡◌, ◌+◌, ◌-◌, ◌^◌, ◌<◌, ℕ, false, List, Option, true};
 
 /// What the table says of each word, which is what `Version::inc` and `VersionRef::inc` return.
 ///

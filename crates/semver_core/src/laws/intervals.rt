@@ -1,7 +1,6 @@
 // What the equality of intervals says.
 
-ghost use Rattle.std.specs.Prelude.{◌≡◌, ◌&&◌};
-ghost use Rattle.semver_core.specs.Cuts.{bound_eq};
+ghost use Rattle.semver_core.specs.Words.{◌≡◌, ◌&&◌, bound_eq};
 
 use crate::cuts::{Interval, Point};
 

@@ -1,13 +1,10 @@
 // What the comparisons of the program say, in the words of the definitions, and laws of the order.
 
-ghost use Rattle.std.specs.{Ordering.is_le, Prelude.{◌≡◌, ◌↔◌, ◌||◌, ◌<◌, ◌+◌, ◌-◌, ◌^◌, ◌∷◌}};
-ghost use Rattle.std.specs.Prelude.{◌++◌, [], ℕ, List, Err, IsTrue, Ok, false, length, true};
-ghost use Rattle.std.specs.declared.cmp.Ordering.TheVariants.{Equal, Less};
-ghost use Rattle.semver_core.specs.{Text.Identifiers.{Id, Numeric}, Values.Order.id_cmp};
-ghost use Rattle.semver_core.specs.Increments.{Least.IsLeastVersion, Table.{Overflow, asked}};
-ghost use Rattle.semver_core.specs.Increments.Table.{has_numeric, is_kept, raise_last};
-ghost use Rattle.semver_core.specs.Values.{Order.precedence, Versions.{VersionValue, IsVersion}};
-ghost use Rattle.semver_core.specs.Values.{Versions.release_value, Views.id_view};
+ghost use Rattle.semver_core.specs.Words.{◌≡◌, ◌↔◌, ◌||◌, ◌<◌, ◌+◌, ◌-◌, ◌^◌, ◌∷◌, ◌++◌, [], ℕ};
+ghost use Rattle.semver_core.specs.Words.{asked, Equal, false, has_numeric, Id, id_cmp, id_view};
+ghost use Rattle.semver_core.specs.Words.{is_kept, is_le, IsLeastVersion, IsTrue, IsVersion};
+ghost use Rattle.semver_core.specs.Words.{length, Less, List, Numeric, Overflow, precedence};
+ghost use Rattle.semver_core.specs.Words.{raise_last, release_value, true, VersionValue};
 
 use crate::{Identifier, Version};
 use std::cmp::Ordering;

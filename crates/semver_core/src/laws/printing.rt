@@ -1,9 +1,8 @@
 // Printed versions come back.
 
-ghost use Rattle.std.specs.Prelude.{◌≡◌, ◌<◌, ◌≤◌, ◌^◌, ℕ, IfOk, length, string_bytes, true};
-ghost use Rattle.semver_core.specs.{Failures.RefusedOnlyIf, Printing.RoundTrip.is_readable};
-ghost use Rattle.semver_core.specs.{Printing.Text.{id_text, version_text}, Text.VersionText.Reads};
-ghost use Rattle.semver_core.specs.Values.{Versions.VersionValue, Views.id_view};
+ghost use Rattle.semver_core.specs.Words.{◌≡◌, ◌<◌, ◌≤◌, ◌^◌, ℕ, id_text, id_view, IfOk};
+ghost use Rattle.semver_core.specs.Words.{is_readable, length, Reads, RefusedOnlyIf, string_bytes};
+ghost use Rattle.semver_core.specs.Words.{true, version_text, VersionValue};
 
 use crate::laws::reading::one_reading;
 use crate::{Failure, Identifier, MAX_LENGTH, MAX_SAFE_INTEGER, SemverError, Version};

@@ -1,10 +1,8 @@
 // The two constants, and that a text has one version at most, whatever the limit and whichever
 // reader reads it.
 
-ghost use Rattle.std.specs.Prelude.{◌≡◌, ◌≤◌, ℕ, IfNone, IfOk, IfSome, Some};
-ghost use Rattle.semver_core.specs.{Failures.NoValue, Text.Common.IsCommon, Text.VersionText.Reads};
-ghost use Rattle.semver_core.specs.Values.Versions.{VersionValue};
-ghost use Rattle.semver_core.specs.declared.TheConstants.{MAX_SAFE_INTEGER};
+ghost use Rattle.semver_core.specs.Words.{◌≡◌, ◌≤◌, ℕ, IfNone, IfOk, IfSome, IsCommon, NoValue};
+ghost use Rattle.semver_core.specs.Words.{Reads, VersionValue};
 
 use crate::readers::{front_of_numbers, version_fast, version_loose};
 use crate::{MAX_LENGTH, MAX_SAFE_INTEGER, Version};

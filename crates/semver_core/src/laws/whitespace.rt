@@ -1,7 +1,7 @@
 // Where the whitespace of a text ends.
 
-ghost use Rattle.std.specs.Prelude.{◌≡◌, ℕ, List, IsCharBoundary, IsUtf8};
-ghost use Rattle.semver_core.specs.Text.Characters.{IsTrim, IsAfterBlank};
+ghost use Rattle.semver_core.specs.Words.{◌≡◌, ℕ, IsAfterBlank, IsCharBoundary, IsTrim, IsUtf8};
+ghost use Rattle.semver_core.specs.Words.{List};
 
 /// A text has one trimmed middle, and the whitespace at a place of it ends at one place.
 pub fn whitespace_ends()

@@ -1,12 +1,8 @@
 //! The reader of common version texts.
 
-ghost use Rattle.std.specs.Prelude.{◌||◌, ◌==◌, get_or, ◌≡◌, ◌≤◌, ◌<◌, length, IfOk, IfSome};
-ghost use Rattle.std.specs.Prelude.{IfNone, None, OnErr};
-ghost use Rattle.semver_core.specs.{Failures.NoValue, Internal.CommonReading.{small_len, whole_at}};
-ghost use Rattle.semver_core.specs.{Internal.Reading.triple_at, Text.Characters.is_identifier_char};
-ghost use Rattle.semver_core.specs.Internal.{CommonReading.common_of, Reading.{part_at, qualified}};
-ghost use Rattle.semver_core.specs.Text.{Common.IsCommon, VersionText.Reads};
-ghost use Rattle.semver_core.specs.Values.Versions.{HasIdentifiers, VersionValue};
+ghost use Rattle.semver_core.specs.Words.{common_of, HasIdentifiers, IfOk, qualified, VersionValue};
+ghost use Rattle.semver_core.specs.Words.{IsCommon, NoValue, OnErr, small_len, triple_at, whole_at};
+ghost use Rattle.semver_core.specs.Words.{◌≡◌, ◌≤◌, IfNone, IfSome, length, part_at, Reads};
 
 use crate::readers::loose::{begins_lists, front_of_numbers, lists_at, stands_at};
 use crate::{MAX_SAFE_INTEGER, Version, scan};

@@ -1,7 +1,6 @@
 // Versions ask a set whether it accepts them.
 
-ghost use Rattle.std.specs.Prelude.{◌≡◌, Bool, false};
-ghost use Rattle.semver_core.specs.Values.Versions.{VersionValue};
+ghost use Rattle.semver_core.specs.Words.{◌≡◌, Bool, false, VersionValue};
 
 use crate::{Version, VersionRef};
 

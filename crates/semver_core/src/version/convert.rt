@@ -1,8 +1,6 @@
 // Versions from triples of numbers.
 
-ghost use Rattle.std.specs.Prelude.{◌≡◌};
-ghost use Rattle.semver_core.specs.{Internal.Naturals.from_natural, Values.Triples.GivesRelease};
-ghost use Rattle.semver_core.specs.Values.Versions.{release_value};
+ghost use Rattle.semver_core.specs.Words.{◌≡◌, from_natural, GivesRelease, release_value};
 
 use crate::{NegativeNumber, Version};
 

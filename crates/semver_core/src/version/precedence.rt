@@ -1,11 +1,8 @@
 // The order of versions, their equality and hash. Build metadata counts in none.
 
-ghost use Rattle.std.specs.{Cmp.{eq_by_cmp_equiv, partial_equiv_from_equiv, po}, List.fold};
-ghost use Rattle.std.specs.Prelude.{◌≡◌, Some, refl};
-ghost use Rattle.semver_core.specs.{Internal.OrderLaws.version_alike, Values.Order.pre_cmp};
-ghost use Rattle.semver_core.specs.Internal.Hashes.{id_writes, version_writes};
-ghost use Rattle.semver_core.specs.Internal.OrderLaws.{numbers_cmp, precedence_total};
-ghost use Rattle.semver_core.specs.Values.Order.{precedence, version_eq};
+ghost use Rattle.semver_core.specs.Words.{numbers_cmp, partial_equiv_from_equiv, precedence_total};
+ghost use Rattle.semver_core.specs.Words.{eq_by_cmp_equiv, pre_cmp, version_alike, version_writes};
+ghost use Rattle.semver_core.specs.Words.{◌≡◌, fold, po, precedence, refl, Some, version_eq};
 ghost use Rattle.std.specs.Hash as fed;
 
 use crate::borrowed::identifiers::cmp_lists;
