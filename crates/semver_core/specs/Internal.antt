@@ -10,4 +10,3 @@ pub mod Hashes
 pub mod Readable
 pub mod CommonReading
 pub mod Borrowed
-pub mod Naturals

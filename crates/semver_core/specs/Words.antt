@@ -30,7 +30,6 @@ pub use Rattle.semver_core.specs.Internal.Hashes.{id_writes, version_writes}
 pub use Rattle.semver_core.specs.Internal.IncrementSteps.{begun, can_rise, FailsWith, list_text, MayAllocate}
 pub use Rattle.semver_core.specs.Internal.IncrementSteps.{parts_ref_value, RefusedWith, ReturnsParts, stepped, Steps}
 pub use Rattle.semver_core.specs.Internal.IncrementSteps.{Tracks}
-pub use Rattle.semver_core.specs.Internal.Naturals.{from_natural}
 pub use Rattle.semver_core.specs.Internal.OrderLaws.{id_alike, id_total, numbers_cmp, precedence_total, version_alike}
 pub use Rattle.semver_core.specs.Internal.Reading.{digits_end, digits_from, list_at, list_from, list_len, lists_at}
 pub use Rattle.semver_core.specs.Internal.Reading.{number_at, part_at, placed, qualified, triple_at}

@@ -97,14 +97,8 @@ impl<'a> VersionRef<'a> {
         ensures zero { self.now.pre_release ≡ Numeric 0 ∷ [] → self.now.build ≡ [] → IsOk result }
     {
         let (pre_release, build) = (self.pre_release, self.build);
-        Version::from_texts(
-            alloc,
-            self.major,
-            self.minor,
-            self.patch,
-            pre_release,
-            build,
-        )
+        let (major, minor, patch) = (self.major, self.minor, self.patch);
+        Version::from_texts(alloc, major, minor, patch, pre_release, build)
     }
 
     /// The first number, which is raised for incompatible changes.

@@ -66,27 +66,16 @@ fn kind_up<V: Versioned>(low: &V, high: &V) -> VersionDiff
             VersionDiff::Major
         };
     }
-    if low.major() != high.major() {
-        if to_release {
-            VersionDiff::Major
-        } else {
-            VersionDiff::PreMajor
-        }
+    let (release, pre_release) = if low.major() != high.major() {
+        (VersionDiff::Major, VersionDiff::PreMajor)
     } else if low.minor() != high.minor() {
-        if to_release {
-            VersionDiff::Minor
-        } else {
-            VersionDiff::PreMinor
-        }
+        (VersionDiff::Minor, VersionDiff::PreMinor)
     } else if low.patch() != high.patch() {
-        if to_release {
-            VersionDiff::Patch
-        } else {
-            VersionDiff::PrePatch
-        }
+        (VersionDiff::Patch, VersionDiff::PrePatch)
     } else {
-        VersionDiff::PreRelease
-    }
+        return VersionDiff::PreRelease;
+    };
+    if to_release { release } else { pre_release }
 }
 
 // The kind that two versions differ by.

@@ -92,16 +92,10 @@ impl IncrementError {
         ensures memory { OnErr result (fault_of self.now ≢ spec.Overflow) }
     {
         Ok(match self {
-            IncrementError::InvalidIdentifier(text) => {
-                IncrementError::InvalidIdentifier(String::from_str(alloc, text)?)
-            }
-            IncrementError::InvalidIncrementArgument(text) => {
-                IncrementError::InvalidIncrementArgument(String::from_str(alloc, text)?)
-            }
-            IncrementError::NotAPrerelease(text) => {
-                IncrementError::NotAPrerelease(String::from_str(alloc, text)?)
-            }
-            IncrementError::Overflow => IncrementError::Overflow,
+            Self::InvalidIdentifier(text) => Self::InvalidIdentifier(text.clone()?),
+            Self::InvalidIncrementArgument(text) => Self::InvalidIncrementArgument(text.clone()?),
+            Self::NotAPrerelease(text) => Self::NotAPrerelease(text.clone()?),
+            Self::Overflow => Self::Overflow,
         })
     }
 }
@@ -120,10 +114,7 @@ fn one_more(n: u64) -> Result<u64, Failure<IncrementError>>
 fn is_false(base: IdentifierBase) -> bool
     ensures { result ≡ spec.is_false base }
 {
-    match base {
-        IdentifierBase::False => true,
-        IdentifierBase::Value(_) => false,
-    }
+    matches!(base, IdentifierBase::False)
 }
 
 // The error for an argument, with its text.

@@ -2,19 +2,17 @@
 //! anything, else; no caller needs this module.
 
 mod increments;
-mod intervals;
 mod order;
 mod printing;
 mod reading;
-mod whitespace;
 
 pub use crate::laws::increments::least_increments;
-pub use crate::laws::intervals::intervals_equal;
-pub use crate::laws::order::{identifiers_in_order, order_and_increments, versions_in_order};
+pub use crate::laws::order::{
+    identifiers_in_order, intervals_equal, order_and_increments, versions_in_order,
+};
 pub use crate::laws::printing::{
     identifier_in_field, printed_versions_come_back, reread, version_in_field,
 };
 pub use crate::laws::reading::{
-    both_readers, common_reads_alike, constants, larger_limits, one_reading,
+    both_readers, common_reads_alike, constants, larger_limits, one_reading, whitespace_ends,
 };
-pub use crate::laws::whitespace::whitespace_ends;

@@ -153,9 +153,7 @@ pub(crate) fn digits(bytes: &[u8], at: usize) -> Option<(u64, usize)>
     ensures found { result ≡ number_at MAX_SAFE_INTEGER bytes.now at }
     ensures place { IfSome result (λ found. found.1 ≤ length bytes.now) }
 {
-    let Some(first) = digit(bytes, at) else {
-        return None;
-    };
+    let first = digit(bytes, at)?;
     let Some(second) = digit(bytes, at + 1) else {
         return Some((first, at + 1));
     };
@@ -229,10 +227,7 @@ pub fn is_identifier_char(byte: u8) -> bool
 pub fn begins_identifier(text: &[u8]) -> bool
     ensures { result ≡ begins is_identifier_char text.now }
 {
-    match text {
-        [byte, ..] => is_identifier_char(*byte),
-        [] => false,
-    }
+    matches!(text, [byte, ..] if is_identifier_char(*byte))
 }
 
 /// Whether an identifier list that ends before this text would go on with it: with a character of

@@ -1,17 +1,18 @@
 -- The versions that `inc` returns: they are the least ones, above the version, and keep its build.
-use Rattle.semver_core.proofs.Common.{Fault, advance, has_numeric, one_more, raise_last, list_text, is_empty, AlphaNumeric, Id}
-use Rattle.semver_core.proofs.Common.{Numeric, id_cmp, VersionValue, IsId, IdentifierBase, Bool, List, [], ap, arith, false}
-use Rattle.semver_core.proofs.Common.{length, refl, subst, true, ℕ, ◌++◌, ◌+◌, ◌-◌, ◌<◌, ◌∙◌, ◌∷◌, ◌≡◌, ◌≤◌, nat_tests, and_parts}
-use Rattle.semver_core.proofs.Common.{slice_cmp, tied_itself, ◌==◌, Err, Ok, Result, ⊤, bytes_eq, Less, IsLeastOrOverflow}
-use Rattle.semver_core.proofs.Common.{IsLeastVersion, InvalidIncrementArgument, Overflow, first_number, identify, is_false}
-use Rattle.semver_core.proofs.Common.{not-true, pre_step, ◌>>=◌, incremented, id_total, Below, above_patch, above_pre}
-use Rattle.semver_core.proofs.Common.{below_cases, below_more, by_major, by_minor, by_patch, by_pre, empty_not_below, upto_patch}
-use Rattle.semver_core.proofs.Common.{zero_least, pre_cmp, IsVersion, Value, IsOkAnd, codes, if◌then◌else◌, nat_eq, not, ◌&&◌}
-use Rattle.semver_core.proofs.Common.{◌^◌, All-cons, All-nil, ordering_then}
+use Rattle.semver_core.proofs.Common.{Fault, advance, has_numeric, one_more, raise_last, list_text, is_empty}
+use Rattle.semver_core.proofs.Common.{AlphaNumeric, Id, Numeric, id_cmp, VersionValue, IsId, IdentifierBase, Bool, List}
+use Rattle.semver_core.proofs.Common.{[], ap, arith, false, length, refl, subst, true, ℕ, ◌++◌, ◌+◌, ◌-◌, ◌<◌, ◌∙◌, ◌∷◌}
+use Rattle.semver_core.proofs.Common.{◌≡◌, nat_tests, and_parts, slice_cmp, tied_itself, ◌==◌, Err, Ok, Result, ⊤}
+use Rattle.semver_core.proofs.Common.{bytes_eq, Less, IsLeastVersion, InvalidIncrementArgument, Overflow, first_number}
+use Rattle.semver_core.proofs.Common.{identify, is_false, not-true, pre_step, ◌>>=◌, incremented, id_total, above_patch}
+use Rattle.semver_core.proofs.Common.{above_pre, below_more, pre_cmp, IsVersion, Value, IsOkAnd, codes, if◌then◌else◌}
+use Rattle.semver_core.proofs.Common.{nat_eq, not, ◌&&◌, ◌^◌, All-cons, All-nil, ordering_then}
 use Rattle.semver_core.specs.Increments.Table.{checked, by_word, next_major, next_minor, next_patch, release_of}
-use Rattle.semver_core.specs.{Internal.Successors.{less_first, above_major, above_minor}, Values.Versions.is_release}
-use Rattle.{std.proofs.lemmas.Slice.Eq.bytes_eq-Decides, std.specs.List.starts_with, semver_core.proofs.Values.NextLaws.IsAbove}
-use Rattle.semver_core.proofs.Values.NextLaws.{least_after_release, next_of_pre_release}
+use Rattle.semver_core.specs.Internal.Successors.{less_first, above_major, above_minor}
+use Rattle.semver_core.specs.Values.Versions.{is_release}
+use Rattle.std.proofs.lemmas.Slice.Eq.{bytes_eq-Decides}
+use Rattle.std.specs.List.{starts_with}
+use Rattle.semver_core.proofs.Values.NextLaws.{IsAbove, least_after_release, next_of_pre_release}
 
 pick : {A : Type 0} (P : A → Type 0) (t : Bool) (x y : A) → (t ≡ true → P x) → (t ≡ false → P y) → P (if t then x else y)
 pick P true x y f g = f refl
@@ -32,15 +33,6 @@ filled : (xs : List Id) → is_empty xs ≡ false → 0 < length xs
 filled [] h = cc
 filled (x ∷ xs) h = omega arith
 
--- where a test of a number and of a pre-release fails
-none_else : (n : ℕ) (t : Bool) → (n == 0 && t) ≡ false → n ≡ 0 → t ≡ false
-none_else n true h e = rw e at h
-none_else n false h e = refl
-
-none_kept : (xs : List Id) → not (is_empty xs) ≡ false → xs ≡ []
-none_kept [] h = refl
-none_kept (x ∷ xs) h = cc
-
 release_up : (v : VersionValue) → is_release v ≡ false → IsAbove v (release_of v)
 release_up v h = above_pre v (release_of v) refl refl refl (by v.pre_release h)
   where
@@ -48,155 +40,11 @@ release_up v h = above_pre v (release_of v) refl refl refl (by v.pre_release h)
     by [] h = cc
     by (x ∷ xs) h = refl
 
--- the numbers of what is above a version, in turn, and that they differ from those of a release
-upto : (v w : VersionValue) → Below v w
-    → (v.major ≤ w.major) × (w.major ≡ v.major → v.minor ≤ w.minor) × (w.major ≡ v.major → w.minor ≡ v.minor → v.patch ≤ w.patch)
-upto v w (by_major lt) = (omega arith, λ a. omega arith, λ a b. omega arith)
-upto v w (by_minor e lt) = (omega arith, λ a. omega arith, λ a b. omega arith)
-upto v w (by_patch e f lt) = (omega arith, λ a. omega arith, λ a b. omega arith)
-upto v w (by_pre e f g h) = (omega arith, λ a. omega arith, λ a b. omega arith)
-
-apart : (v w : VersionValue) → v.pre_release ≡ [] → Below v w → w.major ≡ v.major → w.minor ≡ v.minor → v.patch ≡ w.patch → ⊥
-apart v w e (by_major lt) a b c = omega arith
-apart v w e (by_minor d lt) a b c = omega arith
-apart v w e (by_patch d f lt) a b c = omega arith
-apart v w e (by_pre d f g h) a b c = empty_not_below w.pre_release (rw e at h)
-
--- a release of these, of which none has smaller numbers
-least_release : (These : VersionValue → Type 0) (r : VersionValue) → r.pre_release ≡ [] → IsVersion r → These r
-    → ((w : VersionValue) → These w → (w.pre_release ≡ []) × (r.major ≤ w.major) × (r.minor ≤ w.minor) × (r.patch ≤ w.patch))
-    → IsLeastVersion These r
-least_release These r e k this upto =
-    (k, (this, λ w t. let u = upto w t in upto_patch r w u.1 u.2 u.3 (rw (e, u.0) refl)))
-
--- the releases above a version: in the same major and minor, in the same major with patch 0, and with minor and patch 0
-abbrev pub IsNextPatch : VersionValue → VersionValue → Type 0
-IsNextPatch v w = IsAbove v w × (w.pre_release ≡ []) × (w.major ≡ v.major) × (w.minor ≡ v.minor)
-
-abbrev pub IsNextMinor : VersionValue → VersionValue → Type 0
-IsNextMinor v w = IsAbove v w × (w.pre_release ≡ []) × (w.major ≡ v.major) × (w.patch ≡ 0)
-
-abbrev pub IsNextMajor : VersionValue → VersionValue → Type 0
-IsNextMajor v w = IsAbove v w × (w.pre_release ≡ []) × (w.minor ≡ 0) × (w.patch ≡ 0)
-
--- the versions of the next minor, and of the next patch
-abbrev pub IsMinorAbove : VersionValue → VersionValue → Type 0
-IsMinorAbove v w = (w.major ≡ v.major) × (w.minor ≡ v.minor + 1)
-
-abbrev pub IsPatchAbove : VersionValue → VersionValue → Type 0
-IsPatchAbove v w = (w.major ≡ v.major) × (w.minor ≡ v.minor) × (w.patch ≡ v.patch + 1)
-
-module _ (v : VersionValue) (id : List ℕ) (base : IdentifierBase) (k : IsVersion v) where
-  is_released : (a b c : ℕ) → a < 2 ^ 64 → b < 2 ^ 64 → c < 2 ^ 64
-      → IsVersion (record { major = a; minor = b; patch = c; pre_release = []; build = v.build })
-  is_released a b c p q r = record { major = p; minor = q; patch = r; pre_release = All-nil IsId; build = k.build }
-
-  bounds : (w : VersionValue) → IsAbove v w → (v.major ≤ w.major) × (w.major ≡ v.major → v.minor ≤ w.minor)
-      × (w.major ≡ v.major → w.minor ≡ v.minor → v.patch ≤ w.patch)
-  bounds w h = upto v w (below_cases v w h)
-
-  pub patch_least : IsLeastOrOverflow (IsNextPatch v) (incremented v (codes "patch") id base)
-  patch_least = pick (IsLeastOrOverflow (IsNextPatch v)) (is_release v) (next_patch v) (Ok (release_of v))
-      (λ h. by_one (IsLeastOrOverflow (IsNextPatch v)) v.patch (λ n. Ok (record v { patch = n; pre_release = [] }))
-      (λ e w good t. let p = past h w t in omega (arith, good.patch))
-      (λ other. least_release (IsNextPatch v) (record v { patch = v.patch + 1; pre_release = [] }) refl
-      (is_released v.major v.minor (v.patch + 1) k.major k.minor (omega (arith, k.patch, other)))
-      (above_patch v (record v { patch = v.patch + 1; pre_release = [] }) refl refl (omega arith), refl, refl, refl)
-      (λ w t. let p = past h w t in (t.1, omega (arith, t.2), omega (arith, t.3), omega arith))))
-      (λ h. least_release (IsNextPatch v) (release_of v) refl (is_released v.major v.minor v.patch k.major k.minor k.patch)
-      (release_up v h, refl, refl, refl)
-      (λ w t. (t.1, omega (arith, t.2), omega (arith, t.3), (bounds w t.0).2 t.2 t.3)))
-    where
-      past : is_release v ≡ true → (w : VersionValue) → IsNextPatch v w → v.patch < w.patch
-      past h w t =
-          let ne = apart v w (none_left v.pre_release h) (below_cases v w t.0) t.2 t.3 in
-          omega (arith, (bounds w t.0).2 t.2 t.3, ne)
-
-  pub minor_least : IsLeastOrOverflow (IsNextMinor v) (incremented v (codes "minor") id base)
-  minor_least = pick (IsLeastOrOverflow (IsNextMinor v)) (v.patch == 0 && not (is_release v)) (Ok (release_of v)) (next_minor v)
-      (λ h. let both = and_parts (v.patch == 0) (not (is_release v)) h in
-      let zero : v.patch ≡ 0 = grind (arith, nat_tests, both.0) in
-      least_release (IsNextMinor v) (release_of v) refl (is_released v.major v.minor v.patch k.major k.minor k.patch)
-      (release_up v (not-true (is_release v) both.1), refl, refl, zero)
-      (λ w t. (t.1, omega (arith, t.2), (bounds w t.0).1 t.2, omega (arith, zero))))
-      (λ h. by_one (IsLeastOrOverflow (IsNextMinor v)) v.minor (λ n. Ok (record v { minor = n; patch = 0; pre_release = [] }))
-      (λ e w good t. let p = past h w t in omega (arith, good.minor))
-      (λ other. least_release (IsNextMinor v) (record v { minor = v.minor + 1; patch = 0; pre_release = [] }) refl
-      (is_released v.major (v.minor + 1) 0 k.major (omega (arith, k.minor, other)) (omega arith))
-      (above_minor v (record v { minor = v.minor + 1; patch = 0; pre_release = [] }) refl (omega arith), refl, refl, refl)
-      (λ w t. let p = past h w t in (t.1, omega (arith, t.2), omega arith, omega arith))))
-    where
-      past : (v.patch == 0 && not (is_release v)) ≡ false → (w : VersionValue) → IsNextMinor v w → v.minor < w.minor
-      past h w t =
-          let b = bounds w t.0 in
-          let ne : w.minor ≡ v.minor → ⊥ = λ e. let zero : v.patch ≡ 0 = omega (arith, b.2 t.2 e, t.3) in
-          let none = none_kept v.pre_release (none_else v.patch (not (is_release v)) h zero) in
-          apart v w none (below_cases v w t.0) t.2 e (omega (arith, zero, t.3)) in
-          omega (arith, b.1 t.2, ne)
-
-  pub major_least : IsLeastOrOverflow (IsNextMajor v) (incremented v (codes "major") id base)
-  major_least = pick (IsLeastOrOverflow (IsNextMajor v)) (v.minor == 0 && (v.patch == 0 && not (is_release v)))
-      (Ok (release_of v)) (next_major v) (λ h.
-      let first = and_parts (v.minor == 0) (v.patch == 0 && not (is_release v)) h in
-      let both = and_parts (v.patch == 0) (not (is_release v)) first.1 in
-      let minor : v.minor ≡ 0 = grind (arith, nat_tests, first.0) in
-      let patch : v.patch ≡ 0 = grind (arith, nat_tests, both.0) in
-      least_release (IsNextMajor v) (release_of v) refl (is_released v.major v.minor v.patch k.major k.minor k.patch)
-      (release_up v (not-true (is_release v) both.1), refl, minor, patch)
-      (λ w t. (t.1, (bounds w t.0).0, omega (arith, minor), omega (arith, patch))))
-      (λ h. by_one (IsLeastOrOverflow (IsNextMajor v)) v.major
-      (λ n. Ok (record v { major = n; minor = 0; patch = 0; pre_release = [] }))
-      (λ e w good t. let p = past h w t in omega (arith, good.major))
-      (λ other. least_release (IsNextMajor v) (record v { major = v.major + 1; minor = 0; patch = 0; pre_release = [] }) refl
-      (is_released (v.major + 1) 0 0 (omega (arith, k.major, other)) (omega arith) (omega arith))
-      (above_major v (record v { major = v.major + 1; minor = 0; patch = 0; pre_release = [] }) (omega arith), refl, refl, refl)
-      (λ w t. let p = past h w t in (t.1, omega arith, omega arith, omega arith))))
-    where
-      past : (v.minor == 0 && (v.patch == 0 && not (is_release v))) ≡ false → (w : _) → IsNextMajor v w → v.major < w.major
-      past h w t =
-          let b = bounds w t.0 in
-          let ne : w.major ≡ v.major → ⊥ = λ e. let minor : v.minor ≡ 0 = omega (arith, b.1 e, t.2) in
-          let same : w.minor ≡ v.minor = omega (arith, minor, t.2) in
-          let patch : v.patch ≡ 0 = omega (arith, b.2 e same, t.3) in
-          let some = none_else v.minor (v.patch == 0 && not (is_release v)) h minor in
-          let none = none_kept v.pre_release (none_else v.patch (not (is_release v)) some patch) in
-          apart v w none (below_cases v w t.0) e same (omega (arith, patch, t.3)) in
-          omega (arith, b.0, ne)
-
-  -- the first pre-release of some numbers
-  abbrev first_of : ℕ → ℕ → ℕ → VersionValue
-  first_of a b c = record { major = a; minor = b; patch = c; pre_release = Numeric 0 ∷ []; build = v.build }
-
-  first : (a b c : ℕ) → a < 2 ^ 64 → b < 2 ^ 64 → c < 2 ^ 64 → IsVersion (first_of a b c)
-  first a b c p q r =
-      let zero = All-cons IsId (Numeric 0) [] (omega arith) (All-nil IsId) in
-      record { major = p; minor = q; patch = r; pre_release = zero; build = k.build }
-
-  -- the least version of these numbers or greater ones is a first pre-release
-  first_least : (These : VersionValue → Type 0) (a b c : ℕ) → a < 2 ^ 64 → b < 2 ^ 64 → c < 2 ^ 64 → These (first_of a b c)
-      → ((w : VersionValue) → These w → (a ≤ w.major) × (b ≤ w.minor) × (c ≤ w.patch)) → IsLeastVersion These (first_of a b c)
-  first_least These a b c p q r this upto = (
-    first a b c p q r,
-    (this, λ w t. let u = upto w t in upto_patch (first_of a b c) w u.0 u.1 u.2 (zero_least w.pre_release)),
-  )
-
-  pub premajor_least : IsLeastOrOverflow (λ w. w.major ≡ v.major + 1) (incremented v (codes "premajor") [] (Value 0))
-  premajor_least = by_one (λ r. IsLeastOrOverflow (λ w. w.major ≡ v.major + 1) (r >>= pre_step [] (Value 0))) v.major
-      (λ n. Ok (record v { major = n; minor = 0; patch = 0; pre_release = [] })) (λ e w good t. omega (arith, good.major))
-      (λ other. first_least (λ w. w.major ≡ v.major + 1) (v.major + 1) 0 0 (omega (arith, k.major, other)) (omega arith)
-      (omega arith) refl (λ w t. (omega arith, omega arith, omega arith)))
-
-  pub preminor_least : IsLeastOrOverflow (IsMinorAbove v) (incremented v (codes "preminor") [] (Value 0))
-  preminor_least = by_one (λ r. IsLeastOrOverflow (IsMinorAbove v) (r >>= pre_step [] (Value 0))) v.minor
-      (λ n. Ok (record v { minor = n; patch = 0; pre_release = [] })) (λ e w good t. omega (arith, good.minor, t.1))
-      (λ other. first_least (IsMinorAbove v) v.major (v.minor + 1) 0 k.major (omega (arith, k.minor, other)) (omega arith)
-      (refl, refl) (λ w t. (omega (arith, t.0), omega (arith, t.1), omega arith)))
-
-  pub prepatch_least : IsLeastOrOverflow (IsPatchAbove v) (incremented v (codes "prepatch") [] (Value 0))
-  prepatch_least = by_one (λ r. IsLeastOrOverflow (IsPatchAbove v) (r >>= pre_step [] (Value 0))) v.patch
-      (λ n. Ok (record v { patch = n; pre_release = [] })) (λ e w good t. omega (arith, good.patch, t.2))
-      (λ other. first_least (IsPatchAbove v) v.major v.minor (v.patch + 1) k.major k.minor (omega (arith, k.patch, other))
-      (refl, refl, refl) (λ w t. (omega (arith, t.0), omega (arith, t.1), omega (arith, t.2))))
+first : (v : VersionValue) → IsVersion v → (a b c : ℕ) → a < 2 ^ 64 → b < 2 ^ 64 → c < 2 ^ 64
+    → IsVersion (record { major = a; minor = b; patch = c; pre_release = Numeric 0 ∷ []; build = v.build })
+first v k a b c p q r =
+    let zero = All-cons IsId (Numeric 0) [] (omega arith) (All-nil IsId) in
+    record { major = p; minor = q; patch = r; pre_release = zero; build = k.build }
 
 pre_above : (xs ys : List Id) → is_empty xs ≡ false → slice_cmp id_cmp xs ys ≡ Less → pre_cmp xs ys ≡ Less
 pre_above [] ys s h = cc
@@ -214,7 +62,7 @@ prerelease_least v k rises none =
     pick (λ r. IsOkAnd r (IsLeastVersion (IsAbove v))) (is_release v) (next_patch v >>= pre_step [] (Value 0))
     (pre_step [] (Value 0) v) (λ h. by_one (λ r. IsOkAnd (r >>= pre_step [] (Value 0)) (IsLeastVersion (IsAbove v))) v.patch
     (λ n. Ok (record v { patch = n; pre_release = [] })) (λ e. omega (arith, e, rises h)) (λ other. (
-      first v [] (Value 0) k v.major v.minor (v.patch + 1) k.major k.minor (omega (arith, k.patch, other)),
+      first v k v.major v.minor (v.patch + 1) k.major k.minor (omega (arith, k.patch, other)),
       (
         above_patch v (record v { patch = v.patch + 1; pre_release = Numeric 0 ∷ [] }) refl refl (omega arith),
         λ w this. least_after_release v w (none_left v.pre_release h) this,
@@ -234,7 +82,8 @@ kept_first x xs (Err e) h = tt
 raise_above : (xs : List Id) → has_numeric xs ≡ true → AboveList xs (raise_last xs)
 raise_above [] h = cc
 raise_above (AlphaNumeric text ∷ xs) h = kept_first (AlphaNumeric text) xs (raise_last xs) (raise_above xs h)
-raise_above (Numeric n ∷ xs) h = pick (AboveList (Numeric n ∷ xs)) (has_numeric xs) (raise_last xs >>= λ list. Ok (Numeric n ∷ list)) (one_more n >>= λ m. Ok (Numeric m ∷ xs))
+raise_above (Numeric n ∷ xs) h = pick (AboveList (Numeric n ∷ xs)) (has_numeric xs)
+    (raise_last xs >>= λ list. Ok (Numeric n ∷ list)) (one_more n >>= λ m. Ok (Numeric m ∷ xs))
     (λ k. kept_first (Numeric n) xs (raise_last xs) (raise_above xs k))
     (λ k. pick (λ r. AboveList (Numeric n ∷ xs) (r >>= λ m. Ok (Numeric m ∷ xs))) (n == 2 ^ 64 - 1) (Err Overflow) (Ok (n + 1))
     (λ o. tt) (λ o. less_first n (n + 1) (slice_cmp id_cmp xs xs) (omega arith)))

@@ -1,9 +1,10 @@
 -- An integer is natural or negative.
-use Rattle.semver_core.proofs.Common.{None, Some, arith, inl, inr, refl, ℕ, ◌≡◌, from_natural, ◌⊎◌, ℤ, pos, negsuc}
+use Rattle.semver_core.proofs.Common.{None, Option, Some, inl, inr, refl, ℕ, ◌≡◌, ◌⊎◌, ℤ, pos, negsuc}
 
-pub natural_is : (z : ℤ) (n : ℕ) → from_natural z ≡ Some n → z ≡ pos n
-natural_is (pos m) n h = grind arith
-natural_is (negsuc m) n h = cc h
+-- the natural number that an integer is
+abbrev pub from_natural : ℤ → Option ℕ
+from_natural (pos n) = Some n
+from_natural (negsuc n) = None
 
 negative_is : (z : ℤ) → from_natural z ≡ None → (n : ℕ) × (z ≡ negsuc n)
 negative_is (pos m) h = cc h

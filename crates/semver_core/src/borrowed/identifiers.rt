@@ -68,12 +68,14 @@ impl<'a> IdentifierRefs<'a> {
     }
 
     /// How many identifiers are left.
+    #[tactic(auto, using(crate::proofs::Text::Listed::listed_counts))]
     pub fn len(&self) -> usize
         ensures { result ≡ length self.now }
     {
         match self.source {
             Source::Items(items) => items.len(),
-            Source::Text(text) => count(text),
+            Source::Text([]) => 0,
+            Source::Text(text) => text.iter().filter(|byte| **byte == b'.').count() + 1,
         }
     }
 
@@ -99,17 +101,6 @@ impl<'a> IdentifierRefs<'a> {
             Source::Text(text) => scan::read_listed(alloc, text, list),
         }
     }
-}
-
-// How many identifiers a text spells.
-#[tactic(auto, using(crate::proofs::Text::Listed::listed_counts))]
-fn count(text: &[u8]) -> usize
-    ensures { result ≡ length (listed text.now) }
-{
-    if text.is_empty() {
-        return 0;
-    }
-    text.iter().filter(|byte| **byte == b'.').count() + 1
 }
 
 // The first identifier, and where the others stand.

@@ -14,10 +14,9 @@ pub(crate) fn lower_order<V: Ord>(a: &Bound<V>, b: &Bound<V>) -> Ordering
         (Bound::Unbounded, Bound::Unbounded) => Ordering::Equal,
         (Bound::Unbounded, _) => Ordering::Less,
         (_, Bound::Unbounded) => Ordering::Greater,
-        (Bound::Before(v), Bound::Before(w)) => v.cmp(w).then(Ordering::Equal),
+        (Bound::Before(v), Bound::Before(w)) | (Bound::After(v), Bound::After(w)) => v.cmp(w),
         (Bound::Before(v), Bound::After(w)) => v.cmp(w).then(Ordering::Less),
         (Bound::After(v), Bound::Before(w)) => v.cmp(w).then(Ordering::Greater),
-        (Bound::After(v), Bound::After(w)) => v.cmp(w).then(Ordering::Equal),
     }
 }
 
@@ -30,10 +29,9 @@ pub(crate) fn upper_order<V: Ord>(a: &Bound<V>, b: &Bound<V>) -> Ordering
         (Bound::Unbounded, Bound::Unbounded) => Ordering::Equal,
         (Bound::Unbounded, _) => Ordering::Greater,
         (_, Bound::Unbounded) => Ordering::Less,
-        (Bound::Before(v), Bound::Before(w)) => v.cmp(w).then(Ordering::Equal),
+        (Bound::Before(v), Bound::Before(w)) | (Bound::After(v), Bound::After(w)) => v.cmp(w),
         (Bound::Before(v), Bound::After(w)) => v.cmp(w).then(Ordering::Less),
         (Bound::After(v), Bound::Before(w)) => v.cmp(w).then(Ordering::Greater),
-        (Bound::After(v), Bound::After(w)) => v.cmp(w).then(Ordering::Equal),
     }
 }
 

@@ -57,7 +57,7 @@ impl<V: Point> Interval<V> {
 
     /// A copy of the whole interval. Fails only if allocation fails, which happens only where a
     /// copy of the point of one of its bounds takes memory.
-    pub fn copy(&self, alloc: Global) -> Result<Interval<V>, AllocError>
+    pub fn copy(&self, alloc: Global) -> Result<Self, AllocError>
         ensures whole { IfOk result (λ i. i ≡ self.now) }
         ensures memory { OnErr result (has_bound V.takes self.now ≡ true) }
     {
@@ -66,11 +66,7 @@ impl<V: Point> Interval<V> {
 
     // The interval between copies of two bounds that are known to be in order.
     #[inline(always)]
-    fn of_copies(
-        alloc: Global,
-        lower: &Bound<V>,
-        upper: &Bound<V>,
-    ) -> Result<Interval<V>, AllocError>
+    fn of_copies(alloc: Global, lower: &Bound<V>, upper: &Bound<V>) -> Result<Self, AllocError>
         requires { is_interval V.cmp (record { lower = lower.now; upper = upper.now }) ≡ true }
         ensures whole { IfOk result (λ i. i ≡ record { lower = lower.now; upper = upper.now }) }
         ensures memory { OnErr result
@@ -84,7 +80,7 @@ impl<V: Point> Interval<V> {
     /// The interval between two bounds, and `None` exactly where the cut of the lower one is not
     /// below that of the upper one. The cut after v is below the cut before w exactly where `v <
     /// w`.
-    pub fn new(lower: Bound<V>, upper: Bound<V>) -> Option<Interval<V>>
+    pub fn new(lower: Bound<V>, upper: Bound<V>) -> Option<Self>
         ensures { result ≡ interval V.cmp (record { lower = lower; upper = upper }) }
     {
         if lies_below(&lower, &upper) {
@@ -96,7 +92,7 @@ impl<V: Point> Interval<V> {
 
     /// The interval between two bounds that are known to be in order. Nothing is compared.
     #[inline(always)]
-    pub fn of_ordered(lower: Bound<V>, upper: Bound<V>) -> Interval<V>
+    pub fn of_ordered(lower: Bound<V>, upper: Bound<V>) -> Self
         requires { is_interval V.cmp (record { lower = lower; upper = upper }) ≡ true }
         ensures { result ≡ record { lower = lower; upper = upper } }
     {
@@ -135,7 +131,7 @@ impl<V: Point> Interval<V> {
 
     /// Whether the other interval lies within this one: its lower cut is not below, and its upper
     /// cut not above.
-    pub fn covers(&self, other: &Interval<V>) -> bool
+    pub fn covers(&self, other: &Self) -> bool
         ensures { result ≡ covers V.cmp self.now other.now }
     {
         lower_order(&self.lower, &other.lower).is_le()
@@ -144,7 +140,7 @@ impl<V: Point> Interval<V> {
 
     /// Whether the interval ends above the cut at which the other one begins. Two intervals meet
     /// exactly where each reaches the other.
-    pub fn reaches(&self, other: &Interval<V>) -> bool
+    pub fn reaches(&self, other: &Self) -> bool
         ensures { result
             ≡ is_lt (cut_cmp V.cmp (lower_cut other.now.lower) (upper_cut self.now.upper)) }
     {
@@ -153,7 +149,7 @@ impl<V: Point> Interval<V> {
 
     /// Whether the two have an interval in common, whether it contains a point or not.
     #[inline(always)]
-    pub fn meets(&self, other: &Interval<V>) -> bool
+    pub fn meets(&self, other: &Self) -> bool
         ensures { result ≡ is_some (meet V.cmp self.now other.now) }
     {
         is_below(&other.lower, &self.upper) && is_below(&self.lower, &other.upper)
@@ -168,11 +164,7 @@ impl<V: Point> Interval<V> {
     /// allocation fails, never in place of `None`. To consume both intervals and copy nothing, see
     /// `into_intersection`.
     #[inline(always)]
-    pub fn intersect(
-        &self,
-        alloc: Global,
-        other: &Interval<V>,
-    ) -> Result<Option<Interval<V>>, AllocError>
+    pub fn intersect(&self, alloc: Global, other: &Self) -> Result<Option<Self>, AllocError>
         ensures bounds { IfOk result (λ r. r ≡ meet V.cmp self.now other.now) }
         ensures set { IfOk result (λ r. (v : V) →
             option_holds V.cmp r v ≡ (holds V.cmp self.now v && holds V.cmp other.now v)) }
@@ -188,10 +180,7 @@ impl<V: Point> Interval<V> {
 
     /// The intersection, by moving the bounds of both intervals. It allocates nothing. Where
     /// `intersect` would return `None`, both intervals are returned to the caller.
-    pub fn into_intersection(
-        self,
-        other: Interval<V>,
-    ) -> Result<Interval<V>, (Interval<V>, Interval<V>)>
+    pub fn into_intersection(self, other: Self) -> Result<Self, (Self, Self)>
         ensures common { IfOk result (λ r. Some r ≡ meet V.cmp self other) }
         ensures none { IfErr result (λ both. meet V.cmp self other ≡ None) }
         ensures returned { IfErr result (λ both. both ≡ (self, other)) }
@@ -210,11 +199,7 @@ impl<V: Point> Interval<V> {
     ///
     /// Two bounds are copied: the call fails only if that allocation fails.
     #[inline(always)]
-    pub fn clip(
-        &self,
-        alloc: Global,
-        other: &Interval<V>,
-    ) -> Result<Option<Interval<V>>, AllocError>
+    pub fn clip(&self, alloc: Global, other: &Self) -> Result<Option<Self>, AllocError>
         ensures bounds { IfOk result (λ r. r ≡ clip V.cmp self.now other.now) }
         ensures set { IfOk result (λ r. (v : V) →
             option_holds V.cmp r v ≡ (holds V.cmp self.now v && holds V.cmp other.now v)) }
@@ -233,8 +218,8 @@ impl<V: Point> Interval<V> {
     pub fn subtract(
         &self,
         alloc: Global,
-        other: &Interval<V>,
-    ) -> Result<(Option<Interval<V>>, Option<Interval<V>>), AllocError>
+        other: &Self,
+    ) -> Result<(Option<Self>, Option<Self>), AllocError>
         ensures bounds { IfOk result (λ r. r ≡ remainders V.cmp self.now other.now) }
         ensures set { IfOk result (λ r. (v : V) →
             (option_holds V.cmp r.0 v || option_holds V.cmp r.1 v)
@@ -255,11 +240,7 @@ impl<V: Point> Interval<V> {
     /// Two bounds are copied: the call fails only if that allocation fails, never in place of
     /// `None`.
     #[inline(always)]
-    pub fn left_below(
-        &self,
-        alloc: Global,
-        other: &Interval<V>,
-    ) -> Result<Option<Interval<V>>, AllocError>
+    pub fn left_below(&self, alloc: Global, other: &Self) -> Result<Option<Self>, AllocError>
         ensures bounds { IfOk result (λ r. r ≡ left_below V.cmp self.now other.now) }
         ensures memory { OnErr result (IsTrue (is_some (left_below V.cmp self.now other.now))) }
     {
@@ -277,11 +258,7 @@ impl<V: Point> Interval<V> {
     /// Two bounds are copied: the call fails only if that allocation fails, never in place of
     /// `None`.
     #[inline(always)]
-    pub fn left_above(
-        &self,
-        alloc: Global,
-        other: &Interval<V>,
-    ) -> Result<Option<Interval<V>>, AllocError>
+    pub fn left_above(&self, alloc: Global, other: &Self) -> Result<Option<Self>, AllocError>
         ensures bounds { IfOk result (λ r. r ≡ left_above V.cmp self.now other.now) }
         ensures memory { OnErr result (IsTrue (is_some (left_above V.cmp self.now other.now))) }
     {

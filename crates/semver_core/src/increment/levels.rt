@@ -139,13 +139,8 @@ fn release_of(alloc: Global, version: &PartsRef<'_>) -> Result<Version, Failure<
     if version.build.is_empty() {
         return Ok(Version::release(version.major, version.minor, version.patch));
     }
-    let lists = copied(alloc, &IdentifierRefs::of_items(&[]), &version.build)?;
-    Ok(Version::from_parts(
-        version.major,
-        version.minor,
-        version.patch,
-        Qualifier::Lists(lists),
-    ))
+    let lists = Qualifier::Lists(copied(alloc, &IdentifierRefs::of_items(&[]), &version.build)?);
+    Ok(Version::from_parts(version.major, version.minor, version.patch, lists))
 }
 
 // The first pre-release of the numbers of a version without identifiers, which takes no memory.
@@ -168,19 +163,14 @@ fn replaced(
     id: &str,
     base: IdentifierBase,
 ) -> Result<Version, AllocError>
-    ensures { IfOk result (λ next. next ≡ record (parts_ref_value version.now) {
-      pre_release = begun id.now base;
-    }) }
+    ensures { IfOk result (λ next.
+        next ≡ record (parts_ref_value version.now) { pre_release = begun id.now base }) }
 {
     let mut lists = Lists::boxed(alloc)?;
     new_list(alloc, &mut lists.pre_release, id, base)?;
     version.build.copy_into(alloc, &mut lists.build)?;
-    Ok(Version::from_parts(
-        version.major,
-        version.minor,
-        version.patch,
-        Qualifier::Lists(lists),
-    ))
+    let lists = Qualifier::Lists(lists);
+    Ok(Version::from_parts(version.major, version.minor, version.patch, lists))
 }
 
 #[tactic(auto, using(crate::proofs::Increments::Memory::step_may))]
@@ -205,12 +195,8 @@ fn pre_step(
         Err(error) => return Err(unless_overflow(&version.pre_release, error)),
     };
     step(alloc, &mut lists.pre_release, id, base)?;
-    Ok(Version::from_parts(
-        version.major,
-        version.minor,
-        version.patch,
-        Qualifier::Lists(lists),
-    ))
+    let lists = Qualifier::Lists(lists);
+    Ok(Version::from_parts(version.major, version.minor, version.patch, lists))
 }
 
 // Turns a pre-release into the next one.

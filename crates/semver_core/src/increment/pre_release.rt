@@ -216,8 +216,5 @@ fn has_value(digits: &str, n: u64) -> bool
     requires digits { list_all is_ascii_digit digits.now ≡ true }
     ensures { result ≡ (digits_value 10 digits.now == n) }
 {
-    match digits.parse::<u64>() {
-        Ok(value) => value == n,
-        Err(_) => false,
-    }
+    digits.parse::<u64>().is_ok_and(|value| value == n)
 }

@@ -1,11 +1,12 @@
 // What the comparisons of the program say, in the words of the definitions, and laws of the order.
 
-ghost use Rattle.semver_core.specs.Words.{◌≡◌, ◌↔◌, ◌||◌, ◌<◌, ◌+◌, ◌-◌, ◌^◌, ◌∷◌, ◌++◌, [], ℕ};
-ghost use Rattle.semver_core.specs.Words.{asked, Equal, false, has_numeric, Id, id_cmp, id_view};
-ghost use Rattle.semver_core.specs.Words.{is_kept, is_le, IsLeastVersion, IsTrue, IsVersion};
-ghost use Rattle.semver_core.specs.Words.{length, Less, List, Numeric, Overflow, precedence};
-ghost use Rattle.semver_core.specs.Words.{raise_last, release_value, true, VersionValue};
+ghost use Rattle.semver_core.specs.Words.{has_numeric, IsLeastVersion, release_value, VersionValue};
+ghost use Rattle.semver_core.specs.Words.{ℕ, bound_eq, IsVersion, Overflow, precedence, raise_last};
+ghost use Rattle.semver_core.specs.Words.{asked, id_cmp, id_view, is_kept, IsTrue, length, Numeric};
+ghost use Rattle.semver_core.specs.Words.{◌||◌, ◌++◌, ◌&&◌, Equal, false, is_le, Less, List, true};
+ghost use Rattle.semver_core.specs.Words.{◌≡◌, ◌↔◌, ◌<◌, ◌+◌, ◌-◌, ◌^◌, ◌∷◌, [], Id};
 
+use crate::cuts::{Interval, Point};
 use crate::{Identifier, Version};
 use std::cmp::Ordering;
 
@@ -26,6 +27,15 @@ pub fn versions_in_order(first: &Version, second: &Version) -> (Ordering, bool)
     ensures equal { IsTrue result.1 ↔ (precedence first.now second.now ≡ Equal) }
 {
     (first.cmp(second), first == second)
+}
+
+/// `==` of intervals: both lower bounds are of one kind and at equal points, and so are both upper
+/// bounds.
+pub fn intervals_equal<V: Point>(first: &Interval<V>, second: &Interval<V>) -> bool
+    ensures { result ≡ (bound_eq V.eq first.now.lower second.now.lower
+        && bound_eq V.eq first.now.upper second.now.upper) }
+{
+    first == second
 }
 
 /// The order of versions is total, and two versions tie in it exactly where their numbers and their

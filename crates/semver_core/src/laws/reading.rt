@@ -1,7 +1,8 @@
-// The two constants, and that a text has one version at most, whatever the limit and whichever
-// reader reads it.
+// The two constants, that a text has one version at most, whatever the limit and whichever reader
+// reads it, and where its whitespace ends.
 
-ghost use Rattle.semver_core.specs.Words.{◌≡◌, ◌≤◌, ℕ, IfNone, IfOk, IfSome, IsCommon, NoValue};
+ghost use Rattle.semver_core.specs.Words.{◌≡◌, ◌≤◌, ℕ, IfNone, IfOk, IfSome, IsAfterBlank};
+ghost use Rattle.semver_core.specs.Words.{IsCharBoundary, IsCommon, IsTrim, IsUtf8, List, NoValue};
 ghost use Rattle.semver_core.specs.Words.{Reads, VersionValue};
 
 use crate::readers::{front_of_numbers, version_fast, version_loose};
@@ -67,3 +68,14 @@ pub fn both_readers(
     let fast = version_fast(alloc, text)?;
     Ok((fast, version_loose(alloc, text)?))
 }
+
+/// A text has one trimmed middle, and the whitespace at a place of it ends at one place.
+pub fn whitespace_ends()
+    ensures trimmed { (text : List ℕ) → IsUtf8 text → (middle : List ℕ) × IsTrim text middle }
+    ensures only { (text middle other : List ℕ)
+        → IsTrim text middle → IsTrim text other → middle ≡ other }
+    ensures some_place { (text : List ℕ) (at : ℕ) → IsUtf8 text → IsCharBoundary text at
+        → (end : ℕ) × IsAfterBlank text at end }
+    ensures one_place { (text : List ℕ) (at end other : ℕ) → IsUtf8 text
+        → IsAfterBlank text at end → IsAfterBlank text at other → end ≡ other }
+{}

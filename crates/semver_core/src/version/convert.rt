@@ -1,27 +1,19 @@
 // Versions from triples of numbers.
 
-ghost use Rattle.semver_core.specs.Words.{◌≡◌, from_natural, GivesRelease, release_value};
+ghost use Rattle.semver_core.specs.Words.{◌≡◌, GivesRelease, release_value};
 
 use crate::{NegativeNumber, Version};
 
-// The number, where it is not negative.
-fn natural(number: i64) -> Option<u64>
-    ensures { result ≡ from_natural number }
-{
-    if number < 0 {
-        None
-    } else {
-        Some(number as u64)
-    }
-}
-
 // The release of three numbers, none of them negative.
-#[tactic(auto, using(crate::proofs::Values::Naturals::natural_is))]
 fn release_of(major: i64, minor: i64, patch: i64) -> Result<Version, NegativeNumber>
     ensures { GivesRelease major minor patch result }
 {
-    match (natural(major), natural(minor), natural(patch)) {
-        (Some(major), Some(minor), Some(patch)) => Ok(Version::release(major, minor, patch)),
+    match (
+        u64::try_from(major),
+        u64::try_from(minor),
+        u64::try_from(patch),
+    ) {
+        (Ok(major), Ok(minor), Ok(patch)) => Ok(Version::release(major, minor, patch)),
         _ => Err(NegativeNumber),
     }
 }

@@ -1,10 +1,9 @@
 -- What is proved of each row of the table, whatever the identifier and the base are.
-use Rattle.semver_core.proofs.Common.{Fault, VersionValue, IdentifierBase, List, Option, [], subst, sym, ℕ, ◌+◌, ◌≡◌, Result, ⊤}
-use Rattle.semver_core.proofs.Common.{IsLeastOrOverflow, IsLeastVersion, incremented, Value, IsOkAnd, codes}
+use Rattle.semver_core.proofs.Common.{Fault, VersionValue, IdentifierBase, List, Option, [], subst, sym, ℕ, ◌≡◌, Result, ⊤}
+use Rattle.semver_core.proofs.Common.{IsLeastVersion, incremented, Value, IsOkAnd, codes}
 use Rattle.semver_core.specs.Increments.{Least.IsPlain, Table.answer_of_inc}
-use Rattle.{std.specs.Prelude.unwrap_or, semver_core.proofs.Increments.Laws.{IsMinorAbove, IsPatchAbove, increment_rises}}
-use Rattle.semver_core.proofs.Increments.Laws.{patch_least, minor_least, major_least, premajor_least, preminor_least}
-use Rattle.semver_core.proofs.{Increments.Laws.{prepatch_least, prerelease_least}, Values.NextLaws.IsAbove}
+use Rattle.{std.specs.Prelude.unwrap_or, semver_core.proofs.Increments.Laws.increment_rises}
+use Rattle.semver_core.proofs.{Increments.Laws.prerelease_least, Values.NextLaws.IsAbove}
 use Rattle.semver_core.proofs.laws.increments.least_increments.Goals as goal
 
 -- without identifier and with base 0
@@ -14,27 +13,6 @@ plain P v word id base is p =
     let same : incremented v word (unwrap_or id []) (unwrap_or base (Value 0)) ≡ incremented v word [] (Value 0) =
     λ i. incremented v word (is.0 i) (is.1 i) in
     subst P (sym same) p
-
-pub returns-clause-patch : goal.returns-clause-patch
-returns-clause-patch c = λ v id base k. patch_least v (unwrap_or id []) (unwrap_or base (Value 0)) k
-
-pub returns-clause-minor : goal.returns-clause-minor
-returns-clause-minor c = λ v id base k. minor_least v (unwrap_or id []) (unwrap_or base (Value 0)) k
-
-pub returns-clause-major : goal.returns-clause-major
-returns-clause-major c = λ v id base k. major_least v (unwrap_or id []) (unwrap_or base (Value 0)) k
-
-pub returns-clause-premajor : goal.returns-clause-premajor
-returns-clause-premajor c = λ v id base k is.
-    plain (IsLeastOrOverflow (λ w. w.major ≡ v.major + 1)) v (codes "premajor") id base is (premajor_least v [] (Value 0) k)
-
-pub returns-clause-preminor : goal.returns-clause-preminor
-returns-clause-preminor c = λ v id base k is.
-    plain (IsLeastOrOverflow (IsMinorAbove v)) v (codes "preminor") id base is (preminor_least v [] (Value 0) k)
-
-pub returns-clause-prepatch : goal.returns-clause-prepatch
-returns-clause-prepatch c = λ v id base k is.
-    plain (IsLeastOrOverflow (IsPatchAbove v)) v (codes "prepatch") id base is (prepatch_least v [] (Value 0) k)
 
 pub returns-clause-prerelease : goal.returns-clause-prerelease
 returns-clause-prerelease c = λ v id base k is rises no_number.

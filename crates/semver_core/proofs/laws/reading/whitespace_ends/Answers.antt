@@ -1,6 +1,6 @@
 use Rattle.semver_core.proofs.Common.{sym, ◌∙◌, trim}
 use Rattle.semver_core.proofs.Text.Trims.{middle_is_trim, one_after_blank, some_after_blank, trim_is_middle}
-use Rattle.semver_core.proofs.laws.whitespace.whitespace_ends.Goals as goal
+use Rattle.semver_core.proofs.laws.reading.whitespace_ends.Goals as goal
 
 pub returns : goal.returns
 returns c = record {
