@@ -1,6 +1,6 @@
 -- The parts of a text that std's clauses name.
-use Rattle.std.proofs.Common.{◌≡◌, ◌≢◌, ◌⊎◌, ◌==◌, ℕ, List, ◌∷◌, ◌++◌, false, length, drop, take, inl, inr, sym, ap, subst, arith}
-use Rattle.std.proofs.Common.{encode_utf8, ◌∙◌}
+use Rattle.std.proofs.Common.{◌≡◌, ◌≢◌, ◌⊎◌, ◌==◌, ℕ, List, [], ◌∷◌, ◌++◌, false, length, drop, take, inl, inr, refl, sym, ap, ap₂, subst, arith}
+use Rattle.std.proofs.Common.{encode_utf8, ◌∙◌, Bool, if◌then◌else◌}
 use Rattle.std.specs.List.{Contains, list_any, position_or_len}
 use Rattle.std.specs.Prelude.{◌<◌, codes, slice_index_or, true}
 use Rattle.std.specs.Str.Pattern.{FindsChar, HasCharAt, SplitsAroundMatch}
@@ -13,15 +13,38 @@ use Rattle.lock_check.specs.Specifiers.{HoldsOneOf}
 pub at_then : (text rest behind : List ℕ) → text ≡ encode_utf8 64 ++ rest → behind ≡ rest → text ≡ 64 ∷ behind
 at_then text rest behind e same = e ∙ ap (λ t. t ++ rest) (encode_ascii 64 (omega arith)) ∙ ap (λ t. 64 ∷ t) (sym same)
 
--- what follows the first `@` of a name that may have another one in front
-pub behind_at : (target name front range : List ℕ) → ((name ≡ target) ⊎ (target ≡ 64 ∷ name)) → SplitsAroundMatch (FindsChar 64) name front range
-    → (before : List ℕ) × (target ≡ before ++ 64 ∷ range)
-behind_at target name front range whose s =
+-- a text that is cut at a character of one byte
+pub cut_at : (c : ℕ) (text front back : List ℕ) → c < 128 → SplitsAroundMatch (FindsChar c) text front back
+    → text ≡ front ++ c ∷ back
+cut_at c text front back small s =
     let i = s.0 in
+    let j = s.1 in
     let found = s.2.1 in
-    let cut : name ≡ take i name ++ 64 ∷ range =
-    sym (take-append-drop i name) ∙ ap (λ t. take i name ++ t) (at_then (drop i name) (drop s.1 name) range found.split s.4) in
-    elim whose [ inl e ↦ (take i name, sym e ∙ cut) | inr e ↦ (64 ∷ take i name, e ∙ ap (λ t. 64 ∷ t) cut) ]
+    sym (take-append-drop i text)
+    ∙ ap (λ t. take i text ++ t) (found.split ∙ ap (λ t. t ++ drop j text) (encode_ascii c small))
+    ∙ ap₂ (λ a b. a ++ c ∷ b) (sym s.3) (sym s.4)
+
+-- a text, with an `@` in front where it has a scope
+abbrev pub named : Bool → List ℕ → List ℕ
+named is_scoped text = if is_scoped then 64 ∷ text else text
+
+pub named_scoped : (is_scoped : Bool) (target text : List ℕ) → is_scoped ≡ true → target ≡ 64 ∷ text
+    → target ≡ named is_scoped text
+named_scoped is_scoped target text s e = rw s e
+
+pub named_plain : (is_scoped : Bool) (target text : List ℕ) → is_scoped ≡ false → target ≡ text
+    → target ≡ named is_scoped text
+named_plain is_scoped target text s e = rw s e
+
+-- such a text is cut at an `@` behind the front
+pub named_cut : (is_scoped : Bool) (target text name range : List ℕ) → target ≡ named is_scoped text
+    → SplitsAroundMatch (FindsChar 64) text name range → target ≡ named is_scoped name ++ 64 ∷ range
+named_cut true target text name range e s = e ∙ ap (λ t. 64 ∷ t) (cut_at 64 text name range (omega arith) s)
+named_cut false target text name range e s = e ∙ cut_at 64 text name range (omega arith) s
+
+-- a text of a length other than 0
+pub filled : (text : List ℕ) → (length text == 0) ≡ false → text ≢ []
+filled text some e = let none : (length text == 0) ≡ true = rw e refl in absurd (cc)
 
 -- a text that does not begin with an encoded `$` does not begin with its byte
 pub no_dollar : (text : List ℕ) → ((rest : List ℕ) → text ≢ encode_utf8 36 ++ rest) → (name : List ℕ) → text ≢ 36 ∷ name

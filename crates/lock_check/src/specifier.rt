@@ -1,7 +1,8 @@
 // What a text in place of a range is to npm.
 
-ghost use Rattle.lock_check.specs.Specifiers.{HoldsOneOf, IsAlias};
-ghost use Rattle.std.specs.Prelude.{◌≡◌, IsTrue, codes, false};
+ghost use Rattle.lock_check.specs.Specifiers.{HoldsOneOf, IsAlias, IsName, is_part, is_url_byte};
+ghost use Rattle.std.specs.List.{list_all};
+ghost use Rattle.std.specs.Prelude.{◌≡◌, ◌∷◌, IsTrue, codes, false, if◌then◌else◌, true};
 
 // Names that no package may have.
 const RESERVED: &[&str] = &["node_modules", "favicon.ico"];
@@ -105,7 +106,7 @@ fn alias(target: &str) -> Specifier<'_>
     };
     match text.split_once('@') {
         Some((name, _)) if !is_aliased(name, is_scoped) => Specifier::Unsupported,
-        Some((_, "")) => Specifier::Range("*"),
+        Some((_, range)) if range.is_empty() => Specifier::Range("*"),
         Some((_, range)) if is_of_registry(range) => Specifier::Range(range),
         None if is_aliased(text, is_scoped) => Specifier::Range("*"),
         None if !is_scoped && is_of_registry(text) => Specifier::Range(text),
@@ -115,7 +116,9 @@ fn alias(target: &str) -> Specifier<'_>
 
 // Whether a text is a name that an alias may have, which is no path. Of a name with a scope it is
 // what stands behind the at sign.
-fn is_aliased(text: &str, is_scoped: bool) -> bool {
+fn is_aliased(text: &str, is_scoped: bool) -> bool
+    ensures { IsTrue result → IsName (if is_scoped then 64 ∷ text.now else text.now) }
+{
     if is_scoped {
         is_scope_and_name(text)
     } else {
@@ -145,20 +148,28 @@ pub fn is_name(text: &str) -> bool {
     }
 }
 
-fn is_scope_and_name(text: &str) -> bool {
-    text.split_once('/')
-        .is_some_and(|(scope, name)| is_part(scope) && is_part(name))
+fn is_scope_and_name(text: &str) -> bool
+    ensures { IsTrue result → IsName (64 ∷ text.now) }
+{
+    match text.split_once('/') {
+        Some((scope, name)) => is_part(scope) && is_part(name),
+        None => false,
+    }
 }
 
-fn is_bare_name(text: &str) -> bool {
+fn is_bare_name(text: &str) -> bool
+    ensures { IsTrue result → is_part text.now ≡ true }
+{
     is_part(text)
         && !text.starts_with('.')
         && !text.starts_with('_')
         && !RESERVED.iter().any(|it| it.eq_ignore_ascii_case(text))
 }
 
-fn is_part(text: &str) -> bool {
-    !text.is_empty() && text.bytes().all(is_tag_byte)
+fn is_part(text: &str) -> bool
+    ensures { result ≡ is_part text.now }
+{
+    !text.is_empty() && are_tag_bytes(text.as_bytes())
 }
 
 // Whether a URL is that of a file, and of no repository at a host that npm knows.
@@ -238,8 +249,16 @@ fn scheme(text: &str) -> Option<(&str, &str, &str)> {
     Some((git, scheme, rest))
 }
 
+fn are_tag_bytes(text: &[u8]) -> bool
+    ensures { result ≡ list_all is_url_byte text.now }
+{
+    text.iter().all(|byte| is_tag_byte(*byte))
+}
+
 // Whether JavaScript's `encodeURIComponent` keeps the byte.
-fn is_tag_byte(byte: u8) -> bool {
+fn is_tag_byte(byte: u8) -> bool
+    ensures { result ≡ is_url_byte byte }
+{
     byte.is_ascii_alphanumeric()
         || matches!(
             byte,

@@ -2,6 +2,7 @@
 use Rattle.std.proofs.Common.{◌≡◌, ◌∷◌, ◌++◌, [], ℕ, Bool, true, false, List, Option, Some, None, codes, map, refl, sym, option_map, append_assoc, ◌≢◌, ◌∙◌, ◌<◌, arith, length, get_or, suc, zero, take, ◌+◌, ◌==◌, is_none, is_some}
 use Rattle.std.proofs.lemmas.List.{map-append, take_more}
 use Rattle.std.specs.List.{list_all}
+use Rattle.std.specs.Prelude.{IfSome}
 use Rattle.std.specs.declared.cmp.Ordering.{Ordering}
 use Rattle.semver_core.specs.Difference.{kind_between, kind_word}
 use Rattle.semver_core.specs.Failures.{NoValue}
@@ -114,10 +115,10 @@ pub no_minus_of : (a b : List ℕ) → NoRange b → NoValue (Answers (codes "ra
 no_minus_of a b none value (Spec.minus x y r s said one other shown) = none s other
 
 pub no_within : (a b : List ℕ) → NoRange a → NoValue (Answers (codes "range" ∷ a ∷ codes "within" ∷ b ∷ []))
-no_within a b none value (Spec.within x y r s least one other is_least) = none r one
+no_within a b none value (Spec.within x y r s least one other is_least bare) = none r one
 
 pub no_within_of : (a b : List ℕ) → NoRange b → NoValue (Answers (codes "range" ∷ a ∷ codes "within" ∷ b ∷ []))
-no_within_of a b none value (Spec.within x y r s least one other is_least) = none s other
+no_within_of a b none value (Spec.within x y r s least one other is_least bare) = none s other
 
 pub shown_none : (found : Option Range) (said : Said) → None ≡ found → said ≡ reply false None → IsShown found said
 shown_none found said is says = rw (says, ← is) (Spec.none None (λ v e. let bad : false ≡ true = e in absurd (cc)))
@@ -142,15 +143,17 @@ pub minus_shown : (a b : List ℕ) (r s : Range) (found : Option Range) (said : 
 minus_shown a b r s found said one other is shown = Spec.minus a b r s said one other (rw is at shown)
 
 pub within_said : (a b : List ℕ) (r s : Range) (least : Option VersionValue) (said : Said) → IsRange a r → IsRange b s
-    → IsLeastOf (beyond r s) least → said ≡ reply (is_none least) (option_map version_text least)
+    → IsLeastOf (beyond r s) least → IfSome least (λ v. v.build ≡ [])
+    → said ≡ reply (is_none least) (option_map version_text least)
     → Answers (codes "range" ∷ a ∷ codes "within" ∷ b ∷ []) said
-within_said a b r s least said one other is says = rw says (Spec.within a b r s least one other is)
+within_said a b r s least said one other is bare says = rw says (Spec.within a b r s least one other is bare)
 
 pub least_said : {X : Type 0} (xs : List X) (f : X → List ℕ) (rs : List Range) (least : Option VersionValue) (said : Said)
     → (length xs == 0) ≡ false → AreRanges (map f xs) rs → IsLeastOf (λ v. list_all (λ r. accepts r v false) rs) least
+    → IfSome least (λ v. v.build ≡ [])
     → said ≡ reply (is_some least) (option_map version_text least) → Answers (codes "least" ∷ map f xs) said
-least_said [] f rs least said filled are is says = absurd (grind arith)
-least_said (x ∷ xs) f rs least said filled are is says = rw says (Spec.least (f x) (map f xs) rs least are is)
+least_said [] f rs least said filled are is bare says = absurd (grind arith)
+least_said (x ∷ xs) f rs least said filled are is bare says = rw says (Spec.least (f x) (map f xs) rs least are is bare)
 
 pub no_words : {X : Type 0} (xs : List X) (f : X → List ℕ) → (length xs == 0) ≡ true → NoValue (Answers (codes "least" ∷ map f xs))
 no_words [] f empty said answer = elim answer [ ]
@@ -181,7 +184,7 @@ pub no_drawing : (a : List ℕ) → NoRange a → NoValue (Answers (codes "expla
 no_drawing a none said (Spec.explain x r text is) = none r is
 
 pub no_least : (words : List (List ℕ)) → NoValue (AreRanges words) → NoValue (Answers (codes "least" ∷ words))
-no_least words none said (Spec.least a ws rs least are is) = none rs are
+no_least words none said (Spec.least a ws rs least are is bare) = none rs are
 
 pub drawn : (a : List ℕ) (r : Range) (text : List ℕ) (said : Said) → IsRange a r → Extends (range_text r ++ 10 ∷ []) text → said ≡ say text false Yes
     → Answers (codes "explain" ∷ a ∷ []) said

@@ -1,6 +1,6 @@
 -- Statement: what the subcommands answer.
 use Rattle.std.specs.Prelude.{◌≡◌, ◌∷◌, ◌++◌, [], not, ℕ, Bool, true, false, List, Option, Some, None, Result}
-use Rattle.std.specs.Prelude.{Ok, Err, codes, option_map, is_some, is_none, unwrap_or, if◌then◌else◌}
+use Rattle.std.specs.Prelude.{IfSome, Ok, Err, codes, option_map, is_some, is_none, unwrap_or, if◌then◌else◌}
 use Rattle.std.specs.List.{list_all}
 use Rattle.std.specs.Ordering.{is_eq, is_ge, is_gt, is_le, is_lt}
 use Rattle.std.specs.declared.cmp.Ordering.{Ordering}
@@ -100,10 +100,12 @@ pub data Answers : List (List ℕ) → Said → Type 0 where
   minus : (a b : List ℕ) (r s : Range) (said : Said) → IsRange a r → IsRange b s
       → IsShown (difference r s) said → Answers (codes "range" ∷ a ∷ codes "minus" ∷ b ∷ []) said
   within : (a b : List ℕ) (r s : Range) (least : Option VersionValue) → IsRange a r → IsRange b s
-      → IsLeastOf (beyond r s) least → Answers (codes "range" ∷ a ∷ codes "within" ∷ b ∷ [])
+      → IsLeastOf (beyond r s) least → IfSome least (λ v. v.build ≡ [])
+      → Answers (codes "range" ∷ a ∷ codes "within" ∷ b ∷ [])
       (reply (is_none least) (option_map version_text least))
   least : (a : List ℕ) (words : List (List ℕ)) (rs : List Range) (least : Option VersionValue)
       → AreRanges (a ∷ words) rs → IsLeastOf (λ v. list_all (λ r. accepts r v false) rs) least
+      → IfSome least (λ v. v.build ≡ [])
       → Answers (codes "least" ∷ a ∷ words) (reply (is_some least) (option_map version_text least))
   explain : (a : List ℕ) (r : Range) (drawing : List ℕ) → IsRange a r
       → Answers (codes "explain" ∷ a ∷ []) (say (range_text r ++ 10 ∷ drawing) false Yes)

@@ -1,16 +1,15 @@
 -- Statement: whether one range accepts all that another accepts.
-use Rattle.std.specs.Prelude.{◌≡◌, true, false, List}
+use Rattle.std.specs.Prelude.{◌≡◌, true, false, List, [], Some}
 use Rattle.nodejs_semver.specs.Cuts.{Span}
 use Rattle.nodejs_semver.specs.Versions.{VersionValue}
 use Rattle.nodejs_semver.specs.Ranges.Gate.{accepts}
 use Rattle.nodejs_semver.specs.Ranges.Least.{IsLeastOf, beyond}
 use Rattle.uses.specs.declared.subset.Answer.{Answer}
 use Rattle.uses.specs.declared.subset.Answer.TheVariants.{Subset, Witness}
-use Rattle.std.specs.Prelude.{Some}
 
 -- the second accepts what the first accepts; or this is the least version that the first accepts and the
--- second does not
+-- second does not, without build metadata
 abbrev pub IsAnswer : List (Span VersionValue) → List (Span VersionValue) → Answer → Type 0
 IsAnswer r s Subset = (v : VersionValue) → accepts r v false ≡ true → accepts s v false ≡ true
 IsAnswer r s (Witness w) = (accepts r w false ≡ true) × (accepts s w false ≡ false)
-    × IsLeastOf (beyond r s) (Some w)
+    × IsLeastOf (beyond r s) (Some w) × (w.build ≡ [])

@@ -11,7 +11,7 @@ use Rattle.semver_core.specs.Text.Identifiers.{Numeric}
 use Rattle.semver_core.specs.Values.Order.{pre_cmp}
 use Rattle.nodejs_semver.specs.Internal.NpmMeaning.{is_zero}
 use Rattle.nodejs_semver.specs.Internal.Sets.{same_triple}
-use Rattle.nodejs_semver.specs.Npm.Alike.{IsPlainPartial, IsWithin, is_apart, is_firm, may_have, npm_partial}
+use Rattle.nodejs_semver.specs.Npm.Alike.{IsPlainPartial, is_apart, is_firm, may_have, npm_partial}
 use Rattle.nodejs_semver.specs.Npm.RangeText.{IsPartial, partial_of}
 use Rattle.nodejs_semver.specs.Npm.Ranges as Npm
 use Rattle.nodejs_semver.specs.Npm.Ranges.{is_valid, satisfies}
@@ -26,7 +26,7 @@ use Rattle.nodejs_semver.proofs.Alike.Ends.{under-exact, upper-after, upper-befo
 use Rattle.nodejs_semver.proofs.Alike.Ends.{whole_most-exact}
 use Rattle.nodejs_semver.proofs.Alike.Pairs.{GoodExact, compared-free, equal-exact, firm-good, interval-is, none_bits, release_in, released_bits}
 use Rattle.nodejs_semver.proofs.Alike.Rows.{Form, Good, SameWord, any, form, one, partial, signed-good, text-spelled, three, two}
-use Rattle.nodejs_semver.proofs.Alike.Tests.{from_lower, meets-both, named_by, passed, passed-both, to_upper}
+use Rattle.nodejs_semver.proofs.Alike.Tests.{IsWithin, from_lower, meets-both, named_by, passed, passed-both, to_upper}
 use Rattle.nodejs_semver.proofs.Strict.Narrowing.{holds-both, lets_in-both}
 
 -- ---- versions of other numbers

@@ -5,7 +5,7 @@ use Rattle.nodejs_semver.proofs.Common.{After, Before, Id, MAX_SAFE_INTEGER, Par
 use Rattle.nodejs_semver.proofs.Common.{interval, is_release, lets_in, names, precedence, table}
 use Rattle.std.specs.Ordering.{is_eq}
 use Rattle.std.specs.Prelude.{is_some}
-use Rattle.nodejs_semver.specs.Npm.Alike.{IsPlainPartial, IsWithin, is_firm, is_plain, may_have, npm_partial}
+use Rattle.nodejs_semver.specs.Npm.Alike.{IsPlainPartial, is_firm, is_plain, may_have, npm_partial}
 use Rattle.nodejs_semver.specs.Npm.RangeText.{IsPartial, partial_of}
 use Rattle.nodejs_semver.specs.Npm.Ranges.{is_valid}
 use Rattle.nodejs_semver.specs.Npm.Table as Npm
@@ -16,7 +16,7 @@ use Rattle.nodejs_semver.proofs.Alike.Ends.{upper-after, whole_above-exact, whol
 use Rattle.nodejs_semver.proofs.Alike.Ends.{whole_from-firm, whole_most-exact}
 use Rattle.nodejs_semver.proofs.Alike.Rows.{Form, Good, SameWord, any, form, one, partial, signed-good, text-spelled}
 use Rattle.nodejs_semver.proofs.Alike.Rows.{three, two}
-use Rattle.nodejs_semver.proofs.Alike.Tests.{ExactWord, exact-span, from_lower}
+use Rattle.nodejs_semver.proofs.Alike.Tests.{ExactWord, IsWithin, exact-span, from_lower}
 use Rattle.nodejs_semver.proofs.Alike.Tests.{to_upper}
 
 -- ---- what two spans have in common

@@ -11,7 +11,7 @@ use Rattle.nodejs_semver.specs.Internal.NpmMeaning.{is_zero}
 use Rattle.nodejs_semver.specs.Internal.NpmReadings.{dashed_front}
 use Rattle.semver_core.specs.Text.Identifiers.{listed}
 use Rattle.nodejs_semver.specs.Internal.NpmWords.{partial_front, place_front, dotted_place, dotted_patch, patch_place, qualified_partial, pre_front}
-use Rattle.nodejs_semver.specs.Npm.Alike.{IsPlainWord, IsWithin, bare, is_plain, may_have, signed, word_of}
+use Rattle.nodejs_semver.specs.Npm.Alike.{IsPlainWord, bare, is_plain, may_have, signed, word_of}
 use Rattle.nodejs_semver.specs.Npm.RangeText.{IsPartial, partial_of}
 use Rattle.nodejs_semver.specs.Npm.Ranges.{is_valid}
 use Rattle.nodejs_semver.specs.Npm.Table as Npm
@@ -21,7 +21,8 @@ use Rattle.nodejs_semver.proofs.Alike.Ends.{Spelled, any-tame, below-tame, exact
 use Rattle.nodejs_semver.proofs.Alike.Ends.{most_minor-tame, no_lower, no_lower-exact, no_upper, no_upper-exact, not_named, open-tame}
 use Rattle.nodejs_semver.proofs.Alike.Ends.{under-exact, under-tame, upper-after, whole_above-exact, whole_below-exact}
 use Rattle.nodejs_semver.proofs.Alike.Ends.{whole_from-exact, whole_from-tame, whole_most-exact}
-use Rattle.nodejs_semver.proofs.Alike.Tests.{Alike, Exact, Released, Tame, exact-both, from_lower, tame-both, tame-released, to_upper}
+use Rattle.nodejs_semver.proofs.Alike.Tests.{Alike, Exact, IsWithin, Released, Tame, exact-both, from_lower, tame-both}
+use Rattle.nodejs_semver.proofs.Alike.Tests.{tame-released, to_upper}
 use Rattle.nodejs_semver.proofs.Strict.PartialLaw.{partial-read}
 
 -- a span and comparators accept alike, and where no pre-release is written releases alone

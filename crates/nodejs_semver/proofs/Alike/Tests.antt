@@ -1,12 +1,30 @@
 -- A version and a span, and what it says of a list of comparators: two ends of a span, each beside comparators.
-use Rattle.nodejs_semver.proofs.Common.{◌≡◌, sym, ap, ap₂, ◌∙◌, Bool, true, false, ◌&&◌, ◌||◌, not, List, ◌++◌}
-use Rattle.nodejs_semver.proofs.Common.{arith, list_all, list_any, list_all-append, list_any-append, VersionValue}
-use Rattle.nodejs_semver.proofs.Common.{Bound, Span, holds, is_past, is_release, lets_in, lower_cut, names, precedence, upper_cut}
+use Rattle.nodejs_semver.proofs.Common.{◌≡◌, ◌≤◌, sym, ap, ap₂, ◌∙◌, ℕ, Bool, true, false, ◌&&◌, ◌||◌, not, List, ◌++◌}
+use Rattle.nodejs_semver.proofs.Common.{and_parts, arith, list_all, list_any, list_all-append, list_any-append, nat_tests}
+use Rattle.nodejs_semver.proofs.Common.{Bound, Span, VersionValue, holds, is_past, is_release, lets_in, lower_cut, names}
+use Rattle.nodejs_semver.proofs.Common.{precedence, upper_cut}
 use Rattle.std.proofs.lemmas.List.Elements.{filter-append}
 use Rattle.std.specs.List.{filter}
+use Rattle.std.specs.Prelude.{nat_le}
+use Rattle.semver_core.specs.Printing.RoundTrip.{is_within}
 use Rattle.nodejs_semver.specs.Npm.Ranges as Npm
 use Rattle.nodejs_semver.specs.Npm.Ranges.{meets, satisfies}
 use Rattle.nodejs_semver.specs.Npm.Table.{Comparison, counts}
+
+-- no number of the version is above the limit
+pub record IsWithin (limit : ℕ) (v : VersionValue) : Type 0 where
+  pub major : v.major ≤ limit
+  pub minor : v.minor ≤ limit
+  pub patch : v.patch ≤ limit
+
+pub within : (limit : ℕ) (v : VersionValue) → is_within limit v ≡ true → IsWithin limit v
+within limit v h =
+    let (major, behind) = and_parts (nat_le v.major limit) _ h in
+    let (minor, patch) = and_parts (nat_le v.minor limit) _ behind in
+    record { major = small v.major major; minor = small v.minor minor; patch = small v.patch patch }
+  where
+    small : (n : ℕ) → nat_le n limit ≡ true → n ≤ limit
+    small n k = grind (arith, nat_tests)
 
 -- the comparators that count are satisfied, and some one of them names a pre-release of the same numbers
 abbrev pub passed : VersionValue → List Comparison → Bool

@@ -9,8 +9,9 @@ use Rattle.std.specs.Char.{encode_utf8}
 use Rattle.std.specs.List.{filter}
 use Rattle.std.specs.Prelude.{codes}
 use Rattle.semver_core.proofs.Text.Trims.{trim_is_middle}
+use Rattle.semver_core.specs.Printing.RoundTrip.{is_within}
 use Rattle.nodejs_semver.specs.Internal.Parts.{cut_bars}
-use Rattle.nodejs_semver.specs.Npm.Alike.{ArePlain, IsPlainAlternative, IsPlainText, IsPlainWord, IsWithin, bare, between, more}
+use Rattle.nodejs_semver.specs.Npm.Alike.{ArePlain, IsPlainAlternative, IsPlainText, IsPlainWord, bare, between, more}
 use Rattle.nodejs_semver.specs.Npm.Alike.{one, one_word, signed, two_words}
 use Rattle.nodejs_semver.specs.Npm.RangeText as Npm
 use Rattle.nodejs_semver.specs.Npm.RangeText.{AreAlternatives, AreEndMarks, IsAlternative, IsSignText, is_free_lower, is_free_upper, IsWord, are_marks, next, none, spelling}
@@ -28,6 +29,7 @@ use Rattle.nodejs_semver.proofs.Algebra.FlatMaps.{any_weaker}
 use Rattle.nodejs_semver.proofs.Alike.Hyphens.{between-good}
 use Rattle.nodejs_semver.proofs.Alike.Beside.{two-good}
 use Rattle.nodejs_semver.proofs.Alike.Rows.{Good, SameWord, word-good}
+use Rattle.nodejs_semver.proofs.Alike.Tests.{IsWithin, within}
 use Rattle.nodejs_semver.proofs.Dividing.BarsDivide.{bars_divide}
 use Rattle.nodejs_semver.proofs.Dividing.MeaningLaw as meaning
 use Rattle.nodejs_semver.proofs.Dividing.MeaningLaw.{pieces-utf8}
@@ -231,14 +233,18 @@ bare-accepts : (v : VersionValue) → is_release v ≡ true → (cs : List Compa
 bare-accepts v r cs h = rw (none-counted cs h, r) refl
 
 pub plain-same : (text : List ℕ) (list : List (Span VersionValue)) (all : List (List Comparison)) (v : VersionValue)
-    → IsPlainText MAX_SAFE_INTEGER text list all → IsWithin MAX_SAFE_INTEGER v → accepts list v false ≡ Ranges.accepts false all v
-plain-same text list all v h w =
+    → IsPlainText MAX_SAFE_INTEGER text list all → is_within MAX_SAFE_INTEGER v ≡ true
+    → accepts list v false ≡ Ranges.accepts false all v
+plain-same text list all v h small =
     let same = each-same h.pre v text list all w h.divided h.valid in
     elim (cases_Bool (list_any is_bare all)) [
       | inr e ↦ rw e same
       | inl e ↦ rw e (same ∙ opened e)
     ]
   where
+    w : IsWithin MAX_SAFE_INTEGER v
+    w = within MAX_SAFE_INTEGER v small
+
     closed : (p e : Bool) → e ≡ true → (p && e) ≡ false → p ≡ false
     closed p e f g = grind arith
 
@@ -257,14 +263,27 @@ pub plain-read : (text : List ℕ) (list : List (Span VersionValue)) (all : List
     → IsPlainText MAX_SAFE_INTEGER text list all → Means MAX_SAFE_INTEGER text list × (0 < length list)
 plain-read text list all u h = (plain-means text list all u h, list-filled text list all h)
 
--- the ranges of both readings accept the same
+-- ---- ranges of the text
+
+-- what the range of a text accepts here, and what that to node-semver does
+pub here-means : (text : List ℕ) (here list : List (Span VersionValue)) (v : VersionValue) → IsUtf8 text
+    → Means MAX_SAFE_INTEGER text here → Means MAX_SAFE_INTEGER text list → accepts here v false ≡ accepts list v false
+here-means text here list v u m k =
+    ap (λ l. accepts l v false) (meaning.same_meaning MAX_SAFE_INTEGER text here list u m k)
+
+pub there-means : (text : List ℕ) (there : List (Span VersionValue)) (all : List (List Comparison)) (v : VersionValue)
+    → IsUtf8 text → IsRangeOf MAX_SAFE_INTEGER false text there → HasAlternatives MAX_SAFE_INTEGER false text all
+    → accepts there v false ≡ Ranges.accepts false all v
+there-means text there all v u r k = r.accepted v
+    ∙ ap (λ l. Ranges.accepts false l v)
+    (alternatives_once false MAX_SAFE_INTEGER false text r.alternatives all u r.has k)
+
+-- both accept the same
 pub accepted-alike : (text : List ℕ) (here there : List (Span VersionValue)) (v : VersionValue) → IsUtf8 text
     → Means MAX_SAFE_INTEGER text here → IsRangeOf MAX_SAFE_INTEGER false text there → (list : List (Span VersionValue))
-    (all : List (List Comparison)) → IsPlainText MAX_SAFE_INTEGER text list all → IsWithin MAX_SAFE_INTEGER v
+    (all : List (List Comparison)) → IsPlainText MAX_SAFE_INTEGER text list all → is_within MAX_SAFE_INTEGER v ≡ true
     → accepts here v false ≡ accepts there v false
 accepted-alike text here there v u m r list all h w =
-    ap (λ l. accepts l v false) (meaning.same_meaning MAX_SAFE_INTEGER text here list u m (plain-means text list all u h))
+    here-means text here list v u m (plain-means text list all u h)
     ∙ plain-same text list all v h w
-    ∙ ap (λ l. Ranges.accepts false l v)
-    (alternatives_once false MAX_SAFE_INTEGER false text all r.alternatives u (plain-has text list all u h) r.has)
-    ∙ sym (r.accepted v)
+    ∙ sym (there-means text there all v u r (plain-has text list all u h))

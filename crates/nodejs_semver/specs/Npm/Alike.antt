@@ -1,5 +1,5 @@
 -- Statement: range texts that mean the same here and to node-semver's strict reading.
-use Rattle.std.specs.Prelude.{◌≡◌, ◌==◌, ◌≤◌, ◌&&◌, ◌||◌, not, ℕ, Bool, true, false, List, [], ◌∷◌, ◌++◌, Some, None}
+use Rattle.std.specs.Prelude.{◌≡◌, ◌==◌, ◌&&◌, ◌||◌, not, ℕ, Bool, true, false, List, [], ◌∷◌, ◌++◌, Some, None}
 use Rattle.std.specs.Prelude.{codes, is_some}
 use Rattle.std.specs.List.{list_all, list_any}
 use Rattle.semver_core.specs.Cuts.{Span, meet}
@@ -14,12 +14,6 @@ use Rattle.nodejs_semver.specs.Text.Common.{IsGap}
 use Rattle.nodejs_semver.specs.Text.PartialText.{AreComponents, Partial}
 use Rattle.nodejs_semver.specs.Text.Table.{table, version_of}
 use Rattle.nodejs_semver.specs.Text.WordText.{Comparator, Word, at_least, caret, compare, equal, hyphen, plain, tilde}
-
--- no number of the version is above the limit
-pub record IsWithin (limit : ℕ) (v : VersionValue) : Type 0 where
-  pub major : v.major ≤ limit
-  pub minor : v.minor ≤ limit
-  pub patch : v.patch ≤ limit
 
 -- the partial as node-semver's table has it
 abbrev pub npm_partial : Partial → Npm.Partial

@@ -1,6 +1,6 @@
 // Range texts that mean the same here and to npm.
 
-ghost use Rattle.nodejs_semver.specs.Npm.Alike.{IsPlainText, IsWithin};
+ghost use Rattle.nodejs_semver.specs.Npm.Alike.{IsPlainText};
 ghost use Rattle.nodejs_semver.specs.Npm.Ranges as Npm;
 ghost use Rattle.nodejs_semver.specs.Npm.Ranges.{HasAlternatives};
 ghost use Rattle.nodejs_semver.specs.Npm.Table.{Comparison};
@@ -8,9 +8,10 @@ ghost use Rattle.nodejs_semver.specs.Ranges.Gate.{accepts};
 ghost use Rattle.nodejs_semver.specs.Text.Meaning.{Means};
 ghost use Rattle.semver_core.specs.Cuts.{Span};
 ghost use Rattle.semver_core.specs.Failures.{NoValue, RefusedOnlyIf};
+ghost use Rattle.semver_core.specs.Printing.RoundTrip.{is_within};
 ghost use Rattle.semver_core.specs.Values.Versions.{VersionValue};
 ghost use Rattle.semver_core.specs.declared.TheConstants.{MAX_SAFE_INTEGER};
-ghost use Rattle.std.specs.Prelude.{◌≡◌, ◌<◌, ◌⊎◌, [], ℕ, IfOk, List, false, length};
+ghost use Rattle.std.specs.Prelude.{◌≡◌, ◌<◌, ◌⊎◌, [], ℕ, IfOk, List, false, length, true};
 ghost use Rattle.std.specs.Str.{IsUtf8};
 
 use crate::{Failure, Range, SemverError, Version, npm};
@@ -38,21 +39,31 @@ pub fn npm_reads_alike()
         → HasAlternatives MAX_SAFE_INTEGER false text alternatives }
     ensures same { (text : List ℕ) (list : List (Span VersionValue))
         (alternatives : List (List Comparison)) (v : VersionValue)
-        → IsPlainText MAX_SAFE_INTEGER text list alternatives → IsWithin MAX_SAFE_INTEGER v
+        → IsPlainText MAX_SAFE_INTEGER text list alternatives → is_within MAX_SAFE_INTEGER v ≡ true
         → accepts list v false ≡ Npm.accepts false alternatives v }
 {}
 
-/// What `Range::parse` and `npm::range` say of a version, for one range text: whether the range
-/// satisfies it. They say the same of a text that is read alike (`same`).
+/// Whether the range that `Range::parse` reads in the text satisfies the version, and whether the
+/// one that `npm::range` reads does.
+///
+/// - `here`: the first says whether the intervals that the text means accept the version.
+/// - `there`: the second says whether its alternatives to node-semver do.
+/// - `same`: of a text that is read alike they say the same, if no number of the version is above
+///   `MAX_SAFE_INTEGER`.
 pub fn satisfied_alike(
     alloc: Global,
     text: &str,
     version: &Version,
 ) -> Result<(bool, bool), Failure<SemverError>>
+    ensures here { IfOk result (λ both. (list : List (Span VersionValue))
+        → Means MAX_SAFE_INTEGER text.now list → both.0 ≡ accepts list version.now false) }
+    ensures there { IfOk result (λ both. (alternatives : List (List Comparison))
+        → HasAlternatives MAX_SAFE_INTEGER false text.now alternatives
+        → both.1 ≡ Npm.accepts false alternatives version.now) }
     ensures same { IfOk result (λ both. (list : List (Span VersionValue))
         (alternatives : List (List Comparison))
         → IsPlainText MAX_SAFE_INTEGER text.now list alternatives
-        → IsWithin MAX_SAFE_INTEGER version.now → both.0 ≡ both.1) }
+        → is_within MAX_SAFE_INTEGER version.now ≡ true → both.0 ≡ both.1) }
     // The one other error is a failed allocation. Of a text that is read alike, neither holds.
     ensures refused { RefusedOnlyIf result (Means MAX_SAFE_INTEGER text.now []
         ⊎ NoValue (HasAlternatives MAX_SAFE_INTEGER false text.now)) }
