@@ -1,9 +1,9 @@
 // Intervals of versions, whose bounds are releases here: `1` is 1.0.0.
 
-use nodejs_semver::Version;
-use nodejs_semver::cuts::{Bound, Interval};
+use super::hash_of;
+use semver_core::Version;
+use semver_core::cuts::{Bound, Interval};
 use std::alloc::{AllocError, Global};
-use std::hash::{DefaultHasher, Hash, Hasher};
 
 fn release(major: u8) -> Version {
     Version::from((major, 0, 0))
@@ -134,12 +134,6 @@ fn contains_the_points_between_the_cuts(rt: HostRuntime) {
             "{major}"
         );
     }
-}
-
-fn hash_of(interval: &Interval<Version>) -> u64 {
-    let mut state = DefaultHasher::new();
-    interval.hash(&mut state);
-    state.finish()
 }
 
 // Whether the copy equals the interval and hashes alike.

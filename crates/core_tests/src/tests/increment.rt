@@ -1,7 +1,7 @@
 // Increments that no line can ask: results that are not read again, 64-bit numbers and conversions.
 
 use super::{found_prints, made_by_hand, one_identifier, text_identifier};
-use nodejs_semver::{Failure, IdentifierBase, IncrementError, Version};
+use semver_core::{Failure, IdentifierBase, IncrementError, Version};
 use std::alloc::Global;
 
 // What is asked of a version.

@@ -2,8 +2,8 @@
 // before.
 
 use super::{found_prints, long_text};
-use nodejs_semver::Version;
-use nodejs_semver::readers::{version_fast, version_loose};
+use semver_core::Version;
+use semver_core::readers::{version_fast, version_loose};
 use std::alloc::Global;
 use std::test::Fail;
 

@@ -1,9 +1,8 @@
 // Versions: what no line can ask of them.
 
-use super::{found_prints, prints};
-use nodejs_semver::{Identifier, NegativeNumber, Version, VersionParts};
+use super::{found_prints, hash_of, prints};
+use semver_core::{Identifier, NegativeNumber, Version, VersionParts};
 use std::alloc::{AllocError, Global};
-use std::hash::{DefaultHasher, Hash, Hasher};
 
 fn is_text(identifier: &Identifier, wanted: &str) -> bool {
     match identifier {
@@ -214,12 +213,6 @@ fn from_texts_reads_both_lists(rt: HostRuntime) {
     assert!(rt; found_prints(rt.alloc(), version, "1.2.3-rc.1+a-b.7"));
     let lowest = Version::from_texts(rt.alloc(), 2, 0, 0, b"0", b"").ok();
     assert!(rt; found_prints(rt.alloc(), lowest, "2.0.0-0"));
-}
-
-fn hash_of(version: &Version) -> u64 {
-    let mut state = DefaultHasher::new();
-    version.hash(&mut state);
-    state.finish()
 }
 
 // Whether the two are equal and hash alike.

@@ -1,10 +1,9 @@
 // Versions that borrow their text: each call once, and that they agree with versions of their own.
 
-use super::{is_same, prints};
-use nodejs_semver::{IdentifierRef, IdentifierRefs, Version, VersionDiff, VersionRef, Versioned};
+use super::{hash_of, is_same, prints};
+use semver_core::{IdentifierRef, IdentifierRefs, Version, VersionDiff, VersionRef, Versioned};
 use std::alloc::Global;
 use std::cmp::Ordering;
-use std::hash::{DefaultHasher, Hash, Hasher};
 
 // The chain of SemVer 2.0.0, item 11, and texts that are read as something else than they print.
 const TEXTS: &[&str] = &[
@@ -104,12 +103,6 @@ fn identifiers_are_in_order(rt: HostRuntime) {
     assert!(rt; number.cmp(&text) == Ordering::Less);
     assert!(rt; IdentifierRef::Numeric(2).cmp(&number) == Ordering::Less);
     assert!(rt; prints(rt.alloc(), &number, "11") && prints(rt.alloc(), &text, "2a"));
-}
-
-pub fn hash_of<T: Hash>(value: &T) -> u64 {
-    let mut state = DefaultHasher::new();
-    value.hash(&mut state);
-    state.finish()
 }
 
 // Whether two versions compare, hash and differ alike, borrowed and not, and one of each kind.

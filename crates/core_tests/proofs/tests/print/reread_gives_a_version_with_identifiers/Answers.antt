@@ -1,7 +1,7 @@
 use Rattle.std.proofs.Common.{arith, refl}
 use Rattle.std.specs.Fmt.{digits}
 use Rattle.semver_core.specs.Text.Identifiers.{listed}
-use Rattle.library_tests.proofs.tests.print.reread_gives_a_version_with_identifiers.Goals as goal
+use Rattle.core_tests.proofs.tests.print.reread_gives_a_version_with_identifiers.Goals as goal
 
 pub reread-requires-clause-readable : goal.reread-requires-clause-readable
 unfolding digits listed

@@ -1,7 +1,7 @@
 // The words of the kinds of difference.
 
 use super::prints;
-use nodejs_semver::ReleaseType;
+use semver_core::ReleaseType;
 
 const WORDS: &[(ReleaseType, &str)] = &[
     (ReleaseType::Major, "major"),
