@@ -1,11 +1,4 @@
-//! Makes each call that allocates, with ample memory, about values of many sizes, and fails if one
-//! of them reports an allocation failure.
-//!
-//! No contract can say that an allocation was really refused, so that a body which reports a
-//! failure without one is proved. This program is what rejects it: versions of 1 to 40 and of 1,000
-//! identifiers, ranges of 1 to 40 and of 1,000 intervals, texts of up to 2,000,000 bytes, the least
-//! and the greatest numbers. For each group it prints how many calls it made.
-#![tactic(auto)]
+//! The calls that allocate, with ample memory.
 
 mod ample;
 mod borrowed;
@@ -15,7 +8,7 @@ mod ranges;
 mod texts;
 mod versions;
 
-use crate::ample::Calls;
+use crate::memory::ample::Calls;
 use nodejs_semver::MAX_SAFE_INTEGER;
 use std::alloc::{AllocError, Global};
 use std::{fmt, io};
@@ -110,10 +103,12 @@ const GROUPS: &[Group] = &[
     Group::LongRanges(2_000_000),
 ];
 
-fn main(rt: HostRuntime) -> io::Result<()> {
+/// Makes each call that allocates, about the values of each group, and prints how many calls it
+/// made. An allocation failure is an error.
+pub fn sweep(rt: &impl Print, alloc: Global) -> io::Result<()> {
     for &group in GROUPS {
         let mut calls = Calls::new();
-        group.ask(rt.alloc(), &mut calls)?;
+        group.ask(alloc, &mut calls)?;
         println!(rt; "{group}: {calls}")?;
     }
     Ok(())

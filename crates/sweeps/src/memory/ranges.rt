@@ -1,7 +1,7 @@
 // The calls on ranges and on intervals.
 
-use crate::ample::Calls;
-use crate::{borrowed, json, texts};
+use crate::memory::ample::Calls;
+use crate::memory::{borrowed, json, texts};
 use nodejs_semver::cuts::{Interval, Point};
 use nodejs_semver::laws::headline::{headline, headline_at};
 use nodejs_semver::laws::{both_readers, headline_of_texts, membership, printed_in_field};

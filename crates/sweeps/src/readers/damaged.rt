@@ -1,9 +1,9 @@
 // A million texts that a grammar makes and one edit damages: of up to eight characters before the
 // edit, and of up to nine behind it.
 
-use crate::grammar;
-use crate::kind::Kind;
-use crate::tally::Tally;
+use crate::readers::grammar;
+use crate::readers::kind::Kind;
+use crate::readers::tally::Tally;
 use rand::{Rng, RngExt, SeedableRng};
 use rand_xoshiro::Xoshiro256PlusPlus;
 use std::alloc::{AllocError, Global};

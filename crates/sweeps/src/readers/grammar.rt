@@ -3,7 +3,7 @@
 
 ghost use Rattle.std.specs.Prelude.{◌<◌};
 
-use crate::kind::Kind;
+use crate::readers::kind::Kind;
 use rand::seq::IndexedRandom;
 use rand::{Rng, RngExt};
 use std::alloc::{AllocError, Global};

@@ -2,8 +2,8 @@
 
 ghost use Rattle.std.specs.Prelude.{◌<◌};
 
-use crate::ample::Calls;
-use crate::versions::{self, WORDS};
+use crate::memory::ample::Calls;
+use crate::memory::versions::{self, WORDS};
 use nodejs_semver::{Identifier, Version, VersionRef};
 use std::alloc::{AllocError, Global};
 

@@ -1,6 +1,6 @@
 // What the ignored words of a range text say of it.
 
-use crate::kind::is_same_range;
+use crate::readers::kind::is_same_range;
 use nodejs_semver::diagnosis::{IgnoredWord, ignored_words};
 use nodejs_semver::readers::{is_blank, range_loose};
 use nodejs_semver::{Failure, Range};

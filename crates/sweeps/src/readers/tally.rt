@@ -1,6 +1,6 @@
 // The counts of one kind of texts.
 
-use crate::kind::{Comparison, Kind};
+use crate::readers::kind::{Comparison, Kind};
 use std::alloc::Global;
 use std::{fmt, io};
 

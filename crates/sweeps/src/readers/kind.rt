@@ -1,6 +1,6 @@
 // The kinds of texts, and what the two readers of a kind make of a text.
 
-use crate::ignored;
+use crate::readers::ignored;
 use nodejs_semver::cuts::Bound;
 use nodejs_semver::diagnosis::{VersionFlaw, version_flaw};
 use nodejs_semver::readers::{is_blank, range_fast, range_loose, version_fast, version_loose};

@@ -1,7 +1,7 @@
 // Each text of one to four characters over a small alphabet.
 
-use crate::kind::Kind;
-use crate::tally::Tally;
+use crate::readers::kind::Kind;
+use crate::readers::tally::Tally;
 use std::alloc::{AllocError, Global};
 use std::io;
 

@@ -1,7 +1,7 @@
 // The calls on versions.
 
-use crate::ample::Calls;
-use crate::{borrowed, json, texts};
+use crate::memory::ample::Calls;
+use crate::memory::{borrowed, json, texts};
 use nodejs_semver::readers::{version_fast, version_loose};
 use nodejs_semver::{Failure, Identifier, IdentifierBase, IncrementError, Version, VersionParts};
 use semver_core::laws::{identifier_in_field, version_in_field};

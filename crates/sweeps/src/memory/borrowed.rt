@@ -1,7 +1,7 @@
 // The calls on versions and ranges that borrow their text.
 
-use crate::ample::Calls;
-use crate::ranges::OTHERS;
+use crate::memory::ample::Calls;
+use crate::memory::ranges::OTHERS;
 use nodejs_semver::{RangeRef, VersionRef, npm};
 use std::alloc::{AllocError, Global};
 
